@@ -151,7 +151,7 @@ fn put_store_plain<I: OwnInstructions>(
     match source {
         Some(source) => {
             out.push(zero_from(source, taken.value));
-            out.push(I::joining(taken.value, value));
+            out.push(I::join_number(taken.value, value));
         }
         None => out.push(Micro::Imm {
             dst: taken.value,

@@ -26,7 +26,7 @@ pub fn indexed_store(dependency: u8, value: u8, address: u8) -> Micro
 }
 
 /// What adds a number to what register `dependency` holds.
-pub fn adding_number(dependency: u8, number: u8) -> Micro
+pub fn add_number(dependency: u8, number: u8) -> Micro
     ensures { result ≡ ops.AddImm dependency dependency number }
 {
     Micro::AddImm {

@@ -7,5 +7,5 @@ mod indexed;
 mod own;
 
 pub use generator::{put_link, put_load, put_store, registers_needed};
-pub use indexed::{adding_number, indexed_load, indexed_store};
+pub use indexed::{add_number, indexed_load, indexed_store};
 pub use own::OwnInstructions;

@@ -30,6 +30,6 @@ pub trait OwnInstructions {
 
     /// What makes register `dependency`, which holds 0, a number, so that the number depends on what
     /// the register does.
-    fn joining(dependency: u8, number: u8) -> Micro
+    fn join_number(dependency: u8, number: u8) -> Micro
         ensures { result ≡ own.joins dependency number };
 }

@@ -1,7 +1,7 @@
 ghost use Rattle.arch_aarch64.specs.Puts.{instructions};
 
 use crate::A64;
-use addressed_code::{OwnInstructions, adding_number, indexed_load, indexed_store};
+use addressed_code::{OwnInstructions, add_number, indexed_load, indexed_store};
 use arch_trait::Instrs;
 use micro_ops::Micro;
 
@@ -21,7 +21,7 @@ impl OwnInstructions for A64 {
         out.push(indexed_store(dependency, value, address));
     }
 
-    fn joining(dependency: u8, number: u8) -> Micro {
-        adding_number(dependency, number)
+    fn join_number(dependency: u8, number: u8) -> Micro {
+        add_number(dependency, number)
     }
 }

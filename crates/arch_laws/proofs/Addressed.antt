@@ -52,10 +52,10 @@ did_barrier code kind r c d = record {
   regs_is = d.regs_is;
 }
 
-did_behind : (own : Instructions) (kind : Barrier) (s n : ℕ) (r : Run) (c : ℕ) →
+did_after : (own : Instructions) (kind : Barrier) (s n : ℕ) (r : Run) (c : ℕ) →
     DidLink (own.branch s n ++ ops.Label n ∷ []) r [] c →
     DidLink (own.branch s n ++ ops.Label n ∷ ops.Barrier kind ∷ []) r (items.Barrier kind c ∷ []) c
-did_behind own kind s n r c d =
+did_after own kind s n r c d =
     subst (λ code. DidLink code r (items.Barrier kind c ∷ []) c)
     (append_assoc (own.branch s n) (ops.Label n ∷ []) (ops.Barrier kind ∷ []))
     (did_barrier (own.branch s n ++ ops.Label n ∷ []) kind r c d)
@@ -85,12 +85,12 @@ link_runs own keeps links.CtrlIsync from n r k source =
     (λ o. DidLink (link_code own links.CtrlIsync o n) r (link_items links.CtrlIsync k r.state.control)
     (link_control links.CtrlIsync k r.state.control))
     (source refl)
-    (λ s v h. did_behind own (barriers.Fence fences.ISync) s n r _ (keeps.branch_runs s n v k r h))
+    (λ s v h. did_after own (barriers.Fence fences.ISync) s n r _ (keeps.branch_runs s n v k r h))
 link_runs own keeps links.CtrlIsb from n r k source =
     on_source r from k
     (λ o. DidLink (link_code own links.CtrlIsb o n) r (link_items links.CtrlIsb k r.state.control)
     (link_control links.CtrlIsb k r.state.control))
-    (source refl) (λ s v h. did_behind own barriers.Isb s n r _ (keeps.branch_runs s n v k r h))
+    (source refl) (λ s v h. did_after own barriers.Isb s n r _ (keeps.branch_runs s n v k r h))
 
 -- what is to be shown of a load
 abbrev pub LoadRuns : Instructions → Taken → Mark → Run → ℕ → ℕ → ℕ → List ℕ → Bool → Option ℕ → Type 0

@@ -9,7 +9,7 @@ use Rattle.relax_edges.specs.declared.kinds.Dir.{Dir}
 use Rattle.relax_edges.specs.declared.kinds.Dir.TheVariants as dirs
 use Rattle.micro_ops.specs.declared.operation.Micro.{Micro}
 use Rattle.micro_ops.specs.declared.operation.Micro.TheVariants as ops
-use Rattle.micro_ops.specs.Running.{labels_of, lands, stands}
+use Rattle.micro_ops.specs.Running.{labels_of, lands, occurs}
 use Rattle.micro_ops.proofs.Laws.{labels_append, lands_append}
 use Rattle.arch_trait.specs.declared.step.Step.{Step}
 use Rattle.arch_trait.specs.Cells.{is_access, accesses_in, MakesOneAccess}
@@ -26,28 +26,28 @@ ordered_append count (op ∷ xs) ys h k =
     and_from (is_next count op) (labels_ordered (labels_after count op) (xs ++ ys)) parts.0 (ordered_append (labels_after count op) xs ys parts.1 k)
 
 -- a label that occurs is one of the labels
-stands_passes : (p : ℕ → Bool) (label : ℕ) (code : List Micro) → list_all p (labels_of code) ≡ true → stands label code ≡ true → p label ≡ true
-stands_passes p label [] h s = absurd (cc)
-stands_passes p label (ops.Label k ∷ code) h s =
+occurs_passes : (p : ℕ → Bool) (label : ℕ) (code : List Micro) → list_all p (labels_of code) ≡ true → occurs label code ≡ true → p label ≡ true
+occurs_passes p label [] h s = absurd (cc)
+occurs_passes p label (ops.Label k ∷ code) h s =
     let parts = and_parts (p k) (list_all p (labels_of code)) h in
     by_test (k == label)
     (λ e. subst (λ l. p l ≡ true) (eqb-true k label e) parts.0)
-    (λ e. stands_passes p label code parts.1 (sym (ap (λ b. b || stands label code) e) ∙ s))
-stands_passes p label (ops.LoadAt d q ∷ code) h s = stands_passes p label code h s
-stands_passes p label (ops.StoreAt q n ∷ code) h s = stands_passes p label code h s
-stands_passes p label (ops.Imm d n ∷ code) h s = stands_passes p label code h s
-stands_passes p label (ops.Xor d a b ∷ code) h s = stands_passes p label code h s
-stands_passes p label (ops.AddImm d a n ∷ code) h s = stands_passes p label code h s
-stands_passes p label (ops.OrImm d a n ∷ code) h s = stands_passes p label code h s
-stands_passes p label (ops.Add d a b ∷ code) h s = stands_passes p label code h s
-stands_passes p label (ops.Load d b i ∷ code) h s = stands_passes p label code h s
-stands_passes p label (ops.LoadAcq d b ∷ code) h s = stands_passes p label code h s
-stands_passes p label (ops.Store r b i ∷ code) h s = stands_passes p label code h s
-stands_passes p label (ops.StoreRel r b ∷ code) h s = stands_passes p label code h s
-stands_passes p label (ops.Cmp a b ∷ code) h s = stands_passes p label code h s
-stands_passes p label (ops.BranchEq l ∷ code) h s = stands_passes p label code h s
-stands_passes p label (ops.BranchNz a l ∷ code) h s = stands_passes p label code h s
-stands_passes p label (ops.Barrier k ∷ code) h s = stands_passes p label code h s
+    (λ e. occurs_passes p label code parts.1 (sym (ap (λ b. b || occurs label code) e) ∙ s))
+occurs_passes p label (ops.LoadAt d q ∷ code) h s = occurs_passes p label code h s
+occurs_passes p label (ops.StoreAt q n ∷ code) h s = occurs_passes p label code h s
+occurs_passes p label (ops.Imm d n ∷ code) h s = occurs_passes p label code h s
+occurs_passes p label (ops.Xor d a b ∷ code) h s = occurs_passes p label code h s
+occurs_passes p label (ops.AddImm d a n ∷ code) h s = occurs_passes p label code h s
+occurs_passes p label (ops.OrImm d a n ∷ code) h s = occurs_passes p label code h s
+occurs_passes p label (ops.Add d a b ∷ code) h s = occurs_passes p label code h s
+occurs_passes p label (ops.Load d b i ∷ code) h s = occurs_passes p label code h s
+occurs_passes p label (ops.LoadAcq d b ∷ code) h s = occurs_passes p label code h s
+occurs_passes p label (ops.Store r b i ∷ code) h s = occurs_passes p label code h s
+occurs_passes p label (ops.StoreRel r b ∷ code) h s = occurs_passes p label code h s
+occurs_passes p label (ops.Cmp a b ∷ code) h s = occurs_passes p label code h s
+occurs_passes p label (ops.BranchEq l ∷ code) h s = occurs_passes p label code h s
+occurs_passes p label (ops.BranchNz a l ∷ code) h s = occurs_passes p label code h s
+occurs_passes p label (ops.Barrier k ∷ code) h s = occurs_passes p label code h s
 
 -- what is known of a label that is n, where the labels up to n have numbers
 next_is : (count n label : ℕ) → n ≤ count → n < 64 → (label == n) ≡ true → (nat_le label count && nat_lt label 64) ≡ true
@@ -62,11 +62,11 @@ one_ordered count n (ops.Label k ∷ code) low small l h =
     let parts = and_parts (k == n) (list_all (λ l. l == n) (labels_of code)) h in
     and_from (nat_le k count && nat_lt k 64) (labels_ordered (max count (k + 1)) code) (next_is count n k low small parts.0) (one_ordered (max count (k + 1)) n code (omega arith) small l parts.1)
 one_ordered count n (ops.BranchEq k ∷ code) low small l h =
-    let parts = and_parts (stands k code) (lands code) l in
-    and_from (nat_le k count && nat_lt k 64) (labels_ordered (max count (k + 1)) code) (next_is count n k low small (stands_passes (λ l. l == n) k code h parts.0)) (one_ordered (max count (k + 1)) n code (omega arith) small parts.1 h)
+    let parts = and_parts (occurs k code) (lands code) l in
+    and_from (nat_le k count && nat_lt k 64) (labels_ordered (max count (k + 1)) code) (next_is count n k low small (occurs_passes (λ l. l == n) k code h parts.0)) (one_ordered (max count (k + 1)) n code (omega arith) small parts.1 h)
 one_ordered count n (ops.BranchNz a k ∷ code) low small l h =
-    let parts = and_parts (stands k code) (lands code) l in
-    and_from (nat_le k count && nat_lt k 64) (labels_ordered (max count (k + 1)) code) (next_is count n k low small (stands_passes (λ l. l == n) k code h parts.0)) (one_ordered (max count (k + 1)) n code (omega arith) small parts.1 h)
+    let parts = and_parts (occurs k code) (lands code) l in
+    and_from (nat_le k count && nat_lt k 64) (labels_ordered (max count (k + 1)) code) (next_is count n k low small (occurs_passes (λ l. l == n) k code h parts.0)) (one_ordered (max count (k + 1)) n code (omega arith) small parts.1 h)
 one_ordered count n (ops.LoadAt d q ∷ code) low small l h = one_ordered count n code low small l h
 one_ordered count n (ops.StoreAt q m ∷ code) low small l h = one_ordered count n code low small l h
 one_ordered count n (ops.Imm d m ∷ code) low small l h = one_ordered count n code low small l h
@@ -133,15 +133,15 @@ record StepLabels (n : ℕ) (branching : Bool) (code : List Micro) : Type 0 wher
   labels : labels_of code ≡ cond branching (n ∷ []) []
   jumps : lands code ≡ true
 
-no_target : {G : Type 0} (label : ℕ) (code : List Micro) → stands label code ≡ true → labels_of code ≡ [] → G
-no_target label code h e = let clash : false ≡ true = stands_passes (λ l. false) label code (ap (list_all (λ l. false)) e) h in absurd (cc)
+no_target : {G : Type 0} (label : ℕ) (code : List Micro) → occurs label code ≡ true → labels_of code ≡ [] → G
+no_target label code h e = let clash : false ≡ true = occurs_passes (λ l. false) label code (ap (list_all (λ l. false)) e) h in absurd (cc)
 
 -- code without labels
 none_ordered : (count : ℕ) (code : List Micro) → lands code ≡ true → labels_of code ≡ [] → labels_ordered count code ≡ true
 none_ordered count [] l e = refl
 none_ordered count (ops.Label k ∷ code) l e = absurd (cc)
-none_ordered count (ops.BranchEq k ∷ code) l e = no_target k code (and_parts (stands k code) (lands code) l).0 e
-none_ordered count (ops.BranchNz a k ∷ code) l e = no_target k code (and_parts (stands k code) (lands code) l).0 e
+none_ordered count (ops.BranchEq k ∷ code) l e = no_target k code (and_parts (occurs k code) (lands code) l).0 e
+none_ordered count (ops.BranchNz a k ∷ code) l e = no_target k code (and_parts (occurs k code) (lands code) l).0 e
 none_ordered count (ops.LoadAt d q ∷ code) l e = none_ordered count code l e
 none_ordered count (ops.StoreAt q m ∷ code) l e = none_ordered count code l e
 none_ordered count (ops.Imm d m ∷ code) l e = none_ordered count code l e

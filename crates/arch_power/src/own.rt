@@ -1,7 +1,7 @@
 ghost use Rattle.arch_power.specs.Puts.{instructions};
 
 use crate::Power;
-use addressed_code::{OwnInstructions, adding_number, indexed_load, indexed_store};
+use addressed_code::{OwnInstructions, add_number, indexed_load, indexed_store};
 use arch_trait::Instrs;
 use micro_ops::Micro;
 
@@ -25,7 +25,7 @@ impl OwnInstructions for Power {
         out.push(indexed_store(dependency, value, address));
     }
 
-    fn joining(dependency: u8, number: u8) -> Micro {
-        adding_number(dependency, number)
+    fn join_number(dependency: u8, number: u8) -> Micro {
+        add_number(dependency, number)
     }
 }

@@ -16,7 +16,7 @@ impl OwnInstructions for Riscv {
     }
 
     fn put_dependent_load(dependency: u8, value: u8, address: u8, out: &mut Instrs) {
-        out.push(adding(dependency, address));
+        out.push(add_address(dependency, address));
         out.push(Micro::Load {
             dst: value,
             base: dependency,
@@ -25,7 +25,7 @@ impl OwnInstructions for Riscv {
     }
 
     fn put_dependent_store(dependency: u8, value: u8, address: u8, out: &mut Instrs) {
-        out.push(adding(dependency, address));
+        out.push(add_address(dependency, address));
         out.push(Micro::Store {
             src: value,
             base: dependency,
@@ -33,7 +33,7 @@ impl OwnInstructions for Riscv {
         });
     }
 
-    fn joining(dependency: u8, number: u8) -> Micro {
+    fn join_number(dependency: u8, number: u8) -> Micro {
         Micro::OrImm {
             dst: dependency,
             a: dependency,
@@ -43,7 +43,7 @@ impl OwnInstructions for Riscv {
 }
 
 /// What adds an address to the number 0 in `dependency`.
-fn adding(dependency: u8, address: u8) -> Micro
+fn add_address(dependency: u8, address: u8) -> Micro
     ensures { result ≡ ops.Add dependency dependency address }
 {
     Micro::Add {

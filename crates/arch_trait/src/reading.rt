@@ -52,7 +52,7 @@ pub struct Raw<'a> {
 
 impl Raw<'_> {
     /// The instruction of an operation that names neither a place nor a label.
-    pub fn unnamed(op: Micro) -> Raw<'static>
+    pub fn without_name(op: Micro) -> Raw<'static>
         ensures op { result.op ≡ op }
         ensures name { name_seen result.name ≡ nothing }
     {

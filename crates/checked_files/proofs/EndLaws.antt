@@ -20,7 +20,7 @@ use Rattle.test_files.proofs.FileLaws.{failed_after}
 use Rattle.checked_files.specs.declared.errors.CheckedKind.TheVariants as kinds
 use Rattle.checked_files.specs.declared.errors.CheckFault.{CheckFault}
 use Rattle.checked_files.specs.declared.errors.CheckFault.TheVariants as faults
-use Rattle.checked_files.specs.FilesChecked.{exec_told, IsTest, BothRead, VerdictSaid, ExecUnread, FilesChecked}
+use Rattle.checked_files.specs.FilesChecked.{exec_said, IsTest, BothRead, VerdictSaid, ExecUnread, FilesChecked}
 use Rattle.checked_files.specs.Steps.{TestFileTo, ExecFileTo, check_end}
 
 -- the file of the test isn't what is wanted
@@ -77,7 +77,7 @@ exec_refused arch w old mid new words test exec a read (faults.Wrong line (kinds
     text = f.text;
     read = read;
     test_is = test_is arch w old mid (name_at words test) read f;
-    told = h.text;
+    shown = h.text;
     named = file_before old mid (name_at words exec) h.text same h.named;
     fault = h.fault;
     took = took_one_more old mid new (f.text ∷ []) (take (MAX_TEXT + 1) h.text) f.took h.took;
@@ -90,13 +90,13 @@ exec_refused arch w old mid new words test exec a read faults.NoMemory f same h 
 
 -- both files are what is wanted
 both_read : (arch : ArchName) (w : Writing) (old mid new : ShelfSeen) (words : List (List ℕ)) (test exec : ℕ) (read : TestRead) (x : Execution)
-    → FileIs (test_said arch w) old mid (name_at words test) read → mid.files ≡ old.files → FileIs (exec_told read) mid new (name_at words exec) x
+    → FileIs (test_said arch w) old mid (name_at words test) read → mid.files ≡ old.files → FileIs (exec_said read) mid new (name_at words exec) x
     → BothRead arch w old new words test exec read x
 both_read arch w old mid new words test exec read x f same e = record {
   text = f.text;
   test_is = test_is arch w old mid (name_at words test) read f;
-  told = e.text;
-  exec_is = record { named = file_before old mid (name_at words exec) e.text same e.named; tells = e.is };
+  shown = e.text;
+  exec_is = record { named = file_before old mid (name_at words exec) e.text same e.named; says = e.is };
   took = took_one_more old mid new (f.text ∷ []) e.text f.took e.took;
   no_fault = e.no_fault ∙ f.no_fault;
 }

@@ -23,7 +23,7 @@ use Rattle.test_files.specs.TestSaid.{SaysInMemory, test_said}
 use Rattle.checked_files.specs.declared.errors.CheckFault.{CheckFault}
 use Rattle.checked_files.specs.declared.errors.CheckFault.TheVariants as faults
 use Rattle.checked_files.specs.CheckedLaws.{executions_by_first_bytes}
-use Rattle.checked_files.specs.FilesChecked.{exec_told}
+use Rattle.checked_files.specs.FilesChecked.{exec_said}
 use Rattle.checked_files.specs.Steps.{TestFileTo, ExecFileTo, test_fault, test_kind, exec_fault}
 
 -- the file of a test was read, its text is one, and it was closed
@@ -66,7 +66,7 @@ pub exec_judged : (arch : ArchName) (w : Writing) (test : TestRead) (old new : S
     → Checks arch (number_in w.registers) test judged (Ok v) → ExecFileTo arch w test old new name (Ok v)
 exec_judged arch w test old new name text judged closed u v r shut same is = record {
   x = is.execution;
-  file = file_is (exec_told test) (executions_by_first_bytes test) old new name text judged closed u is.execution r shut same is.read;
+  file = file_is (exec_said test) (executions_by_first_bytes test) old new name text judged closed u is.execution r shut same is.read;
   is = is.verdict;
 }
 
@@ -77,7 +77,7 @@ pub exec_unclosed : (arch : ArchName) (w : Writing) (test : TestRead) (old new :
     → ExecFileTo arch w test old new name answer
 exec_unclosed arch w test old new name text judged closed f v answer r shut same is fails =
     is_fault (ExecFileTo arch w test old new name) answer faults.Device fails
-    (file_unclosed (exec_told test) (executions_by_first_bytes test) old new name text judged closed f is.execution r shut same is.read)
+    (file_unclosed (exec_said test) (executions_by_first_bytes test) old new name text judged closed f is.execution r shut same is.read)
 
 -- there is no verdict on its text, whether or not its closing failed
 pub exec_wrong : (arch : ArchName) (w : Writing) (test : TestRead) (old new : ShelfSeen) (name text judged : List ℕ) (closed : Result (Unit {0}) Failed)
@@ -90,4 +90,4 @@ exec_wrong arch w test old new name text judged closed fault answer r same is fa
     of_fault : (fault : CheckError) → Checks arch (number_in w.registers) test judged (Err fault) → ExecFileTo arch w test old new name (Err (exec_fault fault))
     of_fault checks.NoMemory is = tt
     of_fault (checks.Exec line kind) is =
-        file_faulty (exec_told test) (executions_by_first_bytes test) old new name text judged closed _ r same is
+        file_faulty (exec_said test) (executions_by_first_bytes test) old new name text judged closed _ r same is

@@ -16,25 +16,25 @@ use Rattle.execution_text.specs.declared.errors.ExecKind.TheVariants.{TooLarge}
 use Rattle.execution_text.specs.ExecutionText.{execution_read, lines_of, lines_read}
 use Rattle.test_files.specs.declared.errors.TestFileError.{TestFileError}
 use Rattle.test_files.specs.FilesRead.{Begins}
-use Rattle.test_files.specs.FewBytes.{AreFew, none_few, one_few, both_few, front_few, begun_few, few_taken}
+use Rattle.test_files.specs.FewBytes.{AreFew, none_few, one_few, both_few, prefix_few, begun_few, few_taken}
 use Rattle.test_files.specs.FirstBytes.{JudgesFirstBytes, RefusesLong, judges_first_bytes, tests_by_first_bytes}
 use Rattle.test_files.specs.TestSaid.{test_said}
 use Rattle.checked_files.specs.declared.errors.CheckedKind.TheVariants as kinds
 use Rattle.checked_files.specs.declared.errors.CheckEnd.{CheckEnd}
 use Rattle.checked_files.specs.declared.errors.CheckEnd.TheVariants as ends
-use Rattle.checked_files.specs.FilesChecked.{exec_told, IsTest, AreRight, BothRead, TestWrong, ExecWrong, IsAbsent, TestUnread, ExecUnread, FilesChecked}
+use Rattle.checked_files.specs.FilesChecked.{exec_said, IsTest, AreRight, BothRead, TestWrong, ExecWrong, IsAbsent, TestUnread, ExecUnread, FilesChecked}
 
 abbrev too_large : ExecFault
 too_large = record { line = 1; kind = TooLarge }
 
-executions_refuse_long : (test : TestRead) → RefusesLong (exec_told test) too_large (λ text. lines_read (length test.threads) test.places (lines_of text))
+executions_refuse_long : (test : TestRead) → RefusesLong (exec_said test) too_large (λ text. lines_read (length test.threads) test.places (lines_of text))
 unfolding execution_read
 executions_refuse_long test text = refl
 
 -- what a text says as an execution of a test depends on its first bytes alone, one more than a test may have, and it isn't too long
-pub executions_by_first_bytes : (test : TestRead) → JudgesFirstBytes (exec_told test)
+pub executions_by_first_bytes : (test : TestRead) → JudgesFirstBytes (exec_said test)
 executions_by_first_bytes test =
-    judges_first_bytes (exec_told test) (λ text. lines_read (length test.threads) test.places (lines_of text)) too_large (executions_refuse_long test)
+    judges_first_bytes (exec_said test) (λ text. lines_read (length test.threads) test.places (lines_of text)) too_large (executions_refuse_long test)
 
 test_few : (arch : ArchName) (w : Writing) (files : Option Files) (name text : List ℕ) (test : TestRead) → IsTest arch w files name text test
     → AreFew (text ∷ [])
@@ -45,16 +45,16 @@ test_few arch w files name text test is =
 read_few : (arch : ArchName) (w : Writing) (old new : ShelfSeen) (words : List (List ℕ)) (test exec : ℕ) (judged : TestRead) (x : Execution)
     → BothRead arch w old new words test exec judged x → count_of old.opened < count_of new.opened → new.taken ≤ MAX_TEXT + 1
 read_few arch w old new words test exec judged x read more =
-    let short : length read.told ≤ MAX_TEXT = (executions_by_first_bytes judged).short read.told x read.exec_is.tells in
-    few_taken old new (read.text ∷ read.told ∷ []) read.took
-    (both_few (read.text ∷ []) (read.told ∷ []) (test_few arch w old.files (name_at words test) read.text judged read.test_is)
-    (one_few read.told (omega arith)))
+    let short : length read.shown ≤ MAX_TEXT = (executions_by_first_bytes judged).short read.shown x read.exec_is.says in
+    few_taken old new (read.text ∷ read.shown ∷ []) read.took
+    (both_few (read.text ∷ []) (read.shown ∷ []) (test_few arch w old.files (name_at words test) read.text judged read.test_is)
+    (one_few read.shown (omega arith)))
     more
 
 test_wrong_few : (arch : ArchName) (w : Writing) (old new : ShelfSeen) (words : List (List ℕ)) (test file : ℕ) (error : TestFileError)
     → TestWrong arch w old new words test file error → count_of old.opened < count_of new.opened → new.taken ≤ MAX_TEXT + 1
 test_wrong_few arch w old new words test file error h more =
-    few_taken old new (take (MAX_TEXT + 1) h.faulty.text ∷ []) h.faulty.took (front_few h.faulty.text) more
+    few_taken old new (take (MAX_TEXT + 1) h.faulty.text ∷ []) h.faulty.took (prefix_few h.faulty.text) more
 
 -- of the file that was opened last at most one byte more than a test may have is taken
 pub checked_few : (arch : ArchName) (w : Writing) (old new : ShelfSeen) (words : List (List ℕ)) (test exec : ℕ) (before after : SinkSeen) (end : CheckEnd)
@@ -67,9 +67,9 @@ checked_few arch w old new words test exec before after (ends.Wrong file line (k
 checked_few arch w old new words test exec before after (ends.Wrong file line kinds.WrongArch) h some more =
     test_wrong_few arch w old new words test file _ h.0 more
 checked_few arch w old new words test exec before after (ends.Wrong file line (kinds.Exec kind)) h some more =
-    few_taken old new (h.0.text ∷ take (MAX_TEXT + 1) h.0.told ∷ []) h.0.took
-    (both_few (h.0.text ∷ []) (take (MAX_TEXT + 1) h.0.told ∷ []) (test_few arch w old.files (name_at words test) h.0.text h.0.read h.0.test_is)
-    (front_few h.0.told))
+    few_taken old new (h.0.text ∷ take (MAX_TEXT + 1) h.0.shown ∷ []) h.0.took
+    (both_few (h.0.text ∷ []) (take (MAX_TEXT + 1) h.0.shown ∷ []) (test_few arch w old.files (name_at words test) h.0.text h.0.read h.0.test_is)
+    (prefix_few h.0.shown))
     more
 checked_few arch w old new words test exec before after (ends.NoFile word) h some more = of_absent h.0
   where
@@ -100,15 +100,15 @@ checked_few arch w old new words test exec before after ends.NoMemory h some mor
 
 -- a file that is shown has one text
 one_text : (seen : Option Files) (files : Files) (name a b : List ℕ) → seen ≡ Some files → files name ≡ Some a → IsFile seen name b → a ≡ b
-one_text seen files name a b told there named =
-    let same : files name ≡ Some b = subst (λ (o : Option Files). IsFile o name b) told named in
+one_text seen files name a b shown there named =
+    let same : files name ≡ Some b = subst (λ (o : Option Files). IsFile o name b) shown named in
     ap (λ (o : Option (List ℕ)). unwrap_or o a) (sym there ∙ same)
 
 -- and isn't absent
 not_absent : (seen : Option Files) (files : Files) (name a : List ℕ) (m n : ℕ) → seen ≡ Some files → files name ≡ Some a
     → MatchOption seen (Rose m n) (λ there. there name ≡ None) → ⊥
-not_absent seen files name a m n told there absent =
-    let none : files name ≡ None = subst (λ (o : Option Files). MatchOption o (Rose m n) (λ f. f name ≡ None)) told absent in
+not_absent seen files name a m n shown there absent =
+    let none : files name ≡ None = subst (λ (o : Option Files). MatchOption o (Rose m n) (λ f. f name ≡ None)) shown absent in
     let both : ◌≡◌ {A = Option (List ℕ)} (Some a) None = sym there ∙ none in cc both
 
 -- what is right has no fault
@@ -123,37 +123,37 @@ one_right {X} {E} judge a b x y same p q =
 
 test_right : (arch : ArchName) (w : Writing) (old new : ShelfSeen) (words : List (List ℕ)) (test exec file : ℕ) (error : TestFileError) (files : Files)
     → TestWrong arch w old new words test file error → old.files ≡ Some files → AreRight files arch w words test exec → ⊥
-test_right arch w old new words test exec file error files h told right =
+test_right arch w old new words test exec file error files h shown right =
     not_both (test_said arch w) right.text h.faulty.text right.read error
-    (one_text old.files files (name_at words test) right.text h.faulty.text told right.there h.faulty.named) right.is_test h.faulty.fault
+    (one_text old.files files (name_at words test) right.text h.faulty.text shown right.there h.faulty.named) right.is_test h.faulty.fault
 
 exec_right : (arch : ArchName) (w : Writing) (old new : ShelfSeen) (words : List (List ℕ)) (test exec file : ℕ) (error : ExecFault) (files : Files)
     → ExecWrong arch w old new words test exec file error → old.files ≡ Some files → AreRight files arch w words test exec → ⊥
-exec_right arch w old new words test exec file error files h told right =
+exec_right arch w old new words test exec file error files h shown right =
     let same : right.read ≡ h.read =
     one_right (test_said arch w) right.text h.text right.read h.read
-    (one_text old.files files (name_at words test) right.text h.text told right.there h.test_is.named) right.is_test h.test_is.is in
-    let is : exec_told h.read right.told ≡ Ok right.x = subst (λ (t : TestRead). exec_told t right.told ≡ Ok right.x) same right.is_execution in
-    not_both (exec_told h.read) right.told h.told right.x error
-    (one_text old.files files (name_at words exec) right.told h.told told right.told_there h.named) is h.fault
+    (one_text old.files files (name_at words test) right.text h.text shown right.there h.test_is.named) right.is_test h.test_is.is in
+    let is : exec_said h.read right.shown ≡ Ok right.x = subst (λ (t : TestRead). exec_said t right.shown ≡ Ok right.x) same right.is_execution in
+    not_both (exec_said h.read) right.shown h.shown right.x error
+    (one_text old.files files (name_at words exec) right.shown h.shown shown right.shown_there h.named) is h.fault
 
 -- where both files are shown and right, and no device fails, the verdict is written, or there is no memory
 pub right_files_done : (arch : ArchName) (w : Writing) (old new : ShelfSeen) (words : List (List ℕ)) (test exec : ℕ) (before after : SinkSeen)
     (end : CheckEnd) (files : Files) → FilesChecked arch w old new words test exec before after end → old.files ≡ Some files
     → AreRight files arch w words test exec → (Rose old.faults new.faults → ⊥) → (Rose before.faults after.faults → ⊥)
     → (end ≡ ends.Done) ⊎ (end ≡ ends.NoMemory)
-right_files_done arch w old new words test exec before after ends.Done files h told right shelf out = inl refl
-right_files_done arch w old new words test exec before after ends.NoMemory files h told right shelf out = inr refl
-right_files_done arch w old new words test exec before after ends.OutFault files h told right shelf out = absurd (out h.wrote.fault)
-right_files_done arch w old new words test exec before after ends.ShelfFault files h told right shelf out = absurd (shelf h.0.fault)
-right_files_done arch w old new words test exec before after (ends.Wrong file line (kinds.Test kind)) files h told right shelf out =
-    absurd (test_right arch w old new words test exec file _ files h.0 told right)
-right_files_done arch w old new words test exec before after (ends.Wrong file line kinds.WrongArch) files h told right shelf out =
-    absurd (test_right arch w old new words test exec file _ files h.0 told right)
-right_files_done arch w old new words test exec before after (ends.Wrong file line (kinds.Exec kind)) files h told right shelf out =
-    absurd (exec_right arch w old new words test exec file _ files h.0 told right)
-right_files_done arch w old new words test exec before after (ends.NoFile word) files h told right shelf out = absurd (of_absent h.0)
+right_files_done arch w old new words test exec before after ends.Done files h shown right shelf out = inl refl
+right_files_done arch w old new words test exec before after ends.NoMemory files h shown right shelf out = inr refl
+right_files_done arch w old new words test exec before after ends.OutFault files h shown right shelf out = absurd (out h.wrote.fault)
+right_files_done arch w old new words test exec before after ends.ShelfFault files h shown right shelf out = absurd (shelf h.0.fault)
+right_files_done arch w old new words test exec before after (ends.Wrong file line (kinds.Test kind)) files h shown right shelf out =
+    absurd (test_right arch w old new words test exec file _ files h.0 shown right)
+right_files_done arch w old new words test exec before after (ends.Wrong file line kinds.WrongArch) files h shown right shelf out =
+    absurd (test_right arch w old new words test exec file _ files h.0 shown right)
+right_files_done arch w old new words test exec before after (ends.Wrong file line (kinds.Exec kind)) files h shown right shelf out =
+    absurd (exec_right arch w old new words test exec file _ files h.0 shown right)
+right_files_done arch w old new words test exec before after (ends.NoFile word) files h shown right shelf out = absurd (of_absent h.0)
   where
     of_absent : IsAbsent arch w old new words test exec word → ⊥
-    of_absent (inl no_test) = not_absent old.files files (name_at words test) right.text old.faults new.faults told right.there no_test.absent
-    of_absent (inr no_exec) = not_absent old.files files (name_at words exec) right.told old.faults new.faults told right.told_there no_exec.absent
+    of_absent (inl no_test) = not_absent old.files files (name_at words test) right.text old.faults new.faults shown right.there no_test.absent
+    of_absent (inr no_exec) = not_absent old.files files (name_at words exec) right.shown old.faults new.faults shown right.shown_there no_exec.absent

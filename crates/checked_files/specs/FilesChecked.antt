@@ -25,8 +25,8 @@ use Rattle.checked_files.specs.declared.errors.CheckEnd.{CheckEnd}
 use Rattle.checked_files.specs.declared.errors.CheckEnd.TheVariants as ends
 
 -- what a text says as an execution of a test, or its first fault
-abbrev pub exec_told : TestRead → List ℕ → Result Execution ExecFault
-exec_told test text = execution_read (length test.threads) test.places text
+abbrev pub exec_said : TestRead → List ℕ → Result Execution ExecFault
+exec_said test text = execution_read (length test.threads) test.places text
 
 -- a file has this text, and is this test of an architecture
 pub record IsTest (arch : ArchName) (w : Writing) (files : Option Files) (name text : List ℕ) (test : TestRead) : Type 0 where
@@ -34,9 +34,9 @@ pub record IsTest (arch : ArchName) (w : Writing) (files : Option Files) (name t
   pub is : test_said arch w text ≡ Ok test
 
 -- a file has this text, and holds this execution of a test
-pub record TellsExecution (test : TestRead) (files : Option Files) (name text : List ℕ) (x : Execution) : Type 0 where
+pub record SaysExecution (test : TestRead) (files : Option Files) (name text : List ℕ) (x : Execution) : Type 0 where
   pub named : IsFile files name text
-  pub tells : exec_told test text ≡ Ok x
+  pub says : exec_said test text ≡ Ok x
 
 -- the files that the words at two places name are a test of an architecture and an execution of it
 pub record AreRight (files : Files) (arch : ArchName) (w : Writing) (words : List (List ℕ)) (test exec : ℕ) : Type 0 where
@@ -44,19 +44,19 @@ pub record AreRight (files : Files) (arch : ArchName) (w : Writing) (words : Lis
   pub there : files (name_at words test) ≡ Some text
   pub read : TestRead
   pub is_test : test_said arch w text ≡ Ok read
-  pub told : List ℕ
-  pub told_there : files (name_at words exec) ≡ Some told
+  pub shown : List ℕ
+  pub shown_there : files (name_at words exec) ≡ Some shown
   pub x : Execution
-  pub is_execution : execution_read (length read.threads) read.places told ≡ Ok x
+  pub is_execution : execution_read (length read.threads) read.places shown ≡ Ok x
 
 -- the files of the two words are this test and this execution of it, each was opened once, in this order, and read to its end, and
 -- the shelf didn't fail
 pub record BothRead (arch : ArchName) (w : Writing) (old new : ShelfSeen) (words : List (List ℕ)) (test exec : ℕ) (read : TestRead) (x : Execution) : Type 0 where
   pub text : List ℕ
   pub test_is : IsTest arch w old.files (name_at words test) text read
-  pub told : List ℕ
-  pub exec_is : TellsExecution read old.files (name_at words exec) told x
-  pub took : TookFiles old new (text ∷ told ∷ [])
+  pub shown : List ℕ
+  pub exec_is : SaysExecution read old.files (name_at words exec) shown x
+  pub took : TookFiles old new (text ∷ shown ∷ [])
   pub no_fault : new.faults ≡ old.faults
 
 -- both files were read, this is the verdict, and this was done with its text
@@ -80,10 +80,10 @@ pub record ExecWrong (arch : ArchName) (w : Writing) (old new : ShelfSeen) (word
   pub text : List ℕ
   pub read : TestRead
   pub test_is : IsTest arch w old.files (name_at words test) text read
-  pub told : List ℕ
-  pub named : IsFile old.files (name_at words exec) told
-  pub fault : exec_told read told ≡ Err error
-  pub took : TookFiles old new (text ∷ take (MAX_TEXT + 1) told ∷ [])
+  pub shown : List ℕ
+  pub named : IsFile old.files (name_at words exec) shown
+  pub fault : exec_said read shown ≡ Err error
+  pub took : TookFiles old new (text ∷ take (MAX_TEXT + 1) shown ∷ [])
 
 -- the one or the other, by the kind of the fault
 abbrev pub IsWrong : ArchName → Writing → ShelfSeen → ShelfSeen → List (List ℕ) → ℕ → ℕ → ℕ → ℕ → CheckedKind → Type 0

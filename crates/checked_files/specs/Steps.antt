@@ -25,7 +25,7 @@ use Rattle.checked_files.specs.declared.errors.CheckFault.{CheckFault}
 use Rattle.checked_files.specs.declared.errors.CheckFault.TheVariants as faults
 use Rattle.checked_files.specs.declared.errors.CheckEnd.{CheckEnd}
 use Rattle.checked_files.specs.declared.errors.CheckEnd.TheVariants as ends
-use Rattle.checked_files.specs.FilesChecked.{exec_told}
+use Rattle.checked_files.specs.FilesChecked.{exec_said}
 
 -- why a file isn't what is wanted of it: it isn't read
 abbrev pub file_fault : FileFault → CheckFault
@@ -68,7 +68,7 @@ TestFileTo arch w old new name (Err faults.NoMemory) = ⊤
 -- a file holds an execution of a test, and this is the verdict on it
 pub record FileVerdict (arch : ArchName) (w : Writing) (test : TestRead) (old new : ShelfSeen) (name : List ℕ) (v : Verdict) : Type 0 where
   pub x : Execution
-  pub file : FileIs (exec_told test) old new name x
+  pub file : FileIs (exec_said test) old new name x
   pub is : IsVerdict arch (number_in w.registers) test x v
 
 -- an answer to the file of an execution of a test
@@ -76,6 +76,6 @@ abbrev pub ExecFileTo : ArchName → Writing → TestRead → ShelfSeen → Shel
 ExecFileTo arch w test old new name (Ok v) = FileVerdict arch w test old new name v
 ExecFileTo arch w test old new name (Err faults.Missing) = FileAbsent old new name
 ExecFileTo arch w test old new name (Err faults.Device) = FileFailed old new name
-ExecFileTo arch w test old new name (Err (faults.Wrong line (kinds.Exec kind))) = FileFaulty (exec_told test) old new name (record { line = line; kind = kind })
+ExecFileTo arch w test old new name (Err (faults.Wrong line (kinds.Exec kind))) = FileFaulty (exec_said test) old new name (record { line = line; kind = kind })
 ExecFileTo arch w test old new name (Err (faults.Wrong line kind)) = ⊥
 ExecFileTo arch w test old new name (Err faults.NoMemory) = ⊤

@@ -7,7 +7,7 @@ use Rattle.diy_io.specs.Wrote.{SinkSeen}
 use Rattle.file_laws.specs.Opened.{TookFiles, name_at}
 use Rattle.relax_edges.specs.declared.edge.Edge.{Edge}
 use Rattle.litmus_text.specs.declared.limits.TheConstants.{MAX_TEXT}
-use Rattle.test_files.specs.FewBytes.{AreFew, none_few, one_few, both_few, front_few, begun_few, few_taken}
+use Rattle.test_files.specs.FewBytes.{AreFew, none_few, one_few, both_few, prefix_few, begun_few, few_taken}
 use Rattle.test_files.specs.FilesRead.{Begins}
 use Rattle.classified_files.specs.declared.errors.FilesEnd.{FilesEnd}
 use Rattle.classified_files.specs.declared.errors.FilesEnd.TheVariants as ends
@@ -32,7 +32,7 @@ classified_few asked old new words places a b ends.OutFault h some more =
     few_taken old new h.read.texts h.read.took (said_few asked h.read.texts h.cycles h.read.read.say) more
 classified_few asked old new words places a b (ends.Wrong file line kind) h some more =
     few_taken old new (h.0.texts ++ take (MAX_TEXT + 1) h.0.text ∷ []) h.0.took
-    (both_few h.0.texts (take (MAX_TEXT + 1) h.0.text ∷ []) (said_few asked h.0.texts h.0.place_is.cycles h.0.place_is.read.say) (front_few h.0.text))
+    (both_few h.0.texts (take (MAX_TEXT + 1) h.0.text ∷ []) (said_few asked h.0.texts h.0.place_is.cycles h.0.place_is.read.say) (prefix_few h.0.text))
     more
 classified_few asked old new words places a b (ends.NoFile word) h some more =
     few_taken old new h.0.texts h.0.took (said_few asked h.0.texts h.0.place_is.cycles h.0.place_is.read.say) more

@@ -80,7 +80,7 @@ impl<'a> Model for Valued<'a> {
 pub fn value(resolved: &Resolved, mode: ObsMode) -> Result<Valued<'_>, NeedsObserver>
     ensures { result ≡ valuation_of resolved.now mode }
 {
-    let walk = walked(resolved.cycle().edges());
+    let walk = walk_arcs(resolved.cycle().edges());
     if let ObsMode::Avoid = mode {
         for (location, arc) in walk.arcs.iter().enumerate() {
             if let Some(event) = arc.inner {
@@ -104,7 +104,7 @@ pub fn value(resolved: &Resolved, mode: ObsMode) -> Result<Valued<'_>, NeedsObse
 pub fn value_unobserved(resolved: &Resolved) -> Valued<'_>
     ensures { result ≡ record { edges = resolved.now; mode = Avoid } }
 {
-    let walk = walked(resolved.cycle().edges());
+    let walk = walk_arcs(resolved.cycle().edges());
     Valued {
         resolved,
         mode: ObsMode::Avoid,
@@ -121,7 +121,7 @@ struct Walk {
 }
 
 /// Walks along all arcs, that of location 0 first, after the last edge to another location.
-fn walked(edges: &[Edge]) -> Walk
+fn walk_arcs(edges: &[Edge]) -> Walk
     requires { IsResolved edges.now }
     ensures values { result.values.items ≡ values_of edges.now }
     ensures arcs { result.arcs.items ≡ all_seen edges.now }
@@ -130,7 +130,7 @@ fn walked(edges: &[Edge]) -> Walk
         values: ArrayVec::new(),
         arcs: ArrayVec::new(),
     };
-    let mut arc = arc_behind(edges);
+    let mut arc = arc_after(edges);
     let mut into = edges[edges.len() - 1];
     for (i, out) in edges.iter().enumerate() {
         arc = arc.with(i as u8, into, *out);
@@ -145,7 +145,7 @@ fn walked(edges: &[Edge]) -> Walk
 }
 
 /// The arc of location 0, as far as it lies after the last edge to another location.
-fn arc_behind(edges: &[Edge]) -> Arc
+fn arc_after(edges: &[Edge]) -> Arc
     requires { IsResolved edges.now }
     ensures { result ≡ seen_of edges.now 0 (writes_before edges.now 0) }
 {

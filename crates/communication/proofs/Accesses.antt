@@ -30,8 +30,8 @@ observer_thread es mode number k o h =
     slice_get-append_right (map (λ thread. map (event_access es number) (events_in es thread)) (upto (external_count es))) (map (observer_accesses es number) (observed_locations es mode)) k o (omega (arith, length-map-upto (λ thread. map (event_access es number) (events_in es thread)) (external_count es)))
 
 -- event i is the access under its name
-pub event_stands : (es : List Edge) (mode : ObsMode) (number : ℕ → ℕ) (i : ℕ) → Resolves es → i < length es → at_name (cycle_accesses es mode number) (event_name es i) ≡ Some (event_access es number i)
-event_stands es mode number i r h =
+pub event_at_name : (es : List Edge) (mode : ObsMode) (number : ℕ → ℕ) (i : ℕ) → Resolves es → i < length es → at_name (cycle_accesses es mode number) (event_name es i) ≡ Some (event_access es number i)
+event_at_name es mode number i r h =
     ap (λ o. got_from o (slot_of es i)) (thread_accesses es mode number (thread_of es i) (r.thread i h))
     ∙ got_map (event_access es number) (events_in es (thread_of es i)) (slot_of es i) i (r.stands i h)
 
@@ -40,8 +40,8 @@ pub observer_load : (es : List Edge) (number : ℕ → ℕ) (l k : ℕ) → k < 
 observer_load es number l k h = slice_get-map-upto (λ k. read (number l) (k + 1)) (write_count es l) k h
 
 -- load number k of an observer is the access under its name
-pub observer_stands : (es : List Edge) (mode : ObsMode) (number : ℕ → ℕ) (o l k : ℕ) → slice_get (observed_locations es mode) o ≡ Some l → k < write_count es l → at_name (cycle_accesses es mode number) (record { thread = external_count es + o; access = k }) ≡ Some (read (number l) (k + 1))
-observer_stands es mode number o l k g h =
+pub observer_at_name : (es : List Edge) (mode : ObsMode) (number : ℕ → ℕ) (o l k : ℕ) → slice_get (observed_locations es mode) o ≡ Some l → k < write_count es l → at_name (cycle_accesses es mode number) (record { thread = external_count es + o; access = k }) ≡ Some (read (number l) (k + 1))
+observer_at_name es mode number o l k g h =
     ap (λ t. got_from t k) (observer_thread es mode number (external_count es + o) o refl ∙ got_map (observer_accesses es number) (observed_locations es mode) o l g)
     ∙ observer_load es number l k h
 

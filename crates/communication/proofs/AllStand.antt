@@ -19,7 +19,7 @@ use Rattle.communication.specs.Premises.{MeetsCondition}
 use Rattle.communication.specs.Joining.{AreFree, IsTiedUp}
 use Rattle.communication.specs.Laws.{AllJoin}
 use Rattle.communication.proofs.Lists.{image_of, got_map}
-use Rattle.communication.proofs.Accesses.{got_from_list, thread_accesses, observer_thread, event_stands}
+use Rattle.communication.proofs.Accesses.{got_from_list, thread_accesses, observer_thread, event_at_name}
 use Rattle.communication.proofs.EdgesJoin.{edges_join}
 use Rattle.communication.proofs.Programs.{accesses-count}
 use Rattle.communication.proofs.Resolves.{Resolves, EntersLast}
@@ -48,7 +48,7 @@ pub is_event_at : (es : List Edge) (mode : ObsMode) (number : ℕ → ℕ) (p : 
 is_event_at es mode number p x i e r m h v =
     let a : at_name (accesses_in p x) e.name ≡ Some e.visit.access = access_of_visit (visits_in p x) e.name e.visit v.visit_is in
     let b : Some (event_access es number i) ≡ Some e.visit.access =
-    sym (event_stands es mode number i r h) ∙ ap (at_name (cycle_accesses es mode number)) (sym v.name_is) ∙ ap (λ (t : List (List Access)). at_name t e.name) (sym m) ∙ a in
+    sym (event_at_name es mode number i r h) ∙ ap (at_name (cycle_accesses es mode number)) (sym v.name_is) ∙ ap (λ (t : List (List Access)). at_name t e.name) (sym m) ∙ a in
     let c : event_access es number i ≡ e.visit.access = cc in
     λ t. record { name = v.name_is t; access = sym c t }
 
@@ -75,7 +75,7 @@ has_events es mode number p x r m f = record {
   threads = omega (arith, threads-count es mode number, accesses-count p x, ap length m);
   counts = λ k visits h g. counted k visits h g;
   events = λ i h.
-      let a = visit_of_access (visits_in p x) (event_name es i) (event_access es number i) (ap (λ (t : List (List Access)). at_name t (event_name es i)) m ∙ event_stands es mode number i r h) in
+      let a = visit_of_access (visits_in p x) (event_name es i) (event_access es number i) (ap (λ (t : List (List Access)). at_name t (event_name es i)) m ∙ event_at_name es mode number i r h) in
       (record { name = event_name es i; visit = a.visit }, record { name_is = refl; visit_is = a.got; direction = ap (λ c. c.dir) a.access_is });
   observers = λ k visits h g. observes visits (f.observers k visits h g) (λ j visit q. reads k visits h g j visit q);
   starts = f.starts;

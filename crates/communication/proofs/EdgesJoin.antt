@@ -20,7 +20,7 @@ use Rattle.program_meaning.specs.Standing.{AreAt, CommunicatesBy, ComesBefore, R
 use Rattle.program_meaning.specs.Intended.{IsNumbering, event_access, event_at, cycle_accesses, write_of, intended}
 use Rattle.communication.specs.Premises.{MeetsCondition}
 use Rattle.communication.proofs.Numbering.{location_of_number}
-use Rattle.communication.proofs.Accesses.{event_stands}
+use Rattle.communication.proofs.Accesses.{event_at_name}
 use Rattle.communication.proofs.WriteEvents.{ordered_write-is}
 use Rattle.communication.proofs.IntendedOrders.{placed_write, place_is_value}
 use Rattle.communication.proofs.OnlyOne.{only_the_intended}
@@ -44,7 +44,7 @@ own_write es i r h d = by_value (value_of es i) refl
 reads_from : (es : List Edge) (mode : ObsMode) (number : ℕ → ℕ) (i : ℕ) → Resolves es → IsNumbering es number → i < length es → source_of (edge_at es i) ≡ dirs.W → target_of (edge_at es i) ≡ dirs.R → place_of (edge_at es i) ≡ Same → source_at (cycle_accesses es mode number) (intended es mode number) (event_name es (event_after es i)) ≡ Some (event_name es i)
 reads_from es mode number i r n h d t p =
     ap (λ k. placed_by k (cycle_accesses es mode number) (intended es mode number) (event_name es (event_after es i))) (sym (sym (r.enters i h) ∙ t))
-    ∙ placed_write es mode number (intended es mode number) (event_name es (event_after es i)) (event_access es number (event_after es i)) r n refl (event_stands es mode number (event_after es i) r (after_below es i h))
+    ∙ placed_write es mode number (intended es mode number) (event_name es (event_after es i)) (event_access es number (event_after es i)) r n refl (event_at_name es mode number (event_after es i) r (after_below es i h))
     ∙ ap (λ l. write_of es l (value_of es (event_after es i))) (location_of_number es number (location_of es (event_after es i)) n (r.location (event_after es i)) ∙ r.keeps i h p)
     ∙ ap (write_of es (location_of es i)) (let e : value_of es (event_after es i) ≡ value_of es i = omega (arith, value_along es i r h p, ap written_by t) in e)
     ∙ own_write es i r h d
@@ -56,8 +56,8 @@ comes_before es mode number i r n h t p =
       arith,
       value_along es i r h p,
       ap written_by t,
-      place_is_value es mode number (event_name es i) (event_access es number i) r n (event_stands es mode number i r h),
-      place_is_value es mode number (event_name es (event_after es i)) (event_access es number (event_after es i)) r n (event_stands es mode number (event_after es i) r (after_below es i h)),
+      place_is_value es mode number (event_name es i) (event_access es number i) r n (event_at_name es mode number i r h),
+      place_is_value es mode number (event_name es (event_after es i)) (event_access es number (event_after es i)) r n (event_at_name es mode number (event_after es i) r (after_below es i h)),
     )
 
 communicates : (es : List Edge) (mode : ObsMode) (number : ℕ → ℕ) (i : ℕ) → Resolves es → IsNumbering es number → i < length es → (k : Kind) → kind_of (edge_at es i) ≡ k → CommunicatesBy k (cycle_accesses es mode number) (intended es mode number) (event_at es number i) (event_at es number (event_after es i))

@@ -33,7 +33,7 @@ use Rattle.communication.specs.Premises.{MeetsCondition}
 use Rattle.communication.specs.Exchange.{swapped, exchanged_value, exchanged_order, exchanged}
 use Rattle.communication.proofs.Lists.{image_of}
 use Rattle.communication.proofs.Numbering.{Numbers, numbering_onto, location_of_number}
-use Rattle.communication.proofs.Accesses.{EventAt, by_origin, event_stands}
+use Rattle.communication.proofs.Accesses.{EventAt, by_origin, event_at_name}
 use Rattle.communication.proofs.IntendedReads.{IsPlaced, placed, reads-count, intended_are_reads}
 use Rattle.communication.proofs.IntendedOrders.{intended_order, placed_write}
 use Rattle.communication.proofs.IntendedExists.{values_follow, last_of_order, intended_meets}
@@ -253,7 +253,7 @@ exchanged_ends es number event place r n q h =
 -- the coherence place of an event at the entry's location
 event_exchanged : (es : List Edge) (number : ℕ → ℕ) (event i : ℕ) → Resolves es → IsNumbering es number → InnerEntry es event → i < length es → location_of es i ≡ location_of es event → coherence_place (cycle_accesses es Avoid number) (exchanged es number event) (event_name es i) (event_access es number i) ≡ swapped (value_of es event) (value_of es i)
 event_exchanged es number event i r n q h l =
-    place_exchanged es number event (event_name es i) (event_access es number i) r n q (event_stands es Avoid number i r h)
+    place_exchanged es number event (event_name es i) (event_access es number i) r n q (event_at_name es Avoid number i r h)
     (record { spot = location_of es i; below = r.location i; place_is = refl; within = r.within i h })
     ∙ ap (λ (f : ℕ → ℕ). f (value_of es i)) (at_location es event (location_of es i) l)
 

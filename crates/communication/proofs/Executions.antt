@@ -15,7 +15,7 @@ use Rattle.relax_edges.specs.EdgeTable.{source_of, target_of}
 use Rattle.micro_ops.specs.declared.operation.Micro.TheVariants as ops
 use Rattle.micro_ops.specs.declared.operation.Item.{Item}
 use Rattle.resolution_laws.specs.Resolution.{edge_at, thread_of, slot_of, event_after, events_in}
-use Rattle.program_meaning.specs.Accesses.{Access, Visit, read, write, at_name, barriers_behind}
+use Rattle.program_meaning.specs.Accesses.{Access, Visit, read, write, at_name, barriers_after}
 use Rattle.program_meaning.specs.Executions.{Execution}
 use Rattle.program_meaning.specs.Coherence.{final_value}
 use Rattle.program_meaning.specs.Programs.{Program, IsCandidate, IsCoherentIn, accesses_in, items_in, register_in, visits_in}
@@ -74,7 +74,7 @@ square_visits d u v = (plain (write 0 u) ∷ plain (access_to d 1 v) ∷ []) ∷
 record IsSquare (d : Dir) (c : Com) (u v : ℕ) (p : Program) (x : Execution) : Type 0 where
   threads : 2 ≤ length p.threads
   visits : visits_in p x ≡ square_visits d u v
-  ends : (k : ℕ) (made : List Item) → slice_get (items_in p x) k ≡ Some made → barriers_behind [] made ≡ []
+  ends : (k : ℕ) (made : List Item) → slice_get (items_in p x) k ≡ Some made → barriers_after [] made ≡ []
   leaves : source_of (edges.Com c External) ≡ d
   enters : target_of (edges.Com c External) ≡ dirs.W
   goes : Communicates c (accesses_in p x) x (record { name = name 0 1; access = access_to d 1 v }) (record { name = name 1 0; access = write 1 u })
@@ -206,9 +206,9 @@ both_initial-all_stand =
     square_stands dirs.R coms.Fr 1 0 buffers both_initial
     (record { threads = omega arith; visits = refl; ends = ends; leaves = refl; enters = refl; goes = omega arith; returns = omega arith })
   where
-    ends : (k : ℕ) (made : List Item) → slice_get (items_in buffers both_initial) k ≡ Some made → barriers_behind [] made ≡ []
-    ends zero made e = subst (λ items. barriers_behind [] items ≡ []) (same_Some _ made e) refl
-    ends (suc zero) made e = subst (λ items. barriers_behind [] items ≡ []) (same_Some _ made e) refl
+    ends : (k : ℕ) (made : List Item) → slice_get (items_in buffers both_initial) k ≡ Some made → barriers_after [] made ≡ []
+    ends zero made e = subst (λ items. barriers_after [] items ≡ []) (same_Some _ made e) refl
+    ends (suc zero) made e = subst (λ items. barriers_after [] items ≡ []) (same_Some _ made e) refl
     ends (suc (suc k)) made e = cc e
 
 one_later-accesses : accesses_in buffers one_later ≡ (write 0 1 ∷ read 1 1 ∷ []) ∷ (write 1 1 ∷ read 0 0 ∷ []) ∷ []
@@ -333,9 +333,9 @@ both_in_order-all_stand =
     square_stands dirs.W coms.Ws 2 1 double_writes both_in_order
     (record { threads = omega arith; visits = refl; ends = ends; leaves = refl; enters = refl; goes = omega arith; returns = omega arith })
   where
-    ends : (k : ℕ) (made : List Item) → slice_get (items_in double_writes both_in_order) k ≡ Some made → barriers_behind [] made ≡ []
-    ends zero made e = subst (λ items. barriers_behind [] items ≡ []) (same_Some _ made e) refl
-    ends (suc zero) made e = subst (λ items. barriers_behind [] items ≡ []) (same_Some _ made e) refl
+    ends : (k : ℕ) (made : List Item) → slice_get (items_in double_writes both_in_order) k ≡ Some made → barriers_after [] made ≡ []
+    ends zero made e = subst (λ items. barriers_after [] items ≡ []) (same_Some _ made e) refl
+    ends (suc zero) made e = subst (λ items. barriers_after [] items ≡ []) (same_Some _ made e) refl
     ends (suc (suc k)) made e = cc e
 
 -- the writes of x come in the order of the first thread and then the second

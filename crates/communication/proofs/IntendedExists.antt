@@ -23,7 +23,7 @@ use Rattle.communication.proofs.Lists.{image_of, length-filter_map-upto, slice_g
 use Rattle.communication.proofs.Orders.{Holds, order_given}
 use Rattle.communication.proofs.Numbering.{numbering_onto}
 use Rattle.communication.proofs.Accesses.{EventAt, LoadAt, by_origin}
-use Rattle.communication.proofs.WriteEvents.{nth_write, write_event, write_stands, ordered_write-is, rank_below}
+use Rattle.communication.proofs.WriteEvents.{nth_write, write_event, write_at_name, ordered_write-is, rank_below}
 use Rattle.communication.proofs.IntendedReads.{reads-count, intended_are_reads}
 use Rattle.communication.proofs.IntendedOrders.{gives_writes, intended_order, place_is_value}
 use Rattle.communication.proofs.Resolves.{Resolves, later_slot}
@@ -42,7 +42,7 @@ is_order es mode number l r n h =
           let a = nth_write es l k.0 r k.1 in
           let s : Some (event_name es a.event) ≡ Some w = sym a.name_is ∙ k.2 in
           let q : event_name es a.event ≡ w = cc in
-          (suc k.0, ap (at_name (cycle_accesses es mode number)) (sym q) ∙ write_stands es mode number l k.0 a.event r a.is_write);
+          (suc k.0, ap (at_name (cycle_accesses es mode number)) (sym q) ∙ write_at_name es mode number l k.0 a.event r a.is_write);
       each = λ w v e.
           let a = write_event es mode number w (number l) v r e in
           let s : a.spot ≡ l = n.injective a.spot l a.below h a.place_is in
@@ -138,7 +138,7 @@ intended_ends es mode number l k r n h c =
     let w = nth_write es l k r (omega arith) in
     ap (λ order. value_in (option_and_then (at_name (cycle_accesses es mode number)) (last_write order))) (intended_order es mode number l n h)
     ∙ ap (λ o. value_in (option_and_then (at_name (cycle_accesses es mode number)) o)) (last_of_order es l k r c ∙ w.name_is)
-    ∙ ap value_in (write_stands es mode number l k w.event r w.is_write)
+    ∙ ap value_in (write_at_name es mode number l k w.event r w.is_write)
 
 -- the intended execution meets the condition
 pub intended_meets : (es : List Edge) (mode : ObsMode) (number : ℕ → ℕ) → Resolves es → IsNumbering es number → MeetsCondition es mode number (intended es mode number)

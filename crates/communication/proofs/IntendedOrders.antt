@@ -19,7 +19,7 @@ use Rattle.communication.proofs.Lists.{got_below}
 use Rattle.communication.proofs.Orders.{Holds, Gives, place_given}
 use Rattle.communication.proofs.Numbering.{location_of_number}
 use Rattle.communication.proofs.Accesses.{GotFrom, got_from_list}
-use Rattle.communication.proofs.WriteEvents.{nth_write, write_event, write_stands, ordered_write-is, rank_below, source_fixed}
+use Rattle.communication.proofs.WriteEvents.{nth_write, write_event, write_at_name, ordered_write-is, rank_below, source_fixed}
 use Rattle.communication.proofs.ReadLists.{source_given}
 use Rattle.communication.proofs.IntendedReads.{IsPlaced, placed, source_for, intended_reads}
 use Rattle.communication.proofs.Resolves.{Resolves}
@@ -67,7 +67,7 @@ order_holds es mode number l x r n c h =
           let a = nth_write es l k r b in
           let s : Some (event_name es a.event) ≡ Some w = sym a.name_is ∙ e in
           let q : event_name es a.event ≡ w = cc in
-          o.orders.each w (suc k) (ap (at_name (cycle_accesses es mode number)) (sym q) ∙ write_stands es mode number l k a.event r a.is_write);
+          o.orders.each w (suc k) (ap (at_name (cycle_accesses es mode number)) (sym q) ∙ write_at_name es mode number l k a.event r a.is_write);
       only = λ j w e.
           let v = o.orders.writes j w e in
           let a = write_event es mode number w (number l) v.0 r v.1 in

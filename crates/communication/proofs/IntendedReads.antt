@@ -99,9 +99,9 @@ reads-count es mode number =
     let e = length-append (map (λ thread. map (event_access es number) (events_in es thread)) (upto (external_count es))) (map (observer_accesses es number) (observed_locations es mode)) in
     omega (arith, a, b, c, d, e))
 
-front_reads : (es : List Edge) (mode : ObsMode) (number : ℕ → ℕ) (k : ℕ) → k < external_count es → slice_get (intended es mode number).reads k ≡ Some (map (event_read es) (reads_in es k))
+first_reads : (es : List Edge) (mode : ObsMode) (number : ℕ → ℕ) (k : ℕ) → k < external_count es → slice_get (intended es mode number).reads k ≡ Some (map (event_read es) (reads_in es k))
 unfolding intended
-front_reads es mode number k h =
+first_reads es mode number k h =
     slice_get-append_left (map (λ thread. map (event_read es) (reads_in es thread)) (upto (external_count es))) (map (observer_reads es) (observed_locations es mode)) k (omega (arith, length-map-upto (λ thread. map (event_read es) (reads_in es thread)) (external_count es)))
     ∙ slice_get-map-upto (λ thread. map (event_read es) (reads_in es thread)) (external_count es) k h
 
@@ -113,13 +113,13 @@ back_reads es mode number k o h =
 -- each thread reads what its accesses are given
 pub intended_reads : (es : List Edge) (mode : ObsMode) (number : ℕ → ℕ) (k : ℕ) (accesses : List Access) → Resolves es → IsNumbering es number → slice_get (cycle_accesses es mode number) k ≡ Some accesses → slice_get (intended es mode number).reads k ≡ Some (reads_by_source (source_for es number) (filter is_read accesses))
 intended_reads es mode number k accesses r n h =
-    by_less k (external_count es) front (λ g. back (k - external_count es) (omega arith))
+    by_less k (external_count es) prefix (λ g. back (k - external_count es) (omega arith))
   where
-    front : k < external_count es → slice_get (intended es mode number).reads k ≡ Some (reads_by_source (source_for es number) (filter is_read accesses))
-    front l =
+    prefix : k < external_count es → slice_get (intended es mode number).reads k ≡ Some (reads_by_source (source_for es number) (filter is_read accesses))
+    prefix l =
         let s : Some (map (event_access es number) (events_in es k)) ≡ Some accesses = sym (thread_accesses es mode number k l) ∙ h in
         let e : map (event_access es number) (events_in es k) ≡ accesses = cc in
-        front_reads es mode number k l ∙ ap Some (event_reads es number k r n ∙ ap (λ l. reads_by_source (source_for es number) (filter is_read l)) e)
+        first_reads es mode number k l ∙ ap Some (event_reads es number k r n ∙ ap (λ l. reads_by_source (source_for es number) (filter is_read l)) e)
 
     back : (o : ℕ) → k ≡ external_count es + o → slice_get (intended es mode number).reads k ≡ Some (reads_by_source (source_for es number) (filter is_read accesses))
     back o t =

@@ -27,8 +27,8 @@ use Rattle.communication.specs.Premises.{MeetsCondition}
 use Rattle.communication.proofs.Lists.{same_below, got_below}
 use Rattle.communication.proofs.Orders.{Holds, place_held, order_by_steps}
 use Rattle.communication.proofs.Numbering.{numbering_onto, location_of_number}
-use Rattle.communication.proofs.Accesses.{event_stands, observer_stands}
-use Rattle.communication.proofs.WriteEvents.{NthWrite, nth_write, write_stands}
+use Rattle.communication.proofs.Accesses.{event_at_name, observer_at_name}
+use Rattle.communication.proofs.WriteEvents.{NthWrite, nth_write, write_at_name}
 use Rattle.communication.proofs.IntendedReads.{reads_are_intended}
 use Rattle.communication.proofs.IntendedOrders.{gives_writes, order_got, order_holds, intended_order, placed_write}
 use Rattle.communication.proofs.IntendedExists.{orders-count, intended_is_execution}
@@ -38,14 +38,14 @@ use Rattle.communication.proofs.Resolves.{IsWrite, Resolves, EntersLast, Entered
 pub event_place : (es : List Edge) (mode : ObsMode) (number : ℕ → ℕ) (x : Execution) (i : ℕ) → Resolves es → IsNumbering es number → x.reads ≡ (intended es mode number).reads → i < length es → coherence_place (cycle_accesses es mode number) x (event_name es i) (event_access es number i) ≡ order_place (order_at x (number (location_of es i))) (write_of es (location_of es i) (value_of es i))
 event_place es mode number x i r n s h =
     ap (order_place (order_at x (number (location_of es i))))
-    (placed_write es mode number x (event_name es i) (event_access es number i) r n s (event_stands es mode number i r h)
+    (placed_write es mode number x (event_name es i) (event_access es number i) r n s (event_at_name es mode number i r h)
     ∙ ap (λ l. write_of es l (value_of es i)) (location_of_number es number (location_of es i) n (r.location i)))
 
 -- the coherence place of an observer's load is that of the write that it reads
 load_place : (es : List Edge) (mode : ObsMode) (number : ℕ → ℕ) (x : Execution) (o l k : ℕ) → Resolves es → IsNumbering es number → x.reads ≡ (intended es mode number).reads → l < move_count es → slice_get (observed_locations es mode) o ≡ Some l → k < write_count es l → coherence_place (cycle_accesses es mode number) x (record { thread = external_count es + o; access = k }) (read (number l) (k + 1)) ≡ order_place (order_at x (number l)) (ordered_write es l k)
 load_place es mode number x o l k r n s h g b =
     ap (order_place (order_at x (number l)))
-    (placed_write es mode number x (record { thread = external_count es + o; access = k }) (read (number l) (k + 1)) r n s (observer_stands es mode number o l k g b)
+    (placed_write es mode number x (record { thread = external_count es + o; access = k }) (read (number l) (k + 1)) r n s (observer_at_name es mode number o l k g b)
     ∙ ap (λ m. write_of es m (k + 1)) (location_of_number es number l n h)
     ∙ ap (write_of es l) (add-one k))
 
@@ -109,8 +109,8 @@ internal_step es mode number x l k r n s c b h =
         subst (λ (w : WriteAt). coherence_place (cycle_accesses es mode number) x (event_name es b.from) (event_access es number b.from) < coherence_place (cycle_accesses es mode number) x w (event_access es number b.write)) (sym name_is)
         (subst (λ (d : Dir). MayFollow d (coherence_place (cycle_accesses es mode number) x (event_name es b.from) (event_access es number b.from)) (coherence_place (cycle_accesses es mode number) x (record { thread = thread_of es b.from; access = slot_of es b.write }) (event_access es number b.write))) b.is_write.writes
         (c.coherent (thread_of es b.from) (slot_of es b.from) (slot_of es b.write) (event_access es number b.from) (event_access es number b.write) later
-        (event_stands es mode number b.from r b.below)
-        (ap (at_name (cycle_accesses es mode number)) (sym name_is) ∙ event_stands es mode number b.write r b.is_write.below)
+        (event_at_name es mode number b.from r b.below)
+        (ap (at_name (cycle_accesses es mode number)) (sym name_is) ∙ event_at_name es mode number b.write r b.is_write.below)
         places))
 
     source : coherence_place (cycle_accesses es mode number) x (event_name es b.from) (event_access es number b.from) ≡ order_place (order_at x (number l)) (ordered_write es l k)
@@ -163,8 +163,8 @@ observed_step es mode number x l k r n s c h b t =
     follows : coherence_place (cycle_accesses es mode number) x (record { thread = external_count es + o; access = k }) (read (number l) (k + 1)) ≤ coherence_place (cycle_accesses es mode number) x (record { thread = external_count es + o; access = suc k }) (read (number l) (suc k + 1))
     follows =
         c.coherent (external_count es + o) k (suc k) (read (number l) (k + 1)) (read (number l) (suc k + 1)) (omega arith)
-        (observer_stands es mode number o l k seen (omega arith))
-        (observer_stands es mode number o l (suc k) seen b)
+        (observer_at_name es mode number o l k seen (omega arith))
+        (observer_at_name es mode number o l (suc k) seen b)
         refl
 
 -- the last write of a place's order is the location's write of the value that the place has at the end
@@ -177,7 +177,7 @@ ends_with es mode number x l k r n c h z v =
     let t : last_write (order_at x (number l)) ≡ Some (event_name es a.event) = e.got ∙ sym j.2 ∙ a.name_is in
     let f : final_value (cycle_accesses es mode number) x (number l) ≡ suc j.0 =
     ap (λ w. value_in (option_and_then (at_name (cycle_accesses es mode number)) w)) t
-    ∙ ap value_in (write_stands es mode number l j.0 a.event r a.is_write) in
+    ∙ ap value_in (write_at_name es mode number l j.0 a.event r a.is_write) in
     let d : j.0 ≡ k = omega (arith, f, v) in
     e.got ∙ sym j.2 ∙ ap (ordered_write es l) d
 

@@ -14,7 +14,7 @@ use Rattle.program_meaning.specs.Standing.{event_name}
 use Rattle.program_meaning.specs.Intended.{IsNumbering, cycle_accesses, ordered_write, write_of}
 use Rattle.communication.proofs.Lists.{length-filter_map-upto, slice_get-filter_map-upto}
 use Rattle.communication.proofs.Orders.{Holds, Gives, order_given, place_given}
-use Rattle.communication.proofs.WriteEvents.{nth_write, write_event, write_stands, ordered_write-is, rank_below}
+use Rattle.communication.proofs.WriteEvents.{nth_write, write_event, write_at_name, ordered_write-is, rank_below}
 use Rattle.communication.proofs.IntendedOrders.{gives_writes}
 use Rattle.communication.proofs.Resolves.{IsWrite, Resolves}
 
@@ -90,7 +90,7 @@ order_under_is es mode number l f r n h e =
           let a = value_write es l (f (k.0 + 1)) r (e.above (k.0 + 1) (omega arith) (omega (arith, k.1))) (e.within (k.0 + 1) (omega arith) (omega (arith, k.1))) in
           let s : Some (event_name es a.event) ≡ Some w = sym a.name_is ∙ k.2 in
           let q : event_name es a.event ≡ w = cc in
-          (suc a.rank, ap (at_name (cycle_accesses es mode number)) (sym q) ∙ write_stands es mode number l a.rank a.event r a.is_write);
+          (suc a.rank, ap (at_name (cycle_accesses es mode number)) (sym q) ∙ write_at_name es mode number l a.rank a.event r a.is_write);
       each = λ w v p.
           let a = write_event es mode number w (number l) v r p in
           let s : a.spot ≡ l = n.injective a.spot l a.below h a.place_is in

@@ -12,7 +12,7 @@ use Rattle.program_meaning.specs.Accesses.{Access, write, at_name}
 use Rattle.program_meaning.specs.Executions.{CanRead}
 use Rattle.program_meaning.specs.Standing.{event_name}
 use Rattle.program_meaning.specs.Intended.{IsNumbering, cycle_accesses, ordered_write, write_of}
-use Rattle.communication.proofs.Accesses.{EventAt, LoadAt, by_origin, event_stands}
+use Rattle.communication.proofs.Accesses.{EventAt, LoadAt, by_origin, event_at_name}
 use Rattle.communication.proofs.Resolves.{IsWrite, Resolves}
 
 -- a write access is write number k of a location
@@ -51,9 +51,9 @@ write_event es mode number w place value r h =
     (λ (l : LoadAt es mode number w (write place value)). let d : dirs.R ≡ dirs.W = ap (λ a. a.dir) l.access_is in cc)
 
 -- write number k of a location is the access under its name, with the value k + 1
-pub write_stands : (es : List Edge) (mode : ObsMode) (number : ℕ → ℕ) (l k i : ℕ) → Resolves es → IsWrite es l k i → at_name (cycle_accesses es mode number) (event_name es i) ≡ Some (write (number l) (suc k))
-write_stands es mode number l k i r w =
-    event_stands es mode number i r w.below
+pub write_at_name : (es : List Edge) (mode : ObsMode) (number : ℕ → ℕ) (l k i : ℕ) → Resolves es → IsWrite es l k i → at_name (cycle_accesses es mode number) (event_name es i) ≡ Some (write (number l) (suc k))
+write_at_name es mode number l k i r w =
+    event_at_name es mode number i r w.below
     ∙ ap Some (λ t. record { dir = w.writes t; place = number (w.location t); value = w.value t })
 
 -- the name of write number k
@@ -91,4 +91,4 @@ can_read es mode number l zero access r p v h = sym v
 can_read es mode number l (suc k) access r p v h =
     let w = nth_write es l k r (omega arith) in
     subst (CanRead (cycle_accesses es mode number) access) (sym w.name_is)
-    (write_stands es mode number l k w.event r w.is_write ∙ ap Some (λ t. record { dir = dirs.W; place = p t; value = v t }))
+    (write_at_name es mode number l k w.event r w.is_write ∙ ap Some (λ t. record { dir = dirs.W; place = p t; value = v t }))

@@ -11,7 +11,7 @@ use Rattle.micro_ops.specs.declared.operation.Item.{Item}
 use Rattle.resolution_laws.specs.Resolution.{edge_at, external_count, move_count, event_after}
 use Rattle.value_laws.specs.Values.{is_observed, write_count}
 use Rattle.program_meaning.specs.declared.WriteAt.{WriteAt}
-use Rattle.program_meaning.specs.Accesses.{Access, Visit, barriers_behind, is_read}
+use Rattle.program_meaning.specs.Accesses.{Access, Visit, barriers_after, is_read}
 use Rattle.program_meaning.specs.Executions.{Execution}
 use Rattle.program_meaning.specs.Coherence.{final_value}
 use Rattle.program_meaning.specs.Programs.{Program, IsCandidate, IsCoherentIn, accesses_in, items_in, visits_in}
@@ -79,4 +79,4 @@ pub record IsTiedUp (es : List Edge) (p : Program) (x : Execution) : Type 0 wher
   pub ties : (i : ℕ) (e f : Named) → i < length es → IsEvent es (visits_in p x) i e → IsEvent es (visits_in p x) (event_after es i) f → TiesBy (kind_of (edge_at es i)) (accesses_in p x) e f
   pub observers : (k : ℕ) (visits : List Visit) → external_count es ≤ k → slice_get (visits_in p x) k ≡ Some visits → AreFree visits
   pub starts : (k : ℕ) (visits : List Visit) → slice_get (visits_in p x) k ≡ Some visits → StartsFree visits
-  pub ends : (k : ℕ) (made : List Item) → slice_get (items_in p x) k ≡ Some made → barriers_behind [] made ≡ []
+  pub ends : (k : ℕ) (made : List Item) → slice_get (items_in p x) k ≡ Some made → barriers_after [] made ≡ []

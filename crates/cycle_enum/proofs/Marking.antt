@@ -7,7 +7,7 @@ use Rattle.relax_edges.specs.declared.edge.Edge.{Edge}
 use Rattle.relax_edges.specs.Order.{rank_of}
 use Rattle.relax_edges.proofs.Ranks.{rank_below}
 use Rattle.walk_laws.proofs.Ordering.{by_rank}
-use Rattle.listing_laws.specs.Search.{OccursIn, StandsIn}
+use Rattle.listing_laws.specs.Search.{OccursIn, IsIn}
 use Rattle.cycle_enum.specs.Marks.{IsMarked, MarksAlso, MarksAlphabet}
 
 -- one edge is marked
@@ -34,7 +34,7 @@ marked_first old new [] d some within rest e = absurd (omega arith)
 marked_first old new (x ∷ u) d some within rest e =
     let one = marked_one old x e within in
     let all : take (length (x ∷ u) - 1) u ≡ u = take_all (length (x ∷ u) - 1) u (omega arith) in
-    let more : IsMarked new e ↔ ((IsMarked (set old (rank_of x) true) e) ⊎ StandsIn u e) = rw all at (rest e) in (
+    let more : IsMarked new e ↔ ((IsMarked (set old (rank_of x) true) e) ⊎ IsIn u e) = rw all at (rest e) in (
       λ m. elim (more.0 m) [
         | inl o ↦ elim (one.0 o) [ inl b ↦ inl b | inr s ↦ inr (inl s) ]
         | inr s ↦ inr (inr s)

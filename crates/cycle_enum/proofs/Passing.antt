@@ -10,26 +10,26 @@ use Rattle.listing_laws.specs.Search.{IsCandidate, IsNextEdge, NoneBetween, Occu
 use Rattle.listing_laws.proofs.Candidates.{unused_nowhere, unjoined_next, none_smaller}
 use Rattle.cycle_enum.specs.Letters.{NoLetter, IsFirstLetter, least_rank}
 
-module _ (relaxes : List (List Edge)) (front : List Edge) (from : ℕ) where
+module _ (relaxes : List (List Edge)) (prefix : List Edge) (from : ℕ) where
   -- where there is no letter, no candidate goes on
-  pub none_used : (to : ℕ) → NoLetter (OccursIn relaxes) from to → NoneBetween (IsCandidate relaxes) front from to
-  none_used to none e a b = unused_nowhere relaxes front e (none e a b)
+  pub none_used : (to : ℕ) → NoLetter (OccursIn relaxes) from to → NoneBetween (IsCandidate relaxes) prefix from to
+  none_used to none e a b = unused_nowhere relaxes prefix e (none e a b)
 
   -- a letter that the last edge doesn't join is passed over
-  passed : (e : Edge) (to : ℕ) → IsFirstLetter (OccursIn relaxes) from e → last_joins front (e ∷ []) ≡ false → NoneBetween (IsCandidate relaxes) front (rank_of e + 1) to
-      → NoneBetween (IsCandidate relaxes) front from to
+  passed : (e : Edge) (to : ℕ) → IsFirstLetter (OccursIn relaxes) from e → last_joins prefix (e ∷ []) ≡ false → NoneBetween (IsCandidate relaxes) prefix (rank_of e + 1) to
+      → NoneBetween (IsCandidate relaxes) prefix from to
   passed e to first fails none f a b =
       elim (cases_lt (rank_of f) (rank_of e)) [
         | inl less ↦ none_used (rank_of e) first.first f a less
         | inr more ↦ elim (cases_lt (rank_of e) (rank_of f)) [
           | inl greater ↦ none f (omega arith) b
-          | inr same ↦ let s : e ≡ f = rank_injective e f (omega arith) in unjoined_next relaxes front f (rw s at fails)
+          | inr same ↦ let s : e ≡ f = rank_injective e f (omega arith) in unjoined_next relaxes prefix f (rw s at fails)
         ]
       ]
 
   -- the next edge after a letter that the last edge doesn't join is the next edge from that letter on
-  pub next_unjoined : (e : Edge) (next : Option Edge) → IsFirstLetter (OccursIn relaxes) from e → last_joins front (e ∷ []) ≡ false
-      → IsNextEdge (IsCandidate relaxes) front (rank_of e + 1) next → IsNextEdge (IsCandidate relaxes) front from next
+  pub next_unjoined : (e : Edge) (next : Option Edge) → IsFirstLetter (OccursIn relaxes) from e → last_joins prefix (e ∷ []) ≡ false
+      → IsNextEdge (IsCandidate relaxes) prefix (rank_of e + 1) next → IsNextEdge (IsCandidate relaxes) prefix from next
   next_unjoined e None first fails none = passed e EDGES first fails none
   next_unjoined e (Some f) first fails next = (omega (arith, first.at_least, next.0), passed e (rank_of f) first fails next.1)
 

@@ -7,7 +7,7 @@ ghost use Rattle.cycle_enum.specs.Letters.{least_rank};
 
 use crate::letters::{Letters, letters_of};
 use crate::prefix::Prefix;
-use crate::relaxed::{is_made, may_stand};
+use crate::relaxed::{is_made, may_occur};
 use edge_algebra::Cycle;
 use relax_edges::{EDGES, Edge, MAX_EDGES, Relax, Relaxes};
 use std::marker::Model;
@@ -111,11 +111,11 @@ impl Alphabet {
     }
 
     /// Whether a list may be part of a concatenation of relaxations, if its edges occur in them.
-    pub(crate) fn may_stand(&self, list: &[Edge]) -> bool
+    pub(crate) fn may_occur(&self, list: &[Edge]) -> bool
         requires { length list.now ≤ MAX_EDGES }
         ensures { IsFalse result → LeadsNowhere (IsMadeOf self.now) list.now }
     {
-        self.all_single || may_stand(self.relaxes.as_slice(), list)
+        self.all_single || may_occur(self.relaxes.as_slice(), list)
     }
 
     /// Whether some rotation of a cycle is a concatenation of relaxations.

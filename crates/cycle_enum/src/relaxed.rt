@@ -1,7 +1,7 @@
 ghost use Rattle.std.specs.Prelude.{◌≡◌, ◌<◌, ◌≤◌, ◌+◌, ◌↔◌, [], length, IsTrue, IsFalse};
 ghost use Rattle.std.specs.List.{list_any};
 ghost use Rattle.listing_laws.specs.Listing.{IsConcatenation, IsMadeOf};
-ghost use Rattle.listing_laws.specs.Reading.{fits, leads, back_parts_read, back_part_leads};
+ghost use Rattle.listing_laws.specs.Reading.{fits, leads, suffixes_read, suffix_leads};
 ghost use Rattle.listing_laws.specs.Search.{LeadsNowhere};
 ghost use Rattle.cycle_enum.specs.Ends.{is_inside};
 
@@ -9,13 +9,13 @@ use arrayvec::ArrayVec;
 use edge_algebra::Cycle;
 use relax_edges::{Edge, MAX_EDGES, Relax};
 
-const BACK_PARTS: usize = MAX_EDGES + 1;
+const SUFFIXES: usize = MAX_EDGES + 1;
 
 /// Where a list that is read as relaxations, one after the other, may end.
 #[derive(Clone, Copy)]
 enum End {
     /// After a relaxation.
-    Behind,
+    After,
     /// After a relaxation or inside one.
     Anywhere,
 }
@@ -39,13 +39,13 @@ fn is_concatenation(relaxes: &[Relax], list: &[Edge]) -> bool
     ensures { IsTrue result ↔ IsConcatenation relaxes.now list.now }
 {
     let mut read = ArrayVec::new();
-    read_back_parts(End::Behind, relaxes, list, &mut read);
+    read_suffixes(End::After, relaxes, list, &mut read);
     read.as_slice()[list.len()]
 }
 
 /// Whether a list may be part of a concatenation of relaxations: it begins inside a relaxation, or
 /// with one, and relaxations lead on from there.
-pub(crate) fn may_stand(relaxes: &[Relax], list: &[Edge]) -> bool
+pub(crate) fn may_occur(relaxes: &[Relax], list: &[Edge]) -> bool
     requires { length list.now ≤ MAX_EDGES }
     ensures { IsFalse result → LeadsNowhere (IsMadeOf relaxes.now) list.now }
 {
@@ -53,7 +53,7 @@ pub(crate) fn may_stand(relaxes: &[Relax], list: &[Edge]) -> bool
         [] => true,
         [_, rest @ ..] => {
             let mut read = ArrayVec::new();
-            read_back_parts(End::Anywhere, relaxes, rest, &mut read);
+            read_suffixes(End::Anywhere, relaxes, rest, &mut read);
             any_begins(relaxes, list, read.as_slice())
         }
     }
@@ -63,46 +63,46 @@ pub(crate) fn may_stand(relaxes: &[Relax], list: &[Edge]) -> bool
 fn any_begins(relaxes: &[Relax], list: &[Edge], read: &[bool]) -> bool
     requires some { 0 < length list.now }
     requires as_many { length read.now ≡ length list.now }
-    ensures { result ≡ list_any (back_part_leads list.now read.now) relaxes.now }
+    ensures { result ≡ list_any (suffix_leads list.now read.now) relaxes.now }
 {
     match relaxes {
         [] => false,
         [first, rest @ ..] => {
-            back_part_leads(first.edges(), list, read) || any_begins(rest, list, read)
+            suffix_leads(first.edges(), list, read) || any_begins(rest, list, read)
         }
     }
 }
 
-fn back_part_leads(relax: &[Edge], list: &[Edge], read: &[bool]) -> bool
+fn suffix_leads(relax: &[Edge], list: &[Edge], read: &[bool]) -> bool
     requires some { 0 < length list.now }
     requires as_many { length read.now ≡ length list.now }
-    ensures { result ≡ back_part_leads list.now read.now relax.now }
+    ensures { result ≡ suffix_leads list.now read.now relax.now }
 {
     match relax {
         [] => false,
         [_, rest @ ..] => {
-            leads(End::Anywhere, relax, list, read) || back_part_leads(rest, list, read)
+            leads(End::Anywhere, relax, list, read) || suffix_leads(rest, list, read)
         }
     }
 }
 
 /// Finds for each suffix of a list, from the empty one to the whole, whether it is read as
 /// relaxations one after the other.
-fn read_back_parts(
+fn read_suffixes(
     end: End,
     relaxes: &[Relax],
     list: &[Edge],
-    read: &mut ArrayVec<bool, BACK_PARTS>,
+    read: &mut ArrayVec<bool, SUFFIXES>,
 )
     requires few { length list.now ≤ MAX_EDGES }
     requires none { read.old.items ≡ [] }
-    ensures read { read.new.items ≡ back_parts_read (is_inside end) relaxes.now list.now }
+    ensures read { read.new.items ≡ suffixes_read (is_inside end) relaxes.now list.now }
     ensures as_many { length read.new.items ≡ length list.now + 1 }
 {
     match list {
         [] => read.push(true),
         [_, rest @ ..] => {
-            read_back_parts(end, relaxes, rest, read);
+            read_suffixes(end, relaxes, rest, read);
             let leads = any_leads(end, relaxes, list, read.as_slice());
             read.push(leads);
         }

@@ -220,7 +220,7 @@ impl<K: Fn(&[Edge]) -> bool, J: Fn(&[Edge]) -> bool, P: Fn(&Cycle) -> bool> Walk
         if !self.is_kept(list.edges()) {
             return false;
         }
-        self.relaxes.may_stand(list.edges())
+        self.relaxes.may_occur(list.edges())
     }
 
     /// Whether both pruners say yes on the list.

@@ -12,22 +12,22 @@ use Rattle.cycle_lines.proofs.LineLaws.{without_first, without_rest}
 pub without_is : (sign : ℕ) (text : List ℕ) → is_without sign text ≡ true → Without sign text
 without_is sign text h i d k = not-true (get_or text i d == sign) (AllPass-from_list_all (λ byte. not (byte == sign)) text h i d k)
 
-pub cuts_are : (sign : ℕ) (text front behind : List ℕ) → CutParts sign text front behind → CutsAt sign text front behind
-cuts_are sign text front behind cut = record { without = without_is sign front cut.first; parts = cut.parts }
+pub cuts_are : (sign : ℕ) (text prefix later : List ℕ) → CutParts sign text prefix later → CutsAt sign text prefix later
+cuts_are sign text prefix later cut = record { without = without_is sign prefix cut.first; parts = cut.parts }
 
 -- what comes after a label
-after_cut : (front behind : List ℕ) → Without 58 front → after_colon (front ++ 58 ∷ behind) ≡ Some behind
+after_cut : (prefix later : List ℕ) → Without 58 prefix → after_colon (prefix ++ 58 ∷ later) ≡ Some later
 unfolding after_colon
-after_cut [] behind h = refl
-after_cut (b ∷ front) behind h = let e = without_first 58 b front h in rw e (after_cut front behind (without_rest 58 b front h))
+after_cut [] later h = refl
+after_cut (b ∷ prefix) later h = let e = without_first 58 b prefix h in rw e (after_cut prefix later (without_rest 58 b prefix h))
 
 after_none : (text : List ℕ) → Without 58 text → after_colon text ≡ None
 unfolding after_colon
 after_none [] h = refl
 after_none (b ∷ text) h = let e = without_first 58 b text h in rw e (after_none text (without_rest 58 b text h))
 
-pub label_cut : (text front behind : List ℕ) → CutParts 58 text front behind → behind ≡ without_label text
-label_cut text front behind cut = ap (λ t. unwrap_or t text) (sym (ap after_colon cut.parts ∙ after_cut front behind (without_is 58 front cut.first)))
+pub label_cut : (text prefix later : List ℕ) → CutParts 58 text prefix later → later ≡ without_label text
+label_cut text prefix later cut = ap (λ t. unwrap_or t text) (sym (ap after_colon cut.parts ∙ after_cut prefix later (without_is 58 prefix cut.first)))
 
 pub label_none : (text : List ℕ) → is_without 58 text ≡ true → text ≡ without_label text
 label_none text h = ap (λ t. unwrap_or t text) (sym (after_none text (without_is 58 text h)))

@@ -29,46 +29,46 @@ split_append (byte ∷ a) b l ls h =
     (λ e. rw e (rw (further, first.is) refl))
     (λ e. rw e (rw (further, first.is) (by_rest byte first.piece first.rest l ls)))
 
-but_last_behind : (xs : List (List ℕ)) (y : List ℕ) (ys : List (List ℕ)) → but_last (xs ++ y ∷ ys) ≡ xs ++ but_last (y ∷ ys)
-but_last_behind [] y ys = refl
-but_last_behind (x ∷ []) y ys = refl
-but_last_behind (x ∷ z ∷ xs) y ys = ap (λ t. x ∷ t) (but_last_behind (z ∷ xs) y ys)
+but_last_after : (xs : List (List ℕ)) (y : List ℕ) (ys : List (List ℕ)) → but_last (xs ++ y ∷ ys) ≡ xs ++ but_last (y ∷ ys)
+but_last_after [] y ys = refl
+but_last_after (x ∷ []) y ys = refl
+but_last_after (x ∷ z ∷ xs) y ys = ap (λ t. x ∷ t) (but_last_after (z ∷ xs) y ys)
 
-last_behind : (xs : List (List ℕ)) (y : List ℕ) (ys : List (List ℕ)) → last_of (xs ++ y ∷ ys) ≡ last_of (y ∷ ys)
-last_behind [] y ys = refl
-last_behind (x ∷ []) y ys = refl
-last_behind (x ∷ z ∷ xs) y ys = last_behind (z ∷ xs) y ys
+last_after : (xs : List (List ℕ)) (y : List ℕ) (ys : List (List ℕ)) → last_of (xs ++ y ∷ ys) ≡ last_of (y ∷ ys)
+last_after [] y ys = refl
+last_after (x ∷ []) y ys = refl
+last_after (x ∷ z ∷ xs) y ys = last_after (z ∷ xs) y ys
 
 -- new lines begin after a line feed
-split_behind : (a b : List ℕ) (l : List ℕ) (ls : List (List ℕ)) → unended a ≡ [] → slice_split is_line_feed b ≡ l ∷ ls →
+split_after : (a b : List ℕ) (l : List ℕ) (ls : List (List ℕ)) → unended a ≡ [] → slice_split is_line_feed b ≡ l ∷ ls →
     slice_split is_line_feed (a ++ b) ≡ but_last (slice_split is_line_feed a) ++ l ∷ ls
 unfolding unended
-split_behind a b l ls e h =
+split_after a b l ls e h =
     split_append a b l ls h ∙ ap (λ t. but_last (slice_split is_line_feed a) ++ (t ++ l) ∷ ls) e
 
 -- where nothing of a text is unended, its ended lines come before those of what follows it
-pub ended_behind : (a b : List ℕ) → unended a ≡ [] → ended_lines (a ++ b) ≡ ended_lines a ++ ended_lines b
+pub ended_after : (a b : List ℕ) → unended a ≡ [] → ended_lines (a ++ b) ≡ ended_lines a ++ ended_lines b
 unfolding ended_lines
-ended_behind a b e =
+ended_after a b e =
     let first = first_piece is_line_feed b in
-    ap (λ t. map without_return (but_last t)) (split_behind a b first.piece first.rest e first.is)
-    ∙ ap (map without_return) (but_last_behind (but_last (slice_split is_line_feed a)) first.piece first.rest)
+    ap (λ t. map without_return (but_last t)) (split_after a b first.piece first.rest e first.is)
+    ∙ ap (map without_return) (but_last_after (but_last (slice_split is_line_feed a)) first.piece first.rest)
     ∙ map-append without_return (but_last (slice_split is_line_feed a)) (but_last (first.piece ∷ first.rest))
     ∙ ap (λ t. map without_return (but_last (slice_split is_line_feed a)) ++ map without_return (but_last t)) (sym first.is)
 
 -- where nothing of a text is unended, what is unended with what follows it is unended in what follows
-pub unended_behind : (a b : List ℕ) → unended a ≡ [] → unended (a ++ b) ≡ unended b
+pub unended_after : (a b : List ℕ) → unended a ≡ [] → unended (a ++ b) ≡ unended b
 unfolding unended
-unended_behind a b e =
+unended_after a b e =
     let first = first_piece is_line_feed b in
-    ap last_of (split_behind a b first.piece first.rest e first.is)
-    ∙ last_behind (but_last (slice_split is_line_feed a)) first.piece first.rest ∙ ap last_of (sym first.is)
+    ap last_of (split_after a b first.piece first.rest e first.is)
+    ∙ last_after (but_last (slice_split is_line_feed a)) first.piece first.rest ∙ ap last_of (sym first.is)
 
 -- where nothing of a text is unended, its ended lines come before the lines of what follows it
-pub lines_behind : (a b : List ℕ) → unended a ≡ [] → lines_of (a ++ b) ≡ ended_lines a ++ lines_of b
-lines_behind a b e =
-    ap (λ t. t ++ last_line (unended (a ++ b))) (ended_behind a b e)
-    ∙ ap (λ t. (ended_lines a ++ ended_lines b) ++ last_line t) (unended_behind a b e)
+pub lines_after : (a b : List ℕ) → unended a ≡ [] → lines_of (a ++ b) ≡ ended_lines a ++ lines_of b
+lines_after a b e =
+    ap (λ t. t ++ last_line (unended (a ++ b))) (ended_after a b e)
+    ∙ ap (λ t. (ended_lines a ++ ended_lines b) ++ last_line t) (unended_after a b e)
     ∙ append_assoc (ended_lines a) (ended_lines b) (last_line (unended b))
 
 -- bytes that a text doesn't hold
@@ -155,8 +155,8 @@ is_short text line e h = let k = ap length e in grind (arith, nat_tests, k, h)
 -- a line that is too long
 pub record LongFirst (lines : List (List ℕ)) : Type 0 where
   pub line : List ℕ
-  pub behind : List (List ℕ)
-  pub is : lines ≡ line ∷ behind
+  pub later : List (List ℕ)
+  pub is : lines ≡ line ∷ later
   pub long : is_too_long line ≡ true
 
 long_by : (a b : List ℕ) → length a ≤ length b → is_too_long a ≡ true → is_too_long b ≡ true
@@ -185,16 +185,16 @@ long_first text rest h long =
         long_by (without_return text) (without_return (text ++ b ∷ line))
         (omega (arith, return_short text, return_one (text ++ b ∷ line), length-append text (b ∷ line))) long
 
-    by_rest : (line : List ℕ) (behind : List (List ℕ)) → slice_split is_line_feed (text ++ rest) ≡ (text ++ line) ∷ behind → LongFirst (lines_of (text ++ rest))
+    by_rest : (line : List ℕ) (later : List (List ℕ)) → slice_split is_line_feed (text ++ rest) ≡ (text ++ line) ∷ later → LongFirst (lines_of (text ++ rest))
     by_rest line [] split = record {
       line = text ++ line;
-      behind = [];
+      later = [];
       is = rw split (some_line (text ++ line) (kept line));
       long = kept line;
     }
-    by_rest line (next ∷ behind) split = record {
+    by_rest line (next ∷ later) split = record {
       line = without_return (text ++ line);
-      behind = map without_return (but_last (next ∷ behind)) ++ last_line (last_of (next ∷ behind));
+      later = map without_return (but_last (next ∷ later)) ++ last_line (last_of (next ∷ later));
       is = rw split refl;
       long = kept_return line;
     }

@@ -51,8 +51,8 @@ nothing_held [] page e h = e
 nothing_held (byte ∷ shown) page e h = let none = is_zero (length (byte ∷ shown)) h in absurd (omega arith)
 
 -- where a page holds something, the line of a cycle was sent
-no_bytes : (front page : List ℕ) → 0 < length page → [] ++ [] ≡ front ++ page → ⊥
-no_bytes front page some e = absurd (omega (arith, some, ap length e, length-append front page))
+no_bytes : (prefix page : List ℕ) → 0 < length page → [] ++ [] ≡ prefix ++ page → ⊥
+no_bytes prefix page some e = absurd (omega (arith, some, ap length e, length-append prefix page))
 
 -- the lines of the cycles that were given are sent by way of a page
 pub record Normed (arch : ArchName) (first now : SourceSeen) (before after : SinkSeen) (reader : ReaderSeen) (page : List ℕ) : Type 0 where
@@ -119,12 +119,12 @@ pub hand_on_stopped : (arch : ArchName) (s t : SourceSeen) (a b c : SinkSeen) (r
     → Normed arch s t a b r page → 0 < length page → WrotePart b c page → NormedPart arch s t a c
 hand_on_stopped arch s t a b c r page given some part =
     part_before arch s t a c given.cycles
-    (given_before arch s t r given.cycles given.read (λ none. no_bytes given.sent.front page some (ap name_lines (sym none) ∙ given.sent.parts)))
-    (subst (WrotePart a c) (sym given.sent.parts) (all_then_part a b c given.sent.front page given.sent.wrote part))
+    (given_before arch s t r given.cycles given.read (λ none. no_bytes given.sent.prefix page some (ap name_lines (sym none) ∙ given.sent.parts)))
+    (subst (WrotePart a c) (sym given.sent.parts) (all_then_part a b c given.sent.prefix page given.sent.wrote part))
 
 -- what was sent is written once the page is handed on
 pub all_written : (a b c : SinkSeen) (page text : List ℕ) → SentAll a [] b page text → WroteAll b c page → WroteAll a c text
-all_written a b c page text h w = subst (WroteAll a c) (sym h.parts) (all_then_all a b c h.front page h.wrote w)
+all_written a b c page text h w = subst (WroteAll a c) (sym h.parts) (all_then_all a b c h.prefix page h.wrote w)
 
 -- a line has a fault
 pub fault_normed : (arch : ArchName) (s t : SourceSeen) (a b c : SinkSeen) (r q : ReaderSeen) (page : List ℕ) (number : ℕ) (kind : LineKind)
@@ -137,7 +137,7 @@ fault_normed arch s t a b c r q page number kind given g e w = record {
 
 -- more is read once the page is handed on
 all_sent : (a c : SinkSeen) (page text : List ℕ) → page ≡ [] → WroteAll a c text → SentAll a [] c page text
-all_sent a c page text e w = subst (λ p. SentAll a [] c p text) (sym e) (record { front = text; parts = sym (append-nil text); wrote = w })
+all_sent a c page text e w = subst (λ p. SentAll a [] c p text) (sym e) (record { prefix = text; parts = sym (append-nil text); wrote = w })
 
 -- where what was read has been written and the page is empty, the lines of the cycles given so far are sent
 pub more_normed : (arch : ArchName) (s t : SourceSeen) (a b : SinkSeen) (r : ReaderSeen) (page : List ℕ) (cycles : List (List Edge))

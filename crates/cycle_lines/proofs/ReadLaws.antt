@@ -27,7 +27,7 @@ use Rattle.cycle_lines.specs.Lines.{ended_lines, unended, last_line, lines_of}
 use Rattle.cycle_lines.specs.Cycles.{line_said, fault_of, is_sound, are_sound, cycle_said, cycles_of, is_too_long}
 use Rattle.cycle_lines.specs.Reading.{TookUpTo, Untouched, ReadAll, ReadToFault, ReadToLimit, ReadToStop, ReadSome, whole_of, cycles_before}
 use Rattle.cycle_lines.specs.Steps.{Without, CutsAt, ReaderSeen, HasRead, GivesLine, GivesNext, said_by, work, Fills, FillsBuffer, Ended, Stops, Ends, LessToDo, Continues, last_cycle}
-use Rattle.cycle_lines.proofs.LineLaws.{ended_behind, unended_behind, lines_behind, ended_none, unended_all, ended_nil, unended_nil, ended_cut, unended_cut, lines_cut, short_pending, long_first, ended_count}
+use Rattle.cycle_lines.proofs.LineLaws.{ended_after, unended_after, lines_after, ended_none, unended_all, ended_nil, unended_nil, ended_cut, unended_cut, lines_cut, short_pending, long_first, ended_count}
 
 -- bytes that are taken one after another
 consumes_both : (a b c : Option (List ℕ)) (x y : List ℕ) → Consumes a b x → Consumes b c y → Consumes a c (x ++ y)
@@ -135,7 +135,7 @@ line_given arch s t r q cycles said h g =
     let line = without_return g.bytes in
     let ended_line : ended_lines (g.bytes ++ 10 ∷ []) ≡ line ∷ [] = ended_cut g.bytes [] g.cut.without ∙ ap (λ t. line ∷ t) ended_nil in
     let ended_is : ended_lines (h.given ++ (g.bytes ++ 10 ∷ [])) ≡ ended_lines h.given ++ line ∷ [] =
-    ended_behind h.given (g.bytes ++ 10 ∷ []) h.ended ∙ ap (λ t. ended_lines h.given ++ t) ended_line in
+    ended_after h.given (g.bytes ++ 10 ∷ []) h.ended ∙ ap (λ t. ended_lines h.given ++ t) ended_line in
     let bytes_are : h.given ++ r.pending ≡ (h.given ++ (g.bytes ++ 10 ∷ [])) ++ q.pending =
     ap (λ t. h.given ++ t) (g.cut.parts ∙ sym (append_assoc g.bytes (10 ∷ []) q.pending))
     ∙ sym (append_assoc h.given (g.bytes ++ 10 ∷ []) q.pending) in
@@ -143,7 +143,7 @@ line_given arch s t r q cycles said h g =
       given = h.given ++ (g.bytes ++ 10 ∷ []);
       took = subst (TookUpTo s t) bytes_are h.took;
       no_fault = h.no_fault;
-      ended = unended_behind h.given (g.bytes ++ 10 ∷ []) h.ended ∙ unended_cut g.bytes [] g.cut.without ∙ unended_nil;
+      ended = unended_after h.given (g.bytes ++ 10 ∷ []) h.ended ∙ unended_cut g.bytes [] g.cut.without ∙ unended_nil;
       sound = ap (are_sound arch) ended_is ∙ sound_both arch (ended_lines h.given) (line ∷ []) h.sound (one_sound arch line said g.says);
       cycles_are =
           ap (λ t. t ++ last_cycle said) h.cycles_are ∙ ap (λ t. cycles_of arch (ended_lines h.given) ++ t) (sym (one_cycle arch line said g.says))
@@ -157,9 +157,9 @@ took_pending : (arch : ArchName) (s t : SourceSeen) (r : ReaderSeen) (cycles : L
 took_pending arch s t r cycles h some = took_some s t (h.given ++ r.pending) h.took (omega (arith, some, length-append h.given r.pending))
 
 -- lines before a fault
-fault_first : (arch : ArchName) (s t : SourceSeen) (r : ReaderSeen) (cycles : List (List Edge)) (line : List ℕ) (behind : List (List ℕ)) (kind : LineKind) (h : HasRead arch s t r cycles) →
-    Took s t (h.given ++ r.pending) → lines_of (r.pending ++ unwrap_or t.left []) ≡ line ∷ behind → fault_of arch line ≡ Some kind → ReadToFault arch s t cycles r.line kind
-fault_first arch s t r cycles line behind kind h took e f = record {
+fault_first : (arch : ArchName) (s t : SourceSeen) (r : ReaderSeen) (cycles : List (List Edge)) (line : List ℕ) (later : List (List ℕ)) (kind : LineKind) (h : HasRead arch s t r cycles) →
+    Took s t (h.given ++ r.pending) → lines_of (r.pending ++ unwrap_or t.left []) ≡ line ∷ later → fault_of arch line ≡ Some kind → ReadToFault arch s t cycles r.line kind
+fault_first arch s t r cycles line later kind h took e f = record {
   text = h.given ++ r.pending;
   before = ended_lines h.given;
   took = took;
@@ -167,9 +167,9 @@ fault_first arch s t r cycles line behind kind h took e f = record {
   no_fault = h.no_fault;
   first = record {
     line = line;
-    behind = behind;
+    later = later;
     parts =
-        ap lines_of (append_assoc h.given r.pending (unwrap_or t.left [])) ∙ lines_behind h.given (r.pending ++ unwrap_or t.left []) h.ended
+        ap lines_of (append_assoc h.given r.pending (unwrap_or t.left [])) ∙ lines_after h.given (r.pending ++ unwrap_or t.left []) h.ended
         ∙ ap (λ ls. ended_lines h.given ++ ls) e;
     sound = h.sound;
     fault = f;
@@ -204,7 +204,7 @@ pub long_given : (arch : ArchName) (s t : SourceSeen) (r : ReaderSeen) (cycles :
     HasRead arch s t r cycles → Without 10 r.pending → is_too_long (without_return r.pending) ≡ true → ReadToFault arch s t cycles r.line LineTooLong
 long_given arch s t r cycles h one long =
     let first = long_first r.pending (unwrap_or t.left []) one long in
-    fault_first arch s t r cycles first.line first.behind LineTooLong h (took_pending arch s t r cycles h (some_long r.pending long)) first.is (long_fault arch first.line first.long)
+    fault_first arch s t r cycles first.line first.later LineTooLong h (took_pending arch s t r cycles h (some_long r.pending long)) first.is (long_fault arch first.line first.long)
 
 -- more bytes are pending
 pub more_read : (arch : ArchName) (s t u : SourceSeen) (r q : ReaderSeen) (cycles : List (List Edge)) (count : ℕ) →
@@ -232,10 +232,10 @@ short_count buffer pending start end e order inside short =
     omega (arith, size, ap length e, short_pending pending short)
 
 -- bytes that were read into a buffer come after those that were pending at its start
-pub fills_behind : (s t : SourceSeen) (r q : ReaderSeen) (buffer : List ℕ) (middle room count : ℕ) →
+pub fills_after : (s t : SourceSeen) (r q : ReaderSeen) (buffer : List ℕ) (middle room count : ℕ) →
     FillsBuffer s t buffer middle room count → middle + room ≤ length buffer → r.taken + room ≤ MAX_INPUT →
     take middle buffer ≡ r.pending → q.pending ≡ take (middle + count) buffer → q.line ≡ r.line → q.taken ≡ r.taken + count → Fills s t r q count
-fills_behind s t r q buffer middle room count f inside limit front pending line taken =
+fills_after s t r q buffer middle room count f inside limit prefix pending line taken =
     let bytes = take count (drop middle buffer) in
     let size : length (take count (drop middle buffer)) ≡ count = length-take-le count (drop middle buffer) (omega (arith, f.within, inside, length-drop middle buffer)) in
     record {
@@ -244,7 +244,7 @@ fills_behind s t r q buffer middle room count f inside limit front pending line 
       count_is = sym size;
       at_end = f.at_end;
       no_fault = f.no_fault;
-      pending = pending ∙ take-add middle count buffer ∙ ap (λ b. b ++ take count (drop middle buffer)) front;
+      pending = pending ∙ take-add middle count buffer ∙ ap (λ b. b ++ take count (drop middle buffer)) prefix;
       line_is = line;
       taken_is = taken ∙ ap (λ n. r.taken + n) (sym size);
       few = omega (arith, taken, f.within, limit);
@@ -254,11 +254,11 @@ fills_behind s t r q buffer middle room count f inside limit front pending line 
 ended_given : (arch : ArchName) (s t : SourceSeen) (r : ReaderSeen) (cycles : List (List Edge)) (h : HasRead arch s t r cycles) →
     Without 10 r.pending → ended_lines (h.given ++ r.pending) ≡ ended_lines h.given
 ended_given arch s t r cycles h one =
-    ended_behind h.given r.pending h.ended ∙ ap (λ ls. ended_lines h.given ++ ls) (ended_none r.pending one) ∙ append-nil (ended_lines h.given)
+    ended_after h.given r.pending h.ended ∙ ap (λ ls. ended_lines h.given ++ ls) (ended_none r.pending one) ∙ append-nil (ended_lines h.given)
 
 unended_given : (arch : ArchName) (s t : SourceSeen) (r : ReaderSeen) (cycles : List (List Edge)) (h : HasRead arch s t r cycles) →
     Without 10 r.pending → unended (h.given ++ r.pending) ≡ r.pending
-unended_given arch s t r cycles h one = unended_behind h.given r.pending h.ended ∙ unended_all r.pending one
+unended_given arch s t r cycles h one = unended_after h.given r.pending h.ended ∙ unended_all r.pending one
 
 -- the source stopped
 pub stopped_there : (arch : ArchName) (s t u : SourceSeen) (r : ReaderSeen) (cycles : List (List Edge)) →
@@ -276,9 +276,9 @@ stopped_there arch s t u r cycles h one short stop =
       cycles_are = h.cycles_are ∙ ap (cycles_of arch) (sym ended);
     }
 
-take_front : (xs ys : List ℕ) → take (length xs) (xs ++ ys) ≡ xs
-take_front [] ys = refl
-take_front (x ∷ xs) ys = ap (λ t. x ∷ t) (take_front xs ys)
+take_prefix : (xs ys : List ℕ) → take (length xs) (xs ++ ys) ≡ xs
+take_prefix [] ys = refl
+take_prefix (x ∷ xs) ys = ap (λ t. x ∷ t) (take_prefix xs ys)
 
 -- one byte more than is read
 pub past_limit : (arch : ArchName) (s t u : SourceSeen) (r : ReaderSeen) (cycles : List (List Edge)) (bytes : List ℕ) →
@@ -287,17 +287,17 @@ pub past_limit : (arch : ArchName) (s t u : SourceSeen) (r : ReaderSeen) (cycles
 past_limit arch s t u r cycles bytes h one short full took some no_fault =
     let text = h.given ++ r.pending in
     let size : length text ≡ MAX_INPUT = sym h.taken_is ∙ full in
-    let front : take MAX_INPUT (text ++ bytes) ≡ text = ap (λ n. take n (text ++ bytes)) (sym size) ∙ take_front text bytes in
+    let prefix : take MAX_INPUT (text ++ bytes) ≡ text = ap (λ n. take n (text ++ bytes)) (sym size) ∙ take_prefix text bytes in
     let ended = ended_given arch s t r cycles h one in
     record {
       text = text ++ bytes;
       took = took_then s t u text bytes h.took took;
       many = omega (arith, size, some, length-append text bytes);
       no_fault = no_fault ∙ h.no_fault;
-      sound = ap (λ b. are_sound arch (ended_lines b)) front ∙ ap (are_sound arch) ended ∙ h.sound;
-      short = ap (λ b. is_too_long (without_return (unended b))) front ∙ ap (λ b. is_too_long (without_return b)) (unended_given arch s t r cycles h one) ∙ short;
-      line_is = h.line_is ∙ ap (λ ls. length ls + 1) (sym ended) ∙ ap (λ n. n + 1) (ended_count text) ∙ ap (λ b. line_feed_count b + 1) (sym front);
-      cycles_are = h.cycles_are ∙ ap (cycles_of arch) (sym ended) ∙ ap (λ b. cycles_of arch (ended_lines b)) (sym front);
+      sound = ap (λ b. are_sound arch (ended_lines b)) prefix ∙ ap (are_sound arch) ended ∙ h.sound;
+      short = ap (λ b. is_too_long (without_return (unended b))) prefix ∙ ap (λ b. is_too_long (without_return b)) (unended_given arch s t r cycles h one) ∙ short;
+      line_is = h.line_is ∙ ap (λ ls. length ls + 1) (sym ended) ∙ ap (λ n. n + 1) (ended_count text) ∙ ap (λ b. line_feed_count b + 1) (sym prefix);
+      cycles_are = h.cycles_are ∙ ap (cycles_of arch) (sym ended) ∙ ap (λ b. cycles_of arch (ended_lines b)) (sym prefix);
     }
 
 -- nothing was taken
@@ -320,7 +320,7 @@ none_taken arch s t u r cycles (b ∷ bytes) h took none no_fault = absurd (omeg
 lines_at_end : (arch : ArchName) (s t : SourceSeen) (r : ReaderSeen) (cycles : List (List Edge)) (h : HasRead arch s t r cycles) →
     Without 10 r.pending → lines_of (h.given ++ r.pending) ≡ ended_lines h.given ++ last_line r.pending
 lines_at_end arch s t r cycles h one =
-    lines_behind h.given r.pending h.ended ∙ ap (λ ls. ended_lines h.given ++ ls) (ap (λ ls. ls ++ last_line (unended r.pending)) (ended_none r.pending one) ∙ ap last_line (unended_all r.pending one))
+    lines_after h.given r.pending h.ended ∙ ap (λ ls. ended_lines h.given ++ ls) (ap (λ ls. ls ++ last_line (unended r.pending)) (ended_none r.pending one) ∙ ap last_line (unended_all r.pending one))
 
 all_read : (arch : ArchName) (s t : SourceSeen) (r : ReaderSeen) (cycles more : List (List Edge)) →
     HasRead arch s t r cycles → Without 10 r.pending → Ended t → are_sound arch (last_line r.pending) ≡ true → more ≡ cycles_of arch (last_line r.pending) →
@@ -378,11 +378,11 @@ fault_last arch s t r cycles kind h some at_end one e =
     (one_fault arch r.pending kind e)
 
 -- sound lines come before the first line that has a fault
-sound_front : (arch : ArchName) (xs ys : List (List ℕ)) → are_sound arch xs ≡ true → take_while (is_sound arch) (xs ++ ys) ≡ xs ++ take_while (is_sound arch) ys
-sound_front arch [] ys h = refl
-sound_front arch (x ∷ xs) ys h =
+sound_prefix : (arch : ArchName) (xs ys : List (List ℕ)) → are_sound arch xs ≡ true → take_while (is_sound arch) (xs ++ ys) ≡ xs ++ take_while (is_sound arch) ys
+sound_prefix arch [] ys h = refl
+sound_prefix arch (x ∷ xs) ys h =
     by_test (is_sound arch x)
-    (λ e. take_while-cons (is_sound arch) x (xs ++ ys) ∙ rw e (ap (λ ls. x ∷ ls) (sound_front arch xs ys (rw e at h))))
+    (λ e. take_while-cons (is_sound arch) x (xs ++ ys) ∙ rw e (ap (λ ls. x ∷ ls) (sound_prefix arch xs ys (rw e at h))))
     (λ e. let k = rw e at h in absurd (cc))
 
 -- the cycles that were given come before the first fault
@@ -408,17 +408,17 @@ took_cycle arch s t r cycles h some = by_given h.given h.cycles_are (took_some s
 -- the cycles that were given, if there are any, come before the first fault of the source
 pub given_before : (arch : ArchName) (s t : SourceSeen) (r : ReaderSeen) (cycles : List (List Edge)) → HasRead arch s t r cycles → (cycles ≡ [] → ⊥) → Before arch s t cycles
 given_before arch s t r cycles h some =
-    let behind = lines_of (r.pending ++ unwrap_or t.left []) in
+    let later = lines_of (r.pending ++ unwrap_or t.left []) in
     record {
       text = h.given ++ r.pending;
       read = record { took = took_cycle arch s t r cycles h some; few = subst (λ n. n ≤ MAX_INPUT) h.taken_is h.few; no_fault = h.no_fault };
-      more = cycles_of arch (take_while (is_sound arch) behind);
+      more = cycles_of arch (take_while (is_sound arch) later);
       before =
           ap (λ b. cycles_before arch b) (append_assoc h.given r.pending (unwrap_or t.left []))
-          ∙ ap (λ ls. cycles_of arch (take_while (is_sound arch) ls)) (lines_behind h.given (r.pending ++ unwrap_or t.left []) h.ended)
-          ∙ ap (cycles_of arch) (sound_front arch (ended_lines h.given) behind h.sound)
-          ∙ cycles_both arch (ended_lines h.given) (take_while (is_sound arch) behind)
-          ∙ ap (λ cs. cs ++ cycles_of arch (take_while (is_sound arch) behind)) (sym h.cycles_are);
+          ∙ ap (λ ls. cycles_of arch (take_while (is_sound arch) ls)) (lines_after h.given (r.pending ++ unwrap_or t.left []) h.ended)
+          ∙ ap (cycles_of arch) (sound_prefix arch (ended_lines h.given) later h.sound)
+          ∙ cycles_both arch (ended_lines h.given) (take_while (is_sound arch) later)
+          ∙ ap (λ cs. cs ++ cycles_of arch (take_while (is_sound arch) later)) (sym h.cycles_are);
     }
 
 -- the cycles of a source without a fault come before its first fault
@@ -430,16 +430,16 @@ all_before arch s t cycles h = record {
   before =
       ap (λ b. cycles_before arch (h.text ++ b)) (none_left t.left h.at_end) ∙ ap (cycles_before arch) (append-nil h.text)
       ∙ ap (λ ls. cycles_of arch (take_while (is_sound arch) ls)) (sym (append-nil (lines_of h.text)))
-      ∙ ap (cycles_of arch) (sound_front arch (lines_of h.text) [] h.sound) ∙ ap (cycles_of arch) (append-nil (lines_of h.text))
+      ∙ ap (cycles_of arch) (sound_prefix arch (lines_of h.text) [] h.sound) ∙ ap (cycles_of arch) (append-nil (lines_of h.text))
       ∙ sym h.cycles_are ∙ sym (append-nil cycles);
 }
 
 -- what is left of a buffer after a line is taken off
-drop_all_front : (xs ys : List ℕ) (n : ℕ) → n ≡ length xs → drop n (xs ++ ys) ≡ ys
-drop_all_front [] ys zero e = refl
-drop_all_front [] ys (suc n) e = absurd (omega arith)
-drop_all_front (x ∷ xs) ys zero e = absurd (omega arith)
-drop_all_front (x ∷ xs) ys (suc n) e = drop_all_front xs ys n (omega arith)
+drop_all_prefix : (xs ys : List ℕ) (n : ℕ) → n ≡ length xs → drop n (xs ++ ys) ≡ ys
+drop_all_prefix [] ys zero e = refl
+drop_all_prefix [] ys (suc n) e = absurd (omega arith)
+drop_all_prefix (x ∷ xs) ys zero e = absurd (omega arith)
+drop_all_prefix (x ∷ xs) ys (suc n) e = drop_all_prefix xs ys n (omega arith)
 
 take_none : (n : ℕ) → ◌≡◌ {A = List ℕ} (take n []) []
 take_none zero = refl
@@ -452,16 +452,16 @@ drop_take (x ∷ xs) (suc k) zero = let e : zero - suc k ≡ 0 = omega arith in 
 drop_take (x ∷ xs) (suc k) (suc m) = let e : suc m - suc k ≡ m - k = omega arith in rw e (drop_take xs k m)
 
 -- the bytes of a buffer after a line that was cut off and its line feed are what is pending
-pub buffer_left : (buffer pending bytes behind : List ℕ) (start end next : ℕ) → pending ≡ take (end - start) (drop start buffer) → CutsAt 10 pending bytes behind →
-    next ≡ start + (length bytes + 1) → take (end - next) (drop next buffer) ≡ behind
-buffer_left buffer pending bytes behind start end next e cut n =
+pub buffer_left : (buffer pending bytes later : List ℕ) (start end next : ℕ) → pending ≡ take (end - start) (drop start buffer) → CutsAt 10 pending bytes later →
+    next ≡ start + (length bytes + 1) → take (end - next) (drop next buffer) ≡ later
+buffer_left buffer pending bytes later start end next e cut n =
     let k = length bytes + 1 in
-    let behind_is : drop (length bytes + 1) pending ≡ behind =
-    ap (drop (length bytes + 1)) (cut.parts ∙ sym (append_assoc bytes (10 ∷ []) behind)) ∙ drop_all_front (bytes ++ 10 ∷ []) behind (length bytes + 1) (sym (length-append bytes (10 ∷ []))) in
+    let after_is : drop (length bytes + 1) pending ≡ later =
+    ap (drop (length bytes + 1)) (cut.parts ∙ sym (append_assoc bytes (10 ∷ []) later)) ∙ drop_all_prefix (bytes ++ 10 ∷ []) later (length bytes + 1) (sym (length-append bytes (10 ∷ []))) in
     let size : end - next ≡ (end - start) - (length bytes + 1) = omega arith in
     ap (λ t. take t (drop next buffer)) size ∙ ap (λ t. take ((end - start) - (length bytes + 1)) (drop t buffer)) n
     ∙ ap (take ((end - start) - (length bytes + 1))) (sym (drop-drop (length bytes + 1) start buffer))
-    ∙ sym (drop_take (drop start buffer) (length bytes + 1) (end - start)) ∙ ap (drop (length bytes + 1)) (sym e) ∙ behind_is
+    ∙ sym (drop_take (drop start buffer) (length bytes + 1) (end - start)) ∙ ap (drop (length bytes + 1)) (sym e) ∙ after_is
 
 -- a line that was given is the next line
 pub given_next : (arch : ArchName) (r q : ReaderSeen) (cycle : Option (List Edge)) (line : Line) (said : Result (Option (List Edge)) LineKind) → said_by line cycle ≡ Some said → GivesLine arch r q said → GivesNext arch r q cycle line
@@ -472,9 +472,9 @@ pub line_less : (arch : ArchName) (r q : ReaderSeen) (said : Result (Option (Lis
 line_less arch r q said g = omega (arith, g.taken_is, ap length g.cut.parts, length-append g.bytes (10 ∷ q.pending))
 
 -- the line that is cut off the pending bytes is given
-pub given_line : (arch : ArchName) (r q : ReaderSeen) (bytes behind : List ℕ) (said : Result (Option (List Edge)) LineKind) → CutsAt 10 r.pending bytes behind → q.pending ≡ behind →
+pub given_line : (arch : ArchName) (r q : ReaderSeen) (bytes later : List ℕ) (said : Result (Option (List Edge)) LineKind) → CutsAt 10 r.pending bytes later → q.pending ≡ later →
     said ≡ line_said arch (without_return bytes) → q.line ≡ r.line + 1 → q.taken ≡ r.taken → GivesLine arch r q said
-given_line arch r q bytes behind said cut e says line taken = record { bytes = bytes; cut = subst (CutsAt 10 r.pending bytes) (sym e) cut; says = says; line_is = line; taken_is = taken }
+given_line arch r q bytes later said cut e says line taken = record { bytes = bytes; cut = subst (CutsAt 10 r.pending bytes) (sym e) cut; says = says; line_is = line; taken_is = taken }
 
 -- a text that was read is not empty
 pub some_read : (buffer : List ℕ) (count : ℕ) → (count ≡ 0 → ⊥) → length buffer ≡ 1 → 0 < length (take count buffer)

@@ -94,8 +94,8 @@ cycles_of arch lines = flat_map (λ line. cycle_said (line_said arch line)) line
 -- the line of a number, counted from 1, has this fault, and it is the first that has one: these are the lines before it
 pub record FirstFault (arch : ArchName) (lines before : List (List ℕ)) (number : ℕ) (kind : LineKind) : Type 0 where
   pub line : List ℕ
-  pub behind : List (List ℕ)
-  pub parts : lines ≡ before ++ line ∷ behind
+  pub later : List (List ℕ)
+  pub parts : lines ≡ before ++ line ∷ later
   pub sound : are_sound arch before ≡ true
   pub fault : fault_of arch line ≡ Some kind
   pub number_is : number ≡ length before + 1

@@ -22,9 +22,9 @@ abbrev pub Without : ℕ → List ℕ → Type 0
 Without sign text = All (λ byte. (byte == sign) ≡ false) text
 
 -- a text is a prefix without a byte, that byte, and what comes after it
-pub record CutsAt (sign : ℕ) (text front behind : List ℕ) : Type 0 where
-  pub without : Without sign front
-  pub parts : text ≡ front ++ sign ∷ behind
+pub record CutsAt (sign : ℕ) (text prefix later : List ℕ) : Type 0 where
+  pub without : Without sign prefix
+  pub parts : text ≡ prefix ++ sign ∷ later
 
 -- the bytes that were taken and aren't given yet, the number of the line that they begin with, and how many bytes were taken
 pub record ReaderSeen : Type 0 where

@@ -45,7 +45,7 @@ fn without_label(line: &[u8]) -> &[u8]
     ensures { result.now ≡ without_label line.now }
 {
     match cut(b':', line) {
-        Some((_, behind)) => behind,
+        Some((_, later)) => later,
         None => line,
     }
 }

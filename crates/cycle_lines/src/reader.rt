@@ -119,7 +119,7 @@ impl LineReader {
     }
 
     /// The bytes that were taken and aren't given yet.
-    fn pending(&self) -> &[u8]
+    fn pending_bytes(&self) -> &[u8]
         ensures pending { result.now ≡ self.now.pending }
         ensures held { length result.now ≤ BUFFER }
     {
@@ -136,7 +136,7 @@ impl LineReader {
     ) -> Line
         ensures { GivesNext arch self.old self.new cycle.new result }
     {
-        let Some((bytes, _)) = cut(b'\n', self.pending()) else {
+        let Some((bytes, _)) = cut(b'\n', self.pending_bytes()) else {
             return Line::Unended;
         };
         let length = bytes.len();
@@ -174,11 +174,11 @@ impl LineReader {
         requires { Without 10 self.now.pending }
         ensures { ReadsLast arch self.now cycle.new result }
     {
-        if self.pending().is_empty() {
+        if self.pending_bytes().is_empty() {
             *cycle = None;
             return Ok(());
         }
-        match read_line(arch, self.pending(), edges, cycle) {
+        match read_line(arch, self.pending_bytes(), edges, cycle) {
             Ok(()) => Ok(()),
             Err(kind) => Err(LinesError::Wrong {
                 line: self.line,
@@ -210,7 +210,7 @@ impl LineReader {
         ensures pending { IfOk result (λ count. count ≡ 0 → Without 10 self.new.pending) }
         ensures less { IfOk result (λ count. 0 < count → work self.new < work self.old) }
     {
-        if without_return(self.pending()).len() > MAX_LINE {
+        if without_return(self.pending_bytes()).len() > MAX_LINE {
             return Err(LinesError::Wrong {
                 line: self.line,
                 kind: LineKind::LineTooLong,
@@ -249,7 +249,7 @@ impl LineReader {
         ensures stopped { OnErr result (Stops (I.seen input.old) (I.seen input.new) × (self.new ≡ self.old)) }
         ensures held { length self.new.pending ≤ length self.old.pending + PIECE }
     {
-        self.end = move_to_front(&mut self.buffer, self.start, self.end);
+        self.end = move_to_start(&mut self.buffer, self.start, self.end);
         self.start = 0;
         let room = PIECE.min((MAX_INPUT - self.taken) as usize);
         let count = read_part(input, &mut self.buffer, self.end, room)?;
@@ -269,7 +269,7 @@ fn line_of(read: Result<(), LineKind>) -> Line
 }
 
 /// Moves a part of a buffer to its beginning, and gives the place where it ends there.
-fn move_to_front(buffer: &mut [u8], start: usize, end: usize) -> usize
+fn move_to_start(buffer: &mut [u8], start: usize, end: usize) -> usize
     requires order { start ≤ end }
     requires within { end ≤ length buffer.old }
     ensures end { result ≡ end - start }
@@ -288,7 +288,7 @@ fn read_part<I: Source>(
 ) -> Result<usize, Failed>
     requires within { start + room ≤ length buffer.old }
     requires some { 0 < room }
-    ensures front { take start buffer.new ≡ take start buffer.old }
+    ensures prefix { take start buffer.new ≡ take start buffer.old }
     ensures filled { IfOk result (λ count. FillsBuffer (I.seen input.old) (I.seen input.new) buffer.new start room count) }
     ensures stopped { OnErr result (Stops (I.seen input.old) (I.seen input.new)) }
 {

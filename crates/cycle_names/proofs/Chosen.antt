@@ -22,7 +22,7 @@ use Rattle.cycle_names.specs.Reading.{marked_around}
 use Rattle.cycle_names.specs.Rotations.{rotations, fits, is_of_family, found_family, words_below, edges_below, rotation_in, named_rotation}
 use Rattle.cycle_names.proofs.Members.{Member, any_of_member, member_of_any, member_upto, upto_member, find_same, filter_among, filter_passes, filter_member}
 use Rattle.cycle_names.proofs.Below.{below_irreflexive, below_transitive, neither_below, IsFirst, HasFirst, has_first, first_is_least}
-use Rattle.cycle_names.proofs.Marks.{told_of, around_back}
+use Rattle.cycle_names.proofs.Marks.{said_of, around_back}
 use Rattle.cycle_names.proofs.Outlines.{outline_of_fits, plain_of_fits, words_by_ranks, same_lists}
 use Rattle.cycle_names.proofs.Families.{fitting, found_is_of, fits_either}
 
@@ -68,10 +68,10 @@ first_by_ranks : (f : Family) (u v : List Edge) → IsFirst words_below (candida
 first_by_ranks f u v h = record { member = h.member; none = λ w m b. h.none w m (by_words f u w v m h.member ∙ b) }
 
 -- a rotation that fits a family is restored from what its name says of it
-pub fit_back : (f : Family) (v : List Edge) → IsCycle v → fits f v ≡ true → marked_around (map told_of v) ≡ Some v
+pub fit_back : (f : Family) (v : List Edge) → IsCycle v → fits f v ≡ true → marked_around (map said_of v) ≡ Some v
 fit_back f v c h = around_back v c.closed (plain_of_fits f v h) (fits_either f v h)
 
-candidate_back : (f : Family) (u v : List Edge) → IsCycle u → Member v (candidates f u) → marked_around (map told_of v) ≡ Some v
+candidate_back : (f : Family) (u v : List Edge) → IsCycle u → Member v (candidates f u) → marked_around (map said_of v) ≡ Some v
 candidate_back f u v c m =
     fit_back f v (cycle_of_rotation u v (rotation_of_member u v (filter_among (fits f) (rotations u) v m)) c) (filter_passes (fits f) (rotations u) v m)
 
@@ -82,7 +82,7 @@ only_by_words f u v w c h k =
     let joins : outline w ≡ outline v = candidate_joins f u w k.member ∙ sym (candidate_joins f u v h.member) in
     let long : length (map word_place w) ≡ length (map word_place v) =
     omega (arith, length-map w word_place, length-map v word_place, ap length joins, length-map w slot_of, length-map v slot_of) in
-    let told : map told_of w ≡ map told_of v = same_lists w v joins (neither_below (map word_place w) (map word_place v) long (a.none w b.member) (b.none v a.member)) in
+    let told : map said_of w ≡ map said_of v = same_lists w v joins (neither_below (map word_place w) (map word_place v) long (a.none w b.member) (b.none v a.member)) in
     same_Some w v (sym (candidate_back f u w c k.member) ∙ ap marked_around told ∙ candidate_back f u v c h.member)
 
 -- the rotation that a cycle of a family is named from

@@ -21,7 +21,7 @@ use Rattle.cycle_names.specs.Reading.{named_family}
 use Rattle.cycle_names.proofs.Members.{Member, any_of_member, member_of_any, member_upto, upto_member, find_none, find_only, found_passes, map_rotated}
 use Rattle.cycle_names.proofs.Tables.{slot_is_diff, slot_is_external}
 use Rattle.cycle_names.proofs.Marks.{is_either}
-use Rattle.cycle_names.proofs.Outlines.{edges_told, outline_of_fits}
+use Rattle.cycle_names.proofs.Outlines.{edges_are_same, outline_of_fits}
 
 -- the place of a family in the table
 family_place : Family → ℕ
@@ -128,7 +128,7 @@ same_cycle_family f g some r =
     let m : Member (rotated p.place (family_edges f)) (rotations (family_edges f)) =
     member_upto (λ k. rotated k (family_edges f)) (length (family_edges f)) p.place p.within in
     let a : list_any (is_same (family_edges g)) (rotations (family_edges f)) ≡ true =
-    any_of_member (is_same (family_edges g)) (rotations (family_edges f)) (rotated p.place (family_edges f)) m (edges_told (family_edges g) (rotated p.place (family_edges f)) p.is) in
+    any_of_member (is_same (family_edges g)) (rotations (family_edges f)) (rotated p.place (family_edges f)) m (edges_are_same (family_edges g) (rotated p.place (family_edges f)) p.is) in
     let t : apart f g ≡ true = each_family (apart f) (each_family (λ f. list_all (apart f) every_family) all_apart f) g in
     family_same f g (eqb-true (family_place f) (family_place g) (first_of (family_place f == family_place g) (list_any (is_same (family_edges g)) (rotations (family_edges f))) t a))
   where

@@ -19,8 +19,8 @@ use Rattle.cycle_names.specs.Reading.{before, last_mark, marked_between, marked_
 use Rattle.cycle_names.proofs.Tables.{slot_is_external, external_same}
 
 -- what a name says of an edge: a link with its marks, another edge without
-abbrev pub told_of : Edge → Edge
-told_of e = cond (is_diff e) e (slot_of e)
+abbrev pub said_of : Edge → Edge
+said_of e = cond (is_diff e) e (slot_of e)
 
 -- an edge of a family's cycle is a link or external
 abbrev pub is_either : Edge → Bool
@@ -48,15 +48,15 @@ target_unmarked (kinds.Dep _ _ _) = refl
 target_unmarked (kinds.Data _) = refl
 
 -- a name says all of a link
-pub told_link : (e : Edge) → is_diff e ≡ true → told_of e ≡ e
-told_link e t = cond-true (is_diff e) e (slot_of e) t
+pub said_link : (e : Edge) → is_diff e ≡ true → said_of e ≡ e
+said_link e t = cond-true (is_diff e) e (slot_of e) t
 
 -- of another edge a name says what it joins
-pub told_slot : (e : Edge) → is_diff e ≡ false → told_of e ≡ slot_of e
-told_slot e f = cond-false (is_diff e) e (slot_of e) f
+pub said_slot : (e : Edge) → is_diff e ≡ false → said_of e ≡ slot_of e
+said_slot e f = cond-false (is_diff e) e (slot_of e) f
 
-told_plain : (e : Edge) → is_diff e ≡ false → told_of e ≡ unmarked (kind_of e)
-told_plain e f = told_slot e f ∙ cond-false (is_diff e) _ (unmarked (kind_of e)) f
+said_plain : (e : Edge) → is_diff e ≡ false → said_of e ≡ unmarked (kind_of e)
+said_plain e f = said_slot e f ∙ cond-false (is_diff e) _ (unmarked (kind_of e)) f
 
 external_either : (e : Edge) → is_either e ≡ true → is_diff e ≡ false → is_external e ≡ true
 external_either e h f = sym (ap (λ b. b || is_external e) f) ∙ h
@@ -80,69 +80,69 @@ plain_mark e n p s t = sym (same_mark_is (target_mark e) Plain (only (same_mark 
     only false false c h s t = cc
 
 -- an external edge takes the mark of the edge after it
-mark_behind : (e n : Edge) → joins_to e n ≡ true → is_plain_before e (n ∷ []) ≡ true → is_either n ≡ true → is_external e ≡ true → source_mark (told_of n) ≡ target_mark e
-mark_behind e n j p h t =
+mark_after : (e n : Edge) → joins_to e n ≡ true → is_plain_before e (n ∷ []) ≡ true → is_either n ≡ true → is_external e ≡ true → source_mark (said_of n) ≡ target_mark e
+mark_after e n j p h t =
     by_test (is_diff n)
-    (λ d. ap source_mark (told_link n d) ∙ joined_marks e n j)
-    (λ d. ap source_mark (told_plain n d) ∙ source_unmarked (kind_of n) ∙ sym (plain_mark e n p t (external_either n h d)))
+    (λ d. ap source_mark (said_link n d) ∙ joined_marks e n j)
+    (λ d. ap source_mark (said_plain n d) ∙ source_unmarked (kind_of n) ∙ sym (plain_mark e n p t (external_either n h d)))
 
 -- and that of the edge before it
-mark_before : (e n : Edge) → joins_to e n ≡ true → is_plain_before e (n ∷ []) ≡ true → is_either e ≡ true → is_external n ≡ true → source_mark n ≡ target_mark (told_of e)
+mark_before : (e n : Edge) → joins_to e n ≡ true → is_plain_before e (n ∷ []) ≡ true → is_either e ≡ true → is_external n ≡ true → source_mark n ≡ target_mark (said_of e)
 mark_before e n j p h t =
     joined_marks e n j
     ∙ by_test (is_diff e)
-    (λ d. ap target_mark (sym (told_link e d)))
-    (λ d. plain_mark e n p (external_either e h d) t ∙ sym (ap target_mark (told_plain e d) ∙ target_unmarked (kind_of e)))
+    (λ d. ap target_mark (sym (said_link e d)))
+    (λ d. plain_mark e n p (external_either e h d) t ∙ sym (ap target_mark (said_plain e d) ∙ target_unmarked (kind_of e)))
 
 -- so it is the edge
-one_back : (from to : Mark) (e : Edge) → is_either e ≡ true → (is_external e ≡ true → source_mark e ≡ from) → (is_external e ≡ true → to ≡ target_mark e) → marked_between from (told_of e) to ≡ Some e
+one_back : (from to : Mark) (e : Edge) → is_either e ≡ true → (is_external e ≡ true → source_mark e ≡ from) → (is_external e ≡ true → to ≡ target_mark e) → marked_between from (said_of e) to ≡ Some e
 one_back from to e h s t =
     by_test (is_external e)
     (λ x.
     let f : is_diff e ≡ false = external_same e x in
-    let k : kind_of (told_of e) ≡ kind_of e = ap kind_of (told_plain e f) ∙ kind_of_unmarked (kind_of e) in
-    cond-true (is_external (told_of e)) (marked_edge (kind_of (told_of e)) from to) (Some (told_of e)) (ap is_external (told_slot e f) ∙ slot_is_external e ∙ x)
+    let k : kind_of (said_of e) ≡ kind_of e = ap kind_of (said_plain e f) ∙ kind_of_unmarked (kind_of e) in
+    cond-true (is_external (said_of e)) (marked_edge (kind_of (said_of e)) from to) (Some (said_of e)) (ap is_external (said_slot e f) ∙ slot_is_external e ∙ x)
     ∙ ap (λ kind. marked_edge kind from to) k
     ∙ ap (λ m. marked_edge (kind_of e) m to) (sym (s x))
     ∙ ap (marked_edge (kind_of e) (source_mark e)) (t x)
     ∙ marked_edge_of e)
     (λ x.
     let d : is_diff e ≡ true = internal_either e h x in
-    cond-false (is_external (told_of e)) (marked_edge (kind_of (told_of e)) from to) (Some (told_of e)) (ap is_external (told_link e d) ∙ x)
-    ∙ ap Some (told_link e d))
+    cond-false (is_external (said_of e)) (marked_edge (kind_of (said_of e)) from to) (Some (said_of e)) (ap is_external (said_link e d) ∙ x)
+    ∙ ap Some (said_link e d))
 
 both_there : (o : Option Edge) (p : Option (List Edge)) (e : Edge) (v : List Edge) → o ≡ Some e → p ≡ Some v → before o p ≡ Some (e ∷ v)
 both_there o p e v a b = rw (a, b) refl
 
 along_back : (from : Mark) (e : Edge) (v : List Edge) (last : Edge) → is_joined ((e ∷ v) ++ last ∷ []) ≡ true → all_plain ((e ∷ v) ++ last ∷ []) ≡ true →
     list_all is_either (e ∷ v) ≡ true → is_either last ≡ true → (is_external e ≡ true → source_mark e ≡ from) →
-    marked_along from (map told_of (e ∷ v)) (source_mark (told_of last)) ≡ Some (e ∷ v)
+    marked_along from (map said_of (e ∷ v)) (source_mark (said_of last)) ≡ Some (e ∷ v)
 along_back from e [] last j p h l s =
     let js = and_parts (joins_to e last) true j in
     let ps = and_parts (is_plain_before e (last ∷ [])) true p in
-    both_there (marked_between from (told_of e) (source_mark (told_of last))) (Some []) e []
-    (one_back from (source_mark (told_of last)) e (and_parts (is_either e) true h).0 s (mark_behind e last js.0 ps.0 l))
+    both_there (marked_between from (said_of e) (source_mark (said_of last))) (Some []) e []
+    (one_back from (source_mark (said_of last)) e (and_parts (is_either e) true h).0 s (mark_after e last js.0 ps.0 l))
     refl
 along_back from e (n ∷ v) last j p h l s =
     let js = and_parts (joins_to e n) (is_joined ((n ∷ v) ++ last ∷ [])) j in
     let ps = and_parts (is_plain_before e ((n ∷ v) ++ last ∷ [])) (all_plain ((n ∷ v) ++ last ∷ [])) p in
     let hs = and_parts (is_either e) (list_all is_either (n ∷ v)) h in
     let hn = and_parts (is_either n) (list_all is_either v) hs.1 in
-    both_there (marked_between from (told_of e) (source_mark (told_of n))) (marked_along (target_mark (told_of e)) (map told_of (n ∷ v)) (source_mark (told_of last))) e (n ∷ v)
-    (one_back from (source_mark (told_of n)) e hs.0 s (mark_behind e n js.0 ps.0 hn.0))
-    (along_back (target_mark (told_of e)) n v last js.1 ps.1 hs.1 l (mark_before e n js.0 ps.0 hs.0))
+    both_there (marked_between from (said_of e) (source_mark (said_of n))) (marked_along (target_mark (said_of e)) (map said_of (n ∷ v)) (source_mark (said_of last))) e (n ∷ v)
+    (one_back from (source_mark (said_of n)) e hs.0 s (mark_after e n js.0 ps.0 hn.0))
+    (along_back (target_mark (said_of e)) n v last js.1 ps.1 hs.1 l (mark_before e n js.0 ps.0 hs.0))
 
 -- the edge after a list takes the mark of the last one
 last_back : (mark : Mark) (e : Edge) (v : List Edge) (last : Edge) → is_joined ((e ∷ v) ++ last ∷ []) ≡ true → all_plain ((e ∷ v) ++ last ∷ []) ≡ true →
-    list_all is_either (e ∷ v) ≡ true → is_external last ≡ true → source_mark last ≡ last_mark mark (map told_of (e ∷ v))
+    list_all is_either (e ∷ v) ≡ true → is_external last ≡ true → source_mark last ≡ last_mark mark (map said_of (e ∷ v))
 last_back mark e [] last j p h t =
     mark_before e last (and_parts (joins_to e last) true j).0 (and_parts (is_plain_before e (last ∷ [])) true p).0 (and_parts (is_either e) true h).0 t
 last_back mark e (n ∷ v) last j p h t =
-    last_back (target_mark (told_of e)) n v last (and_parts (joins_to e n) (is_joined ((n ∷ v) ++ last ∷ [])) j).1
+    last_back (target_mark (said_of e)) n v last (and_parts (joins_to e n) (is_joined ((n ∷ v) ++ last ∷ [])) j).1
     (and_parts (is_plain_before e ((n ∷ v) ++ last ∷ [])) (all_plain ((n ∷ v) ++ last ∷ [])) p).1 (and_parts (is_either e) (list_all is_either (n ∷ v)) h).1 t
 
 -- a cycle of a family is restored from what a name says of its edges
-pub around_back : (v : List Edge) → is_closed v ≡ true → is_plain_outside v ≡ true → list_all is_either v ≡ true → marked_around (map told_of v) ≡ Some v
+pub around_back : (v : List Edge) → is_closed v ≡ true → is_plain_outside v ≡ true → list_all is_either v ≡ true → marked_around (map said_of v) ≡ Some v
 around_back [] c p h = refl
 around_back (e ∷ v) c p h =
-    along_back (last_mark Plain (map told_of (e ∷ v))) e v e c p h (and_parts (is_either e) (list_all is_either v) h).0 (last_back Plain e v e c p h)
+    along_back (last_mark Plain (map said_of (e ∷ v))) e v e c p h (and_parts (is_either e) (list_all is_either v) h).0 (last_back Plain e v e c p h)

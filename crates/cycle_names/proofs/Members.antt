@@ -14,9 +14,9 @@ module _ {A : Type 0} where
   Member x (y ∷ ys) = (x ≡ y) ⊎ Member x ys
 
   -- a member of the first list is one of both joined
-  pub member_front : (x : A) (xs ys : List A) → Member x xs → Member x (xs ++ ys)
-  member_front x [] ys m = absurd m
-  member_front x (z ∷ xs) ys m = elim m [ inl e ↦ inl e | inr r ↦ inr (member_front x xs ys r) ]
+  pub member_prefix : (x : A) (xs ys : List A) → Member x xs → Member x (xs ++ ys)
+  member_prefix x [] ys m = absurd m
+  member_prefix x (z ∷ xs) ys m = elim m [ inl e ↦ inl e | inr r ↦ inr (member_prefix x xs ys r) ]
 
   -- a member of the second list is one of both joined
   pub member_back : (x : A) (xs ys : List A) → Member x ys → Member x (xs ++ ys)
@@ -129,7 +129,7 @@ module _ {A : Type 0} where
   member_upto f (suc n) k h =
       rw (map_upto f n)
       (by_less k n
-      (λ l. member_front (f k) (map f (upto n)) (f n ∷ []) (member_upto f n k l))
+      (λ l. member_prefix (f k) (map f (upto n)) (f n ∷ []) (member_upto f n k l))
       (λ g. member_back (f k) (map f (upto n)) (f n ∷ []) (let e : k ≡ n = omega arith in inl (ap f e))))
     where
       map_upto : (f : ℕ → A) (n : ℕ) → map f (upto (suc n)) ≡ map f (upto n) ++ f n ∷ []

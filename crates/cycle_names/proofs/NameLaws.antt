@@ -54,9 +54,9 @@ pub arch_turned : (arch : ArchName) (u v : List Edge) → IsRotation u v → are
 arch_turned arch u v r =
     let p : Edge → Bool = λ edge. is_of_arch edge arch in
     ap (list_all p) r.from
-    ∙ list_all-append p r.front r.back
-    ∙ and_comm (list_all p r.front) (list_all p r.back)
-    ∙ sym (list_all-append p r.back r.front)
+    ∙ list_all-append p r.prefix r.back
+    ∙ and_comm (list_all p r.prefix) (list_all p r.back)
+    ∙ sym (list_all-append p r.back r.prefix)
     ∙ sym (ap (list_all p) r.to)
 
 -- the rotation that a cycle is named from

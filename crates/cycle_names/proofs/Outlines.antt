@@ -22,7 +22,7 @@ use Rattle.cycle_names.specs.Rotations.{joins_as, is_plain_outside, fits, words_
 use Rattle.cycle_names.specs.Fitting.{word_place}
 use Rattle.cycle_names.specs.Reading.{link_with}
 use Rattle.cycle_names.proofs.Tables.{link_words_order, link_words_equal, link_back, slot_is_diff, no_place}
-use Rattle.cycle_names.proofs.Marks.{told_of, told_link, told_slot}
+use Rattle.cycle_names.proofs.Marks.{said_of, said_link, said_slot}
 
 -- two lists of edges pass the test for being the same exactly where they are
 pub same_edges : (u v : List Edge) → is_same u v ≡ true → u ≡ v
@@ -40,8 +40,8 @@ edges_same [] = refl
 edges_same (x ∷ u) = rw (eq-eqb (rank_of x) (rank_of x) refl) (edges_same u)
 
 -- equal lists of edges pass the test for being the same
-pub edges_told : (u v : List Edge) → u ≡ v → is_same u v ≡ true
-edges_told u v e = rw e (edges_same v)
+pub edges_are_same : (u v : List Edge) → u ≡ v → is_same u v ≡ true
+edges_are_same u v e = rw e (edges_same v)
 
 -- what a rotation that fits joins, and that it is plain between external edges
 pub outline_of_fits : (f : Family) (v : List Edge) → fits f v ≡ true → outline v ≡ family_edges f
@@ -64,15 +64,15 @@ link_depends : (s t : Edge) (u v : List ℕ) → s ≡ t → u ≡ v → link_wi
 link_depends s t u v d e = rw (d, e) refl
 
 -- a name says the same of two edges that join the same and have the same word
-same_links : (a b : Edge) → slot_of a ≡ slot_of b → word_place a ≡ word_place b → told_of a ≡ told_of b
+same_links : (a b : Edge) → slot_of a ≡ slot_of b → word_place a ≡ word_place b → said_of a ≡ said_of b
 same_links a b e r =
     by_test (is_diff a)
     (λ t.
     let d : is_diff b ≡ true = sym (diff_alike a b e) ∙ t in
-    told_link a t
+    said_link a t
     ∙ same_Some a b (sym (link_back a t) ∙ link_depends (slot_of a) (slot_of b) (link_word a) (link_word b) e (words_same a b r) ∙ link_back b d)
-    ∙ sym (told_link b d))
-    (λ f. told_slot a f ∙ e ∙ sym (told_slot b (sym (diff_alike a b e) ∙ f)))
+    ∙ sym (said_link b d))
+    (λ f. said_slot a f ∙ e ∙ sym (said_slot b (sym (diff_alike a b e) ∙ f)))
 
 heads : (x y : Edge) (u v : List Edge) → outline (x ∷ u) ≡ outline (y ∷ v) → slot_of x ≡ slot_of y
 heads x y u v e = head_same (slot_of x) (slot_of y) (outline u) (outline v) e
@@ -90,13 +90,13 @@ outline_long : (u v : List Edge) → outline u ≡ outline v → length u ≡ le
 outline_long u v e = sym (length-map u slot_of) ∙ ap length e ∙ length-map v slot_of
 
 -- a name says the same of two lists that join the same and have the same words
-pub same_lists : (u v : List Edge) → outline u ≡ outline v → map word_place u ≡ map word_place v → map told_of u ≡ map told_of v
+pub same_lists : (u v : List Edge) → outline u ≡ outline v → map word_place u ≡ map word_place v → map said_of u ≡ map said_of v
 same_lists [] [] e r = refl
 same_lists [] (y ∷ v) e r = absurd (omega (arith, outline_long [] (y ∷ v) e))
 same_lists (x ∷ u) [] e r = absurd (omega (arith, outline_long (x ∷ u) [] e))
 same_lists (x ∷ u) (y ∷ v) e r =
-    let one : told_of x ≡ told_of y = same_links x y (heads x y u v e) (number_same (word_place x) (word_place y) (map word_place u) (map word_place v) r) in
-    let rest : map told_of u ≡ map told_of v = same_lists u v (tails x y u v e) (numbers_same (word_place x) (word_place y) (map word_place u) (map word_place v) r) in
+    let one : said_of x ≡ said_of y = same_links x y (heads x y u v e) (number_same (word_place x) (word_place y) (map word_place u) (map word_place v) r) in
+    let rest : map said_of u ≡ map said_of v = same_lists u v (tails x y u v e) (numbers_same (word_place x) (word_place y) (map word_place u) (map word_place v) r) in
     rw (one, rest) refl
   where
     number_same : (a b : ℕ) (c d : List ℕ) → a ∷ c ≡ b ∷ d → a ≡ b

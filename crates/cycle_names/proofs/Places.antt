@@ -18,7 +18,7 @@ use Rattle.cycle_names.specs.declared.family.Family.{Family}
 use Rattle.cycle_names.specs.Families.{family_edges, all_families}
 use Rattle.cycle_names.specs.Links.{slot_of, outline}
 use Rattle.cycle_names.specs.Rotations.{is_plain_outside, rotations, fits, is_of_family, found_family}
-use Rattle.cycle_names.specs.Fitting.{slot_edge, edge_count, counted, family_counted, twice, joins_at, JoinsNone, JoinsFirst, FitsFirst, IsNamedAt, word_place}
+use Rattle.cycle_names.specs.Fitting.{slot_edge, edge_count, counted, family_of_counts, twice, joins_at, JoinsNone, JoinsFirst, FitsFirst, IsNamedAt, word_place}
 use Rattle.cycle_names.proofs.Members.{find_none, find_only, filter_among, filter_passes, filter_member, member_upto, upto_member, map_rotated}
 use Rattle.cycle_names.proofs.Below.{below_irreflexive, below_transitive}
 use Rattle.cycle_names.proofs.Plain.{plain_rotated}
@@ -34,8 +34,8 @@ part_is xs list k n e l h =
     rw (m, e) (window k xs (omega arith))
 
 -- of a cycle that is plain between external edges, a rotation fits where it joins the same
-fits_told : (f : Family) (u : List Edge) (k : ℕ) → is_plain_outside u ≡ true → fits f (rotated k u) ≡ joins_at (family_edges f) u k
-fits_told f u k p = ap (λ b. joins_at (family_edges f) u k && b) (plain_rotated k u ∙ p) ∙ and-true (joins_at (family_edges f) u k)
+fits_said : (f : Family) (u : List Edge) (k : ℕ) → is_plain_outside u ≡ true → fits f (rotated k u) ≡ joins_at (family_edges f) u k
+fits_said f u k p = ap (λ b. joins_at (family_edges f) u k && b) (plain_rotated k u ∙ p) ∙ and-true (joins_at (family_edges f) u k)
 
 -- one place more from which no rotation joins the same
 pub none_more : (slots u : List Edge) (k : ℕ) → JoinsNone slots u k → joins_at slots u k ≡ false → JoinsNone slots u (k + 1)
@@ -66,8 +66,8 @@ counted_fitting u f w =
     ∙ ap sum (take-append-drop w.place xs)
 
 -- the only family that a cycle can be of has as many
-pub likely : (u : List Edge) (f : Family) → is_of_family u f ≡ true → family_counted (counted u) ≡ Some f
-unfolding family_counted
+pub likely : (u : List Edge) (f : Family) → is_of_family u f ≡ true → family_of_counts (counted u) ≡ Some f
+unfolding family_of_counts
 likely u f h =
     find_only (λ g. counted (family_edges g) == counted u) all_families f (listed f (never_other u f h)) (eq-eqb _ _ (counted_fitting u f (fitting u f h)))
     (λ g m t. counts_differ g f (eqb-true _ _ t ∙ sym (counted_fitting u f (fitting u f h))))
@@ -77,11 +77,11 @@ unfolding found_family
 no_family u h = find_none (is_of_family u) all_families (λ f m t. h f t)
 
 -- where no family has as many, the cycle is of none
-pub unlikely : (u : List Edge) → family_counted (counted u) ≡ None → found_family u ≡ None
+pub unlikely : (u : List Edge) → family_of_counts (counted u) ≡ None → found_family u ≡ None
 unlikely u h = no_family u (λ f t. let z : None ≡ Some f = sym h ∙ likely u f t in cc)
 
 -- where no rotation joins what the family with as many does, the cycle is of none
-pub fits_none : (u : List Edge) (f : Family) (slots : List Edge) → slots ≡ family_edges f → family_counted (counted u) ≡ Some f → JoinsNone slots u (length u) → found_family u ≡ None
+pub fits_none : (u : List Edge) (f : Family) (slots : List Edge) → slots ≡ family_edges f → family_of_counts (counted u) ≡ Some f → JoinsNone slots u (length u) → found_family u ≡ None
 fits_none u f slots s l h =
     no_family u (λ g t.
     let same : f ≡ g = same_Some f g (sym l ∙ likely u g t) in
@@ -103,7 +103,7 @@ pub fits_first : (u : List Edge) (f : Family) (slots : List Edge) (place : ℕ) 
 fits_first u f slots place s h p = record { first = rw (← s) h; plain = p }
 
 fits_there : (u : List Edge) (f : Family) (k : ℕ) → FitsFirst u f k → fits f (rotated k u) ≡ true
-fits_there u f k h = fits_told f u k h.plain ∙ h.first.joins
+fits_there u f k h = fits_said f u k h.plain ∙ h.first.joins
 
 -- the family that a rotation fits is the cycle's
 pub fits_found : (u : List Edge) (f : Family) (k : ℕ) → FitsFirst u f k → found_family u ≡ Some f
@@ -126,8 +126,8 @@ named_first u f k h = record {
 }
 
 -- what the code compares: two parts of the twice repeated places of words, which are two rotations
-links_told : (u : List Edge) (j k : ℕ) → ranks_below (rotated j (map word_place u)) (rotated k (map word_place u)) ≡ links_below (rotated j u) (rotated k u)
-links_told u j k = sym (ap (λ s. ranks_below s (map word_place (rotated k u))) (map_rotated word_place j u) ∙ ap (ranks_below (rotated j (map word_place u))) (map_rotated word_place k u))
+links_said : (u : List Edge) (j k : ℕ) → ranks_below (rotated j (map word_place u)) (rotated k (map word_place u)) ≡ links_below (rotated j u) (rotated k u)
+links_said u j k = sym (ap (λ s. ranks_below s (map word_place (rotated k u))) (map_rotated word_place j u) ∙ ap (ranks_below (rotated j (map word_place u))) (map_rotated word_place k u))
 
 -- comparing the parts is comparing the rotations
 pub compared : (u : List Edge) (places others : List ℕ) (n j named : ℕ) → places ≡ twice (map word_place u) → others ≡ twice (map word_place u) → n ≡ length u → j ≤ n → named ≤ n →
@@ -144,7 +144,7 @@ named_kept u f k named h t = record {
   joins = h.joins;
   none = below_more (λ j. joins_at (family_edges f) u j ≡ true → links_below (rotated j u) (rotated named u) ≡ true → ⊥) k h.none
       (λ e b.
-      let a : (joins_at (family_edges f) u k && ranks_below (rotated k (map word_place u)) (rotated named (map word_place u))) ≡ true = rw e (links_told u k named ∙ b) in
+      let a : (joins_at (family_edges f) u k && ranks_below (rotated k (map word_place u)) (rotated named (map word_place u))) ≡ true = rw e (links_said u k named ∙ b) in
       let z : true ≡ false = sym a ∙ t in
       cc);
 }
@@ -154,7 +154,7 @@ pub named_replaced : (u : List Edge) (f : Family) (k named : ℕ) → NamedUpTo 
     (joins_at (family_edges f) u k && ranks_below (rotated k (map word_place u)) (rotated named (map word_place u))) ≡ true → NamedUpTo u f (k + 1) k
 named_replaced u f k named h l t =
     let both = and_parts (joins_at (family_edges f) u k) (ranks_below (rotated k (map word_place u)) (rotated named (map word_place u))) t in
-    let less : links_below (rotated k u) (rotated named u) ≡ true = sym (links_told u k named) ∙ both.1 in
+    let less : links_below (rotated k u) (rotated named u) ≡ true = sym (links_said u k named) ∙ both.1 in
     record {
       within = l;
       joins = both.0;
@@ -171,19 +171,19 @@ named_at u f first k named c w l h =
       within = h.within;
       found = found;
       named = named_in_family f u (rotated named u) c found (first_by_words f u (rotated named u) (record {
-        member = filter_member (fits f) (rotations u) (rotated named u) (member_upto (λ k. rotated k u) (length u) named h.within) (fits_told f u named w.plain ∙ h.joins);
+        member = filter_member (fits f) (rotations u) (rotated named u) (member_upto (λ k. rotated k u) (length u) named h.within) (fits_said f u named w.plain ∙ h.joins);
         none = λ v m b.
             let n = upto_member (λ k. rotated k u) (length u) v (filter_among (fits f) (rotations u) v m) in
-            let e : joins_at (family_edges f) u n.number ≡ true = sym (fits_told f u n.number w.plain) ∙ ap (fits f) (sym n.is) ∙ filter_passes (fits f) (rotations u) v m in
+            let e : joins_at (family_edges f) u n.number ≡ true = sym (fits_said f u n.number w.plain) ∙ ap (fits f) (sym n.is) ∙ filter_passes (fits f) (rotations u) v m in
             h.none n.number (omega (arith, n.below)) e (ap (λ x. links_below x (rotated named u)) (sym n.is) ∙ b);
       }));
     }
 
 -- by the numbers of edges of each sort there is no family, or the only one that is possible
-pub likely_answer : (u : List Edge) (count : ℕ) (o : Option Family) → count ≡ counted u → o ≡ family_counted count → length u ≤ 6 →
-    MatchOption o (found_family u ≡ None) (λ family. (length u ≤ 6) × (family_counted (counted u) ≡ Some family))
-likely_answer u count None t o l = unlikely u (ap family_counted (sym t) ∙ sym o)
-likely_answer u count (Some f) t o l = (l, ap family_counted (sym t) ∙ sym o)
+pub likely_answer : (u : List Edge) (count : ℕ) (o : Option Family) → count ≡ counted u → o ≡ family_of_counts count → length u ≤ 6 →
+    MatchOption o (found_family u ≡ None) (λ family. (length u ≤ 6) × (family_of_counts (counted u) ≡ Some family))
+likely_answer u count None t o l = unlikely u (ap family_of_counts (sym t) ∙ sym o)
+likely_answer u count (Some f) t o l = (l, ap family_of_counts (sym t) ∙ sym o)
 
 -- the two parts of a rotation join what the two parts of the slots do
 same_parts : (a b s t : List Edge) → length a ≡ length s → is_same (a ++ b) (s ++ t) ≡ (is_same a s && is_same b t)
@@ -206,18 +206,18 @@ other_length slots u k h =
     (λ e. h (omega (arith, e, length-map (rotated k u) slot_of, length-map slots slot_edge, length-append (drop k u) (take k u), ap length (take-append-drop k u), length-append (take k u) (drop k u))))
 
 -- comparing the two parts with the two parts of the slots is comparing the rotation with the slots
-pub joins_parts : (slots : List Slot) (u : List Edge) (k : ℕ) (front back : List Edge) (first last : List Slot) → front ≡ take k u → back ≡ drop k u →
+pub joins_parts : (slots : List Slot) (u : List Edge) (k : ℕ) (prefix back : List Edge) (first last : List Slot) → prefix ≡ take k u → back ≡ drop k u →
     first ≡ take (length back) slots → last ≡ drop (length back) slots → length slots ≡ length u →
-    (is_same (outline back) (map slot_edge first) && is_same (outline front) (map slot_edge last)) ≡ joins_at (map slot_edge slots) u k
-joins_parts slots u k front back first last f b i l n =
+    (is_same (outline back) (map slot_edge first) && is_same (outline prefix) (map slot_edge last)) ≡ joins_at (map slot_edge slots) u k
+joins_parts slots u k prefix back first last f b i l n =
     let whole : map slot_edge first ++ map slot_edge last ≡ map slot_edge slots =
     sym (map-append slot_edge first last) ∙ ap (map slot_edge) (ap (λ w. w ++ last) i ∙ ap (λ w. take (length back) slots ++ w) l ∙ take-append-drop (length back) slots) in
-    let turned : outline back ++ outline front ≡ outline (rotated k u) = sym (map-append slot_of back front) ∙ ap outline (ap (λ w. w ++ front) b ∙ ap (λ w. drop k u ++ w) f) in
+    let turned : outline back ++ outline prefix ≡ outline (rotated k u) = sym (map-append slot_of back prefix) ∙ ap outline (ap (λ w. w ++ prefix) b ∙ ap (λ w. drop k u ++ w) f) in
     let fit : length back ≤ length slots = omega (arith, n, ap length b, ap length (take-append-drop k u), length-append (take k u) (drop k u)) in
     let long : length (outline back) ≡ length (map slot_edge first) =
     length-map back slot_of ∙ sym (length-map first slot_edge ∙ ap length i ∙ length-take-le (length back) slots fit) in
-    sym (same_parts (outline back) (outline front) (map slot_edge first) (map slot_edge last) long)
-    ∙ ap (is_same (outline back ++ outline front)) whole ∙ ap (λ w. is_same w (map slot_edge slots)) turned
+    sym (same_parts (outline back) (outline prefix) (map slot_edge first) (map slot_edge last) long)
+    ∙ ap (is_same (outline back ++ outline prefix)) whole ∙ ap (λ w. is_same w (map slot_edge slots)) turned
 
 -- where the first part joins, the second decides
 pub both_parts : (a b whole result : Bool) → a ≡ true → result ≡ b → (a && b) ≡ whole → result ≡ whole

@@ -7,19 +7,19 @@ use Rattle.relax_edges.specs.declared.edge.Edge.{Edge}
 use Rattle.walk_laws.specs.Rotation.{rotated}
 use Rattle.cycle_names.specs.Rotations.{is_plain_before, all_plain, is_plain_outside}
 
-plain_front : (e m : Edge) (a b : List Edge) → is_plain_before e (a ++ m ∷ b) ≡ is_plain_before e (a ++ m ∷ [])
-plain_front e m [] b = refl
-plain_front e m (f ∷ a) b = refl
+plain_prefix : (e m : Edge) (a b : List Edge) → is_plain_before e (a ++ m ∷ b) ≡ is_plain_before e (a ++ m ∷ [])
+plain_prefix e m [] b = refl
+plain_prefix e m (f ∷ a) b = refl
 
 -- accesses are plain where they are up to an edge and from that edge on
 plain_at : (a : List Edge) (m : Edge) (b : List Edge) → all_plain (a ++ m ∷ b) ≡ (all_plain (a ++ m ∷ []) && all_plain (m ∷ b))
 plain_at [] m b = refl
 plain_at (e ∷ a) m b =
-    ap (λ x. x && all_plain (a ++ m ∷ b)) (plain_front e m a b)
+    ap (λ x. x && all_plain (a ++ m ∷ b)) (plain_prefix e m a b)
     ∙ ap (λ x. is_plain_before e (a ++ m ∷ []) && x) (plain_at a m b)
     ∙ sym (and_assoc (is_plain_before e (a ++ m ∷ [])) (all_plain (a ++ m ∷ [])) (all_plain (m ∷ b)))
 
-plain_turned : (front back : List Edge) → is_plain_outside (front ++ back) ≡ is_plain_outside (back ++ front)
+plain_turned : (prefix back : List Edge) → is_plain_outside (prefix ++ back) ≡ is_plain_outside (back ++ prefix)
 plain_turned [] back = ap is_plain_outside (sym (append-nil back))
 plain_turned (f ∷ fs) [] = ap is_plain_outside (append-nil (f ∷ fs))
 plain_turned (f ∷ fs) (g ∷ gs) =

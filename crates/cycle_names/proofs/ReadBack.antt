@@ -24,9 +24,9 @@ use Rattle.cycle_names.specs.Families.{family_word, family_edges, all_families}
 use Rattle.cycle_names.specs.Links.{slot_of, outline, link_word, link_words}
 use Rattle.cycle_names.specs.Rotations.{fits, found_family, named_rotation}
 use Rattle.cycle_names.specs.Names.{added, all_equal, plural, links_text, name_from, name_of}
-use Rattle.cycle_names.specs.Reading.{is_plus, is_dash, named_family, link_with, slot_with, before, filled_alike, first_word, behind_word, filled_each, but_last, filled, marked_if, edges_spelled, read_in, edges_read}
+use Rattle.cycle_names.specs.Reading.{is_plus, is_dash, named_family, link_with, slot_with, before, filled_alike, first_word, after_word, filled_each, but_last, filled, marked_if, edges_spelled, read_in, edges_read}
 use Rattle.cycle_names.proofs.Tables.{slot_is_diff, link_back, link_word_whole, word_whole}
-use Rattle.cycle_names.proofs.Marks.{told_of, told_link, told_slot}
+use Rattle.cycle_names.proofs.Marks.{said_of, said_link, said_slot}
 use Rattle.cycle_names.proofs.Outlines.{outline_of_fits, words_of_link, words_of_plain}
 use Rattle.cycle_names.proofs.Families.{never_other, found_is_of, family_links, word_alone, word_before}
 use Rattle.cycle_names.proofs.Chosen.{fit_back, named_fits, named_rotates}
@@ -45,20 +45,20 @@ until_end p (b ∷ word) h =
     before_first-no p b word (not-true (p b) both.0) ∙ ap (λ w. b ∷ w) (until_end p word both.1)
 
 -- the edge of a slot, with the word of the edge
-slot_back : (e : Edge) (word : List ℕ) → (is_diff e ≡ true → word ≡ link_word e) → slot_with (slot_of e) word ≡ Some (told_of e)
+slot_back : (e : Edge) (word : List ℕ) → (is_diff e ≡ true → word ≡ link_word e) → slot_with (slot_of e) word ≡ Some (said_of e)
 slot_back e word h =
     by_test (is_diff e)
-    (λ t. cond-true (is_diff (slot_of e)) (link_with (slot_of e) word) (Some (slot_of e)) (slot_is_diff e ∙ t) ∙ ap (link_with (slot_of e)) (h t) ∙ link_back e t ∙ ap Some (sym (told_link e t)))
-    (λ f. cond-false (is_diff (slot_of e)) (link_with (slot_of e) word) (Some (slot_of e)) (slot_is_diff e ∙ f) ∙ ap Some (sym (told_slot e f)))
+    (λ t. cond-true (is_diff (slot_of e)) (link_with (slot_of e) word) (Some (slot_of e)) (slot_is_diff e ∙ t) ∙ ap (link_with (slot_of e)) (h t) ∙ link_back e t ∙ ap Some (sym (said_link e t)))
+    (λ f. cond-false (is_diff (slot_of e)) (link_with (slot_of e) word) (Some (slot_of e)) (slot_is_diff e ∙ f) ∙ ap Some (sym (said_slot e f)))
 
 both_there : (o : Option Edge) (p : Option (List Edge)) (e : Edge) (v : List Edge) → o ≡ Some e → p ≡ Some v → before o p ≡ Some (e ∷ v)
 both_there o p e v a b = rw (a, b) refl
 
 -- where all links have one word
-alike_back : (v : List Edge) (word : List ℕ) → list_all (bytes_eq word) (link_words v) ≡ true → filled_alike (outline v) word ≡ Some (map told_of v)
+alike_back : (v : List Edge) (word : List ℕ) → list_all (bytes_eq word) (link_words v) ≡ true → filled_alike (outline v) word ≡ Some (map said_of v)
 alike_back [] word h = refl
 alike_back (e ∷ v) word h =
-    both_there (slot_with (slot_of e) word) (filled_alike (outline v) word) (told_of e) (map told_of v)
+    both_there (slot_with (slot_of e) word) (filled_alike (outline v) word) (said_of e) (map said_of v)
     (slot_back e word (λ t.
     let a : list_all (bytes_eq word) (link_word e ∷ link_words v) ≡ true = sym (ap (list_all (bytes_eq word)) (words_of_link e v t)) ∙ h in
     (bytes_decides word (link_word e)).0 (and_parts (bytes_eq word (link_word e)) (list_all (bytes_eq word) (link_words v)) a).0))
@@ -73,26 +73,26 @@ first_word_is : (word : List ℕ) (words : List (List ℕ)) → list_all (λ b. 
 first_word_is word [] h = ap (before_first is_plus) (append-nil word) ∙ until_end is_plus word h
 first_word_is word (next ∷ words) h = until is_plus word 43 (next ++ flat_map added words) h refl
 
-behind_word_is : (word : List ℕ) (words : List (List ℕ)) → list_all (λ b. not (is_plus b)) word ≡ true → behind_word (43 ∷ (word ++ flat_map added words)) ≡ flat_map added words
-behind_word_is word words h =
+after_word_is : (word : List ℕ) (words : List (List ℕ)) → list_all (λ b. not (is_plus b)) word ≡ true → after_word (43 ∷ (word ++ flat_map added words)) ≡ flat_map added words
+after_word_is word words h =
     ap (λ w. drop (length w) (word ++ flat_map added words)) (first_word_is word words h) ∙ drop-append_seam word (flat_map added words)
 
-each_back : (v : List Edge) → filled_each (outline v) (flat_map added (link_words v)) ≡ Some (map told_of v)
+each_back : (v : List Edge) → filled_each (outline v) (flat_map added (link_words v)) ≡ Some (map said_of v)
 each_back [] = refl
 each_back (e ∷ v) =
     by_test (is_diff e)
     (λ t.
     let text : List ℕ = 43 ∷ (link_word e ++ flat_map added (link_words v)) in
     ap (filled_each (slot_of e ∷ outline v)) (ap (flat_map added) (words_of_link e v t))
-    ∙ cond-true (is_diff (slot_of e)) (before (link_with (slot_of e) (first_word text)) (filled_each (outline v) (behind_word text))) (before (Some (slot_of e)) (filled_each (outline v) text)) (slot_is_diff e ∙ t)
-    ∙ both_there (link_with (slot_of e) (first_word text)) (filled_each (outline v) (behind_word text)) (told_of e) (map told_of v)
-    (ap (link_with (slot_of e)) (first_word_is (link_word e) (link_words v) (link_word_whole e)) ∙ link_back e t ∙ ap Some (sym (told_link e t)))
-    (ap (filled_each (outline v)) (behind_word_is (link_word e) (link_words v) (link_word_whole e)) ∙ each_back v))
+    ∙ cond-true (is_diff (slot_of e)) (before (link_with (slot_of e) (first_word text)) (filled_each (outline v) (after_word text))) (before (Some (slot_of e)) (filled_each (outline v) text)) (slot_is_diff e ∙ t)
+    ∙ both_there (link_with (slot_of e) (first_word text)) (filled_each (outline v) (after_word text)) (said_of e) (map said_of v)
+    (ap (link_with (slot_of e)) (first_word_is (link_word e) (link_words v) (link_word_whole e)) ∙ link_back e t ∙ ap Some (sym (said_link e t)))
+    (ap (filled_each (outline v)) (after_word_is (link_word e) (link_words v) (link_word_whole e)) ∙ each_back v))
     (λ f.
     let text : List ℕ = flat_map added (link_words v) in
     ap (filled_each (slot_of e ∷ outline v)) (ap (flat_map added) (words_of_plain e v f))
-    ∙ cond-false (is_diff (slot_of e)) (before (link_with (slot_of e) (first_word text)) (filled_each (outline v) (behind_word text))) (before (Some (slot_of e)) (filled_each (outline v) text)) (slot_is_diff e ∙ f)
-    ∙ both_there (Some (slot_of e)) (filled_each (outline v) text) (told_of e) (map told_of v) (ap Some (sym (told_slot e f))) (each_back v))
+    ∙ cond-false (is_diff (slot_of e)) (before (link_with (slot_of e) (first_word text)) (filled_each (outline v) (after_word text))) (before (Some (slot_of e)) (filled_each (outline v) text)) (slot_is_diff e ∙ f)
+    ∙ both_there (Some (slot_of e)) (filled_each (outline v) text) (said_of e) (map said_of v) (ap Some (sym (said_slot e f))) (each_back v))
 
 -- no word of a link has a `+`
 words_whole : (v : List Edge) → list_all (list_all (λ b. not (is_plus b))) (link_words v) ≡ true
@@ -112,7 +112,7 @@ none_of p (x ∷ xs) h =
 but_last_is : (word : List ℕ) (byte : ℕ) → but_last (word ++ byte ∷ []) ≡ word
 but_last_is word byte = take_at word (byte ∷ []) (length (word ++ byte ∷ []) - 1) (omega (arith, length-append word (byte ∷ [])))
 
-plural_back : (v : List Edge) (words : List (List ℕ)) → words ≡ link_words v → 0 < length words → all_equal words ≡ true → filled (outline v) (plural words) ≡ Some (map told_of v)
+plural_back : (v : List Edge) (words : List (List ℕ)) → words ≡ link_words v → 0 < length words → all_equal words ≡ true → filled (outline v) (plural words) ≡ Some (map said_of v)
 plural_back v [] e l h = absurd (omega arith)
 plural_back v (word ∷ words) e l h =
     let whole : list_all (λ b. not (is_plus b)) word ≡ true =
@@ -124,7 +124,7 @@ plural_back v (word ∷ words) e l h =
     ∙ ap (filled_alike (outline v)) (but_last_is word 115)
     ∙ alike_back v word alike
 
-words_back : (v : List Edge) (words : List (List ℕ)) → words ≡ link_words v → 2 ≤ length words → filled (outline v) (flat_map added words) ≡ Some (map told_of v)
+words_back : (v : List Edge) (words : List (List ℕ)) → words ≡ link_words v → 2 ≤ length words → filled (outline v) (flat_map added words) ≡ Some (map said_of v)
 words_back v [] e l = absurd (omega arith)
 words_back v (word ∷ []) e l = absurd (omega arith)
 words_back v (word ∷ next ∷ words) e l =
@@ -135,7 +135,7 @@ words_back v (word ∷ next ∷ words) e l =
     ∙ ap (filled_each (outline v)) (ap (flat_map added) e)
     ∙ each_back v
 
-links_back : (v : List Edge) → 2 ≤ length (link_words v) → filled (outline v) (links_text (link_words v)) ≡ Some (map told_of v)
+links_back : (v : List Edge) → 2 ≤ length (link_words v) → filled (outline v) (links_text (link_words v)) ≡ Some (map said_of v)
 unfolding links_text
 links_back v l =
     let words : List (List ℕ) = link_words v in

@@ -22,7 +22,7 @@ use Rattle.relax_edges.specs.AllEdges.{edges_in_order}
 use Rattle.relax_edges.proofs.Ranks.{rank_injective, rank_below}
 use Rattle.relax_edges.proofs.RelaxWords.{position_or_len-no}
 use Rattle.cycle_names.specs.Links.{link_word}
-use Rattle.cycle_names.specs.Reading.{is_dash, is_link, link_between, link_with, first_mark, marked_between, marked_along, before, first_word, behind_word, filled_each, edges_spelled, Adds}
+use Rattle.cycle_names.specs.Reading.{is_dash, is_link, link_between, link_with, first_mark, marked_between, marked_along, before, first_word, after_word, filled_each, edges_spelled, Adds}
 use Rattle.cycle_names.proofs.Tables.{link_found_back}
 use Rattle.cycle_names.proofs.Members.{find_none}
 
@@ -38,11 +38,11 @@ rest_drop [] h = absurd (omega arith)
 rest_drop (x ∷ xs) h = rest_is x xs
 
 -- the parts of a text after its first one
-abbrev parts_behind : List ℕ → List (List ℕ)
-parts_behind [] = []
-parts_behind (_ ∷ text) = slice_split is_dash text
+abbrev parts_after : List ℕ → List (List ℕ)
+parts_after [] = []
+parts_after (_ ∷ text) = slice_split is_dash text
 
-split_is : (text : List ℕ) → slice_split is_dash text ≡ take (position_or_len is_dash text) text ∷ parts_behind (drop (position_or_len is_dash text) text)
+split_is : (text : List ℕ) → slice_split is_dash text ≡ take (position_or_len is_dash text) text ∷ parts_after (drop (position_or_len is_dash text) text)
 split_is [] = refl
 split_is (b ∷ text) =
     by_test (is_dash b)
@@ -50,20 +50,20 @@ split_is (b ∷ text) =
     (λ f.
     cond-false (is_dash b) ([] ∷ slice_split is_dash text) (onto_first b (slice_split is_dash text)) f
     ∙ ap (onto_first b) (split_is text)
-    ∙ sym (ap (λ n. take n (b ∷ text) ∷ parts_behind (drop n (b ∷ text))) (position_or_len-no is_dash b text f)))
+    ∙ sym (ap (λ n. take n (b ∷ text) ∷ parts_after (drop n (b ∷ text))) (position_or_len-no is_dash b text f)))
 
 spelled_parts : (text word behind : List ℕ) (n : ℕ) → n ≡ position_or_len is_dash text → word ≡ take n text → behind ≡ drop n text →
-    edges_spelled (slice_split is_dash text) ≡ before (edge_of word) (edges_spelled (parts_behind behind))
+    edges_spelled (slice_split is_dash text) ≡ before (edge_of word) (edges_spelled (parts_after behind))
 spelled_parts text word behind n i w b =
-    ap edges_spelled (split_is text) ∙ ap (λ n. before (edge_of (take n text)) (edges_spelled (parts_behind (drop n text)))) (sym i)
-    ∙ ap (λ x. before (edge_of x) (edges_spelled (parts_behind (drop n text)))) (sym w)
-    ∙ ap (λ x. before (edge_of word) (edges_spelled (parts_behind x))) (sym b)
+    ap edges_spelled (split_is text) ∙ ap (λ n. before (edge_of (take n text)) (edges_spelled (parts_after (drop n text)))) (sym i)
+    ∙ ap (λ x. before (edge_of x) (edges_spelled (parts_after (drop n text)))) (sym w)
+    ∙ ap (λ x. before (edge_of word) (edges_spelled (parts_after x))) (sym b)
 
-parts_more : (behind : List ℕ) → 1 ≤ length behind → parts_behind behind ≡ slice_split is_dash (rest_of behind)
+parts_more : (behind : List ℕ) → 1 ≤ length behind → parts_after behind ≡ slice_split is_dash (rest_of behind)
 parts_more [] h = absurd (omega arith)
 parts_more (b ∷ behind) h = ap (slice_split is_dash) (sym (rest_is b behind))
 
-parts_last : (behind : List ℕ) → length behind < 1 → parts_behind behind ≡ []
+parts_last : (behind : List ℕ) → length behind < 1 → parts_after behind ≡ []
 parts_last [] h = refl
 parts_last (b ∷ behind) h = absurd (omega arith)
 
@@ -102,12 +102,12 @@ module _ {E : Type 0} where
 
   -- one slot more, of a link
   pub fill_link : (slots : List Edge) (links word behind : List ℕ) (d e : Edge) (old pushed new : List Edge) (result : Result (Unit {0}) E) →
-      1 ≤ length slots → is_diff (get_or slots 0 d) ≡ true → word ≡ first_word links → behind ≡ behind_word links → Some e ≡ link_with (get_or slots 0 d) word →
+      1 ≤ length slots → is_diff (get_or slots 0 d) ≡ true → word ≡ first_word links → behind ≡ after_word links → Some e ≡ link_with (get_or slots 0 d) word →
       pushed ≡ old ++ e ∷ [] → Adds (filled_each (rest_of slots) behind) pushed new result → Adds (filled_each slots links) old new result
   fill_link [] links word behind d e old pushed new result h t w b o k a = absurd (omega arith)
   fill_link (s ∷ slots) links word behind d e old pushed new result h t w b o k a =
       adds_same (filled_each (s ∷ slots) links) (before (link_with s word) (filled_each (rest_of (s ∷ slots)) behind)) old new result
-      (cond-true (is_diff s) (before (link_with s (first_word links)) (filled_each slots (behind_word links))) (before (Some s) (filled_each slots links)) t
+      (cond-true (is_diff s) (before (link_with s (first_word links)) (filled_each slots (after_word links))) (before (Some s) (filled_each slots links)) t
       ∙ rw (w, b, rest_is s slots) refl)
       (adds_before (link_with s word) (filled_each (rest_of (s ∷ slots)) behind) e old pushed new result (sym o) k a)
 
@@ -117,7 +117,7 @@ module _ {E : Type 0} where
   fill_plain [] links d old pushed new result h t k a = absurd (omega arith)
   fill_plain (s ∷ slots) links d old pushed new result h t k a =
       adds_same (filled_each (s ∷ slots) links) (before (Some s) (filled_each (rest_of (s ∷ slots)) links)) old new result
-      (cond-false (is_diff s) (before (link_with s (first_word links)) (filled_each slots (behind_word links))) (before (Some s) (filled_each slots links)) t
+      (cond-false (is_diff s) (before (link_with s (first_word links)) (filled_each slots (after_word links))) (before (Some s) (filled_each slots links)) t
       ∙ ap (λ u. before (Some s) (filled_each u links)) (sym (rest_is s slots)))
       (adds_before (Some s) (filled_each (rest_of (s ∷ slots)) links) s old pushed new result refl k a)
 
@@ -153,17 +153,17 @@ module _ {E : Type 0} where
   pub spell_none : (text word : List ℕ) (n : ℕ) (old new : List Edge) (result : Result (Unit {0}) E) →
       n ≡ position_or_len is_dash text → word ≡ take n text → None ≡ edge_of word → Adds (edges_spelled (slice_split is_dash text)) old new result
   spell_none text word n old new result i w o =
-      adds_same (edges_spelled (slice_split is_dash text)) (before (edge_of word) (edges_spelled (parts_behind (drop n text)))) old new result
+      adds_same (edges_spelled (slice_split is_dash text)) (before (edge_of word) (edges_spelled (parts_after (drop n text)))) old new result
       (spelled_parts text word (drop n text) n i w refl)
-      (adds_none (edge_of word) (edges_spelled (parts_behind (drop n text))) old new result (sym o))
+      (adds_none (edge_of word) (edges_spelled (parts_after (drop n text))) old new result (sym o))
 
   -- where there is no room, nothing has to be added
   pub spell_full : (text : List ℕ) (old new : List Edge) (result : Result (Unit {0}) E) → MAX_EDGES ≤ length old → Adds (edges_spelled (slice_split is_dash text)) old new result
   spell_full text old new result h =
       let n : ℕ = position_or_len is_dash text in
-      adds_same (edges_spelled (slice_split is_dash text)) (before (edge_of (take n text)) (edges_spelled (parts_behind (drop n text)))) old new result
+      adds_same (edges_spelled (slice_split is_dash text)) (before (edge_of (take n text)) (edges_spelled (parts_after (drop n text)))) old new result
       (spelled_parts text (take n text) (drop n text) n refl refl refl)
-      (adds_full (edge_of (take n text)) (edges_spelled (parts_behind (drop n text))) old new result h)
+      (adds_full (edge_of (take n text)) (edges_spelled (parts_after (drop n text))) old new result h)
 
 -- the link that is found is the one
 same_dir_is : (a b : Dir) → same_dir a b ≡ true → a ≡ b

@@ -160,5 +160,5 @@ text_at_each v e h t =
     (λ b. text_of_each v e h (not_plain v e h (λ t. let z : true ≡ false = sym t ∙ b in cc)) f)
 
 -- what the code finds of the places
-pub places_told : (place : ℕ) (e : Edge) (v : List Edge) (result value : Bool) → place ≡ word_place e → result ≡ list_all (is_at place) v → result ≡ value → list_all (is_at (word_place e)) v ≡ value
-places_told place e v result value p r t = ap (λ n. list_all (is_at n) v) (sym p) ∙ sym r ∙ t
+pub places_said : (place : ℕ) (e : Edge) (v : List Edge) (result value : Bool) → place ≡ word_place e → result ≡ list_all (is_at place) v → result ≡ value → list_all (is_at (word_place e)) v ≡ value
+places_said place e v result value p r t = ap (λ n. list_all (is_at n) v) (sym p) ∙ sym r ∙ t

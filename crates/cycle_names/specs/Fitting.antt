@@ -89,8 +89,8 @@ abbrev pub counted : List Edge → ℕ
 counted u = sum (map edge_count u)
 
 -- the family whose cycle has this count, if there is one
-unfoldable pub family_counted : ℕ → Option Family
-family_counted count = find (λ family. counted (family_edges family) == count) all_families
+unfoldable pub family_of_counts : ℕ → Option Family
+family_of_counts count = find (λ family. counted (family_edges family) == count) all_families
 
 -- the rotation from place k joins what these edges do
 abbrev pub joins_at : List Edge → List Edge → ℕ → Bool
@@ -117,7 +117,7 @@ comes_before u place named = ranks_below (rotated place (map word_place u)) (rot
 
 -- a list of edges may be of this family: it is no longer than a family's cycle may be, and has as many edges of each sort
 abbrev pub MayBeOf : List Edge → Family → Type 0
-MayBeOf u family = (length u ≤ LONGEST) × (family_counted (counted u) ≡ Some family)
+MayBeOf u family = (length u ≤ LONGEST) × (family_of_counts (counted u) ≡ Some family)
 
 -- a cycle is of this family, and named from the rotation from this place
 pub record IsNamedAt (u : List Edge) (family : Family) (place : ℕ) : Type 0 where

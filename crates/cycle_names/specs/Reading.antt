@@ -65,14 +65,14 @@ abbrev pub first_word : List ℕ → List ℕ
 first_word text = before_first is_plus (drop 1 text)
 
 -- the text from the next `+` on
-abbrev pub behind_word : List ℕ → List ℕ
-behind_word text = drop (length (first_word text)) (drop 1 text)
+abbrev pub after_word : List ℕ → List ℕ
+after_word text = drop (length (first_word text)) (drop 1 text)
 
 -- the edges of slots, the links with these words, each of which follows a `+`
 abbrev pub filled_each : List Edge → List ℕ → Option (List Edge)
 filled_each [] text = Some []
 filled_each (slot ∷ slots) text =
-    cond (is_diff slot) (before (link_with slot (first_word text)) (filled_each slots (behind_word text))) (before (Some slot) (filled_each slots text))
+    cond (is_diff slot) (before (link_with slot (first_word text)) (filled_each slots (after_word text))) (before (Some slot) (filled_each slots text))
 
 -- a text without its last byte
 abbrev pub but_last : List ℕ → List ℕ

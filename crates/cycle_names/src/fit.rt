@@ -7,7 +7,7 @@ ghost use Rattle.walk_laws.specs.Order.{ranks_below};
 ghost use Rattle.cycle_names.specs.Families.{family_edges};
 ghost use Rattle.cycle_names.specs.Links.{outline};
 ghost use Rattle.cycle_names.specs.Rotations.{all_plain, is_plain_outside, found_family};
-ghost use Rattle.cycle_names.specs.Fitting.{slot_edge, counted, family_counted, joins_at, JoinsNone, JoinsFirst, FitsFirst, IsNamedAt, word_place, twice, MayBeOf, comes_before};
+ghost use Rattle.cycle_names.specs.Fitting.{slot_edge, counted, family_of_counts, joins_at, JoinsNone, JoinsFirst, FitsFirst, IsNamedAt, word_place, twice, MayBeOf, comes_before};
 
 use crate::family::{Family, LONGEST};
 use crate::link::word_place;
@@ -66,25 +66,25 @@ fn likely_family(edges: &[Edge]) -> Option<Family>
     if edges.len() > LONGEST {
         return None;
     }
-    family_counted(counted(edges))
+    family_of_counts(edge_counts(edges))
 }
 
 /// How many links and external edges of each communication a list of edges has.
-fn counted(edges: &[Edge]) -> u16
+fn edge_counts(edges: &[Edge]) -> u16
     requires { length edges.now ≤ LONGEST }
     ensures value { result ≡ counted edges.now }
     ensures small { result ≤ 4096 * length edges.now }
 {
     match edges {
         [] => 0,
-        [edge, rest @ ..] => edge_count(*edge) + counted(rest),
+        [edge, rest @ ..] => edge_count(*edge) + edge_counts(rest),
     }
 }
 
 /// The family whose cycle has as many: the digits are its links, Ws, Fr and Rf.
-#[tactic(auto, unfolding(crate::specs::Fitting::family_counted))]
-fn family_counted(count: u16) -> Option<Family>
-    ensures { result ≡ family_counted count }
+#[tactic(auto, unfolding(crate::specs::Fitting::family_of_counts))]
+fn family_of_counts(count: u16) -> Option<Family>
+    ensures { result ≡ family_of_counts count }
 {
     match count {
         0o2020 => Some(Family::SB),
@@ -122,12 +122,12 @@ fn joins_at(edges: &[Edge], place: usize, slots: &[Slot]) -> bool
     requires { place ≤ length edges.now }
     ensures { result ≡ joins_at (map slot_edge slots.now) edges.now place }
 {
-    let (front, back) = edges.split_at(place);
+    let (prefix, back) = edges.split_at(place);
     if slots.len() != edges.len() {
         return false;
     }
     let (first, last) = slots.split_at(back.len());
-    join_as(back, first) && join_as(front, last)
+    join_as(back, first) && join_as(prefix, last)
 }
 
 /// Whether edges join what the slots do, each in its place.

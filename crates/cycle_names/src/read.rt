@@ -4,7 +4,7 @@ ghost use Rattle.std.specs.Str.{bytes_eq};
 ghost use Rattle.std.specs.Result.{result_ok};
 ghost use Rattle.cycle_names.specs.Families.{family_edges};
 ghost use Rattle.cycle_names.specs.Names.{name_of};
-ghost use Rattle.cycle_names.specs.Reading.{begins_with, named_family, is_link, link_with, first_mark, last_mark, marked_between, marked_along, marked_around, slot_with, first_word, behind_word, but_last, filled_alike, filled_each, filled, is_dash, edges_spelled, words_read, edges_read, Adds};
+ghost use Rattle.cycle_names.specs.Reading.{begins_with, named_family, is_link, link_with, first_mark, last_mark, marked_between, marked_along, marked_around, slot_with, first_word, after_word, but_last, filled_alike, filled_each, filled, is_dash, edges_spelled, words_read, edges_read, Adds};
 ghost use Rattle.cycle_names.specs.Laws.{are_of_arch, IsNamed, NamesNone};
 
 use crate::family::{FAMILIES, Family};
@@ -142,7 +142,7 @@ fn but_last(text: &[u8]) -> &[u8]
 {
     match text {
         [] => text,
-        [front @ .., _] => front,
+        [prefix @ .., _] => prefix,
     }
 }
 
@@ -183,7 +183,7 @@ fn fill_each(slots: &[Edge], links: &[u8], edges: &mut Edges) -> Result<(), NotA
 /// The word after the first byte of a text, up to the next `+`, and the text from there on.
 fn split_word(text: &[u8]) -> (&[u8], &[u8])
     ensures word { result.0.now ≡ first_word text.now }
-    ensures behind { result.1.now ≡ behind_word text.now }
+    ensures behind { result.1.now ≡ after_word text.now }
 {
     match text {
         [] => (text, text),
@@ -292,7 +292,7 @@ fn marked_between(from: Mark, edge: Edge, to: Mark) -> Result<Edge, NotAName>
     ensures { result_ok result ≡ marked_between from edge to }
 {
     if edge.is_external() {
-        Edge::marked(edge.kind(), from, to).ok_or(NotAName)
+        Edge::with_marks(edge.kind(), from, to).ok_or(NotAName)
     } else {
         Ok(edge)
     }

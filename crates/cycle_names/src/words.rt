@@ -110,7 +110,7 @@ pub(crate) fn push_words(edges: &[Edge], between: &str, name: &mut Name)
         [] => {}
         [edge, rest @ ..] => {
             push_word(*edge, name);
-            push_behind(rest, between, name);
+            push_separated(rest, between, name);
         }
     }
 }
@@ -126,7 +126,7 @@ fn push_word(edge: Edge, name: &mut Name)
 }
 
 /// Adds a byte and the word for each edge.
-fn push_behind(edges: &[Edge], between: &str, name: &mut Name)
+fn push_separated(edges: &[Edge], between: &str, name: &mut Name)
     requires one { length between.now ≡ 1 }
     requires room { length name.old.bytes + 15 * length edges.now ≤ MAX_NAME }
     ensures { name.new.bytes ≡ name.old.bytes ++ flat_map (λ edge. between.now ++ word_of edge) edges.now }
@@ -136,7 +136,7 @@ fn push_behind(edges: &[Edge], between: &str, name: &mut Name)
         [edge, rest @ ..] => {
             name.push_str(between);
             push_word(*edge, name);
-            push_behind(rest, between, name);
+            push_separated(rest, between, name);
         }
     }
 }
@@ -153,7 +153,7 @@ pub(crate) fn push_both(edges: &[Edge], name: &mut Name, words: &mut Name)
         [] => {}
         [edge, rest @ ..] => {
             push_word_twice(*edge, name, words);
-            push_both_behind(rest, name, words);
+            push_both_separated(rest, name, words);
         }
     }
 }
@@ -173,7 +173,7 @@ fn push_word_twice(edge: Edge, name: &mut Name, words: &mut Name)
 }
 
 /// Adds the word of each edge to both texts, after `-` in the one and after a blank in the other.
-fn push_both_behind(edges: &[Edge], name: &mut Name, words: &mut Name)
+fn push_both_separated(edges: &[Edge], name: &mut Name, words: &mut Name)
     requires name_room { length name.old.bytes + 15 * length edges.now ≤ MAX_NAME }
     requires words_room { length words.old.bytes + 15 * length edges.now ≤ MAX_NAME }
     ensures name { name.new.bytes ≡ name.old.bytes ++ flat_map (λ edge. codes "-" ++ word_of edge) edges.now }
@@ -185,7 +185,7 @@ fn push_both_behind(edges: &[Edge], name: &mut Name, words: &mut Name)
             name.push_str("-");
             words.push_str(" ");
             push_word_twice(*edge, name, words);
-            push_both_behind(rest, name, words);
+            push_both_separated(rest, name, words);
         }
     }
 }

@@ -2,7 +2,7 @@
 use Rattle.std.proofs.Common.{◌≡◌, ◌≤◌, ℕ, List, length, Some, refl, sym, ◌∙◌, ap, arith}
 use Rattle.std.specs.Prelude.{◌==◌}
 use Rattle.std.proofs.lemmas.List.Sums.{count_by-le-length}
-use Rattle.diy_io.specs.Sink.{Tally, tally_of, tally_kept, tally_after, line_feed_count, told_kept, told_after}
+use Rattle.diy_io.specs.Sink.{Tally, tally_of, tally_kept, tally_after, line_feed_count, shown_kept, shown_after}
 use Rattle.diy_io.specs.Wrote.{WroteAll, tally_seen}
 use Rattle.litmus_text.specs.declared.limits.TheConstants.{MAX_TEXT}
 
@@ -13,9 +13,9 @@ line_feeds_few text = count_by-le-length (λ byte. byte == 10) text
 -- a short text that is written to an empty tally is tallied whole
 pub tallied : (old new : Tally) (x text : List ℕ) → old ≡ record { bytes = 0; line_feeds = 0 } → WroteAll (tally_seen old) (tally_seen new) x → x ≡ text → length text ≤ MAX_TEXT
     → new ≡ tally_of (length text) (line_feed_count text)
-unfolding told_kept told_after
+unfolding shown_kept shown_after
 tallied old new x text none h is short =
-    let e : Some (tally_kept new) ≡ Some (tally_after (tally_kept old) x) = ap (λ told. told.tallied) h.grew in
+    let e : Some (tally_kept new) ≡ Some (tally_after (tally_kept old) x) = ap (λ shown. shown.tallied) h.grew in
     let f : tally_kept new ≡ tally_after (tally_kept old) x = cc in
     let g : tally_kept new ≡ tally_after (tally_kept (tally_of 0 0)) text = f ∙ ap (λ t. tally_after (tally_kept t) x) none ∙ ap (tally_after (tally_kept (tally_of 0 0))) is in
     let few = line_feeds_few text in

@@ -56,7 +56,7 @@ pub entry_added : (es made : List Entry) (files : List Named) (new : Entry) (nam
     → new.name.items ≡ name → new.bytes.items ≡ bytes → map entry_view made ≡ files ++ (name, bytes) ∷ []
 entry_added es made files new name bytes is e n b =
     ap (map entry_view) e ∙ map-append entry_view es (new ∷ [])
-    ∙ ap (λ front. front ++ entry_view new ∷ []) is ∙ ap (λ f. files ++ f ∷ []) (pair_is _ _ _ _ n b)
+    ∙ ap (λ prefix. prefix ++ entry_view new ∷ []) is ∙ ap (λ f. files ++ f ∷ []) (pair_is _ _ _ _ n b)
 
 -- the last file to come has no name and no bytes
 pub last_spare : (room : ℕ) (spare : List Entry) (n : ℕ) (d : Entry) (entry : Entry) → All (IsSpare room) spare → n < length spare → entry ≡ get_or spare n d → IsSpare room entry

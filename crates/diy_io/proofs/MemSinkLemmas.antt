@@ -8,6 +8,6 @@ pub took_all : (room : ℕ) (taken text : List ℕ) → length taken + length te
 took_all room taken text h = take_all room (taken ++ text) (omega (arith, length-append taken text))
 
 -- of another text what fits is kept
-pub took_front : (room n : ℕ) (taken text : List ℕ) → length taken + n ≡ room → take room (taken ++ text) ≡ taken ++ take n text
-took_front room n taken text h =
+pub took_prefix : (room n : ℕ) (taken text : List ℕ) → length taken + n ≡ room → take room (taken ++ text) ≡ taken ++ take n text
+took_prefix room n taken text h =
     subst (λ m. take m (taken ++ text) ≡ taken ++ take n text) h (take-append-add taken text n)

@@ -11,7 +11,7 @@ use Rattle.diy_io.specs.PageLaws.{page_fits, sent_nothing, sent_put, sent_flushe
 use Rattle.diy_io.specs.Pieces.{joined_text}
 use Rattle.diy_io.specs.Wrote.{SinkSeen, WroteAll, WrotePart, Wrote}
 use Rattle.diy_io.proofs.PiecesLemmas.{joined_text_more, joined_text_at}
-use Rattle.diy_io.proofs.MemSinkLemmas.{took_all, took_front}
+use Rattle.diy_io.proofs.MemSinkLemmas.{took_all, took_prefix}
 
 abbrev Answer : Type 0
 Answer = Result (Unit {0}) Failed
@@ -25,7 +25,7 @@ within_filled n k held [] bytes e h p = p ∙ ap (λ m. held ++ take m []) (none
 within_filled n k held (byte ∷ text) bytes e h p = either (cases_lt (n - length held) (length (byte ∷ text)))
   where
     either : (n - length held < length (byte ∷ text)) ⊎ (length (byte ∷ text) ≤ n - length held) → bytes ≡ take n (held ++ byte ∷ text)
-    either (inl more) = p ∙ sym (took_front n k held (byte ∷ text) (omega arith))
+    either (inl more) = p ∙ sym (took_prefix n k held (byte ∷ text) (omega arith))
     either (inr all) =
         p ∙ ap (λ t. held ++ t) (take_all k (byte ∷ text) (omega arith)) ∙ sym (took_all n held (byte ∷ text) (omega arith))
 
@@ -50,32 +50,32 @@ put_whole a held text page u e h = record { ok = subst (λ p. SentAll a held a p
 -- a text that filled the page, which was handed on
 pub filled_sent : (a b : SinkSeen) (held text page : List ℕ) → page ≡ page_after held text → length held + length text ≤ PAGE_ROOM → WroteAll a b page → SentAll a held b [] text
 filled_sent a b held text page e h w = record {
-  front = held ++ text;
+  prefix = held ++ text;
   parts = sym (append-nil (held ++ text));
   wrote = subst (WroteAll a b) (e ∙ page_fits held text h) w;
 }
 
 -- a text filled the page, and the sink failed: it took a prefix of what the page held and the text
-pub filled_unsent : (Q : Failed → Type 0) (a b : SinkSeen) (held front rest text page kept : List ℕ) (result : Answer) → page ≡ page_after held front → length held + length front ≤ PAGE_ROOM
-    → front ++ rest ≡ text → WrotePart a b page → IsErrAnd result Q → Sends a held b kept text result
-filled_unsent Q a b held front rest text page kept (Ok _) e h parts w is_err = absurd is_err
-filled_unsent Q a b held front rest text page kept (Err _) e h parts w is_err = record {
+pub filled_unsent : (Q : Failed → Type 0) (a b : SinkSeen) (held prefix rest text page kept : List ℕ) (result : Answer) → page ≡ page_after held prefix → length held + length prefix ≤ PAGE_ROOM
+    → prefix ++ rest ≡ text → WrotePart a b page → IsErrAnd result Q → Sends a held b kept text result
+filled_unsent Q a b held prefix rest text page kept (Ok _) e h parts w is_err = absurd is_err
+filled_unsent Q a b held prefix rest text page kept (Err _) e h parts w is_err = record {
   ok = tt;
-  failed = subst (λ t. WrotePart a b (held ++ t)) parts (sent_part_more a b held front rest (subst (WrotePart a b) (e ∙ page_fits held front h) w));
+  failed = subst (λ t. WrotePart a b (held ++ t)) parts (sent_part_more a b held prefix rest (subst (WrotePart a b) (e ∙ page_fits held prefix h) w));
 }
 
 -- a text filled the page, which was handed on, and then the rest of the text was sent
-pub filled_then : (a b c : SinkSeen) (held front rest text page mid kept : List ℕ) (result : Answer) → page ≡ page_after held front → length held + length front ≤ PAGE_ROOM
-    → front ++ rest ≡ text → WroteAll a b page → mid ≡ [] → Sends b mid c kept rest result → Sends a held c kept text result
-filled_then a b c held front rest text page mid kept result e h parts w none k =
-    sends_same a c held kept (front ++ rest) text result
-    (sends_then a b c held [] kept front rest tt result (record { ok = filled_sent a b held front page e h w; failed = tt })
+pub filled_then : (a b c : SinkSeen) (held prefix rest text page mid kept : List ℕ) (result : Answer) → page ≡ page_after held prefix → length held + length prefix ≤ PAGE_ROOM
+    → prefix ++ rest ≡ text → WroteAll a b page → mid ≡ [] → Sends b mid c kept rest result → Sends a held c kept text result
+filled_then a b c held prefix rest text page mid kept result e h parts w none k =
+    sends_same a c held kept (prefix ++ rest) text result
+    (sends_then a b c held [] kept prefix rest tt result (record { ok = filled_sent a b held prefix page e h w; failed = tt })
     (subst (λ m. Sends b m c kept rest result) none k)) parts
 
 -- a text that is written past an empty page
 pub past_page : (a b : SinkSeen) (held kept text : List ℕ) (result : Answer) → held ≡ [] → kept ≡ [] → Wrote a b text result → Sends a held b kept text result
 past_page a b held kept text (Ok _) e f w = record {
-  ok = record { front = text; parts = ap (λ t. t ++ text) e ∙ sym (append-nil text) ∙ ap (λ t. text ++ t) (sym f); wrote = w.ok };
+  ok = record { prefix = text; parts = ap (λ t. t ++ text) e ∙ sym (append-nil text) ∙ ap (λ t. text ++ t) (sym f); wrote = w.ok };
   failed = tt;
 }
 past_page a b held kept text (Err _) e f w = record { ok = tt; failed = subst (λ t. WrotePart a b (t ++ text)) (sym e) w.failed }

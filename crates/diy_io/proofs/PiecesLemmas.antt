@@ -26,4 +26,4 @@ joined_text_more pieces i d h = fold_more (λ text piece. text ++ piece.now) [] 
 pub joined_text_at : (pieces : List Piece) (i : ℕ) (d : Piece) → i < length pieces → joined_text pieces ≡ (joined_text (take i pieces) ++ (get_or pieces i d).now) ++ joined_text (drop (i + 1) pieces)
 joined_text_at pieces i d h =
     ap joined_text (sym (take-append-drop (i + 1) pieces)) ∙ joined_text-append (take (i + 1) pieces) (drop (i + 1) pieces)
-    ∙ ap (λ front. front ++ joined_text (drop (i + 1) pieces)) (joined_text_more pieces i d h)
+    ∙ ap (λ prefix. prefix ++ joined_text (drop (i + 1) pieces)) (joined_text_more pieces i d h)

@@ -63,8 +63,8 @@ misses old new name e idle held mode faults taken opened = record {
   counts = record { taken = taken; opened = opened };
 }
 
-front_of : (bytes : List ℕ) (at' n : ℕ) → drop at' bytes ≡ take n (drop at' bytes) ++ drop (at' + n) bytes
-front_of bytes at' n = sym (take-append-drop n (drop at' bytes)) ∙ ap (λ rest. take n (drop at' bytes) ++ rest) (drop-drop n at' bytes)
+prefix_of : (bytes : List ℕ) (at' n : ℕ) → drop at' bytes ≡ take n (drop at' bytes) ++ drop (at' + n) bytes
+prefix_of bytes at' n = sym (take-append-drop n (drop at' bytes)) ∙ ap (λ rest. take n (drop at' bytes) ++ rest) (drop-drop n at' bytes)
 
 given_length : (left bytes : List ℕ) (n room : ℕ) → n ≡ min room (length left) → bytes ≡ take n left → length bytes ≡ n
 given_length left bytes n room count is = ap length is ∙ length-take-le n left (omega arith)
@@ -90,7 +90,7 @@ gives old new file at' n room bytes was held mode faults taken opened count is =
           ∙ ap (Reading (name_read old.mode)) (sym left);
       consumed =
           subst FromOld (sym (ap left_to_read was))
-          (subst ToNew (sym left) (front_of whole at' n ∙ ap (λ front. front ++ drop (at' + n) whole) (sym is)));
+          (subst ToNew (sym left) (prefix_of whole at' n ∙ ap (λ prefix. prefix ++ drop (at' + n) whole) (sym is)));
       end = λ none some. subst IsAtEnd (sym left) (none_left whole at' n room count (omega arith) some);
       files = ap (λ h. Some (files_of h.files)) held;
       no_fault = faults;
@@ -224,7 +224,7 @@ pub stops_after : (old mid new : MemShelfState) (name bytes : List ℕ) (n : ℕ
     → mid.faults ≡ old.faults → mid.taken ≡ old.taken → mid.opened ≡ old.opened
     → Stopped (mem_shelf_seen mid) (mem_shelf_seen new) → AppendedPart (mem_shelf_seen old) (mem_shelf_seen new) name bytes
 stops_after old mid new name bytes n files faults taken opened stopped = record {
-  front = take n bytes;
+  prefix = take n bytes;
   rest = drop n bytes;
   parts = sym (take-append-drop n bytes);
   mode = stopped.mode;

@@ -8,36 +8,36 @@ use Rattle.diy_io.specs.StdSink.{AppendsPrefix}
 
 -- the bytes that a writer holds, where it shows them, grew by what comes in a text before its rest
 pub record TookBefore (old new : Option (List ℕ)) (text rest : List ℕ) : Type 0 where
-  pub front : List ℕ
-  pub parts : text ≡ front ++ rest
-  pub appends : Appends old new front
+  pub prefix : List ℕ
+  pub parts : text ≡ prefix ++ rest
+  pub appends : Appends old new prefix
 
 -- before the first write
 pub took_nothing : (a : Option (List ℕ)) (text : List ℕ) → TookBefore a a text text
-took_nothing a text = record { front = []; parts = refl; appends = Appends-nil a }
+took_nothing a text = record { prefix = []; parts = refl; appends = Appends-nil a }
 
 -- after a write of the first n bytes of the rest
 pub took_more : (a b c : Option (List ℕ)) (text rest : List ℕ) (n m : ℕ) → m ≡ length rest - n
     → TookBefore a b text rest → Appends b c (take n rest) → TookBefore a c text (take m (drop n rest))
 took_more a b c text rest n m e p q = record {
-  front = p.front ++ take n rest;
+  prefix = p.prefix ++ take n rest;
   parts =
-      p.parts ∙ ap (λ more. p.front ++ more) (sym (take-append-drop n rest)) ∙ sym (append_assoc p.front (take n rest) (drop n rest))
-      ∙ ap (λ more. (p.front ++ take n rest) ++ more) (sym (take_all m (drop n rest) (omega (arith, length-drop n rest))));
-  appends = Appends-trans a b c p.front (take n rest) p.appends q;
+      p.parts ∙ ap (λ more. p.prefix ++ more) (sym (take-append-drop n rest)) ∙ sym (append_assoc p.prefix (take n rest) (drop n rest))
+      ∙ ap (λ more. (p.prefix ++ take n rest) ++ more) (sym (take_all m (drop n rest) (omega (arith, length-drop n rest))));
+  appends = Appends-trans a b c p.prefix (take n rest) p.appends q;
 }
 
 -- after the last write
 pub took_all : (a b c : Option (List ℕ)) (text rest : List ℕ) → rest ≡ [] → TookBefore a b text rest → Keeps b c → Appends a c text
 took_all a b c text rest e p kept =
-    let whole : text ≡ p.front = p.parts ∙ ap (λ more. p.front ++ more) e ∙ append-nil p.front in
-    subst (Appends a c) (sym whole) (Appends-kept a b c p.front p.appends kept)
+    let whole : text ≡ p.prefix = p.parts ∙ ap (λ more. p.prefix ++ more) e ∙ append-nil p.prefix in
+    subst (Appends a c) (sym whole) (Appends-kept a b c p.prefix p.appends kept)
 
 -- where a write stopped
-pub took_front : (a b c : Option (List ℕ)) (text rest : List ℕ) → TookBefore a b text rest → Keeps b c → AppendsPrefix a c text
-took_front a b c text rest p kept = record {
-  front = p.front;
+pub took_prefix : (a b c : Option (List ℕ)) (text rest : List ℕ) → TookBefore a b text rest → Keeps b c → AppendsPrefix a c text
+took_prefix a b c text rest p kept = record {
+  prefix = p.prefix;
   rest = rest;
   parts = p.parts;
-  appends = Appends-kept a b c p.front p.appends kept;
+  appends = Appends-kept a b c p.prefix p.appends kept;
 }

@@ -3,11 +3,11 @@ use Rattle.std.proofs.Common.{◌≡◌, ℕ, ◌<◌, ◌≤◌, List, [], ◌+
 use Rattle.std.proofs.lemmas.List.{take-append-drop, take-append-le, take-take, length-take-le, drop_all}
 
 -- what is given of what was left, and what is left then
-pub gives_front : (left rest : List ℕ) (n : ℕ) → n ≤ length left → left ≡ take n (take n left ++ rest) ++ drop n left
-gives_front left rest n h =
-    let front : take n (take n left ++ rest) ≡ take n left =
+pub gives_prefix : (left rest : List ℕ) (n : ℕ) → n ≤ length left → left ≡ take n (take n left ++ rest) ++ drop n left
+gives_prefix left rest n h =
+    let prefix : take n (take n left ++ rest) ≡ take n left =
     take-append-le n (take n left) rest (omega (arith, length-take-le n left h)) ∙ take-take n n left (omega arith) in
-    sym (ap (λ bytes. bytes ++ drop n left) front ∙ take-append-drop n left)
+    sym (ap (λ bytes. bytes ++ drop n left) prefix ∙ take-append-drop n left)
 
 -- nothing is given only at the end or to an empty buffer
 pub gives_none : (left : List ℕ) (piece n len : ℕ) → 1 ≤ piece → n ≡ min (min len piece) (length left) → n ≡ 0 → 0 < len → drop n left ≡ []

@@ -1,7 +1,7 @@
 -- A sink in memory, of bounded room.
 use Rattle.std.specs.Prelude.{ℕ, ◌+◌, List, ◌++◌, length, take, nat_le, if◌then◌else◌}
 use Rattle.diy_io.specs.Count.{next_count}
-use Rattle.diy_io.specs.Sink.{written_told}
+use Rattle.diy_io.specs.Sink.{shown_bytes}
 use Rattle.diy_io.specs.Wrote.{SinkSeen}
 
 -- how many bytes it takes in all, those that it has taken, and how many writes failed
@@ -20,4 +20,4 @@ mem_sink_after sink text = record {
 
 -- it shows the bytes that it has taken
 abbrev pub mem_sink_seen : MemSinkState → SinkSeen
-mem_sink_seen sink = record { told = written_told sink.bytes; faults = sink.faults }
+mem_sink_seen sink = record { shown = shown_bytes sink.bytes; faults = sink.faults }

@@ -16,9 +16,9 @@ page_after page text = put_within PAGE_ROOM page text
 
 -- what a page held and then a text went to a sink, but for what the page holds now, with no fault
 pub record SentAll (old : SinkSeen) (held : List ℕ) (new : SinkSeen) (kept text : List ℕ) : Type 0 where
-  pub front : List ℕ
-  pub parts : held ++ text ≡ front ++ kept
-  pub wrote : WroteAll old new front
+  pub prefix : List ℕ
+  pub parts : held ++ text ≡ prefix ++ kept
+  pub wrote : WroteAll old new prefix
 
 -- the whole was sent where the sending succeeded; where it failed, the sink took a prefix of what the page held and then the text
 pub record Sends (old : SinkSeen) (held : List ℕ) (new : SinkSeen) (kept text : List ℕ) (result : Result (Unit {0}) Failed) : Type 0 where

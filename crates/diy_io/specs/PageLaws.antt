@@ -48,32 +48,32 @@ page_more page x y = within_more PAGE_ROOM page x y
 
 -- nothing is sent
 pub sent_nothing : (a : SinkSeen) (held : List ℕ) → SentAll a held a held []
-sent_nothing a held = record { front = []; parts = append-nil held; wrote = nothing_wrote a }
+sent_nothing a held = record { prefix = []; parts = append-nil held; wrote = nothing_wrote a }
 
 -- a text that the page takes whole
 pub sent_put : (a : SinkSeen) (held text : List ℕ) → length held + length text ≤ PAGE_ROOM → SentAll a held a (page_after held text) text
-sent_put a held text h = record { front = []; parts = sym (page_fits held text h); wrote = nothing_wrote a }
+sent_put a held text h = record { prefix = []; parts = sym (page_fits held text h); wrote = nothing_wrote a }
 
 -- what the page held is written
 pub sent_flushed : (a b : SinkSeen) (held : List ℕ) → WroteAll a b held → SentAll a held b [] []
-sent_flushed a b held h = record { front = held; parts = refl; wrote = h }
+sent_flushed a b held h = record { prefix = held; parts = refl; wrote = h }
 
 -- a text and then another
 pub sent_both : (a b c : SinkSeen) (held mid kept x y : List ℕ) → SentAll a held b mid x → SentAll b mid c kept y → SentAll a held c kept (x ++ y)
 sent_both a b c held mid kept x y h k = record {
-  front = h.front ++ k.front;
+  prefix = h.prefix ++ k.prefix;
   parts =
-      sym (append_assoc held x y) ∙ ap (λ t. t ++ y) h.parts ∙ append_assoc h.front mid y ∙ ap (λ t. h.front ++ t) k.parts
-      ∙ sym (append_assoc h.front k.front kept);
-  wrote = all_then_all a b c h.front k.front h.wrote k.wrote;
+      sym (append_assoc held x y) ∙ ap (λ t. t ++ y) h.parts ∙ append_assoc h.prefix mid y ∙ ap (λ t. h.prefix ++ t) k.parts
+      ∙ sym (append_assoc h.prefix k.prefix kept);
+  wrote = all_then_all a b c h.prefix k.prefix h.wrote k.wrote;
 }
 
 -- a text, and then a prefix of what the page holds and another
 pub sent_part : (a b c : SinkSeen) (held mid x y : List ℕ) → SentAll a held b mid x → WrotePart b c (mid ++ y) → WrotePart a c (held ++ (x ++ y))
 sent_part a b c held mid x y h k =
-    let whole : h.front ++ (mid ++ y) ≡ held ++ (x ++ y) =
-    sym (append_assoc h.front mid y) ∙ ap (λ t. t ++ y) (sym h.parts) ∙ append_assoc held x y in
-    subst (WrotePart a c) whole (all_then_part a b c h.front (mid ++ y) h.wrote k)
+    let whole : h.prefix ++ (mid ++ y) ≡ held ++ (x ++ y) =
+    sym (append_assoc h.prefix mid y) ∙ ap (λ t. t ++ y) (sym h.parts) ∙ append_assoc held x y in
+    subst (WrotePart a c) whole (all_then_part a b c h.prefix (mid ++ y) h.wrote k)
 
 -- a prefix of a text is one of that text and more
 pub sent_part_more : (a b : SinkSeen) (held x y : List ℕ) → WrotePart a b (held ++ x) → WrotePart a b (held ++ (x ++ y))
@@ -127,8 +127,8 @@ each_unsent f a b c held mid xs i d h p q =
 
 -- a text that was sent from an empty page is written once the page is handed on
 pub sent_wrote : (a b c : SinkSeen) (kept text : List ℕ) (result : Answer) → SentAll a [] b kept text → Wrote b c kept result → Wrote a c text result
-sent_wrote a b c kept text (Ok _) h k = record { ok = subst (WroteAll a c) (sym h.parts) (all_then_all a b c h.front kept h.wrote k.ok); failed = tt }
-sent_wrote a b c kept text (Err _) h k = record { ok = tt; failed = subst (WrotePart a c) (sym h.parts) (all_then_part a b c h.front kept h.wrote k.failed) }
+sent_wrote a b c kept text (Ok _) h k = record { ok = subst (WroteAll a c) (sym h.parts) (all_then_all a b c h.prefix kept h.wrote k.ok); failed = tt }
+sent_wrote a b c kept text (Err _) h k = record { ok = tt; failed = subst (WrotePart a c) (sym h.parts) (all_then_part a b c h.prefix kept h.wrote k.failed) }
 
 -- and is written in part where it was sent in part
 pub unsent_wrote : (Q : Failed → Type 0) (a b : SinkSeen) (kept text : List ℕ) (e : Failed) (result : Answer)

@@ -134,11 +134,11 @@ pub record Appended (old new : ShelfSeen) (name bytes : List ℕ) : Type 0 where
 
 -- a file grew by a prefix of the bytes, and then the shelf failed
 pub record AppendedPart (old new : ShelfSeen) (name bytes : List ℕ) : Type 0 where
-  pub front : List ℕ
+  pub prefix : List ℕ
   pub rest : List ℕ
-  pub parts : bytes ≡ front ++ rest
+  pub parts : bytes ≡ prefix ++ rest
   pub mode : new.mode ≡ Idle
-  pub files : new.files ≡ option_map (with_more name front) old.files
+  pub files : new.files ≡ option_map (with_more name prefix) old.files
   pub counts : CountsStay old new
   pub faulted : Faulted old new
 

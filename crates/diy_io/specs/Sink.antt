@@ -9,7 +9,7 @@ pub record Tally : Type 0 where
   pub line_feeds : ℕ
 
 -- all bytes that a sink has taken, where it shows them, and their tally, where it shows it
-pub record Told : Type 0 where
+pub record Shown : Type 0 where
   pub written : Option (List ℕ)
   pub tallied : Option Tally
 
@@ -31,39 +31,39 @@ tally_after tally text =
     tally_of (count_of (tally.bytes + length text)) (count_of (tally.line_feeds + line_feed_count text))
 
 -- what is shown, with the tally as it is kept
-unfoldable pub told_kept : Told → Told
-told_kept told = record { written = told.written; tallied = option_map tally_kept told.tallied }
+unfoldable pub shown_kept : Shown → Shown
+shown_kept shown = record { written = shown.written; tallied = option_map tally_kept shown.tallied }
 
 -- what is shown after one more text
-unfoldable pub told_after : Told → List ℕ → Told
-told_after told text = record {
-  written = option_map (λ taken. taken ++ text) told.written;
-  tallied = option_map (λ tally. tally_after tally text) told.tallied;
+unfoldable pub shown_after : Shown → List ℕ → Shown
+shown_after shown text = record {
+  written = option_map (λ taken. taken ++ text) shown.written;
+  tallied = option_map (λ tally. tally_after tally text) shown.tallied;
 }
 
 -- what a sink shows is what it was before and then a text
-abbrev pub Grew : Told → Told → List ℕ → Type 0
-Grew old new text = told_kept new ≡ told_after (told_kept old) text
+abbrev pub Grew : Shown → Shown → List ℕ → Type 0
+Grew old new text = shown_kept new ≡ shown_after (shown_kept old) text
 
 -- a state is another one and then a prefix of a text
-pub record EndsWithin (old new : Told) (text : List ℕ) : Type 0 where
-  pub front : List ℕ
+pub record EndsWithin (old new : Shown) (text : List ℕ) : Type 0 where
+  pub prefix : List ℕ
   pub rest : List ℕ
-  pub parts : text ≡ front ++ rest
-  pub grew : new ≡ told_after old front
+  pub parts : text ≡ prefix ++ rest
+  pub grew : new ≡ shown_after old prefix
 
 -- what a sink shows is what it was before and then a prefix of a text
-abbrev pub GrewByPrefix : Told → Told → List ℕ → Type 0
-GrewByPrefix old new text = EndsWithin (told_kept old) (told_kept new) text
+abbrev pub GrewByPrefix : Shown → Shown → List ℕ → Type 0
+GrewByPrefix old new text = EndsWithin (shown_kept old) (shown_kept new) text
 
 -- a sink that shows its bytes alone
-abbrev pub written_told : List ℕ → Told
-written_told taken = record { written = Some taken; tallied = None }
+abbrev pub shown_bytes : List ℕ → Shown
+shown_bytes taken = record { written = Some taken; tallied = None }
 
 -- a sink that shows a tally alone
-abbrev pub tally_told : Tally → Told
-tally_told tally = record { written = None; tallied = Some tally }
+abbrev pub shown_tally : Tally → Shown
+shown_tally tally = record { written = None; tallied = Some tally }
 
 -- a sink that shows nothing
-abbrev pub nothing_told : Told
-nothing_told = record { written = None; tallied = None }
+abbrev pub shown_nothing : Shown
+shown_nothing = record { written = None; tallied = None }

@@ -7,7 +7,7 @@ use Rattle.std.proofs.lemmas.List.Concat.{flat_map-append}
 use Rattle.std.proofs.lemmas.List.Sums.{sum_by-append}
 use Rattle.std.specs.List.{flat_map}
 use Rattle.diy_io.specs.Count.{count_of}
-use Rattle.diy_io.specs.Sink.{Tally, Told, line_feed_count, tally_of, tally_kept, tally_after, told_kept, told_after, Grew, EndsWithin, GrewByPrefix, written_told, tally_told, nothing_told}
+use Rattle.diy_io.specs.Sink.{Tally, Shown, line_feed_count, tally_of, tally_kept, tally_after, shown_kept, shown_after, Grew, EndsWithin, GrewByPrefix, shown_bytes, shown_tally, shown_nothing}
 
 line_feed_count-append : (xs ys : List ℕ) → line_feed_count (xs ++ ys) ≡ line_feed_count xs + line_feed_count ys
 line_feed_count-append xs ys = sum_by-append (λ byte. cond (byte == 10) 1 0) xs ys
@@ -58,48 +58,48 @@ tallied_nothing None = refl
 tallied_nothing (Some t) = ap Some (tally_nothing t)
 
 -- a text and then another is both
-pub told_after_both : (a : Told) (x y : List ℕ) → told_after (told_after a x) y ≡ told_after a (x ++ y)
-unfolding told_after
-told_after_both a x y = rw (written_both a.written x y, tallied_both a.tallied x y)
+pub shown_after_both : (a : Shown) (x y : List ℕ) → shown_after (shown_after a x) y ≡ shown_after a (x ++ y)
+unfolding shown_after
+shown_after_both a x y = rw (written_both a.written x y, tallied_both a.tallied x y)
 
 -- nothing more
-pub told_after_nothing : (a : Told) → told_after (told_kept a) [] ≡ told_kept a
-unfolding told_after told_kept
-told_after_nothing a = rw (written_nothing a.written, tallied_nothing a.tallied)
+pub shown_after_nothing : (a : Shown) → shown_after (shown_kept a) [] ≡ shown_kept a
+unfolding shown_after shown_kept
+shown_after_nothing a = rw (written_nothing a.written, tallied_nothing a.tallied)
 
 -- growth by nothing
-pub grew_nothing : (a : Told) → Grew a a []
-grew_nothing a = sym (told_after_nothing a)
+pub grew_nothing : (a : Shown) → Grew a a []
+grew_nothing a = sym (shown_after_nothing a)
 
 -- growth by a text and then by another is growth by both
-pub grew_both : (a b c : Told) (x y : List ℕ) → Grew a b x → Grew b c y → Grew a c (x ++ y)
-grew_both a b c x y p q = q ∙ ap (λ t. told_after t y) p ∙ told_after_both (told_kept a) x y
+pub grew_both : (a b c : Shown) (x y : List ℕ) → Grew a b x → Grew b c y → Grew a c (x ++ y)
+grew_both a b c x y p q = q ∙ ap (λ t. shown_after t y) p ∙ shown_after_both (shown_kept a) x y
 
 -- a prefix of what comes after a text gives a prefix of both
-pub within_after : (s u : Told) (x y : List ℕ) → EndsWithin (told_after s x) u y → EndsWithin s u (x ++ y)
+pub within_after : (s u : Shown) (x y : List ℕ) → EndsWithin (shown_after s x) u y → EndsWithin s u (x ++ y)
 within_after s u x y p = record {
-  front = x ++ p.front;
+  prefix = x ++ p.prefix;
   rest = p.rest;
-  parts = ap (λ text. x ++ text) p.parts ∙ sym (append_assoc x p.front p.rest);
-  grew = p.grew ∙ told_after_both s x p.front;
+  parts = ap (λ text. x ++ text) p.parts ∙ sym (append_assoc x p.prefix p.rest);
+  grew = p.grew ∙ shown_after_both s x p.prefix;
 }
 
 -- a prefix of a text is a prefix of that text and more
-pub within_more : (s u : Told) (x y : List ℕ) → EndsWithin s u x → EndsWithin s u (x ++ y)
+pub within_more : (s u : Shown) (x y : List ℕ) → EndsWithin s u x → EndsWithin s u (x ++ y)
 within_more s u x y p = record {
-  front = p.front;
+  prefix = p.prefix;
   rest = p.rest ++ y;
-  parts = ap (λ text. text ++ y) p.parts ∙ append_assoc p.front p.rest y;
+  parts = ap (λ text. text ++ y) p.parts ∙ append_assoc p.prefix p.rest y;
   grew = p.grew;
 }
 
 -- nothing is a prefix of any text
-pub prefix_nothing : (a : Told) (x : List ℕ) → GrewByPrefix a a x
-prefix_nothing a x = record { front = []; rest = x; parts = refl; grew = grew_nothing a }
+pub prefix_nothing : (a : Shown) (x : List ℕ) → GrewByPrefix a a x
+prefix_nothing a x = record { prefix = []; rest = x; parts = refl; grew = grew_nothing a }
 
 -- growth by a text and then by a prefix of another is growth by a prefix of both
-pub prefix_after : (a b c : Told) (x y : List ℕ) → Grew a b x → GrewByPrefix b c y → GrewByPrefix a c (x ++ y)
-prefix_after a b c x y p q = within_after (told_kept a) (told_kept c) x y (subst (λ s. EndsWithin s (told_kept c) y) p q)
+pub prefix_after : (a b c : Shown) (x y : List ℕ) → Grew a b x → GrewByPrefix b c y → GrewByPrefix a c (x ++ y)
+prefix_after a b c x y p q = within_after (shown_kept a) (shown_kept c) x y (subst (λ s. EndsWithin s (shown_kept c) y) p q)
 
 -- the text of the elements up to one more is that of the elements before it and its own
 pub flat_map_more : {X : Type 0} (f : X → List ℕ) (xs : List X) (i : ℕ) (d : X) → i < length xs → flat_map f (take (i + 1) xs) ≡ flat_map f (take i xs) ++ f (get_or xs i d)
@@ -110,36 +110,36 @@ flat_map_more f xs i d h =
 pub flat_map_at : {X : Type 0} (f : X → List ℕ) (xs : List X) (i : ℕ) (d : X) → i < length xs → flat_map f xs ≡ (flat_map f (take i xs) ++ f (get_or xs i d)) ++ flat_map f (drop (i + 1) xs)
 flat_map_at f xs i d h =
     ap (flat_map f) (sym (take-append-drop (i + 1) xs)) ∙ flat_map-append f (take (i + 1) xs) (drop (i + 1) xs)
-    ∙ ap (λ front. front ++ flat_map f (drop (i + 1) xs)) (flat_map_more f xs i d h)
+    ∙ ap (λ prefix. prefix ++ flat_map f (drop (i + 1) xs)) (flat_map_more f xs i d h)
 
 -- a sink that shows its bytes grew by a text where that comes after them
-pub written_grew : (taken text : List ℕ) → Grew (written_told taken) (written_told (taken ++ text)) text
-unfolding told_after told_kept
+pub written_grew : (taken text : List ℕ) → Grew (shown_bytes taken) (shown_bytes (taken ++ text)) text
+unfolding shown_after shown_kept
 written_grew taken text = refl
 
 -- a sink that shows its bytes grew by a prefix of a text where that prefix comes after them
-pub written_stopped : (taken text : List ℕ) (n : ℕ) → GrewByPrefix (written_told taken) (written_told (taken ++ take n text)) text
+pub written_stopped : (taken text : List ℕ) (n : ℕ) → GrewByPrefix (shown_bytes taken) (shown_bytes (taken ++ take n text)) text
 written_stopped taken text n = record {
-  front = take n text;
+  prefix = take n text;
   rest = drop n text;
   parts = sym (take-append-drop n text);
   grew = written_grew taken (take n text);
 }
 
 -- a sink that shows a tally grew by a text where that is tallied
-pub tally_grew : (tally : Tally) (text : List ℕ) → Grew (tally_told tally) (tally_told (tally_after tally text)) text
-unfolding told_after told_kept
+pub tally_grew : (tally : Tally) (text : List ℕ) → Grew (shown_tally tally) (shown_tally (tally_after tally text)) text
+unfolding shown_after shown_kept
 tally_grew tally text =
-    ap tally_told (tally_kept_after tally text ∙ sym (tally_after_kept tally text))
+    ap shown_tally (tally_kept_after tally text ∙ sym (tally_after_kept tally text))
 
 -- a sink that shows nothing grew by any text
-pub nothing_grew : (text : List ℕ) → Grew nothing_told nothing_told text
-unfolding told_after told_kept
+pub nothing_grew : (text : List ℕ) → Grew shown_nothing shown_nothing text
+unfolding shown_after shown_kept
 nothing_grew text = refl
 
 -- and by a prefix of any text
-pub nothing_stopped : (text : List ℕ) → GrewByPrefix nothing_told nothing_told text
-nothing_stopped text = prefix_nothing nothing_told text
+pub nothing_stopped : (text : List ℕ) → GrewByPrefix shown_nothing shown_nothing text
+nothing_stopped text = prefix_nothing shown_nothing text
 
 -- what holds anyway holds where a call fails
 pub on_err : {A E P : Type 0} (r : Result A E) → P → OnErr r P

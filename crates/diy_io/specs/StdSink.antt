@@ -1,7 +1,7 @@
 -- A sink over a writer of the standard library.
 use Rattle.std.specs.Prelude.{ℕ, List, ◌++◌, ◌≡◌, Option}
 use Rattle.std.specs.Io.KnownBytes.{Appends}
-use Rattle.diy_io.specs.Sink.{nothing_told}
+use Rattle.diy_io.specs.Sink.{shown_nothing}
 use Rattle.diy_io.specs.Wrote.{SinkSeen}
 use Rattle.diy_io.specs.declared.std_sink.StdSink.{StdSink}
 
@@ -15,11 +15,11 @@ std_sink_faults sink = sink.faults
 
 -- it shows nothing of its bytes
 abbrev pub std_sink_seen : {W : Type 0} → StdSink W → SinkSeen
-std_sink_seen sink = record { told = nothing_told; faults = sink.faults }
+std_sink_seen sink = record { shown = shown_nothing; faults = sink.faults }
 
 -- the bytes that a writer holds, where it shows them, grew by a prefix of a text
 pub record AppendsPrefix (old new : Option (List ℕ)) (text : List ℕ) : Type 0 where
-  pub front : List ℕ
+  pub prefix : List ℕ
   pub rest : List ℕ
-  pub parts : text ≡ front ++ rest
-  pub appends : Appends old new front
+  pub parts : text ≡ prefix ++ rest
+  pub appends : Appends old new prefix

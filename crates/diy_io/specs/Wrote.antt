@@ -2,25 +2,25 @@
 use Rattle.std.specs.Prelude.{◌≡◌, ◌≤◌, ℕ, List, Result, OnOk, OnErr}
 use Rattle.diy_io.specs.declared.errors.Failed.{Failed}
 use Rattle.diy_io.specs.Count.{Rose}
-use Rattle.diy_io.specs.Sink.{Tally, Told, Grew, GrewByPrefix, tally_told}
+use Rattle.diy_io.specs.Sink.{Tally, Shown, Grew, GrewByPrefix, shown_tally}
 
 -- what a sink shows, and its count of faults
 pub record SinkSeen : Type 0 where
-  pub told : Told
+  pub shown : Shown
   pub faults : ℕ
 
 -- a sink that shows a tally alone and never fails
 abbrev pub tally_seen : Tally → SinkSeen
-tally_seen tally = record { told = tally_told tally; faults = 0 }
+tally_seen tally = record { shown = shown_tally tally; faults = 0 }
 
 -- a sink grew by the whole text, without a fault
 pub record WroteAll (old new : SinkSeen) (text : List ℕ) : Type 0 where
-  pub grew : Grew old.told new.told text
+  pub grew : Grew old.shown new.shown text
   pub no_fault : new.faults ≡ old.faults
 
 -- a sink failed and grew by a prefix of the text
 pub record WrotePart (old new : SinkSeen) (text : List ℕ) : Type 0 where
-  pub grew : GrewByPrefix old.told new.told text
+  pub grew : GrewByPrefix old.shown new.shown text
   pub fault : Rose old.faults new.faults
   pub never_falls : old.faults ≤ new.faults
 

@@ -3,7 +3,7 @@ use Rattle.std.proofs.Common.{◌≡◌, ◌≤◌, ℕ, List, [], ◌++◌, Ok,
 use Rattle.std.specs.Prelude.{Result}
 use Rattle.diy_io.specs.declared.errors.Failed.{Failed}
 use Rattle.diy_io.specs.Count.{Rose}
-use Rattle.diy_io.specs.Sink.{told_kept}
+use Rattle.diy_io.specs.Sink.{shown_kept}
 use Rattle.diy_io.specs.SinkLaws.{grew_nothing, grew_both, prefix_after, within_more}
 use Rattle.diy_io.specs.Wrote.{SinkSeen, WroteAll, WrotePart, Wrote}
 
@@ -12,7 +12,7 @@ Answer = Result (Unit {0}) Failed
 
 -- nothing is written
 pub nothing_wrote : (a : SinkSeen) → WroteAll a a []
-nothing_wrote a = record { grew = grew_nothing a.told; no_fault = refl }
+nothing_wrote a = record { grew = grew_nothing a.shown; no_fault = refl }
 
 -- an empty text is written without any write
 pub wrote_nothing : (a : SinkSeen) (text : List ℕ) → [] ≡ text → Wrote a a text (Ok tt)
@@ -21,14 +21,14 @@ wrote_nothing a text e = record { ok = subst (WroteAll a a) e (nothing_wrote a);
 -- a whole text, and then another
 pub all_then_all : (a b c : SinkSeen) (x y : List ℕ) → WroteAll a b x → WroteAll b c y → WroteAll a c (x ++ y)
 all_then_all a b c x y h k = record {
-  grew = grew_both a.told b.told c.told x y h.grew k.grew;
+  grew = grew_both a.shown b.shown c.shown x y h.grew k.grew;
   no_fault = k.no_fault ∙ h.no_fault;
 }
 
 -- a whole text, and then a prefix of another
 pub all_then_part : (a b c : SinkSeen) (x y : List ℕ) → WroteAll a b x → WrotePart b c y → WrotePart a c (x ++ y)
 all_then_part a b c x y h k = record {
-  grew = prefix_after a.told b.told c.told x y h.grew k.grew;
+  grew = prefix_after a.shown b.shown c.shown x y h.grew k.grew;
   fault = subst (λ m. Rose m c.faults) h.no_fault k.fault;
   never_falls = subst (λ m. m ≤ c.faults) h.no_fault k.never_falls;
 }
@@ -36,7 +36,7 @@ all_then_part a b c x y h k = record {
 -- a prefix of a text is a prefix of that text and more
 pub part_more : (a b : SinkSeen) (x y : List ℕ) → WrotePart a b x → WrotePart a b (x ++ y)
 part_more a b x y h = record {
-  grew = within_more (told_kept a.told) (told_kept b.told) x y h.grew;
+  grew = within_more (shown_kept a.shown) (shown_kept b.shown) x y h.grew;
   fault = h.fault;
   never_falls = h.never_falls;
 }

@@ -45,7 +45,7 @@ impl MemSink {
     }
 }
 
-#[tactic(auto, using(crate::proofs::MemSinkLemmas::took_all, crate::proofs::MemSinkLemmas::took_front, crate::specs::SinkLaws::written_grew, crate::specs::SinkLaws::written_stopped))]
+#[tactic(auto, using(crate::proofs::MemSinkLemmas::took_all, crate::proofs::MemSinkLemmas::took_prefix, crate::specs::SinkLaws::written_grew, crate::specs::SinkLaws::written_stopped))]
 impl Sink for MemSink {
     ghost seen = { mem_sink_seen };
 

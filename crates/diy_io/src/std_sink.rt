@@ -48,7 +48,7 @@ impl<W: Write> Sink for StdSink<W> {
 
     ghost seen = { std_sink_seen };
 
-    #[tactic(auto, using(crate::specs::SinkLaws::nothing_grew, crate::specs::SinkLaws::nothing_stopped, crate::proofs::StdSinkLemmas::took_more, crate::proofs::StdSinkLemmas::took_all, crate::proofs::StdSinkLemmas::took_front))]
+    #[tactic(auto, using(crate::specs::SinkLaws::nothing_grew, crate::specs::SinkLaws::nothing_stopped, crate::proofs::StdSinkLemmas::took_more, crate::proofs::StdSinkLemmas::took_all, crate::proofs::StdSinkLemmas::took_prefix))]
     fn write_all(&mut self, bytes: &[u8]) -> Result<(), Failed>
         ensures wrote { Wrote (std_sink_seen self.old) (std_sink_seen self.new) bytes.now result }
 

@@ -53,7 +53,7 @@ impl SureSource {
     }
 }
 
-#[tactic(auto, using(crate::proofs::SureSourceLemmas::gives_front, crate::proofs::SureSourceLemmas::gives_none))]
+#[tactic(auto, using(crate::proofs::SureSourceLemmas::gives_prefix, crate::proofs::SureSourceLemmas::gives_none))]
 impl Source for SureSource {
     ghost seen = { sure_source_seen };
 

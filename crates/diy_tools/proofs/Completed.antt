@@ -41,7 +41,7 @@ use Rattle.diy_words.specs.Requests.{AsksTest, AsksWhy, WhyAsked, AsksName, Asks
 use Rattle.listed_tests.specs.declared.ending.ListingEnd.{ListingEnd}
 use Rattle.listed_tests.specs.declared.ending.ListingEnd.TheVariants as listings
 use Rattle.log_sum.specs.declared.errors.LogError.{LogError}
-use Rattle.log_sum.specs.Standing.{logs_text}
+use Rattle.log_sum.specs.Representing.{logs_text}
 use Rattle.summed_logs.specs.declared.sum_end.SumEnd.{SumEnd}
 use Rattle.summed_logs.specs.declared.sum_end.SumEnd.TheVariants as sums
 use Rattle.summed_logs.specs.Logs.{IsText, IsShort, IsTooMuch, AreRight}
@@ -78,9 +78,9 @@ whole_can (Some all) None text h = absurd h
 whole_can (Some all) (Some left) text h = h
 
 -- what holds of all holds of one among them
-all_at : {X : Type 0} (test : X → Bool) (before : List X) (x : X) (behind : List X) → list_all test (before ++ x ∷ behind) ≡ true → test x ≡ true
-all_at test [] x behind h = (and_parts (test x) (list_all test behind) h).0
-all_at test (b ∷ before) x behind h = all_at test before x behind (and_parts (test b) (list_all test (before ++ x ∷ behind)) h).1
+all_at : {X : Type 0} (test : X → Bool) (before : List X) (x : X) (later : List X) → list_all test (before ++ x ∷ later) ≡ true → test x ≡ true
+all_at test [] x later h = (and_parts (test x) (list_all test later) h).0
+all_at test (b ∷ before) x later h = all_at test before x later (and_parts (test b) (list_all test (before ++ x ∷ later)) h).1
 
 -- a line without a fault has none
 no_fault : {X : Type 0} (said : Result X LineKind) (kind : LineKind) → is_ok said ≡ true → result_err said ≡ Some kind → ⊥
@@ -92,9 +92,9 @@ sound_fault : (arch : ArchName) (old new : SourceSeen) (cycles : List (List Edge
     → OfItsText old.left (IsSoundText arch) → ReadToFault arch old new cycles line kind → ⊥
 sound_fault arch old new cycles line kind sound h =
     let whole = sound (whole_of h.text new) (whole_can old.left new.left h.text h.took.consumed) in
-    let all : list_all (is_sound arch) (h.before ++ h.first.line ∷ h.first.behind) ≡ true =
+    let all : list_all (is_sound arch) (h.before ++ h.first.line ∷ h.first.later) ≡ true =
     subst (λ (ls : List (List ℕ)). list_all (is_sound arch) ls ≡ true) h.first.parts whole.sound in
-    no_fault (line_said arch h.first.line) kind (all_at (is_sound arch) h.before h.first.line h.first.behind all) h.first.fault
+    no_fault (line_said arch h.first.line) kind (all_at (is_sound arch) h.before h.first.line h.first.later all) h.first.fault
 
 sound_limit : (arch : ArchName) (old new : SourceSeen) (cycles : List (List Edge)) (line : ℕ)
     → OfItsText old.left (IsSoundText arch) → ReadToLimit arch old new cycles line → ⊥
@@ -185,8 +185,8 @@ families_done arch (Err (classifies.Lines error)) status old new none sound e h 
 families_done arch (Err classifies.NoMemory) status old new none sound e h = inr (e, tt)
 
 -- a text that a file has
-told_file : (told : Option Files) (files : Files) (name text : List ℕ) → told ≡ Some files → IsFile told name text → files name ≡ Some text
-told_file told files name text e h = let here : IsFile (Some files) name text = subst (λ (t : Option Files). IsFile t name text) e h in here
+shown_file : (shown : Option Files) (files : Files) (name text : List ℕ) → shown ≡ Some files → IsFile shown name text → files name ≡ Some text
+shown_file shown files name text e h = let here : IsFile (Some files) name text = subst (λ (t : Option Files). IsFile t name text) e h in here
 
 -- the file of a place among places whose files say cycles is there, and says one
 record SaysAt (files : Files) (arch : ArchName) (name : List ℕ) : Type 0 where
@@ -209,15 +209,15 @@ says_at files words arch place (p ∷ before) after (text ∷ texts) [] named sa
 says_at files words arch place (p ∷ before) after [] cycles named say = absurd named
 
 module _ (words : List (List ℕ)) (files : Files) (arch : ArchName) (places : List ℕ) (right : AreRightTests files words arch places) where
-  right_at : (told : Option Files) (place : ℕ) (texts : List (List ℕ)) → IsAtPlace (read_on arch) told words places place texts → SaysAt files arch (name_at words place)
-  right_at told place texts h =
+  right_at : (shown : Option Files) (place : ℕ) (texts : List (List ℕ)) → IsAtPlace (read_on arch) shown words places place texts → SaysAt files arch (name_at words place)
+  right_at shown place texts h =
       says_at files words arch place h.before h.after right.texts right.cycles
       (subst (λ (ps : List ℕ). AreNamed (Some files) words ps right.texts) h.parts right.read.named) right.read.say
 
   tests_wrong : (old new : ShelfSeen) (place : ℕ) (error : FileError) → old.files ≡ Some files → FileWrong (read_on arch) old new words places place error → ⊥
   tests_wrong old new place error e h =
       let here = right_at old.files place h.texts h.place_is in
-      let same : Some here.text ≡ Some h.text = sym here.there ∙ told_file old.files files (name_at words place) h.text e h.named in
+      let same : Some here.text ≡ Some h.text = sym here.there ∙ shown_file old.files files (name_at words place) h.text e h.named in
       let text : here.text ≡ h.text = cc same in
       let both : Ok here.cycle ≡ Err error = sym here.says ∙ ap (said_on (read_on arch)) text ∙ h.fault in cc both
 
@@ -227,29 +227,29 @@ module _ (words : List (List ℕ)) (files : Files) (arch : ArchName) (places : L
       let gone : files (name_at words place) ≡ None = absent old.files e h.absent in
       let both : None ≡ Some here.text = sym gone ∙ here.there in cc both
     where
-      absent : (told : Option Files) → told ≡ Some files → MatchOption told (Rose old.faults new.faults) (λ there. there (name_at words place) ≡ None)
+      absent : (shown : Option Files) → shown ≡ Some files → MatchOption shown (Rose old.faults new.faults) (λ there. there (name_at words place) ≡ None)
           → files (name_at words place) ≡ None
-      absent told e a =
+      absent shown e a =
           let here : MatchOption (Some files) (Rose old.faults new.faults) (λ there. there (name_at words place) ≡ None) =
           subst (λ (t : Option Files). MatchOption t (Rose old.faults new.faults) (λ there. there (name_at words place) ≡ None)) e a in here
 
   tests_done : (status : Status) (old new : ShelfSeen) (before after : SinkSeen) (end : FilesEnd) → old.files ≡ Some files
       → (Rose old.faults new.faults → ⊥) → (Rose before.faults after.faults → ⊥)
       → status ≡ files_status end → FilesClassified (read_on arch) old new words places before after end → IsDone (of_files arch places) status
-  tests_done status old new before after classing.Done told none none_out e h = inl e
-  tests_done status old new before after classing.OutFault told none none_out e h = absurd (none_out h.wrote.fault)
-  tests_done status old new before after (classing.Wrong file line kind) told none none_out e h = absurd (tests_wrong old new file _ told h.0)
-  tests_done status old new before after (classing.NoFile word) told none none_out e h = absurd (test_there old new word told h.0)
-  tests_done status old new before after classing.ShelfFault told none none_out e h = absurd (none h.0.fault)
-  tests_done status old new before after classing.NoMemory told none none_out e h = inr (e, tt)
+  tests_done status old new before after classing.Done shown none none_out e h = inl e
+  tests_done status old new before after classing.OutFault shown none none_out e h = absurd (none_out h.wrote.fault)
+  tests_done status old new before after (classing.Wrong file line kind) shown none none_out e h = absurd (tests_wrong old new file _ shown h.0)
+  tests_done status old new before after (classing.NoFile word) shown none none_out e h = absurd (test_there old new word shown h.0)
+  tests_done status old new before after classing.ShelfFault shown none none_out e h = absurd (none h.0.fault)
+  tests_done status old new before after classing.NoMemory shown none none_out e h = inr (e, tt)
 
 named_done : (words : List (List ℕ)) (arch : ArchName) (places : List ℕ) (status : Status) (old new : ShelfSeen) (before after : SinkSeen) (end : FilesEnd)
-    (told : Option Files) → old.files ≡ told
-    → OfItsFiles told (λ files. AreRightTests files words arch places) → (Rose old.faults new.faults → ⊥) → (Rose before.faults after.faults → ⊥)
+    (shown : Option Files) → old.files ≡ shown
+    → OfItsFiles shown (λ files. AreRightTests files words arch places) → (Rose old.faults new.faults → ⊥) → (Rose before.faults after.faults → ⊥)
     → status ≡ files_status end → FilesClassified (read_on arch) old new words places before after end → IsDone (of_files arch places) status
-named_done words arch places status old new before after end None told right none none_out e h = absurd right
-named_done words arch places status old new before after end (Some files) told right none none_out e h =
-    tests_done words files arch places right status old new before after end told none none_out e h
+named_done words arch places status old new before after end None shown right none none_out e h = absurd right
+named_done words arch places status old new before after end (Some files) shown right none none_out e h =
+    tests_done words files arch places right status old new before after end shown none none_out e h
 
 classify_done : (words : List (List ℕ)) (arch : ArchName) (files : List ℕ) (status : Status) (old new : Devices) → NoFaults old new
     → CanClassify words arch files old → AnswersClassify words arch files status old new → IsDone (of_files arch files) status
@@ -264,15 +264,15 @@ check_ends asked end status e (inl done) = inl (e ∙ ap check_status done)
 check_ends asked end status e (inr none) = inr (e ∙ ap check_status none, tt)
 
 check_done : (words : List (List ℕ)) (asked : CheckAsked) (status : Status) (old new : ShelfSeen) (before after : SinkSeen) (end : CheckEnd)
-    (told : Option Files) → old.files ≡ told
-    → OfItsFiles told (λ files. AreRightFiles files asked.arch (machine_of asked.arch).writing words asked.test asked.execution)
+    (shown : Option Files) → old.files ≡ shown
+    → OfItsFiles shown (λ files. AreRightFiles files asked.arch (machine_of asked.arch).writing words asked.test asked.execution)
     → (Rose old.faults new.faults → ⊥) → (Rose before.faults after.faults → ⊥)
     → status ≡ check_status end → FilesChecked asked.arch (machine_of asked.arch).writing old new words asked.test asked.execution before after end
     → IsDone (Ok (AsksCheck asked)) status
-check_done words asked status old new before after end None told right none none_out e h = absurd right
-check_done words asked status old new before after end (Some files) told right none none_out e h =
+check_done words asked status old new before after end None shown right none none_out e h = absurd right
+check_done words asked status old new before after end (Some files) shown right none none_out e h =
     check_ends asked end status e
-    (right_files_done asked.arch (machine_of asked.arch).writing old new words asked.test asked.execution before after end files h told right none none_out)
+    (right_files_done asked.arch (machine_of asked.arch).writing old new words asked.test asked.execution before after end files h shown right none none_out)
 
 -- logs that have a sum have no fault
 right_wrong : (logs others : List (List ℕ)) (error : LogError) → AreRight logs → logs ≡ others → logs_text others ≡ Err error → ⊥
@@ -326,20 +326,20 @@ module _ (words : List (List ℕ)) (files : Files) (right : AreRightLogs files w
       (slice_get-get_or words (1 + k) [] (omega (arith, right.all))) (slice_get-get_or right.logs k [] h)
 
   -- the logs that a call found are those
-  same_logs : (told : Option Files) (before : List (List ℕ)) → told ≡ Some files → AreLogs told words 1 before → length before ≤ length right.logs
+  same_logs : (shown : Option Files) (before : List (List ℕ)) → shown ≡ Some files → AreLogs shown words 1 before → length before ≤ length right.logs
       → (k : ℕ) (log : List ℕ) → slice_get before k ≡ Some log → slice_get right.logs k ≡ Some log
-  same_logs told before e are few k log h =
+  same_logs shown before e are few k log h =
       let inside : k < length before = slice_get_within before k log h in
       let found : files (get_or words (1 + k) []) ≡ Some log =
-      told_file told files (get_or words (1 + k) []) log e
+      shown_file shown files (get_or words (1 + k) []) log e
       (are.named k (get_or words (1 + k) []) log (slice_get-get_or words (1 + k) [] (omega (arith, right.all))) h) in
       let here : files (get_or words (1 + k) []) ≡ Some (get_or right.logs k []) = at_word k (omega arith) in
       slice_get-get_or right.logs k [] (omega arith) ∙ (sym here ∙ found)
 
   -- a place of a word, and the log that its file has
-  word_log : (told : Option Files) (place : ℕ) (before : List (List ℕ)) (name : List ℕ) → IsAtWord told words 1 place before name
+  word_log : (shown : Option Files) (place : ℕ) (before : List (List ℕ)) (name : List ℕ) → IsAtWord shown words 1 place before name
       → (length before < length right.logs) × (files name ≡ slice_get right.logs (length before))
-  word_log told place before name h =
+  word_log shown place before name h =
       let within : place < length words = slice_get_within words place name h.word in
       let inside : length before < length right.logs = omega (arith, h.count, right.all) in
       let name_is : get_or words (1 + length before) [] ≡ name =
@@ -354,13 +354,13 @@ module _ (words : List (List ℕ)) (files : Files) (right : AreRightLogs files w
       let spot = word_log old.files place h.before h.name h.place_is in
       let parts = splits h.before right.logs h.log
       (same_logs old.files h.before e h.place_is.are (omega (arith, spot.0)))
-      (sym spot.1 ∙ told_file old.files files h.name h.log e h.text) in
+      (sym spot.1 ∙ shown_file old.files files h.name h.log e h.text) in
       right_wrong right.logs (h.before ++ h.log ∷ parts.0) error right.right parts.1 (h.is.wrong parts.0)
 
   files_long : (old new : ShelfSeen) (place line : ℕ) → old.files ≡ Some files → FileTooMuch old new words 1 place line → ⊥
   files_long old new place line e h =
       let spot = word_log old.files place h.before h.name h.place_is in
-      let log_at : slice_get right.logs (length h.before) ≡ Some h.log = sym spot.1 ∙ told_file old.files files h.name h.log e h.text in
+      let log_at : slice_get right.logs (length h.before) ≡ Some h.log = sym spot.1 ∙ shown_file old.files files h.name h.log e h.text in
       let log_is : get_or right.logs (length h.before) [] ≡ h.log = get_or_from_slice_get right.logs (length h.before) h.log [] log_at in
       let short : IsShort (slice_index_or right.logs (length h.before) []) = right.are.short (length h.before) [] spot.0 in
       short_log h.before h.log h.bytes line (subst (λ (l : List ℕ). IsShort l) log_is short) h.is
@@ -372,31 +372,31 @@ module _ (words : List (List ℕ)) (files : Files) (right : AreRightLogs files w
       let gone : files h.name ≡ None = absent old.files e h.absent in
       let both : None ≡ Some (get_or right.logs (length h.before) []) = sym gone ∙ found in cc
     where
-      absent : (told : Option Files) → told ≡ Some files → MatchOption told (Rose old.faults new.faults) (λ there. there h.name ≡ None) → files h.name ≡ None
-      absent told e a =
+      absent : (shown : Option Files) → shown ≡ Some files → MatchOption shown (Rose old.faults new.faults) (λ there. there h.name ≡ None) → files h.name ≡ None
+      absent shown e a =
           let here : MatchOption (Some files) (Rose old.faults new.faults) (λ there. there h.name ≡ None) =
           subst (λ (t : Option Files). MatchOption t (Rose old.faults new.faults) (λ there. there h.name ≡ None)) e a in here
 
   files_done : (status : Status) (old new : ShelfSeen) (before after : SinkSeen) (end : SumEnd) → old.files ≡ Some files
       → (Rose old.faults new.faults → ⊥) → (Rose before.faults after.faults → ⊥)
       → status ≡ sum_status end → FilesSummed old new words 1 before after end → IsDone (Ok AsksSum) status
-  files_done status old new before after sums.Done told none none_out e h = inl e
-  files_done status old new before after sums.OutFault told none none_out e h = absurd (none_out h.wrote.fault)
-  files_done status old new before after (sums.Wrong None line kind) told none none_out e h = absurd h
-  files_done status old new before after (sums.Wrong (Some file) line kind) told none none_out e h = absurd (files_wrong old new file _ told h.0)
-  files_done status old new before after (sums.TooMuch None line) told none none_out e h = absurd h
-  files_done status old new before after (sums.TooMuch (Some file) line) told none none_out e h = absurd (files_long old new file line told h.0)
-  files_done status old new before after (sums.NoFile word) told none none_out e h = absurd (file_there old new word told h.0)
-  files_done status old new before after sums.InputFault told none none_out e h = absurd h
-  files_done status old new before after sums.ShelfFault told none none_out e h = absurd (none h.0.fault)
-  files_done status old new before after sums.NoMemory told none none_out e h = inr (e, tt)
+  files_done status old new before after sums.Done shown none none_out e h = inl e
+  files_done status old new before after sums.OutFault shown none none_out e h = absurd (none_out h.wrote.fault)
+  files_done status old new before after (sums.Wrong None line kind) shown none none_out e h = absurd h
+  files_done status old new before after (sums.Wrong (Some file) line kind) shown none none_out e h = absurd (files_wrong old new file _ shown h.0)
+  files_done status old new before after (sums.TooMuch None line) shown none none_out e h = absurd h
+  files_done status old new before after (sums.TooMuch (Some file) line) shown none none_out e h = absurd (files_long old new file line shown h.0)
+  files_done status old new before after (sums.NoFile word) shown none none_out e h = absurd (file_there old new word shown h.0)
+  files_done status old new before after sums.InputFault shown none none_out e h = absurd h
+  files_done status old new before after sums.ShelfFault shown none none_out e h = absurd (none h.0.fault)
+  files_done status old new before after sums.NoMemory shown none none_out e h = inr (e, tt)
 
-told_done : (words : List (List ℕ)) (status : Status) (old new : ShelfSeen) (before after : SinkSeen) (end : SumEnd) (told : Option Files) → old.files ≡ told
-    → OfItsFiles told (λ files. AreRightLogs files words) → (Rose old.faults new.faults → ⊥) → (Rose before.faults after.faults → ⊥)
+summed_done : (words : List (List ℕ)) (status : Status) (old new : ShelfSeen) (before after : SinkSeen) (end : SumEnd) (shown : Option Files) → old.files ≡ shown
+    → OfItsFiles shown (λ files. AreRightLogs files words) → (Rose old.faults new.faults → ⊥) → (Rose before.faults after.faults → ⊥)
     → status ≡ sum_status end → FilesSummed old new words 1 before after end → IsDone (Ok AsksSum) status
-told_done words status old new before after end None told right none none_out e h = absurd right
-told_done words status old new before after end (Some files) told right none none_out e h =
-    files_done words files right status old new before after end told none none_out e h
+summed_done words status old new before after end None shown right none none_out e h = absurd right
+summed_done words status old new before after end (Some files) shown right none none_out e h =
+    files_done words files right status old new before after end shown none none_out e h
 
 asked_done : (words : List (List ℕ)) (asked : Result Asked Usage) (status : Status) (old new : Devices)
     → AnswersAsked words asked status old new → CanBeDone words asked old → NoFaults old new → IsDone asked status
@@ -418,7 +418,7 @@ asked_done words (Ok AsksSum) status old new h can none = of_words words can h.e
     of_words [] can ends = input_done status old new h.end none can h.status_is ends
     of_words (tool ∷ []) can ends = input_done status old new h.end none can h.status_is ends
     of_words (tool ∷ log ∷ logs) can ends =
-        told_done (tool ∷ log ∷ logs) status old.shelf new.shelf old.out new.out h.end old.shelf.files refl can none.shelf none.out h.status_is ends.both.summed
+        summed_done (tool ∷ log ∷ logs) status old.shelf new.shelf old.out new.out h.end old.shelf.files refl can none.shelf none.out h.status_is ends.both.summed
 
 -- where what is asked for can be done and no count of faults rises, it is done
 pub answers_complete : (words : List (List ℕ)) (status : Status) (old new : Seen) → Answers words status old new → Complete words status old new

@@ -8,7 +8,7 @@ use Rattle.diy_words.specs.Requests.{ListAsked}
 use Rattle.listed_tests.specs.declared.ending.ListingEnd.{ListingEnd}
 use Rattle.listed_tests.specs.declared.ending.ListingEnd.TheVariants as ends
 use Rattle.listed_tests.specs.declared.listing.Listing.{Listing}
-use Rattle.listed_tests.specs.Ends.{EndsBehind, EndsListing}
+use Rattle.listed_tests.specs.Ends.{EndsAfter, EndsListing}
 use Rattle.listed_tests.specs.Plans.{Plan, plan_of}
 use Rattle.std.specs.Prelude.{List}
 use Rattle.diy_tools.specs.declared.status.Status.{Status}
@@ -18,11 +18,11 @@ use Rattle.diy_tools.specs.Machines.{machine_of}
 use Rattle.diy_tools.specs.Statuses.{listing_status}
 
 -- what holds of a sink holds of what it shows
-behind_seen : {Sink : Type 0} (seen : Sink → SinkSeen) (plan : Plan) (given : Option (List Edge)) (end : ListingEnd) (old new : ShelfSeen) (out after : Sink)
-    → EndsBehind seen plan given end old new out after → EndsBehind (λ (sink : SinkSeen). sink) plan given end old new (seen out) (seen after)
-behind_seen seen plan given ends.Done old new out after h = h
-behind_seen seen plan given ends.OutFault old new out after h = h
-behind_seen seen plan given ends.ShelfFault old new out after h = (ap seen h.0, h.1)
+after_seen : {Sink : Type 0} (seen : Sink → SinkSeen) (plan : Plan) (given : Option (List Edge)) (end : ListingEnd) (old new : ShelfSeen) (out after : Sink)
+    → EndsAfter seen plan given end old new out after → EndsAfter (λ (sink : SinkSeen). sink) plan given end old new (seen out) (seen after)
+after_seen seen plan given ends.Done old new out after h = h
+after_seen seen plan given ends.OutFault old new out after h = h
+after_seen seen plan given ends.ShelfFault old new out after h = (ap seen h.0, h.1)
 
 -- what a listing leaves on an architecture is what it leaves on the one with its name
 pub ends_on : {Sink : Type 0} (seen : Sink → SinkSeen) (arch named : ArchName) (listing : Listing) (end : ListingEnd) (old new : ShelfSeen) (out after : Sink) → arch ≡ named
@@ -31,7 +31,7 @@ pub ends_on : {Sink : Type 0} (seen : Sink → SinkSeen) (arch named : ArchName)
     → EndsOn (machine_of arch) listing end old new (seen out) (seen after)
 ends_on seen arch named listing end old new out after same h =
     subst (λ (a : ArchName). EndsOn (machine_of a) listing end old new (seen out) (seen after)) (sym same)
-    (record { given = h.given; begins = h.begins; ends = behind_seen seen _ h.given end old new out after h.ends })
+    (record { given = h.given; begins = h.begins; ends = after_seen seen _ h.given end old new out after h.ends })
 
 -- and what is answered of it
 pub list_answered : (asked : ListAsked) (end : ListingEnd) (status : Status) (old new : ShelfSeen) (before after : SinkSeen)

@@ -47,9 +47,9 @@ failed_within old new words first h = either h.took
 -- a log of more than 2^40 bytes that were taken
 pub long_taken : (before : List (List ℕ)) (log bytes : List ℕ) (line : ℕ) → IsTooMuch before log bytes line → 2 ^ 40 < length bytes
 long_taken before log bytes line h =
-    let front : length h.full.front ≡ 2 ^ 40 = h.full.full in
+    let prefix : length h.full.prefix ≡ 2 ^ 40 = h.full.full in
     let more : 0 < length h.full.rest = h.full.more in
-    omega (arith, ap length h.full.parts, length-append h.full.front h.full.rest)
+    omega (arith, ap length h.full.parts, length-append h.full.prefix h.full.rest)
 
 -- where a log of the input is too long, more than 2^40 bytes were taken of it
 pub input_far : (old new : SourceSeen) (before : List (List ℕ)) (log bytes : List ℕ) (line : ℕ) → TookCount old new (length bytes) → IsTooMuch before log bytes line

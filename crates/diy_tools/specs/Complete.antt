@@ -44,7 +44,7 @@ pub record AreRightLogs (files : Files) (words : List (List ℕ)) : Type 0 where
 
 -- this holds of every text that a device can have: of the one that it shows, where it shows one
 abbrev pub OfItsText : Option (List ℕ) → (List ℕ → Type 0) → Type 0
-OfItsText told Holds = (text : List ℕ) → IsText told text → Holds text
+OfItsText shown Holds = (text : List ℕ) → IsText shown text → Holds text
 
 -- a shelf shows its files, and this holds of them
 abbrev pub OfItsFiles : Option Files → (Files → Type 0) → Type 0

@@ -32,7 +32,7 @@ fn cycle_in(edges: &[Edge], arch: ArchName) -> Result<Cycle, Refusal>
     }
     match first_foreign(edges, arch) {
         Some(at) => Err(Refusal::NotOfArch { at }),
-        None => composed(edges),
+        None => compose(edges),
     }
 }
 
@@ -49,7 +49,7 @@ fn first_foreign(edges: &[Edge], arch: ArchName) -> Option<u8>
     None
 }
 
-fn composed(edges: &[Edge]) -> Result<Cycle, Refusal>
+fn compose(edges: &[Edge]) -> Result<Cycle, Refusal>
     ensures made { MakesCycle (refused_composing (composed edges.now)) edges.now result }
     ensures location { IfErr result RefusesLocation }
 {

@@ -38,13 +38,13 @@ kept_choices choices (place ∷ places) h =
     cut_once (choices * length place) (choice_count places) (MAX_CHOICES + 1) ∙
     ap (λ n. min n (MAX_CHOICES + 1)) (mul_assoc choices (length place) (choice_count places))
 
-cut_told : (count limit : ℕ) → nat_lt limit (min count (limit + 1)) ≡ nat_lt limit count
-cut_told count limit =
+cut_said : (count limit : ℕ) → nat_lt limit (min count (limit + 1)) ≡ nat_lt limit count
+cut_said count limit =
     ⊎_elim (λ (many : limit + 1 < count). let cut : min count (limit + 1) ≡ limit + 1 = min-eq_right (omega arith) in rw cut (grind (arith, nat_tests)))
     (λ few. ap (nat_lt limit) (min-eq_left few)) (cases_lt (limit + 1) count)
 
 -- where there are too many ways, one more than the limit is kept
-pub choices_told : (places : List (List (List Edge))) → nat_lt MAX_CHOICES (choices_after 1 places) ≡ nat_lt MAX_CHOICES (choice_count places)
-choices_told places =
+pub choices_said : (places : List (List (List Edge))) → nat_lt MAX_CHOICES (choices_after 1 places) ≡ nat_lt MAX_CHOICES (choice_count places)
+choices_said places =
     ap (nat_lt MAX_CHOICES) (kept_choices 1 places (lit≤ tt) ∙ ap (λ n. min n (MAX_CHOICES + 1)) (one-mul (choice_count places))) ∙
-    cut_told (choice_count places) MAX_CHOICES
+    cut_said (choice_count places) MAX_CHOICES

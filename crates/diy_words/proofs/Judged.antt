@@ -18,7 +18,7 @@ use Rattle.diy_words.specs.declared.request.Sought.TheVariants as sought
 use Rattle.diy_words.specs.declared.usage.Usage.{Usage}
 use Rattle.diy_words.specs.declared.usage.UsageKind.TheVariants.{TooManyChoices}
 use Rattle.diy_words.specs.declared.request.TheConstants.{MAX_CHOICES}
-use Rattle.diy_words.proofs.ChoiceLaws.{choices_after, choices_more, choices_told}
+use Rattle.diy_words.proofs.ChoiceLaws.{choices_after, choices_more, choices_said}
 use Rattle.diy_words.specs.declared.options.OptionName.{OptionName}
 use Rattle.diy_words.specs.Parts.{Alone, Valued, Unvalued, Waits, parts_from, parts_of, option_named, tool_named}
 use Rattle.diy_words.specs.declared.options.Tool.{Tool}
@@ -325,7 +325,7 @@ gives_cross count (Ok request) None mode folder places h = cc h
 gives_cross count (Err usage) None mode folder places h = cc h
 gives_cross count request (Some arch) mode folder places h =
     of_test (nat_lt MAX_CHOICES (choice_count places)) request
-    (subst (λ b. shown request ≡ keeps KeepsCross (if b then Err (record { word = count; kind = TooManyChoices }) else Ok (record { arch = arch; mode = mode; folder = folder }))) (choices_told places) h)
+    (subst (λ b. shown request ≡ keeps KeepsCross (if b then Err (record { word = count; kind = TooManyChoices }) else Ok (record { arch = arch; mode = mode; folder = folder }))) (choices_said places) h)
   where
     of_test : (b : Bool) (request : Result Request Usage) →
         shown request ≡ keeps KeepsCross (if b then Err (record { word = count; kind = TooManyChoices }) else Ok (record { arch = arch; mode = mode; folder = folder })) →

@@ -384,7 +384,7 @@ IsPlain tool words at = (word : List ℕ) → slice_get words at ≡ Some word �
 -- the word at a place is this option
 pub record IsOption (tool : Tool) (words : List (List ℕ)) (at : ℕ) (option : OptionName) : Type 0 where
   pub word : List ℕ
-  pub stands : slice_get words at ≡ Some word
+  pub word_is : slice_get words at ≡ Some word
   pub named : option_named tool word ≡ Some option
 
 -- the cycle that edges make, as they are kept, if they make one

@@ -5,7 +5,7 @@ ghost use Rattle.diy_words.specs.Given.{Gives, HasForm, WithinWords, Steps, IsPl
 
 use crate::options::{OptionName, Tool, option_named, tool_named};
 use crate::request::{Check, Cross, Demo, Diy, DiyOne, MAX_CHOICES, Norm, Request, Sought, Why};
-use crate::said::{Said, unvalued};
+use crate::said::{Said, missing_value};
 use crate::usage::{Usage, UsageKind};
 use diy_io::Words;
 use relax_edges::ObsMode;
@@ -91,7 +91,7 @@ fn read_option_at<'a>(
 {
     let count = words.len();
     if count - at == 1 {
-        return Err(unvalued(tool, option, at));
+        return Err(missing_value(tool, option, at));
     }
     match said.take_value(tool, option, at, words.get(at + 1)) {
         Ok(()) => Ok(at + 2),

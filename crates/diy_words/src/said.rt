@@ -441,7 +441,7 @@ fn excluded_option(at: usize) -> Usage
 }
 
 /// What is wrong with an option at place `at` that is the last word.
-pub fn unvalued(tool: Tool, option: OptionName, at: usize) -> Usage
+pub fn missing_value(tool: Tool, option: OptionName, at: usize) -> Usage
     ensures { (before : Before) → said_by tool before (Unvalued option at) ≡ Err result }
 {
     let _ = (tool, option);

@@ -105,8 +105,8 @@ last_joins_longer (e ∷ f ∷ u) v w h = last_joins_longer (f ∷ u) v w h
 
 -- it doesn't matter which of three paths are joined first
 pub joining_is_associative : JoiningIsAssociative
-joining_is_associative u v w front back p l r =
-    let a = joined_is u v front l in
+joining_is_associative u v w prefix back p l r =
+    let a = joined_is u v prefix l in
     let b = joined_is v w back r in
     let room : length (u ++ v) + length w ≡ length u + length (v ++ w) = omega (arith, length-append u v, length-append v w) in
     let one : last_joins (u ++ v) w ≡ true = last_joins_whole u v w p.some ∙ b.meets in

@@ -22,4 +22,4 @@ pub record ComposesExactly : Type 0 where
 -- joining is associative: where a path joins the next and that one a third, it doesn't matter which are joined first
 abbrev pub JoiningIsAssociative : Type 0
 JoiningIsAssociative =
-    (u v w front back : List Edge) → IsPath v → joined u v ≡ Ok front → joined v w ≡ Ok back → joined front w ≡ joined u back
+    (u v w prefix back : List Edge) → IsPath v → joined u v ≡ Ok prefix → joined v w ≡ Ok back → joined prefix w ≡ joined u back

@@ -93,10 +93,10 @@ impl Cycle {
         requires { k < length self.now }
         ensures { result ≡ rotated k self.now }
     {
-        let (front, back) = self.edges.as_slice().split_at(usize::from(k));
+        let (prefix, back) = self.edges.as_slice().split_at(usize::from(k));
         let mut edges = ArrayVec::new();
         put(back, &mut edges);
-        put(front, &mut edges);
+        put(prefix, &mut edges);
         Cycle { edges }
     }
 

@@ -53,15 +53,15 @@ impl Path {
     pub fn join(&self, next: &Path) -> Result<Path, JoinError>
         ensures { result ≡ joined self.now next.now }
     {
-        let front = self.edges();
+        let prefix = self.edges();
         let back = next.edges();
-        if front.len() + back.len() > MAX_EDGES {
+        if prefix.len() + back.len() > MAX_EDGES {
             return Err(JoinError::TooLong);
         }
-        if !joins(front, back) {
+        if !joins(prefix, back) {
             return Err(JoinError::DoesNotCompose);
         }
-        let mut edges = copied(front);
+        let mut edges = copied(prefix);
         match edges.try_extend_from_slice(back) {
             Ok(()) => Ok(Path { edges }),
             Err(_) => unreachable!(),

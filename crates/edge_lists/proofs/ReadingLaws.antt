@@ -109,5 +109,5 @@ pub reading_ends : (s : Separators) (old list : EdgeList) (end : Option EdgeList
 reading_ends s old list end text rest kept alone h = h ∙ ap (spelled list) (sym alone) ∙ kept
 
 -- the text after a place is all the rest
-pub all_behind : (text : List ℕ) (i : ℕ) → take (length text - (i + 1)) (drop (i + 1) text) ≡ drop (i + 1) text
-all_behind text i = grind (arith, common_steps)
+pub all_after : (text : List ℕ) (i : ℕ) → take (length text - (i + 1)) (drop (i + 1) text) ≡ drop (i + 1) text
+all_after text i = grind (arith, common_steps)

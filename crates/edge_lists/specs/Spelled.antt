@@ -18,8 +18,8 @@ abbrev pub IsOneWord : Separators → List ℕ → Type 0
 IsOneWord separators text = slice_split (separates separators) text ≡ text ∷ []
 
 -- a text is a first word, a separator, and the text after it
-pub record CutsAt (separators : Separators) (text front behind : List ℕ) : Type 0 where
-  pub words : slice_split (separates separators) text ≡ front ∷ slice_split (separates separators) behind
+pub record CutsAt (separators : Separators) (text prefix behind : List ℕ) : Type 0 where
+  pub words : slice_split (separates separators) text ≡ prefix ∷ slice_split (separates separators) behind
   pub shorter : length behind < length text
 
 -- an edge before some others, where there is the edge and there are the others

@@ -216,5 +216,5 @@ unfolding are_distinct
 distinct_ends order i h = rw (drop_all i order h) refl
 
 -- what comes after a place of an order, as a slice
-pub behind_is : (order : List WriteAt) (k : ℕ) → take (length order - k) (drop k order) ≡ drop k order
-behind_is order k = take_all (length order - k) (drop k order) (omega (arith, length-drop k order))
+pub after_is : (order : List WriteAt) (k : ℕ) → take (length order - k) (drop k order) ≡ drop k order
+after_is order k = take_all (length order - k) (drop k order) (omega (arith, length-drop k order))

@@ -116,11 +116,11 @@ final_is p names registers x traces all state e a s (AtPlace name) =
     ∙ ap (λ l. option_map (λ place. Num (final_value l x place)) (number_in names name)) (sym a)
 
 -- the state grows by one register, place or thread
-registers_next : (t k : ℕ) (v : ℕ → Value) (front : List (List ℕ)) (name : List ℕ) → registers_at t v k (front ++ name ∷ []) ≡ registers_at t v k front ++ (InRegister t name, v (k + length front)) ∷ []
+registers_next : (t k : ℕ) (v : ℕ → Value) (prefix : List (List ℕ)) (name : List ℕ) → registers_at t v k (prefix ++ name ∷ []) ≡ registers_at t v k prefix ++ (InRegister t name, v (k + length prefix)) ∷ []
 registers_next t k v [] name = let e : k ≡ k + 0 = omega arith in ap (λ m. (InRegister t name, v m) ∷ []) e
-registers_next t k v (n ∷ front) name =
-    let e : (k + 1) + length front ≡ k + suc (length front) = omega arith in
-    ap (λ l. (InRegister t n, v k) ∷ l) (registers_next t (k + 1) v front name ∙ ap (λ m. registers_at t v (k + 1) front ++ (InRegister t name, v m) ∷ []) e)
+registers_next t k v (n ∷ prefix) name =
+    let e : (k + 1) + length prefix ≡ k + suc (length prefix) = omega arith in
+    ap (λ l. (InRegister t n, v k) ∷ l) (registers_next t (k + 1) v prefix name ∙ ap (λ m. registers_at t v (k + 1) prefix ++ (InRegister t name, v m) ∷ []) e)
 
 -- with the value of one register more, the state has the first registers and this one
 pub registers_more : (t r : ℕ) (v : ℕ → Value) (names : List (List ℕ)) (old : State) (start : State) → r < length names → old ≡ start ++ registers_at t v 0 (take r names)
@@ -135,11 +135,11 @@ registers_more t r v names old start inside h =
 pub registers_all : (t r : ℕ) (v : ℕ → Value) (names : List (List ℕ)) (old start : State) → length names ≤ r → old ≡ start ++ registers_at t v 0 (take r names) → old ≡ start ++ registers_at t v 0 names
 registers_all t r v names old start h e = e ∙ ap (λ l. start ++ registers_at t v 0 l) (take_all r names h)
 
-places_next : (k : ℕ) (v : ℕ → ℕ) (front : List (List ℕ)) (name : List ℕ) → places_at v k (front ++ name ∷ []) ≡ places_at v k front ++ (AtPlace name, Num (v (k + length front))) ∷ []
+places_next : (k : ℕ) (v : ℕ → ℕ) (prefix : List (List ℕ)) (name : List ℕ) → places_at v k (prefix ++ name ∷ []) ≡ places_at v k prefix ++ (AtPlace name, Num (v (k + length prefix))) ∷ []
 places_next k v [] name = let e : k ≡ k + 0 = omega arith in ap (λ m. (AtPlace name, Num (v m)) ∷ []) e
-places_next k v (n ∷ front) name =
-    let e : (k + 1) + length front ≡ k + suc (length front) = omega arith in
-    ap (λ l. (AtPlace n, Num (v k)) ∷ l) (places_next (k + 1) v front name ∙ ap (λ m. places_at v (k + 1) front ++ (AtPlace name, Num (v m)) ∷ []) e)
+places_next k v (n ∷ prefix) name =
+    let e : (k + 1) + length prefix ≡ k + suc (length prefix) = omega arith in
+    ap (λ l. (AtPlace n, Num (v k)) ∷ l) (places_next (k + 1) v prefix name ∙ ap (λ m. places_at v (k + 1) prefix ++ (AtPlace name, Num (v m)) ∷ []) e)
 
 -- with the value of one place more, the state has the first places and this one
 pub places_more : (r : ℕ) (v : ℕ → ℕ) (names : List (List ℕ)) (old start : State) → r < length names → old ≡ start ++ places_at v 0 (take r names)
@@ -154,12 +154,12 @@ places_more r v names old start inside h =
 pub places_all : (r : ℕ) (v : ℕ → ℕ) (names : List (List ℕ)) (old start : State) → length names ≤ r → old ≡ start ++ places_at v 0 (take r names) → old ≡ start ++ places_at v 0 names
 places_all r v names old start h e = e ∙ ap (λ l. start ++ places_at v 0 l) (take_all r names h)
 
-threads_next : (names : List (List ℕ)) (k : ℕ) (front : List (ℕ → Value)) (v : ℕ → Value) → all_registers names k (front ++ v ∷ []) ≡ all_registers names k front ++ registers_at (k + length front) v 0 names
+threads_next : (names : List (List ℕ)) (k : ℕ) (prefix : List (ℕ → Value)) (v : ℕ → Value) → all_registers names k (prefix ++ v ∷ []) ≡ all_registers names k prefix ++ registers_at (k + length prefix) v 0 names
 threads_next names k [] v = let e : k ≡ k + 0 = omega arith in append-nil (registers_at k v 0 names) ∙ ap (λ m. registers_at m v 0 names) e
-threads_next names k (w ∷ front) v =
-    let e : (k + 1) + length front ≡ k + suc (length front) = omega arith in
-    ap (λ l. registers_at k w 0 names ++ l) (threads_next names (k + 1) front v ∙ ap (λ m. all_registers names (k + 1) front ++ registers_at m v 0 names) e)
-    ∙ sym (append_assoc (registers_at k w 0 names) (all_registers names (k + 1) front) (registers_at (k + suc (length front)) v 0 names))
+threads_next names k (w ∷ prefix) v =
+    let e : (k + 1) + length prefix ≡ k + suc (length prefix) = omega arith in
+    ap (λ l. registers_at k w 0 names ++ l) (threads_next names (k + 1) prefix v ∙ ap (λ m. all_registers names (k + 1) prefix ++ registers_at m v 0 names) e)
+    ∙ sym (append_assoc (registers_at k w 0 names) (all_registers names (k + 1) prefix) (registers_at (k + suc (length prefix)) v 0 names))
 
 -- with the registers of one thread more, the state has those of the first threads and of this one
 pub threads_more : (names : List (List ℕ)) (t : ℕ) (traces : List EndedRun) (trace : EndedRun) (old new start : State) → t < length traces → trace ≡ get_or traces t trace

@@ -65,7 +65,7 @@ fn are_there(all: &[Accesses], place: u8, order: &[WriteAt]) -> bool
     true
 }
 
-fn stands_in(order: &[WriteAt], write: WriteAt) -> bool
+fn occurs_in(order: &[WriteAt], write: WriteAt) -> bool
     ensures { result ≡ list_any (same_write write) order.now }
 {
     order.iter().any(|other| is_same(write, *other))
@@ -76,7 +76,7 @@ fn are_distinct(order: &[WriteAt]) -> bool
     ensures { result ≡ are_distinct order.now }
 {
     for i in 0..order.len() {
-        if stands_in(&order[i + 1..], order[i]) {
+        if occurs_in(&order[i + 1..], order[i]) {
             return false;
         }
     }

@@ -19,7 +19,7 @@ use std::test::Fail;
 type Stand = ArrayVec<bool, MAX_EDGES>;
 
 /// Which edges of a cycle stand in a candidate execution.
-fn standing<A: Arch>(
+fn standing_edges<A: Arch>(
     alloc: Global,
     test: &ReadTest<A>,
     exec: &Execution,
@@ -48,7 +48,7 @@ fn edges_on<A: Arch>(alloc: Global, edges: &str, text: &str, execution: &str) ->
     if !is_candidate(alloc, &test, &exec).ok()? {
         return None;
     }
-    standing(alloc, &test, &exec, &cycle)
+    standing_edges(alloc, &test, &exec, &cycle)
 }
 
 /// An execution of a test, both as texts, and which edges of a cycle are to stand in it.

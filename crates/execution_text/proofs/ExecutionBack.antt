@@ -14,10 +14,10 @@ use Rattle.litmus_text.specs.declared.limits.TheConstants.{MAX_TEXT}
 use Rattle.program_meaning.specs.declared.WriteAt.{WriteAt}
 use Rattle.program_meaning.specs.Executions.{Execution}
 use Rattle.execution_text.specs.declared.errors.ExecKind.TheVariants.{BadThread, BadRead, BadPlace, BadWrite}
-use Rattle.execution_text.specs.ExecutionText.{access_named, line_told, lines_read, lines_told, place_head, read_named, thread_head}
+use Rattle.execution_text.specs.ExecutionText.{access_named, line_read, lines_read, each_line_read, place_head, read_named, thread_head}
 use Rattle.execution_text.specs.Written.{access_word, place_line, read_word, text_of_execution, thread_line}
 use Rattle.execution_text.specs.ReadBack.{AccessFits, ExecutionFits, ReadFits, ReadsBack}
-use Rattle.execution_text.proofs.Whole.{places_told, read_as, short_read, threads_told}
+use Rattle.execution_text.proofs.Whole.{place_lines_read, read_as, short_read, thread_lines_read}
 use Rattle.execution_text.proofs.WordsBack.{IsWord, access_back, access_is_word, place_is_word, read_back, read_is_word, thread_is_word}
 use Rattle.execution_text.proofs.LinesBack.{is_printed, line_back, line_printed, lines_back, lines_few}
 
@@ -32,27 +32,27 @@ each_word P word f (x ∷ xs) h = (f x (All-head P x xs h), each_word P word f x
 
 -- the lines of threads from number k on
 threads_back : (threads n k : ℕ) (lists : List (List (ℕ × Option WriteAt))) (rest : List (List ℕ)) → threads ≤ MAX_TEXT → k + length lists ≤ MAX_TEXT → All (All (ReadFits threads)) lists
-    → lines_told (line_told BadThread BadRead (read_named threads)) n (map thread_head (range_with_len k (length lists))) (map thread_line (enumerate_from k lists) ++ rest) ≡ Ok (lists, rest)
-unfolding lines_told
+    → each_line_read (line_read BadThread BadRead (read_named threads)) n (map thread_head (range_with_len k (length lists))) (map thread_line (enumerate_from k lists) ++ rest) ≡ Ok (lists, rest)
+unfolding each_line_read
 threads_back threads n k [] rest h b f = refl
 threads_back threads n k (reads ∷ lists) rest h b f =
     let fits : All (ReadFits threads) reads = All-head (All (ReadFits threads)) reads lists f in
-    let told : line_told BadThread BadRead (read_named threads) (thread_head k) (words (thread_line (k, reads))) ≡ Ok reads =
+    let told : line_read BadThread BadRead (read_named threads) (thread_head k) (words (thread_line (k, reads))) ≡ Ok reads =
     line_back BadThread BadRead (read_named threads) read_word (thread_head k) reads (thread_is_word k (omega (arith, b)))
     (each_word (ReadFits threads) read_word (read_is_word threads h) reads fits) (each (ReadFits threads) (λ r. read_named threads (read_word r) ≡ Some r) (read_back threads h) reads fits) in
     rw (told, threads_back threads (n + 1) (k + 1) lists rest h (omega (arith, b)) (All-tail (All (ReadFits threads)) reads lists f)) refl
 
 -- the lines of places
 places_back : (threads n : ℕ) (places : List (List ℕ)) (orders : List (List WriteAt)) → threads ≤ MAX_TEXT → length orders ≡ length places → list_all is_place_name places ≡ true → All (All (AccessFits threads)) orders
-    → lines_told (line_told BadPlace BadWrite (access_named threads)) n (map place_head places) (map place_line (zip places orders)) ≡ Ok (orders, [])
-unfolding lines_told
+    → each_line_read (line_read BadPlace BadWrite (access_named threads)) n (map place_head places) (map place_line (zip places orders)) ≡ Ok (orders, [])
+unfolding each_line_read
 places_back threads n [] [] h e names f = refl
 places_back threads n [] (order ∷ orders) h e names f = absurd (omega (arith, e))
 places_back threads n (place ∷ places) [] h e names f = absurd (omega (arith, e))
 places_back threads n (place ∷ places) (order ∷ orders) h e names f =
     let named = and_parts (is_place_name place) (list_all is_place_name places) names in
     let fits : All (AccessFits threads) order = All-head (All (AccessFits threads)) order orders f in
-    let told : line_told BadPlace BadWrite (access_named threads) (place_head place) (words (place_line (place, order))) ≡ Ok order =
+    let told : line_read BadPlace BadWrite (access_named threads) (place_head place) (words (place_line (place, order))) ≡ Ok order =
     line_back BadPlace BadWrite (access_named threads) access_word (place_head place) order (place_is_word place named.0)
     (each_word (AccessFits threads) access_word (access_is_word threads h) order fits) (each (AccessFits threads) (λ w. access_named threads (access_word w) ≡ Some w) (access_back threads h) order fits) in
     rw (told, places_back threads (n + 1) places orders h (omega (arith, e)) named.1 (All-tail (All (AccessFits threads)) order orders f)) refl
@@ -98,10 +98,10 @@ written_reads_back threads places x f =
     let others : List (List ℕ) = map place_line (zip places x.orders) in
     let many : 0 + length x.reads ≤ MAX_TEXT = omega (arith, h, f.thread_lists) in
     let printed = all_append (λ line. list_all is_printed line ≡ true) lines others (threads_printed threads 0 x.reads h many f.reads) (places_printed threads places x.orders h f.names f.orders) in
-    let reads : threads_told threads (lines ++ others) ≡ Ok (x.reads, others) =
-    ap (λ n. lines_told (line_told BadThread BadRead (read_named threads)) 1 (map thread_head (range_with_len 0 n)) (lines ++ others)) (sym f.thread_lists)
+    let reads : thread_lines_read threads (lines ++ others) ≡ Ok (x.reads, others) =
+    ap (λ n. each_line_read (line_read BadThread BadRead (read_named threads)) 1 (map thread_head (range_with_len 0 n)) (lines ++ others)) (sym f.thread_lists)
     ∙ threads_back threads 1 0 x.reads others h many f.reads in
-    let orders : places_told threads places others ≡ Ok (x.orders, []) = places_back threads (threads + 1) places x.orders h f.place_lists f.names f.orders in
+    let orders : place_lines_read threads places others ≡ Ok (x.orders, []) = places_back threads (threads + 1) places x.orders h f.place_lists f.names f.orders in
     short_read threads places (flat_map ended (lines ++ others)) f.short
     ∙ ap (lines_read threads places) (lines_back (lines ++ others) printed)
     ∙ read_as threads places (lines ++ others) others [] x.reads x.orders reads orders

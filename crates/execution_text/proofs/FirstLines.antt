@@ -13,16 +13,16 @@ no_feed : (text : List ℕ) → list_all (λ byte. not (byte == 10)) text ≡ tr
 no_feed text h i d k = not-true (get_or text i d == 10) (AllPass-from_list_all (λ byte. not (byte == 10)) text h i d k)
 
 -- there is a piece before others
-before_others : (front : List ℕ) (pieces : List (List ℕ)) → 0 < length pieces → lines_in (front ∷ pieces) ≡ without_return front ∷ lines_in pieces
-before_others front [] h = absurd (omega arith)
-before_others front (piece ∷ pieces) h = refl
+before_others : (prefix : List ℕ) (pieces : List (List ℕ)) → 0 < length pieces → lines_in (prefix ∷ pieces) ≡ without_return prefix ∷ lines_in pieces
+before_others prefix [] h = absurd (omega arith)
+before_others prefix (piece ∷ pieces) h = refl
 
 -- a text that is cut at a line feed has the line before it, and then the lines after it
-pub line_cut : (text front rest : List ℕ) → CutParts 10 text front rest → lines_of text ≡ without_return front ∷ lines_of rest
-line_cut text front rest c =
-    let split : slice_split is_line_feed text ≡ front ∷ slice_split is_line_feed rest =
-    ap (slice_split is_line_feed) c.parts ∙ slice_split_at is_line_feed front 10 rest (no_feed front c.first) (eq-eqb 10 10 refl) in
-    ap lines_in split ∙ before_others front (slice_split is_line_feed rest) (some_piece rest)
+pub line_cut : (text prefix rest : List ℕ) → CutParts 10 text prefix rest → lines_of text ≡ without_return prefix ∷ lines_of rest
+line_cut text prefix rest c =
+    let split : slice_split is_line_feed text ≡ prefix ∷ slice_split is_line_feed rest =
+    ap (slice_split is_line_feed) c.parts ∙ slice_split_at is_line_feed prefix 10 rest (no_feed prefix c.first) (eq-eqb 10 10 refl) in
+    ap lines_in split ∙ before_others prefix (slice_split is_line_feed rest) (some_piece rest)
   where
     some_piece : (t : List ℕ) → 0 < length (slice_split is_line_feed t)
     some_piece t = omega (arith, length-slice_split is_line_feed t)

@@ -1,5 +1,5 @@
 pub mod FirstLines
-pub mod Telling
+pub mod LinesRead
 pub mod Growing
 pub mod Whole
 pub mod Appending

@@ -16,7 +16,7 @@ use Rattle.litmus_text.specs.TestText.{ended}
 use Rattle.text_laws.specs.Cuts.{CutParts}
 use Rattle.litmus_text.proofs.CutBack.{all_both, bytes_same, without_class}
 use Rattle.execution_text.specs.declared.errors.ExecKind.{ExecKind}
-use Rattle.execution_text.specs.ExecutionText.{all_named, line_told, lines_of}
+use Rattle.execution_text.specs.ExecutionText.{all_named, line_read, lines_of}
 use Rattle.execution_text.specs.Written.{line_of}
 use Rattle.execution_text.proofs.Appending.{further}
 use Rattle.execution_text.proofs.FirstLines.{line_cut}
@@ -68,10 +68,10 @@ named_back bad name word (x ∷ xs) h = rw (h.0, named_back bad name word xs h.1
 
 -- a line that was written of things after a head gives these
 pub line_back : {X : Type 0} (bad_head bad : ExecKind) (name : List ℕ → Option X) (word : X → List ℕ) (head : List ℕ) (xs : List X) → IsWord head → AllByRecursion IsWord (map word xs)
-    → AllByRecursion (λ x. name (word x) ≡ Some x) xs → line_told bad_head bad name head (words (line_of (head ∷ map word xs))) ≡ Ok xs
-unfolding line_told
+    → AllByRecursion (λ x. name (word x) ≡ Some x) xs → line_read bad_head bad name head (words (line_of (head ∷ map word xs))) ≡ Ok xs
+unfolding line_read
 line_back bad_head bad name word head xs w ws h =
-    ap (line_told bad_head bad name head) (words_back head (map word xs) w ws) ∙ rw (bytes_same head) (named_back bad name word xs h)
+    ap (line_read bad_head bad name head) (words_back head (map word xs) w ws) ∙ rw (bytes_same head) (named_back bad name word xs h)
 
 -- a line keeps its last byte
 no_return : (byte : ℕ) → is_printed byte ≡ true → (byte == 13) ≡ false

@@ -16,7 +16,7 @@ use Rattle.execution_text.specs.declared.errors.ExecKind.{ExecKind}
 use Rattle.execution_text.specs.declared.errors.ExecKind.TheVariants.{BadThread, BadRead, BadPlace, BadWrite, StrayLine}
 use Rattle.litmus_text.specs.declared.limits.TheConstants.{MAX_TEXT}
 use Rattle.execution_text.specs.declared.errors.ExecFault.{ExecFault}
-use Rattle.execution_text.specs.ExecutionText.{access_named, at_line, execution_of, execution_read, line_told, lines_of, lines_read, lines_told, place_head, put_line, read_named, thread_head}
+use Rattle.execution_text.specs.ExecutionText.{access_named, at_line, execution_of, execution_read, line_read, lines_of, lines_read, each_line_read, place_head, put_line, read_named, thread_head}
 use Rattle.execution_text.specs.declared.errors.ExecError.{ExecError}
 use Rattle.execution_text.specs.declared.errors.ExecError.TheVariants as errors
 use Rattle.execution_text.specs.Steps.{Adds, ReadsLines, ReadsText, all_added, each_added, lines_added}
@@ -31,19 +31,19 @@ second_or b (Ok p) = p.1
 second_or b (Err f) = b
 
 -- lines are read without a fault: what they give is added to one execution and makes the other
-pub record IsTold {X : Type 0} (add : Adds X) (x y : Execution) (k : ℕ) (told : Result (List (List X) × List (List ℕ)) ExecFault) (left : List (List ℕ)) : Type 0 where
+pub record AreRead {X : Type 0} (add : Adds X) (x y : Execution) (k : ℕ) (told : Result (List (List X) × List (List ℕ)) ExecFault) (left : List (List ℕ)) : Type 0 where
   pub lists : List (List X)
   pub is : told ≡ Ok (lists, left)
   pub grown : each_added add x k lists ≡ y
 
 -- lines that lead from one execution to another are read without a fault
-pub is_told : {X : Type 0} (add : Adds X) (x y : Execution) (k : ℕ) (told : Result (List (List X) × List (List ℕ)) ExecFault) (left : List (List ℕ)) → lines_added add x k told ≡ Ok (y, left) → IsTold add x y k told left
-is_told add x y k (Ok told) left h = record {
+pub are_read : {X : Type 0} (add : Adds X) (x y : Execution) (k : ℕ) (told : Result (List (List X) × List (List ℕ)) ExecFault) (left : List (List ℕ)) → lines_added add x k told ≡ Ok (y, left) → AreRead add x y k told left
+are_read add x y k (Ok told) left h = record {
   lists = told.0;
   is = ap (λ l. Ok (told.0, l)) (ap (second_or left) h);
   grown = ap (first_or y) h;
 }
-is_told add x y k (Err fault) left h = cc
+are_read add x y k (Err fault) left h = cc
 
 -- a fault in what is added is a fault of the lines
 pub is_wrong : {X : Type 0} (add : Adds X) (x : Execution) (k : ℕ) (told : Result (List (List X) × List (List ℕ)) ExecFault) (fault : ExecFault) → lines_added add x k told ≡ Err fault → told ≡ Err fault
@@ -58,12 +58,12 @@ put_length m (Ok xs) (Err fault) lists left f h = cc
 put_length m (Err fault) rest lists left f h = cc
 
 -- lines that are read give as many lists as there are heads
-pub told_length : {X : Type 0} (told : List ℕ → List (List ℕ) → Result (List X) ExecKind) (n : ℕ) (heads lines : List (List ℕ)) (lists : List (List X)) (left : List (List ℕ)) → lines_told told n heads lines ≡ Ok (lists, left) → length lists ≡ length heads
-unfolding lines_told
-told_length told n [] lines lists left h = sym (ap (λ r. length (first_or lists r)) h)
-told_length told n (head ∷ heads) [] lists left h = cc
-told_length told n (head ∷ heads) (line ∷ lines) lists left h =
-    put_length (length heads) (at_line n (told head (words line))) (lines_told told (n + 1) heads lines) lists left (λ ls l e. told_length told (n + 1) heads lines ls l e) h
+pub read_length : {X : Type 0} (told : List ℕ → List (List ℕ) → Result (List X) ExecKind) (n : ℕ) (heads lines : List (List ℕ)) (lists : List (List X)) (left : List (List ℕ)) → each_line_read told n heads lines ≡ Ok (lists, left) → length lists ≡ length heads
+unfolding each_line_read
+read_length told n [] lines lists left h = sym (ap (λ r. length (first_or lists r)) h)
+read_length told n (head ∷ heads) [] lists left h = cc
+read_length told n (head ∷ heads) (line ∷ lines) lists left h =
+    put_length (length heads) (at_line n (told head (words line))) (each_line_read told (n + 1) heads lines) lists left (λ ls l e. read_length told (n + 1) heads lines ls l e) h
 
 -- a thing is added to the list after others
 added_at : {X : Type 0} (done rest : List (List X)) (so_far : List X) (item : X) → added (done ++ so_far ∷ rest) (length done) item ≡ done ++ (so_far ++ item ∷ []) ∷ rest
@@ -114,12 +114,12 @@ pub writes_are : (places : ℕ) (reads : List (List (ℕ × Option WriteAt))) (l
 writes_are places reads lists h = rw (sym h) (all_writes reads [] lists)
 
 -- what the lines of the threads give, and the lines that are left
-abbrev pub threads_told : ℕ → List (List ℕ) → Result (List (List (ℕ × Option WriteAt)) × List (List ℕ)) ExecFault
-threads_told threads lines = lines_told (line_told BadThread BadRead (read_named threads)) 1 (map thread_head (range_with_len 0 threads)) lines
+abbrev pub thread_lines_read : ℕ → List (List ℕ) → Result (List (List (ℕ × Option WriteAt)) × List (List ℕ)) ExecFault
+thread_lines_read threads lines = each_line_read (line_read BadThread BadRead (read_named threads)) 1 (map thread_head (range_with_len 0 threads)) lines
 
 -- what the lines of the places give, and the lines that are left
-abbrev pub places_told : ℕ → List (List ℕ) → List (List ℕ) → Result (List (List WriteAt) × List (List ℕ)) ExecFault
-places_told threads places lines = lines_told (line_told BadPlace BadWrite (access_named threads)) (threads + 1) (map place_head places) lines
+abbrev pub place_lines_read : ℕ → List (List ℕ) → List (List ℕ) → Result (List (List WriteAt) × List (List ℕ)) ExecFault
+place_lines_read threads places lines = each_line_read (line_read BadPlace BadWrite (access_named threads)) (threads + 1) (map place_head places) lines
 
 -- the reading of a text that isn't too long is that of its lines
 pub short_read : (threads : ℕ) (places : List (List ℕ)) (text : List ℕ) → length text ≤ MAX_TEXT → execution_read threads places text ≡ lines_read threads places (lines_of text)
@@ -127,22 +127,22 @@ unfolding execution_read
 short_read threads places text h = rw (le-ltb MAX_TEXT (length text) h) refl
 
 -- a fault in the lines of the threads is the fault of the text
-pub threads_wrong : (threads : ℕ) (places lines : List (List ℕ)) (fault : ExecFault) → lines_added with_read (nothing_kept threads (length places)) 0 (threads_told threads lines) ≡ Err fault → lines_read threads places lines ≡ Err fault
+pub threads_wrong : (threads : ℕ) (places lines : List (List ℕ)) (fault : ExecFault) → lines_added with_read (nothing_kept threads (length places)) 0 (thread_lines_read threads lines) ≡ Err fault → lines_read threads places lines ≡ Err fault
 unfolding lines_read
-threads_wrong threads places lines fault h = rw (is_wrong with_read (nothing_kept threads (length places)) 0 (threads_told threads lines) fault h) refl
+threads_wrong threads places lines fault h = rw (is_wrong with_read (nothing_kept threads (length places)) 0 (thread_lines_read threads lines) fault h) refl
 
 -- the lines of the threads are read without a fault
 pub record ThreadsRead (threads : ℕ) (places lines : List (List ℕ)) (x : Execution) (left : List (List ℕ)) : Type 0 where
   pub reads : List (List (ℕ × Option WriteAt))
-  pub is : threads_told threads lines ≡ Ok (reads, left)
+  pub is : thread_lines_read threads lines ≡ Ok (reads, left)
   pub many : length reads ≡ threads
   pub x_is : record { reads = reads; orders = empty_lists (length places) } ≡ x
 
 -- lines of threads that lead to an execution are read without a fault
-pub threads_read : (threads : ℕ) (places lines : List (List ℕ)) (x : Execution) (left : List (List ℕ)) → lines_added with_read (nothing_kept threads (length places)) 0 (threads_told threads lines) ≡ Ok (x, left) → ThreadsRead threads places lines x left
+pub threads_read : (threads : ℕ) (places lines : List (List ℕ)) (x : Execution) (left : List (List ℕ)) → lines_added with_read (nothing_kept threads (length places)) 0 (thread_lines_read threads lines) ≡ Ok (x, left) → ThreadsRead threads places lines x left
 threads_read threads places lines x left h =
-    let t = is_told with_read (nothing_kept threads (length places)) x 0 (threads_told threads lines) left h in
-    let many : length t.lists ≡ threads = told_length (line_told BadThread BadRead (read_named threads)) 1 (map thread_head (range_with_len 0 threads)) lines t.lists left t.is ∙ length-map-range_with_len thread_head 0 threads in
+    let t = are_read with_read (nothing_kept threads (length places)) x 0 (thread_lines_read threads lines) left h in
+    let many : length t.lists ≡ threads = read_length (line_read BadThread BadRead (read_named threads)) 1 (map thread_head (range_with_len 0 threads)) lines t.lists left t.is ∙ length-map-range_with_len thread_head 0 threads in
     record { reads = t.lists; is = t.is; many = many; x_is = sym (reads_are threads (length places) t.lists many) ∙ t.grown }
 
 -- after the lines of the threads the execution has an order for each place
@@ -151,9 +151,9 @@ orders_many threads places lines x left t = sym (ap (λ (y : Execution). length 
 
 -- a fault in the lines of the places is the fault of the text
 pub places_wrong : (threads : ℕ) (places lines : List (List ℕ)) (x : Execution) (left : List (List ℕ)) (fault : ExecFault) → ThreadsRead threads places lines x left
-    → lines_added with_write x 0 (places_told threads places left) ≡ Err fault → lines_read threads places lines ≡ Err fault
+    → lines_added with_write x 0 (place_lines_read threads places left) ≡ Err fault → lines_read threads places lines ≡ Err fault
 unfolding lines_read
-places_wrong threads places lines x left fault t h = rw (t.is, is_wrong with_write x 0 (places_told threads places left) fault h) refl
+places_wrong threads places lines x left fault t h = rw (t.is, is_wrong with_write x 0 (place_lines_read threads places left) fault h) refl
 
 -- the lines of the threads and the places are read without a fault
 pub record AllRead (threads : ℕ) (places lines : List (List ℕ)) (y : Execution) (left : List (List ℕ)) : Type 0 where
@@ -166,16 +166,16 @@ pub record AllRead (threads : ℕ) (places lines : List (List ℕ)) (y : Executi
 
 -- what lines give is made of what the lines of the threads and those of the places give
 pub read_as : (threads : ℕ) (places lines left last : List (List ℕ)) (reads : List (List (ℕ × Option WriteAt))) (orders : List (List WriteAt))
-    → threads_told threads lines ≡ Ok (reads, left) → places_told threads places left ≡ Ok (orders, last) → lines_read threads places lines ≡ execution_of (threads + length places + 1) reads (orders, last)
+    → thread_lines_read threads lines ≡ Ok (reads, left) → place_lines_read threads places left ≡ Ok (orders, last) → lines_read threads places lines ≡ execution_of (threads + length places + 1) reads (orders, last)
 unfolding lines_read
 read_as threads places lines left last reads orders e f = rw (e, f) refl
 
 -- lines of places that lead to an execution are read without a fault
 pub all_read : (threads : ℕ) (places lines : List (List ℕ)) (x y : Execution) (left last : List (List ℕ)) → ThreadsRead threads places lines x left
-    → lines_added with_write x 0 (places_told threads places left) ≡ Ok (y, last) → AllRead threads places lines y last
+    → lines_added with_write x 0 (place_lines_read threads places left) ≡ Ok (y, last) → AllRead threads places lines y last
 all_read threads places lines x y left last t h =
-    let p = is_told with_write x y 0 (places_told threads places left) last h in
-    let many : length p.lists ≡ length places = told_length (line_told BadPlace BadWrite (access_named threads)) (threads + 1) (map place_head places) left p.lists last p.is ∙ length-map places place_head in
+    let p = are_read with_write x y 0 (place_lines_read threads places left) last h in
+    let many : length p.lists ≡ length places = read_length (line_read BadPlace BadWrite (access_named threads)) (threads + 1) (map place_head places) left p.lists last p.is ∙ length-map places place_head in
     record {
       reads = t.reads;
       orders = p.lists;

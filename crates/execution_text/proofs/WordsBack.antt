@@ -44,9 +44,9 @@ place_graphic : (byte : ℕ) → is_place_byte byte ≡ true → is_graphic byte
 place_graphic byte h = grind (arith, nat_tests)
 
 -- a text with a byte in it is some text
-some_text : (front behind : List ℕ) (byte : ℕ) → is_nil (front ++ byte ∷ behind) ≡ false
+some_text : (prefix behind : List ℕ) (byte : ℕ) → is_nil (prefix ++ byte ∷ behind) ≡ false
 some_text [] behind byte = refl
-some_text (b ∷ front) behind byte = refl
+some_text (b ∷ prefix) behind byte = refl
 
 digits_are : (n : ℕ) → n < 2 ^ 32 → list_all is_ascii_digit (decimal n) ≡ true
 digits_are n h = digits_decimal digits_model n (omega (arith, h))

@@ -71,16 +71,16 @@ all_named bad name [] = Ok []
 all_named bad name (word ∷ rest) = put_first bad (name word) (all_named bad name rest)
 
 -- what the words of a line after its head name; the first word must be the head
-unfoldable pub line_told : {X : Type 0} → ExecKind → ExecKind → (List ℕ → Option X) → List ℕ → List (List ℕ) → Result (List X) ExecKind
-line_told bad_head bad name head [] = Err bad_head
-line_told bad_head bad name head (word ∷ rest) = cond (bytes_eq word head) (all_named bad name rest) (Err bad_head)
+unfoldable pub line_read : {X : Type 0} → ExecKind → ExecKind → (List ℕ → Option X) → List ℕ → List (List ℕ) → Result (List X) ExecKind
+line_read bad_head bad name head [] = Err bad_head
+line_read bad_head bad name head (word ∷ rest) = cond (bytes_eq word head) (all_named bad name rest) (Err bad_head)
 
 -- what the line of a thread tells and what that of a place does, whose first word is this head
 abbrev pub reads_told : ℕ → List ℕ → List (List ℕ) → Result (List (ℕ × Option WriteAt)) ExecKind
-reads_told threads = line_told BadThread BadRead (read_named threads)
+reads_told threads = line_read BadThread BadRead (read_named threads)
 
 abbrev pub writes_told : ℕ → List ℕ → List (List ℕ) → Result (List WriteAt) ExecKind
-writes_told threads = line_told BadPlace BadWrite (access_named threads)
+writes_told threads = line_read BadPlace BadWrite (access_named threads)
 
 -- a fault, with the number of its line
 abbrev pub at_line : {A : Type 0} → ℕ → Result A ExecKind → Result A ExecFault
@@ -94,10 +94,10 @@ put_line (Ok xs) (Err fault) = Err fault
 put_line (Ok xs) (Ok rest) = Ok (xs ∷ rest.0, rest.1)
 
 -- what lines give, one line for each head, from line number n on, and the lines that are left
-unfoldable pub lines_told : {X : Type 0} → (List ℕ → List (List ℕ) → Result (List X) ExecKind) → ℕ → List (List ℕ) → List (List ℕ) → Result (List (List X) × List (List ℕ)) ExecFault
-lines_told told n [] lines = Ok ([], lines)
-lines_told told n (head ∷ heads) [] = Err (record { line = n; kind = EndMissing })
-lines_told told n (head ∷ heads) (line ∷ lines) = put_line (at_line n (told head (words line))) (lines_told told (n + 1) heads lines)
+unfoldable pub each_line_read : {X : Type 0} → (List ℕ → List (List ℕ) → Result (List X) ExecKind) → ℕ → List (List ℕ) → List (List ℕ) → Result (List (List X) × List (List ℕ)) ExecFault
+each_line_read told n [] lines = Ok ([], lines)
+each_line_read told n (head ∷ heads) [] = Err (record { line = n; kind = EndMissing })
+each_line_read told n (head ∷ heads) (line ∷ lines) = put_line (at_line n (told head (words line))) (each_line_read told (n + 1) heads lines)
 
 -- the head of a thread's line: `P`, its number and a colon
 abbrev pub thread_head : ℕ → List ℕ
@@ -113,10 +113,10 @@ place_head_at places place = place_head (slice_index_or places place [])
 
 -- what the lines of all threads tell, from the first line on, and what those of all places do after them
 abbrev pub all_reads_told : ℕ → List (List ℕ) → Result (List (List (ℕ × Option WriteAt)) × List (List ℕ)) ExecFault
-all_reads_told threads lines = lines_told (reads_told threads) 1 (map thread_head (range_with_len 0 threads)) lines
+all_reads_told threads lines = each_line_read (reads_told threads) 1 (map thread_head (range_with_len 0 threads)) lines
 
 abbrev pub all_writes_told : ℕ → List (List ℕ) → List (List ℕ) → Result (List (List WriteAt) × List (List ℕ)) ExecFault
-all_writes_told threads places lines = lines_told (writes_told threads) (threads + 1) (map place_head places) lines
+all_writes_told threads places lines = each_line_read (writes_told threads) (threads + 1) (map place_head places) lines
 
 -- an execution by the lines of its threads and those of its places, if no line is left
 abbrev pub execution_of : ℕ → List (List (ℕ × Option WriteAt)) → List (List WriteAt) × List (List ℕ) → Result Execution ExecFault

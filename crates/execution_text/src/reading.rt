@@ -79,7 +79,7 @@ fn add_writes(place: u8, threads: u8, text: &[u8], exec: &mut Execution) -> Resu
 }
 
 /// Reads the line of a thread.
-#[tactic(auto, unfolding(crate::specs::ExecutionText::line_told))]
+#[tactic(auto, unfolding(crate::specs::ExecutionText::line_read))]
 fn read_thread(thread: u8, threads: u8, line: &[u8], exec: &mut Execution) -> Result<(), LineError>
     requires { thread < length exec.old.reads }
     ensures { ReadsLine result exec.new (line_added with_read exec.old thread (reads_told threads (thread_head thread) (words line.now))) }
@@ -93,7 +93,7 @@ fn read_thread(thread: u8, threads: u8, line: &[u8], exec: &mut Execution) -> Re
 }
 
 /// Reads the line of a place.
-#[tactic(auto, unfolding(crate::specs::ExecutionText::line_told))]
+#[tactic(auto, unfolding(crate::specs::ExecutionText::line_read))]
 fn read_place(
     place: u8,
     places: &Places,
@@ -130,7 +130,7 @@ fn read_threads<'a>(
                 Ok(()) => left = rest,
                 Err(error) => return Err(error.at(line)),
             },
-            None => return Err(missing(line)),
+            None => return Err(missing_line(line)),
         }
     }
     Ok(left)
@@ -154,14 +154,14 @@ fn read_places<'a>(
                 Ok(()) => left = rest,
                 Err(error) => return Err(error.at(line)),
             },
-            None => return Err(missing(line)),
+            None => return Err(missing_line(line)),
         }
     }
     Ok(left)
 }
 
 /// The error of a line that is missing.
-fn missing(line: u64) -> ExecError
+fn missing_line(line: u64) -> ExecError
     ensures { result ≡ Text (record { line = line; kind = EndMissing }) }
 {
     ExecError::Text(ExecFault {

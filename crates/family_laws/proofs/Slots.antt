@@ -46,13 +46,13 @@ inner_bare edge inner moves = by (kind_of edge) refl inner moves
     by (kinds.Data Same) h inner moves = absurd (true≢false (sym (rw h at moves)))
 
 -- an edge that replaces one of a family's
-record Stands (arch : ArchName) (slot edge : Edge) : Type 0 where
+record Replaces (arch : ArchName) (slot edge : Edge) : Type 0 where
   bare_is : bare edge ≡ slot
   of_arch : is_of_arch edge arch ≡ true
 
-choice_stands : (arch : ArchName) (from to : Dir) (edge : Edge) → is_choice arch from to edge ≡ true → Stands arch (edges.Po Diff from to) edge
+choice_replaces : (arch : ArchName) (from to : Dir) (edge : Edge) → is_choice arch from to edge ≡ true → Replaces arch (edges.Po Diff from to) edge
 unfolding is_choice
-choice_stands arch from to edge h =
+choice_replaces arch from to edge h =
     let t = and_parts _ (same_mark (target_mark edge) Plain) h in
     let m = and_parts _ (same_mark (source_mark edge) Plain) t.0 in
     let p = and_parts _ (same_dir (target_of edge) to) m.0 in
@@ -67,30 +67,30 @@ choice_stands arch from to edge h =
       of_arch = r.1;
     }
 
-slot_stands : (arch : ArchName) (slot edge : Edge) → is_slot slot ≡ true → MatchBool (is_external slot) (edge ≡ slot) (is_choice arch (source_of slot) (target_of slot) edge ≡ true) → Stands arch slot edge
-slot_stands arch (edges.Com kind External) edge s h = record { bare_is = ap bare h; of_arch = ap (λ e. is_of_arch e arch) h }
-slot_stands arch (edges.Com kind Internal) edge s h = cc
-slot_stands arch (edges.Po Diff from to) edge s h = choice_stands arch from to edge h
-slot_stands arch (edges.Po Same from to) edge s h = cc
-slot_stands arch (edges.Fenced kind place from to) edge s h = cc
-slot_stands arch (edges.Dep kind place to) edge s h = cc
-slot_stands arch (edges.Data place) edge s h = cc
-slot_stands arch (edges.Marked marked) edge s h = cc
+slot_replaces : (arch : ArchName) (slot edge : Edge) → is_slot slot ≡ true → MatchBool (is_external slot) (edge ≡ slot) (is_choice arch (source_of slot) (target_of slot) edge ≡ true) → Replaces arch slot edge
+slot_replaces arch (edges.Com kind External) edge s h = record { bare_is = ap bare h; of_arch = ap (λ e. is_of_arch e arch) h }
+slot_replaces arch (edges.Com kind Internal) edge s h = cc
+slot_replaces arch (edges.Po Diff from to) edge s h = choice_replaces arch from to edge h
+slot_replaces arch (edges.Po Same from to) edge s h = cc
+slot_replaces arch (edges.Fenced kind place from to) edge s h = cc
+slot_replaces arch (edges.Dep kind place to) edge s h = cc
+slot_replaces arch (edges.Data place) edge s h = cc
+slot_replaces arch (edges.Marked marked) edge s h = cc
 
 -- edges that replace those of a family's cycle: their bare edges are the family's, and they are of the architecture
-pub record AllStand (arch : ArchName) (slots es : List Edge) : Type 0 where
+pub record AllReplace (arch : ArchName) (slots es : List Edge) : Type 0 where
   pub bare_are : bare_edges es ≡ slots
   pub of_arch : list_all (λ e. is_of_arch e arch) es ≡ true
 
 -- edges picked for those of a family's cycle are such
-pub filled_stand : (arch : ArchName) (slots es : List Edge) → list_all is_slot slots ≡ true → IsFilled arch slots es → AllStand arch slots es
-filled_stand arch [] [] s h = record { bare_are = refl; of_arch = refl }
-filled_stand arch [] (e ∷ es) s h = absurd h
-filled_stand arch (slot ∷ slots) [] s h = absurd h
-filled_stand arch (slot ∷ slots) (e ∷ es) s h =
+pub filled_replace : (arch : ArchName) (slots es : List Edge) → list_all is_slot slots ≡ true → IsFilled arch slots es → AllReplace arch slots es
+filled_replace arch [] [] s h = record { bare_are = refl; of_arch = refl }
+filled_replace arch [] (e ∷ es) s h = absurd h
+filled_replace arch (slot ∷ slots) [] s h = absurd h
+filled_replace arch (slot ∷ slots) (e ∷ es) s h =
     let p = and_parts (is_slot slot) (list_all is_slot slots) s in
-    let this = slot_stands arch slot e p.0 h.0 in
-    let rest = filled_stand arch slots es p.1 h.1 in
+    let this = slot_replaces arch slot e p.0 h.0 in
+    let rest = filled_replace arch slots es p.1 h.1 in
     record {
       bare_are = ap (λ x. x ∷ bare_edges es) this.bare_is ∙ ap (λ xs. slot ∷ xs) rest.bare_are;
       of_arch = and_from (is_of_arch e arch) (list_all (λ x. is_of_arch x arch) es) this.of_arch rest.of_arch;

@@ -19,7 +19,7 @@ use Rattle.test_maker.specs.Refusals.{or_else, refusal_of, resolved_refusal}
 use Rattle.family_laws.specs.Filled.{MakesAll}
 use Rattle.family_laws.proofs.Bare.{bare_edges, coherence_bare, events_bare, externals_bare, moves_bare, turned_bare, writes_bare}
 use Rattle.family_laws.proofs.Rooms.{HasRoom, few_events, few_writes, is_small, none_crowded}
-use Rattle.family_laws.proofs.Slots.{filled_stand, is_slot}
+use Rattle.family_laws.proofs.Slots.{filled_replace, is_slot}
 
 -- a cycle resolves, and is small
 abbrev is_accepted : List Edge → Bool
@@ -76,5 +76,5 @@ pub makes_all : (a : Puts) → HasRoom a → MakesAll a
 makes_all a room family among es filled =
     let slots = family_edges family in
     let p = and_parts (list_all is_slot slots) (is_accepted slots) (among_passes (λ f. list_all is_slot (family_edges f) && is_accepted (family_edges f)) all_families family families_accepted among) in
-    let stand = filled_stand a.name slots es p.0 filled in
+    let stand = filled_replace a.name slots es p.0 filled in
     accepted_tested a room es stand.of_arch (sym (accepted_bare es) ∙ ap is_accepted stand.bare_are ∙ p.1)

@@ -6,20 +6,20 @@ use Rattle.diy_io.specs.Count.{count_of, last_count, next_count}
 use Rattle.diy_io.specs.Shelf.{Files, ShelfSeen, left_to_read, CountsStay, Opened}
 use Rattle.file_laws.specs.Opened.{IsFile, TookFiles, last_taken}
 
-one_text : (told : Option (List ℕ)) (bytes : List ℕ) → IsSome told → IfSome told (λ whole. whole ≡ bytes) → told ≡ Some bytes
+one_text : (shown : Option (List ℕ)) (bytes : List ℕ) → IsSome shown → IfSome shown (λ whole. whole ≡ bytes) → shown ≡ Some bytes
 one_text None bytes there text = cc
 one_text (Some whole) bytes there text = ap Some text
 
-told_text : (files : Option Files) (name bytes : List ℕ) → IfSome files (λ f. IsSome (f name))
+shown_text : (files : Option Files) (name bytes : List ℕ) → IfSome files (λ f. IsSome (f name))
     → IfSome (option_and_then (λ f. f name) files) (λ whole. whole ≡ bytes) → IsFile files name bytes
-told_text None name bytes there text = tt
-told_text (Some f) name bytes there text = one_text (f name) bytes there text
+shown_text None name bytes there text = tt
+shown_text (Some f) name bytes there text = one_text (f name) bytes there text
 
 -- the bytes of a file that was opened
 pub opened_text : (old mid : ShelfSeen) (name bytes : List ℕ) → Opened old mid name → IfSome (left_to_read mid.mode) (λ whole. whole ≡ bytes)
     → IsFile old.files name bytes
 opened_text old mid name bytes opened text =
-    told_text old.files name bytes opened.there (subst (λ (o : Option (List ℕ)). IfSome o (λ whole. whole ≡ bytes)) (ap left_to_read opened.mode) text)
+    shown_text old.files name bytes opened.there (subst (λ (o : Option (List ℕ)). IfSome o (λ whole. whole ≡ bytes)) (ap left_to_read opened.mode) text)
 
 -- bytes were taken of a file that was opened
 pub opened_took : (old mid new : ShelfSeen) (name bytes : List ℕ) → Opened old mid name → count_of new.taken ≡ count_of (mid.taken + length bytes)

@@ -19,7 +19,7 @@ use Rattle.final_cond.specs.CondText.{quantifier_word, left_text, term_text, ter
 use Rattle.text_laws.specs.Runs.{run_of, after_run}
 use Rattle.text_laws.specs.Blanks.{is_blank, unblanked}
 use Rattle.final_cond.specs.ReadBack.{IsFormedTerm, IsFormed}
-use Rattle.final_cond.specs.Reading.{sign_read, opening_read, left_at_front, register_at_front, has_form, left_read, value_read, right_read, term_read, follow_read, terms_read, parts_read, cond_read}
+use Rattle.final_cond.specs.Reading.{sign_read, opening_read, left_at_start, register_at_start, has_form, left_read, value_read, right_read, term_read, follow_read, terms_read, parts_read, cond_read}
 use Rattle.text_laws.proofs.NameLaws.{place_shaped, register_shaped, shaped_all}
 use Rattle.text_laws.proofs.NumberLaws.{number_of-decimal}
 
@@ -53,8 +53,8 @@ digits_unblanked (byte ∷ digits) rest h n =
     let b : is_blank byte ≡ false = grind (arith, nat_tests) in
     rw b refl
 
-digits_left : (digits rest : List ℕ) → list_all is_ascii_digit digits ≡ true → 0 < length digits → left_at_front (digits ++ rest) ≡ register_at_front (digits ++ rest)
-unfolding left_at_front
+digits_left : (digits rest : List ℕ) → list_all is_ascii_digit digits ≡ true → 0 < length digits → left_at_start (digits ++ rest) ≡ register_at_start (digits ++ rest)
+unfolding left_at_start
 digits_left [] rest h n = absurd (omega arith)
 digits_left (byte ∷ digits) rest h n =
     let d : is_ascii_digit byte ≡ true = (and_parts (is_ascii_digit byte) (list_all is_ascii_digit digits) h).0 in
@@ -99,7 +99,7 @@ left_unblanked (InRegister thread name) rest h =
     rw register_text (digits_unblanked (decimal thread) (58 ∷ (name ++ rest)) d.all d.some)
 left_unblanked (AtPlace name) rest h = refl
 
-register_back : (thread : ℕ) (name rest : List ℕ) → Named thread name → stops is_ascii_alphanumeric rest ≡ true → left_at_front (decimal thread ++ (58 ∷ (name ++ rest))) ≡ Some (InRegister thread name, rest)
+register_back : (thread : ℕ) (name rest : List ℕ) → Named thread name → stops is_ascii_alphanumeric rest ≡ true → left_at_start (decimal thread ++ (58 ∷ (name ++ rest))) ≡ Some (InRegister thread name, rest)
 register_back thread name rest n s =
     let t : thread < 64 = n.few in
     let d : Digits thread = digits_of thread (omega arith) in
@@ -111,8 +111,8 @@ register_back thread name rest n s =
 place_text : (name rest : List ℕ) → (name ++ 93 ∷ []) ++ rest ≡ name ++ (93 ∷ rest)
 place_text name rest = append_assoc name (93 ∷ []) rest
 
-place_back : (name rest : List ℕ) → list_all is_place_byte name ≡ true → left_at_front (91 ∷ (name ++ (93 ∷ rest))) ≡ Some (AtPlace name, rest)
-unfolding left_at_front
+place_back : (name rest : List ℕ) → list_all is_place_byte name ≡ true → left_at_start (91 ∷ (name ++ (93 ∷ rest))) ≡ Some (AtPlace name, rest)
+unfolding left_at_start
 place_back name rest h =
     let r : IsRun is_place_byte name (93 ∷ rest) = whole_run is_place_byte name (93 ∷ rest) h refl in
     rw (r.run, r.after) refl

@@ -4,27 +4,27 @@ use Rattle.std.specs.Prelude.{◌≢◌, true, false, None}
 use Rattle.std.specs.Char.{is_ascii_digit}
 use Rattle.std.proofs.lemmas.Bool.{eq-eqb, ne_eqb}
 use Rattle.std.proofs.lemmas.Bool.Decides.{nat_tests}
-use Rattle.final_cond.specs.Reading.{left_at_front, bracketed_at_front, register_at_front, place_at_front}
+use Rattle.final_cond.specs.Reading.{left_at_start, bracketed_at_start, register_at_start, place_at_start}
 use Rattle.text_laws.proofs.NameLaws.{rest_is}
 
-pub left_of_nothing : (text : List ℕ) → length text < 1 → left_at_front text ≡ None
-unfolding left_at_front
+pub left_of_nothing : (text : List ℕ) → length text < 1 → left_at_start text ≡ None
+unfolding left_at_start
 left_of_nothing [] h = refl
 left_of_nothing (byte ∷ text) h = absurd (omega arith)
 
-pub left_of_bracket : (text : List ℕ) → 1 ≤ length text → get_or text 0 0 ≡ 91 → left_at_front text ≡ bracketed_at_front (take (length text - 1) (drop 1 text))
-unfolding left_at_front
+pub left_of_bracket : (text : List ℕ) → 1 ≤ length text → get_or text 0 0 ≡ 91 → left_at_start text ≡ bracketed_at_start (take (length text - 1) (drop 1 text))
+unfolding left_at_start
 left_of_bracket [] h e = absurd (omega arith)
 left_of_bracket (byte ∷ text) h e = rw rest_is (rw (eq-eqb byte 91 e) refl)
 
-pub left_of_digit : (text : List ℕ) → 1 ≤ length text → 48 ≤ get_or text 0 0 → get_or text 0 0 ≤ 57 → left_at_front text ≡ register_at_front text
-unfolding left_at_front
+pub left_of_digit : (text : List ℕ) → 1 ≤ length text → 48 ≤ get_or text 0 0 → get_or text 0 0 ≤ 57 → left_at_start text ≡ register_at_start text
+unfolding left_at_start
 left_of_digit [] h low high = absurd (omega arith)
 left_of_digit (byte ∷ text) h low high =
     let d : is_ascii_digit byte ≡ true = grind (arith, nat_tests) in
     rw (ne_eqb byte 91 (λ e. omega arith), d) refl
 
-pub left_of_other : (text : List ℕ) → 1 ≤ length text → get_or text 0 0 ≢ 91 → is_ascii_digit (get_or text 0 0) ≡ false → left_at_front text ≡ place_at_front text
-unfolding left_at_front
+pub left_of_other : (text : List ℕ) → 1 ≤ length text → get_or text 0 0 ≢ 91 → is_ascii_digit (get_or text 0 0) ≡ false → left_at_start text ≡ place_at_start text
+unfolding left_at_start
 left_of_other [] h e d = absurd (omega arith)
 left_of_other (byte ∷ text) h e d = rw (ne_eqb byte 91 e, d) refl

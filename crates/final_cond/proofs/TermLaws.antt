@@ -10,53 +10,53 @@ use Rattle.final_cond.specs.Reading.{Fault, Read, ◌>>=◌, fault, term_read, f
 
 -- terms, and those that are read after them
 abbrev pub behind : List TermSeen → Read (List TermSeen) → Read (List TermSeen)
-behind front (Ok terms) = Ok (front ++ terms.0, terms.1)
-behind front (Err f) = Err f
+behind prefix (Ok terms) = Ok (prefix ++ terms.0, terms.1)
+behind prefix (Err f) = Err f
 
-pub nothing_behind : (read : Read (List TermSeen)) → behind [] read ≡ read
-nothing_behind (Ok terms) = refl
-nothing_behind (Err f) = refl
+pub nothing_after : (read : Read (List TermSeen)) → behind [] read ≡ read
+nothing_after (Ok terms) = refl
+nothing_after (Err f) = refl
 
 -- where a term is faulty, that is the fault of the whole
-pub stops_at_term : (known : LeftSeen → Bool) (room : ℕ) (text : List ℕ) (front : List TermSeen) (f : Fault) (whole : Read (List TermSeen))
-    → term_read known text ≡ Err f → behind front (terms_read known room text) ≡ whole → whole ≡ Err f
+pub stops_at_term : (known : LeftSeen → Bool) (room : ℕ) (text : List ℕ) (prefix : List TermSeen) (f : Fault) (whole : Read (List TermSeen))
+    → term_read known text ≡ Err f → behind prefix (terms_read known room text) ≡ whole → whole ≡ Err f
 unfolding terms_read
-stops_at_term known zero text front f whole e h = sym h ∙ rw e refl
-stops_at_term known (suc room) text front f whole e h = sym h ∙ rw e refl
+stops_at_term known zero text prefix f whole e h = sym h ∙ rw e refl
+stops_at_term known (suc room) text prefix f whole e h = sym h ∙ rw e refl
 
 -- where there is no room for a term, it is a fault where it begins
-pub stops_at_full : (known : LeftSeen → Bool) (room : ℕ) (text : List ℕ) (front : List TermSeen) (t : TermSeen × List ℕ) (whole : Read (List TermSeen))
-    → room ≡ 0 → term_read known text ≡ Ok t → behind front (terms_read known room text) ≡ whole → whole ≡ fault BadEnd (unblanked text)
+pub stops_at_full : (known : LeftSeen → Bool) (room : ℕ) (text : List ℕ) (prefix : List TermSeen) (t : TermSeen × List ℕ) (whole : Read (List TermSeen))
+    → room ≡ 0 → term_read known text ≡ Ok t → behind prefix (terms_read known room text) ≡ whole → whole ≡ fault BadEnd (unblanked text)
 unfolding terms_read
-stops_at_full known zero text front t whole full e h = sym h ∙ rw e refl
-stops_at_full known (suc room) text front t whole full e h = absurd (omega arith)
+stops_at_full known zero text prefix t whole full e h = sym h ∙ rw e refl
+stops_at_full known (suc room) text prefix t whole full e h = absurd (omega arith)
 
 -- where what follows a term is faulty, that is the fault of the whole
-pub stops_at_follow : (known : LeftSeen → Bool) (room : ℕ) (text : List ℕ) (front : List TermSeen) (t : TermSeen × List ℕ) (f : Fault) (whole : Read (List TermSeen))
-    → 0 < room → term_read known text ≡ Ok t → follow_read t.1 ≡ Err f → behind front (terms_read known room text) ≡ whole → whole ≡ Err f
+pub stops_at_follow : (known : LeftSeen → Bool) (room : ℕ) (text : List ℕ) (prefix : List TermSeen) (t : TermSeen × List ℕ) (f : Fault) (whole : Read (List TermSeen))
+    → 0 < room → term_read known text ≡ Ok t → follow_read t.1 ≡ Err f → behind prefix (terms_read known room text) ≡ whole → whole ≡ Err f
 unfolding terms_read
-stops_at_follow known zero text front t f whole more e k h = absurd (omega arith)
-stops_at_follow known (suc room) text front t f whole more e k h = sym h ∙ rw (e, k) refl
+stops_at_follow known zero text prefix t f whole more e k h = absurd (omega arith)
+stops_at_follow known (suc room) text prefix t f whole more e k h = sym h ∙ rw (e, k) refl
 
 -- where `)` follows a term, the terms up to it are those of the whole
-pub ends_at_follow : (known : LeftSeen → Bool) (room : ℕ) (text : List ℕ) (front front' : List TermSeen) (t : TermSeen × List ℕ) (step : Follow) (rest : List ℕ) (whole : Read (List TermSeen))
-    → 0 < room → front' ≡ front ++ t.0 ∷ [] → term_read known text ≡ Ok t → follow_read t.1 ≡ Ok (step, rest) → step ≡ follows.End
-    → behind front (terms_read known room text) ≡ whole → whole ≡ Ok (front', rest)
+pub ends_at_follow : (known : LeftSeen → Bool) (room : ℕ) (text : List ℕ) (prefix prefix' : List TermSeen) (t : TermSeen × List ℕ) (step : Follow) (rest : List ℕ) (whole : Read (List TermSeen))
+    → 0 < room → prefix' ≡ prefix ++ t.0 ∷ [] → term_read known text ≡ Ok t → follow_read t.1 ≡ Ok (step, rest) → step ≡ follows.End
+    → behind prefix (terms_read known room text) ≡ whole → whole ≡ Ok (prefix', rest)
 unfolding terms_read
-ends_at_follow known zero text front front' t step rest whole more f e k d h = absurd (omega arith)
-ends_at_follow known (suc room) text front front' t step rest whole more f e k d h = sym h ∙ rw (e, k, d, f) refl
+ends_at_follow known zero text prefix prefix' t step rest whole more f e k d h = absurd (omega arith)
+ends_at_follow known (suc room) text prefix prefix' t step rest whole more f e k d h = sym h ∙ rw (e, k, d, f) refl
 
-behind_more : (front : List TermSeen) (t : TermSeen) (read : Read (List TermSeen)) → behind (front ++ t ∷ []) read ≡ behind front (read >>= λ others. Ok (before_terms t others))
-behind_more front t (Ok terms) = ap (λ ts. Ok (ts, terms.1)) (append_assoc front (t ∷ []) terms.0)
-behind_more front t (Err f) = refl
+after_more : (prefix : List TermSeen) (t : TermSeen) (read : Read (List TermSeen)) → behind (prefix ++ t ∷ []) read ≡ behind prefix (read >>= λ others. Ok (before_terms t others))
+after_more prefix t (Ok terms) = ap (λ ts. Ok (ts, terms.1)) (append_assoc prefix (t ∷ []) terms.0)
+after_more prefix t (Err f) = refl
 
 -- where `/\` follows a term, the reading goes on with what comes after it
-pub goes_on : (known : LeftSeen → Bool) (room room' : ℕ) (text : List ℕ) (front front' : List TermSeen) (t : TermSeen × List ℕ) (step : Follow) (rest : List ℕ) (whole : Read (List TermSeen))
-    → room ≡ room' + 1 → front' ≡ front ++ t.0 ∷ [] → term_read known text ≡ Ok t → follow_read t.1 ≡ Ok (step, rest) → step ≡ follows.Term
-    → behind front (terms_read known room text) ≡ whole → behind front' (terms_read known room' rest) ≡ whole
+pub goes_on : (known : LeftSeen → Bool) (room room' : ℕ) (text : List ℕ) (prefix prefix' : List TermSeen) (t : TermSeen × List ℕ) (step : Follow) (rest : List ℕ) (whole : Read (List TermSeen))
+    → room ≡ room' + 1 → prefix' ≡ prefix ++ t.0 ∷ [] → term_read known text ≡ Ok t → follow_read t.1 ≡ Ok (step, rest) → step ≡ follows.Term
+    → behind prefix (terms_read known room text) ≡ whole → behind prefix' (terms_read known room' rest) ≡ whole
 unfolding terms_read
-goes_on known zero room' text front front' t step rest whole more f e k d h = absurd (omega arith)
-goes_on known (suc room) room' text front front' t step rest whole more f e k d h =
+goes_on known zero room' text prefix prefix' t step rest whole more f e k d h = absurd (omega arith)
+goes_on known (suc room) room' text prefix prefix' t step rest whole more f e k d h =
     let n : room' ≡ room = omega arith in
-    let s : behind front (terms_read known (suc room) text) ≡ behind front (terms_read known room rest >>= λ others. Ok (before_terms t.0 others)) = rw (e, k, d) refl in
-    rw (n, f) (behind_more front t.0 (terms_read known room rest) ∙ sym s ∙ h)
+    let s : behind prefix (terms_read known (suc room) text) ≡ behind prefix (terms_read known room rest >>= λ others. Ok (before_terms t.0 others)) = rw (e, k, d) refl in
+    rw (n, f) (after_more prefix t.0 (terms_read known room rest) ∙ sym s ∙ h)

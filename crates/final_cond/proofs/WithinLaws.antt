@@ -13,7 +13,7 @@ use Rattle.final_cond.specs.Conditions.{LeftSeen, TermSeen, CondSeen}
 use Rattle.text_laws.specs.Numbers.{number_of}
 use Rattle.text_laws.specs.Runs.{run_of, after_run}
 use Rattle.text_laws.specs.Blanks.{is_blank, unblanked}
-use Rattle.final_cond.specs.Reading.{Fault, Read, ◌>>=◌, sign_at_front, sign_read, found, before_text, quantifier_of, quantifier_at_front, opening_read, bracket_closed, bracketed_at_front, register_of_thread, register_at_front, left_at_front, known_left, only_known, left_read, value_at_front, value_read, right_read, term_read, and_at_front, follow_at_front, follow_read, and_further, terms_read, end_at_front, parts_read}
+use Rattle.final_cond.specs.Reading.{Fault, Read, ◌>>=◌, sign_at_start, sign_read, found, before_text, quantifier_of, quantifier_at_start, opening_read, bracket_closed, bracketed_at_start, register_of_thread, register_at_start, left_at_start, known_left, only_known, left_read, value_at_start, value_read, right_read, term_read, and_at_start, follow_at_start, follow_read, and_further, terms_read, end_at_start, parts_read}
 use Rattle.text_laws.specs.Words.{is_word_byte}
 use Rattle.text_laws.proofs.RunLaws.{after_run-le}
 
@@ -33,13 +33,13 @@ stays_wider rest m n (Err e) l h = omega arith
 unblanked-le : (text : List ℕ) → length (unblanked text) ≤ length text
 unblanked-le text = after_run-le is_blank text
 
-sign_front_stays : (kind : CondKind) (sign : ℕ) (text : List ℕ) → Stays (λ x. x) (length text) (sign_at_front kind sign text)
-sign_front_stays kind sign [] = omega arith
-sign_front_stays kind sign (byte ∷ text) = by_test (nat_eq byte sign) (λ h. rw h (omega arith)) (λ h. rw h (omega arith))
+sign_at_start_stays : (kind : CondKind) (sign : ℕ) (text : List ℕ) → Stays (λ x. x) (length text) (sign_at_start kind sign text)
+sign_at_start_stays kind sign [] = omega arith
+sign_at_start_stays kind sign (byte ∷ text) = by_test (nat_eq byte sign) (λ h. rw h (omega arith)) (λ h. rw h (omega arith))
 
 sign_stays : (kind : CondKind) (sign : ℕ) (text : List ℕ) → Stays (λ x. x) (length text) (sign_read kind sign text)
 unfolding sign_read
-sign_stays kind sign text = stays_wider (λ x. x) (length (unblanked text)) (length text) (sign_at_front kind sign (unblanked text)) (unblanked-le text) (sign_front_stays kind sign (unblanked text))
+sign_stays kind sign text = stays_wider (λ x. x) (length (unblanked text)) (length text) (sign_at_start kind sign (unblanked text)) (unblanked-le text) (sign_at_start_stays kind sign (unblanked text))
 
 found_stays : {A : Type 0} (kind : CondKind) (text : List ℕ) (o : Option (A × List ℕ)) → IfSome o (λ x. length x.1 ≤ length text) → Stays (λ x. x.1) (length text) (found kind text o)
 found_stays kind text None h = omega arith
@@ -53,10 +53,10 @@ opening_stays : (text : List ℕ) → Stays (λ x. x.1) (length text) (opening_r
 unfolding opening_read
 opening_stays text =
     let u : length (unblanked text) ≤ length text = unblanked-le text in
-    let q : Stays (λ x. x.1) (length (unblanked text)) (quantifier_at_front (unblanked text)) =
+    let q : Stays (λ x. x.1) (length (unblanked text)) (quantifier_at_start (unblanked text)) =
     found_stays BadQuantifier (unblanked text) (before_text (quantifier_of (run_of is_word_byte (unblanked text))) (after_run is_word_byte (unblanked text)))
     (before_stays (length (unblanked text)) (quantifier_of (run_of is_word_byte (unblanked text))) (after_run is_word_byte (unblanked text)) (after_run-le is_word_byte (unblanked text))) in
-    stays_then (λ x. x.1) (λ x. x.1) (length text) (quantifier_at_front (unblanked text)) _ (stays_wider (λ x. x.1) (length (unblanked text)) (length text) (quantifier_at_front (unblanked text)) u q)
+    stays_then (λ x. x.1) (λ x. x.1) (length text) (quantifier_at_start (unblanked text)) _ (stays_wider (λ x. x.1) (length (unblanked text)) (length text) (quantifier_at_start (unblanked text)) u q)
     (λ x l. stays_then (λ y. y) (λ y. y.1) (length text) (sign_read BadQuantifier 40 x.1) _ (stays_wider (λ y. y) (length x.1) (length text) (sign_read BadQuantifier 40 x.1) l (sign_stays BadQuantifier 40 x.1)) (λ y k. k))
 
 some_wider : {A : Type 0} (m n : ℕ) (o : Option (A × List ℕ)) → m ≤ n → IfSome o (λ x. length x.1 ≤ m) → IfSome o (λ x. length x.1 ≤ n)
@@ -74,14 +74,14 @@ thread_stays (Some thread) (byte ∷ rest) =
     let k : length (after_run is_ascii_alphanumeric rest) ≤ length rest = after_run-le is_ascii_alphanumeric rest in
     by_test (nat_eq byte 58) (λ h. rw h (omega arith)) (λ h. rw h tt)
 
-left_front_stays : (text : List ℕ) → IfSome (left_at_front text) (λ x. length x.1 ≤ length text)
-unfolding left_at_front
-left_front_stays [] = tt
-left_front_stays (byte ∷ text) =
+left_at_start_stays : (text : List ℕ) → IfSome (left_at_start text) (λ x. length x.1 ≤ length text)
+unfolding left_at_start
+left_at_start_stays [] = tt
+left_at_start_stays (byte ∷ text) =
     by_test (nat_eq byte 91)
-    (λ h. rw h (some_wider (length (after_run is_place_byte text)) (suc (length text)) (bracketed_at_front text) (let k : length (after_run is_place_byte text) ≤ length text = after_run-le is_place_byte text in omega arith) (closed_stays (run_of is_place_byte text) (after_run is_place_byte text))))
+    (λ h. rw h (some_wider (length (after_run is_place_byte text)) (suc (length text)) (bracketed_at_start text) (let k : length (after_run is_place_byte text) ≤ length text = after_run-le is_place_byte text in omega arith) (closed_stays (run_of is_place_byte text) (after_run is_place_byte text))))
     (λ h. rw h (by_test (is_ascii_digit byte)
-    (λ d. rw d (some_wider (length (after_run is_ascii_digit (byte ∷ text))) (suc (length text)) (register_at_front (byte ∷ text)) (after_run-le is_ascii_digit (byte ∷ text)) (thread_stays (number_of (run_of is_ascii_digit (byte ∷ text))) (after_run is_ascii_digit (byte ∷ text)))))
+    (λ d. rw d (some_wider (length (after_run is_ascii_digit (byte ∷ text))) (suc (length text)) (register_at_start (byte ∷ text)) (after_run-le is_ascii_digit (byte ∷ text)) (thread_stays (number_of (run_of is_ascii_digit (byte ∷ text))) (after_run is_ascii_digit (byte ∷ text)))))
     (λ d. rw d (after_run-le is_place_byte (byte ∷ text)))))
 
 known_stays : (known : LeftSeen → Bool) (n : ℕ) (o : Option (LeftSeen × List ℕ)) → IfSome o (λ x. length x.1 ≤ n) → IfSome (only_known known o) (λ x. length x.1 ≤ n)
@@ -90,13 +90,13 @@ known_stays known n (Some x) h = before_stays n (known_left known x.0) x.1 h
 
 left_stays : (known : LeftSeen → Bool) (text : List ℕ) → Stays (λ x. x.1) (length text) (left_read known text)
 unfolding left_read
-left_stays known text = found_stays BadTerm text (only_known known (left_at_front text)) (known_stays known (length text) (left_at_front text) (left_front_stays text))
+left_stays known text = found_stays BadTerm text (only_known known (left_at_start text)) (known_stays known (length text) (left_at_start text) (left_at_start_stays text))
 
 value_stays : (text : List ℕ) → Stays (λ x. x.1) (length text) (value_read text)
 unfolding value_read
 value_stays text =
     let u : List ℕ = unblanked text in
-    stays_wider (λ x. x.1) (length u) (length text) (value_at_front u) (unblanked-le text)
+    stays_wider (λ x. x.1) (length u) (length text) (value_at_start u) (unblanked-le text)
     (found_stays BadValue u (before_text (number_of (run_of is_ascii_digit u)) (after_run is_ascii_digit u)) (before_stays (length u) (number_of (run_of is_ascii_digit u)) (after_run is_ascii_digit u) (after_run-le is_ascii_digit u)))
 
 right_stays : (text : List ℕ) → Stays (λ x. x.1) (length text) (right_read text)
@@ -112,19 +112,19 @@ term_stays known text =
     (stays_wider (λ x. x.1) (length (unblanked text)) (length text) (left_read known (unblanked text)) (unblanked-le text) (left_stays known (unblanked text)))
     (λ x l. stays_then (λ y. y.1) (λ y. y.1) (length text) (right_read x.1) _ (stays_wider (λ y. y.1) (length x.1) (length text) (right_read x.1) l (right_stays x.1)) (λ y k. k))
 
-and_stays : (text rest : List ℕ) → length rest ≤ length text → Stays (λ x. x.1) (length text) (and_at_front text rest)
+and_stays : (text rest : List ℕ) → length rest ≤ length text → Stays (λ x. x.1) (length text) (and_at_start text rest)
 and_stays text [] l = omega arith
 and_stays text (byte ∷ rest) l = by_test (nat_eq byte 92) (λ h. rw h (omega arith)) (λ h. rw h (omega arith))
 
-follow_front_stays : (text : List ℕ) → Stays (λ x. x.1) (length text) (follow_at_front text)
-follow_front_stays [] = omega arith
-follow_front_stays (byte ∷ rest) =
+follow_at_start_stays : (text : List ℕ) → Stays (λ x. x.1) (length text) (follow_at_start text)
+follow_at_start_stays [] = omega arith
+follow_at_start_stays (byte ∷ rest) =
     by_test (nat_eq byte 41) (λ h. rw h (omega arith))
     (λ h. rw h (by_test (nat_eq byte 47) (λ d. rw d (and_stays (byte ∷ rest) rest (omega arith))) (λ d. rw d (omega arith))))
 
 follow_stays : (text : List ℕ) → Stays (λ x. x.1) (length text) (follow_read text)
 unfolding follow_read
-follow_stays text = stays_wider (λ x. x.1) (length (unblanked text)) (length text) (follow_at_front (unblanked text)) (unblanked-le text) (follow_front_stays (unblanked text))
+follow_stays text = stays_wider (λ x. x.1) (length (unblanked text)) (length text) (follow_at_start (unblanked text)) (unblanked-le text) (follow_at_start_stays (unblanked text))
 
 further_stays : (term : TermSeen) (further : List ℕ → Read (List TermSeen)) (step : Follow) (rest : List ℕ) (n : ℕ) → length rest ≤ n → Stays (λ x. x.1) (length rest) (further rest) → Stays (λ x. x.1) n (and_further term further step rest)
 further_stays term further follows.End rest n l h = l
@@ -139,7 +139,7 @@ terms_stay known (suc room) text =
     (λ x l. stays_then (λ y. y.1) (λ y. y.1) (length text) (follow_read x.1) _ (stays_wider (λ y. y.1) (length x.1) (length text) (follow_read x.1) l (follow_stays x.1))
     (λ y k. further_stays x.0 (terms_read known room) y.0 y.1 (length text) k (terms_stay known room y.1)))
 
-end_stays : (text : List ℕ) → Stays (λ x. x) (length text) (end_at_front text)
+end_stays : (text : List ℕ) → Stays (λ x. x) (length text) (end_at_start text)
 end_stays [] = omega arith
 end_stays (byte ∷ rest) = omega arith
 
@@ -148,8 +148,8 @@ unfolding parts_read
 parts_stay known text =
     stays_then (λ x. x.1) (λ x. []) (length text) (opening_read text) _ (opening_stays text)
     (λ x l. stays_then (λ y. y.1) (λ y. []) (length text) (terms_read known MAX_TERMS x.1) _ (stays_wider (λ y. y.1) (length x.1) (length text) (terms_read known MAX_TERMS x.1) l (terms_stay known MAX_TERMS x.1))
-    (λ y k. stays_then (λ z. z) (λ z. []) (length text) (end_at_front (unblanked y.1)) _
-    (stays_wider (λ z. z) (length (unblanked y.1)) (length text) (end_at_front (unblanked y.1)) (let u : length (unblanked y.1) ≤ length y.1 = unblanked-le y.1 in omega arith) (end_stays (unblanked y.1)))
+    (λ y k. stays_then (λ z. z) (λ z. []) (length text) (end_at_start (unblanked y.1)) _
+    (stays_wider (λ z. z) (length (unblanked y.1)) (length text) (end_at_start (unblanked y.1)) (let u : length (unblanked y.1) ≤ length y.1 = unblanked-le y.1 in omega arith) (end_stays (unblanked y.1)))
     (λ z m. omega arith)))
 
 -- the text from a fault on is no longer than the text

@@ -39,13 +39,13 @@ abbrev pub fault : {A : Type 0} → CondKind → List ℕ → Result A Fault
 fault kind text = Err (record { kind = kind; rest = text })
 
 -- the text after a sign, with which it begins
-abbrev pub sign_at_front : CondKind → ℕ → List ℕ → Result (List ℕ) Fault
-sign_at_front kind sign [] = fault kind []
-sign_at_front kind sign (byte ∷ rest) = cond (byte == sign) (Ok rest) (fault kind (byte ∷ rest))
+abbrev pub sign_at_start : CondKind → ℕ → List ℕ → Result (List ℕ) Fault
+sign_at_start kind sign [] = fault kind []
+sign_at_start kind sign (byte ∷ rest) = cond (byte == sign) (Ok rest) (fault kind (byte ∷ rest))
 
 -- the text after a sign, before which blanks may stand
 unfoldable pub sign_read : CondKind → ℕ → List ℕ → Result (List ℕ) Fault
-sign_read kind sign text = sign_at_front kind sign (unblanked text)
+sign_read kind sign text = sign_at_start kind sign (unblanked text)
 
 -- the quantifier of a word
 abbrev pub quantifier_of : List ℕ → Option Quantifier
@@ -65,19 +65,19 @@ before_text None rest = None
 before_text (Some x) rest = Some (x, rest)
 
 -- the quantifier at the start of a text
-abbrev pub quantifier_at_front : List ℕ → Read Quantifier
-quantifier_at_front text = found BadQuantifier text (before_text (quantifier_of (run_of is_word_byte text)) (after_run is_word_byte text))
+abbrev pub quantifier_at_start : List ℕ → Read Quantifier
+quantifier_at_start text = found BadQuantifier text (before_text (quantifier_of (run_of is_word_byte text)) (after_run is_word_byte text))
 
 -- the quantifier and the `(` after it
 unfoldable pub opening_read : List ℕ → Read Quantifier
 opening_read text = do
-  quantifier ← quantifier_at_front (unblanked text)
+  quantifier ← quantifier_at_start (unblanked text)
   inside ← sign_read BadQuantifier 40 quantifier.1
   Ok (quantifier.0, inside)
 
 -- `PLACE` at the start of a text
-abbrev pub place_at_front : List ℕ → Option (LeftSeen × List ℕ)
-place_at_front text = Some (AtPlace (run_of is_place_byte text), after_run is_place_byte text)
+abbrev pub place_at_start : List ℕ → Option (LeftSeen × List ℕ)
+place_at_start text = Some (AtPlace (run_of is_place_byte text), after_run is_place_byte text)
 
 -- `]` after the name of a place
 abbrev pub bracket_closed : List ℕ → List ℕ → Option (LeftSeen × List ℕ)
@@ -85,8 +85,8 @@ bracket_closed name [] = None
 bracket_closed name (byte ∷ rest) = cond (byte == 93) (Some (AtPlace name, rest)) None
 
 -- `PLACE]` at the start of a text, after a `[`
-abbrev pub bracketed_at_front : List ℕ → Option (LeftSeen × List ℕ)
-bracketed_at_front text = bracket_closed (run_of is_place_byte text) (after_run is_place_byte text)
+abbrev pub bracketed_at_start : List ℕ → Option (LeftSeen × List ℕ)
+bracketed_at_start text = bracket_closed (run_of is_place_byte text) (after_run is_place_byte text)
 
 -- `:REG` after the number of a thread
 abbrev pub register_of_thread : Option ℕ → List ℕ → Option (LeftSeen × List ℕ)
@@ -96,14 +96,14 @@ register_of_thread (Some thread) (byte ∷ rest) =
     cond (byte == 58) (Some (InRegister thread (run_of is_ascii_alphanumeric rest), after_run is_ascii_alphanumeric rest)) None
 
 -- `T:REG` at the start of a text
-abbrev pub register_at_front : List ℕ → Option (LeftSeen × List ℕ)
-register_at_front text = register_of_thread (number_of (run_of is_ascii_digit text)) (after_run is_ascii_digit text)
+abbrev pub register_at_start : List ℕ → Option (LeftSeen × List ℕ)
+register_at_start text = register_of_thread (number_of (run_of is_ascii_digit text)) (after_run is_ascii_digit text)
 
 -- a left side at the start of a text: `[PLACE]`, `T:REG` or `PLACE`
-unfoldable pub left_at_front : List ℕ → Option (LeftSeen × List ℕ)
-left_at_front [] = None
-left_at_front (byte ∷ rest) =
-    cond (byte == 91) (bracketed_at_front rest) (cond (is_ascii_digit byte) (register_at_front (byte ∷ rest)) (place_at_front (byte ∷ rest)))
+unfoldable pub left_at_start : List ℕ → Option (LeftSeen × List ℕ)
+left_at_start [] = None
+left_at_start (byte ∷ rest) =
+    cond (byte == 91) (bracketed_at_start rest) (cond (is_ascii_digit byte) (register_at_start (byte ∷ rest)) (place_at_start (byte ∷ rest)))
 
 -- a left side, where it is accepted
 abbrev pub known_left : (LeftSeen → Bool) → LeftSeen → Option LeftSeen
@@ -116,15 +116,15 @@ only_known known (Some left) = before_text (known_left known left.0) left.1
 
 -- a left side that is accepted, at the start of a text
 unfoldable pub left_read : (LeftSeen → Bool) → List ℕ → Read LeftSeen
-left_read known text = found BadTerm text (only_known known (left_at_front text))
+left_read known text = found BadTerm text (only_known known (left_at_start text))
 
 -- a number at the start of a text
-abbrev pub value_at_front : List ℕ → Read ℕ
-value_at_front text = found BadValue text (before_text (number_of (run_of is_ascii_digit text)) (after_run is_ascii_digit text))
+abbrev pub value_at_start : List ℕ → Read ℕ
+value_at_start text = found BadValue text (before_text (number_of (run_of is_ascii_digit text)) (after_run is_ascii_digit text))
 
 -- a value, before which blanks may stand
 unfoldable pub value_read : List ℕ → Read ℕ
-value_read text = value_at_front (unblanked text)
+value_read text = value_at_start (unblanked text)
 
 -- `=` and a value
 unfoldable pub right_read : List ℕ → Read ℕ
@@ -140,19 +140,19 @@ term_read known text = do
   Ok (record { left = left.0; value = right.0 }, right.1)
 
 -- the `\` of `/\`, after the `/` with which the text begins
-abbrev pub and_at_front : List ℕ → List ℕ → Read Follow
-and_at_front text [] = fault BadEnd text
-and_at_front text (byte ∷ rest) = cond (byte == 92) (Ok (follows.Term, rest)) (fault BadEnd text)
+abbrev pub and_at_start : List ℕ → List ℕ → Read Follow
+and_at_start text [] = fault BadEnd text
+and_at_start text (byte ∷ rest) = cond (byte == 92) (Ok (follows.Term, rest)) (fault BadEnd text)
 
 -- what follows a term: `/\` and one more, or `)`
-abbrev pub follow_at_front : List ℕ → Read Follow
-follow_at_front [] = fault BadEnd []
-follow_at_front (byte ∷ rest) =
-    cond (byte == 41) (Ok (follows.End, rest)) (cond (byte == 47) (and_at_front (byte ∷ rest) rest) (fault BadEnd (byte ∷ rest)))
+abbrev pub follow_at_start : List ℕ → Read Follow
+follow_at_start [] = fault BadEnd []
+follow_at_start (byte ∷ rest) =
+    cond (byte == 41) (Ok (follows.End, rest)) (cond (byte == 47) (and_at_start (byte ∷ rest) rest) (fault BadEnd (byte ∷ rest)))
 
 -- what follows a term, before which blanks may stand
 unfoldable pub follow_read : List ℕ → Read Follow
-follow_read text = follow_at_front (unblanked text)
+follow_read text = follow_at_start (unblanked text)
 
 -- a term before others
 abbrev pub before_terms : TermSeen → List TermSeen × List ℕ → List TermSeen × List ℕ
@@ -176,16 +176,16 @@ terms_read known (suc room) text = do
   and_further term.0 (terms_read known room) follow.0 follow.1
 
 -- the end of the text, blanks passed over
-abbrev pub end_at_front : List ℕ → Result (List ℕ) Fault
-end_at_front [] = Ok []
-end_at_front (byte ∷ rest) = fault BadEnd (byte ∷ rest)
+abbrev pub end_at_start : List ℕ → Result (List ℕ) Fault
+end_at_start [] = Ok []
+end_at_start (byte ∷ rest) = fault BadEnd (byte ∷ rest)
 
 -- a whole text: a quantifier, terms in parentheses, and nothing else
 unfoldable pub parts_read : (LeftSeen → Bool) → List ℕ → Result CondSeen Fault
 parts_read known text = do
   opening ← opening_read text
   terms ← terms_read known MAX_TERMS opening.1
-  end ← end_at_front (unblanked terms.1)
+  end ← end_at_start (unblanked terms.1)
   Ok (record { quantifier = opening.0; terms = terms.0 })
 
 -- a fault with its place in the text

@@ -12,7 +12,7 @@ use itoa::Buffer;
 /// The most bytes of a term with ` /\ ` before it: a thread, a name of 16 bytes, a value.
 const TERM_ROOM: usize = 36;
 
-fn opening(quantifier: Quantifier) -> &'static [u8]
+fn opening_text(quantifier: Quantifier) -> &'static [u8]
     ensures text { result.now ≡ quantifier_word quantifier ++ codes " (" }
     ensures short { length result.now ≤ 9 }
 {
@@ -86,7 +86,7 @@ pub fn put_cond(cond: &Cond, page: &mut Page)
     ensures text { page.new ≡ page_after page.old (cond_text (cond_view cond.now)) }
     ensures short { length (cond_text (cond_view cond.now)) < LINE_ROOM }
 {
-    page.put(opening(cond.quantifier));
+    page.put(opening_text(cond.quantifier));
     print_terms(cond.terms.as_slice(), page);
     page.put(b")");
 }

@@ -2,7 +2,7 @@ ghost use Rattle.std.specs.Prelude.{◌≡◌, [], map, option_map, IfOk, IfErr}
 ghost use Rattle.final_cond.specs.Conditions.{left_view, term_view, cond_view, InRegister, AtPlace};
 ghost use Rattle.final_cond.specs.Gives.{Gives, left_and_rest, term_and_rest};
 ghost use Rattle.text_laws.specs.Blanks.{unblanked};
-ghost use Rattle.final_cond.specs.Reading.{sign_read, quantifier_of, opening_read, known_left, only_known, has_form, place_at_front, bracketed_at_front, register_at_front, left_at_front, left_read, value_read, right_read, term_read, follow_read, terms_read, parts_read, cond_read};
+ghost use Rattle.final_cond.specs.Reading.{sign_read, quantifier_of, opening_read, known_left, only_known, has_form, place_at_start, bracketed_at_start, register_at_start, left_at_start, left_read, value_read, right_read, term_read, follow_read, terms_read, parts_read, cond_read};
 
 use crate::cond::{Cond, Left, MAX_TERMS, Quantifier, Term};
 use crate::errors::{CondError, CondFault, CondKind};
@@ -86,15 +86,15 @@ fn register_left(thread: u32, name: &[u8]) -> Option<Left>
 }
 
 fn place(text: &[u8]) -> Option<(Left, &[u8])>
-    ensures { option_map left_and_rest result ≡ only_known has_form (place_at_front text.now) }
+    ensures { option_map left_and_rest result ≡ only_known has_form (place_at_start text.now) }
 {
     let (name, rest) = split_run(Class::PlaceName, text);
     let left = place_left(name)?;
     Some((left, rest))
 }
 
-fn bracketed(text: &[u8]) -> Option<(Left, &[u8])>
-    ensures { option_map left_and_rest result ≡ only_known has_form (bracketed_at_front text.now) }
+fn bracketed_left(text: &[u8]) -> Option<(Left, &[u8])>
+    ensures { option_map left_and_rest result ≡ only_known has_form (bracketed_at_start text.now) }
 {
     let (name, rest) = split_run(Class::PlaceName, text);
     let [b']', behind @ ..] = rest else {
@@ -105,7 +105,7 @@ fn bracketed(text: &[u8]) -> Option<(Left, &[u8])>
 }
 
 fn register(text: &[u8]) -> Option<(Left, &[u8])>
-    ensures { option_map left_and_rest result ≡ only_known has_form (register_at_front text.now) }
+    ensures { option_map left_and_rest result ≡ only_known has_form (register_at_start text.now) }
 {
     let (digits, rest) = split_run(Class::Digit, text);
     let thread = number_of(digits)?;
@@ -119,11 +119,11 @@ fn register(text: &[u8]) -> Option<(Left, &[u8])>
 
 #[tactic(auto, using(crate::proofs::LeftLaws::left_of_nothing, crate::proofs::LeftLaws::left_of_bracket, crate::proofs::LeftLaws::left_of_digit, crate::proofs::LeftLaws::left_of_other))]
 fn left(text: &[u8]) -> Option<(Left, &[u8])>
-    ensures { option_map left_and_rest result ≡ only_known has_form (left_at_front text.now) }
+    ensures { option_map left_and_rest result ≡ only_known has_form (left_at_start text.now) }
 {
     match text {
         [] => None,
-        [b'[', inner @ ..] => bracketed(inner),
+        [b'[', inner @ ..] => bracketed_left(inner),
         [b'0'..=b'9', ..] => register(text),
         _ => place(text),
     }
@@ -201,7 +201,7 @@ pub fn read_follow(text: &[u8]) -> Result<(Follow, &[u8]), CondFault<'_>>
 }
 
 /// Appends the terms of a text to `terms`, which is empty, up to the `)` after the last.
-#[tactic(auto, using(crate::proofs::TermLaws::nothing_behind))]
+#[tactic(auto, using(crate::proofs::TermLaws::nothing_after))]
 fn read_terms<'a>(
     text: &'a [u8],
     terms: &mut ArrayVec<Term, MAX_TERMS>,

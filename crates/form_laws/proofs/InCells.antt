@@ -156,15 +156,15 @@ written_by t names (ops.Label l) e = cc
 written_by t names op e = refl
 
 -- the text of an operation that isn't a label
-record Stands (text : List ℕ) : Type 0 where
+record FitsCells (text : List ℕ) : Type 0 where
   pub cells : list_all is_cell_byte text ≡ true
   pub rows : ends_rows text ≡ false
   pub short : length text ≤ 40
 
-stands : (t : TableText) (names : ℕ → List ℕ) (op : Micro) → is_clear t.forms ≡ true → table_has t op ≡ true →
-    is_named (name_of names op) ≡ true → is_label_op op ≡ false → Stands (text_of (table_written t names op))
+fits_cells : (t : TableText) (names : ℕ → List ℕ) (op : Micro) → is_clear t.forms ≡ true → table_has t op ≡ true →
+    is_named (name_of names op) ≡ true → is_label_op op ≡ false → FitsCells (text_of (table_written t names op))
 unfolding ends_rows
-stands t names op clear has named other =
+fits_cells t names op clear has named other =
     let c = chosen op t.forms clear (by_form t op other has) in
     let g = form_is_good c.form c.good in
     let d = done op c.form c.does in
@@ -192,18 +192,18 @@ label_short t names l = omega arith
 rows : (t : TableText) (names : ℕ → List ℕ) (op : Micro) → is_clear t.forms ≡ true → table_has t op ≡ true →
     is_named (name_of names op) ≡ true → ends_rows (text_of (table_written t names op)) ≡ false
 rows t names (ops.Label l) clear has named = label_rows t names l
-rows t names op clear has named = (stands t names op clear has named refl).rows
+rows t names op clear has named = (fits_cells t names op clear has named refl).rows
 
 short : (t : TableText) (names : ℕ → List ℕ) (op : Micro) → is_clear t.forms ≡ true → table_has t op ≡ true →
     is_named (name_of names op) ≡ true → length (text_of (table_written t names op)) ≤ 40
 short t names (ops.Label l) clear has named = label_short t names l
-short t names op clear has named = (stands t names op clear has named refl).short
+short t names op clear has named = (fits_cells t names op clear has named refl).short
 
 -- what a clear table writes fits into the cells of a table
 pub writes_cells : (a : Puts) (t : TableText) (registers : List (List ℕ)) → is_clear t.forms ≡ true →
     ((op : Micro) → a.has op ≡ true → table_has t op ≡ true) → WritesCells a (table_writing t registers)
 writes_cells a t registers clear covers = record {
-  cells = λ names op h named other. (stands t names op clear (covers op h) named other).cells;
+  cells = λ names op h named other. (fits_cells t names op clear (covers op h) named other).cells;
   rows = λ names op h named. rows t names op clear (covers op h) named;
   labels = λ names label h. refl;
   short = λ names op h named. short t names op clear (covers op h) named;

@@ -9,7 +9,7 @@ use Rattle.form_laws.specs.declared.kind.Operand.{Operand}
 use Rattle.form_laws.specs.Tables.{piece_seen, fits_first, after_hole, fits, filled}
 use Rattle.form_laws.specs.Clear.{is_piece_good, most_in, most_of}
 use Rattle.instruction_forms.specs.Printing.{piece_text, byte_before, joined_texts, Ready, ReadyPiece}
-use Rattle.instruction_forms.proofs.Room.{filled_short, hole_good, short_after, behind_of, byte_one}
+use Rattle.instruction_forms.proofs.Room.{filled_short, hole_good, short_after, after_of, byte_one}
 
 -- operands are printed as far as those that are left, to a text that is whole, if they fit
 pub record Going (names : ℕ → List ℕ) (whole : List ℕ) (all : Bool) (out : List ℕ) (left : List Piece) (vs : List Operand) : Type 0 where
@@ -52,7 +52,7 @@ first_done names whole all out p ps vs g f =
     let long : length text ≤ length p.before.now + (most_in p.hole + length p.after.now) =
     omega (arith, here, length-append p.before.now (filled names p.hole vs ++ p.after.now), length-append (filled names p.hole vs) p.after.now) in
     record {
-      comma = omega (arith, g.ready.room, long, behind_of (map piece_seen ps) 44, length-append (out ++ text) comma, length-append out text);
+      comma = omega (arith, g.ready.room, long, after_of (map piece_seen ps) 44, length-append (out ++ text) comma, length-append out text);
       going = record {
         same = simp append_assoc (simp append_assoc at g.same);
         fit = sym (ap (λ b. b && fits (map piece_seen ps) (after_hole p.hole vs)) f) ∙ g.fit;

@@ -43,20 +43,20 @@ first_here names op f fs h c =
     ap (λ t. f.word ++ t) (commas_are names f.pieces (given (operands_of f.kind op)) (few_pieces f (good_here f fs c)))
 
 -- where the first form doesn't do the operation, the others write it
-pub first_behind : (names : ℕ → List ℕ) (op : Micro) (f : FormText) (fs : List FormText) → does op f ≡ false →
+pub first_after : (names : ℕ → List ℕ) (op : Micro) (f : FormText) (fs : List FormText) → does op f ≡ false →
     first_written names op (f ∷ fs) ≡ first_written names op fs
 unfolding first_written
-first_behind names op f fs h = ap (λ b. cond b (form_written names op f) (first_written names op fs)) h
+first_after names op f fs h = ap (λ b. cond b (form_written names op f) (first_written names op fs)) h
 
 -- where the first form doesn't do the operation, one of the others does
-pub has_behind : (op : Micro) (f : FormText) (fs : List FormText) → does op f ≡ false →
+pub has_after : (op : Micro) (f : FormText) (fs : List FormText) → does op f ≡ false →
     list_any (does op) (f ∷ fs) ≡ true → list_any (does op) fs ≡ true
-has_behind op f fs h e = rw h at e
+has_after op f fs h e = rw h at e
 
 -- without its first form a clear table is clear
-pub clear_behind : (f : FormText) (fs : List FormText) → is_clear (f ∷ fs) ≡ true → is_clear fs ≡ true
+pub clear_after : (f : FormText) (fs : List FormText) → is_clear (f ∷ fs) ≡ true → is_clear fs ≡ true
 unfolding is_clear
-clear_behind f fs h = (and_parts _ _ (and_parts (is_form_good f) _ h).1).1
+clear_after f fs h = (and_parts _ _ (and_parts (is_form_good f) _ h).1).1
 
 -- the forms that are left have the first that does the operation
 pub record Walk (names : ℕ → List ℕ) (op : Micro) (whole left : List Form) : Type 0 where
@@ -78,9 +78,9 @@ walk_on names op whole (f ∷ fs) d l w h =
     let e : length (f ∷ fs) - 1 ≡ length fs = omega arith in
     let P : List Form → Type 0 = Walk names op whole in
     subst P (sym (ap (λ n. take n fs) e ∙ take-length fs)) (record {
-      clear = clear_behind (form_seen f) (map form_seen fs) w.clear;
-      has = has_behind op (form_seen f) (map form_seen fs) h w.has;
-      same = sym (first_behind names op (form_seen f) (map form_seen fs) h) ∙ w.same;
+      clear = clear_after (form_seen f) (map form_seen fs) w.clear;
+      has = has_after op (form_seen f) (map form_seen fs) h w.has;
+      same = sym (first_after names op (form_seen f) (map form_seen fs) h) ∙ w.same;
     })
 
 -- where the first form that is left does the operation, its text is that of the operation

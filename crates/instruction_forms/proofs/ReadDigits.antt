@@ -19,11 +19,11 @@ two_read a b l h m k =
     let q : (10 * (a - 48) + (b - 48)) / 10 ≡ a - 48 = omega arith in
     let r : 48 + (10 * (a - 48) + (b - 48)) % 10 ≡ b = omega arith in
     let e : 48 + (a - 48) ≡ a = omega arith in
-    let front : decimal (a - 48) ≡ a ∷ [] = decimal_digit (a - 48) (omega arith) ∙ ap (λ x. x ∷ []) e in
+    let prefix : decimal (a - 48) ≡ a ∷ [] = decimal_digit (a - 48) (omega arith) ∙ ap (λ x. x ∷ []) e in
     let d : decimal (10 * (a - 48) + (b - 48)) ≡ a ∷ b ∷ [] =
     decimal_step (10 * (a - 48) + (b - 48)) (omega arith) (omega arith) ∙
     (ap (λ x. decimal x ++ (48 + (10 * (a - 48) + (b - 48)) % 10) ∷ []) q ∙
-    (ap (λ xs. xs ++ (48 + (10 * (a - 48) + (b - 48)) % 10) ∷ []) front ∙
+    (ap (λ xs. xs ++ (48 + (10 * (a - 48) + (b - 48)) % 10) ∷ []) prefix ∙
     ap (λ x. a ∷ x ∷ []) r)) in
     ap number_of (sym d) ∙ number_of-decimal (10 * (a - 48) + (b - 48)) (omega arith)
 

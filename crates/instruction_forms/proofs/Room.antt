@@ -120,10 +120,10 @@ after_room names used p vs out h f e =
     omega (arith, h.room, here, e, length-append out p.after)
 
 -- a byte before operands is counted among the most bytes of these
-pub behind_of : (ps : List PieceText) (b : ℕ) → length (byte_before b ps) ≤ most_of ps
+pub after_of : (ps : List PieceText) (b : ℕ) → length (byte_before b ps) ≤ most_of ps
 unfolding most_of
-behind_of [] b = omega arith
-behind_of (p ∷ ps) b = omega arith
+after_of [] b = omega arith
+after_of (p ∷ ps) b = omega arith
 
 -- before operands there is at most one byte
 pub byte_one : (ps : List PieceText) (b : ℕ) → length (byte_before b ps) ≤ 1
@@ -145,7 +145,7 @@ form_ready names f vs more next good short e k =
 pub blank_room : (f : FormText) (more : List ℕ) → is_form_good f ≡ true → more ≡ f.word → length (more ++ byte_before 32 f.pieces) ≤ 40
 blank_room f more good e =
     let parts = parts_of f good in
-    omega (arith, parts.most, behind_of f.pieces 32, ap length e, length-append more (byte_before 32 f.pieces))
+    omega (arith, parts.most, after_of f.pieces 32, ap length e, length-append more (byte_before 32 f.pieces))
 
 -- there is room for the word of a good form
 pub word_room : (f : FormText) → is_form_good f ≡ true → length f.word ≤ 40

@@ -79,7 +79,7 @@ fn raw_of_none(kind: Kind) -> Option<Raw<'static>>
     ensures { raw_seen result ≡ raw_with kind [] }
 {
     match kind {
-        Kind::Order(kind) => unnamed(Micro::Barrier { kind }),
+        Kind::Order(kind) => raw_unnamed(Micro::Barrier { kind }),
         _ => None,
     }
 }
@@ -112,19 +112,19 @@ fn raw_of_registers(kind: Kind, a: u8, b: u8) -> Option<Raw<'static>>
     ensures { raw_seen result ≡ raw_with kind (found_seen (Found.Register a) ∷ found_seen (Found.Register b) ∷ []) }
 {
     match kind {
-        Kind::Load => unnamed(Micro::Load {
+        Kind::Load => raw_unnamed(Micro::Load {
             dst: a,
             base: b,
             index: None,
         }),
-        Kind::LoadAcquire => unnamed(Micro::LoadAcq { dst: a, base: b }),
-        Kind::Store => unnamed(Micro::Store {
+        Kind::LoadAcquire => raw_unnamed(Micro::LoadAcq { dst: a, base: b }),
+        Kind::Store => raw_unnamed(Micro::Store {
             src: a,
             base: b,
             index: None,
         }),
-        Kind::StoreRelease => unnamed(Micro::StoreRel { src: a, base: b }),
-        Kind::Compare => unnamed(Micro::Cmp { a, b }),
+        Kind::StoreRelease => raw_unnamed(Micro::StoreRel { src: a, base: b }),
+        Kind::Compare => raw_unnamed(Micro::Cmp { a, b }),
         _ => None,
     }
 }
@@ -133,7 +133,7 @@ fn raw_of_number(kind: Kind, a: u8, n: u32) -> Option<Raw<'static>>
     ensures { raw_seen result ≡ raw_with kind (found_seen (Found.Register a) ∷ found_seen (Found.Number n) ∷ []) }
 {
     match kind {
-        Kind::SetNumber => unnamed(Micro::Imm { dst: a, n }),
+        Kind::SetNumber => raw_unnamed(Micro::Imm { dst: a, n }),
         _ => None,
     }
 }
@@ -170,12 +170,12 @@ fn raw_of_all_registers(kind: Kind, a: u8, b: u8, c: u8) -> Option<Raw<'static>>
     ensures { raw_seen result ≡ raw_with kind (found_seen (Found.Register a) ∷ found_seen (Found.Register b) ∷ found_seen (Found.Register c) ∷ []) }
 {
     match kind {
-        Kind::ExclusiveOr => unnamed(Micro::Xor { dst: a, a: b, b: c }),
-        Kind::Sum => unnamed(Micro::Add { dst: a, a: b, b: c }),
-        Kind::LoadIndexed => unnamed(load_indexed(a, b, c)),
-        Kind::LoadIndexFirst => unnamed(load_indexed(a, c, b)),
-        Kind::StoreIndexed => unnamed(store_indexed(a, b, c)),
-        Kind::StoreIndexFirst => unnamed(store_indexed(a, c, b)),
+        Kind::ExclusiveOr => raw_unnamed(Micro::Xor { dst: a, a: b, b: c }),
+        Kind::Sum => raw_unnamed(Micro::Add { dst: a, a: b, b: c }),
+        Kind::LoadIndexed => raw_unnamed(load_indexed(a, b, c)),
+        Kind::LoadIndexFirst => raw_unnamed(load_indexed(a, c, b)),
+        Kind::StoreIndexed => raw_unnamed(store_indexed(a, b, c)),
+        Kind::StoreIndexFirst => raw_unnamed(store_indexed(a, c, b)),
         _ => None,
     }
 }
@@ -204,16 +204,16 @@ fn raw_of_registers_number(kind: Kind, a: u8, b: u8, n: u32) -> Option<Raw<'stat
     ensures { raw_seen result ≡ raw_with kind (found_seen (Found.Register a) ∷ found_seen (Found.Register b) ∷ found_seen (Found.Number n) ∷ []) }
 {
     match kind {
-        Kind::AddNumber => unnamed(Micro::AddImm { dst: a, a: b, n }),
-        Kind::OrNumber => unnamed(Micro::OrImm { dst: a, a: b, n }),
+        Kind::AddNumber => raw_unnamed(Micro::AddImm { dst: a, a: b, n }),
+        Kind::OrNumber => raw_unnamed(Micro::OrImm { dst: a, a: b, n }),
         _ => None,
     }
 }
 
-fn unnamed(op: Micro) -> Option<Raw<'static>>
+fn raw_unnamed(op: Micro) -> Option<Raw<'static>>
     ensures { raw_seen result ≡ unnamed op }
 {
-    Some(Raw::unnamed(op))
+    Some(Raw::without_name(op))
 }
 
 fn at_place(op: Micro, name: &[u8]) -> Option<Raw<'_>>

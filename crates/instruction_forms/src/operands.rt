@@ -19,13 +19,13 @@ pub fn operands_of(kind: &Kind, op: &Micro) -> Option<OperandList>
         (Kind::AddNumber, Micro::AddImm { dst, a, n }) => with_number(dst, a, n),
         (Kind::OrNumber, Micro::OrImm { dst, a, n }) => with_number(dst, a, n),
         (Kind::Sum, Micro::Add { dst, a, b }) => registers(dst, a, b),
-        (Kind::Load, Micro::Load { dst, base, index }) => plain(dst, base, index),
-        (Kind::LoadIndexed, Micro::Load { dst, base, index }) => indexed(dst, base, index),
+        (Kind::Load, Micro::Load { dst, base, index }) => operands_without_index(dst, base, index),
+        (Kind::LoadIndexed, Micro::Load { dst, base, index }) => operands_with_index(dst, base, index),
         (Kind::LoadIndexFirst, Micro::Load { dst, base, index }) => index_first(dst, base, index),
         (Kind::LoadInto(r), Micro::LoadAt { dst, place }) => load_into(r, dst, place),
         (Kind::LoadAcquire, Micro::LoadAcq { dst, base }) => two(Register(dst), Register(base)),
-        (Kind::Store, Micro::Store { src, base, index }) => plain(src, base, index),
-        (Kind::StoreIndexed, Micro::Store { src, base, index }) => indexed(src, base, index),
+        (Kind::Store, Micro::Store { src, base, index }) => operands_without_index(src, base, index),
+        (Kind::StoreIndexed, Micro::Store { src, base, index }) => operands_with_index(src, base, index),
         (Kind::StoreIndexFirst, Micro::Store { src, base, index }) => index_first(src, base, index),
         (Kind::StoreNumber, Micro::StoreAt { place, n }) => two(Place(place), Number(n)),
         (Kind::StoreRelease, Micro::StoreRel { src, base }) => two(Register(src), Register(base)),
@@ -57,7 +57,7 @@ fn registers(a: u8, b: u8, c: u8) -> Option<OperandList>
 
 /// The operands of an access without an index.
 #[inline]
-fn plain(r: u8, base: u8, index: Option<u8>) -> Option<OperandList>
+fn operands_without_index(r: u8, base: u8, index: Option<u8>) -> Option<OperandList>
     ensures load { option_map operands_in result ≡ operands_of Kind.Load (Micro.Load r base index) }
     ensures store { option_map operands_in result ≡ operands_of Kind.Store (Micro.Store r base index) }
 {
@@ -69,7 +69,7 @@ fn plain(r: u8, base: u8, index: Option<u8>) -> Option<OperandList>
 
 /// The operands of an access with an index, the base first.
 #[inline]
-fn indexed(r: u8, base: u8, index: Option<u8>) -> Option<OperandList>
+fn operands_with_index(r: u8, base: u8, index: Option<u8>) -> Option<OperandList>
     ensures load { option_map operands_in result ≡ operands_of Kind.LoadIndexed (Micro.Load r base index) }
     ensures store { option_map operands_in result ≡ operands_of Kind.StoreIndexed (Micro.Store r base index) }
 {

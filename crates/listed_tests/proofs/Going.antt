@@ -10,11 +10,11 @@ use Rattle.diy_io.specs.Shelf.{ShelfSeen, Idle, NotCreated}
 use Rattle.listed_tests.specs.declared.names.Closed.{Closed}
 use Rattle.listed_tests.specs.Files.{number_of, file_of, path_of, all_path, file_lines, test_files, count_line}
 use Rattle.listed_tests.specs.Putting.{Put, PutPart, Filling}
-use Rattle.listed_tests.specs.Keeping.{Keeps, KeepsLine, Goes, HasGone, NamesBehind, StopsBehind, NamesAll, StopsNaming, Naming}
+use Rattle.listed_tests.specs.Keeping.{Keeps, KeepsLine, Goes, HasGone, NamesAfter, StopsAfter, NamesAll, StopsNaming, Naming}
 use Rattle.listed_tests.specs.Ends.{WritesAll, StopsAtTest, StopsAtAll}
 use Rattle.listed_tests.proofs.Lines.{length_more, file_lines-append, file_lines_none, test_files_none, test_files_more, counted_next, counted_once, file_counted, lines_counted, lines_more, lines_so_far, waits_more}
 use Rattle.listed_tests.proofs.Shelves.{put_nothing, put_both, put_then_part, part_more, part_not_begun}
-use Rattle.listed_tests.proofs.Behind.{GoesOn, begins_all, all_behind, listed_behind}
+use Rattle.listed_tests.proofs.After.{GoesOn, begins_all, all_after, listed_after}
 
 module _ (listed : List Edge → Type 0) (folder : Option (List ℕ)) (text : List Edge → List ℕ) (given : Option (List Edge)) where
   -- before the first cycle
@@ -90,8 +90,8 @@ module _ (listed : List Edge → Type 0) (folder : Option (List ℕ)) (text : Li
   }
 
   -- the lines after those that are kept
-  lines_behind : (kept more : List (List Edge)) (lines : List ℕ) (number : ℕ) → lines ≡ file_lines 0 kept → number ≡ number_of (length kept) → lines ++ file_lines number more ≡ file_lines 0 (kept ++ more)
-  lines_behind kept more lines number e f =
+  lines_after : (kept more : List (List Edge)) (lines : List ℕ) (number : ℕ) → lines ≡ file_lines 0 kept → number ≡ number_of (length kept) → lines ++ file_lines number more ≡ file_lines 0 (kept ++ more)
+  lines_after kept more lines number e f =
       let plus : 0 + length kept ≡ length kept = omega arith in
       let same : number_of number ≡ number_of (length kept) = ap number_of f ∙ counted_once (length kept) in
       ap (λ t. t ++ file_lines number more) e ∙ ap (λ t. file_lines 0 kept ++ t) (lines_counted number (length kept) more same)
@@ -110,8 +110,8 @@ module _ (listed : List Edge → Type 0) (folder : Option (List ℕ)) (text : Li
       of_closed : (closed : Option Closed) → Keeps listed given g.cycles lines closed → NamesAll listed (all_path folder) lines closed b c → Put b c ((all_path folder, file_lines 0 g.cycles) ∷ [])
       of_closed None kept n = subst (λ t. Put b c ((all_path folder, t) ∷ [])) kept.0 n
       of_closed (Some closed) kept n =
-          let whole : kept.cycles ++ n.cycles ≡ g.cycles = listed_once listed given (kept.cycles ++ n.cycles) g.cycles (all_behind listed given closed.cycle kept.cycles n.cycles kept.so_far n.all) g.all in
-          subst (λ t. Put b c ((all_path folder, t) ∷ [])) (lines_behind kept.cycles n.cycles lines closed.number kept.lines_are kept.counted ∙ ap (file_lines 0) whole) n.file
+          let whole : kept.cycles ++ n.cycles ≡ g.cycles = listed_once listed given (kept.cycles ++ n.cycles) g.cycles (all_after listed given closed.cycle kept.cycles n.cycles kept.so_far n.all) g.all in
+          subst (λ t. Put b c ((all_path folder, t) ∷ [])) (lines_after kept.cycles n.cycles lines closed.number kept.lines_are kept.counted ∙ ap (file_lines 0) whole) n.file
 
   -- the shelf fails at the file that names all
   pub names_stop : (a b c : ShelfSeen) (number : ℕ) (lines : List ℕ) (closed : Option Closed)
@@ -125,15 +125,15 @@ module _ (listed : List Edge → Type 0) (folder : Option (List ℕ)) (text : Li
       of_closed : (closed : Option Closed) → Keeps listed given g.cycles lines closed → StopsNaming listed (all_path folder) lines closed b c → PutPart b c [] (all_path folder) (file_lines 0 g.cycles)
       of_closed None kept n = subst (PutPart b c [] (all_path folder)) kept.0 n
       of_closed (Some closed) kept n =
-          let front : List (List Edge) = kept.cycles ++ n.cycles in
-          let on : GoesOn front g.cycles = begins_all listed given n.last front g.cycles (listed_behind listed given n.last closed.cycle kept.cycles n.cycles kept.so_far n.so_far) g.all in
-          part_more b c [] (all_path folder) (lines ++ file_lines closed.number n.cycles) (file_lines (0 + length front) on.rest) (file_lines 0 g.cycles) n.part
-          (ap (file_lines 0) on.parts ∙ file_lines-append 0 front on.rest
-          ∙ ap (λ t. t ++ file_lines (0 + length front) on.rest) (sym (lines_behind kept.cycles n.cycles lines closed.number kept.lines_are kept.counted)))
+          let prefix : List (List Edge) = kept.cycles ++ n.cycles in
+          let on : GoesOn prefix g.cycles = begins_all listed given n.last prefix g.cycles (listed_after listed given n.last closed.cycle kept.cycles n.cycles kept.so_far n.so_far) g.all in
+          part_more b c [] (all_path folder) (lines ++ file_lines closed.number n.cycles) (file_lines (0 + length prefix) on.rest) (file_lines 0 g.cycles) n.part
+          (ap (file_lines 0) on.parts ∙ file_lines-append 0 prefix on.rest
+          ∙ ap (λ t. t ++ file_lines (0 + length prefix) on.rest) (sym (lines_after kept.cycles n.cycles lines closed.number kept.lines_are kept.counted)))
 
 module _ (listed : List Edge → Type 0) (path lines : List ℕ) (closed : Closed) where
   -- the file that names all can't be begun
-  pub naming_none : (a b : ShelfSeen) → NotCreated a b path → StopsBehind listed path lines closed a b
+  pub naming_none : (a b : ShelfSeen) → NotCreated a b path → StopsAfter listed path lines closed a b
   naming_none a b n = record {
     last = Some closed.cycle;
     cycles = [];
@@ -187,7 +187,7 @@ module _ (listed : List Edge → Type 0) (path lines : List ℕ) (closed : Close
 
   -- the file is whole
   pub naming_done : (last : Option (List Edge)) (a b c : ShelfSeen) (number : ℕ) (waiting : List ℕ) (n : Naming listed path lines closed last a b number waiting)
-      → IsAnswer listed last None → Put a c ((path, n.written ++ waiting) ∷ []) → NamesBehind listed path lines closed a c
+      → IsAnswer listed last None → Put a c ((path, n.written ++ waiting) ∷ []) → NamesAfter listed path lines closed a c
   naming_done last a b c number waiting n none p = record {
     cycles = n.cycles;
     all = listed_none listed (Some closed.cycle) last n.cycles n.so_far none;
@@ -196,7 +196,7 @@ module _ (listed : List Edge → Type 0) (path lines : List ℕ) (closed : Close
 
   -- the shelf fails
   pub naming_stop : (last : Option (List Edge)) (a b c : ShelfSeen) (number : ℕ) (waiting : List ℕ) (n : Naming listed path lines closed last a b number waiting)
-      → PutPart a c [] path (n.written ++ waiting) → StopsBehind listed path lines closed a c
+      → PutPart a c [] path (n.written ++ waiting) → StopsAfter listed path lines closed a c
   naming_stop last a b c number waiting n p = record {
     last = last;
     cycles = n.cycles;

@@ -1,7 +1,7 @@
 pub mod Shelves
 pub mod FilesPut
 pub mod Lines
-pub mod Behind
+pub mod After
 pub mod Going
 pub mod GivenLaws
 pub mod Walks

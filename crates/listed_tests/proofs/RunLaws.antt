@@ -6,7 +6,7 @@ use Rattle.std.specs.List.{AllByRecursion, list_all}
 use Rattle.std.proofs.lemmas.Bool.{and_parts, and_from, ltb-true, ltb-false, lt-ltb, leb-true, le-leb}
 use Rattle.std.proofs.lemmas.List.{append-nil, take_all, take_more, take-append-drop}
 use Rattle.std.proofs.lemmas.List.Folds.{list_all-append}
-use Rattle.resolution_laws.proofs.Rotations.{outside_behind}
+use Rattle.resolution_laws.proofs.Rotations.{outside_after}
 use Rattle.relax_edges.specs.declared.kinds.Reach.TheVariants.{Internal}
 use Rattle.relax_edges.specs.declared.kinds.Com.TheVariants.{Rf}
 use Rattle.relax_edges.specs.declared.edge.Edge.{Edge}
@@ -70,13 +70,13 @@ run_outside c (e ∷ []) h = next_out c e h
 run_outside c (e ∷ f ∷ u) h = run_outside (next_run c e) (f ∷ u) h
 
 -- round a cycle, from any edge on
-round : (m : ℕ) (front back : List Edge) → ends_outside (back ++ front) ≡ true
-    → (stays_below m (run_after 0 (front ++ back)) (front ++ back) ≡ true) ↔ (stays_below m 0 (back ++ front) ≡ true)
+round : (m : ℕ) (prefix back : List Edge) → ends_outside (back ++ prefix) ≡ true
+    → (stays_below m (run_after 0 (prefix ++ back)) (prefix ++ back) ≡ true) ↔ (stays_below m 0 (back ++ prefix) ≡ true)
 round m [] back h =
     let none : run_after 0 back ≡ 0 = run_outside 0 back (rw (append-nil back) at h) in
     (λ s. rw (append-nil back) (rw none at s), λ s. rw none (rw (append-nil back) at s))
 round m (x ∷ f) back h =
-    let out : ends_outside (x ∷ f) ≡ true = sym (outside_behind back x f) ∙ h in
+    let out : ends_outside (x ∷ f) ≡ true = sym (outside_after back x f) ∙ h in
     let run : run_after 0 ((x ∷ f) ++ back) ≡ run_after 0 back = run_append 0 (x ∷ f) back ∙ ap (λ c. run_after c back) (run_outside 0 (x ∷ f) out) in
     let past : run_after (run_after 0 back) (x ∷ f) ≡ 0 = run_outside (run_after 0 back) (x ∷ f) out in (
       λ s. let p = below_parts m (run_after 0 back) (x ∷ f) back (rw run at s) in below_whole m 0 back (x ∷ f) (rw past at p.1) p.0,
@@ -195,14 +195,14 @@ internal_take (suc k) (e ∷ u) a = (a.0, internal_take k u a.1)
 -- where the count stays below a number, there is no run of that many
 below_no_run : (m : ℕ) (u : List Edge) → stays_below m 0 u ≡ true → HasRun m u → ⊥
 below_no_run m u h r =
-    let behind = below_parts m 0 r.front (r.run ++ r.back) (rw r.parts at h) in
-    let within = below_parts m (run_after 0 r.front) r.run r.back behind.1 in
-    absurd (omega (arith, below_internal m (run_after 0 r.front) r.run r.internal within.0, r.long))
+    let behind = below_parts m 0 r.prefix (r.run ++ r.back) (rw r.parts at h) in
+    let within = below_parts m (run_after 0 r.prefix) r.run r.back behind.1 in
+    absurd (omega (arith, below_internal m (run_after 0 r.prefix) r.run r.internal within.0, r.long))
 
 -- and where it doesn't, there is one, with the edges that were counted before the list
 run_here : (m : ℕ) (run u : List Edge) → AllByRecursion (λ e. is_external e ≡ false) run → m ≤ length run → HasRun m (run ++ u)
 run_here m run u a h = record {
-  front = [];
+  prefix = [];
   run = take m run;
   back = drop m run ++ u;
   parts = sym (sym (append_assoc (take m run) (drop m run) u) ∙ ap (λ w. w ++ u) (take-append-drop m run));
@@ -212,10 +212,10 @@ run_here m run u a h = record {
 
 run_further : (m : ℕ) (w u : List Edge) → HasRun m u → HasRun m (w ++ u)
 run_further m w u r = record {
-  front = w ++ r.front;
+  prefix = w ++ r.prefix;
   run = r.run;
   back = r.back;
-  parts = rw r.parts (sym (append_assoc w r.front (r.run ++ r.back)));
+  parts = rw r.parts (sym (append_assoc w r.prefix (r.run ++ r.back)));
   long = r.long;
   internal = r.internal;
 }

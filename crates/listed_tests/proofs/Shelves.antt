@@ -25,25 +25,25 @@ with_more_filled : (path a b : List ℕ) (files : Files) → with_more path b (w
 with_more_filled path a b files =
     ap (λ bytes. with_file path (bytes ++ b) (with_file path a files)) (bytes_in_with path a files) ∙ with_file_again path a (a ++ b) files
 
-told_more : (path a b : List ℕ) (files : Option Files) → option_map (with_more path b) (option_map (with_file path a) files) ≡ option_map (with_file path (a ++ b)) files
-told_more path a b None = refl
-told_more path a b (Some files) = ap Some (with_more_filled path a b files)
+with_more_after : (path a b : List ℕ) (files : Option Files) → option_map (with_more path b) (option_map (with_file path a) files) ≡ option_map (with_file path (a ++ b)) files
+with_more_after path a b None = refl
+with_more_after path a b (Some files) = ap Some (with_more_filled path a b files)
 
 with_files-append : (xs ys : List (List ℕ × List ℕ)) (files : Files) → with_files (xs ++ ys) files ≡ with_files ys (with_files xs files)
 with_files-append [] ys files = refl
 with_files-append (x ∷ xs) ys files = with_files-append xs ys (with_file x.0 x.1 files)
 
-told-append : (xs ys : List (List ℕ × List ℕ)) (files : Option Files) → option_map (with_files ys) (option_map (with_files xs) files) ≡ option_map (with_files (xs ++ ys)) files
-told-append xs ys None = refl
-told-append xs ys (Some files) = ap Some (sym (with_files-append xs ys files))
+shown-append : (xs ys : List (List ℕ × List ℕ)) (files : Option Files) → option_map (with_files ys) (option_map (with_files xs) files) ≡ option_map (with_files (xs ++ ys)) files
+shown-append xs ys None = refl
+shown-append xs ys (Some files) = ap Some (sym (with_files-append xs ys files))
 
-told_nothing : (files : Option Files) → option_map (with_files []) files ≡ files
-told_nothing None = refl
-told_nothing (Some files) = refl
+with_no_files : (files : Option Files) → option_map (with_files []) files ≡ files
+with_no_files None = refl
+with_no_files (Some files) = refl
 
-told_one : (path a : List ℕ) (files : Option Files) → option_map (with_file path a) files ≡ option_map (with_files ((path, a) ∷ [])) files
-told_one path a None = refl
-told_one path a (Some files) = refl
+with_one_file : (path a : List ℕ) (files : Option Files) → option_map (with_file path a) files ≡ option_map (with_files ((path, a) ∷ [])) files
+with_one_file path a None = refl
+with_one_file path a (Some files) = refl
 
 -- counts that stay, and then stay again
 stay : (a b c : ShelfSeen) → CountsStay a b → CountsStay b c → CountsStay a c
@@ -57,13 +57,13 @@ later_fault a b c e f = record {
 
 -- nothing is written
 pub put_nothing : (a : ShelfSeen) → a.mode ≡ Idle → Put a a []
-put_nothing a idle = record { mode = idle; files = sym (told_nothing a.files); no_fault = refl; counts = record { taken = refl; opened = refl } }
+put_nothing a idle = record { mode = idle; files = sym (with_no_files a.files); no_fault = refl; counts = record { taken = refl; opened = refl } }
 
 -- files, and then others
 pub put_both : (a b c : ShelfSeen) (xs ys : List (List ℕ × List ℕ)) → Put a b xs → Put b c ys → Put a c (xs ++ ys)
 put_both a b c xs ys p q = record {
   mode = q.mode;
-  files = q.files ∙ ap (option_map (with_files ys)) p.files ∙ told-append xs ys a.files;
+  files = q.files ∙ ap (option_map (with_files ys)) p.files ∙ shown-append xs ys a.files;
   no_fault = q.no_fault ∙ p.no_fault;
   counts = stay a b c p.counts q.counts;
 }
@@ -71,13 +71,13 @@ put_both a b c xs ys p q = record {
 -- files, and then one in part
 pub put_then_part : (a b c : ShelfSeen) (xs : List (List ℕ × List ℕ)) (path text : List ℕ) → Put a b xs → PutPart b c [] path text → PutPart a c xs path text
 put_then_part a b c xs path text p q = record {
-  front = q.front;
+  prefix = q.prefix;
   rest = q.rest;
   parts = q.parts;
   mode = q.mode;
   files = elim q.files [
-    | inl same ↦ inl (same ∙ told_nothing b.files ∙ p.files)
-    | inr part ↦ inr (part ∙ ap (option_map (with_files ((path, q.front) ∷ []))) p.files ∙ told-append xs ((path, q.front) ∷ []) a.files)
+    | inl same ↦ inl (same ∙ with_no_files b.files ∙ p.files)
+    | inr part ↦ inr (part ∙ ap (option_map (with_files ((path, q.prefix) ∷ []))) p.files ∙ shown-append xs ((path, q.prefix) ∷ []) a.files)
   ];
   counts = stay a b c p.counts q.counts;
   faulted = later_fault a b c p.no_fault q.faulted;
@@ -86,9 +86,9 @@ put_then_part a b c xs path text p q = record {
 -- a file in part is one in part of a longer text
 pub part_more : (a b : ShelfSeen) (xs : List (List ℕ × List ℕ)) (path text more whole : List ℕ) → PutPart a b xs path text → whole ≡ text ++ more → PutPart a b xs path whole
 part_more a b xs path text more whole p e = record {
-  front = p.front;
+  prefix = p.prefix;
   rest = p.rest ++ more;
-  parts = e ∙ ap (λ t. t ++ more) p.parts ∙ append_assoc p.front p.rest more;
+  parts = e ∙ ap (λ t. t ++ more) p.parts ∙ append_assoc p.prefix p.rest more;
   mode = p.mode;
   files = p.files;
   counts = p.counts;
@@ -98,11 +98,11 @@ part_more a b xs path text more whole p e = record {
 -- a file that couldn't be begun
 pub part_not_begun : (a b : ShelfSeen) (path text : List ℕ) → NotCreated a b path → PutPart a b [] path text
 part_not_begun a b path text n = record {
-  front = [];
+  prefix = [];
   rest = text;
   parts = refl;
   mode = n.mode;
-  files = elim n.files [ inl same ↦ inl (same ∙ sym (told_nothing a.files)) | inr empty ↦ inr (empty ∙ told_one path [] a.files) ];
+  files = elim n.files [ inl same ↦ inl (same ∙ sym (with_no_files a.files)) | inr empty ↦ inr (empty ∙ with_one_file path [] a.files) ];
   counts = n.counts;
   faulted = n.faulted;
 }
@@ -117,7 +117,7 @@ filling_more a b c path bytes more f x =
     let e : name_written b.mode ≡ path = ap name_written f.mode in
     record {
       mode = x.mode ∙ ap Writing e;
-      files = x.files ∙ ap (λ p. option_map (with_more p more) b.files) e ∙ ap (option_map (with_more path more)) f.files ∙ told_more path bytes more a.files;
+      files = x.files ∙ ap (λ p. option_map (with_more p more) b.files) e ∙ ap (option_map (with_more path more)) f.files ∙ with_more_after path bytes more a.files;
       no_fault = x.no_fault ∙ f.no_fault;
       counts = stay a b c f.counts x.counts;
     }
@@ -126,7 +126,7 @@ filling_more a b c path bytes more f x =
 pub filling_done : (a b c : ShelfSeen) (path bytes : List ℕ) → Filling a b path bytes → Finished b c → Put a c ((path, bytes) ∷ [])
 filling_done a b c path bytes f x = record {
   mode = x.mode;
-  files = x.files ∙ f.files ∙ told_one path bytes a.files;
+  files = x.files ∙ f.files ∙ with_one_file path bytes a.files;
   no_fault = x.no_fault ∙ f.no_fault;
   counts = stay a b c f.counts x.counts;
 }
@@ -134,11 +134,11 @@ filling_done a b c path bytes f x = record {
 -- it can't be closed
 pub filling_stopped : (a b c : ShelfSeen) (path bytes : List ℕ) → Filling a b path bytes → Stopped b c → PutPart a c [] path bytes
 filling_stopped a b c path bytes f x = record {
-  front = bytes;
+  prefix = bytes;
   rest = [];
   parts = sym (append-nil bytes);
   mode = x.mode;
-  files = inr (x.files ∙ f.files ∙ told_one path bytes a.files);
+  files = inr (x.files ∙ f.files ∙ with_one_file path bytes a.files);
   counts = stay a b c f.counts x.counts;
   faulted = later_fault a b c f.no_fault x.faulted;
 }
@@ -148,11 +148,11 @@ pub filling_part : (a b c : ShelfSeen) (path bytes more : List ℕ) → Filling 
 filling_part a b c path bytes more f x =
     let e : name_written b.mode ≡ path = ap name_written f.mode in
     record {
-      front = bytes ++ x.front;
+      prefix = bytes ++ x.prefix;
       rest = x.rest;
-      parts = ap (λ t. bytes ++ t) x.parts ∙ sym (append_assoc bytes x.front x.rest);
+      parts = ap (λ t. bytes ++ t) x.parts ∙ sym (append_assoc bytes x.prefix x.rest);
       mode = x.mode;
-      files = inr (x.files ∙ ap (λ p. option_map (with_more p x.front) b.files) e ∙ ap (option_map (with_more path x.front)) f.files ∙ told_more path bytes x.front a.files ∙ told_one path (bytes ++ x.front) a.files);
+      files = inr (x.files ∙ ap (λ p. option_map (with_more p x.prefix) b.files) e ∙ ap (option_map (with_more path x.prefix)) f.files ∙ with_more_after path bytes x.prefix a.files ∙ with_one_file path (bytes ++ x.prefix) a.files);
       counts = stay a b c f.counts x.counts;
       faulted = later_fault a b c f.no_fault x.faulted;
     }

@@ -24,7 +24,7 @@ use Rattle.listed_tests.specs.Plans.{HaveTests, has_few_threads, has_few_accesse
 use Rattle.listed_tests.specs.Runs.{HasLongRun}
 use Rattle.listed_tests.specs.Ends.{WritesAll, StopsAtTest, StopsAtAll}
 use Rattle.listed_tests.proofs.RunLaws.{long_run_crowds}
-use Rattle.listed_tests.proofs.Behind.{next_too, listed_too, all_too}
+use Rattle.listed_tests.proofs.After.{next_too, listed_too, all_too}
 
 none_is : {X : Type 0} (o : Option X) → is_none o ≡ true → o ≡ None
 none_is None h = refl

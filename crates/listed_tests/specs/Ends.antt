@@ -13,10 +13,10 @@ use Rattle.listed_tests.specs.Plans.{Plan, IsPlanned, planned_text}
 use Rattle.listed_tests.specs.Putting.{Put, PutPart}
 
 -- a listing goes on after the normal form of a cycle, where there is one
-abbrev pub BeginsBehind : Option (List Edge) → Option (List Edge) → Type 0
-BeginsBehind None None = ⊤
-BeginsBehind (Some cycle) (Some given) = IsLeast cycle given
-BeginsBehind _ _ = ⊥
+abbrev pub BeginsAfter : Option (List Edge) → Option (List Edge) → Type 0
+BeginsAfter None None = ⊤
+BeginsAfter (Some cycle) (Some given) = IsLeast cycle given
+BeginsAfter _ _ = ⊥
 
 -- The listed cycles after one that is given each have a file with their text, in order, and then there is the file that
 -- names them; and this holds of the line on their number.
@@ -43,17 +43,17 @@ pub record StopsAtAll (listed : List Edge → Type 0) (folder : Option (List ℕ
 
 -- what a listing after a cycle that is given leaves: all files and the line, with no fault; all files and a prefix of the
 -- line, where the sink failed; or files up to the one at which the shelf failed, and the sink as it was
-abbrev pub EndsBehind : {Sink : Type 0} → (Sink → SinkSeen) → Plan → Option (List Edge) → ListingEnd → ShelfSeen → ShelfSeen → Sink → Sink → Type 0
-EndsBehind seen plan given Done old new out out' =
+abbrev pub EndsAfter : {Sink : Type 0} → (Sink → SinkSeen) → Plan → Option (List Edge) → ListingEnd → ShelfSeen → ShelfSeen → Sink → Sink → Type 0
+EndsAfter seen plan given Done old new out out' =
     WritesAll (IsPlanned plan) plan.folder (planned_text plan) given old new (WroteAll (seen out) (seen out'))
-EndsBehind seen plan given OutFault old new out out' =
+EndsAfter seen plan given OutFault old new out out' =
     WritesAll (IsPlanned plan) plan.folder (planned_text plan) given old new (WrotePart (seen out) (seen out'))
-EndsBehind seen plan given ShelfFault old new out out' =
+EndsAfter seen plan given ShelfFault old new out out' =
     (out' ≡ out)
     × (StopsAtTest (IsPlanned plan) plan.folder (planned_text plan) given old new ⊎ StopsAtAll (IsPlanned plan) plan.folder (planned_text plan) given old new)
 
 -- what a listing leaves that goes on after a cycle, where there is one
 pub record EndsListing {Sink : Type 0} (seen : Sink → SinkSeen) (plan : Plan) (after : Option (List Edge)) (end : ListingEnd) (old new : ShelfSeen) (out out' : Sink) : Type 0 where
   pub given : Option (List Edge)
-  pub begins : BeginsBehind after given
-  pub ends : EndsBehind seen plan given end old new out out'
+  pub begins : BeginsAfter after given
+  pub ends : EndsAfter seen plan given end old new out out'

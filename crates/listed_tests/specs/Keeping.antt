@@ -72,13 +72,13 @@ StopsPutting puts writing wanted listed given old new =
     StopsAtTest (HaveTests puts wanted.mode listed) (folder_of wanted) (named_text puts writing wanted.mode) given old new
 
 -- the file that names all is there: it has the lines that were kept, and those of all listed cycles after the last one kept
-pub record NamesBehind (listed : List Edge → Type 0) (path lines : List ℕ) (closed : Closed) (old new : ShelfSeen) : Type 0 where
+pub record NamesAfter (listed : List Edge → Type 0) (path lines : List ℕ) (closed : Closed) (old new : ShelfSeen) : Type 0 where
   pub cycles : List (List Edge)
   pub all : AreAllListed listed (Some closed.cycle) cycles
   pub file : Put old new ((path, lines ++ file_lines closed.number cycles) ∷ [])
 
 -- the shelf failed at the file that names all, which is as it was or has a prefix of the lines of the listed cycles up to one
-pub record StopsBehind (listed : List Edge → Type 0) (path lines : List ℕ) (closed : Closed) (old new : ShelfSeen) : Type 0 where
+pub record StopsAfter (listed : List Edge → Type 0) (path lines : List ℕ) (closed : Closed) (old new : ShelfSeen) : Type 0 where
   pub last : Option (List Edge)
   pub cycles : List (List Edge)
   pub so_far : AreListedTo listed (Some closed.cycle) last cycles
@@ -87,12 +87,12 @@ pub record StopsBehind (listed : List Edge → Type 0) (path lines : List ℕ) (
 -- the file that names all is there, with the lines that were kept and, where not all were, those that come after
 abbrev pub NamesAll : (List Edge → Type 0) → List ℕ → List ℕ → Option Closed → ShelfSeen → ShelfSeen → Type 0
 NamesAll listed path lines None old new = Put old new ((path, lines) ∷ [])
-NamesAll listed path lines (Some closed) old new = NamesBehind listed path lines closed old new
+NamesAll listed path lines (Some closed) old new = NamesAfter listed path lines closed old new
 
 -- the shelf failed at that file
 abbrev pub StopsNaming : (List Edge → Type 0) → List ℕ → List ℕ → Option Closed → ShelfSeen → ShelfSeen → Type 0
 StopsNaming listed path lines None old new = PutPart old new [] path lines
-StopsNaming listed path lines (Some closed) old new = StopsBehind listed path lines closed old new
+StopsNaming listed path lines (Some closed) old new = StopsAfter listed path lines closed old new
 
 -- the same in a folder, where one is given, by the lines that are kept: the file is there, or the shelf failed at it
 abbrev pub NamesKept : (List Edge → Type 0) → Option (Bor (List ℕ)) → Names → ShelfSeen → ShelfSeen → Type 0
@@ -104,10 +104,10 @@ StopsNames listed folder names old new = StopsNaming listed (all_path (folder_in
 -- the file that names all is there: it has the lines that were kept, and then those of the listed cycles that have a test; or the
 -- shelf failed at it
 abbrev pub NamesRest : Puts → ObsMode → (List Edge → Type 0) → List ℕ → List ℕ → Closed → ShelfSeen → ShelfSeen → Type 0
-NamesRest puts mode listed path lines closed old new = NamesBehind (HaveTests puts mode listed) path lines closed old new
+NamesRest puts mode listed path lines closed old new = NamesAfter (HaveTests puts mode listed) path lines closed old new
 
 abbrev pub StopsRest : Puts → ObsMode → (List Edge → Type 0) → List ℕ → List ℕ → Closed → ShelfSeen → ShelfSeen → Type 0
-StopsRest puts mode listed path lines closed old new = StopsBehind (HaveTests puts mode listed) path lines closed old new
+StopsRest puts mode listed path lines closed old new = StopsAfter (HaveTests puts mode listed) path lines closed old new
 
 -- the file that names all has the lines of the listed cycles up to the last one, but for those that wait
 pub record Naming (listed : List Edge → Type 0) (path lines : List ℕ) (closed : Closed) (last : Option (List Edge)) (old new : ShelfSeen) (number : ℕ) (waiting : List ℕ) : Type 0 where

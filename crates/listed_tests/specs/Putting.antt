@@ -23,11 +23,11 @@ pub record Put (old new : ShelfSeen) (added : List (List ℕ × List ℕ)) : Typ
 
 -- these files were written on a shelf, and then it failed at one with this text: that one is as it was, or has a prefix of the text
 pub record PutPart (old new : ShelfSeen) (added : List (List ℕ × List ℕ)) (path text : List ℕ) : Type 0 where
-  pub front : List ℕ
+  pub prefix : List ℕ
   pub rest : List ℕ
-  pub parts : text ≡ front ++ rest
+  pub parts : text ≡ prefix ++ rest
   pub mode : new.mode ≡ Idle
-  pub files : (new.files ≡ option_map (with_files added) old.files) ⊎ (new.files ≡ option_map (with_files (added ++ (path, front) ∷ [])) old.files)
+  pub files : (new.files ≡ option_map (with_files added) old.files) ⊎ (new.files ≡ option_map (with_files (added ++ (path, prefix) ∷ [])) old.files)
   pub counts : CountsStay old new
   pub faulted : Faulted old new
 

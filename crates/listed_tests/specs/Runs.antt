@@ -7,10 +7,10 @@ use Rattle.relax_edges.specs.EdgeTable.{is_external}
 
 -- a list has this many internal edges one after the other
 pub record HasRun (many : ℕ) (edges : List Edge) : Type 0 where
-  pub front : List Edge
+  pub prefix : List Edge
   pub run : List Edge
   pub back : List Edge
-  pub parts : edges ≡ front ++ (run ++ back)
+  pub parts : edges ≡ prefix ++ (run ++ back)
   pub long : length run ≡ many
   pub internal : AllByRecursion (λ edge. is_external edge ≡ false) run
 

@@ -9,7 +9,7 @@ ghost use Rattle.cycle_enum.specs.Walking.{KnowsOf, Lists, Says};
 ghost use Rattle.diy_io.specs.Shelf.{Idle};
 ghost use Rattle.diy_io.specs.Wrote.{Wrote};
 ghost use Rattle.test_maker.specs.Refusals.{refusal_of};
-ghost use Rattle.listed_tests.specs.Ends.{BeginsBehind, EndsBehind, EndsListing};
+ghost use Rattle.listed_tests.specs.Ends.{BeginsAfter, EndsAfter, EndsListing};
 ghost use Rattle.listed_tests.specs.Files.{count_line, file_of};
 ghost use Rattle.listed_tests.specs.Keeping.{PutsAll, StopsPutting};
 ghost use Rattle.listed_tests.specs.Plans.{HaveTests, is_sought, Seeks, plan_in, test_file_of, walk_plan};
@@ -104,18 +104,18 @@ pub fn list_tests<A: Arch, H: Shelf, O: Sink>(
         ensures { result ≡ is_sought A.puts.name wanted.entry.threads wanted.entry.accesses cycle.now }
     { wanted.seeks::<A>(cycle) };
     let mut walk = Walk::new(relaxes, limits, keep, fit, take);
-    begin_behind(&mut walk, &after);
+    begin_after(&mut walk, &after);
     let mut test = Test::new();
     list_walk::<A, H, O, _, _, _>(&wanted, &mut walk, &mut test, shelf, out)
 }
 
 /// Lets a walk go on after a cycle, where there is one.
-fn begin_behind<K: Fn(&[Edge]) -> bool, J: Fn(&[Edge]) -> bool, P: Fn(&Cycle) -> bool>(
+fn begin_after<K: Fn(&[Edge]) -> bool, J: Fn(&[Edge]) -> bool, P: Fn(&Cycle) -> bool>(
     walk: &mut Walk<K, J, P>,
     after: &Option<Cycle>,
 )
     requires { walk.old.last ≡ None }
-    ensures begins { BeginsBehind after.now walk.new.last }
+    ensures begins { BeginsAfter after.now walk.new.last }
     ensures same { walk.new ≡ record walk.old { last = walk.new.last } }
 {
     match after {
@@ -145,7 +145,7 @@ fn list_walk<
     requires sought { (cycle : List EdgeValue) → IsCycle cycle → Says P.Fn.post walk.old.take cycle true ↔ Seeks A.puts wanted.now cycle }
     requires folder { ForSome wanted.now.folder (λ folder. length folder.now ≤ MAX_FOLDER) }
     requires idle { (H.seen shelf.old).mode ≡ Idle }
-    ensures { EndsBehind O.seen (walk_plan A.puts A.writing wanted.now walk.old) walk.old.last result (H.seen shelf.old) (H.seen shelf.new) out.old out.new }
+    ensures { EndsAfter O.seen (walk_plan A.puts A.writing wanted.now walk.old) walk.old.last result (H.seen shelf.old) (H.seen shelf.new) out.old out.new }
 {
     let mut names = Names::new();
     let count = match put_tests::<A, H, K, J, P>(wanted, walk, test, &mut names, shelf) {

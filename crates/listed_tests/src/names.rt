@@ -116,7 +116,7 @@ pub(crate) fn put_names<
     let path = path_of(folder, "@all");
     match &names.closed {
         None => put_file(path.as_str(), names.lines.as_slice(), shelf),
-        Some(closed) => put_behind::<A, H, K, J, P>(
+        Some(closed) => append_after::<A, H, K, J, P>(
             path.as_str(),
             &mut names.lines,
             closed,
@@ -129,7 +129,7 @@ pub(crate) fn put_names<
 
 /// Writes a file on the shelf that has the lines, and then those of the walk's cycles that have a test,
 /// after a cycle.
-fn put_behind<
+fn append_after<
     A: Arch,
     H: Shelf,
     K: Fn(&[Edge]) -> bool,

@@ -33,22 +33,22 @@ module _ (listed : List Edge → Type 0) (keeps : List Edge → Type 0) where
   cut_above : (last list m : List Edge) → IsCut listed keeps last list → listed m → Above last m → Above list m
   cut_above last list m c is a =
       elim c.whole [
-        | inl e ↦ rw (append-nil list) at (rw e at (rw c.front at a))
-        | inr none ↦ above_u list m (front_of list c.rest m (rw c.front at a)) (λ r e. none r (rw e at is))
+        | inl e ↦ rw (append-nil list) at (rw e at (rw c.prefix at a))
+        | inr none ↦ above_u list m (prefix_of list c.rest m (rw c.prefix at a)) (λ r e. none r (rw e at is))
       ]
     where
-      front_of : (u r v : List Edge) → Above (u ++ r) v → Reaches u v
-      front_of [] r v h = tt
-      front_of (x ∷ u) r [] h = h
-      front_of (x ∷ u) r (y ∷ v) h = elim h [ inl less ↦ inl less | inr both ↦ inr (both.0, front_of u r v both.1) ]
+      prefix_of : (u r v : List Edge) → Above (u ++ r) v → Reaches u v
+      prefix_of [] r v h = tt
+      prefix_of (x ∷ u) r [] h = h
+      prefix_of (x ∷ u) r (y ∷ v) h = elim h [ inl less ↦ inl less | inr both ↦ inr (both.0, prefix_of u r v both.1) ]
 
   above_raised : (last list new m : List Edge) → IsCut listed keeps last list → StepsOver list new → ToCome new m → Above last m
   above_raised last list new m c (over e) h = absurd (rw e at h)
-  above_raised last list new m c (replaced front x y back u v more) h =
-      let up : Above list new = rw (u, v) (above_replaced front x y back more) in
+  above_raised last list new m c (replaced prefix x y back u v more) h =
+      let up : Above list new = rw (u, v) (above_replaced prefix x y back more) in
       elim (reaches_cases new m (to_come_reaches new m h)) [
-        | inl b ↦ rw (c.front, b.is) (above_longer list new c.rest b.rest up)
-        | inr a ↦ rw (c.front, ← append-nil m) (above_longer list m c.rest [] (above_transitive list new m up a))
+        | inl b ↦ rw (c.prefix, b.is) (above_longer list new c.rest b.rest up)
+        | inr a ↦ rw (c.prefix, ← append-nil m) (above_longer list m c.rest [] (above_transitive list new m up a))
       ]
 
   -- from the last list on: the next of its length
@@ -112,8 +112,8 @@ module _ (listed : List Edge → Type 0) (keeps : List Edge → Type 0) where
   }
 
   -- one as long as the last
-  pub answer_behind : (last m : List Edge) → IsNext (OfLength (length last) listed) (Some last) m → IsNext listed (Some last) m
-  answer_behind last m f = record {
+  pub answer_after : (last m : List Edge) → IsNext (OfLength (length last) listed) (Some last) m → IsNext listed (Some last) m
+  answer_after last m f = record {
     is = f.is.is;
     after = f.after;
     least = λ v is h b. elim h [
@@ -123,13 +123,13 @@ module _ (listed : List Edge → Type 0) (keeps : List Edge → Type 0) where
   }
 
   -- none as long as the last: the next is longer
-  pub answer_none_behind : (last : List Edge) (answer : Option (List Edge)) → IsAnswer (OfLength (length last) listed) (Some last) None
+  pub answer_none_after : (last : List Edge) (answer : Option (List Edge)) → IsAnswer (OfLength (length last) listed) (Some last) None
       → IsAnswer (LongerThan (length last) listed) None answer → IsAnswer listed (Some last) answer
-  answer_none_behind last None none rest = λ v is h. elim h [
+  answer_none_after last None none rest = λ v is h. elim h [
     | inl less ↦ rest v (record { is = is; longer = less }) tt
     | inr both ↦ none v (record { is = is; long = sym both.0 }) (inr both)
   ]
-  answer_none_behind last (Some m) none rest = record {
+  answer_none_after last (Some m) none rest = record {
     is = rest.is.is;
     after = inl rest.is.longer;
     least = λ v is h b. elim h [

@@ -8,7 +8,7 @@ use Rattle.relax_edges.proofs.Ranks.{rank_below}
 use Rattle.walk_laws.specs.Order.{Above}
 use Rattle.listing_laws.specs.Listing.{ComesAfter}
 use Rattle.listing_laws.specs.Search.{StepsOver, over, replaced, IsRaised, IsExtended}
-use Rattle.listing_laws.specs.Counting.{lists_within, lists_behind, later}
+use Rattle.listing_laws.specs.Counting.{lists_within, lists_after, later}
 use Rattle.listing_laws.proofs.Searching.{above_replaced}
 
 -- the equations of the numbers
@@ -16,24 +16,24 @@ within-suc : (d : ℕ) → lists_within (suc d) ≡ (lists_within d + 1) * EDGES
 unfolding lists_within
 within-suc d = refl
 
-behind-nil : (d : ℕ) → lists_behind d [] ≡ lists_within d
-unfolding lists_within lists_behind
+behind-nil : (d : ℕ) → lists_after d [] ≡ lists_within d
+unfolding lists_within lists_after
 behind-nil zero = refl
 behind-nil (suc d) = refl
 
-behind-edge : (d : ℕ) (x : Edge) (u : List Edge) → lists_behind (suc d) (x ∷ u) ≡ (lists_within d + 1) * (EDGES - (rank_of x + 1)) + lists_behind d u
-unfolding lists_behind
+behind-edge : (d : ℕ) (x : Edge) (u : List Edge) → lists_after (suc d) (x ∷ u) ≡ (lists_within d + 1) * (EDGES - (rank_of x + 1)) + lists_after d u
+unfolding lists_after
 behind-edge d x u = refl
 
-behind-zero : (u : List Edge) → lists_behind 0 u ≡ 0
-unfolding lists_behind
+behind-zero : (u : List Edge) → lists_after 0 u ≡ 0
+unfolding lists_after
 behind-zero u = refl
 
 later-none : (size : ℕ) → later size None ≡ (lists_within size + 1) * (size + 1)
 unfolding later
 later-none size = refl
 
-later-some : (size : ℕ) (u : List Edge) → later size (Some u) ≡ (lists_within size + 1) * (size - length u) + lists_behind size u
+later-some : (size : ℕ) (u : List Edge) → later size (Some u) ≡ (lists_within size + 1) * (size - length u) + lists_after size u
 unfolding later
 later-some size u = refl
 
@@ -45,15 +45,15 @@ edges_left : (x : Edge) → EDGES - (rank_of x + 1) < EDGES
 edges_left x = omega (arith, rank_below x)
 
 -- no more lists come after a list than there are
-pub behind_few : (d : ℕ) (u : List Edge) → lists_behind d u ≤ lists_within d
-behind_few zero u = rw (behind-zero u) (omega arith)
-behind_few (suc d) [] = rw (behind-nil (suc d)) (omega arith)
-behind_few (suc d) (x ∷ u) =
+pub after_few : (d : ℕ) (u : List Edge) → lists_after d u ≤ lists_within d
+after_few zero u = rw (behind-zero u) (omega arith)
+after_few (suc d) [] = rw (behind-nil (suc d)) (omega arith)
+after_few (suc d) (x ∷ u) =
     rw (behind-edge d x u, within-suc d)
-    (omega (arith, behind_few d u, one_more (lists_within d) (EDGES - (rank_of x + 1)) EDGES (edges_left x)))
+    (omega (arith, after_few d u, one_more (lists_within d) (EDGES - (rank_of x + 1)) EDGES (edges_left x)))
 
 -- fewer lists come after a list that is above another than after that one
-pub above_fewer : (d : ℕ) (u v : List Edge) → length u ≤ d → length v ≤ d → Above u v → lists_behind d v < lists_behind d u
+pub above_fewer : (d : ℕ) (u v : List Edge) → length u ≤ d → length v ≤ d → Above u v → lists_after d v < lists_after d u
 above_fewer d [] v a b h = absurd h
 above_fewer d (x ∷ u) [] a b h = absurd h
 above_fewer zero (x ∷ u) (y ∷ v) a b h = absurd (omega arith)
@@ -61,7 +61,7 @@ above_fewer (suc d) (x ∷ u) (y ∷ v) a b h =
     rw (behind-edge d x u, behind-edge d y v)
     (elim h [
       | inl less ↦
-          omega (arith, behind_few d v, one_more (lists_within d) (EDGES - (rank_of y + 1)) (EDGES - (rank_of x + 1)) (omega (arith, rank_below y)))
+          omega (arith, after_few d v, one_more (lists_within d) (EDGES - (rank_of y + 1)) (EDGES - (rank_of x + 1)) (omega (arith, rank_below y)))
       | inr both ↦
           let e : (lists_within d + 1) * (EDGES - (rank_of x + 1)) ≡ (lists_within d + 1) * (EDGES - (rank_of y + 1)) =
           ap (λ z. (lists_within d + 1) * (EDGES - (rank_of z + 1))) both.0 in
@@ -69,7 +69,7 @@ above_fewer (suc d) (x ∷ u) (y ∷ v) a b h =
     ])
 
 -- fewer lists come after a list with one edge more
-pub longer_fewer : (d : ℕ) (u : List Edge) (e : Edge) → length u < d → lists_behind d (u ++ e ∷ []) < lists_behind d u
+pub longer_fewer : (d : ℕ) (u : List Edge) (e : Edge) → length u < d → lists_after d (u ++ e ∷ []) < lists_after d u
 longer_fewer zero u e l = absurd (omega arith)
 longer_fewer (suc d) [] e l =
     rw (behind-edge d e [], behind-nil d, behind-nil (suc d), within-suc d)
@@ -80,19 +80,19 @@ longer_fewer (suc d) (x ∷ u) e l =
 -- how much is left of a search that is at a list: nothing where it is over
 abbrev pub to_go : ℕ → List Edge → ℕ
 to_go n [] = 0
-to_go n (x ∷ u) = suc (lists_behind n (x ∷ u))
+to_go n (x ∷ u) = suc (lists_after n (x ∷ u))
 
-to_go_some : (n : ℕ) (u : List Edge) → 0 < length u → to_go n u ≡ suc (lists_behind n u)
+to_go_some : (n : ℕ) (u : List Edge) → 0 < length u → to_go n u ≡ suc (lists_after n u)
 to_go_some n [] h = absurd (omega arith)
 to_go_some n (x ∷ u) h = refl
 
 -- a step over a list and all that begin with it leaves less
 pub steps_fall : (n : ℕ) (u v : List Edge) → 0 < length u → length u ≤ n → StepsOver u v → to_go n v < to_go n u
 steps_fall n u v some l (over e) = rw (e, to_go_some n u some) (omega arith)
-steps_fall n u v some l (replaced front x y back a b more) =
-    let long : length u ≡ length front + suc (length back) = ap length a ∙ length-append front (x ∷ back) in
-    let short : length v ≡ length front + 1 = ap length b ∙ length-append front (y ∷ []) in
-    omega (arith, to_go_some n u some, to_go_some n v (omega arith), above_fewer n u v (omega arith) (omega arith) (rw (a, b) (above_replaced front x y back more)))
+steps_fall n u v some l (replaced prefix x y back a b more) =
+    let long : length u ≡ length prefix + suc (length back) = ap length a ∙ length-append prefix (x ∷ back) in
+    let short : length v ≡ length prefix + 1 = ap length b ∙ length-append prefix (y ∷ []) in
+    omega (arith, to_go_some n u some, to_go_some n v (omega arith), above_fewer n u v (omega arith) (omega arith) (rw (a, b) (above_replaced prefix x y back more)))
 
 -- a list that goes on past all that begin with it leaves less
 pub raised_falls : (sought : List Edge → Type 0) (n : ℕ) (u v : List Edge) → 0 < length u → length u ≤ n → IsRaised sought u v → to_go n v < to_go n u
@@ -111,11 +111,11 @@ extended_falls sought n u v some l x =
 pub later_falls : (size : ℕ) (last : Option (List Edge)) (v : List Edge) → ComesAfter last v → length v ≤ size → later size (Some v) < later size last
 later_falls size None v h l =
     rw (later-none size, later-some size v)
-    (omega (arith, behind_few size v, one_more (lists_within size) (size - length v) (size + 1) (omega arith)))
+    (omega (arith, after_few size v, one_more (lists_within size) (size - length v) (size + 1) (omega arith)))
 later_falls size (Some u) v h l =
     rw (later-some size u, later-some size v)
     (elim h [
-      | inl less ↦ omega (arith, behind_few size v, one_more (lists_within size) (size - length v) (size - length u) (omega arith))
+      | inl less ↦ omega (arith, after_few size v, one_more (lists_within size) (size - length v) (size - length u) (omega arith))
       | inr both ↦
           let e : (lists_within size + 1) * (size - length u) ≡ (lists_within size + 1) * (size - length v) =
           ap (λ k. (lists_within size + 1) * (size - k)) both.0 in

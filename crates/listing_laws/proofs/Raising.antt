@@ -20,21 +20,21 @@ pub extended_within : (wide sought : List Edge → Type 0) (u v : List Edge) →
 extended_within wide sought u v w x = record { step = x.step; all = λ m is l h. x.all m (w m is) l h }
 
 -- m begins with the list and then an edge greater than x
-record GoesOn (front : List Edge) (x : Edge) (m : List Edge) : Type 0 where
+record GoesOn (prefix : List Edge) (x : Edge) (m : List Edge) : Type 0 where
   edge : Edge
   rest : List Edge
-  is : m ≡ (front ++ edge ∷ []) ++ rest
+  is : m ≡ (prefix ++ edge ∷ []) ++ rest
   more : rank_of x < rank_of edge
 
 -- what is above a list is above the list without its last edge, or has a greater edge in the place of that one
-above_last : (front : List Edge) (x : Edge) (m : List Edge) → Above (front ++ x ∷ []) m → (Above front m) ⊎ (GoesOn front x m)
+above_last : (prefix : List Edge) (x : Edge) (m : List Edge) → Above (prefix ++ x ∷ []) m → (Above prefix m) ⊎ (GoesOn prefix x m)
 above_last [] x [] a = absurd a
 above_last [] x (z ∷ m) a = elim a [ inl less ↦ inr (record { edge = z; rest = m; is = refl; more = less }) | inr both ↦ absurd both.1 ]
-above_last (f ∷ front) x [] a = absurd a
-above_last (f ∷ front) x (z ∷ m) a =
+above_last (f ∷ prefix) x [] a = absurd a
+above_last (f ∷ prefix) x (z ∷ m) a =
     elim a [
       | inl less ↦ inl (inl less)
-      | inr both ↦ elim (above_last front x m both.1) [
+      | inr both ↦ elim (above_last prefix x m both.1) [
         | inl b ↦ inl (inr (both.0, b))
         | inr g ↦ inr (record { edge = g.edge; rest = g.rest; is = cc (both.0, g.is); more = g.more })
       ]
@@ -82,8 +82,8 @@ module _ (sought : List Edge → Type 0) where
   popped_all u list new p is to = record { step = over (to ∙ is); all = λ m s a. absurd (rw is at (p.all m s a)) }
 
   -- no sought list goes on with an edge of these ranks or of those
-  pub none_of_both : (front : List Edge) (from between to : ℕ) → NoneBetween sought front from between → NoneBetween sought front between to → NoneBetween sought front from to
-  none_of_both front from between to a b e l h = elim (cases_lt (rank_of e) between) [ inl less ↦ a e l less | inr more ↦ b e more h ]
+  pub none_of_both : (prefix : List Edge) (from between to : ℕ) → NoneBetween sought prefix from between → NoneBetween sought prefix between to → NoneBetween sought prefix from to
+  none_of_both prefix from between to a b e l h = elim (cases_lt (rank_of e) between) [ inl less ↦ a e l less | inr more ↦ b e more h ]
 
   -- a list that is reached from another, and longer, begins with it and one more edge, or is above it
   extended_cases : (u m : List Edge) (G : Type 0) → Reaches u m → length u < length m → ((e : Edge) (rest : List Edge) → m ≡ (u ++ e ∷ []) ++ rest → G) → (Above u m → G) → G
@@ -135,11 +135,11 @@ module _ (sought : List Edge → Type 0) (keeps : List Edge → Type 0) where
 
   -- no sought list begins with the prefix: the list is cut there
   pub cut_refused : (u list new rest : List Edge) (x : Edge) → new ≡ list ++ x ∷ [] → u ≡ new ++ rest → KeptWhole keeps list → LeadsNowhere sought new → IsCut sought keeps u new
-  cut_refused u list new rest x is parts kept none = record { rest = rest; front = parts; kept = kept_below list new x is kept; whole = inr none }
+  cut_refused u list new rest x is parts kept none = record { rest = rest; prefix = parts; kept = kept_below list new x is kept; whole = inr none }
 
   -- the whole list
   pub cut_whole : (u list rest : List Edge) → u ≡ list ++ rest → rest ≡ [] → KeptWhole keeps list → IsCut sought keeps u list
-  cut_whole u list rest parts none kept = record { rest = rest; front = parts; kept = λ k p l. kept k p (omega arith); whole = inl none }
+  cut_whole u list rest parts none kept = record { rest = rest; prefix = parts; kept = λ k p l. kept k p (omega arith); whole = inl none }
 
 -- one more edge of a list is moved over
 drop_edge : (i : ℕ) (u : List Edge) (d : Edge) → i < length u → drop i u ≡ get_or u i d ∷ drop (suc i) u
@@ -155,8 +155,8 @@ one_further list new edges i d parts h is =
 -- a list that went on past all that begin with it is no longer, and its shorter prefixes are kept
 steps_few : (u v : List Edge) → StepsOver u v → length v ≤ length u
 steps_few u v (over e) = omega (arith, ap length e)
-steps_few u v (replaced front x y back a b more) =
-    omega (arith, ap length a, ap length b, length-append front (x ∷ back), length-append front (y ∷ []))
+steps_few u v (replaced prefix x y back a b more) =
+    omega (arith, ap length a, ap length b, length-append prefix (x ∷ back), length-append prefix (y ∷ []))
 
 -- a list that went on past all that begin with it is no longer
 pub raised_few : (sought : List Edge → Type 0) (u v : List Edge) → IsRaised sought u v → length v ≤ length u
@@ -173,14 +173,14 @@ raised_kept sought keeps u v r = by r.step
   where
     by : StepsOver u v → KeptBelow keeps (length u) u → KeptBelow keeps (length v) v
     by (over e) kept k p l = absurd (omega (arith, ap length e))
-    by (replaced front x y back a b more) kept k p l =
-        let short : k ≤ length front = omega (arith, ap length b, length-append front (y ∷ [])) in
-        let within : k < length u = omega (arith, ap length a, length-append front (x ∷ back)) in
-        rw (b, take-append-le k front (y ∷ []) short) (rw (a, take-append-le k front (x ∷ back) short) at (kept k p within))
+    by (replaced prefix x y back a b more) kept k p l =
+        let short : k ≤ length prefix = omega (arith, ap length b, length-append prefix (y ∷ [])) in
+        let within : k < length u = omega (arith, ap length a, length-append prefix (x ∷ back)) in
+        rw (b, take-append-le k prefix (y ∷ []) short) (rw (a, take-append-le k prefix (x ∷ back) short) at (kept k p within))
 
 -- the prefix that a list is cut to is no longer than the list
 pub cut_few : (sought : List Edge → Type 0) (keeps : List Edge → Type 0) (u v : List Edge) → IsCut sought keeps u v → length v ≤ length u
-cut_few sought keeps u v c = omega (arith, ap length c.front, length-append v c.rest)
+cut_few sought keeps u v c = omega (arith, ap length c.prefix, length-append v c.rest)
 
 -- a list of one edge has no shorter prefix
 pub kept_one : (sought : List Edge → Type 0) (keeps : List Edge → Type 0) (v : List Edge) → IsExtended sought [] v → KeptBelow keeps (length v) v
@@ -190,4 +190,4 @@ kept_one sought keeps v x k p l = by x.step
     by (inl e) = absurd (omega (arith, ap length e.is))
     by (inr (over e)) = absurd (omega (arith, ap length e))
     by (inr (replaced [] x y back a b more)) = cc
-    by (inr (replaced (f ∷ front) x y back a b more)) = cc
+    by (inr (replaced (f ∷ prefix) x y back a b more)) = cc

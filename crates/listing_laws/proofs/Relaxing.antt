@@ -9,7 +9,7 @@ use Rattle.relax_edges.proofs.Ranks.{rank_injective}
 use Rattle.walk_laws.specs.Rotation.{rotated}
 use Rattle.listing_laws.specs.Search.{LeadsNowhere}
 use Rattle.listing_laws.specs.Listing.{IsOneOf, concatenated, IsConcatenation, IsMadeOf}
-use Rattle.listing_laws.specs.Reading.{fits, leads, back_parts_read, back_part_leads}
+use Rattle.listing_laws.specs.Reading.{fits, leads, suffixes_read, suffix_leads}
 use Rattle.walk_laws.proofs.Rotating.{rotation_of_place, place_of_rotation}
 use Rattle.walk_laws.proofs.Rotating.{before, behind, cuts}
 use Rattle.listing_laws.proofs.Searching.{BeginsWith}
@@ -25,9 +25,9 @@ fits_whole (x ∷ r) (y ∷ u) h =
     record { rest = b.rest; is = cc (same, b.is) }
 
 -- what begins with a relaxation fits it, and where it may end inside one, so does a prefix
-fits_front : (inside : Bool) (r v : List Edge) → fits inside r (r ++ v) ≡ true
-fits_front inside [] v = refl
-fits_front inside (x ∷ r) v = and_from (nat_eq (rank_of x) (rank_of x)) (fits inside r (r ++ v)) (eq-eqb (rank_of x) (rank_of x) refl) (fits_front inside r v)
+fits_prefix : (inside : Bool) (r v : List Edge) → fits inside r (r ++ v) ≡ true
+fits_prefix inside [] v = refl
+fits_prefix inside (x ∷ r) v = and_from (nat_eq (rank_of x) (rank_of x)) (fits inside r (r ++ v)) (eq-eqb (rank_of x) (rank_of x) refl) (fits_prefix inside r v)
 
 fits_inside : (u v : List Edge) → fits true (u ++ v) u ≡ true
 fits_inside [] [] = refl
@@ -35,13 +35,13 @@ fits_inside [] (x ∷ v) = refl
 fits_inside (x ∷ u) v = and_from (nat_eq (rank_of x) (rank_of x)) (fits true (u ++ v) u) (eq-eqb (rank_of x) (rank_of x) refl) (fits_inside u v)
 
 fits_beginning : (inside : Bool) (r u k : List Edge) → u ≡ r ++ k → fits inside r u ≡ true
-fits_beginning inside r u k e = rw e (fits_front inside r k)
+fits_beginning inside r u k e = rw e (fits_prefix inside r k)
 
 fits_ending : (inside : Bool) (r u k : List Edge) → r ≡ u ++ k → (inside ≡ true) ⊎ (k ≡ []) → fits inside r u ≡ true
 fits_ending inside r u k e (inl i) = rw (i, e) (fits_inside u k)
 fits_ending inside r u k e (inr none) =
     let whole : r ≡ u = e ∙ ap (λ w. u ++ w) none ∙ append-nil u in
-    rw whole (ap (fits inside u) (sym (append-nil u)) ∙ fits_front inside u [])
+    rw whole (ap (fits inside u) (sym (append-nil u)) ∙ fits_prefix inside u [])
 
 -- some relaxation passes a test
 record Passing (test : List Edge → Bool) (relaxes : List (List Edge)) : Type 0 where
@@ -66,10 +66,10 @@ any_of test (s ∷ rs) r o h =
     ]
 
 module _ {A : Type 0} where
-  get_or_front : (u : List A) (x d : A) (i : ℕ) → i < length u → get_or (u ++ x ∷ []) i d ≡ get_or u i d
-  get_or_front [] x d i h = absurd (omega arith)
-  get_or_front (y ∷ u) x d zero h = refl
-  get_or_front (y ∷ u) x d (suc i) h = get_or_front u x d i (omega arith)
+  get_or_in_prefix : (u : List A) (x d : A) (i : ℕ) → i < length u → get_or (u ++ x ∷ []) i d ≡ get_or u i d
+  get_or_in_prefix [] x d i h = absurd (omega arith)
+  get_or_in_prefix (y ∷ u) x d zero h = refl
+  get_or_in_prefix (y ∷ u) x d (suc i) h = get_or_in_prefix u x d i (omega arith)
 
   get_or_last : (u : List A) (x d : A) (i : ℕ) → i ≡ length u → get_or (u ++ x ∷ []) i d ≡ x
   get_or_last [] x d i h = rw h refl
@@ -83,53 +83,53 @@ module _ {A : Type 0} where
 
 module _ (relaxes : List (List Edge)) where
   -- there is an entry for each suffix, and the empty suffix is read
-  pub length-read : (inside : Bool) (u : List Edge) → length (back_parts_read inside relaxes u) ≡ suc (length u)
+  pub length-read : (inside : Bool) (u : List Edge) → length (suffixes_read inside relaxes u) ≡ suc (length u)
   length-read inside [] = refl
   length-read inside (e ∷ u) =
-      omega (arith, length-read inside u, length-append (back_parts_read inside relaxes u) (list_any (leads inside (e ∷ u) (back_parts_read inside relaxes u)) relaxes ∷ []))
+      omega (arith, length-read inside u, length-append (suffixes_read inside relaxes u) (list_any (leads inside (e ∷ u) (suffixes_read inside relaxes u)) relaxes ∷ []))
 
-  read_nothing : (inside : Bool) (u : List Edge) → get_or (back_parts_read inside relaxes u) 0 false ≡ true
+  read_nothing : (inside : Bool) (u : List Edge) → get_or (suffixes_read inside relaxes u) 0 false ≡ true
   read_nothing inside [] = refl
   read_nothing inside (e ∷ u) =
-      get_or_front (back_parts_read inside relaxes u) (list_any (leads inside (e ∷ u) (back_parts_read inside relaxes u)) relaxes) false 0 (omega (arith, length-read inside u))
+      get_or_in_prefix (suffixes_read inside relaxes u) (list_any (leads inside (e ∷ u) (suffixes_read inside relaxes u)) relaxes) false 0 (omega (arith, length-read inside u))
       ∙ read_nothing inside u
 
   read_whole : (inside : Bool) (e : Edge) (u : List Edge)
-      → get_or (back_parts_read inside relaxes (e ∷ u)) (suc (length u)) false ≡ list_any (leads inside (e ∷ u) (back_parts_read inside relaxes u)) relaxes
-  read_whole inside e u = get_or_last (back_parts_read inside relaxes u) _ false (suc (length u)) (omega (arith, length-read inside u))
+      → get_or (suffixes_read inside relaxes (e ∷ u)) (suc (length u)) false ≡ list_any (leads inside (e ∷ u) (suffixes_read inside relaxes u)) relaxes
+  read_whole inside e u = get_or_last (suffixes_read inside relaxes u) _ false (suc (length u)) (omega (arith, length-read inside u))
 
   read_back : (inside : Bool) (e : Edge) (u : List Edge) (i : ℕ) → i ≤ length u
-      → get_or (back_parts_read inside relaxes (e ∷ u)) i false ≡ get_or (back_parts_read inside relaxes u) i false
-  read_back inside e u i h = get_or_front (back_parts_read inside relaxes u) _ false i (omega (arith, length-read inside u))
+      → get_or (suffixes_read inside relaxes (e ∷ u)) i false ≡ get_or (suffixes_read inside relaxes u) i false
+  read_back inside e u i h = get_or_in_prefix (suffixes_read inside relaxes u) _ false i (omega (arith, length-read inside u))
 
   -- what is read is a concatenation
   one_more : (r v : List Edge) → IsOneOf relaxes r → IsConcatenation relaxes v → IsConcatenation relaxes (r ++ v)
   one_more r v o c = record { parts = r ∷ c.parts; each = (o, c.each); whole = ap (λ w. r ++ w) c.whole }
 
-  read_made : (u front back : List Edge) → u ≡ front ++ back → get_or (back_parts_read false relaxes u) (length back) false ≡ true → IsConcatenation relaxes back
+  read_made : (u prefix back : List Edge) → u ≡ prefix ++ back → get_or (suffixes_read false relaxes u) (length back) false ≡ true → IsConcatenation relaxes back
   read_made [] [] [] e h = record { parts = []; each = tt; whole = refl }
   read_made [] [] (y ∷ back) e h = cc
-  read_made [] (x ∷ front) back e h = cc
-  read_made (e ∷ u) (x ∷ front) back same h =
-      let rest : u ≡ front ++ back = cc in
-      read_made u front back rest (sym (read_back false e u (length back) (omega (arith, ap length rest, length-append front back))) ∙ h)
+  read_made [] (x ∷ prefix) back e h = cc
+  read_made (e ∷ u) (x ∷ prefix) back same h =
+      let rest : u ≡ prefix ++ back = cc in
+      read_made u prefix back rest (sym (read_back false e u (length back) (omega (arith, ap length rest, length-append prefix back))) ∙ h)
   read_made (e ∷ u) [] back same h =
       let long : length back ≡ suc (length u) = ap length (sym same) in
-      let p = any_passing (leads false (e ∷ u) (back_parts_read false relaxes u)) relaxes
-      (sym (read_whole false e u) ∙ ap (λ i. get_or (back_parts_read false relaxes (e ∷ u)) i false) (sym long) ∙ h) in
+      let p = any_passing (leads false (e ∷ u) (suffixes_read false relaxes u)) relaxes
+      (sym (read_whole false e u) ∙ ap (λ i. get_or (suffixes_read false relaxes (e ∷ u)) i false) (sym long) ∙ h) in
       rw (← same) (by_relax (read_made u) p.relax p.one p.passes)
     where
-      by_relax : ((front back : List Edge) → u ≡ front ++ back → get_or (back_parts_read false relaxes u) (length back) false ≡ true → IsConcatenation relaxes back)
-          → (r : List Edge) → IsOneOf relaxes r → leads false (e ∷ u) (back_parts_read false relaxes u) r ≡ true → IsConcatenation relaxes (e ∷ u)
+      by_relax : ((prefix back : List Edge) → u ≡ prefix ++ back → get_or (suffixes_read false relaxes u) (length back) false ≡ true → IsConcatenation relaxes back)
+          → (r : List Edge) → IsOneOf relaxes r → leads false (e ∷ u) (suffixes_read false relaxes u) r ≡ true → IsConcatenation relaxes (e ∷ u)
       by_relax again [] o h =
-          absurd (true≢false (sym (and_parts (fits false [] (e ∷ u)) (get_or (back_parts_read false relaxes u) (suc (length u) - 0) false) h).1
-          ∙ get_or_past (back_parts_read false relaxes u) false (suc (length u) - 0) (omega (arith, length-read false u))))
+          absurd (true≢false (sym (and_parts (fits false [] (e ∷ u)) (get_or (suffixes_read false relaxes u) (suc (length u) - 0) false) h).1
+          ∙ get_or_past (suffixes_read false relaxes u) false (suc (length u) - 0) (omega (arith, length-read false u))))
       by_relax again (x ∷ r) o h =
-          let both = and_parts (fits false (x ∷ r) (e ∷ u)) (get_or (back_parts_read false relaxes u) (suc (length u) - suc (length r)) false) h in
+          let both = and_parts (fits false (x ∷ r) (e ∷ u)) (get_or (suffixes_read false relaxes u) (suc (length u) - suc (length r)) false) h in
           let b = fits_whole (x ∷ r) (e ∷ u) both.0 in
           let rest : u ≡ r ++ b.rest = cc b.is in
           let place : suc (length u) - suc (length r) ≡ length b.rest = omega (arith, ap length rest, length-append r b.rest) in
-          rw b.is (one_more (x ∷ r) b.rest o (again r b.rest rest (ap (λ i. get_or (back_parts_read false relaxes u) i false) (sym place) ∙ both.1)))
+          rw b.is (one_more (x ∷ r) b.rest o (again r b.rest rest (ap (λ i. get_or (suffixes_read false relaxes u) i false) (sym place) ∙ both.1)))
 
   -- a list that a concatenation begins with; it is the whole where it may not end inside a relaxation
   pub record Opens (inside : Bool) (u : List Edge) : Type 0 where
@@ -141,21 +141,21 @@ module _ (relaxes : List (List Edge)) where
 
   -- what begins a concatenation is read
   AllRead : Bool → List Edge → Type 0
-  AllRead inside u = (front back : List Edge) → u ≡ front ++ back → Opens inside back → get_or (back_parts_read inside relaxes u) (length back) false ≡ true
+  AllRead inside u = (prefix back : List Edge) → u ≡ prefix ++ back → Opens inside back → get_or (suffixes_read inside relaxes u) (length back) false ≡ true
 
   leads_from : (inside : Bool) (e : Edge) (u more : List Edge) (y : Edge) (m : List Edge) (parts : List (List Edge))
       → AllByRecursion (IsOneOf relaxes) parts → (inside ≡ true) ⊎ (more ≡ []) → (e ∷ u) ++ more ≡ (y ∷ m) ++ concatenated parts
-      → ((front back : List Edge) → u ≡ front ++ back → Opens inside back → get_or (back_parts_read inside relaxes u) (length back) false ≡ true)
-      → leads inside (e ∷ u) (back_parts_read inside relaxes u) (y ∷ m) ≡ true
+      → ((prefix back : List Edge) → u ≡ prefix ++ back → Opens inside back → get_or (suffixes_read inside relaxes u) (length back) false ≡ true)
+      → leads inside (e ∷ u) (suffixes_read inside relaxes u) (y ∷ m) ≡ true
   leads_from inside e u more y m parts each ends same read =
       elim (cuts (e ∷ u) more (y ∷ m) (concatenated parts) same) [
         | before k long rest ↦ within k long rest
         | behind k short rest ↦
             let tail : u ≡ m ++ k = cc short in
             let place : suc (length u) - suc (length m) ≡ length k = omega (arith, ap length tail, length-append m k) in
-            and_from (fits inside (y ∷ m) (e ∷ u)) (get_or (back_parts_read inside relaxes u) (suc (length u) - suc (length m)) false)
+            and_from (fits inside (y ∷ m) (e ∷ u)) (get_or (suffixes_read inside relaxes u) (suc (length u) - suc (length m)) false)
             (fits_beginning inside (y ∷ m) (e ∷ u) k short)
-            (ap (λ i. get_or (back_parts_read inside relaxes u) i false) place
+            (ap (λ i. get_or (suffixes_read inside relaxes u) i false) place
             ∙ read m k tail (record { more = more; parts = parts; each = each; whole = sym rest; ends = ends }))
       ]
     where
@@ -164,12 +164,12 @@ module _ (relaxes : List (List Edge)) where
       ended [] rest (inr none) = inr refl
       ended (z ∷ k) rest (inr none) = absurd (cc)
 
-      within : (k : List Edge) → y ∷ m ≡ (e ∷ u) ++ k → more ≡ k ++ concatenated parts → leads inside (e ∷ u) (back_parts_read inside relaxes u) (y ∷ m) ≡ true
+      within : (k : List Edge) → y ∷ m ≡ (e ∷ u) ++ k → more ≡ k ++ concatenated parts → leads inside (e ∷ u) (suffixes_read inside relaxes u) (y ∷ m) ≡ true
       within k long rest =
           let place : suc (length u) - suc (length m) ≡ 0 = omega (arith, ap length long, length-append (e ∷ u) k) in
-          and_from (fits inside (y ∷ m) (e ∷ u)) (get_or (back_parts_read inside relaxes u) (suc (length u) - suc (length m)) false)
+          and_from (fits inside (y ∷ m) (e ∷ u)) (get_or (suffixes_read inside relaxes u) (suc (length u) - suc (length m)) false)
           (fits_ending inside (y ∷ m) (e ∷ u) k long (ended k rest ends))
-          (ap (λ i. get_or (back_parts_read inside relaxes u) i false) place ∙ read_nothing inside u)
+          (ap (λ i. get_or (suffixes_read inside relaxes u) i false) place ∙ read_nothing inside u)
 
   -- the first part of a concatenation that has an edge
   record FirstPart (w : List Edge) : Type 0 where
@@ -186,46 +186,46 @@ module _ (relaxes : List (List Edge)) where
   first_part ((y ∷ r) ∷ parts) e w each same = record { edge = y; part = r; parts = parts; one = each.0; each = each.1; whole = same }
 
   -- what begins a concatenation is read
-  pub all_read : (inside : Bool) (u front back : List Edge) → u ≡ front ++ back → Opens inside back → get_or (back_parts_read inside relaxes u) (length back) false ≡ true
+  pub all_read : (inside : Bool) (u prefix back : List Edge) → u ≡ prefix ++ back → Opens inside back → get_or (suffixes_read inside relaxes u) (length back) false ≡ true
   all_read inside [] [] [] same o = refl
   all_read inside [] [] (y ∷ back) same o = cc
-  all_read inside [] (x ∷ front) back same o = cc
-  all_read inside (e ∷ u) (x ∷ front) back same o =
-      let rest : u ≡ front ++ back = cc in
-      read_back inside e u (length back) (omega (arith, ap length rest, length-append front back)) ∙ all_read inside u front back rest o
+  all_read inside [] (x ∷ prefix) back same o = cc
+  all_read inside (e ∷ u) (x ∷ prefix) back same o =
+      let rest : u ≡ prefix ++ back = cc in
+      read_back inside e u (length back) (omega (arith, ap length rest, length-append prefix back)) ∙ all_read inside u prefix back rest o
   all_read inside (e ∷ u) [] back same o =
       let long : length back ≡ suc (length u) = ap length (sym same) in
       let f = first_part o.parts e (u ++ o.more) o.each (rw (← same) at o.whole) in
-      ap (λ i. get_or (back_parts_read inside relaxes (e ∷ u)) i false) long
+      ap (λ i. get_or (suffixes_read inside relaxes (e ∷ u)) i false) long
       ∙ read_whole inside e u
-      ∙ any_of (leads inside (e ∷ u) (back_parts_read inside relaxes u)) relaxes (f.edge ∷ f.part) f.one
+      ∙ any_of (leads inside (e ∷ u) (suffixes_read inside relaxes u)) relaxes (f.edge ∷ f.part) f.one
       (leads_from inside e u o.more f.edge f.part f.parts f.each o.ends f.whole (all_read inside u))
 
   -- a list that is part of a concatenation begins with a suffix of a relaxation, and is read on from there
-  back_part_of : (e : Edge) (u front : List Edge) (y : Edge) (m : List Edge) → leads true (e ∷ u) (back_parts_read true relaxes u) (y ∷ m) ≡ true
-      → back_part_leads (e ∷ u) (back_parts_read true relaxes u) (front ++ y ∷ m) ≡ true
-  back_part_of e u [] y m h = or_left (leads true (e ∷ u) (back_parts_read true relaxes u) (y ∷ m)) (back_part_leads (e ∷ u) (back_parts_read true relaxes u) m) h
-  back_part_of e u (x ∷ front) y m h =
-      or_right (leads true (e ∷ u) (back_parts_read true relaxes u) (x ∷ front ++ y ∷ m)) (back_part_leads (e ∷ u) (back_parts_read true relaxes u) (front ++ y ∷ m))
-      (back_part_of e u front y m h)
+  suffix_of : (e : Edge) (u prefix : List Edge) (y : Edge) (m : List Edge) → leads true (e ∷ u) (suffixes_read true relaxes u) (y ∷ m) ≡ true
+      → suffix_leads (e ∷ u) (suffixes_read true relaxes u) (prefix ++ y ∷ m) ≡ true
+  suffix_of e u [] y m h = or_left (leads true (e ∷ u) (suffixes_read true relaxes u) (y ∷ m)) (suffix_leads (e ∷ u) (suffixes_read true relaxes u) m) h
+  suffix_of e u (x ∷ prefix) y m h =
+      or_right (leads true (e ∷ u) (suffixes_read true relaxes u) (x ∷ prefix ++ y ∷ m)) (suffix_leads (e ∷ u) (suffixes_read true relaxes u) (prefix ++ y ∷ m))
+      (suffix_of e u prefix y m h)
 
-  stands_in : (parts : List (List Edge)) (e : Edge) (u front back : List Edge) → AllByRecursion (IsOneOf relaxes) parts → concatenated parts ≡ front ++ ((e ∷ u) ++ back)
-      → list_any (back_part_leads (e ∷ u) (back_parts_read true relaxes u)) relaxes ≡ true
-  stands_in [] e u [] back each same = cc
-  stands_in [] e u (x ∷ front) back each same = cc
-  stands_in (p ∷ parts) e u front back each same =
-      elim (cuts p (concatenated parts) front ((e ∷ u) ++ back) same) [
-        | before m f rest ↦ stands_in parts e u m back each.1 rest
-        | behind m long rest ↦ inside m long rest (stands_in parts e u [] back each.1)
+  is_in : (parts : List (List Edge)) (e : Edge) (u prefix back : List Edge) → AllByRecursion (IsOneOf relaxes) parts → concatenated parts ≡ prefix ++ ((e ∷ u) ++ back)
+      → list_any (suffix_leads (e ∷ u) (suffixes_read true relaxes u)) relaxes ≡ true
+  is_in [] e u [] back each same = cc
+  is_in [] e u (x ∷ prefix) back each same = cc
+  is_in (p ∷ parts) e u prefix back each same =
+      elim (cuts p (concatenated parts) prefix ((e ∷ u) ++ back) same) [
+        | before m f rest ↦ is_in parts e u m back each.1 rest
+        | behind m long rest ↦ inside m long rest (is_in parts e u [] back each.1)
       ]
     where
-      inside : (m : List Edge) → p ≡ front ++ m → (e ∷ u) ++ back ≡ m ++ concatenated parts
-          → (concatenated parts ≡ (e ∷ u) ++ back → list_any (back_part_leads (e ∷ u) (back_parts_read true relaxes u)) relaxes ≡ true)
-          → list_any (back_part_leads (e ∷ u) (back_parts_read true relaxes u)) relaxes ≡ true
+      inside : (m : List Edge) → p ≡ prefix ++ m → (e ∷ u) ++ back ≡ m ++ concatenated parts
+          → (concatenated parts ≡ (e ∷ u) ++ back → list_any (suffix_leads (e ∷ u) (suffixes_read true relaxes u)) relaxes ≡ true)
+          → list_any (suffix_leads (e ∷ u) (suffixes_read true relaxes u)) relaxes ≡ true
       inside [] long rest again = again (sym rest)
       inside (y ∷ m) long rest again =
-          any_of (back_part_leads (e ∷ u) (back_parts_read true relaxes u)) relaxes p each.0
-          (rw long (back_part_of e u front y m (leads_from true e u back y m parts each.1 (inl refl) rest (all_read true u))))
+          any_of (suffix_leads (e ∷ u) (suffixes_read true relaxes u)) relaxes p each.0
+          (rw long (suffix_of e u prefix y m (leads_from true e u back y m parts each.1 (inl refl) rest (all_read true u))))
 
   -- parts after other parts
   concatenated_both : (ps qs : List (List Edge)) → concatenated (ps ++ qs) ≡ concatenated ps ++ concatenated qs
@@ -237,12 +237,12 @@ module _ (relaxes : List (List Edge)) where
   each_both (p ∷ ps) qs a b = (a.0, each_both ps qs a.1 b)
 
   -- a list that can't be part of a concatenation begins no cycle that is made of relaxations
-  pub stands_none : (e : Edge) (u r : List Edge) → list_any (back_part_leads (e ∷ u) (back_parts_read true relaxes u)) relaxes ≡ false
+  pub occurs_none : (e : Edge) (u r : List Edge) → list_any (suffix_leads (e ∷ u) (suffixes_read true relaxes u)) relaxes ≡ false
       → IsMadeOf relaxes ((e ∷ u) ++ r) → ⊥
-  stands_none e u r fails m =
-      let twice : concatenated (m.made.parts ++ m.made.parts) ≡ m.rotation.back ++ ((e ∷ u) ++ (r ++ m.rotation.front)) =
-      concatenated_both m.made.parts m.made.parts ∙ ap (λ w. w ++ w) (sym m.made.whole ∙ m.rotation.to) ∙ turned m.rotation.front m.rotation.back m.rotation.from in
-      true≢false (sym (stands_in (m.made.parts ++ m.made.parts) e u m.rotation.back (r ++ m.rotation.front) (each_both m.made.parts m.made.parts m.made.each m.made.each) twice) ∙ fails)
+  occurs_none e u r fails m =
+      let twice : concatenated (m.made.parts ++ m.made.parts) ≡ m.rotation.back ++ ((e ∷ u) ++ (r ++ m.rotation.prefix)) =
+      concatenated_both m.made.parts m.made.parts ∙ ap (λ w. w ++ w) (sym m.made.whole ∙ m.rotation.to) ∙ turned m.rotation.prefix m.rotation.back m.rotation.from in
+      true≢false (sym (is_in (m.made.parts ++ m.made.parts) e u m.rotation.back (r ++ m.rotation.prefix) (each_both m.made.parts m.made.parts m.made.each m.made.each) twice) ∙ fails)
     where
       turned : (f b : List Edge) → (e ∷ u) ++ r ≡ f ++ b → (b ++ f) ++ (b ++ f) ≡ b ++ ((e ∷ u) ++ (r ++ f))
       turned f b from =
@@ -250,11 +250,11 @@ module _ (relaxes : List (List Edge)) where
           ∙ ap (λ w. b ++ w) (sym (append_assoc f b f) ∙ ap (λ w. w ++ f) (sym from) ∙ append_assoc (e ∷ u) r f)
 
   -- what is read whole is a concatenation, and what is a concatenation is read whole
-  pub concatenation_read : (u : List Edge) → IsConcatenation relaxes u → get_or (back_parts_read false relaxes u) (length u) false ≡ true
+  pub concatenation_read : (u : List Edge) → IsConcatenation relaxes u → get_or (suffixes_read false relaxes u) (length u) false ≡ true
   concatenation_read u c = all_read false u [] u refl (record { more = []; parts = c.parts; each = c.each; whole = append-nil u ∙ c.whole; ends = inr refl })
 
   -- what is read whole is a concatenation
-  pub read_concatenation : (u : List Edge) → get_or (back_parts_read false relaxes u) (length u) false ≡ true → IsConcatenation relaxes u
+  pub read_concatenation : (u : List Edge) → get_or (suffixes_read false relaxes u) (length u) false ≡ true → IsConcatenation relaxes u
   read_concatenation u h = read_made u [] u refl h
 
   -- a cycle is made of relaxations where one of its rotations by a place is a concatenation, and only there
@@ -268,10 +268,10 @@ module _ (relaxes : List (List Edge)) where
       none p.place p.within (rw p.is at m.made)
 
   -- a list that can't be part of a concatenation begins no cycle that is made of relaxations
-  pub stands_nowhere : (u : List Edge) (read : List Bool) → 0 < length u → read ≡ back_parts_read true relaxes (take (length u - 1) (drop 1 u)) → list_any (back_part_leads u read) relaxes ≡ false
+  pub occurs_nowhere : (u : List Edge) (read : List Bool) → 0 < length u → read ≡ suffixes_read true relaxes (take (length u - 1) (drop 1 u)) → list_any (suffix_leads u read) relaxes ≡ false
       → LeadsNowhere (IsMadeOf relaxes) u
-  stands_nowhere [] read some is fails = absurd (omega arith)
-  stands_nowhere (e ∷ u) read some is fails =
+  occurs_nowhere [] read some is fails = absurd (omega arith)
+  occurs_nowhere (e ∷ u) read some is fails =
       let rest : take (suc (length u) - 1) u ≡ u = take_all (suc (length u) - 1) u (omega arith) in
-      let table : read ≡ back_parts_read true relaxes u = is ∙ ap (back_parts_read true relaxes) rest in
-      λ r m. stands_none e u r (rw table at fails) m
+      let table : read ≡ suffixes_read true relaxes u = is ∙ ap (suffixes_read true relaxes) rest in
+      λ r m. occurs_none e u r (rw table at fails) m

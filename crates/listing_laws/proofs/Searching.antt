@@ -20,9 +20,9 @@ to_come_itself [] h = absurd (omega arith)
 to_come_itself (x ∷ u) h = reaches_itself (x ∷ u)
 
 -- what begins with a list, or is above it, is to come
-pub reaches_front : (u r : List Edge) → Reaches u (u ++ r)
-reaches_front [] r = tt
-reaches_front (x ∷ u) r = inr (refl, reaches_front u r)
+pub reaches_prefix : (u r : List Edge) → Reaches u (u ++ r)
+reaches_prefix [] r = tt
+reaches_prefix (x ∷ u) r = inr (refl, reaches_prefix u r)
 
 pub reaches_above : (u m : List Edge) → Above u m → Reaches u m
 reaches_above [] m h = tt
@@ -77,14 +77,14 @@ reaches_beyond (x ∷ u) r [] a = absurd a
 reaches_beyond (x ∷ u) r (y ∷ m) a = elim a [ inl less ↦ inl less | inr both ↦ inr (both.0, reaches_beyond u r m both.1) ]
 
 -- a list that goes on with the same or a greater edge is reached
-pub reaches_with : (front : List Edge) (y z : Edge) (r : List Edge) → rank_of y ≤ rank_of z → Reaches (front ++ y ∷ []) ((front ++ z ∷ []) ++ r)
+pub reaches_with : (prefix : List Edge) (y z : Edge) (r : List Edge) → rank_of y ≤ rank_of z → Reaches (prefix ++ y ∷ []) ((prefix ++ z ∷ []) ++ r)
 reaches_with [] y z r h = by_rank y z (λ l. inl l) (λ l. absurd (omega arith)) (λ s. inr (s, tt))
-reaches_with (f ∷ front) y z r h = inr (refl, reaches_with front y z r h)
+reaches_with (f ∷ prefix) y z r h = inr (refl, reaches_with prefix y z r h)
 
 -- a list with a greater edge in the place of one is above
-pub above_replaced : (front : List Edge) (x y : Edge) (back : List Edge) → rank_of x < rank_of y → Above (front ++ x ∷ back) (front ++ y ∷ [])
+pub above_replaced : (prefix : List Edge) (x y : Edge) (back : List Edge) → rank_of x < rank_of y → Above (prefix ++ x ∷ back) (prefix ++ y ∷ [])
 above_replaced [] x y back n = inl n
-above_replaced (f ∷ front) x y back n = inr (refl, above_replaced front x y back n)
+above_replaced (f ∷ prefix) x y back n = inr (refl, above_replaced prefix x y back n)
 
 -- what is to come at a list is reached from it
 pub to_come_reaches : (u m : List Edge) → ToCome u m → Reaches u m
@@ -128,16 +128,16 @@ module _ (sought : List Edge → Type 0) (keeps : List Edge → Type 0) (n : ℕ
     since = since;
     from = λ l. absurd (omega (arith, ap length e));
   }
-  stepped start list new s some (replaced front x y back u v more) since =
-      let lengths : length list ≡ length front + suc (length back) = ap length u ∙ length-append front (x ∷ back) in
-      let short : length new ≡ length front + 1 = ap length v ∙ length-append front (y ∷ []) in
+  stepped start list new s some (replaced prefix x y back u v more) since =
+      let lengths : length list ≡ length prefix + suc (length back) = ap length u ∙ length-append prefix (x ∷ back) in
+      let short : length new ≡ length prefix + 1 = ap length v ∙ length-append prefix (y ∷ []) in
       record {
         few = omega (arith, s.few);
-        kept = λ k p l. let within : k ≤ length front = omega arith in
-            rw (v, take-append-le k front (y ∷ []) within)
-            (rw (take-append-le k front (x ∷ back) within) at (rw u at (s.kept k p (omega arith))));
+        kept = λ k p l. let within : k ≤ length prefix = omega arith in
+            rw (v, take-append-le k prefix (y ∷ []) within)
+            (rw (take-append-le k prefix (x ∷ back) within) at (rw u at (s.kept k p (omega arith))));
         since = since;
-        from = λ l. rw v (to_come_on start list (front ++ y ∷ []) (s.from some) (rw u (above_replaced front x y back more)));
+        from = λ l. rw v (to_come_on start list (prefix ++ y ∷ []) (s.from some) (rw u (above_replaced prefix x y back more)));
       }
 
   -- the search goes on with a longer list: the pruner said yes on the list

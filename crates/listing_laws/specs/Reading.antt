@@ -16,12 +16,12 @@ abbrev pub leads : Bool → List Edge → List Bool → List Edge → Bool
 leads inside u read r = fits inside r u && get_or read (length u - length r) false
 
 -- for each suffix of a list, by its length, whether it is read as relaxations, one after the other
-abbrev pub back_parts_read : Bool → List (List Edge) → List Edge → List Bool
-back_parts_read inside relaxes [] = true ∷ []
-back_parts_read inside relaxes (e ∷ u) =
-    back_parts_read inside relaxes u ++ list_any (leads inside (e ∷ u) (back_parts_read inside relaxes u)) relaxes ∷ []
+abbrev pub suffixes_read : Bool → List (List Edge) → List Edge → List Bool
+suffixes_read inside relaxes [] = true ∷ []
+suffixes_read inside relaxes (e ∷ u) =
+    suffixes_read inside relaxes u ++ list_any (leads inside (e ∷ u) (suffixes_read inside relaxes u)) relaxes ∷ []
 
 -- the list begins with some suffix of the relaxation and is read on from there
-abbrev pub back_part_leads : List Edge → List Bool → List Edge → Bool
-back_part_leads u read [] = false
-back_part_leads u read (x ∷ r) = leads true u read (x ∷ r) || back_part_leads u read r
+abbrev pub suffix_leads : List Edge → List Bool → List Edge → Bool
+suffix_leads u read [] = false
+suffix_leads u read (x ∷ r) = leads true u read (x ∷ r) || suffix_leads u read r

@@ -46,14 +46,14 @@ IsFirst sought u None = (v : List Edge) → sought v → ToCome u v → ⊥
 IsFirst sought u (Some m) = IsFirstFrom sought u m
 
 -- an edge is in a list
-abbrev pub StandsIn : List Edge → Edge → Type 0
-StandsIn [] e = ⊥
-StandsIn (x ∷ u) e = (x ≡ e) ⊎ StandsIn u e
+abbrev pub IsIn : List Edge → Edge → Type 0
+IsIn [] e = ⊥
+IsIn (x ∷ u) e = (x ≡ e) ⊎ IsIn u e
 
 -- an edge occurs in a relaxation
 abbrev pub OccursIn : List (List Edge) → Edge → Type 0
 OccursIn [] e = ⊥
-OccursIn (r ∷ rs) e = (StandsIn r e) ⊎ OccursIn rs e
+OccursIn (r ∷ rs) e = (IsIn r e) ⊎ OccursIn rs e
 
 -- a relaxation has one edge
 abbrev pub IsSingle : List Edge → Type 0
@@ -67,19 +67,19 @@ pub record IsCandidate (relaxes : List (List Edge)) (u : List Edge) : Type 0 whe
 
 -- no sought list begins with the list and then an edge of rank `from` or more and below `to`
 abbrev pub NoneBetween : (List Edge → Type 0) → List Edge → ℕ → ℕ → Type 0
-NoneBetween sought front from to = (e : Edge) → from ≤ rank_of e → rank_of e < to → LeadsNowhere sought (front ++ e ∷ [])
+NoneBetween sought prefix from to = (e : Edge) → from ≤ rank_of e → rank_of e < to → LeadsNowhere sought (prefix ++ e ∷ [])
 
 -- the answer is the first edge of rank `from` or more with which a sought list might go on from the list: with the edges
 -- of lower rank none does; where there is no answer, none goes on with any edge of rank `from` or more
 abbrev pub IsNextEdge : (List Edge → Type 0) → List Edge → ℕ → Option Edge → Type 0
-IsNextEdge sought front from None = NoneBetween sought front from EDGES
-IsNextEdge sought front from (Some e) = (from ≤ rank_of e) × NoneBetween sought front from (rank_of e)
+IsNextEdge sought prefix from None = NoneBetween sought prefix from EDGES
+IsNextEdge sought prefix from (Some e) = (from ≤ rank_of e) × NoneBetween sought prefix from (rank_of e)
 
 -- a step from a list past all that begin with it: to none, or to a prefix of it with a greater edge in the place of
 -- the next one
 pub data StepsOver (u v : List Edge) : Type 0 where
   over : v ≡ [] → StepsOver u v
-  replaced : (front : List Edge) (x y : Edge) (back : List Edge) → u ≡ front ++ x ∷ back → v ≡ front ++ y ∷ [] → rank_of x < rank_of y → StepsOver u v
+  replaced : (prefix : List Edge) (x y : Edge) (back : List Edge) → u ≡ prefix ++ x ∷ back → v ≡ prefix ++ y ∷ [] → rank_of x < rank_of y → StepsOver u v
 
 -- a list goes on to v where all that begin with it are passed over: no sought list after these is left out
 pub record IsRaised (sought : List Edge → Type 0) (u v : List Edge) : Type 0 where
@@ -89,7 +89,7 @@ pub record IsRaised (sought : List Edge → Type 0) (u v : List Edge) : Type 0 w
 -- v is a prefix of u: the whole, or one with which no sought list begins, and its shorter prefixes are kept
 pub record IsCut (sought : List Edge → Type 0) (keeps : List Edge → Type 0) (u v : List Edge) : Type 0 where
   pub rest : List Edge
-  pub front : u ≡ v ++ rest
+  pub prefix : u ≡ v ++ rest
   pub kept : KeptBelow keeps (length v) v
   pub whole : (rest ≡ []) ⊎ LeadsNowhere sought v
 

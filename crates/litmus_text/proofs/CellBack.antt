@@ -79,11 +79,11 @@ operands_padded text k = ap operands_if (trimmed_padded text k)
 written_padded : (b : ℕ) (text : List ℕ) (k : ℕ) → is_blank b ≡ false → written_in (padded k (b ∷ text)) ≡ written_in (b ∷ text)
 unfolding after_run
 written_padded b text k e =
-    let front : unblanked ((b ∷ text) ++ blanks k) ≡ (b ∷ text) ++ blanks k = rw e refl in
+    let prefix : unblanked ((b ∷ text) ++ blanks k) ≡ (b ∷ text) ++ blanks k = rw e refl in
     let alone : unblanked (b ∷ text) ≡ b ∷ text = rw e refl in
     let word = run_padded (b ∷ text) k in
     let rest = ap operands_in (after_padded (b ∷ text) k) ∙ operands_padded (after_run is_inked (b ∷ text)) k in
-    ap (λ t. record { word = run_of is_inked t; operands = operands_in (after_run is_inked t) }) front
+    ap (λ t. record { word = run_of is_inked t; operands = operands_in (after_run is_inked t) }) prefix
     ∙ ap (λ x. record { word = x; operands = operands_in (after_run is_inked ((b ∷ text) ++ blanks k)) }) word
     ∙ ap (λ o. record { word = run_of is_inked (b ∷ text); operands = o }) rest
     ∙ sym (ap (λ t. record { word = run_of is_inked t; operands = operands_in (after_run is_inked t) }) alone)

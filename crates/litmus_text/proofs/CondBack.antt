@@ -76,10 +76,10 @@ term_back : (w : Writing) (here : Setting) (table s : List (List ℕ)) (term : T
 unfolding term_here
 term_back w here table s term rest fits among_table short stop =
     let behind : List ℕ = 61 ∷ (decimal term.value ++ rest) in
-    let front : unblanked (term_text term ++ rest) ≡ left_text term.left ++ behind = ap unblanked (term_shape term rest) ∙ left_stays term.left behind fits.formed.form in
+    let prefix : unblanked (term_text term ++ rest) ≡ left_text term.left ++ behind = ap unblanked (term_shape term rest) ∙ left_stays term.left behind fits.formed.form in
     let left = left_back has_form term.left behind fits.formed.form fits.formed.form refl in
     let right = right_back term.value rest fits.formed.value stop in
-    go (unblanked (term_text term ++ rest)) behind front left right
+    go (unblanked (term_text term ++ rest)) behind prefix left right
   where
     go : (text behind : List ℕ) → text ≡ left_text term.left ++ behind → left_read has_form (left_text term.left ++ behind) ≡ Ok (term.left, behind) → right_read behind ≡ Ok (term.value, rest)
         → (at_begin here.begins (left_read has_form text) >>= λ left. left_put w here (line_of_rest here text) (state s) left.0 >>= λ next.

@@ -29,8 +29,8 @@ none_pass : (sign : ℕ) (text : List ℕ) → is_without sign text ≡ true →
 none_pass sign text h i d k = not-true (get_or text i d == sign) (AllPass-from_list_all (λ byte. not (byte == sign)) text h i d k)
 
 -- the first piece of a text is what comes before its first sign
-pub piece_back : (sign : ℕ) (front behind : List ℕ) → is_without sign front ≡ true → pieces sign (front ++ sign ∷ behind) ≡ front ∷ pieces sign behind
-piece_back sign front behind h = slice_split_at (λ byte. byte == sign) front sign behind (none_pass sign front h) (eq-eqb sign sign refl)
+pub piece_back : (sign : ℕ) (prefix behind : List ℕ) → is_without sign prefix ≡ true → pieces sign (prefix ++ sign ∷ behind) ≡ prefix ∷ pieces sign behind
+piece_back sign prefix behind h = slice_split_at (λ byte. byte == sign) prefix sign behind (none_pass sign prefix h) (eq-eqb sign sign refl)
 
 -- a text without a sign is one piece
 pub piece_last : (sign : ℕ) (text : List ℕ) → is_without sign text ≡ true → pieces sign text ≡ text ∷ []

@@ -13,8 +13,8 @@ use Rattle.litmus_text.specs.Lines.{is_comment, is_passed}
 use Rattle.litmus_text.proofs.CutBack.{piece_back}
 
 -- the pieces of a text that is cut are the first text and the pieces of the second
-pub pieces_cut : (sign : ℕ) (text front behind : List ℕ) → CutParts sign text front behind → pieces sign text ≡ front ∷ pieces sign behind
-pieces_cut sign text front behind p = ap (pieces sign) p.parts ∙ piece_back sign front behind p.first
+pub pieces_cut : (sign : ℕ) (text prefix behind : List ℕ) → CutParts sign text prefix behind → pieces sign text ≡ prefix ∷ pieces sign behind
+pieces_cut sign text prefix behind p = ap (pieces sign) p.parts ∙ piece_back sign prefix behind p.first
 
 -- a text up to the end is blank, or it is a text of its own
 blanks_are : (text : List ℕ) → is_nil (trimmed text) ≡ list_all is_blank text

@@ -7,7 +7,7 @@ use Rattle.std.proofs.lemmas.List.Sums.{sum_by-append, sum_by-cons}
 use Rattle.list_laws.proofs.Cases.{by_test}
 use Rattle.micro_ops.specs.declared.operation.Micro.{Micro}
 use Rattle.micro_ops.specs.declared.operation.Micro.TheVariants as ops
-use Rattle.micro_ops.specs.Running.{labels_of, lands, stands}
+use Rattle.micro_ops.specs.Running.{labels_of, lands, occurs}
 use Rattle.text_laws.specs.Names.{is_place_name}
 use Rattle.arch_trait.specs.declared.step.Step.{Step}
 use Rattle.arch_trait.specs.Cells.{is_access, accesses_in}
@@ -18,7 +18,7 @@ use Rattle.arch_trait.specs.Names.{number_in}
 use Rattle.arch_trait.specs.Threads.{Puts, ThreadCode, visits}
 use Rattle.arch_trait.specs.Writing.{Writing}
 use Rattle.litmus_text.specs.Table.{is_label_of}
-use Rattle.litmus_text.specs.Progress.{is_placed, CodeFits, stands_once, code_lands}
+use Rattle.litmus_text.specs.Progress.{is_placed, CodeFits, occurs_once, code_lands}
 use Rattle.litmus_text.specs.Items.{Link, links_of, links_once, LinkFits}
 
 -- the place of each visit has a name of its form in a table
@@ -81,51 +81,51 @@ range_once label a (suc n) =
     let none : cond {A = ℕ} (a == label) 1 0 ≡ 0 = ap (λ b. cond {A = ℕ} b 1 0) e in omega arith)
 
 -- code that has a label has it at least once
-stands_some : (label : ℕ) (code : List Micro) → stands label code ≡ true → 1 ≤ count_by (is_label_of label) code
-stands_some label [] h = absurd (cc)
-stands_some label (op ∷ code) h =
+occurs_some : (label : ℕ) (code : List Micro) → occurs label code ≡ true → 1 ≤ count_by (is_label_of label) code
+occurs_some label [] h = absurd (cc)
+occurs_some label (op ∷ code) h =
     let cons = sum_by-cons (λ op. cond (is_label_of label op) 1 0) op code in
     by_test (is_label_of label op)
     (λ e. let one : cond {A = ℕ} (is_label_of label op) 1 0 ≡ 1 = ap (λ b. cond {A = ℕ} b 1 0) e in omega arith)
-    (λ e. let later = stands_some label code (rest op h e) in omega arith)
+    (λ e. let later = occurs_some label code (rest op h e) in omega arith)
   where
-    rest : (op : Micro) → stands label (op ∷ code) ≡ true → is_label_of label op ≡ false → stands label code ≡ true
-    rest (ops.Label l) h e = sym (ap (λ b. b || stands label code) e) ∙ h
+    rest : (op : Micro) → occurs label (op ∷ code) ≡ true → is_label_of label op ≡ false → occurs label code ≡ true
+    rest (ops.Label l) h e = sym (ap (λ b. b || occurs label code) e) ∙ h
     rest op h e = h
 
 -- a label after a branch, in code whose labels come at most once each, comes once in all
-stands_exactly : (label : ℕ) (front behind : List Micro) → count_by (is_label_of label) (front ++ behind) ≤ 1 → stands label behind ≡ true → stands_once label (front ++ behind) behind ≡ true
-stands_exactly label front behind few h =
-    let some = stands_some label behind h in
-    let split : count_by (is_label_of label) (front ++ behind) ≡ count_by (is_label_of label) front + count_by (is_label_of label) behind = sum_by-append (λ op. cond (is_label_of label op) 1 0) front behind in
-    and_from (count_by (is_label_of label) (front ++ behind) == 1) (count_by (is_label_of label) behind == 1)
-    (eq-eqb (count_by (is_label_of label) (front ++ behind)) 1 (omega arith)) (eq-eqb (count_by (is_label_of label) behind) 1 (omega arith))
+occurs_exactly : (label : ℕ) (prefix behind : List Micro) → count_by (is_label_of label) (prefix ++ behind) ≤ 1 → occurs label behind ≡ true → occurs_once label (prefix ++ behind) behind ≡ true
+occurs_exactly label prefix behind few h =
+    let some = occurs_some label behind h in
+    let split : count_by (is_label_of label) (prefix ++ behind) ≡ count_by (is_label_of label) prefix + count_by (is_label_of label) behind = sum_by-append (λ op. cond (is_label_of label op) 1 0) prefix behind in
+    and_from (count_by (is_label_of label) (prefix ++ behind) == 1) (count_by (is_label_of label) behind == 1)
+    (eq-eqb (count_by (is_label_of label) (prefix ++ behind)) 1 (omega arith)) (eq-eqb (count_by (is_label_of label) behind) 1 (omega arith))
 
-shifted : (front : List Micro) (op : Micro) (code : List Micro) → (front ++ op ∷ []) ++ code ≡ front ++ op ∷ code
-shifted front op code = append_assoc front (op ∷ []) code
+shifted : (prefix : List Micro) (op : Micro) (code : List Micro) → (prefix ++ op ∷ []) ++ code ≡ prefix ++ op ∷ code
+shifted prefix op code = append_assoc prefix (op ∷ []) code
 
-once : (front : List Micro) (op : Micro) (label : ℕ) (code : List Micro) → ((l : ℕ) → count_by (is_label_of l) (front ++ op ∷ code) ≤ 1) → stands label code ≡ true
-    → stands_once label (front ++ op ∷ code) code ≡ true
-once front op label code few h =
-    subst (λ all. stands_once label all code ≡ true) (shifted front op code)
-    (stands_exactly label (front ++ op ∷ []) code (subst (λ all. count_by (is_label_of label) all ≤ 1) (sym (shifted front op code)) (few label)) h)
+once : (prefix : List Micro) (op : Micro) (label : ℕ) (code : List Micro) → ((l : ℕ) → count_by (is_label_of l) (prefix ++ op ∷ code) ≤ 1) → occurs label code ≡ true
+    → occurs_once label (prefix ++ op ∷ code) code ≡ true
+once prefix op label code few h =
+    subst (λ all. occurs_once label all code ≡ true) (shifted prefix op code)
+    (occurs_exactly label (prefix ++ op ∷ []) code (subst (λ all. count_by (is_label_of label) all ≤ 1) (sym (shifted prefix op code)) (few label)) h)
 
-lands_front : (front code : List Micro) → ((label : ℕ) → count_by (is_label_of label) (front ++ code) ≤ 1) → lands code ≡ true → code_lands (front ++ code) code ≡ true
-lands_front front [] few h = refl
-lands_front front (ops.BranchEq label ∷ code) few h =
-    let parts = and_parts (stands label code) (lands code) h in
-    and_from (stands_once label (front ++ ops.BranchEq label ∷ code) code) (code_lands (front ++ ops.BranchEq label ∷ code) code)
-    (once front (ops.BranchEq label) label code few parts.0) (subst (λ all. code_lands all code ≡ true) (shifted front (ops.BranchEq label) code) (lands_front (front ++ ops.BranchEq label ∷ []) code (λ l. subst (λ all. count_by (is_label_of l) all ≤ 1) (sym (shifted front (ops.BranchEq label) code)) (few l)) parts.1))
-lands_front front (ops.BranchNz a label ∷ code) few h =
-    let parts = and_parts (stands label code) (lands code) h in
-    and_from (stands_once label (front ++ ops.BranchNz a label ∷ code) code) (code_lands (front ++ ops.BranchNz a label ∷ code) code)
-    (once front (ops.BranchNz a label) label code few parts.0) (subst (λ all. code_lands all code ≡ true) (shifted front (ops.BranchNz a label) code) (lands_front (front ++ ops.BranchNz a label ∷ []) code (λ l. subst (λ all. count_by (is_label_of l) all ≤ 1) (sym (shifted front (ops.BranchNz a label) code)) (few l)) parts.1))
-lands_front front (op ∷ code) few h = subst (λ all. code_lands all code ≡ true) (shifted front op code) (lands_front (front ++ op ∷ []) code (λ l. subst (λ all. count_by (is_label_of l) all ≤ 1) (sym (shifted front op code)) (few l)) h)
+lands_prefix : (prefix code : List Micro) → ((label : ℕ) → count_by (is_label_of label) (prefix ++ code) ≤ 1) → lands code ≡ true → code_lands (prefix ++ code) code ≡ true
+lands_prefix prefix [] few h = refl
+lands_prefix prefix (ops.BranchEq label ∷ code) few h =
+    let parts = and_parts (occurs label code) (lands code) h in
+    and_from (occurs_once label (prefix ++ ops.BranchEq label ∷ code) code) (code_lands (prefix ++ ops.BranchEq label ∷ code) code)
+    (once prefix (ops.BranchEq label) label code few parts.0) (subst (λ all. code_lands all code ≡ true) (shifted prefix (ops.BranchEq label) code) (lands_prefix (prefix ++ ops.BranchEq label ∷ []) code (λ l. subst (λ all. count_by (is_label_of l) all ≤ 1) (sym (shifted prefix (ops.BranchEq label) code)) (few l)) parts.1))
+lands_prefix prefix (ops.BranchNz a label ∷ code) few h =
+    let parts = and_parts (occurs label code) (lands code) h in
+    and_from (occurs_once label (prefix ++ ops.BranchNz a label ∷ code) code) (code_lands (prefix ++ ops.BranchNz a label ∷ code) code)
+    (once prefix (ops.BranchNz a label) label code few parts.0) (subst (λ all. code_lands all code ≡ true) (shifted prefix (ops.BranchNz a label) code) (lands_prefix (prefix ++ ops.BranchNz a label ∷ []) code (λ l. subst (λ all. count_by (is_label_of l) all ≤ 1) (sym (shifted prefix (ops.BranchNz a label) code)) (few l)) parts.1))
+lands_prefix prefix (op ∷ code) few h = subst (λ all. code_lands all code ≡ true) (shifted prefix op code) (lands_prefix (prefix ++ op ∷ []) code (λ l. subst (λ all. count_by (is_label_of l) all ≤ 1) (sym (shifted prefix op code)) (few l)) h)
 
 -- the branches of code whose labels are numbered in order land
 pub lands_once : (code : List Micro) (n : ℕ) → lands code ≡ true → labels_of code ≡ range_with_len 0 n → code_lands code code ≡ true
 lands_once code n h e =
-    lands_front [] code (λ label. subst (λ m. m ≤ 1) (sym (count_labels label code ∙ ap (λ ls. count_by (λ l. l == label) ls) e)) (range_once label 0 n)) h
+    lands_prefix [] code (λ label. subst (λ m. m ≤ 1) (sym (count_labels label code ∙ ap (λ ls. count_by (λ l. l == label) ls) e)) (range_once label 0 n)) h
 
 -- address registers in ascending order fit a table that has their places
 pub links_fit : (w : Writing) (table : List (List ℕ)) (names : ℕ → List ℕ) (ss : List Step) (thread low : ℕ) (links : List (ℕ × ℕ)) → HasPlaces table names ss → thread < 64

@@ -43,13 +43,13 @@ none_blank : (text : List ℕ) → is_inked_word text ≡ true → All (λ b. is
 none_blank text h i d k = not-true (is_blank (get_or text i d)) (AllPass-from_list_all (λ b. not (is_blank b)) text h i d k)
 
 -- two words with a blank between are read as two words
-pub two_back : (a : ℕ) (front : List ℕ) (b : ℕ) (behind : List ℕ) → is_inked_word (a ∷ front) ≡ true → is_inked_word (b ∷ behind) ≡ true
-    → words ((a ∷ front) ++ 32 ∷ b ∷ behind) ≡ (a ∷ front) ∷ (b ∷ behind) ∷ []
+pub two_back : (a : ℕ) (prefix : List ℕ) (b : ℕ) (behind : List ℕ) → is_inked_word (a ∷ prefix) ≡ true → is_inked_word (b ∷ behind) ≡ true
+    → words ((a ∷ prefix) ++ 32 ∷ b ∷ behind) ≡ (a ∷ prefix) ∷ (b ∷ behind) ∷ []
 unfolding words
-two_back a front b behind h k =
+two_back a prefix b behind h k =
     ap (filter (λ word. not (is_nil word)))
-    (slice_split_at is_blank (a ∷ front) 32 (b ∷ behind) (none_blank (a ∷ front) h) refl
-    ∙ ap (λ rest. (a ∷ front) ∷ rest) (slice_split_none is_blank (b ∷ behind) (none_blank (b ∷ behind) k)))
+    (slice_split_at is_blank (a ∷ prefix) 32 (b ∷ behind) (none_blank (a ∷ prefix) h) refl
+    ∙ ap (λ rest. (a ∷ prefix) ∷ rest) (slice_split_none is_blank (b ∷ behind) (none_blank (b ∷ behind) k)))
 
 arch_two : (arch : ArchName) (b : ℕ) (name : List ℕ) → is_inked_word (b ∷ name) ≡ true
     → words (arch_word arch ++ 32 ∷ b ∷ name) ≡ arch_word arch ∷ (b ∷ name) ∷ []
@@ -139,9 +139,9 @@ line_is text h k = record {
 }
 
 -- a text with a byte that is no blank isn't blank
-pub not_all_blank : (front : List ℕ) (b : ℕ) (behind : List ℕ) → is_blank b ≡ false → list_all is_blank (front ++ b ∷ behind) ≡ false
+pub not_all_blank : (prefix : List ℕ) (b : ℕ) (behind : List ℕ) → is_blank b ≡ false → list_all is_blank (prefix ++ b ∷ behind) ≡ false
 not_all_blank [] b behind h = rw h refl
-not_all_blank (a ∷ front) b behind h = by_test (is_blank a) (λ e. rw (e, not_all_blank front b behind h) refl) (λ e. rw e refl)
+not_all_blank (a ∷ prefix) b behind h = by_test (is_blank a) (λ e. rw (e, not_all_blank prefix b behind h) refl) (λ e. rw e refl)
 
 arch_on_line : (arch : ArchName) (rest : List ℕ) → list_all is_line_byte rest ≡ true → IsLine (arch_word arch ++ rest)
 arch_on_line X86 rest h = line_is _ h refl

@@ -36,7 +36,7 @@ pub initial_is : (w : Writing) (places : List (List ℕ)) (threads : List Thread
 unfolding initial_lines
 initial_is w places threads =
     ap (λ rest. codes "{\n" ++ rest)
-    (ap (λ front. front ++ codes "}\n") (sym (flat_map-flat_map ended (λ t. items_lines w places t.0 t.1.links) (enumerate_from 0 threads)))
+    (ap (λ prefix. prefix ++ codes "}\n") (sym (flat_map-flat_map ended (λ t. items_lines w places t.0 t.1.links) (enumerate_from 0 threads)))
     ∙ sym (flat_map-append ended (flat_map (λ t. items_lines w places t.0 t.1.links) (enumerate_from 0 threads)) (codes "}" ∷ [])))
 
 -- a number that passes the test of 0 is 0

@@ -17,7 +17,7 @@ use Rattle.text_laws.specs.Blanks.{is_blank, unblanked, before_blanks, trimmed}
 use Rattle.text_laws.specs.Runs.{after_run}
 use Rattle.final_cond.specs.Conditions.{LeftSeen, InRegister}
 use Rattle.final_cond.specs.CondText.{left_text}
-use Rattle.final_cond.specs.Reading.{Fault, found, only_known, left_at_front, left_read, has_form}
+use Rattle.final_cond.specs.Reading.{Fault, found, only_known, left_at_start, left_read, has_form}
 use Rattle.final_cond.proofs.BackLaws.{digits_of, left_back, named, place_bytes}
 use Rattle.text_laws.proofs.NumberLaws.{not_digits}
 use Rattle.arch_trait.specs.Threads.{Puts}
@@ -58,17 +58,17 @@ pub item_on_line : (b : ℕ) → is_item_byte b ≡ true → is_line_byte b ≡ 
 item_on_line b h = (and_parts (is_line_byte b) (not (is_blank b) && not (b == 59 || b == 125)) h).0
 
 -- a text of item bytes is its own trimming, a blank before it or not
-inked_front : (text : List ℕ) → list_all is_item_byte text ≡ true → unblanked text ≡ text
+inked_start : (text : List ℕ) → list_all is_item_byte text ≡ true → unblanked text ≡ text
 unfolding after_run
-inked_front [] h = refl
-inked_front (b ∷ text) h = rw (not-true (is_blank b) (item_inked b (and_parts (is_item_byte b) (list_all is_item_byte text) h).0)) refl
+inked_start [] h = refl
+inked_start (b ∷ text) h = rw (not-true (is_blank b) (item_inked b (and_parts (is_item_byte b) (list_all is_item_byte text) h).0)) refl
 
 trimmed_item : (text : List ℕ) → list_all is_item_byte text ≡ true → trimmed text ≡ text
-trimmed_item text h = ap before_blanks (inked_front text h) ∙ inked_ends text (list_all-weaker is_item_byte (λ b. not (is_blank b)) item_inked text h)
+trimmed_item text h = ap before_blanks (inked_start text h) ∙ inked_ends text (list_all-weaker is_item_byte (λ b. not (is_blank b)) item_inked text h)
 
-behind_blank : (text : List ℕ) → list_all is_item_byte text ≡ true → trimmed (32 ∷ text) ≡ text
+after_blank : (text : List ℕ) → list_all is_item_byte text ≡ true → trimmed (32 ∷ text) ≡ text
 unfolding after_run
-behind_blank text h = trimmed_item text h
+after_blank text h = trimmed_item text h
 
 -- `T:REG`
 unfoldable pub side_text : (w : Writing) → Link → List ℕ
@@ -118,12 +118,12 @@ read_found text None x e = absurd (cc)
 read_found text (Some l) x e = ap Some (ok_same l x e)
 
 side_back : (a : Puts) (w : Writing) (link : Link) → WritesBack a w → link.0 < 64 → link.1.0 < length w.registers
-    → left_at_front (side_text w link) ≡ Some (InRegister link.0 (name_in w.registers link.1.0), [])
+    → left_at_start (side_text w link) ≡ Some (InRegister link.0 (name_in w.registers link.1.0), [])
 unfolding side_text left_read
 side_back a w link laws small h =
     let left = InRegister link.0 (name_in w.registers link.1.0) in
     let read = left_back (λ l. true) left [] (side_formed a w link laws small h) refl refl in
-    ap left_at_front (sym (append-nil (left_text left))) ∙ read_found (left_text left ++ []) (left_at_front (left_text left ++ [])) (left, []) read
+    ap left_at_start (sym (append-nil (left_text left))) ∙ read_found (left_text left ++ []) (left_at_start (left_text left ++ [])) (left, []) read
 
 side_bytes : (a : Puts) (w : Writing) (link : Link) → WritesBack a w → link.0 < 64 → link.1.0 < length w.registers → list_all is_item_byte (side_text w link) ≡ true
 unfolding side_text left_text
@@ -160,8 +160,8 @@ name_no_number : (name : List ℕ) → is_place_name name ≡ true → number_of
 unfolding is_place_name
 name_no_number [] h = absurd (cc)
 name_no_number (b ∷ name) h =
-    let front = and_parts (begins_place b && list_all is_place_byte name) (nat_le (length (b ∷ name)) 16) h in
-    let first = and_parts (begins_place b) (list_all is_place_byte name) front.0 in
+    let prefix = and_parts (begins_place b && list_all is_place_byte name) (nat_le (length (b ∷ name)) 16) h in
+    let first = and_parts (begins_place b) (list_all is_place_byte name) prefix.0 in
     not_digits (b ∷ name) (rw (begins_no_digit b first.0) refl)
 
 worth_back : (name : List ℕ) → is_place_name name ≡ true → worth_of name ≡ Some (a_place name)
@@ -181,10 +181,10 @@ item_back a w table names link laws fits =
     let cut = cut_back 61 side name (side_equal a w link laws fits.thread fits.register) in
     let side_trimmed = trimmed_item side (side_bytes a w link laws fits.thread fits.register) in
     let name_trimmed = trimmed_item name (name_bytes name fits.formed) in
-    let left : whole_left (left_at_front (trimmed side)) ≡ Some (InRegister link.0 (name_in w.registers link.1.0)) =
-    ap (λ t. whole_left (left_at_front t)) side_trimmed ∙ ap whole_left (side_back a w link laws fits.thread fits.register) in
+    let left : whole_left (left_at_start (trimmed side)) ≡ Some (InRegister link.0 (name_in w.registers link.1.0)) =
+    ap (λ t. whole_left (left_at_start t)) side_trimmed ∙ ap whole_left (side_back a w link laws fits.thread fits.register) in
     let small : nat_lt link.0 64 ≡ true = lt-ltb link.0 64 fits.thread in
-    ap (some_item w) (behind_blank (core w names link) (core_bytes a w table names link laws fits))
+    ap (some_item w) (after_blank (core w names link) (core_bytes a w table names link laws fits))
     ∙ core_some w side name ∙ ap (item_parts w) cut
     ∙ ap (λ o. item_if w o (trimmed name)) left
     ∙ ap (λ t. item_with w (InRegister link.0 (name_in w.registers link.1.0)) t) name_trimmed

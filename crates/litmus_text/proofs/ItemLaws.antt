@@ -11,21 +11,21 @@ use Rattle.text_laws.specs.Blanks.{is_blank, unblanked, before_blanks, kept_befo
 use Rattle.text_laws.specs.Runs.{after_run}
 use Rattle.final_cond.specs.Conditions.{LeftSeen, InRegister, AtPlace}
 use Rattle.text_laws.specs.Names.{is_register_name}
-use Rattle.final_cond.specs.Reading.{Fault, found, left_at_front, left_read, only_known, has_form}
+use Rattle.final_cond.specs.Reading.{Fault, found, left_at_start, left_read, only_known, has_form}
 use Rattle.arch_trait.specs.Writing.{Writing}
 use Rattle.text_laws.specs.Words.{is_nil}
 use Rattle.litmus_text.specs.InitialState.{item_with, whole_left, item_if}
 
 -- a text without blanks at its ends has none at its beginning
-inked_front : (b : ℕ) (t : List ℕ) → is_blank b ≡ false → unblanked (kept_before b t) ≡ kept_before b t
+inked_start : (b : ℕ) (t : List ℕ) → is_blank b ≡ false → unblanked (kept_before b t) ≡ kept_before b t
 unfolding after_run
-inked_front b [] e = rw (e, e) refl
-inked_front b (c ∷ t) e = rw e refl
+inked_start b [] e = rw (e, e) refl
+inked_start b (c ∷ t) e = rw e refl
 
-pub trimmed_front : (t : List ℕ) → unblanked (trimmed t) ≡ trimmed t
+pub trimmed_start : (t : List ℕ) → unblanked (trimmed t) ≡ trimmed t
 unfolding after_run before_blanks
-trimmed_front [] = refl
-trimmed_front (b ∷ t) = by_test (is_blank b) (λ e. rw e (trimmed_front t)) (λ e. rw e (inked_front b (before_blanks t) e))
+trimmed_start [] = refl
+trimmed_start (b ∷ t) = by_test (is_blank b) (λ e. rw e (trimmed_start t)) (λ e. rw e (inked_start b (before_blanks t) e))
 
 -- a text without the blanks at its end is no longer
 pub before_blanks-le : (t : List ℕ) → length (before_blanks t) ≤ length t
@@ -72,23 +72,23 @@ found_none t (Some y) f e = cc
 
 -- two sides whose left side is read make the item of that left side
 pub item_found : (w : Writing) (text right : List ℕ) (left : LeftSeen) (rest : List ℕ) → list_all is_register_name w.registers ≡ true → (t : List ℕ) → t ≡ trimmed text → left_read has_form (unblanked t) ≡ Ok (left, rest)
-    → item_if w (whole_left (left_at_front (trimmed text))) right ≡ item_if w (cond (is_nil rest) (Some left) None) right
+    → item_if w (whole_left (left_at_start (trimmed text))) right ≡ item_if w (cond (is_nil rest) (Some left) None) right
 unfolding left_read
 item_found w text right left rest h u same d =
     let t = trimmed text in
     let e : left_read has_form (unblanked t) ≡ Ok (left, rest) = ap (λ x. left_read has_form (unblanked x)) (sym same) ∙ d in
-    let f : found BadTerm t (only_known has_form (left_at_front t)) ≡ Ok (left, rest) = ap (left_read has_form) (sym (trimmed_front text)) ∙ e in
-    item_known w (left_at_front t) right h ∙ ap (λ l. item_if w (whole_left l) right) (found_some t (only_known has_form (left_at_front t)) (left, rest) f)
+    let f : found BadTerm t (only_known has_form (left_at_start t)) ≡ Ok (left, rest) = ap (left_read has_form) (sym (trimmed_start text)) ∙ e in
+    item_known w (left_at_start t) right h ∙ ap (λ l. item_if w (whole_left l) right) (found_some t (only_known has_form (left_at_start t)) (left, rest) f)
 
 -- two sides whose left side isn't read make no item
 pub item_missing : (w : Writing) (text right : List ℕ) (f : Fault) → list_all is_register_name w.registers ≡ true → (t : List ℕ) → t ≡ trimmed text → left_read has_form (unblanked t) ≡ Err f
-    → item_if w (whole_left (left_at_front (trimmed text))) right ≡ None
+    → item_if w (whole_left (left_at_start (trimmed text))) right ≡ None
 unfolding left_read
 item_missing w text right f h u same d =
     let t = trimmed text in
     let e : left_read has_form (unblanked t) ≡ Err f = ap (λ x. left_read has_form (unblanked x)) (sym same) ∙ d in
-    let g : found BadTerm t (only_known has_form (left_at_front t)) ≡ Err f = ap (left_read has_form) (sym (trimmed_front text)) ∙ e in
-    item_known w (left_at_front t) right h ∙ ap (λ l. item_if w (whole_left l) right) (found_none t (only_known has_form (left_at_front t)) f g)
+    let g : found BadTerm t (only_known has_form (left_at_start t)) ≡ Err f = ap (left_read has_form) (sym (trimmed_start text)) ∙ e in
+    item_known w (left_at_start t) right h ∙ ap (λ l. item_if w (whole_left l) right) (found_none t (only_known has_form (left_at_start t)) f g)
 
 -- a left side with something after it makes no item
 pub item_left : (w : Writing) (left : LeftSeen) (rest right : List ℕ) → length rest == 0 ≡ false → item_if w (cond (is_nil rest) (Some left) None) right ≡ None
@@ -110,4 +110,4 @@ known_form (Some l) left rest e =
 -- a left side that is read has its form
 pub left_form : (t : List ℕ) (left : LeftSeen) (rest : List ℕ) → left_read has_form t ≡ Ok (left, rest) → has_form left ≡ true
 unfolding left_read
-left_form t left rest e = known_form (left_at_front t) left rest (found_some t (only_known has_form (left_at_front t)) (left, rest) e)
+left_form t left rest e = known_form (left_at_start t) left rest (found_some t (only_known has_form (left_at_start t)) (left, rest) e)

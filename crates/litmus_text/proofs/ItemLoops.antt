@@ -73,10 +73,10 @@ unfolding items_read
 ended_fails w j i rest piece behind b e p h = rw (ended_cut rest piece behind p, h) refl
 
 -- a line with a `}` ends the text of the items
-pub brace_found : (j j' : Joined) (n : ℕ) (text front behind : List ℕ) (ls : Lines) → Some (front, behind) ≡ cut_at 125 text → j' ≡ with_text j n front → closed j' n behind ls ≡ braced j n text ls
+pub brace_found : (j j' : Joined) (n : ℕ) (text prefix behind : List ℕ) (ls : Lines) → Some (prefix, behind) ≡ cut_at 125 text → j' ≡ with_text j n prefix → closed j' n behind ls ≡ braced j n text ls
 unfolding braced
-brace_found j j' n text front behind (ends m) e f = rw (sym e, f) refl
-brace_found j j' n text front behind (line m next rest) e f = rw (sym e, f) refl
+brace_found j j' n text prefix behind (ends m) e f = rw (sym e, f) refl
+brace_found j j' n text prefix behind (line m next rest) e f = rw (sym e, f) refl
 
 -- where the lines end without a `}`, the text of the items stays open
 pub brace_missing : (j j' : Joined) (n : ℕ) (text : List ℕ) (ls : Lines) (m : ℕ) → None ≡ cut_at 125 text → ends m ≡ ls → j' ≡ with_text j n text → open_to j' m ≡ braced j n text ls

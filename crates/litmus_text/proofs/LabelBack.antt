@@ -9,7 +9,7 @@ use Rattle.micro_ops.specs.declared.operation.Micro.TheVariants as ops
 use Rattle.litmus_text.specs.Table.{is_label_of, is_label, lands_once, is_landing, labels_judged, all_labels_judged}
 use Rattle.litmus_text.specs.Placing.{renumbered}
 use Rattle.litmus_text.specs.TablePlan.{placed_from, column_so_far}
-use Rattle.litmus_text.specs.Progress.{stands_once, op_lands, code_lands}
+use Rattle.litmus_text.specs.Progress.{occurs_once, op_lands, code_lands}
 
 label_kept : (label : ℕ) (table : List (List ℕ)) (names : ℕ → List ℕ) (op : Micro) → is_label_of label (renumbered table names op) ≡ is_label_of label op
 label_kept label table names (ops.LoadAt dst place) = refl
@@ -24,7 +24,7 @@ count_kept label table names n (op ∷ code) =
     ∙ sym (sum_by-cons (λ op. cond (is_label_of label op) 1 0) op code)
 
 once_kept : (label : ℕ) (table : List (List ℕ)) (names : ℕ → List ℕ) (n m : ℕ) (all behind : List Micro)
-    → lands_once label (placed_from table names n all) (placed_from table names m behind) ≡ stands_once label all behind
+    → lands_once label (placed_from table names n all) (placed_from table names m behind) ≡ occurs_once label all behind
 once_kept label table names n m all behind = rw (count_kept label table names n all, count_kept label table names m behind) refl
 
 landing_kept : (op : Micro) (table : List (List ℕ)) (names : ℕ → List ℕ) (n m : ℕ) (all behind : List Micro)

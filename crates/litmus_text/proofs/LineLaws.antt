@@ -14,12 +14,12 @@ unfolding lines_from lines_in
 no_lines n = refl
 
 -- the lines of a text that is cut at its first line feed are that line and those of the rest
-pub line_cut : (n : ℕ) (text front behind : List ℕ) → CutParts 10 text front behind → lines_from n text ≡ kept n (without_return front) (lines_from (n + 1) behind)
+pub line_cut : (n : ℕ) (text prefix behind : List ℕ) → CutParts 10 text prefix behind → lines_from n text ≡ kept n (without_return prefix) (lines_from (n + 1) behind)
 unfolding lines_from lines_in
-line_cut n text front behind p =
+line_cut n text prefix behind p =
     let first = first_piece is_line_feed behind in
-    ap (lines_in n) (pieces_cut 10 text front behind p ∙ ap (λ ps. front ∷ ps) first.is)
-    ∙ ap (λ ps. kept n (without_return front) (lines_in (n + 1) ps)) (sym first.is)
+    ap (lines_in n) (pieces_cut 10 text prefix behind p ∙ ap (λ ps. prefix ∷ ps) first.is)
+    ∙ ap (λ ps. kept n (without_return prefix) (lines_in (n + 1) ps)) (sym first.is)
 
 -- a text without a line feed is one line
 pub line_last : (n : ℕ) (text : List ℕ) → 0 < length text → is_without 10 text ≡ true → lines_from n text ≡ kept n text (lines_from (n + 1) [])

@@ -58,14 +58,14 @@ label_formed i h =
     ap (λ n. is_register_name (label_name n)) (sym (get_or-range_with_len 0 64 i 0 h ∙ zero-add i)) ∙ row
 
 -- the place of a label in the table
-stands : (a count label : ℕ) → a ≤ label → label < a + count → a + count ≤ 64
+occurs : (a count label : ℕ) → a ≤ label → label < a + count → a + count ≤ 64
     → position_from (λ x. bytes_eq x (label_name label)) a (map label_name (range_with_len a count)) ≡ Some label
-stands a zero label low high few = absurd (omega arith)
-stands a (suc count) label low high few =
+occurs a zero label low high few = absurd (omega arith)
+occurs a (suc count) label low high few =
     by_test (a == label)
     (λ e. let same : a ≡ label = eqb-true a label e in rw (label_same a label (omega arith) (omega arith), e) (ap Some same))
     (λ e. let apart = eqb-false a label e in
-    rw (label_same a label (omega arith) (omega arith), e) (stands (a + 1) count label (omega arith) (omega arith) (omega arith)))
+    rw (label_same a label (omega arith) (omega arith), e) (occurs (a + 1) count label (omega arith) (omega arith) (omega arith)))
 
 absent : (a count label : ℕ) → a + count ≤ label → label < 64
     → position_from (λ x. bytes_eq x (label_name label)) a (map label_name (range_with_len a count)) ≡ None
@@ -82,7 +82,7 @@ pub record LabelAdded (count label : ℕ) : Type 0 where
 
 known_label : (count label : ℕ) → label < count → count ≤ 64 → LabelAdded count label
 known_label count label h small =
-    let is : number_in (label_table count) (label_name label) ≡ Some label = stands 0 count label (omega arith) (omega arith) (omega arith) in
+    let is : number_in (label_table count) (label_name label) ≡ Some label = occurs 0 count label (omega arith) (omega arith) (omega arith) in
     let kept : max count (label + 1) ≡ count = omega arith in
     record {
       number = ap (λ o. number_or_next o (length (label_table count))) is;

@@ -8,7 +8,7 @@ use Rattle.relax_edges.specs.declared.kinds.Value.{Value}
 use Rattle.relax_edges.specs.declared.kinds.Value.TheVariants as values
 use Rattle.text_laws.specs.Names.{is_place_name}
 use Rattle.final_cond.specs.Conditions.{LeftSeen, InRegister, AtPlace}
-use Rattle.final_cond.specs.Reading.{left_at_front}
+use Rattle.final_cond.specs.Reading.{left_at_start}
 use Rattle.arch_trait.specs.Names.{number_in, number_added, names_added}
 use Rattle.text_laws.specs.Blanks.{trimmed}
 use Rattle.arch_trait.specs.Writing.{Writing}
@@ -52,7 +52,7 @@ if_below w (Some left) right b = with_below w left right b
 
 parts_below : (w : Writing) (sides : Option (List ℕ × List ℕ)) → length w.registers ≤ 32 → ItemBelow (item_parts w sides)
 parts_below w None b = tt
-parts_below w (Some sides) b = if_below w (whole_left (left_at_front (trimmed sides.0))) (trimmed sides.1) b
+parts_below w (Some sides) b = if_below w (whole_left (left_at_start (trimmed sides.0))) (trimmed sides.1) b
 
 some_below : (w : Writing) (text : List ℕ) → length w.registers ≤ 32 → ItemBelow (some_item w text)
 some_below w [] b = tt

@@ -13,7 +13,7 @@ use Rattle.micro_ops.specs.declared.operation.Micro.{Micro}
 use Rattle.micro_ops.specs.declared.operation.Micro.TheVariants as ops
 use Rattle.micro_ops.specs.Machines.{InRange}
 use Rattle.micro_ops.specs.Running as run
-use Rattle.micro_ops.specs.Running.{is_load, lands, stands, stands_if, target}
+use Rattle.micro_ops.specs.Running.{is_load, lands, occurs, occurs_if, target}
 use Rattle.arch_trait.specs.declared.reading.InstrError.{InstrError}
 use Rattle.arch_trait.specs.declared.reading.InstrError.TheVariants as instrs
 use Rattle.text_laws.specs.Names.{is_place_name}
@@ -170,30 +170,30 @@ label_same : (l : ℕ) (op : Micro) → is_label_of l op ≡ run.is_label l op
 label_same l (ops.Label k) = refl
 label_same l op = refl
 
-stands_counted : (l : ℕ) (placed : List Placed) → 0 < count_by (is_label l) placed → stands l (map (λ (p : Placed). p.op) placed) ≡ true
-stands_counted l [] h = absurd (omega (arith, h))
-stands_counted l (p ∷ placed) h = by_test (is_label_of l p.op)
-    (λ e. or_left (run.is_label l p.op) (stands l (map (λ (q : Placed). q.op) placed)) (sym (label_same l p.op) ∙ e))
-    (λ e. or_right (run.is_label l p.op) (stands l (map (λ (q : Placed). q.op) placed))
-    (stands_counted l placed (let c : ◌≡◌ {A = ℕ} (cond (is_label l p) 1 0) 0 = ap (λ b. cond b 1 0) e in omega (arith, h, c, sum_by-cons (λ (q : Placed). cond (is_label l q) 1 0) p placed))))
+occurs_counted : (l : ℕ) (placed : List Placed) → 0 < count_by (is_label l) placed → occurs l (map (λ (p : Placed). p.op) placed) ≡ true
+occurs_counted l [] h = absurd (omega (arith, h))
+occurs_counted l (p ∷ placed) h = by_test (is_label_of l p.op)
+    (λ e. or_left (run.is_label l p.op) (occurs l (map (λ (q : Placed). q.op) placed)) (sym (label_same l p.op) ∙ e))
+    (λ e. or_right (run.is_label l p.op) (occurs l (map (λ (q : Placed). q.op) placed))
+    (occurs_counted l placed (let c : ◌≡◌ {A = ℕ} (cond (is_label l p) 1 0) 0 = ap (λ b. cond b 1 0) e in omega (arith, h, c, sum_by-cons (λ (q : Placed). cond (is_label l q) 1 0) p placed))))
 
-once_stands : (l : ℕ) (all placed : List Placed) → lands_once l all placed ≡ true → stands l (map (λ (p : Placed). p.op) placed) ≡ true
-once_stands l all placed h =
+once_occurs : (l : ℕ) (all placed : List Placed) → lands_once l all placed ≡ true → occurs l (map (λ (p : Placed). p.op) placed) ≡ true
+once_occurs l all placed h =
     let a = and_parts (count_by (is_label l) all == 1) (count_by (is_label l) placed == 1) h in
     let e = eqb-true (count_by (is_label l) placed) 1 a.1 in
-    stands_counted l placed (omega (arith, e))
+    occurs_counted l placed (omega (arith, e))
 
-landing_stands : (op : Micro) (all placed : List Placed) → is_landing op all placed ≡ true → stands_if (target op) (map (λ (p : Placed). p.op) placed) ≡ true
-landing_stands (ops.BranchEq l) all placed h = once_stands l all placed h
-landing_stands (ops.BranchNz a l) all placed h = once_stands l all placed h
-landing_stands op all placed h = refl
+landing_occurs : (op : Micro) (all placed : List Placed) → is_landing op all placed ≡ true → occurs_if (target op) (map (λ (p : Placed). p.op) placed) ≡ true
+landing_occurs (ops.BranchEq l) all placed h = once_occurs l all placed h
+landing_occurs (ops.BranchNz a l) all placed h = once_occurs l all placed h
+landing_occurs op all placed h = refl
 
 judged_lands : (all placed : List Placed) → labels_judged all placed ≡ Ok tt → lands (map (λ (p : Placed). p.op) placed) ≡ true
 unfolding labels_judged
 judged_lands all [] h = refl
 judged_lands all (p ∷ placed) h = by_test (is_landing p.op all placed)
-    (λ e. and_from (stands_if (target p.op) (map (λ (q : Placed). q.op) placed)) (lands (map (λ (q : Placed). q.op) placed))
-    (landing_stands p.op all placed e) (judged_lands all placed (sym (rw e refl) ∙ h)))
+    (λ e. and_from (occurs_if (target p.op) (map (λ (q : Placed). q.op) placed)) (lands (map (λ (q : Placed). q.op) placed))
+    (landing_occurs p.op all placed e) (judged_lands all placed (sym (rw e refl) ∙ h)))
     (λ e. let f : bad {A = Unit {0}} BadLabel p.at_line ≡ Ok tt = sym (rw e refl) ∙ h in cc)
 
 load_access : (op : Micro) → cond (is_load op) 1 0 ≤ cond (is_access op) 1 0

@@ -36,8 +36,8 @@ use Rattle.litmus_text.proofs.RowBack.{next_text, AreCells, IsRow, AreRows, afte
 abbrev pub spaced : (List (List ℕ) → List ℕ) → List (List ℕ) → List ℕ
 spaced f column = 32 ∷ (f column ++ 32 ∷ [])
 
-behind_bar : (List (List ℕ) → List ℕ) → List (List ℕ) → List ℕ
-behind_bar f column = codes " | " ++ f column
+after_bar : (List (List ℕ) → List ℕ) → List (List ℕ) → List ℕ
+after_bar f column = codes " | " ++ f column
 
 -- each cell of some columns is without a sign
 abbrev pub AreWithout : ℕ → (List (List ℕ) → List ℕ) → List (List (List ℕ)) → Type 0
@@ -69,11 +69,11 @@ pub row_cells : (f : List (List ℕ) → List ℕ) (x : List (List ℕ)) (xs : L
 unfolding cells_of
 row_cells f x xs no_bar no_end =
     let cells = f x ++ flat_map (λ y. codes " | " ++ f y) xs in
-    let front : List ℕ = 32 ∷ (cells ++ 32 ∷ []) in
-    let shape : 32 ∷ (cells ++ codes " ;") ≡ front ++ 59 ∷ [] = ap (λ t. 32 ∷ t) (sym (append_assoc cells (32 ∷ []) (59 ∷ []))) in
+    let prefix : List ℕ = 32 ∷ (cells ++ 32 ∷ []) in
+    let shape : 32 ∷ (cells ++ codes " ;") ≡ prefix ++ 59 ∷ [] = ap (λ t. 32 ∷ t) (sym (append_assoc cells (32 ∷ []) (59 ∷ []))) in
     let clear : is_without 59 cells ≡ true = all_both (λ b. not (b == 59)) (f x) (flat_map (λ y. codes " | " ++ f y) xs) no_end.0 (each_without f xs no_end.1) in
-    let cut : cut_at 59 (32 ∷ (cells ++ codes " ;")) ≡ Some (front, []) =
-    ap (cut_at 59) shape ∙ cut_back 59 front [] (and_from true (is_without 59 (cells ++ 32 ∷ [])) refl (all_both (λ b. not (b == 59)) cells (32 ∷ []) clear refl)) in
+    let cut : cut_at 59 (32 ∷ (cells ++ codes " ;")) ≡ Some (prefix, []) =
+    ap (cut_at 59) shape ∙ cut_back 59 prefix [] (and_from true (is_without 59 (cells ++ 32 ∷ [])) refl (all_both (λ b. not (b == 59)) cells (32 ∷ []) clear refl)) in
     ap (cells_if (32 ∷ (cells ++ codes " ;"))) cut ∙ ap (λ texts. record { texts = texts; whole = true }) (bars f x xs no_bar)
 
 -- the threads before a row of operations
@@ -198,9 +198,9 @@ unfolding after_run
 word_same text k tail rest begins at_tail =
     let shape : (text ++ replicate k 32) ++ tail ≡ text ++ 32 ∷ rest = append_assoc text (replicate k 32) tail ∙ ap (λ t. text ++ t) at_tail in
     let alone : unblanked text ≡ text = ap unblanked begins.is ∙ rw begins.inked (sym begins.is) in
-    let front : unblanked (text ++ 32 ∷ rest) ≡ text ++ 32 ∷ rest =
+    let prefix : unblanked (text ++ 32 ∷ rest) ≡ text ++ 32 ∷ rest =
     ap (λ t. unblanked (t ++ 32 ∷ rest)) begins.is ∙ rw begins.inked (ap (λ t. t ++ 32 ∷ rest) (sym begins.is)) in
-    ap (λ t. run_of is_word_byte (unblanked t)) shape ∙ ap (run_of is_word_byte) front ∙ run_stops is_word_byte text 32 rest refl
+    ap (λ t. run_of is_word_byte (unblanked t)) shape ∙ ap (run_of is_word_byte) prefix ∙ run_stops is_word_byte text 32 rest refl
     ∙ ap (run_of is_word_byte) (sym alone)
 
 keeps_row : (text : List ℕ) (k : ℕ) (tail : List ℕ) → CellText text → Tail tail → ends_rows (32 ∷ ((text ++ replicate k 32) ++ tail)) ≡ false

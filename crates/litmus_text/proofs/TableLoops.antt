@@ -41,17 +41,17 @@ heads_more n k whole ps cell rest e h f = rw (e, h, f) refl
 
 -- the columns that were read before others
 abbrev pub carried : List Column → Result (Among (List Column)) TextError → Result (Among (List Column)) TextError
-carried front (Ok s) = Ok (among s.names (front ++ s.value))
-carried front (Err e) = Err e
+carried prefix (Ok s) = Ok (among s.names (prefix ++ s.value))
+carried prefix (Err e) = Err e
 
 -- where no column was read before, what is read is as it was
 pub carried_nothing : (r : Result (Among (List Column)) TextError) → carried [] r ≡ r
 carried_nothing (Ok s) = refl
 carried_nothing (Err e) = refl
 
-carried_more : (front : List Column) (column : Column) (r : Result (Among (List Column)) TextError) → carried (front ++ column ∷ []) r ≡ carried front (r >>= λ s. Ok (before_columns column s))
-carried_more front column (Ok s) = ap (λ cs. Ok (among s.names cs)) (append_assoc front (column ∷ []) s.value)
-carried_more front column (Err e) = refl
+carried_more : (prefix : List Column) (column : Column) (r : Result (Among (List Column)) TextError) → carried (prefix ++ column ∷ []) r ≡ carried prefix (r >>= λ s. Ok (before_columns column s))
+carried_more prefix column (Ok s) = ap (λ cs. Ok (among s.names cs)) (append_assoc prefix (column ∷ []) s.value)
+carried_more prefix column (Err e) = refl
 
 -- after a cell of a row the next cells are read
 pub row_more : (w : Writing) (n : ℕ) (whole : Bool) (ps rest : List (List ℕ)) (cell : List ℕ) (names names' : List (List ℕ)) (cs : List Column) (i : ℕ) (d c' : Column) → i < length cs → ps ≡ cell ∷ rest
@@ -66,18 +66,18 @@ row_more w n whole ps rest cell names names' cs i d c' inside e h =
     rw (t, r, s, e, h) m
 
 -- where a cell of a row is faulty, the row is
-pub row_fails : (w : Writing) (n : ℕ) (whole : Bool) (ps rest : List (List ℕ)) (cell : List ℕ) (names : List (List ℕ)) (cs front : List Column) (i : ℕ) (d : Column) (f : TextError) → i < length cs → ps ≡ cell ∷ rest
-    → cell_read w n cell (among names (get_or cs i d)) ≡ Err f → carried front (row_read w n whole ps names (drop i cs)) ≡ Err f
+pub row_fails : (w : Writing) (n : ℕ) (whole : Bool) (ps rest : List (List ℕ)) (cell : List ℕ) (names : List (List ℕ)) (cs prefix : List Column) (i : ℕ) (d : Column) (f : TextError) → i < length cs → ps ≡ cell ∷ rest
+    → cell_read w n cell (among names (get_or cs i d)) ≡ Err f → carried prefix (row_read w n whole ps names (drop i cs)) ≡ Err f
 unfolding row_read
-row_fails w n whole ps rest cell names cs front i d f inside e h =
+row_fails w n whole ps rest cell names cs prefix i d f inside e h =
     let s : drop i cs ≡ get_or cs i d ∷ drop (i + 1) cs = rw add-one (drop-cons cs i d inside) in
     rw (s, e, h) refl
 
 -- where a cell of a row is missing, the row is faulty
-pub row_short : (w : Writing) (n : ℕ) (whole : Bool) (ps : List (List ℕ)) (names : List (List ℕ)) (cs front : List Column) (i : ℕ) (d : Column) → i < length cs → ps ≡ []
-    → carried front (row_read w n whole ps names (drop i cs)) ≡ bad BadTable n
+pub row_short : (w : Writing) (n : ℕ) (whole : Bool) (ps : List (List ℕ)) (names : List (List ℕ)) (cs prefix : List Column) (i : ℕ) (d : Column) → i < length cs → ps ≡ []
+    → carried prefix (row_read w n whole ps names (drop i cs)) ≡ bad BadTable n
 unfolding row_read
-row_short w n whole ps names cs front i d inside e =
+row_short w n whole ps names cs prefix i d inside e =
     let s : drop i cs ≡ get_or cs i d ∷ drop (i + 1) cs = rw add-one (drop-cons cs i d inside) in
     rw (s, e) refl
 
@@ -90,9 +90,9 @@ row_ends w n whole ps names cs i end e =
     rw (s, e) (ap (λ k. Ok (among names k)) t)
 
 -- where no column is left and the row doesn't end, the row is faulty
-pub row_ends_bad : (w : Writing) (n : ℕ) (whole : Bool) (ps : List (List ℕ)) (names : List (List ℕ)) (cs front : List Column) (i : ℕ) (f : TextError) → i ≡ length cs → row_read w n whole ps names [] ≡ Err f
-    → carried front (row_read w n whole ps names (drop i cs)) ≡ Err f
-row_ends_bad w n whole ps names cs front i f end e = let s : drop i cs ≡ [] = ap (λ k. drop k cs) end ∙ drop-length cs in rw (s, e) refl
+pub row_ends_bad : (w : Writing) (n : ℕ) (whole : Bool) (ps : List (List ℕ)) (names : List (List ℕ)) (cs prefix : List Column) (i : ℕ) (f : TextError) → i ≡ length cs → row_read w n whole ps names [] ≡ Err f
+    → carried prefix (row_read w n whole ps names (drop i cs)) ≡ Err f
+row_ends_bad w n whole ps names cs prefix i f end e = let s : drop i cs ≡ [] = ap (λ k. drop k cs) end ∙ drop-length cs in rw (s, e) refl
 
 -- after a cell of a row the next cells are read, by columns of the code
 pub row_step : (w : Writing) (n : ℕ) (whole : Bool) (ps rest : List (List ℕ)) (cell : List ℕ) (names names' : List (List ℕ)) (xs : List ThreadColumn) (i : ℕ) (d y : ThreadColumn) → i < length xs → ps ≡ cell ∷ rest
@@ -106,13 +106,13 @@ row_step w n whole ps rest cell names names' xs i d y inside e h =
     rw m (row_more w n whole ps rest cell names names' (map column_seen xs) i (column_seen d) (column_seen y) k e h')
 
 -- where a cell of a row is faulty, the row is, by columns of the code
-pub row_stops : (w : Writing) (n : ℕ) (whole : Bool) (ps rest : List (List ℕ)) (cell : List ℕ) (names : List (List ℕ)) (xs : List ThreadColumn) (front : List Column) (i : ℕ) (d : ThreadColumn) (f : TextError) → i < length xs → ps ≡ cell ∷ rest
-    → cell_read w n cell (among names (column_seen (get_or xs i d))) ≡ Err f → carried front (row_read w n whole ps names (drop i (map column_seen xs))) ≡ Err f
-row_stops w n whole ps rest cell names xs front i d f inside e h =
+pub row_stops : (w : Writing) (n : ℕ) (whole : Bool) (ps rest : List (List ℕ)) (cell : List ℕ) (names : List (List ℕ)) (xs : List ThreadColumn) (prefix : List Column) (i : ℕ) (d : ThreadColumn) (f : TextError) → i < length xs → ps ≡ cell ∷ rest
+    → cell_read w n cell (among names (column_seen (get_or xs i d))) ≡ Err f → carried prefix (row_read w n whole ps names (drop i (map column_seen xs))) ≡ Err f
+row_stops w n whole ps rest cell names xs prefix i d f inside e h =
     let k : i < length (map column_seen xs) = rw length-map inside in
     let g : get_or (map column_seen xs) i (column_seen d) ≡ column_seen (get_or xs i d) = get_or-map column_seen xs i d in
     let h' : cell_read w n cell (among names (get_or (map column_seen xs) i (column_seen d))) ≡ Err f = rw g h in
-    row_fails w n whole ps rest cell names (map column_seen xs) front i (column_seen d) f k e h'
+    row_fails w n whole ps rest cell names (map column_seen xs) prefix i (column_seen d) f k e h'
 
 -- where no line is left, the end of the rows is missing
 pub rows_missing : (w : Writing) (k n : ℕ) (s : Among (List Column)) (ls : Lines) → ends n ≡ ls → rows_read w k s ls ≡ bad EndMissing n
@@ -150,13 +150,13 @@ pub not_below_is : (a b : ℕ) → b ≤ a → nat_lt a b ≡ false
 not_below_is a b h = by_test (nat_lt a b) (λ e. let k = ltb-true a b e in absurd (omega arith)) (λ e. e)
 
 -- the text up to the colon of a label
-pub label_front : (text front behind : List ℕ) → CutParts 58 text front behind → take (length front + 1) text ≡ front ++ codes ":"
-label_front text front behind p = ap (take (length front + 1)) p.parts ∙ take-append-add front (58 ∷ behind) 1
+pub label_prefix : (text prefix behind : List ℕ) → CutParts 58 text prefix behind → take (length prefix + 1) text ≡ prefix ++ codes ":"
+label_prefix text prefix behind p = ap (take (length prefix + 1)) p.parts ∙ take-append-add prefix (58 ∷ behind) 1
 
 -- a cell that begins with a label is read as the label, and then as what comes after it
-pub cell_labelled : (w : Writing) (n : ℕ) (text front behind : List ℕ) (s s' : Among Column) → Some (front, behind) ≡ cut_at 58 text → CutParts 58 text front behind
-    → instr_in w n (take (length front + 1) text) s ≡ Ok s' → cell_read w n text s ≡ instr_or_nothing w n behind s'
+pub cell_labelled : (w : Writing) (n : ℕ) (text prefix behind : List ℕ) (s s' : Among Column) → Some (prefix, behind) ≡ cut_at 58 text → CutParts 58 text prefix behind
+    → instr_in w n (take (length prefix + 1) text) s ≡ Ok s' → cell_read w n text s ≡ instr_or_nothing w n behind s'
 unfolding cell_read
-cell_labelled w n text front behind s s' e p h =
-    let k : instr_in w n (front ++ codes ":") s ≡ Ok s' = ap (λ t. instr_in w n t s) (sym (label_front text front behind p)) ∙ h in
+cell_labelled w n text prefix behind s s' e p h =
+    let k : instr_in w n (prefix ++ codes ":") s ≡ Ok s' = ap (λ t. instr_in w n t s) (sym (label_prefix text prefix behind p)) ∙ h in
     rw (sym e, k) refl

@@ -6,7 +6,7 @@ use Rattle.final_cond.specs.declared.read.Follow.{Follow}
 use Rattle.final_cond.specs.declared.read.Follow.TheVariants as follows
 use Rattle.text_laws.specs.Blanks.{unblanked}
 use Rattle.final_cond.specs.Conditions.{LeftSeen, InRegister, AtPlace, TermSeen, CondSeen}
-use Rattle.final_cond.specs.Reading.{Fault, opening_read, left_read, right_read, follow_read, end_at_front, has_form}
+use Rattle.final_cond.specs.Reading.{Fault, opening_read, left_read, right_read, follow_read, end_at_start, has_form}
 use Rattle.arch_trait.specs.Names.{number_in, number_added, names_added}
 use Rattle.arch_trait.specs.Writing.{Writing}
 use Rattle.litmus_text.specs.declared.errors.TestKind.TheVariants.{BadCondition, TooLarge, EndMissing}
@@ -117,7 +117,7 @@ unfoldable pub cond_here : Writing → Setting → List (List ℕ) → Result Co
 cond_here w here names = do
   opening ← at_begin here.begins (opening_read here.text.bytes)
   read ← terms_here w here MAX_TERMS (record { names = names; over = None }) opening.1
-  end ← at_begin here.begins (end_at_front (unblanked read.rest))
+  end ← at_begin here.begins (end_at_start (unblanked read.rest))
   kept ← none_over read.state
   Ok (record { cond = record { quantifier = opening.0; terms = read.terms }; names = kept })
 

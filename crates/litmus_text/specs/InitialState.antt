@@ -9,7 +9,7 @@ use Rattle.text_laws.specs.Names.{is_place_name}
 use Rattle.text_laws.specs.Numbers.{number_of}
 use Rattle.text_laws.specs.Blanks.{unblanked, trimmed, before_blanks}
 use Rattle.final_cond.specs.Conditions.{LeftSeen, InRegister, AtPlace}
-use Rattle.final_cond.specs.Reading.{left_at_front}
+use Rattle.final_cond.specs.Reading.{left_at_start}
 use Rattle.arch_trait.specs.Names.{number_in, number_added, names_added}
 use Rattle.arch_trait.specs.Writing.{Writing}
 use Rattle.litmus_text.specs.declared.errors.TestKind.TheVariants.{BadInit, TooLarge, EndMissing}
@@ -70,7 +70,7 @@ item_if w (Some left) right = item_with w left right
 -- the item of the two sides of `=`, around which blanks may be
 abbrev pub item_parts : Writing → Option (List ℕ × List ℕ) → Option Item
 item_parts w None = None
-item_parts w (Some sides) = item_if w (whole_left (left_at_front (trimmed sides.0))) (trimmed sides.1)
+item_parts w (Some sides) = item_if w (whole_left (left_at_start (trimmed sides.0))) (trimmed sides.1)
 
 -- the item of a text without blanks at its ends
 abbrev pub some_item : Writing → List ℕ → Option Item

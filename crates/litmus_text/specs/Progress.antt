@@ -65,13 +65,13 @@ CodeFits a table names labels accesses (op ∷ code) =
     OpFits a table names labels accesses op × CodeFits a table names (labels_after labels op) (accesses + cond (is_access op) 1 0) code
 
 -- a label is in a thread once, after the branch
-abbrev pub stands_once : ℕ → List Micro → List Micro → Bool
-stands_once label all behind = (count_by (is_label_of label) all == 1) && (count_by (is_label_of label) behind == 1)
+abbrev pub occurs_once : ℕ → List Micro → List Micro → Bool
+occurs_once label all behind = (count_by (is_label_of label) all == 1) && (count_by (is_label_of label) behind == 1)
 
 -- where an operation is a branch, its label comes once in the thread, after the branch
 abbrev pub op_lands : Micro → List Micro → List Micro → Bool
-op_lands (ops.BranchEq label) all behind = stands_once label all behind
-op_lands (ops.BranchNz a label) all behind = stands_once label all behind
+op_lands (ops.BranchEq label) all behind = occurs_once label all behind
+op_lands (ops.BranchNz a label) all behind = occurs_once label all behind
 op_lands op all behind = true
 
 -- the label of each branch of a thread, from an operation on, comes once in the thread, after the branch

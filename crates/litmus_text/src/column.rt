@@ -101,7 +101,7 @@ fn keep_text(texts: &mut ArrayVec<Cell, KEPT_CELLS>, cell: &Cell)
 }
 
 /// The width of a column that is as wide as this, with one more cell.
-fn widened(width: usize, cell: &Cell) -> usize
+fn widen(width: usize, cell: &Cell) -> usize
     ensures value { result ≡ max width (length cell.now.bytes) }
     ensures short { width ≤ MAX_TEXT → result ≤ MAX_TEXT }
 {
@@ -125,7 +125,7 @@ pub(crate) fn width_of<A: Arch>(
     let mut width = 0;
     for row in 0..code.instrs.len() + 1 {
         set_cell::<A>(row, thread, code, places, &mut cell);
-        width = widened(width, &cell);
+        width = widen(width, &cell);
         cells.keep(&cell);
     }
     width

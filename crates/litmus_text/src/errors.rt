@@ -84,7 +84,7 @@ impl<T: Drop> From<AllocFailed<T>> for ReadError {
 }
 
 /// A fault of this kind at a line.
-pub(crate) fn bad(kind: TestKind, line: u64) -> TextError
+pub(crate) fn error_at_line(kind: TestKind, line: u64) -> TextError
     ensures { result ≡ record { line = line; kind = kind } }
 {
     TextError { line, kind }

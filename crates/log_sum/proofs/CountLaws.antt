@@ -44,8 +44,8 @@ digits_ascii digits h =
     IsUtf8-from_ascii digits (all_ascii digits (list_all-weaker is_ascii_digit is_ascii (λ byte p. grind (arith, nat_tests)) digits h))
 
 -- the digits at the start of a text are digits
-pub front_digits : (text digits : List ℕ) → digits ≡ run_of is_ascii_digit text → list_all is_ascii_digit digits ≡ true
-front_digits text digits e = ap (list_all is_ascii_digit) e ∙ run_passes is_ascii_digit text
+pub prefix_digits : (text digits : List ℕ) → digits ≡ run_of is_ascii_digit text → list_all is_ascii_digit digits ≡ true
+prefix_digits text digits e = ap (list_all is_ascii_digit) e ∙ run_passes is_ascii_digit text
 
 small_or_not : (n : ℕ) → nat_le n last_count ≡ nat_lt n (2 ^ 64)
 small_or_not n = grind (arith, nat_tests)

@@ -53,13 +53,13 @@ view_missing test text same es h = view_known test text same es ∙ ap (option_m
 -- the key at an index
 record KeyAt (es : List (Vec ℕ Global × StateSum)) (i : ℕ) : Type 0 where
   key : Vec ℕ Global
-  stands : slice_get (keys_of es) i ≡ Some key
+  state_is : slice_get (keys_of es) i ≡ Some key
   state : state_at es i ≡ Some key.items
 
 key_at : (es : List (Vec ℕ Global × StateSum)) (i : ℕ) → i < length es → KeyAt es i
 key_at [] i h = absurd (omega arith)
-key_at (e ∷ es) zero h = record { key = e.0; stands = refl; state = refl }
-key_at (e ∷ es) (suc i) h = let k = key_at es i (omega arith) in record { key = k.key; stands = k.stands; state = k.state }
+key_at (e ∷ es) zero h = record { key = e.0; state_is = refl; state = refl }
+key_at (e ∷ es) (suc i) h = let k = key_at es i (omega arith) in record { key = k.key; state_is = k.state_is; state = k.state }
 
 key_passes : (test : Vec ℕ Global → Bool) (es : List (Vec ℕ Global × StateSum)) (key : Vec ℕ Global) → lookup_key test es ≡ Some key → test key ≡ true
 key_passes test [] key h = absurd (cc)
@@ -74,7 +74,7 @@ pub state_found : (test : Vec ℕ Global → Bool) (text : List ℕ) → ((k : V
 state_found test text same es i h =
     let found = Found-position test es i (sym h) in
     let k = key_at es i found.within in
-    let passes : test k.key ≡ true = key_passes test es k.key (found.key ∙ k.stands) in
+    let passes : test k.key ≡ true = key_passes test es k.key (found.key ∙ k.state_is) in
     k.state ∙ ap Some (sym ((bytes_eq-Decides text k.key.items).0 (sym (same k.key) ∙ passes)))
 
 -- the state of an entry is its key
@@ -109,8 +109,8 @@ written_again [] i v w at_i same h j key sum e = h j key sum e
 written_again (x ∷ es) zero v w at_i same h zero key sum e =
     let first : x.1 ≡ v = cc in
     let pair : ◌≡◌ {A = Vec ℕ Global × StateSum} (x.0, w) (key, sum) = cc in
-    let told = ap (λ (o : Option (Vec ℕ Global)). form_read (written_as x.0.items o)) (same ∙ ap (λ (s : StateSum). s.other_text) (sym first)) ∙ h zero x.0 x.1 refl in
-    subst (λ (y : Vec ℕ Global × StateSum). form_read (written_as y.0.items y.1.other_text) ≡ Ok y.0.items) pair told
+    let shown = ap (λ (o : Option (Vec ℕ Global)). form_read (written_as x.0.items o)) (same ∙ ap (λ (s : StateSum). s.other_text) (sym first)) ∙ h zero x.0 x.1 refl in
+    subst (λ (y : Vec ℕ Global × StateSum). form_read (written_as y.0.items y.1.other_text) ≡ Ok y.0.items) pair shown
 written_again (x ∷ es) zero v w at_i same h (suc j) key sum e = h (suc j) key sum e
 written_again (x ∷ es) (suc i) v w at_i same h zero key sum e = h zero key sum e
 written_again (x ∷ es) (suc i) v w at_i same h (suc j) key sum e = written_again es i v w at_i same (λ k. h (suc k)) j key sum e
@@ -178,12 +178,12 @@ view_more es key w none =
 
 -- a new entry whose text is read as its state keeps that so for all entries
 pub written_more : (es : List (Vec ℕ Global × StateSum)) (key : Vec ℕ Global) (w : StateSum) → form_read (written_as key.items w.other_text) ≡ Ok key.items → AreWritten es → AreWritten (es ++ (key, w) ∷ [])
-written_more [] key w told h zero other sum e =
+written_more [] key w shown h zero other sum e =
     let pair : ◌≡◌ {A = Vec ℕ Global × StateSum} (key, w) (other, sum) = cc in
-    subst (λ (y : Vec ℕ Global × StateSum). form_read (written_as y.0.items y.1.other_text) ≡ Ok y.0.items) pair told
-written_more [] key w told h (suc i) other sum e = cc
-written_more (x ∷ es) key w told h zero other sum e = h zero other sum e
-written_more (x ∷ es) key w told h (suc i) other sum e = written_more es key w told (λ k. h (suc k)) i other sum e
+    subst (λ (y : Vec ℕ Global × StateSum). form_read (written_as y.0.items y.1.other_text) ≡ Ok y.0.items) pair shown
+written_more [] key w shown h (suc i) other sum e = cc
+written_more (x ∷ es) key w shown h zero other sum e = h zero other sum e
+written_more (x ∷ es) key w shown h (suc i) other sum e = written_more es key w shown (λ k. h (suc k)) i other sum e
 
 -- what is known of the state at an index
 known_here : (es : List (Vec ℕ Global × StateSum)) (i : ℕ) (text : List ℕ) (v : StateSum) → IsDistinct (λ (x y : Vec ℕ Global). bytes_eq x.items y.items) (keys_of es) → state_at es i ≡ Some text
@@ -217,10 +217,10 @@ pub view_added : (es : List (Vec ℕ Global × StateSum)) (i count total : ℕ) 
     → Some v ≡ slice_get (values_of es) i → total ≡ min (v.count + count) last_count → state_at es i ≡ Some text → known_state (states_view es) text ≡ Some known
     → states_view (set_value_at es i (record v { count = total })) ≡ insert_entry (slice_cmp nat_cmp) (states_view es) text (known.0, min (known.1 + count) last_count)
 view_added es i count total v text known d g sum h is =
-    let told : ◌≡◌ {A = Mark × ℕ} (v.mark, v.count) known = let e = sym (known_at es i text v d h (sym g)) ∙ is in cc in
+    let shown : ◌≡◌ {A = Mark × ℕ} (v.mark, v.count) known = let e = sym (known_at es i text v d h (sym g)) ∙ is in cc in
     view_written es i (record v { count = total }) text d h
     ∙ ap (λ n. insert_entry (slice_cmp nat_cmp) (states_view es) text (v.mark, n)) sum
-    ∙ ap (λ (k : Mark × ℕ). insert_entry (slice_cmp nat_cmp) (states_view es) text (k.0, min (k.1 + count) last_count)) told
+    ∙ ap (λ (k : Mark × ℕ). insert_entry (slice_cmp nat_cmp) (states_view es) text (k.0, min (k.1 + count) last_count)) shown
 
 -- a text is found at its state's index, or isn't known
 pub found_or_not : (test : Vec ℕ Global → Bool) (text : List ℕ) → ((k : Vec ℕ Global) → test k ≡ bytes_eq text k.items) → (es : List (Vec ℕ Global × StateSum)) (r : Option ℕ)
@@ -256,15 +256,15 @@ view_put es more key w e h = ap states_view (e ∙ put_last es key w h) ∙ view
 -- the table's texts are read as its states after a new state was put, or wasn't for want of memory
 pub written_put : {X Y : Type 0} (es more : List (Vec ℕ Global × StateSum)) (key : Vec ℕ Global) (w : StateSum) → known_state (states_view es) key.items ≡ None → form_read (written_as key.items w.other_text) ≡ Ok key.items → AreWritten es
     → (r : Result X Y) → OnOk r (more ≡ indexed.insert_entry (λ (x y : Vec ℕ Global). bytes_eq x.items y.items) es key w) → OnErr r (more ≡ es) → AreWritten more
-written_put es more key w none told h (Ok x) e g = subst AreWritten (sym (e ∙ put_last es key w none)) (written_more es key w told h)
-written_put es more key w none told h (Err x) e g = subst AreWritten (sym g) h
+written_put es more key w none shown h (Ok x) e g = subst AreWritten (sym (e ∙ put_last es key w none)) (written_more es key w shown h)
+written_put es more key w none shown h (Err x) e g = subst AreWritten (sym g) h
 
 -- a text that is the one by which a log wrote a state first is read as that state
 pub written_at : (es : List (Vec ℕ Global × StateSum)) (i : ℕ) (text first : List ℕ) (key : Vec ℕ Global) (sum : StateSum) (b : Bool) → AreWritten es → Some (key, sum) ≡ slice_get es i
     → first ≡ written_as key.items sum.other_text → b ≡ bytes_eq first text → OnTrue b (HasState es text i)
 written_at es i text first key sum true h e f same = record {
   state = key.items;
-  stands = at_entry es i key sum e;
+  state_is = at_entry es i key sum e;
   read = ap form_read (sym ((bytes_eq-Decides first text).0 (sym same)) ∙ f) ∙ h i key sum (sym e);
 }
 written_at es i text first key sum false h e f same = tt

@@ -15,7 +15,7 @@ use Rattle.log_sum.specs.Facts.{Fact, facts_of, fault_of}
 use Rattle.log_sum.specs.Lines.{Said, line_said, fact_said, test_after, place_after}
 use Rattle.log_sum.specs.Reading.{Seen, ◌>>=◌, fault_at, is_too_long, nothing_seen, fact_put, fact_judged, said_to, said_put, at_next_line, next_line, text_judged, line_judged, lines_judged, lines_of, rest_of, rest_judged, bytes_judged, last_judged, end_at, end_judged, file_judged, files_judged, input_judged}
 use Rattle.text_laws.specs.Lines.{without_return}
-use Rattle.log_sum.specs.Standing.{Progress, Kept, StandsFor, FedTo, EndedTo}
+use Rattle.log_sum.specs.Representing.{Progress, Kept, Represents, FedTo, EndedTo}
 use Rattle.log_sum.specs.Feeding.{AreMarked, Follows, ReadOn, ReadTo, PieceTo, EndTo, refusal_of}
 use Rattle.log_sum.proofs.ReadingLaws.{is_one_line, so_far, so_far_more, so_far_ended, input_by_lines, rest_more, rest_ended, read_on}
 use Rattle.log_sum.proofs.SumLaws.{none_marked}
@@ -109,8 +109,8 @@ input_marked next files bytes h =
     (lines_marked a.middle b.middle (lines_of bytes) (files_marked nothing_seen a.middle files (λ name. none_marked) a.is) b.is)
 
 -- what represents an input follows its reading
-pub stands_follows : (kept : Kept) (files : List (List ℕ)) (bytes : List ℕ) (s : StandsFor kept files bytes) → Follows kept.progress s.seen
-stands_follows kept files bytes s = record { reading = s.reading; marked = input_marked s.seen files bytes s.judged }
+pub represents_follows : (kept : Kept) (files : List (List ℕ)) (bytes : List ℕ) (s : Represents kept files bytes) → Follows kept.progress s.seen
+represents_follows kept files bytes s = record { reading = s.reading; marked = input_marked s.seen files bytes s.judged }
 
 lines_ok : (seen : Seen) (files : List (List ℕ)) (bytes : List ℕ) → input_judged files bytes ≡ Ok seen → so_far files bytes ≡ Ok seen
 lines_ok seen files bytes h =
@@ -127,43 +127,43 @@ some_end : (text : List ℕ) (byte : ℕ) → text ++ byte ∷ [] ≡ [] → ⊥
 some_end [] byte h = cc
 some_end (b ∷ text) byte h = cc
 
-no_front : (front rest : List ℕ) → front ++ rest ≡ [] → front ≡ []
-no_front [] rest h = refl
-no_front (b ∷ front) rest h = absurd (cc)
+no_prefix : (prefix rest : List ℕ) → prefix ++ rest ≡ [] → prefix ≡ []
+no_prefix [] rest h = refl
+no_prefix (b ∷ prefix) rest h = absurd (cc)
 
-line_after : (old : Kept) (files : List (List ℕ)) (bytes front : List ℕ) (s : StandsFor old files bytes) → is_one_line front ≡ true
-    → so_far files ((bytes ++ front) ++ 10 ∷ []) ≡ line_judged s.seen (old.held ++ front)
-line_after old files bytes front s one =
-    so_far_ended files (bytes ++ front)
-    ∙ ap (λ (r : Result Seen LogError). r >>= (λ next. line_judged next (rest_of (bytes ++ front)))) (so_far_more files bytes front one ∙ lines_ok s.seen files bytes s.judged)
-    ∙ ap (line_judged s.seen) (rest_more bytes front one ∙ ap (λ t. t ++ front) (sym s.held))
+line_after : (old : Kept) (files : List (List ℕ)) (bytes prefix : List ℕ) (s : Represents old files bytes) → is_one_line prefix ≡ true
+    → so_far files ((bytes ++ prefix) ++ 10 ∷ []) ≡ line_judged s.seen (old.held ++ prefix)
+line_after old files bytes prefix s one =
+    so_far_ended files (bytes ++ prefix)
+    ∙ ap (λ (r : Result Seen LogError). r >>= (λ next. line_judged next (rest_of (bytes ++ prefix)))) (so_far_more files bytes prefix one ∙ lines_ok s.seen files bytes s.judged)
+    ∙ ap (line_judged s.seen) (rest_more bytes prefix one ∙ ap (λ t. t ++ prefix) (sym s.held))
 
 -- a line that was read without a fault is represented with the input before it
-pub line_fed : (old new : Kept) (files : List (List ℕ)) (bytes front : List ℕ) (s : StandsFor old files bytes) → is_one_line front ≡ true → ReadOn new.progress (line_judged s.seen (old.held ++ front))
-    → new.held ≡ [] → new.refusal ≡ old.refusal → StandsFor new files (bytes ++ (front ++ 10 ∷ []))
-line_fed old new files bytes front s one h held refusal =
-    let whole : (bytes ++ front) ++ 10 ∷ [] ≡ bytes ++ (front ++ 10 ∷ []) = append_assoc bytes front (10 ∷ []) in
-    subst (λ (t : List ℕ). StandsFor new files t) whole (record {
+pub line_fed : (old new : Kept) (files : List (List ℕ)) (bytes prefix : List ℕ) (s : Represents old files bytes) → is_one_line prefix ≡ true → ReadOn new.progress (line_judged s.seen (old.held ++ prefix))
+    → new.held ≡ [] → new.refusal ≡ old.refusal → Represents new files (bytes ++ (prefix ++ 10 ∷ []))
+line_fed old new files bytes prefix s one h held refusal =
+    let whole : (bytes ++ prefix) ++ 10 ∷ [] ≡ bytes ++ (prefix ++ 10 ∷ []) = append_assoc bytes prefix (10 ∷ []) in
+    subst (λ (t : List ℕ). Represents new files t) whole (record {
       seen = h.seen;
-      judged = input_by_lines files ((bytes ++ front) ++ 10 ∷ [])
-          ∙ ap (λ (r : Result Seen LogError). r >>= (λ next. rest_judged next (rest_of ((bytes ++ front) ++ 10 ∷ [])))) (line_after old files bytes front s one ∙ h.is)
-          ∙ ap (rest_judged h.seen) (rest_ended (bytes ++ front)) ∙ rest_nothing h.seen;
+      judged = input_by_lines files ((bytes ++ prefix) ++ 10 ∷ [])
+          ∙ ap (λ (r : Result Seen LogError). r >>= (λ next. rest_judged next (rest_of ((bytes ++ prefix) ++ 10 ∷ [])))) (line_after old files bytes prefix s one ∙ h.is)
+          ∙ ap (rest_judged h.seen) (rest_ended (bytes ++ prefix)) ∙ rest_nothing h.seen;
       reading = h.follows.reading;
-      held = held ∙ sym (rest_ended (bytes ++ front));
+      held = held ∙ sym (rest_ended (bytes ++ prefix));
       going = refusal ∙ s.going;
-      in_order = λ h. absurd (some_end (bytes ++ front) 10 h);
+      in_order = λ h. absurd (some_end (bytes ++ prefix) 10 h);
     })
 
 -- the fault of a line is that of the input up to it
-pub line_faulty : (old : Kept) (files : List (List ℕ)) (bytes front : List ℕ) (error : LogError) (s : StandsFor old files bytes) → is_one_line front ≡ true → line_judged s.seen (old.held ++ front) ≡ Err error
-    → input_judged files (bytes ++ (front ++ 10 ∷ [])) ≡ Err error
-line_faulty old files bytes front error s one h =
-    let whole : (bytes ++ front) ++ 10 ∷ [] ≡ bytes ++ (front ++ 10 ∷ []) = append_assoc bytes front (10 ∷ []) in
-    ap (input_judged files) (sym whole) ∙ input_by_lines files ((bytes ++ front) ++ 10 ∷ [])
-    ∙ ap (λ (r : Result Seen LogError). r >>= (λ next. rest_judged next (rest_of ((bytes ++ front) ++ 10 ∷ [])))) (line_after old files bytes front s one ∙ h)
+pub line_faulty : (old : Kept) (files : List (List ℕ)) (bytes prefix : List ℕ) (error : LogError) (s : Represents old files bytes) → is_one_line prefix ≡ true → line_judged s.seen (old.held ++ prefix) ≡ Err error
+    → input_judged files (bytes ++ (prefix ++ 10 ∷ [])) ≡ Err error
+line_faulty old files bytes prefix error s one h =
+    let whole : (bytes ++ prefix) ++ 10 ∷ [] ≡ bytes ++ (prefix ++ 10 ∷ []) = append_assoc bytes prefix (10 ∷ []) in
+    ap (input_judged files) (sym whole) ∙ input_by_lines files ((bytes ++ prefix) ++ 10 ∷ [])
+    ∙ ap (λ (r : Result Seen LogError). r >>= (λ next. rest_judged next (rest_of ((bytes ++ prefix) ++ 10 ∷ [])))) (line_after old files bytes prefix s one ∙ h)
 
 -- a part of a line, after the input that is represented
-part_after : (old : Kept) (files : List (List ℕ)) (bytes part : List ℕ) (s : StandsFor old files bytes) → is_one_line part ≡ true
+part_after : (old : Kept) (files : List (List ℕ)) (bytes part : List ℕ) (s : Represents old files bytes) → is_one_line part ≡ true
     → input_judged files (bytes ++ part) ≡ rest_judged s.seen (old.held ++ part)
 part_after old files bytes part s one =
     input_by_lines files (bytes ++ part)
@@ -171,7 +171,7 @@ part_after old files bytes part s one =
     ∙ ap (rest_judged s.seen) (rest_more bytes part one ∙ ap (λ t. t ++ part) (sym s.held))
 
 -- the answer to a part of a line that goes on is that of the reading
-pub part_answered : (old new : Kept) (files : List (List ℕ)) (bytes part : List ℕ) (s : StandsFor old files bytes) → is_one_line part ≡ true → (r : Result (Unit {0}) Fault)
+pub part_answered : (old new : Kept) (files : List (List ℕ)) (bytes part : List ℕ) (s : Represents old files bytes) → is_one_line part ≡ true → (r : Result (Unit {0}) Fault)
     → ReadTo new.progress (rest_judged s.seen (old.held ++ part)) r → OnOk r (new ≡ record old { held = old.held ++ part }) → PieceTo new files (bytes ++ part) r
 part_answered old new files bytes part s one (Ok x) h e = record {
   seen = h.seen;
@@ -179,7 +179,7 @@ part_answered old new files bytes part s one (Ok x) h e = record {
   reading = h.follows.reading;
   held = ap (λ (k : Kept). k.held) e ∙ ap (λ t. t ++ part) s.held ∙ sym (rest_more bytes part one);
   going = ap (λ (k : Kept). k.refusal) e ∙ s.going;
-  in_order = λ h. ap (λ (k : Kept). k.in_order) e ∙ s.in_order (no_front bytes part h);
+  in_order = λ h. ap (λ (k : Kept). k.in_order) e ∙ s.in_order (no_prefix bytes part h);
 }
 part_answered old new files bytes part s one (Err (Wrong kind)) h e = part_after old files bytes part s one ∙ h
 part_answered old new files bytes part s one (Err NoMemory) h e = tt
@@ -194,7 +194,7 @@ file_by_lines files bytes = read_on nothing_seen files bytes ∙ by_files (files
     by_files (Err error) = refl
 
 -- the end of a file is judged after its last line, which was held
-pub end_after : (old : Kept) (files : List (List ℕ)) (bytes : List ℕ) (s : StandsFor old files bytes) → files_judged nothing_seen (files ++ bytes ∷ []) ≡ (last_judged s.seen old.held >>= end_judged)
+pub end_after : (old : Kept) (files : List (List ℕ)) (bytes : List ℕ) (s : Represents old files bytes) → files_judged nothing_seen (files ++ bytes ∷ []) ≡ (last_judged s.seen old.held >>= end_judged)
 end_after old files bytes s =
     file_by_lines files bytes
     ∙ ap (λ (r : Result Seen LogError). r >>= (λ next. last_judged next (rest_of bytes)) >>= end_judged) (lines_ok s.seen files bytes s.judged)
@@ -285,17 +285,17 @@ line_read new seen line text r few e h =
     subst (λ (t : Result Seen LogError). ReadTo new t r) (ap (text_judged seen) e ∙ sym (line_fits seen line few)) h
 
 -- a line that is wrong, with the rest of its piece after it
-pub line_answered : (old new : Kept) (files : List (List ℕ)) (bytes front behind whole : List ℕ) (s : StandsFor old files bytes) → is_one_line front ≡ true → (bytes ++ (front ++ 10 ∷ [])) ++ behind ≡ whole
-    → (fault : Fault) → ReadTo new.progress (line_judged s.seen (old.held ++ front)) (Err fault) → PieceTo new files whole (Err fault)
-line_answered old new files bytes front behind whole s one e (Wrong kind) h =
-    ap (input_judged files) (sym e) ∙ input_fault files (bytes ++ (front ++ 10 ∷ [])) behind _ (line_faulty old files bytes front _ s one h)
-line_answered old new files bytes front behind whole s one e NoMemory h = tt
+pub line_answered : (old new : Kept) (files : List (List ℕ)) (bytes prefix behind whole : List ℕ) (s : Represents old files bytes) → is_one_line prefix ≡ true → (bytes ++ (prefix ++ 10 ∷ [])) ++ behind ≡ whole
+    → (fault : Fault) → ReadTo new.progress (line_judged s.seen (old.held ++ prefix)) (Err fault) → PieceTo new files whole (Err fault)
+line_answered old new files bytes prefix behind whole s one e (Wrong kind) h =
+    ap (input_judged files) (sym e) ∙ input_fault files (bytes ++ (prefix ++ 10 ∷ [])) behind _ (line_faulty old files bytes prefix _ s one h)
+line_answered old new files bytes prefix behind whole s one e NoMemory h = tt
 
 -- a piece by its parts
-pub piece_whole : (bytes done front behind rest piece : List ℕ) → rest ≡ front ++ 10 ∷ behind → done ++ rest ≡ piece → ((bytes ++ done) ++ (front ++ 10 ∷ [])) ++ behind ≡ bytes ++ piece
-piece_whole bytes done front behind rest piece e f =
-    append_assoc (bytes ++ done) (front ++ 10 ∷ []) behind ∙ append_assoc bytes done ((front ++ 10 ∷ []) ++ behind)
-    ∙ ap (λ t. bytes ++ (done ++ t)) (append_assoc front (10 ∷ []) behind ∙ sym e) ∙ ap (λ t. bytes ++ t) f
+pub piece_whole : (bytes done prefix behind rest piece : List ℕ) → rest ≡ prefix ++ 10 ∷ behind → done ++ rest ≡ piece → ((bytes ++ done) ++ (prefix ++ 10 ∷ [])) ++ behind ≡ bytes ++ piece
+piece_whole bytes done prefix behind rest piece e f =
+    append_assoc (bytes ++ done) (prefix ++ 10 ∷ []) behind ∙ append_assoc bytes done ((prefix ++ 10 ∷ []) ++ behind)
+    ∙ ap (λ t. bytes ++ (done ++ t)) (append_assoc prefix (10 ∷ []) behind ∙ sym e) ∙ ap (λ t. bytes ++ t) f
 
 -- a text of length 0 is empty
 pub nothing_there : (text : List ℕ) → length text ≡ 0 → text ≡ []

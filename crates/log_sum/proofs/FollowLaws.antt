@@ -18,7 +18,7 @@ use Rattle.log_sum.specs.Counts.{last_count}
 use Rattle.log_sum.specs.Facts.{Row, Fact, Entry, a_kind, a_row, a_condition, a_hash, facts_of, rows, same_mark, is_other, mark_in, marked_sum, fault_if, fault_of}
 use Rattle.log_sum.specs.Lines.{Said, passed_over, begins, counts, a_state, judged, conditioned, hashed, ends, test_line, outside_said, row_said, line_said, place_after, fact_said, test_after}
 use Rattle.log_sum.specs.Reading.{Seen, fact_put, fact_judged, fault_at, said_to, said_judged, said_put, text_judged, at_next_line, next_line, ◌>>=◌}
-use Rattle.log_sum.specs.Standing.{Progress, IsRunning, name_at}
+use Rattle.log_sum.specs.Representing.{Progress, IsRunning, name_at}
 use Rattle.log_sum.specs.Summed.{Summed}
 use Rattle.text_laws.specs.Words.{words}
 use Rattle.log_sum.specs.Feeding.{Marked, AreMarked, entry_of, FactPut, RowPut, Follows, ReadOn, ReadTo}

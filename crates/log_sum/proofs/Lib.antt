@@ -16,5 +16,5 @@ pub mod EntryLaws
 pub mod SortLaws
 pub mod PrintLaws
 pub mod PlaceLaws
-pub mod StandingLaws
+pub mod RepresentingLaws
 pub mod PieceLaws

@@ -5,7 +5,7 @@ use Rattle.log_sum.specs.declared.errors.LogError.{LogError}
 use Rattle.log_sum.specs.declared.errors.SumError.{SumError}
 use Rattle.log_sum.specs.declared.errors.SumError.TheVariants.{Log, NoMemory}
 use Rattle.log_sum.specs.Reading.{Seen, nothing_seen, files_judged, input_judged}
-use Rattle.log_sum.specs.Standing.{Kept, FedTo, EndedTo}
+use Rattle.log_sum.specs.Representing.{Kept, FedTo, EndedTo}
 use Rattle.log_sum.specs.Pieces.{IsOneAnswer, SameAnswers}
 use Rattle.log_sum.proofs.PrintLaws.{same_sum}
 use Rattle.log_sum.proofs.StayLaws.{input_fault, files_fault, nothing_more}
@@ -16,24 +16,24 @@ record NoFault (read : Result Seen LogError) : Type 0 where
   pub is : read ≡ Ok seen
 
 -- what an answer says of the reading of the same bytes
-abbrev Tells : Result Seen LogError → Result (Unit {0}) SumError → Type 0
-Tells read (Ok x) = NoFault read
-Tells read (Err (Log error)) = read ≡ Err error
-Tells read (Err NoMemory) = Unit {0}
+abbrev Says : Result Seen LogError → Result (Unit {0}) SumError → Type 0
+Says read (Ok x) = NoFault read
+Says read (Err (Log error)) = read ≡ Err error
+Says read (Err NoMemory) = Unit {0}
 
-fed_tells : (kept : Kept) (files : List (List ℕ)) (bytes : List ℕ) (r : Result (Unit {0}) SumError) → FedTo kept files bytes r → Tells (input_judged files bytes) r
-fed_tells kept files bytes (Ok x) fed = record { seen = fed.seen; is = fed.judged }
-fed_tells kept files bytes (Err (Log error)) fed = fed.0
-fed_tells kept files bytes (Err NoMemory) fed = tt
+fed_says : (kept : Kept) (files : List (List ℕ)) (bytes : List ℕ) (r : Result (Unit {0}) SumError) → FedTo kept files bytes r → Says (input_judged files bytes) r
+fed_says kept files bytes (Ok x) fed = record { seen = fed.seen; is = fed.judged }
+fed_says kept files bytes (Err (Log error)) fed = fed.0
+fed_says kept files bytes (Err NoMemory) fed = tt
 
-ended_tells : (kept : Kept) (files : List (List ℕ)) (log : List ℕ) (r : Result (Unit {0}) SumError) → EndedTo kept files log r
-    → Tells (files_judged nothing_seen (files ++ log ∷ [])) r
-ended_tells kept files log (Ok x) ended = record { seen = ended.seen; is = sym (nothing_more (files ++ log ∷ [])) ∙ ended.judged }
-ended_tells kept files log (Err (Log error)) ended = ended.0
-ended_tells kept files log (Err NoMemory) ended = tt
+ended_says : (kept : Kept) (files : List (List ℕ)) (log : List ℕ) (r : Result (Unit {0}) SumError) → EndedTo kept files log r
+    → Says (files_judged nothing_seen (files ++ log ∷ [])) r
+ended_says kept files log (Ok x) ended = record { seen = ended.seen; is = sym (nothing_more (files ++ log ∷ [])) ∙ ended.judged }
+ended_says kept files log (Err (Log error)) ended = ended.0
+ended_says kept files log (Err NoMemory) ended = tt
 
 -- two answers about one reading
-one_answer : (read : Result Seen LogError) (r s : Result (Unit {0}) SumError) → Tells read r → Tells read s → IsOneAnswer r s
+one_answer : (read : Result Seen LogError) (r s : Result (Unit {0}) SumError) → Says read r → Says read s → IsOneAnswer r s
 one_answer read (Err NoMemory) s h k = tt
 one_answer read (Ok x) (Ok y) h k = inl refl
 one_answer read (Ok x) (Err (Log error)) h k = absurd (let e : Ok h.seen ≡ Err error = sym h.is ∙ k in cc)
@@ -46,14 +46,14 @@ one_answer read (Err (Log error)) (Err NoMemory) h k = inr refl
 -- however the same bytes are cut, there is one answer, and one sum
 pub one_answer_in_pieces : SameAnswers
 one_answer_in_pieces = record {
-  fed = λ one other files bytes r s p q. one_answer (input_judged files bytes) r s (fed_tells one files bytes r p) (fed_tells other files bytes s q);
+  fed = λ one other files bytes r s p q. one_answer (input_judged files bytes) r s (fed_says one files bytes r p) (fed_says other files bytes s q);
   ended = λ one other files log r s p q.
-      one_answer (files_judged nothing_seen (files ++ log ∷ [])) r s (ended_tells one files log r p) (ended_tells other files log s q);
+      one_answer (files_judged nothing_seen (files ++ log ∷ [])) r s (ended_says one files log r p) (ended_says other files log s q);
   fed_more = λ one other files bytes rest error s p q.
       one_answer (input_judged files (bytes ++ rest)) (Err (Log error)) s (input_fault files bytes rest error p.0)
-      (fed_tells other files (bytes ++ rest) s q);
+      (fed_says other files (bytes ++ rest) s q);
   ended_more = λ one other files bytes rest error s p q.
       one_answer (files_judged nothing_seen (files ++ (bytes ++ rest) ∷ [])) (Err (Log error)) s
-      (files_fault files [] bytes rest error p.0) (ended_tells other files (bytes ++ rest) s q);
+      (files_fault files [] bytes rest error p.0) (ended_says other files (bytes ++ rest) s q);
   sum = same_sum;
 }

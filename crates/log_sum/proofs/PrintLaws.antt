@@ -13,7 +13,7 @@ use Rattle.diy_io.specs.PageLaws.{sent_both, sent_part, sent_part_more, sends_th
 use Rattle.log_sum.specs.declared.kinds.Kind.TheVariants.{Allowed}
 use Rattle.log_sum.specs.declared.kinds.Mark.{Mark}
 use Rattle.log_sum.specs.Summed.{Summed, summed, or_else, is_validated}
-use Rattle.log_sum.specs.Standing.{Kept, StandsFor, kept_text}
+use Rattle.log_sum.specs.Representing.{Kept, Represents, kept_text}
 use Rattle.log_sum.specs.Reading.{Seen}
 use Rattle.log_sum.specs.Facts.{facts_of, tests_of}
 use Rattle.log_sum.specs.SumText.{test_text, sum_text, line_end, filling, mark_sign, state_line, kind_word, verdict_word, how_often, head_text, verdict_text, observation_text}
@@ -147,13 +147,13 @@ texts_of test [] = refl
 texts_of test (name ∷ names) = ap (λ t. test_text name (test name) ++ t) (texts_of test names)
 
 -- the sum of what is kept is that of the facts of the input that it represents
-pub sum_is : (kept : Kept) (files : List (List ℕ)) (bytes : List ℕ) (s : StandsFor kept files bytes) → kept_text kept ≡ sum_text s.seen.entries
+pub sum_is : (kept : Kept) (files : List (List ℕ)) (bytes : List ℕ) (s : Represents kept files bytes) → kept_text kept ≡ sum_text s.seen.entries
 unfolding sum_text
 sum_is kept files bytes s =
     ap (flat_map (λ (row : List ℕ × Summed). test_text row.0 row.1)) s.reading.tests ∙ texts_of (λ name. summed (facts_of name s.seen.entries)) (tests_of s.seen.entries)
 
 -- two summers that represent the same input have the same sum, however its bytes were cut
-pub same_sum : (one other : Kept) (files : List (List ℕ)) (bytes : List ℕ) → StandsFor one files bytes → StandsFor other files bytes → kept_text one ≡ kept_text other
+pub same_sum : (one other : Kept) (files : List (List ℕ)) (bytes : List ℕ) → Represents one files bytes → Represents other files bytes → kept_text one ≡ kept_text other
 same_sum one other files bytes s t =
     let same : Ok s.seen ≡ Ok t.seen = sym s.judged ∙ t.judged in
     let seen : s.seen ≡ t.seen = cc in

@@ -11,7 +11,7 @@ use Rattle.list_laws.proofs.Cases.{by_test}
 use Rattle.log_sum.specs.declared.errors.LogError.{LogError}
 use Rattle.log_sum.specs.Facts.{Fact, Entry, facts_of, tests_of, with_name}
 use Rattle.log_sum.specs.Summed.{Summed, summed}
-use Rattle.log_sum.specs.Standing.{table_of}
+use Rattle.log_sum.specs.Representing.{table_of}
 use Rattle.log_sum.specs.Reading.{Seen, ◌>>=◌, lines_judged, line_judged, lines_of, rest_of, bytes_judged, rest_judged, file_judged, files_judged, input_judged, nothing_seen}
 use Rattle.text_laws.specs.Lines.{but_last, last_of}
 use Rattle.log_sum.specs.Feeding.{entry_of}
@@ -70,15 +70,15 @@ last_split [] line = refl
 last_split (l ∷ []) line = refl
 last_split (l ∷ m ∷ lines) line = last_split (m ∷ lines) line
 
-front_split : (lines : List (List ℕ)) (line : List ℕ) → but_last (lines ++ line ∷ []) ≡ lines
-front_split [] line = refl
-front_split (l ∷ []) line = refl
-front_split (l ∷ m ∷ lines) line = ap (λ t. l ∷ t) (front_split (m ∷ lines) line)
+prefix_split : (lines : List (List ℕ)) (line : List ℕ) → but_last (lines ++ line ∷ []) ≡ lines
+prefix_split [] line = refl
+prefix_split (l ∷ []) line = refl
+prefix_split (l ∷ m ∷ lines) line = ap (λ t. l ∷ t) (prefix_split (m ∷ lines) line)
 
 -- bytes without a line feed end no line
 pub lines_more : (bytes part : List ℕ) → is_one_line part ≡ true → lines_of (bytes ++ part) ≡ lines_of bytes
 unfolding lines_of
-lines_more bytes part h = ap but_last (split_more bytes part h) ∙ front_split (but_last (slice_split is_feed bytes)) (last_of (slice_split is_feed bytes) ++ part)
+lines_more bytes part h = ap but_last (split_more bytes part h) ∙ prefix_split (but_last (slice_split is_feed bytes)) (last_of (slice_split is_feed bytes) ++ part)
 
 -- bytes without a line feed are appended to the line that goes on
 pub rest_more : (bytes part : List ℕ) → is_one_line part ≡ true → rest_of (bytes ++ part) ≡ rest_of bytes ++ part
@@ -95,7 +95,7 @@ pub lines_ended : (bytes : List ℕ) → lines_of (bytes ++ 10 ∷ []) ≡ lines
 unfolding lines_of rest_of
 lines_ended bytes =
     let first = first_line bytes in
-    ap but_last (split_ended bytes) ∙ front_split (slice_split is_feed bytes) [] ∙ whole_split (slice_split is_feed bytes) first.line first.rest first.is
+    ap but_last (split_ended bytes) ∙ prefix_split (slice_split is_feed bytes) [] ∙ whole_split (slice_split is_feed bytes) first.line first.rest first.is
 
 -- after a line feed nothing goes on
 pub rest_ended : (bytes : List ℕ) → rest_of (bytes ++ 10 ∷ []) ≡ []

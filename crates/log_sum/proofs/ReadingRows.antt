@@ -77,17 +77,17 @@ cut_in_the_name_of_the_kind : sum_of (input_judged (take 14 a_log ∷ []) []) �
 unfolding form_read digits run_of after_run before_blanks words count_read cut_at with_pieces state_read state_form marked_sum state_sum states_of mark_in fault_of test_line histogram_line row_line condition_line hash_line line_said place_after fact_said text_judged without_return line_judged lines_of rest_of rest_judged bytes_judged last_judged file_judged input_judged summed state_line head_text verdict_text condition_text claim_text hash_text observation_text test_text sum_text
 cut_in_the_name_of_the_kind = refl
 
-cut_behind_the_kind : sum_of (input_judged (take 15 a_log ∷ []) []) ≡ fault 2 Truncated
+cut_after_the_kind : sum_of (input_judged (take 15 a_log ∷ []) []) ≡ fault 2 Truncated
 unfolding form_read digits run_of after_run before_blanks words count_read cut_at with_pieces state_read state_form marked_sum state_sum states_of mark_in fault_of test_line histogram_line row_line condition_line hash_line line_said place_after fact_said text_judged without_return line_judged lines_of rest_of rest_judged bytes_judged last_judged file_judged input_judged summed state_line head_text verdict_text condition_text claim_text hash_text observation_text test_text sum_text
-cut_behind_the_kind = refl
+cut_after_the_kind = refl
 
 cut_in_the_line_of_the_number : sum_of (input_judged (take 35 a_log ∷ []) []) ≡ fault 2 BadState
 unfolding form_read digits run_of after_run before_blanks words count_read cut_at with_pieces state_read state_form marked_sum state_sum states_of mark_in fault_of test_line histogram_line row_line condition_line hash_line line_said place_after fact_said text_judged without_return line_judged lines_of rest_of rest_judged bytes_judged last_judged file_judged input_judged summed state_line head_text verdict_text condition_text claim_text hash_text observation_text test_text sum_text
 cut_in_the_line_of_the_number = refl
 
-cut_behind_that_line : sum_of (input_judged (take 37 a_log ∷ []) []) ≡ fault 3 Truncated
+cut_after_that_line : sum_of (input_judged (take 37 a_log ∷ []) []) ≡ fault 3 Truncated
 unfolding form_read digits run_of after_run before_blanks words count_read cut_at with_pieces state_read state_form marked_sum state_sum states_of mark_in fault_of test_line histogram_line row_line condition_line hash_line line_said place_after fact_said text_judged without_return line_judged lines_of rest_of rest_judged bytes_judged last_judged file_judged input_judged summed state_line head_text verdict_text condition_text claim_text hash_text observation_text test_text sum_text
-cut_behind_that_line = refl
+cut_after_that_line = refl
 
 four_lines : sum_of (input_judged (four_lines_of_a ∷ []) []) ≡ fault 5 Truncated
 unfolding form_read digits run_of after_run before_blanks words count_read cut_at with_pieces state_read state_form marked_sum state_sum states_of mark_in fault_of test_line histogram_line row_line condition_line hash_line line_said place_after fact_said text_judged without_return line_judged lines_of rest_of rest_judged bytes_judged last_judged file_judged input_judged summed state_line head_text verdict_text condition_text claim_text hash_text observation_text test_text sum_text

@@ -113,12 +113,12 @@ sorted_entries (e ∷ f ∷ es) s d =
     let rest : AreInOrder (f ∷ es) = sorted_entries (f ∷ es) (λ k x l h. later k x (omega (arith, h))) d.1 in
     second_of (below_all (slice_cmp nat_cmp) e.0.items (map state_view (f ∷ es))) (is_sorted (slice_cmp nat_cmp) (map state_view (f ∷ es)))
     (both (is_lt (slice_cmp nat_cmp e.0.items f.0.items)) (below_all (slice_cmp nat_cmp) e.0.items (map state_view es)) (ap is_lt less)
-    (below_less e.0.items f.0.items es less (front (below_all (slice_cmp nat_cmp) f.0.items (map state_view es)) (is_sorted (slice_cmp nat_cmp) (map state_view es)) rest)))
+    (below_less e.0.items f.0.items es less (prefix (below_all (slice_cmp nat_cmp) f.0.items (map state_view es)) (is_sorted (slice_cmp nat_cmp) (map state_view es)) rest)))
     rest
   where
-    front : (a b : Bool) → T (a && b) → T a
-    front true b p = tt
-    front false b p = absurd p
+    prefix : (a b : Bool) → T (a && b) → T a
+    prefix true b p = tt
+    prefix false b p = absurd p
 
     second_of : (a b : Bool) → T a → T b → T (a && b)
     second_of true b p q = q

@@ -25,7 +25,7 @@ use Rattle.log_sum.specs.Facts.{Fact, Entry, Row, a_kind, a_row, facts_of, tests
 use Rattle.log_sum.specs.Summed.{StateSummed, Summed, summed}
 use Rattle.log_sum.specs.Steps.{fact_to, row_to, of_kind}
 use Rattle.log_sum.specs.StateEntries.{states_view}
-use Rattle.log_sum.specs.Standing.{table_of, name_at}
+use Rattle.log_sum.specs.Representing.{table_of, name_at}
 use Rattle.log_sum.specs.Feeding.{AreMarked, WithFact, FactPut, RowPut}
 use Rattle.log_sum.proofs.SumLaws.{by_fault, fact_put_is}
 use Rattle.log_sum.proofs.ReadingLaws.{Differ, more, put_at, table_put, tests_differ}
@@ -130,38 +130,38 @@ fault_some None s kind e = cc
 fault_some (Some k) s kind e = let f : k ≡ kind = cc in ap Some f
 
 -- a test of a table, by its index
-pub record Stands (entries : List Entry) (es : List (Vec ℕ Global × TestSum)) (i : ℕ) (name : List ℕ) (t : TestSum) : Type 0 where
+pub record IsTestAt (entries : List Entry) (es : List (Vec ℕ Global × TestSum)) (i : ℕ) (name : List ℕ) (t : TestSum) : Type 0 where
   pub table : map named_view es ≡ table_of entries
   pub name_is : name_at (map named_view es) i ≡ Some name
   pub test_is : slice_get (values_of es) i ≡ Some t
   pub marked : AreMarked entries
 
-stands_summed : (entries : List Entry) (es : List (Vec ℕ Global × TestSum)) (i : ℕ) (name : List ℕ) (t : TestSum) → Stands entries es i name t → test_view t ≡ summed (facts_of name entries)
-stands_summed entries es i name t s =
+test_at_summed : (entries : List Entry) (es : List (Vec ℕ Global × TestSum)) (i : ℕ) (name : List ℕ) (t : TestSum) → IsTestAt entries es i name t → test_view t ≡ summed (facts_of name entries)
+test_at_summed entries es i name t s =
     row_is (λ x. summed (facts_of x entries)) (tests_of entries) i name (test_view t) (ap (λ rows. slice_get rows i) (sym s.table) ∙ at_shown es i name t s.name_is s.test_is)
 
-stands_fact : (entries : List Entry) (es : List (Vec ℕ Global × TestSum)) (i : ℕ) (name : List ℕ) (t : TestSum) (fact : Fact) → Stands entries es i name t
+test_at_fact : (entries : List Entry) (es : List (Vec ℕ Global × TestSum)) (i : ℕ) (name : List ℕ) (t : TestSum) (fact : Fact) → IsTestAt entries es i name t
     → fact_to (test_view t) fact ≡ by_fault (fault_of (facts_of name entries) fact) (summed (facts_of name entries ++ fact ∷ []))
-stands_fact entries es i name t fact s =
-    ap (λ x. fact_to x fact) (stands_summed entries es i name t s) ∙ fact_put_is (facts_of name entries) fact (s.marked name)
+test_at_fact entries es i name t fact s =
+    ap (λ x. fact_to x fact) (test_at_summed entries es i name t s) ∙ fact_put_is (facts_of name entries) fact (s.marked name)
 
-stands_differ : (entries : List Entry) (es : List (Vec ℕ Global × TestSum)) (i : ℕ) (name : List ℕ) (t : TestSum) → Stands entries es i name t → Differ (names (map named_view es))
-stands_differ entries es i name t s = subst Differ (sym (ap names s.table ∙ table_names entries)) (tests_differ entries)
+test_at_differ : (entries : List Entry) (es : List (Vec ℕ Global × TestSum)) (i : ℕ) (name : List ℕ) (t : TestSum) → IsTestAt entries es i name t → Differ (names (map named_view es))
+test_at_differ entries es i name t s = subst Differ (sym (ap names s.table ∙ table_names entries)) (tests_differ entries)
 
 -- a fact that has a fault
-pub fact_refused : (entries : List Entry) (es : List (Vec ℕ Global × TestSum)) (i : ℕ) (name : List ℕ) (t : TestSum) (fact : Fact) (kind : LogKind) → Stands entries es i name t
+pub fact_refused : (entries : List Entry) (es : List (Vec ℕ Global × TestSum)) (i : ℕ) (name : List ℕ) (t : TestSum) (fact : Fact) (kind : LogKind) → IsTestAt entries es i name t
     → fact_to (test_view t) fact ≡ Err kind → fault_of (facts_of name entries) fact ≡ Some kind
-fact_refused entries es i name t fact kind s e = fault_some _ _ kind (sym (stands_fact entries es i name t fact s) ∙ e)
+fact_refused entries es i name t fact kind s e = fault_some _ _ kind (sym (test_at_fact entries es i name t fact s) ∙ e)
 
 -- a fact without a fault, written to the table
-pub fact_written : (entries : List Entry) (es : List (Vec ℕ Global × TestSum)) (i : ℕ) (name : List ℕ) (t u : TestSum) (fact : Fact) (new : Table) → Stands entries es i name t
+pub fact_written : (entries : List Entry) (es : List (Vec ℕ Global × TestSum)) (i : ℕ) (name : List ℕ) (t u : TestSum) (fact : Fact) (new : Table) → IsTestAt entries es i name t
     → fact_to (test_view t) fact ≡ Ok (test_view u) → new.tests.entries ≡ set_value_at es i u → new.running ≡ i → WithFact entries name fact new
 fact_written entries es i name t u fact new s e w r =
-    let both = fault_none _ _ (test_view u) (sym (stands_fact entries es i name t fact s) ∙ e) in
+    let both = fault_none _ _ (test_view u) (sym (test_at_fact entries es i name t fact s) ∙ e) in
     let shown : tests_view new ≡ set_value_at (map named_view es) i (test_view u) = ap (map named_view) w ∙ write_shown es i u in
     record {
       none = both.0;
-      tests = shown ∙ write_put (map named_view es) i name (test_view u) s.name_is (stands_differ entries es i name t s)
+      tests = shown ∙ write_put (map named_view es) i name (test_view u) s.name_is (test_at_differ entries es i name t s)
           ∙ ap (λ x. put_at name x (map named_view es)) both.1
           ∙ ap (put_at name (summed (facts_of name entries ++ fact ∷ []))) s.table
           ∙ table_put entries name fact (tests_differ entries);
@@ -169,7 +169,7 @@ fact_written entries es i name t u fact new s e w r =
     }
 
 -- an answer to a fact, written to the table
-pub fact_answered : (entries : List Entry) (es : List (Vec ℕ Global × TestSum)) (i : ℕ) (name : List ℕ) (t u : TestSum) (fact : Fact) (new : Table) → Stands entries es i name t
+pub fact_answered : (entries : List Entry) (es : List (Vec ℕ Global × TestSum)) (i : ℕ) (name : List ℕ) (t u : TestSum) (fact : Fact) (new : Table) → IsTestAt entries es i name t
     → new.tests.entries ≡ set_value_at es i u → new.running ≡ i → (r : Result (Unit {0}) Fault) → GivesOr (λ _. test_view u) r (fact_to (test_view t) fact) → FactPut entries name fact new r
 fact_answered entries es i name t u fact new s w r (Ok x) g = fact_written entries es i name t u fact new s g w r
 fact_answered entries es i name t u fact new s w r (Err (Wrong kind)) g = fact_refused entries es i name t fact kind s g
@@ -182,9 +182,9 @@ same_written (e ∷ es) zero t h = let f : e.1 ≡ t = cc in rw (sym f) refl
 same_written (e ∷ es) (suc i) t h = ap (λ rest. e ∷ rest) (same_written es i t h)
 
 -- a fact without a fault that leaves its test as it is
-pub fact_told : (entries : List Entry) (es : List (Vec ℕ Global × TestSum)) (i : ℕ) (name : List ℕ) (t : TestSum) (fact : Fact) (new : Table) → Stands entries es i name t
+pub fact_given : (entries : List Entry) (es : List (Vec ℕ Global × TestSum)) (i : ℕ) (name : List ℕ) (t : TestSum) (fact : Fact) (new : Table) → IsTestAt entries es i name t
     → fact_to (test_view t) fact ≡ Ok (test_view t) → new.tests.entries ≡ es → new.running ≡ i → WithFact entries name fact new
-fact_told entries es i name t fact new s e w r =
+fact_given entries es i name t fact new s e w r =
     fact_written entries es i name t t fact new s e (w ∙ sym (same_written es i t s.test_is)) r
 
 -- the index of a name
@@ -339,7 +339,7 @@ pub same_view : (test : TestSum) (states : StateTable) → states_view states.su
 same_view test states e = ap (λ (s : List StateSummed). record (test_view test) { states = s }) e
 
 -- an answer to a row, written to the table
-pub row_answered : (entries : List Entry) (es : List (Vec ℕ Global × TestSum)) (i : ℕ) (name : List ℕ) (t u : TestSum) (new : Table) → Stands entries es i name t
+pub row_answered : (entries : List Entry) (es : List (Vec ℕ Global × TestSum)) (i : ℕ) (name : List ℕ) (t u : TestSum) (new : Table) → IsTestAt entries es i name t
     → new.tests.entries ≡ set_value_at es i u → new.running ≡ i → (read : Result Row LogKind) (r : Result (Unit {0}) Fault) → GivesOr (λ _. test_view u) r (row_to (test_view t) read) → RowPut entries name read new r
 row_answered entries es i name t u new s w k (Ok row) r g = fact_answered entries es i name t u (a_row row) new s w k r g
 row_answered entries es i name t u new s w k (Err kind) (Ok x) g = absurd (cc)

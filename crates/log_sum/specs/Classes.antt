@@ -18,7 +18,7 @@ use Rattle.log_sum.specs.declared.reading.Reading.{Reading}
 use Rattle.log_sum.specs.Summed.{Summed}
 use Rattle.log_sum.specs.StateEntries.{states_view}
 use Rattle.log_sum.specs.Facts.{Row, Fact}
-use Rattle.log_sum.specs.Standing.{Progress}
+use Rattle.log_sum.specs.Representing.{Progress}
 use Rattle.log_sum.specs.States.{form_read}
 use Rattle.log_sum.specs.Steps.{fact_to}
 use Rattle.log_sum.specs.Lines.{Said, row_of, row_said, passed_over, begins, counts, judged, conditioned, hashed, ends}

@@ -15,7 +15,7 @@ use Rattle.log_sum.specs.Classes.{tests_view}
 use Rattle.log_sum.specs.Facts.{Row, Fact, Entry, a_row, facts_of, rows, same_mark, mark_in, fault_of}
 use Rattle.log_sum.specs.Lines.{Said, line_said}
 use Rattle.log_sum.specs.Reading.{Seen, nothing_seen, fault_at, said_judged, input_judged, files_judged}
-use Rattle.log_sum.specs.Standing.{Progress, IsAt, Kept, StandsFor, table_of, name_at}
+use Rattle.log_sum.specs.Representing.{Progress, IsAt, Kept, Represents, table_of, name_at}
 
 -- all rows of a state have the mark that the first one has
 pub record Marked (rs : List Row) : Type 0 where
@@ -82,13 +82,13 @@ ReadTo new read (Err NoMemory) = Unit {0}
 
 -- an answer to a piece of a log, compared with the reading
 abbrev pub PieceTo : Kept → List (List ℕ) → List ℕ → Result (Unit {0}) Fault → Type 0
-PieceTo new files bytes (Ok x) = StandsFor new files bytes
+PieceTo new files bytes (Ok x) = Represents new files bytes
 PieceTo new files bytes (Err (Wrong kind)) = input_judged files bytes ≡ fault_at new.progress.line kind
 PieceTo new files bytes (Err NoMemory) = Unit {0}
 
 -- an answer to the end of a log, compared with the reading
 abbrev pub EndTo : Kept → List (List ℕ) → List ℕ → Result (Unit {0}) Fault → Type 0
-EndTo new files bytes (Ok x) = StandsFor new (files ++ bytes ∷ []) []
+EndTo new files bytes (Ok x) = Represents new (files ++ bytes ∷ []) []
 EndTo new files bytes (Err (Wrong kind)) = files_judged nothing_seen (files ++ bytes ∷ []) ≡ fault_at new.progress.line kind
 EndTo new files bytes (Err NoMemory) = Unit {0}
 
@@ -106,4 +106,4 @@ refusal_of line NoMemory = sums.NoMemory
 pub record FedBefore (old new : Kept) (piece rest : List ℕ) : Type 0 where
   pub done : List ℕ
   pub whole : done ++ rest ≡ piece
-  pub stands : (files : List (List ℕ)) (bytes : List ℕ) → StandsFor old files bytes → StandsFor new files (bytes ++ done)
+  pub represents : (files : List (List ℕ)) (bytes : List ℕ) → Represents old files bytes → Represents new files (bytes ++ done)

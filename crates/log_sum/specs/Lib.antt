@@ -8,7 +8,7 @@ pub mod Facts
 pub mod Lines
 pub mod Reading
 pub mod Summed
-pub mod Standing
+pub mod Representing
 pub mod Feeding
 pub mod StateEntries
 pub mod Steps

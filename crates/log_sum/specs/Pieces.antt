@@ -4,7 +4,7 @@ use Rattle.std.specs.Prelude.{◌≡◌, ◌⊎◌, ℕ, List, ◌++◌, Result,
 use Rattle.log_sum.specs.declared.errors.LogError.{LogError}
 use Rattle.log_sum.specs.declared.errors.SumError.{SumError}
 use Rattle.log_sum.specs.declared.errors.SumError.TheVariants.{Log, NoMemory}
-use Rattle.log_sum.specs.Standing.{Kept, StandsFor, FedTo, EndedTo, kept_text}
+use Rattle.log_sum.specs.Representing.{Kept, Represents, FedTo, EndedTo, kept_text}
 
 -- two answers are the same, where there is memory
 abbrev pub IsOneAnswer : Result (Unit {0}) SumError → Result (Unit {0}) SumError → Type 0
@@ -28,4 +28,4 @@ pub record SameAnswers : Type 0 where
       → FedTo one files bytes (Err (Log error)) → EndedTo other files (bytes ++ rest) s → IsOneAnswer (Err (Log error)) s
   pub sum :
       (one other : Kept) (files : List (List ℕ)) (bytes : List ℕ)
-      → StandsFor one files bytes → StandsFor other files bytes → kept_text one ≡ kept_text other
+      → Represents one files bytes → Represents other files bytes → kept_text one ≡ kept_text other

@@ -74,5 +74,5 @@ AreWritten entries =
 -- the state that a text writes is at an index
 pub record HasState (entries : List (Vec ℕ Global × StateSum)) (text : List ℕ) (i : ℕ) : Type 0 where
   pub state : List ℕ
-  pub stands : state_at entries i ≡ Some state
+  pub state_is : state_at entries i ≡ Some state
   pub read : form_read text ≡ Ok state

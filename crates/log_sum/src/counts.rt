@@ -10,7 +10,7 @@ use std::str;
 use text_parts::{Class, split_run};
 
 /// The count at the start of a text, and the text after it.
-#[tactic(auto, using(text_laws::proofs::WordLaws::empty_is_nil, crate::proofs::CountLaws::front_digits, crate::proofs::CountLaws::no_digit, crate::proofs::CountLaws::counted, crate::proofs::CountLaws::not_counted))]
+#[tactic(auto, using(text_laws::proofs::WordLaws::empty_is_nil, crate::proofs::CountLaws::prefix_digits, crate::proofs::CountLaws::no_digit, crate::proofs::CountLaws::counted, crate::proofs::CountLaws::not_counted))]
 pub(crate) fn read_count(text: &[u8]) -> Result<(u64, &[u8]), LogKind>
     ensures { Gives count_and_rest result (count_read text.now) }
 {

@@ -109,11 +109,11 @@ impl StateTable {
         if let Some(sum) = self.sums.get_index_mut(i) {
             sum.count = sum.count.saturating_add(count);
         }
-        self.next = self.index_behind(i);
+        self.next = self.index_after(i);
     }
 
     /// The index after one, or 0 where it is the last.
-    fn index_behind(&self, i: usize) -> usize {
+    fn index_after(&self, i: usize) -> usize {
         let next = i.saturating_add(1);
         if next < self.sums.len() { next } else { 0 }
     }

@@ -2,7 +2,7 @@ ghost use Rattle.std.specs.Prelude.{◌≡◌, ℕ, List, [], ◌++◌, true, So
 ghost use Rattle.diy_io.specs.Page.{Sends};
 ghost use Rattle.diy_io.specs.Wrote.{Wrote};
 ghost use Rattle.log_sum.specs.Reading.{Seen, line_judged, rest_judged};
-ghost use Rattle.log_sum.specs.Standing.{Kept, StandsFor, FedTo, EndedTo, IsKept, GivenAgain, kept_text};
+ghost use Rattle.log_sum.specs.Representing.{Kept, Represents, FedTo, EndedTo, IsKept, GivenAgain, kept_text};
 ghost use Rattle.log_sum.specs.Feeding.{Follows, ReadTo, PieceTo, EndTo, refusal_of};
 
 use crate::errors::{Fault, LogError, LogKind, SumError};
@@ -28,7 +28,7 @@ pub struct Summer {
 
 impl Model for Summer {
     ghost use Rattle.std.specs.Prelude.{◌≤◌, length};
-    ghost use Rattle.log_sum.specs.Standing.{Kept};
+    ghost use Rattle.log_sum.specs.Representing.{Kept};
     ghost use Rattle.log_sum.specs.Classes.{progress_view, are_in_order};
 
     ghost Value = { Kept };
@@ -46,7 +46,7 @@ impl Model for Summer {
 impl Summer {
     /// A summer that has been fed nothing.
     pub fn new(alloc: Global) -> Result<Summer, NoMemory>
-        ensures stands { IfOk result (λ summer. StandsFor summer [] []) }
+        ensures represents { IfOk result (λ summer. Represents summer [] []) }
         ensures in_order { IfOk result (λ summer. summer.in_order ≡ true) }
     {
         Ok(Summer {
@@ -61,11 +61,11 @@ impl Summer {
     /// The answer is the first fault of the bytes that were fed so far, or that there is no memory; the summer is
     /// spent then, and answers the same again.
     pub fn feed(&mut self, piece: &[u8]) -> Result<(), SumError>
-        ensures fed { (files : List (List ℕ)) (bytes : List ℕ) → StandsFor self.old files bytes → FedTo self.new files (bytes ++ piece.now) result }
+        ensures fed { (files : List (List ℕ)) (bytes : List ℕ) → Represents self.old files bytes → FedTo self.new files (bytes ++ piece.now) result }
         ensures kept { IsKept self.new result }
         ensures given_again { GivenAgain self.old self.new result }
     {
-        self.going()?;
+        self.check_refusal()?;
         match self.feed_lines(piece) {
             Ok(()) => Ok(()),
             Err(fault) => Err(self.refuse(fault)),
@@ -77,12 +77,12 @@ impl Summer {
     /// The answer is the first fault of the logs that have ended, or that there is no memory; the summer is spent
     /// then, and answers the same again.
     pub fn end_file(&mut self) -> Result<(), SumError>
-        ensures ended { (files : List (List ℕ)) (bytes : List ℕ) → StandsFor self.old files bytes → EndedTo self.new files bytes result }
+        ensures ended { (files : List (List ℕ)) (bytes : List ℕ) → Represents self.old files bytes → EndedTo self.new files bytes result }
         ensures in_order { OnOk result (self.new.in_order ≡ true) }
         ensures kept { IsKept self.new result }
         ensures given_again { GivenAgain self.old self.new result }
     {
-        self.going()?;
+        self.check_refusal()?;
         match self.end_line() {
             Ok(()) => Ok(()),
             Err(fault) => Err(self.refuse(fault)),
@@ -114,7 +114,7 @@ impl Summer {
     }
 
     /// Whether the summer goes on, or its refusal.
-    fn going(&self) -> Result<(), SumError>
+    fn check_refusal(&self) -> Result<(), SumError>
         ensures ok { OnOk result (self.now.refusal ≡ None) }
         ensures err { IfErr result (λ refusal. self.now.refusal ≡ Some refusal) }
     {
@@ -141,29 +141,29 @@ impl Summer {
     }
 
     fn feed_lines(&mut self, piece: &[u8]) -> Result<(), Fault>
-        ensures { (files : List (List ℕ)) (bytes : List ℕ) → StandsFor self.old files bytes → PieceTo self.new files (bytes ++ piece.now) result }
+        ensures { (files : List (List ℕ)) (bytes : List ℕ) → Represents self.old files bytes → PieceTo self.new files (bytes ++ piece.now) result }
     {
         let mut rest = piece;
-        while let Some((front, behind)) = cut(b'\n', rest) {
-            self.feed_line(front)?;
+        while let Some((prefix, behind)) = cut(b'\n', rest) {
+            self.feed_line(prefix)?;
             rest = behind;
         }
         self.hold(rest)
     }
 
     /// The end of the running line, which a line feed follows.
-    fn feed_line(&mut self, front: &[u8]) -> Result<(), Fault>
-        ensures judged { (seen : Seen) → Follows self.old.progress seen → ReadTo self.new.progress (line_judged seen (self.old.held ++ front.now)) result }
+    fn feed_line(&mut self, prefix: &[u8]) -> Result<(), Fault>
+        ensures judged { (seen : Seen) → Follows self.old.progress seen → ReadTo self.new.progress (line_judged seen (self.old.held ++ prefix.now)) result }
         ensures held { OnOk result (self.new.held ≡ []) }
         ensures refusal { self.new.refusal ≡ self.old.refusal }
     {
         if self.held.is_empty() {
-            if front.len() > MAX_LINE {
+            if prefix.len() > MAX_LINE {
                 return Err(Fault::Wrong(LogKind::LineTooLong));
             }
-            return self.reading.judge(without_return(front));
+            return self.reading.judge(without_return(prefix));
         }
-        self.hold(front)?;
+        self.hold(prefix)?;
         self.reading.judge(without_return(self.held.as_slice()))?;
         self.held.clear();
         Ok(())
@@ -185,7 +185,7 @@ impl Summer {
     /// A last line that no line feed ends, and the end of the log.
     fn end_line(&mut self) -> Result<(), Fault>
         ensures in_order { OnOk result (self.new.in_order ≡ true) }
-        ensures ended { (files : List (List ℕ)) (bytes : List ℕ) → StandsFor self.old files bytes → EndTo self.new files bytes result }
+        ensures ended { (files : List (List ℕ)) (bytes : List ℕ) → Represents self.old files bytes → EndTo self.new files bytes result }
     {
         if !self.held.is_empty() {
             self.reading.judge(self.held.as_slice())?;

@@ -128,7 +128,7 @@ impl TestSum {
     }
 
     /// The sum of the counts of a mark.
-    fn marked(&self, mark: Mark) -> u64
+    fn sum_of_mark(&self, mark: Mark) -> u64
         ensures { result ≡ marked (test_view self.now) mark }
     {
         match mark {
@@ -169,7 +169,7 @@ impl TestSum {
     fn add(&mut self, i: usize, mark: Mark, count: u64) -> Result<(), Fault>
         ensures { ForStateAt self.old.states.sums.entries i (λ state. TestTold self.old self.new (a_row (row_with state mark count)) result) }
     {
-        let sum = self.marked(mark);
+        let sum = self.sum_of_mark(mark);
         let Some((known, _)) = self.states.sum_at(i) else {
             return Ok(());
         };
@@ -190,7 +190,7 @@ impl TestSum {
         requires read { form_read row.text.now ≡ Ok state.now }
         ensures { TestTold self.old self.new (a_row (row_with state.now row.entry.mark row.entry.count)) result }
     {
-        let sum = self.marked(row.mark);
+        let sum = self.sum_of_mark(row.mark);
         if row.count > u64::MAX - sum {
             return Err(Fault::Wrong(LogKind::SumTooLarge));
         }

@@ -11,10 +11,10 @@ use Rattle.micro_ops.specs.declared.operation.Micro.{Micro}
 use Rattle.micro_ops.specs.declared.operation.Micro.TheVariants as ops
 use Rattle.micro_ops.specs.declared.operation.Item.{Item}
 use Rattle.micro_ops.specs.declared.operation.Item.TheVariants as items
-use Rattle.micro_ops.specs.Machine.{Told, step}
-use Rattle.micro_ops.specs.Running.{Run, Point, At, Past, Wants, Stuck, go, exec, taken, led, landing, wanting, is_load, is_label, stands, stands_if, target, lands, labels_of, is_past, writes, is_named, is_written, is_read, NamesLoads, beginning, starting, add_item, AllNameLoads, RunNamesLoads, OnRun}
+use Rattle.micro_ops.specs.Machine.{Effect, step}
+use Rattle.micro_ops.specs.Running.{Run, Point, At, Past, Wants, Stuck, go, exec, taken, led, landing, wanting, is_load, is_label, occurs, occurs_if, target, lands, labels_of, is_past, writes, is_named, is_written, is_read, NamesLoads, beginning, starting, add_item, AllNameLoads, RunNamesLoads, OnRun}
 use Rattle.micro_ops.specs.Threads.{goes_on, StopsAt}
-use Rattle.micro_ops.proofs.Steps.{OnTold, JumpsTo, step_jumps, Keeps, step_keeps, Named, step_named, step_counts, Counts, reads_in, ItemNames}
+use Rattle.micro_ops.proofs.Steps.{OnEffect, JumpsTo, step_jumps, Keeps, step_keeps, Named, step_named, step_counts, Counts, reads_in, ItemNames}
 
 -- the run of one list and then another is the run of the second from where the first led
 pub exec_append : (code after : List Micro) (p : Point) →
@@ -38,13 +38,13 @@ wants_stays [] r = refl
 wants_stays (op ∷ code) r = wants_stays code r
 
 -- a jump goes on after its label
-pub jump_lands : (before after : List Micro) (l : ℕ) (r : Run) → stands l before ≡ false →
+pub jump_lands : (before after : List Micro) (l : ℕ) (r : Run) → occurs l before ≡ false →
     exec (before ++ ops.Label l ∷ after) (Past l r) ≡ exec after (At r)
 jump_lands [] after l r h = ap (λ b. exec after (cond b (At r) (Past l r))) (eq-eqb l l refl)
 jump_lands (op ∷ before) after l r h =
     ap (λ b. exec (before ++ ops.Label l ∷ after) (cond b (At r) (Past l r)))
-    (or_false_left (is_label l op) (stands l before) h) ∙
-    jump_lands before after l r (or_false_right (is_label l op) (stands l before) h)
+    (or_false_left (is_label l op) (occurs l before) h) ∙
+    jump_lands before after l r (or_false_right (is_label l op) (occurs l before) h)
   where
     or_false_left : (a b : Bool) → (a || b) ≡ false → a ≡ false
     or_false_left true b h = h
@@ -57,29 +57,29 @@ jump_lands (op ∷ before) after l r h =
 -- a label that a run looks for, if there is one, is in the code ahead of it
 abbrev pub HasWay : List Micro → Point → Type 0
 HasWay code (At _) = Unit {0}
-HasWay code (Past l _) = stands l code ≡ true
+HasWay code (Past l _) = occurs l code ≡ true
 HasWay code (Wants _) = Unit {0}
 HasWay code Stuck = Unit {0}
 
-led_ways : (code : List Micro) (label : Option ℕ) (told : Option Told) (reads : List ℕ)
-    (made : List Item) → OnTold (JumpsTo label) told → stands_if label code ≡ true →
-    HasWay code (led told reads made)
+led_ways : (code : List Micro) (label : Option ℕ) (effect : Option Effect) (reads : List ℕ)
+    (made : List Item) → OnEffect (JumpsTo label) effect → occurs_if label code ≡ true →
+    HasWay code (led effect reads made)
 led_ways code label None reads made h e = tt
-led_ways code label (Some told) reads made h e = way told.jump _ (jump_stands told.jump h)
+led_ways code label (Some effect) reads made h e = way effect.jump _ (jump_occurs effect.jump h)
   where
-    stands_none : (j : Option ℕ) → j ≡ None → stands_if j code ≡ true
-    stands_none j d = rw d refl
+    occurs_none : (j : Option ℕ) → j ≡ None → occurs_if j code ≡ true
+    occurs_none j d = rw d refl
 
-    jump_stands : (j : Option ℕ) → (j ≡ None) ⊎ (j ≡ label) → stands_if j code ≡ true
-    jump_stands j (inl d) = stands_none j d
-    jump_stands j (inr d) = rw d e
+    jump_occurs : (j : Option ℕ) → (j ≡ None) ⊎ (j ≡ label) → occurs_if j code ≡ true
+    jump_occurs j (inl d) = occurs_none j d
+    jump_occurs j (inr d) = rw d e
 
-    way : (j : Option ℕ) (r : Run) → stands_if j code ≡ true → HasWay code (landing j r)
+    way : (j : Option ℕ) (r : Run) → occurs_if j code ≡ true → HasWay code (landing j r)
     way None r h = tt
     way (Some l) r h = h
 
 taken_ways : (op : Micro) (code : List Micro) (r : Run) (b : Bool) (reads : List ℕ) →
-    stands_if (target op) code ≡ true → HasWay code (taken op r b reads)
+    occurs_if (target op) code ≡ true → HasWay code (taken op r b reads)
 taken_ways op code r false reads e =
     led_ways code (target op) (step op r.state None) reads r.made (step_jumps op r.state None) e
 taken_ways op code r true (n ∷ reads) e =
@@ -87,14 +87,14 @@ taken_ways op code r true (n ∷ reads) e =
     (step_jumps op r.state (Some n)) e
 taken_ways op code r true [] e =
     elim (step op r.state (Some 0)) as (λ t. HasWay code (wanting t r))
-    [ Some told ↦ tt | None ↦ tt ]
+    [ Some effect ↦ tt | None ↦ tt ]
 
-go_ways : (op : Micro) (code : List Micro) (p : Point) → stands_if (target op) code ≡ true →
+go_ways : (op : Micro) (code : List Micro) (p : Point) → occurs_if (target op) code ≡ true →
     HasWay (op ∷ code) p → HasWay code (go op p)
 go_ways op code (At r) e h = taken_ways op code r (is_load op) r.reads e
 go_ways op code (Past l r) e h = here (is_label l op) h
   where
-    here : (b : Bool) → (b || stands l code) ≡ true → HasWay code (cond b (At r) (Past l r))
+    here : (b : Bool) → (b || occurs l code) ≡ true → HasWay code (cond b (At r) (Past l r))
     here true h = tt
     here false h = h
 go_ways op code (Wants r) e h = tt
@@ -107,7 +107,7 @@ exec_ways [] (Past l r) h w = sym w
 exec_ways [] (Wants r) h w = refl
 exec_ways [] Stuck h w = refl
 exec_ways (op ∷ code) p h w =
-    let parts = and_parts (stands_if (target op) code) (lands code) h in
+    let parts = and_parts (occurs_if (target op) code) (lands code) h in
     exec_ways code (go op p) parts.1 (go_ways op code p parts.0 w)
 
 -- no run of a list in which each branch's label comes later ends on the way to a label
@@ -116,11 +116,11 @@ pub never_past : (code : List Micro) (r : Run) → lands code ≡ true →
 never_past code r h = exec_ways code (At r) h tt
 
 -- what each step keeps, a run keeps
-led_keeps : (P : Run → Type 0) (told : Option Told) (reads : List ℕ) (made : List Item) →
-    OnTold (λ t. P (record { state = t.state; reads = reads; made = add_item made t.item })) told →
-    OnRun P (led told reads made)
+led_keeps : (P : Run → Type 0) (effect : Option Effect) (reads : List ℕ) (made : List Item) →
+    OnEffect (λ t. P (record { state = t.state; reads = reads; made = add_item made t.item })) effect →
+    OnRun P (led effect reads made)
 led_keeps P None reads made h = tt
-led_keeps P (Some told) reads made h = at_landing told.jump _ h
+led_keeps P (Some effect) reads made h = at_landing effect.jump _ h
   where
     at_landing : (j : Option ℕ) (r : Run) → P r → OnRun P (landing j r)
     at_landing None r h = h
@@ -130,15 +130,15 @@ led_keeps P (Some told) reads made h = at_landing told.jump _ h
 abbrev pub StepLeads : (Run → Type 0) → (Run → Type 0) → Micro → Type 0
 StepLeads P Q op =
     (r : Run) (read : Option ℕ) (reads : List ℕ) → P r →
-    OnTold (λ t. Q (record { state = t.state; reads = reads; made = add_item r.made t.item }))
+    OnEffect (λ t. Q (record { state = t.state; reads = reads; made = add_item r.made t.item }))
     (step op r.state read)
 
 pub go_leads : (P Q : Run → Type 0) (op : Micro) → ((r : Run) → P r → Q r) → StepLeads P Q op →
     (p : Point) → OnRun P p → OnRun Q (go op p)
 go_leads P Q op w k (At r) h = at_taken (is_load op) r.reads
   where
-    at_wanting : (told : Option Told) → OnRun Q (wanting told r)
-    at_wanting (Some told) = w r h
+    at_wanting : (effect : Option Effect) → OnRun Q (wanting effect r)
+    at_wanting (Some effect) = w r h
     at_wanting None = tt
 
     at_taken : (b : Bool) (reads : List ℕ) → OnRun Q (taken op r b reads)
@@ -178,12 +178,12 @@ unwritten_kept (op ∷ code) q held p e h =
     or_parts false b h = (refl, h)
 
     keeps : is_named q (writes op) ≡ false → StepKeeps (λ r. r.state.regs q ≡ held) op
-    keeps e r read reads h = on_told (step op r.state read) (step_keeps op r.state read q e)
+    keeps e r read reads h = on_effect (step op r.state read) (step_keeps op r.state read q e)
       where
-        on_told : (told : Option Told) → OnTold (Keeps r.state q) told →
-            OnTold (λ t. t.state.regs q ≡ held) told
-        on_told (Some told) g = g ∙ h
-        on_told None g = tt
+        on_effect : (effect : Option Effect) → OnEffect (Keeps r.state q) effect →
+            OnEffect (λ t. t.state.regs q ≡ held) effect
+        on_effect (Some effect) g = g ∙ h
+        on_effect None g = tt
 
 -- one operation makes at most one item
 pub one_item : (op : Micro) (r : Run) →
@@ -194,11 +194,11 @@ one_item op r = at_taken (is_load op) r.reads
     Grown : Run → Type 0
     Grown after = (after.made ≡ r.made) ⊎ ((item : Item) × (after.made ≡ r.made ++ item ∷ []))
 
-    at_told : (told : Option Told) (reads : List ℕ) → OnRun Grown (led told reads r.made)
-    at_told None reads = tt
-    at_told (Some told) reads = at_landing told.jump _ (at_item told.item)
+    at_effect : (effect : Option Effect) (reads : List ℕ) → OnRun Grown (led effect reads r.made)
+    at_effect None reads = tt
+    at_effect (Some effect) reads = at_landing effect.jump _ (at_item effect.item)
       where
-        at_item : (item : Option Item) → Grown (record { state = told.state; reads = reads; made = add_item r.made item })
+        at_item : (item : Option Item) → Grown (record { state = effect.state; reads = reads; made = add_item r.made item })
         at_item None = inl refl
         at_item (Some item) = inr (item, refl)
 
@@ -206,22 +206,22 @@ one_item op r = at_taken (is_load op) r.reads
         at_landing None after h = h
         at_landing (Some l) after h = h
 
-    at_wanting : (told : Option Told) → OnRun Grown (wanting told r)
-    at_wanting (Some told) = inl refl
+    at_wanting : (effect : Option Effect) → OnRun Grown (wanting effect r)
+    at_wanting (Some effect) = inl refl
     at_wanting None = tt
 
     at_taken : (b : Bool) (reads : List ℕ) → OnRun Grown (taken op r b reads)
-    at_taken false reads = at_told (step op r.state None) reads
-    at_taken true (n ∷ reads) = at_told (step op r.state (Some n)) reads
+    at_taken false reads = at_effect (step op r.state None) reads
+    at_taken true (n ∷ reads) = at_effect (step op r.state (Some n)) reads
     at_taken true [] = at_wanting (step op r.state (Some 0))
 
 -- a label that is in the first part is in the whole
-pub stands_before : (l : ℕ) (a b : List Micro) → stands l a ≡ true → stands l (a ++ b) ≡ true
-stands_before l [] b h = absurd (true≢false (sym h))
-stands_before l (op ∷ a) b h = either (is_label l op) h (λ g. stands_before l a b g)
+pub occurs_before : (l : ℕ) (a b : List Micro) → occurs l a ≡ true → occurs l (a ++ b) ≡ true
+occurs_before l [] b h = absurd (true≢false (sym h))
+occurs_before l (op ∷ a) b h = either (is_label l op) h (λ g. occurs_before l a b g)
   where
-    either : (x : Bool) → (x || stands l a) ≡ true →
-        (stands l a ≡ true → stands l (a ++ b) ≡ true) → (x || stands l (a ++ b)) ≡ true
+    either : (x : Bool) → (x || occurs l a) ≡ true →
+        (occurs l a ≡ true → occurs l (a ++ b) ≡ true) → (x || occurs l (a ++ b)) ≡ true
     either true g k = refl
     either false g k = k g
 
@@ -229,12 +229,12 @@ stands_before l (op ∷ a) b h = either (is_label l op) h (λ g. stands_before l
 pub lands_append : (a b : List Micro) → lands a ≡ true → lands b ≡ true → lands (a ++ b) ≡ true
 lands_append [] b h k = k
 lands_append (op ∷ a) b h k =
-    let parts = and_parts (stands_if (target op) a) (lands a) h in
+    let parts = and_parts (occurs_if (target op) a) (lands a) h in
     and_from _ _ (in_whole (target op) parts.0) (lands_append a b parts.1 k)
   where
-    in_whole : (j : Option ℕ) → stands_if j a ≡ true → stands_if j (a ++ b) ≡ true
+    in_whole : (j : Option ℕ) → occurs_if j a ≡ true → occurs_if j (a ++ b) ≡ true
     in_whole None g = refl
-    in_whole (Some l) g = stands_before l a b g
+    in_whole (Some l) g = occurs_before l a b g
 
 -- the labels of one list and then another
 pub labels_append : (a b : List Micro) → labels_of (a ++ b) ≡ labels_of a ++ labels_of b
@@ -268,20 +268,20 @@ count_add made (Some item) =
     omega (arith, sum_by-append (λ x. cond (is_read x) 1 0) made (item ∷ []))
 
 names_keep : (op : Micro) → StepKeeps RunNamesLoads op
-names_keep op r read reads h = on_told (step op r.state read) (step_named op r.state read h.masks)
+names_keep op r read reads h = on_effect (step op r.state read) (step_named op r.state read h.masks)
   where
-    on_told : (told : Option Told) → OnTold (Named r.state) told →
-        OnTold (λ t. RunNamesLoads (record { state = t.state; reads = reads; made = add_item r.made t.item }))
-        told
-    on_told (Some told) g = record {
+    on_effect : (effect : Option Effect) → OnEffect (Named r.state) effect →
+        OnEffect (λ t. RunNamesLoads (record { state = t.state; reads = reads; made = add_item r.made t.item }))
+        effect
+    on_effect (Some effect) g = record {
       masks = g.masks;
       items =
-          all_names_add r.made told.item told.state.loads
-          (all_more_names r.made r.state.loads told.state.loads (omega (arith, g.loads)) h.items)
+          all_names_add r.made effect.item effect.state.loads
+          (all_more_names r.made r.state.loads effect.state.loads (omega (arith, g.loads)) h.items)
           g.item;
-      loads = g.loads ∙ ap (λ n. n + reads_in told.item) h.loads ∙ sym (count_add r.made told.item);
+      loads = g.loads ∙ ap (λ n. n + reads_in effect.item) h.loads ∙ sym (count_add r.made effect.item);
     }
-    on_told None g = tt
+    on_effect None g = tt
 
 -- each mask of a run names only loads that were stepped
 pub names_kept : (code : List Micro) (p : Point) → OnRun RunNamesLoads p →
@@ -310,12 +310,12 @@ beginning_names init reads = record {
 
 counts_lead : (op : Micro) (n : ℕ) →
     StepLeads (λ r. r.state.loads ≤ n) (λ r. r.state.loads ≤ n + cond (is_load op) 1 0) op
-counts_lead op n r read reads h = on_told (step op r.state read) (step_counts op r.state read)
+counts_lead op n r read reads h = on_effect (step op r.state read) (step_counts op r.state read)
   where
-    on_told : (told : Option Told) → OnTold (Counts r.state (cond (is_load op) 1 0)) told →
-        OnTold (λ t. t.state.loads ≤ n + cond (is_load op) 1 0) told
-    on_told (Some told) g = omega arith
-    on_told None g = tt
+    on_effect : (effect : Option Effect) → OnEffect (Counts r.state (cond (is_load op) 1 0)) effect →
+        OnEffect (λ t. t.state.loads ≤ n + cond (is_load op) 1 0) effect
+    on_effect (Some effect) g = omega arith
+    on_effect None g = tt
 
 more_loads : (m n : ℕ) → m ≤ n → (p : Point) → OnRun (λ r. r.state.loads ≤ m) p →
     OnRun (λ r. r.state.loads ≤ n) p
@@ -358,7 +358,7 @@ pub stops_for_good : (code : List Micro) (start : Point) (i : ℕ) → StopsAt c
 stops_for_good code start i h =
     ap (λ ops. goes_on (exec ops start)) (sym (take-append-drop (i + 1) code)) ∙
     ap goes_on (exec_append (take (i + 1) code) (drop (i + 1) code) start) ∙
-    halted_stays (drop (i + 1) code) (exec (take (i + 1) code) start) h.behind
+    halted_stays (drop (i + 1) code) (exec (take (i + 1) code) start) h.later
 
 -- each mask of a run of a thread names only loads that were stepped
 pub runs_name_loads : (code : List Micro) (init : List (ℕ × Value)) (reads : List ℕ) →

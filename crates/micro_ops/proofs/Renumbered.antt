@@ -12,7 +12,7 @@ use Rattle.micro_ops.specs.declared.operation.Micro.{Micro}
 use Rattle.micro_ops.specs.declared.operation.Micro.TheVariants as ops
 use Rattle.micro_ops.specs.declared.operation.Item.{Item}
 use Rattle.micro_ops.specs.declared.operation.Item.TheVariants as items
-use Rattle.micro_ops.specs.Machine.{State, Told, step, num, bit, put, both_masks, fitting, xored, plus, ored, place_at, as_place, summed, same_number, place_of, address_mask, writing, loading, storing, comparing, branching_on}
+use Rattle.micro_ops.specs.Machine.{State, Effect, step, num, bit, put, both_masks, fitting, xored, plus, ored, place_at, as_place, summed, same_number, place_of, address_mask, writing, loading, storing, comparing, branching_on}
 use Rattle.micro_ops.specs.Running.{Run, Point, At, Past, Wants, Stuck, is_load, is_label, add_item, landing, led, wanting, taken, go, exec, starting, beginning, Outcome, Ended, ReadsLeft, ReadsShort, NoRule, ended, outcome, runs}
 use Rattle.micro_ops.specs.Renumbering.{op_at, value_at, item_at}
 
@@ -23,8 +23,8 @@ held_at f h = record { value = value_at f h.value; mask = h.mask }
 abbrev state_at : (ℕ → ℕ) → State → State
 state_at f s = record s { regs = λ r. held_at f (s.regs r) }
 
-abbrev told_at : (ℕ → ℕ) → Told → Told
-told_at f t = record { state = state_at f t.state; item = option_map (item_at f) t.item; jump = t.jump }
+abbrev effect_at : (ℕ → ℕ) → Effect → Effect
+effect_at f t = record { state = state_at f t.state; item = option_map (item_at f) t.item; jump = t.jump }
 
 abbrev run_at : (ℕ → ℕ) → Run → Run
 run_at f r = record { state = state_at f r.state; reads = r.reads; made = map (item_at f) r.made }
@@ -53,7 +53,7 @@ cond_at f false h k = refl
 put_at : (f : ℕ → ℕ) (s : State) (dst : ℕ) (h : Held) → put (state_at f s) dst (held_at f h) ≡ state_at f (put s dst h)
 put_at f s dst h = λ i. record s { regs = λ r. cond_at f (r == dst) h (s.regs r) i }
 
-writing_at : (f : ℕ → ℕ) (s : State) (dst mask : ℕ) (v : Option Value) → writing (state_at f s) dst mask (option_map (value_at f) v) ≡ option_map (told_at f) (writing s dst mask v)
+writing_at : (f : ℕ → ℕ) (s : State) (dst mask : ℕ) (v : Option Value) → writing (state_at f s) dst mask (option_map (value_at f) v) ≡ option_map (effect_at f) (writing s dst mask v)
 writing_at f s dst mask None = refl
 writing_at f s dst mask (Some v) = ap (λ t. Some (record { state = t; item = None; jump = None })) (put_at f s dst (record { value = v; mask = mask }))
 
@@ -112,31 +112,31 @@ address_mask_at : (f : ℕ → ℕ) (s : State) (base : ℕ) (index : Option ℕ
 address_mask_at f s base None = refl
 address_mask_at f s base (Some index) = refl
 
-loading_at : (f : ℕ → ℕ) (mark : Mark) (s : State) (dst : ℕ) (place : Option ℕ) (mask : ℕ) (read : Option ℕ) → loading mark (state_at f s) dst (option_map f place) mask read ≡ option_map (told_at f) (loading mark s dst place mask read)
+loading_at : (f : ℕ → ℕ) (mark : Mark) (s : State) (dst : ℕ) (place : Option ℕ) (mask : ℕ) (read : Option ℕ) → loading mark (state_at f s) dst (option_map f place) mask read ≡ option_map (effect_at f) (loading mark s dst place mask read)
 loading_at f mark s dst None mask read = refl
 loading_at f mark s dst (Some p) mask None = refl
 loading_at f mark s dst (Some p) mask (Some n) =
     ap (λ t. Some (record { state = record t { loads = s.loads + 1 }; item = Some (items.Access dirs.R mark (f p) n mask 0 s.control); jump = None })) (put_at f s dst (num n (bit s.loads)))
 
-storing_at : (f : ℕ → ℕ) (mark : Mark) (s : State) (place : Option ℕ) (mask : ℕ) (v : Value) (data_mask : ℕ) → storing mark (state_at f s) (option_map f place) mask (value_at f v) data_mask ≡ option_map (told_at f) (storing mark s place mask v data_mask)
+storing_at : (f : ℕ → ℕ) (mark : Mark) (s : State) (place : Option ℕ) (mask : ℕ) (v : Value) (data_mask : ℕ) → storing mark (state_at f s) (option_map f place) mask (value_at f v) data_mask ≡ option_map (effect_at f) (storing mark s place mask v data_mask)
 storing_at f mark s None mask v data_mask = refl
 storing_at f mark s (Some p) mask (Num n) data_mask = refl
 storing_at f mark s (Some p) mask (Place q) data_mask = refl
 
-comparing_at : (f : ℕ → ℕ) (s : State) (mask : ℕ) (o : Option Bool) → comparing (state_at f s) mask o ≡ option_map (told_at f) (comparing s mask o)
+comparing_at : (f : ℕ → ℕ) (s : State) (mask : ℕ) (o : Option Bool) → comparing (state_at f s) mask o ≡ option_map (effect_at f) (comparing s mask o)
 comparing_at f s mask None = refl
 comparing_at f s mask (Some b) = refl
 
-branching_at : (f : ℕ → ℕ) (s : State) (mask : ℕ) (v : Value) (label : ℕ) → branching_on (state_at f s) mask (value_at f v) label ≡ option_map (told_at f) (branching_on s mask v label)
+branching_at : (f : ℕ → ℕ) (s : State) (mask : ℕ) (v : Value) (label : ℕ) → branching_on (state_at f s) mask (value_at f v) label ≡ option_map (effect_at f) (branching_on s mask v label)
 branching_at f s mask (Num n) label = refl
 branching_at f s mask (Place p) label = refl
 
 -- each operation, under other numbers
-step_at : (f : ℕ → ℕ) (op : Micro) (s : State) (read : Option ℕ) → step (op_at f op) (state_at f s) read ≡ option_map (told_at f) (step op s read)
+step_at : (f : ℕ → ℕ) (op : Micro) (s : State) (read : Option ℕ) → step (op_at f op) (state_at f s) read ≡ option_map (effect_at f) (step op s read)
 step_at f (ops.Imm dst n) s read = writing_at f s dst 0 (Some (Num n))
 step_at f (ops.Xor dst a b) s read = of_test (a == b)
   where
-    of_test : (t : Bool) → cond t (writing (state_at f s) dst (s.regs a).mask (Some (Num 0))) (writing (state_at f s) dst (both_masks s a b) (xored (value_at f (s.regs a).value) (value_at f (s.regs b).value))) ≡ option_map (told_at f) (cond t (writing s dst (s.regs a).mask (Some (Num 0))) (writing s dst (both_masks s a b) (xored (s.regs a).value (s.regs b).value)))
+    of_test : (t : Bool) → cond t (writing (state_at f s) dst (s.regs a).mask (Some (Num 0))) (writing (state_at f s) dst (both_masks s a b) (xored (value_at f (s.regs a).value) (value_at f (s.regs b).value))) ≡ option_map (effect_at f) (cond t (writing s dst (s.regs a).mask (Some (Num 0))) (writing s dst (both_masks s a b) (xored (s.regs a).value (s.regs b).value)))
     of_test true = writing_at f s dst (s.regs a).mask (Some (Num 0))
     of_test false = ap (writing (state_at f s) dst (both_masks s a b)) (xored_at f (s.regs a).value (s.regs b).value) ∙ writing_at f s dst (both_masks s a b) (xored (s.regs a).value (s.regs b).value)
 step_at f (ops.AddImm dst a n) s read = ap (writing (state_at f s) dst (s.regs a).mask) (plus_at f (s.regs a).value n) ∙ writing_at f s dst (s.regs a).mask (plus (s.regs a).value n)
@@ -162,7 +162,7 @@ step_at f (ops.StoreRel src base) s read =
 step_at f (ops.StoreAt place n) s read = refl
 step_at f (ops.Cmp a b) s read = of_test (a == b)
   where
-    of_test : (t : Bool) → comparing (state_at f s) (both_masks s a b) (cond t (Some true) (same_number (value_at f (s.regs a).value) (value_at f (s.regs b).value))) ≡ option_map (told_at f) (comparing s (both_masks s a b) (cond t (Some true) (same_number (s.regs a).value (s.regs b).value)))
+    of_test : (t : Bool) → comparing (state_at f s) (both_masks s a b) (cond t (Some true) (same_number (value_at f (s.regs a).value) (value_at f (s.regs b).value))) ≡ option_map (effect_at f) (comparing s (both_masks s a b) (cond t (Some true) (same_number (s.regs a).value (s.regs b).value)))
     of_test true = refl
     of_test false = ap (comparing (state_at f s) (both_masks s a b)) (same_number_at f (s.regs a).value (s.regs b).value) ∙ comparing_at f s (both_masks s a b) (same_number (s.regs a).value (s.regs b).value)
 step_at f (ops.BranchEq label) s read = refl
@@ -210,7 +210,7 @@ made_at : (f : ℕ → ℕ) (made : List Item) (item : Option Item) → add_item
 made_at f made None = refl
 made_at f made (Some item) = sym (map-append (item_at f) made (item ∷ []))
 
-led_at : (f : ℕ → ℕ) (t : Option Told) (reads : List ℕ) (made : List Item) → led (option_map (told_at f) t) reads (map (item_at f) made) ≡ point_at f (led t reads made)
+led_at : (f : ℕ → ℕ) (t : Option Effect) (reads : List ℕ) (made : List Item) → led (option_map (effect_at f) t) reads (map (item_at f) made) ≡ point_at f (led t reads made)
 led_at f None reads made = refl
 led_at f (Some t) reads made = of_jump t.jump
   where
@@ -218,7 +218,7 @@ led_at f (Some t) reads made = of_jump t.jump
     of_jump None = ap (λ m. At (record { state = state_at f t.state; reads = reads; made = m })) (made_at f made t.item)
     of_jump (Some l) = ap (λ m. Past l (record { state = state_at f t.state; reads = reads; made = m })) (made_at f made t.item)
 
-wanting_at : (f : ℕ → ℕ) (t : Option Told) (r : Run) → wanting (option_map (told_at f) t) (run_at f r) ≡ point_at f (wanting t r)
+wanting_at : (f : ℕ → ℕ) (t : Option Effect) (r : Run) → wanting (option_map (effect_at f) t) (run_at f r) ≡ point_at f (wanting t r)
 wanting_at f None r = refl
 wanting_at f (Some t) r = refl
 

@@ -10,62 +10,62 @@ use Rattle.micro_ops.specs.declared.held.Held.{Held}
 use Rattle.micro_ops.specs.declared.operation.Micro.{Micro}
 use Rattle.micro_ops.specs.declared.operation.Micro.TheVariants as ops
 use Rattle.micro_ops.specs.declared.operation.Item.{Item}
-use Rattle.micro_ops.specs.Machine.{State, Told, num, bit, put, step, writing, becomes, loading, storing, comparing, branching, branching_on, xored, same_number, place_of, address_mask, both_masks, plus, ored, summed}
+use Rattle.micro_ops.specs.Machine.{State, Effect, num, bit, put, step, writing, becomes, loading, storing, comparing, branching, branching_on, xored, same_number, place_of, address_mask, both_masks, plus, ored, summed}
 use Rattle.micro_ops.specs.Running.{is_load, target, writes, is_named, is_read, MasksNameLoads, NamesLoads}
 
 -- a fact of what a rule leads to, where there is a rule
-abbrev pub OnTold : (Told → Type 0) → Option Told → Type 0
-OnTold P (Some told) = P told
-OnTold P None = Unit {0}
+abbrev pub OnEffect : (Effect → Type 0) → Option Effect → Type 0
+OnEffect P (Some effect) = P effect
+OnEffect P None = Unit {0}
 
 -- a fact of both branches of a choice
-pub either_told : (P : Told → Type 0) (b : Bool) (x y : Option Told) → OnTold P x → OnTold P y →
-    OnTold P (cond b x y)
-either_told P true x y h k = h
-either_told P false x y h k = k
+pub either_effect : (P : Effect → Type 0) (b : Bool) (x y : Option Effect) → OnEffect P x → OnEffect P y →
+    OnEffect P (cond b x y)
+either_effect P true x y h k = h
+either_effect P false x y h k = k
 
 -- a fact of each register's write
-pub on_writing : (P : Told → Type 0) (s : State) (dst mask : ℕ) (value : Option Value) →
-    ((v : Value) → OnTold P (becomes (put s dst (record { value = v; mask = mask })))) →
-    OnTold P (writing s dst mask value)
+pub on_writing : (P : Effect → Type 0) (s : State) (dst mask : ℕ) (value : Option Value) →
+    ((v : Value) → OnEffect P (becomes (put s dst (record { value = v; mask = mask })))) →
+    OnEffect P (writing s dst mask value)
 on_writing P s dst mask (Some v) h = h v
 on_writing P s dst mask None h = tt
 
 -- a fact of each load
-pub on_loading : (P : Told → Type 0) (mark : Mark) (s : State) (dst : ℕ) (place : Option ℕ) (mask : ℕ)
+pub on_loading : (P : Effect → Type 0) (mark : Mark) (s : State) (dst : ℕ) (place : Option ℕ) (mask : ℕ)
     (read : Option ℕ) →
-    ((p n : ℕ) → OnTold P (loading mark s dst (Some p) mask (Some n))) →
-    OnTold P (loading mark s dst place mask read)
+    ((p n : ℕ) → OnEffect P (loading mark s dst (Some p) mask (Some n))) →
+    OnEffect P (loading mark s dst place mask read)
 on_loading P mark s dst (Some p) mask (Some n) h = h p n
 on_loading P mark s dst (Some p) mask None h = tt
 on_loading P mark s dst None mask read h = tt
 
 -- a fact of each store
-pub on_storing : (P : Told → Type 0) (mark : Mark) (s : State) (place : Option ℕ) (mask : ℕ) (value : Value)
+pub on_storing : (P : Effect → Type 0) (mark : Mark) (s : State) (place : Option ℕ) (mask : ℕ) (value : Value)
     (data_mask : ℕ) →
-    ((p n : ℕ) → OnTold P (storing mark s (Some p) mask (Num n) data_mask)) →
-    OnTold P (storing mark s place mask value data_mask)
+    ((p n : ℕ) → OnEffect P (storing mark s (Some p) mask (Num n) data_mask)) →
+    OnEffect P (storing mark s place mask value data_mask)
 on_storing P mark s (Some p) mask (Num n) data_mask h = h p n
 on_storing P mark s (Some p) mask (Place q) data_mask h = tt
 on_storing P mark s None mask value data_mask h = tt
 
 -- a fact of each comparison
-pub on_comparing : (P : Told → Type 0) (s : State) (mask : ℕ) (equal : Option Bool) →
-    ((b : Bool) → OnTold P (comparing s mask (Some b))) →
-    OnTold P (comparing s mask equal)
+pub on_comparing : (P : Effect → Type 0) (s : State) (mask : ℕ) (equal : Option Bool) →
+    ((b : Bool) → OnEffect P (comparing s mask (Some b))) →
+    OnEffect P (comparing s mask equal)
 on_comparing P s mask (Some b) h = h b
 on_comparing P s mask None h = tt
 
 -- a fact of each branch on a register
-pub on_branching : (P : Told → Type 0) (s : State) (mask : ℕ) (value : Value) (label : ℕ) →
-    ((b : Bool) → OnTold P (branching s mask b label)) →
-    OnTold P (branching_on s mask value label)
+pub on_branching : (P : Effect → Type 0) (s : State) (mask : ℕ) (value : Value) (label : ℕ) →
+    ((b : Bool) → OnEffect P (branching s mask b label)) →
+    OnEffect P (branching_on s mask value label)
 on_branching P s mask (Num n) label h = h (not (n == 0))
 on_branching P s mask (Place p) label h = tt
 
 -- a step jumps nowhere, or to the label of its operation
-abbrev pub JumpsTo : Option ℕ → Told → Type 0
-JumpsTo label told = (told.jump ≡ None) ⊎ (told.jump ≡ label)
+abbrev pub JumpsTo : Option ℕ → Effect → Type 0
+JumpsTo label effect = (effect.jump ≡ None) ⊎ (effect.jump ≡ label)
 
 taken_or_not : (b : Bool) (l : ℕ) →
     (cond b (Some l) None ≡ None) ⊎ (cond b (Some l) None ≡ Some l)
@@ -74,11 +74,11 @@ taken_or_not false l = inl refl
 
 -- each step jumps nowhere, or to the label of its operation
 pub step_jumps : (op : Micro) (s : State) (read : Option ℕ) →
-    OnTold (JumpsTo (target op)) (step op s read)
+    OnEffect (JumpsTo (target op)) (step op s read)
 step_jumps (ops.Imm d n) s read = inl refl
 step_jumps (ops.Xor d a b) s read =
     let P = JumpsTo None in
-    either_told P (a == b) _ _ (inl refl)
+    either_effect P (a == b) _ _ (inl refl)
     (on_writing P s d (both_masks s a b) (xored (s.regs a).value (s.regs b).value) (λ v. inl refl))
 step_jumps (ops.AddImm d a n) s read =
     on_writing (JumpsTo None) s d (s.regs a).mask (plus (s.regs a).value n) (λ v. inl refl)
@@ -112,8 +112,8 @@ step_jumps (ops.Label l) s read = inl refl
 step_jumps (ops.Barrier kind) s read = inl refl
 
 -- a step keeps what a register holds
-abbrev pub Keeps : State → ℕ → Told → Type 0
-Keeps s r told = told.state.regs r ≡ s.regs r
+abbrev pub Keeps : State → ℕ → Effect → Type 0
+Keeps s r effect = effect.state.regs r ≡ s.regs r
 
 -- the register that was written holds what was written
 pub put_same : (s : State) (d : ℕ) (h : Held) → (put s d h).regs d ≡ h
@@ -125,11 +125,11 @@ put_other s r d h e = rw e refl
 
 -- each step keeps what a register holds that its operation doesn't write
 pub step_keeps : (op : Micro) (s : State) (read : Option ℕ) (r : ℕ) →
-    is_named r (writes op) ≡ false → OnTold (Keeps s r) (step op s read)
+    is_named r (writes op) ≡ false → OnEffect (Keeps s r) (step op s read)
 step_keeps (ops.Imm d n) s read r e = put_other s r d (num n 0) e
 step_keeps (ops.Xor d a b) s read r e =
     let P = Keeps s r in
-    either_told P (a == b) _ _ (put_other s r d (num 0 (s.regs a).mask) e)
+    either_effect P (a == b) _ _ (put_other s r d (num 0 (s.regs a).mask) e)
     (on_writing P s d (both_masks s a b) (xored (s.regs a).value (s.regs b).value)
     (λ v. put_other s r d (record { value = v; mask = both_masks s a b }) e))
 step_keeps (ops.AddImm d a n) s read r e =
@@ -176,10 +176,10 @@ reads_in (Some item) = cond (is_read item) 1 0
 reads_in None = 0
 
 -- a step whose masks name loads that were stepped, and which counts those loads
-pub record Named (s : State) (told : Told) : Type 0 where
-  pub masks : MasksNameLoads told.state
-  pub item : ItemNames told.state.loads told.item
-  pub loads : told.state.loads ≡ s.loads + reads_in told.item
+pub record Named (s : State) (effect : Effect) : Type 0 where
+  pub masks : MasksNameLoads effect.state
+  pub item : ItemNames effect.state.loads effect.item
+  pub loads : effect.state.loads ≡ s.loads + reads_in effect.item
 
 empty_mask : (loads : ℕ) → 0 < 2 ^ loads
 empty_mask loads = pow_pos loads
@@ -201,7 +201,7 @@ named_put s d v mask h k = record {
     in_either false r = h.in_regs r
 
 named_write : (s : State) (d : ℕ) (v : Value) (mask : ℕ) → MasksNameLoads s → mask < 2 ^ s.loads →
-    OnTold (Named s) (becomes (put s d (record { value = v; mask = mask })))
+    OnEffect (Named s) (becomes (put s d (record { value = v; mask = mask })))
 named_write s d v mask h k = record {
   masks = named_put s d v mask h k;
   item = tt;
@@ -221,7 +221,7 @@ bit_below k =
     let e : k + 1 ≡ suc k = omega arith in rw e (omega (arith, pow-suc 2 k, pow_pos k))
 
 named_load : (mark : Mark) (s : State) (d p n mask : ℕ) → MasksNameLoads s → mask < 2 ^ s.loads →
-    OnTold (Named s) (loading mark s d (Some p) mask (Some n))
+    OnEffect (Named s) (loading mark s d (Some p) mask (Some n))
 named_load mark s d p n mask h k = record {
   masks = record {
     in_regs = λ r. in_either (r == d) r;
@@ -239,7 +239,7 @@ named_load mark s d p n mask h k = record {
 
 named_store : (mark : Mark) (s : State) (p n mask data_mask : ℕ) → MasksNameLoads s → mask < 2 ^ s.loads →
     data_mask < 2 ^ s.loads →
-    OnTold (Named s) (storing mark s (Some p) mask (Num n) data_mask)
+    OnEffect (Named s) (storing mark s (Some p) mask (Num n) data_mask)
 named_store mark s p n mask data_mask h k j = record {
   masks = h;
   item = (k, j, h.in_control);
@@ -247,7 +247,7 @@ named_store mark s p n mask data_mask h k j = record {
 }
 
 named_cmp : (s : State) (mask : ℕ) (equal : Bool) → MasksNameLoads s → mask < 2 ^ s.loads →
-    OnTold (Named s) (comparing s mask (Some equal))
+    OnEffect (Named s) (comparing s mask (Some equal))
 named_cmp s mask equal h k = record {
   masks = record { in_regs = h.in_regs; in_flag = k; in_control = h.in_control };
   item = tt;
@@ -255,7 +255,7 @@ named_cmp s mask equal h k = record {
 }
 
 named_branch : (s : State) (mask : ℕ) (b : Bool) (l : ℕ) → MasksNameLoads s → mask < 2 ^ s.loads →
-    OnTold (Named s) (branching s mask b l)
+    OnEffect (Named s) (branching s mask b l)
 named_branch s mask b l h k = record {
   masks = record {
     in_regs = h.in_regs;
@@ -268,11 +268,11 @@ named_branch s mask b l h k = record {
 
 -- after each step the masks name loads that were stepped, and the step counts its own load
 pub step_named : (op : Micro) (s : State) (read : Option ℕ) → MasksNameLoads s →
-    OnTold (Named s) (step op s read)
+    OnEffect (Named s) (step op s read)
 step_named (ops.Imm d n) s read h = named_write s d (Num n) 0 h (empty_mask s.loads)
 step_named (ops.Xor d a b) s read h =
     let P = Named s in
-    either_told P (a == b) _ _ (named_write s d (Num 0) (s.regs a).mask h (h.in_regs a))
+    either_effect P (a == b) _ _ (named_write s d (Num 0) (s.regs a).mask h (h.in_regs a))
     (on_writing P s d (both_masks s a b) (xored (s.regs a).value (s.regs b).value)
     (λ v. named_write s d v (both_masks s a b) h (named_both s a b h)))
 step_named (ops.AddImm d a n) s read h =
@@ -318,16 +318,16 @@ step_named (ops.Barrier kind) s read h =
     record { masks = h; item = h.in_control; loads = omega arith }
 
 -- a step counts a load, and no other operation
-abbrev pub Counts : State → ℕ → Told → Type 0
-Counts s more told = told.state.loads ≡ s.loads + more
+abbrev pub Counts : State → ℕ → Effect → Type 0
+Counts s more effect = effect.state.loads ≡ s.loads + more
 
 -- each step counts a load, and no other operation
 pub step_counts : (op : Micro) (s : State) (read : Option ℕ) →
-    OnTold (Counts s (cond (is_load op) 1 0)) (step op s read)
+    OnEffect (Counts s (cond (is_load op) 1 0)) (step op s read)
 step_counts (ops.Imm d n) s read = sym (add-zero s.loads)
 step_counts (ops.Xor d a b) s read =
     let P = Counts s 0 in
-    either_told P (a == b) _ _ (sym (add-zero s.loads))
+    either_effect P (a == b) _ _ (sym (add-zero s.loads))
     (on_writing P s d (both_masks s a b) (xored (s.regs a).value (s.regs b).value)
     (λ v. sym (add-zero s.loads)))
 step_counts (ops.AddImm d a n) s read =

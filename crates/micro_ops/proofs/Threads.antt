@@ -65,7 +65,7 @@ pub stops : (code : List Micro) (init : List (ℕ × Value)) (reads : List ℕ) 
 stops code init reads i d runner h e stuck = record {
   within = h;
   before = ap goes_on (sym e) ∙ runner_goes_on runner;
-  behind = ap goes_on (sym (exec_more code i d _ _ h e)) ∙ stuck;
+  later = ap goes_on (sym (exec_more code i d _ _ h e)) ∙ stuck;
 }
 
 -- a runner that went through all the code is on the way to no label

@@ -24,7 +24,7 @@ pub record State : Type 0 where
   pub loads : ℕ
 
 -- what an operation leads to: the state after it, the item that it makes and the label it jumps to
-pub record Told : Type 0 where
+pub record Effect : Type 0 where
   pub state : State
   pub item : Option Item
   pub jump : Option ℕ
@@ -108,20 +108,20 @@ address_mask s base None = (s.regs base).mask
 address_mask s base (Some index) = both_masks s base index
 
 -- an operation that only changes the state
-abbrev pub becomes : State → Option Told
+abbrev pub becomes : State → Option Effect
 becomes s = Some (record { state = s; item = None; jump = None })
 
 -- an operation that writes a value into a register
-abbrev pub writing : State → ℕ → ℕ → Option Value → Option Told
+abbrev pub writing : State → ℕ → ℕ → Option Value → Option Effect
 writing s dst mask (Some value) = becomes (put s dst (record { value = value; mask = mask }))
 writing _ _ _ None = None
 
 -- an operation that makes an item
-abbrev pub making : State → Item → Option Told
+abbrev pub making : State → Item → Option Effect
 making s item = Some (record { state = s; item = Some item; jump = None })
 
 -- a load of a mark from a place: the register gets the number read, which depends on this load alone
-abbrev pub loading : Mark → State → ℕ → Option ℕ → ℕ → Option ℕ → Option Told
+abbrev pub loading : Mark → State → ℕ → Option ℕ → ℕ → Option ℕ → Option Effect
 loading mark s dst (Some place) mask (Some n) =
     making
     (record (put s dst (num n (bit s.loads))) { loads = s.loads + 1 })
@@ -129,18 +129,18 @@ loading mark s dst (Some place) mask (Some n) =
 loading _ _ _ _ _ _ = None
 
 -- a store of a mark, of a number to a place
-abbrev pub storing : Mark → State → Option ℕ → ℕ → Value → ℕ → Option Told
+abbrev pub storing : Mark → State → Option ℕ → ℕ → Value → ℕ → Option Effect
 storing mark s (Some place) mask (Num n) data_mask =
     making s (items.Access dirs.W mark place n mask data_mask s.control)
 storing _ _ _ _ _ _ = None
 
 -- a comparison
-abbrev pub comparing : State → ℕ → Option Bool → Option Told
+abbrev pub comparing : State → ℕ → Option Bool → Option Effect
 comparing s mask (Some equal) = becomes (record s { flag = equal; flag_mask = mask })
 comparing _ _ None = None
 
 -- a branch that depends on the loads of a mask
-abbrev pub branching : State → ℕ → Bool → ℕ → Option Told
+abbrev pub branching : State → ℕ → Bool → ℕ → Option Effect
 branching s mask taken label =
     Some (record {
       state = record s { control = bit_or s.control mask };
@@ -149,13 +149,13 @@ branching s mask taken label =
     })
 
 -- a branch that is taken where a value is a number other than 0
-abbrev pub branching_on : State → ℕ → Value → ℕ → Option Told
+abbrev pub branching_on : State → ℕ → Value → ℕ → Option Effect
 branching_on s mask (Num n) label = branching s mask (not (n == 0)) label
 branching_on _ _ (Place _) _ = None
 
 -- the rule of each operation, with what a load reads; None where no rule fits the operands or a
 -- load has nothing to read
-abbrev pub step : Micro → State → Option ℕ → Option Told
+abbrev pub step : Micro → State → Option ℕ → Option Effect
 step (ops.Imm dst n) s _ = writing s dst 0 (Some (Num n))
 step (ops.Xor dst a b) s _ =
     cond (a == b)

@@ -6,7 +6,7 @@ use Rattle.micro_ops.specs.declared.machine.Stepped.{Stepped}
 use Rattle.micro_ops.specs.declared.machine.Stuck.{Stuck}
 use Rattle.micro_ops.specs.declared.operation.Micro.{Micro}
 use Rattle.micro_ops.specs.declared.operation.Micro.TheVariants as ops
-use Rattle.micro_ops.specs.Machine.{State, Told, num}
+use Rattle.micro_ops.specs.Machine.{State, Effect, num}
 
 -- what a machine holds between two operations: its 32 registers, from register 0, whether the last
 -- two compared were equal and the loads that this depends on, the loads that branches depended on,
@@ -33,9 +33,9 @@ state_of contents = record {
 }
 
 -- the answer of a step and the state after it, in the form in which a rule gives them
-abbrev pub told : Result Stepped Stuck → State → Option Told
-told (Ok stepped) s = Some (record { state = s; item = stepped.item; jump = stepped.jump })
-told (Err _) _ = None
+abbrev pub effect : Result Stepped Stuck → State → Option Effect
+effect (Ok stepped) s = Some (record { state = s; item = stepped.item; jump = stepped.jump })
+effect (Err _) _ = None
 
 -- the registers that an operation names are below 32
 abbrev pub InRange : Micro → Type 0

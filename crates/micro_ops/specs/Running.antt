@@ -8,7 +8,7 @@ use Rattle.micro_ops.specs.declared.operation.Micro.TheVariants as ops
 use Rattle.micro_ops.specs.declared.operation.Item.{Item}
 use Rattle.micro_ops.specs.declared.operation.Item.TheVariants as items
 use Rattle.relax_edges.specs.declared.kinds.Dir.TheVariants as dirs
-use Rattle.micro_ops.specs.Machine.{State, Told, step, num}
+use Rattle.micro_ops.specs.Machine.{State, Effect, step, num}
 
 -- a run as far as it has come: the state, the numbers that are left to read, the items made
 pub record Run : Type 0 where
@@ -47,14 +47,14 @@ landing None r = At r
 landing (Some label) r = Past label r
 
 -- where a rule leads
-abbrev pub led : Option Told → List ℕ → List Item → Point
-led (Some told) reads made =
-    landing told.jump
-    (record { state = told.state; reads = reads; made = add_item made told.item })
+abbrev pub led : Option Effect → List ℕ → List Item → Point
+led (Some effect) reads made =
+    landing effect.jump
+    (record { state = effect.state; reads = reads; made = add_item made effect.item })
 led None _ _ = Stuck
 
 -- where a load with nothing left to read leads: it wants a number, if it isn't stuck with any
-abbrev pub wanting : Option Told → Run → Point
+abbrev pub wanting : Option Effect → Run → Point
 wanting (Some _) r = Wants r
 wanting None _ = Stuck
 
@@ -77,9 +77,9 @@ exec [] p = p
 exec (op ∷ code) p = exec code (go op p)
 
 -- a label is in a list of operations
-abbrev pub stands : ℕ → List Micro → Bool
-stands _ [] = false
-stands label (op ∷ code) = is_label label op || stands label code
+abbrev pub occurs : ℕ → List Micro → Bool
+occurs _ [] = false
+occurs label (op ∷ code) = is_label label op || occurs label code
 
 -- the label that an operation may jump to
 abbrev pub target : Micro → Option ℕ
@@ -88,14 +88,14 @@ target (ops.BranchNz _ label) = Some label
 target _ = None
 
 -- a label, if there is one, is in a list of operations
-abbrev pub stands_if : Option ℕ → List Micro → Bool
-stands_if None _ = true
-stands_if (Some label) code = stands label code
+abbrev pub occurs_if : Option ℕ → List Micro → Bool
+occurs_if None _ = true
+occurs_if (Some label) code = occurs label code
 
 -- each branch's label comes later
 abbrev pub lands : List Micro → Bool
 lands [] = true
-lands (op ∷ code) = stands_if (target op) code && lands code
+lands (op ∷ code) = occurs_if (target op) code && lands code
 
 -- the labels in a list of operations, in order
 abbrev pub labels_of : List Micro → List ℕ
@@ -211,7 +211,7 @@ OnRun P Stuck = Unit {0}
 
 -- a jump to a label goes on after it, where the label doesn't stand before
 abbrev pub JumpLands : List Micro → ℕ → List Micro → Run → Type 0
-JumpLands before label after r = stands label before ≡ false → exec (before ++ (ops.Label label ∷ after)) (Past label r) ≡ exec after (At r)
+JumpLands before label after r = occurs label before ≡ false → exec (before ++ (ops.Label label ∷ after)) (Past label r) ≡ exec after (At r)
 
 -- operations let a register keep what it holds
 abbrev pub KeepsHeld : List Micro → ℕ → Held → Point → Type 0

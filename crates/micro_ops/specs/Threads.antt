@@ -30,7 +30,7 @@ goes_on Stuck = false
 pub record StopsAt (code : List Micro) (start : Point) (at_op : ℕ) : Type 0 where
   pub within : at_op < length code
   pub before : goes_on (exec (take at_op code) start) ≡ true
-  pub behind : goes_on (exec (take (at_op + 1) code) start) ≡ false
+  pub later : goes_on (exec (take (at_op + 1) code) start) ≡ false
 
 -- why a run has no trace
 abbrev pub CausedBy : RunError → List Micro → List (ℕ × Value) → List ℕ → Type 0

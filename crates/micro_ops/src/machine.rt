@@ -1,9 +1,9 @@
 ghost use Rattle.std.specs.Prelude.{◌≡◌, ◌<◌, All, OnErr, IfSome, true, replicate};
 ghost use Rattle.micro_ops.specs.Machine.{num, step, writing, loading, storing, branching, place_of, address_mask};
 ghost use Rattle.micro_ops.specs.Running.{initial, is_load, starting};
-ghost use Rattle.micro_ops.specs.Machines.{state_of, held_in, told, InRange};
+ghost use Rattle.micro_ops.specs.Machines.{state_of, held_in, effect, InRange};
 
-use crate::held::Held;
+use crate::content_of::Held;
 use crate::operand::{add_immediate, equal, exclusive_or, or_immediate, place, sum};
 use crate::operation::{Barrier, Item, Micro};
 use relax_edges::{Dir, Mark, Value};
@@ -72,7 +72,7 @@ fn name_registers(registers: &mut [Held], init: &[(u8, Value)])
 
 impl Stepped {
     /// A step that makes no item and doesn't jump.
-    fn quiet() -> Stepped
+    fn quiet_step() -> Stepped
         ensures { result ≡ record { item = None; jump = None } }
     {
         Stepped {
@@ -119,7 +119,7 @@ impl Machine {
     }
 
     /// What a register holds.
-    pub fn held(&self, register: u8) -> Held
+    pub fn content_of(&self, register: u8) -> Held
         requires { register < 32 }
         ensures { result ≡ (state_of self.now).regs register }
     {
@@ -131,7 +131,7 @@ impl Machine {
     pub fn step(&mut self, op: Micro, read: Option<u32>) -> Result<Stepped, Stuck>
         requires in_range { InRange op }
         requires room { is_load op ≡ true → (state_of self.old).loads < 64 }
-        ensures gives { told result (state_of self.new) ≡ step op (state_of self.old) read }
+        ensures gives { effect result (state_of self.new) ≡ step op (state_of self.old) read }
         ensures unchanged { OnErr result (self.new ≡ self.old) }
     {
         match op {
@@ -164,7 +164,7 @@ impl Machine {
                     Mark::Plain,
                     self.place(base, index),
                     self.address_mask(base, index),
-                    self.held(src),
+                    self.content_of(src),
                 )
             }
             Micro::StoreAt { place, n } => self.store(
@@ -181,13 +181,13 @@ impl Machine {
                     Mark::Release,
                     self.place(base, None),
                     self.address_mask(base, None),
-                    self.held(src),
+                    self.content_of(src),
                 )
             }
             Micro::Cmp { a, b } => self.compare(a, b),
             Micro::BranchEq { label } => Ok(self.branch(self.flag_mask, self.flag, label)),
             Micro::BranchNz { a, label } => self.branch_on(a, label),
-            Micro::Label { .. } => Ok(Stepped::quiet()),
+            Micro::Label { .. } => Ok(Stepped::quiet_step()),
             Micro::Barrier { kind } => Ok(self.barrier(kind)),
         }
     }
@@ -199,8 +199,8 @@ impl Machine {
         ensures { result ≡ place_of (state_of self.now) base index }
     {
         match index {
-            None => place(self.held(base).value, Value::Num(0)),
-            Some(index) => place(self.held(base).value, self.held(index).value),
+            None => place(self.content_of(base).value, Value::Num(0)),
+            Some(index) => place(self.content_of(base).value, self.content_of(index).value),
         }
     }
 
@@ -211,33 +211,33 @@ impl Machine {
         ensures { result ≡ address_mask (state_of self.now) base index }
     {
         match index {
-            None => self.held(base).mask,
-            Some(index) => self.held(base).mask | self.held(index).mask,
+            None => self.content_of(base).mask,
+            Some(index) => self.content_of(base).mask | self.content_of(index).mask,
         }
     }
 
     fn write(&mut self, register: u8, mask: u64, value: Option<Value>) -> Result<Stepped, Stuck>
         requires { register < 32 }
-        ensures gives { told result (state_of self.new) ≡ writing (state_of self.old) register mask value }
+        ensures gives { effect result (state_of self.new) ≡ writing (state_of self.old) register mask value }
         ensures unchanged { OnErr result (self.new ≡ self.old) }
     {
         let Some(value) = value else {
             return Err(Stuck);
         };
         self.registers[usize::from(register)] = Held { value, mask };
-        Ok(Stepped::quiet())
+        Ok(Stepped::quiet_step())
     }
 
     fn exclusive_or(&mut self, register: u8, a: u8, b: u8) -> Result<Stepped, Stuck>
         requires { InRange (Micro.Xor register a b) }
-        ensures gives { told result (state_of self.new) ≡ step (Micro.Xor register a b) (state_of self.old) None }
+        ensures gives { effect result (state_of self.new) ≡ step (Micro.Xor register a b) (state_of self.old) None }
         ensures unchanged { OnErr result (self.new ≡ self.old) }
     {
-        let left = self.held(a);
+        let left = self.content_of(a);
         if a == b {
             return self.write(register, left.mask, Some(Value::Num(0)));
         }
-        let right = self.held(b);
+        let right = self.content_of(b);
         self.write(
             register,
             left.mask | right.mask,
@@ -247,29 +247,29 @@ impl Machine {
 
     fn add_immediate(&mut self, register: u8, a: u8, n: u32) -> Result<Stepped, Stuck>
         requires { InRange (Micro.AddImm register a n) }
-        ensures gives { told result (state_of self.new) ≡ step (Micro.AddImm register a n) (state_of self.old) None }
+        ensures gives { effect result (state_of self.new) ≡ step (Micro.AddImm register a n) (state_of self.old) None }
         ensures unchanged { OnErr result (self.new ≡ self.old) }
     {
-        let held = self.held(a);
+        let held = self.content_of(a);
         self.write(register, held.mask, add_immediate(held.value, n))
     }
 
     fn or_immediate(&mut self, register: u8, a: u8, n: u32) -> Result<Stepped, Stuck>
         requires { InRange (Micro.OrImm register a n) }
-        ensures gives { told result (state_of self.new) ≡ step (Micro.OrImm register a n) (state_of self.old) None }
+        ensures gives { effect result (state_of self.new) ≡ step (Micro.OrImm register a n) (state_of self.old) None }
         ensures unchanged { OnErr result (self.new ≡ self.old) }
     {
-        let held = self.held(a);
+        let held = self.content_of(a);
         self.write(register, held.mask, or_immediate(held.value, n))
     }
 
     fn add(&mut self, register: u8, a: u8, b: u8) -> Result<Stepped, Stuck>
         requires { InRange (Micro.Add register a b) }
-        ensures gives { told result (state_of self.new) ≡ step (Micro.Add register a b) (state_of self.old) None }
+        ensures gives { effect result (state_of self.new) ≡ step (Micro.Add register a b) (state_of self.old) None }
         ensures unchanged { OnErr result (self.new ≡ self.old) }
     {
-        let left = self.held(a);
-        let right = self.held(b);
+        let left = self.content_of(a);
+        let right = self.content_of(b);
         self.write(
             register,
             left.mask | right.mask,
@@ -288,7 +288,7 @@ impl Machine {
     ) -> Result<Stepped, Stuck>
         requires register { register < 32 }
         requires room { (state_of self.old).loads < 64 }
-        ensures gives { told result (state_of self.new) ≡ loading mark (state_of self.old) register place mask read }
+        ensures gives { effect result (state_of self.new) ≡ loading mark (state_of self.old) register place mask read }
         ensures unchanged { OnErr result (self.new ≡ self.old) }
     {
         let (Some(place), Some(value)) = (place, read) else {
@@ -318,7 +318,7 @@ impl Machine {
         mask: u64,
         source: Held,
     ) -> Result<Stepped, Stuck>
-        ensures { told result (state_of self.now) ≡ storing mark (state_of self.now) place mask source.value source.mask }
+        ensures { effect result (state_of self.now) ≡ storing mark (state_of self.now) place mask source.value source.mask }
     {
         let (Some(place), Value::Num(value)) = (place, source.value) else {
             return Err(Stuck);
@@ -336,11 +336,11 @@ impl Machine {
 
     fn compare(&mut self, a: u8, b: u8) -> Result<Stepped, Stuck>
         requires { InRange (Micro.Cmp a b) }
-        ensures gives { told result (state_of self.new) ≡ step (Micro.Cmp a b) (state_of self.old) None }
+        ensures gives { effect result (state_of self.new) ≡ step (Micro.Cmp a b) (state_of self.old) None }
         ensures unchanged { OnErr result (self.new ≡ self.old) }
     {
-        let left = self.held(a);
-        let right = self.held(b);
+        let left = self.content_of(a);
+        let right = self.content_of(b);
         let same = if a == b {
             Some(true)
         } else {
@@ -351,11 +351,11 @@ impl Machine {
         };
         self.flag = flag;
         self.flag_mask = left.mask | right.mask;
-        Ok(Stepped::quiet())
+        Ok(Stepped::quiet_step())
     }
 
     fn branch(&mut self, mask: u64, taken: bool, label: u8) -> Stepped
-        ensures { told (Ok result) (state_of self.new) ≡ branching (state_of self.old) mask taken label }
+        ensures { effect (Ok result) (state_of self.new) ≡ branching (state_of self.old) mask taken label }
     {
         self.control |= mask;
         Stepped {
@@ -366,10 +366,10 @@ impl Machine {
 
     fn branch_on(&mut self, a: u8, label: u8) -> Result<Stepped, Stuck>
         requires { a < 32 }
-        ensures gives { told result (state_of self.new) ≡ step (Micro.BranchNz a label) (state_of self.old) None }
+        ensures gives { effect result (state_of self.new) ≡ step (Micro.BranchNz a label) (state_of self.old) None }
         ensures unchanged { OnErr result (self.new ≡ self.old) }
     {
-        let held = self.held(a);
+        let held = self.content_of(a);
         let Value::Num(n) = held.value else {
             return Err(Stuck);
         };
@@ -377,7 +377,7 @@ impl Machine {
     }
 
     fn barrier(&self, kind: Barrier) -> Stepped
-        ensures { told (Ok result) (state_of self.now) ≡ step (Micro.Barrier kind) (state_of self.now) None }
+        ensures { effect (Ok result) (state_of self.now) ≡ step (Micro.Barrier kind) (state_of self.now) None }
     {
         let ctrl_mask = self.control;
         Stepped::makes(Item::Barrier { kind, ctrl_mask })

@@ -42,7 +42,7 @@ impl Trace {
         requires { register < 32 }
         ensures { result ≡ value_in self.now register }
     {
-        self.machine.held(register).value
+        self.machine.content_of(register).value
     }
 }
 
@@ -133,7 +133,7 @@ impl Micro {
         ensures { result ≡ is_label label self }
     {
         match self {
-            Micro::Label { label: stands } => stands == label,
+            Micro::Label { label: own } => own == label,
             _ => false,
         }
     }

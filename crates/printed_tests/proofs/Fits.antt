@@ -48,12 +48,12 @@ use Rattle.test_laws.proofs.StepsFit.{IsThread, all_at, steps_fit, steps_placed}
 use Rattle.printed_tests.proofs.Rereading.{got_is}
 
 -- what is in a table has a number
-stands_in : (k : ℕ) (names : List (List ℕ)) (i : ℕ) (name : List ℕ) → slice_get names i ≡ Some name → is_some (position_from (λ x. bytes_eq x name) k names) ≡ true
-stands_in k [] i name g = cc
-stands_in k (x ∷ names) i name g =
+name_found : (k : ℕ) (names : List (List ℕ)) (i : ℕ) (name : List ℕ) → slice_get names i ≡ Some name → is_some (position_from (λ x. bytes_eq x name) k names) ≡ true
+name_found k [] i name g = cc
+name_found k (x ∷ names) i name g =
     by_test (bytes_eq x name)
     (λ e. ap (λ b. is_some (cond b (Some k) (position_from (λ y. bytes_eq y name) (k + 1) names))) e)
-    (λ e. ap (λ b. is_some (cond b (Some k) (position_from (λ y. bytes_eq y name) (k + 1) names))) e ∙ later i g e (λ j h. stands_in (k + 1) names j name h))
+    (λ e. ap (λ b. is_some (cond b (Some k) (position_from (λ y. bytes_eq y name) (k + 1) names))) e ∙ later i g e (λ j h. name_found (k + 1) names j name h))
   where
     later : (i : ℕ) → slice_get (x ∷ names) i ≡ Some name → bytes_eq x name ≡ false → ((j : ℕ) → slice_get names j ≡ Some name → is_some (position_from (λ y. bytes_eq y name) (k + 1) names) ≡ true) → is_some (position_from (λ y. bytes_eq y name) (k + 1) names) ≡ true
     later zero g e further =
@@ -63,7 +63,7 @@ stands_in k (x ∷ names) i name g =
 
 -- the name of each location has its form and a number
 location_in : (n l : ℕ) → l < n → is_some (number_in (letters n) (location_name l)) ≡ true
-location_in n l h = stands_in 0 (letters n) l (location_name l) (letter_at n l h)
+location_in n l h = name_found 0 (letters n) l (location_name l) (letter_at n l h)
 
 -- a place that accesses visit is that of a location
 visited_below : (n : ℕ) (ss : List Step) (place : ℕ) → ((j : ℕ) (s : Step) → slice_get ss j ≡ Some s → s.place < n) → visits place ss ≡ true → place < n
@@ -152,7 +152,7 @@ numbers_small arch b (s ∷ ss) fit = of_dir s.dir (numbers_small arch (is_load_
 
 -- each register of an architecture has a name of its form, by which it is found
 register_in : (w : Writing) (q : ℕ) → list_all is_register_name w.registers ≡ true → q < length w.registers → (is_register_name (name_in w.registers q) ≡ true) × (is_some (number_in w.registers (name_in w.registers q)) ≡ true)
-register_in w q formed h = (all_at is_register_name w.registers q [] formed h, stands_in 0 w.registers q (name_in w.registers q) (slice_get-get_or w.registers q [] h))
+register_in w q formed h = (all_at is_register_name w.registers q [] formed h, name_found 0 w.registers q (name_in w.registers q) (slice_get-get_or w.registers q [] h))
 
 read_terms : (a : Puts) (w : Writing) (table : List (List ℕ)) (threads thread : ℕ) (qs vs : List ℕ) → WritesBack a w → thread < threads → threads ≤ 64 → AllBelow a.registers qs → AllByRecursion (λ v. v < 256) vs
     → AllByRecursion (TermFits w threads table) (map (load_term (name_in w.registers) thread) (zip qs vs))

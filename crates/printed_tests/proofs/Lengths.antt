@@ -106,7 +106,7 @@ item_short w places thread link registers names h =
     let number = small_decimal thread h in
     let a = one_short 16 w.registers link.0 registers in
     let b = one_short 16 places link.1 names in
-    let front = decimal thread ++ codes ":" in
+    let prefix = decimal thread ++ codes ":" in
     omega (
       arith,
       number,

@@ -106,9 +106,9 @@ none_there (t ∷ ss) place (suc k) s h g e = none_there ss place k s (ap (λ (l
     tail_of (x ∷ xs) = xs
 
 -- the place of each access is in the table
-pub place_stands : (table : List (List ℕ)) (names : ℕ → List ℕ) (ss : List Step) (code : ThreadCode) (k : ℕ) (s : Step) → MakesSteps ss code → AllByRecursion (λ op. op_is_in table names op ≡ true) code.instrs
+pub place_is_in : (table : List (List ℕ)) (names : ℕ → List ℕ) (ss : List Step) (code : ThreadCode) (k : ℕ) (s : Step) → MakesSteps ss code → AllByRecursion (λ op. op_is_in table names op ≡ true) code.instrs
     → AllByRecursion (λ (link : ℕ × ℕ). is_in table (names link.1) ≡ true) code.links → slice_get ss k ≡ Some s → is_in table (names s.place) ≡ true
-place_stands table names ss code k s makes inside linked g =
+place_is_in table names ss code k s makes inside linked g =
     by_test (is_in table (names s.place))
     (λ e. e)
     (λ out.

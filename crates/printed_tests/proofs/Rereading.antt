@@ -46,7 +46,7 @@ use Rattle.test_laws.proofs.PlaceNames.{letter_at, locations_few}
 use Rattle.test_laws.proofs.StepsAt.{thread_steps_at}
 use Rattle.test_laws.proofs.StepsFit.{steps_fit}
 use Rattle.printed_tests.specs.Readings.{thread_read}
-use Rattle.printed_tests.proofs.Mentioning.{place_stands}
+use Rattle.printed_tests.proofs.Mentioning.{place_is_in}
 
 -- the number that a table gives the place of a location, by the names of a test
 abbrev pub by_table : List (List ℕ) → List (List ℕ) → ℕ → ℕ
@@ -94,11 +94,11 @@ visited es mode location r h =
     }
 
 -- the name of each location is in the table
-location_stands : (a : Puts) (es : List Edge) (mode : ObsMode) (table : List (List ℕ)) (location : ℕ) → IsArch a → HasCode a es mode
+location_is_in : (a : Puts) (es : List Edge) (mode : ObsMode) (table : List (List ℕ)) (location : ℕ) → IsArch a → HasCode a es mode
     → AllByRecursion (λ (t : ThreadCode). AllByRecursion (λ op. op_is_in table (name_in (letters (move_count es))) op ≡ true) t.instrs) (map (compiled a) (cycle_steps es mode plain))
     → AllByRecursion (λ link. is_in table (name_in (letters (move_count es)) link.1.1) ≡ true) (links_of 0 (map (compiled a) (cycle_steps es mode plain)))
     → location < move_count es → is_in table (location_name location) ≡ true
-location_stands a es mode table location laws t inside linked h =
+location_is_in a es mode table location laws t inside linked h =
     let names = name_in (letters (move_count es)) in
     let v = visited es mode location t.resolved h in
     let fit = (steps_fit es mode plain a.name v.thread v.steps t.resolved t.of_arch v.steps_at).fit in
@@ -107,7 +107,7 @@ location_stands a es mode table location laws t inside linked h =
     let ins = all_gets (λ (c : ThreadCode). AllByRecursion (λ op. op_is_in table names op ≡ true) c.instrs) threads v.thread (compiled a v.steps) inside code_at in
     let outs = all_gets (λ (c : ThreadCode). AllByRecursion (λ (link : ℕ × ℕ). is_in table (names link.1) ≡ true) c.links) threads v.thread (compiled a v.steps)
     (links_apart (λ place. is_in table (names place) ≡ true) 0 threads linked) code_at in
-    let stands = place_stands table names v.steps (compiled a v.steps) v.slot v.step (makes_steps a laws v.steps fit) ins outs v.step_at in
+    let stands = place_is_in table names v.steps (compiled a v.steps) v.slot v.step (makes_steps a laws v.steps fit) ins outs v.step_at in
     subst (λ name. is_in table name ≡ true) (ap names v.place_is ∙ got_is (letters (move_count es)) location (location_name location) (letter_at (move_count es) location h)) stands
 
 -- the names of the locations are among those of the table
@@ -135,7 +135,7 @@ pub reread_renumbered : (a : Puts) (register_name : ℕ → List ℕ) (es : List
 reread_renumbered a register_name es mode table laws t among inside linked =
     let n = move_count es in
     let few = locations_few es t.resolved in
-    let stands : (l : ℕ) → l < n → is_in table (location_name l) ≡ true = λ l h. location_stands a es mode table l laws t inside linked h in
+    let stands : (l : ℕ) → l < n → is_in table (location_name l) ≡ true = λ l h. location_is_in a es mode table l laws t inside linked h in
     let more = few_names (letters n) table (letters_among table n (omega arith) stands) in
     let less = few_names table (letters n) among in
     record {

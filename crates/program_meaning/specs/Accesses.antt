@@ -56,11 +56,11 @@ abbrev pub visits_of : List Item → List Visit
 visits_of made = visits_from [] made
 
 -- the barriers after the last access of a run, where some barriers were passed already
-abbrev pub barriers_behind : List Barred → List Item → List Barred
-barriers_behind passed [] = passed
-barriers_behind passed (items.Barrier kind control ∷ rest) =
-    barriers_behind (passed ++ record { kind = kind; control = control } ∷ []) rest
-barriers_behind passed (items.Access _ _ _ _ _ _ _ ∷ rest) = barriers_behind [] rest
+abbrev pub barriers_after : List Barred → List Item → List Barred
+barriers_after passed [] = passed
+barriers_after passed (items.Barrier kind control ∷ rest) =
+    barriers_after (passed ++ record { kind = kind; control = control } ∷ []) rest
+barriers_after passed (items.Access _ _ _ _ _ _ _ ∷ rest) = barriers_after [] rest
 
 -- the accesses alone
 abbrev pub accesses_of : List Visit → List Access

@@ -22,7 +22,7 @@ use Rattle.micro_ops.specs.declared.operation.Barrier.TheVariants as kinds
 use Rattle.micro_ops.specs.declared.operation.Item.{Item}
 use Rattle.resolution_laws.specs.Resolution.{edge_at, external_count, thread_of, slot_of, events_in, event_after}
 use Rattle.program_meaning.specs.declared.WriteAt.{WriteAt}
-use Rattle.program_meaning.specs.Accesses.{Access, Barred, Visit, at_name, barriers_behind, is_read, reads_before}
+use Rattle.program_meaning.specs.Accesses.{Access, Barred, Visit, at_name, barriers_after, is_read, reads_before}
 use Rattle.program_meaning.specs.Executions.{Execution}
 use Rattle.program_meaning.specs.Coherence.{coherence_place, source_at}
 use Rattle.program_meaning.specs.Programs.{Program, accesses_in, items_in, visits_in}
@@ -158,7 +158,7 @@ pub record HasEvents (es : List Edge) (p : Program) (x : Execution) : Type 0 whe
   pub events : (i : ℕ) → i < length es → (e : Named) × IsEvent es (visits_in p x) i e
   pub observers : (k : ℕ) (visits : List Visit) → external_count es ≤ k → slice_get (visits_in p x) k ≡ Some visits → Observes visits
   pub starts : (k : ℕ) (visits : List Visit) → slice_get (visits_in p x) k ≡ Some visits → StartsFree visits
-  pub ends : (k : ℕ) (made : List Item) → slice_get (items_in p x) k ≡ Some made → barriers_behind [] made ≡ []
+  pub ends : (k : ℕ) (made : List Item) → slice_get (items_in p x) k ≡ Some made → barriers_after [] made ≡ []
 
 -- all edges of a cycle stand, in order, between its events: the last one leads back to event 0
 pub record AllStand (es : List Edge) (p : Program) (x : Execution) : Type 0 where

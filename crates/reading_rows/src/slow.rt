@@ -25,7 +25,7 @@ pub fn slow_fault(text: &str) -> Option<Fault> {
     let mut awaits = Awaits::Header;
     let mut number: u64 = 1;
     for line in text.lines() {
-        match behind(awaits, number, line) {
+        match awaits_after(awaits, number, line) {
             Ok(next) => awaits = next,
             Err(fault) => return Some(fault),
         }
@@ -38,7 +38,7 @@ pub fn slow_fault(text: &str) -> Option<Fault> {
 }
 
 /// What a reading waits for after a line, or the fault. A line of blanks is passed over.
-fn behind(awaits: Awaits, number: u64, line: &str) -> Result<Awaits, Fault> {
+fn awaits_after(awaits: Awaits, number: u64, line: &str) -> Result<Awaits, Fault> {
     match awaits {
         _ if line.trim().is_empty() => Ok(awaits),
         Awaits::Header => go_on(is_header(line), Awaits::Quote, number, TestKind::BadHeader),
@@ -50,9 +50,9 @@ fn behind(awaits: Awaits, number: u64, line: &str) -> Result<Awaits, Fault> {
                 TestKind::BadQuote,
             )
         }
-        Awaits::Quote | Awaits::InitialState => braced(line.strip_prefix('{'), number),
-        Awaits::Brace => braced(Some(line), number),
-        Awaits::Table => headed(threads_in(line), number),
+        Awaits::Quote | Awaits::InitialState => awaits_in_braces(line.strip_prefix('{'), number),
+        Awaits::Brace => awaits_in_braces(Some(line), number),
+        Awaits::Table => awaits_in_table(threads_in(line), number),
         Awaits::Row(threads) if quantifier(line).is_some() => go_on(
             is_condition(threads, line),
             Awaits::Nothing(number),
@@ -93,7 +93,7 @@ fn is_quote(line: &str) -> bool {
 }
 
 /// The initial state, from a `{` or a later line of it up to `}`, which ends its line.
-fn braced(items: Option<&str>, number: u64) -> Result<Awaits, Fault> {
+fn awaits_in_braces(items: Option<&str>, number: u64) -> Result<Awaits, Fault> {
     match items {
         Some(items) if items.trim().is_empty() => Ok(Awaits::Brace),
         Some(items) if items.trim_start() == "}" => Ok(Awaits::Table),
@@ -102,7 +102,7 @@ fn braced(items: Option<&str>, number: u64) -> Result<Awaits, Fault> {
 }
 
 /// The header of the table for so many threads.
-fn headed(threads: Option<u32>, number: u64) -> Result<Awaits, Fault> {
+fn awaits_in_table(threads: Option<u32>, number: u64) -> Result<Awaits, Fault> {
     match threads {
         Some(threads) => Ok(Awaits::Row(threads)),
         None => Err((number, TestKind::BadTable)),

@@ -10,11 +10,11 @@ use Rattle.list_laws.proofs.Cases.{by_test}
 use Rattle.relax_edges.specs.declared.edge.Edge.{Edge}
 use Rattle.relax_edges.specs.declared.relax_error.RelaxKind.{RelaxKind}
 use Rattle.relax_edges.specs.declared.relax_error.RelaxKind.TheVariants.{UnknownEdge, RelaxTooLong, DoesNotJoin}
-use Rattle.relax_edges.specs.RelaxText.{is_separator, is_empty, Item, words_from, item_from, bytes_behind, items_from, items_of}
+use Rattle.relax_edges.specs.RelaxText.{is_separator, is_empty, Item, words_from, item_from, bytes_after, items_from, items_of}
 use Rattle.relax_edges.specs.Relaxations.{word_edges, paths_of, keep_all, at_most_64, kept_paths, kept_words, kept_item, kept_items, relaxes_of}
-use Rattle.relax_edges.specs.RelaxSearch.{paths_behind, KeepsPaths}
-use Rattle.relax_edges.specs.RelaxFront.{front_len, kept_front}
-use Rattle.relax_edges.proofs.Paths.{paths_behind-nil, at_most_64-ok}
+use Rattle.relax_edges.specs.RelaxSearch.{paths_after, KeepsPaths}
+use Rattle.relax_edges.specs.RelaxPrefix.{first_word_len, kept_prefix}
+use Rattle.relax_edges.proofs.Paths.{paths_after-nil, at_most_64-ok}
 
 abbrev Answer : Type 0
 Answer = Result (List (List Edge)) RelaxKind
@@ -50,34 +50,34 @@ paths_refused kept [] kind few err = let ok = at_most_64-ok kept few in cc
 paths_refused kept (path ∷ paths) kind few err = err
 
 -- where some choice of the words' edges joins, what their search kept is what the words keep
-pub kept_words_some : (kept : List (List Edge)) (words : List (List ℕ)) (front : List Edge) (new : List (List Edge)) (some : Bool)
-    → list_any (λ word. is_empty (word_edges word)) words ≡ false → length words ≤ 8 → front ≡ [] → some ≡ true
-    → KeepsPaths kept (paths_behind front (map word_edges words)) new some → kept_words kept words ≡ Ok new
-kept_words_some kept words front new some known short none found a =
+pub kept_words_some : (kept : List (List Edge)) (words : List (List ℕ)) (prefix : List Edge) (new : List (List Edge)) (some : Bool)
+    → list_any (λ word. is_empty (word_edges word)) words ≡ false → length words ≤ 8 → prefix ≡ [] → some ≡ true
+    → KeepsPaths kept (paths_after prefix (map word_edges words)) new some → kept_words kept words ≡ Ok new
+kept_words_some kept words prefix new some known short none found a =
     kept_words_short kept words known short
     ∙ paths_some kept (paths_of words) new
-    (subst (λ p. KeepsPaths kept p new true) (paths_behind-nil (map word_edges words))
-    (subst (λ f. KeepsPaths kept (paths_behind f (map word_edges words)) new true) none (subst (λ b. KeepsPaths kept (paths_behind front (map word_edges words)) new b) found a)))
+    (subst (λ p. KeepsPaths kept p new true) (paths_after-nil (map word_edges words))
+    (subst (λ f. KeepsPaths kept (paths_after f (map word_edges words)) new true) none (subst (λ b. KeepsPaths kept (paths_after prefix (map word_edges words)) new b) found a)))
 
 -- where no choice of the words' edges joins, the words are refused
-pub kept_words_none : (kept : List (List Edge)) (words : List (List ℕ)) (front : List Edge) (new : List (List Edge)) (some : Bool)
-    → list_any (λ word. is_empty (word_edges word)) words ≡ false → length words ≤ 8 → front ≡ [] → some ≡ false
-    → KeepsPaths kept (paths_behind front (map word_edges words)) new some → kept_words kept words ≡ Err DoesNotJoin
-kept_words_none kept words front new some known short none found a =
+pub kept_words_none : (kept : List (List Edge)) (words : List (List ℕ)) (prefix : List Edge) (new : List (List Edge)) (some : Bool)
+    → list_any (λ word. is_empty (word_edges word)) words ≡ false → length words ≤ 8 → prefix ≡ [] → some ≡ false
+    → KeepsPaths kept (paths_after prefix (map word_edges words)) new some → kept_words kept words ≡ Err DoesNotJoin
+kept_words_none kept words prefix new some known short none found a =
     kept_words_short kept words known short
     ∙ paths_none kept (paths_of words) new
-    (subst (λ p. KeepsPaths kept p new false) (paths_behind-nil (map word_edges words))
-    (subst (λ f. KeepsPaths kept (paths_behind f (map word_edges words)) new false) none (subst (λ b. KeepsPaths kept (paths_behind front (map word_edges words)) new b) found a)))
+    (subst (λ p. KeepsPaths kept p new false) (paths_after-nil (map word_edges words))
+    (subst (λ f. KeepsPaths kept (paths_after f (map word_edges words)) new false) none (subst (λ b. KeepsPaths kept (paths_after prefix (map word_edges words)) new b) found a)))
 
 -- where their search is refused for want of room, the words are refused
-pub kept_words_refused : (kept : List (List Edge)) (words : List (List ℕ)) (front : List Edge) (kind : RelaxKind)
-    → list_any (λ word. is_empty (word_edges word)) words ≡ false → length words ≤ 8 → front ≡ [] → length kept ≤ 64
-    → at_most_64 (keep_all kept (paths_behind front (map word_edges words))) ≡ Err kind → kept_words kept words ≡ Err kind
-kept_words_refused kept words front kind known short none few err =
+pub kept_words_refused : (kept : List (List Edge)) (words : List (List ℕ)) (prefix : List Edge) (kind : RelaxKind)
+    → list_any (λ word. is_empty (word_edges word)) words ≡ false → length words ≤ 8 → prefix ≡ [] → length kept ≤ 64
+    → at_most_64 (keep_all kept (paths_after prefix (map word_edges words))) ≡ Err kind → kept_words kept words ≡ Err kind
+kept_words_refused kept words prefix kind known short none few err =
     kept_words_short kept words known short
     ∙ paths_refused kept (paths_of words) kind few
-    (subst (λ p. at_most_64 (keep_all kept p) ≡ Err kind) (paths_behind-nil (map word_edges words))
-    (subst (λ f. at_most_64 (keep_all kept (paths_behind f (map word_edges words))) ≡ Err kind) none err))
+    (subst (λ p. at_most_64 (keep_all kept p) ≡ Err kind) (paths_after-nil (map word_edges words))
+    (subst (λ f. at_most_64 (keep_all kept (paths_after f (map word_edges words))) ≡ Err kind) none err))
 
 drop_of_nil : (n : ℕ) → drop {A = ℕ} n [] ≡ []
 drop_of_nil zero = refl
@@ -87,13 +87,13 @@ drop_of_nil (suc n) = refl
 items_passed : (place passed : ℕ) (text : List ℕ) → items_from place passed text ≡ items_from (place + passed) 0 (drop passed text)
 items_passed place passed [] = ap (λ t. items_from (place + passed) 0 t) (sym (drop_of_nil passed))
 items_passed place zero (byte ∷ behind) =
-    let e : place ≡ place + 0 = omega arith in ap (λ p. item_from p byte behind ++ items_from (p + 1) (bytes_behind byte behind) behind) e
+    let e : place ≡ place + 0 = omega arith in ap (λ p. item_from p byte behind ++ items_from (p + 1) (bytes_after byte behind) behind) e
 items_passed place (suc passed) (byte ∷ behind) =
     let e : place + 1 + passed ≡ place + suc passed = omega arith in
     items_passed (place + 1) passed behind ∙ ap (λ p. items_from p 0 (drop passed behind)) e
 
-items_behind : (place byte : ℕ) (behind : List ℕ) (n : ℕ) → items_from (place + 1) n behind ≡ items_from (place + (n + 1)) 0 (drop (n + 1) (byte ∷ behind))
-items_behind place byte behind n =
+items_after : (place byte : ℕ) (behind : List ℕ) (n : ℕ) → items_from (place + 1) n behind ≡ items_from (place + (n + 1)) 0 (drop (n + 1) (byte ∷ behind))
+items_after place byte behind n =
     let e : place + 1 + n ≡ place + (n + 1) = omega arith in
     let more : n + 1 ≡ suc n = omega arith in
     rw (more, ← more) (items_passed (place + 1) n behind ∙ ap (λ p. items_from p 0 (drop n behind)) e)
@@ -107,51 +107,51 @@ refused_one : (kept : List (List Edge)) (kind : RelaxKind) (item : Item) (items 
 unfolding kept_items
 refused_one kept kind item items err = rw (err, kept_items) refl
 
-separator_front : (kept : List (List Edge)) (byte : ℕ) (behind : List ℕ) → is_separator byte ≡ true → kept_front kept (byte ∷ behind) ≡ Ok kept
-unfolding kept_front
-separator_front kept byte behind s = rw s refl
+separator_at_start : (kept : List (List Edge)) (byte : ℕ) (behind : List ℕ) → is_separator byte ≡ true → kept_prefix kept (byte ∷ behind) ≡ Ok kept
+unfolding kept_prefix
+separator_at_start kept byte behind s = rw s refl
 
-item_front : (kept : List (List Edge)) (byte : ℕ) (behind : List ℕ) → is_separator byte ≡ false → kept_front kept (byte ∷ behind) ≡ kept_item kept (words_from byte behind)
-unfolding kept_front
-item_front kept byte behind n = rw n refl
+item_at_start : (kept : List (List Edge)) (byte : ℕ) (behind : List ℕ) → is_separator byte ≡ false → kept_prefix kept (byte ∷ behind) ≡ kept_item kept (words_from byte behind)
+unfolding kept_prefix
+item_at_start kept byte behind n = rw n refl
 
 -- the item that a text begins with is kept, and then those after it
-pub kept_items_front : (kept more : List (List Edge)) (place : ℕ) (text : List ℕ) → kept_front kept text ≡ Ok more
-    → kept_items kept (items_from place 0 text) ≡ kept_items more (items_from (place + front_len text) 0 (drop (front_len text) text))
-unfolding kept_items kept_front front_len
-kept_items_front kept more place [] ok =
+pub kept_items_prefix : (kept more : List (List Edge)) (place : ℕ) (text : List ℕ) → kept_prefix kept text ≡ Ok more
+    → kept_items kept (items_from place 0 text) ≡ kept_items more (items_from (place + first_word_len text) 0 (drop (first_word_len text) text))
+unfolding kept_items kept_prefix first_word_len
+kept_items_prefix kept more place [] ok =
     let same : ◌≡◌ {A = Answer} (Ok kept) (Ok more) = ok in
     let same_kept : kept ≡ more = cc in
     ap (λ k. Ok k) same_kept
-kept_items_front kept more place (byte ∷ behind) ok =
+kept_items_prefix kept more place (byte ∷ behind) ok =
     by_test (is_separator byte)
     (λ s.
     let none : item_from place byte behind ≡ [] = rw s refl in
-    let same : ◌≡◌ {A = Answer} (Ok kept) (Ok more) = sym (separator_front kept byte behind s) ∙ ok in
+    let same : ◌≡◌ {A = Answer} (Ok kept) (Ok more) = sym (separator_at_start kept byte behind s) ∙ ok in
     let same_kept : kept ≡ more = cc in
-    ap (λ items. kept_items kept (items ++ items_from (place + 1) (bytes_behind byte behind) behind)) none
-    ∙ ap (λ k. kept_items k (items_from (place + 1) (bytes_behind byte behind) behind)) same_kept
-    ∙ ap (kept_items more) (items_behind place byte behind (bytes_behind byte behind)))
+    ap (λ items. kept_items kept (items ++ items_from (place + 1) (bytes_after byte behind) behind)) none
+    ∙ ap (λ k. kept_items k (items_from (place + 1) (bytes_after byte behind) behind)) same_kept
+    ∙ ap (kept_items more) (items_after place byte behind (bytes_after byte behind)))
     (λ n.
     let item : Item = record { start = place; words = words_from byte behind } in
     let one : item_from place byte behind ≡ item ∷ [] = rw n refl in
-    ap (λ items. kept_items kept (items ++ items_from (place + 1) (bytes_behind byte behind) behind)) one
-    ∙ kept_one kept more item (items_from (place + 1) (bytes_behind byte behind) behind) (sym (item_front kept byte behind n) ∙ ok)
-    ∙ ap (kept_items more) (items_behind place byte behind (bytes_behind byte behind)))
+    ap (λ items. kept_items kept (items ++ items_from (place + 1) (bytes_after byte behind) behind)) one
+    ∙ kept_one kept more item (items_from (place + 1) (bytes_after byte behind) behind) (sym (item_at_start kept byte behind n) ∙ ok)
+    ∙ ap (kept_items more) (items_after place byte behind (bytes_after byte behind)))
 
 -- a text whose first item is refused is refused at that item's place
-pub kept_items_refused : (kept : List (List Edge)) (kind : RelaxKind) (place : ℕ) (text : List ℕ) → kept_front kept text ≡ Err kind
+pub kept_items_refused : (kept : List (List Edge)) (kind : RelaxKind) (place : ℕ) (text : List ℕ) → kept_prefix kept text ≡ Err kind
     → kept_items kept (items_from place 0 text) ≡ Err (record { at = place; kind = kind })
-unfolding kept_items kept_front
+unfolding kept_items kept_prefix
 kept_items_refused kept kind place [] err = let e : ◌≡◌ {A = Answer} (Ok kept) (Err kind) = err in cc
 kept_items_refused kept kind place (byte ∷ behind) err =
     by_test (is_separator byte)
-    (λ s. let e : ◌≡◌ {A = Answer} (Ok kept) (Err kind) = sym (separator_front kept byte behind s) ∙ err in cc)
+    (λ s. let e : ◌≡◌ {A = Answer} (Ok kept) (Err kind) = sym (separator_at_start kept byte behind s) ∙ err in cc)
     (λ n.
     let item : Item = record { start = place; words = words_from byte behind } in
     let one : item_from place byte behind ≡ item ∷ [] = rw n refl in
-    ap (λ items. kept_items kept (items ++ items_from (place + 1) (bytes_behind byte behind) behind)) one
-    ∙ refused_one kept kind item (items_from (place + 1) (bytes_behind byte behind) behind) (sym (item_front kept byte behind n) ∙ err))
+    ap (λ items. kept_items kept (items ++ items_from (place + 1) (bytes_after byte behind) behind)) one
+    ∙ refused_one kept kind item (items_from (place + 1) (bytes_after byte behind) behind) (sym (item_at_start kept byte behind n) ∙ err))
 
 -- the same of what is left of a text after some bytes
 rest_of : (text : List ℕ) (place : ℕ) → take (length text - place) (drop place text) ≡ drop place text
@@ -159,20 +159,20 @@ rest_of text place = ap (λ n. take n (drop place text)) (sym (length-drop place
 
 -- once the item at a place is kept, what is left is to keep the items after it
 pub items_step : (kept more : List (List Edge)) (text : List ℕ) (place len : ℕ)
-    → kept_front kept (take (length text - place) (drop place text)) ≡ Ok more → len ≡ front_len (take (length text - place) (drop place text))
+    → kept_prefix kept (take (length text - place) (drop place text)) ≡ Ok more → len ≡ first_word_len (take (length text - place) (drop place text))
     → kept_items more (items_from (place + len) 0 (drop (place + len) text)) ≡ kept_items kept (items_from place 0 (drop place text))
 items_step kept more text place len ok is =
-    let ok_rest : kept_front kept (drop place text) ≡ Ok more = subst (λ t. kept_front kept t ≡ Ok more) (rest_of text place) ok in
-    let is_rest : len ≡ front_len (drop place text) = is ∙ ap front_len (rest_of text place) in
+    let ok_rest : kept_prefix kept (drop place text) ≡ Ok more = subst (λ t. kept_prefix kept t ≡ Ok more) (rest_of text place) ok in
+    let is_rest : len ≡ first_word_len (drop place text) = is ∙ ap first_word_len (rest_of text place) in
     let e : drop (place + len) text ≡ drop len (drop place text) = sym (drop-drop len place text) in
-    rw (e, is_rest) (sym (kept_items_front kept more place (drop place text) ok_rest))
+    rw (e, is_rest) (sym (kept_items_prefix kept more place (drop place text) ok_rest))
 
 -- where the item at a place is refused, the text is refused at that place
 pub items_refused : (kept : List (List Edge)) (kind : RelaxKind) (text : List ℕ) (place : ℕ)
-    → kept_front kept (take (length text - place) (drop place text)) ≡ Err kind
+    → kept_prefix kept (take (length text - place) (drop place text)) ≡ Err kind
     → kept_items kept (items_from place 0 (drop place text)) ≡ Err (record { at = place; kind = kind })
 items_refused kept kind text place err =
-    kept_items_refused kept kind place (drop place text) (subst (λ t. kept_front kept t ≡ Err kind) (rest_of text place) err)
+    kept_items_refused kept kind place (drop place text) (subst (λ t. kept_prefix kept t ≡ Err kind) (rest_of text place) err)
 
 -- at the end of a text nothing more is kept
 pub items_end : (kept : List (List Edge)) (text : List ℕ) (place : ℕ) → length text ≤ place → kept_items kept (items_from place 0 (drop place text)) ≡ Ok kept

@@ -62,30 +62,30 @@ each_kind test all kind =
     subst (λ k. test k ≡ true) (kind_of_unmarked kind) (each_edge (λ edge. test (kind_of edge)) all (unmarked kind))
 
 -- a text of another length than three bytes is no communication
-pub communication_bare : (front : List ℕ) (before last : ℕ) → length front < 1 → read_as_communication (front ++ before ∷ last ∷ []) ≡ None
+pub communication_bare : (prefix : List ℕ) (before last : ℕ) → length prefix < 1 → read_as_communication (prefix ++ before ∷ last ∷ []) ≡ None
 communication_bare [] before last bare = refl
-communication_bare (a ∷ front) before last bare = absurd (omega arith)
+communication_bare (a ∷ prefix) before last bare = absurd (omega arith)
 
 -- and a text of more than three bytes is none
-pub communication_long : (front : List ℕ) (before last : ℕ) → 1 < length front → read_as_communication (front ++ before ∷ last ∷ []) ≡ None
+pub communication_long : (prefix : List ℕ) (before last : ℕ) → 1 < length prefix → read_as_communication (prefix ++ before ∷ last ∷ []) ≡ None
 communication_long [] before last long = absurd (omega arith)
 communication_long (a ∷ []) before last long = absurd (omega arith)
 communication_long (a ∷ b ∷ []) before last long = refl
 communication_long (a ∷ b ∷ d ∷ []) before last long = refl
-communication_long (a ∷ b ∷ d ∷ e ∷ front) before last long = refl
+communication_long (a ∷ b ∷ d ∷ e ∷ prefix) before last long = refl
 
 -- the end of a text that is read backwards
-pub two_sided_end : (front : List ℕ) (sd from to : ℕ) → read_back_two_sided (reverse ((front ++ sd ∷ []) ++ from ∷ to ∷ [])) ≡ two_sided_of front sd from to
-two_sided_end front sd from to =
-    rw (reverse-append (front ++ sd ∷ []) (from ∷ to ∷ []), reverse-append front (sd ∷ [])) (ap (λ f. two_sided_of f sd from to) (reverse-reverse front))
+pub two_sided_end : (prefix : List ℕ) (sd from to : ℕ) → read_back_two_sided (reverse ((prefix ++ sd ∷ []) ++ from ∷ to ∷ [])) ≡ two_sided_of prefix sd from to
+two_sided_end prefix sd from to =
+    rw (reverse-append (prefix ++ sd ∷ []) (from ∷ to ∷ []), reverse-append prefix (sd ∷ [])) (ap (λ f. two_sided_of f sd from to) (reverse-reverse prefix))
 
-one_sided_end : (front : List ℕ) (sd to : ℕ) → read_back_one_sided (reverse (front ++ sd ∷ to ∷ [])) ≡ one_sided_of front sd to
-one_sided_end front sd to = rw (reverse-append front (sd ∷ to ∷ [])) (ap (λ f. one_sided_of f sd to) (reverse-reverse front))
+one_sided_end : (prefix : List ℕ) (sd to : ℕ) → read_back_one_sided (reverse (prefix ++ sd ∷ to ∷ [])) ≡ one_sided_of prefix sd to
+one_sided_end prefix sd to = rw (reverse-append prefix (sd ∷ to ∷ [])) (ap (λ f. one_sided_of f sd to) (reverse-reverse prefix))
 
 -- a text of two bytes names no place and two directions
-pub two_sided_none : (front : List ℕ) (from to : ℕ) → length front < 1 → read_back_two_sided (reverse (front ++ from ∷ to ∷ [])) ≡ None
+pub two_sided_none : (prefix : List ℕ) (from to : ℕ) → length prefix < 1 → read_back_two_sided (reverse (prefix ++ from ∷ to ∷ [])) ≡ None
 two_sided_none [] from to none = refl
-two_sided_none (a ∷ front) from to none = absurd (omega arith)
+two_sided_none (a ∷ prefix) from to none = absurd (omega arith)
 
 -- what is read as a kind has its word
 dir_is : (text : List ℕ) (dir : Dir) → dir_named text ≡ Some dir → text ≡ dir_word dir
@@ -124,41 +124,41 @@ unfolding is_word
 word_is_spelling kind text same = rw same (each_kind is_word all_words kind)
 
 -- a text whose last bytes are words of one byte is its parts joined
-three_joined : (front word : List ℕ) (s f t : ℕ) (sd from to : List ℕ) → front ≡ word → s ∷ [] ≡ sd → f ∷ [] ≡ from → t ∷ [] ≡ to
-    → front ++ s ∷ f ∷ t ∷ [] ≡ word ++ sd ++ from ++ to
-three_joined front word s f t sd from to p a b c = rw (← p, ← a, ← b, ← c) (simp append_assoc)
+three_joined : (prefix word : List ℕ) (s f t : ℕ) (sd from to : List ℕ) → prefix ≡ word → s ∷ [] ≡ sd → f ∷ [] ≡ from → t ∷ [] ≡ to
+    → prefix ++ s ∷ f ∷ t ∷ [] ≡ word ++ sd ++ from ++ to
+three_joined prefix word s f t sd from to p a b c = rw (← p, ← a, ← b, ← c) (simp append_assoc)
 
-two_joined : (front word : List ℕ) (s t : ℕ) (sd to : List ℕ) → front ≡ word → s ∷ [] ≡ sd → t ∷ [] ≡ to → front ++ s ∷ t ∷ [] ≡ word ++ sd ++ to
-two_joined front word s t sd to p a c = rw (← p, ← a, ← c) (simp append_assoc)
+two_joined : (prefix word : List ℕ) (s t : ℕ) (sd to : List ℕ) → prefix ≡ word → s ∷ [] ≡ sd → t ∷ [] ≡ to → prefix ++ s ∷ t ∷ [] ≡ word ++ sd ++ to
+two_joined prefix word s t sd to p a c = rw (← p, ← a, ← c) (simp append_assoc)
 
 -- what is read by its last three bytes and the bytes before them has this word
-two_sided_word : (front : List ℕ) (s f t : ℕ) (sd : Option Sd) (from to : Option Dir) (po : Bool) (kind : Option FenceKind) (edge : Kind)
-    → sd_named (s ∷ []) ≡ sd → dir_named (f ∷ []) ≡ from → dir_named (t ∷ []) ≡ to → bytes_eq front (codes "Po") ≡ po → fence_named front ≡ kind
-    → two_sided sd from to po kind ≡ Some edge → front ++ s ∷ f ∷ t ∷ [] ≡ kind_word edge
-two_sided_word front s f t (Some sd) (Some from) (Some to) true kind edge a b c d e found =
-    let p : front ≡ codes "Po" = (bytes_eq-Decides front (codes "Po")).0 d in
+two_sided_word : (prefix : List ℕ) (s f t : ℕ) (sd : Option Sd) (from to : Option Dir) (po : Bool) (kind : Option FenceKind) (edge : Kind)
+    → sd_named (s ∷ []) ≡ sd → dir_named (f ∷ []) ≡ from → dir_named (t ∷ []) ≡ to → bytes_eq prefix (codes "Po") ≡ po → fence_named prefix ≡ kind
+    → two_sided sd from to po kind ≡ Some edge → prefix ++ s ∷ f ∷ t ∷ [] ≡ kind_word edge
+two_sided_word prefix s f t (Some sd) (Some from) (Some to) true kind edge a b c d e found =
+    let p : prefix ≡ codes "Po" = (bytes_eq-Decides prefix (codes "Po")).0 d in
     let x : kinds.Po sd from to ≡ edge = cc in
-    subst (λ y. front ++ s ∷ f ∷ t ∷ [] ≡ kind_word y) x
-    (three_joined front (codes "Po") s f t (sd_word sd) (dir_word from) (dir_word to) p (sd_is (s ∷ []) sd a) (dir_is (f ∷ []) from b) (dir_is (t ∷ []) to c))
-two_sided_word front s f t (Some sd) (Some from) (Some to) false (Some kind) edge a b c d e found =
+    subst (λ y. prefix ++ s ∷ f ∷ t ∷ [] ≡ kind_word y) x
+    (three_joined prefix (codes "Po") s f t (sd_word sd) (dir_word from) (dir_word to) p (sd_is (s ∷ []) sd a) (dir_is (f ∷ []) from b) (dir_is (t ∷ []) to c))
+two_sided_word prefix s f t (Some sd) (Some from) (Some to) false (Some kind) edge a b c d e found =
     let x : kinds.Fenced kind sd from to ≡ edge = cc in
-    subst (λ y. front ++ s ∷ f ∷ t ∷ [] ≡ kind_word y) x
-    (three_joined front (fence_word kind) s f t (sd_word sd) (dir_word from) (dir_word to)
-    (fence_is front kind e) (sd_is (s ∷ []) sd a) (dir_is (f ∷ []) from b) (dir_is (t ∷ []) to c))
-two_sided_word front s f t _ _ _ _ _ edge a b c d e found = cc
+    subst (λ y. prefix ++ s ∷ f ∷ t ∷ [] ≡ kind_word y) x
+    (three_joined prefix (fence_word kind) s f t (sd_word sd) (dir_word from) (dir_word to)
+    (fence_is prefix kind e) (sd_is (s ∷ []) sd a) (dir_is (f ∷ []) from b) (dir_is (t ∷ []) to c))
+two_sided_word prefix s f t _ _ _ _ _ edge a b c d e found = cc
 
-one_sided_word : (front : List ℕ) (s t : ℕ) (sd : Option Sd) (to : Option Dir) (data_word : Bool) (kind : Option DepKind) (edge : Kind)
-    → sd_named (s ∷ []) ≡ sd → dir_named (t ∷ []) ≡ to → bytes_eq front (codes "DpData") ≡ data_word → dependency_named front ≡ kind
-    → one_sided sd to data_word kind ≡ Some edge → front ++ s ∷ t ∷ [] ≡ kind_word edge
-one_sided_word front s t (Some sd) (Some dirs.W) true kind edge a c d e found =
+one_sided_word : (prefix : List ℕ) (s t : ℕ) (sd : Option Sd) (to : Option Dir) (data_word : Bool) (kind : Option DepKind) (edge : Kind)
+    → sd_named (s ∷ []) ≡ sd → dir_named (t ∷ []) ≡ to → bytes_eq prefix (codes "DpData") ≡ data_word → dependency_named prefix ≡ kind
+    → one_sided sd to data_word kind ≡ Some edge → prefix ++ s ∷ t ∷ [] ≡ kind_word edge
+one_sided_word prefix s t (Some sd) (Some dirs.W) true kind edge a c d e found =
     let x : kinds.Data sd ≡ edge = cc in
-    subst (λ y. front ++ s ∷ t ∷ [] ≡ kind_word y) x
-    (two_joined front (codes "DpData") s t (sd_word sd) (codes "W") ((bytes_eq-Decides front (codes "DpData")).0 d) (sd_is (s ∷ []) sd a) (dir_is (t ∷ []) dirs.W c))
-one_sided_word front s t (Some sd) (Some to) false (Some kind) edge a c d e found =
+    subst (λ y. prefix ++ s ∷ t ∷ [] ≡ kind_word y) x
+    (two_joined prefix (codes "DpData") s t (sd_word sd) (codes "W") ((bytes_eq-Decides prefix (codes "DpData")).0 d) (sd_is (s ∷ []) sd a) (dir_is (t ∷ []) dirs.W c))
+one_sided_word prefix s t (Some sd) (Some to) false (Some kind) edge a c d e found =
     let x : kinds.Dep kind sd to ≡ edge = cc in
-    subst (λ y. front ++ s ∷ t ∷ [] ≡ kind_word y) x
-    (two_joined front (dependency_word kind) s t (sd_word sd) (dir_word to) (dependency_is front kind e) (sd_is (s ∷ []) sd a) (dir_is (t ∷ []) to c))
-one_sided_word front s t _ _ _ _ edge a c d e found = cc
+    subst (λ y. prefix ++ s ∷ t ∷ [] ≡ kind_word y) x
+    (two_joined prefix (dependency_word kind) s t (sd_word sd) (dir_word to) (dependency_is prefix kind e) (sd_is (s ∷ []) sd a) (dir_is (t ∷ []) to c))
+one_sided_word prefix s t _ _ _ _ edge a c d e found = cc
 
 -- what is read as a communication spells it
 co_is_spelling : (reach : Reach) → is_kind_spelling (kinds.Com coms.Ws reach) (codes "Co" ++ reach_word reach) ≡ true
@@ -188,23 +188,23 @@ unfolding two_sided_of
 two_sided_spelled [] edge found = cc
 two_sided_spelled (t ∷ []) edge found = cc
 two_sided_spelled (t ∷ f ∷ []) edge found = cc
-two_sided_spelled (t ∷ f ∷ s ∷ front) edge found =
-    word_is_spelling edge (reverse (t ∷ f ∷ s ∷ front))
-    (three_reversed t f s front ∙ two_sided_word (reverse front) s f t _ _ _ _ _ edge refl refl refl refl refl found)
+two_sided_spelled (t ∷ f ∷ s ∷ prefix) edge found =
+    word_is_spelling edge (reverse (t ∷ f ∷ s ∷ prefix))
+    (three_reversed t f s prefix ∙ two_sided_word (reverse prefix) s f t _ _ _ _ _ edge refl refl refl refl refl found)
   where
-    three_reversed : (t f s : ℕ) (front : List ℕ) → reverse (t ∷ f ∷ s ∷ front) ≡ reverse front ++ s ∷ f ∷ t ∷ []
-    three_reversed t f s front = reverse_onto front s (f ∷ t ∷ [])
+    three_reversed : (t f s : ℕ) (prefix : List ℕ) → reverse (t ∷ f ∷ s ∷ prefix) ≡ reverse prefix ++ s ∷ f ∷ t ∷ []
+    three_reversed t f s prefix = reverse_onto prefix s (f ∷ t ∷ [])
 
 one_sided_spelled : (back : List ℕ) (edge : Kind) → read_back_one_sided back ≡ Some edge → is_kind_spelling edge (reverse back) ≡ true
 unfolding one_sided_of
 one_sided_spelled [] edge found = cc
 one_sided_spelled (t ∷ []) edge found = cc
-one_sided_spelled (t ∷ s ∷ front) edge found =
-    word_is_spelling edge (reverse (t ∷ s ∷ front))
-    (two_reversed t s front ∙ one_sided_word (reverse front) s t _ _ _ _ edge refl refl refl refl found)
+one_sided_spelled (t ∷ s ∷ prefix) edge found =
+    word_is_spelling edge (reverse (t ∷ s ∷ prefix))
+    (two_reversed t s prefix ∙ one_sided_word (reverse prefix) s t _ _ _ _ edge refl refl refl refl found)
   where
-    two_reversed : (t s : ℕ) (front : List ℕ) → reverse (t ∷ s ∷ front) ≡ reverse front ++ s ∷ t ∷ []
-    two_reversed t s front = reverse_onto front s (t ∷ [])
+    two_reversed : (t s : ℕ) (prefix : List ℕ) → reverse (t ∷ s ∷ prefix) ≡ reverse prefix ++ s ∷ t ∷ []
+    two_reversed t s prefix = reverse_onto prefix s (t ∷ [])
 
 read_as_communication_spelled : (text : List ℕ) (edge : Kind) → read_as_communication text ≡ Some edge → is_kind_spelling edge text ≡ true
 unfolding communication_of
@@ -229,14 +229,14 @@ kind_sound text edge found =
     ]
 
 -- a text with these last two bytes is read by its end
-pub ending_is_read : (front : List ℕ) (before last : ℕ)
-    → kind_read (front ++ before ∷ last ∷ [])
-    ≡ option_or (option_or (read_as_communication (front ++ before ∷ last ∷ [])) (read_back_two_sided (reverse (front ++ before ∷ last ∷ [])))) (one_sided_of front before last)
+pub ending_is_read : (prefix : List ℕ) (before last : ℕ)
+    → kind_read (prefix ++ before ∷ last ∷ [])
+    ≡ option_or (option_or (read_as_communication (prefix ++ before ∷ last ∷ [])) (read_back_two_sided (reverse (prefix ++ before ∷ last ∷ [])))) (one_sided_of prefix before last)
 unfolding kind_read
-ending_is_read front before last =
-    let text = front ++ before ∷ last ∷ [] in
-    ap (λ o. option_or (read_as_communication text) (option_or (read_back_two_sided (reverse text)) o)) (one_sided_end front before last)
-    ∙ grouped (read_as_communication text) (read_back_two_sided (reverse text)) (one_sided_of front before last)
+ending_is_read prefix before last =
+    let text = prefix ++ before ∷ last ∷ [] in
+    ap (λ o. option_or (read_as_communication text) (option_or (read_back_two_sided (reverse text)) o)) (one_sided_end prefix before last)
+    ∙ grouped (read_as_communication text) (read_back_two_sided (reverse text)) (one_sided_of prefix before last)
   where
     grouped : (a b d : Option Kind) → option_or a (option_or b d) ≡ option_or (option_or a b) d
     grouped None b d = refl

@@ -11,4 +11,4 @@ pub mod KindRanks
 pub mod KindSpellings
 pub mod Search
 pub mod Items
-pub mod Fronts
+pub mod Prefixes

@@ -12,43 +12,43 @@ use Rattle.relax_edges.specs.declared.relax_error.RelaxKind.{RelaxKind}
 use Rattle.relax_edges.specs.declared.relax_error.RelaxKind.TheVariants.{TooManyRelaxes}
 use Rattle.relax_edges.specs.EdgeTable.{joins_to}
 use Rattle.relax_edges.specs.Relaxations.{joins_on, is_path, choices, is_same, keep, keep_all, at_most_64}
-use Rattle.relax_edges.specs.RelaxSearch.{paths_behind}
+use Rattle.relax_edges.specs.RelaxSearch.{paths_after}
 
 abbrev Answer : Type 0
 Answer = Result (List (List Edge)) RelaxKind
 
 -- to go on with an edge and then others is to go on after one edge more
-moved : (front : List Edge) (edge : Edge) (paths : List (List Edge))
-    → map (λ path. front ++ path) (map (λ path. edge ∷ path) paths) ≡ map (λ path. (front ++ edge ∷ []) ++ path) paths
-moved front edge [] = refl
-moved front edge (path ∷ paths) = cc (append_assoc front (edge ∷ []) path, moved front edge paths)
+moved : (prefix : List Edge) (edge : Edge) (paths : List (List Edge))
+    → map (λ path. prefix ++ path) (map (λ path. edge ∷ path) paths) ≡ map (λ path. (prefix ++ edge ∷ []) ++ path) paths
+moved prefix edge [] = refl
+moved prefix edge (path ∷ paths) = cc (append_assoc prefix (edge ∷ []) path, moved prefix edge paths)
 
 -- the paths that begin with some edges, by the next edge
-pub paths_behind-cons : (front : List Edge) (edges : List Edge) (lists : List (List Edge))
-    → paths_behind front (edges ∷ lists) ≡ flat_map (λ edge. paths_behind (front ++ edge ∷ []) lists) edges
-unfolding paths_behind
-paths_behind-cons front [] lists = refl
-paths_behind-cons front (edge ∷ edges) lists =
+pub paths_after-cons : (prefix : List Edge) (edges : List Edge) (lists : List (List Edge))
+    → paths_after prefix (edges ∷ lists) ≡ flat_map (λ edge. paths_after (prefix ++ edge ∷ []) lists) edges
+unfolding paths_after
+paths_after-cons prefix [] lists = refl
+paths_after-cons prefix (edge ∷ edges) lists =
     rw (
-      map-append (λ path. front ++ path) (map (λ path. edge ∷ path) (choices lists)) (choices (edges ∷ lists)),
-      filter-append is_path (map (λ path. front ++ path) (map (λ path. edge ∷ path) (choices lists))) (map (λ path. front ++ path) (choices (edges ∷ lists))),
-      moved front edge (choices lists),
+      map-append (λ path. prefix ++ path) (map (λ path. edge ∷ path) (choices lists)) (choices (edges ∷ lists)),
+      filter-append is_path (map (λ path. prefix ++ path) (map (λ path. edge ∷ path) (choices lists))) (map (λ path. prefix ++ path) (choices (edges ∷ lists))),
+      moved prefix edge (choices lists),
     )
-    (ap (λ paths. filter is_path (map (λ path. (front ++ edge ∷ []) ++ path) (choices lists)) ++ paths) (paths_behind-cons front edges lists))
+    (ap (λ paths. filter is_path (map (λ path. (prefix ++ edge ∷ []) ++ path) (choices lists)) ++ paths) (paths_after-cons prefix edges lists))
 
 -- the paths that begin with no edge are all paths
-pub paths_behind-nil : (lists : List (List Edge)) → paths_behind [] lists ≡ filter is_path (choices lists)
-unfolding paths_behind
-paths_behind-nil lists = ap (filter is_path) (unmoved (choices lists))
+pub paths_after-nil : (lists : List (List Edge)) → paths_after [] lists ≡ filter is_path (choices lists)
+unfolding paths_after
+paths_after-nil lists = ap (filter is_path) (unmoved (choices lists))
   where
     unmoved : (paths : List (List Edge)) → map (λ path. [] ++ path) paths ≡ paths
     unmoved [] = refl
     unmoved (path ∷ paths) = ap (λ ps. path ∷ ps) (unmoved paths)
 
 -- a path with no list to go on with is the only one
-pub paths_behind-end : (front : List Edge) → is_path front ≡ true → paths_behind front [] ≡ front ∷ []
-unfolding paths_behind
-paths_behind-end front path = rw (append-nil front, path) refl
+pub paths_after-end : (prefix : List Edge) → is_path prefix ≡ true → paths_after prefix [] ≡ prefix ∷ []
+unfolding paths_after
+paths_after-end prefix path = rw (append-nil prefix, path) refl
 
 -- edges that begin with no path are no path
 joins_on-false : (edge : Edge) (behind more : List Edge) → joins_on edge behind ≡ false → joins_on edge (behind ++ more) ≡ false
@@ -57,28 +57,28 @@ joins_on-false edge (next ∷ behind) more f =
     by_test (joins_to edge next) (λ t. rw t (joins_on-false next behind more (rw t at f))) (λ n. rw n refl)
 
 -- no path begins with edges that are no path
-pub paths_behind-none : (front : List Edge) (lists : List (List Edge)) → is_path front ≡ false → paths_behind front lists ≡ []
-unfolding paths_behind
-paths_behind-none front lists none = all_fail (choices lists)
+pub paths_after-none : (prefix : List Edge) (lists : List (List Edge)) → is_path prefix ≡ false → paths_after prefix lists ≡ []
+unfolding paths_after
+paths_after-none prefix lists none = all_fail (choices lists)
   where
-    fails : (front path : List Edge) → is_path front ≡ false → is_path (front ++ path) ≡ false
+    fails : (prefix path : List Edge) → is_path prefix ≡ false → is_path (prefix ++ path) ≡ false
     fails [] path f = cc
     fails (edge ∷ behind) path f = joins_on-false edge behind path f
 
-    all_fail : (paths : List (List Edge)) → filter is_path (map (λ path. front ++ path) paths) ≡ []
+    all_fail : (paths : List (List Edge)) → filter is_path (map (λ path. prefix ++ path) paths) ≡ []
     all_fail [] = refl
-    all_fail (path ∷ paths) = rw (fails front path none) (all_fail paths)
+    all_fail (path ∷ paths) = rw (fails prefix path none) (all_fail paths)
 
-joins_on-end : (first : Edge) (front : List Edge) (last edge : Edge) → joins_on first (front ++ last ∷ []) ≡ true
-    → joins_on first ((front ++ last ∷ []) ++ edge ∷ []) ≡ joins_to last edge
+joins_on-end : (first : Edge) (prefix : List Edge) (last edge : Edge) → joins_on first (prefix ++ last ∷ []) ≡ true
+    → joins_on first ((prefix ++ last ∷ []) ++ edge ∷ []) ≡ joins_to last edge
 joins_on-end first [] last edge path = by_test (joins_to first last) (λ t. rw t (and-true (joins_to last edge))) (λ f. absurd (false≢true (rw f at path)))
-joins_on-end first (next ∷ front) last edge path =
-    by_test (joins_to first next) (λ t. rw t (joins_on-end next front last edge (rw t at path))) (λ f. absurd (false≢true (rw f at path)))
+joins_on-end first (next ∷ prefix) last edge path =
+    by_test (joins_to first next) (λ t. rw t (joins_on-end next prefix last edge (rw t at path))) (λ f. absurd (false≢true (rw f at path)))
 
 -- a path goes on with an edge that its last edge joins
-pub is_path-end : (front : List Edge) (last edge : Edge) → is_path (front ++ last ∷ []) ≡ true → is_path ((front ++ last ∷ []) ++ edge ∷ []) ≡ joins_to last edge
+pub is_path-end : (prefix : List Edge) (last edge : Edge) → is_path (prefix ++ last ∷ []) ≡ true → is_path ((prefix ++ last ∷ []) ++ edge ∷ []) ≡ joins_to last edge
 is_path-end [] last edge path = and-true (joins_to last edge)
-is_path-end (first ∷ front) last edge path = joins_on-end first front last edge path
+is_path-end (first ∷ prefix) last edge path = joins_on-end first prefix last edge path
 
 -- keeping one after another
 pub keep_all-append : (kept paths more : List (List Edge)) → keep_all kept (paths ++ more) ≡ keep_all (keep_all kept paths) more

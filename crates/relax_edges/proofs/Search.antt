@@ -10,13 +10,13 @@ use Rattle.relax_edges.specs.declared.relax_error.RelaxKind.{RelaxKind}
 use Rattle.relax_edges.specs.EdgeTable.{joins_to}
 use Rattle.relax_edges.specs.RelaxText.{is_empty}
 use Rattle.relax_edges.specs.Relaxations.{word_edges, is_path, keep, keep_all, at_most_64}
-use Rattle.relax_edges.specs.RelaxSearch.{paths_behind, paths_by, KeepsPaths}
-use Rattle.relax_edges.proofs.Paths.{is_path-end, paths_behind-cons, paths_behind-end, paths_behind-none, keep_all-append, at_most_64-ok, at_most_64-is, at_most_64-few, at_most_64-err}
+use Rattle.relax_edges.specs.RelaxSearch.{paths_after, paths_by, KeepsPaths}
+use Rattle.relax_edges.proofs.Paths.{is_path-end, paths_after-cons, paths_after-end, paths_after-none, keep_all-append, at_most_64-ok, at_most_64-is, at_most_64-few, at_most_64-err}
 
 -- the paths that begin with some edges, by the edges of the first list
-pub paths_behind_by : (front edges : List Edge) (lists : List (List Edge)) → paths_behind front (edges ∷ lists) ≡ paths_by front lists edges
+pub paths_after_by : (prefix edges : List Edge) (lists : List (List Edge)) → paths_after prefix (edges ∷ lists) ≡ paths_by prefix lists edges
 unfolding paths_by
-paths_behind_by front edges lists = paths_behind-cons front edges lists
+paths_after_by prefix edges lists = paths_after-cons prefix edges lists
 
 -- no path is kept where there is none
 pub keeps_none : (kept : List (List Edge)) → length kept ≤ 64 → KeepsPaths kept [] kept false
@@ -53,110 +53,110 @@ flat_map-parts f xs i d within =
     ∙ ap (λ ys. flat_map f (take i xs) ++ flat_map f ys) (drop-cons xs i d within)
 
 -- the paths by some edges and one more
-pub paths_by_end : (front : List Edge) (lists : List (List Edge)) (edges : List Edge) (i : ℕ) (d : Edge) → i < length edges
-    → paths_by front lists (take (i + 1) edges) ≡ paths_by front lists (take i edges) ++ paths_behind (front ++ get_or edges i d ∷ []) lists
+pub paths_by_end : (prefix : List Edge) (lists : List (List Edge)) (edges : List Edge) (i : ℕ) (d : Edge) → i < length edges
+    → paths_by prefix lists (take (i + 1) edges) ≡ paths_by prefix lists (take i edges) ++ paths_after (prefix ++ get_or edges i d ∷ []) lists
 unfolding paths_by
-paths_by_end front lists edges i d within =
+paths_by_end prefix lists edges i d within =
     let next : i + 1 ≡ suc i = omega arith in
-    rw (next, take-suc edges i d within) (flat_map-end (λ edge. paths_behind (front ++ edge ∷ []) lists) (take i edges) (get_or edges i d))
+    rw (next, take-suc edges i d within) (flat_map-end (λ edge. paths_after (prefix ++ edge ∷ []) lists) (take i edges) (get_or edges i d))
 
 -- the paths by some edges and one more are those by the first and those by that one
-pub paths_by_parts : (front : List Edge) (lists : List (List Edge)) (edges : List Edge) (i : ℕ) (d : Edge) → i < length edges
-    → paths_by front lists edges ≡ paths_by front lists (take i edges) ++ (paths_behind (front ++ get_or edges i d ∷ []) lists ++ paths_by front lists (drop (suc i) edges))
+pub paths_by_parts : (prefix : List Edge) (lists : List (List Edge)) (edges : List Edge) (i : ℕ) (d : Edge) → i < length edges
+    → paths_by prefix lists edges ≡ paths_by prefix lists (take i edges) ++ (paths_after (prefix ++ get_or edges i d ∷ []) lists ++ paths_by prefix lists (drop (suc i) edges))
 unfolding paths_by
-paths_by_parts front lists edges i d within = flat_map-parts (λ edge. paths_behind (front ++ edge ∷ []) lists) edges i d within
+paths_by_parts prefix lists edges i d within = flat_map-parts (λ edge. paths_after (prefix ++ edge ∷ []) lists) edges i d within
 
 -- before the first edge no path is kept
-pub keeps_first : (kept : List (List Edge)) (front : List Edge) (lists : List (List Edge)) (edges : List Edge) → length kept ≤ 64
-    → KeepsPaths kept (paths_by front lists (take 0 edges)) kept false
+pub keeps_first : (kept : List (List Edge)) (prefix : List Edge) (lists : List (List Edge)) (edges : List Edge) → length kept ≤ 64
+    → KeepsPaths kept (paths_by prefix lists (take 0 edges)) kept false
 unfolding paths_by
-keeps_first kept front lists edges few = keeps_none kept few
+keeps_first kept prefix lists edges few = keeps_none kept few
 
 -- the paths by the next edge are kept after those by the edges before it
-pub keeps_next : (old middle new : List (List Edge)) (some more : Bool) (front : List Edge) (lists : List (List Edge)) (edges : List Edge) (i : ℕ) (d : Edge)
-    → i < length edges → KeepsPaths old (paths_by front lists (take i edges)) middle some → KeepsPaths middle (paths_behind (front ++ get_or edges i d ∷ []) lists) new more
-    → KeepsPaths old (paths_by front lists (take (i + 1) edges)) new (some || more)
-keeps_next old middle new some more front lists edges i d within a b =
-    rw (paths_by_end front lists edges i d within) (keeps_more old (paths_by front lists (take i edges)) middle _ new some more a b)
+pub keeps_next : (old middle new : List (List Edge)) (some more : Bool) (prefix : List Edge) (lists : List (List Edge)) (edges : List Edge) (i : ℕ) (d : Edge)
+    → i < length edges → KeepsPaths old (paths_by prefix lists (take i edges)) middle some → KeepsPaths middle (paths_after (prefix ++ get_or edges i d ∷ []) lists) new more
+    → KeepsPaths old (paths_by prefix lists (take (i + 1) edges)) new (some || more)
+keeps_next old middle new some more prefix lists edges i d within a b =
+    rw (paths_by_end prefix lists edges i d within) (keeps_more old (paths_by prefix lists (take i edges)) middle _ new some more a b)
 
 -- where there is no room for the paths by the next edge, there is none for all
-pub refused_next : (old middle : List (List Edge)) (some : Bool) (kind : RelaxKind) (front : List Edge) (lists : List (List Edge)) (edges : List Edge) (i : ℕ) (d : Edge)
-    → i < length edges → KeepsPaths old (paths_by front lists (take i edges)) middle some
-    → at_most_64 (keep_all middle (paths_behind (front ++ get_or edges i d ∷ []) lists)) ≡ Err kind → at_most_64 (keep_all old (paths_by front lists edges)) ≡ Err kind
-refused_next old middle some kind front lists edges i d within a err =
-    rw (paths_by_parts front lists edges i d within)
-    (refused_more old (paths_by front lists (take i edges)) middle (paths_behind (front ++ get_or edges i d ∷ []) lists) (paths_by front lists (drop (suc i) edges)) some kind a err)
+pub refused_next : (old middle : List (List Edge)) (some : Bool) (kind : RelaxKind) (prefix : List Edge) (lists : List (List Edge)) (edges : List Edge) (i : ℕ) (d : Edge)
+    → i < length edges → KeepsPaths old (paths_by prefix lists (take i edges)) middle some
+    → at_most_64 (keep_all middle (paths_after (prefix ++ get_or edges i d ∷ []) lists)) ≡ Err kind → at_most_64 (keep_all old (paths_by prefix lists edges)) ≡ Err kind
+refused_next old middle some kind prefix lists edges i d within a err =
+    rw (paths_by_parts prefix lists edges i d within)
+    (refused_more old (paths_by prefix lists (take i edges)) middle (paths_after (prefix ++ get_or edges i d ∷ []) lists) (paths_by prefix lists (drop (suc i) edges)) some kind a err)
 
 -- after the last edge all paths are kept
-pub keeps_last : (old new : List (List Edge)) (some : Bool) (front : List Edge) (lists : List (List Edge)) (edges : List Edge) (n : ℕ)
-    → n ≡ length edges → KeepsPaths old (paths_by front lists (take n edges)) new some → KeepsPaths old (paths_behind front (edges ∷ lists)) new some
-keeps_last old new some front lists edges n all kept =
+pub keeps_last : (old new : List (List Edge)) (some : Bool) (prefix : List Edge) (lists : List (List Edge)) (edges : List Edge) (n : ℕ)
+    → n ≡ length edges → KeepsPaths old (paths_by prefix lists (take n edges)) new some → KeepsPaths old (paths_after prefix (edges ∷ lists)) new some
+keeps_last old new some prefix lists edges n all kept =
     let whole : take n edges ≡ edges = ap (λ k. take k edges) all ∙ take-length edges in
-    rw (paths_behind_by front edges lists) (subst (λ es. KeepsPaths old (paths_by front lists es) new some) whole kept)
+    rw (paths_after_by prefix edges lists) (subst (λ es. KeepsPaths old (paths_by prefix lists es) new some) whole kept)
 
 -- a path that goes on no further is kept
-pub keeps_end : (old new : List (List Edge)) (front : List Edge) → is_path front ≡ true → at_most_64 (keep_all old (front ∷ [])) ≡ Ok new
-    → KeepsPaths old (paths_behind front []) new true
-keeps_end old new front path kept = rw (paths_behind-end front path) (record { kept = kept; found = refl })
+pub keeps_end : (old new : List (List Edge)) (prefix : List Edge) → is_path prefix ≡ true → at_most_64 (keep_all old (prefix ∷ [])) ≡ Ok new
+    → KeepsPaths old (paths_after prefix []) new true
+keeps_end old new prefix path kept = rw (paths_after-end prefix path) (record { kept = kept; found = refl })
 
 -- where there is no room for it, a path that goes on no further is refused
-pub refused_end : (old : List (List Edge)) (kind : RelaxKind) (front : List Edge) → is_path front ≡ true → at_most_64 (keep_all old (front ∷ [])) ≡ Err kind
-    → at_most_64 (keep_all old (paths_behind front [])) ≡ Err kind
-refused_end old kind front path err = rw (paths_behind-end front path) err
+pub refused_end : (old : List (List Edge)) (kind : RelaxKind) (prefix : List Edge) → is_path prefix ≡ true → at_most_64 (keep_all old (prefix ∷ [])) ≡ Err kind
+    → at_most_64 (keep_all old (paths_after prefix [])) ≡ Err kind
+refused_end old kind prefix path err = rw (paths_after-end prefix path) err
 
 -- from edges that don't join no path is kept
-pub keeps_no_path : (kept : List (List Edge)) (front : List Edge) (lists : List (List Edge)) → length kept ≤ 64 → is_path front ≡ false
-    → KeepsPaths kept (paths_behind front lists) kept false
-keeps_no_path kept front lists few none = rw (paths_behind-none front lists none) (keeps_none kept few)
+pub keeps_no_path : (kept : List (List Edge)) (prefix : List Edge) (lists : List (List Edge)) → length kept ≤ 64 → is_path prefix ≡ false
+    → KeepsPaths kept (paths_after prefix lists) kept false
+keeps_no_path kept prefix lists few none = rw (paths_after-none prefix lists none) (keeps_none kept few)
 
 -- what is kept has room
 pub kept_few : (old paths new : List (List Edge)) (some : Bool) → KeepsPaths old paths new some → length new ≤ 64
 kept_few old paths new some a = at_most_64-few (keep_all old paths) new a.kept
 
 -- a path goes on with an edge, by its last edge
-pub path_extended : (front : List Edge) (edge d : Edge) → 1 ≤ length front → is_path front ≡ true
-    → is_path (front ++ edge ∷ []) ≡ joins_to (get_or front (length front - 1) d) edge
-path_extended front edge d some path =
-    let n : ℕ = length front - 1 in
-    let more : suc n ≡ length front = omega arith in
-    let within : n < length front = omega arith in
-    let parts : front ≡ take n front ++ get_or front n d ∷ [] = sym (take-length front) ∙ ap (λ k. take k front) (sym more) ∙ take-suc front n d within in
-    subst (λ f. is_path (f ++ edge ∷ []) ≡ joins_to (get_or front n d) edge) (sym parts)
-    (is_path-end (take n front) (get_or front n d) edge (subst (λ f. is_path f ≡ true) parts path))
+pub path_extended : (prefix : List Edge) (edge d : Edge) → 1 ≤ length prefix → is_path prefix ≡ true
+    → is_path (prefix ++ edge ∷ []) ≡ joins_to (get_or prefix (length prefix - 1) d) edge
+path_extended prefix edge d some path =
+    let n : ℕ = length prefix - 1 in
+    let more : suc n ≡ length prefix = omega arith in
+    let within : n < length prefix = omega arith in
+    let parts : prefix ≡ take n prefix ++ get_or prefix n d ∷ [] = sym (take-length prefix) ∙ ap (λ k. take k prefix) (sym more) ∙ take-suc prefix n d within in
+    subst (λ f. is_path (f ++ edge ∷ []) ≡ joins_to (get_or prefix n d) edge) (sym parts)
+    (is_path-end (take n prefix) (get_or prefix n d) edge (subst (λ f. is_path f ≡ true) parts path))
 
 -- the same laws, by the words of a text
 -- where no word is left, the path is kept
-pub keeps_no_word : (old new : List (List Edge)) (front shown : List Edge) (words : List (List ℕ)) → words ≡ [] → shown ≡ front → is_path front ≡ true
-    → at_most_64 (keep old shown) ≡ Ok new → KeepsPaths old (paths_behind front (map word_edges words)) new true
-keeps_no_word old new front shown words none same path kept = rw none (keeps_end old new front path (rw (← same) kept))
+pub keeps_no_word : (old new : List (List Edge)) (prefix shown : List Edge) (words : List (List ℕ)) → words ≡ [] → shown ≡ prefix → is_path prefix ≡ true
+    → at_most_64 (keep old shown) ≡ Ok new → KeepsPaths old (paths_after prefix (map word_edges words)) new true
+keeps_no_word old new prefix shown words none same path kept = rw none (keeps_end old new prefix path (rw (← same) kept))
 
 -- where no word is left and there is no room for the path, it is refused
-pub refused_no_word : (old : List (List Edge)) (kind : RelaxKind) (front shown : List Edge) (words : List (List ℕ)) → words ≡ [] → shown ≡ front → is_path front ≡ true
-    → at_most_64 (keep old shown) ≡ Err kind → at_most_64 (keep_all old (paths_behind front (map word_edges words))) ≡ Err kind
-refused_no_word old kind front shown words none same path err = rw none (refused_end old kind front path (rw (← same) err))
+pub refused_no_word : (old : List (List Edge)) (kind : RelaxKind) (prefix shown : List Edge) (words : List (List ℕ)) → words ≡ [] → shown ≡ prefix → is_path prefix ≡ true
+    → at_most_64 (keep old shown) ≡ Err kind → at_most_64 (keep_all old (paths_after prefix (map word_edges words))) ≡ Err kind
+refused_no_word old kind prefix shown words none same path err = rw none (refused_end old kind prefix path (rw (← same) err))
 
 -- the paths by the next edge of a word are kept after those by the edges before it
-pub keeps_word_next : (old middle new : List (List Edge)) (some more : Bool) (front chosen : List Edge) (lists : List (List Edge)) (edges : List Edge) (i : ℕ) (d : Edge)
-    → chosen ≡ front → i < length edges → KeepsPaths old (paths_by front lists (take i edges)) middle some
-    → KeepsPaths middle (paths_behind (chosen ++ get_or edges i d ∷ []) lists) new more
-    → KeepsPaths old (paths_by front lists (take (i + 1) edges)) new (some || more)
-keeps_word_next old middle new some more front chosen lists edges i d same within a b =
-    keeps_next old middle new some more front lists edges i d within a (subst (λ f. KeepsPaths middle (paths_behind (f ++ get_or edges i d ∷ []) lists) new more) same b)
+pub keeps_word_next : (old middle new : List (List Edge)) (some more : Bool) (prefix chosen : List Edge) (lists : List (List Edge)) (edges : List Edge) (i : ℕ) (d : Edge)
+    → chosen ≡ prefix → i < length edges → KeepsPaths old (paths_by prefix lists (take i edges)) middle some
+    → KeepsPaths middle (paths_after (chosen ++ get_or edges i d ∷ []) lists) new more
+    → KeepsPaths old (paths_by prefix lists (take (i + 1) edges)) new (some || more)
+keeps_word_next old middle new some more prefix chosen lists edges i d same within a b =
+    keeps_next old middle new some more prefix lists edges i d within a (subst (λ f. KeepsPaths middle (paths_after (f ++ get_or edges i d ∷ []) lists) new more) same b)
 
 -- after the last edge of a word all its paths are kept
-pub keeps_word : (old new : List (List Edge)) (some : Bool) (front edges : List Edge) (word : List ℕ) (words behind : List (List ℕ)) (n : ℕ)
-    → words ≡ word ∷ behind → edges ≡ word_edges word → n ≡ length edges → KeepsPaths old (paths_by front (map word_edges behind) (take n edges)) new some
-    → KeepsPaths old (paths_behind front (map word_edges words)) new some
-keeps_word old new some front edges word words behind n cut of_word all a =
-    rw (cut, ← of_word) (keeps_last old new some front (map word_edges behind) edges n all a)
+pub keeps_word : (old new : List (List Edge)) (some : Bool) (prefix edges : List Edge) (word : List ℕ) (words behind : List (List ℕ)) (n : ℕ)
+    → words ≡ word ∷ behind → edges ≡ word_edges word → n ≡ length edges → KeepsPaths old (paths_by prefix (map word_edges behind) (take n edges)) new some
+    → KeepsPaths old (paths_after prefix (map word_edges words)) new some
+keeps_word old new some prefix edges word words behind n cut of_word all a =
+    rw (cut, ← of_word) (keeps_last old new some prefix (map word_edges behind) edges n all a)
 
 -- where there is no room for the paths by an edge of a word, there is none for all
-pub refused_word : (old middle : List (List Edge)) (some : Bool) (kind : RelaxKind) (front chosen edges : List Edge) (word : List ℕ) (words behind : List (List ℕ)) (i : ℕ) (d : Edge)
-    → words ≡ word ∷ behind → edges ≡ word_edges word → chosen ≡ front → i < length edges
-    → KeepsPaths old (paths_by front (map word_edges behind) (take i edges)) middle some
-    → at_most_64 (keep_all middle (paths_behind (chosen ++ get_or edges i d ∷ []) (map word_edges behind))) ≡ Err kind
-    → at_most_64 (keep_all old (paths_behind front (map word_edges words))) ≡ Err kind
-refused_word old middle some kind front chosen edges word words behind i d cut of_word same within a err =
-    rw (cut, ← of_word, paths_behind_by front edges (map word_edges behind))
-    (refused_next old middle some kind front (map word_edges behind) edges i d within a
-    (subst (λ f. at_most_64 (keep_all middle (paths_behind (f ++ get_or edges i d ∷ []) (map word_edges behind))) ≡ Err kind) same err))
+pub refused_word : (old middle : List (List Edge)) (some : Bool) (kind : RelaxKind) (prefix chosen edges : List Edge) (word : List ℕ) (words behind : List (List ℕ)) (i : ℕ) (d : Edge)
+    → words ≡ word ∷ behind → edges ≡ word_edges word → chosen ≡ prefix → i < length edges
+    → KeepsPaths old (paths_by prefix (map word_edges behind) (take i edges)) middle some
+    → at_most_64 (keep_all middle (paths_after (chosen ++ get_or edges i d ∷ []) (map word_edges behind))) ≡ Err kind
+    → at_most_64 (keep_all old (paths_after prefix (map word_edges words))) ≡ Err kind
+refused_word old middle some kind prefix chosen edges word words behind i d cut of_word same within a err =
+    rw (cut, ← of_word, paths_after_by prefix edges (map word_edges behind))
+    (refused_next old middle some kind prefix (map word_edges behind) edges i d within a
+    (subst (λ f. at_most_64 (keep_all middle (paths_after (f ++ get_or edges i d ∷ []) (map word_edges behind))) ≡ Err kind) same err))

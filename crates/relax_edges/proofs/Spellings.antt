@@ -166,20 +166,20 @@ unmarked_read (Some kind) edge text w found =
     let e : unmarked kind ≡ edge = cc in
     subst (λ x. is_spelling x text ≡ true) e (unmarked_spelled kind text (kind_sound text kind w))
 
-marked_read : (before : Option Kind) (from to : Mark) (edge : Edge) (front : List ℕ) → kind_read front ≡ before → spelled_by before from to ≡ Some edge
-    → is_spelling edge (front ++ (mark_word from ++ mark_word to)) ≡ true
-marked_read None from to edge front b found = cc
-marked_read (Some kind) from to edge front b found = marked_spelled kind from to edge front (kind_sound front kind b) found
+marked_read : (before : Option Kind) (from to : Mark) (edge : Edge) (prefix : List ℕ) → kind_read prefix ≡ before → spelled_by before from to ≡ Some edge
+    → is_spelling edge (prefix ++ (mark_word from ++ mark_word to)) ≡ true
+marked_read None from to edge prefix b found = cc
+marked_read (Some kind) from to edge prefix b found = marked_spelled kind from to edge prefix (kind_sound prefix kind b) found
 
-by_marks_sound : (front : List ℕ) (f t : ℕ) (from to : Option Mark) (edge : Edge) → mark_named (f ∷ []) ≡ from → mark_named (t ∷ []) ≡ to
-    → read_by_marks from to (kind_read front) (kind_read (front ++ f ∷ t ∷ [])) ≡ Some edge → is_spelling edge (front ++ f ∷ t ∷ []) ≡ true
-by_marks_sound front f t (Some from) (Some to) edge p q found =
+by_marks_sound : (prefix : List ℕ) (f t : ℕ) (from to : Option Mark) (edge : Edge) → mark_named (f ∷ []) ≡ from → mark_named (t ∷ []) ≡ to
+    → read_by_marks from to (kind_read prefix) (kind_read (prefix ++ f ∷ t ∷ [])) ≡ Some edge → is_spelling edge (prefix ++ f ∷ t ∷ []) ≡ true
+by_marks_sound prefix f t (Some from) (Some to) edge p q found =
     let a : f ∷ [] ≡ mark_word from = mark_is (f ∷ []) from p in
     let b : t ∷ [] ≡ mark_word to = mark_is (t ∷ []) to q in
     let letters : f ∷ t ∷ [] ≡ mark_word from ++ mark_word to = ap (λ x. x ++ t ∷ []) a ∙ ap (λ x. mark_word from ++ x) b in
-    rw letters (marked_read (kind_read front) from to edge front refl found)
-by_marks_sound front f t None to edge p q found = unmarked_read (kind_read (front ++ f ∷ t ∷ [])) edge (front ++ f ∷ t ∷ []) refl found
-by_marks_sound front f t (Some from) None edge p q found = unmarked_read (kind_read (front ++ f ∷ t ∷ [])) edge (front ++ f ∷ t ∷ []) refl found
+    rw letters (marked_read (kind_read prefix) from to edge prefix refl found)
+by_marks_sound prefix f t None to edge p q found = unmarked_read (kind_read (prefix ++ f ∷ t ∷ [])) edge (prefix ++ f ∷ t ∷ []) refl found
+by_marks_sound prefix f t (Some from) None edge p q found = unmarked_read (kind_read (prefix ++ f ∷ t ∷ [])) edge (prefix ++ f ∷ t ∷ []) refl found
 
 two_reversed : (t f : ℕ) (back : List ℕ) → reverse (t ∷ f ∷ back) ≡ reverse back ++ f ∷ t ∷ []
 two_reversed t f back = reverse_onto back f (t ∷ [])
@@ -236,17 +236,17 @@ pub read_is_edge_of : (text : List ℕ) → read_of text ≡ edge_of text
 read_is_edge_of text = read_is text (read_of text) (edge_of text) refl refl
 
 -- a text with these last two bytes is read by its end
-pub ending_is_edge_of : (front : List ℕ) (before last : ℕ)
-    → edge_of (front ++ before ∷ last ∷ [])
-    ≡ read_by_marks (mark_named (before ∷ [])) (mark_named (last ∷ [])) (kind_read front) (kind_read (front ++ before ∷ last ∷ []))
+pub ending_is_edge_of : (prefix : List ℕ) (before last : ℕ)
+    → edge_of (prefix ++ before ∷ last ∷ [])
+    ≡ read_by_marks (mark_named (before ∷ [])) (mark_named (last ∷ [])) (kind_read prefix) (kind_read (prefix ++ before ∷ last ∷ []))
 unfolding read_of
-ending_is_edge_of front before last =
-    let text = front ++ before ∷ last ∷ [] in
+ending_is_edge_of prefix before last =
+    let text = prefix ++ before ∷ last ∷ [] in
     let P : List ℕ → List ℕ → Option Edge = λ back whole. read_by_marks (mark_named (before ∷ [])) (mark_named (last ∷ [])) (kind_read back) (kind_read whole) in
-    let r : reverse text ≡ last ∷ before ∷ reverse front = reverse-append front (before ∷ last ∷ []) in
+    let r : reverse text ≡ last ∷ before ∷ reverse prefix = reverse-append prefix (before ∷ last ∷ []) in
     sym (read_is_edge_of text) ∙ ap read_back r
-    ∙ ap (λ back. P back (reverse (last ∷ before ∷ reverse front))) (reverse-reverse front)
-    ∙ ap (λ whole. P front whole) (ap reverse (sym r) ∙ reverse-reverse text)
+    ∙ ap (λ back. P back (reverse (last ∷ before ∷ reverse prefix))) (reverse-reverse prefix)
+    ∙ ap (λ whole. P prefix whole) (ap reverse (sym r) ∙ reverse-reverse text)
 
 -- a text of fewer than two bytes spells no edge
 pub edge_of_short : (text : List ℕ) → length text < 2 → edge_of text ≡ None

@@ -18,7 +18,7 @@ use Rattle.relax_edges.proofs.Spellings.{edge_of_short}
 
 -- the words with a given beginning, by their last two bytes
 abbrev ends : List ℕ → ℕ → ℕ → List (List ℕ)
-ends front before last = flat_map (λ a. map (λ b. front ++ a ∷ b ∷ []) (star_choices last)) (star_choices before)
+ends prefix before last = flat_map (λ a. map (λ b. prefix ++ a ∷ b ∷ []) (star_choices last)) (star_choices before)
 
 -- a byte before the last two has itself as its one choice
 plain_choice : (byte behind : ℕ) → 2 ≤ behind → byte_choices byte behind ≡ byte ∷ []
@@ -53,26 +53,26 @@ one_byte [] = refl
 one_byte (byte ∷ bytes) = ap (λ words. (byte ∷ []) ∷ words) (one_byte bytes)
 
 -- the words that a word expands to are the choices of its last two bytes, after the bytes before them
-expansions-end : (front : List ℕ) (before last : ℕ) → expansions (front ++ before ∷ last ∷ []) ≡ ends front before last
+expansions-end : (prefix : List ℕ) (before last : ℕ) → expansions (prefix ++ before ∷ last ∷ []) ≡ ends prefix before last
 expansions-end [] before last =
     rw (near_choice before, near_choice last, one_byte (star_choices last))
     (flat_map-same _ _ (star_choices before) (λ a. map-map (λ word. a ∷ word) (λ c. c ∷ []) (star_choices last)))
-expansions-end (byte ∷ front) before last =
+expansions-end (byte ∷ prefix) before last =
     rw (
-      plain_choice byte (length (front ++ before ∷ last ∷ [])) (omega (arith, length-append front (before ∷ last ∷ []))),
-      expansions-end front before last,
-      append-nil (map (λ word. byte ∷ word) (ends front before last)),
+      plain_choice byte (length (prefix ++ before ∷ last ∷ [])) (omega (arith, length-append prefix (before ∷ last ∷ []))),
+      expansions-end prefix before last,
+      append-nil (map (λ word. byte ∷ word) (ends prefix before last)),
     )
-    (map-flat_map (λ word. byte ∷ word) (λ a. map (λ b. front ++ a ∷ b ∷ []) (star_choices last)) (star_choices before)
-    ∙ flat_map-same _ _ (star_choices before) (λ a. map-map (λ word. byte ∷ word) (λ b. front ++ a ∷ b ∷ []) (star_choices last)))
+    (map-flat_map (λ word. byte ∷ word) (λ a. map (λ b. prefix ++ a ∷ b ∷ []) (star_choices last)) (star_choices before)
+    ∙ flat_map-same _ _ (star_choices before) (λ a. map-map (λ word. byte ∷ word) (λ b. prefix ++ a ∷ b ∷ []) (star_choices last)))
 
 -- a word names the edges that its last two bytes choose
-pub word_edges_end : (front : List ℕ) (before last : ℕ) → word_edges (front ++ before ∷ last ∷ []) ≡ edges_by_end front before last
+pub word_edges_end : (prefix : List ℕ) (before last : ℕ) → word_edges (prefix ++ before ∷ last ∷ []) ≡ edges_by_end prefix before last
 unfolding word_edges edges_by_last edges_by_end
-word_edges_end front before last =
-    ap (filter_map edge_of) (expansions-end front before last)
-    ∙ filter_map-flat_map edge_of (λ a. map (λ b. front ++ a ∷ b ∷ []) (star_choices last)) (star_choices before)
-    ∙ flat_map-same _ _ (star_choices before) (λ a. filter_map-map edge_of (λ b. front ++ a ∷ b ∷ []) (star_choices last))
+word_edges_end prefix before last =
+    ap (filter_map edge_of) (expansions-end prefix before last)
+    ∙ filter_map-flat_map edge_of (λ a. map (λ b. prefix ++ a ∷ b ∷ []) (star_choices last)) (star_choices before)
+    ∙ flat_map-same _ _ (star_choices before) (λ a. filter_map-map edge_of (λ b. prefix ++ a ∷ b ∷ []) (star_choices last))
 
 -- a text of fewer than two bytes names no edge
 none_read : (bytes : List ℕ) → filter_map edge_of (map (λ c. c ∷ []) bytes) ≡ []
@@ -95,20 +95,20 @@ length-filter_map f (x ∷ xs) = added (f x) (filter_map f xs) xs (length-filter
     added (Some y) ys xs h = omega arith
 
 -- a byte has at most two choices
-pub edges_by_last_few : (front : List ℕ) (before last : ℕ) → length (edges_by_last front before last) ≤ 2
+pub edges_by_last_few : (prefix : List ℕ) (before last : ℕ) → length (edges_by_last prefix before last) ≤ 2
 unfolding edges_by_last
-edges_by_last_few front before last =
-    omega (arith, length-filter_map (λ choice. edge_of (front ++ before ∷ choice ∷ [])) (star_choices last), two (last == 42) last)
+edges_by_last_few prefix before last =
+    omega (arith, length-filter_map (λ choice. edge_of (prefix ++ before ∷ choice ∷ [])) (star_choices last), two (last == 42) last)
   where
     two : (b : Bool) (last : ℕ) → length (cond b (codes "RW") (last ∷ [])) ≤ 2
     two true last = omega arith
     two false last = omega arith
 
 -- where the last byte is a star, the word is read twice, with `R` and with `W` in its place
-pub pushed_twice : (front : List ℕ) (before last : ℕ) → last ≡ 42
-    → edges_by_last front before last ≡ option_to_list (edge_of (front ++ before ∷ 82 ∷ [])) ++ option_to_list (edge_of (front ++ before ∷ 87 ∷ []))
+pub pushed_twice : (prefix : List ℕ) (before last : ℕ) → last ≡ 42
+    → edges_by_last prefix before last ≡ option_to_list (edge_of (prefix ++ before ∷ 82 ∷ [])) ++ option_to_list (edge_of (prefix ++ before ∷ 87 ∷ []))
 unfolding edges_by_last
-pushed_twice front before last star = rw star (both (edge_of (front ++ before ∷ 82 ∷ [])) (edge_of (front ++ before ∷ 87 ∷ [])))
+pushed_twice prefix before last star = rw star (both (edge_of (prefix ++ before ∷ 82 ∷ [])) (edge_of (prefix ++ before ∷ 87 ∷ [])))
   where
     both : (a b : Option Edge) → cons_option a (cons_option b []) ≡ option_to_list a ++ option_to_list b
     both None None = refl
@@ -117,9 +117,9 @@ pushed_twice front before last star = rw star (both (edge_of (front ++ before �
     both (Some x) (Some y) = refl
 
 -- where the last byte is no star, the one choice of it is read once
-pub pushed_once : (front : List ℕ) (before last : ℕ) → (last ≡ 42 → ⊥) → edges_by_last front before last ≡ option_to_list (edge_of (front ++ before ∷ last ∷ []))
+pub pushed_once : (prefix : List ℕ) (before last : ℕ) → (last ≡ 42 → ⊥) → edges_by_last prefix before last ≡ option_to_list (edge_of (prefix ++ before ∷ last ∷ []))
 unfolding edges_by_last
-pushed_once front before last plain = rw (no_star last plain) (one (edge_of (front ++ before ∷ last ∷ [])))
+pushed_once prefix before last plain = rw (no_star last plain) (one (edge_of (prefix ++ before ∷ last ∷ [])))
   where
     one : (a : Option Edge) → cons_option a [] ≡ option_to_list a
     one None = refl

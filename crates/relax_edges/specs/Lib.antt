@@ -9,5 +9,5 @@ pub mod Architectures
 pub mod RelaxText
 pub mod Relaxations
 pub mod RelaxSearch
-pub mod RelaxFront
+pub mod RelaxPrefix
 pub mod Stars

@@ -111,8 +111,8 @@ two_sided _ _ _ _ _ = None
 
 -- the kind that a text spells whose last three bytes name a place and two directions
 unfoldable pub two_sided_of : List ℕ → ℕ → ℕ → ℕ → Option Kind
-two_sided_of front sd from to =
-    two_sided (sd_named (sd ∷ [])) (dir_named (from ∷ [])) (dir_named (to ∷ [])) (bytes_eq front (codes "Po")) (fence_named front)
+two_sided_of prefix sd from to =
+    two_sided (sd_named (sd ∷ [])) (dir_named (from ∷ [])) (dir_named (to ∷ [])) (bytes_eq prefix (codes "Po")) (fence_named prefix)
 
 -- the kind of a place, a direction, and data or else another dependency
 abbrev pub one_sided : Option Sd → Option Dir → Bool → Option DepKind → Option Kind
@@ -122,7 +122,7 @@ one_sided _ _ _ _ = None
 
 -- the kind that a text spells whose last two bytes name a place and a direction
 unfoldable pub one_sided_of : List ℕ → ℕ → ℕ → Option Kind
-one_sided_of front sd to = one_sided (sd_named (sd ∷ [])) (dir_named (to ∷ [])) (bytes_eq front (codes "DpData")) (dependency_named front)
+one_sided_of prefix sd to = one_sided (sd_named (sd ∷ [])) (dir_named (to ∷ [])) (bytes_eq prefix (codes "DpData")) (dependency_named prefix)
 
 -- a text of three bytes is read as a communication
 abbrev pub read_as_communication : List ℕ → Option Kind
@@ -131,12 +131,12 @@ read_as_communication _ = None
 
 -- a text is read backwards: its last three bytes, and the text before them
 abbrev pub read_back_two_sided : List ℕ → Option Kind
-read_back_two_sided (to ∷ from ∷ sd ∷ front) = two_sided_of (reverse front) sd from to
+read_back_two_sided (to ∷ from ∷ sd ∷ prefix) = two_sided_of (reverse prefix) sd from to
 read_back_two_sided _ = None
 
 -- a text is read backwards: its last two bytes, and the text before them
 abbrev pub read_back_one_sided : List ℕ → Option Kind
-read_back_one_sided (to ∷ sd ∷ front) = one_sided_of (reverse front) sd to
+read_back_one_sided (to ∷ sd ∷ prefix) = one_sided_of (reverse prefix) sd to
 read_back_one_sided _ = None
 
 -- the edge without marks that a text is read as

@@ -6,12 +6,12 @@ use Rattle.relax_edges.specs.RelaxText.{is_empty}
 use Rattle.relax_edges.specs.Relaxations.{choices, is_path, keep_all, at_most_64}
 
 -- the paths that begin with some edges and go on with one edge of each list
-unfoldable pub paths_behind : List Edge → List (List Edge) → List (List Edge)
-paths_behind front lists = filter is_path (map (λ path. front ++ path) (choices lists))
+unfoldable pub paths_after : List Edge → List (List Edge) → List (List Edge)
+paths_after prefix lists = filter is_path (map (λ path. prefix ++ path) (choices lists))
 
 -- the paths that begin with some edges, then one of a few edges, and go on with one edge of each list
 unfoldable pub paths_by : List Edge → List (List Edge) → List Edge → List (List Edge)
-paths_by front lists edges = flat_map (λ edge. paths_behind (front ++ edge ∷ []) lists) edges
+paths_by prefix lists edges = flat_map (λ edge. paths_after (prefix ++ edge ∷ []) lists) edges
 
 -- some paths are kept, and there is room for them; and whether there is one
 pub record KeepsPaths (old paths new : List (List Edge)) (some : Bool) : Type 0 where

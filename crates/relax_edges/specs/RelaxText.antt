@@ -56,15 +56,15 @@ abbrev pub item_from : ℕ → ℕ → List ℕ → List Item
 item_from start byte behind = cond (is_separator byte) [] (record { start = start; words = words_from byte behind } ∷ [])
 
 -- how many bytes of an item follow its first one
-abbrev pub bytes_behind : ℕ → List ℕ → ℕ
-bytes_behind byte behind =
+abbrev pub bytes_after : ℕ → List ℕ → ℕ
+bytes_after byte behind =
     cond (is_separator byte || byte == 93) 0 (cond (byte == 91) (length (inside behind) + 1) (length (before_first ends_word behind)))
 
 -- the items of a text whose first byte has this place, after that many bytes are passed over
 abbrev pub items_from : ℕ → ℕ → List ℕ → List Item
 items_from place passed [] = []
 items_from place (suc passed) (byte ∷ behind) = items_from (place + 1) passed behind
-items_from place zero (byte ∷ behind) = item_from place byte behind ++ items_from (place + 1) (bytes_behind byte behind) behind
+items_from place zero (byte ∷ behind) = item_from place byte behind ++ items_from (place + 1) (bytes_after byte behind) behind
 
 -- the items of a text
 unfoldable pub items_of : List ℕ → List Item

@@ -174,7 +174,7 @@ impl Kind {
 
 impl Kind {
     /// The edge of this kind that marks no access.
-    pub(crate) fn unmarked(self) -> Edge
+    pub(crate) fn without_marks(self) -> Edge
         ensures { result ≡ unmarked self }
     {
         match self {
@@ -237,11 +237,11 @@ impl Edge {
     /// The edge of a kind with these marks. Where both are plain it is the edge without marks; else
     /// there is one exactly where the kind is of AArch64 and each mark fits what its access does.
     #[tactic(auto, unfolding(crate::specs::EdgeTable::marked_edge))]
-    pub fn marked(kind: Kind, from: Mark, to: Mark) -> Option<Edge>
+    pub fn with_marks(kind: Kind, from: Mark, to: Mark) -> Option<Edge>
         ensures { result ≡ marked_edge kind from to }
     {
         if matches!((from, to), (Mark::Plain, Mark::Plain)) {
-            return Some(kind.unmarked());
+            return Some(kind.without_marks());
         }
         Some(Edge::Marked(MarkedEdge::new(kind, from, to)?))
     }

@@ -116,7 +116,7 @@ impl MarkableKind {
     }
 }
 
-fn fenced(fence: Dmb, sd: Sd, from: Dir, to: Dir) -> Option<MarkableKind>
+fn fenced_kind(fence: Dmb, sd: Sd, from: Dir, to: Dir) -> Option<MarkableKind>
     ensures { result ≡ Some (MarkableKind.Fenced fence sd from to) }
 {
     Some(MarkableKind::Fenced {
@@ -140,9 +140,9 @@ pub(crate) fn as_markable(kind: Kind) -> Option<MarkableKind>
             from,
             to,
         } => match fence {
-            FenceKind::DmbSy => fenced(Dmb::Sy, sd, from, to),
-            FenceKind::DmbLd => fenced(Dmb::Ld, sd, from, to),
-            FenceKind::DmbSt => fenced(Dmb::St, sd, from, to),
+            FenceKind::DmbSy => fenced_kind(Dmb::Sy, sd, from, to),
+            FenceKind::DmbLd => fenced_kind(Dmb::Ld, sd, from, to),
+            FenceKind::DmbSt => fenced_kind(Dmb::St, sd, from, to),
             _ => None,
         },
         Kind::Dep { dep, sd, to } => {

@@ -228,7 +228,7 @@ fn edge_at(kind: MarkableKind, ends: u16) -> Edge
     ensures { rank_of result ≡ kind_rank (markable_kind kind) + ends }
 {
     let ends = match ends {
-        0 => return kind.kind().unmarked(),
+        0 => return kind.kind().without_marks(),
         1 => MarkedEnds::Both,
         2 => MarkedEnds::Source,
         _ => MarkedEnds::Target,

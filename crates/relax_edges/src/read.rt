@@ -8,7 +8,7 @@ use crate::kinds::{ArchName, Com, DepKind, Dir, FenceKind, Kind, Mark, Pick, Rea
 use thiserror::Error;
 
 impl Dir {
-    fn named(byte: u8) -> Option<Dir>
+    fn from_byte(byte: u8) -> Option<Dir>
         ensures { result ≡ dir_named (byte ∷ []) }
     {
         match byte {
@@ -20,7 +20,7 @@ impl Dir {
 }
 
 impl Sd {
-    fn named(byte: u8) -> Option<Sd>
+    fn from_byte(byte: u8) -> Option<Sd>
         ensures { result ≡ sd_named (byte ∷ []) }
     {
         match byte {
@@ -32,7 +32,7 @@ impl Sd {
 }
 
 impl Reach {
-    fn named(byte: u8) -> Option<Reach>
+    fn from_byte(byte: u8) -> Option<Reach>
         ensures { result ≡ reach_named (byte ∷ []) }
     {
         match byte {
@@ -44,7 +44,7 @@ impl Reach {
 }
 
 impl Mark {
-    fn named(byte: u8) -> Option<Mark>
+    fn from_byte(byte: u8) -> Option<Mark>
         ensures { result ≡ mark_named (byte ∷ []) }
     {
         match byte {
@@ -57,7 +57,7 @@ impl Mark {
 }
 
 impl Com {
-    fn named(first: u8, second: u8) -> Option<Com>
+    fn from_bytes(first: u8, second: u8) -> Option<Com>
         ensures { result ≡ com_named (first ∷ second ∷ []) }
     {
         match (first, second) {
@@ -70,7 +70,7 @@ impl Com {
 }
 
 impl DepKind {
-    fn named(text: &[u8]) -> Option<DepKind>
+    fn from_word(text: &[u8]) -> Option<DepKind>
         ensures { result ≡ dependency_named text.now }
     {
         if text == b"DpAddr".as_slice() {
@@ -140,7 +140,7 @@ fn plain_fence(text: &[u8]) -> Option<FenceKind>
 }
 
 impl FenceKind {
-    fn named(text: &[u8]) -> Option<FenceKind>
+    fn from_word(text: &[u8]) -> Option<FenceKind>
         ensures { result ≡ fence_named text.now }
     {
         plain_fence(text).or(riscv_fence(text))
@@ -151,22 +151,22 @@ impl FenceKind {
 fn read_communication(first: u8, second: u8, reach: u8) -> Option<Kind>
     ensures { result ≡ communication_of first second reach }
 {
-    let com = Com::named(first, second)?;
-    let reach = Reach::named(reach)?;
+    let com = Com::from_bytes(first, second)?;
+    let reach = Reach::from_byte(reach)?;
     Some(Kind::Com { com, reach })
 }
 
 #[tactic(auto, unfolding(crate::specs::Reading::two_sided_of))]
-fn read_two_sided(front: &[u8], sd: u8, from: u8, to: u8) -> Option<Kind>
-    ensures { result ≡ two_sided_of front.now sd from to }
+fn read_two_sided(prefix: &[u8], sd: u8, from: u8, to: u8) -> Option<Kind>
+    ensures { result ≡ two_sided_of prefix.now sd from to }
 {
-    let sd = Sd::named(sd)?;
-    let from = Dir::named(from)?;
-    let to = Dir::named(to)?;
-    if front == b"Po".as_slice() {
+    let sd = Sd::from_byte(sd)?;
+    let from = Dir::from_byte(from)?;
+    let to = Dir::from_byte(to)?;
+    if prefix == b"Po".as_slice() {
         return Some(Kind::Po { sd, from, to });
     }
-    let fence = FenceKind::named(front)?;
+    let fence = FenceKind::from_word(prefix)?;
     Some(Kind::Fenced {
         fence,
         sd,
@@ -176,49 +176,49 @@ fn read_two_sided(front: &[u8], sd: u8, from: u8, to: u8) -> Option<Kind>
 }
 
 #[tactic(auto, unfolding(crate::specs::Reading::one_sided_of))]
-fn read_one_sided(front: &[u8], sd: u8, to: u8) -> Option<Kind>
-    ensures { result ≡ one_sided_of front.now sd to }
+fn read_one_sided(prefix: &[u8], sd: u8, to: u8) -> Option<Kind>
+    ensures { result ≡ one_sided_of prefix.now sd to }
 {
-    let sd = Sd::named(sd)?;
-    let to = Dir::named(to)?;
-    if front == b"DpData".as_slice() {
+    let sd = Sd::from_byte(sd)?;
+    let to = Dir::from_byte(to)?;
+    if prefix == b"DpData".as_slice() {
         return match to {
             Dir::R => None,
             Dir::W => Some(Kind::Data { sd }),
         };
     }
-    let dep = DepKind::named(front)?;
+    let dep = DepKind::from_word(prefix)?;
     Some(Kind::Dep { dep, sd, to })
 }
 
 #[tactic(auto, using(crate::proofs::KindSpellings::communication_bare, crate::proofs::KindSpellings::communication_long))]
-fn end_communication(front: &[u8], before: u8, last: u8) -> Option<Kind>
-    ensures { result ≡ read_as_communication (front.now ++ before ∷ last ∷ []) }
+fn end_communication(prefix: &[u8], before: u8, last: u8) -> Option<Kind>
+    ensures { result ≡ read_as_communication (prefix.now ++ before ∷ last ∷ []) }
 {
-    match front {
+    match prefix {
         [first] => read_communication(*first, before, last),
         _ => None,
     }
 }
 
 #[tactic(auto, using(crate::proofs::KindSpellings::two_sided_end, crate::proofs::KindSpellings::two_sided_none))]
-fn end_two_sided(front: &[u8], from: u8, to: u8) -> Option<Kind>
-    ensures { result ≡ read_back_two_sided (reverse (front.now ++ from ∷ to ∷ [])) }
+fn end_two_sided(prefix: &[u8], from: u8, to: u8) -> Option<Kind>
+    ensures { result ≡ read_back_two_sided (reverse (prefix.now ++ from ∷ to ∷ [])) }
 {
-    match front {
-        [front @ .., sd] => read_two_sided(front, *sd, from, to),
+    match prefix {
+        [prefix @ .., sd] => read_two_sided(prefix, *sd, from, to),
         _ => None,
     }
 }
 
 /// The edge without marks that a text spells that ends with these two bytes.
 #[tactic(auto, using(crate::proofs::KindSpellings::ending_is_read))]
-fn end_kind(front: &[u8], before: u8, last: u8) -> Option<Kind>
-    ensures { result ≡ kind_read (front.now ++ before ∷ last ∷ []) }
+fn end_kind(prefix: &[u8], before: u8, last: u8) -> Option<Kind>
+    ensures { result ≡ kind_read (prefix.now ++ before ∷ last ∷ []) }
 {
-    end_communication(front, before, last)
-        .or_else(|| end_two_sided(front, before, last))
-        .or_else(|| read_one_sided(front, before, last))
+    end_communication(prefix, before, last)
+        .or_else(|| end_two_sided(prefix, before, last))
+        .or_else(|| read_one_sided(prefix, before, last))
 }
 
 /// The edge without marks that a text spells.
@@ -227,7 +227,7 @@ fn read_kind(text: &[u8]) -> Option<Kind>
     ensures { result ≡ kind_read text.now }
 {
     match text {
-        [front @ .., before, last] => end_kind(front, *before, *last),
+        [prefix @ .., before, last] => end_kind(prefix, *before, *last),
         _ => None,
     }
 }
@@ -235,31 +235,31 @@ fn read_kind(text: &[u8]) -> Option<Kind>
 /// The edge of a kind with the marks of two letters, where `PP` may follow the edges of
 /// AArch64 only.
 #[tactic(auto, unfolding(crate::specs::Reading::edge_spelled))]
-fn spelled(kind: Kind, from: Mark, to: Mark) -> Option<Edge>
+fn edge_of_letters(kind: Kind, from: Mark, to: Mark) -> Option<Edge>
     ensures { result ≡ edge_spelled kind from to }
 {
     if matches!((from, to), (Mark::Plain, Mark::Plain)) {
         return if kind.is_of(ArchName::AArch64) {
-            Some(kind.unmarked())
+            Some(kind.without_marks())
         } else {
             None
         };
     }
-    Edge::marked(kind, from, to)
+    Edge::with_marks(kind, from, to)
 }
 
 /// The edge that a text spells that ends with these two bytes.
 #[tactic(auto, using(crate::proofs::Spellings::ending_is_edge_of))]
-pub(crate) fn read_ending(front: &[u8], before: u8, last: u8) -> Option<Edge>
-    ensures { result ≡ edge_of (front.now ++ before ∷ last ∷ []) }
+pub(crate) fn read_ending(prefix: &[u8], before: u8, last: u8) -> Option<Edge>
+    ensures { result ≡ edge_of (prefix.now ++ before ∷ last ∷ []) }
 {
-    let Some(from) = Mark::named(before) else {
-        return Some(end_kind(front, before, last)?.unmarked());
+    let Some(from) = Mark::from_byte(before) else {
+        return Some(end_kind(prefix, before, last)?.without_marks());
     };
-    let Some(to) = Mark::named(last) else {
-        return Some(end_kind(front, before, last)?.unmarked());
+    let Some(to) = Mark::from_byte(last) else {
+        return Some(end_kind(prefix, before, last)?.without_marks());
     };
-    spelled(read_kind(front)?, from, to)
+    edge_of_letters(read_kind(prefix)?, from, to)
 }
 
 /// No edge has this spelling.
@@ -273,7 +273,7 @@ pub fn read_edge_bytes(text: &[u8]) -> Result<Edge, UnknownEdge>
     ensures { result_ok result ≡ edge_of text.now }
 {
     match text {
-        [front @ .., before, last] => read_ending(front, *before, *last).ok_or(UnknownEdge),
+        [prefix @ .., before, last] => read_ending(prefix, *before, *last).ok_or(UnknownEdge),
         _ => Err(UnknownEdge),
     }
 }

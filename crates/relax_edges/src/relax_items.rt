@@ -1,7 +1,7 @@
 ghost use Rattle.std.specs.Prelude.{◌≡◌, ◌<◌, ◌≤◌, ◌+◌, ◌∷◌, false, length, None, OnOk, IfOk, MatchOption};
 ghost use Rattle.std.specs.List.{position, position_or_len};
 ghost use Rattle.relax_edges.specs.RelaxText.{is_separator, is_bracket, ends_word, words_of, bracket_words};
-ghost use Rattle.relax_edges.specs.RelaxFront.{front_len, kept_front, ends_here, IsInside, IsFrontWord};
+ghost use Rattle.relax_edges.specs.RelaxPrefix.{first_word_len, kept_prefix, ends_here, IsInside, IsFirstWord};
 ghost use Rattle.relax_edges.specs.RelaxSearch.{Keeps};
 ghost use Rattle.relax_edges.specs.Relaxations.{kept_words};
 
@@ -52,7 +52,7 @@ fn run_len(text: &[u8]) -> usize
 }
 
 /// The text inside a good bracket, from the text after its `[`.
-#[tactic(auto, using(crate::proofs::Fronts::bracket_open, crate::proofs::Fronts::bracket_nested, crate::proofs::Fronts::bracket_empty, crate::proofs::Fronts::bracket_good))]
+#[tactic(auto, using(crate::proofs::Prefixes::bracket_open, crate::proofs::Prefixes::bracket_nested, crate::proofs::Prefixes::bracket_empty, crate::proofs::Prefixes::bracket_good))]
 fn inside_bracket(behind: &[u8]) -> Option<&[u8]>
     ensures { MatchOption result (bracket_words behind.now ≡ None) (λ words. IsInside behind.now words.now) }
 {
@@ -68,10 +68,10 @@ fn inside_bracket(behind: &[u8]) -> Option<&[u8]>
 }
 
 /// The word that a text begins with.
-#[tactic(auto, using(crate::proofs::Fronts::front_word))]
-fn front_word(text: &[u8]) -> &[u8]
+#[tactic(auto, using(crate::proofs::Prefixes::first_word))]
+fn first_word(text: &[u8]) -> &[u8]
     requires { ends_here text.now ≡ false }
-    ensures { IsFrontWord text.now result.now }
+    ensures { IsFirstWord text.now result.now }
 {
     &text[..run_len(text)]
 }
@@ -103,8 +103,8 @@ fn keep_words(words: &[u8], kept: &mut Relaxes) -> Result<(), RelaxKind>
 pub(crate) fn keep_item(text: &[u8], kept: &mut Relaxes) -> Result<usize, RelaxKind>
     requires some { 0 < length text.now }
     requires few { length kept.old ≤ 64 }
-    ensures kept { Keeps (kept_front kept.old text.now) kept.new result }
-    ensures len { IfOk result (λ len. len ≡ front_len text.now) }
+    ensures kept { Keeps (kept_prefix kept.old text.now) kept.new result }
+    ensures len { IfOk result (λ len. len ≡ first_word_len text.now) }
     ensures more { IfOk result (λ len. 0 < len) }
     ensures within { IfOk result (λ len. len ≤ length text.now) }
     ensures few { OnOk result (length kept.new ≤ 64) }
@@ -124,8 +124,8 @@ pub(crate) fn keep_item(text: &[u8], kept: &mut Relaxes) -> Result<usize, RelaxK
 /// Keeps the relaxations of a bracket, from the text after its `[`, and answers its length.
 fn keep_bracket(behind: &[u8], kept: &mut Relaxes) -> Result<usize, RelaxKind>
     requires { length kept.old ≤ 64 }
-    ensures kept { Keeps (kept_front kept.old (91 ∷ behind.now)) kept.new result }
-    ensures len { IfOk result (λ len. len ≡ front_len (91 ∷ behind.now)) }
+    ensures kept { Keeps (kept_prefix kept.old (91 ∷ behind.now)) kept.new result }
+    ensures len { IfOk result (λ len. len ≡ first_word_len (91 ∷ behind.now)) }
     ensures more { IfOk result (λ len. 0 < len) }
     ensures within { IfOk result (λ len. len ≤ length behind.now + 1) }
     ensures few { OnOk result (length kept.new ≤ 64) }
@@ -143,13 +143,13 @@ fn keep_bracket(behind: &[u8], kept: &mut Relaxes) -> Result<usize, RelaxKind>
 fn keep_word(text: &[u8], kept: &mut Relaxes) -> Result<usize, RelaxKind>
     requires word { ends_here text.now ≡ false }
     requires few { length kept.old ≤ 64 }
-    ensures kept { Keeps (kept_front kept.old text.now) kept.new result }
-    ensures len { IfOk result (λ len. len ≡ front_len text.now) }
+    ensures kept { Keeps (kept_prefix kept.old text.now) kept.new result }
+    ensures len { IfOk result (λ len. len ≡ first_word_len text.now) }
     ensures more { IfOk result (λ len. 0 < len) }
     ensures within { IfOk result (λ len. len ≤ length text.now) }
     ensures few { OnOk result (length kept.new ≤ 64) }
 {
-    let word = front_word(text);
+    let word = first_word(text);
     keep_words(word, kept)?;
     Ok(word.len())
 }

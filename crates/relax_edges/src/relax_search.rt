@@ -2,7 +2,7 @@ ghost use Rattle.std.specs.Prelude.{◌≡◌, ◌<◌, ◌≤◌, ◌+◌, ◌�
 ghost use Rattle.arrayvec.specs.ArrayVec.{array_vec_len};
 ghost use Rattle.relax_edges.specs.RelaxText.{words_of};
 ghost use Rattle.relax_edges.specs.Relaxations.{word_edges, is_path, keep_all, at_most_64};
-ghost use Rattle.relax_edges.specs.RelaxSearch.{paths_behind, KeepsPaths};
+ghost use Rattle.relax_edges.specs.RelaxSearch.{paths_after, KeepsPaths};
 
 use crate::edge::Edge;
 use crate::relax::Relaxes;
@@ -10,11 +10,11 @@ use crate::relax_error::RelaxKind;
 use crate::relax_words::{next_word, word_edges};
 use arrayvec::ArrayVec;
 
-fn extends(front: &[Edge], edge: Edge) -> bool
-    requires { is_path front.now ≡ true }
-    ensures { result ≡ is_path (front.now ++ edge ∷ []) }
+fn extends(prefix: &[Edge], edge: Edge) -> bool
+    requires { is_path prefix.now ≡ true }
+    ensures { result ≡ is_path (prefix.now ++ edge ∷ []) }
 {
-    match front {
+    match prefix {
         [.., last] => last.joins(edge),
         [] => true,
     }
@@ -34,8 +34,8 @@ pub(crate) fn keep_paths(
     requires few { length kept.old ≤ 64 }
     ensures chosen { OnOk result (chosen.new.items ≡ chosen.old.items) }
     ensures kept { MatchResult result
-        (λ some. KeepsPaths kept.old (paths_behind chosen.old.items (map word_edges (words_of words.now))) kept.new some)
-        (λ kind. at_most_64 (keep_all kept.old (paths_behind chosen.old.items (map word_edges (words_of words.now)))) ≡ Err kind) }
+        (λ some. KeepsPaths kept.old (paths_after chosen.old.items (map word_edges (words_of words.now))) kept.new some)
+        (λ kind. at_most_64 (keep_all kept.old (paths_after chosen.old.items (map word_edges (words_of words.now)))) ≡ Err kind) }
 {
     let Some((word, behind)) = next_word(words) else {
         kept.keep(chosen.as_slice())?;
@@ -44,14 +44,14 @@ pub(crate) fn keep_paths(
     let edges = word_edges(word);
     let mut some = false;
     for edge in edges.as_slice() {
-        some |= keep_behind(*edge, behind, chosen, kept)?;
+        some |= keep_after(*edge, behind, chosen, kept)?;
     }
     Ok(some)
 }
 
 /// Keeps each path that begins with the chosen edges and one more, if that joins.
 #[cycle(relax_search)]
-fn keep_behind(
+fn keep_after(
     edge: Edge,
     words: &[u8],
     chosen: &mut ArrayVec<Edge, 8>,
@@ -62,8 +62,8 @@ fn keep_behind(
     requires few { length kept.old ≤ 64 }
     ensures chosen { OnOk result (chosen.new.items ≡ chosen.old.items) }
     ensures kept { MatchResult result
-        (λ some. KeepsPaths kept.old (paths_behind (chosen.old.items ++ edge ∷ []) (map word_edges (words_of words.now))) kept.new some)
-        (λ kind. at_most_64 (keep_all kept.old (paths_behind (chosen.old.items ++ edge ∷ []) (map word_edges (words_of words.now)))) ≡ Err kind) }
+        (λ some. KeepsPaths kept.old (paths_after (chosen.old.items ++ edge ∷ []) (map word_edges (words_of words.now))) kept.new some)
+        (λ kind. at_most_64 (keep_all kept.old (paths_after (chosen.old.items ++ edge ∷ []) (map word_edges (words_of words.now)))) ≡ Err kind) }
 {
     if !extends(chosen.as_slice(), edge) {
         return Ok(false);

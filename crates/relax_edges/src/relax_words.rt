@@ -48,38 +48,38 @@ pub(crate) fn next_word(text: &[u8]) -> Option<(&[u8], &[u8])>
     None
 }
 
-fn push_read(front: &[u8], before: u8, last: u8, edges: &mut ArrayVec<Edge, 4>)
+fn push_read(prefix: &[u8], before: u8, last: u8, edges: &mut ArrayVec<Edge, 4>)
     requires { array_vec_len edges.old < 4 }
-    ensures { edges.new.items ≡ edges.old.items ++ option_to_list (edge_of (front.now ++ before ∷ last ∷ [])) }
+    ensures { edges.new.items ≡ edges.old.items ++ option_to_list (edge_of (prefix.now ++ before ∷ last ∷ [])) }
 {
-    if let Some(edge) = read_ending(front, before, last) {
+    if let Some(edge) = read_ending(prefix, before, last) {
         edges.push(edge);
     }
 }
 
 #[tactic(auto, using(crate::proofs::Stars::pushed_twice, crate::proofs::Stars::pushed_once, crate::proofs::Stars::option_to_list_short))]
-fn push_by_last(front: &[u8], before: u8, last: u8, edges: &mut ArrayVec<Edge, 4>)
+fn push_by_last(prefix: &[u8], before: u8, last: u8, edges: &mut ArrayVec<Edge, 4>)
     requires { array_vec_len edges.old ≤ 2 }
-    ensures { edges.new.items ≡ edges.old.items ++ edges_by_last front.now before last }
+    ensures { edges.new.items ≡ edges.old.items ++ edges_by_last prefix.now before last }
 {
     if last == b'*' {
-        push_read(front, before, b'R', edges);
-        push_read(front, before, b'W', edges);
+        push_read(prefix, before, b'R', edges);
+        push_read(prefix, before, b'W', edges);
     } else {
-        push_read(front, before, last, edges);
+        push_read(prefix, before, last, edges);
     }
 }
 
 #[tactic(auto, using(crate::proofs::Stars::edges_by_last_few), unfolding(crate::specs::Stars::edges_by_end))]
-fn edges_by_end(front: &[u8], before: u8, last: u8) -> ArrayVec<Edge, 4>
-    ensures { result.items ≡ edges_by_end front.now before last }
+fn edges_by_end(prefix: &[u8], before: u8, last: u8) -> ArrayVec<Edge, 4>
+    ensures { result.items ≡ edges_by_end prefix.now before last }
 {
     let mut edges = ArrayVec::new();
     if before == b'*' {
-        push_by_last(front, b'R', last, &mut edges);
-        push_by_last(front, b'W', last, &mut edges);
+        push_by_last(prefix, b'R', last, &mut edges);
+        push_by_last(prefix, b'W', last, &mut edges);
     } else {
-        push_by_last(front, before, last, &mut edges);
+        push_by_last(prefix, before, last, &mut edges);
     }
     edges
 }
@@ -90,7 +90,7 @@ pub(crate) fn word_edges(word: &[u8]) -> ArrayVec<Edge, 4>
     ensures { result.items ≡ word_edges word.now }
 {
     match word {
-        [front @ .., before, last] => edges_by_end(front, *before, *last),
+        [prefix @ .., before, last] => edges_by_end(prefix, *before, *last),
         _ => ArrayVec::new(),
     }
 }

@@ -123,25 +123,25 @@ coherence_exchanged a b x y =
     ∙ ap (λ n. thread_with n (b ++ a)) d
 
 -- the last edge of a list is that of its second part
-pub outside_behind : (a : List Edge) (e : Edge) (b : List Edge) → ends_outside (a ++ e ∷ b) ≡ ends_outside (e ∷ b)
-outside_behind [] e b = refl
-outside_behind (x ∷ []) e b = refl
-outside_behind (x ∷ y ∷ a) e b = outside_behind (y ∷ a) e b
+pub outside_after : (a : List Edge) (e : Edge) (b : List Edge) → ends_outside (a ++ e ∷ b) ≡ ends_outside (e ∷ b)
+outside_after [] e b = refl
+outside_after (x ∷ []) e b = refl
+outside_after (x ∷ y ∷ a) e b = outside_after (y ∷ a) e b
 
 pub ended_back : (a b : List Edge) → ends_outside (a ++ b) ≡ true → Ended b
 ended_back a [] h = ended_none
-ended_back a (e ∷ b) h = ended_outside (e ∷ b) (sym (outside_behind a e b) ∙ h)
+ended_back a (e ∷ b) h = ended_outside (e ∷ b) (sym (outside_after a e b) ∙ h)
 
 -- rotations whose last edges are external are coherence only alike
 pub coherence_alike : (u v : List Edge) → IsRotation u v → ends_outside u ≡ true → ends_outside v ≡ true → is_coherence_only u ≡ is_coherence_only v
 coherence_alike u v r x y =
-    let a = ended_back r.back r.front (rw r.to at y) in
-    let b = ended_back r.front r.back (rw r.from at x) in
-    ap is_coherence_only r.from ∙ coherence_exchanged r.front r.back a b ∙ sym (ap is_coherence_only r.to)
+    let a = ended_back r.back r.prefix (rw r.to at y) in
+    let b = ended_back r.prefix r.back (rw r.from at x) in
+    ap is_coherence_only r.from ∙ coherence_exchanged r.prefix r.back a b ∙ sym (ap is_coherence_only r.to)
 
 -- a rotation has the edges of the list
 same_externals : (es fs : List Edge) → IsRotation es fs → external_count es ≡ external_count fs
-same_externals es fs r = ap external_count r.from ∙ count_exchanged is_external r.front r.back ∙ sym (ap external_count r.to)
+same_externals es fs r = ap external_count r.from ∙ count_exchanged is_external r.prefix r.back ∙ sym (ap external_count r.to)
 
 -- the turned list is a rotation, and its last edge is external
 turned_rotation : (es : List Edge) → 0 < external_count es → (IsRotation es (turned es)) × (ends_outside (turned es) ≡ true)
@@ -198,11 +198,11 @@ resolves_alike es fs u r h =
 
 -- with two parts exchanged, an event of the second part keeps its slot; threads and locations are counted on from those
 -- of the first part
-pub record Renumbered (front back : List Edge) (i : ℕ) : Type 0 where
-  pub edge : edge_at (front ++ back) (length front + i) ≡ edge_at (back ++ front) i
-  pub thread : thread_of (front ++ back) (length front + i) ≡ external_count front + thread_of (back ++ front) i
-  pub slot : slot_of (front ++ back) (length front + i) ≡ slot_of (back ++ front) i
-  pub location : location_of (front ++ back) (length front + i) ≡ (move_count front + location_of (back ++ front) i) % move_count (front ++ back)
+pub record Renumbered (prefix back : List Edge) (i : ℕ) : Type 0 where
+  pub edge : edge_at (prefix ++ back) (length prefix + i) ≡ edge_at (back ++ prefix) i
+  pub thread : thread_of (prefix ++ back) (length prefix + i) ≡ external_count prefix + thread_of (back ++ prefix) i
+  pub slot : slot_of (prefix ++ back) (length prefix + i) ≡ slot_of (back ++ prefix) i
+  pub location : location_of (prefix ++ back) (length prefix + i) ≡ (move_count prefix + location_of (back ++ prefix) i) % move_count (prefix ++ back)
 
 slot_exchanged : (a b : List Edge) (i : ℕ) → Ended a → i < length b → slot_of (a ++ b) (length a + i) ≡ slot_of (b ++ a) i
 unfolding slot_of Ended
@@ -222,12 +222,12 @@ location_exchanged a b i h =
     rw (moves_second a b i (omega arith), moves_first b a i (omega arith), d) (sym (add-mod-mod (move_count a) (moves_before b i) (move_count (a ++ b))))
 
 -- each event of the second part is renumbered so
-pub renumbered : (front back : List Edge) (i : ℕ) → ends_outside (back ++ front) ≡ true → i < length back → Renumbered front back i
-renumbered front back i y h =
-    let ended = ended_back back front y in
+pub renumbered : (prefix back : List Edge) (i : ℕ) → ends_outside (back ++ prefix) ≡ true → i < length back → Renumbered prefix back i
+renumbered prefix back i y h =
+    let ended = ended_back back prefix y in
     record {
-      edge = edge_second front back i ∙ sym (edge_first back front i h);
-      thread = thread_second front back i (omega arith) ∙ ap (λ t. external_count front + t) (sym (thread_first back front i (omega arith)));
-      slot = slot_exchanged front back i ended h;
-      location = location_exchanged front back i h;
+      edge = edge_second prefix back i ∙ sym (edge_first back prefix i h);
+      thread = thread_second prefix back i (omega arith) ∙ ap (λ t. external_count prefix + t) (sym (thread_first back prefix i (omega arith)));
+      slot = slot_exchanged prefix back i ended h;
+      location = location_exchanged prefix back i h;
     }

@@ -47,14 +47,14 @@ slot_below es i h = slice_get_within (events_in es (thread_of es i)) (slot_of es
 -- a slot of a thread has an event
 pub record InSlot (es : List Edge) (k s : ℕ) : Type 0 where
   pub event : ℕ
-  pub stands : slice_get (events_in es k) s ≡ Some event
+  pub event_is : slice_get (events_in es k) s ≡ Some event
   pub place : IsAt es k s event
 
 -- each slot below the size of a thread has an event
 pub in_slot : (es : List Edge) (k s : ℕ) → s < length (events_in es k) → InSlot es k s
 in_slot es k s h =
     let g = slice_get-get_or (events_in es k) s 0 h in
-    record { event = get_or (events_in es k) s 0; stands = g; place = slot_of_event es k s (get_or (events_in es k) s 0) g }
+    record { event = get_or (events_in es k) s 0; event_is = g; place = slot_of_event es k s (get_or (events_in es k) s 0) g }
 
 -- an event is the only one in its slot of its thread
 pub only_in_slot : (es : List Edge) (i j : ℕ) → i < length es → j < length es → thread_of es i ≡ thread_of es j → slot_of es i ≡ slot_of es j → i ≡ j

@@ -59,14 +59,14 @@ none_in_thread es n s =
     sym (any_upto_none (λ k. moves_in es k == move_count es) (external_count es) (λ k l. s.fewer k (omega (arith, l, thread_end es))))
 
 -- a walk over the events up to event i: its thread, slot and location
-pub record StandsAt (es : List Edge) (i thread slot location : ℕ) : Type 0 where
+pub record WalkAt (es : List Edge) (i thread slot location : ℕ) : Type 0 where
   pub thread_is : thread ≡ thread_of es i
   pub slot_is : slot ≡ slot_of es i
   pub location_is : location ≡ location_of es i
 
 -- the walk begins at thread 0, slot 0 and location 0
-pub stands_at_start : (es : List Edge) → StandsAt es 0 0 0 0
-stands_at_start es = record {
+pub walk_at_start : (es : List Edge) → WalkAt es 0 0 0 0
+walk_at_start es = record {
   thread_is = sym (thread-zero es);
   slot_is = sym (slot-zero es);
   location_is = sym (location-zero es);
@@ -79,20 +79,20 @@ pub record Small (i thread slot location : ℕ) : Type 0 where
   pub location_small : location ≤ i
 
 -- the numbers of a walk are at most that of the event
-pub stands_small : (es : List Edge) (i t s l : ℕ) → i ≤ length es → StandsAt es i t s l → Small i t s l
-stands_small es i t s l h w = record {
+pub walk_small : (es : List Edge) (i t s l : ℕ) → i ≤ length es → WalkAt es i t s l → Small i t s l
+walk_small es i t s l h w = record {
   thread_small = omega (arith, w.thread_is, thread_most es i h);
   slot_small = omega (arith, w.slot_is, slot_most es i);
   location_small = omega (arith, w.location_is, location_most es i h, moves_few es i h);
 }
 
 -- along an external edge the walk comes to the next thread and slot 0
-pub stands_out : (es : List Edge) (i t u : ℕ) → i < length es → t ≡ thread_of es i → is_external (edge_at es i) ≡ true → u ≡ t + 1 → (u ≡ thread_of es (i + 1)) × (0 ≡ slot_of es (i + 1))
-stands_out es i t u h e x v = (v ∙ ap (λ n. n + 1) e ∙ sym (thread_out es i h x), sym (slot_out es i h x))
+pub walk_out : (es : List Edge) (i t u : ℕ) → i < length es → t ≡ thread_of es i → is_external (edge_at es i) ≡ true → u ≡ t + 1 → (u ≡ thread_of es (i + 1)) × (0 ≡ slot_of es (i + 1))
+walk_out es i t u h e x v = (v ∙ ap (λ n. n + 1) e ∙ sym (thread_out es i h x), sym (slot_out es i h x))
 
 -- along an internal edge the walk comes to the next slot of its thread
-pub stands_in : (es : List Edge) (i t s u : ℕ) → i < length es → t ≡ thread_of es i → s ≡ slot_of es i → is_external (edge_at es i) ≡ false → u ≡ s + 1 → (t ≡ thread_of es (i + 1)) × (u ≡ slot_of es (i + 1))
-stands_in es i t s u h e f x v = (e ∙ sym (thread_in es i h x), v ∙ ap (λ n. n + 1) f ∙ sym (slot_in es i h x))
+pub walk_in : (es : List Edge) (i t s u : ℕ) → i < length es → t ≡ thread_of es i → s ≡ slot_of es i → is_external (edge_at es i) ≡ false → u ≡ s + 1 → (t ≡ thread_of es (i + 1)) × (u ≡ slot_of es (i + 1))
+walk_in es i t s u h e f x v = (e ∙ sym (thread_in es i h x), v ∙ ap (λ n. n + 1) f ∙ sym (slot_in es i h x))
 
 -- along the last `d` edge the walk comes to location 0
 pub location_goes_round : (es : List Edge) (i l d : ℕ) → i < length es → l ≡ location_of es i → is_diff (edge_at es i) ≡ true → d ≡ move_count es → l + 1 ≡ d → 0 ≡ location_of es (i + 1)

@@ -81,14 +81,14 @@ begins_inside : (es : List Edge) (i : ℕ) → ends_outside es ≡ false → pos
 begins_inside es i f p =
     let turn = turned_at_position es i f p in
     let found = position-Some is_external es i (edges.Com Rf Internal) p in
-    let front : List Edge = drop (i + 1) es in
+    let prefix : List Edge = drop (i + 1) es in
     let back : List Edge = take (i + 1) es in
-    let long : length front ≡ length es - (i + 1) = length-drop (i + 1) es in
-    let some : 0 < length front = omega (arith, long, turn.0) in
-    let e : (length front - 1) + 1 ≡ length front = omega (arith, some) in
+    let long : length prefix ≡ length es - (i + 1) = length-drop (i + 1) es in
+    let some : 0 < length prefix = omega (arith, long, turn.0) in
+    let e : (length prefix - 1) + 1 ≡ length prefix = omega (arith, some) in
     let whole : length es ≡ (length es - 1) + 1 = omega (arith, turn.0) in
-    let end : (i + 1) + (length front - 1) ≡ length es - 1 = omega (arith, long, turn.0) in
-    let all : length (front ++ back) ≡ length es = omega (arith, length-append front back, length-append back front, ap length (take-append-drop (i + 1) es)) in
+    let end : (i + 1) + (length prefix - 1) ≡ length es - 1 = omega (arith, long, turn.0) in
+    let all : length (prefix ++ back) ≡ length es = omega (arith, length-append prefix back, length-append back prefix, ap length (take-append-drop (i + 1) es)) in
     let one : external_count back ≡ 1 =
     omega (
       arith,
@@ -97,17 +97,17 @@ begins_inside es i f p =
       count_take is_external es (edges.Com Rf Internal) i (omega (arith, found.0)),
       count_upto_none (λ j. is_external (edge_at es j)) i found.2,
     ) in
-    let internal : is_external (edge_at (front ++ back) (length front - 1)) ≡ false =
-    ap is_external (edge_turned (i + 1) (length front - 1) es (omega (arith, some)) ∙ ap (edge_at es) end) ∙ sym (ends_with es (length es - 1) whole) ∙ f in
-    let thread : thread_of (front ++ back) (length front) ≡ external_count front =
-    ap (thread_of (front ++ back)) (let z : length front ≡ length front + 0 = omega arith in z)
-    ∙ thread_second front back 0 (omega arith) ∙ omega (arith, thread-zero back) in
+    let internal : is_external (edge_at (prefix ++ back) (length prefix - 1)) ≡ false =
+    ap is_external (edge_turned (i + 1) (length prefix - 1) es (omega (arith, some)) ∙ ap (edge_at es) end) ∙ sym (ends_with es (length es - 1) whole) ∙ f in
+    let thread : thread_of (prefix ++ back) (length prefix) ≡ external_count prefix =
+    ap (thread_of (prefix ++ back)) (let z : length prefix ≡ length prefix + 0 = omega arith in z)
+    ∙ thread_second prefix back 0 (omega arith) ∙ omega (arith, thread-zero back) in
     subst (λ us. BeginsInside us es) turn.1 (record {
-      place = length front;
+      place = length prefix;
       within = omega (arith, all, long, turn.0);
       is = sym (turned_back (i + 1) es);
-      last = omega (arith, thread, one, external_count-append front back);
-      inside = omega (arith, ap (slot_of (front ++ back)) e, slot_in (front ++ back) (length front - 1) (omega (arith, all, long, turn.0)) internal);
+      last = omega (arith, thread, one, external_count-append prefix back);
+      inside = omega (arith, ap (slot_of (prefix ++ back)) e, slot_in (prefix ++ back) (length prefix - 1) (omega (arith, all, long, turn.0)) internal);
     })
 
 -- the lists that turn to a turned list begin like it

@@ -71,7 +71,7 @@ all_exchanged t xs ys h =
 -- a rotation has foreign edges where the cycle has
 foreign_on : (t : Edge → Bool) (es fs : List Edge) → IsRotation es fs → position_from (λ e. not (t e)) 0 es ≡ None → position_from (λ e. not (t e)) 0 fs ≡ None
 foreign_on t es fs r h =
-    none_fails t 0 fs (ap (list_all t) r.to ∙ all_exchanged t r.front r.back (ap (list_all t) (sym r.from) ∙ none_foreign t es 0 h))
+    none_fails t 0 fs (ap (list_all t) r.to ∙ all_exchanged t r.prefix r.back (ap (list_all t) (sym r.from) ∙ none_foreign t es 0 h))
 
 foreign_alike : (a : Puts) (es fs : List Edge) → IsRotation es fs → OfOneKind (foreign_edge a.name es) (foreign_edge a.name fs)
 foreign_alike a es fs r =
@@ -92,7 +92,7 @@ turned_back u v t = record { rotation = rotation_back u v t.rotation; this = t.t
 -- one needs an observer where the other does
 need_on : (u v : List Edge) → Turned u v → observer_need u ≡ None → observer_need v ≡ None
 need_on u v t h =
-    let p = t.rotation.front in
+    let p = t.rotation.prefix in
     let q = t.rotation.back in
     let r : IsResolved (p ++ q) = subst IsResolved t.rotation.from t.this in
     let s : IsResolved (q ++ p) = subst IsResolved t.rotation.to t.that in
@@ -120,7 +120,7 @@ uncrowded_on : (a : Puts) (mode : ObsMode) (u v : List Edge) → Turned u v → 
 uncrowded_on a mode u v t h =
     let crowded : List Edge → Option ℕ = λ es. position_from (is_crowded a) 0 (cycle_steps es mode plain) in
     ap crowded t.rotation.to
-    ∙ roomy_on a mode t.rotation.front t.rotation.back (subst IsResolved t.rotation.from t.this) (subst IsResolved t.rotation.to t.that) (ap crowded (sym t.rotation.from) ∙ h)
+    ∙ roomy_on a mode t.rotation.prefix t.rotation.back (subst IsResolved t.rotation.from t.this) (subst IsResolved t.rotation.to t.that) (ap crowded (sym t.rotation.from) ∙ h)
 
 crowded_alike : (a : Puts) (mode : ObsMode) (u v : List Edge) → Turned u v → OfOneKind (crowded_thread a u mode) (crowded_thread a v mode)
 crowded_alike a mode u v t =

@@ -116,7 +116,7 @@ pub struct Block {
 }
 
 /// Whether each keyword that a row may have once comes at most once.
-pub fn stand_once(blocks: &[Block]) -> bool {
+pub fn come_once(blocks: &[Block]) -> bool {
     for at in 0..blocks.len() {
         let keyword = blocks[at].keyword;
         if !keyword.may_repeat() && first(&blocks[at + 1..], keyword).is_some() {
@@ -137,7 +137,7 @@ pub fn first(blocks: &[Block], keyword: Keyword) -> Option<&Block> {
 }
 
 /// The first block with a keyword and an argument.
-pub fn named<'a>(blocks: &'a [Block], keyword: Keyword, name: &str) -> Option<&'a Block> {
+pub fn find_block<'a>(blocks: &'a [Block], keyword: Keyword, name: &str) -> Option<&'a Block> {
     for block in blocks {
         if block.keyword == keyword && block.argument.as_str() == name {
             return Some(block);

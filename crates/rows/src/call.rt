@@ -2,7 +2,7 @@ ghost use Rattle.std.specs.Prelude.{◌≡◌, IfOk};
 ghost use Rattle.diy_io.specs.Shelf.{Idle};
 
 use crate::arguments::{number_of, numbers_of};
-use crate::block::{Block, Keyword, bytes_of, first, named};
+use crate::block::{Block, Keyword, bytes_of, first, find_block};
 use crate::errors::TableError;
 use crate::part::{Part, add_part};
 use crate::read_all::read_all;
@@ -238,8 +238,8 @@ fn add_file(
     parts: &mut Vec<Part>,
 ) -> Result<(), TableError> {
     let name = block.argument.as_str();
-    let is_changed = named(row, Keyword::Wanted, name).is_some()
-        || named(row, Keyword::Absent, name).is_some();
+    let is_changed = find_block(row, Keyword::Wanted, name).is_some()
+        || find_block(row, Keyword::Absent, name).is_some();
     let wanted = match block.keyword {
         Keyword::File if is_changed => return Ok(()),
         Keyword::File | Keyword::Wanted => Some(block.bytes.as_slice()),

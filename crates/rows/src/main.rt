@@ -16,7 +16,7 @@ mod reading;
 mod report;
 mod table;
 
-use crate::block::{Block, Keyword, stand_once};
+use crate::block::{Block, Keyword, come_once};
 use crate::errors::TableError;
 use crate::read_all::read_all;
 use crate::report::{name_of, try_row};
@@ -68,7 +68,7 @@ fn try_rows(alloc: Global, blocks: &[Block], page: &mut Vec<u8>) -> Result<Count
 
 /// Tries a row. The page names one that is faulty.
 fn try_named(alloc: Global, row: &[Block], page: &mut Vec<u8>) -> Result<bool, TableError> {
-    let answer = if stand_once(row) {
+    let answer = if come_once(row) {
         try_row(alloc, row, page)
     } else {
         Err(TableError::BadRow)
@@ -97,7 +97,7 @@ fn try_table(alloc: Global, text: &[u8], page: &mut Vec<u8>) -> Result<Counts, T
 }
 
 /// Reads and tries the table, and prints the page, also where the table is faulty.
-fn tried(rt: &HostRuntime) -> Result<Counts, TableError> {
+fn try_input(rt: &HostRuntime) -> Result<Counts, TableError> {
     let text = read_all(rt.alloc(), &mut StdSource::new(rt.stdin()))?;
     let mut page = Vec::new(rt.alloc());
     let answer = try_table(rt.alloc(), text.as_slice(), &mut page);
@@ -108,7 +108,7 @@ fn tried(rt: &HostRuntime) -> Result<Counts, TableError> {
 }
 
 fn main(rt: HostRuntime) -> ExitCode {
-    match tried(&rt) {
+    match try_input(&rt) {
         Ok(counts) if counts.differing == 0 => ExitCode::from(0),
         Ok(_) => ExitCode::from(1),
         Err(TableError::BadLine(number)) => {

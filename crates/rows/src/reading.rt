@@ -75,7 +75,7 @@ fn add_reading<A: Arch>(
     match read_test::<A>(alloc, text) {
         Ok(test) => {
             add_wanted_status(alloc, row, "Read", parts)?;
-            let described = described(alloc, &test)?;
+            let described = describe(alloc, &test)?;
             let wanted = bytes_of(row, Keyword::Out);
             add_part(
                 alloc,
@@ -107,7 +107,7 @@ fn add_fault(
 
 /// Describes a test whole: the architecture and the name, what it quotes, its places, of each thread
 /// the registers that are given and the operations, and the condition.
-fn described<A: Arch>(alloc: Global, test: &ReadTest<A>) -> Result<Vec<u8>, TableError> {
+fn describe<A: Arch>(alloc: Global, test: &ReadTest<A>) -> Result<Vec<u8>, TableError> {
     let mut page = Vec::new(alloc);
     let arch = A::NAME;
     let header = format!(in alloc; "{arch:?} ")?;

@@ -1,6 +1,6 @@
 ghost use Rattle.std.specs.Prelude.{◌<◌, IfSome};
 
-use crate::block::{Block, Keyword, named};
+use crate::block::{Block, Keyword, find_block};
 use crate::errors::TableError;
 use std::alloc::Global;
 
@@ -85,31 +85,31 @@ fn bytes_in(
         return Ok(Some(Vec::from_slice(alloc, text)?));
     }
     match line.strip_prefix('*') {
-        Some(rest) => repeated(alloc, rest, number),
-        None => written(alloc, line, number),
+        Some(rest) => repeat_line(alloc, rest, number),
+        None => line_bytes(alloc, line, number),
     }
 }
 
 /// The bytes of a text that was named before, or of its prefix.
 fn text_named<'a>(blocks: &'a [Block], name: &str) -> Option<&'a [u8]> {
     let Some((name, length)) = name.split_once(' ') else {
-        return Some(named(blocks, Keyword::Text, name)?.bytes.as_slice());
+        return Some(find_block(blocks, Keyword::Text, name)?.bytes.as_slice());
     };
     let length = length.parse::<usize>().ok()?;
-    named(blocks, Keyword::Text, name)?
+    find_block(blocks, Keyword::Text, name)?
         .bytes
         .as_slice()
         .get(..length)
 }
 
 /// The bytes of a line that is to be taken a number of times.
-fn repeated(alloc: Global, text: &str, number: u64) -> Result<Option<Vec<u8>>, TableError> {
+fn repeat_line(alloc: Global, text: &str, number: u64) -> Result<Option<Vec<u8>>, TableError> {
     let (count, line) = text.split_once(' ').ok_or(TableError::BadLine(number))?;
     let count = count
         .parse::<usize>()
         .ok()
         .ok_or(TableError::BadLine(number))?;
-    let once = written(alloc, line, number)?.ok_or(TableError::BadLine(number))?;
+    let once = line_bytes(alloc, line, number)?.ok_or(TableError::BadLine(number))?;
     let mut bytes = Vec::new(alloc);
     for _ in 0..count {
         bytes.extend_from_slice(once.as_slice())?;
@@ -118,7 +118,7 @@ fn repeated(alloc: Global, text: &str, number: u64) -> Result<Option<Vec<u8>>, T
 }
 
 /// The bytes that a line gives, and none where it begins with none of the three marks.
-fn written(alloc: Global, line: &str, number: u64) -> Result<Option<Vec<u8>>, TableError> {
+fn line_bytes(alloc: Global, line: &str, number: u64) -> Result<Option<Vec<u8>>, TableError> {
     if let Some(text) = line.strip_prefix('|') {
         let mut bytes = Vec::from_slice(alloc, text.as_bytes())?;
         bytes.push(b'\n')?;

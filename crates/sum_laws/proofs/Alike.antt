@@ -19,7 +19,7 @@ use Rattle.sum_laws.proofs.Texts.{bytes_same}
 use Rattle.sum_laws.proofs.Lines.{said_as}
 use Rattle.sum_laws.proofs.Printed.{AllOf, kind_of_test, IsCondition}
 use Rattle.sum_laws.proofs.Agreeing.{Profile, FitsTo, Agrees, all_of_both, all_of_parts, kinds_both, rows_both, conditions_both, hashes_both, or_first, first_both, map_first, marked_both, state_both, mark_both, kind_fits, condition_fits, hash_fits}
-use Rattle.sum_laws.proofs.Sums.{state_facts, hash_facts, told_facts, told_rows, told_conditions, told_hash_first, row_of_state, printed_rows, printed_state, printed_mark, printed_marked, Marks, mark_law, a_state_there, states_in, states_ascend}
+use Rattle.sum_laws.proofs.Sums.{state_facts, hash_facts, printed_facts, rows_of_printed, printed_conditions, line_of_hash_first, row_of_state, printed_rows, printed_state, printed_mark, printed_marked, Marks, mark_law, a_state_there, states_in, states_ascend}
 use Rattle.log_sum.proofs.SumLaws.{Ascends}
 use Rattle.sum_laws.proofs.Orders.{fold_sorted}
 
@@ -53,16 +53,16 @@ unfolding summed
 states_are facts = refl
 
 -- a whole test is printed with its kind
-pub kind_told : (facts : List Fact) (c : Complete facts) → kind_of_test (summed facts) ≡ c.kind
-kind_told facts c = ap (or_else allowed) (kind_is facts ∙ c.is_kind)
+pub kind_summed : (facts : List Fact) (c : Complete facts) → kind_of_test (summed facts) ≡ c.kind
+kind_summed facts c = ap (or_else allowed) (kind_is facts ∙ c.is_kind)
 
 -- a whole test is printed with its condition
-pub text_told : (facts : List Fact) (c : Complete facts) → or_else [] (summed facts).condition ≡ c.text
-text_told facts c = ap (or_else []) (condition_is facts ∙ ap (option_map (λ (x : List ℕ × Verdict). x.0)) c.is_text)
+pub text_summed : (facts : List Fact) (c : Complete facts) → or_else [] (summed facts).condition ≡ c.text
+text_summed facts c = ap (or_else []) (condition_is facts ∙ ap (option_map (λ (x : List ℕ × Verdict). x.0)) c.is_text)
 
 -- the rows that a printed test gives are the printed rows
-pub rows_told : (facts : List Fact) → rows (told_facts (summed facts)) ≡ printed_rows (rows facts)
-rows_told facts = told_rows (summed facts) ∙ ap (map row_of_state) (states_are facts)
+pub rows_printed : (facts : List Fact) → rows (printed_facts (summed facts)) ≡ printed_rows (rows facts)
+rows_printed facts = rows_of_printed (summed facts) ∙ ap (map row_of_state) (states_are facts)
 
 -- verdicts
 all_true : Summed
@@ -92,17 +92,17 @@ verdicts_both facts more =
     ap (map (λ (c : List ℕ × Verdict). says_validated c.1)) (conditions_both facts more)
     ∙ map-append (λ (c : List ℕ × Verdict). says_validated c.1) (conditions facts) (conditions more)
 
-verdicts_told : (sum : Summed) → verdicts (told_facts sum) ≡ is_validated sum ∷ []
-verdicts_told sum = ap (map (λ (c : List ℕ × Verdict). says_validated c.1)) (told_conditions sum) ∙ ap (λ b. b ∷ []) (says_as (is_validated sum))
+verdicts_printed : (sum : Summed) → verdicts (printed_facts sum) ≡ is_validated sum ∷ []
+verdicts_printed sum = ap (map (λ (c : List ℕ × Verdict). says_validated c.1)) (printed_conditions sum) ∙ ap (λ b. b ∷ []) (says_as (is_validated sum))
 
-one_verdict : (o : Option Kind) (front mid back : List Bool) → by_verdicts o (front ++ (by_verdicts o mid ∷ back)) ≡ by_verdicts o (front ++ (mid ++ back))
+one_verdict : (o : Option Kind) (prefix mid back : List Bool) → by_verdicts o (prefix ++ (by_verdicts o mid ∷ back)) ≡ by_verdicts o (prefix ++ (mid ++ back))
 unfolding by_verdicts
-one_verdict o front mid back =
+one_verdict o prefix mid back =
     by_test (by_all o)
-    (λ e. rw e (list_all-append (λ v. v) front (list_all (λ v. v) mid ∷ back)
-    ∙ sym (list_all-append (λ v. v) front (mid ++ back) ∙ ap (λ b. list_all (λ v. v) front && b) (list_all-append (λ v. v) mid back))))
-    (λ e. rw e (list_any-append (λ v. v) front (list_any (λ v. v) mid ∷ back)
-    ∙ sym (list_any-append (λ v. v) front (mid ++ back) ∙ ap (λ b. list_any (λ v. v) front || b) (list_any-append (λ v. v) mid back))))
+    (λ e. rw e (list_all-append (λ v. v) prefix (list_all (λ v. v) mid ∷ back)
+    ∙ sym (list_all-append (λ v. v) prefix (mid ++ back) ∙ ap (λ b. list_all (λ v. v) prefix && b) (list_all-append (λ v. v) mid back))))
+    (λ e. rw e (list_any-append (λ v. v) prefix (list_any (λ v. v) mid ∷ back)
+    ∙ sym (list_any-append (λ v. v) prefix (mid ++ back) ∙ ap (λ b. list_any (λ v. v) prefix || b) (list_any-append (λ v. v) mid back))))
 
 -- what is printed agrees with the facts
 pub marks_fit : (p : Profile) (facts : List Fact) → AllOf (FitsTo p) facts → Marks p.mark (rows facts)
@@ -132,10 +132,10 @@ hashes_fit : (p : Profile) (facts : List Fact) (o : Option (List ℕ)) → AllOf
 hashes_fit p facts None a e = tt
 hashes_fit p facts (Some hash) a e = (hash_fits p facts hash a e, tt)
 
-told_fits : (p : Profile) (facts : List Fact) → AllOf (FitsTo p) facts → Complete facts → AllOf (FitsTo p) (told_facts (summed facts))
-told_fits p facts a c =
-    let kind : kind_of_test (summed facts) ≡ p.kind = kind_told facts c ∙ kind_fits p facts c.kind a c.is_kind in
-    let text : or_else [] (summed facts).condition ≡ p.text = text_told facts c ∙ condition_fits p facts c.text a (ap (option_map (λ (x : List ℕ × Verdict). x.0)) c.is_text) in
+printed_fits : (p : Profile) (facts : List Fact) → AllOf (FitsTo p) facts → Complete facts → AllOf (FitsTo p) (printed_facts (summed facts))
+printed_fits p facts a c =
+    let kind : kind_of_test (summed facts) ≡ p.kind = kind_summed facts c ∙ kind_fits p facts c.kind a c.is_kind in
+    let text : or_else [] (summed facts).condition ≡ p.text = text_summed facts c ∙ condition_fits p facts c.text a (ap (option_map (λ (x : List ℕ × Verdict). x.0)) c.is_text) in
     let states : AllOf (FitsTo p) (state_facts (summed facts).states) = subst (λ t. AllOf (FitsTo p) (state_facts t)) (sym (states_are facts)) (states_fit p (rows facts) (states_of (rows facts)) (marks_fit p facts a) (states_there (rows facts))) in (
       kind,
       all_of_both (FitsTo p) (state_facts (summed facts).states) (a_condition (or_else [] (summed facts).condition) (said_as (is_validated (summed facts))) ∷ hash_facts (summed facts).hash) states
@@ -143,34 +143,34 @@ told_fits p facts a c =
     )
 
 -- rows between others
-marked_between : (m : Mark) (front mid back : List Fact) → marked_sum m (rows (front ++ (mid ++ back))) ≡ marked_sum m (rows front) + (marked_sum m (rows mid) + marked_sum m (rows back))
-marked_between m front mid back =
-    ap (marked_sum m) (rows_both front (mid ++ back)) ∙ marked_both m (rows front) (rows (mid ++ back))
-    ∙ ap (λ n. marked_sum m (rows front) + n) (ap (marked_sum m) (rows_both mid back) ∙ marked_both m (rows mid) (rows back))
+marked_between : (m : Mark) (prefix mid back : List Fact) → marked_sum m (rows (prefix ++ (mid ++ back))) ≡ marked_sum m (rows prefix) + (marked_sum m (rows mid) + marked_sum m (rows back))
+marked_between m prefix mid back =
+    ap (marked_sum m) (rows_both prefix (mid ++ back)) ∙ marked_both m (rows prefix) (rows (mid ++ back))
+    ∙ ap (λ n. marked_sum m (rows prefix) + n) (ap (marked_sum m) (rows_both mid back) ∙ marked_both m (rows mid) (rows back))
 
-marked_told : (m : Mark) (facts : List Fact) (g : Agrees facts) → marked_sum m (rows (told_facts (summed facts))) ≡ marked_sum m (rows facts)
-marked_told m facts g = ap (marked_sum m) (rows_told facts) ∙ printed_marked g.profile.mark m (rows facts) (marks_fit g.profile facts g.fits)
+marked_printed : (m : Mark) (facts : List Fact) (g : Agrees facts) → marked_sum m (rows (printed_facts (summed facts))) ≡ marked_sum m (rows facts)
+marked_printed m facts g = ap (marked_sum m) (rows_printed facts) ∙ printed_marked g.profile.mark m (rows facts) (marks_fit g.profile facts g.fits)
 
 -- parts of agreeing facts agree
-pub agrees_between : (front mid back : List Fact) → Agrees (front ++ (mid ++ back)) → Agrees mid
-agrees_between front mid back g =
-    let one = all_of_parts (FitsTo g.profile) front (mid ++ back) g.fits in
+pub agrees_between : (prefix mid back : List Fact) → Agrees (prefix ++ (mid ++ back)) → Agrees mid
+agrees_between prefix mid back g =
+    let one = all_of_parts (FitsTo g.profile) prefix (mid ++ back) g.fits in
     let two = all_of_parts (FitsTo g.profile) mid back one.1 in
-    record { profile = g.profile; fits = two.0; small = λ m. let e = marked_between m front mid back in omega (arith, g.small m, e) }
+    record { profile = g.profile; fits = two.0; small = λ m. let e = marked_between m prefix mid back in omega (arith, g.small m, e) }
 
 -- where facts agree, what is printed of some of them agrees with the others
-pub told_agrees : (front mid back : List Fact) → Agrees (front ++ (mid ++ back)) → Complete mid → Agrees (front ++ (told_facts (summed mid) ++ back))
-told_agrees front mid back g c =
-    let one = all_of_parts (FitsTo g.profile) front (mid ++ back) g.fits in
+pub printed_agrees : (prefix mid back : List Fact) → Agrees (prefix ++ (mid ++ back)) → Complete mid → Agrees (prefix ++ (printed_facts (summed mid) ++ back))
+printed_agrees prefix mid back g c =
+    let one = all_of_parts (FitsTo g.profile) prefix (mid ++ back) g.fits in
     let two = all_of_parts (FitsTo g.profile) mid back one.1 in
-    let told : List Fact = told_facts (summed mid) in
+    let given : List Fact = printed_facts (summed mid) in
     record {
       profile = g.profile;
-      fits = all_of_both (FitsTo g.profile) front (told ++ back) one.0 (all_of_both (FitsTo g.profile) told back (told_fits g.profile mid two.0 c) two.1);
+      fits = all_of_both (FitsTo g.profile) prefix (given ++ back) one.0 (all_of_both (FitsTo g.profile) given back (printed_fits g.profile mid two.0 c) two.1);
       small = λ m.
-          let e = marked_between m front mid back in
-          let f = marked_between m front told back in
-          let h = marked_told m mid (agrees_between front mid back g) in
+          let e = marked_between m prefix mid back in
+          let f = marked_between m prefix given back in
+          let h = marked_printed m mid (agrees_between prefix mid back g) in
           omega (arith, g.small m, e, f, h);
     }
 
@@ -192,12 +192,12 @@ pub alike_text : (name : List ℕ) (one two : List Fact) → Alike one two → t
 unfolding summed
 alike_text name one two a = same_text name (summed one) (summed two) a.validated a.kind a.text a.hash (a.marked starred) (a.marked plain) a.states
 
-first_kind : (p : Profile) (front mid : List Fact) (k : Kind) (more : Option Kind) → AllOf (FitsTo p) front → k ≡ p.kind → or_first (first_of (kinds front)) (or_first (Some k) more) ≡ Some k
-first_kind p front mid k more a e = by_first (first_of (kinds front)) refl
+first_kind : (p : Profile) (prefix mid : List Fact) (k : Kind) (more : Option Kind) → AllOf (FitsTo p) prefix → k ≡ p.kind → or_first (first_of (kinds prefix)) (or_first (Some k) more) ≡ Some k
+first_kind p prefix mid k more a e = by_first (first_of (kinds prefix)) refl
   where
-    by_first : (o : Option Kind) → first_of (kinds front) ≡ o → or_first o (or_first (Some k) more) ≡ Some k
+    by_first : (o : Option Kind) → first_of (kinds prefix) ≡ o → or_first o (or_first (Some k) more) ≡ Some k
     by_first None h = refl
-    by_first (Some other) h = ap Some (kind_fits p front other a h ∙ sym e)
+    by_first (Some other) h = ap Some (kind_fits p prefix other a h ∙ sym e)
 
 map_same : {A B : Type 0} (f g : A → B) (xs : List A) → ((x : A) → f x ≡ g x) → map f xs ≡ map g xs
 map_same f g [] h = refl
@@ -211,91 +211,91 @@ put_states : (xs : List (List ℕ)) (rs : List Row) → Ascends xs → fold (ins
 unfolding states_of
 put_states xs rs a = fold_sorted xs (map (λ (r : Row). r.state) rs) a
 
-folded : (front mid back : List Row) → states_of (front ++ (mid ++ back))
-    ≡ fold (insert_key (slice_cmp nat_cmp)) (fold (insert_key (slice_cmp nat_cmp)) (states_of front) (map (λ (r : Row). r.state) mid)) (map (λ (r : Row). r.state) back)
+folded : (prefix mid back : List Row) → states_of (prefix ++ (mid ++ back))
+    ≡ fold (insert_key (slice_cmp nat_cmp)) (fold (insert_key (slice_cmp nat_cmp)) (states_of prefix) (map (λ (r : Row). r.state) mid)) (map (λ (r : Row). r.state) back)
 unfolding states_of
-folded front mid back =
-    ap (fold (insert_key (slice_cmp nat_cmp)) []) (map-append (λ (r : Row). r.state) front (mid ++ back) ∙ ap (λ t. map (λ (r : Row). r.state) front ++ t) (map-append (λ (r : Row). r.state) mid back))
-    ∙ fold-append (insert_key (slice_cmp nat_cmp)) [] (map (λ (r : Row). r.state) front) (map (λ (r : Row). r.state) mid ++ map (λ (r : Row). r.state) back)
-    ∙ fold-append (insert_key (slice_cmp nat_cmp)) (fold (insert_key (slice_cmp nat_cmp)) [] (map (λ (r : Row). r.state) front)) (map (λ (r : Row). r.state) mid) (map (λ (r : Row). r.state) back)
+folded prefix mid back =
+    ap (fold (insert_key (slice_cmp nat_cmp)) []) (map-append (λ (r : Row). r.state) prefix (mid ++ back) ∙ ap (λ t. map (λ (r : Row). r.state) prefix ++ t) (map-append (λ (r : Row). r.state) mid back))
+    ∙ fold-append (insert_key (slice_cmp nat_cmp)) [] (map (λ (r : Row). r.state) prefix) (map (λ (r : Row). r.state) mid ++ map (λ (r : Row). r.state) back)
+    ∙ fold-append (insert_key (slice_cmp nat_cmp)) (fold (insert_key (slice_cmp nat_cmp)) [] (map (λ (r : Row). r.state) prefix)) (map (λ (r : Row). r.state) mid) (map (λ (r : Row). r.state) back)
 
-put_printed : (xs : List (List ℕ)) (front rs : List Row) → xs ≡ states_of front → fold (insert_key (slice_cmp nat_cmp)) xs (map (λ (r : Row). r.state) (printed_rows rs)) ≡ fold (insert_key (slice_cmp nat_cmp)) xs (map (λ (r : Row). r.state) rs)
-put_printed xs front rs e =
-    ap (fold (insert_key (slice_cmp nat_cmp)) xs) (ids (states_of rs) rs) ∙ put_states xs rs (subst Ascends (sym e) (states_ascend front))
+put_printed : (xs : List (List ℕ)) (prefix rs : List Row) → xs ≡ states_of prefix → fold (insert_key (slice_cmp nat_cmp)) xs (map (λ (r : Row). r.state) (printed_rows rs)) ≡ fold (insert_key (slice_cmp nat_cmp)) xs (map (λ (r : Row). r.state) rs)
+put_printed xs prefix rs e =
+    ap (fold (insert_key (slice_cmp nat_cmp)) xs) (ids (states_of rs) rs) ∙ put_states xs rs (subst Ascends (sym e) (states_ascend prefix))
 
-states_between : (front rs back : List Row) → states_of (front ++ (printed_rows rs ++ back)) ≡ states_of (front ++ (rs ++ back))
-states_between front rs back =
-    folded front (printed_rows rs) back
-    ∙ ap (λ t. fold (insert_key (slice_cmp nat_cmp)) t (map (λ (r : Row). r.state) back)) (put_printed (states_of front) front rs refl)
-    ∙ sym (folded front rs back)
+states_between : (prefix rs back : List Row) → states_of (prefix ++ (printed_rows rs ++ back)) ≡ states_of (prefix ++ (rs ++ back))
+states_between prefix rs back =
+    folded prefix (printed_rows rs) back
+    ∙ ap (λ t. fold (insert_key (slice_cmp nat_cmp)) t (map (λ (r : Row). r.state) back)) (put_printed (states_of prefix) prefix rs refl)
+    ∙ sym (folded prefix rs back)
 
-state_between : (front rs back : List Row) (x : List ℕ) → state_by (front ++ (printed_rows rs ++ back)) x ≡ state_by (front ++ (rs ++ back)) x
-state_between front rs back x =
-    let mark : mark_in x (front ++ (printed_rows rs ++ back)) ≡ mark_in x (front ++ (rs ++ back)) =
-    mark_both x front (printed_rows rs ++ back)
-    ∙ ap (or_first (mark_in x front)) (mark_both x (printed_rows rs) back ∙ ap (λ o. or_first o (mark_in x back)) (printed_mark x rs) ∙ sym (mark_both x rs back))
-    ∙ sym (mark_both x front (rs ++ back)) in
-    let sum : state_sum x (front ++ (printed_rows rs ++ back)) ≡ state_sum x (front ++ (rs ++ back)) =
-    state_both x front (printed_rows rs ++ back)
-    ∙ ap (λ n. state_sum x front + n) (state_both x (printed_rows rs) back ∙ ap (λ n. n + state_sum x back) (printed_state x rs) ∙ sym (state_both x rs back))
-    ∙ sym (state_both x front (rs ++ back)) in
+state_between : (prefix rs back : List Row) (x : List ℕ) → state_by (prefix ++ (printed_rows rs ++ back)) x ≡ state_by (prefix ++ (rs ++ back)) x
+state_between prefix rs back x =
+    let mark : mark_in x (prefix ++ (printed_rows rs ++ back)) ≡ mark_in x (prefix ++ (rs ++ back)) =
+    mark_both x prefix (printed_rows rs ++ back)
+    ∙ ap (or_first (mark_in x prefix)) (mark_both x (printed_rows rs) back ∙ ap (λ o. or_first o (mark_in x back)) (printed_mark x rs) ∙ sym (mark_both x rs back))
+    ∙ sym (mark_both x prefix (rs ++ back)) in
+    let sum : state_sum x (prefix ++ (printed_rows rs ++ back)) ≡ state_sum x (prefix ++ (rs ++ back)) =
+    state_both x prefix (printed_rows rs ++ back)
+    ∙ ap (λ n. state_sum x prefix + n) (state_both x (printed_rows rs) back ∙ ap (λ n. n + state_sum x back) (printed_state x rs) ∙ sym (state_both x rs back))
+    ∙ sym (state_both x prefix (rs ++ back)) in
     rw (mark, sum) refl
 
-rows_between : (front mid back : List Fact) → rows (front ++ (mid ++ back)) ≡ rows front ++ (rows mid ++ rows back)
-rows_between front mid back = rows_both front (mid ++ back) ∙ ap (λ t. rows front ++ t) (rows_both mid back)
+rows_between : (prefix mid back : List Fact) → rows (prefix ++ (mid ++ back)) ≡ rows prefix ++ (rows mid ++ rows back)
+rows_between prefix mid back = rows_both prefix (mid ++ back) ∙ ap (λ t. rows prefix ++ t) (rows_both mid back)
 
-kinds_between : (front mid back : List Fact) → first_of (kinds (front ++ (mid ++ back))) ≡ or_first (first_of (kinds front)) (or_first (first_of (kinds mid)) (first_of (kinds back)))
-kinds_between front mid back =
-    ap first_of (kinds_both front (mid ++ back)) ∙ first_both (kinds front) (kinds (mid ++ back))
-    ∙ ap (or_first (first_of (kinds front))) (ap first_of (kinds_both mid back) ∙ first_both (kinds mid) (kinds back))
+kinds_between : (prefix mid back : List Fact) → first_of (kinds (prefix ++ (mid ++ back))) ≡ or_first (first_of (kinds prefix)) (or_first (first_of (kinds mid)) (first_of (kinds back)))
+kinds_between prefix mid back =
+    ap first_of (kinds_both prefix (mid ++ back)) ∙ first_both (kinds prefix) (kinds (mid ++ back))
+    ∙ ap (or_first (first_of (kinds prefix))) (ap first_of (kinds_both mid back) ∙ first_both (kinds mid) (kinds back))
 
 abbrev texts : Option (List ℕ × Verdict) → Option (List ℕ)
 texts o = option_map (λ c. c.0) o
 
-texts_between : (front mid back : List Fact) → texts (first_of (conditions (front ++ (mid ++ back)))) ≡ or_first (texts (first_of (conditions front))) (or_first (texts (first_of (conditions mid))) (texts (first_of (conditions back))))
-texts_between front mid back =
-    ap texts (ap first_of (conditions_both front (mid ++ back)) ∙ first_both (conditions front) (conditions (mid ++ back)))
-    ∙ map_first (λ (c : List ℕ × Verdict). c.0) (first_of (conditions front)) (first_of (conditions (mid ++ back)))
-    ∙ ap (or_first (texts (first_of (conditions front)))) (ap texts (ap first_of (conditions_both mid back) ∙ first_both (conditions mid) (conditions back))
+texts_between : (prefix mid back : List Fact) → texts (first_of (conditions (prefix ++ (mid ++ back)))) ≡ or_first (texts (first_of (conditions prefix))) (or_first (texts (first_of (conditions mid))) (texts (first_of (conditions back))))
+texts_between prefix mid back =
+    ap texts (ap first_of (conditions_both prefix (mid ++ back)) ∙ first_both (conditions prefix) (conditions (mid ++ back)))
+    ∙ map_first (λ (c : List ℕ × Verdict). c.0) (first_of (conditions prefix)) (first_of (conditions (mid ++ back)))
+    ∙ ap (or_first (texts (first_of (conditions prefix)))) (ap texts (ap first_of (conditions_both mid back) ∙ first_both (conditions mid) (conditions back))
     ∙ map_first (λ (c : List ℕ × Verdict). c.0) (first_of (conditions mid)) (first_of (conditions back)))
 
-hashes_between : (front mid back : List Fact) → first_of (hashes (front ++ (mid ++ back))) ≡ or_first (first_of (hashes front)) (or_first (first_of (hashes mid)) (first_of (hashes back)))
-hashes_between front mid back =
-    ap first_of (hashes_both front (mid ++ back)) ∙ first_both (hashes front) (hashes (mid ++ back))
-    ∙ ap (or_first (first_of (hashes front))) (ap first_of (hashes_both mid back) ∙ first_both (hashes mid) (hashes back))
+hashes_between : (prefix mid back : List Fact) → first_of (hashes (prefix ++ (mid ++ back))) ≡ or_first (first_of (hashes prefix)) (or_first (first_of (hashes mid)) (first_of (hashes back)))
+hashes_between prefix mid back =
+    ap first_of (hashes_both prefix (mid ++ back)) ∙ first_both (hashes prefix) (hashes (mid ++ back))
+    ∙ ap (or_first (first_of (hashes prefix))) (ap first_of (hashes_both mid back) ∙ first_both (hashes mid) (hashes back))
 
-verdicts_between : (front mid back : List Fact) → verdicts (front ++ (mid ++ back)) ≡ verdicts front ++ (verdicts mid ++ verdicts back)
-verdicts_between front mid back = verdicts_both front (mid ++ back) ∙ ap (λ t. verdicts front ++ t) (verdicts_both mid back)
+verdicts_between : (prefix mid back : List Fact) → verdicts (prefix ++ (mid ++ back)) ≡ verdicts prefix ++ (verdicts mid ++ verdicts back)
+verdicts_between prefix mid back = verdicts_both prefix (mid ++ back) ∙ ap (λ t. verdicts prefix ++ t) (verdicts_both mid back)
 
 -- facts and what is printed of some of them give the same printed test
-pub told_alike : (front mid back : List Fact) → Agrees (front ++ (mid ++ back)) → Complete mid → Alike (front ++ (told_facts (summed mid) ++ back)) (front ++ (mid ++ back))
-told_alike front mid back g c =
-    let told : List Fact = told_facts (summed mid) in
-    let one = all_of_parts (FitsTo g.profile) front (mid ++ back) g.fits in
+pub printed_alike : (prefix mid back : List Fact) → Agrees (prefix ++ (mid ++ back)) → Complete mid → Alike (prefix ++ (printed_facts (summed mid) ++ back)) (prefix ++ (mid ++ back))
+printed_alike prefix mid back g c =
+    let given : List Fact = printed_facts (summed mid) in
+    let one = all_of_parts (FitsTo g.profile) prefix (mid ++ back) g.fits in
     let two = all_of_parts (FitsTo g.profile) mid back one.1 in
     let k : c.kind ≡ g.profile.kind = kind_fits g.profile mid c.kind two.0 c.is_kind in
-    let kinds_here : first_of (kinds told) ≡ first_of (kinds mid) = ap Some (kind_told mid c) ∙ sym c.is_kind in
-    let texts_here : texts (first_of (conditions told)) ≡ texts (first_of (conditions mid)) =
-    ap (λ t. texts (first_of t)) (told_conditions (summed mid)) ∙ ap Some (text_told mid c) ∙ sym (ap texts c.is_text) in
-    let hashes_here : first_of (hashes told) ≡ first_of (hashes mid) = told_hash_first (summed mid) ∙ hash_is mid in
-    let same_kinds : first_of (kinds (front ++ (told ++ back))) ≡ first_of (kinds (front ++ (mid ++ back))) =
-    kinds_between front told back ∙ ap (λ o. or_first (first_of (kinds front)) (or_first o (first_of (kinds back)))) kinds_here ∙ sym (kinds_between front mid back) in
-    let known : first_of (kinds (front ++ (mid ++ back))) ≡ first_of (kinds mid) =
-    kinds_between front mid back ∙ ap (λ o. or_first (first_of (kinds front)) (or_first o (first_of (kinds back)))) c.is_kind
-    ∙ first_kind g.profile front mid c.kind (first_of (kinds back)) one.0 k ∙ sym c.is_kind in
-    let verdict : is_validated (summed (front ++ (told ++ back))) ≡ is_validated (summed (front ++ (mid ++ back))) =
-    validated_is (front ++ (told ++ back)) ∙ ap (λ o. by_verdicts o (verdicts (front ++ (told ++ back)))) (same_kinds ∙ known)
-    ∙ ap (by_verdicts (first_of (kinds mid))) (verdicts_between front told back ∙ ap (λ t. verdicts front ++ (t ++ verdicts back)) (verdicts_told (summed mid) ∙ ap (λ b. b ∷ []) (validated_is mid)))
-    ∙ one_verdict (first_of (kinds mid)) (verdicts front) (verdicts mid) (verdicts back)
-    ∙ sym (validated_is (front ++ (mid ++ back)) ∙ ap (λ o. by_verdicts o (verdicts (front ++ (mid ++ back)))) known ∙ ap (by_verdicts (first_of (kinds mid))) (verdicts_between front mid back)) in
-    let rows_told_here : rows (front ++ (told ++ back)) ≡ rows front ++ (printed_rows (rows mid) ++ rows back) = rows_between front told back ∙ ap (λ t. rows front ++ (t ++ rows back)) (rows_told mid) in
+    let kinds_here : first_of (kinds given) ≡ first_of (kinds mid) = ap Some (kind_summed mid c) ∙ sym c.is_kind in
+    let texts_here : texts (first_of (conditions given)) ≡ texts (first_of (conditions mid)) =
+    ap (λ t. texts (first_of t)) (printed_conditions (summed mid)) ∙ ap Some (text_summed mid c) ∙ sym (ap texts c.is_text) in
+    let hashes_here : first_of (hashes given) ≡ first_of (hashes mid) = line_of_hash_first (summed mid) ∙ hash_is mid in
+    let same_kinds : first_of (kinds (prefix ++ (given ++ back))) ≡ first_of (kinds (prefix ++ (mid ++ back))) =
+    kinds_between prefix given back ∙ ap (λ o. or_first (first_of (kinds prefix)) (or_first o (first_of (kinds back)))) kinds_here ∙ sym (kinds_between prefix mid back) in
+    let known : first_of (kinds (prefix ++ (mid ++ back))) ≡ first_of (kinds mid) =
+    kinds_between prefix mid back ∙ ap (λ o. or_first (first_of (kinds prefix)) (or_first o (first_of (kinds back)))) c.is_kind
+    ∙ first_kind g.profile prefix mid c.kind (first_of (kinds back)) one.0 k ∙ sym c.is_kind in
+    let verdict : is_validated (summed (prefix ++ (given ++ back))) ≡ is_validated (summed (prefix ++ (mid ++ back))) =
+    validated_is (prefix ++ (given ++ back)) ∙ ap (λ o. by_verdicts o (verdicts (prefix ++ (given ++ back)))) (same_kinds ∙ known)
+    ∙ ap (by_verdicts (first_of (kinds mid))) (verdicts_between prefix given back ∙ ap (λ t. verdicts prefix ++ (t ++ verdicts back)) (verdicts_printed (summed mid) ∙ ap (λ b. b ∷ []) (validated_is mid)))
+    ∙ one_verdict (first_of (kinds mid)) (verdicts prefix) (verdicts mid) (verdicts back)
+    ∙ sym (validated_is (prefix ++ (mid ++ back)) ∙ ap (λ o. by_verdicts o (verdicts (prefix ++ (mid ++ back)))) known ∙ ap (by_verdicts (first_of (kinds mid))) (verdicts_between prefix mid back)) in
+    let rows_printed_here : rows (prefix ++ (given ++ back)) ≡ rows prefix ++ (printed_rows (rows mid) ++ rows back) = rows_between prefix given back ∙ ap (λ t. rows prefix ++ (t ++ rows back)) (rows_printed mid) in
     record {
       kind = same_kinds;
-      text = texts_between front told back ∙ ap (λ o. or_first (texts (first_of (conditions front))) (or_first o (texts (first_of (conditions back))))) texts_here ∙ sym (texts_between front mid back);
-      hash = hashes_between front told back ∙ ap (λ o. or_first (first_of (hashes front)) (or_first o (first_of (hashes back)))) hashes_here ∙ sym (hashes_between front mid back);
+      text = texts_between prefix given back ∙ ap (λ o. or_first (texts (first_of (conditions prefix))) (or_first o (texts (first_of (conditions back))))) texts_here ∙ sym (texts_between prefix mid back);
+      hash = hashes_between prefix given back ∙ ap (λ o. or_first (first_of (hashes prefix)) (or_first o (first_of (hashes back)))) hashes_here ∙ sym (hashes_between prefix mid back);
       validated = verdict;
-      marked = λ m. marked_between m front told back ∙ ap (λ n. marked_sum m (rows front) + (n + marked_sum m (rows back))) (marked_told m mid (agrees_between front mid back g)) ∙ sym (marked_between m front mid back);
-      states = rw (rows_told_here, rows_between front mid back)
-          (ap (map (state_by (rows front ++ (printed_rows (rows mid) ++ rows back)))) (states_between (rows front) (rows mid) (rows back))
-          ∙ map_same (state_by (rows front ++ (printed_rows (rows mid) ++ rows back))) (state_by (rows front ++ (rows mid ++ rows back))) (states_of (rows front ++ (rows mid ++ rows back))) (state_between (rows front) (rows mid) (rows back)));
+      marked = λ m. marked_between m prefix given back ∙ ap (λ n. marked_sum m (rows prefix) + (n + marked_sum m (rows back))) (marked_printed m mid (agrees_between prefix mid back g)) ∙ sym (marked_between m prefix mid back);
+      states = rw (rows_printed_here, rows_between prefix mid back)
+          (ap (map (state_by (rows prefix ++ (printed_rows (rows mid) ++ rows back)))) (states_between (rows prefix) (rows mid) (rows back))
+          ∙ map_same (state_by (rows prefix ++ (printed_rows (rows mid) ++ rows back))) (state_by (rows prefix ++ (rows mid ++ rows back))) (states_of (rows prefix ++ (rows mid ++ rows back))) (state_between (rows prefix) (rows mid) (rows back)));
     }

@@ -103,11 +103,11 @@ step before test place line text rest said l e f c =
     }
 
 -- texts that end with no carriage return
-pub return_front : (front : List ℕ) (b : ℕ) (text : List ℕ) → without_return (b ∷ text) ≡ b ∷ text → without_return (front ++ b ∷ text) ≡ front ++ b ∷ text
+pub return_prefix : (prefix : List ℕ) (b : ℕ) (text : List ℕ) → without_return (b ∷ text) ≡ b ∷ text → without_return (prefix ++ b ∷ text) ≡ prefix ++ b ∷ text
 unfolding without_return
-return_front [] b text h = h
-return_front (c ∷ []) b text h = ap (λ t. c ∷ t) h
-return_front (c ∷ d ∷ front) b text h = ap (λ t. c ∷ t) (return_front (d ∷ front) b text h)
+return_prefix [] b text h = h
+return_prefix (c ∷ []) b text h = ap (λ t. c ∷ t) h
+return_prefix (c ∷ d ∷ prefix) b text h = ap (λ t. c ∷ t) (return_prefix (d ∷ prefix) b text h)
 
 -- a text without carriage returns keeps its end
 pub no_return : (text : List ℕ) → list_all (λ b. not (b == 13)) text ≡ true → without_return text ≡ text
@@ -117,9 +117,9 @@ no_return (b ∷ []) h = rw (not-true (b == 13) (and_parts (not (b == 13)) true 
 no_return (b ∷ c ∷ text) h = ap (λ t. b ∷ t) (no_return (c ∷ text) (and_parts (not (b == 13)) (list_all (λ x. not (x == 13)) (c ∷ text)) h).1)
 
 -- a printed line may begin with any text without line feeds
-pub append_line : (front text : List ℕ) → list_all no_feed front ≡ true → is_nil text ≡ false → IsLine text → IsLine (front ++ text)
-append_line front [] h some l = absurd (cc)
-append_line front (b ∷ text) h some l = record { one = all_both no_feed front (b ∷ text) h l.one; kept = return_front front b text l.kept }
+pub append_line : (prefix text : List ℕ) → list_all no_feed prefix ≡ true → is_nil text ≡ false → IsLine text → IsLine (prefix ++ text)
+append_line prefix [] h some l = absurd (cc)
+append_line prefix (b ∷ text) h some l = record { one = all_both no_feed prefix (b ∷ text) h l.one; kept = return_prefix prefix b text l.kept }
 
 plain_feed : (text : List ℕ) → list_all no_feed text ≡ true → list_all (λ b. not (b == 13)) text ≡ true → IsLine text
 plain_feed text h k = record { one = h; kept = no_return text k }

@@ -23,7 +23,7 @@ use Rattle.log_sum.specs.Reading.{text_judged, line_judged, lines_of, rest_of, l
 use Rattle.text_laws.specs.Lines.{without_return}
 use Rattle.log_sum.specs.Summed.{summed}
 use Rattle.log_sum.specs.SumText.{state_line, head_text, verdict_text, condition_text, claim_text, hash_text, observation_text, test_text, sum_text}
-use Rattle.log_sum.specs.Standing.{logs_text}
+use Rattle.log_sum.specs.Representing.{logs_text}
 
 abbrev nl : List ℕ → List ℕ
 nl line = line ++ 10 ∷ []
@@ -71,21 +71,21 @@ not_read_back = refl
 abbrev name : List ℕ
 name = codes "T"
 
-abbrev told_other : List Entry
-told_other =
+abbrev printed_other : List Entry
+printed_other =
     entry name (a_kind forbidden) ∷ entry name (a_row (row_with (codes "[x]=0; [y]=0;") plain 5))
     ∷ entry name (a_condition (codes "~exists (x=1)") not_validated) ∷ entry name (a_hash (codes "a")) ∷ []
 
-facts_here : (test : List ℕ) (P : List Fact → Type 0) → P (facts_of name told_other) → P [] → P (facts_of test told_other)
+facts_here : (test : List ℕ) (P : List Fact → Type 0) → P (facts_of name printed_other) → P [] → P (facts_of test printed_other)
 facts_here test P here none =
     by_test (bytes_eq name test)
-    (λ e. let same : name ≡ test = (bytes_eq-Decides name test).0 e in subst (λ n. P (facts_of n told_other)) same here)
-    (λ e. let elsewhere : facts_of test told_other ≡ [] =
-    fact_elsewhere test (entry name (a_kind forbidden)) (drop 1 told_other) e ∙ fact_elsewhere test (entry name (a_row (row_with (codes "[x]=0; [y]=0;") plain 5))) (drop 2 told_other) e
-    ∙ fact_elsewhere test (entry name (a_condition (codes "~exists (x=1)") not_validated)) (drop 3 told_other) e ∙ fact_elsewhere test (entry name (a_hash (codes "a"))) [] e in
+    (λ e. let same : name ≡ test = (bytes_eq-Decides name test).0 e in subst (λ n. P (facts_of n printed_other)) same here)
+    (λ e. let elsewhere : facts_of test printed_other ≡ [] =
+    fact_elsewhere test (entry name (a_kind forbidden)) (drop 1 printed_other) e ∙ fact_elsewhere test (entry name (a_row (row_with (codes "[x]=0; [y]=0;") plain 5))) (drop 2 printed_other) e
+    ∙ fact_elsewhere test (entry name (a_condition (codes "~exists (x=1)") not_validated)) (drop 3 printed_other) e ∙ fact_elsewhere test (entry name (a_hash (codes "a"))) [] e in
     subst P (sym elsewhere) none)
 
-few_here : length (summed (facts_of name told_other)).states ≤ last_count
+few_here : length (summed (facts_of name printed_other)).states ≤ last_count
 unfolding summed states_of
 few_here = omega arith
 
@@ -93,7 +93,7 @@ few_nowhere : length (summed []).states ≤ last_count
 unfolding summed states_of
 few_nowhere = omega arith
 
-hash_here : (hash : List ℕ) → (summed (facts_of name told_other)).hash ≡ Some hash → without_return hash ≡ hash
+hash_here : (hash : List ℕ) → (summed (facts_of name printed_other)).hash ≡ Some hash → without_return hash ≡ hash
 unfolding summed without_return
 hash_here hash h = let same : codes "a" ≡ hash = cc in subst (λ t. without_return t ≡ t) same refl
 
@@ -101,10 +101,10 @@ hash_nowhere : (hash : List ℕ) → (summed []).hash ≡ Some hash → without_
 unfolding summed
 hash_nowhere hash h = absurd (cc)
 
-a_sum_that_keeps_them : IsSum (other_log ∷ []) (sum_text told_other)
+a_sum_that_keeps_them : IsSum (other_log ∷ []) (sum_text printed_other)
 unfolding form_read digits run_of after_run before_blanks words count_read cut_at with_pieces state_read state_form marked_sum state_sum states_of mark_in fault_of test_line histogram_line row_line condition_line hash_line line_said place_after fact_said text_judged without_return line_judged lines_of rest_of last_judged file_judged summed state_line head_text verdict_text condition_text claim_text hash_text observation_text test_text sum_text
 a_sum_that_keeps_them = record {
-  seen = record { entries = told_other; test = []; place = outside; line = 1 };
+  seen = record { entries = printed_other; test = []; place = outside; line = 1 };
   judged = refl;
   printed = refl;
   limits = record {

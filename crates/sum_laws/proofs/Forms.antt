@@ -101,19 +101,19 @@ pub record IsEquality (e : List ℕ) : Type 0 where
   pub kept : left_kept left ≡ left
 
 -- the left side and the sign
-abbrev pub front_of : Option (List ℕ × List ℕ) → List ℕ
-front_of None = []
-front_of (Some parts) = parts.0 ++ 61 ∷ []
+abbrev pub prefix_of : Option (List ℕ × List ℕ) → List ℕ
+prefix_of None = []
+prefix_of (Some parts) = parts.0 ++ 61 ∷ []
 
 pub head_of : List ℕ → List ℕ
-head_of e = front_of (cut_at 61 e)
+head_of e = prefix_of (cut_at 61 e)
 
 cut_is : (e : List ℕ) (i : IsEquality e) → cut_at 61 e ≡ Some (i.left, i.value)
 cut_is e i = ap (cut_at 61) i.is ∙ cut_again 61 i.left i.value i.one_sign refl
 
 head_is : (e : List ℕ) (i : IsEquality e) → head_of e ≡ i.left ++ 61 ∷ []
 unfolding head_of
-head_is e i = ap front_of (cut_is e i)
+head_is e i = ap prefix_of (cut_is e i)
 
 -- a text that begins with another
 pub begins_so : (text head : List ℕ) → begins_with text head ≡ true → text ≡ head ++ drop (length head) text

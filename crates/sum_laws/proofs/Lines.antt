@@ -54,20 +54,20 @@ pub record Stops (p : ℕ → Bool) (text : List ℕ) : Type 0 where
   pub after : after_run p text ≡ text
 
 -- a run ends where the text begins with no byte that passes
-pub run_front : (p : ℕ → Bool) (front text : List ℕ) → list_all p front ≡ true → Stops p text → run_of p (front ++ text) ≡ front
+pub run_prefix : (p : ℕ → Bool) (prefix text : List ℕ) → list_all p prefix ≡ true → Stops p text → run_of p (prefix ++ text) ≡ prefix
 unfolding run_of
-run_front p [] text h s = s.run
-run_front p (b ∷ front) text h s =
-    let k : (p b ≡ true) × (list_all p front ≡ true) = and_parts (p b) (list_all p front) h in
-    rw k.0 (ap (λ t. b ∷ t) (run_front p front text k.1 s))
+run_prefix p [] text h s = s.run
+run_prefix p (b ∷ prefix) text h s =
+    let k : (p b ≡ true) × (list_all p prefix ≡ true) = and_parts (p b) (list_all p prefix) h in
+    rw k.0 (ap (λ t. b ∷ t) (run_prefix p prefix text k.1 s))
 
 -- the text after that run
-pub after_front : (p : ℕ → Bool) (front text : List ℕ) → list_all p front ≡ true → Stops p text → after_run p (front ++ text) ≡ text
+pub after_prefix : (p : ℕ → Bool) (prefix text : List ℕ) → list_all p prefix ≡ true → Stops p text → after_run p (prefix ++ text) ≡ text
 unfolding after_run
-after_front p [] text h s = s.after
-after_front p (b ∷ front) text h s =
-    let k : (p b ≡ true) × (list_all p front ≡ true) = and_parts (p b) (list_all p front) h in
-    rw k.0 (after_front p front text k.1 s)
+after_prefix p [] text h s = s.after
+after_prefix p (b ∷ prefix) text h s =
+    let k : (p b ≡ true) × (list_all p prefix ≡ true) = and_parts (p b) (list_all p prefix) h in
+    rw k.0 (after_prefix p prefix text k.1 s)
 
 -- an empty text begins with no byte that passes
 pub stops_nil : (p : ℕ → Bool) → Stops p []
@@ -90,7 +90,7 @@ small_so n h = grind (arith, nat_tests)
 pub count_is : (n : ℕ) (rest : List ℕ) → n ≤ last_count → Stops is_ascii_digit rest → count_read (decimal n ++ rest) ≡ Ok (n, rest)
 unfolding count_read
 count_is n rest h s =
-    rw (run_front is_ascii_digit (decimal n) rest (digits_all n h) s, after_front is_ascii_digit (decimal n) rest (digits_all n h) s)
+    rw (run_prefix is_ascii_digit (decimal n) rest (digits_all n h) s, after_prefix is_ascii_digit (decimal n) rest (digits_all n h) s)
     (counted_digits (decimal n) rest n (decimal_some n h) (digits_value-decimal digits_model n (below n h)) (small_so n h))
 
 -- a printed count alone is read back
@@ -118,8 +118,8 @@ abbrev pub claim_line : List ℕ → Bool → List ℕ
 claim_line text b = codes "Condition " ++ (text ++ verdict_end b)
 
 -- the line of a hash
-abbrev pub told_hash : List ℕ → List ℕ
-told_hash hash = codes "Hash=" ++ hash
+abbrev pub line_of_hash : List ℕ → List ℕ
+line_of_hash hash = codes "Hash=" ++ hash
 
 -- the line of the observation, which ends a block
 abbrev pub end_line : List ℕ → List ℕ → List ℕ
@@ -205,11 +205,11 @@ first_digit (b ∷ digits) rest h some =
     let n : is_blank b ≡ false = not-true (is_blank b) (and_parts (is_inked b) (not (b == 10)) k.0).0 in
     rw n refl
 
-line_end_stays : (front : List ℕ) (mark : Mark) (form : List ℕ) → before_blanks form ≡ form → before_blanks (front ++ (mark_sign mark ++ form)) ≡ front ++ (mark_sign mark ++ form)
-line_end_stays front mark form h =
-    mark_cases (λ m. before_blanks (front ++ (mark_sign m ++ form)) ≡ front ++ (mark_sign m ++ form))
-    (end_stays front 42 (62 ∷ form) (ink_stays 42 (62 ∷ form) refl (ink_stays 62 form refl h)))
-    (end_stays front 58 (62 ∷ form) (ink_stays 58 (62 ∷ form) refl (ink_stays 62 form refl h)))
+line_end_stays : (prefix : List ℕ) (mark : Mark) (form : List ℕ) → before_blanks form ≡ form → before_blanks (prefix ++ (mark_sign mark ++ form)) ≡ prefix ++ (mark_sign mark ++ form)
+line_end_stays prefix mark form h =
+    mark_cases (λ m. before_blanks (prefix ++ (mark_sign m ++ form)) ≡ prefix ++ (mark_sign m ++ form))
+    (end_stays prefix 42 (62 ∷ form) (ink_stays 42 (62 ∷ form) refl (ink_stays 62 form refl h)))
+    (end_stays prefix 58 (62 ∷ form) (ink_stays 58 (62 ∷ form) refl (ink_stays 62 form refl h)))
     mark
 
 counted_trimmed : (n : ℕ) (mark : Mark) (form : List ℕ) → n ≤ last_count → before_blanks form ≡ form → trimmed (counted_line n mark form) ≡ counted_line n mark form
@@ -356,7 +356,7 @@ unfolding words
 first_word b text h = let f = first_piece is_blank text in rw (h, f.is) refl
 
 -- the line of a hash is read back
-pub hash_said : (kind : Kind) (hash : List ℕ) → before_blanks (told_hash hash) ≡ told_hash hash → line_said (conditioned_at kind) (told_hash hash) ≡ Ok (hashed hash)
+pub hash_said : (kind : Kind) (hash : List ℕ) → before_blanks (line_of_hash hash) ≡ line_of_hash hash → line_said (conditioned_at kind) (line_of_hash hash) ≡ Ok (hashed hash)
 unfolding line_said place_after hash_line after_run
 hash_said kind hash e =
     let f = first_piece is_blank (codes "ash=" ++ hash) in

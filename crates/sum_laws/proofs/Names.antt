@@ -14,9 +14,9 @@ use Rattle.sum_laws.proofs.Texts.{bytes_same}
 use Rattle.log_sum.proofs.SumLaws.{eq_swap}
 use Rattle.sum_laws.proofs.Lines.{said_as}
 use Rattle.sum_laws.proofs.Blocks.{entry}
-use Rattle.sum_laws.proofs.Printed.{AllOf, state_entries, hash_entries, told}
+use Rattle.sum_laws.proofs.Printed.{AllOf, state_entries, hash_entries, given}
 use Rattle.sum_laws.proofs.Agreeing.{all_of_both, facts_both, fact_elsewhere, bytes_is}
-use Rattle.sum_laws.proofs.Sums.{told_facts, told_here, told_elsewhere}
+use Rattle.sum_laws.proofs.Sums.{printed_facts, printed_here, printed_elsewhere}
 use Rattle.sum_laws.proofs.Orders.{Distinct}
 
 or_known : (a b : Bool) → (b ≡ true → a ≡ true) → a ≡ a || b
@@ -99,57 +99,57 @@ hash_named name sum = by_hash sum.hash
     by_hash None = tt
     by_hash (Some h) = (refl, tt)
 
-told_tests : (names : List (List ℕ)) (name : List ℕ) (sum : Summed) → fold with_name names (map (λ (e : Entry). e.test) (told name sum)) ≡ with_name names name
-told_tests names name sum =
+tests_of_printed : (names : List (List ℕ)) (name : List ℕ) (sum : Summed) → fold with_name names (map (λ (e : Entry). e.test) (given name sum)) ≡ with_name names name
+tests_of_printed names name sum =
     same_tests names name (state_entries name sum.states ++ entry name (a_condition (or_else [] sum.condition) (said_as (is_validated sum))) ∷ hash_entries name sum.hash)
     (all_of_both (λ (e : Entry). e.test ≡ name) (state_entries name sum.states) (entry name (a_condition (or_else [] sum.condition) (said_as (is_validated sum))) ∷ hash_entries name sum.hash) (states_named name sum.states) (refl, hash_named name sum))
 
 -- the tests of printed tests are added as the names of the tests
-pub all_told_tests : (names : List (List ℕ)) (sum : List ℕ → Summed) (tests : List (List ℕ)) → fold with_name names (map (λ (e : Entry). e.test) (flat_map (λ name. told name (sum name)) tests)) ≡ fold with_name names tests
-all_told_tests names sum [] = refl
-all_told_tests names sum (t ∷ tests) =
-    ap (fold with_name names) (map-append (λ (e : Entry). e.test) (told t (sum t)) (flat_map (λ name. told name (sum name)) tests))
-    ∙ fold-append with_name names (map (λ (e : Entry). e.test) (told t (sum t))) (map (λ (e : Entry). e.test) (flat_map (λ name. told name (sum name)) tests))
-    ∙ ap (λ x. fold with_name x (map (λ (e : Entry). e.test) (flat_map (λ name. told name (sum name)) tests))) (told_tests names t (sum t))
-    ∙ all_told_tests (with_name names t) sum tests
+pub all_tests_of_printed : (names : List (List ℕ)) (sum : List ℕ → Summed) (tests : List (List ℕ)) → fold with_name names (map (λ (e : Entry). e.test) (flat_map (λ name. given name (sum name)) tests)) ≡ fold with_name names tests
+all_tests_of_printed names sum [] = refl
+all_tests_of_printed names sum (t ∷ tests) =
+    ap (fold with_name names) (map-append (λ (e : Entry). e.test) (given t (sum t)) (flat_map (λ name. given name (sum name)) tests))
+    ∙ fold-append with_name names (map (λ (e : Entry). e.test) (given t (sum t))) (map (λ (e : Entry). e.test) (flat_map (λ name. given name (sum name)) tests))
+    ∙ ap (λ x. fold with_name x (map (λ (e : Entry). e.test) (flat_map (λ name. given name (sum name)) tests))) (tests_of_printed names t (sum t))
+    ∙ all_tests_of_printed (with_name names t) sum tests
 
 -- the tests of entries, of what is printed of them, and of others around them
-tests_folded : (front mid back : List Entry) → tests_of (front ++ (mid ++ back)) ≡ fold with_name (fold with_name (tests_of front) (map (λ (e : Entry). e.test) mid)) (map (λ (e : Entry). e.test) back)
-tests_folded front mid back =
-    ap (fold with_name []) (map-append (λ (e : Entry). e.test) front (mid ++ back) ∙ ap (λ t. map (λ (e : Entry). e.test) front ++ t) (map-append (λ (e : Entry). e.test) mid back))
-    ∙ fold-append with_name [] (map (λ (e : Entry). e.test) front) (map (λ (e : Entry). e.test) mid ++ map (λ (e : Entry). e.test) back)
-    ∙ fold-append with_name (fold with_name [] (map (λ (e : Entry). e.test) front)) (map (λ (e : Entry). e.test) mid) (map (λ (e : Entry). e.test) back)
+tests_folded : (prefix mid back : List Entry) → tests_of (prefix ++ (mid ++ back)) ≡ fold with_name (fold with_name (tests_of prefix) (map (λ (e : Entry). e.test) mid)) (map (λ (e : Entry). e.test) back)
+tests_folded prefix mid back =
+    ap (fold with_name []) (map-append (λ (e : Entry). e.test) prefix (mid ++ back) ∙ ap (λ t. map (λ (e : Entry). e.test) prefix ++ t) (map-append (λ (e : Entry). e.test) mid back))
+    ∙ fold-append with_name [] (map (λ (e : Entry). e.test) prefix) (map (λ (e : Entry). e.test) mid ++ map (λ (e : Entry). e.test) back)
+    ∙ fold-append with_name (fold with_name [] (map (λ (e : Entry). e.test) prefix)) (map (λ (e : Entry). e.test) mid) (map (λ (e : Entry). e.test) back)
 
 -- entries between others have the same tests as what is printed of them
-pub tests_between : (front mid back : List Entry) (sum : List ℕ → Summed) → tests_of (front ++ (flat_map (λ name. told name (sum name)) (tests_of mid) ++ back)) ≡ tests_of (front ++ (mid ++ back))
-tests_between front mid back sum =
-    tests_folded front (flat_map (λ name. told name (sum name)) (tests_of mid)) back
-    ∙ ap (λ t. fold with_name t (map (λ (e : Entry). e.test) back)) (all_told_tests (tests_of front) sum (tests_of mid) ∙ fold_names (tests_of front) [] (map (λ (e : Entry). e.test) mid))
-    ∙ sym (tests_folded front mid back)
+pub tests_between : (prefix mid back : List Entry) (sum : List ℕ → Summed) → tests_of (prefix ++ (flat_map (λ name. given name (sum name)) (tests_of mid) ++ back)) ≡ tests_of (prefix ++ (mid ++ back))
+tests_between prefix mid back sum =
+    tests_folded prefix (flat_map (λ name. given name (sum name)) (tests_of mid)) back
+    ∙ ap (λ t. fold with_name t (map (λ (e : Entry). e.test) back)) (all_tests_of_printed (tests_of prefix) sum (tests_of mid) ∙ fold_names (tests_of prefix) [] (map (λ (e : Entry). e.test) mid))
+    ∙ sym (tests_folded prefix mid back)
 
 -- the facts of a test among what is printed
-pub none_told_of : (name : List ℕ) (sum : List ℕ → Summed) (tests : List (List ℕ)) → list_any (bytes_eq name) tests ≡ false → facts_of name (flat_map (λ n. told n (sum n)) tests) ≡ []
-none_told_of name sum [] h = refl
-none_told_of name sum (t ∷ tests) h =
+pub none_printed_of : (name : List ℕ) (sum : List ℕ → Summed) (tests : List (List ℕ)) → list_any (bytes_eq name) tests ≡ false → facts_of name (flat_map (λ n. given n (sum n)) tests) ≡ []
+none_printed_of name sum [] h = refl
+none_printed_of name sum (t ∷ tests) h =
     by_test (bytes_eq name t)
     (λ e. let k = rw e at h in absurd (cc))
-    (λ e. facts_both name (told t (sum t)) (flat_map (λ n. told n (sum n)) tests)
-    ∙ ap (λ x. x ++ facts_of name (flat_map (λ n. told n (sum n)) tests)) (told_elsewhere name t (sum t) (eq_swap t name ∙ e))
-    ∙ none_told_of name sum tests (rw e at h))
+    (λ e. facts_both name (given t (sum t)) (flat_map (λ n. given n (sum n)) tests)
+    ∙ ap (λ x. x ++ facts_of name (flat_map (λ n. given n (sum n)) tests)) (printed_elsewhere name t (sum t) (eq_swap t name ∙ e))
+    ∙ none_printed_of name sum tests (rw e at h))
 
 -- a test that is printed has the facts that it gives
-pub told_of : (name : List ℕ) (sum : List ℕ → Summed) (tests : List (List ℕ)) → Distinct tests → list_any (bytes_eq name) tests ≡ true → facts_of name (flat_map (λ n. told n (sum n)) tests) ≡ told_facts (sum name)
-told_of name sum [] d h = absurd (cc)
-told_of name sum (t ∷ tests) d h =
+pub printed_of : (name : List ℕ) (sum : List ℕ → Summed) (tests : List (List ℕ)) → Distinct tests → list_any (bytes_eq name) tests ≡ true → facts_of name (flat_map (λ n. given n (sum n)) tests) ≡ printed_facts (sum name)
+printed_of name sum [] d h = absurd (cc)
+printed_of name sum (t ∷ tests) d h =
     by_test (bytes_eq name t)
     (λ e. let same : name ≡ t = bytes_is name t e in
     let none : list_any (bytes_eq name) tests ≡ false = ap (λ y. list_any (bytes_eq y) tests) same ∙ d.0 in
-    facts_both name (told t (sum t)) (flat_map (λ n. told n (sum n)) tests)
-    ∙ ap (λ x. facts_of name (told t (sum t)) ++ x) (none_told_of name sum tests none) ∙ append-nil (facts_of name (told t (sum t)))
-    ∙ ap (λ y. facts_of name (told y (sum y))) (sym same) ∙ told_here name (sum name))
-    (λ e. facts_both name (told t (sum t)) (flat_map (λ n. told n (sum n)) tests)
-    ∙ ap (λ x. x ++ facts_of name (flat_map (λ n. told n (sum n)) tests)) (told_elsewhere name t (sum t) (eq_swap t name ∙ e))
-    ∙ told_of name sum tests d.1 (rw e at h))
+    facts_both name (given t (sum t)) (flat_map (λ n. given n (sum n)) tests)
+    ∙ ap (λ x. facts_of name (given t (sum t)) ++ x) (none_printed_of name sum tests none) ∙ append-nil (facts_of name (given t (sum t)))
+    ∙ ap (λ y. facts_of name (given y (sum y))) (sym same) ∙ printed_here name (sum name))
+    (λ e. facts_both name (given t (sum t)) (flat_map (λ n. given n (sum n)) tests)
+    ∙ ap (λ x. x ++ facts_of name (flat_map (λ n. given n (sum n)) tests)) (printed_elsewhere name t (sum t) (eq_swap t name ∙ e))
+    ∙ printed_of name sum tests d.1 (rw e at h))
 
 -- a test is among the tests of entries where one of them is of it
 mapped : (name : List ℕ) (es : List Entry) → list_any (bytes_eq name) (map (λ (e : Entry). e.test) es) ≡ list_any (λ (e : Entry). bytes_eq e.test name) es

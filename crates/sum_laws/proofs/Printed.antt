@@ -16,7 +16,7 @@ use Rattle.log_sum.specs.Summed.{Summed, StateSummed, or_else, is_validated}
 use Rattle.log_sum.specs.SumText.{kind_word, mark_sign, filling, state_line, verdict_word, verdict_end, how_often, hash_text, head_text, verdict_text, claim_text, condition_text, observation_text, test_text}
 use Rattle.sum_laws.proofs.Cases.{Kind, Mark, Place, allowed, outside, histogram, judgement, in_rest, conditioned_at, kind_cases, mark_cases}
 use Rattle.sum_laws.proofs.Texts.{no_feed, is_word, word_parts}
-use Rattle.sum_laws.proofs.Lines.{decimal_some, head_line, number_line, counted_line, totals_line, claim_line, told_hash, end_line, said_as, head_said, number_said, state_said, verdict_said, empty_said, outside_said, witnesses_said, totals_said, claim_said, hash_said, end_said}
+use Rattle.sum_laws.proofs.Lines.{decimal_some, head_line, number_line, counted_line, totals_line, claim_line, line_of_hash, end_line, said_as, head_said, number_said, state_said, verdict_said, empty_said, outside_said, witnesses_said, totals_said, claim_said, hash_said, end_said}
 use Rattle.sum_laws.proofs.Blocks.{seen_at, entry, put_fact, Clean, clean_parts, Goes, goes_on, IsLine, Fits, step, append_line, decimal_line}
 
 -- what a printed form, condition and hash are
@@ -32,8 +32,8 @@ pub record IsCondition (kind : Kind) (text : List ℕ) : Type 0 where
   pub one : list_all no_feed text ≡ true
 
 pub record IsHash (hash : List ℕ) : Type 0 where
-  pub trimmed : before_blanks (told_hash hash) ≡ told_hash hash
-  pub line : IsLine (told_hash hash)
+  pub trimmed : before_blanks (line_of_hash hash) ≡ line_of_hash hash
+  pub line : IsLine (line_of_hash hash)
 
 -- states can be printed: their counts aren't too large, and their forms are read back
 abbrev pub AreForms : List StateSummed → Type 0
@@ -70,8 +70,8 @@ hash_entries name None = []
 hash_entries name (Some hash) = entry name (a_hash hash) ∷ []
 
 -- the entries that a printed test gives
-abbrev pub told : List ℕ → Summed → List Entry
-told name test =
+abbrev pub given : List ℕ → Summed → List Entry
+given name test =
     entry name (a_kind (kind_of_test test)) ∷ (state_entries name test.states ++ entry name (a_condition (or_else [] test.condition) (said_as (is_validated test))) ∷ hash_entries name test.hash)
 
 -- lines
@@ -93,17 +93,17 @@ head_is_line name kind h =
     append_line (codes "Test ") (name ++ 32 ∷ kind_word kind) refl (not_nil name (kind_word kind))
     (append_line name (32 ∷ kind_word kind) (word_parts name h).2 refl (blank_line (kind_word kind) (some_kind kind) (kind_line kind)))
   where
-    not_nil : (front rest : List ℕ) → is_nil (front ++ 32 ∷ rest) ≡ false
+    not_nil : (prefix rest : List ℕ) → is_nil (prefix ++ 32 ∷ rest) ≡ false
     not_nil [] rest = refl
-    not_nil (b ∷ front) rest = refl
+    not_nil (b ∷ prefix) rest = refl
 
-some_front : (front rest : List ℕ) → is_nil front ≡ false → is_nil (front ++ rest) ≡ false
-some_front [] rest h = cc
-some_front (b ∷ front) rest h = refl
+some_prefix : (prefix rest : List ℕ) → is_nil prefix ≡ false → is_nil (prefix ++ rest) ≡ false
+some_prefix [] rest h = cc
+some_prefix (b ∷ prefix) rest h = refl
 
-some_back : (front : List ℕ) (b : ℕ) (rest : List ℕ) → is_nil (front ++ b ∷ rest) ≡ false
+some_back : (prefix : List ℕ) (b : ℕ) (rest : List ℕ) → is_nil (prefix ++ b ∷ rest) ≡ false
 some_back [] b rest = refl
-some_back (c ∷ front) b rest = refl
+some_back (c ∷ prefix) b rest = refl
 
 states_line : IsLine (codes " states)")
 unfolding without_return
@@ -111,7 +111,7 @@ states_line = by_refl _ refl refl
 
 number_is_line : (n : ℕ) → n ≤ last_count → IsLine (number_line n)
 number_is_line n h =
-    append_line (codes "Histogram (") (decimal n ++ codes " states)") refl (some_front (decimal n) (codes " states)") (decimal_some n h))
+    append_line (codes "Histogram (") (decimal n ++ codes " states)") refl (some_prefix (decimal n) (codes " states)") (decimal_some n h))
     (append_line (decimal n) (codes " states)") (decimal_line n h).one refl states_line)
 
 filled_feed : (n : ℕ) → list_all no_feed (replicate n 32) ≡ true
@@ -136,9 +136,9 @@ counted_is_line n mark form h l =
     let filled : IsLine (filling (decimal n) ++ (mark_sign mark ++ form)) = append_line (filling (decimal n)) (mark_sign mark ++ form) (filled_feed (6 - length (decimal n))) (some_sign mark form) sign in
     append_line (decimal n) (filling (decimal n) ++ (mark_sign mark ++ form)) (decimal_line n h).one (not_nil (filling (decimal n)) (mark_sign mark ++ form) (some_sign mark form)) filled
   where
-    not_nil : (front rest : List ℕ) → is_nil rest ≡ false → is_nil (front ++ rest) ≡ false
+    not_nil : (prefix rest : List ℕ) → is_nil rest ≡ false → is_nil (prefix ++ rest) ≡ false
     not_nil [] rest k = k
-    not_nil (b ∷ front) rest k = refl
+    not_nil (b ∷ prefix) rest k = refl
 
 verdict_is_line : (b : Bool) → IsLine (verdict_word b)
 unfolding without_return
@@ -155,7 +155,7 @@ witnesses_is_line = by_refl _ refl refl
 
 totals_is_line : (p q : ℕ) → p ≤ last_count → q ≤ last_count → IsLine (totals_line p q)
 totals_is_line p q h k =
-    append_line (codes "Positive: ") (decimal p ++ (codes ", Negative: " ++ decimal q)) refl (some_front (decimal p) (codes ", Negative: " ++ decimal q) (decimal_some p h))
+    append_line (codes "Positive: ") (decimal p ++ (codes ", Negative: " ++ decimal q)) refl (some_prefix (decimal p) (codes ", Negative: " ++ decimal q) (decimal_some p h))
     (append_line (decimal p) (codes ", Negative: " ++ decimal q) (decimal_line p h).one refl
     (append_line (codes ", Negative: ") (decimal q) refl (decimal_some q k) (decimal_line q k)))
 
@@ -170,7 +170,7 @@ some_end false = refl
 
 claim_is_line : (text : List ℕ) (b : Bool) → list_all no_feed text ≡ true → is_nil text ≡ false → IsLine (claim_line text b)
 claim_is_line text b h some =
-    append_line (codes "Condition ") (text ++ verdict_end b) refl (some_front text (verdict_end b) some)
+    append_line (codes "Condition ") (text ++ verdict_end b) refl (some_prefix text (verdict_end b) some)
     (append_line text (verdict_end b) h (some_end b) (verdict_end_line b))
 
 often_feed : (p q : ℕ) → list_all no_feed (how_often p q) ≡ true
@@ -203,7 +203,7 @@ claim_by_line : (test : Summed) (rest : List ℕ) → claim_text test ++ rest �
 unfolding claim_text
 claim_by_line test rest = simp append_assoc
 
-hash_by_line : (hash rest : List ℕ) → hash_text (Some hash) ++ rest ≡ told_hash hash ++ 10 ∷ rest
+hash_by_line : (hash rest : List ℕ) → hash_text (Some hash) ++ rest ≡ line_of_hash hash ++ 10 ∷ rest
 unfolding hash_text
 hash_by_line hash rest = simp append_assoc
 
@@ -302,8 +302,8 @@ unfolding place_after fact_said
 hash_goes before name kind line None rest i f c = rw (hash_none rest, append-nil before) (record { line = line; goes = record { lines = refl; last = refl; fits = subst Fits (hash_none rest) f } })
 hash_goes before name kind line (Some hash) rest i f c =
     let e = hash_by_line hash rest in
-    let f2 : Fits (told_hash hash ++ 10 ∷ rest) = subst Fits e f in
-    rw e (record { line = next_line line; goes = step before name (conditioned_at kind) line (told_hash hash) rest (hashed hash) i.line (hash_said kind hash i.trimmed) f2 c })
+    let f2 : Fits (line_of_hash hash ++ 10 ∷ rest) = subst Fits e f in
+    rw e (record { line = next_line line; goes = step before name (conditioned_at kind) line (line_of_hash hash) rest (hashed hash) i.line (hash_said kind hash i.trimmed) f2 c })
 
 end_goes : (before : List Entry) (name : List ℕ) (kind : Kind) (line : ℕ) (sum : Summed) (rest : List ℕ) → is_word name ≡ true → sum.starred ≤ last_count → sum.plain ≤ last_count → Fits (observation_text name sum ++ rest)
     → Goes (seen_at before name (conditioned_at kind) line) (seen_at before name outside (next_line (next_line line))) (observation_text name sum ++ rest) rest
@@ -317,8 +317,8 @@ end_goes before name kind line sum rest n h k f =
     rw e (goes_on one two)
 
 -- a printed test is read as the entries that it gives
-pub test_goes : (before : List Entry) (test name : List ℕ) (line : ℕ) (sum : Summed) (rest : List ℕ) → Printable name sum → Fits (test_text name sum ++ rest) → Clean before (told name sum)
-    → Went (seen_at before test outside line) (before ++ told name sum) name outside (test_text name sum ++ rest) rest
+pub test_goes : (before : List Entry) (test name : List ℕ) (line : ℕ) (sum : Summed) (rest : List ℕ) → Printable name sum → Fits (test_text name sum ++ rest) → Clean before (given name sum)
+    → Went (seen_at before test outside line) (before ++ given name sum) name outside (test_text name sum ++ rest) rest
 test_goes before test name line sum rest p f c =
     let kind : Kind = kind_of_test sum in
     let e = test_by_parts name sum rest in
@@ -345,17 +345,17 @@ test_goes before test name line sum rest p f c =
 
 -- a list of printed tests is read as the entries that they give
 pub texts_go : (before : List Entry) (test : List ℕ) (line : ℕ) (sum : List ℕ → Summed) (names : List (List ℕ)) (rest : List ℕ) → AllOf (λ name. Printable name (sum name)) names
-    → Fits (flat_map (λ name. test_text name (sum name)) names ++ rest) → Clean before (flat_map (λ name. told name (sum name)) names)
-    → Read (seen_at before test outside line) (before ++ flat_map (λ name. told name (sum name)) names) (flat_map (λ name. test_text name (sum name)) names ++ rest) rest
+    → Fits (flat_map (λ name. test_text name (sum name)) names ++ rest) → Clean before (flat_map (λ name. given name (sum name)) names)
+    → Read (seen_at before test outside line) (before ++ flat_map (λ name. given name (sum name)) names) (flat_map (λ name. test_text name (sum name)) names ++ rest) rest
 texts_go before test line sum [] rest p f c = rw (append-nil before) (record { test = test; line = line; goes = record { lines = refl; last = refl; fits = f } })
 texts_go before test line sum (name ∷ names) rest p f c =
     let more : List ℕ = flat_map (λ n. test_text n (sum n)) names ++ rest in
     let e : (test_text name (sum name) ++ flat_map (λ n. test_text n (sum n)) names) ++ rest ≡ test_text name (sum name) ++ more = append_assoc (test_text name (sum name)) (flat_map (λ n. test_text n (sum n)) names) rest in
     let f2 : Fits (test_text name (sum name) ++ more) = subst Fits e f in
-    let both : Clean before (told name (sum name)) × Clean (before ++ told name (sum name)) (flat_map (λ n. told n (sum n)) names) = clean_parts before (told name (sum name)) (flat_map (λ n. told n (sum n)) names) c in
+    let both : Clean before (given name (sum name)) × Clean (before ++ given name (sum name)) (flat_map (λ n. given n (sum n)) names) = clean_parts before (given name (sum name)) (flat_map (λ n. given n (sum n)) names) c in
     let one = test_goes before test name line (sum name) more p.0 f2 both.0 in
-    let further = texts_go (before ++ told name (sum name)) name one.line sum names rest p.1 one.goes.fits both.1 in
-    rw (e, sym (append_assoc before (told name (sum name)) (flat_map (λ n. told n (sum n)) names)))
+    let further = texts_go (before ++ given name (sum name)) name one.line sum names rest p.1 one.goes.fits both.1 in
+    rw (e, sym (append_assoc before (given name (sum name)) (flat_map (λ n. given n (sum n)) names)))
     (record { test = further.test; line = further.line; goes = goes_on one.goes further.goes })
 
 -- a file whose reading gives these entries is judged so
@@ -365,11 +365,11 @@ file_read s entries text r = rw (r.goes.lines, r.goes.last) refl
 
 -- a file of printed tests is judged as the entries that they give
 pub file_goes : (before : List Entry) (sum : List ℕ → Summed) (names : List (List ℕ)) → AllOf (λ name. Printable name (sum name)) names
-    → Fits (flat_map (λ name. test_text name (sum name)) names) → Clean before (flat_map (λ name. told name (sum name)) names)
-    → file_judged (seen_at before [] outside 1) (flat_map (λ name. test_text name (sum name)) names) ≡ Ok (seen_at (before ++ flat_map (λ name. told name (sum name)) names) [] outside 1)
+    → Fits (flat_map (λ name. test_text name (sum name)) names) → Clean before (flat_map (λ name. given name (sum name)) names)
+    → file_judged (seen_at before [] outside 1) (flat_map (λ name. test_text name (sum name)) names) ≡ Ok (seen_at (before ++ flat_map (λ name. given name (sum name)) names) [] outside 1)
 file_goes before sum names p f c =
     let text : List ℕ = flat_map (λ name. test_text name (sum name)) names in
     let e : text ++ [] ≡ text = append-nil text in
     let f2 : Fits (text ++ []) = subst Fits (sym e) f in
-    subst (λ t. file_judged (seen_at before [] outside 1) t ≡ Ok (seen_at (before ++ flat_map (λ name. told name (sum name)) names) [] outside 1)) e
-    (file_read (seen_at before [] outside 1) (before ++ flat_map (λ name. told name (sum name)) names) (text ++ []) (texts_go before [] 1 sum names [] p f2 c))
+    subst (λ t. file_judged (seen_at before [] outside 1) t ≡ Ok (seen_at (before ++ flat_map (λ name. given name (sum name)) names) [] outside 1)) e
+    (file_read (seen_at before [] outside 1) (before ++ flat_map (λ name. given name (sum name)) names) (text ++ []) (texts_go before [] 1 sum names [] p f2 c))

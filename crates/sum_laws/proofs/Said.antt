@@ -20,18 +20,18 @@ use Rattle.log_sum.specs.Facts.{Row}
 use Rattle.log_sum.specs.Lines.{Said, passed_over, begins, counts, a_state, judged, conditioned, hashed, ends, kind_of, test_named, test_line, outside_said, histogram_line, counts_said, mark_before, mark_of, mark_read, row_of, row_marked, row_counted, row_line, row_said, is_judgement, verdict_cut, condition_line, quantifier, hash_line, is_observation, hash_said, condition_said, no_test, rest_said, line_said, place_after, kind_at}
 use Rattle.sum_laws.proofs.Cases.{Kind, Mark, Verdict, Place, validated, not_validated, outside, histogram, judgement, in_rest, conditioned_at, IsStates, is_ok, is_outside, outside_is, kind_cases, place_cases}
 use Rattle.sum_laws.proofs.Texts.{no_feed, is_word, words_plain, words_both, joined_is, joined_both, joined_no_feed, all_take, all_drop, all_after, all_trimmed, before_twice}
-use Rattle.sum_laws.proofs.Lines.{told_hash}
+use Rattle.sum_laws.proofs.Lines.{line_of_hash}
 use Rattle.sum_laws.proofs.Printed.{IsForm, IsCondition}
 use Rattle.sum_laws.proofs.Forms.{form_is, begins_so}
 
 -- a hash that was read
 pub record IsRead (hash : List ℕ) : Type 0 where
-  pub trimmed : before_blanks (told_hash hash) ≡ told_hash hash
+  pub trimmed : before_blanks (line_of_hash hash) ≡ line_of_hash hash
   pub one : list_all no_feed hash ≡ true
 
 -- a block has had its condition
-unfoldable pub is_behind : Place → Bool
-is_behind p = is_ok (line_said p (codes "Observation"))
+unfoldable pub is_after : Place → Bool
+is_after p = is_ok (line_said p (codes "Observation"))
 
 -- what a line says at a place
 abbrev pub SaidOf : Place → Said → Type 0
@@ -42,7 +42,7 @@ SaidOf p (a_state row) = (is_outside p ≡ false) × IsForm row.state
 SaidOf p judged = is_outside p ≡ false
 SaidOf p (conditioned text verdict) = (is_outside p ≡ false) × IsCondition (kind_at p) text
 SaidOf p (hashed hash) = (is_outside p ≡ false) × IsRead hash
-SaidOf p ends = (is_outside p ≡ false) × (is_behind p ≡ true)
+SaidOf p ends = (is_outside p ≡ false) × (is_after p ≡ true)
 
 -- the parts of a pair
 pair_of : {A B : Type 0} (p q : A × B) → ◌≡◌ {A = Option (A × B)} (Some p) (Some q) → (p.0 ≡ q.0) × (p.1 ≡ q.1)
@@ -181,7 +181,7 @@ hash_from text hash h e =
     by_test (begins_with (trimmed text) (codes "Hash="))
     (λ t. let k = rw t at e in
     let same : drop 5 (trimmed text) ≡ hash = cc in
-    let whole : trimmed text ≡ told_hash (drop 5 (trimmed text)) = begins_so (trimmed text) (codes "Hash=") t in
+    let whole : trimmed text ≡ line_of_hash (drop 5 (trimmed text)) = begins_so (trimmed text) (codes "Hash=") t in
     subst IsRead same (record {
       trimmed = ap before_blanks (sym whole) ∙ before_twice (unblanked text) ∙ whole;
       one = all_drop no_feed 5 (trimmed text) (all_trimmed no_feed text h);
@@ -273,15 +273,15 @@ inside_conditioned : (k : Kind) → is_outside (conditioned_at k) ≡ false
 unfolding place_after
 inside_conditioned k = refl
 
-behind_conditioned : (k : Kind) → is_behind (conditioned_at k) ≡ true
-unfolding is_behind place_after line_said words
-behind_conditioned k = refl
+after_conditioned : (k : Kind) → is_after (conditioned_at k) ≡ true
+unfolding is_after place_after line_said words
+after_conditioned k = refl
 
 conditioned_says : (k : Kind) (text : List ℕ) (said : Said) → list_all no_feed text ≡ true → line_said (conditioned_at k) text ≡ Ok said → SaidOf (conditioned_at k) said
 unfolding line_said place_after
 conditioned_says k text said h e =
     by_test (is_observation (words text))
-    (λ t. let f = rw t at e in let same : ends ≡ said = cc in subst (SaidOf (conditioned_at k)) same (inside_conditioned k, behind_conditioned k))
+    (λ t. let f = rw t at e in let same : ends ≡ said = cc in subst (SaidOf (conditioned_at k)) same (inside_conditioned k, after_conditioned k))
     (λ t. rest_says (conditioned_at k) text said (inside_conditioned k) h (rw t at e))
 
 -- what a line without line feeds says fits its place, and can be printed

@@ -18,10 +18,10 @@ clean_both before (e ∷ one) two c d = (c.0, clean_both (before ++ e ∷ []) on
 
 -- a reading gives the same entries, whatever the entries before
 pub record Scanned (read : Seen → Result Seen LogError) (s t : Seen) : Type 0 where
-  pub told : List Entry
-  pub entries : t.entries ≡ s.entries ++ told
-  pub clean : Clean s.entries told
-  pub again : (before : List Entry) → Clean before told → read (record s { entries = before }) ≡ Ok (record t { entries = before ++ told })
+  pub given : List Entry
+  pub entries : t.entries ≡ s.entries ++ given
+  pub clean : Clean s.entries given
+  pub again : (before : List Entry) → Clean before given → read (record s { entries = before }) ≡ Ok (record t { entries = before ++ given })
 
 -- a reading that has no fault gives entries so
 abbrev pub Scans : (Seen → Result Seen LogError) → Type 0
@@ -36,20 +36,20 @@ then_scans one two f g s t e = by_first (one s) refl e
     by_first (Ok mid) h k =
         let a = f s mid h in
         let b = g mid t k in
-        let same : (s.entries ++ a.told) ++ b.told ≡ s.entries ++ (a.told ++ b.told) = append_assoc s.entries a.told b.told in
+        let same : (s.entries ++ a.given) ++ b.given ≡ s.entries ++ (a.given ++ b.given) = append_assoc s.entries a.given b.given in
         record {
-          told = a.told ++ b.told;
-          entries = b.entries ∙ ap (λ x. x ++ b.told) a.entries ∙ same;
-          clean = clean_both s.entries a.told b.told a.clean (subst (λ x. Clean x b.told) a.entries b.clean);
+          given = a.given ++ b.given;
+          entries = b.entries ∙ ap (λ x. x ++ b.given) a.entries ∙ same;
+          clean = clean_both s.entries a.given b.given a.clean (subst (λ x. Clean x b.given) a.entries b.clean);
           again = λ before c.
-              let parts = clean_parts before a.told b.told c in
-              rw (a.again before parts.0, b.again (before ++ a.told) parts.1, append_assoc before a.told b.told) refl;
+              let parts = clean_parts before a.given b.given c in
+              rw (a.again before parts.0, b.again (before ++ a.given) parts.1, append_assoc before a.given b.given) refl;
         }
 
 -- no entry is given
-nothing_told : (read : Seen → Result Seen LogError) (s t : Seen) → t.entries ≡ s.entries → ((before : List Entry) → read (record s { entries = before }) ≡ Ok (record t { entries = before })) → Scanned read s t
-nothing_told read s t e again = record {
-  told = [];
+nothing_given : (read : Seen → Result Seen LogError) (s t : Seen) → t.entries ≡ s.entries → ((before : List Entry) → read (record s { entries = before }) ≡ Ok (record t { entries = before })) → Scanned read s t
+nothing_given read s t e again = record {
+  given = [];
   entries = e ∙ sym (append-nil s.entries);
   clean = tt;
   again = λ before c. rw (append-nil before) (again before);
@@ -58,7 +58,7 @@ nothing_told read s t e again = record {
 fact_scans : (o : Option Fact) → Scans (λ s. fact_put s o >>= at_next_line)
 fact_scans None s t e =
     let same : record s { line = next_line s.line } ≡ t = cc in
-    nothing_told (λ s. fact_put s None >>= at_next_line) s t (ap (λ (x : Seen). x.entries) (sym same)) (λ before. ap Ok (ap (λ (x : Seen). record x { entries = before }) same))
+    nothing_given (λ s. fact_put s None >>= at_next_line) s t (ap (λ (x : Seen). x.entries) (sym same)) (λ before. ap Ok (ap (λ (x : Seen). record x { entries = before }) same))
 fact_scans (Some fact) s t e = by_fault (fault_of (facts_of s.test s.entries) fact) refl e
   where
     by_fault : (f : Option LogKind) → fault_of (facts_of s.test s.entries) fact ≡ f → (fact_judged s fact f >>= at_next_line) ≡ Ok t → Scanned (λ x. fact_put x (Some fact) >>= at_next_line) s t
@@ -66,7 +66,7 @@ fact_scans (Some fact) s t e = by_fault (fault_of (facts_of s.test s.entries) fa
     by_fault None h k =
         let same : record s { entries = s.entries ++ entry s.test fact ∷ []; line = next_line s.line } ≡ t = cc in
         record {
-          told = entry s.test fact ∷ [];
+          given = entry s.test fact ∷ [];
           entries = ap (λ (x : Seen). x.entries) (sym same);
           clean = (h, tt);
           again = λ before c. rw c.0 (ap Ok (ap (λ (x : Seen). record x { entries = before ++ entry s.test fact ∷ [] }) same));
@@ -76,13 +76,13 @@ said_scans : (r : Result Said LogKind) → Scans (λ s. said_put s r)
 said_scans (Err kind) s t e = absurd (cc)
 said_scans (Ok said) s t e =
     let k = fact_scans (fact_said said) (record s { test = test_after s.test said; place = place_after s.place said }) t e in
-    record { told = k.told; entries = k.entries; clean = k.clean; again = λ before c. k.again before c }
+    record { given = k.given; entries = k.entries; clean = k.clean; again = λ before c. k.again before c }
 
 text_scans : (text : List ℕ) → Scans (λ s. text_judged s text)
 unfolding text_judged
 text_scans text s t e =
     let k = said_scans (line_said s.place text) s t e in
-    record { told = k.told; entries = k.entries; clean = k.clean; again = λ before c. k.again before c }
+    record { given = k.given; entries = k.entries; clean = k.clean; again = λ before c. k.again before c }
 
 line_scans : (line : List ℕ) → Scans (λ s. line_judged s line)
 unfolding line_judged
@@ -90,24 +90,24 @@ line_scans line s t e =
     by_test (is_too_long line)
     (λ h. let k = rw h at e in absurd (cc))
     (λ h. let k = text_scans (without_return line) s t (rw h at e) in
-    record { told = k.told; entries = k.entries; clean = k.clean; again = λ before c. rw h (k.again before c) })
+    record { given = k.given; entries = k.entries; clean = k.clean; again = λ before c. rw h (k.again before c) })
 
 lines_scan : (lines : List (List ℕ)) → Scans (λ s. lines_judged s lines)
 lines_scan [] s t e =
     let same : s ≡ t = cc in
-    nothing_told (λ x. lines_judged x []) s t (ap (λ (x : Seen). x.entries) (sym same)) (λ before. ap Ok (ap (λ (x : Seen). record x { entries = before }) same))
+    nothing_given (λ x. lines_judged x []) s t (ap (λ (x : Seen). x.entries) (sym same)) (λ before. ap Ok (ap (λ (x : Seen). record x { entries = before }) same))
 lines_scan (line ∷ lines) s t e = then_scans (λ x. line_judged x line) (λ x. lines_judged x lines) (line_scans line) (lines_scan lines) s t e
 
 last_scans : (bytes : List ℕ) → Scans (λ s. last_judged s bytes)
 unfolding last_judged
 last_scans [] s t e =
     let same : s ≡ t = cc in
-    nothing_told (λ x. last_judged x []) s t (ap (λ (x : Seen). x.entries) (sym same)) (λ before. ap Ok (ap (λ (x : Seen). record x { entries = before }) same))
+    nothing_given (λ x. last_judged x []) s t (ap (λ (x : Seen). x.entries) (sym same)) (λ before. ap Ok (ap (λ (x : Seen). record x { entries = before }) same))
 last_scans (b ∷ bytes) s t e =
     by_test (is_too_long (b ∷ bytes))
     (λ h. let k = rw h at e in absurd (cc))
     (λ h. let k = text_scans (b ∷ bytes) s t (rw h at e) in
-    record { told = k.told; entries = k.entries; clean = k.clean; again = λ before c. rw h (k.again before c) })
+    record { given = k.given; entries = k.entries; clean = k.clean; again = λ before c. rw h (k.again before c) })
 
 inside_ends : (s t : Seen) (p : Place) → is_outside p ≡ false → end_at s p ≡ Ok t → ⊥
 inside_ends s t p h e = grind arith
@@ -128,7 +128,7 @@ end_is s t e = by_test (is_outside s.place)
 end_scans : Scans end_judged
 end_scans s t e =
     let k = end_is s t e in
-    nothing_told end_judged s t (ap (λ (x : Seen). x.entries) k.is)
+    nothing_given end_judged s t (ap (λ (x : Seen). x.entries) k.is)
     (λ before. ap (end_at (record s { entries = before })) k.place ∙ ap Ok (ap (λ (x : Seen). record x { entries = before }) (sym k.is)))
 
 file_scans : (bytes : List ℕ) → Scans (λ s. file_judged s bytes)
@@ -141,7 +141,7 @@ file_scans bytes =
 pub files_scan : (files : List (List ℕ)) → Scans (λ s. files_judged s files)
 files_scan [] s t e =
     let same : s ≡ t = cc in
-    nothing_told (λ x. files_judged x []) s t (ap (λ (x : Seen). x.entries) (sym same)) (λ before. ap Ok (ap (λ (x : Seen). record x { entries = before }) same))
+    nothing_given (λ x. files_judged x []) s t (ap (λ (x : Seen). x.entries) (sym same)) (λ before. ap Ok (ap (λ (x : Seen). record x { entries = before }) same))
 files_scan (file ∷ files) s t e = then_scans (λ x. file_judged x file) (λ x. files_judged x files) (file_scans file) (files_scan files) s t e
 
 -- files are judged one list after another

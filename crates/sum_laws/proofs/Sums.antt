@@ -10,7 +10,7 @@ use Rattle.sum_laws.proofs.Cases.{Mark, plain}
 use Rattle.sum_laws.proofs.Texts.{bytes_same}
 use Rattle.sum_laws.proofs.Lines.{said_as}
 use Rattle.sum_laws.proofs.Blocks.{entry}
-use Rattle.sum_laws.proofs.Printed.{AllOf, kind_of_test, state_entries, hash_entries, told}
+use Rattle.sum_laws.proofs.Printed.{AllOf, kind_of_test, state_entries, hash_entries, given}
 use Rattle.sum_laws.proofs.Agreeing.{rows_both, conditions_both, hashes_both, or_first, marked_both, state_both, mark_both, marked_one, state_one, mark_one, marked_none, fact_here, fact_elsewhere, facts_both, bytes_is}
 use Rattle.log_sum.proofs.SumLaws.{Ascends, fold_ascends, any_fold, eq_swap}
 use Rattle.sum_laws.proofs.Orders.{Distinct, ascends_distinct}
@@ -26,8 +26,8 @@ hash_facts None = []
 hash_facts (Some hash) = a_hash hash ∷ []
 
 -- the facts that a printed test gives
-abbrev pub told_facts : Summed → List Fact
-told_facts sum = a_kind (kind_of_test sum) ∷ (state_facts sum.states ++ a_condition (or_else [] sum.condition) (said_as (is_validated sum)) ∷ hash_facts sum.hash)
+abbrev pub printed_facts : Summed → List Fact
+printed_facts sum = a_kind (kind_of_test sum) ∷ (state_facts sum.states ++ a_condition (or_else [] sum.condition) (said_as (is_validated sum)) ∷ hash_facts sum.hash)
 
 states_here : (name : List ℕ) (states : List StateSummed) → facts_of name (state_entries name states) ≡ state_facts states
 states_here name [] = refl
@@ -39,8 +39,8 @@ hash_here name None = refl
 hash_here name (Some hash) = fact_here name (entry name (a_hash hash)) [] (bytes_same name)
 
 -- the facts of the test among the entries that it gives are those facts
-pub told_here : (name : List ℕ) (sum : Summed) → facts_of name (told name sum) ≡ told_facts sum
-told_here name sum =
+pub printed_here : (name : List ℕ) (sum : Summed) → facts_of name (given name sum) ≡ printed_facts sum
+printed_here name sum =
     let condition : Fact = a_condition (or_else [] sum.condition) (said_as (is_validated sum)) in
     fact_here name (entry name (a_kind (kind_of_test sum))) (state_entries name sum.states ++ entry name condition ∷ hash_entries name sum.hash) (bytes_same name)
     ∙ ap (λ t. a_kind (kind_of_test sum) ∷ t) (facts_both name (state_entries name sum.states) (entry name condition ∷ hash_entries name sum.hash)
@@ -56,8 +56,8 @@ hash_elsewhere other name None h = refl
 hash_elsewhere other name (Some hash) h = fact_elsewhere other (entry name (a_hash hash)) [] h
 
 -- the entries of one test have no facts of another
-pub told_elsewhere : (other name : List ℕ) (sum : Summed) → bytes_eq name other ≡ false → facts_of other (told name sum) ≡ []
-told_elsewhere other name sum h =
+pub printed_elsewhere : (other name : List ℕ) (sum : Summed) → bytes_eq name other ≡ false → facts_of other (given name sum) ≡ []
+printed_elsewhere other name sum h =
     let condition : Fact = a_condition (or_else [] sum.condition) (said_as (is_validated sum)) in
     fact_elsewhere other (entry name (a_kind (kind_of_test sum))) (state_entries name sum.states ++ entry name condition ∷ hash_entries name sum.hash) h
     ∙ facts_both other (state_entries name sum.states) (entry name condition ∷ hash_entries name sum.hash)
@@ -93,21 +93,21 @@ hash_first None = refl
 hash_first (Some h) = refl
 
 -- the rows that a printed test gives are those of its states
-pub told_rows : (sum : Summed) → rows (told_facts sum) ≡ map row_of_state sum.states
-told_rows sum =
+pub rows_of_printed : (sum : Summed) → rows (printed_facts sum) ≡ map row_of_state sum.states
+rows_of_printed sum =
     rows_both (state_facts sum.states) (a_condition (or_else [] sum.condition) (said_as (is_validated sum)) ∷ hash_facts sum.hash)
     ∙ ap (λ t. rows (state_facts sum.states) ++ t) (hash_no_row sum.hash) ∙ append-nil (rows (state_facts sum.states)) ∙ states_rows sum.states
 
 -- a printed test gives one condition, with its verdict
-pub told_conditions : (sum : Summed) → conditions (told_facts sum) ≡ (or_else [] sum.condition, said_as (is_validated sum)) ∷ []
-told_conditions sum =
+pub printed_conditions : (sum : Summed) → conditions (printed_facts sum) ≡ (or_else [] sum.condition, said_as (is_validated sum)) ∷ []
+printed_conditions sum =
     conditions_both (state_facts sum.states) (a_condition (or_else [] sum.condition) (said_as (is_validated sum)) ∷ hash_facts sum.hash)
     ∙ ap (λ t. t ++ (or_else [] sum.condition, said_as (is_validated sum)) ∷ conditions (hash_facts sum.hash)) (states_no_condition sum.states)
     ∙ ap (λ t. (or_else [] sum.condition, said_as (is_validated sum)) ∷ t) (hash_no_condition sum.hash)
 
 -- a printed test gives its hash, where it has one
-pub told_hash_first : (sum : Summed) → first_of (hashes (told_facts sum)) ≡ sum.hash
-told_hash_first sum =
+pub line_of_hash_first : (sum : Summed) → first_of (hashes (printed_facts sum)) ≡ sum.hash
+line_of_hash_first sum =
     ap first_of (hashes_both (state_facts sum.states) (a_condition (or_else [] sum.condition) (said_as (is_validated sum)) ∷ hash_facts sum.hash)
     ∙ ap (λ t. t ++ hashes (hash_facts sum.hash)) (states_no_hash sum.states)) ∙ hash_first sum.hash
 

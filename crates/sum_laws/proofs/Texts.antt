@@ -94,10 +94,10 @@ unfolding before_blanks
 one_more c b text h = ap (kept_before c) h
 
 -- a text whose later part has no blank at its end stays as it is
-pub end_stays : (front : List ℕ) (b : ℕ) (text : List ℕ) → before_blanks (b ∷ text) ≡ b ∷ text → before_blanks (front ++ b ∷ text) ≡ front ++ b ∷ text
+pub end_stays : (prefix : List ℕ) (b : ℕ) (text : List ℕ) → before_blanks (b ∷ text) ≡ b ∷ text → before_blanks (prefix ++ b ∷ text) ≡ prefix ++ b ∷ text
 end_stays [] b text h = h
 end_stays (c ∷ []) b text h = one_more c b text h
-end_stays (c ∷ d ∷ front) b text h = one_more c d (front ++ b ∷ text) (end_stays (d ∷ front) b text h)
+end_stays (c ∷ d ∷ prefix) b text h = one_more c d (prefix ++ b ∷ text) (end_stays (d ∷ prefix) b text h)
 
 -- a byte that isn't a blank stays before a text that stays
 pub ink_stays : (b : ℕ) (text : List ℕ) → is_blank b ≡ false → before_blanks text ≡ text → before_blanks (b ∷ text) ≡ b ∷ text
@@ -110,11 +110,11 @@ some_words : List (List ℕ) → List (List ℕ)
 some_words pieces = filter (λ word. not (is_nil word)) pieces
 
 -- a text that is split at a byte that passes is the pieces of both parts
-pub split_both : (p : ℕ → Bool) (front : List ℕ) (b : ℕ) (text : List ℕ) → p b ≡ true → slice_split p (front ++ b ∷ text) ≡ slice_split p front ++ slice_split p text
+pub split_both : (p : ℕ → Bool) (prefix : List ℕ) (b : ℕ) (text : List ℕ) → p b ≡ true → slice_split p (prefix ++ b ∷ text) ≡ slice_split p prefix ++ slice_split p text
 split_both p [] b text h = rw h refl
-split_both p (c ∷ front) b text h =
-    let first = first_piece p front in
-    by_test (p c) (λ e. rw e (ap (λ t. [] ∷ t) (split_both p front b text h))) (λ e. rw e (ap (onto_first c) (split_both p front b text h) ∙ rw first.is refl))
+split_both p (c ∷ prefix) b text h =
+    let first = first_piece p prefix in
+    by_test (p c) (λ e. rw e (ap (λ t. [] ∷ t) (split_both p prefix b text h))) (λ e. rw e (ap (onto_first c) (split_both p prefix b text h) ∙ rw first.is refl))
 
 -- a text of which no byte passes is one piece
 pub split_whole : (p : ℕ → Bool) (text : List ℕ) → list_all (λ b. not (p b)) text ≡ true → slice_split p text ≡ text ∷ []
@@ -125,11 +125,11 @@ split_whole p (b ∷ text) h =
     rw n (ap (onto_first b) (split_whole p text k.1))
 
 -- the words of two texts with a blank between them are those of both
-pub words_both : (front text : List ℕ) → words (front ++ 32 ∷ text) ≡ words front ++ words text
+pub words_both : (prefix text : List ℕ) → words (prefix ++ 32 ∷ text) ≡ words prefix ++ words text
 unfolding words
-words_both front text =
-    ap (filter (λ word. not (is_nil word))) (split_both is_blank front 32 text refl)
-    ∙ filter-append (λ word. not (is_nil word)) (slice_split is_blank front) (slice_split is_blank text)
+words_both prefix text =
+    ap (filter (λ word. not (is_nil word))) (split_both is_blank prefix 32 text refl)
+    ∙ filter-append (λ word. not (is_nil word)) (slice_split is_blank prefix) (slice_split is_blank text)
 
 -- a text without blanks that isn't empty is one word
 pub one_word : (word : List ℕ) → list_all is_inked word ≡ true → is_nil word ≡ false → words word ≡ word ∷ []
@@ -190,11 +190,11 @@ pub word_is : (word : List ℕ) → is_word word ≡ true → words word ≡ wor
 word_is word h = let k = word_parts word h in one_word word k.1 k.0
 
 -- words that are joined are its words
-later_is : (ws : List (List ℕ)) (front : List ℕ) → list_all is_word ws ≡ true → words (front ++ later_words ws) ≡ words front ++ ws
-later_is [] front h = ap words (append-nil front) ∙ sym (append-nil (words front))
-later_is (w ∷ ws) front h =
+later_is : (ws : List (List ℕ)) (prefix : List ℕ) → list_all is_word ws ≡ true → words (prefix ++ later_words ws) ≡ words prefix ++ ws
+later_is [] prefix h = ap words (append-nil prefix) ∙ sym (append-nil (words prefix))
+later_is (w ∷ ws) prefix h =
     let k : (is_word w ≡ true) × (list_all is_word ws ≡ true) = and_parts (is_word w) (list_all is_word ws) h in
-    words_both front (w ++ later_words ws) ∙ ap (λ t. words front ++ t) (later_is ws w k.1 ∙ ap (λ t. t ++ ws) (word_is w k.0))
+    words_both prefix (w ++ later_words ws) ∙ ap (λ t. words prefix ++ t) (later_is ws w k.1 ∙ ap (λ t. t ++ ws) (word_is w k.0))
 
 -- an empty text has no words
 pub no_words : words [] ≡ []

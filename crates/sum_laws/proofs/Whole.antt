@@ -26,39 +26,39 @@ use Rattle.sum_laws.proofs.Forms.{split_lacks}
 use Rattle.sum_laws.proofs.Scans.{end_is}
 use Rattle.sum_laws.proofs.Agreeing.{all_of_both, kinds_both, conditions_both, or_first, first_both, facts_both, fact_here, none_if, kind_is, bytes_is}
 use Rattle.sum_laws.proofs.Alike.{Complete}
-use Rattle.sum_laws.proofs.Said.{IsRead, SaidOf, is_behind, line_says}
+use Rattle.sum_laws.proofs.Said.{IsRead, SaidOf, is_after, line_says}
 
 -- a fact can be printed
-abbrev pub IsTold : Fact → Type 0
-IsTold (a_kind kind) = Unit {0}
-IsTold (a_row row) = IsForm row.state
-IsTold (a_condition text verdict) = Unit {0}
-IsTold (a_hash hash) = IsRead hash
+abbrev pub IsPrintable : Fact → Type 0
+IsPrintable (a_kind kind) = Unit {0}
+IsPrintable (a_row row) = IsForm row.state
+IsPrintable (a_condition text verdict) = Unit {0}
+IsPrintable (a_hash hash) = IsRead hash
 
 -- an entry can be printed: its test is a word, and its fact can be printed
-abbrev pub IsToldOf : Entry → Type 0
-IsToldOf e = (is_word e.test ≡ true) × IsTold e.fact
+abbrev pub IsPrintableEntry : Entry → Type 0
+IsPrintableEntry e = (is_word e.test ≡ true) × IsPrintable e.fact
 
 -- a test is whole, or it is the running one
-pub data Stands (s : Seen) (name : List ℕ) : Type 0 where
-  whole : (complete : Complete (facts_of name s.entries)) → Stands s name
-  running : (inside : is_outside s.place ≡ false) (same : name ≡ s.test) → Stands s name
+pub data WholeOrRunning (s : Seen) (name : List ℕ) : Type 0 where
+  whole : (complete : Complete (facts_of name s.entries)) → WholeOrRunning s name
+  running : (inside : is_outside s.place ≡ false) (same : name ≡ s.test) → WholeOrRunning s name
 
 -- the entries so far can be printed, and each test is whole or is the running one
 pub record Keeps (s : Seen) : Type 0 where
-  pub told : AllOf IsToldOf s.entries
+  pub given : AllOf IsPrintableEntry s.entries
   pub named : is_outside s.place ≡ false → is_word s.test ≡ true
   pub kind : is_outside s.place ≡ false → first_of (kinds (facts_of s.test s.entries)) ≡ Some (kind_at s.place)
-  pub behind : is_outside s.place ≡ false → is_behind s.place ≡ true → Complete (facts_of s.test s.entries)
-  pub tests : (name : List ℕ) → list_any (λ (e : Entry). bytes_eq e.test name) s.entries ≡ true → Stands s name
+  pub after : is_outside s.place ≡ false → is_after s.place ≡ true → Complete (facts_of s.test s.entries)
+  pub tests : (name : List ℕ) → list_any (λ (e : Entry). bytes_eq e.test name) s.entries ≡ true → WholeOrRunning s name
 
 -- at the start that is so
 pub keeps_nothing : Keeps nothing_seen
 keeps_nothing = record {
-  told = tt;
+  given = tt;
   named = λ h. absurd (let k : true ≡ false = h in cc);
   kind = λ h. absurd (let k : true ≡ false = h in cc);
-  behind = λ h e. absurd (let k : true ≡ false = h in cc);
+  after = λ h e. absurd (let k : true ≡ false = h in cc);
   tests = λ name h. absurd (let k : false ≡ true = h in cc);
 }
 
@@ -97,23 +97,23 @@ kind_after : (k : Kind) (n : ℕ) → kind_at (after_state k n) ≡ k
 kind_after k zero = refl
 kind_after k (suc n) = kind_left k n
 
-not_behind_left : (k : Kind) (n : ℕ) → is_behind (states_left k n) ≡ false
-unfolding is_behind line_said words row_line count_read run_of after_run before_blanks
-not_behind_left k zero = refl
-not_behind_left k (suc n) = refl
+not_after_left : (k : Kind) (n : ℕ) → is_after (states_left k n) ≡ false
+unfolding is_after line_said words row_line count_read run_of after_run before_blanks
+not_after_left k zero = refl
+not_after_left k (suc n) = refl
 
-not_behind_after : (k : Kind) (n : ℕ) → is_behind (after_state k n) ≡ false
-unfolding is_behind line_said words row_line count_read run_of after_run before_blanks
-not_behind_after k zero = refl
-not_behind_after k (suc n) = not_behind_left k n
+not_after_state : (k : Kind) (n : ℕ) → is_after (after_state k n) ≡ false
+unfolding is_after line_said words row_line count_read run_of after_run before_blanks
+not_after_state k zero = refl
+not_after_state k (suc n) = not_after_left k n
 
-not_behind_histogram : (k : Kind) → is_behind (histogram k) ≡ false
-unfolding is_behind place_after line_said words histogram_line
-not_behind_histogram k = refl
+not_after_histogram : (k : Kind) → is_after (histogram k) ≡ false
+unfolding is_after place_after line_said words histogram_line
+not_after_histogram k = refl
 
-not_behind_rest : (k : Kind) → is_behind (in_rest k) ≡ false
-unfolding is_behind place_after line_said words
-not_behind_rest k = refl
+not_after_rest : (k : Kind) → is_after (in_rest k) ≡ false
+unfolding is_after place_after line_said words
+not_after_rest k = refl
 
 inside_left : (k : Kind) (n : ℕ) → is_outside (states_left k n) ≡ false
 inside_left k zero = refl
@@ -127,32 +127,32 @@ not_both : {G : Type 0} (b : Bool) → b ≡ true → b ≡ false → G
 not_both b h k = let f : true ≡ false = sym h ∙ k in absurd (cc)
 
 -- a step that gives no fact, to a place that isn't after a condition
-moved : (s : Seen) (place : Place) (line : ℕ) → Keeps s → is_outside s.place ≡ false → kind_at place ≡ kind_at s.place → is_outside place ≡ false → is_behind place ≡ false → Keeps (record s { place = place; line = line })
+moved : (s : Seen) (place : Place) (line : ℕ) → Keeps s → is_outside s.place ≡ false → kind_at place ≡ kind_at s.place → is_outside place ≡ false → is_after place ≡ false → Keeps (record s { place = place; line = line })
 moved s place line k o e i b = record {
-  told = k.told;
+  given = k.given;
   named = λ h. k.named o;
   kind = λ h. k.kind o ∙ ap Some (sym e);
-  behind = λ h f. not_both (is_behind place) f b;
-  tests = λ name h. by_stand name (k.tests name h);
+  after = λ h f. not_both (is_after place) f b;
+  tests = λ name h. by_represent name (k.tests name h);
 }
   where
-    by_stand : (name : List ℕ) → Stands s name → Stands (record s { place = place; line = line }) name
-    by_stand name (whole complete) = whole complete
-    by_stand name (running inside same) = running i same
+    by_represent : (name : List ℕ) → WholeOrRunning s name → WholeOrRunning (record s { place = place; line = line }) name
+    by_represent name (whole complete) = whole complete
+    by_represent name (running inside same) = running i same
 
 -- the end of a block
-ended : (s : Seen) (line : ℕ) → Keeps s → is_outside s.place ≡ false → is_behind s.place ≡ true → Keeps (record s { place = outside; line = line })
+ended : (s : Seen) (line : ℕ) → Keeps s → is_outside s.place ≡ false → is_after s.place ≡ true → Keeps (record s { place = outside; line = line })
 ended s line k o b = record {
-  told = k.told;
+  given = k.given;
   named = λ h. not_both true refl h;
   kind = λ h. not_both true refl h;
-  behind = λ h f. not_both true refl h;
-  tests = λ name h. by_stand name (k.tests name h);
+  after = λ h f. not_both true refl h;
+  tests = λ name h. by_represent name (k.tests name h);
 }
   where
-    by_stand : (name : List ℕ) → Stands s name → Stands (record s { place = outside; line = line }) name
-    by_stand name (whole complete) = whole complete
-    by_stand name (running inside same) = whole (subst (λ (n : List ℕ). Complete (facts_of n s.entries)) (sym same) (k.behind o b))
+    by_represent : (name : List ℕ) → WholeOrRunning s name → WholeOrRunning (record s { place = outside; line = line }) name
+    by_represent name (whole complete) = whole complete
+    by_represent name (running inside same) = whole (subst (λ (n : List ℕ). Complete (facts_of n s.entries)) (sym same) (k.after o b))
 
 -- the tests of entries with one more
 in_more : (entries : List Entry) (e : Entry) (name : List ℕ) → list_any (λ (x : Entry). bytes_eq x.test name) (entries ++ e ∷ []) ≡ true → bytes_eq e.test name ≡ false → list_any (λ (x : Entry). bytes_eq x.test name) entries ≡ true
@@ -166,21 +166,21 @@ in_more entries e name h f =
     by_left false false f k = cc
 
 -- a step inside a block that gives a fact of it
-told_more : (s : Seen) (place : Place) (line : ℕ) (fact : Fact) → Keeps s → is_outside s.place ≡ false → IsTold fact → kind_at place ≡ kind_at s.place → is_outside place ≡ false
-    → (is_behind place ≡ true → Complete (facts_of s.test (s.entries ++ entry s.test fact ∷ []))) → Keeps (record s { entries = s.entries ++ entry s.test fact ∷ []; place = place; line = line })
-told_more s place line fact k o t e i c = record {
-  told = all_of_both IsToldOf s.entries (entry s.test fact ∷ []) k.told ((k.named o, t), tt);
+printable_more : (s : Seen) (place : Place) (line : ℕ) (fact : Fact) → Keeps s → is_outside s.place ≡ false → IsPrintable fact → kind_at place ≡ kind_at s.place → is_outside place ≡ false
+    → (is_after place ≡ true → Complete (facts_of s.test (s.entries ++ entry s.test fact ∷ []))) → Keeps (record s { entries = s.entries ++ entry s.test fact ∷ []; place = place; line = line })
+printable_more s place line fact k o t e i c = record {
+  given = all_of_both IsPrintableEntry s.entries (entry s.test fact ∷ []) k.given ((k.named o, t), tt);
   named = λ h. k.named o;
   kind = λ h. kind_on s.entries (entry s.test fact ∷ []) s.test (kind_at s.place) (k.kind o) ∙ ap Some (sym e);
-  behind = λ h f. c f;
+  after = λ h f. c f;
   tests = λ name h. by_test (bytes_eq s.test name)
       (λ f. running i (sym (bytes_is s.test name f)))
-      (λ f. by_stand name (k.tests name (in_more s.entries (entry s.test fact) name h f)));
+      (λ f. by_represent name (k.tests name (in_more s.entries (entry s.test fact) name h f)));
 }
   where
-    by_stand : (name : List ℕ) → Stands s name → Stands (record s { entries = s.entries ++ entry s.test fact ∷ []; place = place; line = line }) name
-    by_stand name (whole complete) = whole (complete_on s.entries (entry s.test fact ∷ []) name complete)
-    by_stand name (running inside same) = running i same
+    by_represent : (name : List ℕ) → WholeOrRunning s name → WholeOrRunning (record s { entries = s.entries ++ entry s.test fact ∷ []; place = place; line = line }) name
+    by_represent name (whole complete) = whole (complete_on s.entries (entry s.test fact ∷ []) name complete)
+    by_represent name (running inside same) = running i same
 
 -- a block begins
 kind_begun : (facts : List Fact) (k : Kind) → fault_of facts (a_kind k) ≡ None → first_of (kinds (facts ++ a_kind k ∷ [])) ≡ Some k
@@ -197,23 +197,23 @@ begun : (s : Seen) (name : List ℕ) (k : Kind) (line : ℕ) → Keeps s → is_
     → Keeps (record { entries = s.entries ++ entry name (a_kind k) ∷ []; test = name; place = histogram k; line = line })
 unfolding place_after
 begun s name k line keeps o w f = record {
-  told = all_of_both IsToldOf s.entries (entry name (a_kind k) ∷ []) keeps.told ((w, tt), tt);
+  given = all_of_both IsPrintableEntry s.entries (entry name (a_kind k) ∷ []) keeps.given ((w, tt), tt);
   named = λ h. w;
   kind = λ h. ap (λ t. first_of (kinds t)) (with_fact s.entries name (a_kind k)) ∙ kind_begun (facts_of name s.entries) k f;
-  behind = λ h e. not_both (is_behind (histogram k)) e (not_behind_histogram k);
+  after = λ h e. not_both (is_after (histogram k)) e (not_after_histogram k);
   tests = λ other h. by_test (bytes_eq name other)
       (λ e. running refl (sym (bytes_is name other e)))
-      (λ e. by_stand other (keeps.tests other (in_more s.entries (entry name (a_kind k)) other h e)));
+      (λ e. by_represent other (keeps.tests other (in_more s.entries (entry name (a_kind k)) other h e)));
 }
   where
-    by_stand : (other : List ℕ) → Stands s other → Stands (record { entries = s.entries ++ entry name (a_kind k) ∷ []; test = name; place = histogram k; line = line }) other
-    by_stand other (whole complete) = whole (complete_on s.entries (entry name (a_kind k) ∷ []) other complete)
-    by_stand other (running inside same) = not_both (is_outside s.place) o inside
+    by_represent : (other : List ℕ) → WholeOrRunning s other → WholeOrRunning (record { entries = s.entries ++ entry name (a_kind k) ∷ []; test = name; place = histogram k; line = line }) other
+    by_represent other (whole complete) = whole (complete_on s.entries (entry name (a_kind k) ∷ []) other complete)
+    by_represent other (running inside same) = not_both (is_outside s.place) o inside
 
 -- a condition makes a test whole
-condition_told : (facts : List Fact) (k : Kind) (text : List ℕ) (verdict : Verdict) → first_of (kinds facts) ≡ Some k → IsCondition k text → fault_of facts (a_condition text verdict) ≡ None → Complete (facts ++ a_condition text verdict ∷ [])
+condition_printable : (facts : List Fact) (k : Kind) (text : List ℕ) (verdict : Verdict) → first_of (kinds facts) ≡ Some k → IsCondition k text → fault_of facts (a_condition text verdict) ≡ None → Complete (facts ++ a_condition text verdict ∷ [])
 unfolding fault_of
-condition_told facts k text verdict e i h =
+condition_printable facts k text verdict e i h =
     by_first (first_of (conditions facts)) refl (none_if (is_other bytes_eq (option_map (λ (c : List ℕ × Verdict). c.0) (first_of (conditions facts))) text) ConditionDiffers h)
   where
     by_first : (o : Option (List ℕ × Verdict)) → first_of (conditions facts) ≡ o → is_other bytes_eq (option_map (λ (c : List ℕ × Verdict). c.0) o) text ≡ false → Complete (facts ++ a_condition text verdict ∷ [])
@@ -246,31 +246,31 @@ said_keeps : (s t : Seen) (said : Said) → Keeps s → SaidOf s.place said → 
 unfolding fact_said place_after
 said_keeps s t passed_over k a e =
     let same : record s { line = next_line s.line } ≡ t = cc in
-    subst Keeps same (record { told = k.told; named = k.named; kind = k.kind; behind = k.behind; tests = λ name h. by_stand name (k.tests name h) })
+    subst Keeps same (record { given = k.given; named = k.named; kind = k.kind; after = k.after; tests = λ name h. by_represent name (k.tests name h) })
   where
-    by_stand : (name : List ℕ) → Stands s name → Stands (record s { line = next_line s.line }) name
-    by_stand name (whole complete) = whole complete
-    by_stand name (running inside same) = running inside same
+    by_represent : (name : List ℕ) → WholeOrRunning s name → WholeOrRunning (record s { line = next_line s.line }) name
+    by_represent name (whole complete) = whole complete
+    by_represent name (running inside same) = running inside same
 said_keeps s t (begins name kind) k a e =
     let f = fact_or_fault (record s { test = name; place = histogram kind }) t (a_kind kind) e in
     subst Keeps f.1 (begun s name kind (next_line s.line) k a.0 a.1 f.0)
 said_keeps s t (counts n) k a e =
     let same : record s { place = states_left (kind_at s.place) n; line = next_line s.line } ≡ t = cc in
-    subst Keeps same (moved s (states_left (kind_at s.place) n) (next_line s.line) k a (kind_left (kind_at s.place) n) (inside_left (kind_at s.place) n) (not_behind_left (kind_at s.place) n))
+    subst Keeps same (moved s (states_left (kind_at s.place) n) (next_line s.line) k a (kind_left (kind_at s.place) n) (inside_left (kind_at s.place) n) (not_after_left (kind_at s.place) n))
 said_keeps s t (a_state row) k a e =
     let place : Place = after_state (kind_at s.place) (left_at s.place) in
     let f = fact_or_fault (record s { place = place }) t (a_row row) e in
-    subst Keeps f.1 (told_more s place (next_line s.line) (a_row row) k a.0 a.1 (kind_after (kind_at s.place) (left_at s.place)) (inside_after (kind_at s.place) (left_at s.place)) (λ b. not_both (is_behind place) b (not_behind_after (kind_at s.place) (left_at s.place))))
+    subst Keeps f.1 (printable_more s place (next_line s.line) (a_row row) k a.0 a.1 (kind_after (kind_at s.place) (left_at s.place)) (inside_after (kind_at s.place) (left_at s.place)) (λ b. not_both (is_after place) b (not_after_state (kind_at s.place) (left_at s.place))))
 said_keeps s t judged k a e =
     let same : record s { place = in_rest (kind_at s.place); line = next_line s.line } ≡ t = cc in
-    subst Keeps same (moved s (in_rest (kind_at s.place)) (next_line s.line) k a refl refl (not_behind_rest (kind_at s.place)))
+    subst Keeps same (moved s (in_rest (kind_at s.place)) (next_line s.line) k a refl refl (not_after_rest (kind_at s.place)))
 said_keeps s t (conditioned text verdict) k a e =
     let f = fact_or_fault (record s { place = conditioned_at (kind_at s.place) }) t (a_condition text verdict) e in
-    subst Keeps f.1 (told_more s (conditioned_at (kind_at s.place)) (next_line s.line) (a_condition text verdict) k a.0 tt refl refl
-    (λ b. rw (with_fact s.entries s.test (a_condition text verdict)) (condition_told (facts_of s.test s.entries) (kind_at s.place) text verdict (k.kind a.0) a.1 f.0)))
+    subst Keeps f.1 (printable_more s (conditioned_at (kind_at s.place)) (next_line s.line) (a_condition text verdict) k a.0 tt refl refl
+    (λ b. rw (with_fact s.entries s.test (a_condition text verdict)) (condition_printable (facts_of s.test s.entries) (kind_at s.place) text verdict (k.kind a.0) a.1 f.0)))
 said_keeps s t (hashed hash) k a e =
     let f = fact_or_fault s t (a_hash hash) e in
-    subst Keeps f.1 (told_more s s.place (next_line s.line) (a_hash hash) k a.0 a.1 refl a.0 (λ b. complete_on s.entries (entry s.test (a_hash hash) ∷ []) s.test (k.behind a.0 b)))
+    subst Keeps f.1 (printable_more s s.place (next_line s.line) (a_hash hash) k a.0 a.1 refl a.0 (λ b. complete_on s.entries (entry s.test (a_hash hash) ∷ []) s.test (k.after a.0 b)))
 said_keeps s t ends k a e =
     let same : record s { place = outside; line = next_line s.line } ≡ t = cc in
     subst Keeps same (ended s (next_line s.line) k a.0 a.1)
@@ -320,16 +320,16 @@ end_keeps : (s t : Seen) → Keeps s → end_judged s ≡ Ok t → Keeps t
 end_keeps s t k e =
     let i = end_is s t e in
     subst Keeps (sym i.is) (record {
-      told = k.told;
+      given = k.given;
       named = λ h. not_both true refl h;
       kind = λ h. not_both true refl h;
-      behind = λ h f. not_both true refl h;
-      tests = λ name h. by_stand i.place name (k.tests name h);
+      after = λ h f. not_both true refl h;
+      tests = λ name h. by_represent i.place name (k.tests name h);
     })
   where
-    by_stand : s.place ≡ outside → (name : List ℕ) → Stands s name → Stands (seen_at s.entries [] outside 1) name
-    by_stand p name (whole complete) = whole complete
-    by_stand p name (running inside same) = not_both (is_outside s.place) (ap is_outside p) inside
+    by_represent : s.place ≡ outside → (name : List ℕ) → WholeOrRunning s name → WholeOrRunning (seen_at s.entries [] outside 1) name
+    by_represent p name (whole complete) = whole complete
+    by_represent p name (running inside same) = not_both (is_outside s.place) (ap is_outside p) inside
 
 -- lines have no line feed
 but_last_lines : (lines : List (List ℕ)) → list_all (list_all no_feed) lines ≡ true → list_all (list_all no_feed) (but_last lines) ≡ true

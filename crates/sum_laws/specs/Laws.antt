@@ -8,7 +8,7 @@ use Rattle.log_sum.specs.Reading.{Seen, nothing_seen, is_too_long, lines_of, fil
 use Rattle.text_laws.specs.Lines.{without_return}
 use Rattle.log_sum.specs.Summed.{summed}
 use Rattle.log_sum.specs.SumText.{sum_text}
-use Rattle.log_sum.specs.Standing.{logs_text}
+use Rattle.log_sum.specs.Representing.{logs_text}
 
 -- a printed sum keeps the limits of a log: none of its lines is too long, the number of the states of each test isn't above the
 -- greatest count, and no hash ends with a carriage return, which would be taken for a part of the line's end
@@ -30,10 +30,10 @@ pub record IsSum (logs : List (List ℕ)) (text : List ℕ) : Type 0 where
   pub limits : KeepsLimits seen.entries
 
 -- files represent logs, in their order: each file is a log, or the printed sum of files that represent logs
-pub data StandFor : List (List ℕ) → List (List ℕ) → Type 0 where
-  none : StandFor [] []
-  a_log : (log : List ℕ) (files logs : List (List ℕ)) (rest : StandFor files logs) → StandFor (log ∷ files) (log ∷ logs)
-  a_sum : (text : List ℕ) (parts leaves files logs : List (List ℕ)) (below : StandFor parts leaves) (sum : IsSum parts text) (rest : StandFor files logs) → StandFor (text ∷ files) (leaves ++ logs)
+pub data Represent : List (List ℕ) → List (List ℕ) → Type 0 where
+  none : Represent [] []
+  a_log : (log : List ℕ) (files logs : List (List ℕ)) (rest : Represent files logs) → Represent (log ∷ files) (log ∷ logs)
+  a_sum : (text : List ℕ) (parts leaves files logs : List (List ℕ)) (below : Represent parts leaves) (sum : IsSum parts text) (rest : Represent files logs) → Represent (text ∷ files) (leaves ++ logs)
 
 -- a printed sum is a log without a fault, whose sum it is
 pub record SumsAreLogs : Type 0 where
@@ -47,5 +47,5 @@ pub record SumOfSums : Type 0 where
   pub between :
       (before logs after : List (List ℕ)) (text : List ℕ) → NoFault (before ++ (logs ++ after)) → IsSum logs text
       → logs_text (before ++ text ∷ after) ≡ logs_text (before ++ (logs ++ after))
-  pub trees : (files logs : List (List ℕ)) → StandFor files logs → NoFault logs → logs_text files ≡ logs_text logs
+  pub trees : (files logs : List (List ℕ)) → Represent files logs → NoFault logs → logs_text files ≡ logs_text logs
   pub parts : (first second : List (List ℕ)) → NoFault (first ++ second) → NoFault first × NoFault second

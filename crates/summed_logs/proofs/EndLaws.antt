@@ -3,7 +3,7 @@ use Rattle.std.proofs.Common.{◌≡◌, ℕ, List, [], ◌∷◌, refl, None}
 use Rattle.std.specs.Prelude.{Ok}
 use Rattle.diy_io.specs.Taken.{SourceSeen}
 use Rattle.diy_io.specs.Wrote.{SinkSeen}
-use Rattle.log_sum.specs.Standing.{logs_text}
+use Rattle.log_sum.specs.Representing.{logs_text}
 use Rattle.summed_logs.specs.declared.feeding.Feeding.{Feeding}
 use Rattle.summed_logs.specs.declared.feeding.LogFault.{LogFault}
 use Rattle.summed_logs.specs.declared.feeding.LogFault.TheVariants.{Wrong, TooMuch, NoMemory}

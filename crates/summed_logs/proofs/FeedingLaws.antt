@@ -10,12 +10,12 @@ use Rattle.diy_io.specs.Sink.{line_feed_count}
 use Rattle.diy_io.specs.Taken.{SourceSeen, Took}
 use Rattle.log_sum.specs.declared.errors.SumError.{SumError}
 use Rattle.log_sum.specs.declared.errors.SumError.TheVariants as sums
-use Rattle.log_sum.specs.Standing.{Kept, StandsFor, FedTo, EndedTo}
-use Rattle.log_sum.proofs.StandingLaws.{end_fault_stays}
+use Rattle.log_sum.specs.Representing.{Kept, Represents, FedTo, EndedTo}
+use Rattle.log_sum.proofs.RepresentingLaws.{end_fault_stays}
 use Rattle.summed_logs.specs.declared.feeding.Feeding.{Feeding}
 use Rattle.summed_logs.specs.declared.feeding.LogFault.{LogFault}
 use Rattle.summed_logs.specs.Faults.{fault_of}
-use Rattle.summed_logs.specs.Logs.{IsText, IsShort, max_piece, ShowsNone, FrontFull, TookCount}
+use Rattle.summed_logs.specs.Logs.{IsText, IsShort, max_piece, ShowsNone, PrefixFull, TookCount}
 use Rattle.summed_logs.specs.Feeding.{Reads, IsFault, IsEndFault, ReadSoFar, ReadWhole, ReadPart, LogFailed}
 
 parts_of : (bytes piece : List ℕ) (n : ℕ) → bytes ++ piece ≡ (bytes ++ take n piece) ++ drop n piece
@@ -26,7 +26,7 @@ pub piece_refused : (kept : Kept) (logs : List (List ℕ)) (bytes piece : List �
     → length bytes + n ≤ 2 ^ 40 → n ≤ length piece
     → FedTo kept logs (bytes ++ take n piece) (Err error) → IsFault logs (bytes ++ piece) (fault_of error)
 piece_refused kept logs bytes piece n (sums.Log error) short fits fed = record {
-  front = bytes ++ take n piece;
+  prefix = bytes ++ take n piece;
   rest = drop n piece;
   parts = parts_of bytes piece n;
   short = omega (arith, length-append bytes (take n piece), length-take-le n piece fits);
@@ -37,15 +37,15 @@ piece_refused kept logs bytes piece n sums.NoMemory short fits fed = tt
 -- a piece that goes past the first 2^40 bytes
 pub piece_full : (kept : Kept) (logs : List (List ℕ)) (bytes piece : List ℕ) (n line : ℕ)
     → length bytes + n ≡ 2 ^ 40 → n < length piece
-    → StandsFor kept logs (bytes ++ take n piece) → line ≡ line_feed_count (bytes ++ take n piece) + 1 → FrontFull logs (bytes ++ piece) line
-piece_full kept logs bytes piece n line full less stands number = record {
-  front = bytes ++ take n piece;
+    → Represents kept logs (bytes ++ take n piece) → line ≡ line_feed_count (bytes ++ take n piece) + 1 → PrefixFull logs (bytes ++ piece) line
+piece_full kept logs bytes piece n line full less represents number = record {
+  prefix = bytes ++ take n piece;
   rest = drop n piece;
   parts = parts_of bytes piece n;
   full = omega (arith, length-append bytes (take n piece), length-take-le n piece (omega arith));
   more = omega (arith, length-drop n piece);
-  seen = stands.seen;
-  no_fault = stands.judged;
+  seen = represents.seen;
+  no_fault = represents.judged;
   number = number;
 }
 
@@ -109,20 +109,20 @@ reads_whole old mid new feeding logs piece r took none end same =
     }
 
 -- bytes that were consumed are the beginning of a log
-record FrontOf (told : Option (List ℕ)) (bytes : List ℕ) : Type 0 where
+record PrefixOf (told : Option (List ℕ)) (bytes : List ℕ) : Type 0 where
   pub log : List ℕ
   pub rest : List ℕ
   pub text : IsText told log
   pub parts : log ≡ bytes ++ rest
 
-front_of : (old new : Option (List ℕ)) (bytes : List ℕ) → Consumes old new bytes → FrontOf old bytes
-front_of None new bytes h = record { log = bytes; rest = []; text = tt; parts = sym (append-nil bytes) }
-front_of (Some xs) None bytes h = absurd h
-front_of (Some xs) (Some ys) bytes h = record { log = xs; rest = ys; text = refl; parts = h }
+prefix_of : (old new : Option (List ℕ)) (bytes : List ℕ) → Consumes old new bytes → PrefixOf old bytes
+prefix_of None new bytes h = record { log = bytes; rest = []; text = tt; parts = sym (append-nil bytes) }
+prefix_of (Some xs) None bytes h = absurd h
+prefix_of (Some xs) (Some ys) bytes h = record { log = xs; rest = ys; text = refl; parts = h }
 
 -- bytes that were fed show no fault, and are at most 2^40
 reads_none : (feeding : Feeding) (logs : List (List ℕ)) (bytes : List ℕ) → Reads feeding logs bytes → ShowsNone logs bytes
-reads_none feeding logs bytes reads = record { seen = reads.stands.seen; is = reads.stands.judged }
+reads_none feeding logs bytes reads = record { seen = reads.represents.seen; is = reads.represents.judged }
 
 reads_short : (feeding : Feeding) (logs : List (List ℕ)) (bytes : List ℕ) → Reads feeding logs bytes → feeding.read ≤ 2 ^ 40 → IsShort bytes
 reads_short feeding logs bytes reads short = let read : feeding.read ≡ length bytes = reads.read in omega arith
@@ -132,15 +132,15 @@ pub reads_part : (old mid new : SourceSeen) (feeding : Feeding) (logs : List (Li
     → feeding.read ≤ 2 ^ 40 → length piece ≤ max_piece
     → Took mid new piece → new.faults ≡ mid.faults → IsFault logs (r.bytes ++ piece) fault → ReadPart old new logs fault
 reads_part old mid new feeding logs piece fault r short one took same is =
-    let front = front_of old.left new.left (r.bytes ++ piece) (Consumes-trans old.left mid.left new.left r.bytes piece r.consumed took.consumed) in
+    let prefix = prefix_of old.left new.left (r.bytes ++ piece) (Consumes-trans old.left mid.left new.left r.bytes piece r.consumed took.consumed) in
     record {
-      log = front.log;
-      text = front.text;
+      log = prefix.log;
+      text = prefix.text;
       bytes = r.bytes ++ piece;
       taken = subst (TookCount old new) (sym (length-append r.bytes piece)) (took_both old mid new (length r.bytes) piece r.taken took);
       up_to = record {
-        rest = front.rest;
-        parts = front.parts;
+        rest = prefix.rest;
+        parts = prefix.parts;
         earlier = r.bytes;
         piece = piece;
         pieces = refl;
@@ -161,14 +161,14 @@ pub reads_failed : (old mid new : SourceSeen) (feeding : Feeding) (logs : List (
     → new.taken ≡ mid.taken → Rose mid.faults new.faults → mid.faults ≤ new.faults → LogFailed old new feeding logs
 reads_failed old mid new feeding logs r short taken fault never_falls =
     let same : mid.faults ≡ old.faults = r.no_fault in
-    let front = front_of old.left mid.left r.bytes r.consumed in
+    let prefix = prefix_of old.left mid.left r.bytes r.consumed in
     record {
       failed = record {
-        log = front.log;
-        text = front.text;
+        log = prefix.log;
+        text = prefix.text;
         bytes = r.bytes;
-        rest = front.rest;
-        parts = front.parts;
+        rest = prefix.rest;
+        parts = prefix.parts;
         short = reads_short feeding logs r.bytes r.reads short;
         no_fault = reads_none feeding logs r.bytes r.reads;
         taken = ap count_of taken ∙ r.taken;

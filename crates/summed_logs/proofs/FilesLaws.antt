@@ -5,7 +5,7 @@ use Rattle.std.proofs.lemmas.List.Elements.{All-append}
 use Rattle.diy_io.specs.Count.{Rose}
 use Rattle.diy_io.specs.Shelf.{Files, ShelfSeen, Opened, NotThere, Stopped}
 use Rattle.diy_io.specs.Wrote.{SinkSeen}
-use Rattle.log_sum.specs.Standing.{logs_text}
+use Rattle.log_sum.specs.Representing.{logs_text}
 use Rattle.summed_logs.specs.declared.feeding.Feeding.{Feeding}
 use Rattle.summed_logs.specs.declared.feeding.LogFault.TheVariants.{Wrong, TooMuch, NoMemory}
 use Rattle.summed_logs.specs.declared.feeding.ReadFault.{ReadFault}
@@ -87,10 +87,10 @@ none_so_far old feeding words first reads = record {
 
 last_log : (logs : List (List ℕ)) (log other : List ℕ) (k : ℕ) → slice_get (logs ++ log ∷ []) k ≡ Some other
     → (P : ℕ → List ℕ → Type 0) → ((x : List ℕ) → slice_get logs k ≡ Some x → P k x) → P (length logs) log → P k other
-last_log [] log other zero e P front last = let same : log ≡ other = cc in subst (P 0) same last
-last_log [] log other (suc k) e P front last = absurd (let h : Some other ≡ None = sym e in cc)
-last_log (first ∷ logs) log other zero e P front last = front other e
-last_log (first ∷ logs) log other (suc k) e P front last = last_log logs log other k e (λ n. P (suc n)) front last
+last_log [] log other zero e P prefix last = let same : log ≡ other = cc in subst (P 0) same last
+last_log [] log other (suc k) e P prefix last = absurd (let h : Some other ≡ None = sym e in cc)
+last_log (first ∷ logs) log other zero e P prefix last = prefix other e
+last_log (first ∷ logs) log other (suc k) e P prefix last = last_log logs log other k e (λ n. P (suc n)) prefix last
 
 same_name : (words : List (List ℕ)) (i j : ℕ) (a b : List ℕ) → i ≡ j → slice_get words i ≡ Some a → slice_get words j ≡ Some b → a ≡ b
 same_name words i j a b e p q = let r : Some a ≡ Some b = sym p ∙ ap (slice_get words) e ∙ q in cc

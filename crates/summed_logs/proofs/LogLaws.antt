@@ -8,19 +8,19 @@ use Rattle.diy_io.specs.Taken.{SourceSeen}
 use Rattle.diy_io.specs.declared.errors.Failed.{Failed}
 use Rattle.log_sum.specs.declared.errors.LogError.{LogError}
 use Rattle.log_sum.specs.Reading.{Seen, input_judged}
-use Rattle.log_sum.specs.Standing.{logs_text}
-use Rattle.log_sum.proofs.StandingLaws.{standing_text, fault_stays}
+use Rattle.log_sum.specs.Representing.{logs_text}
+use Rattle.log_sum.proofs.RepresentingLaws.{represented_text, fault_stays}
 use Rattle.summed_logs.specs.declared.feeding.Feeding.{Feeding}
 use Rattle.summed_logs.specs.declared.feeding.LogFault.{LogFault}
 use Rattle.summed_logs.specs.declared.feeding.LogFault.TheVariants.{Wrong, TooMuch, NoMemory}
 use Rattle.summed_logs.specs.declared.feeding.ReadFault.{ReadFault}
 use Rattle.summed_logs.specs.declared.feeding.ReadFault.TheVariants.{Log, Device}
-use Rattle.summed_logs.specs.Logs.{IsShort, AreRight, ShowsNone, FrontWrong, UpToFault, IsWrong}
+use Rattle.summed_logs.specs.Logs.{IsShort, AreRight, ShowsNone, PrefixWrong, UpToFault, IsWrong}
 use Rattle.summed_logs.specs.Feeding.{Reads, IsFault, IsEndFault, ReadWhole, ReadPart, LogFailed, ReadTo, LogSummed, LogFaulty, IsFaulty, SummedTo}
 
 -- logs that were fed without a fault
 pub are_right : (feeding : Feeding) (logs : List (List ℕ)) → Reads feeding logs [] → AreRight logs
-are_right feeding logs reads = record { text = _; is = standing_text feeding.summer logs reads.stands }
+are_right feeding logs reads = record { text = _; is = represented_text feeding.summer logs reads.represents }
 
 -- logs without a fault show none
 pub right_shows_none : (before : List (List ℕ)) (log : List ℕ) → AreRight (before ++ log ∷ []) → ShowsNone before log
@@ -34,20 +34,20 @@ right_shows_none before log right = by_judged (input_judged before log) refl
         absurd (cc)
 
 -- a fault that the bytes taken of a log show
-front_wrong : (before : List (List ℕ)) (log bytes : List ℕ) (error : LogError) → AreRight before → UpToFault before log bytes
-    → FrontWrong before bytes error → IsWrong before log bytes error
-front_wrong before log bytes error right u w =
-    let whole : log ≡ w.front ++ (w.rest ++ u.rest) = u.parts ∙ ap (λ b. b ++ u.rest) w.parts ∙ append_assoc w.front w.rest u.rest in
+prefix_wrong : (before : List (List ℕ)) (log bytes : List ℕ) (error : LogError) → AreRight before → UpToFault before log bytes
+    → PrefixWrong before bytes error → IsWrong before log bytes error
+prefix_wrong before log bytes error right u w =
+    let whole : log ≡ w.prefix ++ (w.rest ++ u.rest) = u.parts ∙ ap (λ b. b ++ u.rest) w.parts ∙ append_assoc w.prefix w.rest u.rest in
     record {
       right_before = right;
-      wrong = λ more. ap (λ l. logs_text (before ++ l ∷ more)) whole ∙ fault_stays before w.front (w.rest ++ u.rest) more error w.wrong;
+      wrong = λ more. ap (λ l. logs_text (before ++ l ∷ more)) whole ∙ fault_stays before w.prefix (w.rest ++ u.rest) more error w.wrong;
       up_to = u;
       shown = inr w;
     }
 
 faulty : (before : List (List ℕ)) (log bytes : List ℕ) (fault : LogFault) → AreRight before → UpToFault before log bytes
     → IsFault before bytes fault → IsFaulty before log bytes fault
-faulty before log bytes (Wrong error) right up_to is = front_wrong before log bytes error right up_to is
+faulty before log bytes (Wrong error) right up_to is = prefix_wrong before log bytes error right up_to is
 faulty before log bytes (TooMuch line) right up_to is = record { right_before = right; up_to = up_to; full = is }
 faulty before log bytes NoMemory right up_to is = tt
 
@@ -91,7 +91,7 @@ pub end_faulty : (old new : SourceSeen) (feeding read : Feeding) (before : List 
 end_faulty old new feeding read before fault reads whole is =
     let count : read.read ≡ length whole.log = whole.reads.read in
     let fits : read.read ≤ 2 ^ 40 = read.in_range in
-    let none : ShowsNone before whole.log = record { seen = whole.reads.stands.seen; is = whole.reads.stands.judged } in (
+    let none : ShowsNone before whole.log = record { seen = whole.reads.represents.seen; is = whole.reads.represents.judged } in (
       record {
         log = whole.log;
         text = whole.text;

@@ -6,17 +6,17 @@ use Rattle.diy_io.specs.Sink.{line_feed_count}
 use Rattle.diy_io.specs.Taken.{SourceSeen}
 use Rattle.diy_io.specs.Wrote.{SinkSeen, Wrote}
 use Rattle.diy_io.specs.declared.errors.Failed.{Failed}
-use Rattle.log_sum.specs.Standing.{StandsFor, logs_text}
+use Rattle.log_sum.specs.Representing.{Represents, logs_text}
 use Rattle.summed_logs.specs.declared.feeding.Feeding.{Feeding}
 use Rattle.summed_logs.specs.declared.feeding.LogFault.{LogFault}
 use Rattle.summed_logs.specs.declared.feeding.LogFault.TheVariants.{Wrong, TooMuch, NoMemory}
 use Rattle.summed_logs.specs.declared.feeding.ReadFault.{ReadFault}
 use Rattle.summed_logs.specs.declared.feeding.ReadFault.TheVariants.{Log, Device}
-use Rattle.summed_logs.specs.Logs.{IsText, IsShort, TookCount, FrontWrong, FrontFull, UpToFault, IsWrong, IsTooMuch, ReadFailed}
+use Rattle.summed_logs.specs.Logs.{IsText, IsShort, TookCount, PrefixWrong, PrefixFull, UpToFault, IsWrong, IsTooMuch, ReadFailed}
 
 -- whole logs and the bytes so far of one more were fed, and the bytes and line feeds of this one are counted
 pub record Reads (feeding : Feeding) (logs : List (List ℕ)) (bytes : List ℕ) : Type 0 where
-  pub stands : StandsFor feeding.summer logs bytes
+  pub represents : Represents feeding.summer logs bytes
   pub read : feeding.read ≡ length bytes
   pub line_feeds : feeding.line_feeds ≡ line_feed_count bytes
 
@@ -26,8 +26,8 @@ ForLogs feeding Holds = (logs : List (List ℕ)) → Reads feeding logs [] → H
 
 -- why no more of a log is fed, where these are its bytes so far
 abbrev pub IsFault : List (List ℕ) → List ℕ → LogFault → Type 0
-IsFault logs bytes (Wrong error) = FrontWrong logs bytes error
-IsFault logs bytes (TooMuch line) = FrontFull logs bytes line
+IsFault logs bytes (Wrong error) = PrefixWrong logs bytes error
+IsFault logs bytes (TooMuch line) = PrefixFull logs bytes line
 IsFault logs bytes NoMemory = Unit {0}
 
 -- an answer to a piece of a log, where these are the bytes so far with the piece

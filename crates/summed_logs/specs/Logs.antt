@@ -6,7 +6,7 @@ use Rattle.diy_io.specs.Taken.{SourceSeen}
 use Rattle.diy_io.specs.Sink.{line_feed_count}
 use Rattle.log_sum.specs.declared.errors.LogError.{LogError}
 use Rattle.log_sum.specs.Reading.{Seen, input_judged}
-use Rattle.log_sum.specs.Standing.{logs_text}
+use Rattle.log_sum.specs.Representing.{logs_text}
 
 -- a log has the text that is known, where one is known
 abbrev pub IsText : Option (List ℕ) → List ℕ → Type 0
@@ -31,23 +31,23 @@ pub record ShowsNone (before : List (List ℕ)) (bytes : List ℕ) : Type 0 wher
   pub is : input_judged before bytes ≡ Ok seen
 
 -- a prefix of a log's bytes, of at most 2^40, shows this fault after whole logs
-pub record FrontWrong (logs : List (List ℕ)) (bytes : List ℕ) (error : LogError) : Type 0 where
-  pub front : List ℕ
+pub record PrefixWrong (logs : List (List ℕ)) (bytes : List ℕ) (error : LogError) : Type 0 where
+  pub prefix : List ℕ
   pub rest : List ℕ
-  pub parts : bytes ≡ front ++ rest
-  pub short : IsShort front
-  pub wrong : input_judged logs front ≡ Err error
+  pub parts : bytes ≡ prefix ++ rest
+  pub short : IsShort prefix
+  pub wrong : input_judged logs prefix ≡ Err error
 
 -- the bytes of a log are more than 2^40, of which the first 2^40 show no fault, and this is the line after them
-pub record FrontFull (logs : List (List ℕ)) (bytes : List ℕ) (line : ℕ) : Type 0 where
-  pub front : List ℕ
+pub record PrefixFull (logs : List (List ℕ)) (bytes : List ℕ) (line : ℕ) : Type 0 where
+  pub prefix : List ℕ
   pub rest : List ℕ
-  pub parts : bytes ≡ front ++ rest
-  pub full : length front ≡ 2 ^ 40
+  pub parts : bytes ≡ prefix ++ rest
+  pub full : length prefix ≡ 2 ^ 40
   pub more : 0 < length rest
   pub seen : Seen
-  pub no_fault : input_judged logs front ≡ Ok seen
-  pub number : line ≡ line_feed_count front + 1
+  pub no_fault : input_judged logs prefix ≡ Ok seen
+  pub number : line ≡ line_feed_count prefix + 1
 
 -- what was taken of a log until its fault was seen: at most 2^40 bytes that show none, and then one piece at most
 pub record UpToFault (before : List (List ℕ)) (log taken : List ℕ) : Type 0 where
@@ -66,13 +66,13 @@ pub record IsWrong (before : List (List ℕ)) (log taken : List ℕ) (error : Lo
   pub right_before : AreRight before
   pub wrong : (more : List (List ℕ)) → logs_text (before ++ log ∷ more) ≡ Err error
   pub up_to : UpToFault before log taken
-  pub shown : ((taken ≡ log) × IsShort log) ⊎ FrontWrong before taken error
+  pub shown : ((taken ≡ log) × IsShort log) ⊎ PrefixWrong before taken error
 
 -- more than 2^40 bytes were taken of the log after these, of which the first 2^40 show no fault, and this is the line after them
 pub record IsTooMuch (before : List (List ℕ)) (log taken : List ℕ) (line : ℕ) : Type 0 where
   pub right_before : AreRight before
   pub up_to : UpToFault before log taken
-  pub full : FrontFull before taken line
+  pub full : PrefixFull before taken line
 
 -- so many bytes were taken, up to the greatest count
 abbrev pub TookCount : SourceSeen → SourceSeen → ℕ → Type 0

@@ -9,7 +9,7 @@ use Rattle.diy_io.specs.Wrote.{SinkSeen, WroteAll, WrotePart}
 use Rattle.file_laws.specs.Opened.{IsFile, TookFiles}
 use Rattle.log_sum.specs.declared.errors.LogError.{LogError}
 use Rattle.log_sum.specs.declared.errors.LogKind.{LogKind}
-use Rattle.log_sum.specs.Standing.{logs_text}
+use Rattle.log_sum.specs.Representing.{logs_text}
 use Rattle.summed_logs.specs.declared.sum_end.SumEnd.{SumEnd}
 use Rattle.summed_logs.specs.declared.sum_end.SumEnd.TheVariants as ends
 use Rattle.summed_logs.specs.Logs.{IsText, IsShort, TookCount, AreRight, ShowsNone, IsWrong, IsTooMuch, ReadFailed}

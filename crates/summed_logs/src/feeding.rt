@@ -95,11 +95,11 @@ impl Feeding {
         ensures counted { OnOk result (self.new.read ≡ self.old.read + length piece.now) }
     {
         let fitting = piece.len().min((MAX_INPUT - self.read) as usize);
-        let front = &piece[..fitting];
-        if let Err(error) = self.summer.feed(front) {
+        let prefix = &piece[..fitting];
+        if let Err(error) = self.summer.feed(prefix) {
             return Err(fault_of(error));
         }
-        self.line_feeds += line_feeds(front);
+        self.line_feeds += line_feeds(prefix);
         self.read += fitting as u64;
         if fitting < piece.len() {
             return Err(LogFault::TooMuch(self.line_feeds + 1));

@@ -26,7 +26,7 @@ pub open_read : (old mid new : ShelfSeen) (bytes : List ℕ) (closed : Result (U
     → OnErr closed (Stopped mid new) → OpenTo old new bytes (Ok closed)
 open_read old mid new bytes (Ok x) r finished stopped = record {
   text = r.text;
-  told = r.told;
+  shown = r.shown;
   bytes_are = r.bytes_are;
   took = closed_took old mid new bytes r.took finished.files finished.counts;
   no_fault = finished.no_fault ∙ r.no_fault;
@@ -37,7 +37,7 @@ open_read old mid new bytes (Err x) r finished stopped =
     let rose : Rose mid.faults new.faults = stopped.faulted.fault in
     record {
       text = r.text;
-      told = r.told;
+      shown = r.shown;
       bytes_are = r.bytes_are;
       took = closed_took old mid new bytes r.took stopped.files stopped.counts;
       no_fault = tt;
@@ -52,7 +52,7 @@ pub file_opened : (old mid new : ShelfSeen) (name bytes : List ℕ) (result : Re
     → OpenTo mid new bytes result → FileTo old new name bytes result
 file_opened old mid new name bytes (Ok closed) opened o = record {
   whole = o.text;
-  named = opened_text old mid name o.text opened o.told;
+  named = opened_text old mid name o.text opened o.shown;
   text_is = o.bytes_are;
   took = took_one old mid new name bytes opened o.took;
   no_fault = subst (λ (n : ℕ). OnOk closed (new.faults ≡ n)) opened.no_fault o.no_fault;
@@ -64,7 +64,7 @@ file_opened old mid new name bytes (Err faults.Failed) opened o = record {
   took =
       inr (
         o.bytes,
-        record { text = o.text; named = opened_text old mid name o.text opened o.told; rest = o.rest; parts = o.parts; short = o.short },
+        record { text = o.text; named = opened_text old mid name o.text opened o.shown; rest = o.rest; parts = o.parts; short = o.short },
         took_one old mid new name o.bytes opened o.took,
       );
 }

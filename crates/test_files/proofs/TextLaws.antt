@@ -10,16 +10,16 @@ use Rattle.litmus_text.specs.declared.limits.TheConstants.{MAX_TEXT}
 use Rattle.test_files.specs.OpenFiles.{ReadSoFar, ReadWhole, ReadPart}
 
 -- bytes that were consumed are the first of a text
-pub record FrontOf (told : Option (List ℕ)) (bytes : List ℕ) : Type 0 where
+pub record PrefixOf (shown : Option (List ℕ)) (bytes : List ℕ) : Type 0 where
   pub text : List ℕ
   pub rest : List ℕ
-  pub is : IfSome told (λ whole. whole ≡ text)
+  pub is : IfSome shown (λ whole. whole ≡ text)
   pub parts : text ≡ bytes ++ rest
 
-front_of : (old new : Option (List ℕ)) (bytes : List ℕ) → Consumes old new bytes → FrontOf old bytes
-front_of None new bytes h = record { text = bytes; rest = []; is = tt; parts = sym (append-nil bytes) }
-front_of (Some xs) None bytes h = absurd h
-front_of (Some xs) (Some ys) bytes h = record { text = xs; rest = ys; is = refl; parts = h }
+prefix_of : (old new : Option (List ℕ)) (bytes : List ℕ) → Consumes old new bytes → PrefixOf old bytes
+prefix_of None new bytes h = record { text = bytes; rest = []; is = tt; parts = sym (append-nil bytes) }
+prefix_of (Some xs) None bytes h = absurd h
+prefix_of (Some xs) (Some ys) bytes h = record { text = xs; rest = ys; is = refl; parts = h }
 
 -- nothing was read so far
 pub reads_nothing : (old : ShelfSeen) (bytes : List ℕ) → bytes ≡ [] → IsReading old.mode → ReadSoFar old old bytes
@@ -56,7 +56,7 @@ reads_whole old mid new bytes buf count room r few gave zero some =
     (omega (arith, zero)) gave (sym (ap (λ p. bytes ++ p) none ∙ append-nil bytes)) in
     record {
       text = bytes;
-      told = Consumes-whole (left_to_read old.mode) (left_to_read new.mode) bytes (λ whole. whole ≡ bytes) r2.consumed (gave.end (ap length none) some) refl;
+      shown = Consumes-whole (left_to_read old.mode) (left_to_read new.mode) bytes (λ whole. whole ≡ bytes) r2.consumed (gave.end (ap length none) some) refl;
       bytes_are = sym (take_all (MAX_TEXT + 1) bytes (omega arith));
       took = r2.took;
       mode = r2.mode;
@@ -66,11 +66,11 @@ reads_whole old mid new bytes buf count room r few gave zero some =
 -- one byte more than a test may have is read
 pub reads_long : (old new : ShelfSeen) (bytes : List ℕ) → ReadSoFar old new bytes → length bytes ≡ MAX_TEXT + 1 → ReadWhole old new bytes
 reads_long old new bytes r long =
-    let front = front_of (left_to_read old.mode) (left_to_read new.mode) bytes r.consumed in
+    let prefix = prefix_of (left_to_read old.mode) (left_to_read new.mode) bytes r.consumed in
     record {
-      text = front.text;
-      told = front.is;
-      bytes_are = sym (ap (take (MAX_TEXT + 1)) front.parts ∙ take_at bytes front.rest (MAX_TEXT + 1) long);
+      text = prefix.text;
+      shown = prefix.is;
+      bytes_are = sym (ap (take (MAX_TEXT + 1)) prefix.parts ∙ take_at bytes prefix.rest (MAX_TEXT + 1) long);
       took = r.took;
       mode = r.mode;
       no_fault = r.no_fault;
@@ -81,13 +81,13 @@ pub reads_failed : (old mid new : ShelfSeen) (bytes : List ℕ) → ReadSoFar ol
 reads_failed old mid new bytes r few stopped =
     let same : mid.faults ≡ old.faults = r.no_fault in
     let rose : Rose mid.faults new.faults = stopped.faulted.fault in
-    let front = front_of (left_to_read old.mode) (left_to_read mid.mode) bytes r.consumed in
+    let prefix = prefix_of (left_to_read old.mode) (left_to_read mid.mode) bytes r.consumed in
     record {
       bytes = bytes;
-      text = front.text;
-      told = front.is;
-      rest = front.rest;
-      parts = front.parts;
+      text = prefix.text;
+      shown = prefix.is;
+      rest = prefix.rest;
+      parts = prefix.parts;
       short = few;
       took = record {
         taken = ap count_of stopped.counts.taken ∙ r.took.taken;

@@ -29,8 +29,8 @@ pub both_few : (xs ys : List (List ℕ)) → AreFew xs → AreFew ys → AreFew 
 both_few xs ys p q = All-append (λ bytes. length bytes ≤ MAX_TEXT + 1) xs ys p q
 
 -- what is taken of a text is as few
-pub front_few : (text : List ℕ) → AreFew (take (MAX_TEXT + 1) text ∷ [])
-front_few text = one_few (take (MAX_TEXT + 1) text) (omega (arith, length-take (MAX_TEXT + 1) text))
+pub prefix_few : (text : List ℕ) → AreFew (take (MAX_TEXT + 1) text ∷ [])
+prefix_few text = one_few (take (MAX_TEXT + 1) text) (omega (arith, length-take (MAX_TEXT + 1) text))
 
 -- and so is what was taken of a file where the shelf failed
 pub begun_few : (files : Option Files) (name bytes : List ℕ) → Begins files name bytes → AreFew (bytes ∷ [])

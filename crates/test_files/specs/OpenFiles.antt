@@ -19,7 +19,7 @@ pub record TookBytes (old new : ShelfSeen) (bytes : List ℕ) : Type 0 where
 -- a file that is open was read to its end, or up to one byte more than a test may have, and this is what was taken
 pub record ReadWhole (old new : ShelfSeen) (bytes : List ℕ) : Type 0 where
   pub text : List ℕ
-  pub told : IfSome (left_to_read old.mode) (λ whole. whole ≡ text)
+  pub shown : IfSome (left_to_read old.mode) (λ whole. whole ≡ text)
   pub bytes_are : bytes ≡ take (MAX_TEXT + 1) text
   pub took : TookBytes old new bytes
   pub mode : IsReading new.mode
@@ -29,7 +29,7 @@ pub record ReadWhole (old new : ShelfSeen) (bytes : List ℕ) : Type 0 where
 pub record ReadPart (old new : ShelfSeen) : Type 0 where
   pub bytes : List ℕ
   pub text : List ℕ
-  pub told : IfSome (left_to_read old.mode) (λ whole. whole ≡ text)
+  pub shown : IfSome (left_to_read old.mode) (λ whole. whole ≡ text)
   pub rest : List ℕ
   pub parts : text ≡ bytes ++ rest
   pub short : length bytes ≤ MAX_TEXT
@@ -58,7 +58,7 @@ pub record ReadSoFar (old new : ShelfSeen) (bytes : List ℕ) : Type 0 where
 -- a file that is open was read, to its end or up to one byte more than a test may have, and then closed, or that failed
 pub record OpenRead (old new : ShelfSeen) (bytes : List ℕ) (closed : Result (Unit {0}) Failed) : Type 0 where
   pub text : List ℕ
-  pub told : IfSome (left_to_read old.mode) (λ whole. whole ≡ text)
+  pub shown : IfSome (left_to_read old.mode) (λ whole. whole ≡ text)
   pub bytes_are : bytes ≡ take (MAX_TEXT + 1) text
   pub took : TookBytes old new bytes
   pub no_fault : OnOk closed (new.faults ≡ old.faults)

@@ -19,7 +19,7 @@ pub fn test_of_text<A: Arch>(alloc: Global, text: &[u8]) -> Result<ReadTest<A>, 
     ensures { SaysInMemory result (test_said A.NAME A.writing text.now) }
 {
     if text.len() > MAX_TEXT {
-        return Err(wrong(TestFileKind::Test(TestKind::TooLarge), HEADER_LINE));
+        return Err(fault_at_line(TestFileKind::Test(TestKind::TooLarge), HEADER_LINE));
     }
     match arch_of(text) {
         Ok(named) => test_of_headed::<A>(alloc, named, text),
@@ -36,7 +36,7 @@ fn test_of_headed<A: Arch>(
     ensures { SaysInMemory result (headed_said A.NAME A.writing text.now (Ok named)) }
 {
     if !is_arch(named, A::NAME) {
-        return Err(wrong(TestFileKind::WrongArch, HEADER_LINE));
+        return Err(fault_at_line(TestFileKind::WrongArch, HEADER_LINE));
     }
     match read_test::<A>(alloc, text) {
         Ok(test) => Ok(test),
@@ -52,7 +52,7 @@ fn is_arch(named: ArchName, asked: ArchName) -> bool
 }
 
 /// A fault of this kind at a line.
-fn wrong(kind: TestFileKind, line: u64) -> NoTest
+fn fault_at_line(kind: TestFileKind, line: u64) -> NoTest
     ensures { result ≡ Wrong (record { line = line; kind = kind }) }
 {
     NoTest::Wrong(TestFileError { line, kind })
@@ -62,5 +62,5 @@ fn wrong(kind: TestFileKind, line: u64) -> NoTest
 fn no_test(error: TextError) -> NoTest
     ensures { result ≡ Wrong (record { line = error.line; kind = Test error.kind }) }
 {
-    wrong(TestFileKind::Test(error.kind), error.line)
+    fault_at_line(TestFileKind::Test(error.kind), error.line)
 }

@@ -15,7 +15,7 @@ use Rattle.arch_trait.specs.Threads.{FitSteps, is_load_dir, loads_in, control_af
 use Rattle.program_meaning.specs.Accesses.{Access, Visit, accesses_of, is_read, reads_by, reads_before}
 use Rattle.program_meaning.specs.Standing.{Named}
 use Rattle.test_laws.proofs.Visits.{link_barred, data_met, thread_visits}
-use Rattle.test_laws.proofs.VisitsAt.{IsVisit, visit_at, reads_same, reads_taken, loads_more, control_behind}
+use Rattle.test_laws.proofs.VisitsAt.{IsVisit, visit_at, reads_same, reads_taken, loads_more, control_later}
 use Rattle.test_laws.proofs.Ties.{Follows}
 
 -- the data mask of an access is that of its link, whatever it does
@@ -51,4 +51,4 @@ next_follows arch kind threads e f steps vs j s t fit here there source link sto
         omega (arith, loads_more steps j s here, cond-true {A = ℕ} (is_load_dir s.dir) 1 0 load)
 
     earlier : control_after (take (suc j) steps) 0 0 < 2 ^ (0 + loads_in (take j steps))
-    earlier = control_behind arch false steps 0 0 j fit (λ z. cc) (omega arith) (slice_get_within steps j s here)
+    earlier = control_later arch false steps 0 0 j fit (λ z. cc) (omega arith) (slice_get_within steps j s here)

@@ -43,13 +43,13 @@ thread_terms-count a name thread steps =
     omega (arith, l, m, loads-count a steps, reads-count steps)
 
 -- the terms of some threads and then of others
-pub load_terms-append : (a : Puts) (name : ℕ → List ℕ) (thread : ℕ) (front back : List (List Step)) → load_terms a name thread (front ++ back) ≡ load_terms a name thread front ++ load_terms a name (thread + length front) back
+pub load_terms-append : (a : Puts) (name : ℕ → List ℕ) (thread : ℕ) (prefix back : List (List Step)) → load_terms a name thread (prefix ++ back) ≡ load_terms a name thread prefix ++ load_terms a name (thread + length prefix) back
 load_terms-append a name thread [] back = ap (λ t. load_terms a name t back) (omega arith)
-load_terms-append a name thread (steps ∷ front) back =
+load_terms-append a name thread (steps ∷ prefix) back =
     ap (λ l. thread_terms a name thread steps ++ l)
-    (load_terms-append a name (thread + 1) front back
-    ∙ ap (λ t. load_terms a name (thread + 1) front ++ load_terms a name t back) (omega arith))
-    ∙ sym (append_assoc (thread_terms a name thread steps) (load_terms a name (thread + 1) front) (load_terms a name (thread + length (steps ∷ front)) back))
+    (load_terms-append a name (thread + 1) prefix back
+    ∙ ap (λ t. load_terms a name (thread + 1) prefix ++ load_terms a name t back) (omega arith))
+    ∙ sym (append_assoc (thread_terms a name thread steps) (load_terms a name (thread + 1) prefix) (load_terms a name (thread + length (steps ∷ prefix)) back))
 
 -- one more thread
 pub load_terms_more : (a : Puts) (name : ℕ → List ℕ) (threads : List (List Step)) (k : ℕ) (d : List Step) → k < length threads → load_terms a name 0 (take (k + 1) threads) ≡ load_terms a name 0 (take k threads) ++ thread_terms a name k (get_or threads k d)
@@ -199,10 +199,10 @@ terms_few a name es mode number r =
 pub terms_room : (a : Puts) (name : ℕ → List ℕ) (es : List Edge) (mode : ObsMode) (number : ℕ → ℕ) (k : ℕ) (d : List Step) → IsResolved es → k < length (cycle_steps es mode number) → length (last_terms es mode ++ load_terms a name 0 (take k (cycle_steps es mode number))) + length (thread_terms a name k (get_or (cycle_steps es mode number) k d)) ≤ length es
 terms_room a name es mode number k d r h =
     let threads = cycle_steps es mode number in
-    let front = load_terms a name 0 (take k threads) in
+    let prefix = load_terms a name 0 (take k threads) in
     let next = thread_terms a name k (get_or threads k d) in
-    let one = ap length (load_terms_more a name threads k d h) ∙ length-append front next in
+    let one = ap length (load_terms_more a name threads k d h) ∙ length-append prefix next in
     let all = ap (λ l. length (load_terms a name 0 l)) (sym (take-append-drop (k + 1) threads))
     ∙ ap length (load_terms-append a name 0 (take (k + 1) threads) (drop (k + 1) threads))
     ∙ length-append (load_terms a name 0 (take (k + 1) threads)) (load_terms a name (0 + length (take (k + 1) threads)) (drop (k + 1) threads)) in
-    omega (arith, one, all, length-append (last_terms es mode) front, length-append (last_terms es mode) (load_terms a name 0 threads), terms_few a name es mode number r)
+    omega (arith, one, all, length-append (last_terms es mode) prefix, length-append (last_terms es mode) (load_terms a name 0 threads), terms_few a name es mode number r)

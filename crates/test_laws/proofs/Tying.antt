@@ -22,7 +22,7 @@ use Rattle.arch_trait.specs.declared.link.Link.TheVariants.{Plain}
 use Rattle.arch_trait.specs.Links.{edge_link}
 use Rattle.arch_trait.specs.Threads.{ThreadCode, loads_in, control_after, thread_items}
 use Rattle.program_meaning.specs.declared.WriteAt.{WriteAt}
-use Rattle.program_meaning.specs.Accesses.{Access, Visit, got_from, at_name, accesses_of, barriers_behind, reads_among, reads_before}
+use Rattle.program_meaning.specs.Accesses.{Access, Visit, got_from, at_name, accesses_of, barriers_after, reads_among, reads_before}
 use Rattle.program_meaning.specs.Executions.{Execution}
 use Rattle.program_meaning.specs.Programs.{IsCandidate, visits_in, accesses_in}
 use Rattle.program_meaning.specs.Standing.{Named, IsEvent, StartsFree, TiesBy}
@@ -62,7 +62,7 @@ event_visit es visits i e k j thread v t s g =
     ∙ v.visit_is
 
 -- two events that an internal edge joins: the second follows the first in its thread, by the edge's link
-record IsBehind (codes : List ThreadCode) (es : List Edge) (mode : ObsMode) (number : ℕ → ℕ) (x : Execution) (i : ℕ) (e f : Named) : Type 0 where
+record IsAfter (codes : List ThreadCode) (es : List Edge) (mode : ObsMode) (number : ℕ → ℕ) (x : Execution) (i : ℕ) (e f : Named) : Type 0 where
   k : ℕ
   c : ℕ
   follows : Follows (kind_of (edge_at es i)) (accesses_in (program_of codes (move_count es)) x) e f k c
@@ -91,8 +91,8 @@ is_next es number i r h inside =
       step = got_map (event_step es number) (events_in es (event_thread es i)) (suc (slot_of es i)) (event_after es i) stands;
     }
 
-is_behind : (arch : ArchName) (codes : List ThreadCode) (es : List Edge) (mode : ObsMode) (number : ℕ → ℕ) (x : Execution) (i : ℕ) (e f : Named) → IsResolved es → list_all (λ e. is_of_arch e arch) es ≡ true → AreCodesOf codes (cycle_steps es mode number) → IsCandidate (program_of codes (move_count es)) x → i < length es → is_external (edge_at es i) ≡ false → IsEvent es (visits_in (program_of codes (move_count es)) x) i e → IsEvent es (visits_in (program_of codes (move_count es)) x) (event_after es i) f → IsBehind codes es mode number x i e f
-is_behind arch codes es mode number x i e f r o m c h inside u v =
+is_after : (arch : ArchName) (codes : List ThreadCode) (es : List Edge) (mode : ObsMode) (number : ℕ → ℕ) (x : Execution) (i : ℕ) (e f : Named) → IsResolved es → list_all (λ e. is_of_arch e arch) es ≡ true → AreCodesOf codes (cycle_steps es mode number) → IsCandidate (program_of codes (move_count es)) x → i < length es → is_external (edge_at es i) ≡ false → IsEvent es (visits_in (program_of codes (move_count es)) x) i e → IsEvent es (visits_in (program_of codes (move_count es)) x) (event_after es i) f → IsAfter codes es mode number x i e f
+is_after arch codes es mode number x i e f r o m c h inside u v =
     of_thread (thread_of (cycle_steps es mode number) x (event_thread es i) (candidate_lists codes es mode number x m c) (slice_get_within (cycle_steps es mode number) (event_thread es i) (thread_steps es number (event_thread es i)) stands))
   where
     n : IsNext es number i
@@ -104,7 +104,7 @@ is_behind arch codes es mode number x i e f r o m c h inside u v =
     link : event_link es (event_after es i) ≡ edge_link (edge_at es i)
     link = link_between es (event_after es i) n.before ∙ ap (λ j. edge_link (edge_at es j)) n.edge
 
-    of_thread : ThreadOf (cycle_steps es mode number) x (event_thread es i) → IsBehind codes es mode number x i e f
+    of_thread : ThreadOf (cycle_steps es mode number) x (event_thread es i) → IsAfter codes es mode number x i e f
     of_thread t =
         let s : Some t.steps ≡ Some (thread_steps es number (event_thread es i)) = sym t.steps_at ∙ stands in
         let same : t.steps ≡ thread_steps es number (event_thread es i) = cc in
@@ -168,7 +168,7 @@ tied_up arch codes es mode number x r o m c = record {
   ties = λ i e f h u v.
       by_test (is_external (edge_at es i))
       (λ t. external_ties (kind_of (edge_at es i)) (edge_at es i) (accesses_in (program_of codes (move_count es)) x) e f refl t)
-      (λ n. let b = is_behind arch codes es mode number x i e f r o m c h n u v in
+      (λ n. let b = is_after arch codes es mode number x i e f r o m c h n u v in
       ties (kind_of (edge_at es i)) (accesses_in (program_of codes (move_count es)) x) e f b.k b.c b.follows);
   observers = λ k visits h g.
       let t = of_visits k visits g in
@@ -185,7 +185,7 @@ tied_up arch codes es mode number x r o m c = record {
       let d = thread_did codes es mode number x k m c t in
       let s : Some (thread_items t.steps 0 0 (values_read t.reads)) ≡ Some made = sym d.items_are ∙ g in
       let e : thread_items t.steps 0 0 (values_read t.reads) ≡ made = cc in
-      ap (barriers_behind []) (sym e) ∙ ends_free t.steps 0 0 (values_read t.reads);
+      ap (barriers_after []) (sym e) ∙ ends_free t.steps 0 0 (values_read t.reads);
 }
   where
     of_visits : (k : ℕ) (visits : List Visit) → slice_get (visits_in (program_of codes (move_count es)) x) k ≡ Some visits → ThreadOf (cycle_steps es mode number) x k

@@ -11,7 +11,7 @@ use Rattle.arch_trait.specs.declared.link.Link.{Link}
 use Rattle.arch_trait.specs.declared.link.Link.TheVariants as links
 use Rattle.arch_trait.specs.Links.{is_addr, is_data, mask_if, link_control, link_items}
 use Rattle.arch_trait.specs.Threads.{is_load_dir, loads_in, loads_after, first_of, left_after, access_item, thread_items}
-use Rattle.program_meaning.specs.Accesses.{Access, Barred, Visit, visits_from, visits_of, barriers_behind, accesses_of}
+use Rattle.program_meaning.specs.Accesses.{Access, Barred, Visit, visits_from, visits_of, barriers_after, accesses_of}
 use Rattle.communication.specs.Joining.{value_taken, values_left, filled}
 
 -- the barriers of a link
@@ -74,14 +74,14 @@ visits_are (s ∷ ss) n c vs =
     item_visit s s.dir (first_of vs) (n - 1) c (thread_items ss (loads_after s.dir n) (link_control s.link (n - 1) c) (left_after s.dir vs))
     ∙ ap (λ l. step_visit s s.dir (first_of vs) (n - 1) c ∷ l) (visits_are ss (loads_after s.dir n) (link_control s.link (n - 1) c) (left_after s.dir vs))
 
-item_ends : (s : Step) (d : Dir) (v k c : ℕ) (rest : List Item) → barriers_behind [] ((link_items s.link k c ++ access_item s d v k (link_control s.link k c) ∷ []) ++ rest) ≡ barriers_behind [] rest
+item_ends : (s : Step) (d : Dir) (v k c : ℕ) (rest : List Item) → barriers_after [] ((link_items s.link k c ++ access_item s d v k (link_control s.link k c) ∷ []) ++ rest) ≡ barriers_after [] rest
 item_ends s d v k c rest = of_link s.link d
   where
-    of_access : (b : List Barred) (c : ℕ) (l : Link) (d : Dir) → barriers_behind b (access_item (record s { link = l }) d v k c ∷ rest) ≡ barriers_behind [] rest
+    of_access : (b : List Barred) (c : ℕ) (l : Link) (d : Dir) → barriers_after b (access_item (record s { link = l }) d v k c ∷ rest) ≡ barriers_after [] rest
     of_access b c l dirs.R = refl
     of_access b c l dirs.W = refl
 
-    of_link : (l : Link) (d : Dir) → barriers_behind [] ((link_items l k c ++ access_item (record s { link = l }) d v k (link_control l k c) ∷ []) ++ rest) ≡ barriers_behind [] rest
+    of_link : (l : Link) (d : Dir) → barriers_after [] ((link_items l k c ++ access_item (record s { link = l }) d v k (link_control l k c) ∷ []) ++ rest) ≡ barriers_after [] rest
     of_link links.Plain d = of_access [] c links.Plain d
     of_link (links.Fence kind) d = of_access (record { kind = kinds.Fence kind; control = c } ∷ []) c (links.Fence kind) d
     of_link links.Addr d = of_access [] c links.Addr d
@@ -91,7 +91,7 @@ item_ends s d v k c rest = of_link s.link d
     of_link links.CtrlIsb d = of_access (link_barred links.CtrlIsb k c) (link_control links.CtrlIsb k c) links.CtrlIsb d
 
 -- no barrier comes after the last access of a thread
-pub ends_free : (ss : List Step) (n c : ℕ) (vs : List ℕ) → barriers_behind [] (thread_items ss n c vs) ≡ []
+pub ends_free : (ss : List Step) (n c : ℕ) (vs : List ℕ) → barriers_after [] (thread_items ss n c vs) ≡ []
 ends_free [] n c vs = refl
 ends_free (s ∷ ss) n c vs =
     item_ends s s.dir (first_of vs) (n - 1) c (thread_items ss (loads_after s.dir n) (link_control s.link (n - 1) c) (left_after s.dir vs))

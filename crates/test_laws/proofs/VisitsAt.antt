@@ -67,16 +67,16 @@ loads_more (t ∷ ss) (suc j) s g =
     omega (arith, sum_by-cons (λ u. cond (is_load_dir u.dir) 1 0) t (take (suc j) ss), sum_by-cons (λ u. cond (is_load_dir u.dir) 1 0) t (take j ss), loads_more ss j s g)
 
 -- after an access, and the link of the next one, branches depend only on loads before the access
-pub control_behind : (arch : ArchName) (b : Bool) (ss : List Step) (n c j : ℕ) → FitSteps arch b ss → (b ≡ true → 0 < n) → c < 2 ^ n → j < length ss → control_after (take (suc j) ss) n c < 2 ^ (n + loads_in (take j ss))
-control_behind arch b [] n c j fit some h l = absurd (omega arith)
-control_behind arch b (s ∷ ss) n c zero fit some h l =
+pub control_later : (arch : ArchName) (b : Bool) (ss : List Step) (n c j : ℕ) → FitSteps arch b ss → (b ≡ true → 0 < n) → c < 2 ^ n → j < length ss → control_after (take (suc j) ss) n c < 2 ^ (n + loads_in (take j ss))
+control_later arch b [] n c j fit some h l = absurd (omega arith)
+control_later arch b (s ∷ ss) n c zero fit some h l =
     let z : n + 0 ≡ n = omega arith in rw z (link_below s.link n c (λ t. some (fit.0.after (branch_depends s.link t))) h)
-control_behind arch b (s ∷ ss) n c (suc j) fit some h l =
+control_later arch b (s ∷ ss) n c (suc j) fit some h l =
     let e : loads_after s.dir n + loads_in (take j ss) ≡ n + loads_in (s ∷ take j ss) = omega (arith, sum_by-cons (λ u. cond (is_load_dir u.dir) 1 0) s (take j ss)) in
     let here = link_below s.link n c (λ t. some (fit.0.after (branch_depends s.link t))) h in
     let more : n ≤ loads_after s.dir n = omega arith in
     subst (λ m. control_after (take (suc j) ss) (loads_after s.dir n) (link_control s.link (n - 1) c) < 2 ^ m) e
-    (control_behind arch (is_load_dir s.dir) ss (loads_after s.dir n) (link_control s.link (n - 1) c) j fit.1 (λ t. one_more s.dir n t) (lt_of_lt_of_le here (pow_mono more)) (omega arith))
+    (control_later arch (is_load_dir s.dir) ss (loads_after s.dir n) (link_control s.link (n - 1) c) j fit.1 (λ t. one_more s.dir n t) (lt_of_lt_of_le here (pow_mono more)) (omega arith))
   where
     one_more : (d : Dir) (n : ℕ) → is_load_dir d ≡ true → 0 < loads_after d n
     one_more dirs.R n e = omega arith

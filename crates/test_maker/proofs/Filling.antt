@@ -30,14 +30,14 @@ edge_got (x ∷ es) zero e h = cc h
 edge_got (x ∷ es) (suc k) e h = edge_got es k e h
 
 -- an event in a slot after the first isn't the first event
-pub slot_behind : (es : List Edge) (i : ℕ) → (slot_of es i ≡ 0 → ⊥) → 0 < i
-slot_behind es zero h = absurd (h (slot-zero es))
-slot_behind es (suc i) h = omega arith
+pub slot_after : (es : List Edge) (i : ℕ) → (slot_of es i ≡ 0 → ⊥) → 0 < i
+slot_after es zero h = absurd (h (slot-zero es))
+slot_after es (suc i) h = omega arith
 
 -- the link of an event in a slot after the first
-pub link_behind : (es : List Edge) (i : ℕ) (e : Edge) → (slot_of es i ≡ 0 → ⊥) → slice_get es (i - 1) ≡ Some e → edge_link e ≡ event_link es i
-link_behind es zero e h got = absurd (h (slot-zero es))
-link_behind es (suc i) e h got =
+pub link_after : (es : List Edge) (i : ℕ) (e : Edge) → (slot_of es i ≡ 0 → ⊥) → slice_get es (i - 1) ≡ Some e → edge_link e ≡ event_link es i
+link_after es zero e h got = absurd (h (slot-zero es))
+link_after es (suc i) e h got =
     let k : suc i - 1 ≡ i = omega arith in
     let same : e ≡ edge_at es i = edge_got es i e (ap (slice_get es) (sym k) ∙ got) in
     let test : (slot_of es (suc i) == 0) ≡ false = grind (arith, nat_tests, h) in

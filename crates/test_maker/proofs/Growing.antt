@@ -142,9 +142,9 @@ pub load_room : (a : Puts) (name : ℕ → List ℕ) (es : List Edge) (mode : Ob
     IsResolved es → Grown a name es mode k threads cond0 cond1 → slice_get (cycle_steps es mode plain) k ≡ Some steps →
     map term_view cond0.terms.items ≡ last_terms es mode → length cond1.terms.items + length (numbers_read steps) ≤ MAX_TERMS
 load_room a name es mode k steps threads cond0 cond1 r g got last =
-    let front = load_terms a name 0 (take k (cycle_steps es mode plain)) in
-    let long : length cond1.terms.items ≡ length (last_terms es mode ++ front) =
-    sym (length-map cond1.terms.items term_view) ∙ ap length (g.terms ∙ ap (λ terms. terms ++ front) last) in
+    let prefix = load_terms a name 0 (take k (cycle_steps es mode plain)) in
+    let long : length cond1.terms.items ≡ length (last_terms es mode ++ prefix) =
+    sym (length-map cond1.terms.items term_view) ∙ ap length (g.terms ∙ ap (λ terms. terms ++ prefix) last) in
     let room = terms_room a name es mode plain k steps r (got_within (cycle_steps es mode plain) k steps got) in
     let here = ap (λ s. length (thread_terms a name k s)) (get_or_from_slice_get (cycle_steps es mode plain) k steps steps got) in
     omega (arith, long, room, here, thread_terms-count a name k steps, reads-count steps, r.composes.few)

@@ -13,7 +13,7 @@ use Rattle.relax_edges.specs.declared.edge.Edge.{Edge}
 use Rattle.resolution_laws.specs.Resolution.{IsResolved, move_count}
 use Rattle.micro_ops.specs.declared.operation.Micro.{Micro}
 use Rattle.micro_ops.specs.declared.operation.Micro.TheVariants as ops
-use Rattle.micro_ops.specs.Running.{labels_of, lands, stands}
+use Rattle.micro_ops.specs.Running.{labels_of, lands, occurs}
 use Rattle.arch_trait.specs.declared.code.Code.{Code}
 use Rattle.arch_trait.specs.declared.step.Step.{Step}
 use Rattle.arch_trait.specs.Codes.{IsFormed, is_within, thread_of}
@@ -80,14 +80,14 @@ abbrev pub labels_below : ℕ → List Micro → Bool
 labels_below n code = list_all (λ l. nat_lt l n) (labels_of code)
 
 -- a label that occurs in code is below the number
-stands_below : (n label : ℕ) (code : List Micro) → labels_below n code ≡ true → stands label code ≡ true → nat_lt label n ≡ true
-stands_below n label [] h s = cc
-stands_below n label (ops.Label k ∷ code) h s =
+occurs_below : (n label : ℕ) (code : List Micro) → labels_below n code ≡ true → occurs label code ≡ true → nat_lt label n ≡ true
+occurs_below n label [] h s = cc
+occurs_below n label (ops.Label k ∷ code) h s =
     let parts = and_parts (nat_lt k n) (labels_below n code) h in
     by_test (k == label)
     (λ e. subst (λ l. nat_lt l n ≡ true) (eqb-true k label e) parts.0)
-    (λ e. stands_below n label code parts.1 (sym (ap (λ b. b || stands label code) e) ∙ s))
-stands_below n label (op ∷ code) h s = stands_below n label code h s
+    (λ e. occurs_below n label code parts.1 (sym (ap (λ b. b || occurs label code) e) ∙ s))
+occurs_below n label (op ∷ code) h s = occurs_below n label code h s
 
 -- code whose branches land names none but labels below the number
 lands_below : (n : ℕ) (code : List Micro) → labels_below n code ≡ true → lands code ≡ true → list_all (label_below n) code ≡ true
@@ -96,11 +96,11 @@ lands_below n (ops.Label k ∷ code) h l =
     let parts = and_parts (nat_lt k n) (labels_below n code) h in
     and_from (nat_lt k n) (list_all (label_below n) code) parts.0 (lands_below n code parts.1 l)
 lands_below n (ops.BranchEq k ∷ code) h l =
-    let parts = and_parts (stands k code) (lands code) l in
-    and_from (nat_lt k n) (list_all (label_below n) code) (stands_below n k code h parts.0) (lands_below n code h parts.1)
+    let parts = and_parts (occurs k code) (lands code) l in
+    and_from (nat_lt k n) (list_all (label_below n) code) (occurs_below n k code h parts.0) (lands_below n code h parts.1)
 lands_below n (ops.BranchNz _ k ∷ code) h l =
-    let parts = and_parts (stands k code) (lands code) l in
-    and_from (nat_lt k n) (list_all (label_below n) code) (stands_below n k code h parts.0) (lands_below n code h parts.1)
+    let parts = and_parts (occurs k code) (lands code) l in
+    and_from (nat_lt k n) (list_all (label_below n) code) (occurs_below n k code h parts.0) (lands_below n code h parts.1)
 lands_below n (op ∷ code) h l = lands_below n code h l
 
 range_below : (low count high : ℕ) → low + count ≤ high → list_all (λ l. nat_lt l high) (range_with_len low count) ≡ true

@@ -8,12 +8,12 @@ use Rattle.list_laws.proofs.Cases.{by_test}
 use Rattle.text_laws.specs.Cuts.{before_cut, cut_at, is_without, CutParts}
 
 -- the text before a sign and the text behind it
-pub cut_back : (sign : ℕ) (front behind : List ℕ) → is_without sign front ≡ true → cut_at sign (front ++ sign ∷ behind) ≡ Some (front, behind)
+pub cut_back : (sign : ℕ) (prefix behind : List ℕ) → is_without sign prefix ≡ true → cut_at sign (prefix ++ sign ∷ behind) ≡ Some (prefix, behind)
 unfolding cut_at
 cut_back sign [] behind h = rw (eq-eqb sign sign refl) refl
-cut_back sign (byte ∷ front) behind h =
-    let parts = and_parts (not (byte == sign)) (is_without sign front) h in
-    rw (not-true (byte == sign) parts.0) (ap (before_cut byte) (cut_back sign front behind parts.1))
+cut_back sign (byte ∷ prefix) behind h =
+    let parts = and_parts (not (byte == sign)) (is_without sign prefix) h in
+    rw (not-true (byte == sign) parts.0) (ap (before_cut byte) (cut_back sign prefix behind parts.1))
 
 pub cut_none : (sign : ℕ) (text : List ℕ) → is_without sign text ≡ true → cut_at sign text ≡ None
 unfolding cut_at
@@ -53,8 +53,8 @@ cut_found sign text k inside before is = rw (rest_whole text (k + 1)) (record {
 })
 
 -- what is cut
-pub cut_is : (sign : ℕ) (text front behind : List ℕ) → CutParts sign text front behind → cut_at sign text ≡ Some (front, behind)
-cut_is sign text front behind p = ap (cut_at sign) p.parts ∙ cut_back sign front behind p.first
+pub cut_is : (sign : ℕ) (text prefix behind : List ℕ) → CutParts sign text prefix behind → cut_at sign text ≡ Some (prefix, behind)
+cut_is sign text prefix behind p = ap (cut_at sign) p.parts ∙ cut_back sign prefix behind p.first
 
-pub cut_length : (sign : ℕ) (text front behind : List ℕ) → CutParts sign text front behind → length text ≡ length front + (length behind + 1)
-cut_length sign text front behind p = let e : length (front ++ sign ∷ behind) ≡ length front + length (sign ∷ behind) = length-append front (sign ∷ behind) in ap length p.parts ∙ e ∙ (omega arith)
+pub cut_length : (sign : ℕ) (text prefix behind : List ℕ) → CutParts sign text prefix behind → length text ≡ length prefix + (length behind + 1)
+cut_length sign text prefix behind p = let e : length (prefix ++ sign ∷ behind) ≡ length prefix + length (sign ∷ behind) = length-append prefix (sign ∷ behind) in ap length p.parts ∙ e ∙ (omega arith)

@@ -49,12 +49,12 @@ unfolding words
 words_none text h = sym (words_unblanked text) ∙ ap words (no_run text h)
 
 -- the first word by what a walk over blanks and then over a word found
-pub word_found : (text front word rest : List ℕ) → front ≡ unblanked text → word ≡ run_of is_inked front → rest ≡ after_run is_inked front → is_nil word ≡ false → words text ≡ word ∷ words rest
-word_found text front word rest e f g h =
-    sym (words_unblanked text) ∙ ap words (sym e) ∙ words_first front (ap is_nil (sym f) ∙ h) ∙ ap (λ w. w ∷ words (after_run is_inked front)) (sym f) ∙ ap (λ t. word ∷ words t) (sym g)
+pub word_found : (text prefix word rest : List ℕ) → prefix ≡ unblanked text → word ≡ run_of is_inked prefix → rest ≡ after_run is_inked prefix → is_nil word ≡ false → words text ≡ word ∷ words rest
+word_found text prefix word rest e f g h =
+    sym (words_unblanked text) ∙ ap words (sym e) ∙ words_first prefix (ap is_nil (sym f) ∙ h) ∙ ap (λ w. w ∷ words (after_run is_inked prefix)) (sym f) ∙ ap (λ t. word ∷ words t) (sym g)
 
-pub no_word_found : (text front word : List ℕ) → front ≡ unblanked text → word ≡ run_of is_inked front → is_nil word ≡ true → words text ≡ []
-no_word_found text front word e f h =
+pub no_word_found : (text prefix word : List ℕ) → prefix ≡ unblanked text → word ≡ run_of is_inked prefix → is_nil word ≡ true → words text ≡ []
+no_word_found text prefix word e f h =
     words_none text (ap (λ t. is_nil (run_of is_inked t)) (sym e) ∙ ap is_nil (sym f) ∙ h)
 
 -- a test whether a text is empty

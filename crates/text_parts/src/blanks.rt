@@ -18,11 +18,11 @@ pub fn without_last_blanks(text: &[u8]) -> &[u8]
     ensures { result.now ≡ before_blanks text.now }
 {
     let mut text = text;
-    while let [front @ .., last] = text {
+    while let [prefix @ .., last] = text {
         if !Class::Blank.has(*last) {
             break;
         }
-        text = front;
+        text = prefix;
     }
     text
 }

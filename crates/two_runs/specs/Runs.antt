@@ -8,7 +8,7 @@ use Rattle.resolution_laws.specs.Resolution.{external_count, move_count, thread_
 use Rattle.value_laws.specs.Values.{write_count}
 use Rattle.arch_trait.specs.Names.{location_name}
 use Rattle.litmus_text.specs.Placing.{place_in}
-use Rattle.diy_io.specs.Sink.{written_told}
+use Rattle.diy_io.specs.Sink.{shown_bytes}
 use Rattle.diy_io.specs.Wrote.{SinkSeen}
 use Rattle.program_meaning.specs.declared.WriteAt.{WriteAt}
 use Rattle.program_meaning.specs.Accesses.{is_read}
@@ -19,7 +19,7 @@ use Rattle.two_runs.specs.declared.sink.TextSink.{TextSink}
 
 -- a text in memory, as a sink
 abbrev pub text_sink_seen : TextSink → SinkSeen
-text_sink_seen sink = record { told = written_told sink.bytes.items; faults = sink.faults }
+text_sink_seen sink = record { shown = shown_bytes sink.bytes.items; faults = sink.faults }
 
 -- the numbers of the locations' places, where places have these names
 abbrev pub numbers_by : List (List ℕ) → ℕ → ℕ

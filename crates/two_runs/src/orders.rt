@@ -65,14 +65,14 @@ fn value_there(valued: &Valued, moved: Option<u8>, location: u8, value: u8) -> u
     let _edges = valued.resolved().cycle();
     match moved {
         Some(event) if valued.resolved().event(event).location == location => {
-            swapped(valued.value_of(event), value)
+            swap_value(valued.value_of(event), value)
         }
         _ => value,
     }
 }
 
 /// That value, where the writes of `value` and of the value before it are exchanged.
-fn swapped(value: u8, v: u8) -> u8
+fn swap_value(value: u8, v: u8) -> u8
     requires some { 1 ≤ v }
     requires below { v < 255 }
     ensures { result ≡ swapped value v }

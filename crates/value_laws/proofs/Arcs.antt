@@ -16,7 +16,7 @@ use Rattle.list_laws.proofs.Numbers.{length-upto, get_or-upto}
 use Rattle.resolution_laws.specs.Resolution.{move_count, location_of, IsResolved}
 use Rattle.resolution_laws.proofs.Locations.{moves_up}
 use Rattle.resolution_laws.proofs.Arcs.{location_below}
-use Rattle.value_laws.specs.Values.{is_write, is_behind_moves, way, arc, is_write_at, way_place, value_of, write_at}
+use Rattle.value_laws.specs.Values.{is_write, is_after_moves, way, arc, is_write_at, way_place, value_of, write_at}
 use Rattle.value_laws.proofs.Lists.{count_filter, found_counted, counted_found, rank_filter, unrank_filter, pairs_append, pairs_change, upto_grows, count_along, filter_everything, classes_follow}
 use Rattle.value_laws.proofs.Ways.{by_way}
 use Rattle.value_laws.proofs.Writes.{write_of, write_at_parts, write_at_from, is_write_number}
@@ -25,8 +25,8 @@ use Rattle.value_laws.proofs.Writes.{write_of, write_at_parts, write_at_from, is
 way_count : (es : List Edge) (p : ℕ → Bool) → count_by p (way es) ≡ count_by p (upto (length es))
 unfolding way
 way_count es p =
-    sum_by-append (λ i. cond (p i) 1 0) (filter (is_behind_moves es) (upto (length es))) (filter (λ i. not (is_behind_moves es i)) (upto (length es)))
-    ∙ sum_by-filter_both (is_behind_moves es) (λ i. not (is_behind_moves es i)) (λ i. refl) (λ i. cond (p i) 1 0) (upto (length es))
+    sum_by-append (λ i. cond (p i) 1 0) (filter (is_after_moves es) (upto (length es))) (filter (λ i. not (is_after_moves es i)) (upto (length es)))
+    ∙ sum_by-filter_both (is_after_moves es) (λ i. not (is_after_moves es i)) (λ i. refl) (λ i. cond (p i) 1 0) (upto (length es))
 
 -- a count along an arc is a count of the location's events
 arc_count : (es : List Edge) (l : ℕ) (p : ℕ → Bool) → count_by p (arc es l) ≡ count_by (λ i. (location_of es i == l) && p i) (upto (length es))
@@ -86,13 +86,13 @@ below_all : (n : ℕ) → All (λ i. i < n) (upto n)
 below_all n k d h = omega (arith, h, length-upto n, get_or-upto n k d (omega (arith, h, length-upto n)))
 
 -- the way begins after the last move, and all other events come later
-behind_place : (es : List Edge) (i : ℕ) → is_behind_moves es i ≡ true → way_place es i ≡ i
+after_place : (es : List Edge) (i : ℕ) → is_after_moves es i ≡ true → way_place es i ≡ i
 unfolding way_place
-behind_place es i t = rw t refl
+after_place es i t = rw t refl
 
-ahead_place : (es : List Edge) (i : ℕ) → not (is_behind_moves es i) ≡ true → way_place es i ≡ length es + i
+ahead_place : (es : List Edge) (i : ℕ) → not (is_after_moves es i) ≡ true → way_place es i ≡ length es + i
 unfolding way_place
-ahead_place es i t = by_test (is_behind_moves es i) (λ y. let a : false ≡ true = ap not (sym y) ∙ t in cc) (λ f. rw f refl)
+ahead_place es i t = by_test (is_after_moves es i) (λ y. let a : false ≡ true = ap not (sym y) ∙ t in cc) (λ f. rw f refl)
 
 way_grows : (es : List Edge) → AllPairs (λ i j. way_place es i < way_place es j) (way es)
 unfolding way
@@ -100,13 +100,13 @@ way_grows es =
     pairs_append (λ i j. way_place es i < way_place es j) (filter first (upto n)) (filter later (upto n))
     (pairs_change (λ i j. i < j) (λ i j. way_place es i < way_place es j) (λ i. first i ≡ true) (filter first (upto n))
     (AllPairs-filter (λ i j. i < j) first (upto n) (upto_grows n)) (filter_passes first (upto n))
-    (λ i j a b h. omega (arith, h, behind_place es i a, behind_place es j b)))
+    (λ i j a b h. omega (arith, h, after_place es i a, after_place es j b)))
     (pairs_change (λ i j. i < j) (λ i j. way_place es i < way_place es j) (λ i. later i ≡ true) (filter later (upto n))
     (AllPairs-filter (λ i j. i < j) later (upto n) (upto_grows n)) (filter_passes later (upto n))
     (λ i j a b h. omega (arith, h, ahead_place es i a, ahead_place es j b)))
     (λ k d h m c g. omega (
       arith,
-      behind_place es _ (filter_passes first (upto n) k d h),
+      after_place es _ (filter_passes first (upto n) k d h),
       ahead_place es _ (filter_passes later (upto n) m c g),
       All-filter first (λ i. i < n) (upto n) (below_all n) k d h,
     ))
@@ -115,10 +115,10 @@ way_grows es =
     n = length es
 
     first : ℕ → Bool
-    first i = is_behind_moves es i
+    first i = is_after_moves es i
 
     later : ℕ → Bool
-    later i = not (is_behind_moves es i)
+    later i = not (is_after_moves es i)
 
 -- the place on the way grows along each arc
 pub arc_places_grow : (es : List Edge) (l : ℕ) → AllPairs (λ i j. way_place es i < way_place es j) (arc es l)
@@ -174,9 +174,9 @@ locations_rise es i j h l w =
 way_below : (es : List Edge) → All (λ i. i < length es) (way es)
 unfolding way
 way_below es =
-    All-append (λ i. i < length es) (filter (is_behind_moves es) (upto (length es))) (filter (λ i. not (is_behind_moves es i)) (upto (length es)))
-    (All-filter (is_behind_moves es) (λ i. i < length es) (upto (length es)) (below_all (length es)))
-    (All-filter (λ i. not (is_behind_moves es i)) (λ i. i < length es) (upto (length es)) (below_all (length es)))
+    All-append (λ i. i < length es) (filter (is_after_moves es) (upto (length es))) (filter (λ i. not (is_after_moves es i)) (upto (length es)))
+    (All-filter (is_after_moves es) (λ i. i < length es) (upto (length es)) (below_all (length es)))
+    (All-filter (λ i. not (is_after_moves es i)) (λ i. i < length es) (upto (length es)) (below_all (length es)))
 
 -- the way is the arcs of all locations, one after the other
 pub way_of_arcs : (es : List Edge) → IsResolved es → way es ≡ flat_map (arc es) (upto (move_count es))

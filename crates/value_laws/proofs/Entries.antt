@@ -174,10 +174,10 @@ need_none : (es : List Edge) (k d : ℕ) → k < d → first_need es (upto d) �
 need_none es k zero h n = absurd (omega arith)
 need_none es k (suc d) h n =
     let both : option_or (first_need es (upto d)) (option_or (need_at es d) None) ≡ None = sym (first_need-append es (upto d) (d ∷ [])) ∙ n in
-    let front = or_none_left (first_need es (upto d)) (option_or (need_at es d) None) both in
+    let prefix = or_none_left (first_need es (upto d)) (option_or (need_at es d) None) both in
     let back = or_none_right (first_need es (upto d)) (option_or (need_at es d) None) both in
     by_less k d
-    (λ l. need_none es k d l front)
+    (λ l. need_none es k d l prefix)
     (λ g. let q : k ≡ d = omega arith in rw q (sym (need_or_none (need_at es d)) ∙ back))
   where
     or_none_left : (x y : Option NeedsObserver) → option_or x y ≡ None → x ≡ None

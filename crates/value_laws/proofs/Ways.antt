@@ -11,9 +11,9 @@ use Rattle.resolution_laws.proofs.Around.{by_after, moves_within}
 use Rattle.value_laws.specs.Values.{way_place}
 
 -- after the last move the way begins
-pub way_behind : (es : List Edge) (i : ℕ) → moves_before es i ≡ move_count es → way_place es i ≡ i
+pub way_after : (es : List Edge) (i : ℕ) → moves_before es i ≡ move_count es → way_place es i ≡ i
 unfolding way_place
-way_behind es i h = cond-true {A = ℕ} (moves_before es i == move_count es) i (length es + i) (eq-eqb (moves_before es i) (move_count es) h)
+way_after es i h = cond-true {A = ℕ} (moves_before es i == move_count es) i (length es + i) (eq-eqb (moves_before es i) (move_count es) h)
 
 -- the way goes on from event 0
 pub way_ahead : (es : List Edge) (i : ℕ) → moves_before es i < move_count es → way_place es i ≡ length es + i
@@ -24,7 +24,7 @@ way_ahead es i h = cond-false {A = ℕ} (moves_before es i == move_count es) i (
 pub by_way : {G : Type 0} (es : List Edge) (i : ℕ) → i < length es → (moves_before es i ≡ move_count es → location_of es i ≡ 0 → way_place es i ≡ i → G) → (moves_before es i < move_count es → location_of es i ≡ moves_before es i → way_place es i ≡ length es + i → G) → G
 by_way es i h behind ahead =
     location_cases es i h
-    (λ w z. behind w z (way_behind es i w))
+    (λ w z. behind w z (way_after es i w))
     (λ l e. ahead l e (way_ahead es i l))
 
 -- no two events are at one place of the way
@@ -41,9 +41,9 @@ way_next es i r h f =
     by_after es i h
     (λ l e. rw e (let k = moves_kept es i h f in
     by_way es i h
-    (λ a b c. omega (arith, c, way_behind es (i + 1) (omega (arith, a, k))))
+    (λ a b c. omega (arith, c, way_after es (i + 1) (omega (arith, a, k))))
     (λ a b c. omega (arith, c, way_ahead es (i + 1) (omega (arith, a, k))))))
-    (λ l e. rw e (omega (arith, l, way_behind es i (moves_last es i r l), way_ahead es 0 (omega (arith, two, moves-zero es)))))
+    (λ l e. rw e (omega (arith, l, way_after es i (moves_last es i r l), way_ahead es 0 (omega (arith, two, moves-zero es)))))
 
 -- the event after a `d` edge is the first of its arc
 pub first_on_arc : (es : List Edge) (i j : ℕ) → IsResolved es → i < length es → is_diff (edge_at es i) ≡ true → j < length es → location_of es j ≡ location_of es (i + 1) → way_place es j ≤ way_place es (i + 1) → j ≡ i + 1
@@ -76,5 +76,5 @@ pub way_in_thread : (es : List Edge) (i j : ℕ) → IsResolved es → i ≤ j �
 way_in_thread es i j r h l t e =
     let same = one_location es i j r h l t e in
     by_way es i (omega arith)
-    (λ a b c. omega (arith, c, h, way_behind es j (omega (arith, a, same))))
+    (λ a b c. omega (arith, c, h, way_after es j (omega (arith, a, same))))
     (λ a b c. omega (arith, c, h, way_ahead es j (omega (arith, a, same))))

@@ -62,12 +62,12 @@ pub record SomeWrite (es : List Edge) (l k : ℕ) : Type 0 where
   pub is : Write es l k event
 
 -- an event that doesn't begin its arc comes one place after the one before it
-record Behind (es : List Edge) (i : ℕ) : Type 0 where
+record IsNextPlace (es : List Edge) (i : ℕ) : Type 0 where
   below : event_before es i < length es
   location : location_of es (event_before es i) ≡ location_of es i
   place : way_place es i ≡ way_place es (event_before es i) + 1
 
-behind : (es : List Edge) (i : ℕ) → IsResolved es → i < length es → is_diff (edge_at es (event_before es i)) ≡ false → Behind es i
+behind : (es : List Edge) (i : ℕ) → IsResolved es → i < length es → is_diff (edge_at es (event_before es i)) ≡ false → IsNextPlace es i
 behind es i r h f =
     let below = before_below es i h in
     let back = after_before es i h in

@@ -18,12 +18,12 @@ abbrev pub is_write : List Edge → ℕ → Bool
 is_write es i = same_dir (source_of (edge_at es i)) dirs.W
 
 -- event i comes after the last edge to another location
-abbrev pub is_behind_moves : List Edge → ℕ → Bool
-is_behind_moves es i = moves_before es i == move_count es
+abbrev pub is_after_moves : List Edge → ℕ → Bool
+is_after_moves es i = moves_before es i == move_count es
 
 -- the way round the cycle that begins after the last edge to another location: the events after it, and then all others
 unfoldable pub way : List Edge → List ℕ
-way es = filter (is_behind_moves es) (upto (length es)) ++ filter (λ i. not (is_behind_moves es i)) (upto (length es))
+way es = filter (is_after_moves es) (upto (length es)) ++ filter (λ i. not (is_after_moves es i)) (upto (length es))
 
 -- the arc of a location: its events, in the order in which they come on that way
 unfoldable pub arc : List Edge → ℕ → List ℕ

@@ -32,6 +32,6 @@ pub fn values_count_writes_along_arcs()
 
 /// The writes of a location are those of its arc, in the order of the arc.
 #[tactic(auto, using(crate::proofs::Arcs::writes_on_arc))]
-pub fn writes_stand_in_the_order_of_arcs()
+pub fn writes_come_in_the_order_of_arcs()
     ensures { (es : List Edge) → (location k : ℕ) → slice_get (filter (is_write es) (arc es location)) k ≡ write_at es location k }
 {}

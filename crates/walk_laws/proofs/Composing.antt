@@ -9,20 +9,20 @@ use Rattle.relax_edges.specs.EdgeTable.{joins_to}
 use Rattle.walk_laws.specs.Composable.{joins_first, is_joined, is_closed, IsPath, IsCycle, first_break, one_later, last_joins}
 use Rattle.walk_laws.specs.Rotation.{rotated}
 
-joins_first_front : (e m : Edge) (a b : List Edge) → joins_first e (a ++ m ∷ b) ≡ joins_first e (a ++ m ∷ [])
-joins_first_front e m [] b = refl
-joins_first_front e m (f ∷ a) b = refl
+joins_first_prefix : (e m : Edge) (a b : List Edge) → joins_first e (a ++ m ∷ b) ≡ joins_first e (a ++ m ∷ [])
+joins_first_prefix e m [] b = refl
+joins_first_prefix e m (f ∷ a) b = refl
 
 -- a list is joined where it is joined up to an edge and from that edge on
 pub joined_at : (a : List Edge) (m : Edge) (b : List Edge) → is_joined (a ++ m ∷ b) ≡ (is_joined (a ++ m ∷ []) && is_joined (m ∷ b))
 joined_at [] m b = refl
 joined_at (e ∷ a) m b =
-    ap (λ x. x && is_joined (a ++ m ∷ b)) (joins_first_front e m a b)
+    ap (λ x. x && is_joined (a ++ m ∷ b)) (joins_first_prefix e m a b)
     ∙ ap (λ x. joins_first e (a ++ m ∷ []) && x) (joined_at a m b)
     ∙ sym (and_assoc (joins_first e (a ++ m ∷ [])) (is_joined (a ++ m ∷ [])) (is_joined (m ∷ b)))
 
 -- whether a list closes is the same for the list with two parts exchanged
-pub closed_turned : (front back : List Edge) → is_closed (front ++ back) ≡ is_closed (back ++ front)
+pub closed_turned : (prefix back : List Edge) → is_closed (prefix ++ back) ≡ is_closed (back ++ prefix)
 closed_turned [] back = ap is_closed (sym (append-nil back))
 closed_turned (f ∷ fs) [] = ap is_closed (append-nil (f ∷ fs))
 closed_turned (f ∷ fs) (g ∷ gs) =
@@ -33,11 +33,11 @@ closed_turned (f ∷ fs) (g ∷ gs) =
     one ∙ and_comm (is_joined ((f ∷ fs) ++ g ∷ [])) (is_joined ((g ∷ gs) ++ f ∷ [])) ∙ sym two
 
 -- a list with two parts exchanged is a cycle where the list is
-pub turned_cycle : (front back : List Edge) → IsCycle (front ++ back) → IsCycle (back ++ front)
-turned_cycle front back c = record {
-  some = omega (arith, c.some, length-append front back, length-append back front);
-  few = omega (arith, c.few, length-append front back, length-append back front);
-  closed = sym (closed_turned front back) ∙ c.closed;
+pub turned_cycle : (prefix back : List Edge) → IsCycle (prefix ++ back) → IsCycle (back ++ prefix)
+turned_cycle prefix back c = record {
+  some = omega (arith, c.some, length-append prefix back, length-append back prefix);
+  few = omega (arith, c.few, length-append prefix back, length-append back prefix);
+  closed = sym (closed_turned prefix back) ∙ c.closed;
 }
 
 -- a rotation of a cycle is a cycle
@@ -45,12 +45,12 @@ pub rotated_cycle : (k : ℕ) (u : List Edge) → IsCycle u → IsCycle (rotated
 rotated_cycle k u c = turned_cycle (take k u) (drop k u) (rw take-append-drop c)
 
 -- a prefix of a joined list is joined
-pub joined_front : (u v : List Edge) → is_joined (u ++ v) ≡ true → is_joined u ≡ true
-joined_front [] v h = refl
-joined_front (e ∷ []) v h = refl
-joined_front (e ∷ f ∷ u) v h =
+pub joined_prefix : (u v : List Edge) → is_joined (u ++ v) ≡ true → is_joined u ≡ true
+joined_prefix [] v h = refl
+joined_prefix (e ∷ []) v h = refl
+joined_prefix (e ∷ f ∷ u) v h =
     let both = and_parts (joins_to e f) (is_joined ((f ∷ u) ++ v)) h in
-    and_from (joins_to e f) (is_joined (f ∷ u)) both.0 (joined_front (f ∷ u) v both.1)
+    and_from (joins_to e f) (is_joined (f ∷ u)) both.0 (joined_prefix (f ∷ u) v both.1)
 
 -- a list is joined where it has no break
 pub joined_unbroken : (u : List Edge) → first_break u ≡ None → is_joined u ≡ true

@@ -13,7 +13,7 @@ use Rattle.walk_laws.proofs.Rotating.{rotation_same, rotation_back, rotation_on,
 
 -- a rotation of a cycle is a cycle
 pub cycle_of_rotation : (u v : List Edge) → IsRotation u v → IsCycle u → IsCycle v
-cycle_of_rotation u v r c = rw r.to (turned_cycle r.front r.back (rw r.from at c))
+cycle_of_rotation u v r c = rw r.to (turned_cycle r.prefix r.back (rw r.from at c))
 
 -- being the same cycle is an equivalence
 pub same_cycle_is_equivalence : SameCycleIsEquivalence

@@ -6,7 +6,7 @@ use Rattle.std.proofs.Math.Nat.{mod-eq_of_lt, mod-lt}
 use Rattle.relax_edges.specs.declared.edge.Edge.{Edge}
 use Rattle.relax_edges.specs.EdgeTable.{joins_to}
 use Rattle.walk_laws.specs.Composable.{is_joined, is_closed, first_break, one_later, JoinsNext}
-use Rattle.walk_laws.proofs.Places.{get_front, get_behind, past_once}
+use Rattle.walk_laws.proofs.Places.{get_in_prefix, get_after, past_once}
 
 -- each edge of a joined list joins the one after it
 pub joined_at_place : (v : List Edge) → is_joined v ≡ true → (i : ℕ) (e f : Edge) → slice_get v i ≡ Some e → slice_get v (suc i) ≡ Some f → joins_to e f ≡ true
@@ -74,11 +74,11 @@ first_again u i h =
     elim (cases_lt (i + 1) (length u)) [
       | inl within ↦
           let same : (i + 1) % length u ≡ suc i = mod-eq_of_lt {n = i + 1} {m = length u} within ∙ omega arith in
-          get_front u (take 1 u) (suc i) (omega arith) ∙ ap (slice_get u) (sym same)
+          get_in_prefix u (take 1 u) (suc i) (omega arith) ∙ ap (slice_get u) (sym same)
       | inr last ↦
           let same : (i + 1) % length u ≡ 0 = past_once (i + 1) (length u) 0 (omega arith) (omega arith) in
           let at_end : length u + 0 ≡ suc i = omega arith in
-          ap (slice_get (u ++ take 1 u)) (sym at_end) ∙ get_behind u (take 1 u) 0 ∙ first_one u ∙ ap (slice_get u) (sym same)
+          ap (slice_get (u ++ take 1 u)) (sym at_end) ∙ get_after u (take 1 u) 0 ∙ first_one u ∙ ap (slice_get u) (sym same)
     ]
   where
     first_one : (w : List Edge) → slice_get (take 1 w) 0 ≡ slice_get w 0
@@ -99,14 +99,14 @@ got (x ∷ u) (suc i) h = let g = got u i (omega arith) in record { edge = g.edg
 pub closed_at_place : (u : List Edge) → is_closed u ≡ true → (i : ℕ) → JoinsNext u i
 closed_at_place u h i e f s t =
     let within : i < length u = slice_get_within u i e s in
-    joined_at_place (u ++ take 1 u) h i e f (get_front u (take 1 u) i within ∙ s) (first_again u i within ∙ t)
+    joined_at_place (u ++ take 1 u) h i e f (get_in_prefix u (take 1 u) i within ∙ s) (first_again u i within ∙ t)
 
 -- a list closes where each of its edges joins the next one, cyclically
 pub closed_of_places : (u : List Edge) → ((i : ℕ) → i < length u → JoinsNext u i) → is_closed u ≡ true
 closed_of_places u h =
     joined_of_places (u ++ take 1 u) (λ i e f s t.
     elim (cases_lt i (length u)) [
-      | inl within ↦ h i within e f (sym (get_front u (take 1 u) i within) ∙ s) (sym (first_again u i within) ∙ t)
+      | inl within ↦ h i within e f (sym (get_in_prefix u (take 1 u) i within) ∙ s) (sym (first_again u i within) ∙ t)
       | inr past ↦
           absurd (omega (arith, slice_get_within (u ++ take 1 u) (suc i) f t, length-append u (take 1 u), length-take 1 u))
     ])
@@ -118,11 +118,11 @@ break_is u i h within joins =
     let next = got u ((i + 1) % length u) (mod-lt (i + 1) (omega arith)) in
     let yes : joins_to here.edge next.edge ≡ true = joins here.edge next.edge here.is next.is in
     let not : joins_to here.edge next.edge ≡ false =
-    broken_at (u ++ take 1 u) i h here.edge next.edge (get_front u (take 1 u) i within ∙ here.is) (first_again u i within ∙ next.is) in
+    broken_at (u ++ take 1 u) i h here.edge next.edge (get_in_prefix u (take 1 u) i within ∙ here.is) (first_again u i within ∙ next.is) in
     cc
 
 -- and each edge before that place joins the next one
 pub break_is_first : (u : List Edge) (i : ℕ) → first_break (u ++ take 1 u) ≡ Some i → (j : ℕ) → j < i → JoinsNext u j
 break_is_first u i h j l e f s t =
     let within : j < length u = slice_get_within u j e s in
-    joined_before (u ++ take 1 u) i h j l e f (get_front u (take 1 u) j within ∙ s) (first_again u j within ∙ t)
+    joined_before (u ++ take 1 u) i h j l e f (get_in_prefix u (take 1 u) j within ∙ s) (first_again u j within ∙ t)

@@ -39,13 +39,13 @@ above_longer (x ∷ u) [] a b h = absurd h
 above_longer (x ∷ u) (y ∷ v) a b h = elim h [ inl less ↦ inl less | inr both ↦ inr (both.0, above_longer u v a b both.1) ]
 
 -- a common prefix doesn't matter
-pub above_behind : (front u v : List Edge) → Above (front ++ u) (front ++ v) → Above u v
-above_behind [] u v h = h
-above_behind (x ∷ front) u v h = elim h [ inl less ↦ absurd (omega arith) | inr both ↦ above_behind front u v both.1 ]
+pub above_after : (prefix u v : List Edge) → Above (prefix ++ u) (prefix ++ v) → Above u v
+above_after [] u v h = h
+above_after (x ∷ prefix) u v h = elim h [ inl less ↦ absurd (omega arith) | inr both ↦ above_after prefix u v both.1 ]
 
-pub above_before : (front u v : List Edge) → Above u v → Above (front ++ u) (front ++ v)
+pub above_before : (prefix u v : List Edge) → Above u v → Above (prefix ++ u) (prefix ++ v)
 above_before [] u v h = h
-above_before (x ∷ front) u v h = inr (refl, above_before front u v h)
+above_before (x ∷ prefix) u v h = inr (refl, above_before prefix u v h)
 
 -- of two edges one has the smaller rank, or they are equal
 pub by_rank : (x y : Edge) {G : Type 0} → (rank_of x < rank_of y → G) → (rank_of y < rank_of x → G) → (x ≡ y → G) → G

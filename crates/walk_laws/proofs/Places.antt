@@ -12,22 +12,22 @@ past_once i n m e h = rw e (add-mod_left n m ∙ mod-eq_of_lt h)
 
 module _ {A : Type 0} where
   -- an element of the first list is at its own place
-  pub get_front : (u v : List A) (i : ℕ) → i < length u → slice_get (u ++ v) i ≡ slice_get u i
-  get_front [] v i h = absurd (omega arith)
-  get_front (x ∷ u) v zero h = refl
-  get_front (x ∷ u) v (suc i) h = get_front u v i (omega arith)
+  pub get_in_prefix : (u v : List A) (i : ℕ) → i < length u → slice_get (u ++ v) i ≡ slice_get u i
+  get_in_prefix [] v i h = absurd (omega arith)
+  get_in_prefix (x ∷ u) v zero h = refl
+  get_in_prefix (x ∷ u) v (suc i) h = get_in_prefix u v i (omega arith)
 
   -- an element of the second list comes after all of the first
-  pub get_behind : (u v : List A) (i : ℕ) → slice_get (u ++ v) (length u + i) ≡ slice_get v i
-  get_behind [] v i = let e : 0 + i ≡ i = omega arith in rw e refl
-  get_behind (x ∷ u) v i = let e : suc (length u) + i ≡ suc (length u + i) = omega arith in rw e (get_behind u v i)
+  pub get_after : (u v : List A) (i : ℕ) → slice_get (u ++ v) (length u + i) ≡ slice_get v i
+  get_after [] v i = let e : 0 + i ≡ i = omega arith in rw e refl
+  get_after (x ∷ u) v i = let e : suc (length u) + i ≡ suc (length u + i) = omega arith in rw e (get_after u v i)
 
   -- where the edges of a list go when two parts of it are exchanged
-  turned_at_front : (a b : List A) (i : ℕ) → i < length b → slice_get (b ++ a) i ≡ slice_get (a ++ b) (length a + i)
-  turned_at_front a b i h = get_front b a i h ∙ sym (get_behind a b i)
+  turned_at_start : (a b : List A) (i : ℕ) → i < length b → slice_get (b ++ a) i ≡ slice_get (a ++ b) (length a + i)
+  turned_at_start a b i h = get_in_prefix b a i h ∙ sym (get_after a b i)
 
   turned_at_back : (a b : List A) (i : ℕ) → i < length a → slice_get (b ++ a) (length b + i) ≡ slice_get (a ++ b) i
-  turned_at_back a b i h = get_behind b a i ∙ sym (get_front a b i h)
+  turned_at_back a b i h = get_after b a i ∙ sym (get_in_prefix a b i h)
 
   -- edge i of a rotation is the old edge i + k, cyclically
   pub rotated_at : (k : ℕ) (u : List A) (i : ℕ) → k < length u → i < length u → slice_get (rotated k u) i ≡ slice_get u ((i + k) % length u)
@@ -40,7 +40,7 @@ module _ {A : Type 0} where
       elim (cases_lt i (length b)) [
         | inl h ↦
             let same : (i + k) % length u ≡ length a + i = mod-eq_of_lt {n = i + k} {m = length u} (omega arith) ∙ omega arith in
-            turned_at_front a b i h ∙ ap (λ w. slice_get w (length a + i)) whole ∙ ap (slice_get u) (sym same)
+            turned_at_start a b i h ∙ ap (λ w. slice_get w (length a + i)) whole ∙ ap (slice_get u) (sym same)
         | inr h ↦
             let m : ℕ = i - length b in
             let same : (i + k) % length u ≡ m = past_once (i + k) (length u) m (omega arith) (omega arith) in

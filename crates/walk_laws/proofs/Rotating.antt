@@ -10,11 +10,11 @@ use Rattle.walk_laws.proofs.Ordering.{same_if_not_above}
 
 -- a list is a rotation of itself
 pub rotation_same : (u : List Edge) → IsRotation u u
-rotation_same u = record { front = []; back = u; from = refl; to = sym (append-nil u) }
+rotation_same u = record { prefix = []; back = u; from = refl; to = sym (append-nil u) }
 
 -- a rotation rotates back
 pub rotation_back : (u v : List Edge) → IsRotation u v → IsRotation v u
-rotation_back u v r = record { front = r.back; back = r.front; from = r.to; to = r.from }
+rotation_back u v r = record { prefix = r.back; back = r.prefix; from = r.to; to = r.from }
 
 -- two ways to cut one list: the first cut comes first, with a part between the two, or the second does
 pub data Cuts (a b c d : List Edge) : Type 0 where
@@ -34,48 +34,48 @@ cuts (x ∷ a) b (y ∷ c) d e =
 -- a rotation of a rotation is a rotation
 pub rotation_on : (u v w : List Edge) → IsRotation u v → IsRotation v w → IsRotation u w
 rotation_on u v w r s =
-    elim (cuts r.back r.front s.front s.back (sym r.to ∙ s.from)) [
+    elim (cuts r.back r.prefix s.prefix s.back (sym r.to ∙ s.from)) [
       | before m p q ↦ record {
-        front = m;
+        prefix = m;
         back = s.back ++ r.back;
         from = r.from ∙ rw q (append_assoc m s.back r.back);
         to = s.to ∙ rw p (sym (append_assoc s.back r.back m));
       }
       | behind m p q ↦ record {
-        front = r.front ++ s.front;
+        prefix = r.prefix ++ s.prefix;
         back = m;
-        from = r.from ∙ rw p (sym (append_assoc r.front s.front m));
-        to = s.to ∙ rw q (append_assoc m r.front s.front);
+        from = r.from ∙ rw p (sym (append_assoc r.prefix s.prefix m));
+        to = s.to ∙ rw q (append_assoc m r.prefix s.prefix);
       }
     ]
 
 -- a rotation has the length of the list
 pub rotation_length : (u v : List Edge) → IsRotation u v → length v ≡ length u
 rotation_length u v r =
-    let e : length u ≡ length (r.front ++ r.back) = ap length r.from in
-    let f : length v ≡ length (r.back ++ r.front) = ap length r.to in
-    omega (arith, length-append r.front r.back, length-append r.back r.front)
+    let e : length u ≡ length (r.prefix ++ r.back) = ap length r.from in
+    let f : length v ≡ length (r.back ++ r.prefix) = ap length r.to in
+    omega (arith, length-append r.prefix r.back, length-append r.back r.prefix)
 
 -- to begin at a place is to rotate
 pub rotation_of_place : (k : ℕ) (u : List Edge) → IsRotation u (rotated k u)
-rotation_of_place k u = record { front = take k u; back = drop k u; from = sym (take-append-drop k u); to = refl }
+rotation_of_place k u = record { prefix = take k u; back = drop k u; from = sym (take-append-drop k u); to = refl }
 
 -- each rotation of a list begins at a place of it
 pub place_of_rotation : (u v : List Edge) → 0 < length u → IsRotation u v → Place u v
 place_of_rotation u v some r =
-    elim (cases_lt (length r.front) (length u)) [
+    elim (cases_lt (length r.prefix) (length u)) [
       | inl within ↦ record {
-        place = length r.front;
+        place = length r.prefix;
         within = within;
-        is = rw (r.from, drop_at r.front r.back (length r.front) refl, take_at r.front r.back (length r.front) refl) r.to;
+        is = rw (r.from, drop_at r.prefix r.back (length r.prefix) refl, take_at r.prefix r.back (length r.prefix) refl) r.to;
       }
-      | inr all ↦ record { place = 0; within = some; is = whole r.front r.back r.from r.to all }
+      | inr all ↦ record { place = 0; within = some; is = whole r.prefix r.back r.from r.to all }
     ]
   where
-    whole : (front back : List Edge) → u ≡ front ++ back → v ≡ back ++ front → length u ≤ length front → v ≡ drop 0 u ++ take 0 u
-    whole front [] from to h = to ∙ sym (append-nil front) ∙ sym from ∙ sym (append-nil u)
-    whole front (x ∷ back) from to h =
-        absurd (let e : length u ≡ length (front ++ x ∷ back) = ap length from in omega (arith, length-append front (x ∷ back)))
+    whole : (prefix back : List Edge) → u ≡ prefix ++ back → v ≡ back ++ prefix → length u ≤ length prefix → v ≡ drop 0 u ++ take 0 u
+    whole prefix [] from to h = to ∙ sym (append-nil prefix) ∙ sym from ∙ sym (append-nil u)
+    whole prefix (x ∷ back) from to h =
+        absurd (let e : length u ≡ length (prefix ++ x ∷ back) = ap length from in omega (arith, length-append prefix (x ∷ back)))
 
 -- two normal forms of which one is a rotation of the other are equal
 pub normal_once : (u v : List Edge) → IsNormal u → IsNormal v → IsRotation u v → u ≡ v

@@ -5,10 +5,10 @@ use Rattle.relax_edges.specs.declared.edge.Edge.{Edge}
 
 -- v is a rotation of u, the same cycle: it is u with a prefix moved to the end
 pub record IsRotation (u v : List Edge) : Type 0 where
-  pub front : List Edge
+  pub prefix : List Edge
   pub back : List Edge
-  pub from : u ≡ front ++ back
-  pub to : v ≡ back ++ front
+  pub from : u ≡ prefix ++ back
+  pub to : v ≡ back ++ prefix
 
 -- the rotation of a list that begins at place k
 abbrev pub rotated : {A : Type 0} → ℕ → List A → List A

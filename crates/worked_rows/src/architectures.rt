@@ -173,7 +173,7 @@ fn architectures_have_their_edges(rt: HostRuntime) {
     supports::<X86>(&rt, steps::RFE, steps::DATA);
     supports::<Power>(&rt, steps::DATA, steps::CTRL_ISB);
     supports::<A64>(&rt, steps::DATA, steps::CTRL_ISYNC);
-    let release = Edge::marked(steps::WRITES, Mark::Plain, Mark::Release).expect(
+    let release = Edge::with_marks(steps::WRITES, Mark::Plain, Mark::Release).expect(
         &rt,
         "AArch64 has this edge",
     );

@@ -4,7 +4,7 @@ ghost use Rattle.litmus_text.specs.Gives.{Gives, GivesInMemory};
 ghost use Rattle.litmus_text.specs.Condition.{cond_here, condition_read};
 ghost use Rattle.litmus_text.specs.Views.{text_left, setting_seen, cond_read_seen};
 
-use crate::errors::{ReadError, TestKind, TextError, bad};
+use crate::errors::{ReadError, TestKind, TextError, error_at_line};
 use crate::reading::joined::Joined;
 use crate::reading::lines::Lines;
 use crate::reading::terms::{Mentioned, Setting, read_terms};
@@ -22,17 +22,17 @@ fn read_cond_here<A: Arch>(here: &Setting, names: Places) -> Result<(Cond, Place
 {
     let (quantifier, inside) = match read_opening(here.text.bytes.as_slice()) {
         Ok(opening) => opening,
-        Err(_) => return Err(bad(TestKind::BadCondition, here.begins)),
+        Err(_) => return Err(error_at_line(TestKind::BadCondition, here.begins)),
     };
     let mut terms = ArrayVec::new();
     let mut mentioned = Mentioned { names, over: None };
     let behind = read_terms::<A>(here, inside, &mut mentioned, &mut terms)?;
     if !without_blanks(behind).is_empty() {
-        return Err(bad(TestKind::BadCondition, here.begins));
+        return Err(error_at_line(TestKind::BadCondition, here.begins));
     }
     match mentioned.over {
         None => Ok((Cond { quantifier, terms }, mentioned.names)),
-        Some(line) => Err(bad(TestKind::TooLarge, line)),
+        Some(line) => Err(error_at_line(TestKind::TooLarge, line)),
     }
 }
 
@@ -47,7 +47,7 @@ pub(crate) fn read_condition<A: Arch>(
     ensures { GivesInMemory cond_read_seen result (condition_read A.writing threads names (text_left text.entry)) }
 {
     let line = match text.lines() {
-        Lines::Ends(end) => return Err(ReadError::Text(bad(TestKind::EndMissing, end))),
+        Lines::Ends(end) => return Err(ReadError::Text(error_at_line(TestKind::EndMissing, end))),
         Lines::Line(line) => line,
     };
     let mut joined = Joined::new(alloc);

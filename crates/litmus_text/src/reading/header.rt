@@ -7,7 +7,7 @@ ghost use Rattle.text_laws.specs.Words.{words};
 ghost use Rattle.litmus_text.specs.Lines.{line};
 ghost use Rattle.litmus_text.specs.Views.{text_left, cut_seen};
 
-use crate::errors::{TestKind, TextError, bad};
+use crate::errors::{TestKind, TextError, error_at_line};
 use crate::limits::MAX_NAME;
 use crate::reading::cuts::{split_letters, two_words};
 use crate::reading::lines::Lines;
@@ -40,11 +40,11 @@ fn arch_in<'a>(
     ensures { Gives (λ x. (x.0, text_left x.1)) result (arch_in number (text_left rest.entry) (cut_seen header.entry)) }
 {
     let Some((word, name)) = header else {
-        return Err(bad(TestKind::BadHeader, number));
+        return Err(error_at_line(TestKind::BadHeader, number));
     };
     match arch_named(word) {
         Some(arch) if name.len() <= MAX_NAME => Ok((arch, rest)),
-        _ => Err(bad(TestKind::BadHeader, number)),
+        _ => Err(error_at_line(TestKind::BadHeader, number)),
     }
 }
 
@@ -54,7 +54,7 @@ pub(crate) fn read_arch(text: Text<'_>) -> Result<(ArchName, Text<'_>), TextErro
     ensures { Gives (λ x. (x.0, text_left x.1)) result (arch_read (text_left text.entry)) }
 {
     match text.lines() {
-        Lines::Ends(number) => Err(bad(TestKind::EndMissing, number)),
+        Lines::Ends(number) => Err(error_at_line(TestKind::EndMissing, number)),
         Lines::Line(line) => arch_in(line.number, line.rest, two_words(line.text)),
     }
 }
@@ -71,7 +71,7 @@ fn name_in_header<'a>(
         Some((word, name)) if word == arch.name().as_bytes() && name.len() <= MAX_NAME => {
             Ok((name, rest))
         }
-        _ => Err(bad(TestKind::BadHeader, number)),
+        _ => Err(error_at_line(TestKind::BadHeader, number)),
     }
 }
 
@@ -81,7 +81,7 @@ pub(crate) fn read_header(arch: ArchName, text: Text<'_>) -> Result<(&[u8], Text
     ensures { Gives (λ x. (x.0.now, text_left x.1)) result (header_read arch (text_left text.entry)) }
 {
     match text.lines() {
-        Lines::Ends(number) => Err(bad(TestKind::EndMissing, number)),
+        Lines::Ends(number) => Err(error_at_line(TestKind::EndMissing, number)),
         Lines::Line(line) => name_in_header(arch, line.number, line.rest, two_words(line.text)),
     }
 }
@@ -95,7 +95,7 @@ fn quote_cut<'a>(
 {
     match cut(b'"', text) {
         Some((quoted, [])) => Ok((quoted, rest)),
-        _ => Err(bad(TestKind::BadQuote, number)),
+        _ => Err(error_at_line(TestKind::BadQuote, number)),
     }
 }
 

@@ -5,7 +5,7 @@ ghost use Rattle.litmus_text.specs.Cuts.{pieces};
 ghost use Rattle.litmus_text.specs.InitialState.{nothing_begun, is_given, with_worth, name_put, item_put, item_read, but_last, braced, braced_read, initial_read};
 ghost use Rattle.litmus_text.specs.Views.{text_left, joined_seen, pieces_read, begun_seen, worth_seen, worth_formed, item_seen, item_formed, braced_seen};
 
-use crate::errors::{ReadError, TestKind, bad};
+use crate::errors::{ReadError, TestKind, error_at_line};
 use crate::reading::items::{Item, Worth, item_of};
 use crate::reading::joined::Joined;
 use crate::reading::lines::Lines;
@@ -59,7 +59,7 @@ impl Begun {
             Worth::Number(number) => Value::Num(number),
             Worth::Place(name) => match self.names.add_bytes(name) {
                 Some(place) => Value::Place(place),
-                None => return Err(ReadError::Text(bad(TestKind::TooLarge, line))),
+                None => return Err(ReadError::Text(error_at_line(TestKind::TooLarge, line))),
             },
         };
         self.values.push((thread, (register, value)))?;
@@ -73,7 +73,7 @@ impl Begun {
     {
         match self.names.add_bytes(name.as_str().as_bytes()) {
             Some(_) => Ok(()),
-            None => Err(ReadError::Text(bad(TestKind::TooLarge, line))),
+            None => Err(ReadError::Text(error_at_line(TestKind::TooLarge, line))),
         }
     }
 
@@ -83,7 +83,7 @@ impl Begun {
         ensures { GivesInMemory (λ _. begun_seen self.new) result (item_put first last (begun_seen self.old) (option_map item_seen item.now)) }
     {
         match item {
-            None => Err(ReadError::Text(bad(TestKind::BadInit, first))),
+            None => Err(ReadError::Text(error_at_line(TestKind::BadInit, first))),
             Some(Item::Empty) => Ok(()),
             Some(
                 Item::Register {
@@ -93,7 +93,7 @@ impl Begun {
                 },
             ) => {
                 if self.is_given(*thread, *register) {
-                    return Err(ReadError::Text(bad(TestKind::BadInit, first)));
+                    return Err(ReadError::Text(error_at_line(TestKind::BadInit, first)));
                 }
                 self.give(last, *thread, *register, *worth)
             }
@@ -175,8 +175,8 @@ fn join_braced<'a>(
     let mut text = text;
     let mut rest = rest;
     'lines: loop {
-        if let Some((front, behind)) = cut(b'}', text) {
-            joined.push(number, front)?;
+        if let Some((prefix, behind)) = cut(b'}', text) {
+            joined.push(number, prefix)?;
             return Ok(Braced::Closed {
                 number,
                 behind,
@@ -212,13 +212,13 @@ fn read_braced<'a, A: Arch>(
         } => {
             read_items::<A>(joined, begun)?;
             if !behind.is_empty() {
-                return Err(ReadError::Text(bad(TestKind::BadInit, number)));
+                return Err(ReadError::Text(error_at_line(TestKind::BadInit, number)));
             }
             Ok(rest)
         }
         Braced::Open(end) => {
             read_ended_items::<A>(joined, begun)?;
-            Err(ReadError::Text(bad(TestKind::EndMissing, end)))
+            Err(ReadError::Text(error_at_line(TestKind::EndMissing, end)))
         }
     }
 }
@@ -234,11 +234,11 @@ pub(crate) fn read_initial<'a, A: Arch>(
     ensures { GivesInMemory (λ rest. (begun_seen begun.new, text_left rest)) result (initial_read A.writing (text_left text.entry)) }
 {
     let line = match text.lines() {
-        Lines::Ends(end) => return Err(ReadError::Text(bad(TestKind::EndMissing, end))),
+        Lines::Ends(end) => return Err(ReadError::Text(error_at_line(TestKind::EndMissing, end))),
         Lines::Line(line) => line,
     };
     let [b'{', inner @ ..] = line.text else {
-        return Err(ReadError::Text(bad(TestKind::BadInit, line.number)));
+        return Err(ReadError::Text(error_at_line(TestKind::BadInit, line.number)));
     };
     let mut joined = Joined::new(alloc);
     let end = join_braced(&mut joined, line.number, inner, line.rest)?;

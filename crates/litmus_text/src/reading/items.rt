@@ -1,6 +1,6 @@
 ghost use Rattle.std.specs.Prelude.{◌≡◌, true, option_map, IfSome};
 ghost use Rattle.final_cond.specs.Conditions.{left_view};
-ghost use Rattle.final_cond.specs.Reading.{left_at_front};
+ghost use Rattle.final_cond.specs.Reading.{left_at_start};
 ghost use Rattle.text_laws.specs.Blanks.{trimmed};
 ghost use Rattle.litmus_text.specs.InitialState.{worth_of, item_with, whole_left, item_of, item_if};
 ghost use Rattle.litmus_text.specs.Views.{worth_seen, worth_formed, item_seen, item_formed};
@@ -73,7 +73,7 @@ fn item_with<'a, A: Arch>(left: Left, right: &'a [u8]) -> Option<Item<'a>>
 }
 
 fn item_between<'a, A: Arch>(left: &'a [u8], right: &'a [u8]) -> Option<Item<'a>>
-    ensures item { option_map item_seen result ≡ item_if A.writing (whole_left (left_at_front (trimmed left.now))) (trimmed right.now) }
+    ensures item { option_map item_seen result ≡ item_if A.writing (whole_left (left_at_start (trimmed left.now))) (trimmed right.now) }
     ensures formed { IfSome result (λ item. item_formed item ≡ true) }
 {
     let Ok((left, rest)) = read_left(trimmed(left)) else {

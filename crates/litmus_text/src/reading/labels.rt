@@ -3,7 +3,7 @@ ghost use Rattle.litmus_text.specs.Gives.{Gives};
 ghost use Rattle.litmus_text.specs.Table.{is_label, lands_once, is_landing, labels_judged, all_labels_judged};
 ghost use Rattle.litmus_text.specs.Views.{column_seen};
 
-use crate::errors::{TestKind, TextError, bad};
+use crate::errors::{TestKind, TextError, error_at_line};
 use crate::reading::table::{Column, Placed};
 use micro_ops::Micro;
 
@@ -49,7 +49,7 @@ fn judge_labels(all: &[Placed], behind: &[Placed]) -> Result<(), TextError>
         [] => Ok(()),
         [placed, further @ ..] => {
             if !is_landing(&placed.op, all, further) {
-                return Err(bad(TestKind::BadLabel, placed.at_line));
+                return Err(error_at_line(TestKind::BadLabel, placed.at_line));
             }
             judge_labels(all, further)
         }

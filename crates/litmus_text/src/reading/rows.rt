@@ -4,7 +4,7 @@ ghost use Rattle.litmus_text.specs.Gives.{GivesInMemory};
 ghost use Rattle.litmus_text.specs.Table.{no_columns, has_room, instr_in, instr_or_nothing, cell_read, rows_read, after_locations};
 ghost use Rattle.litmus_text.specs.Views.{text_left, pieces_left, cells_read, column_among, columns_among, columns_before, column_seen, EndsRow};
 
-use crate::errors::{ReadError, TestKind, TextError, bad};
+use crate::errors::{ReadError, TestKind, TextError, error_at_line};
 use crate::limits::{MAX_ACCESSES, MAX_ROWS};
 use crate::reading::cuts::{Pieces, first_word_of_line};
 use crate::reading::lines::Lines;
@@ -70,7 +70,7 @@ fn read_instr<A: Arch>(
     match read_cell::<A>(text, names, &mut column.labels) {
         Ok(op) => {
             if !has_room(column, &op) {
-                return Err(ReadError::Text(bad(TestKind::TooLarge, number)));
+                return Err(ReadError::Text(error_at_line(TestKind::TooLarge, number)));
             }
             column.ops.push(Placed {
                 op,
@@ -79,10 +79,10 @@ fn read_instr<A: Arch>(
             Ok(())
         }
         Err(InstrError::BadInstruction) => {
-            Err(ReadError::Text(bad(TestKind::BadInstruction, number)))
+            Err(ReadError::Text(error_at_line(TestKind::BadInstruction, number)))
         }
         Err(InstrError::TooManyPlaces | InstrError::TooManyLabels) => {
-            Err(ReadError::Text(bad(TestKind::TooLarge, number)))
+            Err(ReadError::Text(error_at_line(TestKind::TooLarge, number)))
         }
     }
 }
@@ -127,12 +127,12 @@ fn judge_end(number: u64, pieces: Pieces<'_>, is_whole: bool) -> Result<(), Text
     ensures { EndsRow number is_whole (pieces_left pieces.entry) result }
 {
     if let Some(_) = pieces.first() {
-        return Err(bad(TestKind::BadTable, number));
+        return Err(error_at_line(TestKind::BadTable, number));
     }
     if is_whole {
         Ok(())
     } else {
-        Err(bad(TestKind::BadTable, number))
+        Err(error_at_line(TestKind::BadTable, number))
     }
 }
 
@@ -148,7 +148,7 @@ fn read_row<A: Arch>(
     let mut pieces = cells.pieces;
     for i in 0..columns.len() {
         let Some((cell, behind)) = pieces.first() else {
-            return Err(ReadError::Text(bad(TestKind::BadTable, number)));
+            return Err(ReadError::Text(error_at_line(TestKind::BadTable, number)));
         };
         read_one_cell::<A>(number, cell, names, &mut columns[i])?;
         pieces = behind;
@@ -181,14 +181,14 @@ pub(crate) fn read_rows<'a, A: Arch>(
     let mut rows = 0;
     'rows: loop {
         let line = match left.lines() {
-            Lines::Ends(end) => return Err(ReadError::Text(bad(TestKind::EndMissing, end))),
+            Lines::Ends(end) => return Err(ReadError::Text(error_at_line(TestKind::EndMissing, end))),
             Lines::Line(line) => line,
         };
         if ends_rows(line.text) {
             return Ok(left);
         }
         if rows >= MAX_ROWS {
-            return Err(ReadError::Text(bad(TestKind::TooLarge, line.number)));
+            return Err(ReadError::Text(error_at_line(TestKind::TooLarge, line.number)));
         }
         read_row::<A>(line.number, cells_of(line.text), names, columns)?;
         rows += 1;

@@ -4,7 +4,7 @@ ghost use Rattle.litmus_text.specs.Gives.{Gives};
 ghost use Rattle.litmus_text.specs.Table.{cells_of, is_head, heads_read, head_read, threads_there};
 ghost use Rattle.litmus_text.specs.Views.{text_left, begun_seen, cells_seen};
 
-use crate::errors::{TestKind, TextError, bad};
+use crate::errors::{TestKind, TextError, error_at_line};
 use crate::limits::MAX_THREADS;
 use crate::reading::cuts::Pieces;
 use crate::reading::initial::Begun;
@@ -72,10 +72,10 @@ fn count_heads(number: u64, cells: Cells<'_>) -> Result<usize, TextError>
     let mut pieces = cells.pieces;
     'heads: while let Some((cell, behind)) = pieces.first() {
         if !is_head(threads, cell) {
-            return Err(bad(TestKind::BadTable, number));
+            return Err(error_at_line(TestKind::BadTable, number));
         }
         if threads >= MAX_THREADS {
-            return Err(bad(TestKind::TooLarge, number));
+            return Err(error_at_line(TestKind::TooLarge, number));
         }
         threads += 1;
         pieces = behind;
@@ -83,7 +83,7 @@ fn count_heads(number: u64, cells: Cells<'_>) -> Result<usize, TextError>
     if cells.whole {
         Ok(threads)
     } else {
-        Err(bad(TestKind::BadTable, number))
+        Err(error_at_line(TestKind::BadTable, number))
     }
 }
 
@@ -104,12 +104,12 @@ pub(crate) fn read_head<'a>(begun: &Begun, text: Text<'a>) -> Result<(usize, Tex
     ensures few { IfOk result (λ x. x.0 ≤ MAX_THREADS) }
 {
     let line = match text.lines() {
-        Lines::Ends(end) => return Err(bad(TestKind::EndMissing, end)),
+        Lines::Ends(end) => return Err(error_at_line(TestKind::EndMissing, end)),
         Lines::Line(line) => line,
     };
     let threads = count_heads(line.number, cells_of(line.text))?;
     if !has_threads(begun, threads) {
-        return Err(bad(TestKind::BadTable, line.number));
+        return Err(error_at_line(TestKind::BadTable, line.number));
     }
     Ok((threads, line.rest))
 }

@@ -5,7 +5,7 @@ ghost use Rattle.litmus_text.specs.Gives.{Gives};
 ghost use Rattle.litmus_text.specs.Condition.{name_put, left_put, line_of_rest, term_here};
 ghost use Rattle.litmus_text.specs.Views.{setting_seen, mentioned_seen, term_read_seen, all_terms_seen, terms_from, GivesMentioned};
 
-use crate::errors::{TestKind, TextError, bad};
+use crate::errors::{TestKind, TextError, error_at_line};
 use crate::reading::joined::Joined;
 use arch_trait::{Arch, Places, register_named};
 use arrayvec::ArrayVec;
@@ -55,7 +55,7 @@ fn put_place(
         return Ok(());
     }
     if line == begins {
-        return Err(bad(TestKind::TooLarge, line));
+        return Err(error_at_line(TestKind::TooLarge, line));
     }
     if mentioned.over.is_none() {
         mentioned.over = Some(line);
@@ -80,7 +80,7 @@ fn put_left<A: Arch>(
             if is_known {
                 Ok(())
             } else {
-                Err(bad(TestKind::BadCondition, here.begins))
+                Err(error_at_line(TestKind::BadCondition, here.begins))
             }
         }
         Left::Place { name } => put_place(here.begins, line, name, mentioned),
@@ -98,7 +98,7 @@ fn read_term<'a, A: Arch>(
 {
     let (left, rest) = match read_left(text) {
         Ok(left) => left,
-        Err(_) => return Err(bad(TestKind::BadCondition, here.begins)),
+        Err(_) => return Err(error_at_line(TestKind::BadCondition, here.begins)),
     };
     put_left::<A>(
         here,
@@ -108,7 +108,7 @@ fn read_term<'a, A: Arch>(
     )?;
     match read_right(rest) {
         Ok((value, rest)) => Ok((Term { left, value }, rest)),
-        Err(_) => Err(bad(TestKind::BadCondition, here.begins)),
+        Err(_) => Err(error_at_line(TestKind::BadCondition, here.begins)),
     }
 }
 
@@ -129,13 +129,13 @@ pub(crate) fn read_terms<'a, A: Arch>(
             Err(fault) => return Err(fault),
         };
         if terms.is_full() {
-            return Err(bad(TestKind::TooLarge, here.begins));
+            return Err(error_at_line(TestKind::TooLarge, here.begins));
         }
         terms.push(term);
         match read_follow(after) {
             Ok((Follow::Term, behind)) => rest = behind,
             Ok((Follow::End, behind)) => return Ok(behind),
-            Err(_) => return Err(bad(TestKind::BadCondition, here.begins)),
+            Err(_) => return Err(error_at_line(TestKind::BadCondition, here.begins)),
         }
     }
 }

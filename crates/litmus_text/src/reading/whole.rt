@@ -4,7 +4,7 @@ ghost use Rattle.litmus_text.specs.Runnable.{IsRunnable, NamesRegisters, AllName
 ghost use Rattle.litmus_text.specs.TestReading.{values_of, threads_of, lines_read, test_read, arch_in_text};
 ghost use Rattle.litmus_text.specs.Views.{rest_of, table_of, body_of, test_of_parts, only_values, text_left, column_seen};
 
-use crate::errors::{ReadError, TestKind, TextError, bad};
+use crate::errors::{ReadError, TestKind, TextError, error_at_line};
 use crate::limits::{MAX_TEXT, MAX_THREADS};
 use crate::reading::condition::read_condition;
 use crate::reading::header::{after_settings, read_arch, read_header, read_quote};
@@ -203,7 +203,7 @@ pub fn read_test<A: Arch>(alloc: Global, bytes: &[u8]) -> Result<ReadTest<A>, Re
     ensures { GivesInMemory (λ test. test) result (test_read A.NAME A.writing bytes.now) }
 {
     if bytes.len() > MAX_TEXT {
-        return Err(ReadError::Text(bad(TestKind::TooLarge, 1)));
+        return Err(ReadError::Text(error_at_line(TestKind::TooLarge, 1)));
     }
     read_lines::<A>(alloc, Text::new(bytes))
 }

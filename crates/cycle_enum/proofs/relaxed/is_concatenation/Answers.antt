@@ -5,5 +5,5 @@ use Rattle.cycle_enum.proofs.relaxed.is_concatenation.Goals as goal
 
 pub returns : goal.returns
 returns c =
-    let e = c.as_slice.ensures.value ∙ c.read_back_parts.ensures.read in
+    let e = c.as_slice.ensures.value ∙ c.read_suffixes.ensures.read in
     (λ h. read_concatenation c.args.relaxes.now c.args.list.now (rw e at h), λ m. rw e (concatenation_read c.args.relaxes.now c.args.list.now m))

@@ -7,4 +7,4 @@ pub returns-then-edges-gt-LONGEST : goal.returns-then-edges-gt-LONGEST
 returns-then-edges-gt-LONGEST c = too_long c.args.edges.now c.if-edges-gt-LONGEST.true
 
 pub returns : goal.returns
-returns c = likely_answer c.args.edges.now c.counted.result c.family_counted.result c.counted.ensures.value c.family_counted.ensures c.if-edges-gt-LONGEST.false
+returns c = likely_answer c.args.edges.now c.edge_counts.result c.family_of_counts.result c.edge_counts.ensures.value c.family_of_counts.ensures c.if-edges-gt-LONGEST.false

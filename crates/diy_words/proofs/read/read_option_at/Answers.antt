@@ -8,14 +8,14 @@ pub returns-then-count-at-eq1 : goal.returns-then-count-at-eq1
 returns-then-count-at-eq1 c =
     let o = c.requires.named in
     let last : c.args.at + 1 ≡ length c.args.words.now = omega arith in
-    faulty _ _ _ _ _ (unvalued_last c.args.tool (heard (held c.args.said.now)) c.args.words.now c.args.at o.word c.args.option o.stands o.named last) (sym (ap (absorbed (held c.args.said.now)) (c.unvalued.ensures (heard (held c.args.said.now)))))
+    faulty _ _ _ _ _ (unvalued_last c.args.tool (heard (held c.args.said.now)) c.args.words.now c.args.at o.word c.args.option o.word_is o.named last) (sym (ap (absorbed (held c.args.said.now)) (c.missing_value.ensures (heard (held c.args.said.now)))))
 
 pub returns-in-Ok : goal.returns-in-Ok
 returns-in-Ok c =
     let o = c.requires.named in
-    (omega arith, taken c.args.tool c.args.words.now c.args.at (c.args.at + 2) _ _ _ (value_first c.args.tool (heard (held c.args.said.now)) c.args.words.now c.args.at o.word c.get.result.now c.args.option o.stands o.named c.get.ensures) c.in-Ok.ensures)
+    (omega arith, taken c.args.tool c.args.words.now c.args.at (c.args.at + 2) _ _ _ (value_first c.args.tool (heard (held c.args.said.now)) c.args.words.now c.args.at o.word c.get.result.now c.args.option o.word_is o.named c.get.ensures) c.in-Ok.ensures)
 
 pub returns-in-Err : goal.returns-in-Err
 returns-in-Err c =
     let o = c.requires.named in
-    faulty _ _ _ _ _ (value_first c.args.tool (heard (held c.args.said.now)) c.args.words.now c.args.at o.word c.get.result.now c.args.option o.stands o.named c.get.ensures) c.in-Err.ensures
+    faulty _ _ _ _ _ (value_first c.args.tool (heard (held c.args.said.now)) c.args.words.now c.args.at o.word c.get.result.now c.args.option o.word_is o.named c.get.ensures) c.in-Err.ensures

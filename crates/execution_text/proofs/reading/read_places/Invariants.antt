@@ -2,12 +2,12 @@
 use Rattle.std.proofs.Common.{◌≡◌, ◌+◌, map, drop, length}
 use Rattle.exec_meaning.specs.Kept.{with_write}
 use Rattle.execution_text.specs.declared.errors.ExecKind.TheVariants.{BadPlace, BadWrite}
-use Rattle.execution_text.specs.ExecutionText.{access_named, line_told, lines_of, lines_told, place_head}
+use Rattle.execution_text.specs.ExecutionText.{access_named, line_read, lines_of, each_line_read, place_head}
 use Rattle.execution_text.specs.Steps.{lines_added}
 use Rattle.execution_text.proofs.reading.read_places.Given as goal
 
 abbrev pub invariant-loop-place : goal.invariant-loop-place
 invariant-loop-place l =
     (length l.exec.orders ≡ length l.places)
-    × (lines_added with_write l.exec l.place (lines_told (line_told BadPlace BadWrite (access_named l.threads)) (l.threads + l.place + 1) (map place_head (drop l.place l.places)) (lines_of l.left))
-    ≡ lines_added with_write l.fn.exec 0 (lines_told (line_told BadPlace BadWrite (access_named l.fn.threads)) (l.fn.threads + 1) (map place_head l.fn.places) (lines_of l.fn.text)))
+    × (lines_added with_write l.exec l.place (each_line_read (line_read BadPlace BadWrite (access_named l.threads)) (l.threads + l.place + 1) (map place_head (drop l.place l.places)) (lines_of l.left))
+    ≡ lines_added with_write l.fn.exec 0 (each_line_read (line_read BadPlace BadWrite (access_named l.fn.threads)) (l.fn.threads + 1) (map place_head l.fn.places) (lines_of l.fn.text)))

@@ -3,12 +3,12 @@ use Rattle.std.proofs.Common.{◌≡◌, ◌+◌, ◌-◌, map, length}
 use Rattle.std.specs.List.{range_with_len}
 use Rattle.exec_meaning.specs.Kept.{with_read}
 use Rattle.execution_text.specs.declared.errors.ExecKind.TheVariants.{BadThread, BadRead}
-use Rattle.execution_text.specs.ExecutionText.{read_named, line_told, lines_of, lines_told, thread_head}
+use Rattle.execution_text.specs.ExecutionText.{read_named, line_read, lines_of, each_line_read, thread_head}
 use Rattle.execution_text.specs.Steps.{lines_added}
 use Rattle.execution_text.proofs.reading.read_threads.Given as goal
 
 abbrev pub invariant-loop-thread : goal.invariant-loop-thread
 invariant-loop-thread l =
     (length l.exec.reads ≡ l.threads)
-    × (lines_added with_read l.exec l.thread (lines_told (line_told BadThread BadRead (read_named l.threads)) (l.thread + 1) (map thread_head (range_with_len l.thread (l.threads - l.thread))) (lines_of l.left))
-    ≡ lines_added with_read l.fn.exec 0 (lines_told (line_told BadThread BadRead (read_named l.fn.threads)) (1) (map thread_head (range_with_len 0 l.fn.threads)) (lines_of l.fn.text)))
+    × (lines_added with_read l.exec l.thread (each_line_read (line_read BadThread BadRead (read_named l.threads)) (l.thread + 1) (map thread_head (range_with_len l.thread (l.threads - l.thread))) (lines_of l.left))
+    ≡ lines_added with_read l.fn.exec 0 (each_line_read (line_read BadThread BadRead (read_named l.fn.threads)) (1) (map thread_head (range_with_len 0 l.fn.threads)) (lines_of l.fn.text)))

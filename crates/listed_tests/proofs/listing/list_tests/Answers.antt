@@ -7,10 +7,10 @@ list_walk-requires-clause-sought g c = λ u cycle. (λ said. search rules, λ ye
 
 pub returns : goal.returns
 returns g c =
-    let relaxes : c.begin_behind.new.walk.relaxes ≡ c.args.listing.relaxes = ap (λ w. w.relaxes) c.begin_behind.ensures.same ∙ ap (λ w. w.relaxes) c.new-walk.ensures in
-    let limits : c.begin_behind.new.walk.limits ≡ c.args.listing.limits = ap (λ w. w.limits) c.begin_behind.ensures.same ∙ ap (λ w. w.limits) c.new-walk.ensures in
+    let relaxes : c.begin_after.new.walk.relaxes ≡ c.args.listing.relaxes = ap (λ w. w.relaxes) c.begin_after.ensures.same ∙ ap (λ w. w.relaxes) c.new-walk.ensures in
+    let limits : c.begin_after.new.walk.limits ≡ c.args.listing.limits = ap (λ w. w.limits) c.begin_after.ensures.same ∙ ap (λ w. w.limits) c.new-walk.ensures in
     record {
-      given = c.begin_behind.new.walk.last;
-      begins = c.begin_behind.ensures.begins;
+      given = c.begin_after.new.walk.last;
+      begins = c.begin_after.ensures.begins;
       ends = rw (relaxes, limits) at c.list_walk.ensures;
     }

@@ -22,7 +22,7 @@ loop-row-preserved g c =
     let w = g.A.Arch.writing in
     let inside : c.loop-row.row < length (column_of w c.args.places.now (c.args.thread, thread_of c.args.code.now)) = omega (arith, length-column_of w c.args.places.now (c.args.thread, thread_of c.args.code.now)) in
     record {
-      widest = wider (column_of w c.args.places.now (c.args.thread, thread_of c.args.code.now)) c.loop-row.row c.loop-row.width _ _ inside c.set_cell.ensures c.loop-row.invariant.widest c.widened-width.ensures.value;
-      short = c.widened-width.ensures.short c.loop-row.invariant.short;
+      widest = wider (column_of w c.args.places.now (c.args.thread, thread_of c.args.code.now)) c.loop-row.row c.loop-row.width _ _ inside c.set_cell.ensures c.loop-row.invariant.widest c.widen-width.ensures.value;
+      short = c.widen-width.ensures.short c.loop-row.invariant.short;
       kept = kept_more 128 c.args.cells.now (column_of w c.args.places.now (c.args.thread, thread_of c.args.code.now)) c.loop-row.cells c.keep.new.self c.loop-row.row _ inside c.set_cell.ensures c.loop-row.invariant.kept c.keep.ensures;
     }

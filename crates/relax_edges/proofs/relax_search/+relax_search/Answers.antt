@@ -9,8 +9,8 @@ use Rattle.relax_edges.specs.Relaxations.{word_edges, is_path}
 use Rattle.relax_edges.proofs.Search.{keeps_no_path, keeps_first, keeps_word_next, refused_word, keeps_word, keeps_no_word, refused_no_word}
 use Rattle.relax_edges.proofs.relax_search.+relax_search.Goals as goal
 
-pub keep_behind-returns-then-not-extends-clause-kept : goal.keep_behind-returns-then-not-extends-clause-kept
-keep_behind-returns-then-not-extends-clause-kept t c =
+pub keep_after-returns-then-not-extends-clause-kept : goal.keep_after-returns-then-not-extends-clause-kept
+keep_after-returns-then-not-extends-clause-kept t c =
     let none : is_path (c.args.chosen.now.items ++ c.args.edge ∷ []) ≡ false =
     cc (ap (λ f. is_path (f ++ c.args.edge ∷ [])) c.as_slice.ensures.value, c.extends.ensures, c.if-not-extends.true) in
     keeps_no_path c.args.kept.now (c.args.chosen.now.items ++ c.args.edge ∷ []) (map word_edges (words_of c.args.words.now)) c.requires.few none
@@ -29,7 +29,7 @@ keep_paths-returns-in_default-clause-kept t c =
 
 pub keep_paths-loop-edge-init : goal.keep_paths-loop-edge-init
 keep_paths-loop-edge-init t c = record {
-  same_front = refl;
+  same_prefix = refl;
   kept = keeps_first c.args.kept.now c.args.chosen.now.items (map word_edges (words_of c.in-Some.behind.now)) [] c.requires.few;
 }
 
@@ -39,15 +39,15 @@ keep_paths-returns-in_err-some-clause-kept t c =
     rw (p.1, p.2)
     (refused_word c.args.kept.now c.loop-edge.kept c.loop-edge.some c.in_err-some.field-0.0 c.args.chosen.now.items c.loop-edge.chosen.items
     c.as_slice-edge-items.result.now c.in-Some.word.now (words_of c.args.words.now) (words_of c.in-Some.behind.now) c.loop-edge.edge-index (Com Rf Internal)
-    c.in-Some.ensures.words (c.as_slice-edge-items.ensures.value ∙ c.word_edges-edges.ensures) c.loop-edge.invariant.same_front c.loop-edge-test.true
+    c.in-Some.ensures.words (c.as_slice-edge-items.ensures.value ∙ c.word_edges-edges.ensures) c.loop-edge.invariant.same_prefix c.loop-edge-test.true
     c.loop-edge.invariant.kept c.in_err-some.ensures.kept)
 
 pub keep_paths-loop-edge-preserved : goal.keep_paths-loop-edge-preserved
 keep_paths-loop-edge-preserved t c = record {
-  same_front = c.in_ok-some.ensures.chosen ∙ c.loop-edge.invariant.same_front;
-  kept = keeps_word_next c.args.kept.now c.loop-edge.kept c.keep_behind.new.kept c.loop-edge.some c.in_ok-some.field-0 c.args.chosen.now.items c.loop-edge.chosen.items
+  same_prefix = c.in_ok-some.ensures.chosen ∙ c.loop-edge.invariant.same_prefix;
+  kept = keeps_word_next c.args.kept.now c.loop-edge.kept c.keep_after.new.kept c.loop-edge.some c.in_ok-some.field-0 c.args.chosen.now.items c.loop-edge.chosen.items
       (map word_edges (words_of c.in-Some.behind.now)) c.as_slice-edge-items.result.now c.loop-edge.edge-index (Com Rf Internal)
-      c.loop-edge.invariant.same_front c.loop-edge-test.true c.loop-edge.invariant.kept c.in_ok-some.ensures.kept;
+      c.loop-edge.invariant.same_prefix c.loop-edge-test.true c.loop-edge.invariant.kept c.in_ok-some.ensures.kept;
 }
 
 pub keep_paths-returns-clause-kept : goal.keep_paths-returns-clause-kept

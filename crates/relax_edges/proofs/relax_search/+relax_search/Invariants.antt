@@ -5,14 +5,14 @@ use Rattle.relax_edges.specs.Relaxations.{word_edges}
 use Rattle.relax_edges.specs.RelaxSearch.{paths_by, KeepsPaths}
 use Rattle.relax_edges.proofs.relax_search.+relax_search.Given as goal
 
-abbrev pub decreases-keep_behind : goal.decreases-keep_behind
-decreases-keep_behind l = 2 * length l.words.now + 1
+abbrev pub decreases-keep_after : goal.decreases-keep_after
+decreases-keep_after l = 2 * length l.words.now + 1
 
 abbrev pub decreases-keep_paths : goal.decreases-keep_paths
 decreases-keep_paths l = 2 * length l.words.now
 
 abbrev pub invariant-keep_paths-loop-edge : goal.invariant-keep_paths-loop-edge
 invariant-keep_paths-loop-edge l = record {
-  same_front : l.chosen.items ≡ l.fn.chosen.items;
+  same_prefix : l.chosen.items ≡ l.fn.chosen.items;
   kept : KeepsPaths l.fn.kept (paths_by l.fn.chosen.items (map word_edges (words_of l.behind)) (take l.edge-index l.edge-items)) l.kept l.some;
 }

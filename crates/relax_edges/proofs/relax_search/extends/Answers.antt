@@ -4,4 +4,4 @@ use Rattle.relax_edges.proofs.Search.{path_extended}
 use Rattle.relax_edges.proofs.relax_search.extends.Goals as goal
 
 pub returns-in-len1-up : goal.returns-in-len1-up
-returns-in-len1-up c = c.joins.ensures ∙ sym (path_extended c.args.front.now c.args.edge _ c.in-len1-up.len_at_least c.requires)
+returns-in-len1-up c = c.joins.ensures ∙ sym (path_extended c.args.prefix.now c.args.edge _ c.in-len1-up.len_at_least c.requires)

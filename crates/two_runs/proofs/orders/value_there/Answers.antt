@@ -7,8 +7,8 @@ use Rattle.value_laws.proofs.Along.{value_most, write_count_most}
 use Rattle.two_runs.proofs.CycleOrders.{swapped_most}
 use Rattle.two_runs.proofs.orders.value_there.Goals as goal
 
-pub swapped-requires-clause-below : goal.swapped-requires-clause-below
-swapped-requires-clause-below c =
+pub swap_value-requires-clause-below : goal.swap_value-requires-clause-below
+swap_value-requires-clause-below c =
     let es = c.args.valued.now.edges in
     let r : IsResolved es = subst IsResolved c.resolved.ensures c.cycle-edges.ensures.resolved in
     omega (arith, c.requires.most, write_count_most es c.args.location, r.composes.few)
@@ -19,4 +19,4 @@ returns-in-Some-clause-most c =
     let event = c.in-Some.event in
     let at : c.args.location ≡ location_of es event = sym c.if-event-location.true ∙ ap (λ (e : Event). e.location) c.event.ensures ∙ ap (λ us. location_of us event) c.resolved-in-Some-1.ensures in
     let most : c.value_of.result ≤ write_count es c.args.location = rw (at, c.value_of.ensures) (value_most es event) in
-    rw c.swapped.ensures (swapped_most c.value_of.result c.args.value (write_count es c.args.location) most c.requires.most)
+    rw c.swap_value.ensures (swapped_most c.value_of.result c.args.value (write_count es c.args.location) most c.requires.most)

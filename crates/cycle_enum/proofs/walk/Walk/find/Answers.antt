@@ -3,7 +3,7 @@ use Rattle.std.proofs.Common.{◌≡◌, Option, Some, None, List, length, refl,
 use Rattle.relax_edges.specs.declared.edge.Edge.{Edge}
 use Rattle.listing_laws.specs.Listing.{IsAnswer}
 use Rattle.listing_laws.specs.Search.{OfLength}
-use Rattle.listing_laws.proofs.Answering.{answer_behind, answer_none_behind}
+use Rattle.listing_laws.proofs.Answering.{answer_after, answer_none_after}
 use Rattle.cycle_enum.specs.Walking.{Keeps, Lists}
 use Rattle.cycle_enum.proofs.walk.Walk.find.Goals as goal
 
@@ -11,17 +11,17 @@ pub returns-then-is_none : goal.returns-then-is_none
 returns-then-is_none g c =
     let last : c.args.self.now.last ≡ Some c.in-Some.last = search rules in
     let none : c.as_long.new.found ≡ None = search rules in
-    rw last (answer_none_behind (Lists g.P.Fn.post c.args.self.now) (Keeps g.K.Fn.post g.J.Fn.post c.args.self.now) c.in-Some.last c.longer-then-is_none.new.found
+    rw last (answer_none_after (Lists g.P.Fn.post c.args.self.now) (Keeps g.K.Fn.post g.J.Fn.post c.args.self.now) c.in-Some.last c.longer-then-is_none.new.found
     (rw none at c.as_long.ensures) (rw c.len.ensures at c.longer-then-is_none.ensures))
 
 -- an answer as long as the last
-some_behind : (listed keeps : List Edge → Type 0) (last : List Edge) (answer : Option (List Edge)) → (answer ≡ None → ⊥)
+some_after : (listed keeps : List Edge → Type 0) (last : List Edge) (answer : Option (List Edge)) → (answer ≡ None → ⊥)
     → IsAnswer (OfLength (length last) listed) (Some last) answer → IsAnswer listed (Some last) answer
-some_behind listed keeps last None some a = absurd (some refl)
-some_behind listed keeps last (Some m) some a = answer_behind listed keeps last m a
+some_after listed keeps last None some a = absurd (some refl)
+some_after listed keeps last (Some m) some a = answer_after listed keeps last m a
 
 pub returns-else-is_none : goal.returns-else-is_none
 returns-else-is_none g c =
     let last : c.args.self.now.last ≡ Some c.in-Some.last = search rules in
     let some : c.as_long.new.found ≡ None → ⊥ = search rules in
-    rw last (some_behind (Lists g.P.Fn.post c.args.self.now) (Keeps g.K.Fn.post g.J.Fn.post c.args.self.now) c.in-Some.last c.as_long.new.found some c.as_long.ensures)
+    rw last (some_after (Lists g.P.Fn.post c.args.self.now) (Keeps g.K.Fn.post g.J.Fn.post c.args.self.now) c.in-Some.last c.as_long.new.found some c.as_long.ensures)

@@ -13,5 +13,5 @@ returns-then-not-may_begin-clause-refused g c _ =
 
 pub returns-clause-refused : goal.returns-clause-refused
 returns-clause-refused g c fails =
-    let h : IsFalse c.may_stand.result → LeadsNowhere (IsMadeOf c.args.self.now.relaxes) c.args.list.now = search rules in
+    let h : IsFalse c.may_occur.result → LeadsNowhere (IsMadeOf c.args.self.now.relaxes) c.args.list.now = search rules in
     unmade_nowhere _ _ _ _ c.args.list.now (h fails)

@@ -3,20 +3,20 @@ use Rattle.std.proofs.Common.{◌<◌, ◌≤◌, length, refl, rules}
 use Rattle.listing_laws.specs.Search.{IsCandidate, IsExtended, IsRaised, LeadsNowhere}
 use Rattle.listing_laws.proofs.Counts.{raised_falls, extended_falls}
 use Rattle.listing_laws.proofs.Candidates.{raised_listed, extended_listed}
-use Rattle.listing_laws.proofs.Stepping.{stands_first, stands_raised, stands_extended, stands_past, stands_found}
+use Rattle.listing_laws.proofs.Stepping.{search_at_first, search_at_raised, search_at_extended, search_at_past, search_at_found}
 use Rattle.cycle_enum.specs.Walking.{Keeps, Lists}
 use Rattle.cycle_enum.proofs.walk.Walk.search.Goals as goal
 
 pub loop-self-init : goal.loop-self-init
 loop-self-init g c = record {
-  stands = stands_first _ _ c.args.len c.args.list.now c.requires.within c.requires.kept;
+  search_at = search_at_first _ _ c.args.len c.args.list.now c.requires.within c.requires.kept;
   none = c.requires.none;
 }
 
 pub loop-self-smaller-else-leads_on : goal.loop-self-smaller-else-leads_on
 loop-self-smaller-else-leads_on g c =
     let some : 0 < length c.loop-self.list = search rules in
-    raised_falls _ c.args.len c.loop-self.list c.raise.new.list some c.loop-self.invariant.stands.few c.raise.ensures
+    raised_falls _ c.args.len c.loop-self.list c.raise.new.list some c.loop-self.invariant.search_at.few c.raise.ensures
 
 pub loop-self-preserved-else-leads_on : goal.loop-self-preserved-else-leads_on
 loop-self-preserved-else-leads_on g c =
@@ -24,7 +24,7 @@ loop-self-preserved-else-leads_on g c =
     let none : LeadsNowhere (Lists g.P.Fn.post c.args.self.now) c.loop-self.list = c.if-leads_on.ensures.refused refl in
     let raised : IsRaised (IsCandidate c.args.self.now.relaxes) c.loop-self.list c.raise.new.list = search rules in
     record {
-      stands = stands_raised _ _ c.args.len c.args.list.now c.loop-self.list c.raise.new.list c.loop-self.invariant.stands some none (raised_listed _ _ _ _ _ _ raised);
+      search_at = search_at_raised _ _ c.args.len c.args.list.now c.loop-self.list c.raise.new.list c.loop-self.invariant.search_at some none (raised_listed _ _ _ _ _ _ raised);
       none = c.loop-self.invariant.none;
     }
 
@@ -41,25 +41,25 @@ loop-self-preserved-then-leads_on g c =
     let agreed : Keeps g.K.Fn.post g.J.Fn.post c.args.self.now c.loop-self.list = c.if-leads_on.ensures.kept refl in
     let extended : IsExtended (IsCandidate c.args.self.now.relaxes) c.loop-self.list c.extend.new.list = search rules in
     record {
-      stands = stands_extended _ _ c.args.len c.args.list.now c.loop-self.list c.extend.new.list c.loop-self.invariant.stands some less agreed (extended_listed _ _ _ _ _ _ extended);
+      search_at = search_at_extended _ _ c.args.len c.args.list.now c.loop-self.list c.extend.new.list c.loop-self.invariant.search_at some less agreed (extended_listed _ _ _ _ _ _ extended);
       none = c.loop-self.invariant.none;
     }
 
 pub has_found-requires-clause-kept : goal.has_found-requires-clause-kept
-has_found-requires-clause-kept g c = c.loop-self.invariant.stands.kept
+has_found-requires-clause-kept g c = c.loop-self.invariant.search_at.kept
 
 pub returns-then-has_found : goal.returns-then-has_found
 returns-then-has_found g c =
     let some : 0 < length c.loop-self.list = search rules in
     let long : c.args.len ≤ length c.loop-self.list = search rules in
     rw (c.if-has_found.ensures.found refl)
-    (stands_found _ (Keeps g.K.Fn.post g.J.Fn.post c.args.self.now) c.args.len c.args.list.now c.loop-self.list c.loop-self.list c.loop-self.invariant.stands some long
+    (search_at_found _ (Keeps g.K.Fn.post g.J.Fn.post c.args.self.now) c.args.len c.args.list.now c.loop-self.list c.loop-self.list c.loop-self.invariant.search_at some long
     refl (c.if-has_found.ensures.listed refl))
 
 pub loop-self-smaller : goal.loop-self-smaller
 loop-self-smaller g c =
     let some : 0 < length c.loop-self.list = search rules in
-    raised_falls _ c.args.len c.loop-self.list c.raise-else-len-from.new.list some c.loop-self.invariant.stands.few c.raise-else-len-from.ensures
+    raised_falls _ c.args.len c.loop-self.list c.raise-else-len-from.new.list some c.loop-self.invariant.search_at.few c.raise-else-len-from.ensures
 
 pub loop-self-preserved : goal.loop-self-preserved
 loop-self-preserved g c =
@@ -67,7 +67,7 @@ loop-self-preserved g c =
     let long : c.args.len ≤ length c.loop-self.list = search rules in
     let raised : IsRaised (IsCandidate c.args.self.now.relaxes) c.loop-self.list c.raise-else-len-from.new.list = search rules in
     record {
-      stands = stands_past _ _ c.args.len c.args.list.now c.loop-self.list c.raise-else-len-from.new.list c.loop-self.invariant.stands some long
+      search_at = search_at_past _ _ c.args.len c.args.list.now c.loop-self.list c.raise-else-len-from.new.list c.loop-self.invariant.search_at some long
           (c.if-has_found.ensures.other refl) (raised_listed _ _ _ _ _ _ raised);
       none = search rules;
     }

@@ -1,13 +1,13 @@
 -- The search is at the list, nothing is found so far, and with each step less is left of it.
 use Rattle.std.proofs.Common.{◌≡◌, None}
 use Rattle.listing_laws.proofs.Counts.{to_go}
-use Rattle.listing_laws.proofs.Stepping.{Standing}
+use Rattle.listing_laws.proofs.Stepping.{SearchAt}
 use Rattle.cycle_enum.specs.Walking.{Keeps, Lists}
 use Rattle.cycle_enum.proofs.walk.Walk.search.Given as goal
 
 abbrev pub invariant-loop-self : goal.invariant-loop-self
 invariant-loop-self g l = record {
-  stands : Standing (Lists g.P.Fn.post l.self) (Keeps g.K.Fn.post g.J.Fn.post l.self) l.len l.fn.list l.list;
+  search_at : SearchAt (Lists g.P.Fn.post l.self) (Keeps g.K.Fn.post g.J.Fn.post l.self) l.len l.fn.list l.list;
   none : l.found ≡ None;
 }
 

@@ -1,13 +1,13 @@
 -- The tally grows by the bytes and line feeds of the text, and no write fails.
 use Rattle.std.proofs.Common.{subst, refl, arith}
 use Rattle.std.proofs.lemmas.Grind.{common_steps}
-use Rattle.diy_io.specs.Sink.{Tally, Grew, tally_told}
+use Rattle.diy_io.specs.Sink.{Tally, Grew, shown_tally}
 use Rattle.diy_io.specs.SinkLaws.{tally_grew}
 use Rattle.demo_tests.proofs.text_tally.TextTallySink.write_all.Goals as goal
 
 pub returns-clause-wrote : goal.returns-clause-wrote
 returns-clause-wrote c =
-    let P : Tally → Type 0 = λ tally. Grew (tally_told c.args.self.now) (tally_told tally) c.args.bytes.now in
+    let P : Tally → Type 0 = λ tally. Grew (shown_tally c.args.self.now) (shown_tally tally) c.args.bytes.now in
     record {
       ok = record { grew = subst P (grind (arith, common_steps)) (tally_grew c.args.self.now c.args.bytes.now); no_fault = refl };
       failed = tt;

@@ -7,10 +7,10 @@ use Rattle.edge_algebra.proofs.paths.Path.join.Goals as goal
 
 pub invariant_of-result : goal.invariant_of-result
 invariant_of-result c =
-    let front = c.edges-front.ensures in
+    let prefix = c.edges-prefix.ensures in
     let back = c.edges-back.ensures in
     let whole : c.try_extend_from_slice.new.self.items ≡ c.args.self.now ++ c.args.next.now = search rules in
     let few : length c.args.self.now + length c.args.next.now ≤ MAX_EDGES =
-    omega (arith, ap length front.value, ap length back.value, c.if-front-back-gt-MAX_EDGES.false) in
+    omega (arith, ap length prefix.value, ap length back.value, c.if-prefix-back-gt-MAX_EDGES.false) in
     let meets : last_joins c.args.self.now c.args.next.now ≡ true = search rules in
-    rw whole (path_joined c.args.self.now c.args.next.now front.composable back.composable few meets)
+    rw whole (path_joined c.args.self.now c.args.next.now prefix.composable back.composable few meets)

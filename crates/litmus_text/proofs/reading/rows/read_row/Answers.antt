@@ -13,7 +13,7 @@ returns-in_default g c =
     sym c.loop-i.invariant
     ∙ row_short g.A.Arch.writing c.args.number c.args.cells.whole (pieces_left c.loop-i.pieces) c.loop-i.names (map column_seen c.loop-i.columns) (take c.loop-i.i (map column_seen c.loop-i.columns)) c.loop-i.i
     (record { ops = []; labels = [] }) k c.in_default.ensures
-    ∙ ap Err (sym c.bad.ensures)
+    ∙ ap Err (sym c.error_at_line.ensures)
 
 pub returns-in_err-read_one_cell : goal.returns-in_err-read_one_cell
 returns-in_err-read_one_cell g c =

@@ -10,7 +10,7 @@ use Rattle.litmus_text.proofs.reading.rows.read_rows.Goals as goal
 
 pub returns-in-Ends : goal.returns-in-Ends
 returns-in-Ends g c =
-    sym c.rows.invariant.same ∙ rows_missing g.A.Arch.writing c.rows.rows c.in-Ends.end (among c.rows.names (map column_seen c.rows.columns)) (text_left c.rows.left) c.in-Ends.ensures.lines ∙ ap Err (sym c.bad.ensures)
+    sym c.rows.invariant.same ∙ rows_missing g.A.Arch.writing c.rows.rows c.in-Ends.end (among c.rows.names (map column_seen c.rows.columns)) (text_left c.rows.left) c.in-Ends.ensures.lines ∙ ap Err (sym c.error_at_line.ensures)
 
 pub returns-then-ends_rows : goal.returns-then-ends_rows
 returns-then-ends_rows g c =
@@ -23,7 +23,7 @@ returns-then-rows-ge-MAX_ROWS g c =
     sym c.rows.invariant.same
     ∙ rows_full g.A.Arch.writing c.rows.rows c.in-Line.line.number (among c.rows.names (map column_seen c.rows.columns)) (text_left c.rows.left) (text_left c.in-Line.line.rest) c.in-Line.line.text.now c.in-Line.ensures.lines
     (sym c.ends_rows.ensures ∙ c.if-ends_rows.false) (not_below_is c.rows.rows MAX_ROWS c.if-rows-ge-MAX_ROWS.true)
-    ∙ ap Err (sym c.bad-then-rows-ge-MAX_ROWS.ensures)
+    ∙ ap Err (sym c.error_at_line-then-rows-ge-MAX_ROWS.ensures)
 
 pub returns-in_err-read_row : goal.returns-in_err-read_row
 returns-in_err-read_row g c =

@@ -9,14 +9,14 @@ pub returns-then-not-is_head-clause-heads : goal.returns-then-not-is_head-clause
 returns-then-not-is_head-clause-heads c =
     sym c.heads.invariant.same
     ∙ heads_bad c.args.number c.heads.threads c.args.cells.whole (pieces_left c.heads.pieces) c.in-Some.cell.now (pieces_left c.in-Some.behind) c.in-Some.ensures (sym c.is_head.ensures ∙ c.if-not-is_head.true)
-    ∙ ap Err (sym c.bad.ensures)
+    ∙ ap Err (sym c.error_at_line.ensures)
 
 pub returns-then-threads-ge-MAX_THREADS-clause-heads : goal.returns-then-threads-ge-MAX_THREADS-clause-heads
 returns-then-threads-ge-MAX_THREADS-clause-heads c =
     sym c.heads.invariant.same
     ∙ heads_full c.args.number c.heads.threads c.args.cells.whole (pieces_left c.heads.pieces) c.in-Some.cell.now (pieces_left c.in-Some.behind) c.in-Some.ensures (sym c.is_head.ensures ∙ c.if-not-is_head.false)
     (not_below_is c.heads.threads MAX_THREADS c.if-threads-ge-MAX_THREADS.true)
-    ∙ ap Err (sym c.bad-then-threads-ge-MAX_THREADS.ensures)
+    ∙ ap Err (sym c.error_at_line-then-threads-ge-MAX_THREADS.ensures)
 
 pub heads-preserved : goal.heads-preserved
 heads-preserved c = record {
@@ -32,4 +32,4 @@ returns-then-cells-clause-heads c =
 
 pub returns-else-cells-clause-heads : goal.returns-else-cells-clause-heads
 returns-else-cells-clause-heads c =
-    sym c.heads.invariant.same ∙ heads_end c.args.number c.heads.threads c.args.cells.whole (pieces_left c.heads.pieces) c.in_default.ensures ∙ rw c.if-cells.false (ap Err (sym c.bad-else-cells.ensures))
+    sym c.heads.invariant.same ∙ heads_end c.args.number c.heads.threads c.args.cells.whole (pieces_left c.heads.pieces) c.in_default.ensures ∙ rw c.if-cells.false (ap Err (sym c.error_at_line-else-cells.ensures))

@@ -24,7 +24,7 @@ returns-then-is_full g c =
     stops_at_full g.A.Arch.writing (setting_seen c.args.here.now) (MAX_TERMS - length c.terms.terms.items) (mentioned_seen c.terms.mentioned) c.terms.rest.now (map term_view c.terms.terms.items)
     (term_read_seen c.read_term.new.mentioned c.in-Ok.term)
     (terms_here g.A.Arch.writing (setting_seen c.args.here.now) MAX_TERMS (mentioned_seen c.args.mentioned.now) c.args.text.now) (omega arith) c.in-Ok.ensures c.terms.invariant
-    ∙ ap Err (sym c.bad.ensures)
+    ∙ ap Err (sym c.error_at_line.ensures)
 
 pub terms-preserved : goal.terms-preserved
 terms-preserved g c =
@@ -52,4 +52,4 @@ returns-in-Err-read_follow g c =
     stops_at_follow g.A.Arch.writing (setting_seen c.args.here.now) (MAX_TERMS - length c.terms.terms.items) (mentioned_seen c.terms.mentioned) c.terms.rest.now (map term_view c.terms.terms.items)
     (term_read_seen c.read_term.new.mentioned c.in-Ok.term) (fault_view c.in-Err-read_follow.field-0)
     (terms_here g.A.Arch.writing (setting_seen c.args.here.now) MAX_TERMS (mentioned_seen c.args.mentioned.now) c.args.text.now) (omega arith) c.in-Ok.ensures c.in-Err-read_follow.ensures c.terms.invariant
-    ∙ ap Err (sym c.bad-in-Err-read_follow.ensures)
+    ∙ ap Err (sym c.error_at_line-in-Err-read_follow.ensures)

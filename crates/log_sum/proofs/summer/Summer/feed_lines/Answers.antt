@@ -1,47 +1,47 @@
 -- `Summer::feed_lines` reads the lines that end in a piece, and holds the rest of the piece.
 use Rattle.std.proofs.Common.{◌++◌, ◌∷◌, [], List, ℕ, refl, sym, ap, ◌∙◌, append_assoc, append-nil, subst}
 use Rattle.std.proofs.lemmas.Result.{err_from_is_err_and}
-use Rattle.log_sum.specs.Standing.{StandsFor}
+use Rattle.log_sum.specs.Representing.{Represents}
 use Rattle.log_sum.specs.Feeding.{PieceTo}
 use Rattle.log_sum.proofs.StayLaws.{cut_parts, cut_none}
-use Rattle.log_sum.proofs.FeedLaws.{stands_follows, line_fed, line_answered, part_answered, piece_whole}
+use Rattle.log_sum.proofs.FeedLaws.{represents_follows, line_fed, line_answered, part_answered, piece_whole}
 use Rattle.log_sum.proofs.summer.Summer.feed_lines.Goals as goal
 
-pub loop-front-init : goal.loop-front-init
-loop-front-init c = record {
+pub loop-prefix-init : goal.loop-prefix-init
+loop-prefix-init c = record {
   done = [];
   whole = refl;
-  stands = λ files bytes stands. subst (λ (t : List ℕ). StandsFor c.args.self.now files t) (sym (append-nil bytes)) stands;
+  represents = λ files bytes represents. subst (λ (t : List ℕ). Represents c.args.self.now files t) (sym (append-nil bytes)) represents;
 }
 
-pub loop-front-preserved : goal.loop-front-preserved
-loop-front-preserved c =
-    let cut = cut_parts c.loop-front.rest.now (c.in-Some.front.now, c.in-Some.behind.now) (sym c.in-Some.ensures.cut) in
-    let fed = c.loop-front.invariant in
+pub loop-prefix-preserved : goal.loop-prefix-preserved
+loop-prefix-preserved c =
+    let cut = cut_parts c.loop-prefix.rest.now (c.in-Some.prefix.now, c.in-Some.behind.now) (sym c.in-Some.ensures.cut) in
+    let fed = c.loop-prefix.invariant in
     record {
-      done = fed.done ++ (c.in-Some.front.now ++ 10 ∷ []);
-      whole = piece_whole [] fed.done c.in-Some.front.now c.in-Some.behind.now c.loop-front.rest.now c.args.piece.now cut.whole fed.whole;
-      stands = λ files bytes stands.
-          let s = fed.stands files bytes stands in
-          subst (λ (t : List ℕ). StandsFor c.feed_line.new.self files t) (append_assoc bytes fed.done (c.in-Some.front.now ++ 10 ∷ []))
-          (line_fed c.loop-front.self c.feed_line.new.self files (bytes ++ fed.done) c.in-Some.front.now s cut.one
-          (c.in_ok-feed_line.ensures.judged s.seen (stands_follows c.loop-front.self files (bytes ++ fed.done) s)) c.in_ok-feed_line.ensures.held c.in_ok-feed_line.ensures.refusal);
+      done = fed.done ++ (c.in-Some.prefix.now ++ 10 ∷ []);
+      whole = piece_whole [] fed.done c.in-Some.prefix.now c.in-Some.behind.now c.loop-prefix.rest.now c.args.piece.now cut.whole fed.whole;
+      represents = λ files bytes represents.
+          let s = fed.represents files bytes represents in
+          subst (λ (t : List ℕ). Represents c.feed_line.new.self files t) (append_assoc bytes fed.done (c.in-Some.prefix.now ++ 10 ∷ []))
+          (line_fed c.loop-prefix.self c.feed_line.new.self files (bytes ++ fed.done) c.in-Some.prefix.now s cut.one
+          (c.in_ok-feed_line.ensures.judged s.seen (represents_follows c.loop-prefix.self files (bytes ++ fed.done) s)) c.in_ok-feed_line.ensures.held c.in_ok-feed_line.ensures.refusal);
     }
 
 pub returns-in_err-feed_line : goal.returns-in_err-feed_line
-returns-in_err-feed_line c = λ files bytes stands.
+returns-in_err-feed_line c = λ files bytes represents.
     let p = err_from_is_err_and c.from_residual.result c.from_residual.ensures.1 in
-    let cut = cut_parts c.loop-front.rest.now (c.in-Some.front.now, c.in-Some.behind.now) (sym c.in-Some.ensures.cut) in
-    let fed = c.loop-front.invariant in
-    let s = fed.stands files bytes stands in
-    rw (p.1, p.2) (line_answered c.loop-front.self c.feed_line.new.self files (bytes ++ fed.done) c.in-Some.front.now c.in-Some.behind.now (bytes ++ c.args.piece.now) s cut.one
-    (piece_whole bytes fed.done c.in-Some.front.now c.in-Some.behind.now c.loop-front.rest.now c.args.piece.now cut.whole fed.whole) c.in_err-feed_line.field-0.0
-    (c.in_err-feed_line.ensures.judged s.seen (stands_follows c.loop-front.self files (bytes ++ fed.done) s)))
+    let cut = cut_parts c.loop-prefix.rest.now (c.in-Some.prefix.now, c.in-Some.behind.now) (sym c.in-Some.ensures.cut) in
+    let fed = c.loop-prefix.invariant in
+    let s = fed.represents files bytes represents in
+    rw (p.1, p.2) (line_answered c.loop-prefix.self c.feed_line.new.self files (bytes ++ fed.done) c.in-Some.prefix.now c.in-Some.behind.now (bytes ++ c.args.piece.now) s cut.one
+    (piece_whole bytes fed.done c.in-Some.prefix.now c.in-Some.behind.now c.loop-prefix.rest.now c.args.piece.now cut.whole fed.whole) c.in_err-feed_line.field-0.0
+    (c.in_err-feed_line.ensures.judged s.seen (represents_follows c.loop-prefix.self files (bytes ++ fed.done) s)))
 
 pub returns : goal.returns
-returns c = λ files bytes stands.
-    let fed = c.loop-front.invariant in
-    let s = fed.stands files bytes stands in
-    subst (λ (t : List ℕ). PieceTo c.hold.new.self files t c.hold.result) (append_assoc bytes fed.done c.loop-front.rest.now ∙ ap (λ t. bytes ++ t) fed.whole)
-    (part_answered c.loop-front.self c.hold.new.self files (bytes ++ fed.done) c.loop-front.rest.now s (cut_none c.loop-front.rest.now (sym c.in_default.ensures.cut)) c.hold.result
-    (c.hold.ensures.judged s.seen (stands_follows c.loop-front.self files (bytes ++ fed.done) s)) c.hold.ensures.held)
+returns c = λ files bytes represents.
+    let fed = c.loop-prefix.invariant in
+    let s = fed.represents files bytes represents in
+    subst (λ (t : List ℕ). PieceTo c.hold.new.self files t c.hold.result) (append_assoc bytes fed.done c.loop-prefix.rest.now ∙ ap (λ t. bytes ++ t) fed.whole)
+    (part_answered c.loop-prefix.self c.hold.new.self files (bytes ++ fed.done) c.loop-prefix.rest.now s (cut_none c.loop-prefix.rest.now (sym c.in_default.ensures.cut)) c.hold.result
+    (c.hold.ensures.judged s.seen (represents_follows c.loop-prefix.self files (bytes ++ fed.done) s)) c.hold.ensures.held)

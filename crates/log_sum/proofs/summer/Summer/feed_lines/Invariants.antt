@@ -3,9 +3,9 @@ use Rattle.std.proofs.Common.{length}
 use Rattle.log_sum.specs.Feeding.{FedBefore}
 use Rattle.log_sum.proofs.summer.Summer.feed_lines.Given as goal
 
-abbrev pub decreases-loop-front : goal.decreases-loop-front
-decreases-loop-front l = length l.rest
+abbrev pub decreases-loop-prefix : goal.decreases-loop-prefix
+decreases-loop-prefix l = length l.rest
 
 -- the bytes before the rest were fed
-abbrev pub invariant-loop-front : goal.invariant-loop-front
-invariant-loop-front l = FedBefore l.fn.self l.self l.piece l.rest
+abbrev pub invariant-loop-prefix : goal.invariant-loop-prefix
+invariant-loop-prefix l = FedBefore l.fn.self l.self l.piece l.rest

@@ -2,7 +2,7 @@
 use Rattle.std.proofs.Common.{◌<◌, ◌≤◌, ◌+◌, length, sym, ap, ◌∙◌, arith, subst}
 use Rattle.log_sum.specs.declared.errors.LogKind.TheVariants.{LineTooLong}
 use Rattle.log_sum.specs.Reading.{Seen, fault_at}
-use Rattle.log_sum.specs.Standing.{Progress, Kept}
+use Rattle.log_sum.specs.Representing.{Progress, Kept}
 use Rattle.log_sum.specs.Feeding.{Follows}
 use Rattle.log_sum.proofs.StayLaws.{long_rest}
 use Rattle.log_sum.proofs.FeedLaws.{part_fits, part_long}

@@ -23,7 +23,7 @@ none_in_order (test ∷ tests) h = absurd (cc)
 
 pub returns : goal.returns
 returns c = record {
-  stands = record {
+  represents = record {
     seen = nothing_seen;
     judged = nothing_judged;
     reading = c.new.ensures.reading;

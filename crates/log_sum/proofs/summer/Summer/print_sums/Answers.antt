@@ -6,7 +6,7 @@ use Rattle.std.specs.declared.vec.Vec.{Vec}
 use Rattle.std.specs.declared.alloc.Global.{Global}
 use Rattle.diy_io.specs.PageLaws.{sent_nothing}
 use Rattle.log_sum.specs.declared.test_sum.TestSum.{TestSum}
-use Rattle.log_sum.specs.Standing.{Kept}
+use Rattle.log_sum.specs.Representing.{Kept}
 use Rattle.log_sum.specs.Summed.{Summed}
 use Rattle.log_sum.specs.Classes.{named_view, test_view}
 use Rattle.log_sum.specs.SumText.{test_text}

@@ -9,24 +9,24 @@ use Rattle.log_sum.proofs.TestLaws.{row_other, row_large, row_put, too_large, no
 use Rattle.log_sum.proofs.test_sum.TestSum.add.Goals as goal
 
 pub returns-then-not-same_mark : goal.returns-then-not-same_mark
-returns-then-not-same_mark c = λ state stands.
+returns-then-not-same_mark c = λ state test_at.
     row_other (test_view c.args.self.now) (row_with state c.args.mark c.args.count) (Some (c.in-Some.known, c.in-Some.field-0-1))
-    (sym (c.in-Some.ensures state stands)) (ap not (sym c.same_mark.ensures ∙ c.if-not-same_mark.true))
+    (sym (c.in-Some.ensures state test_at)) (ap not (sym c.same_mark.ensures ∙ c.if-not-same_mark.true))
 
 pub returns-then-count-sum : goal.returns-then-count-sum
-returns-then-count-sum c = λ state stands.
+returns-then-count-sum c = λ state test_at.
     row_large (test_view c.args.self.now) (row_with state c.args.mark c.args.count) (Some (c.in-Some.known, c.in-Some.field-0-1))
-    (sym (c.in-Some.ensures state stands)) (ap not (sym c.same_mark.ensures ∙ c.if-not-same_mark.false))
-    (ap (λ s. nat_lt last_count (s + c.args.count)) (sym c.marked-sum.ensures) ∙ too_large c.marked-sum.result c.args.count c.if-count-sum.true)
+    (sym (c.in-Some.ensures state test_at)) (ap not (sym c.same_mark.ensures ∙ c.if-not-same_mark.false))
+    (ap (λ s. nat_lt last_count (s + c.args.count)) (sym c.sum_of_mark-sum.ensures) ∙ too_large c.sum_of_mark-sum.result c.args.count c.if-count-sum.true)
 
 pub returns : goal.returns
-returns c = λ state stands.
+returns c = λ state test_at.
     let test = test_view c.args.self.now in
     let row = row_with state c.args.mark c.args.count in
     let known : Mark × ℕ = (c.in-Some.known, c.in-Some.field-0-1) in
-    let small : c.marked-sum.result ≤ last_count = omega arith in
-    let found = sym (c.in-Some.ensures state stands) in
+    let small : c.sum_of_mark-sum.result ≤ last_count = omega arith in
+    let found = sym (c.in-Some.ensures state test_at) in
     row_put test row (Some known) found (ap not (sym c.same_mark.ensures ∙ c.if-not-same_mark.false))
-    (ap (λ s. nat_lt last_count (s + c.args.count)) (sym c.marked-sum.ensures) ∙ not_large c.marked-sum.result c.args.count small c.if-count-sum.false)
-    ∙ ap Ok (sym (c.set_marked.ensures ∙ row_kept test row _ (known.0, min (known.1 + c.args.count) last_count) c.marked-sum.result (c.add.ensures state known stands (c.in-Some.ensures state stands))
-    (known_kept known row (min (known.1 + c.args.count) last_count) _ found (sym c.same_mark.ensures ∙ c.if-not-same_mark.false) refl) c.marked-sum.ensures))
+    (ap (λ s. nat_lt last_count (s + c.args.count)) (sym c.sum_of_mark-sum.ensures) ∙ not_large c.sum_of_mark-sum.result c.args.count small c.if-count-sum.false)
+    ∙ ap Ok (sym (c.set_marked.ensures ∙ row_kept test row _ (known.0, min (known.1 + c.args.count) last_count) c.sum_of_mark-sum.result (c.add.ensures state known test_at (c.in-Some.ensures state test_at))
+    (known_kept known row (min (known.1 + c.args.count) last_count) _ found (sym c.same_mark.ensures ∙ c.if-not-same_mark.false) refl) c.sum_of_mark-sum.ensures))

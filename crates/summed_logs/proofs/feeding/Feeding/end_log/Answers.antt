@@ -7,4 +7,4 @@ use Rattle.summed_logs.proofs.feeding.Feeding.end_log.Goals as goal
 pub returns-in-Err : goal.returns-in-Err
 returns-in-Err c = λ logs log reads.
     subst (IsEndFault logs log) (sym c.fault_of.ensures)
-    (log_refused c.end_file.new.self logs log c.in-Err.error (c.in-Err.ensures.ended logs log reads.stands))
+    (log_refused c.end_file.new.self logs log c.in-Err.error (c.in-Err.ensures.ended logs log reads.represents))

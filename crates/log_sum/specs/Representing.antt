@@ -50,7 +50,7 @@ pub record IsAt (progress : Progress) (seen : Seen) : Type 0 where
 
 -- what is kept represents whole files and the bytes so far of one more: the lines that were judged have no fault, what is
 -- kept is what they give, and between two files the states of each test are in byte order
-pub record StandsFor (kept : Kept) (files : List (List ℕ)) (bytes : List ℕ) : Type 0 where
+pub record Represents (kept : Kept) (files : List (List ℕ)) (bytes : List ℕ) : Type 0 where
   pub seen : Seen
   pub judged : input_judged files bytes ≡ Ok seen
   pub reading : IsAt kept.progress seen
@@ -61,14 +61,14 @@ pub record StandsFor (kept : Kept) (files : List (List ℕ)) (bytes : List ℕ) 
 -- what an answer to a piece of a log says, where this is the input up to the end of the piece: it has no fault and is
 -- represented by what is kept, or it has exactly this first fault
 abbrev pub FedTo : Kept → List (List ℕ) → List ℕ → Result (Unit {0}) SumError → Type 0
-FedTo new files bytes (Ok x) = StandsFor new files bytes
+FedTo new files bytes (Ok x) = Represents new files bytes
 FedTo new files bytes (Err (Log error)) = (input_judged files bytes ≡ Err error) × (new.refusal ≡ Some (Log error))
 FedTo new files bytes (Err NoMemory) = new.refusal ≡ Some NoMemory
 
 -- what an answer to the end of a log says, where these are the bytes of the log: the logs with it have no fault and are
 -- represented by what is kept, or they have exactly this first fault
 abbrev pub EndedTo : Kept → List (List ℕ) → List ℕ → Result (Unit {0}) SumError → Type 0
-EndedTo new files bytes (Ok x) = StandsFor new (files ++ bytes ∷ []) []
+EndedTo new files bytes (Ok x) = Represents new (files ++ bytes ∷ []) []
 EndedTo new files bytes (Err (Log error)) =
     (files_judged nothing_seen (files ++ bytes ∷ []) ≡ Err error) × (new.refusal ≡ Some (Log error))
 EndedTo new files bytes (Err NoMemory) = new.refusal ≡ Some NoMemory

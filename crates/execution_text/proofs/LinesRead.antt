@@ -6,7 +6,7 @@ use Rattle.execution_text.specs.declared.errors.ExecKind.{ExecKind}
 use Rattle.execution_text.specs.declared.errors.ExecFault.{ExecFault}
 use Rattle.text_laws.specs.Words.{words}
 use Rattle.execution_text.specs.declared.errors.ExecKind.TheVariants.{EndMissing}
-use Rattle.execution_text.specs.ExecutionText.{put_first, put_line, at_line, lines_told}
+use Rattle.execution_text.specs.ExecutionText.{put_first, put_line, at_line, each_line_read}
 use Rattle.execution_text.specs.declared.errors.ExecError.{ExecError}
 use Rattle.execution_text.specs.declared.reading.LineError.{LineError}
 use Rattle.execution_text.specs.declared.reading.LineError.TheVariants as line_errors
@@ -34,28 +34,28 @@ line_stops add x k n kind (Err other) others h = let e : other ≡ kind = cc in 
 -- the line of the first head is read, and the other heads have the lines after it
 pub one_line : {X : Type 0} (add : Adds X) (told : List ℕ → List (List ℕ) → Result (List X) ExecKind) (x y : Execution) (k n : ℕ) (heads more lines left : List (List ℕ)) (head line : List ℕ)
     → heads ≡ head ∷ more → lines ≡ line ∷ left → line_added add x k (told head (words line)) ≡ Ok y
-    → lines_added add x k (lines_told told n heads lines) ≡ lines_added add y (k + 1) (lines_told told (n + 1) more left)
-unfolding lines_told
-one_line add told x y k n heads more lines left head line e f h = rw (e, f) (line_then add x y k n (told head (words line)) (lines_told told (n + 1) more left) h)
+    → lines_added add x k (each_line_read told n heads lines) ≡ lines_added add y (k + 1) (each_line_read told (n + 1) more left)
+unfolding each_line_read
+one_line add told x y k n heads more lines left head line e f h = rw (e, f) (line_then add x y k n (told head (words line)) (each_line_read told (n + 1) more left) h)
 
 -- a faulty line of the first head ends the reading with its fault, at its number
 pub one_stops : {X : Type 0} (add : Adds X) (told : List ℕ → List (List ℕ) → Result (List X) ExecKind) (x : Execution) (k n : ℕ) (heads more lines left : List (List ℕ)) (head line : List ℕ) (kind : ExecKind)
     → heads ≡ head ∷ more → lines ≡ line ∷ left → line_added add x k (told head (words line)) ≡ Err kind
-    → lines_added add x k (lines_told told n heads lines) ≡ Err (record { line = n; kind = kind })
-unfolding lines_told
-one_stops add told x k n heads more lines left head line kind e f h = rw (e, f) (line_stops add x k n kind (told head (words line)) (lines_told told (n + 1) more left) h)
+    → lines_added add x k (each_line_read told n heads lines) ≡ Err (record { line = n; kind = kind })
+unfolding each_line_read
+one_stops add told x k n heads more lines left head line kind e f h = rw (e, f) (line_stops add x k n kind (told head (words line)) (each_line_read told (n + 1) more left) h)
 
 -- where no line is left for a head, a line is missing
 pub none_left : {X : Type 0} (add : Adds X) (told : List ℕ → List (List ℕ) → Result (List X) ExecKind) (x : Execution) (k n : ℕ) (heads more lines : List (List ℕ)) (head : List ℕ)
-    → heads ≡ head ∷ more → lines ≡ [] → lines_added add x k (lines_told told n heads lines) ≡ Err (record { line = n; kind = EndMissing })
-unfolding lines_told
+    → heads ≡ head ∷ more → lines ≡ [] → lines_added add x k (each_line_read told n heads lines) ≡ Err (record { line = n; kind = EndMissing })
+unfolding each_line_read
 none_left add told x k n heads more lines head e f = rw (e, f) refl
 
 -- where no head is left, the execution is complete
-pub all_told : {X : Type 0} (add : Adds X) (told : List ℕ → List (List ℕ) → Result (List X) ExecKind) (x : Execution) (k n : ℕ) (heads lines : List (List ℕ))
-    → heads ≡ [] → lines_added add x k (lines_told told n heads lines) ≡ Ok (x, lines)
-unfolding lines_told
-all_told add told x k n heads lines e = rw e refl
+pub all_read : {X : Type 0} (add : Adds X) (told : List ℕ → List (List ℕ) → Result (List X) ExecKind) (x : Execution) (k n : ℕ) (heads lines : List (List ℕ))
+    → heads ≡ [] → lines_added add x k (each_line_read told n heads lines) ≡ Ok (x, lines)
+unfolding each_line_read
+all_read add told x k n heads lines e = rw e refl
 
 -- the error of a line that can't be read has the number of that line
 pub error_line : (error : LineError) (answer : ExecError) (n : ℕ) (x y : Execution) (line : Result Execution ExecKind) (lines : Result (Execution × List (List ℕ)) ExecFault)

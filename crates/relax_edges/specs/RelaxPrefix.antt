@@ -2,23 +2,23 @@
 use Rattle.std.specs.Prelude.{ℕ, ◌≡◌, ◌<◌, ◌≤◌, ◌+◌, Bool, true, cond, Option, Some, None, Result, Ok, List, [], ◌∷◌, length}
 use Rattle.relax_edges.specs.declared.edge.Edge.{Edge}
 use Rattle.relax_edges.specs.declared.relax_error.RelaxKind.{RelaxKind}
-use Rattle.relax_edges.specs.RelaxText.{is_separator, ends_word, words_of, inside, bracket_words, words_from, bytes_behind}
+use Rattle.relax_edges.specs.RelaxText.{is_separator, ends_word, words_of, inside, bracket_words, words_from, bytes_after}
 use Rattle.relax_edges.specs.Relaxations.{kept_item}
 
 -- the words of the item that a text begins with, or none where its bracket is bad
-unfoldable pub front_words : List ℕ → Option (List (List ℕ))
-front_words [] = None
-front_words (byte ∷ behind) = words_from byte behind
+unfoldable pub first_words : List ℕ → Option (List (List ℕ))
+first_words [] = None
+first_words (byte ∷ behind) = words_from byte behind
 
 -- the length of the item or separator that a text begins with
-unfoldable pub front_len : List ℕ → ℕ
-front_len [] = 0
-front_len (byte ∷ behind) = bytes_behind byte behind + 1
+unfoldable pub first_word_len : List ℕ → ℕ
+first_word_len [] = 0
+first_word_len (byte ∷ behind) = bytes_after byte behind + 1
 
 -- the list kept once the item or separator that a text begins with is read, or why that item is refused
-unfoldable pub kept_front : List (List Edge) → List ℕ → Result (List (List Edge)) RelaxKind
-kept_front kept [] = Ok kept
-kept_front kept (byte ∷ behind) = cond (is_separator byte) (Ok kept) (kept_item kept (words_from byte behind))
+unfoldable pub kept_prefix : List (List Edge) → List ℕ → Result (List (List Edge)) RelaxKind
+kept_prefix kept [] = Ok kept
+kept_prefix kept (byte ∷ behind) = cond (is_separator byte) (Ok kept) (kept_item kept (words_from byte behind))
 
 -- whether a text begins with the end of a word
 unfoldable pub ends_here : List ℕ → Bool
@@ -33,9 +33,9 @@ pub record IsInside (behind words : List ℕ) : Type 0 where
   pub some : 0 < length (words_of words)
 
 -- a text is the word that another begins with
-pub record IsFrontWord (text word : List ℕ) : Type 0 where
-  pub words : front_words text ≡ Some (words_of word)
-  pub len : length word ≡ front_len text
+pub record IsFirstWord (text word : List ℕ) : Type 0 where
+  pub words : first_words text ≡ Some (words_of word)
+  pub len : length word ≡ first_word_len text
   pub within : length word ≤ length text
   pub bytes : 0 < length word
   pub some : 0 < length (words_of word)

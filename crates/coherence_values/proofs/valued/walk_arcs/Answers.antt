@@ -9,13 +9,13 @@ use Rattle.coherence_values.specs.Arc.{seen_of}
 use Rattle.list_laws.specs.Numbers.{upto}
 use Rattle.list_laws.proofs.Numbers.{length-map-upto, map-upto_more}
 use Rattle.coherence_values.proofs.Walk.{into_next, arc_begins, arc_goes_on, walk_step, fresh_arc, writes_before_is, writes_before_most, arcs_more, arcs_same}
-use Rattle.coherence_values.proofs.valued.walked.Goals as goal
-use Rattle.coherence_values.proofs.valued.walked.Goals.{then-is_diff, else-is_diff}
+use Rattle.coherence_values.proofs.valued.walk_arcs.Goals as goal
+use Rattle.coherence_values.proofs.valued.walk_arcs.Goals.{then-is_diff, else-is_diff}
 
 pub loop-i-init : goal.loop-i-init
 loop-i-init c = record {
   enters = refl;
-  goes = rw location-zero (c.arc_behind-arc.ensures ∙ ap (seen_of c.args.edges.now 0) (writes_before_is c.args.edges.now 0 c.requires (omega (arith, c.requires.composes.some))));
+  goes = rw location-zero (c.arc_after-arc.ensures ∙ ap (seen_of c.args.edges.now 0) (writes_before_is c.args.edges.now 0 c.requires (omega (arith, c.requires.composes.some))));
   values = c.new.ensures;
   arcs = rw moves-zero c.new-2.ensures;
 }

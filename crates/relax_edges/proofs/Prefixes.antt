@@ -7,11 +7,11 @@ use Rattle.std.proofs.lemmas.List.{length-take}
 use Rattle.std.proofs.lemmas.List.Folds.{length-prefix_len}
 use Rattle.std.proofs.Math.ListN.{get_or-eq_default}
 use Rattle.list_laws.proofs.Cases.{by_test}
-use Rattle.relax_edges.specs.RelaxText.{is_separator, is_bracket, ends_word, words_of, inside, is_closed, some_words, bracket_words, words_from, bytes_behind}
+use Rattle.relax_edges.specs.RelaxText.{is_separator, is_bracket, ends_word, words_of, inside, is_closed, some_words, bracket_words, words_from, bytes_after}
 use Rattle.relax_edges.specs.declared.edge.Edge.{Edge}
 use Rattle.relax_edges.specs.declared.relax_error.RelaxKind.TheVariants.{BadBracket}
 use Rattle.relax_edges.specs.Relaxations.{kept_words, kept_item}
-use Rattle.relax_edges.specs.RelaxFront.{kept_front, front_words, front_len, ends_here, IsInside, IsFrontWord}
+use Rattle.relax_edges.specs.RelaxPrefix.{kept_prefix, first_words, first_word_len, ends_here, IsInside, IsFirstWord}
 use Rattle.relax_edges.proofs.RelaxWords.{words_of_run, before_first-no}
 
 before_first-length : (test : ℕ → Bool) (text : List ℕ) → length (before_first test text) ≡ position_or_len test text
@@ -78,14 +78,14 @@ run_words : (byte : ℕ) (behind : List ℕ) → (byte == 91) ≡ false → (byt
 run_words byte behind a b = rw (a, b) refl
 
 run_len : (byte : ℕ) (behind : List ℕ) → is_separator byte ≡ false → (byte == 91) ≡ false → (byte == 93) ≡ false
-    → bytes_behind byte behind ≡ length (before_first ends_word behind)
+    → bytes_after byte behind ≡ length (before_first ends_word behind)
 run_len byte behind n a b = rw (n, b, a) refl
 
 -- the word that a text begins with
-pub front_word : (text : List ℕ) (n : ℕ) → ends_here text ≡ false → n ≡ position_or_len ends_word text → IsFrontWord text (take n text)
-unfolding ends_here front_words front_len
-front_word [] n here at_n = absurd (false≢true (sym here))
-front_word (byte ∷ behind) n here at_n =
+pub first_word : (text : List ℕ) (n : ℕ) → ends_here text ≡ false → n ≡ position_or_len ends_word text → IsFirstWord text (take n text)
+unfolding ends_here first_words first_word_len
+first_word [] n here at_n = absurd (false≢true (sym here))
+first_word (byte ∷ behind) n here at_n =
     let sep : is_separator byte ≡ false = first_false (is_separator byte) (is_bracket byte) here in
     let brackets : is_bracket byte ≡ false = second_false (is_separator byte) (is_bracket byte) here in
     let opening : (byte == 91) ≡ false = first_false (byte == 91) (byte == 93) brackets in
@@ -101,26 +101,26 @@ front_word (byte ∷ behind) n here at_n =
     }
 
 -- what a list of relaxations becomes after a good bracket, after a bad one, and after a word
-pub kept_bracket : (kept : List (List Edge)) (behind words : List ℕ) → IsInside behind words → kept_front kept (91 ∷ behind) ≡ kept_words kept (words_of words)
-unfolding kept_front kept_item
+pub kept_bracket : (kept : List (List Edge)) (behind words : List ℕ) → IsInside behind words → kept_prefix kept (91 ∷ behind) ≡ kept_words kept (words_of words)
+unfolding kept_prefix kept_item
 kept_bracket kept behind words inside = rw (inside.good, kept_item) refl
 
 -- a bad bracket is refused
-pub bad_bracket : (kept : List (List Edge)) (behind : List ℕ) → bracket_words behind ≡ None → kept_front kept (91 ∷ behind) ≡ Err BadBracket
-unfolding kept_front kept_item
+pub bad_bracket : (kept : List (List Edge)) (behind : List ℕ) → bracket_words behind ≡ None → kept_prefix kept (91 ∷ behind) ≡ Err BadBracket
+unfolding kept_prefix kept_item
 bad_bracket kept behind bad = rw (bad, kept_item) refl
 
 -- the length of a good bracket is that of the text inside it and 2 for the brackets
-pub bracket_len : (behind words : List ℕ) → IsInside behind words → length words + 2 ≡ front_len (91 ∷ behind)
-unfolding front_len
+pub bracket_len : (behind words : List ℕ) → IsInside behind words → length words + 2 ≡ first_word_len (91 ∷ behind)
+unfolding first_word_len
 bracket_len behind words inside = rw (← inside.len) (omega arith)
 
 -- the relaxations of a text's first word are kept
-pub kept_run : (kept : List (List Edge)) (text word : List ℕ) → ends_here text ≡ false → IsFrontWord text word → kept_front kept text ≡ kept_words kept (words_of word)
-unfolding ends_here kept_front front_words kept_item
-kept_run kept [] word here front = absurd (false≢true (sym here))
-kept_run kept (byte ∷ behind) word here front =
-    rw (first_false (is_separator byte) (is_bracket byte) here) (rw (front.words, kept_item) refl)
+pub kept_run : (kept : List (List Edge)) (text word : List ℕ) → ends_here text ≡ false → IsFirstWord text word → kept_prefix kept text ≡ kept_words kept (words_of word)
+unfolding ends_here kept_prefix first_words kept_item
+kept_run kept [] word here prefix = absurd (false≢true (sym here))
+kept_run kept (byte ∷ behind) word here prefix =
+    rw (first_false (is_separator byte) (is_bracket byte) here) (rw (prefix.words, kept_item) refl)
 
 -- the cases of a text by its first byte
 -- a text whose first byte is `[` is that byte and the rest
@@ -129,20 +129,20 @@ at_bracket [] first = absurd (omega arith)
 at_bracket (byte ∷ behind) first = ap (λ b. b ∷ behind) first
 
 -- a text that begins with `]` is refused
-pub at_closing : (kept : List (List Edge)) (text : List ℕ) → get_or text 0 0 ≡ 93 → kept_front kept text ≡ Err BadBracket
-unfolding kept_front kept_item
+pub at_closing : (kept : List (List Edge)) (text : List ℕ) → get_or text 0 0 ≡ 93 → kept_prefix kept text ≡ Err BadBracket
+unfolding kept_prefix kept_item
 at_closing kept [] first = absurd (omega arith)
-at_closing kept (byte ∷ behind) first = subst (λ b. kept_front kept (b ∷ behind) ≡ Err BadBracket) (sym first) refl
+at_closing kept (byte ∷ behind) first = subst (λ b. kept_prefix kept (b ∷ behind) ≡ Err BadBracket) (sym first) refl
 
 -- at a separator nothing more is kept
-pub at_separator : (kept : List (List Edge)) (text : List ℕ) → is_separator (get_or text 0 0) ≡ true → kept_front kept text ≡ Ok kept
-unfolding kept_front
+pub at_separator : (kept : List (List Edge)) (text : List ℕ) → is_separator (get_or text 0 0) ≡ true → kept_prefix kept text ≡ Ok kept
+unfolding kept_prefix
 at_separator kept [] s = refl
 at_separator kept (byte ∷ behind) s = rw s refl
 
 -- a separator is one byte long
-pub at_separator_len : (text : List ℕ) → 0 < length text → is_separator (get_or text 0 0) ≡ true → 1 ≡ front_len text
-unfolding front_len
+pub at_separator_len : (text : List ℕ) → 0 < length text → is_separator (get_or text 0 0) ≡ true → 1 ≡ first_word_len text
+unfolding first_word_len
 at_separator_len [] some s = absurd (omega arith)
 at_separator_len (byte ∷ behind) some s = rw s refl
 

@@ -1,4 +1,4 @@
--- That `put_behind` writes the lines that were kept, and then those of the listed cycles after a cycle.
+-- That `append_after` writes the lines that were kept, and then those of the listed cycles after a cycle.
 use Rattle.std.proofs.Common.{◌≡◌, ◌++◌, Some, None, ap, rules}
 use Rattle.diy_io.specs.SinkLaws.{on_err}
 use Rattle.listing_laws.specs.Listing.{IsAnswer}
@@ -9,8 +9,8 @@ use Rattle.listed_tests.specs.Putting.{Filling}
 use Rattle.listed_tests.proofs.Going.{naming_none, naming_first, naming_written, naming_more, naming_done, naming_stop}
 use Rattle.listed_tests.proofs.Shelves.{filling_begun, filling_more, filling_part, closed_ok, closed_err, ok_so, err_so}
 use Rattle.listed_tests.proofs.Walks.{least_again, tested_as, went_on}
-use Rattle.listed_tests.proofs.names.put_behind.Goals as goal
-use Rattle.listed_tests.proofs.names.put_behind.Goals.{then-remaining_capacity-lt-MAX_LINE+in_ok-append, else-remaining_capacity-lt-MAX_LINE}
+use Rattle.listed_tests.proofs.names.append_after.Goals as goal
+use Rattle.listed_tests.proofs.names.append_after.Goals.{then-remaining_capacity-lt-MAX_LINE+in_ok-append, else-remaining_capacity-lt-MAX_LINE}
 
 pub returns-in_err-create-clause-failed : goal.returns-in_err-create-clause-failed
 returns-in_err-create-clause-failed g c =

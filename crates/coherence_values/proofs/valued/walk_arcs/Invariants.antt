@@ -5,7 +5,7 @@ use Rattle.resolution_laws.specs.Resolution.{moves_before, location_of}
 use Rattle.value_laws.specs.Values.{edge_into, value_of, write_count}
 use Rattle.coherence_values.specs.Arc.{seen_of}
 use Rattle.coherence_values.proofs.Walk.{writes_so_far}
-use Rattle.coherence_values.proofs.valued.walked.Given as goal
+use Rattle.coherence_values.proofs.valued.walk_arcs.Given as goal
 
 abbrev pub invariant-loop-i : goal.invariant-loop-i
 invariant-loop-i l = record {

@@ -8,11 +8,11 @@ use Rattle.listing_laws.specs.Listing.{IsOneOf, IsNext, AreRising, AreAllListed,
 one_of_parts : (us vs : List (List Edge)) (w : List Edge) → IsOneOf (us ++ vs) w → (IsOneOf us w) ⊎ (IsOneOf vs w)
 one_of_parts [] vs w h = inr h
 one_of_parts (u ∷ us) vs w h =
-    elim h [ inl e ↦ inl (inl e) | inr later ↦ elim (one_of_parts us vs w later) [ inl front ↦ inl (inr front) | inr back ↦ inr back ] ]
+    elim h [ inl e ↦ inl (inl e) | inr later ↦ elim (one_of_parts us vs w later) [ inl prefix ↦ inl (inr prefix) | inr back ↦ inr back ] ]
 
-one_of_front : (us vs : List (List Edge)) (w : List Edge) → IsOneOf us w → IsOneOf (us ++ vs) w
-one_of_front [] vs w h = absurd h
-one_of_front (u ∷ us) vs w h = elim h [ inl e ↦ inl e | inr later ↦ inr (one_of_front us vs w later) ]
+one_of_prefix : (us vs : List (List Edge)) (w : List Edge) → IsOneOf us w → IsOneOf (us ++ vs) w
+one_of_prefix [] vs w h = absurd h
+one_of_prefix (u ∷ us) vs w h = elim h [ inl e ↦ inl e | inr later ↦ inr (one_of_prefix us vs w later) ]
 
 one_of_back : (us vs : List (List Edge)) (w : List Edge) → IsOneOf vs w → IsOneOf (us ++ vs) w
 one_of_back [] vs w h = h
@@ -21,33 +21,33 @@ one_of_back (u ∷ us) vs w h = inr (one_of_back us vs w h)
 rising_both : (us vs : List (List Edge)) → AreRising us → AreRising vs → ((u v : List Edge) → IsOneOf us u → IsOneOf vs v → Follows u v) → AreRising (us ++ vs)
 rising_both [] vs r s h = s
 rising_both (u ∷ us) vs r s h = (
-  λ w o. elim (one_of_parts us vs w o) [ inl front ↦ r.0 w front | inr back ↦ h u w (inl refl) back ],
+  λ w o. elim (one_of_parts us vs w o) [ inl prefix ↦ r.0 w prefix | inr back ↦ h u w (inl refl) back ],
   rising_both us vs r.1 s (λ v w p q. h v w (inr p) q),
 )
 
 module _ (listed : List Edge → Type 0) (given : Option (List Edge)) where
   -- the listed cycles up to one, and those after it up to another
-  pub listed_behind : (last : Option (List Edge)) (c : List Edge) (us vs : List (List Edge)) → AreListedTo listed given (Some c) us → AreListedTo listed (Some c) last vs → AreListedTo listed given last (us ++ vs)
-  listed_behind last c us vs a b = record {
-    each = λ w o. elim (one_of_parts us vs w o) [ inl front ↦ a.each w front | inr back ↦ b.each w back ];
-    after = λ w o. elim (one_of_parts us vs w o) [ inl front ↦ a.after w front | inr back ↦ a.beyond w (b.after w back) ];
+  pub listed_after : (last : Option (List Edge)) (c : List Edge) (us vs : List (List Edge)) → AreListedTo listed given (Some c) us → AreListedTo listed (Some c) last vs → AreListedTo listed given last (us ++ vs)
+  listed_after last c us vs a b = record {
+    each = λ w o. elim (one_of_parts us vs w o) [ inl prefix ↦ a.each w prefix | inr back ↦ b.each w back ];
+    after = λ w o. elim (one_of_parts us vs w o) [ inl prefix ↦ a.after w prefix | inr back ↦ a.beyond w (b.after w back) ];
     rising = rising_both us vs a.rising b.rising (λ u v p q. a.before u v p (b.after v q));
-    before = λ u v o h. elim (one_of_parts us vs u o) [ inl front ↦ a.before u v front (b.beyond v h) | inr back ↦ b.before u v back h ];
+    before = λ u v o h. elim (one_of_parts us vs u o) [ inl prefix ↦ a.before u v prefix (b.beyond v h) | inr back ↦ b.before u v back h ];
     beyond = λ w h. a.beyond w (b.beyond w h);
     all = λ w is h. elim (a.all w is h) [
-      | inl front ↦ inl (one_of_front us vs w front)
+      | inl prefix ↦ inl (one_of_prefix us vs w prefix)
       | inr later ↦ elim (b.all w is later) [ inl back ↦ inl (one_of_back us vs w back) | inr more ↦ inr more ]
     ];
   }
 
   -- the listed cycles up to one, and all after it
-  pub all_behind : (c : List Edge) (us vs : List (List Edge)) → AreListedTo listed given (Some c) us → AreAllListed listed (Some c) vs → AreAllListed listed given (us ++ vs)
-  all_behind c us vs a b = record {
-    each = λ w o. elim (one_of_parts us vs w o) [ inl front ↦ a.each w front | inr back ↦ b.each w back ];
-    after = λ w o. elim (one_of_parts us vs w o) [ inl front ↦ a.after w front | inr back ↦ a.beyond w (b.after w back) ];
+  pub all_after : (c : List Edge) (us vs : List (List Edge)) → AreListedTo listed given (Some c) us → AreAllListed listed (Some c) vs → AreAllListed listed given (us ++ vs)
+  all_after c us vs a b = record {
+    each = λ w o. elim (one_of_parts us vs w o) [ inl prefix ↦ a.each w prefix | inr back ↦ b.each w back ];
+    after = λ w o. elim (one_of_parts us vs w o) [ inl prefix ↦ a.after w prefix | inr back ↦ a.beyond w (b.after w back) ];
     rising = rising_both us vs a.rising b.rising (λ u v p q. a.before u v p (b.after v q));
     all = λ w is h. elim (a.all w is h) [
-      | inl front ↦ one_of_front us vs w front
+      | inl prefix ↦ one_of_prefix us vs w prefix
       | inr later ↦ one_of_back us vs w (b.all w is later)
     ];
   }

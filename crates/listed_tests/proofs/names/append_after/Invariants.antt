@@ -1,10 +1,10 @@
--- The loop of `put_behind`: what the file has so far, which lines wait, and that fewer cycles are left.
+-- The loop of `append_after`: what the file has so far, which lines wait, and that fewer cycles are left.
 use Rattle.std.proofs.Common.{◌≡◌}
 use Rattle.listing_laws.specs.Counting.{later}
 use Rattle.cycle_enum.specs.Walking.{Lists}
 use Rattle.listed_tests.specs.Keeping.{Naming}
 use Rattle.listed_tests.specs.Plans.{HaveTests}
-use Rattle.listed_tests.proofs.names.put_behind.Given as goal
+use Rattle.listed_tests.proofs.names.append_after.Given as goal
 
 abbrev pub invariant-loop-cycle : goal.invariant-loop-cycle
 invariant-loop-cycle g l = record {

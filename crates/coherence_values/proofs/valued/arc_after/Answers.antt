@@ -6,8 +6,8 @@ use Rattle.resolution_laws.proofs.Locations.{moves-zero, moves_kept}
 use Rattle.coherence_values.specs.declared.valued.Arc.{Arc}
 use Rattle.coherence_values.specs.Arc.{seen_of}
 use Rattle.coherence_values.proofs.Walk.{into_next, arc_begins, arc_goes_on, walk_step, fresh_arc, arc_wraps, moves_made, writes_before_is}
-use Rattle.coherence_values.proofs.valued.arc_behind.Goals as goal
-use Rattle.coherence_values.proofs.valued.arc_behind.Goals.{then-is_diff, else-is_diff}
+use Rattle.coherence_values.proofs.valued.arc_after.Goals as goal
+use Rattle.coherence_values.proofs.valued.arc_after.Goals.{then-is_diff, else-is_diff}
 
 pub loop-i-init : goal.loop-i-init
 loop-i-init c = record {

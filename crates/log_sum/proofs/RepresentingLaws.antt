@@ -3,16 +3,16 @@ use Rattle.std.proofs.Common.{◌≡◌, ℕ, List, [], ◌∷◌, ◌++◌, Ok,
 use Rattle.std.specs.Prelude.{Result}
 use Rattle.log_sum.specs.declared.errors.LogError.{LogError}
 use Rattle.log_sum.specs.Reading.{Seen, ◌>>=◌, nothing_seen, files_judged, input_judged}
-use Rattle.log_sum.specs.Standing.{Kept, StandsFor, kept_text, logs_text}
+use Rattle.log_sum.specs.Representing.{Kept, Represents, kept_text, logs_text}
 use Rattle.log_sum.specs.SumText.{sum_text}
 use Rattle.log_sum.proofs.PrintLaws.{sum_is}
 use Rattle.log_sum.proofs.StayLaws.{files_fault, file_more, nothing_more}
 
 -- the printed sum of what represents whole logs is theirs
-pub standing_text : (kept : Kept) (files : List (List ℕ)) → StandsFor kept files [] → logs_text files ≡ Ok (kept_text kept)
+pub represented_text : (kept : Kept) (files : List (List ℕ)) → Represents kept files [] → logs_text files ≡ Ok (kept_text kept)
 unfolding logs_text
-standing_text kept files stands =
-    ap (λ (r : Result Seen LogError). r >>= λ seen. Ok (sum_text seen.entries)) (sym (nothing_more files) ∙ stands.judged) ∙ ap Ok (sym (sum_is kept files [] stands))
+represented_text kept files represents =
+    ap (λ (r : Result Seen LogError). r >>= λ seen. Ok (sum_text seen.entries)) (sym (nothing_more files) ∙ represents.judged) ∙ ap Ok (sym (sum_is kept files [] represents))
 
 -- a fault of the bytes so far stays the first fault, whatever follows
 pub fault_stays : (files : List (List ℕ)) (bytes rest : List ℕ) (more : List (List ℕ)) (error : LogError)
