@@ -9,9 +9,9 @@ use Rattle.program_meaning.specs.declared.WriteAt.{WriteAt}
 use Rattle.program_meaning.specs.Accesses.{Access, read, write, is_read}
 use Rattle.program_meaning.specs.Executions.{Execution}
 use Rattle.program_meaning.specs.Programs.{Program, Thread, IsCandidate, IsCoherentIn, accesses_in}
-use Rattle.communication.proofs.Accesses.{got_from_list}
-use Rattle.communication.proofs.Examples.{name}
-use Rattle.communication.proofs.Decided.{every, every_means, candidate_means, coheres_means}
+use Rattle.communication_laws.proofs.Accesses.{got_from_list}
+use Rattle.communication_laws.proofs.Examples.{name}
+use Rattle.communication_laws.proofs.Decided.{every, every_means, candidate_means, coheres_means}
 use Rattle.coherence_laws.specs.Relations.{IsPath, IsScPerLocation, Po, Rf, Co, Fr}
 use Rattle.coherence_laws.specs.Laws.{WritesWithin}
 use Rattle.coherence_laws.proofs.Laws.{candidates_are_sc_per_location}

@@ -1,7 +1,7 @@
 -- The law of this crate, from its two directions.
 use Rattle.coherence_laws.specs.Laws.{CoherenceIsScPerLocation, CandidatesAreScPerLocation, CycleTestsAreScPerLocation}
 use Rattle.program_meaning.specs.Programs.{accesses_in}
-use Rattle.communication.proofs.Bridge.{resolves}
+use Rattle.communication_laws.proofs.Bridge.{resolves}
 use Rattle.coherence_laws.proofs.Places.{held}
 use Rattle.coherence_laws.proofs.Steps.{no_cycle}
 use Rattle.coherence_laws.proofs.Shapes.{coherent}

@@ -9,11 +9,11 @@ use Rattle.program_meaning.specs.Accesses.{Access, write, got_from, at_name}
 use Rattle.program_meaning.specs.Executions.{Execution}
 use Rattle.program_meaning.specs.Programs.{Program, IsCandidate, accesses_in}
 use Rattle.program_meaning.specs.Intended.{IsNumbering, cycle_accesses}
-use Rattle.communication.specs.Joining.{Makes, filled, values_left, values_read}
-use Rattle.communication.proofs.Lists.{Got, got_below}
-use Rattle.communication.proofs.Accesses.{EventAt, LoadAt, GotFrom, by_origin, got_from_list}
-use Rattle.communication.proofs.Programs.{accesses-count}
-use Rattle.communication.proofs.Resolves.{Resolves}
+use Rattle.communication_laws.specs.Joining.{Makes, filled, values_left, values_read}
+use Rattle.communication_laws.proofs.Lists.{Got, got_below}
+use Rattle.communication_laws.proofs.Accesses.{EventAt, LoadAt, GotFrom, by_origin, got_from_list}
+use Rattle.communication_laws.proofs.Programs.{accesses-count}
+use Rattle.communication_laws.proofs.Resolves.{Resolves}
 use Rattle.coherence_laws.specs.Laws.{WritesWithin}
 
 -- an access whose value was filled in has the direction and the place of the one that was planned

@@ -9,7 +9,7 @@ use Rattle.program_meaning.specs.Executions.{Execution, IsExecutionOf}
 use Rattle.program_meaning.specs.Coherence.{IsCoherent}
 use Rattle.program_meaning.specs.Programs.{Program, IsCandidate, IsCoherentIn, accesses_in}
 use Rattle.program_meaning.specs.Intended.{IsNumbering}
-use Rattle.communication.specs.Joining.{Makes}
+use Rattle.communication_laws.specs.Joining.{Makes}
 use Rattle.coherence_laws.specs.Relations.{IsWriteTo, IsScPerLocation}
 
 -- each write is to one of so many places, so that it is in a coherence order

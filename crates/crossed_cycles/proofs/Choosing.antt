@@ -9,7 +9,7 @@ use Rattle.relax_edges.specs.declared.edge.Edge.{Edge}
 use Rattle.relax_edges.specs.declared.kinds.ObsMode.{ObsMode}
 use Rattle.list_laws.proofs.Cases.{by_test}
 use Rattle.arch_trait.specs.Threads.{Puts}
-use Rattle.listing_laws.specs.Listing.{concatenated}
+use Rattle.walk_laws.specs.Listing.{concatenated}
 use Rattle.crossed_cycles.specs.Choices.{choices, first_kept, is_accepted, crossed}
 use Rattle.crossed_cycles.specs.Steps.{keep, keep_accepted, chosen, chosen_first}
 use Rattle.crossed_cycles.proofs.Keeping.{all_kept, accepted_kept}

@@ -7,10 +7,10 @@ use Rattle.std.proofs.lemmas.Bool.{not-true}
 use Rattle.relax_edges.specs.declared.kinds.ObsMode.{ObsMode}
 use Rattle.relax_edges.specs.declared.edge.Edge.{Edge}
 use Rattle.list_laws.proofs.Cases.{by_test}
-use Rattle.walk_laws.specs.Composable.{IsCycle}
-use Rattle.walk_laws.specs.Rotation.{IsRotation}
-use Rattle.walk_laws.proofs.Rotating.{rotation_same, rotation_on}
-use Rattle.listing_laws.specs.Listing.{IsOneOf, concatenated}
+use Rattle.cycle_laws.specs.Composable.{IsCycle}
+use Rattle.cycle_laws.specs.Rotation.{IsRotation}
+use Rattle.cycle_laws.proofs.Rotating.{rotation_same, rotation_on}
+use Rattle.walk_laws.specs.Listing.{IsOneOf, concatenated}
 use Rattle.edge_algebra.specs.Compose.{composed}
 use Rattle.edge_algebra.proofs.Composed.{composes_exactly}
 use Rattle.arch_trait.specs.Threads.{Puts}

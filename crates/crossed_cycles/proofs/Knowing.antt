@@ -9,8 +9,8 @@ use Rattle.indexmap.specs.IndexSet.{insert_key}
 use Rattle.relax_edges.specs.declared.edge.Edge.{Edge}
 use Rattle.relax_edges.specs.Order.{rank_of}
 use Rattle.relax_edges.proofs.Ranks.{rank_injective}
-use Rattle.walk_laws.specs.Rotation.{IsRotation}
-use Rattle.walk_laws.proofs.Rotating.{least_same, same_least, rotation_length}
+use Rattle.cycle_laws.specs.Rotation.{IsRotation}
+use Rattle.cycle_laws.proofs.Rotating.{least_same, same_least, rotation_length}
 use Rattle.crossed_cycles.specs.declared.normal_form.NormalForm.{NormalForm}
 use Rattle.crossed_cycles.specs.Choices.{is_turn}
 use Rattle.crossed_cycles.specs.Steps.{keep}

@@ -6,8 +6,8 @@ use Rattle.relax_edges.specs.declared.edge.Edge.{Edge}
 use Rattle.relax_edges.specs.Relaxations.{is_same}
 use Rattle.relax_edges.proofs.Ranks.{rank_decides}
 use Rattle.list_laws.proofs.Finds.{any_upto, any_upto_passing}
-use Rattle.walk_laws.specs.Rotation.{IsRotation, rotated}
-use Rattle.walk_laws.proofs.Rotating.{rotation_on, rotation_of_place, place_of_rotation}
+use Rattle.cycle_laws.specs.Rotation.{IsRotation, rotated}
+use Rattle.cycle_laws.proofs.Rotating.{rotation_on, rotation_of_place, place_of_rotation}
 use Rattle.crossed_cycles.specs.Choices.{is_turn}
 
 -- the test of two lists of edges decides whether they are equal

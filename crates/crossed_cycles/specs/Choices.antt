@@ -6,9 +6,9 @@ use Rattle.relax_edges.specs.declared.kinds.ObsMode.{ObsMode}
 use Rattle.relax_edges.specs.declared.edge.Edge.{Edge}
 use Rattle.relax_edges.specs.Relaxations.{is_same}
 use Rattle.list_laws.specs.Numbers.{upto}
-use Rattle.walk_laws.specs.Rotation.{rotated}
+use Rattle.cycle_laws.specs.Rotation.{rotated}
 use Rattle.edge_algebra.specs.Compose.{composed}
-use Rattle.listing_laws.specs.Listing.{concatenated}
+use Rattle.walk_laws.specs.Listing.{concatenated}
 use Rattle.arch_trait.specs.Threads.{Puts}
 use Rattle.test_maker.specs.Refusals.{refusal_of}
 

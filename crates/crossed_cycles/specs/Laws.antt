@@ -2,9 +2,9 @@
 use Rattle.std.specs.Prelude.{◌≡◌, ⊤, None, List, [], ◌∷◌}
 use Rattle.relax_edges.specs.declared.kinds.ObsMode.{ObsMode}
 use Rattle.relax_edges.specs.declared.edge.Edge.{Edge}
-use Rattle.walk_laws.specs.Composable.{IsCycle}
-use Rattle.walk_laws.specs.Rotation.{IsRotation}
-use Rattle.listing_laws.specs.Listing.{IsOneOf, concatenated}
+use Rattle.cycle_laws.specs.Composable.{IsCycle}
+use Rattle.cycle_laws.specs.Rotation.{IsRotation}
+use Rattle.walk_laws.specs.Listing.{IsOneOf, concatenated}
 use Rattle.arch_trait.specs.Threads.{Puts}
 use Rattle.test_maker.specs.Refusals.{refusal_of}
 use Rattle.crossed_cycles.specs.Choices.{crossed}

@@ -3,7 +3,7 @@
 use Rattle.std.specs.Prelude.{Bool, cond, List, [], ◌∷◌, ◌++◌, map, fold}
 use Rattle.std.specs.List.{flat_map, list_any}
 use Rattle.relax_edges.specs.declared.edge.Edge.{Edge}
-use Rattle.listing_laws.specs.Listing.{concatenated}
+use Rattle.walk_laws.specs.Listing.{concatenated}
 use Rattle.crossed_cycles.specs.Choices.{choices, is_turn}
 
 -- a list is kept after others, unless it is a rotation of one of them

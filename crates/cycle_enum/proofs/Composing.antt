@@ -3,8 +3,8 @@ use Rattle.std.proofs.Common.{◌≡◌, ◌<◌, ℕ, Bool, true, false, cond, 
 use Rattle.relax_edges.specs.declared.TheConstants.{MAX_EDGES}
 use Rattle.relax_edges.specs.declared.edge.Edge.{Edge}
 use Rattle.std.proofs.lemmas.Bool.{and_parts, true≢false}
-use Rattle.walk_laws.specs.Composable.{IsCycle, first_break, is_joined, last_joins}
-use Rattle.walk_laws.proofs.Composing.{joined_parts}
+use Rattle.cycle_laws.specs.Composable.{IsCycle, first_break, is_joined, last_joins}
+use Rattle.cycle_laws.proofs.Composing.{joined_parts}
 use Rattle.edge_algebra.specs.declared.errors.CycleError.{CycleError}
 use Rattle.edge_algebra.specs.declared.errors.CycleError.TheVariants.{TooLong}
 use Rattle.edge_algebra.specs.Compose.{composed, unbroken}

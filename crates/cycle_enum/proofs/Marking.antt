@@ -6,8 +6,8 @@ use Rattle.relax_edges.specs.declared.order.TheConstants.{EDGES}
 use Rattle.relax_edges.specs.declared.edge.Edge.{Edge}
 use Rattle.relax_edges.specs.Order.{rank_of}
 use Rattle.relax_edges.proofs.Ranks.{rank_below}
-use Rattle.walk_laws.proofs.Ordering.{by_rank}
-use Rattle.listing_laws.specs.Search.{OccursIn, IsIn}
+use Rattle.cycle_laws.proofs.Ordering.{by_rank}
+use Rattle.walk_laws.specs.Search.{OccursIn, IsIn}
 use Rattle.cycle_enum.specs.Marks.{IsMarked, MarksAlso, MarksAlphabet}
 
 -- one edge is marked

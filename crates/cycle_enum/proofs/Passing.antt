@@ -5,9 +5,9 @@ use Rattle.relax_edges.specs.declared.order.TheConstants.{EDGES}
 use Rattle.relax_edges.specs.declared.edge.Edge.{Edge}
 use Rattle.relax_edges.specs.Order.{rank_of}
 use Rattle.relax_edges.proofs.Ranks.{rank_below, rank_injective}
-use Rattle.walk_laws.specs.Composable.{last_joins}
-use Rattle.listing_laws.specs.Search.{IsCandidate, IsNextEdge, NoneBetween, OccursIn}
-use Rattle.listing_laws.proofs.Candidates.{unused_nowhere, unjoined_next, none_smaller}
+use Rattle.cycle_laws.specs.Composable.{last_joins}
+use Rattle.walk_laws.specs.Search.{IsCandidate, IsNextEdge, NoneBetween, OccursIn}
+use Rattle.walk_laws.proofs.Candidates.{unused_nowhere, unjoined_next, none_smaller}
 use Rattle.cycle_enum.specs.Letters.{NoLetter, IsFirstLetter, least_rank}
 
 module _ (relaxes : List (List Edge)) (prefix : List Edge) (from : ℕ) where

@@ -5,7 +5,7 @@ use Rattle.std.specs.List.{AllByRecursion}
 use Rattle.relax_edges.specs.declared.order.TheConstants.{EDGES}
 use Rattle.relax_edges.specs.declared.edge.Edge.{Edge}
 use Rattle.relax_edges.specs.Order.{rank_of}
-use Rattle.listing_laws.specs.Search.{OccursIn, IsSingle}
+use Rattle.walk_laws.specs.Search.{OccursIn, IsSingle}
 
 -- no letter has rank `from` or more, and below `to`
 abbrev pub NoLetter : (Edge → Type 0) → ℕ → ℕ → Type 0

@@ -3,7 +3,7 @@
 use Rattle.std.specs.Prelude.{◌≡◌, ◌↔◌, ◌⊎◌, Bool, true, false, List, get_or}
 use Rattle.relax_edges.specs.declared.edge.Edge.{Edge}
 use Rattle.relax_edges.specs.Order.{rank_of}
-use Rattle.listing_laws.specs.Search.{IsIn, OccursIn}
+use Rattle.walk_laws.specs.Search.{IsIn, OccursIn}
 
 -- an edge is marked
 abbrev pub IsMarked : List Bool → Edge → Type 0

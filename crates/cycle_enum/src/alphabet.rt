@@ -1,8 +1,8 @@
 ghost use Rattle.std.specs.Prelude.{◌≡◌, ◌<◌, ◌≤◌, ◌↔◌, ◌∷◌, [], IsTrue, IsFalse, IfSome, length, true};
 ghost use Rattle.std.specs.List.{AllByRecursion};
-ghost use Rattle.walk_laws.specs.Composable.{IsCycle, last_joins};
-ghost use Rattle.listing_laws.specs.Listing.{IsMadeOf};
-ghost use Rattle.listing_laws.specs.Search.{IsCandidate, IsExtended, IsNextEdge, IsRaised, IsSingle, LeadsNowhere, OccursIn};
+ghost use Rattle.cycle_laws.specs.Composable.{IsCycle, last_joins};
+ghost use Rattle.walk_laws.specs.Listing.{IsMadeOf};
+ghost use Rattle.walk_laws.specs.Search.{IsCandidate, IsExtended, IsNextEdge, IsRaised, IsSingle, LeadsNowhere, OccursIn};
 ghost use Rattle.cycle_enum.specs.Letters.{least_rank};
 
 use crate::letters::{Letters, letters_of};

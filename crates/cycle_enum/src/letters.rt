@@ -1,5 +1,5 @@
 ghost use Rattle.std.specs.Prelude.{◌≡◌};
-ghost use Rattle.listing_laws.specs.Search.{OccursIn};
+ghost use Rattle.walk_laws.specs.Search.{OccursIn};
 ghost use Rattle.cycle_enum.specs.Letters.{HasLettersFrom};
 ghost use Rattle.cycle_enum.specs.Marks.{IsMarked, MarksAlphabet, MarksAlso};
 

@@ -1,8 +1,8 @@
 ghost use Rattle.std.specs.Prelude.{◌≡◌, ◌<◌, ◌≤◌, ◌+◌, ◌↔◌, [], length, IsTrue, IsFalse};
 ghost use Rattle.std.specs.List.{list_any};
-ghost use Rattle.listing_laws.specs.Listing.{IsConcatenation, IsMadeOf};
-ghost use Rattle.listing_laws.specs.Reading.{fits, leads, suffixes_read, suffix_leads};
-ghost use Rattle.listing_laws.specs.Search.{LeadsNowhere};
+ghost use Rattle.walk_laws.specs.Listing.{IsConcatenation, IsMadeOf};
+ghost use Rattle.walk_laws.specs.Reading.{fits, leads, suffixes_read, suffix_leads};
+ghost use Rattle.walk_laws.specs.Search.{LeadsNowhere};
 ghost use Rattle.cycle_enum.specs.Ends.{is_inside};
 
 use arrayvec::ArrayVec;

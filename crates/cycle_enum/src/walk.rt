@@ -1,9 +1,9 @@
 ghost use Rattle.std.specs.Prelude.{◌≡◌, ◌<◌, ◌≤◌, [], Some, None, IfSome, IfNone, MatchOption, IsTrue, IsFalse, length};
-ghost use Rattle.listing_laws.specs.Asked.{KeptBelow, KeptWhole};
-ghost use Rattle.listing_laws.specs.Counting.{later};
-ghost use Rattle.listing_laws.specs.Listing.{IsAnswer, KeepsLimits};
-ghost use Rattle.walk_laws.specs.Order.{IsLeast};
-ghost use Rattle.listing_laws.specs.Search.{IsCut, IsFirst, LeadsNowhere, LongerThan, OfLength};
+ghost use Rattle.walk_laws.specs.Asked.{KeptBelow, KeptWhole};
+ghost use Rattle.walk_laws.specs.Counting.{later};
+ghost use Rattle.walk_laws.specs.Listing.{IsAnswer, KeepsLimits};
+ghost use Rattle.cycle_laws.specs.Order.{IsLeast};
+ghost use Rattle.walk_laws.specs.Search.{IsCut, IsFirst, LeadsNowhere, LongerThan, OfLength};
 ghost use Rattle.cycle_enum.specs.Walking.{Keeps, KnowsOf, Lists, Walking};
 
 use crate::alphabet::{Alphabet, closes};

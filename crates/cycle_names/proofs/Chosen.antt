@@ -8,12 +8,12 @@ use Rattle.list_laws.proofs.Cases.{by_option}
 use Rattle.relax_edges.specs.declared.edge.Edge.{Edge}
 use Rattle.relax_edges.specs.Order.{rank_of}
 use Rattle.relax_edges.proofs.Ranks.{rank_injective}
-use Rattle.walk_laws.specs.Composable.{IsCycle}
-use Rattle.walk_laws.specs.Rotation.{IsRotation, rotated}
-use Rattle.walk_laws.specs.Order.{ranks_below, IsLeast}
-use Rattle.walk_laws.proofs.Laws.{cycle_of_rotation}
-use Rattle.walk_laws.proofs.Rotating.{rotation_same, rotation_back, rotation_on, rotation_length, place_of_rotation, rotation_of_place}
-use Rattle.walk_laws.proofs.Ordering.{above_of_ranks}
+use Rattle.cycle_laws.specs.Composable.{IsCycle}
+use Rattle.cycle_laws.specs.Rotation.{IsRotation, rotated}
+use Rattle.cycle_laws.specs.Order.{ranks_below, IsLeast}
+use Rattle.cycle_laws.proofs.Laws.{cycle_of_rotation}
+use Rattle.cycle_laws.proofs.Rotating.{rotation_same, rotation_back, rotation_on, rotation_length, place_of_rotation, rotation_of_place}
+use Rattle.cycle_laws.proofs.Ordering.{above_of_ranks}
 use Rattle.cycle_names.specs.declared.family.Family.{Family}
 use Rattle.cycle_names.specs.Families.{family_edges, all_families}
 use Rattle.cycle_names.specs.Links.{slot_of, outline}

@@ -14,10 +14,10 @@ use Rattle.relax_edges.specs.EdgeTable.{target_mark}
 use Rattle.relax_edges.specs.Words.{word_of}
 use Rattle.std.specs.List.{join_by}
 use Rattle.std.proofs.lemmas.Option.{same_Some}
-use Rattle.walk_laws.specs.Composable.{IsCycle, first_break}
-use Rattle.walk_laws.specs.Order.{IsLeast}
-use Rattle.walk_laws.specs.Rotation.{rotated}
-use Rattle.walk_laws.proofs.Rotating.{rotation_length}
+use Rattle.cycle_laws.specs.Composable.{IsCycle, first_break}
+use Rattle.cycle_laws.specs.Order.{IsLeast}
+use Rattle.cycle_laws.specs.Rotation.{rotated}
+use Rattle.cycle_laws.proofs.Rotating.{rotation_length}
 use Rattle.edge_algebra.specs.declared.errors.CycleError.{CycleError}
 use Rattle.edge_algebra.specs.declared.errors.CycleError.TheVariants.{TooLong}
 use Rattle.edge_algebra.specs.Compose.{composed, unbroken}

@@ -8,8 +8,8 @@ use Rattle.relax_edges.specs.declared.edge.Edge.{Edge}
 use Rattle.relax_edges.specs.EdgeTable.{is_diff}
 use Rattle.relax_edges.specs.Order.{rank_of}
 use Rattle.relax_edges.specs.Relaxations.{is_same}
-use Rattle.walk_laws.specs.Rotation.{IsRotation, rotated}
-use Rattle.walk_laws.proofs.Rotating.{rotation_back, rotation_on, rotation_length, place_of_rotation, rotation_of_place}
+use Rattle.cycle_laws.specs.Rotation.{IsRotation, rotated}
+use Rattle.cycle_laws.proofs.Rotating.{rotation_back, rotation_on, rotation_length, place_of_rotation, rotation_of_place}
 use Rattle.cycle_names.specs.declared.family.Family.{Family}
 use Rattle.cycle_names.specs.declared.family.Family.TheVariants as families
 use Rattle.cycle_names.specs.Families.{family_edges, family_word, all_families}

@@ -10,9 +10,9 @@ use Rattle.relax_edges.specs.declared.kinds.Mark.{Mark}
 use Rattle.relax_edges.specs.declared.kinds.Mark.TheVariants.{Plain}
 use Rattle.relax_edges.specs.declared.edge.Edge.{Edge}
 use Rattle.relax_edges.specs.EdgeTable.{kind_of, source_mark, target_mark, same_mark, joins_to, is_external, is_diff, unmarked, marked_edge}
-use Rattle.walk_laws.specs.Composable.{is_joined, is_closed}
-use Rattle.walk_laws.proofs.Joining.{same_mark_is, joined_marks}
-use Rattle.walk_laws.proofs.Marks.{marked_edge_of}
+use Rattle.cycle_laws.specs.Composable.{is_joined, is_closed}
+use Rattle.cycle_laws.proofs.Joining.{same_mark_is, joined_marks}
+use Rattle.cycle_laws.proofs.Marks.{marked_edge_of}
 use Rattle.cycle_names.specs.Links.{slot_of}
 use Rattle.cycle_names.specs.Rotations.{is_plain_before, all_plain, is_plain_outside}
 use Rattle.cycle_names.specs.Reading.{before, last_mark, marked_between, marked_along, marked_around}

@@ -5,7 +5,7 @@ use Rattle.std.proofs.Common.{refl, sym, ◌∙◌, ap, inl, inr, arith}
 use Rattle.std.proofs.lemmas.List.{map_push, map-append, drop-map, take-map}
 use Rattle.list_laws.specs.Numbers.{upto}
 use Rattle.list_laws.proofs.Cases.{by_test, by_option, by_less}
-use Rattle.walk_laws.specs.Rotation.{rotated}
+use Rattle.cycle_laws.specs.Rotation.{rotated}
 
 module _ {A : Type 0} where
   -- x is a member of a list

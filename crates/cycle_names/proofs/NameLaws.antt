@@ -14,10 +14,10 @@ use Rattle.relax_edges.specs.declared.edge.Edge.{Edge}
 use Rattle.relax_edges.specs.EdgeTable.{is_diff, is_of_arch}
 use Rattle.relax_edges.specs.Words.{word_of}
 use Rattle.relax_edges.proofs.WordBounds.{word_short}
-use Rattle.walk_laws.specs.Composable.{IsCycle}
-use Rattle.walk_laws.specs.Rotation.{IsRotation}
-use Rattle.walk_laws.proofs.Laws.{cycle_of_rotation}
-use Rattle.walk_laws.proofs.Rotating.{rotation_back, rotation_on, rotation_length}
+use Rattle.cycle_laws.specs.Composable.{IsCycle}
+use Rattle.cycle_laws.specs.Rotation.{IsRotation}
+use Rattle.cycle_laws.proofs.Laws.{cycle_of_rotation}
+use Rattle.cycle_laws.proofs.Rotating.{rotation_back, rotation_on, rotation_length}
 use Rattle.cycle_names.specs.declared.family.Family.{Family}
 use Rattle.cycle_names.specs.Families.{family_word}
 use Rattle.cycle_names.specs.Links.{link_word, link_words}

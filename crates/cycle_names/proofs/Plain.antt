@@ -4,7 +4,7 @@ use Rattle.std.proofs.Common.{refl, sym, ◌∙◌, ap, append_assoc}
 use Rattle.std.proofs.lemmas.List.{append-nil, take-append-drop}
 use Rattle.std.proofs.Math.Bool.{and_assoc, and_comm}
 use Rattle.relax_edges.specs.declared.edge.Edge.{Edge}
-use Rattle.walk_laws.specs.Rotation.{rotated}
+use Rattle.cycle_laws.specs.Rotation.{rotated}
 use Rattle.cycle_names.specs.Rotations.{is_plain_before, all_plain, is_plain_outside}
 
 plain_prefix : (e m : Edge) (a b : List Edge) → is_plain_before e (a ++ m ∷ b) ≡ is_plain_before e (a ++ m ∷ [])

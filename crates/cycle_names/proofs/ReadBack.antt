@@ -15,9 +15,9 @@ use Rattle.relax_edges.specs.Words.{word_of}
 use Rattle.relax_edges.specs.Spelling.{edge_of}
 use Rattle.relax_edges.proofs.Spellings.{edge_of-word_of}
 use Rattle.relax_edges.proofs.RelaxWords.{before_first-no}
-use Rattle.walk_laws.specs.Composable.{IsCycle}
-use Rattle.walk_laws.proofs.Laws.{cycle_of_rotation}
-use Rattle.walk_laws.proofs.Rotating.{rotation_length}
+use Rattle.cycle_laws.specs.Composable.{IsCycle}
+use Rattle.cycle_laws.proofs.Laws.{cycle_of_rotation}
+use Rattle.cycle_laws.proofs.Rotating.{rotation_length}
 use Rattle.cycle_names.specs.declared.family.Family.{Family}
 use Rattle.cycle_names.specs.declared.family.Family.TheVariants as families
 use Rattle.cycle_names.specs.Families.{family_word, family_edges, all_families}

@@ -23,8 +23,8 @@ use Rattle.relax_edges.specs.declared.edge.Edge.TheVariants as edges
 use Rattle.relax_edges.specs.EdgeTable.{kind_of, source_mark, target_mark, is_diff, same_dir}
 use Rattle.relax_edges.specs.Order.{pick_rank}
 use Rattle.relax_edges.specs.Relaxations.{is_same}
-use Rattle.walk_laws.specs.Order.{ranks_below}
-use Rattle.walk_laws.specs.Rotation.{rotated}
+use Rattle.cycle_laws.specs.Order.{ranks_below}
+use Rattle.cycle_laws.specs.Rotation.{rotated}
 use Rattle.cycle_names.specs.declared.slot.Slot.{Slot}
 use Rattle.cycle_names.specs.declared.slot.Slot.TheVariants as slots
 use Rattle.cycle_names.specs.declared.family.Family.{Family}

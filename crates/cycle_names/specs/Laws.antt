@@ -4,8 +4,8 @@ use Rattle.std.specs.List.{list_all}
 use Rattle.relax_edges.specs.declared.kinds.ArchName.{ArchName}
 use Rattle.relax_edges.specs.declared.edge.Edge.{Edge}
 use Rattle.relax_edges.specs.EdgeTable.{is_of_arch}
-use Rattle.walk_laws.specs.Composable.{IsCycle}
-use Rattle.walk_laws.specs.Rotation.{IsRotation}
+use Rattle.cycle_laws.specs.Composable.{IsCycle}
+use Rattle.cycle_laws.specs.Rotation.{IsRotation}
 use Rattle.cycle_names.specs.declared.name.TheConstants.{MAX_NAME}
 use Rattle.cycle_names.specs.declared.family.Family.{Family}
 use Rattle.cycle_names.specs.Rotations.{is_of_family, named_rotation}

@@ -2,8 +2,8 @@ ghost use Rattle.std.specs.Prelude.{◌≡◌, ◌<◌, ◌+◌, ◌≤◌, ◌+
 ghost use Rattle.relax_edges.specs.declared.kinds.Mark.TheVariants.{Plain};
 ghost use Rattle.relax_edges.specs.EdgeTable.{target_mark, same_mark, is_external};
 ghost use Rattle.relax_edges.specs.Relaxations.{is_same};
-ghost use Rattle.walk_laws.specs.Composable.{IsCycle};
-ghost use Rattle.walk_laws.specs.Order.{ranks_below};
+ghost use Rattle.cycle_laws.specs.Composable.{IsCycle};
+ghost use Rattle.cycle_laws.specs.Order.{ranks_below};
 ghost use Rattle.cycle_names.specs.Families.{family_edges};
 ghost use Rattle.cycle_names.specs.Links.{outline};
 ghost use Rattle.cycle_names.specs.Rotations.{all_plain, is_plain_outside, found_family};

@@ -1,5 +1,5 @@
 ghost use Rattle.std.specs.Prelude.{◌≡◌, ◌≤◌, ◌<◌, length, IfOk, position};
-ghost use Rattle.walk_laws.specs.Rotation.{rotated};
+ghost use Rattle.cycle_laws.specs.Rotation.{rotated};
 ghost use Rattle.relax_edges.specs.EdgeTable.{is_external};
 ghost use Rattle.resolution_laws.specs.Resolution.{external_count, move_count, ends_outside, turned, event_of, events_of, is_coherence_only, resolution_of, IsResolved};
 

@@ -25,7 +25,7 @@ use Rattle.diy_io.specs.Sink.{Tally, line_feed_count}
 use Rattle.diy_io.specs.Sink as sinks
 use Rattle.test_maker.specs.CycleText.{cycle_text}
 use Rattle.test_maker.specs.Refusals.{refusal_of}
-use Rattle.printed_tests.proofs.Cycles.{cycle_text_short}
+use Rattle.printed_test_laws.proofs.Cycles.{cycle_text_short}
 use Rattle.demo_tests.specs.declared.tally.TestTally.{TestTally}
 use Rattle.demo_tests.specs.Counting.{nothing_counted, counted, Fits}
 use Rattle.family_laws.specs.Filled.{MakesAll}

@@ -42,12 +42,12 @@ use Rattle.listed_tests.specs.declared.ending.ListingEnd.{ListingEnd}
 use Rattle.listed_tests.specs.declared.ending.ListingEnd.TheVariants as listings
 use Rattle.log_sum.specs.declared.errors.LogError.{LogError}
 use Rattle.log_sum.specs.Representing.{logs_text}
-use Rattle.summed_logs.specs.declared.sum_end.SumEnd.{SumEnd}
-use Rattle.summed_logs.specs.declared.sum_end.SumEnd.TheVariants as sums
-use Rattle.summed_logs.specs.Logs.{IsText, IsShort, IsTooMuch, AreRight}
+use Rattle.summed_files.specs.declared.sum_end.SumEnd.{SumEnd}
+use Rattle.summed_files.specs.declared.sum_end.SumEnd.TheVariants as sums
+use Rattle.summed_files.specs.Logs.{IsText, IsShort, IsTooMuch, AreRight}
 use Rattle.file_laws.specs.Opened.{IsFile}
-use Rattle.summed_logs.specs.SumEnds.{AreLogs, IsAtWord, FilesSummed, InputWrong, FileTooMuch, FileMissing}
-use Rattle.summed_logs.specs.SumEnds as summed
+use Rattle.summed_files.specs.SumEnds.{AreLogs, IsAtWord, FilesSummed, InputWrong, FileTooMuch, FileMissing}
+use Rattle.summed_files.specs.SumEnds as summed
 use Rattle.diy_tools.specs.declared.status.Status.{Status}
 use Rattle.diy_tools.specs.declared.status.Refusal.{Refusal}
 use Rattle.diy_tools.proofs.Opened.{long_taken}

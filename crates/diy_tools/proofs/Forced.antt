@@ -11,8 +11,8 @@ use Rattle.relax_edges.specs.declared.kinds.ArchName.TheVariants as archs
 use Rattle.relax_edges.specs.declared.kinds.ObsMode.{ObsMode}
 use Rattle.relax_edges.specs.declared.edge.Edge.{Edge}
 use Rattle.relax_edges.specs.EdgeTable.{is_of_arch}
-use Rattle.walk_laws.specs.Composable.{IsCycle, first_break}
-use Rattle.walk_laws.proofs.Composing.{unbroken_cycle}
+use Rattle.cycle_laws.specs.Composable.{IsCycle, first_break}
+use Rattle.cycle_laws.proofs.Composing.{unbroken_cycle}
 use Rattle.edge_algebra.specs.declared.errors.CycleError.TheVariants as composing
 use Rattle.edge_algebra.specs.Compose.{unbroken}
 use Rattle.resolution_laws.specs.Resolution.{turned}
@@ -42,9 +42,9 @@ use Rattle.diy_words.proofs.RequestForm.{asked_form}
 use Rattle.test_maker.specs.declared.refusal.MakeRefusal.{MakeRefusal}
 use Rattle.test_maker.specs.Refusals.{refusal_of}
 use Rattle.test_maker.proofs.HavingTests.{accepted_has_test}
-use Rattle.printed_tests.specs.Headline.{BytesForce}
-use Rattle.printed_tests.proofs.Cycles.{cycle_named, name_byte}
-use Rattle.printed_tests.proofs.Printed.{printed_force}
+use Rattle.printed_test_laws.specs.Headline.{BytesForce}
+use Rattle.printed_test_laws.proofs.Cycles.{cycle_named, name_byte}
+use Rattle.printed_test_laws.proofs.Printed.{printed_force}
 use Rattle.diy_tools.specs.declared.status.Refusal.{Refusal}
 use Rattle.diy_tools.specs.declared.status.Refusal.TheVariants as refusals
 use Rattle.diy_tools.specs.declared.status.Status.{Status}

@@ -30,9 +30,9 @@ use Rattle.listed_tests.specs.declared.ending.ListingEnd.{ListingEnd}
 use Rattle.listed_tests.specs.declared.ending.ListingEnd.TheVariants as listings
 use Rattle.listed_tests.specs.Ends.{StopsAtTest, StopsAtAll}
 use Rattle.listed_tests.specs.Plans.{IsPlanned, planned_text}
-use Rattle.summed_logs.specs.declared.sum_end.SumEnd.{SumEnd}
-use Rattle.summed_logs.specs.declared.sum_end.SumEnd.TheVariants as sums
-use Rattle.summed_logs.specs.SumEnds.{InputSummed}
+use Rattle.summed_files.specs.declared.sum_end.SumEnd.{SumEnd}
+use Rattle.summed_files.specs.declared.sum_end.SumEnd.TheVariants as sums
+use Rattle.summed_files.specs.SumEnds.{InputSummed}
 use Rattle.diy_tools.specs.declared.status.Status.{Status}
 use Rattle.diy_tools.specs.declared.status.Status.TheVariants as statuses
 use Rattle.diy_tools.specs.declared.status.TextKind.{TextKind}

@@ -13,7 +13,7 @@ use Rattle.relax_edges.specs.EdgeTable.{is_of_arch}
 use Rattle.edge_algebra.specs.declared.errors.CycleError.{CycleError}
 use Rattle.edge_algebra.specs.declared.errors.CycleError.TheVariants as composing
 use Rattle.edge_algebra.specs.Compose.{composed, unbroken}
-use Rattle.walk_laws.specs.Composable.{first_break}
+use Rattle.cycle_laws.specs.Composable.{first_break}
 use Rattle.diy_io.specs.declared.errors.Failed.{Failed}
 use Rattle.diy_io.specs.Wrote.{SinkSeen}
 use Rattle.edge_lists.specs.declared.list.EdgeList.{EdgeList}

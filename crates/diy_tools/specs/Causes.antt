@@ -23,9 +23,9 @@ use Rattle.diy_words.specs.declared.usage.UsageKind.{UsageKind}
 use Rattle.diy_words.specs.declared.usage.UsageKind.TheVariants.{UnknownName}
 use Rattle.diy_words.specs.Requests.{Asked, Sought, WhyAsked, AsksTest, AsksWhy, AsksName, AsksList, AsksFamilies, AsksSum, AsksCross, AsksDemo, AsksCheck, OfEdges, OfName, OfLines, asked_of}
 use Rattle.listed_tests.specs.declared.ending.ListingEnd.TheVariants as listings
-use Rattle.summed_logs.specs.declared.sum_end.SumEnd.{SumEnd}
-use Rattle.summed_logs.specs.declared.sum_end.SumEnd.TheVariants as sums
-use Rattle.summed_logs.specs.SumEnds.{FileMissing}
+use Rattle.summed_files.specs.declared.sum_end.SumEnd.{SumEnd}
+use Rattle.summed_files.specs.declared.sum_end.SumEnd.TheVariants as sums
+use Rattle.summed_files.specs.SumEnds.{FileMissing}
 use Rattle.diy_tools.specs.declared.status.Status.{Status}
 use Rattle.diy_tools.specs.declared.status.Status.TheVariants as statuses
 use Rattle.diy_tools.specs.declared.status.Refusal.{Refusal}

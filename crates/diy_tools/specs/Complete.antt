@@ -13,8 +13,8 @@ use Rattle.diy_io.specs.Count.{Rose}
 use Rattle.diy_io.specs.Shelf.{Files}
 use Rattle.diy_words.specs.declared.usage.Usage.{Usage}
 use Rattle.diy_words.specs.Requests.{Asked, CheckAsked, Sought, AsksTest, AsksWhy, AsksName, AsksList, AsksFamilies, AsksSum, AsksCross, AsksDemo, AsksCheck, OfEdges, OfName, OfLines, asked_of}
-use Rattle.summed_logs.specs.Logs.{IsText, IsShort, AreRight}
-use Rattle.summed_logs.specs.SumEnds.{AreLogs}
+use Rattle.summed_files.specs.Logs.{IsText, IsShort, AreRight}
+use Rattle.summed_files.specs.SumEnds.{AreLogs}
 use Rattle.diy_tools.specs.declared.status.Status.{Status}
 use Rattle.diy_tools.specs.declared.status.Status.TheVariants.{Done, NoMemory}
 use Rattle.diy_tools.specs.Devices.{Devices, Seen, devices}

@@ -10,7 +10,7 @@ use Rattle.diy_io.specs.Wrote.{SinkSeen}
 use Rattle.diy_words.specs.declared.usage.Usage.{Usage}
 use Rattle.diy_words.specs.Requests.{Asked, ListAsked, AsksTest, AsksWhy, AsksList, CrossAsked, AsksCross, asked_of}
 use Rattle.listed_tests.specs.Plans.{IsPlanned, planned_text}
-use Rattle.printed_tests.specs.Headline.{BytesForce}
+use Rattle.printed_test_laws.specs.Headline.{BytesForce}
 use Rattle.diy_tools.specs.declared.status.Status.{Status}
 use Rattle.diy_tools.specs.declared.status.Status.TheVariants.{NoMemory}
 use Rattle.diy_tools.specs.Devices.{Devices, Seen, devices}
@@ -19,7 +19,7 @@ use Rattle.diy_tools.specs.Refused.{refused_of}
 use Rattle.diy_tools.specs.Printing.{Prints}
 use Rattle.diy_tools.specs.TestAnswers.{asked_text, test_name}
 use Rattle.diy_tools.specs.WhyAnswers.{WritesRuns, unshown}
-use Rattle.listing_laws.specs.Listing.{IsOneOf}
+use Rattle.walk_laws.specs.Listing.{IsOneOf}
 use Rattle.diy_tools.specs.CrossAnswers.{AnswersCross, cycles_asked, crossed_text}
 use Rattle.diy_tools.specs.ListAnswers.{AnswersList, plan_asked}
 

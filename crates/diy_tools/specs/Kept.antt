@@ -20,8 +20,8 @@ use Rattle.listed_tests.specs.Plans.{plan_of}
 use Rattle.listed_tests.specs.declared.listing.Listing.{Listing}
 use Rattle.litmus_text.specs.declared.test.Test.{Test}
 use Rattle.litmus_text.specs.Tests.{test_seen}
-use Rattle.summed_logs.specs.declared.sum_end.SumEnd.{SumEnd}
-use Rattle.summed_logs.specs.SumEnds.{InputSummed, FilesSummed}
+use Rattle.summed_files.specs.declared.sum_end.SumEnd.{SumEnd}
+use Rattle.summed_files.specs.SumEnds.{InputSummed, FilesSummed}
 use Rattle.test_maker.specs.CycleText.{cycle_test, cycle_text}
 use Rattle.test_maker.specs.Made.{shown}
 use Rattle.test_maker.specs.Refusals.{refusal_of}

@@ -16,7 +16,7 @@ use Rattle.diy_words.specs.Given.{Held, absorbed, cycle_kept}
 use Rattle.diy_words.specs.declared.usage.Usage.{Usage}
 use Rattle.diy_words.specs.declared.usage.UsageKind.TheVariants.{BadAfter}
 use Rattle.diy_words.specs.Requests.{after_said, cycle_said}
-use Rattle.walk_laws.specs.Composable.{first_break}
+use Rattle.cycle_laws.specs.Composable.{first_break}
 use Rattle.edge_algebra.specs.Compose.{unbroken}
 
 long_none : (es : List Edge) → nat_le (length es) MAX_EDGES ≡ false → result_ok (composed es) ≡ None

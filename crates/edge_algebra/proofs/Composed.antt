@@ -3,9 +3,9 @@ use Rattle.std.proofs.Common.{◌≡◌, ◌<◌, ◌≤◌, inl, inr, ℕ, ◌+
 use Rattle.std.proofs.lemmas.Bool.{lt-ltb, le-ltb, cases_order, cases_lt}
 use Rattle.relax_edges.specs.declared.TheConstants.{MAX_EDGES}
 use Rattle.relax_edges.specs.declared.edge.Edge.{Edge}
-use Rattle.walk_laws.specs.Composable.{joins_first, IsCycle, first_break, last_joins}
-use Rattle.walk_laws.proofs.Composing.{joined_unbroken, break_within}
-use Rattle.walk_laws.proofs.Neighbours.{closed_at_place, break_is, break_is_first}
+use Rattle.cycle_laws.specs.Composable.{joins_first, IsCycle, first_break, last_joins}
+use Rattle.cycle_laws.proofs.Composing.{joined_unbroken, break_within}
+use Rattle.cycle_laws.proofs.Neighbours.{closed_at_place, break_is, break_is_first}
 use Rattle.edge_algebra.specs.declared.errors.CycleError.TheVariants.{Empty, TooLong, DoesNotCompose}
 use Rattle.edge_algebra.specs.declared.errors.JoinError.TheVariants as joins
 use Rattle.edge_algebra.specs.Compose.{composed, unbroken, joined}

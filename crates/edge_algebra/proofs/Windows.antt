@@ -4,10 +4,10 @@ use Rattle.std.proofs.lemmas.List.{append-nil, drop-append-le, length-drop, leng
 use Rattle.std.proofs.Math.Seq.{take-append-add}
 use Rattle.relax_edges.specs.declared.edge.Edge.{Edge}
 use Rattle.relax_edges.specs.Order.{rank_of}
-use Rattle.walk_laws.specs.Rotation.{rotated}
-use Rattle.walk_laws.specs.Order.{Above, IsNormal, ranks_below}
-use Rattle.walk_laws.proofs.Rotating.{rotation_of_place}
-use Rattle.walk_laws.proofs.Ordering.{above_irreflexive, above_transitive, above_of_ranks, ranks_of_above}
+use Rattle.cycle_laws.specs.Rotation.{rotated}
+use Rattle.cycle_laws.specs.Order.{Above, IsNormal, ranks_below}
+use Rattle.cycle_laws.proofs.Rotating.{rotation_of_place}
+use Rattle.cycle_laws.proofs.Ordering.{above_irreflexive, above_transitive, above_of_ranks, ranks_of_above}
 
 -- the part from place k of a list repeated twice, as long as the list, is the rotation from k
 pub window : {A : Type 0} (k : ℕ) (u : List A) → k ≤ length u → take (length u) (drop k (u ++ u)) ≡ rotated k u

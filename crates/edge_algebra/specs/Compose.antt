@@ -8,7 +8,7 @@ use Rattle.edge_algebra.specs.declared.errors.CycleError.TheVariants.{Empty, Too
 use Rattle.edge_algebra.specs.declared.errors.JoinError.{JoinError}
 use Rattle.edge_algebra.specs.declared.errors.JoinError.TheVariants as joins
 use Rattle.edge_algebra.specs.declared.errors.NotClosed.{NotClosed}
-use Rattle.walk_laws.specs.Composable.{first_break, last_joins}
+use Rattle.cycle_laws.specs.Composable.{first_break, last_joins}
 
 -- the list itself where each edge joins the next, cyclically, and else the fault at the first place where one doesn't
 abbrev pub unbroken : List Edge → Option ℕ → Result (List Edge) CycleError

@@ -1,5 +1,5 @@
 ghost use Rattle.std.specs.Prelude.{◌≡◌, ◌<◌, ◌≤◌, [], ◌∷◌, ◌++◌, length, IfOk, IfSome};
-ghost use Rattle.walk_laws.specs.Composable.{IsCycle, first_break};
+ghost use Rattle.cycle_laws.specs.Composable.{IsCycle, first_break};
 ghost use Rattle.edge_algebra.specs.Compose.{composed};
 
 use crate::{Cycle, CycleError};

@@ -1,8 +1,8 @@
 ghost use Rattle.std.specs.Prelude.{◌≡◌, ◌+◌, ◌<◌, ◌≤◌, ◌↔◌, ◌++◌, length, map, IsTrue};
 ghost use Rattle.relax_edges.specs.Order.{rank_of};
-ghost use Rattle.walk_laws.specs.Beginning.{none_below};
-ghost use Rattle.walk_laws.specs.Order.{IsLeast, IsNormal, ranks_below};
-ghost use Rattle.walk_laws.specs.Rotation.{IsRotation, rotated};
+ghost use Rattle.cycle_laws.specs.Beginning.{none_below};
+ghost use Rattle.cycle_laws.specs.Order.{IsLeast, IsNormal, ranks_below};
+ghost use Rattle.cycle_laws.specs.Rotation.{IsRotation, rotated};
 
 use crate::Cycle;
 use arrayvec::ArrayVec;

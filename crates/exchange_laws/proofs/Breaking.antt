@@ -9,8 +9,8 @@ use Rattle.program_meaning.specs.Executions.{Execution}
 use Rattle.program_meaning.specs.Programs.{Program, accesses_in}
 use Rattle.program_meaning.specs.Standing.{AccessAt, Joins, access_at}
 use Rattle.program_meaning.specs.Intended.{cycle_accesses, event_at}
-use Rattle.communication.proofs.AllStand.{is_event_at}
-use Rattle.communication.proofs.Resolves.{Resolves}
+use Rattle.communication_laws.proofs.AllStand.{is_event_at}
+use Rattle.communication_laws.proofs.Resolves.{Resolves}
 use Rattle.exec_meaning.specs.Edges.{EdgeStands}
 
 -- the edge into an event that it doesn't join with the one before doesn't stand in the execution

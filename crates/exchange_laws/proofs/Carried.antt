@@ -10,11 +10,11 @@ use Rattle.program_meaning.specs.Executions.{Execution, IsExecutionOf}
 use Rattle.program_meaning.specs.Coherence.{IsCoherent}
 use Rattle.program_meaning.specs.Programs.{IsCandidate, IsCoherentIn, accesses_in}
 use Rattle.program_meaning.specs.Intended.{IsNumbering, cycle_accesses, intended}
-use Rattle.communication.specs.Premises.{MeetsCondition}
-use Rattle.communication.specs.Joining.{Makes, ReadsAsAsked}
-use Rattle.communication.proofs.Bridge.{resolves}
-use Rattle.communication.proofs.IntendedReads.{reads-count}
-use Rattle.communication.proofs.Programs.{makes_planned, intended_asked}
+use Rattle.communication_laws.specs.Premises.{MeetsCondition}
+use Rattle.communication_laws.specs.Joining.{Makes, ReadsAsAsked}
+use Rattle.communication_laws.proofs.Bridge.{resolves}
+use Rattle.communication_laws.proofs.IntendedReads.{reads-count}
+use Rattle.communication_laws.proofs.Programs.{makes_planned, intended_asked}
 use Rattle.test_laws.specs.Headline.{HasCode}
 use Rattle.test_laws.specs.Steps.{cycle_steps}
 use Rattle.test_laws.proofs.ThreadRuns.{AreCodesOf, AreEnough, all_end}

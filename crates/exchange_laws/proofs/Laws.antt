@@ -14,13 +14,13 @@ use Rattle.program_meaning.specs.Executions.{Execution}
 use Rattle.program_meaning.specs.Coherence.{final_value}
 use Rattle.program_meaning.specs.Programs.{Program}
 use Rattle.program_meaning.specs.Intended.{IsNumbering, cycle_accesses, intended}
-use Rattle.communication.specs.Exchange.{exchanged}
-use Rattle.communication.specs.Laws.{IsUndecided}
-use Rattle.communication.proofs.AllStand.{joined_stand}
-use Rattle.communication.proofs.Bridge.{resolves}
-use Rattle.communication.proofs.Laws.{no_condition_serves_law}
-use Rattle.communication.proofs.Needs.{refused_entry}
-use Rattle.communication.proofs.Resolves.{Resolves}
+use Rattle.communication_laws.specs.Exchange.{exchanged}
+use Rattle.communication_laws.specs.Laws.{IsUndecided}
+use Rattle.communication_laws.proofs.AllStand.{joined_stand}
+use Rattle.communication_laws.proofs.Bridge.{resolves}
+use Rattle.communication_laws.proofs.Laws.{no_condition_serves_law}
+use Rattle.communication_laws.proofs.Needs.{refused_entry}
+use Rattle.communication_laws.proofs.Resolves.{Resolves}
 use Rattle.test_laws.specs.FinalStates.{final_state}
 use Rattle.test_laws.specs.Headline.{HasCode}
 use Rattle.test_laws.proofs.Headline.{renumbered_numbers, renumbered_program}

@@ -20,15 +20,15 @@ use Rattle.litmus_text.proofs.MentionedBack.{reads_back}
 use Rattle.program_meaning.specs.Executions.{Execution}
 use Rattle.program_meaning.specs.Programs.{Program}
 use Rattle.program_meaning.specs.Intended.{intended, location_numbered}
-use Rattle.communication.specs.Exchange.{exchanged, exchanged_order}
-use Rattle.communication.proofs.Lists.{map_same}
+use Rattle.communication_laws.specs.Exchange.{exchanged, exchanged_order}
+use Rattle.communication_laws.proofs.Lists.{map_same}
 use Rattle.test_laws.specs.Headline.{HasCode}
 use Rattle.test_laws.specs.Programs.{test_program}
 use Rattle.test_laws.specs.TestOf.{TestSeen, test_of}
-use Rattle.printed_tests.specs.Headline.{shown_test}
-use Rattle.printed_tests.specs.Readings.{program_read, place_of}
-use Rattle.printed_tests.proofs.Readable.{readable}
-use Rattle.printed_tests.proofs.Rereading.{reread_test, reread_renumbered, by_table, threads_numbered, number_of_location, numbered_same, intended_same}
+use Rattle.printed_test_laws.specs.Headline.{shown_test}
+use Rattle.printed_test_laws.specs.Readings.{program_read, place_of}
+use Rattle.printed_test_laws.proofs.Readable.{readable}
+use Rattle.printed_test_laws.proofs.Rereading.{reread_test, reread_renumbered, by_table, threads_numbered, number_of_location, numbered_same, intended_same}
 use Rattle.exchange_laws.specs.Undecided.{NoneTells, Undecided, BytesUndecided, PrintedUndecided}
 use Rattle.exchange_laws.proofs.Laws.{tests_undecided_law}
 

@@ -21,14 +21,14 @@ use Rattle.program_meaning.specs.Executions.{Execution}
 use Rattle.program_meaning.specs.Programs.{Program, IsCandidate, IsCoherentIn}
 use Rattle.program_meaning.specs.Standing.{AllStand}
 use Rattle.program_meaning.specs.Intended.{intended}
-use Rattle.communication.specs.Exchange.{exchanged}
+use Rattle.communication_laws.specs.Exchange.{exchanged}
 use Rattle.exec_meaning.specs.Edges.{EdgeStands}
 use Rattle.test_laws.specs.FinalStates.{final_state}
 use Rattle.test_laws.specs.Headline.{HasCode, IsRenumbered}
 use Rattle.test_laws.specs.Programs.{test_program}
 use Rattle.test_laws.specs.TestOf.{TestSeen, test_of}
-use Rattle.printed_tests.specs.Headline.{shown_test}
-use Rattle.printed_tests.specs.Readings.{program_read, place_of}
+use Rattle.printed_test_laws.specs.Headline.{shown_test}
+use Rattle.printed_test_laws.specs.Readings.{program_read, place_of}
 
 -- No condition on the final state tells two executions of a program apart, and an edge of a cycle stands in the first alone:
 -- both are candidate executions that are coherent per location; each register of each thread and each place has the same

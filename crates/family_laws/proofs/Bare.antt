@@ -15,7 +15,7 @@ use Rattle.relax_edges.specs.declared.edge.Edge.{Edge}
 use Rattle.relax_edges.specs.declared.edge.Edge.TheVariants as edges
 use Rattle.relax_edges.specs.EdgeTable.{kind_of, source_of, is_external, is_diff, same_dir}
 use Rattle.list_laws.specs.Numbers.{upto}
-use Rattle.walk_laws.specs.Rotation.{rotated}
+use Rattle.cycle_laws.specs.Rotation.{rotated}
 use Rattle.resolution_laws.specs.Resolution.{external_count, move_count, edge_at, ends_outside, turned, thread_of, moves_before, location_of, events_in, moves_in, is_coherence_only}
 use Rattle.value_laws.specs.Values.{write_count, is_write_at}
 

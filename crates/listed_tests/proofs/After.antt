@@ -1,9 +1,9 @@
 -- Listed cycles after others that are listed.
 use Rattle.std.proofs.Common.{◌≡◌, ◌⊎◌, inl, inr, Option, Some, List, [], ◌∷◌, ◌++◌, refl, sym, ◌∙◌, ap, subst}
 use Rattle.relax_edges.specs.declared.edge.Edge.{Edge}
-use Rattle.walk_laws.specs.Order.{Follows}
-use Rattle.walk_laws.proofs.Ordering.{follows_irreflexive, follows_transitive}
-use Rattle.listing_laws.specs.Listing.{IsOneOf, IsNext, AreRising, AreAllListed, AreListedTo}
+use Rattle.cycle_laws.specs.Order.{Follows}
+use Rattle.cycle_laws.proofs.Ordering.{follows_irreflexive, follows_transitive}
+use Rattle.walk_laws.specs.Listing.{IsOneOf, IsNext, AreRising, AreAllListed, AreListedTo}
 
 one_of_parts : (us vs : List (List Edge)) (w : List Edge) → IsOneOf (us ++ vs) w → (IsOneOf us w) ⊎ (IsOneOf vs w)
 one_of_parts [] vs w h = inr h

@@ -3,9 +3,9 @@ use Rattle.std.proofs.Common.{◌≡◌, ℕ, ◌+◌, List, [], ◌∷◌, ◌+
 use Rattle.std.specs.Prelude.{codes, MatchOption}
 use Rattle.std.specs.Fmt.{decimal}
 use Rattle.relax_edges.specs.declared.edge.Edge.{Edge}
-use Rattle.walk_laws.specs.Order.{IsNormal}
-use Rattle.listing_laws.specs.Listing.{IsNext, IsAnswer, AreListedTo}
-use Rattle.listing_laws.proofs.Listings.{listed_first, listed_next, listed_none, listed_once}
+use Rattle.cycle_laws.specs.Order.{IsNormal}
+use Rattle.walk_laws.specs.Listing.{IsNext, IsAnswer, AreListedTo}
+use Rattle.walk_laws.proofs.Listings.{listed_first, listed_next, listed_none, listed_once}
 use Rattle.diy_io.specs.Shelf.{ShelfSeen, Idle, NotCreated}
 use Rattle.listed_tests.specs.declared.names.Closed.{Closed}
 use Rattle.listed_tests.specs.Files.{number_of, file_of, path_of, all_path, file_lines, test_files, count_line}

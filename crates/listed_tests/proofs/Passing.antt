@@ -1,9 +1,9 @@
 -- A walk that passes over cycles that have no test.
 use Rattle.std.proofs.Common.{Option, Some, None, List, inl, inr}
 use Rattle.relax_edges.specs.declared.edge.Edge.{Edge}
-use Rattle.walk_laws.specs.Order.{Follows}
-use Rattle.walk_laws.proofs.Ordering.{follows_transitive, follows_or_same}
-use Rattle.listing_laws.specs.Listing.{ComesAfter, IsNext, IsAnswer}
+use Rattle.cycle_laws.specs.Order.{Follows}
+use Rattle.cycle_laws.proofs.Ordering.{follows_transitive, follows_or_same}
+use Rattle.walk_laws.specs.Listing.{ComesAfter, IsNext, IsAnswer}
 
 -- no listed cycle that comes after the one that was given is passed over up to the last one
 pub record Passes (listed : List Edge → Type 0) (given last : Option (List Edge)) : Type 0 where

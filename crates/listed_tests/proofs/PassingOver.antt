@@ -3,8 +3,8 @@ use Rattle.std.proofs.Common.{◌≡◌, ◌≤◌, ◌<◌, Bool, List, Some, N
 use denote.Ref.{Bor}
 use Rattle.relax_edges.specs.declared.edge.Edge.{Edge}
 use Rattle.relax_edges.specs.declared.kinds.ObsMode.{ObsMode}
-use Rattle.listing_laws.specs.Counting.{later}
-use Rattle.listing_laws.specs.Listing.{IsAnswer}
+use Rattle.walk_laws.specs.Counting.{later}
+use Rattle.walk_laws.specs.Listing.{IsAnswer}
 use Rattle.arch_trait.specs.Threads.{Puts}
 use Rattle.test_maker.specs.Refusals.{refusal_of}
 use Rattle.cycle_enum.specs.Walking.{Walking, Lists}

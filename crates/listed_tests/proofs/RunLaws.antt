@@ -14,7 +14,7 @@ use Rattle.relax_edges.specs.declared.edge.Edge.TheVariants as edges
 use Rattle.relax_edges.specs.EdgeTable.{is_external}
 use Rattle.list_laws.specs.Numbers.{upto}
 use Rattle.list_laws.proofs.Cases.{by_test, by_less}
-use Rattle.walk_laws.specs.Rotation.{rotated}
+use Rattle.cycle_laws.specs.Rotation.{rotated}
 use Rattle.resolution_laws.specs.Resolution.{external_count, edge_at, ends_outside, turned, thread_of, slot_of, events_in}
 use Rattle.resolution_laws.proofs.Locations.{ends_with}
 use Rattle.resolution_laws.proofs.Sizes.{in_slot, slot_below}

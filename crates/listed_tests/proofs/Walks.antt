@@ -4,10 +4,10 @@ use Rattle.std.specs.Prelude.{◌↔◌, MatchOption}
 use denote.Ref.{Bor}
 use Rattle.relax_edges.specs.declared.edge.Edge.{Edge}
 use Rattle.relax_edges.specs.declared.kinds.ObsMode.{ObsMode}
-use Rattle.walk_laws.specs.Composable.{IsCycle}
-use Rattle.walk_laws.specs.Order.{IsNormal, IsLeast}
-use Rattle.walk_laws.proofs.Laws.{same_cycle_is_equivalence, normal_forms_decide}
-use Rattle.listing_laws.specs.Listing.{IsAnswer}
+use Rattle.cycle_laws.specs.Composable.{IsCycle}
+use Rattle.cycle_laws.specs.Order.{IsNormal, IsLeast}
+use Rattle.cycle_laws.proofs.Laws.{same_cycle_is_equivalence, normal_forms_decide}
+use Rattle.walk_laws.specs.Listing.{IsAnswer}
 use Rattle.cycle_enum.specs.Walking.{Walking, Lists, Says}
 use Rattle.arch_trait.specs.Threads.{Puts}
 use Rattle.arch_trait.specs.Writing.{Writing}

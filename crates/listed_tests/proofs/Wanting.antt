@@ -10,9 +10,9 @@ use Rattle.relax_edges.specs.declared.edge.Edge.{Edge}
 use Rattle.relax_edges.specs.declared.kinds.ArchName.{ArchName}
 use Rattle.relax_edges.specs.declared.kinds.ObsMode.{ObsMode}
 use Rattle.relax_edges.specs.EdgeTable.{is_of_arch, is_external}
-use Rattle.walk_laws.specs.Composable.{IsCycle}
+use Rattle.cycle_laws.specs.Composable.{IsCycle}
 use Rattle.list_laws.proofs.Cases.{by_less}
-use Rattle.listing_laws.specs.Listing.{IsListed}
+use Rattle.walk_laws.specs.Listing.{IsListed}
 use Rattle.resolution_laws.specs.Resolution.{external_count, resolution_of}
 use Rattle.arch_trait.specs.Threads.{Puts}
 use Rattle.test_maker.specs.declared.refusal.MakeRefusal.{MakeRefusal}

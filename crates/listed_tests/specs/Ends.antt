@@ -2,8 +2,8 @@
 -- Source: own.
 use Rattle.std.specs.Prelude.{◌≡◌, ◌⊎◌, ⊤, ℕ, List, [], ◌∷◌, ◌++◌, length, Option, Some, None}
 use Rattle.relax_edges.specs.declared.edge.Edge.{Edge}
-use Rattle.walk_laws.specs.Order.{IsLeast}
-use Rattle.listing_laws.specs.Listing.{AreAllListed, AreListedTo, IsNext}
+use Rattle.cycle_laws.specs.Order.{IsLeast}
+use Rattle.walk_laws.specs.Listing.{AreAllListed, AreListedTo, IsNext}
 use Rattle.diy_io.specs.Shelf.{ShelfSeen}
 use Rattle.diy_io.specs.Wrote.{SinkSeen, WroteAll, WrotePart}
 use Rattle.listed_tests.specs.declared.ending.ListingEnd.{ListingEnd}

@@ -4,8 +4,8 @@ use Rattle.std.specs.Prelude.{◌≡◌, ◌≤◌, ℕ, ◌+◌, List, [], ◌�
 use Rattle.std.specs.Borrow.{Bor}
 use Rattle.relax_edges.specs.declared.edge.Edge.{Edge}
 use Rattle.relax_edges.specs.declared.kinds.ObsMode.{ObsMode}
-use Rattle.walk_laws.specs.Order.{IsNormal}
-use Rattle.listing_laws.specs.Listing.{AreAllListed, AreListedTo}
+use Rattle.cycle_laws.specs.Order.{IsNormal}
+use Rattle.walk_laws.specs.Listing.{AreAllListed, AreListedTo}
 use Rattle.arch_trait.specs.Threads.{Puts}
 use Rattle.arch_trait.specs.Writing.{Writing}
 use Rattle.diy_io.specs.Shelf.{ShelfSeen}

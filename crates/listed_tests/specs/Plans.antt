@@ -9,7 +9,7 @@ use Rattle.relax_edges.specs.declared.kinds.ArchName.{ArchName}
 use Rattle.relax_edges.specs.declared.kinds.ObsMode.{ObsMode}
 use Rattle.relax_edges.specs.EdgeTable.{is_of_arch}
 use Rattle.list_laws.specs.Numbers.{upto}
-use Rattle.listing_laws.specs.Listing.{IsListed}
+use Rattle.walk_laws.specs.Listing.{IsListed}
 use Rattle.cycle_names.specs.Names.{name_of}
 use Rattle.resolution_laws.specs.Resolution.{external_count, turned, events_in}
 use Rattle.arch_trait.specs.Threads.{Puts}

@@ -2,9 +2,9 @@ ghost use Rattle.std.specs.Prelude.{◌≡◌, ◌<◌, ◌≤◌, ◌↔◌, tr
 ghost use Rattle.std.specs.Option.{ForSome};
 ghost use Rattle.relax_edges.specs.declared.TheConstants.{MAX_EDGES};
 ghost use Rattle.relax_edges.specs.declared.edge.Edge.{Edge as EdgeValue};
-ghost use Rattle.walk_laws.specs.Composable.{IsCycle};
-ghost use Rattle.listing_laws.specs.Counting.{later};
-ghost use Rattle.listing_laws.specs.Listing.{IsAnswer};
+ghost use Rattle.cycle_laws.specs.Composable.{IsCycle};
+ghost use Rattle.walk_laws.specs.Counting.{later};
+ghost use Rattle.walk_laws.specs.Listing.{IsAnswer};
 ghost use Rattle.cycle_enum.specs.Walking.{KnowsOf, Lists, Says};
 ghost use Rattle.diy_io.specs.Shelf.{Idle};
 ghost use Rattle.diy_io.specs.Wrote.{Wrote};

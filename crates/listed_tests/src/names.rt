@@ -1,8 +1,8 @@
 ghost use Rattle.std.specs.Prelude.{◌≡◌, ◌<◌, ◌≤◌, ◌+◌, ◌++◌, [], Some, None, length, codes, IsTrue, IsFalse, IfSome, OnOk, OnErr};
 ghost use Rattle.std.specs.Option.{ForSome, ForNone};
-ghost use Rattle.walk_laws.specs.Order.{IsNormal};
-ghost use Rattle.listing_laws.specs.Counting.{later};
-ghost use Rattle.listing_laws.specs.Listing.{IsAnswer};
+ghost use Rattle.cycle_laws.specs.Order.{IsNormal};
+ghost use Rattle.walk_laws.specs.Counting.{later};
+ghost use Rattle.walk_laws.specs.Listing.{IsAnswer};
 ghost use Rattle.cycle_enum.specs.Walking.{KnowsOf, Lists};
 ghost use Rattle.diy_io.specs.Shelf.{Idle};
 ghost use Rattle.listed_tests.specs.Files.{file_of};

@@ -11,8 +11,8 @@ use Rattle.relax_edges.specs.declared.kinds.Com.TheVariants.{Rf}
 use Rattle.relax_edges.specs.declared.edge.Edge.{Edge}
 use Rattle.relax_edges.specs.declared.edge.Edge.TheVariants as edges
 use Rattle.relax_edges.specs.EdgeTable.{is_external, is_diff}
-use Rattle.walk_laws.specs.Rotation.{IsRotation}
-use Rattle.walk_laws.proofs.Rotating.{rotation_back, rotation_on, rotation_of_place}
+use Rattle.cycle_laws.specs.Rotation.{IsRotation}
+use Rattle.cycle_laws.proofs.Rotating.{rotation_back, rotation_on, rotation_of_place}
 use Rattle.list_laws.specs.Numbers.{upto}
 use Rattle.list_laws.proofs.Cases.{by_test, by_same}
 use Rattle.list_laws.proofs.Counts.{count_upto_same, count_upto_none}

@@ -11,9 +11,9 @@ use Rattle.relax_edges.specs.declared.kinds.Com.TheVariants.{Rf}
 use Rattle.relax_edges.specs.declared.edge.Edge.{Edge}
 use Rattle.relax_edges.specs.declared.edge.Edge.TheVariants as edges
 use Rattle.relax_edges.specs.EdgeTable.{is_external, is_diff}
-use Rattle.walk_laws.specs.Composable.{IsCycle}
-use Rattle.walk_laws.specs.Rotation.{rotated}
-use Rattle.walk_laws.proofs.Composing.{rotated_cycle}
+use Rattle.cycle_laws.specs.Composable.{IsCycle}
+use Rattle.cycle_laws.specs.Rotation.{rotated}
+use Rattle.cycle_laws.proofs.Composing.{rotated_cycle}
 use Rattle.list_laws.specs.Numbers.{upto}
 use Rattle.list_laws.proofs.Cases.{by_test, by_less, by_option}
 use Rattle.list_laws.proofs.Prefixes.{count_exchanged, count_all}

@@ -9,8 +9,8 @@ use Rattle.relax_edges.specs.declared.edge.Edge.{Edge}
 use Rattle.relax_edges.specs.declared.edge.Edge.TheVariants as edges
 use Rattle.relax_edges.specs.EdgeTable.{source_of, is_external, is_diff}
 use Rattle.list_laws.specs.Numbers.{upto}
-use Rattle.walk_laws.specs.Composable.{IsCycle}
-use Rattle.walk_laws.specs.Rotation.{rotated}
+use Rattle.cycle_laws.specs.Composable.{IsCycle}
+use Rattle.cycle_laws.specs.Rotation.{rotated}
 use Rattle.resolution_laws.specs.declared.event.Event.{Event}
 use Rattle.resolution_laws.specs.declared.errors.ResolveError.{ResolveError}
 use Rattle.resolution_laws.specs.declared.errors.ResolveError.TheVariants.{TooFewThreads, CoherenceOnly}

@@ -18,10 +18,10 @@ use Rattle.litmus_text.proofs.MentionedBack.{reads_back}
 use Rattle.test_laws.specs.Headline.{HasTest}
 use Rattle.test_laws.specs.Programs.{test_program}
 use Rattle.test_laws.specs.TestOf.{test_of}
-use Rattle.printed_tests.specs.Headline.{shown_test}
-use Rattle.printed_tests.specs.Readings.{program_read}
-use Rattle.printed_tests.proofs.Readable.{readable}
-use Rattle.printed_tests.proofs.Rereading.{reread_test, reread_renumbered, by_table, threads_numbered}
+use Rattle.printed_test_laws.specs.Headline.{shown_test}
+use Rattle.printed_test_laws.specs.Readings.{program_read}
+use Rattle.printed_test_laws.proofs.Readable.{readable}
+use Rattle.printed_test_laws.proofs.Rereading.{reread_test, reread_renumbered, by_table, threads_numbered}
 use Rattle.sc_laws.specs.Laws.{ScDecides, PrintedAreScPerLocation}
 use Rattle.sc_laws.proofs.Laws.{tests_are_sc_per_location}
 

@@ -17,8 +17,8 @@ use Rattle.coherence_laws.specs.Relations.{IsScPerLocation}
 use Rattle.test_laws.specs.Headline.{HasTest, IsRenumbered}
 use Rattle.test_laws.specs.Programs.{test_program}
 use Rattle.test_laws.specs.TestOf.{TestSeen, test_of}
-use Rattle.printed_tests.specs.Headline.{shown_test}
-use Rattle.printed_tests.specs.Readings.{program_read}
+use Rattle.printed_test_laws.specs.Headline.{shown_test}
+use Rattle.printed_test_laws.specs.Readings.{program_read}
 
 -- each candidate execution of a program is coherent per location exactly where it is SC per location
 abbrev pub ScDecides : Program → Type 0

@@ -26,8 +26,8 @@ use Rattle.program_meaning.specs.Executions.{Execution}
 use Rattle.program_meaning.specs.Coherence.{final_value}
 use Rattle.program_meaning.specs.Programs.{IsCandidate, accesses_in, held_in, register_in}
 use Rattle.program_meaning.specs.Intended.{IsNumbering, cycle_accesses}
-use Rattle.communication.specs.Joining.{ReadsAsAsked, EndsAsAsked, values_read}
-use Rattle.communication.proofs.Lists.{got_below, got_map, image_of}
+use Rattle.communication_laws.specs.Joining.{ReadsAsAsked, EndsAsAsked, values_read}
+use Rattle.communication_laws.proofs.Lists.{got_below, got_map, image_of}
 use Rattle.test_laws.specs.Steps.{cycle_steps, numbers_read}
 use Rattle.test_laws.specs.TestOf.{plain, is_named, last_term, last_terms, thread_terms, load_terms}
 use Rattle.test_laws.specs.FinalStates.{final_state}

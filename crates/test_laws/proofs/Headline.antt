@@ -23,9 +23,9 @@ use Rattle.program_meaning.specs.Executions.{Execution}
 use Rattle.program_meaning.specs.Programs.{Program, IsCandidate, IsCoherentIn}
 use Rattle.program_meaning.specs.Standing.{AllStand}
 use Rattle.program_meaning.specs.Intended.{IsNumbering, intended}
-use Rattle.communication.specs.Joining.{IsOutcome}
-use Rattle.communication.proofs.Needs.{served_if_valued}
-use Rattle.communication.proofs.Laws.{all_edges_stand_law, one_outcome_law, an_outcome_law}
+use Rattle.communication_laws.specs.Joining.{IsOutcome}
+use Rattle.communication_laws.proofs.Needs.{served_if_valued}
+use Rattle.communication_laws.proofs.Laws.{all_edges_stand_law, one_outcome_law, an_outcome_law}
 use Rattle.test_laws.specs.Steps.{cycle_steps}
 use Rattle.test_laws.specs.TestOf.{TestSeen, plain, last_terms, load_terms, test_of}
 use Rattle.test_laws.specs.Programs.{thread_from, test_program}

@@ -12,7 +12,7 @@ use Rattle.resolution_laws.proofs.Sizes.{external_and_moves}
 use Rattle.arch_trait.specs.Names.{location_name, letters, number_in}
 use Rattle.arch_trait.proofs.Tables.{location_new}
 use Rattle.program_meaning.specs.Intended.{IsNumbering}
-use Rattle.communication.proofs.Numbering.{numbering_onto}
+use Rattle.communication_laws.proofs.Numbering.{numbering_onto}
 use Rattle.test_laws.proofs.Everywhere.{position_none, position_first}
 
 -- place l of the names of locations is that of location l

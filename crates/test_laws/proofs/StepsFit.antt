@@ -18,7 +18,7 @@ use Rattle.relax_edges.specs.declared.edge.Edge.{Edge}
 use Rattle.relax_edges.specs.declared.edge.Edge.TheVariants as edges
 use Rattle.relax_edges.specs.declared.TheConstants.{MAX_EDGES}
 use Rattle.relax_edges.specs.EdgeTable.{kind_of, kind_source, kind_target, source_of, mark_fits, mark_is_of, is_of_arch, is_external}
-use Rattle.walk_laws.proofs.Marks.{source_mark_fits}
+use Rattle.cycle_laws.proofs.Marks.{source_mark_fits}
 use Rattle.list_laws.specs.Numbers.{upto}
 use Rattle.list_laws.proofs.Cases.{by_test}
 use Rattle.list_laws.proofs.Numbers.{length-upto, length-map-upto, slice_get-upto}
@@ -36,7 +36,7 @@ use Rattle.arch_trait.specs.declared.link.Link.TheVariants.{Plain}
 use Rattle.arch_trait.specs.Links.{kind_link, edge_link, link_is_of, depends, is_data}
 use Rattle.arch_trait.specs.Threads.{FitStep, FitSteps, is_load_dir}
 use Rattle.arch_trait.proofs.Edges.{has_edge}
-use Rattle.communication.proofs.Lists.{image_of}
+use Rattle.communication_laws.proofs.Lists.{image_of}
 use Rattle.test_laws.specs.Steps.{event_link, event_step, thread_steps, observing, observer_steps, cycle_steps}
 use Rattle.test_laws.proofs.StepsAt.{by_steps}
 

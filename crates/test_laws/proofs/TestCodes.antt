@@ -19,7 +19,7 @@ use Rattle.arch_trait.proofs.Whole.{makes_steps, is_formed}
 use Rattle.arch_laws.proofs.Renumbered.{renumbered_makes}
 use Rattle.program_meaning.specs.Programs.{Program}
 use Rattle.program_meaning.specs.Intended.{observed_locations}
-use Rattle.communication.proofs.Lists.{got_map, image_of, map_same, map-map}
+use Rattle.communication_laws.proofs.Lists.{got_map, image_of, map_same, map-map}
 use Rattle.test_laws.specs.Steps.{event_step, thread_steps, observing, observer_steps, cycle_steps, numbers_read}
 use Rattle.test_laws.specs.TestOf.{plain}
 use Rattle.test_laws.specs.Programs.{program_of}

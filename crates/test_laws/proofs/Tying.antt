@@ -26,8 +26,8 @@ use Rattle.program_meaning.specs.Accesses.{Access, Visit, got_from, at_name, acc
 use Rattle.program_meaning.specs.Executions.{Execution}
 use Rattle.program_meaning.specs.Programs.{IsCandidate, visits_in, accesses_in}
 use Rattle.program_meaning.specs.Standing.{Named, IsEvent, StartsFree, TiesBy}
-use Rattle.communication.specs.Joining.{AreFree, IsTiedUp, values_read}
-use Rattle.communication.proofs.Lists.{got_map, image_of}
+use Rattle.communication_laws.specs.Joining.{AreFree, IsTiedUp, values_read}
+use Rattle.communication_laws.proofs.Lists.{got_map, image_of}
 use Rattle.test_laws.specs.Steps.{event_link, event_step, thread_steps, observing, observer_steps, cycle_steps}
 use Rattle.test_laws.specs.Programs.{program_of}
 use Rattle.test_laws.proofs.StepsAt.{thread_steps_at, by_steps}

@@ -12,7 +12,7 @@ use Rattle.arch_trait.specs.declared.link.Link.TheVariants as links
 use Rattle.arch_trait.specs.Links.{is_addr, is_data, mask_if, link_control, link_items}
 use Rattle.arch_trait.specs.Threads.{is_load_dir, loads_in, loads_after, first_of, left_after, access_item, thread_items}
 use Rattle.program_meaning.specs.Accesses.{Access, Barred, Visit, visits_from, visits_of, barriers_after, accesses_of}
-use Rattle.communication.specs.Joining.{value_taken, values_left, filled}
+use Rattle.communication_laws.specs.Joining.{value_taken, values_left, filled}
 
 -- the barriers of a link
 abbrev pub link_barred : Link → ℕ → ℕ → List Barred

@@ -15,7 +15,7 @@ use Rattle.arch_trait.specs.Threads.{FitSteps, is_load_dir, loads_in, loads_afte
 use Rattle.arch_laws.proofs.Items.{link_below, branch_depends}
 use Rattle.program_meaning.specs.Accesses.{Visit, accesses_of, reads_by, is_read}
 use Rattle.program_meaning.specs.Standing.{IsFree, StartsFree}
-use Rattle.communication.specs.Joining.{AreFree}
+use Rattle.communication_laws.specs.Joining.{AreFree}
 use Rattle.test_laws.proofs.Visits.{link_barred, step_visit, thread_visits}
 
 -- the visit at a place is that of the access there, after the loads and the branches before it

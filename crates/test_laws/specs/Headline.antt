@@ -10,7 +10,7 @@ use Rattle.value_laws.specs.Values.{valuation_of}
 use Rattle.program_meaning.specs.Executions.{Execution}
 use Rattle.program_meaning.specs.Standing.{AllStand}
 use Rattle.program_meaning.specs.Intended.{intended}
-use Rattle.communication.specs.Joining.{IsOutcome}
+use Rattle.communication_laws.specs.Joining.{IsOutcome}
 use Rattle.arch_trait.specs.declared.step.Step.{Step}
 use Rattle.arch_trait.specs.Threads.{Puts, shape_of}
 use Rattle.arch_trait.specs.Laws.{IsArch}

@@ -3,7 +3,7 @@ use Rattle.std.proofs.Common.{◌≡◌, ℕ, not, List, Option, Some, None, Res
 use Rattle.std.specs.Prelude.{OnOk}
 use Rattle.std.specs.List.{position_from}
 use Rattle.std.specs.Option.{option_map}
-use Rattle.walk_laws.specs.Composable.{IsCycle}
+use Rattle.cycle_laws.specs.Composable.{IsCycle}
 use Rattle.relax_edges.specs.declared.kinds.ObsMode.{ObsMode}
 use Rattle.relax_edges.specs.declared.kinds.ObsMode.TheVariants as modes
 use Rattle.relax_edges.specs.declared.edge.Edge.{Edge}

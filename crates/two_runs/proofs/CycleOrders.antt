@@ -9,7 +9,7 @@ use Rattle.value_laws.specs.Values.{write_count}
 use Rattle.program_meaning.specs.declared.WriteAt.{WriteAt}
 use Rattle.program_meaning.specs.Executions.{Execution}
 use Rattle.program_meaning.specs.Intended.{write_of}
-use Rattle.communication.specs.Exchange.{swapped}
+use Rattle.communication_laws.specs.Exchange.{swapped}
 use Rattle.exec_meaning.specs.Kept.{with_write}
 use Rattle.two_runs.specs.Runs.{appended, order_of, value_there}
 use Rattle.two_runs.proofs.GrowingLists.{added_appended, appended_length, appended_none, filled_more, filled_to, found_more, found_no_more}

@@ -28,17 +28,17 @@ use Rattle.program_meaning.specs.declared.WriteAt.{WriteAt}
 use Rattle.program_meaning.specs.Executions.{Execution}
 use Rattle.program_meaning.specs.Intended.{event_read, location_numbered, reads_in}
 use Rattle.program_meaning.specs.Programs.{IsCandidate}
-use Rattle.communication.proofs.Programs.{accesses-count}
+use Rattle.communication_laws.proofs.Programs.{accesses-count}
 use Rattle.execution_text.specs.ExecutionText.{execution_read}
 use Rattle.execution_text.specs.ReadBack.{ExecutionFits}
 use Rattle.execution_text.specs.Written.{text_of_execution}
 use Rattle.execution_text.proofs.ExecutionBack.{written_reads_back}
 use Rattle.test_laws.specs.Headline.{HasCode}
 use Rattle.test_laws.proofs.PlaceNames.{letter_at, locations_few}
-use Rattle.printed_tests.specs.Headline.{shown_test}
-use Rattle.printed_tests.specs.Readings.{program_read, thread_read}
-use Rattle.printed_tests.proofs.Readable.{readable}
-use Rattle.printed_tests.proofs.Rereading.{got_is}
+use Rattle.printed_test_laws.specs.Headline.{shown_test}
+use Rattle.printed_test_laws.specs.Readings.{program_read, thread_read}
+use Rattle.printed_test_laws.proofs.Readable.{readable}
+use Rattle.printed_test_laws.proofs.Rereading.{got_is}
 use Rattle.two_runs.specs.Runs.{order_of, run_by}
 use Rattle.two_runs.proofs.Fitting.{run_fits}
 

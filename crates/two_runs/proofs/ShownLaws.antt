@@ -25,12 +25,12 @@ use Rattle.litmus_text.specs.declared.errors.ReadError.TheVariants as errors
 use Rattle.litmus_text.specs.Gives.{GivesInMemory}
 use Rattle.program_meaning.specs.Executions.{Execution}
 use Rattle.program_meaning.specs.Intended.{intended, location_numbered, location_order, observed_locations, observer_reads, ordered_write, write_of}
-use Rattle.communication.specs.Exchange.{exchanged, exchanged_order}
-use Rattle.communication.proofs.Bridge.{resolves}
-use Rattle.communication.proofs.Needs.{refused_entry}
+use Rattle.communication_laws.specs.Exchange.{exchanged, exchanged_order}
+use Rattle.communication_laws.proofs.Bridge.{resolves}
+use Rattle.communication_laws.proofs.Needs.{refused_entry}
 use Rattle.test_laws.specs.Headline.{HasCode}
-use Rattle.printed_tests.specs.Headline.{shown_test}
-use Rattle.printed_tests.specs.Readings.{program_read, place_of}
+use Rattle.printed_test_laws.specs.Headline.{shown_test}
+use Rattle.printed_test_laws.specs.Readings.{program_read, place_of}
 use Rattle.exchange_laws.specs.Undecided.{BytesUndecided, NoneTells, PrintedUndecided, Undecided}
 use Rattle.two_runs.specs.Runs.{cycle_reads, numbers_by, order_of, run_by}
 use Rattle.two_runs.specs.Shown.{AreRuns}

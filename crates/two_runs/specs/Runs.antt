@@ -14,7 +14,7 @@ use Rattle.program_meaning.specs.declared.WriteAt.{WriteAt}
 use Rattle.program_meaning.specs.Accesses.{is_read}
 use Rattle.program_meaning.specs.Executions.{Execution}
 use Rattle.program_meaning.specs.Intended.{event_access, event_read, location_numbered, reads_in, write_of}
-use Rattle.communication.specs.Exchange.{exchanged_value}
+use Rattle.communication_laws.specs.Exchange.{exchanged_value}
 use Rattle.two_runs.specs.declared.sink.TextSink.{TextSink}
 
 -- a text in memory, as a sink

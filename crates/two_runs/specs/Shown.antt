@@ -21,15 +21,15 @@ use Rattle.litmus_text.specs.TestReading.{TestRead, test_read}
 use Rattle.litmus_text.specs.TestText.{test_text}
 use Rattle.program_meaning.specs.Executions.{Execution}
 use Rattle.program_meaning.specs.Intended.{intended}
-use Rattle.communication.specs.Exchange.{exchanged}
+use Rattle.communication_laws.specs.Exchange.{exchanged}
 use Rattle.test_laws.specs.Headline.{HasCode}
 use Rattle.test_laws.specs.Steps.{cycle_steps}
 use Rattle.test_laws.specs.TestOf.{plain}
 use Rattle.test_maker.specs.Refusals.{is_crowded}
 use Rattle.execution_text.specs.ExecutionText.{execution_read}
 use Rattle.execution_text.specs.Written.{text_of_execution}
-use Rattle.printed_tests.specs.Headline.{shown_test}
-use Rattle.printed_tests.specs.Readings.{program_read, place_of}
+use Rattle.printed_test_laws.specs.Headline.{shown_test}
+use Rattle.printed_test_laws.specs.Readings.{program_read, place_of}
 use Rattle.exchange_laws.specs.Undecided.{NoneTells}
 use Rattle.two_runs.specs.declared.errors.WhyError.{WhyError}
 use Rattle.two_runs.specs.declared.errors.WhyError.TheVariants as errors

@@ -2,7 +2,7 @@ ghost use Rattle.std.specs.Prelude.{◌≡◌, ◌≤◌, ◌<◌, length, OnOk}
 ghost use Rattle.std.specs.Option.{ForSome};
 ghost use Rattle.resolution_laws.specs.Resolution.{move_count};
 ghost use Rattle.value_laws.specs.Values.{write_count};
-ghost use Rattle.communication.specs.Exchange.{swapped};
+ghost use Rattle.communication_laws.specs.Exchange.{swapped};
 ghost use Rattle.exec_meaning.specs.Kept.{empty_lists};
 ghost use Rattle.two_runs.specs.Runs.{appended, numbers_by, order_of, run_by, value_there};
 

@@ -1,6 +1,5 @@
-pub mod Beginning
-pub mod Composable
-pub mod Laws
-pub mod Order
-pub mod Rotation
-pub mod EdgeLaws
+pub mod Asked
+pub mod Counting
+pub mod Listing
+pub mod Reading
+pub mod Search

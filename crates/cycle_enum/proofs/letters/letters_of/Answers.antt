@@ -1,5 +1,5 @@
 -- The marked edges are those that occur in relaxations, so the table of their letters is the alphabet's.
-use Rattle.listing_laws.specs.Search.{OccursIn}
+use Rattle.walk_laws.specs.Search.{OccursIn}
 use Rattle.cycle_enum.specs.Marks.{IsMarked}
 use Rattle.cycle_enum.proofs.Lettering.{same_letters}
 use Rattle.cycle_enum.proofs.Marking.{marked_from_none}

@@ -1,7 +1,7 @@
 -- The place that the search ends with begins the rotation that the cycle is named from.
 use Rattle.std.proofs.Common.{sym, ◌∙◌, ap, ◌&&◌, map}
-use Rattle.walk_laws.specs.Order.{ranks_below}
-use Rattle.walk_laws.specs.Rotation.{rotated}
+use Rattle.cycle_laws.specs.Order.{ranks_below}
+use Rattle.cycle_laws.specs.Rotation.{rotated}
 use Rattle.cycle_names.specs.Fitting.{joins_at, word_place}
 use Rattle.cycle_names.proofs.Places.{named_first, named_kept, named_replaced, named_at}
 use Rattle.cycle_names.proofs.fit.named_place.Goals.{then-is_better, else-is_better}

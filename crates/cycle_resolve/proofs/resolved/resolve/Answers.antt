@@ -1,7 +1,7 @@
 -- What is given is the resolution of the cycle, or the error of its definition.
 use Rattle.std.proofs.Common.{◌≡◌, false, arith, sym, ◌∙◌, ap}
 use Rattle.resolution_laws.specs.Resolution.{external_count, move_count, events_of, IsResolved, turned, is_coherence_only}
-use Rattle.walk_laws.specs.Rotation.{rotated}
+use Rattle.cycle_laws.specs.Rotation.{rotated}
 use Rattle.resolution_laws.proofs.Turning.{turned_resolved, external_count-rotated}
 use Rattle.cycle_resolve.proofs.resolved.resolve.Goals as goal
 

@@ -5,7 +5,7 @@ use Rattle.arrayvec.specs.ArrayString.{ArrayString}
 use Rattle.std.specs.Prelude.{Option}
 use Rattle.diy_words.specs.Names.{is_name}
 use Rattle.litmus_text.specs.Printable.{IsTestName}
-use Rattle.printed_tests.proofs.Cycles.{cycle_named}
+use Rattle.printed_test_laws.proofs.Cycles.{cycle_named}
 use Rattle.diy_tools.proofs.Forced.{named_so}
 use Rattle.diy_tools.proofs.why.why_on.Goals as goal
 

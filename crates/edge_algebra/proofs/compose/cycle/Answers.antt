@@ -1,6 +1,6 @@
 -- A list in which no break is found is a cycle.
 use Rattle.std.proofs.Common.{rules, arith, sym}
-use Rattle.walk_laws.proofs.Composing.{unbroken_cycle}
+use Rattle.cycle_laws.proofs.Composing.{unbroken_cycle}
 use Rattle.edge_algebra.proofs.compose.cycle.Goals as goal
 
 pub of-requires : goal.of-requires

@@ -1,5 +1,5 @@
 -- The loop of `next_made`: the cycles passed over have no test, and fewer are left.
-use Rattle.listing_laws.specs.Counting.{later}
+use Rattle.walk_laws.specs.Counting.{later}
 use Rattle.listed_tests.proofs.PassingOver.{PassesOver}
 use Rattle.listed_tests.proofs.listing.next_made.Given as goal
 

@@ -1,7 +1,7 @@
 -- That `put_tests` writes the files of the listed cycles, in order.
 use Rattle.std.proofs.Common.{◌≡◌, Some, None, refl, ap}
 use Rattle.diy_io.specs.SinkLaws.{on_err}
-use Rattle.listing_laws.specs.Listing.{IsAnswer}
+use Rattle.walk_laws.specs.Listing.{IsAnswer}
 use Rattle.cycle_enum.specs.Walking.{Lists}
 use Rattle.listed_tests.specs.Plans.{HaveTests, folder_of, named_text}
 use Rattle.listed_tests.proofs.Going.{goes_first, goes_on, goes_stop, goes_end}

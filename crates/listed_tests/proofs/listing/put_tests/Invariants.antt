@@ -1,6 +1,6 @@
 -- The loop of `put_tests`: the files so far are there, and fewer cycles are left.
 use Rattle.std.proofs.Common.{◌≡◌}
-use Rattle.listing_laws.specs.Counting.{later}
+use Rattle.walk_laws.specs.Counting.{later}
 use Rattle.cycle_enum.specs.Walking.{Lists}
 use Rattle.listed_tests.specs.Keeping.{Goes}
 use Rattle.listed_tests.specs.Plans.{HaveTests, folder_of, named_text}

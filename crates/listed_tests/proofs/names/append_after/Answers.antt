@@ -1,7 +1,7 @@
 -- That `append_after` writes the lines that were kept, and then those of the listed cycles after a cycle.
 use Rattle.std.proofs.Common.{◌≡◌, ◌++◌, Some, None, ap, rules}
 use Rattle.diy_io.specs.SinkLaws.{on_err}
-use Rattle.listing_laws.specs.Listing.{IsAnswer}
+use Rattle.walk_laws.specs.Listing.{IsAnswer}
 use Rattle.cycle_enum.specs.Walking.{Lists}
 use Rattle.listed_tests.specs.Keeping.{Naming}
 use Rattle.listed_tests.specs.Plans.{HaveTests}

@@ -1,6 +1,6 @@
 -- The loop of `append_after`: what the file has so far, which lines wait, and that fewer cycles are left.
 use Rattle.std.proofs.Common.{◌≡◌}
-use Rattle.listing_laws.specs.Counting.{later}
+use Rattle.walk_laws.specs.Counting.{later}
 use Rattle.cycle_enum.specs.Walking.{Lists}
 use Rattle.listed_tests.specs.Keeping.{Naming}
 use Rattle.listed_tests.specs.Plans.{HaveTests}

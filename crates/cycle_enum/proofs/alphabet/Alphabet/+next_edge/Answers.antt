@@ -1,7 +1,7 @@
 -- No candidate goes on with an edge that is passed over.
 use Rattle.std.proofs.Common.{sym, ◌∙◌, rules}
 use Rattle.relax_edges.specs.declared.order.TheConstants.{EDGES}
-use Rattle.listing_laws.specs.Search.{OccursIn}
+use Rattle.walk_laws.specs.Search.{OccursIn}
 use Rattle.cycle_enum.specs.Letters.{IsFirstLetter, NoLetter}
 use Rattle.cycle_enum.proofs.Passing.{next_unjoined, none_used}
 use Rattle.cycle_enum.proofs.alphabet.Alphabet.+next_edge.Goals as goal

@@ -1,7 +1,7 @@
 -- An edge occurs in a relaxation exactly where it is the first letter from its own rank on.
 use Rattle.std.proofs.Common.{rules}
 use Rattle.relax_edges.specs.Order.{rank_of}
-use Rattle.listing_laws.specs.Search.{OccursIn}
+use Rattle.walk_laws.specs.Search.{OccursIn}
 use Rattle.cycle_enum.specs.Letters.{IsFirstLetter}
 use Rattle.cycle_enum.proofs.Lettering.{own_letter}
 use Rattle.cycle_enum.proofs.alphabet.Alphabet.has.Goals as goal

@@ -2,8 +2,8 @@
 use Rattle.std.proofs.Common.{◌↔◌, rules}
 use Rattle.std.specs.List.{AllByRecursion}
 use Rattle.std.specs.Prelude.{IsTrue}
-use Rattle.listing_laws.specs.Search.{OccursIn}
-use Rattle.listing_laws.proofs.Candidates.{made_occurs, single_made}
+use Rattle.walk_laws.specs.Search.{OccursIn}
+use Rattle.walk_laws.proofs.Candidates.{made_occurs, single_made}
 use Rattle.cycle_enum.proofs.alphabet.Alphabet.makes.Goals as goal
 
 pub returns-then-self : goal.returns-then-self

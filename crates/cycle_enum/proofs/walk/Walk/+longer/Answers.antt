@@ -1,6 +1,6 @@
 -- Where no listed cycle has the next length, the answer among the longer ones is the answer.
 use Rattle.std.proofs.Common.{◌≡◌, None, add-one, rules}
-use Rattle.listing_laws.proofs.Answering.{answer_longer}
+use Rattle.walk_laws.proofs.Answering.{answer_longer}
 use Rattle.cycle_enum.specs.Walking.{Keeps, Lists}
 use Rattle.cycle_enum.proofs.walk.Walk.+longer.Goals as goal
 

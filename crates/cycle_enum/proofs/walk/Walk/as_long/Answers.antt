@@ -1,9 +1,9 @@
 -- The search from the last cycle on finds the next listed cycle as long as it.
 use Rattle.std.proofs.Common.{length, rules}
-use Rattle.listing_laws.specs.Search.{IsCandidate, IsCut, IsFirst, IsRaised, OfLength}
-use Rattle.listing_laws.proofs.Answering.{answer_as_long}
-use Rattle.listing_laws.proofs.Candidates.{raised_listed}
-use Rattle.listing_laws.proofs.Raising.{raised_kept}
+use Rattle.walk_laws.specs.Search.{IsCandidate, IsCut, IsFirst, IsRaised, OfLength}
+use Rattle.walk_laws.proofs.Answering.{answer_as_long}
+use Rattle.walk_laws.proofs.Candidates.{raised_listed}
+use Rattle.walk_laws.proofs.Raising.{raised_kept}
 use Rattle.cycle_enum.specs.Walking.{Keeps, Lists}
 use Rattle.cycle_enum.proofs.walk.Walk.as_long.Goals as goal
 

@@ -1,9 +1,9 @@
 -- The next listed cycle is as long as the last one, or longer where there is none.
 use Rattle.std.proofs.Common.{◌≡◌, Option, Some, None, List, length, refl, rules}
 use Rattle.relax_edges.specs.declared.edge.Edge.{Edge}
-use Rattle.listing_laws.specs.Listing.{IsAnswer}
-use Rattle.listing_laws.specs.Search.{OfLength}
-use Rattle.listing_laws.proofs.Answering.{answer_after, answer_none_after}
+use Rattle.walk_laws.specs.Listing.{IsAnswer}
+use Rattle.walk_laws.specs.Search.{OfLength}
+use Rattle.walk_laws.proofs.Answering.{answer_after, answer_none_after}
 use Rattle.cycle_enum.specs.Walking.{Keeps, Lists}
 use Rattle.cycle_enum.proofs.walk.Walk.find.Goals as goal
 

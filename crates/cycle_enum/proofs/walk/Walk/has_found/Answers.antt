@@ -1,7 +1,7 @@
 -- A list with which no listed cycle begins isn't listed, and the test is asked only where both pruners keep all prefixes.
 use Rattle.std.proofs.Common.{[], length, refl}
 use Rattle.std.proofs.lemmas.List.{append-nil}
-use Rattle.listing_laws.proofs.Stepping.{kept_all}
+use Rattle.walk_laws.proofs.Stepping.{kept_all}
 use Rattle.cycle_enum.specs.Walking.{Keeps, Lists}
 use Rattle.cycle_enum.proofs.walk.Walk.has_found.Goals as goal
 

@@ -1,9 +1,9 @@
 -- Where the answer is no, no listed cycle begins with the list.
 use Rattle.std.proofs.Common.{◌≡◌, ◌∙◌, sym, false, rules, IsFalse}
-use Rattle.walk_laws.specs.Beginning.{may_begin}
-use Rattle.listing_laws.specs.Listing.{IsMadeOf}
-use Rattle.listing_laws.specs.Search.{LeadsNowhere}
-use Rattle.listing_laws.proofs.Nowhere.{begins_nowhere, unmade_nowhere}
+use Rattle.cycle_laws.specs.Beginning.{may_begin}
+use Rattle.walk_laws.specs.Listing.{IsMadeOf}
+use Rattle.walk_laws.specs.Search.{LeadsNowhere}
+use Rattle.walk_laws.proofs.Nowhere.{begins_nowhere, unmade_nowhere}
 use Rattle.cycle_enum.proofs.walk.Walk.leads_on.Goals as goal
 
 pub returns-then-not-may_begin-clause-refused : goal.returns-then-not-may_begin-clause-refused

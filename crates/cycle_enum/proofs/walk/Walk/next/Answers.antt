@@ -1,7 +1,7 @@
 -- With each answer the number `later` falls.
 use Rattle.std.proofs.Common.{◌≡◌, Some, rules}
-use Rattle.listing_laws.specs.Listing.{IsNext}
-use Rattle.listing_laws.proofs.Counts.{later_falls}
+use Rattle.walk_laws.specs.Listing.{IsNext}
+use Rattle.walk_laws.proofs.Counts.{later_falls}
 use Rattle.cycle_enum.specs.Walking.{Lists}
 use Rattle.cycle_enum.proofs.walk.Walk.next.Goals as goal
 

@@ -1,8 +1,8 @@
 -- The search from the first list on finds the first listed cycle of the length.
 use Rattle.std.proofs.Common.{rules}
-use Rattle.listing_laws.specs.Search.{IsCandidate, IsExtended}
-use Rattle.listing_laws.proofs.Answering.{answer_of_length}
-use Rattle.listing_laws.proofs.Candidates.{extended_listed}
+use Rattle.walk_laws.specs.Search.{IsCandidate, IsExtended}
+use Rattle.walk_laws.proofs.Answering.{answer_of_length}
+use Rattle.walk_laws.proofs.Candidates.{extended_listed}
 use Rattle.cycle_enum.specs.Walking.{Keeps, Lists}
 use Rattle.cycle_enum.proofs.walk.Walk.of_len.Goals as goal
 

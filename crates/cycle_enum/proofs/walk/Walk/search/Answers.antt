@@ -1,9 +1,9 @@
 -- Each step of the search leaves out no listed cycle, and what is found is the first.
 use Rattle.std.proofs.Common.{◌<◌, ◌≤◌, length, refl, rules}
-use Rattle.listing_laws.specs.Search.{IsCandidate, IsExtended, IsRaised, LeadsNowhere}
-use Rattle.listing_laws.proofs.Counts.{raised_falls, extended_falls}
-use Rattle.listing_laws.proofs.Candidates.{raised_listed, extended_listed}
-use Rattle.listing_laws.proofs.Stepping.{search_at_first, search_at_raised, search_at_extended, search_at_past, search_at_found}
+use Rattle.walk_laws.specs.Search.{IsCandidate, IsExtended, IsRaised, LeadsNowhere}
+use Rattle.walk_laws.proofs.Counts.{raised_falls, extended_falls}
+use Rattle.walk_laws.proofs.Candidates.{raised_listed, extended_listed}
+use Rattle.walk_laws.proofs.Stepping.{search_at_first, search_at_raised, search_at_extended, search_at_past, search_at_found}
 use Rattle.cycle_enum.specs.Walking.{Keeps, Lists}
 use Rattle.cycle_enum.proofs.walk.Walk.search.Goals as goal
 

@@ -1,7 +1,7 @@
 -- The search is at the list, nothing is found so far, and with each step less is left of it.
 use Rattle.std.proofs.Common.{◌≡◌, None}
-use Rattle.listing_laws.proofs.Counts.{to_go}
-use Rattle.listing_laws.proofs.Stepping.{SearchAt}
+use Rattle.walk_laws.proofs.Counts.{to_go}
+use Rattle.walk_laws.proofs.Stepping.{SearchAt}
 use Rattle.cycle_enum.specs.Walking.{Keeps, Lists}
 use Rattle.cycle_enum.proofs.walk.Walk.search.Given as goal
 

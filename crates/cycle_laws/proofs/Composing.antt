@@ -1,0 +1,146 @@
+-- Laws of composable lists: parts, rotations, the first break.
+use Rattle.std.proofs.Common.{◌≡◌, ℕ, suc, ◌-◌, ◌+◌, ◌<◌, ◌≤◌, true, false, ◌&&◌, cond, List, [], ◌∷◌, ◌++◌, length, take, drop, Option, Some, None, refl, sym, ◌∙◌, ap, arith, append_assoc, length-append, slice_get, get_or}
+use Rattle.std.proofs.lemmas.List.{append-nil, take-append-drop}
+use Rattle.std.proofs.lemmas.Bool.{and_parts, and_from}
+use Rattle.std.proofs.Math.Bool.{and-true, and_assoc, and_comm}
+use Rattle.relax_edges.specs.declared.TheConstants.{MAX_EDGES}
+use Rattle.relax_edges.specs.declared.edge.Edge.{Edge}
+use Rattle.relax_edges.specs.EdgeTable.{joins_to}
+use Rattle.cycle_laws.specs.Composable.{joins_first, is_joined, is_closed, IsPath, IsCycle, first_break, one_later, last_joins}
+use Rattle.cycle_laws.specs.Rotation.{rotated}
+
+joins_first_prefix : (e m : Edge) (a b : List Edge) → joins_first e (a ++ m ∷ b) ≡ joins_first e (a ++ m ∷ [])
+joins_first_prefix e m [] b = refl
+joins_first_prefix e m (f ∷ a) b = refl
+
+-- a list is joined where it is joined up to an edge and from that edge on
+pub joined_at : (a : List Edge) (m : Edge) (b : List Edge) → is_joined (a ++ m ∷ b) ≡ (is_joined (a ++ m ∷ []) && is_joined (m ∷ b))
+joined_at [] m b = refl
+joined_at (e ∷ a) m b =
+    ap (λ x. x && is_joined (a ++ m ∷ b)) (joins_first_prefix e m a b)
+    ∙ ap (λ x. joins_first e (a ++ m ∷ []) && x) (joined_at a m b)
+    ∙ sym (and_assoc (joins_first e (a ++ m ∷ [])) (is_joined (a ++ m ∷ [])) (is_joined (m ∷ b)))
+
+-- whether a list closes is the same for the list with two parts exchanged
+pub closed_turned : (prefix back : List Edge) → is_closed (prefix ++ back) ≡ is_closed (back ++ prefix)
+closed_turned [] back = ap is_closed (sym (append-nil back))
+closed_turned (f ∷ fs) [] = ap is_closed (append-nil (f ∷ fs))
+closed_turned (f ∷ fs) (g ∷ gs) =
+    let one : is_joined (((f ∷ fs) ++ g ∷ gs) ++ f ∷ []) ≡ (is_joined ((f ∷ fs) ++ g ∷ []) && is_joined ((g ∷ gs) ++ f ∷ [])) =
+    ap is_joined (append_assoc (f ∷ fs) (g ∷ gs) (f ∷ [])) ∙ joined_at (f ∷ fs) g (gs ++ f ∷ []) in
+    let two : is_joined (((g ∷ gs) ++ f ∷ fs) ++ g ∷ []) ≡ (is_joined ((g ∷ gs) ++ f ∷ []) && is_joined ((f ∷ fs) ++ g ∷ [])) =
+    ap is_joined (append_assoc (g ∷ gs) (f ∷ fs) (g ∷ [])) ∙ joined_at (g ∷ gs) f (fs ++ g ∷ []) in
+    one ∙ and_comm (is_joined ((f ∷ fs) ++ g ∷ [])) (is_joined ((g ∷ gs) ++ f ∷ [])) ∙ sym two
+
+-- a list with two parts exchanged is a cycle where the list is
+pub turned_cycle : (prefix back : List Edge) → IsCycle (prefix ++ back) → IsCycle (back ++ prefix)
+turned_cycle prefix back c = record {
+  some = omega (arith, c.some, length-append prefix back, length-append back prefix);
+  few = omega (arith, c.few, length-append prefix back, length-append back prefix);
+  closed = sym (closed_turned prefix back) ∙ c.closed;
+}
+
+-- a rotation of a cycle is a cycle
+pub rotated_cycle : (k : ℕ) (u : List Edge) → IsCycle u → IsCycle (rotated k u)
+rotated_cycle k u c = turned_cycle (take k u) (drop k u) (rw take-append-drop c)
+
+-- a prefix of a joined list is joined
+pub joined_prefix : (u v : List Edge) → is_joined (u ++ v) ≡ true → is_joined u ≡ true
+joined_prefix [] v h = refl
+joined_prefix (e ∷ []) v h = refl
+joined_prefix (e ∷ f ∷ u) v h =
+    let both = and_parts (joins_to e f) (is_joined ((f ∷ u) ++ v)) h in
+    and_from (joins_to e f) (is_joined (f ∷ u)) both.0 (joined_prefix (f ∷ u) v both.1)
+
+-- a list is joined where it has no break
+pub joined_unbroken : (u : List Edge) → first_break u ≡ None → is_joined u ≡ true
+joined_unbroken [] h = refl
+joined_unbroken (e ∷ u) h =
+    elim (joins_first e u) as (λ b. cond b (one_later (first_break u)) (Some 0) ≡ None → (b && is_joined u) ≡ true) [
+      | true ↦ λ t. joined_unbroken u (unmoved (first_break u) t)
+      | false ↦ λ t. cc
+    ] h
+  where
+    unmoved : (at : Option ℕ) → one_later at ≡ None → at ≡ None
+    unmoved None t = refl
+    unmoved (Some i) t = cc
+
+-- a joined list has no break
+pub unbroken_joined : (u : List Edge) → is_joined u ≡ true → first_break u ≡ None
+unbroken_joined [] h = refl
+unbroken_joined (e ∷ u) h =
+    let both = and_parts (joins_first e u) (is_joined u) h in
+    rw (both.0, unbroken_joined u both.1) refl
+
+later_within : (at : Option ℕ) (i n : ℕ) → ((j : ℕ) → at ≡ Some j → j + 1 < n) → one_later at ≡ Some i → i + 1 < n + 1
+later_within None i n h t = cc
+later_within (Some j) i n h t = let z : j + 1 ≡ i = cc in omega (arith, h j refl)
+
+-- a break is at a place of the list before its last one
+pub break_within : (u : List Edge) (i : ℕ) → first_break u ≡ Some i → i + 1 < length u
+break_within [] i h = cc
+break_within (e ∷ []) i h = cc
+break_within (e ∷ f ∷ u) i h =
+    elim (joins_to e f) as (λ b. cond b (one_later (first_break (f ∷ u))) (Some 0) ≡ Some i → i + 1 < length (e ∷ f ∷ u)) [
+      | true ↦ λ t. omega (arith, later_within (first_break (f ∷ u)) i (length (f ∷ u)) (break_within (f ∷ u)) t)
+      | false ↦ λ t. let z : 0 ≡ i = cc in omega arith
+    ] h
+
+-- edges without a break, cyclically, are a cycle
+pub unbroken_cycle : (u : List Edge) (e : Edge) → slice_get u 0 ≡ Some e → length u ≤ MAX_EDGES → first_break (u ++ e ∷ []) ≡ None → IsCycle u
+unbroken_cycle [] e s l h = cc
+unbroken_cycle (f ∷ u) e s l h = record {
+  some = omega arith;
+  few = l;
+  closed = let z : e ≡ f = cc in joined_unbroken ((f ∷ u) ++ f ∷ []) (rw z at h);
+}
+
+-- two lists, one after the other, are joined where each is, and the last edge of one joins the first of the other
+pub joined_parts : (u v : List Edge) → is_joined (u ++ v) ≡ (is_joined u && (last_joins u v && is_joined v))
+joined_parts [] v = refl
+joined_parts (e ∷ []) v = refl
+joined_parts (e ∷ f ∷ u) v =
+    ap (λ b. joins_to e f && b) (joined_parts (f ∷ u) v) ∙ sym (and_assoc (joins_to e f) (is_joined (f ∷ u)) (last_joins (f ∷ u) v && is_joined v))
+
+joins_first_one : (e : Edge) (u : List Edge) → joins_first e (take 1 u) ≡ joins_first e u
+joins_first_one e [] = refl
+joins_first_one e (f ∷ u) = refl
+
+last_joins_one : (u v : List Edge) → last_joins u (take 1 v) ≡ last_joins u v
+last_joins_one [] v = refl
+last_joins_one (e ∷ []) v = joins_first_one e v
+last_joins_one (e ∷ f ∷ u) v = last_joins_one (f ∷ u) v
+
+one_joined : (u : List Edge) → is_joined (take 1 u) ≡ true
+one_joined [] = refl
+one_joined (e ∷ u) = refl
+
+-- a list closes where it is joined and its last edge joins its first
+pub closed_parts : (u : List Edge) → is_closed u ≡ (is_joined u && last_joins u u)
+closed_parts u =
+    joined_parts u (take 1 u) ∙ ap (λ b. is_joined u && b) (ap (λ b. last_joins u (take 1 u) && b) (one_joined u) ∙ and-true (last_joins u (take 1 u)) ∙ last_joins_one u u)
+
+-- whether a list joins another, by its last edge and the other's first
+pub last_joins_at : (u v : List Edge) (d e : Edge) → 0 < length u → 0 < length v → last_joins u v ≡ joins_to (get_or u (length u - 1) d) (get_or v 0 e)
+last_joins_at [] v d e h k = absurd (omega arith)
+last_joins_at (x ∷ []) [] d e h k = absurd (omega arith)
+last_joins_at (x ∷ []) (y ∷ v) d e h k = refl
+last_joins_at (x ∷ y ∷ u) v d e h k =
+    let n : length (x ∷ y ∷ u) - 1 ≡ suc (length (y ∷ u) - 1) = omega arith in
+    rw n (last_joins_at (y ∷ u) v d e (omega arith) k)
+
+-- two paths that aren't too long, of which one joins the other, are a path
+pub path_joined : (u v : List Edge) → IsPath u → IsPath v → length u + length v ≤ MAX_EDGES → last_joins u v ≡ true → IsPath (u ++ v)
+path_joined u v p q l h = record {
+  some = omega (arith, p.some, length-append u v);
+  few = omega (arith, length-append u v);
+  joined = joined_parts u v ∙ rw (p.joined, h, q.joined) refl;
+}
+
+-- a path whose last edge joins its first is a cycle
+pub path_closed : (u : List Edge) → IsPath u → last_joins u u ≡ true → IsCycle u
+path_closed u p h = record { some = p.some; few = p.few; closed = closed_parts u ∙ rw (p.joined, h) refl }
+
+-- one edge is a path
+pub path_one : (e : Edge) → IsPath (e ∷ [])
+path_one e = record { some = omega arith; few = omega arith; joined = refl }

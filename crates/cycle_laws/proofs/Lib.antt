@@ -1,0 +1,10 @@
+pub mod Beginnings
+pub mod Composing
+pub mod EdgeLaws
+pub mod Joining
+pub mod Laws
+pub mod Marks
+pub mod Neighbours
+pub mod Ordering
+pub mod Places
+pub mod Rotating

@@ -1,9 +1,0 @@
-pub mod Answering
-pub mod Candidates
-pub mod Counts
-pub mod Listings
-pub mod Nowhere
-pub mod Raising
-pub mod Relaxing
-pub mod Searching
-pub mod Stepping

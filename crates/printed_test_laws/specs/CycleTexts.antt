@@ -1,0 +1,18 @@
+-- How long the printed text of the test of a cycle is.
+-- Source: own.
+use Rattle.std.specs.Prelude.{◌≡◌, ◌≤◌, List, None, length}
+use Rattle.relax_edges.specs.declared.kinds.ObsMode.{ObsMode}
+use Rattle.relax_edges.specs.declared.edge.Edge.{Edge}
+use Rattle.cycle_laws.specs.Composable.{IsCycle}
+use Rattle.cycle_names.specs.Names.{name_of}
+use Rattle.arch_trait.specs.Threads.{Puts}
+use Rattle.arch_trait.specs.Writing.{Writing}
+use Rattle.litmus_text.specs.declared.limits.TheConstants.{MAX_TEXT}
+use Rattle.test_maker.specs.CycleText.{cycle_text}
+use Rattle.test_maker.specs.Refusals.{refusal_of}
+
+-- the printed text of the test of each cycle that isn't refused, under the name of the cycle, is no longer than a text may be
+abbrev pub CycleTextsShort : Puts → Writing → Type 0
+CycleTextsShort a w =
+    (mode : ObsMode) (cycle : List Edge) →
+    IsCycle cycle → refusal_of a cycle mode ≡ None → length (cycle_text a w mode (name_of cycle) cycle) ≤ MAX_TEXT

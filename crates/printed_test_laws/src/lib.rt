@@ -1,0 +1,27 @@
+//! The printed text of the test of a cycle, and what its bytes mean: they are read as a test that forces the cycle.
+#![tactic(auto)]
+
+ghost use Rattle.printed_test_laws.specs.CycleTexts.{CycleTextsShort};
+ghost use Rattle.printed_test_laws.specs.Headline.{TestsReadable, PrintedForce};
+
+use arch_trait::Arch;
+
+/// On every architecture, the test of each cycle that has one is, under a name of its form, within
+/// the limits of the format, so that its printed text reads back.
+pub fn tests_readable<A: Arch>()
+    ensures { TestsReadable A.puts A.NAME A.writing }
+{}
+
+/// On every architecture, the printed text of the test of each cycle that isn't refused is, under the
+/// name of the cycle, no longer than a text may be.
+pub fn cycle_texts_short<A: Arch>()
+    ensures { CycleTextsShort A.puts A.writing }
+{}
+
+/// On every architecture, the printed text of the test of each cycle that has one forces the cycle:
+/// its bytes are read as a test, all edges of the cycle stand in every candidate execution of that
+/// reading that is coherent per location and meets its condition, there is one such execution, the
+/// intended one, and no other.
+pub fn printed_tests_force<A: Arch>()
+    ensures { PrintedForce A.puts A.NAME A.writing }
+{}

@@ -1,0 +1,10 @@
+-- `Feeding::write_sum` writes the sum of the logs that were ended.
+use Rattle.log_sum.proofs.RepresentingLaws.{represented_text}
+use Rattle.summed_files.proofs.feeding.Feeding.write_sum.Goals as goal
+
+pub returns : goal.returns
+returns g c = λ logs reads. record {
+  sum = _;
+  is = represented_text c.args.self.now.summer logs reads.represents;
+  wrote = c.write_sum.ensures;
+}

@@ -1,0 +1,71 @@
+ghost use Rattle.std.specs.Prelude.{◌≡◌, ◌<◌, ◌≤◌, length, ℕ, List, [], Result};
+ghost use Rattle.summed_files.specs.Logs.{max_piece};
+ghost use Rattle.summed_files.specs.Feeding.{Reads, ReadTo, SummedTo};
+ghost use Rattle.summed_files.specs.SumEnds.{InputSummed};
+
+use crate::feeding::{Feeding, PIECE, ReadFault};
+use crate::sum_end::SumEnd;
+use diy_io::{Failed, Sink, Source};
+use std::alloc::Global;
+
+/// Reads the input to its end.
+fn read_input<I: Source>(
+    feeding: &mut Feeding,
+    input: &mut I,
+    buf: &mut [u8],
+) -> Result<(), ReadFault>
+    requires some { 0 < length buf.old }
+    requires piece { length buf.old ≤ max_piece }
+    ensures { (logs : List (List ℕ)) → Reads feeding.old logs [] → ReadTo (I.seen input.old) (I.seen input.new) feeding.new logs result }
+{
+    loop {
+        let count = match input.read(buf) {
+            Ok(0) => return Ok(()),
+            Ok(count) => count,
+            Err(Failed) => return Err(ReadFault::Device),
+        };
+        match feeding.feed(&buf[..count]) {
+            Ok(()) => {}
+            Err(fault) => return Err(ReadFault::Log(fault)),
+        }
+    }
+}
+
+/// Sums the log that an input is.
+fn sum_source<I: Source>(
+    feeding: &mut Feeding,
+    input: &mut I,
+    buf: &mut [u8],
+) -> Result<(), ReadFault>
+    requires some { 0 < length buf.old }
+    requires piece { length buf.old ≤ max_piece }
+    ensures { (logs : List (List ℕ)) → Reads feeding.old logs [] → SummedTo (I.seen input.old) (I.seen input.new) feeding.new logs result }
+{
+    match read_input(feeding, input, buf) {
+        Ok(()) => {}
+        Err(ReadFault::Log(fault)) => return Err(ReadFault::Log(fault)),
+        Err(ReadFault::Device) => return Err(ReadFault::Device),
+    }
+    match feeding.end_log() {
+        Ok(()) => Ok(()),
+        Err(fault) => Err(ReadFault::Log(fault)),
+    }
+}
+
+/// Sums the input, which is one log.
+pub fn sum_input<I: Source, O: Sink>(alloc: Global, input: &mut I, out: &mut O) -> SumEnd
+    ensures { InputSummed (I.seen input.old) (I.seen input.new) (O.seen out.old) (O.seen out.new) result }
+{
+    let mut buf = [0; PIECE];
+    let Ok(mut feeding) = Feeding::new(alloc) else {
+        return SumEnd::NoMemory;
+    };
+    match sum_source(&mut feeding, input, &mut buf) {
+        Ok(()) => match feeding.write_sum(out) {
+            Ok(()) => SumEnd::Done,
+            Err(Failed) => SumEnd::OutFault,
+        },
+        Err(ReadFault::Log(fault)) => fault.end_at(None),
+        Err(ReadFault::Device) => SumEnd::InputFault,
+    }
+}
