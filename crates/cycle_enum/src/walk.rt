@@ -2,14 +2,14 @@ ghost use Rattle.std.specs.Prelude.{◌≡◌, ◌<◌, ◌≤◌, [], Some, Non
 ghost use Rattle.walk_laws.specs.Asked.{KeptBelow, KeptWhole};
 ghost use Rattle.walk_laws.specs.Counting.{later};
 ghost use Rattle.walk_laws.specs.Listing.{IsAnswer, KeepsLimits};
-ghost use Rattle.cycle_laws.specs.Order.{IsLeast};
+ghost use Rattle.cycle_laws.specs.Order.{IsLeast, IsNormal};
 ghost use Rattle.walk_laws.specs.Search.{IsCut, IsFirst, LeadsNowhere, LongerThan, OfLength};
 ghost use Rattle.cycle_enum.specs.Walking.{Keeps, KnowsOf, Lists, Walking};
 
 use crate::alphabet::{Alphabet, closes};
 use crate::limits::Limits;
 use crate::prefix::Prefix;
-use edge_algebra::{Cycle, cycle, may_begin};
+use edge_algebra::{Cycle, cycle, is_normal, may_begin};
 use relax_edges::{Edge, MAX_EDGES, Relaxes};
 use std::marker::Model;
 
@@ -252,15 +252,19 @@ impl<K: Fn(&[Edge]) -> bool, J: Fn(&[Edge]) -> bool, P: Fn(&Cycle) -> bool> Walk
         if !self.leads_on(list) {
             return false;
         }
+        if !is_normal(list.edges(), list.ranks()) {
+            return false;
+        }
         self.has_listed(list.edges(), found)
     }
 
-    /// Whether the cycle of these edges is listed, where the walk keeps them: it is found then. It is a function of its own in
+    /// Whether the cycle of these edges, which are in normal form, is listed, where the walk keeps them: it is found then. It is a function of its own in
     /// the program too (`inline(never)`), so that room for a cycle is cleared only for lists that may be one.
     #[inline(never)]
     fn has_listed(&self, list: &[Edge], found: &mut Option<Cycle>) -> bool
         requires knows { KnowsOf K.pre K.Fn.post J.pre J.Fn.post P.pre P.Fn.post self.now.keep self.now.fit self.now.take }
         requires limits { KeepsLimits self.now.limits.size self.now.limits.exact (length list.now) }
+        requires normal { IsNormal list.now }
         requires kept { KeptWhole (Keeps K.Fn.post J.Fn.post self.now) list.now }
         ensures found { IsTrue result → found.new ≡ Some list.now }
         ensures listed { IsTrue result → Lists P.Fn.post self.now list.now }
@@ -279,18 +283,16 @@ impl<K: Fn(&[Edge]) -> bool, J: Fn(&[Edge]) -> bool, P: Fn(&Cycle) -> bool> Walk
         }
     }
 
-    /// Whether a cycle is listed, where its number of edges keeps the limits.
+    /// Whether a cycle is listed, where it is in normal form and its number of edges keeps the limits.
     fn is_listed(&self, cycle: &Cycle) -> bool
         requires knows { KnowsOf K.pre K.Fn.post J.pre J.Fn.post P.pre P.Fn.post self.now.keep self.now.fit self.now.take }
         requires limits { KeepsLimits self.now.limits.size self.now.limits.exact (length cycle.now) }
+        requires normal { IsNormal cycle.now }
         requires kept { KeptWhole (Keeps K.Fn.post J.Fn.post self.now) cycle.now }
         ensures listed { IsTrue result → Lists P.Fn.post self.now cycle.now }
         ensures other { IsFalse result → Lists P.Fn.post self.now cycle.now → ⊥ }
     {
         let _edges = cycle.edges();
-        if !cycle.is_normal() {
-            return false;
-        }
         if !self.relaxes.makes(cycle) {
             return false;
         }

@@ -7,7 +7,7 @@ use Rattle.std.specs.Str.{bytes_eq}
 use Rattle.std.specs.declared.cmp.Ordering.{Ordering}
 use Rattle.std.specs.declared.cmp.Ordering.TheVariants.{Less, Equal, Greater}
 use Rattle.std.proofs.Common.{refl, sym, ◌∙◌, ap, arith, length-append}
-use Rattle.std.proofs.lemmas.Bool.{eqb-true, leb-true}
+use Rattle.std.proofs.lemmas.Bool.{eqb-true, leb-true, not-true}
 use Rattle.std.proofs.lemmas.List.{append-nil}
 use Rattle.relax_edges.specs.declared.kinds.Dir.TheVariants as dirs
 use Rattle.relax_edges.specs.declared.kinds.Sd.TheVariants.{Same, Diff}
@@ -101,7 +101,7 @@ slot_is_external e = agreed _ _ (each_edge (λ e. agree (is_external (slot_of e)
 -- an external edge keeps the location
 pub external_same : (e : Edge) → is_external e ≡ true → is_diff e ≡ false
 unfolding if_so edges_in_order
-external_same e t = no_of (is_diff e) (so (is_external e) (not (is_diff e)) (each_edge (λ e. if_so (is_external e) (not (is_diff e))) all e) t)
+external_same e t = not-true (is_diff e) (so (is_external e) (not (is_diff e)) (each_edge (λ e. if_so (is_external e) (not (is_diff e))) all e) t)
   where
     all : list_all (λ e. if_so (is_external e) (not (is_diff e))) edges_in_order ≡ true
     all = refl
@@ -117,7 +117,7 @@ no_place e f = eqb-true _ _ (so (not (is_diff e)) (word_place e == 0) (each_edge
 -- the word of a link has a place
 pub some_place : (e : Edge) → is_diff e ≡ true → (word_place e == 0) ≡ false
 unfolding if_so edges_in_order
-some_place e t = no_of (word_place e == 0) (so (is_diff e) (not (word_place e == 0)) (each_edge (λ e. if_so (is_diff e) (not (word_place e == 0))) all e) t)
+some_place e t = not-true (word_place e == 0) (so (is_diff e) (not (word_place e == 0)) (each_edge (λ e. if_so (is_diff e) (not (word_place e == 0))) all e) t)
   where
     all : list_all (λ e. if_so (is_diff e) (not (word_place e == 0))) edges_in_order ≡ true
     all = refl

@@ -111,10 +111,6 @@ pub record FitsFirst (u : List Edge) (family : Family) (place : ℕ) : Type 0 wh
   pub first : JoinsFirst (family_edges family) u place
   pub plain : is_plain_outside u ≡ true
 
--- the words of the rotation from one place come before those of the rotation from another
-abbrev pub comes_before : List Edge → ℕ → ℕ → Bool
-comes_before u place named = ranks_below (rotated place (map word_place u)) (rotated named (map word_place u))
-
 -- a list of edges may be of this family: it is no longer than a family's cycle may be, and has as many edges of each sort
 abbrev pub MayBeOf : List Edge → Family → Type 0
 MayBeOf u family = (length u ≤ LONGEST) × (family_of_counts (counted u) ≡ Some family)
@@ -175,6 +171,10 @@ kind_place _ _ = 0
 -- the place of a link's word among the words of links, in byte order, and 0 for an edge that is no link
 abbrev pub word_place : Edge → ℕ
 word_place edge = kind_place (kind_of edge) (letters_place (source_mark edge) (target_mark edge))
+
+-- the words of the rotation from one place come before those of the rotation from another
+abbrev pub comes_before : List Edge → ℕ → ℕ → Bool
+comes_before u place named = ranks_below (rotated place (map word_place u)) (rotated named (map word_place u))
 
 -- an edge is no link, or its word has this place
 abbrev pub is_at : ℕ → Edge → Bool

@@ -16,15 +16,9 @@ impl Cycle {
     pub fn least(&self) -> Cycle
         ensures { IsLeast self.now result }
     {
-        let place = least_place(self.edges());
+        let ranks = ranks_of(self.edges());
+        let place = least_place(self.edges(), ranks.as_slice());
         self.rotate(place)
-    }
-
-    /// Whether the cycle is a normal form: no rotation of it is less.
-    pub fn is_normal(&self) -> bool
-        ensures { IsTrue result ↔ IsNormal self.now }
-    {
-        least_place(self.edges()) == 0
     }
 
     /// Whether the other cycle is the same: a rotation of this one.
@@ -53,15 +47,26 @@ fn none_below(ranks: &[u16], back: &[u16]) -> bool
     }
 }
 
-/// The first place at which the least rotation begins.
-fn least_place(edges: &[Edge]) -> u8
+/// Whether a list of edges is a normal form, by the ranks of its edges: no rotation of it is less.
+pub fn is_normal(edges: &[Edge], ranks: &[u16]) -> bool
     requires some { 0 < length edges.now }
     requires few { length edges.now ≤ MAX_EDGES }
+    requires ranks { ranks.now ≡ map rank_of edges.now }
+    ensures { IsTrue result ↔ IsNormal edges.now }
+{
+    least_place(edges, ranks) == 0
+}
+
+/// The first place at which the least rotation of a list of edges begins, by the ranks of these.
+fn least_place(edges: &[Edge], ranks: &[u16]) -> u8
+    requires some { 0 < length edges.now }
+    requires few { length edges.now ≤ MAX_EDGES }
+    requires ranks { ranks.now ≡ map rank_of edges.now }
     ensures within { result < length edges.now }
     ensures least { IsNormal (rotated result edges.now) }
     ensures stays { IsNormal edges.now → result ≡ 0 }
 {
-    let ranks = ranks_twice(edges);
+    let ranks = twice(ranks);
     let ranks = ranks.as_slice();
     let len = edges.len();
     let mut least = 0;
@@ -73,27 +78,37 @@ fn least_place(edges: &[Edge]) -> u8
     least as u8
 }
 
-/// The ranks of the edges, twice over: each rotation is a part of it.
-fn ranks_twice(edges: &[Edge]) -> ArrayVec<u16, TWICE>
+/// The ranks of the edges of a list.
+fn ranks_of(edges: &[Edge]) -> ArrayVec<u16, MAX_EDGES>
     requires { length edges.now ≤ MAX_EDGES }
-    ensures { result.items ≡ map rank_of edges.now ++ map rank_of edges.now }
+    ensures { result.items ≡ map rank_of edges.now }
 {
     let mut ranks = ArrayVec::new();
     for edge in edges {
         ranks.push(edge.rank());
     }
-    repeat(&mut ranks);
     ranks
 }
 
-/// Appends what a list of ranks holds once more.
-fn repeat(ranks: &mut ArrayVec<u16, TWICE>)
-    requires { length ranks.old.items + length ranks.old.items ≤ TWICE }
-    ensures { ranks.new.items ≡ ranks.old.items ++ ranks.old.items }
+/// A list of ranks, twice over: the ranks of each rotation are a part of it.
+fn twice(ranks: &[u16]) -> ArrayVec<u16, TWICE>
+    requires { length ranks.now ≤ MAX_EDGES }
+    ensures { result.items ≡ ranks.now ++ ranks.now }
 {
-    for place in 0..ranks.len() {
-        let rank = ranks[place];
-        ranks.push(rank);
+    let mut list = ArrayVec::new();
+    append(ranks, &mut list);
+    append(ranks, &mut list);
+    list
+}
+
+/// Appends ranks to a list of them.
+fn append(ranks: &[u16], list: &mut ArrayVec<u16, TWICE>)
+    requires { length list.old.items + length ranks.now ≤ TWICE }
+    ensures { list.new.items ≡ list.old.items ++ ranks.now }
+{
+    match list.try_extend_from_slice(ranks) {
+        Ok(()) => {}
+        Err(_) => unreachable!(),
     }
 }
 

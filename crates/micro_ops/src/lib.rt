@@ -8,7 +8,7 @@ mod operation;
 mod run;
 pub mod run_laws;
 
-pub use content_of::Held;
+pub use held::Held;
 pub use machine::{Machine, Stepped, Stuck};
 pub use operation::{Barrier, Item, Micro};
 pub use run::{RunError, Trace, run_thread};

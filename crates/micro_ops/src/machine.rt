@@ -3,7 +3,7 @@ ghost use Rattle.micro_ops.specs.Machine.{num, step, writing, loading, storing, 
 ghost use Rattle.micro_ops.specs.Running.{initial, is_load, starting};
 ghost use Rattle.micro_ops.specs.Machines.{state_of, held_in, effect, InRange};
 
-use crate::content_of::Held;
+use crate::held::Held;
 use crate::operand::{add_immediate, equal, exclusive_or, or_immediate, place, sum};
 use crate::operation::{Barrier, Item, Micro};
 use relax_edges::{Dir, Mark, Value};

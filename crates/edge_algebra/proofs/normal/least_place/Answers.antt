@@ -11,7 +11,7 @@ loop-place-init c = first c.args.edges.now c.requires.some
 
 pub loop-place-preserved : goal.loop-place-preserved
 loop-place-preserved c =
-    let ranks : c.as_slice-ranks.result.now ≡ map rank_of c.args.edges.now ++ map rank_of c.args.edges.now = c.as_slice-ranks.ensures.value ∙ c.ranks_twice-ranks.ensures in
+    let ranks : c.as_slice-ranks.result.now ≡ map rank_of c.args.edges.now ++ map rank_of c.args.edges.now = c.as_slice-ranks.ensures.value ∙ rw c.requires.ranks at c.twice-ranks.ensures in
     let test = c.is_below.ensures ∙ compared c.args.edges.now c.as_slice-ranks.result.now c.loop-place.place c.loop-place.least ranks (omega arith) (omega (arith, c.loop-place.invariant.within)) in
     elim c.if-is_below.branch [
       | then-is_below w ↦ rw w.least-is (replaced c.args.edges.now c.loop-place.place c.loop-place.least c.loop-place.invariant c.loop-place-test.true (sym test ∙ w.if-is_below.true))

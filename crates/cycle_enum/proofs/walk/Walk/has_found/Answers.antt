@@ -1,5 +1,5 @@
 -- A list with which no listed cycle begins isn't listed, and the test is asked only where both pruners keep all prefixes.
-use Rattle.std.proofs.Common.{[], length, refl}
+use Rattle.std.proofs.Common.{[], length, refl, IsTrue}
 use Rattle.std.proofs.lemmas.List.{append-nil}
 use Rattle.walk_laws.proofs.Stepping.{kept_all}
 use Rattle.cycle_enum.specs.Walking.{Keeps, Lists}
@@ -8,7 +8,11 @@ use Rattle.cycle_enum.proofs.walk.Walk.has_found.Goals as goal
 pub returns-then-not-leads_on-clause-other : goal.returns-then-not-leads_on-clause-other
 returns-then-not-leads_on-clause-other g c _ l = c.if-not-leads_on.ensures.refused refl [] (rw (append-nil c.args.list.now) l)
 
+pub returns-then-not-is_normal-clause-other : goal.returns-then-not-is_normal-clause-other
+returns-then-not-is_normal-clause-other g c _ l =
+    let h : IsTrue c.is_normal.result = c.is_normal.ensures.1 (rw c.edges-2.ensures l.normal) in cc (h, c.if-not-is_normal.true)
+
 pub has_listed-requires-clause-kept : goal.has_listed-requires-clause-kept
 has_listed-requires-clause-kept g c =
-    rw c.edges-2.ensures
+    rw c.edges-3.ensures
     (kept_all (Lists g.P.Fn.post c.args.self.now) (Keeps g.K.Fn.post g.J.Fn.post c.args.self.now) (length c.args.list.now) c.args.list.now c.requires.kept (c.if-not-leads_on.ensures.kept refl))

@@ -8,6 +8,11 @@ is_listed-requires-clause-limits g c =
     let e : c.in-Ok.cycle ≡ c.args.list.now = composed_is c.args.list.now c.in-Ok.cycle (search rules) in
     rw e c.requires.limits
 
+pub is_listed-requires-clause-normal : goal.is_listed-requires-clause-normal
+is_listed-requires-clause-normal g c =
+    let e : c.in-Ok.cycle ≡ c.args.list.now = composed_is c.args.list.now c.in-Ok.cycle (search rules) in
+    rw e c.requires.normal
+
 pub is_listed-requires-clause-kept : goal.is_listed-requires-clause-kept
 is_listed-requires-clause-kept g c =
     let e : c.in-Ok.cycle ≡ c.args.list.now = composed_is c.args.list.now c.in-Ok.cycle (search rules) in
