@@ -88,12 +88,7 @@ fn suffix_leads(relax: &[Edge], list: &[Edge], read: &[bool]) -> bool
 
 /// Finds for each suffix of a list, from the empty one to the whole, whether it is read as
 /// relaxations one after the other.
-fn read_suffixes(
-    end: End,
-    relaxes: &[Relax],
-    list: &[Edge],
-    read: &mut ArrayVec<bool, SUFFIXES>,
-)
+fn read_suffixes(end: End, relaxes: &[Relax], list: &[Edge], read: &mut ArrayVec<bool, SUFFIXES>)
     requires few { length list.now ≤ MAX_EDGES }
     requires none { read.old.items ≡ [] }
     ensures read { read.new.items ≡ suffixes_read (is_inside end) relaxes.now list.now }

@@ -20,12 +20,18 @@ pub fn operands_of(kind: &Kind, op: &Micro) -> Option<OperandList>
         (Kind::OrNumber, Micro::OrImm { dst, a, n }) => with_number(dst, a, n),
         (Kind::Sum, Micro::Add { dst, a, b }) => registers(dst, a, b),
         (Kind::Load, Micro::Load { dst, base, index }) => operands_without_index(dst, base, index),
-        (Kind::LoadIndexed, Micro::Load { dst, base, index }) => operands_with_index(dst, base, index),
+        (Kind::LoadIndexed, Micro::Load { dst, base, index }) => operands_with_index(
+            dst, base, index,
+        ),
         (Kind::LoadIndexFirst, Micro::Load { dst, base, index }) => index_first(dst, base, index),
         (Kind::LoadInto(r), Micro::LoadAt { dst, place }) => load_into(r, dst, place),
         (Kind::LoadAcquire, Micro::LoadAcq { dst, base }) => two(Register(dst), Register(base)),
-        (Kind::Store, Micro::Store { src, base, index }) => operands_without_index(src, base, index),
-        (Kind::StoreIndexed, Micro::Store { src, base, index }) => operands_with_index(src, base, index),
+        (Kind::Store, Micro::Store { src, base, index }) => operands_without_index(
+            src, base, index,
+        ),
+        (Kind::StoreIndexed, Micro::Store { src, base, index }) => operands_with_index(
+            src, base, index,
+        ),
         (Kind::StoreIndexFirst, Micro::Store { src, base, index }) => index_first(src, base, index),
         (Kind::StoreNumber, Micro::StoreAt { place, n }) => two(Place(place), Number(n)),
         (Kind::StoreRelease, Micro::StoreRel { src, base }) => two(Register(src), Register(base)),

@@ -9,7 +9,7 @@ use thiserror::Error;
 pub enum TestKind {
     /// The first line isn't an architecture and a name of at most `MAX_NAME` bytes, or the
     /// architecture is another one.
-    #[error("the header of the test is wrong")]
+    #[error("the header is wrong")]
     BadHeader,
     /// A line that begins with a double quote doesn't end with its second one.
     #[error("a quoted line doesn't end with its second quote")]
@@ -32,7 +32,7 @@ pub enum TestKind {
     BadCondition,
     /// The text is longer than `MAX_TEXT`, or has more threads, rows, places, accesses, labels or
     /// terms than a test may have.
-    #[error("the test is too large")]
+    #[error("the text or a part of it is too large")]
     TooLarge,
     /// The text ends before its condition began.
     #[error("the text ends before its condition")]
@@ -55,7 +55,7 @@ pub enum ReadError {
     #[error("{0}")]
     Text(TextError),
     /// There is no memory for the test.
-    #[error("there is no memory for the test")]
+    #[error("there is no memory")]
     NoMemory,
 }
 

@@ -2,7 +2,7 @@ ghost use Rattle.std.specs.Prelude.{◌≡◌, IfOk};
 ghost use Rattle.diy_io.specs.Shelf.{Idle};
 
 use crate::arguments::{number_of, numbers_of};
-use crate::block::{Block, Keyword, bytes_of, first, find_block};
+use crate::block::{Block, Keyword, bytes_of, find_block, first};
 use crate::errors::TableError;
 use crate::part::{Part, add_part};
 use crate::read_all::read_all;

@@ -181,7 +181,10 @@ pub(crate) fn read_rows<'a, A: Arch>(
     let mut rows = 0;
     'rows: loop {
         let line = match left.lines() {
-            Lines::Ends(end) => return Err(ReadError::Text(error_at_line(TestKind::EndMissing, end))),
+            Lines::Ends(end) => return Err(ReadError::Text(error_at_line(
+                TestKind::EndMissing,
+                end,
+            ))),
             Lines::Line(line) => line,
         };
         if ends_rows(line.text) {
