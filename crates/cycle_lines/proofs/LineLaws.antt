@@ -1,50 +1,24 @@
 -- How the lines of a text follow from those of its parts.
 use Rattle.std.proofs.Common.{◌≡◌, ◌==◌, ℕ, zero, suc, ◌+◌, ◌<◌, ◌≤◌, List, [], ◌∷◌, ◌++◌, length, true, false, refl, sym, ap, ◌∙◌, arith, append-nil, append_assoc, length-append}
 use Rattle.std.specs.Prelude.{map}
-use Rattle.std.specs.List.{slice_split, onto_first}
+use Rattle.std.specs.List.{slice_split}
 use Rattle.std.proofs.lemmas.List.{map-append, length-map}
 use Rattle.std.proofs.lemmas.List.Splits.{slice_split_at, slice_split_none, length-slice_split}
 use Rattle.std.proofs.lemmas.Bool.Decides.{nat_tests}
 use Rattle.list_laws.proofs.Cases.{by_test}
 use Rattle.diy_io.specs.Sink.{line_feed_count}
 use Rattle.text_laws.specs.Lines.{is_line_feed, without_return, but_last, last_of}
-use Rattle.text_laws.proofs.PieceLaws.{first_piece}
+use Rattle.text_laws.proofs.PieceLaws.{first_piece, split_append, but_last_append, last_append}
 use Rattle.cycle_lines.specs.Lines.{ended_lines, unended, last_line, lines_of}
 use Rattle.cycle_lines.specs.Cycles.{is_too_long}
 use Rattle.cycle_lines.specs.Steps.{Without}
-
-by_rest : (byte : ℕ) (line : List ℕ) (rest : List (List ℕ)) (l : List ℕ) (ls : List (List ℕ)) →
-    onto_first byte (but_last (line ∷ rest) ++ (last_of (line ∷ rest) ++ l) ∷ ls) ≡ but_last ((byte ∷ line) ∷ rest) ++ (last_of ((byte ∷ line) ∷ rest) ++ l) ∷ ls
-by_rest byte line [] l ls = refl
-by_rest byte line (next ∷ rest) l ls = refl
-
--- the pieces of a text and then another: the last of the one and the first of the other are one piece
-split_append : (a b l : List ℕ) (ls : List (List ℕ)) → slice_split is_line_feed b ≡ l ∷ ls →
-    slice_split is_line_feed (a ++ b) ≡ but_last (slice_split is_line_feed a) ++ (last_of (slice_split is_line_feed a) ++ l) ∷ ls
-split_append [] b l ls h = h
-split_append (byte ∷ a) b l ls h =
-    let further = split_append a b l ls h in
-    let first = first_piece is_line_feed a in
-    by_test (is_line_feed byte)
-    (λ e. rw e (rw (further, first.is) refl))
-    (λ e. rw e (rw (further, first.is) (by_rest byte first.piece first.rest l ls)))
-
-but_last_after : (xs : List (List ℕ)) (y : List ℕ) (ys : List (List ℕ)) → but_last (xs ++ y ∷ ys) ≡ xs ++ but_last (y ∷ ys)
-but_last_after [] y ys = refl
-but_last_after (x ∷ []) y ys = refl
-but_last_after (x ∷ z ∷ xs) y ys = ap (λ t. x ∷ t) (but_last_after (z ∷ xs) y ys)
-
-last_after : (xs : List (List ℕ)) (y : List ℕ) (ys : List (List ℕ)) → last_of (xs ++ y ∷ ys) ≡ last_of (y ∷ ys)
-last_after [] y ys = refl
-last_after (x ∷ []) y ys = refl
-last_after (x ∷ z ∷ xs) y ys = last_after (z ∷ xs) y ys
 
 -- new lines begin after a line feed
 split_after : (a b : List ℕ) (l : List ℕ) (ls : List (List ℕ)) → unended a ≡ [] → slice_split is_line_feed b ≡ l ∷ ls →
     slice_split is_line_feed (a ++ b) ≡ but_last (slice_split is_line_feed a) ++ l ∷ ls
 unfolding unended
 split_after a b l ls e h =
-    split_append a b l ls h ∙ ap (λ t. but_last (slice_split is_line_feed a) ++ (t ++ l) ∷ ls) e
+    split_append is_line_feed a b l ls h ∙ ap (λ t. but_last (slice_split is_line_feed a) ++ (t ++ l) ∷ ls) e
 
 -- where nothing of a text is unended, its ended lines come before those of what follows it
 pub ended_after : (a b : List ℕ) → unended a ≡ [] → ended_lines (a ++ b) ≡ ended_lines a ++ ended_lines b
@@ -52,7 +26,7 @@ unfolding ended_lines
 ended_after a b e =
     let first = first_piece is_line_feed b in
     ap (λ t. map without_return (but_last t)) (split_after a b first.piece first.rest e first.is)
-    ∙ ap (map without_return) (but_last_after (but_last (slice_split is_line_feed a)) first.piece first.rest)
+    ∙ ap (map without_return) (but_last_append (but_last (slice_split is_line_feed a)) first.piece first.rest)
     ∙ map-append without_return (but_last (slice_split is_line_feed a)) (but_last (first.piece ∷ first.rest))
     ∙ ap (λ t. map without_return (but_last (slice_split is_line_feed a)) ++ map without_return (but_last t)) (sym first.is)
 
@@ -62,7 +36,7 @@ unfolding unended
 unended_after a b e =
     let first = first_piece is_line_feed b in
     ap last_of (split_after a b first.piece first.rest e first.is)
-    ∙ last_after (but_last (slice_split is_line_feed a)) first.piece first.rest ∙ ap last_of (sym first.is)
+    ∙ last_append (but_last (slice_split is_line_feed a)) first.piece first.rest ∙ ap last_of (sym first.is)
 
 -- where nothing of a text is unended, its ended lines come before the lines of what follows it
 pub lines_after : (a b : List ℕ) → unended a ≡ [] → lines_of (a ++ b) ≡ ended_lines a ++ lines_of b

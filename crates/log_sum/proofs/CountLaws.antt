@@ -4,11 +4,9 @@ use Rattle.std.specs.Prelude.{true, false, cond, nat_le, nat_lt, Option, Some, N
 use Rattle.std.specs.Char.{is_ascii, is_ascii_digit}
 use Rattle.std.specs.List.{list_all}
 use Rattle.std.specs.Result.{result_ok, OkIff}
-use Rattle.std.specs.Str.{IsAscii, IsUtf8}
+use Rattle.std.specs.Str.{IsUtf8}
 use Rattle.std.specs.Str.Parse.{digits_value, ParsesUnsigned}
-use Rattle.std.proofs.lemmas.Bool.{ltb-true, lt-ltb, and_parts}
-use Rattle.std.proofs.lemmas.Str.Ascii.{IsAscii-nil, IsAscii-cons}
-use Rattle.std.proofs.lemmas.Str.{IsUtf8-from_ascii}
+use Rattle.std.proofs.lemmas.Bool.{ltb-true, lt-ltb}
 use Rattle.std.proofs.lemmas.Bool.Decides.{nat_tests}
 use Rattle.std.proofs.lemmas.Str.Parse.{parse_plain}
 use Rattle.list_laws.proofs.Digits.{digits_model, digits_no_plus}
@@ -20,6 +18,7 @@ use Rattle.text_laws.specs.Runs.{run_of, after_run}
 use Rattle.text_laws.specs.Words.{is_nil}
 use Rattle.log_sum.specs.Counts.{count_read, count_of_digits, last_count}
 use Rattle.text_laws.proofs.RunLaws.{run_passes}
+use Rattle.text_laws.proofs.NameLaws.{utf8_from_ascii}
 
 -- what is parsed is the digits' value, if it is small
 pub parsed : {E : Type 0} (digits : List ℕ) (r : Result ℕ E) → list_all is_ascii_digit digits ≡ true → 0 < length digits → ParsesUnsigned 64 10 digits r
@@ -32,16 +31,10 @@ parsed digits r all some parses = by_answer r (parse_plain digits_model 64 digit
     by_answer (Err e) h =
         by_test (nat_lt (digits_value 10 digits) (2 ^ 64)) (λ t. absurd (h (all, some, ltb-true (digits_value 10 digits) (2 ^ 64) t))) (λ t. rw t refl)
 
-all_ascii : (bytes : List ℕ) → list_all is_ascii bytes ≡ true → IsAscii bytes
-all_ascii [] h = IsAscii-nil
-all_ascii (byte ∷ bytes) h =
-    let p : (is_ascii byte ≡ true) × (list_all is_ascii bytes ≡ true) = and_parts (is_ascii byte) (list_all is_ascii bytes) h in
-    IsAscii-cons byte bytes (ltb-true byte 128 p.0) (all_ascii bytes p.1)
-
 -- digits are UTF-8
 pub digits_ascii : (digits : List ℕ) → list_all is_ascii_digit digits ≡ true → IsUtf8 digits
 digits_ascii digits h =
-    IsUtf8-from_ascii digits (all_ascii digits (list_all-weaker is_ascii_digit is_ascii (λ byte p. grind (arith, nat_tests)) digits h))
+    utf8_from_ascii digits (list_all-weaker is_ascii_digit is_ascii (λ byte p. grind (arith, nat_tests)) digits h)
 
 -- the digits at the start of a text are digits
 pub prefix_digits : (text digits : List ℕ) → digits ≡ run_of is_ascii_digit text → list_all is_ascii_digit digits ≡ true

@@ -1,7 +1,7 @@
 -- A log may come in any pieces.
 use Rattle.std.proofs.Common.{◌≡◌, ◌==◌, ℕ, List, [], ◌∷◌, ◌++◌, true, false, refl, sym, ap, ◌∙◌, append-nil}
 use Rattle.std.specs.Prelude.{Bool, not, cond, map, Result, Ok, Err, filter, fold}
-use Rattle.std.specs.List.{slice_split, onto_first, list_any, list_all}
+use Rattle.std.specs.List.{slice_split, list_any, list_all}
 use Rattle.std.specs.Str.{bytes_eq}
 use Rattle.std.proofs.lemmas.List.Elements.{filter-append}
 use Rattle.std.proofs.lemmas.List.Sums.{fold-append}
@@ -13,122 +13,50 @@ use Rattle.log_sum.specs.Facts.{Fact, Entry, facts_of, tests_of, with_name}
 use Rattle.log_sum.specs.Summed.{Summed, summed}
 use Rattle.log_sum.specs.Representing.{table_of}
 use Rattle.log_sum.specs.Reading.{Seen, ◌>>=◌, lines_judged, line_judged, lines_of, rest_of, bytes_judged, rest_judged, file_judged, files_judged, input_judged, nothing_seen}
-use Rattle.text_laws.specs.Lines.{but_last, last_of}
+use Rattle.text_laws.specs.Lines.{is_line_feed, but_last, last_of}
+use Rattle.text_laws.proofs.PieceLaws.{first_piece, split_whole, split_both, split_append, but_last_append, last_append, whole_split}
 use Rattle.log_sum.specs.Feeding.{entry_of}
-
-abbrev is_feed : ℕ → Bool
-is_feed byte = byte == 10
 
 -- a text has no line feed
 abbrev pub is_one_line : List ℕ → Bool
-is_one_line text = list_all (λ byte. not (is_feed byte)) text
-
--- a split has a first piece
-record FirstLine (bytes : List ℕ) : Type 0 where
-  line : List ℕ
-  rest : List (List ℕ)
-  is : slice_split is_feed bytes ≡ line ∷ rest
-
-first_line : (bytes : List ℕ) → FirstLine bytes
-first_line [] = record { line = []; rest = []; is = refl }
-first_line (byte ∷ bytes) =
-    let further = first_line bytes in
-    by_test (is_feed byte)
-    (λ e. record { line = []; rest = slice_split is_feed bytes; is = rw e refl })
-    (λ e. record { line = byte ∷ further.line; rest = further.rest; is = rw (e, further.is) refl })
-
-last_onto : (byte : ℕ) (pieces : List (List ℕ)) (line : List ℕ) → pieces ≡ line ∷ [] → last_of (onto_first byte pieces) ≡ byte ∷ last_of pieces
-last_onto byte pieces line e = rw e refl
+is_one_line text = list_all (λ byte. not (is_line_feed byte)) text
 
 -- bytes without a line feed are appended to the last line
-split_more : (bytes part : List ℕ) → is_one_line part ≡ true → slice_split is_feed (bytes ++ part) ≡ but_last (slice_split is_feed bytes) ++ (last_of (slice_split is_feed bytes) ++ part) ∷ []
-split_more [] part h = one_line part h
-  where
-    one_line : (part : List ℕ) → is_one_line part ≡ true → slice_split is_feed part ≡ part ∷ []
-    one_line [] h = refl
-    one_line (byte ∷ part) h = by_test (is_feed byte) (λ e. let k = rw e at h in absurd (cc)) (λ e. rw e (ap (onto_first byte) (one_line part (rw e at h))))
-split_more (byte ∷ bytes) part h =
-    let further = split_more bytes part h in
-    let first = first_line bytes in
-    by_test (is_feed byte)
-    (λ e. rw e (rw (further, first.is) refl))
-    (λ e. rw e (rw (further, first.is) (by_rest byte first.line first.rest part)))
-  where
-    by_rest : (byte : ℕ) (line : List ℕ) (rest : List (List ℕ)) (part : List ℕ) → onto_first byte (but_last (line ∷ rest) ++ (last_of (line ∷ rest) ++ part) ∷ []) ≡ but_last ((byte ∷ line) ∷ rest) ++ (last_of ((byte ∷ line) ∷ rest) ++ part) ∷ []
-    by_rest byte line [] part = refl
-    by_rest byte line (next ∷ rest) part = refl
-
--- where a line feed follows, the last line ends and a new one begins
-split_ended : (bytes : List ℕ) → slice_split is_feed (bytes ++ 10 ∷ []) ≡ slice_split is_feed bytes ++ [] ∷ []
-split_ended [] = refl
-split_ended (byte ∷ bytes) =
-    let first = first_line bytes in
-    by_test (is_feed byte) (λ e. rw e (ap (λ t. [] ∷ t) (split_ended bytes))) (λ e. rw e (ap (onto_first byte) (split_ended bytes) ∙ rw first.is refl))
-
-last_split : (lines : List (List ℕ)) (line : List ℕ) → last_of (lines ++ line ∷ []) ≡ line
-last_split [] line = refl
-last_split (l ∷ []) line = refl
-last_split (l ∷ m ∷ lines) line = last_split (m ∷ lines) line
-
-prefix_split : (lines : List (List ℕ)) (line : List ℕ) → but_last (lines ++ line ∷ []) ≡ lines
-prefix_split [] line = refl
-prefix_split (l ∷ []) line = refl
-prefix_split (l ∷ m ∷ lines) line = ap (λ t. l ∷ t) (prefix_split (m ∷ lines) line)
+split_more : (bytes part : List ℕ) → is_one_line part ≡ true
+    → slice_split is_line_feed (bytes ++ part) ≡ but_last (slice_split is_line_feed bytes) ++ (last_of (slice_split is_line_feed bytes) ++ part) ∷ []
+split_more bytes part h = split_append is_line_feed bytes part part [] (split_whole is_line_feed part h)
 
 -- bytes without a line feed end no line
 pub lines_more : (bytes part : List ℕ) → is_one_line part ≡ true → lines_of (bytes ++ part) ≡ lines_of bytes
 unfolding lines_of
-lines_more bytes part h = ap but_last (split_more bytes part h) ∙ prefix_split (but_last (slice_split is_feed bytes)) (last_of (slice_split is_feed bytes) ++ part)
+lines_more bytes part h =
+    ap but_last (split_more bytes part h) ∙ but_last_append (but_last (slice_split is_line_feed bytes)) (last_of (slice_split is_line_feed bytes) ++ part) []
+    ∙ append-nil (but_last (slice_split is_line_feed bytes))
 
 -- bytes without a line feed are appended to the line that goes on
 pub rest_more : (bytes part : List ℕ) → is_one_line part ≡ true → rest_of (bytes ++ part) ≡ rest_of bytes ++ part
 unfolding rest_of
-rest_more bytes part h = ap last_of (split_more bytes part h) ∙ last_split (but_last (slice_split is_feed bytes)) (last_of (slice_split is_feed bytes) ++ part)
-
--- a split is its pieces but the last, and then the last
-whole_split : (lines : List (List ℕ)) (line : List ℕ) (rest : List (List ℕ)) → lines ≡ line ∷ rest → lines ≡ but_last lines ++ last_of lines ∷ []
-whole_split lines line [] e = rw e refl
-whole_split lines line (next ∷ rest) e = rw e (ap (λ t. line ∷ t) (whole_split (next ∷ rest) next rest refl))
-
--- a line feed ends the line that goes on
-pub lines_ended : (bytes : List ℕ) → lines_of (bytes ++ 10 ∷ []) ≡ lines_of bytes ++ rest_of bytes ∷ []
-unfolding lines_of rest_of
-lines_ended bytes =
-    let first = first_line bytes in
-    ap but_last (split_ended bytes) ∙ prefix_split (slice_split is_feed bytes) [] ∙ whole_split (slice_split is_feed bytes) first.line first.rest first.is
-
--- after a line feed nothing goes on
-pub rest_ended : (bytes : List ℕ) → rest_of (bytes ++ 10 ∷ []) ≡ []
-unfolding rest_of
-rest_ended bytes = ap last_of (split_ended bytes) ∙ last_split (slice_split is_feed bytes) []
-
--- where a line feed is, a line ends and the others follow
-split_cut : (bytes rest : List ℕ) → slice_split is_feed (bytes ++ 10 ∷ rest) ≡ slice_split is_feed bytes ++ slice_split is_feed rest
-split_cut [] rest = refl
-split_cut (byte ∷ bytes) rest =
-    let first = first_line bytes in
-    by_test (is_feed byte) (λ e. rw e (ap (λ t. [] ∷ t) (split_cut bytes rest))) (λ e. rw e (ap (onto_first byte) (split_cut bytes rest) ∙ rw first.is refl))
-
-but_last_both : (lines : List (List ℕ)) (line : List ℕ) (more : List (List ℕ)) → but_last (lines ++ line ∷ more) ≡ lines ++ but_last (line ∷ more)
-but_last_both [] line more = refl
-but_last_both (l ∷ []) line more = refl
-but_last_both (l ∷ m ∷ lines) line more = ap (λ t. l ∷ t) (but_last_both (m ∷ lines) line more)
-
-last_both : (lines : List (List ℕ)) (line : List ℕ) (more : List (List ℕ)) → last_of (lines ++ line ∷ more) ≡ last_of (line ∷ more)
-last_both [] line more = refl
-last_both (l ∷ []) line more = refl
-last_both (l ∷ m ∷ lines) line more = last_both (m ∷ lines) line more
+rest_more bytes part h = ap last_of (split_more bytes part h) ∙ last_append (but_last (slice_split is_line_feed bytes)) (last_of (slice_split is_line_feed bytes) ++ part) []
 
 -- the lines up to a line feed, and those after it, are the lines of the whole
 pub lines_cut : (bytes rest : List ℕ) → lines_of (bytes ++ 10 ∷ rest) ≡ (lines_of bytes ++ rest_of bytes ∷ []) ++ lines_of rest
 unfolding lines_of rest_of
 lines_cut bytes rest =
-    let first = first_line bytes in
-    let behind = first_line rest in
-    ap but_last (split_cut bytes rest)
-    ∙ ap (λ t. but_last (slice_split is_feed bytes ++ t)) behind.is ∙ but_last_both (slice_split is_feed bytes) behind.line behind.rest
-    ∙ ap (λ t. slice_split is_feed bytes ++ but_last t) (sym behind.is)
-    ∙ ap (λ t. t ++ but_last (slice_split is_feed rest)) (whole_split (slice_split is_feed bytes) first.line first.rest first.is)
+    let after = first_piece is_line_feed rest in
+    ap but_last (split_both is_line_feed bytes 10 rest refl)
+    ∙ ap (λ t. but_last (slice_split is_line_feed bytes ++ t)) after.is ∙ but_last_append (slice_split is_line_feed bytes) after.piece after.rest
+    ∙ ap (λ t. slice_split is_line_feed bytes ++ but_last t) (sym after.is)
+    ∙ ap (λ t. t ++ but_last (slice_split is_line_feed rest)) (whole_split is_line_feed bytes)
+
+-- a line feed ends the line that goes on
+pub lines_ended : (bytes : List ℕ) → lines_of (bytes ++ 10 ∷ []) ≡ lines_of bytes ++ rest_of bytes ∷ []
+unfolding lines_of
+lines_ended bytes = lines_cut bytes [] ∙ append-nil (lines_of bytes ++ rest_of bytes ∷ [])
+
+-- after a line feed nothing goes on
+pub rest_ended : (bytes : List ℕ) → rest_of (bytes ++ 10 ∷ []) ≡ []
+unfolding rest_of
+rest_ended bytes = ap last_of (split_both is_line_feed bytes 10 [] refl) ∙ last_append (slice_split is_line_feed bytes) [] []
 
 -- what is judged first, and then what comes after it
 then_on : {A : Type 0} (r : Result A LogError) (whole first : A → Result Seen LogError) (last : Seen → Result Seen LogError)
@@ -173,7 +101,7 @@ pub read_on : (seen : Seen) (files : List (List ℕ)) (bytes : List ℕ) → fil
 read_on seen [] bytes = then_none (file_judged seen bytes)
 read_on seen (file ∷ files) bytes = then_on (file_judged seen file) _ _ _ (λ next. read_on next files bytes)
 
--- the facts of a test with an entry more
+-- a text is the same as itself
 bytes_same : (t : List ℕ) → bytes_eq t t ≡ true
 bytes_same t = (bytes_eq-Decides t t).1 refl
 
@@ -251,6 +179,7 @@ differ_name (x ∷ names) name h (more _ _ n d) =
     swap : (x name : List ℕ) → bytes_eq name x ≡ false → bytes_eq x name ≡ false
     swap x name e = by_test (bytes_eq x name) (λ f. let k : bytes_eq name x ≡ true = (bytes_eq-Decides name x).1 (sym ((bytes_eq-Decides x name).0 f)) in absurd (let z : true ≡ false = sym k ∙ e in cc)) (λ f. f)
 
+-- the names with one more differ
 pub differ_with : (names : List (List ℕ)) (name : List ℕ) → Differ names → Differ (with_name names name)
 differ_with names name d = by_test (list_any (bytes_eq name) names) (λ e. rw e d) (λ e. rw e (differ_name names name e d))
 

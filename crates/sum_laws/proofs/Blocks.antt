@@ -2,7 +2,7 @@
 use Rattle.std.proofs.Common.{◌≡◌, ◌==◌, ℕ, ◌≤◌, List, [], ◌∷◌, ◌++◌, true, false, refl, sym, ap, ◌∙◌, arith, append_assoc, append-nil, Some, None}
 use Rattle.std.specs.Prelude.{not, Option, Ok, decimal}
 use Rattle.std.specs.Char.{is_ascii_digit}
-use Rattle.std.specs.List.{slice_split, list_all}
+use Rattle.std.specs.List.{list_all}
 use Rattle.std.proofs.lemmas.Bool.Decides.{nat_tests}
 use Rattle.std.proofs.lemmas.Bool.{and_parts, not-true}
 use Rattle.list_laws.proofs.Elements.{list_all-weaker}
@@ -11,10 +11,10 @@ use Rattle.log_sum.specs.Counts.{last_count}
 use Rattle.log_sum.specs.Facts.{Fact, Entry, facts_of, fault_of}
 use Rattle.log_sum.specs.Lines.{Said, line_said, place_after, fact_said, test_after}
 use Rattle.log_sum.specs.Reading.{Seen, ◌>>=◌, is_too_long, next_line, fact_put, at_next_line, text_judged, line_judged, lines_judged, lines_of, rest_of}
-use Rattle.text_laws.specs.Lines.{without_return, but_last, last_of}
+use Rattle.text_laws.specs.Lines.{is_line_feed, without_return, but_last, last_of}
 use Rattle.sum_laws.proofs.Cases.{Place}
-use Rattle.sum_laws.proofs.Texts.{all_both, no_feed, split_both, split_whole}
-use Rattle.text_laws.proofs.PieceLaws.{first_piece}
+use Rattle.sum_laws.proofs.Texts.{all_both, no_feed}
+use Rattle.text_laws.proofs.PieceLaws.{first_piece, split_off}
 use Rattle.sum_laws.proofs.Lines.{digits_all}
 
 -- what was seen, by its parts
@@ -65,17 +65,15 @@ goes_on g h = record { lines = g.lines ∙ h.lines; last = g.last ∙ h.last; fi
 pub line_off : (text rest : List ℕ) → list_all no_feed text ≡ true → lines_of (text ++ 10 ∷ rest) ≡ text ∷ lines_of rest
 unfolding lines_of
 line_off text rest h =
-    let first = first_piece (λ byte. byte == 10) rest in
-    ap but_last (split_both (λ byte. byte == 10) text 10 rest refl ∙ ap (λ t. t ++ slice_split (λ byte. byte == 10) rest) (split_whole (λ byte. byte == 10) text h))
-    ∙ rw first.is refl
+    let first = first_piece is_line_feed rest in
+    ap but_last (split_off is_line_feed text 10 rest refl h) ∙ rw first.is refl
 
 -- a line at the start changes nothing in the last line
 pub last_off : (text rest : List ℕ) → list_all no_feed text ≡ true → rest_of (text ++ 10 ∷ rest) ≡ rest_of rest
 unfolding rest_of
 last_off text rest h =
-    let first = first_piece (λ byte. byte == 10) rest in
-    ap last_of (split_both (λ byte. byte == 10) text 10 rest refl ∙ ap (λ t. t ++ slice_split (λ byte. byte == 10) rest) (split_whole (λ byte. byte == 10) text h))
-    ∙ rw first.is refl
+    let first = first_piece is_line_feed rest in
+    ap last_of (split_off is_line_feed text 10 rest refl h) ∙ rw first.is refl
 
 -- a text that can be a printed line
 pub record IsLine (text : List ℕ) : Type 0 where

@@ -19,7 +19,8 @@ use Rattle.log_sum.specs.Texts.{begins_with}
 use Rattle.text_laws.specs.Cuts.{before_cut, cut_at}
 use Rattle.log_sum.specs.States.{is_bracketed, left_kept, is_side, sides_read, has_left, with_equality, and_then, with_pieces, later_unblanked, state_read, later_forms, state_form, or_bad, form_read}
 use Rattle.text_laws.specs.Lines.{without_return}
-use Rattle.sum_laws.proofs.Texts.{all_both, all_parts, all_and, all_after, bytes_same, no_feed, split_both, split_whole, end_stays, ink_stays}
+use Rattle.text_laws.proofs.PieceLaws.{split_off}
+use Rattle.sum_laws.proofs.Texts.{all_both, all_parts, all_and, all_after, bytes_same, no_feed, end_stays, ink_stays}
 use Rattle.std.proofs.Math.Bool.{or-true}
 use Rattle.list_laws.proofs.Elements.{list_all-weaker}
 use Rattle.list_laws.proofs.Cases.{by_test}
@@ -296,7 +297,7 @@ split_later [] a = refl
 split_later (x ∷ xs) a =
     let i = a.0 in
     ap (λ t. map unblanked (slice_split (λ byte. byte == 59) t)) (append_assoc (32 ∷ x) (59 ∷ []) (later_forms xs))
-    ∙ ap (map unblanked) (split_both (λ byte. byte == 59) (32 ∷ x) 59 (later_forms xs) refl ∙ ap (λ t. t ++ slice_split (λ byte. byte == 59) (later_forms xs)) (split_whole (λ byte. byte == 59) (32 ∷ x) (equality_semis x i)))
+    ∙ ap (map unblanked) (split_off (λ byte. byte == 59) (32 ∷ x) 59 (later_forms xs) refl (equality_semis x i))
     ∙ ap (λ t. t ∷ map unblanked (slice_split (λ byte. byte == 59) (later_forms xs))) (equality_first x i)
     ∙ ap (λ t. x ∷ t) (split_later xs a.1)
 
@@ -305,7 +306,7 @@ unfolding state_form
 split_form [] a = refl
 split_form (x ∷ xs) a =
     ap (λ t. later_unblanked (slice_split (λ byte. byte == 59) t)) (append_assoc x (59 ∷ []) (later_forms xs))
-    ∙ ap later_unblanked (split_both (λ byte. byte == 59) x 59 (later_forms xs) refl ∙ ap (λ t. t ++ slice_split (λ byte. byte == 59) (later_forms xs)) (split_whole (λ byte. byte == 59) x (equality_semis x a.0)))
+    ∙ ap later_unblanked (split_off (λ byte. byte == 59) x 59 (later_forms xs) refl (equality_semis x a.0))
     ∙ ap (λ t. x ∷ t) (split_later xs a.1)
 
 one_more_piece : (state : List (List ℕ)) (piece : List ℕ) (xs : List (List ℕ)) → with_pieces state (piece ∷ (xs ++ [] ∷ [])) ≡ and_then (with_equality state (sides_read (cut_at 61 piece))) (λ more. with_pieces more (xs ++ [] ∷ []))

@@ -14,7 +14,7 @@ use Rattle.text_laws.specs.Blanks.{is_blank, is_inked, before_blanks, kept_befor
 use Rattle.text_laws.specs.Words.{is_nil, words}
 use Rattle.text_laws.specs.Runs.{after_run}
 use Rattle.log_sum.specs.Texts.{later_words, joined_words, ends_with, before_end}
-use Rattle.text_laws.proofs.PieceLaws.{first_piece}
+use Rattle.text_laws.proofs.PieceLaws.{split_both, split_whole}
 
 -- a text is equal to itself
 pub bytes_same : (t : List ℕ) → bytes_eq t t ≡ true
@@ -108,21 +108,6 @@ ink_stays b (c ∷ text) h e = ap (kept_before b) e
 -- words
 some_words : List (List ℕ) → List (List ℕ)
 some_words pieces = filter (λ word. not (is_nil word)) pieces
-
--- a text that is split at a byte that passes is the pieces of both parts
-pub split_both : (p : ℕ → Bool) (prefix : List ℕ) (b : ℕ) (text : List ℕ) → p b ≡ true → slice_split p (prefix ++ b ∷ text) ≡ slice_split p prefix ++ slice_split p text
-split_both p [] b text h = rw h refl
-split_both p (c ∷ prefix) b text h =
-    let first = first_piece p prefix in
-    by_test (p c) (λ e. rw e (ap (λ t. [] ∷ t) (split_both p prefix b text h))) (λ e. rw e (ap (onto_first c) (split_both p prefix b text h) ∙ rw first.is refl))
-
--- a text of which no byte passes is one piece
-pub split_whole : (p : ℕ → Bool) (text : List ℕ) → list_all (λ b. not (p b)) text ≡ true → slice_split p text ≡ text ∷ []
-split_whole p [] h = refl
-split_whole p (b ∷ text) h =
-    let k : (not (p b) ≡ true) × (list_all (λ c. not (p c)) text ≡ true) = and_parts (not (p b)) (list_all (λ c. not (p c)) text) h in
-    let n : p b ≡ false = not-true (p b) k.0 in
-    rw n (ap (onto_first b) (split_whole p text k.1))
 
 -- the words of two texts with a blank between them are those of both
 pub words_both : (prefix text : List ℕ) → words (prefix ++ 32 ∷ text) ≡ words prefix ++ words text
