@@ -6,7 +6,7 @@ use Rattle.std.specs.List.{position, position_or_len, slice_split, onto_first}
 use Rattle.std.proofs.lemmas.List.Splits.{slice_split_first, slice_split_none}
 use Rattle.std.proofs.lemmas.List.Sums.{fails_before_first}
 use Rattle.list_laws.proofs.Cases.{by_test}
-use Rattle.text_laws.specs.Blanks.{trimmed}
+use Rattle.text_laws.specs.Blanks.{trim_blanks}
 use Rattle.arch_trait.specs.Writing.{none, one, two, three, four, more}
 use Rattle.arch_trait.specs.Reading.{few, operands_if, operands_in}
 
@@ -48,55 +48,55 @@ cut_some t i e = by_test (nat_lt (position_or_len is_comma t) (length t))
     none_some e = cc
 
 -- the operands of a text by its pieces
-operands_some : (t u : List ℕ) → u ≡ trimmed t → 1 ≤ length u →
-    operands_in t ≡ few (map trimmed (slice_split is_comma u))
+operands_some : (t u : List ℕ) → u ≡ trim_blanks t → 1 ≤ length u →
+    operands_in t ≡ few (map trim_blanks (slice_split is_comma u))
 unfolding operands_in
 operands_some t [] e h = absurd (omega arith)
 operands_some t (b ∷ u) e h = ap operands_if (sym e)
 
-pub operands_none : (t u : List ℕ) → u ≡ trimmed t → length u ≡ 0 → none ≡ operands_in t
+pub operands_none : (t u : List ℕ) → u ≡ trim_blanks t → length u ≡ 0 → none ≡ operands_in t
 unfolding operands_in
 operands_none t [] e h = ap operands_if e
 operands_none t (b ∷ u) e h = absurd (omega arith)
 
-pub operands_one : (t u : List ℕ) → u ≡ trimmed t → 1 ≤ length u → slice_split is_comma u ≡ u ∷ [] →
-    operands_in t ≡ one (trimmed u)
-operands_one t u e h s = operands_some t u e h ∙ ap (λ l. few (map trimmed l)) s
+pub operands_one : (t u : List ℕ) → u ≡ trim_blanks t → 1 ≤ length u → slice_split is_comma u ≡ u ∷ [] →
+    operands_in t ≡ one (trim_blanks u)
+operands_one t u e h s = operands_some t u e h ∙ ap (λ l. few (map trim_blanks l)) s
 
-pub operands_two : (t u a r : List ℕ) → u ≡ trimmed t → 1 ≤ length u →
+pub operands_two : (t u a r : List ℕ) → u ≡ trim_blanks t → 1 ≤ length u →
     slice_split is_comma u ≡ a ∷ slice_split is_comma r → slice_split is_comma r ≡ r ∷ [] →
-    operands_in t ≡ two (trimmed a) (trimmed r)
+    operands_in t ≡ two (trim_blanks a) (trim_blanks r)
 operands_two t u a r e h s i =
-    operands_some t u e h ∙ ap (λ l. few (map trimmed l)) (s ∙ ap (λ l. a ∷ l) i)
+    operands_some t u e h ∙ ap (λ l. few (map trim_blanks l)) (s ∙ ap (λ l. a ∷ l) i)
 
-pub operands_three : (t u a r b q : List ℕ) → u ≡ trimmed t → 1 ≤ length u →
+pub operands_three : (t u a r b q : List ℕ) → u ≡ trim_blanks t → 1 ≤ length u →
     slice_split is_comma u ≡ a ∷ slice_split is_comma r →
     slice_split is_comma r ≡ b ∷ slice_split is_comma q → slice_split is_comma q ≡ q ∷ [] →
-    operands_in t ≡ three (trimmed a) (trimmed b) (trimmed q)
+    operands_in t ≡ three (trim_blanks a) (trim_blanks b) (trim_blanks q)
 operands_three t u a r b q e h s i j =
     operands_some t u e h ∙
-    ap (λ l. few (map trimmed l)) (s ∙ ap (λ l. a ∷ l) (i ∙ ap (λ l. b ∷ l) j))
+    ap (λ l. few (map trim_blanks l)) (s ∙ ap (λ l. a ∷ l) (i ∙ ap (λ l. b ∷ l) j))
 
-pub operands_four : (t u a r b q d p : List ℕ) → u ≡ trimmed t → 1 ≤ length u →
+pub operands_four : (t u a r b q d p : List ℕ) → u ≡ trim_blanks t → 1 ≤ length u →
     slice_split is_comma u ≡ a ∷ slice_split is_comma r →
     slice_split is_comma r ≡ b ∷ slice_split is_comma q →
     slice_split is_comma q ≡ d ∷ slice_split is_comma p → slice_split is_comma p ≡ p ∷ [] →
-    operands_in t ≡ four (trimmed a) (trimmed b) (trimmed d) (trimmed p)
+    operands_in t ≡ four (trim_blanks a) (trim_blanks b) (trim_blanks d) (trim_blanks p)
 operands_four t u a r b q d p e h s i j k =
     operands_some t u e h ∙
-    ap (λ l. few (map trimmed l)) (s ∙ ap (λ l. a ∷ l) (i ∙ ap (λ l. b ∷ l) (j ∙ ap (λ l. d ∷ l) k)))
+    ap (λ l. few (map trim_blanks l)) (s ∙ ap (λ l. a ∷ l) (i ∙ ap (λ l. b ∷ l) (j ∙ ap (λ l. d ∷ l) k)))
 
-pub operands_more : (t u a r b q d p c o : List ℕ) → u ≡ trimmed t → 1 ≤ length u →
+pub operands_more : (t u a r b q d p c o : List ℕ) → u ≡ trim_blanks t → 1 ≤ length u →
     slice_split is_comma u ≡ a ∷ slice_split is_comma r →
     slice_split is_comma r ≡ b ∷ slice_split is_comma q →
     slice_split is_comma q ≡ d ∷ slice_split is_comma p →
     slice_split is_comma p ≡ c ∷ slice_split is_comma o → operands_in t ≡ more
 operands_more t u a r b q d p c o e h s i j k =
     operands_some t u e h ∙
-    (ap (λ l. few (map trimmed l))
+    (ap (λ l. few (map trim_blanks l))
     (s ∙ ap (λ l. a ∷ l) (i ∙ ap (λ l. b ∷ l) (j ∙ ap (λ l. d ∷ l) k))) ∙ rest o)
   where
-    rest : (p : List ℕ) → few (map trimmed (a ∷ b ∷ d ∷ c ∷ slice_split is_comma p)) ≡ more
+    rest : (p : List ℕ) → few (map trim_blanks (a ∷ b ∷ d ∷ c ∷ slice_split is_comma p)) ≡ more
     rest p = some_piece (slice_split is_comma p) (pieces p)
       where
         IsSome : List (List ℕ) → Type 0
@@ -113,7 +113,7 @@ operands_more t u a r b q d p c o e h s i j k =
             of_test false [] = tt
             of_test false (y ∷ l) = tt
 
-        some_piece : (l : List (List ℕ)) → IsSome l → few (map trimmed (a ∷ b ∷ d ∷ c ∷ l)) ≡ more
+        some_piece : (l : List (List ℕ)) → IsSome l → few (map trim_blanks (a ∷ b ∷ d ∷ c ∷ l)) ≡ more
         some_piece [] h = absurd h
         some_piece (x ∷ l) h = refl
 
@@ -126,33 +126,33 @@ some_bytes u b e f =
     let d : length u ≡ 0 → ⊥ = eqb-false (length u) 0 (sym e ∙ f) in omega arith
 
 -- the same of the operands as they were trimmed
-pub gave_one : (t u x : List ℕ) → u ≡ trimmed t → 1 ≤ length u → slice_split is_comma u ≡ u ∷ [] →
-    x ≡ trimmed u → one x ≡ operands_in t
+pub gave_one : (t u x : List ℕ) → u ≡ trim_blanks t → 1 ≤ length u → slice_split is_comma u ≡ u ∷ [] →
+    x ≡ trim_blanks u → one x ≡ operands_in t
 gave_one t u x e h s f = ap (λ l. one l) f ∙ sym (operands_one t u e h s)
 
-pub gave_two : (t u a r x y : List ℕ) → u ≡ trimmed t → 1 ≤ length u →
+pub gave_two : (t u a r x y : List ℕ) → u ≡ trim_blanks t → 1 ≤ length u →
     slice_split is_comma u ≡ a ∷ slice_split is_comma r → slice_split is_comma r ≡ r ∷ [] →
-    x ≡ trimmed a → y ≡ trimmed r → two x y ≡ operands_in t
+    x ≡ trim_blanks a → y ≡ trim_blanks r → two x y ≡ operands_in t
 gave_two t u a r x y e h s i f g =
-    ap (λ l. two l y) f ∙ (ap (λ l. two (trimmed a) l) g ∙ sym (operands_two t u a r e h s i))
+    ap (λ l. two l y) f ∙ (ap (λ l. two (trim_blanks a) l) g ∙ sym (operands_two t u a r e h s i))
 
-pub gave_three : (t u a r b q x y z : List ℕ) → u ≡ trimmed t → 1 ≤ length u →
+pub gave_three : (t u a r b q x y z : List ℕ) → u ≡ trim_blanks t → 1 ≤ length u →
     slice_split is_comma u ≡ a ∷ slice_split is_comma r →
     slice_split is_comma r ≡ b ∷ slice_split is_comma q → slice_split is_comma q ≡ q ∷ [] →
-    x ≡ trimmed a → y ≡ trimmed b → z ≡ trimmed q → three x y z ≡ operands_in t
+    x ≡ trim_blanks a → y ≡ trim_blanks b → z ≡ trim_blanks q → three x y z ≡ operands_in t
 gave_three t u a r b q x y z e h s i j f g k =
     ap (λ l. three l y z) f ∙
-    (ap (λ l. three (trimmed a) l z) g ∙
-    (ap (λ l. three (trimmed a) (trimmed b) l) k ∙ sym (operands_three t u a r b q e h s i j)))
+    (ap (λ l. three (trim_blanks a) l z) g ∙
+    (ap (λ l. three (trim_blanks a) (trim_blanks b) l) k ∙ sym (operands_three t u a r b q e h s i j)))
 
-pub gave_four : (t u a r b q d p x y z w : List ℕ) → u ≡ trimmed t → 1 ≤ length u →
+pub gave_four : (t u a r b q d p x y z w : List ℕ) → u ≡ trim_blanks t → 1 ≤ length u →
     slice_split is_comma u ≡ a ∷ slice_split is_comma r →
     slice_split is_comma r ≡ b ∷ slice_split is_comma q →
     slice_split is_comma q ≡ d ∷ slice_split is_comma p → slice_split is_comma p ≡ p ∷ [] →
-    x ≡ trimmed a → y ≡ trimmed b → z ≡ trimmed d → w ≡ trimmed p → four x y z w ≡ operands_in t
+    x ≡ trim_blanks a → y ≡ trim_blanks b → z ≡ trim_blanks d → w ≡ trim_blanks p → four x y z w ≡ operands_in t
 gave_four t u a r b q d p x y z w e h s i j m f g k n =
     ap (λ l. four l y z w) f ∙
-    (ap (λ l. four (trimmed a) l z w) g ∙
-    (ap (λ l. four (trimmed a) (trimmed b) l w) k ∙
-    (ap (λ l. four (trimmed a) (trimmed b) (trimmed d) l) n ∙
+    (ap (λ l. four (trim_blanks a) l z w) g ∙
+    (ap (λ l. four (trim_blanks a) (trim_blanks b) l w) k ∙
+    (ap (λ l. four (trim_blanks a) (trim_blanks b) (trim_blanks d) l) n ∙
     sym (operands_four t u a r b q d p e h s i j m))))

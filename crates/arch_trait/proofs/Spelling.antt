@@ -2,7 +2,7 @@
 use Rattle.std.proofs.Common.{ℕ, ◌≡◌, ◌==◌, refl, Bool, true, false, not, ◌&&◌, List, [], ◌∷◌, ◌++◌, Some, map, ◌∙◌, sym, ap, append-nil, append_assoc}
 use Rattle.std.proofs.lemmas.Bool.{and_parts, not-true}
 use Rattle.std.specs.List.{list_all, slice_split, onto_first}
-use Rattle.text_laws.specs.Blanks.{is_blank, unblanked, kept_before, before_blanks, trimmed, is_inked}
+use Rattle.text_laws.specs.Blanks.{is_blank, unblanked, kept_before, before_blanks, trim_blanks, is_inked}
 use Rattle.text_laws.specs.Runs.{run_of, after_run}
 use Rattle.micro_ops.specs.declared.operation.Micro.{Micro}
 use Rattle.arch_trait.specs.Threads.{Puts}
@@ -123,14 +123,14 @@ before_ends (b ∷ a) t w =
     kept b [] h = absurd h
     kept b (c ∷ t) h = refl
 
-trimmed_word : (t : List ℕ) → IsWord t → trimmed t ≡ t
+trimmed_word : (t : List ℕ) → IsWord t → trim_blanks t ≡ t
 trimmed_word t w =
     ap before_blanks (ap unblanked (sym (append-nil t)) ∙ (unblanked_word t [] w ∙ append-nil t)) ∙
     before_word t w.bytes
 
 -- a text of words between commas, after a blank
 trimmed_words : (t a u : List ℕ) → IsWord t → IsWord u →
-    trimmed (32 ∷ (t ++ (a ++ u))) ≡ t ++ (a ++ u)
+    trim_blanks (32 ∷ (t ++ (a ++ u))) ≡ t ++ (a ++ u)
 trimmed_words t a u w x =
     ap before_blanks (unblanked_blank (t ++ (a ++ u)) ∙ unblanked_word t (a ++ u) w) ∙
     (ap before_blanks (sym (append_assoc t a u)) ∙ (before_ends (t ++ a) u x ∙ append_assoc t a u))
@@ -153,40 +153,40 @@ split_last (b ∷ t) h =
     rw q (ap (λ l. onto_first b l) (split_last t p.1))
 
 some_operands : (t rest : List ℕ) → IsWord t →
-    operands_if (t ++ rest) ≡ few (map trimmed (slice_split (λ x. x == 44) (t ++ rest)))
+    operands_if (t ++ rest) ≡ few (map trim_blanks (slice_split (λ x. x == 44) (t ++ rest)))
 some_operands t rest w =
     ap (λ l. operands_if (l ++ rest)) w.is ∙
-    sym (ap (λ l. few (map trimmed (slice_split (λ x. x == 44) (l ++ rest)))) w.is)
+    sym (ap (λ l. few (map trim_blanks (slice_split (λ x. x == 44) (l ++ rest)))) w.is)
 
-trimmed_nil : trimmed [] ≡ []
+trimmed_nil : trim_blanks [] ≡ []
 unfolding before_blanks after_run
 trimmed_nil = refl
 
 two_pieces : (a b : List ℕ) → IsWord a → IsWord b →
-    few (map trimmed (slice_split (λ x. x == 44) (a ++ 44 ∷ b))) ≡ two a b
+    few (map trim_blanks (slice_split (λ x. x == 44) (a ++ 44 ∷ b))) ≡ two a b
 two_pieces a b v w =
-    ap (λ l. few (map trimmed l)) (split_word a b v.bytes ∙ ap (λ l. a ∷ l) (split_last b w.bytes)) ∙
-    (ap (λ x. two x (trimmed b)) (trimmed_word a v) ∙ ap (λ x. two a x) (trimmed_word b w))
+    ap (λ l. few (map trim_blanks l)) (split_word a b v.bytes ∙ ap (λ l. a ∷ l) (split_last b w.bytes)) ∙
+    (ap (λ x. two x (trim_blanks b)) (trimmed_word a v) ∙ ap (λ x. two a x) (trimmed_word b w))
 
 three_pieces : (a b c : List ℕ) → IsWord a → IsWord b → IsWord c →
-    few (map trimmed (slice_split (λ x. x == 44) (a ++ 44 ∷ (b ++ 44 ∷ c)))) ≡ three a b c
+    few (map trim_blanks (slice_split (λ x. x == 44) (a ++ 44 ∷ (b ++ 44 ∷ c)))) ≡ three a b c
 three_pieces a b c u v w =
-    ap (λ l. few (map trimmed l))
+    ap (λ l. few (map trim_blanks l))
     (split_word a (b ++ 44 ∷ c) u.bytes ∙
     ap (λ l. a ∷ l) (split_word b c v.bytes ∙ ap (λ l. b ∷ l) (split_last c w.bytes))) ∙
-    (ap (λ x. three x (trimmed b) (trimmed c)) (trimmed_word a u) ∙
-    (ap (λ x. three a x (trimmed c)) (trimmed_word b v) ∙ ap (λ x. three a b x) (trimmed_word c w)))
+    (ap (λ x. three x (trim_blanks b) (trim_blanks c)) (trimmed_word a u) ∙
+    (ap (λ x. three a x (trim_blanks c)) (trimmed_word b v) ∙ ap (λ x. three a b x) (trimmed_word c w)))
 
 four_pieces : (a b c d : List ℕ) → IsWord a → IsWord b → IsWord c → IsWord d →
-    few (map trimmed (slice_split (λ x. x == 44) (a ++ 44 ∷ (b ++ 44 ∷ (c ++ 44 ∷ d))))) ≡ four a b c d
+    few (map trim_blanks (slice_split (λ x. x == 44) (a ++ 44 ∷ (b ++ 44 ∷ (c ++ 44 ∷ d))))) ≡ four a b c d
 four_pieces a b c d u v w x =
-    ap (λ l. few (map trimmed l))
+    ap (λ l. few (map trim_blanks l))
     (split_word a (b ++ 44 ∷ (c ++ 44 ∷ d)) u.bytes ∙
     ap (λ l. a ∷ l) (split_word b (c ++ 44 ∷ d) v.bytes ∙
     ap (λ l. b ∷ l) (split_word c d w.bytes ∙ ap (λ l. c ∷ l) (split_last d x.bytes)))) ∙
-    (ap (λ t. four t (trimmed b) (trimmed c) (trimmed d)) (trimmed_word a u) ∙
-    (ap (λ t. four a t (trimmed c) (trimmed d)) (trimmed_word b v) ∙
-    (ap (λ t. four a b t (trimmed d)) (trimmed_word c w) ∙ ap (λ t. four a b c t) (trimmed_word d x))))
+    (ap (λ t. four t (trim_blanks b) (trim_blanks c) (trim_blanks d)) (trimmed_word a u) ∙
+    (ap (λ t. four a t (trim_blanks c) (trim_blanks d)) (trimmed_word b v) ∙
+    (ap (λ t. four a b t (trim_blanks d)) (trimmed_word c w) ∙ ap (λ t. four a b c t) (trimmed_word d x))))
 
 operands_back : (o : OperandTexts) → all_plain o ≡ true → operands_in (listed o) ≡ o
 unfolding operands_in
@@ -195,8 +195,8 @@ operands_back (one a) h =
     let w = word_is a h in
     ap operands_if (ap before_blanks (unblanked_blank a) ∙ trimmed_word a w) ∙
     (ap operands_if (sym (append-nil a)) ∙ (some_operands a [] w ∙
-    (ap (λ l. few (map trimmed (slice_split (λ x. x == 44) l))) (append-nil a) ∙
-    (ap (λ l. few (map trimmed l)) (split_last a w.bytes) ∙ ap (λ x. one x) (trimmed_word a w)))))
+    (ap (λ l. few (map trim_blanks (slice_split (λ x. x == 44) l))) (append-nil a) ∙
+    (ap (λ l. few (map trim_blanks l)) (split_last a w.bytes) ∙ ap (λ x. one x) (trimmed_word a w)))))
 operands_back (two a b) h =
     let p = and_parts (is_plain a) (is_plain b) h in
     let v = word_is a p.0 in
@@ -211,7 +211,7 @@ operands_back (three a b c) h =
     let w = word_is c q.1 in
     let e : (44 ∷ (b ++ 44 ∷ [])) ++ c ≡ 44 ∷ (b ++ 44 ∷ c) =
     ap (λ l. 44 ∷ l) (append_assoc b (44 ∷ []) c) in
-    ap (λ l. operands_if (trimmed (32 ∷ (a ++ l)))) (sym e) ∙
+    ap (λ l. operands_if (trim_blanks (32 ∷ (a ++ l)))) (sym e) ∙
     (ap operands_if (trimmed_words a (44 ∷ (b ++ 44 ∷ [])) c u w) ∙
     (ap (λ l. operands_if (a ++ l)) e ∙
     (some_operands a (44 ∷ (b ++ 44 ∷ c)) u ∙ three_pieces a b c u v w)))
@@ -226,7 +226,7 @@ operands_back (four a b c d) h =
     let e : (44 ∷ (b ++ 44 ∷ (c ++ 44 ∷ []))) ++ d ≡ 44 ∷ (b ++ 44 ∷ (c ++ 44 ∷ d)) =
     ap (λ l. 44 ∷ l) (append_assoc b (44 ∷ (c ++ 44 ∷ [])) d ∙
     ap (λ l. b ++ 44 ∷ l) (append_assoc c (44 ∷ []) d)) in
-    ap (λ l. operands_if (trimmed (32 ∷ (a ++ l)))) (sym e) ∙
+    ap (λ l. operands_if (trim_blanks (32 ∷ (a ++ l)))) (sym e) ∙
     (ap operands_if (trimmed_words a (44 ∷ (b ++ 44 ∷ (c ++ 44 ∷ []))) d u x) ∙
     (ap (λ l. operands_if (a ++ l)) e ∙
     (some_operands a (44 ∷ (b ++ 44 ∷ (c ++ 44 ∷ d))) u ∙ four_pieces a b c d u v w x)))

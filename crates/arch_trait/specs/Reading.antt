@@ -3,7 +3,7 @@
 use Rattle.std.specs.Prelude.{ℕ, ◌≡◌, ◌==◌, true, cond, List, [], ◌∷◌, Option, Some, None, Result, Ok, Err, map}
 use Rattle.std.specs.List.{slice_split}
 use Rattle.text_laws.specs.Names.{is_place_name}
-use Rattle.text_laws.specs.Blanks.{is_inked, unblanked, trimmed}
+use Rattle.text_laws.specs.Blanks.{is_inked, unblanked, trim_blanks}
 use Rattle.text_laws.specs.Runs.{run_of, after_run}
 use Rattle.micro_ops.specs.declared.operation.Micro.{Micro}
 use Rattle.micro_ops.specs.Machines.{InRange}
@@ -26,11 +26,11 @@ few (a ∷ b ∷ c ∷ d ∷ e ∷ rest) = more
 -- commas, without the blanks around them
 abbrev pub operands_if : List ℕ → OperandTexts
 operands_if [] = none
-operands_if (b ∷ text) = few (map trimmed (slice_split (λ x. x == 44) (b ∷ text)))
+operands_if (b ∷ text) = few (map trim_blanks (slice_split (λ x. x == 44) (b ∷ text)))
 
 -- the operands in the text after the first word
 unfoldable pub operands_in : List ℕ → OperandTexts
-operands_in text = operands_if (trimmed text)
+operands_in text = operands_if (trim_blanks text)
 
 -- an instruction as it is written in a text: blanks may be at both ends and around commas, and one
 -- or more come after the first word

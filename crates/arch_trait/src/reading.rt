@@ -6,7 +6,7 @@ ghost use Rattle.arch_trait.specs.Writing.{nothing};
 ghost use Rattle.arch_trait.specs.Cuts.{Cut};
 
 use micro_ops::Micro;
-use text_parts::trimmed;
+use text_parts::trim_blanks;
 
 /// Why the text of a cell is no instruction, or can't be kept.
 #[derive(Clone, Copy, Debug, PartialEq, Eq, thiserror::Error)]
@@ -84,25 +84,25 @@ fn comma_in(text: &[u8]) -> Option<usize>
 pub(crate) fn operands_of(text: &[u8]) -> Operands<'_>
     ensures { texts_of result ≡ operands_in text.now }
 {
-    let text = trimmed(text);
+    let text = trim_blanks(text);
     if text.is_empty() {
         return Operands::None;
     }
     let Some((first, rest)) = cut_comma(text) else {
-        return Operands::One(trimmed(text));
+        return Operands::One(trim_blanks(text));
     };
     let Some((second, rest)) = cut_comma(rest) else {
-        return Operands::Two(trimmed(first), trimmed(rest));
+        return Operands::Two(trim_blanks(first), trim_blanks(rest));
     };
     let Some((third, rest)) = cut_comma(rest) else {
-        return Operands::Three(trimmed(first), trimmed(second), trimmed(rest));
+        return Operands::Three(trim_blanks(first), trim_blanks(second), trim_blanks(rest));
     };
     match cut_comma(rest) {
         None => Operands::Four(
-            trimmed(first),
-            trimmed(second),
-            trimmed(third),
-            trimmed(rest),
+            trim_blanks(first),
+            trim_blanks(second),
+            trim_blanks(third),
+            trim_blanks(rest),
         ),
         Some(_) => Operands::More,
     }

@@ -5,7 +5,7 @@ use Rattle.std.specs.List.{list_all}
 use Rattle.std.proofs.Math.ListN.{replicate}
 use Rattle.std.proofs.lemmas.Bool.{and_from}
 use Rattle.list_laws.proofs.Cases.{by_test}
-use Rattle.text_laws.specs.Blanks.{is_blank, unblanked, before_blanks, kept_before, trimmed, is_inked}
+use Rattle.text_laws.specs.Blanks.{is_blank, unblanked, before_blanks, kept_before, trim_blanks, is_inked}
 use Rattle.text_laws.specs.Runs.{run_of, after_run}
 use Rattle.arch_trait.specs.Reading.{operands_in, operands_if, written_in, instr_read, number_raw}
 use Rattle.arch_trait.specs.Writing.{Writing, Written}
@@ -36,7 +36,7 @@ unfolding after_run
 no_blanks_left zero = refl
 no_blanks_left (suc k) = no_blanks_left k
 
-trimmed_padded : (text : List ℕ) (k : ℕ) → trimmed (text ++ blanks k) ≡ trimmed text
+trimmed_padded : (text : List ℕ) (k : ℕ) → trim_blanks (text ++ blanks k) ≡ trim_blanks text
 unfolding after_run before_blanks
 trimmed_padded [] k = ap before_blanks (no_blanks_left k)
 trimmed_padded (b ∷ text) k =
@@ -101,7 +101,7 @@ instr_padded w text k places labels h =
     ∙ ap (λ x. number_raw (w.raw x) places labels) (written_padded h.first h.rest k h.inked)
     ∙ ap (λ t. instr_read w t places labels) (sym h.is)
 
-nothing_left : (k : ℕ) → trimmed (blanks k) ≡ []
+nothing_left : (k : ℕ) → trim_blanks (blanks k) ≡ []
 unfolding before_blanks after_run
 nothing_left k = trimmed_padded [] k
 
@@ -125,7 +125,7 @@ empty_back w n k s =
     let whole : cut_at 58 (padded k []) ≡ None = cut_none 58 (padded k []) (without_class is_cell_byte 58 (padded k []) refl (padded_class is_cell_byte k [] refl refl)) in
     rw whole (nothing_back w n k s)
 
-begins_inked : (b : ℕ) (text : List ℕ) (k : ℕ) → is_blank b ≡ false → is_nil (trimmed (padded k (b ∷ text))) ≡ false
+begins_inked : (b : ℕ) (text : List ℕ) (k : ℕ) → is_blank b ≡ false → is_nil (trim_blanks (padded k (b ∷ text))) ≡ false
 unfolding after_run before_blanks
 begins_inked b text k e = rw e (kept_some b (before_blanks (text ++ blanks k)) e)
   where
@@ -139,7 +139,7 @@ pub plain_back : (w : Writing) (n k : ℕ) (text : List ℕ) (s : Among Column) 
 unfolding cell_read instr_in
 plain_back w n k text s h bytes =
     let whole : cut_at 58 (padded k text) ≡ None = cut_none 58 (padded k text) (without_class is_cell_byte 58 (padded k text) refl (padded_class is_cell_byte k text refl bytes)) in
-    let some : is_nil (trimmed (padded k text)) ≡ false = ap (λ t. is_nil (trimmed (padded k t))) h.is ∙ begins_inked h.first h.rest k h.inked in
+    let some : is_nil (trim_blanks (padded k text)) ≡ false = ap (λ t. is_nil (trim_blanks (padded k t))) h.is ∙ begins_inked h.first h.rest k h.inked in
     rw (whole, some) (ap (instr_put n s.value) (instr_padded w text k s.names s.value.labels h))
 
 -- a cell with a label is read as the label

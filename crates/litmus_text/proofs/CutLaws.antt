@@ -5,7 +5,7 @@ use Rattle.std.specs.List.{list_all}
 use Rattle.std.proofs.lemmas.Bool.{eqb-true}
 use Rattle.list_laws.proofs.Cases.{by_test}
 use Rattle.text_laws.specs.Runs.{after_run}
-use Rattle.text_laws.specs.Blanks.{is_blank, before_blanks, kept_before, trimmed}
+use Rattle.text_laws.specs.Blanks.{is_blank, before_blanks, kept_before, trim_blanks}
 use Rattle.text_laws.specs.Words.{is_nil}
 use Rattle.text_laws.specs.Cuts.{CutParts}
 use Rattle.litmus_text.specs.Cuts.{pieces}
@@ -17,7 +17,7 @@ pub pieces_cut : (sign : ℕ) (text prefix behind : List ℕ) → CutParts sign 
 pieces_cut sign text prefix behind p = ap (pieces sign) p.parts ∙ piece_back sign prefix behind p.first
 
 -- a text up to the end is blank, or it is a text of its own
-blanks_are : (text : List ℕ) → is_nil (trimmed text) ≡ list_all is_blank text
+blanks_are : (text : List ℕ) → is_nil (trim_blanks text) ≡ list_all is_blank text
 unfolding after_run before_blanks
 blanks_are [] = refl
 blanks_are (b ∷ text) =
@@ -29,22 +29,22 @@ blanks_are (b ∷ text) =
     kept_some [] b e = rw e refl
     kept_some (c ∷ t) b e = refl
 
-pub passed_is : (text : List ℕ) → is_passed text ≡ is_nil (trimmed text) || is_comment (trimmed text)
+pub passed_is : (text : List ℕ) → is_passed text ≡ is_nil (trim_blanks text) || is_comment (trim_blanks text)
 unfolding is_passed
-passed_is text = ap (λ b. b || is_comment (trimmed text)) (sym (blanks_are text))
+passed_is text = ap (λ b. b || is_comment (trim_blanks text)) (sym (blanks_are text))
 
 nil_length : (t : List ℕ) → length t == 0 ≡ is_nil t
 nil_length [] = refl
 nil_length (b ∷ t) = by_test (suc (length t) == 0) (λ e. let n : suc (length t) ≡ 0 = eqb-true (suc (length t)) 0 e in absurd (omega arith)) (λ e. e)
 
 -- a blank line is passed over
-pub passed_empty : (text u : List ℕ) → u ≡ trimmed text → length u == 0 ≡ true → is_passed text ≡ true
+pub passed_empty : (text u : List ℕ) → u ≡ trim_blanks text → length u == 0 ≡ true → is_passed text ≡ true
 passed_empty text u e h =
-    let n : is_nil (trimmed text) ≡ true = sym (nil_length (trimmed text)) ∙ (rw (sym e) h) in
+    let n : is_nil (trim_blanks text) ≡ true = sym (nil_length (trim_blanks text)) ∙ (rw (sym e) h) in
     passed_is text ∙ rw n refl
 
 -- a line that isn't blank is passed over where it is a comment
-pub passed_other : (text u : List ℕ) → u ≡ trimmed text → length u == 0 ≡ false → is_passed text ≡ is_comment u
+pub passed_other : (text u : List ℕ) → u ≡ trim_blanks text → length u == 0 ≡ false → is_passed text ≡ is_comment u
 passed_other text u e h =
-    let n : is_nil (trimmed text) ≡ false = sym (nil_length (trimmed text)) ∙ (rw (sym e) h) in
+    let n : is_nil (trim_blanks text) ≡ false = sym (nil_length (trim_blanks text)) ∙ (rw (sym e) h) in
     passed_is text ∙ rw (n, e) refl

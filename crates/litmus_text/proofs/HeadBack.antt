@@ -16,7 +16,7 @@ use Rattle.relax_edges.specs.Architectures.{arch_word}
 use Rattle.relax_edges.specs.Words.{word_of}
 use Rattle.relax_edges.specs.AllEdges.{edges_in_order}
 use Rattle.relax_edges.proofs.Ranks.{each_edge}
-use Rattle.text_laws.specs.Blanks.{is_blank, unblanked, before_blanks, kept_before, trimmed}
+use Rattle.text_laws.specs.Blanks.{is_blank, unblanked, before_blanks, kept_before, trim_blanks}
 use Rattle.text_laws.specs.Runs.{run_of, after_run}
 use Rattle.arch_trait.specs.Cells.{is_line_byte}
 use Rattle.litmus_text.specs.Lines.{Lines, line, is_passed}
@@ -115,8 +115,8 @@ before_class p [] h = refl
 before_class p (b ∷ text) h =
     let parts = and_parts (p b) (list_all p text) h in kept_class p b (before_blanks text) parts.0 (before_class p text parts.1)
 
--- a trimmed text passes a test that the text passes
-pub trimmed_class : (p : ℕ → Bool) (text : List ℕ) → list_all p text ≡ true → list_all p (trimmed text) ≡ true
+-- a trim_blanks text passes a test that the text passes
+pub trimmed_class : (p : ℕ → Bool) (text : List ℕ) → list_all p text ≡ true → list_all p (trim_blanks text) ≡ true
 trimmed_class p text h = before_class p (unblanked text) (trim_class p text h)
 
 no_comment : (text : List ℕ) → list_all is_line_byte text ≡ true → bytes_eq (take 2 text) (codes "(*") ≡ false
@@ -135,7 +135,7 @@ pub line_is : (text : List ℕ) → list_all is_line_byte text ≡ true → list
 unfolding is_passed
 line_is text h k = record {
   bytes = h;
-  stays = rw (k, no_comment (trimmed text) (trimmed_class is_line_byte text h)) refl;
+  stays = rw (k, no_comment (trim_blanks text) (trimmed_class is_line_byte text h)) refl;
 }
 
 -- a text with a byte that is no blank isn't blank

@@ -10,7 +10,7 @@ use Rattle.std.proofs.lemmas.Bool.{lt-ltb, not-true, and_parts, and_from}
 use Rattle.std.proofs.lemmas.Bool.Decides.{nat_tests}
 use Rattle.std.proofs.lemmas.List.{replicate_more}
 use Rattle.list_laws.proofs.Elements.{list_all-weaker}
-use Rattle.text_laws.specs.Blanks.{is_blank, before_blanks, kept_before, trimmed}
+use Rattle.text_laws.specs.Blanks.{is_blank, before_blanks, kept_before, trim_blanks}
 use Rattle.text_laws.specs.Runs.{after_run}
 use Rattle.final_cond.proofs.BackLaws.{digits_of}
 use Rattle.arch_trait.specs.Threads.{ThreadCode}
@@ -41,7 +41,7 @@ inked_ends (b ∷ c ∷ text) h = ap (kept_before b) (inked_ends (c ∷ text) (a
 head_text : ℕ → List ℕ
 head_text n = 80 ∷ decimal n
 
-head_trimmed : (n k : ℕ) → n < 2 ^ 32 → trimmed (padded k (80 ∷ decimal n)) ≡ 80 ∷ decimal n
+head_trimmed : (n k : ℕ) → n < 2 ^ 32 → trim_blanks (padded k (80 ∷ decimal n)) ≡ 80 ∷ decimal n
 unfolding after_run
 head_trimmed n k h =
     let digits = digits_of n h in
@@ -53,7 +53,7 @@ head_cell w places n t h =
     let left = width_of (column_of w places (n, t)) - length (80 ∷ decimal n) in
     let shape : spaced (cell_text 0) (column_of w places (n, t)) ≡ padded (left + 1) (80 ∷ decimal n) =
     ap (λ x. 32 ∷ x) (append_assoc (80 ∷ decimal n) (replicate left 32) (32 ∷ []) ∙ ap (λ x. (80 ∷ decimal n) ++ x) (replicate_more left 32)) in
-    ap (λ x. bytes_eq (trimmed x) (80 ∷ decimal n)) shape ∙ ap (λ x. bytes_eq x (80 ∷ decimal n)) (head_trimmed n (left + 1) h) ∙ bytes_same (80 ∷ decimal n)
+    ap (λ x. bytes_eq (trim_blanks x) (80 ∷ decimal n)) shape ∙ ap (λ x. bytes_eq x (80 ∷ decimal n)) (head_trimmed n (left + 1) h) ∙ bytes_same (80 ∷ decimal n)
 
 heads_back : (w : Writing) (places : List (List ℕ)) (line_number n : ℕ) (threads : List ThreadCode) → n + length threads ≤ 64
     → heads_read line_number true n (map (spaced (cell_text 0)) (map (column_of w places) (enumerate_from n threads))) ≡ Ok (n + length threads)

@@ -13,7 +13,7 @@ use Rattle.relax_edges.specs.declared.kinds.Value.TheVariants as values
 use Rattle.final_cond.specs.declared.errors.CondKind.TheVariants.{BadTerm}
 use Rattle.text_laws.specs.Names.{is_place_name, is_register_name, is_place_byte, begins_place}
 use Rattle.text_laws.specs.Numbers.{number_of}
-use Rattle.text_laws.specs.Blanks.{is_blank, unblanked, before_blanks, trimmed}
+use Rattle.text_laws.specs.Blanks.{is_blank, unblanked, before_blanks, trim_blanks}
 use Rattle.text_laws.specs.Runs.{after_run}
 use Rattle.final_cond.specs.Conditions.{LeftSeen, InRegister}
 use Rattle.final_cond.specs.CondText.{left_text}
@@ -63,10 +63,10 @@ unfolding after_run
 inked_start [] h = refl
 inked_start (b ∷ text) h = rw (not-true (is_blank b) (item_inked b (and_parts (is_item_byte b) (list_all is_item_byte text) h).0)) refl
 
-trimmed_item : (text : List ℕ) → list_all is_item_byte text ≡ true → trimmed text ≡ text
+trimmed_item : (text : List ℕ) → list_all is_item_byte text ≡ true → trim_blanks text ≡ text
 trimmed_item text h = ap before_blanks (inked_start text h) ∙ inked_ends text (list_all-weaker is_item_byte (λ b. not (is_blank b)) item_inked text h)
 
-after_blank : (text : List ℕ) → list_all is_item_byte text ≡ true → trimmed (32 ∷ text) ≡ text
+after_blank : (text : List ℕ) → list_all is_item_byte text ≡ true → trim_blanks (32 ∷ text) ≡ text
 unfolding after_run
 after_blank text h = trimmed_item text h
 
@@ -181,12 +181,12 @@ item_back a w table names link laws fits =
     let cut = cut_back 61 side name (side_equal a w link laws fits.thread fits.register) in
     let side_trimmed = trimmed_item side (side_bytes a w link laws fits.thread fits.register) in
     let name_trimmed = trimmed_item name (name_bytes name fits.formed) in
-    let left : whole_left (left_at_start (trimmed side)) ≡ Some (InRegister link.0 (name_in w.registers link.1.0)) =
+    let left : whole_left (left_at_start (trim_blanks side)) ≡ Some (InRegister link.0 (name_in w.registers link.1.0)) =
     ap (λ t. whole_left (left_at_start t)) side_trimmed ∙ ap whole_left (side_back a w link laws fits.thread fits.register) in
     let small : nat_lt link.0 64 ≡ true = lt-ltb link.0 64 fits.thread in
     ap (some_item w) (after_blank (core w names link) (core_bytes a w table names link laws fits))
     ∙ core_some w side name ∙ ap (item_parts w) cut
-    ∙ ap (λ o. item_if w o (trimmed name)) left
+    ∙ ap (λ o. item_if w o (trim_blanks name)) left
     ∙ ap (λ t. item_with w (InRegister link.0 (name_in w.registers link.1.0)) t) name_trimmed
     ∙ rw (small, register_number a w link.1.0 laws fits.register, worth_back name fits.formed) refl
 

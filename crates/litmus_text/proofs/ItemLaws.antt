@@ -7,7 +7,7 @@ use Rattle.std.proofs.lemmas.Bool.{eqb-true, and_parts}
 use Rattle.std.proofs.lemmas.Slice.Eq.{bytes_eq-Decides}
 use Rattle.list_laws.proofs.Cases.{by_test}
 use Rattle.final_cond.specs.declared.errors.CondKind.TheVariants.{BadTerm}
-use Rattle.text_laws.specs.Blanks.{is_blank, unblanked, before_blanks, kept_before, trimmed}
+use Rattle.text_laws.specs.Blanks.{is_blank, unblanked, before_blanks, kept_before, trim_blanks}
 use Rattle.text_laws.specs.Runs.{after_run}
 use Rattle.final_cond.specs.Conditions.{LeftSeen, InRegister, AtPlace}
 use Rattle.text_laws.specs.Names.{is_register_name}
@@ -22,7 +22,7 @@ unfolding after_run
 inked_start b [] e = rw (e, e) refl
 inked_start b (c ∷ t) e = rw e refl
 
-pub trimmed_start : (t : List ℕ) → unblanked (trimmed t) ≡ trimmed t
+pub trimmed_start : (t : List ℕ) → unblanked (trim_blanks t) ≡ trim_blanks t
 unfolding after_run before_blanks
 trimmed_start [] = refl
 trimmed_start (b ∷ t) = by_test (is_blank b) (λ e. rw e (trimmed_start t)) (λ e. rw e (inked_start b (before_blanks t) e))
@@ -71,21 +71,21 @@ found_none t None f e = refl
 found_none t (Some y) f e = cc
 
 -- two sides whose left side is read make the item of that left side
-pub item_found : (w : Writing) (text right : List ℕ) (left : LeftSeen) (rest : List ℕ) → list_all is_register_name w.registers ≡ true → (t : List ℕ) → t ≡ trimmed text → left_read has_form (unblanked t) ≡ Ok (left, rest)
-    → item_if w (whole_left (left_at_start (trimmed text))) right ≡ item_if w (cond (is_nil rest) (Some left) None) right
+pub item_found : (w : Writing) (text right : List ℕ) (left : LeftSeen) (rest : List ℕ) → list_all is_register_name w.registers ≡ true → (t : List ℕ) → t ≡ trim_blanks text → left_read has_form (unblanked t) ≡ Ok (left, rest)
+    → item_if w (whole_left (left_at_start (trim_blanks text))) right ≡ item_if w (cond (is_nil rest) (Some left) None) right
 unfolding left_read
 item_found w text right left rest h u same d =
-    let t = trimmed text in
+    let t = trim_blanks text in
     let e : left_read has_form (unblanked t) ≡ Ok (left, rest) = ap (λ x. left_read has_form (unblanked x)) (sym same) ∙ d in
     let f : found BadTerm t (only_known has_form (left_at_start t)) ≡ Ok (left, rest) = ap (left_read has_form) (sym (trimmed_start text)) ∙ e in
     item_known w (left_at_start t) right h ∙ ap (λ l. item_if w (whole_left l) right) (found_some t (only_known has_form (left_at_start t)) (left, rest) f)
 
 -- two sides whose left side isn't read make no item
-pub item_missing : (w : Writing) (text right : List ℕ) (f : Fault) → list_all is_register_name w.registers ≡ true → (t : List ℕ) → t ≡ trimmed text → left_read has_form (unblanked t) ≡ Err f
-    → item_if w (whole_left (left_at_start (trimmed text))) right ≡ None
+pub item_missing : (w : Writing) (text right : List ℕ) (f : Fault) → list_all is_register_name w.registers ≡ true → (t : List ℕ) → t ≡ trim_blanks text → left_read has_form (unblanked t) ≡ Err f
+    → item_if w (whole_left (left_at_start (trim_blanks text))) right ≡ None
 unfolding left_read
 item_missing w text right f h u same d =
-    let t = trimmed text in
+    let t = trim_blanks text in
     let e : left_read has_form (unblanked t) ≡ Err f = ap (λ x. left_read has_form (unblanked x)) (sym same) ∙ d in
     let g : found BadTerm t (only_known has_form (left_at_start t)) ≡ Err f = ap (left_read has_form) (sym (trimmed_start text)) ∙ e in
     item_known w (left_at_start t) right h ∙ ap (λ l. item_if w (whole_left l) right) (found_none t (only_known has_form (left_at_start t)) f g)

@@ -10,7 +10,7 @@ use Rattle.text_laws.specs.Names.{is_place_name}
 use Rattle.final_cond.specs.Conditions.{LeftSeen, InRegister, AtPlace}
 use Rattle.final_cond.specs.Reading.{left_at_start}
 use Rattle.arch_trait.specs.Names.{number_in, number_added, names_added}
-use Rattle.text_laws.specs.Blanks.{trimmed}
+use Rattle.text_laws.specs.Blanks.{trim_blanks}
 use Rattle.arch_trait.specs.Writing.{Writing}
 use Rattle.litmus_text.specs.declared.limits.TheConstants.{MAX_THREADS}
 use Rattle.text_laws.specs.Cuts.{cut_at}
@@ -52,7 +52,7 @@ if_below w (Some left) right b = with_below w left right b
 
 parts_below : (w : Writing) (sides : Option (List ℕ × List ℕ)) → length w.registers ≤ 32 → ItemBelow (item_parts w sides)
 parts_below w None b = tt
-parts_below w (Some sides) b = if_below w (whole_left (left_at_start (trimmed sides.0))) (trimmed sides.1) b
+parts_below w (Some sides) b = if_below w (whole_left (left_at_start (trim_blanks sides.0))) (trim_blanks sides.1) b
 
 some_below : (w : Writing) (text : List ℕ) → length w.registers ≤ 32 → ItemBelow (some_item w text)
 some_below w [] b = tt
@@ -85,7 +85,7 @@ put_below first last begun (Some (zero_at name)) h b = named_below first begun n
 
 item_below : (w : Writing) (joined : Joined) (i : ℕ) (piece : List ℕ) (begun : Begun) → length w.registers ≤ 32 → BegunBelow begun → Gives BegunBelow (item_read w joined i piece begun)
 unfolding item_read item_of
-item_below w joined i piece begun b h = put_below _ _ begun (some_item w (trimmed piece)) h (some_below w (trimmed piece) b)
+item_below w joined i piece begun b h = put_below _ _ begun (some_item w (trim_blanks piece)) h (some_below w (trim_blanks piece) b)
 
 items_below : (w : Writing) (joined : Joined) (i : ℕ) (texts : List (List ℕ)) (begun : Begun) → length w.registers ≤ 32 → BegunBelow begun → Gives BegunBelow (items_read w joined i texts begun)
 unfolding items_read

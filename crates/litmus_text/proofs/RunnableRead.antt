@@ -19,7 +19,7 @@ use Rattle.arch_trait.specs.declared.reading.InstrError.TheVariants as instrs
 use Rattle.text_laws.specs.Names.{is_place_name}
 use Rattle.arch_trait.specs.Names.{number_added, names_added}
 use Rattle.arch_trait.specs.Cells.{is_access, ends_rows}
-use Rattle.text_laws.specs.Blanks.{trimmed}
+use Rattle.text_laws.specs.Blanks.{trim_blanks}
 use Rattle.arch_trait.specs.Reading.{ReadInstr, with_place, with_label, numbered, number_raw, instr_read, written_in}
 use Rattle.arch_trait.specs.Writing.{Writing, Written, RawInstr, Name, nothing, place, label, with_number, is_label_name}
 use Rattle.litmus_text.specs.declared.errors.TestKind.TheVariants.{BadLabel}
@@ -124,7 +124,7 @@ unfolding instr_in
 instr_good w n m text s r g = put_good n m s.value (instr_read w text s.names s.value.labels) g (instr_ranged w text s.names s.value.labels r)
 
 or_nothing_good : (w : Writing) (n m : ℕ) (text : List ℕ) (s : Among Column) → RawInRange w → IsGood m s.value.ops → Gives (λ (s : Among Column). IsGood (m + 1) s.value.ops) (instr_or_nothing w n text s)
-or_nothing_good w n m text s r g = by_test (is_nil (trimmed text))
+or_nothing_good w n m text s r g = by_test (is_nil (trim_blanks text))
     (λ e. rw e (good_weaker m (m + 1) s.value.ops (omega arith) g)) (λ e. rw e (instr_good w n m text s r g))
 
 cell_good : (w : Writing) (n m : ℕ) (text : List ℕ) (parts : Option (List ℕ × List ℕ)) (s : Among Column) → RawInRange w → IsGood m s.value.ops → Gives (λ (s : Among Column). IsGood (m + 1 + 1) s.value.ops) (cell_if w n text parts s)

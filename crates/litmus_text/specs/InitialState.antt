@@ -7,7 +7,7 @@ use Rattle.relax_edges.specs.declared.kinds.Value.{Value}
 use Rattle.relax_edges.specs.declared.kinds.Value.TheVariants as values
 use Rattle.text_laws.specs.Names.{is_place_name}
 use Rattle.text_laws.specs.Numbers.{number_of}
-use Rattle.text_laws.specs.Blanks.{unblanked, trimmed, before_blanks}
+use Rattle.text_laws.specs.Blanks.{unblanked, trim_blanks, before_blanks}
 use Rattle.final_cond.specs.Conditions.{LeftSeen, InRegister, AtPlace}
 use Rattle.final_cond.specs.Reading.{left_at_start}
 use Rattle.arch_trait.specs.Names.{number_in, number_added, names_added}
@@ -70,7 +70,7 @@ item_if w (Some left) right = item_with w left right
 -- the item of the two sides of `=`, around which blanks may be
 abbrev pub item_parts : Writing → Option (List ℕ × List ℕ) → Option Item
 item_parts w None = None
-item_parts w (Some sides) = item_if w (whole_left (left_at_start (trimmed sides.0))) (trimmed sides.1)
+item_parts w (Some sides) = item_if w (whole_left (left_at_start (trim_blanks sides.0))) (trim_blanks sides.1)
 
 -- the item of a text without blanks at its ends
 abbrev pub some_item : Writing → List ℕ → Option Item
@@ -79,7 +79,7 @@ some_item w (byte ∷ text) = item_parts w (cut_at 61 (byte ∷ text))
 
 -- the item of a text, with blanks at both ends
 unfoldable pub item_of : Writing → List ℕ → Option Item
-item_of w text = some_item w (trimmed text)
+item_of w text = some_item w (trim_blanks text)
 
 -- the initial values so far, each with its thread and register, and the names of places
 pub record Begun : Type 0 where

@@ -3,7 +3,7 @@
 use Rattle.std.specs.Prelude.{ℕ, ◌+◌, ◌-◌, Bool, cond, ◌&&◌, ◌||◌, List, [], ◌∷◌, Result, Ok, Err, codes, length, take, drop}
 use Rattle.std.specs.List.{list_all, slice_split}
 use Rattle.std.specs.Str.{bytes_eq}
-use Rattle.text_laws.specs.Blanks.{is_blank, trimmed}
+use Rattle.text_laws.specs.Blanks.{is_blank, trim_blanks}
 use Rattle.text_laws.specs.Lines.{is_line_feed, without_return}
 use Rattle.litmus_text.specs.declared.errors.TestKind.{TestKind}
 use Rattle.litmus_text.specs.declared.errors.TextError.{TextError}
@@ -19,7 +19,7 @@ is_comment text = bytes_eq (take 2 text) (codes "(*") && bytes_eq (drop (length 
 
 -- a line that is passed over: blanks alone, or a comment between blanks
 unfoldable pub is_passed : List ℕ → Bool
-is_passed text = list_all is_blank text || is_comment (trimmed text)
+is_passed text = list_all is_blank text || is_comment (trim_blanks text)
 
 -- a line before others, unless it is passed over
 abbrev pub kept : ℕ → List ℕ → Lines → Lines

@@ -10,7 +10,7 @@ use Rattle.micro_ops.specs.declared.operation.Micro.TheVariants as ops
 use Rattle.arch_trait.specs.Cells.{ends_rows, first_word, is_access}
 use Rattle.arch_trait.specs.declared.reading.InstrError.{InstrError}
 use Rattle.arch_trait.specs.declared.reading.InstrError.TheVariants as instrs
-use Rattle.text_laws.specs.Blanks.{trimmed}
+use Rattle.text_laws.specs.Blanks.{trim_blanks}
 use Rattle.arch_trait.specs.Reading.{ReadInstr, instr_read}
 use Rattle.arch_trait.specs.Writing.{Writing}
 use Rattle.litmus_text.specs.declared.errors.TestKind.TheVariants.{BadTable, BadInstruction, BadLabel, TooLarge, EndMissing}
@@ -39,7 +39,7 @@ cells_of text = cells_if text (cut_at 59 text)
 
 -- a cell of the header is that of a thread
 abbrev pub is_head : ℕ → List ℕ → Bool
-is_head thread cell = bytes_eq (trimmed cell) (codes "P" ++ decimal thread)
+is_head thread cell = bytes_eq (trim_blanks cell) (codes "P" ++ decimal thread)
 
 -- the cells of the header from a thread on: the answer is the number of threads
 unfoldable pub heads_read : ℕ → Bool → ℕ → List (List ℕ) → Result ℕ TextError
@@ -107,7 +107,7 @@ instr_in w n text s = instr_put n s.value (instr_read w text s.names s.value.lab
 
 -- an instruction, or nothing
 abbrev pub instr_or_nothing : Writing → ℕ → List ℕ → Among Column → Result (Among Column) TextError
-instr_or_nothing w n text s = cond (is_nil (trimmed text)) (Ok s) (instr_in w n text s)
+instr_or_nothing w n text s = cond (is_nil (trim_blanks text)) (Ok s) (instr_in w n text s)
 
 -- a cell that may have a label before its instruction
 abbrev pub cell_if : Writing → ℕ → List ℕ → Option (List ℕ × List ℕ) → Among Column → Result (Among Column) TextError

@@ -13,7 +13,7 @@ use Rattle.log_sum.specs.declared.kinds.Verdict.TheVariants.{Validated, NotValid
 use Rattle.log_sum.specs.declared.kinds.Place.{Place}
 use Rattle.log_sum.specs.declared.kinds.Place.TheVariants.{Outside, Histogram, States, Judgement, Rest, Conditioned}
 use Rattle.text_laws.specs.Words.{is_nil, words}
-use Rattle.text_laws.specs.Blanks.{trimmed, unblanked}
+use Rattle.text_laws.specs.Blanks.{trim_blanks, unblanked}
 use Rattle.log_sum.specs.Texts.{joined_words, ends_with, before_end, begins_with}
 use Rattle.log_sum.specs.Counts.{count_read}
 use Rattle.log_sum.specs.States.{form_read}
@@ -114,7 +114,7 @@ row_counted (Ok counted) = row_marked counted.0 (mark_read (unblanked counted.1)
 
 -- the line of a state: a count, blanks or none, the mark, `>`, and equalities
 unfoldable pub row_line : List ℕ → Result Row LogKind
-row_line text = row_counted (count_read (trimmed text))
+row_line text = row_counted (count_read (trim_blanks text))
 
 -- `Ok` or `No`
 abbrev pub is_judgement : List (List ℕ) → Bool
@@ -140,7 +140,7 @@ quantifier Required = codes "forall"
 
 -- `Hash=TEXT`
 unfoldable pub hash_line : List ℕ → Option (List ℕ)
-hash_line text = cond (begins_with (trimmed text) (codes "Hash=")) (Some (drop 5 (trimmed text))) None
+hash_line text = cond (begins_with (trim_blanks text) (codes "Hash=")) (Some (drop 5 (trim_blanks text))) None
 
 -- the first word of the line that ends a block
 abbrev pub is_observation : List (List ℕ) → Bool

@@ -10,7 +10,7 @@ use crate::errors::{Fault, LogKind};
 use crate::kinds::{Kind, Mark, Place, Verdict};
 use diy_io::NoMemory;
 use std::alloc::Global;
-use text_parts::{next_word, trimmed, without_blanks};
+use text_parts::{next_word, trim_blanks, without_blanks};
 
 /// What a line says.
 #[derive(Drop)]
@@ -142,7 +142,7 @@ fn read_mark(text: &[u8]) -> Option<(Mark, &[u8])>
 fn read_row(line: &[u8]) -> Result<Row<'_>, LogKind>
     ensures { Reads row_read result (row_line line.now) }
 {
-    let (count, rest) = read_count(trimmed(line))?;
+    let (count, rest) = read_count(trim_blanks(line))?;
     match read_mark(without_blanks(rest)) {
         Some((mark, text)) => Ok(Row { text, mark, count }),
         None => Err(LogKind::BadState),
@@ -226,7 +226,7 @@ fn quantifier(kind: Kind) -> &'static [u8]
 fn read_hash(line: &[u8]) -> Option<&[u8]>
     ensures { option_map (λ text. text.now) result ≡ hash_line line.now }
 {
-    let line = trimmed(line);
+    let line = trim_blanks(line);
     if line.starts_with(b"Hash=") {
         Some(&line[5..])
     } else {

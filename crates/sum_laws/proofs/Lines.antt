@@ -12,7 +12,7 @@ use Rattle.std.proofs.lemmas.Fmt.{digits_decimal, digits_value-decimal, decimal_
 use Rattle.list_laws.proofs.Digits.{digits_model}
 use Rattle.list_laws.proofs.Elements.{list_all-weaker}
 use Rattle.list_laws.proofs.Cases.{by_test}
-use Rattle.text_laws.specs.Blanks.{is_blank, is_inked, before_blanks, kept_before, unblanked, trimmed}
+use Rattle.text_laws.specs.Blanks.{is_blank, is_inked, before_blanks, kept_before, unblanked, trim_blanks}
 use Rattle.text_laws.specs.Words.{is_nil, words}
 use Rattle.text_laws.specs.Runs.{run_of, after_run}
 use Rattle.log_sum.specs.Texts.{later_words, joined_words, ends_with, begins_with}
@@ -212,7 +212,7 @@ line_end_stays prefix mark form h =
     (end_stays prefix 58 (62 ∷ form) (ink_stays 58 (62 ∷ form) refl (ink_stays 62 form refl h)))
     mark
 
-counted_trimmed : (n : ℕ) (mark : Mark) (form : List ℕ) → n ≤ last_count → before_blanks form ≡ form → trimmed (counted_line n mark form) ≡ counted_line n mark form
+counted_trimmed : (n : ℕ) (mark : Mark) (form : List ℕ) → n ≤ last_count → before_blanks form ≡ form → trim_blanks (counted_line n mark form) ≡ counted_line n mark form
 counted_trimmed n mark form h e =
     ap before_blanks (first_digit (decimal n) (filling (decimal n) ++ (mark_sign mark ++ form)) (decimal_plain n h) (decimal_some n h))
     ∙ ap before_blanks (sym (append_assoc (decimal n) (filling (decimal n)) (mark_sign mark ++ form)))

@@ -10,7 +10,7 @@ use Rattle.std.proofs.lemmas.List.{take-append-drop, append_cancel_right}
 use Rattle.std.proofs.lemmas.Slice.Eq.{bytes_eq-Decides}
 use Rattle.list_laws.proofs.Cases.{by_test}
 use Rattle.log_sum.specs.declared.errors.LogKind.{LogKind}
-use Rattle.text_laws.specs.Blanks.{is_blank, before_blanks, unblanked, trimmed}
+use Rattle.text_laws.specs.Blanks.{is_blank, before_blanks, unblanked, trim_blanks}
 use Rattle.text_laws.specs.Words.{is_nil, words}
 use Rattle.text_laws.specs.Runs.{run_of, after_run}
 use Rattle.log_sum.specs.Texts.{later_words, joined_words, ends_with, before_end, begins_with}
@@ -97,7 +97,7 @@ marked_rest (b ∷ c ∷ text) marked h e =
 
 row_form : (text : List ℕ) (row : Row) → list_all no_feed text ≡ true → row_line text ≡ Ok row → IsForm row.state
 unfolding row_line
-row_form text row h e = by_count (count_read (trimmed text)) refl e
+row_form text row h e = by_count (count_read (trim_blanks text)) refl e
   where
     by_form : (count : ℕ) (mark : Mark) (form : List ℕ) (r : Result (List ℕ) LogKind) → list_all no_feed form ≡ true → form_read form ≡ r → row_of count mark r ≡ Ok row → IsForm row.state
     by_form count mark form (Err kind) n f g = absurd (cc)
@@ -110,10 +110,10 @@ row_form text row h e = by_count (count_read (trimmed text)) refl e
     by_mark count rest (Some marked) n f g =
         by_form count marked.0 marked.1 (form_read marked.1) (marked_rest (unblanked rest) marked (all_after no_feed is_blank rest n) f) refl g
 
-    by_count : (r : Result (ℕ × List ℕ) LogKind) → count_read (trimmed text) ≡ r → row_counted r ≡ Ok row → IsForm row.state
+    by_count : (r : Result (ℕ × List ℕ) LogKind) → count_read (trim_blanks text) ≡ r → row_counted r ≡ Ok row → IsForm row.state
     by_count (Err kind) f g = absurd (cc)
     by_count (Ok counted) f g =
-        by_mark counted.0 counted.1 (mark_read (unblanked counted.1)) (counted_rest (trimmed text) counted (all_trimmed no_feed text h) f) refl g
+        by_mark counted.0 counted.1 (mark_read (unblanked counted.1)) (counted_rest (trim_blanks text) counted (all_trimmed no_feed text h) f) refl g
 
 -- a condition
 ended : (text tail : List ℕ) → ends_with text tail ≡ true → text ≡ before_end text tail ++ tail
@@ -178,13 +178,13 @@ line_condition kind (first ∷ rest) c h e q =
 hash_from : (text hash : List ℕ) → list_all no_feed text ≡ true → hash_line text ≡ Some hash → IsRead hash
 unfolding hash_line
 hash_from text hash h e =
-    by_test (begins_with (trimmed text) (codes "Hash="))
+    by_test (begins_with (trim_blanks text) (codes "Hash="))
     (λ t. let k = rw t at e in
-    let same : drop 5 (trimmed text) ≡ hash = cc in
-    let whole : trimmed text ≡ line_of_hash (drop 5 (trimmed text)) = begins_so (trimmed text) (codes "Hash=") t in
+    let same : drop 5 (trim_blanks text) ≡ hash = cc in
+    let whole : trim_blanks text ≡ line_of_hash (drop 5 (trim_blanks text)) = begins_so (trim_blanks text) (codes "Hash=") t in
     subst IsRead same (record {
       trimmed = ap before_blanks (sym whole) ∙ before_twice (unblanked text) ∙ whole;
-      one = all_drop no_feed 5 (trimmed text) (all_trimmed no_feed text h);
+      one = all_drop no_feed 5 (trim_blanks text) (all_trimmed no_feed text h);
     }))
     (λ t. let k = rw t at e in absurd (cc))
 

@@ -10,7 +10,7 @@ use Rattle.std.specs.Str.{bytes_eq}
 use Rattle.std.proofs.lemmas.Slice.Eq.{bytes_eq-Decides}
 use Rattle.list_laws.proofs.Elements.{list_all-weaker}
 use Rattle.list_laws.proofs.Cases.{by_test}
-use Rattle.text_laws.specs.Blanks.{is_blank, is_inked, before_blanks, kept_before, unblanked, trimmed}
+use Rattle.text_laws.specs.Blanks.{is_blank, is_inked, before_blanks, kept_before, unblanked, trim_blanks}
 use Rattle.text_laws.specs.Words.{is_nil, words}
 use Rattle.text_laws.specs.Runs.{after_run}
 use Rattle.log_sum.specs.Texts.{later_words, joined_words, ends_with, before_end}
@@ -70,7 +70,7 @@ all_before p (b ∷ text) h =
     all_kept p b (before_blanks text) k.0 (all_before p text k.1)
 
 -- what holds of all bytes holds of those between the blanks at both ends
-pub all_trimmed : (p : ℕ → Bool) (text : List ℕ) → list_all p text ≡ true → list_all p (trimmed text) ≡ true
+pub all_trimmed : (p : ℕ → Bool) (text : List ℕ) → list_all p text ≡ true → list_all p (trim_blanks text) ≡ true
 all_trimmed p text h = all_before p (unblanked text) (all_after p is_blank text h)
 
 -- blanks at the end

@@ -26,5 +26,5 @@ before_blanks [] = []
 before_blanks (b ∷ text) = kept_before b (before_blanks text)
 
 -- a text without the blanks at both ends
-abbrev pub trimmed : List ℕ → List ℕ
-trimmed text = before_blanks (unblanked text)
+abbrev pub trim_blanks : List ℕ → List ℕ
+trim_blanks text = before_blanks (unblanked text)

@@ -1,5 +1,5 @@
 ghost use Rattle.std.specs.Prelude.{◌≡◌, ◌≤◌, length};
-ghost use Rattle.text_laws.specs.Blanks.{unblanked, before_blanks, trimmed};
+ghost use Rattle.text_laws.specs.Blanks.{unblanked, before_blanks, trim_blanks};
 
 use crate::classes::Class;
 use crate::runs::split_run;
@@ -28,8 +28,8 @@ pub fn without_last_blanks(text: &[u8]) -> &[u8]
 }
 
 /// A text without the blanks at both ends.
-pub fn trimmed(text: &[u8]) -> &[u8]
-    ensures { result.now ≡ trimmed text.now }
+pub fn trim_blanks(text: &[u8]) -> &[u8]
+    ensures { result.now ≡ trim_blanks text.now }
 {
     without_last_blanks(without_blanks(text))
 }

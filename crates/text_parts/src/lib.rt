@@ -8,7 +8,7 @@ mod lines;
 mod runs;
 mod words;
 
-pub use blanks::{trimmed, without_blanks, without_last_blanks};
+pub use blanks::{trim_blanks, without_blanks, without_last_blanks};
 pub use classes::Class;
 pub use cuts::cut;
 pub use lines::without_return;

@@ -1,14 +1,14 @@
 ghost use Rattle.std.specs.Prelude.{◌≡◌, true, option_map, IfSome};
 ghost use Rattle.final_cond.specs.Conditions.{left_view};
 ghost use Rattle.final_cond.specs.Reading.{left_at_start};
-ghost use Rattle.text_laws.specs.Blanks.{trimmed};
+ghost use Rattle.text_laws.specs.Blanks.{trim_blanks};
 ghost use Rattle.litmus_text.specs.InitialState.{worth_of, item_with, whole_left, item_of, item_if};
 ghost use Rattle.litmus_text.specs.Views.{worth_seen, worth_formed, item_seen, item_formed};
 
 use crate::limits::MAX_THREADS;
 use arch_trait::{Arch, register_named};
 use final_cond::{Left, PlaceName, is_place_name, number_of, read_left};
-use text_parts::{cut, trimmed};
+use text_parts::{cut, trim_blanks};
 
 /// What an item gives a register: a number, or the address of a place.
 #[derive(Clone, Copy)]
@@ -73,16 +73,16 @@ fn item_with<'a, A: Arch>(left: Left, right: &'a [u8]) -> Option<Item<'a>>
 }
 
 fn item_between<'a, A: Arch>(left: &'a [u8], right: &'a [u8]) -> Option<Item<'a>>
-    ensures item { option_map item_seen result ≡ item_if A.writing (whole_left (left_at_start (trimmed left.now))) (trimmed right.now) }
+    ensures item { option_map item_seen result ≡ item_if A.writing (whole_left (left_at_start (trim_blanks left.now))) (trim_blanks right.now) }
     ensures formed { IfSome result (λ item. item_formed item ≡ true) }
 {
-    let Ok((left, rest)) = read_left(trimmed(left)) else {
+    let Ok((left, rest)) = read_left(trim_blanks(left)) else {
         return None;
     };
     if !rest.is_empty() {
         return None;
     }
-    item_with::<A>(left, trimmed(right))
+    item_with::<A>(left, trim_blanks(right))
 }
 
 /// The item that a text is, with blanks at both ends and around its `=`.
@@ -91,7 +91,7 @@ pub(crate) fn item_of<A: Arch>(text: &[u8]) -> Option<Item<'_>>
     ensures item { option_map item_seen result ≡ item_of A.writing text.now }
     ensures formed { IfSome result (λ item. item_formed item ≡ true) }
 {
-    let text = trimmed(text);
+    let text = trim_blanks(text);
     if text.is_empty() {
         return Some(Item::Empty);
     }

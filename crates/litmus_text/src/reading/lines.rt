@@ -3,7 +3,7 @@ ghost use Rattle.litmus_text.specs.Lines.{kept, is_passed, is_comment, lines_fro
 ghost use Rattle.litmus_text.specs.Views.{text_left, lines_seen, IsShorter};
 
 use crate::reading::text::Text;
-use text_parts::{cut, trimmed, without_return};
+use text_parts::{cut, trim_blanks, without_return};
 
 /// A line that isn't passed over, and what is left after it.
 #[derive(Clone, Copy)]
@@ -32,7 +32,7 @@ fn is_comment(text: &[u8]) -> bool
 fn is_passed(text: &[u8]) -> bool
     ensures { result ≡ is_passed text.now }
 {
-    let inner = trimmed(text);
+    let inner = trim_blanks(text);
     inner.is_empty() || is_comment(inner)
 }
 

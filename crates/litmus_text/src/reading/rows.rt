@@ -13,7 +13,7 @@ use crate::reading::text::Text;
 use arch_trait::{Arch, InstrError, Places, read_cell};
 use micro_ops::Micro;
 use std::alloc::{AllocError, Global};
-use text_parts::{cut, trimmed};
+use text_parts::{cut, trim_blanks};
 
 /// So many columns without operations.
 pub(crate) fn no_columns(alloc: Global, threads: usize) -> Result<Vec<Column>, AllocError>
@@ -96,7 +96,7 @@ fn read_instr_or_nothing<A: Arch>(
 ) -> Result<(), ReadError>
     ensures { GivesInMemory (λ _. column_among names.new column.new) result (instr_or_nothing A.writing number text.now (column_among names.old column.old)) }
 {
-    if trimmed(text).is_empty() {
+    if trim_blanks(text).is_empty() {
         return Ok(());
     }
     read_instr::<A>(number, text, names, column)

@@ -13,7 +13,7 @@ use crate::reading::text::Text;
 use arch_trait::Places;
 use itoa::Buffer;
 use micro_ops::Micro;
-use text_parts::{cut, trimmed};
+use text_parts::{cut, trim_blanks};
 
 /// An operation, and its line.
 #[derive(Clone, Copy, Debug)]
@@ -57,7 +57,7 @@ pub(crate) fn cells_of(text: &[u8]) -> Cells<'_>
 fn is_head(thread: usize, cell: &[u8]) -> bool
     ensures { result ≡ is_head thread cell.now }
 {
-    match trimmed(cell) {
+    match trim_blanks(cell) {
         [b'P', digits @ ..] => digits == Buffer::new().format(thread).as_bytes(),
         _ => false,
     }

@@ -2,22 +2,22 @@
 use Rattle.std.proofs.Common.{sym, ap, ◌∙◌}
 use Rattle.final_cond.specs.Conditions.{left_view}
 use Rattle.final_cond.specs.Gives.{fault_view}
-use Rattle.text_laws.specs.Blanks.{trimmed}
+use Rattle.text_laws.specs.Blanks.{trim_blanks}
 use Rattle.litmus_text.specs.InitialState.{item_with}
 use Rattle.litmus_text.proofs.ItemLaws.{item_found, item_missing, item_left, item_whole}
 use Rattle.litmus_text.proofs.reading.items.item_between.Goals as goal
 
 pub returns-in_default-clause-item : goal.returns-in_default-clause-item
 returns-in_default-clause-item g c =
-    sym (item_missing g.A.Arch.writing c.args.left.now (trimmed c.args.right.now) (fault_view c.in_default.field-0) g.met.A.Arch.reads_back.formed c.trimmed.result.now c.trimmed.ensures c.in_default.ensures)
+    sym (item_missing g.A.Arch.writing c.args.left.now (trim_blanks c.args.right.now) (fault_view c.in_default.field-0) g.met.A.Arch.reads_back.formed c.trim_blanks.result.now c.trim_blanks.ensures c.in_default.ensures)
 
 pub returns-then-not-is_empty-clause-item : goal.returns-then-not-is_empty-clause-item
 returns-then-not-is_empty-clause-item g c =
-    sym (item_found g.A.Arch.writing c.args.left.now (trimmed c.args.right.now) (left_view c.in-Ok.left) c.in-Ok.rest.now g.met.A.Arch.reads_back.formed c.trimmed.result.now c.trimmed.ensures c.in-Ok.ensures
-    ∙ item_left g.A.Arch.writing (left_view c.in-Ok.left) c.in-Ok.rest.now (trimmed c.args.right.now) (sym c.if-not-is_empty.ensures))
+    sym (item_found g.A.Arch.writing c.args.left.now (trim_blanks c.args.right.now) (left_view c.in-Ok.left) c.in-Ok.rest.now g.met.A.Arch.reads_back.formed c.trim_blanks.result.now c.trim_blanks.ensures c.in-Ok.ensures
+    ∙ item_left g.A.Arch.writing (left_view c.in-Ok.left) c.in-Ok.rest.now (trim_blanks c.args.right.now) (sym c.if-not-is_empty.ensures))
 
 pub returns-clause-item : goal.returns-clause-item
 returns-clause-item g c =
-    c.item_with.ensures.item ∙ ap (item_with g.A.Arch.writing (left_view c.in-Ok.left)) c.trimmed-2.ensures
-    ∙ sym (item_found g.A.Arch.writing c.args.left.now (trimmed c.args.right.now) (left_view c.in-Ok.left) c.in-Ok.rest.now g.met.A.Arch.reads_back.formed c.trimmed.result.now c.trimmed.ensures c.in-Ok.ensures
-    ∙ item_whole g.A.Arch.writing (left_view c.in-Ok.left) c.in-Ok.rest.now (trimmed c.args.right.now) (sym c.if-not-is_empty.ensures))
+    c.item_with.ensures.item ∙ ap (item_with g.A.Arch.writing (left_view c.in-Ok.left)) c.trim_blanks-2.ensures
+    ∙ sym (item_found g.A.Arch.writing c.args.left.now (trim_blanks c.args.right.now) (left_view c.in-Ok.left) c.in-Ok.rest.now g.met.A.Arch.reads_back.formed c.trim_blanks.result.now c.trim_blanks.ensures c.in-Ok.ensures
+    ∙ item_whole g.A.Arch.writing (left_view c.in-Ok.left) c.in-Ok.rest.now (trim_blanks c.args.right.now) (sym c.if-not-is_empty.ensures))
