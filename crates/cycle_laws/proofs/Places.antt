@@ -29,9 +29,13 @@ module _ {A : Type 0} where
   turned_at_back : (a b : List A) (i : ℕ) → i < length a → slice_get (b ++ a) (length b + i) ≡ slice_get (a ++ b) i
   turned_at_back a b i h = get_after b a i ∙ sym (get_in_prefix a b i h)
 
-  -- edge i of a rotation is the old edge i + k, cyclically
-  pub rotated_at : (k : ℕ) (u : List A) (i : ℕ) → k < length u → i < length u → slice_get (rotated k u) i ≡ slice_get u ((i + k) % length u)
-  rotated_at k u i hk hi =
+  -- what depends on a list and a place, and keeps its value where two parts of the list are exchanged and the place goes with
+  -- its element, keeps its value where the list is rotated by k and the place i comes from i + k, cyclically
+  by_part : {B : Type 0} (f : List A → ℕ → B)
+      → ((a b : List A) (i : ℕ) → i < length b → f (b ++ a) i ≡ f (a ++ b) (length a + i))
+      → ((a b : List A) (i : ℕ) → i < length a → f (b ++ a) (length b + i) ≡ f (a ++ b) i)
+      → (k : ℕ) (u : List A) (i : ℕ) → k < length u → i < length u → f (rotated k u) i ≡ f u ((k + i) % length u)
+  by_part f at_start at_back k u i hk hi =
       let a : List A = take k u in
       let b : List A = drop k u in
       let whole : a ++ b ≡ u = take-append-drop k u in
@@ -39,14 +43,20 @@ module _ {A : Type 0} where
       let lb : length b ≡ length u - k = length-drop k u in
       elim (cases_lt i (length b)) [
         | inl h ↦
-            let same : (i + k) % length u ≡ length a + i = mod-eq_of_lt {n = i + k} {m = length u} (omega arith) ∙ omega arith in
-            turned_at_start a b i h ∙ ap (λ w. slice_get w (length a + i)) whole ∙ ap (slice_get u) (sym same)
+            let same : (k + i) % length u ≡ length a + i = mod-eq_of_lt {n = k + i} {m = length u} (omega arith) ∙ omega arith in
+            at_start a b i h ∙ ap (λ w. f w (length a + i)) whole ∙ ap (f u) (sym same)
         | inr h ↦
             let m : ℕ = i - length b in
-            let same : (i + k) % length u ≡ m = past_once (i + k) (length u) m (omega arith) (omega arith) in
+            let same : (k + i) % length u ≡ m = past_once (k + i) (length u) m (omega arith) (omega arith) in
             let at_i : length b + m ≡ i = omega arith in
-            ap (slice_get (b ++ a)) (sym at_i) ∙ turned_at_back a b m (omega arith) ∙ ap (λ w. slice_get w m) whole ∙ ap (slice_get u) (sym same)
+            ap (f (b ++ a)) (sym at_i) ∙ at_back a b m (omega arith) ∙ ap (λ w. f w m) whole ∙ ap (f u) (sym same)
       ]
+
+  -- edge i of a rotation is the old edge i + k, cyclically
+  pub rotated_at : (k : ℕ) (u : List A) (i : ℕ) → k < length u → i < length u → slice_get (rotated k u) i ≡ slice_get u ((i + k) % length u)
+  rotated_at k u i hk hi =
+      let turned : k + i ≡ i + k = omega arith in
+      by_part slice_get turned_at_start turned_at_back k u i hk hi ∙ ap (λ n. slice_get u (n % length u)) turned
 
   -- the rotation of two exchanged parts, by a place of the first or of the second
   turned_within : (a b : List A) (k : ℕ) → k ≤ length b → rotated k (b ++ a) ≡ rotated (length a + k) (a ++ b)
@@ -59,19 +69,4 @@ module _ {A : Type 0} where
 
   -- rotating by j and then by k is rotating by j + k, modulo the length
   pub rotations_add : (j k : ℕ) (u : List A) → j < length u → k < length u → rotated k (rotated j u) ≡ rotated ((j + k) % length u) u
-  rotations_add j k u hj hk =
-      let a : List A = take j u in
-      let b : List A = drop j u in
-      let whole : a ++ b ≡ u = take-append-drop j u in
-      let la : length a ≡ j = length-take-le j u (omega arith) in
-      let lb : length b ≡ length u - j = length-drop j u in
-      elim (cases_lt k (length b)) [
-        | inl h ↦
-            let same : (j + k) % length u ≡ length a + k = mod-eq_of_lt {n = j + k} {m = length u} (omega arith) ∙ omega arith in
-            turned_within a b k (omega arith) ∙ ap (rotated (length a + k)) whole ∙ ap (λ i. rotated i u) (sym same)
-        | inr h ↦
-            let m : ℕ = k - length b in
-            let same : (j + k) % length u ≡ m = past_once (j + k) (length u) m (omega arith) (omega arith) in
-            let at_k : length b + m ≡ k = omega arith in
-            ap (λ i. rotated i (b ++ a)) (sym at_k) ∙ turned_past a b m (omega arith) ∙ ap (rotated m) whole ∙ ap (λ i. rotated i u) (sym same)
-      ]
+  rotations_add j k u hj hk = by_part (λ w i. rotated i w) (λ a b i h. turned_within a b i (omega arith)) (λ a b i h. turned_past a b i (omega arith)) j u k hj hk
