@@ -32,8 +32,9 @@ use std::alloc::Global;
 /// tool reads of `input` and of the shelf, what it writes to `out` and to the shelf, and what they hold
 /// after each status, is as `Answers` says. Where what is asked for can be done and no device fails, it
 /// is done (`Complete`); only the tools that may want memory answer that there is none; and each status
-/// has the one cause that `Causes` gives. The shelf is to be at nothing, and is so again. The line of
-/// the status is written to `err`, which doesn't change the status where it fails.
+/// has the one cause that `Causes` gives. The call asks that no file of the shelf is open, and leaves
+/// none open. The line of the status is written to `err`, which doesn't change the status where it
+/// fails.
 #[tactic(auto, using(crate::proofs::Reported::takes_line, crate::proofs::Forced::answers_force))]
 pub fn run<I: Source, O: Sink, E: Sink, H: Shelf>(
     alloc: Global,
