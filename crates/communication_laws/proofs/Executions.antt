@@ -59,6 +59,12 @@ stands_at es p x i j e f a b c d g h stands =
     subst (λ u. Stands (accesses_in p x) x (edge_at es i) u f) (event_is es (visits_in p x) i e a c g)
     (subst (λ u. Stands (accesses_in p x) x (edge_at es i) (free es i a) u) (event_is es (visits_in p x) j f b d h) stands)
 
+-- what is so of two elements is so of each element of their list
+of_both : {A : Type 0} (P : A → Type 0) (a b : A) → P a → P b → (k : ℕ) (x : A) → slice_get (a ∷ b ∷ []) k ≡ Some x → P x
+of_both P a b p q zero x e = subst P (same_Some a x e) p
+of_both P a b p q (suc zero) x e = subst P (same_Some b x e) q
+of_both P a b p q (suc (suc k)) x e = cc e
+
 -- a cycle of two threads, each of which writes to one place and then accesses the other in direction d
 abbrev square : Dir → Com → List Edge
 square d c = edges.Po Diff dirs.W d ∷ edges.Com c External ∷ edges.Po Diff dirs.W d ∷ edges.Com c External ∷ []
@@ -112,9 +118,7 @@ square_events d c u v p x s = record {
     observers (suc (suc k)) visits l e = cc e
 
     starts : (k : ℕ) (visits : List Visit) → slice_get (square_visits d u v) k ≡ Some visits → StartsFree visits
-    starts zero visits e = subst StartsFree (same_Some _ visits e) (refl, record { address = refl; stored = refl; control = refl })
-    starts (suc zero) visits e = subst StartsFree (same_Some _ visits e) (refl, record { address = refl; stored = refl; control = refl })
-    starts (suc (suc k)) visits e = cc e
+    starts = of_both StartsFree _ _ (refl, record { address = refl; stored = refl; control = refl }) (refl, record { address = refl; stored = refl; control = refl })
 
 -- then all four edges stand
 square_stands : (d : Dir) (c : Com) (u v : ℕ) (p : Program) (x : Execution) → IsSquare d c u v p x → AllStand (square d c) p x
@@ -204,12 +208,7 @@ both_initial-condition = (refl, refl)
 both_initial-all_stand : AllStand store_buffering buffers both_initial
 both_initial-all_stand =
     square_stands dirs.R coms.Fr 1 0 buffers both_initial
-    (record { threads = omega arith; visits = refl; ends = ends; leaves = refl; enters = refl; goes = omega arith; returns = omega arith })
-  where
-    ends : (k : ℕ) (made : List Item) → slice_get (items_in buffers both_initial) k ≡ Some made → barriers_after [] made ≡ []
-    ends zero made e = subst (λ items. barriers_after [] items ≡ []) (same_Some _ made e) refl
-    ends (suc zero) made e = subst (λ items. barriers_after [] items ≡ []) (same_Some _ made e) refl
-    ends (suc (suc k)) made e = cc e
+    (record { threads = omega arith; visits = refl; ends = of_both (λ made. barriers_after [] made ≡ []) _ _ refl refl; leaves = refl; enters = refl; goes = omega arith; returns = omega arith })
 
 one_later-accesses : accesses_in buffers one_later ≡ (write 0 1 ∷ read 1 1 ∷ []) ∷ (write 1 1 ∷ read 0 0 ∷ []) ∷ []
 one_later-accesses = refl
@@ -331,12 +330,7 @@ both_in_order-condition = (refl, refl)
 both_in_order-all_stand : AllStand two_writes double_writes both_in_order
 both_in_order-all_stand =
     square_stands dirs.W coms.Ws 2 1 double_writes both_in_order
-    (record { threads = omega arith; visits = refl; ends = ends; leaves = refl; enters = refl; goes = omega arith; returns = omega arith })
-  where
-    ends : (k : ℕ) (made : List Item) → slice_get (items_in double_writes both_in_order) k ≡ Some made → barriers_after [] made ≡ []
-    ends zero made e = subst (λ items. barriers_after [] items ≡ []) (same_Some _ made e) refl
-    ends (suc zero) made e = subst (λ items. barriers_after [] items ≡ []) (same_Some _ made e) refl
-    ends (suc (suc k)) made e = cc e
+    (record { threads = omega arith; visits = refl; ends = of_both (λ made. barriers_after [] made ≡ []) _ _ refl refl; leaves = refl; enters = refl; goes = omega arith; returns = omega arith })
 
 -- the writes of x come in the order of the first thread and then the second
 abbrev pub x_exchanged : Execution

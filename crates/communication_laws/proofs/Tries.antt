@@ -70,49 +70,31 @@ outcomes es mode = filter (λ x. coheres (cycle_accesses es mode here) x && ends
 abbrev some_breaks : List Edge → ObsMode → (Execution → Bool) → Bool
 some_breaks es mode test = list_any (λ x. test x && not (orders_hold es (cycle_accesses es mode here) x)) (tries es mode)
 
--- there is one outcome
-two_writes-outcome : outcomes two_writes Accept ≡ intended two_writes Accept here ∷ []
-unfolding cycle_accesses intended events_in location_order location_numbered thread_of slot_of location_of moves_before value_of way_place write_count write_at is_observed event_after
-two_writes-outcome = refl
+-- the intended execution of a cycle is its one outcome
+abbrev HasOneOutcome : List Edge → ObsMode → Type 0
+HasOneOutcome es mode = outcomes es mode ≡ intended es mode here ∷ []
 
-W3-outcome : outcomes W3 Accept ≡ intended W3 Accept here ∷ []
+-- each of these cycles has one outcome
+one_outcome : HasOneOutcome two_writes Accept × HasOneOutcome W3 Accept × HasOneOutcome W3O Accept × HasOneOutcome W3O Force × HasOneOutcome R_mfence Accept
 unfolding cycle_accesses intended events_in location_order location_numbered thread_of slot_of location_of moves_before value_of way_place write_count write_at is_observed event_after
-W3-outcome = refl
+one_outcome = (refl, refl, refl, refl, refl)
 
-W3O-outcome : outcomes W3O Accept ≡ intended W3O Accept here ∷ []
-unfolding cycle_accesses intended events_in location_order location_numbered thread_of slot_of location_of moves_before value_of way_place write_count write_at is_observed event_after
-W3O-outcome = refl
+-- the final values are needed: a coherent execution has an edge that doesn't hold
+abbrev NeedsEnds : List Edge → ObsMode → Type 0
+NeedsEnds es mode = some_breaks es mode (λ x. coheres (cycle_accesses es mode here) x) ≡ true
 
-W3O_forced-outcome : outcomes W3O Force ≡ intended W3O Force here ∷ []
-unfolding cycle_accesses intended events_in location_order location_numbered thread_of slot_of location_of moves_before value_of way_place write_count write_at is_observed event_after
-W3O_forced-outcome = refl
+-- coherence is needed: an execution with the final values has an edge that doesn't hold
+abbrev NeedsCoherence : List Edge → ObsMode → Type 0
+NeedsCoherence es mode = some_breaks es mode (λ x. ends es mode (cycle_accesses es mode here) x) ≡ true
 
-R_mfence-outcome : outcomes R_mfence Accept ≡ intended R_mfence Accept here ∷ []
-unfolding cycle_accesses intended events_in location_order location_numbered thread_of slot_of location_of moves_before value_of way_place write_count write_at is_observed event_after
-R_mfence-outcome = refl
+-- an observer is needed: a coherent execution with the final values has an edge that doesn't hold
+abbrev NeedsObserver : List Edge → ObsMode → Type 0
+NeedsObserver es mode = some_breaks es mode (λ x. coheres (cycle_accesses es mode here) x && ends es mode (cycle_accesses es mode here) x) ≡ true
 
--- without the final values
-two_writes-needs-ends : some_breaks two_writes Accept (λ x. coheres (cycle_accesses two_writes Accept here) x) ≡ true
+-- each premise is needed for one of these cycles
+premises_needed : NeedsEnds two_writes Accept × NeedsEnds R_mfence Accept × NeedsCoherence W3 Accept × NeedsCoherence W3O Accept × NeedsObserver W3O Avoid
 unfolding cycle_accesses intended events_in location_order location_numbered thread_of slot_of location_of moves_before value_of way_place write_count write_at is_observed event_after
-two_writes-needs-ends = refl
-
-R_mfence-needs-ends : some_breaks R_mfence Accept (λ x. coheres (cycle_accesses R_mfence Accept here) x) ≡ true
-unfolding cycle_accesses intended events_in location_order location_numbered thread_of slot_of location_of moves_before value_of way_place write_count write_at is_observed event_after
-R_mfence-needs-ends = refl
-
--- without coherence
-W3-needs-coherence : some_breaks W3 Accept (λ x. ends W3 Accept (cycle_accesses W3 Accept here) x) ≡ true
-unfolding cycle_accesses intended events_in location_order location_numbered thread_of slot_of location_of moves_before value_of way_place write_count write_at is_observed event_after
-W3-needs-coherence = refl
-
-W3O-needs-coherence : some_breaks W3O Accept (λ x. ends W3O Accept (cycle_accesses W3O Accept here) x) ≡ true
-unfolding cycle_accesses intended events_in location_order location_numbered thread_of slot_of location_of moves_before value_of way_place write_count write_at is_observed event_after
-W3O-needs-coherence = refl
-
--- without the observer
-W3O-needs-observer : some_breaks W3O Avoid (λ x. coheres (cycle_accesses W3O Avoid here) x && ends W3O Avoid (cycle_accesses W3O Avoid here) x) ≡ true
-unfolding cycle_accesses intended events_in location_order location_numbered thread_of slot_of location_of moves_before value_of way_place write_count write_at is_observed event_after
-W3O-needs-observer = refl
+premises_needed = (refl, refl, refl, refl, refl)
 
 -- without the value of a read: it reads the write that it is to come before
 abbrev read_late : List (List Access)
