@@ -9,8 +9,8 @@ use Rattle.summed_files.specs.declared.feeding.LogFault.{LogFault}
 use Rattle.summed_files.specs.declared.feeding.LogFault.TheVariants.{Wrong, TooMuch, NoMemory}
 use Rattle.summed_files.specs.declared.sum_end.SumEnd.TheVariants as ends
 use Rattle.summed_files.specs.Faults.{end_at}
-use Rattle.summed_files.specs.Feeding.{LogSummed, LogFaulty, LogFailed}
-use Rattle.summed_files.specs.SumEnds.{InputSaid, InputSummed}
+use Rattle.summed_files.specs.Feeding.{IsFaulty, LogSummed, LogFaulty, LogFailed}
+use Rattle.summed_files.specs.SumEnds.{InputSaid, InputStopped, InputSummed}
 
 -- this was done with the sum of an input
 pub input_said : (old new : SourceSeen) (done : List ℕ → Type 0) (feeding : Feeding)
@@ -21,13 +21,15 @@ input_said old new done feeding s sum is wrote = record {
   wrote = wrote;
 }
 
+-- an input is at a fault
+input_stopped : (old new : SourceSeen) (fault : LogFault) → LogFaulty old new [] fault × (new.faults ≡ old.faults) → InputStopped old new (λ log bytes. IsFaulty [] log bytes fault)
+input_stopped old new fault f = record { log = f.0.log; text = f.0.text; bytes = f.0.bytes; taken = f.0.taken; is = f.0.is; no_fault = f.1 }
+
 -- an input with a fault
 pub input_faulty : (old new : SourceSeen) (a : SinkSeen) (fault : LogFault) → LogFaulty old new [] fault × (new.faults ≡ old.faults)
     → InputSummed old new a a (end_at None fault)
-input_faulty old new a (Wrong error) f =
-    (record { log = f.0.log; text = f.0.text; bytes = f.0.bytes; taken = f.0.taken; is = f.0.is; no_fault = f.1 }, refl)
-input_faulty old new a (TooMuch line) f =
-    (record { log = f.0.log; text = f.0.text; bytes = f.0.bytes; taken = f.0.taken; is = f.0.is; no_fault = f.1 }, refl)
+input_faulty old new a (Wrong error) f = (input_stopped old new (Wrong error) f, refl)
+input_faulty old new a (TooMuch line) f = (input_stopped old new (TooMuch line) f, refl)
 input_faulty old new a NoMemory f = refl
 
 -- an input that failed

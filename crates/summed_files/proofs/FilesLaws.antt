@@ -7,18 +7,19 @@ use Rattle.diy_io.specs.Shelf.{Files, ShelfSeen, Opened, NotThere, Stopped}
 use Rattle.diy_io.specs.Wrote.{SinkSeen}
 use Rattle.log_sum.specs.Representing.{logs_text}
 use Rattle.summed_files.specs.declared.feeding.Feeding.{Feeding}
+use Rattle.summed_files.specs.declared.feeding.LogFault.{LogFault}
 use Rattle.summed_files.specs.declared.feeding.LogFault.TheVariants.{Wrong, TooMuch, NoMemory}
 use Rattle.summed_files.specs.declared.feeding.ReadFault.{ReadFault}
 use Rattle.summed_files.specs.declared.feeding.ReadFault.TheVariants.{Log, Device}
 use Rattle.summed_files.specs.declared.files.FileFault.{FileFault}
 use Rattle.summed_files.specs.declared.files.FileFault.TheVariants.{Missing, Read}
 use Rattle.summed_files.specs.Logs.{IsShort}
-use Rattle.summed_files.specs.Feeding.{Reads, LogSummed, ClosedTo}
+use Rattle.summed_files.specs.Feeding.{Reads, IsFaulty, LogSummed, ClosedTo}
 use Rattle.file_laws.specs.Opened.{IsFile}
 use Rattle.file_laws.proofs.NameLaws.{absent_before, file_before}
 use Rattle.file_laws.proofs.OpenedLaws.{opened_text, opened_took, took_nothing, took_one_more, took_no_more}
-use Rattle.summed_files.specs.SumEnds.{AreLogs, IsBegun, IsAtWord, FilesSaid, FilesSummed}
-use Rattle.summed_files.specs.Files.{log_seen, FileSummed, FileTo, FilesSoFar, file_end}
+use Rattle.summed_files.specs.SumEnds.{AreLogs, IsBegun, IsAtWord, FileStopped, FilesSaid, FilesSummed}
+use Rattle.summed_files.specs.Files.{log_seen, FileSummed, FileFaulty, FileTo, FilesSoFar, file_end}
 use Rattle.summed_files.proofs.LogLaws.{are_right}
 
 -- a file that was opened is summed
@@ -130,6 +131,21 @@ at_word old mid feeding words first place name s word = record { count = s.count
 begun_same : (old mid : Option Files) (before : List (List ℕ)) (name bytes : List ℕ) → mid ≡ old → IsBegun mid before name bytes → IsBegun old before name bytes
 begun_same old mid before name bytes files b = subst (λ o. IsBegun o before name bytes) files b
 
+-- the files end at a fault of a log
+files_stopped : (old mid new : ShelfSeen) (feeding : Feeding) (words : List (List ℕ)) (first place : ℕ) (name : List ℕ) (fault : LogFault)
+    → (s : FilesSoFar old mid feeding words first place) → mid.files ≡ old.files → slice_get words place ≡ Some name
+    → FileFaulty mid new s.logs name fault → FileStopped old new words first place (λ before log bytes. IsFaulty before log bytes fault)
+files_stopped old mid new feeding words first place name fault s files word f = record {
+  before = s.logs;
+  name = name;
+  place_is = at_word old mid feeding words first place name s word;
+  log = f.log;
+  text = file_before old mid name f.log files f.text;
+  bytes = f.bytes;
+  is = f.is;
+  took = took_one_more old mid new s.logs f.bytes s.took f.took;
+}
+
 -- a file isn't summed
 pub files_refused : (old mid new : ShelfSeen) (a : SinkSeen) (feeding after : Feeding) (words : List (List ℕ)) (first place : ℕ) (name : List ℕ) (fault : FileFault)
     → (s : FilesSoFar old mid feeding words first place) → mid.files ≡ old.files → slice_get words place ≡ Some name
@@ -160,32 +176,10 @@ files_refused old mid new a feeding after words first place name (Read Device) s
   },
   refl,
 )
-files_refused old mid new a feeding after words first place name (Read (Log (Wrong error))) s files word f = (
-  record {
-    before = s.logs;
-    name = name;
-    place_is = at_word old mid feeding words first place name s word;
-    log = f.log;
-    text = file_before old mid name f.log files f.text;
-    bytes = f.bytes;
-    is = f.is;
-    took = took_one_more old mid new s.logs f.bytes s.took f.took;
-  },
-  refl,
-)
-files_refused old mid new a feeding after words first place name (Read (Log (TooMuch line))) s files word f = (
-  record {
-    before = s.logs;
-    name = name;
-    place_is = at_word old mid feeding words first place name s word;
-    log = f.log;
-    text = file_before old mid name f.log files f.text;
-    bytes = f.bytes;
-    is = f.is;
-    took = took_one_more old mid new s.logs f.bytes s.took f.took;
-  },
-  refl,
-)
+files_refused old mid new a feeding after words first place name (Read (Log (Wrong error))) s files word f =
+    (files_stopped old mid new feeding words first place name (Wrong error) s files word f, refl)
+files_refused old mid new a feeding after words first place name (Read (Log (TooMuch line))) s files word f =
+    (files_stopped old mid new feeding words first place name (TooMuch line) s files word f, refl)
 files_refused old mid new a feeding after words first place name (Read (Log NoMemory)) s files word f = refl
 
 -- this was done with the sum of the files

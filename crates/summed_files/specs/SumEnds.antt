@@ -30,23 +30,22 @@ pub record InputSaid (old new : SourceSeen) (done : List ℕ → Type 0) : Type 
   pub read : InputRead old new sum
   pub wrote : done sum
 
--- the input is a log with this first fault, and no more was taken
-pub record InputWrong (old new : SourceSeen) (error : LogError) : Type 0 where
+-- the input is a log of which some bytes were taken and no more, and this is so of both
+pub record InputStopped (old new : SourceSeen) (Is : List ℕ → List ℕ → Type 0) : Type 0 where
   pub log : List ℕ
   pub text : IsText old.left log
   pub bytes : List ℕ
   pub taken : TookCount old new (length bytes)
-  pub is : IsWrong [] log bytes error
+  pub is : Is log bytes
   pub no_fault : new.faults ≡ old.faults
 
+-- the input is a log with this first fault, and no more was taken
+abbrev pub InputWrong : SourceSeen → SourceSeen → LogError → Type 0
+InputWrong old new error = InputStopped old new (λ log bytes. IsWrong [] log bytes error)
+
 -- the input is a log of more than 2^40 bytes, and no more was taken
-pub record InputTooMuch (old new : SourceSeen) (line : ℕ) : Type 0 where
-  pub log : List ℕ
-  pub text : IsText old.left log
-  pub bytes : List ℕ
-  pub taken : TookCount old new (length bytes)
-  pub is : IsTooMuch [] log bytes line
-  pub no_fault : new.faults ≡ old.faults
+abbrev pub InputTooMuch : SourceSeen → SourceSeen → ℕ → Type 0
+InputTooMuch old new line = InputStopped old new (λ log bytes. IsTooMuch [] log bytes line)
 
 -- a fault of a kind, at a line
 abbrev pub error_at : ℕ → LogKind → LogError
@@ -91,27 +90,25 @@ pub record IsAtWord (files : Option Files) (words : List (List ℕ)) (first plac
   pub are : AreLogs files words first before
   pub word : slice_get words place ≡ Some name
 
--- the log that the word at a place names has the first fault of the logs, and no more was opened or taken
-pub record FileWrong (old new : ShelfSeen) (words : List (List ℕ)) (first place : ℕ) (error : LogError) : Type 0 where
+-- some bytes were taken of the log that the word at a place names, no more was opened or taken, and this is so of the logs before it,
+-- of the log and of the bytes
+pub record FileStopped (old new : ShelfSeen) (words : List (List ℕ)) (first place : ℕ) (Is : List (List ℕ) → List ℕ → List ℕ → Type 0) : Type 0 where
   pub before : List (List ℕ)
   pub name : List ℕ
   pub place_is : IsAtWord old.files words first place before name
   pub log : List ℕ
   pub text : IsFile old.files name log
   pub bytes : List ℕ
-  pub is : IsWrong before log bytes error
+  pub is : Is before log bytes
   pub took : TookFiles old new (before ++ bytes ∷ [])
 
+-- the log that the word at a place names has the first fault of the logs, and no more was opened or taken
+abbrev pub FileWrong : ShelfSeen → ShelfSeen → List (List ℕ) → ℕ → ℕ → LogError → Type 0
+FileWrong old new words first place error = FileStopped old new words first place (λ before log bytes. IsWrong before log bytes error)
+
 -- the log that the word at a place names has more than 2^40 bytes, those before it have no fault, and no more was opened or taken
-pub record FileTooMuch (old new : ShelfSeen) (words : List (List ℕ)) (first place line : ℕ) : Type 0 where
-  pub before : List (List ℕ)
-  pub name : List ℕ
-  pub place_is : IsAtWord old.files words first place before name
-  pub log : List ℕ
-  pub text : IsFile old.files name log
-  pub bytes : List ℕ
-  pub is : IsTooMuch before log bytes line
-  pub took : TookFiles old new (before ++ bytes ∷ [])
+abbrev pub FileTooMuch : ShelfSeen → ShelfSeen → List (List ℕ) → ℕ → ℕ → ℕ → Type 0
+FileTooMuch old new words first place line = FileStopped old new words first place (λ before log bytes. IsTooMuch before log bytes line)
 
 -- the word at a place names no file, where the files are known; the logs before it have no fault, and no more was opened
 pub record FileMissing (old new : ShelfSeen) (words : List (List ℕ)) (first place : ℕ) : Type 0 where
