@@ -14,6 +14,7 @@ use Rattle.arch_trait.specs.Reading.{few, operands_if, operands_in}
 abbrev pub is_comma : ℕ → Bool
 is_comma b = b == 44
 
+-- a text without a comma is one piece
 pub cut_none : (t : List ℕ) → position is_comma t ≡ None → slice_split is_comma t ≡ t ∷ []
 cut_none t e = slice_split_none is_comma t (λ k d h. all_fail t k d h (none_from t e))
   where
@@ -29,6 +30,7 @@ cut_none t e = slice_split_none is_comma t (λ k d h. all_fail t k d h (none_fro
         is_comma (get_or t k d) ≡ false
     all_fail t k d h m = fails_before_first is_comma t k d (omega arith)
 
+-- the first piece ends at the first comma, and the others come after it
 pub cut_some : (t : List ℕ) (i : ℕ) → position is_comma t ≡ Some i →
     slice_split is_comma t ≡
     take i t ∷ slice_split is_comma (take (length t - (i + 1)) (drop (i + 1) t))
@@ -54,6 +56,7 @@ unfolding operands_in
 operands_some t [] e h = absurd (omega arith)
 operands_some t (b ∷ u) e h = ap operands_if (sym e)
 
+-- a text of blanks has no operands
 pub operands_none : (t u : List ℕ) → u ≡ trim_blanks t → length u ≡ 0 → none ≡ operands_in t
 unfolding operands_in
 operands_none t [] e h = ap operands_if e
@@ -86,6 +89,7 @@ operands_four t u a r b q d p e h s i j k =
     operands_some t u e h ∙
     ap (λ l. few (map trim_blanks l)) (s ∙ ap (λ l. a ∷ l) (i ∙ ap (λ l. b ∷ l) (j ∙ ap (λ l. d ∷ l) k)))
 
+-- a text with four commas has more operands than an instruction can have
 pub operands_more : (t u a r b q d p c o : List ℕ) → u ≡ trim_blanks t → 1 ≤ length u →
     slice_split is_comma u ≡ a ∷ slice_split is_comma r →
     slice_split is_comma r ≡ b ∷ slice_split is_comma q →
@@ -121,6 +125,7 @@ operands_more t u a r b q d p c o e h s i j k =
 pub no_bytes : (u : List ℕ) (b : Bool) → b ≡ (length u == 0) → b ≡ true → length u ≡ 0
 no_bytes u b e f = eqb-true (length u) 0 (sym e ∙ f)
 
+-- a text that a test finds not to be empty has a byte
 pub some_bytes : (u : List ℕ) (b : Bool) → b ≡ (length u == 0) → b ≡ false → 1 ≤ length u
 some_bytes u b e f =
     let d : length u ≡ 0 → ⊥ = eqb-false (length u) 0 (sym e ∙ f) in omega arith
@@ -130,12 +135,14 @@ pub gave_one : (t u x : List ℕ) → u ≡ trim_blanks t → 1 ≤ length u →
     x ≡ trim_blanks u → one x ≡ operands_in t
 gave_one t u x e h s f = ap (λ l. one l) f ∙ sym (operands_one t u e h s)
 
+-- two operands, without the blanks at their ends
 pub gave_two : (t u a r x y : List ℕ) → u ≡ trim_blanks t → 1 ≤ length u →
     slice_split is_comma u ≡ a ∷ slice_split is_comma r → slice_split is_comma r ≡ r ∷ [] →
     x ≡ trim_blanks a → y ≡ trim_blanks r → two x y ≡ operands_in t
 gave_two t u a r x y e h s i f g =
     ap (λ l. two l y) f ∙ (ap (λ l. two (trim_blanks a) l) g ∙ sym (operands_two t u a r e h s i))
 
+-- three operands, without the blanks at their ends
 pub gave_three : (t u a r b q x y z : List ℕ) → u ≡ trim_blanks t → 1 ≤ length u →
     slice_split is_comma u ≡ a ∷ slice_split is_comma r →
     slice_split is_comma r ≡ b ∷ slice_split is_comma q → slice_split is_comma q ≡ q ∷ [] →
@@ -145,6 +152,7 @@ gave_three t u a r b q x y z e h s i j f g k =
     (ap (λ l. three (trim_blanks a) l z) g ∙
     (ap (λ l. three (trim_blanks a) (trim_blanks b) l) k ∙ sym (operands_three t u a r b q e h s i j)))
 
+-- four operands, without the blanks at their ends
 pub gave_four : (t u a r b q d p x y z w : List ℕ) → u ≡ trim_blanks t → 1 ≤ length u →
     slice_split is_comma u ≡ a ∷ slice_split is_comma r →
     slice_split is_comma r ≡ b ∷ slice_split is_comma q →

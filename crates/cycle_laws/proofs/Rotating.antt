@@ -21,6 +21,7 @@ pub data Cuts (a b c d : List Edge) : Type 0 where
   before : (between : List Edge) → c ≡ a ++ between → b ≡ between ++ d → Cuts a b c d
   behind : (between : List Edge) → a ≡ c ++ between → d ≡ between ++ b → Cuts a b c d
 
+-- which of two cuts of one list comes first
 pub cuts : (a b c d : List Edge) → a ++ b ≡ c ++ d → Cuts a b c d
 cuts [] b c d e = before c refl e
 cuts (x ∷ a) b [] d e = behind (x ∷ a) refl (sym e)

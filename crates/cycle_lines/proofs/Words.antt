@@ -28,6 +28,7 @@ read_made arch list none (Some es) e h =
     let same : list ≡ added none es = cc h in
     ap (made_kept arch) (same ∙ ap (λ l. added l es) e ∙ added_whole [] es (lit≤ tt)) ∙ made_of_kept arch es
 
+-- a text that isn't read as edges has an unknown one
 pub read_none : (arch : ArchName) (none : EdgeList) (read : Option (List Edge)) →
     None ≡ option_map (added none) read → Err UnknownEdge ≡ spelled_made arch read
 read_none arch none None h = refl

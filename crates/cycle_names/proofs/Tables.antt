@@ -144,6 +144,7 @@ all_slots_agree (slots.Link dirs.R dirs.W) = refl
 all_slots_agree (slots.Link dirs.W dirs.R) = refl
 all_slots_agree (slots.Link dirs.W dirs.W) = refl
 
+-- an edge's kind belongs to a slot where the edge's own slot has the same rank
 pub slot_is_of : (slot : Slot) (e : Edge) → is_kind_slot slot (kind_of e) ≡ (rank_of (slot_of e) == rank_of (slot_edge slot))
 unfolding slot_agrees
 slot_is_of slot e = agreed _ _ (each_edge (slot_agrees slot) (all_slots_agree slot) e)

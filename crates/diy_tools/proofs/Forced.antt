@@ -216,5 +216,6 @@ asked_force words status old new h = of_asked (asked_of words) refl h
     of_asked (Ok (AsksCheck asked)) e h = tt
     of_asked (Ok (AsksTest asked)) e h = of_test asked e h.out
 
+-- what is so of each tool's answer is so of the headline
 pub answers_force : (words : List (List ℕ)) (status : Status) (old new : Seen) → Answers words status old new → Headline words status old new
 answers_force words status old new h = asked_force words status (devices old) (devices new) h

@@ -13,9 +13,11 @@ use Rattle.diy_io.specs.PageLaws.{sent_wrote, unsent_wrote}
 use Rattle.diy_io.specs.Wrote.{SinkSeen, Wrote}
 use Rattle.diy_tools.specs.Report.{TakesLine, status_line, usage_line, usage_text, shown_word}
 
+-- the last of some letters is the name of its location
 pub letter_at : (k : ℕ) → get_or (letters (k + 1)) k [] ≡ location_name k
 letter_at k = get_or-map-range_with_len location_name 0 (k + 1) k k [] (omega arith) (omega arith)
 
+-- k + 1 letters are more than k
 pub letters_long : (k : ℕ) → k < length (letters (k + 1))
 letters_long k = omega (arith, length-map-range_with_len location_name 0 (k + 1))
 

@@ -8,6 +8,7 @@ use Rattle.diy_tools.specs.Devices.{devices}
 use Rattle.diy_tools.specs.SumAnswers.{AnswersSum}
 use Rattle.diy_tools.specs.Kept.{SumsFiles, SumsInput}
 
+-- where words name logs, the sum of the files is the answer
 pub files_answered : (words : List (List ℕ)) (status : Status) (input : SourceSeen) (old new : ShelfSeen) (before after : SinkSeen) → 1 < length words
     → SumsFiles words status old new before after → AnswersSum words status (devices (input, before, old)) (devices (input, after, new))
 files_answered [] status input old new before after more h = absurd (omega arith)
@@ -18,6 +19,7 @@ files_answered (tool ∷ log ∷ logs) status input old new before after more h 
   status_is = h.status_is;
 }
 
+-- where words name no log, the sum of the input is the answer
 pub input_answered : (words : List (List ℕ)) (status : Status) (shelf : ShelfSeen) (old new : SourceSeen) (before after : SinkSeen) → length words ≤ 1
     → SumsInput status old new before after → AnswersSum words status (devices (old, before, shelf)) (devices (new, after, shelf))
 input_answered [] status shelf old new before after few h =

@@ -187,6 +187,7 @@ pub record ChecksFiles (words : List (List ℕ)) (arch : ArchName) (test executi
 abbrev pub ChecksFor : List (List ℕ) → Check → Status → ShelfSeen → ShelfSeen → SinkSeen → SinkSeen → Type 0
 ChecksFor words request = ChecksFiles words request.arch request.test request.execution
 
+-- the checking that words ask for ended so, by what is seen of the devices before and after
 abbrev pub CheckEndsFor : List (List ℕ) → Check → CheckEnd → ShelfSeen → ShelfSeen → SinkSeen → SinkSeen → Type 0
 CheckEndsFor words request end old new before after =
     FilesChecked request.arch (machine_of request.arch).writing old new words request.test request.execution before after end

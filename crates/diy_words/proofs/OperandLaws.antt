@@ -19,6 +19,7 @@ abbrev pub given_by : {X : Type 0} → (Said → List X) → Result Said Usage �
 given_by gives (Ok said) = gives said
 given_by gives (Err _) = []
 
+-- what is given among what words say, one after another
 abbrev pub given_all : {X : Type 0} → (Said → List X) → List (Result Said Usage) → List X
 given_all gives [] = []
 given_all gives (said ∷ rest) = given_by gives said ++ given_all gives rest
@@ -27,9 +28,11 @@ given_all gives (said ∷ rest) = given_by gives said ++ given_all gives rest
 abbrev pub said_from : Tool → List (List ℕ) → ℕ → List (Result Said Usage)
 said_from tool words at = saying_from tool nothing_before words at
 
+-- no word of a tool from a place on is faulty
 abbrev pub AreFaultless : Tool → List (List ℕ) → ℕ → Type 0
 AreFaultless tool words at = AllByRecursion IsOk (said_from tool words at)
 
+-- what the words of a tool from a place on give
 abbrev pub given_from : {X : Type 0} → Tool → (Said → List X) → List (List ℕ) → ℕ → List X
 given_from tool gives words at = given_all gives (said_from tool words at)
 
@@ -57,6 +60,7 @@ pub record OptionFirst {X : Type 0} (tool : Tool) (gives : Said → List X) (wor
   pub faultless : AreFaultless tool words (at + 2)
   pub first : given_from tool gives words at ≡ given_from tool gives words (at + 2)
 
+-- an option comes with its value, and gives nothing of what is asked for
 pub option_then : {X : Type 0} (tool : Tool) → IsUncounted tool → (gives : Said → List X) (words : List (List ℕ)) (at : ℕ) (text : List ℕ) (option : OptionName) → at < length words
     → slice_get words at ≡ Some text → option_named tool text ≡ Some option → ((value : List ℕ) → IsOther gives (said_by tool nothing_before (Valued option at value)))
     → AreFaultless tool words at → OptionFirst tool gives words at
@@ -88,6 +92,7 @@ pub record AllSaid {X : Type 0} (gives : Said → List X) (said : List (Result S
   pub faultless : AllByRecursion IsOk said
   pub given : given_all gives said ≡ all
 
+-- words that are all read are faultless, and what they give adds up
 pub all_said : {X : Type 0} (gives : Said → List X) (total : List Said → List X) → [] ≡ total [] → ((first : Said) (more : List Said) → gives first ++ total more ≡ total (first ∷ more))
     → (said : List (Result Said Usage)) (all : List Said) → said_all said ≡ Ok all → AllSaid gives said (total all)
 all_said gives total none one [] all e = let same : [] ≡ all = cc in record { faultless = tt; given = none ∙ ap total same }

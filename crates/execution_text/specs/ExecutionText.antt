@@ -79,6 +79,7 @@ line_read bad_head bad name head (word ∷ rest) = cond (bytes_eq word head) (al
 abbrev pub reads_told : ℕ → List ℕ → List (List ℕ) → Result (List (ℕ × Option WriteAt)) ExecKind
 reads_told threads = line_read BadThread BadRead (read_named threads)
 
+-- what the line of a place tells, whose first word is this head: its writes in coherence order
 abbrev pub writes_told : ℕ → List ℕ → List (List ℕ) → Result (List WriteAt) ExecKind
 writes_told threads = line_read BadPlace BadWrite (access_named threads)
 
@@ -115,6 +116,7 @@ place_head_at places place = place_head (slice_index_or places place [])
 abbrev pub all_reads_told : ℕ → List (List ℕ) → Result (List (List (ℕ × Option WriteAt)) × List (List ℕ)) ExecFault
 all_reads_told threads lines = each_line_read (reads_told threads) 1 (map thread_head (range_with_len 0 threads)) lines
 
+-- what the lines of all places tell, after those of the threads, and the lines that are left
 abbrev pub all_writes_told : ℕ → List (List ℕ) → List (List ℕ) → Result (List (List WriteAt) × List (List ℕ)) ExecFault
 all_writes_told threads places lines = each_line_read (writes_told threads) (threads + 1) (map place_head places) lines
 

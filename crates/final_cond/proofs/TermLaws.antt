@@ -13,6 +13,7 @@ abbrev pub behind : List TermSeen → Read (List TermSeen) → Read (List TermSe
 behind prefix (Ok terms) = Ok (prefix ++ terms.0, terms.1)
 behind prefix (Err f) = Err f
 
+-- with no terms before them, terms are as they were read
 pub nothing_after : (read : Read (List TermSeen)) → behind [] read ≡ read
 nothing_after (Ok terms) = refl
 nothing_after (Err f) = refl

@@ -104,9 +104,11 @@ begins_all listed given last us all a b =
 
 -- the same where a cycle is listed by another word
 module _ (listed other : List Edge → Type 0) (to : (u : List Edge) → listed u → other u) (from : (u : List Edge) → other u → listed u) where
+  -- a cycle that comes next does so by the other word
   pub next_too : (last : Option (List Edge)) (u : List Edge) → IsNext listed last u → IsNext other last u
   next_too last u n = record { is = to u n.is; after = n.after; least = λ v is h. n.least v (from v is) h }
 
+  -- cycles that are listed up to one are so by the other word
   pub listed_too : (given last : Option (List Edge)) (us : List (List Edge)) → AreListedTo listed given last us → AreListedTo other given last us
   listed_too given last us a = record {
     each = λ u o. to u (a.each u o);
@@ -117,6 +119,7 @@ module _ (listed other : List Edge → Type 0) (to : (u : List Edge) → listed 
     all = λ u is h. a.all u (from u is) h;
   }
 
+  -- cycles that are all listed ones are so by the other word
   pub all_too : (given : Option (List Edge)) (us : List (List Edge)) → AreAllListed listed given us → AreAllListed other given us
   all_too given us a = record {
     each = λ u o. to u (a.each u o);

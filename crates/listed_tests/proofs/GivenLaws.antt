@@ -67,6 +67,7 @@ module _ (folder : Option (List ℕ)) (text : List Edge → List ℕ) (cycles : 
       → Put a c (given_files folder text cycles)
   given_put a b c files names = put_both a b c (test_files folder text cycles) _ files names
 
+  -- the shelf fails at the file that names all, after the tests
   pub given_stop : (a b c : ShelfSeen) → Put a b (test_files folder text cycles) → PutPart b c [] (all_path folder) (file_lines 0 cycles)
       → PutUpTo a c (given_files folder text cycles)
   given_stop a b c files part = record {

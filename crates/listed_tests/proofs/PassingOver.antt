@@ -19,6 +19,7 @@ module _ {K J P : Type 0} (post : P → (Bor (List Edge) × Unit {0}) → Bool �
     pub walk : w ≡ record v { last = w.last }
     pub falls : later v.limits.size w.last ≤ later v.limits.size v.last
 
+  -- at the start no cycle has been passed over
   pub passes_none : PassesOver v
   passes_none = record { passes = passes_first (HaveTests puts mode (Lists post v)) v.last; walk = refl; falls = omega arith }
 

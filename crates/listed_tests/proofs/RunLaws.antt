@@ -174,6 +174,7 @@ few_round m es h =
     some_edges [] l = absurd (omega (arith, l))
     some_edges (e ∷ u) l = omega arith
 
+-- a cycle has few accesses where its runs stay short, the one that goes round from its end to its start too
 pub few_accesses_round : (m : ℕ) (es : List Edge) → 0 < external_count es → stays_below m (run_after 0 es) es ≡ has_few_accesses (Some m) es
 few_accesses_round m es h =
     let both = few_round m es h in both_ways (stays_below m (run_after 0 es) es) (has_few_accesses (Some m) es) both.0 both.1

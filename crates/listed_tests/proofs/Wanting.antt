@@ -159,9 +159,11 @@ listed_alike puts mode threads accesses takes relaxes size exact same u = (
 
 -- what a listing leaves, by another word for the listed cycles
 module _ (listed other : List Edge → Type 0) (same : (u : List Edge) → listed u ↔ other u) (folder : Option (List ℕ)) (text : List Edge → List ℕ) (given : Option (List Edge)) (a b : ShelfSeen) where
+  -- a listing that was written whole is so by the other word
   pub writes_too : (SaysLine : List ℕ → Type 0) → WritesAll listed folder text given a b SaysLine → WritesAll other folder text given a b SaysLine
   writes_too SaysLine w = record { cycles = w.cycles; all = all_too listed other (λ u. (same u).0) (λ u. (same u).1) given w.cycles w.all; files = w.files; line = w.line }
 
+  -- a listing that stopped at a test did so by the other word
   pub stops_test_too : StopsAtTest listed folder text given a b → StopsAtTest other folder text given a b
   stops_test_too s = record {
     last = s.last;
@@ -172,5 +174,6 @@ module _ (listed other : List Edge → Type 0) (same : (u : List Edge) → liste
     part = s.part;
   }
 
+  -- a listing that stopped at the file that names all did so by the other word
   pub stops_all_too : StopsAtAll listed folder text given a b → StopsAtAll other folder text given a b
   stops_all_too s = record { cycles = s.cycles; all = all_too listed other (λ u. (same u).0) (λ u. (same u).1) given s.cycles s.all; part = s.part }

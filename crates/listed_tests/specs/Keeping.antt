@@ -98,6 +98,7 @@ StopsNaming listed path lines (Some closed) old new = StopsAfter listed path lin
 abbrev pub NamesKept : (List Edge → Type 0) → Option (Bor (List ℕ)) → Names → ShelfSeen → ShelfSeen → Type 0
 NamesKept listed folder names old new = NamesAll listed (all_path (folder_in folder)) names.lines.items names.closed old new
 
+-- the shelf failed at the file that names all, in a folder, where one is given, by the lines that are kept
 abbrev pub StopsNames : (List Edge → Type 0) → Option (Bor (List ℕ)) → Names → ShelfSeen → ShelfSeen → Type 0
 StopsNames listed folder names old new = StopsNaming listed (all_path (folder_in folder)) names.lines.items names.closed old new
 
@@ -106,6 +107,7 @@ StopsNames listed folder names old new = StopsNaming listed (all_path (folder_in
 abbrev pub NamesRest : Puts → ObsMode → (List Edge → Type 0) → List ℕ → List ℕ → Closed → ShelfSeen → ShelfSeen → Type 0
 NamesRest puts mode listed path lines closed old new = NamesAfter (HaveTests puts mode listed) path lines closed old new
 
+-- the shelf failed at the file that names all, which was to have the lines that were kept, and then those of the listed cycles that have a test
 abbrev pub StopsRest : Puts → ObsMode → (List Edge → Type 0) → List ℕ → List ℕ → Closed → ShelfSeen → ShelfSeen → Type 0
 StopsRest puts mode listed path lines closed old new = StopsAfter (HaveTests puts mode listed) path lines closed old new
 

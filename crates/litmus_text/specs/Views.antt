@@ -118,6 +118,7 @@ column_seen c = record { ops = c.ops.items; labels = c.labels }
 abbrev pub column_among : List (List ℕ) → ThreadColumn → Among Column
 column_among names column = among names (column_seen column)
 
+-- all columns, among the names of places
 abbrev pub columns_among : List (List ℕ) → List ThreadColumn → Among (List Column)
 columns_among names columns = among names (map column_seen columns)
 
@@ -169,6 +170,7 @@ cond_read_seen c = record { cond = cond_view c.0; names = c.1 }
 abbrev pub Head : Type 0
 Head = Bor (List ℕ) × Option (Bor (List ℕ))
 
+-- what the code sees of a text in quotes, which need not be there
 abbrev pub quoted_seen : Option (Bor (List ℕ)) → Option (List ℕ)
 quoted_seen quoted = option_map (λ text. text.now) quoted
 
@@ -211,8 +213,10 @@ abbrev pub rest_of : Writing → Head → List (ℕ × (ℕ × Value)) → List 
 rest_of w head values columns names text =
     rest_read w head.0.now (quoted_seen head.1) (only_values values) (map column_seen columns) (length columns) names (text_left text)
 
+-- a test by the values of the code, from the rows of its table on
 abbrev pub table_of : Writing → Head → State → ℕ → Text → Result TestRead TextError
 table_of w head begun threads text = table_read w head.0.now (quoted_seen head.1) (begun_seen begun) threads (text_left text)
 
+-- a test by the values of the code, from its initial state on
 abbrev pub body_of : Writing → Head → Text → Result TestRead TextError
 body_of w head text = body_read w head.0.now (quoted_seen head.1) (text_left text)

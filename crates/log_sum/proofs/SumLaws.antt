@@ -115,10 +115,12 @@ compare = slice_cmp nat_cmp
 abbrev pub Above : List ℕ → List (List ℕ) → Type 0
 Above k xs = AllByRecursion (λ x. compare k x ≡ Less) xs
 
+-- each text is below those after it
 abbrev pub Ascends : List (List ℕ) → Type 0
 Ascends [] = Unit {0}
 Ascends (x ∷ xs) = Above x xs × Ascends xs
 
+-- a text below one that is below others is below those too
 pub above_all : (k x : List ℕ) (xs : List (List ℕ)) → compare k x ≡ Less → Above x xs → Above k xs
 above_all k x [] h a = tt
 above_all k x (y ∷ xs) h a = (order.trans k x y h a.0, above_all k x xs h a.1)
@@ -132,9 +134,11 @@ above_insert k x (y ∷ xs) h a = by_ordering (above_insert k x xs h a.1) (compa
     by_ordering further Equal = (a.0, a.1)
     by_ordering further Greater = (a.0, further)
 
+-- a text above another has that one below it
 pub reversed : (k x : List ℕ) → compare k x ≡ Greater → compare x k ≡ Less
 reversed k x h = order.antisymm x k ∙ ap ordering_reverse h
 
+-- a text that is inserted keeps the order
 pub insert_ascends : (k : List ℕ) (xs : List (List ℕ)) → Ascends xs → Ascends (insert_key (slice_cmp nat_cmp) xs k)
 insert_ascends k [] a = (tt, tt)
 insert_ascends k (x ∷ xs) a = by_ordering (insert_ascends k xs a.1) (compare k x) refl
@@ -144,6 +148,7 @@ insert_ascends k (x ∷ xs) a = by_ordering (insert_ascends k xs a.1) (compare k
     by_ordering further Equal e = a
     by_ordering further Greater e = (above_insert k x xs (reversed k x e) a.0, further)
 
+-- texts that are inserted one after another keep the order
 pub fold_ascends : (ks xs : List (List ℕ)) → Ascends xs → Ascends (fold (insert_key (slice_cmp nat_cmp)) xs ks)
 fold_ascends [] xs s = s
 fold_ascends (k ∷ ks) xs s = fold_ascends ks (insert_key (slice_cmp nat_cmp) xs k) (insert_ascends k xs s)
@@ -160,6 +165,7 @@ paired v xs = map (λ x. (x, v x)) xs
 abbrev pub SameBut : List ℕ → (List ℕ → Mark × ℕ) → (List ℕ → Mark × ℕ) → Type 0
 SameBut k v w = (x : List ℕ) → bytes_eq k x ≡ false → v x ≡ w x
 
+-- texts that don't compare as equal have other bytes
 pub not_equal : (k x : List ℕ) (o : Ordering) → compare k x ≡ o → is_eq o ≡ false → bytes_eq k x ≡ false
 not_equal k x o e f = sym (is_eq-slice_cmp k x) ∙ ap is_eq e ∙ f
 

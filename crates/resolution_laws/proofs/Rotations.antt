@@ -29,6 +29,7 @@ use Rattle.resolution_laws.proofs.Turning.{turn_of}
 pub external_count-append : (a b : List Edge) → external_count (a ++ b) ≡ external_count a + external_count b
 external_count-append a b = sum_by-append (λ x. cond (is_external x) 1 0) a b
 
+-- the moves of two parts are counted in both
 pub move_count-append : (a b : List Edge) → move_count (a ++ b) ≡ move_count a + move_count b
 move_count-append a b = sum_by-append (λ x. cond (is_diff x) 1 0) a b
 
@@ -37,6 +38,7 @@ pub thread_first : (a b : List Edge) (i : ℕ) → i ≤ length a → thread_of 
 unfolding thread_of
 thread_first a b i h = ap external_count (take-append-le i a b h)
 
+-- the threads of the second part come after those of the first
 pub thread_second : (a b : List Edge) (i : ℕ) → i ≤ length b → thread_of (a ++ b) (length a + i) ≡ external_count a + thread_of b i
 unfolding thread_of
 thread_second a b i h = ap external_count (take-append-add a b i h) ∙ external_count-append a (take i b)
@@ -49,9 +51,11 @@ moves_first : (a b : List Edge) (i : ℕ) → i ≤ length a → moves_before (a
 unfolding moves_before
 moves_first a b i h = ap move_count (take-append-le i a b h)
 
+-- the edges of the first part come first
 pub edge_first : (a b : List Edge) (i : ℕ) → i < length a → edge_at (a ++ b) i ≡ edge_at a i
 edge_first a b i h = get_or_append_left a b (edges.Com Rf Internal) i h
 
+-- the edges of the second part come after those of the first
 pub edge_second : (a b : List Edge) (i : ℕ) → edge_at (a ++ b) (length a + i) ≡ edge_at b i
 edge_second a b i = get_or-append-add a b i (edges.Com Rf Internal)
 
@@ -83,6 +87,7 @@ moves_in_first a b k h =
       count_upto_none (λ i. p (length a + i)) (length b) (λ i l. and_right (is_diff (edge_at (a ++ b) (length a + i))) (thread_of (a ++ b) (length a + i) == k) (ne_eqb (thread_of (a ++ b) (length a + i)) k (λ e. omega (arith, e, thread_second a b i (omega arith), h)))),
     )
 
+-- two numbers are the same where they are so with another added to both
 pub same_shifted : (c x y : ℕ) → (c + x == c + y) ≡ (x == y)
 same_shifted c x y =
     by_same x y
@@ -128,6 +133,7 @@ outside_after [] e b = refl
 outside_after (x ∷ []) e b = refl
 outside_after (x ∷ y ∷ a) e b = outside_after (y ∷ a) e b
 
+-- the threads of the second part have ended where the last edge of both is external
 pub ended_back : (a b : List Edge) → ends_outside (a ++ b) ≡ true → Ended b
 ended_back a [] h = ended_none
 ended_back a (e ∷ b) h = ended_outside (e ∷ b) (sym (outside_after a e b) ∙ h)

@@ -15,6 +15,7 @@ cut_back sign (byte ∷ prefix) behind h =
     let parts = and_parts (not (byte == sign)) (is_without sign prefix) h in
     rw (not-true (byte == sign) parts.0) (ap (before_cut byte) (cut_back sign prefix behind parts.1))
 
+-- a text without a sign isn't cut
 pub cut_none : (sign : ℕ) (text : List ℕ) → is_without sign text ≡ true → cut_at sign text ≡ None
 unfolding cut_at
 cut_none sign [] h = refl
@@ -31,6 +32,7 @@ without_take sign (b ∷ text) (suc k) h =
     (λ e. absurd (h 0 (omega arith) (omega arith) e))
     (λ e. rw e (without_take sign text k (λ j low inside is. h (suc j) (omega arith) (omega arith) is)))
 
+-- a text in which a sign stands at no place is without it
 pub without_all : (sign : ℕ) (text : List ℕ) → ((j : ℕ) → j < length text → get_or text j 0 == sign ≡ true → ⊥) → is_without sign text ≡ true
 without_all sign text h = ap (is_without sign) (sym (take-length text)) ∙ without_take sign text (length text) (λ j low inside is. h j inside is)
 
@@ -45,6 +47,7 @@ cut_there sign text k inside is =
 pub rest_whole : (text : List ℕ) (k : ℕ) → take (length text - k) (drop k text) ≡ drop k text
 rest_whole text k = ap (λ n. take n (drop k text)) (sym (length-drop k text)) ∙ take-length (drop k text)
 
+-- the texts before and after the first place of a sign are the parts of its cut
 pub cut_found : (sign : ℕ) (text : List ℕ) (k : ℕ) → k < length text → ((j : ℕ) → 0 ≤ j → j < k → get_or text j 0 == sign ≡ true → ⊥) → get_or text k 0 == sign ≡ true
     → CutParts sign text (take k text) (take (length text - (k + 1)) (drop (k + 1) text))
 cut_found sign text k inside before is = rw (rest_whole text (k + 1)) (record {
@@ -56,5 +59,6 @@ cut_found sign text k inside before is = rw (rest_whole text (k + 1)) (record {
 pub cut_is : (sign : ℕ) (text prefix behind : List ℕ) → CutParts sign text prefix behind → cut_at sign text ≡ Some (prefix, behind)
 cut_is sign text prefix behind p = ap (cut_at sign) p.parts ∙ cut_back sign prefix behind p.first
 
+-- how many bytes the parts of a cut have
 pub cut_length : (sign : ℕ) (text prefix behind : List ℕ) → CutParts sign text prefix behind → length text ≡ length prefix + (length behind + 1)
 cut_length sign text prefix behind p = let e : length (prefix ++ sign ∷ behind) ≡ length prefix + length (sign ∷ behind) = length-append prefix (sign ∷ behind) in ap length p.parts ∙ e ∙ (omega arith)

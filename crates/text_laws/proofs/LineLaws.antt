@@ -21,12 +21,15 @@ last_return (b ∷ d ∷ text) byte = ap (λ t. b ∷ t) (last_return (d ∷ tex
 by_last : (text : List ℕ) → 1 ≤ length text → without_return text ≡ cond (get_or text (length text - 1) 0 == 13) (take (length text - 1) text) (take (length text - 1) text ++ get_or text (length text - 1) 0 ∷ [])
 by_last text h = ap without_return (front_and_last text h) ∙ last_return (take (length text - 1) text) (get_or text (length text - 1) 0)
 
+-- a carriage return at the end of a line falls away
 pub return_off : (text : List ℕ) → 1 ≤ length text → get_or text (length text - 1) 0 ≡ 13 → without_return text ≡ take (length text - 1) text
 return_off text h e = by_last text h ∙ ap (λ b. cond (b == 13) (take (length text - 1) text) (take (length text - 1) text ++ get_or text (length text - 1) 0 ∷ [])) e
 
+-- a line that ends in another byte stays as it is
 pub return_kept : (text : List ℕ) → 1 ≤ length text → (get_or text (length text - 1) 0 == 13) ≡ false → without_return text ≡ text
 return_kept text h e = by_last text h ∙ ap (λ b. cond b (take (length text - 1) text) (take (length text - 1) text ++ get_or text (length text - 1) 0 ∷ [])) e ∙ sym (front_and_last text h)
 
+-- an empty line stays as it is
 pub return_none : (text : List ℕ) → length text < 1 → without_return text ≡ text
 unfolding without_return
 return_none [] h = refl

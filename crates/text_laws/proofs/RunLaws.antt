@@ -72,6 +72,7 @@ after_run-le passes (byte ∷ text) =
     let k : length (after_run passes text) ≤ length text = after_run-le passes text in
     by_test (passes byte) (λ h. rw h (omega arith)) (λ h. rw h (omega arith))
 
+-- what comes after a run is no longer than the text
 pub after_run_short : (passes : ℕ → Bool) (text rest : List ℕ) → rest ≡ after_run passes text → length rest ≤ length text
 after_run_short passes text rest e = let k : length (after_run passes text) ≤ length text = after_run-le passes text in rw e k
 

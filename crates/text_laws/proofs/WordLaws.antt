@@ -53,6 +53,7 @@ pub word_found : (text prefix word rest : List ℕ) → prefix ≡ unblanked tex
 word_found text prefix word rest e f g h =
     sym (words_unblanked text) ∙ ap words (sym e) ∙ words_first prefix (ap is_nil (sym f) ∙ h) ∙ ap (λ w. w ∷ words (after_run is_inked prefix)) (sym f) ∙ ap (λ t. word ∷ words t) (sym g)
 
+-- a walk over blanks that found no word after them was at the end of the words
 pub no_word_found : (text prefix word : List ℕ) → prefix ≡ unblanked text → word ≡ run_of is_inked prefix → is_nil word ≡ true → words text ≡ []
 no_word_found text prefix word e f h =
     words_none text (ap (λ t. is_nil (run_of is_inked t)) (sym e) ∙ ap is_nil (sym f) ∙ h)
@@ -62,6 +63,7 @@ pub empty_is_nil : (text : List ℕ) → is_nil text ≡ (length text == 0)
 empty_is_nil [] = refl
 empty_is_nil (x ∷ text) = sym (false_from_ne_true (length (x ∷ text) == 0) (λ h. let e : length (x ∷ text) ≡ 0 = eqb-true (length (x ∷ text)) 0 h in omega arith))
 
+-- a text that isn't empty has a byte
 pub some_if : (text : List ℕ) → is_nil text ≡ false → 0 < length text
 some_if [] h = cc
 some_if (x ∷ text) h = omega arith
