@@ -66,10 +66,10 @@ occurs_passes p label [] h s = absurd (cc)
 occurs_passes p label (op ∷ code) h s =
     by_label (λ op. list_all p (labels_of (op ∷ code)) ≡ true → occurs label (op ∷ code) ≡ true → p label ≡ true)
     (λ k h s.
-        let parts = and_parts (p k) (list_all p (labels_of code)) h in
-        by_test (k == label)
-        (λ e. subst (λ l. p l ≡ true) (eqb-true k label e) parts.0)
-        (λ e. occurs_passes p label code parts.1 (sym (ap (λ b. b || occurs label code) e) ∙ s)))
+    let parts = and_parts (p k) (list_all p (labels_of code)) h in
+    by_test (k == label)
+    (λ e. subst (λ l. p l ≡ true) (eqb-true k label e) parts.0)
+    (λ e. occurs_passes p label code parts.1 (sym (ap (λ b. b || occurs label code) e) ∙ s)))
     (λ k op o h s. occurs_passes p label code (ap (list_all p) (sym (o.labels code)) ∙ h) (ap (λ b. b || occurs label code) (sym (o.named label)) ∙ s))
     (λ op o h s. occurs_passes p label code (ap (list_all p) (sym (o.labels code)) ∙ h) (ap (λ b. b || occurs label code) (sym (o.named label)) ∙ s))
     op h s
@@ -86,16 +86,16 @@ one_ordered count n [] low small l h = refl
 one_ordered count n (op ∷ code) low small l h =
     by_label (λ op. lands (op ∷ code) ≡ true → list_all (λ l. l == n) (labels_of (op ∷ code)) ≡ true → labels_ordered count (op ∷ code) ≡ true)
     (λ k l h.
-        let parts = and_parts (k == n) (list_all (λ l. l == n) (labels_of code)) h in
-        and_from (nat_le k count && nat_lt k 64) (labels_ordered (max count (k + 1)) code) (next_is count n k low small parts.0) (one_ordered (max count (k + 1)) n code (omega arith) small l parts.1))
+    let parts = and_parts (k == n) (list_all (λ l. l == n) (labels_of code)) h in
+    and_from (nat_le k count && nat_lt k 64) (labels_ordered (max count (k + 1)) code) (next_is count n k low small parts.0) (one_ordered (max count (k + 1)) n code (omega arith) small l parts.1))
     (λ k op o l h.
-        let parts = and_parts (occurs k code) (lands code) (ap (λ t. occurs_if t code && lands code) (sym o.goes) ∙ l) in
-        let rest : list_all (λ l. l == n) (labels_of code) ≡ true = ap (list_all (λ l. l == n)) (sym (o.labels code)) ∙ h in
-        rw (o.next count, o.after count)
-        (and_from (nat_le k count && nat_lt k 64) (labels_ordered (max count (k + 1)) code) (next_is count n k low small (occurs_passes (λ l. l == n) k code rest parts.0)) (one_ordered (max count (k + 1)) n code (omega arith) small parts.1 rest)))
+    let parts = and_parts (occurs k code) (lands code) (ap (λ t. occurs_if t code && lands code) (sym o.goes) ∙ l) in
+    let rest : list_all (λ l. l == n) (labels_of code) ≡ true = ap (list_all (λ l. l == n)) (sym (o.labels code)) ∙ h in
+    rw (o.next count, o.after count)
+    (and_from (nat_le k count && nat_lt k 64) (labels_ordered (max count (k + 1)) code) (next_is count n k low small (occurs_passes (λ l. l == n) k code rest parts.0)) (one_ordered (max count (k + 1)) n code (omega arith) small parts.1 rest)))
     (λ op o l h.
-        rw (o.next count, o.after count)
-        (one_ordered count n code low small (ap (λ t. occurs_if t code && lands code) (sym o.goes) ∙ l) (ap (list_all (λ l. l == n)) (sym (o.labels code)) ∙ h)))
+    rw (o.next count, o.after count)
+    (one_ordered count n code low small (ap (λ t. occurs_if t code && lands code) (sym o.goes) ∙ l) (ap (list_all (λ l. l == n)) (sym (o.labels code)) ∙ h)))
     op l h
 
 -- the count of labels grows, and covers each label that occurs
