@@ -7,7 +7,7 @@ ghost use Rattle.arch_trait.specs.Links.{is_data};
 ghost use Rattle.arch_trait.specs.Taking.{took, with_address};
 
 use crate::own::OwnInstructions;
-use arch_trait::{Instrs, Link, MAX_INSTRS, Regs, Shape, address_source, data_source};
+use arch_trait::{AskedAccess, Instrs, Link, MAX_INSTRS, Regs, Shape};
 use micro_ops::{Barrier, Micro};
 use relax_edges::{FenceKind, Mark};
 
@@ -61,31 +61,30 @@ fn put_branch_code<I: OwnInstructions>(source: u8, label: u8, out: &mut Instrs)
 }
 
 /// Appends the code of a load of the mark, and gives the register that it loads to.
-pub fn put_load<I: OwnInstructions>(
-    regs: &mut Regs,
-    link: Link,
-    mark: Mark,
-    from: Option<u8>,
-    place: u8,
-    out: &mut Instrs,
-) -> u8
-    requires to_load { is_data link ≡ false }
-    requires left { ((puts_of I.own).load regs.old link mark from place).regs.next ≤ regs.old.count }
-    requires room { array_vec_len out.old + access_room link ≤ MAX_INSTRS }
-    ensures register { result ≡ (puts_of I.own).filled regs.old link from place }
-    ensures taken { regs.new ≡ ((puts_of I.own).load regs.old link mark from place).regs }
-    ensures code { out.new.items ≡ out.old.items ++ ((puts_of I.own).load regs.old link mark from place).code }
+pub fn put_load<I: OwnInstructions>(regs: &mut Regs, access: AskedAccess, out: &mut Instrs) -> u8
+    requires to_load { is_data access.link ≡ false }
+    requires left { ((puts_of I.own).load regs.old access.link access.mark access.source access.place).regs.next ≤ regs.old.count }
+    requires room { array_vec_len out.old + access_room access.link ≤ MAX_INSTRS }
+    ensures register { result ≡ (puts_of I.own).filled regs.old access.link access.source access.place }
+    ensures taken { regs.new ≡ ((puts_of I.own).load regs.old access.link access.mark access.source access.place).regs }
+    ensures code { out.new.items ≡ out.old.items ++ ((puts_of I.own).load regs.old access.link access.mark access.source access.place).code }
 {
-    match address_source(link, from) {
+    match access.address_source() {
         Some(source) => {
-            let taken = regs.take_dependent(place);
+            let taken = regs.take_dependent(access.place);
             out.push(zero_from(source, taken.dependency));
-            put_load_through::<I>(mark, taken.dependency, taken.value, taken.address, out);
+            put_load_through::<I>(
+                access.mark,
+                taken.dependency,
+                taken.value,
+                taken.address,
+                out,
+            );
             taken.value
         }
         None => {
-            let taken = regs.take_plain(place);
-            out.push(load(mark, taken.value, taken.address));
+            let taken = regs.take_plain(access.place);
+            out.push(load(access.mark, taken.value, taken.address));
             taken.value
         }
     }
@@ -94,60 +93,64 @@ pub fn put_load<I: OwnInstructions>(
 /// Appends the code of a store of the mark, of the value.
 pub fn put_store<I: OwnInstructions>(
     regs: &mut Regs,
-    link: Link,
-    mark: Mark,
-    from: Option<u8>,
-    place: u8,
+    access: AskedAccess,
     value: u8,
     out: &mut Instrs,
 )
-    requires left { ((puts_of I.own).store regs.old link mark from place value).regs.next ≤ regs.old.count }
-    requires room { array_vec_len out.old + access_room link ≤ MAX_INSTRS }
-    ensures taken { regs.new ≡ ((puts_of I.own).store regs.old link mark from place value).regs }
-    ensures code { out.new.items ≡ out.old.items ++ ((puts_of I.own).store regs.old link mark from place value).code }
+    requires left { ((puts_of I.own).store regs.old access.link access.mark access.source access.place value).regs.next ≤ regs.old.count }
+    requires room { array_vec_len out.old + access_room access.link ≤ MAX_INSTRS }
+    ensures taken { regs.new ≡ ((puts_of I.own).store regs.old access.link access.mark access.source access.place value).regs }
+    ensures code { out.new.items ≡ out.old.items ++ ((puts_of I.own).store regs.old access.link access.mark access.source access.place value).code }
 {
-    match address_source(link, from) {
-        Some(source) => put_store_dependent::<I>(regs, mark, source, place, value, out),
-        None => put_store_plain::<I>(regs, mark, data_source(link, from), place, value, out),
+    match access.address_source() {
+        Some(source) => put_store_dependent::<I>(regs, access, source, value, out),
+        None => put_store_plain::<I>(regs, access, access.data_source(), value, out),
     }
 }
 
+/// Appends the code of a store whose address depends on register `source`.
 fn put_store_dependent<I: OwnInstructions>(
     regs: &mut Regs,
-    mark: Mark,
+    access: AskedAccess,
     source: u8,
-    place: u8,
     value: u8,
     out: &mut Instrs,
 )
-    requires left { (with_address (took regs.old 2) place).next ≤ regs.old.count }
+    requires left { (with_address (took regs.old 2) access.place).next ≤ regs.old.count }
     requires room { array_vec_len out.old + 4 ≤ MAX_INSTRS }
-    ensures taken { regs.new ≡ (store_on I.own regs.old mark (Some source) None place value).regs }
-    ensures code { out.new.items ≡ out.old.items ++ (store_on I.own regs.old mark (Some source) None place value).code }
+    ensures taken { regs.new ≡ (store_on I.own regs.old access.mark (Some source) None access.place value).regs }
+    ensures code { out.new.items ≡ out.old.items ++ (store_on I.own regs.old access.mark (Some source) None access.place value).code }
 {
-    let taken = regs.take_dependent(place);
+    let taken = regs.take_dependent(access.place);
     out.push(zero_from(source, taken.dependency));
     out.push(Micro::Imm {
         dst: taken.value,
         n: u32::from(value),
     });
-    put_store_through::<I>(mark, taken.dependency, taken.value, taken.address, out);
+    put_store_through::<I>(
+        access.mark,
+        taken.dependency,
+        taken.value,
+        taken.address,
+        out,
+    );
 }
 
+/// Appends the code of a store whose address depends on no load, and its value on register `source`, if
+/// there is one.
 fn put_store_plain<I: OwnInstructions>(
     regs: &mut Regs,
-    mark: Mark,
+    access: AskedAccess,
     source: Option<u8>,
-    place: u8,
     value: u8,
     out: &mut Instrs,
 )
-    requires left { (with_address (took regs.old 1) place).next ≤ regs.old.count }
+    requires left { (with_address (took regs.old 1) access.place).next ≤ regs.old.count }
     requires room { array_vec_len out.old + cond (is_some source) 3 2 ≤ MAX_INSTRS }
-    ensures taken { regs.new ≡ (store_on I.own regs.old mark None source place value).regs }
-    ensures code { out.new.items ≡ out.old.items ++ (store_on I.own regs.old mark None source place value).code }
+    ensures taken { regs.new ≡ (store_on I.own regs.old access.mark None source access.place value).regs }
+    ensures code { out.new.items ≡ out.old.items ++ (store_on I.own regs.old access.mark None source access.place value).code }
 {
-    let taken = regs.take_plain(place);
+    let taken = regs.take_plain(access.place);
     match source {
         Some(source) => {
             out.push(zero_from(source, taken.value));
@@ -158,7 +161,7 @@ fn put_store_plain<I: OwnInstructions>(
             n: u32::from(value),
         }),
     }
-    out.push(store(mark, taken.value, taken.address));
+    out.push(store(access.mark, taken.value, taken.address));
 }
 
 /// A load of the mark at the address in register `base`.

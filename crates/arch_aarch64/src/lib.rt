@@ -14,12 +14,12 @@ mod table;
 
 use crate::table::{NAMES, table};
 use addressed_code::{put_link, put_load, put_store, registers_needed};
-use arch_trait::{Arch, Instrs, Link, MAX_TEXT, Operands, Places, Raw, Regs, Shape};
+use arch_trait::{Arch, AskedAccess, Instrs, Link, MAX_TEXT, Operands, Places, Raw, Regs, Shape};
 use arrayvec::ArrayString;
 use final_cond::RegName;
 use instruction_forms::{has_by, print_by, read_by};
 use micro_ops::Micro;
-use relax_edges::{ArchName, Mark};
+use relax_edges::ArchName;
 
 /// The architecture AArch64.
 pub struct A64;
@@ -49,27 +49,12 @@ impl Arch for A64 {
         put_link::<A64>(link, from, label, out);
     }
 
-    fn put_load(
-        regs: &mut Regs,
-        link: Link,
-        mark: Mark,
-        from: Option<u8>,
-        place: u8,
-        out: &mut Instrs,
-    ) -> u8 {
-        put_load::<A64>(regs, link, mark, from, place, out)
+    fn put_load(regs: &mut Regs, access: AskedAccess, out: &mut Instrs) -> u8 {
+        put_load::<A64>(regs, access, out)
     }
 
-    fn put_store(
-        regs: &mut Regs,
-        link: Link,
-        mark: Mark,
-        from: Option<u8>,
-        place: u8,
-        value: u8,
-        out: &mut Instrs,
-    ) {
-        put_store::<A64>(regs, link, mark, from, place, value, out);
+    fn put_store(regs: &mut Regs, access: AskedAccess, value: u8, out: &mut Instrs) {
+        put_store::<A64>(regs, access, value, out);
     }
 
     #[tactic(auto, using(crate::specs::Clear::is_clear_table))]

@@ -1,6 +1,6 @@
 -- The labels of a thread are in the order of their first mention, and it makes as many accesses as it has steps.
 use Rattle.std.proofs.Common.{◌≡◌, ◌<◌, ◌≤◌, ◌+◌, ◌==◌, ℕ, List, [], ◌∷◌, ◌++◌, true, false, cond, length, max, refl, sym, ap, ◌∙◌, subst, arith, append-nil}
-use Rattle.std.specs.Prelude.{Bool, ◌&&◌, ◌||◌, Option, None, Some, nat_lt, nat_le, is_some}
+use Rattle.std.specs.Prelude.{Bool, ◌&&◌, ◌||◌, Option, nat_lt, nat_le, is_some}
 use Rattle.std.specs.List.{list_all}
 use Rattle.std.proofs.lemmas.Bool.{eqb-true, eq-eqb, lt-ltb, le-leb, and_parts, and_from}
 use Rattle.std.proofs.lemmas.List.Sums.{sum_by-append, sum_by-cons}
@@ -9,7 +9,7 @@ use Rattle.relax_edges.specs.declared.kinds.Dir.{Dir}
 use Rattle.relax_edges.specs.declared.kinds.Dir.TheVariants as dirs
 use Rattle.micro_ops.specs.declared.operation.Micro.{Micro}
 use Rattle.micro_ops.specs.declared.operation.Micro.TheVariants as ops
-use Rattle.micro_ops.specs.Running.{is_label, labels_of, lands, occurs, occurs_if, target}
+use Rattle.micro_ops.specs.Running.{labels_of, lands, occurs}
 use Rattle.micro_ops.proofs.Laws.{labels_append, lands_append}
 use Rattle.arch_trait.specs.declared.step.Step.{Step}
 use Rattle.arch_trait.specs.Cells.{is_access, accesses_in, MakesOneAccess}
@@ -25,54 +25,15 @@ ordered_append count (op ∷ xs) ys h k =
     let parts = and_parts (is_next count op) (labels_ordered (labels_after count op) xs) h in
     and_from (is_next count op) (labels_ordered (labels_after count op) (xs ++ ys)) parts.0 (ordered_append (labels_after count op) xs ys parts.1 k)
 
--- an operation that is no label and has none, as a list of operations sees it
-record IsUnlabelled (op : Micro) : Type 0 where
-  named : (label : ℕ) → is_label label op ≡ false
-  goes : target op ≡ None
-  labels : (code : List Micro) → labels_of (op ∷ code) ≡ labels_of code
-  after : (count : ℕ) → labels_after count op ≡ count
-  next : (count : ℕ) → is_next count op ≡ true
-
--- a branch to a label, as a list of operations sees it
-record IsBranch (k : ℕ) (op : Micro) : Type 0 where
-  named : (label : ℕ) → is_label label op ≡ false
-  goes : target op ≡ Some k
-  labels : (code : List Micro) → labels_of (op ∷ code) ≡ labels_of code
-  after : (count : ℕ) → labels_after count op ≡ max count (k + 1)
-  next : (count : ℕ) → is_next count op ≡ (nat_le k count && nat_lt k 64)
-
--- an operation is a label, branches to one, or has none
-by_label : (P : Micro → Type 0) → ((k : ℕ) → P (ops.Label k)) → ((k : ℕ) (op : Micro) → IsBranch k op → P op) → ((op : Micro) → IsUnlabelled op → P op) → (op : Micro) → P op
-by_label P label branch other (ops.Label k) = label k
-by_label P label branch other (ops.BranchEq k) = branch k _ (record { named = λ l. refl; goes = refl; labels = λ code. refl; after = λ n. refl; next = λ n. refl })
-by_label P label branch other (ops.BranchNz a k) = branch k _ (record { named = λ l. refl; goes = refl; labels = λ code. refl; after = λ n. refl; next = λ n. refl })
-by_label P label branch other (ops.LoadAt d q) = other _ (record { named = λ l. refl; goes = refl; labels = λ code. refl; after = λ m. refl; next = λ m. refl })
-by_label P label branch other (ops.StoreAt q n) = other _ (record { named = λ l. refl; goes = refl; labels = λ code. refl; after = λ m. refl; next = λ m. refl })
-by_label P label branch other (ops.Imm d n) = other _ (record { named = λ l. refl; goes = refl; labels = λ code. refl; after = λ m. refl; next = λ m. refl })
-by_label P label branch other (ops.Xor d a b) = other _ (record { named = λ l. refl; goes = refl; labels = λ code. refl; after = λ m. refl; next = λ m. refl })
-by_label P label branch other (ops.AddImm d a n) = other _ (record { named = λ l. refl; goes = refl; labels = λ code. refl; after = λ m. refl; next = λ m. refl })
-by_label P label branch other (ops.OrImm d a n) = other _ (record { named = λ l. refl; goes = refl; labels = λ code. refl; after = λ m. refl; next = λ m. refl })
-by_label P label branch other (ops.Add d a b) = other _ (record { named = λ l. refl; goes = refl; labels = λ code. refl; after = λ m. refl; next = λ m. refl })
-by_label P label branch other (ops.Load d b i) = other _ (record { named = λ l. refl; goes = refl; labels = λ code. refl; after = λ m. refl; next = λ m. refl })
-by_label P label branch other (ops.LoadAcq d b) = other _ (record { named = λ l. refl; goes = refl; labels = λ code. refl; after = λ m. refl; next = λ m. refl })
-by_label P label branch other (ops.Store r b i) = other _ (record { named = λ l. refl; goes = refl; labels = λ code. refl; after = λ m. refl; next = λ m. refl })
-by_label P label branch other (ops.StoreRel r b) = other _ (record { named = λ l. refl; goes = refl; labels = λ code. refl; after = λ m. refl; next = λ m. refl })
-by_label P label branch other (ops.Cmp a b) = other _ (record { named = λ l. refl; goes = refl; labels = λ code. refl; after = λ m. refl; next = λ m. refl })
-by_label P label branch other (ops.Barrier k) = other _ (record { named = λ l. refl; goes = refl; labels = λ code. refl; after = λ m. refl; next = λ m. refl })
-
 -- a label that occurs is one of the labels
 occurs_passes : (p : ℕ → Bool) (label : ℕ) (code : List Micro) → list_all p (labels_of code) ≡ true → occurs label code ≡ true → p label ≡ true
 occurs_passes p label [] h s = absurd (cc)
-occurs_passes p label (op ∷ code) h s =
-    by_label (λ op. list_all p (labels_of (op ∷ code)) ≡ true → occurs label (op ∷ code) ≡ true → p label ≡ true)
-    (λ k h s.
+occurs_passes p label (ops.Label k ∷ code) h s =
     let parts = and_parts (p k) (list_all p (labels_of code)) h in
     by_test (k == label)
     (λ e. subst (λ l. p l ≡ true) (eqb-true k label e) parts.0)
-    (λ e. occurs_passes p label code parts.1 (sym (ap (λ b. b || occurs label code) e) ∙ s)))
-    (λ k op o h s. occurs_passes p label code (ap (list_all p) (sym (o.labels code)) ∙ h) (ap (λ b. b || occurs label code) (sym (o.named label)) ∙ s))
-    (λ op o h s. occurs_passes p label code (ap (list_all p) (sym (o.labels code)) ∙ h) (ap (λ b. b || occurs label code) (sym (o.named label)) ∙ s))
-    op h s
+    (λ e. occurs_passes p label code parts.1 (sym (ap (λ b. b || occurs label code) e) ∙ s))
+occurs_passes p label (op ∷ code) h s = occurs_passes p label code h s
 
 -- what is known of a label that is n, where the labels up to n have numbers
 next_is : (count n label : ℕ) → n ≤ count → n < 64 → (label == n) ≡ true → (nat_le label count && nat_lt label 64) ≡ true
@@ -83,37 +44,35 @@ next_is count n label low small e =
 -- code whose only label is n
 one_ordered : (count n : ℕ) (code : List Micro) → n ≤ count → n < 64 → lands code ≡ true → list_all (λ l. l == n) (labels_of code) ≡ true → labels_ordered count code ≡ true
 one_ordered count n [] low small l h = refl
-one_ordered count n (op ∷ code) low small l h =
-    by_label (λ op. lands (op ∷ code) ≡ true → list_all (λ l. l == n) (labels_of (op ∷ code)) ≡ true → labels_ordered count (op ∷ code) ≡ true)
-    (λ k l h.
+one_ordered count n (ops.Label k ∷ code) low small l h =
     let parts = and_parts (k == n) (list_all (λ l. l == n) (labels_of code)) h in
-    and_from (nat_le k count && nat_lt k 64) (labels_ordered (max count (k + 1)) code) (next_is count n k low small parts.0) (one_ordered (max count (k + 1)) n code (omega arith) small l parts.1))
-    (λ k op o l h.
-    let parts = and_parts (occurs k code) (lands code) (ap (λ t. occurs_if t code && lands code) (sym o.goes) ∙ l) in
-    let rest : list_all (λ l. l == n) (labels_of code) ≡ true = ap (list_all (λ l. l == n)) (sym (o.labels code)) ∙ h in
-    rw (o.next count, o.after count)
-    (and_from (nat_le k count && nat_lt k 64) (labels_ordered (max count (k + 1)) code) (next_is count n k low small (occurs_passes (λ l. l == n) k code rest parts.0)) (one_ordered (max count (k + 1)) n code (omega arith) small parts.1 rest)))
-    (λ op o l h.
-    rw (o.next count, o.after count)
-    (one_ordered count n code low small (ap (λ t. occurs_if t code && lands code) (sym o.goes) ∙ l) (ap (list_all (λ l. l == n)) (sym (o.labels code)) ∙ h)))
-    op l h
+    and_from (nat_le k count && nat_lt k 64) (labels_ordered (max count (k + 1)) code) (next_is count n k low small parts.0) (one_ordered (max count (k + 1)) n code (omega arith) small l parts.1)
+one_ordered count n (ops.BranchEq k ∷ code) low small l h =
+    let parts = and_parts (occurs k code) (lands code) l in
+    and_from (nat_le k count && nat_lt k 64) (labels_ordered (max count (k + 1)) code) (next_is count n k low small (occurs_passes (λ l. l == n) k code h parts.0)) (one_ordered (max count (k + 1)) n code (omega arith) small parts.1 h)
+one_ordered count n (ops.BranchNz a k ∷ code) low small l h =
+    let parts = and_parts (occurs k code) (lands code) l in
+    and_from (nat_le k count && nat_lt k 64) (labels_ordered (max count (k + 1)) code) (next_is count n k low small (occurs_passes (λ l. l == n) k code h parts.0)) (one_ordered (max count (k + 1)) n code (omega arith) small parts.1 h)
+one_ordered count n (op ∷ code) low small l h = one_ordered count n code low small l h
 
 -- the count of labels grows, and covers each label that occurs
 labels_grow : (count : ℕ) (code : List Micro) → count ≤ labels_in count code
 labels_grow count [] = omega arith
-labels_grow count (op ∷ code) =
-    let more = labels_grow (labels_after count op) code in
-    let here = by_label (λ op. count ≤ labels_after count op) (λ k. omega arith) (λ k op o. omega (arith, o.after count)) (λ op o. omega (arith, o.after count)) op in
-    omega arith
+labels_grow count (op ∷ code) = let more = labels_grow (labels_after count op) code in let here = after_grows op in omega arith
+  where
+    after_grows : (op : Micro) → count ≤ labels_after count op
+    after_grows (ops.BranchEq l) = omega arith
+    after_grows (ops.BranchNz a l) = omega arith
+    after_grows (ops.Label l) = omega arith
+    after_grows op = omega arith
 
 labels_cover : (count n : ℕ) (code : List Micro) (rest : List ℕ) → labels_of code ≡ n ∷ rest → n + 1 ≤ labels_in count code
 labels_cover count n [] rest e = absurd (cc)
-labels_cover count n (op ∷ code) rest e =
-    by_label (λ op. labels_of (op ∷ code) ≡ n ∷ rest → n + 1 ≤ labels_in count (op ∷ code))
-    (λ k e. let same : k ≡ n = cc in let more = labels_grow (max count (k + 1)) code in omega arith)
-    (λ k op o e. labels_cover (labels_after count op) n code rest (sym (o.labels code) ∙ e))
-    (λ op o e. labels_cover (labels_after count op) n code rest (sym (o.labels code) ∙ e))
-    op e
+labels_cover count n (ops.Label k ∷ code) rest e =
+    let same : k ≡ n = cc in let more = labels_grow (max count (k + 1)) code in omega arith
+labels_cover count n (ops.BranchEq l ∷ code) rest e = labels_cover (max count (l + 1)) n code rest e
+labels_cover count n (ops.BranchNz a l ∷ code) rest e = labels_cover (max count (l + 1)) n code rest e
+labels_cover count n (op ∷ code) rest e = labels_cover count n code rest e
 
 labels_in_append : (count : ℕ) (xs ys : List Micro) → labels_in count (xs ++ ys) ≡ labels_in (labels_in count xs) ys
 labels_in_append count [] ys = refl
@@ -124,9 +83,20 @@ record StepLabels (n : ℕ) (branching : Bool) (code : List Micro) : Type 0 wher
   labels : labels_of code ≡ cond branching (n ∷ []) []
   jumps : lands code ≡ true
 
+no_target : {G : Type 0} (label : ℕ) (code : List Micro) → occurs label code ≡ true → labels_of code ≡ [] → G
+no_target label code h e = let clash : false ≡ true = occurs_passes (λ l. false) label code (ap (list_all (λ l. false)) e) h in absurd (cc)
+
+-- code without labels
+none_ordered : (count : ℕ) (code : List Micro) → lands code ≡ true → labels_of code ≡ [] → labels_ordered count code ≡ true
+none_ordered count [] l e = refl
+none_ordered count (ops.Label k ∷ code) l e = absurd (cc)
+none_ordered count (ops.BranchEq k ∷ code) l e = no_target k code (and_parts (occurs k code) (lands code) l).0 e
+none_ordered count (ops.BranchNz a k ∷ code) l e = no_target k code (and_parts (occurs k code) (lands code) l).0 e
+none_ordered count (op ∷ code) l e = none_ordered count code l e
+
 step_ordered : (count n : ℕ) (branching : Bool) (code : List Micro) → StepLabels n branching code → n ≤ count → n + cond branching 1 0 ≤ 64 → labels_ordered count code ≡ true
 step_ordered count n true code h low few = one_ordered count n code low (omega arith) h.jumps (ap (list_all (λ l. l == n)) h.labels ∙ rw (eq-eqb n n refl) refl)
-step_ordered count n false code h low few = one_ordered count 0 code (omega arith) (omega arith) h.jumps (ap (list_all (λ l. l == 0)) h.labels)
+step_ordered count n false code h low few = none_ordered count code h.jumps h.labels
 
 step_covers : (count n : ℕ) (branching : Bool) (code : List Micro) → StepLabels n branching code → n ≤ count → n + cond branching 1 0 ≤ labels_in count code
 step_covers count n true code h low = labels_cover count n code [] h.labels

@@ -83,22 +83,8 @@ renumbered_makes f ss code m = record {
 
 -- code whose places keep their numbers is as it was
 op_kept : (op : Micro) → op_at (λ p. p) op ≡ op
-op_kept (ops.Imm dst n) = refl
-op_kept (ops.Xor dst a b) = refl
-op_kept (ops.AddImm dst a n) = refl
-op_kept (ops.OrImm dst a n) = refl
-op_kept (ops.Add dst a b) = refl
-op_kept (ops.Load dst base index) = refl
-op_kept (ops.LoadAcq dst base) = refl
 op_kept (ops.LoadAt dst place) = refl
-op_kept (ops.Store src base index) = refl
-op_kept (ops.StoreRel src base) = refl
-op_kept (ops.StoreAt place n) = refl
-op_kept (ops.Cmp a b) = refl
-op_kept (ops.BranchEq label) = refl
-op_kept (ops.BranchNz a label) = refl
-op_kept (ops.Label label) = refl
-op_kept (ops.Barrier kind) = refl
+op_kept op = refl
 
 ops_kept : (code : List Micro) → map (op_at (λ p. p)) code ≡ code
 ops_kept [] = refl

@@ -179,50 +179,24 @@ thread_has a laws b w (s ∷ ss) fit given usable taken room =
     (thread_has a laws (is_load_dir s.dir) (further a w s) ss fit.1 (given_after a w s)
     (usable_after a laws w s here) ((step_grew a laws w s fit.0.value).taken taken) room)
 
+visit_here : (s : Step) (ss : List Step) (q : ℕ) → (q == s.place) ≡ true →
+    (s.place == q || visits q ss) ≡ true
+visit_here s ss q e =
+    let f : q ≡ s.place = eqb-true q s.place e in
+    or_left (s.place == q) (visits q ss) (eq-eqb s.place q (sym f))
+
 -- an operation at one of the places, or with none
 visit_one : (s : Step) (ss : List Step) (op : Micro) → is_at s.place op ≡ true →
     is_within (s ∷ ss) op ≡ true
-visit_one s ss (ops.LoadAt d q) e = at_place q e
-  where
-    at_place : (q : ℕ) → (q == s.place) ≡ true → (s.place == q || visits q ss) ≡ true
-    at_place q e = let f : q ≡ s.place = eqb-true q s.place e in or_left (s.place == q) (visits q ss) (eq-eqb s.place q (sym f))
-visit_one s ss (ops.StoreAt q n) e = at_place q e
-  where
-    at_place : (q : ℕ) → (q == s.place) ≡ true → (s.place == q || visits q ss) ≡ true
-    at_place q e = let f : q ≡ s.place = eqb-true q s.place e in or_left (s.place == q) (visits q ss) (eq-eqb s.place q (sym f))
-visit_one s ss (ops.Imm d n) e = refl
-visit_one s ss (ops.Xor d x y) e = refl
-visit_one s ss (ops.AddImm d x n) e = refl
-visit_one s ss (ops.OrImm d x n) e = refl
-visit_one s ss (ops.Add d x y) e = refl
-visit_one s ss (ops.Load d b i) e = refl
-visit_one s ss (ops.LoadAcq d b) e = refl
-visit_one s ss (ops.Store d b i) e = refl
-visit_one s ss (ops.StoreRel d b) e = refl
-visit_one s ss (ops.Cmp x y) e = refl
-visit_one s ss (ops.BranchEq l) e = refl
-visit_one s ss (ops.BranchNz x l) e = refl
-visit_one s ss (ops.Label l) e = refl
-visit_one s ss (ops.Barrier kind) e = refl
+visit_one s ss (ops.LoadAt d q) e = visit_here s ss q e
+visit_one s ss (ops.StoreAt q n) e = visit_here s ss q e
+visit_one s ss op e = refl
 
 visit_more : (s : Step) (ss : List Step) (op : Micro) → is_within ss op ≡ true →
     is_within (s ∷ ss) op ≡ true
 visit_more s ss (ops.LoadAt d q) e = or_right (s.place == q) (visits q ss) e
 visit_more s ss (ops.StoreAt q n) e = or_right (s.place == q) (visits q ss) e
-visit_more s ss (ops.Imm d n) e = refl
-visit_more s ss (ops.Xor d x y) e = refl
-visit_more s ss (ops.AddImm d x n) e = refl
-visit_more s ss (ops.OrImm d x n) e = refl
-visit_more s ss (ops.Add d x y) e = refl
-visit_more s ss (ops.Load d b i) e = refl
-visit_more s ss (ops.LoadAcq d b) e = refl
-visit_more s ss (ops.Store d b i) e = refl
-visit_more s ss (ops.StoreRel d b) e = refl
-visit_more s ss (ops.Cmp x y) e = refl
-visit_more s ss (ops.BranchEq l) e = refl
-visit_more s ss (ops.BranchNz x l) e = refl
-visit_more s ss (ops.Label l) e = refl
-visit_more s ss (ops.Barrier kind) e = refl
+visit_more s ss op e = refl
 
 all_pass : (p q : Micro → Bool) → ((op : Micro) → p op ≡ true → q op ≡ true) → (code : List Micro) →
     list_all p code ≡ true → list_all q code ≡ true

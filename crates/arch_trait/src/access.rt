@@ -4,6 +4,17 @@ ghost use Rattle.arch_trait.specs.Taking.{took, address_of, with_address};
 
 use crate::link::Link;
 use crate::regs::Regs;
+use relax_edges::Mark;
+
+/// What the code of an access is asked for, beside what a store writes.
+#[derive(Clone, Copy, Debug, PartialEq, Eq)]
+pub struct AskedAccess {
+    pub link: Link,
+    pub mark: Mark,
+    /// The register that a dependency is on.
+    pub source: Option<u8>,
+    pub place: u8,
+}
 
 /// The registers of an access without an address dependency: that of what is loaded or stored, and
 /// the one that holds the address.
@@ -55,24 +66,26 @@ impl Regs {
     }
 }
 
-/// The register that the address of an access depends on, if it does.
-pub fn address_source(link: Link, from: Option<u8>) -> Option<u8>
-    ensures { result ≡ source_if (is_addr link) from }
-{
-    if matches!(link, Link::Addr) {
-        from
-    } else {
-        None
+impl AskedAccess {
+    /// The register that the address of the access depends on, if it does.
+    pub fn address_source(self) -> Option<u8>
+        ensures { result ≡ source_if (is_addr self.link) self.source }
+    {
+        if matches!(self.link, Link::Addr) {
+            self.source
+        } else {
+            None
+        }
     }
-}
 
-/// The register that the value of a store depends on, if it does.
-pub fn data_source(link: Link, from: Option<u8>) -> Option<u8>
-    ensures { result ≡ source_if (is_data link) from }
-{
-    if matches!(link, Link::Data) {
-        from
-    } else {
-        None
+    /// The register that the value of a store depends on, if it does.
+    pub fn data_source(self) -> Option<u8>
+        ensures { result ≡ source_if (is_data self.link) self.source }
+    {
+        if matches!(self.link, Link::Data) {
+            self.source
+        } else {
+            None
+        }
     }
 }

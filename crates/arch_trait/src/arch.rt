@@ -12,6 +12,7 @@ ghost use Rattle.arch_trait.specs.Cells.{WritesCells, MakesOneAccess};
 ghost use Rattle.relax_edges.specs.declared.kinds.Dir.TheVariants as dirs;
 ghost use Rattle.relax_edges.specs.EdgeTable.{is_of_arch, mark_fits, mark_is_of};
 
+use crate::access::AskedAccess;
 use crate::cells::{read_cell, register_named};
 use crate::link::Link;
 use crate::places::Places;
@@ -21,7 +22,7 @@ use crate::step::{MAX_STEPS, Shape};
 use arrayvec::{ArrayString, ArrayVec};
 use final_cond::RegName;
 use micro_ops::Micro;
-use relax_edges::{ArchName, Edge, Mark};
+use relax_edges::{ArchName, Edge};
 
 /// The most operations of one access with its link.
 pub const MAX_STEP_INSTRS: usize = 6;
@@ -70,43 +71,28 @@ pub trait Arch {
         ensures { out.new.items ≡ out.old.items ++ puts.link link from label };
 
     /// Appends the code of a load of the mark from the place, and gives the register that it loads to.
-    fn put_load(
-        regs: &mut Regs,
-        link: Link,
-        mark: Mark,
-        from: Option<u8>,
-        place: u8,
-        out: &mut Instrs,
-    ) -> u8
-        requires of_arch { link_is_of link puts.name ≡ true }
-        requires to_load { is_data link ≡ false }
-        requires mark_fitting { mark_fits dirs.R mark ≡ true }
-        requires mark_of_arch { mark_is_of mark puts.name ≡ true }
-        requires given { depends link ≡ true → is_some from ≡ true }
-        requires left { (puts.load regs.old link mark from place).regs.next ≤ regs.old.count }
-        requires room { array_vec_len out.old + access_room link ≤ MAX_INSTRS }
-        ensures register { result ≡ puts.filled regs.old link from place }
-        ensures taken { regs.new ≡ (puts.load regs.old link mark from place).regs }
-        ensures code { out.new.items ≡ out.old.items ++ (puts.load regs.old link mark from place).code };
+    fn put_load(regs: &mut Regs, access: AskedAccess, out: &mut Instrs) -> u8
+        requires of_arch { link_is_of access.link puts.name ≡ true }
+        requires to_load { is_data access.link ≡ false }
+        requires mark_fitting { mark_fits dirs.R access.mark ≡ true }
+        requires mark_of_arch { mark_is_of access.mark puts.name ≡ true }
+        requires given { depends access.link ≡ true → is_some access.source ≡ true }
+        requires left { (puts.load regs.old access.link access.mark access.source access.place).regs.next ≤ regs.old.count }
+        requires room { array_vec_len out.old + access_room access.link ≤ MAX_INSTRS }
+        ensures register { result ≡ puts.filled regs.old access.link access.source access.place }
+        ensures taken { regs.new ≡ (puts.load regs.old access.link access.mark access.source access.place).regs }
+        ensures code { out.new.items ≡ out.old.items ++ (puts.load regs.old access.link access.mark access.source access.place).code };
 
     /// Appends the code of a store of the mark, of the value to the place.
-    fn put_store(
-        regs: &mut Regs,
-        link: Link,
-        mark: Mark,
-        from: Option<u8>,
-        place: u8,
-        value: u8,
-        out: &mut Instrs,
-    )
-        requires of_arch { link_is_of link puts.name ≡ true }
-        requires mark_fitting { mark_fits dirs.W mark ≡ true }
-        requires mark_of_arch { mark_is_of mark puts.name ≡ true }
-        requires given { depends link ≡ true → is_some from ≡ true }
-        requires left { (puts.store regs.old link mark from place value).regs.next ≤ regs.old.count }
-        requires room { array_vec_len out.old + access_room link ≤ MAX_INSTRS }
-        ensures taken { regs.new ≡ (puts.store regs.old link mark from place value).regs }
-        ensures code { out.new.items ≡ out.old.items ++ (puts.store regs.old link mark from place value).code };
+    fn put_store(regs: &mut Regs, access: AskedAccess, value: u8, out: &mut Instrs)
+        requires of_arch { link_is_of access.link puts.name ≡ true }
+        requires mark_fitting { mark_fits dirs.W access.mark ≡ true }
+        requires mark_of_arch { mark_is_of access.mark puts.name ≡ true }
+        requires given { depends access.link ≡ true → is_some access.source ≡ true }
+        requires left { (puts.store regs.old access.link access.mark access.source access.place value).regs.next ≤ regs.old.count }
+        requires room { array_vec_len out.old + access_room access.link ≤ MAX_INSTRS }
+        ensures taken { regs.new ≡ (puts.store regs.old access.link access.mark access.source access.place value).regs }
+        ensures code { out.new.items ≡ out.old.items ++ (puts.store regs.old access.link access.mark access.source access.place value).code };
 
     /// Makes `out` the text of an operation.
     fn print(op: &Micro, places: &Places, out: &mut ArrayString<MAX_TEXT>)

@@ -6,6 +6,7 @@ ghost use Rattle.arch_trait.specs.Laws.{access_room};
 ghost use Rattle.arch_trait.specs.Threads.{FitStep, FitSteps, compiled, shape_of, setting_out, from_of, put_of, filled_by, way_seen, further, step_code, next_filled, put_before, thread_code, thread_regs, thread_loads};
 ghost use Rattle.arch_trait.specs.Codes.{thread_of, MakesSteps, IsFormed};
 
+use crate::access::AskedAccess;
 use crate::arch::{Arch, Instrs, MAX_INSTRS, MAX_STEP_INSTRS};
 use crate::link::Link;
 use crate::regs::{Links, Regs};
@@ -148,10 +149,16 @@ fn put_access<A: Arch>(
         value,
         link,
     } = step;
+    let access = AskedAccess {
+        link,
+        mark,
+        source: from,
+        place,
+    };
     match dir {
-        Dir::R => Some(A::put_load(regs, link, mark, from, place, out)),
+        Dir::R => Some(A::put_load(regs, access, out)),
         Dir::W => {
-            A::put_store(regs, link, mark, from, place, value, out);
+            A::put_store(regs, access, value, out);
             None
         }
     }

@@ -15,7 +15,7 @@ mod shape;
 mod step;
 mod way;
 
-pub use access::{DependentAccess, PlainAccess, address_source, data_source};
+pub use access::{AskedAccess, DependentAccess, PlainAccess};
 pub use arch::{Arch, Instrs, MAX_INSTRS, MAX_STEP_INSTRS, MAX_TEXT};
 pub use cells::{read_cell, register_named};
 pub use code::{Code, TooManyRegisters, compile_into, compile_thread};

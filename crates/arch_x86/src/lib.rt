@@ -12,12 +12,12 @@ ghost use Rattle.arch_x86.specs.InCells.{writes_cells as x86_writes_cells, makes
 mod table;
 
 use crate::table::table;
-use arch_trait::{Arch, Instrs, Link, MAX_TEXT, Operands, Places, Raw, Regs, Shape};
+use arch_trait::{Arch, AskedAccess, Instrs, Link, MAX_TEXT, Operands, Places, Raw, Regs, Shape};
 use arrayvec::ArrayString;
 use final_cond::RegName;
 use instruction_forms::{has_by, print_by, read_by};
 use micro_ops::{Barrier, Micro};
-use relax_edges::{ArchName, Mark};
+use relax_edges::ArchName;
 
 /// The architecture X86.
 pub struct X86;
@@ -53,30 +53,18 @@ impl Arch for X86 {
         }
     }
 
-    fn put_load(
-        regs: &mut Regs,
-        _link: Link,
-        _mark: Mark,
-        _from: Option<u8>,
-        place: u8,
-        out: &mut Instrs,
-    ) -> u8 {
+    fn put_load(regs: &mut Regs, access: AskedAccess, out: &mut Instrs) -> u8 {
         let dst = regs.take();
-        out.push(Micro::LoadAt { dst, place });
+        out.push(Micro::LoadAt {
+            dst,
+            place: access.place,
+        });
         dst
     }
 
-    fn put_store(
-        _regs: &mut Regs,
-        _link: Link,
-        _mark: Mark,
-        _from: Option<u8>,
-        place: u8,
-        value: u8,
-        out: &mut Instrs,
-    ) {
+    fn put_store(_regs: &mut Regs, access: AskedAccess, value: u8, out: &mut Instrs) {
         out.push(Micro::StoreAt {
-            place,
+            place: access.place,
             n: u32::from(value),
         });
     }

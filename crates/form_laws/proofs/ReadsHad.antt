@@ -153,25 +153,8 @@ first_had has (f ∷ fs) word ts other each h = raw_or_had has f (form_found f w
 
 -- no form does a label
 label_none : (kind : Kind) (l : ℕ) → operands_of kind (ops.Label l) ≡ None
-label_none kinds.SetNumber l = refl
-label_none kinds.ExclusiveOr l = refl
-label_none kinds.AddNumber l = refl
-label_none kinds.OrNumber l = refl
-label_none kinds.Sum l = refl
-label_none kinds.Load l = refl
-label_none kinds.LoadIndexed l = refl
-label_none kinds.LoadIndexFirst l = refl
-label_none kinds.LoadAcquire l = refl
-label_none kinds.Store l = refl
-label_none kinds.StoreIndexed l = refl
-label_none kinds.StoreIndexFirst l = refl
-label_none kinds.StoreNumber l = refl
-label_none kinds.StoreRelease l = refl
-label_none kinds.Compare l = refl
-label_none kinds.BranchEqual l = refl
-label_none kinds.BranchNotZero l = refl
-label_none (kinds.LoadInto r) l = refl
 label_none (kinds.Order kind) l = refl
+label_none kind l = refl
 
 no_label : (fs : List FormText) (l : ℕ) → list_any (does (ops.Label l)) fs ≡ false
 no_label [] l = refl
