@@ -1,6 +1,6 @@
 -- The law tried on small programs: a coherent execution, the shapes that coherence forbids, each with its cycle, and a program
 -- that writes outside its places, of which the law doesn't hold.
-use Rattle.std.proofs.Common.{◌≡◌, ℕ, Bool, true, List, [], ◌∷◌, Some, None, slice_get, refl, arith, ◌||◌}
+use Rattle.std.proofs.Common.{◌≡◌, ℕ, Bool, true, List, [], ◌∷◌, Some, None, refl, arith, ◌||◌}
 use Rattle.std.specs.Prelude.{nat_lt}
 use Rattle.std.proofs.lemmas.Bool.{ltb-true}
 use Rattle.micro_ops.specs.declared.operation.Micro.{Micro}
@@ -9,24 +9,21 @@ use Rattle.program_meaning.specs.declared.WriteAt.{WriteAt}
 use Rattle.program_meaning.specs.Accesses.{Access, read, write, is_read}
 use Rattle.program_meaning.specs.Executions.{Execution}
 use Rattle.program_meaning.specs.Programs.{Program, Thread, IsCandidate, IsCoherentIn, accesses_in}
-use Rattle.communication_laws.proofs.Accesses.{got_from_list}
-use Rattle.communication_laws.proofs.Examples.{name}
-use Rattle.communication_laws.proofs.Decided.{every, every_means, candidate_means, coheres_means}
+use Rattle.program_meaning.specs.Deciding.{every, name, are_reads, are_distinct}
+use Rattle.program_meaning.proofs.Every.{every_name}
+use Rattle.program_meaning.proofs.Candidates.{candidate_means}
+use Rattle.program_meaning.proofs.CoherenceLaws.{coheres_means}
 use Rattle.coherence_laws.specs.Relations.{IsPath, IsScPerLocation, Po, Rf, Co, Fr}
 use Rattle.coherence_laws.specs.Laws.{WritesWithin}
 use Rattle.coherence_laws.proofs.Laws.{candidates_are_sc_per_location}
 
 -- each write is to a place below a number, tried by computing
 abbrev writes_within : ℕ → List (List Access) → Bool
-writes_within places threads = every (λ thread accesses. every (λ slot access. is_read access || nat_lt access.place places) accesses) threads
+writes_within places threads = every (λ thread accesses. every (λ slot access. is_read access || nat_lt access.place places) 0 accesses) 0 threads
 
 within_means : (threads : List (List Access)) (places : ℕ) → writes_within places threads ≡ true → WritesWithin threads places
 within_means threads places h place w e =
-    let g = got_from_list (slice_get threads w.thread) w.access (write place e.0) e.1 in
-    ltb-true place places
-    (every_means (λ slot access. is_read access || nat_lt access.place places) g.list
-    (every_means (λ thread accesses. every (λ slot access. is_read access || nat_lt access.place places) accesses) threads h w.thread g.list g.list_is)
-    w.access (write place e.0) g.got)
+    ltb-true place places (every_name (λ n access. is_read access || nat_lt access.place places) threads h w (write place e.0) e.1)
 
 -- threads without first registers
 abbrev runs : List Micro → Thread
@@ -45,7 +42,8 @@ abbrev in_turn : Execution
 in_turn = record { reads = [] ∷ ((0, None) ∷ (1, Some (name 0 0)) ∷ []) ∷ []; orders = (name 0 0 ∷ []) ∷ [] }
 
 in_turn-candidate : IsCandidate passes in_turn
-in_turn-candidate = candidate_means passes in_turn refl refl
+unfolding are_reads are_distinct
+in_turn-candidate = candidate_means passes in_turn refl
 
 in_turn-sc : IsScPerLocation (accesses_in passes in_turn) in_turn
 in_turn-sc =
@@ -66,8 +64,9 @@ abbrev out_of_turn : Execution
 out_of_turn = record { reads = [] ∷ ((1, Some (name 0 0)) ∷ (0, None) ∷ []) ∷ []; orders = (name 0 0 ∷ []) ∷ [] }
 
 CoRR : HasCycle passes out_of_turn (name 1 0) (name 1 1 ∷ name 0 0 ∷ [])
+unfolding are_reads are_distinct
 CoRR = record {
-  candidate = candidate_means passes out_of_turn refl refl;
+  candidate = candidate_means passes out_of_turn refl;
   within = within_means (accesses_in passes out_of_turn) 1 refl;
   cycle = (
     Po (record { place = 0; first = (read 0 1, refl, refl); second = (read 0 0, refl, refl); thread = refl; earlier = omega arith }),
@@ -86,8 +85,9 @@ abbrev turned_round : Execution
 turned_round = record { reads = [] ∷ []; orders = (name 0 1 ∷ name 0 0 ∷ []) ∷ [] }
 
 CoWW : HasCycle writes_twice turned_round (name 0 0) (name 0 1 ∷ [])
+unfolding are_reads are_distinct
 CoWW = record {
-  candidate = candidate_means writes_twice turned_round refl refl;
+  candidate = candidate_means writes_twice turned_round refl;
   within = within_means (accesses_in writes_twice turned_round) 1 refl;
   cycle = (
     Po (record { place = 0; first = (write 0 1, refl, refl); second = (write 0 2, refl, refl); thread = refl; earlier = omega arith }),
@@ -103,8 +103,9 @@ abbrev from_after : Execution
 from_after = record { reads = ((1, Some (name 0 1)) ∷ []) ∷ []; orders = (name 0 1 ∷ []) ∷ [] }
 
 CoRW1 : HasCycle reads_own from_after (name 0 0) (name 0 1 ∷ [])
+unfolding are_reads are_distinct
 CoRW1 = record {
-  candidate = candidate_means reads_own from_after refl refl;
+  candidate = candidate_means reads_own from_after refl;
   within = within_means (accesses_in reads_own from_after) 1 refl;
   cycle = (
     Po (record { place = 0; first = (read 0 1, refl, refl); second = (write 0 1, refl, refl); thread = refl; earlier = omega arith }),
@@ -120,8 +121,9 @@ abbrev from_later : Execution
 from_later = record { reads = ((2, Some (name 1 0)) ∷ []) ∷ [] ∷ []; orders = (name 0 1 ∷ name 1 0 ∷ []) ∷ [] }
 
 CoRW2 : HasCycle reads_other from_later (name 0 0) (name 0 1 ∷ name 1 0 ∷ [])
+unfolding are_reads are_distinct
 CoRW2 = record {
-  candidate = candidate_means reads_other from_later refl refl;
+  candidate = candidate_means reads_other from_later refl;
   within = within_means (accesses_in reads_other from_later) 1 refl;
   cycle = (
     Po (record { place = 0; first = (read 0 2, refl, refl); second = (write 0 1, refl, refl); thread = refl; earlier = omega arith }),
@@ -140,8 +142,9 @@ abbrev from_before : Execution
 from_before = record { reads = ((0, None) ∷ []) ∷ []; orders = (name 0 0 ∷ []) ∷ [] }
 
 CoWR : HasCycle (over_x reads_after) from_before (name 0 0) (name 0 1 ∷ [])
+unfolding are_reads are_distinct
 CoWR = record {
-  candidate = candidate_means (over_x reads_after) from_before refl refl;
+  candidate = candidate_means (over_x reads_after) from_before refl;
   within = within_means (accesses_in (over_x reads_after) from_before) 1 refl;
   cycle = (
     Po (record { place = 0; first = (write 0 1, refl, refl); second = (read 0 0, refl, refl); thread = refl; earlier = omega arith }),
@@ -158,7 +161,8 @@ abbrev unordered : Execution
 unordered = record { reads = ((0, None) ∷ []) ∷ []; orders = [] }
 
 unordered-candidate : IsCandidate over_none unordered
-unordered-candidate = candidate_means over_none unordered refl refl
+unfolding are_reads are_distinct
+unordered-candidate = candidate_means over_none unordered refl
 
 unordered-coherent : IsCoherentIn over_none unordered
 unordered-coherent = coheres_means (accesses_in over_none unordered) unordered refl

@@ -1,6 +1,6 @@
 -- Where each event of a cycle and each load of an observer is among the accesses of the cycle's test, and that these are
 -- all its accesses.
-use Rattle.std.proofs.Common.{◌≡◌, ℕ, ◌+◌, ◌-◌, ◌<◌, List, length, map, Option, Some, None, slice_get, refl, sym, ◌∙◌, ap, arith}
+use Rattle.std.proofs.Common.{◌≡◌, ℕ, ◌+◌, ◌-◌, ◌<◌, List, length, map, Some, slice_get, refl, sym, ◌∙◌, ap, arith}
 use Rattle.std.proofs.lemmas.Option.{slice_get_within}
 use Rattle.relax_edges.specs.declared.kinds.ObsMode.{ObsMode}
 use Rattle.relax_edges.specs.declared.edge.Edge.{Edge}
@@ -13,6 +13,7 @@ use Rattle.program_meaning.specs.declared.WriteAt.{WriteAt}
 use Rattle.program_meaning.specs.Accesses.{Access, read, got_from, at_name}
 use Rattle.program_meaning.specs.Standing.{event_name}
 use Rattle.program_meaning.specs.Intended.{observed_locations, event_access, observer_accesses, cycle_accesses}
+use Rattle.program_meaning.proofs.Names.{GotFrom, got_from_list}
 use Rattle.communication_laws.proofs.Lists.{slice_get-append_left, slice_get-append_right, image_of, got_map}
 use Rattle.communication_laws.proofs.Resolves.{Resolves}
 
@@ -61,17 +62,6 @@ pub record LoadAt (es : List Edge) (mode : ObsMode) (number : ℕ → ℕ) (name
   pub thread : name.thread ≡ external_count es + observer
   pub below : name.access < write_count es spot
   pub access_is : read (number spot) (name.access + 1) ≡ access
-
--- an element of a list that may be missing
-pub record GotFrom {X : Type 0} (o : Option (List X)) (k : ℕ) (x : X) : Type 0 where
-  pub list : List X
-  pub list_is : o ≡ Some list
-  pub got : slice_get list k ≡ Some x
-
--- what is got from a list that may be missing is an element of the list
-pub got_from_list : {X : Type 0} (o : Option (List X)) (k : ℕ) (x : X) → got_from o k ≡ Some x → GotFrom o k x
-got_from_list None k x h = cc
-got_from_list (Some xs) k x h = record { list = xs; list_is = refl; got = h }
 
 -- each access is an event or an observer's load
 pub by_origin : {G : Type 0} (es : List Edge) (mode : ObsMode) (number : ℕ → ℕ) (name : WriteAt) (access : Access) → Resolves es → at_name (cycle_accesses es mode number) name ≡ Some access → (EventAt es number name access → G) → (LoadAt es mode number name access → G) → G

@@ -9,9 +9,9 @@ use Rattle.relax_edges.specs.declared.edge.Edge.{Edge}
 use Rattle.relax_edges.specs.declared.edge.Edge.TheVariants as edges
 use Rattle.resolution_laws.specs.Resolution.{thread_of, slot_of, location_of, moves_before, events_in}
 use Rattle.value_laws.specs.Values.{value_of, way_place, write_count, write_at, is_observed}
-use Rattle.program_meaning.specs.declared.WriteAt.{WriteAt}
 use Rattle.program_meaning.specs.Accesses.{read, write}
 use Rattle.program_meaning.specs.Intended.{cycle_accesses, intended, location_order, location_numbered}
+use Rattle.program_meaning.specs.Deciding.{name}
 
 -- program order to another location, from a write to a write
 abbrev pub PodWW : Edge
@@ -52,10 +52,6 @@ W3O = PodWW ∷ Wse ∷ Wse ∷ PodWR ∷ Fre ∷ []
 -- the numbering in which each location's place has the location's own number
 abbrev pub here : ℕ → ℕ
 here location = location
-
--- the name of an access, by its thread and its number there
-abbrev pub name : ℕ → ℕ → WriteAt
-name thread access = record { thread = thread; access = access }
 
 two_writes-accesses : cycle_accesses two_writes Accept here ≡ (write 0 2 ∷ write 1 1 ∷ []) ∷ (write 1 2 ∷ write 0 1 ∷ []) ∷ []
 unfolding cycle_accesses intended events_in location_order location_numbered thread_of slot_of location_of moves_before value_of way_place write_count is_observed

@@ -21,8 +21,10 @@ use Rattle.program_meaning.specs.Coherence.{final_value}
 use Rattle.program_meaning.specs.Programs.{Program, IsCandidate, IsCoherentIn, accesses_in, items_in, register_in, visits_in}
 use Rattle.program_meaning.specs.declared.WriteAt.{WriteAt}
 use Rattle.program_meaning.specs.Standing.{Named, AllStand, Communicates, HasEvents, IsEvent, Stands, StartsFree, Observes, event_name}
-use Rattle.communication_laws.proofs.Examples.{store_buffering, two_writes, W3O, name}
-use Rattle.communication_laws.proofs.Decided.{candidate_means, coheres_means}
+use Rattle.program_meaning.specs.Deciding.{name, are_reads, are_distinct}
+use Rattle.program_meaning.proofs.Candidates.{candidate_means}
+use Rattle.program_meaning.proofs.CoherenceLaws.{coheres_means}
+use Rattle.communication_laws.proofs.Examples.{store_buffering, two_writes, W3O}
 
 -- an access without a barrier or a dependency
 abbrev plain : Access → Visit
@@ -195,7 +197,8 @@ both_initial-accesses = refl
 
 -- this execution is a candidate
 pub both_initial-candidate : IsCandidate buffers both_initial
-both_initial-candidate = candidate_means buffers both_initial refl refl
+unfolding are_reads are_distinct
+both_initial-candidate = candidate_means buffers both_initial refl
 
 -- this execution is coherent per location
 pub both_initial-coherent : IsCoherentIn buffers both_initial
@@ -214,7 +217,8 @@ one_later-accesses : accesses_in buffers one_later ≡ (write 0 1 ∷ read 1 1 �
 one_later-accesses = refl
 
 pub one_later-candidate : IsCandidate buffers one_later
-one_later-candidate = candidate_means buffers one_later refl refl
+unfolding are_reads are_distinct
+one_later-candidate = candidate_means buffers one_later refl
 
 pub one_later-coherent : IsCoherentIn buffers one_later
 one_later-coherent = coheres_means (accesses_in buffers one_later) one_later refl
@@ -287,7 +291,8 @@ y_exchanged = record { reads = [] ∷ [] ∷ []; orders = (name 1 1 ∷ name 0 0
 
 -- with the writes of y exchanged, the execution is a candidate
 pub y_exchanged-candidate : IsCandidate double_writes y_exchanged
-y_exchanged-candidate = candidate_means double_writes y_exchanged refl refl
+unfolding are_reads are_distinct
+y_exchanged-candidate = candidate_means double_writes y_exchanged refl
 
 -- with the writes of y exchanged, the execution is coherent per location
 pub y_exchanged-coherent : IsCoherentIn double_writes y_exchanged
@@ -318,7 +323,8 @@ both_in_order-accesses : accesses_in double_writes both_in_order ≡ (write 0 2 
 both_in_order-accesses = refl
 
 pub both_in_order-candidate : IsCandidate double_writes both_in_order
-both_in_order-candidate = candidate_means double_writes both_in_order refl refl
+unfolding are_reads are_distinct
+both_in_order-candidate = candidate_means double_writes both_in_order refl
 
 pub both_in_order-coherent : IsCoherentIn double_writes both_in_order
 both_in_order-coherent = coheres_means (accesses_in double_writes both_in_order) both_in_order refl
@@ -337,7 +343,8 @@ abbrev pub x_exchanged : Execution
 x_exchanged = record { reads = [] ∷ [] ∷ []; orders = (name 0 0 ∷ name 1 1 ∷ []) ∷ (name 0 1 ∷ name 1 0 ∷ []) ∷ [] }
 
 pub x_exchanged-candidate : IsCandidate double_writes x_exchanged
-x_exchanged-candidate = candidate_means double_writes x_exchanged refl refl
+unfolding are_reads are_distinct
+x_exchanged-candidate = candidate_means double_writes x_exchanged refl
 
 pub x_exchanged-coherent : IsCoherentIn double_writes x_exchanged
 x_exchanged-coherent = coheres_means (accesses_in double_writes x_exchanged) x_exchanged refl
@@ -383,7 +390,8 @@ exchanged = record { reads = [] ∷ [] ∷ ((0, None) ∷ []) ∷ []; orders = (
 
 -- in the order of the values, the execution is a candidate
 pub in_order-candidate : IsCandidate unobserved in_order
-in_order-candidate = candidate_means unobserved in_order refl refl
+unfolding are_reads are_distinct
+in_order-candidate = candidate_means unobserved in_order refl
 
 -- in the order of the values, the execution is coherent per location
 pub in_order-coherent : IsCoherentIn unobserved in_order
@@ -391,7 +399,8 @@ in_order-coherent = coheres_means (accesses_in unobserved in_order) in_order ref
 
 -- with the first two writes of y exchanged, the execution is a candidate
 pub exchanged-candidate : IsCandidate unobserved exchanged
-exchanged-candidate = candidate_means unobserved exchanged refl refl
+unfolding are_reads are_distinct
+exchanged-candidate = candidate_means unobserved exchanged refl
 
 -- with the first two writes of y exchanged, the execution is coherent per location
 pub exchanged-coherent : IsCoherentIn unobserved exchanged

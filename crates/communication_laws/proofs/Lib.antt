@@ -19,6 +19,5 @@ pub mod Swaps
 pub mod Exchanged
 pub mod Needs
 pub mod Laws
-pub mod Decided
 pub mod Tries
 pub mod Executions

@@ -1,7 +1,7 @@
 -- The place of a write in a coherence order, and orders that are fixed by their steps.
-use Rattle.std.proofs.Common.{◌≡◌, ℕ, zero, suc, ◌+◌, ◌<◌, ◌≤◌, true, false, cond, ltb, eqb, List, length, get_or, Option, Some, None, slice_get, refl, sym, ◌∙◌, ap, arith}
+use Rattle.std.proofs.Common.{◌≡◌, ℕ, zero, suc, ◌+◌, ◌<◌, ◌≤◌, true, false, cond, ltb, List, length, get_or, Option, Some, None, slice_get, refl, sym, ◌∙◌, ap, arith}
 use Rattle.std.specs.List.{filter_map, position_or_len}
-use Rattle.std.proofs.lemmas.Bool.{and_parts, and_from, eqb-true, eq-eqb, lt-ltb, cond-true}
+use Rattle.std.proofs.lemmas.Bool.{lt-ltb, cond-true}
 use Rattle.std.proofs.lemmas.Option.{slice_get_within, slice_get-get_or, get_or_from_slice_get}
 use Rattle.std.proofs.lemmas.List.Sums.{position_or_len_is}
 use Rattle.list_laws.specs.Numbers.{upto}
@@ -9,19 +9,8 @@ use Rattle.list_laws.proofs.Cases.{by_test, by_less}
 use Rattle.program_meaning.specs.declared.WriteAt.{WriteAt}
 use Rattle.program_meaning.specs.Executions.{same_write}
 use Rattle.program_meaning.specs.Coherence.{order_place, from_one}
+use Rattle.program_meaning.proofs.Names.{same_write-refl, same_write-true}
 use Rattle.communication_laws.proofs.Lists.{same_below, length-filter_map-upto, slice_get-filter_map-upto, got_below}
-
--- a write has the name of itself
-pub same_write-refl : (w : WriteAt) → same_write w w ≡ true
-same_write-refl w = and_from (eqb w.thread w.thread) (eqb w.access w.access) (eq-eqb w.thread w.thread refl) (eq-eqb w.access w.access refl)
-
--- writes that pass the test have one name
-pub same_write-true : (w v : WriteAt) → same_write w v ≡ true → w ≡ v
-same_write-true w v h =
-    let p = and_parts (eqb w.thread v.thread) (eqb w.access v.access) h in
-    let t : w.thread ≡ v.thread = eqb-true w.thread v.thread p.0 in
-    let a : w.access ≡ v.access = eqb-true w.access v.access p.1 in
-    λ i. record { thread = t i; access = a i }
 
 -- the coherence place of a write that is listed once in an order
 pub order_place_at : (order : List WriteAt) (j : ℕ) (w : WriteAt) → slice_get order j ≡ Some w → ((i : ℕ) → slice_get order i ≡ Some w → i ≡ j) → order_place order (Some w) ≡ j + 1

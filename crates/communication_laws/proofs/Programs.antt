@@ -1,19 +1,18 @@
 -- From a program to its accesses: a candidate execution of a program that makes the accesses of the cycle's test and
 -- meets its condition is an execution of which the laws of this crate hold.
-use Rattle.std.proofs.Common.{◌≡◌, ℕ, suc, ◌<◌, List, [], ◌∷◌, length, map, Option, Some, slice_get, refl, sym, ◌∙◌, ap, subst, arith}
+use Rattle.std.proofs.Common.{◌≡◌, ℕ, ◌<◌, List, [], ◌∷◌, length, map, Some, slice_get, refl, sym, ◌∙◌, ap, subst, arith}
 use Rattle.std.specs.List.{filter}
-use Rattle.std.proofs.lemmas.List.{length-map}
 use Rattle.relax_edges.specs.declared.kinds.Dir.{Dir}
 use Rattle.relax_edges.specs.declared.kinds.Dir.TheVariants as dirs
 use Rattle.relax_edges.specs.declared.kinds.ObsMode.{ObsMode}
 use Rattle.relax_edges.specs.declared.edge.Edge.{Edge}
 use Rattle.micro_ops.specs.Running.{Outcome}
 use Rattle.value_laws.specs.Values.{write_count}
-use Rattle.program_meaning.specs.declared.WriteAt.{WriteAt}
-use Rattle.program_meaning.specs.Accesses.{Access, accesses_of, visits_of, is_read}
+use Rattle.program_meaning.specs.Accesses.{Access, is_read}
 use Rattle.program_meaning.specs.Executions.{Execution, IsExecutionOf}
 use Rattle.program_meaning.specs.Coherence.{IsCoherent, final_value}
-use Rattle.program_meaning.specs.Programs.{Program, Thread, HasEnded, runs_of, items_in, visits_in, accesses_in, made_in}
+use Rattle.program_meaning.specs.Programs.{Program, HasEnded, runs_of, accesses_in}
+use Rattle.program_meaning.proofs.Runs.{accesses-count}
 use Rattle.program_meaning.specs.Intended.{IsNumbering, cycle_accesses, intended}
 use Rattle.communication_laws.specs.Premises.{MeetsCondition}
 use Rattle.communication_laws.specs.Joining.{filled, values_read, Makes, ReadsAsAsked, IsOutcome}
@@ -34,17 +33,6 @@ filled_own (access ∷ accesses) = by_dir access.dir refl (filled_own accesses)
     by_dir : (d : Dir) → access.dir ≡ d → filled accesses (map (λ access. access.value) (filter is_read accesses)) ≡ accesses → filled (access ∷ accesses) (map (λ access. access.value) (filter is_read (access ∷ accesses))) ≡ access ∷ accesses
     by_dir dirs.R e h = rw e (ap (λ l. first dirs.R ∷ l) h)
     by_dir dirs.W e h = rw e (ap (λ l. first dirs.W ∷ l) h)
-
--- as many runs as threads
-runs-count : (threads : List Thread) (reads : List (List (ℕ × Option WriteAt))) → length (runs_of threads reads) ≡ length threads
-runs-count [] reads = refl
-runs-count (thread ∷ threads) [] = ap suc (runs-count threads [])
-runs-count (thread ∷ threads) (r ∷ reads) = ap suc (runs-count threads reads)
-
--- there are as many lists of accesses as threads
-pub accesses-count : (p : Program) (x : Execution) → length (accesses_in p x) ≡ length p.threads
-accesses-count p x =
-    length-map (visits_in p x) accesses_of ∙ length-map (items_in p x) visits_of ∙ length-map (runs_of p.threads x.reads) made_in ∙ runs-count p.threads x.reads
 
 -- where the values read are those asked for, the accesses made are those of the cycle's test
 pub makes_planned : (es : List Edge) (mode : ObsMode) (number : ℕ → ℕ) (p : Program) (x : Execution) → Makes es mode number p x → ReadsAsAsked es mode number x → length x.reads ≡ length p.threads → accesses_in p x ≡ cycle_accesses es mode number

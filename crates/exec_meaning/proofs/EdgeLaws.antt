@@ -35,7 +35,7 @@ use Rattle.program_meaning.specs.Executions.{Execution, same_write}
 use Rattle.program_meaning.specs.Coherence.{source_at}
 use Rattle.program_meaning.specs.Standing.{AccessAt, Named, access_at, AreAt, ComesBefore, Communicates, CommunicatesBy, Reaches, Joins, mask_of, is_in_mask, IsTied, BarriersWait, DependsBy, TiesBy, Stands}
 use Rattle.exec_meaning.specs.Edges.{same_mark, same_pick, same_fence, same_barrier, is_alone, is_none, are_at, is_source, comes_before, communicates, communicates_by, reaches, joins, same_answer, depends, barriers_wait, depends_by, ties_by, stands}
-use Rattle.exec_meaning.proofs.Candidates.{same_means, same_itself}
+use Rattle.program_meaning.proofs.Names.{same_write-refl, same_write-true}
 
 -- a test passes exactly where its statement holds
 abbrev Decides : Bool → Type 0 → Type 0
@@ -121,8 +121,8 @@ at_decides Diff p q = not_decides p q
 source_decides : (o : Option WriteAt) (e : WriteAt) → Decides (is_source o e) (o ≡ Some e)
 source_decides None e = (λ h. cc h, λ h. cc h)
 source_decides (Some w) e = (
-  λ h. ap Some (same_means w e h),
-  λ h. subst (λ v. same_write w v ≡ true) (same_Some w e h) (same_itself w),
+  λ h. ap Some (same_write-true w e h),
+  λ h. subst (λ v. same_write w v ≡ true) (same_Some w e h) (same_write-refl w),
 )
 
 before_decides : (threads : List (List Access)) (x : Execution) (e f : AccessAt) → Decides (comes_before threads x e f) (ComesBefore threads x e f)

@@ -1,7 +1,5 @@
-pub mod Every
+pub mod Loops
 pub mod KeptLists
-pub mod Candidates
-pub mod CoherenceLaws
 pub mod VisitLaws
 pub mod EdgeLaws
 pub mod RunLaws

@@ -1,5 +1,4 @@
 pub mod Kept
-pub mod Deciding
 pub mod Runs
 pub mod Edges
 pub mod Finals

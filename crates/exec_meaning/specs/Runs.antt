@@ -1,27 +1,16 @@
 -- The runs of a test's threads, as far as they came to their ends.
 -- Source: own.
-use Rattle.std.specs.Prelude.{◌≡◌, Bool, true, false, ◌&&◌, List, [], ◌∷◌, map, Option, Some, None}
+use Rattle.std.specs.Prelude.{◌≡◌, false, List, [], ◌∷◌, map, Option, Some, None}
 use Rattle.micro_ops.specs.declared.operation.Item.{Item}
 use Rattle.micro_ops.specs.declared.operation.Item.TheVariants as items
 use Rattle.program_meaning.specs.Accesses.{Access}
-use Rattle.micro_ops.specs.Running.{Outcome, Ended, ReadsLeft, ReadsShort, NoRule}
+use Rattle.micro_ops.specs.Running.{Outcome, Ended}
 use Rattle.micro_ops.specs.Threads.{EndedRun, value_in}
+use Rattle.program_meaning.specs.Deciding.{has_ended, all_ended}
 
 -- the outcome of a run that came to its end
 abbrev pub ended_run : EndedRun → Outcome
 ended_run run = Ended run.items (value_in run)
-
--- a run came to its end
-abbrev pub has_ended : Outcome → Bool
-has_ended (Ended _ _) = true
-has_ended ReadsLeft = false
-has_ended ReadsShort = false
-has_ended NoRule = false
-
--- all runs came to their ends
-abbrev pub all_ended : List Outcome → Bool
-all_ended [] = true
-all_ended (run ∷ runs) = has_ended run && all_ended runs
 
 -- a run, if it came to its end
 abbrev pub IsRun : Option EndedRun → Outcome → Type 0

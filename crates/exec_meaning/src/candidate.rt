@@ -1,10 +1,10 @@
-ghost use Rattle.std.specs.Prelude.{◌≡◌, ◌↔◌, ◌&&◌, IsTrue, IfOk, length};
+ghost use Rattle.std.specs.Prelude.{◌≡◌, ◌↔◌, IsTrue, IfOk, length};
 ghost use Rattle.std.specs.List.{list_all, list_any};
 ghost use Rattle.program_meaning.specs.Accesses.{at_name};
 ghost use Rattle.program_meaning.specs.Executions.{same_write, IsExecutionOf};
 ghost use Rattle.program_meaning.specs.Programs.{IsCandidate};
 ghost use Rattle.litmus_text.specs.Programs.{program_read};
-ghost use Rattle.exec_meaning.specs.Deciding.{every, name, writes_there, can_read, are_reads, are_distinct, is_covered, thread_covered, is_order, reads_fit, orders_fit};
+ghost use Rattle.program_meaning.specs.Deciding.{every, name, writes_there, can_read, are_reads, are_distinct, is_covered, thread_covered, is_order, reads_fit, orders_fit, lists_fit};
 
 use crate::accesses::{Accesses, access_at, all_accesses, is_read, writes_to};
 use crate::execution::{Execution, Read};
@@ -30,7 +30,7 @@ fn can_read(all: &[Accesses], access: &Access, from: Option<WriteAt>) -> bool
 }
 
 /// Whether reads are those of the reading accesses of a thread, in order.
-#[tactic(auto, unfolding(crate::specs::Deciding::are_reads))]
+#[tactic(auto, unfolding(program_meaning::specs::Deciding::are_reads))]
 fn are_reads(all: &[Accesses], accesses: &[Access], reads: &[Read]) -> bool
     ensures { result ≡ are_reads all.now accesses.now reads.now }
 {
@@ -137,7 +137,7 @@ fn do_reads_fit(all: &[Accesses], exec: &Execution) -> bool
 }
 
 /// Whether the order of each place is that of the place.
-#[tactic(auto, using(crate::proofs::Every::every_step, crate::proofs::Every::every_stops))]
+#[tactic(auto, using(crate::proofs::Loops::every_step, crate::proofs::Loops::every_stops))]
 fn do_orders_fit(all: &[Accesses], exec: &Execution) -> bool
     ensures { result ≡ orders_fit all.now exec.now }
 {
@@ -152,12 +152,12 @@ fn do_orders_fit(all: &[Accesses], exec: &Execution) -> bool
 /// Whether the reads and the orders are those of threads that make these accesses.
 fn do_lists_fit(all: &[Accesses], exec: &Execution) -> bool
     requires { length exec.now.reads ≡ length all.now }
-    ensures { result ≡ (reads_fit all.now exec.now && orders_fit all.now exec.now) }
+    ensures { result ≡ lists_fit all.now exec.now }
 {
     do_reads_fit(all, exec) && do_orders_fit(all, exec)
 }
 
-#[tactic(auto, using(crate::proofs::Candidates::execution_means, crate::proofs::Candidates::execution_from))]
+#[tactic(auto, using(program_meaning::proofs::Candidates::execution_means, program_meaning::proofs::Candidates::execution_from))]
 fn is_execution(all: &[Accesses], exec: &Execution) -> bool
     requires { length exec.now.reads ≡ length all.now }
     ensures { IsTrue result ↔ IsExecutionOf all.now (length exec.now.orders) exec.now }

@@ -4,7 +4,7 @@ ghost use Rattle.program_meaning.specs.Executions.{same_write};
 ghost use Rattle.program_meaning.specs.Coherence.{order_place, order_at, read_at, source_at, coherence_place, IsCoherent};
 ghost use Rattle.program_meaning.specs.Programs.{IsCandidate, IsCoherentIn};
 ghost use Rattle.litmus_text.specs.Programs.{program_read};
-ghost use Rattle.exec_meaning.specs.Deciding.{every, name, may_follow, agrees, agrees_later, thread_coheres};
+ghost use Rattle.program_meaning.specs.Deciding.{every, name, may_follow, agrees, agrees_later, thread_coheres, coheres};
 
 use crate::accesses::{Accesses, all_accesses, is_read};
 use crate::execution::{Execution, Read};
@@ -231,7 +231,7 @@ fn thread_coheres(all: &[Accesses], exec: &Execution, thread: usize, accesses: &
 
 /// Whether program order in each thread agrees with the coherence order.
 fn threads_cohere(all: &[Accesses], exec: &Execution) -> bool
-    ensures { result ≡ every (thread_coheres all.now exec.now) 0 all.now }
+    ensures { result ≡ coheres all.now exec.now }
 {
     for (thread, accesses) in all.iter().enumerate() {
         if !thread_coheres(all, exec, thread, accesses.as_slice()) {
@@ -241,7 +241,7 @@ fn threads_cohere(all: &[Accesses], exec: &Execution) -> bool
     true
 }
 
-#[tactic(auto, using(crate::proofs::CoherenceLaws::coheres_means, crate::proofs::CoherenceLaws::coheres_from))]
+#[tactic(auto, using(program_meaning::proofs::CoherenceLaws::coheres_means, program_meaning::proofs::CoherenceLaws::coheres_from))]
 fn coheres(all: &[Accesses], exec: &Execution) -> bool
     ensures { IsTrue result ↔ IsCoherent all.now exec.now }
 {

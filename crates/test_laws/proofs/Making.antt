@@ -16,11 +16,12 @@ use Rattle.program_meaning.specs.Accesses.{Access, is_read, reads_by}
 use Rattle.program_meaning.specs.Executions.{Execution}
 use Rattle.program_meaning.specs.Programs.{IsCandidate}
 use Rattle.program_meaning.specs.Intended.{IsNumbering, observed_locations, event_access, observer_accesses, cycle_accesses, intended}
+use Rattle.program_meaning.proofs.Runs.{accesses-count}
 use Rattle.communication_laws.specs.Joining.{filled, values_read, Makes, ReadsAsAsked}
 use Rattle.communication_laws.proofs.Lists.{got_below, got_map, map_same, map-map}
 use Rattle.communication_laws.proofs.Bridge.{resolves}
 use Rattle.communication_laws.proofs.IntendedReads.{reads-count}
-use Rattle.communication_laws.proofs.Programs.{accesses-count, intended_asked}
+use Rattle.communication_laws.proofs.Programs.{intended_asked}
 use Rattle.test_laws.specs.Steps.{event_step, thread_steps, observing, observer_steps, cycle_steps, numbers_read}
 use Rattle.test_laws.specs.Programs.{thread_from, program_of}
 use Rattle.test_laws.proofs.Terms.{reads-count as numbers-count}

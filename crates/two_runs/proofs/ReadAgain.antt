@@ -3,7 +3,6 @@ use Rattle.std.proofs.Common.{◌≡◌, ◌≤◌, ◌<◌, ℕ, List, [], ◌�
 use Rattle.std.specs.Prelude.{Option, Result, Ok}
 use Rattle.std.specs.List.{AllByRecursion, list_all}
 use Rattle.std.proofs.lemmas.Bool.{and_from}
-use Rattle.std.proofs.lemmas.List.{length-map}
 use Rattle.relax_edges.specs.declared.TheConstants.{MAX_EDGES}
 use Rattle.relax_edges.specs.declared.kinds.ObsMode.TheVariants.{Avoid}
 use Rattle.relax_edges.specs.declared.edge.Edge.{Edge}
@@ -28,7 +27,7 @@ use Rattle.program_meaning.specs.declared.WriteAt.{WriteAt}
 use Rattle.program_meaning.specs.Executions.{Execution}
 use Rattle.program_meaning.specs.Intended.{event_read, location_numbered, reads_in}
 use Rattle.program_meaning.specs.Programs.{IsCandidate}
-use Rattle.communication_laws.proofs.Programs.{accesses-count}
+use Rattle.exec_meaning.proofs.RunLaws.{candidate_count}
 use Rattle.execution_text.specs.ExecutionText.{execution_read}
 use Rattle.execution_text.specs.ReadBack.{ExecutionFits}
 use Rattle.execution_text.specs.Written.{text_of_execution}
@@ -36,7 +35,7 @@ use Rattle.execution_text.proofs.ExecutionBack.{written_reads_back}
 use Rattle.test_laws.specs.Headline.{HasCode}
 use Rattle.test_laws.proofs.PlaceNames.{letter_at, locations_few}
 use Rattle.printed_test_laws.specs.Headline.{shown_test}
-use Rattle.printed_test_laws.specs.Readings.{program_read, thread_read}
+use Rattle.printed_test_laws.specs.Readings.{program_read}
 use Rattle.printed_test_laws.proofs.Readable.{readable}
 use Rattle.printed_test_laws.proofs.Rereading.{got_is}
 use Rattle.two_runs.specs.Runs.{order_of, run_by}
@@ -71,10 +70,6 @@ places_formed a w name es test code r reads =
     ap (λ (t : TestRead). list_all is_place_name t.places) same
     ∙ names_formed (move_count es) r.table (omega (arith, locations_few es code.resolved)) r.among
 
--- a candidate execution of a reading has a list of reads for each thread
-thread_lists : (test : TestRead) (run : Execution) → IsCandidate (program_read test) run → length run.reads ≡ length test.threads
-thread_lists test run c = c.execution.read_lists ∙ accesses-count (program_read test) run ∙ length-map test.threads thread_read
-
 -- Where the text of a cycle's test without observers is read as a test, and an execution that is made for the cycle is a candidate
 -- execution of it, the text of the execution is read, with the threads and places of that test, as the execution.
 pub read_again : (a : Puts) (w : Writing) (name : List ℕ) (es : List Edge) (moved : Option ℕ) (number : ℕ → ℕ) (test : TestRead) (run : Execution)
@@ -86,7 +81,7 @@ read_again a w name es moved number test run laws back cells one code named read
     let lists : ℕ → List (ℕ × Option WriteAt) = λ thread. map (event_read es) (reads_in es thread) in
     let orders : ℕ → List WriteAt = λ place. order_of es moved (location_numbered es number place) in
     let threads : external_count es ≡ length test.threads =
-    sym (length-map-upto lists (external_count es)) ∙ ap (λ (x : Execution). length x.reads) (sym is) ∙ thread_lists test run candidate in
+    sym (length-map-upto lists (external_count es)) ∙ ap (λ (x : Execution). length x.reads) (sym is) ∙ candidate_count test run candidate in
     let many : length test.places ≡ move_count es =
     sym candidate.execution.write_lists ∙ ap (λ (x : Execution). length x.orders) is ∙ length-map-upto orders (move_count es) in
     let readable_test = readable a a.name w name es Avoid laws back cells one named code in

@@ -2,7 +2,7 @@
 use Rattle.std.proofs.Common.{◌+◌, ap, sym, ◌∙◌}
 use Rattle.std.specs.List.{list_any}
 use Rattle.std.proofs.lemmas.Option.{slice_get-get_or}
-use Rattle.exec_meaning.proofs.Candidates.{distinct_step, distinct_stops, distinct_ends, after_is}
+use Rattle.exec_meaning.proofs.Loops.{distinct_step, distinct_stops, distinct_ends, after_is}
 use Rattle.exec_meaning.proofs.candidate.are_distinct.Goals as goal
 
 pub returns-then-occurs_in : goal.returns-then-occurs_in

@@ -1,7 +1,7 @@
 -- In the loop over the threads: the answer is that for the threads that are left.
 use Rattle.std.proofs.Common.{◌≡◌, drop}
-use Rattle.exec_meaning.specs.Deciding.{every, thread_coheres}
+use Rattle.program_meaning.specs.Deciding.{every, thread_coheres, coheres}
 use Rattle.exec_meaning.proofs.coherent.threads_cohere.Given as goal
 
 abbrev pub invariant-loop-thread : goal.invariant-loop-thread
-invariant-loop-thread l = every (thread_coheres l.all l.exec) 0 l.all ≡ every (thread_coheres l.all l.exec) l.thread (drop l.thread l.all)
+invariant-loop-thread l = coheres l.all l.exec ≡ every (thread_coheres l.all l.exec) l.thread (drop l.thread l.all)

@@ -1,14 +1,16 @@
--- The tests that decide executions, computed. Laws in proofs/ say that each decides its definition in
--- `program_meaning`.
+-- The tests that decide executions, computed: whether one is a candidate, and whether one is coherent. Laws in proofs/ say that
+-- each test passes exactly where its definition holds.
 -- Source: own.
-use Rattle.std.specs.Prelude.{ℕ, ◌+◌, ◌==◌, ◌&&◌, ◌||◌, Bool, true, false, not, cond, nat_le, nat_lt, List, [], ◌∷◌, Option, Some, None, slice_get, unwrap_or}
+use Rattle.std.specs.Prelude.{ℕ, ◌+◌, ◌==◌, ◌&&◌, ◌||◌, Bool, true, false, not, cond, nat_le, nat_lt, List, [], ◌∷◌, length, Option, Some, None, slice_get, unwrap_or}
 use Rattle.std.specs.List.{list_all, list_any}
 use Rattle.relax_edges.specs.declared.kinds.Dir.{Dir}
 use Rattle.relax_edges.specs.declared.kinds.Dir.TheVariants as dirs
+use Rattle.micro_ops.specs.Running.{Outcome, Ended, ReadsLeft, ReadsShort, NoRule}
 use Rattle.program_meaning.specs.declared.WriteAt.{WriteAt}
 use Rattle.program_meaning.specs.Accesses.{Access, is_read, at_name}
 use Rattle.program_meaning.specs.Executions.{Execution, same_write}
 use Rattle.program_meaning.specs.Coherence.{coherence_place}
+use Rattle.program_meaning.specs.Programs.{Program, runs_of, accesses_in}
 
 -- each element passes with its number, counted from this one
 abbrev pub every : {X : Type 0} → (ℕ → X → Bool) → ℕ → List X → Bool
@@ -93,6 +95,10 @@ agrees_later threads x thread accesses e a =
 abbrev pub thread_coheres : List (List Access) → Execution → ℕ → List Access → Bool
 thread_coheres threads x thread accesses = every (agrees_later threads x thread accesses) 0 accesses
 
+-- program order in each thread agrees with the coherence order: an execution is coherent per location
+abbrev pub coheres : List (List Access) → Execution → Bool
+coheres threads x = every (thread_coheres threads x) 0 threads
+
 -- the reads that an execution gives a thread
 abbrev pub reads_of : Execution → ℕ → List (ℕ × Option WriteAt)
 reads_of x thread = unwrap_or (slice_get x.reads thread) []
@@ -104,3 +110,25 @@ reads_fit threads x = every (λ thread accesses. are_reads threads accesses (rea
 -- the order of each place holds its writes, each once, and nothing else
 abbrev pub orders_fit : List (List Access) → Execution → Bool
 orders_fit threads x = every (is_order threads) 0 x.orders
+
+-- reads and orders are those of threads that make these accesses
+abbrev pub lists_fit : List (List Access) → Execution → Bool
+lists_fit threads x = reads_fit threads x && orders_fit threads x
+
+-- a run came to its end
+abbrev pub has_ended : Outcome → Bool
+has_ended (Ended _ _) = true
+has_ended ReadsLeft = false
+has_ended ReadsShort = false
+has_ended NoRule = false
+
+-- all runs came to their ends
+abbrev pub all_ended : List Outcome → Bool
+all_ended [] = true
+all_ended (run ∷ runs) = has_ended run && all_ended runs
+
+-- an execution is a candidate of a program
+abbrev pub is_candidate : Program → Execution → Bool
+is_candidate p x =
+    all_ended (runs_of p.threads x.reads) &&
+    ((length x.reads == length p.threads) && ((length x.orders == p.places) && lists_fit (accesses_in p x) x))

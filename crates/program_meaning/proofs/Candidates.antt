@@ -1,19 +1,20 @@
--- The tests of reads and orders decide their definitions.
-use Rattle.std.proofs.Common.{◌≡◌, ℕ, zero, suc, ◌+◌, ◌≤◌, Bool, true, false, cond, ◌==◌, ◌&&◌, ◌||◌, not, List, [], ◌∷◌, length, get_or, take, drop, ◌-◌, Option, Some, None, slice_get, refl, sym, ap, subst, ◌∙◌, arith}
+-- The tests of reads, of orders and of candidates decide their definitions.
+use Rattle.std.proofs.Common.{◌≡◌, ℕ, zero, suc, Bool, true, false, cond, ◌==◌, ◌&&◌, ◌||◌, not, List, [], ◌∷◌, length, get_or, Option, Some, None, slice_get, refl, sym, ap, subst, ◌∙◌, arith}
 use Rattle.std.specs.Prelude.{unwrap_or}
-use Rattle.std.proofs.lemmas.List.{drop_all, take_all, length-drop}
 use Rattle.std.proofs.lemmas.Option.{slice_get_within, slice_get-get_or, same_Some}
 use Rattle.std.specs.List.{filter, list_all, list_any}
 use Rattle.std.proofs.lemmas.Bool.{and_parts, and_from, or_left, or_right, eqb-true, eq-eqb}
-use Rattle.list_laws.proofs.Elements.{drop_given}
 use Rattle.list_laws.proofs.Cases.{by_test, implied}
 use Rattle.relax_edges.specs.declared.kinds.Dir.{Dir}
 use Rattle.relax_edges.specs.declared.kinds.Dir.TheVariants as dirs
 use Rattle.program_meaning.specs.declared.WriteAt.{WriteAt}
 use Rattle.program_meaning.specs.Accesses.{Access, write, is_read, at_name}
 use Rattle.program_meaning.specs.Executions.{Execution, CanRead, AreReadsOf, IsOrderOf, IsExecutionOf, same_write}
-use Rattle.exec_meaning.specs.Deciding.{every, writes_by, writes_to, writes_there, writes_value, can_read, first_read, are_reads, are_distinct, is_covered, thread_covered, is_order, reads_of, reads_fit, orders_fit}
-use Rattle.exec_meaning.proofs.Every.{every_means, every_from, every_name, every_name_from}
+use Rattle.program_meaning.specs.Programs.{Program, IsCandidate, runs_of, accesses_in}
+use Rattle.program_meaning.specs.Deciding.{every, writes_by, writes_to, writes_there, writes_value, can_read, first_read, are_reads, are_distinct, is_covered, thread_covered, is_order, reads_of, reads_fit, orders_fit, lists_fit, all_ended, is_candidate}
+use Rattle.program_meaning.proofs.Names.{same_write-refl, same_write-true}
+use Rattle.program_meaning.proofs.Every.{every_means, every_from, every_name, every_name_from}
+use Rattle.program_meaning.proofs.Runs.{accesses-count, all_ended_means, all_ended_from}
 
 -- an implication that holds passes its test
 pub implies : (a b : Bool) → (a ≡ true → b ≡ true) → (not a || b) ≡ true
@@ -90,27 +91,16 @@ are_reads_from threads (a ∷ accesses) reads h = by_test (is_read a)
     (λ e. rw e (first_from threads a (are_reads threads accesses) (filter is_read accesses) (are_reads_from threads accesses) reads (subst (λ b. AreReadsOf threads (cond b (a ∷ filter is_read accesses) (filter is_read accesses)) reads) e h)))
     (λ e. rw e (are_reads_from threads accesses reads (subst (λ b. AreReadsOf threads (cond b (a ∷ filter is_read accesses) (filter is_read accesses)) reads) e h)))
 
--- writes that pass the test have one name
-pub same_means : (w v : WriteAt) → same_write w v ≡ true → w ≡ v
-same_means w v h =
-    let p = and_parts (w.thread == v.thread) (w.access == v.access) h in
-    let t = eqb-true w.thread v.thread p.0 in let a = eqb-true w.access v.access p.1 in
-    λ i. record { thread = t i; access = a i }
-
--- a write has the name of itself
-pub same_itself : (w : WriteAt) → same_write w w ≡ true
-same_itself w = and_from (w.thread == w.thread) (w.access == w.access) (eq-eqb w.thread w.thread refl) (eq-eqb w.access w.access refl)
-
 any_means : (w : WriteAt) (order : List WriteAt) → list_any (same_write w) order ≡ true → (k : ℕ) × (slice_get order k ≡ Some w)
 any_means w [] h = cc h
 any_means w (v ∷ order) h = by_test (same_write w v)
-    (λ e. (zero, ap Some (sym (same_means w v e))))
+    (λ e. (zero, ap Some (sym (same_write-true w v e))))
     (λ e. let later = any_means w order (sym (rw e refl) ∙ h) in (suc later.0, later.1))
 
 any_from : (w : WriteAt) (order : List WriteAt) (k : ℕ) → slice_get order k ≡ Some w → list_any (same_write w) order ≡ true
 any_from w [] k h = cc h
 any_from w (v ∷ order) zero h = let e : v ≡ w = same_Some v w h in
-    or_left (same_write w v) (list_any (same_write w) order) (subst (λ u. same_write w u ≡ true) (sym e) (same_itself w))
+    or_left (same_write w v) (list_any (same_write w) order) (subst (λ u. same_write w u ≡ true) (sym e) (same_write-refl w))
 any_from w (v ∷ order) (suc k) h = or_right (same_write w v) (list_any (same_write w) order) (any_from w order k h)
 
 -- in an order no write is listed twice
@@ -176,7 +166,7 @@ is_order_from threads place order h =
     (λ t. let d = h.each w a.value (e ∙ ap Some (writes_to_means place a t)) in any_from w order d.0 d.1))))
 
 -- reads and orders that fit the accesses of threads make an execution of these
-pub execution_means : (threads : List (List Access)) (x : Execution) → length x.reads ≡ length threads → reads_fit threads x && orders_fit threads x ≡ true → IsExecutionOf threads (length x.orders) x
+pub execution_means : (threads : List (List Access)) (x : Execution) → length x.reads ≡ length threads → lists_fit threads x ≡ true → IsExecutionOf threads (length x.orders) x
 execution_means threads x n h =
     let p = and_parts (reads_fit threads x) (orders_fit threads x) h in
     record {
@@ -189,7 +179,7 @@ execution_means threads x n h =
     }
 
 -- the reads and orders of an execution fit the accesses of its threads
-pub execution_from : (threads : List (List Access)) (x : Execution) → length x.reads ≡ length threads → IsExecutionOf threads (length x.orders) x → reads_fit threads x && orders_fit threads x ≡ true
+pub execution_from : (threads : List (List Access)) (x : Execution) → length x.reads ≡ length threads → IsExecutionOf threads (length x.orders) x → lists_fit threads x ≡ true
 execution_from threads x n h = and_from (reads_fit threads x) (orders_fit threads x)
     (every_from (λ thread accesses. are_reads threads accesses (reads_of x thread)) 0 threads (λ k thread accesses q e.
     let s : k ≡ thread = omega (arith, q) in
@@ -200,21 +190,34 @@ execution_from threads x n h = and_from (reads_fit threads x) (orders_fit thread
     let s : k ≡ place = omega (arith, q) in
     is_order_from threads place order (h.orders place order (subst (λ m. slice_get x.orders m ≡ Some order) s e))))
 
--- in the loop over an order, a write that isn't listed again leaves the answer to those after it
-pub distinct_step : (order : List WriteAt) (i : ℕ) (w : WriteAt) → slice_get order i ≡ Some w → list_any (same_write w) (drop (i + 1) order) ≡ false → are_distinct (drop i order) ≡ are_distinct (drop (i + 1) order)
-unfolding are_distinct
-distinct_step order i w is h = rw (drop_given order i w is) (rw h refl)
+-- an execution that passes the test is a candidate
+pub candidate_means : (p : Program) (x : Execution) → is_candidate p x ≡ true → IsCandidate p x
+candidate_means p x h =
+    let a = and_parts (all_ended (runs_of p.threads x.reads)) (counts && (places && lists_fit (accesses_in p x) x)) h in
+    let b = and_parts counts (places && lists_fit (accesses_in p x) x) a.1 in
+    let c = and_parts places (lists_fit (accesses_in p x) x) b.1 in
+    let n : length x.reads ≡ length (accesses_in p x) = eqb-true (length x.reads) (length p.threads) b.0 ∙ sym (accesses-count p x) in
+    record {
+      ended = all_ended_means (runs_of p.threads x.reads) a.0;
+      execution = subst (λ m. IsExecutionOf (accesses_in p x) m x) (eqb-true (length x.orders) p.places c.0) (execution_means (accesses_in p x) x n c.1);
+    }
+  where
+    counts : Bool
+    counts = length x.reads == length p.threads
 
--- in the loop over an order, a write that is listed again decides that the writes aren't distinct
-pub distinct_stops : (order : List WriteAt) (i : ℕ) (w : WriteAt) → slice_get order i ≡ Some w → list_any (same_write w) (drop (i + 1) order) ≡ true → are_distinct (drop i order) ≡ false
-unfolding are_distinct
-distinct_stops order i w is h = rw (drop_given order i w is) (rw h refl)
+    places : Bool
+    places = length x.orders == p.places
 
--- at the end of an order the writes that are left are distinct
-pub distinct_ends : (order : List WriteAt) (i : ℕ) → length order ≤ i → are_distinct (drop i order) ≡ true
-unfolding are_distinct
-distinct_ends order i h = rw (drop_all i order h) refl
+-- a candidate passes the test
+pub candidate_from : (p : Program) (x : Execution) → IsCandidate p x → is_candidate p x ≡ true
+candidate_from p x h =
+    and_from (all_ended (runs_of p.threads x.reads)) (counts && (places && lists_fit (accesses_in p x) x)) (all_ended_from (runs_of p.threads x.reads) h.ended)
+    (and_from counts (places && lists_fit (accesses_in p x) x) (eq-eqb (length x.reads) (length p.threads) (h.execution.read_lists ∙ accesses-count p x))
+    (and_from places (lists_fit (accesses_in p x) x) (eq-eqb (length x.orders) p.places h.execution.write_lists)
+    (execution_from (accesses_in p x) x h.execution.read_lists (subst (λ m. IsExecutionOf (accesses_in p x) m x) (sym h.execution.write_lists) h.execution))))
+  where
+    counts : Bool
+    counts = length x.reads == length p.threads
 
--- what comes after a place of an order, as a slice
-pub after_is : (order : List WriteAt) (k : ℕ) → take (length order - k) (drop k order) ≡ drop k order
-after_is order k = take_all (length order - k) (drop k order) (omega (arith, length-drop k order))
+    places : Bool
+    places = length x.orders == p.places

@@ -1,0 +1,5 @@
+pub mod Names
+pub mod Every
+pub mod Runs
+pub mod Candidates
+pub mod CoherenceLaws
