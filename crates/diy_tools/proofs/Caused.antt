@@ -22,8 +22,10 @@ use Rattle.diy_io.specs.Taken.{SourceSeen}
 use Rattle.diy_io.specs.Wrote.{SinkSeen, WroteAll, WrotePart}
 use Rattle.diy_words.specs.declared.usage.Usage.{Usage}
 use Rattle.diy_words.specs.declared.usage.UsageKind.TheVariants.{UnknownName}
-use Rattle.diy_words.specs.Requests.{Asked, TestAsked, WhyAsked, ListAsked, Sought, asked_of}
-use Rattle.diy_words.specs.Requests.{AsksTest, AsksWhy, AsksName, AsksList, AsksFamilies, AsksSum, AsksCross, AsksDemo, AsksCheck, OfEdges, OfName, OfLines, CrossAsked, DemoAsked, CheckAsked}
+use Rattle.diy_words.specs.Requests.{Task, TestTask, WhyTask, ListTask, Sought, asked_of}
+use Rattle.diy_words.specs.Requests.{AsksTest, AsksWhy, AsksName, AsksList, AsksFamilies, AsksSum, AsksCross, AsksDemo, AsksCheck, OfEdges, OfName, OfLines, CrossTask}
+use Rattle.diy_words.specs.declared.request.Demo.{Demo}
+use Rattle.diy_words.specs.declared.request.Check.{Check}
 use Rattle.listed_tests.specs.declared.ending.ListingEnd.{ListingEnd}
 use Rattle.listed_tests.specs.declared.ending.ListingEnd.TheVariants as listings
 use Rattle.listed_tests.specs.Ends.{StopsAtTest, StopsAtAll}
@@ -78,31 +80,31 @@ either_failed listed folder text given old new (inl stop) = stop.part.faulted.fa
 either_failed listed folder text given old new (inr stop) = stop.part.faulted.fault
 
 -- a listing that ends with a failure of the shelf has raised its count of faults
-pub listing_failed : (asked : ListAsked) (old new : ShelfSeen) (out after : SinkSeen)
+pub listing_failed : (asked : ListTask) (old new : ShelfSeen) (out after : SinkSeen)
     → EndsAsked asked listings.ShelfFault old new out after → Rose old.faults new.faults
 listing_failed asked old new out after h =
     either_failed (IsPlanned (plan_asked asked)) (plan_asked asked).folder (planned_text (plan_asked asked)) h.given old new h.ends.1
 
 -- the shelf failed where the tests of choices were written
-pub crossing_failed : (asked : CrossAsked) (old new : ShelfSeen) (out after : SinkSeen)
+pub crossing_failed : (asked : CrossTask) (old new : ShelfSeen) (out after : SinkSeen)
     → EndsCrossed asked listings.ShelfFault old new out after → Rose old.faults new.faults
 crossing_failed asked old new out after h = h.1.part.faulted.fault
 
 -- what norm7 is asked for
-abbrev named : ArchName → Sought → Result Asked Usage
+abbrev named : ArchName → Sought → Result Task Usage
 named arch cycle = Ok (AsksName (record { arch = arch; cycle = cycle }))
 
 -- what classify7 is asked for
-abbrev pub of_files : ArchName → List ℕ → Result Asked Usage
+abbrev pub of_files : ArchName → List ℕ → Result Task Usage
 of_files arch files = Ok (AsksFamilies (record { arch = arch; files = files }))
 
 module _ (old new : Devices) where
   -- what holds of a status holds of one that is equal to it
-  of_status : (words : List (List ℕ)) (asked : Result Asked Usage) (status other : Status) → status ≡ other
+  of_status : (words : List (List ℕ)) (asked : Result Task Usage) (status other : Status) → status ≡ other
       → CausesAsked words asked other old new → CausesAsked words asked status old new
   of_status words asked status other e h = subst (λ (s : Status). CausesAsked words asked s old new) (sym e) h
 
-  test_caused : (words : List (List ℕ)) (asked : TestAsked) (refused : Option Refusal) (status : Status) → test_refused asked ≡ refused
+  test_caused : (words : List (List ℕ)) (asked : TestTask) (refused : Option Refusal) (status : Status) → test_refused asked ≡ refused
       → new.input ≡ old.input → new.shelf ≡ old.shelf
       → AnswersEdges refused (asked_text asked) status old.out new.out → CausesAsked words (Ok (AsksTest asked)) status old new
   test_caused words asked (Some refusal) status e input shelf h =
@@ -113,7 +115,7 @@ module _ (old new : Devices) where
       (λ wrote. (wrote.fault, (e, record { input = input; shelf = shelf; out = wrote })))
 
   -- two executions are written, as far as the devices take them
-  runs_caused : (words : List (List ℕ)) (asked : WhyAsked) (status : Status) → unshown asked ≡ None → new.input ≡ old.input
+  runs_caused : (words : List (List ℕ)) (asked : WhyTask) (status : Status) → unshown asked ≡ None → new.input ≡ old.input
       → WritesRuns (machine_of asked.arch) asked.folder (test_name asked.name asked.edges) asked.edges status old.shelf new.shelf old.out new.out
       → CausesAsked words (Ok (AsksWhy asked)) status old new
   runs_caused words asked statuses.Done none input h = (none, record { input = input; both = h })
@@ -121,7 +123,7 @@ module _ (old new : Devices) where
   runs_caused words asked (statuses.WriteFault Shelf) none input h = (h.written.0.part.faulted.fault, (none, record { input = input; both = h }))
   runs_caused words asked status none input h = absurd h.written
 
-  why_caused : (words : List (List ℕ)) (asked : WhyAsked) (refused : Option Refusal) (status : Status) → unshown asked ≡ refused → new.input ≡ old.input
+  why_caused : (words : List (List ℕ)) (asked : WhyTask) (refused : Option Refusal) (status : Status) → unshown asked ≡ refused → new.input ≡ old.input
       → AnswersRuns (machine_of asked.arch) asked.folder (test_name asked.name asked.edges) refused asked.edges status old.shelf new.shelf old.out new.out
       → CausesAsked words (Ok (AsksWhy asked)) status old new
   why_caused words asked (Some refusal) status e input h =
@@ -169,7 +171,7 @@ module _ (old new : Devices) where
   sought_caused words arch (OfName at name) status shelf h = name_caused words arch at name status h.0 shelf h.1
   sought_caused words arch OfLines status shelf h = lines_caused words arch h.result status shelf h.status_is h.norms
 
-  list_caused : (words : List (List ℕ)) (asked : ListAsked) (end : ListingEnd) (status : Status) → new.input ≡ old.input → status ≡ listing_status end
+  list_caused : (words : List (List ℕ)) (asked : ListTask) (end : ListingEnd) (status : Status) → new.input ≡ old.input → status ≡ listing_status end
       → EndsAsked asked end old.shelf new.shelf old.out new.out → CausesAsked words (Ok (AsksList asked)) status old new
   list_caused words asked listings.Done status input e h = of_status words (Ok (AsksList asked)) status statuses.Done e (record { input = input; both = h })
   list_caused words asked listings.OutFault status input e h =
@@ -178,7 +180,7 @@ module _ (old new : Devices) where
       of_status words (Ok (AsksList asked)) status (statuses.WriteFault Shelf) e
       (listing_failed asked old.shelf new.shelf old.out new.out h, record { input = input; both = h })
 
-  crossed_caused : (words : List (List ℕ)) (asked : CrossAsked) (end : ListingEnd) (status : Status) → new.input ≡ old.input → status ≡ listing_status end
+  crossed_caused : (words : List (List ℕ)) (asked : CrossTask) (end : ListingEnd) (status : Status) → new.input ≡ old.input → status ≡ listing_status end
       → EndsCrossed asked end old.shelf new.shelf old.out new.out → CausesAsked words (Ok (AsksCross asked)) status old new
   crossed_caused words asked listings.Done status input e h =
       of_status words (Ok (AsksCross asked)) status statuses.Done e (record { input = input; both = h })
@@ -188,13 +190,13 @@ module _ (old new : Devices) where
       of_status words (Ok (AsksCross asked)) status (statuses.WriteFault Shelf) e
       (crossing_failed asked old.shelf new.shelf old.out new.out h, record { input = input; both = h })
 
-  cross_caused : (words : List (List ℕ)) (asked : CrossAsked) (status : Status) → new.input ≡ old.input
+  cross_caused : (words : List (List ℕ)) (asked : CrossTask) (status : Status) → new.input ≡ old.input
       → AnswersCross asked status old.shelf new.shelf old.out new.out → CausesAsked words (Ok (AsksCross asked)) status old new
   cross_caused words asked status input (inl none) =
       of_status words (Ok (AsksCross asked)) status statuses.NoMemory none.0 (tt, record { out = none.2; files = ap (λ (s : ShelfSeen). s.files) none.1 })
   cross_caused words asked status input (inr made) = crossed_caused words asked made.end status input made.status_is made.ends
 
-  demo_caused : (words : List (List ℕ)) (asked : DemoAsked) (status : Status) → new.input ≡ old.input → new.shelf ≡ old.shelf
+  demo_caused : (words : List (List ℕ)) (asked : Demo) (status : Status) → new.input ≡ old.input → new.shelf ≡ old.shelf
       → Prints (demo_asked asked) status old.out new.out → CausesAsked words (Ok (AsksDemo asked)) status old new
   demo_caused words asked status input shelf h =
       by_print (λ s. CausesAsked words (Ok (AsksDemo asked)) s old new) (demo_asked asked) status old.out new.out h
@@ -243,7 +245,7 @@ module _ (old new : Devices) where
   classify_caused words arch (file ∷ files) status h = named_caused words arch file files h.end status h.status_is h.ends
 
   -- mcheck7
-  check_caused : (words : List (List ℕ)) (asked : CheckAsked) (end : CheckEnd) (status : Status) → status ≡ check_status end
+  check_caused : (words : List (List ℕ)) (asked : Check) (end : CheckEnd) (status : Status) → status ≡ check_status end
       → EndsCheck words asked end old new → CausesAsked words (Ok (AsksCheck asked)) status old new
   check_caused words asked checking.Done status e h = of_status words (Ok (AsksCheck asked)) status statuses.Done e h
   check_caused words asked checking.OutFault status e h =
@@ -317,7 +319,7 @@ module _ (old new : Devices) where
   sum_caused (tool ∷ []) end status e h = input_caused (tool ∷ []) end status e (λ ends. ends) h
   sum_caused (tool ∷ log ∷ logs) end status e h = files_caused tool log logs end status e h
 
-  asked_caused : (words : List (List ℕ)) (asked : Result Asked Usage) (status : Status)
+  asked_caused : (words : List (List ℕ)) (asked : Result Task Usage) (status : Status)
       → AnswersAsked words asked status old new → CausesAsked words asked status old new
   asked_caused words (Err usage) status h = of_status words (Err usage) status (statuses.Usage usage.word usage.kind) h.0 ((refl, refl), h.1)
   asked_caused words (Ok (AsksTest asked)) status h = test_caused words asked (test_refused asked) status refl h.input h.shelf h.out

@@ -10,7 +10,7 @@ use Rattle.diy_words.specs.declared.request.Request.TheVariants as requests
 use Rattle.diy_words.specs.declared.usage.Usage.{Usage}
 use Rattle.diy_words.specs.Given.{Gives}
 use Rattle.diy_words.specs.GivenLaws.{gives_classifying}
-use Rattle.diy_words.specs.Requests.{Asked, AsksFamilies, asked_of, files_of, IsClassifying}
+use Rattle.diy_words.specs.Requests.{Task, AsksFamilies, asked_of, files_of, IsClassifying}
 use Rattle.diy_tools.specs.declared.status.Status.{Status}
 use Rattle.diy_tools.specs.declared.status.Status.TheVariants.{NoMemory}
 use Rattle.diy_tools.specs.Answers.{Answers, AnswersAsked}
@@ -27,7 +27,7 @@ classify_asked : (words : List (List ℕ)) (arch : ArchName) (files : List ℕ) 
     → files ≡ files_of (asked_of words) → AnswersClassify words arch files status (devices old) (devices new) → Answers words status old new
 classify_asked words arch files status old new given same h = of_asked (asked_of words) given same
   where
-    of_asked : (asked : Result Asked Usage) → Gives (Ok (requests.Families arch)) asked → files ≡ files_of asked
+    of_asked : (asked : Result Task Usage) → Gives (Ok (requests.Families arch)) asked → files ≡ files_of asked
         → AnswersAsked words asked status (devices old) (devices new)
     of_asked (Ok (AsksFamilies asked)) g e =
         subst (λ (fs : List ℕ). AnswersClassify words asked.arch fs status (devices old) (devices new)) e

@@ -36,8 +36,10 @@ use Rattle.diy_io.specs.Shelf.{Files, ShelfSeen}
 use Rattle.diy_io.specs.Taken.{SourceSeen}
 use Rattle.diy_io.specs.Wrote.{SinkSeen}
 use Rattle.diy_words.specs.declared.usage.Usage.{Usage}
-use Rattle.diy_words.specs.Requests.{Asked, ListAsked, Sought, asked_of}
-use Rattle.diy_words.specs.Requests.{AsksTest, AsksWhy, WhyAsked, AsksName, AsksList, AsksFamilies, AsksSum, AsksCross, AsksDemo, AsksCheck, OfEdges, OfName, OfLines, CrossAsked, DemoAsked, CheckAsked}
+use Rattle.diy_words.specs.Requests.{Task, ListTask, Sought, asked_of}
+use Rattle.diy_words.specs.Requests.{AsksTest, AsksWhy, WhyTask, AsksName, AsksList, AsksFamilies, AsksSum, AsksCross, AsksDemo, AsksCheck, OfEdges, OfName, OfLines, CrossTask}
+use Rattle.diy_words.specs.declared.request.Demo.{Demo}
+use Rattle.diy_words.specs.declared.request.Check.{Check}
 use Rattle.listed_tests.specs.declared.ending.ListingEnd.{ListingEnd}
 use Rattle.listed_tests.specs.declared.ending.ListingEnd.TheVariants as listings
 use Rattle.log_sum.specs.declared.errors.LogError.{LogError}
@@ -110,24 +112,24 @@ sound_stop arch old new cycles (lines.TooMuch line) sound none h = sound_limit a
 sound_stop arch old new cycles lines.InputFault sound none h = none h.fault
 
 -- a text is printed whole where standard output doesn't fail
-prints_done : (asked : Result Asked Usage) (text : List ℕ) (status : Status) (before after : SinkSeen) → (Rose before.faults after.faults → ⊥)
+prints_done : (asked : Result Task Usage) (text : List ℕ) (status : Status) (before after : SinkSeen) → (Rose before.faults after.faults → ⊥)
     → Prints text status before after → IsDone asked status
 prints_done asked text status before after none h =
     by_print (IsDone asked) text status before after h (λ wrote. inl refl) (λ wrote. absurd (none wrote.fault))
 
-edges_done : (asked : Result Asked Usage) (refused : Option Refusal) (text : List ℕ) (status : Status) (before after : SinkSeen)
+edges_done : (asked : Result Task Usage) (refused : Option Refusal) (text : List ℕ) (status : Status) (before after : SinkSeen)
     → (Rose before.faults after.faults → ⊥) → refused ≡ None → AnswersEdges refused text status before after → IsDone asked status
 edges_done asked None text status before after none e h = prints_done asked text status before after none h
 edges_done asked (Some refusal) text status before after none e h = cc e
 
-lines_done : (asked : Result Asked Usage) (arch : ArchName) (status : Status) (old new : Devices) (result : Result (Unit {0}) NormError) → NoFaults old new
+lines_done : (asked : Result Task Usage) (arch : ArchName) (status : Status) (old new : Devices) (result : Result (Unit {0}) NormError) → NoFaults old new
     → OfItsText old.input.left (IsSoundText arch) → status ≡ norm_status result → Norms arch old.input new.input old.out new.out result → IsDone asked status
 lines_done asked arch status old new (Ok x) none sound e h = inl e
 lines_done asked arch status old new (Err norms.OutFault) none sound e h = absurd (none.out h.wrote.fault)
 lines_done asked arch status old new (Err (norms.Lines error)) none sound e h =
     absurd (sound_stop arch old.input new.input h.cycles error sound none.input h.read)
 
-sought_done : (asked : Result Asked Usage) (arch : ArchName) (cycle : Sought) (status : Status) (old new : Devices) → NoFaults old new
+sought_done : (asked : Result Task Usage) (arch : ArchName) (cycle : Sought) (status : Status) (old new : Devices) → NoFaults old new
     → CanName arch cycle old → AnswersSought arch cycle status old.input new.input old.out new.out → IsDone asked status
 sought_done asked arch (OfEdges edges) status old new none can h =
     edges_done asked (refused_list arch edges) (name_line edges) status old.out new.out none.out can h.1
@@ -138,39 +140,39 @@ sought_done asked arch (OfName at name) status old new none can h = of_name h.1
     of_name (inr found) = prints_done asked (name_line found.cycle) status old.out new.out none.out found.prints
 sought_done asked arch OfLines status old new none can h = lines_done asked arch status old new h.result none can h.status_is h.norms
 
-list_done : (asked : ListAsked) (end : ListingEnd) (status : Status) (old new : Devices) → NoFaults old new → status ≡ listing_status end
+list_done : (asked : ListTask) (end : ListingEnd) (status : Status) (old new : Devices) → NoFaults old new → status ≡ listing_status end
     → EndsAsked asked end old.shelf new.shelf old.out new.out → IsDone (Ok (AsksList asked)) status
 list_done asked listings.Done status old new none e h = inl e
 list_done asked listings.OutFault status old new none e h = absurd (none.out h.ends.line.fault)
 list_done asked listings.ShelfFault status old new none e h = absurd (none.shelf (listing_failed asked old.shelf new.shelf old.out new.out h))
 
-crossed_done : (asked : CrossAsked) (end : ListingEnd) (status : Status) (old new : Devices) → NoFaults old new → status ≡ listing_status end
+crossed_done : (asked : CrossTask) (end : ListingEnd) (status : Status) (old new : Devices) → NoFaults old new → status ≡ listing_status end
     → EndsCrossed asked end old.shelf new.shelf old.out new.out → IsDone (Ok (AsksCross asked)) status
 crossed_done asked listings.Done status old new none e h = inl e
 crossed_done asked listings.OutFault status old new none e h = absurd (none.out h.1.fault)
 crossed_done asked listings.ShelfFault status old new none e h = absurd (none.shelf (crossing_failed asked old.shelf new.shelf old.out new.out h))
 
 -- two executions are written where nothing fails
-runs_done : (asked : WhyAsked) (status : Status) (old new : Devices) → NoFaults old new
+runs_done : (asked : WhyTask) (status : Status) (old new : Devices) → NoFaults old new
     → WritesRuns (machine_of asked.arch) asked.folder (test_name asked.name asked.edges) asked.edges status old.shelf new.shelf old.out new.out → IsDone (Ok (AsksWhy asked)) status
 runs_done asked statuses.Done old new none h = inl refl
 runs_done asked (statuses.WriteFault Out) old new none h = absurd (none.out h.written.1.fault)
 runs_done asked (statuses.WriteFault Shelf) old new none h = absurd (none.shelf h.written.0.part.faulted.fault)
 runs_done asked status old new none h = absurd h.written
 
-why_done : (asked : WhyAsked) (refused : Option Refusal) (status : Status) (old new : Devices) → NoFaults old new → refused ≡ None
+why_done : (asked : WhyTask) (refused : Option Refusal) (status : Status) (old new : Devices) → NoFaults old new → refused ≡ None
     → AnswersRuns (machine_of asked.arch) asked.folder (test_name asked.name asked.edges) refused asked.edges status old.shelf new.shelf old.out new.out
     → IsDone (Ok (AsksWhy asked)) status
 why_done asked (Some refusal) status old new none e h = cc e
 why_done asked None status old new none e (inl wants) = inr (wants.0, tt)
 why_done asked None status old new none e (inr h) = runs_done asked status old new none h
 
-cross_done : (asked : CrossAsked) (status : Status) (old new : Devices) → NoFaults old new
+cross_done : (asked : CrossTask) (status : Status) (old new : Devices) → NoFaults old new
     → AnswersCross asked status old.shelf new.shelf old.out new.out → IsDone (Ok (AsksCross asked)) status
 cross_done asked status old new none (inl wants) = inr (wants.0, tt)
 cross_done asked status old new none (inr made) = crossed_done asked made.end status old new none made.status_is made.ends
 
-demo_done : (asked : DemoAsked) (status : Status) (before after : SinkSeen) → (Rose before.faults after.faults → ⊥)
+demo_done : (asked : Demo) (status : Status) (before after : SinkSeen) → (Rose before.faults after.faults → ⊥)
     → Prints (demo_asked asked) status before after → IsDone (Ok (AsksDemo asked)) status
 demo_done asked status before after none h =
     by_print (λ s. IsDone (Ok (AsksDemo asked)) s) (demo_asked asked) status before after h (λ wrote. inl refl) (λ wrote. absurd (none wrote.fault))
@@ -258,12 +260,12 @@ classify_done words arch (file ∷ files) status old new none can h =
     named_done words arch (file ∷ files) status old.shelf new.shelf old.out new.out h.end old.shelf.files refl can none.shelf none.out h.status_is h.ends.both.classified
 
 -- mcheck7 checks right files
-check_ends : (asked : CheckAsked) (end : CheckEnd) (status : Status) → status ≡ check_status end → (end ≡ checking.Done) ⊎ (end ≡ checking.NoMemory)
+check_ends : (asked : Check) (end : CheckEnd) (status : Status) → status ≡ check_status end → (end ≡ checking.Done) ⊎ (end ≡ checking.NoMemory)
     → IsDone (Ok (AsksCheck asked)) status
 check_ends asked end status e (inl done) = inl (e ∙ ap check_status done)
 check_ends asked end status e (inr none) = inr (e ∙ ap check_status none, tt)
 
-check_done : (words : List (List ℕ)) (asked : CheckAsked) (status : Status) (old new : ShelfSeen) (before after : SinkSeen) (end : CheckEnd)
+check_done : (words : List (List ℕ)) (asked : Check) (status : Status) (old new : ShelfSeen) (before after : SinkSeen) (end : CheckEnd)
     (shown : Option Files) → old.files ≡ shown
     → OfItsFiles shown (λ files. AreRightFiles files asked.arch (machine_of asked.arch).writing words asked.test asked.execution)
     → (Rose old.faults new.faults → ⊥) → (Rose before.faults after.faults → ⊥)
@@ -398,7 +400,7 @@ summed_done words status old new before after end None shown right none none_out
 summed_done words status old new before after end (Some files) shown right none none_out e h =
     files_done words files right status old new before after end shown none none_out e h
 
-asked_done : (words : List (List ℕ)) (asked : Result Asked Usage) (status : Status) (old new : Devices)
+asked_done : (words : List (List ℕ)) (asked : Result Task Usage) (status : Status) (old new : Devices)
     → AnswersAsked words asked status old new → CanBeDone words asked old → NoFaults old new → IsDone asked status
 asked_done words (Err usage) status old new h can none = absurd can
 asked_done words (Ok (AsksWhy asked)) status old new h can none = why_done asked (unshown asked) status old new none can h.both

@@ -11,7 +11,7 @@ use Rattle.diy_words.specs.declared.request.Cross.{Cross}
 use Rattle.diy_words.specs.declared.request.Request.TheVariants as requests
 use Rattle.diy_words.specs.declared.usage.Usage.{Usage}
 use Rattle.diy_words.specs.Given.{Gives}
-use Rattle.diy_words.specs.Requests.{Asked, AsksCross, IsCrossing, places_of}
+use Rattle.diy_words.specs.Requests.{Task, AsksCross, IsCrossing, places_of}
 use Rattle.listed_tests.specs.declared.ending.ListingEnd.{ListingEnd}
 use Rattle.listed_tests.specs.declared.ending.ListingEnd.TheVariants as ends
 use Rattle.listed_tests.specs.Given.{EndsGiven}
@@ -49,12 +49,12 @@ choices_on arch named mode folder places status old new before after same h =
     subst (λ (a : ArchName). AnswersChoices (machine_of a) mode folder places status old new before after) (sym same) h
 
 -- words that make such a request ask for choices
-pub asks_choices : (asked : Result Asked Usage) (request : Cross) → Gives (Ok (requests.Cross request)) asked → IsCrossing asked
+pub asks_choices : (asked : Result Task Usage) (request : Cross) → Gives (Ok (requests.Cross request)) asked → IsCrossing asked
 asks_choices (Ok (AsksCross asked)) request g = tt
 asks_choices asked request g = absurd g
 
 -- what is answered of the request is answered of them
-pub choices_answered : (asked : Result Asked Usage) (request : Cross) (places : List (List (List Edge))) (status : Status) (old new : ShelfSeen) (before after : SinkSeen)
+pub choices_answered : (asked : Result Task Usage) (request : Cross) (places : List (List (List Edge))) (status : Status) (old new : ShelfSeen) (before after : SinkSeen)
     → Gives (Ok (requests.Cross request)) asked → places ≡ places_of asked
     → AnswersChoices (machine_of request.arch) request.mode (option_map (λ folder. folder.now) request.folder) places status old new before after
     → AnswersCrossing asked status old new before after
@@ -66,7 +66,7 @@ choices_answered (Ok (AsksCross asked)) request places status old new before aft
 choices_answered asked request places status old new before after g e h = absurd g
 
 -- there is no memory, and nothing changed
-pub choices_unread : (asked : Result Asked Usage) (request : Cross) (shelf : ShelfSeen) (sink : SinkSeen)
+pub choices_unread : (asked : Result Task Usage) (request : Cross) (shelf : ShelfSeen) (sink : SinkSeen)
     → Gives (Ok (requests.Cross request)) asked → AnswersCrossing asked NoMemory shelf shelf sink sink
 choices_unread (Ok (AsksCross asked)) request shelf sink g = inl (refl, refl, refl)
 choices_unread asked request shelf sink g = absurd g

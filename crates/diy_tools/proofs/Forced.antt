@@ -36,7 +36,7 @@ use Rattle.litmus_text.specs.Printable as printable
 use Rattle.litmus_text.specs.Printable.{IsTestName}
 use Rattle.diy_words.specs.declared.usage.Usage.{Usage}
 use Rattle.diy_words.specs.Names.{is_name, is_name_byte}
-use Rattle.diy_words.specs.Requests.{Asked, TestAsked, ListAsked, AsksTest, AsksWhy, WhyAsked, AsksName, AsksList, AsksFamilies, AsksSum, AsksCross, AsksDemo, AsksCheck, CrossAsked, asked_of}
+use Rattle.diy_words.specs.Requests.{Task, TestTask, ListTask, AsksTest, AsksWhy, WhyTask, AsksName, AsksList, AsksFamilies, AsksSum, AsksCross, AsksDemo, AsksCheck, CrossTask, asked_of}
 use Rattle.cycle_names.specs.Names.{name_of}
 use Rattle.diy_words.proofs.RequestForm.{asked_form}
 use Rattle.test_maker.specs.declared.refusal.MakeRefusal.{MakeRefusal}
@@ -167,7 +167,7 @@ wanted_unrefused a mode threads accesses es h = of_none (refusal_of a es mode) (
 asked_force : (words : List (List ℕ)) (status : Status) (old new : Devices) → AnswersAsked words (asked_of words) status old new → HeadlineAsked (asked_of words) status old new
 asked_force words status old new h = of_asked (asked_of words) refl h
   where
-    of_test : (asked : TestAsked) → asked_of words ≡ Ok (AsksTest asked)
+    of_test : (asked : TestTask) → asked_of words ≡ Ok (AsksTest asked)
         → AnswersEdges (refused_of (machine_of asked.arch).puts asked.mode asked.edges) (asked_text asked) status old.out new.out
         → HeadlineAsked (Ok (AsksTest asked)) status old new
     of_test asked e h none =
@@ -179,7 +179,7 @@ asked_force words status old new h = of_asked (asked_of words) refl h
               (test_named_so asked.name asked.edges whole.is_cycle (asked_form words (AsksTest asked) e)) whole.is_cycle whole.unrefused;
         }
 
-    of_list : (asked : ListAsked) → AnswersList asked status old.shelf new.shelf old.out new.out → HeadlineAsked (Ok (AsksList asked)) status old new
+    of_list : (asked : ListTask) → AnswersList asked status old.shelf new.shelf old.out new.out → HeadlineAsked (Ok (AsksList asked)) status old new
     of_list asked h = record {
       lists = h;
       forces = λ cycle planned.
@@ -187,7 +187,7 @@ asked_force words status old new h = of_asked (asked_of words) refl h
           (wanted_unrefused (machine_of asked.arch).puts asked.mode asked.threads asked.accesses cycle planned.taken);
     }
 
-    of_cross : (asked : CrossAsked) → AnswersCross asked status old.shelf new.shelf old.out new.out → HeadlineAsked (Ok (AsksCross asked)) status old new
+    of_cross : (asked : CrossTask) → AnswersCross asked status old.shelf new.shelf old.out new.out → HeadlineAsked (Ok (AsksCross asked)) status old new
     of_cross asked h = record {
       crosses = h;
       forces = λ cycle kept.
@@ -195,7 +195,7 @@ asked_force words status old new h = of_asked (asked_of words) refl h
           text_forces asked.arch asked.mode (name_of cycle) cycle (cycle_named cycle has.cycle) has.cycle has.has_test;
     }
 
-    of_why : (asked : WhyAsked) → AnswersWhy asked status old.shelf new.shelf old.out new.out → HeadlineAsked (Ok (AsksWhy asked)) status old new
+    of_why : (asked : WhyTask) → AnswersWhy asked status old.shelf new.shelf old.out new.out → HeadlineAsked (Ok (AsksWhy asked)) status old new
     of_why asked h none = unrefused
         (subst (λ (refused : Option Refusal). AnswersRuns (machine_of asked.arch) asked.folder (test_name asked.name asked.edges) refused asked.edges status old.shelf new.shelf old.out new.out) none h)
       where
@@ -204,7 +204,7 @@ asked_force words status old new h = of_asked (asked_of words) refl h
         unrefused (inl wants) = inl wants.0
         unrefused (inr writes) = inr writes
 
-    of_asked : (asked : Result Asked Usage) → asked_of words ≡ asked → AnswersAsked words asked status old new → HeadlineAsked asked status old new
+    of_asked : (asked : Result Task Usage) → asked_of words ≡ asked → AnswersAsked words asked status old new → HeadlineAsked asked status old new
     of_asked (Err usage) e h = tt
     of_asked (Ok (AsksWhy asked)) e h = of_why asked h.both
     of_asked (Ok (AsksName asked)) e h = tt

@@ -24,8 +24,9 @@ use Rattle.diy_io.specs.Shelf.{ShelfSeen}
 use Rattle.diy_io.specs.Taken.{SourceSeen}
 use Rattle.diy_io.specs.Wrote.{SinkSeen}
 use Rattle.diy_words.specs.declared.usage.Usage.{Usage}
-use Rattle.diy_words.specs.Requests.{Asked, ListAsked, Sought, asked_of}
-use Rattle.diy_words.specs.Requests.{AsksTest, AsksWhy, WhyAsked, AsksName, AsksList, AsksFamilies, AsksSum, AsksCross, AsksDemo, AsksCheck, CrossAsked, CheckAsked, OfEdges, OfName, OfLines}
+use Rattle.diy_words.specs.Requests.{Task, ListTask, Sought, asked_of}
+use Rattle.diy_words.specs.Requests.{AsksTest, AsksWhy, WhyTask, AsksName, AsksList, AsksFamilies, AsksSum, AsksCross, AsksDemo, AsksCheck, CrossTask, OfEdges, OfName, OfLines}
+use Rattle.diy_words.specs.declared.request.Check.{Check}
 use Rattle.listed_tests.specs.declared.ending.ListingEnd.{ListingEnd}
 use Rattle.listed_tests.specs.declared.ending.ListingEnd.TheVariants as listings
 use Rattle.listed_tests.specs.Ends.{StopsAtTest, StopsAtAll}
@@ -80,7 +81,7 @@ either_opens : (listed : List Edge → Type 0) (folder : Option (List ℕ)) (tex
 either_opens listed folder text given old new (inl stop) = stop.part.counts.opened
 either_opens listed folder text given old new (inr stop) = stop.part.counts.opened
 
-listing_opens : (asked : ListAsked) (end : ListingEnd) (old new : ShelfSeen) (out after : SinkSeen)
+listing_opens : (asked : ListTask) (end : ListingEnd) (old new : ShelfSeen) (out after : SinkSeen)
     → EndsAsked asked end old new out after → new.opened ≡ old.opened
 listing_opens asked listings.Done old new out after h = h.ends.files.counts.opened
 listing_opens asked listings.OutFault old new out after h = h.ends.files.counts.opened
@@ -88,13 +89,13 @@ listing_opens asked listings.ShelfFault old new out after h =
     either_opens (IsPlanned (plan_asked asked)) (plan_asked asked).folder (planned_text (plan_asked asked)) h.given old new h.ends.1
 
 -- nor where the tests of choices were written
-crossing_opens : (asked : CrossAsked) (end : ListingEnd) (old new : ShelfSeen) (out after : SinkSeen)
+crossing_opens : (asked : CrossTask) (end : ListingEnd) (old new : ShelfSeen) (out after : SinkSeen)
     → EndsCrossed asked end old new out after → new.opened ≡ old.opened
 crossing_opens asked listings.Done old new out after h = h.0.counts.opened
 crossing_opens asked listings.OutFault old new out after h = h.0.counts.opened
 crossing_opens asked listings.ShelfFault old new out after h = h.1.part.counts.opened
 
-cross_opens : (asked : CrossAsked) (status : Status) (old new : ShelfSeen) (out after : SinkSeen)
+cross_opens : (asked : CrossTask) (status : Status) (old new : ShelfSeen) (out after : SinkSeen)
     → AnswersCross asked status old new out after → new.opened ≡ old.opened
 cross_opens asked status old new out after (inl none) = ap (λ (s : ShelfSeen). s.opened) none.1
 cross_opens asked status old new out after (inr made) = crossing_opens asked made.end old new out after made.ends
@@ -121,11 +122,11 @@ module _ (old new : Devices) (much : TookTooMuch old new) where
       either (inl far) = omega arith
       either (inr far) = let few : new.shelf.taken ≤ 2 ^ 40 = shelf far.0 in let many : 2 ^ 40 < new.shelf.taken = far.1 in omega arith
 
-  wrong : (asked : Result Asked Usage) (status : Status) (file : Option ℕ) (line : ℕ) (kind : TextKind)
+  wrong : (asked : Result Task Usage) (status : Status) (file : Option ℕ) (line : ℕ) (kind : TextKind)
       → status ≡ statuses.BadText file line kind → StopsReading asked status
   wrong asked status file line kind e = subst (λ (s : Status). StopsReading asked s) (sym e) tt
 
-  sought_limit : (asked : Result Asked Usage) (arch : ArchName) (cycle : Sought) (status : Status) → IsWithin old.shelf new.shelf
+  sought_limit : (asked : Result Task Usage) (arch : ArchName) (cycle : Sought) (status : Status) → IsWithin old.shelf new.shelf
       → AnswersSought arch cycle status old.input new.input old.out new.out → StopsReading asked status
   sought_limit asked arch (OfEdges edges) status shelf h = absurd (neither (same_input old.input new.input h.0) shelf)
   sought_limit asked arch (OfName at name) status shelf h = absurd (neither (same_input old.input new.input h.0) shelf)
@@ -167,7 +168,7 @@ module _ (old new : Devices) (much : TookTooMuch old new) where
   classify_limit words arch (file ∷ files) status h = named_limit words arch file files h.end status h.status_is h.ends
 
   -- mcheck7
-  check_limit : (words : List (List ℕ)) (asked : CheckAsked) (end : CheckEnd) (status : Status) → status ≡ check_status end
+  check_limit : (words : List (List ℕ)) (asked : Check) (end : CheckEnd) (status : Status) → status ≡ check_status end
       → EndsCheck words asked end old new → StopsReading (Ok (AsksCheck asked)) status
   check_limit words asked (checking.Wrong at line kind) status e h = wrong (Ok (AsksCheck asked)) status (Some at) line (checked_kind kind) e
   check_limit words asked checking.NoMemory status e h = subst (λ (s : Status). StopsReading (Ok (AsksCheck asked)) s) (sym e) tt
@@ -208,7 +209,7 @@ module _ (old new : Devices) (much : TookTooMuch old new) where
   sum_limit (tool ∷ []) end status e h = input_limit end status e h
   sum_limit (tool ∷ log ∷ logs) end status e h = files_limit tool log logs end status e h
 
-  asked_limit : (words : List (List ℕ)) (asked : Result Asked Usage) (status : Status) → AnswersAsked words asked status old new → StopsReading asked status
+  asked_limit : (words : List (List ℕ)) (asked : Result Task Usage) (status : Status) → AnswersAsked words asked status old new → StopsReading asked status
   asked_limit words (Err usage) status h =
       absurd (neither (same_input old.input new.input (ap (λ (d : Devices). d.input) h.1))
       (same_shelf old.shelf new.shelf (ap (λ (d : Devices). d.shelf.opened) h.1)))

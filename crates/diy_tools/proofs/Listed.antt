@@ -4,7 +4,7 @@ use Rattle.relax_edges.specs.declared.edge.Edge.{Edge}
 use Rattle.relax_edges.specs.declared.kinds.ArchName.{ArchName}
 use Rattle.diy_io.specs.Shelf.{ShelfSeen}
 use Rattle.diy_io.specs.Wrote.{SinkSeen}
-use Rattle.diy_words.specs.Requests.{ListAsked}
+use Rattle.diy_words.specs.Requests.{ListTask}
 use Rattle.listed_tests.specs.declared.ending.ListingEnd.{ListingEnd}
 use Rattle.listed_tests.specs.declared.ending.ListingEnd.TheVariants as ends
 use Rattle.listed_tests.specs.declared.listing.Listing.{Listing}
@@ -34,6 +34,6 @@ ends_on seen arch named listing end old new out after same h =
     (record { given = h.given; begins = h.begins; ends = after_seen seen _ h.given end old new out after h.ends })
 
 -- and what is answered of it
-pub list_answered : (asked : ListAsked) (end : ListingEnd) (status : Status) (old new : ShelfSeen) (before after : SinkSeen)
+pub list_answered : (asked : ListTask) (end : ListingEnd) (status : Status) (old new : ShelfSeen) (before after : SinkSeen)
     → EndsListing (λ (sink : SinkSeen). sink) (plan_asked asked) asked.after end old new before after → status ≡ listing_status end → AnswersList asked status old new before after
 list_answered asked end status old new before after h e = record { end = end; ends = h; status_is = e }

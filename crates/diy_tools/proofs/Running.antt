@@ -28,7 +28,7 @@ use Rattle.diy_tools.specs.SumAnswers.{AnswersSum}
 use Rattle.test_maker.specs.CycleText.{cycle_text}
 use Rattle.diy_words.specs.declared.request.Sought.{Sought}
 use Rattle.diy_words.specs.declared.request.Sought.TheVariants as sought
-use Rattle.diy_words.specs.Requests.{Asked, ListAsked, AsksTest, AsksWhy, WhyAsked, AsksName, AsksList, AsksSum, AsksCross, AsksDemo, AsksCheck, CheckAsked, OfEdges, OfName, OfLines, asked_of}
+use Rattle.diy_words.specs.Requests.{Task, ListTask, AsksTest, AsksWhy, WhyTask, AsksName, AsksList, AsksSum, AsksCross, AsksDemo, AsksCheck, OfEdges, OfName, OfLines, asked_of}
 use Rattle.diy_words.specs.Requests as words
 use Rattle.diy_words.specs.Given.{IsSought, Gives, list_kept}
 use Rattle.diy_words.specs.declared.usage.Usage.{Usage}
@@ -185,7 +185,7 @@ pub test_answered : (words : List (List ℕ)) (request : DiyOne) (status : Statu
     → Answers words status (input, old, shelf) (input, new, shelf)
 test_answered words request status input shelf old new given h = of_asked (asked_of words) given
   where
-    of_asked : (asked : Result Asked Usage) → Gives (Ok (requests.Test request)) asked → AnswersAsked words asked status (devices (input, old, shelf)) (devices (input, new, shelf))
+    of_asked : (asked : Result Task Usage) → Gives (Ok (requests.Test request)) asked → AnswersAsked words asked status (devices (input, old, shelf)) (devices (input, new, shelf))
     of_asked (Ok (AsksTest asked)) g =
         record { input = refl; shelf = refl; out = test_asked request.arch asked.arch request.mode asked.mode (name_kept request.name) asked.name request.edges asked.edges status old new g.0 g.1 g.2 g.3 h }
     of_asked asked g = absurd g
@@ -196,7 +196,7 @@ pub name_answered : (words : List (List ℕ)) (request : Norm) (status : Status)
     → AnswersKept request.arch request.cycle status old new before after → Answers words status (old, before, shelf) (new, after, shelf)
 name_answered words request status shelf old new before after given h = of_asked (asked_of words) given
   where
-    of_asked : (asked : Result Asked Usage) → Gives (Ok (requests.Name request)) asked → AnswersAsked words asked status (devices (old, before, shelf)) (devices (new, after, shelf))
+    of_asked : (asked : Result Task Usage) → Gives (Ok (requests.Name request)) asked → AnswersAsked words asked status (devices (old, before, shelf)) (devices (new, after, shelf))
     of_asked (Ok (AsksName asked)) g =
         record {
           shelf = refl;
@@ -211,8 +211,8 @@ pub list_answered : (words : List (List ℕ)) (request : Diy) (status : Status) 
     → AnswersList (list_kept request) status old new before after → Answers words status (input, before, old) (input, after, new)
 list_answered words request status input old new before after given h = of_asked (asked_of words) given
   where
-    of_asked : (asked : Result Asked Usage) → Gives (Ok (requests.List request)) asked → AnswersAsked words asked status (devices (input, before, old)) (devices (input, after, new))
-    of_asked (Ok (AsksList asked)) g = record { input = refl; both = subst (λ (l : ListAsked). AnswersList l status old new before after) g h }
+    of_asked : (asked : Result Task Usage) → Gives (Ok (requests.List request)) asked → AnswersAsked words asked status (devices (input, before, old)) (devices (input, after, new))
+    of_asked (Ok (AsksList asked)) g = record { input = refl; both = subst (λ (l : ListTask). AnswersList l status old new before after) g h }
     of_asked asked g = absurd g
 
 -- what is answered of a request for a sum
@@ -220,7 +220,7 @@ pub sum_answered : (words : List (List ℕ)) (status : Status) (old new : Seen)
     → Gives (Ok requests.Sum) (asked_of words) → AnswersSum words status (devices old) (devices new) → Answers words status old new
 sum_answered words status old new given h = of_asked (asked_of words) given
   where
-    of_asked : (asked : Result Asked Usage) → Gives (Ok requests.Sum) asked → AnswersAsked words asked status (devices old) (devices new)
+    of_asked : (asked : Result Task Usage) → Gives (Ok requests.Sum) asked → AnswersAsked words asked status (devices old) (devices new)
     of_asked (Ok AsksSum) g = h
     of_asked asked g = absurd g
 
@@ -229,7 +229,7 @@ pub cross_answered : (words : List (List ℕ)) (status : Status) (input : Source
     → AnswersCrossing (asked_of words) status old new before after → Answers words status (input, before, old) (input, after, new)
 cross_answered words status input old new before after h = of_asked (asked_of words) h
   where
-    of_asked : (asked : Result Asked Usage) → AnswersCrossing asked status old new before after → AnswersAsked words asked status (devices (input, before, old)) (devices (input, after, new))
+    of_asked : (asked : Result Task Usage) → AnswersCrossing asked status old new before after → AnswersAsked words asked status (devices (input, before, old)) (devices (input, after, new))
     of_asked (Ok (AsksCross asked)) g = record { input = refl; both = g }
     of_asked asked g = absurd g
 
@@ -240,12 +240,11 @@ pub demo_answered : (words : List (List ℕ)) (request : Demo) (status : Status)
     → Answers words status (input, old, shelf) (input, new, shelf)
 demo_answered words request status input shelf old new given h = of_asked (asked_of words) given
   where
-    of_asked : (asked : Result Asked Usage) → Gives (Ok (requests.Demo request)) asked → AnswersAsked words asked status (devices (input, old, shelf)) (devices (input, new, shelf))
+    of_asked : (asked : Result Task Usage) → Gives (Ok (requests.Demo request)) asked → AnswersAsked words asked status (devices (input, old, shelf)) (devices (input, new, shelf))
     of_asked (Ok (AsksDemo asked)) g = record {
       input = refl;
       shelf = refl;
-      out = subst (λ (n : ℕ). Prints (demo_text (machine_of asked.arch).puts (machine_of asked.arch).writing n) status old new) g.1
-          (subst (λ (a : ArchName). Prints (demo_text (machine_of a).puts (machine_of a).writing request.count) status old new) g.0 h);
+      out = subst (λ (d : Demo). Prints (demo_text (machine_of d.arch).puts (machine_of d.arch).writing d.count) status old new) g h;
     }
     of_asked asked g = absurd g
 
@@ -256,13 +255,13 @@ pub check_answered : (words : List (List ℕ)) (request : Check) (status : Statu
     → Answers words status (input, before, old) (input, after, new)
 check_answered words request status input old new before after given h = of_asked (asked_of words) given
   where
-    checks : (asked : CheckAsked) → record { arch = request.arch; test = request.test; execution = request.execution } ≡ asked
+    checks : (asked : Check) → request ≡ asked
         → AnswersCheck words asked status (devices (input, before, old)) (devices (input, after, new))
     checks asked e =
-        subst (λ (a : CheckAsked). AnswersCheck words a status (devices (input, before, old)) (devices (input, after, new))) e
+        subst (λ (a : Check). AnswersCheck words a status (devices (input, before, old)) (devices (input, after, new))) e
         (record { end = h.end; ends = record { input = refl; both = h.ends }; status_is = h.status_is })
 
-    of_asked : (asked : Result Asked Usage) → Gives (Ok (requests.Check request)) asked → AnswersAsked words asked status (devices (input, before, old)) (devices (input, after, new))
+    of_asked : (asked : Result Task Usage) → Gives (Ok (requests.Check request)) asked → AnswersAsked words asked status (devices (input, before, old)) (devices (input, after, new))
     of_asked (Ok (AsksCheck asked)) g = checks asked g
     of_asked asked g = absurd g
 
@@ -291,7 +290,7 @@ pub why_answered : (words : List (List ℕ)) (request : Why) (status : Status) (
     → Answers words status (input, before, old) (input, after, new)
 why_answered words request status input old new before after given h = of_asked (asked_of words) given
   where
-    of_why : (asked : WhyAsked) → (request.arch ≡ asked.arch) → name_kept request.name ≡ asked.name → request.edges ≡ kept asked.edges → folder_kept request ≡ asked.folder
+    of_why : (asked : WhyTask) → (request.arch ≡ asked.arch) → name_kept request.name ≡ asked.name → request.edges ≡ kept asked.edges → folder_kept request ≡ asked.folder
         → AnswersWhy asked status old new before after
     of_why asked p q k f =
         runs_kept (machine_of asked.arch) asked.folder asked.name (kept asked.edges) asked.edges status old new before after (kept_so asked.edges)
@@ -300,7 +299,7 @@ why_answered words request status input old new before after given h = of_asked 
         (subst (λ o. AnswersRuns (machine_of asked.arch) (folder_kept request) (test_name o (edges_kept request.edges)) (refused_why (machine_of asked.arch) request.edges) (edges_kept request.edges) status old new before after) q
         (subst (λ (a : ArchName). AnswersRuns (machine_of a) (folder_kept request) (named_kept request) (refused_why (machine_of a) request.edges) (edges_kept request.edges) status old new before after) p h))))
 
-    of_asked : (asked : Result Asked Usage) → Gives (Ok (requests.Why request)) asked → AnswersAsked words asked status (devices (input, before, old)) (devices (input, after, new))
+    of_asked : (asked : Result Task Usage) → Gives (Ok (requests.Why request)) asked → AnswersAsked words asked status (devices (input, before, old)) (devices (input, after, new))
     of_asked (Ok (AsksWhy asked)) g = record { input = refl; both = of_why asked g.0 g.1 g.2 g.3 }
     of_asked asked g = absurd g
 

@@ -2,7 +2,7 @@
 -- Source: own.
 use Rattle.std.specs.Prelude.{ℕ, ◌≡◌, List, Result, Ok, Err}
 use Rattle.diy_words.specs.declared.usage.Usage.{Usage}
-use Rattle.diy_words.specs.Requests.{Asked, AsksTest, AsksWhy, AsksName, AsksList, AsksFamilies, AsksSum, AsksCross, AsksDemo, AsksCheck, asked_of}
+use Rattle.diy_words.specs.Requests.{Task, AsksTest, AsksWhy, AsksName, AsksList, AsksFamilies, AsksSum, AsksCross, AsksDemo, AsksCheck, asked_of}
 use Rattle.diy_tools.specs.declared.status.Status.{Status}
 use Rattle.diy_tools.specs.declared.status.Status.TheVariants as statuses
 use Rattle.diy_tools.specs.Devices.{Devices, OutAlone, InputAndOut, ShelfAndOut, Seen, devices}
@@ -19,7 +19,7 @@ use Rattle.diy_tools.specs.WhyAnswers.{AnswersWhy}
 
 -- words make no request, and no device changes; or each tool answers what it is asked for, and the devices that it doesn't
 -- use stay as they were
-abbrev pub AnswersAsked : List (List ℕ) → Result Asked Usage → Status → Devices → Devices → Type 0
+abbrev pub AnswersAsked : List (List ℕ) → Result Task Usage → Status → Devices → Devices → Type 0
 AnswersAsked words (Err usage) status old new = (status ≡ statuses.Usage usage.word usage.kind) × (new ≡ old)
 AnswersAsked words (Ok (AsksTest asked)) status old new = OutAlone (AnswersTest asked status) old new
 AnswersAsked words (Ok (AsksWhy asked)) status old new = ShelfAndOut (AnswersWhy asked status) old new

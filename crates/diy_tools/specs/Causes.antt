@@ -21,7 +21,7 @@ use Rattle.diy_io.specs.Wrote.{SinkSeen, WroteAll, WrotePart}
 use Rattle.diy_words.specs.declared.usage.Usage.{Usage}
 use Rattle.diy_words.specs.declared.usage.UsageKind.{UsageKind}
 use Rattle.diy_words.specs.declared.usage.UsageKind.TheVariants.{UnknownName}
-use Rattle.diy_words.specs.Requests.{Asked, Sought, WhyAsked, AsksTest, AsksWhy, AsksName, AsksList, AsksFamilies, AsksSum, AsksCross, AsksDemo, AsksCheck, OfEdges, OfName, OfLines, asked_of}
+use Rattle.diy_words.specs.Requests.{Task, Sought, WhyTask, AsksTest, AsksWhy, AsksName, AsksList, AsksFamilies, AsksSum, AsksCross, AsksDemo, AsksCheck, OfEdges, OfName, OfLines, asked_of}
 use Rattle.listed_tests.specs.declared.ending.ListingEnd.TheVariants as listings
 use Rattle.summed_files.specs.declared.sum_end.SumEnd.{SumEnd}
 use Rattle.summed_files.specs.declared.sum_end.SumEnd.TheVariants as sums
@@ -60,7 +60,7 @@ SeeksNone arch (OfName at name) word kind = (word ≡ at) × (kind ≡ UnknownNa
 SeeksNone arch _ word kind = ⊥
 
 -- the word at this place shows that the words make no request
-abbrev pub IsUsage : Result Asked Usage → ℕ → UsageKind → Type 0
+abbrev pub IsUsage : Result Task Usage → ℕ → UsageKind → Type 0
 IsUsage (Err usage) word kind = (word ≡ usage.word) × (kind ≡ usage.kind)
 IsUsage (Ok (AsksName asked)) word kind = SeeksNone asked.arch asked.cycle word kind
 IsUsage _ word kind = ⊥
@@ -71,7 +71,7 @@ sought_refused arch (OfEdges edges) = refused_list arch edges
 sought_refused arch _ = None
 
 -- the first reason why the edges that words ask for are refused, if they ask for edges
-abbrev pub asked_refused : Result Asked Usage → Option Refusal
+abbrev pub asked_refused : Result Task Usage → Option Refusal
 asked_refused (Ok (AsksTest asked)) = test_refused asked
 asked_refused (Ok (AsksWhy asked)) = unshown asked
 asked_refused (Ok (AsksName asked)) = sought_refused asked.arch asked.cycle
@@ -79,7 +79,7 @@ asked_refused _ = None
 
 -- norm7 or classify7 reads lines of cycles, up to where they can't be read on; norm7 has written the lines of the cycles
 -- before, classify7 nothing
-abbrev pub LinesStop : Result Asked Usage → LinesError → Devices → Devices → Type 0
+abbrev pub LinesStop : Result Task Usage → LinesError → Devices → Devices → Type 0
 LinesStop (Ok (AsksName asked)) error old new =
     (asked.cycle ≡ OfLines) × InputAndOut (λ input input' out out'. NormedUpTo asked.arch input input' out out' error) old new
 LinesStop (Ok (AsksFamilies asked)) error old new =
@@ -87,32 +87,32 @@ LinesStop (Ok (AsksFamilies asked)) error old new =
 LinesStop _ error old new = ⊥
 
 -- classify7 reads files, up to where they can't be read on, and nothing is written
-abbrev pub FilesStop : List (List ℕ) → Result Asked Usage → FilesEnd → Devices → Devices → Type 0
+abbrev pub FilesStop : List (List ℕ) → Result Task Usage → FilesEnd → Devices → Devices → Type 0
 FilesStop words (Ok (AsksFamilies asked)) end old new = EndsFamilies words asked.arch asked.files end old new × NothingWritten old new
 FilesStop words _ end old new = ⊥
 
 -- the file of the word at a place has this fault
-abbrev pub FileStops : List (List ℕ) → Result Asked Usage → Option ℕ → ℕ → FileKind → Devices → Devices → Type 0
+abbrev pub FileStops : List (List ℕ) → Result Task Usage → Option ℕ → ℕ → FileKind → Devices → Devices → Type 0
 FileStops words asked (Some file) line kind old new = FilesStop words asked (classing.Wrong file line kind) old new
 FileStops words asked None line kind old new = ⊥
 
 -- mcheck7 reads its two files, up to where they can't be read on, and nothing is written
-abbrev pub CheckStops : List (List ℕ) → Result Asked Usage → CheckEnd → Devices → Devices → Type 0
+abbrev pub CheckStops : List (List ℕ) → Result Task Usage → CheckEnd → Devices → Devices → Type 0
 CheckStops words (Ok (AsksCheck asked)) end old new = EndsCheck words asked end old new × NothingWritten old new
 CheckStops words _ end old new = ⊥
 
 -- the file of the word at a place has this fault
-abbrev pub CheckedStops : List (List ℕ) → Result Asked Usage → Option ℕ → ℕ → CheckedKind → Devices → Devices → Type 0
+abbrev pub CheckedStops : List (List ℕ) → Result Task Usage → Option ℕ → ℕ → CheckedKind → Devices → Devices → Type 0
 CheckedStops words asked (Some file) line kind old new = CheckStops words asked (checking.Wrong file line kind) old new
 CheckedStops words asked None line kind old new = ⊥
 
 -- msum7 reads logs, up to where they can't be read on, and nothing is written
-abbrev pub SumStops : List (List ℕ) → Result Asked Usage → SumEnd → Devices → Devices → Type 0
+abbrev pub SumStops : List (List ℕ) → Result Task Usage → SumEnd → Devices → Devices → Type 0
 SumStops words (Ok AsksSum) end old new = EndsSum words end old new × NothingWritten old new
 SumStops words _ end old new = ⊥
 
 -- more than 2^40 bytes were taken: of the input of norm7, classify7 or msum7; or of a log of msum7, a file
-abbrev pub PassesLimit : List (List ℕ) → Result Asked Usage → Option ℕ → ℕ → Devices → Devices → Type 0
+abbrev pub PassesLimit : List (List ℕ) → Result Task Usage → Option ℕ → ℕ → Devices → Devices → Type 0
 PassesLimit words asked None line old new =
     RoseFar old.input.taken new.input.taken
     × (LinesStop asked (lines.TooMuch line) old new ⊎ SumStops words asked (sums.TooMuch None line) old new)
@@ -122,13 +122,13 @@ PassesLimit words asked (Some file) line old new =
     × SumStops words asked (sums.TooMuch (Some file) line) old new
 
 -- diyone7 has written two executions, as far as this status says
-abbrev pub WhyStops : WhyAsked → Status → Devices → Devices → Type 0
+abbrev pub WhyStops : WhyTask → Status → Devices → Devices → Type 0
 WhyStops asked status old new =
     (unshown asked ≡ None)
     × ShelfAndOut (WritesRuns (machine_of asked.arch) asked.folder (test_name asked.name asked.edges) asked.edges status) old new
 
 -- diy7, diycross7 or diyone7 with -why writes files, up to where the shelf fails
-abbrev pub ListStops : Result Asked Usage → Devices → Devices → Type 0
+abbrev pub ListStops : Result Task Usage → Devices → Devices → Type 0
 ListStops (Ok (AsksWhy asked)) old new = WhyStops asked (statuses.WriteFault Shelf) old new
 ListStops (Ok (AsksList asked)) old new = ShelfAndOut (EndsAsked asked listings.ShelfFault) old new
 ListStops (Ok (AsksCross asked)) old new = ShelfAndOut (EndsCrossed asked listings.ShelfFault) old new
@@ -152,7 +152,7 @@ FamiliesPart words arch [] old new = InputAndOut (ClassifiedPart arch) old new
 FamiliesPart words arch (file ∷ files) old new = EndsFamilies words arch (file ∷ files) classing.OutFault old new
 
 -- what was asked for is written, and what the tool reads was read to its end
-abbrev pub Finishes : List (List ℕ) → Result Asked Usage → Devices → Devices → Type 0
+abbrev pub Finishes : List (List ℕ) → Result Task Usage → Devices → Devices → Type 0
 Finishes words (Err usage) old new = ⊥
 Finishes words (Ok (AsksTest asked)) old new =
     (test_refused asked ≡ None) × OutAlone (λ out out'. WroteAll out out' (asked_text asked)) old new
@@ -173,7 +173,7 @@ NamesPart arch (OfName at name) old new before after = (new ≡ old) × PrintsNa
 NamesPart arch OfLines old new before after = NormedPart arch old new before after
 
 -- a prefix of what goes to standard output is written; of diy7, diycross7 and diyone7 with -why all files are
-abbrev pub OutStops : List (List ℕ) → Result Asked Usage → Devices → Devices → Type 0
+abbrev pub OutStops : List (List ℕ) → Result Task Usage → Devices → Devices → Type 0
 OutStops words (Err usage) old new = ⊥
 OutStops words (Ok (AsksTest asked)) old new =
     (test_refused asked ≡ None) × OutAlone (λ out out'. WrotePart out out' (asked_text asked)) old new
@@ -187,7 +187,7 @@ OutStops words (Ok AsksSum) old new = EndsSum words sums.OutFault old new
 OutStops words (Ok (AsksCheck asked)) old new = EndsCheck words asked checking.OutFault old new
 
 -- the cause of a status, and what the devices then hold
-abbrev pub CausesAsked : List (List ℕ) → Result Asked Usage → Status → Devices → Devices → Type 0
+abbrev pub CausesAsked : List (List ℕ) → Result Task Usage → Status → Devices → Devices → Type 0
 -- all is done
 CausesAsked words asked statuses.Done old new = Finishes words asked old new
 -- the edges of diyone7, or those of norm7, are refused for this reason; no device changed

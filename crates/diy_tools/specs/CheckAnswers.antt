@@ -8,7 +8,7 @@ use Rattle.checked_files.specs.declared.errors.CheckedKind.TheVariants as kinds
 use Rattle.checked_files.specs.FilesChecked.{FilesChecked}
 use Rattle.diy_io.specs.Shelf.{ShelfSeen}
 use Rattle.diy_io.specs.Wrote.{SinkSeen}
-use Rattle.diy_words.specs.Requests.{CheckAsked}
+use Rattle.diy_words.specs.declared.request.Check.{Check}
 use Rattle.diy_tools.specs.declared.status.Status.{Status}
 use Rattle.diy_tools.specs.declared.status.Status.TheVariants.{Done, BadText, NoFile, ReadFault, WriteFault, NoMemory}
 use Rattle.diy_tools.specs.declared.status.TextKind.{TextKind}
@@ -33,16 +33,16 @@ check_status ends.OutFault = WriteFault Out
 check_status ends.NoMemory = NoMemory
 
 -- the checking of the execution in one file of the test in another ends so, and no file changes
-pub record EndsChecked (words : List (List ℕ)) (asked : CheckAsked) (end : CheckEnd) (old new : ShelfSeen) (before after : SinkSeen) : Type 0 where
+pub record EndsChecked (words : List (List ℕ)) (asked : Check) (end : CheckEnd) (old new : ShelfSeen) (before after : SinkSeen) : Type 0 where
   pub checked : FilesChecked asked.arch (machine_of asked.arch).writing old new words asked.test asked.execution before after end
   pub stay : new.files ≡ old.files
 
 -- the same, and the input stays as it was
-abbrev pub EndsCheck : List (List ℕ) → CheckAsked → CheckEnd → Devices → Devices → Type 0
+abbrev pub EndsCheck : List (List ℕ) → Check → CheckEnd → Devices → Devices → Type 0
 EndsCheck words asked end old new = ShelfAndOut (EndsChecked words asked end) old new
 
 -- the checking ends, and the status says how
-pub record AnswersCheck (words : List (List ℕ)) (asked : CheckAsked) (status : Status) (old new : Devices) : Type 0 where
+pub record AnswersCheck (words : List (List ℕ)) (asked : Check) (status : Status) (old new : Devices) : Type 0 where
   pub end : CheckEnd
   pub ends : EndsCheck words asked end old new
   pub status_is : status ≡ check_status end

@@ -12,7 +12,8 @@ use Rattle.diy_io.specs.declared.source.TheConstants.{MAX_INPUT}
 use Rattle.diy_io.specs.Count.{Rose}
 use Rattle.diy_io.specs.Shelf.{Files}
 use Rattle.diy_words.specs.declared.usage.Usage.{Usage}
-use Rattle.diy_words.specs.Requests.{Asked, CheckAsked, Sought, AsksTest, AsksWhy, AsksName, AsksList, AsksFamilies, AsksSum, AsksCross, AsksDemo, AsksCheck, OfEdges, OfName, OfLines, asked_of}
+use Rattle.diy_words.specs.Requests.{Task, Sought, AsksTest, AsksWhy, AsksName, AsksList, AsksFamilies, AsksSum, AsksCross, AsksDemo, AsksCheck, OfEdges, OfName, OfLines, asked_of}
+use Rattle.diy_words.specs.declared.request.Check.{Check}
 use Rattle.summed_files.specs.Logs.{IsText, IsShort, AreRight}
 use Rattle.summed_files.specs.SumEnds.{AreLogs}
 use Rattle.diy_tools.specs.declared.status.Status.{Status}
@@ -74,12 +75,12 @@ CanClassify words arch [] old = OfItsText old.input.left (IsSoundText arch)
 CanClassify words arch (file ∷ rest) old = OfItsFiles old.shelf.files (λ files. AreRightTests files words arch (file ∷ rest))
 
 -- mcheck7 can check: its words name files, a test of the architecture and an execution of it
-abbrev pub CanCheck : List (List ℕ) → CheckAsked → Devices → Type 0
+abbrev pub CanCheck : List (List ℕ) → Check → Devices → Type 0
 CanCheck words asked old =
     OfItsFiles old.shelf.files (λ files. AreRightFiles files asked.arch (machine_of asked.arch).writing words asked.test asked.execution)
 
 -- words make a request that can be done
-abbrev pub CanBeDone : List (List ℕ) → Result Asked Usage → Devices → Type 0
+abbrev pub CanBeDone : List (List ℕ) → Result Task Usage → Devices → Type 0
 CanBeDone words (Err usage) old = ⊥
 CanBeDone words (Ok (AsksTest asked)) old = test_refused asked ≡ None
 CanBeDone words (Ok (AsksWhy asked)) old = unshown asked ≡ None
@@ -98,11 +99,11 @@ pub record NoFaults (old new : Devices) : Type 0 where
   pub shelf : Rose old.shelf.faults new.shelf.faults → ⊥
 
 -- all is done, or there is no memory, where the tool may want it
-abbrev pub IsDone : Result Asked Usage → Status → Type 0
+abbrev pub IsDone : Result Task Usage → Status → Type 0
 IsDone asked status = (status ≡ Done) ⊎ ((status ≡ NoMemory) × MayWantMemory asked)
 
 -- where words make a request that can be done and no count of faults rises, it is done
-abbrev pub CompleteAsked : List (List ℕ) → Result Asked Usage → Status → Devices → Devices → Type 0
+abbrev pub CompleteAsked : List (List ℕ) → Result Task Usage → Status → Devices → Devices → Type 0
 CompleteAsked words asked status old new = CanBeDone words asked old → NoFaults old new → IsDone asked status
 
 -- a call with these words does what can be done, and takes the devices from old to new

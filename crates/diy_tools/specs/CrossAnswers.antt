@@ -6,7 +6,7 @@ use Rattle.relax_edges.specs.declared.kinds.ObsMode.{ObsMode}
 use Rattle.crossed_cycles.specs.Choices.{crossed}
 use Rattle.diy_io.specs.Shelf.{ShelfSeen}
 use Rattle.diy_io.specs.Wrote.{SinkSeen}
-use Rattle.diy_words.specs.Requests.{CrossAsked}
+use Rattle.diy_words.specs.Requests.{CrossTask}
 use Rattle.listed_tests.specs.declared.ending.ListingEnd.{ListingEnd}
 use Rattle.listed_tests.specs.Given.{EndsGiven}
 use Rattle.listed_tests.specs.Plans.{named_text}
@@ -16,11 +16,11 @@ use Rattle.diy_tools.specs.Machines.{Machine, machine_of}
 use Rattle.diy_tools.specs.Statuses.{listing_status}
 
 -- the cycles of the choices that words ask for
-abbrev pub cycles_asked : CrossAsked → List (List Edge)
+abbrev pub cycles_asked : CrossTask → List (List Edge)
 cycles_asked asked = crossed (machine_of asked.arch).puts asked.mode asked.places
 
 -- the text of the test of a cycle
-abbrev pub crossed_text : CrossAsked → List Edge → List ℕ
+abbrev pub crossed_text : CrossTask → List Edge → List ℕ
 crossed_text asked = named_text (machine_of asked.arch).puts (machine_of asked.arch).writing asked.mode
 
 -- what the writing of the tests of choices leaves with an end, on an architecture
@@ -40,9 +40,9 @@ AnswersChoices m mode folder places status old new before after =
     ((status ≡ NoMemory) × (new ≡ old) × (after ≡ before)) ⊎ Crosses m mode folder places status old new before after
 
 -- the same for what words ask for
-abbrev pub EndsCrossed : CrossAsked → ListingEnd → ShelfSeen → ShelfSeen → SinkSeen → SinkSeen → Type 0
+abbrev pub EndsCrossed : CrossTask → ListingEnd → ShelfSeen → ShelfSeen → SinkSeen → SinkSeen → Type 0
 EndsCrossed asked = EndsChoices (machine_of asked.arch) asked.mode asked.folder asked.places
 
 -- the tests of the choices that words ask for are written, or there is a reason why they aren't
-abbrev pub AnswersCross : CrossAsked → Status → ShelfSeen → ShelfSeen → SinkSeen → SinkSeen → Type 0
+abbrev pub AnswersCross : CrossTask → Status → ShelfSeen → ShelfSeen → SinkSeen → SinkSeen → Type 0
 AnswersCross asked = AnswersChoices (machine_of asked.arch) asked.mode asked.folder asked.places

@@ -2,7 +2,7 @@
 -- Source: own.
 use Rattle.std.specs.Prelude.{ℕ, List}
 use Rattle.demo_tests.specs.DemoText.{demo_text}
-use Rattle.diy_words.specs.Requests.{DemoAsked}
+use Rattle.diy_words.specs.declared.request.Demo.{Demo}
 use Rattle.diy_tools.specs.Machines.{Machine, machine_of}
 
 -- the text of so many tests on an architecture
@@ -10,5 +10,5 @@ abbrev pub demo_on : Machine → ℕ → List ℕ
 demo_on m count = demo_text m.puts m.writing count
 
 -- the text that words ask for
-abbrev pub demo_asked : DemoAsked → List ℕ
+abbrev pub demo_asked : Demo → List ℕ
 demo_asked asked = demo_on (machine_of asked.arch) asked.count

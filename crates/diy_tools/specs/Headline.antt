@@ -8,7 +8,7 @@ use Rattle.resolution_laws.specs.Resolution.{turned}
 use Rattle.diy_io.specs.Shelf.{ShelfSeen}
 use Rattle.diy_io.specs.Wrote.{SinkSeen}
 use Rattle.diy_words.specs.declared.usage.Usage.{Usage}
-use Rattle.diy_words.specs.Requests.{Asked, ListAsked, AsksTest, AsksWhy, AsksList, CrossAsked, AsksCross, asked_of}
+use Rattle.diy_words.specs.Requests.{Task, ListTask, AsksTest, AsksWhy, AsksList, CrossTask, AsksCross, asked_of}
 use Rattle.listed_tests.specs.Plans.{IsPlanned, planned_text}
 use Rattle.printed_test_laws.specs.Headline.{BytesForce}
 use Rattle.diy_tools.specs.declared.status.Status.{Status}
@@ -29,13 +29,13 @@ pub record PrintsForcing (m : Machine) (text : List ℕ) (cycle : List Edge) (mo
   pub forces : BytesForce m.puts.name m.writing text (turned cycle) mode
 
 -- a listing is written as it is asked for, and the bytes of the text of each listed cycle force that cycle
-pub record ListsForcing (asked : ListAsked) (status : Status) (old new : ShelfSeen) (before after : SinkSeen) : Type 0 where
+pub record ListsForcing (asked : ListTask) (status : Status) (old new : ShelfSeen) (before after : SinkSeen) : Type 0 where
   pub lists : AnswersList asked status old new before after
   pub forces : (cycle : List Edge) → IsPlanned (plan_asked asked) cycle →
       BytesForce (machine_of asked.arch).puts.name (machine_of asked.arch).writing (planned_text (plan_asked asked) cycle) (turned cycle) asked.mode
 
 -- the tests of the choices' cycles are written as they are asked for, and the bytes of the text of each force its cycle
-pub record CrossesForcing (asked : CrossAsked) (status : Status) (old new : ShelfSeen) (before after : SinkSeen) : Type 0 where
+pub record CrossesForcing (asked : CrossTask) (status : Status) (old new : ShelfSeen) (before after : SinkSeen) : Type 0 where
   pub crosses : AnswersCross asked status old new before after
   pub forces : (cycle : List Edge) → IsOneOf (cycles_asked asked) cycle →
       BytesForce (machine_of asked.arch).puts.name (machine_of asked.arch).writing (crossed_text asked cycle) (turned cycle) asked.mode
@@ -44,7 +44,7 @@ pub record CrossesForcing (asked : CrossAsked) (status : Status) (old new : Shel
 -- they ask for a listing, or for the tests of choices, it is written and each of its tests forces its cycle; where they ask why
 -- the mode avoid refuses edges, and it does because a write needs an observer, two executions of the test without observers
 -- are written that no condition tells apart, though all edges stand in the first and one doesn't in the second
-abbrev pub HeadlineAsked : Result Asked Usage → Status → Devices → Devices → Type 0
+abbrev pub HeadlineAsked : Result Task Usage → Status → Devices → Devices → Type 0
 HeadlineAsked (Ok (AsksTest asked)) status old new =
     refused_of (machine_of asked.arch).puts asked.mode asked.edges ≡ None →
     PrintsForcing (machine_of asked.arch) (asked_text asked) asked.edges asked.mode status old.out new.out

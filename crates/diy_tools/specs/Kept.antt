@@ -28,11 +28,10 @@ use Rattle.test_maker.specs.Refusals.{refusal_of}
 use Rattle.diy_tools.specs.declared.status.Status.{Status}
 use Rattle.diy_tools.specs.declared.status.Refusal.{Refusal}
 use Rattle.diy_tools.specs.declared.status.Refusal.TheVariants as refusals
-use Rattle.diy_words.specs.Requests.{Asked, AsksCross}
+use Rattle.diy_words.specs.Requests.{Task, AsksCross}
 use Rattle.diy_words.specs.declared.usage.Usage.{Usage}
 use Rattle.classified_files.specs.declared.errors.FilesEnd.{FilesEnd}
 use Rattle.checked_files.specs.declared.errors.CheckEnd.{CheckEnd}
-use Rattle.diy_words.specs.Requests.{CheckAsked}
 use Rattle.diy_tools.specs.CheckAnswers.{EndsChecked, check_status}
 use Rattle.diy_tools.specs.CrossAnswers.{AnswersCross, AnswersChoices}
 use Rattle.diy_tools.specs.FamilyAnswers.{EndsNamed, files_status}
@@ -159,7 +158,7 @@ MakesTestOf m mode cycle test (Ok _) =
 MakesTestOf m mode cycle test (Err refusal) = refused_making (refusal_of m.puts cycle mode) ≡ Some refusal
 
 -- what is answered of words that ask for the tests of choices
-abbrev pub AnswersCrossing : Result Asked Usage → Status → ShelfSeen → ShelfSeen → SinkSeen → SinkSeen → Type 0
+abbrev pub AnswersCrossing : Result Task Usage → Status → ShelfSeen → ShelfSeen → SinkSeen → SinkSeen → Type 0
 AnswersCrossing (Ok (AsksCross asked)) status old new before after = AnswersCross asked status old new before after
 AnswersCrossing _ status old new before after = ⊥
 

@@ -3,7 +3,7 @@
 use Rattle.std.specs.Prelude.{ℕ, ◌+◌, ◌^◌, ◌<◌, ◌⊎◌, ⊤, List, Result}
 use Rattle.diy_io.specs.Count.{count_of}
 use Rattle.diy_words.specs.declared.usage.Usage.{Usage}
-use Rattle.diy_words.specs.Requests.{Asked, asked_of}
+use Rattle.diy_words.specs.Requests.{Task, asked_of}
 use Rattle.diy_tools.specs.declared.status.Status.{Status}
 use Rattle.diy_tools.specs.declared.status.Status.TheVariants.{BadText, NoMemory}
 use Rattle.diy_tools.specs.Devices.{Devices, Seen, devices}
@@ -16,7 +16,7 @@ TookTooMuch old new =
     ⊎ ((count_of old.shelf.opened < count_of new.shelf.opened) × (2 ^ 40 < new.shelf.taken))
 
 -- a text is wrong; or there is no memory, where the tool may want it
-abbrev pub StopsReading : Result Asked Usage → Status → Type 0
+abbrev pub StopsReading : Result Task Usage → Status → Type 0
 StopsReading asked (BadText file line kind) = ⊤
 StopsReading asked NoMemory = MayWantMemory asked
 StopsReading asked _ = ⊥

@@ -3,7 +3,7 @@
 use Rattle.std.specs.Prelude.{◌≡◌}
 use Rattle.diy_io.specs.Shelf.{ShelfSeen}
 use Rattle.diy_io.specs.Wrote.{SinkSeen}
-use Rattle.diy_words.specs.Requests.{ListAsked}
+use Rattle.diy_words.specs.Requests.{ListTask}
 use Rattle.listed_tests.specs.declared.ending.ListingEnd.{ListingEnd}
 use Rattle.listed_tests.specs.Ends.{EndsListing}
 use Rattle.listed_tests.specs.Plans.{Plan}
@@ -12,7 +12,7 @@ use Rattle.diy_tools.specs.Machines.{machine_of}
 use Rattle.diy_tools.specs.Statuses.{listing_status}
 
 -- the plan of a listing that words ask for
-abbrev pub plan_asked : ListAsked → Plan
+abbrev pub plan_asked : ListTask → Plan
 plan_asked asked = record {
   puts = (machine_of asked.arch).puts;
   writing = (machine_of asked.arch).writing;
@@ -25,12 +25,12 @@ plan_asked asked = record {
 }
 
 -- what that listing leaves with an end
-abbrev pub EndsAsked : ListAsked → ListingEnd → ShelfSeen → ShelfSeen → SinkSeen → SinkSeen → Type 0
+abbrev pub EndsAsked : ListTask → ListingEnd → ShelfSeen → ShelfSeen → SinkSeen → SinkSeen → Type 0
 EndsAsked asked end old new before after =
     EndsListing (λ (sink : SinkSeen). sink) (plan_asked asked) asked.after end old new before after
 
 -- the tests of a listing are written, each in a file, or a device failed
-pub record AnswersList (asked : ListAsked) (status : Status) (old new : ShelfSeen) (before after : SinkSeen) : Type 0 where
+pub record AnswersList (asked : ListTask) (status : Status) (old new : ShelfSeen) (before after : SinkSeen) : Type 0 where
   pub end : ListingEnd
   pub ends : EndsAsked asked end old new before after
   pub status_is : status ≡ listing_status end

@@ -2,12 +2,12 @@
 -- Source: own.
 use Rattle.std.specs.Prelude.{ℕ, ◌≡◌, ⊤, List, Result, Ok}
 use Rattle.diy_words.specs.declared.usage.Usage.{Usage}
-use Rattle.diy_words.specs.Requests.{Asked, AsksWhy, AsksFamilies, AsksSum, AsksCross, AsksCheck, asked_of}
+use Rattle.diy_words.specs.Requests.{Task, AsksWhy, AsksFamilies, AsksSum, AsksCross, AsksCheck, asked_of}
 use Rattle.diy_tools.specs.declared.status.Status.{Status}
 use Rattle.diy_tools.specs.declared.status.Status.TheVariants.{NoMemory}
 
 -- classify7, msum7, diycross7, mcheck7 and diyone7 with -why may want memory, no other tool may, nor may words without a request
-abbrev pub MayWantMemory : Result Asked Usage → Type 0
+abbrev pub MayWantMemory : Result Task Usage → Type 0
 MayWantMemory (Ok (AsksWhy asked)) = ⊤
 MayWantMemory (Ok (AsksFamilies asked)) = ⊤
 MayWantMemory (Ok AsksSum) = ⊤

@@ -8,7 +8,7 @@ use Rattle.resolution_laws.specs.Resolution.{turned}
 use Rattle.value_laws.specs.Values.{observer_need}
 use Rattle.diy_io.specs.Shelf.{ShelfSeen}
 use Rattle.diy_io.specs.Wrote.{SinkSeen, WroteAll, WrotePart}
-use Rattle.diy_words.specs.Requests.{WhyAsked}
+use Rattle.diy_words.specs.Requests.{WhyTask}
 use Rattle.execution_text.specs.Written.{text_of_execution}
 use Rattle.listed_tests.specs.Files.{path_of, stem_named}
 use Rattle.listed_tests.specs.Given.{PutUpTo}
@@ -64,11 +64,11 @@ AnswersRuns m folder name None edges status old new before after =
     ((status ≡ statuses.NoMemory) × (new ≡ old) × (after ≡ before)) ⊎ WritesRuns m folder name edges status old new before after
 
 -- the first reason why nothing is written of the edges that words name
-abbrev pub unshown : WhyAsked → Option Refusal
+abbrev pub unshown : WhyTask → Option Refusal
 unshown asked =
     let a = (machine_of asked.arch).puts in
     option_or (refused_list a.name asked.edges) (refused_showing (why_refused a asked.edges))
 
 -- the answer for what words ask for
-abbrev pub AnswersWhy : WhyAsked → Status → ShelfSeen → ShelfSeen → SinkSeen → SinkSeen → Type 0
+abbrev pub AnswersWhy : WhyTask → Status → ShelfSeen → ShelfSeen → SinkSeen → SinkSeen → Type 0
 AnswersWhy asked = AnswersRuns (machine_of asked.arch) asked.folder (test_name asked.name asked.edges) (unshown asked) asked.edges

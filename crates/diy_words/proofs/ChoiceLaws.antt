@@ -5,7 +5,7 @@ use Rattle.std.proofs.lemmas.Bool.{cases_lt}
 use Rattle.std.proofs.lemmas.Bool.Decides.{nat_tests}
 use Rattle.relax_edges.specs.declared.edge.Edge.{Edge}
 use Rattle.diy_words.specs.declared.request.TheConstants.{MAX_CHOICES}
-use Rattle.diy_words.specs.Given.{more_choices}
+use Rattle.diy_words.specs.Notes.{more_choices}
 use Rattle.diy_words.specs.Requests.{choice_count}
 
 -- the number of ways that is kept after more places

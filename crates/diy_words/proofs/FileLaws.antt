@@ -1,9 +1,10 @@
 -- Where words ask for something of classify7, each word that is neither an option nor its value names a file.
 use Rattle.std.proofs.Common.{◌≡◌, ◌<◌, ◌≤◌, ◌+◌, get_or, ℕ, Bool, true, false, List, [], ◌∷◌, ◌++◌, length, Option, Some, None, Result, Ok, Err, append_assoc, append-nil, refl, sym, ap, ◌∙◌, subst, arith, slice_get}
 use Rattle.std.specs.Prelude.{if◌then◌else◌, IsOk, OnErr, All, codes}
-use Rattle.std.specs.List.{AllByRecursion, list_any}
+use Rattle.std.specs.List.{AllByRecursion}
 use Rattle.std.specs.Str.{bytes_eq}
 use Rattle.std.proofs.lemmas.List.Elements.{All-append}
+use Rattle.relax_edges.specs.declared.edge.Edge.{Edge}
 use Rattle.relax_edges.specs.declared.kinds.ArchName.{ArchName}
 use Rattle.diy_words.specs.declared.options.OptionName.{OptionName}
 use Rattle.diy_words.specs.declared.options.OptionName.TheVariants as opts
@@ -12,7 +13,9 @@ use Rattle.diy_words.specs.declared.options.Tool.TheVariants as tools
 use Rattle.diy_words.specs.declared.usage.Usage.{Usage}
 use Rattle.diy_words.specs.declared.usage.UsageKind.TheVariants.{UnknownOption, ExcludedOption}
 use Rattle.diy_words.specs.Parts.{Alone, Valued, Unvalued, parts_of, option_named, arch_named, mode_named}
-use Rattle.diy_words.specs.Requests.{Said, SaysFile, Asked, AsksTest, AsksWhy, AsksName, AsksList, AsksFamilies, AsksCross, AsksDemo, AsksCheck, fault, arch_said, mode_said, begins_option, nothing_before, said_by, saying, said_all, files_in, files_given, asks, cross_asked, families_with, demo_with, check_asked, why_asked, test_asked, diyone_asked, diy_asked, norm_asked, last_given, arch_in, count_in, is_why, tool_asked, asked_for, asked_of, IsClassifying, files_of}
+use Rattle.diy_words.specs.Notes.{Notes, no_notes}
+use Rattle.diy_words.specs.Sayings.{Saying, SaysFile, fault, arch_said, mode_said, begins_option, said_by, sayings, said_all, files_in, files_given, notes_of, edges_given, places_given}
+use Rattle.diy_words.specs.Requests.{Task, AsksTest, AsksWhy, AsksName, AsksList, AsksFamilies, AsksCross, AsksDemo, AsksCheck, asks, cross_asked, families_with, demo_with, why_asked, test_asked, diyone_asked, diy_asked, norm_asked, tool_asked, asked_for, asked_of, IsClassifying, files_of, check_with, said_asked}
 use Rattle.diy_words.proofs.BeforeLaws.{IsSilent, IsUncounted}
 use Rattle.diy_words.proofs.OperandLaws.{given_all, said_from, AreFaultless, given_from, alone_then, IsOther, OptionFirst, option_then, all_said, none_left}
 
@@ -58,9 +61,9 @@ only_arch text option h = of_test (bytes_eq text (codes "-arch")) h
     of_test true e = cc e
     of_test false e = cc e
 
-value_other : (option : OptionName) (at : ℕ) (value : List ℕ) → option ≡ opts.Arch → IsOther files_in (said_by tools.Classify nothing_before (Valued option at value))
+value_other : (option : OptionName) (at : ℕ) (value : List ℕ) → option ≡ opts.Arch → IsOther files_in (said_by tools.Classify no_notes (Valued option at value))
 value_other option at value e =
-    subst (λ (o : OptionName). IsOther files_in (said_by tools.Classify nothing_before (Valued o at value))) (sym e) (arch_other (at + 1) (arch_named value))
+    subst (λ (o : OptionName). IsOther files_in (said_by tools.Classify no_notes (Valued o at value))) (sym e) (arch_other (at + 1) (arch_named value))
 
 -- an option of classify7 has its value after it, and the words after that have no fault
 pub option_first : (words : List (List ℕ)) (at : ℕ) (text : List ℕ) (option : OptionName) → at < length words → slice_get words at ≡ Some text
@@ -68,49 +71,53 @@ pub option_first : (words : List (List ℕ)) (at : ℕ) (text : List ℕ) (optio
 option_first words at text option within got named fit =
     option_then tools.Classify same_said files_in words at text option within got named (λ value. value_other option at value (only_arch text option named)) fit
 
-other_tool : {X : Type 0} (request : X → Asked) (asked : Result X Usage) → ((x : X) → IsClassifying (Ok (request x)) → ⊥) → IsClassifying (asks request asked) → ⊥
+other_tool : {X : Type 0} (request : X → Task) (asked : Result X Usage) → ((x : X) → IsClassifying (Ok (request x)) → ⊥) → IsClassifying (asks request asked) → ⊥
 other_tool request (Ok x) apart h = apart x h
 other_tool request (Err usage) apart h = h
 
-classified : (count : ℕ) (arch : Option ArchName) (files : List ℕ) → IsClassifying (asks AsksFamilies (families_with count arch files))
+families_files : (count : ℕ) (arch : Option ArchName) (files : List ℕ) → IsClassifying (asks AsksFamilies (families_with count arch files))
     → files ≡ files_of (asks AsksFamilies (families_with count arch files))
-classified count None files h = absurd h
-classified count (Some arch) files h = refl
+families_files count None files h = absurd h
+families_files count (Some arch) files h = refl
 
-no_diyone : (count : ℕ) (said : List Said) → IsClassifying (diyone_asked count said) → ⊥
-no_diyone count said h = of_test (list_any is_why said) h
+no_diyone : (count : ℕ) (notes : Notes) (edges : List Edge) → IsClassifying (diyone_asked count notes edges) → ⊥
+no_diyone count notes edges h = of_test notes.why h
   where
-    of_test : (b : Bool) → IsClassifying (if b then asks AsksWhy (why_asked count said) else asks AsksTest (test_asked count said)) → ⊥
-    of_test true h = other_tool AsksWhy (why_asked count said) (λ x k. k) h
-    of_test false h = other_tool AsksTest (test_asked count said) (λ x k. k) h
+    of_test : (b : Bool) → IsClassifying (if b then asks AsksWhy (why_asked count notes edges) else asks AsksTest (test_asked count notes edges)) → ⊥
+    of_test true h = other_tool AsksWhy (why_asked count notes edges) (λ x k. k) h
+    of_test false h = other_tool AsksTest (test_asked count notes edges) (λ x k. k) h
 
-no_classify : (tool : Tool) (count : ℕ) (said : Result (List Said) Usage) → (tool ≡ tools.Classify → ⊥) → IsClassifying (tool_asked tool count said) → ⊥
-no_classify tool count (Err usage) other h = h
-no_classify tools.DiyOne count (Ok said) other h = no_diyone count said h
-no_classify tools.Diy count (Ok said) other h = other_tool AsksList (diy_asked count said) (λ x k. k) h
-no_classify tools.Cross count (Ok said) other h = other_tool AsksCross (cross_asked count said) (λ x k. k) h
-no_classify tools.Norm count (Ok said) other h = other_tool AsksName (norm_asked count said) (λ x k. k) h
-no_classify tools.Classify count (Ok said) other h = other refl
-no_classify tools.Msum count (Ok said) other h = h
-no_classify tools.Demo count (Ok said) other h = other_tool AsksDemo (demo_with count (last_given arch_in said) (last_given count_in said)) (λ x k. k) h
-no_classify tools.Check count (Ok said) other h = other_tool AsksCheck (check_asked count said) (λ x k. k) h
+no_classify : (tool : Tool) (count : ℕ) (notes : Notes) (edges : List Edge) (places : List (List (List Edge))) (files : List ℕ) → (tool ≡ tools.Classify → ⊥)
+    → IsClassifying (tool_asked tool count notes edges places files) → ⊥
+no_classify tools.DiyOne count notes edges places files other h = no_diyone count notes edges h
+no_classify tools.Diy count notes edges places files other h = other_tool AsksList (diy_asked count notes) (λ x k. k) h
+no_classify tools.Cross count notes edges places files other h = other_tool AsksCross (cross_asked count notes places) (λ x k. k) h
+no_classify tools.Norm count notes edges places files other h = other_tool AsksName (norm_asked count notes edges) (λ x k. k) h
+no_classify tools.Classify count notes edges places files other h = other refl
+no_classify tools.Msum count notes edges places files other h = h
+no_classify tools.Demo count notes edges places files other h = other_tool AsksDemo (demo_with count notes.arch notes.count) (λ x k. k) h
+no_classify tools.Check count notes edges places files other h = other_tool AsksCheck (check_with count notes.arch notes.test notes.execution) (λ x k. k) h
+
+no_classify_said : (tool : Tool) (count : ℕ) (said : Result (List Saying) Usage) → (tool ≡ tools.Classify → ⊥) → IsClassifying (said_asked tool count said) → ⊥
+no_classify_said tool count (Err usage) other h = h
+no_classify_said tool count (Ok said) other h = no_classify tool count (notes_of said) (edges_given said) (places_given said) (files_given said) other h
 
 -- the words of classify7 after the tool's name, and what they ask for
-record ClassifyAsks (words : List (List ℕ)) (asked : Result Asked Usage) : Type 0 where
-  faultless : AllByRecursion IsOk (saying tools.Classify nothing_before (parts_of tools.Classify 1 words))
-  first : given_all files_in (saying tools.Classify nothing_before (parts_of tools.Classify 1 words)) ≡ files_of asked
+record ClassifyAsks (words : List (List ℕ)) (asked : Result Task Usage) : Type 0 where
+  faultless : AllByRecursion IsOk (sayings tools.Classify no_notes (parts_of tools.Classify 1 words))
+  first : given_all files_in (sayings tools.Classify no_notes (parts_of tools.Classify 1 words)) ≡ files_of asked
 
 classify_asks : (found : Option Tool) (count : ℕ) (words : List (List ℕ)) → IsClassifying (asked_for found count words) → ClassifyAsks words (asked_for found count words)
 classify_asks None count words h = absurd h
-classify_asks (Some tools.Classify) count words h = of_said (said_all (saying tools.Classify nothing_before (parts_of tools.Classify 1 words))) refl h
+classify_asks (Some tools.Classify) count words h = of_said (said_all (sayings tools.Classify no_notes (parts_of tools.Classify 1 words))) refl h
   where
-    of_said : (said : Result (List Said) Usage) → said_all (saying tools.Classify nothing_before (parts_of tools.Classify 1 words)) ≡ said
-        → IsClassifying (tool_asked tools.Classify count said) → ClassifyAsks words (tool_asked tools.Classify count said)
+    of_said : (said : Result (List Saying) Usage) → said_all (sayings tools.Classify no_notes (parts_of tools.Classify 1 words)) ≡ said
+        → IsClassifying (said_asked tools.Classify count said) → ClassifyAsks words (said_asked tools.Classify count said)
     of_said (Err usage) e h = absurd h
     of_said (Ok said) e h =
-        let all = all_said files_in files_given refl (λ first more. refl) (saying tools.Classify nothing_before (parts_of tools.Classify 1 words)) said e in
-        record { faultless = all.faultless; first = all.given ∙ classified count (last_given arch_in said) (files_given said) h }
-classify_asks (Some tool) count words h = absurd (no_classify tool count (said_all (saying tool nothing_before (parts_of tool 1 words))) (λ e. cc e) h)
+        let all = all_said files_in files_given refl (λ first more. refl) (sayings tools.Classify no_notes (parts_of tools.Classify 1 words)) said e in
+        record { faultless = all.faultless; first = all.given ∙ families_files count (notes_of said).arch (files_given said) h }
+classify_asks (Some tool) count words h = absurd (no_classify_said tool count (said_all (sayings tool no_notes (parts_of tool 1 words))) (λ e. cc e) h)
 
 -- the words of classify7 begin so
 pub record ClassifyWords (words : List (List ℕ)) : Type 0 where

@@ -8,71 +8,72 @@ use Rattle.std.proofs.lemmas.Option.{slice_get-get_or}
 use Rattle.diy_words.specs.declared.options.OptionName.{OptionName}
 use Rattle.diy_words.specs.declared.options.Tool.{Tool}
 use Rattle.diy_words.specs.declared.usage.Usage.{Usage}
-use Rattle.diy_words.specs.Given.{saying_from}
+use Rattle.diy_words.specs.Given.{sayings_from}
 use Rattle.diy_words.specs.Parts.{Alone, Valued, parts_of, option_named}
-use Rattle.diy_words.specs.Requests.{Said, nothing_before, before_next, said_by, saying, said_first, said_all}
+use Rattle.diy_words.specs.Notes.{no_notes}
+use Rattle.diy_words.specs.Sayings.{Saying, with_next, said_by, sayings, said_first, said_all}
 use Rattle.diy_words.proofs.BeforeLaws.{IsSilent, IsUncounted, uncounted}
 use Rattle.diy_words.proofs.Judged.{alone_first, value_first, unvalued_last}
 
 -- what is given among what words say, by what each thing that is said gives
-abbrev pub given_by : {X : Type 0} → (Said → List X) → Result Said Usage → List X
+abbrev pub given_by : {X : Type 0} → (Saying → List X) → Result Saying Usage → List X
 given_by gives (Ok said) = gives said
 given_by gives (Err _) = []
 
 -- what is given among what words say, one after another
-abbrev pub given_all : {X : Type 0} → (Said → List X) → List (Result Said Usage) → List X
+abbrev pub given_all : {X : Type 0} → (Saying → List X) → List (Result Saying Usage) → List X
 given_all gives [] = []
 given_all gives (said ∷ rest) = given_by gives said ++ given_all gives rest
 
 -- the words of a tool from a place on: what they say, that none is faulty, and what they give
-abbrev pub said_from : Tool → List (List ℕ) → ℕ → List (Result Said Usage)
-said_from tool words at = saying_from tool nothing_before words at
+abbrev pub said_from : Tool → List (List ℕ) → ℕ → List (Result Saying Usage)
+said_from tool words at = sayings_from tool no_notes words at
 
 -- no word of a tool from a place on is faulty
 abbrev pub AreFaultless : Tool → List (List ℕ) → ℕ → Type 0
 AreFaultless tool words at = AllByRecursion IsOk (said_from tool words at)
 
 -- what the words of a tool from a place on give
-abbrev pub given_from : {X : Type 0} → Tool → (Said → List X) → List (List ℕ) → ℕ → List X
+abbrev pub given_from : {X : Type 0} → Tool → (Saying → List X) → List (List ℕ) → ℕ → List X
 given_from tool gives words at = given_all gives (said_from tool words at)
 
 -- the words after one that isn't `-why` say what they say alone
-said_after : (tool : Tool) → IsUncounted tool → (said : Result Said Usage) (words : List (List ℕ)) (at : ℕ) → IsSilent said
-    → saying_from tool (before_next nothing_before said) words at ≡ said_from tool words at
+said_after : (tool : Tool) → IsUncounted tool → (said : Result Saying Usage) (words : List (List ℕ)) (at : ℕ) → IsSilent said
+    → sayings_from tool (with_next no_notes said) words at ≡ said_from tool words at
 said_after tool same said words at silent =
-    uncounted tool same (parts_of tool at (drop at words)) (before_next nothing_before said) nothing_before (silent nothing_before)
+    uncounted tool same (parts_of tool at (drop at words)) (with_next no_notes said) no_notes (silent no_notes)
 
 -- a word that is neither an option nor a value, before others
 pub alone_then : (tool : Tool) → IsUncounted tool → (words : List (List ℕ)) (at : ℕ) (text : List ℕ) → slice_get words at ≡ Some text → option_named tool text ≡ None
-    → IsSilent (said_by tool nothing_before (Alone at text)) → said_from tool words at ≡ said_by tool nothing_before (Alone at text) ∷ said_from tool words (at + 1)
+    → IsSilent (said_by tool no_notes (Alone at text)) → said_from tool words at ≡ said_by tool no_notes (Alone at text) ∷ said_from tool words (at + 1)
 alone_then tool same words at text got plain silent =
-    alone_first tool nothing_before words at text got plain ∙
-    ap (λ rest. said_by tool nothing_before (Alone at text) ∷ rest) (said_after tool same (said_by tool nothing_before (Alone at text)) words (at + 1) silent)
+    alone_first tool no_notes words at text got plain ∙
+    ap (λ rest. said_by tool no_notes (Alone at text) ∷ rest) (said_after tool same (said_by tool no_notes (Alone at text)) words (at + 1) silent)
 
 -- something said that gives nothing and isn't `-why`
-pub record IsOther {X : Type 0} (gives : Said → List X) (said : Result Said Usage) : Type 0 where
+pub record IsOther {X : Type 0} (gives : Saying → List X) (said : Result Saying Usage) : Type 0 where
   pub none : given_by gives said ≡ []
   pub silent : IsSilent said
 
 -- an option with its value, before others
-pub record OptionFirst {X : Type 0} (tool : Tool) (gives : Said → List X) (words : List (List ℕ)) (at : ℕ) : Type 0 where
+pub record OptionFirst {X : Type 0} (tool : Tool) (gives : Saying → List X) (words : List (List ℕ)) (at : ℕ) : Type 0 where
   pub valued : at + 1 < length words
   pub faultless : AreFaultless tool words (at + 2)
   pub first : given_from tool gives words at ≡ given_from tool gives words (at + 2)
 
 -- an option comes with its value, and gives nothing of what is asked for
-pub option_then : {X : Type 0} (tool : Tool) → IsUncounted tool → (gives : Said → List X) (words : List (List ℕ)) (at : ℕ) (text : List ℕ) (option : OptionName) → at < length words
-    → slice_get words at ≡ Some text → option_named tool text ≡ Some option → ((value : List ℕ) → IsOther gives (said_by tool nothing_before (Valued option at value)))
+pub option_then : {X : Type 0} (tool : Tool) → IsUncounted tool → (gives : Saying → List X) (words : List (List ℕ)) (at : ℕ) (text : List ℕ) (option : OptionName) → at < length words
+    → slice_get words at ≡ Some text → option_named tool text ≡ Some option → ((value : List ℕ) → IsOther gives (said_by tool no_notes (Valued option at value)))
     → AreFaultless tool words at → OptionFirst tool gives words at
 option_then tool same gives words at text option within got named others fit = ⊎_elim of_more of_last (cases_lt (at + 1) (length words))
   where
     of_value : (value : List ℕ) → at + 1 < length words → slice_get words (at + 1) ≡ Some value → OptionFirst tool gives words at
     of_value value more valued =
-        let other : IsOther gives (said_by tool nothing_before (Valued option at value)) = others value in
-        let e : said_from tool words at ≡ said_by tool nothing_before (Valued option at value) ∷ said_from tool words (at + 2) =
-        value_first tool nothing_before words at text value option got named valued ∙
-        ap (λ rest. said_by tool nothing_before (Valued option at value) ∷ rest)
-        (said_after tool same (said_by tool nothing_before (Valued option at value)) words (at + 2) other.silent) in
+        let other : IsOther gives (said_by tool no_notes (Valued option at value)) = others value in
+        let e : said_from tool words at ≡ said_by tool no_notes (Valued option at value) ∷ said_from tool words (at + 2) =
+        value_first tool no_notes words at text value option got named valued ∙
+        ap (λ rest. said_by tool no_notes (Valued option at value) ∷ rest)
+        (said_after tool same (said_by tool no_notes (Valued option at value)) words (at + 2) other.silent) in
         let k = subst (AllByRecursion IsOk) e fit in
         record {
           valued = more;
@@ -85,21 +86,21 @@ option_then tool same gives words at text option within got named others fit = �
 
     of_last : length words ≤ at + 1 → OptionFirst tool gives words at
     of_last last =
-        let k = subst (AllByRecursion IsOk) (unvalued_last tool nothing_before words at text option got named (omega arith)) fit in cc k.0
+        let k = subst (AllByRecursion IsOk) (unvalued_last tool no_notes words at text option got named (omega arith)) fit in cc k.0
 
 -- what faultless words say
-pub record AllSaid {X : Type 0} (gives : Said → List X) (said : List (Result Said Usage)) (all : List X) : Type 0 where
+pub record AllSaid {X : Type 0} (gives : Saying → List X) (said : List (Result Saying Usage)) (all : List X) : Type 0 where
   pub faultless : AllByRecursion IsOk said
   pub given : given_all gives said ≡ all
 
 -- words that are all read are faultless, and what they give adds up
-pub all_said : {X : Type 0} (gives : Said → List X) (total : List Said → List X) → [] ≡ total [] → ((first : Said) (more : List Said) → gives first ++ total more ≡ total (first ∷ more))
-    → (said : List (Result Said Usage)) (all : List Said) → said_all said ≡ Ok all → AllSaid gives said (total all)
+pub all_said : {X : Type 0} (gives : Saying → List X) (total : List Saying → List X) → [] ≡ total [] → ((first : Saying) (more : List Saying) → gives first ++ total more ≡ total (first ∷ more))
+    → (said : List (Result Saying Usage)) (all : List Saying) → said_all said ≡ Ok all → AllSaid gives said (total all)
 all_said gives total none one [] all e = let same : [] ≡ all = cc in record { faultless = tt; given = none ∙ ap total same }
 all_said gives total none one (Err usage ∷ rest) all e = cc e
 all_said gives total none one (Ok first ∷ rest) all e = of_rest (said_all rest) (all_said gives total none one rest) e
   where
-    of_rest : (further : Result (List Said) Usage) → ((more : List Said) → further ≡ Ok more → AllSaid gives rest (total more)) → said_first first further ≡ Ok all
+    of_rest : (further : Result (List Saying) Usage) → ((more : List Saying) → further ≡ Ok more → AllSaid gives rest (total more)) → said_first first further ≡ Ok all
         → AllSaid gives (Ok first ∷ rest) (total all)
     of_rest (Err usage) tail e = cc e
     of_rest (Ok more) tail e =
@@ -108,5 +109,5 @@ all_said gives total none one (Ok first ∷ rest) all e = of_rest (said_all rest
         record { faultless = (refl, further.faultless); given = ap (λ given. gives first ++ given) further.given ∙ one first more ∙ ap total same }
 
 -- no word is left at the end
-pub none_left : {X : Type 0} (tool : Tool) (gives : Said → List X) (words : List (List ℕ)) (at : ℕ) → length words ≤ at → given_from tool gives words at ≡ []
-none_left tool gives words at h = ap (λ rest. given_all gives (saying tool nothing_before (parts_of tool at rest))) (drop_all at words h)
+pub none_left : {X : Type 0} (tool : Tool) (gives : Saying → List X) (words : List (List ℕ)) (at : ℕ) → length words ≤ at → given_from tool gives words at ≡ []
+none_left tool gives words at h = ap (λ rest. given_all gives (sayings tool no_notes (parts_of tool at rest))) (drop_all at words h)

@@ -1,7 +1,7 @@
 -- Where words ask for something of diycross7, each word that is neither an option nor its value spells the relaxations of a place.
 use Rattle.std.proofs.Common.{◌≡◌, ◌<◌, ◌≤◌, ◌+◌, ℕ, Bool, true, false, List, [], ◌∷◌, ◌++◌, length, Option, Some, None, Result, Ok, Err, append_assoc, append-nil, refl, sym, ap, ◌∙◌, slice_get, nat_lt, nat_le}
 use Rattle.std.specs.Prelude.{◌&&◌, if◌then◌else◌, IsOk}
-use Rattle.std.specs.List.{AllByRecursion, list_any}
+use Rattle.std.specs.List.{AllByRecursion}
 use Rattle.relax_edges.specs.declared.TheConstants.{MAX_EDGES}
 use Rattle.relax_edges.specs.declared.edge.Edge.{Edge}
 use Rattle.relax_edges.specs.declared.kinds.ArchName.{ArchName}
@@ -22,7 +22,9 @@ use Rattle.diy_words.specs.declared.usage.UsageKind.TheVariants.{UnknownOption, 
 use Rattle.diy_words.specs.Names.{is_name}
 use Rattle.diy_words.specs.Numbers.{number_to}
 use Rattle.diy_words.specs.Parts.{Alone, Valued, Unvalued, parts_of, tool_named, option_named, arch_named, mode_named}
-use Rattle.diy_words.specs.Requests.{Said, SaysName, SaysFolder, Asked, AsksTest, AsksWhy, AsksName, AsksList, AsksFamilies, AsksCross, AsksDemo, AsksCheck, fault, place_said, arch_said, mode_said, relaxes_said, size_said, threads_said, cycle_said, after_said, begins_option, nothing_before, said_by, saying, said_all, places_in, places_given, files_given, choice_count, asks, cross_with, families_with, demo_with, check_asked, why_asked, test_asked, diyone_asked, diy_asked, norm_asked, mode_or_accept, last_given, arch_in, mode_in, folder_in, count_in, is_why, tool_asked, asked_for, asked_of, IsCrossing, places_of, accesses_said}
+use Rattle.diy_words.specs.Notes.{Notes, no_notes}
+use Rattle.diy_words.specs.Sayings.{Saying, SaysName, SaysFolder, fault, place_said, arch_said, mode_said, relaxes_said, size_said, threads_said, cycle_said, after_said, begins_option, said_by, sayings, said_all, places_in, places_given, files_given, accesses_said, notes_of, edges_given}
+use Rattle.diy_words.specs.Requests.{Task, AsksTest, AsksWhy, AsksName, AsksList, AsksFamilies, AsksCross, AsksDemo, AsksCheck, choice_count, asks, cross_with, families_with, demo_with, why_asked, test_asked, diyone_asked, diy_asked, norm_asked, mode_or_accept, tool_asked, asked_for, asked_of, IsCrossing, places_of, check_with, said_asked}
 use Rattle.diy_words.proofs.BeforeLaws.{IsSilent, IsUncounted}
 use Rattle.diy_words.proofs.OperandLaws.{given_all, said_from, AreFaultless, given_from, alone_then, IsOther, OptionFirst, option_then, all_said, none_left}
 
@@ -105,7 +107,7 @@ folder_other at text true = record { none = refl; silent = λ before. refl }
 folder_other at text false = record { none = refl; silent = λ before. refl }
 
 -- an option gives no relaxations of a place
-value_other : (option : OptionName) (at : ℕ) (value : List ℕ) → IsOther places_in (said_by tools.Cross nothing_before (Valued option at value))
+value_other : (option : OptionName) (at : ℕ) (value : List ℕ) → IsOther places_in (said_by tools.Cross no_notes (Valued option at value))
 value_other opts.Arch at value = arch_other (at + 1) (arch_named value)
 value_other opts.Name at value = name_other (at + 1) value (is_name value)
 value_other opts.Obs at value = mode_other (at + 1) (mode_named value)
@@ -123,53 +125,57 @@ pub option_first : (words : List (List ℕ)) (at : ℕ) (text : List ℕ) (optio
 option_first words at text option within got named fit =
     option_then tools.Cross same_said places_in words at text option within got named (λ value. value_other option at value) fit
 
-other_tool : {X : Type 0} (request : X → Asked) (asked : Result X Usage) → ((x : X) → IsCrossing (Ok (request x)) → ⊥) → IsCrossing (asks request asked) → ⊥
+other_tool : {X : Type 0} (request : X → Task) (asked : Result X Usage) → ((x : X) → IsCrossing (Ok (request x)) → ⊥) → IsCrossing (asks request asked) → ⊥
 other_tool request (Ok x) apart h = apart x h
 other_tool request (Err usage) apart h = h
 
-crossed : (count : ℕ) (arch : Option ArchName) (mode : ObsMode) (folder : Option (List ℕ)) (places : List (List (List Edge))) → IsCrossing (asks AsksCross (cross_with count arch mode folder places)) →
+cross_places : (count : ℕ) (arch : Option ArchName) (mode : ObsMode) (folder : Option (List ℕ)) (places : List (List (List Edge))) → IsCrossing (asks AsksCross (cross_with count arch mode folder places)) →
     places ≡ places_of (asks AsksCross (cross_with count arch mode folder places))
-crossed count None mode folder places h = absurd h
-crossed count (Some arch) mode folder places h = of_test (nat_lt MAX_CHOICES (choice_count places)) h
+cross_places count None mode folder places h = absurd h
+cross_places count (Some arch) mode folder places h = of_test (nat_lt MAX_CHOICES (choice_count places)) h
   where
     of_test : (b : Bool) → IsCrossing (asks AsksCross (if b then Err (record { word = count; kind = TooManyChoices }) else Ok (record { arch = arch; mode = mode; folder = folder; places = places }))) →
         places ≡ places_of (asks AsksCross (if b then Err (record { word = count; kind = TooManyChoices }) else Ok (record { arch = arch; mode = mode; folder = folder; places = places })))
     of_test true h = absurd h
     of_test false h = refl
 
-no_diyone : (count : ℕ) (said : List Said) → IsCrossing (diyone_asked count said) → ⊥
-no_diyone count said h = of_test (list_any is_why said) h
+no_diyone : (count : ℕ) (notes : Notes) (edges : List Edge) → IsCrossing (diyone_asked count notes edges) → ⊥
+no_diyone count notes edges h = of_test notes.why h
   where
-    of_test : (b : Bool) → IsCrossing (if b then asks AsksWhy (why_asked count said) else asks AsksTest (test_asked count said)) → ⊥
-    of_test true h = other_tool AsksWhy (why_asked count said) (λ x k. k) h
-    of_test false h = other_tool AsksTest (test_asked count said) (λ x k. k) h
+    of_test : (b : Bool) → IsCrossing (if b then asks AsksWhy (why_asked count notes edges) else asks AsksTest (test_asked count notes edges)) → ⊥
+    of_test true h = other_tool AsksWhy (why_asked count notes edges) (λ x k. k) h
+    of_test false h = other_tool AsksTest (test_asked count notes edges) (λ x k. k) h
 
-no_cross : (tool : Tool) (count : ℕ) (said : Result (List Said) Usage) → (tool ≡ tools.Cross → ⊥) → IsCrossing (tool_asked tool count said) → ⊥
-no_cross tool count (Err usage) other h = h
-no_cross tools.DiyOne count (Ok said) other h = no_diyone count said h
-no_cross tools.Diy count (Ok said) other h = other_tool AsksList (diy_asked count said) (λ x k. k) h
-no_cross tools.Cross count (Ok said) other h = other refl
-no_cross tools.Norm count (Ok said) other h = other_tool AsksName (norm_asked count said) (λ x k. k) h
-no_cross tools.Classify count (Ok said) other h = other_tool AsksFamilies (families_with count (last_given arch_in said) (files_given said)) (λ x k. k) h
-no_cross tools.Msum count (Ok said) other h = h
-no_cross tools.Demo count (Ok said) other h = other_tool AsksDemo (demo_with count (last_given arch_in said) (last_given count_in said)) (λ x k. k) h
-no_cross tools.Check count (Ok said) other h = other_tool AsksCheck (check_asked count said) (λ x k. k) h
+no_cross : (tool : Tool) (count : ℕ) (notes : Notes) (edges : List Edge) (places : List (List (List Edge))) (files : List ℕ) → (tool ≡ tools.Cross → ⊥)
+    → IsCrossing (tool_asked tool count notes edges places files) → ⊥
+no_cross tools.DiyOne count notes edges places files other h = no_diyone count notes edges h
+no_cross tools.Diy count notes edges places files other h = other_tool AsksList (diy_asked count notes) (λ x k. k) h
+no_cross tools.Cross count notes edges places files other h = other refl
+no_cross tools.Norm count notes edges places files other h = other_tool AsksName (norm_asked count notes edges) (λ x k. k) h
+no_cross tools.Classify count notes edges places files other h = other_tool AsksFamilies (families_with count notes.arch files) (λ x k. k) h
+no_cross tools.Msum count notes edges places files other h = h
+no_cross tools.Demo count notes edges places files other h = other_tool AsksDemo (demo_with count notes.arch notes.count) (λ x k. k) h
+no_cross tools.Check count notes edges places files other h = other_tool AsksCheck (check_with count notes.arch notes.test notes.execution) (λ x k. k) h
+
+no_cross_said : (tool : Tool) (count : ℕ) (said : Result (List Saying) Usage) → (tool ≡ tools.Cross → ⊥) → IsCrossing (said_asked tool count said) → ⊥
+no_cross_said tool count (Err usage) other h = h
+no_cross_said tool count (Ok said) other h = no_cross tool count (notes_of said) (edges_given said) (places_given said) (files_given said) other h
 
 -- the words of diycross7 after the tool's name, and what they ask for
-record CrossAsks (words : List (List ℕ)) (asked : Result Asked Usage) : Type 0 where
-  faultless : AllByRecursion IsOk (saying tools.Cross nothing_before (parts_of tools.Cross 1 words))
-  first : given_all places_in (saying tools.Cross nothing_before (parts_of tools.Cross 1 words)) ≡ places_of asked
+record CrossAsks (words : List (List ℕ)) (asked : Result Task Usage) : Type 0 where
+  faultless : AllByRecursion IsOk (sayings tools.Cross no_notes (parts_of tools.Cross 1 words))
+  first : given_all places_in (sayings tools.Cross no_notes (parts_of tools.Cross 1 words)) ≡ places_of asked
 
 cross_asks : (found : Option Tool) (count : ℕ) (words : List (List ℕ)) → IsCrossing (asked_for found count words) → CrossAsks words (asked_for found count words)
 cross_asks None count words h = absurd h
-cross_asks (Some tools.Cross) count words h = of_said (said_all (saying tools.Cross nothing_before (parts_of tools.Cross 1 words))) refl h
+cross_asks (Some tools.Cross) count words h = of_said (said_all (sayings tools.Cross no_notes (parts_of tools.Cross 1 words))) refl h
   where
-    of_said : (said : Result (List Said) Usage) → said_all (saying tools.Cross nothing_before (parts_of tools.Cross 1 words)) ≡ said → IsCrossing (tool_asked tools.Cross count said) → CrossAsks words (tool_asked tools.Cross count said)
+    of_said : (said : Result (List Saying) Usage) → said_all (sayings tools.Cross no_notes (parts_of tools.Cross 1 words)) ≡ said → IsCrossing (said_asked tools.Cross count said) → CrossAsks words (said_asked tools.Cross count said)
     of_said (Err usage) e h = absurd h
     of_said (Ok said) e h =
-        let all = all_said places_in places_given refl (λ first more. refl) (saying tools.Cross nothing_before (parts_of tools.Cross 1 words)) said e in
-        record { faultless = all.faultless; first = all.given ∙ crossed count (last_given arch_in said) (mode_or_accept (last_given mode_in said)) (last_given folder_in said) (places_given said) h }
-cross_asks (Some tool) count words h = absurd (no_cross tool count (said_all (saying tool nothing_before (parts_of tool 1 words))) (λ e. cc e) h)
+        let all = all_said places_in places_given refl (λ first more. refl) (sayings tools.Cross no_notes (parts_of tools.Cross 1 words)) said e in
+        record { faultless = all.faultless; first = all.given ∙ cross_places count (notes_of said).arch (mode_or_accept (notes_of said).mode) (notes_of said).folder (places_given said) h }
+cross_asks (Some tool) count words h = absurd (no_cross_said tool count (said_all (sayings tool no_notes (parts_of tool 1 words))) (λ e. cc e) h)
 
 -- the words of diycross7 begin so
 pub record CrossWords (words : List (List ℕ)) : Type 0 where

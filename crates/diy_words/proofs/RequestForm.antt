@@ -1,11 +1,11 @@
 -- What a request has of its own form: the name of a test, the size of a listing, a folder, and the files of mcheck7.
 use Rattle.std.proofs.Common.{◌≡◌, ◌≤◌, ◌<◌, ◌+◌, ℕ, ap, arith, lit≤, nat_lt, nat_le, Bool, true, false, List, [], ◌∷◌, Option, Some, None, Result, Ok, Err, refl, sym, subst, length}
-use Rattle.std.specs.Prelude.{if◌then◌else◌, IfOk, IfSome, ◌&&◌, ◌==◌, codes}
+use Rattle.std.specs.Prelude.{if◌then◌else◌, is_some, IfOk, IfSome, ◌&&◌, ◌==◌, codes}
 use Rattle.std.specs.Str.{bytes_eq}
 use Rattle.std.specs.Str.Parse.{digits_value}
 use Rattle.std.proofs.lemmas.Bool.Decides.{nat_tests}
 use Rattle.std.specs.Option.{option_map}
-use Rattle.std.specs.List.{AllByRecursion, list_any}
+use Rattle.std.specs.List.{AllByRecursion}
 use Rattle.relax_edges.specs.declared.edge.Edge.{Edge}
 use Rattle.relax_edges.specs.declared.TheConstants.{MAX_EDGES}
 use Rattle.relax_edges.specs.declared.relax_error.RelaxError.{RelaxError}
@@ -15,6 +15,8 @@ use Rattle.edge_algebra.specs.Compose.{composed}
 use Rattle.edge_lists.specs.declared.read.Separators.TheVariants.{BlanksAndCommas}
 use Rattle.edge_lists.specs.Spelled.{edges_of}
 use Rattle.diy_words.specs.declared.request.TheConstants.{MAX_FOLDER, MAX_CHOICES, MAX_TESTS}
+use Rattle.diy_words.specs.declared.request.Check.{Check}
+use Rattle.diy_words.specs.declared.request.Demo.{Demo}
 use Rattle.diy_words.specs.declared.request.Diy.{Diy}
 use Rattle.std.specs.Option.{ForSome}
 use Rattle.std.specs.Borrow.{Bor}
@@ -30,15 +32,17 @@ use Rattle.diy_words.specs.declared.options.OptionName.{OptionName}
 use Rattle.diy_words.specs.declared.options.OptionName.TheVariants as opts
 use Rattle.diy_words.specs.Names.{is_name}
 use Rattle.diy_words.specs.Edges.{operand_edges}
-use Rattle.diy_words.specs.Parts.{Part, Alone, Valued, Unvalued, Waiting, Ready, Waits, waiting_at, alone_before, parts_from, parts_of, option_named, tool_named, arch_named, mode_named}
-use Rattle.diy_words.specs.Requests.{Said, SaysName, SaysSize, SaysExact, SaysWhy, SaysFolder, SaysCount, SaysTest, SaysExecution, Asked, AsksTest, AsksWhy, AsksName, AsksList, AsksFamilies, AsksCross, AsksDemo, AsksCheck, NameAsked, ListAsked, FamiliesAsked, CheckAsked, fault, dashed_said, operand_said, relaxes_said, size_said, threads_said, after_said, cycle_said, size_in, given_or, list_with, families_with, cross_with, demo_with, check_with, choice_count, places_given, files_given, place_said, count_said, count_in, test_in, execution_in, Before, nothing_before, before_next, saying, said_by, said_first, said_all, arch_said, mode_said, edges_said, begins_option, or_later, last_given, arch_in, name_in, mode_in, relaxes_in, is_exact, is_why, threads_in, after_in, folder_in, mode_or_accept, edges_given, asks, asked_with, why_with, why_asked, test_asked, diyone_asked, asked_for, norm_asked, tool_asked, asked_of, accesses_said, accesses_in}
+use Rattle.diy_words.specs.Parts.{Part, Alone, Valued, Unvalued, waiting_at, alone_before, parts_from, parts_of, option_named, tool_named, arch_named, mode_named}
+use Rattle.diy_words.specs.Notes.{Notes, no_notes}
+use Rattle.diy_words.specs.Sayings.{Saying, SaysName, SaysSize, SaysExact, SaysWhy, SaysFolder, SaysCount, SaysTest, SaysExecution, fault, dashed_said, operand_said, relaxes_said, size_said, threads_said, after_said, cycle_said, places_given, files_given, place_said, count_said, with_saying, with_next, sayings, said_by, said_first, said_all, notes_with, notes_of, arch_said, mode_said, edges_said, begins_option, edges_given, accesses_said}
+use Rattle.diy_words.specs.Requests.{Task, AsksTest, AsksWhy, AsksName, AsksList, AsksFamilies, AsksCross, AsksDemo, AsksCheck, NameTask, ListTask, FamiliesTask, list_with, families_with, cross_with, demo_with, check_with, choice_count, mode_or_accept, asks, test_with, why_with, why_asked, test_asked, diyone_asked, asked_for, norm_asked, tool_asked, said_asked, asked_of}
 use Rattle.arrayvec.specs.ArrayString.{ArrayString}
 use Rattle.diy_words.specs.Given.{Gives, HasForm, WithinWords, list_kept}
 use Rattle.diy_words.specs.Numbers.{is_number, number_to}
 
 -- a name and a folder that are given have their forms, a size is one that cycles can have, so many tests can be made, and a file
 -- of mcheck7 is one of so many words
-abbrev IsFit : ℕ → Said → Type 0
+abbrev IsFit : ℕ → Saying → Type 0
 IsFit count (SaysName name) = is_name name ≡ true
 IsFit count (SaysSize size) = size ≤ MAX_EDGES
 IsFit count (SaysFolder folder) = length folder ≤ MAX_FOLDER
@@ -47,7 +51,7 @@ IsFit count (SaysTest at) = at < count
 IsFit count (SaysExecution at) = at < count
 IsFit count _ = Unit {0}
 
-abbrev SaysForm : ℕ → Result Said Usage → Type 0
+abbrev SaysForm : ℕ → Result Saying Usage → Type 0
 SaysForm count (Ok said) = IsFit count said
 SaysForm count (Err _) = Unit {0}
 
@@ -72,8 +76,8 @@ why_form count at true true = tt
 why_form count at true false = tt
 why_form count at false c = tt
 
-alone_dashed : (count : ℕ) (tool : Tool) (before : Before) (at : ℕ) (text : List ℕ) → SaysForm count (dashed_said tool before at text)
-alone_dashed count tools.DiyOne before at text = why_form count at (bytes_eq text (codes "-why")) before.obs
+alone_dashed : (count : ℕ) (tool : Tool) (before : Notes) (at : ℕ) (text : List ℕ) → SaysForm count (dashed_said tool before at text)
+alone_dashed count tools.DiyOne before at text = why_form count at (bytes_eq text (codes "-why")) (is_some before.mode)
 alone_dashed count tools.Diy before at text = dashed_form count at (bytes_eq text (codes "-exact"))
 alone_dashed count tools.Norm before at text = tt
 alone_dashed count tools.Classify before at text = tt
@@ -119,7 +123,7 @@ alone_operand count tools.Msum taken at text h = tt
 alone_operand count tools.Demo taken at text h = demo_said count at text (taken == 0)
 alone_operand count tools.Check taken at text h = check_said count at (taken == 0) (taken == 1) h
 
-alone_form : (count : ℕ) (tool : Tool) (before : Before) (at : ℕ) (text : List ℕ) (b : Bool) → at < count
+alone_form : (count : ℕ) (tool : Tool) (before : Notes) (at : ℕ) (text : List ℕ) (b : Bool) → at < count
     → SaysForm count (if b then dashed_said tool before at text else operand_said tool before.taken at text)
 alone_form count tool before at text true h = alone_dashed count tool before at text
 alone_form count tool before at text false h = alone_operand count tool before.taken at text h
@@ -166,20 +170,20 @@ abbrev IsAmong : ℕ → Part → Type 0
 IsAmong count (Alone at text) = at < count
 IsAmong count _ = Unit {0}
 
-parts_among : (count : ℕ) (tool : Tool) (waiting : Waiting) (at : ℕ) (words : List (List ℕ)) → at + length words ≤ count
+parts_among : (count : ℕ) (tool : Tool) (waiting : Option (OptionName × ℕ)) (at : ℕ) (words : List (List ℕ)) → at + length words ≤ count
     → AllByRecursion (IsAmong count) (parts_from tool waiting at words)
-parts_among count tool Ready at [] h = tt
-parts_among count tool (Waits option place) at [] h = (tt, tt)
-parts_among count tool (Waits option place) at (value ∷ words) h = (tt, parts_among count tool Ready (at + 1) words (omega (arith, h)))
-parts_among count tool Ready at (word ∷ words) h =
+parts_among count tool None at [] h = tt
+parts_among count tool (Some waiting) at [] h = (tt, tt)
+parts_among count tool (Some waiting) at (value ∷ words) h = (tt, parts_among count tool None (at + 1) words (omega (arith, h)))
+parts_among count tool None at (word ∷ words) h =
     of_found (option_named tool word) (λ waiting. parts_among count tool waiting (at + 1) words (omega (arith, h)))
   where
-    of_found : (found : Option OptionName) → ((waiting : Waiting) → AllByRecursion (IsAmong count) (parts_from tool waiting (at + 1) words))
+    of_found : (found : Option OptionName) → ((waiting : Option (OptionName × ℕ)) → AllByRecursion (IsAmong count) (parts_from tool waiting (at + 1) words))
         → AllByRecursion (IsAmong count) (alone_before found at word (parts_from tool (waiting_at found at) (at + 1) words))
-    of_found (Some option) rest = rest (Waits option at)
-    of_found None rest = (omega (arith, h), rest Ready)
+    of_found (Some option) rest = rest (Some (option, at))
+    of_found None rest = (omega (arith, h), rest None)
 
-said_form : (count : ℕ) (tool : Tool) (before : Before) (part : Part) → IsAmong count part → SaysForm count (said_by tool before part)
+said_form : (count : ℕ) (tool : Tool) (before : Notes) (part : Part) → IsAmong count part → SaysForm count (said_by tool before part)
 said_form count tool before (Alone at text) h = alone_form count tool before at text (begins_option text) h
 said_form count tool before (Valued opts.Arch at value) h = arch_form count _ (arch_named value)
 said_form count tool before (Valued opts.Name at value) h = name_form count _ value (is_name value) refl
@@ -194,68 +198,46 @@ said_form count tool before (Valued opts.Folder at value) h = folder_form count 
 said_form count tool before (Unvalued option at) h = tt
 
 -- so have all that words say, where none is faulty
-abbrev AllForm : ℕ → Result (List Said) Usage → Type 0
+abbrev AllForm : ℕ → Result (List Saying) Usage → Type 0
 AllForm count (Ok said) = AllByRecursion (IsFit count) said
 AllForm count (Err _) = Unit {0}
 
-first_form : (count : ℕ) (said : Said) (rest : Result (List Said) Usage) → IsFit count said → AllForm count rest → AllForm count (said_first said rest)
+first_form : (count : ℕ) (said : Saying) (rest : Result (List Saying) Usage) → IsFit count said → AllForm count rest → AllForm count (said_first said rest)
 first_form count said (Ok rest) h k = (h, k)
 first_form count said (Err usage) h k = tt
 
-said_all_form : (count : ℕ) (said : List (Result Said Usage)) → AllByRecursion (SaysForm count) said → AllForm count (said_all said)
+said_all_form : (count : ℕ) (said : List (Result Saying Usage)) → AllByRecursion (SaysForm count) said → AllForm count (said_all said)
 said_all_form count [] h = tt
 said_all_form count (Ok said ∷ rest) h = first_form count said (said_all rest) h.0 (said_all_form count rest h.1)
 said_all_form count (Err usage ∷ rest) h = tt
 
-parts_form : (count : ℕ) (tool : Tool) (before : Before) (parts : List Part) → AllByRecursion (IsAmong count) parts → AllByRecursion (SaysForm count) (saying tool before parts)
+parts_form : (count : ℕ) (tool : Tool) (before : Notes) (parts : List Part) → AllByRecursion (IsAmong count) parts → AllByRecursion (SaysForm count) (sayings tool before parts)
 parts_form count tool before [] h = tt
 parts_form count tool before (part ∷ parts) h =
-    (said_form count tool before part h.0, parts_form count tool (before_next before (said_by tool before part)) parts h.1)
+    (said_form count tool before part h.0, parts_form count tool (with_next before (said_by tool before part)) parts h.1)
 
--- and the last of each thing among them
-given_fit : {X : Type 0} (count : ℕ) (P : X → Type 0) (given : Said → Option X) → ((said : Said) → IsFit count said → IfSome (given said) P)
-    → (said : List Said) → AllByRecursion (IsFit count) said → IfSome (last_given given said) P
-given_fit count P given own [] h = tt
-given_fit {X = X} count P given own (said ∷ rest) h = of_later (given said) (last_given given rest) (own said h.0) (given_fit count P given own rest h.1)
-  where
-    of_later : (here later : Option X) → IfSome here P → IfSome later P → IfSome (or_later here later) P
-    of_later here (Some last) h k = k
-    of_later here None h k = h
+-- and what is noted of them has its form
+abbrev AreFit : ℕ → Notes → Type 0
+AreFit count notes =
+    IfSome notes.name (λ name. is_name name ≡ true) × (notes.size ≤ MAX_EDGES) × IfSome notes.folder (λ folder. length folder ≤ MAX_FOLDER)
+    × IfSome notes.count (λ tests. (1 ≤ tests) × (tests ≤ MAX_TESTS)) × IfSome notes.test (λ at. at < count) × IfSome notes.execution (λ at. at < count)
 
-name_fit : (count : ℕ) (said : Said) → IsFit count said → IfSome (name_in said) (λ name. is_name name ≡ true)
-name_fit count (SaysName name) h = h
-name_fit count said h = tt
+with_fit : (count : ℕ) (notes : Notes) (saying : Saying) → IsFit count saying → AreFit count notes → AreFit count (with_saying notes saying)
+with_fit count notes (SaysName name) h f = (h, f.1, f.2, f.3, f.4, f.5)
+with_fit count notes (SaysSize size) h f = (f.0, h, f.2, f.3, f.4, f.5)
+with_fit count notes (SaysFolder folder) h f = (f.0, f.1, h, f.3, f.4, f.5)
+with_fit count notes (SaysCount tests) h f = (f.0, f.1, f.2, h, f.4, f.5)
+with_fit count notes (SaysTest at) h f = (f.0, f.1, f.2, f.3, h, f.5)
+with_fit count notes (SaysExecution at) h f = (f.0, f.1, f.2, f.3, f.4, h)
+with_fit count notes saying h f = f
 
-size_fit : (count : ℕ) (said : Said) → IsFit count said → IfSome (size_in said) (λ size. size ≤ MAX_EDGES)
-size_fit count (SaysSize size) h = h
-size_fit count said h = tt
-
-folder_fit : (count : ℕ) (said : Said) → IsFit count said → IfSome (folder_in said) (λ folder. length folder ≤ MAX_FOLDER)
-folder_fit count (SaysFolder folder) h = h
-folder_fit count said h = tt
-
-count_fit : (count : ℕ) (said : Said) → IsFit count said → IfSome (count_in said) (λ tests. (1 ≤ tests) × (tests ≤ MAX_TESTS))
-count_fit count (SaysCount tests) h = h
-count_fit count said h = tt
-
-test_fit : (count : ℕ) (said : Said) → IsFit count said → IfSome (test_in said) (λ at. at < count)
-test_fit count (SaysTest at) h = h
-test_fit count said h = tt
-
-execution_fit : (count : ℕ) (said : Said) → IsFit count said → IfSome (execution_in said) (λ at. at < count)
-execution_fit count (SaysExecution at) h = h
-execution_fit count said h = tt
-
-given_folder : (count : ℕ) (said : List Said) → AllByRecursion (IsFit count) said → IfSome (last_given folder_in said) (λ folder. length folder ≤ MAX_FOLDER)
-given_folder count said h = given_fit count (λ folder. length folder ≤ MAX_FOLDER) folder_in (folder_fit count) said h
-
-size_few : (size : Option ℕ) → IfSome size (λ size. size ≤ MAX_EDGES) → given_or 6 size ≤ MAX_EDGES
-size_few None h = lit≤ tt
-size_few (Some size) h = h
+notes_fit : (count : ℕ) (notes : Notes) (said : List Saying) → AllByRecursion (IsFit count) said → AreFit count notes → AreFit count (notes_with notes said)
+notes_fit count notes [] h f = f
+notes_fit count notes (saying ∷ rest) h f = notes_fit count (with_saying notes saying) rest h.1 (with_fit count notes saying h.0 f)
 
 -- the name of a test that words ask for has its form, and so have the size and the folder of a listing, the folders of diyone7
 -- and diycross7 and the number of demo; the files of mcheck7 are words among so many
-abbrev pub IsNamedSo : ℕ → Asked → Type 0
+abbrev pub IsNamedSo : ℕ → Task → Type 0
 IsNamedSo count (AsksTest asked) = IfSome asked.name (λ name. is_name name ≡ true)
 IsNamedSo count (AsksWhy asked) = IfSome asked.name (λ name. is_name name ≡ true) × IfSome asked.folder (λ folder. length folder ≤ MAX_FOLDER)
 IsNamedSo count (AsksList asked) = (asked.size ≤ MAX_EDGES) × IfSome asked.folder (λ folder. length folder ≤ MAX_FOLDER)
@@ -264,97 +246,93 @@ IsNamedSo count (AsksDemo asked) = (1 ≤ asked.count) × (asked.count ≤ MAX_T
 IsNamedSo count (AsksCheck asked) = (asked.test < count) × (asked.execution < count)
 IsNamedSo count _ = Unit {0}
 
-abbrev AskedSo : ℕ → Result Asked Usage → Type 0
-AskedSo count (Ok asked) = IsNamedSo count asked
-AskedSo count (Err usage) = Unit {0}
+abbrev IsTaskSo : ℕ → Result Task Usage → Type 0
+IsTaskSo count (Ok asked) = IsNamedSo count asked
+IsTaskSo count (Err usage) = Unit {0}
 
 test_form : (count : ℕ) (arch : Option ArchName) (name : Option (List ℕ)) (mode : ObsMode) (edges : List Edge) (folder : Option (List ℕ)) → IfSome name (λ name. is_name name ≡ true)
-    → AskedSo count (asks AsksTest (asked_with count arch name mode edges folder))
+    → IsTaskSo count (asks AsksTest (test_with count arch name mode edges folder))
 test_form count None name mode edges folder h = tt
 test_form count (Some arch) name mode edges (Some folder) h = tt
 test_form count (Some arch) name mode edges None h = h
 
 explained_form : (count : ℕ) (arch : Option ArchName) (name : Option (List ℕ)) (edges : List Edge) (folder : Option (List ℕ)) → IfSome name (λ name. is_name name ≡ true)
-    → IfSome folder (λ folder. length folder ≤ MAX_FOLDER) → AskedSo count (asks AsksWhy (why_with count arch name edges folder))
+    → IfSome folder (λ folder. length folder ≤ MAX_FOLDER) → IsTaskSo count (asks AsksWhy (why_with count arch name edges folder))
 explained_form count None name edges folder h k = tt
 explained_form count (Some arch) name edges folder h k = (h, k)
 
-norm_form : (count : ℕ) (asked : Result NameAsked Usage) → AskedSo count (asks AsksName asked)
+norm_form : (count : ℕ) (asked : Result NameTask Usage) → IsTaskSo count (asks AsksName asked)
 norm_form count (Ok asked) = tt
 norm_form count (Err usage) = tt
 
 list_form : (count : ℕ) (arch : Option ArchName) (relaxes : Option (List (List Edge))) (size : ℕ) (exact : Bool) (threads : ℕ) (accesses : Option ℕ) (mode : ObsMode) (after : Option (List Edge)) (folder : Option (List ℕ))
-    → size ≤ MAX_EDGES → IfSome folder (λ folder. length folder ≤ MAX_FOLDER) → AskedSo count (asks AsksList (list_with count arch relaxes size exact threads accesses mode after folder))
+    → size ≤ MAX_EDGES → IfSome folder (λ folder. length folder ≤ MAX_FOLDER) → IsTaskSo count (asks AsksList (list_with count arch relaxes size exact threads accesses mode after folder))
 list_form count None relaxes size exact threads accesses mode after folder h k = tt
 list_form count (Some arch) None size exact threads accesses mode after folder h k = tt
 list_form count (Some arch) (Some relaxes) size exact threads accesses mode after folder h k = (h, k)
 
-families_form : (count : ℕ) (asked : Result FamiliesAsked Usage) → AskedSo count (asks AsksFamilies asked)
+families_form : (count : ℕ) (asked : Result FamiliesTask Usage) → IsTaskSo count (asks AsksFamilies asked)
 families_form count (Ok asked) = tt
 families_form count (Err usage) = tt
 
 cross_form : (count : ℕ) (arch : Option ArchName) (mode : ObsMode) (folder : Option (List ℕ)) (places : List (List (List Edge))) → IfSome folder (λ folder. length folder ≤ MAX_FOLDER)
-    → AskedSo count (asks AsksCross (cross_with count arch mode folder places))
+    → IsTaskSo count (asks AsksCross (cross_with count arch mode folder places))
 cross_form count None mode folder places h = tt
 cross_form count (Some arch) mode folder places h = of_test (nat_lt MAX_CHOICES (choice_count places))
   where
-    of_test : (b : Bool) → AskedSo count (asks AsksCross (if b then Err (record { word = count; kind = TooManyChoices }) else Ok (record { arch = arch; mode = mode; folder = folder; places = places })))
+    of_test : (b : Bool) → IsTaskSo count (asks AsksCross (if b then Err (record { word = count; kind = TooManyChoices }) else Ok (record { arch = arch; mode = mode; folder = folder; places = places })))
     of_test true = tt
     of_test false = h
 
-demo_form : (count : ℕ) (arch : Option ArchName) (tests : Option ℕ) → IfSome tests (λ tests. (1 ≤ tests) × (tests ≤ MAX_TESTS)) → AskedSo count (asks AsksDemo (demo_with count arch tests))
+demo_form : (count : ℕ) (arch : Option ArchName) (tests : Option ℕ) → IfSome tests (λ tests. (1 ≤ tests) × (tests ≤ MAX_TESTS)) → IsTaskSo count (asks AsksDemo (demo_with count arch tests))
 demo_form count None tests h = tt
 demo_form count (Some arch) None h = tt
 demo_form count (Some arch) (Some tests) h = h
 
 check_form : (count : ℕ) (arch : Option ArchName) (test execution : Option ℕ) → IfSome test (λ at. at < count) → IfSome execution (λ at. at < count)
-    → AskedSo count (asks AsksCheck (check_with count arch test execution))
+    → IsTaskSo count (asks AsksCheck (check_with count arch test execution))
 check_form count None test execution h k = tt
 check_form count (Some arch) (Some test) (Some execution) h k = (h, k)
 check_form count (Some arch) (Some test) None h k = tt
 check_form count (Some arch) None execution h k = tt
 
-diyone_form : (count : ℕ) (said : List Said) → AllByRecursion (IsFit count) said → AskedSo count (diyone_asked count said)
-diyone_form count said h = of_test (list_any is_why said)
+diyone_form : (count : ℕ) (notes : Notes) (edges : List Edge) → AreFit count notes → IsTaskSo count (diyone_asked count notes edges)
+diyone_form count notes edges f = of_test notes.why
   where
-    named : IfSome (last_given name_in said) (λ name. is_name name ≡ true)
-    named = given_fit count (λ name. is_name name ≡ true) name_in (name_fit count) said h
+    of_test : (b : Bool) → IsTaskSo count (if b then asks AsksWhy (why_asked count notes edges) else asks AsksTest (test_asked count notes edges))
+    of_test true = explained_form count notes.arch notes.name edges notes.folder f.0 f.2
+    of_test false = test_form count notes.arch notes.name (mode_or_accept notes.mode) edges notes.folder f.0
 
-    of_test : (b : Bool) → AskedSo count (if b then asks AsksWhy (why_asked count said) else asks AsksTest (test_asked count said))
-    of_test true = explained_form count (last_given arch_in said) (last_given name_in said) (edges_given said) (last_given folder_in said) named (given_folder count said h)
-    of_test false =
-        test_form count (last_given arch_in said) (last_given name_in said) (mode_or_accept (last_given mode_in said)) (edges_given said) (last_given folder_in said) named
+tool_form : (tool : Tool) (count : ℕ) (notes : Notes) (edges : List Edge) (places : List (List (List Edge))) (files : List ℕ) → AreFit count notes
+    → IsTaskSo count (tool_asked tool count notes edges places files)
+tool_form tools.DiyOne count notes edges places files f = diyone_form count notes edges f
+tool_form tools.Diy count notes edges places files f =
+    list_form count notes.arch notes.relaxes notes.size notes.exact notes.threads notes.accesses (mode_or_accept notes.mode) notes.after notes.folder f.1 f.2
+tool_form tools.Norm count notes edges places files f = norm_form count (norm_asked count notes edges)
+tool_form tools.Classify count notes edges places files f = families_form count (families_with count notes.arch files)
+tool_form tools.Msum count notes edges places files f = tt
+tool_form tools.Cross count notes edges places files f = cross_form count notes.arch (mode_or_accept notes.mode) notes.folder places f.2
+tool_form tools.Demo count notes edges places files f = demo_form count notes.arch notes.count f.3
+tool_form tools.Check count notes edges places files f = check_form count notes.arch notes.test notes.execution f.4 f.5
 
-tool_form : (tool : Tool) (count : ℕ) (said : Result (List Said) Usage) → AllForm count said → AskedSo count (tool_asked tool count said)
-tool_form tool count (Err usage) h = tt
-tool_form tools.DiyOne count (Ok said) h = diyone_form count said h
-tool_form tools.Diy count (Ok said) h =
-    list_form count (last_given arch_in said) (last_given relaxes_in said) _ (list_any is_exact said) (given_or 4 (last_given threads_in said)) (last_given accesses_in said) (mode_or_accept (last_given mode_in said)) (last_given after_in said) (last_given folder_in said)
-    (size_few (last_given size_in said) (given_fit count (λ size. size ≤ MAX_EDGES) size_in (size_fit count) said h)) (given_folder count said h)
-tool_form tools.Norm count (Ok said) h = norm_form count (norm_asked count said)
-tool_form tools.Classify count (Ok said) h = families_form count (families_with count (last_given arch_in said) (files_given said))
-tool_form tools.Msum count (Ok said) h = tt
-tool_form tools.Cross count (Ok said) h =
-    cross_form count (last_given arch_in said) (mode_or_accept (last_given mode_in said)) (last_given folder_in said) (places_given said) (given_folder count said h)
-tool_form tools.Demo count (Ok said) h =
-    demo_form count (last_given arch_in said) (last_given count_in said) (given_fit count (λ tests. (1 ≤ tests) × (tests ≤ MAX_TESTS)) count_in (count_fit count) said h)
-tool_form tools.Check count (Ok said) h =
-    check_form count (last_given arch_in said) (last_given test_in said) (last_given execution_in said)
-    (given_fit count (λ at. at < count) test_in (test_fit count) said h) (given_fit count (λ at. at < count) execution_in (execution_fit count) said h)
+words_said_form : (tool : Tool) (count : ℕ) (said : Result (List Saying) Usage) → AllForm count said → IsTaskSo count (said_asked tool count said)
+words_said_form tool count (Err usage) h = tt
+words_said_form tool count (Ok said) h =
+    tool_form tool count (notes_of said) (edges_given said) (places_given said) (files_given said) (notes_fit count no_notes said h (tt, lit≤ tt, tt, tt, tt, tt))
 
-found_form : (found : Option Tool) (count : ℕ) (words : List (List ℕ)) → 1 + length words ≤ count → AskedSo count (asked_for found count words)
+found_form : (found : Option Tool) (count : ℕ) (words : List (List ℕ)) → 1 + length words ≤ count → IsTaskSo count (asked_for found count words)
 found_form None count words h = tt
 found_form (Some tool) count words h =
-    tool_form tool count _
-    (said_all_form count (saying tool nothing_before (parts_of tool 1 words)) (parts_form count tool nothing_before (parts_of tool 1 words) (parts_among count tool Ready 1 words h)))
+    words_said_form tool count _
+    (said_all_form count (sayings tool no_notes (parts_of tool 1 words)) (parts_form count tool no_notes (parts_of tool 1 words) (parts_among count tool None 1 words h)))
 
-words_form : (words : List (List ℕ)) → AskedSo (length words) (asked_of words)
+words_form : (words : List (List ℕ)) → IsTaskSo (length words) (asked_of words)
 words_form [] = tt
 words_form (tool ∷ words) = found_form (tool_named tool) (length (tool ∷ words)) words (omega arith)
 
 -- what words ask for has its form
-pub asked_form : (words : List (List ℕ)) (asked : Asked) → asked_of words ≡ Ok asked → IsNamedSo (length words) asked
-asked_form words asked e = subst (λ (a : Result Asked Usage). AskedSo (length words) a) e (words_form words)
+pub asked_form : (words : List (List ℕ)) (asked : Task) → asked_of words ≡ Ok asked → IsNamedSo (length words) asked
+asked_form words asked e = subst (λ (a : Result Task Usage). IsTaskSo (length words) a) e (words_form words)
 
 -- so has that of the request that is given
 pub request_form : (words : List (List ℕ)) (result : Result Request Usage) → Gives result (asked_of words) → IfOk result HasForm
@@ -368,13 +346,13 @@ request_form words result h = of_asked result (asked_of words) (words_form words
     folder_so None h = λ x e. cc e
     folder_so (Some folder) h = λ x e. let same : folder ≡ x = cc e in subst (λ (f : Bor (List ℕ)). length f.now ≤ MAX_FOLDER) same h
 
-    listed_so : (request : Diy) (asked : ListAsked) → list_kept request ≡ asked → IsNamedSo (length words) (AsksList asked) → HasForm (requests.List request)
+    listed_so : (request : Diy) (asked : ListTask) → list_kept request ≡ asked → IsNamedSo (length words) (AsksList asked) → HasForm (requests.List request)
     listed_so request asked h e = (
-      subst (λ n. n ≤ MAX_EDGES) (ap (λ (l : ListAsked). l.size) (sym h)) e.0,
-      folder_so request.folder (subst (λ (f : Option (List ℕ)). IfSome f (λ folder. length folder ≤ MAX_FOLDER)) (ap (λ (l : ListAsked). l.folder) (sym h)) e.1),
+      subst (λ n. n ≤ MAX_EDGES) (ap (λ (l : ListTask). l.size) (sym h)) e.0,
+      folder_so request.folder (subst (λ (f : Option (List ℕ)). IfSome f (λ folder. length folder ≤ MAX_FOLDER)) (ap (λ (l : ListTask). l.folder) (sym h)) e.1),
     )
 
-    of_asked : (result : Result Request Usage) (asked : Result Asked Usage) → AskedSo (length words) asked → Gives result asked → IfOk result HasForm
+    of_asked : (result : Result Request Usage) (asked : Result Task Usage) → IsTaskSo (length words) asked → Gives result asked → IfOk result HasForm
     of_asked (Ok (requests.Test request)) (Ok (AsksTest asked)) e h = named_so request.name (subst (λ (name : Option (List ℕ)). IfSome name (λ name. is_name name ≡ true)) (sym h.1) e)
     of_asked (Ok (requests.Why request)) (Ok (AsksWhy asked)) e h = (
       named_so request.name (subst (λ (name : Option (List ℕ)). IfSome name (λ name. is_name name ≡ true)) (sym h.1) e.0),
@@ -382,7 +360,7 @@ request_form words result h = of_asked result (asked_of words) (words_form words
     )
     of_asked (Ok (requests.List request)) (Ok (AsksList asked)) e h = listed_so request asked h e
     of_asked (Ok (requests.Cross request)) (Ok (AsksCross asked)) e h = folder_so request.folder (subst (λ (f : Option (List ℕ)). IfSome f (λ folder. length folder ≤ MAX_FOLDER)) (sym h.2) e)
-    of_asked (Ok (requests.Demo request)) (Ok (AsksDemo asked)) e h = subst (λ n. (1 ≤ n) × (n ≤ MAX_TESTS)) (sym h.1) e
+    of_asked (Ok (requests.Demo request)) (Ok (AsksDemo asked)) e h = subst (λ (d : Demo). (1 ≤ d.count) × (d.count ≤ MAX_TESTS)) (sym h) e
     of_asked (Ok (requests.Name request)) asked e h = tt
     of_asked (Ok (requests.Families arch)) asked e h = tt
     of_asked (Ok requests.Sum) asked e h = tt
@@ -398,11 +376,11 @@ request_form words result h = of_asked result (asked_of words) (words_form words
 pub request_within : (words : List (List ℕ)) (result : Result Request Usage) → Gives result (asked_of words) → IfOk result (WithinWords (length words))
 request_within words result h = of_asked result (asked_of words) (words_form words) h
   where
-    of_asked : (result : Result Request Usage) (asked : Result Asked Usage) → AskedSo (length words) asked → Gives result asked
+    of_asked : (result : Result Request Usage) (asked : Result Task Usage) → IsTaskSo (length words) asked → Gives result asked
         → IfOk result (WithinWords (length words))
     of_asked (Ok (requests.Check request)) (Ok (AsksCheck asked)) e h = (
-      subst (λ n. n < length words) (ap (λ (a : CheckAsked). a.test) (sym h)) e.0,
-      subst (λ n. n < length words) (ap (λ (a : CheckAsked). a.execution) (sym h)) e.1,
+      subst (λ n. n < length words) (ap (λ (a : Check). a.test) (sym h)) e.0,
+      subst (λ n. n < length words) (ap (λ (a : Check). a.execution) (sym h)) e.1,
     )
     of_asked (Ok (requests.Check request)) asked e h = absurd h
     of_asked (Ok request) asked e h = tt

@@ -2,6 +2,8 @@ pub mod Names
 pub mod Edges
 pub mod Numbers
 pub mod Parts
+pub mod Notes
+pub mod Sayings
 pub mod Requests
 pub mod Given
 pub mod GivenLaws

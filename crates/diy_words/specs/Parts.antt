@@ -52,29 +52,24 @@ pub data Part : Type 0 where
   Valued : OptionName → ℕ → List ℕ → Part
   Unvalued : OptionName → ℕ → Part
 
--- an option that waits for its value, and its place
-pub data Waiting : Type 0 where
-  Ready : Waiting
-  Waits : OptionName → ℕ → Waiting
-
--- what waits after a word at its place
-abbrev pub waiting_at : Option OptionName → ℕ → Waiting
-waiting_at (Some option) at = Waits option at
-waiting_at None at = Ready
+-- what waits for its value after a word at its place: an option, if it is one
+abbrev pub waiting_at : Option OptionName → ℕ → Option (OptionName × ℕ)
+waiting_at (Some option) at = Some (option, at)
+waiting_at None at = None
 
 -- a word that is no such option is a part by itself before the rest
 abbrev pub alone_before : Option OptionName → ℕ → List ℕ → List Part → List Part
 alone_before (Some _) at word rest = rest
 alone_before None at word rest = Alone at word ∷ rest
 
--- the parts of the words of a tool from a place on, after an option that waits for its value
-abbrev pub parts_from : Tool → Waiting → ℕ → List (List ℕ) → List Part
-parts_from tool Ready at [] = []
-parts_from tool (Waits option place) at [] = Unvalued option place ∷ []
-parts_from tool (Waits option place) at (value ∷ words) = Valued option place value ∷ parts_from tool Ready (at + 1) words
-parts_from tool Ready at (word ∷ words) =
+-- the parts of the words of a tool from a place on, after an option at its place that waits for its value, if there is one
+abbrev pub parts_from : Tool → Option (OptionName × ℕ) → ℕ → List (List ℕ) → List Part
+parts_from tool None at [] = []
+parts_from tool (Some waiting) at [] = Unvalued waiting.0 waiting.1 ∷ []
+parts_from tool (Some waiting) at (value ∷ words) = Valued waiting.0 waiting.1 value ∷ parts_from tool None (at + 1) words
+parts_from tool None at (word ∷ words) =
     alone_before (option_named tool word) at word (parts_from tool (waiting_at (option_named tool word) at) (at + 1) words)
 
 -- the parts of the words of a tool from a place on
 abbrev pub parts_of : Tool → ℕ → List (List ℕ) → List Part
-parts_of tool at words = parts_from tool Ready at words
+parts_of tool at words = parts_from tool None at words

@@ -3,12 +3,12 @@
 
 mod files;
 mod name;
+mod notes;
 mod number;
 mod options;
 mod places;
 mod read;
 mod request;
-mod said;
 mod usage;
 
 pub use files::read_files;

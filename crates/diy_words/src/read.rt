@@ -1,11 +1,16 @@
-ghost use Rattle.std.specs.Prelude.{◌≡◌, ◌<◌, ◌+◌, ◌^◌, length, IfOk, Ok};
+ghost use Rattle.std.specs.Prelude.{◌≡◌, ◌<◌, ◌+◌, ◌^◌, ℕ, List, length, nat_lt, IfOk};
+ghost use Rattle.relax_edges.specs.declared.edge.Edge.{Edge};
+ghost use Rattle.edge_lists.specs.Kept.{kept};
+ghost use Rattle.diy_words.specs.declared.request.TheConstants.{MAX_CHOICES};
 ghost use Rattle.diy_words.specs.declared.usage.UsageKind.TheVariants.{MissingArch};
-ghost use Rattle.diy_words.specs.Requests.{asked_of};
-ghost use Rattle.diy_words.specs.Given.{Gives, HasForm, WithinWords, Steps, IsPlain, IsOption, held, saying_from, shown, keeps, KeepsTest, KeepsWhy, KeepsName, KeepsList, KeepsFamilies, KeepsCross, KeepsDemo, KeepsCheck, tool_held, diyone_held, test_held, why_held, name_held, list_held, cross_held, demo_held, check_held, classified, held_at_end, nothing_held};
+ghost use Rattle.diy_words.specs.Notes.{no_notes};
+ghost use Rattle.diy_words.specs.Sayings.{said_all};
+ghost use Rattle.diy_words.specs.Requests.{asked_of, said_asked, asks, AsksTest, AsksWhy, AsksName, AsksList, AsksFamilies, AsksCross, AsksDemo, AsksCheck, test_asked, why_asked, diyone_asked, norm_asked, diy_asked, cross_asked, families_with, demo_with, check_with, choice_count};
+ghost use Rattle.diy_words.specs.Given.{Gives, HasForm, WithinWords, Steps, GivesAtEnd, IsPlain, IsOption, code_notes, sayings_from};
 
+use crate::notes::{Notes, missing_value};
 use crate::options::{OptionName, Tool, option_named, tool_named};
 use crate::request::{Check, Cross, Demo, Diy, DiyOne, MAX_CHOICES, Norm, Request, Sought, Why};
-use crate::said::{Said, missing_value};
 use crate::usage::{Usage, UsageKind};
 use diy_io::Words;
 use relax_edges::ObsMode;
@@ -40,14 +45,14 @@ pub fn read_request(words: &Words) -> Result<Request<'_>, Usage>
 
 fn read_words(tool: Tool, words: &Words) -> Result<Request<'_>, Usage>
     requires { 0 < length words.now }
-    ensures { shown result ≡ tool_held tool (length words.now) (held_at_end tool words.now 1 nothing_held) }
+    ensures { Gives result (said_asked tool (length words.now) (said_all (sayings_from tool no_notes words.now 1))) }
 {
-    let mut said = Said::new();
+    let mut notes = Notes::new();
     let mut at = 1;
     while at < words.len() {
-        at = read_part(tool, words, at, &mut said)?;
+        at = read_part(tool, words, at, &mut notes)?;
     }
-    finish(tool, words.len(), said)
+    finish(tool, words.len(), notes)
 }
 
 /// Takes in the part of the words that begins at place `at`, and gives the place after it.
@@ -55,24 +60,24 @@ fn read_part<'a>(
     tool: Tool,
     words: &'a Words,
     at: usize,
-    said: &mut Said<'a>,
+    notes: &mut Notes<'a>,
 ) -> Result<usize, Usage>
     requires { at < length words.now }
-    ensures { Steps tool words.now at (held said.old) (held said.new) result }
+    ensures { Steps tool words.now at (code_notes notes.old) (code_notes notes.new) result }
 {
     match option_named(tool, words.get(at)) {
-        None => read_alone_at(tool, words, at, said),
-        Some(option) => read_option_at(tool, words, at, option, said),
+        None => read_alone_at(tool, words, at, notes),
+        Some(option) => read_option_at(tool, words, at, option, notes),
     }
 }
 
-fn read_alone_at(tool: Tool, words: &Words, at: usize, said: &mut Said) -> Result<usize, Usage>
+fn read_alone_at(tool: Tool, words: &Words, at: usize, notes: &mut Notes) -> Result<usize, Usage>
     requires within { at < length words.now }
     requires alone { IsPlain tool words.now at }
-    ensures { Steps tool words.now at (held said.old) (held said.new) result }
+    ensures { Steps tool words.now at (code_notes notes.old) (code_notes notes.new) result }
 {
     let _count = words.len();
-    match said.take_alone(tool, at, words.get(at)) {
+    match notes.take_alone(tool, at, words.get(at)) {
         Ok(()) => Ok(at + 1),
         Err(usage) => Err(usage),
     }
@@ -83,69 +88,69 @@ fn read_option_at<'a>(
     words: &'a Words,
     at: usize,
     option: OptionName,
-    said: &mut Said<'a>,
+    notes: &mut Notes<'a>,
 ) -> Result<usize, Usage>
     requires within { at < length words.now }
     requires named { IsOption tool words.now at option }
-    ensures { Steps tool words.now at (held said.old) (held said.new) result }
+    ensures { Steps tool words.now at (code_notes notes.old) (code_notes notes.new) result }
 {
     let count = words.len();
     if count - at == 1 {
         return Err(missing_value(tool, option, at));
     }
-    match said.take_value(tool, option, at, words.get(at + 1)) {
+    match notes.take_value(tool, option, at, words.get(at + 1)) {
         Ok(()) => Ok(at + 2),
         Err(usage) => Err(usage),
     }
 }
 
-/// The request of a tool that was held at the end of `count` words.
-fn finish(tool: Tool, count: usize, said: Said<'_>) -> Result<Request<'_>, Usage>
-    ensures { shown result ≡ tool_held tool count (Ok (held said.entry)) }
+/// The request of a tool that the notes give at the end of `count` words.
+fn finish(tool: Tool, count: usize, notes: Notes<'_>) -> Result<Request<'_>, Usage>
+    ensures { GivesAtEnd tool count (code_notes notes.entry) result }
 {
     match tool {
-        Tool::DiyOne => finish_diyone(count, said),
-        Tool::Diy => finish_list(count, said),
-        Tool::Norm => finish_name(count, said),
-        Tool::Classify => finish_families(count, said),
+        Tool::DiyOne => finish_diyone(count, notes),
+        Tool::Diy => finish_list(count, notes),
+        Tool::Norm => finish_name(count, notes),
+        Tool::Classify => finish_families(count, notes),
         Tool::Msum => Ok(Request::Sum),
-        Tool::Cross => finish_cross(count, said),
-        Tool::Demo => finish_demo(count, said),
-        Tool::Check => finish_check(count, said),
+        Tool::Cross => finish_cross(count, notes),
+        Tool::Demo => finish_demo(count, notes),
+        Tool::Check => finish_check(count, notes),
     }
 }
 
-fn finish_diyone(count: usize, said: Said<'_>) -> Result<Request<'_>, Usage>
-    ensures { shown result ≡ diyone_held count (held said.entry) }
+fn finish_diyone(count: usize, notes: Notes<'_>) -> Result<Request<'_>, Usage>
+    ensures { (edges : List Edge) → notes.entry.edges ≡ kept edges → Gives result (diyone_asked count (code_notes notes.entry) edges) }
 {
-    if said.why {
-        finish_why(count, said)
+    if notes.why {
+        finish_why(count, notes)
     } else {
-        finish_test(count, said)
+        finish_test(count, notes)
     }
 }
 
-fn finish_why(count: usize, said: Said<'_>) -> Result<Request<'_>, Usage>
-    ensures { shown result ≡ keeps KeepsWhy (why_held count (held said.entry)) }
+fn finish_why(count: usize, notes: Notes<'_>) -> Result<Request<'_>, Usage>
+    ensures { (edges : List Edge) → notes.entry.edges ≡ kept edges → Gives result (asks AsksWhy (why_asked count (code_notes notes.entry) edges)) }
 {
-    let Some(arch) = said.arch else {
+    let Some(arch) = notes.arch else {
         return Err(missing_arch(count));
     };
     Ok(Request::Why(Why {
         arch,
-        name: said.name,
-        edges: said.edges,
-        folder: said.folder,
+        name: notes.name,
+        edges: notes.edges,
+        folder: notes.folder,
     }))
 }
 
-fn finish_test(count: usize, said: Said<'_>) -> Result<Request<'_>, Usage>
-    ensures { shown result ≡ keeps KeepsTest (test_held count (held said.entry)) }
+fn finish_test(count: usize, notes: Notes<'_>) -> Result<Request<'_>, Usage>
+    ensures { (edges : List Edge) → notes.entry.edges ≡ kept edges → Gives result (asks AsksTest (test_asked count (code_notes notes.entry) edges)) }
 {
-    let Some(arch) = said.arch else {
+    let Some(arch) = notes.arch else {
         return Err(missing_arch(count));
     };
-    if said.folder.is_some() {
+    if notes.folder.is_some() {
         return Err(Usage {
             word: count,
             kind: UsageKind::MissingWhy,
@@ -153,16 +158,16 @@ fn finish_test(count: usize, said: Said<'_>) -> Result<Request<'_>, Usage>
     }
     Ok(Request::Test(DiyOne {
         arch,
-        name: said.name,
-        mode: said.mode.unwrap_or(ObsMode::Accept),
-        edges: said.edges,
+        name: notes.name,
+        mode: notes.mode.unwrap_or(ObsMode::Accept),
+        edges: notes.edges,
     }))
 }
 
-fn finish_list(count: usize, said: Said<'_>) -> Result<Request<'_>, Usage>
-    ensures { shown result ≡ keeps KeepsList (list_held count (held said.entry)) }
+fn finish_list(count: usize, notes: Notes<'_>) -> Result<Request<'_>, Usage>
+    ensures { Gives result (asks AsksList (diy_asked count (code_notes notes.entry))) }
 {
-    let Said {
+    let Notes {
         arch,
         relaxes,
         limits,
@@ -181,7 +186,7 @@ fn finish_list(count: usize, said: Said<'_>) -> Result<Request<'_>, Usage>
         execution: _,
         taken: _,
         why: _,
-    } = said;
+    } = notes;
     let Some(arch) = arch else {
         return Err(missing_arch(count));
     };
@@ -203,22 +208,22 @@ fn finish_list(count: usize, said: Said<'_>) -> Result<Request<'_>, Usage>
     }))
 }
 
-fn finish_families(count: usize, said: Said<'_>) -> Result<Request<'_>, Usage>
-    ensures { shown result ≡ keeps KeepsFamilies (classified count (held said.entry).arch) }
+fn finish_families(count: usize, notes: Notes<'_>) -> Result<Request<'_>, Usage>
+    ensures { (files : List ℕ) → Gives result (asks AsksFamilies (families_with count notes.entry.arch files)) }
 {
-    match said.arch {
+    match notes.arch {
         Some(arch) => Ok(Request::Families(arch)),
         None => Err(missing_arch(count)),
     }
 }
 
-fn finish_cross(count: usize, said: Said<'_>) -> Result<Request<'_>, Usage>
-    ensures { shown result ≡ keeps KeepsCross (cross_held count (held said.entry)) }
+fn finish_cross(count: usize, notes: Notes<'_>) -> Result<Request<'_>, Usage>
+    ensures { (places : List (List (List Edge))) → nat_lt MAX_CHOICES notes.entry.choices ≡ nat_lt MAX_CHOICES (choice_count places) → Gives result (asks AsksCross (cross_asked count (code_notes notes.entry) places)) }
 {
-    let Some(arch) = said.arch else {
+    let Some(arch) = notes.arch else {
         return Err(missing_arch(count));
     };
-    if said.choices > MAX_CHOICES {
+    if notes.choices > MAX_CHOICES {
         return Err(Usage {
             word: count,
             kind: UsageKind::TooManyChoices,
@@ -226,18 +231,18 @@ fn finish_cross(count: usize, said: Said<'_>) -> Result<Request<'_>, Usage>
     }
     Ok(Request::Cross(Cross {
         arch,
-        mode: said.mode.unwrap_or(ObsMode::Accept),
-        folder: said.folder,
+        mode: notes.mode.unwrap_or(ObsMode::Accept),
+        folder: notes.folder,
     }))
 }
 
-fn finish_demo(count: usize, said: Said<'_>) -> Result<Request<'_>, Usage>
-    ensures { shown result ≡ keeps KeepsDemo (demo_held count (held said.entry)) }
+fn finish_demo(count: usize, notes: Notes<'_>) -> Result<Request<'_>, Usage>
+    ensures { Gives result (asks AsksDemo (demo_with count notes.entry.arch notes.entry.count)) }
 {
-    let Some(arch) = said.arch else {
+    let Some(arch) = notes.arch else {
         return Err(missing_arch(count));
     };
-    match said.count {
+    match notes.count {
         Some(tests) => Ok(Request::Demo(Demo { arch, count: tests })),
         None => Err(Usage {
             word: count,
@@ -246,13 +251,13 @@ fn finish_demo(count: usize, said: Said<'_>) -> Result<Request<'_>, Usage>
     }
 }
 
-fn finish_check(count: usize, said: Said<'_>) -> Result<Request<'_>, Usage>
-    ensures { shown result ≡ keeps KeepsCheck (check_held count (held said.entry)) }
+fn finish_check(count: usize, notes: Notes<'_>) -> Result<Request<'_>, Usage>
+    ensures { Gives result (asks AsksCheck (check_with count notes.entry.arch notes.entry.test notes.entry.execution)) }
 {
-    let Some(arch) = said.arch else {
+    let Some(arch) = notes.arch else {
         return Err(missing_arch(count));
     };
-    match (said.test, said.execution) {
+    match (notes.test, notes.execution) {
         (Some(test), Some(execution)) => Ok(Request::Check(Check {
             arch,
             test,
@@ -265,16 +270,16 @@ fn finish_check(count: usize, said: Said<'_>) -> Result<Request<'_>, Usage>
     }
 }
 
-fn finish_name(count: usize, said: Said<'_>) -> Result<Request<'_>, Usage>
-    ensures { shown result ≡ keeps KeepsName (name_held count (held said.entry)) }
+fn finish_name(count: usize, notes: Notes<'_>) -> Result<Request<'_>, Usage>
+    ensures { (edges : List Edge) → notes.entry.edges ≡ kept edges → Gives result (asks AsksName (norm_asked count (code_notes notes.entry) edges)) }
 {
-    let Some(arch) = said.arch else {
+    let Some(arch) = notes.arch else {
         return Err(missing_arch(count));
     };
-    let cycle = match (said.from, said.operand) {
+    let cycle = match (notes.from, notes.operand) {
         (None, None) => Sought::Lines,
         (Some(source), None) => Sought::Named(source),
-        (None, Some(_)) => Sought::Edges(said.edges),
+        (None, Some(_)) => Sought::Edges(notes.edges),
         (Some(_), Some(word)) => {
             return Err(Usage {
                 word,

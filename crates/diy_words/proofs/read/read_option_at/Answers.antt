@@ -1,6 +1,6 @@
 -- That `read_option_at` takes in an option with its value, or gives the fault.
 use Rattle.std.proofs.Common.{◌≡◌, ◌+◌, arith, length, sym, ap}
-use Rattle.diy_words.specs.Given.{absorbed, heard, held}
+use Rattle.diy_words.specs.Given.{notes_after, code_notes}
 use Rattle.diy_words.proofs.Judged.{taken, faulty, value_first, unvalued_last}
 use Rattle.diy_words.proofs.read.read_option_at.Goals as goal
 
@@ -8,14 +8,14 @@ pub returns-then-count-at-eq1 : goal.returns-then-count-at-eq1
 returns-then-count-at-eq1 c =
     let o = c.requires.named in
     let last : c.args.at + 1 ≡ length c.args.words.now = omega arith in
-    faulty _ _ _ _ _ (unvalued_last c.args.tool (heard (held c.args.said.now)) c.args.words.now c.args.at o.word c.args.option o.word_is o.named last) (sym (ap (absorbed (held c.args.said.now)) (c.missing_value.ensures (heard (held c.args.said.now)))))
+    faulty _ _ _ _ _ (unvalued_last c.args.tool (code_notes c.args.notes.now) c.args.words.now c.args.at o.word c.args.option o.word_is o.named last) (sym (ap (notes_after (code_notes c.args.notes.now)) (c.missing_value.ensures (code_notes c.args.notes.now))))
 
 pub returns-in-Ok : goal.returns-in-Ok
 returns-in-Ok c =
     let o = c.requires.named in
-    (omega arith, taken c.args.tool c.args.words.now c.args.at (c.args.at + 2) _ _ _ (value_first c.args.tool (heard (held c.args.said.now)) c.args.words.now c.args.at o.word c.get.result.now c.args.option o.word_is o.named c.get.ensures) c.in-Ok.ensures)
+    (omega arith, taken c.args.tool c.args.words.now c.args.at (c.args.at + 2) _ _ _ (value_first c.args.tool (code_notes c.args.notes.now) c.args.words.now c.args.at o.word c.get.result.now c.args.option o.word_is o.named c.get.ensures) c.in-Ok.ensures)
 
 pub returns-in-Err : goal.returns-in-Err
 returns-in-Err c =
     let o = c.requires.named in
-    faulty _ _ _ _ _ (value_first c.args.tool (heard (held c.args.said.now)) c.args.words.now c.args.at o.word c.get.result.now c.args.option o.word_is o.named c.get.ensures) c.in-Err.ensures
+    faulty _ _ _ _ _ (value_first c.args.tool (code_notes c.args.notes.now) c.args.words.now c.args.at o.word c.get.result.now c.args.option o.word_is o.named c.get.ensures) c.in-Err.ensures

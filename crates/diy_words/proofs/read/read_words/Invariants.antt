@@ -1,10 +1,11 @@
--- The loop of `read_words`: what is held after all words stays the same.
+-- The loop of `read_words`: the notes after all words stay the same.
 use Rattle.std.proofs.Common.{◌≡◌, ◌-◌, length}
-use Rattle.diy_words.specs.Given.{held, held_at_end, nothing_held}
+use Rattle.diy_words.specs.Given.{code_notes, notes_at_end}
+use Rattle.diy_words.specs.Notes.{no_notes}
 use Rattle.diy_words.proofs.read.read_words.Given as goal
 
 abbrev pub invariant-loop-at : goal.invariant-loop-at
-invariant-loop-at l = held_at_end l.tool l.words l.at (held l.said) ≡ held_at_end l.tool l.words 1 nothing_held
+invariant-loop-at l = notes_at_end l.tool l.words l.at (code_notes l.notes) ≡ notes_at_end l.tool l.words 1 no_notes
 
 abbrev pub decreases-loop-at : goal.decreases-loop-at
 decreases-loop-at l = length l.words - l.at

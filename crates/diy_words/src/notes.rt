@@ -5,12 +5,14 @@ ghost use Rattle.edge_lists.specs.declared.read.Separators.TheVariants.{BlanksAn
 ghost use Rattle.edge_lists.specs.Spelled.{edges_of};
 ghost use Rattle.edge_algebra.specs.Compose.{composed};
 ghost use Rattle.diy_words.specs.Edges.{operand_edges};
-ghost use Rattle.diy_words.specs.Given.{cycle_kept, more_choices};
+ghost use Rattle.diy_words.specs.Given.{cycle_kept};
 ghost use Rattle.diy_words.specs.Numbers.{number_to};
 ghost use Rattle.diy_words.specs.declared.options.Tool.TheVariants as tools;
 ghost use Rattle.diy_words.specs.declared.usage.UsageKind.TheVariants.{ExcludedOption};
-ghost use Rattle.diy_words.specs.Parts.{Part, Alone, Valued, Unvalued, arch_named, mode_named};
-ghost use Rattle.diy_words.specs.Requests.{Before, said_by, arch_said, name_said, mode_said, obs_said, why_said, edges_said, relaxes_said, relax_usage, size_said, threads_said, accesses_said, after_said, cycle_said, folder_said, place_said, count_said, checked_said, dashed_said, operand_said, begins_option};
+ghost use Rattle.diy_words.specs.Parts.{Alone, Valued, Unvalued, arch_named, mode_named};
+ghost use Rattle.diy_words.specs.Notes as noting;
+ghost use Rattle.diy_words.specs.Notes.{more_choices};
+ghost use Rattle.diy_words.specs.Sayings.{said_by, arch_said, name_said, mode_said, obs_said, why_said, edges_said, relaxes_said, relax_usage, size_said, threads_said, accesses_said, after_said, folder_said, place_said, checked_said, dashed_said, operand_said, begins_option};
 
 use crate::name::name_of;
 use crate::number::number_to;
@@ -22,9 +24,9 @@ use edge_algebra::{Cycle, cycle};
 use edge_lists::{EdgeList, Separators, read_edges};
 use relax_edges::{ArchName, Edge, MAX_EDGES, ObsMode, RelaxKind, Relaxes, read_relaxes};
 
-/// What the words have said so far.
+/// What is noted of the words so far.
 #[derive(Drop)]
-pub struct Said<'a> {
+pub struct Notes<'a> {
     pub arch: Option<ArchName>,
     pub name: Option<TestName>,
     /// The value of `-obs`.
@@ -55,13 +57,14 @@ pub struct Said<'a> {
     pub why: bool,
 }
 
-impl<'a> Said<'a> {
-    ghost use Rattle.diy_words.specs.Given.{held, heard, nothing_held, absorbed, left_by};
+impl<'a> Notes<'a> {
+    ghost use Rattle.diy_words.specs.Given.{code_notes, notes_after, notes_left};
+    ghost use Rattle.diy_words.specs.Notes.{no_notes};
 
-    pub fn new() -> Said<'a>
-        ensures { held result ≡ nothing_held }
+    pub fn new() -> Notes<'a>
+        ensures { code_notes result ≡ no_notes }
     {
-        Said {
+        Notes {
             arch: None,
             name: None,
             mode: None,
@@ -95,7 +98,7 @@ impl<'a> Said<'a> {
         value: &'a str,
     ) -> Result<(), Usage>
         requires { at + 1 < 2 ^ 64 }
-        ensures { left_by result (held self.new) ≡ absorbed (held self.old) (said_by tool (heard (held self.old)) (Valued option at value.now)) }
+        ensures { notes_left result (code_notes self.new) ≡ notes_after (code_notes self.old) (said_by tool (code_notes self.old) (Valued option at value.now)) }
     {
         let _tool = tool;
         match option {
@@ -119,7 +122,7 @@ impl<'a> Said<'a> {
     }
 
     fn take_arch(&mut self, at: usize, value: &str) -> Result<(), Usage>
-        ensures { left_by result (held self.new) ≡ absorbed (held self.old) (arch_said at (arch_named value.now)) }
+        ensures { notes_left result (code_notes self.new) ≡ notes_after (code_notes self.old) (arch_said at (arch_named value.now)) }
     {
         match arch_named(value) {
             Some(arch) => {
@@ -134,7 +137,7 @@ impl<'a> Said<'a> {
     }
 
     fn take_name(&mut self, at: usize, value: &str) -> Result<(), Usage>
-        ensures { left_by result (held self.new) ≡ absorbed (held self.old) (name_said at value.now) }
+        ensures { notes_left result (code_notes self.new) ≡ notes_after (code_notes self.old) (name_said at value.now) }
     {
         match name_of(value) {
             Some(name) => {
@@ -151,7 +154,7 @@ impl<'a> Said<'a> {
     /// Takes in `-obs` at place `at` with its value, unless `-why` comes before it.
     fn take_obs(&mut self, at: usize, value: &str) -> Result<(), Usage>
         requires { at + 1 < 2 ^ 64 }
-        ensures { left_by result (held self.new) ≡ absorbed (held self.old) (obs_said (heard (held self.old)) at value.now) }
+        ensures { notes_left result (code_notes self.new) ≡ notes_after (code_notes self.old) (obs_said (code_notes self.old) at value.now) }
     {
         if self.why {
             return Err(excluded_option(at));
@@ -160,7 +163,7 @@ impl<'a> Said<'a> {
     }
 
     fn take_mode(&mut self, at: usize, value: &str) -> Result<(), Usage>
-        ensures { left_by result (held self.new) ≡ absorbed (held self.old) (mode_said at (mode_named value.now)) }
+        ensures { notes_left result (code_notes self.new) ≡ notes_after (code_notes self.old) (mode_said at (mode_named value.now)) }
     {
         match mode_named(value) {
             Some(mode) => {
@@ -175,7 +178,7 @@ impl<'a> Said<'a> {
     }
 
     fn take_relaxes(&mut self, at: usize, value: &str) -> Result<(), Usage>
-        ensures { left_by result (held self.new) ≡ absorbed (held self.old) (relaxes_said at (relaxes_of value.now)) }
+        ensures { notes_left result (code_notes self.new) ≡ notes_after (code_notes self.old) (relaxes_said at (relaxes_of value.now)) }
     {
         let mut relaxes = Relaxes::new();
         match read_relaxes(value, &mut relaxes) {
@@ -191,7 +194,7 @@ impl<'a> Said<'a> {
     }
 
     fn take_size(&mut self, at: usize, value: &str) -> Result<(), Usage>
-        ensures { left_by result (held self.new) ≡ absorbed (held self.old) (size_said at (number_to MAX_EDGES value.now)) }
+        ensures { notes_left result (code_notes self.new) ≡ notes_after (code_notes self.old) (size_said at (number_to MAX_EDGES value.now)) }
     {
         match number_to(MAX_EDGES as u32, value) {
             Some(size) => {
@@ -206,7 +209,7 @@ impl<'a> Said<'a> {
     }
 
     fn take_threads(&mut self, at: usize, value: &str) -> Result<(), Usage>
-        ensures { left_by result (held self.new) ≡ absorbed (held self.old) (threads_said at (number_to MAX_EDGES value.now)) }
+        ensures { notes_left result (code_notes self.new) ≡ notes_after (code_notes self.old) (threads_said at (number_to MAX_EDGES value.now)) }
     {
         match number_to(MAX_EDGES as u32, value) {
             Some(threads) => {
@@ -221,7 +224,7 @@ impl<'a> Said<'a> {
     }
 
     fn take_accesses(&mut self, at: usize, value: &str) -> Result<(), Usage>
-        ensures { left_by result (held self.new) ≡ absorbed (held self.old) (accesses_said at (number_to MAX_EDGES value.now)) }
+        ensures { notes_left result (code_notes self.new) ≡ notes_after (code_notes self.old) (accesses_said at (number_to MAX_EDGES value.now)) }
     {
         match number_to(MAX_EDGES as u32, value) {
             Some(accesses) => {
@@ -236,7 +239,7 @@ impl<'a> Said<'a> {
     }
 
     fn take_after(&mut self, at: usize, value: &str) -> Result<(), Usage>
-        ensures { left_by result (held self.new) ≡ absorbed (held self.old) (after_said at (edges_of BlanksAndCommas value.now)) }
+        ensures { notes_left result (code_notes self.new) ≡ notes_after (code_notes self.old) (after_said at (edges_of BlanksAndCommas value.now)) }
     {
         let mut edges = EdgeList::new();
         match read_edges(value.as_bytes(), Separators::BlanksAndCommas, &mut edges) {
@@ -258,7 +261,7 @@ impl<'a> Said<'a> {
     }
 
     fn take_folder(&mut self, at: usize, value: &'a str) -> Result<(), Usage>
-        ensures { left_by result (held self.new) ≡ absorbed (held self.old) (folder_said at value.now) }
+        ensures { notes_left result (code_notes self.new) ≡ notes_after (code_notes self.old) (folder_said at value.now) }
     {
         if value.is_empty() || value.len() > MAX_FOLDER {
             return Err(Usage {
@@ -272,7 +275,7 @@ impl<'a> Said<'a> {
 
     /// Takes in a word of a tool at place `at` that is no option with a value.
     pub fn take_alone(&mut self, tool: Tool, at: usize, text: &str) -> Result<(), Usage>
-        ensures { left_by result (held self.new) ≡ absorbed (held self.old) (said_by tool (heard (held self.old)) (Alone at text.now)) }
+        ensures { notes_left result (code_notes self.new) ≡ notes_after (code_notes self.old) (said_by tool (code_notes self.old) (Alone at text.now)) }
     {
         if begins_option(text.as_bytes()) {
             self.take_dashed(tool, at, text)
@@ -283,7 +286,7 @@ impl<'a> Said<'a> {
 
     /// Takes in a word that begins with `-`.
     fn take_dashed(&mut self, tool: Tool, at: usize, text: &str) -> Result<(), Usage>
-        ensures { left_by result (held self.new) ≡ absorbed (held self.old) (dashed_said tool (heard (held self.old)) at text.now) }
+        ensures { notes_left result (code_notes self.new) ≡ notes_after (code_notes self.old) (dashed_said tool (code_notes self.old) at text.now) }
     {
         match tool {
             Tool::DiyOne if text == "-why" => self.take_why(at),
@@ -300,7 +303,7 @@ impl<'a> Said<'a> {
 
     /// Takes in `-why`, unless `-obs` comes before it.
     fn take_why(&mut self, at: usize) -> Result<(), Usage>
-        ensures { left_by result (held self.new) ≡ absorbed (held self.old) (why_said (heard (held self.old)) at) }
+        ensures { notes_left result (code_notes self.new) ≡ notes_after (code_notes self.old) (why_said (code_notes self.old) at) }
     {
         if self.mode.is_some() {
             return Err(excluded_option(at));
@@ -310,7 +313,7 @@ impl<'a> Said<'a> {
     }
 
     fn take_operand(&mut self, tool: Tool, at: usize, text: &str) -> Result<(), Usage>
-        ensures { left_by result (held self.new) ≡ absorbed (held self.old) (operand_said tool self.old.taken at text.now) }
+        ensures { notes_left result (code_notes self.new) ≡ notes_after (code_notes self.old) (operand_said tool self.old.taken at text.now) }
     {
         match tool {
             Tool::DiyOne | Tool::Norm => self.take_edges(at, text),
@@ -326,7 +329,7 @@ impl<'a> Said<'a> {
     }
 
     fn take_edges(&mut self, at: usize, text: &str) -> Result<(), Usage>
-        ensures { left_by result (held self.new) ≡ absorbed (held self.old) (edges_said at (operand_edges text.now)) }
+        ensures { notes_left result (code_notes self.new) ≡ notes_after (code_notes self.old) (edges_said at (operand_edges text.now)) }
     {
         match read_edges(text.as_bytes(), Separators::Blanks, &mut self.edges) {
             Ok(()) => {
@@ -342,7 +345,7 @@ impl<'a> Said<'a> {
 
     /// Takes in the relaxations of one more place.
     fn take_place(&mut self, at: usize, text: &str) -> Result<(), Usage>
-        ensures { left_by result (held self.new) ≡ absorbed (held self.old) (place_said at (relaxes_of text.now)) }
+        ensures { notes_left result (code_notes self.new) ≡ notes_after (code_notes self.old) (place_said at (relaxes_of text.now)) }
     {
         let mut relaxes = Relaxes::new();
         match read_relaxes(text, &mut relaxes) {
@@ -359,7 +362,7 @@ impl<'a> Said<'a> {
 
     /// Takes in a file of mcheck7: that of the test before that of the execution, and no third.
     fn take_checked(&mut self, at: usize) -> Result<(), Usage>
-        ensures { left_by result (held self.new) ≡ absorbed (held self.old) (checked_said self.old.taken at) }
+        ensures { notes_left result (code_notes self.new) ≡ notes_after (code_notes self.old) (checked_said self.old.taken at) }
     {
         match self.taken {
             0 => self.test = Some(at),
@@ -377,7 +380,7 @@ impl<'a> Said<'a> {
 
     /// Takes in the number of demo, if none was taken before.
     fn take_count(&mut self, at: usize, text: &str) -> Result<(), Usage>
-        ensures { left_by result (held self.new) ≡ absorbed (held self.old) (operand_said tools.Demo self.old.taken at text.now) }
+        ensures { notes_left result (code_notes self.new) ≡ notes_after (code_notes self.old) (operand_said tools.Demo self.old.taken at text.now) }
     {
         if self.taken != 0 {
             return Err(Usage {
@@ -442,7 +445,7 @@ fn excluded_option(at: usize) -> Usage
 
 /// What is wrong with an option at place `at` that is the last word.
 pub fn missing_value(tool: Tool, option: OptionName, at: usize) -> Usage
-    ensures { (before : Before) → said_by tool before (Unvalued option at) ≡ Err result }
+    ensures { (notes : noting.Notes) → said_by tool notes (Unvalued option at) ≡ Err result }
 {
     let _ = (tool, option);
     Usage {
