@@ -14,3 +14,4 @@ pub mod Cells
 pub mod LabelOrder
 pub mod Addressed
 pub mod Forms
+pub mod Tests

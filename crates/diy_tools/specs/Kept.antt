@@ -23,7 +23,6 @@ use Rattle.litmus_text.specs.Tests.{test_seen}
 use Rattle.summed_files.specs.declared.sum_end.SumEnd.{SumEnd}
 use Rattle.summed_files.specs.SumEnds.{InputSummed, FilesSummed}
 use Rattle.test_maker.specs.CycleText.{cycle_test, cycle_text}
-use Rattle.test_maker.specs.Made.{shown}
 use Rattle.test_maker.specs.Refusals.{refusal_of}
 use Rattle.diy_tools.specs.declared.status.Status.{Status}
 use Rattle.diy_tools.specs.declared.status.Refusal.{Refusal}
@@ -154,7 +153,7 @@ AnswersKept arch sought.Lines status old new before after = AnswersLines arch st
 -- a call gives the test of a cycle, or the first reason why it has none
 abbrev pub MakesTestOf : Machine → ObsMode → List Edge → Test → Result (Unit {0}) Refusal → Type 0
 MakesTestOf m mode cycle test (Ok _) =
-    (refused_making (refusal_of m.puts cycle mode) ≡ None) × (test_seen test ≡ shown (cycle_test m.puts m.writing mode cycle))
+    (refused_making (refusal_of m.puts cycle mode) ≡ None) × (test_seen test ≡ cycle_test m.puts m.writing mode cycle)
 MakesTestOf m mode cycle test (Err refusal) = refused_making (refusal_of m.puts cycle mode) ≡ Some refusal
 
 -- what is answered of words that ask for the tests of choices

@@ -1,6 +1,4 @@
-ghost use Rattle.std.specs.Prelude.{◌≡◌, ◌≤◌, not, length, IfErr};
-ghost use Rattle.std.specs.List.{position_from};
-ghost use Rattle.relax_edges.specs.EdgeTable.{is_of_arch};
+ghost use Rattle.std.specs.Prelude.{◌≤◌, length, IfErr};
 ghost use Rattle.edge_algebra.specs.Compose.{composed};
 ghost use Rattle.diy_tools.specs.Kept.{MakesCycle, edges_kept, refused_edges};
 ghost use Rattle.diy_tools.specs.Refused.{refused_list, refused_composing};
@@ -10,6 +8,7 @@ use crate::status::Refusal;
 use edge_algebra::{Cycle, cycle};
 use edge_lists::EdgeList;
 use relax_edges::{ArchName, Edge, MAX_EDGES};
+use test_maker::first_foreign;
 
 /// The cycle of an architecture that edges make, or why they make none.
 pub(crate) fn cycle_of_edges(list: &EdgeList, arch: ArchName) -> Result<Cycle, Refusal>
@@ -34,19 +33,6 @@ fn cycle_in(edges: &[Edge], arch: ArchName) -> Result<Cycle, Refusal>
         Some(at) => Err(Refusal::NotOfArch { at }),
         None => compose(edges),
     }
-}
-
-/// The place of the first edge that isn't of the architecture.
-fn first_foreign(edges: &[Edge], arch: ArchName) -> Option<u8>
-    requires { length edges.now ≤ MAX_EDGES }
-    ensures { result ≡ position_from (λ e. not (is_of_arch e arch)) 0 edges.now }
-{
-    for (at, edge) in edges.iter().enumerate() {
-        if !edge.of_arch(arch) {
-            return Some(at as u8);
-        }
-    }
-    None
 }
 
 fn compose(edges: &[Edge]) -> Result<Cycle, Refusal>

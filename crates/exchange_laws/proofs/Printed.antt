@@ -12,6 +12,7 @@ use Rattle.arch_trait.specs.Laws.{IsArch}
 use Rattle.arch_trait.specs.Names.{letters, number_in}
 use Rattle.arch_trait.specs.Threads.{Puts}
 use Rattle.arch_trait.specs.Writing.{Writing, WritesBack, name_in}
+use Rattle.arch_trait.specs.Tests.{TestSeen}
 use Rattle.litmus_text.specs.Mentioned.{ReadsBack}
 use Rattle.litmus_text.specs.Reread.{reread}
 use Rattle.litmus_text.specs.TestReading.{TestRead}
@@ -24,8 +25,7 @@ use Rattle.communication_laws.specs.Exchange.{exchanged, exchanged_order}
 use Rattle.communication_laws.proofs.Lists.{map_same}
 use Rattle.test_laws.specs.Headline.{HasCode}
 use Rattle.test_laws.specs.Programs.{test_program}
-use Rattle.test_laws.specs.TestOf.{TestSeen, test_of}
-use Rattle.printed_test_laws.specs.Headline.{shown_test}
+use Rattle.test_laws.specs.TestOf.{test_of}
 use Rattle.printed_test_laws.specs.Readings.{program_read, place_of}
 use Rattle.printed_test_laws.proofs.Readable.{readable}
 use Rattle.printed_test_laws.proofs.Rereading.{reread_test, reread_renumbered, by_table, threads_numbered, number_of_location, numbered_same, intended_same}
@@ -42,8 +42,8 @@ exchanged_same es event f g h =
     λ i. record { reads = reads i; orders = orders i }
 
 -- no condition decides what is read back of the printed test
-read_undecided : (a : Puts) (arch : ArchName) (w : Writing) (name : List ℕ) (es : List Edge) (need : NeedsObserver) → IsArch a → HasCode a es Avoid → observer_need es ≡ Some need → ReadsBack arch w name (shown_test a w es Avoid)
-    → BytesUndecided arch w (test_text arch w name (shown_test a w es Avoid)) es need.event
+read_undecided : (a : Puts) (arch : ArchName) (w : Writing) (name : List ℕ) (es : List Edge) (need : NeedsObserver) → IsArch a → HasCode a es Avoid → observer_need es ≡ Some need → ReadsBack arch w name (test_of a (name_in w.registers) es Avoid)
+    → BytesUndecided arch w (test_text arch w name (test_of a (name_in w.registers) es Avoid)) es need.event
 read_undecided a arch w name es need laws t o r = record {
   test = test;
   reads = r.read;
@@ -51,7 +51,7 @@ read_undecided a arch w name es need laws t o r = record {
 }
   where
     test : TestRead
-    test = reread r.table name (shown_test a w es Avoid)
+    test = reread r.table name (test_of a (name_in w.registers) es Avoid)
 
     kept : TestSeen
     kept = reread_test r.table (test_of a (name_in w.registers) es Avoid)
@@ -80,4 +80,4 @@ read_undecided a arch w name es need laws t o r = record {
 pub printed_undecided_law : (a : Puts) (arch : ArchName) (w : Writing) → IsArch a → WritesBack a w → WritesCells a w → MakesOneAccess a → PrintedUndecided a arch w
 printed_undecided_law a arch w laws back cells one name es need named t o =
     read_undecided a arch w name es need laws t o
-    (reads_back a arch w name (shown_test a w es Avoid) back cells (readable a arch w name es Avoid laws back cells one named t))
+    (reads_back a arch w name (test_of a (name_in w.registers) es Avoid) back cells (readable a arch w name es Avoid laws back cells one named t))

@@ -13,7 +13,8 @@ use Rattle.final_cond.specs.Conditions.{LeftSeen}
 use Rattle.arch_trait.specs.Laws.{IsArch}
 use Rattle.arch_trait.specs.Names.{number_in}
 use Rattle.arch_trait.specs.Threads.{Puts}
-use Rattle.arch_trait.specs.Writing.{Writing}
+use Rattle.arch_trait.specs.Writing.{Writing, name_in}
+use Rattle.arch_trait.specs.Tests.{TestSeen}
 use Rattle.litmus_text.specs.Printable.{IsTestName}
 use Rattle.litmus_text.specs.TestReading.{TestRead, test_read}
 use Rattle.litmus_text.specs.TestText.{test_text}
@@ -26,8 +27,7 @@ use Rattle.exec_meaning.specs.Edges.{EdgeStands}
 use Rattle.test_laws.specs.FinalStates.{final_state}
 use Rattle.test_laws.specs.Headline.{HasCode, IsRenumbered}
 use Rattle.test_laws.specs.Programs.{test_program}
-use Rattle.test_laws.specs.TestOf.{TestSeen, test_of}
-use Rattle.printed_test_laws.specs.Headline.{shown_test}
+use Rattle.test_laws.specs.TestOf.{test_of}
 use Rattle.printed_test_laws.specs.Readings.{program_read, place_of}
 
 -- No condition on the final state tells two executions of a program apart, and an edge of a cycle stands in the first alone:
@@ -69,4 +69,4 @@ abbrev pub PrintedUndecided : Puts → ArchName → Writing → Type 0
 PrintedUndecided a arch w =
     (name : List ℕ) (es : List Edge) (need : NeedsObserver) →
     IsTestName name → HasCode a es Avoid → observer_need es ≡ Some need →
-    BytesUndecided arch w (test_text arch w name (shown_test a w es Avoid)) es need.event
+    BytesUndecided arch w (test_text arch w name (test_of a (name_in w.registers) es Avoid)) es need.event

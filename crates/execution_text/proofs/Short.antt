@@ -1,17 +1,16 @@
 -- The text that is written of an execution isn't too long, where it has no more threads, places, reads and writes than tests have.
-use Rattle.std.proofs.Common.{◌≡◌, ◌≤◌, ◌<◌, ◌^◌, ◌+◌, ◌*◌, ℕ, List, [], ◌∷◌, ◌++◌, map, length, true, ap, arith, length-append, suc-mul}
+use Rattle.std.proofs.Common.{◌≡◌, ◌≤◌, ◌<◌, ◌+◌, ◌*◌, ℕ, List, [], ◌∷◌, ◌++◌, map, length, true, ap, arith, length-append, suc-mul}
 use Rattle.std.specs.Prelude.{codes, Option, Some, None}
 use Rattle.std.specs.Fmt.{decimal}
 use Rattle.std.specs.List.{All, enumerate_from, flat_map, list_all, zip}
-use Rattle.std.proofs.lemmas.Fmt.{length-decimal-le}
 use Rattle.std.proofs.lemmas.Grind.{flat_map-append}
-use Rattle.std.proofs.lemmas.List.Concat.{length-flat_map}
 use Rattle.std.proofs.lemmas.List.Elements.{All-head, All-map, All-tail}
 use Rattle.std.proofs.lemmas.List.{length-map}
-use Rattle.std.proofs.lemmas.List.Sums.{sum_by-le}
 use Rattle.std.proofs.lemmas.Bool.{and_parts}
 use Rattle.text_laws.specs.Names.{is_place_name}
+use Rattle.text_laws.proofs.LengthLaws.{pieces_short}
 use Rattle.text_laws.proofs.NameLaws.{place_name_short}
+use Rattle.text_laws.proofs.NumberLaws.{two_digits, ten_digits}
 use Rattle.litmus_text.specs.TestText.{ended}
 use Rattle.litmus_text.specs.declared.limits.TheConstants.{MAX_TEXT, MAX_THREADS, MAX_ACCESSES}
 use Rattle.program_meaning.specs.declared.WriteAt.{WriteAt}
@@ -20,13 +19,6 @@ use Rattle.execution_text.specs.ExecutionText.{place_head, thread_head}
 use Rattle.execution_text.specs.Written.{access_word, line_of, place_line, read_word, source_word, text_of_execution, thread_line}
 use Rattle.execution_text.specs.ReadBack.{AccessFits, ExecutionFits, ReadFits, SourceFits}
 use Rattle.execution_text.proofs.Appending.{further}
-
--- a number below 100 has at most two digits, and one of 32 bits at most ten
-two_digits : (n : ℕ) → n < 100 → length (decimal n) ≤ 2
-two_digits n h = length-decimal-le 2 n (omega arith) (omega (arith, h)) (omega (arith, h))
-
-ten_digits : (n : ℕ) → n < 2 ^ 32 → length (decimal n) ≤ 10
-ten_digits n h = length-decimal-le 10 n (omega arith) (omega (arith, h)) (omega (arith, h))
 
 -- the word for an access has at most 5 bytes, and that for a read at most 16
 access_short : (threads : ℕ) → threads ≤ MAX_THREADS → (w : WriteAt) → AccessFits threads w → length (access_word w) ≤ 5
@@ -58,9 +50,7 @@ place_head_short place h = omega (arith, place_name_short place h, length-append
 
 -- further words of at most 16 bytes, each after a blank
 further_short : (words : List (List ℕ)) → All (λ word. length word ≤ 16) words → length (further words) ≤ length words * 17
-further_short words h =
-    let all : All (λ word. length (codes " " ++ word) ≤ 17) words = λ i d k. omega (arith, h i d k) in
-    omega (arith, length-flat_map (λ word. codes " " ++ word) words, sum_by-le (λ word. length (codes " " ++ word)) 17 words all)
+further_short words h = pieces_short (λ word. codes " " ++ word) 17 words (λ i d k. omega (arith, h i d k))
 
 -- a line of a head and of words for a few things, with its line feed
 line_short : {X : Type 0} (P : X → Type 0) (word : X → List ℕ) → ((x : X) → P x → length (word x) ≤ 16) → (head : List ℕ) → length head ≤ 17

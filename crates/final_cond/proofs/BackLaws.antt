@@ -91,7 +91,8 @@ named thread name h =
 pub place_bytes : (name : List ℕ) → has_form (AtPlace name) ≡ true → list_all is_place_byte name ≡ true
 place_bytes name h = shaped_all begins_place is_place_byte is_place_byte (λ byte l. grind (arith, nat_tests)) (λ byte l. l) name (place_shaped name h)
 
-left_unblanked : (left : LeftSeen) (rest : List ℕ) → has_form left ≡ true → unblanked (left_text left ++ rest) ≡ left_text left ++ rest
+-- a text that begins with a left side isn't changed where blanks are passed over
+pub left_unblanked : (left : LeftSeen) (rest : List ℕ) → has_form left ≡ true → unblanked (left_text left ++ rest) ≡ left_text left ++ rest
 unfolding left_text after_run
 left_unblanked (InRegister thread name) rest h =
     let t : thread < 64 = (named thread name h).few in
@@ -139,7 +140,8 @@ pub right_back : (n : ℕ) (rest : List ℕ) → n < 2 ^ 32 → stops is_ascii_d
 unfolding right_read
 right_back n rest h s = rw (equals_back (decimal n ++ rest), value_back n rest h s) refl
 
-term_parts : (left value rest : List ℕ) → ((left ++ 61 ∷ []) ++ value) ++ rest ≡ left ++ (61 ∷ (value ++ rest))
+-- the text of a term is its left side, `=` and its value
+pub term_parts : (left value rest : List ℕ) → ((left ++ 61 ∷ []) ++ value) ++ rest ≡ left ++ (61 ∷ (value ++ rest))
 term_parts left value rest = simp append_assoc
 
 -- a term reads back
@@ -159,11 +161,13 @@ unfolding terms_read after_run
 terms_blank known zero text = rw term_blank refl
 terms_blank known (suc room) text = rw term_blank refl
 
-closing : (rest : List ℕ) → follow_read (41 ∷ rest) ≡ Ok (follows.End, rest)
+-- the `)` after the last term
+pub closing : (rest : List ℕ) → follow_read (41 ∷ rest) ≡ Ok (follows.End, rest)
 unfolding follow_read after_run
 closing rest = refl
 
-joining : (rest : List ℕ) → follow_read (32 ∷ 47 ∷ 92 ∷ rest) ≡ Ok (follows.Term, rest)
+-- the ` /\` before a further term
+pub joining : (rest : List ℕ) → follow_read (32 ∷ 47 ∷ 92 ∷ rest) ≡ Ok (follows.Term, rest)
 unfolding follow_read after_run
 joining rest = refl
 
@@ -184,7 +188,8 @@ terms_back known (suc room) term (next ∷ terms) rest few f k =
     rw (append_assoc (term_text term) (32 ∷ 47 ∷ 92 ∷ 32 ∷ more) (41 ∷ rest), term_back known term (32 ∷ 47 ∷ 92 ∷ 32 ∷ text) f.0 k.0 refl, joining (32 ∷ text))
     (rw (terms_blank known room text, terms_back known room next terms rest (omega arith) f.1 k.1) refl)
 
-opening_back : (quantifier : Quantifier) (text : List ℕ) → opening_read ((quantifier_word quantifier ++ codes " (") ++ text) ≡ Ok (quantifier, text)
+-- the opening of a condition reads back
+pub opening_back : (quantifier : Quantifier) (text : List ℕ) → opening_read ((quantifier_word quantifier ++ codes " (") ++ text) ≡ Ok (quantifier, text)
 unfolding opening_read sign_read run_of after_run
 opening_back Exists text = refl
 opening_back NotExists text = refl

@@ -6,9 +6,9 @@ use Rattle.diy_io.specs.Page.{page_after}
 use Rattle.diy_io.specs.PageLaws.{page_fits}
 use Rattle.diy_io.specs.Shelf.{ShelfSeen, name_written, Appended, AppendedPart}
 use Rattle.arch_trait.specs.Writing.{Writing}
+use Rattle.arch_trait.specs.Tests.{TestSeen}
 use Rattle.litmus_text.specs.declared.parts.TextPart.{TextPart}
 use Rattle.litmus_text.specs.declared.parts.TextPart.TheVariants.{Edges}
-use Rattle.litmus_text.specs.TestText.{TestSeen}
 use Rattle.litmus_text.specs.TextParts.{text_from, PutsPart}
 use Rattle.listed_tests.specs.Putting.{Filling, PutPart}
 use Rattle.listed_tests.proofs.Shelves.{filling_more, filling_part, part_more}

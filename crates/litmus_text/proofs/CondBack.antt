@@ -1,24 +1,22 @@
 -- The printed condition is read back.
-use Rattle.std.proofs.Common.{◌≡◌, ◌<◌, ◌≤◌, ℕ, zero, suc, List, [], ◌∷◌, ◌++◌, None, Ok, true, false, length, refl, sym, ap, ◌∙◌, arith, append_assoc, append-nil}
+use Rattle.std.proofs.Common.{◌≡◌, ◌<◌, ◌≤◌, ℕ, zero, suc, List, [], ◌∷◌, ◌++◌, None, Ok, true, length, refl, ap, ◌∙◌, arith, append_assoc, append-nil}
 use Rattle.std.specs.Prelude.{codes}
 use Rattle.std.specs.Char.{is_ascii_digit, is_ascii_alphanumeric}
 use Rattle.std.specs.Fmt.{decimal}
 use Rattle.std.specs.List.{list_all, flat_map, AllByRecursion}
 use Rattle.std.proofs.lemmas.Bool.Decides.{nat_tests}
-use Rattle.std.proofs.lemmas.Bool.{and_parts}
 use Rattle.list_laws.proofs.Elements.{list_all-weaker}
 use Rattle.final_cond.specs.declared.cond.TheConstants.{MAX_TERMS}
 use Rattle.final_cond.specs.declared.cond.Quantifier.{Quantifier}
 use Rattle.final_cond.specs.declared.cond.Quantifier.TheVariants.{Exists, NotExists, Forall}
-use Rattle.final_cond.specs.declared.read.Follow.TheVariants as follows
 use Rattle.text_laws.specs.Names.{is_place_byte}
-use Rattle.text_laws.specs.Blanks.{is_blank, unblanked}
+use Rattle.text_laws.specs.Blanks.{unblanked}
 use Rattle.text_laws.specs.Runs.{run_of, after_run}
 use Rattle.final_cond.specs.Conditions.{LeftSeen, InRegister, AtPlace, TermSeen, CondSeen}
 use Rattle.final_cond.specs.CondText.{quantifier_word, left_text, term_text, further_term_text, terms_text, cond_text}
-use Rattle.final_cond.specs.Reading.{opening_read, sign_read, left_read, right_read, follow_read, has_form}
+use Rattle.final_cond.specs.Reading.{opening_read, left_read, right_read, has_form}
 use Rattle.final_cond.specs.ReadBack.{IsFormedTerm}
-use Rattle.final_cond.proofs.BackLaws.{digits_of, named, place_bytes, left_back, right_back, stops}
+use Rattle.final_cond.proofs.BackLaws.{stops, digits_of, named, place_bytes, left_unblanked, left_back, right_back, term_parts, closing, joining, opening_back}
 use Rattle.arch_trait.specs.Writing.{Writing}
 use Rattle.arch_trait.specs.Cells.{ends_rows, is_line_byte}
 use Rattle.litmus_text.specs.Lines.{Lines, ends, line, ◌>>=◌}
@@ -35,24 +33,6 @@ use Rattle.litmus_text.proofs.NamesBack.{Within, within_self, within_trans, IsAm
 state : List (List ℕ) → Mentioned
 state s = record { names = s; over = None }
 
-not_blank_digit : (b : ℕ) → is_ascii_digit b ≡ true → is_blank b ≡ false
-not_blank_digit b h = grind (arith, nat_tests)
-
-digits_stay : (digits rest : List ℕ) → list_all is_ascii_digit digits ≡ true → 0 < length digits → unblanked (digits ++ rest) ≡ digits ++ rest
-unfolding after_run
-digits_stay [] rest h some = absurd (omega arith)
-digits_stay (b ∷ digits) rest h some = rw (not_blank_digit b (and_parts (is_ascii_digit b) (list_all is_ascii_digit digits) h).0) refl
-
-left_stays : (left : LeftSeen) (rest : List ℕ) → has_form left ≡ true → unblanked (left_text left ++ rest) ≡ left_text left ++ rest
-unfolding left_text after_run
-left_stays (InRegister thread name) rest h =
-    let small = (named thread name h).few in
-    let digits = digits_of thread (omega arith) in
-    let shape : ((decimal thread ++ codes ":") ++ name) ++ rest ≡ decimal thread ++ (58 ∷ (name ++ rest)) =
-    append_assoc (decimal thread ++ codes ":") name rest ∙ append_assoc (decimal thread) (58 ∷ []) (name ++ rest) in
-    ap unblanked shape ∙ digits_stay (decimal thread) (58 ∷ (name ++ rest)) digits.all digits.some ∙ sym shape
-left_stays (AtPlace name) rest h = refl
-
 left_put_back : (w : Writing) (here : Setting) (n : ℕ) (table s : List (List ℕ)) (left : LeftSeen) → is_known w here.threads table left ≡ true → IsAmong s table → length table ≤ 64
     → left_put w here n (state s) left ≡ Ok (state (left_mention s left))
 unfolding state
@@ -63,8 +43,7 @@ left_put_back w here n table s (AtPlace name) known among_table short =
 
 term_shape : (term : TermSeen) (rest : List ℕ) → term_text term ++ rest ≡ left_text term.left ++ (61 ∷ (decimal term.value ++ rest))
 unfolding term_text
-term_shape term rest =
-    append_assoc (left_text term.left ++ codes "=") (decimal term.value) rest ∙ append_assoc (left_text term.left) (61 ∷ []) (decimal term.value ++ rest)
+term_shape term rest = term_parts (left_text term.left) (decimal term.value) rest
 
 abbrev read_as : LeftSeen → ℕ → Mentioned → List ℕ → TermRead
 read_as left value next rest = record { term = record { left = left; value = value }; state = next; rest = rest }
@@ -76,7 +55,7 @@ term_back : (w : Writing) (here : Setting) (table s : List (List ℕ)) (term : T
 unfolding term_here
 term_back w here table s term rest fits among_table short stop =
     let behind : List ℕ = 61 ∷ (decimal term.value ++ rest) in
-    let prefix : unblanked (term_text term ++ rest) ≡ left_text term.left ++ behind = ap unblanked (term_shape term rest) ∙ left_stays term.left behind fits.formed.form in
+    let prefix : unblanked (term_text term ++ rest) ≡ left_text term.left ++ behind = ap unblanked (term_shape term rest) ∙ left_unblanked term.left behind fits.formed.form in
     let left = left_back has_form term.left behind fits.formed.form fits.formed.form refl in
     let right = right_back term.value rest fits.formed.value stop in
     go (unblanked (term_text term ++ rest)) behind prefix left right
@@ -96,14 +75,6 @@ terms_blank : (w : Writing) (here : Setting) (room : ℕ) (s : Mentioned) (text 
 unfolding terms_here after_run
 terms_blank w here zero s text = rw (term_blank w here s text) refl
 terms_blank w here (suc room) s text = rw (term_blank w here s text) refl
-
-closing : (rest : List ℕ) → follow_read (41 ∷ rest) ≡ Ok (follows.End, rest)
-unfolding follow_read after_run
-closing rest = refl
-
-joining : (rest : List ℕ) → follow_read (32 ∷ 47 ∷ 92 ∷ rest) ≡ Ok (follows.Term, rest)
-unfolding follow_read after_run
-joining rest = refl
 
 -- the names of places stay among those of a table after a left side was read
 pub term_among : (w : Writing) (threads : ℕ) (table s : List (List ℕ)) (left : LeftSeen) → is_known w threads table left ≡ true → IsAmong s table → length table ≤ 64 → IsAmong (left_mention s left) table
@@ -125,12 +96,6 @@ terms_back w here table s (suc room) term (next ∷ terms) rest few fits among_t
     (term_among w here.threads table s term.left fits.0.known among_table short) short in
     rw (append_assoc (term_text term) (32 ∷ 47 ∷ 92 ∷ 32 ∷ more) (41 ∷ rest), term_back w here table s term (32 ∷ 47 ∷ 92 ∷ 32 ∷ text) fits.0 among_table short refl, joining (32 ∷ text))
     (rw (terms_blank w here room (state (left_mention s term.left)) text, further) refl)
-
-opening_back : (quantifier : Quantifier) (text : List ℕ) → opening_read ((quantifier_word quantifier ++ codes " (") ++ text) ≡ Ok (quantifier, text)
-unfolding opening_read sign_read run_of after_run
-opening_back Exists text = refl
-opening_back NotExists text = refl
-opening_back Forall text = refl
 
 -- the whole condition
 here_back : (w : Writing) (here : Setting) (table s : List (List ℕ)) (condition : CondSeen) → here.text.bytes ≡ cond_text condition → 0 < length condition.terms → length condition.terms ≤ MAX_TERMS

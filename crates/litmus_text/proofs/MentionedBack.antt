@@ -14,7 +14,8 @@ use Rattle.arch_trait.specs.Names.{number_in, names_added}
 use Rattle.arch_trait.specs.Writing.{Writing, WritesBack, name_in}
 use Rattle.arch_trait.specs.Cells.{WritesCells, accesses_in}
 use Rattle.arch_trait.specs.LabelOrder.{labels_in}
-use Rattle.litmus_text.specs.TestText.{TestSeen, columns_of, row_line}
+use Rattle.arch_trait.specs.Tests.{TestSeen}
+use Rattle.litmus_text.specs.TestText.{columns_of, row_line}
 use Rattle.litmus_text.specs.Placing.{mentioned}
 use Rattle.litmus_text.specs.Progress.{Progress, moved, advanced, mentioned_first, row_mentions, is_placed, CodeFits}
 use Rattle.litmus_text.specs.Items.{Link, links_of, links_mention, LinkFits}

@@ -9,9 +9,9 @@ use Rattle.diy_io.specs.Wrote.{SinkSeen, WrotePart}
 use Rattle.diy_io.specs.Page.{SentAll, Sends}
 use Rattle.diy_io.specs.PageLaws.{sent_nothing, sent_line, sent_part, sent_part_more, sent_same}
 use Rattle.arch_trait.specs.Writing.{Writing}
+use Rattle.arch_trait.specs.Tests.{TestSeen}
 use Rattle.litmus_text.specs.declared.parts.TextPart.{TextPart}
 use Rattle.litmus_text.specs.declared.parts.TextPart.TheVariants.{Edges}
-use Rattle.litmus_text.specs.TestText.{TestSeen}
 use Rattle.litmus_text.specs.TextParts.{text_from, PutsPart}
 
 abbrev Answer : Type 0

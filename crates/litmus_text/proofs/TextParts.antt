@@ -11,9 +11,10 @@ use Rattle.arch_trait.specs.Codes.{thread_of}
 use Rattle.arch_trait.specs.declared.code.Code.{Code}
 use Rattle.arch_trait.specs.Threads.{ThreadCode}
 use Rattle.arch_trait.specs.Writing.{Writing}
+use Rattle.arch_trait.specs.Tests.{TestSeen}
 use Rattle.final_cond.specs.CondText.{cond_text}
 use Rattle.litmus_text.specs.declared.parts.TextPart.TheVariants.{Edges, Items, Row}
-use Rattle.litmus_text.specs.TestText.{TestSeen, edges_line, items_lines, initial_lines, columns_of, row_line, row_count, table_lines, ended}
+use Rattle.litmus_text.specs.TestText.{edges_line, items_lines, initial_lines, columns_of, row_line, row_count, table_lines, ended}
 use Rattle.litmus_text.specs.TextParts.{rows_from, lines_from, text_from, parts_left, PutsPart}
 use Rattle.litmus_text.proofs.ElementLaws.{numbered_at}
 use Rattle.litmus_text.proofs.InitialLaws.{printed_items}

@@ -16,10 +16,11 @@ use Rattle.micro_ops.specs.declared.operation.Micro.TheVariants as ops
 use Rattle.micro_ops.specs.declared.operation.Barrier.TheVariants.{Fence}
 use Rattle.arch_trait.specs.Threads.{ThreadCode}
 use Rattle.arch_trait.specs.Writing.{Writing, Written, none, two, three, bracketed, name_in}
+use Rattle.arch_trait.specs.Tests.{TestSeen}
 use Rattle.final_cond.specs.declared.cond.Quantifier.TheVariants.{Exists}
 use Rattle.final_cond.specs.Conditions.{LeftSeen, InRegister, AtPlace, TermSeen, CondSeen}
 use Rattle.final_cond.specs.CondText.{left_text, term_text, cond_text}
-use Rattle.litmus_text.specs.TestText.{TestSeen, header_line, edges_line, item_text, initial_lines, column_of, width_of, cell_text, row_line, row_count, table_lines, test_lines, test_text}
+use Rattle.litmus_text.specs.TestText.{header_line, edges_line, item_text, initial_lines, column_of, width_of, cell_text, row_line, row_count, table_lines, test_lines, test_text}
 
 x86_registers : List (List ℕ)
 x86_registers = codes "EAX" ∷ codes "EBX" ∷ []

@@ -18,6 +18,7 @@ use Rattle.final_cond.specs.CondText.{cond_text}
 use Rattle.arch_trait.specs.Threads.{Puts, ThreadCode}
 use Rattle.arch_trait.specs.Writing.{Writing, WritesBack, op_text, name_in}
 use Rattle.arch_trait.specs.Cells.{WritesCells}
+use Rattle.arch_trait.specs.Tests.{TestSeen}
 use Rattle.litmus_text.specs.declared.limits.TheConstants.{MAX_TEXT}
 use Rattle.litmus_text.specs.Lines.{Lines, ends, line}
 use Rattle.litmus_text.specs.Header.{header_read, quote_read, after_settings}
@@ -25,7 +26,7 @@ use Rattle.litmus_text.specs.InitialState.{Begun, initial_read}
 use Rattle.litmus_text.specs.Table.{Column, among, head_read, rows_read, all_labels_judged, no_columns, after_locations}
 use Rattle.litmus_text.specs.Condition.{condition_read}
 use Rattle.litmus_text.specs.TestReading.{ThreadRead, values_of, threads_of, lines_read, test_read}
-use Rattle.litmus_text.specs.TestText.{TestSeen, items_lines, initial_lines, column_of, columns_of, row_line, row_count, table_lines, ended, test_lines, test_text}
+use Rattle.litmus_text.specs.TestText.{items_lines, initial_lines, column_of, columns_of, row_line, row_count, table_lines, ended, test_lines, test_text}
 use Rattle.litmus_text.specs.Placing.{place_in, renumbered}
 use Rattle.litmus_text.specs.TablePlan.{placed_from, column_so_far}
 use Rattle.litmus_text.specs.Progress.{progress, CodeFits, code_lands, column_at}

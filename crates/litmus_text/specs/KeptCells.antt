@@ -3,7 +3,8 @@
 use Rattle.std.specs.Prelude.{◌≡◌, ◌<◌, ◌≤◌, ◌+◌, ℕ, List, [], ◌∷◌, ◌++◌, length, map, take, slice_index_or}
 use Rattle.std.specs.List.{All}
 use Rattle.arch_trait.specs.Writing.{Writing}
-use Rattle.litmus_text.specs.TestText.{TestSeen, columns_of, width_of, row_count}
+use Rattle.arch_trait.specs.Tests.{TestSeen}
+use Rattle.litmus_text.specs.TestText.{columns_of, width_of, row_count}
 
 -- the texts of all columns, one column after the other
 abbrev pub all_texts : List (List (List ℕ)) → List (List ℕ)

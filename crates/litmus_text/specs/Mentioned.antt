@@ -9,7 +9,8 @@ use Rattle.micro_ops.specs.declared.operation.Micro.TheVariants as ops
 use Rattle.final_cond.specs.Conditions.{LeftSeen, InRegister, AtPlace}
 use Rattle.arch_trait.specs.Names.{number_in}
 use Rattle.arch_trait.specs.Writing.{Writing, name_in}
-use Rattle.litmus_text.specs.TestText.{TestSeen, test_text}
+use Rattle.arch_trait.specs.Tests.{TestSeen}
+use Rattle.litmus_text.specs.TestText.{test_text}
 use Rattle.litmus_text.specs.TestReading.{test_read}
 use Rattle.litmus_text.specs.Items.{links_of}
 use Rattle.litmus_text.specs.Reread.{reread}

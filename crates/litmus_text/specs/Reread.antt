@@ -8,8 +8,9 @@ use Rattle.relax_edges.specs.Words.{word_of}
 use Rattle.final_cond.specs.declared.cond.TheConstants.{MAX_TERMS}
 use Rattle.arch_trait.specs.Threads.{Puts, ThreadCode}
 use Rattle.arch_trait.specs.Writing.{Writing, name_in}
+use Rattle.arch_trait.specs.Tests.{TestSeen}
 use Rattle.litmus_text.specs.declared.limits.TheConstants.{MAX_TEXT, MAX_THREADS, MAX_ROWS}
-use Rattle.litmus_text.specs.TestText.{TestSeen, test_text}
+use Rattle.litmus_text.specs.TestText.{test_text}
 use Rattle.litmus_text.specs.TestReading.{ThreadRead, TestRead}
 use Rattle.litmus_text.specs.Placing.{place_in, renumbered}
 use Rattle.litmus_text.specs.Printable.{IsTestName}

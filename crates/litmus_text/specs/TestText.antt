@@ -8,17 +8,10 @@ use Rattle.relax_edges.specs.declared.kinds.ArchName.{ArchName}
 use Rattle.relax_edges.specs.declared.edge.Edge.{Edge}
 use Rattle.relax_edges.specs.Architectures.{arch_word}
 use Rattle.relax_edges.specs.Words.{word_of}
+use Rattle.arch_trait.specs.Tests.{TestSeen}
 use Rattle.arch_trait.specs.Threads.{ThreadCode}
 use Rattle.arch_trait.specs.Writing.{Writing, op_text, name_in}
-use Rattle.final_cond.specs.Conditions.{CondSeen}
 use Rattle.final_cond.specs.CondText.{cond_text}
-
--- what the text of a test shows of it
-pub record TestSeen : Type 0 where
-  pub edges : List Edge
-  pub places : List (List ℕ)
-  pub threads : List ThreadCode
-  pub cond : CondSeen
 
 -- the architecture, a blank and the name
 unfoldable pub header_line : ArchName → List ℕ → List ℕ

@@ -6,9 +6,9 @@ use Rattle.micro_ops.specs.declared.operation.Micro.{Micro}
 use Rattle.arch_trait.specs.Codes.{thread_of}
 use Rattle.arch_trait.specs.Writing.{place_below, label_below}
 use Rattle.arch_trait.specs.declared.code.Code.{Code}
+use Rattle.arch_trait.specs.Tests.{TestSeen}
 use Rattle.final_cond.specs.Conditions.{cond_view}
 use Rattle.litmus_text.specs.declared.test.Test.{Test}
-use Rattle.litmus_text.specs.TestText.{TestSeen}
 
 -- what the text of a test of the program shows of it
 abbrev pub test_seen : Test → TestSeen

@@ -5,10 +5,11 @@ use Rattle.std.specs.List.{flat_map, enumerate_from}
 use Rattle.diy_io.specs.declared.page.TheConstants.{LINE_ROOM}
 use Rattle.diy_io.specs.Page.{page_after}
 use Rattle.arch_trait.specs.Writing.{Writing}
+use Rattle.arch_trait.specs.Tests.{TestSeen}
 use Rattle.final_cond.specs.CondText.{cond_text}
 use Rattle.litmus_text.specs.declared.parts.TextPart.{TextPart}
 use Rattle.litmus_text.specs.declared.parts.TextPart.TheVariants.{Edges, Items, Row}
-use Rattle.litmus_text.specs.TestText.{TestSeen, edges_line, items_lines, initial_lines, columns_of, row_count, table_lines, ended}
+use Rattle.litmus_text.specs.TestText.{edges_line, items_lines, initial_lines, columns_of, row_count, table_lines, ended}
 
 -- the rows of the table from one on, and the condition
 unfoldable pub rows_from : Writing → TestSeen → ℕ → List (List ℕ)

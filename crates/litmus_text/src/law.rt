@@ -1,5 +1,5 @@
 ghost use Rattle.std.specs.Prelude.{ℕ, List};
-ghost use Rattle.litmus_text.specs.TestText.{TestSeen};
+ghost use Rattle.arch_trait.specs.Tests.{TestSeen};
 ghost use Rattle.litmus_text.specs.Reread.{IsReadable};
 ghost use Rattle.litmus_text.specs.Mentioned.{ReadsBack};
 

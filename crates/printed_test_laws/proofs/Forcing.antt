@@ -23,13 +23,13 @@ use Rattle.test_laws.specs.Programs.{test_program}
 use Rattle.test_laws.specs.TestOf.{test_of}
 use Rattle.test_laws.proofs.Headline.{renumbered_force_law}
 use Rattle.test_laws.proofs.RegisterNames.{registers_found}
-use Rattle.printed_test_laws.specs.Headline.{BytesForce, shown_test}
+use Rattle.printed_test_laws.specs.Headline.{BytesForce}
 use Rattle.printed_test_laws.specs.Readings.{program_read, place_of, ReadingAsks}
 use Rattle.printed_test_laws.proofs.Rereading.{by_table, reread_test, reread_renumbered, threads_numbered, number_of_location, intended_same}
 
 -- the bytes of a test that reads back force the cycle
 pub bytes_force : (a : Puts) (arch : ArchName) (w : Writing) (name : List ℕ) (es : List Edge) (mode : ObsMode) → IsArch a → WritesBack a w → HasTest a es mode
-    → ReadsBack arch w name (shown_test a w es mode) → BytesForce arch w (test_text arch w name (shown_test a w es mode)) es mode
+    → ReadsBack arch w name (test_of a (name_in w.registers) es mode) → BytesForce arch w (test_text arch w name (test_of a (name_in w.registers) es mode)) es mode
 bytes_force a arch w name es mode laws back t r = record {
   test = test;
   reads = r.read;
@@ -40,7 +40,7 @@ bytes_force a arch w name es mode laws back t r = record {
 }
   where
     test : TestRead
-    test = reread r.table name (shown_test a w es mode)
+    test = reread r.table name (test_of a (name_in w.registers) es mode)
 
     number : ℕ → ℕ
     number = by_table r.table (letters (move_count es))

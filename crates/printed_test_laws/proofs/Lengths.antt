@@ -5,9 +5,9 @@ use Rattle.std.specs.List.{AllByRecursion, join_by, flat_map, enumerate_from, ra
 use Rattle.std.specs.Fmt.{decimal}
 use Rattle.std.proofs.Math.ListN.{replicate}
 use Rattle.std.proofs.lemmas.Bool.{and_parts, ltb-true}
-use Rattle.std.proofs.lemmas.Fmt.{length-decimal-le}
 use Rattle.std.proofs.lemmas.Grind.{flat_map-append}
 use Rattle.std.proofs.lemmas.List.{length-map, length-replicate}
+use Rattle.std.proofs.lemmas.List.Elements.{All-from_recursion}
 use Rattle.std.proofs.lemmas.List.FromFn.{length-range_with_len}
 use Rattle.relax_edges.specs.declared.TheConstants.{MAX_EDGES}
 use Rattle.relax_edges.specs.declared.kinds.ArchName.{ArchName}
@@ -24,35 +24,26 @@ use Rattle.final_cond.specs.CondText.{quantifier_word, left_text, term_text, fur
 use Rattle.text_laws.specs.Names.{is_register_name}
 use Rattle.final_cond.specs.ReadBack.{IsFormedTerm}
 use Rattle.final_cond.specs.Reading.{has_form}
+use Rattle.text_laws.proofs.LengthLaws.{pieces_short}
 use Rattle.text_laws.proofs.NameLaws.{place_name_short, register_name_short}
+use Rattle.text_laws.proofs.NumberLaws.{two_digits, ten_digits}
 use Rattle.arch_trait.specs.declared.arch.TheConstants.{MAX_INSTRS}
 use Rattle.arch_trait.specs.Threads.{ThreadCode}
 use Rattle.arch_trait.specs.Writing.{Writing, op_text, name_in}
+use Rattle.arch_trait.specs.Tests.{TestSeen}
 use Rattle.litmus_text.specs.declared.limits.TheConstants.{MAX_TEXT}
 use Rattle.litmus_text.proofs.InitialLaws.{flat_map-flat_map}
-use Rattle.litmus_text.specs.TestText.{TestSeen, header_line, edges_line, item_text, items_lines, initial_lines, column_of, width_of, cell_text, row_line, row_count, table_lines, test_lines, ended, test_text}
+use Rattle.litmus_text.specs.TestText.{header_line, edges_line, item_text, items_lines, initial_lines, column_of, width_of, cell_text, row_line, row_count, table_lines, test_lines, ended, test_text}
 
--- pieces of at most c bytes each
-pieces_short : {X : Type 0} (f : X → List ℕ) (c : ℕ) (xs : List X) → AllByRecursion (λ x. length (f x) ≤ c) xs → length (flat_map f xs) ≤ length xs * c
-pieces_short f c [] h = omega arith
-pieces_short f c (x ∷ xs) h =
-    let here = h.0 in
-    let rest = pieces_short f c xs h.1 in
-    let size = length-append (f x) (flat_map f xs) in
-    omega (arith, here, rest, size, suc-mul (length xs) c)
-
--- the same with a separator between
+-- pieces of at most c bytes each, with a separator between
 joined_short : {X : Type 0} (f : X → List ℕ) (sep : List ℕ) (c e : ℕ) (xs : List X) → c + length sep ≤ e → AllByRecursion (λ x. length (f x) ≤ c) xs → length (join_by f sep xs) ≤ length xs * e
 joined_short f sep c e [] h all = omega arith
 joined_short {X} f sep c e (x ∷ xs) h all =
     let here = all.0 in
-    let rest = pieces_short (λ y. sep ++ f y) e xs (wider xs all.1) in
+    let others = All-from_recursion (λ y. length (f y) ≤ c) xs all.1 in
+    let rest = pieces_short (λ y. sep ++ f y) e xs (λ i d k. omega (arith, length-append sep (f (get_or xs i d)), others i d k, h)) in
     let size = length-append (f x) (flat_map (λ y. sep ++ f y) xs) in
     omega (arith, here, rest, size, suc-mul (length xs) e)
-  where
-    wider : (ys : List X) → AllByRecursion (λ x. length (f x) ≤ c) ys → AllByRecursion (λ x. length (sep ++ f x) ≤ e) ys
-    wider [] all = tt
-    wider (y ∷ ys) all = (omega (arith, length-append sep (f y), all.0, h), wider ys all.1)
 
 all_always : {X : Type 0} (P : X → Type 0) (xs : List X) → ((x : X) → P x) → AllByRecursion P xs
 all_always P [] h = tt
@@ -72,9 +63,6 @@ one_short : (m : ℕ) (texts : List (List ℕ)) (i : ℕ) → AllByRecursion (λ
 one_short m [] i all = omega arith
 one_short m (text ∷ texts) zero all = all.0
 one_short m (text ∷ texts) (suc i) all = one_short m texts i all.1
-
-small_decimal : (n : ℕ) → n < 64 → length (decimal n) ≤ 2
-small_decimal n h = length-decimal-le 2 n (omega arith) (omega arith) (omega arith)
 
 arch_short : (arch : ArchName) → length (arch_word arch) ≤ 7
 arch_short archs.X86 = omega arith
@@ -103,7 +91,7 @@ unfolding item_text
 item_short w places thread link registers names h =
     let register = name_in w.registers link.0 in
     let place = name_in places link.1 in
-    let number = small_decimal thread h in
+    let number = two_digits thread (omega (arith, h)) in
     let a = one_short 16 w.registers link.0 registers in
     let b = one_short 16 places link.1 names in
     let prefix = decimal thread ++ codes ":" in
@@ -150,7 +138,9 @@ unfolding initial_lines
 initial_short w places threads registers names few small =
     let items = flat_map (λ (t : ℕ × ThreadCode). items_lines w places t.0 t.1.links) (enumerate_from 0 threads) in
     let joined = flat_map-flat_map ended (λ (t : ℕ × ThreadCode). items_lines w places t.0 t.1.links) (enumerate_from 0 threads) in
-    let short = pieces_short (λ (t : ℕ × ThreadCode). flat_map ended (items_lines w places t.0 t.1.links)) 1217 (enumerate_from 0 threads) (all_items_short w places 0 threads registers names (omega arith) small) in
+    let each = All-from_recursion (λ (t : ℕ × ThreadCode). length (flat_map ended (items_lines w places t.0 t.1.links)) ≤ 1217) (enumerate_from 0 threads)
+    (all_items_short w places 0 threads registers names (omega arith) small) in
+    let short = pieces_short (λ (t : ℕ × ThreadCode). flat_map ended (items_lines w places t.0 t.1.links)) 1217 (enumerate_from 0 threads) each in
     let split = flat_map-append ended items (codes "}" ∷ []) in
     omega (
       arith,
@@ -171,7 +161,7 @@ columns_narrow : (w : Writing) (places : List (List ℕ)) (n : ℕ) (threads : L
 unfolding column_of
 columns_narrow w places n [] h small = tt
 columns_narrow w places n (t ∷ threads) h small =
-    let number = small_decimal n (omega arith) in (
+    let number = two_digits n (omega arith) in (
       record { texts = (omega (arith, number, length-append (codes "P") (decimal n)), texts_of t.instrs small.0.texts); rows = omega (arith, length-map t.instrs (op_text w (name_in places)), small.0.code) },
       columns_narrow w places (n + 1) threads (omega arith) small.1,
     )
@@ -218,7 +208,8 @@ table_short : (columns : List (List (List ℕ))) → length columns ≤ MAX_EDGE
 unfolding table_lines
 table_short columns few narrow =
     let rows = range_with_len 0 (row_count columns) in
-    let short = pieces_short ended row_room (map (row_line columns) rows) (map_all (row_line columns) (λ line. length (ended line) ≤ row_room) rows (λ row. row_short columns row few narrow)) in
+    let each = map_all (row_line columns) (λ line. length (ended line) ≤ row_room) rows (λ row. row_short columns row few narrow) in
+    let short = pieces_short ended row_room (map (row_line columns) rows) (All-from_recursion (λ line. length (ended line) ≤ row_room) (map (row_line columns) rows) each) in
     omega (arith, short, length-map rows (row_line columns), length-range_with_len 0 (row_count columns), rows_few columns narrow)
 
 quantifier_short : (q : Quantifier) → length (quantifier_word q) ≤ 7
@@ -230,7 +221,7 @@ left_short : (left : LeftSeen) → has_form left ≡ true → length (left_text 
 unfolding left_text
 left_short (InRegister thread name) h =
     let parts = and_parts (nat_lt thread 64) (is_register_name name) h in
-    let number = small_decimal thread (ltb-true thread 64 parts.0) in
+    let number = two_digits thread (omega (arith, ltb-true thread 64 parts.0)) in
     omega (arith, number, register_name_short name parts.1, length-append (decimal thread) (codes ":"), length-append (decimal thread ++ codes ":") name)
 left_short (AtPlace name) h =
     omega (arith, place_name_short name h, length-append (codes "[") name, length-append (codes "[" ++ name) (codes "]"))
@@ -239,14 +230,14 @@ term_short : (term : TermSeen) → IsFormedTerm term → length (term_text term)
 unfolding term_text
 term_short term formed =
     let left = left_short term.left formed.form in
-    let value = length-decimal-le 10 term.value (omega arith) (omega (arith, formed.value)) (omega (arith, formed.value)) in
+    let value = ten_digits term.value formed.value in
     omega (arith, left, value, length-append (left_text term.left) (codes "="), length-append (left_text term.left ++ codes "=") (decimal term.value))
 
 terms_short : (terms : List TermSeen) → AllByRecursion IsFormedTerm terms → length (terms_text terms) ≤ length terms * 34
 terms_short [] formed = omega arith
 terms_short (term ∷ terms) formed =
     let here = term_short term formed.0 in
-    let rest = pieces_short further_term_text 34 terms (further terms formed.1) in
+    let rest = pieces_short further_term_text 34 terms (All-from_recursion (λ t. length (further_term_text t) ≤ 34) terms (further terms formed.1)) in
     omega (arith, here, rest, length-append (term_text term) (flat_map further_term_text terms))
   where
     further : (terms : List TermSeen) → AllByRecursion IsFormedTerm terms → AllByRecursion (λ term. length (further_term_text term) ≤ 34) terms

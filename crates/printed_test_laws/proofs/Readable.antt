@@ -29,12 +29,11 @@ use Rattle.litmus_text.proofs.FormedFits.{links_single}
 use Rattle.litmus_text.proofs.RowBack.{named_op}
 use Rattle.test_laws.specs.Headline.{HasCode}
 use Rattle.test_laws.specs.Steps.{cycle_steps}
-use Rattle.test_laws.specs.TestOf.{plain, last_terms, load_terms}
+use Rattle.test_laws.specs.TestOf.{plain, last_terms, load_terms, test_of}
 use Rattle.test_laws.proofs.Everywhere.{all_from}
 use Rattle.test_laws.proofs.PlaceNames.{letter_at, locations_few}
 use Rattle.test_laws.proofs.StepsAt.{steps-count, steps_few}
 use Rattle.test_laws.proofs.Terms.{terms_few}
-use Rattle.printed_test_laws.specs.Headline.{shown_test}
 use Rattle.printed_test_laws.proofs.Fits.{all_links_fit, code_short, each_code, terms_fit, thread_code_fits, thread_is, thread_lands}
 use Rattle.printed_test_laws.proofs.Lengths.{AreShort, IsSmall, text_short}
 use Rattle.printed_test_laws.proofs.SomeTerm.{some_term}
@@ -71,10 +70,10 @@ formed_terms w threads table (term ∷ terms) fit = (fit.0.formed, formed_terms 
 
 -- the test of a cycle, under a name of a test's form, is within the limits of the format
 pub readable : (a : Puts) (arch : ArchName) (w : Writing) (name : List ℕ) (es : List Edge) (mode : ObsMode) → IsArch a → WritesBack a w → WritesCells a w → MakesOneAccess a → IsTestName name → HasCode a es mode
-    → IsReadable a arch w name (shown_test a w es mode)
+    → IsReadable a arch w name (test_of a (name_in w.registers) es mode)
 readable a arch w name es mode laws back cells one named t = record {
   named = named;
-  short = text_short arch w name (shown_test a w es mode) (leb-true (length name) 800 named.short) t.resolved.composes.few (omega (arith, threads, steps, t.resolved.composes.few)) (registers_short w.registers back.formed)
+  short = text_short arch w name (test_of a (name_in w.registers) es mode) (leb-true (length name) 800 named.short) t.resolved.composes.few (omega (arith, threads, steps, t.resolved.composes.few)) (registers_short w.registers back.formed)
       (letters_short (move_count es) (omega (arith, few))) small (formed_terms w (length (map (compiled a) (cycle_steps es mode plain))) (letters (move_count es)) (last_terms es mode ++ load_terms a (name_in w.registers) 0 (cycle_steps es mode plain)) terms) terms_number;
   threads_some = omega (arith, threads, steps-count es mode plain, t.resolved.threads);
   threads_few = omega (arith, threads, steps, t.resolved.composes.few);

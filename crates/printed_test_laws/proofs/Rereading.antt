@@ -28,6 +28,7 @@ use Rattle.arch_trait.specs.Threads.{Puts, ThreadCode, compiled}
 use Rattle.arch_trait.specs.Writing.{name_in}
 use Rattle.arch_trait.proofs.Tables.{length-letters, letters_more, location_new}
 use Rattle.arch_trait.proofs.Whole.{makes_steps}
+use Rattle.arch_trait.specs.Tests.{TestSeen}
 use Rattle.litmus_text.specs.Items.{links_of}
 use Rattle.litmus_text.specs.Mentioned.{is_in, op_is_in}
 use Rattle.litmus_text.specs.Placing.{place_in}
@@ -40,7 +41,7 @@ use Rattle.communication_laws.proofs.Lists.{got_map, map_same}
 use Rattle.test_laws.specs.Headline.{HasCode, IsRenumbered}
 use Rattle.test_laws.specs.Programs.{thread_from}
 use Rattle.test_laws.specs.Steps.{event_step, thread_steps, cycle_steps}
-use Rattle.test_laws.specs.TestOf.{TestSeen, plain, test_of}
+use Rattle.test_laws.specs.TestOf.{plain, test_of}
 use Rattle.test_laws.proofs.Everywhere.{all_gets}
 use Rattle.test_laws.proofs.PlaceNames.{letter_at, locations_few}
 use Rattle.test_laws.proofs.StepsAt.{thread_steps_at}

@@ -10,7 +10,6 @@ use Rattle.arch_trait.specs.Writing.{Writing, name_in}
 use Rattle.litmus_text.specs.Printable.{IsTestName}
 use Rattle.litmus_text.specs.Reread.{IsReadable}
 use Rattle.litmus_text.specs.TestReading.{TestRead, test_read}
-use Rattle.litmus_text.specs.TestText as text
 use Rattle.litmus_text.specs.TestText.{test_text}
 use Rattle.program_meaning.specs.Executions.{Execution}
 use Rattle.program_meaning.specs.Intended.{intended}
@@ -29,20 +28,14 @@ pub record BytesForce (arch : ArchName) (w : Writing) (bytes : List ℕ) (es : L
   pub only : (x : Execution) → ReadingAsks w test x → x ≡ intended es mode (place_of test)
   pub exists : ReadingAsks w test (intended es mode (place_of test))
 
--- the test of a cycle as its text shows it
-abbrev pub shown_test : Puts → Writing → List Edge → ObsMode → text.TestSeen
-shown_test a w es mode =
-    let test = test_of a (name_in w.registers) es mode in
-    record { edges = test.edges; places = test.places; threads = test.threads; cond = test.cond }
-
 -- the test of each cycle that has one, under a name of its form, is within the limits of the format
 abbrev pub TestsReadable : Puts → ArchName → Writing → Type 0
 TestsReadable a arch w =
     (name : List ℕ) (es : List Edge) (mode : ObsMode) →
-    IsTestName name → HasTest a es mode → IsReadable a arch w name (shown_test a w es mode)
+    IsTestName name → HasTest a es mode → IsReadable a arch w name (test_of a (name_in w.registers) es mode)
 
 -- and its printed text forces the cycle
 abbrev pub PrintedForce : Puts → ArchName → Writing → Type 0
 PrintedForce a arch w =
     (name : List ℕ) (es : List Edge) (mode : ObsMode) →
-    IsTestName name → HasTest a es mode → BytesForce arch w (test_text arch w name (shown_test a w es mode)) es mode
+    IsTestName name → HasTest a es mode → BytesForce arch w (test_text arch w name (test_of a (name_in w.registers) es mode)) es mode

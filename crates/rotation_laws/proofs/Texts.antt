@@ -6,13 +6,12 @@ use Rattle.arch_trait.specs.Threads.{Puts}
 use Rattle.arch_trait.specs.Writing.{Writing, name_in}
 use Rattle.litmus_text.specs.TestText.{test_text}
 use Rattle.test_laws.specs.TestOf.{test_of}
-use Rattle.test_maker.specs.Made.{shown}
 use Rattle.rotation_laws.specs.Alike.{SameText}
 use Rattle.rotation_laws.proofs.Beginning.{stays, turned_alike, turns_to}
 
 -- the text of the test in which threads are counted in this list
 text_from : Puts → Writing → List ℕ → ObsMode → List Edge → List ℕ
-text_from a w name mode us = test_text a.name w name (shown (test_of a (name_in w.registers) us mode))
+text_from a w name mode us = test_text a.name w name (test_of a (name_in w.registers) us mode)
 
 -- the turned list and all lists that begin alike have tests of the same text
 pub same_text : (a : Puts) (w : Writing) → SameText a w

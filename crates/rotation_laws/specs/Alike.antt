@@ -13,7 +13,6 @@ use Rattle.litmus_text.specs.TestText.{test_text}
 use Rattle.test_laws.specs.TestOf.{test_of}
 use Rattle.test_maker.specs.declared.refusal.MakeRefusal.{MakeRefusal}
 use Rattle.test_maker.specs.declared.refusal.MakeRefusal.TheVariants as refusals
-use Rattle.test_maker.specs.Made.{shown}
 use Rattle.test_maker.specs.Refusals.{refusal_of}
 
 -- a cycle is accepted exactly where each rotation of it is
@@ -53,7 +52,7 @@ pub record TurnedAlike : Type 0 where
 
 -- the text of the test of a cycle, under a name
 abbrev pub text_of : Puts → Writing → List ℕ → List Edge → ObsMode → List ℕ
-text_of a w name cycle mode = test_text a.name w name (shown (test_of a (name_in w.registers) (turned cycle) mode))
+text_of a w name cycle mode = test_text a.name w name (test_of a (name_in w.registers) (turned cycle) mode)
 
 -- the test of the turned list has the same text as the test of the cycle, and so have those of all lists that begin alike
 pub record SameText (a : Puts) (w : Writing) : Type 0 where

@@ -18,7 +18,6 @@ use Rattle.litmus_text.proofs.MentionedBack.{reads_back}
 use Rattle.test_laws.specs.Headline.{HasTest}
 use Rattle.test_laws.specs.Programs.{test_program}
 use Rattle.test_laws.specs.TestOf.{test_of}
-use Rattle.printed_test_laws.specs.Headline.{shown_test}
 use Rattle.printed_test_laws.specs.Readings.{program_read}
 use Rattle.printed_test_laws.proofs.Readable.{readable}
 use Rattle.printed_test_laws.proofs.Rereading.{reread_test, reread_renumbered, by_table, threads_numbered}
@@ -26,13 +25,13 @@ use Rattle.sc_laws.specs.Laws.{ScDecides, PrintedAreScPerLocation}
 use Rattle.sc_laws.proofs.Laws.{tests_are_sc_per_location}
 
 -- the law for what is read back of a printed test
-read_sc : (a : Puts) (arch : ArchName) (w : Writing) (name : List ℕ) (es : List Edge) (mode : ObsMode) → IsArch a → HasTest a es mode → (r : ReadsBack arch w name (shown_test a w es mode)) → ScDecides (program_read (reread r.table name (shown_test a w es mode)))
+read_sc : (a : Puts) (arch : ArchName) (w : Writing) (name : List ℕ) (es : List Edge) (mode : ObsMode) → IsArch a → HasTest a es mode → (r : ReadsBack arch w name (test_of a (name_in w.registers) es mode)) → ScDecides (program_read (reread r.table name (test_of a (name_in w.registers) es mode)))
 read_sc a arch w name es mode laws t r =
     subst ScDecides program_is
     (tests_are_sc_per_location a (name_in w.registers) es mode (reread_test r.table (test_of a (name_in w.registers) es mode)) (by_table r.table (letters (move_count es))) laws t
     (reread_renumbered a (name_in w.registers) es mode r.table laws t.code (record { once = r.once; inside = r.among }) r.codes r.links))
   where
-    program_is : test_program (reread_test r.table (test_of a (name_in w.registers) es mode)) ≡ program_read (reread r.table name (shown_test a w es mode))
+    program_is : test_program (reread_test r.table (test_of a (name_in w.registers) es mode)) ≡ program_read (reread r.table name (test_of a (name_in w.registers) es mode))
     program_is = λ i. record { places = length r.table; threads = threads_numbered r.table (letters (move_count es)) (test_of a (name_in w.registers) es mode).threads i }
 
 same_test : (one other : TestRead) → ◌≡◌ {A = Result TestRead TextError} (Ok one) (Ok other) → one ≡ other
@@ -41,5 +40,5 @@ same_test one other e = cc e
 -- the same holds of the candidate executions of what is read of the printed text of a cycle's test
 pub printed_are_sc_per_location : (a : Puts) (arch : ArchName) (w : Writing) → IsArch a → WritesBack a w → WritesCells a w → MakesOneAccess a → PrintedAreScPerLocation a arch w
 printed_are_sc_per_location a arch w laws back cells one name es mode test named t read =
-    let r = reads_back a arch w name (shown_test a w es mode) back cells (readable a arch w name es mode laws back cells one named t.code) in
-    subst (λ (test : TestRead). ScDecides (program_read test)) (same_test (reread r.table name (shown_test a w es mode)) test (sym r.read ∙ read)) (read_sc a arch w name es mode laws t r)
+    let r = reads_back a arch w name (test_of a (name_in w.registers) es mode) back cells (readable a arch w name es mode laws back cells one named t.code) in
+    subst (λ (test : TestRead). ScDecides (program_read test)) (same_test (reread r.table name (test_of a (name_in w.registers) es mode)) test (sym r.read ∙ read)) (read_sc a arch w name es mode laws t r)

@@ -7,7 +7,8 @@ use Rattle.relax_edges.specs.declared.kinds.ObsMode.{ObsMode}
 use Rattle.relax_edges.specs.declared.edge.Edge.{Edge}
 use Rattle.arch_trait.specs.Laws.{IsArch}
 use Rattle.arch_trait.specs.Threads.{Puts}
-use Rattle.arch_trait.specs.Writing.{Writing}
+use Rattle.arch_trait.specs.Writing.{Writing, name_in}
+use Rattle.arch_trait.specs.Tests.{TestSeen}
 use Rattle.litmus_text.specs.Printable.{IsTestName}
 use Rattle.litmus_text.specs.TestReading.{TestRead, test_read}
 use Rattle.litmus_text.specs.TestText.{test_text}
@@ -16,8 +17,7 @@ use Rattle.program_meaning.specs.Programs.{Program, IsCandidate, IsCoherentIn, a
 use Rattle.coherence_laws.specs.Relations.{IsScPerLocation}
 use Rattle.test_laws.specs.Headline.{HasTest, IsRenumbered}
 use Rattle.test_laws.specs.Programs.{test_program}
-use Rattle.test_laws.specs.TestOf.{TestSeen, test_of}
-use Rattle.printed_test_laws.specs.Headline.{shown_test}
+use Rattle.test_laws.specs.TestOf.{test_of}
 use Rattle.printed_test_laws.specs.Readings.{program_read}
 
 -- each candidate execution of a program is coherent per location exactly where it is SC per location
@@ -35,5 +35,5 @@ TestsAreScPerLocation =
 abbrev pub PrintedAreScPerLocation : Puts → ArchName → Writing → Type 0
 PrintedAreScPerLocation a arch w =
     (name : List ℕ) (es : List Edge) (mode : ObsMode) (test : TestRead) →
-    IsTestName name → HasTest a es mode → test_read arch w (test_text arch w name (shown_test a w es mode)) ≡ Ok test →
+    IsTestName name → HasTest a es mode → test_read arch w (test_text arch w name (test_of a (name_in w.registers) es mode)) ≡ Ok test →
     ScDecides (program_read test)

@@ -18,6 +18,7 @@ use Rattle.arch_trait.specs.Renumbering.{renumbered}
 use Rattle.arch_trait.specs.Laws.{IsArch}
 use Rattle.arch_trait.specs.Names.{location_name}
 use Rattle.arch_trait.proofs.Tables.{length-letters}
+use Rattle.arch_trait.specs.Tests.{TestSeen}
 use Rattle.arch_laws.proofs.Renumbered.{renumbered_same}
 use Rattle.program_meaning.specs.Executions.{Execution}
 use Rattle.program_meaning.specs.Programs.{Program, IsCandidate, IsCoherentIn}
@@ -27,7 +28,7 @@ use Rattle.communication_laws.specs.Joining.{IsOutcome}
 use Rattle.communication_laws.proofs.Needs.{served_if_valued}
 use Rattle.communication_laws.proofs.Laws.{all_edges_stand_law, one_outcome_law, an_outcome_law}
 use Rattle.test_laws.specs.Steps.{cycle_steps}
-use Rattle.test_laws.specs.TestOf.{TestSeen, plain, last_terms, load_terms, test_of}
+use Rattle.test_laws.specs.TestOf.{plain, last_terms, load_terms, test_of}
 use Rattle.test_laws.specs.Programs.{thread_from, test_program}
 use Rattle.test_laws.specs.FinalStates.{final_state, IsAskedFor}
 use Rattle.test_laws.specs.Headline.{HasCode, HasTest, FindsRegisters, IsRenumbered, TestsForce, RenumberedForce, TestsAsk}

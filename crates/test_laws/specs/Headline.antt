@@ -15,8 +15,9 @@ use Rattle.arch_trait.specs.declared.step.Step.{Step}
 use Rattle.arch_trait.specs.Threads.{Puts, shape_of}
 use Rattle.arch_trait.specs.Laws.{IsArch}
 use Rattle.arch_trait.specs.Renumbering.{renumbered}
+use Rattle.arch_trait.specs.Tests.{TestSeen}
 use Rattle.test_laws.specs.Steps.{cycle_steps}
-use Rattle.test_laws.specs.TestOf.{TestSeen, plain, test_of}
+use Rattle.test_laws.specs.TestOf.{plain, test_of}
 use Rattle.test_laws.specs.Programs.{test_program}
 use Rattle.test_laws.specs.FinalStates.{IsAskedFor}
 

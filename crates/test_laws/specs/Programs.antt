@@ -4,7 +4,7 @@ use Rattle.std.specs.Prelude.{ℕ, List, map, length}
 use Rattle.program_meaning.specs.Programs.{Program, Thread}
 use Rattle.arch_trait.specs.Taking.{initial}
 use Rattle.arch_trait.specs.Threads.{ThreadCode}
-use Rattle.test_laws.specs.TestOf.{TestSeen}
+use Rattle.arch_trait.specs.Tests.{TestSeen}
 
 -- a thread, from its code: its address registers begin with the addresses of their places
 abbrev pub thread_from : ThreadCode → Thread

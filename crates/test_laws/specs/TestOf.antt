@@ -8,18 +8,12 @@ use Rattle.list_laws.specs.Numbers.{upto}
 use Rattle.resolution_laws.specs.Resolution.{move_count}
 use Rattle.value_laws.specs.Values.{is_observed, write_count}
 use Rattle.final_cond.specs.declared.cond.Quantifier.TheVariants.{Exists}
-use Rattle.final_cond.specs.Conditions.{CondSeen, TermSeen, InRegister, AtPlace}
+use Rattle.final_cond.specs.Conditions.{TermSeen, InRegister, AtPlace}
 use Rattle.arch_trait.specs.declared.step.Step.{Step}
 use Rattle.arch_trait.specs.Names.{letters, location_name}
-use Rattle.arch_trait.specs.Threads.{Puts, ThreadCode, compiled}
+use Rattle.arch_trait.specs.Tests.{TestSeen}
+use Rattle.arch_trait.specs.Threads.{Puts, compiled}
 use Rattle.test_laws.specs.Steps.{cycle_steps, numbers_read}
-
--- a test as contracts see it: the edges that it quotes, the names of its places, its threads and its condition
-pub record TestSeen : Type 0 where
-  pub edges : List Edge
-  pub places : List (List ℕ)
-  pub threads : List ThreadCode
-  pub cond : CondSeen
 
 -- the condition names the last value of a location: it has two writes or more and no observer
 abbrev pub is_named : List Edge → ObsMode → ℕ → Bool

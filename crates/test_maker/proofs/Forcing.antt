@@ -11,20 +11,22 @@ use Rattle.arch_trait.specs.Laws.{IsArch}
 use Rattle.arch_trait.specs.Names.{number_in}
 use Rattle.arch_trait.specs.Threads.{Puts}
 use Rattle.arch_trait.specs.Writing.{Writing, WritesBack, name_in}
+use Rattle.arch_trait.specs.Tests.{TestSeen}
 use Rattle.litmus_text.specs.declared.test.Test.{Test}
+use Rattle.litmus_text.specs.Tests.{test_seen}
 use Rattle.test_laws.specs.Headline.{Forces}
 use Rattle.test_laws.specs.Steps.{cycle_steps}
-use Rattle.test_laws.specs.TestOf.{TestSeen, plain}
+use Rattle.test_laws.specs.TestOf.{plain}
 use Rattle.test_laws.proofs.Headline.{room_left, tests_force_law}
 use Rattle.test_laws.proofs.RegisterNames.{registers_found}
 use Rattle.test_maker.specs.declared.refusal.MakeRefusal.{MakeRefusal}
-use Rattle.test_maker.specs.Made.{AreOfArch, MadeForces, MakesValued, test_view}
+use Rattle.test_maker.specs.Made.{AreOfArch, MadeForces, MakesValued}
 use Rattle.test_maker.proofs.Printing.{uncrowded}
 
 -- what a call made of a resolved and valued cycle forces it
 made_forces : (a : Puts) (w : Writing) → IsArch a → WritesBack a w → (es : List Edge) (mode : ObsMode) (test : Test) (result : Result (Unit {0}) MakeRefusal) →
     IsResolved es → AreOfArch a es → valuation_of es mode ≡ Ok (record { edges = es; mode = mode }) →
-    MakesValued a (name_in w.registers) es mode (test_view test) result → MadeForces (number_in w.registers) es mode test result
+    MakesValued a (name_in w.registers) es mode (test_seen test) result → MadeForces (number_in w.registers) es mode test result
 made_forces a w laws back es mode test (Ok _) resolved of_arch valued made =
     let forced = tests_force_law a (name_in w.registers) (number_in w.registers) es mode laws (registers_found a w back) (record {
       code = record {
@@ -50,8 +52,8 @@ valued_is es modes.Avoid v e = by_need (observer_need es) (λ need h. let z : Er
 -- what a call made of a resolved cycle forces it
 pub resolved_forces : (a : Puts) (w : Writing) → IsArch a → WritesBack a w → (es : List Edge) (mode : ObsMode) (v : Valuation) (test : Test) (result : Result (Unit {0}) MakeRefusal) →
     IsResolved es → AreOfArch a es → valuation_of es mode ≡ Ok v →
-    MakesValued a (name_in w.registers) v.edges v.mode (test_view test) result → MadeForces (number_in w.registers) es mode test result
+    MakesValued a (name_in w.registers) v.edges v.mode (test_seen test) result → MadeForces (number_in w.registers) es mode test result
 resolved_forces a w laws back es mode v test result resolved of_arch valued made =
     let same = valued_is es mode v valued in
     made_forces a w laws back es mode test result resolved of_arch (valued ∙ ap Ok same)
-    (subst (λ (u : Valuation). MakesValued a (name_in w.registers) u.edges u.mode (test_view test) result) same made)
+    (subst (λ (u : Valuation). MakesValued a (name_in w.registers) u.edges u.mode (test_seen test) result) same made)

@@ -6,9 +6,9 @@ use Rattle.relax_edges.specs.declared.edge.Edge.{Edge}
 use Rattle.resolution_laws.specs.Resolution.{turned}
 use Rattle.arch_trait.specs.Threads.{Puts}
 use Rattle.arch_trait.specs.Writing.{Writing, name_in}
+use Rattle.arch_trait.specs.Tests.{TestSeen}
 use Rattle.litmus_text.specs.TestText.{test_text}
-use Rattle.test_laws.specs.TestOf.{TestSeen, test_of}
-use Rattle.test_maker.specs.Made.{shown}
+use Rattle.test_laws.specs.TestOf.{test_of}
 
 -- the test of a cycle on an architecture in a mode
 abbrev pub cycle_test : Puts → Writing → ObsMode → List Edge → TestSeen
@@ -16,4 +16,4 @@ cycle_test a w mode cycle = test_of a (name_in w.registers) (turned cycle) mode
 
 -- the text of the test of a cycle under a name
 unfoldable pub cycle_text : Puts → Writing → ObsMode → List ℕ → List Edge → List ℕ
-cycle_text a w mode name cycle = test_text a.name w name (shown (cycle_test a w mode cycle))
+cycle_text a w mode name cycle = test_text a.name w name (cycle_test a w mode cycle)

@@ -10,12 +10,11 @@ use Rattle.litmus_text.specs.declared.test.Test.{Test}
 use Rattle.litmus_text.specs.Tests.{test_seen}
 use Rattle.litmus_text.specs.TestText.{test_text}
 use Rattle.test_laws.specs.TestOf.{test_of}
-use Rattle.test_maker.specs.Made.{shown, test_view}
 use Rattle.test_maker.specs.CycleText.{cycle_text}
 
 -- it is what is printed of the test that is made
 pub made_text : (a : Puts) (w : Writing) (mode : ObsMode) (name : List ℕ) (cycle : List Edge) (arch : ArchName) (test : Test)
-    → a.name ≡ arch → test_view test ≡ test_of a (name_in w.registers) (turned cycle) mode → test_text arch w name (test_seen test) ≡ cycle_text a w mode name cycle
+    → a.name ≡ arch → test_seen test ≡ test_of a (name_in w.registers) (turned cycle) mode → test_text arch w name (test_seen test) ≡ cycle_text a w mode name cycle
 unfolding cycle_text
 made_text a w mode name cycle arch test same made =
-    ap (λ arch. test_text arch w name (test_seen test)) (sym same) ∙ ap (λ t. test_text a.name w name (shown t)) made
+    ap (λ arch. test_text arch w name (test_seen test)) (sym same) ∙ ap (test_text a.name w name) made

@@ -1,6 +1,6 @@
 -- What the calls of the test maker give.
 -- Source: own.
-use Rattle.std.specs.Prelude.{Option, ℕ, ◌≡◌, ◌<◌, true, not, List, map, length, Some, None, Result, Ok, Err}
+use Rattle.std.specs.Prelude.{Option, ℕ, ◌≡◌, ◌<◌, true, not, List, length, Some, None, Result, Ok, Err}
 use Rattle.std.specs.List.{All, list_all, position_from}
 use Rattle.relax_edges.specs.declared.TheConstants.{MAX_EDGES}
 use Rattle.relax_edges.specs.declared.kinds.ObsMode.{ObsMode}
@@ -8,30 +8,15 @@ use Rattle.relax_edges.specs.declared.edge.Edge.{Edge}
 use Rattle.relax_edges.specs.EdgeTable.{is_of_arch}
 use Rattle.resolution_laws.specs.declared.errors.ResolveError.{ResolveError}
 use Rattle.resolution_laws.specs.Resolution.{resolution_of, turned}
-use Rattle.final_cond.specs.Conditions.{cond_view}
 use Rattle.arch_trait.specs.Threads.{Puts}
-use Rattle.arch_trait.specs.Codes.{thread_of}
+use Rattle.arch_trait.specs.Tests.{TestSeen}
 use Rattle.litmus_text.specs.declared.test.Test.{Test}
-use Rattle.litmus_text.specs.TestText as text
-use Rattle.litmus_text.specs.Tests.{IsPrintable}
+use Rattle.litmus_text.specs.Tests.{IsPrintable, test_seen}
 use Rattle.test_laws.specs.Headline.{Forces}
-use Rattle.test_laws.specs.TestOf.{TestSeen, plain, test_of}
+use Rattle.test_laws.specs.TestOf.{plain, test_of}
 use Rattle.test_maker.specs.declared.refusal.MakeRefusal.{MakeRefusal}
 use Rattle.test_maker.specs.declared.refusal.MakeRefusal.TheVariants.{NeedsObserver}
 use Rattle.test_maker.specs.Refusals.{crowded_thread, resolved_refusal, refusal_of}
-
--- a test as its text shows it
-abbrev pub shown : TestSeen → text.TestSeen
-shown test = record { edges = test.edges; places = test.places; threads = test.threads; cond = test.cond }
-
--- a test with its names as bytes
-abbrev pub test_view : Test → TestSeen
-test_view test = record {
-  edges = test.edges.items;
-  places = test.places;
-  threads = map thread_of test.threads.items;
-  cond = cond_view test.cond;
-}
 
 -- all edges are of the architecture
 abbrev pub AreOfArch : Puts → List Edge → Type 0
@@ -68,7 +53,7 @@ Makes a register_name cycle mode test (Err refusal) = refusal_of a cycle mode �
 -- the same for a call that answers the test
 abbrev pub MakesTest : Puts → (ℕ → List ℕ) → List Edge → ObsMode → Result Test MakeRefusal → Type 0
 MakesTest a register_name cycle mode (Ok test) =
-    (refusal_of a cycle mode ≡ None) × (test_view test ≡ test_of a register_name (turned cycle) mode)
+    (refusal_of a cycle mode ≡ None) × (test_seen test ≡ test_of a register_name (turned cycle) mode)
 MakesTest a register_name cycle mode (Err refusal) = refusal_of a cycle mode ≡ Some refusal
 
 -- a call says whether a cycle has a test, by the first reason why it has none
@@ -102,12 +87,12 @@ TestCanPrint a registers (Err refusal) = Unit {0}
 
 -- what a call made of a cycle in this list of edges forces the cycle, where registers are found by their names
 abbrev pub MadeForces : (List ℕ → Option ℕ) → List Edge → ObsMode → Test → Result (Unit {0}) MakeRefusal → Type 0
-MadeForces register_number es mode test (Ok _) = Forces (test_view test) register_number es mode plain
+MadeForces register_number es mode test (Ok _) = Forces (test_seen test) register_number es mode plain
 MadeForces register_number es mode test (Err refusal) = Unit {0}
 
 -- the same for a call that answers the test
 abbrev pub TestForces : (List ℕ → Option ℕ) → List Edge → ObsMode → Result Test MakeRefusal → Type 0
-TestForces register_number es mode (Ok test) = Forces (test_view test) register_number es mode plain
+TestForces register_number es mode (Ok test) = Forces (test_seen test) register_number es mode plain
 TestForces register_number es mode (Err refusal) = Unit {0}
 
 -- a refusal that names a location names one that a cycle can have

@@ -3,7 +3,7 @@ ghost use Rattle.resolution_laws.specs.Resolution.{resolution_of};
 ghost use Rattle.test_maker.specs.Refusals.{is_crowded};
 ghost use Rattle.test_maker.specs.Made.{Accepts, AcceptsResolution, AcceptsValued};
 
-use crate::maker::first_foreign;
+use crate::maker::first_unsupported;
 use crate::refusal::MakeRefusal;
 use crate::steps::{Steps, fill_steps, thread_count};
 use arch_trait::{Arch, MAX_STEPS, Step, shape_of};
@@ -17,7 +17,7 @@ use relax_edges::ObsMode;
 pub fn accepted<A: Arch>(cycle: &Cycle, mode: ObsMode) -> Result<(), MakeRefusal>
     ensures { Accepts A.puts cycle.now mode result }
 {
-    match first_foreign::<A>(cycle.edges()) {
+    match first_unsupported::<A>(cycle.edges()) {
         Some(at) => Err(MakeRefusal::NotOfArch { at }),
         None => accepted_of_arch::<A>(cycle, mode),
     }

@@ -11,5 +11,5 @@ mod threads;
 
 pub use acceptance::accepted;
 pub use law::resolved_edges;
-pub use maker::{first_foreign, make, make_into, make_unobserved};
+pub use maker::{first_foreign, first_unsupported, make, make_into, make_unobserved};
 pub use refusal::MakeRefusal;

@@ -5,8 +5,9 @@ ghost use Rattle.resolution_laws.specs.Resolution.{turned};
 ghost use Rattle.arch_trait.specs.Names.{number_in};
 ghost use Rattle.arch_trait.specs.Writing.{name_in};
 ghost use Rattle.relax_edges.specs.declared.kinds.ObsMode.TheVariants.{Avoid};
+ghost use Rattle.litmus_text.specs.Tests.{test_seen};
 ghost use Rattle.test_laws.specs.Headline.{HasCode, HasTest};
-ghost use Rattle.test_maker.specs.Made.{Makes, MakesOfArch, MakesResolved, MakesTest, MakesValued, AreOfArch, MadeCanPrint, MadeForces, TestCanPrint, TestForces, NamesLocation, test_view};
+ghost use Rattle.test_maker.specs.Made.{Makes, MakesOfArch, MakesResolved, MakesTest, MakesValued, AreOfArch, MadeCanPrint, MadeForces, TestCanPrint, TestForces, NamesLocation};
 
 use crate::condition::put_last_terms;
 use crate::refusal::MakeRefusal;
@@ -17,7 +18,7 @@ use coherence_values::{NeedsObserver, Valued, value, value_unobserved};
 use cycle_resolve::{ResolveError, Resolved, resolve};
 use edge_algebra::Cycle;
 use litmus_text::Test;
-use relax_edges::{Edge, MAX_EDGES, ObsMode};
+use relax_edges::{ArchName, Edge, MAX_EDGES, ObsMode};
 
 /// The test of the cycle, or the first reason why it has none. A cycle whose test is made has what
 /// the law of reading back asks of it, so that the printed text of the test is read as the test.
@@ -37,13 +38,13 @@ pub fn make<A: Arch>(cycle: &Cycle, mode: ObsMode) -> Result<Test, MakeRefusal>
 
 /// Makes `test` the test of the cycle, as `make` does. After a refusal nothing is known of it.
 pub fn make_into<A: Arch>(cycle: &Cycle, mode: ObsMode, test: &mut Test) -> Result<(), MakeRefusal>
-    ensures made { Makes A.puts (name_in A.writing.registers) cycle.now mode (test_view test.new) result }
+    ensures made { Makes A.puts (name_in A.writing.registers) cycle.now mode (test_seen test.new) result }
     ensures printable { MadeCanPrint A.puts A.REGISTERS test.new result }
     ensures has_test { OnOk result (HasTest A.puts (turned cycle.now) mode) }
     ensures forces { MadeForces (number_in A.writing.registers) (turned cycle.now) mode test.new result }
     ensures located { IfErr result NamesLocation }
 {
-    match first_foreign::<A>(cycle.edges()) {
+    match first_unsupported::<A>(cycle.edges()) {
         Some(at) => Err(MakeRefusal::NotOfArch { at }),
         None => make_of_arch::<A>(cycle, mode, test),
     }
@@ -54,7 +55,7 @@ pub fn make_into<A: Arch>(cycle: &Cycle, mode: ObsMode, test: &mut Test) -> Resu
 /// `TooManyRegisters` where a thread needs more registers than there are; then nothing is known of `test`.
 pub fn make_unobserved<A: Arch>(resolved: &Resolved, test: &mut Test) -> Result<(), MakeRefusal>
     requires { AreOfArch A.puts resolved.now }
-    ensures made { MakesValued A.puts (name_in A.writing.registers) resolved.now Avoid (test_view test.new) result }
+    ensures made { MakesValued A.puts (name_in A.writing.registers) resolved.now Avoid (test_seen test.new) result }
     ensures printable { MadeCanPrint A.puts A.REGISTERS test.new result }
     ensures has_code { OnOk result (HasCode A.puts resolved.now Avoid) }
 {
@@ -63,22 +64,30 @@ pub fn make_unobserved<A: Arch>(resolved: &Resolved, test: &mut Test) -> Result<
     make_valued::<A>(&valued, test)
 }
 
-/// The place of the first edge that isn't of the architecture.
-pub fn first_foreign<A: Arch>(edges: &[Edge]) -> Option<u8>
+/// The place of the first edge that isn't of the architecture with this name.
+pub fn first_foreign(edges: &[Edge], arch: ArchName) -> Option<u8>
     requires { length edges.now ≤ MAX_EDGES }
-    ensures { result ≡ position_from (λ e. not (is_of_arch e A.puts.name)) 0 edges.now }
+    ensures { result ≡ position_from (λ e. not (is_of_arch e arch)) 0 edges.now }
 {
     for (at, edge) in edges.iter().enumerate() {
-        if !A::supports(*edge) {
+        if !edge.of_arch(arch) {
             return Some(at as u8);
         }
     }
     None
 }
 
+/// The place of the first edge that isn't of the architecture.
+pub fn first_unsupported<A: Arch>(edges: &[Edge]) -> Option<u8>
+    requires { length edges.now ≤ MAX_EDGES }
+    ensures { result ≡ position_from (λ e. not (is_of_arch e A.puts.name)) 0 edges.now }
+{
+    first_foreign(edges, A::NAME)
+}
+
 fn make_of_arch<A: Arch>(cycle: &Cycle, mode: ObsMode, test: &mut Test) -> Result<(), MakeRefusal>
     requires { AreOfArch A.puts cycle.now }
-    ensures made { MakesOfArch A.puts (name_in A.writing.registers) cycle.now mode (test_view test.new) result }
+    ensures made { MakesOfArch A.puts (name_in A.writing.registers) cycle.now mode (test_seen test.new) result }
     ensures printable { MadeCanPrint A.puts A.REGISTERS test.new result }
     ensures forces { MadeForces (number_in A.writing.registers) (turned cycle.now) mode test.new result }
     ensures located { IfErr result NamesLocation }
@@ -97,7 +106,7 @@ fn make_resolved<A: Arch>(
     test: &mut Test,
 ) -> Result<(), MakeRefusal>
     requires { AreOfArch A.puts resolved.now }
-    ensures made { MakesResolved A.puts (name_in A.writing.registers) resolved.now mode (test_view test.new) result }
+    ensures made { MakesResolved A.puts (name_in A.writing.registers) resolved.now mode (test_seen test.new) result }
     ensures printable { MadeCanPrint A.puts A.REGISTERS test.new result }
     ensures forces { MadeForces (number_in A.writing.registers) resolved.now mode test.new result }
     ensures located { IfErr result NamesLocation }
@@ -113,7 +122,7 @@ fn make_resolved<A: Arch>(
 
 fn make_valued<A: Arch>(valued: &Valued, test: &mut Test) -> Result<(), MakeRefusal>
     requires { AreOfArch A.puts valued.now.edges }
-    ensures made { MakesValued A.puts (name_in A.writing.registers) valued.now.edges valued.now.mode (test_view test.new) result }
+    ensures made { MakesValued A.puts (name_in A.writing.registers) valued.now.edges valued.now.mode (test_seen test.new) result }
     ensures printable { MadeCanPrint A.puts A.REGISTERS test.new result }
     ensures located { IfErr result NamesLocation }
 {

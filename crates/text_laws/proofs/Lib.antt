@@ -6,3 +6,4 @@ pub mod WordLaws
 pub mod CutLaws
 pub mod LineLaws
 pub mod PieceLaws
+pub mod LengthLaws

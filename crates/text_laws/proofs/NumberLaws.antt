@@ -9,7 +9,7 @@ use Rattle.std.specs.Str.{IsUtf8, bytes_eq}
 use Rattle.std.specs.Str.Parse.{digits_value, ParsesUnsigned}
 use Rattle.std.proofs.lemmas.Bool.{and_parts, ltb-true, lt-ltb, both_ways}
 use Rattle.std.proofs.lemmas.Bool.Decides.{nat_tests}
-use Rattle.std.proofs.lemmas.Fmt.{digits_decimal, digits_value-decimal, decimal-digits_value, first_decimal, decimal_digit, decimal_nonempty}
+use Rattle.std.proofs.lemmas.Fmt.{digits_decimal, digits_value-decimal, decimal-digits_value, first_decimal, decimal_digit, decimal_nonempty, length-decimal-le}
 use Rattle.std.proofs.lemmas.Option.{cond_some}
 use Rattle.std.proofs.lemmas.Slice.Eq.{bytes_eq-Decides}
 use Rattle.std.proofs.lemmas.Str.Parse.{parse_plain}
@@ -25,6 +25,14 @@ number_of-decimal n h =
     let small : n < 2 ^ 64 = omega arith in
     let v : digits_value 10 (decimal n) ≡ n = digits_value-decimal digits_model n small in
     rw v (rw (lt-ltb n (2 ^ 32) h, (bytes_eq-Decides (decimal n) (decimal n)).1 refl) refl)
+
+-- a number below 100 has at most two digits
+pub two_digits : (n : ℕ) → n < 100 → length (decimal n) ≤ 2
+two_digits n h = length-decimal-le 2 n (omega arith) (omega (arith, h)) (omega (arith, h))
+
+-- a number of 32 bits has at most ten digits
+pub ten_digits : (n : ℕ) → n < 2 ^ 32 → length (decimal n) ≤ 10
+ten_digits n h = length-decimal-le 10 n (omega arith) (omega (arith, h)) (omega (arith, h))
 
 -- what is read is the decimal of the number
 pub record Writes (digits : List ℕ) (n : ℕ) : Type 0 where

@@ -13,7 +13,7 @@ use Rattle.arch_trait.specs.Cells.{WritesCells, MakesOneAccess}
 use Rattle.arch_trait.specs.Laws.{IsArch}
 use Rattle.arch_trait.specs.Names.{letters, location_name}
 use Rattle.arch_trait.specs.Threads.{Puts}
-use Rattle.arch_trait.specs.Writing.{Writing, WritesBack}
+use Rattle.arch_trait.specs.Writing.{Writing, WritesBack, name_in}
 use Rattle.arch_trait.proofs.Tables.{length-letters, location_new}
 use Rattle.litmus_text.specs.declared.errors.TextError.{TextError}
 use Rattle.litmus_text.specs.Mentioned.{ReadsBack, is_in}
@@ -34,7 +34,7 @@ use Rattle.execution_text.specs.Written.{text_of_execution}
 use Rattle.execution_text.proofs.ExecutionBack.{written_reads_back}
 use Rattle.test_laws.specs.Headline.{HasCode}
 use Rattle.test_laws.proofs.PlaceNames.{letter_at, locations_few}
-use Rattle.printed_test_laws.specs.Headline.{shown_test}
+use Rattle.test_laws.specs.TestOf.{test_of}
 use Rattle.printed_test_laws.specs.Readings.{program_read}
 use Rattle.printed_test_laws.proofs.Readable.{readable}
 use Rattle.printed_test_laws.proofs.Rereading.{got_is}
@@ -62,10 +62,10 @@ one_reading test other e = cc e
 
 -- the places of a reading of the test have names of their form
 places_formed : (a : Puts) (w : Writing) (name : List ℕ) (es : List Edge) (test : TestRead)
-    → HasCode a es Avoid → ReadsBack a.name w name (shown_test a w es Avoid)
-    → test_read a.name w (test_text a.name w name (shown_test a w es Avoid)) ≡ Ok test → list_all is_place_name test.places ≡ true
+    → HasCode a es Avoid → ReadsBack a.name w name (test_of a (name_in w.registers) es Avoid)
+    → test_read a.name w (test_text a.name w name (test_of a (name_in w.registers) es Avoid)) ≡ Ok test → list_all is_place_name test.places ≡ true
 places_formed a w name es test code r reads =
-    let again : TestRead = reread r.table name (shown_test a w es Avoid) in
+    let again : TestRead = reread r.table name (test_of a (name_in w.registers) es Avoid) in
     let same : test ≡ again = one_reading test again (sym reads ∙ r.read) in
     ap (λ (t : TestRead). list_all is_place_name t.places) same
     ∙ names_formed (move_count es) r.table (omega (arith, locations_few es code.resolved)) r.among
@@ -74,7 +74,7 @@ places_formed a w name es test code r reads =
 -- execution of it, the text of the execution is read, with the threads and places of that test, as the execution.
 pub read_again : (a : Puts) (w : Writing) (name : List ℕ) (es : List Edge) (moved : Option ℕ) (number : ℕ → ℕ) (test : TestRead) (run : Execution)
     → IsArch a → WritesBack a w → WritesCells a w → MakesOneAccess a → HasCode a es Avoid → IsTestName name
-    → test_read a.name w (test_text a.name w name (shown_test a w es Avoid)) ≡ Ok test
+    → test_read a.name w (test_text a.name w name (test_of a (name_in w.registers) es Avoid)) ≡ Ok test
     → IsCandidate (program_read test) run → run ≡ run_by es moved number
     → execution_read (length test.threads) test.places (text_of_execution test.places run) ≡ Ok run
 read_again a w name es moved number test run laws back cells one code named reads candidate is =
@@ -85,7 +85,7 @@ read_again a w name es moved number test run laws back cells one code named read
     let many : length test.places ≡ move_count es =
     sym candidate.execution.write_lists ∙ ap (λ (x : Execution). length x.orders) is ∙ length-map-upto orders (move_count es) in
     let readable_test = readable a a.name w name es Avoid laws back cells one named code in
-    let again : ReadsBack a.name w name (shown_test a w es Avoid) = reads_back a a.name w name (shown_test a w es Avoid) back cells readable_test in
+    let again : ReadsBack a.name w name (test_of a (name_in w.registers) es Avoid) = reads_back a a.name w name (test_of a (name_in w.registers) es Avoid) back cells readable_test in
     let names = places_formed a w name es test code again reads in
     let fits = run_fits es moved number test.places code.resolved names many in
     written_reads_back (length test.threads) test.places run

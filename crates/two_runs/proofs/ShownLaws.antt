@@ -15,7 +15,7 @@ use Rattle.arch_trait.specs.Cells.{WritesCells, MakesOneAccess}
 use Rattle.arch_trait.specs.Laws.{IsArch}
 use Rattle.arch_trait.specs.Names.{number_in}
 use Rattle.arch_trait.specs.Threads.{Puts}
-use Rattle.arch_trait.specs.Writing.{Writing, WritesBack}
+use Rattle.arch_trait.specs.Writing.{Writing, WritesBack, name_in}
 use Rattle.litmus_text.specs.Printable.{IsTestName}
 use Rattle.litmus_text.specs.TestReading.{TestRead, test_read}
 use Rattle.litmus_text.specs.TestText.{test_text}
@@ -29,7 +29,7 @@ use Rattle.communication_laws.specs.Exchange.{exchanged, exchanged_order}
 use Rattle.communication_laws.proofs.Bridge.{resolves}
 use Rattle.communication_laws.proofs.Needs.{refused_entry}
 use Rattle.test_laws.specs.Headline.{HasCode}
-use Rattle.printed_test_laws.specs.Headline.{shown_test}
+use Rattle.test_laws.specs.TestOf.{test_of}
 use Rattle.printed_test_laws.specs.Readings.{program_read, place_of}
 use Rattle.exchange_laws.specs.Undecided.{BytesUndecided, NoneTells, PrintedUndecided, Undecided}
 use Rattle.two_runs.specs.Runs.{cycle_reads, numbers_by, order_of, run_by}
@@ -80,9 +80,9 @@ need_below es need event resolved needs e =
 
 -- the law of refusals, under the architecture's own name
 pub undecided : (a : Puts) (arch : ArchName) (w : Writing) (name : List ℕ) (es : List Edge) (need : NeedsObserver) → a.name ≡ arch → PrintedUndecided a arch w
-    → IsTestName name → HasCode a es Avoid → observer_need es ≡ Some need → BytesUndecided a.name w (test_text a.name w name (shown_test a w es Avoid)) es need.event
+    → IsTestName name → HasCode a es Avoid → observer_need es ≡ Some need → BytesUndecided a.name w (test_text a.name w name (test_of a (name_in w.registers) es Avoid)) es need.event
 undecided a arch w name es need same law named code needs =
-    subst (λ (n : ArchName). BytesUndecided n w (test_text n w name (shown_test a w es Avoid)) es need.event) (sym same) (law name es need named code needs)
+    subst (λ (n : ArchName). BytesUndecided n w (test_text n w name (test_of a (name_in w.registers) es Avoid)) es need.event) (sym same) (law name es need named code needs)
 
 -- a fault that is given is that of the text
 pub gives_fault : {X : Type 0} (view : X → TestRead) (read : Result TestRead TextError) (error : ReadError) (fault : TextError) → error ≡ errors.Text fault
@@ -99,7 +99,7 @@ no_fault arch w text bytes whole es event fault t b u e = apart u.test (sym u.re
 
 -- what is made is what is to be shown
 pub are_runs : (a : Puts) (w : Writing) (name : List ℕ) (es : List Edge) (need : NeedsObserver) (text bytes : List ℕ) (test : TestRead) (one two : Execution)
-    → text ≡ test_text a.name w name (shown_test a w es Avoid) → bytes ≡ text → BytesUndecided a.name w (test_text a.name w name (shown_test a w es Avoid)) es need.event
+    → text ≡ test_text a.name w name (test_of a (name_in w.registers) es Avoid) → bytes ≡ text → BytesUndecided a.name w (test_text a.name w name (test_of a (name_in w.registers) es Avoid)) es need.event
     → test_read a.name w bytes ≡ Ok test → one ≡ run_by es None (numbers_by test.places) → two ≡ run_by es (Some need.event) (numbers_by test.places)
     → IsArch a → WritesBack a w → WritesCells a w → MakesOneAccess a → HasCode a es Avoid → IsTestName name
     → AreRuns a w name es need text test one two
@@ -131,5 +131,5 @@ are_runs a w name es need text bytes test one two t b u reads first second laws 
         (subst (λ (y : Execution). NoneTells (program_read test) test.places (number_in w.registers) es (event_before es need.event) (intended es Avoid (place_of test)) y) (sym two_is)
         (subst (λ (r : TestRead). Undecided (program_read r) r.places (number_in w.registers) es (place_of r) need.event) same u.undecided))
 
-    read : test_read a.name w (test_text a.name w name (shown_test a w es Avoid)) ≡ Ok test
+    read : test_read a.name w (test_text a.name w name (test_of a (name_in w.registers) es Avoid)) ≡ Ok test
     read = ap (test_read a.name w) (sym (b ∙ t)) ∙ reads

@@ -16,7 +16,7 @@ use Rattle.value_laws.specs.declared.needs.NeedsObserver.{NeedsObserver}
 use Rattle.value_laws.specs.Values.{observer_need}
 use Rattle.arch_trait.specs.Names.{number_in}
 use Rattle.arch_trait.specs.Threads.{Puts}
-use Rattle.arch_trait.specs.Writing.{Writing}
+use Rattle.arch_trait.specs.Writing.{Writing, name_in}
 use Rattle.litmus_text.specs.TestReading.{TestRead, test_read}
 use Rattle.litmus_text.specs.TestText.{test_text}
 use Rattle.program_meaning.specs.Executions.{Execution}
@@ -24,11 +24,10 @@ use Rattle.program_meaning.specs.Intended.{intended}
 use Rattle.communication_laws.specs.Exchange.{exchanged}
 use Rattle.test_laws.specs.Headline.{HasCode}
 use Rattle.test_laws.specs.Steps.{cycle_steps}
-use Rattle.test_laws.specs.TestOf.{plain}
+use Rattle.test_laws.specs.TestOf.{plain, test_of}
 use Rattle.test_maker.specs.Refusals.{is_crowded}
 use Rattle.execution_text.specs.ExecutionText.{execution_read}
 use Rattle.execution_text.specs.Written.{text_of_execution}
-use Rattle.printed_test_laws.specs.Headline.{shown_test}
 use Rattle.printed_test_laws.specs.Readings.{program_read, place_of}
 use Rattle.exchange_laws.specs.Undecided.{NoneTells}
 use Rattle.two_runs.specs.declared.errors.WhyError.{WhyError}
@@ -65,7 +64,7 @@ why_refused a cycle = option_or (foreign a.name cycle) (unshown a (resolution_of
 -- condition on the final state tells them apart, though the edge into that write stands in the first alone. The text of each,
 -- with the places of the test, is read as that execution.
 pub record AreRuns (a : Puts) (w : Writing) (name : List ℕ) (es : List Edge) (need : NeedsObserver) (text : List ℕ) (test : TestRead) (one two : Execution) : Type 0 where
-  pub text_is : text ≡ test_text a.name w name (shown_test a w es Avoid)
+  pub text_is : text ≡ test_text a.name w name (test_of a (name_in w.registers) es Avoid)
   pub reads : test_read a.name w text ≡ Ok test
   pub first : one ≡ intended es Avoid (place_of test)
   pub second : two ≡ exchanged es (place_of test) need.event
@@ -76,7 +75,7 @@ pub record AreRuns (a : Puts) (w : Writing) (name : List ℕ) (es : List Edge) (
 -- given is the text of the test without observers, which has code on the architecture; or the first thread that needs too many
 -- registers; or, where no thread does, that there is no memory
 abbrev pub GivesText : Puts → Writing → List ℕ → List Edge → Result (Vec ℕ Global) WhyError → Type 0
-GivesText a w name es (Ok text) = (crowded a es ≡ None) × HasCode a es Avoid × (text.items ≡ test_text a.name w name (shown_test a w es Avoid))
+GivesText a w name es (Ok text) = (crowded a es ≡ None) × HasCode a es Avoid × (text.items ≡ test_text a.name w name (test_of a (name_in w.registers) es Avoid))
 GivesText a w name es (Err errors.NoMemory) = crowded a es ≡ None
 GivesText a w name es (Err (errors.Refused refusal)) = crowded a es ≡ Some refusal
 

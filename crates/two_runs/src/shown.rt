@@ -19,7 +19,7 @@ use exec_meaning::Execution;
 use litmus_text::{ReadError, ReadTest, read_test};
 use relax_edges::ObsMode;
 use std::alloc::Global;
-use test_maker::{first_foreign, resolved_edges};
+use test_maker::{first_unsupported, resolved_edges};
 
 /// A test without observers, and two executions of it that no condition on the final state tells apart.
 #[derive(Drop)]
@@ -49,7 +49,7 @@ pub fn two_runs<A: Arch>(alloc: Global, cycle: &Cycle, name: &str) -> Result<Two
     ensures { Shows A.puts A.writing name.now cycle.now result }
 {
     resolved_edges();
-    match first_foreign::<A>(cycle.edges()) {
+    match first_unsupported::<A>(cycle.edges()) {
         Some(at) => Err(WhyError::Refused(WhyRefusal::NotOfArch { at })),
         None => runs_of_arch(alloc, cycle, name),
     }

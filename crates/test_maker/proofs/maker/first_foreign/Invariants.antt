@@ -5,4 +5,5 @@ use Rattle.relax_edges.specs.EdgeTable.{is_of_arch}
 use Rattle.test_maker.proofs.maker.first_foreign.Given as goal
 
 abbrev pub invariant-loop-at : goal.invariant-loop-at
-invariant-loop-at g l = position_from (λ e. not (is_of_arch e g.A.Arch.puts.name)) l.at (drop l.at l.edges) ≡ position_from (λ e. not (is_of_arch e g.A.Arch.puts.name)) 0 l.edges
+invariant-loop-at l =
+    position_from (λ e. not (is_of_arch e l.arch)) l.at (drop l.at l.edges) ≡ position_from (λ e. not (is_of_arch e l.arch)) 0 l.edges

@@ -9,11 +9,11 @@ use Rattle.test_maker.proofs.maker.make_into.Goals as goal
 pub make_of_arch-requires : goal.make_of_arch-requires
 make_of_arch-requires g c =
     none_foreign (λ e. is_of_arch e g.A.Arch.puts.name) c.args.cycle.now 0
-    (ap (position_from (λ e. not (is_of_arch e g.A.Arch.puts.name)) 0) (sym c.edges.ensures.value) ∙ sym c.first_foreign.ensures ∙ c.in-None.is)
+    (ap (position_from (λ e. not (is_of_arch e g.A.Arch.puts.name)) 0) (sym c.edges.ensures.value) ∙ sym c.first_unsupported.ensures ∙ c.in-None.is)
 
 pub returns-in-None-clause-has_test : goal.returns-in-None-clause-has_test
 returns-in-None-clause-has_test g c =
     made_has_test g.A.Arch.puts _ c.args.cycle.now c.args.mode _ c.make_of_arch.result
     c.edges.ensures.composable
-    (ap (position_from (λ e. not (is_of_arch e g.A.Arch.puts.name)) 0) (sym c.edges.ensures.value) ∙ sym c.first_foreign.ensures ∙ c.in-None.is)
+    (ap (position_from (λ e. not (is_of_arch e g.A.Arch.puts.name)) 0) (sym c.edges.ensures.value) ∙ sym c.first_unsupported.ensures ∙ c.in-None.is)
     c.make_of_arch.ensures.made

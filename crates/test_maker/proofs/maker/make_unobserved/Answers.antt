@@ -2,12 +2,13 @@
 use Rattle.std.proofs.Common.{subst}
 use Rattle.arch_trait.specs.Writing.{name_in}
 use Rattle.value_laws.specs.Values.{Valuation}
-use Rattle.test_maker.specs.Made.{MakesValued, test_view}
+use Rattle.test_maker.specs.Made.{MakesValued}
 use Rattle.test_maker.proofs.HavingTests.{made_has_code}
 use Rattle.test_maker.proofs.maker.make_unobserved.Goals as goal
+use Rattle.litmus_text.specs.Tests.{test_seen}
 
 pub returns-clause-has_code : goal.returns-clause-has_code
 returns-clause-has_code g c =
     made_has_code g.A.Arch.puts _ c.args.resolved.now _ _ c.make_valued.result c.cycle-edges.ensures.resolved c.requires
-    (subst (λ (v : Valuation). MakesValued g.A.Arch.puts (name_in g.A.Arch.writing.registers) v.edges v.mode (test_view c.make_valued.new.test) c.make_valued.result)
+    (subst (λ (v : Valuation). MakesValued g.A.Arch.puts (name_in g.A.Arch.writing.registers) v.edges v.mode (test_seen c.make_valued.new.test) c.make_valued.result)
     c.value_unobserved-valued.ensures c.make_valued.ensures.made)
