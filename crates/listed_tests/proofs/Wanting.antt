@@ -1,5 +1,5 @@
 -- Which cycles a listing wants, and what its walk knows of that.
-use Rattle.std.proofs.Common.{◌≡◌, ◌<◌, ◌≤◌, ◌+◌, ◌&&◌, nat_lt, nat_le, ℕ, Bool, true, false, cond, not, List, ◌++◌, Option, Some, None, refl, sym, ◌∙◌, ap, arith}
+use Rattle.std.proofs.Common.{◌≡◌, ◌<◌, ◌≤◌, ◌+◌, ◌&&◌, nat_lt, nat_le, ℕ, ◌-◌, suc, Bool, true, false, cond, not, List, [], ◌∷◌, ◌++◌, length, get_or, Option, Some, None, refl, sym, ◌∙◌, ap, arith}
 use Rattle.std.specs.Prelude.{◌↔◌, is_none}
 use Rattle.std.specs.List.{list_all, position_from}
 use Rattle.std.specs.Option.{option_map}
@@ -20,7 +20,7 @@ use Rattle.test_maker.specs.declared.refusal.MakeRefusal.TheVariants.{NotOfArch,
 use Rattle.test_maker.specs.Refusals.{or_else, foreign_edge, resolved_refusal, refusal_of}
 use Rattle.test_maker.proofs.OfArch.{none_foreign}
 use Rattle.diy_io.specs.Shelf.{ShelfSeen}
-use Rattle.listed_tests.specs.Plans.{HaveTests, has_few_threads, has_few_accesses, is_sought, is_wanted, may_lead}
+use Rattle.listed_tests.specs.Plans.{HaveTests, ends_of_arch, has_few_threads, has_few_accesses, is_sought, is_wanted, may_lead}
 use Rattle.listed_tests.specs.Runs.{HasLongRun}
 use Rattle.listed_tests.specs.Ends.{WritesAll, StopsAtTest, StopsAtAll}
 use Rattle.listed_tests.proofs.RunLaws.{long_run_crowds}
@@ -79,44 +79,58 @@ tested_of_arch puts mode cycle none =
     unfound None e = refl
     unfound (Some at) e = cc
 
--- a cycle may begin with the first of edges with which it may begin
-leads_first : (arch : ArchName) (threads : ℕ) (u r : List Edge) → may_lead arch threads (u ++ r) ≡ true → may_lead arch threads u ≡ true
-unfolding may_lead
-leads_first arch threads u r h =
-    let p = and_parts (list_all (λ e. is_of_arch e arch) (u ++ r)) (has_few_threads threads (u ++ r)) h in
-    let few : external_count (u ++ r) ≤ threads = leb-true (external_count (u ++ r)) threads p.1 in
-    let both : external_count (u ++ r) ≡ external_count u + external_count r = sum_by-append (λ e. cond (is_external e) 1 0) u r in
-    and_from (list_all (λ e. is_of_arch e arch) u) (has_few_threads threads u)
-    (and_parts (list_all (λ e. is_of_arch e arch) u) (list_all (λ e. is_of_arch e arch) r) (sym (list_all-append (λ e. is_of_arch e arch) u r) ∙ p.0)).0
-    (le-leb (external_count u) threads (omega (arith, few, both)))
+-- the last edge is one of all
+pub ends_at : (arch : ArchName) (u : List Edge) (d : Edge) → 0 < length u → ends_of_arch arch u ≡ is_of_arch (get_or u (length u - 1) d) arch
+ends_at arch [] d some = absurd (omega arith)
+ends_at arch (x ∷ []) d some = refl
+ends_at arch (x ∷ y ∷ u) d some =
+    let n : length (x ∷ y ∷ u) - 1 ≡ suc (length (y ∷ u) - 1) = omega arith in
+    rw n (ends_at arch (y ∷ u) d (omega arith))
 
-few_that_lead : (arch : ArchName) (threads : ℕ) (u : List Edge) → may_lead arch threads u ≡ true → has_few_threads threads u ≡ true
-unfolding may_lead
-few_that_lead arch threads u h = (and_parts (list_all (λ e. is_of_arch e arch) u) (has_few_threads threads u) h).1
+ends_if_all : (arch : ArchName) (u : List Edge) → list_all (λ e. is_of_arch e arch) u ≡ true → ends_of_arch arch u ≡ true
+ends_if_all arch [] all = refl
+ends_if_all arch (x ∷ []) all = (and_parts (is_of_arch x arch) true all).0
+ends_if_all arch (x ∷ y ∷ u) all = ends_if_all arch (y ∷ u) (and_parts (is_of_arch x arch) (list_all (λ e. is_of_arch e arch) (y ∷ u)) all).1
 
 -- what is known of a cycle that is wanted if it has a test
-sought_parts : (arch : ArchName) (threads : ℕ) (accesses : Option ℕ) (u : List Edge) → is_sought arch threads accesses u ≡ true
-    → (may_lead arch threads u ≡ true) × (nat_le 2 (external_count u) ≡ true) × (has_few_accesses accesses u ≡ true)
+record Sought (arch : ArchName) (threads : ℕ) (accesses : Option ℕ) (u : List Edge) : Type 0 where
+  two : nat_le 2 (external_count u) ≡ true
+  of_arch : list_all (λ e. is_of_arch e arch) u ≡ true
+  few_threads : has_few_threads threads u ≡ true
+  few_accesses : has_few_accesses accesses u ≡ true
+
+sought_parts : (arch : ArchName) (threads : ℕ) (accesses : Option ℕ) (u : List Edge) → is_sought arch threads accesses u ≡ true → Sought arch threads accesses u
 unfolding is_sought
 sought_parts arch threads accesses u h =
-    let p = and_parts (nat_le 2 (external_count u)) (may_lead arch threads u && has_few_accesses accesses u) h in
-    let q = and_parts (may_lead arch threads u) (has_few_accesses accesses u) p.1 in
-    (q.0, p.0, q.1)
+    let p = and_parts (nat_le 2 (external_count u)) ((list_all (λ e. is_of_arch e arch) u && has_few_threads threads u) && has_few_accesses accesses u) h in
+    let q = and_parts (list_all (λ e. is_of_arch e arch) u && has_few_threads threads u) (has_few_accesses accesses u) p.1 in
+    let r = and_parts (list_all (λ e. is_of_arch e arch) u) (has_few_threads threads u) q.0 in
+    record { two = p.0; of_arch = r.0; few_threads = r.1; few_accesses = q.1 }
+
+-- such a cycle may begin with each of its prefixes
+prefix_leads : (arch : ArchName) (threads : ℕ) (accesses : Option ℕ) (u r : List Edge) → Sought arch threads accesses (u ++ r) → may_lead arch threads u ≡ true
+unfolding may_lead
+prefix_leads arch threads accesses u r s =
+    let few : external_count (u ++ r) ≤ threads = leb-true (external_count (u ++ r)) threads s.few_threads in
+    let both : external_count (u ++ r) ≡ external_count u + external_count r = sum_by-append (λ e. cond (is_external e) 1 0) u r in
+    and_from (ends_of_arch arch u) (has_few_threads threads u)
+    (ends_if_all arch u (and_parts (list_all (λ e. is_of_arch e arch) u) (list_all (λ e. is_of_arch e arch) r) (sym (list_all-append (λ e. is_of_arch e arch) u r) ∙ s.of_arch)).0)
+    (le-leb (external_count u) threads (omega (arith, few, both)))
 
 -- no such cycle begins with edges with which none may
 pub refused_leads_none : (arch : ArchName) (threads : ℕ) (accesses : Option ℕ) (u r : List Edge) → may_lead arch threads u ≡ false → is_sought arch threads accesses (u ++ r) ≡ true → ⊥
 refused_leads_none arch threads accesses u r none h =
-    let yes : may_lead arch threads u ≡ true = leads_first arch threads u r (sought_parts arch threads accesses (u ++ r) h).0 in cc
+    let yes : may_lead arch threads u ≡ true = prefix_leads arch threads accesses u r (sought_parts arch threads accesses (u ++ r) h) in cc
 
 -- nor with edges that have a long run
 pub long_run_leads_none : (arch : ArchName) (threads : ℕ) (accesses : Option ℕ) (u r : List Edge) → HasLongRun accesses u → is_sought arch threads accesses (u ++ r) ≡ true → ⊥
 long_run_leads_none arch threads accesses u r run h =
     let p = sought_parts arch threads accesses (u ++ r) h in
-    long_run_crowds accesses u r (two_are_some (external_count (u ++ r)) p.1) run p.2
+    long_run_crowds accesses u r (two_are_some (external_count (u ++ r)) p.two) run p.few_accesses
 
 -- a cycle that is wanted is one of those, and has a test
 sought_if_wanted : (puts : Puts) (mode : ObsMode) (threads : ℕ) (accesses : Option ℕ) (u : List Edge) → is_wanted puts mode threads accesses u ≡ true → is_sought puts.name threads accesses u ≡ true
-unfolding is_sought may_lead
+unfolding is_sought
 sought_if_wanted puts mode threads accesses u h =
     let few = wanted_few puts mode threads accesses u h in
     let none = wanted_has_test puts mode threads accesses u h in
@@ -131,7 +145,7 @@ unfolding is_wanted
 wanted_if_sought puts mode threads accesses u h none =
     let p = sought_parts puts.name threads accesses u h in
     and_from (is_none (refusal_of puts u mode)) (has_few_threads threads u && has_few_accesses accesses u) (ap is_none none)
-    (and_from (has_few_threads threads u) (has_few_accesses accesses u) (few_that_lead puts.name threads u p.0) p.2)
+    (and_from (has_few_threads threads u) (has_few_accesses accesses u) p.few_threads p.few_accesses)
 
 -- those of a walk's cycles that have a test are what a listing wants, where the walk lists what is wanted if it has one
 pub listed_alike : (puts : Puts) (mode : ObsMode) (threads : ℕ) (accesses : Option ℕ) (takes : List Edge → Type 0) (relaxes : List (List Edge)) (size : ℕ) (exact : Bool)

@@ -1,6 +1,6 @@
 -- What a listing asks for: which cycles have a test in it, and what their tests are.
 -- Source: own, after diy.
-use Rattle.std.specs.Prelude.{◌≡◌, ℕ, Bool, true, ◌&&◌, nat_le, is_none, List, length, Option, Some, None}
+use Rattle.std.specs.Prelude.{◌≡◌, ℕ, Bool, true, ◌&&◌, nat_le, is_none, List, [], ◌∷◌, length, Option, Some, None}
 use Rattle.std.specs.List.{list_all}
 use Rattle.std.specs.Borrow.{Bor}
 use Rattle.std.specs.Option.{option_map}
@@ -37,14 +37,23 @@ unfoldable pub is_wanted : Puts → ObsMode → ℕ → Option ℕ → List Edge
 is_wanted puts mode threads accesses cycle =
     is_none (refusal_of puts cycle mode) && (has_few_threads threads cycle && has_few_accesses accesses cycle)
 
--- such a cycle may begin with these edges: all are of the architecture, and there are no more threads so far
-unfoldable pub may_lead : ArchName → ℕ → List Edge → Bool
-may_lead arch threads edges = list_all (λ edge. is_of_arch edge arch) edges && has_few_threads threads edges
+-- the last of some edges is of the architecture
+abbrev pub ends_of_arch : ArchName → List Edge → Bool
+ends_of_arch arch [] = true
+ends_of_arch arch (edge ∷ []) = is_of_arch edge arch
+ends_of_arch arch (_ ∷ edge ∷ edges) = ends_of_arch arch (edge ∷ edges)
 
--- a cycle is wanted if it has a test: it has two threads or more, a wanted one may begin with its edges, and each of its threads
--- has few accesses
+-- such a cycle may begin with these edges if it may with those before the last: the last is of the architecture, and there are
+-- no more threads so far
+unfoldable pub may_lead : ArchName → ℕ → List Edge → Bool
+may_lead arch threads edges = ends_of_arch arch edges && has_few_threads threads edges
+
+-- a cycle is wanted if it has a test: it has two threads or more, but no more than are asked for, all its edges are of the
+-- architecture, and each of its threads has few accesses
 unfoldable pub is_sought : ArchName → ℕ → Option ℕ → List Edge → Bool
-is_sought arch threads accesses cycle = nat_le 2 (external_count cycle) && (may_lead arch threads cycle && has_few_accesses accesses cycle)
+is_sought arch threads accesses cycle =
+    nat_le 2 (external_count cycle)
+    && ((list_all (λ edge. is_of_arch edge arch) cycle && has_few_threads threads cycle) && has_few_accesses accesses cycle)
 
 -- those of some cycles that have a test
 abbrev pub HaveTests : Puts → ObsMode → (List Edge → Type 0) → List Edge → Type 0

@@ -2,7 +2,7 @@ ghost use Rattle.std.specs.Prelude.{◌≡◌, ◌↔◌, IsFalse, nat_le};
 ghost use Rattle.std.specs.List.{list_all};
 ghost use Rattle.relax_edges.specs.EdgeTable.{is_of_arch};
 ghost use Rattle.resolution_laws.specs.Resolution.{external_count};
-ghost use Rattle.listed_tests.specs.Plans.{has_few_threads, is_sought, may_lead};
+ghost use Rattle.listed_tests.specs.Plans.{ends_of_arch, has_few_threads, is_sought, may_lead};
 ghost use Rattle.listed_tests.specs.Runs.{HasLongRun};
 
 use crate::runs::{has_few_accesses, stays_below};
@@ -20,13 +20,14 @@ pub(crate) struct Wanted<'a> {
 }
 
 impl Wanted<'_> {
-    /// Whether a cycle that is wanted may begin with the edges, by their architecture and by how many of
-    /// them lead to another thread.
+    /// Whether a cycle that is wanted may begin with the edges, if it may with those before the last: by the
+    /// architecture of the last, and by how many of them lead to another thread. A walk asks this of each list
+    /// as it grows, so that the edges before the last needn't be looked at again.
     #[tactic(auto, unfolding(crate::specs::Plans::may_lead))]
     pub(crate) fn may_lead<A: Arch>(&self, edges: &[Edge]) -> bool
         ensures { result ≡ may_lead A.puts.name self.now.threads edges.now }
     {
-        are_of_arch::<A>(edges) && has_few_threads(edges, self.threads)
+        ends_of_arch::<A>(edges) && has_few_threads(edges, self.threads)
     }
 
     /// Whether a cycle that is wanted may begin with the edges, by the accesses of its threads: the edges
@@ -49,8 +50,19 @@ impl Wanted<'_> {
         ensures { result ≡ is_sought A.puts.name self.now.threads self.now.accesses cycle.now }
     {
         has_two_threads(cycle.edges())
-            && self.may_lead::<A>(cycle.edges())
+            && are_of_arch::<A>(cycle.edges())
+            && has_few_threads(cycle.edges(), self.threads)
             && has_few_accesses(cycle.edges(), self.accesses)
+    }
+}
+
+/// Whether the last edge, if there is one, is of the architecture.
+fn ends_of_arch<A: Arch>(edges: &[Edge]) -> bool
+    ensures { result ≡ ends_of_arch A.puts.name edges.now }
+{
+    match edges {
+        [] => true,
+        [.., last] => A::supports(*last),
     }
 }
 
