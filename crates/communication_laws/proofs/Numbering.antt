@@ -3,24 +3,21 @@ use Rattle.std.proofs.Common.{◌≡◌, ℕ, zero, suc, ◌<◌, ◌≤◌, Boo
 use Rattle.std.specs.Prelude.{◌==◌, unwrap_or}
 use Rattle.std.specs.List.{count_by, list_any}
 use Rattle.std.proofs.lemmas.List.Folds.{list_any-append}
-use Rattle.std.proofs.lemmas.Bool.{eqb-true, eq-eqb, ne_eqb, cond-true, cond-false}
+use Rattle.std.proofs.lemmas.Bool.{eqb-true, eq-eqb, ne_eqb}
 use Rattle.relax_edges.specs.declared.edge.Edge.{Edge}
 use Rattle.list_laws.specs.Numbers.{upto}
-use Rattle.list_laws.proofs.Cases.{by_test, by_less}
-use Rattle.list_laws.proofs.Counts.{count_upto-suc, count_upto-le, count_upto_one_more, count_upto_none}
+use Rattle.list_laws.proofs.Cases.{by_test}
+use Rattle.list_laws.proofs.Counts.{count_upto-le, count_upto_one_more, count_upto_less, count_upto_none}
 use Rattle.list_laws.proofs.Finds.{find_upto_only, any_upto, any_upto_none, any_upto_passing}
 use Rattle.resolution_laws.specs.Resolution.{move_count}
 use Rattle.program_meaning.specs.Intended.{IsNumbering, location_numbered}
 
 -- where all numbers below n are counted, each passes
 all_pass : (p : ℕ → Bool) (n i : ℕ) → count_by p (upto n) ≡ n → i < n → p i ≡ true
-all_pass p zero i h l = absurd (omega arith)
-all_pass p (suc n) i h l =
-    by_test (p n)
-    (λ t. by_less i n
-    (λ m. all_pass p n i (omega (arith, h, count_upto-suc p n, cond-true {A = ℕ} (p n) 1 0 t)) m)
-    (λ m. let e : i ≡ n = omega arith in ap p e ∙ t))
-    (λ f. absurd (omega (arith, h, count_upto-suc p n, count_upto-le p n, cond-false {A = ℕ} (p n) 1 0 f)))
+all_pass p n i h l =
+    by_test (p i)
+    (λ t. t)
+    (λ f. absurd (omega (arith, h, count_upto_less p (λ j. true) i n l f refl (λ j m t. refl), count_upto-le (λ j. true) n)))
 
 -- p is the number of one of the first m locations
 abbrev is_taken : (ℕ → ℕ) → ℕ → ℕ → Bool

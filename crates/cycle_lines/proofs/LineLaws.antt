@@ -147,7 +147,7 @@ long_first text rest h long =
     let first = first_piece is_line_feed rest in
     let alone = slice_split_none is_line_feed text h in
     let split : slice_split is_line_feed (text ++ rest) ≡ (text ++ first.piece) ∷ first.rest =
-    split_append text rest first.piece first.rest first.is ∙ ap (λ t. but_last t ++ (last_of t ++ first.piece) ∷ first.rest) alone in
+    split_append is_line_feed text rest first.piece first.rest first.is ∙ ap (λ t. but_last t ++ (last_of t ++ first.piece) ∷ first.rest) alone in
     by_rest first.piece first.rest split
   where
     kept : (line : List ℕ) → is_too_long (text ++ line) ≡ true

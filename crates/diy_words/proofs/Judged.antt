@@ -1,5 +1,5 @@
 -- The notes that are taken while the words are read are those of the definition, and the request comes of them.
-use Rattle.std.proofs.Common.{◌≡◌, ℕ, ◌+◌, List, [], ◌∷◌, length, drop, Option, Some, None, Result, Ok, Err, refl, sym, ap, ◌∙◌, subst, arith, slice_get, lit≤, nat_lt}
+use Rattle.std.proofs.Common.{◌≡◌, ◌≤◌, ℕ, ◌+◌, List, [], ◌∷◌, length, drop, Option, Some, None, Result, Ok, Err, refl, sym, ap, ◌∙◌, subst, arith, slice_get, lit≤, nat_lt}
 use Rattle.std.proofs.lemmas.List.{drop_all}
 use Rattle.list_laws.proofs.Elements.{drop_given}
 use Rattle.edge_lists.specs.Kept.{added}

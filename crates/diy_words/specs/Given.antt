@@ -1,5 +1,5 @@
 -- How a request holds what words ask for, and how the notes that the code takes stand for those of the words.
-use Rattle.std.specs.Prelude.{ℕ, ◌+◌, ◌≡◌, ◌<◌, ◌≤◌, Bool, true, nat_lt, IfSome, List, [], ◌∷◌, length, drop, slice_get, Option, Some, None, Result, Ok, Err}
+use Rattle.std.specs.Prelude.{ℕ, ◌≡◌, ◌<◌, ◌≤◌, true, nat_lt, IfSome, List, [], ◌∷◌, length, drop, slice_get, Option, Some, None, Result, Ok, Err}
 use Rattle.std.specs.Option.{option_map, ForSome}
 use Rattle.std.specs.Result.{result_ok}
 use Rattle.relax_edges.specs.declared.TheConstants.{MAX_EDGES}

@@ -5,7 +5,7 @@ use Rattle.std.proofs.lemmas.Bool.Decides.{nat_tests}
 use Rattle.std.proofs.lemmas.Nat.Bits.{bit_at_above}
 use Rattle.std.proofs.Math.Pow.{pow_mono}
 use Rattle.resolution_laws.specs.Resolution.{event_after}
-use Rattle.std.proofs.lemmas.Bool.{and_parts, and_from, eqb-true, eq-eqb, lt-ltb, ltb-true}
+use Rattle.std.proofs.lemmas.Bool.{and_parts, and_from, eqb-true, eq-eqb, lt-ltb, ltb-true, ne_eqb}
 use Rattle.std.proofs.lemmas.Option.{same_Some}
 use Rattle.relax_edges.specs.declared.kinds.Dir.{Dir}
 use Rattle.relax_edges.specs.declared.kinds.Dir.TheVariants as dirs
@@ -34,8 +34,8 @@ use Rattle.program_meaning.specs.Accesses.{Access, Barred}
 use Rattle.program_meaning.specs.Executions.{Execution, same_write}
 use Rattle.program_meaning.specs.Coherence.{source_at}
 use Rattle.program_meaning.specs.Standing.{AccessAt, Named, access_at, AreAt, ComesBefore, Communicates, CommunicatesBy, Reaches, Joins, mask_of, is_in_mask, IsTied, BarriersWait, DependsBy, TiesBy, Stands}
-use Rattle.exec_meaning.specs.Edges.{same_mark, same_pick, same_fence, same_barrier, is_alone, is_none, are_at, is_source, comes_before, communicates, communicates_by, reaches, joins, same_answer, depends, barriers_wait, depends_by, ties_by, stands}
 use Rattle.program_meaning.proofs.Names.{same_write-refl, same_write-true}
+use Rattle.exec_meaning.specs.Edges.{same_mark, same_pick, same_fence, same_barrier, is_alone, is_none, are_at, is_source, comes_before, communicates, communicates_by, reaches, joins, same_answer, depends, barriers_wait, depends_by, ties_by, stands}
 
 -- a test passes exactly where its statement holds
 abbrev Decides : Bool → Type 0 → Type 0
@@ -107,12 +107,8 @@ number_decides m n = (eqb-true m n, eq-eqb m n)
 not_decides : (m n : ℕ) → Decides (not (m == n)) (m ≢ n)
 not_decides m n = (
   λ h e. let t : m == n ≡ true = eq-eqb m n e in let f : not true ≡ true = ap not (sym t) ∙ h in cc f,
-  λ h. refuse (m == n) refl h,
+  λ h. ap not (ne_eqb m n h),
 )
-  where
-    refuse : (b : Bool) → m == n ≡ b → (m ≡ n → ⊥) → not b ≡ true
-    refuse true e h = absurd (h (eqb-true m n e))
-    refuse false e h = refl
 
 at_decides : (sd : Sd) (p q : ℕ) → Decides (are_at sd p q) (AreAt sd p q)
 at_decides Same p q = number_decides p q

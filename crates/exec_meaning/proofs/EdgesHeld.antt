@@ -1,9 +1,7 @@
 -- Which edges stand in an execution, by the accesses that were found.
-use Rattle.std.proofs.Common.{◌≡◌, ℕ, ◌+◌, ◌==◌, ◌<◌, ◌≤◌, arith, slice_get, Bool, true, false, List, length, Option, Some, None, sym, ap, subst, ◌∙◌}
+use Rattle.std.proofs.Common.{◌≡◌, ℕ, ◌<◌, slice_get, Bool, true, false, List, length, Option, Some, None, sym, ap, subst, ◌∙◌}
 use Rattle.std.specs.Prelude.{◌↔◌, IsTrue}
-use Rattle.std.proofs.lemmas.Bool.Decides.{nat_tests}
 use Rattle.std.proofs.lemmas.Option.{get_or_from_slice_get, same_Some}
-use Rattle.list_laws.proofs.Cases.{by_test}
 use Rattle.relax_edges.specs.declared.kinds.Reach.TheVariants.{Internal}
 use Rattle.relax_edges.specs.declared.kinds.Com.TheVariants.{Rf}
 use Rattle.relax_edges.specs.declared.edge.Edge.{Edge}
@@ -63,14 +61,6 @@ pub edge_decided : (es : List Edge) (p : Program) (x : Execution) (i : ℕ) (vs 
 edge_decided es p x i vs all n m None target b s t r l j k g h q = (λ yes. let e : false ≡ true = sym q ∙ yes in cc e, λ held. absurd (no_source es p x i vs n s j (sym g) held))
 edge_decided es p x i vs all n m (Some v) None b s t r l j k g h q = (λ yes. let e : false ≡ true = sym q ∙ yes in cc e, λ held. absurd (no_target es p x i vs m s k (sym h) held))
 edge_decided es p x i vs all n m (Some v) (Some w) b s t r l j k g h q = edge_decides es p x i vs all n m v w b s t r l j k (sym g) (sym h) q
-
--- the event that an edge enters is one of the cycle
-pub after_within : (es : List Edge) (i : ℕ) → i < length es → event_after es i < length es
-unfolding event_after
-after_within es i h = by_test (i + 1 == length es) (λ e. rw e (omega (arith, h))) (λ e. rw e (below (i + 1) (length es) (omega (arith, h)) e))
-  where
-    below : (m n : ℕ) → m ≤ n → m == n ≡ false → m < n
-    below m n h e = grind (arith, nat_tests)
 
 -- the edge that was found
 pub edge_is : (es found : List Edge) (i : ℕ) (e : Edge) → found ≡ es → slice_get found i ≡ Some e → e ≡ edge_at es i

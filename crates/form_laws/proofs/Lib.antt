@@ -1,5 +1,6 @@
 pub mod Barriers
 pub mod PieceBacks
+pub mod OfKind
 pub mod OperationBacks
 pub mod FormsApart
 pub mod ChosenForms

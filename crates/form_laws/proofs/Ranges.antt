@@ -1,6 +1,5 @@
 -- The operations of a table whose registers are few are in the range of the machine.
-use Rattle.std.proofs.Common.{ℕ, ◌<◌, ◌≤◌, ◌≡◌, refl, Bool, true, false, ◌&&◌, ◌||◌, nat_le, nat_lt, List, [], ◌∷◌, Option, Some, None, cond, ◌==◌, ◌∙◌, sym, ap, arith}
-use Rattle.std.specs.Prelude.{is_some}
+use Rattle.std.proofs.Common.{ℕ, ◌<◌, ◌≤◌, ◌≡◌, refl, Bool, true, ◌&&◌, ◌||◌, nat_le, nat_lt, List, [], ◌∷◌, ◌∙◌, sym, ap, arith}
 use Rattle.std.specs.List.{list_all, list_any}
 use Rattle.std.proofs.lemmas.Bool.{and_parts, and_from, leb-true, ltb-true, lt-ltb, eqb-true}
 use Rattle.list_laws.proofs.Cases.{by_test}
@@ -18,6 +17,7 @@ use Rattle.form_laws.specs.declared.kind.Operand.TheVariants as operands
 use Rattle.form_laws.specs.Kinds.{operands_of}
 use Rattle.form_laws.specs.Tables.{PieceText, FormText, TableText, fits_first, after_hole, fits, does, table_has, given, table_writing}
 use Rattle.form_laws.proofs.ChosenForms.{done}
+use Rattle.form_laws.proofs.OfKind.{IsOf, is_of, sets_number, excludes, adds_number, ors_number, sums, loads, loads_indexed, loads_index_first, loads_into, loads_acquire, stores, stores_indexed, stores_index_first, stores_release, compares, branches_not_zero}
 use Rattle.form_laws.proofs.ReadsHad.{reads_what_it_has}
 
 -- a hole holds one of at most 32 registers
@@ -72,37 +72,32 @@ three r s t h =
     let p = one r (operands.Register s ∷ operands.Register t ∷ []) h in
     let q = two s t [] p.1 in (p.0, q.0, q.1)
 
-op_in_range : (kind : Kind) (op : Micro) → is_small_kind kind ≡ true → is_some (operands_of kind op) ≡ true →
-    list_all is_below (given (operands_of kind op)) ≡ true → InRange op
-op_in_range kinds.SetNumber (ops.Imm d n) small some h = (one d (operands.Number n ∷ []) h).0
-op_in_range kinds.ExclusiveOr (ops.Xor d a b) small some h = three d a b h
-op_in_range kinds.AddNumber (ops.AddImm d a n) small some h = two d a (operands.Number n ∷ []) h
-op_in_range kinds.OrNumber (ops.OrImm d a n) small some h = two d a (operands.Number n ∷ []) h
-op_in_range kinds.Sum (ops.Add d a b) small some h = three d a b h
-op_in_range kinds.Load (ops.Load d a None) small some h = let p = two d a [] h in (p.0, p.1, tt)
-op_in_range kinds.LoadIndexed (ops.Load d a (Some i)) small some h = three d a i h
-op_in_range kinds.LoadIndexFirst (ops.Load d a (Some i)) small some h = let p = three d i a h in (p.0, p.2, p.1)
-op_in_range (kinds.LoadInto r) (ops.LoadAt d p) small some h = by_test (d == r)
-    (λ e. let f : d ≡ r = eqb-true d r e in let g : r < 32 = ltb-true r 32 small in omega arith)
-    (λ e. let f : is_some (cond (d == r) (Some (operands.Place p ∷ [])) None) ≡ true = some in
-    let g : is_some (cond {A = Option (List Operand)} false (Some (operands.Place p ∷ [])) None) ≡ true = ap (λ b. is_some (cond {A = Option (List Operand)} b (Some (operands.Place p ∷ [])) None)) (sym e) ∙ f in cc)
-op_in_range kinds.LoadAcquire (ops.LoadAcq d a) small some h = two d a [] h
-op_in_range kinds.Store (ops.Store s a None) small some h = let p = two s a [] h in (p.0, p.1, tt)
-op_in_range kinds.StoreIndexed (ops.Store s a (Some i)) small some h = three s a i h
-op_in_range kinds.StoreIndexFirst (ops.Store s a (Some i)) small some h = let p = three s i a h in (p.0, p.2, p.1)
-op_in_range kinds.StoreNumber (ops.StoreAt p n) small some h = tt
-op_in_range kinds.StoreRelease (ops.StoreRel s a) small some h = two s a [] h
-op_in_range kinds.Compare (ops.Cmp a b) small some h = two a b [] h
-op_in_range kinds.BranchEqual (ops.BranchEq l) small some h = tt
-op_in_range kinds.BranchNotZero (ops.BranchNz a l) small some h = (one a (operands.Label l ∷ []) h).0
-op_in_range (kinds.Order kind) (ops.Barrier other) small some h = tt
-op_in_range kind op small some h = cc
+op_in_range : {kind : Kind} {op : Micro} {vs : List Operand} → IsOf kind op vs → is_small_kind kind ≡ true →
+    list_all is_below vs ≡ true → InRange op
+op_in_range (sets_number d n) small h = (one d (operands.Number n ∷ []) h).0
+op_in_range (excludes d a b) small h = three d a b h
+op_in_range (adds_number d a n) small h = two d a (operands.Number n ∷ []) h
+op_in_range (ors_number d a n) small h = two d a (operands.Number n ∷ []) h
+op_in_range (sums d a b) small h = three d a b h
+op_in_range (loads d a) small h = let p = two d a [] h in (p.0, p.1, tt)
+op_in_range (loads_indexed d a i) small h = three d a i h
+op_in_range (loads_index_first d a i) small h = let p = three d i a h in (p.0, p.2, p.1)
+op_in_range (loads_into r d p e) small h =
+    let f : d ≡ r = eqb-true d r e in let g : r < 32 = ltb-true r 32 small in omega arith
+op_in_range (loads_acquire d a) small h = two d a [] h
+op_in_range (stores s a) small h = let p = two s a [] h in (p.0, p.1, tt)
+op_in_range (stores_indexed s a i) small h = three s a i h
+op_in_range (stores_index_first s a i) small h = let p = three s i a h in (p.0, p.2, p.1)
+op_in_range (stores_release s a) small h = two s a [] h
+op_in_range (compares a b) small h = two a b [] h
+op_in_range (branches_not_zero a l) small h = (one a (operands.Label l ∷ []) h).0
+op_in_range is small h = tt
 
 form_in_range : (op : Micro) (f : FormText) → is_small_form f ≡ true → does op f ≡ true → InRange op
 form_in_range op f small h =
     let a = and_parts (is_small_kind f.kind) (list_all (λ (p : PieceText). is_small_hole p.hole) f.pieces) small in
     let d = done op f h in
-    op_in_range f.kind op a.0 d.some (all_below f.pieces (given (operands_of f.kind op)) a.1 d.fit)
+    op_in_range (is_of f.kind op d.some) a.0 (all_below f.pieces (given (operands_of f.kind op)) a.1 d.fit)
 
 any_in_range : (op : Micro) (fs : List FormText) → list_all is_small_form fs ≡ true → list_any (does op) fs ≡ true → InRange op
 any_in_range op [] small h = cc

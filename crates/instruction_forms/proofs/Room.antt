@@ -1,5 +1,5 @@
 -- There is room for an instruction of a good form.
-use Rattle.std.proofs.Common.{ℕ, ◌+◌, ◌<◌, ◌≤◌, ◌≡◌, ◌==◌, Bool, true, false, cond, ◌&&◌, nat_le, List, [], ◌∷◌, ◌++◌, Option, Some, None, subst, length, arith, length-append, sym, ap}
+use Rattle.std.proofs.Common.{ℕ, ◌+◌, ◌<◌, ◌≤◌, ◌≡◌, true, ◌&&◌, nat_le, List, [], ◌∷◌, ◌++◌, Option, Some, subst, length, arith, length-append, sym, ap}
 use Rattle.std.specs.List.{list_all}
 use Rattle.std.specs.Fmt.{decimal}
 use Rattle.std.proofs.lemmas.Bool.{and_parts, leb-true, ltb-true}
@@ -10,48 +10,25 @@ use Rattle.form_laws.specs.declared.form.Hole.{Hole}
 use Rattle.form_laws.specs.declared.form.Hole.TheVariants as holes
 use Rattle.form_laws.specs.declared.kind.Operand.{Operand}
 use Rattle.form_laws.specs.declared.kind.Operand.TheVariants as operands
-use Rattle.micro_ops.specs.declared.operation.Micro.TheVariants as ops
 use Rattle.form_laws.specs.declared.kind.Kind.{Kind}
-use Rattle.form_laws.specs.declared.kind.Kind.TheVariants as kinds
-use Rattle.form_laws.specs.Kinds.{operands_of, same_barrier}
+use Rattle.form_laws.specs.Kinds.{operands_of}
 use Rattle.form_laws.specs.Tables.{PieceText, FormText, fits_first, after_hole, filled, given}
 use Rattle.form_laws.specs.Clear.{is_fixed_byte, is_first_byte, is_hole_good, is_piece_good, is_form_good, most_in, most_of}
+use Rattle.form_laws.proofs.OfKind.{IsOf, loads_into, stores_number, by_kind}
 use Rattle.instruction_forms.specs.Printing.{byte_before, place_short, AllShort, Ready, ReadyPiece}
 
 -- a number below 10000 has at most four digits
 four_digits : (n : ℕ) → n < 10000 → length (decimal n) ≤ 4
 four_digits n h = length-decimal-le 4 n (omega arith) (omega arith) (omega arith)
 
-place_here : (names : ℕ → List ℕ) (p : ℕ) → nat_le (length (names p)) 16 ≡ true → (b : Bool) → AllShort names (given (cond b (Some (operands.Place p ∷ [])) None))
-place_here names p h true = (leb-true (length (names p)) 16 h, tt)
-place_here names p h false = tt
-
-barrier_here : (names : ℕ → List ℕ) (b : Bool) → AllShort names (given (cond b (Some []) None))
-barrier_here names true = tt
-barrier_here names false = tt
+all_short : (names : ℕ → List ℕ) {kind : Kind} {op : Micro} {vs : List Operand} → IsOf kind op vs → place_short names op ≡ true → AllShort names vs
+all_short names (loads_into r d p e) h = (leb-true (length (names p)) 16 h, tt)
+all_short names (stores_number p n) h = (leb-true (length (names p)) 16 h, tt)
+all_short names is h = tt
 
 -- where the name of its place is short, an operation has short operands
 pub operands_short : (names : ℕ → List ℕ) (kind : Kind) (op : Micro) → place_short names op ≡ true → AllShort names (given (operands_of kind op))
-operands_short names kinds.SetNumber (ops.Imm d n) h = tt
-operands_short names kinds.ExclusiveOr (ops.Xor d a b) h = tt
-operands_short names kinds.AddNumber (ops.AddImm d a n) h = tt
-operands_short names kinds.OrNumber (ops.OrImm d a n) h = tt
-operands_short names kinds.Sum (ops.Add d a b) h = tt
-operands_short names kinds.Load (ops.Load d a None) h = tt
-operands_short names kinds.LoadIndexed (ops.Load d a (Some i)) h = tt
-operands_short names kinds.LoadIndexFirst (ops.Load d a (Some i)) h = tt
-operands_short names (kinds.LoadInto r) (ops.LoadAt d p) h = place_here names p h (d == r)
-operands_short names kinds.LoadAcquire (ops.LoadAcq d a) h = tt
-operands_short names kinds.Store (ops.Store s a None) h = tt
-operands_short names kinds.StoreIndexed (ops.Store s a (Some i)) h = tt
-operands_short names kinds.StoreIndexFirst (ops.Store s a (Some i)) h = tt
-operands_short names kinds.StoreNumber (ops.StoreAt p n) h = (leb-true (length (names p)) 16 h, tt)
-operands_short names kinds.StoreRelease (ops.StoreRel s a) h = tt
-operands_short names kinds.Compare (ops.Cmp a b) h = tt
-operands_short names kinds.BranchEqual (ops.BranchEq l) h = tt
-operands_short names kinds.BranchNotZero (ops.BranchNz a l) h = tt
-operands_short names (kinds.Order kind) (ops.Barrier other) h = barrier_here names (same_barrier kind other)
-operands_short names _ _ h = tt
+operands_short names kind op h = by_kind (λ o. AllShort names (given o)) kind op tt (λ vs is. all_short names is h)
 
 short_tail : (names : ℕ → List ℕ) (vs : List Operand) → AllShort names vs → AllShort names (after_hole holes.Number vs)
 short_tail names [] h = tt

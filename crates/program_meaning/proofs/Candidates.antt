@@ -1,9 +1,12 @@
 -- The tests of reads, of orders and of candidates decide their definitions.
 use Rattle.std.proofs.Common.{◌≡◌, ℕ, zero, suc, Bool, true, false, cond, ◌==◌, ◌&&◌, ◌||◌, not, List, [], ◌∷◌, length, get_or, Option, Some, None, slice_get, refl, sym, ap, subst, ◌∙◌, arith}
 use Rattle.std.specs.Prelude.{unwrap_or}
-use Rattle.std.proofs.lemmas.Option.{slice_get_within, slice_get-get_or, same_Some}
 use Rattle.std.specs.List.{filter, list_all, list_any}
-use Rattle.std.proofs.lemmas.Bool.{and_parts, and_from, or_left, or_right, eqb-true, eq-eqb}
+use Rattle.std.proofs.lemmas.Bool.{and_parts, and_from, eqb-true, eq-eqb}
+use Rattle.std.proofs.lemmas.Option.{slice_get_within, slice_get-get_or, get_or_from_slice_get, same_Some}
+use Rattle.std.proofs.lemmas.List.Folds.{Any-from_list_any}
+use Rattle.std.proofs.lemmas.List.Sums.{AllPass-from_list_all, list_all-from_AllPass}
+use Rattle.std.proofs.lemmas.Map.Keys.{any_passes_from_place}
 use Rattle.list_laws.proofs.Cases.{by_test, implied}
 use Rattle.relax_edges.specs.declared.kinds.Dir.{Dir}
 use Rattle.relax_edges.specs.declared.kinds.Dir.TheVariants as dirs
@@ -92,16 +95,12 @@ are_reads_from threads (a ∷ accesses) reads h = by_test (is_read a)
     (λ e. rw e (are_reads_from threads accesses reads (subst (λ b. AreReadsOf threads (cond b (a ∷ filter is_read accesses) (filter is_read accesses)) reads) e h)))
 
 any_means : (w : WriteAt) (order : List WriteAt) → list_any (same_write w) order ≡ true → (k : ℕ) × (slice_get order k ≡ Some w)
-any_means w [] h = cc h
-any_means w (v ∷ order) h = by_test (same_write w v)
-    (λ e. (zero, ap Some (sym (same_write-true w v e))))
-    (λ e. let later = any_means w order (sym (rw e refl) ∙ h) in (suc later.0, later.1))
+any_means w order h =
+    let a = Any-from_list_any (same_write w) order h in
+    (a.0, slice_get-get_or order a.0 a.1 a.2 ∙ ap Some (a.3 ∙ sym (same_write-true w a.1 a.4)))
 
 any_from : (w : WriteAt) (order : List WriteAt) (k : ℕ) → slice_get order k ≡ Some w → list_any (same_write w) order ≡ true
-any_from w [] k h = cc h
-any_from w (v ∷ order) zero h = let e : v ≡ w = same_Some v w h in
-    or_left (same_write w v) (list_any (same_write w) order) (subst (λ u. same_write w u ≡ true) (sym e) (same_write-refl w))
-any_from w (v ∷ order) (suc k) h = or_right (same_write w v) (list_any (same_write w) order) (any_from w order k h)
+any_from w order k h = any_passes_from_place (same_write w) order k w h (same_write-refl w)
 
 -- in an order no write is listed twice
 abbrev Once : List WriteAt → Type 0
@@ -134,13 +133,10 @@ distinct_from (v ∷ order) h = and_from (not (list_any (same_write v) order)) (
     (distinct_from order (λ j k w d e. let s : suc j ≡ suc k = h (suc j) (suc k) w d e in omega (arith, s)))
 
 all_at : {X : Type 0} (p : X → Bool) (xs : List X) → list_all p xs ≡ true → (k : ℕ) (x : X) → slice_get xs k ≡ Some x → p x ≡ true
-all_at p [] h k x e = cc e
-all_at p (y ∷ ys) h zero x e = subst (λ v. p v ≡ true) (same_Some y x e) (and_parts (p y) (list_all p ys) h).0
-all_at p (y ∷ ys) h (suc k) x e = all_at p ys (and_parts (p y) (list_all p ys) h).1 k x e
+all_at p xs h k x e = sym (ap p (get_or_from_slice_get xs k x x e)) ∙ AllPass-from_list_all p xs h k x (slice_get_within xs k x e)
 
 all_from : {X : Type 0} (p : X → Bool) (xs : List X) → ((k : ℕ) (x : X) → slice_get xs k ≡ Some x → p x ≡ true) → list_all p xs ≡ true
-all_from p [] h = refl
-all_from p (y ∷ ys) h = and_from (p y) (list_all p ys) (h zero y refl) (all_from p ys (λ k x e. h (suc k) x e))
+all_from p xs h = list_all-from_AllPass p xs (λ k d l. h k (get_or xs k d) (slice_get-get_or xs k d l))
 
 -- an order that passes the test is that of the place
 pub is_order_means : (threads : List (List Access)) (place : ℕ) (order : List WriteAt) → is_order threads place order ≡ true → IsOrderOf threads place order

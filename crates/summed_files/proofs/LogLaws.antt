@@ -174,15 +174,11 @@ pub closed : (old new : ShelfSeen) (r : Result (Unit {0}) Failed) → OnOk r (Fi
 closed old new (Ok x) f s = record { mode = f.mode; files = f.files; taken = f.counts.taken; opened = f.counts.opened; never_falls = (let e : new.faults ≡ old.faults = f.no_fault in omega arith) }
 closed old new (Err x) f s = record { mode = s.mode; files = s.files; taken = s.counts.taken; opened = s.counts.opened; never_falls = s.faulted.never_falls }
 
--- the reading of a log that answers a fault of the log
-pub at_part : (old new : SourceSeen) (feeding : Feeding) (logs : List (List ℕ)) (r : Result (Unit {0}) ReadFault) (fault : LogFault)
-    → ReadTo old new feeding logs r → r ≡ Err (Log fault) → ReadPart old new logs fault
-at_part old new feeding logs r fault h e = let P : Result (Unit {0}) ReadFault → Type 0 = λ r. ReadTo old new feeding logs r in subst P e h
-
--- the reading of a log that answers that the device failed
-pub at_failed : (old new : SourceSeen) (feeding : Feeding) (logs : List (List ℕ)) (r : Result (Unit {0}) ReadFault)
-    → ReadTo old new feeding logs r → r ≡ Err Device → LogFailed old new feeding logs
-at_failed old new feeding logs r h e = let P : Result (Unit {0}) ReadFault → Type 0 = λ r. ReadTo old new feeding logs r in subst P e h
+-- a log that isn't read to its end isn't summed
+pub part_summed : (old new : SourceSeen) (feeding read : Feeding) (before : List (List ℕ)) (fault : ReadFault) → Reads feeding before []
+    → ReadTo old new read before (Err fault) → SummedTo old new read before (Err fault)
+part_summed old new feeding read before (Log fault) reads part = part_faulty old new feeding before fault reads part
+part_summed old new feeding read before Device reads failed = failed
 
 -- the summing of a log that answers a fault of the log
 pub summed_refused : (old new : SourceSeen) (feeding : Feeding) (logs : List (List ℕ)) (r : Result (Unit {0}) ReadFault) (fault : LogFault)

@@ -1,6 +1,7 @@
 ghost use Rattle.std.specs.Prelude.{true, ◌≡◌, ◌+◌, ◌≤◌, ◌^◌, ◌++◌, ℕ, List, [], length, OnOk, IfOk};
 ghost use Rattle.diy_io.specs.Sink.{line_feed_count};
 ghost use Rattle.summed_files.specs.Faults.{fault_of, end_at};
+ghost use Rattle.summed_files.specs.declared.feeding.ReadFault.TheVariants.{Log, Device};
 
 use crate::sum_end::SumEnd;
 use diy_io::{Failed, MAX_INPUT, NoMemory, Sink};
@@ -28,6 +29,22 @@ pub(crate) enum ReadFault {
     Log(LogFault),
     /// The device failed.
     Device,
+}
+
+impl From<LogFault> for ReadFault {
+    ghost from_gives = { λ fault error. error ≡ Log fault };
+
+    fn from(fault: LogFault) -> ReadFault {
+        ReadFault::Log(fault)
+    }
+}
+
+impl From<Failed> for ReadFault {
+    ghost from_gives = { λ _ error. error ≡ Device };
+
+    fn from(_error: Failed) -> ReadFault {
+        ReadFault::Device
+    }
 }
 
 /// A summer, and how many bytes and line feeds of the running log it was fed.

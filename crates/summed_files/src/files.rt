@@ -45,15 +45,11 @@ fn read_file<H: Shelf>(
     ensures opened { (H.seen shelf.new).opened ≡ (H.seen shelf.old).opened }
 {
     loop {
-        let count = match shelf.read(buf) {
-            Ok(0) => return Ok(()),
-            Ok(count) => count,
-            Err(Failed) => return Err(ReadFault::Device),
-        };
-        match feeding.feed(&buf[..count]) {
-            Ok(()) => {}
-            Err(fault) => return Err(ReadFault::Log(fault)),
+        let count = shelf.read(buf)?;
+        if count == 0 {
+            return Ok(());
         }
+        feeding.feed(&buf[..count])?;
     }
 }
 
@@ -67,15 +63,9 @@ fn sum_log<H: Shelf>(feeding: &mut Feeding, shelf: &mut H, buf: &mut [u8]) -> Re
     ensures opened { (H.seen shelf.new).opened ≡ (H.seen shelf.old).opened }
     ensures summed { ForLogs feeding.old (λ logs. SummedTo (log_seen (H.seen shelf.old)) (log_seen (H.seen shelf.new)) feeding.new logs result) }
 {
-    match read_file(feeding, shelf, buf) {
-        Ok(()) => {}
-        Err(ReadFault::Log(fault)) => return Err(ReadFault::Log(fault)),
-        Err(ReadFault::Device) => return Err(ReadFault::Device),
-    }
-    match feeding.end_log() {
-        Ok(()) => Ok(()),
-        Err(fault) => Err(ReadFault::Log(fault)),
-    }
+    read_file(feeding, shelf, buf)?;
+    feeding.end_log()?;
+    Ok(())
 }
 
 // Sums the open file, and closes it. A fault of the log is the answer even where the closing fails.

@@ -19,15 +19,11 @@ fn read_input<I: Source>(
     ensures { (logs : List (List ℕ)) → Reads feeding.old logs [] → ReadTo (I.seen input.old) (I.seen input.new) feeding.new logs result }
 {
     loop {
-        let count = match input.read(buf) {
-            Ok(0) => return Ok(()),
-            Ok(count) => count,
-            Err(Failed) => return Err(ReadFault::Device),
-        };
-        match feeding.feed(&buf[..count]) {
-            Ok(()) => {}
-            Err(fault) => return Err(ReadFault::Log(fault)),
+        let count = input.read(buf)?;
+        if count == 0 {
+            return Ok(());
         }
+        feeding.feed(&buf[..count])?;
     }
 }
 
@@ -41,15 +37,9 @@ fn sum_source<I: Source>(
     requires piece { length buf.old ≤ max_piece }
     ensures { (logs : List (List ℕ)) → Reads feeding.old logs [] → SummedTo (I.seen input.old) (I.seen input.new) feeding.new logs result }
 {
-    match read_input(feeding, input, buf) {
-        Ok(()) => {}
-        Err(ReadFault::Log(fault)) => return Err(ReadFault::Log(fault)),
-        Err(ReadFault::Device) => return Err(ReadFault::Device),
-    }
-    match feeding.end_log() {
-        Ok(()) => Ok(()),
-        Err(fault) => Err(ReadFault::Log(fault)),
-    }
+    read_input(feeding, input, buf)?;
+    feeding.end_log()?;
+    Ok(())
 }
 
 /// Sums the input, which is one log.

@@ -1,15 +1,16 @@
 -- The answer is whether the edge stands in the execution.
 use Rattle.std.proofs.Common.{map, ◌∙◌, ap, sym}
+use Rattle.resolution_laws.proofs.Around.{after_below}
 use Rattle.program_meaning.specs.Accesses.{at_name, visits_of}
 use Rattle.program_meaning.specs.Standing.{event_name}
 use Rattle.litmus_text.specs.Programs.{program_read}
 use Rattle.exec_meaning.specs.Edges.{stands_if}
 use Rattle.exec_meaning.proofs.RunLaws.{accesses_are, visits_are}
-use Rattle.exec_meaning.proofs.EdgesHeld.{edge_decided, edge_is, after_within}
+use Rattle.exec_meaning.proofs.EdgesHeld.{edge_decided, edge_is}
 use Rattle.exec_meaning.proofs.edges.edge_stands.Goals as goal
 
 pub event_name-to-requires : goal.event_name-to-requires
-event_name-to-requires g c = rw c.event_after.ensures (after_within c.args.resolved.now c.args.i c.requires.within)
+event_name-to-requires g c = rw c.event_after.ensures (after_below c.args.resolved.now c.args.i c.requires.within)
 
 pub returns : goal.returns
 returns g c =
