@@ -1,11 +1,12 @@
--- The table of letters: by another test of which edges are letters, and which edge is one.
-use Rattle.std.proofs.Common.{◌≡◌, ◌↔◌, inl, inr, ℕ, Option, Some, None, List, get_or, nat_eq, eqb-true, eq-eqb, sym, ◌∙◌, arith}
+-- The table of letters: by another test of which edges are letters, and which edges are marked.
+use Rattle.std.proofs.Common.{◌≡◌, ◌↔◌, ℕ, Bool, Option, Some, None, List, [], ◌∷◌, map, refl, get_or}
 use Rattle.std.specs.Prelude.{IsTrue}
-use Rattle.std.proofs.lemmas.Bool.{cases_lt}
+use Rattle.std.specs.List.{AllByRecursion, list_all}
+use Rattle.std.proofs.lemmas.Bool.{and_parts, and_from}
 use Rattle.relax_edges.specs.declared.edge.Edge.{Edge}
 use Rattle.relax_edges.specs.Order.{rank_of}
-use Rattle.relax_edges.proofs.Ranks.{rank_injective}
 use Rattle.cycle_enum.specs.Letters.{IsFirstLetter, IsLetterFrom, HasLettersFrom}
+use Rattle.cycle_enum.specs.Marks.{is_marked_at, MarksExactly}
 
 module _ (one other : Edge → Type 0) (same : (e : Edge) → one e ↔ other e) where
   same_from : (from : ℕ) (found : Option Edge) → IsLetterFrom one from found → IsLetterFrom other from found
@@ -16,13 +17,12 @@ module _ (one other : Edge → Type 0) (same : (e : Edge) → one e ↔ other e)
   pub same_letters : (rank : ℕ) (table : List (Option Edge)) → HasLettersFrom one rank table → HasLettersFrom other rank table
   same_letters rank table t = record { long = t.long; each = λ from l h. same_from from (get_or table from None) (t.each from l h) }
 
--- an edge is a letter where it is the first letter from its own rank on
-pub own_letter : (is_letter : Edge → Type 0) (e found : Edge) (a b : ℕ) → a ≡ rank_of found → b ≡ rank_of e → IsFirstLetter is_letter (rank_of e) found
-    → IsTrue (nat_eq a b) ↔ is_letter e
-own_letter is_letter e found a b fa fb first = (
-  λ t. let same : found ≡ e = rank_injective found e (sym fa ∙ eqb-true a b t ∙ fb) in rw same at first.letter,
-  λ o. eq-eqb a b (fa ∙ own o ∙ sym fb),
-)
-  where
-    own : is_letter e → rank_of found ≡ rank_of e
-    own o = elim (cases_lt (rank_of e) (rank_of found)) [ inl less ↦ absurd (first.first e (omega arith) less o) | inr here ↦ omega (arith, first.at_least) ]
+-- the edges of a list are all letters exactly where their ranks are all marked
+pub all_marked : (is_letter : Edge → Type 0) (marks : List Bool) → MarksExactly is_letter marks → (u : List Edge)
+    → IsTrue (list_all (is_marked_at marks) (map rank_of u)) ↔ AllByRecursion is_letter u
+all_marked is_letter marks marked [] = (λ h. tt, λ h. refl)
+all_marked is_letter marks marked (e ∷ u) =
+    let rest = all_marked is_letter marks marked u in (
+      λ h. let parts = and_parts (is_marked_at marks (rank_of e)) (list_all (is_marked_at marks) (map rank_of u)) h in ((marked e).0 parts.0, rest.0 parts.1),
+      λ h. and_from (is_marked_at marks (rank_of e)) (list_all (is_marked_at marks) (map rank_of u)) ((marked e).1 h.0) (rest.1 h.1),
+    )

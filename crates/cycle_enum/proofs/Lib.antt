@@ -2,3 +2,4 @@ pub mod Composing
 pub mod Lettering
 pub mod Marking
 pub mod Passing
+pub mod Ranking

@@ -6,6 +6,7 @@ use Rattle.relax_edges.specs.declared.order.TheConstants.{EDGES}
 use Rattle.relax_edges.specs.declared.edge.Edge.{Edge}
 use Rattle.relax_edges.specs.Order.{rank_of}
 use Rattle.walk_laws.specs.Search.{OccursIn, IsSingle}
+use Rattle.cycle_enum.specs.Marks.{MarksExactly}
 
 -- no letter has rank `from` or more, and below `to`
 abbrev pub NoLetter : (Edge → Type 0) → ℕ → ℕ → Type 0
@@ -27,8 +28,10 @@ pub record HasLettersFrom (is_letter : Edge → Type 0) (rank : ℕ) (table : Li
   pub long : length table ≡ EDGES + 1
   pub each : (from : ℕ) → rank ≤ from → from ≤ EDGES → IsLetterFrom is_letter from (get_or table from None)
 
--- what a walk knows of its relaxations: the first letter from each rank on, and if it says so each relaxation has one edge
-pub record IsAlphabet (relaxes : List (List Edge)) (letters : List (Option Edge)) (all_single : Bool) : Type 0 where
+-- what a walk knows of its relaxations: which edges occur in them, the first of these from each rank on, and if it says so each
+-- relaxation has one edge
+pub record IsAlphabet (relaxes : List (List Edge)) (marks : List Bool) (letters : List (Option Edge)) (all_single : Bool) : Type 0 where
+  pub marked : MarksExactly (OccursIn relaxes) marks
   pub has : HasLettersFrom (OccursIn relaxes) 0 letters
   pub single : all_single ≡ true → AllByRecursion IsSingle relaxes
 

@@ -1,11 +1,12 @@
-ghost use Rattle.std.specs.Prelude.{◌≡◌, ◌<◌, ◌≤◌, ◌↔◌, ◌∷◌, [], IsTrue, IsFalse, IfSome, length, true};
+ghost use Rattle.std.specs.Prelude.{◌≡◌, ◌<◌, ◌≤◌, ◌↔◌, ◌∷◌, [], IsTrue, IsFalse, IfSome, length, map, true};
 ghost use Rattle.std.specs.List.{AllByRecursion};
+ghost use Rattle.relax_edges.specs.Order.{rank_of};
 ghost use Rattle.cycle_laws.specs.Composable.{IsCycle, last_joins};
 ghost use Rattle.walk_laws.specs.Listing.{IsMadeOf};
 ghost use Rattle.walk_laws.specs.Search.{IsCandidate, IsExtended, IsNextEdge, IsRaised, IsSingle, LeadsNowhere, OccursIn};
 ghost use Rattle.cycle_enum.specs.Letters.{least_rank};
 
-use crate::letters::{Letters, letters_of};
+use crate::letters::{Letters, Marks, are_marked, first_letters, marks_of};
 use crate::prefix::Prefix;
 use crate::relaxed::{is_made, may_occur};
 use edge_algebra::Cycle;
@@ -18,6 +19,7 @@ use std::marker::Model;
 #[derive(Drop)]
 pub(crate) struct Alphabet {
     relaxes: Relaxes,
+    marks: Marks,
     letters: Letters,
     /// Whether each relaxation has one edge, so that lists of edges that occur are concatenations.
     all_single: bool,
@@ -32,7 +34,7 @@ impl Model for Alphabet {
 
     ghost view = { λ a. a.relaxes };
 
-    ghost invariant = { λ a. IsAlphabet a.relaxes a.letters a.all_single };
+    ghost invariant = { λ a. IsAlphabet a.relaxes a.marks a.letters a.all_single };
 }
 
 impl Alphabet {
@@ -40,10 +42,12 @@ impl Alphabet {
     pub(crate) fn of(relaxes: Relaxes) -> Alphabet
         ensures { result ≡ relaxes }
     {
-        let letters = letters_of(relaxes.as_slice());
+        let marks = marks_of(relaxes.as_slice());
+        let letters = first_letters(&marks);
         let all_single = are_single(relaxes.as_slice());
         Alphabet {
             relaxes,
+            marks,
             letters,
             all_single,
         }
@@ -99,17 +103,6 @@ impl Alphabet {
         }
     }
 
-    /// Whether an edge occurs in a relaxation.
-    fn has(&self, edge: Edge) -> bool
-        ensures { IsTrue result ↔ OccursIn self.now edge }
-    {
-        let rank = edge.rank();
-        match self.letters[usize::from(rank)] {
-            Some(letter) => letter.rank() == rank,
-            None => false,
-        }
-    }
-
     /// Whether a list may be part of a concatenation of relaxations, if its edges occur in them.
     pub(crate) fn may_occur(&self, list: &[Edge]) -> bool
         requires { length list.now ≤ MAX_EDGES }
@@ -118,24 +111,15 @@ impl Alphabet {
         self.all_single || may_occur(self.relaxes.as_slice(), list)
     }
 
-    /// Whether some rotation of a cycle is a concatenation of relaxations.
-    pub(crate) fn makes(&self, cycle: &Cycle) -> bool
+    /// Whether some rotation of a cycle, whose edges have these ranks, is a concatenation of relaxations.
+    pub(crate) fn makes(&self, cycle: &Cycle, ranks: &[u16]) -> bool
+        requires { ranks.now ≡ map rank_of cycle.now }
         ensures { IsTrue result ↔ IsMadeOf self.now cycle.now }
     {
         if self.all_single {
-            self.has_all(cycle.edges())
+            are_marked(&self.marks, ranks)
         } else {
             is_made(self.relaxes.as_slice(), cycle)
-        }
-    }
-
-    /// Whether each edge of a list occurs in a relaxation.
-    fn has_all(&self, edges: &[Edge]) -> bool
-        ensures { IsTrue result ↔ AllByRecursion (OccursIn self.now) edges.now }
-    {
-        match edges {
-            [] => true,
-            [first, rest @ ..] => self.has(*first) && self.has_all(rest),
         }
     }
 }
@@ -163,7 +147,8 @@ fn is_joined_to(list: &[Edge], edge: Edge) -> bool
 
 /// Whether the last edge of a list joins the first: no other list is a cycle.
 pub(crate) fn closes(list: &[Edge]) -> bool
-    ensures { IsFalse result → IsCycle list.now → ⊥ }
+    ensures closed { IsTrue result → last_joins list.now list.now ≡ true }
+    ensures other { IsFalse result → IsCycle list.now → ⊥ }
 {
     match list {
         [] => false,

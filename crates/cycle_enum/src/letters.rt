@@ -1,7 +1,8 @@
 ghost use Rattle.std.specs.Prelude.{◌≡◌};
+ghost use Rattle.std.specs.List.{list_all};
 ghost use Rattle.walk_laws.specs.Search.{OccursIn};
 ghost use Rattle.cycle_enum.specs.Letters.{HasLettersFrom};
-ghost use Rattle.cycle_enum.specs.Marks.{IsMarked, MarksAlphabet, MarksAlso};
+ghost use Rattle.cycle_enum.specs.Marks.{is_marked_at, IsMarked, MarksAlphabet, MarksAlso, MarksExactly};
 
 use relax_edges::{EDGES, Edge, Relax};
 
@@ -11,17 +12,39 @@ const RANKS: usize = EDGES as usize;
 /// a letter is an edge that occurs in a relaxation.
 pub(crate) type Letters = [Option<Edge>; RANKS + 1];
 
+/// For each rank whether its edge occurs in a relaxation.
+pub(crate) type Marks = [bool; RANKS];
+
 /// Finds the edges that occur in the relaxations.
-pub(crate) fn letters_of(relaxes: &[Relax]) -> Letters
-    ensures { HasLettersFrom (OccursIn relaxes.now) 0 result }
+pub(crate) fn marks_of(relaxes: &[Relax]) -> Marks
+    ensures { MarksExactly (OccursIn relaxes.now) result }
 {
     let mut marks = [false; RANKS];
     mark_relaxes(&mut marks, relaxes);
-    first_letters(&marks)
+    marks
+}
+
+/// Whether the edges of all these ranks are marked.
+pub(crate) fn are_marked(marks: &Marks, ranks: &[u16]) -> bool
+    ensures { result ≡ list_all (is_marked_at marks.now) ranks.now }
+{
+    match ranks {
+        [] => true,
+        [first, rest @ ..] => is_marked_at(marks, *first) && are_marked(marks, rest),
+    }
+}
+
+fn is_marked_at(marks: &Marks, rank: u16) -> bool
+    ensures { result ≡ is_marked_at marks.now rank }
+{
+    match marks.get(usize::from(rank)) {
+        Some(mark) => *mark,
+        None => false,
+    }
 }
 
 /// The first marked edge from each rank on.
-fn first_letters(marks: &[bool; RANKS]) -> Letters
+pub(crate) fn first_letters(marks: &Marks) -> Letters
     ensures { HasLettersFrom (IsMarked marks.now) 0 result }
 {
     let mut letters = [None; RANKS + 1];
@@ -37,7 +60,7 @@ fn first_letters(marks: &[bool; RANKS]) -> Letters
 }
 
 /// Marks the edges of relaxations, in addition to those that are marked.
-fn mark_relaxes(marks: &mut [bool; RANKS], relaxes: &[Relax])
+fn mark_relaxes(marks: &mut Marks, relaxes: &[Relax])
     ensures { MarksAlphabet marks.old relaxes.now marks.new }
 {
     match relaxes {
@@ -50,7 +73,7 @@ fn mark_relaxes(marks: &mut [bool; RANKS], relaxes: &[Relax])
 }
 
 /// Marks the edges of a list, in addition to those that are marked.
-fn mark_edges(marks: &mut [bool; RANKS], edges: &[Edge])
+fn mark_edges(marks: &mut Marks, edges: &[Edge])
     ensures { MarksAlso marks.old edges.now marks.new }
 {
     match edges {

@@ -1,12 +1,13 @@
-ghost use Rattle.std.specs.Prelude.{◌≡◌, ◌<◌, ◌≤◌, ◌+◌, ◌↔◌, ◌++◌, ◌∷◌, [], length, map, IsFalse, IfSome, IfNone};
+ghost use Rattle.std.specs.Prelude.{◌≡◌, ◌<◌, ◌≤◌, ◌+◌, ◌↔◌, ◌++◌, ◌∷◌, [], length, map, IsFalse, IfSome, IfNone, true};
 ghost use Rattle.relax_edges.specs.Order.{rank_of};
+ghost use Rattle.cycle_laws.specs.Composable.{is_joined, last_joins};
 
 use arrayvec::ArrayVec;
 use relax_edges::{Edge, MAX_EDGES};
 use std::marker::Model;
 
 /// The first edges of the cycles that a walk looks for, with the rank of each edge beside it: so an edge is asked
-/// for its rank once, where it is appended, however often prefixes are compared.
+/// for its rank once, where it is appended, however often prefixes are compared. Each edge joins the next one.
 ///
 /// Contracts see the edges.
 #[derive(Drop)]
@@ -16,15 +17,16 @@ pub(crate) struct Prefix {
 }
 
 impl Model for Prefix {
-    ghost use Rattle.std.specs.Prelude.{◌≡◌, List, map};
+    ghost use Rattle.std.specs.Prelude.{◌≡◌, List, map, true};
     ghost use Rattle.relax_edges.specs.declared.edge.Edge.{Edge as EdgeValue};
     ghost use Rattle.relax_edges.specs.Order.{rank_of};
+    ghost use Rattle.cycle_laws.specs.Composable.{is_joined};
 
     ghost Value = { List EdgeValue };
 
     ghost view = { λ p. p.edges.items };
 
-    ghost invariant = { λ p. p.ranks.items ≡ map rank_of p.edges.items };
+    ghost invariant = { λ p. (p.ranks.items ≡ map rank_of p.edges.items) × (is_joined p.edges.items ≡ true) };
 }
 
 /// The last edge of a prefix and its rank.
@@ -59,7 +61,8 @@ impl Prefix {
     }
 
     pub(crate) fn edges(&self) -> &[Edge]
-        ensures { result.now ≡ self.now }
+        ensures value { result.now ≡ self.now }
+        ensures joined { is_joined self.now ≡ true }
     {
         self.edges.as_slice()
     }
@@ -71,9 +74,10 @@ impl Prefix {
         self.ranks.as_slice()
     }
 
-    /// Appends an edge.
+    /// Appends an edge that the last one joins.
     pub(crate) fn push(&mut self, edge: Edge)
-        requires { length self.old < MAX_EDGES }
+        requires room { length self.old < MAX_EDGES }
+        requires joined { last_joins self.old (edge ∷ []) ≡ true }
         ensures { self.new ≡ self.old ++ edge ∷ [] }
     {
         self.edges.push(edge);

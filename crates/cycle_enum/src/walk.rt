@@ -1,7 +1,9 @@
-ghost use Rattle.std.specs.Prelude.{◌≡◌, ◌<◌, ◌≤◌, [], Some, None, IfSome, IfNone, MatchOption, IsTrue, IsFalse, length};
+ghost use Rattle.std.specs.Prelude.{◌≡◌, ◌<◌, ◌≤◌, [], Some, None, IfSome, IfNone, MatchOption, IsTrue, IsFalse, length, map, true};
 ghost use Rattle.walk_laws.specs.Asked.{KeptBelow, KeptWhole};
 ghost use Rattle.walk_laws.specs.Counting.{later};
 ghost use Rattle.walk_laws.specs.Listing.{IsAnswer, KeepsLimits};
+ghost use Rattle.relax_edges.specs.Order.{rank_of};
+ghost use Rattle.cycle_laws.specs.Composable.{IsCycle, is_joined};
 ghost use Rattle.cycle_laws.specs.Order.{IsLeast, IsNormal};
 ghost use Rattle.walk_laws.specs.Search.{IsCut, IsFirst, LeadsNowhere, LongerThan, OfLength};
 ghost use Rattle.cycle_enum.specs.Walking.{Keeps, KnowsOf, Lists, Walking};
@@ -9,7 +11,7 @@ ghost use Rattle.cycle_enum.specs.Walking.{Keeps, KnowsOf, Lists, Walking};
 use crate::alphabet::{Alphabet, closes};
 use crate::limits::Limits;
 use crate::prefix::Prefix;
-use edge_algebra::{Cycle, cycle, is_normal, may_begin};
+use edge_algebra::{Cycle, is_normal, may_begin};
 use relax_edges::{Edge, MAX_EDGES, Relaxes};
 use std::marker::Model;
 
@@ -167,6 +169,7 @@ impl<K: Fn(&[Edge]) -> bool, J: Fn(&[Edge]) -> bool, P: Fn(&Cycle) -> bool> Walk
     /// Puts the shortest prefix of a list on which a pruner says no, so that no listed cycle begins
     /// with it, else the list.
     fn put_first_refused(&self, edges: &[Edge], list: &mut Prefix)
+        requires joined { is_joined edges.now ≡ true }
         requires knows { KnowsOf K.pre K.Fn.post J.pre J.Fn.post P.pre P.Fn.post self.now.keep self.now.fit self.now.take }
         requires few { length edges.now ≤ MAX_EDGES }
         requires empty { list.old ≡ [] }
@@ -255,13 +258,14 @@ impl<K: Fn(&[Edge]) -> bool, J: Fn(&[Edge]) -> bool, P: Fn(&Cycle) -> bool> Walk
         if !is_normal(list.edges(), list.ranks()) {
             return false;
         }
-        self.has_listed(list.edges(), found)
+        self.has_listed(list, found)
     }
 
-    /// Whether the cycle of these edges, which are in normal form, is listed, where the walk keeps them: it is found then. It is a function of its own in
+    /// Whether a cycle in normal form, by its edges, is listed, where the walk keeps them: it is found then. It is a function of its own in
     /// the program too (`inline(never)`), so that room for a cycle is cleared only for lists that may be one.
     #[inline(never)]
-    fn has_listed(&self, list: &[Edge], found: &mut Option<Cycle>) -> bool
+    fn has_listed(&self, list: &Prefix, found: &mut Option<Cycle>) -> bool
+        requires cycle { IsCycle list.now }
         requires knows { KnowsOf K.pre K.Fn.post J.pre J.Fn.post P.pre P.Fn.post self.now.keep self.now.fit self.now.take }
         requires limits { KeepsLimits self.now.limits.size self.now.limits.exact (length list.now) }
         requires normal { IsNormal list.now }
@@ -271,20 +275,17 @@ impl<K: Fn(&[Edge]) -> bool, J: Fn(&[Edge]) -> bool, P: Fn(&Cycle) -> bool> Walk
         ensures same { IsFalse result → found.new ≡ found.old }
         ensures other { IsFalse result → Lists P.Fn.post self.now list.now → ⊥ }
     {
-        match &cycle(list) {
-            Ok(cycle) => {
-                if !self.is_listed(cycle) {
-                    return false;
-                }
-                *found = Some(cycle.copied());
-                true
-            }
-            Err(_) => false,
+        let cycle = Cycle::of(list.edges());
+        if !self.is_listed(&cycle, list.ranks()) {
+            return false;
         }
+        *found = Some(cycle);
+        true
     }
 
-    /// Whether a cycle is listed, where it is in normal form and its number of edges keeps the limits.
-    fn is_listed(&self, cycle: &Cycle) -> bool
+    /// Whether a cycle, whose edges have these ranks, is listed, where it is in normal form and its number of edges keeps the limits.
+    fn is_listed(&self, cycle: &Cycle, ranks: &[u16]) -> bool
+        requires ranks { ranks.now ≡ map rank_of cycle.now }
         requires knows { KnowsOf K.pre K.Fn.post J.pre J.Fn.post P.pre P.Fn.post self.now.keep self.now.fit self.now.take }
         requires limits { KeepsLimits self.now.limits.size self.now.limits.exact (length cycle.now) }
         requires normal { IsNormal cycle.now }
@@ -293,7 +294,7 @@ impl<K: Fn(&[Edge]) -> bool, J: Fn(&[Edge]) -> bool, P: Fn(&Cycle) -> bool> Walk
         ensures other { IsFalse result → Lists P.Fn.post self.now cycle.now → ⊥ }
     {
         let _edges = cycle.edges();
-        if !self.relaxes.makes(cycle) {
+        if !self.relaxes.makes(cycle, ranks) {
             return false;
         }
         (self.take)(cycle)

@@ -55,7 +55,8 @@ fn put(more: &[Edge], edges: &mut ArrayVec<Edge, MAX_EDGES>)
 }
 
 impl Cycle {
-    pub(crate) fn of(edges: &[Edge]) -> Cycle
+    /// The cycle of edges that are known to make one: `cycle` finds out whether edges do.
+    pub fn of(edges: &[Edge]) -> Cycle
         requires { IsCycle edges.now }
         ensures { result ≡ edges.now }
     {

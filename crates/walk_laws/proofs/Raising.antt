@@ -1,7 +1,8 @@
 -- A list goes on: the edges that were taken off its end, and the cut of a list.
-use Rattle.std.proofs.Common.{◌≡◌, ◌<◌, ◌≤◌, ◌⊎◌, inl, inr, ℕ, zero, suc, ◌+◌, Some, None, List, [], ◌∷◌, ◌++◌, length, take, drop, get_or, add-one, refl, sym, ◌∙◌, ap, arith, append_assoc, length-append}
+use Rattle.std.proofs.Common.{◌≡◌, ◌<◌, ◌≤◌, ◌⊎◌, inl, inr, ℕ, suc, ◌+◌, Some, None, List, [], ◌∷◌, ◌++◌, length, take, drop, get_or, add-one, refl, sym, ◌∙◌, ap, arith, append_assoc, length-append}
 use Rattle.std.proofs.lemmas.List.{append-nil, take_all, take-append-le}
 use Rattle.std.proofs.lemmas.Bool.{cases_lt}
+use Rattle.std.proofs.Math.Seq.{drop-cons}
 use Rattle.relax_edges.specs.declared.order.TheConstants.{EDGES}
 use Rattle.relax_edges.specs.declared.edge.Edge.{Edge}
 use Rattle.relax_edges.specs.Order.{rank_of}
@@ -141,16 +142,10 @@ module _ (sought : List Edge → Type 0) (keeps : List Edge → Type 0) where
   pub cut_whole : (u list rest : List Edge) → u ≡ list ++ rest → rest ≡ [] → KeptWhole keeps list → IsCut sought keeps u list
   cut_whole u list rest parts none kept = record { rest = rest; prefix = parts; kept = λ k p l. kept k p (omega arith); whole = inl none }
 
--- one more edge of a list is moved over
-drop_edge : (i : ℕ) (u : List Edge) (d : Edge) → i < length u → drop i u ≡ get_or u i d ∷ drop (suc i) u
-drop_edge i [] d h = absurd (omega arith)
-drop_edge zero (x ∷ u) d h = refl
-drop_edge (suc i) (x ∷ u) d h = drop_edge i u d (omega arith)
-
 -- a list and the edges still to come are all edges, also with one edge moved over
 pub one_further : (list new edges : List Edge) (i : ℕ) (d : Edge) → list ++ drop i edges ≡ edges → i < length edges → new ≡ list ++ get_or edges i d ∷ [] → new ++ drop (i + 1) edges ≡ edges
 one_further list new edges i d parts h is =
-    rw (is, add-one i) (append_assoc list (get_or edges i d ∷ []) (drop (suc i) edges) ∙ ap (λ w. list ++ w) (sym (drop_edge i edges d h)) ∙ parts)
+    rw (is, add-one i) (append_assoc list (get_or edges i d ∷ []) (drop (suc i) edges) ∙ ap (λ w. list ++ w) (sym (drop-cons edges i d h)) ∙ parts)
 
 -- a list that went on past all that begin with it is no longer, and its shorter prefixes are kept
 steps_few : (u v : List Edge) → StepsOver u v → length v ≤ length u

@@ -9,10 +9,10 @@ pub returns-in-Some : goal.returns-in-Some
 returns-in-Some c =
     extended_by (IsCandidate c.args.self.now) c.args.list.now c.push.new.self (least_rank c.args.list.now) c.in-Some.edge
     (none_below_least c.args.self.now c.args.list.now)
-    (rw (c.edges.ensures, c.least_rank.ensures.value) at c.in-Some.ensures.next) c.push.ensures
+    (rw (c.edges.ensures.value, c.least_rank.ensures.value) at c.in-Some.ensures.next) c.push.ensures
 
 pub returns-in-None : goal.returns-in-None
 returns-in-None c =
     extended_none (IsCandidate c.args.self.now) c.args.list.now c.raise.new.list (least_rank c.args.list.now)
     (none_below_least c.args.self.now c.args.list.now)
-    (rw (c.edges.ensures, c.least_rank.ensures.value) at c.in-None.ensures.next) c.raise.ensures
+    (rw (c.edges.ensures.value, c.least_rank.ensures.value) at c.in-None.ensures.next) c.raise.ensures

@@ -7,12 +7,12 @@ use Rattle.cycle_enum.proofs.alphabet.Alphabet.raise.Goals as goal
 pub returns-in-Some-next_edge : goal.returns-in-Some-next_edge
 returns-in-Some-next_edge c =
     popped_replaced (IsCandidate c.args.self.now) c.args.list.now c.loop-last.list c.pop.new.self c.push.new.self c.in-Some.last.edge c.in-Some-next_edge.next
-    c.loop-last.invariant.popped c.in-Some.ensures.some.0 c.push.ensures (rw (c.edges.ensures, c.in-Some.ensures.some.1) at c.in-Some-next_edge.ensures.next)
+    c.loop-last.invariant.popped c.in-Some.ensures.some.0 c.push.ensures (rw (c.edges.ensures.value, c.in-Some.ensures.some.1) at c.in-Some-next_edge.ensures.next)
 
 pub loop-last-preserved : goal.loop-last-preserved
 loop-last-preserved c = record {
   popped =
       popped_more (IsCandidate c.args.self.now) c.args.list.now c.loop-last.list c.pop.new.self c.in-Some.last.edge c.loop-last.invariant.popped
-      c.in-Some.ensures.some.0 (rw (c.edges.ensures, c.in-Some.ensures.some.1) at c.in-None.ensures.next);
+      c.in-Some.ensures.some.0 (rw (c.edges.ensures.value, c.in-Some.ensures.some.1) at c.in-None.ensures.next);
   few = search rules;
 }

@@ -5,7 +5,11 @@ use Rattle.walk_laws.proofs.Answering.{answer_as_long}
 use Rattle.walk_laws.proofs.Candidates.{raised_listed}
 use Rattle.walk_laws.proofs.Raising.{raised_kept}
 use Rattle.cycle_enum.specs.Walking.{Keeps, Lists}
+use Rattle.cycle_enum.proofs.Composing.{cycle_joined}
 use Rattle.cycle_enum.proofs.walk.Walk.as_long.Goals as goal
+
+pub put_first_refused-requires-clause-joined : goal.put_first_refused-requires-clause-joined
+put_first_refused-requires-clause-joined g c = rw c.edges.ensures.value (cycle_joined c.args.last.now c.edges.ensures.composable)
 
 pub search-requires-clause-kept : goal.search-requires-clause-kept
 search-requires-clause-kept g c =

@@ -1,6 +1,7 @@
 -- A list with which no listed cycle begins isn't listed, and the test is asked only where both pruners keep all prefixes.
 use Rattle.std.proofs.Common.{[], length, refl, IsTrue}
 use Rattle.std.proofs.lemmas.List.{append-nil}
+use Rattle.cycle_laws.proofs.Composing.{path_closed}
 use Rattle.walk_laws.proofs.Stepping.{kept_all}
 use Rattle.cycle_enum.specs.Walking.{Keeps, Lists}
 use Rattle.cycle_enum.proofs.walk.Walk.has_found.Goals as goal
@@ -10,9 +11,13 @@ returns-then-not-leads_on-clause-other g c _ l = c.if-not-leads_on.ensures.refus
 
 pub returns-then-not-is_normal-clause-other : goal.returns-then-not-is_normal-clause-other
 returns-then-not-is_normal-clause-other g c _ l =
-    let h : IsTrue c.is_normal.result = c.is_normal.ensures.1 (rw c.edges-2.ensures l.normal) in cc (h, c.if-not-is_normal.true)
+    let h : IsTrue c.is_normal.result = c.is_normal.ensures.1 (rw c.edges-2.ensures.value l.normal) in cc (h, c.if-not-is_normal.true)
+
+pub has_listed-requires-clause-cycle : goal.has_listed-requires-clause-cycle
+has_listed-requires-clause-cycle g c =
+    path_closed c.args.list.now (record { some = c.requires.some; few = c.requires.few; joined = c.edges.ensures.joined })
+    (rw c.edges.ensures.value at (c.if-not-closes.ensures.closed refl))
 
 pub has_listed-requires-clause-kept : goal.has_listed-requires-clause-kept
 has_listed-requires-clause-kept g c =
-    rw c.edges-3.ensures
-    (kept_all (Lists g.P.Fn.post c.args.self.now) (Keeps g.K.Fn.post g.J.Fn.post c.args.self.now) (length c.args.list.now) c.args.list.now c.requires.kept (c.if-not-leads_on.ensures.kept refl))
+    kept_all (Lists g.P.Fn.post c.args.self.now) (Keeps g.K.Fn.post g.J.Fn.post c.args.self.now) (length c.args.list.now) c.args.list.now c.requires.kept (c.if-not-leads_on.ensures.kept refl)

@@ -4,13 +4,17 @@ use Rattle.std.proofs.lemmas.List.{drop_all}
 use Rattle.walk_laws.specs.Search.{LeadsNowhere}
 use Rattle.walk_laws.proofs.Raising.{kept_more, cut_refused, cut_whole, one_further}
 use Rattle.cycle_enum.specs.Walking.{Keeps, Lists}
+use Rattle.cycle_enum.proofs.Composing.{next_joined}
 use Rattle.cycle_enum.proofs.walk.Walk.put_first_refused.Goals as goal
+
+pub push-requires-clause-joined : goal.push-requires-clause-joined
+push-requires-clause-joined g c = next_joined c.loop-edge.list c.args.edges.now c.loop-edge.edge-index _ c.requires.joined c.loop-edge.invariant.parts c.loop-edge-test.true
 
 pub returns-then-not-is_kept : goal.returns-then-not-is_kept
 returns-then-not-is_kept g c =
     let parts : c.push.new.self ++ drop (c.loop-edge.edge-index + 1) c.args.edges.now ≡ c.args.edges.now =
     one_further c.loop-edge.list c.push.new.self c.args.edges.now c.loop-edge.edge-index _ c.loop-edge.invariant.parts c.loop-edge-test.true c.push.ensures in
-    let none : LeadsNowhere (Lists g.P.Fn.post c.args.self.now) c.push.new.self = rw c.edges.ensures at (c.if-not-is_kept.ensures.refused refl) in
+    let none : LeadsNowhere (Lists g.P.Fn.post c.args.self.now) c.push.new.self = rw c.edges.ensures.value at (c.if-not-is_kept.ensures.refused refl) in
     cut_refused _ _ c.args.edges.now c.loop-edge.list c.push.new.self _ _ c.push.ensures (sym parts) c.loop-edge.invariant.kept none
 
 pub loop-edge-preserved : goal.loop-edge-preserved
@@ -18,7 +22,7 @@ loop-edge-preserved g c = record {
   parts =
       one_further c.loop-edge.list c.push.new.self c.args.edges.now c.loop-edge.edge-index _ c.loop-edge.invariant.parts c.loop-edge-test.true c.push.ensures;
   kept =
-      let agreed : Keeps g.K.Fn.post g.J.Fn.post c.args.self.now c.push.new.self = rw c.edges.ensures at (c.if-not-is_kept.ensures.kept refl) in
+      let agreed : Keeps g.K.Fn.post g.J.Fn.post c.args.self.now c.push.new.self = rw c.edges.ensures.value at (c.if-not-is_kept.ensures.kept refl) in
       kept_more (Lists g.P.Fn.post c.args.self.now) (Keeps g.K.Fn.post g.J.Fn.post c.args.self.now) c.loop-edge.list c.push.new.self _ c.push.ensures c.loop-edge.invariant.kept agreed;
 }
 
