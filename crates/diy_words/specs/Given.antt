@@ -20,9 +20,9 @@ use Rattle.diy_words.specs.declared.notes.Notes as code
 use Rattle.diy_words.specs.declared.usage.Usage.{Usage}
 use Rattle.diy_words.specs.Names.{is_name}
 use Rattle.diy_words.specs.Notes.{Notes}
-use Rattle.diy_words.specs.Parts.{parts_of, option_named}
-use Rattle.diy_words.specs.Sayings.{Saying, with_saying, sayings}
-use Rattle.diy_words.specs.Requests.{Task, AsksTest, AsksWhy, AsksName, AsksList, AsksFamilies, AsksSum, AsksCross, AsksDemo, AsksCheck, ListTask, OfEdges, OfName, OfLines, choice_count, tool_asked}
+use Rattle.diy_words.specs.Parts.{Valued, parts_of, option_named}
+use Rattle.diy_words.specs.Sayings.{Saying, with_saying, said_by, sayings}
+use Rattle.diy_words.specs.Requests.{Task, AsksTest, AsksWhy, AsksName, AsksList, AsksFamilies, AsksSum, AsksCross, AsksDemo, AsksCheck, ListTask, OfEdges, OfName, OfLines, asks, choice_count, cross_asked, tool_asked}
 use Rattle.diy_words.specs.Requests as req
 
 -- the request holds the cycle that is sought
@@ -116,6 +116,10 @@ abbrev pub notes_after : Notes → Result Saying Usage → Result Notes Usage
 notes_after notes (Ok saying) = Ok (with_saying notes saying)
 notes_after notes (Err usage) = Err usage
 
+-- the notes after an option at a place with its value, or its fault
+abbrev pub notes_valued : Tool → Notes → OptionName → ℕ → List ℕ → Result Notes Usage
+notes_valued tool notes option at value = notes_after notes (said_by tool notes (Valued option at value))
+
 -- the notes that a call leaves, or its fault
 abbrev pub notes_left : Result (Unit {0}) Usage → Notes → Result Notes Usage
 notes_left (Ok _) notes = Ok notes
@@ -147,6 +151,12 @@ abbrev pub GivesAtEnd : Tool → ℕ → Notes → Result Request Usage → Type
 GivesAtEnd tool count notes result =
     (edges : List Edge) (places : List (List (List Edge))) (files : List ℕ) → notes.edges ≡ kept edges
     → nat_lt MAX_CHOICES notes.choices ≡ nat_lt MAX_CHOICES (choice_count places) → Gives result (tool_asked tool count notes edges places files)
+
+-- a call gives the request of diycross7 from these notes, whatever the places whose choices they count
+abbrev pub GivesCross : ℕ → Notes → Result Request Usage → Type 0
+GivesCross count notes result =
+    (places : List (List (List Edge))) → nat_lt MAX_CHOICES notes.choices ≡ nat_lt MAX_CHOICES (choice_count places)
+    → Gives result (asks AsksCross (cross_asked count notes places))
 
 -- the word at a place is no option that takes a value
 abbrev pub IsPlain : Tool → List (List ℕ) → ℕ → Type 0

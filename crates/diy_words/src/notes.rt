@@ -58,7 +58,7 @@ pub struct Notes<'a> {
 }
 
 impl<'a> Notes<'a> {
-    ghost use Rattle.diy_words.specs.Given.{code_notes, notes_after, notes_left};
+    ghost use Rattle.diy_words.specs.Given.{code_notes, notes_after, notes_left, notes_valued};
     ghost use Rattle.diy_words.specs.Notes.{no_notes};
 
     pub fn new() -> Notes<'a>
@@ -98,7 +98,7 @@ impl<'a> Notes<'a> {
         value: &'a str,
     ) -> Result<(), Usage>
         requires { at + 1 < 2 ^ 64 }
-        ensures { notes_left result (code_notes self.new) ≡ notes_after (code_notes self.old) (said_by tool (code_notes self.old) (Valued option at value.now)) }
+        ensures { notes_left result (code_notes self.new) ≡ notes_valued tool (code_notes self.old) option at value.now }
     {
         let _tool = tool;
         match option {

@@ -1,12 +1,11 @@
-ghost use Rattle.std.specs.Prelude.{◌≡◌, ◌<◌, ◌+◌, ◌^◌, ℕ, List, length, nat_lt, IfOk};
+ghost use Rattle.std.specs.Prelude.{◌≡◌, ◌<◌, ◌+◌, ◌^◌, ℕ, List, length, IfOk};
 ghost use Rattle.relax_edges.specs.declared.edge.Edge.{Edge};
 ghost use Rattle.edge_lists.specs.Kept.{kept};
-ghost use Rattle.diy_words.specs.declared.request.TheConstants.{MAX_CHOICES};
 ghost use Rattle.diy_words.specs.declared.usage.UsageKind.TheVariants.{MissingArch};
 ghost use Rattle.diy_words.specs.Notes.{no_notes};
 ghost use Rattle.diy_words.specs.Sayings.{said_all};
-ghost use Rattle.diy_words.specs.Requests.{asked_of, said_asked, asks, AsksTest, AsksWhy, AsksName, AsksList, AsksFamilies, AsksCross, AsksDemo, AsksCheck, test_asked, why_asked, diyone_asked, norm_asked, diy_asked, cross_asked, families_with, demo_with, check_with, choice_count};
-ghost use Rattle.diy_words.specs.Given.{Gives, HasForm, WithinWords, Steps, GivesAtEnd, IsPlain, IsOption, code_notes, sayings_from};
+ghost use Rattle.diy_words.specs.Requests.{asked_of, said_asked, asks, AsksTest, AsksWhy, AsksName, AsksList, AsksFamilies, AsksDemo, AsksCheck, test_asked, why_asked, diyone_asked, norm_asked, diy_asked, families_with, demo_with, check_with};
+ghost use Rattle.diy_words.specs.Given.{Gives, HasForm, WithinWords, Steps, GivesAtEnd, GivesCross, IsPlain, IsOption, code_notes, sayings_from};
 
 use crate::notes::{Notes, missing_value};
 use crate::options::{OptionName, Tool, option_named, tool_named};
@@ -218,7 +217,7 @@ fn finish_families(count: usize, notes: Notes<'_>) -> Result<Request<'_>, Usage>
 }
 
 fn finish_cross(count: usize, notes: Notes<'_>) -> Result<Request<'_>, Usage>
-    ensures { (places : List (List (List Edge))) → nat_lt MAX_CHOICES notes.entry.choices ≡ nat_lt MAX_CHOICES (choice_count places) → Gives result (asks AsksCross (cross_asked count (code_notes notes.entry) places)) }
+    ensures { GivesCross count (code_notes notes.entry) result }
 {
     let Some(arch) = notes.arch else {
         return Err(missing_arch(count));

@@ -1,5 +1,5 @@
 -- A log may come in any pieces.
-use Rattle.std.proofs.Common.{◌≡◌, ◌==◌, ℕ, List, [], ◌∷◌, ◌++◌, true, false, refl, sym, ap, ◌∙◌, append-nil}
+use Rattle.std.proofs.Common.{◌≡◌, ℕ, List, [], ◌∷◌, ◌++◌, true, false, refl, sym, ap, ◌∙◌, append-nil}
 use Rattle.std.specs.Prelude.{Bool, not, cond, map, Result, Ok, Err, filter, fold}
 use Rattle.std.specs.List.{slice_split, list_any, list_all}
 use Rattle.std.specs.Str.{bytes_eq}
