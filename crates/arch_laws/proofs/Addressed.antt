@@ -14,16 +14,16 @@ use Rattle.micro_ops.specs.declared.operation.Barrier.{Barrier}
 use Rattle.micro_ops.specs.declared.operation.Barrier.TheVariants as barriers
 use Rattle.micro_ops.specs.Machine.{num, bit}
 use Rattle.micro_ops.specs.Running.{Run, At, go, exec, labels_of, lands}
-use Rattle.micro_ops.proofs.Rules.{holding, after_barrier, run_barrier}
-use Rattle.micro_ops.proofs.Laws.{exec_append}
+use Rattle.arch_laws.proofs.Rules.{holding, after_barrier, run_barrier}
+use Rattle.arch_laws.proofs.MachineLaws.{exec_append}
 use Rattle.arch_trait.specs.declared.link.Link.{Link}
 use Rattle.arch_trait.specs.declared.link.Link.TheVariants as links
 use Rattle.arch_trait.specs.Links.{link_is_of, depends, is_addr, is_data, mask_if, source_if, link_control, link_items}
 use Rattle.arch_trait.specs.Taking.{Taken, took, has_address, address_of, with_address}
 use Rattle.arch_trait.specs.Laws.{HoldsPlaces, HasSource, Did, DidLoad, DidLink, IsWanting, IsTaken, Takes, HasLink, IsUsable, MakesLinks, MakesAccess, MakesLoads, MakesStores, IsArch, link_room, link_labels, is_at}
 use Rattle.arch_trait.specs.Addressed.{Instructions, puts_of, store_op, load_through, store_through, branch_code, link_code, load_on, filled_on, store_on}
-use Rattle.arch_trait.proofs.Taking.{takes_address, address_there}
-use Rattle.arch_trait.proofs.Accesses.{Writes, IsSpare, writes_none, writes_more, written_same, spare_with, address_is, address_below, did_load, did_store, did_nothing, on_source, xor_runs, written_other, addr_depends, data_depends, addr_no_data, address_next, fresh_counts}
+use Rattle.arch_laws.proofs.TakingLaws.{takes_address, address_there, address_next}
+use Rattle.arch_laws.proofs.Accesses.{Writes, IsSpare, writes_none, writes_more, written_same, spare_with, address_is, address_below, did_load, did_store, did_nothing, on_source, xor_runs, written_other, addr_depends, data_depends, addr_no_data, fresh_counts}
 use Rattle.arch_laws.proofs.AddressedInstructions.{IsBut, KeepsInstructions, both_short, imm_short, load_op_has, load_op_runs, load_op_short, load_op_wants, load_through_has, load_through_runs, load_through_short, load_through_wants, store_op_has, store_op_runs, store_through_has, store_through_runs, store_through_short}
 
 -- registers of which one more was changed

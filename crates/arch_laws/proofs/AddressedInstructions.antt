@@ -17,13 +17,13 @@ use Rattle.micro_ops.specs.declared.operation.Micro.TheVariants as ops
 use Rattle.micro_ops.specs.declared.operation.Barrier.TheVariants as barriers
 use Rattle.micro_ops.specs.Machine.{num, address, at_place, bit}
 use Rattle.micro_ops.specs.Running.{Run, At, Wants, go, exec, labels_of, lands}
-use Rattle.micro_ops.proofs.Rules.{holding, after_load, after_store, run_load, run_load_wants, run_load_acquire, run_load_acquire_wants, run_store, run_store_release, run_add_to_address}
-use Rattle.micro_ops.proofs.Laws.{labels_append, lands_append}
+use Rattle.arch_laws.proofs.Rules.{holding, after_load, after_store, run_load, run_load_wants, run_load_acquire, run_load_acquire_wants, run_store, run_store_release, run_add_to_address}
+use Rattle.arch_laws.proofs.MachineLaws.{labels_append, lands_append}
 use Rattle.arch_trait.specs.declared.link.Link.TheVariants as links
 use Rattle.arch_trait.specs.Links.{link_is_of}
 use Rattle.arch_trait.specs.Laws.{DidLink, IsWanting, is_at}
 use Rattle.arch_trait.specs.Addressed.{Instructions, load_op, store_op, load_through, store_through}
-use Rattle.arch_trait.proofs.Accesses.{written_same, written_other}
+use Rattle.arch_laws.proofs.Accesses.{written_same, written_other}
 
 -- two runs differ in one register alone
 pub record IsBut (d : ℕ) (r u : Run) : Type 0 where

@@ -12,13 +12,12 @@ use Rattle.std.proofs.lemmas.Slice.Eq.{bytes_eq-Decides}
 use Rattle.list_laws.proofs.Elements.{list_all-weaker}
 use Rattle.list_laws.proofs.Cases.{by_test}
 use Rattle.text_laws.specs.Names.{is_register_name}
-use Rattle.final_cond.proofs.BackLaws.{digits_of}
 use Rattle.arch_trait.specs.declared.numbered.Numbered.{Numbered}
 use Rattle.arch_trait.specs.Cells.{is_cell_byte}
 use Rattle.arch_trait.specs.Forms.{register_name, register_names}
 use Rattle.arch_trait.specs.Writing.{name_in, is_plain, is_label_name, label_name, label_word}
-use Rattle.arch_trait.proofs.Spelling.{is_word_byte}
-use Rattle.arch_trait.proofs.PlainTexts.{three_digits}
+use Rattle.arch_trait.specs.WordBytes.{is_word_byte}
+use Rattle.list_laws.proofs.Digits.{three_digits, digits_of}
 
 -- numbered registers: a letter, and numbers of at most three digits
 pub record IsNumbered (n : Numbered) : Type 0 where

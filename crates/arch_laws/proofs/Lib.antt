@@ -6,3 +6,12 @@ pub mod AddressedInstructions
 pub mod Addressed
 pub mod AddressedOnce
 pub mod FormBacks
+pub mod Masks
+pub mod Rules
+pub mod RunsRenumbered
+pub mod Accesses
+pub mod CodeLaws
+pub mod NameLaws
+pub mod TakingLaws
+pub mod SpellingLaws
+pub mod MachineLaws

@@ -10,7 +10,7 @@ use Rattle.micro_ops.specs.declared.operation.Micro.TheVariants as ops
 use Rattle.micro_ops.specs.declared.operation.Micro.{Micro}
 use Rattle.micro_ops.specs.Running.{runs, Ended}
 use Rattle.micro_ops.specs.Renumbering.{op_at, value_at, item_at}
-use Rattle.micro_ops.proofs.Renumbered.{init_at, outcome_at, runs_at}
+use Rattle.arch_laws.proofs.RunsRenumbered.{init_at, outcome_at, runs_at}
 use Rattle.arch_trait.specs.declared.step.Step.{Step}
 use Rattle.arch_trait.specs.declared.link.Link.{Link}
 use Rattle.arch_trait.specs.declared.link.Link.TheVariants as links

@@ -5,8 +5,6 @@ pub mod Shapes
 pub mod Whole
 pub mod Tables
 pub mod Compiling
-pub mod Accesses
 pub mod Spelling
 pub mod Commas
 pub mod PlainTexts
-pub mod Edges

@@ -5,24 +5,20 @@ use Rattle.std.specs.Fmt.{decimal}
 use Rattle.std.specs.List.{list_all}
 use Rattle.std.proofs.lemmas.Bool.{and_parts, and_from, le-leb}
 use Rattle.std.proofs.lemmas.Bool.Decides.{nat_tests}
-use Rattle.std.proofs.lemmas.Fmt.{digits_decimal, length-decimal-le}
+use Rattle.std.proofs.lemmas.Fmt.{digits_decimal}
 use Rattle.list_laws.proofs.Digits.{digits_model}
 use Rattle.list_laws.proofs.Elements.{list_all-weaker}
 use Rattle.text_laws.specs.Names.{is_place_name, is_place_byte, begins_place}
 use Rattle.text_laws.proofs.NumberLaws.{number_of-decimal}
 use Rattle.micro_ops.specs.declared.operation.Micro.TheVariants as ops
 use Rattle.arch_trait.specs.Writing.{immediate, at_most, label, label_name, label_word, label_raw}
-use Rattle.arch_trait.proofs.Spelling.{is_word_byte}
+use Rattle.arch_trait.specs.WordBytes.{is_word_byte}
 
 -- an immediate is read from its decimal
 pub immediate_back : (n : ℕ) → n ≤ 2047 → immediate (decimal n) ≡ Some n
 unfolding immediate
 immediate_back n h =
     ap (at_most 2047) (number_of-decimal n (omega arith)) ∙ rw (le-leb n 2047 h) refl
-
--- a number below 1000 has at most three digits
-pub three_digits : (n : ℕ) → n < 1000 → length (decimal n) ≤ 3
-three_digits n h = length-decimal-le 3 n (omega arith) (omega arith) (omega arith)
 
 -- bytes of names and of numbers are neither blanks nor commas
 place_word_byte : (b : ℕ) → is_place_byte b ≡ true → is_word_byte b ≡ true

@@ -1,5 +1,5 @@
 -- The text of an instruction reads back as its first word and its operands.
-use Rattle.std.proofs.Common.{ℕ, ◌≡◌, ◌==◌, refl, Bool, true, false, not, ◌&&◌, List, [], ◌∷◌, ◌++◌, Some, map, ◌∙◌, sym, ap, append-nil, append_assoc}
+use Rattle.std.proofs.Common.{ℕ, ◌≡◌, ◌==◌, refl, true, false, not, ◌&&◌, List, [], ◌∷◌, ◌++◌, Some, map, ◌∙◌, sym, ap, append-nil, append_assoc}
 use Rattle.std.proofs.lemmas.Bool.{and_parts, not-true}
 use Rattle.std.specs.List.{list_all, slice_split, onto_first}
 use Rattle.text_laws.specs.Blanks.{is_blank, unblanked, kept_before, before_blanks, trim_blanks, is_inked}
@@ -8,10 +8,7 @@ use Rattle.micro_ops.specs.declared.operation.Micro.{Micro}
 use Rattle.arch_trait.specs.Threads.{Puts}
 use Rattle.arch_trait.specs.Writing.{OperandTexts, none, one, two, three, four, more, Written, Writing, WritesBack, listed, text_of, op_text, is_plain, all_plain, raw_of, name_of, is_named, with_number}
 use Rattle.arch_trait.specs.Reading.{few, operands_if, operands_in, written_in, numbered, number_raw, instr_read}
-
--- a byte of a word: no blank and no comma
-abbrev pub is_word_byte : ℕ → Bool
-is_word_byte x = not (is_blank x) && not (x == 44)
+use Rattle.arch_trait.specs.WordBytes.{is_word_byte}
 
 pub record IsByte (b : ℕ) : Type 0 where
   pub inked : is_inked b ≡ true

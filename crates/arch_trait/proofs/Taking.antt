@@ -227,3 +227,7 @@ pub address_there : (h : Taken) (p : ℕ) → has_address (with_address h p) p �
 address_there h p = by_option (address_in h.links p)
     (λ a e. rw e (ap is_some e))
     (λ e. rw e (ap is_some (address_added h.links h.next p p e) ∙ rw (eq-eqb p p refl) refl))
+
+-- an address register takes one more register where the place has none
+pub address_next : (i : Taken) (p : ℕ) → (with_address i p).next ≡ i.next + cond (has_address i p) 0 1
+address_next i p = by_option (address_in i.links p) (λ a e. rw e (omega arith)) (λ e. rw e refl)

@@ -15,3 +15,4 @@ pub mod LabelOrder
 pub mod Addressed
 pub mod Forms
 pub mod Tests
+pub mod WordBytes

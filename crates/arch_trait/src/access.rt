@@ -34,7 +34,7 @@ pub struct DependentAccess {
 
 impl Regs {
     /// Takes the registers of an access of the place without an address dependency, in their order.
-    #[tactic(auto, using(crate::proofs::Accesses::address_next))]
+    #[tactic(auto, using(crate::proofs::Taking::address_next))]
     pub fn take_plain(&mut self, place: u8) -> PlainAccess
         requires { (with_address (took self.old 1) place).next ≤ self.old.count }
         ensures value { result.value ≡ self.old.next }
@@ -47,7 +47,7 @@ impl Regs {
     }
 
     /// Takes the registers of an access of the place whose address depends on a load, in their order.
-    #[tactic(auto, using(crate::proofs::Accesses::address_next))]
+    #[tactic(auto, using(crate::proofs::Taking::address_next))]
     pub fn take_dependent(&mut self, place: u8) -> DependentAccess
         requires { (with_address (took self.old 2) place).next ≤ self.old.count }
         ensures dependency { result.dependency ≡ self.old.next }

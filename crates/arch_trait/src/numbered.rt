@@ -15,7 +15,7 @@ pub struct Numbered {
 
 impl Numbered {
     /// Appends the name of a register.
-    #[tactic(auto, using(crate::proofs::PlainTexts::three_digits))]
+    #[tactic(auto, using(list_laws::proofs::Digits::three_digits))]
     pub fn push<const N: usize>(self, r: u8, out: &mut ArrayString<N>)
         requires ascii { self.letter < 128 }
         requires room { length out.old.bytes + 4 ≤ N }

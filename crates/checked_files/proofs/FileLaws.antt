@@ -17,7 +17,7 @@ use Rattle.test_files.specs.declared.errors.TestFileError.{TestFileError}
 use Rattle.test_files.specs.declared.errors.TestFileKind.{TestFileKind}
 use Rattle.test_files.specs.declared.errors.TestFileKind.TheVariants as tests
 use Rattle.test_files.specs.FilesRead.{FileRead, FileFaulty}
-use Rattle.test_files.proofs.FileLaws.{is_fault}
+use Rattle.file_laws.proofs.FaultLaws.{is_fault}
 use Rattle.test_files.specs.FirstBytes.{file_is, file_unclosed, file_faulty, tests_by_first_bytes}
 use Rattle.test_files.specs.TestSaid.{SaysInMemory, test_said}
 use Rattle.checked_files.specs.declared.errors.CheckFault.{CheckFault}

@@ -5,7 +5,7 @@ use Rattle.diy_io.specs.Shelf.{ShelfSeen}
 use Rattle.diy_io.specs.declared.errors.Failed.{Failed}
 use Rattle.relax_edges.specs.declared.edge.Edge.{Edge}
 use Rattle.test_files.specs.FilesRead.{FileRead}
-use Rattle.test_files.proofs.FileLaws.{is_fault}
+use Rattle.file_laws.proofs.FaultLaws.{is_fault}
 use Rattle.test_files.specs.FirstBytes.{file_is, file_unclosed, file_faulty}
 use Rattle.classified_files.specs.declared.errors.CycleFault.{CycleFault}
 use Rattle.classified_files.specs.declared.errors.CycleFault.TheVariants.{Device, Text}

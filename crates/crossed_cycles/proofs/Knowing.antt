@@ -8,7 +8,7 @@ use Rattle.std.specs.Cmp.{both_ways}
 use Rattle.indexmap.specs.IndexSet.{insert_key}
 use Rattle.relax_edges.specs.declared.edge.Edge.{Edge}
 use Rattle.relax_edges.specs.Order.{rank_of}
-use Rattle.relax_edges.proofs.Ranks.{rank_injective}
+use Rattle.cycle_laws.proofs.RankLaws.{rank_injective}
 use Rattle.cycle_laws.specs.Rotation.{IsRotation}
 use Rattle.cycle_laws.proofs.Rotating.{least_same, same_least, rotation_length}
 use Rattle.crossed_cycles.specs.declared.normal_form.NormalForm.{NormalForm}

@@ -4,7 +4,7 @@ use Rattle.std.specs.Prelude.{IsTrue}
 use Rattle.std.proofs.lemmas.Slice.Eq.{slice_eq-Decides}
 use Rattle.relax_edges.specs.declared.edge.Edge.{Edge}
 use Rattle.relax_edges.specs.Relaxations.{is_same}
-use Rattle.relax_edges.proofs.Ranks.{rank_decides}
+use Rattle.cycle_laws.proofs.RankLaws.{rank_decides}
 use Rattle.list_laws.proofs.Finds.{any_upto, any_upto_passing}
 use Rattle.cycle_laws.specs.Rotation.{IsRotation, rotated}
 use Rattle.cycle_laws.proofs.Rotating.{rotation_on, rotation_of_place, place_of_rotation}

@@ -4,7 +4,7 @@ use Rattle.std.proofs.lemmas.Bool.{cases_lt}
 use Rattle.relax_edges.specs.declared.order.TheConstants.{EDGES}
 use Rattle.relax_edges.specs.declared.edge.Edge.{Edge}
 use Rattle.relax_edges.specs.Order.{rank_of}
-use Rattle.relax_edges.proofs.Ranks.{rank_below, rank_injective}
+use Rattle.cycle_laws.proofs.RankLaws.{rank_below, rank_injective}
 use Rattle.cycle_laws.specs.Composable.{last_joins}
 use Rattle.walk_laws.specs.Search.{IsCandidate, IsNextEdge, NoneBetween, OccursIn}
 use Rattle.walk_laws.proofs.Candidates.{unused_nowhere, unjoined_next, none_smaller}

@@ -55,7 +55,7 @@ impl Alphabet {
 
     /// Passes over the list and all that begin with it: goes on to the first list in order after
     /// these whose last edge may follow the others. The list is empty where there is none.
-    #[tactic(auto, using(relax_edges::proofs::Ranks::rank_below))]
+    #[tactic(auto, using(cycle_laws::proofs::RankLaws::rank_below))]
     pub(crate) fn raise(&self, list: &mut Prefix)
         ensures { IsRaised (IsCandidate self.now) list.old list.new }
     {

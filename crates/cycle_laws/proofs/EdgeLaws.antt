@@ -5,7 +5,7 @@ use Rattle.relax_edges.specs.declared.kinds.Kind.{Kind}
 use Rattle.relax_edges.specs.declared.kinds.Mark.{Mark}
 use Rattle.relax_edges.specs.declared.edge.Edge.{Edge}
 use Rattle.relax_edges.specs.EdgeTable.{marked_edge}
-use Rattle.relax_edges.proofs.Spellings.{edge_of-word_of, edge_of-spelling, edge_of-sound, word_injective}
+use Rattle.cycle_laws.proofs.SpellingLaws.{edge_of-word_of, edge_of-spelling, edge_of-sound, word_injective}
 use Rattle.cycle_laws.specs.EdgeLaws.{WordsDecide, HasParts, PartsDecide}
 use Rattle.cycle_laws.proofs.Marks.{marked_edge_is, marked_edge_of, source_mark_fits, target_mark_fits}
 

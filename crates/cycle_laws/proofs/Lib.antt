@@ -8,3 +8,5 @@ pub mod Neighbours
 pub mod Ordering
 pub mod Places
 pub mod Rotating
+pub mod RankLaws
+pub mod SpellingLaws

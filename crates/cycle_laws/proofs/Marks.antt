@@ -18,9 +18,8 @@ use Rattle.relax_edges.specs.EdgeTable.{kind_of, source_of, target_of, kind_sour
 use Rattle.relax_edges.specs.Order.{rank_of}
 use Rattle.relax_edges.specs.AllEdges.{edges_in_order}
 use Rattle.relax_edges.specs.Reading.{marks_read}
-use Rattle.relax_edges.proofs.Ranks.{each_edge, rank_injective}
-use Rattle.relax_edges.proofs.KindSpellings.{each_kind, kind_of_unmarked}
-use Rattle.relax_edges.proofs.Spellings.{each_mark}
+use Rattle.cycle_laws.proofs.RankLaws.{each_edge, rank_injective}
+use Rattle.cycle_laws.proofs.SpellingLaws.{each_mark, each_kind, kind_of_unmarked}
 use Rattle.cycle_laws.proofs.Joining.{same_mark_is}
 
 -- a plain access may read or write

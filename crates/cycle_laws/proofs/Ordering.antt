@@ -3,7 +3,7 @@ use Rattle.std.proofs.Common.{◌≡◌, ◌<◌, ◌⊎◌, inl, inr, true, ◌
 use Rattle.std.proofs.lemmas.Bool.{cases_order, or_cases, and_parts, or_left, or_right, ltb-true, lt-ltb, eqb-true, eq-eqb}
 use Rattle.relax_edges.specs.declared.edge.Edge.{Edge}
 use Rattle.relax_edges.specs.Order.{rank_of}
-use Rattle.relax_edges.proofs.Ranks.{rank_injective}
+use Rattle.cycle_laws.proofs.RankLaws.{rank_injective}
 use Rattle.cycle_laws.specs.Order.{Above, ranks_below, Follows}
 
 -- a list is not above itself

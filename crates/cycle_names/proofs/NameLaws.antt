@@ -13,7 +13,7 @@ use Rattle.relax_edges.specs.declared.kinds.ArchName.{ArchName}
 use Rattle.relax_edges.specs.declared.edge.Edge.{Edge}
 use Rattle.relax_edges.specs.EdgeTable.{is_diff, is_of_arch}
 use Rattle.relax_edges.specs.Words.{word_of}
-use Rattle.relax_edges.proofs.WordBounds.{word_short}
+use Rattle.cycle_laws.proofs.SpellingLaws.{word_short}
 use Rattle.cycle_laws.specs.Composable.{IsCycle}
 use Rattle.cycle_laws.specs.Rotation.{IsRotation}
 use Rattle.cycle_laws.proofs.Laws.{cycle_of_rotation}

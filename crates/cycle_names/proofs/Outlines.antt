@@ -13,7 +13,7 @@ use Rattle.relax_edges.specs.declared.edge.Edge.{Edge}
 use Rattle.relax_edges.specs.EdgeTable.{is_diff}
 use Rattle.relax_edges.specs.Order.{rank_of}
 use Rattle.relax_edges.specs.Relaxations.{is_same}
-use Rattle.relax_edges.proofs.Ranks.{rank_injective}
+use Rattle.cycle_laws.proofs.RankLaws.{rank_injective}
 use Rattle.cycle_laws.specs.Order.{ranks_below}
 use Rattle.cycle_names.specs.declared.family.Family.{Family}
 use Rattle.cycle_names.specs.Families.{family_edges}

@@ -12,7 +12,7 @@ use Rattle.relax_edges.specs.Relaxations.{is_same}
 use Rattle.cycle_laws.specs.Composable.{IsCycle}
 use Rattle.cycle_laws.specs.Rotation.{rotated}
 use Rattle.cycle_laws.specs.Order.{ranks_below}
-use Rattle.edge_algebra.proofs.Windows.{window}
+use Rattle.cycle_laws.proofs.Rotating.{window}
 use Rattle.cycle_names.specs.declared.slot.Slot.{Slot}
 use Rattle.cycle_names.specs.declared.family.Family.{Family}
 use Rattle.cycle_names.specs.Families.{family_edges, all_families}

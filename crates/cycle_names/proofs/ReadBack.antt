@@ -13,8 +13,8 @@ use Rattle.relax_edges.specs.declared.edge.Edge.{Edge}
 use Rattle.relax_edges.specs.EdgeTable.{is_diff}
 use Rattle.relax_edges.specs.Words.{word_of}
 use Rattle.relax_edges.specs.Spelling.{edge_of}
-use Rattle.relax_edges.proofs.Spellings.{edge_of-word_of}
-use Rattle.relax_edges.proofs.RelaxWords.{before_first-no}
+use Rattle.cycle_laws.proofs.SpellingLaws.{edge_of-word_of}
+use Rattle.list_laws.proofs.Places.{before_first-no}
 use Rattle.cycle_laws.specs.Composable.{IsCycle}
 use Rattle.cycle_laws.proofs.Laws.{cycle_of_rotation}
 use Rattle.cycle_laws.proofs.Rotating.{rotation_length}

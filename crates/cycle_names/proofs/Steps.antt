@@ -19,8 +19,8 @@ use Rattle.relax_edges.specs.EdgeTable.{source_of, target_of, target_mark, is_di
 use Rattle.relax_edges.specs.Order.{rank_of}
 use Rattle.relax_edges.specs.Spelling.{edge_of}
 use Rattle.relax_edges.specs.AllEdges.{edges_in_order}
-use Rattle.relax_edges.proofs.Ranks.{rank_injective, rank_below}
-use Rattle.relax_edges.proofs.RelaxWords.{position_or_len-no}
+use Rattle.cycle_laws.proofs.RankLaws.{rank_injective, rank_below}
+use Rattle.list_laws.proofs.Places.{position_or_len-no}
 use Rattle.cycle_names.specs.Links.{link_word}
 use Rattle.cycle_names.specs.Reading.{is_dash, is_link, link_between, link_with, first_mark, marked_between, marked_along, before, first_word, after_word, filled_each, edges_spelled, Adds}
 use Rattle.cycle_names.proofs.Tables.{link_found_back}

@@ -19,7 +19,7 @@ use Rattle.relax_edges.specs.EdgeTable.{kind_of, source_of, target_of, source_ma
 use Rattle.relax_edges.specs.Order.{rank_of}
 use Rattle.relax_edges.specs.Words.{word_of}
 use Rattle.relax_edges.specs.AllEdges.{edges_in_order}
-use Rattle.relax_edges.proofs.Ranks.{each_edge, rank_injective}
+use Rattle.cycle_laws.proofs.RankLaws.{each_edge, rank_injective}
 use Rattle.cycle_names.specs.declared.slot.Slot.{Slot}
 use Rattle.cycle_names.specs.declared.slot.Slot.TheVariants as slots
 use Rattle.cycle_names.specs.Links.{slot_of, fence_link, dependency_link, mark_letters, kind_link, link_word}

@@ -15,7 +15,7 @@ use Rattle.relax_edges.specs.declared.order.TheConstants.{EDGES}
 use Rattle.relax_edges.specs.declared.edge.Edge.{Edge}
 use Rattle.relax_edges.specs.AllEdges.{edges_in_order}
 use Rattle.relax_edges.specs.Order.{rank_of}
-use Rattle.relax_edges.proofs.Ranks.{placed, edges-length}
+use Rattle.cycle_laws.proofs.RankLaws.{placed, edges-length}
 use Rattle.family_laws.specs.Filled.{is_choice}
 use Rattle.demo_tests.specs.Filled.{choices_of}
 

@@ -7,7 +7,7 @@ use Rattle.std.proofs.lemmas.List.{take_all, length-take-le}
 use Rattle.diy_io.specs.declared.errors.Failed.{Failed}
 use Rattle.diy_io.specs.declared.page.TheConstants.{PAGE_ROOM}
 use Rattle.diy_io.specs.Page.{put_within, page_after, SentAll, Sends}
-use Rattle.diy_io.specs.PageLaws.{page_fits, sent_nothing, sent_put, sent_flushed, sent_both, sent_part, sent_part_more, sends_then, sends_same}
+use Rattle.diy_io.specs.PageLaws.{page_fits, sent_put, sent_flushed, sent_both, sent_part, sent_part_more, sends_then, sends_same}
 use Rattle.diy_io.specs.Pieces.{joined_text}
 use Rattle.diy_io.specs.Wrote.{SinkSeen, WroteAll, WrotePart, Wrote}
 use Rattle.diy_io.proofs.PiecesLemmas.{joined_text_more, joined_text_at}
@@ -79,10 +79,6 @@ past_page a b held kept text (Ok _) e f w = record {
   failed = tt;
 }
 past_page a b held kept text (Err _) e f w = record { ok = tt; failed = subst (λ t. WrotePart a b (t ++ text)) (sym e) w.failed }
-
--- a page that keeps what it holds
-pub not_spilled : (a : SinkSeen) (held : List ℕ) (u : Unit {0}) → Sends a held a held [] (Ok u)
-not_spilled a held u = record { ok = sent_nothing a held; failed = tt }
 
 -- a page that was handed on
 pub spilled : (a b : SinkSeen) (held kept : List ℕ) (result : Answer) → Wrote a b held result → OnOk result (kept ≡ []) → Sends a held b kept [] result

@@ -135,3 +135,7 @@ pub unsent_wrote : (Q : Failed → Type 0) (a b : SinkSeen) (kept text : List �
     → Sends a [] b kept text (Err e) → IsErrAnd result Q → Wrote a b text result
 unsent_wrote Q a b kept text e (Ok _) h is_err = absurd is_err
 unsent_wrote Q a b kept text e (Err _) h is_err = record { ok = tt; failed = h.failed }
+
+-- a page that keeps what it holds
+pub not_spilled : (a : SinkSeen) (held : List ℕ) (u : Unit {0}) → Sends a held a held [] (Ok u)
+not_spilled a held u = record { ok = sent_nothing a held; failed = tt }

@@ -1,19 +1,12 @@
 -- Each rotation of a list is a part of the list repeated twice, and the least is found among those from each place.
 use Rattle.std.proofs.Common.{◌≡◌, ◌<◌, ◌≤◌, ℕ, ◌+◌, ◌-◌, true, false, List, ◌++◌, length, take, drop, map, refl, sym, ◌∙◌, ap, arith, below_more}
-use Rattle.std.proofs.lemmas.List.{append-nil, drop-append-le, length-drop, length-map, map-append, drop-map, take-map}
-use Rattle.std.proofs.Math.Seq.{take-append-add}
+use Rattle.std.proofs.lemmas.List.{append-nil, length-map, map-append, drop-map, take-map}
 use Rattle.relax_edges.specs.declared.edge.Edge.{Edge}
 use Rattle.relax_edges.specs.Order.{rank_of}
 use Rattle.cycle_laws.specs.Rotation.{rotated}
 use Rattle.cycle_laws.specs.Order.{Above, IsNormal, ranks_below}
-use Rattle.cycle_laws.proofs.Rotating.{rotation_of_place}
+use Rattle.cycle_laws.proofs.Rotating.{rotation_of_place, window}
 use Rattle.cycle_laws.proofs.Ordering.{above_irreflexive, above_transitive, above_of_ranks, ranks_of_above}
-
--- the part from place k of a list repeated twice, as long as the list, is the rotation from k
-pub window : {A : Type 0} (k : ℕ) (u : List A) → k ≤ length u → take (length u) (drop k (u ++ u)) ≡ rotated k u
-window k u h =
-    let rest : length u ≡ length (drop k u) + k = omega (arith, length-drop k u) in
-    rw (drop-append-le k u u h) (ap (λ n. take n (drop k u ++ u)) rest ∙ take-append-add (drop k u) u k)
 
 -- the ranks of a rotation are the rotation of the ranks
 pub ranks_rotated : (k : ℕ) (u : List Edge) → map rank_of (rotated k u) ≡ rotated k (map rank_of u)

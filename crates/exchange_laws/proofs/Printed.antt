@@ -17,7 +17,7 @@ use Rattle.litmus_text.specs.Mentioned.{ReadsBack}
 use Rattle.litmus_text.specs.Reread.{reread}
 use Rattle.litmus_text.specs.TestReading.{TestRead}
 use Rattle.litmus_text.specs.TestText.{test_text}
-use Rattle.litmus_text.proofs.MentionedBack.{reads_back}
+use Rattle.printed_test_laws.proofs.BackLaws.{reads_back}
 use Rattle.program_meaning.specs.Executions.{Execution}
 use Rattle.program_meaning.specs.Programs.{Program}
 use Rattle.program_meaning.specs.Intended.{intended, location_numbered}

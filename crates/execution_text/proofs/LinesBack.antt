@@ -14,7 +14,8 @@ use Rattle.text_laws.specs.Words.{is_nil, words}
 use Rattle.text_laws.specs.Lines.{without_return}
 use Rattle.litmus_text.specs.TestText.{ended}
 use Rattle.text_laws.specs.Cuts.{CutParts}
-use Rattle.litmus_text.proofs.CutBack.{all_both, bytes_same, without_class}
+use Rattle.text_laws.proofs.OrderLaws.{bytes_same}
+use Rattle.text_laws.proofs.CutLaws.{all_both, without_class}
 use Rattle.execution_text.specs.declared.errors.ExecKind.{ExecKind}
 use Rattle.execution_text.specs.ExecutionText.{all_named, line_read, lines_of}
 use Rattle.execution_text.specs.Written.{line_of}

@@ -18,8 +18,7 @@ use Rattle.text_laws.proofs.NumberLaws.{number_of-decimal}
 use Rattle.text_laws.specs.Cuts.{cut_at}
 use Rattle.text_laws.specs.Words.{is_nil}
 use Rattle.litmus_text.specs.declared.limits.TheConstants.{MAX_TEXT, MAX_ACCESSES}
-use Rattle.litmus_text.proofs.CutBack.{all_both, without_class}
-use Rattle.text_laws.proofs.CutLaws.{cut_back, cut_none}
+use Rattle.text_laws.proofs.CutLaws.{cut_back, cut_none, all_both, without_class}
 use Rattle.program_meaning.specs.declared.WriteAt.{WriteAt}
 use Rattle.execution_text.specs.ExecutionText.{access_in, access_named, kept_below, number_below, place_head, read_in, read_named, source_named, thread_head}
 use Rattle.execution_text.specs.Written.{access_word, read_word, source_word}

@@ -1,2 +1,3 @@
 pub mod OpenedLaws
 pub mod NameLaws
+pub mod FaultLaws

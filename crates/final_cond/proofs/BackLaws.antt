@@ -6,8 +6,7 @@ use Rattle.std.specs.Fmt.{decimal}
 use Rattle.std.specs.List.{AllByRecursion, list_all}
 use Rattle.std.proofs.lemmas.Bool.{and_parts, ltb-true, not-true}
 use Rattle.std.proofs.lemmas.Bool.Decides.{nat_tests}
-use Rattle.std.proofs.lemmas.Fmt.{decimal_nonempty, digits_decimal}
-use Rattle.list_laws.proofs.Digits.{digits_model}
+use Rattle.list_laws.proofs.Digits.{Digits, digits_of}
 use Rattle.final_cond.specs.declared.cond.Quantifier.{Quantifier}
 use Rattle.final_cond.specs.declared.cond.Quantifier.TheVariants.{Exists, NotExists, Forall}
 use Rattle.final_cond.specs.declared.cond.TheConstants.{MAX_TERMS}
@@ -60,15 +59,6 @@ digits_left (byte ∷ digits) rest h n =
     let d : is_ascii_digit byte ≡ true = (and_parts (is_ascii_digit byte) (list_all is_ascii_digit digits) h).0 in
     let b : nat_eq byte 91 ≡ false = grind (arith, nat_tests) in
     rw (b, d) refl
-
--- the digits of a number
-pub record Digits (n : ℕ) : Type 0 where
-  pub all : list_all is_ascii_digit (decimal n) ≡ true
-  pub some : 0 < length (decimal n)
-
--- the digits of a number of 32 bits are digits, and at least one
-pub digits_of : (n : ℕ) → n < 2 ^ 32 → Digits n
-digits_of n h = record { all = digits_decimal digits_model n (omega arith); some = decimal_nonempty n (omega arith) }
 
 register_text : (digits name rest : List ℕ) → ((digits ++ 58 ∷ []) ++ name) ++ rest ≡ digits ++ (58 ∷ (name ++ rest))
 register_text digits name rest = simp append_assoc

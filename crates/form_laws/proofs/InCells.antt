@@ -19,7 +19,7 @@ use Rattle.arch_trait.specs.Threads.{Puts}
 use Rattle.arch_trait.specs.Writing.{OperandTexts, none, one, two, three, four, more, listed, text_of, name_of, is_named}
 use Rattle.arch_laws.proofs.CellTexts.{all_both, place_cell, decimal_cell}
 use Rattle.arch_laws.proofs.FormBacks.{label_cell}
-use Rattle.arch_trait.proofs.PlainTexts.{three_digits}
+use Rattle.list_laws.proofs.Digits.{three_digits}
 use Rattle.form_laws.specs.declared.form.Hole.{Hole}
 use Rattle.form_laws.specs.declared.form.Hole.TheVariants as holes
 use Rattle.form_laws.specs.declared.kind.Operand.{Operand}

@@ -15,14 +15,14 @@ use Rattle.micro_ops.specs.declared.operation.Micro.TheVariants as ops
 use Rattle.micro_ops.specs.declared.operation.Barrier.TheVariants as barriers
 use Rattle.micro_ops.specs.Machine.{num, address, at_place, bit}
 use Rattle.micro_ops.specs.Running.{Run, At, go, exec, labels_of, lands}
-use Rattle.micro_ops.proofs.Masks.{zero_or}
-use Rattle.micro_ops.proofs.Rules.{holding, after_cmp, after_branch, run_add_imm, run_or_imm, run_add_address, run_load, run_load_wants, run_load_index, run_load_index_wants, run_store, run_store_index, run_cmp_branch, run_branch_nz}
+use Rattle.arch_laws.proofs.Masks.{zero_or}
+use Rattle.arch_laws.proofs.Rules.{holding, after_cmp, after_branch, run_add_imm, run_or_imm, run_add_address, run_load, run_load_wants, run_load_index, run_load_index_wants, run_store, run_store_index, run_cmp_branch, run_branch_nz}
 use Rattle.arch_trait.specs.declared.link.Link.TheVariants as links
 use Rattle.arch_trait.specs.Links.{link_is_of}
 use Rattle.arch_trait.specs.Cells.{is_access, accesses_in, MakesOneAccess}
 use Rattle.arch_trait.specs.Laws.{DidLink, IsWanting, IsArch, is_at}
 use Rattle.arch_trait.specs.Addressed.{Instructions, puts_of}
-use Rattle.arch_trait.proofs.Accesses.{written_same, written_other}
+use Rattle.arch_laws.proofs.Accesses.{written_same, written_other}
 use Rattle.arch_laws.proofs.AddressedInstructions.{LoadsBy, StoresBy, IsShort, HasMarked, KeepsInstructions, same_run, but_address}
 use Rattle.arch_laws.proofs.Addressed.{keeps_laws}
 use Rattle.arch_laws.proofs.AddressedOnce.{accesses_once}

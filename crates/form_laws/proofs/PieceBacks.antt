@@ -10,7 +10,7 @@ use Rattle.std.proofs.lemmas.Slice.Eq.{bytes_eq-Decides}
 use Rattle.text_laws.specs.Numbers.{number_of}
 use Rattle.text_laws.proofs.NumberLaws.{number_of-decimal}
 use Rattle.arch_trait.specs.Writing.{register_at, label_name}
-use Rattle.arch_trait.proofs.PlainTexts.{immediate_back}
+use Rattle.arch_laws.proofs.SpellingLaws.{immediate_back}
 use Rattle.form_laws.specs.declared.form.Hole.{Hole}
 use Rattle.form_laws.specs.declared.form.Hole.TheVariants as holes
 use Rattle.form_laws.specs.declared.kind.Operand.{Operand}

@@ -9,14 +9,14 @@ use Rattle.std.proofs.lemmas.Slice.Eq.{bytes_eq-Decides}
 use Rattle.list_laws.proofs.Elements.{list_all-weaker}
 use Rattle.list_laws.proofs.Cases.{by_test}
 use Rattle.text_laws.specs.Names.{is_place_name}
-use Rattle.final_cond.proofs.BackLaws.{digits_of}
+use Rattle.list_laws.proofs.Digits.{digits_of}
 use Rattle.arch_trait.specs.Cells.{is_cell_byte}
 use Rattle.arch_trait.specs.Reading.{few}
 use Rattle.arch_trait.specs.Writing.{is_plain, all_plain, is_label_name, label_name, label_word}
 use Rattle.arch_laws.proofs.CellTexts.{all_both}
 use Rattle.arch_laws.proofs.FormBacks.{label_plain}
-use Rattle.arch_trait.proofs.PlainTexts.{decimal_plain, place_name_plain}
-use Rattle.arch_trait.proofs.Spelling.{is_word_byte}
+use Rattle.arch_laws.proofs.SpellingLaws.{decimal_plain, place_name_plain}
+use Rattle.arch_trait.specs.WordBytes.{is_word_byte}
 use Rattle.form_laws.specs.declared.form.Hole.{Hole}
 use Rattle.form_laws.specs.declared.form.Hole.TheVariants as holes
 use Rattle.form_laws.specs.declared.kind.Operand.{Operand}

@@ -13,7 +13,7 @@ use Rattle.arch_trait.specs.Forms.{label_alone, register_names}
 use Rattle.arch_trait.specs.Threads.{Puts}
 use Rattle.arch_trait.specs.Writing.{WritesBack, Written, none, RawInstr, name_of, is_named, raw_of, is_plain, all_plain, label_word}
 use Rattle.arch_laws.proofs.FormBacks.{IsNumbered, names_count, names_formed, names_once, label_word_plain}
-use Rattle.arch_trait.proofs.PlainTexts.{label_back}
+use Rattle.arch_laws.proofs.SpellingLaws.{label_back}
 use Rattle.form_laws.specs.declared.form.Labels.{Labels}
 use Rattle.form_laws.specs.declared.form.Labels.TheVariants as labels
 use Rattle.form_laws.specs.Kinds.{operands_of}

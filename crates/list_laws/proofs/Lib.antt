@@ -8,3 +8,4 @@ pub mod Totals
 pub mod Parts
 pub mod Elements
 pub mod Digits
+pub mod Places

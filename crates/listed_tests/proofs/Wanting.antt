@@ -18,7 +18,7 @@ use Rattle.arch_trait.specs.Threads.{Puts}
 use Rattle.test_maker.specs.declared.refusal.MakeRefusal.{MakeRefusal}
 use Rattle.test_maker.specs.declared.refusal.MakeRefusal.TheVariants.{NotOfArch, TooFewThreads}
 use Rattle.test_maker.specs.Refusals.{or_else, foreign_edge, resolved_refusal, refusal_of}
-use Rattle.test_maker.proofs.OfArch.{none_foreign}
+use Rattle.list_laws.proofs.Places.{none_foreign}
 use Rattle.diy_io.specs.Shelf.{ShelfSeen}
 use Rattle.listed_tests.specs.Plans.{HaveTests, ends_of_arch, has_few_threads, has_few_accesses, is_sought, is_wanted, may_lead}
 use Rattle.listed_tests.specs.Runs.{HasLongRun}

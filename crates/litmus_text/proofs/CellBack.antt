@@ -13,8 +13,7 @@ use Rattle.arch_trait.specs.Cells.{is_cell_byte}
 use Rattle.text_laws.specs.Cuts.{cut_at}
 use Rattle.text_laws.specs.Words.{is_nil}
 use Rattle.litmus_text.specs.Table.{Column, Among, instr_put, instr_in, instr_or_nothing, cell_read}
-use Rattle.litmus_text.proofs.CutBack.{without_class, all_both}
-use Rattle.text_laws.proofs.CutLaws.{cut_back, cut_none}
+use Rattle.text_laws.proofs.CutLaws.{cut_back, cut_none, all_both, without_class}
 
 -- so many blanks
 abbrev pub blanks : ℕ → List ℕ

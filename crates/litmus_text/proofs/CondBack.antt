@@ -16,7 +16,8 @@ use Rattle.final_cond.specs.Conditions.{LeftSeen, InRegister, AtPlace, TermSeen,
 use Rattle.final_cond.specs.CondText.{quantifier_word, left_text, term_text, further_term_text, terms_text, cond_text}
 use Rattle.final_cond.specs.Reading.{opening_read, left_read, right_read, has_form}
 use Rattle.final_cond.specs.ReadBack.{IsFormedTerm}
-use Rattle.final_cond.proofs.BackLaws.{stops, digits_of, named, place_bytes, left_unblanked, left_back, right_back, term_parts, closing, joining, opening_back}
+use Rattle.final_cond.proofs.BackLaws.{stops, named, place_bytes, left_unblanked, left_back, right_back, term_parts, closing, joining, opening_back}
+use Rattle.list_laws.proofs.Digits.{digits_of}
 use Rattle.arch_trait.specs.Writing.{Writing}
 use Rattle.arch_trait.specs.Cells.{ends_rows, is_line_byte}
 use Rattle.litmus_text.specs.Lines.{Lines, ends, line, ◌>>=◌}
@@ -24,7 +25,7 @@ use Rattle.litmus_text.specs.Joined.{no_text, with_text, all_joined}
 use Rattle.litmus_text.specs.Table.{after_locations}
 use Rattle.litmus_text.specs.Condition.{Setting, Mentioned, TermRead, at_begin, place_put, left_put, line_of_rest, term_here, terms_here, cond_here, condition_read}
 use Rattle.litmus_text.specs.Terms.{left_mention, terms_mention, is_known, TermFits}
-use Rattle.litmus_text.proofs.CutBack.{all_both}
+use Rattle.text_laws.proofs.CutLaws.{all_both}
 use Rattle.litmus_text.proofs.LineBack.{IsLine}
 use Rattle.litmus_text.proofs.HeadBack.{line_is}
 use Rattle.litmus_text.proofs.RowBack.{added_within}

@@ -24,8 +24,8 @@ use Rattle.text_laws.specs.Words.{is_nil, words}
 use Rattle.litmus_text.specs.Header.{header_read, quote_read, is_setting, after_settings, name_in_header, two_words, quote_cut}
 use Rattle.litmus_text.specs.Printable.{is_name_byte, IsTestName}
 use Rattle.litmus_text.specs.TestText.{header_line, edges_line}
-use Rattle.litmus_text.proofs.CutBack.{all_both, without_class, bytes_same}
-use Rattle.text_laws.proofs.CutLaws.{cut_back}
+use Rattle.text_laws.proofs.OrderLaws.{bytes_same}
+use Rattle.text_laws.proofs.CutLaws.{cut_back, all_both, without_class}
 use Rattle.litmus_text.proofs.LineBack.{IsLine}
 
 -- a name byte is one of a line, and no blank

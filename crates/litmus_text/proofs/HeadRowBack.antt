@@ -12,7 +12,7 @@ use Rattle.std.proofs.lemmas.List.{replicate_more}
 use Rattle.list_laws.proofs.Elements.{list_all-weaker}
 use Rattle.text_laws.specs.Blanks.{is_blank, before_blanks, kept_before, trim_blanks}
 use Rattle.text_laws.specs.Runs.{after_run}
-use Rattle.final_cond.proofs.BackLaws.{digits_of}
+use Rattle.list_laws.proofs.Digits.{digits_of}
 use Rattle.arch_trait.specs.Threads.{ThreadCode}
 use Rattle.arch_trait.specs.Writing.{Writing}
 use Rattle.litmus_text.specs.Lines.{Lines, line}
@@ -20,7 +20,8 @@ use Rattle.litmus_text.specs.InitialState.{Begun}
 use Rattle.litmus_text.specs.Table.{Cells, is_head, heads_read, head_read}
 use Rattle.litmus_text.specs.TestText.{column_of, columns_of, width_of, cell_text, row_line}
 use Rattle.litmus_text.specs.Printable.{is_row_byte}
-use Rattle.litmus_text.proofs.CutBack.{all_both, bytes_same}
+use Rattle.text_laws.proofs.OrderLaws.{bytes_same}
+use Rattle.text_laws.proofs.CutLaws.{all_both}
 use Rattle.litmus_text.proofs.CellBack.{padded, blanks_class, before_padded}
 use Rattle.litmus_text.proofs.LineBack.{IsLine}
 use Rattle.litmus_text.proofs.TableBack.{spaced, row_cells, cells_without, row_line_is}

@@ -18,9 +18,8 @@ use Rattle.litmus_text.specs.Joined.{Joined, no_text, with_text}
 use Rattle.litmus_text.specs.InitialState.{closed, braced_if, braced, brace_ends, braced_read, initial_read}
 use Rattle.litmus_text.specs.TestText.{item_text, items_lines, initial_lines}
 use Rattle.litmus_text.specs.Items.{Link, links_of, links_mention, link_values, links_once, LinkFits}
-use Rattle.litmus_text.proofs.CutBack.{without_class, all_both}
 use Rattle.text_laws.specs.Cuts.{is_without}
-use Rattle.text_laws.proofs.CutLaws.{cut_back, cut_none}
+use Rattle.text_laws.proofs.CutLaws.{cut_back, cut_none, all_both, without_class}
 use Rattle.litmus_text.proofs.LineBack.{IsLine, before}
 use Rattle.litmus_text.proofs.HeadBack.{line_is, not_all_blank}
 use Rattle.litmus_text.proofs.NamesBack.{Within, IsAmong}

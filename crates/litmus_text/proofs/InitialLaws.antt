@@ -7,11 +7,7 @@ use Rattle.std.proofs.lemmas.List.Concat.{flat_map-append}
 use Rattle.arch_trait.specs.Threads.{ThreadCode}
 use Rattle.arch_trait.specs.Writing.{Writing}
 use Rattle.litmus_text.specs.TestText.{item_text, items_lines, initial_lines, ended}
-
--- a list that is made in two steps can be made in one
-pub flat_map-flat_map : {X Y : Type 0} (g : Y → List ℕ) (f : X → List Y) (xs : List X) → flat_map g (flat_map f xs) ≡ flat_map (λ x. flat_map g (f x)) xs
-flat_map-flat_map g f [] = refl
-flat_map-flat_map g f (x ∷ xs) = flat_map-append g (f x) (flat_map f xs) ∙ ap (λ rest. flat_map g (f x) ++ rest) (flat_map-flat_map g f xs)
+use Rattle.list_laws.proofs.Elements.{flat_map-flat_map}
 
 -- the lines of the items of a thread, as they are printed
 abbrev pub printed_items : Writing → List (List ℕ) → ℕ × ThreadCode → List ℕ

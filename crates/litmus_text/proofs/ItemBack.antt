@@ -18,7 +18,8 @@ use Rattle.text_laws.specs.Runs.{after_run}
 use Rattle.final_cond.specs.Conditions.{LeftSeen, InRegister}
 use Rattle.final_cond.specs.CondText.{left_text}
 use Rattle.final_cond.specs.Reading.{Fault, found, only_known, left_at_start, left_read, has_form}
-use Rattle.final_cond.proofs.BackLaws.{digits_of, left_back, named, place_bytes}
+use Rattle.final_cond.proofs.BackLaws.{left_back, named, place_bytes}
+use Rattle.list_laws.proofs.Digits.{digits_of}
 use Rattle.text_laws.proofs.NumberLaws.{not_digits}
 use Rattle.arch_trait.specs.Threads.{Puts}
 use Rattle.arch_trait.specs.Names.{number_in, names_added}
@@ -31,8 +32,9 @@ use Rattle.litmus_text.specs.InitialState.{gives, a_place, worth_of, worth_if, i
 use Rattle.litmus_text.specs.TestText.{item_text}
 use Rattle.litmus_text.specs.Placing.{or_zero, place_in}
 use Rattle.litmus_text.specs.Items.{Link, links_mention, link_values, links_once, LinkFits}
-use Rattle.litmus_text.proofs.CutBack.{without_class, piece_back, piece_last, all_both, bytes_same}
-use Rattle.text_laws.proofs.CutLaws.{cut_back}
+use Rattle.litmus_text.proofs.CutBack.{piece_back, piece_last}
+use Rattle.text_laws.proofs.OrderLaws.{bytes_same}
+use Rattle.text_laws.proofs.CutLaws.{cut_back, all_both, without_class}
 use Rattle.litmus_text.proofs.NamesBack.{Within, within_self, within_trans, within_number, IsAmong, place_added}
 use Rattle.litmus_text.proofs.RowBack.{added_within}
 use Rattle.litmus_text.proofs.HeadRowBack.{inked_ends}

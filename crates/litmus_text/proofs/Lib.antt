@@ -20,7 +20,6 @@ pub mod InitBack
 pub mod CondBack
 pub mod WholeBack
 pub mod MentionedBack
-pub mod FormedFits
 pub mod CutLaws
 pub mod LineLaws
 pub mod ItemLoops

@@ -7,7 +7,8 @@ use Rattle.arch_trait.specs.Cells.{is_line_byte}
 use Rattle.litmus_text.specs.Lines.{Lines, ends, line, is_passed, lines_in, lines_from}
 use Rattle.text_laws.specs.Lines.{without_return, is_line_feed}
 use Rattle.litmus_text.specs.TestText.{ended}
-use Rattle.litmus_text.proofs.CutBack.{without_class, piece_back}
+use Rattle.litmus_text.proofs.CutBack.{piece_back}
+use Rattle.text_laws.proofs.CutLaws.{without_class}
 use Rattle.text_laws.proofs.PieceLaws.{first_piece}
 
 -- a line of printed bytes that isn't passed over

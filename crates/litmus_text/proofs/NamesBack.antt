@@ -11,7 +11,7 @@ use Rattle.std.proofs.lemmas.Slice.Eq.{bytes_eq-Decides}
 use Rattle.list_laws.proofs.Cases.{by_test}
 use Rattle.arch_trait.specs.Names.{number_in, number_added, names_added, number_or_next, with_name}
 use Rattle.litmus_text.specs.Placing.{or_zero, place_in}
-use Rattle.litmus_text.proofs.CutBack.{bytes_same}
+use Rattle.text_laws.proofs.OrderLaws.{bytes_same}
 
 none_some : {i : ℕ} {G : Type 0} → None ≡ Some i → G
 none_some e = cc

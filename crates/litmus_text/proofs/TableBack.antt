@@ -27,8 +27,8 @@ use Rattle.litmus_text.specs.Printable.{is_row_byte}
 use Rattle.litmus_text.specs.Progress.{CodeFits, OpFits}
 use Rattle.litmus_text.proofs.LineBack.{IsLine}
 use Rattle.litmus_text.proofs.HeadBack.{line_is, not_all_blank}
-use Rattle.litmus_text.proofs.CutBack.{without_class, piece_back, piece_last, all_both}
-use Rattle.text_laws.proofs.CutLaws.{cut_back}
+use Rattle.litmus_text.proofs.CutBack.{piece_back, piece_last}
+use Rattle.text_laws.proofs.CutLaws.{cut_back, all_both, without_class}
 use Rattle.litmus_text.proofs.CellBack.{padded, Begins, blanks_class}
 use Rattle.litmus_text.proofs.RowBack.{next_text, AreCells, IsRow, AreRows, after_rows, named_op, text_begins, label_bytes}
 

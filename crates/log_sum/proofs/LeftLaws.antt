@@ -19,7 +19,8 @@ use Rattle.log_sum.specs.Texts.{begins_with}
 use Rattle.text_laws.specs.Cuts.{before_cut, cut_at}
 use Rattle.log_sum.specs.States.{is_bracketed, left_kept, is_side, sides_read}
 use Rattle.log_sum.specs.Equalities.{equality_of, before_sign, left_side, HasSign, same_left, has_left_twice}
-use Rattle.log_sum.proofs.OrderLaws.{order, apart_less}
+use Rattle.log_sum.proofs.OrderLaws.{apart_less}
+use Rattle.text_laws.proofs.OrderLaws.{order}
 use Rattle.log_sum.proofs.StateLaws.{text_at, shown_at}
 
 -- a text has no sign

@@ -4,28 +4,19 @@ use Rattle.std.specs.Prelude.{T}
 use Rattle.std.specs.Ordering.{nat_cmp, match_ordering, is_eq, is_lt, ordering_reverse}
 use Rattle.std.specs.declared.cmp.Ordering.{Ordering}
 use Rattle.std.specs.declared.cmp.Ordering.TheVariants.{Less, Equal, Greater}
-use Rattle.std.specs.Cmp.{IsTotalOrder, nat_cmp_total}
-use Rattle.std.specs.Cmp.Lexicographic.{slice_cmp, lists_total}
+use Rattle.std.specs.Cmp.Lexicographic.{slice_cmp}
 use Rattle.std.specs.BTreeMap.{insert_entry}
 use Rattle.std.specs.Str.{bytes_eq}
 use Rattle.std.specs.FinMap.Entries.{put, find, is_sorted, by_order, is_sorted-put, find-put, same_entries}
 use Rattle.std.proofs.lemmas.Map.Text.{is_eq-slice_cmp}
-use Rattle.std.proofs.lemmas.Slice.Eq.{bytes_eq-Decides}
 use Rattle.log_sum.specs.declared.kinds.Mark.{Mark}
 use Rattle.log_sum.specs.Summed.{StateSummed}
 use Rattle.log_sum.specs.Steps.{known_state}
 use Rattle.log_sum.specs.StateEntries.{ordered}
+use Rattle.text_laws.proofs.OrderLaws.{order, is_text}
 
 abbrev compare : List ℕ → List ℕ → Ordering
 compare = slice_cmp nat_cmp
-
--- byte order is a total order of texts
-pub order : IsTotalOrder (slice_cmp nat_cmp)
-order = lists_total nat_cmp_total
-
--- texts that compare as equal are equal
-pub is_text : (x y : List ℕ) → slice_cmp nat_cmp x y ≡ Equal → x ≡ y
-is_text x y e = (bytes_eq-Decides x y).0 (sym (is_eq-slice_cmp x y) ∙ ap is_eq e)
 
 -- a text is below another that differs from it and isn't below it
 pub apart_less : (x y : List ℕ) → is_lt (slice_cmp nat_cmp y x) ≡ false → bytes_eq x y ≡ false → slice_cmp nat_cmp x y ≡ Less

@@ -23,7 +23,7 @@ use Rattle.std.proofs.lemmas.List.{map_push}
 use Rattle.list_laws.proofs.Cases.{by_test}
 use Rattle.log_sum.specs.declared.errors.LogKind.{LogKind}
 use Rattle.log_sum.specs.Equalities.{equality_of, and_equality, with_piece, left_side, HasSign, same_left, has_left_twice, with_one, with_all}
-use Rattle.log_sum.proofs.OrderLaws.{order, is_text}
+use Rattle.text_laws.proofs.OrderLaws.{order, is_text, any_insert}
 use Rattle.log_sum.proofs.StateLaws.{rest_read, rest_goes, rest_whole, set_begins}
 use Rattle.log_sum.proofs.LeftLaws.{read_left, read_sign, begins_left, ascend_apart, twice_not_apart, sorted_ascends}
 
@@ -73,26 +73,6 @@ same_members xs ys s t same =
     same_entries (slice_cmp nat_cmp) order is_text (tagged xs) (tagged ys) s t
     (λ q. find_tagged q xs ∙ ap (λ b. cond b (Some tt) None) (same (eq_by_cmp (slice_cmp nat_cmp) q)) ∙ sym (find_tagged q ys)) in
     sym (untagged xs) ∙ ap (map (λ (entry : List ℕ × Unit {0}). entry.0)) entries ∙ untagged ys
-
-exchange : (a b c : Bool) → a || (b || c) ≡ b || (a || c)
-exchange true true c = refl
-exchange true false c = refl
-exchange false b c = refl
-
--- what is in texts where one more was put in order
-pub any_insert : (p : List ℕ → Bool) (k : List ℕ) (texts : List (List ℕ)) → list_any p (insert_key (slice_cmp nat_cmp) texts k) ≡ p k || list_any p texts
-any_insert p k [] = refl
-any_insert p k (x ∷ texts) = by_ordering (any_insert p k texts) (slice_cmp nat_cmp k x) refl
-  where
-    once : (a b : Bool) → a || b ≡ a || (a || b)
-    once true b = refl
-    once false b = refl
-
-    by_ordering : list_any p (insert_key (slice_cmp nat_cmp) texts k) ≡ p k || list_any p texts → (o : Ordering) → slice_cmp nat_cmp k x ≡ o
-        → list_any p (match_ordering o (k ∷ x ∷ texts) (x ∷ texts) (x ∷ insert_key (slice_cmp nat_cmp) texts k)) ≡ p k || (p x || list_any p texts)
-    by_ordering further Less e = refl
-    by_ordering further Equal e = once (p x) (list_any p texts) ∙ ap (λ t. p t || (p x || list_any p texts)) (sym (is_text k x e))
-    by_ordering further Greater e = ap (λ b. p x || b) further ∙ exchange (p x) (p k) (list_any p texts)
 
 -- equalities whose left sides a set doesn't have, and that differ in theirs
 abbrev Fresh : List (List ℕ) → List (List ℕ) → Type 0

@@ -21,7 +21,8 @@ use Rattle.log_sum.specs.declared.state_table.StateSum.{StateSum}
 use Rattle.log_sum.specs.States.{form_read}
 use Rattle.log_sum.specs.Steps.{known_state}
 use Rattle.log_sum.specs.StateEntries.{sum_view, state_view, states_view, AreInOrder, AreWritten, written_as}
-use Rattle.log_sum.proofs.OrderLaws.{order, apart_less, ordered_same}
+use Rattle.log_sum.proofs.OrderLaws.{apart_less, ordered_same}
+use Rattle.text_laws.proofs.OrderLaws.{order}
 use Rattle.log_sum.proofs.EntryLaws.{entries_known}
 
 -- keys are compared by their bytes

@@ -1,9 +1,8 @@
 -- What is kept of a test follows its facts.
 use Rattle.std.proofs.Common.{◌≡◌, ℕ, zero-add, add-zero, ◌+◌, ◌≤◌, List, [], ◌∷◌, ◌++◌, Some, None, true, false, refl, sym, ap, ◌∙◌, arith, append-nil, min, subst}
 use Rattle.std.specs.Prelude.{Bool, not, ◌&&◌, ◌||◌, cond, Option, map, Result, Ok, Err, filter, fold, sum_by, nat_lt, option_map, is_some}
-use Rattle.std.specs.List.{list_any, list_all, AllByRecursion}
-use Rattle.std.specs.Ordering.{nat_cmp, match_ordering, is_eq, ordering_reverse}
-use Rattle.std.specs.Cmp.{both_ways}
+use Rattle.std.specs.List.{list_any, list_all}
+use Rattle.std.specs.Ordering.{nat_cmp, match_ordering}
 use Rattle.std.proofs.lemmas.Map.Text.{is_eq-slice_cmp}
 use Rattle.std.specs.declared.cmp.Ordering.{Ordering}
 use Rattle.std.specs.declared.cmp.Ordering.TheVariants.{Less, Equal, Greater}
@@ -19,7 +18,6 @@ use Rattle.std.proofs.lemmas.Slice.Eq.{bytes_eq-Decides}
 use Rattle.log_sum.specs.declared.errors.LogKind.{LogKind}
 use Rattle.log_sum.specs.declared.errors.LogKind.TheVariants.{KindDiffers, ConditionDiffers, HashDiffers}
 use Rattle.std.proofs.lemmas.Bool.Decides.{nat_tests}
-use Rattle.std.proofs.Math.Bool.{or-false, or_assoc, or_comm}
 use Rattle.std.proofs.lemmas.List.{map_push}
 use Rattle.list_laws.proofs.Cases.{by_test}
 use Rattle.log_sum.specs.declared.kinds.Mark.{Mark}
@@ -31,8 +29,7 @@ use Rattle.log_sum.specs.Facts.{Row, Fact, a_kind, a_row, a_condition, a_hash, k
 use Rattle.log_sum.specs.Summed.{Summed, StateSummed, or_else, state_by, summed}
 use Rattle.log_sum.specs.Steps.{or_this, marked, with_marked, known_state, count_known, with_row, fact_to}
 use Rattle.log_sum.specs.Feeding.{Marked}
-use Rattle.log_sum.proofs.OrderLaws.{order, is_text}
-use Rattle.log_sum.proofs.SetLaws.{any_insert}
+use Rattle.text_laws.proofs.OrderLaws.{is_text, compare, Above, Ascends, above_all, fold_ascends, not_equal, eq_swap, any_fold}
 
 -- the facts of a sort, with a fact more
 kinds_more : (facts : List Fact) (fact : Fact) → kinds (facts ++ fact ∷ []) ≡ kinds facts ++ kinds (fact ∷ [])
@@ -107,52 +104,6 @@ mark_more state rs row =
     (λ e. rw e (ap first_of (map_push (λ r. r.mark) (filter (λ r. bytes_eq r.state state) rs) row) ∙ first_more (map (λ r. r.mark) (filter (λ r. bytes_eq r.state state) rs)) row.mark))
     (λ e. rw e (ap (λ t. first_of (map (λ r. r.mark) t)) (append-nil (filter (λ r. bytes_eq r.state state) rs))))
 
--- a key inserted in order
-abbrev pub compare : List ℕ → List ℕ → Ordering
-compare = slice_cmp nat_cmp
-
--- a text is below all of these
-abbrev pub Above : List ℕ → List (List ℕ) → Type 0
-Above k xs = AllByRecursion (λ x. compare k x ≡ Less) xs
-
--- each text is below those after it
-abbrev pub Ascends : List (List ℕ) → Type 0
-Ascends [] = Unit {0}
-Ascends (x ∷ xs) = Above x xs × Ascends xs
-
--- a text below one that is below others is below those too
-pub above_all : (k x : List ℕ) (xs : List (List ℕ)) → compare k x ≡ Less → Above x xs → Above k xs
-above_all k x [] h a = tt
-above_all k x (y ∷ xs) h a = (order.trans k x y h a.0, above_all k x xs h a.1)
-
-above_insert : (k x : List ℕ) (xs : List (List ℕ)) → compare x k ≡ Less → Above x xs → Above x (insert_key (slice_cmp nat_cmp) xs k)
-above_insert k x [] h a = (h, tt)
-above_insert k x (y ∷ xs) h a = by_ordering (above_insert k x xs h a.1) (compare k y)
-  where
-    by_ordering : Above x (insert_key (slice_cmp nat_cmp) xs k) → (o : Ordering) → Above x (match_ordering o (k ∷ y ∷ xs) (y ∷ xs) (y ∷ insert_key (slice_cmp nat_cmp) xs k))
-    by_ordering further Less = (h, (a.0, a.1))
-    by_ordering further Equal = (a.0, a.1)
-    by_ordering further Greater = (a.0, further)
-
--- a text above another has that one below it
-pub reversed : (k x : List ℕ) → compare k x ≡ Greater → compare x k ≡ Less
-reversed k x h = order.antisymm x k ∙ ap ordering_reverse h
-
--- a text that is inserted keeps the order
-pub insert_ascends : (k : List ℕ) (xs : List (List ℕ)) → Ascends xs → Ascends (insert_key (slice_cmp nat_cmp) xs k)
-insert_ascends k [] a = (tt, tt)
-insert_ascends k (x ∷ xs) a = by_ordering (insert_ascends k xs a.1) (compare k x) refl
-  where
-    by_ordering : Ascends (insert_key (slice_cmp nat_cmp) xs k) → (o : Ordering) → compare k x ≡ o → Ascends (match_ordering o (k ∷ x ∷ xs) (x ∷ xs) (x ∷ insert_key (slice_cmp nat_cmp) xs k))
-    by_ordering further Less e = ((e, above_all k x xs e a.0), a)
-    by_ordering further Equal e = a
-    by_ordering further Greater e = (above_insert k x xs (reversed k x e) a.0, further)
-
--- texts that are inserted one after another keep the order
-pub fold_ascends : (ks xs : List (List ℕ)) → Ascends xs → Ascends (fold (insert_key (slice_cmp nat_cmp)) xs ks)
-fold_ascends [] xs s = s
-fold_ascends (k ∷ ks) xs s = fold_ascends ks (insert_key (slice_cmp nat_cmp) xs k) (insert_ascends k xs s)
-
 states_ascend : (rs : List Row) → Ascends (states_of rs)
 unfolding states_of
 states_ascend rs = fold_ascends (map (λ r. r.state) rs) [] tt
@@ -164,10 +115,6 @@ paired v xs = map (λ x. (x, v x)) xs
 -- two values are the same for all texts but one
 abbrev pub SameBut : List ℕ → (List ℕ → Mark × ℕ) → (List ℕ → Mark × ℕ) → Type 0
 SameBut k v w = (x : List ℕ) → bytes_eq k x ≡ false → v x ≡ w x
-
--- texts that don't compare as equal have other bytes
-pub not_equal : (k x : List ℕ) (o : Ordering) → compare k x ≡ o → is_eq o ≡ false → bytes_eq k x ≡ false
-not_equal k x o e f = sym (is_eq-slice_cmp k x) ∙ ap is_eq e ∙ f
 
 above_same : (k : List ℕ) (v w : List ℕ → Mark × ℕ) (xs : List (List ℕ)) → SameBut k v w → Above k xs → paired v xs ≡ paired w xs
 above_same k v w [] h a = refl
@@ -189,25 +136,12 @@ paired_insert k v w (x ∷ xs) h s = by_ordering (paired_insert k v w xs h s.1) 
         rw (above_same k v w xs h above) (ap (λ y. (x, w y) ∷ paired w xs) same)
     by_ordering further Greater e = rw (h x (not_equal k x Greater e refl)) (ap (λ t. (x, w x) ∷ t) further)
 
--- what is kept of a state, by the rows
-pub eq_swap : (a b : List ℕ) → bytes_eq a b ≡ bytes_eq b a
-eq_swap a b = both_ways (bytes_eq a b) (bytes_eq b a)
-    (λ h. (bytes_eq-Decides b a).1 (sym ((bytes_eq-Decides a b).0 h))) (λ h. (bytes_eq-Decides a b).1 (sym ((bytes_eq-Decides b a).0 h)))
-
 lookup_paired : (k : List ℕ) (v : List ℕ → Mark × ℕ) (xs : List (List ℕ)) → known_state (paired v xs) k ≡ cond (list_any (bytes_eq k) xs) (Some (v k)) None
 lookup_paired k v [] = refl
 lookup_paired k v (x ∷ xs) =
     rw (is_eq-slice_cmp k x) (by_test (bytes_eq k x)
     (λ e. rw e (ap (λ y. Some (v y)) (sym ((bytes_eq-Decides k x).0 e))))
     (λ e. rw e (lookup_paired k v xs)))
-
--- what is in texts that were put in order one after another
-pub any_fold : (k : List ℕ) (js xs : List (List ℕ)) → list_any (bytes_eq k) (fold (insert_key (slice_cmp nat_cmp)) xs js) ≡ list_any (bytes_eq k) xs || list_any (bytes_eq k) js
-any_fold k [] xs = sym (or-false (list_any (bytes_eq k) xs))
-any_fold k (j ∷ js) xs =
-    any_fold k js (insert_key (slice_cmp nat_cmp) xs j)
-    ∙ ap (λ b. b || list_any (bytes_eq k) js) (any_insert (bytes_eq k) j xs ∙ or_comm (bytes_eq k j) (list_any (bytes_eq k) xs))
-    ∙ or_assoc (list_any (bytes_eq k) xs) (bytes_eq k j) (list_any (bytes_eq k) js)
 
 has_state : (k : List ℕ) (rs : List Row) → list_any (bytes_eq k) (map (λ r. r.state) rs) ≡ is_some (mark_in k rs)
 unfolding mark_in

@@ -30,14 +30,13 @@ use Rattle.arch_trait.specs.Links.{branches}
 use Rattle.arch_trait.specs.Names.{letters, location_name, number_in}
 use Rattle.arch_trait.specs.Threads.{Puts, ThreadCode, FitSteps, compiled, is_load_dir, setting_out, visits}
 use Rattle.arch_trait.specs.Writing.{Writing, WritesBack, name_in}
-use Rattle.arch_trait.proofs.Codes.{thread_short}
 use Rattle.arch_laws.proofs.Ordered.{compiled_ordered, compiled_accesses}
-use Rattle.arch_trait.proofs.Tables.{location_new}
-use Rattle.arch_trait.proofs.Whole.{is_formed}
+use Rattle.arch_laws.proofs.NameLaws.{location_new}
+use Rattle.arch_laws.proofs.CodeLaws.{is_formed, thread_short}
 use Rattle.litmus_text.specs.Items.{Link, LinkFits, links_of}
 use Rattle.litmus_text.specs.Progress.{CodeFits, code_lands}
 use Rattle.litmus_text.specs.Terms.{TermFits}
-use Rattle.litmus_text.proofs.FormedFits.{HasPlaces, code_fits, lands_once, links_fit}
+use Rattle.printed_test_laws.proofs.FormedFits.{HasPlaces, code_fits, lands_once, links_fit}
 use Rattle.communication_laws.proofs.Lists.{image_of}
 use Rattle.test_laws.specs.Headline.{HasCode}
 use Rattle.test_laws.specs.Steps.{cycle_steps, numbers_read}

@@ -15,7 +15,7 @@ use Rattle.relax_edges.specs.declared.kinds.ArchName.TheVariants as archs
 use Rattle.relax_edges.specs.declared.edge.Edge.{Edge}
 use Rattle.relax_edges.specs.Architectures.{arch_word}
 use Rattle.relax_edges.specs.Words.{word_of}
-use Rattle.relax_edges.proofs.WordBounds.{word_short}
+use Rattle.cycle_laws.proofs.SpellingLaws.{word_short}
 use Rattle.micro_ops.specs.declared.operation.Micro.{Micro}
 use Rattle.final_cond.specs.declared.cond.Quantifier.{Quantifier}
 use Rattle.final_cond.specs.declared.cond.Quantifier.TheVariants as quantifiers
@@ -32,7 +32,7 @@ use Rattle.arch_trait.specs.Threads.{ThreadCode}
 use Rattle.arch_trait.specs.Writing.{Writing, op_text, name_in}
 use Rattle.arch_trait.specs.Tests.{TestSeen}
 use Rattle.litmus_text.specs.declared.limits.TheConstants.{MAX_TEXT}
-use Rattle.litmus_text.proofs.InitialLaws.{flat_map-flat_map}
+use Rattle.list_laws.proofs.Elements.{flat_map-flat_map}
 use Rattle.litmus_text.specs.TestText.{header_line, edges_line, item_text, items_lines, initial_lines, column_of, width_of, cell_text, row_line, row_count, table_lines, test_lines, ended, test_text}
 
 -- pieces of at most c bytes each, with a separator between

@@ -7,3 +7,5 @@ pub mod SomeTerm
 pub mod Readable
 pub mod Printed
 pub mod Cycles
+pub mod FormedFits
+pub mod BackLaws

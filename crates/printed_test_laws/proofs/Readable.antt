@@ -20,12 +20,12 @@ use Rattle.arch_trait.specs.Laws.{IsArch, InOrder}
 use Rattle.arch_trait.specs.Names.{letters, location_name}
 use Rattle.arch_trait.specs.Threads.{Puts, compiled}
 use Rattle.arch_trait.specs.Writing.{Writing, WritesBack, name_in, op_text}
-use Rattle.arch_trait.proofs.Tables.{length-letters, location_new}
+use Rattle.arch_laws.proofs.NameLaws.{length-letters, location_new}
 use Rattle.litmus_text.specs.Printable.{IsTestName}
 use Rattle.litmus_text.specs.Progress.{CodeFits, code_lands}
 use Rattle.litmus_text.specs.Reread.{IsReadable}
 use Rattle.litmus_text.specs.Terms.{TermFits}
-use Rattle.litmus_text.proofs.FormedFits.{links_single}
+use Rattle.printed_test_laws.proofs.FormedFits.{links_single}
 use Rattle.litmus_text.proofs.RowBack.{named_op}
 use Rattle.test_laws.specs.Headline.{HasCode}
 use Rattle.test_laws.specs.Steps.{cycle_steps}

@@ -26,15 +26,16 @@ use Rattle.arch_trait.specs.Renumbering.{renumbered}
 use Rattle.arch_trait.specs.Taking.{initial}
 use Rattle.arch_trait.specs.Threads.{Puts, ThreadCode, compiled}
 use Rattle.arch_trait.specs.Writing.{name_in}
-use Rattle.arch_trait.proofs.Tables.{length-letters, letters_more, location_new}
-use Rattle.arch_trait.proofs.Whole.{makes_steps}
+use Rattle.arch_laws.proofs.NameLaws.{length-letters, letters_more, location_new}
+use Rattle.arch_laws.proofs.CodeLaws.{makes_steps}
 use Rattle.arch_trait.specs.Tests.{TestSeen}
 use Rattle.litmus_text.specs.Items.{links_of}
 use Rattle.litmus_text.specs.Mentioned.{is_in, op_is_in}
 use Rattle.litmus_text.specs.Placing.{place_in}
 use Rattle.litmus_text.specs.Placing as placing
 use Rattle.litmus_text.specs.Reread.{thread_reread}
-use Rattle.litmus_text.proofs.NamesBack.{IsAmong, none_among, push_among, few_names, numbered_in}
+use Rattle.litmus_text.proofs.NamesBack.{IsAmong, none_among, push_among, few_names}
+use Rattle.printed_test_laws.proofs.BackLaws.{numbered_in}
 use Rattle.program_meaning.specs.Intended.{intended, location_numbered, location_order}
 use Rattle.program_meaning.specs.Programs.{Thread}
 use Rattle.communication_laws.proofs.Lists.{got_map, map_same}

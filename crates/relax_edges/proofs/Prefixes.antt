@@ -12,7 +12,8 @@ use Rattle.relax_edges.specs.declared.edge.Edge.{Edge}
 use Rattle.relax_edges.specs.declared.relax_error.RelaxKind.TheVariants.{BadBracket}
 use Rattle.relax_edges.specs.Relaxations.{kept_words, kept_item}
 use Rattle.relax_edges.specs.RelaxPrefix.{kept_prefix, first_words, first_word_len, ends_here, IsInside, IsFirstWord}
-use Rattle.relax_edges.proofs.RelaxWords.{words_of_run, before_first-no}
+use Rattle.relax_edges.proofs.RelaxWords.{words_of_run}
+use Rattle.list_laws.proofs.Places.{before_first-no}
 
 before_first-length : (test : ℕ → Bool) (text : List ℕ) → length (before_first test text) ≡ position_or_len test text
 before_first-length test text = length-prefix_len (λ x. not (test x)) text

@@ -190,7 +190,7 @@ pub edges-length : length edges_in_order ≡ EDGES
 unfolding edges_in_order
 edges-length = refl
 
--- each edge has a rank below that
+-- the rank of each edge is below the number of edges
 pub rank_below : (edge : Edge) → rank_of edge < EDGES
 rank_below edge = rw (← edges-length) (slice_get_within edges_in_order (rank_of edge) edge (placed edge))
 

@@ -1,15 +1,13 @@
 -- The first word of a text without brackets, and a text that is one word.
-use Rattle.std.specs.Prelude.{ℕ, ◌≡◌, ◌<◌, ◌+◌, ◌||◌, Bool, true, false, not, List, [], ◌∷◌, length, filter, drop}
+use Rattle.std.specs.Prelude.{ℕ, ◌≡◌, ◌<◌, ◌||◌, Bool, true, false, not, List, [], ◌∷◌, length, filter, drop}
 use Rattle.std.specs.List.{before_first, position, position_or_len, slice_split, onto_first, list_all}
 use Rattle.std.specs.Option.{unwrap_or}
 use Rattle.std.proofs.lemmas.Bool.{ltb-false, false≢true}
 use Rattle.std.proofs.lemmas.List.Sums.{prefix_len-le-length}
-use Rattle.std.proofs.Common.{suc, nat_lt, refl, arith, ap, sym, ◌∙◌}
+use Rattle.std.proofs.Common.{nat_lt, refl, arith, ap, sym, ◌∙◌}
 use Rattle.list_laws.proofs.Cases.{by_test}
 use Rattle.relax_edges.specs.RelaxText.{is_separator, is_bracket, ends_word, is_empty, words_of}
-
-one_more : (n : ℕ) → 1 + n ≡ suc n
-one_more n = omega arith
+use Rattle.list_laws.proofs.Places.{before_first-no, position_or_len-no}
 
 -- the parts of a text that are not empty, by the test that splits it
 abbrev words_by : (ℕ → Bool) → List ℕ → List (List ℕ)
@@ -23,14 +21,6 @@ before_first-yes test byte behind s = rw s refl
 
 position_or_len-yes : (test : ℕ → Bool) (byte : ℕ) (behind : List ℕ) → test byte ≡ true → position_or_len test (byte ∷ behind) ≡ 0
 position_or_len-yes test byte behind s = rw s refl
-
--- a byte that fails the test is before the first that passes
-pub before_first-no : (test : ℕ → Bool) (byte : ℕ) (behind : List ℕ) → test byte ≡ false → before_first test (byte ∷ behind) ≡ byte ∷ before_first test behind
-before_first-no test byte behind n = rw (n, one_more (position_or_len test behind)) refl
-
--- a byte that fails the test moves the place of the first that passes one further
-pub position_or_len-no : (test : ℕ → Bool) (byte : ℕ) (behind : List ℕ) → test byte ≡ false → position_or_len test (byte ∷ behind) ≡ suc (position_or_len test behind)
-position_or_len-no test byte behind n = rw (n, one_more (position_or_len test behind)) refl
 
 -- a text is split into what is before its first separator, and parts that have the words after it
 record FirstPart (test : ℕ → Bool) (text : List ℕ) : Type 0 where

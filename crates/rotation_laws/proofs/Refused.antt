@@ -25,7 +25,7 @@ use Rattle.test_laws.proofs.Everywhere.{position_none}
 use Rattle.test_maker.specs.declared.refusal.MakeRefusal.{MakeRefusal}
 use Rattle.test_maker.specs.declared.refusal.MakeRefusal.TheVariants as refusals
 use Rattle.test_maker.specs.Refusals.{or_else, foreign_edge, unobserved_need, is_crowded, crowded_thread, resolved_refusal, refusal_of}
-use Rattle.test_maker.proofs.OfArch.{none_foreign}
+use Rattle.list_laws.proofs.Places.{none_foreign}
 use Rattle.rotation_laws.specs.Alike.{AcceptedAlike, RefusedAlike, kind_of}
 use Rattle.rotation_laws.proofs.Steps.{has_shape}
 use Rattle.rotation_laws.proofs.Turns.{moved, exchanged, thread_exchanged}

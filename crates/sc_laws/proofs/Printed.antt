@@ -14,7 +14,7 @@ use Rattle.arch_trait.specs.Writing.{Writing, WritesBack, name_in}
 use Rattle.litmus_text.specs.Mentioned.{ReadsBack}
 use Rattle.litmus_text.specs.Reread.{reread}
 use Rattle.litmus_text.specs.TestReading.{TestRead}
-use Rattle.litmus_text.proofs.MentionedBack.{reads_back}
+use Rattle.printed_test_laws.proofs.BackLaws.{reads_back}
 use Rattle.test_laws.specs.Headline.{HasTest}
 use Rattle.test_laws.specs.Programs.{test_program}
 use Rattle.test_laws.specs.TestOf.{test_of}

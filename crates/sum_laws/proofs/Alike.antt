@@ -20,7 +20,7 @@ use Rattle.sum_laws.proofs.Lines.{said_as}
 use Rattle.sum_laws.proofs.Printed.{AllOf, kind_of_test, IsCondition}
 use Rattle.sum_laws.proofs.Agreeing.{Profile, FitsTo, Agrees, all_of_both, all_of_parts, kinds_both, rows_both, conditions_both, hashes_both, or_first, first_both, map_first, marked_both, state_both, mark_both, kind_fits, condition_fits, hash_fits}
 use Rattle.sum_laws.proofs.Sums.{state_facts, hash_facts, printed_facts, rows_of_printed, printed_conditions, line_of_hash_first, row_of_state, printed_rows, printed_state, printed_mark, printed_marked, Marks, mark_law, a_state_there, states_in, states_ascend}
-use Rattle.log_sum.proofs.SumLaws.{Ascends}
+use Rattle.text_laws.proofs.OrderLaws.{Ascends}
 use Rattle.sum_laws.proofs.Orders.{fold_sorted}
 
 -- the facts of a test have a kind and a condition, as those of whole blocks do

@@ -27,7 +27,7 @@ use Rattle.list_laws.proofs.Cases.{by_test}
 use Rattle.sum_laws.proofs.Blocks.{IsLine, append_line}
 use Rattle.sum_laws.proofs.Printed.{AllOf, IsForm}
 use Rattle.sum_laws.proofs.Agreeing.{all_of_both}
-use Rattle.log_sum.proofs.SumLaws.{compare, Above, Ascends, insert_ascends}
+use Rattle.text_laws.proofs.OrderLaws.{compare, Above, Ascends, insert_ascends}
 use Rattle.sum_laws.proofs.Orders.{reversed_less}
 
 -- bytes of an equality, and of its left side

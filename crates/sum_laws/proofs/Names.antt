@@ -11,7 +11,7 @@ use Rattle.list_laws.proofs.Cases.{by_test}
 use Rattle.log_sum.specs.Facts.{Entry, a_condition, facts_of, with_name, tests_of}
 use Rattle.log_sum.specs.Summed.{Summed, StateSummed, or_else, is_validated}
 use Rattle.sum_laws.proofs.Texts.{bytes_same}
-use Rattle.log_sum.proofs.SumLaws.{eq_swap}
+use Rattle.text_laws.proofs.OrderLaws.{eq_swap}
 use Rattle.sum_laws.proofs.Lines.{said_as}
 use Rattle.sum_laws.proofs.Blocks.{entry}
 use Rattle.sum_laws.proofs.Printed.{AllOf, state_entries, hash_entries, given}

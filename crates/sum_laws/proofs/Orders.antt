@@ -11,8 +11,7 @@ use Rattle.std.specs.Str.{bytes_eq}
 use Rattle.std.proofs.lemmas.Slice.Eq.{bytes_eq-Decides}
 use Rattle.list_laws.proofs.Cases.{by_test}
 use Rattle.sum_laws.proofs.Texts.{bytes_same}
-use Rattle.log_sum.proofs.OrderLaws.{order, is_text}
-use Rattle.log_sum.proofs.SumLaws.{compare, Above, Ascends, above_all, reversed, fold_ascends, not_equal, any_fold}
+use Rattle.text_laws.proofs.OrderLaws.{order, is_text, compare, Above, Ascends, above_all, reversed, fold_ascends, not_equal, any_fold}
 
 -- a text below another: the other is above it
 pub reversed_less : (k x : List ℕ) → compare k x ≡ Less → compare x k ≡ Greater

@@ -12,7 +12,7 @@ use Rattle.sum_laws.proofs.Lines.{said_as}
 use Rattle.sum_laws.proofs.Blocks.{entry}
 use Rattle.sum_laws.proofs.Printed.{AllOf, kind_of_test, state_entries, hash_entries, given}
 use Rattle.sum_laws.proofs.Agreeing.{rows_both, conditions_both, hashes_both, or_first, marked_both, state_both, mark_both, marked_one, state_one, mark_one, marked_none, fact_here, fact_elsewhere, facts_both, bytes_is}
-use Rattle.log_sum.proofs.SumLaws.{Ascends, fold_ascends, any_fold, eq_swap}
+use Rattle.text_laws.proofs.OrderLaws.{Ascends, fold_ascends, eq_swap, any_fold}
 use Rattle.sum_laws.proofs.Orders.{Distinct, ascends_distinct}
 
 -- the facts of the states of a printed test

@@ -1,7 +1,6 @@
 -- A file that is opened, read and closed.
-use Rattle.std.proofs.Common.{◌≡◌, ℕ, List, [], ◌∷◌, ◌++◌, sym, ap, ◌∙◌, subst, arith, inl, inr}
-use Rattle.std.specs.Prelude.{◌⊎◌, OnOk, OnErr, Result, Ok, Err, IsErrAnd}
-use Rattle.std.proofs.lemmas.Result.{err_from_is_err_and}
+use Rattle.std.proofs.Common.{◌≡◌, ℕ, List, [], ◌∷◌, ◌++◌, ap, ◌∙◌, subst, arith, inl, inr}
+use Rattle.std.specs.Prelude.{◌⊎◌, OnOk, OnErr, Result, Ok, Err}
 use Rattle.diy_io.specs.Count.{count_of, Rose}
 use Rattle.diy_io.specs.Shelf.{ShelfSeen, CountsStay, Finished, NotThere, Opened, Stopped}
 use Rattle.diy_io.specs.declared.errors.Failed.{Failed}
@@ -84,7 +83,3 @@ failed_after old mid new before name files took h = elim h.took [
   | inl none ↦ inl (took_no_more old mid new before took none)
   | inr some ↦ inr (some.0, subst (λ o. Begins o name some.0) files some.1, took_one_more old mid new before some.0 took some.2)
 ]
-
--- what holds of a fault holds of an answer that is that fault
-pub is_fault : {X E : Type 0} (P : Result X E → Type 0) (answer : Result X E) (fault : E) → IsErrAnd answer (λ e. e ≡ fault) → P (Err fault) → P answer
-is_fault P answer fault is h = let p = err_from_is_err_and answer is in subst P (sym (p.1 ∙ ap Err p.2)) h

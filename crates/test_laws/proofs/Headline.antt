@@ -17,7 +17,7 @@ use Rattle.arch_trait.specs.Threads.{Puts, ThreadCode, shape_of}
 use Rattle.arch_trait.specs.Renumbering.{renumbered}
 use Rattle.arch_trait.specs.Laws.{IsArch}
 use Rattle.arch_trait.specs.Names.{location_name}
-use Rattle.arch_trait.proofs.Tables.{length-letters}
+use Rattle.arch_laws.proofs.NameLaws.{length-letters}
 use Rattle.arch_trait.specs.Tests.{TestSeen}
 use Rattle.arch_laws.proofs.Renumbered.{renumbered_same}
 use Rattle.program_meaning.specs.Executions.{Execution}

@@ -16,3 +16,4 @@ pub mod Meeting
 pub mod Asking
 pub mod Headline
 mod Tries
+pub mod EdgeMarks

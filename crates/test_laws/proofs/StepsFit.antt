@@ -35,7 +35,7 @@ use Rattle.arch_trait.specs.declared.link.Link.{Link}
 use Rattle.arch_trait.specs.declared.link.Link.TheVariants.{Plain}
 use Rattle.arch_trait.specs.Links.{kind_link, edge_link, link_is_of, depends, is_data}
 use Rattle.arch_trait.specs.Threads.{FitStep, FitSteps, is_load_dir}
-use Rattle.arch_trait.proofs.Edges.{has_edge}
+use Rattle.test_laws.proofs.EdgeMarks.{has_edge}
 use Rattle.communication_laws.proofs.Lists.{image_of}
 use Rattle.test_laws.specs.Steps.{event_link, event_step, thread_steps, observing, observer_steps, cycle_steps}
 use Rattle.test_laws.proofs.StepsAt.{by_steps}

@@ -22,7 +22,7 @@ use Rattle.value_laws.specs.Values.{is_observed, is_write, write_count}
 use Rattle.value_laws.proofs.Lists.{count_filter}
 use Rattle.arch_trait.specs.declared.step.Step.{Step}
 use Rattle.arch_trait.specs.Threads.{Puts, is_load_dir, loads_in, setting_out, compiled}
-use Rattle.arch_trait.proofs.Codes.{thread_loads_length}
+use Rattle.arch_laws.proofs.CodeLaws.{thread_loads_length}
 use Rattle.program_meaning.specs.Intended.{observed_locations}
 use Rattle.test_laws.specs.Steps.{event_step, thread_steps, observing, observer_steps, cycle_steps, numbers_read}
 use Rattle.test_laws.specs.TestOf.{is_named, last_term, last_terms, load_term, thread_terms, load_terms}

@@ -15,7 +15,7 @@ use Rattle.arch_trait.specs.Codes.{AllBelow, MakesSteps}
 use Rattle.arch_trait.specs.Threads.{Puts, ThreadCode, is_load_dir, compiled}
 use Rattle.arch_trait.specs.Laws.{IsArch}
 use Rattle.arch_trait.specs.Renumbering.{step_at, renumbered}
-use Rattle.arch_trait.proofs.Whole.{makes_steps, is_formed}
+use Rattle.arch_laws.proofs.CodeLaws.{makes_steps, is_formed}
 use Rattle.arch_laws.proofs.Renumbered.{renumbered_makes}
 use Rattle.program_meaning.specs.Programs.{Program}
 use Rattle.program_meaning.specs.Intended.{observed_locations}

@@ -25,7 +25,8 @@ use Rattle.test_maker.specs.declared.refusal.MakeRefusal.{MakeRefusal}
 use Rattle.test_maker.specs.declared.refusal.MakeRefusal.TheVariants as refusals
 use Rattle.test_maker.specs.Made.{AreOfArch, MakesOfArch, MakesValued}
 use Rattle.test_maker.specs.Refusals.{or_else, foreign_edge, unobserved_need, crowded_thread, resolved_refusal, refusal_of}
-use Rattle.test_maker.proofs.OfArch.{none_foreign, resolved_turned, turned_of_arch}
+use Rattle.test_maker.proofs.OfArch.{resolved_turned, turned_of_arch}
+use Rattle.list_laws.proofs.Places.{none_foreign}
 use Rattle.test_maker.proofs.Printing.{uncrowded}
 
 -- where neither of two reasons holds

@@ -1,6 +1,6 @@
 -- The edges of a cycle that are of an architecture stay so where it is turned.
-use Rattle.std.proofs.Common.{◌≡◌, ℕ, ◌+◌, ◌<◌, Bool, true, false, not, cond, List, [], ◌∷◌, ◌++◌, take, drop, Some, None, Result, Ok, Err, refl, sym, ap, ◌∙◌, arith, nat_lt, subst}
-use Rattle.std.specs.List.{list_all, position_from}
+use Rattle.std.proofs.Common.{◌≡◌, ℕ, ◌<◌, Bool, true, false, List, ◌++◌, take, drop, Result, Ok, Err, sym, ap, ◌∙◌, arith, nat_lt, subst}
+use Rattle.std.specs.List.{list_all}
 use Rattle.std.specs.Prelude.{if◌then◌else◌}
 use Rattle.std.proofs.lemmas.List.{take-append-drop}
 use Rattle.std.proofs.lemmas.List.Folds.{list_all-append}
@@ -18,17 +18,6 @@ use Rattle.test_maker.specs.Made.{AreOfArch}
 
 list_all_both : {X : Type 0} (p : X → Bool) (xs ys : List X) → list_all p (xs ++ ys) ≡ list_all p (ys ++ xs)
 list_all_both p xs ys = list_all-append p xs ys ∙ and_comm (list_all p xs) (list_all p ys) ∙ sym (list_all-append p ys xs)
-
--- there is no first that fails where all pass
-pub none_foreign : {X : Type 0} (p : X → Bool) (xs : List X) (k : ℕ) → position_from (λ x. not (p x)) k xs ≡ None → list_all p xs ≡ true
-none_foreign p [] k h = refl
-none_foreign p (x ∷ xs) k h =
-    by_test (p x)
-    (λ e. rw e (none_foreign p xs (k + 1) (sym (ap (λ b. cond (not b) (Some k) (position_from (λ y. not (p y)) (k + 1) xs)) e) ∙ h)))
-    (λ e. some_none k (sym (ap (λ b. cond (not b) (Some k) (position_from (λ y. not (p y)) (k + 1) xs)) e) ∙ h))
-  where
-    some_none : {G : Type 0} (k : ℕ) → Some k ≡ None → G
-    some_none k e = cc e
 
 -- a cycle that resolves has an external edge, and its resolution is the turned cycle
 pub resolved_turned : (cycle es : List Edge) → resolution_of cycle ≡ Ok es → (0 < external_count cycle) × (turned cycle ≡ es)

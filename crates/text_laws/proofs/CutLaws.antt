@@ -1,11 +1,13 @@
 -- A cut at the first place of a byte.
-use Rattle.std.proofs.Common.{◌≡◌, ◌==◌, ◌+◌, ◌-◌, ◌<◌, ◌≤◌, ℕ, zero, suc, List, [], ◌∷◌, ◌++◌, Some, None, true, get_or, take, drop, length, length-drop, length-append, refl, sym, ap, ◌∙◌, arith, add-one}
-use Rattle.std.specs.Prelude.{not}
-use Rattle.std.proofs.lemmas.Bool.{eqb-true, eq-eqb, and_parts, not-true}
+use Rattle.std.proofs.Common.{◌≡◌, ◌==◌, ◌+◌, ◌-◌, ◌<◌, ◌≤◌, ℕ, zero, suc, List, [], ◌∷◌, ◌++◌, Some, None, true, get_or, take, drop, length, length-drop, length-append, refl, sym, ap, ◌∙◌, arith, add-one, false}
+use Rattle.std.specs.Prelude.{not, Bool}
+use Rattle.std.proofs.lemmas.Bool.{eqb-true, eq-eqb, and_parts, not-true, and_from}
 use Rattle.std.proofs.lemmas.List.{take-append-drop}
 use Rattle.std.proofs.Math.Seq.{drop-cons, take-length}
 use Rattle.list_laws.proofs.Cases.{by_test}
 use Rattle.text_laws.specs.Cuts.{before_cut, cut_at, is_without, CutParts}
+use Rattle.std.specs.List.{list_all}
+use Rattle.std.proofs.lemmas.List.Folds.{list_all-append}
 
 -- the text before a sign and the text behind it
 pub cut_back : (sign : ℕ) (prefix behind : List ℕ) → is_without sign prefix ≡ true → cut_at sign (prefix ++ sign ∷ behind) ≡ Some (prefix, behind)
@@ -62,3 +64,16 @@ cut_is sign text prefix behind p = ap (cut_at sign) p.parts ∙ cut_back sign pr
 -- how many bytes the parts of a cut have
 pub cut_length : (sign : ℕ) (text prefix behind : List ℕ) → CutParts sign text prefix behind → length text ≡ length prefix + (length behind + 1)
 cut_length sign text prefix behind p = let e : length (prefix ++ sign ∷ behind) ≡ length prefix + length (sign ∷ behind) = length-append prefix (sign ∷ behind) in ap length p.parts ∙ e ∙ (omega arith)
+
+-- bytes of two texts that pass a test pass it as one text
+pub all_both : (p : ℕ → Bool) (xs ys : List ℕ) → list_all p xs ≡ true → list_all p ys ≡ true → list_all p (xs ++ ys) ≡ true
+all_both p xs ys h k = list_all-append p xs ys ∙ and_from (list_all p xs) (list_all p ys) h k
+
+-- bytes that all pass a test are not one that fails it
+pub without_class : (p : ℕ → Bool) (sign : ℕ) (text : List ℕ) → p sign ≡ false → list_all p text ≡ true → is_without sign text ≡ true
+without_class p sign [] fails h = refl
+without_class p sign (byte ∷ text) fails h =
+    let parts = and_parts (p byte) (list_all p text) h in
+    by_test (byte == sign)
+    (λ e. let same : byte ≡ sign = eqb-true byte sign e in let clash : true ≡ false = sym parts.0 ∙ ap p same ∙ fails in absurd (cc))
+    (λ e. rw e (without_class p sign text fails parts.1))

@@ -7,3 +7,4 @@ pub mod CutLaws
 pub mod LineLaws
 pub mod PieceLaws
 pub mod LengthLaws
+pub mod OrderLaws

@@ -14,15 +14,14 @@ use Rattle.arch_trait.specs.Laws.{IsArch}
 use Rattle.arch_trait.specs.Names.{letters, location_name}
 use Rattle.arch_trait.specs.Threads.{Puts}
 use Rattle.arch_trait.specs.Writing.{Writing, WritesBack, name_in}
-use Rattle.arch_trait.proofs.Tables.{length-letters, location_new}
+use Rattle.arch_laws.proofs.NameLaws.{length-letters, location_new}
 use Rattle.litmus_text.specs.declared.errors.TextError.{TextError}
 use Rattle.litmus_text.specs.Mentioned.{ReadsBack, is_in}
 use Rattle.litmus_text.specs.Printable.{IsTestName}
 use Rattle.litmus_text.specs.Reread.{reread}
 use Rattle.litmus_text.specs.TestReading.{TestRead, test_read}
 use Rattle.litmus_text.specs.TestText.{test_text}
-use Rattle.litmus_text.proofs.MentionedBack.{reads_back}
-use Rattle.litmus_text.proofs.NamesBack.{numbered_in}
+use Rattle.printed_test_laws.proofs.BackLaws.{reads_back, numbered_in}
 use Rattle.program_meaning.specs.declared.WriteAt.{WriteAt}
 use Rattle.program_meaning.specs.Executions.{Execution}
 use Rattle.program_meaning.specs.Intended.{event_read, location_numbered, reads_in}

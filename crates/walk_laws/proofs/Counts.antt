@@ -4,7 +4,7 @@ use Rattle.std.proofs.Math.Nat.{mul-le-mul_left}
 use Rattle.relax_edges.specs.declared.order.TheConstants.{EDGES}
 use Rattle.relax_edges.specs.declared.edge.Edge.{Edge}
 use Rattle.relax_edges.specs.Order.{rank_of}
-use Rattle.relax_edges.proofs.Ranks.{rank_below}
+use Rattle.cycle_laws.proofs.RankLaws.{rank_below}
 use Rattle.cycle_laws.specs.Order.{Above}
 use Rattle.walk_laws.specs.Listing.{ComesAfter}
 use Rattle.walk_laws.specs.Search.{StepsOver, over, replaced, IsRaised, IsExtended}

@@ -6,7 +6,7 @@ use Rattle.std.proofs.Math.Seq.{drop-cons}
 use Rattle.relax_edges.specs.declared.order.TheConstants.{EDGES}
 use Rattle.relax_edges.specs.declared.edge.Edge.{Edge}
 use Rattle.relax_edges.specs.Order.{rank_of}
-use Rattle.relax_edges.proofs.Ranks.{rank_below}
+use Rattle.cycle_laws.proofs.RankLaws.{rank_below}
 use Rattle.walk_laws.specs.Asked.{KeptBelow, KeptWhole}
 use Rattle.cycle_laws.specs.Order.{Above}
 use Rattle.walk_laws.specs.Search.{Reaches, ToCome, LeadsNowhere, NoneBetween, IsNextEdge, StepsOver, over, replaced, IsLonger, IsRaised, IsExtended, IsCut}

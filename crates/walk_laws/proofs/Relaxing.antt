@@ -5,7 +5,7 @@ use Rattle.std.proofs.lemmas.List.{append-nil, take_all}
 use Rattle.std.proofs.lemmas.Bool.{or_cases, and_parts, and_from, or_left, or_right, eqb-true, eq-eqb, true≢false}
 use Rattle.relax_edges.specs.declared.edge.Edge.{Edge}
 use Rattle.relax_edges.specs.Order.{rank_of}
-use Rattle.relax_edges.proofs.Ranks.{rank_injective}
+use Rattle.cycle_laws.proofs.RankLaws.{rank_injective}
 use Rattle.cycle_laws.specs.Rotation.{rotated}
 use Rattle.walk_laws.specs.Search.{LeadsNowhere}
 use Rattle.walk_laws.specs.Listing.{IsOneOf, concatenated, IsConcatenation, IsMadeOf}

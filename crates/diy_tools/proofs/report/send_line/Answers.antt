@@ -1,6 +1,6 @@
 -- That `send_line` sends the line of a status.
 use Rattle.std.proofs.Common.{sym}
-use Rattle.diy_io.proofs.PageLemmas.{not_spilled}
+use Rattle.diy_io.specs.PageLaws.{not_spilled}
 use Rattle.diy_tools.proofs.report.send_line.Goals as goal
 
 pub returns-in-Done : goal.returns-in-Done

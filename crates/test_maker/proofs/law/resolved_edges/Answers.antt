@@ -1,6 +1,7 @@
 -- That the resolution of a cycle is the turned cycle, and of the architecture where the cycle is.
 use Rattle.relax_edges.specs.EdgeTable.{is_of_arch}
-use Rattle.test_maker.proofs.OfArch.{none_foreign, resolved_turned, turned_of_arch}
+use Rattle.test_maker.proofs.OfArch.{resolved_turned, turned_of_arch}
+use Rattle.list_laws.proofs.Places.{none_foreign}
 use Rattle.test_maker.proofs.law.resolved_edges.Goals as goal
 
 pub returns-clause-turned : goal.returns-clause-turned

@@ -3,7 +3,7 @@ use Rattle.std.proofs.Common.{◌∙◌, sym, ap, not}
 use Rattle.std.specs.List.{position_from}
 use Rattle.relax_edges.specs.EdgeTable.{is_of_arch}
 use Rattle.test_maker.proofs.HavingTests.{made_has_test}
-use Rattle.test_maker.proofs.OfArch.{none_foreign}
+use Rattle.list_laws.proofs.Places.{none_foreign}
 use Rattle.test_maker.proofs.maker.make_into.Goals as goal
 
 pub make_of_arch-requires : goal.make_of_arch-requires

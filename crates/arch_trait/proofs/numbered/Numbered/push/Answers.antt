@@ -1,6 +1,6 @@
 -- There is room for the name of a numbered register, which is a letter and at most three digits.
 use Rattle.std.proofs.Common.{◌∷◌, [], ◌+◌, length, length-append, ap, arith}
-use Rattle.arch_trait.proofs.PlainTexts.{three_digits}
+use Rattle.list_laws.proofs.Digits.{three_digits}
 use Rattle.arch_trait.proofs.numbered.Numbered.push.Goals as goal
 
 pub push_str-requires : goal.push_str-requires

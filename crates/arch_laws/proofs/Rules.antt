@@ -11,7 +11,7 @@ use Rattle.micro_ops.specs.declared.operation.Barrier.{Barrier}
 use Rattle.micro_ops.specs.declared.operation.Item.TheVariants as items
 use Rattle.micro_ops.specs.Machine.{num, address, at_place, bit, put, loading, storing, place_at, branching_on}
 use Rattle.micro_ops.specs.Running.{Run, At, Past, Wants, go, exec, taken, led}
-use Rattle.micro_ops.proofs.Masks.{or_zero, zero_or, or_same}
+use Rattle.arch_laws.proofs.Masks.{or_zero, zero_or, or_same}
 
 -- a run in which a register was written
 abbrev pub holding : Run → ℕ → Held → Run

@@ -1,22 +1,23 @@
 -- What an architecture shows of its accesses: they write registers that were taken for them, and none
 -- that holds an address.
 use Rattle.std.proofs.Common.{ℕ, ◌+◌, ◌<◌, ◌≤◌, ◌≡◌, ◌==◌, refl, Bool, true, false, cond, not, ◌||◌, List, [], ◌∷◌, ◌++◌, Option, Some, None, ◌∙◌, sym, ap, subst, eq-eqb, ne_eqb, append-nil, arith}
-use Rattle.list_laws.proofs.Cases.{by_test}
+use Rattle.list_laws.proofs.Cases.{by_test, by_option}
 use Rattle.relax_edges.specs.declared.kinds.Dir.TheVariants as dirs
 use Rattle.relax_edges.specs.declared.kinds.Mark.{Mark}
 use Rattle.micro_ops.specs.declared.held.Held.{Held}
 use Rattle.micro_ops.specs.declared.operation.Micro.{Micro}
 use Rattle.micro_ops.specs.declared.operation.Micro.TheVariants as ops
 use Rattle.micro_ops.specs.declared.operation.Item.TheVariants as items
-use Rattle.micro_ops.specs.Machine.{num, at_place, bit, written}
+use Rattle.micro_ops.specs.Machine.{num, at_place, bit, written, address}
 use Rattle.micro_ops.specs.Running.{Run, At, go, exec}
-use Rattle.micro_ops.proofs.Rules.{holding, after_load, after_store, run_xor}
+use Rattle.arch_laws.proofs.Rules.{holding, after_load, after_store, run_xor, run_add_address, run_load}
 use Rattle.arch_trait.specs.declared.link.Link.{Link}
 use Rattle.arch_trait.specs.declared.link.Link.TheVariants as links
 use Rattle.arch_trait.specs.Links.{depends, is_addr, is_data}
 use Rattle.arch_trait.specs.Taking.{Taken, address_in, has_address, address_of, with_address}
 use Rattle.arch_trait.specs.Laws.{IsTaken, HoldsPlaces, HasSource, Did, DidLoad, DidLink, access_room}
-use Rattle.arch_trait.proofs.Taking.{by_option, address_bounds, address_kept, address_added}
+use Rattle.arch_laws.proofs.TakingLaws.{address_bounds, address_kept, address_added}
+use Rattle.relax_edges.specs.declared.kinds.Mark.TheVariants.{Plain}
 
 -- registers u come from r by writes of registers that were taken between g and h, and the address
 -- registers of h hold their places
@@ -66,12 +67,12 @@ spare_plain g h d t e above below = record {
 pub spare_with : (g i : Taken) (p d : ℕ) → IsTaken g → i.count ≡ g.count → i.links ≡ g.links →
     g.next ≤ d → d < i.next → IsSpare g (with_address i p) d
 spare_with g i p d t c e above below = by_option (address_in i.links p)
-    (λ a f. rw f (spare_plain g i d t e above below))
     (λ f. rw f (record {
       above = above;
       below = omega arith;
       free = λ q a k. not_next q a k;
     }))
+    (λ a f. rw f (spare_plain g i d t e above below))
   where
     old : (q a : ℕ) → address_in i.links q ≡ Some a → (a == d) ≡ false
     old q a k =
@@ -80,8 +81,6 @@ spare_with g i p d t c e above below = by_option (address_in i.links p)
 
     not_next : (q a : ℕ) → address_in (i.links ++ (i.next, p) ∷ []) q ≡ Some a → (a == d) ≡ false
     not_next q a k = by_option (address_in i.links q)
-        (λ b f. let m : Some b ≡ Some a = sym (address_kept i.links i.next p q b f) ∙ k in
-        let n : b ≡ a = cc in old q a (f ∙ ap Some n))
         (λ f. by_test (p == q)
         (λ u. let m : Some i.next ≡ Some a =
         sym (ap (λ b. cond b (Some i.next) None) u) ∙ (sym (address_added i.links i.next p q f) ∙ k) in
@@ -89,6 +88,8 @@ spare_with g i p d t c e above below = by_option (address_in i.links p)
         (λ u. let m : None ≡ Some a =
         sym (ap (λ b. cond b (Some i.next) None) u) ∙ (sym (address_added i.links i.next p q f) ∙ k) in
         absurd (none_some a m)))
+        (λ b f. let m : Some b ≡ Some a = sym (address_kept i.links i.next p q b f) ∙ k in
+        let n : b ≡ a = cc in old q a (f ∙ ap Some n))
       where
         none_some : (a : ℕ) → None ≡ Some a → ⊥
         none_some a m = cc
@@ -96,16 +97,16 @@ spare_with g i p d t c e above below = by_option (address_in i.links p)
 -- the address register of a place is the one that was given or taken for it
 pub address_is : (i : Taken) (p : ℕ) → address_in (with_address i p).links p ≡ Some (address_of i p)
 address_is i p = by_option (address_in i.links p)
-    (λ a e. rw (e, e) refl)
     (λ e. rw e (address_added i.links i.next p p e ∙ rw (eq-eqb p p refl) refl))
+    (λ a e. rw (e, e) refl)
 
 -- the address register of a place is one that was taken
 pub address_below : (g i : Taken) (p : ℕ) → IsTaken g → i.links ≡ g.links → g.next ≤ i.next →
     address_of i p < (with_address i p).next
 address_below g i p t e m = by_option (address_in i.links p)
+    (λ f. rw f (omega arith))
     (λ a f. let b = address_bounds 0 g.links g.next p a t.in_order (sym (ap (λ l. address_in l p) e) ∙ f) in
     rw f (omega (arith, b.1)))
-    (λ f. rw f (omega arith))
 
 -- a run that ends with a load into a spare register does what a load does
 pub did_load : (mark : Mark) (code : List Micro) (r u : Run) (g h : Taken) (d p n mask : ℕ) (vs : List ℕ) →
@@ -220,10 +221,6 @@ addr_no_data links.Ctrl e = refl
 addr_no_data links.CtrlIsync e = refl
 addr_no_data links.CtrlIsb e = refl
 
--- an address register takes one more register where the place has none
-pub address_next : (i : Taken) (p : ℕ) → (with_address i p).next ≡ i.next + cond (has_address i p) 0 1
-address_next i p = by_option (address_in i.links p) (λ a e. rw e (omega arith)) (λ e. rw e refl)
-
 -- an access takes an address register where its location is new
 pub fresh_counts : (g : Taken) (p : ℕ) (is_new : Bool) → is_new ≡ not (has_address g p) →
     ◌≡◌ {A = ℕ} (cond (has_address g p) 0 1) (cond is_new 1 0)
@@ -234,3 +231,18 @@ fresh_counts g p is_new e = of_test (has_address g p) is_new e
     of_test true false e = refl
     of_test false true e = refl
     of_test false false e = cc
+
+-- for instance a load on RISC-V that depends on an earlier one through its address: xor D,s,s; add D,D,A; lw V,0(D)
+addressed : (d s a v p n m : ℕ) (reads : List ℕ) (r : Run) → (a == d) ≡ false →
+    r.state.regs a ≡ at_place p → (r.state.regs s).mask ≡ m → r.reads ≡ n ∷ reads →
+    exec (ops.Xor d s s ∷ ops.Add d d a ∷ ops.Load v d None ∷ []) (At r) ≡
+    At (after_load Plain (holding (holding r d (num 0 m)) d (address p m)) v p n m reads)
+addressed d s a v p n m reads r e at_p is_m is_n =
+    let zeroed = holding r d (num 0 m) in
+    let added = holding zeroed d (address p m) in
+    ap (λ p. go (ops.Load v d None) (go (ops.Add d d a) p)) (run_xor d s r) ∙
+    ap (λ m. exec (ops.Add d d a ∷ ops.Load v d None ∷ []) (At (holding r d (num 0 m)))) is_m ∙
+    ap (go (ops.Load v d None))
+    (run_add_address d d a p m zeroed (written_same r.state.regs d (num 0 m))
+    (written_other r.state.regs d a (num 0 m) e ∙ at_p)) ∙
+    run_load v d p n m reads added (written_same zeroed.state.regs d (address p m)) is_n

@@ -1,0 +1,25 @@
+-- Laws of the parts of an instruction's text, which read back or are plain.
+use Rattle.std.proofs.Common.{ℕ, ◌^◌, ◌<◌, ◌≡◌, true, List, ◌≤◌, Some}
+use Rattle.std.specs.Fmt.{decimal}
+use Rattle.std.specs.List.{list_all}
+use Rattle.arch_trait.specs.WordBytes.{is_word_byte}
+use Rattle.text_laws.specs.Names.{is_place_name}
+use Rattle.arch_trait.specs.Writing.{immediate, label, label_name, label_word, label_raw}
+use Rattle.micro_ops.specs.declared.operation.Micro.TheVariants as ops
+use Rattle.arch_trait.proofs.PlainTexts as proved
+
+-- a number in decimal has neither blanks nor commas
+pub decimal_plain : (n : ℕ) → n < 2 ^ 32 → list_all is_word_byte (decimal n) ≡ true
+decimal_plain n h = proved.decimal_plain n h
+
+-- the name of a place has neither blanks nor commas
+pub place_name_plain : (name : List ℕ) → is_place_name name ≡ true → list_all is_word_byte name ≡ true
+place_name_plain name h = proved.place_name_plain name h
+
+-- an immediate is read from its decimal
+pub immediate_back : (n : ℕ) → n ≤ 2047 → immediate (decimal n) ≡ Some n
+immediate_back n h = proved.immediate_back n h
+
+-- a label is read from its name and the colon
+pub label_back : (n : ℕ) → label_raw (label_word n) ≡ Some (record { op = ops.Label 0; name = label (label_name n) })
+label_back n = proved.label_back n

@@ -1,0 +1,7 @@
+-- The bytes of a word in an instruction's text.
+use Rattle.std.proofs.Common.{ℕ, ◌==◌, Bool, not, ◌&&◌}
+use Rattle.text_laws.specs.Blanks.{is_blank}
+
+-- a byte of a word: no blank and no comma
+abbrev pub is_word_byte : ℕ → Bool
+is_word_byte x = not (is_blank x) && not (x == 44)

@@ -1,0 +1,27 @@
+-- The first element of a list that passes a test: its place, and what is before it.
+use Rattle.std.specs.Prelude.{ℕ, ◌≡◌, ◌+◌, Bool, false, List, ◌∷◌}
+use Rattle.std.proofs.Common.{suc, arith, refl, true, not, cond, [], Some, None, sym, ap, ◌∙◌}
+use Rattle.std.specs.List.{before_first, position_or_len, list_all, position_from}
+use Rattle.list_laws.proofs.Cases.{by_test}
+
+one_more : (n : ℕ) → 1 + n ≡ suc n
+one_more n = omega arith
+
+-- a byte that fails the test is before the first that passes
+pub before_first-no : (test : ℕ → Bool) (byte : ℕ) (behind : List ℕ) → test byte ≡ false → before_first test (byte ∷ behind) ≡ byte ∷ before_first test behind
+before_first-no test byte behind n = rw (n, one_more (position_or_len test behind)) refl
+
+-- a byte that fails the test moves the place of the first that passes one further
+pub position_or_len-no : (test : ℕ → Bool) (byte : ℕ) (behind : List ℕ) → test byte ≡ false → position_or_len test (byte ∷ behind) ≡ suc (position_or_len test behind)
+position_or_len-no test byte behind n = rw (n, one_more (position_or_len test behind)) refl
+
+-- where none is found that fails a test, all pass it
+pub none_foreign : {X : Type 0} (p : X → Bool) (xs : List X) (k : ℕ) → position_from (λ x. not (p x)) k xs ≡ None → list_all p xs ≡ true
+none_foreign p [] k h = refl
+none_foreign p (x ∷ xs) k h =
+    by_test (p x)
+    (λ e. rw e (none_foreign p xs (k + 1) (sym (ap (λ b. cond (not b) (Some k) (position_from (λ y. not (p y)) (k + 1) xs)) e) ∙ h)))
+    (λ e. some_none k (sym (ap (λ b. cond (not b) (Some k) (position_from (λ y. not (p y)) (k + 1) xs)) e) ∙ h))
+  where
+    some_none : {G : Type 0} (k : ℕ) → Some k ≡ None → G
+    some_none k e = cc e
