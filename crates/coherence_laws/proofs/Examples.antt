@@ -9,10 +9,10 @@ use Rattle.program_meaning.specs.declared.WriteAt.{WriteAt}
 use Rattle.program_meaning.specs.Accesses.{Access, read, write, is_read}
 use Rattle.program_meaning.specs.Executions.{Execution}
 use Rattle.program_meaning.specs.Programs.{Program, Thread, IsCandidate, IsCoherentIn, accesses_in}
-use Rattle.program_meaning.specs.Deciding.{every, name, are_reads, are_distinct}
-use Rattle.program_meaning.proofs.Every.{every_name}
-use Rattle.program_meaning.proofs.Candidates.{candidate_means}
-use Rattle.program_meaning.proofs.CoherenceLaws.{coheres_means}
+use Rattle.execution_laws.specs.Deciding.{every, name, are_reads, are_distinct}
+use Rattle.execution_laws.proofs.Every.{every_name}
+use Rattle.execution_laws.proofs.Candidates.{candidate_means}
+use Rattle.execution_laws.proofs.CoherenceLaws.{coheres_means}
 use Rattle.coherence_laws.specs.Relations.{IsPath, IsScPerLocation, Po, Rf, Co, Fr}
 use Rattle.coherence_laws.specs.Laws.{WritesWithin}
 use Rattle.coherence_laws.proofs.Laws.{candidates_are_sc_per_location}

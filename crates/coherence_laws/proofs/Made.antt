@@ -9,8 +9,8 @@ use Rattle.program_meaning.specs.Accesses.{Access, write, got_from, at_name}
 use Rattle.program_meaning.specs.Executions.{Execution}
 use Rattle.program_meaning.specs.Programs.{Program, IsCandidate, accesses_in}
 use Rattle.program_meaning.specs.Intended.{IsNumbering, cycle_accesses}
-use Rattle.program_meaning.proofs.Names.{GotFrom, got_from_list}
-use Rattle.program_meaning.proofs.Runs.{accesses-count}
+use Rattle.execution_laws.proofs.Names.{GotFrom, got_from_list}
+use Rattle.execution_laws.proofs.Runs.{accesses-count}
 use Rattle.communication_laws.specs.Joining.{Makes, filled, values_left, values_read}
 use Rattle.communication_laws.proofs.Lists.{Got, got_below}
 use Rattle.communication_laws.proofs.Accesses.{EventAt, LoadAt, by_origin}

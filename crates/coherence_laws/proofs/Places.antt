@@ -8,7 +8,7 @@ use Rattle.program_meaning.specs.declared.WriteAt.{WriteAt}
 use Rattle.program_meaning.specs.Accesses.{Access, read, write, is_read, at_name, reads_among, reads_before}
 use Rattle.program_meaning.specs.Executions.{Execution, CanRead, AreReadsOf, IsExecutionOf}
 use Rattle.program_meaning.specs.Coherence.{order_place, order_at, named_by, source_at, coherence_place}
-use Rattle.program_meaning.proofs.Names.{got_from_list}
+use Rattle.execution_laws.proofs.Names.{got_from_list}
 use Rattle.communication_laws.proofs.Lists.{got_below, rank_filter}
 use Rattle.communication_laws.proofs.Orders.{order_place_at}
 use Rattle.coherence_laws.specs.Relations.{IsWriteTo, IsReadOf}

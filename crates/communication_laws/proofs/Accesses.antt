@@ -13,7 +13,7 @@ use Rattle.program_meaning.specs.declared.WriteAt.{WriteAt}
 use Rattle.program_meaning.specs.Accesses.{Access, read, got_from, at_name}
 use Rattle.program_meaning.specs.Standing.{event_name}
 use Rattle.program_meaning.specs.Intended.{observed_locations, event_access, observer_accesses, cycle_accesses}
-use Rattle.program_meaning.proofs.Names.{GotFrom, got_from_list}
+use Rattle.execution_laws.proofs.Names.{GotFrom, got_from_list}
 use Rattle.communication_laws.proofs.Lists.{slice_get-append_left, slice_get-append_right, image_of, got_map}
 use Rattle.communication_laws.proofs.Resolves.{Resolves}
 

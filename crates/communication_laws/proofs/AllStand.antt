@@ -15,8 +15,8 @@ use Rattle.program_meaning.specs.Executions.{Execution}
 use Rattle.program_meaning.specs.Programs.{Program, visits_in, accesses_in}
 use Rattle.program_meaning.specs.Standing.{AccessAt, Named, access_at, IsEvent, Observes, HasEvents, AllStand, Joins, event_name}
 use Rattle.program_meaning.specs.Intended.{IsNumbering, event_access, event_at, observer_accesses, observed_locations, cycle_accesses}
-use Rattle.program_meaning.proofs.Names.{got_from_list}
-use Rattle.program_meaning.proofs.Runs.{accesses-count}
+use Rattle.execution_laws.proofs.Names.{got_from_list}
+use Rattle.execution_laws.proofs.Runs.{accesses-count}
 use Rattle.communication_laws.specs.Premises.{MeetsCondition}
 use Rattle.communication_laws.specs.Joining.{AreFree, IsTiedUp}
 use Rattle.communication_laws.specs.Laws.{AllJoin}

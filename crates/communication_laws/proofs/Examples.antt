@@ -11,7 +11,7 @@ use Rattle.resolution_laws.specs.Resolution.{thread_of, slot_of, location_of, mo
 use Rattle.value_laws.specs.Values.{value_of, way_place, write_count, write_at, is_observed}
 use Rattle.program_meaning.specs.Accesses.{read, write}
 use Rattle.program_meaning.specs.Intended.{cycle_accesses, intended, location_order, location_numbered}
-use Rattle.program_meaning.specs.Deciding.{name}
+use Rattle.execution_laws.specs.Deciding.{name}
 
 -- program order to another location, from a write to a write
 abbrev pub PodWW : Edge

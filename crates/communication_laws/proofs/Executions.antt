@@ -21,9 +21,9 @@ use Rattle.program_meaning.specs.Coherence.{final_value}
 use Rattle.program_meaning.specs.Programs.{Program, IsCandidate, IsCoherentIn, accesses_in, items_in, register_in, visits_in}
 use Rattle.program_meaning.specs.declared.WriteAt.{WriteAt}
 use Rattle.program_meaning.specs.Standing.{Named, AllStand, Communicates, HasEvents, IsEvent, Stands, StartsFree, Observes, event_name}
-use Rattle.program_meaning.specs.Deciding.{name, are_reads, are_distinct}
-use Rattle.program_meaning.proofs.Candidates.{candidate_means}
-use Rattle.program_meaning.proofs.CoherenceLaws.{coheres_means}
+use Rattle.execution_laws.specs.Deciding.{name, are_reads, are_distinct}
+use Rattle.execution_laws.proofs.Candidates.{candidate_means}
+use Rattle.execution_laws.proofs.CoherenceLaws.{coheres_means}
 use Rattle.communication_laws.proofs.Examples.{store_buffering, two_writes, W3O}
 
 -- an access without a barrier or a dependency

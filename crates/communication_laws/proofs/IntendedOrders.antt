@@ -15,7 +15,7 @@ use Rattle.program_meaning.specs.Executions.{Execution, IsExecutionOf, IsOrderOf
 use Rattle.program_meaning.specs.Coherence.{order_place, order_at, placed_by, coherence_place}
 use Rattle.program_meaning.specs.Standing.{event_name}
 use Rattle.program_meaning.specs.Intended.{IsNumbering, cycle_accesses, ordered_write, write_of, location_order, location_numbered, intended}
-use Rattle.program_meaning.proofs.Names.{GotFrom, got_from_list}
+use Rattle.execution_laws.proofs.Names.{GotFrom, got_from_list}
 use Rattle.communication_laws.proofs.Lists.{got_below}
 use Rattle.communication_laws.proofs.Orders.{Holds, Gives, place_given}
 use Rattle.communication_laws.proofs.Numbering.{location_of_number}

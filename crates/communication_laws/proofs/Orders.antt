@@ -9,7 +9,7 @@ use Rattle.list_laws.proofs.Cases.{by_test, by_less}
 use Rattle.program_meaning.specs.declared.WriteAt.{WriteAt}
 use Rattle.program_meaning.specs.Executions.{same_write}
 use Rattle.program_meaning.specs.Coherence.{order_place, from_one}
-use Rattle.program_meaning.proofs.Names.{same_write-refl, same_write-true}
+use Rattle.execution_laws.proofs.Names.{same_write-refl, same_write-true}
 use Rattle.communication_laws.proofs.Lists.{same_below, length-filter_map-upto, slice_get-filter_map-upto, got_below}
 
 -- the coherence place of a write that is listed once in an order

@@ -12,7 +12,7 @@ use Rattle.program_meaning.specs.Accesses.{Access, is_read}
 use Rattle.program_meaning.specs.Executions.{Execution, IsExecutionOf}
 use Rattle.program_meaning.specs.Coherence.{IsCoherent, final_value}
 use Rattle.program_meaning.specs.Programs.{Program, HasEnded, runs_of, accesses_in}
-use Rattle.program_meaning.proofs.Runs.{accesses-count}
+use Rattle.execution_laws.proofs.Runs.{accesses-count}
 use Rattle.program_meaning.specs.Intended.{IsNumbering, cycle_accesses, intended}
 use Rattle.communication_laws.specs.Premises.{MeetsCondition}
 use Rattle.communication_laws.specs.Joining.{filled, values_read, Makes, ReadsAsAsked, IsOutcome}

@@ -20,7 +20,7 @@ use Rattle.program_meaning.specs.Accesses.{Access, read, write}
 use Rattle.program_meaning.specs.Executions.{Execution}
 use Rattle.program_meaning.specs.Coherence.{coherence_place, final_value}
 use Rattle.program_meaning.specs.Standing.{event_name}
-use Rattle.program_meaning.specs.Deciding.{name, coheres}
+use Rattle.execution_laws.specs.Deciding.{name, coheres}
 use Rattle.program_meaning.specs.Intended.{cycle_accesses, event_access, intended, location_order, location_numbered}
 use Rattle.communication_laws.proofs.Examples.{PodWW, Wse, Fre, two_writes, W3, W3O, here}
 

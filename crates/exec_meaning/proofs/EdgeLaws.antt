@@ -34,7 +34,7 @@ use Rattle.program_meaning.specs.Accesses.{Access, Barred}
 use Rattle.program_meaning.specs.Executions.{Execution, same_write}
 use Rattle.program_meaning.specs.Coherence.{source_at}
 use Rattle.program_meaning.specs.Standing.{AccessAt, Named, access_at, AreAt, ComesBefore, Communicates, CommunicatesBy, Reaches, Joins, mask_of, is_in_mask, IsTied, BarriersWait, DependsBy, TiesBy, Stands}
-use Rattle.program_meaning.proofs.Names.{same_write-refl, same_write-true}
+use Rattle.execution_laws.proofs.Names.{same_write-refl, same_write-true}
 use Rattle.exec_meaning.specs.Edges.{same_mark, same_pick, same_fence, same_barrier, is_alone, is_none, are_at, is_source, comes_before, communicates, communicates_by, reaches, joins, same_answer, depends, barriers_wait, depends_by, ties_by, stands}
 
 -- a test passes exactly where its statement holds

@@ -1,6 +1,6 @@
 ghost use Rattle.std.specs.Prelude.{◌≡◌, ◌++◌, map, IfOk, OnOk};
 ghost use Rattle.program_meaning.specs.Accesses.{at_name, accesses_of, visits_of, is_read, reads_before};
-ghost use Rattle.program_meaning.specs.Deciding.{writes_to};
+ghost use Rattle.execution_laws.specs.Deciding.{writes_to};
 ghost use Rattle.exec_meaning.specs.Runs.{access_in};
 
 use micro_ops::{Item, Trace};

@@ -4,4 +4,3 @@ pub mod Coherence
 pub mod Programs
 pub mod Standing
 pub mod Intended
-pub mod Deciding

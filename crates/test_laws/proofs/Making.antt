@@ -16,7 +16,7 @@ use Rattle.program_meaning.specs.Accesses.{Access, is_read, reads_by}
 use Rattle.program_meaning.specs.Executions.{Execution}
 use Rattle.program_meaning.specs.Programs.{IsCandidate}
 use Rattle.program_meaning.specs.Intended.{IsNumbering, observed_locations, event_access, observer_accesses, cycle_accesses, intended}
-use Rattle.program_meaning.proofs.Runs.{accesses-count}
+use Rattle.execution_laws.proofs.Runs.{accesses-count}
 use Rattle.communication_laws.specs.Joining.{filled, values_read, Makes, ReadsAsAsked}
 use Rattle.communication_laws.proofs.Lists.{got_below, got_map, map_same, map-map}
 use Rattle.communication_laws.proofs.Bridge.{resolves}

@@ -14,7 +14,7 @@ use Rattle.program_meaning.specs.declared.WriteAt.{WriteAt}
 use Rattle.program_meaning.specs.Accesses.{Visit, visits_of, accesses_of}
 use Rattle.program_meaning.specs.Executions.{Execution}
 use Rattle.program_meaning.specs.Programs.{Program, Thread, run_of, runs_of, made_in, HasEnded, items_in, visits_in, accesses_in}
-use Rattle.program_meaning.proofs.Runs.{accesses-count}
+use Rattle.execution_laws.proofs.Runs.{accesses-count}
 use Rattle.communication_laws.specs.Joining.{filled, values_read}
 use Rattle.communication_laws.proofs.Lists.{got_below, got_map}
 use Rattle.test_laws.specs.Programs.{thread_from, program_of}

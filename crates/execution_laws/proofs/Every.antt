@@ -4,8 +4,8 @@ use Rattle.std.proofs.lemmas.Bool.{and_parts, and_from}
 use Rattle.std.proofs.lemmas.Option.{same_Some}
 use Rattle.program_meaning.specs.declared.WriteAt.{WriteAt}
 use Rattle.program_meaning.specs.Accesses.{at_name}
-use Rattle.program_meaning.specs.Deciding.{every, name}
-use Rattle.program_meaning.proofs.Names.{in_thread, at_name_of}
+use Rattle.execution_laws.specs.Deciding.{every, name}
+use Rattle.execution_laws.proofs.Names.{in_thread, at_name_of}
 
 -- where every element passes with its number, so does each one
 pub every_means : {X : Type 0} (p : ℕ → X → Bool) (n : ℕ) (xs : List X) → every p n xs ≡ true → (k j : ℕ) (x : X) → j ≡ n + k → slice_get xs k ≡ Some x → p j x ≡ true

@@ -8,7 +8,7 @@ use Rattle.program_meaning.specs.declared.WriteAt.{WriteAt}
 use Rattle.program_meaning.specs.Accesses.{visits_of, accesses_of}
 use Rattle.program_meaning.specs.Executions.{Execution}
 use Rattle.program_meaning.specs.Programs.{Program, Thread, HasEnded, runs_of, made_in, items_in, visits_in, accesses_in}
-use Rattle.program_meaning.specs.Deciding.{has_ended, all_ended}
+use Rattle.execution_laws.specs.Deciding.{has_ended, all_ended}
 
 -- there are as many runs as threads
 pub runs-count : (threads : List Thread) (reads : List (List (ℕ × Option WriteAt))) → length (runs_of threads reads) ≡ length threads
