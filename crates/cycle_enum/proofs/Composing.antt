@@ -8,12 +8,13 @@ use Rattle.std.proofs.Math.Seq.{drop-cons}
 use Rattle.cycle_laws.specs.Composable.{IsCycle, is_joined, last_joins}
 use Rattle.cycle_laws.proofs.Composing.{joined_parts, joined_prefix}
 
--- of the edges that come after a list the first decides whether its last edge joins them
+-- of the edges that come after a list the first decides whether the last edge of the list joins them
 last_joins_head : (v u : List Edge) (x : Edge) → last_joins v (x ∷ u) ≡ last_joins v (x ∷ [])
 last_joins_head [] u x = refl
 last_joins_head (y ∷ []) u x = refl
 last_joins_head (y ∷ z ∷ v) u x = last_joins_head (z ∷ v) u x
 
+-- the same, where that first edge is the one at place 0
 pub last_joins_first : (u v : List Edge) (d : Edge) → 0 < length u → last_joins v u ≡ last_joins v (get_or u 0 d ∷ [])
 last_joins_first [] v d some = absurd (omega arith)
 last_joins_first (x ∷ u) v d some = last_joins_head v u x

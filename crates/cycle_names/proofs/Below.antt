@@ -85,6 +85,7 @@ module _ {A : Type 0} (below : A → A → Bool) where
       find_only (λ v. not (list_any (λ w. below w v) xs)) xs v h.member (first_stays xs v h.none)
       (λ w m t. only w (record { member = m; none = stays_first xs w t }))
 
+  -- a list has a member that is first
   pub record HasFirst (xs : List A) : Type 0 where
     pub one : A
     pub is : IsFirst xs one

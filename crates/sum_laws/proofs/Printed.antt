@@ -25,6 +25,7 @@ pub record IsForm (form : List ℕ) : Type 0 where
   pub read : form_read form ≡ Ok form
   pub line : IsLine form
 
+-- a text can be a condition of this kind: it is words joined by blanks, some of them, begins with the quantifier, and is one line
 pub record IsCondition (kind : Kind) (text : List ℕ) : Type 0 where
   pub joined : joined_words (words text) ≡ text
   pub some : is_nil text ≡ false

@@ -26,6 +26,7 @@ pub record IsCodeOf (codes : List ThreadCode) (k : ℕ) (steps : List Step) : Ty
   pub code_at : slice_get codes k ≡ Some code
   pub makes : MakesSteps steps code
 
+-- codes are those of threads, in their order
 pub record AreCodesOf (codes : List ThreadCode) (threads : List (List Step)) : Type 0 where
   pub count : length codes ≡ length threads
   pub each : (k : ℕ) (steps : List Step) → slice_get threads k ≡ Some steps → IsCodeOf codes k steps

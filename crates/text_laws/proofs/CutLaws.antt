@@ -34,7 +34,7 @@ without_take sign (b ∷ text) (suc k) h =
     (λ e. absurd (h 0 (omega arith) (omega arith) e))
     (λ e. rw e (without_take sign text k (λ j low inside is. h (suc j) (omega arith) (omega arith) is)))
 
--- a text in which a sign stands at no place is without it
+-- a text in which a sign is at no place is without it
 pub without_all : (sign : ℕ) (text : List ℕ) → ((j : ℕ) → j < length text → get_or text j 0 == sign ≡ true → ⊥) → is_without sign text ≡ true
 without_all sign text h = ap (is_without sign) (sym (take-length text)) ∙ without_take sign text (length text) (λ j low inside is. h j inside is)
 

@@ -25,7 +25,7 @@ pub split_whole : (p : ℕ → Bool) (text : List ℕ) → list_all (λ byte. no
 split_whole p [] h = refl
 split_whole p (byte ∷ text) h = by_test (p byte) (λ e. let k = rw e at h in absurd (cc)) (λ e. rw e (ap (onto_first byte) (split_whole p text (rw e at h))))
 
--- where a byte of the class stands between two texts, the pieces of the one come before those of the other
+-- where a byte of the class is between two texts, the pieces of the one come before those of the other
 pub split_both : (p : ℕ → Bool) (a : List ℕ) (sign : ℕ) (b : List ℕ) → p sign ≡ true → slice_split p (a ++ sign ∷ b) ≡ slice_split p a ++ slice_split p b
 split_both p [] sign b h = rw h refl
 split_both p (byte ∷ a) sign b h =

@@ -98,6 +98,7 @@ reaches_to_come (x ∷ u) m l h = h
 
 -- a search that began at `start` is at the list: what is still to come, and what it may ask of the list
 module _ (sought : List Edge → Type 0) (keeps : List Edge → Type 0) (n : ℕ) (sized : (m : List Edge) → sought m → length m ≡ n) where
+  -- the list is not too long, its shorter prefixes are kept, and what was to come at the start is still to come
   pub record Searching (start list : List Edge) : Type 0 where
     pub few : length list ≤ n
     pub kept : KeptBelow keeps (length list) list
