@@ -1,5 +1,5 @@
 -- States with their sums, as a table keeps them.
-use Rattle.std.proofs.Common.{◌≡◌, ℕ, zero, suc, ◌+◌, ◌<◌, List, [], ◌∷◌, ◌++◌, Some, None, true, false, cond, length, refl, sym, ap, ◌∙◌, arith, subst}
+use Rattle.std.proofs.Common.{◌≡◌, inl, inr, ℕ, zero, suc, ◌+◌, ◌<◌, List, [], ◌∷◌, ◌++◌, Some, None, true, false, cond, length, refl, sym, ap, ◌∙◌, arith, subst}
 use Rattle.std.specs.Prelude.{Bool, ◌&&◌, Option, map, slice_get, option_map, T, position, is_some, min, Result, Ok, Err, OnOk, OnErr, MatchOption}
 use Rattle.std.specs.Bool.{OnTrue}
 use Rattle.std.specs.Ordering.{nat_cmp, is_eq, is_lt}
@@ -7,10 +7,12 @@ use Rattle.std.specs.Cmp.Lexicographic.{slice_cmp}
 use Rattle.std.specs.BTreeMap.{insert_entry}
 use Rattle.std.specs.FinMap.Entries.{is_sorted, below_all}
 use Rattle.std.specs.List.{IsDistinct, AllByRecursion}
+use Rattle.std.specs.Option.{ForSome}
 use Rattle.std.specs.Map.{lookup, lookup_key, keys_of, values_of}
 use Rattle.std.specs.Str.{bytes_eq}
 use Rattle.std.specs.declared.vec.Vec.{Vec}
 use Rattle.std.specs.declared.alloc.Global.{Global}
+use Rattle.std.proofs.lemmas.Bool.{true≢false}
 use Rattle.std.proofs.lemmas.Map.Text.{is_eq-slice_cmp}
 use Rattle.std.proofs.lemmas.Slice.Eq.{bytes_eq-Decides}
 use Rattle.list_laws.proofs.Cases.{by_test}
@@ -18,12 +20,14 @@ use Rattle.indexmap.specs.Layout.{set_value_at}
 use Rattle.indexmap.specs.IndexMap as indexed
 use Rattle.indexmap.proofs.MapLemmas.{Found-position, insert_entry-absent, absent_from_lookup}
 use Rattle.log_sum.specs.declared.kinds.Mark.{Mark}
+use Rattle.log_sum.specs.declared.spelling.Spelling.{Spelling}
 use Rattle.log_sum.specs.declared.state_table.StateSum.{StateSum}
 use Rattle.log_sum.specs.Summed.{StateSummed}
 use Rattle.log_sum.specs.States.{form_read}
 use Rattle.log_sum.specs.Counts.{last_count}
 use Rattle.log_sum.specs.Steps.{known_state}
-use Rattle.log_sum.specs.StateEntries.{sum_view, state_view, state_at, states_view, AreInOrder, AreWritten, written_as, HasState}
+use Rattle.log_sum.specs.Spelling.{written_as, is_later, is_spelled, IsSpelled, AddsText}
+use Rattle.log_sum.specs.StateEntries.{sum_view, state_view, state_at, states_view, AreInOrder, AreWritten, HasState}
 use Rattle.log_sum.proofs.OrderLaws.{ordered_known, ordered_put, ordered_is}
 
 abbrev Entries : Type 0
@@ -103,17 +107,52 @@ sorted_written (e ∷ es) (suc i) w =
 pub order_written : (es : List (Vec ℕ Global × StateSum)) (i : ℕ) (w : StateSum) → AreInOrder es → AreInOrder (set_value_at es i w)
 order_written es i w h = subst T (sym (sorted_written es i w)) h
 
--- the texts by which logs wrote states are read as before where a sum is changed
-pub written_again : (es : List (Vec ℕ Global × StateSum)) (i : ℕ) (v w : StateSum) → slice_get (values_of es) i ≡ Some v → w.other_text ≡ v.other_text → AreWritten es → AreWritten (set_value_at es i w)
-written_again [] i v w at_i same h j key sum e = h j key sum e
-written_again (x ∷ es) zero v w at_i same h zero key sum e =
+-- the texts that are kept of states are read as these where a sum is changed to one whose texts are
+pub written_again : (es : List (Vec ℕ Global × StateSum)) (i : ℕ) (v w : StateSum) → slice_get (values_of es) i ≡ Some v
+    → ((state : List ℕ) → state_at es i ≡ Some state → IsSpelled state v.spelling → IsSpelled state w.spelling) → AreWritten es → AreWritten (set_value_at es i w)
+written_again [] i v w at_i keeps h j key sum e = h j key sum e
+written_again (x ∷ es) zero v w at_i keeps h zero key sum e =
     let first : x.1 ≡ v = cc in
     let pair : ◌≡◌ {A = Vec ℕ Global × StateSum} (x.0, w) (key, sum) = cc in
-    let shown = ap (λ (o : Option (Vec ℕ Global)). form_read (written_as x.0.items o)) (same ∙ ap (λ (s : StateSum). s.other_text) (sym first)) ∙ h zero x.0 x.1 refl in
-    subst (λ (y : Vec ℕ Global × StateSum). form_read (written_as y.0.items y.1.other_text) ≡ Ok y.0.items) pair shown
-written_again (x ∷ es) zero v w at_i same h (suc j) key sum e = h (suc j) key sum e
-written_again (x ∷ es) (suc i) v w at_i same h zero key sum e = h zero key sum e
-written_again (x ∷ es) (suc i) v w at_i same h (suc j) key sum e = written_again es i v w at_i same (λ k. h (suc k)) j key sum e
+    let spelled = keeps x.0.items refl (subst (λ (s : StateSum). IsSpelled x.0.items s.spelling) first (h zero x.0 x.1 refl)) in
+    subst (λ (y : Vec ℕ Global × StateSum). IsSpelled y.0.items y.1.spelling) pair spelled
+written_again (x ∷ es) zero v w at_i keeps h (suc j) key sum e = h (suc j) key sum e
+written_again (x ∷ es) (suc i) v w at_i keeps h zero key sum e = h zero key sum e
+written_again (x ∷ es) (suc i) v w at_i keeps h (suc j) key sum e = written_again es i v w at_i keeps (λ k. h (suc k)) j key sum e
+
+-- a text that is read as a state may be kept of it
+pub text_added : (state text : List ℕ) (old new : Spelling) → AddsText old text new → form_read text ≡ Ok state → IsSpelled state old → IsSpelled state new
+text_added state text old new (inl same) read spelled = subst (IsSpelled state) (sym same) spelled
+text_added state text old new (inr adds) read spelled = (
+  ap (λ (first : Option (Vec ℕ Global)). form_read (written_as state first)) adds.0 ∙ spelled.0,
+  later_read new.later adds.1,
+)
+  where
+    later_read : (later : Option (Vec ℕ Global)) → ForSome later (λ l. l.items ≡ text) → ForSome later (λ l. form_read l.items ≡ Ok state)
+    later_read later is = λ l at. ap form_read (is l at) ∙ read
+
+-- a text that writes the state at an index is read as that state
+pub text_read : (es : List (Vec ℕ Global × StateSum)) (i : ℕ) (text state : List ℕ) → HasState es text i → state_at es i ≡ Some state → form_read text ≡ Ok state
+text_read es i text state has at_index =
+    let same : Some has.state ≡ Some state = sym has.state_is ∙ at_index in
+    let is : has.state ≡ state = cc in
+    has.read ∙ ap Ok is
+
+-- where the mark and the count at an index stay, the states are the same
+pub same_view : (es : List (Vec ℕ Global × StateSum)) (i : ℕ) (v w : StateSum) → slice_get (values_of es) i ≡ Some v → sum_view w ≡ sum_view v
+    → map state_view (set_value_at es i w) ≡ map state_view es
+same_view [] i v w at_i same = refl
+same_view (x ∷ es) zero v w at_i same =
+    let first : x.1 ≡ v = cc in ap (λ (s : Mark × ℕ). (x.0.items, s) ∷ map state_view es) (same ∙ ap sum_view (sym first))
+same_view (x ∷ es) (suc i) v w at_i same = ap (λ t. state_view x ∷ t) (same_view es i v w at_i same)
+
+-- the state at each index is the same where a sum is changed
+pub same_state : (es : List (Vec ℕ Global × StateSum)) (i j : ℕ) (w : StateSum) → state_at (set_value_at es i w) j ≡ state_at es j
+same_state [] i j w = refl
+same_state (x ∷ es) zero zero w = refl
+same_state (x ∷ es) zero (suc j) w = refl
+same_state (x ∷ es) (suc i) zero w = refl
+same_state (x ∷ es) (suc i) (suc j) w = same_state es i j w
 
 -- a state that an earlier key has is another
 earlier_other : (es : List (Vec ℕ Global × StateSum)) (i : ℕ) (x text : List ℕ) → AllByRecursion (λ (y : Vec ℕ Global). bytes_eq x y.items ≡ false) (keys_of es) → state_at es i ≡ Some text → bytes_eq x text ≡ false
@@ -176,11 +215,11 @@ view_more es key w none =
     ordered_put (map state_view es) (map state_view (es ++ (key, w) ∷ [])) key.items (sum_view w)
     (λ q. ap (λ t. known_state t q) (map_more es key w) ∙ known_more (map state_view es) key.items (sum_view w) q (sym (ordered_known (map state_view es) key.items) ∙ none))
 
--- a new entry whose text is read as its state keeps that so for all entries
-pub written_more : (es : List (Vec ℕ Global × StateSum)) (key : Vec ℕ Global) (w : StateSum) → form_read (written_as key.items w.other_text) ≡ Ok key.items → AreWritten es → AreWritten (es ++ (key, w) ∷ [])
+-- a new entry whose texts are read as its state keeps that so for all entries
+pub written_more : (es : List (Vec ℕ Global × StateSum)) (key : Vec ℕ Global) (w : StateSum) → IsSpelled key.items w.spelling → AreWritten es → AreWritten (es ++ (key, w) ∷ [])
 written_more [] key w shown h zero other sum e =
     let pair : ◌≡◌ {A = Vec ℕ Global × StateSum} (key, w) (other, sum) = cc in
-    subst (λ (y : Vec ℕ Global × StateSum). form_read (written_as y.0.items y.1.other_text) ≡ Ok y.0.items) pair shown
+    subst (λ (y : Vec ℕ Global × StateSum). IsSpelled y.0.items y.1.spelling) pair shown
 written_more [] key w shown h (suc i) other sum e = cc
 written_more (x ∷ es) key w shown h zero other sum e = h zero other sum e
 written_more (x ∷ es) key w shown h (suc i) other sum e = written_more es key w shown (λ k. h (suc k)) i other sum e
@@ -254,20 +293,31 @@ pub view_put : (es more : List (Vec ℕ Global × StateSum)) (key : Vec ℕ Glob
 view_put es more key w e h = ap states_view (e ∙ put_last es key w h) ∙ view_more es key w h
 
 -- the table's texts are read as its states after a new state was put, or wasn't for want of memory
-pub written_put : {X Y : Type 0} (es more : List (Vec ℕ Global × StateSum)) (key : Vec ℕ Global) (w : StateSum) → known_state (states_view es) key.items ≡ None → form_read (written_as key.items w.other_text) ≡ Ok key.items → AreWritten es
+pub written_put : {X Y : Type 0} (es more : List (Vec ℕ Global × StateSum)) (key : Vec ℕ Global) (w : StateSum) → known_state (states_view es) key.items ≡ None → IsSpelled key.items w.spelling → AreWritten es
     → (r : Result X Y) → OnOk r (more ≡ indexed.insert_entry (λ (x y : Vec ℕ Global). bytes_eq x.items y.items) es key w) → OnErr r (more ≡ es) → AreWritten more
 written_put es more key w none shown h (Ok x) e g = subst AreWritten (sym (e ∙ put_last es key w none)) (written_more es key w shown h)
 written_put es more key w none shown h (Err x) e g = subst AreWritten (sym g) h
 
--- a text that is the one by which a log wrote a state first is read as that state
-pub written_at : (es : List (Vec ℕ Global × StateSum)) (i : ℕ) (text first : List ℕ) (key : Vec ℕ Global) (sum : StateSum) (b : Bool) → AreWritten es → Some (key, sum) ≡ slice_get es i
-    → first ≡ written_as key.items sum.other_text → b ≡ bytes_eq first text → OnTrue b (HasState es text i)
-written_at es i text first key sum true h e f same = record {
+-- a text that is kept of a state is read as that state
+spelled_read : (state text : List ℕ) (spelling : Spelling) → IsSpelled state spelling → is_spelled state spelling text ≡ true → form_read text ≡ Ok state
+spelled_read state text spelling spelled has =
+    by_test (bytes_eq (written_as state spelling.first) text)
+    (λ first. ap form_read (sym ((bytes_eq-Decides (written_as state spelling.first) text).0 first)) ∙ spelled.0)
+    (λ other. later_read spelling.later spelled.1 (rw other at has))
+  where
+    later_read : (later : Option (Vec ℕ Global)) → ForSome later (λ l. form_read l.items ≡ Ok state) → is_later later text ≡ true → form_read text ≡ Ok state
+    later_read None read is = absurd (true≢false (sym is))
+    later_read (Some l) read is = ap form_read (sym ((bytes_eq-Decides l.items text).0 is)) ∙ read l refl
+
+-- and so the state that the text writes is at the index
+pub written_at : (es : List (Vec ℕ Global × StateSum)) (i : ℕ) (text form : List ℕ) (key : Vec ℕ Global) (sum : StateSum) (b : Bool) → AreWritten es → Some (key, sum) ≡ slice_get es i
+    → form ≡ key.items → b ≡ is_spelled form sum.spelling text → OnTrue b (HasState es text i)
+written_at es i text form key sum true h e is has = record {
   state = key.items;
   state_is = at_entry es i key sum e;
-  read = ap form_read (sym ((bytes_eq-Decides first text).0 (sym same)) ∙ f) ∙ h i key sum (sym e);
+  read = spelled_read key.items text sum.spelling (h i key sum (sym e)) (rw is at (sym has));
 }
-written_at es i text first key sum false h e f same = tt
+written_at es i text form key sum false h e is has = tt
 
 -- entries in byte order are as the definitions see them
 pub in_order_view : (es : List (Vec ℕ Global × StateSum)) → AreInOrder es → states_view es ≡ map state_view es

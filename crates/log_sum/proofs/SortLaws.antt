@@ -18,9 +18,9 @@ use Rattle.std.proofs.lemmas.Map.Text.{is_eq-slice_cmp}
 use Rattle.std.proofs.lemmas.Slice.Eq.{bytes_eq-Decides}
 use Rattle.list_laws.proofs.Cases.{by_test}
 use Rattle.log_sum.specs.declared.state_table.StateSum.{StateSum}
-use Rattle.log_sum.specs.States.{form_read}
+use Rattle.log_sum.specs.Spelling.{IsSpelled}
 use Rattle.log_sum.specs.Steps.{known_state}
-use Rattle.log_sum.specs.StateEntries.{sum_view, state_view, states_view, AreInOrder, AreWritten, written_as}
+use Rattle.log_sum.specs.StateEntries.{sum_view, state_view, states_view, AreInOrder, AreWritten}
 use Rattle.log_sum.proofs.OrderLaws.{apart_less, ordered_same}
 use Rattle.text_laws.proofs.OrderLaws.{order}
 use Rattle.log_sum.proofs.EntryLaws.{entries_known}
@@ -70,14 +70,14 @@ pub view_reordered : (old new : List (Vec ℕ Global × StateSum)) → ((k : Vec
     → states_view new ≡ states_view old
 view_reordered old new same = ordered_same (map state_view new) (map state_view old) (reordered_known old new same)
 
--- the texts by which logs wrote states are read as before where each key has the same sum
+-- the texts that are kept of states are read as before where each key has the same sum
 pub written_reordered : (old new : List (Vec ℕ Global × StateSum)) → IsDistinct (λ (x y : Vec ℕ Global). bytes_eq x.items y.items) (keys_of new)
     → ((k : Vec ℕ Global) → lookup (λ (y : Vec ℕ Global). bytes_eq k.items y.items) new ≡ lookup (λ (y : Vec ℕ Global). bytes_eq k.items y.items) old) → AreWritten old → AreWritten new
 written_reordered old new distinct same h i key sum e =
     let there = sym (same key) ∙ lookup_from_place by_bytes new i key sum distinct e in
     let place = place_from_lookup (λ (y : Vec ℕ Global). bytes_eq key.items y.items) old sum there in
     let is : key.items ≡ place.1.items = (bytes_eq-Decides key.items place.1.items).0 place.3 in
-    subst (λ (t : List ℕ). form_read (written_as t sum.other_text) ≡ Ok t) (sym is) (h place.0 place.1 sum place.2)
+    subst (λ (t : List ℕ). IsSpelled t sum.spelling) (sym is) (h place.0 place.1 sum place.2)
 
 -- keys that ascend and differ are in order
 both : (a b : Bool) → a ≡ true → T b → T (a && b)

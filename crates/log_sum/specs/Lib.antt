@@ -10,6 +10,7 @@ pub mod Reading
 pub mod Summed
 pub mod Representing
 pub mod Feeding
+pub mod Spelling
 pub mod StateEntries
 pub mod Steps
 pub mod SumText

@@ -1,6 +1,6 @@
 -- States with their sums, as a table keeps them.
 -- Source: own.
-use Rattle.std.specs.Prelude.{◌≡◌, ◌+◌, ℕ, T, min, List, [], ◌∷◌, Option, Some, None, map, option_map, slice_get, Ok}
+use Rattle.std.specs.Prelude.{◌≡◌, ◌+◌, ℕ, T, min, List, [], ◌∷◌, Option, Some, map, option_map, slice_get, Ok}
 use Rattle.std.specs.Ordering.{nat_cmp}
 use Rattle.std.specs.Cmp.Lexicographic.{slice_cmp}
 use Rattle.std.specs.BTreeMap.{insert_entry}
@@ -11,6 +11,7 @@ use Rattle.log_sum.specs.declared.kinds.Mark.{Mark}
 use Rattle.log_sum.specs.declared.state_table.StateSum.{StateSum}
 use Rattle.log_sum.specs.Counts.{last_count}
 use Rattle.log_sum.specs.States.{form_read}
+use Rattle.log_sum.specs.Spelling.{IsSpelled}
 use Rattle.log_sum.specs.Steps.{known_state}
 use Rattle.log_sum.specs.Summed.{StateSummed}
 
@@ -61,15 +62,10 @@ SeenMore old new i count =
 abbrev pub AreInOrder : List (Vec ℕ Global × StateSum) → Type 0
 AreInOrder entries = T (is_sorted (slice_cmp nat_cmp) (map state_view entries))
 
--- the text by which a log wrote a state first: its printed form, unless another is kept
-abbrev pub written_as : List ℕ → Option (Vec ℕ Global) → List ℕ
-written_as form None = form
-written_as form (Some text) = text.items
-
--- the text by which a log wrote a state first is read as that state
+-- the texts that are kept of each state are read as that state
 abbrev pub AreWritten : List (Vec ℕ Global × StateSum) → Type 0
 AreWritten entries =
-    (i : ℕ) (key : Vec ℕ Global) (sum : StateSum) → slice_get entries i ≡ Some (key, sum) → form_read (written_as key.items sum.other_text) ≡ Ok key.items
+    (i : ℕ) (key : Vec ℕ Global) (sum : StateSum) → slice_get entries i ≡ Some (key, sum) → IsSpelled key.items sum.spelling
 
 -- the state that a text writes is at an index
 pub record HasState (entries : List (Vec ℕ Global × StateSum)) (text : List ℕ) (i : ℕ) : Type 0 where

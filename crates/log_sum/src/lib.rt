@@ -9,6 +9,7 @@ mod lines;
 mod places;
 mod print;
 mod reading;
+mod spelling;
 mod state_table;
 mod states;
 mod summer;

@@ -1,9 +1,10 @@
-ghost use Rattle.std.specs.Prelude.{◌≡◌, [], true, Some, None, Ok, OnOk, IfSome, MatchOption};
+ghost use Rattle.std.specs.Prelude.{◌≡◌, ℕ, [], true, Some, None, OnOk, IfSome, MatchOption};
 ghost use Rattle.std.specs.Bool.{OnTrue};
-ghost use Rattle.log_sum.specs.States.{form_read};
-ghost use Rattle.log_sum.specs.StateEntries.{AreInOrder, AreWritten, HasState, IsSumAt, SeenMore, known_in, sum_view, state_at, states_view, with_state, written_as};
+ghost use Rattle.log_sum.specs.Spelling.{IsSpelled};
+ghost use Rattle.log_sum.specs.StateEntries.{AreInOrder, AreWritten, HasState, IsSumAt, SeenMore, known_in, sum_view, state_at, states_view, with_state};
 
 use crate::kinds::Mark;
+use crate::spelling::Spelling;
 use diy_io::NoMemory;
 use indexmap::IndexMap;
 use std::alloc::Global;
@@ -13,8 +14,8 @@ use std::alloc::Global;
 pub(crate) struct StateSum {
     pub(crate) mark: Mark,
     pub(crate) count: u64,
-    /// The text by which a log wrote the state first, where that isn't its printed form.
-    pub(crate) other_text: Option<Vec<u8>>,
+    /// By which texts logs wrote the state.
+    pub(crate) spelling: Spelling,
 }
 
 /// The states of a test by their printed forms.
@@ -27,18 +28,6 @@ pub(crate) struct StateTable {
     pub(crate) in_order: bool,
     ghost are_written: { AreWritten sums.entries },
     ghost are_in_order: { in_order ≡ true → AreInOrder sums.entries },
-}
-
-impl StateSum {
-    /// The text by which a log wrote the state first, which is printed so.
-    fn text<'a>(&'a self, state: &'a [u8]) -> &'a [u8]
-        ensures { result.now ≡ written_as state.now self.now.other_text }
-    {
-        match &self.other_text {
-            Some(text) => text.as_slice(),
-            None => state,
-        }
-    }
 }
 
 impl StateTable {
@@ -54,7 +43,7 @@ impl StateTable {
         }
     }
 
-    /// The index of the state that a text writes, where a log wrote it so first.
+    /// The index of the state that a text writes, where that is known of the text.
     ///
     /// Logs of one test list its states in one order, so the two after the last one are tried before all others.
     pub(crate) fn written_index(&self, text: &[u8]) -> Option<usize>
@@ -75,12 +64,12 @@ impl StateTable {
         }
     }
 
-    /// Whether a log wrote the state at an index by this text first.
+    /// Whether the text is kept of the state at an index.
     fn is_written_at(&self, i: usize, text: &[u8]) -> bool
         ensures { OnTrue result (HasState self.now.sums.entries text.now i) }
     {
         match self.sums.get_index(i) {
-            Some((state, sum)) => sum.text(state.as_slice()) == text,
+            Some((state, sum)) => sum.spelling.has(state.as_slice(), text),
             None => false,
         }
     }
@@ -112,6 +101,18 @@ impl StateTable {
         self.next = self.index_after(i);
     }
 
+    /// Keeps the text by which a log wrote the state at an index, unless it has one beside the first.
+    pub(crate) fn keep_text(&mut self, alloc: Global, i: usize, text: &[u8]) -> Result<(), NoMemory>
+        requires { HasState self.old.sums.entries text.now i }
+        ensures states { states_view self.new.sums.entries ≡ states_view self.old.sums.entries }
+        ensures same { (j : ℕ) → state_at self.new.sums.entries j ≡ state_at self.old.sums.entries j }
+    {
+        match self.sums.get_index_mut(i) {
+            Some(sum) => sum.spelling.keep(alloc, text),
+            None => Ok(()),
+        }
+    }
+
     /// The index after one, or 0 where it is the last.
     fn index_after(&self, i: usize) -> usize {
         let next = i.saturating_add(1);
@@ -121,7 +122,7 @@ impl StateTable {
     /// Adds a state.
     pub(crate) fn put(&mut self, state: Vec<u8>, sum: StateSum) -> Result<(), NoMemory>
         requires new { known_in self.old.sums.entries state.items ≡ None }
-        requires written { form_read (written_as state.items sum.other_text) ≡ Ok state.items }
+        requires written { IsSpelled state.items sum.spelling }
         ensures { OnOk result (states_view self.new.sums.entries ≡ with_state self.old.sums.entries state.items (sum_view sum)) }
     {
         self.in_order = false;

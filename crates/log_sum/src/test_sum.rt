@@ -2,15 +2,15 @@ ghost use Rattle.std.specs.Prelude.{◌≡◌, None, Ok, IfOk};
 ghost use Rattle.log_sum.specs.Classes.{Gives, GivesOr, TestTold, row_read, test_view};
 ghost use Rattle.log_sum.specs.Facts.{same_kind, same_mark, a_kind, a_condition, a_hash, a_row, row_with};
 ghost use Rattle.log_sum.specs.States.{form_read};
-ghost use Rattle.log_sum.specs.StateEntries.{ForStateAt, written_as};
+ghost use Rattle.log_sum.specs.StateEntries.{ForStateAt};
 ghost use Rattle.log_sum.specs.Steps.{fact_to, of_kind, known_state, row_to, with_verdict, marked, with_marked};
 
 use crate::errors::{Fault, LogKind};
 use crate::kinds::{Kind, Mark, Verdict};
 use crate::lines::Row;
+use crate::spelling::Spelling;
 use crate::state_table::{StateSum, StateTable};
 use crate::states::StateReader;
-use diy_io::NoMemory;
 use std::alloc::Global;
 
 /// What the logs so far say of a test.
@@ -45,16 +45,6 @@ fn same_mark(one: Mark, other: Mark) -> bool
         (Mark::Plain, Mark::Plain) => true,
         _ => false,
     }
-}
-
-/// A text, where it isn't the printed form of the state that it writes.
-fn other_text(alloc: Global, text: &[u8], form: &[u8]) -> Result<Option<Vec<u8>>, NoMemory>
-    ensures { IfOk result (λ other. written_as form.now other ≡ text.now) }
-{
-    if text == form {
-        return Ok(None);
-    }
-    Ok(Some(Vec::from_slice(alloc, text)?))
 }
 
 impl TestSum {
@@ -160,7 +150,10 @@ impl TestSum {
         }
         reader.read(row.text)?;
         match self.states.index_of(reader.form()) {
-            Some(i) => self.add(i, row.mark, row.count),
+            Some(i) => {
+                self.states.keep_text(alloc, i, row.text)?;
+                self.add(i, row.mark, row.count)
+            }
             None => self.put_new(alloc, reader.form(), row),
         }
     }
@@ -197,7 +190,7 @@ impl TestSum {
         let known = StateSum {
             mark: row.mark,
             count: row.count,
-            other_text: other_text(alloc, row.text, state)?,
+            spelling: Spelling::of_first(alloc, row.text, state)?,
         };
         self.states.put(Vec::from_slice(alloc, state)?, known)?;
         self.set_marked(row.mark, sum + row.count);

@@ -8,7 +8,7 @@ use Rattle.log_sum.proofs.state_table.StateTable.add.Goals.{in-Some, in_default}
 
 pub invariant_of-self : goal.invariant_of-self
 invariant_of-self c = record {
-  are_written = written_again c.args.self.now.sums.entries c.args.i c.in-Some.sum.now _ (sym c.in-Some.ensures.value) refl c.args.self.now.are_written;
+  are_written = written_again c.args.self.now.sums.entries c.args.i c.in-Some.sum.now _ (sym c.in-Some.ensures.value) (λ state at_index spelled. spelled) c.args.self.now.are_written;
   are_in_order = λ h. order_written c.args.self.now.sums.entries c.args.i _ (c.args.self.now.are_in_order h);
 }
 

@@ -1,9 +1,10 @@
 -- `TestSum::put_new` adds a new state, or answers that the sum is too large.
-use Rattle.std.proofs.Common.{◌+◌, ◌≤◌, ap, sym, ◌∙◌, refl, None, Ok, arith}
+use Rattle.std.proofs.Common.{◌+◌, ◌≤◌, ◌≡◌, ap, sym, ◌∙◌, refl, None, Some, Ok, arith}
 use Rattle.std.specs.Prelude.{nat_lt}
 use Rattle.std.specs.Ordering.{nat_cmp}
 use Rattle.std.specs.Cmp.Lexicographic.{slice_cmp}
 use Rattle.std.specs.BTreeMap.{insert_entry}
+use Rattle.log_sum.specs.States.{form_read}
 use Rattle.log_sum.specs.Counts.{last_count}
 use Rattle.log_sum.specs.Facts.{row_with}
 use Rattle.log_sum.specs.Classes.{test_view}
@@ -14,6 +15,12 @@ pub returns-then-row-sum : goal.returns-then-row-sum
 returns-then-row-sum c =
     row_large (test_view c.args.self.now) (row_with c.args.state.now c.args.row.mark c.args.row.count) None (sym c.requires.new) refl
     (ap (λ s. nat_lt last_count (s + c.args.row.count)) (sym c.sum_of_mark-sum.ensures) ∙ too_large c.sum_of_mark-sum.result c.args.row.count c.if-row-sum.true)
+
+pub put-requires-clause-written : goal.put-requires-clause-written
+put-requires-clause-written c = (
+  rw c.in_ok-from_slice.ensures.items (ap form_read c.in_ok-of_first.ensures.first ∙ c.requires.read),
+  λ text at. absurd (let h : None ≡ Some text = sym c.in_ok-of_first.ensures.later ∙ at in cc),
+)
 
 pub returns : goal.returns
 returns c =

@@ -1,0 +1,69 @@
+ghost use Rattle.std.specs.Prelude.{◌≡◌, None, IfOk};
+ghost use Rattle.log_sum.specs.Spelling.{AddsText, is_later, is_spelled, written_as};
+
+use diy_io::NoMemory;
+use std::alloc::Global;
+
+/// By which texts logs wrote a state. Logs of one tool write it alike, so of two tools' logs each text is known soon.
+#[derive(Drop)]
+pub(crate) struct Spelling {
+    /// The text by which a log wrote the state first, where that isn't its printed form.
+    pub(crate) first: Option<Vec<u8>>,
+    /// The first other text by which a log wrote it later.
+    pub(crate) later: Option<Vec<u8>>,
+}
+
+impl Spelling {
+    /// That of a state with this printed form, of which only the text by which a log wrote it first is known.
+    pub(crate) fn of_first(alloc: Global, text: &[u8], form: &[u8]) -> Result<Spelling, NoMemory>
+        ensures first { IfOk result (λ spelling. written_as form.now spelling.first ≡ text.now) }
+        ensures later { IfOk result (λ spelling. spelling.later ≡ None) }
+    {
+        if text == form {
+            return Ok(Spelling {
+                first: None,
+                later: None,
+            });
+        }
+        Ok(Spelling {
+            first: Some(Vec::from_slice(alloc, text)?),
+            later: None,
+        })
+    }
+
+    /// Whether a text is kept of the state with this printed form.
+    pub(crate) fn has(&self, form: &[u8], text: &[u8]) -> bool
+        ensures { result ≡ is_spelled form.now self.now text.now }
+    {
+        self.first_text(form) == text || self.is_later(text)
+    }
+
+    /// The text by which a log wrote the state first.
+    fn first_text<'a>(&'a self, form: &'a [u8]) -> &'a [u8]
+        ensures { result.now ≡ written_as form.now self.now.first }
+    {
+        match &self.first {
+            Some(text) => text.as_slice(),
+            None => form,
+        }
+    }
+
+    fn is_later(&self, text: &[u8]) -> bool
+        ensures { result ≡ is_later self.now.later text.now }
+    {
+        match &self.later {
+            Some(later) => later.as_slice() == text,
+            None => false,
+        }
+    }
+
+    /// Keeps another text, unless one is kept.
+    pub(crate) fn keep(&mut self, alloc: Global, text: &[u8]) -> Result<(), NoMemory>
+        ensures { AddsText self.old text.now self.new }
+    {
+        if self.later.is_none() {
+            self.later = Some(Vec::from_slice(alloc, text)?);
+        }
+        Ok(())
+    }
+}
