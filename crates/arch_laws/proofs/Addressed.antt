@@ -18,9 +18,9 @@ use Rattle.arch_laws.proofs.Rules.{holding, after_barrier, run_barrier}
 use Rattle.arch_laws.proofs.MachineLaws.{exec_append}
 use Rattle.arch_trait.specs.declared.link.Link.{Link}
 use Rattle.arch_trait.specs.declared.link.Link.TheVariants as links
-use Rattle.arch_trait.specs.Links.{link_is_of, depends, is_addr, is_data, mask_if, source_if, link_control, link_items}
+use Rattle.arch_trait.specs.Links.{link_is_of, depends_on_load, is_addr, is_data, mask_if, source_if, link_control, link_items}
 use Rattle.arch_trait.specs.Taking.{Taken, took, has_address, address_of, with_address}
-use Rattle.arch_trait.specs.Laws.{HoldsPlaces, HasSource, Did, DidLoad, DidLink, IsWanting, IsTaken, Takes, HasLink, IsUsable, MakesLinks, MakesAccess, MakesLoads, MakesStores, IsArch, link_room, link_labels, is_at}
+use Rattle.arch_trait.specs.Laws.{HoldsPlaces, HasSource, Did, DidLoad, DidLink, IsWanting, IsTaken, Takes, HasLink, IsUsable, MakesLinks, MakesAccess, MakesLoads, MakesStores, IsArch, link_room, link_labels, is_at_place}
 use Rattle.arch_trait.specs.Addressed.{Instructions, puts_of, store_op, load_through, store_through, branch_code, link_code, load_on, filled_on, store_on}
 use Rattle.arch_laws.proofs.TakingLaws.{takes_address, address_there, address_next}
 use Rattle.arch_laws.proofs.Accesses.{Writes, IsSpare, writes_none, writes_more, written_same, spare_with, address_is, address_below, did_load, did_store, did_nothing, on_source, xor_runs, written_other, addr_depends, data_depends, addr_no_data, fresh_counts}
@@ -61,7 +61,7 @@ did_after own kind s n r c d =
     (did_barrier (own.branch s n ++ ops.Label n ∷ []) kind r c d)
 
 link_runs : (own : Instructions) → KeepsInstructions own → (link : Link) (from : Option ℕ) (n : ℕ) (r : Run) (k : ℕ) →
-    (depends link ≡ true → HasSource r from k) →
+    (depends_on_load link ≡ true → HasSource r from k) →
     DidLink (link_code own link from n) r (link_items link k r.state.control)
     (link_control link k r.state.control)
 link_runs own keeps links.Plain from n r k source = did_nothing r
@@ -290,7 +290,7 @@ load_lands own keeps g mark p (Some s) =
     (load_through_short own keeps mark g.next (g.next + 1) (address_of (took g 2) p)).lands
 
 load_at : (own : Instructions) → KeepsInstructions own → (g : Taken) (mark : Mark) (p : ℕ) (o : Option ℕ) →
-    list_all (is_at p) (load_on own g mark o p).code ≡ true
+    list_all (is_at_place p) (load_on own g mark o p).code ≡ true
 load_at own keeps g mark p None = (load_op_short mark g.next (address_of (took g 1) p)).no_place p
 load_at own keeps g mark p (Some s) =
     (load_through_short own keeps mark g.next (g.next + 1) (address_of (took g 2) p)).no_place p
@@ -365,7 +365,7 @@ store_lands own keeps g mark p v (Some s) d =
     (store_through_short own keeps mark g.next (g.next + 1) (address_of (took g 2) p)).lands
 
 store_at : (own : Instructions) → KeepsInstructions own → (g : Taken) (mark : Mark) (p v : ℕ) (o d : Option ℕ) →
-    list_all (is_at p) (store_on own g mark o d p v).code ≡ true
+    list_all (is_at_place p) (store_on own g mark o d p v).code ≡ true
 store_at own keeps g mark p v None None =
     (both_short (ops.Imm g.next v) mark g.next (address_of (took g 1) p) (imm_short g.next v)).no_place p
 store_at own keeps g mark p v None (Some s) =
@@ -522,12 +522,12 @@ link_lands own keeps links.CtrlIsb from n =
     branch_lands own keeps from n (ops.Barrier barriers.Isb ∷ []) refl
 
 branch_no_place : (own : Instructions) → KeepsInstructions own → (from : Option ℕ) (n p : ℕ) (rest : List Micro) →
-    list_all (is_at p) rest ≡ true → list_all (is_at p) (branch_code own from n rest) ≡ true
+    list_all (is_at_place p) rest ≡ true → list_all (is_at_place p) (branch_code own from n rest) ≡ true
 branch_no_place own keeps None n p rest h = refl
 branch_no_place own keeps (Some s) n p rest h = keeps.branch_no_place s n p rest h
 
 link_no_place : (own : Instructions) → KeepsInstructions own → (link : Link) (from : Option ℕ) (n p : ℕ) →
-    list_all (is_at p) (link_code own link from n) ≡ true
+    list_all (is_at_place p) (link_code own link from n) ≡ true
 link_no_place own keeps links.Plain from n p = refl
 link_no_place own keeps (links.Fence kind) from n p = refl
 link_no_place own keeps links.Addr from n p = refl

@@ -11,24 +11,24 @@ use Rattle.arch_trait.specs.declared.link.Link.{Link}
 use Rattle.arch_trait.specs.declared.link.Link.TheVariants as links
 use Rattle.arch_trait.specs.Links.{is_addr, is_data, source_if}
 use Rattle.arch_trait.specs.Taking.{Taken, took, address_of}
-use Rattle.arch_trait.specs.Cells.{is_access, accesses_in, MakesOneAccess}
+use Rattle.arch_trait.specs.Cells.{is_access, access_count, MakesOneAccess}
 use Rattle.arch_trait.specs.Addressed.{Instructions, puts_of, load_op, store_op, load_through, store_through, branch_code, link_code, load_on, store_on}
 
 -- the accesses of an architecture's own instructions
 pub record MakesOnce (own : Instructions) : Type 0 where
   pub branch : (s n : ℕ) (rest : List Micro) →
-      accesses_in (own.branch s n ++ ops.Label n ∷ rest) ≡ accesses_in rest
-  pub load : (d v a : ℕ) → accesses_in (own.load d v a) ≡ 1
-  pub store : (d v a : ℕ) → accesses_in (own.store d v a) ≡ 1
+      access_count (own.branch s n ++ ops.Label n ∷ rest) ≡ access_count rest
+  pub load : (d v a : ℕ) → access_count (own.load d v a) ≡ 1
+  pub store : (d v a : ℕ) → access_count (own.store d v a) ≡ 1
   pub joins : (d n : ℕ) → is_access (own.joins d n) ≡ false
 
 branch_once : (own : Instructions) → MakesOnce own → (from : Option ℕ) (n : ℕ) (rest : List Micro) →
-    accesses_in rest ≡ 0 → accesses_in (branch_code own from n rest) ≡ 0
+    access_count rest ≡ 0 → access_count (branch_code own from n rest) ≡ 0
 branch_once own once None n rest h = refl
 branch_once own once (Some s) n rest h = once.branch s n rest ∙ h
 
 link_once : (own : Instructions) → MakesOnce own → (link : Link) (from : Option ℕ) (n : ℕ) →
-    accesses_in (link_code own link from n) ≡ 0
+    access_count (link_code own link from n) ≡ 0
 link_once own once links.Plain from n = refl
 link_once own once (links.Fence kind) from n = refl
 link_once own once links.Addr from n = refl
@@ -39,41 +39,41 @@ link_once own once links.CtrlIsync from n =
 link_once own once links.CtrlIsb from n =
     branch_once own once from n (ops.Barrier barriers.Isb ∷ []) refl
 
-load_op_once : (mark : Mark) (v a : ℕ) → accesses_in (load_op mark v a ∷ []) ≡ 1
+load_op_once : (mark : Mark) (v a : ℕ) → access_count (load_op mark v a ∷ []) ≡ 1
 load_op_once Plain v a = refl
 load_op_once Acquire v a = refl
 load_op_once Release v a = refl
 
-store_op_once : (mark : Mark) (v a : ℕ) → accesses_in (store_op mark v a ∷ []) ≡ 1
+store_op_once : (mark : Mark) (v a : ℕ) → access_count (store_op mark v a ∷ []) ≡ 1
 store_op_once Plain v a = refl
 store_op_once Acquire v a = refl
 store_op_once Release v a = refl
 
 load_through_once : (own : Instructions) → MakesOnce own → (mark : Mark) (d v a : ℕ) →
-    accesses_in (load_through own mark d v a) ≡ 1
+    access_count (load_through own mark d v a) ≡ 1
 load_through_once own once Plain d v a = once.load d v a
 load_through_once own once Acquire d v a = refl
 load_through_once own once Release d v a = once.load d v a
 
 store_through_once : (own : Instructions) → MakesOnce own → (mark : Mark) (d v a : ℕ) →
-    accesses_in (store_through own mark d v a) ≡ 1
+    access_count (store_through own mark d v a) ≡ 1
 store_through_once own once Plain d v a = once.store d v a
 store_through_once own once Acquire d v a = once.store d v a
 store_through_once own once Release d v a = refl
 
 load_once : (own : Instructions) → MakesOnce own → (g : Taken) (mark : Mark) (p : ℕ) (o : Option ℕ) →
-    accesses_in (load_on own g mark o p).code ≡ 1
+    access_count (load_on own g mark o p).code ≡ 1
 load_once own once g mark p None = load_op_once mark g.next (address_of (took g 1) p)
 load_once own once g mark p (Some s) = load_through_once own once mark g.next (g.next + 1) (address_of (took g 2) p)
 
 -- an operation that is no access, before others
-none_before : (op : Micro) (code : List Micro) → is_access op ≡ false → accesses_in (op ∷ code) ≡ accesses_in code
+none_before : (op : Micro) (code : List Micro) → is_access op ≡ false → access_count (op ∷ code) ≡ access_count code
 none_before op code e =
     let none : ◌≡◌ {A = ℕ} (cond (is_access op) 1 0) 0 = ap (λ b. cond b 1 0) e in
     omega (arith, none, sum_by-cons (λ x. cond (is_access x) 1 0) op code)
 
 store_once : (own : Instructions) → MakesOnce own → (g : Taken) (mark : Mark) (p v : ℕ) (o d : Option ℕ) →
-    accesses_in (store_on own g mark o d p v).code ≡ 1
+    access_count (store_on own g mark o d p v).code ≡ 1
 store_once own once g mark p v None None = store_op_once mark g.next (address_of (took g 1) p)
 store_once own once g mark p v None (Some s) =
     none_before (own.joins g.next v) (store_op mark g.next (address_of (took g 1) p) ∷ []) (once.joins g.next v) ∙

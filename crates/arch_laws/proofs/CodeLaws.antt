@@ -2,7 +2,7 @@
 use Rattle.std.proofs.Common.{false, List, ◌≤◌, ◌*◌, Bool, length, ◌≡◌}
 use Rattle.arch_trait.specs.declared.step.Step.{Step}
 use Rattle.arch_trait.specs.Threads.{Puts, FitSteps, compiled, shape_of, Way, thread_code, loads_in, thread_loads}
-use Rattle.arch_trait.specs.Codes.{MakesSteps, IsFormed}
+use Rattle.arch_trait.specs.Codes.{MakesSteps, IsFormedCode}
 use Rattle.arch_trait.specs.Laws.{IsArch}
 use Rattle.arch_trait.proofs.Whole as whole
 use Rattle.arch_trait.proofs.Codes as codes
@@ -14,7 +14,7 @@ makes_steps a laws ss fit = whole.makes_steps a laws ss fit
 
 -- where registers are enough, the code of a thread is well formed
 pub is_formed : (a : Puts) → IsArch a → (ss : List Step) → FitSteps a.name false ss →
-    a.need (shape_of ss) ≤ a.registers → IsFormed a ss (compiled a ss)
+    a.need (shape_of ss) ≤ a.registers → IsFormedCode a ss (compiled a ss)
 is_formed a laws ss fit enough = whole.is_formed a laws ss fit enough
 
 -- a thread has at most six operations for each access

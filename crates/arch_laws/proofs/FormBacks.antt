@@ -16,7 +16,7 @@ use Rattle.arch_trait.specs.declared.numbered.Numbered.{Numbered}
 use Rattle.arch_trait.specs.Cells.{is_cell_byte}
 use Rattle.arch_trait.specs.Forms.{register_name, register_names}
 use Rattle.arch_trait.specs.Writing.{name_in, is_plain, is_label_name, label_name, label_word}
-use Rattle.arch_trait.specs.WordBytes.{is_word_byte}
+use Rattle.arch_trait.specs.WordBytes.{is_instruction_byte}
 use Rattle.list_laws.proofs.Digits.{three_digits, digits_of}
 
 -- numbered registers: a letter, and numbers of at most three digits
@@ -24,7 +24,7 @@ pub record IsNumbered (n : Numbered) : Type 0 where
   pub letter : is_ascii_alphabetic n.letter ≡ true
   pub small : n.first + n.count ≤ 1000
 
-name_byte_word : (b : ℕ) → is_ascii_alphanumeric b ≡ true → is_word_byte b ≡ true
+name_byte_word : (b : ℕ) → is_ascii_alphanumeric b ≡ true → is_instruction_byte b ≡ true
 name_byte_word b h = grind (arith, nat_tests)
 
 name_byte_cell : (b : ℕ) → is_ascii_alphanumeric b ≡ true → is_cell_byte b ≡ true
@@ -47,13 +47,13 @@ label_bytes (b ∷ bytes) h =
 
 -- the name of a label that has its form is plain
 pub label_plain : (l : ℕ) → is_label_name (label_name l) ≡ true → is_plain (label_name l) ≡ true
-label_plain l h = list_all-weaker is_ascii_alphanumeric is_word_byte name_byte_word (label_name l) (label_bytes (label_name l) h)
+label_plain l h = list_all-weaker is_ascii_alphanumeric is_instruction_byte name_byte_word (label_name l) (label_bytes (label_name l) h)
 
 -- so is the word that sets the label
 pub label_word_plain : (l : ℕ) → is_label_name (label_name l) ≡ true → is_plain (label_word l) ≡ true
 label_word_plain l h =
-    list_all-append is_word_byte (label_name l) (58 ∷ []) ∙
-    and_from (list_all is_word_byte (label_name l)) true (label_plain l h) refl
+    list_all-append is_instruction_byte (label_name l) (58 ∷ []) ∙
+    and_from (list_all is_instruction_byte (label_name l)) true (label_plain l h) refl
 
 -- the name of a label that has its form fits in a cell
 pub label_cell : (l : ℕ) → is_label_name (label_name l) ≡ true → list_all is_cell_byte (label_name l) ≡ true

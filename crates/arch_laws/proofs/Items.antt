@@ -15,8 +15,8 @@ use Rattle.micro_ops.specs.Machine.{bit}
 use Rattle.arch_trait.specs.declared.link.Link.{Link}
 use Rattle.arch_trait.specs.declared.link.Link.TheVariants as links
 use Rattle.arch_trait.specs.declared.step.Step.{Step}
-use Rattle.arch_trait.specs.Links.{branches, depends, link_control, link_items}
-use Rattle.arch_trait.specs.Threads.{FitSteps, is_load_dir, loads_in, loads_after, first_of, left_after, access_item, thread_items, control_after}
+use Rattle.arch_trait.specs.Links.{branches, depends_on_load, link_control, link_items}
+use Rattle.arch_trait.specs.Threads.{FitSteps, is_load_dir, loads_in, loads_after, first_number, left_after, access_item, thread_items, control_after}
 
 -- the numbers left after an access are those after the ones that it read
 left_is : (d : Dir) (vs : List ℕ) → left_after d vs ≡ drop (cond (is_load_dir d) 1 0) vs
@@ -36,7 +36,7 @@ pub items_append : (ss ts : List Step) (n c : ℕ) (vs : List ℕ) →
 items_append [] ts n c vs = let e : n + 0 ≡ n = omega arith in rw e refl
 items_append (s ∷ ss) ts n c vs =
     let here = link_items s.link (n - 1) c ++
-    access_item s s.dir (first_of vs) (n - 1) (link_control s.link (n - 1) c) ∷ [] in
+    access_item s s.dir (first_number vs) (n - 1) (link_control s.link (n - 1) c) ∷ [] in
     let n_after = loads_after s.dir n in
     let c_after = link_control s.link (n - 1) c in
     let v_after = left_after s.dir vs in
@@ -65,7 +65,7 @@ link_below link n c some h = by_test (branches link)
         let e : suc n - 1 ≡ n = omega arith in rw e (omega (arith, pow-suc 2 n, pow_pos n))
 
 -- a branch is a dependency
-pub branch_depends : (link : Link) → branches link ≡ true → depends link ≡ true
+pub branch_depends : (link : Link) → branches link ≡ true → depends_on_load link ≡ true
 branch_depends links.Plain e = cc
 branch_depends (links.Fence kind) e = cc
 branch_depends links.Addr e = refl

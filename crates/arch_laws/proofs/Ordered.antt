@@ -12,7 +12,7 @@ use Rattle.micro_ops.specs.declared.operation.Micro.TheVariants as ops
 use Rattle.micro_ops.specs.Running.{labels_of, lands, occurs}
 use Rattle.arch_laws.proofs.MachineLaws.{labels_append, lands_append}
 use Rattle.arch_trait.specs.declared.step.Step.{Step}
-use Rattle.arch_trait.specs.Cells.{is_access, accesses_in, MakesOneAccess}
+use Rattle.arch_trait.specs.Cells.{is_access, access_count, MakesOneAccess}
 use Rattle.arch_trait.specs.LabelOrder.{labels_after, labels_in, is_next, labels_ordered}
 use Rattle.arch_trait.specs.Links.{branches}
 use Rattle.arch_trait.specs.Laws.{IsArch, HasLink}
@@ -147,14 +147,14 @@ thread_ordered a laws b w (s ∷ ss) count fit given low few =
     (step_covers count w.label (branches s.link) (step_code a w s) step low) (omega arith))
 
 -- it makes as many accesses as it has steps
-put_access : (a : Puts) → MakesOneAccess a → (g : Taken) (from : Option ℕ) (s : Step) (d : Dir) → accesses_in (put_of a g from s d).code ≡ 1
+put_access : (a : Puts) → MakesOneAccess a → (g : Taken) (from : Option ℕ) (s : Step) (d : Dir) → access_count (put_of a g from s d).code ≡ 1
 put_access a one g from s dirs.R = one.load g s.link s.mark from s.place
 put_access a one g from s dirs.W = one.store g s.link s.mark from s.place s.value
 
-accesses_append : (xs ys : List Micro) → accesses_in (xs ++ ys) ≡ accesses_in xs + accesses_in ys
+accesses_append : (xs ys : List Micro) → access_count (xs ++ ys) ≡ access_count xs + access_count ys
 accesses_append xs ys = sum_by-append (λ op. cond (is_access op) 1 0) xs ys
 
-thread_accesses : (a : Puts) → MakesOneAccess a → (w : Way) (ss : List Step) → accesses_in (thread_code a w ss) ≡ length ss
+thread_accesses : (a : Puts) → MakesOneAccess a → (w : Way) (ss : List Step) → access_count (thread_code a w ss) ≡ length ss
 thread_accesses a one w [] = refl
 thread_accesses a one w (s ∷ ss) =
     let link = one.link s.link (from_of s.link w.last) w.label in
@@ -168,5 +168,5 @@ unfolding IsGiven
 compiled_ordered a laws ss fit few = thread_ordered a laws false (setting_out a.registers) ss 0 fit (λ e. cc) (omega arith) (omega arith)
 
 -- the code of a thread makes as many accesses as the thread has steps
-pub compiled_accesses : (a : Puts) → MakesOneAccess a → (ss : List Step) → accesses_in (compiled a ss).instrs ≡ length ss
+pub compiled_accesses : (a : Puts) → MakesOneAccess a → (ss : List Step) → access_count (compiled a ss).instrs ≡ length ss
 compiled_accesses a one ss = thread_accesses a one (setting_out a.registers) ss

@@ -16,18 +16,18 @@ use Rattle.arch_trait.specs.declared.link.Link.{Link}
 use Rattle.arch_trait.specs.declared.link.Link.TheVariants as links
 use Rattle.arch_trait.specs.Codes.{MakesSteps}
 use Rattle.arch_trait.specs.Links.{link_control, link_items}
-use Rattle.arch_trait.specs.Taking.{initial}
-use Rattle.arch_trait.specs.Threads.{ThreadCode, is_load_dir, loads_in, loads_after, first_of, left_after, access_item, thread_items, HoldNumbers}
-use Rattle.arch_trait.specs.Renumbering.{step_at, renumbered}
+use Rattle.arch_trait.specs.Taking.{initial_values}
+use Rattle.arch_trait.specs.Threads.{ThreadCode, is_load_dir, loads_in, loads_after, first_number, left_after, access_item, thread_items, HoldNumbers}
+use Rattle.arch_trait.specs.PlaceRenumbering.{step_at, renumbered}
 
 -- address registers with other numbers begin with the addresses of these
-initial_at : (f : ℕ → ℕ) (l : List (ℕ × ℕ)) → initial (map (λ link. (link.0, f link.1)) l) ≡ init_at f (initial l)
+initial_at : (f : ℕ → ℕ) (l : List (ℕ × ℕ)) → initial_values (map (λ link. (link.0, f link.1)) l) ≡ init_at f (initial_values l)
 initial_at f [] = refl
 initial_at f (link ∷ l) = ap (λ r. (link.0, Place (f link.1)) ∷ r) (initial_at f l)
 
-renumbered_runs : (f : ℕ → ℕ) (code : ThreadCode) (vs : List ℕ) → runs (renumbered f code).instrs (initial (renumbered f code).links) vs ≡ outcome_at f (runs code.instrs (initial code.links) vs)
+renumbered_runs : (f : ℕ → ℕ) (code : ThreadCode) (vs : List ℕ) → runs (renumbered f code).instrs (initial_values (renumbered f code).links) vs ≡ outcome_at f (runs code.instrs (initial_values code.links) vs)
 renumbered_runs f code vs =
-    ap (λ i. runs (map (op_at f) code.instrs) i vs) (initial_at f code.links) ∙ runs_at f code.instrs (initial code.links) vs
+    ap (λ i. runs (map (op_at f) code.instrs) i vs) (initial_at f code.links) ∙ runs_at f code.instrs (initial_values code.links) vs
 
 link_items_at : (f : ℕ → ℕ) (l : Link) (k c : ℕ) → map (item_at f) (link_items l k c) ≡ link_items l k c
 link_items_at f links.Plain k c = refl
@@ -47,11 +47,11 @@ items_at : (f : ℕ → ℕ) (ss : List Step) (n c : ℕ) (vs : List ℕ) → ma
 items_at f [] n c vs = refl
 items_at f (s ∷ ss) n c vs =
     let link = link_items s.link (n - 1) c in
-    let access = access_item s s.dir (first_of vs) (n - 1) (link_control s.link (n - 1) c) in
+    let access = access_item s s.dir (first_number vs) (n - 1) (link_control s.link (n - 1) c) in
     let rest = thread_items ss (loads_after s.dir n) (link_control s.link (n - 1) c) (left_after s.dir vs) in
     map-append (item_at f) (link ++ access ∷ []) rest
-    ∙ ap (λ l. l ++ map (item_at f) rest) (map-append (item_at f) link (access ∷ []) ∙ ap (λ l. l ++ item_at f access ∷ []) (link_items_at f s.link (n - 1) c) ∙ ap (λ i. link ++ i ∷ []) (access_item_at f s s.dir (first_of vs) (n - 1) (link_control s.link (n - 1) c)))
-    ∙ ap (λ l. (link ++ access_item (step_at f s) s.dir (first_of vs) (n - 1) (link_control s.link (n - 1) c) ∷ []) ++ l) (items_at f ss (loads_after s.dir n) (link_control s.link (n - 1) c) (left_after s.dir vs))
+    ∙ ap (λ l. l ++ map (item_at f) rest) (map-append (item_at f) link (access ∷ []) ∙ ap (λ l. l ++ item_at f access ∷ []) (link_items_at f s.link (n - 1) c) ∙ ap (λ i. link ++ i ∷ []) (access_item_at f s s.dir (first_number vs) (n - 1) (link_control s.link (n - 1) c)))
+    ∙ ap (λ l. (link ++ access_item (step_at f s) s.dir (first_number vs) (n - 1) (link_control s.link (n - 1) c) ∷ []) ++ l) (items_at f ss (loads_after s.dir n) (link_control s.link (n - 1) c) (left_after s.dir vs))
 
 numbers_at : (f : ℕ → ℕ) (regs : ℕ → Value) (qs vs : List ℕ) → HoldNumbers regs qs vs → HoldNumbers (λ q. value_at f (regs q)) qs vs
 numbers_at f regs [] vs h = tt

@@ -12,15 +12,15 @@ use Rattle.micro_ops.specs.declared.operation.Micro.{Micro}
 use Rattle.micro_ops.specs.declared.operation.Micro.TheVariants as ops
 use Rattle.micro_ops.specs.declared.operation.Item.{Item}
 use Rattle.micro_ops.specs.declared.operation.Item.TheVariants as items
-use Rattle.micro_ops.specs.Machine.{State, Effect, step, num, bit, put, both_masks, fitting, xored, plus, ored, place_at, as_place, summed, same_number, place_of, address_mask, writing, loading, storing, comparing, branching_on}
-use Rattle.micro_ops.specs.Running.{Run, Point, At, Past, Wants, Stuck, is_load, is_label, add_item, landing, led, wanting, taken, go, exec, starting, beginning, Outcome, Ended, ReadsLeft, ReadsShort, NoRule, ended, outcome, runs}
+use Rattle.micro_ops.specs.Machine.{ThreadState, Effect, step, num, bit, put, both_masks, fitting, xored, plus, ored, place_at, as_place, sum_of_values, same_number, place_reached, address_mask, write_effect, loading, storing, comparing, branching_on}
+use Rattle.micro_ops.specs.Running.{Run, Point, At, Past, Wants, Stuck, is_load, is_label, add_item, landing, led, wanting, taken, go, exec, starting, beginning, Outcome, Ended, ReadsLeft, ReadsShort, NoRule, run_ended, outcome, runs}
 use Rattle.micro_ops.specs.Renumbering.{op_at, value_at, item_at}
 
 -- what a register, a state, a run and so on are under other numbers
 abbrev held_at : (ℕ → ℕ) → Held → Held
 held_at f h = record { value = value_at f h.value; mask = h.mask }
 
-abbrev state_at : (ℕ → ℕ) → State → State
+abbrev state_at : (ℕ → ℕ) → ThreadState → ThreadState
 state_at f s = record s { regs = λ r. held_at f (s.regs r) }
 
 abbrev effect_at : (ℕ → ℕ) → Effect → Effect
@@ -50,10 +50,10 @@ cond_at : (f : ℕ → ℕ) (b : Bool) (h k : Held) → cond b (held_at f h) (he
 cond_at f true h k = refl
 cond_at f false h k = refl
 
-put_at : (f : ℕ → ℕ) (s : State) (dst : ℕ) (h : Held) → put (state_at f s) dst (held_at f h) ≡ state_at f (put s dst h)
+put_at : (f : ℕ → ℕ) (s : ThreadState) (dst : ℕ) (h : Held) → put (state_at f s) dst (held_at f h) ≡ state_at f (put s dst h)
 put_at f s dst h = λ i. record s { regs = λ r. cond_at f (r == dst) h (s.regs r) i }
 
-writing_at : (f : ℕ → ℕ) (s : State) (dst mask : ℕ) (v : Option Value) → writing (state_at f s) dst mask (option_map (value_at f) v) ≡ option_map (effect_at f) (writing s dst mask v)
+writing_at : (f : ℕ → ℕ) (s : ThreadState) (dst mask : ℕ) (v : Option Value) → write_effect (state_at f s) dst mask (option_map (value_at f) v) ≡ option_map (effect_at f) (write_effect s dst mask v)
 writing_at f s dst mask None = refl
 writing_at f s dst mask (Some v) = ap (λ t. Some (record { state = t; item = None; jump = None })) (put_at f s dst (record { value = v; mask = mask }))
 
@@ -92,7 +92,7 @@ as_place_at : (f : ℕ → ℕ) (o : Option ℕ) → as_place (option_map f o) �
 as_place_at f None = refl
 as_place_at f (Some p) = refl
 
-summed_at : (f : ℕ → ℕ) (u v : Value) → summed (value_at f u) (value_at f v) ≡ option_map (value_at f) (summed u v)
+summed_at : (f : ℕ → ℕ) (u v : Value) → sum_of_values (value_at f u) (value_at f v) ≡ option_map (value_at f) (sum_of_values u v)
 summed_at f (Num m) (Num n) = fitting_at f (m + n)
 summed_at f (Num m) (Place q) = ap as_place (place_at_at f (Num m) (Place q)) ∙ as_place_at f (place_at (Num m) (Place q))
 summed_at f (Place p) (Num n) = ap as_place (place_at_at f (Place p) (Num n)) ∙ as_place_at f (place_at (Place p) (Num n))
@@ -104,61 +104,61 @@ same_number_at f (Num m) (Place q) = refl
 same_number_at f (Place p) (Num n) = refl
 same_number_at f (Place p) (Place q) = refl
 
-place_of_at : (f : ℕ → ℕ) (s : State) (base : ℕ) (index : Option ℕ) → place_of (state_at f s) base index ≡ option_map f (place_of s base index)
+place_of_at : (f : ℕ → ℕ) (s : ThreadState) (base : ℕ) (index : Option ℕ) → place_reached (state_at f s) base index ≡ option_map f (place_reached s base index)
 place_of_at f s base None = place_at_at f (s.regs base).value (Num 0)
 place_of_at f s base (Some index) = place_at_at f (s.regs base).value (s.regs index).value
 
-address_mask_at : (f : ℕ → ℕ) (s : State) (base : ℕ) (index : Option ℕ) → address_mask (state_at f s) base index ≡ address_mask s base index
+address_mask_at : (f : ℕ → ℕ) (s : ThreadState) (base : ℕ) (index : Option ℕ) → address_mask (state_at f s) base index ≡ address_mask s base index
 address_mask_at f s base None = refl
 address_mask_at f s base (Some index) = refl
 
-loading_at : (f : ℕ → ℕ) (mark : Mark) (s : State) (dst : ℕ) (place : Option ℕ) (mask : ℕ) (read : Option ℕ) → loading mark (state_at f s) dst (option_map f place) mask read ≡ option_map (effect_at f) (loading mark s dst place mask read)
+loading_at : (f : ℕ → ℕ) (mark : Mark) (s : ThreadState) (dst : ℕ) (place : Option ℕ) (mask : ℕ) (read : Option ℕ) → loading mark (state_at f s) dst (option_map f place) mask read ≡ option_map (effect_at f) (loading mark s dst place mask read)
 loading_at f mark s dst None mask read = refl
 loading_at f mark s dst (Some p) mask None = refl
 loading_at f mark s dst (Some p) mask (Some n) =
     ap (λ t. Some (record { state = record t { loads = s.loads + 1 }; item = Some (items.Access dirs.R mark (f p) n mask 0 s.control); jump = None })) (put_at f s dst (num n (bit s.loads)))
 
-storing_at : (f : ℕ → ℕ) (mark : Mark) (s : State) (place : Option ℕ) (mask : ℕ) (v : Value) (data_mask : ℕ) → storing mark (state_at f s) (option_map f place) mask (value_at f v) data_mask ≡ option_map (effect_at f) (storing mark s place mask v data_mask)
+storing_at : (f : ℕ → ℕ) (mark : Mark) (s : ThreadState) (place : Option ℕ) (mask : ℕ) (v : Value) (data_mask : ℕ) → storing mark (state_at f s) (option_map f place) mask (value_at f v) data_mask ≡ option_map (effect_at f) (storing mark s place mask v data_mask)
 storing_at f mark s None mask v data_mask = refl
 storing_at f mark s (Some p) mask (Num n) data_mask = refl
 storing_at f mark s (Some p) mask (Place q) data_mask = refl
 
-comparing_at : (f : ℕ → ℕ) (s : State) (mask : ℕ) (o : Option Bool) → comparing (state_at f s) mask o ≡ option_map (effect_at f) (comparing s mask o)
+comparing_at : (f : ℕ → ℕ) (s : ThreadState) (mask : ℕ) (o : Option Bool) → comparing (state_at f s) mask o ≡ option_map (effect_at f) (comparing s mask o)
 comparing_at f s mask None = refl
 comparing_at f s mask (Some b) = refl
 
-branching_at : (f : ℕ → ℕ) (s : State) (mask : ℕ) (v : Value) (label : ℕ) → branching_on (state_at f s) mask (value_at f v) label ≡ option_map (effect_at f) (branching_on s mask v label)
+branching_at : (f : ℕ → ℕ) (s : ThreadState) (mask : ℕ) (v : Value) (label : ℕ) → branching_on (state_at f s) mask (value_at f v) label ≡ option_map (effect_at f) (branching_on s mask v label)
 branching_at f s mask (Num n) label = refl
 branching_at f s mask (Place p) label = refl
 
 -- each operation, under other numbers
-step_at : (f : ℕ → ℕ) (op : Micro) (s : State) (read : Option ℕ) → step (op_at f op) (state_at f s) read ≡ option_map (effect_at f) (step op s read)
+step_at : (f : ℕ → ℕ) (op : Micro) (s : ThreadState) (read : Option ℕ) → step (op_at f op) (state_at f s) read ≡ option_map (effect_at f) (step op s read)
 step_at f (ops.Imm dst n) s read = writing_at f s dst 0 (Some (Num n))
 step_at f (ops.Xor dst a b) s read = of_test (a == b)
   where
-    of_test : (t : Bool) → cond t (writing (state_at f s) dst (s.regs a).mask (Some (Num 0))) (writing (state_at f s) dst (both_masks s a b) (xored (value_at f (s.regs a).value) (value_at f (s.regs b).value))) ≡ option_map (effect_at f) (cond t (writing s dst (s.regs a).mask (Some (Num 0))) (writing s dst (both_masks s a b) (xored (s.regs a).value (s.regs b).value)))
+    of_test : (t : Bool) → cond t (write_effect (state_at f s) dst (s.regs a).mask (Some (Num 0))) (write_effect (state_at f s) dst (both_masks s a b) (xored (value_at f (s.regs a).value) (value_at f (s.regs b).value))) ≡ option_map (effect_at f) (cond t (write_effect s dst (s.regs a).mask (Some (Num 0))) (write_effect s dst (both_masks s a b) (xored (s.regs a).value (s.regs b).value)))
     of_test true = writing_at f s dst (s.regs a).mask (Some (Num 0))
-    of_test false = ap (writing (state_at f s) dst (both_masks s a b)) (xored_at f (s.regs a).value (s.regs b).value) ∙ writing_at f s dst (both_masks s a b) (xored (s.regs a).value (s.regs b).value)
-step_at f (ops.AddImm dst a n) s read = ap (writing (state_at f s) dst (s.regs a).mask) (plus_at f (s.regs a).value n) ∙ writing_at f s dst (s.regs a).mask (plus (s.regs a).value n)
-step_at f (ops.OrImm dst a n) s read = ap (writing (state_at f s) dst (s.regs a).mask) (ored_at f (s.regs a).value n) ∙ writing_at f s dst (s.regs a).mask (ored (s.regs a).value n)
-step_at f (ops.Add dst a b) s read = ap (writing (state_at f s) dst (both_masks s a b)) (summed_at f (s.regs a).value (s.regs b).value) ∙ writing_at f s dst (both_masks s a b) (summed (s.regs a).value (s.regs b).value)
+    of_test false = ap (write_effect (state_at f s) dst (both_masks s a b)) (xored_at f (s.regs a).value (s.regs b).value) ∙ writing_at f s dst (both_masks s a b) (xored (s.regs a).value (s.regs b).value)
+step_at f (ops.AddImm dst a n) s read = ap (write_effect (state_at f s) dst (s.regs a).mask) (plus_at f (s.regs a).value n) ∙ writing_at f s dst (s.regs a).mask (plus (s.regs a).value n)
+step_at f (ops.OrImm dst a n) s read = ap (write_effect (state_at f s) dst (s.regs a).mask) (ored_at f (s.regs a).value n) ∙ writing_at f s dst (s.regs a).mask (ored (s.regs a).value n)
+step_at f (ops.Add dst a b) s read = ap (write_effect (state_at f s) dst (both_masks s a b)) (summed_at f (s.regs a).value (s.regs b).value) ∙ writing_at f s dst (both_masks s a b) (sum_of_values (s.regs a).value (s.regs b).value)
 step_at f (ops.Load dst base index) s read =
     ap (λ p. loading Plain (state_at f s) dst p (address_mask (state_at f s) base index) read) (place_of_at f s base index)
-    ∙ ap (λ m. loading Plain (state_at f s) dst (option_map f (place_of s base index)) m read) (address_mask_at f s base index)
-    ∙ loading_at f Plain s dst (place_of s base index) (address_mask s base index) read
+    ∙ ap (λ m. loading Plain (state_at f s) dst (option_map f (place_reached s base index)) m read) (address_mask_at f s base index)
+    ∙ loading_at f Plain s dst (place_reached s base index) (address_mask s base index) read
 step_at f (ops.LoadAcq dst base) s read =
     ap (λ p. loading Acquire (state_at f s) dst p (address_mask (state_at f s) base None) read) (place_of_at f s base None)
-    ∙ ap (λ m. loading Acquire (state_at f s) dst (option_map f (place_of s base None)) m read) (address_mask_at f s base None)
-    ∙ loading_at f Acquire s dst (place_of s base None) (address_mask s base None) read
+    ∙ ap (λ m. loading Acquire (state_at f s) dst (option_map f (place_reached s base None)) m read) (address_mask_at f s base None)
+    ∙ loading_at f Acquire s dst (place_reached s base None) (address_mask s base None) read
 step_at f (ops.LoadAt dst place) s read = loading_at f Plain s dst (Some place) 0 read
 step_at f (ops.Store src base index) s read =
     ap (λ p. storing Plain (state_at f s) p (address_mask (state_at f s) base index) (value_at f (s.regs src).value) (s.regs src).mask) (place_of_at f s base index)
-    ∙ ap (λ m. storing Plain (state_at f s) (option_map f (place_of s base index)) m (value_at f (s.regs src).value) (s.regs src).mask) (address_mask_at f s base index)
-    ∙ storing_at f Plain s (place_of s base index) (address_mask s base index) (s.regs src).value (s.regs src).mask
+    ∙ ap (λ m. storing Plain (state_at f s) (option_map f (place_reached s base index)) m (value_at f (s.regs src).value) (s.regs src).mask) (address_mask_at f s base index)
+    ∙ storing_at f Plain s (place_reached s base index) (address_mask s base index) (s.regs src).value (s.regs src).mask
 step_at f (ops.StoreRel src base) s read =
     ap (λ p. storing Release (state_at f s) p (address_mask (state_at f s) base None) (value_at f (s.regs src).value) (s.regs src).mask) (place_of_at f s base None)
-    ∙ ap (λ m. storing Release (state_at f s) (option_map f (place_of s base None)) m (value_at f (s.regs src).value) (s.regs src).mask) (address_mask_at f s base None)
-    ∙ storing_at f Release s (place_of s base None) (address_mask s base None) (s.regs src).value (s.regs src).mask
+    ∙ ap (λ m. storing Release (state_at f s) (option_map f (place_reached s base None)) m (value_at f (s.regs src).value) (s.regs src).mask) (address_mask_at f s base None)
+    ∙ storing_at f Release s (place_reached s base None) (address_mask s base None) (s.regs src).value (s.regs src).mask
 step_at f (ops.StoreAt place n) s read = refl
 step_at f (ops.Cmp a b) s read = of_test (a == b)
   where
@@ -250,7 +250,7 @@ starting_at f (named ∷ init) r =
 begins_at : (f : ℕ → ℕ) (init : List (ℕ × Value)) (reads : List ℕ) → beginning (init_at f init) reads ≡ run_at f (beginning init reads)
 begins_at f init reads = λ i. record { state = record { regs = λ r. starting_at f init r i; flag = false; flag_mask = 0; control = 0; loads = 0 }; reads = reads; made = [] }
 
-ended_at : (f : ℕ → ℕ) (r : Run) (reads : List ℕ) → ended (run_at f r) reads ≡ outcome_at f (ended r reads)
+ended_at : (f : ℕ → ℕ) (r : Run) (reads : List ℕ) → run_ended (run_at f r) reads ≡ outcome_at f (run_ended r reads)
 ended_at f r [] = refl
 ended_at f r (n ∷ reads) = refl
 

@@ -2,18 +2,18 @@
 use Rattle.std.proofs.Common.{ℕ, ◌^◌, ◌<◌, ◌≡◌, true, List, ◌≤◌, Some}
 use Rattle.std.specs.Fmt.{decimal}
 use Rattle.std.specs.List.{list_all}
-use Rattle.arch_trait.specs.WordBytes.{is_word_byte}
+use Rattle.arch_trait.specs.WordBytes.{is_instruction_byte}
 use Rattle.text_laws.specs.Names.{is_place_name}
 use Rattle.arch_trait.specs.Writing.{immediate, label, label_name, label_word, label_raw}
 use Rattle.micro_ops.specs.declared.operation.Micro.TheVariants as ops
 use Rattle.arch_trait.proofs.PlainTexts as proved
 
 -- a number in decimal has neither blanks nor commas
-pub decimal_plain : (n : ℕ) → n < 2 ^ 32 → list_all is_word_byte (decimal n) ≡ true
+pub decimal_plain : (n : ℕ) → n < 2 ^ 32 → list_all is_instruction_byte (decimal n) ≡ true
 decimal_plain n h = proved.decimal_plain n h
 
 -- the name of a place has neither blanks nor commas
-pub place_name_plain : (name : List ℕ) → is_place_name name ≡ true → list_all is_word_byte name ≡ true
+pub place_name_plain : (name : List ℕ) → is_place_name name ≡ true → list_all is_instruction_byte name ≡ true
 place_name_plain name h = proved.place_name_plain name h
 
 -- an immediate is read from its decimal

@@ -1,7 +1,7 @@
 -- Power's instructions read back from their text, and its registers have names of their own.
 use Rattle.std.proofs.Common.{ℕ, ◌<◌, ◌≡◌, refl, arith}
 use Rattle.arch_trait.specs.Forms.{register_name, register_names}
-use Rattle.arch_trait.specs.Reading.{ReadsOwn}
+use Rattle.arch_trait.specs.InstructionReading.{ReadsOwn}
 use Rattle.arch_trait.specs.Writing.{WritesBack, name_in}
 use Rattle.arch_laws.proofs.FormBacks.{IsNumbered, name_at}
 use Rattle.form_laws.proofs.Ranges as ranges

@@ -4,7 +4,7 @@ use Rattle.std.proofs.lemmas.Bool.Decides.{nat_tests}
 use Rattle.std.proofs.lemmas.Bool.{and_from}
 use Rattle.relax_edges.specs.declared.kinds.ArchName.TheVariants as archs
 use Rattle.arch_trait.specs.Laws.{IsArch}
-use Rattle.form_laws.specs.Tables.{fits}
+use Rattle.form_laws.specs.Tables.{operands_fit}
 use Rattle.form_laws.proofs.Barriers.{fences_had}
 use Rattle.form_laws.proofs.OwnCode.{HasOwnCode, tests, added, ors, own_code_laws}
 use Rattle.arch_riscv.specs.Table.{forms, table}
@@ -12,7 +12,7 @@ use Rattle.arch_riscv.specs.Puts.{puts, instructions}
 
 -- RISC-V's own instructions are of the sorts that the laws ask for
 pub own_code : HasOwnCode instructions
-unfolding forms fits
+unfolding forms operands_fit
 own_code = record {
   few = omega arith;
   branch = tests;

@@ -14,10 +14,10 @@ use Rattle.micro_ops.proofs.Laws.{labels_append, lands_append}
 use Rattle.arch_trait.specs.declared.link.Link.{Link}
 use Rattle.arch_trait.specs.declared.link.Link.TheVariants as links
 use Rattle.arch_trait.specs.declared.step.Step.{Step}
-use Rattle.arch_trait.specs.Links.{depends, branches}
+use Rattle.arch_trait.specs.Links.{depends_on_load, branches}
 use Rattle.arch_trait.specs.Threads.{Way, Puts, FitStep, FitSteps, is_load_dir, loads_in, branches_in, visits, from_of, put_of, filled_by, next_put, next_filled, further, step_code, thread_code, thread_regs, thread_loads, put_before}
 use Rattle.arch_trait.specs.Codes.{is_within, AllBelow}
-use Rattle.arch_trait.specs.Laws.{IsTaken, AddsAddress, IsUsable, HasLink, MakesAccess, IsArch, is_at, access_room, link_room, link_labels}
+use Rattle.arch_trait.specs.Laws.{IsTaken, AddsAddress, IsUsable, HasLink, MakesAccess, IsArch, is_at_place, access_room, link_room, link_labels}
 use Rattle.arch_trait.proofs.Runs.{step_takes, step_grew, thread_grew, step_filled, IsWithin}
 
 -- the most operations of an access with its link
@@ -65,8 +65,8 @@ thread_short a laws b w (s ∷ ss) fit =
 abbrev pub IsGiven : Bool → Option ℕ → Type 0
 IsGiven b last = b ≡ true → is_some last ≡ true
 
-given_from : (link : Link) (b : Bool) (last : Option ℕ) → (depends link ≡ true → b ≡ true) →
-    IsGiven b last → depends link ≡ true → is_some (from_of link last) ≡ true
+given_from : (link : Link) (b : Bool) (last : Option ℕ) → (depends_on_load link ≡ true → b ≡ true) →
+    IsGiven b last → depends_on_load link ≡ true → is_some (from_of link last) ≡ true
 given_from link b last after given e =
     ap (λ d. is_some (cond d last None)) e ∙ given (after e)
 
@@ -139,7 +139,7 @@ both_pass p xs ys e f = list_all-append p xs ys ∙ and_from (list_all p xs) (li
 
 usable_from : (registers : ℕ) (link : Link) (last : Option ℕ) → IsUsable registers last →
     IsUsable registers (from_of link last)
-usable_from registers link last h = of_test (depends link)
+usable_from registers link last h = of_test (depends_on_load link)
   where
     of_test : (d : Bool) → IsUsable registers (cond d last None)
     of_test true = h
@@ -186,7 +186,7 @@ visit_here s ss q e =
     or_left (s.place == q) (visits q ss) (eq-eqb s.place q (sym f))
 
 -- an operation at one of the places, or with none
-visit_one : (s : Step) (ss : List Step) (op : Micro) → is_at s.place op ≡ true →
+visit_one : (s : Step) (ss : List Step) (op : Micro) → is_at_place s.place op ≡ true →
     is_within (s ∷ ss) op ≡ true
 visit_one s ss (ops.LoadAt d q) e = visit_here s ss q e
 visit_one s ss (ops.StoreAt q n) e = visit_here s ss q e
@@ -212,8 +212,8 @@ thread_places a laws b w [] fit = refl
 thread_places a laws b w (s ∷ ss) fit =
     let from = from_of s.link w.last in
     both_pass (is_within (s ∷ ss)) (step_code a w s) (thread_code a (further a w s) ss)
-    (all_pass (is_at s.place) (is_within (s ∷ ss)) (visit_one s ss) (step_code a w s)
-    (both_pass (is_at s.place) (a.link s.link from w.label) (next_put a w s).code
+    (all_pass (is_at_place s.place) (is_within (s ∷ ss)) (visit_one s ss) (step_code a w s)
+    (both_pass (is_at_place s.place) (a.link s.link from w.label) (next_put a w s).code
     (laws.links.no_place s.link from w.label s.place)
     ((put_laws a laws s fit.0.value s.dir).at_place w.regs s.link s.mark from s.place)))
     (all_pass (is_within ss) (is_within (s ∷ ss)) (visit_more s ss) (thread_code a (further a w s) ss)

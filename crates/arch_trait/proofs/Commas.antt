@@ -8,7 +8,7 @@ use Rattle.std.proofs.lemmas.List.Sums.{fails_before_first}
 use Rattle.list_laws.proofs.Cases.{by_test}
 use Rattle.text_laws.specs.Blanks.{trim_blanks}
 use Rattle.arch_trait.specs.Writing.{none, one, two, three, four, more}
-use Rattle.arch_trait.specs.Reading.{few, operands_if, operands_in}
+use Rattle.arch_trait.specs.InstructionReading.{few, operands_if, operands_in}
 
 -- a text cut at its first comma, and one without a comma
 abbrev pub is_comma : ℕ → Bool

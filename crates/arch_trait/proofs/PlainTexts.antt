@@ -12,7 +12,7 @@ use Rattle.text_laws.specs.Names.{is_place_name, is_place_byte, begins_place}
 use Rattle.text_laws.proofs.NumberLaws.{number_of-decimal}
 use Rattle.micro_ops.specs.declared.operation.Micro.TheVariants as ops
 use Rattle.arch_trait.specs.Writing.{immediate, at_most, label, label_name, label_word, label_raw}
-use Rattle.arch_trait.specs.WordBytes.{is_word_byte}
+use Rattle.arch_trait.specs.WordBytes.{is_instruction_byte}
 
 -- an immediate is read from its decimal
 pub immediate_back : (n : ℕ) → n ≤ 2047 → immediate (decimal n) ≡ Some n
@@ -21,30 +21,30 @@ immediate_back n h =
     ap (at_most 2047) (number_of-decimal n (omega arith)) ∙ rw (le-leb n 2047 h) refl
 
 -- bytes of names and of numbers are neither blanks nor commas
-place_word_byte : (b : ℕ) → is_place_byte b ≡ true → is_word_byte b ≡ true
+place_word_byte : (b : ℕ) → is_place_byte b ≡ true → is_instruction_byte b ≡ true
 place_word_byte b h = grind (arith, nat_tests)
 
 first_place_byte : (b : ℕ) → begins_place b ≡ true → is_place_byte b ≡ true
 first_place_byte b h = grind (arith, nat_tests)
 
-digit_word_byte : (b : ℕ) → is_ascii_digit b ≡ true → is_word_byte b ≡ true
+digit_word_byte : (b : ℕ) → is_ascii_digit b ≡ true → is_instruction_byte b ≡ true
 digit_word_byte b h = grind (arith, nat_tests)
 
 -- the name of a place has neither blanks nor commas
-pub place_name_plain : (name : List ℕ) → is_place_name name ≡ true → list_all is_word_byte name ≡ true
+pub place_name_plain : (name : List ℕ) → is_place_name name ≡ true → list_all is_instruction_byte name ≡ true
 unfolding is_place_name
 place_name_plain [] h = cc
 place_name_plain (b ∷ bytes) h =
     let p = and_parts (begins_place b && list_all is_place_byte bytes) (nat_le (length (b ∷ bytes)) 16) h in
     let q = and_parts (begins_place b) (list_all is_place_byte bytes) p.0 in
-    and_from (is_word_byte b) (list_all is_word_byte bytes)
+    and_from (is_instruction_byte b) (list_all is_instruction_byte bytes)
     (place_word_byte b (first_place_byte b q.0))
-    (list_all-weaker is_place_byte is_word_byte place_word_byte bytes q.1)
+    (list_all-weaker is_place_byte is_instruction_byte place_word_byte bytes q.1)
 
 -- a number in decimal has neither blanks nor commas
-pub decimal_plain : (n : ℕ) → n < 2 ^ 32 → list_all is_word_byte (decimal n) ≡ true
+pub decimal_plain : (n : ℕ) → n < 2 ^ 32 → list_all is_instruction_byte (decimal n) ≡ true
 decimal_plain n h =
-    list_all-weaker is_ascii_digit is_word_byte digit_word_byte (decimal n) (digits_decimal digits_model n (omega arith))
+    list_all-weaker is_ascii_digit is_instruction_byte digit_word_byte (decimal n) (digits_decimal digits_model n (omega arith))
 
 -- a label is read from its name and the colon
 pub label_back : (n : ℕ) → label_raw (label_word n) ≡ Some (record { op = ops.Label 0; name = label (label_name n) })

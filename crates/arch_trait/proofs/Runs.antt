@@ -6,23 +6,23 @@ use Rattle.relax_edges.specs.declared.kinds.Dir.{Dir}
 use Rattle.relax_edges.specs.declared.kinds.Dir.TheVariants as dirs
 use Rattle.relax_edges.specs.EdgeTable.{mark_fits}
 use Rattle.micro_ops.specs.declared.operation.Micro.{Micro}
-use Rattle.micro_ops.specs.Machine.{num, at_place, bit}
+use Rattle.micro_ops.specs.Machine.{num, held_at_place, bit}
 use Rattle.micro_ops.specs.declared.held.Held.{Held}
 use Rattle.micro_ops.specs.Running.{Run, Point, At, exec}
 use Rattle.micro_ops.proofs.Laws.{exec_append, wants_stays}
 use Rattle.arch_trait.specs.declared.link.Link.{Link}
 use Rattle.arch_trait.specs.declared.step.Step.{Step}
-use Rattle.arch_trait.specs.Links.{depends, is_data, link_control, link_items}
+use Rattle.arch_trait.specs.Links.{depends_on_load, is_data, link_control, link_items}
 use Rattle.arch_trait.specs.Taking.{Taken, address_in}
-use Rattle.arch_trait.specs.Threads.{Way, Puts, FitStep, FitSteps, is_load_dir, loads_in, from_of, put_of, filled_by, next_put, next_filled, further, step_code, thread_code, thread_regs, thread_loads, put_before, access_item, first_of, left_after, loads_after, thread_items, Loaded}
-use Rattle.arch_trait.specs.Laws.{IsTaken, Takes, HoldsPlaces, HasSource, Ready, IsWanting, IsArch}
+use Rattle.arch_trait.specs.Threads.{Way, Puts, FitStep, FitSteps, is_load_dir, loads_in, from_of, put_of, filled_by, next_put, next_filled, further, step_code, thread_code, thread_regs, thread_loads, put_before, access_item, first_number, left_after, loads_after, thread_items, Loaded}
+use Rattle.arch_trait.specs.Laws.{IsTaken, Takes, HoldsPlaces, HasSource, ReadyForAccess, IsWanting, IsArch}
 use Rattle.arch_trait.proofs.Taking.{Grew, grew, grew_refl, grew_trans}
 
 -- there is a number to read, if the access reads
 abbrev pub HasFirst : Dir → List ℕ → Type 0
-HasFirst d vs = is_load_dir d ≡ true → vs ≡ first_of vs ∷ left_after d vs
+HasFirst d vs = is_load_dir d ≡ true → vs ≡ first_number vs ∷ left_after d vs
 
--- a register, if it is given, holds a number that depends on load number n alone
+-- a register, if it is given, holds a number that depends_on_load on load number n alone
 abbrev pub HoldsRead : Run → Option ℕ → ℕ → ℕ → Type 0
 HoldsRead r (Some q) v n = r.state.regs q ≡ num v (bit n)
 HoldsRead r None v n = Unit {0}
@@ -32,24 +32,24 @@ pub record DidAccess (a : Puts) (g : Taken) (from : Option ℕ) (s : Step) (d : 
     (vs more : List ℕ) : Type 0 where
   pub after : Run
   pub ran : exec (put_of a g from s d).code (At r) ≡ At after
-  pub made_is : after.made ≡ r.made ++ access_item s d (first_of vs) k r.state.control ∷ []
+  pub made_is : after.made ≡ r.made ++ access_item s d (first_number vs) k r.state.control ∷ []
   pub control_is : after.state.control ≡ r.state.control
   pub loads_is : after.state.loads ≡ loads_after d r.state.loads
   pub reads_is : after.reads ≡ left_after d vs ++ more
   pub below : (q : ℕ) → q < g.next → after.state.regs q ≡ r.state.regs q
   pub above : (q : ℕ) → (put_of a g from s d).regs.next ≤ q → after.state.regs q ≡ r.state.regs q
   pub places : HoldsPlaces after (put_of a g from s d).regs
-  pub filled : HoldsRead after (filled_by a g from s d) (first_of vs) r.state.loads
+  pub filled : HoldsRead after (filled_by a g from s d) (first_number vs) r.state.loads
 
 access_runs : (a : Puts) → IsArch a → (g : Taken) (from : Option ℕ) (s : Step) (d : Dir)
     (after_load : Bool) (r : Run) (k : ℕ) (vs more : List ℕ) → FitStep a.name after_load s →
     (is_data s.link ≡ true → d ≡ dirs.W) → mark_fits d s.mark ≡ true →
-    Ready r g (put_of a g from s d).regs s.link from k → HasFirst d vs → r.reads ≡ vs ++ more →
+    ReadyForAccess r g (put_of a g from s d).regs s.link from k → HasFirst d vs → r.reads ≡ vs ++ more →
     DidAccess a g from s d r k vs more
 access_runs a laws g from s dirs.R b r k vs more fit w m ready first reads =
-    let e : r.reads ≡ first_of vs ∷ (left_after dirs.R vs ++ more) =
+    let e : r.reads ≡ first_number vs ∷ (left_after dirs.R vs ++ more) =
     reads ∙ ap (λ x. x ++ more) (first refl) in
-    let l = laws.loads.runs g s.link s.mark from s.place r k (first_of vs) (left_after dirs.R vs ++ more)
+    let l = laws.loads.runs g s.link s.mark from s.place r k (first_number vs) (left_after dirs.R vs ++ more)
     fit.of_arch (by_test (is_data s.link) (λ t. absurd (not_both (w t))) (λ t. t))
     (record { fits = m; of_arch = fit.mark_of_arch }) ready e in
     record {
@@ -85,7 +85,7 @@ access_runs a laws g from s dirs.W b r k vs more fit w m ready first reads =
 
 -- the register that a dependency is on is the one of the load before
 source_from : (r : Run) (link : Link) (last : Option ℕ) (k : ℕ) →
-    (depends link ≡ true → HasSource r last k) → depends link ≡ true →
+    (depends_on_load link ≡ true → HasSource r last k) → depends_on_load link ≡ true →
     HasSource r (from_of link last) k
 source_from r link last k h e =
     let f : from_of link last ≡ last = ap (λ b. cond b last None) e in
@@ -114,7 +114,7 @@ pub record DidStep (a : Puts) (w : Way) (s : Step) (r : Run) (vs more : List ℕ
   pub ran : exec (step_code a w s) (At r) ≡ At after
   pub made_is : after.made ≡
       r.made ++ (link_items s.link (r.state.loads - 1) r.state.control ++
-      access_item s s.dir (first_of vs) (r.state.loads - 1)
+      access_item s s.dir (first_number vs) (r.state.loads - 1)
       (link_control s.link (r.state.loads - 1) r.state.control) ∷ [])
   pub control_is : after.state.control ≡ link_control s.link (r.state.loads - 1) r.state.control
   pub loads_is : after.state.loads ≡ loads_after s.dir r.state.loads
@@ -122,7 +122,7 @@ pub record DidStep (a : Puts) (w : Way) (s : Step) (r : Run) (vs more : List ℕ
   pub below : (q : ℕ) → q < w.regs.next → after.state.regs q ≡ r.state.regs q
   pub above : (q : ℕ) → (further a w s).regs.next ≤ q → after.state.regs q ≡ r.state.regs q
   pub places : HoldsPlaces after (further a w s).regs
-  pub filled : HoldsRead after (next_filled a w s) (first_of vs) r.state.loads
+  pub filled : HoldsRead after (next_filled a w s) (first_number vs) r.state.loads
 
 step_runs : (a : Puts) → IsArch a → (w : Way) (s : Step) (after_load : Bool) (r : Run)
     (vs more : List ℕ) → FitStep a.name after_load s → IsTaken w.regs →
@@ -132,10 +132,10 @@ step_runs : (a : Puts) → IsArch a → (w : Way) (s : Step) (after_load : Bool)
 step_runs a laws w s b r vs more fit taken places source first reads =
     let k = r.state.loads - 1 in
     let from = from_of s.link w.last in
-    let dep : depends s.link ≡ true → HasSource r from k =
+    let dep : depends_on_load s.link ≡ true → HasSource r from k =
     λ e. source_from r s.link w.last k (λ f. source (fit.after f)) e in
     let l = laws.links.runs s.link from w.label r k fit.of_arch dep in
-    let ready : Ready l.after w.regs (next_put a w s).regs s.link from k = record {
+    let ready : ReadyForAccess l.after w.regs (next_put a w s).regs s.link from k = record {
       taken = taken;
       places = λ p q e. ap (λ f. f q) l.regs_is ∙ places p q e;
       source = λ e. source_along r l.after from k l.regs_is (dep e);
@@ -149,17 +149,17 @@ step_runs a laws w s b r vs more fit taken places source first reads =
           (ap (λ p. exec (next_put a w s).code p) l.ran ∙ d.ran);
       made_is =
           d.made_is ∙
-          (ap (λ c. l.after.made ++ access_item s s.dir (first_of vs) k c ∷ []) l.control_is ∙
-          (ap (λ m. m ++ access_item s s.dir (first_of vs) k (link_control s.link k r.state.control) ∷ []) l.made_is ∙
+          (ap (λ c. l.after.made ++ access_item s s.dir (first_number vs) k c ∷ []) l.control_is ∙
+          (ap (λ m. m ++ access_item s s.dir (first_number vs) k (link_control s.link k r.state.control) ∷ []) l.made_is ∙
           append_assoc r.made (link_items s.link k r.state.control)
-          (access_item s s.dir (first_of vs) k (link_control s.link k r.state.control) ∷ [])));
+          (access_item s s.dir (first_number vs) k (link_control s.link k r.state.control) ∷ [])));
       control_is = d.control_is ∙ l.control_is;
       loads_is = d.loads_is ∙ ap (λ n. loads_after s.dir n) l.loads_is;
       reads_is = d.reads_is;
       below = λ q h. d.below q h ∙ ap (λ f. f q) l.regs_is;
       above = λ q h. d.above q h ∙ ap (λ f. f q) l.regs_is;
       places = d.places;
-      filled = subst (λ n. HoldsRead d.after (next_filled a w s) (first_of vs) n) l.loads_is d.filled;
+      filled = subst (λ n. HoldsRead d.after (next_filled a w s) (first_number vs) n) l.loads_is d.filled;
     }
 
 -- what a register was taken for, and whether it is the load's
@@ -212,7 +212,7 @@ has_first dirs.R [] n e = absurd (omega arith)
 has_first dirs.R (v ∷ vs) n e = (λ t. refl, omega arith)
 has_first dirs.W vs n e = (λ t. cc, omega arith)
 
--- after a load its register holds the number read, which depends on it alone
+-- after a load its register holds the number read, which depends_on_load on it alone
 source_after : (r : Run) (d : Dir) (q : Option ℕ) (v n : ℕ) → (is_load_dir d ≡ true → q ≡ None → ⊥) →
     HoldsRead r q v n → r.state.loads ≡ loads_after d n → is_load_dir d ≡ true →
     HasSource r q (r.state.loads - 1)
@@ -248,7 +248,7 @@ places_along a laws w s ss b r vs more fit places d p q e =
     either ((thread_grew a laws b (further a w s) ss fit).fresh p q e)
   where
     either : (address_in (further a w s).regs.links p ≡ Some q) ⊎ ((further a w s).regs.next ≤ q) →
-        d.after.state.regs q ≡ at_place p
+        d.after.state.regs q ≡ held_at_place p
     either (inl f) = d.places p q f
     either (inr m) = d.above q m ∙ places p q e
 
@@ -275,7 +275,7 @@ some_none q e = cc
 -- the first load's register, and those of the rest
 loaded_first : (regs : ℕ → Held) (d : Dir) (r : Run) (q : Option ℕ) (qs vs : List ℕ) (n : ℕ) →
     (is_load_dir d ≡ false → q ≡ None) → HasFirst d vs → r.state.regs ≡ regs →
-    (is_load_dir d ≡ true → q ≡ None → ⊥) → HoldsRead r q (first_of vs) n →
+    (is_load_dir d ≡ true → q ≡ None → ⊥) → HoldsRead r q (first_number vs) n →
     Loaded regs qs (left_after d vs) (loads_after d n) → Loaded regs (put_before q qs) vs n
 loaded_first regs dirs.R r None qs vs n off first e some h rest = absurd (some refl refl)
 loaded_first regs dirs.R r (Some q) qs [] n off first e some h rest =
@@ -316,7 +316,7 @@ thread_runs a laws (s ∷ ss) w b r vs more fit begins count reads =
     let next : Begins a (further a w s) ss (is_load_dir s.dir) d.after = record {
       taken = (step_grew a laws w s fit.0.value).taken begins.taken;
       places = places_along a laws w s ss (is_load_dir s.dir) r vs more fit.1 begins.places d;
-      source = λ e. source_after d.after s.dir (next_filled a w s) (first_of vs) r.state.loads
+      source = λ e. source_after d.after s.dir (next_filled a w s) (first_number vs) r.state.loads
           (filled_some a w.regs from s s.dir) d.filled d.loads_is e;
     } in
     let f = thread_runs a laws ss (further a w s) (is_load_dir s.dir) d.after (left_after s.dir vs) more
@@ -334,7 +334,7 @@ thread_runs a laws (s ∷ ss) w b r vs more fit begins count reads =
           (ap (λ m. m ++ thread_items ss (loads_after s.dir r.state.loads) (link_control s.link k r.state.control) (left_after s.dir vs)) d.made_is ∙
           append_assoc r.made
           (link_items s.link k r.state.control ++
-          access_item s s.dir (first_of vs) k (link_control s.link k r.state.control) ∷ [])
+          access_item s s.dir (first_number vs) k (link_control s.link k r.state.control) ∷ [])
           (thread_items ss (loads_after s.dir r.state.loads) (link_control s.link k r.state.control) (left_after s.dir vs)))));
       reads_is = f.reads_is;
       below = λ q h. f.below q (omega (arith, h, (step_grew a laws w s fit.0.value).more)) ∙ d.below q h;
@@ -344,7 +344,7 @@ thread_runs a laws (s ∷ ss) w b r vs more fit begins count reads =
           (filled_none a w.regs from s s.dir) c.0 refl
           (filled_some a w.regs from s s.dir)
           (read_kept d.after f.after w.regs.next (further a w s).regs.next (next_filled a w s)
-          (first_of vs) r.state.loads f.below (step_filled a laws w s) d.filled)
+          (first_number vs) r.state.loads f.below (step_filled a laws w s) d.filled)
           (subst (λ n. Loaded f.after.state.regs (thread_loads a (further a w s) ss) (left_after s.dir vs) n)
           d.loads_is f.loaded);
       places = f.places;
@@ -357,7 +357,7 @@ wants_at code p h = record { run = h.run; is = ap (λ x. exec code x) h.is ∙ w
 access_wants : (a : Puts) → IsArch a → (g : Taken) (from : Option ℕ) (s : Step) (d : Dir)
     (after_load : Bool) (r : Run) (k : ℕ) → FitStep a.name after_load s →
     (is_data s.link ≡ true → d ≡ dirs.W) → mark_fits d s.mark ≡ true →
-    Ready r g (put_of a g from s d).regs s.link from k → is_load_dir d ≡ true → r.reads ≡ [] →
+    ReadyForAccess r g (put_of a g from s d).regs s.link from k → is_load_dir d ≡ true → r.reads ≡ [] →
     IsWanting (exec (put_of a g from s d).code (At r))
 access_wants a laws g from s dirs.R b r k fit w m ready e reads =
     laws.loads.wants g s.link s.mark from s.place r k fit.of_arch
@@ -375,10 +375,10 @@ step_wants : (a : Puts) → IsArch a → (w : Way) (s : Step) (after_load : Bool
 step_wants a laws w s b r fit taken places source e reads =
     let k = r.state.loads - 1 in
     let from = from_of s.link w.last in
-    let dep : depends s.link ≡ true → HasSource r from k =
+    let dep : depends_on_load s.link ≡ true → HasSource r from k =
     λ e. source_from r s.link w.last k (λ f. source (fit.after f)) e in
     let l = laws.links.runs s.link from w.label r k fit.of_arch dep in
-    let ready : Ready l.after w.regs (next_put a w s).regs s.link from k = record {
+    let ready : ReadyForAccess l.after w.regs (next_put a w s).regs s.link from k = record {
       taken = taken;
       places = λ p q e. ap (λ f. f q) l.regs_is ∙ places p q e;
       source = λ e. source_along r l.after from k l.regs_is (dep e);
@@ -423,7 +423,7 @@ wants_later a laws s ss w b r vs fit begins first few reads later =
     let next : Begins a (further a w s) ss (is_load_dir s.dir) d.after = record {
       taken = (step_grew a laws w s fit.0.value).taken begins.taken;
       places = places_along a laws w s ss (is_load_dir s.dir) r vs [] fit.1 begins.places d;
-      source = λ e. source_after d.after s.dir (next_filled a w s) (first_of vs) r.state.loads
+      source = λ e. source_after d.after s.dir (next_filled a w s) (first_number vs) r.state.loads
           (filled_some a w.regs (from_of s.link w.last) s s.dir) d.filled d.loads_is e;
     } in
     let h = later d.after (left_after s.dir vs) next

@@ -8,7 +8,7 @@ use Rattle.arch_trait.specs.declared.step.Shape.{Shape}
 use Rattle.arch_trait.specs.Links.{is_addr}
 use Rattle.arch_trait.specs.Taking.{Taken, has_address}
 use Rattle.arch_trait.specs.Threads.{Way, Puts, FitSteps, is_load_dir, is_store_dir, loads_in, visits, places_in, shape_of, setting_out, from_of, further, thread_regs}
-use Rattle.arch_trait.specs.Laws.{IsArch, grown, no_shape}
+use Rattle.arch_trait.specs.Laws.{IsArch, shape_grown, no_shape}
 use Rattle.arch_trait.proofs.Taking.{tracks}
 use Rattle.arch_trait.proofs.Runs.{step_takes}
 use Rattle.arch_trait.proofs.Codes.{IsGiven, given_after, has_link, put_laws}
@@ -104,10 +104,10 @@ more_none h seen =
 
 more_cons : (h : Shape) (seen : ℕ → Bool) (s : Step) (ss : List Step) →
     more_steps h seen (s ∷ ss) ≡
-    more_steps (grown h s.dir s.link (not (seen s.place))) (λ q. s.place == q || seen q) ss
+    more_steps (shape_grown h s.dir s.link (not (seen s.place))) (λ q. s.place == q || seen q) ss
 more_cons h seen s ss =
     same_shape (more_steps h seen (s ∷ ss))
-    (more_steps (grown h s.dir s.link (not (seen s.place))) (λ q. s.place == q || seen q) ss)
+    (more_steps (shape_grown h s.dir s.link (not (seen s.place))) (λ q. s.place == q || seen q) ss)
     (omega (arith, sum_by-cons (λ t. cond (is_load_dir t.dir) 1 0) s ss))
     (omega (arith, sum_by-cons (λ t. cond (is_store_dir t.dir) 1 0) s ss))
     (omega (arith, sum_by-cons (λ t. cond (is_addr t.link) 1 0) s ss))
@@ -136,7 +136,7 @@ taken_is a laws b w [] h seen fit given follows =
     ap (λ i. w.regs.next + a.need i) (sym (more_none h seen))
 taken_is a laws b w (s ∷ ss) h seen fit given follows =
     let seen_after : ℕ → Bool = λ q. s.place == q || seen q in
-    let h_after = grown h s.dir s.link (not (seen s.place)) in
+    let h_after = shape_grown h s.dir s.link (not (seen s.place)) in
     let rest = taken_is a laws (is_load_dir s.dir) (further a w s) ss h_after seen_after fit.1
     (given_after a w s) (tracks_on a laws w s seen fit.0.value follows) in
     let here = (put_laws a laws s fit.0.value s.dir).need w.regs s.link s.mark (from_of s.link w.last) s.place

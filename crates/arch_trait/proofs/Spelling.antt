@@ -3,19 +3,19 @@ use Rattle.std.proofs.Common.{ℕ, ◌≡◌, ◌==◌, refl, true, false, not, 
 use Rattle.std.proofs.lemmas.Bool.{and_parts, not-true}
 use Rattle.std.specs.List.{list_all, slice_split, onto_first}
 use Rattle.text_laws.specs.Blanks.{is_blank, unblanked, kept_before, before_blanks, trim_blanks, is_inked}
-use Rattle.text_laws.specs.Runs.{run_of, after_run}
+use Rattle.text_laws.specs.LeadingRuns.{leading_run, after_run}
 use Rattle.micro_ops.specs.declared.operation.Micro.{Micro}
 use Rattle.arch_trait.specs.Threads.{Puts}
-use Rattle.arch_trait.specs.Writing.{OperandTexts, none, one, two, three, four, more, Written, Writing, WritesBack, listed, text_of, op_text, is_plain, all_plain, raw_of, name_of, is_named, with_number}
-use Rattle.arch_trait.specs.Reading.{few, operands_if, operands_in, written_in, numbered, number_raw, instr_read}
-use Rattle.arch_trait.specs.WordBytes.{is_word_byte}
+use Rattle.arch_trait.specs.Writing.{OperandTexts, none, one, two, three, four, more, Written, Writing, WritesBack, listed, written_text, op_text, is_plain, all_plain_texts, raw_of, op_name, is_well_named, with_number}
+use Rattle.arch_trait.specs.InstructionReading.{few, operands_if, operands_in, written_in, read_numbered, number_raw, instr_read}
+use Rattle.arch_trait.specs.WordBytes.{is_instruction_byte}
 
 pub record IsByte (b : ℕ) : Type 0 where
   pub inked : is_inked b ≡ true
   pub blank : is_blank b ≡ false
   pub comma : (b == 44) ≡ false
 
-byte_is : (b : ℕ) → is_word_byte b ≡ true → IsByte b
+byte_is : (b : ℕ) → is_instruction_byte b ≡ true → IsByte b
 byte_is b h =
     let p = and_parts (not (is_blank b)) (not (b == 44)) h in
     record { inked = p.0; blank = not-true (is_blank b) p.0; comma = not-true (b == 44) p.1 }
@@ -25,7 +25,7 @@ pub record IsWord (t : List ℕ) : Type 0 where
   pub first : ℕ
   pub rest : List ℕ
   pub is : t ≡ first ∷ rest
-  pub bytes : list_all is_word_byte t ≡ true
+  pub bytes : list_all is_instruction_byte t ≡ true
 
 -- a plain text is a word
 pub word_is : (t : List ℕ) → is_plain t ≡ true → IsWord t
@@ -33,37 +33,37 @@ word_is [] h = cc
 word_is (b ∷ t) h = record { first = b; rest = t; is = refl; bytes = h }
 
 -- the first word ends at a blank
-run_word : (t rest : List ℕ) → list_all is_word_byte t ≡ true →
-    run_of is_inked (t ++ 32 ∷ rest) ≡ t
-unfolding run_of
+run_word : (t rest : List ℕ) → list_all is_instruction_byte t ≡ true →
+    leading_run is_inked (t ++ 32 ∷ rest) ≡ t
+unfolding leading_run
 run_word [] rest h = refl
 run_word (b ∷ t) rest h =
-    let p = and_parts (is_word_byte b) (list_all is_word_byte t) h in
+    let p = and_parts (is_instruction_byte b) (list_all is_instruction_byte t) h in
     let q = (byte_is b p.0).inked in
     rw q (ap (λ l. b ∷ l) (run_word t rest p.1))
 
-run_all : (t : List ℕ) → list_all is_word_byte t ≡ true → run_of is_inked t ≡ t
-unfolding run_of
+run_all : (t : List ℕ) → list_all is_instruction_byte t ≡ true → leading_run is_inked t ≡ t
+unfolding leading_run
 run_all [] h = refl
 run_all (b ∷ t) h =
-    let p = and_parts (is_word_byte b) (list_all is_word_byte t) h in
+    let p = and_parts (is_instruction_byte b) (list_all is_instruction_byte t) h in
     let q = (byte_is b p.0).inked in
     rw q (ap (λ l. b ∷ l) (run_all t p.1))
 
-after_word : (t rest : List ℕ) → list_all is_word_byte t ≡ true →
+after_word : (t rest : List ℕ) → list_all is_instruction_byte t ≡ true →
     after_run is_inked (t ++ 32 ∷ rest) ≡ 32 ∷ rest
 unfolding after_run
 after_word [] rest h = refl
 after_word (b ∷ t) rest h =
-    let p = and_parts (is_word_byte b) (list_all is_word_byte t) h in
+    let p = and_parts (is_instruction_byte b) (list_all is_instruction_byte t) h in
     let q = (byte_is b p.0).inked in
     rw q (after_word t rest p.1)
 
-after_all : (t : List ℕ) → list_all is_word_byte t ≡ true → after_run is_inked t ≡ []
+after_all : (t : List ℕ) → list_all is_instruction_byte t ≡ true → after_run is_inked t ≡ []
 unfolding after_run
 after_all [] h = refl
 after_all (b ∷ t) h =
-    let p = and_parts (is_word_byte b) (list_all is_word_byte t) h in
+    let p = and_parts (is_instruction_byte b) (list_all is_instruction_byte t) h in
     let q = (byte_is b p.0).inked in
     rw q (after_all t p.1)
 
@@ -74,11 +74,11 @@ unblanked_word t rest w = ap (λ l. unblanked (l ++ rest)) w.is ∙
     (first_stays w.first (w.rest ++ rest) (list_of t w.first w.rest w.is w.bytes) ∙
     sym (ap (λ l. l ++ rest) w.is))
   where
-    list_of : (t : List ℕ) (b : ℕ) (r : List ℕ) → t ≡ b ∷ r → list_all is_word_byte t ≡ true →
-        is_word_byte b ≡ true
-    list_of t b r e h = (and_parts (is_word_byte b) (list_all is_word_byte r) (sym (ap (λ l. list_all is_word_byte l) e) ∙ h)).0
+    list_of : (t : List ℕ) (b : ℕ) (r : List ℕ) → t ≡ b ∷ r → list_all is_instruction_byte t ≡ true →
+        is_instruction_byte b ≡ true
+    list_of t b r e h = (and_parts (is_instruction_byte b) (list_all is_instruction_byte r) (sym (ap (λ l. list_all is_instruction_byte l) e) ∙ h)).0
 
-    first_stays : (b : ℕ) (r : List ℕ) → is_word_byte b ≡ true → after_run is_blank (b ∷ r) ≡ b ∷ r
+    first_stays : (b : ℕ) (r : List ℕ) → is_instruction_byte b ≡ true → after_run is_blank (b ∷ r) ≡ b ∷ r
     first_stays b r h = let q = (byte_is b h).blank in rw q refl
 
 unblanked_blank : (t : List ℕ) → unblanked (32 ∷ t) ≡ unblanked t
@@ -86,11 +86,11 @@ unfolding after_run
 unblanked_blank t = refl
 
 -- a text that ends with a word has no blank at its end
-before_word : (t : List ℕ) → list_all is_word_byte t ≡ true → before_blanks t ≡ t
+before_word : (t : List ℕ) → list_all is_instruction_byte t ≡ true → before_blanks t ≡ t
 unfolding before_blanks
 before_word [] h = refl
 before_word (b ∷ t) h =
-    let p = and_parts (is_word_byte b) (list_all is_word_byte t) h in
+    let p = and_parts (is_instruction_byte b) (list_all is_instruction_byte t) h in
     let q = (byte_is b p.0).blank in
     ap (λ l. kept_before b l) (before_word t p.1) ∙ kept b t q
   where
@@ -133,19 +133,19 @@ trimmed_words t a u w x =
     (ap before_blanks (sym (append_assoc t a u)) ∙ (before_ends (t ++ a) u x ∙ append_assoc t a u))
 
 -- a text is split at its commas
-split_word : (t rest : List ℕ) → list_all is_word_byte t ≡ true →
+split_word : (t rest : List ℕ) → list_all is_instruction_byte t ≡ true →
     slice_split (λ x. x == 44) (t ++ 44 ∷ rest) ≡ t ∷ slice_split (λ x. x == 44) rest
 split_word [] rest h = refl
 split_word (b ∷ t) rest h =
-    let p = and_parts (is_word_byte b) (list_all is_word_byte t) h in
+    let p = and_parts (is_instruction_byte b) (list_all is_instruction_byte t) h in
     let q = (byte_is b p.0).comma in
     rw q (ap (λ l. onto_first b l) (split_word t rest p.1))
 
-split_last : (t : List ℕ) → list_all is_word_byte t ≡ true →
+split_last : (t : List ℕ) → list_all is_instruction_byte t ≡ true →
     slice_split (λ x. x == 44) t ≡ t ∷ []
 split_last [] h = refl
 split_last (b ∷ t) h =
-    let p = and_parts (is_word_byte b) (list_all is_word_byte t) h in
+    let p = and_parts (is_instruction_byte b) (list_all is_instruction_byte t) h in
     let q = (byte_is b p.0).comma in
     rw q (ap (λ l. onto_first b l) (split_last t p.1))
 
@@ -185,7 +185,7 @@ four_pieces a b c d u v w x =
     (ap (λ t. four a t (trim_blanks c) (trim_blanks d)) (trimmed_word b v) ∙
     (ap (λ t. four a b t (trim_blanks d)) (trimmed_word c w) ∙ ap (λ t. four a b c t) (trimmed_word d x))))
 
-operands_back : (o : OperandTexts) → all_plain o ≡ true → operands_in (listed o) ≡ o
+operands_back : (o : OperandTexts) → all_plain_texts o ≡ true → operands_in (listed o) ≡ o
 unfolding operands_in
 operands_back none h = ap operands_if trimmed_nil
 operands_back (one a) h =
@@ -230,10 +230,10 @@ operands_back (four a b c d) h =
 operands_back more h = cc
 
 -- the operands come after a blank, or there are none
-word_back : (word : List ℕ) (o : OperandTexts) → IsWord word → all_plain o ≡ true →
-    (run_of is_inked (word ++ listed o) ≡ word) × (after_run is_inked (word ++ listed o) ≡ listed o)
+word_back : (word : List ℕ) (o : OperandTexts) → IsWord word → all_plain_texts o ≡ true →
+    (leading_run is_inked (word ++ listed o) ≡ word) × (after_run is_inked (word ++ listed o) ≡ listed o)
 word_back word none w h = (
-  ap (run_of is_inked) (append-nil word) ∙ run_all word w.bytes,
+  ap (leading_run is_inked) (append-nil word) ∙ run_all word w.bytes,
   ap (after_run is_inked) (append-nil word) ∙ after_all word w.bytes,
 )
 word_back word (one a) w h = (run_word word a w.bytes, after_word word a w.bytes)
@@ -248,13 +248,13 @@ word_back word (four a b c d) w h = (
 word_back word more w h = cc
 
 -- an instruction of plain words reads back from its text
-pub written_back : (x : Written) → is_plain x.word ≡ true → all_plain x.operands ≡ true →
-    written_in (text_of x) ≡ x
+pub written_back : (x : Written) → is_plain x.word ≡ true → all_plain_texts x.operands ≡ true →
+    written_in (written_text x) ≡ x
 written_back x h k =
     let w = word_is x.word h in
     let p = word_back x.word x.operands w k in
     let e = unblanked_word x.word (listed x.operands) w in
-    ap (λ l. made (run_of is_inked l) (operands_in (after_run is_inked l))) e ∙
+    ap (λ l. made (leading_run is_inked l) (operands_in (after_run is_inked l))) e ∙
     (ap (λ t. made t (operands_in (after_run is_inked (x.word ++ listed x.operands)))) p.0 ∙
     (ap (λ t. made x.word (operands_in t)) p.1 ∙
     ap (λ o. made x.word o) (operands_back x.operands k)))
@@ -264,7 +264,7 @@ written_back x h k =
 
 -- an operation of an architecture reads back from its text, raw
 pub raw_back : (a : Puts) (w : Writing) → WritesBack a w → (names : ℕ → List ℕ) (op : Micro) →
-    a.has op ≡ true → is_named (name_of names op) ≡ true →
+    a.has op ≡ true → is_well_named (op_name names op) ≡ true →
     w.raw (written_in (op_text w names op)) ≡ Some (raw_of names op)
 raw_back a w laws names op has named =
     ap w.raw (written_back (w.written names op) (laws.word names op has named)
@@ -273,8 +273,8 @@ raw_back a w laws names op has named =
 
 -- an operation of an architecture reads back from its text, and its name gets its number
 pub instr_back : (a : Puts) (w : Writing) → WritesBack a w → (names : ℕ → List ℕ) (op : Micro)
-    (places labels : List (List ℕ)) → a.has op ≡ true → is_named (name_of names op) ≡ true →
+    (places labels : List (List ℕ)) → a.has op ≡ true → is_well_named (op_name names op) ≡ true →
     instr_read w (op_text w names op) places labels ≡
-    numbered (with_number op 0) (name_of names op) places labels
+    read_numbered (with_number op 0) (op_name names op) places labels
 instr_back a w laws names op places labels has named =
     ap (λ x. number_raw x places labels) (raw_back a w laws names op has named)

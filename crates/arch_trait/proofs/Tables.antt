@@ -10,7 +10,7 @@ use Rattle.std.specs.Char.{is_ascii_alphabetic, is_ascii_alphanumeric}
 use Rattle.list_laws.proofs.Elements.{list_all-weaker}
 use Rattle.list_laws.proofs.Cases.{by_test}
 use Rattle.arch_trait.specs.declared.step.TheConstants.{MAX_STEPS}
-use Rattle.arch_trait.specs.Names.{IsTable, number_in, location_letters, lap_mark, location_name, letters}
+use Rattle.arch_trait.specs.PlaceNames.{IsTable, number_in, location_letters, lap_mark, location_name, letters}
 
 distinct_none : IsDistinct bytes_eq []
 unfolding IsDistinct

@@ -1,7 +1,7 @@
 -- The registers of a thread: which hold addresses, as they are taken one after another.
 use Rattle.std.proofs.Common.{ℕ, ◌+◌, ◌<◌, ◌≤◌, ◌≡◌, ◌==◌, ◌⊎◌, inl, inr, refl, Bool, true, false, cond, ◌||◌, List, [], ◌∷◌, ◌++◌, Option, Some, None, is_some, ◌∙◌, sym, ap, subst, eq-eqb, ne_eqb, eqb-true, arith}
 use Rattle.list_laws.proofs.Cases.{by_test}
-use Rattle.micro_ops.specs.Machine.{num, at_place}
+use Rattle.micro_ops.specs.Machine.{num, held_at_place}
 use Rattle.arch_trait.specs.Taking.{Taken, address_in, has_address, begins, with_address}
 use Rattle.arch_trait.specs.Laws.{InOrder, IsTaken, AddsAddress, Takes}
 
@@ -50,7 +50,7 @@ begins_off low (link ∷ links) high s h o =
 
 -- an address register begins with the address of its place
 pub begins_at : (low : ℕ) (links : List (ℕ × ℕ)) (high p a : ℕ) → InOrder low links high →
-    address_in links p ≡ Some a → begins links a ≡ at_place p
+    address_in links p ≡ Some a → begins links a ≡ held_at_place p
 begins_at low [] high p a h e = cc
 begins_at low (link ∷ links) high p a h e = by_test (link.1 == p)
     (λ t. let f : Some link.0 ≡ Some a = sym (ap (λ b. cond b (Some link.0) (address_in links p)) t) ∙ e in

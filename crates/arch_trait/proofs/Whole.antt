@@ -3,11 +3,11 @@ use Rattle.std.proofs.Common.{ℕ, ◌+◌, ◌<◌, ◌≤◌, ◌≡◌, refl,
 use Rattle.std.proofs.lemmas.List.{take-append-drop}
 use Rattle.micro_ops.specs.declared.held.Held.{Held}
 use Rattle.micro_ops.specs.declared.operation.Micro.{Micro}
-use Rattle.micro_ops.specs.Running.{Run, beginning, runs, outcome, ended, Ended, ReadsLeft, ReadsShort}
+use Rattle.micro_ops.specs.Running.{Run, beginning, runs, outcome, run_ended, Ended, ReadsLeft, ReadsShort}
 use Rattle.arch_trait.specs.declared.step.Step.{Step}
-use Rattle.arch_trait.specs.Taking.{untaken, initial}
+use Rattle.arch_trait.specs.Taking.{untaken, initial_values}
 use Rattle.arch_trait.specs.Threads.{Puts, ThreadCode, FitSteps, setting_out, loads_in, shape_of, visits, thread_regs, thread_loads, compiled, Loaded, HoldNumbers}
-use Rattle.arch_trait.specs.Codes.{EndsWith, MakesSteps, IsFormed, AllBelow}
+use Rattle.arch_trait.specs.Codes.{EndsWith, MakesSteps, IsFormedCode, AllBelow}
 use Rattle.arch_trait.specs.Laws.{IsArch, IsTaken}
 use Rattle.arch_trait.proofs.Taking.{begins_at, in_order_more}
 use Rattle.arch_trait.proofs.Codes.{thread_has, thread_lands, thread_labels, thread_places, thread_addresses, visits_all, thread_loads_below, thread_loads_length}
@@ -20,7 +20,7 @@ none_taken n = record { in_order = omega arith }
 -- the beginning of a thread is ready for its accesses
 pub begins_whole : (a : Puts) → IsArch a → (ss : List Step) (reads : List ℕ) →
     FitSteps a.name false ss →
-    Begins a (setting_out a.registers) ss false (beginning (initial (compiled a ss).links) reads)
+    Begins a (setting_out a.registers) ss false (beginning (initial_values (compiled a ss).links) reads)
 begins_whole a laws ss reads fit =
     let grown = thread_grew a laws false (setting_out a.registers) ss fit in
     let whole = thread_regs a (setting_out a.registers) ss in
@@ -43,13 +43,13 @@ pub thread_ends : (a : Puts) → IsArch a → (ss : List Step) (vs : List ℕ) �
     FitSteps a.name false ss → length vs ≡ loads_in ss → EndsWith ss (compiled a ss) vs
 thread_ends a laws ss vs fit count =
     let f = thread_runs a laws ss (setting_out a.registers) false
-    (beginning (initial (compiled a ss).links) vs) vs [] fit (begins_whole a laws ss vs fit) count
+    (beginning (initial_values (compiled a ss).links) vs) vs [] fit (begins_whole a laws ss vs fit) count
     (sym (append-nil vs)) in
     record {
       regs = λ q. (f.after.state.regs q).value;
       ends =
           ap outcome f.ran ∙
-          (ap (λ reads. ended f.after reads) f.reads_is ∙
+          (ap (λ reads. run_ended f.after reads) f.reads_is ∙
           ap (λ made. Ended made (λ q. (f.after.state.regs q).value)) f.made_is);
       loaded = numbers_held f.after.state.regs (compiled a ss).loads vs 0 f.loaded;
     }
@@ -57,26 +57,26 @@ thread_ends a laws ss vs fit count =
 -- on fewer numbers than it has loads, a thread wants more
 pub thread_short_of : (a : Puts) → IsArch a → (ss : List Step) (vs : List ℕ) →
     FitSteps a.name false ss → length vs < loads_in ss →
-    runs (compiled a ss).instrs (initial (compiled a ss).links) vs ≡ ReadsShort
+    runs (compiled a ss).instrs (initial_values (compiled a ss).links) vs ≡ ReadsShort
 thread_short_of a laws ss vs fit few =
     ap outcome (thread_wants a laws ss (setting_out a.registers) false
-    (beginning (initial (compiled a ss).links) vs) vs fit (begins_whole a laws ss vs fit) few refl).is
+    (beginning (initial_values (compiled a ss).links) vs) vs fit (begins_whole a laws ss vs fit) few refl).is
 
 -- on more numbers than it has loads, a thread leaves some
 pub thread_leaves : (a : Puts) → IsArch a → (ss : List Step) (vs : List ℕ) →
     FitSteps a.name false ss → loads_in ss < length vs →
-    runs (compiled a ss).instrs (initial (compiled a ss).links) vs ≡ ReadsLeft
+    runs (compiled a ss).instrs (initial_values (compiled a ss).links) vs ≡ ReadsLeft
 thread_leaves a laws ss vs fit many =
     let n = loads_in ss in
     let k : n ≤ length vs = omega arith in
     let f = thread_runs a laws ss (setting_out a.registers) false
-    (beginning (initial (compiled a ss).links) vs) (take n vs) (drop n vs) fit
+    (beginning (initial_values (compiled a ss).links) vs) (take n vs) (drop n vs) fit
     (begins_whole a laws ss vs fit) (omega (arith, length-take n vs)) (sym (take-append-drop n vs)) in
     ap outcome f.ran ∙
-    (ap (λ reads. ended f.after reads) f.reads_is ∙
+    (ap (λ reads. run_ended f.after reads) f.reads_is ∙
     some_left f.after (drop n vs) (omega (arith, length-drop n vs)))
   where
-    some_left : (r : Run) (vs : List ℕ) → 0 < length vs → ended r vs ≡ ReadsLeft
+    some_left : (r : Run) (vs : List ℕ) → 0 < length vs → run_ended r vs ≡ ReadsLeft
     some_left r [] h = absurd (omega arith)
     some_left r (v ∷ vs) h = refl
 
@@ -91,7 +91,7 @@ makes_steps a laws ss fit = record {
 
 -- where registers are enough, the code of a thread is well formed
 pub is_formed : (a : Puts) → IsArch a → (ss : List Step) → FitSteps a.name false ss →
-    a.need (shape_of ss) ≤ a.registers → IsFormed a ss (compiled a ss)
+    a.need (shape_of ss) ≤ a.registers → IsFormedCode a ss (compiled a ss)
 is_formed a laws ss fit enough =
     let w = setting_out a.registers in
     let need = need_is a laws a.registers ss fit in
@@ -138,7 +138,7 @@ pub formed_so : (a : Puts) → IsArch a → (ss : List Step) (instrs : List Micr
     (links : List (ℕ × ℕ)) (loads : List ℕ) → FitSteps a.name false ss →
     a.need (shape_of ss) ≤ a.registers → instrs ≡ (compiled a ss).instrs →
     links ≡ (compiled a ss).links → loads ≡ (compiled a ss).loads →
-    IsFormed a ss (made instrs links loads)
+    IsFormedCode a ss (made instrs links loads)
 formed_so a laws ss instrs links loads fit enough e f g =
-    let P : ThreadCode → Type 0 = IsFormed a ss in
+    let P : ThreadCode → Type 0 = IsFormedCode a ss in
     subst P (same_code instrs links loads (compiled a ss) e f g) (is_formed a laws ss fit enough)

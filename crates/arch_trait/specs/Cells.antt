@@ -3,16 +3,16 @@
 use Rattle.std.specs.Prelude.{ℕ, ◌≤◌, ◌==◌, ◌≡◌, Bool, true, false, not, ◌&&◌, ◌||◌, nat_le, List, [], ◌∷◌, ◌++◌, codes, length, Option, count_by}
 use Rattle.std.specs.List.{list_all, list_any}
 use Rattle.std.specs.Str.{bytes_eq}
-use Rattle.text_laws.specs.Runs.{run_of}
+use Rattle.text_laws.specs.LeadingRuns.{leading_run}
 use Rattle.text_laws.specs.Blanks.{unblanked}
-use Rattle.text_laws.specs.Words.{is_word_byte}
+use Rattle.text_laws.specs.Words.{is_argument_byte}
 use Rattle.relax_edges.specs.declared.kinds.Mark.{Mark}
 use Rattle.micro_ops.specs.declared.operation.Micro.{Micro}
 use Rattle.micro_ops.specs.declared.operation.Micro.TheVariants as ops
 use Rattle.arch_trait.specs.declared.link.Link.{Link}
 use Rattle.arch_trait.specs.Taking.{Taken}
 use Rattle.arch_trait.specs.Threads.{Puts}
-use Rattle.arch_trait.specs.Writing.{Writing, op_text, name_of, is_named, label_name}
+use Rattle.arch_trait.specs.Writing.{Writing, op_text, op_name, is_well_named, label_name}
 
 -- a byte of a line of a printed test: a space or a graphic character, but no `*`
 abbrev pub is_line_byte : ℕ → Bool
@@ -24,7 +24,7 @@ is_cell_byte byte = is_line_byte byte && not (byte == 124 || (byte == 59 || byte
 
 -- the first word of a line: it ends before a blank or a parenthesis
 abbrev pub first_word : List ℕ → List ℕ
-first_word text = run_of is_word_byte (unblanked text)
+first_word text = leading_run is_argument_byte (unblanked text)
 
 -- the first word of a line ends the rows of a table
 unfoldable pub ends_rows : List ℕ → Bool
@@ -38,11 +38,11 @@ is_label_op op = false
 -- the text of an operation has no byte that ends a cell, a row or a label, but that a label ends in a colon; its first
 -- word is none that ends the rows
 pub record WritesCells (a : Puts) (w : Writing) : Type 0 where
-  pub cells : (names : ℕ → List ℕ) (op : Micro) → a.has op ≡ true → is_named (name_of names op) ≡ true → is_label_op op ≡ false
+  pub cells : (names : ℕ → List ℕ) (op : Micro) → a.has op ≡ true → is_well_named (op_name names op) ≡ true → is_label_op op ≡ false
       → list_all is_cell_byte (op_text w names op) ≡ true
-  pub rows : (names : ℕ → List ℕ) (op : Micro) → a.has op ≡ true → is_named (name_of names op) ≡ true → ends_rows (op_text w names op) ≡ false
+  pub rows : (names : ℕ → List ℕ) (op : Micro) → a.has op ≡ true → is_well_named (op_name names op) ≡ true → ends_rows (op_text w names op) ≡ false
   pub labels : (names : ℕ → List ℕ) (label : ℕ) → a.has (ops.Label label) ≡ true → op_text w names (ops.Label label) ≡ label_name label ++ codes ":"
-  pub short : (names : ℕ → List ℕ) (op : Micro) → a.has op ≡ true → is_named (name_of names op) ≡ true → length (op_text w names op) ≤ 40
+  pub short : (names : ℕ → List ℕ) (op : Micro) → a.has op ≡ true → is_well_named (op_name names op) ≡ true → length (op_text w names op) ≤ 40
 
 -- an operation reads or writes a place
 abbrev pub is_access : Micro → Bool
@@ -55,11 +55,11 @@ is_access (ops.StoreRel _ _) = true
 is_access _ = false
 
 -- how many accesses operations are
-abbrev pub accesses_in : List Micro → ℕ
-accesses_in code = count_by is_access code
+abbrev pub access_count : List Micro → ℕ
+access_count code = count_by is_access code
 
 -- the code of a link has no access, and that of an access has one
 pub record MakesOneAccess (a : Puts) : Type 0 where
-  pub link : (link : Link) (from : Option ℕ) (n : ℕ) → accesses_in (a.link link from n) ≡ 0
-  pub load : (g : Taken) (link : Link) (mark : Mark) (from : Option ℕ) (p : ℕ) → accesses_in (a.load g link mark from p).code ≡ 1
-  pub store : (g : Taken) (link : Link) (mark : Mark) (from : Option ℕ) (p v : ℕ) → accesses_in (a.store g link mark from p v).code ≡ 1
+  pub link : (link : Link) (from : Option ℕ) (n : ℕ) → access_count (a.link link from n) ≡ 0
+  pub load : (g : Taken) (link : Link) (mark : Mark) (from : Option ℕ) (p : ℕ) → access_count (a.load g link mark from p).code ≡ 1
+  pub store : (g : Taken) (link : Link) (mark : Mark) (from : Option ℕ) (p v : ℕ) → access_count (a.store g link mark from p v).code ≡ 1

@@ -8,13 +8,13 @@ use Rattle.micro_ops.specs.declared.operation.Micro.TheVariants as ops
 use Rattle.micro_ops.specs.Running.{runs, Ended, ReadsShort, ReadsLeft, labels_of, lands}
 use Rattle.arch_trait.specs.declared.code.Code.{Code}
 use Rattle.arch_trait.specs.declared.step.Step.{Step}
-use Rattle.arch_trait.specs.Taking.{initial}
+use Rattle.arch_trait.specs.Taking.{initial_values}
 use Rattle.arch_trait.specs.Threads.{Puts, ThreadCode, thread_items, loads_in, branches_in, visits, HoldNumbers}
 use Rattle.arch_trait.specs.Laws.{InOrder}
 
 -- what the code sees of the code of a thread
-abbrev pub thread_of : Code → ThreadCode
-thread_of code = record {
+abbrev pub thread_code_of : Code → ThreadCode
+thread_code_of code = record {
   instrs = code.instrs.items;
   links = code.links.items;
   loads = code.loads.items;
@@ -24,7 +24,7 @@ thread_of code = record {
 -- loads' registers
 pub record EndsWith (ss : List Step) (code : ThreadCode) (vs : List ℕ) : Type 0 where
   pub regs : ℕ → Value
-  pub ends : runs code.instrs (initial code.links) vs ≡ Ended (thread_items ss 0 0 vs) regs
+  pub ends : runs code.instrs (initial_values code.links) vs ≡ Ended (thread_items ss 0 0 vs) regs
   pub loaded : HoldNumbers regs code.loads vs
 
 -- code makes the accesses, on any numbers: where they are as many as its loads it ends with the
@@ -32,9 +32,9 @@ pub record EndsWith (ss : List Step) (code : ThreadCode) (vs : List ℕ) : Type 
 pub record MakesSteps (ss : List Step) (code : ThreadCode) : Type 0 where
   pub ends : (vs : List ℕ) → length vs ≡ loads_in ss → EndsWith ss code vs
   pub lacks : (vs : List ℕ) → length vs < loads_in ss →
-      runs code.instrs (initial code.links) vs ≡ ReadsShort
+      runs code.instrs (initial_values code.links) vs ≡ ReadsShort
   pub leaves : (vs : List ℕ) → loads_in ss < length vs →
-      runs code.instrs (initial code.links) vs ≡ ReadsLeft
+      runs code.instrs (initial_values code.links) vs ≡ ReadsLeft
 
 -- an operation names none but the places of the accesses
 abbrev pub is_within : List Step → Micro → Bool
@@ -50,7 +50,7 @@ AllBelow n (q ∷ qs) = (q < n) × AllBelow n qs
 -- the code of a thread is well formed: its operations are the architecture's, each branch has its
 -- label after it, labels are numbered in order, the places are those of the accesses, and its
 -- registers are the architecture's, each address register for one place
-pub record IsFormed (a : Puts) (ss : List Step) (code : ThreadCode) : Type 0 where
+pub record IsFormedCode (a : Puts) (ss : List Step) (code : ThreadCode) : Type 0 where
   pub has : list_all a.has code.instrs ≡ true
   pub jumps : lands code.instrs ≡ true
   pub labels : labels_of code.instrs ≡ range_with_len 0 (branches_in ss)

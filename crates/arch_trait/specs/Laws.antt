@@ -10,11 +10,11 @@ use Rattle.micro_ops.specs.declared.operation.Micro.{Micro}
 use Rattle.micro_ops.specs.declared.operation.Micro.TheVariants as ops
 use Rattle.micro_ops.specs.declared.operation.Item.{Item}
 use Rattle.micro_ops.specs.declared.operation.Item.TheVariants as items
-use Rattle.micro_ops.specs.Machine.{num, at_place, bit}
+use Rattle.micro_ops.specs.Machine.{num, held_at_place, bit}
 use Rattle.micro_ops.specs.Running.{Run, Point, At, Wants, exec, labels_of, lands}
 use Rattle.arch_trait.specs.declared.link.Link.{Link}
 use Rattle.arch_trait.specs.declared.step.Shape.{Shape}
-use Rattle.arch_trait.specs.Links.{link_is_of, depends, branches, is_addr, is_data, mask_if, link_control, link_items}
+use Rattle.arch_trait.specs.Links.{link_is_of, depends_on_load, branches, is_addr, is_data, mask_if, link_control, link_items}
 use Rattle.arch_trait.specs.Taking.{Taken, address_in, has_address}
 use Rattle.arch_trait.specs.Threads.{Put, Puts, is_load_dir, is_store_dir}
 
@@ -42,11 +42,11 @@ pub record Takes (g h : Taken) (p : ℕ) : Type 0 where
   pub more : g.next ≤ h.next
   pub links : (h.links ≡ g.links) ⊎ AddsAddress g h p
 
--- each address register holds its place and depends on no load
+-- each address register holds its place and depends_on_load on no load
 abbrev pub HoldsPlaces : Run → Taken → Type 0
-HoldsPlaces r g = (p a : ℕ) → address_in g.links p ≡ Some a → r.state.regs a ≡ at_place p
+HoldsPlaces r g = (p a : ℕ) → address_in g.links p ≡ Some a → r.state.regs a ≡ held_at_place p
 
--- a register is given that holds a number which depends on load number k alone
+-- a register is given that holds a number which depends_on_load on load number k alone
 pub record HasSource (r : Run) (from : Option ℕ) (k : ℕ) : Type 0 where
   pub register : ℕ
   pub value : ℕ
@@ -55,10 +55,10 @@ pub record HasSource (r : Run) (from : Option ℕ) (k : ℕ) : Type 0 where
 
 -- a run is ready for an access with the registers g before it and h after it: the address registers,
 -- those that the access takes too, hold their places, and a dependency has its load number k
-pub record Ready (r : Run) (g h : Taken) (link : Link) (from : Option ℕ) (k : ℕ) : Type 0 where
+pub record ReadyForAccess (r : Run) (g h : Taken) (link : Link) (from : Option ℕ) (k : ℕ) : Type 0 where
   pub taken : IsTaken g
   pub places : HoldsPlaces r h
-  pub source : depends link ≡ true → HasSource r from k
+  pub source : depends_on_load link ≡ true → HasSource r from k
 
 -- a run of code comes to its end: it makes the items, leaves the control mask, the number of loads
 -- and the reads as given, writes only registers that were taken in it, and no address register
@@ -74,7 +74,7 @@ pub record Did (code : List Micro) (r : Run) (g h : Taken) (made : List Item) (c
   pub above : (s : ℕ) → h.next ≤ s → after.state.regs s ≡ r.state.regs s
   pub places : HoldsPlaces after h
 
--- a load's run of code comes to its end: its register holds the number read, which depends on this load alone
+-- a load's run of code comes to its end: its register holds the number read, which depends_on_load on this load alone
 pub record DidLoad (code : List Micro) (r : Run) (g h : Taken) (made : List Item)
     (control loads : ℕ) (reads : List ℕ) (register value : ℕ) : Type 0 where
   pub did : Did code r g h made control loads reads
@@ -97,7 +97,7 @@ pub record IsWanting (p : Point) : Type 0 where
 
 -- the most operations of a link
 abbrev pub link_room : Link → ℕ
-link_room link = cond (branches link) 4 (cond (depends link) 0 1)
+link_room link = cond (branches link) 4 (cond (depends_on_load link) 0 1)
 
 -- the most operations of an access
 abbrev pub access_room : Link → ℕ
@@ -113,14 +113,14 @@ IsUsable registers (Some register) = register < registers
 IsUsable registers None = Unit {0}
 
 -- an operation names this place or none
-abbrev pub is_at : ℕ → Micro → Bool
-is_at place (ops.LoadAt _ q) = q == place
-is_at place (ops.StoreAt q _) = q == place
-is_at place _ = true
+abbrev pub is_at_place : ℕ → Micro → Bool
+is_at_place place (ops.LoadAt _ q) = q == place
+is_at_place place (ops.StoreAt q _) = q == place
+is_at_place place _ = true
 
 -- a shape with one more access, which is at a further location if is_new
-abbrev pub grown : Shape → Dir → Link → Bool → Shape
-grown h d link is_new = record {
+abbrev pub shape_grown : Shape → Dir → Link → Bool → Shape
+shape_grown h d link is_new = record {
   loads = h.loads + cond (is_load_dir d) 1 0;
   stores = h.stores + cond (is_store_dir d) 1 0;
   addr = h.addr + cond (is_addr link) 1 0;
@@ -150,13 +150,13 @@ pub record HasMark (a : Puts) (d : Dir) (mark : Mark) : Type 0 where
 -- a link of the architecture, and for a dependency a register that it is on
 pub record HasLink (a : Puts) (link : Link) (from : Option ℕ) : Type 0 where
   pub of_arch : link_is_of link a.name ≡ true
-  pub given : depends link ≡ true → is_some from ≡ true
+  pub given : depends_on_load link ≡ true → is_some from ≡ true
 
 -- the code of a link makes exactly the link's barriers, and the branches before the access then
 -- depend on the load of a control link; it has its branch's label, once and after the branch
 pub record MakesLinks (a : Puts) : Type 0 where
   pub runs : (link : Link) (from : Option ℕ) (n : ℕ) (r : Run) (k : ℕ) →
-      link_is_of link a.name ≡ true → (depends link ≡ true → HasSource r from k) →
+      link_is_of link a.name ≡ true → (depends_on_load link ≡ true → HasSource r from k) →
       DidLink (a.link link from n) r (link_items link k r.state.control)
       (link_control link k r.state.control)
   pub room : (link : Link) (from : Option ℕ) (n : ℕ) →
@@ -165,7 +165,7 @@ pub record MakesLinks (a : Puts) : Type 0 where
       labels_of (a.link link from n) ≡ link_labels link n
   pub jumps : (link : Link) (from : Option ℕ) (n : ℕ) → lands (a.link link from n) ≡ true
   pub no_place : (link : Link) (from : Option ℕ) (n p : ℕ) →
-      list_all (is_at p) (a.link link from n) ≡ true
+      list_all (is_at_place p) (a.link link from n) ≡ true
   pub has : (link : Link) (from : Option ℕ) (n : ℕ) → HasLink a link from →
       IsUsable a.registers from → list_all a.has (a.link link from n) ≡ true
 
@@ -180,42 +180,42 @@ pub record MakesAccess (a : Puts) (d : Dir) (put : Taken → Link → Mark → O
       a.has_addresses ≡ true → has_address (put g link mark from p).regs p ≡ true
   pub need : (g : Taken) (link : Link) (mark : Mark) (from : Option ℕ) (p : ℕ) (is_new : Bool) (h : Shape) →
       HasLink a link from → IsFresh a g p is_new →
-      (put g link mark from p).regs.next + a.need h ≡ g.next + a.need (grown h d link is_new)
+      (put g link mark from p).regs.next + a.need h ≡ g.next + a.need (shape_grown h d link is_new)
   pub no_label : (g : Taken) (link : Link) (mark : Mark) (from : Option ℕ) (p : ℕ) →
       labels_of (put g link mark from p).code ≡ []
   pub no_jump : (g : Taken) (link : Link) (mark : Mark) (from : Option ℕ) (p : ℕ) →
       lands (put g link mark from p).code ≡ true
   pub at_place : (g : Taken) (link : Link) (mark : Mark) (from : Option ℕ) (p : ℕ) →
-      list_all (is_at p) (put g link mark from p).code ≡ true
+      list_all (is_at_place p) (put g link mark from p).code ≡ true
   pub has : (g : Taken) (link : Link) (mark : Mark) (from : Option ℕ) (p : ℕ) → HasLink a link from →
       HasMark a d mark → IsUsable a.registers from → IsTaken g →
       (put g link mark from p).regs.next ≤ a.registers →
       list_all a.has (put g link mark from p).code ≡ true
 
--- the code of a load makes one read of the place and the mark, which depends as the link says, and
+-- the code of a load makes one read of the place and the mark, which depends_on_load as the link says, and
 -- its register, taken for it, holds the number read
 pub record MakesLoads (a : Puts) : Type 0 where
   pub access : MakesAccess a dirs.R a.load
   pub runs : (g : Taken) (link : Link) (mark : Mark) (from : Option ℕ) (p : ℕ) (r : Run) (k v : ℕ)
       (vs : List ℕ) → link_is_of link a.name ≡ true → is_data link ≡ false → HasMark a dirs.R mark →
-      Ready r g (a.load g link mark from p).regs link from k → r.reads ≡ v ∷ vs →
+      ReadyForAccess r g (a.load g link mark from p).regs link from k → r.reads ≡ v ∷ vs →
       DidLoad (a.load g link mark from p).code r g (a.load g link mark from p).regs
       (items.Access dirs.R mark p v (mask_if (is_addr link) k) 0 r.state.control ∷ [])
       r.state.control (r.state.loads + 1) vs (a.filled g link from p) v
   pub wants : (g : Taken) (link : Link) (mark : Mark) (from : Option ℕ) (p : ℕ) (r : Run) (k : ℕ) →
       link_is_of link a.name ≡ true → is_data link ≡ false → HasMark a dirs.R mark →
-      Ready r g (a.load g link mark from p).regs link from k → r.reads ≡ [] →
+      ReadyForAccess r g (a.load g link mark from p).regs link from k → r.reads ≡ [] →
       IsWanting (exec (a.load g link mark from p).code (At r))
   pub fills : (g : Taken) (link : Link) (mark : Mark) (from : Option ℕ) (p : ℕ) →
       (g.next ≤ a.filled g link from p) × (a.filled g link from p < (a.load g link mark from p).regs.next)
 
--- the code of a store of a byte makes one write of it to the place, of the mark, which depends as the
+-- the code of a store of a byte makes one write of it to the place, of the mark, which depends_on_load as the
 -- link says
 pub record MakesStores (a : Puts) : Type 0 where
   pub access : (v : ℕ) → v < 256 → MakesAccess a dirs.W (λ g link mark from p. a.store g link mark from p v)
   pub runs : (g : Taken) (link : Link) (mark : Mark) (from : Option ℕ) (p v : ℕ) (r : Run) (k : ℕ) → v < 256 →
       link_is_of link a.name ≡ true → HasMark a dirs.W mark →
-      Ready r g (a.store g link mark from p v).regs link from k →
+      ReadyForAccess r g (a.store g link mark from p v).regs link from k →
       Did (a.store g link mark from p v).code r g (a.store g link mark from p v).regs
       (items.Access dirs.W mark p v (mask_if (is_addr link) k) (mask_if (is_data link) k) r.state.control ∷ [])
       r.state.control r.state.loads r.reads

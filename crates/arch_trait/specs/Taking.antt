@@ -56,10 +56,10 @@ address_of g place = address_or_next (address_in g.links place) g
 abbrev pub with_address : Taken → ℕ → Taken
 with_address g place = after_address (address_in g.links place) g place
 
--- address registers as the initial values of a thread
-abbrev pub initial : List (ℕ × ℕ) → List (ℕ × Value)
-initial links = map (λ link. (link.0, Place link.1)) links
+-- address registers as the initial_values values of a thread
+abbrev pub initial_values : List (ℕ × ℕ) → List (ℕ × Value)
+initial_values links = map (λ link. (link.0, Place link.1)) links
 
 -- what each register holds as a thread begins
 abbrev pub begins : List (ℕ × ℕ) → ℕ → Held
-begins links = starting (initial links)
+begins links = starting (initial_values links)

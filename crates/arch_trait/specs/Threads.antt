@@ -18,7 +18,7 @@ use Rattle.arch_trait.specs.declared.step.Step.{Step}
 use Rattle.arch_trait.specs.declared.step.Shape.{Shape}
 use Rattle.arch_trait.specs.declared.way.Way as kept
 use Rattle.std.specs.List.{list_any}
-use Rattle.arch_trait.specs.Links.{link_is_of, depends, branches, is_addr, is_data, mask_if, link_control, link_items}
+use Rattle.arch_trait.specs.Links.{link_is_of, depends_on_load, branches, is_addr, is_data, mask_if, link_control, link_items}
 use Rattle.arch_trait.specs.Taking.{Taken, untaken}
 
 -- the code of an access, and the registers after it
@@ -92,9 +92,9 @@ way_seen way = record { regs = way.regs; last = way.last; label = way.label }
 abbrev pub setting_out : ℕ → Way
 setting_out registers = record { regs = untaken registers; last = None; label = 0 }
 
--- the register that a link depends on
+-- the register that a link depends_on_load on
 abbrev pub from_of : Link → Option ℕ → Option ℕ
-from_of link last = cond (depends link) last None
+from_of link last = cond (depends_on_load link) last None
 
 -- the code of an access, and the registers after it
 abbrev pub put_of : Puts → Taken → Option ℕ → Step → Dir → Put
@@ -154,9 +154,9 @@ access_item s dirs.W v k c =
     items.Access dirs.W s.mark s.place s.value (mask_if (is_addr s.link) k) (mask_if (is_data s.link) k) c
 
 -- the first of the numbers that are left to read
-abbrev pub first_of : List ℕ → ℕ
-first_of [] = 0
-first_of (v ∷ _) = v
+abbrev pub first_number : List ℕ → ℕ
+first_number [] = 0
+first_number (v ∷ _) = v
 
 -- the numbers that are left to read after an access
 abbrev pub left_after : Dir → List ℕ → List ℕ
@@ -175,7 +175,7 @@ abbrev pub thread_items : List Step → ℕ → ℕ → List ℕ → List Item
 thread_items [] n c vs = []
 thread_items (s ∷ ss) n c vs =
     (link_items s.link (n - 1) c ++
-    access_item s s.dir (first_of vs) (n - 1) (link_control s.link (n - 1) c) ∷ []) ++
+    access_item s s.dir (first_number vs) (n - 1) (link_control s.link (n - 1) c) ∷ []) ++
     thread_items ss (loads_after s.dir n) (link_control s.link (n - 1) c) (left_after s.dir vs)
 
 -- an access can follow on an architecture: its link is one of the architecture's, a dependency
@@ -183,7 +183,7 @@ thread_items (s ∷ ss) n c vs =
 -- architecture's, and what it stores is a byte
 pub record FitStep (arch : ArchName) (after_load : Bool) (s : Step) : Type 0 where
   pub of_arch : link_is_of s.link arch ≡ true
-  pub after : depends s.link ≡ true → after_load ≡ true
+  pub after : depends_on_load s.link ≡ true → after_load ≡ true
   pub to_store : is_data s.link ≡ true → s.dir ≡ dirs.W
   pub mark_fitting : mark_fits s.dir s.mark ≡ true
   pub mark_of_arch : mark_is_of s.mark arch ≡ true
@@ -195,7 +195,7 @@ FitSteps arch after_load [] = Unit {0}
 FitSteps arch after_load (s ∷ ss) =
     FitStep arch after_load s × FitSteps arch (is_load_dir s.dir) ss
 
--- each register holds the number that its load read, which depends on that load alone; the loads are
+-- each register holds the number that its load read, which depends_on_load on that load alone; the loads are
 -- counted from n on
 abbrev pub Loaded : (ℕ → Held) → List ℕ → List ℕ → ℕ → Type 0
 Loaded regs [] vs n = Unit {0}

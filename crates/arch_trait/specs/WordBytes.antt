@@ -3,5 +3,5 @@ use Rattle.std.proofs.Common.{ℕ, ◌==◌, Bool, not, ◌&&◌}
 use Rattle.text_laws.specs.Blanks.{is_blank}
 
 -- a byte of a word: no blank and no comma
-abbrev pub is_word_byte : ℕ → Bool
-is_word_byte x = not (is_blank x) && not (x == 44)
+abbrev pub is_instruction_byte : ℕ → Bool
+is_instruction_byte x = not (is_blank x) && not (x == 44)

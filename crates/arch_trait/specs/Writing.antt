@@ -5,7 +5,7 @@ use Rattle.std.specs.List.{list_all, IsDistinct}
 use Rattle.std.specs.Fmt.{decimal}
 use Rattle.std.specs.Str.{bytes_eq}
 use Rattle.text_laws.specs.Names.{is_place_name, is_register_name}
-use Rattle.text_laws.specs.Numbers.{number_of}
+use Rattle.text_laws.specs.NumberTexts.{number_of}
 use Rattle.text_laws.specs.Blanks.{is_blank}
 use Rattle.micro_ops.specs.declared.operation.Micro.{Micro}
 use Rattle.micro_ops.specs.declared.operation.Micro.TheVariants as ops
@@ -54,12 +54,12 @@ listed (four a b c d) = 32 ∷ (a ++ 44 ∷ (b ++ 44 ∷ (c ++ 44 ∷ d)))
 listed more = []
 
 -- the text of an instruction
-abbrev pub text_of : Written → List ℕ
-text_of w = w.word ++ listed w.operands
+abbrev pub written_text : Written → List ℕ
+written_text w = w.word ++ listed w.operands
 
 -- the text of an operation, where places have these names
 abbrev pub op_text : Writing → (ℕ → List ℕ) → Micro → List ℕ
-op_text w names op = text_of (w.written names op)
+op_text w names op = written_text (w.written names op)
 
 -- the names of a table by their numbers
 abbrev pub name_in : List (List ℕ) → ℕ → List ℕ
@@ -83,17 +83,17 @@ with_number (ops.Label _) i = ops.Label i
 with_number op _ = op
 
 -- what an operation names, where places have these names
-abbrev pub name_of : (ℕ → List ℕ) → Micro → Name
-name_of names (ops.LoadAt _ p) = place (names p)
-name_of names (ops.StoreAt p _) = place (names p)
-name_of names (ops.BranchEq l) = label (label_name l)
-name_of names (ops.BranchNz _ l) = label (label_name l)
-name_of names (ops.Label l) = label (label_name l)
-name_of _ _ = nothing
+abbrev pub op_name : (ℕ → List ℕ) → Micro → Name
+op_name names (ops.LoadAt _ p) = place (names p)
+op_name names (ops.StoreAt p _) = place (names p)
+op_name names (ops.BranchEq l) = label (label_name l)
+op_name names (ops.BranchNz _ l) = label (label_name l)
+op_name names (ops.Label l) = label (label_name l)
+op_name _ _ = nothing
 
 -- an operation as it is read from its own text
 abbrev pub raw_of : (ℕ → List ℕ) → Micro → RawInstr
-raw_of names op = record { op = with_number op 0; name = name_of names op }
+raw_of names op = record { op = with_number op 0; name = op_name names op }
 
 -- an operation's place is below a number, if it has one
 abbrev pub place_below : ℕ → Micro → Bool
@@ -113,10 +113,10 @@ abbrev pub is_label_name : List ℕ → Bool
 is_label_name name = is_register_name name
 
 -- a name has its form, and there is room for the number of a label
-abbrev pub is_named : Name → Bool
-is_named nothing = true
-is_named (place name) = is_place_name name
-is_named (label name) = is_label_name name
+abbrev pub is_well_named : Name → Bool
+is_well_named nothing = true
+is_well_named (place name) = is_place_name name
+is_well_named (label name) = is_label_name name
 
 -- a word or an operand: one byte or more, none of them a blank or a comma
 abbrev pub is_plain : List ℕ → Bool
@@ -124,13 +124,13 @@ is_plain [] = false
 is_plain (b ∷ text) = list_all (λ x. not (is_blank x) && not (x == 44)) (b ∷ text)
 
 -- all operands are plain
-abbrev pub all_plain : OperandTexts → Bool
-all_plain none = true
-all_plain (one a) = is_plain a
-all_plain (two a b) = is_plain a && is_plain b
-all_plain (three a b c) = is_plain a && (is_plain b && is_plain c)
-all_plain (four a b c d) = is_plain a && (is_plain b && (is_plain c && is_plain d))
-all_plain more = false
+abbrev pub all_plain_texts : OperandTexts → Bool
+all_plain_texts none = true
+all_plain_texts (one a) = is_plain a
+all_plain_texts (two a b) = is_plain a && is_plain b
+all_plain_texts (three a b c) = is_plain a && (is_plain b && is_plain c)
+all_plain_texts (four a b c d) = is_plain a && (is_plain b && (is_plain c && is_plain d))
+all_plain_texts more = false
 
 -- a number that is at most the limit
 abbrev pub at_most : ℕ → Option ℕ → Option ℕ
@@ -173,11 +173,11 @@ register_at first count (Some n) =
 -- own
 pub record WritesBack (a : Puts) (w : Writing) : Type 0 where
   pub back : (names : ℕ → List ℕ) (op : Micro) → a.has op ≡ true →
-      is_named (name_of names op) ≡ true → w.raw (w.written names op) ≡ Some (raw_of names op)
+      is_well_named (op_name names op) ≡ true → w.raw (w.written names op) ≡ Some (raw_of names op)
   pub word : (names : ℕ → List ℕ) (op : Micro) → a.has op ≡ true →
-      is_named (name_of names op) ≡ true → is_plain (w.written names op).word ≡ true
+      is_well_named (op_name names op) ≡ true → is_plain (w.written names op).word ≡ true
   pub operands : (names : ℕ → List ℕ) (op : Micro) → a.has op ≡ true →
-      is_named (name_of names op) ≡ true → all_plain (w.written names op).operands ≡ true
+      is_well_named (op_name names op) ≡ true → all_plain_texts (w.written names op).operands ≡ true
   pub count : length w.registers ≡ a.registers
   pub formed : list_all is_register_name w.registers ≡ true
   pub once : IsDistinct bytes_eq w.registers

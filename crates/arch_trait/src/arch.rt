@@ -1,13 +1,13 @@
 ghost use Rattle.std.specs.Prelude.{◌≡◌, ◌<◌, ◌≤◌, ◌+◌, ◌++◌, ℕ, true, false, is_some, length};
 ghost use Rattle.arrayvec.specs.ArrayVec.{array_vec_len};
 ghost use Rattle.relax_edges.specs.declared.kinds.ArchName.{ArchName as TheName};
-ghost use Rattle.arch_trait.specs.Links.{link_is_of, depends, is_data};
+ghost use Rattle.arch_trait.specs.Links.{link_is_of, depends_on_load, is_data};
 ghost use Rattle.arch_trait.specs.Threads.{Puts};
 ghost use Rattle.arch_trait.specs.Laws.{link_room, access_room, IsArch};
-ghost use Rattle.arch_trait.specs.Names.{number_in};
+ghost use Rattle.arch_trait.specs.PlaceNames.{number_in};
 ghost use Rattle.arch_trait.specs.Writing.{Writing, WritesBack, op_text, name_in, place_below, label_below};
-ghost use Rattle.arch_trait.specs.Reading.{instr_read, ReadsOwn};
-ghost use Rattle.arch_trait.specs.Pieces.{texts_of, raw_seen, Reads};
+ghost use Rattle.arch_trait.specs.InstructionReading.{instr_read, ReadsOwn};
+ghost use Rattle.arch_trait.specs.InstructionPieces.{operand_texts, raw_seen, ReadsPieces};
 ghost use Rattle.arch_trait.specs.Cells.{WritesCells, MakesOneAccess};
 ghost use Rattle.relax_edges.specs.declared.kinds.Dir.TheVariants as dirs;
 ghost use Rattle.relax_edges.specs.EdgeTable.{is_of_arch, mark_fits, mark_is_of};
@@ -66,7 +66,7 @@ pub trait Arch {
     /// dependency is on, `label` the number of the label that a branch goes to.
     fn put_link(link: Link, from: Option<u8>, label: u8, out: &mut Instrs)
         requires of_arch { link_is_of link puts.name ≡ true }
-        requires given { depends link ≡ true → is_some from ≡ true }
+        requires given { depends_on_load link ≡ true → is_some from ≡ true }
         requires room { array_vec_len out.old + link_room link ≤ MAX_INSTRS }
         ensures { out.new.items ≡ out.old.items ++ puts.link link from label };
 
@@ -76,7 +76,7 @@ pub trait Arch {
         requires to_load { is_data access.link ≡ false }
         requires mark_fitting { mark_fits dirs.R access.mark ≡ true }
         requires mark_of_arch { mark_is_of access.mark puts.name ≡ true }
-        requires given { depends access.link ≡ true → is_some access.source ≡ true }
+        requires given { depends_on_load access.link ≡ true → is_some access.source ≡ true }
         requires left { (puts.load regs.old access.link access.mark access.source access.place).regs.next ≤ regs.old.count }
         requires room { array_vec_len out.old + access_room access.link ≤ MAX_INSTRS }
         ensures register { result ≡ puts.filled regs.old access.link access.source access.place }
@@ -88,7 +88,7 @@ pub trait Arch {
         requires of_arch { link_is_of access.link puts.name ≡ true }
         requires mark_fitting { mark_fits dirs.W access.mark ≡ true }
         requires mark_of_arch { mark_is_of access.mark puts.name ≡ true }
-        requires given { depends access.link ≡ true → is_some access.source ≡ true }
+        requires given { depends_on_load access.link ≡ true → is_some access.source ≡ true }
         requires left { (puts.store regs.old access.link access.mark access.source access.place value).regs.next ≤ regs.old.count }
         requires room { array_vec_len out.old + access_room access.link ≤ MAX_INSTRS }
         ensures taken { regs.new ≡ (puts.store regs.old access.link access.mark access.source access.place value).regs }
@@ -104,7 +104,7 @@ pub trait Arch {
     /// The instruction with this first word and these operands, before its name has a number. None
     /// where the architecture has no instruction of this form; the form of the name isn't looked at.
     fn read_raw<'a>(word: &'a [u8], operands: Operands<'a>) -> Option<Raw<'a>>
-        ensures { raw_seen result ≡ writing.raw (record { word = word.now; operands = texts_of operands.entry }) };
+        ensures { raw_seen result ≡ writing.raw (record { word = word.now; operands = operand_texts operands.entry }) };
 
     /// Makes `out` the name of a register, as it is written in conditions.
     fn register_name(r: u8, out: &mut RegName)
@@ -133,7 +133,7 @@ pub trait Arch {
         places: &mut Places,
         labels: &mut Places,
     ) -> Result<Micro, InstrError>
-        ensures { Reads result places.old labels.old places.new labels.new (instr_read writing text.now places.old labels.old) }
+        ensures { ReadsPieces result places.old labels.old places.new labels.new (instr_read writing text.now places.old labels.old) }
     {
         read_cell::<Self>(text.as_bytes(), places, labels)
     }

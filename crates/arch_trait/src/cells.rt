@@ -1,8 +1,8 @@
 ghost use Rattle.std.specs.Prelude.{◌≡◌, ◌<◌, ◌≤◌, ℕ, List, true, length};
 ghost use Rattle.std.specs.Str.{bytes_eq};
-ghost use Rattle.arch_trait.specs.Names.{number_in};
-ghost use Rattle.arch_trait.specs.Reading.{instr_read, numbered};
-ghost use Rattle.arch_trait.specs.Pieces.{Reads, name_seen};
+ghost use Rattle.arch_trait.specs.PlaceNames.{number_in};
+ghost use Rattle.arch_trait.specs.InstructionReading.{instr_read, read_numbered};
+ghost use Rattle.arch_trait.specs.InstructionPieces.{ReadsPieces, name_seen};
 ghost use Rattle.arch_trait.specs.Writing.{place, label, with_number};
 
 use crate::arch::Arch;
@@ -18,7 +18,7 @@ pub fn read_cell<A: Arch>(
     places: &mut Places,
     labels: &mut Places,
 ) -> Result<Micro, InstrError>
-    ensures { Reads result places.old labels.old places.new labels.new (instr_read A.writing text.now places.old labels.old) }
+    ensures { ReadsPieces result places.old labels.old places.new labels.new (instr_read A.writing text.now places.old labels.old) }
 {
     let (word, rest) = split_run(Class::Inked, without_blanks(text));
     match A::read_raw(word, operands_of(rest)) {
@@ -33,7 +33,7 @@ fn number(
     places: &mut Places,
     labels: &mut Places,
 ) -> Result<Micro, InstrError>
-    ensures { Reads result places.old labels.old places.new labels.new (numbered op (name_seen name.entry) places.old labels.old) }
+    ensures { ReadsPieces result places.old labels.old places.new labels.new (read_numbered op (name_seen name.entry) places.old labels.old) }
 {
     match name {
         Named::Nothing => Ok(op),
@@ -43,7 +43,7 @@ fn number(
 }
 
 fn number_place(op: Micro, name: &[u8], places: &mut Places) -> Result<Micro, InstrError>
-    ensures { (labels : List (List ℕ)) → Reads result places.old labels places.new labels (numbered op (place name.now) places.old labels) }
+    ensures { (labels : List (List ℕ)) → ReadsPieces result places.old labels places.new labels (read_numbered op (place name.now) places.old labels) }
 {
     if !is_place_name(name) {
         return Err(InstrError::BadInstruction);
@@ -56,7 +56,7 @@ fn number_place(op: Micro, name: &[u8], places: &mut Places) -> Result<Micro, In
 
 #[tactic(auto, using(crate::proofs::Tables::label_is_name))]
 fn number_label(op: Micro, name: &[u8], labels: &mut Places) -> Result<Micro, InstrError>
-    ensures { (places : List (List ℕ)) → Reads result places labels.old places labels.new (numbered op (label name.now) places labels.old) }
+    ensures { (places : List (List ℕ)) → ReadsPieces result places labels.old places labels.new (read_numbered op (label name.now) places labels.old) }
 {
     if !is_register_name(name) {
         return Err(InstrError::BadInstruction);

@@ -1,10 +1,10 @@
 ghost use Rattle.std.specs.Prelude.{◌≡◌, ◌<◌, ◌≤◌, ◌+◌, ◌++◌, [], ◌↔◌, true, false, cond, length, is_some, IfOk, OnOk, OnErr, IsErr};
 ghost use Rattle.arrayvec.specs.ArrayVec.{array_vec_len};
 ghost use Rattle.relax_edges.specs.EdgeTable.{mark_fits, mark_is_of};
-ghost use Rattle.arch_trait.specs.Links.{depends, branches, is_data, link_is_of};
+ghost use Rattle.arch_trait.specs.Links.{depends_on_load, branches, is_data, link_is_of};
 ghost use Rattle.arch_trait.specs.Laws.{access_room};
 ghost use Rattle.arch_trait.specs.Threads.{FitStep, FitSteps, compiled, shape_of, setting_out, from_of, put_of, filled_by, way_seen, further, step_code, next_filled, put_before, thread_code, thread_regs, thread_loads};
-ghost use Rattle.arch_trait.specs.Codes.{thread_of, MakesSteps, IsFormed};
+ghost use Rattle.arch_trait.specs.Codes.{thread_code_of, MakesSteps, IsFormedCode};
 
 use crate::access::AskedAccess;
 use crate::arch::{Arch, Instrs, MAX_INSTRS, MAX_STEP_INSTRS};
@@ -43,9 +43,9 @@ pub struct TooManyRegisters;
 pub fn compile_thread<A: Arch>(steps: &[Step]) -> Result<Code, TooManyRegisters>
     requires fit { FitSteps A.puts.name false steps.now }
     requires few { length steps.now ≤ MAX_STEPS }
-    ensures ok { IfOk result (λ code. thread_of code ≡ compiled A.puts steps.now) }
-    ensures makes { IfOk result (λ code. MakesSteps steps.now (thread_of code)) }
-    ensures formed { IfOk result (λ code. IsFormed A.puts steps.now (thread_of code)) }
+    ensures ok { IfOk result (λ code. thread_code_of code ≡ compiled A.puts steps.now) }
+    ensures makes { IfOk result (λ code. MakesSteps steps.now (thread_code_of code)) }
+    ensures formed { IfOk result (λ code. IsFormedCode A.puts steps.now (thread_code_of code)) }
     ensures refused { IsErr result ↔ (A.puts.registers < A.puts.need (shape_of steps.now)) }
 {
     let mut code = Code::default();
@@ -58,9 +58,9 @@ pub fn compile_thread<A: Arch>(steps: &[Step]) -> Result<Code, TooManyRegisters>
 pub fn compile_into<A: Arch>(steps: &[Step], code: &mut Code) -> Result<(), TooManyRegisters>
     requires fit { FitSteps A.puts.name false steps.now }
     requires few { length steps.now ≤ MAX_STEPS }
-    ensures ok { OnOk result (thread_of code.new ≡ compiled A.puts steps.now) }
-    ensures makes { OnOk result (MakesSteps steps.now (thread_of code.new)) }
-    ensures formed { OnOk result (IsFormed A.puts steps.now (thread_of code.new)) }
+    ensures ok { OnOk result (thread_code_of code.new ≡ compiled A.puts steps.now) }
+    ensures makes { OnOk result (MakesSteps steps.now (thread_code_of code.new)) }
+    ensures formed { OnOk result (IsFormedCode A.puts steps.now (thread_code_of code.new)) }
     ensures refused { IsErr result ↔ (A.puts.registers < A.puts.need (shape_of steps.now)) }
     ensures err { OnErr result (code.new ≡ code.old) }
 {
@@ -135,7 +135,7 @@ fn put_access<A: Arch>(
     requires to_store { is_data step.link ≡ true → step.dir ≡ Dir.W }
     requires mark_fitting { mark_fits step.dir step.mark ≡ true }
     requires mark_of_arch { mark_is_of step.mark A.puts.name ≡ true }
-    requires given { depends step.link ≡ true → is_some from ≡ true }
+    requires given { depends_on_load step.link ≡ true → is_some from ≡ true }
     requires left { (put_of A.puts regs.old from step step.dir).regs.next ≤ regs.old.count }
     requires room { array_vec_len out.old + access_room step.link ≤ MAX_INSTRS }
     ensures filled { result ≡ filled_by A.puts regs.old from step step.dir }

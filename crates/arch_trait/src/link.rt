@@ -1,5 +1,5 @@
 ghost use Rattle.std.specs.Prelude.{◌≡◌};
-ghost use Rattle.arch_trait.specs.Links.{edge_link, depends, branches};
+ghost use Rattle.arch_trait.specs.Links.{edge_link, depends_on_load, branches};
 
 use relax_edges::{DepKind, Edge, FenceKind, Kind};
 
@@ -43,7 +43,7 @@ pub fn link_of(edge: Edge) -> Link
 impl Link {
     /// Whether the access depends on the load before it.
     pub fn is_dependency(self) -> bool
-        ensures { result ≡ depends self }
+        ensures { result ≡ depends_on_load self }
     {
         !matches!(self, Link::Plain | Link::Fence(_))
     }

@@ -1,6 +1,6 @@
 ghost use Rattle.std.specs.Prelude.{◌≡◌, ◌<◌, ◌≤◌, ◌+◌, ◌++◌, ◌∷◌, [], length};
 ghost use Rattle.arch_trait.specs.Writing.{immediate, label_raw, label_name};
-ghost use Rattle.arch_trait.specs.Pieces.{raw_seen, texts_of};
+ghost use Rattle.arch_trait.specs.InstructionPieces.{raw_seen, operand_texts};
 ghost use Rattle.arch_trait.specs.Forms.{label_alone};
 
 use crate::reading::{Named, Operands, Raw};
@@ -25,7 +25,7 @@ pub fn immediate(digits: &[u8]) -> Option<u32>
 
 /// A label as an instruction of its own, where the word ends with a colon and is alone.
 pub fn read_label_alone<'a>(word: &'a [u8], operands: Operands<'a>) -> Option<Raw<'a>>
-    ensures { raw_seen result ≡ label_alone word.now (texts_of operands.entry) }
+    ensures { raw_seen result ≡ label_alone word.now (operand_texts operands.entry) }
 {
     match operands {
         Operands::None => read_label(word),

@@ -1,6 +1,6 @@
 ghost use Rattle.std.specs.Prelude.{◌≡◌, ◌<◌, ◌≤◌, ◌++◌, ◌∷◌, ◌==◌, [], List, ℕ, map, length, slice_index_or, true, None};
 ghost use Rattle.text_laws.specs.Names.{is_place_name};
-ghost use Rattle.arch_trait.specs.Names.{IsTable, letters, location_name, number_in, number_added, names_added};
+ghost use Rattle.arch_trait.specs.PlaceNames.{IsTable, letters, location_name, number_in, number_added, names_added};
 
 use crate::operand::push_ascii;
 use crate::step::MAX_STEPS;

@@ -1,9 +1,9 @@
 ghost use Rattle.std.specs.Prelude.{◌≡◌, ◌==◌};
 ghost use Rattle.std.specs.List.{position, slice_split};
-ghost use Rattle.arch_trait.specs.Reading.{operands_in};
-ghost use Rattle.arch_trait.specs.Pieces.{texts_of, name_seen};
+ghost use Rattle.arch_trait.specs.InstructionReading.{operands_in};
+ghost use Rattle.arch_trait.specs.InstructionPieces.{operand_texts, name_seen};
 ghost use Rattle.arch_trait.specs.Writing.{nothing};
-ghost use Rattle.arch_trait.specs.Cuts.{Cut};
+ghost use Rattle.arch_trait.specs.OperandCuts.{Cut};
 
 use micro_ops::Micro;
 use text_parts::trim_blanks;
@@ -82,7 +82,7 @@ fn comma_in(text: &[u8]) -> Option<usize>
 
 /// The operands in the text after the first word.
 pub(crate) fn operands_of(text: &[u8]) -> Operands<'_>
-    ensures { texts_of result ≡ operands_in text.now }
+    ensures { operand_texts result ≡ operands_in text.now }
 {
     let text = trim_blanks(text);
     if text.is_empty() {

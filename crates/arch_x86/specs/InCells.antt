@@ -3,13 +3,13 @@ use Rattle.arch_trait.specs.Cells.{WritesCells, MakesOneAccess}
 use Rattle.form_laws.proofs.InCells as tables
 use Rattle.form_laws.proofs.Fenced.{fenced_once}
 use Rattle.arch_x86.specs.Puts.{puts}
-use Rattle.arch_x86.specs.Table.{table, register_names, writing}
+use Rattle.arch_x86.specs.Table.{table, x86_register_names, writing}
 use Rattle.arch_x86.specs.Clear.{is_clear_table}
 use Rattle.arch_x86.specs.Laws.{is_fenced}
 
 -- the instructions of X86 fit in the cells of a table
 pub writes_cells : WritesCells puts writing
-writes_cells = tables.writes_cells puts table register_names is_clear_table (λ op h. h)
+writes_cells = tables.writes_cells puts table x86_register_names is_clear_table (λ op h. h)
 
 -- the code of each access of X86 makes one access
 pub makes_one_access : MakesOneAccess puts

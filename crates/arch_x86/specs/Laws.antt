@@ -5,20 +5,20 @@ use Rattle.relax_edges.specs.declared.kinds.ArchName.TheVariants as archs
 use Rattle.arch_trait.specs.declared.link.Link.{Link}
 use Rattle.arch_trait.specs.declared.link.Link.TheVariants as links
 use Rattle.arch_trait.specs.Laws.{IsArch}
-use Rattle.form_laws.specs.Tables.{fits}
+use Rattle.form_laws.specs.Tables.{operands_fit}
 use Rattle.form_laws.proofs.Barriers.{fences_had}
 use Rattle.form_laws.proofs.Fenced.{fence_code, IsFenced, fenced_laws}
 use Rattle.arch_x86.specs.Table.{forms, table}
-use Rattle.arch_x86.specs.Puts.{puts, link_code}
+use Rattle.arch_x86.specs.Puts.{puts, x86_link_code}
 
 -- the code of a link is its fence alone
-link_is : (link : Link) (from : Option ℕ) (n : ℕ) → link_code link from n ≡ fence_code link
+link_is : (link : Link) (from : Option ℕ) (n : ℕ) → x86_link_code link from n ≡ fence_code link
 link_is (links.Fence kind) from n = refl
 link_is link from n = refl
 
 -- it has no links but program order and its fence, and no marks
 pub is_fenced : IsFenced puts
-unfolding forms fits
+unfolding forms operands_fit
 is_fenced = record {
   is = refl;
   link_is = link_is;

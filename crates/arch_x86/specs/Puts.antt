@@ -15,17 +15,17 @@ use Rattle.form_laws.specs.Tables.{table_has}
 use Rattle.arch_x86.specs.Table.{table}
 
 -- the code of a link: its fence, if it is one
-abbrev pub link_code : Link → Option ℕ → ℕ → List Micro
-link_code (links.Fence kind) _ _ = ops.Barrier (barriers.Fence kind) ∷ []
-link_code _ _ _ = []
+abbrev pub x86_link_code : Link → Option ℕ → ℕ → List Micro
+x86_link_code (links.Fence kind) _ _ = ops.Barrier (barriers.Fence kind) ∷ []
+x86_link_code _ _ _ = []
 
 -- a load, which has no mark, takes a register
 abbrev pub load : Taken → Link → Mark → Option ℕ → ℕ → Put
 load g _ _ _ place = record { code = ops.LoadAt g.next place ∷ []; regs = take_next g }
 
 -- the register that a load fills: the next one
-abbrev pub filled : Taken → Link → Option ℕ → ℕ → ℕ
-filled g _ _ _ = g.next
+abbrev pub register_filled : Taken → Link → Option ℕ → ℕ → ℕ
+register_filled g _ _ _ = g.next
 
 -- a store takes none
 abbrev pub store : Taken → Link → Mark → Option ℕ → ℕ → ℕ → Put
@@ -39,8 +39,8 @@ puts = record {
   has = table_has table;
   need = λ (shape : Shape). shape.loads;
   has_addresses = false;
-  link = link_code;
+  link = x86_link_code;
   load = load;
-  filled = filled;
+  filled = register_filled;
   store = store;
 }

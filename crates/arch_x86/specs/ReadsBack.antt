@@ -3,29 +3,29 @@ use Rattle.std.proofs.Common.{◌≡◌, refl, true, rules}
 use Rattle.std.specs.List.{list_all, IsDistinct}
 use Rattle.std.specs.Str.{bytes_eq}
 use Rattle.text_laws.specs.Names.{is_register_name}
-use Rattle.arch_trait.specs.Reading.{ReadsOwn}
+use Rattle.arch_trait.specs.InstructionReading.{ReadsOwn}
 use Rattle.arch_trait.specs.Writing.{WritesBack}
 use Rattle.form_laws.proofs.Ranges as ranges
 use Rattle.form_laws.proofs.ReadsBack.{AreNames, writes_back}
 use Rattle.arch_x86.specs.Puts.{puts}
-use Rattle.arch_x86.specs.Table.{table, register_names, writing}
+use Rattle.arch_x86.specs.Table.{table, x86_register_names, writing}
 use Rattle.arch_x86.specs.Clear.{is_clear_table, few_registers}
 
-registers_formed : list_all is_register_name register_names ≡ true
+registers_formed : list_all is_register_name x86_register_names ≡ true
 unfolding is_register_name
 registers_formed = refl
 
-registers_once : IsDistinct bytes_eq register_names
+registers_once : IsDistinct bytes_eq x86_register_names
 unfolding IsDistinct
 registers_once = search rules
 
-are_names : AreNames puts register_names
+are_names : AreNames puts x86_register_names
 are_names = record { count = refl; formed = registers_formed; once = registers_once }
 
 -- the instructions of X86 read back from their text
 pub reads_back : WritesBack puts writing
-reads_back = writes_back puts table register_names is_clear_table (λ op h. h) are_names
+reads_back = writes_back puts table x86_register_names is_clear_table (λ op h. h) are_names
 
 -- what is read is one of its instructions
 pub reads_own : ReadsOwn puts writing
-reads_own = ranges.reads_own puts table register_names few_registers (λ op. refl)
+reads_own = ranges.reads_own puts table x86_register_names few_registers (λ op. refl)

@@ -34,9 +34,9 @@ abbrev pub table : TableText
 table = record { forms = forms; labels = labels.Unknown }
 
 -- the registers that tests use, in the order of taking
-abbrev pub register_names : List (List ℕ)
-register_names = codes "EAX" ∷ codes "EBX" ∷ codes "ECX" ∷ codes "EDX" ∷ codes "ESI" ∷ codes "EDI" ∷ []
+abbrev pub x86_register_names : List (List ℕ)
+x86_register_names = codes "EAX" ∷ codes "EBX" ∷ codes "ECX" ∷ codes "EDX" ∷ codes "ESI" ∷ codes "EDI" ∷ []
 
 -- how X86 writes and reads
 abbrev pub writing : Writing
-writing = table_writing table register_names
+writing = table_writing table x86_register_names

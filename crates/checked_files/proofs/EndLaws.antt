@@ -21,7 +21,7 @@ use Rattle.checked_files.specs.declared.errors.CheckedKind.TheVariants as kinds
 use Rattle.checked_files.specs.declared.errors.CheckFault.{CheckFault}
 use Rattle.checked_files.specs.declared.errors.CheckFault.TheVariants as faults
 use Rattle.checked_files.specs.FilesChecked.{exec_said, IsTest, BothRead, VerdictSaid, ExecUnread, FilesChecked}
-use Rattle.checked_files.specs.Steps.{TestFileTo, ExecFileTo, check_end}
+use Rattle.checked_files.specs.CheckingSteps.{TestFileTo, ExecFileTo, check_end}
 
 -- the file of the test isn't what is wanted
 pub test_refused : (arch : ArchName) (w : Writing) (old new : ShelfSeen) (words : List (List ℕ)) (test exec : ℕ) (a : SinkSeen) (fault : CheckFault)

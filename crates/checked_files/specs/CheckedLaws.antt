@@ -13,7 +13,7 @@ use Rattle.litmus_text.specs.TestReading.{TestRead}
 use Rattle.program_meaning.specs.Executions.{Execution}
 use Rattle.execution_text.specs.declared.errors.ExecFault.{ExecFault}
 use Rattle.execution_text.specs.declared.errors.ExecKind.TheVariants.{TooLarge}
-use Rattle.execution_text.specs.ExecutionText.{execution_read, lines_of, lines_read}
+use Rattle.execution_text.specs.ExecutionText.{execution_read, lines_of, reads_and_writes_read}
 use Rattle.test_files.specs.declared.errors.TestFileError.{TestFileError}
 use Rattle.test_files.specs.FilesRead.{Begins}
 use Rattle.test_files.specs.FewBytes.{AreFew, none_few, one_few, both_few, prefix_few, begun_few, few_taken}
@@ -22,19 +22,19 @@ use Rattle.test_files.specs.TestSaid.{test_said}
 use Rattle.checked_files.specs.declared.errors.CheckedKind.TheVariants as kinds
 use Rattle.checked_files.specs.declared.errors.CheckEnd.{CheckEnd}
 use Rattle.checked_files.specs.declared.errors.CheckEnd.TheVariants as ends
-use Rattle.checked_files.specs.FilesChecked.{exec_said, IsTest, AreRight, BothRead, TestWrong, ExecWrong, IsAbsent, TestUnread, ExecUnread, FilesChecked}
+use Rattle.checked_files.specs.FilesChecked.{exec_said, IsTest, AreTestAndExecution, BothRead, TestWrong, ExecWrong, IsAbsent, TestUnread, ExecUnread, FilesChecked}
 
 abbrev too_large : ExecFault
 too_large = record { line = 1; kind = TooLarge }
 
-executions_refuse_long : (test : TestRead) → RefusesLong (exec_said test) too_large (λ text. lines_read (length test.threads) test.places (lines_of text))
+executions_refuse_long : (test : TestRead) → RefusesLong (exec_said test) too_large (λ text. reads_and_writes_read (length test.threads) test.places (lines_of text))
 unfolding execution_read
 executions_refuse_long test text = refl
 
 -- what a text says as an execution of a test depends on its first bytes alone, one more than a test may have, and it isn't too long
 pub executions_by_first_bytes : (test : TestRead) → JudgesFirstBytes (exec_said test)
 executions_by_first_bytes test =
-    judges_first_bytes (exec_said test) (λ text. lines_read (length test.threads) test.places (lines_of text)) too_large (executions_refuse_long test)
+    judges_first_bytes (exec_said test) (λ text. reads_and_writes_read (length test.threads) test.places (lines_of text)) too_large (executions_refuse_long test)
 
 test_few : (arch : ArchName) (w : Writing) (files : Option Files) (name text : List ℕ) (test : TestRead) → IsTest arch w files name text test
     → AreFew (text ∷ [])
@@ -122,13 +122,13 @@ one_right {X} {E} judge a b x y same p q =
     let both : ◌≡◌ {A = Result X E} (Ok x) (Ok y) = sym p ∙ ap judge same ∙ q in cc both
 
 test_right : (arch : ArchName) (w : Writing) (old new : ShelfSeen) (words : List (List ℕ)) (test exec file : ℕ) (error : TestFileError) (files : Files)
-    → TestWrong arch w old new words test file error → old.files ≡ Some files → AreRight files arch w words test exec → ⊥
+    → TestWrong arch w old new words test file error → old.files ≡ Some files → AreTestAndExecution files arch w words test exec → ⊥
 test_right arch w old new words test exec file error files h shown right =
     not_both (test_said arch w) right.text h.faulty.text right.read error
     (one_text old.files files (name_at words test) right.text h.faulty.text shown right.there h.faulty.named) right.is_test h.faulty.fault
 
 exec_right : (arch : ArchName) (w : Writing) (old new : ShelfSeen) (words : List (List ℕ)) (test exec file : ℕ) (error : ExecFault) (files : Files)
-    → ExecWrong arch w old new words test exec file error → old.files ≡ Some files → AreRight files arch w words test exec → ⊥
+    → ExecWrong arch w old new words test exec file error → old.files ≡ Some files → AreTestAndExecution files arch w words test exec → ⊥
 exec_right arch w old new words test exec file error files h shown right =
     let same : right.read ≡ h.read =
     one_right (test_said arch w) right.text h.text right.read h.read
@@ -140,7 +140,7 @@ exec_right arch w old new words test exec file error files h shown right =
 -- where both files are shown and right, and no device fails, the verdict is written, or there is no memory
 pub right_files_done : (arch : ArchName) (w : Writing) (old new : ShelfSeen) (words : List (List ℕ)) (test exec : ℕ) (before after : SinkSeen)
     (end : CheckEnd) (files : Files) → FilesChecked arch w old new words test exec before after end → old.files ≡ Some files
-    → AreRight files arch w words test exec → (Rose old.faults new.faults → ⊥) → (Rose before.faults after.faults → ⊥)
+    → AreTestAndExecution files arch w words test exec → (Rose old.faults new.faults → ⊥) → (Rose before.faults after.faults → ⊥)
     → (end ≡ ends.Done) ⊎ (end ≡ ends.NoMemory)
 right_files_done arch w old new words test exec before after ends.Done files h shown right shelf out = inl refl
 right_files_done arch w old new words test exec before after ends.NoMemory files h shown right shelf out = inr refl

@@ -6,7 +6,7 @@ use Rattle.diy_io.specs.Shelf.{Files, ShelfSeen}
 use Rattle.diy_io.specs.Wrote.{SinkSeen, WroteAll, WrotePart}
 use Rattle.file_laws.specs.Opened.{IsFile, TookFiles, name_at}
 use Rattle.relax_edges.specs.declared.kinds.ArchName.{ArchName}
-use Rattle.arch_trait.specs.Names.{number_in}
+use Rattle.arch_trait.specs.PlaceNames.{number_in}
 use Rattle.arch_trait.specs.Writing.{Writing}
 use Rattle.litmus_text.specs.declared.limits.TheConstants.{MAX_TEXT}
 use Rattle.litmus_text.specs.TestReading.{TestRead}
@@ -39,7 +39,7 @@ pub record SaysExecution (test : TestRead) (files : Option Files) (name text : L
   pub says : exec_said test text ≡ Ok x
 
 -- the files that the words at two places name are a test of an architecture and an execution of it
-pub record AreRight (files : Files) (arch : ArchName) (w : Writing) (words : List (List ℕ)) (test exec : ℕ) : Type 0 where
+pub record AreTestAndExecution (files : Files) (arch : ArchName) (w : Writing) (words : List (List ℕ)) (test exec : ℕ) : Type 0 where
   pub text : List ℕ
   pub there : files (name_at words test) ≡ Some text
   pub read : TestRead
@@ -86,10 +86,10 @@ pub record ExecWrong (arch : ArchName) (w : Writing) (old new : ShelfSeen) (word
   pub took : TookFiles old new (text ∷ take (MAX_TEXT + 1) shown ∷ [])
 
 -- the one or the other, by the kind of the fault
-abbrev pub IsWrong : ArchName → Writing → ShelfSeen → ShelfSeen → List (List ℕ) → ℕ → ℕ → ℕ → ℕ → CheckedKind → Type 0
-IsWrong arch w old new words test exec file line (kinds.Test kind) = TestWrong arch w old new words test file (record { line = line; kind = tests.Test kind })
-IsWrong arch w old new words test exec file line kinds.WrongArch = TestWrong arch w old new words test file (record { line = line; kind = tests.WrongArch })
-IsWrong arch w old new words test exec file line (kinds.Exec kind) = ExecWrong arch w old new words test exec file (record { line = line; kind = kind })
+abbrev pub IsWrongFile : ArchName → Writing → ShelfSeen → ShelfSeen → List (List ℕ) → ℕ → ℕ → ℕ → ℕ → CheckedKind → Type 0
+IsWrongFile arch w old new words test exec file line (kinds.Test kind) = TestWrong arch w old new words test file (record { line = line; kind = tests.Test kind })
+IsWrongFile arch w old new words test exec file line kinds.WrongArch = TestWrong arch w old new words test file (record { line = line; kind = tests.WrongArch })
+IsWrongFile arch w old new words test exec file line (kinds.Exec kind) = ExecWrong arch w old new words test exec file (record { line = line; kind = kind })
 
 -- the word of the test names no file, where the files are shown, and none was opened
 pub record TestAbsent (old new : ShelfSeen) (words : List (List ℕ)) (test word : ℕ) : Type 0 where
@@ -122,7 +122,7 @@ pub record ExecUnread (arch : ArchName) (w : Writing) (old new : ShelfSeen) (wor
   pub took : TookFiles old new (text ∷ []) ⊎ ((bytes : List ℕ) × Begins old.files (name_at words exec) bytes × TookFiles old new (text ∷ bytes ∷ []))
 
 -- the shelf failed at the one or the other
-pub record ShelfFailed (arch : ArchName) (w : Writing) (old new : ShelfSeen) (words : List (List ℕ)) (test exec : ℕ) : Type 0 where
+pub record CheckShelfFailed (arch : ArchName) (w : Writing) (old new : ShelfSeen) (words : List (List ℕ)) (test exec : ℕ) : Type 0 where
   pub fault : Rose old.faults new.faults
   pub unread : TestUnread old new (name_at words test) ⊎ ExecUnread arch w old new words test exec
 
@@ -130,7 +130,7 @@ pub record ShelfFailed (arch : ArchName) (w : Writing) (old new : ShelfSeen) (wo
 abbrev pub FilesChecked : ArchName → Writing → ShelfSeen → ShelfSeen → List (List ℕ) → ℕ → ℕ → SinkSeen → SinkSeen → CheckEnd → Type 0
 FilesChecked arch w old new words test exec before after ends.Done = VerdictSaid arch w old new words test exec (WroteAll before after)
 FilesChecked arch w old new words test exec before after ends.OutFault = VerdictSaid arch w old new words test exec (WrotePart before after)
-FilesChecked arch w old new words test exec before after (ends.Wrong file line kind) = IsWrong arch w old new words test exec file line kind × (after ≡ before)
+FilesChecked arch w old new words test exec before after (ends.Wrong file line kind) = IsWrongFile arch w old new words test exec file line kind × (after ≡ before)
 FilesChecked arch w old new words test exec before after (ends.NoFile word) = IsAbsent arch w old new words test exec word × (after ≡ before)
-FilesChecked arch w old new words test exec before after ends.ShelfFault = ShelfFailed arch w old new words test exec × (after ≡ before)
+FilesChecked arch w old new words test exec before after ends.ShelfFault = CheckShelfFailed arch w old new words test exec × (after ≡ before)
 FilesChecked arch w old new words test exec before after ends.NoMemory = after ≡ before

@@ -1,3 +1,3 @@
 pub mod FilesChecked
 pub mod CheckedLaws
-pub mod Steps
+pub mod CheckingSteps

@@ -1,6 +1,6 @@
 ghost use Rattle.std.specs.Prelude.{◌≡◌};
 ghost use Rattle.checked_files.specs.declared.errors.CheckFault.TheVariants.{Device};
-ghost use Rattle.checked_files.specs.Steps.{check_end, exec_fault, file_fault, test_fault, test_kind};
+ghost use Rattle.checked_files.specs.CheckingSteps.{check_end, exec_fault, check_file_fault, test_fault, checked_test_kind};
 
 use diy_io::Failed;
 use exec_check::CheckError;
@@ -58,7 +58,7 @@ pub(crate) enum CheckFault {
 
 impl CheckedKind {
     fn of_test(kind: TestFileKind) -> CheckedKind
-        ensures { result ≡ test_kind kind }
+        ensures { result ≡ checked_test_kind kind }
     {
         match kind {
             TestFileKind::Test(kind) => CheckedKind::Test(kind),
@@ -68,7 +68,7 @@ impl CheckedKind {
 }
 
 impl From<FileFault> for CheckFault {
-    ghost from_gives = { λ fault error. error ≡ file_fault fault };
+    ghost from_gives = { λ fault error. error ≡ check_file_fault fault };
 
     fn from(fault: FileFault) -> CheckFault {
         match fault {

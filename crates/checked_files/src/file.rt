@@ -1,7 +1,7 @@
 ghost use Rattle.std.specs.Prelude.{◌≡◌, ◌<◌, length};
 ghost use Rattle.diy_io.specs.Shelf.{Idle};
 ghost use Rattle.file_laws.specs.Opened.{name_at};
-ghost use Rattle.checked_files.specs.Steps.{TestFileTo, ExecFileTo};
+ghost use Rattle.checked_files.specs.CheckingSteps.{TestFileTo, ExecFileTo};
 
 use crate::errors::CheckFault;
 use arch_trait::Arch;

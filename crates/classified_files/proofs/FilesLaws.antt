@@ -11,7 +11,7 @@ use Rattle.file_laws.proofs.OpenedLaws.{took_no_more, took_one_more}
 use Rattle.relax_edges.specs.declared.edge.Edge.{Edge}
 use Rattle.litmus_text.specs.declared.limits.TheConstants.{MAX_TEXT}
 use Rattle.cycle_lines.specs.Classified.{families_text}
-use Rattle.cycle_lines.specs.Tables.{Entry, Holds}
+use Rattle.cycle_lines.specs.FamilyTables.{FamilyEntry, HoldsCycles}
 use Rattle.test_files.specs.FilesRead.{FileIs}
 use Rattle.test_files.proofs.FileLaws.{failed_after}
 use Rattle.classified_files.specs.declared.errors.CycleFault.{CycleFault}
@@ -21,16 +21,16 @@ use Rattle.classified_files.specs.FilesEnds.{Asked, said_on, AreNamed, SayCycles
 use Rattle.classified_files.specs.Read.{CycleTo, file_end}
 
 -- the files of the first places were read, and the names of their cycles are kept
-pub record FilesSoFar (asked : Asked) (old new : ShelfSeen) (words : List (List ℕ)) (places : List ℕ) (families : List Entry) : Type 0 where
+pub record FilesSoFar (asked : Asked) (old new : ShelfSeen) (words : List (List ℕ)) (places : List ℕ) (families : List FamilyEntry) : Type 0 where
   pub texts : List (List ℕ)
   pub cycles : List (List Edge)
   pub read : ReadFiles asked old.files words places texts cycles
   pub took : TookFiles old new texts
   pub no_fault : new.faults ≡ old.faults
-  pub holds : Holds families cycles
+  pub holds : HoldsCycles families cycles
 
 -- before the first file
-pub none_so_far : (asked : Asked) (old : ShelfSeen) (words : List (List ℕ)) (families : List Entry) → Holds families [] → FilesSoFar asked old old words [] families
+pub none_so_far : (asked : Asked) (old : ShelfSeen) (words : List (List ℕ)) (families : List FamilyEntry) → HoldsCycles families [] → FilesSoFar asked old old words [] families
 none_so_far asked old words families holds = record {
   texts = [];
   cycles = [];
@@ -53,9 +53,9 @@ more_said asked texts cycles text cycle say says =
     map_push (said_on asked) texts text ∙ rw (say, says) (sym (map_push Ok cycles cycle))
 
 -- one more file
-pub one_more : (asked : Asked) (old mid new : ShelfSeen) (words : List (List ℕ)) (places : List ℕ) (place : ℕ) (cycle : List Edge) (before after : List Entry)
+pub one_more : (asked : Asked) (old mid new : ShelfSeen) (words : List (List ℕ)) (places : List ℕ) (place : ℕ) (cycle : List Edge) (before after : List FamilyEntry)
     (s : FilesSoFar asked old mid words places before) → mid.files ≡ old.files → FileIs (said_on asked) mid new (name_at words place) cycle
-    → ((cycles : List (List Edge)) → Holds before cycles → Holds after (cycles ++ cycle ∷ [])) → FilesSoFar asked old new words (places ++ place ∷ []) after
+    → ((cycles : List (List Edge)) → HoldsCycles before cycles → HoldsCycles after (cycles ++ cycle ∷ [])) → FilesSoFar asked old new words (places ++ place ∷ []) after
 one_more asked old mid new words places place cycle before after s files f put = record {
   texts = s.texts ++ f.text ∷ [];
   cycles = s.cycles ++ cycle ∷ [];
@@ -85,12 +85,12 @@ take_more (p ∷ places) (suc i) place within is =
     ap (λ (k : ℕ). take k (p ∷ places)) e ∙ ap (λ rest. p ∷ rest) (take_more places i place (omega arith) is)
 
 -- the files of the first places and then that of the next one are those of one place more
-pub next_so_far : (asked : Asked) (old new : ShelfSeen) (words : List (List ℕ)) (places : List ℕ) (i place : ℕ) (families : List Entry) → i < length places
+pub next_so_far : (asked : Asked) (old new : ShelfSeen) (words : List (List ℕ)) (places : List ℕ) (i place : ℕ) (families : List FamilyEntry) → i < length places
     → place ≡ get_or places i 0 → FilesSoFar asked old new words (take i places ++ place ∷ []) families → FilesSoFar asked old new words (take (i + 1) places) families
 next_so_far asked old new words places i place families within is s =
     subst (λ (ps : List ℕ). FilesSoFar asked old new words ps families) (sym (take_more places i place within is)) s
 
-at_place : (asked : Asked) (old mid : ShelfSeen) (words : List (List ℕ)) (places : List ℕ) (i place : ℕ) (families : List Entry) → i < length places
+at_place : (asked : Asked) (old mid : ShelfSeen) (words : List (List ℕ)) (places : List ℕ) (i place : ℕ) (families : List FamilyEntry) → i < length places
     → place ≡ get_or places i 0 → (s : FilesSoFar asked old mid words (take i places) families) → IsAtPlace asked old.files words places place s.texts
 at_place asked old mid words places i place families within is s = record {
   before = take i places;
@@ -101,7 +101,7 @@ at_place asked old mid words places i place families within is s = record {
 }
 
 -- a file gives no cycle
-pub files_refused : (asked : Asked) (old mid new : ShelfSeen) (a : SinkSeen) (words : List (List ℕ)) (places : List ℕ) (i place : ℕ) (families : List Entry) (fault : CycleFault)
+pub files_refused : (asked : Asked) (old mid new : ShelfSeen) (a : SinkSeen) (words : List (List ℕ)) (places : List ℕ) (i place : ℕ) (families : List FamilyEntry) (fault : CycleFault)
     → i < length places → place ≡ get_or places i 0 → (s : FilesSoFar asked old mid words (take i places) families) → mid.files ≡ old.files
     → CycleTo asked mid new (name_at words place) (Err fault) → FilesClassified asked old new words places a a (file_end place fault)
 files_refused asked old mid new a words places i place families Missing within is s files f = (
@@ -137,7 +137,7 @@ files_refused asked old mid new a words places i place families (Text (Wrong err
 files_refused asked old mid new a words places i place families (Text NoMemory) within is s files f = refl
 
 -- all files were read
-all_read : (asked : Asked) (old new : ShelfSeen) (words : List (List ℕ)) (places : List ℕ) (i : ℕ) (families : List Entry) → length places ≤ i
+all_read : (asked : Asked) (old new : ShelfSeen) (words : List (List ℕ)) (places : List ℕ) (i : ℕ) (families : List FamilyEntry) → length places ≤ i
     → (s : FilesSoFar asked old new words (take i places) families) → AllRead asked old new words places s.cycles
 all_read asked old new words places i families all s = record {
   texts = s.texts;
@@ -147,9 +147,9 @@ all_read asked old new words places i families all s = record {
 }
 
 -- and this is done with the text of their families
-pub files_said : (asked : Asked) (old new : ShelfSeen) (words : List (List ℕ)) (places : List ℕ) (i : ℕ) (families : List Entry) (done : List ℕ → Type 0)
+pub files_said : (asked : Asked) (old new : ShelfSeen) (words : List (List ℕ)) (places : List ℕ) (i : ℕ) (families : List FamilyEntry) (done : List ℕ → Type 0)
     → length places ≤ i → FilesSoFar asked old new words (take i places) families
-    → ((cycles : List (List Edge)) → Holds families cycles → done (families_text cycles)) → FilesSaid asked old new words places done
+    → ((cycles : List (List Edge)) → HoldsCycles families cycles → done (families_text cycles)) → FilesSaid asked old new words places done
 files_said asked old new words places i families done all s wrote = record {
   cycles = s.cycles;
   read = all_read asked old new words places i families all s;

@@ -89,15 +89,15 @@ pub record ShelfFailed (asked : Asked) (old new : ShelfSeen) (words : List (List
   pub took : TookFiles old new texts ⊎ ((bytes : List ℕ) × Begins old.files (name_at words place) bytes × TookFiles old new (texts ++ bytes ∷ []))
 
 -- a fault at a line of a file
-abbrev pub error_at : ℕ → FileKind → FileError
-error_at line kind = record { line = line; kind = kind }
+abbrev pub file_error_at : ℕ → FileKind → FileError
+file_error_at line kind = record { line = line; kind = kind }
 
 -- how the classifying of the files of the words at these places ended
 abbrev pub FilesClassified : Asked → ShelfSeen → ShelfSeen → List (List ℕ) → List ℕ → SinkSeen → SinkSeen → FilesEnd → Type 0
 FilesClassified asked old new words places out_old out_new ends.Done = FilesSaid asked old new words places (WroteAll out_old out_new)
 FilesClassified asked old new words places out_old out_new ends.OutFault = FilesSaid asked old new words places (WrotePart out_old out_new)
 FilesClassified asked old new words places out_old out_new (ends.Wrong file line kind) =
-    FileWrong asked old new words places file (error_at line kind) × (out_new ≡ out_old)
+    FileWrong asked old new words places file (file_error_at line kind) × (out_new ≡ out_old)
 FilesClassified asked old new words places out_old out_new (ends.NoFile word) = FileMissing asked old new words places word × (out_new ≡ out_old)
 FilesClassified asked old new words places out_old out_new ends.ShelfFault = ShelfFailed asked old new words places × (out_new ≡ out_old)
 FilesClassified asked old new words places out_old out_new ends.NoMemory = out_new ≡ out_old

@@ -15,10 +15,10 @@ use Rattle.classified_files.specs.declared.errors.FilesEnd.TheVariants as ends
 use Rattle.classified_files.specs.FilesEnds.{Asked, said_on}
 
 -- an answer is what a text says, or there is no memory
-abbrev pub SaysInMemory : Result (List Edge) TextFault → Result (List Edge) FileError → Type 0
-SaysInMemory (Ok cycle) said = said ≡ Ok cycle
-SaysInMemory (Err (Wrong error)) said = said ≡ Err error
-SaysInMemory (Err NoMemory) said = ⊤
+abbrev pub SaysCycleInMemory : Result (List Edge) TextFault → Result (List Edge) FileError → Type 0
+SaysCycleInMemory (Ok cycle) said = said ≡ Ok cycle
+SaysCycleInMemory (Err (Wrong error)) said = said ≡ Err error
+SaysCycleInMemory (Err NoMemory) said = ⊤
 
 -- an answer to a file
 abbrev pub CycleTo : Asked → ShelfSeen → ShelfSeen → List ℕ → Result (List Edge) CycleFault → Type 0

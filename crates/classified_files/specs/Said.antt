@@ -15,13 +15,13 @@ use Rattle.classified_files.specs.declared.errors.FileKind.TheVariants.{Test, Wr
 use Rattle.classified_files.specs.declared.errors.FileError.{FileError}
 
 -- what is wrong with the text of a test, as what is wrong with a file
-abbrev pub test_kind : TestFileKind → FileKind
-test_kind (tests.Test kind) = Test kind
-test_kind tests.WrongArch = WrongArch
+abbrev pub classified_kind : TestFileKind → FileKind
+classified_kind (tests.Test kind) = Test kind
+classified_kind tests.WrongArch = WrongArch
 
 -- the fault of the text of a test as that of a file
 abbrev pub test_error : TestFileError → FileError
-test_error error = record { line = error.line; kind = test_kind error.kind }
+test_error error = record { line = error.line; kind = classified_kind error.kind }
 
 -- the fault of a test that quotes no cycle, at the line where tests quote it
 abbrev pub no_cycle : FileError
@@ -33,10 +33,10 @@ cycle_or_fault None = Err no_cycle
 cycle_or_fault (Some cycle) = Ok cycle
 
 -- what a test says, or the fault of a text that is none
-abbrev pub cycle_said : ArchName → Result TestRead TestFileError → Result (List Edge) FileError
-cycle_said arch (Ok test) = cycle_or_fault (quoted_cycle arch test.quoted)
-cycle_said arch (Err error) = Err (test_error error)
+abbrev pub cycle_of_test : ArchName → Result TestRead TestFileError → Result (List Edge) FileError
+cycle_of_test arch (Ok test) = cycle_or_fault (quoted_cycle arch test.quoted)
+cycle_of_test arch (Err error) = Err (test_error error)
 
 -- what a text says on an architecture: the faults of a text that is no test come first, then its cycle
 unfoldable pub text_said : ArchName → Writing → List ℕ → Result (List Edge) FileError
-text_said arch w text = cycle_said arch (test_said arch w text)
+text_said arch w text = cycle_of_test arch (test_said arch w text)

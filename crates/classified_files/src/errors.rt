@@ -1,7 +1,7 @@
 ghost use Rattle.std.specs.Prelude.{◌≡◌};
 ghost use Rattle.classified_files.specs.declared.errors.CycleFault.TheVariants.{Device, Text};
 ghost use Rattle.classified_files.specs.Read.{file_end, file_fault};
-ghost use Rattle.classified_files.specs.Said.{test_error, test_kind};
+ghost use Rattle.classified_files.specs.Said.{test_error, classified_kind};
 
 use diy_io::Failed;
 use litmus_text::TestKind;
@@ -71,7 +71,7 @@ pub(crate) enum CycleFault {
 impl FileKind {
     /// What is wrong with the text of a test.
     fn of_test(kind: TestFileKind) -> FileKind
-        ensures { result ≡ test_kind kind }
+        ensures { result ≡ classified_kind kind }
     {
         match kind {
             TestFileKind::Test(kind) => FileKind::Test(kind),

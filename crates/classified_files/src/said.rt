@@ -1,7 +1,7 @@
 ghost use Rattle.std.specs.Prelude.{◌≡◌};
 ghost use Rattle.classified_files.specs.declared.errors.TextFault.TheVariants.{Wrong};
 ghost use Rattle.classified_files.specs.Said.{cycle_or_fault, no_cycle, text_said};
-ghost use Rattle.classified_files.specs.Read.{SaysInMemory};
+ghost use Rattle.classified_files.specs.Read.{SaysCycleInMemory};
 
 use crate::errors::{FileError, FileKind, TextFault};
 use arch_trait::Arch;
@@ -17,7 +17,7 @@ const QUOTED_LINE: u64 = 2;
 /// no cycle.
 #[tactic(auto, unfolding(crate::specs::Said::text_said))]
 pub(crate) fn cycle_of_text<A: Arch>(alloc: Global, text: &[u8]) -> Result<Cycle, TextFault>
-    ensures { SaysInMemory result (text_said A.NAME A.writing text.now) }
+    ensures { SaysCycleInMemory result (text_said A.NAME A.writing text.now) }
 {
     match test_of_text::<A>(alloc, text) {
         Ok(test) => cycle_or_fault(quoted_cycle(A::NAME, test.quoted())),
@@ -27,7 +27,7 @@ pub(crate) fn cycle_of_text<A: Arch>(alloc: Global, text: &[u8]) -> Result<Cycle
 }
 
 fn cycle_or_fault(cycle: Option<Cycle>) -> Result<Cycle, TextFault>
-    ensures { SaysInMemory result (cycle_or_fault cycle) }
+    ensures { SaysCycleInMemory result (cycle_or_fault cycle) }
 {
     match cycle {
         Some(cycle) => Ok(cycle),

@@ -13,7 +13,7 @@ use Rattle.execution_laws.specs.Deciding.{every, name, are_reads, are_distinct}
 use Rattle.execution_laws.proofs.Every.{every_name}
 use Rattle.execution_laws.proofs.Candidates.{candidate_means}
 use Rattle.execution_laws.proofs.CoherenceLaws.{coheres_means}
-use Rattle.coherence_laws.specs.Relations.{IsPath, IsScPerLocation, Po, Rf, Co, Fr}
+use Rattle.coherence_laws.specs.Relations.{IsPathOfSteps, IsScPerLocation, Po, Rf, Co, Fr}
 use Rattle.coherence_laws.specs.Laws.{WritesWithin}
 use Rattle.coherence_laws.proofs.Laws.{candidates_are_sc_per_location}
 
@@ -54,7 +54,7 @@ in_turn-sc =
 record HasCycle (p : Program) (x : Execution) (e : WriteAt) (between : List WriteAt) : Type 0 where
   candidate : IsCandidate p x
   within : WritesWithin (accesses_in p x) p.places
-  cycle : IsPath (accesses_in p x) x e between e
+  cycle : IsPathOfSteps (accesses_in p x) x e between e
 
 not_coherent : (p : Program) (x : Execution) (e : WriteAt) (between : List WriteAt) → HasCycle p x e between → IsCoherentIn p x → ⊥
 not_coherent p x e between h coherent = (candidates_are_sc_per_location p x h.candidate h.within).0 coherent e between h.cycle
@@ -167,7 +167,7 @@ unordered-candidate = candidate_means over_none unordered refl
 unordered-coherent : IsCoherentIn over_none unordered
 unordered-coherent = coheres_means (accesses_in over_none unordered) unordered refl
 
-unordered-cycle : IsPath (accesses_in over_none unordered) unordered (name 0 0) (name 0 1 ∷ []) (name 0 0)
+unordered-cycle : IsPathOfSteps (accesses_in over_none unordered) unordered (name 0 0) (name 0 1 ∷ []) (name 0 0)
 unordered-cycle = (
   Po (record { place = 0; first = (write 0 1, refl, refl); second = (read 0 0, refl, refl); thread = refl; earlier = omega arith }),
   Fr (record { place = 0; reads = (0, refl); before = (1, refl) }),

@@ -11,20 +11,20 @@ use Rattle.program_meaning.specs.Programs.{Program, IsCandidate, accesses_in}
 use Rattle.program_meaning.specs.Intended.{IsNumbering, cycle_accesses}
 use Rattle.execution_laws.proofs.Names.{GotFrom, got_from_list}
 use Rattle.execution_laws.proofs.Runs.{accesses-count}
-use Rattle.communication_laws.specs.Joining.{Makes, filled, values_left, values_read}
+use Rattle.communication_laws.specs.Joining.{MakesAccesses, accesses_filled, values_left, values_read}
 use Rattle.communication_laws.proofs.Lists.{Got, got_below}
 use Rattle.communication_laws.proofs.Accesses.{EventAt, LoadAt, by_origin}
 use Rattle.communication_laws.proofs.Resolves.{Resolves}
 use Rattle.coherence_laws.specs.Laws.{WritesWithin}
 
--- an access whose value was filled in has the direction and the place of the one that was planned
+-- an access whose value was accesses_filled in has the direction and the place of the one that was planned
 record Planned (accesses : List Access) (k : ℕ) (a : Access) : Type 0 where
   plan : Access
   got : slice_get accesses k ≡ Some plan
   dir : plan.dir ≡ a.dir
   place : plan.place ≡ a.place
 
-planned : (accesses : List Access) (values : List ℕ) (k : ℕ) (a : Access) → slice_get (filled accesses values) k ≡ Some a → Planned accesses k a
+planned : (accesses : List Access) (values : List ℕ) (k : ℕ) (a : Access) → slice_get (accesses_filled accesses values) k ≡ Some a → Planned accesses k a
 planned [] values k a h = cc h
 planned (b ∷ accesses) values zero a h =
     record { plan = b; got = refl; dir = cc; place = cc }
@@ -36,7 +36,7 @@ directions_differ : dirs.R ≡ dirs.W → ⊥
 directions_differ d = cc d
 
 -- a program that makes the accesses of a cycle's test writes to its places alone
-pub writes_to_own : (es : List Edge) (mode : ObsMode) (number : ℕ → ℕ) (p : Program) (x : Execution) → Resolves es → IsNumbering es number → Makes es mode number p x → IsCandidate p x → WritesWithin (accesses_in p x) p.places
+pub writes_to_own : (es : List Edge) (mode : ObsMode) (number : ℕ → ℕ) (p : Program) (x : Execution) → Resolves es → IsNumbering es number → MakesAccesses es mode number p x → IsCandidate p x → WritesWithin (accesses_in p x) p.places
 writes_to_own es mode number p x resolved numbering makes candidate place w h =
     by_origin es mode number w plan.plan resolved named as_event as_load
   where
@@ -52,8 +52,8 @@ writes_to_own es mode number p x resolved numbering makes candidate place w h =
     r : Got x.reads w.thread
     r = got_below x.reads w.thread (omega (arith, below, candidate.execution.read_lists))
 
-    made : g.list ≡ filled t.element (values_read r.element)
-    made = let s : Some g.list ≡ Some (filled t.element (values_read r.element)) = sym g.list_is ∙ makes.accesses w.thread t.element r.element t.got r.got in cc
+    made : g.list ≡ accesses_filled t.element (values_read r.element)
+    made = let s : Some g.list ≡ Some (accesses_filled t.element (values_read r.element)) = sym g.list_is ∙ makes.accesses w.thread t.element r.element t.got r.got in cc
 
     plan : Planned t.element w.access (write place h.0)
     plan = planned t.element (values_read r.element) w.access (write place h.0) (ap (λ l. slice_get l w.access) (sym made) ∙ g.got)

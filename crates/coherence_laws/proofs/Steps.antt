@@ -8,7 +8,7 @@ use Rattle.program_meaning.specs.declared.WriteAt.{WriteAt}
 use Rattle.program_meaning.specs.Accesses.{Access, read, write, at_name}
 use Rattle.program_meaning.specs.Executions.{Execution, CanRead}
 use Rattle.program_meaning.specs.Coherence.{MayFollow, IsCoherent, order_place, order_at, source_at, coherence_place}
-use Rattle.coherence_laws.specs.Relations.{IsWriteTo, IsReadOf, IsAccessOf, ProgramOrder, ReadsFrom, CoherenceOrder, IsBefore, FromRead, Step, Po, Rf, Co, Fr, IsPath, IsScPerLocation}
+use Rattle.coherence_laws.specs.Relations.{IsWriteTo, IsReadOf, IsAccessOf, ProgramOrder, ReadsFrom, CoherenceOrder, IsBefore, FromRead, Step, Po, Rf, Co, Fr, IsPathOfSteps, IsScPerLocation}
 use Rattle.coherence_laws.proofs.Places.{Held, place_in, level, level_is, level_write, level_read}
 
 -- e comes before f in a thread
@@ -131,7 +131,7 @@ step_rises threads x e f held coherent (Rf h) = rf_rises threads x e f held h
 step_rises threads x e f held coherent (Co place h) = co_rises threads x place e f held h
 step_rises threads x e f held coherent (Fr h) = fr_rises threads x e f held h
 
-path_rises : (threads : List (List Access)) (x : Execution) (e : WriteAt) (between : List WriteAt) (f : WriteAt) → Held threads x → IsCoherent threads x → IsPath threads x e between f → Rises threads x e f
+path_rises : (threads : List (List Access)) (x : Execution) (e : WriteAt) (between : List WriteAt) (f : WriteAt) → Held threads x → IsCoherent threads x → IsPathOfSteps threads x e between f → Rises threads x e f
 path_rises threads x e [] f held coherent h = step_rises threads x e f held coherent h
 path_rises threads x e (g ∷ between) f held coherent h =
     rises_on threads x e g f (step_rises threads x e g held coherent h.0) (path_rises threads x g between f held coherent h.1)

@@ -9,7 +9,7 @@ use Rattle.program_meaning.specs.Executions.{Execution, IsExecutionOf}
 use Rattle.program_meaning.specs.Coherence.{IsCoherent}
 use Rattle.program_meaning.specs.Programs.{Program, IsCandidate, IsCoherentIn, accesses_in}
 use Rattle.program_meaning.specs.Intended.{IsNumbering}
-use Rattle.communication_laws.specs.Joining.{Makes}
+use Rattle.communication_laws.specs.Joining.{MakesAccesses}
 use Rattle.coherence_laws.specs.Relations.{IsWriteTo, IsScPerLocation}
 
 -- each write is to one of so many places, so that it is in a coherence order
@@ -32,5 +32,5 @@ CandidatesAreScPerLocation =
 -- program writes to its places alone
 abbrev pub CycleTestsAreScPerLocation : Type 0
 CycleTestsAreScPerLocation =
-    (es : List Edge) (mode : ObsMode) (number : ℕ → ℕ) (p : Program) (x : Execution) → IsResolved es → IsNumbering es number → Makes es mode number p x → IsCandidate p x →
+    (es : List Edge) (mode : ObsMode) (number : ℕ → ℕ) (p : Program) (x : Execution) → IsResolved es → IsNumbering es number → MakesAccesses es mode number p x → IsCandidate p x →
     IsCoherentIn p x ↔ IsScPerLocation (accesses_in p x) x

@@ -62,10 +62,10 @@ pub data Step (threads : List (List Access)) (x : Execution) (e f : WriteAt) : T
   Fr : FromRead threads x e f → Step threads x e f
 
 -- a path of steps from e to f through the accesses of a list, one step where the list is empty
-abbrev pub IsPath : List (List Access) → Execution → WriteAt → List WriteAt → WriteAt → Type 0
-IsPath threads x e [] f = Step threads x e f
-IsPath threads x e (g ∷ between) f = Step threads x e g × IsPath threads x g between f
+abbrev pub IsPathOfSteps : List (List Access) → Execution → WriteAt → List WriteAt → WriteAt → Type 0
+IsPathOfSteps threads x e [] f = Step threads x e f
+IsPathOfSteps threads x e (g ∷ between) f = Step threads x e g × IsPathOfSteps threads x g between f
 
 -- SC per location: no access has a path of steps back to itself
 abbrev pub IsScPerLocation : List (List Access) → Execution → Type 0
-IsScPerLocation threads x = (e : WriteAt) (between : List WriteAt) → IsPath threads x e between e → ⊥
+IsScPerLocation threads x = (e : WriteAt) (between : List WriteAt) → IsPathOfSteps threads x e between e → ⊥

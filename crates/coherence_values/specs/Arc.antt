@@ -25,7 +25,7 @@ abbrev pub seen_with : List Edge → ℕ → Arc
 seen_with es i = seen_of es (location_of es i) (value_of es i)
 
 -- event i of a resolved cycle, with the edges that enter and leave it
-pub record IsEvent (es : List Edge) (i : ℕ) (into out : Edge) : Type 0 where
+pub record IsEventBetween (es : List Edge) (i : ℕ) (into out : Edge) : Type 0 where
   pub resolved : IsResolved es
   pub below : i < length es
   pub enters : into ≡ edge_into es i
@@ -34,7 +34,7 @@ pub record IsEvent (es : List Edge) (i : ℕ) (into out : Edge) : Type 0 where
 -- where `arc` is what is kept before event i of any resolved cycle, with these edges into it and out of it, `next` is what
 -- is kept with the event
 unfoldable pub LeadsOn : Arc → ℕ → Edge → Edge → Arc → Type 0
-LeadsOn arc i into out next = (es : List Edge) → IsEvent es i into out → arc ≡ seen_before es i → next ≡ seen_with es i
+LeadsOn arc i into out next = (es : List Edge) → IsEventBetween es i into out → arc ≡ seen_before es i → next ≡ seen_with es i
 
 -- the values of all events
 abbrev pub values_of : List Edge → List ℕ

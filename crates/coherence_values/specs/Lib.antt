@@ -1,2 +1,2 @@
 pub mod Arc
-pub mod Kept
+pub mod KeptValues

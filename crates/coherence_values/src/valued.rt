@@ -59,13 +59,13 @@ pub struct Valued<'a> {
 
 impl<'a> Model for Valued<'a> {
     ghost use Rattle.value_laws.specs.Values.{Valuation};
-    ghost use Rattle.coherence_values.specs.Kept.{IsKept};
+    ghost use Rattle.coherence_values.specs.KeptValues.{AreKeptValues};
 
     ghost Value = { Valuation };
 
     ghost view = { λ v. record { edges = v.resolved.now; mode = v.mode } };
 
-    ghost invariant = { λ v. IsKept v.resolved.now v.values.items v.arcs.items };
+    ghost invariant = { λ v. AreKeptValues v.resolved.now v.values.items v.arcs.items };
 }
 
 /// Gives each event of the cycle its value: along the arc of a location, which begins after an

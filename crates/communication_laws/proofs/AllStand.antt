@@ -13,7 +13,7 @@ use Rattle.program_meaning.specs.declared.WriteAt.{WriteAt}
 use Rattle.program_meaning.specs.Accesses.{Access, Visit, read, accesses_of, got_from, at_name}
 use Rattle.program_meaning.specs.Executions.{Execution}
 use Rattle.program_meaning.specs.Programs.{Program, visits_in, accesses_in}
-use Rattle.program_meaning.specs.Standing.{AccessAt, Named, access_at, IsEvent, Observes, HasEvents, AllStand, Joins, event_name}
+use Rattle.program_meaning.specs.Standing.{AccessAt, NamedAccess, access_at, IsEvent, Observes, HasEvents, AllStand, Joins, event_name}
 use Rattle.program_meaning.specs.Intended.{IsNumbering, event_access, event_at, observer_accesses, observed_locations, cycle_accesses}
 use Rattle.execution_laws.proofs.Names.{got_from_list}
 use Rattle.execution_laws.proofs.Runs.{accesses-count}
@@ -45,7 +45,7 @@ visit_of_access visits name access h =
     record { visit = j.element; got = ap (λ o. got_from o name.access) i.got ∙ j.got; access_is = j.image }
 
 -- an event of a program that makes these accesses is the event's access
-pub is_event_at : (es : List Edge) (mode : ObsMode) (number : ℕ → ℕ) (p : Program) (x : Execution) (i : ℕ) (e : Named) → Resolves es → accesses_in p x ≡ cycle_accesses es mode number → i < length es → IsEvent es (visits_in p x) i e → access_at e ≡ event_at es number i
+pub is_event_at : (es : List Edge) (mode : ObsMode) (number : ℕ → ℕ) (p : Program) (x : Execution) (i : ℕ) (e : NamedAccess) → Resolves es → accesses_in p x ≡ cycle_accesses es mode number → i < length es → IsEvent es (visits_in p x) i e → access_at e ≡ event_at es number i
 is_event_at es mode number p x i e r m h v =
     let a : at_name (accesses_in p x) e.name ≡ Some e.visit.access = access_of_visit (visits_in p x) e.name e.visit v.visit_is in
     let b : Some (event_access es number i) ≡ Some e.visit.access =

@@ -13,7 +13,7 @@ use Rattle.relax_edges.specs.declared.kinds.Sd.TheVariants.{Same, Diff}
 use Rattle.relax_edges.specs.declared.kinds.Reach.{Reach}
 use Rattle.relax_edges.specs.declared.kinds.Reach.TheVariants.{Internal, External}
 use Rattle.relax_edges.specs.declared.edge.Edge.{Edge}
-use Rattle.relax_edges.specs.EdgeTable.{source_of, place_of, reach_of, is_external, is_diff, same_dir}
+use Rattle.relax_edges.specs.EdgeTable.{source_of, sd_of, reach_of, is_external, is_diff, same_dir}
 use Rattle.resolution_laws.specs.Resolution.{IsResolved, edge_at, external_count, move_count, thread_of, slot_of, location_of, event_after}
 use Rattle.resolution_laws.proofs.Threads.{thread_out, event_in_slot, slot_of_event}
 use Rattle.resolution_laws.proofs.Arcs.{SameRun, thread_below, several_locations, one_run, one_location, none_moves}
@@ -24,10 +24,10 @@ use Rattle.value_laws.proofs.Writes.{write_of as write_from, write_at_parts, wri
 use Rattle.program_meaning.specs.Coherence.{MayFollow}
 use Rattle.communication_laws.proofs.Resolves.{IsWrite, Resolves, written_by}
 
-keeps : (e : Edge) → place_of e ≡ Same → is_diff e ≡ false
+keeps : (e : Edge) → sd_of e ≡ Same → is_diff e ≡ false
 keeps e h = rw h refl
 
-moves : (e : Edge) → place_of e ≡ Diff → is_diff e ≡ true
+moves : (e : Edge) → sd_of e ≡ Diff → is_diff e ≡ true
 moves e h = rw h refl
 
 stays_inside : (e : Edge) → reach_of e ≡ Internal → is_external e ≡ false
@@ -75,9 +75,9 @@ is_writing dirs.R h = cc
 is_writing dirs.W h = refl
 
 -- between two events of one thread at one location the edges are internal and keep the location
-edges_of_run : (es : List Edge) (i m j : ℕ) → IsResolved es → i ≤ m → m < j → j < length es → thread_of es i ≡ thread_of es j → location_of es i ≡ location_of es j → (place_of (edge_at es m) ≡ Same) × (reach_of (edge_at es m) ≡ Internal)
+edges_of_run : (es : List Edge) (i m j : ℕ) → IsResolved es → i ≤ m → m < j → j < length es → thread_of es i ≡ thread_of es j → location_of es i ≡ location_of es j → (sd_of (edge_at es m) ≡ Same) × (reach_of (edge_at es m) ≡ Internal)
 edges_of_run es i m j r h l b t e =
-    (same_place (place_of (edge_at es m)) refl, same_thread (reach_of (edge_at es m)) refl)
+    (same_place (sd_of (edge_at es m)) refl, same_thread (reach_of (edge_at es m)) refl)
   where
     here : SameRun es i m
     here = one_run es i m j r h (omega arith) b t e
@@ -85,7 +85,7 @@ edges_of_run es i m j r h l b t e =
     there : SameRun es i (m + 1)
     there = one_run es i (m + 1) j r (omega arith) (omega arith) b t e
 
-    same_place : (p : Sd) → place_of (edge_at es m) ≡ p → p ≡ Same
+    same_place : (p : Sd) → sd_of (edge_at es m) ≡ p → p ≡ Same
     same_place Same q = refl
     same_place Diff q =
         let a : is_diff (edge_at es m) ≡ false = none_moves es i j m h l (omega arith) (one_location es i j r (omega arith) b t e) in
@@ -102,13 +102,13 @@ values_order : (es : List Edge) (i j : ℕ) → IsResolved es → i < j → j < 
 values_order es i j r h b t e dirs.R d = values_in_thread es i j r (omega arith) b t e
 values_order es i j r h b t e dirs.W d = let q = values_in_thread_grow es i j r h b t e (writes (source_of (edge_at es j)) d) in omega (arith, q)
 
-value_kept : (es : List Edge) (i : ℕ) → IsResolved es → i < length es → place_of (edge_at es i) ≡ Same → value_of es (event_after es i) ≡ value_of es i + written_by (source_of (edge_at es (event_after es i)))
+value_kept : (es : List Edge) (i : ℕ) → IsResolved es → i < length es → sd_of (edge_at es i) ≡ Same → value_of es (event_after es i) ≡ value_of es i + written_by (source_of (edge_at es (event_after es i)))
 value_kept es i r h p =
     value_after es i r h
     ∙ ap (λ n. n + cond (is_write es (event_after es i)) 1 0) (cond-false {A = ℕ} (is_diff (edge_at es i)) 0 (value_of es i) (keeps (edge_at es i) p))
     ∙ ap (λ n. value_of es i + n) (writes_one (source_of (edge_at es (event_after es i))))
 
-value_begun : (es : List Edge) (i : ℕ) → IsResolved es → i < length es → place_of (edge_at es i) ≡ Diff → value_of es (event_after es i) ≡ written_by (source_of (edge_at es (event_after es i)))
+value_begun : (es : List Edge) (i : ℕ) → IsResolved es → i < length es → sd_of (edge_at es i) ≡ Diff → value_of es (event_after es i) ≡ written_by (source_of (edge_at es (event_after es i)))
 value_begun es i r h p =
     value_after es i r h
     ∙ ap (λ n. n + cond (is_write es (event_after es i)) 1 0) (cond-true {A = ℕ} (is_diff (edge_at es i)) 0 (value_of es i) (moves (edge_at es i) p))

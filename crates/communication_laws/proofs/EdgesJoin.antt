@@ -10,7 +10,7 @@ use Rattle.relax_edges.specs.declared.kinds.ObsMode.{ObsMode}
 use Rattle.relax_edges.specs.declared.kinds.Kind.{Kind}
 use Rattle.relax_edges.specs.declared.kinds.Kind.TheVariants as kinds
 use Rattle.relax_edges.specs.declared.edge.Edge.{Edge}
-use Rattle.relax_edges.specs.EdgeTable.{kind_of, source_of, target_of, place_of, reach_of, kind_source, kind_target, kind_place}
+use Rattle.relax_edges.specs.EdgeTable.{kind_of, source_of, target_of, sd_of, reach_of, kind_source, kind_target, kind_place}
 use Rattle.resolution_laws.specs.Resolution.{edge_at, location_of, event_after}
 use Rattle.resolution_laws.proofs.Around.{after_below}
 use Rattle.value_laws.specs.Values.{value_of}
@@ -27,7 +27,7 @@ use Rattle.communication_laws.proofs.OnlyOne.{only_the_intended}
 use Rattle.communication_laws.proofs.Resolves.{Resolves, EntersLast, written_by}
 
 -- along an edge that keeps the location, the value stays at a read and grows by one at a write
-value_along : (es : List Edge) (i : ℕ) → Resolves es → i < length es → place_of (edge_at es i) ≡ Same → value_of es (event_after es i) ≡ value_of es i + written_by (target_of (edge_at es i))
+value_along : (es : List Edge) (i : ℕ) → Resolves es → i < length es → sd_of (edge_at es i) ≡ Same → value_of es (event_after es i) ≡ value_of es i + written_by (target_of (edge_at es i))
 value_along es i r h p = r.counts i h p ∙ ap (λ d. value_of es i + written_by d) (sym (r.enters i h))
 
 -- the write of a write event's value is the event
@@ -41,7 +41,7 @@ own_write es i r h d = by_value (value_of es i) refl
         ∙ ordered_write-is es (location_of es i) k i r (record { below = h; writes = d; location = refl; value = e })
 
 -- along a reads-from edge the read reads the write
-reads_from : (es : List Edge) (mode : ObsMode) (number : ℕ → ℕ) (i : ℕ) → Resolves es → IsNumbering es number → i < length es → source_of (edge_at es i) ≡ dirs.W → target_of (edge_at es i) ≡ dirs.R → place_of (edge_at es i) ≡ Same → source_at (cycle_accesses es mode number) (intended es mode number) (event_name es (event_after es i)) ≡ Some (event_name es i)
+reads_from : (es : List Edge) (mode : ObsMode) (number : ℕ → ℕ) (i : ℕ) → Resolves es → IsNumbering es number → i < length es → source_of (edge_at es i) ≡ dirs.W → target_of (edge_at es i) ≡ dirs.R → sd_of (edge_at es i) ≡ Same → source_at (cycle_accesses es mode number) (intended es mode number) (event_name es (event_after es i)) ≡ Some (event_name es i)
 reads_from es mode number i r n h d t p =
     ap (λ k. placed_by k (cycle_accesses es mode number) (intended es mode number) (event_name es (event_after es i))) (sym (sym (r.enters i h) ∙ t))
     ∙ placed_write es mode number (intended es mode number) (event_name es (event_after es i)) (event_access es number (event_after es i)) r n refl (event_at_name es mode number (event_after es i) r (after_below es i h))
@@ -50,7 +50,7 @@ reads_from es mode number i r n h d t p =
     ∙ own_write es i r h d
 
 -- along an edge into a write at the same location the coherence place grows
-comes_before : (es : List Edge) (mode : ObsMode) (number : ℕ → ℕ) (i : ℕ) → Resolves es → IsNumbering es number → i < length es → target_of (edge_at es i) ≡ dirs.W → place_of (edge_at es i) ≡ Same → ComesBefore (cycle_accesses es mode number) (intended es mode number) (event_at es number i) (event_at es number (event_after es i))
+comes_before : (es : List Edge) (mode : ObsMode) (number : ℕ → ℕ) (i : ℕ) → Resolves es → IsNumbering es number → i < length es → target_of (edge_at es i) ≡ dirs.W → sd_of (edge_at es i) ≡ Same → ComesBefore (cycle_accesses es mode number) (intended es mode number) (event_at es number i) (event_at es number (event_after es i))
 comes_before es mode number i r n h t p =
     omega (
       arith,
@@ -74,12 +74,12 @@ pub intended_joins : (es : List Edge) (mode : ObsMode) (number : ℕ → ℕ) (i
 intended_joins es mode number i r n h = record {
   leaves = refl;
   enters = sym (r.enters i h);
-  places = by_place (place_of (edge_at es i)) refl;
+  places = by_place (sd_of (edge_at es i)) refl;
   communicates = communicates es mode number i r n h (kind_of (edge_at es i)) refl;
   reaches = by_reach (reach_of (edge_at es i)) refl;
 }
   where
-    by_place : (p : Sd) → place_of (edge_at es i) ≡ p → AreAt p (number (location_of es i)) (number (location_of es (event_after es i)))
+    by_place : (p : Sd) → sd_of (edge_at es i) ≡ p → AreAt p (number (location_of es i)) (number (location_of es (event_after es i)))
     by_place Same p = ap number (sym (r.keeps i h p))
     by_place Diff p = λ s. r.moves i h p (n.injective (location_of es (event_after es i)) (location_of es i) (r.location (event_after es i)) (r.location i) (sym s))
 

@@ -15,7 +15,7 @@ use Rattle.relax_edges.specs.declared.kinds.ObsMode.TheVariants.{Avoid}
 use Rattle.relax_edges.specs.declared.kinds.Kind.{Kind}
 use Rattle.relax_edges.specs.declared.kinds.Kind.TheVariants as kinds
 use Rattle.relax_edges.specs.declared.edge.Edge.{Edge}
-use Rattle.relax_edges.specs.EdgeTable.{kind_of, source_of, target_of, place_of, reach_of, kind_target, kind_place, kind_reach}
+use Rattle.relax_edges.specs.EdgeTable.{kind_of, source_of, target_of, sd_of, reach_of, kind_target, kind_place, kind_reach}
 use Rattle.list_laws.specs.Numbers.{upto}
 use Rattle.list_laws.proofs.Cases.{by_same, by_less}
 use Rattle.list_laws.proofs.Numbers.{length-map-upto, length-upto, slice_get-upto, slice_get-map-upto}
@@ -26,7 +26,7 @@ use Rattle.value_laws.specs.Values.{value_of, write_count, is_observed, edge_int
 use Rattle.program_meaning.specs.declared.WriteAt.{WriteAt}
 use Rattle.program_meaning.specs.Accesses.{Access, at_name}
 use Rattle.program_meaning.specs.Executions.{IsExecutionOf, IsOrderOf}
-use Rattle.program_meaning.specs.Coherence.{MayFollow, IsCoherent, order_place, order_at, coherence_place, last_write, value_in, final_value}
+use Rattle.program_meaning.specs.Coherence.{MayFollow, IsCoherent, order_place, order_at, coherence_place, last_write, value_of_access, final_value}
 use Rattle.program_meaning.specs.Standing.{CommunicatesBy, Joins, event_name}
 use Rattle.program_meaning.specs.Intended.{IsNumbering, event_access, event_at, cycle_accesses, ordered_write, write_of, location_order, location_numbered, intended}
 use Rattle.communication_laws.specs.Premises.{MeetsCondition}
@@ -145,7 +145,7 @@ rises_at es i (suc m) v r h b t l below above =
     (λ k. rises_at es i m v r k (omega arith) (t ∙ thread) (l ∙ place) below g)
     (λ k. let e : i ≡ m = omega arith in absurd (omega (arith, ap (value_of es) e, below, g))))
   where
-    run : (place_of (edge_at es m) ≡ Same) × (reach_of (edge_at es m) ≡ Internal)
+    run : (sd_of (edge_at es m) ≡ Same) × (reach_of (edge_at es m) ≡ Internal)
     run = r.run i m (suc m) (omega arith) (omega arith) b t l
 
     after : event_after es m ≡ suc m
@@ -233,7 +233,7 @@ empty_order es l h = ap (λ n. filter_map (ordered_write es l) (upto n)) h
 -- the exchanged execution has the final values of the intended one
 pub exchanged_ends : (es : List Edge) (number : ℕ → ℕ) (event place : ℕ) → Resolves es → IsNumbering es number → InnerEntry es event → place < move_count es → final_value (cycle_accesses es Avoid number) (exchanged es number event) place ≡ final_value (cycle_accesses es Avoid number) (intended es Avoid number) place
 exchanged_ends es number event place r n q h =
-    ap (λ w. value_in (option_and_then (at_name (cycle_accesses es Avoid number)) w)) lasts
+    ap (λ w. value_of_access (option_and_then (at_name (cycle_accesses es Avoid number)) w)) lasts
   where
     w : Numbers es number place
     w = numbering_onto es number place n h
@@ -258,7 +258,7 @@ event_exchanged es number event i r n q h l =
     ∙ ap (λ (f : ℕ → ℕ). f (value_of es i)) (at_location es event (location_of es i) l)
 
 -- the event before the entry comes after it in the coherence order
-falls_back : (es : List Edge) (number : ℕ → ℕ) (event : ℕ) → Resolves es → IsNumbering es number → InnerEntry es event → place_of (edge_at es (event_before es event)) ≡ Same → coherence_place (cycle_accesses es Avoid number) (exchanged es number event) (event_name es (event_before es event)) (event_access es number (event_before es event)) < coherence_place (cycle_accesses es Avoid number) (exchanged es number event) (event_name es event) (event_access es number event) → ⊥
+falls_back : (es : List Edge) (number : ℕ → ℕ) (event : ℕ) → Resolves es → IsNumbering es number → InnerEntry es event → sd_of (edge_at es (event_before es event)) ≡ Same → coherence_place (cycle_accesses es Avoid number) (exchanged es number event) (event_name es (event_before es event)) (event_access es number (event_before es event)) < coherence_place (cycle_accesses es Avoid number) (exchanged es number event) (event_name es event) (event_access es number event) → ⊥
 falls_back es number event r n q p less =
     omega (arith, less, before_place, entry_place, q.second)
   where

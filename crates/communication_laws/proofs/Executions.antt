@@ -20,7 +20,7 @@ use Rattle.program_meaning.specs.Executions.{Execution}
 use Rattle.program_meaning.specs.Coherence.{final_value}
 use Rattle.program_meaning.specs.Programs.{Program, IsCandidate, IsCoherentIn, accesses_in, items_in, register_in, visits_in}
 use Rattle.program_meaning.specs.declared.WriteAt.{WriteAt}
-use Rattle.program_meaning.specs.Standing.{Named, AllStand, Communicates, HasEvents, IsEvent, Stands, StartsFree, Observes, event_name}
+use Rattle.program_meaning.specs.Standing.{NamedAccess, AllStand, Communicates, HasEvents, IsEvent, Stands, StartsFree, Observes, event_name}
 use Rattle.execution_laws.specs.Deciding.{name, are_reads, are_distinct}
 use Rattle.execution_laws.proofs.Candidates.{candidate_means}
 use Rattle.execution_laws.proofs.CoherenceLaws.{coheres_means}
@@ -31,13 +31,13 @@ abbrev plain : Access → Visit
 plain access = record { barriers = []; access = access; mark = Plain; address_mask = 0; data_mask = 0; control_mask = 0 }
 
 -- and by the name of event i
-abbrev free : List Edge → ℕ → Access → Named
+abbrev free : List Edge → ℕ → Access → NamedAccess
 free es i access = record { name = event_name es i; visit = plain access }
 
 -- the edge that leaves event i doesn't stand, though both its events are there
 record Fails (es : List Edge) (p : Program) (x : Execution) (i : ℕ) : Type 0 where
-  source : Named
-  target : Named
+  source : NamedAccess
+  target : NamedAccess
   leaves : IsEvent es (visits_in p x) i source
   enters : IsEvent es (visits_in p x) (event_after es i) target
   fails : Stands (accesses_in p x) x (edge_at es i) source target → ⊥
@@ -46,14 +46,14 @@ not_all : (es : List Edge) (p : Program) (x : Execution) (i : ℕ) → i < lengt
 not_all es p x i l f all = f.fails (all.stand i f.source f.target l f.leaves f.enters)
 
 -- an event is the access that is at its name
-event_is : (es : List Edge) (visits : List (List Visit)) (i : ℕ) (e : Named) (a : Access) → at_name visits (event_name es i) ≡ Some (free es i a).visit → IsEvent es visits i e → free es i a ≡ e
+event_is : (es : List Edge) (visits : List (List Visit)) (i : ℕ) (e : NamedAccess) (a : Access) → at_name visits (event_name es i) ≡ Some (free es i a).visit → IsEvent es visits i e → free es i a ≡ e
 event_is es visits i e a got h =
     let n : e.name ≡ event_name es i = h.name_is in
     let w : e.visit ≡ (free es i a).visit = same_Some e.visit (free es i a).visit (sym h.visit_is ∙ ap (at_name visits) n ∙ got) in
     sym (λ k. record { name = n k; visit = w k })
 
 -- an edge that stands between two accesses stands between the events that they are
-stands_at : (es : List Edge) (p : Program) (x : Execution) (i j : ℕ) (e f : Named) (a b : Access)
+stands_at : (es : List Edge) (p : Program) (x : Execution) (i j : ℕ) (e f : NamedAccess) (a b : Access)
     → at_name (visits_in p x) (event_name es i) ≡ Some (free es i a).visit → at_name (visits_in p x) (event_name es j) ≡ Some (free es j b).visit
     → IsEvent es (visits_in p x) i e → IsEvent es (visits_in p x) j f
     → Stands (accesses_in p x) x (edge_at es i) (free es i a) (free es j b) → Stands (accesses_in p x) x (edge_at es i) e f
@@ -93,7 +93,7 @@ unfolding thread_of slot_of events_in event_after
 square_events d c u v p x s = record {
   threads = s.threads;
   counts = λ k visits l e. counts k visits l (there k visits e);
-  events = λ i l. subst (λ all. (e : Named) × IsEvent (square d c) all i e) (sym s.visits) (events i l);
+  events = λ i l. subst (λ all. (e : NamedAccess) × IsEvent (square d c) all i e) (sym s.visits) (events i l);
   observers = λ k visits l e. observers k visits l (there k visits e);
   starts = λ k visits e. starts k visits (there k visits e);
   ends = s.ends;
@@ -107,7 +107,7 @@ square_events d c u v p x s = record {
     counts (suc zero) visits l e = ap length (sym (same_Some _ visits e))
     counts (suc (suc k)) visits l e = cc e
 
-    events : (i : ℕ) → i < 4 → (e : Named) × IsEvent (square d c) (square_visits d u v) i e
+    events : (i : ℕ) → i < 4 → (e : NamedAccess) × IsEvent (square d c) (square_visits d u v) i e
     events zero l = (free (square d c) 0 (write 0 u), record { name_is = refl; visit_is = refl; direction = refl })
     events (suc zero) l = (free (square d c) 1 (access_to d 1 v), record { name_is = refl; visit_is = refl; direction = sym s.leaves })
     events (suc (suc zero)) l = (free (square d c) 2 (write 1 u), record { name_is = refl; visit_is = refl; direction = refl })
@@ -130,7 +130,7 @@ square_stands d c u v p x s = record { events = square_events d c u v p x s; sta
     there : (w : WriteAt) → at_name (visits_in p x) w ≡ at_name (square_visits d u v) w
     there w = ap (λ all. at_name all w) s.visits
 
-    stand : (i : ℕ) (e f : Named) → i < 4 → IsEvent (square d c) (visits_in p x) i e → IsEvent (square d c) (visits_in p x) (event_after (square d c) i) f → Stands (accesses_in p x) x (edge_at (square d c) i) e f
+    stand : (i : ℕ) (e f : NamedAccess) → i < 4 → IsEvent (square d c) (visits_in p x) i e → IsEvent (square d c) (visits_in p x) (event_after (square d c) i) f → Stands (accesses_in p x) x (edge_at (square d c) i) e f
     stand zero e f l g h = stands_at (square d c) p x 0 1 e f (write 0 u) (access_to d 1 v) (there (name 0 0)) (there (name 0 1)) g h (record {
       joins = record { leaves = refl; enters = refl; places = λ (q : 0 ≡ 1). omega (arith, q); communicates = tt; reaches = (refl, refl) };
       leaves_mark = refl;

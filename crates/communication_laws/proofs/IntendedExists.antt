@@ -15,7 +15,7 @@ use Rattle.value_laws.specs.Values.{value_of, write_count}
 use Rattle.program_meaning.specs.declared.WriteAt.{WriteAt}
 use Rattle.program_meaning.specs.Accesses.{Access, at_name}
 use Rattle.program_meaning.specs.Executions.{IsExecutionOf, IsOrderOf}
-use Rattle.program_meaning.specs.Coherence.{MayFollow, IsCoherent, last_write, value_in, final_value}
+use Rattle.program_meaning.specs.Coherence.{MayFollow, IsCoherent, last_write, value_of_access, final_value}
 use Rattle.program_meaning.specs.Standing.{event_name}
 use Rattle.program_meaning.specs.Intended.{IsNumbering, cycle_accesses, ordered_write, location_order, location_numbered, intended}
 use Rattle.communication_laws.specs.Premises.{MeetsCondition}
@@ -136,9 +136,9 @@ last_of_order es l k r h =
 pub intended_ends : (es : List Edge) (mode : ObsMode) (number : ℕ → ℕ) (l k : ℕ) → Resolves es → IsNumbering es number → l < move_count es → write_count es l ≡ suc k → final_value (cycle_accesses es mode number) (intended es mode number) (number l) ≡ suc k
 intended_ends es mode number l k r n h c =
     let w = nth_write es l k r (omega arith) in
-    ap (λ order. value_in (option_and_then (at_name (cycle_accesses es mode number)) (last_write order))) (intended_order es mode number l n h)
-    ∙ ap (λ o. value_in (option_and_then (at_name (cycle_accesses es mode number)) o)) (last_of_order es l k r c ∙ w.name_is)
-    ∙ ap value_in (write_at_name es mode number l k w.event r w.is_write)
+    ap (λ order. value_of_access (option_and_then (at_name (cycle_accesses es mode number)) (last_write order))) (intended_order es mode number l n h)
+    ∙ ap (λ o. value_of_access (option_and_then (at_name (cycle_accesses es mode number)) o)) (last_of_order es l k r c ∙ w.name_is)
+    ∙ ap value_of_access (write_at_name es mode number l k w.event r w.is_write)
 
 -- the intended execution meets the condition
 pub intended_meets : (es : List Edge) (mode : ObsMode) (number : ℕ → ℕ) → Resolves es → IsNumbering es number → MeetsCondition es mode number (intended es mode number)

@@ -10,7 +10,7 @@ use Rattle.relax_edges.specs.declared.kinds.Reach.{Reach}
 use Rattle.relax_edges.specs.declared.kinds.Reach.TheVariants.{Internal, External}
 use Rattle.relax_edges.specs.declared.kinds.ObsMode.{ObsMode}
 use Rattle.relax_edges.specs.declared.edge.Edge.{Edge}
-use Rattle.relax_edges.specs.EdgeTable.{source_of, place_of, reach_of}
+use Rattle.relax_edges.specs.EdgeTable.{source_of, sd_of, reach_of}
 use Rattle.list_laws.proofs.Cases.{by_test}
 use Rattle.list_laws.proofs.Ranks.{rank_upto}
 use Rattle.list_laws.specs.Numbers.{upto}
@@ -20,7 +20,7 @@ use Rattle.value_laws.specs.Values.{value_of, write_count, is_observed, edge_int
 use Rattle.program_meaning.specs.declared.WriteAt.{WriteAt}
 use Rattle.program_meaning.specs.Accesses.{read, at_name}
 use Rattle.program_meaning.specs.Executions.{Execution}
-use Rattle.program_meaning.specs.Coherence.{MayFollow, order_place, order_at, coherence_place, last_write, value_in, final_value}
+use Rattle.program_meaning.specs.Coherence.{MayFollow, order_place, order_at, coherence_place, last_write, value_of_access, final_value}
 use Rattle.program_meaning.specs.Standing.{event_name}
 use Rattle.program_meaning.specs.Intended.{IsNumbering, observed_locations, event_access, cycle_accesses, ordered_write, write_of, location_order, intended}
 use Rattle.communication_laws.specs.Premises.{MeetsCondition}
@@ -63,7 +63,7 @@ pub record FromBefore (es : List Edge) (l k : ℕ) : Type 0 where
 -- the edge into a write that isn't the first of its location comes from the value before
 pub from_before : (es : List Edge) (l k i : ℕ) → Resolves es → IsWrite es l (suc k) i → FromBefore es l k
 from_before es l k i r w =
-    by_place (place_of (edge_at es e.before)) refl
+    by_place (sd_of (edge_at es e.before)) refl
   where
     e : Entered es i
     e = entered es i w.below
@@ -74,7 +74,7 @@ from_before es l k i r w =
     reached : value_of es (event_after es e.before) ≡ suc (suc k)
     reached = ap (value_of es) e.next ∙ w.value
 
-    by_place : (p : Sd) → place_of (edge_at es e.before) ≡ p → FromBefore es l k
+    by_place : (p : Sd) → sd_of (edge_at es e.before) ≡ p → FromBefore es l k
     by_place Same p = record {
       write = i;
       is_write = w;
@@ -176,8 +176,8 @@ ends_with es mode number x l k r n c h z v =
     let a = nth_write es l j.0 r j.1 in
     let t : last_write (order_at x (number l)) ≡ Some (event_name es a.event) = e.got ∙ sym j.2 ∙ a.name_is in
     let f : final_value (cycle_accesses es mode number) x (number l) ≡ suc j.0 =
-    ap (λ w. value_in (option_and_then (at_name (cycle_accesses es mode number)) w)) t
-    ∙ ap value_in (write_at_name es mode number l j.0 a.event r a.is_write) in
+    ap (λ w. value_of_access (option_and_then (at_name (cycle_accesses es mode number)) w)) t
+    ∙ ap value_of_access (write_at_name es mode number l j.0 a.event r a.is_write) in
     let d : j.0 ≡ k = omega (arith, f, v) in
     e.got ∙ sym j.2 ∙ ap (ordered_write es l) d
 

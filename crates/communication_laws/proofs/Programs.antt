@@ -15,7 +15,7 @@ use Rattle.program_meaning.specs.Programs.{Program, HasEnded, runs_of, accesses_
 use Rattle.execution_laws.proofs.Runs.{accesses-count}
 use Rattle.program_meaning.specs.Intended.{IsNumbering, cycle_accesses, intended}
 use Rattle.communication_laws.specs.Premises.{MeetsCondition}
-use Rattle.communication_laws.specs.Joining.{filled, values_read, Makes, ReadsAsAsked, IsOutcome}
+use Rattle.communication_laws.specs.Joining.{accesses_filled, values_read, MakesAccesses, ReadsAsAsked, IsOutcome}
 use Rattle.communication_laws.proofs.Lists.{same_below, got_below, map-map}
 use Rattle.communication_laws.proofs.ReadLists.{reads_by_source}
 use Rattle.communication_laws.proofs.IntendedReads.{reads-count, intended_reads, source_for}
@@ -23,19 +23,19 @@ use Rattle.communication_laws.proofs.IntendedExists.{intended_meets}
 use Rattle.communication_laws.proofs.Resolves.{Resolves}
 
 -- accesses whose reads read their own values are as they were
-filled_own : (accesses : List Access) → filled accesses (map (λ access. access.value) (filter is_read accesses)) ≡ accesses
+filled_own : (accesses : List Access) → accesses_filled accesses (map (λ access. access.value) (filter is_read accesses)) ≡ accesses
 filled_own [] = refl
 filled_own (access ∷ accesses) = by_dir access.dir refl (filled_own accesses)
   where
     first : Dir → Access
     first d = record { dir = d; place = access.place; value = access.value }
 
-    by_dir : (d : Dir) → access.dir ≡ d → filled accesses (map (λ access. access.value) (filter is_read accesses)) ≡ accesses → filled (access ∷ accesses) (map (λ access. access.value) (filter is_read (access ∷ accesses))) ≡ access ∷ accesses
+    by_dir : (d : Dir) → access.dir ≡ d → accesses_filled accesses (map (λ access. access.value) (filter is_read accesses)) ≡ accesses → accesses_filled (access ∷ accesses) (map (λ access. access.value) (filter is_read (access ∷ accesses))) ≡ access ∷ accesses
     by_dir dirs.R e h = rw e (ap (λ l. first dirs.R ∷ l) h)
     by_dir dirs.W e h = rw e (ap (λ l. first dirs.W ∷ l) h)
 
 -- where the values read are those asked for, the accesses made are those of the cycle's test
-pub makes_planned : (es : List Edge) (mode : ObsMode) (number : ℕ → ℕ) (p : Program) (x : Execution) → Makes es mode number p x → ReadsAsAsked es mode number x → length x.reads ≡ length p.threads → accesses_in p x ≡ cycle_accesses es mode number
+pub makes_planned : (es : List Edge) (mode : ObsMode) (number : ℕ → ℕ) (p : Program) (x : Execution) → MakesAccesses es mode number p x → ReadsAsAsked es mode number x → length x.reads ≡ length p.threads → accesses_in p x ≡ cycle_accesses es mode number
 makes_planned es mode number p x m v c =
     same_below (accesses_in p x) (cycle_accesses es mode number) (length p.threads) (accesses-count p x) (sym m.threads) here
   where
@@ -44,15 +44,15 @@ makes_planned es mode number p x m v c =
         let t = got_below (cycle_accesses es mode number) k (omega (arith, m.threads, l)) in
         let r = got_below x.reads k (omega (arith, c, l)) in
         m.accesses k t.element r.element t.got r.got
-        ∙ ap Some (ap (filled t.element) (v k t.element r.element t.got r.got) ∙ filled_own t.element)
+        ∙ ap Some (ap (accesses_filled t.element) (v k t.element r.element t.got r.got) ∙ filled_own t.element)
         ∙ sym t.got
 
 -- in an outcome of such a program the accesses made are those of the cycle's test
-pub outcome_makes : (es : List Edge) (mode : ObsMode) (number : ℕ → ℕ) (p : Program) (x : Execution) → Makes es mode number p x → IsOutcome es mode number p x → accesses_in p x ≡ cycle_accesses es mode number
+pub outcome_makes : (es : List Edge) (mode : ObsMode) (number : ℕ → ℕ) (p : Program) (x : Execution) → MakesAccesses es mode number p x → IsOutcome es mode number p x → accesses_in p x ≡ cycle_accesses es mode number
 outcome_makes es mode number p x m o = makes_planned es mode number p x m o.reads (o.candidate.execution.read_lists ∙ accesses-count p x)
 
 -- an outcome is coherent and meets the condition, by its accesses alone
-pub outcome_meets : (es : List Edge) (mode : ObsMode) (number : ℕ → ℕ) (p : Program) (x : Execution) → Makes es mode number p x → IsOutcome es mode number p x → MeetsCondition es mode number x
+pub outcome_meets : (es : List Edge) (mode : ObsMode) (number : ℕ → ℕ) (p : Program) (x : Execution) → MakesAccesses es mode number p x → IsOutcome es mode number p x → MeetsCondition es mode number x
 outcome_meets es mode number p x m o =
     record {
       execution = subst (λ (t : List (List Access) × ℕ). IsExecutionOf t.0 t.1 x) (λ i. (made i, m.places i)) o.candidate.execution;
@@ -71,7 +71,7 @@ intended_asked es mode number r n k planned reads t g =
     ap values_read (sym e) ∙ map-map (λ access. (access.value, source_for es number access)) (λ r. r.0) (filter is_read planned)
 
 -- where the runs on the intended reads come to their ends, the intended execution is an outcome
-pub intended_outcome : (es : List Edge) (mode : ObsMode) (number : ℕ → ℕ) (p : Program) → Resolves es → IsNumbering es number → Makes es mode number p (intended es mode number) → ((k : ℕ) (run : Outcome) → slice_get (runs_of p.threads (intended es mode number).reads) k ≡ Some run → HasEnded run) → IsOutcome es mode number p (intended es mode number)
+pub intended_outcome : (es : List Edge) (mode : ObsMode) (number : ℕ → ℕ) (p : Program) → Resolves es → IsNumbering es number → MakesAccesses es mode number p (intended es mode number) → ((k : ℕ) (run : Outcome) → slice_get (runs_of p.threads (intended es mode number).reads) k ≡ Some run → HasEnded run) → IsOutcome es mode number p (intended es mode number)
 intended_outcome es mode number p r n m ended =
     record {
       candidate = record { ended = ended; execution = subst (λ (t : List (List Access) × ℕ). IsExecutionOf t.0 t.1 (intended es mode number)) (λ i. (sym made i, sym m.places i)) q.execution };

@@ -8,7 +8,7 @@ use Rattle.relax_edges.specs.declared.kinds.Sd.TheVariants.{Same, Diff}
 use Rattle.relax_edges.specs.declared.kinds.Reach.TheVariants.{Internal, External}
 use Rattle.relax_edges.specs.declared.kinds.ObsMode.{ObsMode}
 use Rattle.relax_edges.specs.declared.edge.Edge.{Edge}
-use Rattle.relax_edges.specs.EdgeTable.{source_of, target_of, place_of, reach_of, source_mark, target_mark}
+use Rattle.relax_edges.specs.EdgeTable.{source_of, target_of, sd_of, reach_of, source_mark, target_mark}
 use Rattle.resolution_laws.specs.Resolution.{edge_at, external_count, move_count, thread_of, slot_of, location_of, event_after, event_before, events_in}
 use Rattle.resolution_laws.proofs.Around.{before_below, after_before}
 use Rattle.value_laws.specs.Values.{value_of, write_at, write_count, edge_into, is_observed}
@@ -42,14 +42,14 @@ pub record Resolves (es : List Edge) : Type 0 where
   pub rises : (i j : ℕ) → i < j → j < length es → thread_of es i ≡ thread_of es j → slot_of es i < slot_of es j
   pub enters : (i : ℕ) → i < length es → target_of (edge_at es i) ≡ source_of (edge_at es (event_after es i))
   pub marks : (i : ℕ) → i < length es → target_mark (edge_at es i) ≡ source_mark (edge_at es (event_after es i))
-  pub keeps : (i : ℕ) → i < length es → place_of (edge_at es i) ≡ Same → location_of es (event_after es i) ≡ location_of es i
-  pub moves : (i : ℕ) → i < length es → place_of (edge_at es i) ≡ Diff → location_of es (event_after es i) ≢ location_of es i
+  pub keeps : (i : ℕ) → i < length es → sd_of (edge_at es i) ≡ Same → location_of es (event_after es i) ≡ location_of es i
+  pub moves : (i : ℕ) → i < length es → sd_of (edge_at es i) ≡ Diff → location_of es (event_after es i) ≢ location_of es i
   pub stays : (i : ℕ) → i < length es → reach_of (edge_at es i) ≡ Internal → (thread_of es (event_after es i) ≡ thread_of es i) × (slot_of es (event_after es i) ≡ slot_of es i + 1)
   pub leaves : (i : ℕ) → i < length es → reach_of (edge_at es i) ≡ External → thread_of es (event_after es i) ≢ thread_of es i
   pub order : (i j : ℕ) → i < j → j < length es → thread_of es i ≡ thread_of es j → location_of es i ≡ location_of es j → MayFollow (source_of (edge_at es j)) (value_of es i) (value_of es j)
-  pub run : (i m j : ℕ) → i ≤ m → m < j → j < length es → thread_of es i ≡ thread_of es j → location_of es i ≡ location_of es j → (place_of (edge_at es m) ≡ Same) × (reach_of (edge_at es m) ≡ Internal)
-  pub counts : (i : ℕ) → i < length es → place_of (edge_at es i) ≡ Same → value_of es (event_after es i) ≡ value_of es i + written_by (source_of (edge_at es (event_after es i)))
-  pub begins : (i : ℕ) → i < length es → place_of (edge_at es i) ≡ Diff → value_of es (event_after es i) ≡ written_by (source_of (edge_at es (event_after es i)))
+  pub run : (i m j : ℕ) → i ≤ m → m < j → j < length es → thread_of es i ≡ thread_of es j → location_of es i ≡ location_of es j → (sd_of (edge_at es m) ≡ Same) × (reach_of (edge_at es m) ≡ Internal)
+  pub counts : (i : ℕ) → i < length es → sd_of (edge_at es i) ≡ Same → value_of es (event_after es i) ≡ value_of es i + written_by (source_of (edge_at es (event_after es i)))
+  pub begins : (i : ℕ) → i < length es → sd_of (edge_at es i) ≡ Diff → value_of es (event_after es i) ≡ written_by (source_of (edge_at es (event_after es i)))
   pub within : (i : ℕ) → i < length es → value_of es i ≤ write_count es (location_of es i)
   pub written : (location k : ℕ) → k < write_count es location → (i : ℕ) × (write_at es location k ≡ Some i)
   pub writes : (location k i : ℕ) → write_at es location k ≡ Some i → IsWrite es location k i

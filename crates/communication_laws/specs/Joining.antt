@@ -15,7 +15,7 @@ use Rattle.program_meaning.specs.Accesses.{Access, Visit, barriers_after, is_rea
 use Rattle.program_meaning.specs.Executions.{Execution}
 use Rattle.program_meaning.specs.Coherence.{final_value}
 use Rattle.program_meaning.specs.Programs.{Program, IsCandidate, IsCoherentIn, accesses_in, items_in, visits_in}
-use Rattle.program_meaning.specs.Standing.{Named, IsEvent, IsFree, StartsFree, TiesBy}
+use Rattle.program_meaning.specs.Standing.{NamedAccess, IsEvent, IsFree, StartsFree, TiesBy}
 use Rattle.program_meaning.specs.Intended.{cycle_accesses}
 
 -- the value of an access: a read takes the first of the values read, if there is one
@@ -31,20 +31,20 @@ values_left dirs.R (_ ∷ values) = values
 values_left dirs.W values = values
 
 -- the accesses of a thread where its reads read these values, in order
-abbrev pub filled : List Access → List ℕ → List Access
-filled [] values = []
-filled (access ∷ accesses) values =
-    record { dir = access.dir; place = access.place; value = value_taken access.dir values access.value } ∷ filled accesses (values_left access.dir values)
+abbrev pub accesses_filled : List Access → List ℕ → List Access
+accesses_filled [] values = []
+accesses_filled (access ∷ accesses) values =
+    record { dir = access.dir; place = access.place; value = value_taken access.dir values access.value } ∷ accesses_filled accesses (values_left access.dir values)
 
 -- the values of a list of reads
 abbrev pub values_read : List (ℕ × Option WriteAt) → List ℕ
 values_read reads = map (λ r. r.0) reads
 
 -- a program makes the accesses of the cycle's test in an execution, with the values that are read there
-pub record Makes (es : List Edge) (mode : ObsMode) (number : ℕ → ℕ) (p : Program) (x : Execution) : Type 0 where
+pub record MakesAccesses (es : List Edge) (mode : ObsMode) (number : ℕ → ℕ) (p : Program) (x : Execution) : Type 0 where
   pub places : p.places ≡ move_count es
   pub threads : length p.threads ≡ length (cycle_accesses es mode number)
-  pub accesses : (k : ℕ) (planned : List Access) (reads : List (ℕ × Option WriteAt)) → slice_get (cycle_accesses es mode number) k ≡ Some planned → slice_get x.reads k ≡ Some reads → slice_get (accesses_in p x) k ≡ Some (filled planned (values_read reads))
+  pub accesses : (k : ℕ) (planned : List Access) (reads : List (ℕ × Option WriteAt)) → slice_get (cycle_accesses es mode number) k ≡ Some planned → slice_get x.reads k ≡ Some reads → slice_get (accesses_in p x) k ≡ Some (accesses_filled planned (values_read reads))
 
 -- the values read are those of the cycle's test: of each read of the cycle its event's, of each observer 1, 2, ..
 abbrev pub ReadsAsAsked : List Edge → ObsMode → (ℕ → ℕ) → Execution → Type 0
@@ -75,8 +75,8 @@ AreFree (visit ∷ visits) = (visit.mark ≡ Plain) × (visit.barriers ≡ []) �
 -- the marks of the accesses of a program, and what comes between them, are what the edges of the cycle say, and there is
 -- nothing else
 pub record IsTiedUp (es : List Edge) (p : Program) (x : Execution) : Type 0 where
-  pub marks : (i : ℕ) (e : Named) → i < length es → IsEvent es (visits_in p x) i e → e.visit.mark ≡ source_mark (edge_at es i)
-  pub ties : (i : ℕ) (e f : Named) → i < length es → IsEvent es (visits_in p x) i e → IsEvent es (visits_in p x) (event_after es i) f → TiesBy (kind_of (edge_at es i)) (accesses_in p x) e f
+  pub marks : (i : ℕ) (e : NamedAccess) → i < length es → IsEvent es (visits_in p x) i e → e.visit.mark ≡ source_mark (edge_at es i)
+  pub ties : (i : ℕ) (e f : NamedAccess) → i < length es → IsEvent es (visits_in p x) i e → IsEvent es (visits_in p x) (event_after es i) f → TiesBy (kind_of (edge_at es i)) (accesses_in p x) e f
   pub observers : (k : ℕ) (visits : List Visit) → external_count es ≤ k → slice_get (visits_in p x) k ≡ Some visits → AreFree visits
   pub starts : (k : ℕ) (visits : List Visit) → slice_get (visits_in p x) k ≡ Some visits → StartsFree visits
   pub ends : (k : ℕ) (made : List Item) → slice_get (items_in p x) k ≡ Some made → barriers_after [] made ≡ []

@@ -13,7 +13,7 @@ use Rattle.program_meaning.specs.Programs.{Program, HasEnded, runs_of}
 use Rattle.program_meaning.specs.Standing.{AllStand, Joins}
 use Rattle.program_meaning.specs.Intended.{IsNumbering, cycle_accesses, event_at, intended}
 use Rattle.communication_laws.specs.Premises.{IsServed, MeetsCondition}
-use Rattle.communication_laws.specs.Joining.{IsOutcome, IsTiedUp, Makes}
+use Rattle.communication_laws.specs.Joining.{IsOutcome, IsTiedUp, MakesAccesses}
 use Rattle.communication_laws.specs.Exchange.{exchanged}
 
 -- each edge of the cycle joins its events: its communication holds, and its places and threads are as it says
@@ -59,20 +59,20 @@ NoConditionServes =
 abbrev pub AllEdgesStand : Type 0
 AllEdgesStand =
     (es : List Edge) (mode : ObsMode) (number : ℕ → ℕ) (p : Program) (x : Execution) → IsResolved es → IsServed es mode → IsNumbering es number →
-    Makes es mode number p x → IsTiedUp es p x → IsOutcome es mode number p x →
+    MakesAccesses es mode number p x → IsTiedUp es p x → IsOutcome es mode number p x →
     AllStand es p x
 
 -- each outcome of a program that makes the accesses of the cycle's test is the intended execution
 abbrev pub OneOutcome : Type 0
 OneOutcome =
     (es : List Edge) (mode : ObsMode) (number : ℕ → ℕ) (p : Program) (x : Execution) → IsResolved es → IsServed es mode → IsNumbering es number →
-    Makes es mode number p x → IsOutcome es mode number p x →
+    MakesAccesses es mode number p x → IsOutcome es mode number p x →
     x ≡ intended es mode number
 
 -- where the runs of such a program on the intended reads come to their ends, the intended execution is an outcome
 abbrev pub AnOutcome : Type 0
 AnOutcome =
     (es : List Edge) (mode : ObsMode) (number : ℕ → ℕ) (p : Program) → IsResolved es → IsNumbering es number →
-    Makes es mode number p (intended es mode number) →
+    MakesAccesses es mode number p (intended es mode number) →
     ((k : ℕ) (run : Outcome) → slice_get (runs_of p.threads (intended es mode number).reads) k ≡ Some run → HasEnded run) →
     IsOutcome es mode number p (intended es mode number)

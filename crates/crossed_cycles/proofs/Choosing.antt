@@ -11,7 +11,7 @@ use Rattle.list_laws.proofs.Cases.{by_test}
 use Rattle.arch_trait.specs.Threads.{Puts}
 use Rattle.walk_laws.specs.Listing.{concatenated}
 use Rattle.crossed_cycles.specs.Choices.{choices, first_kept, is_accepted, crossed}
-use Rattle.crossed_cycles.specs.Steps.{keep, keep_accepted, chosen, chosen_first}
+use Rattle.crossed_cycles.specs.CrossingSteps.{keep_turned, keep_accepted, chosen, chosen_first}
 use Rattle.crossed_cycles.proofs.Keeping.{all_kept, accepted_kept}
 
 module _ (accepts : List Edge → Bool) where
@@ -126,10 +126,10 @@ chosen_split accepts joined (list ∷ lists) first kept h is =
     rw (all, is) (sym (chosen_list accepts joined list lists kept))
 
 -- a cycle is kept where it is accepted
-pub kept_some : (accepts : List Edge → Bool) (u v : List Edge) (kept : List (List Edge)) → Some v ≡ cond (accepts u) (Some u) None → keep kept v ≡ keep_accepted accepts kept u
+pub kept_some : (accepts : List Edge → Bool) (u v : List Edge) (kept : List (List Edge)) → Some v ≡ cond (accepts u) (Some u) None → keep_turned kept v ≡ keep_accepted accepts kept u
 kept_some accepts u v kept h =
     by_test (accepts u)
-    (λ t. let e : Some v ≡ Some u = rw t at h in let s : v ≡ u = cc in rw t (ap (keep kept) s))
+    (λ t. let e : Some v ≡ Some u = rw t at h in let s : v ≡ u = cc in rw t (ap (keep_turned kept) s))
     (λ t. let e : Some v ≡ None = rw t at h in cc)
 
 -- an edge list that isn't accepted leaves what is kept as it is

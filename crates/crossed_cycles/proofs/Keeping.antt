@@ -6,7 +6,7 @@ use Rattle.std.proofs.lemmas.List.Folds.{list_any-append}
 use Rattle.relax_edges.specs.declared.edge.Edge.{Edge}
 use Rattle.list_laws.proofs.Cases.{by_test}
 use Rattle.crossed_cycles.specs.Choices.{is_turn, first_kept}
-use Rattle.crossed_cycles.specs.Steps.{keep, keep_accepted}
+use Rattle.crossed_cycles.specs.CrossingSteps.{keep_turned, keep_accepted}
 use Rattle.crossed_cycles.proofs.Turning.{turn_on}
 
 -- none of some lists is a rotation of v
@@ -40,7 +40,7 @@ filter_new kept u (v ∷ us) =
     (λ t. by_test (list_any (λ w. is_turn w v) kept) (λ a. rw (t, a) (filter_new kept u us)) (λ a. rw (t, a) (ap (λ rest. v ∷ rest) (filter_new kept u us)))))
 
 -- after the lists that are kept come those of the others that are rotations of none of them, the first of each cycle
-pub kept_after : (kept us : List (List Edge)) → fold keep kept us ≡ kept ++ filter (is_new kept) (first_kept us)
+pub kept_after : (kept us : List (List Edge)) → fold keep_turned kept us ≡ kept ++ filter (is_new kept) (first_kept us)
 kept_after kept [] = sym (append-nil kept)
 kept_after kept (u ∷ us) =
     by_test (list_any (λ v. is_turn v u) kept)
@@ -55,13 +55,13 @@ filter_none [] = refl
 filter_none (u ∷ us) = ap (λ rest. u ∷ rest) (filter_none us)
 
 -- of lists that are the same cycle, keeping them one after another keeps the first
-pub all_kept : (us : List (List Edge)) → fold keep [] us ≡ first_kept us
+pub all_kept : (us : List (List Edge)) → fold keep_turned [] us ≡ first_kept us
 all_kept us = kept_after [] us ∙ filter_none (first_kept us)
 
--- to keep those that are accepted is to keep each of those that pass
-pub accepted_kept : (accepts : List Edge → Bool) (kept us : List (List Edge)) → fold (keep_accepted accepts) kept us ≡ fold keep kept (filter accepts us)
+-- to keep_turned those that are accepted is to keep_turned each of those that pass
+pub accepted_kept : (accepts : List Edge → Bool) (kept us : List (List Edge)) → fold (keep_accepted accepts) kept us ≡ fold keep_turned kept (filter accepts us)
 accepted_kept accepts kept [] = refl
 accepted_kept accepts kept (u ∷ us) =
     by_test (accepts u)
-    (λ t. rw t (accepted_kept accepts (keep kept u) us))
+    (λ t. rw t (accepted_kept accepts (keep_turned kept u) us))
     (λ t. rw t (accepted_kept accepts kept us))

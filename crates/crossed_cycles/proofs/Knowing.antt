@@ -13,7 +13,7 @@ use Rattle.cycle_laws.specs.Rotation.{IsRotation}
 use Rattle.cycle_laws.proofs.Rotating.{least_same, same_least, rotation_length}
 use Rattle.crossed_cycles.specs.declared.normal_form.NormalForm.{NormalForm}
 use Rattle.crossed_cycles.specs.Choices.{is_turn}
-use Rattle.crossed_cycles.specs.Steps.{keep}
+use Rattle.crossed_cycles.specs.CrossingSteps.{keep_turned}
 use Rattle.crossed_cycles.specs.NormalForms.{IsNormalForm}
 use Rattle.crossed_cycles.specs.Known.{AreNormalForms}
 use Rattle.crossed_cycles.proofs.Turning.{rotation_of_turn, turn_of_rotation}
@@ -65,12 +65,12 @@ known_more (u ∷ kept) (k ∷ forms) v form all is = (all.0, known_more kept fo
 
 -- a cycle that the set doesn't know is kept after the others
 pub kept_new : (kept : List (List Edge)) (forms : List NormalForm) (v : List Edge) (form : NormalForm) → 0 < length v →
-    AreNormalForms kept forms → IsNormalForm v form.ranks.items → list_any (same_ranks form) forms ≡ false → kept ++ v ∷ [] ≡ keep kept v
+    AreNormalForms kept forms → IsNormalForm v form.ranks.items → list_any (same_ranks form) forms ≡ false → kept ++ v ∷ [] ≡ keep_turned kept v
 kept_new kept forms v form some all is h = rw (sym (known_as_kept kept forms v form some all is) ∙ h) refl
 
 -- a cycle that the set knows isn't kept
 pub kept_known : (kept : List (List Edge)) (forms : List NormalForm) (v : List Edge) (form : NormalForm) → 0 < length v →
-    AreNormalForms kept forms → IsNormalForm v form.ranks.items → list_any (same_ranks form) forms ≡ true → kept ≡ keep kept v
+    AreNormalForms kept forms → IsNormalForm v form.ranks.items → list_any (same_ranks form) forms ≡ true → kept ≡ keep_turned kept v
 kept_known kept forms v form some all is h = rw (sym (known_as_kept kept forms v form some all is) ∙ h) refl
 
 -- the set has what it had, and then a form that it doesn't know

@@ -1,5 +1,5 @@
 pub mod Choices
-pub mod Steps
+pub mod CrossingSteps
 pub mod NormalForms
 pub mod Known
 pub mod Laws

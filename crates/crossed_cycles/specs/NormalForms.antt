@@ -3,7 +3,7 @@
 use Rattle.std.specs.Prelude.{◌≡◌, ℕ, List, map}
 use Rattle.relax_edges.specs.declared.edge.Edge.{Edge}
 use Rattle.relax_edges.specs.Order.{rank_of}
-use Rattle.cycle_laws.specs.Order.{IsLeast}
+use Rattle.cycle_laws.specs.CycleOrder.{IsLeast}
 
 -- the ranks of the normal form of a cycle
 pub record IsNormalForm (u : List Edge) (ranks : List ℕ) : Type 0 where

@@ -3,7 +3,7 @@ ghost use Rattle.std.specs.List.{list_any};
 ghost use Rattle.test_maker.specs.Refusals.{refusal_of};
 ghost use Rattle.crossed_cycles.specs.Choices.{crossed, is_accepted};
 ghost use Rattle.crossed_cycles.specs.Known.{AreNormalForms};
-ghost use Rattle.crossed_cycles.specs.Steps.{chosen, keep_accepted};
+ghost use Rattle.crossed_cycles.specs.CrossingSteps.{chosen, keep_accepted};
 
 use crate::kept::Kept;
 use arch_trait::Arch;

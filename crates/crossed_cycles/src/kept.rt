@@ -1,6 +1,6 @@
 ghost use Rattle.std.specs.Prelude.{◌≡◌, [], OnOk};
 ghost use Rattle.crossed_cycles.specs.Known.{AreNormalForms};
-ghost use Rattle.crossed_cycles.specs.Steps.{keep};
+ghost use Rattle.crossed_cycles.specs.CrossingSteps.{keep_turned};
 
 use crate::normal_form::NormalForm;
 use diy_io::NoMemory;
@@ -38,7 +38,7 @@ impl Kept {
     /// Keeps a cycle after the others, unless it is a rotation of one of them.
     pub(crate) fn keep(&mut self, cycle: Cycle) -> Result<(), NoMemory>
         requires { AreNormalForms self.old.cycles.items self.old.known.keys }
-        ensures kept { OnOk result (self.new.cycles.items ≡ keep self.old.cycles.items cycle) }
+        ensures kept { OnOk result (self.new.cycles.items ≡ keep_turned self.old.cycles.items cycle) }
         ensures known { OnOk result (AreNormalForms self.new.cycles.items self.new.known.keys) }
     {
         let _edges = cycle.edges();

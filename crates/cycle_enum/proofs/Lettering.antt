@@ -6,7 +6,7 @@ use Rattle.std.proofs.lemmas.Bool.{and_parts, and_from}
 use Rattle.relax_edges.specs.declared.edge.Edge.{Edge}
 use Rattle.relax_edges.specs.Order.{rank_of}
 use Rattle.cycle_enum.specs.Letters.{IsFirstLetter, IsLetterFrom, HasLettersFrom}
-use Rattle.cycle_enum.specs.Marks.{is_marked_at, MarksExactly}
+use Rattle.cycle_enum.specs.LetterMarks.{is_marked_at, MarksExactly}
 
 module _ (one other : Edge → Type 0) (same : (e : Edge) → one e ↔ other e) where
   same_from : (from : ℕ) (found : Option Edge) → IsLetterFrom one from found → IsLetterFrom other from found

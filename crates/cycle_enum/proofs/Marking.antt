@@ -8,7 +8,7 @@ use Rattle.relax_edges.specs.Order.{rank_of}
 use Rattle.cycle_laws.proofs.RankLaws.{rank_below}
 use Rattle.cycle_laws.proofs.Ordering.{by_rank}
 use Rattle.walk_laws.specs.Search.{OccursIn, IsIn}
-use Rattle.cycle_enum.specs.Marks.{IsMarked, MarksAlso, MarksAlphabet}
+use Rattle.cycle_enum.specs.LetterMarks.{IsMarked, MarksAlso, MarksAlphabet}
 
 -- one edge is marked
 marked_one : (old : List Bool) (x e : Edge) → rank_of x < length old → IsMarked (set old (rank_of x) true) e ↔ ((IsMarked old e) ⊎ (x ≡ e))

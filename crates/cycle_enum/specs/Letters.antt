@@ -6,7 +6,7 @@ use Rattle.relax_edges.specs.declared.order.TheConstants.{EDGES}
 use Rattle.relax_edges.specs.declared.edge.Edge.{Edge}
 use Rattle.relax_edges.specs.Order.{rank_of}
 use Rattle.walk_laws.specs.Search.{OccursIn, IsSingle}
-use Rattle.cycle_enum.specs.Marks.{MarksExactly}
+use Rattle.cycle_enum.specs.LetterMarks.{MarksExactly}
 
 -- no letter has rank `from` or more, and below `to`
 abbrev pub NoLetter : (Edge → Type 0) → ℕ → ℕ → Type 0

@@ -1,4 +1,4 @@
-pub mod Ends
+pub mod WalkEnds
 pub mod Letters
-pub mod Marks
+pub mod LetterMarks
 pub mod Walking

@@ -27,8 +27,8 @@ pub record Says {F T : Type 0} (post : F → (Bor T × Unit {0}) → Bool → Ty
   pub met : post f (shown, tt) r
 
 -- a walk keeps a list: both of its pruners say yes on it
-abbrev pub Keeps : {K J P : Type 0} → (K → (Bor (List Edge) × Unit {0}) → Bool → Type 0) → (J → (Bor (List Edge) × Unit {0}) → Bool → Type 0) → Walking K J P → List Edge → Type 0
-Keeps keeps fits w = SayYes (Says keeps w.keep) (Says fits w.fit)
+abbrev pub KeepsList : {K J P : Type 0} → (K → (Bor (List Edge) × Unit {0}) → Bool → Type 0) → (J → (Bor (List Edge) × Unit {0}) → Bool → Type 0) → Walking K J P → List Edge → Type 0
+KeepsList keeps fits w = SayYes (Says keeps w.keep) (Says fits w.fit)
 
 -- the cycles that a walk lists: those in normal form that keep its limits, are made of its relaxations and are taken by its test
 abbrev pub Lists : {K J P : Type 0} → (P → (Bor (List Edge) × Unit {0}) → Bool → Type 0) → Walking K J P → List Edge → Type 0

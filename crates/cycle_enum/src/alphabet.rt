@@ -3,7 +3,7 @@ ghost use Rattle.std.specs.List.{AllByRecursion};
 ghost use Rattle.relax_edges.specs.Order.{rank_of};
 ghost use Rattle.cycle_laws.specs.Composable.{IsCycle, last_joins};
 ghost use Rattle.walk_laws.specs.Listing.{IsMadeOf};
-ghost use Rattle.walk_laws.specs.Search.{IsCandidate, IsExtended, IsNextEdge, IsRaised, IsSingle, LeadsNowhere, OccursIn};
+ghost use Rattle.walk_laws.specs.Search.{IsListCandidate, IsExtended, IsNextEdge, IsRaised, IsSingle, LeadsNowhere, OccursIn};
 ghost use Rattle.cycle_enum.specs.Letters.{least_rank};
 
 use crate::letters::{Letters, Marks, are_marked, first_letters, marks_of};
@@ -57,7 +57,7 @@ impl Alphabet {
     /// these whose last edge may follow the others. The list is empty where there is none.
     #[tactic(auto, using(cycle_laws::proofs::RankLaws::rank_below))]
     pub(crate) fn raise(&self, list: &mut Prefix)
-        ensures { IsRaised (IsCandidate self.now) list.old list.new }
+        ensures { IsRaised (IsListCandidate self.now) list.old list.new }
     {
         let _room = list.len();
         while let Some(last) = list.pop() {
@@ -75,7 +75,7 @@ impl Alphabet {
     /// the list. Where there is no such edge, it passes over all that begin with the list.
     pub(crate) fn extend(&self, list: &mut Prefix)
         requires { length list.old < MAX_EDGES }
-        ensures { IsExtended (IsCandidate self.now) list.old list.new }
+        ensures { IsExtended (IsListCandidate self.now) list.old list.new }
     {
         match self.next_edge(list.edges(), least_rank(list)) {
             Some(edge) => list.push(edge),
@@ -87,7 +87,7 @@ impl Alphabet {
     /// relaxation, and the last edge of the list joins it.
     fn next_edge(&self, list: &[Edge], from: u16) -> Option<Edge>
         requires { from ≤ EDGES }
-        ensures next { IsNextEdge (IsCandidate self.now) list.now from result }
+        ensures next { IsNextEdge (IsListCandidate self.now) list.now from result }
         ensures occurs { IfSome result (OccursIn self.now) }
         ensures joined { IfSome result (λ edge. last_joins list.now (edge ∷ []) ≡ true) }
     {

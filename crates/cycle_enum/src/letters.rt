@@ -2,7 +2,7 @@ ghost use Rattle.std.specs.Prelude.{◌≡◌};
 ghost use Rattle.std.specs.List.{list_all};
 ghost use Rattle.walk_laws.specs.Search.{OccursIn};
 ghost use Rattle.cycle_enum.specs.Letters.{HasLettersFrom};
-ghost use Rattle.cycle_enum.specs.Marks.{is_marked_at, IsMarked, MarksAlphabet, MarksAlso, MarksExactly};
+ghost use Rattle.cycle_enum.specs.LetterMarks.{is_marked_at, IsMarked, MarksAlphabet, MarksAlso, MarksExactly};
 
 use relax_edges::{EDGES, Edge, Relax};
 

@@ -1,9 +1,9 @@
 ghost use Rattle.std.specs.Prelude.{◌≡◌, ◌<◌, ◌≤◌, ◌+◌, ◌↔◌, [], length, IsTrue, IsFalse};
 ghost use Rattle.std.specs.List.{list_any};
 ghost use Rattle.walk_laws.specs.Listing.{IsConcatenation, IsMadeOf};
-ghost use Rattle.walk_laws.specs.Reading.{fits, leads, suffixes_read, suffix_leads};
+ghost use Rattle.walk_laws.specs.RelaxationReading.{begins_with_path, leads, suffixes_read, suffix_leads};
 ghost use Rattle.walk_laws.specs.Search.{LeadsNowhere};
-ghost use Rattle.cycle_enum.specs.Ends.{is_inside};
+ghost use Rattle.cycle_enum.specs.WalkEnds.{is_inside};
 
 use arrayvec::ArrayVec;
 use edge_algebra::Cycle;
@@ -131,7 +131,7 @@ fn leads(end: End, relax: &[Edge], list: &[Edge], read: &[bool]) -> bool
 
 /// Whether a list begins with a relaxation, or, where it may end inside one, is a prefix of it.
 fn fits(end: End, relax: &[Edge], list: &[Edge]) -> bool
-    ensures { result ≡ fits (is_inside end) relax.now list.now }
+    ensures { result ≡ begins_with_path (is_inside end) relax.now list.now }
 {
     match relax {
         [] => true,

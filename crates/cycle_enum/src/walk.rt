@@ -4,9 +4,9 @@ ghost use Rattle.walk_laws.specs.Counting.{later};
 ghost use Rattle.walk_laws.specs.Listing.{IsAnswer, KeepsLimits};
 ghost use Rattle.relax_edges.specs.Order.{rank_of};
 ghost use Rattle.cycle_laws.specs.Composable.{IsCycle, is_joined};
-ghost use Rattle.cycle_laws.specs.Order.{IsLeast, IsNormal};
+ghost use Rattle.cycle_laws.specs.CycleOrder.{IsLeast, IsNormal};
 ghost use Rattle.walk_laws.specs.Search.{IsCut, IsFirst, LeadsNowhere, LongerThan, OfLength};
-ghost use Rattle.cycle_enum.specs.Walking.{Keeps, KnowsOf, Lists, Walking};
+ghost use Rattle.cycle_enum.specs.Walking.{KeepsList, KnowsOf, Lists, Walking};
 
 use crate::alphabet::{Alphabet, closes};
 use crate::limits::Limits;
@@ -173,7 +173,7 @@ impl<K: Fn(&[Edge]) -> bool, J: Fn(&[Edge]) -> bool, P: Fn(&Cycle) -> bool> Walk
         requires knows { KnowsOf K.pre K.Fn.post J.pre J.Fn.post P.pre P.Fn.post self.now.keep self.now.fit self.now.take }
         requires few { length edges.now ≤ MAX_EDGES }
         requires empty { list.old ≡ [] }
-        ensures { IsCut (Lists P.Fn.post self.now) (Keeps K.Fn.post J.Fn.post self.now) edges.now list.new }
+        ensures { IsCut (Lists P.Fn.post self.now) (KeepsList K.Fn.post J.Fn.post self.now) edges.now list.new }
     {
         for edge in edges {
             list.push(*edge);
@@ -189,7 +189,7 @@ impl<K: Fn(&[Edge]) -> bool, J: Fn(&[Edge]) -> bool, P: Fn(&Cycle) -> bool> Walk
         requires few { len ≤ MAX_EDGES }
         requires limits { KeepsLimits self.now.limits.size self.now.limits.exact len }
         requires within { length list.old ≤ len }
-        requires kept { KeptBelow (Keeps K.Fn.post J.Fn.post self.now) (length list.old) list.old }
+        requires kept { KeptBelow (KeepsList K.Fn.post J.Fn.post self.now) (length list.old) list.old }
         requires none { found.old ≡ None }
         ensures { IsFirst (OfLength len (Lists P.Fn.post self.now)) list.old found.new }
     {
@@ -214,7 +214,7 @@ impl<K: Fn(&[Edge]) -> bool, J: Fn(&[Edge]) -> bool, P: Fn(&Cycle) -> bool> Walk
         requires knows { KnowsOf K.pre K.Fn.post J.pre J.Fn.post P.pre P.Fn.post self.now.keep self.now.fit self.now.take }
         requires some { 0 < length list.now }
         requires few { length list.now ≤ MAX_EDGES }
-        ensures kept { IsTrue result → Keeps K.Fn.post J.Fn.post self.now list.now }
+        ensures kept { IsTrue result → KeepsList K.Fn.post J.Fn.post self.now list.now }
         ensures refused { IsFalse result → LeadsNowhere (Lists P.Fn.post self.now) list.now }
     {
         if !may_begin(list.ranks()) {
@@ -231,7 +231,7 @@ impl<K: Fn(&[Edge]) -> bool, J: Fn(&[Edge]) -> bool, P: Fn(&Cycle) -> bool> Walk
         requires knows { KnowsOf K.pre K.Fn.post J.pre J.Fn.post P.pre P.Fn.post self.now.keep self.now.fit self.now.take }
         requires some { 0 < length list.now }
         requires few { length list.now ≤ MAX_EDGES }
-        ensures kept { IsTrue result → Keeps K.Fn.post J.Fn.post self.now list.now }
+        ensures kept { IsTrue result → KeepsList K.Fn.post J.Fn.post self.now list.now }
         ensures refused { IsFalse result → LeadsNowhere (Lists P.Fn.post self.now) list.now }
     {
         (self.keep)(list) && (self.fit)(list)
@@ -243,7 +243,7 @@ impl<K: Fn(&[Edge]) -> bool, J: Fn(&[Edge]) -> bool, P: Fn(&Cycle) -> bool> Walk
         requires limits { KeepsLimits self.now.limits.size self.now.limits.exact (length list.now) }
         requires some { 0 < length list.now }
         requires few { length list.now ≤ MAX_EDGES }
-        requires kept { KeptBelow (Keeps K.Fn.post J.Fn.post self.now) (length list.now) list.now }
+        requires kept { KeptBelow (KeepsList K.Fn.post J.Fn.post self.now) (length list.now) list.now }
         ensures found { IsTrue result → found.new ≡ Some list.now }
         ensures listed { IsTrue result → Lists P.Fn.post self.now list.now }
         ensures same { IsFalse result → found.new ≡ found.old }
@@ -269,7 +269,7 @@ impl<K: Fn(&[Edge]) -> bool, J: Fn(&[Edge]) -> bool, P: Fn(&Cycle) -> bool> Walk
         requires knows { KnowsOf K.pre K.Fn.post J.pre J.Fn.post P.pre P.Fn.post self.now.keep self.now.fit self.now.take }
         requires limits { KeepsLimits self.now.limits.size self.now.limits.exact (length list.now) }
         requires normal { IsNormal list.now }
-        requires kept { KeptWhole (Keeps K.Fn.post J.Fn.post self.now) list.now }
+        requires kept { KeptWhole (KeepsList K.Fn.post J.Fn.post self.now) list.now }
         ensures found { IsTrue result → found.new ≡ Some list.now }
         ensures listed { IsTrue result → Lists P.Fn.post self.now list.now }
         ensures same { IsFalse result → found.new ≡ found.old }
@@ -289,7 +289,7 @@ impl<K: Fn(&[Edge]) -> bool, J: Fn(&[Edge]) -> bool, P: Fn(&Cycle) -> bool> Walk
         requires knows { KnowsOf K.pre K.Fn.post J.pre J.Fn.post P.pre P.Fn.post self.now.keep self.now.fit self.now.take }
         requires limits { KeepsLimits self.now.limits.size self.now.limits.exact (length cycle.now) }
         requires normal { IsNormal cycle.now }
-        requires kept { KeptWhole (Keeps K.Fn.post J.Fn.post self.now) cycle.now }
+        requires kept { KeptWhole (KeepsList K.Fn.post J.Fn.post self.now) cycle.now }
         ensures listed { IsTrue result → Lists P.Fn.post self.now cycle.now }
         ensures other { IsFalse result → Lists P.Fn.post self.now cycle.now → ⊥ }
     {

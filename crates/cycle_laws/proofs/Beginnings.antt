@@ -3,7 +3,7 @@ use Rattle.std.proofs.Common.{◌≡◌, inl, inr, false, not, List, [], ◌∷�
 use Rattle.std.proofs.lemmas.Bool.{and_cases, not-false}
 use Rattle.relax_edges.specs.declared.edge.Edge.{Edge}
 use Rattle.relax_edges.specs.Order.{rank_of}
-use Rattle.cycle_laws.specs.Order.{Above, IsNormal, ranks_below}
+use Rattle.cycle_laws.specs.CycleOrder.{Above, IsNormal, ranks_below}
 use Rattle.cycle_laws.specs.Beginning.{none_below, may_begin}
 use Rattle.cycle_laws.proofs.Ordering.{above_of_ranks, above_longer}
 

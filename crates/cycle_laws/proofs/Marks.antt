@@ -17,7 +17,7 @@ use Rattle.relax_edges.specs.Marks.{markable_kind, marks_source, marks_target, m
 use Rattle.relax_edges.specs.EdgeTable.{kind_of, source_of, target_of, kind_source, kind_target, source_mark, target_mark, mark_fits, mark_is_of, kind_is_of, is_of_arch, same_mark, unmarked, marked_of, marked_edge}
 use Rattle.relax_edges.specs.Order.{rank_of}
 use Rattle.relax_edges.specs.AllEdges.{edges_in_order}
-use Rattle.relax_edges.specs.Reading.{marks_read}
+use Rattle.relax_edges.specs.WordReading.{marks_read}
 use Rattle.cycle_laws.proofs.RankLaws.{each_edge, rank_injective}
 use Rattle.cycle_laws.proofs.SpellingLaws.{each_mark, each_kind, kind_of_unmarked}
 use Rattle.cycle_laws.proofs.Joining.{same_mark_is}

@@ -4,7 +4,7 @@ use Rattle.std.proofs.lemmas.Bool.{cases_order, or_cases, and_parts, or_left, or
 use Rattle.relax_edges.specs.declared.edge.Edge.{Edge}
 use Rattle.relax_edges.specs.Order.{rank_of}
 use Rattle.cycle_laws.proofs.RankLaws.{rank_injective}
-use Rattle.cycle_laws.specs.Order.{Above, ranks_below, Follows}
+use Rattle.cycle_laws.specs.CycleOrder.{Above, ranks_below, Follows}
 
 -- a list is not above itself
 pub above_irreflexive : (u : List Edge) → Above u u → ⊥

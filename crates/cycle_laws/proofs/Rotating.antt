@@ -5,7 +5,7 @@ use Rattle.std.proofs.lemmas.Bool.{cases_lt}
 use Rattle.relax_edges.specs.declared.edge.Edge.{Edge}
 use Rattle.cycle_laws.specs.Rotation.{IsRotation, rotated}
 use Rattle.cycle_laws.specs.Laws.{Place}
-use Rattle.cycle_laws.specs.Order.{Above, IsNormal, IsLeast}
+use Rattle.cycle_laws.specs.CycleOrder.{Above, IsNormal, IsLeast}
 use Rattle.cycle_laws.proofs.Ordering.{same_if_not_above}
 use Rattle.std.proofs.Math.Seq.{take-append-add}
 
@@ -20,17 +20,17 @@ rotation_back u v r = record { prefix = r.back; back = r.prefix; from = r.to; to
 -- two ways to cut one list: the first cut comes first, with a part between the two, or the second does
 pub data Cuts (a b c d : List Edge) : Type 0 where
   before : (between : List Edge) → c ≡ a ++ between → b ≡ between ++ d → Cuts a b c d
-  behind : (between : List Edge) → a ≡ c ++ between → d ≡ between ++ b → Cuts a b c d
+  remainder : (between : List Edge) → a ≡ c ++ between → d ≡ between ++ b → Cuts a b c d
 
 -- which of two cuts of one list comes first
 pub cuts : (a b c d : List Edge) → a ++ b ≡ c ++ d → Cuts a b c d
 cuts [] b c d e = before c refl e
-cuts (x ∷ a) b [] d e = behind (x ∷ a) refl (sym e)
+cuts (x ∷ a) b [] d e = remainder (x ∷ a) refl (sym e)
 cuts (x ∷ a) b (y ∷ c) d e =
     let h : x ≡ y = cc in
     elim (cuts a b c d (cc)) [
       | before m p q ↦ before m (cc) q
-      | behind m p q ↦ behind m (cc) q
+      | remainder m p q ↦ remainder m (cc) q
     ]
 
 -- a rotation of a rotation is a rotation
@@ -43,7 +43,7 @@ rotation_on u v w r s =
         from = r.from ∙ rw q (append_assoc m s.back r.back);
         to = s.to ∙ rw p (sym (append_assoc s.back r.back m));
       }
-      | behind m p q ↦ record {
+      | remainder m p q ↦ record {
         prefix = r.prefix ++ s.prefix;
         back = m;
         from = r.from ∙ rw p (sym (append_assoc r.prefix s.prefix m));

@@ -1,11 +1,11 @@
 -- Laws of the words and spellings of edges, for the crates above.
 use Rattle.std.specs.Prelude.{◌≡◌, Some, ℕ, true, List, Bool, ◌≤◌, length}
 use Rattle.relax_edges.specs.declared.edge.Edge.{Edge}
-use Rattle.relax_edges.specs.Words.{word_of}
+use Rattle.relax_edges.specs.WordParts.{word_of}
 use Rattle.relax_edges.specs.Spelling.{edge_of, is_spelling}
 use Rattle.std.specs.List.{list_all}
 use Rattle.relax_edges.specs.declared.kinds.Mark.{Mark}
-use Rattle.relax_edges.specs.Reading.{marks_read}
+use Rattle.relax_edges.specs.WordReading.{marks_read}
 use Rattle.relax_edges.proofs.Spellings as spellings
 use Rattle.relax_edges.specs.declared.kinds.Kind.{Kind}
 use Rattle.relax_edges.specs.EdgeTable.{kind_of, unmarked}

@@ -4,7 +4,7 @@ use Rattle.relax_edges.specs.declared.kinds.Kind.{Kind}
 use Rattle.relax_edges.specs.declared.kinds.Mark.{Mark}
 use Rattle.relax_edges.specs.declared.edge.Edge.{Edge}
 use Rattle.relax_edges.specs.EdgeTable.{kind_of, source_of, target_of, source_mark, target_mark, mark_fits, marked_edge}
-use Rattle.relax_edges.specs.Words.{word_of}
+use Rattle.relax_edges.specs.WordParts.{word_of}
 use Rattle.relax_edges.specs.Spelling.{is_spelling, edge_of}
 
 -- a word and its edge determine each other

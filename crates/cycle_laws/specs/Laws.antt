@@ -3,7 +3,7 @@ use Rattle.std.specs.Prelude.{◌≡◌, ◌<◌, ◌⊎◌, ◌↔◌, ℕ, ◌
 use Rattle.relax_edges.specs.declared.edge.Edge.{Edge}
 use Rattle.cycle_laws.specs.Composable.{is_closed, IsCycle, JoinsNext}
 use Rattle.cycle_laws.specs.Rotation.{IsRotation, rotated}
-use Rattle.cycle_laws.specs.Order.{Above, Follows, IsNormal, IsLeast}
+use Rattle.cycle_laws.specs.CycleOrder.{Above, Follows, IsNormal, IsLeast}
 use Rattle.cycle_laws.specs.Beginning.{may_begin}
 
 -- being the same cycle is an equivalence

@@ -1,6 +1,6 @@
 pub mod Beginning
 pub mod Composable
 pub mod Laws
-pub mod Order
+pub mod CycleOrder
 pub mod Rotation
 pub mod EdgeLaws

@@ -5,7 +5,7 @@ use Rattle.std.proofs.lemmas.List.Sums.{AllPass-from_list_all}
 use Rattle.std.proofs.lemmas.Bool.{not-true}
 use Rattle.text_laws.specs.Cuts.{is_without, CutParts}
 use Rattle.cycle_lines.specs.Cycles.{after_colon, without_label}
-use Rattle.cycle_lines.specs.Steps.{Without, CutsAt}
+use Rattle.cycle_lines.specs.LineSteps.{Without, CutsAtSign}
 use Rattle.cycle_lines.proofs.LineLaws.{without_first, without_rest}
 
 -- bytes that pass a test that no byte is a sign hold none
@@ -13,7 +13,7 @@ pub without_is : (sign : ℕ) (text : List ℕ) → is_without sign text ≡ tru
 without_is sign text h i d k = not-true (get_or text i d == sign) (AllPass-from_list_all (λ byte. not (byte == sign)) text h i d k)
 
 -- a text that is cut at the first place of a sign has none before it
-pub cuts_are : (sign : ℕ) (text prefix later : List ℕ) → CutParts sign text prefix later → CutsAt sign text prefix later
+pub cuts_are : (sign : ℕ) (text prefix later : List ℕ) → CutParts sign text prefix later → CutsAtSign sign text prefix later
 cuts_are sign text prefix later cut = record { without = without_is sign prefix cut.first; parts = cut.parts }
 
 -- what comes after a label

@@ -9,9 +9,9 @@ use Rattle.list_laws.proofs.Cases.{by_test}
 use Rattle.diy_io.specs.Sink.{line_feed_count}
 use Rattle.text_laws.specs.Lines.{is_line_feed, without_return, but_last, last_of}
 use Rattle.text_laws.proofs.PieceLaws.{first_piece, split_append, but_last_append, last_append}
-use Rattle.cycle_lines.specs.Lines.{ended_lines, unended, last_line, lines_of}
-use Rattle.cycle_lines.specs.Cycles.{is_too_long}
-use Rattle.cycle_lines.specs.Steps.{Without}
+use Rattle.cycle_lines.specs.CycleLines.{ended_lines, unended, last_line, lines_of}
+use Rattle.cycle_lines.specs.Cycles.{is_long_line}
+use Rattle.cycle_lines.specs.LineSteps.{Without}
 
 -- new lines begin after a line feed
 split_after : (a b : List ℕ) (l : List ℕ) (ls : List (List ℕ)) → unended a ≡ [] → slice_split is_line_feed b ≡ l ∷ ls →
@@ -115,15 +115,15 @@ return_one (b ∷ []) = by_test (b == 13) (λ e. rw e (omega arith)) (λ e. rw e
 return_one (b ∷ c ∷ text) = let further = return_one (c ∷ text) in omega arith
 
 -- a line that isn't too long without its return is hardly longer with it
-pub short_pending : (text : List ℕ) → is_too_long (without_return text) ≡ false → length text ≤ 4097
+pub short_pending : (text : List ℕ) → is_long_line (without_return text) ≡ false → length text ≤ 4097
 short_pending text h = let one = return_one text in grind (arith, nat_tests, one, h)
 
 -- a line of more than 4096 bytes is too long
-pub is_long : (text line : List ℕ) → line ≡ text → 4096 < length line → is_too_long text ≡ true
+pub is_long : (text line : List ℕ) → line ≡ text → 4096 < length line → is_long_line text ≡ true
 is_long text line e h = let k = ap length e in grind (arith, nat_tests, k, h)
 
 -- a line of at most 4096 bytes isn't too long
-pub is_short : (text line : List ℕ) → line ≡ text → length line ≤ 4096 → is_too_long text ≡ false
+pub is_short : (text line : List ℕ) → line ≡ text → length line ≤ 4096 → is_long_line text ≡ false
 is_short text line e h = let k = ap length e in grind (arith, nat_tests, k, h)
 
 -- a line that is too long
@@ -131,17 +131,17 @@ pub record LongFirst (lines : List (List ℕ)) : Type 0 where
   pub line : List ℕ
   pub later : List (List ℕ)
   pub is : lines ≡ line ∷ later
-  pub long : is_too_long line ≡ true
+  pub long : is_long_line line ≡ true
 
-long_by : (a b : List ℕ) → length a ≤ length b → is_too_long a ≡ true → is_too_long b ≡ true
+long_by : (a b : List ℕ) → length a ≤ length b → is_long_line a ≡ true → is_long_line b ≡ true
 long_by a b h e = grind (arith, nat_tests, h, e)
 
-some_line : (text : List ℕ) → is_too_long text ≡ true → last_line text ≡ text ∷ []
+some_line : (text : List ℕ) → is_long_line text ≡ true → last_line text ≡ text ∷ []
 some_line [] h = cc h
 some_line (b ∷ text) h = refl
 
 -- a text that is one line and is too long: so is the first line of each text that begins with it
-pub long_first : (text rest : List ℕ) → Without 10 text → is_too_long (without_return text) ≡ true → LongFirst (lines_of (text ++ rest))
+pub long_first : (text rest : List ℕ) → Without 10 text → is_long_line (without_return text) ≡ true → LongFirst (lines_of (text ++ rest))
 unfolding ended_lines unended
 long_first text rest h long =
     let first = first_piece is_line_feed rest in
@@ -150,11 +150,11 @@ long_first text rest h long =
     split_append is_line_feed text rest first.piece first.rest first.is ∙ ap (λ t. but_last t ++ (last_of t ++ first.piece) ∷ first.rest) alone in
     by_rest first.piece first.rest split
   where
-    kept : (line : List ℕ) → is_too_long (text ++ line) ≡ true
+    kept : (line : List ℕ) → is_long_line (text ++ line) ≡ true
     kept line = long_by (without_return text) (text ++ line) (omega (arith, return_short text, length-append text line)) long
 
-    kept_return : (line : List ℕ) → is_too_long (without_return (text ++ line)) ≡ true
-    kept_return [] = ap (λ t. is_too_long (without_return t)) (append-nil text) ∙ long
+    kept_return : (line : List ℕ) → is_long_line (without_return (text ++ line)) ≡ true
+    kept_return [] = ap (λ t. is_long_line (without_return t)) (append-nil text) ∙ long
     kept_return (b ∷ line) =
         long_by (without_return text) (without_return (text ++ b ∷ line))
         (omega (arith, return_short text, return_one (text ++ b ∷ line), length-append text (b ∷ line))) long

@@ -12,17 +12,17 @@ use Rattle.diy_io.specs.Wrote.{SinkSeen, WroteAll, WrotePart}
 use Rattle.diy_io.specs.WroteLaws.{all_then_all, all_then_part, part_more}
 use Rattle.relax_edges.specs.declared.kinds.ArchName.{ArchName}
 use Rattle.relax_edges.specs.declared.edge.Edge.{Edge}
-use Rattle.relax_edges.specs.Words.{word_of}
-use Rattle.cycle_names.specs.Names.{name_of}
+use Rattle.relax_edges.specs.WordParts.{word_of}
+use Rattle.cycle_names.specs.CycleNames.{name_of}
 use Rattle.cycle_names.specs.Rotations.{named_rotation}
 use Rattle.cycle_lines.specs.declared.errors.LineKind.{LineKind}
 use Rattle.cycle_lines.specs.declared.errors.LinesError.{LinesError}
 use Rattle.cycle_lines.specs.declared.errors.LinesError.TheVariants.{Wrong}
 use Rattle.cycle_lines.specs.declared.errors.NormError.{NormError}
 use Rattle.cycle_lines.specs.declared.errors.NormError.TheVariants.{Lines, OutFault}
-use Rattle.cycle_lines.specs.Reading.{ReadAll, ReadUpTo}
+use Rattle.cycle_lines.specs.LineReading.{ReadAll, ReadUpTo}
 use Rattle.cycle_lines.specs.Normed.{name_line, name_lines, last_lines, WritesLast, NormedUpTo, NormedPart, Norms}
-use Rattle.cycle_lines.specs.Steps.{ReaderSeen, HasRead, GivesLine, last_cycle}
+use Rattle.cycle_lines.specs.LineSteps.{ReaderSeen, HasRead, GivesLine, last_cycle}
 use Rattle.cycle_lines.proofs.ReadLaws.{Before, nothing_read, line_given, fault_given, no_cycles, given_before, all_before}
 
 -- a name, a colon and a blank, and the words of the edges make the line of a cycle

@@ -23,10 +23,10 @@ use Rattle.cycle_lines.specs.declared.reader.Found.{Found}
 use Rattle.cycle_lines.specs.declared.reader.Found.TheVariants.{Next, Last}
 use Rattle.cycle_lines.specs.declared.reader.Line.{Line}
 use Rattle.text_laws.specs.Lines.{without_return}
-use Rattle.cycle_lines.specs.Lines.{ended_lines, unended, last_line, lines_of}
-use Rattle.cycle_lines.specs.Cycles.{line_said, fault_of, is_sound, are_sound, cycle_said, cycles_of, is_too_long}
-use Rattle.cycle_lines.specs.Reading.{TookUpTo, Untouched, ReadAll, ReadToFault, ReadToLimit, ReadToStop, ReadSome, whole_of, cycles_before}
-use Rattle.cycle_lines.specs.Steps.{Without, CutsAt, ReaderSeen, HasRead, GivesLine, GivesNext, said_by, work, Fills, FillsBuffer, Ended, Stops, Ends, LessToDo, Continues, last_cycle}
+use Rattle.cycle_lines.specs.CycleLines.{ended_lines, unended, last_line, lines_of}
+use Rattle.cycle_lines.specs.Cycles.{line_said, line_fault, is_sound, are_sound, cycle_said, cycles_of, is_long_line}
+use Rattle.cycle_lines.specs.LineReading.{TookUpTo, Untouched, ReadAll, ReadToFault, ReadToLimit, ReadToStop, ReadSome, whole_of, cycles_before}
+use Rattle.cycle_lines.specs.LineSteps.{Without, CutsAtSign, ReaderSeen, HasRead, GivesLine, GivesNext, line_said_by, work, Fills, FillsBuffer, Ended, Stops, Ends, LessToDo, Continues, last_cycle}
 use Rattle.cycle_lines.proofs.LineLaws.{ended_after, unended_after, lines_after, ended_none, unended_all, ended_nil, unended_nil, ended_cut, unended_cut, lines_cut, short_pending, long_first, ended_count}
 
 -- bytes that are taken one after another
@@ -125,7 +125,7 @@ last_said (Some c) = refl
 one_cycle : (arch : ArchName) (line : List ℕ) (said : Option (List Edge)) → Ok said ≡ line_said arch line → cycles_of arch (line ∷ []) ≡ last_cycle said
 one_cycle arch line said e = rw (sym e) (last_said said)
 
-one_fault : (arch : ArchName) (line : List ℕ) (kind : LineKind) → Err kind ≡ line_said arch line → fault_of arch line ≡ Some kind
+one_fault : (arch : ArchName) (line : List ℕ) (kind : LineKind) → Err kind ≡ line_said arch line → line_fault arch line ≡ Some kind
 one_fault arch line kind e = ap result_err (sym e)
 
 -- a line that was given, without a fault
@@ -158,7 +158,7 @@ took_pending arch s t r cycles h some = took_some s t (h.given ++ r.pending) h.t
 
 -- lines before a fault
 fault_first : (arch : ArchName) (s t : SourceSeen) (r : ReaderSeen) (cycles : List (List Edge)) (line : List ℕ) (later : List (List ℕ)) (kind : LineKind) (h : HasRead arch s t r cycles) →
-    Took s t (h.given ++ r.pending) → lines_of (r.pending ++ unwrap_or t.left []) ≡ line ∷ later → fault_of arch line ≡ Some kind → ReadToFault arch s t cycles r.line kind
+    Took s t (h.given ++ r.pending) → lines_of (r.pending ++ unwrap_or t.left []) ≡ line ∷ later → line_fault arch line ≡ Some kind → ReadToFault arch s t cycles r.line kind
 fault_first arch s t r cycles line later kind h took e f = record {
   text = h.given ++ r.pending;
   before = ended_lines h.given;
@@ -190,18 +190,18 @@ fault_given arch s t r q cycles line kind h g e =
     ∙ lines_cut g.bytes (q.pending ++ unwrap_or t.left []) g.cut.without)
     (one_fault arch (without_return g.bytes) kind g.says))
 
-long_fault : (arch : ArchName) (line : List ℕ) → is_too_long line ≡ true → fault_of arch line ≡ Some LineTooLong
+long_fault : (arch : ArchName) (line : List ℕ) → is_long_line line ≡ true → line_fault arch line ≡ Some LineTooLong
 unfolding line_said
 long_fault arch line h = rw h refl
 
-some_long : (text : List ℕ) → is_too_long (without_return text) ≡ true → 0 < length text
+some_long : (text : List ℕ) → is_long_line (without_return text) ≡ true → 0 < length text
 unfolding without_return
 some_long [] h = cc h
 some_long (b ∷ text) h = omega arith
 
 -- a line that goes on is too long already
 pub long_given : (arch : ArchName) (s t : SourceSeen) (r : ReaderSeen) (cycles : List (List Edge)) →
-    HasRead arch s t r cycles → Without 10 r.pending → is_too_long (without_return r.pending) ≡ true → ReadToFault arch s t cycles r.line LineTooLong
+    HasRead arch s t r cycles → Without 10 r.pending → is_long_line (without_return r.pending) ≡ true → ReadToFault arch s t cycles r.line LineTooLong
 long_given arch s t r cycles h one long =
     let first = long_first r.pending (unwrap_or t.left []) one long in
     fault_first arch s t r cycles first.line first.later LineTooLong h (took_pending arch s t r cycles h (some_long r.pending long)) first.is (long_fault arch first.line first.long)
@@ -226,7 +226,7 @@ more_read arch s t u r q cycles count h f =
 
 -- how many bytes of a buffer are pending, where they are a line that isn't too long
 pub short_count : (buffer pending : List ℕ) (start end : ℕ) → take (end - start) (drop start buffer) ≡ pending → start ≤ end → end ≤ length buffer →
-    is_too_long (without_return pending) ≡ false → end - start ≤ 4097
+    is_long_line (without_return pending) ≡ false → end - start ≤ 4097
 short_count buffer pending start end e order inside short =
     let size = length-take-le (end - start) (drop start buffer) (omega (arith, order, inside, length-drop start buffer)) in
     omega (arith, size, ap length e, short_pending pending short)
@@ -262,7 +262,7 @@ unended_given arch s t r cycles h one = unended_after h.given r.pending h.ended 
 
 -- the source stopped
 pub stopped_there : (arch : ArchName) (s t u : SourceSeen) (r : ReaderSeen) (cycles : List (List Edge)) →
-    HasRead arch s t r cycles → Without 10 r.pending → is_too_long (without_return r.pending) ≡ false → Stops t u → ReadToStop arch s u cycles
+    HasRead arch s t r cycles → Without 10 r.pending → is_long_line (without_return r.pending) ≡ false → Stops t u → ReadToStop arch s u cycles
 stopped_there arch s t u r cycles h one short stop =
     let ended = ended_given arch s t r cycles h one in
     record {
@@ -272,7 +272,7 @@ stopped_there arch s t u r cycles h one short stop =
       fault = subst (λ n. Rose n u.faults) h.no_fault stop.fault;
       never_falls = subst (λ n. n ≤ u.faults) h.no_fault stop.never_falls;
       sound = ap (are_sound arch) ended ∙ h.sound;
-      short = ap (λ b. is_too_long (without_return b)) (unended_given arch s t r cycles h one) ∙ short;
+      short = ap (λ b. is_long_line (without_return b)) (unended_given arch s t r cycles h one) ∙ short;
       cycles_are = h.cycles_are ∙ ap (cycles_of arch) (sym ended);
     }
 
@@ -282,7 +282,7 @@ take_prefix (x ∷ xs) ys = ap (λ t. x ∷ t) (take_prefix xs ys)
 
 -- one byte more than is read
 pub past_limit : (arch : ArchName) (s t u : SourceSeen) (r : ReaderSeen) (cycles : List (List Edge)) (bytes : List ℕ) →
-    HasRead arch s t r cycles → Without 10 r.pending → is_too_long (without_return r.pending) ≡ false → r.taken ≡ MAX_INPUT →
+    HasRead arch s t r cycles → Without 10 r.pending → is_long_line (without_return r.pending) ≡ false → r.taken ≡ MAX_INPUT →
     Took t u bytes → 0 < length bytes → u.faults ≡ t.faults → ReadToLimit arch s u cycles r.line
 past_limit arch s t u r cycles bytes h one short full took some no_fault =
     let text = h.given ++ r.pending in
@@ -295,7 +295,7 @@ past_limit arch s t u r cycles bytes h one short full took some no_fault =
       many = omega (arith, size, some, length-append text bytes);
       no_fault = no_fault ∙ h.no_fault;
       sound = ap (λ b. are_sound arch (ended_lines b)) prefix ∙ ap (are_sound arch) ended ∙ h.sound;
-      short = ap (λ b. is_too_long (without_return (unended b))) prefix ∙ ap (λ b. is_too_long (without_return b)) (unended_given arch s t r cycles h one) ∙ short;
+      short = ap (λ b. is_long_line (without_return (unended b))) prefix ∙ ap (λ b. is_long_line (without_return b)) (unended_given arch s t r cycles h one) ∙ short;
       line_is = h.line_is ∙ ap (λ ls. length ls + 1) (sym ended) ∙ ap (λ n. n + 1) (ended_count text) ∙ ap (λ b. line_feed_count b + 1) (sym prefix);
       cycles_are = h.cycles_are ∙ ap (cycles_of arch) (sym ended) ∙ ap (λ b. cycles_of arch (ended_lines b)) (sym prefix);
     }
@@ -452,7 +452,7 @@ drop_take (x ∷ xs) (suc k) zero = let e : zero - suc k ≡ 0 = omega arith in 
 drop_take (x ∷ xs) (suc k) (suc m) = let e : suc m - suc k ≡ m - k = omega arith in rw e (drop_take xs k m)
 
 -- the bytes of a buffer after a line that was cut off and its line feed are what is pending
-pub buffer_left : (buffer pending bytes later : List ℕ) (start end next : ℕ) → pending ≡ take (end - start) (drop start buffer) → CutsAt 10 pending bytes later →
+pub buffer_left : (buffer pending bytes later : List ℕ) (start end next : ℕ) → pending ≡ take (end - start) (drop start buffer) → CutsAtSign 10 pending bytes later →
     next ≡ start + (length bytes + 1) → take (end - next) (drop next buffer) ≡ later
 buffer_left buffer pending bytes later start end next e cut n =
     let k = length bytes + 1 in
@@ -464,7 +464,7 @@ buffer_left buffer pending bytes later start end next e cut n =
     ∙ sym (drop_take (drop start buffer) (length bytes + 1) (end - start)) ∙ ap (drop (length bytes + 1)) (sym e) ∙ after_is
 
 -- a line that was given is the next line
-pub given_next : (arch : ArchName) (r q : ReaderSeen) (cycle : Option (List Edge)) (line : Line) (said : Result (Option (List Edge)) LineKind) → said_by line cycle ≡ Some said → GivesLine arch r q said → GivesNext arch r q cycle line
+pub given_next : (arch : ArchName) (r q : ReaderSeen) (cycle : Option (List Edge)) (line : Line) (said : Result (Option (List Edge)) LineKind) → line_said_by line cycle ≡ Some said → GivesLine arch r q said → GivesNext arch r q cycle line
 given_next arch r q cycle line said e h = subst (λ o. MatchOption o (Without 10 r.pending × (q ≡ r)) (λ said. GivesLine arch r q said)) (sym e) h
 
 -- a line is taken off the work
@@ -472,9 +472,9 @@ pub line_less : (arch : ArchName) (r q : ReaderSeen) (said : Result (Option (Lis
 line_less arch r q said g = omega (arith, g.taken_is, ap length g.cut.parts, length-append g.bytes (10 ∷ q.pending))
 
 -- the line that is cut off the pending bytes is given
-pub given_line : (arch : ArchName) (r q : ReaderSeen) (bytes later : List ℕ) (said : Result (Option (List Edge)) LineKind) → CutsAt 10 r.pending bytes later → q.pending ≡ later →
+pub given_line : (arch : ArchName) (r q : ReaderSeen) (bytes later : List ℕ) (said : Result (Option (List Edge)) LineKind) → CutsAtSign 10 r.pending bytes later → q.pending ≡ later →
     said ≡ line_said arch (without_return bytes) → q.line ≡ r.line + 1 → q.taken ≡ r.taken → GivesLine arch r q said
-given_line arch r q bytes later said cut e says line taken = record { bytes = bytes; cut = subst (CutsAt 10 r.pending bytes) (sym e) cut; says = says; line_is = line; taken_is = taken }
+given_line arch r q bytes later said cut e says line taken = record { bytes = bytes; cut = subst (CutsAtSign 10 r.pending bytes) (sym e) cut; says = says; line_is = line; taken_is = taken }
 
 -- a text that was read is not empty
 pub some_read : (buffer : List ℕ) (count : ℕ) → (count ≡ 0 → ⊥) → length buffer ≡ 1 → 0 < length (take count buffer)

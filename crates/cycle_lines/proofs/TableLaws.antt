@@ -28,28 +28,28 @@ use Rattle.relax_edges.specs.declared.edge.Edge.{Edge}
 use Rattle.cycle_names.specs.declared.family.Family.{Family}
 use Rattle.cycle_names.specs.declared.family.Family.TheVariants as families
 use Rattle.cycle_names.specs.Families.{family_word}
-use Rattle.cycle_names.specs.Names.{name_of}
+use Rattle.cycle_names.specs.CycleNames.{name_of}
 use Rattle.cycle_names.specs.Rotations.{family_of}
 use Rattle.cycle_lines.specs.declared.table.FamilyNames.{FamilyNames}
-use Rattle.cycle_lines.specs.Reading.{ReadAll}
-use Rattle.cycle_lines.specs.Classified.{families_in_order, is_family, with_text, family_names, name_entry, family_text, families_text, ReadsPart, ClassifiedAll, ClassifiedPart}
-use Rattle.cycle_lines.specs.Tables.{place_of, texts_of, Entry, entry_view, entry_text, table_of, Holds, entry_with, name_put, Adds, AddsLast, Gathered}
-use Rattle.cycle_lines.specs.Steps.{ReaderSeen, HasRead, last_cycle}
+use Rattle.cycle_lines.specs.LineReading.{ReadAll}
+use Rattle.cycle_lines.specs.Classified.{families_in_order, is_family, with_cycle_name, family_names, name_entry, family_text, families_text, ReadsPart, ClassifiedAll, ClassifiedPart}
+use Rattle.cycle_lines.specs.FamilyTables.{place_of_family, names_in_set, FamilyEntry, family_view, entry_text, family_table, HoldsCycles, entry_with, name_entered, AddsCycle, AddsLast, Gathered}
+use Rattle.cycle_lines.specs.LineSteps.{ReaderSeen, HasRead, last_cycle}
 use Rattle.cycle_lines.proofs.ReadLaws.{nothing_read, kept_same}
 
 -- the names of a family with one more cycle
 names_more : (f : Family) (cycles : List (List Edge)) (c : List Edge) →
-    family_names f (cycles ++ c ∷ []) ≡ cond (is_family (family_of c) f) (with_text (family_names f cycles) (name_of c)) (family_names f cycles)
+    family_names f (cycles ++ c ∷ []) ≡ cond (is_family (family_of c) f) (with_cycle_name (family_names f cycles) (name_of c)) (family_names f cycles)
 unfolding family_names
 names_more f cycles c =
     let is_here = λ (cycle : List Edge). is_family (family_of cycle) f in
-    ap (λ cs. fold with_text [] (map name_of cs)) (filter-append is_here cycles (c ∷ []))
+    ap (λ cs. fold with_cycle_name [] (map name_of cs)) (filter-append is_here cycles (c ∷ []))
     ∙ by_test (is_family (family_of c) f)
-    (λ e. rw e (ap (fold with_text []) (map_push name_of (filter is_here cycles) c) ∙ fold-append with_text [] (map name_of (filter is_here cycles)) (name_of c ∷ [])))
-    (λ e. rw e (ap (λ cs. fold with_text [] (map name_of cs)) (append-nil (filter is_here cycles))))
+    (λ e. rw e (ap (fold with_cycle_name []) (map_push name_of (filter is_here cycles) c) ∙ fold-append with_cycle_name [] (map name_of (filter is_here cycles)) (name_of c ∷ [])))
+    (λ e. rw e (ap (λ cs. fold with_cycle_name [] (map name_of cs)) (append-nil (filter is_here cycles))))
 
 put_by : (g : Family) (names : Family → List (List ℕ)) (name : List ℕ) →
-    ◌≡◌ {A = List Entry} (name_put (place_of g) name (map (λ f. (f, names f)) families_in_order)) (map (λ f. (f, cond (is_family g f) (with_text (names f) name) (names f))) families_in_order)
+    ◌≡◌ {A = List FamilyEntry} (name_entered (place_of_family g) name (map (λ f. (f, names f)) families_in_order)) (map (λ f. (f, cond (is_family g f) (with_cycle_name (names f) name) (names f))) families_in_order)
 put_by families.SB names name = refl
 put_by families.MP names name = refl
 put_by families.LB names name = refl
@@ -66,21 +66,21 @@ put_by families.LB3 names name = refl
 put_by families.W3 names name = refl
 put_by families.Other names name = refl
 
-entries_by : (u v : Family → List (List ℕ)) → ((f : Family) → u f ≡ v f) → (fs : List Family) → ◌≡◌ {A = List Entry} (map (λ f. (f, u f)) fs) (map (λ f. (f, v f)) fs)
+entries_by : (u v : Family → List (List ℕ)) → ((f : Family) → u f ≡ v f) → (fs : List Family) → ◌≡◌ {A = List FamilyEntry} (map (λ f. (f, u f)) fs) (map (λ f. (f, v f)) fs)
 entries_by u v h [] = refl
 entries_by u v h (f ∷ fs) = rw (h f, entries_by u v h fs) refl
 
-table_more : (cycles : List (List Edge)) (c : List Edge) → ◌≡◌ {A = List Entry} (name_put (place_of (family_of c)) (name_of c) (table_of cycles)) (table_of (cycles ++ c ∷ []))
+table_more : (cycles : List (List Edge)) (c : List Edge) → ◌≡◌ {A = List FamilyEntry} (name_entered (place_of_family (family_of c)) (name_of c) (family_table cycles)) (family_table (cycles ++ c ∷ []))
 table_more cycles c =
     put_by (family_of c) (λ f. family_names f cycles) (name_of c)
-    ∙ entries_by (λ f. cond (is_family (family_of c) f) (with_text (family_names f cycles) (name_of c)) (family_names f cycles)) (λ f. family_names f (cycles ++ c ∷ []))
+    ∙ entries_by (λ f. cond (is_family (family_of c) f) (with_cycle_name (family_names f cycles) (name_of c)) (family_names f cycles)) (λ f. family_names f (cycles ++ c ∷ []))
     (λ f. sym (names_more f cycles c)) families_in_order
 
 -- one more cycle is kept
-pub adds_cycle : (old new : List FamilyNames) (c : List Edge) (place : ℕ) (name : List ℕ) → place ≡ place_of (family_of c) → name ≡ name_of c →
-    ◌≡◌ {A = List Entry} (map entry_view new) (name_put place name (map entry_view old)) → Adds (map entry_view old) (map entry_view new) c
+pub adds_cycle : (old new : List FamilyNames) (c : List Edge) (place : ℕ) (name : List ℕ) → place ≡ place_of_family (family_of c) → name ≡ name_of c →
+    ◌≡◌ {A = List FamilyEntry} (map family_view new) (name_entered place name (map family_view old)) → AddsCycle (map family_view old) (map family_view new) c
 adds_cycle old new c place name e f h = λ cycles holds.
-    h ∙ ap (λ table. name_put place name table) holds ∙ ap (λ p. name_put p name (table_of cycles)) e ∙ ap (λ n. name_put (place_of (family_of c)) n (table_of cycles)) f ∙ table_more cycles c
+    h ∙ ap (λ table. name_entered place name table) holds ∙ ap (λ p. name_entered p name (family_table cycles)) e ∙ ap (λ n. name_entered (place_of_family (family_of c)) n (family_table cycles)) f ∙ table_more cycles c
 
 -- a set to which a text is added
 shown_insert : (cmp : Vec ℕ Global → Vec ℕ Global → Ordering) → ((x y : Vec ℕ Global) → cmp x y ≡ slice_cmp nat_cmp x.items y.items) → (keys : List (Vec ℕ Global)) (key : Vec ℕ Global)
@@ -98,20 +98,20 @@ shown_insert cmp same (x ∷ keys) key =
 
 -- the texts of a set into which a key was inserted are the old ones with that text
 pub set_shown : (old new : BTreeSet (Vec ℕ Global)) (cmp : Vec ℕ Global → Vec ℕ Global → Ordering) (key : Vec ℕ Global) → ((x y : Vec ℕ Global) → cmp x y ≡ slice_cmp nat_cmp x.items y.items) →
-    new.keys ≡ insert_key cmp old.keys key → texts_of new ≡ with_text (texts_of old) key.items
+    new.keys ≡ insert_key cmp old.keys key → names_in_set new ≡ with_cycle_name (names_in_set old) key.items
 set_shown old new cmp key same e = ap (map (λ text. text.items)) e ∙ shown_insert cmp same old.keys key
 
 -- a table to which a name is added
-put_entry : (old new : FamilyNames) (name : List ℕ) → new.family ≡ old.family → texts_of new.names ≡ with_text (texts_of old.names) name → ◌≡◌ {A = Entry} (entry_view new) (entry_with name (entry_view old))
+put_entry : (old new : FamilyNames) (name : List ℕ) → new.family ≡ old.family → names_in_set new.names ≡ with_cycle_name (names_in_set old.names) name → ◌≡◌ {A = FamilyEntry} (family_view new) (entry_with name (family_view old))
 put_entry old new name e f = rw (e, f) refl
 
 -- where a name is added to the entry at a place, the table is seen with that name at the place
-pub put_shown : (table : List FamilyNames) (place : ℕ) (old new : FamilyNames) (name : List ℕ) → place < length table → old ≡ get_or table place old → new.family ≡ old.family → texts_of new.names ≡ with_text (texts_of old.names) name →
-    ◌≡◌ {A = List Entry} (map entry_view (slice_set table place new)) (name_put place name (map entry_view table))
+pub put_shown : (table : List FamilyNames) (place : ℕ) (old new : FamilyNames) (name : List ℕ) → place < length table → old ≡ get_or table place old → new.family ≡ old.family → names_in_set new.names ≡ with_cycle_name (names_in_set old.names) name →
+    ◌≡◌ {A = List FamilyEntry} (map family_view (slice_set table place new)) (name_entered place name (map family_view table))
 put_shown [] place old new name h is e f = absurd (omega arith)
 put_shown (x ∷ table) zero old new name h is e f =
-    ap (λ (entry : Entry). entry ∷ map entry_view table) (put_entry old new name e f ∙ ap (λ (x : FamilyNames). entry_with name (entry_view x)) is)
-put_shown (x ∷ table) (suc k) old new name h is e f = ap (λ (t : List Entry). entry_view x ∷ t) (put_shown table k old new name (omega arith) is e f)
+    ap (λ (entry : FamilyEntry). entry ∷ map family_view table) (put_entry old new name e f ∙ ap (λ (x : FamilyNames). entry_with name (family_view x)) is)
+put_shown (x ∷ table) (suc k) old new name h is e f = ap (λ (t : List FamilyEntry). family_view x ∷ t) (put_shown table k old new name (omega arith) is e f)
 
 -- what holds where a call succeeded may be weakened
 pub ok_then : {A E P Q : Type 0} (r : Result A E) → (P → Q) → OnOk r P → OnOk r Q
@@ -177,17 +177,17 @@ names_done ys it all e k =
 
 -- the lines of families one after another
 pub each_entry : (a b c : SinkSeen) (held mid kept : List ℕ) (table : List FamilyNames) (i : ℕ) (entry : FamilyNames) → i < length table → entry ≡ get_or table i entry
-    → SentAll a held b mid (flat_map (λ e. entry_text (entry_view e)) (take i table)) → SentAll b mid c kept (entry_text (entry_view entry))
-    → SentAll a held c kept (flat_map (λ e. entry_text (entry_view e)) (take (i + 1) table))
+    → SentAll a held b mid (flat_map (λ e. entry_text (family_view e)) (take i table)) → SentAll b mid c kept (entry_text (family_view entry))
+    → SentAll a held c kept (flat_map (λ e. entry_text (family_view e)) (take (i + 1) table))
 each_entry a b c held mid kept table i entry h is p q =
-    each_sent (λ e. entry_text (entry_view e)) a b c held mid kept table i entry h p (subst (λ e. SentAll b mid c kept (entry_text (entry_view e))) is q)
+    each_sent (λ e. entry_text (family_view e)) a b c held mid kept table i entry h p (subst (λ e. SentAll b mid c kept (entry_text (family_view e))) is q)
 
 -- where the sink fails at a family, it has taken a prefix of what the page held and the lines of all families
 pub part_entry : (a b c : SinkSeen) (held mid : List ℕ) (table : List FamilyNames) (i : ℕ) (entry : FamilyNames) → i < length table → entry ≡ get_or table i entry
-    → SentAll a held b mid (flat_map (λ e. entry_text (entry_view e)) (take i table)) → WrotePart b c (mid ++ entry_text (entry_view entry))
-    → WrotePart a c (held ++ flat_map (λ e. entry_text (entry_view e)) table)
+    → SentAll a held b mid (flat_map (λ e. entry_text (family_view e)) (take i table)) → WrotePart b c (mid ++ entry_text (family_view entry))
+    → WrotePart a c (held ++ flat_map (λ e. entry_text (family_view e)) table)
 part_entry a b c held mid table i entry h is p q =
-    each_unsent (λ e. entry_text (entry_view e)) a b c held mid table i entry h p (subst (λ e. WrotePart b c (mid ++ entry_text (entry_view e))) is q)
+    each_unsent (λ e. entry_text (family_view e)) a b c held mid table i entry h p (subst (λ e. WrotePart b c (mid ++ entry_text (family_view e))) is q)
 
 -- the text of a family
 pub no_text : (f : Family) (names : List (List ℕ)) → length names ≡ 0 → family_text f names ≡ []
@@ -201,41 +201,41 @@ unfolding family_text
 some_text f [] h = absurd (omega arith)
 some_text f (n ∷ names) h = refl
 
-texts_length : (set : BTreeSet (Vec ℕ Global)) → length (texts_of set) ≡ btree_set_len set
+texts_length : (set : BTreeSet (Vec ℕ Global)) → length (names_in_set set) ≡ btree_set_len set
 texts_length set = length-map set.keys (λ text. text.items)
 
 -- a set of length 0 holds no text
-pub empty_set : (set : BTreeSet (Vec ℕ Global)) → IsTrue true ↔ (btree_set_len set ≡ 0) → length (texts_of set) ≡ 0
+pub empty_set : (set : BTreeSet (Vec ℕ Global)) → IsTrue true ↔ (btree_set_len set ≡ 0) → length (names_in_set set) ≡ 0
 empty_set set h = texts_length set ∙ h.0 refl
 
 -- a set of another length holds a text
-pub some_set : (set : BTreeSet (Vec ℕ Global)) → IsTrue false ↔ (btree_set_len set ≡ 0) → 0 < length (texts_of set)
-some_set set h = by_length (length (texts_of set)) refl
+pub some_set : (set : BTreeSet (Vec ℕ Global)) → IsTrue false ↔ (btree_set_len set ≡ 0) → 0 < length (names_in_set set)
+some_set set h = by_length (length (names_in_set set)) refl
   where
-    by_length : (n : ℕ) → length (texts_of set) ≡ n → 0 < length (texts_of set)
+    by_length : (n : ℕ) → length (names_in_set set) ≡ n → 0 < length (names_in_set set)
     by_length zero e = let k : IsTrue false = h.1 (sym (texts_length set) ∙ e) in absurd (cc)
     by_length (suc n) e = omega arith
 
 -- all that is written
-all_text : (table : List FamilyNames) (cycles : List (List Edge)) → Holds (map entry_view table) cycles → flat_map (λ entry. entry_text (entry_view entry)) table ≡ families_text cycles
+all_text : (table : List FamilyNames) (cycles : List (List Edge)) → HoldsCycles (map family_view table) cycles → flat_map (λ entry. entry_text (family_view entry)) table ≡ families_text cycles
 unfolding families_text
 all_text table cycles h =
-    sym (flat_map-map entry_text entry_view table) ∙ ap (flat_map entry_text) h ∙ flat_map-map entry_text (λ f. (f, family_names f cycles)) families_in_order
+    sym (flat_map-map entry_text family_view table) ∙ ap (flat_map entry_text) h ∙ flat_map-map entry_text (λ f. (f, family_names f cycles)) families_in_order
 
 -- the text of a table that holds the names of cycles is that of their families
-pub table_text : (table items : List FamilyNames) (cycles : List (List Edge)) → table ≡ items → Holds (map entry_view items) cycles → flat_map (λ entry. entry_text (entry_view entry)) table ≡ families_text cycles
-table_text table items cycles e h = ap (flat_map (λ entry. entry_text (entry_view entry))) e ∙ all_text items cycles h
+pub table_text : (table items : List FamilyNames) (cycles : List (List Edge)) → table ≡ items → HoldsCycles (map family_view items) cycles → flat_map (λ entry. entry_text (family_view entry)) table ≡ families_text cycles
+table_text table items cycles e h = ap (flat_map (λ entry. entry_text (family_view entry))) e ∙ all_text items cycles h
 
 -- where the names were gathered and the text of the families was written, all was classified
-pub classified : (arch : ArchName) (s t : SourceSeen) (a b : SinkSeen) (table : List Entry) (h : Gathered arch s t table) → WroteAll a b (families_text h.cycles) → ClassifiedAll arch s t a b
+pub classified : (arch : ArchName) (s t : SourceSeen) (a b : SinkSeen) (table : List FamilyEntry) (h : Gathered arch s t table) → WroteAll a b (families_text h.cycles) → ClassifiedAll arch s t a b
 classified arch s t a b table h w = record { cycles = h.cycles; read = h.read; wrote = w }
 
 -- where the names were gathered and the sink failed, a prefix of the text was written
-pub classified_part : (arch : ArchName) (s t : SourceSeen) (a b : SinkSeen) (table : List Entry) (h : Gathered arch s t table) → WrotePart a b (families_text h.cycles) → ClassifiedPart arch s t a b
+pub classified_part : (arch : ArchName) (s t : SourceSeen) (a b : SinkSeen) (table : List FamilyEntry) (h : Gathered arch s t table) → WrotePart a b (families_text h.cycles) → ClassifiedPart arch s t a b
 classified_part arch s t a b table h w = record { cycles = h.cycles; read = h.read; wrote = w }
 
 -- nothing is kept at the start
-pub none_held : (table : List FamilyNames) → ◌≡◌ {A = List Entry} (map entry_view table) (map (λ f. (f, [])) families_in_order) → Holds (map entry_view table) []
+pub none_held : (table : List FamilyNames) → ◌≡◌ {A = List FamilyEntry} (map family_view table) (map (λ f. (f, [])) families_in_order) → HoldsCycles (map family_view table) []
 unfolding family_names
 none_held table e = e
 
@@ -251,20 +251,20 @@ pub unread : (s : SourceSeen) → ReadsPart s s
 unread s = record { text = []; took = inr (record { none = refl; kept = kept_same s.left; taken_is = refl }); few = omega arith; no_fault = refl }
 
 -- the names of the cycles that were given are kept
-pub record Gathering (arch : ArchName) (first now : SourceSeen) (reader : ReaderSeen) (table : List Entry) : Type 0 where
+pub record Gathering (arch : ArchName) (first now : SourceSeen) (reader : ReaderSeen) (table : List FamilyEntry) : Type 0 where
   pub cycles : List (List Edge)
   pub read : HasRead arch first now reader cycles
-  pub holds : Holds table cycles
+  pub holds : HoldsCycles table cycles
 
 -- before anything is read, the names of no cycle are gathered
-pub nothing_gathered : (arch : ArchName) (s : SourceSeen) (r : ReaderSeen) (table : List Entry) → r ≡ record { pending = []; line = 1; taken = 0 } → Holds table [] → Gathering arch s s r table
+pub nothing_gathered : (arch : ArchName) (s : SourceSeen) (r : ReaderSeen) (table : List FamilyEntry) → r ≡ record { pending = []; line = 1; taken = 0 } → HoldsCycles table [] → Gathering arch s s r table
 nothing_gathered arch s r table e h = subst (λ r. Gathering arch s s r table) (sym e) (record { cycles = []; read = nothing_read arch s; holds = h })
 
 -- the last one
-pub gathered_last : (arch : ArchName) (s t : SourceSeen) (cycles : List (List Edge)) (cycle : Option (List Edge)) (old new : List Entry) →
-    ReadAll arch s t (cycles ++ last_cycle cycle) → Holds old cycles → AddsLast old new cycle → Gathered arch s t new
+pub gathered_last : (arch : ArchName) (s t : SourceSeen) (cycles : List (List Edge)) (cycle : Option (List Edge)) (old new : List FamilyEntry) →
+    ReadAll arch s t (cycles ++ last_cycle cycle) → HoldsCycles old cycles → AddsLast old new cycle → Gathered arch s t new
 gathered_last arch s t cycles cycle old new h held adds = record { cycles = cycles ++ last_cycle cycle; read = h; holds = adds cycles held }
 
 -- no cycle is kept
-pub adds_none : (table : List Entry) (cycle : Option (List Edge)) → cycle ≡ None → AddsLast table table cycle
-adds_none table cycle e = subst (AddsLast table table) (sym e) (λ cycles holds. subst (Holds table) (sym (append-nil cycles)) holds)
+pub adds_none : (table : List FamilyEntry) (cycle : Option (List Edge)) → cycle ≡ None → AddsLast table table cycle
+adds_none table cycle e = subst (AddsLast table table) (sym e) (λ cycles holds. subst (HoldsCycles table) (sym (append-nil cycles)) holds)

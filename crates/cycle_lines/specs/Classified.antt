@@ -14,12 +14,12 @@ use Rattle.relax_edges.specs.declared.edge.Edge.{Edge}
 use Rattle.cycle_names.specs.declared.family.Family.{Family}
 use Rattle.cycle_names.specs.declared.family.Family.TheVariants.{Other}
 use Rattle.cycle_names.specs.Families.{all_families, family_word}
-use Rattle.cycle_names.specs.Names.{name_of}
+use Rattle.cycle_names.specs.CycleNames.{name_of}
 use Rattle.cycle_names.specs.Rotations.{family_of}
 use Rattle.cycle_lines.specs.declared.errors.LinesError.{LinesError}
 use Rattle.cycle_lines.specs.declared.errors.ClassifyError.{ClassifyError}
 use Rattle.cycle_lines.specs.declared.errors.ClassifyError.TheVariants.{Lines, OutFault, NoMemory}
-use Rattle.cycle_lines.specs.Reading.{ReadAll, ReadUpTo, TookUpTo}
+use Rattle.cycle_lines.specs.LineReading.{ReadAll, ReadUpTo, TookUpTo}
 
 -- the families of the table, and that of the cycles of none
 abbrev pub families_in_order : List Family
@@ -30,12 +30,12 @@ abbrev pub is_family : Family → Family → Bool
 is_family f g = bytes_eq (family_word f) (family_word g)
 
 -- texts in byte order, each once, and one more
-abbrev pub with_text : List (List ℕ) → List ℕ → List (List ℕ)
-with_text texts text = insert_key (slice_cmp nat_cmp) texts text
+abbrev pub with_cycle_name : List (List ℕ) → List ℕ → List (List ℕ)
+with_cycle_name texts text = insert_key (slice_cmp nat_cmp) texts text
 
 -- the names of the cycles that are of a family, each once, in byte order
 unfoldable pub family_names : Family → List (List Edge) → List (List ℕ)
-family_names f cycles = fold with_text [] (map name_of (filter (λ cycle. is_family (family_of cycle) f) cycles))
+family_names f cycles = fold with_cycle_name [] (map name_of (filter (λ cycle. is_family (family_of cycle) f) cycles))
 
 -- the line of a name, after two blanks
 abbrev pub name_entry : List ℕ → List ℕ

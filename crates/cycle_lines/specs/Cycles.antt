@@ -16,8 +16,8 @@ use Rattle.cycle_lines.specs.declared.errors.LineKind.{LineKind}
 use Rattle.cycle_lines.specs.declared.errors.LineKind.TheVariants.{LineTooLong, UnknownEdge, Empty, TooLong, NotOfArch, DoesNotCompose}
 
 -- a line is too long
-abbrev pub is_too_long : List ℕ → Bool
-is_too_long line = nat_lt MAX_LINE (length line)
+abbrev pub is_long_line : List ℕ → Bool
+is_long_line line = nat_lt MAX_LINE (length line)
 
 -- what comes after the first colon, where there is one
 unfoldable pub after_colon : List ℕ → Option (List ℕ)
@@ -66,12 +66,12 @@ quoted_cycle arch (Some text) = cycle_spelled arch text
 -- what a line of cycles says: its cycle, nothing where it has no byte but blanks, or the first fault that it has
 unfoldable pub line_said : ArchName → List ℕ → Result (Option (List Edge)) LineKind
 line_said arch line =
-    cond (is_too_long line) (Err LineTooLong)
+    cond (is_long_line line) (Err LineTooLong)
     (cond (list_all (separates Blanks) line) (Ok None) (spelled_made arch (text_edges (without_label line))))
 
 -- the fault of a line, if it has one
-abbrev pub fault_of : ArchName → List ℕ → Option LineKind
-fault_of arch line = result_err (line_said arch line)
+abbrev pub line_fault : ArchName → List ℕ → Option LineKind
+line_fault arch line = result_err (line_said arch line)
 
 -- a line has no fault
 abbrev pub is_sound : ArchName → List ℕ → Bool
@@ -97,5 +97,5 @@ pub record FirstFault (arch : ArchName) (lines before : List (List ℕ)) (number
   pub later : List (List ℕ)
   pub parts : lines ≡ before ++ line ∷ later
   pub sound : are_sound arch before ≡ true
-  pub fault : fault_of arch line ≡ Some kind
+  pub fault : line_fault arch line ≡ Some kind
   pub number_is : number ≡ length before + 1

@@ -1,9 +1,9 @@
-pub mod Lines
+pub mod CycleLines
 pub mod Cycles
-pub mod Reading
+pub mod LineReading
 pub mod ReadingLaws
 pub mod Normed
-pub mod Kept
-pub mod Steps
+pub mod KeptLines
+pub mod LineSteps
 pub mod Classified
-pub mod Tables
+pub mod FamilyTables

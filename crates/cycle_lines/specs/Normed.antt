@@ -6,13 +6,13 @@ use Rattle.diy_io.specs.Taken.{SourceSeen}
 use Rattle.diy_io.specs.Wrote.{SinkSeen, WroteAll, WrotePart}
 use Rattle.relax_edges.specs.declared.kinds.ArchName.{ArchName}
 use Rattle.relax_edges.specs.declared.edge.Edge.{Edge}
-use Rattle.relax_edges.specs.Words.{word_of}
-use Rattle.cycle_names.specs.Names.{name_of}
+use Rattle.relax_edges.specs.WordParts.{word_of}
+use Rattle.cycle_names.specs.CycleNames.{name_of}
 use Rattle.cycle_names.specs.Rotations.{named_rotation}
 use Rattle.cycle_lines.specs.declared.errors.LinesError.{LinesError}
 use Rattle.cycle_lines.specs.declared.errors.NormError.{NormError}
 use Rattle.cycle_lines.specs.declared.errors.NormError.TheVariants.{Lines, OutFault}
-use Rattle.cycle_lines.specs.Reading.{ReadAll, ReadUpTo, ReadSome, cycles_before, whole_of}
+use Rattle.cycle_lines.specs.LineReading.{ReadAll, ReadUpTo, ReadSome, cycles_before, whole_of}
 
 -- the line of a cycle: its name, and its edges in the rotation that it is named from
 unfoldable pub name_line : List Edge → List ℕ

@@ -3,7 +3,7 @@ use Rattle.std.proofs.Common.{◌≡◌, ℕ, List, [], ◌++◌, Option, Some, 
 use Rattle.std.specs.Prelude.{unwrap_or}
 use Rattle.std.specs.Io.KnownBytes.{Consumes}
 use Rattle.diy_io.specs.Taken.{SourceSeen, Took}
-use Rattle.cycle_lines.specs.Reading.{whole_of}
+use Rattle.cycle_lines.specs.LineReading.{whole_of}
 
 whole_by : (old new : Option (List ℕ)) (text all : List ℕ) → Consumes old new text → old ≡ Some all → text ++ unwrap_or new [] ≡ all
 whole_by None new text all h e = cc e

@@ -1,6 +1,6 @@
 ghost use Rattle.cycle_lines.specs.Classified.{Classifies};
 ghost use Rattle.std.specs.Prelude.{OnOk};
-ghost use Rattle.cycle_lines.specs.Tables.{Gathers, AddsLast};
+ghost use Rattle.cycle_lines.specs.FamilyTables.{Gathers, AddsLast};
 
 use crate::errors::ClassifyError;
 use crate::families::Families;

@@ -2,7 +2,7 @@ ghost use Rattle.std.specs.Prelude.{◌≡◌, option_map};
 ghost use Rattle.edge_algebra.specs.Compose.{composed};
 ghost use Rattle.cycle_names.specs.Laws.{are_of_arch};
 ghost use Rattle.cycle_lines.specs.Cycles.{text_edges, spelled_made, cycle_made, composed_or, cycle_spelled, quoted_cycle};
-ghost use Rattle.cycle_lines.specs.Kept.{made_kept, said_with};
+ghost use Rattle.cycle_lines.specs.KeptLines.{made_kept, said_with};
 
 use crate::errors::LineKind;
 use edge_algebra::{Cycle, cycle};

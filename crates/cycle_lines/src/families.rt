@@ -2,7 +2,7 @@ ghost use Rattle.std.specs.Prelude.{ℕ, List, [], ◌∷◌, ◌++◌, IfOk, On
 ghost use Rattle.diy_io.specs.Wrote.{Wrote};
 ghost use Rattle.relax_edges.specs.declared.edge.Edge.{Edge};
 ghost use Rattle.cycle_lines.specs.Classified.{families_text};
-ghost use Rattle.cycle_lines.specs.Tables.{Holds};
+ghost use Rattle.cycle_lines.specs.FamilyTables.{HoldsCycles};
 
 use crate::table::{FamilyNames, no_names, put_cycle, write_families};
 use arrayvec::ArrayString;
@@ -24,11 +24,11 @@ pub struct Families {
 
 impl Model for Families {
     ghost use Rattle.std.specs.Prelude.{◌≡◌, List, length, map};
-    ghost use Rattle.cycle_lines.specs.Tables.{Entry, entry_view};
+    ghost use Rattle.cycle_lines.specs.FamilyTables.{FamilyEntry, family_view};
 
-    ghost Value = { List Entry };
+    ghost Value = { List FamilyEntry };
 
-    ghost view = { λ families. map entry_view families.table.items };
+    ghost view = { λ families. map family_view families.table.items };
 
     ghost invariant = { λ families. length families.table.items ≡ 15 };
 }
@@ -36,7 +36,7 @@ impl Model for Families {
 impl Families {
     /// Those of no cycle.
     pub fn new(alloc: Global) -> Result<Families, NoMemory>
-        ensures { IfOk result (λ families. Holds families []) }
+        ensures { IfOk result (λ families. HoldsCycles families []) }
     {
         Ok(Families {
             table: no_names(alloc)?,
@@ -46,7 +46,7 @@ impl Families {
 
     /// Adds the name of a cycle to those of its family. The error comes for want of memory alone.
     pub fn put(&mut self, cycle: &Cycle) -> Result<(), NoMemory>
-        ensures { OnOk result ((cycles : List (List Edge)) → Holds self.old cycles → Holds self.new (cycles ++ cycle.now ∷ [])) }
+        ensures { OnOk result ((cycles : List (List Edge)) → HoldsCycles self.old cycles → HoldsCycles self.new (cycles ++ cycle.now ∷ [])) }
     {
         put_cycle(&mut self.table, cycle, &mut self.name)
     }
@@ -55,7 +55,7 @@ impl Families {
     /// colon, and its names, each after two blanks, in byte order. Where the sink fails, it has taken
     /// a prefix of that.
     pub fn write<O: Sink>(&self, out: &mut O) -> Result<(), Failed>
-        ensures { (cycles : List (List Edge)) → Holds self.now cycles → Wrote (O.seen out.old) (O.seen out.new) (families_text cycles) result }
+        ensures { (cycles : List (List Edge)) → HoldsCycles self.now cycles → Wrote (O.seen out.old) (O.seen out.new) (families_text cycles) result }
     {
         write_families(self.table.as_slice(), out)
     }

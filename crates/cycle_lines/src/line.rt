@@ -2,7 +2,7 @@ ghost use Rattle.std.specs.Prelude.{◌≡◌};
 ghost use Rattle.std.specs.List.{list_all};
 ghost use Rattle.edge_lists.specs.Spelled.{separates};
 ghost use Rattle.cycle_lines.specs.Cycles.{line_said, without_label};
-ghost use Rattle.cycle_lines.specs.Kept.{said_with};
+ghost use Rattle.cycle_lines.specs.KeptLines.{said_with};
 
 use crate::MAX_LINE;
 use crate::edges::read_cycle;

@@ -1,9 +1,9 @@
 ghost use Rattle.std.specs.Prelude.{◌≡◌, ◌≤◌, ◌<◌, ℕ, ◌+◌, ◌-◌, List, [], false, length, take, drop, Option, Some, IfOk, OnErr};
 ghost use Rattle.relax_edges.specs.declared.edge.Edge.{Edge};
-ghost use Rattle.cycle_lines.specs.Cycles.{is_too_long};
-ghost use Rattle.cycle_lines.specs.Kept.{said_with};
+ghost use Rattle.cycle_lines.specs.Cycles.{is_long_line};
+ghost use Rattle.cycle_lines.specs.KeptLines.{said_with};
 ghost use Rattle.text_laws.specs.Lines.{without_return};
-ghost use Rattle.cycle_lines.specs.Steps.{ReaderSeen, Without, GivesNext, said_by, Fills, FillsBuffer, Stops, ReadsOn, Refills, LessToDo, FindsLast, ReadsLast, Ends, work};
+ghost use Rattle.cycle_lines.specs.LineSteps.{ReaderSeen, Without, GivesNext, line_said_by, Fills, FillsBuffer, Stops, ReadsOn, Refills, LessToDo, FindsLast, ReadsLast, Ends, work};
 
 use crate::MAX_LINE;
 use crate::errors::{LineKind, LinesError};
@@ -62,7 +62,7 @@ impl Model for LineReader {
     ghost use Rattle.std.specs.Prelude.{◌+◌, ◌-◌, ◌≤◌, take, drop};
     ghost use Rattle.diy_io.specs.declared.source.TheConstants.{MAX_INPUT};
     ghost use Rattle.cycle_lines.specs.declared.reader.TheConstants.{BUFFER};
-    ghost use Rattle.cycle_lines.specs.Steps.{ReaderSeen};
+    ghost use Rattle.cycle_lines.specs.LineSteps.{ReaderSeen};
 
     ghost Value = { ReaderSeen };
 
@@ -228,7 +228,7 @@ impl LineReader {
     /// Whether a source ends where no more of it is read.
     fn end_at_limit<I: Source>(&self, input: &mut I) -> Result<usize, LinesError>
         requires one_line { Without 10 self.now.pending }
-        requires short { is_too_long (without_return self.now.pending) ≡ false }
+        requires short { is_long_line (without_return self.now.pending) ≡ false }
         requires full { self.now.taken ≡ MAX_INPUT }
         ensures refills { Refills (I.seen input.old) (I.seen input.new) self.now self.now result }
         ensures none { IfOk result (λ count. count ≡ 0) }
@@ -243,7 +243,7 @@ impl LineReader {
 
     /// Reads a piece after the bytes that are pending.
     fn fill<I: Source>(&mut self, input: &mut I) -> Result<usize, Failed>
-        requires short { is_too_long (without_return self.old.pending) ≡ false }
+        requires short { is_long_line (without_return self.old.pending) ≡ false }
         requires few { self.old.taken < MAX_INPUT }
         ensures filled { IfOk result (λ count. Fills (I.seen input.old) (I.seen input.new) self.old self.new count) }
         ensures stopped { OnErr result (Stops (I.seen input.old) (I.seen input.new) × (self.new ≡ self.old)) }
@@ -260,7 +260,7 @@ impl LineReader {
 }
 
 fn line_of(read: Result<(), LineKind>) -> Line
-    ensures { (cycle : Option (List Edge)) → said_by result cycle ≡ Some (said_with read cycle) }
+    ensures { (cycle : Option (List Edge)) → line_said_by result cycle ≡ Some (said_with read cycle) }
 {
     match read {
         Ok(()) => Line::Read,

@@ -4,7 +4,7 @@ ghost use Rattle.diy_io.specs.Page.{Sends};
 ghost use Rattle.diy_io.specs.Wrote.{Wrote};
 ghost use Rattle.cycle_names.specs.Families.{family_word};
 ghost use Rattle.cycle_lines.specs.Classified.{name_entry};
-ghost use Rattle.cycle_lines.specs.Tables.{place_of, texts_of, entry_view, entry_text, Holds, Adds, name_put};
+ghost use Rattle.cycle_lines.specs.FamilyTables.{place_of_family, names_in_set, family_view, entry_text, HoldsCycles, AddsCycle, name_entered};
 
 use arrayvec::ArrayString;
 use cycle_names::{Family, MAX_NAME, family_of, name_of};
@@ -41,7 +41,7 @@ pub(crate) struct FamilyNames {
 
 /// The place of a family in the table.
 fn place_of(family: Family) -> usize
-    ensures place { result ≡ place_of family }
+    ensures place { result ≡ place_of_family family }
     ensures within { result < 15 }
 {
     match family {
@@ -65,7 +65,7 @@ fn place_of(family: Family) -> usize
 
 /// No names of any family.
 pub(crate) fn no_names(alloc: Global) -> Result<Vec<FamilyNames>, NoMemory>
-    ensures holds { IfOk result (λ table. Holds (map entry_view table.items) []) }
+    ensures holds { IfOk result (λ table. HoldsCycles (map family_view table.items) []) }
     ensures whole { IfOk result (λ table. length table.items ≡ 15) }
 {
     let mut table = Vec::new(alloc);
@@ -85,7 +85,7 @@ pub(crate) fn put_cycle(
     text: &mut ArrayString<MAX_NAME>,
 ) -> Result<(), NoMemory>
     requires { length table.old.items ≡ 15 }
-    ensures adds { OnOk result (Adds (map entry_view table.old.items) (map entry_view table.new.items) cycle.now) }
+    ensures adds { OnOk result (AddsCycle (map family_view table.old.items) (map family_view table.new.items) cycle.now) }
     ensures whole { length table.new.items ≡ 15 }
 {
     name_of(cycle, text);
@@ -95,7 +95,7 @@ pub(crate) fn put_cycle(
 
 fn put_name(table: &mut Vec<FamilyNames>, place: usize, name: Vec<u8>) -> Result<(), NoMemory>
     requires { place < length table.old.items }
-    ensures put { OnOk result (map entry_view table.new.items ≡ name_put place name.items (map entry_view table.old.items)) }
+    ensures put { OnOk result (map family_view table.new.items ≡ name_entered place name.items (map family_view table.old.items)) }
     ensures whole { length table.new.items ≡ length table.old.items }
 {
     table[place].names.insert(name)?;
@@ -105,7 +105,7 @@ fn put_name(table: &mut Vec<FamilyNames>, place: usize, name: Vec<u8>) -> Result
 /// Writes the lines of the families that have a name. Where the sink fails, it has taken a prefix of
 /// them.
 pub(crate) fn write_families<O: Sink>(table: &[FamilyNames], out: &mut O) -> Result<(), Failed>
-    ensures { Wrote (O.seen out.old) (O.seen out.new) (flat_map (λ entry. entry_text (entry_view entry)) table.now) result }
+    ensures { Wrote (O.seen out.old) (O.seen out.new) (flat_map (λ entry. entry_text (family_view entry)) table.now) result }
 {
     let mut page = Page::new();
     send_families(table, &mut page, out)?;
@@ -113,7 +113,7 @@ pub(crate) fn write_families<O: Sink>(table: &[FamilyNames], out: &mut O) -> Res
 }
 
 fn send_families<O: Sink>(table: &[FamilyNames], page: &mut Page, out: &mut O) -> Result<(), Failed>
-    ensures { Sends (O.seen out.old) page.old (O.seen out.new) page.new (flat_map (λ entry. entry_text (entry_view entry)) table.now) result }
+    ensures { Sends (O.seen out.old) page.old (O.seen out.new) page.new (flat_map (λ entry. entry_text (family_view entry)) table.now) result }
 {
     for entry in table {
         send_family(entry, page, out)?;
@@ -122,7 +122,7 @@ fn send_families<O: Sink>(table: &[FamilyNames], page: &mut Page, out: &mut O) -
 }
 
 fn send_family<O: Sink>(entry: &FamilyNames, page: &mut Page, out: &mut O) -> Result<(), Failed>
-    ensures { Sends (O.seen out.old) page.old (O.seen out.new) page.new (entry_text (entry_view entry.now)) result }
+    ensures { Sends (O.seen out.old) page.old (O.seen out.new) page.new (entry_text (family_view entry.now)) result }
 {
     if entry.names.is_empty() {
         return Ok(());
@@ -142,7 +142,7 @@ fn send_names<O: Sink>(
     page: &mut Page,
     out: &mut O,
 ) -> Result<(), Failed>
-    ensures { Sends (O.seen out.old) page.old (O.seen out.new) page.new (flat_map name_entry (texts_of names.now)) result }
+    ensures { Sends (O.seen out.old) page.old (O.seen out.new) page.new (flat_map name_entry (names_in_set names.now)) result }
 {
     for name in names {
         send_name(name.as_slice(), page, out)?;

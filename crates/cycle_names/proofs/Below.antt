@@ -4,7 +4,7 @@ use Rattle.std.specs.List.{list_any}
 use Rattle.std.proofs.Common.{refl, sym, ◌∙◌, inl, inr, arith}
 use Rattle.std.proofs.lemmas.Bool.{cases_order, or_cases, and_parts, or_left, or_right, ltb-true, lt-ltb, eqb-true, eq-eqb}
 use Rattle.list_laws.proofs.Cases.{by_test}
-use Rattle.cycle_laws.specs.Order.{ranks_below}
+use Rattle.cycle_laws.specs.CycleOrder.{ranks_below}
 use Rattle.cycle_names.specs.Rotations.{least_of}
 use Rattle.cycle_names.proofs.Members.{Member, any_of_member, any_none, found_passes, found_among, find_only}
 

@@ -10,16 +10,16 @@ use Rattle.relax_edges.specs.Order.{rank_of}
 use Rattle.cycle_laws.proofs.RankLaws.{rank_injective}
 use Rattle.cycle_laws.specs.Composable.{IsCycle}
 use Rattle.cycle_laws.specs.Rotation.{IsRotation, rotated}
-use Rattle.cycle_laws.specs.Order.{ranks_below, IsLeast}
+use Rattle.cycle_laws.specs.CycleOrder.{ranks_below, IsLeast}
 use Rattle.cycle_laws.proofs.Laws.{cycle_of_rotation}
 use Rattle.cycle_laws.proofs.Rotating.{rotation_same, rotation_back, rotation_on, rotation_length, place_of_rotation, rotation_of_place}
 use Rattle.cycle_laws.proofs.Ordering.{above_of_ranks}
 use Rattle.cycle_names.specs.declared.family.Family.{Family}
 use Rattle.cycle_names.specs.Families.{family_edges, all_families}
-use Rattle.cycle_names.specs.Links.{slot_of, outline}
+use Rattle.cycle_names.specs.LinkWords.{edge_of_slot, outline}
 use Rattle.cycle_names.specs.Fitting.{word_place}
-use Rattle.cycle_names.specs.Reading.{marked_around}
-use Rattle.cycle_names.specs.Rotations.{rotations, fits, is_of_family, found_family, words_below, edges_below, rotation_in, named_rotation}
+use Rattle.cycle_names.specs.NameReading.{marked_around}
+use Rattle.cycle_names.specs.Rotations.{rotations, fits_family, is_of_family, found_family, words_below, edges_below, rotation_in, named_rotation}
 use Rattle.cycle_names.proofs.Members.{Member, any_of_member, member_of_any, member_upto, upto_member, find_same, filter_among, filter_passes, filter_member}
 use Rattle.cycle_names.proofs.Below.{below_irreflexive, below_transitive, neither_below, IsFirst, HasFirst, has_first, first_is_least}
 use Rattle.cycle_names.proofs.Marks.{said_of, around_back}
@@ -48,14 +48,14 @@ rotations_same u v x some r m =
 
 -- the rotations of a cycle that fit a family
 abbrev pub candidates : Family → List Edge → List (List Edge)
-candidates f u = filter (fits f) (rotations u)
+candidates f u = filter (fits_family f) (rotations u)
 
 -- the order of the places of words
 abbrev pub links_below : List Edge → List Edge → Bool
 links_below v w = ranks_below (map word_place v) (map word_place w)
 
 pub candidate_joins : (f : Family) (u v : List Edge) → Member v (candidates f u) → outline v ≡ family_edges f
-candidate_joins f u v m = outline_of_fits f v (filter_passes (fits f) (rotations u) v m)
+candidate_joins f u v m = outline_of_fits f v (filter_passes (fits_family f) (rotations u) v m)
 
 by_words : (f : Family) (u v w : List Edge) → Member v (candidates f u) → Member w (candidates f u) → words_below v w ≡ links_below v w
 by_words f u v w m n = words_by_ranks v w (candidate_joins f u v m ∙ sym (candidate_joins f u w n))
@@ -67,13 +67,13 @@ first_by_words f u v h = record { member = h.member; none = λ w m b. h.none w m
 first_by_ranks : (f : Family) (u v : List Edge) → IsFirst words_below (candidates f u) v → IsFirst links_below (candidates f u) v
 first_by_ranks f u v h = record { member = h.member; none = λ w m b. h.none w m (by_words f u w v m h.member ∙ b) }
 
--- a rotation that fits a family is restored from what its name says of it
-pub fit_back : (f : Family) (v : List Edge) → IsCycle v → fits f v ≡ true → marked_around (map said_of v) ≡ Some v
+-- a rotation that fits_family a family is restored from what its name says of it
+pub fit_back : (f : Family) (v : List Edge) → IsCycle v → fits_family f v ≡ true → marked_around (map said_of v) ≡ Some v
 fit_back f v c h = around_back v c.closed (plain_of_fits f v h) (fits_either f v h)
 
 candidate_back : (f : Family) (u v : List Edge) → IsCycle u → Member v (candidates f u) → marked_around (map said_of v) ≡ Some v
 candidate_back f u v c m =
-    fit_back f v (cycle_of_rotation u v (rotation_of_member u v (filter_among (fits f) (rotations u) v m)) c) (filter_passes (fits f) (rotations u) v m)
+    fit_back f v (cycle_of_rotation u v (rotation_of_member u v (filter_among (fits_family f) (rotations u) v m)) c) (filter_passes (fits_family f) (rotations u) v m)
 
 only_by_words : (f : Family) (u v w : List Edge) → IsCycle u → IsFirst words_below (candidates f u) v → IsFirst words_below (candidates f u) w → w ≡ v
 only_by_words f u v w c h k =
@@ -81,7 +81,7 @@ only_by_words f u v w c h k =
     let b = first_by_ranks f u w k in
     let joins : outline w ≡ outline v = candidate_joins f u w k.member ∙ sym (candidate_joins f u v h.member) in
     let long : length (map word_place w) ≡ length (map word_place v) =
-    omega (arith, length-map w word_place, length-map v word_place, ap length joins, length-map w slot_of, length-map v slot_of) in
+    omega (arith, length-map w word_place, length-map v word_place, ap length joins, length-map w edge_of_slot, length-map v edge_of_slot) in
     let told : map said_of w ≡ map said_of v = same_lists w v joins (neither_below (map word_place w) (map word_place v) long (a.none w b.member) (b.none v a.member)) in
     same_Some w v (sym (candidate_back f u w c k.member) ∙ ap marked_around told ∙ candidate_back f u v c h.member)
 
@@ -100,7 +100,7 @@ pub has_named_in_family : (f : Family) (u : List Edge) → found_family u ≡ So
 has_named_in_family f u h =
     let w = fitting u f (found_is_of u f h) in
     let v : List Edge = rotated w.place u in
-    let m : Member v (candidates f u) = filter_member (fits f) (rotations u) v (member_upto (λ k. rotated k u) (length u) w.place w.within) w.fit in
+    let m : Member v (candidates f u) = filter_member (fits_family f) (rotations u) v (member_upto (λ k. rotated k u) (length u) w.place w.within) w.fit in
     let r = some_first (candidates f u) v m in
     record { one = r.one; is = first_by_words f u r.one r.is }
 
@@ -151,8 +151,8 @@ has_named_in_none u some = some_normal (rotations u) u (member_of_rotation u u s
 -- rotations of one cycle are of one family
 is_of_turned : (u v : List Edge) (f : Family) → 0 < length u → IsRotation u v → is_of_family u f ≡ true → is_of_family v f ≡ true
 is_of_turned u v f some r h =
-    let p = member_of_any (fits f) (rotations u) h in
-    any_of_member (fits f) (rotations v) p.member (rotations_same u v p.member some r p.among) p.passes
+    let p = member_of_any (fits_family f) (rotations u) h in
+    any_of_member (fits_family f) (rotations v) p.member (rotations_same u v p.member some r p.among) p.passes
 
 -- rotations of one cycle are of one family
 pub family_turned : (u v : List Edge) → 0 < length u → IsRotation u v → found_family u ≡ found_family v
@@ -169,7 +169,7 @@ same_first below xs ys v to from h = record { member = to v h.member; none = λ 
 
 candidates_turned : (f : Family) (u v x : List Edge) → 0 < length u → IsRotation u v → Member x (candidates f u) → Member x (candidates f v)
 candidates_turned f u v x some r m =
-    filter_member (fits f) (rotations v) x (rotations_same u v x some r (filter_among (fits f) (rotations u) x m)) (filter_passes (fits f) (rotations u) x m)
+    filter_member (fits_family f) (rotations v) x (rotations_same u v x some r (filter_among (fits_family f) (rotations u) x m)) (filter_passes (fits_family f) (rotations u) x m)
 
 -- rotations of one cycle are named from one rotation
 pub named_turned : (u v : List Edge) → IsCycle u → IsRotation u v → named_rotation u ≡ named_rotation v
@@ -200,10 +200,10 @@ named_rotates u c =
     subst P (sym (named_in_none u w.one h w.is)) (rotation_of_member u w.one w.is.member))
     (λ f h.
     let w = has_named_in_family f u h in
-    subst P (sym (named_in_family f u w.one c h w.is)) (rotation_of_member u w.one (filter_among (fits f) (rotations u) w.one w.is.member)))
+    subst P (sym (named_in_family f u w.one c h w.is)) (rotation_of_member u w.one (filter_among (fits_family f) (rotations u) w.one w.is.member)))
 
--- and fits the family that the cycle is of
-pub named_fits : (u : List Edge) (f : Family) → IsCycle u → found_family u ≡ Some f → fits f (named_rotation u) ≡ true
+-- and fits_family the family that the cycle is of
+pub named_fits : (u : List Edge) (f : Family) → IsCycle u → found_family u ≡ Some f → fits_family f (named_rotation u) ≡ true
 named_fits u f c h =
     let w = has_named_in_family f u h in
-    ap (fits f) (named_in_family f u w.one c h w.is) ∙ filter_passes (fits f) (rotations u) w.one w.is.member
+    ap (fits_family f) (named_in_family f u w.one c h w.is) ∙ filter_passes (fits_family f) (rotations u) w.one w.is.member

@@ -11,11 +11,11 @@ use Rattle.relax_edges.specs.declared.kinds.Mark.{Mark}
 use Rattle.relax_edges.specs.declared.kinds.Mark.TheVariants.{Plain}
 use Rattle.relax_edges.specs.declared.edge.Edge.{Edge}
 use Rattle.relax_edges.specs.EdgeTable.{target_mark}
-use Rattle.relax_edges.specs.Words.{word_of}
+use Rattle.relax_edges.specs.WordParts.{word_of}
 use Rattle.std.specs.List.{join_by}
 use Rattle.std.proofs.lemmas.Option.{same_Some}
 use Rattle.cycle_laws.specs.Composable.{IsCycle, first_break}
-use Rattle.cycle_laws.specs.Order.{IsLeast}
+use Rattle.cycle_laws.specs.CycleOrder.{IsLeast}
 use Rattle.cycle_laws.specs.Rotation.{rotated}
 use Rattle.cycle_laws.proofs.Rotating.{rotation_length}
 use Rattle.edge_algebra.specs.declared.errors.CycleError.{CycleError}
@@ -24,11 +24,11 @@ use Rattle.edge_algebra.specs.Compose.{composed, unbroken}
 use Rattle.edge_algebra.proofs.Composed.{composes_exactly}
 use Rattle.cycle_names.specs.declared.family.Family.{Family}
 use Rattle.cycle_names.specs.Families.{family_word, family_edges, all_families}
-use Rattle.cycle_names.specs.Links.{link_words}
+use Rattle.cycle_names.specs.LinkWords.{link_words}
 use Rattle.cycle_names.specs.Rotations.{found_family, named_rotation}
-use Rattle.cycle_names.specs.Names.{links_text, name_from, name_of}
+use Rattle.cycle_names.specs.CycleNames.{links_text, name_from, name_of}
 use Rattle.cycle_names.specs.Fitting.{IsNamedAt}
-use Rattle.cycle_names.specs.Reading.{begins_with, named_family, before, marked_between, first_mark, last_mark, marked_along, marked_around, marked_if, filled, words_read, read_in, edges_read, Adds}
+use Rattle.cycle_names.specs.NameReading.{begins_with_word, named_family, before, marked_between, first_mark, last_mark, marked_along, marked_around, marked_if, slots_filled, words_read, read_by_family, edges_read, AddsEdges}
 use Rattle.cycle_names.specs.Laws.{are_of_arch, IsNamed, NamesNone}
 use Rattle.cycle_names.proofs.Members.{found_passes}
 use Rattle.cycle_names.proofs.Chosen.{named_rotates, least_named}
@@ -56,7 +56,7 @@ pub record ReadAs (u edges : List Edge) (E : Type 0) (result : Result (Unit {0})
   pub done : IsOk result
   pub edges_are : edges ≡ named_rotation u
 
-pub read_as : {E : Type 0} (name text : List ℕ) (old edges : List Edge) (result : Result (Unit {0}) E) → text ≡ name → old ≡ [] → Adds (edges_read text) old edges result
+pub read_as : {E : Type 0} (name text : List ℕ) (old edges : List Edge) (result : Result (Unit {0}) E) → text ≡ name → old ≡ [] → AddsEdges (edges_read text) old edges result
     → (u : List Edge) → IsCycle u → name_of u ≡ name → ReadAs u edges E result
 read_as name text old edges result i e a u c h =
     let found : edges_read text ≡ Some (named_rotation u) = ap edges_read (i ∙ sym h) ∙ name_back u c in
@@ -64,11 +64,11 @@ read_as name text old edges result i e a u c h =
     record { done = r.0; edges_are = r.1 ∙ ap (λ w. w ++ named_rotation u) e }
 
 -- nothing is read: no name
-pub none_read : {E : Type 0} (name text : List ℕ) (arch : ArchName) (old edges : List Edge) (error : E) → text ≡ name → old ≡ [] → Adds (edges_read text) old edges (Err error) → NamesNone name arch
+pub none_read : {E : Type 0} (name text : List ℕ) (arch : ArchName) (old edges : List Edge) (error : E) → text ≡ name → old ≡ [] → AddsEdges (edges_read text) old edges (Err error) → NamesNone name arch
 none_read {E} name text arch old edges error i e a u c o h = false≢true (read_as {E = E} name text old edges (Err error) i e a u c h).done
 
 -- the edges don't compose: no name
-pub none_composed : {E : Type 0} (name text : List ℕ) (arch : ArchName) (old edges : List Edge) (result : Result (Unit {0}) E) (error : CycleError) → text ≡ name → old ≡ [] → Adds (edges_read text) old edges result
+pub none_composed : {E : Type 0} (name text : List ℕ) (arch : ArchName) (old edges : List Edge) (result : Result (Unit {0}) E) (error : CycleError) → text ≡ name → old ≡ [] → AddsEdges (edges_read text) old edges result
     → Err error ≡ composed edges → NamesNone name arch
 none_composed name text arch old edges result error i e a k u c o h =
     let r = read_as name text old edges result i e a u c h in
@@ -80,7 +80,7 @@ none_composed name text arch old edges result error i e a k u c o h =
     not_both z = cc
 
 -- the edges have another name: no name
-pub none_named : {E : Type 0} (name text : List ℕ) (arch : ArchName) (old edges : List Edge) (result : Result (Unit {0}) E) → text ≡ name → old ≡ [] → Adds (edges_read text) old edges result
+pub none_named : {E : Type 0} (name text : List ℕ) (arch : ArchName) (old edges : List Edge) (result : Result (Unit {0}) E) → text ≡ name → old ≡ [] → AddsEdges (edges_read text) old edges result
     → bytes_eq (name_of edges) name ≡ false → NamesNone name arch
 none_named name text arch old edges result i e a k u c o h =
     let r = read_as name text old edges result i e a u c h in
@@ -90,7 +90,7 @@ none_named name text arch old edges result i e a k u c o h =
     cc
 
 -- the edges are not of the architecture: no name
-pub none_of_arch : {E : Type 0} (name text : List ℕ) (arch : ArchName) (old edges : List Edge) (result : Result (Unit {0}) E) → text ≡ name → old ≡ [] → Adds (edges_read text) old edges result
+pub none_of_arch : {E : Type 0} (name text : List ℕ) (arch : ArchName) (old edges : List Edge) (result : Result (Unit {0}) E) → text ≡ name → old ≡ [] → AddsEdges (edges_read text) old edges result
     → are_of_arch arch edges ≡ false → NamesNone name arch
 none_of_arch name text arch old edges result i e a k u c o h =
     let r = read_as name text old edges result i e a u c h in
@@ -99,7 +99,7 @@ none_of_arch name text arch old edges result i e a k u c o h =
     cc
 
 -- what passes is the cycle of the name, in the rotation that it is named from, since a name is read as that
-pub is_named : {E : Type 0} (name text : List ℕ) (arch : ArchName) (old edges : List Edge) (result : Result (Unit {0}) E) → text ≡ name → old ≡ [] → Adds (edges_read text) old edges result
+pub is_named : {E : Type 0} (name text : List ℕ) (arch : ArchName) (old edges : List Edge) (result : Result (Unit {0}) E) → text ≡ name → old ≡ [] → AddsEdges (edges_read text) old edges result
     → IsCycle edges → bytes_eq (name_of edges) name ≡ true → are_of_arch arch edges ≡ true → IsNamed name arch edges
 is_named name text arch old edges result i e a c k o =
     let same : name_of edges ≡ name = (bytes_decides _ _).0 k in
@@ -107,14 +107,14 @@ is_named name text arch old edges result i e a c k o =
     record { composable = c; of_arch = o; has_name = same; rotation = sym r.edges_are }
 
 -- a text that begins with a word is no shorter
-begins_long : (word text : List ℕ) → begins_with word text ≡ true → length word ≤ length text
+begins_long : (word text : List ℕ) → begins_with_word word text ≡ true → length word ≤ length text
 begins_long [] text h = omega arith
 begins_long (b ∷ word) [] h = cc
-begins_long (b ∷ word) (c ∷ text) h = omega (arith, begins_long word text (and_parts _ (begins_with word text) h).1)
+begins_long (b ∷ word) (c ∷ text) h = omega (arith, begins_long word text (and_parts _ (begins_with_word word text) h).1)
 
 -- the word of the family whose name a text begins with is no longer than the text
 pub word_fits : (families : List Family) (text word : List ℕ) (f : Family) → Some f ≡ named_family families text → word ≡ family_word f → length word ≤ length text
-word_fits families text word f h w = rw w (begins_long (family_word f) text (found_passes (λ f. begins_with (family_word f) text) families f (sym h)))
+word_fits families text word f h w = rw w (begins_long (family_word f) text (found_passes (λ f. begins_with_word (family_word f) text) families f (sym h)))
 
 -- where there is a list of edges there is the rest of it
 record HasRest (p : Option (List Edge)) (v : List Edge) : Type 0 where
@@ -134,20 +134,20 @@ along_long from (e ∷ u) to v h =
     r.long ∙ ap suc (along_long (target_mark e) u to r.rest r.is)
 
 -- what is read where the text begins with a family's name, and where it doesn't
-read_same : (families : List Family) (text word behind : List ℕ) (f : Family) (slots : List Edge) → families ≡ all_families → Some f ≡ named_family families text
-    → word ≡ family_word f → slots ≡ family_edges f → behind ≡ drop (length word) text → edges_read text ≡ marked_if (filled slots behind)
+read_same : (families : List Family) (text word remainder : List ℕ) (f : Family) (slots : List Edge) → families ≡ all_families → Some f ≡ named_family families text
+    → word ≡ family_word f → slots ≡ family_edges f → remainder ≡ drop (length word) text → edges_read text ≡ marked_if (slots_filled slots remainder)
 unfolding edges_read
-read_same families text word behind f slots e h w s b =
-    ap (λ fs. read_in (named_family fs text) text) (sym e) ∙ ap (λ o. read_in o text) (sym h) ∙ ap (λ x. marked_if (filled (family_edges f) (drop (length x) text))) (sym w) ∙ ap (λ x. marked_if (filled (family_edges f) x)) (sym b) ∙ ap (λ u. marked_if (filled u behind)) (sym s)
+read_same families text word remainder f slots e h w s b =
+    ap (λ fs. read_by_family (named_family fs text) text) (sym e) ∙ ap (λ o. read_by_family o text) (sym h) ∙ ap (λ x. marked_if (slots_filled (family_edges f) (drop (length x) text))) (sym w) ∙ ap (λ x. marked_if (slots_filled (family_edges f) x)) (sym b) ∙ ap (λ u. marked_if (slots_filled u remainder)) (sym s)
 
 -- the edges that a text with a family's name would name: first those read, with marks; then none where none are read
 module _ {E : Type 0} where
   -- the edges read, with the marks of the edges beside them, are those that the text would name
-  pub family_marked : (families : List Family) (text word behind : List ℕ) (f : Family) (slots old new start unmarked given : List Edge) (told result : Result (Unit {0}) E) → families ≡ all_families → Some f ≡ named_family families text →
-      word ≡ family_word f → slots ≡ family_edges f → behind ≡ drop (length word) text → old ≡ [] → start ≡ [] → Adds (filled slots behind) start unmarked told → given ≡ unmarked → Adds (marked_around given) old new result → Adds (edges_read text) old new result
-  family_marked families text word behind f slots old new start unmarked given told result e h w s b o n a g m edges found fit =
-      let same : edges_read text ≡ marked_if (filled slots behind) = read_same families text word behind f slots e h w s b in
-      by_option (filled slots behind)
+  pub family_marked : (families : List Family) (text word remainder : List ℕ) (f : Family) (slots old new start unmarked given : List Edge) (told result : Result (Unit {0}) E) → families ≡ all_families → Some f ≡ named_family families text →
+      word ≡ family_word f → slots ≡ family_edges f → remainder ≡ drop (length word) text → old ≡ [] → start ≡ [] → AddsEdges (slots_filled slots remainder) start unmarked told → given ≡ unmarked → AddsEdges (marked_around given) old new result → AddsEdges (edges_read text) old new result
+  family_marked families text word remainder f slots old new start unmarked given told result e h w s b o n a g m edges found fit =
+      let same : edges_read text ≡ marked_if (slots_filled slots remainder) = read_same families text word remainder f slots e h w s b in
+      by_option (slots_filled slots remainder)
       (λ n. let z : None ≡ Some edges = sym (same ∙ ap marked_if n) ∙ found in cc)
       (λ raw r.
       let made : marked_around raw ≡ Some edges = sym (same ∙ ap marked_if r) ∙ found in
@@ -157,11 +157,11 @@ module _ {E : Type 0} where
       m edges (ap marked_around given_is ∙ made) fit)
 
   -- where no edges are read, the text names none
-  pub family_none : (families : List Family) (text word behind : List ℕ) (f : Family) (slots old new start unmarked : List Edge) (error : E) (result : Result (Unit {0}) E) → families ≡ all_families → Some f ≡ named_family families text →
-      word ≡ family_word f → slots ≡ family_edges f → behind ≡ drop (length word) text → old ≡ [] → start ≡ [] → Adds (filled slots behind) start unmarked (Err error) → Adds (edges_read text) old new result
-  family_none families text word behind f slots old new start unmarked error result e h w s b o n a edges found fit =
-      let same : edges_read text ≡ marked_if (filled slots behind) = read_same families text word behind f slots e h w s b in
-      by_option (filled slots behind)
+  pub family_none : (families : List Family) (text word remainder : List ℕ) (f : Family) (slots old new start unmarked : List Edge) (error : E) (result : Result (Unit {0}) E) → families ≡ all_families → Some f ≡ named_family families text →
+      word ≡ family_word f → slots ≡ family_edges f → remainder ≡ drop (length word) text → old ≡ [] → start ≡ [] → AddsEdges (slots_filled slots remainder) start unmarked (Err error) → AddsEdges (edges_read text) old new result
+  family_none families text word remainder f slots old new start unmarked error result e h w s b o n a edges found fit =
+      let same : edges_read text ≡ marked_if (slots_filled slots remainder) = read_same families text word remainder f slots e h w s b in
+      by_option (slots_filled slots remainder)
       (λ n. let z : None ≡ Some edges = sym (same ∙ ap marked_if n) ∙ found in cc)
       (λ raw r.
       let made : marked_around raw ≡ Some edges = sym (same ∙ ap marked_if r) ∙ found in
@@ -170,10 +170,10 @@ module _ {E : Type 0} where
 
 -- a text that begins with no family's name is read by the words after `C+`
 pub read_none : {E : Type 0} (families : List Family) (text : List ℕ) (old new : List Edge) (result : Result (Unit {0}) E) → families ≡ all_families → None ≡ named_family families text
-    → Adds (words_read text) old new result → Adds (edges_read text) old new result
+    → AddsEdges (words_read text) old new result → AddsEdges (edges_read text) old new result
 unfolding edges_read
 read_none families text old new result e h a edges found fits =
-    let same : edges_read text ≡ words_read text = ap (λ fs. read_in (named_family fs text) text) (sym e) ∙ ap (λ o. read_in o text) (sym h) in
+    let same : edges_read text ≡ words_read text = ap (λ fs. read_by_family (named_family fs text) text) (sym e) ∙ ap (λ o. read_by_family o text) (sym h) in
     a edges (sym same ∙ found) fits
 
 -- the edges of the cycle that is made are those given

@@ -13,11 +13,11 @@ use Rattle.cycle_laws.proofs.Rotating.{rotation_back, rotation_on, rotation_leng
 use Rattle.cycle_names.specs.declared.family.Family.{Family}
 use Rattle.cycle_names.specs.declared.family.Family.TheVariants as families
 use Rattle.cycle_names.specs.Families.{family_edges, family_word, all_families}
-use Rattle.cycle_names.specs.Links.{slot_of, outline}
-use Rattle.cycle_names.specs.Rotations.{rotations, fits, is_of_family, found_family}
-use Rattle.cycle_names.specs.Fitting.{counted}
-use Rattle.cycle_names.specs.Names.{is_name_byte}
-use Rattle.cycle_names.specs.Reading.{named_family}
+use Rattle.cycle_names.specs.LinkWords.{edge_of_slot, outline}
+use Rattle.cycle_names.specs.Rotations.{rotations, fits_family, is_of_family, found_family}
+use Rattle.cycle_names.specs.Fitting.{edges_counted}
+use Rattle.cycle_names.specs.CycleNames.{is_name_byte}
+use Rattle.cycle_names.specs.NameReading.{named_family}
 use Rattle.cycle_names.proofs.Members.{Member, any_of_member, member_of_any, member_upto, upto_member, find_none, find_only, found_passes, map_rotated}
 use Rattle.cycle_names.proofs.Tables.{slot_is_diff, slot_is_external}
 use Rattle.cycle_names.proofs.Marks.{is_either}
@@ -141,28 +141,28 @@ same_cycle_family f g some r =
 pub record Fitting (u : List Edge) (f : Family) : Type 0 where
   pub place : ℕ
   pub within : place < length u
-  pub fit : fits f (rotated place u) ≡ true
+  pub fit : fits_family f (rotated place u) ≡ true
   pub joins : outline (rotated place u) ≡ family_edges f
 
--- a cycle of a family has a rotation that fits it
+-- a cycle of a family has a rotation that fits_family it
 pub fitting : (u : List Edge) (f : Family) → is_of_family u f ≡ true → Fitting u f
 fitting u f h =
-    let r = member_of_any (fits f) (rotations u) h in
+    let r = member_of_any (fits_family f) (rotations u) h in
     let n = upto_member (λ k. rotated k u) (length u) r.member r.among in
-    let P : List Edge → Type 0 = λ v. fits f v ≡ true in
-    let fit : fits f (rotated n.number u) ≡ true = subst P n.is r.passes in
+    let P : List Edge → Type 0 = λ v. fits_family f v ≡ true in
+    let fit : fits_family f (rotated n.number u) ≡ true = subst P n.is r.passes in
     record { place = n.number; within = n.below; fit = fit; joins = outline_of_fits f (rotated n.number u) fit }
 
--- a cycle of which a rotation by a place fits a family is of that family
-pub is_of_fitting : (u : List Edge) (f : Family) (k : ℕ) → k < length u → fits f (rotated k u) ≡ true → is_of_family u f ≡ true
-is_of_fitting u f k l h = any_of_member (fits f) (rotations u) (rotated k u) (member_upto (λ k. rotated k u) (length u) k l) h
+-- a cycle of which a rotation by a place fits_family a family is of that family
+pub is_of_fitting : (u : List Edge) (f : Family) (k : ℕ) → k < length u → fits_family f (rotated k u) ≡ true → is_of_family u f ≡ true
+is_of_fitting u f k l h = any_of_member (fits_family f) (rotations u) (rotated k u) (member_upto (λ k. rotated k u) (length u) k l) h
 
 -- a cycle of a family joins what the family's cycle does
 pub outline_rotates : (u : List Edge) (f : Family) → Fitting u f → IsRotation (outline u) (family_edges f)
-outline_rotates u f w = rw (← w.joins, map_rotated slot_of w.place u) (rotation_of_place w.place (outline u))
+outline_rotates u f w = rw (← w.joins, map_rotated edge_of_slot w.place u) (rotation_of_place w.place (outline u))
 
 pub family_long : (u : List Edge) (f : Family) → Fitting u f → length (family_edges f) ≡ length u
-family_long u f w = rotation_length (outline u) (family_edges f) (outline_rotates u f w) ∙ length-map u slot_of
+family_long u f w = rotation_length (outline u) (family_edges f) (outline_rotates u f w) ∙ length-map u edge_of_slot
 
 -- no cycle is of two families
 pub one_family : (u : List Edge) (f g : Family) → is_of_family u f ≡ true → is_of_family u g ≡ true → f ≡ g
@@ -196,7 +196,7 @@ pub too_long : (u : List Edge) → 6 < length u → found_family u ≡ None
 unfolding found_family
 too_long u l = find_none (is_of_family u) all_families (λ f m t. omega (arith, family_long u f (fitting u f t), family_small f))
 
--- the family that a rotation fits is the cycle's
+-- the family that a rotation fits_family is the cycle's
 pub family_found : (u : List Edge) (f : Family) → is_of_family u f ≡ true → found_family u ≡ Some f
 unfolding found_family
 family_found u f h = find_only (is_of_family u) all_families f (listed f (never_other u f h)) h (λ g m t. one_family u g f t h)
@@ -214,8 +214,8 @@ either_slots : (v : List Edge) → list_all is_either (outline v) ≡ list_all i
 either_slots [] = refl
 either_slots (e ∷ v) = rw (slot_is_diff e, slot_is_external e, either_slots v) refl
 
--- each edge of a rotation that fits a family is a link or external
-pub fits_either : (f : Family) (v : List Edge) → fits f v ≡ true → list_all is_either v ≡ true
+-- each edge of a rotation that fits_family a family is a link or external
+pub fits_either : (f : Family) (v : List Edge) → fits_family f v ≡ true → list_all is_either v ≡ true
 fits_either f v h =
     sym (either_slots v) ∙ ap (list_all is_either) (outline_of_fits f v h) ∙ each_family (λ f. list_all is_either (family_edges f)) all_either f
 
@@ -300,18 +300,18 @@ word_before families.Other text n = absurd (n refl)
 
 -- no two families have as many links and external edges of each communication
 counts_apart : Family → Family → Bool
-counts_apart f g = (family_place f == family_place g) || not (counted (family_edges f) == counted (family_edges g))
+counts_apart f g = (family_place f == family_place g) || not (edges_counted (family_edges f) == edges_counted (family_edges g))
 
 all_counts_apart : list_all (λ f. list_all (counts_apart f) every_family) every_family ≡ true
 unfolding counts_apart family_place
 all_counts_apart = refl
 
 -- families whose cycles have the same counts are the same
-pub counts_differ : (f g : Family) → counted (family_edges f) ≡ counted (family_edges g) → f ≡ g
+pub counts_differ : (f g : Family) → edges_counted (family_edges f) ≡ edges_counted (family_edges g) → f ≡ g
 unfolding counts_apart
 counts_differ f g e =
     let t : counts_apart f g ≡ true = each_family (counts_apart f) (each_family (λ f. list_all (counts_apart f) every_family) all_counts_apart f) g in
-    family_same f g (eqb-true (family_place f) (family_place g) (one_of (family_place f == family_place g) (counted (family_edges f) == counted (family_edges g)) t (eq-eqb _ _ e)))
+    family_same f g (eqb-true (family_place f) (family_place g) (one_of (family_place f == family_place g) (edges_counted (family_edges f) == edges_counted (family_edges g)) t (eq-eqb _ _ e)))
   where
     one_of : (b c : Bool) → (b || not c) ≡ true → c ≡ true → b ≡ true
     one_of true c t a = refl

@@ -13,14 +13,14 @@ use Rattle.relax_edges.specs.EdgeTable.{kind_of, source_mark, target_mark, same_
 use Rattle.cycle_laws.specs.Composable.{is_joined, is_closed}
 use Rattle.cycle_laws.proofs.Joining.{same_mark_is, joined_marks}
 use Rattle.cycle_laws.proofs.Marks.{marked_edge_of}
-use Rattle.cycle_names.specs.Links.{slot_of}
-use Rattle.cycle_names.specs.Rotations.{is_plain_before, all_plain, is_plain_outside}
-use Rattle.cycle_names.specs.Reading.{before, last_mark, marked_between, marked_along, marked_around}
+use Rattle.cycle_names.specs.LinkWords.{edge_of_slot}
+use Rattle.cycle_names.specs.Rotations.{is_plain_before, all_unmarked, is_plain_outside}
+use Rattle.cycle_names.specs.NameReading.{before, last_mark, marked_between, marked_along, marked_around}
 use Rattle.cycle_names.proofs.Tables.{slot_is_external, external_same}
 
 -- what a name says of an edge: a link with its marks, another edge without
 abbrev pub said_of : Edge → Edge
-said_of e = cond (is_diff e) e (slot_of e)
+said_of e = cond (is_diff e) e (edge_of_slot e)
 
 -- an edge of a family's cycle is a link or external
 abbrev pub is_either : Edge → Bool
@@ -49,11 +49,11 @@ target_unmarked (kinds.Data _) = refl
 
 -- a name says all of a link
 pub said_link : (e : Edge) → is_diff e ≡ true → said_of e ≡ e
-said_link e t = cond-true (is_diff e) e (slot_of e) t
+said_link e t = cond-true (is_diff e) e (edge_of_slot e) t
 
 -- of another edge a name says what it joins
-pub said_slot : (e : Edge) → is_diff e ≡ false → said_of e ≡ slot_of e
-said_slot e f = cond-false (is_diff e) e (slot_of e) f
+pub said_slot : (e : Edge) → is_diff e ≡ false → said_of e ≡ edge_of_slot e
+said_slot e f = cond-false (is_diff e) e (edge_of_slot e) f
 
 said_plain : (e : Edge) → is_diff e ≡ false → said_of e ≡ unmarked (kind_of e)
 said_plain e f = said_slot e f ∙ cond-false (is_diff e) _ (unmarked (kind_of e)) f
@@ -114,7 +114,7 @@ one_back from to e h s t =
 both_there : (o : Option Edge) (p : Option (List Edge)) (e : Edge) (v : List Edge) → o ≡ Some e → p ≡ Some v → before o p ≡ Some (e ∷ v)
 both_there o p e v a b = rw (a, b) refl
 
-along_back : (from : Mark) (e : Edge) (v : List Edge) (last : Edge) → is_joined ((e ∷ v) ++ last ∷ []) ≡ true → all_plain ((e ∷ v) ++ last ∷ []) ≡ true →
+along_back : (from : Mark) (e : Edge) (v : List Edge) (last : Edge) → is_joined ((e ∷ v) ++ last ∷ []) ≡ true → all_unmarked ((e ∷ v) ++ last ∷ []) ≡ true →
     list_all is_either (e ∷ v) ≡ true → is_either last ≡ true → (is_external e ≡ true → source_mark e ≡ from) →
     marked_along from (map said_of (e ∷ v)) (source_mark (said_of last)) ≡ Some (e ∷ v)
 along_back from e [] last j p h l s =
@@ -125,7 +125,7 @@ along_back from e [] last j p h l s =
     refl
 along_back from e (n ∷ v) last j p h l s =
     let js = and_parts (joins_to e n) (is_joined ((n ∷ v) ++ last ∷ [])) j in
-    let ps = and_parts (is_plain_before e ((n ∷ v) ++ last ∷ [])) (all_plain ((n ∷ v) ++ last ∷ [])) p in
+    let ps = and_parts (is_plain_before e ((n ∷ v) ++ last ∷ [])) (all_unmarked ((n ∷ v) ++ last ∷ [])) p in
     let hs = and_parts (is_either e) (list_all is_either (n ∷ v)) h in
     let hn = and_parts (is_either n) (list_all is_either v) hs.1 in
     both_there (marked_between from (said_of e) (source_mark (said_of n))) (marked_along (target_mark (said_of e)) (map said_of (n ∷ v)) (source_mark (said_of last))) e (n ∷ v)
@@ -133,13 +133,13 @@ along_back from e (n ∷ v) last j p h l s =
     (along_back (target_mark (said_of e)) n v last js.1 ps.1 hs.1 l (mark_before e n js.0 ps.0 hs.0))
 
 -- the edge after a list takes the mark of the last one
-last_back : (mark : Mark) (e : Edge) (v : List Edge) (last : Edge) → is_joined ((e ∷ v) ++ last ∷ []) ≡ true → all_plain ((e ∷ v) ++ last ∷ []) ≡ true →
+last_back : (mark : Mark) (e : Edge) (v : List Edge) (last : Edge) → is_joined ((e ∷ v) ++ last ∷ []) ≡ true → all_unmarked ((e ∷ v) ++ last ∷ []) ≡ true →
     list_all is_either (e ∷ v) ≡ true → is_external last ≡ true → source_mark last ≡ last_mark mark (map said_of (e ∷ v))
 last_back mark e [] last j p h t =
     mark_before e last (and_parts (joins_to e last) true j).0 (and_parts (is_plain_before e (last ∷ [])) true p).0 (and_parts (is_either e) true h).0 t
 last_back mark e (n ∷ v) last j p h t =
     last_back (target_mark (said_of e)) n v last (and_parts (joins_to e n) (is_joined ((n ∷ v) ++ last ∷ [])) j).1
-    (and_parts (is_plain_before e ((n ∷ v) ++ last ∷ [])) (all_plain ((n ∷ v) ++ last ∷ [])) p).1 (and_parts (is_either e) (list_all is_either (n ∷ v)) h).1 t
+    (and_parts (is_plain_before e ((n ∷ v) ++ last ∷ [])) (all_unmarked ((n ∷ v) ++ last ∷ [])) p).1 (and_parts (is_either e) (list_all is_either (n ∷ v)) h).1 t
 
 -- a cycle of a family is restored from what a name says of its edges
 pub around_back : (v : List Edge) → is_closed v ≡ true → is_plain_outside v ≡ true → list_all is_either v ≡ true → marked_around (map said_of v) ≡ Some v

@@ -15,8 +15,8 @@ use Rattle.relax_edges.specs.AllEdges.{edges_in_order}
 use Rattle.relax_edges.specs.Spelling.{edge_of}
 use Rattle.cycle_names.specs.Families.{pod, rfe, fre, wse}
 use Rattle.cycle_names.specs.Rotations.{found_family, named_rotation}
-use Rattle.cycle_names.specs.Names.{links_text, name_from, name_of}
-use Rattle.cycle_names.specs.Reading.{is_dash, edges_spelled}
+use Rattle.cycle_names.specs.CycleNames.{links_text, name_from, name_of}
+use Rattle.cycle_names.specs.NameReading.{is_dash, edges_spelled}
 
 -- `LwSyncdWW Rfe DpAddrdR Fre`, and its rotation by one
 mp_lwsync_addr : name_of (edges.Fenced fences.LwSync Diff W W ∷ rfe ∷ edges.Dep deps.Addr Diff R ∷ fre ∷ []) ≡ codes "MP+lwsync+addr"

@@ -12,7 +12,7 @@ use Rattle.relax_edges.specs.declared.TheConstants.{MAX_EDGES}
 use Rattle.relax_edges.specs.declared.kinds.ArchName.{ArchName}
 use Rattle.relax_edges.specs.declared.edge.Edge.{Edge}
 use Rattle.relax_edges.specs.EdgeTable.{is_diff, is_of_arch}
-use Rattle.relax_edges.specs.Words.{word_of}
+use Rattle.relax_edges.specs.WordParts.{word_of}
 use Rattle.cycle_laws.proofs.SpellingLaws.{word_short}
 use Rattle.cycle_laws.specs.Composable.{IsCycle}
 use Rattle.cycle_laws.specs.Rotation.{IsRotation}
@@ -20,10 +20,10 @@ use Rattle.cycle_laws.proofs.Laws.{cycle_of_rotation}
 use Rattle.cycle_laws.proofs.Rotating.{rotation_back, rotation_on, rotation_length}
 use Rattle.cycle_names.specs.declared.family.Family.{Family}
 use Rattle.cycle_names.specs.Families.{family_word}
-use Rattle.cycle_names.specs.Links.{link_word, link_words}
+use Rattle.cycle_names.specs.LinkWords.{link_word, link_words}
 use Rattle.cycle_names.specs.Rotations.{found_family, named_rotation}
-use Rattle.cycle_names.specs.Names.{added, all_equal, plural, links_text, name_from, name_of, is_name_byte}
-use Rattle.cycle_names.specs.Reading.{edges_read}
+use Rattle.cycle_names.specs.CycleNames.{after_plus, all_equal, plural, links_text, name_from, name_of, is_name_byte}
+use Rattle.cycle_names.specs.NameReading.{edges_read}
 use Rattle.cycle_names.specs.Laws.{are_of_arch, NamesDecide, NamesReadBack, FamiliesApart, IsName, NamesAreNames}
 use Rattle.cycle_names.proofs.Tables.{link_word_short, link_word_bytes, word_bytes}
 use Rattle.cycle_names.proofs.Outlines.{words_of_link, words_of_plain}
@@ -107,11 +107,11 @@ few_words (e ∷ v) =
 abbrev short_word : List ℕ → Bool
 short_word word = nat_le (length word) 11
 
-words_long : (words : List (List ℕ)) → list_all short_word words ≡ true → length (flat_map added words) ≤ 12 * length words
+words_long : (words : List (List ℕ)) → list_all short_word words ≡ true → length (flat_map after_plus words) ≤ 12 * length words
 words_long [] h = omega arith
 words_long (word ∷ words) h =
     let both = and_parts (short_word word) (list_all short_word words) h in
-    omega (arith, leb-true (length word) 11 both.0, words_long words both.1, length-append word (flat_map added words))
+    omega (arith, leb-true (length word) 11 both.0, words_long words both.1, length-append word (flat_map after_plus words))
 
 plural_long : (words : List (List ℕ)) → list_all short_word words ≡ true → length (plural words) ≤ 13
 plural_long [] h = omega arith
@@ -144,11 +144,11 @@ named_bytes = list_all is_name_byte
 bytes_both : (s t : List ℕ) → named_bytes s ≡ true → named_bytes t ≡ true → named_bytes (s ++ t) ≡ true
 bytes_both s t x y = list_all-append is_name_byte s t ∙ rw (x, y) refl
 
-words_bytes : (words : List (List ℕ)) → list_all named_bytes words ≡ true → named_bytes (flat_map added words) ≡ true
+words_bytes : (words : List (List ℕ)) → list_all named_bytes words ≡ true → named_bytes (flat_map after_plus words) ≡ true
 words_bytes [] h = refl
 words_bytes (word ∷ words) h =
     let both = and_parts (named_bytes word) (list_all named_bytes words) h in
-    bytes_both word (flat_map added words) both.0 (words_bytes words both.1)
+    bytes_both word (flat_map after_plus words) both.0 (words_bytes words both.1)
 
 plural_bytes : (words : List (List ℕ)) → list_all named_bytes words ≡ true → named_bytes (plural words) ≡ true
 plural_bytes [] h = refl

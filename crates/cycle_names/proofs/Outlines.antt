@@ -14,13 +14,13 @@ use Rattle.relax_edges.specs.EdgeTable.{is_diff}
 use Rattle.relax_edges.specs.Order.{rank_of}
 use Rattle.relax_edges.specs.Relaxations.{is_same}
 use Rattle.cycle_laws.proofs.RankLaws.{rank_injective}
-use Rattle.cycle_laws.specs.Order.{ranks_below}
+use Rattle.cycle_laws.specs.CycleOrder.{ranks_below}
 use Rattle.cycle_names.specs.declared.family.Family.{Family}
 use Rattle.cycle_names.specs.Families.{family_edges}
-use Rattle.cycle_names.specs.Links.{slot_of, outline, link_word, link_words}
-use Rattle.cycle_names.specs.Rotations.{joins_as, is_plain_outside, fits, words_below}
+use Rattle.cycle_names.specs.LinkWords.{edge_of_slot, outline, link_word, link_words}
+use Rattle.cycle_names.specs.Rotations.{joins_as, is_plain_outside, fits_family, words_below}
 use Rattle.cycle_names.specs.Fitting.{word_place}
-use Rattle.cycle_names.specs.Reading.{link_with}
+use Rattle.cycle_names.specs.NameReading.{link_with}
 use Rattle.cycle_names.proofs.Tables.{link_words_order, link_words_equal, link_back, slot_is_diff, no_place}
 use Rattle.cycle_names.proofs.Marks.{said_of, said_link, said_slot}
 
@@ -43,16 +43,16 @@ edges_same (x ∷ u) = rw (eq-eqb (rank_of x) (rank_of x) refl) (edges_same u)
 pub edges_are_same : (u v : List Edge) → u ≡ v → is_same u v ≡ true
 edges_are_same u v e = rw e (edges_same v)
 
--- what a rotation that fits joins, and that it is plain between external edges
-pub outline_of_fits : (f : Family) (v : List Edge) → fits f v ≡ true → outline v ≡ family_edges f
+-- what a rotation that fits_family joins, and that it is plain between external edges
+pub outline_of_fits : (f : Family) (v : List Edge) → fits_family f v ≡ true → outline v ≡ family_edges f
 outline_of_fits f v h = same_edges (outline v) (family_edges f) (and_parts (joins_as f v) (is_plain_outside v) h).0
 
--- a rotation that fits is plain between external edges
-pub plain_of_fits : (f : Family) (v : List Edge) → fits f v ≡ true → is_plain_outside v ≡ true
+-- a rotation that fits_family is plain between external edges
+pub plain_of_fits : (f : Family) (v : List Edge) → fits_family f v ≡ true → is_plain_outside v ≡ true
 plain_of_fits f v h = (and_parts (joins_as f v) (is_plain_outside v) h).1
 
 -- edges that join the same lead to another location alike
-pub diff_alike : (a b : Edge) → slot_of a ≡ slot_of b → is_diff a ≡ is_diff b
+pub diff_alike : (a b : Edge) → edge_of_slot a ≡ edge_of_slot b → is_diff a ≡ is_diff b
 diff_alike a b e = sym (slot_is_diff a) ∙ ap is_diff e ∙ slot_is_diff b
 
 -- links whose words have one place have one word
@@ -64,30 +64,30 @@ link_depends : (s t : Edge) (u v : List ℕ) → s ≡ t → u ≡ v → link_wi
 link_depends s t u v d e = rw (d, e) refl
 
 -- a name says the same of two edges that join the same and have the same word
-same_links : (a b : Edge) → slot_of a ≡ slot_of b → word_place a ≡ word_place b → said_of a ≡ said_of b
+same_links : (a b : Edge) → edge_of_slot a ≡ edge_of_slot b → word_place a ≡ word_place b → said_of a ≡ said_of b
 same_links a b e r =
     by_test (is_diff a)
     (λ t.
     let d : is_diff b ≡ true = sym (diff_alike a b e) ∙ t in
     said_link a t
-    ∙ same_Some a b (sym (link_back a t) ∙ link_depends (slot_of a) (slot_of b) (link_word a) (link_word b) e (words_same a b r) ∙ link_back b d)
+    ∙ same_Some a b (sym (link_back a t) ∙ link_depends (edge_of_slot a) (edge_of_slot b) (link_word a) (link_word b) e (words_same a b r) ∙ link_back b d)
     ∙ sym (said_link b d))
     (λ f. said_slot a f ∙ e ∙ sym (said_slot b (sym (diff_alike a b e) ∙ f)))
 
-heads : (x y : Edge) (u v : List Edge) → outline (x ∷ u) ≡ outline (y ∷ v) → slot_of x ≡ slot_of y
-heads x y u v e = head_same (slot_of x) (slot_of y) (outline u) (outline v) e
+heads : (x y : Edge) (u v : List Edge) → outline (x ∷ u) ≡ outline (y ∷ v) → edge_of_slot x ≡ edge_of_slot y
+heads x y u v e = head_same (edge_of_slot x) (edge_of_slot y) (outline u) (outline v) e
   where
     head_same : (a b : Edge) (c d : List Edge) → a ∷ c ≡ b ∷ d → a ≡ b
     head_same a b c d e = cc
 
 tails : (x y : Edge) (u v : List Edge) → outline (x ∷ u) ≡ outline (y ∷ v) → outline u ≡ outline v
-tails x y u v e = tail_same (slot_of x) (slot_of y) (outline u) (outline v) e
+tails x y u v e = tail_same (edge_of_slot x) (edge_of_slot y) (outline u) (outline v) e
   where
     tail_same : (a b : Edge) (c d : List Edge) → a ∷ c ≡ b ∷ d → c ≡ d
     tail_same a b c d e = cc
 
 outline_long : (u v : List Edge) → outline u ≡ outline v → length u ≡ length v
-outline_long u v e = sym (length-map u slot_of) ∙ ap length e ∙ length-map v slot_of
+outline_long u v e = sym (length-map u edge_of_slot) ∙ ap length e ∙ length-map v edge_of_slot
 
 -- a name says the same of two lists that join the same and have the same words
 pub same_lists : (u v : List Edge) → outline u ≡ outline v → map word_place u ≡ map word_place v → map said_of u ≡ map said_of v
@@ -136,17 +136,17 @@ words_by_ranks [] [] e = refl
 words_by_ranks [] (y ∷ v) e = absurd (omega (arith, outline_long [] (y ∷ v) e))
 words_by_ranks (x ∷ u) [] e = absurd (omega (arith, outline_long (x ∷ u) [] e))
 words_by_ranks (x ∷ u) (y ∷ v) e =
-    let slots : slot_of x ≡ slot_of y = heads x y u v e in
+    let slots : edge_of_slot x ≡ edge_of_slot y = heads x y u v e in
     let both : is_diff x ≡ is_diff y = diff_alike x y slots in
-    let behind : words_before (link_words u) (link_words v) ≡ ranks_below (map word_place u) (map word_place v) = words_by_ranks u v (tails x y u v e) in
+    let remainder : words_before (link_words u) (link_words v) ≡ ranks_below (map word_place u) (map word_place v) = words_by_ranks u v (tails x y u v e) in
     by_test (is_diff x)
     (λ t.
     ap (λ a. words_before a (link_words (y ∷ v))) (words_of_link x u t)
     ∙ ap (words_before (link_word x ∷ link_words u)) (words_of_link y v (sym both ∙ t))
     ∙ ap (λ o. is_lt (ordering_then o (slice_cmp (slice_cmp nat_cmp) (link_words u) (link_words v)))) (link_words_order x y)
-    ∙ one_more (nat_lt (word_place x) (word_place y)) (nat_eq (word_place x) (word_place y)) _ _ behind)
+    ∙ one_more (nat_lt (word_place x) (word_place y)) (nat_eq (word_place x) (word_place y)) _ _ remainder)
     (λ f.
     ap (λ a. words_before a (link_words (y ∷ v))) (words_of_plain x u f)
     ∙ ap (words_before (link_words u)) (words_of_plain y v (sym both ∙ f))
-    ∙ behind
+    ∙ remainder
     ∙ sym (equal_first (word_place x) (word_place y) _ (no_place x f ∙ sym (no_place y (sym both ∙ f)))))

@@ -11,14 +11,14 @@ use Rattle.relax_edges.specs.Order.{rank_of}
 use Rattle.relax_edges.specs.Relaxations.{is_same}
 use Rattle.cycle_laws.specs.Composable.{IsCycle}
 use Rattle.cycle_laws.specs.Rotation.{rotated}
-use Rattle.cycle_laws.specs.Order.{ranks_below}
+use Rattle.cycle_laws.specs.CycleOrder.{ranks_below}
 use Rattle.cycle_laws.proofs.Rotating.{window}
 use Rattle.cycle_names.specs.declared.slot.Slot.{Slot}
 use Rattle.cycle_names.specs.declared.family.Family.{Family}
 use Rattle.cycle_names.specs.Families.{family_edges, all_families}
-use Rattle.cycle_names.specs.Links.{slot_of, outline}
-use Rattle.cycle_names.specs.Rotations.{is_plain_outside, rotations, fits, is_of_family, found_family}
-use Rattle.cycle_names.specs.Fitting.{slot_edge, edge_count, counted, family_of_counts, twice, joins_at, JoinsNone, JoinsFirst, FitsFirst, IsNamedAt, word_place}
+use Rattle.cycle_names.specs.LinkWords.{edge_of_slot, outline}
+use Rattle.cycle_names.specs.Rotations.{is_plain_outside, rotations, fits_family, is_of_family, found_family}
+use Rattle.cycle_names.specs.Fitting.{slot_edge, edge_count, edges_counted, family_of_counts, twice, joins_at, JoinsNone, JoinsFirst, FitsFirst, IsNamedAt, word_place}
 use Rattle.cycle_names.proofs.Members.{find_none, find_only, filter_among, filter_passes, filter_member, member_upto, upto_member, map_rotated}
 use Rattle.cycle_names.proofs.Below.{below_irreflexive, below_transitive}
 use Rattle.cycle_names.proofs.Plain.{plain_rotated}
@@ -33,8 +33,8 @@ part_is xs list k n e l h =
     let m : (k + n) - k ≡ length xs = omega arith in
     rw (m, e) (window k xs (omega arith))
 
--- of a cycle that is plain between external edges, a rotation fits where it joins the same
-fits_said : (f : Family) (u : List Edge) (k : ℕ) → is_plain_outside u ≡ true → fits f (rotated k u) ≡ joins_at (family_edges f) u k
+-- of a cycle that is plain between external edges, a rotation fits_family where it joins the same
+fits_said : (f : Family) (u : List Edge) (k : ℕ) → is_plain_outside u ≡ true → fits_family f (rotated k u) ≡ joins_at (family_edges f) u k
 fits_said f u k p = ap (λ b. joins_at (family_edges f) u k && b) (plain_rotated k u ∙ p) ∙ and-true (joins_at (family_edges f) u k)
 
 -- one place more from which no rotation joins the same
@@ -48,28 +48,28 @@ counts_swap a b = sum_by-append (λ x. x) a b ∙ swapped (sum a) (sum b) ∙ sy
     swapped : (m n : ℕ) → m + n ≡ n + m
     swapped m n = omega arith
 
-counted_cons : (e : Edge) (v : List Edge) → counted (e ∷ v) ≡ edge_count e + counted v
+counted_cons : (e : Edge) (v : List Edge) → edges_counted (e ∷ v) ≡ edge_count e + edges_counted v
 counted_cons e v = sum_by-cons (λ n. n) (edge_count e) (map edge_count v)
 
-counted_outline : (v : List Edge) → counted (outline v) ≡ counted v
+counted_outline : (v : List Edge) → edges_counted (outline v) ≡ edges_counted v
 counted_outline [] = refl
 counted_outline (e ∷ v) =
-    counted_cons (slot_of e) (outline v) ∙ ap (λ n. n + counted (outline v)) (edge_counts e) ∙ ap (λ n. edge_count e + n) (counted_outline v) ∙ sym (counted_cons e v)
+    counted_cons (edge_of_slot e) (outline v) ∙ ap (λ n. n + edges_counted (outline v)) (edge_counts e) ∙ ap (λ n. edge_count e + n) (counted_outline v) ∙ sym (counted_cons e v)
 
-counted_fitting : (u : List Edge) (f : Family) → Fitting u f → counted (family_edges f) ≡ counted u
+counted_fitting : (u : List Edge) (f : Family) → Fitting u f → edges_counted (family_edges f) ≡ edges_counted u
 counted_fitting u f w =
     let xs : List ℕ = map edge_count u in
-    ap counted (sym w.joins)
+    ap edges_counted (sym w.joins)
     ∙ counted_outline (rotated w.place u)
     ∙ ap sum (map_rotated edge_count w.place u)
     ∙ counts_swap (drop w.place xs) (take w.place xs)
     ∙ ap sum (take-append-drop w.place xs)
 
 -- the only family that a cycle can be of has as many
-pub likely : (u : List Edge) (f : Family) → is_of_family u f ≡ true → family_of_counts (counted u) ≡ Some f
+pub likely : (u : List Edge) (f : Family) → is_of_family u f ≡ true → family_of_counts (edges_counted u) ≡ Some f
 unfolding family_of_counts
 likely u f h =
-    find_only (λ g. counted (family_edges g) == counted u) all_families f (listed f (never_other u f h)) (eq-eqb _ _ (counted_fitting u f (fitting u f h)))
+    find_only (λ g. edges_counted (family_edges g) == edges_counted u) all_families f (listed f (never_other u f h)) (eq-eqb _ _ (counted_fitting u f (fitting u f h)))
     (λ g m t. counts_differ g f (eqb-true _ _ t ∙ sym (counted_fitting u f (fitting u f h))))
 
 no_family : (u : List Edge) → ((f : Family) → is_of_family u f ≡ true → ⊥) → found_family u ≡ None
@@ -77,11 +77,11 @@ unfolding found_family
 no_family u h = find_none (is_of_family u) all_families (λ f m t. h f t)
 
 -- where no family has as many, the cycle is of none
-pub unlikely : (u : List Edge) → family_of_counts (counted u) ≡ None → found_family u ≡ None
+pub unlikely : (u : List Edge) → family_of_counts (edges_counted u) ≡ None → found_family u ≡ None
 unlikely u h = no_family u (λ f t. let z : None ≡ Some f = sym h ∙ likely u f t in cc)
 
 -- where no rotation joins what the family with as many does, the cycle is of none
-pub fits_none : (u : List Edge) (f : Family) (slots : List Edge) → slots ≡ family_edges f → family_of_counts (counted u) ≡ Some f → JoinsNone slots u (length u) → found_family u ≡ None
+pub fits_none : (u : List Edge) (f : Family) (slots : List Edge) → slots ≡ family_edges f → family_of_counts (edges_counted u) ≡ Some f → JoinsNone slots u (length u) → found_family u ≡ None
 fits_none u f slots s l h =
     no_family u (λ g t.
     let same : f ≡ g = same_Some f g (sym l ∙ likely u g t) in
@@ -98,14 +98,14 @@ marked_outside u h =
     let z : true ≡ false = sym (plain_of_fits g (rotated w.place u) w.fit) ∙ plain_rotated w.place u ∙ h in
     cc)
 
--- the first rotation that joins what a family's cycle does fits, where the cycle is plain between external edges
+-- the first rotation that joins what a family's cycle does fits_family, where the cycle is plain between external edges
 pub fits_first : (u : List Edge) (f : Family) (slots : List Edge) (place : ℕ) → slots ≡ family_edges f → JoinsFirst slots u place → is_plain_outside u ≡ true → FitsFirst u f place
 fits_first u f slots place s h p = record { first = rw (← s) h; plain = p }
 
-fits_there : (u : List Edge) (f : Family) (k : ℕ) → FitsFirst u f k → fits f (rotated k u) ≡ true
+fits_there : (u : List Edge) (f : Family) (k : ℕ) → FitsFirst u f k → fits_family f (rotated k u) ≡ true
 fits_there u f k h = fits_said f u k h.plain ∙ h.first.joins
 
--- the family that a rotation fits is the cycle's
+-- the family that a rotation fits_family is the cycle's
 pub fits_found : (u : List Edge) (f : Family) (k : ℕ) → FitsFirst u f k → found_family u ≡ Some f
 fits_found u f k h = family_found u f (is_of_fitting u f k h.first.within (fits_there u f k h))
 
@@ -115,7 +115,7 @@ pub record NamedUpTo (u : List Edge) (f : Family) (k named : ℕ) : Type 0 where
   pub joins : joins_at (family_edges f) u named ≡ true
   pub none : (j : ℕ) → j < k → joins_at (family_edges f) u j ≡ true → links_below (rotated j u) (rotated named u) ≡ true → ⊥
 
--- of the places up to the first from which a rotation fits, that one comes first
+-- of the places up to the first from which a rotation fits_family, that one comes first
 pub named_first : (u : List Edge) (f : Family) (k : ℕ) → FitsFirst u f k → NamedUpTo u f (k + 1) k
 named_first u f k h = record {
   within = h.first.within;
@@ -149,7 +149,7 @@ named_kept u f k named h t = record {
       cc);
 }
 
--- where the rotation from the next place fits and its words come before, that place replaces it
+-- where the rotation from the next place fits_family and its words come before, that place replaces it
 pub named_replaced : (u : List Edge) (f : Family) (k named : ℕ) → NamedUpTo u f k named → k < length u →
     (joins_at (family_edges f) u k && ranks_below (rotated k (map word_place u)) (rotated named (map word_place u))) ≡ true → NamedUpTo u f (k + 1) k
 named_replaced u f k named h l t =
@@ -171,17 +171,17 @@ named_at u f first k named c w l h =
       within = h.within;
       found = found;
       named = named_in_family f u (rotated named u) c found (first_by_words f u (rotated named u) (record {
-        member = filter_member (fits f) (rotations u) (rotated named u) (member_upto (λ k. rotated k u) (length u) named h.within) (fits_said f u named w.plain ∙ h.joins);
+        member = filter_member (fits_family f) (rotations u) (rotated named u) (member_upto (λ k. rotated k u) (length u) named h.within) (fits_said f u named w.plain ∙ h.joins);
         none = λ v m b.
-            let n = upto_member (λ k. rotated k u) (length u) v (filter_among (fits f) (rotations u) v m) in
-            let e : joins_at (family_edges f) u n.number ≡ true = sym (fits_said f u n.number w.plain) ∙ ap (fits f) (sym n.is) ∙ filter_passes (fits f) (rotations u) v m in
+            let n = upto_member (λ k. rotated k u) (length u) v (filter_among (fits_family f) (rotations u) v m) in
+            let e : joins_at (family_edges f) u n.number ≡ true = sym (fits_said f u n.number w.plain) ∙ ap (fits_family f) (sym n.is) ∙ filter_passes (fits_family f) (rotations u) v m in
             h.none n.number (omega (arith, n.below)) e (ap (λ x. links_below x (rotated named u)) (sym n.is) ∙ b);
       }));
     }
 
 -- by the numbers of edges of each sort there is no family, or the only one that is possible
-pub likely_answer : (u : List Edge) (count : ℕ) (o : Option Family) → count ≡ counted u → o ≡ family_of_counts count → length u ≤ 6 →
-    MatchOption o (found_family u ≡ None) (λ family. (length u ≤ 6) × (family_of_counts (counted u) ≡ Some family))
+pub likely_answer : (u : List Edge) (count : ℕ) (o : Option Family) → count ≡ edges_counted u → o ≡ family_of_counts count → length u ≤ 6 →
+    MatchOption o (found_family u ≡ None) (λ family. (length u ≤ 6) × (family_of_counts (edges_counted u) ≡ Some family))
 likely_answer u count None t o l = unlikely u (ap family_of_counts (sym t) ∙ sym o)
 likely_answer u count (Some f) t o l = (l, ap family_of_counts (sym t) ∙ sym o)
 
@@ -203,7 +203,7 @@ not_same (x ∷ u) (y ∷ v) h = ap (λ c. (rank_of x == rank_of y) && c) (not_s
 pub other_length : (slots : List Slot) (u : List Edge) (k : ℕ) → (length slots ≡ length u → ⊥) → joins_at (map slot_edge slots) u k ≡ false
 other_length slots u k h =
     not_same (outline (rotated k u)) (map slot_edge slots)
-    (λ e. h (omega (arith, e, length-map (rotated k u) slot_of, length-map slots slot_edge, length-append (drop k u) (take k u), ap length (take-append-drop k u), length-append (take k u) (drop k u))))
+    (λ e. h (omega (arith, e, length-map (rotated k u) edge_of_slot, length-map slots slot_edge, length-append (drop k u) (take k u), ap length (take-append-drop k u), length-append (take k u) (drop k u))))
 
 -- comparing the two parts with the two parts of the slots is comparing the rotation with the slots
 pub joins_parts : (slots : List Slot) (u : List Edge) (k : ℕ) (prefix back : List Edge) (first last : List Slot) → prefix ≡ take k u → back ≡ drop k u →
@@ -212,10 +212,10 @@ pub joins_parts : (slots : List Slot) (u : List Edge) (k : ℕ) (prefix back : L
 joins_parts slots u k prefix back first last f b i l n =
     let whole : map slot_edge first ++ map slot_edge last ≡ map slot_edge slots =
     sym (map-append slot_edge first last) ∙ ap (map slot_edge) (ap (λ w. w ++ last) i ∙ ap (λ w. take (length back) slots ++ w) l ∙ take-append-drop (length back) slots) in
-    let turned : outline back ++ outline prefix ≡ outline (rotated k u) = sym (map-append slot_of back prefix) ∙ ap outline (ap (λ w. w ++ prefix) b ∙ ap (λ w. drop k u ++ w) f) in
+    let turned : outline back ++ outline prefix ≡ outline (rotated k u) = sym (map-append edge_of_slot back prefix) ∙ ap outline (ap (λ w. w ++ prefix) b ∙ ap (λ w. drop k u ++ w) f) in
     let fit : length back ≤ length slots = omega (arith, n, ap length b, ap length (take-append-drop k u), length-append (take k u) (drop k u)) in
     let long : length (outline back) ≡ length (map slot_edge first) =
-    length-map back slot_of ∙ sym (length-map first slot_edge ∙ ap length i ∙ length-take-le (length back) slots fit) in
+    length-map back edge_of_slot ∙ sym (length-map first slot_edge ∙ ap length i ∙ length-take-le (length back) slots fit) in
     sym (same_parts (outline back) (outline prefix) (map slot_edge first) (map slot_edge last) long)
     ∙ ap (is_same (outline back ++ outline prefix)) whole ∙ ap (λ w. is_same w (map slot_edge slots)) turned
 

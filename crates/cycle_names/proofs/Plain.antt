@@ -5,29 +5,29 @@ use Rattle.std.proofs.lemmas.List.{append-nil, take-append-drop}
 use Rattle.std.proofs.Math.Bool.{and_assoc, and_comm}
 use Rattle.relax_edges.specs.declared.edge.Edge.{Edge}
 use Rattle.cycle_laws.specs.Rotation.{rotated}
-use Rattle.cycle_names.specs.Rotations.{is_plain_before, all_plain, is_plain_outside}
+use Rattle.cycle_names.specs.Rotations.{is_plain_before, all_unmarked, is_plain_outside}
 
 plain_prefix : (e m : Edge) (a b : List Edge) → is_plain_before e (a ++ m ∷ b) ≡ is_plain_before e (a ++ m ∷ [])
 plain_prefix e m [] b = refl
 plain_prefix e m (f ∷ a) b = refl
 
 -- accesses are plain where they are up to an edge and from that edge on
-plain_at : (a : List Edge) (m : Edge) (b : List Edge) → all_plain (a ++ m ∷ b) ≡ (all_plain (a ++ m ∷ []) && all_plain (m ∷ b))
+plain_at : (a : List Edge) (m : Edge) (b : List Edge) → all_unmarked (a ++ m ∷ b) ≡ (all_unmarked (a ++ m ∷ []) && all_unmarked (m ∷ b))
 plain_at [] m b = refl
 plain_at (e ∷ a) m b =
-    ap (λ x. x && all_plain (a ++ m ∷ b)) (plain_prefix e m a b)
+    ap (λ x. x && all_unmarked (a ++ m ∷ b)) (plain_prefix e m a b)
     ∙ ap (λ x. is_plain_before e (a ++ m ∷ []) && x) (plain_at a m b)
-    ∙ sym (and_assoc (is_plain_before e (a ++ m ∷ [])) (all_plain (a ++ m ∷ [])) (all_plain (m ∷ b)))
+    ∙ sym (and_assoc (is_plain_before e (a ++ m ∷ [])) (all_unmarked (a ++ m ∷ [])) (all_unmarked (m ∷ b)))
 
 plain_turned : (prefix back : List Edge) → is_plain_outside (prefix ++ back) ≡ is_plain_outside (back ++ prefix)
 plain_turned [] back = ap is_plain_outside (sym (append-nil back))
 plain_turned (f ∷ fs) [] = ap is_plain_outside (append-nil (f ∷ fs))
 plain_turned (f ∷ fs) (g ∷ gs) =
-    let one : all_plain (((f ∷ fs) ++ g ∷ gs) ++ f ∷ []) ≡ (all_plain ((f ∷ fs) ++ g ∷ []) && all_plain ((g ∷ gs) ++ f ∷ [])) =
-    ap all_plain (append_assoc (f ∷ fs) (g ∷ gs) (f ∷ [])) ∙ plain_at (f ∷ fs) g (gs ++ f ∷ []) in
-    let two : all_plain (((g ∷ gs) ++ f ∷ fs) ++ g ∷ []) ≡ (all_plain ((g ∷ gs) ++ f ∷ []) && all_plain ((f ∷ fs) ++ g ∷ [])) =
-    ap all_plain (append_assoc (g ∷ gs) (f ∷ fs) (g ∷ [])) ∙ plain_at (g ∷ gs) f (fs ++ g ∷ []) in
-    one ∙ and_comm (all_plain ((f ∷ fs) ++ g ∷ [])) (all_plain ((g ∷ gs) ++ f ∷ [])) ∙ sym two
+    let one : all_unmarked (((f ∷ fs) ++ g ∷ gs) ++ f ∷ []) ≡ (all_unmarked ((f ∷ fs) ++ g ∷ []) && all_unmarked ((g ∷ gs) ++ f ∷ [])) =
+    ap all_unmarked (append_assoc (f ∷ fs) (g ∷ gs) (f ∷ [])) ∙ plain_at (f ∷ fs) g (gs ++ f ∷ []) in
+    let two : all_unmarked (((g ∷ gs) ++ f ∷ fs) ++ g ∷ []) ≡ (all_unmarked ((g ∷ gs) ++ f ∷ []) && all_unmarked ((f ∷ fs) ++ g ∷ [])) =
+    ap all_unmarked (append_assoc (g ∷ gs) (f ∷ fs) (g ∷ [])) ∙ plain_at (g ∷ gs) f (fs ++ g ∷ []) in
+    one ∙ and_comm (all_unmarked ((f ∷ fs) ++ g ∷ [])) (all_unmarked ((g ∷ gs) ++ f ∷ [])) ∙ sym two
 
 -- whether a cycle is plain between external edges is the same for all its rotations
 pub plain_rotated : (k : ℕ) (u : List Edge) → is_plain_outside (rotated k u) ≡ is_plain_outside u

@@ -11,7 +11,7 @@ use Rattle.std.proofs.lemmas.List.{append-nil, take_at}
 use Rattle.list_laws.proofs.Cases.{by_test, by_option}
 use Rattle.relax_edges.specs.declared.edge.Edge.{Edge}
 use Rattle.relax_edges.specs.EdgeTable.{is_diff}
-use Rattle.relax_edges.specs.Words.{word_of}
+use Rattle.relax_edges.specs.WordParts.{word_of}
 use Rattle.relax_edges.specs.Spelling.{edge_of}
 use Rattle.cycle_laws.proofs.SpellingLaws.{edge_of-word_of}
 use Rattle.list_laws.proofs.Places.{before_first-no}
@@ -21,10 +21,10 @@ use Rattle.cycle_laws.proofs.Rotating.{rotation_length}
 use Rattle.cycle_names.specs.declared.family.Family.{Family}
 use Rattle.cycle_names.specs.declared.family.Family.TheVariants as families
 use Rattle.cycle_names.specs.Families.{family_word, family_edges, all_families}
-use Rattle.cycle_names.specs.Links.{slot_of, outline, link_word, link_words}
-use Rattle.cycle_names.specs.Rotations.{fits, found_family, named_rotation}
-use Rattle.cycle_names.specs.Names.{added, all_equal, plural, links_text, name_from, name_of}
-use Rattle.cycle_names.specs.Reading.{is_plus, is_dash, named_family, link_with, slot_with, before, filled_alike, first_word, after_word, filled_each, but_last, filled, marked_if, edges_spelled, read_in, edges_read}
+use Rattle.cycle_names.specs.LinkWords.{edge_of_slot, outline, link_word, link_words}
+use Rattle.cycle_names.specs.Rotations.{fits_family, found_family, named_rotation}
+use Rattle.cycle_names.specs.CycleNames.{after_plus, all_equal, plural, links_text, name_from, name_of}
+use Rattle.cycle_names.specs.NameReading.{is_plus, is_dash, named_family, link_with, slot_with, before, filled_alike, first_name_word, after_word, filled_each, but_last, slots_filled, marked_if, edges_spelled, read_by_family, edges_read}
 use Rattle.cycle_names.proofs.Tables.{slot_is_diff, link_back, link_word_whole, word_whole}
 use Rattle.cycle_names.proofs.Marks.{said_of, said_link, said_slot}
 use Rattle.cycle_names.proofs.Outlines.{outline_of_fits, words_of_link, words_of_plain}
@@ -45,11 +45,11 @@ until_end p (b ∷ word) h =
     before_first-no p b word (not-true (p b) both.0) ∙ ap (λ w. b ∷ w) (until_end p word both.1)
 
 -- the edge of a slot, with the word of the edge
-slot_back : (e : Edge) (word : List ℕ) → (is_diff e ≡ true → word ≡ link_word e) → slot_with (slot_of e) word ≡ Some (said_of e)
+slot_back : (e : Edge) (word : List ℕ) → (is_diff e ≡ true → word ≡ link_word e) → slot_with (edge_of_slot e) word ≡ Some (said_of e)
 slot_back e word h =
     by_test (is_diff e)
-    (λ t. cond-true (is_diff (slot_of e)) (link_with (slot_of e) word) (Some (slot_of e)) (slot_is_diff e ∙ t) ∙ ap (link_with (slot_of e)) (h t) ∙ link_back e t ∙ ap Some (sym (said_link e t)))
-    (λ f. cond-false (is_diff (slot_of e)) (link_with (slot_of e) word) (Some (slot_of e)) (slot_is_diff e ∙ f) ∙ ap Some (sym (said_slot e f)))
+    (λ t. cond-true (is_diff (edge_of_slot e)) (link_with (edge_of_slot e) word) (Some (edge_of_slot e)) (slot_is_diff e ∙ t) ∙ ap (link_with (edge_of_slot e)) (h t) ∙ link_back e t ∙ ap Some (sym (said_link e t)))
+    (λ f. cond-false (is_diff (edge_of_slot e)) (link_with (edge_of_slot e) word) (Some (edge_of_slot e)) (slot_is_diff e ∙ f) ∙ ap Some (sym (said_slot e f)))
 
 both_there : (o : Option Edge) (p : Option (List Edge)) (e : Edge) (v : List Edge) → o ≡ Some e → p ≡ Some v → before o p ≡ Some (e ∷ v)
 both_there o p e v a b = rw (a, b) refl
@@ -58,7 +58,7 @@ both_there o p e v a b = rw (a, b) refl
 alike_back : (v : List Edge) (word : List ℕ) → list_all (bytes_eq word) (link_words v) ≡ true → filled_alike (outline v) word ≡ Some (map said_of v)
 alike_back [] word h = refl
 alike_back (e ∷ v) word h =
-    both_there (slot_with (slot_of e) word) (filled_alike (outline v) word) (said_of e) (map said_of v)
+    both_there (slot_with (edge_of_slot e) word) (filled_alike (outline v) word) (said_of e) (map said_of v)
     (slot_back e word (λ t.
     let a : list_all (bytes_eq word) (link_word e ∷ link_words v) ≡ true = sym (ap (list_all (bytes_eq word)) (words_of_link e v t)) ∙ h in
     (bytes_decides word (link_word e)).0 (and_parts (bytes_eq word (link_word e)) (list_all (bytes_eq word) (link_words v)) a).0))
@@ -69,30 +69,30 @@ alike_back (e ∷ v) word h =
     (λ f. sym (ap (list_all (bytes_eq word)) (words_of_plain e v f)) ∙ h)))
 
 -- the first of some words, each of which follows a `+`
-first_word_is : (word : List ℕ) (words : List (List ℕ)) → list_all (λ b. not (is_plus b)) word ≡ true → first_word (43 ∷ (word ++ flat_map added words)) ≡ word
+first_word_is : (word : List ℕ) (words : List (List ℕ)) → list_all (λ b. not (is_plus b)) word ≡ true → first_name_word (43 ∷ (word ++ flat_map after_plus words)) ≡ word
 first_word_is word [] h = ap (before_first is_plus) (append-nil word) ∙ until_end is_plus word h
-first_word_is word (next ∷ words) h = until is_plus word 43 (next ++ flat_map added words) h refl
+first_word_is word (next ∷ words) h = until is_plus word 43 (next ++ flat_map after_plus words) h refl
 
-after_word_is : (word : List ℕ) (words : List (List ℕ)) → list_all (λ b. not (is_plus b)) word ≡ true → after_word (43 ∷ (word ++ flat_map added words)) ≡ flat_map added words
+after_word_is : (word : List ℕ) (words : List (List ℕ)) → list_all (λ b. not (is_plus b)) word ≡ true → after_word (43 ∷ (word ++ flat_map after_plus words)) ≡ flat_map after_plus words
 after_word_is word words h =
-    ap (λ w. drop (length w) (word ++ flat_map added words)) (first_word_is word words h) ∙ drop-append_seam word (flat_map added words)
+    ap (λ w. drop (length w) (word ++ flat_map after_plus words)) (first_word_is word words h) ∙ drop-append_seam word (flat_map after_plus words)
 
-each_back : (v : List Edge) → filled_each (outline v) (flat_map added (link_words v)) ≡ Some (map said_of v)
+each_back : (v : List Edge) → filled_each (outline v) (flat_map after_plus (link_words v)) ≡ Some (map said_of v)
 each_back [] = refl
 each_back (e ∷ v) =
     by_test (is_diff e)
     (λ t.
-    let text : List ℕ = 43 ∷ (link_word e ++ flat_map added (link_words v)) in
-    ap (filled_each (slot_of e ∷ outline v)) (ap (flat_map added) (words_of_link e v t))
-    ∙ cond-true (is_diff (slot_of e)) (before (link_with (slot_of e) (first_word text)) (filled_each (outline v) (after_word text))) (before (Some (slot_of e)) (filled_each (outline v) text)) (slot_is_diff e ∙ t)
-    ∙ both_there (link_with (slot_of e) (first_word text)) (filled_each (outline v) (after_word text)) (said_of e) (map said_of v)
-    (ap (link_with (slot_of e)) (first_word_is (link_word e) (link_words v) (link_word_whole e)) ∙ link_back e t ∙ ap Some (sym (said_link e t)))
+    let text : List ℕ = 43 ∷ (link_word e ++ flat_map after_plus (link_words v)) in
+    ap (filled_each (edge_of_slot e ∷ outline v)) (ap (flat_map after_plus) (words_of_link e v t))
+    ∙ cond-true (is_diff (edge_of_slot e)) (before (link_with (edge_of_slot e) (first_name_word text)) (filled_each (outline v) (after_word text))) (before (Some (edge_of_slot e)) (filled_each (outline v) text)) (slot_is_diff e ∙ t)
+    ∙ both_there (link_with (edge_of_slot e) (first_name_word text)) (filled_each (outline v) (after_word text)) (said_of e) (map said_of v)
+    (ap (link_with (edge_of_slot e)) (first_word_is (link_word e) (link_words v) (link_word_whole e)) ∙ link_back e t ∙ ap Some (sym (said_link e t)))
     (ap (filled_each (outline v)) (after_word_is (link_word e) (link_words v) (link_word_whole e)) ∙ each_back v))
     (λ f.
-    let text : List ℕ = flat_map added (link_words v) in
-    ap (filled_each (slot_of e ∷ outline v)) (ap (flat_map added) (words_of_plain e v f))
-    ∙ cond-false (is_diff (slot_of e)) (before (link_with (slot_of e) (first_word text)) (filled_each (outline v) (after_word text))) (before (Some (slot_of e)) (filled_each (outline v) text)) (slot_is_diff e ∙ f)
-    ∙ both_there (Some (slot_of e)) (filled_each (outline v) text) (said_of e) (map said_of v) (ap Some (sym (said_slot e f))) (each_back v))
+    let text : List ℕ = flat_map after_plus (link_words v) in
+    ap (filled_each (edge_of_slot e ∷ outline v)) (ap (flat_map after_plus) (words_of_plain e v f))
+    ∙ cond-false (is_diff (edge_of_slot e)) (before (link_with (edge_of_slot e) (first_name_word text)) (filled_each (outline v) (after_word text))) (before (Some (edge_of_slot e)) (filled_each (outline v) text)) (slot_is_diff e ∙ f)
+    ∙ both_there (Some (edge_of_slot e)) (filled_each (outline v) text) (said_of e) (map said_of v) (ap Some (sym (said_slot e f))) (each_back v))
 
 -- no word of a link has a `+`
 words_whole : (v : List Edge) → list_all (list_all (λ b. not (is_plus b))) (link_words v) ≡ true
@@ -108,11 +108,11 @@ none_of p (x ∷ xs) h =
     let both = and_parts (not (p x)) (list_all (λ b. not (p b)) xs) h in
     rw (not-true (p x) both.0) (none_of p xs both.1)
 
--- a text with a byte added at its end, without its last byte
+-- a text with a byte after_plus at its end, without its last byte
 but_last_is : (word : List ℕ) (byte : ℕ) → but_last (word ++ byte ∷ []) ≡ word
 but_last_is word byte = take_at word (byte ∷ []) (length (word ++ byte ∷ []) - 1) (omega (arith, length-append word (byte ∷ [])))
 
-plural_back : (v : List Edge) (words : List (List ℕ)) → words ≡ link_words v → 0 < length words → all_equal words ≡ true → filled (outline v) (plural words) ≡ Some (map said_of v)
+plural_back : (v : List Edge) (words : List (List ℕ)) → words ≡ link_words v → 0 < length words → all_equal words ≡ true → slots_filled (outline v) (plural words) ≡ Some (map said_of v)
 plural_back v [] e l h = absurd (omega arith)
 plural_back v (word ∷ words) e l h =
     let whole : list_all (λ b. not (is_plus b)) word ≡ true =
@@ -124,29 +124,29 @@ plural_back v (word ∷ words) e l h =
     ∙ ap (filled_alike (outline v)) (but_last_is word 115)
     ∙ alike_back v word alike
 
-words_back : (v : List Edge) (words : List (List ℕ)) → words ≡ link_words v → 2 ≤ length words → filled (outline v) (flat_map added words) ≡ Some (map said_of v)
+words_back : (v : List Edge) (words : List (List ℕ)) → words ≡ link_words v → 2 ≤ length words → slots_filled (outline v) (flat_map after_plus words) ≡ Some (map said_of v)
 words_back v [] e l = absurd (omega arith)
 words_back v (word ∷ []) e l = absurd (omega arith)
 words_back v (word ∷ next ∷ words) e l =
-    let text : List ℕ = word ++ 43 ∷ (next ++ flat_map added words) in
+    let text : List ℕ = word ++ 43 ∷ (next ++ flat_map after_plus words) in
     let some : list_any is_plus text ≡ true =
-    list_any-append is_plus word (43 ∷ (next ++ flat_map added words)) ∙ or_right (list_any is_plus word) true refl in
+    list_any-append is_plus word (43 ∷ (next ++ flat_map after_plus words)) ∙ or_right (list_any is_plus word) true refl in
     cond-true (list_any is_plus text) (filled_each (outline v) (43 ∷ text)) (filled_alike (outline v) (but_last text)) some
-    ∙ ap (filled_each (outline v)) (ap (flat_map added) e)
+    ∙ ap (filled_each (outline v)) (ap (flat_map after_plus) e)
     ∙ each_back v
 
-links_back : (v : List Edge) → 2 ≤ length (link_words v) → filled (outline v) (links_text (link_words v)) ≡ Some (map said_of v)
+links_back : (v : List Edge) → 2 ≤ length (link_words v) → slots_filled (outline v) (links_text (link_words v)) ≡ Some (map said_of v)
 unfolding links_text
 links_back v l =
     let words : List (List ℕ) = link_words v in
-    let rest : List ℕ = cond (all_equal words) (plural words) (flat_map added words) in
+    let rest : List ℕ = cond (all_equal words) (plural words) (flat_map after_plus words) in
     by_test (list_all (bytes_eq (codes "po")) words)
-    (λ t. ap (filled (outline v)) (cond-true (list_all (bytes_eq (codes "po")) words) [] rest t) ∙ alike_back v (codes "po") t)
+    (λ t. ap (slots_filled (outline v)) (cond-true (list_all (bytes_eq (codes "po")) words) [] rest t) ∙ alike_back v (codes "po") t)
     (λ f.
-    ap (filled (outline v)) (cond-false (list_all (bytes_eq (codes "po")) words) [] rest f)
+    ap (slots_filled (outline v)) (cond-false (list_all (bytes_eq (codes "po")) words) [] rest f)
     ∙ by_test (all_equal words)
-    (λ t. ap (filled (outline v)) (cond-true (all_equal words) (plural words) (flat_map added words) t) ∙ plural_back v words refl (omega (arith, l)) t)
-    (λ f. ap (filled (outline v)) (cond-false (all_equal words) (plural words) (flat_map added words) f) ∙ words_back v words refl l))
+    (λ t. ap (slots_filled (outline v)) (cond-true (all_equal words) (plural words) (flat_map after_plus words) t) ∙ plural_back v words refl (omega (arith, l)) t)
+    (λ f. ap (slots_filled (outline v)) (cond-false (all_equal words) (plural words) (flat_map after_plus words) f) ∙ words_back v words refl l))
 
 -- an empty text, or one that begins with `+`
 data StartsPlus (text : List ℕ) : Type 0 where
@@ -157,9 +157,9 @@ plural_starts : (words : List (List ℕ)) → StartsPlus (plural words)
 plural_starts [] = ends_here refl
 plural_starts (word ∷ words) = goes_on (word ++ 115 ∷ []) refl
 
-words_start : (words : List (List ℕ)) → StartsPlus (flat_map added words)
+words_start : (words : List (List ℕ)) → StartsPlus (flat_map after_plus words)
 words_start [] = ends_here refl
-words_start (word ∷ words) = goes_on (word ++ flat_map added words) refl
+words_start (word ∷ words) = goes_on (word ++ flat_map after_plus words) refl
 
 links_start : (words : List (List ℕ)) → StartsPlus (links_text words)
 unfolding links_text
@@ -184,9 +184,9 @@ count_links (e ∷ v) =
     by_test (is_diff e)
     (λ t.
     let a : length (link_words (e ∷ v)) ≡ suc (length (link_words v)) = ap length (words_of_link e v t) in
-    let b : length (filter is_diff (outline (e ∷ v))) ≡ suc (length (filter is_diff (outline v))) = one_more (slot_of e) (outline v) (slot_is_diff e ∙ t) in
+    let b : length (filter is_diff (outline (e ∷ v))) ≡ suc (length (filter is_diff (outline v))) = one_more (edge_of_slot e) (outline v) (slot_is_diff e ∙ t) in
     omega (arith, a, b, count_links v))
-    (λ f. ap length (words_of_plain e v f) ∙ count_links v ∙ sym (no_more (slot_of e) (outline v) (slot_is_diff e ∙ f)))
+    (λ f. ap length (words_of_plain e v f) ∙ count_links v ∙ sym (no_more (edge_of_slot e) (outline v) (slot_is_diff e ∙ f)))
   where
     one_more : (s : Edge) (u : List Edge) → is_diff s ≡ true → length (filter is_diff (s ∷ u)) ≡ suc (length (filter is_diff u))
     one_more s u t = rw t refl
@@ -195,16 +195,16 @@ count_links (e ∷ v) =
     no_more s u f = rw f refl
 
 -- the name of a cycle of a family
-family_back : (f : Family) (v : List Edge) → (f ≡ families.Other → ⊥) → IsCycle v → fits f v ≡ true → edges_read (name_from (Some f) v) ≡ Some v
+family_back : (f : Family) (v : List Edge) → (f ≡ families.Other → ⊥) → IsCycle v → fits_family f v ≡ true → edges_read (name_from (Some f) v) ≡ Some v
 unfolding edges_read name_from
 family_back f v n c h =
     let e : outline v ≡ family_edges f = outline_of_fits f v h in
     let words : List (List ℕ) = link_words v in
     let text : List ℕ = family_word f ++ links_text words in
     let many : 2 ≤ length words = omega (arith, count_links v, ap (λ u. length (filter is_diff u)) e, family_links f n) in
-    ap (λ o. read_in o text) (family_named f (links_text words) n (links_start words))
-    ∙ ap (λ t. marked_if (filled (family_edges f) t)) (drop-append_seam (family_word f) (links_text words))
-    ∙ ap (λ u. marked_if (filled u (links_text words))) (sym e)
+    ap (λ o. read_by_family o text) (family_named f (links_text words) n (links_start words))
+    ∙ ap (λ t. marked_if (slots_filled (family_edges f) t)) (drop-append_seam (family_word f) (links_text words))
+    ∙ ap (λ u. marked_if (slots_filled u (links_text words))) (sym e)
     ∙ ap marked_if (links_back v many)
     ∙ fit_back f v c h
 

@@ -21,8 +21,8 @@ use Rattle.relax_edges.specs.Spelling.{edge_of}
 use Rattle.relax_edges.specs.AllEdges.{edges_in_order}
 use Rattle.cycle_laws.proofs.RankLaws.{rank_injective, rank_below}
 use Rattle.list_laws.proofs.Places.{position_or_len-no}
-use Rattle.cycle_names.specs.Links.{link_word}
-use Rattle.cycle_names.specs.Reading.{is_dash, is_link, link_between, link_with, first_mark, marked_between, marked_along, before, first_word, after_word, filled_each, edges_spelled, Adds}
+use Rattle.cycle_names.specs.LinkWords.{link_word}
+use Rattle.cycle_names.specs.NameReading.{is_dash, is_link, link_between, link_with, first_mark, marked_between, marked_along, before, first_name_word, after_word, filled_each, edges_spelled, AddsEdges}
 use Rattle.cycle_names.proofs.Tables.{link_found_back}
 use Rattle.cycle_names.proofs.Members.{find_none}
 
@@ -52,25 +52,25 @@ split_is (b ∷ text) =
     ∙ ap (onto_first b) (split_is text)
     ∙ sym (ap (λ n. take n (b ∷ text) ∷ parts_after (drop n (b ∷ text))) (position_or_len-no is_dash b text f)))
 
-spelled_parts : (text word behind : List ℕ) (n : ℕ) → n ≡ position_or_len is_dash text → word ≡ take n text → behind ≡ drop n text →
-    edges_spelled (slice_split is_dash text) ≡ before (edge_of word) (edges_spelled (parts_after behind))
-spelled_parts text word behind n i w b =
+spelled_parts : (text word remainder : List ℕ) (n : ℕ) → n ≡ position_or_len is_dash text → word ≡ take n text → remainder ≡ drop n text →
+    edges_spelled (slice_split is_dash text) ≡ before (edge_of word) (edges_spelled (parts_after remainder))
+spelled_parts text word remainder n i w b =
     ap edges_spelled (split_is text) ∙ ap (λ n. before (edge_of (take n text)) (edges_spelled (parts_after (drop n text)))) (sym i)
     ∙ ap (λ x. before (edge_of x) (edges_spelled (parts_after (drop n text)))) (sym w)
     ∙ ap (λ x. before (edge_of word) (edges_spelled (parts_after x))) (sym b)
 
-parts_more : (behind : List ℕ) → 1 ≤ length behind → parts_after behind ≡ slice_split is_dash (rest_of behind)
+parts_more : (remainder : List ℕ) → 1 ≤ length remainder → parts_after remainder ≡ slice_split is_dash (rest_of remainder)
 parts_more [] h = absurd (omega arith)
-parts_more (b ∷ behind) h = ap (slice_split is_dash) (sym (rest_is b behind))
+parts_more (b ∷ remainder) h = ap (slice_split is_dash) (sym (rest_is b remainder))
 
-parts_last : (behind : List ℕ) → length behind < 1 → parts_after behind ≡ []
+parts_last : (remainder : List ℕ) → length remainder < 1 → parts_after remainder ≡ []
 parts_last [] h = refl
-parts_last (b ∷ behind) h = absurd (omega arith)
+parts_last (b ∷ remainder) h = absurd (omega arith)
 
 module _ {E : Type 0} where
   -- an edge has been added before others
   pub adds_before : (o : Option Edge) (p : Option (List Edge)) (e : Edge) (old pushed new : List Edge) (result : Result (Unit {0}) E) →
-      o ≡ Some e → pushed ≡ old ++ e ∷ [] → Adds p pushed new result → Adds (before o p) old new result
+      o ≡ Some e → pushed ≡ old ++ e ∷ [] → AddsEdges p pushed new result → AddsEdges (before o p) old new result
   adds_before o p e old pushed new result h k a edges found fits =
       by_option p
       (λ n. let z : None ≡ Some edges = sym (rw (h, n) refl) ∙ found in cc)
@@ -82,11 +82,11 @@ module _ {E : Type 0} where
       (r.0, r.1 ∙ ap (λ w. w ++ rest) k ∙ append_assoc old (e ∷ []) rest ∙ ap (λ w. old ++ w) same))
 
   -- nothing is read where an edge isn't there
-  pub adds_none : (o : Option Edge) (p : Option (List Edge)) (old new : List Edge) (result : Result (Unit {0}) E) → o ≡ None → Adds (before o p) old new result
+  pub adds_none : (o : Option Edge) (p : Option (List Edge)) (old new : List Edge) (result : Result (Unit {0}) E) → o ≡ None → AddsEdges (before o p) old new result
   adds_none o p old new result h edges found fits = let z : None ≡ Some edges = sym (rw h refl) ∙ found in cc
 
   -- no edge more fits where all are there
-  pub adds_full : (o : Option Edge) (p : Option (List Edge)) (old new : List Edge) (result : Result (Unit {0}) E) → MAX_EDGES ≤ length old → Adds (before o p) old new result
+  pub adds_full : (o : Option Edge) (p : Option (List Edge)) (old new : List Edge) (result : Result (Unit {0}) E) → MAX_EDGES ≤ length old → AddsEdges (before o p) old new result
   adds_full None p old new result h edges found fits = cc
   adds_full (Some e) p old new result h edges found fits =
       by_option p
@@ -97,34 +97,34 @@ module _ {E : Type 0} where
       let long : suc (length rest) ≡ length edges = ap length same in
       absurd (omega (arith, long)))
 
-  adds_same : (p q : Option (List Edge)) (old new : List Edge) (result : Result (Unit {0}) E) → p ≡ q → Adds q old new result → Adds p old new result
+  adds_same : (p q : Option (List Edge)) (old new : List Edge) (result : Result (Unit {0}) E) → p ≡ q → AddsEdges q old new result → AddsEdges p old new result
   adds_same p q old new result e a edges found fits = a edges (sym e ∙ found) fits
 
   -- one slot more, of a link
-  pub fill_link : (slots : List Edge) (links word behind : List ℕ) (d e : Edge) (old pushed new : List Edge) (result : Result (Unit {0}) E) →
-      1 ≤ length slots → is_diff (get_or slots 0 d) ≡ true → word ≡ first_word links → behind ≡ after_word links → Some e ≡ link_with (get_or slots 0 d) word →
-      pushed ≡ old ++ e ∷ [] → Adds (filled_each (rest_of slots) behind) pushed new result → Adds (filled_each slots links) old new result
-  fill_link [] links word behind d e old pushed new result h t w b o k a = absurd (omega arith)
-  fill_link (s ∷ slots) links word behind d e old pushed new result h t w b o k a =
-      adds_same (filled_each (s ∷ slots) links) (before (link_with s word) (filled_each (rest_of (s ∷ slots)) behind)) old new result
-      (cond-true (is_diff s) (before (link_with s (first_word links)) (filled_each slots (after_word links))) (before (Some s) (filled_each slots links)) t
+  pub fill_link : (slots : List Edge) (links word remainder : List ℕ) (d e : Edge) (old pushed new : List Edge) (result : Result (Unit {0}) E) →
+      1 ≤ length slots → is_diff (get_or slots 0 d) ≡ true → word ≡ first_name_word links → remainder ≡ after_word links → Some e ≡ link_with (get_or slots 0 d) word →
+      pushed ≡ old ++ e ∷ [] → AddsEdges (filled_each (rest_of slots) remainder) pushed new result → AddsEdges (filled_each slots links) old new result
+  fill_link [] links word remainder d e old pushed new result h t w b o k a = absurd (omega arith)
+  fill_link (s ∷ slots) links word remainder d e old pushed new result h t w b o k a =
+      adds_same (filled_each (s ∷ slots) links) (before (link_with s word) (filled_each (rest_of (s ∷ slots)) remainder)) old new result
+      (cond-true (is_diff s) (before (link_with s (first_name_word links)) (filled_each slots (after_word links))) (before (Some s) (filled_each slots links)) t
       ∙ rw (w, b, rest_is s slots) refl)
-      (adds_before (link_with s word) (filled_each (rest_of (s ∷ slots)) behind) e old pushed new result (sym o) k a)
+      (adds_before (link_with s word) (filled_each (rest_of (s ∷ slots)) remainder) e old pushed new result (sym o) k a)
 
   -- one slot more, of no link
   pub fill_plain : (slots : List Edge) (links : List ℕ) (d : Edge) (old pushed new : List Edge) (result : Result (Unit {0}) E) →
-      1 ≤ length slots → is_diff (get_or slots 0 d) ≡ false → pushed ≡ old ++ get_or slots 0 d ∷ [] → Adds (filled_each (rest_of slots) links) pushed new result → Adds (filled_each slots links) old new result
+      1 ≤ length slots → is_diff (get_or slots 0 d) ≡ false → pushed ≡ old ++ get_or slots 0 d ∷ [] → AddsEdges (filled_each (rest_of slots) links) pushed new result → AddsEdges (filled_each slots links) old new result
   fill_plain [] links d old pushed new result h t k a = absurd (omega arith)
   fill_plain (s ∷ slots) links d old pushed new result h t k a =
       adds_same (filled_each (s ∷ slots) links) (before (Some s) (filled_each (rest_of (s ∷ slots)) links)) old new result
-      (cond-false (is_diff s) (before (link_with s (first_word links)) (filled_each slots (after_word links))) (before (Some s) (filled_each slots links)) t
+      (cond-false (is_diff s) (before (link_with s (first_name_word links)) (filled_each slots (after_word links))) (before (Some s) (filled_each slots links)) t
       ∙ ap (λ u. before (Some s) (filled_each u links)) (sym (rest_is s slots)))
       (adds_before (Some s) (filled_each (rest_of (s ∷ slots)) links) s old pushed new result refl k a)
 
   -- one edge more, with its marks
   pub mark_more : (from to mark : Mark) (unmarked : List Edge) (d e : Edge) (old pushed new : List Edge) (result : Result (Unit {0}) E) →
       1 ≤ length unmarked → mark ≡ first_mark (rest_of unmarked) to → Some e ≡ marked_between from (get_or unmarked 0 d) mark → pushed ≡ old ++ e ∷ [] →
-      Adds (marked_along (target_mark (get_or unmarked 0 d)) (rest_of unmarked) to) pushed new result → Adds (marked_along from unmarked to) old new result
+      AddsEdges (marked_along (target_mark (get_or unmarked 0 d)) (rest_of unmarked) to) pushed new result → AddsEdges (marked_along from unmarked to) old new result
   mark_more from to mark [] d e old pushed new result h m o k a = absurd (omega arith)
   mark_more from to mark (x ∷ unmarked) d e old pushed new result h m o k a =
       adds_same (marked_along from (x ∷ unmarked) to) (before (marked_between from x mark) (marked_along (target_mark x) (rest_of (x ∷ unmarked)) to)) old new result
@@ -132,33 +132,33 @@ module _ {E : Type 0} where
       (adds_before (marked_between from x mark) (marked_along (target_mark x) (rest_of (x ∷ unmarked)) to) e old pushed new result (sym o) k a)
 
   -- one word more
-  pub spell_more : (text word behind : List ℕ) (n : ℕ) (e : Edge) (old pushed new : List Edge) (result : Result (Unit {0}) E) →
-      n ≡ position_or_len is_dash text → word ≡ take n text → behind ≡ drop n text → 1 ≤ length behind → Some e ≡ edge_of word → pushed ≡ old ++ e ∷ [] →
-      Adds (edges_spelled (slice_split is_dash (rest_of behind))) pushed new result → Adds (edges_spelled (slice_split is_dash text)) old new result
-  spell_more text word behind n e old pushed new result i w b h o k a =
-      adds_same (edges_spelled (slice_split is_dash text)) (before (edge_of word) (edges_spelled (slice_split is_dash (rest_of behind)))) old new result
-      (spelled_parts text word behind n i w b ∙ ap (λ parts. before (edge_of word) (edges_spelled parts)) (parts_more behind h))
-      (adds_before (edge_of word) (edges_spelled (slice_split is_dash (rest_of behind))) e old pushed new result (sym o) k a)
+  pub spell_more : (text word remainder : List ℕ) (n : ℕ) (e : Edge) (old pushed new : List Edge) (result : Result (Unit {0}) E) →
+      n ≡ position_or_len is_dash text → word ≡ take n text → remainder ≡ drop n text → 1 ≤ length remainder → Some e ≡ edge_of word → pushed ≡ old ++ e ∷ [] →
+      AddsEdges (edges_spelled (slice_split is_dash (rest_of remainder))) pushed new result → AddsEdges (edges_spelled (slice_split is_dash text)) old new result
+  spell_more text word remainder n e old pushed new result i w b h o k a =
+      adds_same (edges_spelled (slice_split is_dash text)) (before (edge_of word) (edges_spelled (slice_split is_dash (rest_of remainder)))) old new result
+      (spelled_parts text word remainder n i w b ∙ ap (λ parts. before (edge_of word) (edges_spelled parts)) (parts_more remainder h))
+      (adds_before (edge_of word) (edges_spelled (slice_split is_dash (rest_of remainder))) e old pushed new result (sym o) k a)
 
   -- the last word
-  pub spell_last : (text word behind : List ℕ) (n : ℕ) (e : Edge) (old pushed : List Edge) (result : Result (Unit {0}) E) →
-      n ≡ position_or_len is_dash text → word ≡ take n text → behind ≡ drop n text → length behind < 1 → Some e ≡ edge_of word → pushed ≡ old ++ e ∷ [] →
-      IsOk result → Adds (edges_spelled (slice_split is_dash text)) old pushed result
-  spell_last text word behind n e old pushed result i w b h o k a =
+  pub spell_last : (text word remainder : List ℕ) (n : ℕ) (e : Edge) (old pushed : List Edge) (result : Result (Unit {0}) E) →
+      n ≡ position_or_len is_dash text → word ≡ take n text → remainder ≡ drop n text → length remainder < 1 → Some e ≡ edge_of word → pushed ≡ old ++ e ∷ [] →
+      IsOk result → AddsEdges (edges_spelled (slice_split is_dash text)) old pushed result
+  spell_last text word remainder n e old pushed result i w b h o k a =
       adds_same (edges_spelled (slice_split is_dash text)) (before (edge_of word) (Some [])) old pushed result
-      (spelled_parts text word behind n i w b ∙ ap (λ parts. before (edge_of word) (edges_spelled parts)) (parts_last behind h))
+      (spelled_parts text word remainder n i w b ∙ ap (λ parts. before (edge_of word) (edges_spelled parts)) (parts_last remainder h))
       (adds_before (edge_of word) (Some []) e old pushed pushed result (sym o) k (λ edges found fits. let z : [] ≡ edges = same_Some [] edges found in (a, sym (append-nil pushed) ∙ ap (λ w. pushed ++ w) z)))
 
   -- no word
   pub spell_none : (text word : List ℕ) (n : ℕ) (old new : List Edge) (result : Result (Unit {0}) E) →
-      n ≡ position_or_len is_dash text → word ≡ take n text → None ≡ edge_of word → Adds (edges_spelled (slice_split is_dash text)) old new result
+      n ≡ position_or_len is_dash text → word ≡ take n text → None ≡ edge_of word → AddsEdges (edges_spelled (slice_split is_dash text)) old new result
   spell_none text word n old new result i w o =
       adds_same (edges_spelled (slice_split is_dash text)) (before (edge_of word) (edges_spelled (parts_after (drop n text)))) old new result
       (spelled_parts text word (drop n text) n i w refl)
       (adds_none (edge_of word) (edges_spelled (parts_after (drop n text))) old new result (sym o))
 
   -- where there is no room, nothing has to be added
-  pub spell_full : (text : List ℕ) (old new : List Edge) (result : Result (Unit {0}) E) → MAX_EDGES ≤ length old → Adds (edges_spelled (slice_split is_dash text)) old new result
+  pub spell_full : (text : List ℕ) (old new : List Edge) (result : Result (Unit {0}) E) → MAX_EDGES ≤ length old → AddsEdges (edges_spelled (slice_split is_dash text)) old new result
   spell_full text old new result h =
       let n : ℕ = position_or_len is_dash text in
       adds_same (edges_spelled (slice_split is_dash text)) (before (edge_of (take n text)) (edges_spelled (parts_after (drop n text)))) old new result

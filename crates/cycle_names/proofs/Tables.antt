@@ -17,15 +17,15 @@ use Rattle.relax_edges.specs.declared.kinds.Kind.TheVariants as kinds
 use Rattle.relax_edges.specs.declared.edge.Edge.{Edge}
 use Rattle.relax_edges.specs.EdgeTable.{kind_of, source_of, target_of, source_mark, target_mark, is_external, is_diff, unmarked}
 use Rattle.relax_edges.specs.Order.{rank_of}
-use Rattle.relax_edges.specs.Words.{word_of}
+use Rattle.relax_edges.specs.WordParts.{word_of}
 use Rattle.relax_edges.specs.AllEdges.{edges_in_order}
 use Rattle.cycle_laws.proofs.RankLaws.{each_edge, rank_injective}
 use Rattle.cycle_names.specs.declared.slot.Slot.{Slot}
 use Rattle.cycle_names.specs.declared.slot.Slot.TheVariants as slots
-use Rattle.cycle_names.specs.Links.{slot_of, fence_link, dependency_link, mark_letters, kind_link, link_word}
+use Rattle.cycle_names.specs.LinkWords.{edge_of_slot, fence_link, dependency_link, mark_letters, kind_link_text, link_word}
 use Rattle.cycle_names.specs.Fitting.{slot_edge, is_kind_slot, edge_count, word_place}
-use Rattle.cycle_names.specs.Names.{is_name_byte}
-use Rattle.cycle_names.specs.Reading.{is_plus, is_dash, link_between, link_with}
+use Rattle.cycle_names.specs.CycleNames.{is_name_byte}
+use Rattle.cycle_names.specs.NameReading.{is_plus, is_dash, link_between, link_with}
 
 -- the words of links compare as their ranks do
 words_alike : Edge → Edge → Bool
@@ -83,19 +83,19 @@ so true c h t = h
 so false c h t = cc
 
 -- a slot leads to another location where the edge does, and to another thread
-pub slot_is_diff : (e : Edge) → is_diff (slot_of e) ≡ is_diff e
+pub slot_is_diff : (e : Edge) → is_diff (edge_of_slot e) ≡ is_diff e
 unfolding agree edges_in_order
-slot_is_diff e = agreed _ _ (each_edge (λ e. agree (is_diff (slot_of e)) (is_diff e)) all e)
+slot_is_diff e = agreed _ _ (each_edge (λ e. agree (is_diff (edge_of_slot e)) (is_diff e)) all e)
   where
-    all : list_all (λ e. agree (is_diff (slot_of e)) (is_diff e)) edges_in_order ≡ true
+    all : list_all (λ e. agree (is_diff (edge_of_slot e)) (is_diff e)) edges_in_order ≡ true
     all = refl
 
 -- a slot leads to another thread where the edge does
-pub slot_is_external : (e : Edge) → is_external (slot_of e) ≡ is_external e
+pub slot_is_external : (e : Edge) → is_external (edge_of_slot e) ≡ is_external e
 unfolding agree edges_in_order
-slot_is_external e = agreed _ _ (each_edge (λ e. agree (is_external (slot_of e)) (is_external e)) all e)
+slot_is_external e = agreed _ _ (each_edge (λ e. agree (is_external (edge_of_slot e)) (is_external e)) all e)
   where
-    all : list_all (λ e. agree (is_external (slot_of e)) (is_external e)) edges_in_order ≡ true
+    all : list_all (λ e. agree (is_external (edge_of_slot e)) (is_external e)) edges_in_order ≡ true
     all = refl
 
 -- an external edge keeps the location
@@ -123,16 +123,16 @@ some_place e t = not-true (word_place e == 0) (so (is_diff e) (not (word_place e
     all = refl
 
 -- an edge counts what its slot does
-pub edge_counts : (e : Edge) → edge_count (slot_of e) ≡ edge_count e
+pub edge_counts : (e : Edge) → edge_count (edge_of_slot e) ≡ edge_count e
 unfolding edges_in_order
-edge_counts e = eqb-true _ _ (each_edge (λ e. edge_count (slot_of e) == edge_count e) all e)
+edge_counts e = eqb-true _ _ (each_edge (λ e. edge_count (edge_of_slot e) == edge_count e) all e)
   where
-    all : list_all (λ e. edge_count (slot_of e) == edge_count e) edges_in_order ≡ true
+    all : list_all (λ e. edge_count (edge_of_slot e) == edge_count e) edges_in_order ≡ true
     all = refl
 
 -- whether the slot of a family's cycle is what an edge joins
 slot_agrees : Slot → Edge → Bool
-slot_agrees slot e = agree (is_kind_slot slot (kind_of e)) (rank_of (slot_of e) == rank_of (slot_edge slot))
+slot_agrees slot e = agree (is_kind_slot slot (kind_of e)) (rank_of (edge_of_slot e) == rank_of (slot_edge slot))
 
 all_slots_agree : (slot : Slot) → list_all (slot_agrees slot) edges_in_order ≡ true
 unfolding slot_agrees agree rank_of edges_in_order
@@ -145,7 +145,7 @@ all_slots_agree (slots.Link dirs.W dirs.R) = refl
 all_slots_agree (slots.Link dirs.W dirs.W) = refl
 
 -- an edge's kind belongs to a slot where the edge's own slot has the same rank
-pub slot_is_of : (slot : Slot) (e : Edge) → is_kind_slot slot (kind_of e) ≡ (rank_of (slot_of e) == rank_of (slot_edge slot))
+pub slot_is_of : (slot : Slot) (e : Edge) → is_kind_slot slot (kind_of e) ≡ (rank_of (edge_of_slot e) == rank_of (slot_edge slot))
 unfolding slot_agrees
 slot_is_of slot e = agreed _ _ (each_edge (slot_agrees slot) (all_slots_agree slot) e)
 
@@ -172,16 +172,16 @@ unfolding is_found
 link_found_back e t =
     the_one e (link_between (source_of e) (target_of e) (link_word e)) (so (is_diff e) (is_the e (link_between (source_of e) (target_of e) (link_word e))) (each_edge is_found all_found e) t)
 
-slot_source : (e : Edge) → is_diff e ≡ true → source_of (slot_of e) ≡ source_of e
+slot_source : (e : Edge) → is_diff e ≡ true → source_of (edge_of_slot e) ≡ source_of e
 slot_source e t = rw t refl
 
-slot_target : (e : Edge) → is_diff e ≡ true → target_of (slot_of e) ≡ target_of e
+slot_target : (e : Edge) → is_diff e ≡ true → target_of (edge_of_slot e) ≡ target_of e
 slot_target e t = rw t refl
 
 -- the link of its slot with its word is the link itself
-pub link_back : (e : Edge) → is_diff e ≡ true → link_with (slot_of e) (link_word e) ≡ Some e
+pub link_back : (e : Edge) → is_diff e ≡ true → link_with (edge_of_slot e) (link_word e) ≡ Some e
 link_back e t =
-    ap (λ d. link_between d (target_of (slot_of e)) (link_word e)) (slot_source e t)
+    ap (λ d. link_between d (target_of (edge_of_slot e)) (link_word e)) (slot_source e t)
     ∙ ap (λ d. link_between (source_of e) d (link_word e)) (slot_target e t)
     ∙ link_found_back e t
 
@@ -199,7 +199,7 @@ unfolding is_short
 link_word_short e = leb-true (length (link_word e)) 11 (each_edge is_short all_short e)
 
 -- it is the word of the link without letters, and the letters
-kind_letters : (kind : Kind) (letters : List ℕ) → is_diff (unmarked kind) ≡ true → kind_link kind letters ≡ kind_link kind [] ++ letters
+kind_letters : (kind : Kind) (letters : List ℕ) → is_diff (unmarked kind) ≡ true → kind_link_text kind letters ≡ kind_link_text kind [] ++ letters
 kind_letters (kinds.Com _ _) letters h = cc
 kind_letters (kinds.Po Diff _ _) letters h = refl
 kind_letters (kinds.Po Same _ _) letters h = cc
@@ -218,14 +218,14 @@ kind_diff e t = so (is_diff e) (is_diff (unmarked (kind_of e))) (each_edge (λ e
     all = refl
 
 pub record WordParts (e : Edge) : Type 0 where
-  pub joined : link_word e ≡ kind_link (kind_of e) [] ++ mark_letters (source_mark e) (target_mark e)
-  pub short : length (kind_link (kind_of e) []) + length (mark_letters (source_mark e) (target_mark e)) ≤ 11
+  pub joined : link_word e ≡ kind_link_text (kind_of e) [] ++ mark_letters (source_mark e) (target_mark e)
+  pub short : length (kind_link_text (kind_of e) []) + length (mark_letters (source_mark e) (target_mark e)) ≤ 11
 
 pub word_parts : (e : Edge) → is_diff e ≡ true → WordParts e
 word_parts e t =
     let letters : List ℕ = mark_letters (source_mark e) (target_mark e) in
-    let j : link_word e ≡ kind_link (kind_of e) [] ++ letters = kind_letters (kind_of e) letters (kind_diff e t) in
-    record { joined = j; short = omega (arith, ap length j, link_word_short e, length-append (kind_link (kind_of e) []) letters) }
+    let j : link_word e ≡ kind_link_text (kind_of e) [] ++ letters = kind_letters (kind_of e) letters (kind_diff e t) in
+    record { joined = j; short = omega (arith, ap length j, link_word_short e, length-append (kind_link_text (kind_of e) []) letters) }
 
 -- a link's word has bytes of names only
 pub link_word_bytes : (e : Edge) → list_all is_name_byte (link_word e) ≡ true

@@ -9,10 +9,10 @@ use Rattle.list_laws.proofs.Cases.{by_test}
 use Rattle.relax_edges.specs.declared.kinds.Dir.TheVariants.{R}
 use Rattle.relax_edges.specs.declared.edge.Edge.{Edge}
 use Rattle.relax_edges.specs.EdgeTable.{is_diff}
-use Rattle.cycle_names.specs.Links.{link_word, link_words}
-use Rattle.cycle_names.specs.Names.{added, all_equal, plural, links_text}
+use Rattle.cycle_names.specs.LinkWords.{link_word, link_words}
+use Rattle.cycle_names.specs.CycleNames.{after_plus, all_equal, plural, links_text}
 use Rattle.cycle_names.specs.Families.{pod}
-use Rattle.cycle_names.specs.Fitting.{link_text, word_place, is_at}
+use Rattle.cycle_names.specs.Fitting.{link_text, word_place, has_word_place}
 use Rattle.cycle_names.proofs.Tables.{link_words_equal, no_place, some_place}
 use Rattle.cycle_names.proofs.Outlines.{words_same, words_of_link, words_of_plain}
 
@@ -33,8 +33,8 @@ no_words (e ∷ v) h =
 
 -- the first word is that of the first link
 record FirstWord (e : Edge) (v : List Edge) : Type 0 where
-  behind : List (List ℕ)
-  words : link_words v ≡ link_word e ∷ behind
+  remainder : List (List ℕ)
+  words : link_words v ≡ link_word e ∷ remainder
   links : is_diff e ≡ true
 
 first_words : (v : List Edge) (e : Edge) → find is_diff v ≡ Some e → FirstWord e v
@@ -44,10 +44,10 @@ first_words (d ∷ v) e h =
     (λ t.
     let a : Some d ≡ Some e = sym (cond-true (is_diff d) (Some d) (find is_diff v) t) ∙ h in
     let same : d ≡ e = cc in
-    record { behind = link_words v; words = words_of_link d v t ∙ ap (λ x. link_word x ∷ link_words v) same; links = rw (← same) t })
+    record { remainder = link_words v; words = words_of_link d v t ∙ ap (λ x. link_word x ∷ link_words v) same; links = rw (← same) t })
     (λ f.
     let r = first_words v e (sym (cond-false (is_diff d) (Some d) (find is_diff v) f) ∙ h) in
-    record { behind = r.behind; words = words_of_plain d v f ∙ r.words; links = r.links })
+    record { remainder = r.remainder; words = words_of_plain d v f ∙ r.words; links = r.links })
 
 -- nothing comes after it where there is no link
 pub text_of_none : (v : List Edge) → find is_diff v ≡ None → links_text (link_words v) ≡ []
@@ -63,7 +63,7 @@ text_of_plain v h = cond-true (list_all (bytes_eq (codes "po")) (link_words v)) 
 equal_words : (v : List Edge) (e : Edge) → FirstWord e v → all_equal (link_words v) ≡ list_all (bytes_eq (link_word e)) (link_words v)
 equal_words v e r =
     let itself : bytes_eq (link_word e) (link_word e) ≡ true = (bytes_decides (link_word e) (link_word e)).1 refl in
-    ap all_equal r.words ∙ sym (ap (λ b. b && list_all (bytes_eq (link_word e)) r.behind) itself) ∙ sym (ap (list_all (bytes_eq (link_word e))) r.words)
+    ap all_equal r.words ∙ sym (ap (λ b. b && list_all (bytes_eq (link_word e)) r.remainder) itself) ∙ sym (ap (list_all (bytes_eq (link_word e))) r.words)
 
 -- one word is written then
 pub text_of_alike : (v : List Edge) (e : Edge) → find is_diff v ≡ Some e → list_all (bytes_eq (codes "po")) (link_words v) ≡ false →
@@ -72,28 +72,28 @@ unfolding links_text
 text_of_alike v e h n t =
     let r = first_words v e h in
     cond-false (list_all (bytes_eq (codes "po")) (link_words v)) [] _ n
-    ∙ cond-true (all_equal (link_words v)) (plural (link_words v)) (flat_map added (link_words v)) (equal_words v e r ∙ t)
+    ∙ cond-true (all_equal (link_words v)) (plural (link_words v)) (flat_map after_plus (link_words v)) (equal_words v e r ∙ t)
     ∙ ap plural r.words
-    ∙ sym (ap (λ s. s ++ codes "s") (cond-true (is_diff e) (added (link_word e)) [] r.links))
+    ∙ sym (ap (λ s. s ++ codes "s") (cond-true (is_diff e) (after_plus (link_word e)) [] r.links))
 
 -- else each word comes after it
-each_text : (v : List Edge) → flat_map added (link_words v) ≡ flat_map link_text v
+each_text : (v : List Edge) → flat_map after_plus (link_words v) ≡ flat_map link_text v
 each_text [] = refl
 each_text (e ∷ v) =
     by_test (is_diff e)
-    (λ t. ap (flat_map added) (words_of_link e v t) ∙ ap (λ s. added (link_word e) ++ s) (each_text v) ∙ sym (ap (λ s. s ++ flat_map link_text v) (cond-true (is_diff e) (added (link_word e)) [] t)))
-    (λ f. ap (flat_map added) (words_of_plain e v f) ∙ each_text v ∙ sym (ap (λ s. s ++ flat_map link_text v) (cond-false (is_diff e) (added (link_word e)) [] f)))
+    (λ t. ap (flat_map after_plus) (words_of_link e v t) ∙ ap (λ s. after_plus (link_word e) ++ s) (each_text v) ∙ sym (ap (λ s. s ++ flat_map link_text v) (cond-true (is_diff e) (after_plus (link_word e)) [] t)))
+    (λ f. ap (flat_map after_plus) (words_of_plain e v f) ∙ each_text v ∙ sym (ap (λ s. s ++ flat_map link_text v) (cond-false (is_diff e) (after_plus (link_word e)) [] f)))
 
 pub text_of_each : (v : List Edge) (e : Edge) → find is_diff v ≡ Some e → list_all (bytes_eq (codes "po")) (link_words v) ≡ false →
     list_all (bytes_eq (link_word e)) (link_words v) ≡ false → links_text (link_words v) ≡ flat_map link_text v
 unfolding links_text
 text_of_each v e h n t =
     cond-false (list_all (bytes_eq (codes "po")) (link_words v)) [] _ n
-    ∙ cond-false (all_equal (link_words v)) (plural (link_words v)) (flat_map added (link_words v)) (equal_words v e (first_words v e h) ∙ t)
+    ∙ cond-false (all_equal (link_words v)) (plural (link_words v)) (flat_map after_plus (link_words v)) (equal_words v e (first_words v e h) ∙ t)
     ∙ each_text v
 
 -- the links have the word of this one where their words have its place
-one_at : (e x : Edge) → (not (is_diff x) || bytes_eq (link_word e) (link_word x)) ≡ is_at (word_place e) x
+one_at : (e x : Edge) → (not (is_diff x) || bytes_eq (link_word e) (link_word x)) ≡ has_word_place (word_place e) x
 one_at e x =
     by_test (is_diff x)
     (λ t.
@@ -111,10 +111,10 @@ one_at e x =
         (λ t. t ∙ sym (eq-eqb n m (sym (eqb-true m n t))))
         (λ f. by_test (n == m) (λ t. let z : true ≡ false = sym (eq-eqb m n (sym (eqb-true n m t))) ∙ f in cc) (λ g. f ∙ sym g))
 
-pub all_at : (e : Edge) (v : List Edge) → list_all (is_at (word_place e)) v ≡ list_all (bytes_eq (link_word e)) (link_words v)
+pub all_at : (e : Edge) (v : List Edge) → list_all (has_word_place (word_place e)) v ≡ list_all (bytes_eq (link_word e)) (link_words v)
 all_at e [] = refl
 all_at e (x ∷ v) =
-    ap (λ b. b && list_all (is_at (word_place e)) v) (sym (one_at e x))
+    ap (λ b. b && list_all (has_word_place (word_place e)) v) (sym (one_at e x))
     ∙ ap (λ b. (not (is_diff x) || bytes_eq (link_word e) (link_word x)) && b) (all_at e v)
     ∙ sym (all_links_cons (bytes_eq (link_word e)) x v)
 
@@ -129,7 +129,7 @@ po_place : word_place po ≡ 126
 po_place = refl
 
 -- nothing comes after it where all words have the place of `po`
-pub text_at_plain : (v : List Edge) (e : Edge) → word_place e ≡ 126 → list_all (is_at (word_place e)) v ≡ true → links_text (link_words v) ≡ []
+pub text_at_plain : (v : List Edge) (e : Edge) → word_place e ≡ 126 → list_all (has_word_place (word_place e)) v ≡ true → links_text (link_words v) ≡ []
 text_at_plain v e p h =
     text_of_plain v (ap (λ w. list_all (bytes_eq w) (link_words v)) (sym po_word ∙ words_same po e (po_place ∙ sym p)) ∙ sym (all_at e v) ∙ h)
 
@@ -139,18 +139,18 @@ not_plain v e h n =
     by_test (list_all (bytes_eq (codes "po")) (link_words v))
     (λ t.
     let r = first_words v e h in
-    absurd (n (and_parts (bytes_eq (codes "po") (link_word e)) (list_all (bytes_eq (codes "po")) r.behind) (sym (ap (list_all (bytes_eq (codes "po"))) r.words) ∙ t)).0))
+    absurd (n (and_parts (bytes_eq (codes "po") (link_word e)) (list_all (bytes_eq (codes "po")) r.remainder) (sym (ap (list_all (bytes_eq (codes "po"))) r.words) ∙ t)).0))
     (λ f. f)
 
 -- one word comes after it where all words have one place that isn't that of `po`
-pub text_at_one : (v : List Edge) (e : Edge) → find is_diff v ≡ Some e → (word_place e ≡ 126 → ⊥) → list_all (is_at (word_place e)) v ≡ true → links_text (link_words v) ≡ link_text e ++ codes "s"
+pub text_at_one : (v : List Edge) (e : Edge) → find is_diff v ≡ Some e → (word_place e ≡ 126 → ⊥) → list_all (has_word_place (word_place e)) v ≡ true → links_text (link_words v) ≡ link_text e ++ codes "s"
 text_at_one v e h p t =
     text_of_alike v e h
     (not_plain v e h (λ b. p (sym (eqb-true (word_place po) (word_place e) (sym (link_words_equal po e) ∙ b)) ∙ po_place)))
     (sym (all_at e v) ∙ t)
 
 -- else each word comes after it
-pub text_at_each : (v : List Edge) (e : Edge) → find is_diff v ≡ Some e → list_all (is_at (word_place e)) v ≡ false → links_text (link_words v) ≡ flat_map link_text v
+pub text_at_each : (v : List Edge) (e : Edge) → find is_diff v ≡ Some e → list_all (has_word_place (word_place e)) v ≡ false → links_text (link_words v) ≡ flat_map link_text v
 text_at_each v e h t =
     let f : list_all (bytes_eq (link_word e)) (link_words v) ≡ false = sym (all_at e v) ∙ t in
     by_test (bytes_eq (codes "po") (link_word e))
@@ -160,5 +160,5 @@ text_at_each v e h t =
     (λ b. text_of_each v e h (not_plain v e h (λ t. let z : true ≡ false = sym t ∙ b in cc)) f)
 
 -- what the code finds of the places
-pub places_said : (place : ℕ) (e : Edge) (v : List Edge) (result value : Bool) → place ≡ word_place e → result ≡ list_all (is_at place) v → result ≡ value → list_all (is_at (word_place e)) v ≡ value
-places_said place e v result value p r t = ap (λ n. list_all (is_at n) v) (sym p) ∙ sym r ∙ t
+pub places_said : (place : ℕ) (e : Edge) (v : List Edge) (result value : Bool) → place ≡ word_place e → result ≡ list_all (has_word_place place) v → result ≡ value → list_all (has_word_place (word_place e)) v ≡ value
+places_said place e v result value p r t = ap (λ n. list_all (has_word_place n) v) (sym p) ∙ sym r ∙ t

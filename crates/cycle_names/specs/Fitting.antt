@@ -23,16 +23,16 @@ use Rattle.relax_edges.specs.declared.edge.Edge.TheVariants as edges
 use Rattle.relax_edges.specs.EdgeTable.{kind_of, source_mark, target_mark, is_diff, same_dir}
 use Rattle.relax_edges.specs.Order.{pick_rank}
 use Rattle.relax_edges.specs.Relaxations.{is_same}
-use Rattle.cycle_laws.specs.Order.{ranks_below}
+use Rattle.cycle_laws.specs.CycleOrder.{ranks_below}
 use Rattle.cycle_laws.specs.Rotation.{rotated}
 use Rattle.cycle_names.specs.declared.slot.Slot.{Slot}
 use Rattle.cycle_names.specs.declared.slot.Slot.TheVariants as slots
 use Rattle.cycle_names.specs.declared.family.Family.{Family}
 use Rattle.cycle_names.specs.declared.family.TheConstants.{LONGEST}
 use Rattle.cycle_names.specs.Families.{family_edges, all_families}
-use Rattle.cycle_names.specs.Links.{outline, link_word}
+use Rattle.cycle_names.specs.LinkWords.{outline, link_word}
 use Rattle.cycle_names.specs.Rotations.{is_plain_outside, found_family, named_rotation}
-use Rattle.cycle_names.specs.Names.{added}
+use Rattle.cycle_names.specs.CycleNames.{after_plus}
 
 -- the edge of a family's cycle that a slot represents
 abbrev pub slot_edge : Slot → Edge
@@ -85,12 +85,12 @@ abbrev pub edge_count : Edge → ℕ
 edge_count edge = kind_count (kind_of edge)
 
 -- how many links and external edges of each communication a cycle has, the same for all its rotations
-abbrev pub counted : List Edge → ℕ
-counted u = sum (map edge_count u)
+abbrev pub edges_counted : List Edge → ℕ
+edges_counted u = sum (map edge_count u)
 
 -- the family whose cycle has this count, if there is one
 unfoldable pub family_of_counts : ℕ → Option Family
-family_of_counts count = find (λ family. counted (family_edges family) == count) all_families
+family_of_counts count = find (λ family. edges_counted (family_edges family) == count) all_families
 
 -- the rotation from place k joins what these edges do
 abbrev pub joins_at : List Edge → List Edge → ℕ → Bool
@@ -113,7 +113,7 @@ pub record FitsFirst (u : List Edge) (family : Family) (place : ℕ) : Type 0 wh
 
 -- a list of edges may be of this family: it is no longer than a family's cycle may be, and has as many edges of each sort
 abbrev pub MayBeOf : List Edge → Family → Type 0
-MayBeOf u family = (length u ≤ LONGEST) × (family_of_counts (counted u) ≡ Some family)
+MayBeOf u family = (length u ≤ LONGEST) × (family_of_counts (edges_counted u) ≡ Some family)
 
 -- a cycle is of this family, and named from the rotation from this place
 pub record IsNamedAt (u : List Edge) (family : Family) (place : ℕ) : Type 0 where
@@ -123,7 +123,7 @@ pub record IsNamedAt (u : List Edge) (family : Family) (place : ℕ) : Type 0 wh
 
 -- what an edge adds to a name: a link its word, another edge nothing
 abbrev pub link_text : Edge → List ℕ
-link_text edge = cond (is_diff edge) (added (link_word edge)) []
+link_text edge = cond (is_diff edge) (after_plus (link_word edge)) []
 
 -- a list twice over
 abbrev pub twice : List ℕ → List ℕ
@@ -161,21 +161,21 @@ dependency_place deps.CtrlIsb letters = 27 + letters
 dependency_place deps.CtrlIsync letters = 36 + letters
 
 -- the place of the word of a link of a kind with the letters of this place, and 0 for a kind that is no link
-abbrev pub kind_place : Kind → ℕ → ℕ
-kind_place (kinds.Po Diff _ _) letters = 126 + letters
-kind_place (kinds.Fenced fence Diff _ _) letters = fence_place fence + letters
-kind_place (kinds.Dep dep Diff _) letters = dependency_place dep letters
-kind_place (kinds.Data Diff) letters = 45 + letters
-kind_place _ _ = 0
+abbrev pub kind_word_place : Kind → ℕ → ℕ
+kind_word_place (kinds.Po Diff _ _) letters = 126 + letters
+kind_word_place (kinds.Fenced fence Diff _ _) letters = fence_place fence + letters
+kind_word_place (kinds.Dep dep Diff _) letters = dependency_place dep letters
+kind_word_place (kinds.Data Diff) letters = 45 + letters
+kind_word_place _ _ = 0
 
 -- the place of a link's word among the words of links, in byte order, and 0 for an edge that is no link
 abbrev pub word_place : Edge → ℕ
-word_place edge = kind_place (kind_of edge) (letters_place (source_mark edge) (target_mark edge))
+word_place edge = kind_word_place (kind_of edge) (letters_place (source_mark edge) (target_mark edge))
 
 -- the words of the rotation from one place come before those of the rotation from another
-abbrev pub comes_before : List Edge → ℕ → ℕ → Bool
-comes_before u place named = ranks_below (rotated place (map word_place u)) (rotated named (map word_place u))
+abbrev pub place_comes_before : List Edge → ℕ → ℕ → Bool
+place_comes_before u place named = ranks_below (rotated place (map word_place u)) (rotated named (map word_place u))
 
 -- an edge is no link, or its word has this place
-abbrev pub is_at : ℕ → Edge → Bool
-is_at place edge = (word_place edge == 0) || (word_place edge == place)
+abbrev pub has_word_place : ℕ → Edge → Bool
+has_word_place place edge = (word_place edge == 0) || (word_place edge == place)

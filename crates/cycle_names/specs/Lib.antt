@@ -1,7 +1,7 @@
 pub mod Families
-pub mod Links
+pub mod LinkWords
 pub mod Rotations
-pub mod Names
+pub mod CycleNames
 pub mod Fitting
-pub mod Reading
+pub mod NameReading
 pub mod Laws

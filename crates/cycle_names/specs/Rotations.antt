@@ -11,11 +11,11 @@ use Rattle.relax_edges.specs.Order.{rank_of}
 use Rattle.relax_edges.specs.Relaxations.{is_same}
 use Rattle.list_laws.specs.Numbers.{upto}
 use Rattle.cycle_laws.specs.Rotation.{rotated}
-use Rattle.cycle_laws.specs.Order.{ranks_below}
+use Rattle.cycle_laws.specs.CycleOrder.{ranks_below}
 use Rattle.cycle_names.specs.declared.family.Family.{Family}
 use Rattle.cycle_names.specs.declared.family.Family.TheVariants as families
 use Rattle.cycle_names.specs.Families.{family_edges, all_families}
-use Rattle.cycle_names.specs.Links.{outline, link_words}
+use Rattle.cycle_names.specs.LinkWords.{outline, link_words}
 
 -- the rotations of a cycle
 abbrev pub rotations : List Edge → List (List Edge)
@@ -31,22 +31,22 @@ is_plain_before _ [] = true
 is_plain_before edge (next ∷ _) = same_mark (target_mark edge) Plain || not (is_external edge && is_external next)
 
 -- each access between two external edges of a list is plain
-abbrev pub all_plain : List Edge → Bool
-all_plain [] = true
-all_plain (edge ∷ v) = is_plain_before edge v && all_plain v
+abbrev pub all_unmarked : List Edge → Bool
+all_unmarked [] = true
+all_unmarked (edge ∷ v) = is_plain_before edge v && all_unmarked v
 
 -- each event of a cycle between two external edges is plain
 abbrev pub is_plain_outside : List Edge → Bool
-is_plain_outside v = all_plain (v ++ take 1 v)
+is_plain_outside v = all_unmarked (v ++ take 1 v)
 
--- a rotation fits a family that has the same external edges at the same places, whatever their marks, and at the other places links from
+-- a rotation fits_family a family that has the same external edges at the same places, whatever their marks, and at the other places links from
 -- and to the same accesses, whatever theirs, where each event between two external edges is plain
-abbrev pub fits : Family → List Edge → Bool
-fits family v = joins_as family v && is_plain_outside v
+abbrev pub fits_family : Family → List Edge → Bool
+fits_family family v = joins_as family v && is_plain_outside v
 
--- a cycle is of a family that some rotation of it fits
+-- a cycle is of a family that some rotation of it fits_family
 abbrev pub is_of_family : List Edge → Family → Bool
-is_of_family u family = list_any (fits family) (rotations u)
+is_of_family u family = list_any (fits_family family) (rotations u)
 
 -- the family of the table that a cycle is of, if it is of one
 unfoldable pub found_family : List Edge → Option Family
@@ -70,7 +70,7 @@ least_of below lists = find (λ v. not (list_any (λ w. below w v) lists)) lists
 
 -- a cycle of a family is named from the rotation whose words come first, of those that fit; every other cycle from its normal form
 abbrev pub rotation_in : Option Family → List Edge → Option (List Edge)
-rotation_in (Some family) u = least_of words_below (filter (fits family) (rotations u))
+rotation_in (Some family) u = least_of words_below (filter (fits_family family) (rotations u))
 rotation_in None u = least_of edges_below (rotations u)
 
 -- the rotation from which a cycle is named

@@ -3,11 +3,11 @@ ghost use Rattle.relax_edges.specs.declared.kinds.Mark.TheVariants.{Plain};
 ghost use Rattle.relax_edges.specs.EdgeTable.{target_mark, same_mark, is_external};
 ghost use Rattle.relax_edges.specs.Relaxations.{is_same};
 ghost use Rattle.cycle_laws.specs.Composable.{IsCycle};
-ghost use Rattle.cycle_laws.specs.Order.{ranks_below};
+ghost use Rattle.cycle_laws.specs.CycleOrder.{ranks_below};
 ghost use Rattle.cycle_names.specs.Families.{family_edges};
-ghost use Rattle.cycle_names.specs.Links.{outline};
-ghost use Rattle.cycle_names.specs.Rotations.{all_plain, is_plain_outside, found_family};
-ghost use Rattle.cycle_names.specs.Fitting.{slot_edge, counted, family_of_counts, joins_at, JoinsNone, JoinsFirst, FitsFirst, IsNamedAt, word_place, twice, MayBeOf, comes_before};
+ghost use Rattle.cycle_names.specs.LinkWords.{outline};
+ghost use Rattle.cycle_names.specs.Rotations.{all_unmarked, is_plain_outside, found_family};
+ghost use Rattle.cycle_names.specs.Fitting.{slot_edge, edges_counted, family_of_counts, joins_at, JoinsNone, JoinsFirst, FitsFirst, IsNamedAt, word_place, twice, MayBeOf, place_comes_before};
 
 use crate::family::{Family, LONGEST};
 use crate::link::word_place;
@@ -72,7 +72,7 @@ fn likely_family(edges: &[Edge]) -> Option<Family>
 /// How many links and external edges of each communication a list of edges has.
 fn edge_counts(edges: &[Edge]) -> u16
     requires { length edges.now ≤ LONGEST }
-    ensures value { result ≡ counted edges.now }
+    ensures value { result ≡ edges_counted edges.now }
     ensures small { result ≤ 4096 * length edges.now }
 {
     match edges {
@@ -155,7 +155,7 @@ fn is_plain_outside(edges: &[Edge]) -> bool
 
 /// Whether each access between two external edges is plain, where one edge more comes last.
 fn all_plain(edges: &[Edge], last: Edge) -> bool
-    ensures { result ≡ all_plain (edges.now ++ last ∷ []) }
+    ensures { result ≡ all_unmarked (edges.now ++ last ∷ []) }
 {
     match edges {
         [] => true,
@@ -198,7 +198,7 @@ fn is_better(edges: &[Edge], slots: &[Slot], place: usize, named: usize) -> bool
     requires few { length edges.now ≤ LONGEST }
     requires place { place < length edges.now }
     requires named { named < length edges.now }
-    ensures { result ≡ (joins_at (map slot_edge slots.now) edges.now place && comes_before edges.now place named) }
+    ensures { result ≡ (joins_at (map slot_edge slots.now) edges.now place && place_comes_before edges.now place named) }
 {
     joins_at(edges, place, slots) && comes_first(edges, place, named)
 }
@@ -208,7 +208,7 @@ fn comes_first(edges: &[Edge], place: usize, named: usize) -> bool
     requires few { length edges.now ≤ LONGEST }
     requires place { place < length edges.now }
     requires named { named < length edges.now }
-    ensures { result ≡ comes_before edges.now place named }
+    ensures { result ≡ place_comes_before edges.now place named }
 {
     let places = places_twice(edges);
     let len = edges.len();

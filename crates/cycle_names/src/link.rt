@@ -2,8 +2,8 @@ ghost use Rattle.std.specs.Prelude.{◌≡◌, ◌≤◌, [], true};
 ghost use Rattle.std.specs.Str.{bytes_eq};
 ghost use Rattle.relax_edges.specs.EdgeTable.{is_diff};
 ghost use Rattle.relax_edges.specs.Order.{pick_rank};
-ghost use Rattle.cycle_names.specs.Links.{link_word, fence_link, dependency_link, mark_letters, kind_link};
-ghost use Rattle.cycle_names.specs.Fitting.{letters_place, fence_place, dependency_place, kind_place, word_place};
+ghost use Rattle.cycle_names.specs.LinkWords.{link_word, fence_link, dependency_link, mark_letters, kind_link_text};
+ghost use Rattle.cycle_names.specs.Fitting.{letters_place, fence_place, dependency_place, kind_word_place, word_place};
 
 use arrayvec::ArrayString;
 use relax_edges::{DepKind, Edge, FenceKind, Kind, Mark, Pick, Sd};
@@ -154,7 +154,7 @@ pub(crate) fn mark_letters(from: Mark, to: Mark) -> &'static str
 
 /// The word of a link of a kind without letters.
 pub(crate) fn kind_link(kind: Kind) -> &'static str
-    ensures { result.now ≡ kind_link kind [] }
+    ensures { result.now ≡ kind_link_text kind [] }
 {
     match kind {
         Kind::Po { sd: Sd::Diff, .. } => "po",

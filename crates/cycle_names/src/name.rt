@@ -1,8 +1,8 @@
 ghost use Rattle.std.specs.Prelude.{◌≡◌, codes};
 ghost use Rattle.std.specs.List.{join_by};
-ghost use Rattle.relax_edges.specs.Words.{word_of};
+ghost use Rattle.relax_edges.specs.WordParts.{word_of};
 ghost use Rattle.cycle_names.specs.Rotations.{family_of, named_rotation};
-ghost use Rattle.cycle_names.specs.Names.{name_of};
+ghost use Rattle.cycle_names.specs.CycleNames.{name_of};
 ghost use Rattle.cycle_names.specs.Laws.{IsName};
 
 use crate::family::Family;

@@ -3,8 +3,8 @@ ghost use Rattle.std.specs.List.{position_or_len, slice_split};
 ghost use Rattle.std.specs.Str.{bytes_eq};
 ghost use Rattle.std.specs.Result.{result_ok};
 ghost use Rattle.cycle_names.specs.Families.{family_edges};
-ghost use Rattle.cycle_names.specs.Names.{name_of};
-ghost use Rattle.cycle_names.specs.Reading.{begins_with, named_family, is_link, link_with, first_mark, last_mark, marked_between, marked_along, marked_around, slot_with, first_word, after_word, but_last, filled_alike, filled_each, filled, is_dash, edges_spelled, words_read, edges_read, Adds};
+ghost use Rattle.cycle_names.specs.CycleNames.{name_of};
+ghost use Rattle.cycle_names.specs.NameReading.{begins_with_word, named_family, is_link, link_with, first_mark, last_mark, marked_between, marked_along, marked_around, slot_with, first_name_word, after_word, but_last, filled_alike, filled_each, slots_filled, is_dash, edges_spelled, words_read, edges_read, AddsEdges};
 ghost use Rattle.cycle_names.specs.Laws.{are_of_arch, IsNamed, NamesNone};
 
 use crate::family::{FAMILIES, Family};
@@ -63,7 +63,7 @@ fn are_of_arch(edges: &[Edge], arch: ArchName) -> bool
 /// Adds the edges that a text would name.
 fn read_edges(text: &[u8], edges: &mut Edges) -> Result<(), NotAName>
     requires { edges.old.items ≡ [] }
-    ensures { Adds (edges_read text.now) edges.old.items edges.new.items result }
+    ensures { AddsEdges (edges_read text.now) edges.old.items edges.new.items result }
 {
     match named_family(FAMILIES.as_slice(), text) {
         Some(family) => {
@@ -95,7 +95,7 @@ fn named_family(families: &[Family], text: &[u8]) -> Option<Family>
 
 /// Whether a text is a word, or the word followed by `+` and more.
 fn begins_with(word: &[u8], text: &[u8]) -> bool
-    ensures { result ≡ begins_with word.now text.now }
+    ensures { result ≡ begins_with_word word.now text.now }
 {
     match word {
         [] => match text {
@@ -123,7 +123,7 @@ pub fn edges_of(family: Family) -> Edges
 /// Adds the edges of slots, with the links that a name gives.
 fn fill(slots: &[Edge], links: &[u8], edges: &mut Edges) -> Result<(), NotAName>
     requires { length edges.old.items + length slots.now ≤ MAX_EDGES }
-    ensures { Adds (filled slots.now links.now) edges.old.items edges.new.items result }
+    ensures { AddsEdges (slots_filled slots.now links.now) edges.old.items edges.new.items result }
 {
     match links {
         [] => fill_alike(slots, b"po", edges),
@@ -149,7 +149,7 @@ fn but_last(text: &[u8]) -> &[u8]
 /// Adds the edges of slots, the links with this word.
 fn fill_alike(slots: &[Edge], word: &[u8], edges: &mut Edges) -> Result<(), NotAName>
     requires { length edges.old.items + length slots.now ≤ MAX_EDGES }
-    ensures { Adds (filled_alike slots.now word.now) edges.old.items edges.new.items result }
+    ensures { AddsEdges (filled_alike slots.now word.now) edges.old.items edges.new.items result }
 {
     match slots {
         [] => Ok(()),
@@ -163,15 +163,15 @@ fn fill_alike(slots: &[Edge], word: &[u8], edges: &mut Edges) -> Result<(), NotA
 /// Adds the edges of slots, the links with these words, each of which follows a `+`.
 fn fill_each(slots: &[Edge], links: &[u8], edges: &mut Edges) -> Result<(), NotAName>
     requires { length edges.old.items + length slots.now ≤ MAX_EDGES }
-    ensures { Adds (filled_each slots.now links.now) edges.old.items edges.new.items result }
+    ensures { AddsEdges (filled_each slots.now links.now) edges.old.items edges.new.items result }
 {
     match slots {
         [] => Ok(()),
         [slot, rest @ ..] => {
             if slot.is_diff() {
-                let (word, behind) = split_word(links);
+                let (word, remainder) = split_word(links);
                 edges.push(link_with(*slot, word)?);
-                fill_each(rest, behind, edges)
+                fill_each(rest, remainder, edges)
             } else {
                 edges.push(*slot);
                 fill_each(rest, links, edges)
@@ -182,8 +182,8 @@ fn fill_each(slots: &[Edge], links: &[u8], edges: &mut Edges) -> Result<(), NotA
 
 /// The word after the first byte of a text, up to the next `+`, and the text from there on.
 fn split_word(text: &[u8]) -> (&[u8], &[u8])
-    ensures word { result.0.now ≡ first_word text.now }
-    ensures behind { result.1.now ≡ after_word text.now }
+    ensures word { result.0.now ≡ first_name_word text.now }
+    ensures remainder { result.1.now ≡ after_word text.now }
 {
     match text {
         [] => (text, text),
@@ -244,11 +244,11 @@ fn is_link(from: Dir, to: Dir, word: &[u8], edge: Edge) -> bool
 /// beside these have.
 fn mark_around(unmarked: &[Edge], edges: &mut Edges) -> Result<(), NotAName>
     requires { length edges.old.items + length unmarked.now ≤ MAX_EDGES }
-    ensures { Adds (marked_around unmarked.now) edges.old.items edges.new.items result }
+    ensures { AddsEdges (marked_around unmarked.now) edges.old.items edges.new.items result }
 {
     let before = last_mark(Mark::Plain, unmarked);
-    let behind = first_mark(unmarked, Mark::Plain);
-    mark_along(before, unmarked, behind, edges)
+    let remainder = first_mark(unmarked, Mark::Plain);
+    mark_along(before, unmarked, remainder, edges)
 }
 
 /// The mark of the access after some edges, where it is `mark` after none.
@@ -275,7 +275,7 @@ fn first_mark(edges: &[Edge], mark: Mark) -> Mark
 /// with these marks.
 fn mark_along(from: Mark, unmarked: &[Edge], to: Mark, edges: &mut Edges) -> Result<(), NotAName>
     requires { length edges.old.items + length unmarked.now ≤ MAX_EDGES }
-    ensures { Adds (marked_along from unmarked.now to) edges.old.items edges.new.items result }
+    ensures { AddsEdges (marked_along from unmarked.now to) edges.old.items edges.new.items result }
 {
     match unmarked {
         [] => Ok(()),
@@ -301,7 +301,7 @@ fn marked_between(from: Mark, edge: Edge, to: Mark) -> Result<Edge, NotAName>
 /// Adds the edges whose words a text has after `C+`, joined by `-`.
 fn read_other(text: &[u8], edges: &mut Edges) -> Result<(), NotAName>
     requires { edges.old.items ≡ [] }
-    ensures { Adds (words_read text.now) edges.old.items edges.new.items result }
+    ensures { AddsEdges (words_read text.now) edges.old.items edges.new.items result }
 {
     match text {
         [b'C', b'+', words @ ..] => read_words(words, edges),
@@ -311,9 +311,9 @@ fn read_other(text: &[u8], edges: &mut Edges) -> Result<(), NotAName>
 
 /// Adds the edges whose words a text has, joined by `-`.
 fn read_words(text: &[u8], edges: &mut Edges) -> Result<(), NotAName>
-    ensures { Adds (edges_spelled (slice_split is_dash text.now)) edges.old.items edges.new.items result }
+    ensures { AddsEdges (edges_spelled (slice_split is_dash text.now)) edges.old.items edges.new.items result }
 {
-    let (word, behind) = text.split_at(len_before(b'-', text));
+    let (word, remainder) = text.split_at(len_before(b'-', text));
     let Ok(edge) = read_edge_bytes(word) else {
         return Err(NotAName);
     };
@@ -321,7 +321,7 @@ fn read_words(text: &[u8], edges: &mut Edges) -> Result<(), NotAName>
         return Err(NotAName);
     }
     edges.push(edge);
-    match behind {
+    match remainder {
         [] => Ok(()),
         [_, words @ ..] => read_words(words, edges),
     }

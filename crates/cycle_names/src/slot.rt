@@ -1,6 +1,6 @@
 ghost use Rattle.std.specs.Prelude.{◌≡◌, ◌==◌, ◌≤◌};
 ghost use Rattle.relax_edges.specs.Order.{rank_of};
-ghost use Rattle.cycle_names.specs.Links.{slot_of};
+ghost use Rattle.cycle_names.specs.LinkWords.{edge_of_slot};
 ghost use Rattle.cycle_names.specs.Fitting.{slot_edge, is_com_slot, is_link_slot, is_kind_slot, com_count, edge_count};
 
 use relax_edges::{Com, Dir, Edge, Kind, Reach, Sd};
@@ -35,7 +35,7 @@ impl Slot {
     /// Whether an edge joins what the slot does, whatever its marks.
     #[tactic(auto, using(crate::proofs::Tables::slot_is_of))]
     pub(crate) fn is_of(self, edge: Edge) -> bool
-        ensures { result ≡ (rank_of (slot_of edge) == rank_of (slot_edge self)) }
+        ensures { result ≡ (rank_of (edge_of_slot edge) == rank_of (slot_edge self)) }
     {
         self.is_of_kind(edge.kind())
     }

@@ -2,10 +2,10 @@ ghost use Rattle.std.specs.Prelude.{◌≡◌, ◌+◌, ◌*◌, ◌≤◌, ◌+
 ghost use Rattle.std.specs.List.{find, flat_map, list_all, join_by};
 ghost use Rattle.std.specs.Str.{bytes_eq};
 ghost use Rattle.relax_edges.specs.EdgeTable.{is_diff};
-ghost use Rattle.relax_edges.specs.Words.{word_of};
-ghost use Rattle.cycle_names.specs.Links.{link_word, link_words};
-ghost use Rattle.cycle_names.specs.Names.{links_text};
-ghost use Rattle.cycle_names.specs.Fitting.{link_text, is_at};
+ghost use Rattle.relax_edges.specs.WordParts.{word_of};
+ghost use Rattle.cycle_names.specs.LinkWords.{link_word, link_words};
+ghost use Rattle.cycle_names.specs.CycleNames.{links_text};
+ghost use Rattle.cycle_names.specs.Fitting.{link_text, has_word_place};
 
 use crate::link::{kind_link, mark_letters, word_place};
 use crate::name::MAX_NAME;
@@ -56,7 +56,7 @@ fn first_link(edges: &[Edge]) -> Option<Edge>
 
 /// Whether the words of the links of a list of edges all have this place.
 fn are_at(place: u8, edges: &[Edge]) -> bool
-    ensures { result ≡ list_all (is_at place) edges.now }
+    ensures { result ≡ list_all (has_word_place place) edges.now }
 {
     match edges {
         [] => true,
@@ -66,7 +66,7 @@ fn are_at(place: u8, edges: &[Edge]) -> bool
 
 /// Whether an edge is no link, or its word has this place.
 fn is_at(place: u8, edge: Edge) -> bool
-    ensures { result ≡ is_at place edge }
+    ensures { result ≡ has_word_place place edge }
 {
     let other = word_place(edge);
     other == 0 || other == place

@@ -24,13 +24,13 @@ pub struct Resolved {
 impl Model for Resolved {
     ghost use Rattle.std.specs.Prelude.{List};
     ghost use Rattle.relax_edges.specs.declared.edge.Edge.{Edge};
-    ghost use Rattle.cycle_resolve.specs.Kept.{IsKept};
+    ghost use Rattle.cycle_resolve.specs.KeptEvents.{AreKeptEvents};
 
     ghost Value = { List Edge };
 
     ghost view = { λ r. r.cycle };
 
-    ghost invariant = { λ r. IsKept r.cycle r.events.items r.threads r.locations };
+    ghost invariant = { λ r. AreKeptEvents r.cycle r.events.items r.threads r.locations };
 }
 
 impl Resolved {

@@ -17,7 +17,7 @@ use Rattle.relax_edges.specs.AllEdges.{edges_in_order}
 use Rattle.relax_edges.specs.Order.{rank_of}
 use Rattle.cycle_laws.proofs.RankLaws.{placed, edges-length}
 use Rattle.family_laws.specs.Filled.{is_choice}
-use Rattle.demo_tests.specs.Filled.{choices_of}
+use Rattle.demo_tests.specs.FilledLinks.{choices_of}
 
 -- there are 1 to 16 choices for each link
 one_to_16 : (arch : ArchName) (from to : Dir) → (nat_lt 0 (length (choices_of arch from to)) && nat_le (length (choices_of arch from to)) 16) ≡ true

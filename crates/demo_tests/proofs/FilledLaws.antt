@@ -22,7 +22,7 @@ use Rattle.cycle_names.specs.declared.family.Family.{Family}
 use Rattle.cycle_names.specs.Families.{all_families, family_edges}
 use Rattle.demo_tests.specs.Draws.{drawn, next_seed}
 use Rattle.family_laws.specs.Filled.{is_choice, IsFilled}
-use Rattle.demo_tests.specs.Filled.{choices_of, choice_of, edge_for, seed_past, filled}
+use Rattle.demo_tests.specs.FilledLinks.{choices_of, choice_of, edge_for, seed_past, links_filled}
 use Rattle.demo_tests.proofs.ChoiceLaws.{some_choices}
 
 -- what is picked is a choice
@@ -34,7 +34,7 @@ choice_is_one arch n link =
     filter_passes p _ (n % length (choices_of arch (source_of link) (target_of link))) link (grind (arith, some))
 
 -- the edges picked for a family's cycle are an external edge as it is and a choice for each link
-pub is_filled : (arch : ArchName) (seed : ℕ) (slots : List Edge) → IsFilled arch slots (filled arch seed slots)
+pub is_filled : (arch : ArchName) (seed : ℕ) (slots : List Edge) → IsFilled arch slots (links_filled arch seed slots)
 is_filled arch seed [] = tt
 is_filled arch seed (slot ∷ slots) = (one, is_filled arch (seed_past seed slot) slots)
   where
@@ -156,10 +156,10 @@ family_cycle family h =
     record { some = grind (arith, nat_tests, first.0); short = grind (arith, nat_tests, first.1); closed = last.1; plain = marks.1 }
 
 -- the edges picked for it are a cycle
-pub filled_cycle : (arch : ArchName) (seed : ℕ) (family : Family) → IsAmong all_families family → IsCycle (filled arch seed (family_edges family))
+pub filled_cycle : (arch : ArchName) (seed : ℕ) (family : Family) → IsAmong all_families family → IsCycle (links_filled arch seed (family_edges family))
 filled_cycle arch seed family h =
     let slots = family_edges family in
-    let edges = filled arch seed slots in
+    let edges = links_filled arch seed slots in
     let own = family_cycle family h in
     let alike = filled_alike arch slots edges own.plain (is_filled arch seed slots) in
     let same = alike_length edges slots alike in
@@ -167,7 +167,7 @@ filled_cycle arch seed family h =
 
 -- so the edges compose
 pub never_refused : (arch : ArchName) (seed : ℕ) (family : Family) (edges : List Edge) (error : CycleError) → IsAmong all_families family
-    → edges ≡ filled arch seed (family_edges family) → Err error ≡ composed edges → ⊥
+    → edges ≡ links_filled arch seed (family_edges family) → Err error ≡ composed edges → ⊥
 never_refused arch seed family edges error h e refused =
     let made : composed edges ≡ Ok edges = (composes_exactly.cycle edges).1 (rw e (filled_cycle arch seed family h)) in
     not_both (refused ∙ made)
@@ -177,6 +177,6 @@ never_refused arch seed family edges error h e refused =
 
 -- the edges that the steps pick are those picked for the family's cycle
 pub filled_from : (arch : ArchName) (seed : ℕ) (family : Family) (slots shown start edges whole : List Edge) → slots ≡ family_edges family → shown ≡ slots → start ≡ []
-    → edges ≡ start ++ filled arch seed shown → whole ≡ edges → whole ≡ filled arch seed (family_edges family)
+    → edges ≡ start ++ links_filled arch seed shown → whole ≡ edges → whole ≡ links_filled arch seed (family_edges family)
 filled_from arch seed family slots shown start edges whole s t n e w =
-    w ∙ e ∙ ap (λ u. u ++ filled arch seed shown) n ∙ ap (filled arch seed) (t ∙ s)
+    w ∙ e ∙ ap (λ u. u ++ links_filled arch seed shown) n ∙ ap (links_filled arch seed) (t ∙ s)

@@ -8,7 +8,7 @@ use Rattle.list_laws.specs.Numbers.{upto}
 use Rattle.arch_trait.specs.Threads.{Puts}
 use Rattle.arch_trait.specs.Writing.{Writing}
 use Rattle.demo_tests.specs.declared.tally.TestTally.{TestTally}
-use Rattle.demo_tests.specs.Tallies.{numbered_text, tally_of, family_tallies}
+use Rattle.demo_tests.specs.Tallies.{numbered_text, tally_of_tests, family_tallies}
 
 -- a line of the summary: a word, and the numbers of tests, lines and bytes counted under it
 unfoldable pub tally_line : List ℕ → TestTally → List ℕ
@@ -32,4 +32,4 @@ summary_lines families all = family_lines all_families families ++ tally_line (c
 unfoldable pub demo_text : Puts → Writing → ℕ → List ℕ
 demo_text puts writing count =
     let text = numbered_text puts writing in
-    summary_lines (family_tallies text count) (tally_of text (upto count))
+    summary_lines (family_tallies text count) (tally_of_tests text (upto count))

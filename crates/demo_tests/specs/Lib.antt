@@ -1,5 +1,5 @@
 pub mod Draws
-pub mod Filled
-pub mod Counting
+pub mod FilledLinks
+pub mod TestCounting
 pub mod Tallies
 pub mod DemoText

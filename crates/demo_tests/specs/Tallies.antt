@@ -7,7 +7,7 @@ use Rattle.relax_edges.specs.declared.kinds.ObsMode.TheVariants.{Accept}
 use Rattle.relax_edges.specs.declared.edge.Edge.{Edge}
 use Rattle.cycle_names.specs.declared.family.Family.TheVariants.{Other}
 use Rattle.cycle_names.specs.Families.{all_families, family_edges}
-use Rattle.cycle_names.specs.Names.{name_of}
+use Rattle.cycle_names.specs.CycleNames.{name_of}
 use Rattle.list_laws.specs.Numbers.{upto}
 use Rattle.arch_trait.specs.Threads.{Puts}
 use Rattle.arch_trait.specs.Writing.{Writing}
@@ -15,15 +15,15 @@ use Rattle.diy_io.specs.Sink.{line_feed_count}
 use Rattle.test_maker.specs.CycleText.{cycle_text}
 use Rattle.demo_tests.specs.declared.tally.TestTally.{TestTally}
 use Rattle.demo_tests.specs.Draws.{first_seed}
-use Rattle.demo_tests.specs.Filled.{filled, seed_after}
+use Rattle.demo_tests.specs.FilledLinks.{links_filled, seed_after}
 
 -- the place in the table of the family of a test with this number: the families take turns
-abbrev pub place_of : ℕ → ℕ
-place_of number = number % 14
+abbrev pub family_tally_place : ℕ → ℕ
+family_tally_place number = number % 14
 
 -- the cycle of the family of a test with this number
 abbrev pub slots_of : ℕ → List Edge
-slots_of number = family_edges (slice_index_or all_families (place_of number) Other)
+slots_of number = family_edges (slice_index_or all_families (family_tally_place number) Other)
 
 -- the seed before the draws of a test with this number
 abbrev pub seed_of : ℕ → ℕ
@@ -32,7 +32,7 @@ seed_of (suc number) = seed_after (seed_of number) (slots_of number)
 
 -- the cycle of a test with this number
 unfoldable pub numbered_cycle : ArchName → ℕ → List Edge
-numbered_cycle arch number = filled arch (seed_of number) (slots_of number)
+numbered_cycle arch number = links_filled arch (seed_of number) (slots_of number)
 
 -- the text of a test with this number, under the name of its cycle
 unfoldable pub numbered_text : Puts → Writing → ℕ → List ℕ
@@ -42,11 +42,11 @@ numbered_text puts writing number =
 
 -- the numbers of the tests of the family at a place, among so many tests
 abbrev pub family_numbers : ℕ → ℕ → List ℕ
-family_numbers count place = filter (λ number. place_of number == place) (upto count)
+family_numbers count place = filter (λ number. family_tally_place number == place) (upto count)
 
 -- how many tests have these numbers, and how many line feeds and bytes are in their texts
-unfoldable pub tally_of : (ℕ → List ℕ) → List ℕ → TestTally
-tally_of text numbers = record {
+unfoldable pub tally_of_tests : (ℕ → List ℕ) → List ℕ → TestTally
+tally_of_tests text numbers = record {
   tests = length numbers;
   lines = sum_by (λ number. line_feed_count (text number)) numbers;
   bytes = sum_by (λ number. length (text number)) numbers;
@@ -54,4 +54,4 @@ tally_of text numbers = record {
 
 -- the same for each family of the table, among so many tests
 unfoldable pub family_tallies : (ℕ → List ℕ) → ℕ → List TestTally
-family_tallies text count = map (λ place. tally_of text (family_numbers count place)) (upto 14)
+family_tallies text count = map (λ place. tally_of_tests text (family_numbers count place)) (upto 14)

@@ -1,7 +1,7 @@
 ghost use Rattle.std.specs.Prelude.{◌≡◌, ◌<◌, ◌++◌, true, if◌then◌else◌, length, [], ◌∷◌};
 ghost use Rattle.relax_edges.specs.declared.kinds.Dir.TheVariants.{R, W};
 ghost use Rattle.family_laws.specs.Filled.{is_choice};
-ghost use Rattle.demo_tests.specs.Filled.{choice_of, choices_of};
+ghost use Rattle.demo_tests.specs.FilledLinks.{choice_of, choices_of};
 
 use arrayvec::ArrayVec;
 use relax_edges::{ArchName, Dir, EDGES, Edge, Mark};
@@ -57,7 +57,7 @@ impl Choices {
     }
 
     /// The choice for a link by the number that was drawn.
-    #[tactic(auto, unfolding(crate::specs::Filled::choice_of))]
+    #[tactic(auto, unfolding(crate::specs::FilledLinks::choice_of))]
     pub(crate) fn choice(&self, drawn: u32, link: Edge) -> Edge
         ensures { result ≡ choice_of self.now.arch drawn link }
     {

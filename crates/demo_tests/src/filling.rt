@@ -2,7 +2,7 @@ ghost use Rattle.std.specs.Prelude.{◌≡◌, ◌+◌, ◌≤◌, ◌++◌, len
 ghost use Rattle.std.specs.List.{IsAmong};
 ghost use Rattle.relax_edges.specs.declared.TheConstants.{MAX_EDGES};
 ghost use Rattle.cycle_names.specs.Families.{all_families, family_edges};
-ghost use Rattle.demo_tests.specs.Filled.{edge_for, filled, seed_after, seed_past};
+ghost use Rattle.demo_tests.specs.FilledLinks.{edge_for, links_filled, seed_after, seed_past};
 
 use crate::choices::Choices;
 use crate::draws::Draws;
@@ -27,7 +27,7 @@ fn edge_for(slot: Edge, choices: &Choices, draws: &mut Draws) -> Edge
 /// Adds the edges picked for those of a family's cycle.
 fn fill(slots: &[Edge], choices: &Choices, draws: &mut Draws, edges: &mut Edges)
     requires { length edges.old.items + length slots.now ≤ MAX_EDGES }
-    ensures edges { edges.new.items ≡ edges.old.items ++ filled choices.now.arch draws.old.seed slots.now }
+    ensures edges { edges.new.items ≡ edges.old.items ++ links_filled choices.now.arch draws.old.seed slots.now }
     ensures seed { draws.new.seed ≡ seed_after draws.old.seed slots.now }
 {
     match slots {
@@ -47,7 +47,7 @@ pub(crate) fn draw_cycle(
     edges: &mut Edges,
 ) -> Cycle
     requires { IsAmong all_families family }
-    ensures cycle { result ≡ filled choices.now.arch draws.old.seed (family_edges family) }
+    ensures cycle { result ≡ links_filled choices.now.arch draws.old.seed (family_edges family) }
     ensures seed { draws.new.seed ≡ seed_after draws.old.seed (family_edges family) }
 {
     let slots = edges_of(family);

@@ -3,7 +3,7 @@ ghost use Rattle.diy_io.specs.Wrote.{Wrote};
 ghost use Rattle.demo_tests.specs.DemoText.{demo_text};
 ghost use Rattle.family_laws.specs.Filled.{MakesAll};
 ghost use Rattle.list_laws.specs.Numbers.{upto};
-ghost use Rattle.demo_tests.specs.Tallies.{family_tallies, numbered_text, tally_of};
+ghost use Rattle.demo_tests.specs.Tallies.{family_tallies, numbered_text, tally_of_tests};
 
 use crate::choices::Choices;
 use crate::draws::Draws;
@@ -39,7 +39,7 @@ pub fn demo<A: Arch, O: Sink>(count: u32, out: &mut O) -> Result<(), Failed>
 fn tally_tests<A: Arch>(count: u32, test: &mut Test) -> Summary
     requires { MakesAll A.puts }
     ensures families { result.families ≡ family_tallies (numbered_text A.puts A.writing) count }
-    ensures all { result.all ≡ tally_of (numbered_text A.puts A.writing) (upto count) }
+    ensures all { result.all ≡ tally_of_tests (numbered_text A.puts A.writing) (upto count) }
 {
     let choices = Choices::new(A::NAME);
     let mut draws = Draws::new();

@@ -2,7 +2,7 @@ ghost use Rattle.std.specs.Prelude.{◌≡◌, ◌<◌, length, replicate};
 ghost use Rattle.std.specs.List.{All};
 ghost use Rattle.diy_io.specs.Page.{Sends};
 ghost use Rattle.diy_io.specs.Wrote.{Wrote};
-ghost use Rattle.demo_tests.specs.Counting.{Fits, counted, nothing_counted, CountsAt};
+ghost use Rattle.demo_tests.specs.TestCounting.{Fits, test_counted, nothing_counted, CountsAt};
 ghost use Rattle.demo_tests.specs.DemoText.{family_line, family_lines, tally_line, summary_lines};
 
 use crate::tally::TestTally;
@@ -39,7 +39,7 @@ impl Summary {
         requires families { All (Fits text.now) self.old.families }
         requires all { Fits text.now self.old.all }
         ensures families { CountsAt self.old.families self.new.families place text.now }
-        ensures all { self.new.all ≡ counted text.now self.old.all }
+        ensures all { self.new.all ≡ test_counted text.now self.old.all }
     {
         self.families[place].count(text);
         self.all.count(text);

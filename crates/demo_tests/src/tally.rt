@@ -1,5 +1,5 @@
 ghost use Rattle.std.specs.Prelude.{◌≡◌};
-ghost use Rattle.demo_tests.specs.Counting.{Fits, counted, nothing_counted};
+ghost use Rattle.demo_tests.specs.TestCounting.{Fits, test_counted, nothing_counted};
 
 use crate::text_tally::TextTally;
 
@@ -26,7 +26,7 @@ impl TestTally {
     /// Counts one test more, by the tally of its text.
     pub(crate) fn count(&mut self, text: &TextTally)
         requires { Fits text.now self.old }
-        ensures { self.new ≡ counted text.now self.old }
+        ensures { self.new ≡ test_counted text.now self.old }
     {
         self.tests += 1;
         self.lines += text.line_feeds();

@@ -2,61 +2,61 @@
 use Rattle.std.proofs.Common.{◌≡◌, ℕ, ◌+◌, ◌<◌, List, [], ◌∷◌, ◌++◌, ◌-◌, length, get_or, set, map, refl, sym, ap, ◌∙◌, subst, arith, All}
 use Rattle.std.proofs.lemmas.List.{map-set, get_or-map, length-map, map-append}
 use Rattle.diy_io.specs.declared.mem_files.Entry.{Entry}
-use Rattle.diy_io.specs.MemFiles.{Named, MemFilesState, name_at, bytes_at}
+use Rattle.diy_io.specs.MemFiles.{NamedFile, MemFilesState, file_name_at, bytes_at}
 use Rattle.std.specs.Prelude.{Option, IfSome, MatchOption, Result, OnOk, OnErr, Ok, Err, Some, None, Bool, true, false, is_err, is_ok, if◌then◌else◌}
 use Rattle.std.proofs.lemmas.List.Elements.{All-get_or}
-use Rattle.diy_io.specs.MemEntries.{entry_view, IsSpare}
+use Rattle.diy_io.specs.MemEntries.{file_view, IsSpare}
 
-abbrev pub state_of : List Named → ℕ → ℕ → MemFilesState
+abbrev pub state_of : List NamedFile → ℕ → ℕ → MemFilesState
 state_of files room names = record { files = files; room = room; names = names }
 
 -- states with equal files, room and names are equal
-pub same_state : (a b : List Named) (m n k l : ℕ) → a ≡ b → m ≡ n → k ≡ l → state_of a m k ≡ state_of b n l
+pub same_state : (a b : List NamedFile) (m n k l : ℕ) → a ≡ b → m ≡ n → k ≡ l → state_of a m k ≡ state_of b n l
 same_state a b m n k l p q r = rw (p, q, r)
 
-abbrev named : List ℕ → List ℕ → Named
+abbrev named : List ℕ → List ℕ → NamedFile
 named name bytes = (name, bytes)
 
 pair_is : (a b c d : List ℕ) → a ≡ c → b ≡ d → named a b ≡ named c d
 pair_is a b c d p q = rw (p, q) refl
 
-name_viewed : (es : List Entry) (i : ℕ) (d old : Entry) → i < length es → old ≡ get_or es i d → name_at i (map entry_view es) ≡ old.name.items
-name_viewed es i d old h e = ap (λ f. f.0) (get_or-map entry_view es i d ([], []) h) ∙ ap (λ f. f.name.items) (sym e)
+name_viewed : (es : List Entry) (i : ℕ) (d old : Entry) → i < length es → old ≡ get_or es i d → file_name_at i (map file_view es) ≡ old.name.items
+name_viewed es i d old h e = ap (λ f. f.0) (get_or-map file_view es i d ([], []) h) ∙ ap (λ f. f.name.items) (sym e)
 
-bytes_viewed : (es : List Entry) (i : ℕ) (d old : Entry) → i < length es → old ≡ get_or es i d → bytes_at i (map entry_view es) ≡ old.bytes.items
-bytes_viewed es i d old h e = ap (λ f. f.1) (get_or-map entry_view es i d ([], []) h) ∙ ap (λ f. f.bytes.items) (sym e)
+bytes_viewed : (es : List Entry) (i : ℕ) (d old : Entry) → i < length es → old ≡ get_or es i d → bytes_at i (map file_view es) ≡ old.bytes.items
+bytes_viewed es i d old h e = ap (λ f. f.1) (get_or-map file_view es i d ([], []) h) ∙ ap (λ f. f.bytes.items) (sym e)
 
-set_viewed : (es : List Entry) (i : ℕ) (d old new : Entry) (bytes : List ℕ) → i < length (map entry_view es) → old ≡ get_or es i d
+set_viewed : (es : List Entry) (i : ℕ) (d old new : Entry) (bytes : List ℕ) → i < length (map file_view es) → old ≡ get_or es i d
     → new.name.items ≡ old.name.items → new.bytes.items ≡ bytes
-    → map entry_view (set es i new) ≡ set (map entry_view es) i (name_at i (map entry_view es), bytes)
+    → map file_view (set es i new) ≡ set (map file_view es) i (file_name_at i (map file_view es), bytes)
 set_viewed es i d old new bytes h e n b =
-    let inside : i < length es = omega (arith, length-map es entry_view) in
-    map-set entry_view es i new
-    ∙ ap (set (map entry_view es) i) (pair_is _ _ _ _ (n ∙ sym (name_viewed es i d old inside e)) b)
+    let inside : i < length es = omega (arith, length-map es file_view) in
+    map-set file_view es i new
+    ∙ ap (set (map file_view es) i) (pair_is _ _ _ _ (n ∙ sym (name_viewed es i d old inside e)) b)
 
 -- a file has other bytes in its place
-pub entry_set : (es : List Entry) (files : List Named) (i : ℕ) (d old new : Entry) (bytes : List ℕ) → map entry_view es ≡ files → i < length files → old ≡ get_or es i d
+pub entry_set : (es : List Entry) (files : List NamedFile) (i : ℕ) (d old new : Entry) (bytes : List ℕ) → map file_view es ≡ files → i < length files → old ≡ get_or es i d
     → new.name.items ≡ old.name.items → new.bytes.items ≡ bytes
-    → map entry_view (set es i new) ≡ set files i (name_at i files, bytes)
+    → map file_view (set es i new) ≡ set files i (file_name_at i files, bytes)
 entry_set es files i d old new bytes is h e n b =
-    let P : List Named → Type 0 = λ f. i < length f → map entry_view (set es i new) ≡ set f i (name_at i f, bytes) in
+    let P : List NamedFile → Type 0 = λ f. i < length f → map file_view (set es i new) ≡ set f i (file_name_at i f, bytes) in
     subst P is (λ inside. set_viewed es i d old new bytes inside e n b) h
 
 -- the bytes of a file grow
-pub entry_grown : (es : List Entry) (files : List Named) (i : ℕ) (d old new : Entry) (bytes : List ℕ) → map entry_view es ≡ files → i < length files → old ≡ get_or es i d
+pub entry_grown : (es : List Entry) (files : List NamedFile) (i : ℕ) (d old new : Entry) (bytes : List ℕ) → map file_view es ≡ files → i < length files → old ≡ get_or es i d
     → new.name.items ≡ old.name.items → new.bytes.items ≡ old.bytes.items ++ bytes
-    → map entry_view (set es i new) ≡ set files i (name_at i files, bytes_at i files ++ bytes)
+    → map file_view (set es i new) ≡ set files i (file_name_at i files, bytes_at i files ++ bytes)
 entry_grown es files i d old new bytes is h e n b =
     let viewed : bytes_at i files ≡ old.bytes.items =
-    ap (bytes_at i) (sym is) ∙ bytes_viewed es i d old (let c : length files ≡ length es = ap length (sym is) ∙ length-map es entry_view in omega arith) e in
+    ap (bytes_at i) (sym is) ∙ bytes_viewed es i d old (let c : length files ≡ length es = ap length (sym is) ∙ length-map es file_view in omega arith) e in
     entry_set es files i d old new (bytes_at i files ++ bytes) is h e n (b ∙ ap (λ f. f ++ bytes) (sym viewed))
 
 -- a file is added after the others
-pub entry_added : (es made : List Entry) (files : List Named) (new : Entry) (name bytes : List ℕ) → map entry_view es ≡ files → made ≡ es ++ new ∷ []
-    → new.name.items ≡ name → new.bytes.items ≡ bytes → map entry_view made ≡ files ++ (name, bytes) ∷ []
+pub entry_added : (es made : List Entry) (files : List NamedFile) (new : Entry) (name bytes : List ℕ) → map file_view es ≡ files → made ≡ es ++ new ∷ []
+    → new.name.items ≡ name → new.bytes.items ≡ bytes → map file_view made ≡ files ++ (name, bytes) ∷ []
 entry_added es made files new name bytes is e n b =
-    ap (map entry_view) e ∙ map-append entry_view es (new ∷ [])
-    ∙ ap (λ prefix. prefix ++ entry_view new ∷ []) is ∙ ap (λ f. files ++ f ∷ []) (pair_is _ _ _ _ n b)
+    ap (map file_view) e ∙ map-append file_view es (new ∷ [])
+    ∙ ap (λ prefix. prefix ++ file_view new ∷ []) is ∙ ap (λ f. files ++ f ∷ []) (pair_is _ _ _ _ n b)
 
 -- the last file to come has no name and no bytes
 pub last_spare : (room : ℕ) (spare : List Entry) (n : ℕ) (d : Entry) (entry : Entry) → All (IsSpare room) spare → n < length spare → entry ≡ get_or spare n d → IsSpare room entry

@@ -10,19 +10,19 @@ use Rattle.std.proofs.lemmas.List.Folds.{find-append}
 use Rattle.std.proofs.lemmas.Slice.Eq.{bytes_eq-Decides}
 use Rattle.list_laws.proofs.Cases.{by_test}
 use Rattle.diy_io.specs.Shelf.{with_file}
-use Rattle.diy_io.specs.MemFiles.{Named, has_name, place_of, name_at, bytes_at, files_of}
+use Rattle.diy_io.specs.MemFiles.{NamedFile, has_name, file_place, file_name_at, bytes_at, files_named}
 
 -- a test is passed first at a place, which has the number i where the list begins at k
-pub record FirstAt (t : Named → Bool) (k : ℕ) (xs : List Named) (i : ℕ) : Type 0 where
+pub record FirstAt (t : NamedFile → Bool) (k : ℕ) (xs : List NamedFile) (i : ℕ) : Type 0 where
   pub place : ℕ
   pub is : i ≡ k + place
   pub inside : place < length xs
-  pub passes : (d : Named) → t (get_or xs place d) ≡ true
-  pub found : (d : Named) → find t xs ≡ Some (get_or xs place d)
-  pub found_put : (y : Named) → t y ≡ true → find t (set xs place y) ≡ Some y
-  pub place_put : (y : Named) → t y ≡ true → position_from t k (set xs place y) ≡ Some i
+  pub passes : (d : NamedFile) → t (get_or xs place d) ≡ true
+  pub found : (d : NamedFile) → find t xs ≡ Some (get_or xs place d)
+  pub found_put : (y : NamedFile) → t y ≡ true → find t (set xs place y) ≡ Some y
+  pub place_put : (y : NamedFile) → t y ≡ true → position_from t k (set xs place y) ≡ Some i
 
-first_here : (t : Named → Bool) (k : ℕ) (x : Named) (xs : List Named) (i : ℕ) → k ≡ i → t x ≡ true → FirstAt t k (x ∷ xs) i
+first_here : (t : NamedFile → Bool) (k : ℕ) (x : NamedFile) (xs : List NamedFile) (i : ℕ) → k ≡ i → t x ≡ true → FirstAt t k (x ∷ xs) i
 first_here t k x xs i e passed = record {
   place = 0;
   is = omega arith;
@@ -33,7 +33,7 @@ first_here t k x xs i e passed = record {
   place_put = λ y h. rw h (ap Some e);
 }
 
-first_later : (t : Named → Bool) (k : ℕ) (x : Named) (xs : List Named) (i : ℕ) → t x ≡ false → FirstAt t (k + 1) xs i → FirstAt t k (x ∷ xs) i
+first_later : (t : NamedFile → Bool) (k : ℕ) (x : NamedFile) (xs : List NamedFile) (i : ℕ) → t x ≡ false → FirstAt t (k + 1) xs i → FirstAt t k (x ∷ xs) i
 first_later t k x xs i failed f = record {
   place = suc f.place;
   is = omega (arith, f.is);
@@ -44,19 +44,19 @@ first_later t k x xs i failed f = record {
   place_put = λ y h. rw failed (f.place_put y h);
 }
 
-first_at : (t : Named → Bool) (k : ℕ) (xs : List Named) (i : ℕ) → position_from t k xs ≡ Some i → FirstAt t k xs i
+first_at : (t : NamedFile → Bool) (k : ℕ) (xs : List NamedFile) (i : ℕ) → position_from t k xs ≡ Some i → FirstAt t k xs i
 first_at t k [] i e = absurd (none-some i e)
 first_at t k (x ∷ xs) i e = by_test (t x)
     (λ passed. first_here t k x xs i (same_Some k i (rw passed at e)) passed)
     (λ failed. first_later t k x xs i failed (first_at t (k + 1) xs i (rw failed at e)))
 
-find_none : (t : Named → Bool) (k : ℕ) (xs : List Named) → position_from t k xs ≡ None → find t xs ≡ None
+find_none : (t : NamedFile → Bool) (k : ℕ) (xs : List NamedFile) → position_from t k xs ≡ None → find t xs ≡ None
 find_none t k [] e = refl
 find_none t k (x ∷ xs) e = by_test (t x)
     (λ passed. absurd (none-some k (sym (rw passed at e))))
     (λ failed. rw failed (find_none t (k + 1) xs (rw failed at e)))
 
-find_put_other : (u : Named → Bool) (xs : List Named) (i : ℕ) (d y : Named) → u y ≡ false → u (get_or xs i d) ≡ false → find u (set xs i y) ≡ find u xs
+find_put_other : (u : NamedFile → Bool) (xs : List NamedFile) (i : ℕ) (d y : NamedFile) → u y ≡ false → u (get_or xs i d) ≡ false → find u (set xs i y) ≡ find u xs
 find_put_other u [] i d y p q = refl
 find_put_other u (x ∷ xs) zero d y p q = rw (p, q) refl
 find_put_other u (x ∷ xs) (suc i) d y p q = ap (λ r. cond (u x) (Some x) r) (find_put_other u xs i d y p q)
@@ -73,85 +73,85 @@ differ_back a b failed = by_test (bytes_eq b a)
     (λ fails. fails)
 
 -- the first file of a name
-pub first_named : (name : List ℕ) (files : List Named) (i : ℕ) → place_of name files ≡ Some i → FirstAt (has_name name) 0 files i
+pub first_named : (name : List ℕ) (files : List NamedFile) (i : ℕ) → file_place name files ≡ Some i → FirstAt (has_name name) 0 files i
 first_named name files i e = first_at (has_name name) 0 files i e
 
-pub place_is : (name : List ℕ) (files : List Named) (i : ℕ) (f : FirstAt (has_name name) 0 files i) → i ≡ f.place
+pub place_is : (name : List ℕ) (files : List NamedFile) (i : ℕ) (f : FirstAt (has_name name) 0 files i) → i ≡ f.place
 place_is name files i f = f.is ∙ zero-add f.place
 
 -- the place of a file is below the number of files
-pub place_inside : (name : List ℕ) (files : List Named) (i : ℕ) → place_of name files ≡ Some i → i < length files
+pub place_inside : (name : List ℕ) (files : List NamedFile) (i : ℕ) → file_place name files ≡ Some i → i < length files
 place_inside name files i e =
     let f = first_named name files i e in let p = place_is name files i f in rw p f.inside
 
 -- the file at the place of a name has the name
-pub name_there : (name : List ℕ) (files : List Named) (i : ℕ) → place_of name files ≡ Some i → name_at i files ≡ name
+pub name_there : (name : List ℕ) (files : List NamedFile) (i : ℕ) → file_place name files ≡ Some i → file_name_at i files ≡ name
 name_there name files i e =
     let f = first_named name files i e in let p = place_is name files i f in
-    rw p (same_bytes (name_at f.place files) name (f.passes ([], [])))
+    rw p (same_bytes (file_name_at f.place files) name (f.passes ([], [])))
 
 -- the bytes of the file at the place of a name are those of the file of that name
-pub bytes_there : (name : List ℕ) (files : List Named) (i : ℕ) → place_of name files ≡ Some i → files_of files name ≡ Some (bytes_at i files)
+pub bytes_there : (name : List ℕ) (files : List NamedFile) (i : ℕ) → file_place name files ≡ Some i → files_named files name ≡ Some (bytes_at i files)
 bytes_there name files i e =
     let f = first_named name files i e in let p = place_is name files i f in
     rw p (ap (option_map (λ file. file.1)) (f.found ([], [])))
 
 -- where a name has no place, there is no file of that name
-pub bytes_not_there : (name : List ℕ) (files : List Named) → place_of name files ≡ None → files_of files name ≡ None
+pub bytes_not_there : (name : List ℕ) (files : List NamedFile) → file_place name files ≡ None → files_named files name ≡ None
 bytes_not_there name files e = ap (option_map (λ file. file.1)) (find_none (has_name name) 0 files e)
 
 -- the place of a file stays where its bytes change
-pub place_stays : (name bytes : List ℕ) (files : List Named) (i : ℕ) → place_of name files ≡ Some i → place_of name (set files i (name, bytes)) ≡ Some i
+pub place_stays : (name bytes : List ℕ) (files : List NamedFile) (i : ℕ) → file_place name files ≡ Some i → file_place name (set files i (name, bytes)) ≡ Some i
 place_stays name bytes files i e =
     let f = first_named name files i e in let p = place_is name files i f in
-    let P : ℕ → Type 0 = λ j. place_of name (set files j (name, bytes)) ≡ Some i in
+    let P : ℕ → Type 0 = λ j. file_place name (set files j (name, bytes)) ≡ Some i in
     subst P (sym p) (f.place_put (name, bytes) (bytes_same name name refl))
 
-put_same : (files : List Named) (name bytes other : List ℕ) (i : ℕ) → place_of name files ≡ Some i → other ≡ name
-    → files_of (set files i (name, bytes)) other ≡ Some bytes
+put_same : (files : List NamedFile) (name bytes other : List ℕ) (i : ℕ) → file_place name files ≡ Some i → other ≡ name
+    → files_named (set files i (name, bytes)) other ≡ Some bytes
 put_same files name bytes other i e o =
     let f = first_named name files i e in let p = place_is name files i f in
-    let P : ℕ → Type 0 = λ j. files_of (set files j (name, bytes)) name ≡ Some bytes in
-    let there : files_of (set files i (name, bytes)) name ≡ Some bytes =
+    let P : ℕ → Type 0 = λ j. files_named (set files j (name, bytes)) name ≡ Some bytes in
+    let there : files_named (set files i (name, bytes)) name ≡ Some bytes =
     subst P (sym p) (ap (option_map (λ file. file.1)) (f.found_put (name, bytes) (bytes_same name name refl))) in
-    ap (files_of (set files i (name, bytes))) o ∙ there
+    ap (files_named (set files i (name, bytes))) o ∙ there
 
-put_other : (files : List Named) (name bytes other : List ℕ) (i : ℕ) → place_of name files ≡ Some i → bytes_eq other name ≡ false
-    → files_of (set files i (name, bytes)) other ≡ files_of files other
+put_other : (files : List NamedFile) (name bytes other : List ℕ) (i : ℕ) → file_place name files ≡ Some i → bytes_eq other name ≡ false
+    → files_named (set files i (name, bytes)) other ≡ files_named files other
 put_other files name bytes other i e differs =
     let n = name_there name files i e in
     let old : has_name other (get_or files i ([], [])) ≡ false = ap (λ known. bytes_eq known other) n ∙ differ_back other name differs in
     ap (option_map (λ file. file.1)) (find_put_other (has_name other) files i ([], []) (name, bytes) (differ_back other name differs) old)
 
 -- a file has other bytes in its place
-pub files_put : (files : List Named) (name bytes : List ℕ) (i : ℕ) → place_of name files ≡ Some i
-    → files_of (set files i (name, bytes)) ≡ with_file name bytes (files_of files)
+pub files_put : (files : List NamedFile) (name bytes : List ℕ) (i : ℕ) → file_place name files ≡ Some i
+    → files_named (set files i (name, bytes)) ≡ with_file name bytes (files_named files)
 files_put files name bytes i e = fun_ext (λ other. by_test (bytes_eq other name)
     (λ same. rw same (put_same files name bytes other i e (same_bytes other name same)))
     (λ differs. rw differs (put_other files name bytes other i e differs)))
 
-add_other : (files : List Named) (name bytes other : List ℕ) → has_name other (name, bytes) ≡ false
-    → files_of (files ++ (name, bytes) ∷ []) other ≡ files_of files other
+add_other : (files : List NamedFile) (name bytes other : List ℕ) → has_name other (name, bytes) ≡ false
+    → files_named (files ++ (name, bytes) ∷ []) other ≡ files_named files other
 add_other [] name bytes other differs = rw differs refl
 add_other (file ∷ files) name bytes other differs = by_test (has_name other file)
     (λ passed. rw passed refl)
     (λ failed. rw failed (add_other files name bytes other differs))
 
-add_same : (files : List Named) (name bytes other : List ℕ) → place_of name files ≡ None → other ≡ name
-    → files_of (files ++ (name, bytes) ∷ []) other ≡ Some bytes
+add_same : (files : List NamedFile) (name bytes other : List ℕ) → file_place name files ≡ None → other ≡ name
+    → files_named (files ++ (name, bytes) ∷ []) other ≡ Some bytes
 add_same files name bytes other e o =
     let there : find (has_name name) (files ++ (name, bytes) ∷ []) ≡ Some (name, bytes) =
     find-append (has_name name) files ((name, bytes) ∷ []) ∙ (rw (find_none (has_name name) 0 files e, bytes_same name name refl) refl) in
-    ap (files_of (files ++ (name, bytes) ∷ [])) o ∙ ap (option_map (λ file. file.1)) there
+    ap (files_named (files ++ (name, bytes) ∷ [])) o ∙ ap (option_map (λ file. file.1)) there
 
 -- a file is added after the others
-pub files_added : (files : List Named) (name bytes : List ℕ) → place_of name files ≡ None
-    → files_of (files ++ (name, bytes) ∷ []) ≡ with_file name bytes (files_of files)
+pub files_added : (files : List NamedFile) (name bytes : List ℕ) → file_place name files ≡ None
+    → files_named (files ++ (name, bytes) ∷ []) ≡ with_file name bytes (files_named files)
 files_added files name bytes e = fun_ext (λ other. by_test (bytes_eq other name)
     (λ same. rw same (add_same files name bytes other e (same_bytes other name same)))
     (λ differs. rw differs (add_other files name bytes other (differ_back other name differs))))
 
-added_from : (t : Named → Bool) (k : ℕ) (files : List Named) (y : Named) → position_from t k files ≡ None → t y ≡ true
+added_from : (t : NamedFile → Bool) (k : ℕ) (files : List NamedFile) (y : NamedFile) → position_from t k files ≡ None → t y ≡ true
     → position_from t k (files ++ y ∷ []) ≡ Some (k + length files)
 added_from t k [] y e h = rw h (ap Some (omega arith))
 added_from t k (x ∷ files) y e h = by_test (t x)
@@ -159,11 +159,11 @@ added_from t k (x ∷ files) y e h = by_test (t x)
     (λ failed. rw failed (added_from t (k + 1) files y (rw failed at e) h ∙ ap Some (omega arith)))
 
 -- the place of the file that is added after the others
-pub place_added : (files : List Named) (name bytes : List ℕ) → place_of name files ≡ None → place_of name (files ++ (name, bytes) ∷ []) ≡ Some (length files)
+pub place_added : (files : List NamedFile) (name bytes : List ℕ) → file_place name files ≡ None → file_place name (files ++ (name, bytes) ∷ []) ≡ Some (length files)
 place_added files name bytes e =
     added_from (has_name name) 0 files (name, bytes) e (bytes_same name name refl) ∙ ap Some (zero-add (length files))
 
 -- a place that was found is one of the list
-pub found_inside : (name : List ℕ) (files : List Named) (r : Option ℕ) → r ≡ place_of name files → IfSome r (λ i. i < length files)
+pub found_inside : (name : List ℕ) (files : List NamedFile) (r : Option ℕ) → r ≡ file_place name files → IfSome r (λ i. i < length files)
 found_inside name files None e = tt
 found_inside name files (Some i) e = place_inside name files i (sym e)

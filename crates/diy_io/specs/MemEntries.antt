@@ -3,11 +3,11 @@ use Rattle.std.specs.Prelude.{ℕ, ◌+◌, ◌≤◌, All, vec_len, vec_capacit
 use Rattle.std.specs.declared.vec.Vec.{Vec}
 use Rattle.std.specs.declared.alloc.Global.{Global}
 use Rattle.diy_io.specs.declared.mem_files.Entry.{Entry}
-use Rattle.diy_io.specs.MemFiles.{Named}
+use Rattle.diy_io.specs.MemFiles.{NamedFile}
 
 -- a file by its name and its bytes
-abbrev pub entry_view : Entry → Named
-entry_view entry = (entry.name.items, entry.bytes.items)
+abbrev pub file_view : Entry → NamedFile
+file_view entry = (entry.name.items, entry.bytes.items)
 
 -- a file has memory for so many more bytes
 abbrev pub HasRoom : ℕ → Entry → Type 0

@@ -2,7 +2,7 @@
 use Rattle.std.specs.Prelude.{◌≡◌, ◌≤◌, ◌/◌, ℕ, List, [], drop, take, length, min, Some}
 use Rattle.diy_io.specs.Count.{next_count}
 use Rattle.diy_io.specs.Shelf.{Mode, Idle, Reading, Writing, ShelfSeen, name_written}
-use Rattle.diy_io.specs.MemFiles.{Named, MemFilesState, place_of, name_at, bytes_at, files_of, appended}
+use Rattle.diy_io.specs.MemFiles.{NamedFile, MemFilesState, file_place, file_name_at, bytes_at, files_named, with_bytes}
 use Rattle.diy_io.specs.declared.mem_shelf.Work.{Work}
 use Rattle.diy_io.specs.declared.mem_shelf.Work.TheVariants as works
 
@@ -31,7 +31,7 @@ new_shelf files room fail = record {
 
 -- what a shelf holds once the file that is written grew by the first bytes of a text, so many of them
 abbrev pub held_with : MemShelfState → ℕ → List ℕ → MemFilesState
-held_with shelf count bytes = appended shelf.held (name_written shelf.mode) (take count bytes)
+held_with shelf count bytes = with_bytes shelf.held (name_written shelf.mode) (take count bytes)
 
 -- how many bytes of the first half of a text fit into a shelf; the half is rounded down
 abbrev pub half_that_fits : MemShelfState → List ℕ → ℕ
@@ -40,7 +40,7 @@ half_that_fits shelf bytes = min (length bytes / 2) shelf.held.room
 -- what it shows
 abbrev pub mem_shelf_seen : MemShelfState → ShelfSeen
 mem_shelf_seen shelf = record {
-  files = Some (files_of shelf.held.files);
+  files = Some (files_named shelf.held.files);
   mode = shelf.mode;
   faults = shelf.faults;
   taken = shelf.taken;
@@ -58,17 +58,17 @@ pub record SameCall (old new : MemShelfState) : Type 0 where
   pub fail : new.fail ≡ old.fail
 
 -- the mode by the place of the file that is read or written
-abbrev pub mode_of : List Named → Work → Mode
+abbrev pub mode_of : List NamedFile → Work → Mode
 mode_of files works.Idle = Idle
-mode_of files (works.Reading file at') = Reading (name_at file files) (Some (drop at' (bytes_at file files)))
-mode_of files (works.Writing file) = Writing (name_at file files)
+mode_of files (works.Reading file at') = Reading (file_name_at file files) (Some (drop at' (bytes_at file files)))
+mode_of files (works.Writing file) = Writing (file_name_at file files)
 
 -- a place is that of the first file with its name
-abbrev pub IsPlace : ℕ → List Named → Type 0
-IsPlace place files = place_of (name_at place files) files ≡ Some place
+abbrev pub IsPlace : ℕ → List NamedFile → Type 0
+IsPlace place files = file_place (file_name_at place files) files ≡ Some place
 
 -- the file that is read or written is there
-abbrev pub IsAt : List Named → Work → Type 0
+abbrev pub IsAt : List NamedFile → Work → Type 0
 IsAt files works.Idle = Unit {0}
 IsAt files (works.Reading file at') = IsPlace file files × (at' ≤ length (bytes_at file files))
 IsAt files (works.Writing file) = IsPlace file files

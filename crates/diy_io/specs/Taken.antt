@@ -12,7 +12,7 @@ pub record SourceSeen : Type 0 where
 
 -- a call gives how many bytes it wrote at the start of a buffer: they are the first that were left, and none only at the end
 -- or to an empty buffer; they are counted. It fails only where the count of faults rises, and gives nothing then
-pub record Gives (old new : SourceSeen) (buffer : List ℕ) (result : Result ℕ Failed) : Type 0 where
+pub record GivesBytes (old new : SourceSeen) (buffer : List ℕ) (result : Result ℕ Failed) : Type 0 where
   pub bound : IfOk result (λ n. n ≤ length buffer)
   pub bytes : ReadConsumes old.left new.left result buffer
   pub counted : IfOk result (λ n. new.taken ≡ count_of (old.taken + n))

@@ -1,12 +1,12 @@
 ghost use Rattle.std.specs.Prelude.{◌≡◌, ◌+◌, ◌-◌, ◌<◌, ◌≤◌, ◌++◌, ◌∷◌, ℕ, [], length, vec_len, vec_capacity, map, All, slice_set, IfOk, IfSome, OnOk, OnErr};
-ghost use Rattle.diy_io.specs.MemFiles.{MemFilesState, PutIn, place_of, name_at, bytes_at, with_bytes_at};
+ghost use Rattle.diy_io.specs.MemFiles.{MemFilesState, PutIn, file_place, file_name_at, bytes_at, with_bytes_at};
 
 use crate::errors::NoMemory;
 use std::alloc::Global;
 use std::marker::Model;
 
 /// The most bytes that the name of a file in memory has.
-pub(crate) const MAX_NAME: usize = 1_300;
+pub(crate) const MAX_FILE_NAME: usize = 1_300;
 
 /// A file.
 #[derive(Debug, Drop)]
@@ -28,32 +28,32 @@ pub(crate) struct MemFiles {
 
 impl Model for MemFiles {
     ghost use Rattle.std.specs.Prelude.{map, vec_len};
-    ghost use Rattle.diy_io.specs.MemEntries.{entry_view, AreMemFiles};
+    ghost use Rattle.diy_io.specs.MemEntries.{file_view, AreMemFiles};
     ghost use Rattle.diy_io.specs.MemFiles.{MemFilesState};
 
     ghost Value = { MemFilesState };
 
-    ghost view = { λ m. record { files = map entry_view m.entries.items; room = m.room; names = vec_len m.spare } };
+    ghost view = { λ m. record { files = map file_view m.entries.items; room = m.room; names = vec_len m.spare } };
 
     ghost invariant = { λ m. AreMemFiles m.entries m.spare m.room };
 }
 
 impl Entry {
-    ghost use Rattle.diy_io.specs.MemEntries.{IsSpare, entry_view};
+    ghost use Rattle.diy_io.specs.MemEntries.{IsSpare, file_view};
 
     /// A file with no name and no byte, and memory for both.
     fn spare(alloc: Global, room: usize) -> Result<Entry, NoMemory>
         ensures { IfOk result (IsSpare room) }
     {
         Ok(Entry {
-            name: Vec::with_capacity(alloc, MAX_NAME)?,
+            name: Vec::with_capacity(alloc, MAX_FILE_NAME)?,
             bytes: Vec::with_capacity(alloc, room)?,
         })
     }
 
     /// The place of the first file that has a name.
     fn place_of(entries: &[Entry], name: &[u8]) -> Option<usize>
-        ensures { result ≡ place_of name.now (map entry_view entries.now) }
+        ensures { result ≡ file_place name.now (map file_view entries.now) }
     {
         for (place, entry) in entries.iter().enumerate() {
             if entry.name.as_slice() == name {
@@ -96,7 +96,7 @@ impl MemFiles {
 
     /// The place of the first file that has a name.
     pub(crate) fn place_of(&self, name: &[u8]) -> Option<usize>
-        ensures place { result ≡ place_of name.now self.now.files }
+        ensures place { result ≡ file_place name.now self.now.files }
         ensures inside { IfSome result (λ place. place < length self.now.files) }
     {
         Entry::place_of(self.entries.as_slice(), name)
@@ -127,7 +127,7 @@ impl MemFiles {
     /// Takes all bytes from the file at a place.
     pub(crate) fn clear(&mut self, place: usize)
         requires { place < length self.old.files }
-        ensures { self.new ≡ record self.old { files = slice_set self.old.files place (name_at place self.old.files, []) } }
+        ensures { self.new ≡ record self.old { files = slice_set self.old.files place (file_name_at place self.old.files, []) } }
     {
         self.entries[place].bytes.clear();
     }

@@ -4,7 +4,7 @@ ghost use Rattle.diy_io.specs.Count.{next_count};
 ghost use Rattle.diy_io.specs.Shelf.{Idle, name_written, IsReading, IsWriting, IsBusy, Opened, NotThere, Stopped, Gave, Created, NotCreated, Appended, AppendedPart, Finished};
 
 use crate::errors::{Failed, NoMemory};
-use crate::mem_files::{MAX_NAME, MemFiles};
+use crate::mem_files::{MAX_FILE_NAME, MemFiles};
 use crate::shelf::{OpenError, Shelf};
 use std::alloc::Global;
 use std::marker::Model;
@@ -52,7 +52,7 @@ impl Model for MemShelf {
 }
 
 impl MemShelf {
-    ghost use Rattle.diy_io.specs.MemFiles.{PutIn, place_of, bytes_at, files_of, appended};
+    ghost use Rattle.diy_io.specs.MemFiles.{PutIn, file_place, bytes_at, files_named, with_bytes};
     ghost use Rattle.diy_io.specs.MemShelf.{mem_shelf_seen, new_shelf, Called, SameCall, mode_of, IsPlace};
     ghost use Rattle.diy_io.specs.Shelf.{with_more};
     ghost use Rattle.diy_io.specs.declared.mem_shelf.Work.TheVariants as works;
@@ -95,7 +95,7 @@ impl MemShelf {
 
     /// The bytes of a file.
     pub fn get(&self, name: &str) -> Option<&[u8]>
-        ensures { MatchOption result (files_of self.now.held.files name.now ≡ None) (λ bytes. files_of self.now.held.files name.now ≡ Some bytes.now) }
+        ensures { MatchOption result (files_named self.now.held.files name.now ≡ None) (λ bytes. files_named self.now.held.files name.now ≡ Some bytes.now) }
     {
         let place = self.held.place_of(name.as_bytes())?;
         Some(self.held.bytes_at(place))
@@ -166,7 +166,7 @@ impl MemShelf {
     // Begins a new file.
     fn add_file(&mut self, name: &[u8]) -> Result<(), Failed>
         requires idle { self.old.mode ≡ Idle }
-        requires absent { place_of name.now self.old.held.files ≡ None }
+        requires absent { file_place name.now self.old.held.files ≡ None }
         ensures answer { IsErr result ↔ ((1300 < length name.now) ⊎ (self.old.held.names ≡ 0)) }
         ensures called { SameCall self.old self.new }
         ensures room { self.new.held.room ≡ self.old.held.room }
@@ -175,7 +175,7 @@ impl MemShelf {
         ensures ok { OnOk result (Created (mem_shelf_seen self.old) (mem_shelf_seen self.new) name.now) }
         ensures failed { OnErr result (Stopped (mem_shelf_seen self.old) (mem_shelf_seen self.new)) }
     {
-        if name.len() > MAX_NAME || self.held.names() == 0 {
+        if name.len() > MAX_FILE_NAME || self.held.names() == 0 {
             return Err(self.count_fault());
         }
         self.work = Work::Writing(self.held.add(name));
@@ -186,8 +186,8 @@ impl MemShelf {
     fn grow(&mut self, bytes: &[u8])
         requires writing { IsWriting self.old.mode }
         requires fits { length bytes.now ≤ self.old.held.room }
-        ensures grown { self.new ≡ record self.old { held = appended self.old.held (name_written self.old.mode) bytes.now } }
-        ensures files { files_of self.new.held.files ≡ with_more (name_written self.old.mode) bytes.now (files_of self.old.held.files) }
+        ensures grown { self.new ≡ record self.old { held = with_bytes self.old.held (name_written self.old.mode) bytes.now } }
+        ensures files { files_named self.new.held.files ≡ with_more (name_written self.old.mode) bytes.now (files_named self.old.held.files) }
     {
         let file = self.file_written();
         self.held.append(file, bytes);
@@ -195,7 +195,7 @@ impl MemShelf {
 }
 
 impl Shelf for MemShelf {
-    ghost use Rattle.diy_io.specs.MemFiles.{IsRefused, names_after};
+    ghost use Rattle.diy_io.specs.MemFiles.{IsRefusedName, names_after};
     ghost use Rattle.diy_io.specs.MemShelf.{mem_shelf_seen, held_with, half_that_fits, Called};
 
     ghost seen = { mem_shelf_seen };
@@ -252,7 +252,7 @@ impl Shelf for MemShelf {
     /// has more than 1,300 bytes or is one too many. Where it fails, it changes nothing.
     fn create(&mut self, name: &str) -> Result<(), Failed>
         requires { self.old.mode ≡ Idle }
-        ensures answer { IsErr result ↔ (Contains self.old.fail self.old.calls ⊎ IsRefused self.old.held name.now) }
+        ensures answer { IsErr result ↔ (Contains self.old.fail self.old.calls ⊎ IsRefusedName self.old.held name.now) }
         ensures called { Called self.old self.new }
         ensures room { self.new.held.room ≡ self.old.held.room }
         ensures names { OnOk result (self.new.held.names ≡ names_after self.old.held name.now) }

@@ -1,7 +1,7 @@
 ghost use Rattle.std.specs.Prelude.{◌≡◌, ◌+◌, ◌≤◌, ◌++◌, ◌↔◌, ℕ, Some, drop, take, length, Contains, IfOk, IsErr, OnOk, OnErr};
 ghost use Rattle.diy_io.specs.MemSource.{MemSourceState, mem_source_after, mem_source_failed, mem_source_seen};
 ghost use Rattle.diy_io.specs.SureSource.{given_count};
-ghost use Rattle.diy_io.specs.Taken.{Gives};
+ghost use Rattle.diy_io.specs.Taken.{GivesBytes};
 
 use crate::errors::Failed;
 use crate::source::Source;
@@ -51,7 +51,7 @@ impl Source for MemSource {
         ensures after { OnOk result (self.new ≡ mem_source_after self.old (length buf.old)) }
         ensures copied { IfOk result (λ n. buf.new ≡ take n self.old.source.left ++ drop n buf.old) }
         ensures unchanged { OnErr result ((self.new ≡ mem_source_failed self.old) × (buf.new ≡ buf.old)) }
-        ensures gives { Gives (mem_source_seen self.old) (mem_source_seen self.new) buf.new result }
+        ensures gives { GivesBytes (mem_source_seen self.old) (mem_source_seen self.new) buf.new result }
     {
         let call = self.calls;
         self.calls = self.calls.saturating_add(1);

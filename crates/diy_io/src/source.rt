@@ -1,4 +1,4 @@
-ghost use Rattle.diy_io.specs.Taken.{SourceSeen, Gives};
+ghost use Rattle.diy_io.specs.Taken.{SourceSeen, GivesBytes};
 
 use crate::errors::Failed;
 
@@ -16,5 +16,5 @@ pub trait Source {
     /// Reads bytes into the start of `buf`, and says how many. With a `buf` that is not empty none
     /// means the end of the input.
     fn read(&mut self, buf: &mut [u8]) -> Result<usize, Failed>
-        ensures { Gives (seen self.old) (seen self.new) buf.new result };
+        ensures { GivesBytes (seen self.old) (seen self.new) buf.new result };
 }

@@ -1,7 +1,7 @@
 ghost use Rattle.std.specs.Prelude.{◌≡◌, ℕ, OnErr};
 ghost use Rattle.std.specs.Io.KnownBytes.{ReadConsumes};
 ghost use Rattle.diy_io.specs.Count.{next_count};
-ghost use Rattle.diy_io.specs.Taken.{Gives};
+ghost use Rattle.diy_io.specs.Taken.{GivesBytes};
 
 use crate::errors::Failed;
 use crate::source::Source;
@@ -41,7 +41,7 @@ impl<R: Read> Source for StdSource<R> {
     ghost seen = { std_source_seen };
 
     fn read(&mut self, buf: &mut [u8]) -> Result<usize, Failed>
-        ensures gives { Gives (std_source_seen self.old) (std_source_seen self.new) buf.new result }
+        ensures gives { GivesBytes (std_source_seen self.old) (std_source_seen self.new) buf.new result }
 
         // What the reader below has left, where it shows that, as a reader in memory does.
         ensures read { ReadConsumes (R.remaining (reader_of self.old)) (R.remaining (reader_of self.new)) result buf.new }

@@ -1,6 +1,6 @@
 ghost use Rattle.std.specs.Prelude.{◌≡◌, ◌≤◌, ◌++◌, Ok, drop, take, length, vec_len, IfOk};
 ghost use Rattle.diy_io.specs.SureSource.{SureSourceState, given_count, sure_source_after, sure_source_seen};
-ghost use Rattle.diy_io.specs.Taken.{Gives};
+ghost use Rattle.diy_io.specs.Taken.{GivesBytes};
 
 use crate::errors::Failed;
 use crate::source::Source;
@@ -62,7 +62,7 @@ impl Source for SureSource {
         ensures answer { result ≡ Ok (given_count self.old (length buf.old)) }
         ensures after { self.new ≡ sure_source_after self.old (length buf.old) }
         ensures copied { IfOk result (λ n. buf.new ≡ take n self.old.left ++ drop n buf.old) }
-        ensures gives { Gives (sure_source_seen self.old) (sure_source_seen self.new) buf.new result }
+        ensures gives { GivesBytes (sure_source_seen self.old) (sure_source_seen self.new) buf.new result }
     {
         Ok(self.give(buf))
     }

@@ -28,7 +28,7 @@ use Rattle.diy_words.specs.declared.request.Demo.{Demo}
 use Rattle.diy_words.specs.declared.request.Check.{Check}
 use Rattle.listed_tests.specs.declared.ending.ListingEnd.{ListingEnd}
 use Rattle.listed_tests.specs.declared.ending.ListingEnd.TheVariants as listings
-use Rattle.listed_tests.specs.Ends.{StopsAtTest, StopsAtAll}
+use Rattle.listed_tests.specs.ListingEnds.{StopsAtTest, StopsAtAll}
 use Rattle.listed_tests.specs.Plans.{IsPlanned, planned_text}
 use Rattle.summed_files.specs.declared.sum_end.SumEnd.{SumEnd}
 use Rattle.summed_files.specs.declared.sum_end.SumEnd.TheVariants as sums
@@ -38,13 +38,13 @@ use Rattle.diy_tools.specs.declared.status.Refusal.{Refusal}
 use Rattle.diy_tools.specs.declared.status.TextKind.TheVariants as texts
 use Rattle.diy_tools.specs.declared.status.Device.TheVariants.{Input, Out, Shelf}
 use Rattle.diy_tools.proofs.Opened.{file_opened, file_far, input_far}
-use Rattle.diy_tools.specs.Devices.{Devices, Seen, devices}
+use Rattle.diy_tools.specs.Devices.{Devices, DevicesSeen, devices}
 use Rattle.diy_tools.specs.Refused.{refused_list}
 use Rattle.diy_tools.specs.Statuses.{norm_status, classify_status, listing_status}
-use Rattle.diy_tools.specs.Printing.{AnswersEdges, Prints}
+use Rattle.diy_tools.specs.PrintAnswers.{AnswersEdges, Prints}
 use Rattle.diy_tools.specs.TestAnswers.{asked_text, test_name, test_refused}
-use Rattle.diy_tools.specs.Machines.{machine_of}
-use Rattle.diy_tools.specs.WhyAnswers.{AnswersRuns, WritesRuns, unshown}
+use Rattle.diy_tools.specs.ArchMachines.{machine_of}
+use Rattle.diy_tools.specs.WhyAnswers.{AnswersRuns, WritesRuns, why_unshown}
 use Rattle.diy_tools.specs.NameAnswers.{AnswersName, AnswersSought}
 use Rattle.diy_tools.specs.FamilyAnswers.{AnswersClassify, EndsFamilies, files_status}
 use Rattle.diy_tools.specs.ListAnswers.{EndsAsked, plan_asked}
@@ -115,7 +115,7 @@ module _ (old new : Devices) where
       (λ wrote. (wrote.fault, (e, record { input = input; shelf = shelf; out = wrote })))
 
   -- two executions are written, as far as the devices take them
-  runs_caused : (words : List (List ℕ)) (asked : WhyTask) (status : Status) → unshown asked ≡ None → new.input ≡ old.input
+  runs_caused : (words : List (List ℕ)) (asked : WhyTask) (status : Status) → why_unshown asked ≡ None → new.input ≡ old.input
       → WritesRuns (machine_of asked.arch) asked.folder (test_name asked.name asked.edges) asked.edges status old.shelf new.shelf old.out new.out
       → CausesAsked words (Ok (AsksWhy asked)) status old new
   runs_caused words asked statuses.Done none input h = (none, record { input = input; both = h })
@@ -123,7 +123,7 @@ module _ (old new : Devices) where
   runs_caused words asked (statuses.WriteFault Shelf) none input h = (h.written.0.part.faulted.fault, (none, record { input = input; both = h }))
   runs_caused words asked status none input h = absurd h.written
 
-  why_caused : (words : List (List ℕ)) (asked : WhyTask) (refused : Option Refusal) (status : Status) → unshown asked ≡ refused → new.input ≡ old.input
+  why_caused : (words : List (List ℕ)) (asked : WhyTask) (refused : Option Refusal) (status : Status) → why_unshown asked ≡ refused → new.input ≡ old.input
       → AnswersRuns (machine_of asked.arch) asked.folder (test_name asked.name asked.edges) refused asked.edges status old.shelf new.shelf old.out new.out
       → CausesAsked words (Ok (AsksWhy asked)) status old new
   why_caused words asked (Some refusal) status e input h =
@@ -323,7 +323,7 @@ module _ (old new : Devices) where
       → AnswersAsked words asked status old new → CausesAsked words asked status old new
   asked_caused words (Err usage) status h = of_status words (Err usage) status (statuses.Usage usage.word usage.kind) h.0 ((refl, refl), h.1)
   asked_caused words (Ok (AsksTest asked)) status h = test_caused words asked (test_refused asked) status refl h.input h.shelf h.out
-  asked_caused words (Ok (AsksWhy asked)) status h = why_caused words asked (unshown asked) status refl h.input h.both
+  asked_caused words (Ok (AsksWhy asked)) status h = why_caused words asked (why_unshown asked) status refl h.input h.both
   asked_caused words (Ok (AsksName asked)) status h = sought_caused words asked.arch asked.cycle status h.shelf h.both
   asked_caused words (Ok (AsksList asked)) status h = list_caused words asked h.both.end status h.input h.both.status_is h.both.ends
   asked_caused words (Ok (AsksCross asked)) status h = cross_caused words asked status h.input h.both
@@ -333,11 +333,11 @@ module _ (old new : Devices) where
   asked_caused words (Ok (AsksCheck asked)) status h = check_caused words asked h.end status h.status_is h.ends
 
 -- what is answered has its cause
-pub answers_caused : (words : List (List ℕ)) (status : Status) (old new : Seen) → Answers words status old new → Causes words status old new
+pub answers_caused : (words : List (List ℕ)) (status : Status) (old new : DevicesSeen) → Answers words status old new → Causes words status old new
 answers_caused words status old new h = asked_caused (devices old) (devices new) words (asked_of words) status h
 
 -- only a tool that may want memory says that there is none
-pub answers_memory : (words : List (List ℕ)) (status : Status) (old new : Seen) → Answers words status old new → NeverWantsMemory words status
+pub answers_memory : (words : List (List ℕ)) (status : Status) (old new : DevicesSeen) → Answers words status old new → NeverWantsMemory words status
 answers_memory words status old new h = λ e.
     let cause : CausesAsked words (asked_of words) statuses.NoMemory (devices old) (devices new) =
     subst (λ (s : Status). CausesAsked words (asked_of words) s (devices old) (devices new)) e (answers_caused words status old new h) in cause.0

@@ -8,26 +8,26 @@ use Rattle.diy_io.specs.Taken.{SourceSeen}
 use Rattle.diy_io.specs.Wrote.{SinkSeen}
 use Rattle.diy_words.specs.declared.request.Request.TheVariants as requests
 use Rattle.diy_words.specs.declared.usage.Usage.{Usage}
-use Rattle.diy_words.specs.Given.{Gives}
+use Rattle.diy_words.specs.Given.{GivesTask}
 use Rattle.diy_words.specs.GivenLaws.{gives_classifying}
 use Rattle.diy_words.specs.Requests.{Task, AsksFamilies, asked_of, files_of, IsClassifying}
 use Rattle.diy_tools.specs.declared.status.Status.{Status}
 use Rattle.diy_tools.specs.declared.status.Status.TheVariants.{NoMemory}
 use Rattle.diy_tools.specs.Answers.{Answers, AnswersAsked}
-use Rattle.diy_tools.specs.Devices.{Devices, Seen, devices}
+use Rattle.diy_tools.specs.Devices.{Devices, DevicesSeen, devices}
 use Rattle.diy_tools.specs.FamilyAnswers.{AnswersClassify, AnswersFamilies}
-use Rattle.diy_tools.specs.Kept.{ClassifiesFiles}
+use Rattle.diy_tools.specs.KeptRequests.{ClassifiesNamedFiles}
 
 -- words that give a request for families ask for them
-pub asks_families : (arch : ArchName) (words : List (List ℕ)) → Gives (Ok (requests.Families arch)) (asked_of words) → IsClassifying (asked_of words)
+pub asks_families : (arch : ArchName) (words : List (List ℕ)) → GivesTask (Ok (requests.Families arch)) (asked_of words) → IsClassifying (asked_of words)
 asks_families arch words given = gives_classifying arch (asked_of words) given
 
 -- what is answered on an architecture, of files, is answered of the words
-classify_asked : (words : List (List ℕ)) (arch : ArchName) (files : List ℕ) (status : Status) (old new : Seen) → Gives (Ok (requests.Families arch)) (asked_of words)
+classify_asked : (words : List (List ℕ)) (arch : ArchName) (files : List ℕ) (status : Status) (old new : DevicesSeen) → GivesTask (Ok (requests.Families arch)) (asked_of words)
     → files ≡ files_of (asked_of words) → AnswersClassify words arch files status (devices old) (devices new) → Answers words status old new
 classify_asked words arch files status old new given same h = of_asked (asked_of words) given same
   where
-    of_asked : (asked : Result Task Usage) → Gives (Ok (requests.Families arch)) asked → files ≡ files_of asked
+    of_asked : (asked : Result Task Usage) → GivesTask (Ok (requests.Families arch)) asked → files ≡ files_of asked
         → AnswersAsked words asked status (devices old) (devices new)
     of_asked (Ok (AsksFamilies asked)) g e =
         subst (λ (fs : List ℕ). AnswersClassify words asked.arch fs status (devices old) (devices new)) e
@@ -40,7 +40,7 @@ of_none words arch [] status shelf old new before after none h = record { shelf 
 of_none words arch (file ∷ files) status shelf old new before after none h = cc none
 
 of_some : (words : List (List ℕ)) (arch : ArchName) (files : List ℕ) (status : Status) (input : SourceSeen) (old new : ShelfSeen) (before after : SinkSeen)
-    → (files ≡ [] → ⊥) → ClassifiesFiles words arch files status old new before after
+    → (files ≡ [] → ⊥) → ClassifiesNamedFiles words arch files status old new before after
     → AnswersClassify words arch files status (devices (input, before, old)) (devices (input, after, new))
 of_some words arch [] status input old new before after some h = absurd (some refl)
 of_some words arch (file ∷ files) status input old new before after some h =
@@ -62,7 +62,7 @@ is_some files n count some none =
 
 -- what is answered of the input's lines
 pub lines_asked : (words : List (List ℕ)) (arch : ArchName) (files : List ℕ) (status : Status) (shelf : ShelfSeen) (old new : SourceSeen) (before after : SinkSeen)
-    → Gives (Ok (requests.Families arch)) (asked_of words) → files ≡ files_of (asked_of words) → IsTrue true ↔ (length files ≡ 0)
+    → GivesTask (Ok (requests.Families arch)) (asked_of words) → files ≡ files_of (asked_of words) → IsTrue true ↔ (length files ≡ 0)
     → AnswersFamilies arch status old new before after → Answers words status (old, before, shelf) (new, after, shelf)
 lines_asked words arch files status shelf old new before after given same none h =
     classify_asked words arch files status (old, before, shelf) (new, after, shelf) given same
@@ -70,14 +70,14 @@ lines_asked words arch files status shelf old new before after given same none h
 
 -- what is answered of files
 pub files_asked : (words : List (List ℕ)) (arch : ArchName) (files : List ℕ) (count : ℕ) (status : Status) (input : SourceSeen) (old new : ShelfSeen) (before after : SinkSeen)
-    → Gives (Ok (requests.Families arch)) (asked_of words) → files ≡ files_of (asked_of words) → length files ≡ count → false ≡ (count == 0)
-    → ClassifiesFiles words arch files status old new before after → Answers words status (input, before, old) (input, after, new)
+    → GivesTask (Ok (requests.Families arch)) (asked_of words) → files ≡ files_of (asked_of words) → length files ≡ count → false ≡ (count == 0)
+    → ClassifiesNamedFiles words arch files status old new before after → Answers words status (input, before, old) (input, after, new)
 files_asked words arch files count status input old new before after given same all some h =
     classify_asked words arch files status (input, before, old) (input, after, new) given same
     (of_some words arch files status input old new before after (is_some files count all some) h)
 
 -- what is answered where there is no memory for the files' places
-pub memory_asked : (words : List (List ℕ)) (arch : ArchName) (d : Seen) → Gives (Ok (requests.Families arch)) (asked_of words)
+pub memory_asked : (words : List (List ℕ)) (arch : ArchName) (d : DevicesSeen) → GivesTask (Ok (requests.Families arch)) (asked_of words)
     → (files_of (asked_of words) ≡ [] → ⊥) → Answers words NoMemory d d
 memory_asked words arch d given some =
     classify_asked words arch (files_of (asked_of words)) NoMemory d d given refl (of_unread words arch (files_of (asked_of words)) (devices d) some)

@@ -19,7 +19,7 @@ use Rattle.cycle_lines.specs.declared.errors.ClassifyError.TheVariants as classi
 use Rattle.cycle_lines.specs.Classified.{Classifies}
 use Rattle.cycle_lines.specs.Cycles.{is_sound, line_said}
 use Rattle.cycle_lines.specs.Normed.{Norms, name_line}
-use Rattle.cycle_lines.specs.Reading.{ReadUpTo, ReadToFault, ReadToLimit, whole_of}
+use Rattle.cycle_lines.specs.LineReading.{ReadUpTo, ReadToFault, ReadToLimit, whole_of}
 use Rattle.classified_files.specs.declared.errors.FileError.{FileError}
 use Rattle.classified_files.specs.declared.errors.FilesEnd.{FilesEnd}
 use Rattle.classified_files.specs.declared.errors.FilesEnd.TheVariants as classing
@@ -28,7 +28,7 @@ use Rattle.file_laws.specs.Opened.{name_at}
 use Rattle.classified_files.specs.FilesEnds as classed
 use Rattle.checked_files.specs.declared.errors.CheckEnd.{CheckEnd}
 use Rattle.checked_files.specs.declared.errors.CheckEnd.TheVariants as checking
-use Rattle.checked_files.specs.FilesChecked.{AreRight as AreRightFiles, FilesChecked}
+use Rattle.checked_files.specs.FilesChecked.{AreTestAndExecution, FilesChecked}
 use Rattle.checked_files.specs.CheckedLaws.{right_files_done}
 use Rattle.diy_io.specs.declared.source.TheConstants.{MAX_INPUT}
 use Rattle.diy_io.specs.Count.{Rose}
@@ -46,28 +46,28 @@ use Rattle.log_sum.specs.declared.errors.LogError.{LogError}
 use Rattle.log_sum.specs.Representing.{logs_text}
 use Rattle.summed_files.specs.declared.sum_end.SumEnd.{SumEnd}
 use Rattle.summed_files.specs.declared.sum_end.SumEnd.TheVariants as sums
-use Rattle.summed_files.specs.Logs.{IsText, IsShort, IsTooMuch, AreRight}
+use Rattle.summed_files.specs.Logs.{IsText, IsShort, IsTooMuch, AreWholeLogs}
 use Rattle.file_laws.specs.Opened.{IsFile}
-use Rattle.summed_files.specs.SumEnds.{AreLogs, IsAtWord, FilesSummed, InputWrong, FileTooMuch, FileMissing}
+use Rattle.summed_files.specs.SumEnds.{AreLogs, IsAtWord, FilesSummed, InputWrong, FileTooMuch, LogFileMissing}
 use Rattle.summed_files.specs.SumEnds as summed
 use Rattle.diy_tools.specs.declared.status.Status.{Status}
 use Rattle.diy_tools.specs.declared.status.Refusal.{Refusal}
 use Rattle.diy_tools.proofs.Opened.{long_taken}
-use Rattle.diy_tools.specs.Devices.{Devices, Seen, devices}
+use Rattle.diy_tools.specs.Devices.{Devices, DevicesSeen, devices}
 use Rattle.diy_tools.specs.Refused.{refused_list}
 use Rattle.diy_tools.specs.Statuses.{norm_status, classify_status, listing_status}
-use Rattle.diy_tools.specs.Printing.{AnswersEdges, Prints}
+use Rattle.diy_tools.specs.PrintAnswers.{AnswersEdges, Prints}
 use Rattle.diy_tools.specs.TestAnswers.{asked_text, test_name, test_refused}
 use Rattle.diy_tools.specs.declared.status.Status.TheVariants as statuses
 use Rattle.diy_tools.specs.declared.status.Device.TheVariants.{Out, Shelf}
-use Rattle.diy_tools.specs.WhyAnswers.{AnswersRuns, WritesRuns, unshown}
+use Rattle.diy_tools.specs.WhyAnswers.{AnswersRuns, WritesRuns, why_unshown}
 use Rattle.diy_tools.specs.FamilyAnswers.{AnswersClassify, files_status, read_on}
 use Rattle.diy_tools.specs.NameAnswers.{AnswersName, AnswersSought}
 use Rattle.diy_tools.specs.ListAnswers.{EndsAsked}
 use Rattle.diy_tools.specs.CrossAnswers.{AnswersCross, EndsCrossed}
 use Rattle.diy_tools.specs.DemoAnswers.{demo_asked}
 use Rattle.diy_tools.specs.CheckAnswers.{check_status}
-use Rattle.diy_tools.specs.Machines.{machine_of}
+use Rattle.diy_tools.specs.ArchMachines.{machine_of}
 use Rattle.diy_tools.specs.SumAnswers.{EndsInput, EndsSum, sum_status}
 use Rattle.diy_tools.specs.Answers.{Answers, AnswersAsked}
 use Rattle.diy_tools.specs.Complete.{Complete, CanBeDone, CanName, CanSum, CanClassify, AreRightTests, IsSoundText, IsRightLog, AreRightLogs, OfItsText, OfItsFiles, NoFaults, IsDone}
@@ -267,7 +267,7 @@ check_ends asked end status e (inr none) = inr (e ∙ ap check_status none, tt)
 
 check_done : (words : List (List ℕ)) (asked : Check) (status : Status) (old new : ShelfSeen) (before after : SinkSeen) (end : CheckEnd)
     (shown : Option Files) → old.files ≡ shown
-    → OfItsFiles shown (λ files. AreRightFiles files asked.arch (machine_of asked.arch).writing words asked.test asked.execution)
+    → OfItsFiles shown (λ files. AreTestAndExecution files asked.arch (machine_of asked.arch).writing words asked.test asked.execution)
     → (Rose old.faults new.faults → ⊥) → (Rose before.faults after.faults → ⊥)
     → status ≡ check_status end → FilesChecked asked.arch (machine_of asked.arch).writing old new words asked.test asked.execution before after end
     → IsDone (Ok (AsksCheck asked)) status
@@ -277,7 +277,7 @@ check_done words asked status old new before after end (Some files) shown right 
     (right_files_done asked.arch (machine_of asked.arch).writing old new words asked.test asked.execution before after end files h shown right none none_out)
 
 -- logs that have a sum have no fault
-right_wrong : (logs others : List (List ℕ)) (error : LogError) → AreRight logs → logs ≡ others → logs_text others ≡ Err error → ⊥
+right_wrong : (logs others : List (List ℕ)) (error : LogError) → AreWholeLogs logs → logs ≡ others → logs_text others ≡ Err error → ⊥
 right_wrong logs others error right e h =
     let all : Ok right.text ≡ Err error = sym right.is ∙ (ap logs_text e ∙ h) in cc
 
@@ -351,7 +351,7 @@ module _ (words : List (List ℕ)) (files : Files) (right : AreRightLogs files w
             (at_word (length before) inside ∙ sym (slice_get-get_or right.logs (length before) [] inside)),
       )
 
-  files_wrong : (old new : ShelfSeen) (place : ℕ) (error : LogError) → old.files ≡ Some files → summed.FileWrong old new words 1 place error → ⊥
+  files_wrong : (old new : ShelfSeen) (place : ℕ) (error : LogError) → old.files ≡ Some files → summed.LogFileWrong old new words 1 place error → ⊥
   files_wrong old new place error e h =
       let spot = word_log old.files place h.before h.name h.place_is in
       let parts = splits h.before right.logs h.log
@@ -367,7 +367,7 @@ module _ (words : List (List ℕ)) (files : Files) (right : AreRightLogs files w
       let short : IsShort (slice_index_or right.logs (length h.before) []) = right.are.short (length h.before) [] spot.0 in
       short_log h.before h.log h.bytes line (subst (λ (l : List ℕ). IsShort l) log_is short) h.is
 
-  file_there : (old new : ShelfSeen) (place : ℕ) → old.files ≡ Some files → FileMissing old new words 1 place → ⊥
+  file_there : (old new : ShelfSeen) (place : ℕ) → old.files ≡ Some files → LogFileMissing old new words 1 place → ⊥
   file_there old new place e h =
       let spot = word_log old.files place h.before h.name h.place_is in
       let found : files h.name ≡ Some (get_or right.logs (length h.before) []) = spot.1 ∙ slice_get-get_or right.logs (length h.before) [] spot.0 in
@@ -403,7 +403,7 @@ summed_done words status old new before after end (Some files) shown right none 
 asked_done : (words : List (List ℕ)) (asked : Result Task Usage) (status : Status) (old new : Devices)
     → AnswersAsked words asked status old new → CanBeDone words asked old → NoFaults old new → IsDone asked status
 asked_done words (Err usage) status old new h can none = absurd can
-asked_done words (Ok (AsksWhy asked)) status old new h can none = why_done asked (unshown asked) status old new none can h.both
+asked_done words (Ok (AsksWhy asked)) status old new h can none = why_done asked (why_unshown asked) status old new none can h.both
 asked_done words (Ok (AsksTest asked)) status old new h can none =
     edges_done (Ok (AsksTest asked)) (test_refused asked) (asked_text asked) status old.out new.out none.out can h.out
 asked_done words (Ok (AsksName asked)) status old new h can none =
@@ -423,5 +423,5 @@ asked_done words (Ok AsksSum) status old new h can none = of_words words can h.e
         summed_done (tool ∷ log ∷ logs) status old.shelf new.shelf old.out new.out h.end old.shelf.files refl can none.shelf none.out h.status_is ends.both.summed
 
 -- where what is asked for can be done and no count of faults rises, it is done
-pub answers_complete : (words : List (List ℕ)) (status : Status) (old new : Seen) → Answers words status old new → Complete words status old new
+pub answers_complete : (words : List (List ℕ)) (status : Status) (old new : DevicesSeen) → Answers words status old new → Complete words status old new
 answers_complete words status old new h = asked_done words (asked_of words) status (devices old) (devices new) h

@@ -10,18 +10,18 @@ use Rattle.diy_io.specs.Wrote.{SinkSeen}
 use Rattle.diy_words.specs.declared.request.Cross.{Cross}
 use Rattle.diy_words.specs.declared.request.Request.TheVariants as requests
 use Rattle.diy_words.specs.declared.usage.Usage.{Usage}
-use Rattle.diy_words.specs.Given.{Gives}
+use Rattle.diy_words.specs.Given.{GivesTask}
 use Rattle.diy_words.specs.Requests.{Task, AsksCross, IsCrossing, places_of}
 use Rattle.listed_tests.specs.declared.ending.ListingEnd.{ListingEnd}
 use Rattle.listed_tests.specs.declared.ending.ListingEnd.TheVariants as ends
-use Rattle.listed_tests.specs.Given.{EndsGiven}
+use Rattle.listed_tests.specs.GivenCycles.{EndsGiven}
 use Rattle.listed_tests.specs.Plans.{named_text}
 use Rattle.crossed_cycles.specs.Choices.{crossed}
 use Rattle.diy_tools.specs.declared.status.Status.{Status}
 use Rattle.diy_tools.specs.declared.status.Status.TheVariants.{NoMemory}
 use Rattle.diy_tools.specs.CrossAnswers.{AnswersChoices}
-use Rattle.diy_tools.specs.Kept.{AnswersCrossing}
-use Rattle.diy_tools.specs.Machines.{Machine, machine_of}
+use Rattle.diy_tools.specs.KeptRequests.{AnswersCrossing}
+use Rattle.diy_tools.specs.ArchMachines.{Machine, machine_of}
 use Rattle.diy_tools.specs.Statuses.{listing_status}
 
 -- what holds of a sink holds of what it shows
@@ -49,13 +49,13 @@ choices_on arch named mode folder places status old new before after same h =
     subst (λ (a : ArchName). AnswersChoices (machine_of a) mode folder places status old new before after) (sym same) h
 
 -- words that make such a request ask for choices
-pub asks_choices : (asked : Result Task Usage) (request : Cross) → Gives (Ok (requests.Cross request)) asked → IsCrossing asked
+pub asks_choices : (asked : Result Task Usage) (request : Cross) → GivesTask (Ok (requests.Cross request)) asked → IsCrossing asked
 asks_choices (Ok (AsksCross asked)) request g = tt
 asks_choices asked request g = absurd g
 
 -- what is answered of the request is answered of them
 pub choices_answered : (asked : Result Task Usage) (request : Cross) (places : List (List (List Edge))) (status : Status) (old new : ShelfSeen) (before after : SinkSeen)
-    → Gives (Ok (requests.Cross request)) asked → places ≡ places_of asked
+    → GivesTask (Ok (requests.Cross request)) asked → places ≡ places_of asked
     → AnswersChoices (machine_of request.arch) request.mode (option_map (λ folder. folder.now) request.folder) places status old new before after
     → AnswersCrossing asked status old new before after
 choices_answered (Ok (AsksCross asked)) request places status old new before after g e h =
@@ -67,6 +67,6 @@ choices_answered asked request places status old new before after g e h = absurd
 
 -- there is no memory, and nothing changed
 pub choices_unread : (asked : Result Task Usage) (request : Cross) (shelf : ShelfSeen) (sink : SinkSeen)
-    → Gives (Ok (requests.Cross request)) asked → AnswersCrossing asked NoMemory shelf shelf sink sink
+    → GivesTask (Ok (requests.Cross request)) asked → AnswersCrossing asked NoMemory shelf shelf sink sink
 choices_unread (Ok (AsksCross asked)) request shelf sink g = inl (refl, refl, refl)
 choices_unread asked request shelf sink g = absurd g

@@ -35,14 +35,14 @@ use Rattle.arch_riscv.specs.ReadsBack as riscv_back
 use Rattle.litmus_text.specs.Printable as printable
 use Rattle.litmus_text.specs.Printable.{IsTestName}
 use Rattle.diy_words.specs.declared.usage.Usage.{Usage}
-use Rattle.diy_words.specs.Names.{is_name, is_name_byte}
+use Rattle.diy_words.specs.TestNames.{is_name, is_name_byte}
 use Rattle.diy_words.specs.Requests.{Task, TestTask, ListTask, AsksTest, AsksWhy, WhyTask, AsksName, AsksList, AsksFamilies, AsksSum, AsksCross, AsksDemo, AsksCheck, CrossTask, asked_of}
-use Rattle.cycle_names.specs.Names.{name_of}
+use Rattle.cycle_names.specs.CycleNames.{name_of}
 use Rattle.diy_words.proofs.RequestForm.{asked_form}
 use Rattle.test_maker.specs.declared.refusal.MakeRefusal.{MakeRefusal}
 use Rattle.test_maker.specs.Refusals.{refusal_of}
 use Rattle.test_maker.proofs.HavingTests.{accepted_has_test}
-use Rattle.printed_test_laws.specs.Headline.{BytesForce}
+use Rattle.printed_test_laws.specs.PrintedHeadline.{BytesForce}
 use Rattle.printed_test_laws.proofs.Cycles.{cycle_named, name_byte}
 use Rattle.printed_test_laws.proofs.Printed.{printed_force}
 use Rattle.diy_tools.specs.declared.status.Refusal.{Refusal}
@@ -50,16 +50,16 @@ use Rattle.diy_tools.specs.declared.status.Refusal.TheVariants as refusals
 use Rattle.diy_tools.specs.declared.status.Status.{Status}
 use Rattle.diy_tools.specs.declared.status.Status.TheVariants.{NoMemory}
 use Rattle.diy_tools.specs.WhyAnswers.{AnswersRuns, AnswersWhy, WritesRuns}
-use Rattle.diy_tools.specs.Machines.{Machine, machine_of}
+use Rattle.diy_tools.specs.ArchMachines.{Machine, machine_of}
 use Rattle.diy_tools.specs.Refused.{refused_list, refused_of, refused_of_arch, refused_composing, refused_making}
-use Rattle.diy_tools.specs.Printing.{AnswersEdges}
+use Rattle.diy_tools.specs.PrintAnswers.{AnswersEdges}
 use Rattle.diy_tools.specs.TestAnswers.{asked_text, test_name}
 use Rattle.crossed_cycles.specs.Laws.{IsCrossed}
 use Rattle.crossed_cycles.proofs.Crossing.{crosses_all}
 use Rattle.diy_tools.specs.CrossAnswers.{AnswersCross}
 use Rattle.diy_tools.specs.ListAnswers.{AnswersList}
 use Rattle.diy_tools.specs.Answers.{Answers, AnswersAsked}
-use Rattle.diy_tools.specs.Devices.{Devices, Seen, devices}
+use Rattle.diy_tools.specs.Devices.{Devices, DevicesSeen, devices}
 use Rattle.diy_tools.specs.Headline.{Headline, HeadlineAsked}
 use Rattle.listed_tests.specs.Plans.{is_wanted}
 use Rattle.test_maker.specs.CycleText.{cycle_text}
@@ -217,5 +217,5 @@ asked_force words status old new h = of_asked (asked_of words) refl h
     of_asked (Ok (AsksTest asked)) e h = of_test asked e h.out
 
 -- what is so of each tool's answer is so of the headline
-pub answers_force : (words : List (List ℕ)) (status : Status) (old new : Seen) → Answers words status old new → Headline words status old new
+pub answers_force : (words : List (List ℕ)) (status : Status) (old new : DevicesSeen) → Answers words status old new → Headline words status old new
 answers_force words status old new h = asked_force words status (devices old) (devices new) h

@@ -17,7 +17,7 @@ use Rattle.checked_files.specs.declared.errors.CheckEnd.{CheckEnd}
 use Rattle.checked_files.specs.declared.errors.CheckEnd.TheVariants as checking
 use Rattle.checked_files.specs.CheckedLaws.{checked_few}
 use Rattle.cycle_lines.specs.Normed.{Norms}
-use Rattle.cycle_lines.specs.Reading.{TookUpTo}
+use Rattle.cycle_lines.specs.LineReading.{TookUpTo}
 use Rattle.diy_io.specs.declared.source.TheConstants.{MAX_INPUT}
 use Rattle.diy_io.specs.Count.{count_of}
 use Rattle.diy_io.specs.Shelf.{ShelfSeen}
@@ -29,7 +29,7 @@ use Rattle.diy_words.specs.Requests.{AsksTest, AsksWhy, WhyTask, AsksName, AsksL
 use Rattle.diy_words.specs.declared.request.Check.{Check}
 use Rattle.listed_tests.specs.declared.ending.ListingEnd.{ListingEnd}
 use Rattle.listed_tests.specs.declared.ending.ListingEnd.TheVariants as listings
-use Rattle.listed_tests.specs.Ends.{StopsAtTest, StopsAtAll}
+use Rattle.listed_tests.specs.ListingEnds.{StopsAtTest, StopsAtAll}
 use Rattle.listed_tests.specs.Plans.{IsPlanned, planned_text}
 use Rattle.summed_files.specs.declared.sum_end.SumEnd.{SumEnd}
 use Rattle.summed_files.specs.declared.sum_end.SumEnd.TheVariants as sums
@@ -38,18 +38,18 @@ use Rattle.diy_tools.specs.declared.status.Status.{Status}
 use Rattle.diy_tools.specs.declared.status.Status.TheVariants as statuses
 use Rattle.diy_tools.specs.declared.status.TextKind.{TextKind}
 use Rattle.diy_tools.specs.declared.status.TextKind.TheVariants as texts
-use Rattle.diy_tools.specs.Devices.{Devices, Seen, devices}
+use Rattle.diy_tools.specs.Devices.{Devices, DevicesSeen, devices}
 use Rattle.diy_tools.specs.Statuses.{norm_status, classify_status}
 use Rattle.diy_tools.specs.FamilyAnswers.{AnswersClassify, EndsFamilies, file_kind, files_status, read_on}
 use Rattle.diy_tools.specs.NameAnswers.{AnswersSought}
 use Rattle.diy_tools.specs.ListAnswers.{EndsAsked, plan_asked}
 use Rattle.diy_tools.specs.CrossAnswers.{AnswersCross, EndsCrossed}
 use Rattle.diy_tools.specs.SumAnswers.{EndsInput, EndsSum, sum_status}
-use Rattle.diy_tools.specs.Machines.{Machine, machine_of}
+use Rattle.diy_tools.specs.ArchMachines.{Machine, machine_of}
 use Rattle.diy_tools.specs.declared.status.Refusal.{Refusal}
 use Rattle.diy_tools.specs.declared.status.Device.TheVariants.{Out, Shelf}
 use Rattle.diy_tools.specs.TestAnswers.{test_name}
-use Rattle.diy_tools.specs.WhyAnswers.{AnswersRuns, WritesRuns, unshown}
+use Rattle.diy_tools.specs.WhyAnswers.{AnswersRuns, WritesRuns, why_unshown}
 use Rattle.diy_tools.specs.CheckAnswers.{EndsCheck, checked_kind, check_status}
 use Rattle.diy_tools.specs.Answers.{Answers, AnswersAsked}
 use Rattle.diy_tools.proofs.Opened.{IsWithin, files_within, failed_within}
@@ -218,7 +218,7 @@ module _ (old new : Devices) (much : TookTooMuch old new) where
   asked_limit words (Ok (AsksWhy asked)) status h =
       absurd (neither (same_input old.input new.input h.input)
       (same_shelf old.shelf new.shelf
-      (why_opens (machine_of asked.arch) asked.folder (test_name asked.name asked.edges) (unshown asked) asked.edges status old.shelf new.shelf old.out new.out h.both)))
+      (why_opens (machine_of asked.arch) asked.folder (test_name asked.name asked.edges) (why_unshown asked) asked.edges status old.shelf new.shelf old.out new.out h.both)))
   asked_limit words (Ok (AsksName asked)) status h =
       sought_limit (Ok (AsksName asked)) asked.arch asked.cycle status (same_shelf old.shelf new.shelf (ap (λ (s : ShelfSeen). s.opened) h.shelf)) h.both
   asked_limit words (Ok (AsksList asked)) status h =
@@ -234,5 +234,5 @@ module _ (old new : Devices) (much : TookTooMuch old new) where
   asked_limit words (Ok (AsksCheck asked)) status h = check_limit words asked h.end status h.status_is h.ends
 
 -- what is answered keeps the limit of what is read
-pub answers_limited : (words : List (List ℕ)) (status : Status) (old new : Seen) → Answers words status old new → Limited words status old new
+pub answers_limited : (words : List (List ℕ)) (status : Status) (old new : DevicesSeen) → Answers words status old new → Limited words status old new
 answers_limited words status old new h = λ much. asked_limit (devices old) (devices new) much words (asked_of words) status h

@@ -8,13 +8,13 @@ use Rattle.diy_words.specs.Requests.{ListTask}
 use Rattle.listed_tests.specs.declared.ending.ListingEnd.{ListingEnd}
 use Rattle.listed_tests.specs.declared.ending.ListingEnd.TheVariants as ends
 use Rattle.listed_tests.specs.declared.listing.Listing.{Listing}
-use Rattle.listed_tests.specs.Ends.{EndsAfter, EndsListing}
+use Rattle.listed_tests.specs.ListingEnds.{EndsAfter, EndsListing}
 use Rattle.listed_tests.specs.Plans.{Plan, plan_of}
 use Rattle.std.specs.Prelude.{List}
 use Rattle.diy_tools.specs.declared.status.Status.{Status}
 use Rattle.diy_tools.specs.ListAnswers.{AnswersList, plan_asked}
-use Rattle.diy_tools.specs.Kept.{EndsOn}
-use Rattle.diy_tools.specs.Machines.{machine_of}
+use Rattle.diy_tools.specs.KeptRequests.{EndsOn}
+use Rattle.diy_tools.specs.ArchMachines.{machine_of}
 use Rattle.diy_tools.specs.Statuses.{listing_status}
 
 -- what holds of a sink holds of what it shows

@@ -6,7 +6,7 @@ use Rattle.diy_io.specs.Shelf.{ShelfSeen}
 use Rattle.diy_io.specs.Taken.{SourceSeen}
 use Rattle.summed_files.specs.Logs.{IsShort, IsTooMuch, TookCount}
 use Rattle.file_laws.specs.Opened.{TookFiles, last_taken}
-use Rattle.summed_files.specs.SumEnds.{FileTooMuch, IsBegun, ShelfFailed}
+use Rattle.summed_files.specs.SumEnds.{FileTooMuch, IsBegun, SumShelfFailed}
 use Rattle.diy_tools.specs.Causes.{RoseFar}
 
 -- at most 2^40 bytes were taken of the last file that was opened since
@@ -34,7 +34,7 @@ last_bytes : (old new : ShelfSeen) (before : List (List ℕ)) (bytes : List ℕ)
 last_bytes old new before bytes took = took.last ∙ ap count_of (last_is old.taken before bytes)
 
 -- a shelf that failed
-pub failed_within : (old new : ShelfSeen) (words : List (List ℕ)) (first : ℕ) → ShelfFailed old new words first → IsWithin old new
+pub failed_within : (old new : ShelfSeen) (words : List (List ℕ)) (first : ℕ) → SumShelfFailed old new words first → IsWithin old new
 failed_within old new words first h = either h.took
   where
     either : (TookFiles old new h.before ⊎ ((bytes : List ℕ) × IsBegun old.files h.before h.name bytes × TookFiles old new (h.before ++ bytes ∷ []))) → IsWithin old new

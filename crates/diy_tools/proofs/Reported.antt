@@ -4,7 +4,7 @@ use Rattle.std.specs.Prelude.{codes, slice_get, None, Result, Ok, Err}
 use Rattle.std.specs.Result.{IsErrAnd}
 use Rattle.std.proofs.lemmas.Option.{slice_get_past}
 use Rattle.std.proofs.lemmas.List.FromFn.{get_or-map-range_with_len, length-map-range_with_len}
-use Rattle.arch_trait.specs.Names.{letters, location_name}
+use Rattle.arch_trait.specs.PlaceNames.{letters, location_name}
 use Rattle.diy_words.specs.declared.usage.UsageKind.{UsageKind}
 use Rattle.diy_tools.specs.declared.status.Status.TheVariants.{Usage}
 use Rattle.diy_io.specs.declared.errors.Failed.{Failed}

@@ -18,22 +18,22 @@ use Rattle.diy_io.specs.declared.errors.Failed.{Failed}
 use Rattle.diy_io.specs.Wrote.{SinkSeen}
 use Rattle.edge_lists.specs.declared.list.EdgeList.{EdgeList}
 use Rattle.edge_lists.specs.declared.list.EdgeList.TheVariants.{Whole, TooLong}
-use Rattle.edge_lists.specs.Kept.{kept}
+use Rattle.edge_lists.specs.KeptEdges.{kept_edges}
 use Rattle.cycle_lines.specs.Normed.{name_line}
 use Rattle.diy_io.specs.Taken.{SourceSeen}
 use Rattle.diy_io.specs.Shelf.{ShelfSeen}
 use Rattle.diy_words.specs.declared.request.Diy.{Diy}
-use Rattle.diy_tools.specs.Devices.{Seen, devices}
+use Rattle.diy_tools.specs.Devices.{DevicesSeen, devices}
 use Rattle.diy_tools.specs.SumAnswers.{AnswersSum}
 use Rattle.test_maker.specs.CycleText.{cycle_text}
 use Rattle.diy_words.specs.declared.request.Sought.{Sought}
 use Rattle.diy_words.specs.declared.request.Sought.TheVariants as sought
 use Rattle.diy_words.specs.Requests.{Task, ListTask, AsksTest, AsksWhy, WhyTask, AsksName, AsksList, AsksSum, AsksCross, AsksDemo, AsksCheck, OfEdges, OfName, OfLines, asked_of}
 use Rattle.diy_words.specs.Requests as words
-use Rattle.diy_words.specs.Given.{IsSought, Gives, list_kept}
+use Rattle.diy_words.specs.Given.{IsSought, GivesTask, list_kept}
 use Rattle.diy_words.specs.declared.usage.Usage.{Usage}
 use Rattle.demo_tests.specs.DemoText.{demo_text}
-use Rattle.diy_tools.specs.Kept.{AnswersCrossing, ChecksFiles}
+use Rattle.diy_tools.specs.KeptRequests.{AnswersCrossing, ChecksFiles}
 use Rattle.diy_tools.specs.CheckAnswers.{AnswersCheck}
 use Rattle.diy_words.specs.declared.request.Check.{Check}
 use Rattle.diy_words.specs.declared.request.Demo.{Demo}
@@ -48,15 +48,15 @@ use Rattle.diy_tools.specs.declared.status.Status.{Status}
 use Rattle.diy_tools.specs.declared.status.Refusal.{Refusal}
 use Rattle.diy_tools.specs.declared.status.Refusal.TheVariants as refusals
 use Rattle.test_maker.specs.Made as made
-use Rattle.diy_tools.specs.Machines.{Machine, machine_of}
+use Rattle.diy_tools.specs.ArchMachines.{Machine, machine_of}
 use Rattle.diy_tools.specs.Refused.{refused_list, refused_of, refused_of_arch, refused_composing, refused_making, refused_showing, making_refusal, composing_refusal, showing_refusal}
 use Rattle.diy_tools.specs.Report.{RefusesLocation}
-use Rattle.diy_tools.specs.Printing.{AnswersEdges, Prints}
+use Rattle.diy_tools.specs.PrintAnswers.{AnswersEdges, Prints}
 use Rattle.diy_tools.specs.TestAnswers.{test_name}
 use Rattle.diy_tools.specs.NameAnswers.{AnswersName, AnswersSought}
 use Rattle.diy_tools.specs.ListAnswers.{AnswersList}
 use Rattle.diy_tools.specs.Answers.{Answers, AnswersAsked}
-use Rattle.diy_tools.specs.Kept.{AnswersKept, refused_kept, refused_edges, refused_why, edges_kept, folder_kept, name_kept, named_kept, MakesCycle}
+use Rattle.diy_tools.specs.KeptRequests.{AnswersKept, refused_kept, refused_edges, refused_why, edges_kept, folder_kept, name_kept, named_kept, MakesCycle}
 use Rattle.diy_tools.specs.WhyAnswers.{AnswersRuns, AnswersWhy}
 use Rattle.diy_words.specs.declared.request.Why.{Why}
 use Rattle.two_runs.specs.declared.errors.WhyRefusal.{WhyRefusal}
@@ -66,22 +66,22 @@ use Rattle.two_runs.specs.Shown.{why_refused}
 abbrev Answer : Type 0
 Answer = Result (Unit {0}) Failed
 
--- edges as they are kept are refused as those that were given, and a list of them that is kept whole is theirs
+-- edges as they are kept_edges are refused as those that were given, and a list of them that is kept_edges whole is theirs
 record IsKeptSo (list : EdgeList) (es : List Edge) : Type 0 where
   refused : (arch : ArchName) → refused_edges arch list ≡ refused_list arch es
   same : (list ≡ TooLong → ⊥) → edges_kept list ≡ es
 
-kept_so : (es : List Edge) → IsKeptSo (kept es) es
+kept_so : (es : List Edge) → IsKeptSo (kept_edges es) es
 kept_so [] = record { refused = λ arch. refl; same = λ h. refl }
 kept_so (e ∷ es) =
     by_test (nat_le (length (e ∷ es)) MAX_EDGES)
     (λ t. subst (λ k. IsKeptSo k (e ∷ es)) (sym (kept_whole (e ∷ es) t)) (record { refused = λ arch. refl; same = λ h. refl }))
     (λ f. subst (λ k. IsKeptSo k (e ∷ es)) (sym (kept_long (e ∷ es) f)) (record { refused = λ arch. sym (refused_long arch f); same = λ h. absurd (h refl) }))
   where
-    kept_whole : (us : List Edge) → nat_le (length us) MAX_EDGES ≡ true → kept us ≡ Whole (record { items = us })
+    kept_whole : (us : List Edge) → nat_le (length us) MAX_EDGES ≡ true → kept_edges us ≡ Whole (record { items = us })
     kept_whole us t = ap (λ b. if b then Whole (record { items = us }) else TooLong) t
 
-    kept_long : (us : List Edge) → nat_le (length us) MAX_EDGES ≡ false → kept us ≡ TooLong
+    kept_long : (us : List Edge) → nat_le (length us) MAX_EDGES ≡ false → kept_edges us ≡ TooLong
     kept_long us t = ap (λ b. if b then Whole (record { items = us }) else TooLong) t
 
     long : (n : ℕ) → nat_le n MAX_EDGES ≡ false → nat_lt MAX_EDGES n ≡ true
@@ -92,7 +92,7 @@ kept_so (e ∷ es) =
         ap (λ b. if b then Some refusals.TooLong else refused_of_arch (e ∷ es) (position_from (λ e. not (is_of_arch e arch)) 0 (e ∷ es)))
         (long (length (e ∷ es)) f)
 
--- what is answered of edges that are kept is answered of those that were given
+-- what is answered of edges that are kept_edges is answered of those that were given
 edges_answered : (list : EdgeList) (es : List Edge) (last : List Edge → Option Refusal) (text : List Edge → List ℕ) (arch : ArchName) (status : Status) (old new : SinkSeen)
     → IsKeptSo list es
     → AnswersEdges (option_or (refused_edges arch list) (last (edges_kept list))) (text (edges_kept list)) status old new
@@ -103,20 +103,20 @@ edges_answered TooLong es last text arch status old new k h =
     subst (λ r. AnswersEdges (option_or r (last es)) (text es) status old new) (k.refused arch) h
 
 pub kept_answered : (m : Machine) (mode : ObsMode) (name : Option (List ℕ)) (es : List Edge) (status : Status) (old new : SinkSeen)
-    → AnswersEdges (refused_kept m mode (kept es)) (cycle_text m.puts m.writing mode (test_name name (edges_kept (kept es))) (edges_kept (kept es))) status old new
+    → AnswersEdges (refused_kept m mode (kept_edges es)) (cycle_text m.puts m.writing mode (test_name name (edges_kept (kept_edges es))) (edges_kept (kept_edges es))) status old new
     → AnswersEdges (refused_of m.puts mode es) (cycle_text m.puts m.writing mode (test_name name es) es) status old new
 kept_answered m mode name es status old new h =
-    edges_answered (kept es) es (λ us. refused_making (refusal_of m.puts us mode)) (λ us. cycle_text m.puts m.writing mode (test_name name us) us) m.puts.name status old new (kept_so es) h
+    edges_answered (kept_edges es) es (λ us. refused_making (refusal_of m.puts us mode)) (λ us. cycle_text m.puts m.writing mode (test_name name us) us) m.puts.name status old new (kept_so es) h
 
 names_answered : (arch : ArchName) (es : List Edge) (status : Status) (old new : SinkSeen)
-    → AnswersEdges (refused_edges arch (kept es)) (name_line (edges_kept (kept es))) status old new
+    → AnswersEdges (refused_edges arch (kept_edges es)) (name_line (edges_kept (kept_edges es))) status old new
     → AnswersEdges (refused_list arch es) (name_line es) status old new
 names_answered arch es status old new h =
     subst (λ r. AnswersEdges r (name_line es) status old new) (option_or-none (refused_list arch es))
-    (edges_answered (kept es) es (λ us. None) name_line arch status old new (kept_so es)
-    (subst (λ r. AnswersEdges r (name_line (edges_kept (kept es))) status old new) (sym (option_or-none (refused_edges arch (kept es)))) h))
+    (edges_answered (kept_edges es) es (λ us. None) name_line arch status old new (kept_so es)
+    (subst (λ r. AnswersEdges r (name_line (edges_kept (kept_edges es))) status old new) (sym (option_or-none (refused_edges arch (kept_edges es)))) h))
 
--- what is answered of the cycles that are sought, as they are kept, is answered of those that were asked for
+-- what is answered of the cycles that are sought, as they are kept_edges, is answered of those that were asked for
 pub sought_answered : (arch : ArchName) (cycle : Sought) (asked : words.Sought) (status : Status) (old new : SourceSeen) (before after : SinkSeen)
     → IsSought cycle asked → AnswersKept arch cycle status old new before after → AnswersSought arch asked status old new before after
 sought_answered arch (sought.Edges list) (OfEdges es) status old new before after same h =
@@ -169,7 +169,7 @@ answered_on arch a mode list name status old new same h =
 
 -- what is answered of a request for a test is answered of the words that make it
 test_asked : (arch a : ArchName) (mode m : ObsMode) (name n : Option (List ℕ)) (list : EdgeList) (es : List Edge) (status : Status) (old new : SinkSeen)
-    → arch ≡ a → name ≡ n → mode ≡ m → list ≡ kept es
+    → arch ≡ a → name ≡ n → mode ≡ m → list ≡ kept_edges es
     → AnswersEdges (refused_kept (machine_of arch) mode list) (cycle_text (machine_of arch).puts (machine_of arch).writing mode (test_name name (edges_kept list)) (edges_kept list)) status old new
     → AnswersEdges (refused_of (machine_of a).puts m es) (cycle_text (machine_of a).puts (machine_of a).writing m (test_name n es) es) status old new
 test_asked arch a mode m name n list es status old new p q r k h =
@@ -180,23 +180,23 @@ test_asked arch a mode m name n list es status old new p q r k h =
     (subst (λ (o : ArchName). AnswersEdges (refused_kept (machine_of o) mode list) (cycle_text (machine_of o).puts (machine_of o).writing mode (test_name name (edges_kept list)) (edges_kept list)) status old new) p h))))
 
 pub test_answered : (words : List (List ℕ)) (request : DiyOne) (status : Status) (input : SourceSeen) (shelf : ShelfSeen) (old new : SinkSeen)
-    → Gives (Ok (requests.Test request)) (asked_of words)
+    → GivesTask (Ok (requests.Test request)) (asked_of words)
     → AnswersEdges (refused_kept (machine_of request.arch) request.mode request.edges) (cycle_text (machine_of request.arch).puts (machine_of request.arch).writing request.mode (test_name (name_kept request.name) (edges_kept request.edges)) (edges_kept request.edges)) status old new
     → Answers words status (input, old, shelf) (input, new, shelf)
 test_answered words request status input shelf old new given h = of_asked (asked_of words) given
   where
-    of_asked : (asked : Result Task Usage) → Gives (Ok (requests.Test request)) asked → AnswersAsked words asked status (devices (input, old, shelf)) (devices (input, new, shelf))
+    of_asked : (asked : Result Task Usage) → GivesTask (Ok (requests.Test request)) asked → AnswersAsked words asked status (devices (input, old, shelf)) (devices (input, new, shelf))
     of_asked (Ok (AsksTest asked)) g =
         record { input = refl; shelf = refl; out = test_asked request.arch asked.arch request.mode asked.mode (name_kept request.name) asked.name request.edges asked.edges status old new g.0 g.1 g.2 g.3 h }
     of_asked asked g = absurd g
 
 -- what is answered of a request for names
 pub name_answered : (words : List (List ℕ)) (request : Norm) (status : Status) (shelf : ShelfSeen) (old new : SourceSeen) (before after : SinkSeen)
-    → Gives (Ok (requests.Name request)) (asked_of words)
+    → GivesTask (Ok (requests.Name request)) (asked_of words)
     → AnswersKept request.arch request.cycle status old new before after → Answers words status (old, before, shelf) (new, after, shelf)
 name_answered words request status shelf old new before after given h = of_asked (asked_of words) given
   where
-    of_asked : (asked : Result Task Usage) → Gives (Ok (requests.Name request)) asked → AnswersAsked words asked status (devices (old, before, shelf)) (devices (new, after, shelf))
+    of_asked : (asked : Result Task Usage) → GivesTask (Ok (requests.Name request)) asked → AnswersAsked words asked status (devices (old, before, shelf)) (devices (new, after, shelf))
     of_asked (Ok (AsksName asked)) g =
         record {
           shelf = refl;
@@ -207,20 +207,20 @@ name_answered words request status shelf old new before after given h = of_asked
 
 -- what is answered of a request for a listing
 pub list_answered : (words : List (List ℕ)) (request : Diy) (status : Status) (input : SourceSeen) (old new : ShelfSeen) (before after : SinkSeen)
-    → Gives (Ok (requests.List request)) (asked_of words)
+    → GivesTask (Ok (requests.List request)) (asked_of words)
     → AnswersList (list_kept request) status old new before after → Answers words status (input, before, old) (input, after, new)
 list_answered words request status input old new before after given h = of_asked (asked_of words) given
   where
-    of_asked : (asked : Result Task Usage) → Gives (Ok (requests.List request)) asked → AnswersAsked words asked status (devices (input, before, old)) (devices (input, after, new))
+    of_asked : (asked : Result Task Usage) → GivesTask (Ok (requests.List request)) asked → AnswersAsked words asked status (devices (input, before, old)) (devices (input, after, new))
     of_asked (Ok (AsksList asked)) g = record { input = refl; both = subst (λ (l : ListTask). AnswersList l status old new before after) g h }
     of_asked asked g = absurd g
 
 -- what is answered of a request for a sum
-pub sum_answered : (words : List (List ℕ)) (status : Status) (old new : Seen)
-    → Gives (Ok requests.Sum) (asked_of words) → AnswersSum words status (devices old) (devices new) → Answers words status old new
+pub sum_answered : (words : List (List ℕ)) (status : Status) (old new : DevicesSeen)
+    → GivesTask (Ok requests.Sum) (asked_of words) → AnswersSum words status (devices old) (devices new) → Answers words status old new
 sum_answered words status old new given h = of_asked (asked_of words) given
   where
-    of_asked : (asked : Result Task Usage) → Gives (Ok requests.Sum) asked → AnswersAsked words asked status (devices old) (devices new)
+    of_asked : (asked : Result Task Usage) → GivesTask (Ok requests.Sum) asked → AnswersAsked words asked status (devices old) (devices new)
     of_asked (Ok AsksSum) g = h
     of_asked asked g = absurd g
 
@@ -235,12 +235,12 @@ cross_answered words status input old new before after h = of_asked (asked_of wo
 
 -- what is answered of a request for a number of tests
 pub demo_answered : (words : List (List ℕ)) (request : Demo) (status : Status) (input : SourceSeen) (shelf : ShelfSeen) (old new : SinkSeen)
-    → Gives (Ok (requests.Demo request)) (asked_of words)
+    → GivesTask (Ok (requests.Demo request)) (asked_of words)
     → Prints (demo_text (machine_of request.arch).puts (machine_of request.arch).writing request.count) status old new
     → Answers words status (input, old, shelf) (input, new, shelf)
 demo_answered words request status input shelf old new given h = of_asked (asked_of words) given
   where
-    of_asked : (asked : Result Task Usage) → Gives (Ok (requests.Demo request)) asked → AnswersAsked words asked status (devices (input, old, shelf)) (devices (input, new, shelf))
+    of_asked : (asked : Result Task Usage) → GivesTask (Ok (requests.Demo request)) asked → AnswersAsked words asked status (devices (input, old, shelf)) (devices (input, new, shelf))
     of_asked (Ok (AsksDemo asked)) g = record {
       input = refl;
       shelf = refl;
@@ -250,7 +250,7 @@ demo_answered words request status input shelf old new given h = of_asked (asked
 
 -- what is answered of a request to check an execution
 pub check_answered : (words : List (List ℕ)) (request : Check) (status : Status) (input : SourceSeen) (old new : ShelfSeen) (before after : SinkSeen)
-    → Gives (Ok (requests.Check request)) (asked_of words)
+    → GivesTask (Ok (requests.Check request)) (asked_of words)
     → ChecksFiles words request.arch request.test request.execution status old new before after
     → Answers words status (input, before, old) (input, after, new)
 check_answered words request status input old new before after given h = of_asked (asked_of words) given
@@ -261,7 +261,7 @@ check_answered words request status input old new before after given h = of_aske
         subst (λ (a : Check). AnswersCheck words a status (devices (input, before, old)) (devices (input, after, new))) e
         (record { end = h.end; ends = record { input = refl; both = h.ends }; status_is = h.status_is })
 
-    of_asked : (asked : Result Task Usage) → Gives (Ok (requests.Check request)) asked → AnswersAsked words asked status (devices (input, before, old)) (devices (input, after, new))
+    of_asked : (asked : Result Task Usage) → GivesTask (Ok (requests.Check request)) asked → AnswersAsked words asked status (devices (input, before, old)) (devices (input, after, new))
     of_asked (Ok (AsksCheck asked)) g = checks asked g
     of_asked asked g = absurd g
 
@@ -285,21 +285,21 @@ runs_on arch a request status old new before after same h =
 
 -- what is answered of a request to show two executions is answered of the words that make it
 pub why_answered : (words : List (List ℕ)) (request : Why) (status : Status) (input : SourceSeen) (old new : ShelfSeen) (before after : SinkSeen)
-    → Gives (Ok (requests.Why request)) (asked_of words)
+    → GivesTask (Ok (requests.Why request)) (asked_of words)
     → AnswersRuns (machine_of request.arch) (folder_kept request) (named_kept request) (refused_why (machine_of request.arch) request.edges) (edges_kept request.edges) status old new before after
     → Answers words status (input, before, old) (input, after, new)
 why_answered words request status input old new before after given h = of_asked (asked_of words) given
   where
-    of_why : (asked : WhyTask) → (request.arch ≡ asked.arch) → name_kept request.name ≡ asked.name → request.edges ≡ kept asked.edges → folder_kept request ≡ asked.folder
+    of_why : (asked : WhyTask) → (request.arch ≡ asked.arch) → name_kept request.name ≡ asked.name → request.edges ≡ kept_edges asked.edges → folder_kept request ≡ asked.folder
         → AnswersWhy asked status old new before after
     of_why asked p q k f =
-        runs_kept (machine_of asked.arch) asked.folder asked.name (kept asked.edges) asked.edges status old new before after (kept_so asked.edges)
-        (subst (λ o. AnswersRuns (machine_of asked.arch) o (test_name asked.name (edges_kept (kept asked.edges))) (refused_why (machine_of asked.arch) (kept asked.edges)) (edges_kept (kept asked.edges)) status old new before after) f
+        runs_kept (machine_of asked.arch) asked.folder asked.name (kept_edges asked.edges) asked.edges status old new before after (kept_so asked.edges)
+        (subst (λ o. AnswersRuns (machine_of asked.arch) o (test_name asked.name (edges_kept (kept_edges asked.edges))) (refused_why (machine_of asked.arch) (kept_edges asked.edges)) (edges_kept (kept_edges asked.edges)) status old new before after) f
         (subst (λ l. AnswersRuns (machine_of asked.arch) (folder_kept request) (test_name asked.name (edges_kept l)) (refused_why (machine_of asked.arch) l) (edges_kept l) status old new before after) k
         (subst (λ o. AnswersRuns (machine_of asked.arch) (folder_kept request) (test_name o (edges_kept request.edges)) (refused_why (machine_of asked.arch) request.edges) (edges_kept request.edges) status old new before after) q
         (subst (λ (a : ArchName). AnswersRuns (machine_of a) (folder_kept request) (named_kept request) (refused_why (machine_of a) request.edges) (edges_kept request.edges) status old new before after) p h))))
 
-    of_asked : (asked : Result Task Usage) → Gives (Ok (requests.Why request)) asked → AnswersAsked words asked status (devices (input, before, old)) (devices (input, after, new))
+    of_asked : (asked : Result Task Usage) → GivesTask (Ok (requests.Why request)) asked → AnswersAsked words asked status (devices (input, before, old)) (devices (input, after, new))
     of_asked (Ok (AsksWhy asked)) g = record { input = refl; both = of_why asked g.0 g.1 g.2 g.3 }
     of_asked asked g = absurd g
 

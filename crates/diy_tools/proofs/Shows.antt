@@ -8,7 +8,7 @@ use Rattle.value_laws.specs.Values.{observer_need}
 use Rattle.diy_io.specs.Shelf.{ShelfSeen, Idle}
 use Rattle.diy_io.specs.Wrote.{SinkSeen}
 use Rattle.execution_text.specs.Written.{text_of_execution}
-use Rattle.listed_tests.specs.Putting.{Put}
+use Rattle.listed_tests.specs.Putting.{PutFiles}
 use Rattle.litmus_text.specs.TestReading.{TestRead}
 use Rattle.program_meaning.specs.Executions.{Execution}
 use Rattle.test_maker.specs.CycleText.{cycle_text}
@@ -18,9 +18,9 @@ use Rattle.diy_tools.specs.declared.status.Status.{Status}
 use Rattle.diy_tools.specs.declared.status.Status.TheVariants as statuses
 use Rattle.diy_tools.specs.declared.status.Refusal.{Refusal}
 use Rattle.diy_tools.specs.declared.status.Device.TheVariants.{Out, Shelf}
-use Rattle.diy_tools.specs.Kept.{WritesInMemory}
-use Rattle.diy_tools.specs.Machines.{Machine}
-use Rattle.diy_tools.specs.Printing.{Prints}
+use Rattle.diy_tools.specs.KeptRequests.{WritesInMemory}
+use Rattle.diy_tools.specs.ArchMachines.{Machine}
+use Rattle.diy_tools.specs.PrintAnswers.{Prints}
 use Rattle.diy_tools.specs.Refused.{refused_showing, showing_refusal}
 use Rattle.diy_tools.specs.WhyAnswers.{AnswersRuns, WritesFiles, WritesRuns, why_files, why_line, why_path}
 
@@ -73,7 +73,7 @@ files_are folder name text one two a b c p q r = rw (p, q, r) refl
 
 -- files are written, and then a line is
 pub line_after : (files : List (List ℕ × List ℕ)) (line : List ℕ) (status : Status) (old new : ShelfSeen) (before after : SinkSeen)
-    → Put old new files → Prints line status before after → WritesFiles files line status old new before after
+    → PutFiles old new files → Prints line status before after → WritesFiles files line status old new before after
 line_after files line statuses.Done old new before after put h = (put, h)
 line_after files line (statuses.WriteFault Out) old new before after put h = (put, h)
 line_after files line status old new before after put h = absurd h

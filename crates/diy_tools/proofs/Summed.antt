@@ -6,7 +6,7 @@ use Rattle.diy_io.specs.Wrote.{SinkSeen}
 use Rattle.diy_tools.specs.declared.status.Status.{Status}
 use Rattle.diy_tools.specs.Devices.{devices}
 use Rattle.diy_tools.specs.SumAnswers.{AnswersSum}
-use Rattle.diy_tools.specs.Kept.{SumsFiles, SumsInput}
+use Rattle.diy_tools.specs.KeptRequests.{SumsFiles, SumsInput}
 
 -- where words name logs, the sum of the files is the answer
 pub files_answered : (words : List (List ℕ)) (status : Status) (input : SourceSeen) (old new : ShelfSeen) (before after : SinkSeen) → 1 < length words

@@ -5,7 +5,7 @@ use Rattle.diy_words.specs.declared.usage.Usage.{Usage}
 use Rattle.diy_words.specs.Requests.{Task, AsksTest, AsksWhy, AsksName, AsksList, AsksFamilies, AsksSum, AsksCross, AsksDemo, AsksCheck, asked_of}
 use Rattle.diy_tools.specs.declared.status.Status.{Status}
 use Rattle.diy_tools.specs.declared.status.Status.TheVariants as statuses
-use Rattle.diy_tools.specs.Devices.{Devices, OutAlone, InputAndOut, ShelfAndOut, Seen, devices}
+use Rattle.diy_tools.specs.Devices.{Devices, OutAlone, InputAndOut, ShelfAndOut, DevicesSeen, devices}
 use Rattle.diy_tools.specs.TestAnswers.{AnswersTest}
 use Rattle.diy_tools.specs.NameAnswers.{AnswersSought}
 use Rattle.diy_tools.specs.FamilyAnswers.{AnswersClassify}
@@ -13,7 +13,7 @@ use Rattle.diy_tools.specs.ListAnswers.{AnswersList}
 use Rattle.diy_tools.specs.CrossAnswers.{AnswersCross}
 use Rattle.diy_tools.specs.DemoAnswers.{demo_asked}
 use Rattle.diy_tools.specs.CheckAnswers.{AnswersCheck}
-use Rattle.diy_tools.specs.Printing.{Prints}
+use Rattle.diy_tools.specs.PrintAnswers.{Prints}
 use Rattle.diy_tools.specs.SumAnswers.{AnswersSum}
 use Rattle.diy_tools.specs.WhyAnswers.{AnswersWhy}
 
@@ -32,5 +32,5 @@ AnswersAsked words (Ok (AsksDemo asked)) status old new = OutAlone (Prints (demo
 AnswersAsked words (Ok (AsksCheck asked)) status old new = AnswersCheck words asked status old new
 
 -- a call with these words ends with this status, and takes the devices from old to new
-abbrev pub Answers : List (List ℕ) → Status → Seen → Seen → Type 0
+abbrev pub Answers : List (List ℕ) → Status → DevicesSeen → DevicesSeen → Type 0
 Answers words status old new = AnswersAsked words (asked_of words) status (devices old) (devices new)

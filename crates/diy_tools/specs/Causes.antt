@@ -25,13 +25,13 @@ use Rattle.diy_words.specs.Requests.{Task, Sought, WhyTask, AsksTest, AsksWhy, A
 use Rattle.listed_tests.specs.declared.ending.ListingEnd.TheVariants as listings
 use Rattle.summed_files.specs.declared.sum_end.SumEnd.{SumEnd}
 use Rattle.summed_files.specs.declared.sum_end.SumEnd.TheVariants as sums
-use Rattle.summed_files.specs.SumEnds.{FileMissing}
+use Rattle.summed_files.specs.SumEnds.{LogFileMissing}
 use Rattle.diy_tools.specs.declared.status.Status.{Status}
 use Rattle.diy_tools.specs.declared.status.Status.TheVariants as statuses
 use Rattle.diy_tools.specs.declared.status.Refusal.{Refusal}
 use Rattle.diy_tools.specs.declared.status.TextKind.TheVariants as texts
 use Rattle.diy_tools.specs.declared.status.Device.TheVariants.{Input, Out, Shelf}
-use Rattle.diy_tools.specs.Devices.{Devices, OutAlone, InputAndOut, ShelfAndOut, Seen, devices}
+use Rattle.diy_tools.specs.Devices.{Devices, OutAlone, InputAndOut, ShelfAndOut, DevicesSeen, devices}
 use Rattle.diy_tools.specs.CheckAnswers.{EndsCheck}
 use Rattle.diy_tools.specs.CrossAnswers.{EndsCrossed}
 use Rattle.diy_tools.specs.DemoAnswers.{demo_asked}
@@ -42,8 +42,8 @@ use Rattle.diy_tools.specs.NameAnswers.{PrintsNamed}
 use Rattle.diy_tools.specs.Refused.{refused_list}
 use Rattle.diy_tools.specs.SumAnswers.{EndsSum}
 use Rattle.diy_tools.specs.TestAnswers.{asked_text, test_name, test_refused}
-use Rattle.diy_tools.specs.Machines.{machine_of}
-use Rattle.diy_tools.specs.WhyAnswers.{WritesRuns, unshown}
+use Rattle.diy_tools.specs.ArchMachines.{machine_of}
+use Rattle.diy_tools.specs.WhyAnswers.{WritesRuns, why_unshown}
 
 -- standard output is as it was, and no file changed
 pub record NothingWritten (old new : Devices) : Type 0 where
@@ -73,7 +73,7 @@ sought_refused arch _ = None
 -- the first reason why the edges that words ask for are refused, if they ask for edges
 abbrev pub asked_refused : Result Task Usage → Option Refusal
 asked_refused (Ok (AsksTest asked)) = test_refused asked
-asked_refused (Ok (AsksWhy asked)) = unshown asked
+asked_refused (Ok (AsksWhy asked)) = why_unshown asked
 asked_refused (Ok (AsksName asked)) = sought_refused asked.arch asked.cycle
 asked_refused _ = None
 
@@ -124,7 +124,7 @@ PassesLimit words asked (Some file) line old new =
 -- diyone7 has written two executions, as far as this status says
 abbrev pub WhyStops : WhyTask → Status → Devices → Devices → Type 0
 WhyStops asked status old new =
-    (unshown asked ≡ None)
+    (why_unshown asked ≡ None)
     × ShelfAndOut (WritesRuns (machine_of asked.arch) asked.folder (test_name asked.name asked.edges) asked.edges status) old new
 
 -- diy7, diycross7 or diyone7 with -why writes files, up to where the shelf fails
@@ -135,11 +135,11 @@ ListStops (Ok (AsksCross asked)) old new = ShelfAndOut (EndsCrossed asked listin
 ListStops _ old new = ⊥
 
 -- norm7 has written all lines
-abbrev pub NamesAll : ArchName → Sought → SourceSeen → SourceSeen → SinkSeen → SinkSeen → Type 0
-NamesAll arch (OfEdges edges) old new before after =
+abbrev pub NamesAllSought : ArchName → Sought → SourceSeen → SourceSeen → SinkSeen → SinkSeen → Type 0
+NamesAllSought arch (OfEdges edges) old new before after =
     (new ≡ old) × (refused_list arch edges ≡ None) × WroteAll before after (name_line edges)
-NamesAll arch (OfName at name) old new before after = (new ≡ old) × PrintsNamed arch name statuses.Done before after
-NamesAll arch OfLines old new before after = NormedAll arch old new before after
+NamesAllSought arch (OfName at name) old new before after = (new ≡ old) × PrintsNamed arch name statuses.Done before after
+NamesAllSought arch OfLines old new before after = NormedAll arch old new before after
 
 -- classify7 has written all families
 abbrev pub FamiliesAll : List (List ℕ) → ArchName → List ℕ → Devices → Devices → Type 0
@@ -157,7 +157,7 @@ Finishes words (Err usage) old new = ⊥
 Finishes words (Ok (AsksTest asked)) old new =
     (test_refused asked ≡ None) × OutAlone (λ out out'. WroteAll out out' (asked_text asked)) old new
 Finishes words (Ok (AsksWhy asked)) old new = WhyStops asked statuses.Done old new
-Finishes words (Ok (AsksName asked)) old new = InputAndOut (NamesAll asked.arch asked.cycle) old new
+Finishes words (Ok (AsksName asked)) old new = InputAndOut (NamesAllSought asked.arch asked.cycle) old new
 Finishes words (Ok (AsksList asked)) old new = ShelfAndOut (EndsAsked asked listings.Done) old new
 Finishes words (Ok (AsksCross asked)) old new = ShelfAndOut (EndsCrossed asked listings.Done) old new
 Finishes words (Ok (AsksDemo asked)) old new = OutAlone (λ out out'. WroteAll out out' (demo_asked asked)) old new
@@ -212,7 +212,7 @@ CausesAsked words asked (statuses.BadText file line texts.TooMuch) old new = Pas
 -- msum7 is to sum, or classify7 or mcheck7 to read, a file that isn't there; where the shelf doesn't show its files, its count of
 -- faults rose
 CausesAsked words asked (statuses.NoFile word) old new =
-    (FileMissing old.shelf new.shelf words 1 word × SumStops words asked (sums.NoFile word) old new)
+    (LogFileMissing old.shelf new.shelf words 1 word × SumStops words asked (sums.NoFile word) old new)
     ⊎ (FilesStop words asked (classing.NoFile word) old new ⊎ CheckStops words asked (checking.NoFile word) old new)
 -- the input of norm7, classify7 or msum7 failed
 CausesAsked words asked (statuses.ReadFault Input) old new =
@@ -233,5 +233,5 @@ CausesAsked words asked (statuses.WriteFault Input) old new = ⊥
 CausesAsked words asked statuses.NoMemory old new = MayWantMemory asked × NothingWritten old new
 
 -- a call with these words ends with this status for its cause, and takes the devices from old to new
-abbrev pub Causes : List (List ℕ) → Status → Seen → Seen → Type 0
+abbrev pub Causes : List (List ℕ) → Status → DevicesSeen → DevicesSeen → Type 0
 Causes words status old new = CausesAsked words (asked_of words) status (devices old) (devices new)

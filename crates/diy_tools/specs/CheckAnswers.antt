@@ -15,7 +15,7 @@ use Rattle.diy_tools.specs.declared.status.TextKind.{TextKind}
 use Rattle.diy_tools.specs.declared.status.TextKind.TheVariants as texts
 use Rattle.diy_tools.specs.declared.status.Device.TheVariants.{Out, Shelf}
 use Rattle.diy_tools.specs.Devices.{Devices, ShelfAndOut}
-use Rattle.diy_tools.specs.Machines.{machine_of}
+use Rattle.diy_tools.specs.ArchMachines.{machine_of}
 
 -- what is wrong with the file of a test, or with that of an execution
 abbrev pub checked_kind : CheckedKind → TextKind

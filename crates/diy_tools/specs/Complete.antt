@@ -4,27 +4,27 @@ use Rattle.std.specs.Prelude.{◌≡◌, ◌≤◌, ◌+◌, ◌⊎◌, ⊤, ℕ
 use Rattle.relax_edges.specs.declared.edge.Edge.{Edge}
 use Rattle.relax_edges.specs.declared.kinds.ArchName.{ArchName}
 use Rattle.classified_files.specs.FilesEnds.{ReadFiles}
-use Rattle.checked_files.specs.FilesChecked.{AreRight as AreRightFiles}
+use Rattle.checked_files.specs.FilesChecked.{AreTestAndExecution}
 use Rattle.cycle_names.specs.Laws.{NamesNone}
 use Rattle.cycle_lines.specs.Cycles.{are_sound}
-use Rattle.cycle_lines.specs.Lines.{lines_of}
+use Rattle.cycle_lines.specs.CycleLines.{lines_of}
 use Rattle.diy_io.specs.declared.source.TheConstants.{MAX_INPUT}
 use Rattle.diy_io.specs.Count.{Rose}
 use Rattle.diy_io.specs.Shelf.{Files}
 use Rattle.diy_words.specs.declared.usage.Usage.{Usage}
 use Rattle.diy_words.specs.Requests.{Task, Sought, AsksTest, AsksWhy, AsksName, AsksList, AsksFamilies, AsksSum, AsksCross, AsksDemo, AsksCheck, OfEdges, OfName, OfLines, asked_of}
 use Rattle.diy_words.specs.declared.request.Check.{Check}
-use Rattle.summed_files.specs.Logs.{IsText, IsShort, AreRight}
+use Rattle.summed_files.specs.Logs.{IsText, IsShort, AreWholeLogs}
 use Rattle.summed_files.specs.SumEnds.{AreLogs}
 use Rattle.diy_tools.specs.declared.status.Status.{Status}
 use Rattle.diy_tools.specs.declared.status.Status.TheVariants.{Done, NoMemory}
-use Rattle.diy_tools.specs.Devices.{Devices, Seen, devices}
+use Rattle.diy_tools.specs.Devices.{Devices, DevicesSeen, devices}
 use Rattle.diy_tools.specs.FamilyAnswers.{read_on}
-use Rattle.diy_tools.specs.Machines.{machine_of}
+use Rattle.diy_tools.specs.ArchMachines.{machine_of}
 use Rattle.diy_tools.specs.Memory.{MayWantMemory}
 use Rattle.diy_tools.specs.Refused.{refused_list}
 use Rattle.diy_tools.specs.TestAnswers.{test_refused}
-use Rattle.diy_tools.specs.WhyAnswers.{unshown}
+use Rattle.diy_tools.specs.WhyAnswers.{why_unshown}
 
 -- a text has at most 2^40 bytes, and none of its lines of cycles has a fault
 pub record IsSoundText (arch : ArchName) (text : List ℕ) : Type 0 where
@@ -34,14 +34,14 @@ pub record IsSoundText (arch : ArchName) (text : List ℕ) : Type 0 where
 -- a log has at most 2^40 bytes and no fault
 pub record IsRightLog (log : List ℕ) : Type 0 where
   pub short : IsShort log
-  pub right : AreRight (log ∷ [])
+  pub right : AreWholeLogs (log ∷ [])
 
 -- the words after the first name files that are there, each of at most 2^40 bytes, and as logs they have no fault
 pub record AreRightLogs (files : Files) (words : List (List ℕ)) : Type 0 where
   pub logs : List (List ℕ)
   pub all : 1 + length logs ≡ length words
   pub are : AreLogs (Some files) words 1 logs
-  pub right : AreRight logs
+  pub right : AreWholeLogs logs
 
 -- this holds of every text that a device can have: of the one that it shows, where it shows one
 abbrev pub OfItsText : Option (List ℕ) → (List ℕ → Type 0) → Type 0
@@ -77,13 +77,13 @@ CanClassify words arch (file ∷ rest) old = OfItsFiles old.shelf.files (λ file
 -- mcheck7 can check: its words name files, a test of the architecture and an execution of it
 abbrev pub CanCheck : List (List ℕ) → Check → Devices → Type 0
 CanCheck words asked old =
-    OfItsFiles old.shelf.files (λ files. AreRightFiles files asked.arch (machine_of asked.arch).writing words asked.test asked.execution)
+    OfItsFiles old.shelf.files (λ files. AreTestAndExecution files asked.arch (machine_of asked.arch).writing words asked.test asked.execution)
 
 -- words make a request that can be done
 abbrev pub CanBeDone : List (List ℕ) → Result Task Usage → Devices → Type 0
 CanBeDone words (Err usage) old = ⊥
 CanBeDone words (Ok (AsksTest asked)) old = test_refused asked ≡ None
-CanBeDone words (Ok (AsksWhy asked)) old = unshown asked ≡ None
+CanBeDone words (Ok (AsksWhy asked)) old = why_unshown asked ≡ None
 CanBeDone words (Ok (AsksName asked)) old = CanName asked.arch asked.cycle old
 CanBeDone words (Ok (AsksList asked)) old = ⊤
 CanBeDone words (Ok (AsksCross asked)) old = ⊤
@@ -107,5 +107,5 @@ abbrev pub CompleteAsked : List (List ℕ) → Result Task Usage → Status → 
 CompleteAsked words asked status old new = CanBeDone words asked old → NoFaults old new → IsDone asked status
 
 -- a call with these words does what can be done, and takes the devices from old to new
-abbrev pub Complete : List (List ℕ) → Status → Seen → Seen → Type 0
+abbrev pub Complete : List (List ℕ) → Status → DevicesSeen → DevicesSeen → Type 0
 Complete words status old new = CompleteAsked words (asked_of words) status (devices old) (devices new)

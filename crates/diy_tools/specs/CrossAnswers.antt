@@ -8,11 +8,11 @@ use Rattle.diy_io.specs.Shelf.{ShelfSeen}
 use Rattle.diy_io.specs.Wrote.{SinkSeen}
 use Rattle.diy_words.specs.Requests.{CrossTask}
 use Rattle.listed_tests.specs.declared.ending.ListingEnd.{ListingEnd}
-use Rattle.listed_tests.specs.Given.{EndsGiven}
+use Rattle.listed_tests.specs.GivenCycles.{EndsGiven}
 use Rattle.listed_tests.specs.Plans.{named_text}
 use Rattle.diy_tools.specs.declared.status.Status.{Status}
 use Rattle.diy_tools.specs.declared.status.Status.TheVariants.{NoMemory}
-use Rattle.diy_tools.specs.Machines.{Machine, machine_of}
+use Rattle.diy_tools.specs.ArchMachines.{Machine, machine_of}
 use Rattle.diy_tools.specs.Statuses.{listing_status}
 
 -- the cycles of the choices that words ask for

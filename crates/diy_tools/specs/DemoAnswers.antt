@@ -3,7 +3,7 @@
 use Rattle.std.specs.Prelude.{ℕ, List}
 use Rattle.demo_tests.specs.DemoText.{demo_text}
 use Rattle.diy_words.specs.declared.request.Demo.{Demo}
-use Rattle.diy_tools.specs.Machines.{Machine, machine_of}
+use Rattle.diy_tools.specs.ArchMachines.{Machine, machine_of}
 
 -- the text of so many tests on an architecture
 abbrev pub demo_on : Machine → ℕ → List ℕ

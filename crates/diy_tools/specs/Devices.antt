@@ -12,11 +12,11 @@ pub record Devices : Type 0 where
   pub shelf : ShelfSeen
 
 -- the same as a triple
-abbrev pub Seen : Type 0
-Seen = SourceSeen × SinkSeen × ShelfSeen
+abbrev pub DevicesSeen : Type 0
+DevicesSeen = SourceSeen × SinkSeen × ShelfSeen
 
 -- the devices that a triple of them makes
-abbrev pub devices : Seen → Devices
+abbrev pub devices : DevicesSeen → Devices
 devices seen = record { input = seen.0; out = seen.1; shelf = seen.2 }
 
 -- the input and the shelf stay as they were, and this holds of standard output

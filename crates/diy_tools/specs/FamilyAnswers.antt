@@ -18,7 +18,7 @@ use Rattle.diy_tools.specs.declared.status.TextKind.{TextKind}
 use Rattle.diy_tools.specs.declared.status.TextKind.TheVariants as texts
 use Rattle.diy_tools.specs.declared.status.Device.TheVariants.{Out, Shelf}
 use Rattle.diy_tools.specs.Devices.{Devices, InputAndOut, ShelfAndOut}
-use Rattle.diy_tools.specs.Machines.{machine_of}
+use Rattle.diy_tools.specs.ArchMachines.{machine_of}
 use Rattle.diy_tools.specs.Statuses.{classify_status}
 
 -- the names of the cycles of the input's lines are written by their families, or there is a reason why they can't be

@@ -10,15 +10,15 @@ use Rattle.diy_io.specs.Wrote.{SinkSeen}
 use Rattle.diy_words.specs.declared.usage.Usage.{Usage}
 use Rattle.diy_words.specs.Requests.{Task, ListTask, AsksTest, AsksWhy, AsksList, CrossTask, AsksCross, asked_of}
 use Rattle.listed_tests.specs.Plans.{IsPlanned, planned_text}
-use Rattle.printed_test_laws.specs.Headline.{BytesForce}
+use Rattle.printed_test_laws.specs.PrintedHeadline.{BytesForce}
 use Rattle.diy_tools.specs.declared.status.Status.{Status}
 use Rattle.diy_tools.specs.declared.status.Status.TheVariants.{NoMemory}
-use Rattle.diy_tools.specs.Devices.{Devices, Seen, devices}
-use Rattle.diy_tools.specs.Machines.{Machine, machine_of}
+use Rattle.diy_tools.specs.Devices.{Devices, DevicesSeen, devices}
+use Rattle.diy_tools.specs.ArchMachines.{Machine, machine_of}
 use Rattle.diy_tools.specs.Refused.{refused_of}
-use Rattle.diy_tools.specs.Printing.{Prints}
+use Rattle.diy_tools.specs.PrintAnswers.{Prints}
 use Rattle.diy_tools.specs.TestAnswers.{asked_text, test_name}
-use Rattle.diy_tools.specs.WhyAnswers.{WritesRuns, unshown}
+use Rattle.diy_tools.specs.WhyAnswers.{WritesRuns, why_unshown}
 use Rattle.walk_laws.specs.Listing.{IsOneOf}
 use Rattle.diy_tools.specs.CrossAnswers.{AnswersCross, cycles_asked, crossed_text}
 use Rattle.diy_tools.specs.ListAnswers.{AnswersList, plan_asked}
@@ -49,7 +49,7 @@ HeadlineAsked (Ok (AsksTest asked)) status old new =
     refused_of (machine_of asked.arch).puts asked.mode asked.edges ≡ None →
     PrintsForcing (machine_of asked.arch) (asked_text asked) asked.edges asked.mode status old.out new.out
 HeadlineAsked (Ok (AsksWhy asked)) status old new =
-    unshown asked ≡ None →
+    why_unshown asked ≡ None →
     (status ≡ NoMemory)
     ⊎ WritesRuns (machine_of asked.arch) asked.folder (test_name asked.name asked.edges) asked.edges status old.shelf new.shelf old.out new.out
 HeadlineAsked (Ok (AsksList asked)) status old new = ListsForcing asked status old.shelf new.shelf old.out new.out
@@ -57,5 +57,5 @@ HeadlineAsked (Ok (AsksCross asked)) status old new = CrossesForcing asked statu
 HeadlineAsked _ status old new = Unit {0}
 
 -- the claim of a call with these words, by its status and the devices before and after it
-abbrev pub Headline : List (List ℕ) → Status → Seen → Seen → Type 0
+abbrev pub Headline : List (List ℕ) → Status → DevicesSeen → DevicesSeen → Type 0
 Headline words status old new = HeadlineAsked (asked_of words) status (devices old) (devices new)

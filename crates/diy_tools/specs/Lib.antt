@@ -1,9 +1,9 @@
 pub mod Devices
-pub mod Machines
+pub mod ArchMachines
 pub mod Refused
 pub mod Report
 pub mod Statuses
-pub mod Printing
+pub mod PrintAnswers
 pub mod TestAnswers
 pub mod NameAnswers
 pub mod FamilyAnswers
@@ -14,7 +14,7 @@ pub mod DemoAnswers
 pub mod CheckAnswers
 pub mod WhyAnswers
 pub mod Answers
-pub mod Kept
+pub mod KeptRequests
 pub mod Memory
 pub mod Complete
 pub mod Causes

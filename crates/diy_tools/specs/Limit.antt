@@ -6,7 +6,7 @@ use Rattle.diy_words.specs.declared.usage.Usage.{Usage}
 use Rattle.diy_words.specs.Requests.{Task, asked_of}
 use Rattle.diy_tools.specs.declared.status.Status.{Status}
 use Rattle.diy_tools.specs.declared.status.Status.TheVariants.{BadText, NoMemory}
-use Rattle.diy_tools.specs.Devices.{Devices, Seen, devices}
+use Rattle.diy_tools.specs.Devices.{Devices, DevicesSeen, devices}
 use Rattle.diy_tools.specs.Memory.{MayWantMemory}
 
 -- more than 2^40 bytes were taken: of the input, as far as they are counted, or of the last file that was opened since
@@ -22,5 +22,5 @@ StopsReading asked NoMemory = MayWantMemory asked
 StopsReading asked _ = ⊥
 
 -- after more than 2^40 bytes a call says that there are too many, or gives an earlier fault of theirs, or wants memory
-abbrev pub Limited : List (List ℕ) → Status → Seen → Seen → Type 0
+abbrev pub Limited : List (List ℕ) → Status → DevicesSeen → DevicesSeen → Type 0
 Limited words status old new = TookTooMuch (devices old) (devices new) → StopsReading (asked_of words) status

@@ -5,10 +5,10 @@ use Rattle.diy_io.specs.Shelf.{ShelfSeen}
 use Rattle.diy_io.specs.Wrote.{SinkSeen}
 use Rattle.diy_words.specs.Requests.{ListTask}
 use Rattle.listed_tests.specs.declared.ending.ListingEnd.{ListingEnd}
-use Rattle.listed_tests.specs.Ends.{EndsListing}
+use Rattle.listed_tests.specs.ListingEnds.{EndsListing}
 use Rattle.listed_tests.specs.Plans.{Plan}
 use Rattle.diy_tools.specs.declared.status.Status.{Status}
-use Rattle.diy_tools.specs.Machines.{machine_of}
+use Rattle.diy_tools.specs.ArchMachines.{machine_of}
 use Rattle.diy_tools.specs.Statuses.{listing_status}
 
 -- the plan of a listing that words ask for

@@ -12,7 +12,7 @@ use Rattle.diy_words.specs.declared.usage.UsageKind.TheVariants.{UnknownName}
 use Rattle.diy_words.specs.Requests.{Sought, OfEdges, OfName, OfLines}
 use Rattle.diy_tools.specs.declared.status.Status.{Status}
 use Rattle.diy_tools.specs.declared.status.Status.TheVariants.{Usage}
-use Rattle.diy_tools.specs.Printing.{AnswersEdges, Prints}
+use Rattle.diy_tools.specs.PrintAnswers.{AnswersEdges, Prints}
 use Rattle.diy_tools.specs.Refused.{refused_list}
 use Rattle.diy_tools.specs.Statuses.{norm_status}
 

@@ -3,7 +3,7 @@
 use Rattle.std.specs.Prelude.{ℕ, ⊤, ◌<◌, ◌⊎◌, List, [], ◌++◌, codes, slice_get, unwrap_or, Option, Some, None}
 use Rattle.std.specs.Fmt.{decimal}
 use Rattle.relax_edges.specs.declared.TheConstants.{MAX_EDGES}
-use Rattle.arch_trait.specs.Names.{location_name}
+use Rattle.arch_trait.specs.PlaceNames.{location_name}
 use Rattle.diy_io.specs.Wrote.{SinkSeen, WroteAll, WrotePart}
 use Rattle.cycle_lines.specs.declared.errors.LineKind.{LineKind}
 use Rattle.cycle_lines.specs.declared.errors.LineKind.TheVariants as lines
@@ -97,16 +97,16 @@ log_text logs.KindDiffers = codes "KindDiffers"
 log_text logs.LineTooLong = codes "LineTooLong"
 
 -- the name of what is wrong with a line of a test
-abbrev pub test_text : TestKind → List ℕ
-test_text tests.BadHeader = codes "BadHeader"
-test_text tests.BadQuote = codes "BadQuote"
-test_text tests.BadInit = codes "BadInit"
-test_text tests.BadTable = codes "BadTable"
-test_text tests.BadInstruction = codes "BadInstruction"
-test_text tests.BadLabel = codes "BadLabel"
-test_text tests.BadCondition = codes "BadCondition"
-test_text tests.TooLarge = codes "TooLarge"
-test_text tests.EndMissing = codes "EndMissing"
+abbrev pub test_kind_text : TestKind → List ℕ
+test_kind_text tests.BadHeader = codes "BadHeader"
+test_kind_text tests.BadQuote = codes "BadQuote"
+test_kind_text tests.BadInit = codes "BadInit"
+test_kind_text tests.BadTable = codes "BadTable"
+test_kind_text tests.BadInstruction = codes "BadInstruction"
+test_kind_text tests.BadLabel = codes "BadLabel"
+test_kind_text tests.BadCondition = codes "BadCondition"
+test_kind_text tests.TooLarge = codes "TooLarge"
+test_kind_text tests.EndMissing = codes "EndMissing"
 
 -- the name of what is wrong with a line of an execution
 abbrev pub exec_text : ExecKind → List ℕ
@@ -122,7 +122,7 @@ exec_text executions.TooLarge = codes "TooLarge"
 abbrev pub kind_text : TextKind → List ℕ
 kind_text (texts.Line kind) = line_text kind
 kind_text (texts.Log kind) = log_text kind
-kind_text (texts.Test kind) = test_text kind
+kind_text (texts.Test kind) = test_kind_text kind
 kind_text (texts.Exec kind) = exec_text kind
 kind_text texts.WrongArch = codes "WrongArch"
 kind_text texts.NoCycle = codes "NoCycle"
@@ -183,6 +183,6 @@ RefusesLocation (refusals.NeedsObserver location _) = location < MAX_EDGES
 RefusesLocation _ = ⊤
 
 -- a status names no location, or one that a test can have
-abbrev pub NamesLocation : Status → Type 0
-NamesLocation (statuses.Refused refusal) = RefusesLocation refusal
-NamesLocation _ = ⊤
+abbrev pub StatusNamesLocation : Status → Type 0
+StatusNamesLocation (statuses.Refused refusal) = RefusesLocation refusal
+StatusNamesLocation _ = ⊤

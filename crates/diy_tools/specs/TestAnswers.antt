@@ -2,14 +2,14 @@
 -- Source: own.
 use Rattle.std.specs.Prelude.{ℕ, List, Option, Some, None}
 use Rattle.relax_edges.specs.declared.edge.Edge.{Edge}
-use Rattle.cycle_names.specs.Names.{name_of}
+use Rattle.cycle_names.specs.CycleNames.{name_of}
 use Rattle.diy_io.specs.Wrote.{SinkSeen}
 use Rattle.diy_words.specs.Requests.{TestTask}
 use Rattle.test_maker.specs.CycleText.{cycle_text}
 use Rattle.diy_tools.specs.declared.status.Status.{Status}
 use Rattle.diy_tools.specs.declared.status.Refusal.{Refusal}
-use Rattle.diy_tools.specs.Machines.{machine_of}
-use Rattle.diy_tools.specs.Printing.{AnswersEdges}
+use Rattle.diy_tools.specs.ArchMachines.{machine_of}
+use Rattle.diy_tools.specs.PrintAnswers.{AnswersEdges}
 use Rattle.diy_tools.specs.Refused.{refused_of}
 
 -- the name of a test: the one that is given, or else that of its cycle

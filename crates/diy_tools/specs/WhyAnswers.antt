@@ -10,9 +10,9 @@ use Rattle.diy_io.specs.Shelf.{ShelfSeen}
 use Rattle.diy_io.specs.Wrote.{SinkSeen, WroteAll, WrotePart}
 use Rattle.diy_words.specs.Requests.{WhyTask}
 use Rattle.execution_text.specs.Written.{text_of_execution}
-use Rattle.listed_tests.specs.Files.{path_of, stem_named}
-use Rattle.listed_tests.specs.Given.{PutUpTo}
-use Rattle.listed_tests.specs.Putting.{Put}
+use Rattle.listed_tests.specs.ListedFiles.{path_of, stem_named}
+use Rattle.listed_tests.specs.GivenCycles.{PutUpTo}
+use Rattle.listed_tests.specs.Putting.{PutFiles}
 use Rattle.litmus_text.specs.TestReading.{TestRead}
 use Rattle.program_meaning.specs.Executions.{Execution}
 use Rattle.test_maker.specs.CycleText.{cycle_text}
@@ -21,7 +21,7 @@ use Rattle.diy_tools.specs.declared.status.Status.{Status}
 use Rattle.diy_tools.specs.declared.status.Status.TheVariants as statuses
 use Rattle.diy_tools.specs.declared.status.Refusal.{Refusal}
 use Rattle.diy_tools.specs.declared.status.Device.TheVariants.{Out, Shelf}
-use Rattle.diy_tools.specs.Machines.{Machine, machine_of}
+use Rattle.diy_tools.specs.ArchMachines.{Machine, machine_of}
 use Rattle.diy_tools.specs.Refused.{refused_list, refused_showing}
 use Rattle.diy_tools.specs.TestAnswers.{test_name}
 
@@ -41,8 +41,8 @@ why_line name = codes "Two executions of " ++ name ++ codes "\n"
 -- files are written on the shelf, and then a line is written: both whole; or a prefix of the line, where standard output failed; or the
 -- files up to one, where the shelf failed
 abbrev pub WritesFiles : List (List ℕ × List ℕ) → List ℕ → Status → ShelfSeen → ShelfSeen → SinkSeen → SinkSeen → Type 0
-WritesFiles files line statuses.Done old new before after = Put old new files × WroteAll before after line
-WritesFiles files line (statuses.WriteFault Out) old new before after = Put old new files × WrotePart before after line
+WritesFiles files line statuses.Done old new before after = PutFiles old new files × WroteAll before after line
+WritesFiles files line (statuses.WriteFault Out) old new before after = PutFiles old new files × WrotePart before after line
 WritesFiles files line (statuses.WriteFault Shelf) old new before after = PutUpTo old new files × (after ≡ before)
 WritesFiles files line _ old new before after = ⊥
 
@@ -64,11 +64,11 @@ AnswersRuns m folder name None edges status old new before after =
     ((status ≡ statuses.NoMemory) × (new ≡ old) × (after ≡ before)) ⊎ WritesRuns m folder name edges status old new before after
 
 -- the first reason why nothing is written of the edges that words name
-abbrev pub unshown : WhyTask → Option Refusal
-unshown asked =
+abbrev pub why_unshown : WhyTask → Option Refusal
+why_unshown asked =
     let a = (machine_of asked.arch).puts in
     option_or (refused_list a.name asked.edges) (refused_showing (why_refused a asked.edges))
 
 -- the answer for what words ask for
 abbrev pub AnswersWhy : WhyTask → Status → ShelfSeen → ShelfSeen → SinkSeen → SinkSeen → Type 0
-AnswersWhy asked = AnswersRuns (machine_of asked.arch) asked.folder (test_name asked.name asked.edges) (unshown asked) asked.edges
+AnswersWhy asked = AnswersRuns (machine_of asked.arch) asked.folder (test_name asked.name asked.edges) (why_unshown asked) asked.edges

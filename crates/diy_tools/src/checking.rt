@@ -1,8 +1,8 @@
 ghost use Rattle.std.specs.Prelude.{◌≡◌, ◌<◌, length};
 ghost use Rattle.diy_io.specs.Shelf.{Idle};
 ghost use Rattle.diy_tools.specs.CheckAnswers.{check_status, checked_kind};
-ghost use Rattle.diy_tools.specs.Kept.{CheckEndsFor, ChecksFor};
-ghost use Rattle.diy_tools.specs.Report.{NamesLocation};
+ghost use Rattle.diy_tools.specs.KeptRequests.{CheckEndsFor, ChecksFor};
+ghost use Rattle.diy_tools.specs.Report.{StatusNamesLocation};
 
 use crate::status::{Device, Status, TextKind};
 use arch_aarch64::A64;
@@ -28,7 +28,7 @@ pub(crate) fn check<H: Shelf, O: Sink>(
     requires execution { request.execution < length words.now }
     ensures answers { ChecksFor words.now request result (H.seen shelf.old) (H.seen shelf.new) (O.seen out.old) (O.seen out.new) }
     ensures idle { (H.seen shelf.new).mode ≡ Idle }
-    ensures location { NamesLocation result }
+    ensures location { StatusNamesLocation result }
 {
     check_end(check_on(alloc, words, request, shelf, out))
 }
@@ -63,7 +63,7 @@ fn check_on<H: Shelf, O: Sink>(
 
 fn check_end(end: CheckEnd) -> Status
     ensures status { result ≡ check_status end }
-    ensures location { NamesLocation result }
+    ensures location { StatusNamesLocation result }
 {
     match end {
         CheckEnd::Done => Status::Done,

@@ -1,11 +1,11 @@
 ghost use Rattle.std.specs.Prelude.{◌≡◌, ◌≤◌, Ok, length};
 ghost use Rattle.std.specs.Option.{ForSome};
 ghost use Rattle.diy_io.specs.Shelf.{Idle};
-ghost use Rattle.diy_words.specs.Given.{Gives, HasForm};
+ghost use Rattle.diy_words.specs.Given.{GivesTask, HasForm};
 ghost use Rattle.diy_words.specs.Requests.{asked_of};
 ghost use Rattle.diy_words.specs.declared.request.Request.TheVariants as requests;
-ghost use Rattle.diy_tools.specs.Kept.{AnswersCrossing, CrossesFor, CrossesOn};
-ghost use Rattle.diy_tools.specs.Report.{NamesLocation};
+ghost use Rattle.diy_tools.specs.KeptRequests.{AnswersCrossing, CrossesFor, CrossesOn};
+ghost use Rattle.diy_tools.specs.Report.{StatusNamesLocation};
 
 use crate::listing::listing_status;
 use crate::status::Status;
@@ -31,10 +31,10 @@ pub(crate) fn cross<H: Shelf, O: Sink>(
     out: &mut O,
 ) -> Status
     requires idle { (H.seen shelf.old).mode ≡ Idle }
-    requires given { Gives (Ok (requests.Cross request)) (asked_of words.now) }
+    requires given { GivesTask (Ok (requests.Cross request)) (asked_of words.now) }
     requires form { HasForm (requests.Cross request) }
     ensures answers { AnswersCrossing (asked_of words.now) result (H.seen shelf.old) (H.seen shelf.new) (O.seen out.old) (O.seen out.new) }
-    ensures location { NamesLocation result }
+    ensures location { StatusNamesLocation result }
 {
     match read_places(alloc, words) {
         Ok(places) => cross_places(alloc, request, places.as_slice(), shelf, out),
@@ -54,7 +54,7 @@ fn cross_places<H: Shelf, O: Sink>(
     requires idle { (H.seen shelf.old).mode ≡ Idle }
     requires form { HasForm (requests.Cross request) }
     ensures answers { CrossesFor request.entry places.now result (H.seen shelf.old) (H.seen shelf.new) (O.seen out.old) (O.seen out.new) }
-    ensures location { NamesLocation result }
+    ensures location { StatusNamesLocation result }
 {
     let Cross { arch, mode, folder } = request;
     match arch {
@@ -79,7 +79,7 @@ fn cross_on<A: Arch, H: Shelf, O: Sink>(
     requires idle { (H.seen shelf.old).mode ≡ Idle }
     requires folder { ForSome folder (λ folder. length folder.now ≤ MAX_FOLDER) }
     ensures answers { CrossesOn A.puts A.writing mode folder.entry places.now result (H.seen shelf.old) (H.seen shelf.new) (O.seen out.old) (O.seen out.new) }
-    ensures location { NamesLocation result }
+    ensures location { StatusNamesLocation result }
 {
     match crossed_cycles::<A>(alloc, places, mode) {
         Ok(cycles) => listing_status(put_cycles::<A, H, O>(

@@ -2,9 +2,9 @@ ghost use Rattle.std.specs.Prelude.{◌≡◌};
 ghost use Rattle.diy_words.specs.Given.{HasForm};
 ghost use Rattle.diy_words.specs.declared.request.Request.TheVariants as requests;
 ghost use Rattle.diy_tools.specs.DemoAnswers.{demo_on};
-ghost use Rattle.diy_tools.specs.Machines.{machine_of};
-ghost use Rattle.diy_tools.specs.Printing.{Prints};
-ghost use Rattle.diy_tools.specs.Report.{NamesLocation};
+ghost use Rattle.diy_tools.specs.ArchMachines.{machine_of};
+ghost use Rattle.diy_tools.specs.PrintAnswers.{Prints};
+ghost use Rattle.diy_tools.specs.Report.{StatusNamesLocation};
 
 use crate::status::{Device, Status};
 use arch_aarch64::A64;
@@ -22,7 +22,7 @@ use relax_edges::ArchName;
 pub(crate) fn demo<O: Sink>(request: &Demo, out: &mut O) -> Status
     requires form { HasForm (requests.Demo request.now) }
     ensures prints { Prints (demo_on (machine_of request.now.arch) request.now.count) result (O.seen out.old) (O.seen out.new) }
-    ensures location { NamesLocation result }
+    ensures location { StatusNamesLocation result }
 {
     families_have_tests();
     let printed = match request.arch {

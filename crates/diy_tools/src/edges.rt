@@ -1,6 +1,6 @@
 ghost use Rattle.std.specs.Prelude.{◌≤◌, length, IfErr};
 ghost use Rattle.edge_algebra.specs.Compose.{composed};
-ghost use Rattle.diy_tools.specs.Kept.{MakesCycle, edges_kept, refused_edges};
+ghost use Rattle.diy_tools.specs.KeptRequests.{MakesCycle, edges_kept, refused_edges};
 ghost use Rattle.diy_tools.specs.Refused.{refused_list, refused_composing};
 ghost use Rattle.diy_tools.specs.Report.{RefusesLocation};
 

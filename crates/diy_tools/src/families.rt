@@ -2,13 +2,13 @@ ghost use Rattle.std.specs.Prelude.{◌≡◌, ◌<◌, Ok, length};
 ghost use Rattle.std.specs.List.{All};
 ghost use Rattle.diy_io.specs.Shelf.{Idle};
 ghost use Rattle.classified_files.specs.FilesEnds.{FilesClassified};
-ghost use Rattle.diy_words.specs.Given.{Gives};
+ghost use Rattle.diy_words.specs.Given.{GivesTask};
 ghost use Rattle.diy_words.specs.Requests.{asked_of};
 ghost use Rattle.diy_words.specs.declared.request.Request.TheVariants as requests;
 ghost use Rattle.diy_tools.specs.Answers.{Answers};
 ghost use Rattle.diy_tools.specs.FamilyAnswers.{AnswersFamilies, file_kind, files_status, read_on};
-ghost use Rattle.diy_tools.specs.Kept.{ClassifiesFiles};
-ghost use Rattle.diy_tools.specs.Report.{NamesLocation};
+ghost use Rattle.diy_tools.specs.KeptRequests.{ClassifiesNamedFiles};
+ghost use Rattle.diy_tools.specs.Report.{StatusNamesLocation};
 ghost use Rattle.diy_tools.specs.Statuses.{classify_status};
 
 use crate::naming::lines_status;
@@ -36,10 +36,10 @@ pub(crate) fn families<I: Source, O: Sink, H: Shelf>(
     out: &mut O,
 ) -> Status
     requires idle { (H.seen shelf.old).mode ≡ Idle }
-    requires given { Gives (Ok (requests.Families arch)) (asked_of words.now) }
+    requires given { GivesTask (Ok (requests.Families arch)) (asked_of words.now) }
     ensures answers { Answers words.now result (I.seen input.old, O.seen out.old, H.seen shelf.old) (I.seen input.new, O.seen out.new, H.seen shelf.new) }
     ensures idle { (H.seen shelf.new).mode ≡ Idle }
-    ensures location { NamesLocation result }
+    ensures location { StatusNamesLocation result }
 {
     let files = match read_files(alloc, words) {
         Ok(files) => files,
@@ -56,14 +56,14 @@ pub(crate) fn families<I: Source, O: Sink, H: Shelf>(
 #[inline(never)]
 fn of_lines<I: Source, O: Sink>(alloc: Global, arch: ArchName, input: &mut I, out: &mut O) -> Status
     ensures answers { AnswersFamilies arch result (I.seen input.old) (I.seen input.new) (O.seen out.old) (O.seen out.new) }
-    ensures location { NamesLocation result }
+    ensures location { StatusNamesLocation result }
 {
     lines_end(classify_lines(alloc, arch, input, out))
 }
 
 fn lines_end(end: Result<(), ClassifyError>) -> Status
     ensures status { result ≡ classify_status end }
-    ensures location { NamesLocation result }
+    ensures location { StatusNamesLocation result }
 {
     match end {
         Ok(()) => Status::Done,
@@ -84,9 +84,9 @@ fn of_files<H: Shelf, O: Sink>(
 ) -> Status
     requires idle { (H.seen shelf.old).mode ≡ Idle }
     requires within { All (λ place. place < length words.now) files.now }
-    ensures answers { ClassifiesFiles words.now arch files.now result (H.seen shelf.old) (H.seen shelf.new) (O.seen out.old) (O.seen out.new) }
+    ensures answers { ClassifiesNamedFiles words.now arch files.now result (H.seen shelf.old) (H.seen shelf.new) (O.seen out.old) (O.seen out.new) }
     ensures idle { (H.seen shelf.new).mode ≡ Idle }
-    ensures location { NamesLocation result }
+    ensures location { StatusNamesLocation result }
 {
     files_end(classify_on(alloc, words, arch, files, shelf, out))
 }
@@ -116,7 +116,7 @@ fn classify_on<H: Shelf, O: Sink>(
 
 fn files_end(end: FilesEnd) -> Status
     ensures status { result ≡ files_status end }
-    ensures location { NamesLocation result }
+    ensures location { StatusNamesLocation result }
 {
     match end {
         FilesEnd::Done => Status::Done,

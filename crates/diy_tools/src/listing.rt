@@ -5,9 +5,9 @@ ghost use Rattle.diy_io.specs.Shelf.{Idle};
 ghost use Rattle.diy_words.specs.Given.{HasForm, list_kept};
 ghost use Rattle.diy_words.specs.declared.request.Request.TheVariants.{List};
 ghost use Rattle.diy_tools.specs.ListAnswers.{AnswersList};
-ghost use Rattle.diy_tools.specs.Kept.{EndsOn};
-ghost use Rattle.diy_tools.specs.Machines.{machine_of};
-ghost use Rattle.diy_tools.specs.Report.{NamesLocation};
+ghost use Rattle.diy_tools.specs.KeptRequests.{EndsOn};
+ghost use Rattle.diy_tools.specs.ArchMachines.{machine_of};
+ghost use Rattle.diy_tools.specs.Report.{StatusNamesLocation};
 ghost use Rattle.diy_tools.specs.Statuses.{listing_status};
 
 use crate::status::{Device, Status};
@@ -26,7 +26,7 @@ pub(crate) fn list<H: Shelf, O: Sink>(request: Diy, shelf: &mut H, out: &mut O) 
     requires idle { (H.seen shelf.old).mode ≡ Idle }
     requires form { HasForm (List request) }
     ensures answers { AnswersList (list_kept request.entry) result (H.seen shelf.old) (H.seen shelf.new) (O.seen out.old) (O.seen out.new) }
-    ensures location { NamesLocation result }
+    ensures location { StatusNamesLocation result }
 {
     let Diy {
         arch,
@@ -74,7 +74,7 @@ fn list_on<H: Shelf, O: Sink>(
 
 pub(crate) fn listing_status(end: ListingEnd) -> Status
     ensures status { result ≡ listing_status end }
-    ensures location { NamesLocation result }
+    ensures location { StatusNamesLocation result }
 {
     match end {
         ListingEnd::Done => Status::Done,

@@ -1,9 +1,9 @@
 ghost use Rattle.std.specs.Prelude.{◌≡◌};
 ghost use Rattle.cycle_lines.specs.Normed.{Norms, name_line};
-ghost use Rattle.diy_tools.specs.Printing.{AnswersEdges, Prints};
+ghost use Rattle.diy_tools.specs.PrintAnswers.{AnswersEdges, Prints};
 ghost use Rattle.diy_tools.specs.NameAnswers.{AnswersLines, AnswersName};
-ghost use Rattle.diy_tools.specs.Kept.{AnswersKept, edges_kept, refused_edges};
-ghost use Rattle.diy_tools.specs.Report.{NamesLocation};
+ghost use Rattle.diy_tools.specs.KeptRequests.{AnswersKept, edges_kept, refused_edges};
+ghost use Rattle.diy_tools.specs.Report.{StatusNamesLocation};
 ghost use Rattle.diy_tools.specs.Statuses.{lines_status, norm_status};
 
 use crate::edges::cycle_of_edges;
@@ -20,7 +20,7 @@ use relax_edges::ArchName;
 #[inline(never)]
 pub(crate) fn norm<I: Source, O: Sink>(request: &Norm, input: &mut I, out: &mut O) -> Status
     ensures answers { AnswersKept request.now.arch request.now.cycle result (I.seen input.old) (I.seen input.new) (O.seen out.old) (O.seen out.new) }
-    ensures location { NamesLocation result }
+    ensures location { StatusNamesLocation result }
 {
     match &request.cycle {
         Sought::Edges(list) => norm_edges(list, request.arch, out),
@@ -31,7 +31,7 @@ pub(crate) fn norm<I: Source, O: Sink>(request: &Norm, input: &mut I, out: &mut 
 
 fn norm_edges<O: Sink>(list: &EdgeList, arch: ArchName, out: &mut O) -> Status
     ensures answers { AnswersEdges (refused_edges arch list.now) (name_line (edges_kept list.now)) result (O.seen out.old) (O.seen out.new) }
-    ensures location { NamesLocation result }
+    ensures location { StatusNamesLocation result }
 {
     match cycle_of_edges(list, arch) {
         Err(refusal) => Status::Refused(refusal),
@@ -41,7 +41,7 @@ fn norm_edges<O: Sink>(list: &EdgeList, arch: ArchName, out: &mut O) -> Status
 
 fn norm_named<O: Sink>(named: Named, arch: ArchName, out: &mut O) -> Status
     ensures answers { AnswersName arch named.entry.word named.entry.name.now result (O.seen out.old) (O.seen out.new) }
-    ensures location { NamesLocation result }
+    ensures location { StatusNamesLocation result }
 {
     match cycle_of(named.name, arch) {
         Ok(cycle) => print_line(&cycle, out),
@@ -55,7 +55,7 @@ fn norm_named<O: Sink>(named: Named, arch: ArchName, out: &mut O) -> Status
 /// Prints the line of a cycle: its name, and its edges in the rotation that it is named from.
 fn print_line<O: Sink>(cycle: &Cycle, out: &mut O) -> Status
     ensures prints { Prints (name_line cycle.now) result (O.seen out.old) (O.seen out.new) }
-    ensures location { NamesLocation result }
+    ensures location { StatusNamesLocation result }
 {
     match write_name_line(cycle, out) {
         Ok(()) => Status::Done,
@@ -66,14 +66,14 @@ fn print_line<O: Sink>(cycle: &Cycle, out: &mut O) -> Status
 /// Prints the names of the cycles of the input's lines, and their edges.
 fn norm_input<I: Source, O: Sink>(arch: ArchName, input: &mut I, out: &mut O) -> Status
     ensures answers { AnswersLines arch result (I.seen input.old) (I.seen input.new) (O.seen out.old) (O.seen out.new) }
-    ensures location { NamesLocation result }
+    ensures location { StatusNamesLocation result }
 {
     norm_status(norm_lines(arch, input, out))
 }
 
 fn norm_status(end: Result<(), NormError>) -> Status
     ensures status { result ≡ norm_status end }
-    ensures location { NamesLocation result }
+    ensures location { StatusNamesLocation result }
 {
     match end {
         Ok(()) => Status::Done,
@@ -85,7 +85,7 @@ fn norm_status(end: Result<(), NormError>) -> Status
 /// The status where the lines of the input weren't read to its end.
 pub(crate) fn lines_status(error: LinesError) -> Status
     ensures status { result ≡ lines_status error }
-    ensures location { NamesLocation result }
+    ensures location { StatusNamesLocation result }
 {
     match error {
         LinesError::Wrong { line, kind } => Status::BadText {

@@ -4,7 +4,7 @@ ghost use Rattle.relax_edges.specs.declared.TheConstants.{MAX_EDGES};
 ghost use Rattle.diy_io.specs.Page.{Sends};
 ghost use Rattle.diy_io.specs.Wrote.{Wrote};
 ghost use Rattle.diy_tools.specs.declared.status.Refusal.TheVariants as refusals;
-ghost use Rattle.diy_tools.specs.Report.{status_line, refusal_line, refusal_text, usage_line, usage_text, line_text, log_text, test_text, exec_text, kind_text, word_at, file_text, shown_word, device_text, NamesLocation, RefusesLocation, text_line};
+ghost use Rattle.diy_tools.specs.Report.{status_line, refusal_line, refusal_text, usage_line, usage_text, line_text, log_text, test_kind_text, exec_text, kind_text, word_at, file_text, shown_word, device_text, StatusNamesLocation, RefusesLocation, text_line};
 
 use crate::status::{Device, Refusal, Status, TextKind};
 use arch_trait::Places;
@@ -19,7 +19,7 @@ use log_sum::LogKind;
 /// Writes the line of a status, where it has one.
 #[inline(never)]
 pub(crate) fn report<E: Sink>(status: Status, words: &Words, err: &mut E) -> Result<(), Failed>
-    requires { NamesLocation status }
+    requires { StatusNamesLocation status }
     ensures { Wrote (E.seen err.old) (E.seen err.new) (status_line words.now status) result }
 {
     if let Status::Done = status {
@@ -37,7 +37,7 @@ fn send_line<E: Sink>(
     page: &mut Page,
     err: &mut E,
 ) -> Result<(), Failed>
-    requires { NamesLocation status }
+    requires { StatusNamesLocation status }
     ensures { Sends (E.seen err.old) page.old (E.seen err.new) page.new (status_line words.now status) result }
 {
     match status {
@@ -156,7 +156,7 @@ fn log_name(kind: LogKind) -> &'static [u8]
 }
 
 fn test_name(kind: TestKind) -> &'static [u8]
-    ensures { result.now ≡ test_text kind }
+    ensures { result.now ≡ test_kind_text kind }
 {
     match kind {
         TestKind::BadHeader => b"BadHeader",

@@ -1,8 +1,8 @@
 ghost use Rattle.std.specs.Prelude.{◌≡◌, ◌<◌, length};
 ghost use Rattle.diy_io.specs.Shelf.{Idle};
-ghost use Rattle.diy_tools.specs.Report.{NamesLocation};
+ghost use Rattle.diy_tools.specs.Report.{StatusNamesLocation};
 ghost use Rattle.diy_tools.specs.SumAnswers.{sum_status};
-ghost use Rattle.diy_tools.specs.Kept.{AnswersSumOf, SumsFiles, SumsInput};
+ghost use Rattle.diy_tools.specs.KeptRequests.{AnswersSumOf, SumsFiles, SumsInput};
 
 use crate::status::{Device, Status, TextKind};
 use diy_io::{Shelf, Sink, Source, Words};
@@ -22,7 +22,7 @@ pub(crate) fn sum<I: Source, O: Sink, H: Shelf>(
     requires { (H.seen shelf.old).mode ≡ Idle }
     ensures answers { AnswersSumOf words.now result (I.seen input.old, O.seen out.old, H.seen shelf.old) (I.seen input.new, O.seen out.new, H.seen shelf.new) }
     ensures idle { (H.seen shelf.new).mode ≡ Idle }
-    ensures location { NamesLocation result }
+    ensures location { StatusNamesLocation result }
 {
     if words.len() > 1 {
         sum_logs(alloc, words, shelf, out)
@@ -37,7 +37,7 @@ fn sum_logs<H: Shelf, O: Sink>(alloc: Global, words: &Words, shelf: &mut H, out:
     requires some { 1 < length words.now }
     ensures sums { SumsFiles words.now result (H.seen shelf.old) (H.seen shelf.new) (O.seen out.old) (O.seen out.new) }
     ensures idle { (H.seen shelf.new).mode ≡ Idle }
-    ensures location { NamesLocation result }
+    ensures location { StatusNamesLocation result }
 {
     sum_status(sum_files(alloc, words, 1, shelf, out))
 }
@@ -45,14 +45,14 @@ fn sum_logs<H: Shelf, O: Sink>(alloc: Global, words: &Words, shelf: &mut H, out:
 /// Sums the input.
 fn sum_one<I: Source, O: Sink>(alloc: Global, input: &mut I, out: &mut O) -> Status
     ensures sums { SumsInput result (I.seen input.old) (I.seen input.new) (O.seen out.old) (O.seen out.new) }
-    ensures location { NamesLocation result }
+    ensures location { StatusNamesLocation result }
 {
     sum_status(sum_input(alloc, input, out))
 }
 
 fn sum_status(end: SumEnd) -> Status
     ensures status { result ≡ sum_status end }
-    ensures location { NamesLocation result }
+    ensures location { StatusNamesLocation result }
 {
     match end {
         SumEnd::Done => Status::Done,

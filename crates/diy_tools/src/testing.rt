@@ -2,10 +2,10 @@ ghost use Rattle.std.specs.Prelude.{OnOk, IfErr};
 ghost use Rattle.litmus_text.specs.Tests.{test_seen};
 ghost use Rattle.litmus_text.specs.TestText.{test_text};
 ghost use Rattle.test_maker.specs.Made.{CanPrint};
-ghost use Rattle.diy_tools.specs.Printing.{Prints};
-ghost use Rattle.diy_tools.specs.Kept.{AnswersCycle, AnswersOne, MakesCycle, MakesTestOf, chosen_name, edges_kept, refused_edges};
-ghost use Rattle.diy_tools.specs.Machines.{machine, machine_of};
-ghost use Rattle.diy_tools.specs.Report.{NamesLocation, RefusesLocation};
+ghost use Rattle.diy_tools.specs.PrintAnswers.{Prints};
+ghost use Rattle.diy_tools.specs.KeptRequests.{AnswersCycle, AnswersOne, MakesCycle, MakesTestOf, chosen_name, edges_kept, refused_edges};
+ghost use Rattle.diy_tools.specs.ArchMachines.{machine, machine_of};
+ghost use Rattle.diy_tools.specs.Report.{StatusNamesLocation, RefusesLocation};
 
 use crate::edges::cycle_of_edges;
 use crate::status::{Device, Refusal, Status};
@@ -28,7 +28,7 @@ use test_maker::make_into;
 /// Prints the test that is asked for.
 pub(crate) fn diyone<O: Sink>(request: &DiyOne, out: &mut O) -> Status
     ensures answers { AnswersOne (machine_of request.now.arch) request.now result (O.seen out.old) (O.seen out.new) }
-    ensures location { NamesLocation result }
+    ensures location { StatusNamesLocation result }
 {
     match request.arch {
         ArchName::X86 => diyone_on::<X86, O>(request, out),
@@ -42,7 +42,7 @@ pub(crate) fn diyone<O: Sink>(request: &DiyOne, out: &mut O) -> Status
 #[inline(never)]
 fn diyone_on<A: Arch, O: Sink>(request: &DiyOne, out: &mut O) -> Status
     ensures answers { AnswersOne (machine A.puts A.writing) request.now result (O.seen out.old) (O.seen out.new) }
-    ensures location { NamesLocation result }
+    ensures location { StatusNamesLocation result }
 {
     match cycle_on::<A>(&request.edges) {
         Err(refusal) => Status::Refused(refusal),
@@ -68,7 +68,7 @@ fn answer_cycle<A: Arch, O: Sink>(
     out: &mut O,
 ) -> Status
     ensures answers { AnswersCycle (machine A.puts A.writing) mode name.now cycle.now result (O.seen out.old) (O.seen out.new) }
-    ensures location { NamesLocation result }
+    ensures location { StatusNamesLocation result }
 {
     // It is written out here, and not made by a call of `Test::new`: so the program clears it once where it
     // is, and copies nothing of its 125 KB.
@@ -105,7 +105,7 @@ fn print_named<A: Arch, O: Sink>(
 ) -> Status
     requires { CanPrint A.puts A.REGISTERS test.now }
     ensures prints { Prints (test_text A.puts.name A.writing (chosen_name name.now cycle.now) (test_seen test.now)) result (O.seen out.old) (O.seen out.new) }
-    ensures location { NamesLocation result }
+    ensures location { StatusNamesLocation result }
 {
     match name {
         Some(name) => print::<A, O>(test, name.as_str(), out),
@@ -121,7 +121,7 @@ fn print_named<A: Arch, O: Sink>(
 fn print<A: Arch, O: Sink>(test: &Test, name: &str, out: &mut O) -> Status
     requires { CanPrint A.puts A.REGISTERS test.now }
     ensures prints { Prints (test_text A.puts.name A.writing name.now (test_seen test.now)) result (O.seen out.old) (O.seen out.new) }
-    ensures location { NamesLocation result }
+    ensures location { StatusNamesLocation result }
 {
     match print_test::<A, O>(test, name, out) {
         Ok(()) => Status::Done,

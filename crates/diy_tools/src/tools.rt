@@ -6,7 +6,7 @@ ghost use Rattle.diy_tools.specs.Complete.{Complete};
 ghost use Rattle.diy_tools.specs.Headline.{Headline};
 ghost use Rattle.diy_tools.specs.Limit.{Limited};
 ghost use Rattle.diy_tools.specs.Memory.{NeverWantsMemory};
-ghost use Rattle.diy_tools.specs.Report.{TakesLine, status_line, NamesLocation};
+ghost use Rattle.diy_tools.specs.Report.{TakesLine, status_line, StatusNamesLocation};
 
 use crate::checking::check;
 use crate::crossing::cross;
@@ -73,7 +73,7 @@ fn answer<I: Source, O: Sink, H: Shelf>(
     requires { (H.seen shelf.old).mode ≡ Idle }
     ensures answers { Answers words.now result (I.seen input.old, O.seen out.old, H.seen shelf.old) (I.seen input.new, O.seen out.new, H.seen shelf.new) }
     ensures idle { (H.seen shelf.new).mode ≡ Idle }
-    ensures location { NamesLocation result }
+    ensures location { StatusNamesLocation result }
 {
     match read_request(words) {
         Err(usage) => Status::Usage {

@@ -6,10 +6,10 @@ ghost use Rattle.diy_words.specs.declared.request.Request.TheVariants as request
 ghost use Rattle.diy_io.specs.Page.{Sends};
 ghost use Rattle.diy_io.specs.Wrote.{Wrote};
 ghost use Rattle.litmus_text.specs.Printable.{IsTestName};
-ghost use Rattle.diy_tools.specs.Kept.{AnswersShowing, PutsRuns, ShowsOn, WritesRunsOf};
-ghost use Rattle.diy_tools.specs.Machines.{machine, machine_of};
-ghost use Rattle.diy_tools.specs.Printing.{Prints};
-ghost use Rattle.diy_tools.specs.Report.{NamesLocation};
+ghost use Rattle.diy_tools.specs.KeptRequests.{AnswersShowing, PutsRuns, ShowsOn, WritesRunsOf};
+ghost use Rattle.diy_tools.specs.ArchMachines.{machine, machine_of};
+ghost use Rattle.diy_tools.specs.PrintAnswers.{Prints};
+ghost use Rattle.diy_tools.specs.Report.{StatusNamesLocation};
 ghost use Rattle.diy_tools.specs.WhyAnswers.{why_line};
 
 use crate::edges::cycle_of_edges;
@@ -40,7 +40,7 @@ pub(crate) fn why<H: Shelf, O: Sink>(
     requires idle { (H.seen shelf.old).mode ≡ Idle }
     requires form { HasForm (requests.Why request.now) }
     ensures answers { AnswersShowing (machine_of request.now.arch) request.now result (H.seen shelf.old) (H.seen shelf.new) (O.seen out.old) (O.seen out.new) }
-    ensures location { NamesLocation result }
+    ensures location { StatusNamesLocation result }
 {
     match request.arch {
         ArchName::X86 => why_on::<X86, H, O>(alloc, request, shelf, out),
@@ -61,7 +61,7 @@ fn why_on<A: Arch, H: Shelf, O: Sink>(
     requires idle { (H.seen shelf.old).mode ≡ Idle }
     requires form { HasForm (requests.Why request.now) }
     ensures answers { AnswersShowing (machine A.puts A.writing) request.now result (H.seen shelf.old) (H.seen shelf.new) (O.seen out.old) (O.seen out.new) }
-    ensures location { NamesLocation result }
+    ensures location { StatusNamesLocation result }
 {
     let cycle = match cycle_of_edges(&request.edges, A::NAME) {
         Ok(cycle) => cycle,
@@ -98,7 +98,7 @@ fn why_named<A: Arch, H: Shelf, O: Sink>(
     requires named { IsTestName name.now }
     requires folder { ForSome folder (λ folder. length folder.now ≤ MAX_FOLDER) }
     ensures answers { ShowsOn A.puts A.writing folder.entry name.now cycle.now result (H.seen shelf.old) (H.seen shelf.new) (O.seen out.old) (O.seen out.new) }
-    ensures location { NamesLocation result }
+    ensures location { StatusNamesLocation result }
 {
     match two_runs::<A>(alloc, cycle, name) {
         Ok(runs) => write_runs::<A, H, O>(alloc, &runs, name, folder, shelf, out),
@@ -121,7 +121,7 @@ fn write_runs<A: Arch, H: Shelf, O: Sink>(
     requires two { length runs.now.test.places ≡ length runs.now.two.orders }
     requires folder { ForSome folder (λ folder. length folder.now ≤ MAX_FOLDER) }
     ensures written { WritesRunsOf folder.entry name.now runs.now result (H.seen shelf.old) (H.seen shelf.new) (O.seen out.old) (O.seen out.new) }
-    ensures location { NamesLocation result }
+    ensures location { StatusNamesLocation result }
 {
     let places = runs.test.places();
     let one = match write_execution(alloc, &runs.one, places) {
@@ -156,7 +156,7 @@ fn put_runs<'a, H: Shelf, O: Sink>(
     requires idle { (H.seen shelf.old).mode ≡ Idle }
     requires folder { ForSome folder (λ folder. length folder.now ≤ MAX_FOLDER) }
     ensures written { PutsRuns folder.entry name.now text.now one.now two.now result (H.seen shelf.old) (H.seen shelf.new) (O.seen out.old) (O.seen out.new) }
-    ensures location { NamesLocation result }
+    ensures location { StatusNamesLocation result }
 {
     let files = [
         File {
@@ -181,7 +181,7 @@ fn put_runs<'a, H: Shelf, O: Sink>(
 /// Writes the line on the files.
 fn finish_line<O: Sink>(name: &str, out: &mut O) -> Status
     ensures prints { Prints (why_line name.now) result (O.seen out.old) (O.seen out.new) }
-    ensures location { NamesLocation result }
+    ensures location { StatusNamesLocation result }
 {
     match write_line(name, out) {
         Ok(()) => Status::Done,

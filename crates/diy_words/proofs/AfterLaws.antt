@@ -10,13 +10,13 @@ use Rattle.edge_algebra.specs.declared.errors.CycleError.{CycleError}
 use Rattle.edge_algebra.specs.declared.errors.CycleError.TheVariants as errors
 use Rattle.edge_algebra.specs.Compose.{composed}
 use Rattle.edge_lists.specs.declared.list.EdgeList.{EdgeList}
-use Rattle.edge_lists.specs.Kept.{kept, added}
+use Rattle.edge_lists.specs.KeptEdges.{kept_edges, edges_added}
 use Rattle.edge_lists.specs.KeptLaws.{added_whole}
 use Rattle.diy_words.specs.Given.{notes_after, cycle_kept}
 use Rattle.diy_words.specs.declared.usage.Usage.{Usage}
 use Rattle.diy_words.specs.declared.usage.UsageKind.TheVariants.{BadAfter}
 use Rattle.diy_words.specs.Notes.{Notes}
-use Rattle.diy_words.specs.Sayings.{after_said, cycle_said}
+use Rattle.diy_words.specs.Sayings.{after_said, cycle_word_said}
 use Rattle.cycle_laws.specs.Composable.{first_break}
 use Rattle.edge_algebra.specs.Compose.{unbroken}
 
@@ -26,33 +26,33 @@ long_none (e ∷ es) f =
     let t : nat_lt MAX_EDGES (length (e ∷ es)) ≡ true = grind (arith, nat_tests, f) in
     ap (λ b. result_ok (cond b (Err errors.TooLong) (unbroken (e ∷ es) (first_break (let all : List Edge = e ∷ es in all ++ e ∷ []))))) t
 
-kept_cycle : (es : List Edge) → cycle_kept (kept es) ≡ result_ok (composed es)
+kept_cycle : (es : List Edge) → cycle_kept (kept_edges es) ≡ result_ok (composed es)
 kept_cycle es = of_test (nat_le (length es) MAX_EDGES) refl
   where
-    of_test : (b : Bool) → nat_le (length es) MAX_EDGES ≡ b → cycle_kept (kept es) ≡ result_ok (composed es)
+    of_test : (b : Bool) → nat_le (length es) MAX_EDGES ≡ b → cycle_kept (kept_edges es) ≡ result_ok (composed es)
     of_test true e = rw e refl
     of_test false e = rw e (sym (long_none es e))
 
-said_made : (h : Notes) (at : ℕ) (composing : Result (List Edge) CycleError) (cycle : List Edge) → Some cycle ≡ result_ok composing → Ok (record h { after = Some cycle }) ≡ notes_after h (cycle_said at composing)
+said_made : (h : Notes) (at : ℕ) (composing : Result (List Edge) CycleError) (cycle : List Edge) → Some cycle ≡ result_ok composing → Ok (record h { after = Some cycle }) ≡ notes_after h (cycle_word_said at composing)
 said_made h at (Ok made) cycle e = let same : cycle ≡ made = cc e in ap (λ (c : List Edge). let notes : Notes = record h { after = Some c } in let ok : Result Notes Usage = Ok notes in ok) same
 said_made h at (Err error) cycle e = cc e
 
-said_none : (h : Notes) (at : ℕ) (composing : Result (List Edge) CycleError) → None ≡ result_ok composing → Err (record { word = at; kind = BadAfter }) ≡ notes_after h (cycle_said at composing)
+said_none : (h : Notes) (at : ℕ) (composing : Result (List Edge) CycleError) → None ≡ result_ok composing → Err (record { word = at; kind = BadAfter }) ≡ notes_after h (cycle_word_said at composing)
 said_none h at (Ok made) e = cc e
 said_none h at (Err error) e = refl
 
 -- edges that make a cycle
-pub after_made : (h : Notes) (at : ℕ) (spelled : Option (List Edge)) (list : EdgeList) (cycle : List Edge) → Some list ≡ option_map (added (kept [])) spelled → Some cycle ≡ cycle_kept list
+pub after_made : (h : Notes) (at : ℕ) (spelled : Option (List Edge)) (list : EdgeList) (cycle : List Edge) → Some list ≡ option_map (edges_added (kept_edges [])) spelled → Some cycle ≡ cycle_kept list
     → Ok (record h { after = Some cycle }) ≡ notes_after h (after_said at spelled)
 after_made h at None list cycle e c = cc e
 after_made h at (Some es) list cycle e c =
-    let same : list ≡ added (kept []) es = cc e in
+    let same : list ≡ edges_added (kept_edges []) es = cc e in
     said_made h at (composed es) cycle (c ∙ ap cycle_kept (same ∙ added_whole [] es (lit≤ tt)) ∙ kept_cycle es)
 
 -- edges that make none
-pub after_none : (h : Notes) (at : ℕ) (spelled : Option (List Edge)) (list : EdgeList) → Some list ≡ option_map (added (kept [])) spelled → None ≡ cycle_kept list
+pub after_none : (h : Notes) (at : ℕ) (spelled : Option (List Edge)) (list : EdgeList) → Some list ≡ option_map (edges_added (kept_edges [])) spelled → None ≡ cycle_kept list
     → Err (record { word = at; kind = BadAfter }) ≡ notes_after h (after_said at spelled)
 after_none h at None list e c = cc e
 after_none h at (Some es) list e c =
-    let same : list ≡ added (kept []) es = cc e in
+    let same : list ≡ edges_added (kept_edges []) es = cc e in
     said_none h at (composed es) (c ∙ ap cycle_kept (same ∙ added_whole [] es (lit≤ tt)) ∙ kept_cycle es)

@@ -14,7 +14,7 @@ use Rattle.diy_words.specs.declared.usage.Usage.{Usage}
 use Rattle.diy_words.specs.declared.usage.UsageKind.TheVariants.{UnknownOption, ExcludedOption}
 use Rattle.diy_words.specs.Parts.{Alone, Valued, Unvalued, parts_of, option_named, arch_named, mode_named}
 use Rattle.diy_words.specs.Notes.{Notes, no_notes}
-use Rattle.diy_words.specs.Sayings.{Saying, SaysFile, fault, arch_said, mode_said, begins_option, said_by, sayings, said_all, files_in, files_given, notes_of, edges_given, places_given}
+use Rattle.diy_words.specs.Sayings.{Saying, SaysFile, usage_fault, arch_said, mode_said, begins_option, said_by, sayings, said_all, files_in, files_given, notes_of, edges_given, places_given}
 use Rattle.diy_words.specs.Requests.{Task, AsksTest, AsksWhy, AsksName, AsksList, AsksFamilies, AsksCross, AsksDemo, AsksCheck, asks, cross_asked, families_with, demo_with, why_asked, test_asked, diyone_asked, diy_asked, norm_asked, tool_asked, asked_for, asked_of, IsClassifying, files_of, check_with, said_asked}
 use Rattle.diy_words.proofs.BeforeLaws.{IsSilent, IsUncounted}
 use Rattle.diy_words.proofs.OperandLaws.{given_all, said_from, AreFaultless, given_from, alone_then, IsOther, OptionFirst, option_then, all_said, none_left}
@@ -26,7 +26,7 @@ files_from words at = given_from tools.Classify files_in words at
 -- no word of classify7 is an operand of a limited number
 same_said : IsUncounted tools.Classify
 same_said a b (Alone at text) h = refl
-same_said a b (Valued opts.Obs at value) h = ap (λ why. if why then fault at ExcludedOption else mode_said (at + 1) (mode_named value)) h
+same_said a b (Valued opts.Obs at value) h = ap (λ why. if why then usage_fault at ExcludedOption else mode_said (at + 1) (mode_named value)) h
 same_said a b (Valued option at value) h = refl
 same_said a b (Unvalued option at) h = refl
 
@@ -41,11 +41,11 @@ file_first words at text got plain fit =
     of_test (begins_option text)
     (alone_then tools.Classify same_said words at text got plain (alone_silent (begins_option text)))
   where
-    alone_silent : (b : Bool) → IsSilent (if b then fault at UnknownOption else Ok (SaysFile at))
+    alone_silent : (b : Bool) → IsSilent (if b then usage_fault at UnknownOption else Ok (SaysFile at))
     alone_silent true = λ before. refl
     alone_silent false = λ before. refl
 
-    of_test : (b : Bool) → said_from tools.Classify words at ≡ (if b then fault at UnknownOption else Ok (SaysFile at)) ∷ said_from tools.Classify words (at + 1) → FileFirst words at
+    of_test : (b : Bool) → said_from tools.Classify words at ≡ (if b then usage_fault at UnknownOption else Ok (SaysFile at)) ∷ said_from tools.Classify words (at + 1) → FileFirst words at
     of_test true e = let k = rw e at fit in cc k.0
     of_test false e = let k = rw e at fit in record { faultless = k.1; first = ap (given_all files_in) e }
 
@@ -65,7 +65,7 @@ value_other : (option : OptionName) (at : ℕ) (value : List ℕ) → option ≡
 value_other option at value e =
     subst (λ (o : OptionName). IsOther files_in (said_by tools.Classify no_notes (Valued o at value))) (sym e) (arch_other (at + 1) (arch_named value))
 
--- an option of classify7 has its value after it, and the words after that have no fault
+-- an option of classify7 has its value after it, and the words after that have no usage_fault
 pub option_first : (words : List (List ℕ)) (at : ℕ) (text : List ℕ) (option : OptionName) → at < length words → slice_get words at ≡ Some text
     → option_named tools.Classify text ≡ Some option → AreFaultless tools.Classify words at → OptionFirst tools.Classify files_in words at
 option_first words at text option within got named fit =

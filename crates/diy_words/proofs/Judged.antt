@@ -2,7 +2,7 @@
 use Rattle.std.proofs.Common.{◌≡◌, ◌≤◌, ℕ, ◌+◌, List, [], ◌∷◌, length, drop, Option, Some, None, Result, Ok, Err, refl, sym, ap, ◌∙◌, subst, arith, slice_get, lit≤, nat_lt}
 use Rattle.std.proofs.lemmas.List.{drop_all}
 use Rattle.list_laws.proofs.Elements.{drop_given}
-use Rattle.edge_lists.specs.Kept.{added}
+use Rattle.edge_lists.specs.KeptEdges.{edges_added}
 use Rattle.edge_lists.specs.KeptLaws.{added_more, added_whole}
 use Rattle.diy_words.specs.declared.options.OptionName.{OptionName}
 use Rattle.diy_words.specs.declared.options.Tool.{Tool}
@@ -11,9 +11,9 @@ use Rattle.diy_words.specs.declared.request.TheConstants.{MAX_CHOICES}
 use Rattle.diy_words.specs.declared.usage.Usage.{Usage}
 use Rattle.diy_words.specs.Parts.{Alone, Valued, Unvalued, parts_from, parts_of, option_named, tool_named}
 use Rattle.diy_words.specs.Notes.{Notes, no_notes}
-use Rattle.diy_words.specs.Sayings.{Saying, SaysEdges, SaysPlace, with_saying, with_next, said_by, sayings, said_first, said_all, notes_with, notes_of, edges_in, edges_given, places_in, places_given, files_given}
+use Rattle.diy_words.specs.Sayings.{Saying, SaysEdges, SaysPlace, with_saying, with_next, said_by, sayings, said_first, said_all, notes_with, notes_of, edges_in, edges_given, places_of_word, places_given, files_given}
 use Rattle.diy_words.specs.Requests.{said_asked, tool_asked, asked_of}
-use Rattle.diy_words.specs.Given.{Gives, GivesAtEnd, notes_after, all_notes, sayings_from, notes_at_end}
+use Rattle.diy_words.specs.Given.{GivesTask, GivesAtEnd, notes_after, all_notes, sayings_from, notes_at_end}
 use Rattle.diy_words.proofs.ChoiceLaws.{choices_after, choices_more, choices_said}
 
 alone_parts : (tool : Tool) (word : List ℕ) (at : ℕ) (rest : List (List ℕ)) (found : Option OptionName) → option_named tool word ≡ found → found ≡ None →
@@ -90,13 +90,13 @@ all_noted notes (Err usage ∷ rest) = fault_stays usage rest
 all_noted notes (Ok saying ∷ rest) = all_noted (with_saying notes saying) rest ∙ after_first notes saying (said_all rest)
 
 -- the edges that are noted are those of all operands
-edges_noted : (notes : Notes) (said : List Saying) → (notes_with notes said).edges ≡ added notes.edges (edges_given said)
+edges_noted : (notes : Notes) (said : List Saying) → (notes_with notes said).edges ≡ edges_added notes.edges (edges_given said)
 edges_noted notes [] = refl
 edges_noted notes (saying ∷ rest) =
-    edges_noted (with_saying notes saying) rest ∙ ap (λ list. added list (edges_given rest)) (one_noted saying) ∙
+    edges_noted (with_saying notes saying) rest ∙ ap (λ list. edges_added list (edges_given rest)) (one_noted saying) ∙
     added_more notes.edges (edges_in saying) (edges_given rest)
   where
-    one_noted : (saying : Saying) → (with_saying notes saying).edges ≡ added notes.edges (edges_in saying)
+    one_noted : (saying : Saying) → (with_saying notes saying).edges ≡ edges_added notes.edges (edges_in saying)
     one_noted (SaysEdges at edges) = refl
     one_noted saying = refl
 
@@ -105,44 +105,44 @@ choices_noted : (notes : Notes) (said : List Saying) → (notes_with notes said)
 choices_noted notes [] = refl
 choices_noted notes (saying ∷ rest) =
     choices_noted (with_saying notes saying) rest ∙ ap (λ choices. choices_after choices (places_given rest)) (one_noted saying) ∙
-    choices_more notes.choices (places_in saying) (places_given rest)
+    choices_more notes.choices (places_of_word saying) (places_given rest)
   where
-    one_noted : (saying : Saying) → (with_saying notes saying).choices ≡ choices_after notes.choices (places_in saying)
+    one_noted : (saying : Saying) → (with_saying notes saying).choices ≡ choices_after notes.choices (places_of_word saying)
     one_noted (SaysPlace relaxes) = refl
     one_noted saying = refl
 
 -- the request of a tool from the notes after all words
 pub gives_finished : (tool : Tool) (words : List (List ℕ)) (at : ℕ) (notes : Notes) (result : Result Request Usage) → length words ≤ at
     → notes_at_end tool words at notes ≡ notes_at_end tool words 1 no_notes → GivesAtEnd tool (length words) notes result
-    → Gives result (said_asked tool (length words) (said_all (sayings_from tool no_notes words 1)))
+    → GivesTask result (said_asked tool (length words) (said_all (sayings_from tool no_notes words 1)))
 gives_finished tool words at notes result last e finishes =
     of_all (said_all (sayings_from tool no_notes words 1)) (ended ∙ e ∙ all_noted no_notes (sayings_from tool no_notes words 1))
   where
     ended : Ok notes ≡ notes_at_end tool words at notes
     ended = ap (λ rest. all_notes (Ok notes) (sayings tool notes (parts_of tool at rest))) (sym (drop_all at words last))
 
-    of_all : (all : Result (List Saying) Usage) → Ok notes ≡ notes_or_fault no_notes all → Gives result (said_asked tool (length words) all)
+    of_all : (all : Result (List Saying) Usage) → Ok notes ≡ notes_or_fault no_notes all → GivesTask result (said_asked tool (length words) all)
     of_all (Err usage) e = cc e
     of_all (Ok said) e =
         let same : notes ≡ notes_of said = ok_is _ _ e in
-        subst (λ (n : Notes). Gives result (tool_asked tool (length words) n (edges_given said) (places_given said) (files_given said))) same
+        subst (λ (n : Notes). GivesTask result (tool_asked tool (length words) n (edges_given said) (places_given said) (files_given said))) same
         (finishes (edges_given said) (places_given said) (files_given said)
         (ap (λ (n : Notes). n.edges) same ∙ edges_noted no_notes said ∙ added_whole [] (edges_given said) (lit≤ tt))
         (ap (λ (n : Notes). nat_lt MAX_CHOICES n.choices) same ∙ ap (nat_lt MAX_CHOICES) (choices_noted no_notes said) ∙ choices_said (places_given said)))
 
 -- the first fault among the words
 pub gives_fault : (tool : Tool) (words : List (List ℕ)) (usage : Usage) → Err usage ≡ notes_at_end tool words 1 no_notes
-    → Gives (Err usage) (said_asked tool (length words) (said_all (sayings_from tool no_notes words 1)))
+    → GivesTask (Err usage) (said_asked tool (length words) (said_all (sayings_from tool no_notes words 1)))
 gives_fault tool words usage e = of_all (said_all (sayings_from tool no_notes words 1)) (e ∙ all_noted no_notes (sayings_from tool no_notes words 1))
   where
-    of_all : (all : Result (List Saying) Usage) → Err usage ≡ notes_or_fault no_notes all → Gives (Err usage) (said_asked tool (length words) all)
+    of_all : (all : Result (List Saying) Usage) → Err usage ≡ notes_or_fault no_notes all → GivesTask (Err usage) (said_asked tool (length words) all)
     of_all (Err other) e = cc e
     of_all (Ok said) e = cc e
 
 -- the request of a tool, where the first word names it
 pub gives_named : (words : List (List ℕ)) (word : List ℕ) (tool : Tool) (request : Result Request Usage) →
     slice_get words 0 ≡ Some word → tool_named word ≡ Some tool →
-    Gives request (said_asked tool (length words) (said_all (sayings_from tool no_notes words 1))) → Gives request (asked_of words)
+    GivesTask request (said_asked tool (length words) (said_all (sayings_from tool no_notes words 1))) → GivesTask request (asked_of words)
 gives_named [] word tool request got named h = cc got
 gives_named (first ∷ words) word tool request got named h =
     let same : first ≡ word = cc got in

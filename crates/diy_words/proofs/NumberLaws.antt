@@ -10,7 +10,7 @@ use Rattle.std.proofs.lemmas.Bool.Decides.{nat_tests}
 use Rattle.std.proofs.lemmas.Str.Parse.{parse_plain}
 use Rattle.list_laws.proofs.Digits.{digits_model, digits_no_plus}
 use Rattle.list_laws.proofs.Cases.{by_test}
-use Rattle.diy_words.specs.Numbers.{is_number, number_to}
+use Rattle.diy_words.specs.NumberWords.{is_number, number_to}
 
 -- what isn't parsed is too large
 too_large : {E : Type 0} (digits : List ℕ) (e : E) → is_number digits ≡ true → ParsesUnsigned 32 10 digits (Err e) → 2 ^ 32 ≤ digits_value 10 digits

@@ -19,23 +19,23 @@ use Rattle.diy_words.specs.declared.options.Tool.TheVariants as tools
 use Rattle.diy_words.specs.declared.request.TheConstants.{MAX_CHOICES, MAX_FOLDER}
 use Rattle.diy_words.specs.declared.usage.Usage.{Usage}
 use Rattle.diy_words.specs.declared.usage.UsageKind.TheVariants.{UnknownOption, BadName, BadFolder, ExcludedOption, TooManyChoices}
-use Rattle.diy_words.specs.Names.{is_name}
-use Rattle.diy_words.specs.Numbers.{number_to}
+use Rattle.diy_words.specs.TestNames.{is_name}
+use Rattle.diy_words.specs.NumberWords.{number_to}
 use Rattle.diy_words.specs.Parts.{Alone, Valued, Unvalued, parts_of, tool_named, option_named, arch_named, mode_named}
 use Rattle.diy_words.specs.Notes.{Notes, no_notes}
-use Rattle.diy_words.specs.Sayings.{Saying, SaysName, SaysFolder, fault, place_said, arch_said, mode_said, relaxes_said, size_said, threads_said, cycle_said, after_said, begins_option, said_by, sayings, said_all, places_in, places_given, files_given, accesses_said, notes_of, edges_given}
+use Rattle.diy_words.specs.Sayings.{Saying, SaysName, SaysFolder, usage_fault, place_said, arch_said, mode_said, relaxes_said, size_said, threads_said, cycle_word_said, after_said, begins_option, said_by, sayings, said_all, places_of_word, places_given, files_given, accesses_said, notes_of, edges_given}
 use Rattle.diy_words.specs.Requests.{Task, AsksTest, AsksWhy, AsksName, AsksList, AsksFamilies, AsksCross, AsksDemo, AsksCheck, choice_count, asks, cross_with, families_with, demo_with, why_asked, test_asked, diyone_asked, diy_asked, norm_asked, mode_or_accept, tool_asked, asked_for, asked_of, IsCrossing, places_of, check_with, said_asked}
 use Rattle.diy_words.proofs.BeforeLaws.{IsSilent, IsUncounted}
 use Rattle.diy_words.proofs.OperandLaws.{given_all, said_from, AreFaultless, given_from, alone_then, IsOther, OptionFirst, option_then, all_said, none_left}
 
 -- the relaxations of the places among the words of diycross7 from a place on
 abbrev pub places_from : List (List ℕ) → ℕ → List (List (List Edge))
-places_from words at = given_from tools.Cross places_in words at
+places_from words at = given_from tools.Cross places_of_word words at
 
 -- no word of diycross7 is an operand of a limited number
 same_said : IsUncounted tools.Cross
 same_said a b (Alone at text) h = refl
-same_said a b (Valued opts.Obs at value) h = ap (λ why. if why then fault at ExcludedOption else mode_said (at + 1) (mode_named value)) h
+same_said a b (Valued opts.Obs at value) h = ap (λ why. if why then usage_fault at ExcludedOption else mode_said (at + 1) (mode_named value)) h
 same_said a b (Valued option at value) h = refl
 same_said a b (Unvalued option at) h = refl
 
@@ -45,17 +45,17 @@ pub record PlaceFirst (words : List (List ℕ)) (at : ℕ) (text : List ℕ) : T
   pub faultless : AreFaultless tools.Cross words (at + 1)
   pub first : (relaxes : List (List Edge)) → relaxes_of text ≡ Ok relaxes → places_from words at ≡ relaxes ∷ places_from words (at + 1)
 
--- a word that is no option of diycross7 spells relaxations, and the words after it have no fault
+-- a word that is no option of diycross7 spells relaxations, and the words after it have no usage_fault
 pub place_first : (words : List (List ℕ)) (at : ℕ) (text : List ℕ) → slice_get words at ≡ Some text → option_named tools.Cross text ≡ None → AreFaultless tools.Cross words at → PlaceFirst words at text
 place_first words at text got plain fit =
     of_test (begins_option text) (relaxes_of text) refl (alone_then tools.Cross same_said words at text got plain (alone_silent (begins_option text) (relaxes_of text)))
   where
-    alone_silent : (b : Bool) (read : Result (List (List Edge)) RelaxError) → IsSilent (if b then fault at UnknownOption else place_said at read)
+    alone_silent : (b : Bool) (read : Result (List (List Edge)) RelaxError) → IsSilent (if b then usage_fault at UnknownOption else place_said at read)
     alone_silent true read = λ before. refl
     alone_silent false (Ok relaxes) = λ before. refl
     alone_silent false (Err error) = λ before. refl
 
-    of_test : (b : Bool) (read : Result (List (List Edge)) RelaxError) → relaxes_of text ≡ read → said_from tools.Cross words at ≡ (if b then fault at UnknownOption else place_said at read) ∷ said_from tools.Cross words (at + 1) → PlaceFirst words at text
+    of_test : (b : Bool) (read : Result (List (List Edge)) RelaxError) → relaxes_of text ≡ read → said_from tools.Cross words at ≡ (if b then usage_fault at UnknownOption else place_said at read) ∷ said_from tools.Cross words (at + 1) → PlaceFirst words at text
     of_test true read r e = let k = rw e at fit in cc k.0
     of_test false (Err error) r e = let k = rw e at fit in cc k.0
     of_test false (Ok own) r e =
@@ -63,51 +63,51 @@ place_first words at text got plain fit =
         record {
           read = rw r refl;
           faultless = k.1;
-          first = λ relaxes given. ap (given_all places_in) e ∙ (let same : own ≡ relaxes = cc in ap (λ x. x ∷ places_from words (at + 1)) same);
+          first = λ relaxes given. ap (given_all places_of_word) e ∙ (let same : own ≡ relaxes = cc in ap (λ x. x ∷ places_from words (at + 1)) same);
         }
 
-arch_other : (at : ℕ) (arch : Option ArchName) → IsOther places_in (arch_said at arch)
+arch_other : (at : ℕ) (arch : Option ArchName) → IsOther places_of_word (arch_said at arch)
 arch_other at None = record { none = refl; silent = λ before. refl }
 arch_other at (Some arch) = record { none = refl; silent = λ before. refl }
 
-name_other : (at : ℕ) (text : List ℕ) (b : Bool) → IsOther places_in (if b then Ok (SaysName text) else fault at BadName)
+name_other : (at : ℕ) (text : List ℕ) (b : Bool) → IsOther places_of_word (if b then Ok (SaysName text) else usage_fault at BadName)
 name_other at text true = record { none = refl; silent = λ before. refl }
 name_other at text false = record { none = refl; silent = λ before. refl }
 
-mode_other : (at : ℕ) (mode : Option ObsMode) → IsOther places_in (mode_said at mode)
+mode_other : (at : ℕ) (mode : Option ObsMode) → IsOther places_of_word (mode_said at mode)
 mode_other at None = record { none = refl; silent = λ before. refl }
 mode_other at (Some mode) = record { none = refl; silent = λ before. refl }
 
-relaxes_other : (at : ℕ) (relaxes : Result (List (List Edge)) RelaxError) → IsOther places_in (relaxes_said at relaxes)
+relaxes_other : (at : ℕ) (relaxes : Result (List (List Edge)) RelaxError) → IsOther places_of_word (relaxes_said at relaxes)
 relaxes_other at (Ok relaxes) = record { none = refl; silent = λ before. refl }
 relaxes_other at (Err error) = record { none = refl; silent = λ before. refl }
 
-size_other : (at : ℕ) (size : Option ℕ) → IsOther places_in (size_said at size)
+size_other : (at : ℕ) (size : Option ℕ) → IsOther places_of_word (size_said at size)
 size_other at None = record { none = refl; silent = λ before. refl }
 size_other at (Some size) = record { none = refl; silent = λ before. refl }
 
-threads_other : (at : ℕ) (threads : Option ℕ) → IsOther places_in (threads_said at threads)
+threads_other : (at : ℕ) (threads : Option ℕ) → IsOther places_of_word (threads_said at threads)
 threads_other at None = record { none = refl; silent = λ before. refl }
 threads_other at (Some threads) = record { none = refl; silent = λ before. refl }
 
-accesses_other : (at : ℕ) (accesses : Option ℕ) → IsOther places_in (accesses_said at accesses)
+accesses_other : (at : ℕ) (accesses : Option ℕ) → IsOther places_of_word (accesses_said at accesses)
 accesses_other at None = record { none = refl; silent = λ before. refl }
 accesses_other at (Some accesses) = record { none = refl; silent = λ before. refl }
 
-cycle_other : (at : ℕ) (cycle : Result (List Edge) CycleError) → IsOther places_in (cycle_said at cycle)
+cycle_other : (at : ℕ) (cycle : Result (List Edge) CycleError) → IsOther places_of_word (cycle_word_said at cycle)
 cycle_other at (Ok cycle) = record { none = refl; silent = λ before. refl }
 cycle_other at (Err error) = record { none = refl; silent = λ before. refl }
 
-after_other : (at : ℕ) (edges : Option (List Edge)) → IsOther places_in (after_said at edges)
+after_other : (at : ℕ) (edges : Option (List Edge)) → IsOther places_of_word (after_said at edges)
 after_other at None = record { none = refl; silent = λ before. refl }
 after_other at (Some edges) = cycle_other at (composed edges)
 
-folder_other : (at : ℕ) (text : List ℕ) (b : Bool) → IsOther places_in (if b then Ok (SaysFolder text) else fault at BadFolder)
+folder_other : (at : ℕ) (text : List ℕ) (b : Bool) → IsOther places_of_word (if b then Ok (SaysFolder text) else usage_fault at BadFolder)
 folder_other at text true = record { none = refl; silent = λ before. refl }
 folder_other at text false = record { none = refl; silent = λ before. refl }
 
 -- an option gives no relaxations of a place
-value_other : (option : OptionName) (at : ℕ) (value : List ℕ) → IsOther places_in (said_by tools.Cross no_notes (Valued option at value))
+value_other : (option : OptionName) (at : ℕ) (value : List ℕ) → IsOther places_of_word (said_by tools.Cross no_notes (Valued option at value))
 value_other opts.Arch at value = arch_other (at + 1) (arch_named value)
 value_other opts.Name at value = name_other (at + 1) value (is_name value)
 value_other opts.Obs at value = mode_other (at + 1) (mode_named value)
@@ -119,11 +119,11 @@ value_other opts.Accesses at value = accesses_other (at + 1) (number_to MAX_EDGE
 value_other opts.After at value = after_other (at + 1) (edges_of BlanksAndCommas value)
 value_other opts.Folder at value = folder_other (at + 1) value (nat_lt 0 (length value) && nat_le (length value) MAX_FOLDER)
 
--- an option of diycross7 has its value after it, and the words after that have no fault
+-- an option of diycross7 has its value after it, and the words after that have no usage_fault
 pub option_first : (words : List (List ℕ)) (at : ℕ) (text : List ℕ) (option : OptionName) → at < length words → slice_get words at ≡ Some text
-    → option_named tools.Cross text ≡ Some option → AreFaultless tools.Cross words at → OptionFirst tools.Cross places_in words at
+    → option_named tools.Cross text ≡ Some option → AreFaultless tools.Cross words at → OptionFirst tools.Cross places_of_word words at
 option_first words at text option within got named fit =
-    option_then tools.Cross same_said places_in words at text option within got named (λ value. value_other option at value) fit
+    option_then tools.Cross same_said places_of_word words at text option within got named (λ value. value_other option at value) fit
 
 other_tool : {X : Type 0} (request : X → Task) (asked : Result X Usage) → ((x : X) → IsCrossing (Ok (request x)) → ⊥) → IsCrossing (asks request asked) → ⊥
 other_tool request (Ok x) apart h = apart x h
@@ -164,7 +164,7 @@ no_cross_said tool count (Ok said) other h = no_cross tool count (notes_of said)
 -- the words of diycross7 after the tool's name, and what they ask for
 record CrossAsks (words : List (List ℕ)) (asked : Result Task Usage) : Type 0 where
   faultless : AllByRecursion IsOk (sayings tools.Cross no_notes (parts_of tools.Cross 1 words))
-  first : given_all places_in (sayings tools.Cross no_notes (parts_of tools.Cross 1 words)) ≡ places_of asked
+  first : given_all places_of_word (sayings tools.Cross no_notes (parts_of tools.Cross 1 words)) ≡ places_of asked
 
 cross_asks : (found : Option Tool) (count : ℕ) (words : List (List ℕ)) → IsCrossing (asked_for found count words) → CrossAsks words (asked_for found count words)
 cross_asks None count words h = absurd h
@@ -173,7 +173,7 @@ cross_asks (Some tools.Cross) count words h = of_said (said_all (sayings tools.C
     of_said : (said : Result (List Saying) Usage) → said_all (sayings tools.Cross no_notes (parts_of tools.Cross 1 words)) ≡ said → IsCrossing (said_asked tools.Cross count said) → CrossAsks words (said_asked tools.Cross count said)
     of_said (Err usage) e h = absurd h
     of_said (Ok said) e h =
-        let all = all_said places_in places_given refl (λ first more. refl) (sayings tools.Cross no_notes (parts_of tools.Cross 1 words)) said e in
+        let all = all_said places_of_word places_given refl (λ first more. refl) (sayings tools.Cross no_notes (parts_of tools.Cross 1 words)) said e in
         record { faultless = all.faultless; first = all.given ∙ cross_places count (notes_of said).arch (mode_or_accept (notes_of said).mode) (notes_of said).folder (places_given said) h }
 cross_asks (Some tool) count words h = absurd (no_cross_said tool count (said_all (sayings tool no_notes (parts_of tool 1 words))) (λ e. cc e) h)
 
@@ -216,4 +216,4 @@ option_read words at text option places within got named before =
 
 -- after the last word all lists are read
 pub places_ended : (words : List (List ℕ)) (at : ℕ) (places : List (List (List Edge))) → length words ≤ at → PlacesRead words at places → places ≡ places_of (asked_of words)
-places_ended words at places last before = sym (append-nil places) ∙ ap (λ rest. places ++ rest) (sym (none_left tools.Cross places_in words at last)) ∙ before.read
+places_ended words at places last before = sym (append-nil places) ∙ ap (λ rest. places ++ rest) (sym (none_left tools.Cross places_of_word words at last)) ∙ before.read

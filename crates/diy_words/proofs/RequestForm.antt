@@ -30,15 +30,15 @@ use Rattle.diy_words.specs.declared.options.Tool.{Tool}
 use Rattle.diy_words.specs.declared.options.Tool.TheVariants as tools
 use Rattle.diy_words.specs.declared.options.OptionName.{OptionName}
 use Rattle.diy_words.specs.declared.options.OptionName.TheVariants as opts
-use Rattle.diy_words.specs.Names.{is_name}
-use Rattle.diy_words.specs.Edges.{operand_edges}
+use Rattle.diy_words.specs.TestNames.{is_name}
+use Rattle.diy_words.specs.EdgeWords.{operand_edges}
 use Rattle.diy_words.specs.Parts.{Part, Alone, Valued, Unvalued, waiting_at, alone_before, parts_from, parts_of, option_named, tool_named, arch_named, mode_named}
 use Rattle.diy_words.specs.Notes.{Notes, no_notes}
-use Rattle.diy_words.specs.Sayings.{Saying, SaysName, SaysSize, SaysExact, SaysWhy, SaysFolder, SaysCount, SaysTest, SaysExecution, fault, dashed_said, operand_said, relaxes_said, size_said, threads_said, after_said, cycle_said, places_given, files_given, place_said, count_said, with_saying, with_next, sayings, said_by, said_first, said_all, notes_with, notes_of, arch_said, mode_said, edges_said, begins_option, edges_given, accesses_said}
+use Rattle.diy_words.specs.Sayings.{Saying, SaysName, SaysSize, SaysExact, SaysWhy, SaysFolder, SaysCount, SaysTest, SaysExecution, usage_fault, dashed_said, operand_said, relaxes_said, size_said, threads_said, after_said, cycle_word_said, places_given, files_given, place_said, count_said, with_saying, with_next, sayings, said_by, said_first, said_all, notes_with, notes_of, arch_said, mode_said, edges_said, begins_option, edges_given, accesses_said}
 use Rattle.diy_words.specs.Requests.{Task, AsksTest, AsksWhy, AsksName, AsksList, AsksFamilies, AsksCross, AsksDemo, AsksCheck, NameTask, ListTask, FamiliesTask, list_with, families_with, cross_with, demo_with, check_with, choice_count, mode_or_accept, asks, test_with, why_with, why_asked, test_asked, diyone_asked, asked_for, norm_asked, tool_asked, said_asked, asked_of}
 use Rattle.arrayvec.specs.ArrayString.{ArrayString}
-use Rattle.diy_words.specs.Given.{Gives, HasForm, WithinWords, list_kept}
-use Rattle.diy_words.specs.Numbers.{is_number, number_to}
+use Rattle.diy_words.specs.Given.{GivesTask, HasForm, WithinWords, list_kept}
+use Rattle.diy_words.specs.NumberWords.{is_number, number_to}
 
 -- a name and a folder that are given have their forms, a size is one that cycles can have, so many tests can be made, and a file
 -- of mcheck7 is one of so many words
@@ -67,11 +67,11 @@ edges_form : (count at : ℕ) (es : Option (List Edge)) → SaysForm count (edge
 edges_form count at (Some es) = tt
 edges_form count at None = tt
 
-dashed_form : (count at : ℕ) (b : Bool) → SaysForm count (if b then Ok SaysExact else fault at UnknownOption)
+dashed_form : (count at : ℕ) (b : Bool) → SaysForm count (if b then Ok SaysExact else usage_fault at UnknownOption)
 dashed_form count at true = tt
 dashed_form count at false = tt
 
-why_form : (count at : ℕ) (b c : Bool) → SaysForm count (if b then if c then fault at ExcludedOption else Ok SaysWhy else fault at UnknownOption)
+why_form : (count at : ℕ) (b c : Bool) → SaysForm count (if b then if c then usage_fault at ExcludedOption else Ok SaysWhy else usage_fault at UnknownOption)
 why_form count at true true = tt
 why_form count at true false = tt
 why_form count at false c = tt
@@ -104,11 +104,11 @@ count_form : (count at : ℕ) (tests : Option ℕ) → ((n : ℕ) → tests ≡ 
 count_form count at (Some tests) fit = fit tests refl
 count_form count at None fit = tt
 
-demo_said : (count at : ℕ) (text : List ℕ) (b : Bool) → SaysForm count (if b then count_said at (number_to MAX_TESTS text) else fault at StrayWord)
+demo_said : (count at : ℕ) (text : List ℕ) (b : Bool) → SaysForm count (if b then count_said at (number_to MAX_TESTS text) else usage_fault at StrayWord)
 demo_said count at text true = count_form count at (number_to MAX_TESTS text) (number_form MAX_TESTS text)
 demo_said count at text false = tt
 
-check_said : (count at : ℕ) (p q : Bool) → at < count → SaysForm count (if p then Ok (SaysTest at) else if q then Ok (SaysExecution at) else fault at StrayWord)
+check_said : (count at : ℕ) (p q : Bool) → at < count → SaysForm count (if p then Ok (SaysTest at) else if q then Ok (SaysExecution at) else usage_fault at StrayWord)
 check_said count at true q h = h
 check_said count at false true h = h
 check_said count at false false h = tt
@@ -128,7 +128,7 @@ alone_form : (count : ℕ) (tool : Tool) (before : Notes) (at : ℕ) (text : Lis
 alone_form count tool before at text true h = alone_dashed count tool before at text
 alone_form count tool before at text false h = alone_operand count tool before.taken at text h
 
-obs_form : (count at : ℕ) (mode : Option ObsMode) (b : Bool) → SaysForm count (if b then fault at ExcludedOption else mode_said (at + 1) mode)
+obs_form : (count at : ℕ) (mode : Option ObsMode) (b : Bool) → SaysForm count (if b then usage_fault at ExcludedOption else mode_said (at + 1) mode)
 obs_form count at mode true = tt
 obs_form count at mode false = mode_form count (at + 1) mode
 
@@ -148,7 +148,7 @@ accesses_form : (count at : ℕ) (accesses : Option ℕ) → SaysForm count (acc
 accesses_form count at (Some accesses) = tt
 accesses_form count at None = tt
 
-cycle_form : (count at : ℕ) (cycle : Result (List Edge) CycleError) → SaysForm count (cycle_said at cycle)
+cycle_form : (count at : ℕ) (cycle : Result (List Edge) CycleError) → SaysForm count (cycle_word_said at cycle)
 cycle_form count at (Ok cycle) = tt
 cycle_form count at (Err error) = tt
 
@@ -156,12 +156,12 @@ after_form : (count at : ℕ) (edges : Option (List Edge)) → SaysForm count (a
 after_form count at (Some edges) = cycle_form count at (composed edges)
 after_form count at None = tt
 
-folder_form : (count at : ℕ) (text : List ℕ) (p q : Bool) → nat_le (length text) MAX_FOLDER ≡ q → SaysForm count (if p && q then Ok (SaysFolder text) else fault at BadFolder)
+folder_form : (count at : ℕ) (text : List ℕ) (p q : Bool) → nat_le (length text) MAX_FOLDER ≡ q → SaysForm count (if p && q then Ok (SaysFolder text) else usage_fault at BadFolder)
 folder_form count at text true true e = grind (arith, nat_tests, e)
 folder_form count at text true false e = tt
 folder_form count at text false q e = tt
 
-name_form : (count at : ℕ) (text : List ℕ) (b : Bool) → is_name text ≡ b → SaysForm count (if b then Ok (SaysName text) else fault at BadName)
+name_form : (count at : ℕ) (text : List ℕ) (b : Bool) → is_name text ≡ b → SaysForm count (if b then Ok (SaysName text) else usage_fault at BadName)
 name_form count at text true e = e
 name_form count at text false e = tt
 
@@ -335,7 +335,7 @@ pub asked_form : (words : List (List ℕ)) (asked : Task) → asked_of words ≡
 asked_form words asked e = subst (λ (a : Result Task Usage). IsTaskSo (length words) a) e (words_form words)
 
 -- so has that of the request that is given
-pub request_form : (words : List (List ℕ)) (result : Result Request Usage) → Gives result (asked_of words) → IfOk result HasForm
+pub request_form : (words : List (List ℕ)) (result : Result Request Usage) → GivesTask result (asked_of words) → IfOk result HasForm
 request_form words result h = of_asked result (asked_of words) (words_form words) h
   where
     named_so : (name : Option ArrayString) → IfSome (option_map (λ (name : ArrayString). name.bytes) name) (λ name. is_name name ≡ true) → IfSome name (λ name. is_name name.bytes ≡ true)
@@ -352,7 +352,7 @@ request_form words result h = of_asked result (asked_of words) (words_form words
       folder_so request.folder (subst (λ (f : Option (List ℕ)). IfSome f (λ folder. length folder ≤ MAX_FOLDER)) (ap (λ (l : ListTask). l.folder) (sym h)) e.1),
     )
 
-    of_asked : (result : Result Request Usage) (asked : Result Task Usage) → IsTaskSo (length words) asked → Gives result asked → IfOk result HasForm
+    of_asked : (result : Result Request Usage) (asked : Result Task Usage) → IsTaskSo (length words) asked → GivesTask result asked → IfOk result HasForm
     of_asked (Ok (requests.Test request)) (Ok (AsksTest asked)) e h = named_so request.name (subst (λ (name : Option (List ℕ)). IfSome name (λ name. is_name name ≡ true)) (sym h.1) e)
     of_asked (Ok (requests.Why request)) (Ok (AsksWhy asked)) e h = (
       named_so request.name (subst (λ (name : Option (List ℕ)). IfSome name (λ name. is_name name ≡ true)) (sym h.1) e.0),
@@ -373,10 +373,10 @@ request_form words result h = of_asked result (asked_of words) (words_form words
     of_asked (Err usage) asked e h = tt
 
 -- and the files of mcheck7 are among the words
-pub request_within : (words : List (List ℕ)) (result : Result Request Usage) → Gives result (asked_of words) → IfOk result (WithinWords (length words))
+pub request_within : (words : List (List ℕ)) (result : Result Request Usage) → GivesTask result (asked_of words) → IfOk result (WithinWords (length words))
 request_within words result h = of_asked result (asked_of words) (words_form words) h
   where
-    of_asked : (result : Result Request Usage) (asked : Result Task Usage) → IsTaskSo (length words) asked → Gives result asked
+    of_asked : (result : Result Request Usage) (asked : Result Task Usage) → IsTaskSo (length words) asked → GivesTask result asked
         → IfOk result (WithinWords (length words))
     of_asked (Ok (requests.Check request)) (Ok (AsksCheck asked)) e h = (
       subst (λ n. n < length words) (ap (λ (a : Check). a.test) (sym h)) e.0,

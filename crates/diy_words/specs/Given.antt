@@ -6,7 +6,7 @@ use Rattle.relax_edges.specs.declared.TheConstants.{MAX_EDGES}
 use Rattle.relax_edges.specs.declared.edge.Edge.{Edge}
 use Rattle.edge_lists.specs.declared.list.EdgeList.{EdgeList}
 use Rattle.edge_lists.specs.declared.list.EdgeList.TheVariants.{Whole, TooLong}
-use Rattle.edge_lists.specs.Kept.{kept}
+use Rattle.edge_lists.specs.KeptEdges.{kept_edges}
 use Rattle.edge_algebra.specs.Compose.{composed}
 use Rattle.diy_words.specs.declared.request.Diy.{Diy}
 use Rattle.diy_words.specs.declared.request.TheConstants.{MAX_FOLDER, MAX_CHOICES, MAX_TESTS}
@@ -18,7 +18,7 @@ use Rattle.diy_words.specs.declared.request.Sought.{Sought}
 use Rattle.diy_words.specs.declared.request.Sought.TheVariants as sought
 use Rattle.diy_words.specs.declared.notes.Notes as code
 use Rattle.diy_words.specs.declared.usage.Usage.{Usage}
-use Rattle.diy_words.specs.Names.{is_name}
+use Rattle.diy_words.specs.TestNames.{is_name}
 use Rattle.diy_words.specs.Notes.{Notes}
 use Rattle.diy_words.specs.Parts.{Valued, parts_of, option_named}
 use Rattle.diy_words.specs.Sayings.{Saying, with_saying, said_by, sayings}
@@ -27,7 +27,7 @@ use Rattle.diy_words.specs.Requests as req
 
 -- the request holds the cycle that is sought
 abbrev pub IsSought : Sought → req.Sought → Type 0
-IsSought (sought.Edges list) (OfEdges es) = list ≡ kept es
+IsSought (sought.Edges list) (OfEdges es) = list ≡ kept_edges es
 IsSought (sought.Named from) (OfName at name) = (from.word ≡ at) × (from.name.now ≡ name)
 IsSought sought.Lines OfLines = Unit {0}
 IsSought _ _ = ⊥
@@ -47,28 +47,28 @@ list_kept request = record {
 }
 
 -- the request holds what is asked for
-abbrev pub Holds : Request → Task → Type 0
-Holds (requests.Test request) (AsksTest asked) =
-    (request.arch ≡ asked.arch) × (option_map (λ name. name.bytes) request.name ≡ asked.name) × (request.mode ≡ asked.mode) × (request.edges ≡ kept asked.edges)
-Holds (requests.Why request) (AsksWhy asked) =
-    (request.arch ≡ asked.arch) × (option_map (λ name. name.bytes) request.name ≡ asked.name) × (request.edges ≡ kept asked.edges)
+abbrev pub HoldsTask : Request → Task → Type 0
+HoldsTask (requests.Test request) (AsksTest asked) =
+    (request.arch ≡ asked.arch) × (option_map (λ name. name.bytes) request.name ≡ asked.name) × (request.mode ≡ asked.mode) × (request.edges ≡ kept_edges asked.edges)
+HoldsTask (requests.Why request) (AsksWhy asked) =
+    (request.arch ≡ asked.arch) × (option_map (λ name. name.bytes) request.name ≡ asked.name) × (request.edges ≡ kept_edges asked.edges)
     × (option_map (λ folder. folder.now) request.folder ≡ asked.folder)
-Holds (requests.Name request) (AsksName asked) = (request.arch ≡ asked.arch) × IsSought request.cycle asked.cycle
-Holds (requests.List request) (AsksList asked) = list_kept request ≡ asked
-Holds (requests.Families arch) (AsksFamilies asked) = arch ≡ asked.arch
-Holds requests.Sum AsksSum = Unit {0}
-Holds (requests.Cross request) (AsksCross asked) =
+HoldsTask (requests.Name request) (AsksName asked) = (request.arch ≡ asked.arch) × IsSought request.cycle asked.cycle
+HoldsTask (requests.List request) (AsksList asked) = list_kept request ≡ asked
+HoldsTask (requests.Families arch) (AsksFamilies asked) = arch ≡ asked.arch
+HoldsTask requests.Sum AsksSum = Unit {0}
+HoldsTask (requests.Cross request) (AsksCross asked) =
     (request.arch ≡ asked.arch) × (request.mode ≡ asked.mode) × (option_map (λ folder. folder.now) request.folder ≡ asked.folder)
-Holds (requests.Demo request) (AsksDemo asked) = request ≡ asked
-Holds (requests.Check request) (AsksCheck asked) = request ≡ asked
-Holds _ _ = ⊥
+HoldsTask (requests.Demo request) (AsksDemo asked) = request ≡ asked
+HoldsTask (requests.Check request) (AsksCheck asked) = request ≡ asked
+HoldsTask _ _ = ⊥
 
 -- a call gives the request that words make, or their first fault
-abbrev pub Gives : Result Request Usage → Result Task Usage → Type 0
-Gives (Ok request) (Ok asked) = Holds request asked
-Gives (Ok request) (Err usage) = ⊥
-Gives (Err usage) (Ok asked) = ⊥
-Gives (Err usage) (Err fault) = usage ≡ fault
+abbrev pub GivesTask : Result Request Usage → Result Task Usage → Type 0
+GivesTask (Ok request) (Ok asked) = HoldsTask request asked
+GivesTask (Ok request) (Err usage) = ⊥
+GivesTask (Err usage) (Ok asked) = ⊥
+GivesTask (Err usage) (Err fault) = usage ≡ fault
 
 -- the name of a test that is asked for, if one is given, has its form; the cycles of a listing have at most as many edges as
 -- there may be, its folder and those of diyone7 and diycross7 have at most as many bytes as they may have, and demo makes at
@@ -149,14 +149,14 @@ Steps tool words at old new (Err usage) = Err usage ≡ notes_at_end tool words 
 -- a call gives the request of a tool from these notes, whatever the edges, places and files of which they are the notes
 abbrev pub GivesAtEnd : Tool → ℕ → Notes → Result Request Usage → Type 0
 GivesAtEnd tool count notes result =
-    (edges : List Edge) (places : List (List (List Edge))) (files : List ℕ) → notes.edges ≡ kept edges
-    → nat_lt MAX_CHOICES notes.choices ≡ nat_lt MAX_CHOICES (choice_count places) → Gives result (tool_asked tool count notes edges places files)
+    (edges : List Edge) (places : List (List (List Edge))) (files : List ℕ) → notes.edges ≡ kept_edges edges
+    → nat_lt MAX_CHOICES notes.choices ≡ nat_lt MAX_CHOICES (choice_count places) → GivesTask result (tool_asked tool count notes edges places files)
 
 -- a call gives the request of diycross7 from these notes, whatever the places whose choices they count
 abbrev pub GivesCross : ℕ → Notes → Result Request Usage → Type 0
 GivesCross count notes result =
     (places : List (List (List Edge))) → nat_lt MAX_CHOICES notes.choices ≡ nat_lt MAX_CHOICES (choice_count places)
-    → Gives result (asks AsksCross (cross_asked count notes places))
+    → GivesTask result (asks AsksCross (cross_asked count notes places))
 
 -- the word at a place is no option that takes a value
 abbrev pub IsPlain : Tool → List (List ℕ) → ℕ → Type 0
@@ -168,7 +168,7 @@ pub record IsOption (tool : Tool) (words : List (List ℕ)) (at : ℕ) (option :
   pub word_is : slice_get words at ≡ Some word
   pub named : option_named tool word ≡ Some option
 
--- the cycle that edges make, as they are kept, if they make one
+-- the cycle that edges make, as they are kept_edges, if they make one
 abbrev pub cycle_kept : EdgeList → Option (List Edge)
 cycle_kept (Whole list) = result_ok (composed list.items)
 cycle_kept TooLong = None

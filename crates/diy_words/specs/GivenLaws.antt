@@ -3,16 +3,16 @@ use Rattle.std.specs.Prelude.{Result, Ok}
 use Rattle.diy_words.specs.declared.request.Cross.{Cross}
 use Rattle.diy_words.specs.declared.request.Request.TheVariants as requests
 use Rattle.diy_words.specs.declared.usage.Usage.{Usage}
-use Rattle.diy_words.specs.Given.{Gives}
+use Rattle.diy_words.specs.Given.{GivesTask}
 use Rattle.relax_edges.specs.declared.kinds.ArchName.{ArchName}
 use Rattle.diy_words.specs.Requests.{Task, AsksCross, AsksFamilies, IsCrossing, IsClassifying}
 
 -- words that give such a request ask for something of the tool
-pub gives_crossing : (request : Cross) (asked : Result Task Usage) → Gives (Ok (requests.Cross request)) asked → IsCrossing asked
+pub gives_crossing : (request : Cross) (asked : Result Task Usage) → GivesTask (Ok (requests.Cross request)) asked → IsCrossing asked
 gives_crossing request (Ok (AsksCross asked)) h = tt
 gives_crossing request asked h = absurd h
 
 -- words that give a request for families ask for something of classify7
-pub gives_classifying : (arch : ArchName) (asked : Result Task Usage) → Gives (Ok (requests.Families arch)) asked → IsClassifying asked
+pub gives_classifying : (arch : ArchName) (asked : Result Task Usage) → GivesTask (Ok (requests.Families arch)) asked → IsClassifying asked
 gives_classifying arch (Ok (AsksFamilies asked)) h = tt
 gives_classifying arch asked h = absurd h

@@ -1,6 +1,6 @@
-pub mod Names
-pub mod Edges
-pub mod Numbers
+pub mod TestNames
+pub mod EdgeWords
+pub mod NumberWords
 pub mod Parts
 pub mod Notes
 pub mod Sayings

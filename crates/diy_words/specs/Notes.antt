@@ -5,7 +5,7 @@ use Rattle.relax_edges.specs.declared.kinds.ArchName.{ArchName}
 use Rattle.relax_edges.specs.declared.kinds.ObsMode.{ObsMode}
 use Rattle.relax_edges.specs.declared.edge.Edge.{Edge}
 use Rattle.edge_lists.specs.declared.list.EdgeList.{EdgeList}
-use Rattle.edge_lists.specs.Kept.{kept}
+use Rattle.edge_lists.specs.KeptEdges.{kept_edges}
 use Rattle.diy_words.specs.declared.request.TheConstants.{MAX_CHOICES}
 
 -- the last of each thing that was given; the last value of `-from` with its place, and the place of the first operand of edges;
@@ -42,7 +42,7 @@ no_notes = record {
   mode = None;
   from = None;
   operand = None;
-  edges = kept [];
+  edges = kept_edges [];
   relaxes = None;
   size = 6;
   exact = false;

@@ -11,7 +11,7 @@ use Rattle.relax_edges.specs.Relaxations.{relaxes_of}
 use Rattle.edge_algebra.specs.declared.errors.CycleError.{CycleError}
 use Rattle.edge_algebra.specs.Compose.{composed}
 use Rattle.edge_lists.specs.declared.read.Separators.TheVariants.{BlanksAndCommas}
-use Rattle.edge_lists.specs.Kept.{added}
+use Rattle.edge_lists.specs.KeptEdges.{edges_added}
 use Rattle.edge_lists.specs.Spelled.{edges_of}
 use Rattle.relax_edges.specs.declared.kinds.ArchName.{ArchName}
 use Rattle.relax_edges.specs.declared.kinds.ObsMode.{ObsMode}
@@ -23,9 +23,9 @@ use Rattle.diy_words.specs.declared.request.TheConstants.{MAX_FOLDER, MAX_TESTS}
 use Rattle.diy_words.specs.declared.options.Tool.{Tool}
 use Rattle.diy_words.specs.declared.options.Tool.TheVariants as tools
 use Rattle.diy_words.specs.declared.options.OptionName.TheVariants as opts
-use Rattle.diy_words.specs.Names.{is_name}
-use Rattle.diy_words.specs.Numbers.{number_to}
-use Rattle.diy_words.specs.Edges.{operand_edges}
+use Rattle.diy_words.specs.TestNames.{is_name}
+use Rattle.diy_words.specs.NumberWords.{number_to}
+use Rattle.diy_words.specs.EdgeWords.{operand_edges}
 use Rattle.diy_words.specs.Parts.{Part, Alone, Valued, Unvalued, arch_named, mode_named}
 use Rattle.diy_words.specs.Notes.{Notes, no_notes, more_choices}
 
@@ -53,38 +53,38 @@ pub data Saying : Type 0 where
   SaysPlace : List (List Edge) → Saying
   SaysCount : ℕ → Saying
 
--- a fault at a word
-abbrev pub fault : ℕ → UsageKind → Result Saying Usage
-fault word kind = Err (record { word = word; kind = kind })
+-- a usage_fault at a word
+abbrev pub usage_fault : ℕ → UsageKind → Result Saying Usage
+usage_fault word kind = Err (record { word = word; kind = kind })
 
 -- the value of `-arch`, at its place
 abbrev pub arch_said : ℕ → Option ArchName → Result Saying Usage
 arch_said at (Some arch) = Ok (SaysArch arch)
-arch_said at None = fault at UnknownArch
+arch_said at None = usage_fault at UnknownArch
 
 -- the value of `-name`, at its place
 abbrev pub name_said : ℕ → List ℕ → Result Saying Usage
-name_said at text = if is_name text then Ok (SaysName text) else fault at BadName
+name_said at text = if is_name text then Ok (SaysName text) else usage_fault at BadName
 
 -- the value of `-obs`, at its place
 abbrev pub mode_said : ℕ → Option ObsMode → Result Saying Usage
 mode_said at (Some mode) = Ok (SaysMode mode)
-mode_said at None = fault at BadMode
+mode_said at None = usage_fault at BadMode
 
 -- `-obs` at its place with its value: after `-why` it is excluded, whatever its value
 abbrev pub obs_said : Notes → ℕ → List ℕ → Result Saying Usage
-obs_said notes at value = if notes.why then fault at ExcludedOption else mode_said (at + 1) (mode_named value)
+obs_said notes at value = if notes.why then usage_fault at ExcludedOption else mode_said (at + 1) (mode_named value)
 
 -- `-why` at its place: after `-obs` it is excluded
 abbrev pub why_said : Notes → ℕ → Result Saying Usage
-why_said notes at = if is_some notes.mode then fault at ExcludedOption else Ok SaysWhy
+why_said notes at = if is_some notes.mode then usage_fault at ExcludedOption else Ok SaysWhy
 
 -- the edges of an operand, at its place
 abbrev pub edges_said : ℕ → Option (List Edge) → Result Saying Usage
 edges_said at (Some es) = Ok (SaysEdges at es)
-edges_said at None = fault at UnknownEdge
+edges_said at None = usage_fault at UnknownEdge
 
--- what is wrong with relaxations, as a fault of words
+-- what is wrong with relaxations, as a usage_fault of words
 abbrev pub relax_usage : RelaxKind → UsageKind
 relax_usage relaxing.UnknownEdge = UnknownEdge
 relax_usage relaxing.BadBracket = BadBracket
@@ -95,47 +95,47 @@ relax_usage relaxing.TooManyRelaxes = TooManyRelaxes
 -- the value of `-edges`, at its place
 abbrev pub relaxes_said : ℕ → Result (List (List Edge)) RelaxError → Result Saying Usage
 relaxes_said at (Ok relaxes) = Ok (SaysRelaxes relaxes)
-relaxes_said at (Err error) = fault at (relax_usage error.kind)
+relaxes_said at (Err error) = usage_fault at (relax_usage error.kind)
 
 -- the relaxations of an operand of diycross7, at its place
 abbrev pub place_said : ℕ → Result (List (List Edge)) RelaxError → Result Saying Usage
 place_said at (Ok relaxes) = Ok (SaysPlace relaxes)
-place_said at (Err error) = fault at (relax_usage error.kind)
+place_said at (Err error) = usage_fault at (relax_usage error.kind)
 
 -- the value of `-size`, at its place
 abbrev pub size_said : ℕ → Option ℕ → Result Saying Usage
 size_said at (Some size) = Ok (SaysSize size)
-size_said at None = fault at BadNumber
+size_said at None = usage_fault at BadNumber
 
 -- the value of `-nprocs`, at its place
 abbrev pub threads_said : ℕ → Option ℕ → Result Saying Usage
 threads_said at (Some threads) = Ok (SaysThreads threads)
-threads_said at None = fault at BadNumber
+threads_said at None = usage_fault at BadNumber
 
 -- the value of `-accesses`, at its place
 abbrev pub accesses_said : ℕ → Option ℕ → Result Saying Usage
 accesses_said at (Some accesses) = Ok (SaysAccesses accesses)
-accesses_said at None = fault at BadNumber
+accesses_said at None = usage_fault at BadNumber
 
 -- the number that is the operand of demo, at its place
 abbrev pub count_said : ℕ → Option ℕ → Result Saying Usage
 count_said at (Some count) = Ok (SaysCount count)
-count_said at None = fault at BadNumber
+count_said at None = usage_fault at BadNumber
 
 -- the value of `-after`, at its place: edges that make a cycle, of whatever architecture
-abbrev pub cycle_said : ℕ → Result (List Edge) CycleError → Result Saying Usage
-cycle_said at (Ok cycle) = Ok (SaysAfter cycle)
-cycle_said at (Err error) = fault at BadAfter
+abbrev pub cycle_word_said : ℕ → Result (List Edge) CycleError → Result Saying Usage
+cycle_word_said at (Ok cycle) = Ok (SaysAfter cycle)
+cycle_word_said at (Err error) = usage_fault at BadAfter
 
 -- the cycle that the edges of `-after` make, or what is wrong with them
 abbrev pub after_said : ℕ → Option (List Edge) → Result Saying Usage
-after_said at (Some edges) = cycle_said at (composed edges)
-after_said at None = fault at UnknownEdge
+after_said at (Some edges) = cycle_word_said at (composed edges)
+after_said at None = usage_fault at UnknownEdge
 
 -- the value of `-o`, at its place
 abbrev pub folder_said : ℕ → List ℕ → Result Saying Usage
 folder_said at text =
-    if nat_lt 0 (length text) && nat_le (length text) MAX_FOLDER then Ok (SaysFolder text) else fault at BadFolder
+    if nat_lt 0 (length text) && nat_le (length text) MAX_FOLDER then Ok (SaysFolder text) else usage_fault at BadFolder
 
 -- a text begins with `-`
 abbrev pub begins_option : List ℕ → Bool
@@ -144,24 +144,24 @@ begins_option (byte ∷ _) = byte == 45
 
 -- a word that begins with `-` and takes no value, at its place
 abbrev pub dashed_said : Tool → Notes → ℕ → List ℕ → Result Saying Usage
-dashed_said tools.DiyOne notes at text = if bytes_eq text (codes "-why") then why_said notes at else fault at UnknownOption
-dashed_said tools.Diy notes at text = if bytes_eq text (codes "-exact") then Ok SaysExact else fault at UnknownOption
-dashed_said _ notes at text = fault at UnknownOption
+dashed_said tools.DiyOne notes at text = if bytes_eq text (codes "-why") then why_said notes at else usage_fault at UnknownOption
+dashed_said tools.Diy notes at text = if bytes_eq text (codes "-exact") then Ok SaysExact else usage_fault at UnknownOption
+dashed_said _ notes at text = usage_fault at UnknownOption
 
 -- a file that is an operand of mcheck7, at its place, where so many were taken before: the first is that of the test, the
 -- second that of the execution, and a third is stray
 abbrev pub checked_said : ℕ → ℕ → Result Saying Usage
-checked_said taken at = if taken == 0 then Ok (SaysTest at) else if taken == 1 then Ok (SaysExecution at) else fault at StrayWord
+checked_said taken at = if taken == 0 then Ok (SaysTest at) else if taken == 1 then Ok (SaysExecution at) else usage_fault at StrayWord
 
 -- an operand of a tool, at its place, where so many of those whose number is limited were taken before: demo takes one
 abbrev pub operand_said : Tool → ℕ → ℕ → List ℕ → Result Saying Usage
 operand_said tools.DiyOne _ at text = edges_said at (operand_edges text)
-operand_said tools.Diy _ at text = fault at StrayWord
+operand_said tools.Diy _ at text = usage_fault at StrayWord
 operand_said tools.Cross _ at text = place_said at (relaxes_of text)
 operand_said tools.Norm _ at text = edges_said at (operand_edges text)
 operand_said tools.Classify _ at text = Ok (SaysFile at)
 operand_said tools.Msum _ at text = Ok SaysLog
-operand_said tools.Demo taken at text = if taken == 0 then count_said at (number_to MAX_TESTS text) else fault at StrayWord
+operand_said tools.Demo taken at text = if taken == 0 then count_said at (number_to MAX_TESTS text) else usage_fault at StrayWord
 operand_said tools.Check taken at text = checked_said taken at
 
 -- what a word says, an option with its value, or what is wrong with it, where so much is noted of the words before it
@@ -177,7 +177,7 @@ said_by tool notes (Valued opts.Nprocs at value) = threads_said (at + 1) (number
 said_by tool notes (Valued opts.Accesses at value) = accesses_said (at + 1) (number_to MAX_EDGES value)
 said_by tool notes (Valued opts.After at value) = after_said (at + 1) (edges_of BlanksAndCommas value)
 said_by tool notes (Valued opts.Folder at value) = folder_said (at + 1) value
-said_by tool notes (Unvalued _ at) = fault at MissingValue
+said_by tool notes (Unvalued _ at) = usage_fault at MissingValue
 
 -- the notes with what one more word says: the later of two takes the place of the earlier, but of the operands of edges the place
 -- of the first stays; the number of demo and the files of mcheck7 are the operands whose number is limited
@@ -186,7 +186,7 @@ with_saying notes (SaysArch arch) = record notes { arch = Some arch }
 with_saying notes (SaysName name) = record notes { name = Some name }
 with_saying notes (SaysMode mode) = record notes { mode = Some mode }
 with_saying notes (SaysFrom at name) = record notes { from = Some (at, name) }
-with_saying notes (SaysEdges at edges) = record notes { operand = option_or notes.operand (Some at); edges = added notes.edges edges }
+with_saying notes (SaysEdges at edges) = record notes { operand = option_or notes.operand (Some at); edges = edges_added notes.edges edges }
 with_saying notes (SaysRelaxes relaxes) = record notes { relaxes = Some relaxes }
 with_saying notes (SaysSize size) = record notes { size = size }
 with_saying notes SaysExact = record notes { exact = true }
@@ -212,12 +212,12 @@ abbrev pub sayings : Tool → Notes → List Part → List (Result Saying Usage)
 sayings tool notes [] = []
 sayings tool notes (part ∷ parts) = said_by tool notes part ∷ sayings tool (with_next notes (said_by tool notes part)) parts
 
--- something said before the rest, where the rest has no fault
+-- something said before the rest, where the rest has no usage_fault
 abbrev pub said_first : Saying → Result (List Saying) Usage → Result (List Saying) Usage
 said_first saying (Ok rest) = Ok (saying ∷ rest)
 said_first saying (Err usage) = Err usage
 
--- all that words say, or the first fault among them
+-- all that words say, or the first usage_fault among them
 abbrev pub said_all : List (Result Saying Usage) → Result (List Saying) Usage
 said_all [] = Ok []
 said_all (Ok saying ∷ rest) = said_first saying (said_all rest)
@@ -238,9 +238,9 @@ edges_in (SaysEdges _ edges) = edges
 edges_in _ = []
 
 -- the relaxations of a place
-abbrev pub places_in : Saying → List (List (List Edge))
-places_in (SaysPlace relaxes) = relaxes ∷ []
-places_in _ = []
+abbrev pub places_of_word : Saying → List (List (List Edge))
+places_of_word (SaysPlace relaxes) = relaxes ∷ []
+places_of_word _ = []
 
 -- the place of a file
 abbrev pub files_in : Saying → List ℕ
@@ -255,7 +255,7 @@ edges_given (saying ∷ rest) = edges_in saying ++ edges_given rest
 -- the relaxations of all places
 abbrev pub places_given : List Saying → List (List (List Edge))
 places_given [] = []
-places_given (saying ∷ rest) = places_in saying ++ places_given rest
+places_given (saying ∷ rest) = places_of_word saying ++ places_given rest
 
 -- the places of all files
 abbrev pub files_given : List Saying → List ℕ

@@ -3,7 +3,7 @@ ghost use Rattle.std.specs.Char.{is_ascii_digit};
 ghost use Rattle.std.specs.List.{list_all};
 ghost use Rattle.std.specs.Result.{result_ok};
 ghost use Rattle.std.specs.Str.Parse.{digits_value};
-ghost use Rattle.diy_words.specs.Numbers.{is_number, number_to};
+ghost use Rattle.diy_words.specs.NumberWords.{is_number, number_to};
 
 /// The number from 1 to `greatest` that a text is, if it is one: 1 to 7 digits.
 pub fn number_to(greatest: u32, text: &str) -> Option<u32>

@@ -1,11 +1,11 @@
 ghost use Rattle.std.specs.Prelude.{◌≡◌, ◌<◌, ◌+◌, ◌^◌, ℕ, List, length, IfOk};
 ghost use Rattle.relax_edges.specs.declared.edge.Edge.{Edge};
-ghost use Rattle.edge_lists.specs.Kept.{kept};
+ghost use Rattle.edge_lists.specs.KeptEdges.{kept_edges};
 ghost use Rattle.diy_words.specs.declared.usage.UsageKind.TheVariants.{MissingArch};
 ghost use Rattle.diy_words.specs.Notes.{no_notes};
 ghost use Rattle.diy_words.specs.Sayings.{said_all};
 ghost use Rattle.diy_words.specs.Requests.{asked_of, said_asked, asks, AsksTest, AsksWhy, AsksName, AsksList, AsksFamilies, AsksDemo, AsksCheck, test_asked, why_asked, diyone_asked, norm_asked, diy_asked, families_with, demo_with, check_with};
-ghost use Rattle.diy_words.specs.Given.{Gives, HasForm, WithinWords, Steps, GivesAtEnd, GivesCross, IsPlain, IsOption, code_notes, sayings_from};
+ghost use Rattle.diy_words.specs.Given.{GivesTask, HasForm, WithinWords, Steps, GivesAtEnd, GivesCross, IsPlain, IsOption, code_notes, sayings_from};
 
 use crate::notes::{Notes, missing_value};
 use crate::options::{OptionName, Tool, option_named, tool_named};
@@ -17,7 +17,7 @@ use relax_edges::ObsMode;
 /// The request that the words make, or the first fault among them: words are judged from left to
 /// right, an option with its value, and then all of them.
 pub fn read_request(words: &Words) -> Result<Request<'_>, Usage>
-    ensures given { Gives result (asked_of words.now) }
+    ensures given { GivesTask result (asked_of words.now) }
 
     // The name of a test has its form; the cycles of a listing have at most `MAX_EDGES` edges, its
     // folder and those of diyone7 and diycross7 have at most `MAX_FOLDER` bytes, and demo makes 1 to
@@ -44,7 +44,7 @@ pub fn read_request(words: &Words) -> Result<Request<'_>, Usage>
 
 fn read_words(tool: Tool, words: &Words) -> Result<Request<'_>, Usage>
     requires { 0 < length words.now }
-    ensures { Gives result (said_asked tool (length words.now) (said_all (sayings_from tool no_notes words.now 1))) }
+    ensures { GivesTask result (said_asked tool (length words.now) (said_all (sayings_from tool no_notes words.now 1))) }
 {
     let mut notes = Notes::new();
     let mut at = 1;
@@ -120,7 +120,7 @@ fn finish(tool: Tool, count: usize, notes: Notes<'_>) -> Result<Request<'_>, Usa
 }
 
 fn finish_diyone(count: usize, notes: Notes<'_>) -> Result<Request<'_>, Usage>
-    ensures { (edges : List Edge) → notes.entry.edges ≡ kept edges → Gives result (diyone_asked count (code_notes notes.entry) edges) }
+    ensures { (edges : List Edge) → notes.entry.edges ≡ kept_edges edges → GivesTask result (diyone_asked count (code_notes notes.entry) edges) }
 {
     if notes.why {
         finish_why(count, notes)
@@ -130,7 +130,7 @@ fn finish_diyone(count: usize, notes: Notes<'_>) -> Result<Request<'_>, Usage>
 }
 
 fn finish_why(count: usize, notes: Notes<'_>) -> Result<Request<'_>, Usage>
-    ensures { (edges : List Edge) → notes.entry.edges ≡ kept edges → Gives result (asks AsksWhy (why_asked count (code_notes notes.entry) edges)) }
+    ensures { (edges : List Edge) → notes.entry.edges ≡ kept_edges edges → GivesTask result (asks AsksWhy (why_asked count (code_notes notes.entry) edges)) }
 {
     let Some(arch) = notes.arch else {
         return Err(missing_arch(count));
@@ -144,7 +144,7 @@ fn finish_why(count: usize, notes: Notes<'_>) -> Result<Request<'_>, Usage>
 }
 
 fn finish_test(count: usize, notes: Notes<'_>) -> Result<Request<'_>, Usage>
-    ensures { (edges : List Edge) → notes.entry.edges ≡ kept edges → Gives result (asks AsksTest (test_asked count (code_notes notes.entry) edges)) }
+    ensures { (edges : List Edge) → notes.entry.edges ≡ kept_edges edges → GivesTask result (asks AsksTest (test_asked count (code_notes notes.entry) edges)) }
 {
     let Some(arch) = notes.arch else {
         return Err(missing_arch(count));
@@ -164,7 +164,7 @@ fn finish_test(count: usize, notes: Notes<'_>) -> Result<Request<'_>, Usage>
 }
 
 fn finish_list(count: usize, notes: Notes<'_>) -> Result<Request<'_>, Usage>
-    ensures { Gives result (asks AsksList (diy_asked count (code_notes notes.entry))) }
+    ensures { GivesTask result (asks AsksList (diy_asked count (code_notes notes.entry))) }
 {
     let Notes {
         arch,
@@ -208,7 +208,7 @@ fn finish_list(count: usize, notes: Notes<'_>) -> Result<Request<'_>, Usage>
 }
 
 fn finish_families(count: usize, notes: Notes<'_>) -> Result<Request<'_>, Usage>
-    ensures { (files : List ℕ) → Gives result (asks AsksFamilies (families_with count notes.entry.arch files)) }
+    ensures { (files : List ℕ) → GivesTask result (asks AsksFamilies (families_with count notes.entry.arch files)) }
 {
     match notes.arch {
         Some(arch) => Ok(Request::Families(arch)),
@@ -236,7 +236,7 @@ fn finish_cross(count: usize, notes: Notes<'_>) -> Result<Request<'_>, Usage>
 }
 
 fn finish_demo(count: usize, notes: Notes<'_>) -> Result<Request<'_>, Usage>
-    ensures { Gives result (asks AsksDemo (demo_with count notes.entry.arch notes.entry.count)) }
+    ensures { GivesTask result (asks AsksDemo (demo_with count notes.entry.arch notes.entry.count)) }
 {
     let Some(arch) = notes.arch else {
         return Err(missing_arch(count));
@@ -251,7 +251,7 @@ fn finish_demo(count: usize, notes: Notes<'_>) -> Result<Request<'_>, Usage>
 }
 
 fn finish_check(count: usize, notes: Notes<'_>) -> Result<Request<'_>, Usage>
-    ensures { Gives result (asks AsksCheck (check_with count notes.entry.arch notes.entry.test notes.entry.execution)) }
+    ensures { GivesTask result (asks AsksCheck (check_with count notes.entry.arch notes.entry.test notes.entry.execution)) }
 {
     let Some(arch) = notes.arch else {
         return Err(missing_arch(count));
@@ -270,7 +270,7 @@ fn finish_check(count: usize, notes: Notes<'_>) -> Result<Request<'_>, Usage>
 }
 
 fn finish_name(count: usize, notes: Notes<'_>) -> Result<Request<'_>, Usage>
-    ensures { (edges : List Edge) → notes.entry.edges ≡ kept edges → Gives result (asks AsksName (norm_asked count (code_notes notes.entry) edges)) }
+    ensures { (edges : List Edge) → notes.entry.edges ≡ kept_edges edges → GivesTask result (asks AsksName (norm_asked count (code_notes notes.entry) edges)) }
 {
     let Some(arch) = notes.arch else {
         return Err(missing_arch(count));

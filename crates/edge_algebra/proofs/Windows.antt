@@ -4,7 +4,7 @@ use Rattle.std.proofs.lemmas.List.{append-nil, length-map, map-append, drop-map,
 use Rattle.relax_edges.specs.declared.edge.Edge.{Edge}
 use Rattle.relax_edges.specs.Order.{rank_of}
 use Rattle.cycle_laws.specs.Rotation.{rotated}
-use Rattle.cycle_laws.specs.Order.{Above, IsNormal, ranks_below}
+use Rattle.cycle_laws.specs.CycleOrder.{Above, IsNormal, ranks_below}
 use Rattle.cycle_laws.proofs.Rotating.{rotation_of_place, window}
 use Rattle.cycle_laws.proofs.Ordering.{above_irreflexive, above_transitive, above_of_ranks, ranks_of_above}
 

@@ -9,24 +9,24 @@ use Rattle.std.proofs.lemmas.Grind.{common_steps}
 use Rattle.relax_edges.specs.declared.edge.Edge.{Edge}
 use Rattle.relax_edges.specs.Spelling.{edge_of}
 use Rattle.edge_lists.specs.declared.list.EdgeList.{EdgeList}
-use Rattle.edge_lists.specs.Spelled.{CutsAt, separates, before_edges, edges_spelled}
+use Rattle.edge_lists.specs.Spelled.{CutsAtSeparator, separates, before_edges, edges_spelled}
 use Rattle.edge_lists.specs.declared.read.Separators.{Separators}
-use Rattle.edge_lists.specs.Kept.{added}
+use Rattle.edge_lists.specs.KeptEdges.{edges_added}
 
 -- the edges kept once a text's words are read after those that were kept before; none where a word is no edge
 abbrev pub spelled : EdgeList → List (List ℕ) → Option EdgeList
-spelled list texts = option_map (added list) (edges_spelled texts)
+spelled list texts = option_map (edges_added list) (edges_spelled texts)
 
 edges_before : (list : EdgeList) (e : Option Edge) (rest : Option (List Edge)) (new : EdgeList) →
-    option_map (added list) (before_edges e (Some [])) ≡ Some new →
-    option_map (added list) (before_edges e rest) ≡ option_map (added new) rest
-edges_before list (Some e) (Some es) new h = ap (λ l. Some (added l es)) (cc h)
+    option_map (edges_added list) (before_edges e (Some [])) ≡ Some new →
+    option_map (edges_added list) (before_edges e rest) ≡ option_map (edges_added new) rest
+edges_before list (Some e) (Some es) new h = ap (λ l. Some (edges_added l es)) (cc h)
 edges_before list (Some e) None new h = refl
 edges_before list None rest new h = cc h
 
 edges_none : (list : EdgeList) (e : Option Edge) (rest : Option (List Edge)) →
-    option_map (added list) (before_edges e (Some [])) ≡ None →
-    option_map (added list) (before_edges e rest) ≡ None
+    option_map (edges_added list) (before_edges e (Some [])) ≡ None →
+    option_map (edges_added list) (before_edges e rest) ≡ None
 edges_none list (Some e) rest h = cc h
 edges_none list None rest h = refl
 
@@ -79,27 +79,27 @@ words_none s text h =
     none_split (separates s) text (none_long text (position_or_len (separates s) text) (nat_lt (position_or_len (separates s) text) (length text)) refl h)
 
 -- a text cut at its first separator
-pub cut_at : (s : Separators) (text behind : List ℕ) (i : ℕ) → position (separates s) text ≡ Some i → behind ≡ drop (i + 1) text → CutsAt s text (take i text) behind
-cut_at s text behind i at e = record {
+pub cut_at : (s : Separators) (text remainder : List ℕ) (i : ℕ) → position (separates s) text ≡ Some i → remainder ≡ drop (i + 1) text → CutsAtSeparator s text (take i text) remainder
+cut_at s text remainder i at e = record {
   words = words_at s text i at ∙ ap (λ rest. take i text ∷ slice_split (separates s) rest) (sym e);
   shorter = let within = (position-Some (separates s) text i 0 at).0 in rw e (omega (arith, within, length-drop (i + 1) text));
 }
 
 -- a word before a separator is no edge
-pub reading_failed : (s : Separators) (old list : EdgeList) (text rest word behind : List ℕ) →
+pub reading_failed : (s : Separators) (old list : EdgeList) (text rest word remainder : List ℕ) →
     spelled list (slice_split (separates s) rest) ≡ spelled old (slice_split (separates s) text) →
-    CutsAt s rest word behind → None ≡ spelled list (word ∷ []) →
+    CutsAtSeparator s rest word remainder → None ≡ spelled list (word ∷ []) →
     None ≡ spelled old (slice_split (separates s) text)
-reading_failed s old list text rest word behind kept cut h =
-    sym (word_unread list word (slice_split (separates s) behind) (sym h)) ∙ ap (spelled list) (sym cut.words) ∙ kept
+reading_failed s old list text rest word remainder kept cut h =
+    sym (word_unread list word (slice_split (separates s) remainder) (sym h)) ∙ ap (spelled list) (sym cut.words) ∙ kept
 
 -- a word before a separator was read
-pub reading_step : (s : Separators) (old list new : EdgeList) (text rest word behind : List ℕ) →
+pub reading_step : (s : Separators) (old list new : EdgeList) (text rest word remainder : List ℕ) →
     spelled list (slice_split (separates s) rest) ≡ spelled old (slice_split (separates s) text) →
-    CutsAt s rest word behind → Some new ≡ spelled list (word ∷ []) →
-    spelled new (slice_split (separates s) behind) ≡ spelled old (slice_split (separates s) text)
-reading_step s old list new text rest word behind kept cut h =
-    sym (word_read list new word (slice_split (separates s) behind) (sym h)) ∙ ap (spelled list) (sym cut.words) ∙ kept
+    CutsAtSeparator s rest word remainder → Some new ≡ spelled list (word ∷ []) →
+    spelled new (slice_split (separates s) remainder) ≡ spelled old (slice_split (separates s) text)
+reading_step s old list new text rest word remainder kept cut h =
+    sym (word_read list new word (slice_split (separates s) remainder) (sym h)) ∙ ap (spelled list) (sym cut.words) ∙ kept
 
 -- the last word
 pub reading_ends : (s : Separators) (old list : EdgeList) (end : Option EdgeList) (text rest : List ℕ) →

@@ -1,3 +1,3 @@
 pub mod Spelled
-pub mod Kept
+pub mod KeptEdges
 pub mod KeptLaws

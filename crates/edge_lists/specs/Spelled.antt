@@ -18,9 +18,9 @@ abbrev pub IsOneWord : Separators → List ℕ → Type 0
 IsOneWord separators text = slice_split (separates separators) text ≡ text ∷ []
 
 -- a text is a first word, a separator, and the text after it
-pub record CutsAt (separators : Separators) (text prefix behind : List ℕ) : Type 0 where
-  pub words : slice_split (separates separators) text ≡ prefix ∷ slice_split (separates separators) behind
-  pub shorter : length behind < length text
+pub record CutsAtSeparator (separators : Separators) (text prefix remainder : List ℕ) : Type 0 where
+  pub words : slice_split (separates separators) text ≡ prefix ∷ slice_split (separates separators) remainder
+  pub shorter : length remainder < length text
 
 -- an edge before some others, where there is the edge and there are the others
 abbrev pub before_edges : Option Edge → Option (List Edge) → Option (List Edge)

@@ -12,18 +12,18 @@ pub enum EdgeList {
 
 impl EdgeList {
     ghost use Rattle.std.specs.Prelude.{◌≡◌, []};
-    ghost use Rattle.edge_lists.specs.Kept.{kept, pushed};
+    ghost use Rattle.edge_lists.specs.KeptEdges.{kept_edges, pushed};
 
     /// No edge.
     pub fn new() -> EdgeList
-        ensures { result ≡ kept [] }
+        ensures { result ≡ kept_edges [] }
     {
         EdgeList::Whole(ArrayVec::new())
     }
 
     /// Drops all edges.
     pub fn clear(&mut self)
-        ensures { self.new ≡ kept [] }
+        ensures { self.new ≡ kept_edges [] }
     {
         match self {
             EdgeList::Whole(list) => list.clear(),

@@ -1,8 +1,8 @@
 ghost use Rattle.std.specs.Prelude.{◌≡◌, [], ◌∷◌, Option, Some, None, is_ok, if◌then◌else◌, MatchOption, IfSome, ◌<◌, length};
 ghost use Rattle.std.specs.Option.{option_map};
 ghost use Rattle.std.specs.List.{position};
-ghost use Rattle.edge_lists.specs.Spelled.{separates, edges_spelled, edges_of, CutsAt, IsOneWord};
-ghost use Rattle.edge_lists.specs.Kept.{added};
+ghost use Rattle.edge_lists.specs.Spelled.{separates, edges_spelled, edges_of, CutsAtSeparator, IsOneWord};
+ghost use Rattle.edge_lists.specs.KeptEdges.{edges_added};
 
 use crate::list::EdgeList;
 use relax_edges::{Edge, UnknownEdge, read_edge_bytes};
@@ -24,14 +24,14 @@ pub fn read_edges(
     separators: Separators,
     edges: &mut EdgeList,
 ) -> Result<(), UnknownEdge>
-    ensures { (if is_ok result then Some edges.new else None) ≡ option_map (added edges.old) (edges_of separators text.now) }
+    ensures { (if is_ok result then Some edges.new else None) ≡ option_map (edges_added edges.old) (edges_of separators text.now) }
 {
     let mut rest = text;
     loop {
         match cut_at_separator(separators, rest) {
-            Some((word, behind)) => {
+            Some((word, remainder)) => {
                 read_word(word, edges)?;
-                rest = behind;
+                rest = remainder;
             }
             None => return read_word(rest, edges),
         }
@@ -40,7 +40,7 @@ pub fn read_edges(
 
 /// The text before the first separator, and the text after it.
 fn cut_at_separator(separators: Separators, bytes: &[u8]) -> Option<(&[u8], &[u8])>
-    ensures { MatchOption result (IsOneWord separators bytes.now) (λ parts. CutsAt separators bytes.now parts.0.now parts.1.now) }
+    ensures { MatchOption result (IsOneWord separators bytes.now) (λ parts. CutsAtSeparator separators bytes.now parts.0.now parts.1.now) }
 {
     match first_separator(separators, bytes) {
         Some(at) => Some((&bytes[..at], &bytes[at + 1..])),
@@ -77,7 +77,7 @@ fn first_blank_or_comma(bytes: &[u8]) -> Option<usize>
 
 /// Appends the edge that a word spells, if there is a word.
 fn read_word(word: &[u8], edges: &mut EdgeList) -> Result<(), UnknownEdge>
-    ensures { (if is_ok result then Some edges.new else None) ≡ option_map (added edges.old) (edges_spelled (word.now ∷ [])) }
+    ensures { (if is_ok result then Some edges.new else None) ≡ option_map (edges_added edges.old) (edges_spelled (word.now ∷ [])) }
 {
     if word.is_empty() {
         return Ok(());

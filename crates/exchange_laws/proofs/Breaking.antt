@@ -11,7 +11,7 @@ use Rattle.program_meaning.specs.Standing.{AccessAt, Joins, access_at}
 use Rattle.program_meaning.specs.Intended.{cycle_accesses, event_at}
 use Rattle.communication_laws.proofs.AllStand.{is_event_at}
 use Rattle.communication_laws.proofs.Resolves.{Resolves}
-use Rattle.exec_meaning.specs.Edges.{EdgeStands}
+use Rattle.exec_meaning.specs.StandingEdges.{EdgeStands}
 
 -- the edge into an event that it doesn't join with the one before doesn't stand in the execution
 pub edge_breaks : (es : List Edge) (mode : ObsMode) (number : ℕ → ℕ) (p : Program) (x : Execution) (event : ℕ) → Resolves es → accesses_in p x ≡ cycle_accesses es mode number → event < length es → (Joins (cycle_accesses es mode number) x (edge_at es (event_before es event)) (event_at es number (event_before es event)) (event_at es number event) → ⊥) → EdgeStands es p x (event_before es event) → ⊥

@@ -11,12 +11,12 @@ use Rattle.program_meaning.specs.Coherence.{IsCoherent}
 use Rattle.program_meaning.specs.Programs.{IsCandidate, IsCoherentIn, accesses_in}
 use Rattle.program_meaning.specs.Intended.{IsNumbering, cycle_accesses, intended}
 use Rattle.communication_laws.specs.Premises.{MeetsCondition}
-use Rattle.communication_laws.specs.Joining.{Makes, ReadsAsAsked}
+use Rattle.communication_laws.specs.Joining.{MakesAccesses, ReadsAsAsked}
 use Rattle.communication_laws.proofs.Bridge.{resolves}
 use Rattle.communication_laws.proofs.IntendedReads.{reads-count}
 use Rattle.communication_laws.proofs.Programs.{makes_planned, intended_asked}
-use Rattle.test_laws.specs.Headline.{HasCode}
-use Rattle.test_laws.specs.Steps.{cycle_steps}
+use Rattle.test_laws.specs.TestHeadline.{HasCode}
+use Rattle.test_laws.specs.CycleSteps.{cycle_steps}
 use Rattle.test_laws.proofs.ThreadRuns.{AreCodesOf, AreEnough, all_end}
 use Rattle.test_laws.proofs.TestCodes.{cycle_codes, cycle_program, are_codes}
 use Rattle.test_laws.proofs.Making.{planned-count, asked_enough, makes_enough}
@@ -50,7 +50,7 @@ carried a es mode number x laws t n same q = record {
     lists : length x.reads ≡ length (cycle_accesses es mode number)
     lists = ap length same ∙ reads-count es mode number
 
-    makes : Makes es mode number (cycle_program a es mode number) x
+    makes : MakesAccesses es mode number (cycle_program a es mode number) x
     makes = makes_enough (cycle_codes a es mode number) es mode number x codes enough
 
     made : accesses_in (cycle_program a es mode number) x ≡ cycle_accesses es mode number

@@ -22,7 +22,7 @@ use Rattle.communication_laws.proofs.Laws.{no_condition_serves_law}
 use Rattle.communication_laws.proofs.Needs.{refused_entry}
 use Rattle.communication_laws.proofs.Resolves.{Resolves}
 use Rattle.test_laws.specs.FinalStates.{final_state}
-use Rattle.test_laws.specs.Headline.{HasCode}
+use Rattle.test_laws.specs.TestHeadline.{HasCode}
 use Rattle.test_laws.proofs.Headline.{renumbered_numbers, renumbered_program}
 use Rattle.test_laws.proofs.TestCodes.{cycle_codes, cycle_program, are_codes}
 use Rattle.test_laws.proofs.Tying.{tied_up}

@@ -9,11 +9,11 @@ use Rattle.value_laws.specs.declared.needs.NeedsObserver.{NeedsObserver}
 use Rattle.value_laws.specs.Values.{observer_need}
 use Rattle.arch_trait.specs.Cells.{WritesCells, MakesOneAccess}
 use Rattle.arch_trait.specs.Laws.{IsArch}
-use Rattle.arch_trait.specs.Names.{letters, number_in}
+use Rattle.arch_trait.specs.PlaceNames.{letters, number_in}
 use Rattle.arch_trait.specs.Threads.{Puts}
 use Rattle.arch_trait.specs.Writing.{Writing, WritesBack, name_in}
-use Rattle.arch_trait.specs.Tests.{TestSeen}
-use Rattle.litmus_text.specs.Mentioned.{ReadsBack}
+use Rattle.arch_trait.specs.SeenTests.{TestSeen}
+use Rattle.litmus_text.specs.Mentioned.{TestReadsBack}
 use Rattle.litmus_text.specs.Reread.{reread}
 use Rattle.litmus_text.specs.TestReading.{TestRead}
 use Rattle.litmus_text.specs.TestText.{test_text}
@@ -23,10 +23,10 @@ use Rattle.program_meaning.specs.Programs.{Program}
 use Rattle.program_meaning.specs.Intended.{intended, location_numbered}
 use Rattle.communication_laws.specs.Exchange.{exchanged, exchanged_order}
 use Rattle.communication_laws.proofs.Lists.{map_same}
-use Rattle.test_laws.specs.Headline.{HasCode}
-use Rattle.test_laws.specs.Programs.{test_program}
+use Rattle.test_laws.specs.TestHeadline.{HasCode}
+use Rattle.test_laws.specs.TestPrograms.{test_program}
 use Rattle.test_laws.specs.TestOf.{test_of}
-use Rattle.printed_test_laws.specs.Readings.{program_read, place_of}
+use Rattle.printed_test_laws.specs.Readings.{program_read, place_in_test}
 use Rattle.printed_test_laws.proofs.Readable.{readable}
 use Rattle.printed_test_laws.proofs.Rereading.{reread_test, reread_renumbered, by_table, threads_numbered, number_of_location, numbered_same, intended_same}
 use Rattle.exchange_laws.specs.Undecided.{NoneTells, Undecided, BytesUndecided, PrintedUndecided}
@@ -42,7 +42,7 @@ exchanged_same es event f g h =
     λ i. record { reads = reads i; orders = orders i }
 
 -- no condition decides what is read back of the printed test
-read_undecided : (a : Puts) (arch : ArchName) (w : Writing) (name : List ℕ) (es : List Edge) (need : NeedsObserver) → IsArch a → HasCode a es Avoid → observer_need es ≡ Some need → ReadsBack arch w name (test_of a (name_in w.registers) es Avoid)
+read_undecided : (a : Puts) (arch : ArchName) (w : Writing) (name : List ℕ) (es : List Edge) (need : NeedsObserver) → IsArch a → HasCode a es Avoid → observer_need es ≡ Some need → TestReadsBack arch w name (test_of a (name_in w.registers) es Avoid)
     → BytesUndecided arch w (test_text arch w name (test_of a (name_in w.registers) es Avoid)) es need.event
 read_undecided a arch w name es need laws t o r = record {
   test = test;
@@ -67,14 +67,14 @@ read_undecided a arch w name es need laws t o r = record {
     program_is : test_program kept ≡ program_read test
     program_is = λ i. record { places = length r.table; threads = threads_numbered r.table (letters (move_count es)) (test_of a (name_in w.registers) es Avoid).threads i }
 
-    numbers : (l : ℕ) → l < move_count es → number l ≡ place_of test l
+    numbers : (l : ℕ) → l < move_count es → number l ≡ place_in_test test l
     numbers l h = number_of_location r.table (move_count es) l h
 
-    one : intended es Avoid number ≡ intended es Avoid (place_of test)
-    one = intended_same es Avoid number (place_of test) numbers
+    one : intended es Avoid number ≡ intended es Avoid (place_in_test test)
+    one = intended_same es Avoid number (place_in_test test) numbers
 
-    two : exchanged es number need.event ≡ exchanged es (place_of test) need.event
-    two = exchanged_same es need.event number (place_of test) numbers
+    two : exchanged es number need.event ≡ exchanged es (place_in_test test) need.event
+    two = exchanged_same es need.event number (place_in_test test) numbers
 
 -- no condition decides what the printed text of such a test is read as
 pub printed_undecided_law : (a : Puts) (arch : ArchName) (w : Writing) → IsArch a → WritesBack a w → WritesCells a w → MakesOneAccess a → PrintedUndecided a arch w

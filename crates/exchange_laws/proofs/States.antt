@@ -6,18 +6,18 @@ use Rattle.std.proofs.lemmas.Option.{slice_get_past}
 use Rattle.list_laws.proofs.Cases.{by_less}
 use Rattle.relax_edges.specs.declared.kinds.Value.TheVariants.{Num}
 use Rattle.final_cond.specs.Conditions.{LeftSeen, InRegister, AtPlace}
-use Rattle.arch_trait.specs.Names.{number_in}
+use Rattle.arch_trait.specs.PlaceNames.{number_in}
 use Rattle.program_meaning.specs.declared.WriteAt.{WriteAt}
 use Rattle.program_meaning.specs.Accesses.{Access, at_name}
 use Rattle.program_meaning.specs.Executions.{Execution}
-use Rattle.program_meaning.specs.Coherence.{last_write, value_in, final_value}
-use Rattle.program_meaning.specs.Programs.{Program, accesses_in, held_in, register_in, runs_of}
+use Rattle.program_meaning.specs.Coherence.{last_write, value_of_access, final_value}
+use Rattle.program_meaning.specs.Programs.{Program, accesses_in, held_at_last, register_in, runs_of}
 use Rattle.test_laws.specs.FinalStates.{final_state}
 
 -- a place without an order has the value 0
 no_order : (threads : List (List Access)) (x : Execution) (place : ℕ) → length x.orders ≤ place → final_value threads x place ≡ 0
 no_order threads x place h =
-    ap (λ (order : Option (List WriteAt)). value_in (option_and_then (at_name threads) (last_write (unwrap_or order [])))) (slice_get_past x.orders place h)
+    ap (λ (order : Option (List WriteAt)). value_of_access (option_and_then (at_name threads) (last_write (unwrap_or order [])))) (slice_get_past x.orders place h)
 
 -- two executions that end alike at each of the places do so at all
 pub end_alike : (threads : List (List Access)) (places : ℕ) (x y : Execution) → length x.orders ≡ places → length y.orders ≡ places → ((place : ℕ) → place < places → final_value threads y place ≡ final_value threads x place) → (place : ℕ) → final_value threads y place ≡ final_value threads x place
@@ -32,7 +32,7 @@ one_state p names register_number x y same ends = λ i left. shown left i
     in_register : (thread : ℕ) (found : Option ℕ) → option_and_then (register_in p y thread) found ≡ option_and_then (register_in p x thread) found
     in_register thread None = refl
     in_register thread (Some register) =
-        ap (λ (reads : List (List (ℕ × Option WriteAt))). held_in (slice_get (runs_of p.threads reads) thread) register) same
+        ap (λ (reads : List (List (ℕ × Option WriteAt))). held_at_last (slice_get (runs_of p.threads reads) thread) register) same
 
     at_place : (found : Option ℕ) → option_map (λ place. Num (final_value (accesses_in p y) y place)) found ≡ option_map (λ place. Num (final_value (accesses_in p x) x place)) found
     at_place None = refl

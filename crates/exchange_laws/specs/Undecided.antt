@@ -11,10 +11,10 @@ use Rattle.value_laws.specs.declared.needs.NeedsObserver.{NeedsObserver}
 use Rattle.value_laws.specs.Values.{observer_need}
 use Rattle.final_cond.specs.Conditions.{LeftSeen}
 use Rattle.arch_trait.specs.Laws.{IsArch}
-use Rattle.arch_trait.specs.Names.{number_in}
+use Rattle.arch_trait.specs.PlaceNames.{number_in}
 use Rattle.arch_trait.specs.Threads.{Puts}
 use Rattle.arch_trait.specs.Writing.{Writing, name_in}
-use Rattle.arch_trait.specs.Tests.{TestSeen}
+use Rattle.arch_trait.specs.SeenTests.{TestSeen}
 use Rattle.litmus_text.specs.Printable.{IsTestName}
 use Rattle.litmus_text.specs.TestReading.{TestRead, test_read}
 use Rattle.litmus_text.specs.TestText.{test_text}
@@ -23,12 +23,12 @@ use Rattle.program_meaning.specs.Programs.{Program, IsCandidate, IsCoherentIn}
 use Rattle.program_meaning.specs.Standing.{AllStand}
 use Rattle.program_meaning.specs.Intended.{intended}
 use Rattle.communication_laws.specs.Exchange.{exchanged}
-use Rattle.exec_meaning.specs.Edges.{EdgeStands}
+use Rattle.exec_meaning.specs.StandingEdges.{EdgeStands}
 use Rattle.test_laws.specs.FinalStates.{final_state}
-use Rattle.test_laws.specs.Headline.{HasCode, IsRenumbered}
-use Rattle.test_laws.specs.Programs.{test_program}
+use Rattle.test_laws.specs.TestHeadline.{HasCode, IsRenumbered}
+use Rattle.test_laws.specs.TestPrograms.{test_program}
 use Rattle.test_laws.specs.TestOf.{test_of}
-use Rattle.printed_test_laws.specs.Readings.{program_read, place_of}
+use Rattle.printed_test_laws.specs.Readings.{program_read, place_in_test}
 
 -- No condition on the final state tells two executions of a program apart, and an edge of a cycle stands in the first alone:
 -- both are candidate executions that are coherent per location; each register of each thread and each place has the same
@@ -62,7 +62,7 @@ TestsUndecided =
 pub record BytesUndecided (arch : ArchName) (w : Writing) (bytes : List ℕ) (es : List Edge) (event : ℕ) : Type 0 where
   pub test : TestRead
   pub reads : test_read arch w bytes ≡ Ok test
-  pub undecided : Undecided (program_read test) test.places (number_in w.registers) es (place_of test) event
+  pub undecided : Undecided (program_read test) test.places (number_in w.registers) es (place_in_test test) event
 
 -- the bytes of the text of a cycle's test without observers, under a name of its form, are read as such a test
 abbrev pub PrintedUndecided : Puts → ArchName → Writing → Type 0

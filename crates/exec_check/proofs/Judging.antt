@@ -9,7 +9,7 @@ use Rattle.final_cond.specs.Conditions.{LeftSeen, CondSeen}
 use Rattle.final_cond.specs.States.{Meets}
 use Rattle.program_meaning.specs.Executions.{Execution}
 use Rattle.program_meaning.specs.Programs.{Program}
-use Rattle.exec_meaning.specs.Edges.{EdgeStands}
+use Rattle.exec_meaning.specs.StandingEdges.{EdgeStands}
 use Rattle.exec_check.specs.Verdicts.{AreJudged}
 
 -- the first edges are judged

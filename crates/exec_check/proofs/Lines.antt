@@ -9,7 +9,7 @@ use Rattle.diy_io.specs.Page.{Sends}
 use Rattle.diy_io.specs.PageLaws.{sends_then, sends_stopped, sent_nothing}
 use Rattle.diy_io.specs.Wrote.{SinkSeen}
 use Rattle.relax_edges.specs.declared.edge.Edge.{Edge}
-use Rattle.relax_edges.specs.Words.{word_of}
+use Rattle.relax_edges.specs.WordParts.{word_of}
 use Rattle.exec_check.specs.declared.verdict.Verdict.{Verdict}
 use Rattle.exec_check.specs.Verdicts.{answer_word, answer_line, edge_line, edge_lines, judged_lines, further_lines}
 

@@ -4,12 +4,12 @@ use Rattle.std.specs.Prelude.{◌↔◌, IsTrue, codes}
 use Rattle.relax_edges.specs.declared.kinds.ArchName.{ArchName}
 use Rattle.relax_edges.specs.declared.edge.Edge.{Edge}
 use Rattle.litmus_text.specs.TestReading.{TestRead}
-use Rattle.litmus_text.specs.Programs.{program_read}
+use Rattle.litmus_text.specs.ReadPrograms.{program_read}
 use Rattle.program_meaning.specs.Executions.{Execution}
 use Rattle.program_meaning.specs.Programs.{Program, IsCandidate, IsCoherentIn}
 use Rattle.final_cond.specs.States.{Meets}
 use Rattle.test_laws.specs.FinalStates.{final_state}
-use Rattle.exec_meaning.specs.Edges.{EdgeStands}
+use Rattle.exec_meaning.specs.StandingEdges.{EdgeStands}
 use Rattle.exec_check.specs.declared.verdict.Verdict.{Verdict}
 use Rattle.exec_check.specs.Verdicts.{JudgesEdges, JudgesFurther, IsVerdict, judged_cycle, answer_line, judged_lines, further_lines, verdict_text}
 

@@ -6,16 +6,16 @@ use Rattle.std.specs.Fmt.{decimal}
 use Rattle.std.specs.Result.{result_ok}
 use Rattle.relax_edges.specs.declared.kinds.ArchName.{ArchName}
 use Rattle.relax_edges.specs.declared.edge.Edge.{Edge}
-use Rattle.relax_edges.specs.Words.{word_of}
+use Rattle.relax_edges.specs.WordParts.{word_of}
 use Rattle.resolution_laws.specs.Resolution.{resolution_of}
 use Rattle.cycle_lines.specs.Cycles.{quoted_cycle}
 use Rattle.final_cond.specs.States.{Meets}
 use Rattle.litmus_text.specs.TestReading.{TestRead}
-use Rattle.litmus_text.specs.Programs.{program_read}
+use Rattle.litmus_text.specs.ReadPrograms.{program_read}
 use Rattle.program_meaning.specs.Executions.{Execution}
 use Rattle.program_meaning.specs.Programs.{Program, IsCandidate, IsCoherentIn}
 use Rattle.test_laws.specs.FinalStates.{final_state}
-use Rattle.exec_meaning.specs.Edges.{EdgeStands}
+use Rattle.exec_meaning.specs.StandingEdges.{EdgeStands}
 use Rattle.execution_text.specs.ExecutionText.{execution_read}
 use Rattle.exec_check.specs.declared.errors.CheckError.{CheckError}
 use Rattle.exec_check.specs.declared.errors.CheckError.TheVariants.{Exec, NoMemory}
@@ -41,14 +41,14 @@ JudgesEdges None p x judged = judged ≡ []
 JudgesEdges (Some es) p x judged = AreJudged es p x judged
 
 -- the terms of a test's condition hold in the final state of an execution
-abbrev pub MeetsCondition : (List ℕ → Option ℕ) → TestRead → Execution → Type 0
-MeetsCondition register_number test x = Meets (final_state (program_read test) test.places register_number x) test.cond
+abbrev pub EndsInCondition : (List ℕ → Option ℕ) → TestRead → Execution → Type 0
+EndsInCondition register_number test x = Meets (final_state (program_read test) test.places register_number x) test.cond
 
 -- what a verdict says of a candidate execution: whether it is coherent, whether the terms of the condition hold in its final
 -- state, and which edges of the quoted cycle stand
 pub record JudgesCandidate (arch : ArchName) (register_number : List ℕ → Option ℕ) (test : TestRead) (x : Execution) (v : Verdict) : Type 0 where
   pub coherent : IsTrue v.coherent ↔ IsCoherentIn (program_read test) x
-  pub condition : IsTrue v.condition ↔ MeetsCondition register_number test x
+  pub condition : IsTrue v.condition ↔ EndsInCondition register_number test x
   pub edges : JudgesEdges (judged_cycle arch test) (program_read test) x v.edges.items
 
 -- a verdict says nothing more where the execution is no candidate

@@ -1,8 +1,8 @@
 ghost use Rattle.std.specs.Prelude.{◌≡◌, ◌↔◌, IfOk, IsTrue, length};
-ghost use Rattle.arch_trait.specs.Names.{number_in};
-ghost use Rattle.litmus_text.specs.Programs.{program_read};
+ghost use Rattle.arch_trait.specs.PlaceNames.{number_in};
+ghost use Rattle.litmus_text.specs.ReadPrograms.{program_read};
 ghost use Rattle.program_meaning.specs.Programs.{IsCandidate};
-ghost use Rattle.exec_check.specs.Verdicts.{Checks, IsVerdict, MeetsCondition};
+ghost use Rattle.exec_check.specs.Verdicts.{Checks, IsVerdict, EndsInCondition};
 
 use crate::edges::edges_on;
 use crate::errors::CheckError;
@@ -81,7 +81,7 @@ fn meets_condition<A: Arch>(
     exec: &Execution,
 ) -> Result<bool, NoMemory>
     requires { IsCandidate (program_read test.now) exec.now }
-    ensures { IfOk result (λ answer. IsTrue answer ↔ MeetsCondition (number_in A.writing.registers) test.now exec.now) }
+    ensures { IfOk result (λ answer. IsTrue answer ↔ EndsInCondition (number_in A.writing.registers) test.now exec.now) }
 {
     let state = final_of(alloc, test, exec)?;
     Ok(holds(test.cond(), &state))

@@ -1,5 +1,5 @@
 ghost use Rattle.std.specs.Prelude.{◌≡◌, IfOk};
-ghost use Rattle.litmus_text.specs.Programs.{program_read};
+ghost use Rattle.litmus_text.specs.ReadPrograms.{program_read};
 ghost use Rattle.program_meaning.specs.Programs.{IsCandidate};
 ghost use Rattle.exec_check.specs.Verdicts.{AreJudged, JudgesEdges, judged_cycle, resolved_cycle};
 

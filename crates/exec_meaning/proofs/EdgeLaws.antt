@@ -26,16 +26,16 @@ use Rattle.relax_edges.specs.declared.kinds.Kind.TheVariants as edges
 use Rattle.relax_edges.specs.declared.kinds.Mark.{Mark}
 use Rattle.relax_edges.specs.declared.kinds.Mark.TheVariants.{Plain, Acquire, Release}
 use Rattle.relax_edges.specs.declared.edge.Edge.{Edge}
-use Rattle.relax_edges.specs.EdgeTable.{source_of, target_of, reach_of, place_of, kind_of, source_mark, target_mark, same_dir}
+use Rattle.relax_edges.specs.EdgeTable.{source_of, target_of, reach_of, sd_of, kind_of, source_mark, target_mark, same_dir}
 use Rattle.micro_ops.specs.declared.operation.Barrier.{Barrier}
 use Rattle.micro_ops.specs.declared.operation.Barrier.TheVariants as barriers
 use Rattle.program_meaning.specs.declared.WriteAt.{WriteAt}
 use Rattle.program_meaning.specs.Accesses.{Access, Barred}
 use Rattle.program_meaning.specs.Executions.{Execution, same_write}
 use Rattle.program_meaning.specs.Coherence.{source_at}
-use Rattle.program_meaning.specs.Standing.{AccessAt, Named, access_at, AreAt, ComesBefore, Communicates, CommunicatesBy, Reaches, Joins, mask_of, is_in_mask, IsTied, BarriersWait, DependsBy, TiesBy, Stands}
+use Rattle.program_meaning.specs.Standing.{AccessAt, NamedAccess, access_at, AreAt, ComesBefore, Communicates, CommunicatesBy, Reaches, Joins, mask_of, is_in_mask, IsTied, BarriersWait, DependsBy, TiesBy, Stands}
 use Rattle.execution_laws.proofs.Names.{same_write-refl, same_write-true}
-use Rattle.exec_meaning.specs.Edges.{same_mark, same_pick, same_fence, same_barrier, is_alone, is_none, are_at, is_source, comes_before, communicates, communicates_by, reaches, joins, same_answer, depends, barriers_wait, depends_by, ties_by, stands}
+use Rattle.exec_meaning.specs.StandingEdges.{same_mark, same_pick, same_fence, same_barrier, is_alone, is_none, are_at, is_source, comes_before, communicates, communicates_by, reaches, joins, same_answer, depends, barriers_wait, depends_by, ties_by, stands}
 
 -- a test passes exactly where its statement holds
 abbrev Decides : Bool → Type 0 → Type 0
@@ -146,8 +146,8 @@ joins_decides threads x edge e f = (
   λ h. all.1 (h.leaves, (h.enters, (h.places, (h.communicates, h.reaches)))),
 )
   where
-    all : Decides (joins threads x edge e f) ((e.access.dir ≡ source_of edge) × ((f.access.dir ≡ target_of edge) × ((AreAt (place_of edge) e.access.place f.access.place) × (CommunicatesBy (kind_of edge) threads x e f × Reaches (reach_of edge) e.name f.name))))
-    all = both _ _ (dir_decides e.access.dir (source_of edge)) (both _ _ (dir_decides f.access.dir (target_of edge)) (both _ _ (at_decides (place_of edge) e.access.place f.access.place) (both _ _ (kind_decides (kind_of edge) threads x e f) (reach_decides (reach_of edge) e.name f.name))))
+    all : Decides (joins threads x edge e f) ((e.access.dir ≡ source_of edge) × ((f.access.dir ≡ target_of edge) × ((AreAt (sd_of edge) e.access.place f.access.place) × (CommunicatesBy (kind_of edge) threads x e f × Reaches (reach_of edge) e.name f.name))))
+    all = both _ _ (dir_decides e.access.dir (source_of edge)) (both _ _ (dir_decides f.access.dir (target_of edge)) (both _ _ (at_decides (sd_of edge) e.access.place f.access.place) (both _ _ (kind_decides (kind_of edge) threads x e f) (reach_decides (reach_of edge) e.name f.name))))
 
 answer_decides : (a b : Bool) → Decides (same_answer a b) (b ≡ a)
 answer_decides true true = (λ h. refl, λ h. refl)
@@ -156,7 +156,7 @@ answer_decides false true = (λ h. cc h, λ h. cc h)
 answer_decides false false = (λ h. refl, λ h. refl)
 
 -- what ties an access, with its barriers tested before
-tied_decides : (threads : List (List Access)) (e f : Named) (bs : List Barrier) (b : Bool) (address stored : ℕ) (controlled : Bool) → Decides b (kinds_of f.visit.barriers ≡ bs)
+tied_decides : (threads : List (List Access)) (e f : NamedAccess) (bs : List Barrier) (b : Bool) (address stored : ℕ) (controlled : Bool) → Decides b (kinds_of f.visit.barriers ≡ bs)
     → Decides (b && depends threads e f.visit address stored controlled) (IsTied threads e f bs address stored controlled)
 tied_decides threads e f bs b address stored controlled d = (
   λ h. let p = all.0 h in record { barriers_are = p.0; address_is = p.1.0; data_is = p.1.1.0; control_is = p.1.1.1 },
@@ -166,12 +166,12 @@ tied_decides threads e f bs b address stored controlled d = (
     all : Decides (b && depends threads e f.visit address stored controlled) ((kinds_of f.visit.barriers ≡ bs) × ((f.visit.address_mask ≡ address) × ((f.visit.data_mask ≡ stored) × (is_in_mask threads e f.visit.control_mask ≡ controlled))))
     all = both _ _ d (both _ _ (number_decides f.visit.address_mask address) (both _ _ (number_decides f.visit.data_mask stored) (answer_decides controlled (is_in_mask threads e f.visit.control_mask))))
 
-wait_decides : (threads : List (List Access)) (e : Named) (bs : List Barred) → Decides (barriers_wait threads e bs) (BarriersWait threads e bs)
+wait_decides : (threads : List (List Access)) (e : NamedAccess) (bs : List Barred) → Decides (barriers_wait threads e bs) (BarriersWait threads e bs)
 wait_decides threads e [] = (λ h. tt, λ h. refl)
 wait_decides threads e (b ∷ bs) = both (is_in_mask threads e b.control) (barriers_wait threads e bs) (λ h. h, λ h. h) (wait_decides threads e bs)
 
 -- a dependency with a barrier that waits
-waits_decides : (threads : List (List Access)) (e f : Named) (kind : Barrier)
+waits_decides : (threads : List (List Access)) (e f : NamedAccess) (kind : Barrier)
     → Decides (is_alone kind f.visit.barriers && (depends threads e f.visit 0 0 true && barriers_wait threads e f.visit.barriers)) (IsTied threads e f (kind ∷ []) 0 0 true × BarriersWait threads e f.visit.barriers)
 waits_decides threads e f kind = (
   λ h. let p = and_parts (is_alone kind f.visit.barriers) (depends threads e f.visit 0 0 true && barriers_wait threads e f.visit.barriers) h in
@@ -185,13 +185,13 @@ waits_decides threads e f kind = (
     tied : (kind : Barrier) → Decides (is_alone kind f.visit.barriers && depends threads e f.visit 0 0 true) (IsTied threads e f (kind ∷ []) 0 0 true)
     tied kind = tied_decides threads e f (kind ∷ []) (is_alone kind f.visit.barriers) 0 0 true (alone_decides kind f.visit.barriers)
 
-dependency_decides : (kind : DepKind) (threads : List (List Access)) (e f : Named) → Decides (depends_by kind threads e f.visit) (DependsBy kind threads e f)
+dependency_decides : (kind : DepKind) (threads : List (List Access)) (e f : NamedAccess) → Decides (depends_by kind threads e f.visit) (DependsBy kind threads e f)
 dependency_decides deps.Addr threads e f = tied_decides threads e f [] (is_none f.visit.barriers) (mask_of threads e) 0 false (none_decides f.visit.barriers)
 dependency_decides deps.Ctrl threads e f = tied_decides threads e f [] (is_none f.visit.barriers) 0 0 true (none_decides f.visit.barriers)
 dependency_decides deps.CtrlIsync threads e f = waits_decides threads e f (barriers.Fence fences.ISync)
 dependency_decides deps.CtrlIsb threads e f = waits_decides threads e f barriers.Isb
 
-ties_decides : (kind : Kind) (threads : List (List Access)) (e f : Named) → Decides (ties_by kind threads e f.visit) (TiesBy kind threads e f)
+ties_decides : (kind : Kind) (threads : List (List Access)) (e f : NamedAccess) → Decides (ties_by kind threads e f.visit) (TiesBy kind threads e f)
 ties_decides (edges.Com how Internal) threads e f = tied_decides threads e f [] (is_none f.visit.barriers) 0 0 false (none_decides f.visit.barriers)
 ties_decides (edges.Com how External) threads e f = (λ h. tt, λ h. refl)
 ties_decides (edges.Po sd from to) threads e f = tied_decides threads e f [] (is_none f.visit.barriers) 0 0 false (none_decides f.visit.barriers)
@@ -203,7 +203,7 @@ other : (m n : ℕ) → m < n → m == n ≡ false
 other m n h = grind (arith, nat_tests)
 
 -- an edge that passes the test stands between two accesses
-pub stands_means : (threads : List (List Access)) (x : Execution) (edge : Edge) (e f : Named) → stands threads x edge e f ≡ true → Stands threads x edge e f
+pub stands_means : (threads : List (List Access)) (x : Execution) (edge : Edge) (e f : NamedAccess) → stands threads x edge e f ≡ true → Stands threads x edge e f
 stands_means threads x edge e f h =
     let p = and_parts (joins threads x edge (access_at e) (access_at f)) (same_mark e.visit.mark (source_mark edge) && (same_mark f.visit.mark (target_mark edge) && ties_by (kind_of edge) threads e f.visit)) h in
     let q = and_parts (same_mark e.visit.mark (source_mark edge)) (same_mark f.visit.mark (target_mark edge) && ties_by (kind_of edge) threads e f.visit) p.1 in
@@ -216,7 +216,7 @@ stands_means threads x edge e f h =
     }
 
 -- an edge that stands between two accesses passes the test
-pub stands_from : (threads : List (List Access)) (x : Execution) (edge : Edge) (e f : Named) → Stands threads x edge e f → stands threads x edge e f ≡ true
+pub stands_from : (threads : List (List Access)) (x : Execution) (edge : Edge) (e f : NamedAccess) → Stands threads x edge e f → stands threads x edge e f ≡ true
 stands_from threads x edge e f h =
     and_from (joins threads x edge (access_at e) (access_at f)) (same_mark e.visit.mark (source_mark edge) && (same_mark f.visit.mark (target_mark edge) && ties_by (kind_of edge) threads e f.visit))
     ((joins_decides threads x edge (access_at e) (access_at f)).1 h.joins)

@@ -12,12 +12,12 @@ use Rattle.program_meaning.specs.declared.WriteAt.{WriteAt}
 use Rattle.program_meaning.specs.Accesses.{Access, Visit, at_name}
 use Rattle.program_meaning.specs.Executions.{Execution}
 use Rattle.program_meaning.specs.Programs.{Program, accesses_in, visits_in}
-use Rattle.program_meaning.specs.Standing.{Named, IsEvent, Stands, event_name}
-use Rattle.exec_meaning.specs.Edges.{EdgeStands, stands, stands_if}
+use Rattle.program_meaning.specs.Standing.{NamedAccess, IsEvent, Stands, event_name}
+use Rattle.exec_meaning.specs.StandingEdges.{EdgeStands, stands, stands_if}
 use Rattle.exec_meaning.proofs.EdgeLaws.{stands_means, stands_from}
 
 -- an event is the access that was found under its name
-found_is : (es : List Edge) (vs : List (List Visit)) (j : ℕ) (n : WriteAt) (v : Visit) (e : Named) → n ≡ event_name es j → at_name vs n ≡ Some v → IsEvent es vs j e → e ≡ record { name = n; visit = v }
+found_is : (es : List Edge) (vs : List (List Visit)) (j : ℕ) (n : WriteAt) (v : Visit) (e : NamedAccess) → n ≡ event_name es j → at_name vs n ≡ Some v → IsEvent es vs j e → e ≡ record { name = n; visit = v }
 found_is es vs j n v e is got h =
     let a : e.name ≡ n = h.name_is ∙ sym is in
     let b : e.visit ≡ v = same_Some e.visit v (sym h.visit_is ∙ ap (at_name vs) a ∙ got) in
@@ -43,7 +43,7 @@ edge_decides es p x i vs all n m v w b s t r l j k g h q = (
       q ∙ stands_from all x (edge_at es i) (record { name = n; visit = v }) (record { name = m; visit = w }) (subst (λ a. Stands a x (edge_at es i) (record { name = n; visit = v }) (record { name = m; visit = w })) t d),
 )
 
-none_there : (es : List Edge) (vs : List (List Visit)) (j : ℕ) (n : WriteAt) (e : Named) → n ≡ event_name es j → at_name vs n ≡ None → IsEvent es vs j e → ⊥
+none_there : (es : List Edge) (vs : List (List Visit)) (j : ℕ) (n : WriteAt) (e : NamedAccess) → n ≡ event_name es j → at_name vs n ≡ None → IsEvent es vs j e → ⊥
 none_there es vs j n e is none h = let c : Some e.visit ≡ None = sym h.visit_is ∙ ap (at_name vs) (h.name_is ∙ sym is) ∙ none in cc c
 
 -- an edge whose source isn't there doesn't stand

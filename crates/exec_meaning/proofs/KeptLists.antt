@@ -7,10 +7,10 @@ use Rattle.std.proofs.Math.Seq.{map-set_same}
 use Rattle.std.proofs.lemmas.Option.{slice_get-get_or}
 use Rattle.program_meaning.specs.declared.WriteAt.{WriteAt}
 use Rattle.program_meaning.specs.Executions.{Execution}
-use Rattle.exec_meaning.specs.Kept.{added, with_read, with_write}
+use Rattle.exec_meaning.specs.KeptExecutions.{added_to_list, with_read, with_write}
 
 -- the list is one element longer
-added_to : {A X : Type 0} (f : A → List X) (lists : List A) (k : ℕ) (d v w : A) (x : X) → k < length (map f lists) → v ≡ get_or lists k d → f w ≡ f v ++ x ∷ [] → map f (set lists k w) ≡ added (map f lists) k x
+added_to : {A X : Type 0} (f : A → List X) (lists : List A) (k : ℕ) (d v w : A) (x : X) → k < length (map f lists) → v ≡ get_or lists k d → f w ≡ f v ++ x ∷ [] → map f (set lists k w) ≡ added_to_list (map f lists) k x
 added_to {A} {X} f lists k d v w x inside is h =
     let g : get_or (map f lists) k (f d) ≡ f v = get_or-map f lists k d ∙ ap f (sym is) in
     let e : unwrap_or (slice_get (map f lists) k) [] ≡ f v = rw (slice_get-get_or (map f lists) k (f d) inside) g in

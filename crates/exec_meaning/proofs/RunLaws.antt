@@ -9,17 +9,17 @@ use Rattle.relax_edges.specs.declared.kinds.Value.{Value}
 use Rattle.micro_ops.specs.declared.operation.Micro.{Micro}
 use Rattle.micro_ops.specs.declared.run.RunError.TheVariants as errors
 use Rattle.micro_ops.specs.Running.{Point, At, Past, Wants, Stuck, exec, beginning, outcome, runs, Outcome, NoRule}
-use Rattle.micro_ops.specs.Threads.{EndedRun, goes_on, CausedBy}
+use Rattle.micro_ops.specs.RunThreads.{EndedRun, goes_on, CausedBy}
 use Rattle.micro_ops.proofs.Laws.{stops_for_good}
 use Rattle.litmus_text.specs.TestReading.{ThreadRead, TestRead}
-use Rattle.litmus_text.specs.Programs.{thread_read, program_read}
+use Rattle.litmus_text.specs.ReadPrograms.{thread_read, program_read}
 use Rattle.program_meaning.specs.declared.WriteAt.{WriteAt}
 use Rattle.program_meaning.specs.Accesses.{Access, visits_of, accesses_of}
 use Rattle.program_meaning.specs.Executions.{Execution, IsExecutionOf}
 use Rattle.program_meaning.specs.Programs.{Program, run_of, runs_of, made_in, IsCandidate, visits_in, accesses_in}
 use Rattle.execution_laws.specs.Deciding.{has_ended, all_ended}
 use Rattle.execution_laws.proofs.Runs.{runs-count, accesses-count, all_ended_means, all_ended_from}
-use Rattle.exec_meaning.specs.Runs.{ended_run, IsRun, IsRunIn}
+use Rattle.exec_meaning.specs.EndedRuns.{ended_run, IsRun, IsRunIn}
 
 -- the run of a thread among those of all
 run_got : (threads : List ThreadRead) (reads : List (List (ℕ × Option WriteAt))) (k : ℕ) (t : ThreadRead) (rs : List (ℕ × Option WriteAt)) → slice_get threads k ≡ Some t → slice_get reads k ≡ Some rs

@@ -8,7 +8,7 @@ use Rattle.micro_ops.specs.declared.operation.Barrier.{Barrier}
 use Rattle.micro_ops.specs.declared.operation.Item.{Item}
 use Rattle.micro_ops.specs.declared.operation.Item.TheVariants as items
 use Rattle.program_meaning.specs.Accesses.{Access, Barred, Visit, visits_from, visits_of, accesses_of}
-use Rattle.exec_meaning.specs.Runs.{access_in}
+use Rattle.exec_meaning.specs.EndedRuns.{item_access}
 
 -- barriers don't change the accesses
 same_accesses : (passed more : List Barred) (made : List Item) → accesses_of (visits_from passed made) ≡ accesses_of (visits_from more made)
@@ -38,10 +38,10 @@ after_items made i found all h e = sym (append-nil found) ∙ sym (ap (λ l. fou
 
 -- after an item, the accesses found have that of the item, if it is one
 pub after_item : (made : List Item) (i : ℕ) (item : Item) (found all : List Access) → slice_get made i ≡ Some item
-    → found ++ accesses_of (visits_of (drop i made)) ≡ all → (found ++ access_in item) ++ accesses_of (visits_of (drop (i + 1) made)) ≡ all
+    → found ++ accesses_of (visits_of (drop i made)) ≡ all → (found ++ item_access item) ++ accesses_of (visits_of (drop (i + 1) made)) ≡ all
 after_item made i item found all is h = of_item item (drop_given made i item is)
   where
-    of_item : (item : Item) → ItemAt made i item → (found ++ access_in item) ++ accesses_of (visits_of (drop (i + 1) made)) ≡ all
+    of_item : (item : Item) → ItemAt made i item → (found ++ item_access item) ++ accesses_of (visits_of (drop (i + 1) made)) ≡ all
     of_item (items.Access dir mark place value a d c) e = after_access made i dir mark place value a d c found all e h
     of_item (items.Barrier kind control) e = ap (λ l. l ++ accesses_of (visits_of (drop (i + 1) made))) (append-nil found) ∙ after_barrier made i kind control found all e h
 

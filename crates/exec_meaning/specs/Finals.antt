@@ -4,28 +4,28 @@ use Rattle.std.specs.Prelude.{◌≡◌, ℕ, ◌+◌, List, [], ◌∷◌, ◌+
 use Rattle.relax_edges.specs.declared.kinds.Value.{Value}
 use Rattle.relax_edges.specs.declared.kinds.Value.TheVariants.{Num}
 use Rattle.final_cond.specs.Conditions.{LeftSeen, InRegister, AtPlace}
-use Rattle.final_cond.specs.States.{State, value_in}
-use Rattle.litmus_text.specs.Programs.{program_read}
+use Rattle.final_cond.specs.States.{FinalState, value_in_state}
+use Rattle.litmus_text.specs.ReadPrograms.{program_read}
 use Rattle.litmus_text.specs.TestReading.{TestRead}
 use Rattle.program_meaning.specs.Executions.{Execution}
 use Rattle.test_laws.specs.FinalStates.{final_state}
 
 -- the registers of a thread with their values, from number k on, under these names
-abbrev pub registers_at : ℕ → (ℕ → Value) → ℕ → List (List ℕ) → State
+abbrev pub registers_at : ℕ → (ℕ → Value) → ℕ → List (List ℕ) → FinalState
 registers_at thread held k [] = []
 registers_at thread held k (name ∷ names) = (InRegister thread name, held k) ∷ registers_at thread held (k + 1) names
 
 -- the registers of all threads with their values, from thread number k on
-abbrev pub all_registers : List (List ℕ) → ℕ → List (ℕ → Value) → State
+abbrev pub all_registers : List (List ℕ) → ℕ → List (ℕ → Value) → FinalState
 all_registers names thread [] = []
 all_registers names thread (held ∷ more) = registers_at thread held 0 names ++ all_registers names (thread + 1) more
 
 -- the places with their values, from number k on, under these names
-abbrev pub places_at : (ℕ → ℕ) → ℕ → List (List ℕ) → State
+abbrev pub places_at : (ℕ → ℕ) → ℕ → List (List ℕ) → FinalState
 places_at held k [] = []
 places_at held k (name ∷ names) = (AtPlace name, Num (held k)) ∷ places_at held (k + 1) names
 
 -- a state is that in which an execution of a test ends: it has the value of each register of each thread and of each place, as the
 -- meaning of final states gives them, where registers are found by these numbers of their names
-abbrev pub EndsIn : (List ℕ → Option ℕ) → TestRead → Execution → State → Type 0
-EndsIn register_number test x state = (left : LeftSeen) → value_in state left ≡ final_state (program_read test) test.places register_number x left
+abbrev pub EndsIn : (List ℕ → Option ℕ) → TestRead → Execution → FinalState → Type 0
+EndsIn register_number test x state = (left : LeftSeen) → value_in_state state left ≡ final_state (program_read test) test.places register_number x left

@@ -1,4 +1,4 @@
-pub mod Kept
-pub mod Runs
-pub mod Edges
+pub mod KeptExecutions
+pub mod EndedRuns
+pub mod StandingEdges
 pub mod Finals

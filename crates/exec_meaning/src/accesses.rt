@@ -1,7 +1,7 @@
 ghost use Rattle.std.specs.Prelude.{◌≡◌, ◌++◌, map, IfOk, OnOk};
 ghost use Rattle.program_meaning.specs.Accesses.{at_name, accesses_of, visits_of, is_read, reads_before};
 ghost use Rattle.execution_laws.specs.Deciding.{writes_to};
-ghost use Rattle.exec_meaning.specs.Runs.{access_in};
+ghost use Rattle.exec_meaning.specs.EndedRuns.{item_access};
 
 use micro_ops::{Item, Trace};
 use program_meaning::{Access, WriteAt};
@@ -36,7 +36,7 @@ impl Accesses {
 
 /// Adds the access that an item is, if it is one.
 fn push_access(list: &mut Vec<Access>, item: &Item) -> Result<(), AllocError>
-    ensures { OnOk result (list.new.items ≡ list.old.items ++ access_in item.now) }
+    ensures { OnOk result (list.new.items ≡ list.old.items ++ item_access item.now) }
 {
     match *item {
         Item::Access {

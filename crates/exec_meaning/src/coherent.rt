@@ -3,7 +3,7 @@ ghost use Rattle.program_meaning.specs.Accesses.{is_read, reads_before};
 ghost use Rattle.program_meaning.specs.Executions.{same_write};
 ghost use Rattle.program_meaning.specs.Coherence.{order_place, order_at, read_at, source_at, coherence_place, IsCoherent};
 ghost use Rattle.program_meaning.specs.Programs.{IsCandidate, IsCoherentIn};
-ghost use Rattle.litmus_text.specs.Programs.{program_read};
+ghost use Rattle.litmus_text.specs.ReadPrograms.{program_read};
 ghost use Rattle.execution_laws.specs.Deciding.{name, may_follow, agrees, agrees_later, thread_coheres, coheres};
 
 use crate::accesses::{Accesses, all_accesses, is_read};

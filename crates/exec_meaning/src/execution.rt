@@ -1,5 +1,5 @@
 ghost use Rattle.std.specs.Prelude.{◌≡◌, ◌<◌, length, slice_get, Some, OnOk, OnErr, IfOk, map};
-ghost use Rattle.exec_meaning.specs.Kept.{nothing_kept, empty_lists, with_read, with_write};
+ghost use Rattle.exec_meaning.specs.KeptExecutions.{nothing_kept, empty_lists, with_read, with_write};
 
 use diy_io::NoMemory;
 use program_meaning::WriteAt;

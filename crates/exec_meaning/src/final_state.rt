@@ -1,9 +1,9 @@
 ghost use Rattle.std.specs.Prelude.{◌≡◌, ◌<◌, ◌≤◌, ◌++◌, IfOk, OnOk, length, map};
-ghost use Rattle.arch_trait.specs.Names.{number_in};
-ghost use Rattle.micro_ops.specs.Threads.{value_in as held_by};
+ghost use Rattle.arch_trait.specs.PlaceNames.{number_in};
+ghost use Rattle.micro_ops.specs.RunThreads.{value_in_run};
 ghost use Rattle.program_meaning.specs.Coherence.{final_value};
 ghost use Rattle.program_meaning.specs.Programs.{IsCandidate};
-ghost use Rattle.litmus_text.specs.Programs.{program_read};
+ghost use Rattle.litmus_text.specs.ReadPrograms.{program_read};
 ghost use Rattle.exec_meaning.specs.Finals.{registers_at, all_registers, places_at, EndsIn};
 
 use crate::accesses::{Accesses, access_at, all_accesses};
@@ -19,7 +19,7 @@ use std::alloc::Global;
 
 /// Adds the registers of a thread that tests use, with what they hold at its end.
 fn add_registers<A: Arch>(state: &mut Final, thread: u8, trace: &Trace) -> Result<(), NoMemory>
-    ensures { OnOk result (state.new ≡ state.old ++ registers_at thread (held_by trace.now) 0 A.writing.registers) }
+    ensures { OnOk result (state.new ≡ state.old ++ registers_at thread (value_in_run trace.now) 0 A.writing.registers) }
 {
     for register in 0..A::REGISTERS {
         let mut name = RegName::new();
@@ -32,7 +32,7 @@ fn add_registers<A: Arch>(state: &mut Final, thread: u8, trace: &Trace) -> Resul
 /// Adds the registers of each thread.
 fn add_threads<A: Arch>(state: &mut Final, traces: &[Trace]) -> Result<(), NoMemory>
     requires { length traces.now ≤ 255 }
-    ensures { OnOk result (state.new ≡ state.old ++ all_registers A.writing.registers 0 (map held_by traces.now)) }
+    ensures { OnOk result (state.new ≡ state.old ++ all_registers A.writing.registers 0 (map value_in_run traces.now)) }
 {
     for (thread, trace) in traces.iter().enumerate() {
         add_registers::<A>(state, thread as u8, trace)?;

@@ -1,7 +1,7 @@
 ghost use Rattle.std.specs.Prelude.{◌≡◌, ◌<◌, IfOk, length, map, option_map, slice_get};
 ghost use Rattle.program_meaning.specs.Programs.{runs_of, IsCandidate};
-ghost use Rattle.litmus_text.specs.Programs.{program_read};
-ghost use Rattle.exec_meaning.specs.Runs.{IsRunIn, AreRuns, ended_run};
+ghost use Rattle.litmus_text.specs.ReadPrograms.{program_read};
+ghost use Rattle.exec_meaning.specs.EndedRuns.{IsRunIn, AreEndedRuns, ended_run};
 
 use crate::execution::{Execution, Read};
 use diy_io::NoMemory;
@@ -47,7 +47,7 @@ pub(crate) fn run_all<A>(
     exec: &Execution,
 ) -> Result<Option<Vec<Trace>>, NoMemory>
     requires { length exec.now.reads ≡ length test.now.threads }
-    ensures { IfOk result (λ traces. AreRuns (option_map (λ list. list.items) traces) (runs_of (program_read test.now).threads exec.now.reads)) }
+    ensures { IfOk result (λ traces. AreEndedRuns (option_map (λ list. list.items) traces) (runs_of (program_read test.now).threads exec.now.reads)) }
 {
     let mut traces = Vec::new(alloc);
     for thread in 0..test.threads() {

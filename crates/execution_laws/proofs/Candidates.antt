@@ -14,7 +14,7 @@ use Rattle.program_meaning.specs.declared.WriteAt.{WriteAt}
 use Rattle.program_meaning.specs.Accesses.{Access, write, is_read, at_name}
 use Rattle.program_meaning.specs.Executions.{Execution, CanRead, AreReadsOf, IsOrderOf, IsExecutionOf, same_write}
 use Rattle.program_meaning.specs.Programs.{Program, IsCandidate, runs_of, accesses_in}
-use Rattle.execution_laws.specs.Deciding.{every, writes_by, writes_to, writes_there, writes_value, can_read, first_read, are_reads, are_distinct, is_covered, thread_covered, is_order, reads_of, reads_fit, orders_fit, lists_fit, all_ended, is_candidate}
+use Rattle.execution_laws.specs.Deciding.{every, writes_by, writes_to, writes_there, writes_value, can_read, first_read_passes, are_reads, are_distinct, is_covered, thread_covered, is_order, reads_of, reads_fit, orders_fit, lists_fit, all_ended, is_candidate}
 use Rattle.execution_laws.proofs.Names.{same_write-refl, same_write-true}
 use Rattle.execution_laws.proofs.Every.{every_means, every_from, every_name, every_name_from}
 use Rattle.execution_laws.proofs.Runs.{accesses-count, all_ended_means, all_ended_from}
@@ -61,7 +61,7 @@ can_read_from threads a (Some w) h = writes_value_from a.place a.value (at_name 
 
 first_means : (threads : List (List Access)) (a : Access) (others : List (ℕ × Option WriteAt) → Bool) (accesses : List Access)
     → ((reads : List (ℕ × Option WriteAt)) → others reads ≡ true → AreReadsOf threads accesses reads)
-    → (reads : List (ℕ × Option WriteAt)) → first_read threads a others reads ≡ true → AreReadsOf threads (a ∷ accesses) reads
+    → (reads : List (ℕ × Option WriteAt)) → first_read_passes threads a others reads ≡ true → AreReadsOf threads (a ∷ accesses) reads
 first_means threads a others accesses f [] h = cc h
 first_means threads a others accesses f (r ∷ reads) h =
     let p = and_parts (r.0 == a.value) (can_read threads a r.1 && others reads) h in
@@ -70,7 +70,7 @@ first_means threads a others accesses f (r ∷ reads) h =
 
 first_from : (threads : List (List Access)) (a : Access) (others : List (ℕ × Option WriteAt) → Bool) (accesses : List Access)
     → ((reads : List (ℕ × Option WriteAt)) → AreReadsOf threads accesses reads → others reads ≡ true)
-    → (reads : List (ℕ × Option WriteAt)) → AreReadsOf threads (a ∷ accesses) reads → first_read threads a others reads ≡ true
+    → (reads : List (ℕ × Option WriteAt)) → AreReadsOf threads (a ∷ accesses) reads → first_read_passes threads a others reads ≡ true
 first_from threads a others accesses f [] h = absurd h
 first_from threads a others accesses f (r ∷ reads) h =
     and_from (r.0 == a.value) (can_read threads a r.1 && others reads) (eq-eqb r.0 a.value h.0)

@@ -46,16 +46,16 @@ can_read threads access None = access.value == 0
 can_read threads access (Some w) = writes_value access.place access.value (at_name threads w)
 
 -- there is a first read, it is that of an access, and the others pass
-abbrev pub first_read : List (List Access) → Access → (List (ℕ × Option WriteAt) → Bool) → List (ℕ × Option WriteAt) → Bool
-first_read threads access others [] = false
-first_read threads access others (r ∷ reads) = (r.0 == access.value) && (can_read threads access r.1 && others reads)
+abbrev pub first_read_passes : List (List Access) → Access → (List (ℕ × Option WriteAt) → Bool) → List (ℕ × Option WriteAt) → Bool
+first_read_passes threads access others [] = false
+first_read_passes threads access others (r ∷ reads) = (r.0 == access.value) && (can_read threads access r.1 && others reads)
 
 -- reads are those of the reading accesses of a thread, in order
 unfoldable pub are_reads : List (List Access) → List Access → List (ℕ × Option WriteAt) → Bool
 are_reads threads [] [] = true
 are_reads threads [] (r ∷ reads) = false
 are_reads threads (access ∷ accesses) reads =
-    cond (is_read access) (first_read threads access (are_reads threads accesses) reads) (are_reads threads accesses reads)
+    cond (is_read access) (first_read_passes threads access (are_reads threads accesses) reads) (are_reads threads accesses reads)
 
 -- no write is listed twice in an order
 unfoldable pub are_distinct : List WriteAt → Bool

@@ -1,4 +1,4 @@
-ghost use Rattle.litmus_text.specs.Programs.{program_read};
+ghost use Rattle.litmus_text.specs.ReadPrograms.{program_read};
 ghost use Rattle.program_meaning.specs.Programs.{IsCandidate};
 
 use arch_aarch64::A64;

@@ -9,14 +9,14 @@ use Rattle.std.proofs.lemmas.Bool.{and_parts}
 use Rattle.list_laws.proofs.Elements.{all_append}
 use Rattle.text_laws.specs.Names.{is_place_name}
 use Rattle.text_laws.specs.Words.{words}
-use Rattle.litmus_text.specs.TestText.{ended}
+use Rattle.litmus_text.specs.TestText.{with_line_feed}
 use Rattle.litmus_text.specs.declared.limits.TheConstants.{MAX_TEXT}
 use Rattle.program_meaning.specs.declared.WriteAt.{WriteAt}
 use Rattle.program_meaning.specs.Executions.{Execution}
 use Rattle.execution_text.specs.declared.errors.ExecKind.TheVariants.{BadThread, BadRead, BadPlace, BadWrite}
-use Rattle.execution_text.specs.ExecutionText.{access_named, line_read, lines_read, each_line_read, place_head, read_named, thread_head}
+use Rattle.execution_text.specs.ExecutionText.{access_named, line_read, reads_and_writes_read, each_line_read, place_head, read_named, thread_head}
 use Rattle.execution_text.specs.Written.{access_word, place_line, read_word, text_of_execution, thread_line}
-use Rattle.execution_text.specs.ReadBack.{AccessFits, ExecutionFits, ReadFits, ReadsBack}
+use Rattle.execution_text.specs.ExecutionReadBack.{AccessFits, ExecutionFits, ReadFits, ExecutionReadsBack}
 use Rattle.execution_text.proofs.Whole.{place_lines_read, read_as, short_read, thread_lines_read}
 use Rattle.execution_text.proofs.WordsBack.{IsWord, access_back, access_is_word, place_is_word, read_back, read_is_word, thread_is_word}
 use Rattle.execution_text.proofs.LinesBack.{is_printed, line_back, line_printed, lines_back, lines_few}
@@ -85,12 +85,12 @@ few_threads threads places x f =
     let lines : List (List ℕ) = map thread_line (enumerate_from 0 x.reads) in
     let others : List (List ℕ) = map place_line (zip places x.orders) in
     let many : length lines ≡ threads = length-map (enumerate_from 0 x.reads) thread_line ∙ length-enumerate_from 0 x.reads ∙ f.thread_lists in
-    let few : length (lines ++ others) ≤ length (flat_map ended (lines ++ others)) = lines_few (lines ++ others) in
-    let short : length (flat_map ended (lines ++ others)) ≤ MAX_TEXT = f.short in
+    let few : length (lines ++ others) ≤ length (flat_map with_line_feed (lines ++ others)) = lines_few (lines ++ others) in
+    let short : length (flat_map with_line_feed (lines ++ others)) ≤ MAX_TEXT = f.short in
     omega (arith, many, few, short, length-append lines others)
 
 -- the text that is written of an execution is read as that execution
-pub written_reads_back : ReadsBack
+pub written_reads_back : ExecutionReadsBack
 unfolding text_of_execution
 written_reads_back threads places x f =
     let h : threads ≤ MAX_TEXT = few_threads threads places x f in
@@ -102,6 +102,6 @@ written_reads_back threads places x f =
     ap (λ n. each_line_read (line_read BadThread BadRead (read_named threads)) 1 (map thread_head (range_with_len 0 n)) (lines ++ others)) (sym f.thread_lists)
     ∙ threads_back threads 1 0 x.reads others h many f.reads in
     let orders : place_lines_read threads places others ≡ Ok (x.orders, []) = places_back threads (threads + 1) places x.orders h f.place_lists f.names f.orders in
-    short_read threads places (flat_map ended (lines ++ others)) f.short
-    ∙ ap (lines_read threads places) (lines_back (lines ++ others) printed)
+    short_read threads places (flat_map with_line_feed (lines ++ others)) f.short
+    ∙ ap (reads_and_writes_read threads places) (lines_back (lines ++ others) printed)
     ∙ read_as threads places (lines ++ others) others [] x.reads x.orders reads orders

@@ -12,7 +12,7 @@ use Rattle.list_laws.proofs.Elements.{list_all-weaker}
 use Rattle.text_laws.specs.Blanks.{is_blank}
 use Rattle.text_laws.specs.Words.{is_nil, words}
 use Rattle.text_laws.specs.Lines.{without_return}
-use Rattle.litmus_text.specs.TestText.{ended}
+use Rattle.litmus_text.specs.TestText.{with_line_feed}
 use Rattle.text_laws.specs.Cuts.{CutParts}
 use Rattle.text_laws.proofs.OrderLaws.{bytes_same}
 use Rattle.text_laws.proofs.CutLaws.{all_both, without_class}
@@ -86,15 +86,15 @@ keeps_end (byte ∷ next ∷ line) h =
     let parts = and_parts (is_printed byte) (list_all is_printed (next ∷ line)) h in ap (λ rest. byte ∷ rest) (keeps_end (next ∷ line) parts.1)
 
 -- a text has the lines of which it is made
-pub lines_back : (lines : List (List ℕ)) → AllByRecursion (λ line. list_all is_printed line ≡ true) lines → lines_of (flat_map ended lines) ≡ lines
+pub lines_back : (lines : List (List ℕ)) → AllByRecursion (λ line. list_all is_printed line ≡ true) lines → lines_of (flat_map with_line_feed lines) ≡ lines
 lines_back [] h = refl
 lines_back (line ∷ lines) h =
-    let rest = flat_map ended lines in
-    let cut : CutParts 10 (ended line ++ rest) line rest = record { parts = append_assoc line (codes "\n") rest; first = without_class is_printed 10 line refl h.0 } in
-    line_cut (ended line ++ rest) line rest cut ∙ ap (λ first. first ∷ lines_of rest) (keeps_end line h.0) ∙ ap (λ others. line ∷ others) (lines_back lines h.1)
+    let rest = flat_map with_line_feed lines in
+    let cut : CutParts 10 (with_line_feed line ++ rest) line rest = record { parts = append_assoc line (codes "\n") rest; first = without_class is_printed 10 line refl h.0 } in
+    line_cut (with_line_feed line ++ rest) line rest cut ∙ ap (λ first. first ∷ lines_of rest) (keeps_end line h.0) ∙ ap (λ others. line ∷ others) (lines_back lines h.1)
 
 -- there are no more lines than bytes
-pub lines_few : (lines : List (List ℕ)) → length lines ≤ length (flat_map ended lines)
+pub lines_few : (lines : List (List ℕ)) → length lines ≤ length (flat_map with_line_feed lines)
 lines_few [] = omega arith
 lines_few (line ∷ lines) =
-    omega (arith, lines_few lines, length-append (ended line) (flat_map ended lines), length-append line (codes "\n"))
+    omega (arith, lines_few lines, length-append (with_line_feed line) (flat_map with_line_feed lines), length-append line (codes "\n"))

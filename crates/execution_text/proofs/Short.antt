@@ -11,13 +11,13 @@ use Rattle.text_laws.specs.Names.{is_place_name}
 use Rattle.text_laws.proofs.LengthLaws.{pieces_short}
 use Rattle.text_laws.proofs.NameLaws.{place_name_short}
 use Rattle.text_laws.proofs.NumberLaws.{two_digits, ten_digits}
-use Rattle.litmus_text.specs.TestText.{ended}
+use Rattle.litmus_text.specs.TestText.{with_line_feed}
 use Rattle.litmus_text.specs.declared.limits.TheConstants.{MAX_TEXT, MAX_THREADS, MAX_ACCESSES}
 use Rattle.program_meaning.specs.declared.WriteAt.{WriteAt}
 use Rattle.program_meaning.specs.Executions.{Execution}
 use Rattle.execution_text.specs.ExecutionText.{place_head, thread_head}
 use Rattle.execution_text.specs.Written.{access_word, line_of, place_line, read_word, source_word, text_of_execution, thread_line}
-use Rattle.execution_text.specs.ReadBack.{AccessFits, ExecutionFits, ReadFits, SourceFits}
+use Rattle.execution_text.specs.ExecutionReadBack.{AccessFits, ExecutionFits, ReadFits, SourceFits}
 use Rattle.execution_text.proofs.Appending.{further}
 
 -- the word for an access has at most 5 bytes, and that for a read at most 16
@@ -54,7 +54,7 @@ further_short words h = pieces_short (λ word. codes " " ++ word) 17 words (λ i
 
 -- a line of a head and of words for a few things, with its line feed
 line_short : {X : Type 0} (P : X → Type 0) (word : X → List ℕ) → ((x : X) → P x → length (word x) ≤ 16) → (head : List ℕ) → length head ≤ 17
-    → (xs : List X) → length xs ≤ MAX_ACCESSES → All P xs → length (ended (line_of (head ∷ map word xs))) ≤ 1200
+    → (xs : List X) → length xs ≤ MAX_ACCESSES → All P xs → length (with_line_feed (line_of (head ∷ map word xs))) ≤ 1200
 line_short P word f head h xs few all =
     let words = further_short (map word xs) (All-map (λ w. length w ≤ 16) word xs (λ i d k. f _ (all i d k))) in
     omega (arith, h, few, words, length-map xs word, length-append head (further (map word xs)), length-append (line_of (head ∷ map word xs)) (codes "\n"))
@@ -62,18 +62,18 @@ line_short P word f head h xs few all =
 -- the lines of threads from number k on, with their line feeds
 threads_short : (threads k : ℕ) (lists : List (List (ℕ × Option WriteAt))) → threads ≤ MAX_THREADS → k + length lists ≤ MAX_THREADS
     → All (All (ReadFits threads)) lists → All (λ reads. length reads ≤ MAX_ACCESSES) lists
-    → length (flat_map ended (map thread_line (enumerate_from k lists))) ≤ length lists * 1200
+    → length (flat_map with_line_feed (map thread_line (enumerate_from k lists))) ≤ length lists * 1200
 threads_short threads k [] h b f few = omega arith
 threads_short threads k (reads ∷ lists) h b f few =
     let fits : All (ReadFits threads) reads = All-head (All (ReadFits threads)) reads lists f in
     let line = line_short (ReadFits threads) read_word (read_short threads h) (thread_head k) (thread_head_short k (omega (arith, b))) reads (All-head (λ rs. length rs ≤ MAX_ACCESSES) reads lists few) fits in
     let rest = threads_short threads (k + 1) lists h (omega (arith, b)) (All-tail (All (ReadFits threads)) reads lists f) (All-tail (λ rs. length rs ≤ MAX_ACCESSES) reads lists few) in
-    omega (arith, line, rest, suc-mul (length lists) 1200, length-append (ended (thread_line (k, reads))) (flat_map ended (map thread_line (enumerate_from (k + 1) lists))))
+    omega (arith, line, rest, suc-mul (length lists) 1200, length-append (with_line_feed (thread_line (k, reads))) (flat_map with_line_feed (map thread_line (enumerate_from (k + 1) lists))))
 
 -- the lines of places
 places_short : (threads : ℕ) (places : List (List ℕ)) (orders : List (List WriteAt)) → threads ≤ MAX_THREADS → list_all is_place_name places ≡ true
     → All (All (AccessFits threads)) orders → All (λ order. length order ≤ MAX_ACCESSES) orders
-    → length (flat_map ended (map place_line (zip places orders))) ≤ length orders * 1200
+    → length (flat_map with_line_feed (map place_line (zip places orders))) ≤ length orders * 1200
 places_short threads [] orders h names f few = omega arith
 places_short threads (place ∷ places) [] h names f few = omega arith
 places_short threads (place ∷ places) (order ∷ orders) h names f few =
@@ -82,7 +82,7 @@ places_short threads (place ∷ places) (order ∷ orders) h names f few =
     let word : (w : WriteAt) → AccessFits threads w → length (access_word w) ≤ 16 = λ w g. omega (arith, access_short threads h w g) in
     let line = line_short (AccessFits threads) access_word word (place_head place) (place_head_short place named.0) order (All-head (λ ws. length ws ≤ MAX_ACCESSES) order orders few) fits in
     let rest = places_short threads places orders h named.1 (All-tail (All (AccessFits threads)) order orders f) (All-tail (λ ws. length ws ≤ MAX_ACCESSES) order orders few) in
-    omega (arith, line, rest, suc-mul (length orders) 1200, length-append (ended (place_line (place, order))) (flat_map ended (map place_line (zip places orders))))
+    omega (arith, line, rest, suc-mul (length orders) 1200, length-append (with_line_feed (place_line (place, order))) (flat_map with_line_feed (map place_line (zip places orders))))
 
 -- An execution that has no more threads and places than a test, and no more reads in a thread and writes of a place than a
 -- thread has accesses. A text can name its places, reads and writes.
@@ -105,7 +105,7 @@ text_short threads places x s =
     let others : List (List ℕ) = map place_line (zip places x.orders) in
     let first = threads_short threads 0 x.reads s.few_threads (omega (arith, s.few_threads, s.thread_lists)) s.reads s.few_reads in
     let last = places_short threads places x.orders s.few_threads s.names s.orders s.few_writes in
-    omega (arith, first, last, s.few_threads, s.few_places, s.thread_lists, s.place_lists, ap length (flat_map-append ended lines others), length-append (flat_map ended lines) (flat_map ended others))
+    omega (arith, first, last, s.few_threads, s.few_places, s.thread_lists, s.place_lists, ap length (flat_map-append with_line_feed lines others), length-append (flat_map with_line_feed lines) (flat_map with_line_feed others))
 
 -- such an execution reads back from its text
 pub small_fits : (threads : ℕ) (places : List (List ℕ)) (x : Execution) → IsSmall threads places x → ExecutionFits threads places x

@@ -10,16 +10,16 @@ use Rattle.std.proofs.Math.Seq.{get_or-append_seam, set-append_seam}
 use Rattle.std.proofs.lemmas.Option.{unwrap_or-slice_get}
 use Rattle.program_meaning.specs.declared.WriteAt.{WriteAt}
 use Rattle.program_meaning.specs.Executions.{Execution}
-use Rattle.exec_meaning.specs.Kept.{added, empty_lists, nothing_kept, with_read, with_write}
+use Rattle.exec_meaning.specs.KeptExecutions.{added_to_list, empty_lists, nothing_kept, with_read, with_write}
 use Rattle.text_laws.specs.Words.{words}
 use Rattle.execution_text.specs.declared.errors.ExecKind.{ExecKind}
 use Rattle.execution_text.specs.declared.errors.ExecKind.TheVariants.{BadThread, BadRead, BadPlace, BadWrite, StrayLine}
 use Rattle.litmus_text.specs.declared.limits.TheConstants.{MAX_TEXT}
 use Rattle.execution_text.specs.declared.errors.ExecFault.{ExecFault}
-use Rattle.execution_text.specs.ExecutionText.{access_named, at_line, execution_of, execution_read, line_read, lines_of, lines_read, each_line_read, place_head, put_line, read_named, thread_head}
+use Rattle.execution_text.specs.ExecutionText.{access_named, at_line, execution_of, execution_read, line_read, lines_of, reads_and_writes_read, each_line_read, place_head, put_line, read_named, thread_head}
 use Rattle.execution_text.specs.declared.errors.ExecError.{ExecError}
 use Rattle.execution_text.specs.declared.errors.ExecError.TheVariants as errors
-use Rattle.execution_text.specs.Steps.{Adds, ReadsLines, ReadsText, all_added, each_added, lines_added}
+use Rattle.execution_text.specs.ExecutionSteps.{WayToAdd, ReadsLines, ReadsText, all_added, each_added, lines_added}
 
 -- the first part of a right answer
 abbrev first_or : {A B F : Type 0} → A → Result (A × B) F → A
@@ -30,14 +30,14 @@ abbrev second_or : {A B F : Type 0} → B → Result (A × B) F → B
 second_or b (Ok p) = p.1
 second_or b (Err f) = b
 
--- lines are read without a fault: what they give is added to one execution and makes the other
-pub record AreRead {X : Type 0} (add : Adds X) (x y : Execution) (k : ℕ) (told : Result (List (List X) × List (List ℕ)) ExecFault) (left : List (List ℕ)) : Type 0 where
+-- lines are read without a fault: what they give is added_to_list to one execution and makes the other
+pub record AreRead {X : Type 0} (add : WayToAdd X) (x y : Execution) (k : ℕ) (told : Result (List (List X) × List (List ℕ)) ExecFault) (left : List (List ℕ)) : Type 0 where
   pub lists : List (List X)
   pub is : told ≡ Ok (lists, left)
   pub grown : each_added add x k lists ≡ y
 
 -- lines that lead from one execution to another are read without a fault
-pub are_read : {X : Type 0} (add : Adds X) (x y : Execution) (k : ℕ) (told : Result (List (List X) × List (List ℕ)) ExecFault) (left : List (List ℕ)) → lines_added add x k told ≡ Ok (y, left) → AreRead add x y k told left
+pub are_read : {X : Type 0} (add : WayToAdd X) (x y : Execution) (k : ℕ) (told : Result (List (List X) × List (List ℕ)) ExecFault) (left : List (List ℕ)) → lines_added add x k told ≡ Ok (y, left) → AreRead add x y k told left
 are_read add x y k (Ok told) left h = record {
   lists = told.0;
   is = ap (λ l. Ok (told.0, l)) (ap (second_or left) h);
@@ -45,8 +45,8 @@ are_read add x y k (Ok told) left h = record {
 }
 are_read add x y k (Err fault) left h = cc
 
--- a fault in what is added is a fault of the lines
-pub is_wrong : {X : Type 0} (add : Adds X) (x : Execution) (k : ℕ) (told : Result (List (List X) × List (List ℕ)) ExecFault) (fault : ExecFault) → lines_added add x k told ≡ Err fault → told ≡ Err fault
+-- a fault in what is added_to_list is a fault of the lines
+pub is_wrong : {X : Type 0} (add : WayToAdd X) (x : Execution) (k : ℕ) (told : Result (List (List X) × List (List ℕ)) ExecFault) (fault : ExecFault) → lines_added add x k told ≡ Err fault → told ≡ Err fault
 is_wrong add x k (Ok told) fault h = cc
 is_wrong add x k (Err other) fault h = let e : other ≡ fault = cc in ap (λ f. Err f) e
 
@@ -65,8 +65,8 @@ read_length told n (head ∷ heads) [] lists left h = cc
 read_length told n (head ∷ heads) (line ∷ lines) lists left h =
     put_length (length heads) (at_line n (told head (words line))) (each_line_read told (n + 1) heads lines) lists left (λ ls l e. read_length told (n + 1) heads lines ls l e) h
 
--- a thing is added to the list after others
-added_at : {X : Type 0} (done rest : List (List X)) (so_far : List X) (item : X) → added (done ++ so_far ∷ rest) (length done) item ≡ done ++ (so_far ++ item ∷ []) ∷ rest
+-- a thing is added_to_list to the list after others
+added_at : {X : Type 0} (done rest : List (List X)) (so_far : List X) (item : X) → added_to_list (done ++ so_far ∷ rest) (length done) item ≡ done ++ (so_far ++ item ∷ []) ∷ rest
 added_at done rest so_far item =
     ap (λ found. set (done ++ so_far ∷ rest) (length done) (found ++ item ∷ [])) (unwrap_or-slice_get (done ++ so_far ∷ rest) (length done) [] ∙ get_or-append_seam done so_far rest [])
     ∙ set-append_seam done so_far rest (so_far ++ item ∷ [])
@@ -105,11 +105,11 @@ all_writes reads done (items ∷ lists) =
     ∙ ap (λ k. each_added with_write (record { reads = reads; orders = (done ++ items ∷ []) ++ replicate (length lists) [] }) k lists) e
     ∙ all_writes reads (done ++ items ∷ []) lists ∙ ap (λ l. record { reads = reads; orders = l }) (append_assoc done (items ∷ []) lists)
 
--- reads that are added to an execution without reads and writes are its reads
+-- reads that are added_to_list to an execution without reads and writes are its reads
 pub reads_are : (threads places : ℕ) (lists : List (List (ℕ × Option WriteAt))) → length lists ≡ threads → each_added with_read (nothing_kept threads places) 0 lists ≡ record { reads = lists; orders = empty_lists places }
 reads_are threads places lists h = rw (sym h) (all_reads (empty_lists places) [] lists)
 
--- writes that are added to an execution without writes are its writes
+-- writes that are added_to_list to an execution without writes are its writes
 pub writes_are : (places : ℕ) (reads : List (List (ℕ × Option WriteAt))) (lists : List (List WriteAt)) → length lists ≡ places → each_added with_write (record { reads = reads; orders = empty_lists places }) 0 lists ≡ record { reads = reads; orders = lists }
 writes_are places reads lists h = rw (sym h) (all_writes reads [] lists)
 
@@ -122,13 +122,13 @@ abbrev pub place_lines_read : ℕ → List (List ℕ) → List (List ℕ) → Re
 place_lines_read threads places lines = each_line_read (line_read BadPlace BadWrite (access_named threads)) (threads + 1) (map place_head places) lines
 
 -- the reading of a text that isn't too long is that of its lines
-pub short_read : (threads : ℕ) (places : List (List ℕ)) (text : List ℕ) → length text ≤ MAX_TEXT → execution_read threads places text ≡ lines_read threads places (lines_of text)
+pub short_read : (threads : ℕ) (places : List (List ℕ)) (text : List ℕ) → length text ≤ MAX_TEXT → execution_read threads places text ≡ reads_and_writes_read threads places (lines_of text)
 unfolding execution_read
 short_read threads places text h = rw (le-ltb MAX_TEXT (length text) h) refl
 
 -- a fault in the lines of the threads is the fault of the text
-pub threads_wrong : (threads : ℕ) (places lines : List (List ℕ)) (fault : ExecFault) → lines_added with_read (nothing_kept threads (length places)) 0 (thread_lines_read threads lines) ≡ Err fault → lines_read threads places lines ≡ Err fault
-unfolding lines_read
+pub threads_wrong : (threads : ℕ) (places lines : List (List ℕ)) (fault : ExecFault) → lines_added with_read (nothing_kept threads (length places)) 0 (thread_lines_read threads lines) ≡ Err fault → reads_and_writes_read threads places lines ≡ Err fault
+unfolding reads_and_writes_read
 threads_wrong threads places lines fault h = rw (is_wrong with_read (nothing_kept threads (length places)) 0 (thread_lines_read threads lines) fault h) refl
 
 -- the lines of the threads are read without a fault
@@ -151,23 +151,23 @@ orders_many threads places lines x left t = sym (ap (λ (y : Execution). length 
 
 -- a fault in the lines of the places is the fault of the text
 pub places_wrong : (threads : ℕ) (places lines : List (List ℕ)) (x : Execution) (left : List (List ℕ)) (fault : ExecFault) → ThreadsRead threads places lines x left
-    → lines_added with_write x 0 (place_lines_read threads places left) ≡ Err fault → lines_read threads places lines ≡ Err fault
-unfolding lines_read
+    → lines_added with_write x 0 (place_lines_read threads places left) ≡ Err fault → reads_and_writes_read threads places lines ≡ Err fault
+unfolding reads_and_writes_read
 places_wrong threads places lines x left fault t h = rw (t.is, is_wrong with_write x 0 (place_lines_read threads places left) fault h) refl
 
 -- the lines of the threads and the places are read without a fault
 pub record AllRead (threads : ℕ) (places lines : List (List ℕ)) (y : Execution) (left : List (List ℕ)) : Type 0 where
   pub reads : List (List (ℕ × Option WriteAt))
   pub orders : List (List WriteAt)
-  pub is : lines_read threads places lines ≡ execution_of (threads + length places + 1) reads (orders, left)
+  pub is : reads_and_writes_read threads places lines ≡ execution_of (threads + length places + 1) reads (orders, left)
   pub read_lists : length reads ≡ threads
   pub write_lists : length orders ≡ length places
   pub y_is : record { reads = reads; orders = orders } ≡ y
 
 -- what lines give is made of what the lines of the threads and those of the places give
 pub read_as : (threads : ℕ) (places lines left last : List (List ℕ)) (reads : List (List (ℕ × Option WriteAt))) (orders : List (List WriteAt))
-    → thread_lines_read threads lines ≡ Ok (reads, left) → place_lines_read threads places left ≡ Ok (orders, last) → lines_read threads places lines ≡ execution_of (threads + length places + 1) reads (orders, last)
-unfolding lines_read
+    → thread_lines_read threads lines ≡ Ok (reads, left) → place_lines_read threads places left ≡ Ok (orders, last) → reads_and_writes_read threads places lines ≡ execution_of (threads + length places + 1) reads (orders, last)
+unfolding reads_and_writes_read
 read_as threads places lines left last reads orders e f = rw (e, f) refl
 
 -- lines of places that lead to an execution are read without a fault
@@ -186,7 +186,7 @@ all_read threads places lines x y left last t h =
     }
 
 -- where no line is left, the lines give this execution
-pub ended_read : (threads : ℕ) (places lines : List (List ℕ)) (y : Execution) (left : List (List ℕ)) → AllRead threads places lines y left → left ≡ [] → lines_read threads places lines ≡ Ok y
+pub ended_read : (threads : ℕ) (places lines : List (List ℕ)) (y : Execution) (left : List (List ℕ)) → AllRead threads places lines y left → left ≡ [] → reads_and_writes_read threads places lines ≡ Ok y
 ended_read threads places lines y left a e = a.is ∙ ap (λ l. execution_of (threads + length places + 1) a.reads (a.orders, l)) e ∙ ap (λ z. Ok z) a.y_is
 
 -- the execution has as many lists of reads as threads, and as many orders as places
@@ -197,7 +197,7 @@ shape_read threads places lines y left a = (
 )
 
 -- where a line is left, there is a line too many
-pub stray_read : (threads : ℕ) (places lines : List (List ℕ)) (y : Execution) (left more : List (List ℕ)) (line : List ℕ) → AllRead threads places lines y left → left ≡ line ∷ more → lines_read threads places lines ≡ Err (record { line = threads + length places + 1; kind = StrayLine })
+pub stray_read : (threads : ℕ) (places lines : List (List ℕ)) (y : Execution) (left more : List (List ℕ)) (line : List ℕ) → AllRead threads places lines y left → left ≡ line ∷ more → reads_and_writes_read threads places lines ≡ Err (record { line = threads + length places + 1; kind = StrayLine })
 stray_read threads places lines y left more line a e = a.is ∙ ap (λ l. execution_of (threads + length places + 1) a.reads (a.orders, l)) e
 
 -- an error of the lines is the error of the text

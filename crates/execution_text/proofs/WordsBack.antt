@@ -20,9 +20,9 @@ use Rattle.text_laws.specs.Words.{is_nil}
 use Rattle.litmus_text.specs.declared.limits.TheConstants.{MAX_TEXT, MAX_ACCESSES}
 use Rattle.text_laws.proofs.CutLaws.{cut_back, cut_none, all_both, without_class}
 use Rattle.program_meaning.specs.declared.WriteAt.{WriteAt}
-use Rattle.execution_text.specs.ExecutionText.{access_in, access_named, kept_below, number_below, place_head, read_in, read_named, source_named, thread_head}
+use Rattle.execution_text.specs.ExecutionText.{access_written, access_named, kept_below, number_below, place_head, read_written, read_named, source_named, thread_head}
 use Rattle.execution_text.specs.Written.{access_word, read_word, source_word}
-use Rattle.execution_text.specs.ReadBack.{AccessFits, ReadFits, SourceFits}
+use Rattle.execution_text.specs.ExecutionReadBack.{AccessFits, ReadFits, SourceFits}
 
 -- a graphic character
 abbrev pub is_graphic : ℕ → Bool
@@ -43,9 +43,9 @@ place_graphic : (byte : ℕ) → is_place_byte byte ≡ true → is_graphic byte
 place_graphic byte h = grind (arith, nat_tests)
 
 -- a text with a byte in it is some text
-some_text : (prefix behind : List ℕ) (byte : ℕ) → is_nil (prefix ++ byte ∷ behind) ≡ false
-some_text [] behind byte = refl
-some_text (b ∷ prefix) behind byte = refl
+some_text : (prefix remainder : List ℕ) (byte : ℕ) → is_nil (prefix ++ byte ∷ remainder) ≡ false
+some_text [] remainder byte = refl
+some_text (b ∷ prefix) remainder byte = refl
 
 digits_are : (n : ℕ) → n < 2 ^ 32 → list_all is_ascii_digit (decimal n) ≡ true
 digits_are n h = digits_decimal digits_model n (omega (arith, h))
@@ -67,7 +67,7 @@ access_cut threads w f h =
 pub access_back : (threads : ℕ) → threads ≤ MAX_TEXT → (w : WriteAt) → AccessFits threads w → access_named threads (access_word w) ≡ Some w
 unfolding access_named
 access_back threads h w f =
-    ap (access_in threads) (access_cut threads w f h)
+    ap (access_written threads) (access_cut threads w f h)
     ∙ rw (number_back threads w.thread f.0 (omega (arith, f.0, h)), number_back MAX_ACCESSES w.access f.1 (omega (arith, f.1))) refl
 
 -- what is written of an access is a word
@@ -103,7 +103,7 @@ source_graphic threads h (Some w) f = (access_is_word threads h w f).bytes
 pub read_back : (threads : ℕ) → threads ≤ MAX_TEXT → (r : ℕ × Option WriteAt) → ReadFits threads r → read_named threads (read_word r) ≡ Some r
 unfolding read_named read_word
 read_back threads h r f =
-    ap (read_in threads) (cut_back 64 (decimal r.0) (source_word r.1) (without_class is_ascii_digit 64 (decimal r.0) refl (digits_are r.0 f.0)))
+    ap (read_written threads) (cut_back 64 (decimal r.0) (source_word r.1) (without_class is_ascii_digit 64 (decimal r.0) refl (digits_are r.0 f.0)))
     ∙ rw (number_of-decimal r.0 f.0, source_back threads h r.1 f.1) refl
 
 -- what is written of a read is a word

@@ -6,7 +6,7 @@ use Rattle.std.specs.Fmt.{decimal}
 use Rattle.std.specs.List.{slice_split, range_with_len}
 use Rattle.std.specs.Option.{option_map}
 use Rattle.std.specs.Str.{bytes_eq}
-use Rattle.text_laws.specs.Numbers.{number_of}
+use Rattle.text_laws.specs.NumberTexts.{number_of}
 use Rattle.text_laws.specs.Cuts.{cut_at}
 use Rattle.text_laws.specs.Words.{words}
 use Rattle.text_laws.specs.Lines.{is_line_feed, without_return}
@@ -32,32 +32,32 @@ access_of (Some thread) None = None
 access_of (Some thread) (Some access) = Some (record { thread = thread; access = access })
 
 -- the access that is written in two parts: its thread, and its number below 64
-abbrev pub access_in : ℕ → Option (List ℕ × List ℕ) → Option WriteAt
-access_in threads None = None
-access_in threads (Some parts) = access_of (number_below threads parts.0) (number_below MAX_ACCESSES parts.1)
+abbrev pub access_written : ℕ → Option (List ℕ × List ℕ) → Option WriteAt
+access_written threads None = None
+access_written threads (Some parts) = access_of (number_below threads parts.0) (number_below MAX_ACCESSES parts.1)
 
 -- the access that `T.N` names: number N, below 64, of thread T
 unfoldable pub access_named : ℕ → List ℕ → Option WriteAt
-access_named threads word = access_in threads (cut_at 46 word)
+access_named threads word = access_written threads (cut_at 46 word)
 
 -- what a read reads: `init`, the initial value, or an access
 unfoldable pub source_named : ℕ → List ℕ → Option (Option WriteAt)
 source_named threads word = cond (bytes_eq word (codes "init")) (Some None) (option_map Some (access_named threads word))
 
 -- a read by its value and by what it reads, if there are both
-abbrev pub read_of : Option ℕ → Option (Option WriteAt) → Option (ℕ × Option WriteAt)
-read_of None source = None
-read_of (Some value) None = None
-read_of (Some value) (Some source) = Some (value, source)
+abbrev pub read_with_source : Option ℕ → Option (Option WriteAt) → Option (ℕ × Option WriteAt)
+read_with_source None source = None
+read_with_source (Some value) None = None
+read_with_source (Some value) (Some source) = Some (value, source)
 
 -- the read that is written in two parts: its value, and what it reads
-abbrev pub read_in : ℕ → Option (List ℕ × List ℕ) → Option (ℕ × Option WriteAt)
-read_in threads None = None
-read_in threads (Some parts) = read_of (number_of parts.0) (source_named threads parts.1)
+abbrev pub read_written : ℕ → Option (List ℕ × List ℕ) → Option (ℕ × Option WriteAt)
+read_written threads None = None
+read_written threads (Some parts) = read_with_source (number_of parts.0) (source_named threads parts.1)
 
 -- the read that `VALUE@init` or `VALUE@T.N` names
 unfoldable pub read_named : ℕ → List ℕ → Option (ℕ × Option WriteAt)
-read_named threads word = read_in threads (cut_at 64 word)
+read_named threads word = read_written threads (cut_at 64 word)
 
 -- a thing before others; or the first fault, where the thing isn't there or the others have one
 abbrev pub put_first : {X F : Type 0} → F → Option X → Result (List X) F → Result (List X) F
@@ -132,8 +132,8 @@ abbrev pub ◌>>=◌ : {A B : Type 0} → Result A ExecFault → (A → Result B
 (Err e) >>= f = Err e
 
 -- the execution that lines give, of a program of so many threads and of these places
-unfoldable pub lines_read : ℕ → List (List ℕ) → List (List ℕ) → Result Execution ExecFault
-lines_read threads places lines = do
+unfoldable pub reads_and_writes_read : ℕ → List (List ℕ) → List (List ℕ) → Result Execution ExecFault
+reads_and_writes_read threads places lines = do
   reads ← all_reads_told threads lines
   orders ← all_writes_told threads places reads.1
   execution_of (threads + length places + 1) reads.0 orders
@@ -156,4 +156,4 @@ lines_of text = lines_in (slice_split is_line_feed text)
 -- the execution that a text gives, of a program of so many threads and of these places
 unfoldable pub execution_read : ℕ → List (List ℕ) → List ℕ → Result Execution ExecFault
 execution_read threads places text =
-    cond (nat_lt MAX_TEXT (length text)) (Err (record { line = 1; kind = TooLarge })) (lines_read threads places (lines_of text))
+    cond (nat_lt MAX_TEXT (length text)) (Err (record { line = 1; kind = TooLarge })) (reads_and_writes_read threads places (lines_of text))

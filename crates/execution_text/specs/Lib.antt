@@ -1,4 +1,4 @@
 pub mod ExecutionText
-pub mod Steps
+pub mod ExecutionSteps
 pub mod Written
-pub mod ReadBack
+pub mod ExecutionReadBack

@@ -5,7 +5,7 @@
 use Rattle.std.specs.Prelude.{ℕ, List, ◌∷◌, ◌++◌, map, codes, Option, Some, None}
 use Rattle.std.specs.Fmt.{decimal}
 use Rattle.std.specs.List.{enumerate_from, flat_map, join_by, zip}
-use Rattle.litmus_text.specs.TestText.{ended}
+use Rattle.litmus_text.specs.TestText.{with_line_feed}
 use Rattle.program_meaning.specs.declared.WriteAt.{WriteAt}
 use Rattle.program_meaning.specs.Executions.{Execution}
 use Rattle.execution_text.specs.ExecutionText.{thread_head, place_head}
@@ -41,4 +41,4 @@ execution_lines places x = map thread_line (enumerate_from 0 x.reads) ++ map pla
 
 -- the text of an execution over places of these names, place k of it under name k
 unfoldable pub text_of_execution : List (List ℕ) → Execution → List ℕ
-text_of_execution places x = flat_map ended (execution_lines places x)
+text_of_execution places x = flat_map with_line_feed (execution_lines places x)

@@ -1,4 +1,4 @@
-ghost use Rattle.execution_text.specs.Steps.{FirstLine};
+ghost use Rattle.execution_text.specs.ExecutionSteps.{FirstLine};
 
 use text_parts::{cut, without_return};
 

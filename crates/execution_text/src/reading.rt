@@ -2,9 +2,9 @@ ghost use Rattle.std.specs.Prelude.{◌≡◌, ◌<◌, ◌+◌, [], IfOk, lengt
 ghost use Rattle.std.specs.List.{range_with_len};
 ghost use Rattle.text_laws.specs.Words.{words};
 ghost use Rattle.execution_text.specs.declared.errors.ExecKind.TheVariants.{BadThread, BadRead, BadPlace, BadWrite};
-ghost use Rattle.exec_meaning.specs.Kept.{with_read, with_write};
+ghost use Rattle.exec_meaning.specs.KeptExecutions.{with_read, with_write};
 ghost use Rattle.execution_text.specs.ExecutionText.{access_named, all_named, execution_read, lines_of, read_named, thread_head, reads_told, writes_told, all_reads_told, all_writes_told, place_head_at};
-ghost use Rattle.execution_text.specs.Steps.{AtLine, ReadsLine, ReadsLines, ReadsText, line_added, lines_added};
+ghost use Rattle.execution_text.specs.ExecutionSteps.{AtLine, ReadsLine, ReadsLines, ReadsText, line_added, lines_added};
 ghost use Rattle.execution_text.specs.declared.errors.ExecKind.TheVariants.{EndMissing};
 ghost use Rattle.execution_text.specs.declared.errors.ExecError.TheVariants.{Text};
 ghost use Rattle.execution_text.specs.declared.reading.LineError.TheVariants.{NoMemory as NoMemoryForLine};

@@ -1,7 +1,7 @@
 ghost use Rattle.std.specs.Prelude.{◌≡◌, ◌++◌, IfOk, OnOk, length, map};
 ghost use Rattle.std.specs.Fmt.{decimal};
 ghost use Rattle.std.specs.List.{enumerate_from, flat_map, zip};
-ghost use Rattle.litmus_text.specs.TestText.{ended};
+ghost use Rattle.litmus_text.specs.TestText.{with_line_feed};
 ghost use Rattle.execution_text.specs.ExecutionText.{place_head, thread_head};
 ghost use Rattle.execution_text.specs.Written.{access_word, place_line, read_word, source_word, text_of_execution, thread_line};
 
@@ -72,7 +72,7 @@ fn push_place_head(place: &PlaceName, text: &mut Vec<u8>) -> Result<(), NoMemory
 
 /// Appends the line of a thread.
 fn push_thread(thread: u8, reads: &[Read], text: &mut Vec<u8>) -> Result<(), NoMemory>
-    ensures { OnOk result (text.new.items ≡ text.old.items ++ ended (thread_line (thread, reads.now))) }
+    ensures { OnOk result (text.new.items ≡ text.old.items ++ with_line_feed (thread_line (thread, reads.now))) }
 {
     push_thread_head(thread, text)?;
     for read in reads {
@@ -85,7 +85,7 @@ fn push_thread(thread: u8, reads: &[Read], text: &mut Vec<u8>) -> Result<(), NoM
 
 /// Appends the line of a place.
 fn push_place(place: &PlaceName, writes: &[WriteAt], text: &mut Vec<u8>) -> Result<(), NoMemory>
-    ensures { OnOk result (text.new.items ≡ text.old.items ++ ended (place_line (place.now.bytes, writes.now))) }
+    ensures { OnOk result (text.new.items ≡ text.old.items ++ with_line_feed (place_line (place.now.bytes, writes.now))) }
 {
     push_place_head(place, text)?;
     for write in writes {
@@ -98,7 +98,7 @@ fn push_place(place: &PlaceName, writes: &[WriteAt], text: &mut Vec<u8>) -> Resu
 
 /// Appends the lines of the threads.
 fn push_threads(execution: &Execution, text: &mut Vec<u8>) -> Result<(), NoMemory>
-    ensures { OnOk result (text.new.items ≡ text.old.items ++ flat_map ended (map thread_line (enumerate_from 0 execution.now.reads))) }
+    ensures { OnOk result (text.new.items ≡ text.old.items ++ flat_map with_line_feed (map thread_line (enumerate_from 0 execution.now.reads))) }
 {
     for thread in 0..execution.threads() {
         push_thread(thread, execution.reads(thread), text)?;
@@ -109,7 +109,7 @@ fn push_threads(execution: &Execution, text: &mut Vec<u8>) -> Result<(), NoMemor
 /// Appends the lines of the places.
 fn push_places(execution: &Execution, places: &Places, text: &mut Vec<u8>) -> Result<(), NoMemory>
     requires { length execution.now.orders ≡ length places.now }
-    ensures { OnOk result (text.new.items ≡ text.old.items ++ flat_map ended (map place_line (zip places.now execution.now.orders))) }
+    ensures { OnOk result (text.new.items ≡ text.old.items ++ flat_map with_line_feed (map place_line (zip places.now execution.now.orders))) }
 {
     for place in 0..places.len() {
         push_place(places.get(place), execution.writes(place), text)?;

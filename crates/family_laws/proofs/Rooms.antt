@@ -18,7 +18,7 @@ use Rattle.arch_trait.specs.declared.step.Shape.{Shape}
 use Rattle.arch_trait.specs.declared.step.Step.{Step}
 use Rattle.arch_trait.specs.Links.{is_addr}
 use Rattle.arch_trait.specs.Threads.{Puts, is_load_dir, is_store_dir, places_in, shape_of, visits}
-use Rattle.test_laws.specs.Steps.{cycle_steps, event_step, observing, observer_steps, thread_steps}
+use Rattle.test_laws.specs.CycleSteps.{cycle_steps, event_step, observing, observer_steps, thread_steps}
 use Rattle.test_laws.specs.TestOf.{plain}
 use Rattle.test_maker.specs.declared.refusal.MakeRefusal.TheVariants.{TooManyRegisters}
 use Rattle.test_maker.specs.Refusals.{crowded_thread, is_crowded}

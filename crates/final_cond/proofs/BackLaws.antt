@@ -15,10 +15,10 @@ use Rattle.final_cond.specs.declared.read.Follow.TheVariants as follows
 use Rattle.text_laws.specs.Names.{is_place_byte, begins_place, is_register_name}
 use Rattle.final_cond.specs.Conditions.{LeftSeen, InRegister, AtPlace, TermSeen, CondSeen}
 use Rattle.final_cond.specs.CondText.{quantifier_word, left_text, term_text, terms_text, cond_text}
-use Rattle.text_laws.specs.Runs.{run_of, after_run}
+use Rattle.text_laws.specs.LeadingRuns.{leading_run, after_run}
 use Rattle.text_laws.specs.Blanks.{is_blank, unblanked}
-use Rattle.final_cond.specs.ReadBack.{IsFormedTerm, IsFormed}
-use Rattle.final_cond.specs.Reading.{sign_read, opening_read, left_at_start, register_at_start, has_form, left_read, value_read, right_read, term_read, follow_read, terms_read, parts_read, cond_read}
+use Rattle.final_cond.specs.ConditionReadBack.{IsFormedTerm, IsFormedCondition}
+use Rattle.final_cond.specs.ConditionReading.{sign_read, opening_read, left_at_start, register_at_start, has_form, left_read, value_read, right_read, term_read, follow_read, terms_read, parts_read, cond_read}
 use Rattle.text_laws.proofs.NameLaws.{place_shaped, register_shaped, shaped_all}
 use Rattle.text_laws.proofs.NumberLaws.{number_of-decimal}
 
@@ -29,11 +29,11 @@ stops passes (byte ∷ text) = not (passes byte)
 
 -- a word of bytes that pass, and then one that doesn't: the word is the run
 pub record IsRun (passes : ℕ → Bool) (word rest : List ℕ) : Type 0 where
-  pub run : run_of passes (word ++ rest) ≡ word
+  pub run : leading_run passes (word ++ rest) ≡ word
   pub after : after_run passes (word ++ rest) ≡ rest
 
 pub whole_run : (passes : ℕ → Bool) (word rest : List ℕ) → list_all passes word ≡ true → stops passes rest ≡ true → IsRun passes word rest
-unfolding run_of after_run
+unfolding leading_run after_run
 whole_run passes [] [] h s = record { run = refl; after = refl }
 whole_run passes [] (byte ∷ rest) h s =
     let p : passes byte ≡ false = not-true (passes byte) s in
@@ -180,7 +180,7 @@ terms_back known (suc room) term (next ∷ terms) rest few f k =
 
 -- the opening of a condition reads back
 pub opening_back : (quantifier : Quantifier) (text : List ℕ) → opening_read ((quantifier_word quantifier ++ codes " (") ++ text) ≡ Ok (quantifier, text)
-unfolding opening_read sign_read run_of after_run
+unfolding opening_read sign_read leading_run after_run
 opening_back Exists text = refl
 opening_back NotExists text = refl
 opening_back Forall text = refl
@@ -194,7 +194,7 @@ all_terms_back known room [] rest some few f k = absurd (omega arith)
 all_terms_back known room (term ∷ terms) rest some few f k = terms_back known room term terms rest (omega arith) f k
 
 -- a whole condition reads back, with blanks after it
-pub parts_back : (known : LeftSeen → Bool) (condition : CondSeen) (blanks : List ℕ) → IsFormed condition → Known known condition.terms → unblanked blanks ≡ [] → parts_read known (cond_text condition ++ blanks) ≡ Ok condition
+pub parts_back : (known : LeftSeen → Bool) (condition : CondSeen) (blanks : List ℕ) → IsFormedCondition condition → Known known condition.terms → unblanked blanks ≡ [] → parts_read known (cond_text condition ++ blanks) ≡ Ok condition
 unfolding parts_read cond_text
 parts_back known condition blanks f k b =
     rw cond_parts (rw opening_back (rw (all_terms_back known MAX_TERMS condition.terms blanks f.some f.few f.terms k, b) refl))
@@ -204,7 +204,7 @@ formed_known [] f = tt
 formed_known (term ∷ terms) f = (f.0.form, formed_known terms f.1)
 
 -- the text of a condition reads as the condition
-pub read_back : (condition : CondSeen) → IsFormed condition → cond_read (cond_text condition) ≡ Ok condition
+pub read_back : (condition : CondSeen) → IsFormedCondition condition → cond_read (cond_text condition) ≡ Ok condition
 unfolding cond_read after_run
 read_back condition f =
     let p : parts_read has_form (cond_text condition) ≡ Ok condition = ap (parts_read has_form) (sym (append-nil (cond_text condition))) ∙ parts_back has_form condition [] f (formed_known condition.terms f.terms) refl in

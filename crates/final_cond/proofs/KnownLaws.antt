@@ -4,11 +4,11 @@ use Rattle.std.specs.Prelude.{Bool, true, cond, Option, Some, None, Ok}
 use Rattle.list_laws.proofs.Cases.{by_test}
 use Rattle.final_cond.specs.declared.errors.CondKind.TheVariants.{BadTerm}
 use Rattle.final_cond.specs.Conditions.{LeftSeen}
-use Rattle.final_cond.specs.Reading.{Read, ◌>>=◌, fault, found, only_known, left_at_start, left_read}
+use Rattle.final_cond.specs.ConditionReading.{ConditionRead, ◌>>=◌, cond_fault, found, only_known, left_at_start, left_read}
 
 -- a left side that was read, where it passes a stricter test too
-abbrev pub judged : (LeftSeen → Bool) → List ℕ → LeftSeen × List ℕ → Read LeftSeen
-judged stricter text left = cond (stricter left.0) (Ok left) (fault BadTerm text)
+abbrev pub judged : (LeftSeen → Bool) → List ℕ → LeftSeen × List ℕ → ConditionRead LeftSeen
+judged stricter text left = cond (stricter left.0) (Ok left) (cond_fault BadTerm text)
 
 judged_at_start : (known stricter : LeftSeen → Bool) (text : List ℕ) → ((left : LeftSeen) → stricter left ≡ true → known left ≡ true)
     → (found_left : Option (LeftSeen × List ℕ)) → found BadTerm text (only_known stricter found_left) ≡ (found BadTerm text (only_known known found_left) >>= judged stricter text)

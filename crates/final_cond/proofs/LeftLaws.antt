@@ -4,7 +4,7 @@ use Rattle.std.specs.Prelude.{◌≢◌, true, false, None}
 use Rattle.std.specs.Char.{is_ascii_digit}
 use Rattle.std.proofs.lemmas.Bool.{eq-eqb, ne_eqb}
 use Rattle.std.proofs.lemmas.Bool.Decides.{nat_tests}
-use Rattle.final_cond.specs.Reading.{left_at_start, bracketed_at_start, register_at_start, place_at_start}
+use Rattle.final_cond.specs.ConditionReading.{left_at_start, bracketed_at_start, register_at_start, place_at_start}
 use Rattle.text_laws.proofs.NameLaws.{rest_is}
 
 -- an empty text begins with no left side

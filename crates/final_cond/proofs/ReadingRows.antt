@@ -8,10 +8,10 @@ use Rattle.final_cond.specs.declared.errors.CondKind.{CondKind}
 use Rattle.final_cond.specs.declared.errors.CondKind.TheVariants.{BadQuantifier, BadTerm, BadValue, BadEnd}
 use Rattle.final_cond.specs.declared.errors.CondError.{CondError}
 use Rattle.text_laws.specs.Names.{is_place_name, is_register_name}
-use Rattle.text_laws.specs.Numbers.{number_of}
-use Rattle.text_laws.specs.Runs.{run_of, after_run}
+use Rattle.text_laws.specs.NumberTexts.{number_of}
+use Rattle.text_laws.specs.LeadingRuns.{leading_run, after_run}
 use Rattle.final_cond.specs.Conditions.{InRegister, AtPlace, TermSeen, CondSeen}
-use Rattle.final_cond.specs.Reading.{sign_read, opening_read, left_at_start, left_read, value_read, right_read, term_read, follow_read, terms_read, parts_read, cond_read}
+use Rattle.final_cond.specs.ConditionReading.{sign_read, opening_read, left_at_start, left_read, value_read, right_read, term_read, follow_read, terms_read, parts_read, cond_read}
 
 abbrev place_is : List ℕ → ℕ → TermSeen
 place_is name value = record { left = AtPlace name; value = value }
@@ -36,7 +36,7 @@ good_texts : map cond_read (
     ∷ Ok (record { quantifier = Forall; terms = place_is (codes "x") 4294967295 ∷ [] })
     ∷ exists_that (place_is (codes "aaaabbbbccccdddd") 0 ∷ [])
     ∷ []
-unfolding digits is_place_name is_register_name number_of run_of after_run sign_read opening_read left_at_start left_read value_read right_read term_read follow_read terms_read parts_read cond_read
+unfolding digits is_place_name is_register_name number_of leading_run after_run sign_read opening_read left_at_start left_read value_read right_read term_read follow_read terms_read parts_read cond_read
 good_texts = refl
 
 bad_quantifiers : map cond_read (
@@ -44,7 +44,7 @@ bad_quantifiers : map cond_read (
     ∷ [])
     ≡ bad 0 BadQuantifier ∷ bad 2 BadQuantifier ∷ bad 1 BadQuantifier ∷ bad 0 BadQuantifier ∷ bad 7 BadQuantifier ∷ bad 6 BadQuantifier ∷ bad 8 BadQuantifier ∷ bad 1 BadQuantifier
     ∷ []
-unfolding digits is_place_name is_register_name number_of run_of after_run sign_read opening_read left_at_start left_read value_read right_read term_read follow_read terms_read parts_read cond_read
+unfolding digits is_place_name is_register_name number_of leading_run after_run sign_read opening_read left_at_start left_read value_read right_read term_read follow_read terms_read parts_read cond_read
 bad_quantifiers = refl
 
 bad_terms : map cond_read (
@@ -56,7 +56,7 @@ bad_terms : map cond_read (
     ∷ bad 8 BadTerm ∷ bad 8 BadTerm ∷ bad 9 BadTerm ∷ bad 10 BadTerm ∷ bad 9 BadTerm ∷ bad 9 BadTerm
     ∷ bad 8 BadTerm ∷ bad 15 BadTerm ∷ bad 8 BadTerm
     ∷ []
-unfolding digits is_place_name is_register_name number_of run_of after_run sign_read opening_read left_at_start left_read value_read right_read term_read follow_read terms_read parts_read cond_read
+unfolding digits is_place_name is_register_name number_of leading_run after_run sign_read opening_read left_at_start left_read value_read right_read term_read follow_read terms_read parts_read cond_read
 bad_terms = refl
 
 bad_values : map cond_read (
@@ -64,7 +64,7 @@ bad_values : map cond_read (
     ∷ [])
     ≡ bad 11 BadValue ∷ bad 11 BadValue ∷ bad 10 BadValue ∷ bad 10 BadValue ∷ bad 10 BadValue ∷ bad 10 BadValue
     ∷ []
-unfolding digits is_place_name is_register_name number_of run_of after_run sign_read opening_read left_at_start left_read value_read right_read term_read follow_read terms_read parts_read cond_read
+unfolding digits is_place_name is_register_name number_of leading_run after_run sign_read opening_read left_at_start left_read value_read right_read term_read follow_read terms_read parts_read cond_read
 bad_values = refl
 
 bad_ends : map cond_read (
@@ -72,7 +72,7 @@ bad_ends : map cond_read (
     ∷ [])
     ≡ bad 12 BadEnd ∷ bad 12 BadEnd ∷ bad 12 BadEnd ∷ bad 11 BadEnd ∷ bad 13 BadEnd ∷ bad 11 BadEnd ∷ bad 12 BadEnd
     ∷ []
-unfolding digits is_place_name is_register_name number_of run_of after_run sign_read opening_read left_at_start left_read value_read right_read term_read follow_read terms_read parts_read cond_read
+unfolding digits is_place_name is_register_name number_of leading_run after_run sign_read opening_read left_at_start left_read value_read right_read term_read follow_read terms_read parts_read cond_read
 bad_ends = refl
 
 many_terms : map cond_read (
@@ -84,5 +84,5 @@ many_terms : map cond_read (
     ∷ bad 649 BadEnd
     ∷ bad 651 BadValue
     ∷ []
-unfolding digits is_place_name is_register_name number_of run_of after_run sign_read opening_read left_at_start left_read value_read right_read term_read follow_read terms_read parts_read cond_read
+unfolding digits is_place_name is_register_name number_of leading_run after_run sign_read opening_read left_at_start left_read value_read right_read term_read follow_read terms_read parts_read cond_read
 many_terms = refl

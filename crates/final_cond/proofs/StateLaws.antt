@@ -11,18 +11,18 @@ use Rattle.relax_edges.specs.declared.kinds.Value.TheVariants.{Num}
 use Rattle.final_cond.specs.declared.cond.Left.{Left}
 use Rattle.final_cond.specs.declared.cond.Term.{Term}
 use Rattle.final_cond.specs.Conditions.{LeftSeen, InRegister, AtPlace, left_view, term_view}
-use Rattle.final_cond.specs.States.{same_left, value_in, pair_view}
+use Rattle.final_cond.specs.States.{same_left_seen, value_in_state, pair_view}
 
 -- the value of a left side is that of the first pair with it
 pub first_is : (pairs : List (Left × Value)) (i : ℕ) (pair : Left × Value) (left : LeftSeen) (whole : Option Value) → i < length pairs → pair ≡ get_or pairs i pair
-    → same_left (left_view pair.0) left ≡ true → value_in (map pair_view (drop i pairs)) left ≡ whole → Some pair.1 ≡ whole
+    → same_left_seen (left_view pair.0) left ≡ true → value_in_state (map pair_view (drop i pairs)) left ≡ whole → Some pair.1 ≡ whole
 first_is pairs i pair left whole inside is same h =
     let e : drop i pairs ≡ pair ∷ drop (suc i) pairs = drop-cons pairs i pair inside ∙ ap (λ p. p ∷ drop (suc i) pairs) (sym is) in
     sym (sym h ∙ rw e (rw same refl))
 
 -- a pair with another left side is passed over
 pub first_is_later : (pairs : List (Left × Value)) (i : ℕ) (pair : Left × Value) (left : LeftSeen) (whole : Option Value) → i < length pairs → pair ≡ get_or pairs i pair
-    → same_left (left_view pair.0) left ≡ false → value_in (map pair_view (drop i pairs)) left ≡ whole → value_in (map pair_view (drop (i + 1) pairs)) left ≡ whole
+    → same_left_seen (left_view pair.0) left ≡ false → value_in_state (map pair_view (drop i pairs)) left ≡ whole → value_in_state (map pair_view (drop (i + 1) pairs)) left ≡ whole
 first_is_later pairs i pair left whole inside is same h =
     let e : drop i pairs ≡ pair ∷ drop (i + 1) pairs = rw add-one (drop-cons pairs i pair inside ∙ ap (λ p. p ∷ drop (suc i) pairs) (sym is)) in
     sym (rw e (rw same refl)) ∙ h
@@ -53,7 +53,7 @@ bytes_decide : (name name' : List ℕ) → (bytes_eq name name' ≡ true → nam
 bytes_decide name name' = bytes_eq-Decides name name'
 
 -- left sides are the same exactly where they are equal
-pub same_left_decides : (left left' : LeftSeen) → (same_left left left' ≡ true → left ≡ left') × (left ≡ left' → same_left left left' ≡ true)
+pub same_left_decides : (left left' : LeftSeen) → (same_left_seen left left' ≡ true → left ≡ left') × (left ≡ left' → same_left_seen left left' ≡ true)
 same_left_decides (InRegister thread name) (InRegister thread' name') = (
   λ h. let p : (nat_eq thread thread' ≡ true) × (bytes_eq name name' ≡ true) = and_parts (nat_eq thread thread') (bytes_eq name name') h in
       let t : thread ≡ thread' = eqb-true thread thread' p.0 in

@@ -14,8 +14,8 @@ use Rattle.final_cond.specs.declared.cond.Quantifier.TheVariants.{Exists, NotExi
 use Rattle.text_laws.specs.Names.{is_place_byte}
 use Rattle.final_cond.specs.Conditions.{LeftSeen, InRegister, AtPlace, TermSeen, CondSeen}
 use Rattle.final_cond.specs.CondText.{quantifier_word, left_text, term_text, further_term_text, terms_text, cond_text}
-use Rattle.final_cond.specs.ReadBack.{IsFormedTerm, IsFormed}
-use Rattle.final_cond.specs.Reading.{has_form}
+use Rattle.final_cond.specs.ConditionReadBack.{IsFormedTerm, IsFormedCondition}
+use Rattle.final_cond.specs.ConditionReading.{has_form}
 use Rattle.final_cond.proofs.BackLaws.{Named, named, place_bytes}
 use Rattle.list_laws.proofs.Digits.{digits_of}
 
@@ -73,7 +73,7 @@ word_printable NotExists = refl
 word_printable Forall = refl
 
 -- the text of a formed condition is of printable bytes
-pub cond_text_printable : (condition : CondSeen) → IsFormed condition → list_all is_printable (cond_text condition) ≡ true
+pub cond_text_printable : (condition : CondSeen) → IsFormedCondition condition → list_all is_printable (cond_text condition) ≡ true
 unfolding cond_text
 cond_text_printable condition f =
     both ((quantifier_word condition.quantifier ++ codes " (") ++ terms_text condition.terms) (codes ")")

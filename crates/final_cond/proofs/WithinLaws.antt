@@ -10,11 +10,11 @@ use Rattle.final_cond.specs.declared.read.Follow.{Follow}
 use Rattle.final_cond.specs.declared.read.Follow.TheVariants as follows
 use Rattle.text_laws.specs.Names.{is_place_byte}
 use Rattle.final_cond.specs.Conditions.{LeftSeen, TermSeen, CondSeen}
-use Rattle.text_laws.specs.Numbers.{number_of}
-use Rattle.text_laws.specs.Runs.{run_of, after_run}
+use Rattle.text_laws.specs.NumberTexts.{number_of}
+use Rattle.text_laws.specs.LeadingRuns.{leading_run, after_run}
 use Rattle.text_laws.specs.Blanks.{is_blank, unblanked}
-use Rattle.final_cond.specs.Reading.{Fault, Read, ◌>>=◌, sign_at_start, sign_read, found, before_text, quantifier_of, quantifier_at_start, opening_read, bracket_closed, bracketed_at_start, register_of_thread, register_at_start, left_at_start, known_left, only_known, left_read, value_at_start, value_read, right_read, term_read, and_at_start, follow_at_start, follow_read, and_further, terms_read, end_at_start, parts_read}
-use Rattle.text_laws.specs.Words.{is_word_byte}
+use Rattle.final_cond.specs.ConditionReading.{Fault, ConditionRead, ◌>>=◌, sign_at_start, sign_read, found, before_text, quantifier_of, quantifier_at_start, opening_read, bracket_closed, bracketed_at_start, register_of_thread, register_at_start, left_at_start, known_left, only_known, left_read, value_at_start, value_read, right_read, term_read, and_at_start, follow_at_start, follow_read, and_further, terms_read, end_at_start, parts_read}
+use Rattle.text_laws.specs.Words.{is_argument_byte}
 use Rattle.text_laws.proofs.RunLaws.{after_run-le}
 
 -- the text after what was read, or from the fault on, has at most so many bytes
@@ -54,8 +54,8 @@ unfolding opening_read
 opening_stays text =
     let u : length (unblanked text) ≤ length text = unblanked-le text in
     let q : Stays (λ x. x.1) (length (unblanked text)) (quantifier_at_start (unblanked text)) =
-    found_stays BadQuantifier (unblanked text) (before_text (quantifier_of (run_of is_word_byte (unblanked text))) (after_run is_word_byte (unblanked text)))
-    (before_stays (length (unblanked text)) (quantifier_of (run_of is_word_byte (unblanked text))) (after_run is_word_byte (unblanked text)) (after_run-le is_word_byte (unblanked text))) in
+    found_stays BadQuantifier (unblanked text) (before_text (quantifier_of (leading_run is_argument_byte (unblanked text))) (after_run is_argument_byte (unblanked text)))
+    (before_stays (length (unblanked text)) (quantifier_of (leading_run is_argument_byte (unblanked text))) (after_run is_argument_byte (unblanked text)) (after_run-le is_argument_byte (unblanked text))) in
     stays_then (λ x. x.1) (λ x. x.1) (length text) (quantifier_at_start (unblanked text)) _ (stays_wider (λ x. x.1) (length (unblanked text)) (length text) (quantifier_at_start (unblanked text)) u q)
     (λ x l. stays_then (λ y. y) (λ y. y.1) (length text) (sign_read BadQuantifier 40 x.1) _ (stays_wider (λ y. y) (length x.1) (length text) (sign_read BadQuantifier 40 x.1) l (sign_stays BadQuantifier 40 x.1)) (λ y k. k))
 
@@ -79,9 +79,9 @@ unfolding left_at_start
 left_at_start_stays [] = tt
 left_at_start_stays (byte ∷ text) =
     by_test (nat_eq byte 91)
-    (λ h. rw h (some_wider (length (after_run is_place_byte text)) (suc (length text)) (bracketed_at_start text) (let k : length (after_run is_place_byte text) ≤ length text = after_run-le is_place_byte text in omega arith) (closed_stays (run_of is_place_byte text) (after_run is_place_byte text))))
+    (λ h. rw h (some_wider (length (after_run is_place_byte text)) (suc (length text)) (bracketed_at_start text) (let k : length (after_run is_place_byte text) ≤ length text = after_run-le is_place_byte text in omega arith) (closed_stays (leading_run is_place_byte text) (after_run is_place_byte text))))
     (λ h. rw h (by_test (is_ascii_digit byte)
-    (λ d. rw d (some_wider (length (after_run is_ascii_digit (byte ∷ text))) (suc (length text)) (register_at_start (byte ∷ text)) (after_run-le is_ascii_digit (byte ∷ text)) (thread_stays (number_of (run_of is_ascii_digit (byte ∷ text))) (after_run is_ascii_digit (byte ∷ text)))))
+    (λ d. rw d (some_wider (length (after_run is_ascii_digit (byte ∷ text))) (suc (length text)) (register_at_start (byte ∷ text)) (after_run-le is_ascii_digit (byte ∷ text)) (thread_stays (number_of (leading_run is_ascii_digit (byte ∷ text))) (after_run is_ascii_digit (byte ∷ text)))))
     (λ d. rw d (after_run-le is_place_byte (byte ∷ text)))))
 
 known_stays : (known : LeftSeen → Bool) (n : ℕ) (o : Option (LeftSeen × List ℕ)) → IfSome o (λ x. length x.1 ≤ n) → IfSome (only_known known o) (λ x. length x.1 ≤ n)
@@ -97,7 +97,7 @@ unfolding value_read
 value_stays text =
     let u : List ℕ = unblanked text in
     stays_wider (λ x. x.1) (length u) (length text) (value_at_start u) (unblanked-le text)
-    (found_stays BadValue u (before_text (number_of (run_of is_ascii_digit u)) (after_run is_ascii_digit u)) (before_stays (length u) (number_of (run_of is_ascii_digit u)) (after_run is_ascii_digit u) (after_run-le is_ascii_digit u)))
+    (found_stays BadValue u (before_text (number_of (leading_run is_ascii_digit u)) (after_run is_ascii_digit u)) (before_stays (length u) (number_of (leading_run is_ascii_digit u)) (after_run is_ascii_digit u) (after_run-le is_ascii_digit u)))
 
 right_stays : (text : List ℕ) → Stays (λ x. x.1) (length text) (right_read text)
 unfolding right_read
@@ -126,7 +126,7 @@ follow_stays : (text : List ℕ) → Stays (λ x. x.1) (length text) (follow_rea
 unfolding follow_read
 follow_stays text = stays_wider (λ x. x.1) (length (unblanked text)) (length text) (follow_at_start (unblanked text)) (unblanked-le text) (follow_at_start_stays (unblanked text))
 
-further_stays : (term : TermSeen) (further : List ℕ → Read (List TermSeen)) (step : Follow) (rest : List ℕ) (n : ℕ) → length rest ≤ n → Stays (λ x. x.1) (length rest) (further rest) → Stays (λ x. x.1) n (and_further term further step rest)
+further_stays : (term : TermSeen) (further : List ℕ → ConditionRead (List TermSeen)) (step : Follow) (rest : List ℕ) (n : ℕ) → length rest ≤ n → Stays (λ x. x.1) (length rest) (further rest) → Stays (λ x. x.1) n (and_further term further step rest)
 further_stays term further follows.End rest n l h = l
 further_stays term further follows.Term rest n l h =
     stays_then (λ x. x.1) (λ x. x.1) n (further rest) _ (stays_wider (λ x. x.1) (length rest) n (further rest) l h) (λ x k. k)

@@ -1,6 +1,6 @@
 pub mod Conditions
 pub mod CondText
-pub mod Reading
-pub mod Gives
+pub mod ConditionReading
+pub mod ConditionAnswers
 pub mod States
-pub mod ReadBack
+pub mod ConditionReadBack

@@ -9,19 +9,19 @@ use Rattle.final_cond.specs.declared.cond.Left.{Left}
 use Rattle.final_cond.specs.Conditions.{LeftSeen, InRegister, AtPlace, CondSeen, left_view}
 
 -- two left sides are the same
-abbrev pub same_left : LeftSeen → LeftSeen → Bool
-same_left (InRegister thread name) (InRegister thread' name') = thread == thread' && bytes_eq name name'
-same_left (AtPlace name) (AtPlace name') = bytes_eq name name'
-same_left _ _ = false
+abbrev pub same_left_seen : LeftSeen → LeftSeen → Bool
+same_left_seen (InRegister thread name) (InRegister thread' name') = thread == thread' && bytes_eq name name'
+same_left_seen (AtPlace name) (AtPlace name') = bytes_eq name name'
+same_left_seen _ _ = false
 
 -- a state as a list of left sides and their values
-abbrev pub State : Type 0
-State = List (LeftSeen × Value)
+abbrev pub FinalState : Type 0
+FinalState = List (LeftSeen × Value)
 
 -- the value of a left side in a state: that of the first pair with this left side
-abbrev pub value_in : State → LeftSeen → Option Value
-value_in [] left = None
-value_in (pair ∷ state) left = cond (same_left pair.0 left) (Some pair.1) (value_in state left)
+abbrev pub value_in_state : FinalState → LeftSeen → Option Value
+value_in_state [] left = None
+value_in_state (pair ∷ state) left = cond (same_left_seen pair.0 left) (Some pair.1) (value_in_state state left)
 
 -- A final state, which gives left sides their values, meets a condition where each term's left side has the term's value there.
 -- The quantifier isn't looked at.

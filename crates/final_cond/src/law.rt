@@ -1,13 +1,13 @@
 ghost use Rattle.std.specs.Prelude.{◌≡◌, Ok};
 ghost use Rattle.final_cond.specs.Conditions.{CondSeen};
 ghost use Rattle.final_cond.specs.CondText.{cond_text};
-ghost use Rattle.final_cond.specs.ReadBack.{IsFormed};
-ghost use Rattle.final_cond.specs.Reading.{cond_read};
+ghost use Rattle.final_cond.specs.ConditionReadBack.{IsFormedCondition};
+ghost use Rattle.final_cond.specs.ConditionReading.{cond_read};
 
 /// A law: the text that `print_cond` writes of a condition is one that `read_cond` reads as that
 /// condition, where it has 1 to `MAX_TERMS` terms, its threads are below 64, its names are of their
 /// forms and its values have 32 bits.
 #[tactic(auto, using(crate::proofs::BackLaws::read_back))]
 pub fn printed_reads_back()
-    ensures { (condition : CondSeen) → IsFormed condition → cond_read (cond_text condition) ≡ Ok condition }
+    ensures { (condition : CondSeen) → IsFormedCondition condition → cond_read (cond_text condition) ≡ Ok condition }
 {}

@@ -9,10 +9,10 @@ use std::str;
 use text_parts::Class;
 
 /// The most bytes that the name of a place or a register has.
-pub const MAX_NAME: usize = 16;
+pub const MAX_CONDITION_NAME: usize = 16;
 
 /// Whether these bytes have the form of a place's name: a letter or `_`, then letters, digits and
-/// `_`, at most `MAX_NAME` bytes.
+/// `_`, at most `MAX_CONDITION_NAME` bytes.
 #[tactic(auto, using(text_laws::proofs::NameLaws::is_place_name_parts), unfolding(text_laws::specs::Names::is_place_name))]
 pub fn is_place_name(name: &[u8]) -> bool
     ensures { result ≡ is_place_name name.now }
@@ -21,13 +21,13 @@ pub fn is_place_name(name: &[u8]) -> bool
         [] => false,
         [first, others @ ..] => {
             let begins = first.is_ascii_alphabetic() || *first == b'_';
-            begins && Class::PlaceName.has_all(others) && name.len() <= MAX_NAME
+            begins && Class::PlaceName.has_all(others) && name.len() <= MAX_CONDITION_NAME
         }
     }
 }
 
 /// Whether these bytes have the form of a register's name: a letter, then letters and digits, at
-/// most `MAX_NAME` bytes.
+/// most `MAX_CONDITION_NAME` bytes.
 #[tactic(auto, using(text_laws::proofs::NameLaws::is_register_name_parts), unfolding(text_laws::specs::Names::is_register_name))]
 pub fn is_register_name(name: &[u8]) -> bool
     ensures { result ≡ is_register_name name.now }
@@ -36,15 +36,15 @@ pub fn is_register_name(name: &[u8]) -> bool
         [] => false,
         [first, others @ ..] => {
             let begins = first.is_ascii_alphabetic();
-            begins && Class::RegisterName.has_all(others) && name.len() <= MAX_NAME
+            begins && Class::RegisterName.has_all(others) && name.len() <= MAX_CONDITION_NAME
         }
     }
 }
 
 #[tactic(auto, using(text_laws::proofs::NameLaws::utf8_from_ascii))]
-fn name_of(bytes: &[u8]) -> ArrayString<MAX_NAME>
+fn name_of(bytes: &[u8]) -> ArrayString<MAX_CONDITION_NAME>
     requires ascii { list_all is_ascii bytes.now ≡ true }
-    requires short { length bytes.now ≤ MAX_NAME }
+    requires short { length bytes.now ≤ MAX_CONDITION_NAME }
     ensures { result.bytes ≡ bytes.now }
 {
     let mut name = ArrayString::new();

@@ -1,5 +1,5 @@
 ghost use Rattle.std.specs.Prelude.{◌≡◌};
-ghost use Rattle.text_laws.specs.Numbers.{number_of};
+ghost use Rattle.text_laws.specs.NumberTexts.{number_of};
 
 use std::str;
 use text_parts::Class;

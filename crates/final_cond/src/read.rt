@@ -1,8 +1,8 @@
 ghost use Rattle.std.specs.Prelude.{◌≡◌, [], map, option_map, IfOk, IfErr};
 ghost use Rattle.final_cond.specs.Conditions.{left_view, term_view, cond_view, InRegister, AtPlace};
-ghost use Rattle.final_cond.specs.Gives.{Gives, left_and_rest, term_and_rest};
+ghost use Rattle.final_cond.specs.ConditionAnswers.{GivesCondition, left_and_rest, term_and_rest};
 ghost use Rattle.text_laws.specs.Blanks.{unblanked};
-ghost use Rattle.final_cond.specs.Reading.{sign_read, quantifier_of, opening_read, known_left, only_known, has_form, place_at_start, bracketed_at_start, register_at_start, left_at_start, left_read, value_read, right_read, term_read, follow_read, terms_read, parts_read, cond_read};
+ghost use Rattle.final_cond.specs.ConditionReading.{sign_read, quantifier_of, opening_read, known_left, only_known, has_form, place_at_start, bracketed_at_start, register_at_start, left_at_start, left_read, value_read, right_read, term_read, follow_read, terms_read, parts_read, cond_read};
 
 use crate::cond::{Cond, Left, MAX_TERMS, Quantifier, Term};
 use crate::errors::{CondError, CondFault, CondKind};
@@ -20,9 +20,9 @@ pub enum Follow {
     End,
 }
 
-#[tactic(auto, unfolding(crate::specs::Reading::sign_read))]
+#[tactic(auto, unfolding(crate::specs::ConditionReading::sign_read))]
 fn read_sign(kind: CondKind, sign: u8, text: &[u8]) -> Result<&[u8], CondFault<'_>>
-    ensures { Gives (λ rest. rest.now) result (sign_read kind sign text.now) }
+    ensures { GivesCondition (λ rest. rest.now) result (sign_read kind sign text.now) }
 {
     let text = without_blanks(text);
     match text {
@@ -46,9 +46,9 @@ fn quantifier_of(word: &[u8]) -> Option<Quantifier>
 }
 
 /// The quantifier and the `(` with which the text of a condition begins, and the text after them.
-#[tactic(auto, unfolding(crate::specs::Reading::opening_read))]
+#[tactic(auto, unfolding(crate::specs::ConditionReading::opening_read))]
 pub fn read_opening(text: &[u8]) -> Result<(Quantifier, &[u8]), CondFault<'_>>
-    ensures { Gives (λ x. (x.0, x.1.now)) result (opening_read text.now) }
+    ensures { GivesCondition (λ x. (x.0, x.1.now)) result (opening_read text.now) }
 {
     let text = without_blanks(text);
     let (word, rest) = split_run(Class::Word, text);
@@ -97,11 +97,11 @@ fn bracketed_left(text: &[u8]) -> Option<(Left, &[u8])>
     ensures { option_map left_and_rest result ≡ only_known has_form (bracketed_at_start text.now) }
 {
     let (name, rest) = split_run(Class::PlaceName, text);
-    let [b']', behind @ ..] = rest else {
+    let [b']', remainder @ ..] = rest else {
         return None;
     };
     let left = place_left(name)?;
-    Some((left, behind))
+    Some((left, remainder))
 }
 
 fn register(text: &[u8]) -> Option<(Left, &[u8])>
@@ -109,10 +109,10 @@ fn register(text: &[u8]) -> Option<(Left, &[u8])>
 {
     let (digits, rest) = split_run(Class::Digit, text);
     let thread = number_of(digits)?;
-    let [b':', behind @ ..] = rest else {
+    let [b':', remainder @ ..] = rest else {
         return None;
     };
-    let (name, rest) = split_run(Class::RegisterName, behind);
+    let (name, rest) = split_run(Class::RegisterName, remainder);
     let left = register_left(thread, name)?;
     Some((left, rest))
 }
@@ -131,9 +131,9 @@ fn left(text: &[u8]) -> Option<(Left, &[u8])>
 
 /// The left side with which a text begins, of a register of a thread below 64 or of a place, and
 /// the text after it. Blanks may stand before it.
-#[tactic(auto, unfolding(crate::specs::Reading::left_read))]
+#[tactic(auto, unfolding(crate::specs::ConditionReading::left_read))]
 pub fn read_left(text: &[u8]) -> Result<(Left, &[u8]), CondFault<'_>>
-    ensures { Gives left_and_rest result (left_read has_form (unblanked text.now)) }
+    ensures { GivesCondition left_and_rest result (left_read has_form (unblanked text.now)) }
 {
     let text = without_blanks(text);
     match left(text) {
@@ -145,9 +145,9 @@ pub fn read_left(text: &[u8]) -> Result<(Left, &[u8]), CondFault<'_>>
     }
 }
 
-#[tactic(auto, unfolding(crate::specs::Reading::value_read))]
+#[tactic(auto, unfolding(crate::specs::ConditionReading::value_read))]
 fn read_value(text: &[u8]) -> Result<(u32, &[u8]), CondFault<'_>>
-    ensures { Gives (λ x. (x.0, x.1.now)) result (value_read text.now) }
+    ensures { GivesCondition (λ x. (x.0, x.1.now)) result (value_read text.now) }
 {
     let text = without_blanks(text);
     let (digits, rest) = split_run(Class::Digit, text);
@@ -162,9 +162,9 @@ fn read_value(text: &[u8]) -> Result<(u32, &[u8]), CondFault<'_>>
 
 /// The value after the `=` with which a text begins, and the text after it. Blanks may stand
 /// before both.
-#[tactic(auto, unfolding(crate::specs::Reading::right_read))]
+#[tactic(auto, unfolding(crate::specs::ConditionReading::right_read))]
 pub fn read_right(text: &[u8]) -> Result<(u32, &[u8]), CondFault<'_>>
-    ensures { Gives (λ x. (x.0, x.1.now)) result (right_read text.now) }
+    ensures { GivesCondition (λ x. (x.0, x.1.now)) result (right_read text.now) }
 {
     let right = read_sign(CondKind::BadTerm, b'=', text)?;
     read_value(right)
@@ -172,9 +172,9 @@ pub fn read_right(text: &[u8]) -> Result<(u32, &[u8]), CondFault<'_>>
 
 /// The term with which a text begins, and the text after it. Blanks may stand before it and around
 /// its `=`.
-#[tactic(auto, unfolding(crate::specs::Reading::term_read))]
+#[tactic(auto, unfolding(crate::specs::ConditionReading::term_read))]
 pub fn read_term(text: &[u8]) -> Result<(Term, &[u8]), CondFault<'_>>
-    ensures { Gives term_and_rest result (term_read has_form text.now) }
+    ensures { GivesCondition term_and_rest result (term_read has_form text.now) }
 {
     let (left, rest) = match read_left(text) {
         Ok(left) => left,
@@ -185,9 +185,9 @@ pub fn read_term(text: &[u8]) -> Result<(Term, &[u8]), CondFault<'_>>
 }
 
 /// What follows a term, and the text after it. Blanks may stand before it.
-#[tactic(auto, unfolding(crate::specs::Reading::follow_read))]
+#[tactic(auto, unfolding(crate::specs::ConditionReading::follow_read))]
 pub fn read_follow(text: &[u8]) -> Result<(Follow, &[u8]), CondFault<'_>>
-    ensures { Gives (λ x. (x.0, x.1.now)) result (follow_read text.now) }
+    ensures { GivesCondition (λ x. (x.0, x.1.now)) result (follow_read text.now) }
 {
     let text = without_blanks(text);
     match text {
@@ -207,7 +207,7 @@ fn read_terms<'a>(
     terms: &mut ArrayVec<Term, MAX_TERMS>,
 ) -> Result<&'a [u8], CondFault<'a>>
     requires { terms.old.items ≡ [] }
-    ensures { Gives (λ rest. (map term_view terms.new.items, rest.now)) result (terms_read has_form MAX_TERMS text.now) }
+    ensures { GivesCondition (λ rest. (map term_view terms.new.items, rest.now)) result (terms_read has_form MAX_TERMS text.now) }
 {
     let mut rest = text;
     'terms: loop {
@@ -223,20 +223,20 @@ fn read_terms<'a>(
         }
         terms.push(term);
         match read_follow(after)? {
-            (Follow::Term, behind) => rest = behind,
-            (Follow::End, behind) => return Ok(behind),
+            (Follow::Term, remainder) => rest = remainder,
+            (Follow::End, remainder) => return Ok(remainder),
         }
     }
 }
 
-#[tactic(auto, unfolding(crate::specs::Reading::parts_read))]
+#[tactic(auto, unfolding(crate::specs::ConditionReading::parts_read))]
 fn read_parts(text: &[u8]) -> Result<Cond, CondFault<'_>>
-    ensures { Gives cond_view result (parts_read has_form text.now) }
+    ensures { GivesCondition cond_view result (parts_read has_form text.now) }
 {
     let (quantifier, inside) = read_opening(text)?;
     let mut terms = ArrayVec::new();
-    let behind = read_terms(inside, &mut terms)?;
-    let end = without_blanks(behind);
+    let remainder = read_terms(inside, &mut terms)?;
+    let end = without_blanks(remainder);
     if !end.is_empty() {
         return Err(CondFault {
             kind: CondKind::BadEnd,
@@ -251,7 +251,7 @@ fn read_parts(text: &[u8]) -> Result<Cond, CondFault<'_>>
 ///
 /// There are 1 to `MAX_TERMS` terms, threads are below 64, and names are of their forms. Else the
 /// answer is the first fault from the left, and its place.
-#[tactic(auto, unfolding(crate::specs::Reading::cond_read))]
+#[tactic(auto, unfolding(crate::specs::ConditionReading::cond_read))]
 pub fn read_cond(text: &str) -> Result<Cond, CondError>
     ensures ok { IfOk result (λ cond. cond_read text.now ≡ Ok (cond_view cond)) }
     ensures err { IfErr result (λ error. cond_read text.now ≡ Err error) }

@@ -1,6 +1,6 @@
 ghost use Rattle.std.specs.Prelude.{◌≡◌, ◌↔◌, [], ◌∷◌, ◌++◌, IsTrue, map, OnOk, OnErr};
 ghost use Rattle.final_cond.specs.Conditions.{left_view, cond_view};
-ghost use Rattle.final_cond.specs.States.{same_left, value_in, Meets, pair_view};
+ghost use Rattle.final_cond.specs.States.{same_left_seen, value_in_state, Meets, pair_view};
 
 use crate::cond::{Cond, Left, Term};
 use diy_io::NoMemory;
@@ -11,7 +11,7 @@ use std::marker::Model;
 impl Left {
     /// Whether the two are the same register of the same thread, or the same place.
     pub fn is_same(&self, other: &Left) -> bool
-        ensures { result ≡ same_left (left_view self.now) (left_view other.now) }
+        ensures { result ≡ same_left_seen (left_view self.now) (left_view other.now) }
     {
         match (self, other) {
             (
@@ -40,16 +40,16 @@ pub struct Final {
 
 impl Model for Final {
     ghost use Rattle.std.specs.Prelude.{map};
-    ghost use Rattle.final_cond.specs.States.{State, pair_view};
+    ghost use Rattle.final_cond.specs.States.{FinalState, pair_view};
 
-    ghost Value = { State };
+    ghost Value = { FinalState };
 
     ghost view = { λ state. map pair_view state.pairs.items };
 }
 
 #[tactic(auto, using(crate::proofs::StateLaws::first_is, crate::proofs::StateLaws::first_is_later))]
 fn value_of(pairs: &[(Left, Value)], left: &Left) -> Option<Value>
-    ensures { result ≡ value_in (map pair_view pairs.now) (left_view left.now) }
+    ensures { result ≡ value_in_state (map pair_view pairs.now) (left_view left.now) }
 {
     for (other, value) in pairs {
         if other.is_same(left) {
@@ -80,14 +80,14 @@ impl Final {
 
     /// The first value that was added for this register or place.
     pub fn get(&self, left: &Left) -> Option<Value>
-        ensures { result ≡ value_in self.now (left_view left.now) }
+        ensures { result ≡ value_in_state self.now (left_view left.now) }
     {
         value_of(self.pairs.as_slice(), left)
     }
 }
 
 fn term_holds(term: &Term, state: &Final) -> bool
-    ensures { IsTrue result ↔ (value_in state.now (left_view term.now.left) ≡ Some (Value.Num term.now.value)) }
+    ensures { IsTrue result ↔ (value_in_state state.now (left_view term.now.left) ≡ Some (Value.Num term.now.value)) }
 {
     match state.get(&term.left) {
         Some(Value::Num(value)) => value == term.value,
@@ -99,7 +99,7 @@ fn term_holds(term: &Term, state: &Final) -> bool
 /// looked at.
 #[tactic(auto, using(crate::proofs::StateLaws::one_more_met, crate::proofs::StateLaws::one_not_met))]
 pub fn holds(cond: &Cond, state: &Final) -> bool
-    ensures { IsTrue result ↔ Meets (value_in state.now) (cond_view cond.now) }
+    ensures { IsTrue result ↔ Meets (value_in_state state.now) (cond_view cond.now) }
 {
     for term in cond.terms.as_slice() {
         if !term_holds(term, state) {

@@ -10,8 +10,8 @@ use Rattle.micro_ops.specs.declared.operation.Micro.{Micro}
 use Rattle.arch_trait.specs.Writing.{RawInstr}
 use Rattle.form_laws.specs.declared.kind.Operand.{Operand}
 use Rattle.form_laws.specs.Kinds.{operands_of, raw_with}
-use Rattle.form_laws.specs.Tables.{PieceText, FormText, fits, fits_if, does, piece_texts, given, form_written, first_written, pieces_found, form_found, raw_or, first_read}
-use Rattle.form_laws.specs.Clear.{forms_apart, is_first_byte, ending_words, is_piece_good, most_of, is_form_good, is_clear}
+use Rattle.form_laws.specs.Tables.{PieceText, FormText, operands_fit, fits_if, does, piece_texts, given_operands, form_written, first_written, pieces_found, form_found, raw_or, first_form_read}
+use Rattle.form_laws.specs.ClearTables.{forms_apart, is_first_byte, ending_words, is_piece_good, most_of, is_form_good, is_clear}
 use Rattle.form_laws.proofs.PieceBacks.{named, pieces_back}
 use Rattle.form_laws.proofs.FormsApart.{form_none}
 
@@ -38,23 +38,23 @@ form_is_good f h =
 -- a form that does an operation has its operands, and they fit
 pub record Done (op : Micro) (f : FormText) : Type 0 where
   pub some : is_some (operands_of f.kind op) ≡ true
-  pub fit : fits f.pieces (given (operands_of f.kind op)) ≡ true
+  pub fit : operands_fit f.pieces (given_operands (operands_of f.kind op)) ≡ true
 
 -- a form that passes its test does the operation, in those parts
 pub done : (op : Micro) (f : FormText) → does op f ≡ true → Done op f
 done op f h = let p = by_operands f.pieces (operands_of f.kind op) h in record { some = p.0; fit = p.1 }
   where
-    by_operands : (ps : List PieceText) (o : Option (List Operand)) → fits_if ps o ≡ true → (is_some o ≡ true) × (fits ps (given o) ≡ true)
+    by_operands : (ps : List PieceText) (o : Option (List Operand)) → fits_if ps o ≡ true → (is_some o ≡ true) × (operands_fit ps (given_operands o) ≡ true)
     by_operands ps None h = cc
     by_operands ps (Some vs) h = (refl, h)
 
 -- the texts of an operation's operands by a form
 abbrev pub op_texts : (ℕ → List ℕ) → Micro → FormText → List (List ℕ)
-op_texts names op f = piece_texts names f.pieces (given (operands_of f.kind op))
+op_texts names op f = piece_texts names f.pieces (given_operands (operands_of f.kind op))
 
 -- what a form finds in its own text
 abbrev pub op_found : (ℕ → List ℕ) → Micro → FormText → Option RawInstr
-op_found names op f = raw_with f.kind (map (named names) (given (operands_of f.kind op)))
+op_found names op f = raw_with f.kind (map (named names) (given_operands (operands_of f.kind op)))
 
 -- the form by which an operation is written: it is good, and the first that reads what it writes
 pub record Chosen (op : Micro) (fs : List FormText) : Type 0 where
@@ -64,23 +64,23 @@ pub record Chosen (op : Micro) (fs : List FormText) : Type 0 where
   pub among : (P : FormText → Bool) → list_all P fs ≡ true → P form ≡ true
   pub written : (names : ℕ → List ℕ) → first_written names op fs ≡ form_written names op form
   pub reads : (names : ℕ → List ℕ) (other : Option RawInstr) →
-      first_read fs form.word (op_texts names op form) other ≡ op_found names op form
+      first_form_read fs form.word (op_texts names op form) other ≡ op_found names op form
 
 own_read : (names : ℕ → List ℕ) (op : Micro) (f : FormText) (other : Option RawInstr) → is_form_good f ≡ true → does op f ≡ true →
     raw_or f.kind (form_found f f.word (op_texts names op f)) other ≡ op_found names op f
 own_read names op f other good h =
     let e : bytes_eq f.word f.word ≡ true = (bytes_eq-Decides f.word f.word).1 refl in
     ap (λ b. raw_or f.kind (cond b (pieces_found f.pieces (op_texts names op f)) None) other) e ∙
-    ap (λ o. raw_or f.kind o other) (pieces_back names f.pieces (given (operands_of f.kind op)) (form_is_good f good).pieces (done op f h).fit)
+    ap (λ o. raw_or f.kind o other) (pieces_back names f.pieces (given_operands (operands_of f.kind op)) (form_is_good f good).pieces (done op f h).fit)
 
 other_read : (names : ℕ → List ℕ) (op : Micro) (f g : FormText) (other : Option RawInstr) → forms_apart f g ≡ true → is_form_good g ≡ true → does op g ≡ true →
     raw_or f.kind (form_found f g.word (op_texts names op g)) other ≡ other
 other_read names op f g other apart good h =
-    ap (λ o. raw_or f.kind o other) (form_none names f g (given (operands_of g.kind op)) apart (form_is_good g good).pieces (done op g h).fit)
+    ap (λ o. raw_or f.kind o other) (form_none names f g (given_operands (operands_of g.kind op)) apart (form_is_good g good).pieces (done op g h).fit)
 
 -- a clear table has such a form for each operation that one of its forms does
 pub chosen : (op : Micro) (fs : List FormText) → is_clear fs ≡ true → list_any (does op) fs ≡ true → Chosen op fs
-unfolding is_clear first_written first_read
+unfolding is_clear first_written first_form_read
 chosen op [] clear some = cc
 chosen op (f ∷ fs) clear some =
     let c = and_parts (is_form_good f) (list_all (forms_apart f) fs && is_clear fs) clear in
@@ -92,7 +92,7 @@ chosen op (f ∷ fs) clear some =
       good = c.0;
       among = λ P h. (and_parts (P f) (list_all P fs) h).0;
       written = λ names. ap (λ b. cond b (form_written names op f) (first_written names op fs)) e;
-      reads = λ names other. own_read names op f (first_read fs f.word (op_texts names op f) other) c.0 e;
+      reads = λ names other. own_read names op f (first_form_read fs f.word (op_texts names op f) other) c.0 e;
     })
     (λ e. let k : list_any (does op) fs ≡ true = ap (λ b. b || list_any (does op) fs) (sym e) ∙ some in
     let r : Chosen op fs = chosen op fs d.1 k in
@@ -103,5 +103,5 @@ chosen op (f ∷ fs) clear some =
       among = λ P h. r.among P (and_parts (P f) (list_all P fs) h).1;
       written = λ names. ap (λ b. cond b (form_written names op f) (first_written names op fs)) e ∙ r.written names;
       reads = λ names other.
-          other_read names op f r.form (first_read fs r.form.word (op_texts names op r.form) other) (r.among (forms_apart f) d.0) r.good r.does ∙ r.reads names other;
+          other_read names op f r.form (first_form_read fs r.form.word (op_texts names op r.form) other) (r.among (forms_apart f) d.0) r.good r.does ∙ r.reads names other;
     })

@@ -18,11 +18,11 @@ use Rattle.arch_laws.proofs.Rules.{run_load_at, run_load_at_wants, run_store_at,
 use Rattle.arch_trait.specs.declared.link.Link.{Link}
 use Rattle.arch_trait.specs.declared.link.Link.TheVariants as links
 use Rattle.arch_trait.specs.declared.step.Shape.{Shape}
-use Rattle.arch_trait.specs.Cells.{accesses_in, MakesOneAccess}
-use Rattle.arch_trait.specs.Links.{link_is_of, depends, link_control, link_items, is_addr, is_data}
+use Rattle.arch_trait.specs.Cells.{access_count, MakesOneAccess}
+use Rattle.arch_trait.specs.Links.{link_is_of, depends_on_load, link_control, link_items, is_addr, is_data}
 use Rattle.arch_trait.specs.Taking.{Taken, take_next}
 use Rattle.arch_trait.specs.Threads.{Put, Puts}
-use Rattle.arch_trait.specs.Laws.{DidLink, MakesLinks, MakesAccess, MakesLoads, MakesStores, IsArch, link_room, link_labels, is_at}
+use Rattle.arch_trait.specs.Laws.{DidLink, MakesLinks, MakesAccess, MakesLoads, MakesStores, IsArch, link_room, link_labels, is_at_place}
 use Rattle.arch_laws.proofs.Accesses.{writes_none, spare_plain, did_load, did_store, did_nothing, two_fit}
 
 -- the code of a link: its fence, if it is one
@@ -71,7 +71,7 @@ clash : {G : Type 0} {b : Bool} → b ≡ false → b ≡ true → G
 clash {G} {b} e f = let g : false ≡ true = sym e ∙ f in absurd (cc)
 
 -- a link is program order or a fence
-no_dependency : (a : Puts) → IsFenced a → (link : Link) → link_is_of link a.name ≡ true → depends link ≡ false
+no_dependency : (a : Puts) → IsFenced a → (link : Link) → link_is_of link a.name ≡ true → depends_on_load link ≡ false
 no_dependency a f links.Plain e = refl
 no_dependency a f (links.Fence kind) e = refl
 no_dependency a f links.Addr e = clash f.no_addr e
@@ -85,15 +85,15 @@ no_mark a f Plain e = refl
 no_mark a f Acquire e = clash f.no_acquire e
 no_mark a f Release e = clash f.no_release e
 
-not_addr : (link : Link) → depends link ≡ false → is_addr link ≡ false
+not_addr : (link : Link) → depends_on_load link ≡ false → is_addr link ≡ false
 not_addr links.Addr e = cc
 not_addr link e = refl
 
-not_data : (link : Link) → depends link ≡ false → is_data link ≡ false
+not_data : (link : Link) → depends_on_load link ≡ false → is_data link ≡ false
 not_data links.Data e = cc
 not_data link e = refl
 
-link_runs : (link : Link) (r : Run) (k : ℕ) → depends link ≡ false →
+link_runs : (link : Link) (r : Run) (k : ℕ) → depends_on_load link ≡ false →
     DidLink (fence_code link) r (link_items link k r.state.control) (link_control link k r.state.control)
 link_runs (links.Fence kind) r k e = record {
   after = after_barrier r (barriers.Fence kind);
@@ -111,7 +111,7 @@ link_short : (link : Link) → length (fence_code link) ≤ link_room link
 link_short (links.Fence kind) = omega arith
 link_short link = omega arith
 
-link_label : (link : Link) (n : ℕ) → depends link ≡ false → labels_of (fence_code link) ≡ link_labels link n
+link_label : (link : Link) (n : ℕ) → depends_on_load link ≡ false → labels_of (fence_code link) ≡ link_labels link n
 link_label (links.Fence kind) n e = refl
 link_label links.Plain n e = refl
 link_label link n e = cc
@@ -120,7 +120,7 @@ link_lands : (link : Link) → lands (fence_code link) ≡ true
 link_lands (links.Fence kind) = refl
 link_lands link = refl
 
-link_no_place : (link : Link) (p : ℕ) → list_all (is_at p) (fence_code link) ≡ true
+link_no_place : (link : Link) (p : ℕ) → list_all (is_at_place p) (fence_code link) ≡ true
 link_no_place (links.Fence kind) p = refl
 link_no_place link p = refl
 
@@ -128,7 +128,7 @@ link_has : (a : Puts) → IsFenced a → (link : Link) → link_is_of link a.nam
 link_has a f (links.Fence kind) e = and_from (a.has (ops.Barrier (barriers.Fence kind))) true (f.fence_has kind e) refl
 link_has a f link e = refl
 
-no_access : (link : Link) → accesses_in (fence_code link) ≡ 0
+no_access : (link : Link) → access_count (fence_code link) ≡ 0
 no_access (links.Fence kind) = refl
 no_access link = refl
 

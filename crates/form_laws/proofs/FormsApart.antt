@@ -11,8 +11,8 @@ use Rattle.form_laws.specs.declared.form.Hole.{Hole}
 use Rattle.form_laws.specs.declared.form.Hole.TheVariants as holes
 use Rattle.form_laws.specs.declared.kind.Operand.{Operand}
 use Rattle.form_laws.specs.Kinds.{FoundOperand}
-use Rattle.form_laws.specs.Tables.{PieceText, FormText, fits_first, after_hole, fits, filled, piece_texts, after_prefix, before_suffix, hole_found, piece_found, joined, pieces_found, form_found}
-use Rattle.form_laws.specs.Clear.{differ, is_empty, is_fixed, fixed_text, piece_apart, pieces_apart, forms_apart, is_piece_good}
+use Rattle.form_laws.specs.Tables.{PieceText, FormText, fits_first, after_hole, operands_fit, hole_filled, piece_texts, after_prefix, before_suffix, hole_found, piece_found, joined_operands, pieces_found, form_found}
+use Rattle.form_laws.specs.ClearTables.{differ, is_empty_hole, is_fixed, fixed_text, piece_apart, pieces_apart, forms_apart, is_piece_good}
 use Rattle.form_laws.proofs.PieceBacks.{named, held, piece_text, piece_back}
 
 -- a test that one of two passes is passed by the first, or by the second
@@ -75,17 +75,17 @@ fixed_is before after text found h = prefix_is before text after (empty_is after
 by_prefix : (names : ℕ → List ℕ) (p q : PieceText) (vs : List Operand) → differ p.before q.before ≡ true → piece_found p (piece_text names q vs) ≡ None
 unfolding piece_found
 by_prefix names p q vs h =
-    ap (λ o. option_and_then (hole_found p.hole) (option_and_then (before_suffix p.after) o)) (differ_none p.before q.before (filled names q.hole vs ++ q.after) h)
+    ap (λ o. option_and_then (hole_found p.hole) (option_and_then (before_suffix p.after) o)) (differ_none p.before q.before (hole_filled names q.hole vs ++ q.after) h)
 
-by_fixed : (names : ℕ → List ℕ) (p : PieceText) (before : List ℕ) (hole : Hole) (after : List ℕ) (vs : List Operand) → is_empty hole ≡ true →
-    piece_found p (before ++ after) ≡ None → piece_found p (before ++ (filled names hole vs ++ after)) ≡ None
+by_fixed : (names : ℕ → List ℕ) (p : PieceText) (before : List ℕ) (hole : Hole) (after : List ℕ) (vs : List Operand) → is_empty_hole hole ≡ true →
+    piece_found p (before ++ after) ≡ None → piece_found p (before ++ (hole_filled names hole vs ++ after)) ≡ None
 by_fixed names p before holes.Empty after vs h e = e
 by_fixed names p before (holes.Register first count) after vs h e = cc
 by_fixed names p before holes.Number after vs h e = cc
 by_fixed names p before holes.Place after vs h e = cc
 by_fixed names p before holes.Label after vs h e = cc
 
-by_other : (q : PieceText) (before : List ℕ) (hole : Hole) (after text : List ℕ) (found : List FoundOperand) → is_empty hole ≡ true →
+by_other : (q : PieceText) (before : List ℕ) (hole : Hole) (after text : List ℕ) (found : List FoundOperand) → is_empty_hole hole ≡ true →
     piece_found q (before ++ after) ≡ None → piece_found q text ≡ Some found →
     piece_found (record { before = before; hole = hole; after = after }) text ≡ None
 by_other q before holes.Empty after text found h none some =
@@ -114,27 +114,27 @@ piece_none names p q vs apart good fit =
     by_other q p.before p.hole p.after (piece_text names q vs) (map (named names) (held q.hole vs)) k.0
     (not_some (piece_found q (fixed_text p)) k.1) (piece_back names q vs good fit)))
 
-joined_none : (o : Option (List FoundOperand)) → joined o None ≡ None
+joined_none : (o : Option (List FoundOperand)) → joined_operands o None ≡ None
 joined_none None = refl
 joined_none (Some xs) = refl
 
 pieces_none : (names : ℕ → List ℕ) (ps qs : List PieceText) (vs : List Operand) → pieces_apart ps qs ≡ true → list_all is_piece_good qs ≡ true →
-    fits qs vs ≡ true → pieces_found ps (piece_texts names qs vs) ≡ None
-unfolding pieces_apart pieces_found piece_texts fits
+    operands_fit qs vs ≡ true → pieces_found ps (piece_texts names qs vs) ≡ None
+unfolding pieces_apart pieces_found piece_texts operands_fit
 pieces_none names [] [] vs apart good fit = cc
 pieces_none names [] (q ∷ qs) vs apart good fit = refl
 pieces_none names (p ∷ ps) [] vs apart good fit = refl
 pieces_none names (p ∷ ps) (q ∷ qs) vs apart good fit =
     let g = and_parts (is_piece_good q) (list_all is_piece_good qs) good in
-    let f = and_parts (fits_first q.hole vs) (fits qs (after_hole q.hole vs)) fit in
+    let f = and_parts (fits_first q.hole vs) (operands_fit qs (after_hole q.hole vs)) fit in
     by_either (piece_apart p q) (pieces_apart ps qs) apart
-    (λ h. ap (λ o. joined o (pieces_found ps (piece_texts names qs (after_hole q.hole vs)))) (piece_none names p q vs h g.0 f.0))
-    (λ h. ap (λ o. joined (piece_found p (piece_text names q vs)) o) (pieces_none names ps qs (after_hole q.hole vs) h g.1 f.1) ∙
+    (λ h. ap (λ o. joined_operands o (pieces_found ps (piece_texts names qs (after_hole q.hole vs)))) (piece_none names p q vs h g.0 f.0))
+    (λ h. ap (λ o. joined_operands (piece_found p (piece_text names q vs)) o) (pieces_none names ps qs (after_hole q.hole vs) h g.1 f.1) ∙
     joined_none (piece_found p (piece_text names q vs)))
 
 -- of two forms that are apart, the instruction of one is none of the other
 pub form_none : (names : ℕ → List ℕ) (f g : FormText) (vs : List Operand) → forms_apart f g ≡ true → list_all is_piece_good g.pieces ≡ true →
-    fits g.pieces vs ≡ true → form_found f g.word (piece_texts names g.pieces vs) ≡ None
+    operands_fit g.pieces vs ≡ true → form_found f g.word (piece_texts names g.pieces vs) ≡ None
 unfolding forms_apart
 form_none names f g vs apart good fit = by_either (not (bytes_eq f.word g.word)) (pieces_apart f.pieces g.pieces) apart
     (λ h. let other : bytes_eq g.word f.word ≡ false = turned g.word f.word (not-true (bytes_eq f.word g.word) h) in rw other refl)

@@ -1,4 +1,4 @@
--- What a clear table writes fits into the cells of a table.
+-- What a clear table writes operands_fit into the cells of a table.
 use Rattle.std.proofs.Common.{ℕ, ◌+◌, ◌<◌, ◌≤◌, ◌≡◌, ◌==◌, refl, true, false, not, ◌&&◌, nat_le, List, [], ◌∷◌, ◌++◌, length, ◌∙◌, ap, length-append, arith}
 use Rattle.std.specs.List.{list_all, list_any}
 use Rattle.std.specs.Str.{bytes_eq}
@@ -7,16 +7,16 @@ use Rattle.std.proofs.lemmas.Bool.Decides.{nat_tests}
 use Rattle.std.proofs.lemmas.Fmt.{length-decimal-le}
 use Rattle.list_laws.proofs.Elements.{list_all-weaker}
 use Rattle.text_laws.specs.Names.{is_place_name}
-use Rattle.text_laws.specs.Words.{is_word_byte}
+use Rattle.text_laws.specs.Words.{is_argument_byte}
 use Rattle.text_laws.specs.Blanks.{is_blank, unblanked}
-use Rattle.text_laws.specs.Runs.{run_of, after_run}
+use Rattle.text_laws.specs.LeadingRuns.{leading_run, after_run}
 use Rattle.text_laws.proofs.NameLaws.{place_name_short}
 use Rattle.micro_ops.specs.declared.operation.Micro.{Micro}
 use Rattle.micro_ops.specs.declared.operation.Micro.TheVariants as ops
 use Rattle.arch_trait.specs.Cells.{is_cell_byte, first_word, ends_rows, is_label_op, WritesCells}
-use Rattle.arch_trait.specs.Reading.{few}
+use Rattle.arch_trait.specs.InstructionReading.{few}
 use Rattle.arch_trait.specs.Threads.{Puts}
-use Rattle.arch_trait.specs.Writing.{OperandTexts, none, one, two, three, four, more, listed, text_of, name_of, is_named}
+use Rattle.arch_trait.specs.Writing.{OperandTexts, none, one, two, three, four, more, listed, written_text, op_name, is_well_named}
 use Rattle.arch_laws.proofs.CellTexts.{all_both, place_cell, decimal_cell}
 use Rattle.arch_laws.proofs.FormBacks.{label_cell}
 use Rattle.list_laws.proofs.Digits.{three_digits}
@@ -25,8 +25,8 @@ use Rattle.form_laws.specs.declared.form.Hole.TheVariants as holes
 use Rattle.form_laws.specs.declared.kind.Operand.{Operand}
 use Rattle.form_laws.specs.declared.kind.Operand.TheVariants as operands
 use Rattle.form_laws.specs.Kinds.{operands_of}
-use Rattle.form_laws.specs.Tables.{PieceText, TableText, fits_first, after_hole, fits, does, table_has, filled, piece_texts, given, form_written, first_written, table_written, table_writing}
-use Rattle.form_laws.specs.Clear.{is_fixed_byte, is_first_byte, is_hole_good, is_piece_good, ending_words, most_in, most_of, is_clear}
+use Rattle.form_laws.specs.Tables.{PieceText, TableText, fits_first, after_hole, operands_fit, does, table_has, hole_filled, piece_texts, given_operands, form_written, first_written, table_written, table_writing}
+use Rattle.form_laws.specs.ClearTables.{is_fixed_byte, is_first_byte, is_hole_good, is_piece_good, ending_words, most_in, most_of, is_clear}
 use Rattle.form_laws.proofs.PieceBacks.{piece_text, piece_is_good, length-piece_texts}
 use Rattle.form_laws.proofs.OperationBacks.{is_named_operand, operands_named}
 use Rattle.form_laws.proofs.ChosenForms.{form_is_good, done, op_texts, chosen}
@@ -41,7 +41,7 @@ fixed_cell t h = list_all-weaker is_fixed_byte is_cell_byte fixed_cell_byte t h
 
 -- what is in a hole has at most so many bytes
 filled_short : (names : ℕ → List ℕ) (h : Hole) (vs : List Operand) → is_hole_good h ≡ true → fits_first h vs ≡ true →
-    list_all (is_named_operand names) vs ≡ true → length (filled names h vs) ≤ most_in h
+    list_all (is_named_operand names) vs ≡ true → length (hole_filled names h vs) ≤ most_in h
 filled_short names holes.Empty vs good fit named = omega arith
 filled_short names (holes.Register first count) (operands.Register r ∷ vs) good fit named =
     let small : first + count ≤ 256 = leb-true (first + count) 256 good in
@@ -64,23 +64,23 @@ record InCell (ps : List PieceText) (ts : List (List ℕ)) : Type 0 where
   pub cells : list_all (list_all is_cell_byte) ts ≡ true
   pub short : total ts ≤ most_of ps
 
-pieces_cell : (names : ℕ → List ℕ) (ps : List PieceText) (vs : List Operand) → list_all is_piece_good ps ≡ true → fits ps vs ≡ true →
+pieces_cell : (names : ℕ → List ℕ) (ps : List PieceText) (vs : List Operand) → list_all is_piece_good ps ≡ true → operands_fit ps vs ≡ true →
     list_all (is_named_operand names) vs ≡ true → InCell ps (piece_texts names ps vs)
-unfolding piece_texts fits most_of
+unfolding piece_texts operands_fit most_of
 pieces_cell names [] vs good fit named = record { cells = refl; short = omega arith }
 pieces_cell names (p ∷ ps) vs good fit named =
     let g = and_parts (is_piece_good p) (list_all is_piece_good ps) good in
-    let f = and_parts (fits_first p.hole vs) (fits ps (after_hole p.hole vs)) fit in
+    let f = and_parts (fits_first p.hole vs) (operands_fit ps (after_hole p.hole vs)) fit in
     let q = piece_is_good p g.0 in
     let rest = pieces_cell names ps (after_hole p.hole vs) g.1 f.1 (left_named names p.hole vs named) in
-    let small : length (filled names p.hole vs) ≤ most_in p.hole = filled_short names p.hole vs q.hole f.0 named in
+    let small : length (hole_filled names p.hole vs) ≤ most_in p.hole = filled_short names p.hole vs q.hole f.0 named in
     let tail : total (piece_texts names ps (after_hole p.hole vs)) ≤ most_of ps = rest.short in
     record {
       cells = and_from (list_all is_cell_byte (piece_text names p vs)) (list_all (list_all is_cell_byte) (piece_texts names ps (after_hole p.hole vs)))
-          (all_both is_cell_byte p.before (filled names p.hole vs ++ p.after) (fixed_cell p.before q.before)
-          (all_both is_cell_byte (filled names p.hole vs) p.after (filled_all is_cell_byte decimal_cell place_cell label_cell names p.hole vs q.hole f.0 named) (fixed_cell p.after q.after)))
+          (all_both is_cell_byte p.before (hole_filled names p.hole vs ++ p.after) (fixed_cell p.before q.before)
+          (all_both is_cell_byte (hole_filled names p.hole vs) p.after (filled_all is_cell_byte decimal_cell place_cell label_cell names p.hole vs q.hole f.0 named) (fixed_cell p.after q.after)))
           rest.cells;
-      short = omega (arith, length-append p.before (filled names p.hole vs ++ p.after), length-append (filled names p.hole vs) p.after);
+      short = omega (arith, length-append p.before (hole_filled names p.hole vs ++ p.after), length-append (hole_filled names p.hole vs) p.after);
     }
 
 -- the operands after a blank, with commas between, fit into a cell too
@@ -121,11 +121,11 @@ length-listed (a ∷ b ∷ c ∷ d ∷ e ∷ rest) = omega arith
 first_inked : (b : ℕ) → is_first_byte b ≡ true → is_blank b ≡ false
 first_inked b h = grind (arith, nat_tests, h)
 
-first_in_word : (b : ℕ) → is_first_byte b ≡ true → is_word_byte b ≡ true
+first_in_word : (b : ℕ) → is_first_byte b ≡ true → is_argument_byte b ≡ true
 first_in_word b h = grind (arith, nat_tests, h)
 
-word_run : (word : List ℕ) (o : OperandTexts) → list_all is_first_byte word ≡ true → run_of is_word_byte (word ++ listed o) ≡ word
-unfolding run_of
+word_run : (word : List ℕ) (o : OperandTexts) → list_all is_first_byte word ≡ true → leading_run is_argument_byte (word ++ listed o) ≡ word
+unfolding leading_run
 word_run [] none h = refl
 word_run [] (one a) h = refl
 word_run [] (two a b) h = refl
@@ -141,7 +141,7 @@ unfolding after_run
 word_first [] o some h = cc
 word_first (b ∷ word) o some h =
     let p = and_parts (is_first_byte b) (list_all is_first_byte word) h in
-    ap (run_of is_word_byte) (unblanked_is b (word ++ listed o) (first_inked b p.0)) ∙ word_run (b ∷ word) o h
+    ap (leading_run is_argument_byte) (unblanked_is b (word ++ listed o) (first_inked b p.0)) ∙ word_run (b ∷ word) o h
   where
     unblanked_is : (b : ℕ) (t : List ℕ) → is_blank b ≡ false → unblanked (b ∷ t) ≡ b ∷ t
     unblanked_is b t e = rw e refl
@@ -162,7 +162,7 @@ record FitsCells (text : List ℕ) : Type 0 where
   pub short : length text ≤ 40
 
 fits_cells : (t : TableText) (names : ℕ → List ℕ) (op : Micro) → is_clear t.forms ≡ true → table_has t op ≡ true →
-    is_named (name_of names op) ≡ true → is_label_op op ≡ false → FitsCells (text_of (table_written t names op))
+    is_well_named (op_name names op) ≡ true → is_label_op op ≡ false → FitsCells (written_text (table_written t names op))
 unfolding ends_rows
 fits_cells t names op clear has named other =
     let c = chosen op t.forms clear (by_form t op other has) in
@@ -170,9 +170,9 @@ fits_cells t names op clear has named other =
     let d = done op c.form c.does in
     let e : table_written t names op ≡ form_written names op c.form = written_by t names op other ∙ c.written names in
     let ts : List (List ℕ) = op_texts names op c.form in
-    let i = pieces_cell names c.form.pieces (given (operands_of c.form.kind op)) g.pieces d.fit (operands_named names c.form.kind op named) in
+    let i = pieces_cell names c.form.pieces (given_operands (operands_of c.form.kind op)) g.pieces d.fit (operands_named names c.form.kind op named) in
     let few_are : length (op_texts names op c.form) ≤ 4 =
-    (let k = leb-true (length c.form.pieces) 4 g.few in omega (arith, k, length-piece_texts names c.form.pieces (given (operands_of c.form.kind op)))) in
+    (let k = leb-true (length c.form.pieces) 4 g.few in omega (arith, k, length-piece_texts names c.form.pieces (given_operands (operands_of c.form.kind op)))) in
     rw e (record {
       cells = all_both is_cell_byte c.form.word (listed (few (op_texts names op c.form))) (fixed_cell c.form.word (first_word_fixed c.form.word g.word))
           (listed_cell (op_texts names op c.form) few_are i.cells);
@@ -182,24 +182,24 @@ fits_cells t names op clear has named other =
           omega (arith, k, i.short, length-listed (op_texts names op c.form), length-append c.form.word (listed (few (op_texts names op c.form))));
     })
 
-label_rows : (t : TableText) (names : ℕ → List ℕ) (l : ℕ) → ends_rows (text_of (table_written t names (ops.Label l))) ≡ false
-unfolding ends_rows run_of after_run
+label_rows : (t : TableText) (names : ℕ → List ℕ) (l : ℕ) → ends_rows (written_text (table_written t names (ops.Label l))) ≡ false
+unfolding ends_rows leading_run after_run
 label_rows t names l = refl
 
-label_short : (t : TableText) (names : ℕ → List ℕ) (l : ℕ) → length (text_of (table_written t names (ops.Label l))) ≤ 40
+label_short : (t : TableText) (names : ℕ → List ℕ) (l : ℕ) → length (written_text (table_written t names (ops.Label l))) ≤ 40
 label_short t names l = omega arith
 
 rows : (t : TableText) (names : ℕ → List ℕ) (op : Micro) → is_clear t.forms ≡ true → table_has t op ≡ true →
-    is_named (name_of names op) ≡ true → ends_rows (text_of (table_written t names op)) ≡ false
+    is_well_named (op_name names op) ≡ true → ends_rows (written_text (table_written t names op)) ≡ false
 rows t names (ops.Label l) clear has named = label_rows t names l
 rows t names op clear has named = (fits_cells t names op clear has named refl).rows
 
 short : (t : TableText) (names : ℕ → List ℕ) (op : Micro) → is_clear t.forms ≡ true → table_has t op ≡ true →
-    is_named (name_of names op) ≡ true → length (text_of (table_written t names op)) ≤ 40
+    is_well_named (op_name names op) ≡ true → length (written_text (table_written t names op)) ≤ 40
 short t names (ops.Label l) clear has named = label_short t names l
 short t names op clear has named = (fits_cells t names op clear has named refl).short
 
--- what a clear table writes fits into the cells of a table
+-- what a clear table writes operands_fit into the cells of a table
 pub writes_cells : (a : Puts) (t : TableText) (registers : List (List ℕ)) → is_clear t.forms ≡ true →
     ((op : Micro) → a.has op ≡ true → table_has t op ≡ true) → WritesCells a (table_writing t registers)
 writes_cells a t registers clear covers = record {

@@ -9,7 +9,7 @@ use Rattle.form_laws.specs.declared.kind.Kind.TheVariants as kinds
 use Rattle.form_laws.specs.declared.kind.Operand.{Operand}
 use Rattle.form_laws.specs.declared.kind.Operand.TheVariants.{Register, Number, Place, Label}
 use Rattle.form_laws.specs.Kinds.{same_barrier, operands_of}
-use Rattle.form_laws.specs.Tables.{given}
+use Rattle.form_laws.specs.Tables.{given_operands}
 
 -- an operation is of a kind, with these operands
 pub data IsOf : Kind → Micro → List Operand → Type 0 where
@@ -34,17 +34,17 @@ pub data IsOf : Kind → Micro → List Operand → Type 0 where
   orders : (a b : Barrier) → same_barrier a b ≡ true → IsOf (kinds.Order a) (ops.Barrier b) []
 
 loads_if : (r d p : ℕ) (b : Bool) → (b ≡ true → (d == r) ≡ true) → is_some (cond {A = Option (List Operand)} b (Some (Place p ∷ [])) None) ≡ true →
-    IsOf (kinds.LoadInto r) (ops.LoadAt d p) (given (cond b (Some (Place p ∷ [])) None))
+    IsOf (kinds.LoadInto r) (ops.LoadAt d p) (given_operands (cond b (Some (Place p ∷ [])) None))
 loads_if r d p true same some = loads_into r d p (same refl)
 loads_if r d p false same some = cc
 
 orders_if : (x y : Barrier) (b : Bool) → (b ≡ true → same_barrier x y ≡ true) → is_some (cond {A = Option (List Operand)} b (Some []) None) ≡ true →
-    IsOf (kinds.Order x) (ops.Barrier y) (given (cond b (Some []) None))
+    IsOf (kinds.Order x) (ops.Barrier y) (given_operands (cond b (Some []) None))
 orders_if x y true same some = orders x y (same refl)
 orders_if x y false same some = cc
 
 -- an operation that has operands in the order of a kind is of the kind, with these
-pub is_of : (kind : Kind) (op : Micro) → is_some (operands_of kind op) ≡ true → IsOf kind op (given (operands_of kind op))
+pub is_of : (kind : Kind) (op : Micro) → is_some (operands_of kind op) ≡ true → IsOf kind op (given_operands (operands_of kind op))
 is_of kinds.SetNumber (ops.Imm d n) some = sets_number d n
 is_of kinds.ExclusiveOr (ops.Xor d a b) some = excludes d a b
 is_of kinds.AddNumber (ops.AddImm d a n) some = adds_number d a n
@@ -70,6 +70,6 @@ is_of kind op some = cc
 pub by_kind : (P : Option (List Operand) → Type 0) (kind : Kind) (op : Micro) → P None → ((vs : List Operand) → IsOf kind op vs → P (Some vs)) → P (operands_of kind op)
 by_kind P kind op other each = of_found (operands_of kind op) (is_of kind op)
   where
-    of_found : (o : Option (List Operand)) → (is_some o ≡ true → IsOf kind op (given o)) → P o
+    of_found : (o : Option (List Operand)) → (is_some o ≡ true → IsOf kind op (given_operands o)) → P o
     of_found None h = other
     of_found (Some vs) h = each vs (h refl)

@@ -10,12 +10,12 @@ use Rattle.micro_ops.specs.declared.operation.Micro.TheVariants as ops
 use Rattle.micro_ops.specs.declared.operation.Barrier.{Barrier}
 use Rattle.micro_ops.specs.declared.operation.Barrier.TheVariants as barriers
 use Rattle.text_laws.specs.Names.{is_place_name}
-use Rattle.arch_trait.specs.Writing.{raw_of, name_of, is_named, is_label_name, label_name}
+use Rattle.arch_trait.specs.Writing.{raw_of, op_name, is_well_named, is_label_name, label_name}
 use Rattle.form_laws.specs.declared.kind.Kind.{Kind}
 use Rattle.form_laws.specs.declared.kind.Operand.{Operand}
 use Rattle.form_laws.specs.declared.kind.Operand.TheVariants as operands
-use Rattle.form_laws.specs.Kinds.{barrier_number, same_barrier, operands_of, raw_with, at_place, unnamed}
-use Rattle.form_laws.specs.Tables.{given}
+use Rattle.form_laws.specs.Kinds.{barrier_number, same_barrier, operands_of, raw_with, with_place_name, unnamed}
+use Rattle.form_laws.specs.Tables.{given_operands}
 use Rattle.form_laws.proofs.OfKind.{IsOf, loads_into, stores_number, branches_equal, branches_not_zero, orders, is_of, by_kind}
 use Rattle.form_laws.proofs.PieceBacks.{named}
 
@@ -53,13 +53,13 @@ barrier_is a b h = sym (barrier_back a) ∙ (ap barrier_of (eqb-true (barrier_nu
 
 makes_again : (names : ℕ → List ℕ) {kind : Kind} {op : Micro} {vs : List Operand} → IsOf kind op vs →
     raw_with kind (map (named names) vs) ≡ Some (raw_of names op)
-makes_again names (loads_into r d p e) = ap (λ x. at_place (ops.LoadAt x 0) (names p)) (sym (eqb-true d r e))
+makes_again names (loads_into r d p e) = ap (λ x. with_place_name (ops.LoadAt x 0) (names p)) (sym (eqb-true d r e))
 makes_again names (orders a b e) = ap (λ x. unnamed (ops.Barrier x)) (barrier_is a b e)
 makes_again names is = refl
 
 -- the operands of an operation make it again, with names in place of numbers
 pub op_back : (names : ℕ → List ℕ) (kind : Kind) (op : Micro) → is_some (operands_of kind op) ≡ true →
-    raw_with kind (map (named names) (given (operands_of kind op))) ≡ Some (raw_of names op)
+    raw_with kind (map (named names) (given_operands (operands_of kind op))) ≡ Some (raw_of names op)
 op_back names kind op some = makes_again names (is_of kind op some)
 
 -- an operand's name has its form
@@ -70,7 +70,7 @@ is_named_operand names (operands.Place p) = is_place_name (names p)
 is_named_operand names (operands.Label l) = is_label_name (label_name l)
 
 all_named : (names : ℕ → List ℕ) {kind : Kind} {op : Micro} {vs : List Operand} → IsOf kind op vs →
-    is_named (name_of names op) ≡ true → list_all (is_named_operand names) vs ≡ true
+    is_well_named (op_name names op) ≡ true → list_all (is_named_operand names) vs ≡ true
 all_named names (loads_into r d p e) h = and_from (is_place_name (names p)) true h refl
 all_named names (stores_number p n) h = and_from (is_place_name (names p)) true h refl
 all_named names (branches_equal l) h = and_from (is_label_name (label_name l)) true h refl
@@ -78,7 +78,7 @@ all_named names (branches_not_zero a l) h = and_from (is_label_name (label_name 
 all_named names is h = refl
 
 -- where the name of an operation has its form, those of its operands have
-pub operands_named : (names : ℕ → List ℕ) (kind : Kind) (op : Micro) → is_named (name_of names op) ≡ true →
-    list_all (is_named_operand names) (given (operands_of kind op)) ≡ true
+pub operands_named : (names : ℕ → List ℕ) (kind : Kind) (op : Micro) → is_well_named (op_name names op) ≡ true →
+    list_all (is_named_operand names) (given_operands (operands_of kind op)) ≡ true
 operands_named names kind op h =
-    by_kind (λ o. list_all (is_named_operand names) (given o) ≡ true) kind op refl (λ vs is. all_named names is h)
+    by_kind (λ o. list_all (is_named_operand names) (given_operands o) ≡ true) kind op refl (λ vs is. all_named names is h)

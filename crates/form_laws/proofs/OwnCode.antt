@@ -1,5 +1,5 @@
--- The instructions that make up the code of architectures whose accesses name a register that holds the address: a branch on a register,
--- accesses at an address that depends on a register, and what joins a dependency to a number. What each sort of them keeps is
+-- The instructions that make up the code of architectures whose accesses name a register that holds the address_held: a branch on a register,
+-- accesses at an address_held that depends on a register, and what joins a dependency to a number. What each sort of them keeps is
 -- proved here once; an architecture says of which sort its own are, and that its table has them.
 -- Source: own.
 use Rattle.std.proofs.Common.{ℕ, ◌+◌, ◌<◌, ◌≤◌, ◌^◌, ◌≡◌, ◌==◌, refl, true, false, bit_or, List, [], ◌∷◌, ◌++◌, Some, None, length, ◌∙◌, sym, ap, append-nil, arith}
@@ -13,14 +13,14 @@ use Rattle.micro_ops.specs.declared.held.Held.{Held}
 use Rattle.micro_ops.specs.declared.operation.Micro.{Micro}
 use Rattle.micro_ops.specs.declared.operation.Micro.TheVariants as ops
 use Rattle.micro_ops.specs.declared.operation.Barrier.TheVariants as barriers
-use Rattle.micro_ops.specs.Machine.{num, address, at_place, bit}
+use Rattle.micro_ops.specs.Machine.{num, address_held, held_at_place, bit}
 use Rattle.micro_ops.specs.Running.{Run, At, go, exec, labels_of, lands}
 use Rattle.arch_laws.proofs.Masks.{zero_or}
 use Rattle.arch_laws.proofs.Rules.{holding, after_cmp, after_branch, run_add_imm, run_or_imm, run_add_address, run_load, run_load_wants, run_load_index, run_load_index_wants, run_store, run_store_index, run_cmp_branch, run_branch_nz}
 use Rattle.arch_trait.specs.declared.link.Link.TheVariants as links
 use Rattle.arch_trait.specs.Links.{link_is_of}
-use Rattle.arch_trait.specs.Cells.{is_access, accesses_in, MakesOneAccess}
-use Rattle.arch_trait.specs.Laws.{DidLink, IsWanting, IsArch, is_at}
+use Rattle.arch_trait.specs.Cells.{is_access, access_count, MakesOneAccess}
+use Rattle.arch_trait.specs.Laws.{DidLink, IsWanting, IsArch, is_at_place}
 use Rattle.arch_trait.specs.Addressed.{Instructions, puts_of}
 use Rattle.arch_laws.proofs.Accesses.{written_same, written_other}
 use Rattle.arch_laws.proofs.AddressedInstructions.{LoadsBy, StoresBy, IsShort, HasMarked, KeepsInstructions, same_run, but_address}
@@ -34,23 +34,23 @@ pub record IsBranch (branch : ℕ → ℕ → List Micro) : Type 0 where
   pub room : (s n : ℕ) → length (branch s n) ≤ 2
   pub label : (s n : ℕ) (rest : List Micro) → labels_of (branch s n ++ ops.Label n ∷ rest) ≡ n ∷ labels_of rest
   pub jumps : (s n : ℕ) (rest : List Micro) → lands rest ≡ true → lands (branch s n ++ ops.Label n ∷ rest) ≡ true
-  pub no_place : (s n p : ℕ) (rest : List Micro) → list_all (is_at p) rest ≡ true →
-      list_all (is_at p) (branch s n ++ ops.Label n ∷ rest) ≡ true
-  pub no_access : (s n : ℕ) (rest : List Micro) → accesses_in (branch s n ++ ops.Label n ∷ rest) ≡ accesses_in rest
+  pub no_place : (s n p : ℕ) (rest : List Micro) → list_all (is_at_place p) rest ≡ true →
+      list_all (is_at_place p) (branch s n ++ ops.Label n ∷ rest) ≡ true
+  pub no_access : (s n : ℕ) (rest : List Micro) → access_count (branch s n ++ ops.Label n ∷ rest) ≡ access_count rest
 
--- a load and a store of register v at the address in register a, so that it depends on register d, which holds 0
+-- a load and a store of register v at the address_held in register a, so that it depends on register d, which holds 0
 pub record AreDependent (load store : ℕ → ℕ → ℕ → List Micro) : Type 0 where
-  pub load_runs : (d v a p n mask : ℕ) (vs : List ℕ) (r : Run) → r.state.regs a ≡ at_place p →
+  pub load_runs : (d v a p n mask : ℕ) (vs : List ℕ) (r : Run) → r.state.regs a ≡ held_at_place p →
       r.state.regs d ≡ num 0 mask → r.reads ≡ n ∷ vs → LoadsBy Plain (load d v a) r d v p n mask vs
-  pub load_wants : (d v a p mask : ℕ) (r : Run) → r.state.regs a ≡ at_place p →
+  pub load_wants : (d v a p mask : ℕ) (r : Run) → r.state.regs a ≡ held_at_place p →
       r.state.regs d ≡ num 0 mask → r.reads ≡ [] → IsWanting (exec (load d v a) (At r))
   pub load_short : (d v a : ℕ) → IsShort (load d v a)
-  pub load_once : (d v a : ℕ) → accesses_in (load d v a) ≡ 1
-  pub store_runs : (d v a p n mask : ℕ) (r : Run) → r.state.regs a ≡ at_place p →
+  pub load_once : (d v a : ℕ) → access_count (load d v a) ≡ 1
+  pub store_runs : (d v a p n mask : ℕ) (r : Run) → r.state.regs a ≡ held_at_place p →
       r.state.regs d ≡ num 0 mask → r.state.regs v ≡ num n 0 → (v == d) ≡ false →
       StoresBy Plain (store d v a) r d p n mask
   pub store_short : (d v a : ℕ) → IsShort (store d v a)
-  pub store_once : (d v a : ℕ) → accesses_in (store d v a) ≡ 1
+  pub store_once : (d v a : ℕ) → access_count (store d v a) ≡ 1
 
 -- what makes register d, which holds 0, the number n and keeps its dependency
 pub record IsJoining (joins : ℕ → ℕ → Micro) : Type 0 where
@@ -122,36 +122,36 @@ indexed = record {
   store_once = λ d v a. refl;
 }
 
--- accesses at an address that is added to a register first depend on it
+-- accesses at an address_held that is added to a register first depend on it
 pub added : AreDependent (λ d v a. ops.Add d d a ∷ ops.Load v d None ∷ []) (λ d v a. ops.Add d d a ∷ ops.Store v d None ∷ [])
 added = record {
   load_runs = λ d v a p n mask vs r e g reads.
-      let u = holding r d (address p mask) in
+      let u = holding r d (address_held p mask) in
       record {
         before = u;
         ran =
             ap (λ x. go (ops.Load v d None) x) (run_add_address d d a p mask r g e) ∙
-            run_load v d p n mask vs u (written_same r.state.regs d (address p mask)) reads;
+            run_load v d p n mask vs u (written_same r.state.regs d (address_held p mask)) reads;
         same = but_address d p mask r;
       };
   load_wants = λ d v a p mask r e g reads.
-      let u = holding r d (address p mask) in
+      let u = holding r d (address_held p mask) in
       record {
         run = u;
         is =
             ap (λ x. go (ops.Load v d None) x) (run_add_address d d a p mask r g e) ∙
-            run_load_wants v d p mask u (written_same r.state.regs d (address p mask)) reads;
+            run_load_wants v d p mask u (written_same r.state.regs d (address_held p mask)) reads;
       };
   load_short = λ d v a. record { room = omega arith; labels = refl; lands = refl; no_place = λ p. refl };
   load_once = λ d v a. refl;
   store_runs = λ d v a p n mask r e g holds apart.
-      let u = holding r d (address p mask) in
+      let u = holding r d (address_held p mask) in
       record {
         before = u;
         ran =
             ap (λ x. go (ops.Store v d None) x) (run_add_address d d a p mask r g e) ∙
-            run_store v d p n mask 0 u (written_same r.state.regs d (address p mask))
-            (written_other r.state.regs d v (address p mask) apart ∙ holds);
+            run_store v d p n mask 0 u (written_same r.state.regs d (address_held p mask))
+            (written_other r.state.regs d v (address_held p mask) apart ∙ holds);
         same = but_address d p mask r;
       };
   store_short = λ d v a. record { room = omega arith; labels = refl; lands = refl; no_place = λ p. refl };

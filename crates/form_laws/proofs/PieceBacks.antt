@@ -7,7 +7,7 @@ use Rattle.std.specs.Str.{bytes_eq}
 use Rattle.std.proofs.Math.Seq.{take-append_seam, drop-append_seam}
 use Rattle.std.proofs.lemmas.Bool.{and_parts, le-leb, lt-ltb, eq-eqb, ltb-true, leb-true}
 use Rattle.std.proofs.lemmas.Slice.Eq.{bytes_eq-Decides}
-use Rattle.text_laws.specs.Numbers.{number_of}
+use Rattle.text_laws.specs.NumberTexts.{number_of}
 use Rattle.text_laws.proofs.NumberLaws.{number_of-decimal}
 use Rattle.arch_trait.specs.Writing.{register_at, label_name}
 use Rattle.arch_laws.proofs.SpellingLaws.{immediate_back}
@@ -16,8 +16,8 @@ use Rattle.form_laws.specs.declared.form.Hole.TheVariants as holes
 use Rattle.form_laws.specs.declared.kind.Operand.{Operand}
 use Rattle.form_laws.specs.declared.kind.Operand.TheVariants as operands
 use Rattle.form_laws.specs.Kinds.{FoundOperand, found_register, found_number, found_place, found_label}
-use Rattle.form_laws.specs.Tables.{PieceText, fits_first, after_hole, fits, filled, piece_texts, after_prefix, before_suffix, hole_found, piece_found, joined, pieces_found}
-use Rattle.form_laws.specs.Clear.{is_hole_good, is_filled, fixed_text, is_fixed_byte, is_piece_good}
+use Rattle.form_laws.specs.Tables.{PieceText, fits_first, after_hole, operands_fit, hole_filled, piece_texts, after_prefix, before_suffix, hole_found, piece_found, joined_operands, pieces_found}
+use Rattle.form_laws.specs.ClearTables.{is_hole_good, is_filled, fixed_text, is_fixed_byte, is_piece_good}
 
 -- an operand as it is read from its own text
 abbrev pub named : (ℕ → List ℕ) → Operand → FoundOperand
@@ -34,7 +34,7 @@ held _ (v ∷ vs) = v ∷ []
 
 -- an operand as it is written by its form
 abbrev pub piece_text : (ℕ → List ℕ) → PieceText → List Operand → List ℕ
-piece_text names p vs = p.before ++ (filled names p.hole vs ++ p.after)
+piece_text names p vs = p.before ++ (hole_filled names p.hole vs ++ p.after)
 
 -- fixed texts at the beginning and at the end are taken off:
 -- what is left of a text after its prefix
@@ -64,7 +64,7 @@ number_back first count r h small =
 
 -- what is in a hole is read from it
 hole_back : (names : ℕ → List ℕ) (h : Hole) (vs : List Operand) → is_hole_good h ≡ true → fits_first h vs ≡ true →
-    hole_found h (filled names h vs) ≡ Some (map (named names) (held h vs))
+    hole_found h (hole_filled names h vs) ≡ Some (map (named names) (held h vs))
 hole_back names holes.Empty vs good fit = refl
 hole_back names (holes.Register first count) (operands.Register r ∷ vs) good fit =
     let small : first + count ≤ 256 = leb-true (first + count) 256 good in
@@ -97,8 +97,8 @@ pub piece_back : (names : ℕ → List ℕ) (p : PieceText) (vs : List Operand) 
     piece_found p (piece_text names p vs) ≡ Some (map (named names) (held p.hole vs))
 unfolding piece_found
 piece_back names p vs good fit =
-    ap (λ o. option_and_then (hole_found p.hole) (option_and_then (before_suffix p.after) o)) (prefix_back p.before (filled names p.hole vs ++ p.after)) ∙
-    (ap (λ o. option_and_then (hole_found p.hole) o) (suffix_back (filled names p.hole vs) p.after) ∙
+    ap (λ o. option_and_then (hole_found p.hole) (option_and_then (before_suffix p.after) o)) (prefix_back p.before (hole_filled names p.hole vs ++ p.after)) ∙
+    (ap (λ o. option_and_then (hole_found p.hole) o) (suffix_back (hole_filled names p.hole vs) p.after) ∙
     hole_back names p.hole vs (piece_is_good p good).hole fit)
 
 -- the operand that a hole takes comes before those that are left
@@ -115,16 +115,16 @@ held_first names holes.Label [] = refl
 held_first names holes.Label (v ∷ vs) = refl
 
 -- the operands of one form read back
-pub pieces_back : (names : ℕ → List ℕ) (ps : List PieceText) (vs : List Operand) → list_all is_piece_good ps ≡ true → fits ps vs ≡ true →
+pub pieces_back : (names : ℕ → List ℕ) (ps : List PieceText) (vs : List Operand) → list_all is_piece_good ps ≡ true → operands_fit ps vs ≡ true →
     pieces_found ps (piece_texts names ps vs) ≡ Some (map (named names) vs)
-unfolding pieces_found piece_texts fits
+unfolding pieces_found piece_texts operands_fit
 pieces_back names [] [] good fit = refl
 pieces_back names [] (v ∷ vs) good fit = cc
 pieces_back names (p ∷ ps) vs good fit =
     let g = and_parts (is_piece_good p) (list_all is_piece_good ps) good in
-    let f = and_parts (fits_first p.hole vs) (fits ps (after_hole p.hole vs)) fit in
-    ap (λ o. joined o (pieces_found ps (piece_texts names ps (after_hole p.hole vs)))) (piece_back names p vs g.0 f.0) ∙
-    (ap (λ o. joined (Some (map (named names) (held p.hole vs))) o) (pieces_back names ps (after_hole p.hole vs) g.1 f.1) ∙
+    let f = and_parts (fits_first p.hole vs) (operands_fit ps (after_hole p.hole vs)) fit in
+    ap (λ o. joined_operands o (pieces_found ps (piece_texts names ps (after_hole p.hole vs)))) (piece_back names p vs g.0 f.0) ∙
+    (ap (λ o. joined_operands (Some (map (named names) (held p.hole vs))) o) (pieces_back names ps (after_hole p.hole vs) g.1 f.1) ∙
     ap Some (held_first names p.hole vs))
 
 -- a form has as many texts as operands

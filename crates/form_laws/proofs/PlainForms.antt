@@ -11,32 +11,32 @@ use Rattle.list_laws.proofs.Cases.{by_test}
 use Rattle.text_laws.specs.Names.{is_place_name}
 use Rattle.list_laws.proofs.Digits.{digits_of}
 use Rattle.arch_trait.specs.Cells.{is_cell_byte}
-use Rattle.arch_trait.specs.Reading.{few}
-use Rattle.arch_trait.specs.Writing.{is_plain, all_plain, is_label_name, label_name, label_word}
+use Rattle.arch_trait.specs.InstructionReading.{few}
+use Rattle.arch_trait.specs.Writing.{is_plain, all_plain_texts, is_label_name, label_name, label_word}
 use Rattle.arch_laws.proofs.CellTexts.{all_both}
 use Rattle.arch_laws.proofs.FormBacks.{label_plain}
 use Rattle.arch_laws.proofs.SpellingLaws.{decimal_plain, place_name_plain}
-use Rattle.arch_trait.specs.WordBytes.{is_word_byte}
+use Rattle.arch_trait.specs.WordBytes.{is_instruction_byte}
 use Rattle.form_laws.specs.declared.form.Hole.{Hole}
 use Rattle.form_laws.specs.declared.form.Hole.TheVariants as holes
 use Rattle.form_laws.specs.declared.kind.Operand.{Operand}
 use Rattle.form_laws.specs.declared.kind.Operand.TheVariants as operands
-use Rattle.form_laws.specs.Tables.{PieceText, fits_first, after_hole, fits, filled, piece_texts, texts_in}
-use Rattle.form_laws.specs.Clear.{is_hole_good, is_filled, is_fixed_byte, is_first_byte, is_piece_good}
+use Rattle.form_laws.specs.Tables.{PieceText, fits_first, after_hole, operands_fit, hole_filled, piece_texts, texts_in}
+use Rattle.form_laws.specs.ClearTables.{is_hole_good, is_filled, is_fixed_byte, is_first_byte, is_piece_good}
 use Rattle.form_laws.proofs.PieceBacks.{piece_text, piece_is_good}
 use Rattle.form_laws.proofs.OperationBacks.{is_named_operand}
 
 -- a text of one byte or more is plain where each of its bytes is
-some_plain : (t : List ℕ) → 1 ≤ length t → list_all is_word_byte t ≡ true → is_plain t ≡ true
+some_plain : (t : List ℕ) → 1 ≤ length t → list_all is_instruction_byte t ≡ true → is_plain t ≡ true
 some_plain [] h k = absurd (omega arith)
 some_plain (b ∷ t) h k = k
 
 -- fixed texts are plain
-fixed_word_byte : (b : ℕ) → is_fixed_byte b ≡ true → is_word_byte b ≡ true
-fixed_word_byte b h = (and_parts (is_cell_byte b) (is_word_byte b) h).1
+fixed_word_byte : (b : ℕ) → is_fixed_byte b ≡ true → is_instruction_byte b ≡ true
+fixed_word_byte b h = (and_parts (is_cell_byte b) (is_instruction_byte b) h).1
 
-fixed_word : (t : List ℕ) → list_all is_fixed_byte t ≡ true → list_all is_word_byte t ≡ true
-fixed_word t h = list_all-weaker is_fixed_byte is_word_byte fixed_word_byte t h
+fixed_word : (t : List ℕ) → list_all is_fixed_byte t ≡ true → list_all is_instruction_byte t ≡ true
+fixed_word t h = list_all-weaker is_fixed_byte is_instruction_byte fixed_word_byte t h
 
 -- the bytes of a first word are fixed bytes
 first_fixed : (b : ℕ) → is_first_byte b ≡ true → is_fixed_byte b ≡ true
@@ -51,7 +51,7 @@ pub word_plain : (t : List ℕ) → nat_le 1 (length t) ≡ true → list_all is
 word_plain t some h = some_plain t (leb-true 1 (length t) some) (fixed_word t (first_word_fixed t h))
 
 -- a plain name has plain bytes, and the name of a place has a byte
-plain_bytes : (t : List ℕ) → is_plain t ≡ true → list_all is_word_byte t ≡ true
+plain_bytes : (t : List ℕ) → is_plain t ≡ true → list_all is_instruction_byte t ≡ true
 plain_bytes [] h = refl
 plain_bytes (b ∷ t) h = h
 
@@ -64,7 +64,7 @@ place_some (b ∷ name) h = omega arith
 pub filled_all : (p : ℕ → Bool) → ((n : ℕ) → n < 2 ^ 32 → list_all p (decimal n) ≡ true) → ((name : List ℕ) → is_place_name name ≡ true → list_all p name ≡ true)
     → ((l : ℕ) → is_label_name (label_name l) ≡ true → list_all p (label_name l) ≡ true)
     → (names : ℕ → List ℕ) (h : Hole) (vs : List Operand) → is_hole_good h ≡ true → fits_first h vs ≡ true →
-    list_all (is_named_operand names) vs ≡ true → list_all p (filled names h vs) ≡ true
+    list_all (is_named_operand names) vs ≡ true → list_all p (hole_filled names h vs) ≡ true
 filled_all p number place label names holes.Empty vs good fit named = refl
 filled_all p number place label names (holes.Register first count) (operands.Register r ∷ vs) good fit named =
     let small : first + count ≤ 256 = leb-true (first + count) 256 good in
@@ -80,7 +80,7 @@ filled_all p number place label names h vs good fit named = cc
 
 -- an operand without a hole has a byte, and so has what is in a hole
 filled_some : (names : ℕ → List ℕ) (h : Hole) (vs : List Operand) (fixed : List ℕ) → is_hole_good h ≡ true → is_filled h fixed ≡ true →
-    fits_first h vs ≡ true → list_all (is_named_operand names) vs ≡ true → 1 ≤ length fixed + length (filled names h vs)
+    fits_first h vs ≡ true → list_all (is_named_operand names) vs ≡ true → 1 ≤ length fixed + length (hole_filled names h vs)
 filled_some names holes.Empty vs fixed good full fit named =
     let some : 1 ≤ length fixed = leb-true 1 (length fixed) full in omega arith
 filled_some names (holes.Register first count) (operands.Register r ∷ vs) fixed good full fit named =
@@ -100,11 +100,11 @@ piece_plain : (names : ℕ → List ℕ) (p : PieceText) (vs : List Operand) →
     list_all (is_named_operand names) vs ≡ true → is_plain (piece_text names p vs) ≡ true
 piece_plain names p vs good fit named =
     let g = piece_is_good p good in
-    let some : 1 ≤ length (p.before ++ p.after) + length (filled names p.hole vs) = filled_some names p.hole vs (p.before ++ p.after) g.hole g.full fit named in
+    let some : 1 ≤ length (p.before ++ p.after) + length (hole_filled names p.hole vs) = filled_some names p.hole vs (p.before ++ p.after) g.hole g.full fit named in
     some_plain (piece_text names p vs)
-    (omega (arith, length-append p.before p.after, length-append p.before (filled names p.hole vs ++ p.after), length-append (filled names p.hole vs) p.after))
-    (all_both is_word_byte p.before (filled names p.hole vs ++ p.after) (fixed_word p.before g.before)
-    (all_both is_word_byte (filled names p.hole vs) p.after (filled_all is_word_byte decimal_plain place_name_plain (λ l h. plain_bytes (label_name l) (label_plain l h)) names p.hole vs g.hole fit named) (fixed_word p.after g.after)))
+    (omega (arith, length-append p.before p.after, length-append p.before (hole_filled names p.hole vs ++ p.after), length-append (hole_filled names p.hole vs) p.after))
+    (all_both is_instruction_byte p.before (hole_filled names p.hole vs ++ p.after) (fixed_word p.before g.before)
+    (all_both is_instruction_byte (hole_filled names p.hole vs) p.after (filled_all is_instruction_byte decimal_plain place_name_plain (λ l h. plain_bytes (label_name l) (label_plain l h)) names p.hole vs g.hole fit named) (fixed_word p.after g.after)))
 
 -- what is left after a hole is named too
 pub left_named : (names : ℕ → List ℕ) (h : Hole) (vs : List Operand) → list_all (is_named_operand names) vs ≡ true →
@@ -120,13 +120,13 @@ left_named names holes.Label [] named = refl
 left_named names holes.Label (v ∷ vs) named = (and_parts (is_named_operand names v) (list_all (is_named_operand names) vs) named).1
 
 -- the operands of one form are plain
-pub pieces_plain : (names : ℕ → List ℕ) (ps : List PieceText) (vs : List Operand) → list_all is_piece_good ps ≡ true → fits ps vs ≡ true →
+pub pieces_plain : (names : ℕ → List ℕ) (ps : List PieceText) (vs : List Operand) → list_all is_piece_good ps ≡ true → operands_fit ps vs ≡ true →
     list_all (is_named_operand names) vs ≡ true → list_all is_plain (piece_texts names ps vs) ≡ true
-unfolding piece_texts fits
+unfolding piece_texts operands_fit
 pieces_plain names [] vs good fit named = refl
 pieces_plain names (p ∷ ps) vs good fit named =
     let g = and_parts (is_piece_good p) (list_all is_piece_good ps) good in
-    let f = and_parts (fits_first p.hole vs) (fits ps (after_hole p.hole vs)) fit in
+    let f = and_parts (fits_first p.hole vs) (operands_fit ps (after_hole p.hole vs)) fit in
     and_from (is_plain (piece_text names p vs)) (list_all is_plain (piece_texts names ps (after_hole p.hole vs)))
     (piece_plain names p vs g.0 f.0 named)
     (pieces_plain names ps (after_hole p.hole vs) g.1 f.1 (left_named names p.hole vs named))
@@ -145,7 +145,7 @@ last_of true h = refl
 last_of false h = cc
 
 -- at most four plain texts are plain operands
-pub few_plain : (ts : List (List ℕ)) → length ts ≤ 4 → list_all is_plain ts ≡ true → all_plain (few ts) ≡ true
+pub few_plain : (ts : List (List ℕ)) → length ts ≤ 4 → list_all is_plain ts ≡ true → all_plain_texts (few ts) ≡ true
 few_plain [] h k = refl
 few_plain (a ∷ []) h k = last_of (is_plain a) k
 few_plain (a ∷ b ∷ []) h k =

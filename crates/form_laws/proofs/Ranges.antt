@@ -6,7 +6,7 @@ use Rattle.list_laws.proofs.Cases.{by_test}
 use Rattle.micro_ops.specs.declared.operation.Micro.{Micro}
 use Rattle.micro_ops.specs.declared.operation.Micro.TheVariants as ops
 use Rattle.micro_ops.specs.Machines.{InRange}
-use Rattle.arch_trait.specs.Reading.{ReadsOwn}
+use Rattle.arch_trait.specs.InstructionReading.{ReadsOwn}
 use Rattle.arch_trait.specs.Threads.{Puts}
 use Rattle.form_laws.specs.declared.form.Hole.{Hole}
 use Rattle.form_laws.specs.declared.form.Hole.TheVariants as holes
@@ -15,7 +15,7 @@ use Rattle.form_laws.specs.declared.kind.Kind.TheVariants as kinds
 use Rattle.form_laws.specs.declared.kind.Operand.{Operand}
 use Rattle.form_laws.specs.declared.kind.Operand.TheVariants as operands
 use Rattle.form_laws.specs.Kinds.{operands_of}
-use Rattle.form_laws.specs.Tables.{PieceText, FormText, TableText, fits_first, after_hole, fits, does, table_has, given, table_writing}
+use Rattle.form_laws.specs.Tables.{PieceText, FormText, TableText, fits_first, after_hole, operands_fit, does, table_has, given_operands, table_writing}
 use Rattle.form_laws.proofs.ChosenForms.{done}
 use Rattle.form_laws.proofs.OfKind.{IsOf, is_of, sets_number, excludes, adds_number, ors_number, sums, loads, loads_indexed, loads_index_first, loads_into, loads_acquire, stores, stores_indexed, stores_index_first, stores_release, compares, branches_not_zero}
 use Rattle.form_laws.proofs.ReadsHad.{reads_what_it_has}
@@ -51,14 +51,14 @@ first_below holes.Place (operands.Place p ∷ vs) small fit rest = rest
 first_below holes.Label (operands.Label l ∷ vs) small fit rest = rest
 first_below h vs small fit rest = cc
 
-all_below : (ps : List PieceText) (vs : List Operand) → list_all (λ (p : PieceText). is_small_hole p.hole) ps ≡ true → fits ps vs ≡ true →
+all_below : (ps : List PieceText) (vs : List Operand) → list_all (λ (p : PieceText). is_small_hole p.hole) ps ≡ true → operands_fit ps vs ≡ true →
     list_all is_below vs ≡ true
-unfolding fits
+unfolding operands_fit
 all_below [] [] small fit = refl
 all_below [] (v ∷ vs) small fit = cc
 all_below (p ∷ ps) vs small fit =
     let a = and_parts (is_small_hole p.hole) (list_all (λ (q : PieceText). is_small_hole q.hole) ps) small in
-    let b = and_parts (fits_first p.hole vs) (fits ps (after_hole p.hole vs)) fit in
+    let b = and_parts (fits_first p.hole vs) (operands_fit ps (after_hole p.hole vs)) fit in
     first_below p.hole vs a.0 b.0 (all_below ps (after_hole p.hole vs) a.1 b.1)
 
 one : (r : ℕ) (vs : List Operand) → list_all is_below (operands.Register r ∷ vs) ≡ true → (r < 32) × (list_all is_below vs ≡ true)
@@ -97,7 +97,7 @@ form_in_range : (op : Micro) (f : FormText) → is_small_form f ≡ true → doe
 form_in_range op f small h =
     let a = and_parts (is_small_kind f.kind) (list_all (λ (p : PieceText). is_small_hole p.hole) f.pieces) small in
     let d = done op f h in
-    op_in_range (is_of f.kind op d.some) a.0 (all_below f.pieces (given (operands_of f.kind op)) a.1 d.fit)
+    op_in_range (is_of f.kind op d.some) a.0 (all_below f.pieces (given_operands (operands_of f.kind op)) a.1 d.fit)
 
 any_in_range : (op : Micro) (fs : List FormText) → list_all is_small_form fs ≡ true → list_any (does op) fs ≡ true → InRange op
 any_in_range op [] small h = cc

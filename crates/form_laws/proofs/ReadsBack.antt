@@ -11,14 +11,14 @@ use Rattle.micro_ops.specs.declared.operation.Micro.TheVariants as ops
 use Rattle.arch_trait.specs.declared.numbered.Numbered.{Numbered}
 use Rattle.arch_trait.specs.Forms.{label_alone, register_names}
 use Rattle.arch_trait.specs.Threads.{Puts}
-use Rattle.arch_trait.specs.Writing.{WritesBack, Written, none, RawInstr, name_of, is_named, raw_of, is_plain, all_plain, label_word}
+use Rattle.arch_trait.specs.Writing.{WritesBack, Written, none, RawInstr, op_name, is_well_named, raw_of, is_plain, all_plain_texts, label_word}
 use Rattle.arch_laws.proofs.FormBacks.{IsNumbered, names_count, names_formed, names_once, label_word_plain}
 use Rattle.arch_laws.proofs.SpellingLaws.{label_back}
 use Rattle.form_laws.specs.declared.form.Labels.{Labels}
 use Rattle.form_laws.specs.declared.form.Labels.TheVariants as labels
 use Rattle.form_laws.specs.Kinds.{operands_of}
-use Rattle.form_laws.specs.Tables.{FormText, TableText, does, are_known, table_has, given, form_written, first_written, table_written, pieces_found, raw_or, first_read, label_read, raw_if, table_raw, table_writing}
-use Rattle.form_laws.specs.Clear.{forms_apart, is_form_good, is_clear}
+use Rattle.form_laws.specs.Tables.{FormText, TableText, does, are_known, table_has, given_operands, form_written, first_written, table_written, pieces_found, raw_or, first_form_read, label_read, raw_if, table_raw, table_writing}
+use Rattle.form_laws.specs.ClearTables.{forms_apart, is_form_good, is_clear}
 use Rattle.form_laws.proofs.PieceBacks.{length-piece_texts}
 use Rattle.form_laws.proofs.OperationBacks.{op_back, operands_named}
 use Rattle.form_laws.proofs.ChosenForms.{form_is_good, done, op_texts, Chosen, chosen}
@@ -34,7 +34,7 @@ pub record AreNames (a : Puts) (registers : List (List ℕ)) : Type 0 where
 at_most_four : (names : ℕ → List ℕ) (op : Micro) (f : FormText) → is_form_good f ≡ true → length (op_texts names op f) ≤ 4
 at_most_four names op f good =
     let h : length f.pieces ≤ 4 = leb-true (length f.pieces) 4 (form_is_good f good).few in
-    omega (arith, length-piece_texts names f.pieces (given (operands_of f.kind op)))
+    omega (arith, length-piece_texts names f.pieces (given_operands (operands_of f.kind op)))
 
 -- an operation that a form of the table does reads back, and its word and its operands are plain
 form_back : (t : TableText) (names : ℕ → List ℕ) (op : Micro) → is_clear t.forms ≡ true → list_any (does op) t.forms ≡ true →
@@ -54,23 +54,23 @@ form_word t names op clear some =
     ap (λ (w : Written). is_plain w.word) (c.written names) ∙ word_plain c.form.word g.some g.word
 
 form_operands : (t : TableText) (names : ℕ → List ℕ) (op : Micro) → is_clear t.forms ≡ true → list_any (does op) t.forms ≡ true →
-    is_named (name_of names op) ≡ true → all_plain (first_written names op t.forms).operands ≡ true
+    is_well_named (op_name names op) ≡ true → all_plain_texts (first_written names op t.forms).operands ≡ true
 form_operands t names op clear some named =
     let c : Chosen op t.forms = chosen op t.forms clear some in
-    ap (λ (w : Written). all_plain w.operands) (c.written names) ∙
+    ap (λ (w : Written). all_plain_texts w.operands) (c.written names) ∙
     few_plain (op_texts names op c.form) (at_most_four names op c.form c.good)
-    (pieces_plain names c.form.pieces (given (operands_of c.form.kind op)) (form_is_good c.form c.good).pieces (done op c.form c.does).fit
+    (pieces_plain names c.form.pieces (given_operands (operands_of c.form.kind op)) (form_is_good c.form c.good).pieces (done op c.form c.does).fit
     (operands_named names c.form.kind op named))
 
 -- no form reads a label
 label_passed : (fs : List FormText) (l : ℕ) (texts : List (List ℕ)) (other : Option RawInstr) → is_clear fs ≡ true →
-    first_read fs (label_word l) texts other ≡ other
-unfolding is_clear first_read
+    first_form_read fs (label_word l) texts other ≡ other
+unfolding is_clear first_form_read
 label_passed [] l texts other clear = refl
 label_passed (f ∷ fs) l texts other clear =
     let c = and_parts (is_form_good f) (list_all (forms_apart f) fs && is_clear fs) clear in
     let d = and_parts (list_all (forms_apart f) fs) (is_clear fs) c.1 in
-    ap (λ b. raw_or f.kind (cond b (pieces_found f.pieces texts) None) (first_read fs (label_word l) texts other))
+    ap (λ b. raw_or f.kind (cond b (pieces_found f.pieces texts) None) (first_form_read fs (label_word l) texts other))
     (no_label l f.word (first_word_fixed f.word (form_is_good f c.0).word)) ∙
     label_passed fs l texts other d.1
 
@@ -91,12 +91,12 @@ back t names (ops.Label l) clear h = label_table_back t names l clear h
 back t names op clear h = form_back t names op clear h
 
 word : (t : TableText) (names : ℕ → List ℕ) (op : Micro) → is_clear t.forms ≡ true → table_has t op ≡ true →
-    is_named (name_of names op) ≡ true → is_plain (table_written t names op).word ≡ true
+    is_well_named (op_name names op) ≡ true → is_plain (table_written t names op).word ≡ true
 word t names (ops.Label l) clear h named = label_word_plain l named
 word t names op clear h named = form_word t names op clear h
 
 operands : (t : TableText) (names : ℕ → List ℕ) (op : Micro) → is_clear t.forms ≡ true → table_has t op ≡ true →
-    is_named (name_of names op) ≡ true → all_plain (table_written t names op).operands ≡ true
+    is_well_named (op_name names op) ≡ true → all_plain_texts (table_written t names op).operands ≡ true
 operands t names (ops.Label l) clear h named = refl
 operands t names op clear h named = form_operands t names op clear h named
 

@@ -7,7 +7,7 @@ use Rattle.std.specs.List.{list_any}
 use Rattle.std.specs.Str.{bytes_eq}
 use Rattle.std.proofs.lemmas.Bool.{and_from, or_left, or_right, eq-eqb}
 use Rattle.list_laws.proofs.Cases.{by_test}
-use Rattle.text_laws.specs.Numbers.{number_of}
+use Rattle.text_laws.specs.NumberTexts.{number_of}
 use Rattle.micro_ops.specs.declared.operation.Micro.{Micro}
 use Rattle.micro_ops.specs.declared.operation.Micro.TheVariants as ops
 use Rattle.arch_trait.specs.Writing.{OperandTexts, none, one, two, three, four, more, RawInstr, Written, immediate, at_most, register_at, label_raw}
@@ -21,7 +21,7 @@ use Rattle.form_laws.specs.declared.kind.Kind.TheVariants as kinds
 use Rattle.form_laws.specs.declared.kind.Operand.{Operand}
 use Rattle.form_laws.specs.declared.kind.Operand.TheVariants as operands
 use Rattle.form_laws.specs.Kinds.{FoundOperand, found_register, found_number, found_place, found_label, operands_of, raw_with, barrier_number}
-use Rattle.form_laws.specs.Tables.{PieceText, FormText, TableText, fits_first, after_hole, fits, does, table_has, hole_found, piece_found, pieces_found, joined, form_found, raw_or, first_read, texts_in, are_known, label_read, raw_if, table_raw}
+use Rattle.form_laws.specs.Tables.{PieceText, FormText, TableText, fits_first, after_hole, operands_fit, does, table_has, hole_found, piece_found, pieces_found, joined_operands, form_found, raw_or, first_form_read, texts_in, are_known, label_read, raw_if, table_raw}
 
 -- an operand that was read, with the number 0 for a name
 abbrev zeroed : FoundOperand → Operand
@@ -65,21 +65,21 @@ text_fits hole None ws = tt
 text_fits hole (Some text) ws = hole_fits hole text ws
 
 abbrev PiecesFit : List PieceText → Option (List FoundOperand) → Type 0
-PiecesFit ps (Some vs) = fits ps (map zeroed vs) ≡ true
+PiecesFit ps (Some vs) = operands_fit ps (map zeroed vs) ≡ true
 PiecesFit ps None = Unit
 
 joined_fits : (p : PieceText) (ps : List PieceText) (a b : Option (List FoundOperand)) →
-    ((ws : List Operand) → FitsIf p.hole a ws) → PiecesFit ps b → PiecesFit (p ∷ ps) (joined a b)
-unfolding fits
+    ((ws : List Operand) → FitsIf p.hole a ws) → PiecesFit ps b → PiecesFit (p ∷ ps) (joined_operands a b)
+unfolding operands_fit
 joined_fits p ps None b f g = tt
 joined_fits p ps (Some a) None f g = tt
 joined_fits p ps (Some a) (Some b) f g =
     let e = f (map zeroed b) in
-    rw (map-append zeroed a b) (and_from (fits_first p.hole (map zeroed a ++ map zeroed b)) (fits ps (after_hole p.hole (map zeroed a ++ map zeroed b)))
-    e.first (ap (fits ps) e.rest ∙ g))
+    rw (map-append zeroed a b) (and_from (fits_first p.hole (map zeroed a ++ map zeroed b)) (operands_fit ps (after_hole p.hole (map zeroed a ++ map zeroed b)))
+    e.first (ap (operands_fit ps) e.rest ∙ g))
 
 pieces_fit : (ps : List PieceText) (ts : List (List ℕ)) → PiecesFit ps (pieces_found ps ts)
-unfolding pieces_found fits piece_found
+unfolding pieces_found operands_fit piece_found
 pieces_fit [] [] = refl
 pieces_fit [] (t ∷ ts) = tt
 pieces_fit (p ∷ ps) [] = tt
@@ -118,11 +118,11 @@ abbrev IsDone : Option RawInstr → FormText → Type 0
 IsDone (Some raw) f = does raw.op f ≡ true
 IsDone None f = Unit
 
-done : (f : FormText) (vs : List FoundOperand) (raw : Option RawInstr) → Does f.kind vs raw → fits f.pieces (map zeroed vs) ≡ true → IsDone raw f
+done : (f : FormText) (vs : List FoundOperand) (raw : Option RawInstr) → Does f.kind vs raw → operands_fit f.pieces (map zeroed vs) ≡ true → IsDone raw f
 done f vs None d h = tt
 done f vs (Some raw) d h = rw d h
 
-found_does : (f : FormText) (vs : List FoundOperand) → fits f.pieces (map zeroed vs) ≡ true → IsDone (raw_with f.kind vs) f
+found_does : (f : FormText) (vs : List FoundOperand) → operands_fit f.pieces (map zeroed vs) ≡ true → IsDone (raw_with f.kind vs) f
 found_does f vs h = done f vs (raw_with f.kind vs) (op_does f.kind vs) h
 
 -- what was read is had
@@ -144,10 +144,10 @@ form_fit : (f : FormText) (word : List ℕ) (ts : List (List ℕ)) → PiecesFit
 form_fit f word ts = by_test (bytes_eq word f.word) (λ h. rw h (pieces_fit f.pieces ts)) (λ h. rw h tt)
 
 first_had : (has : Micro → Bool) (fs : List FormText) (word : List ℕ) (ts : List (List ℕ)) (other : Option RawInstr) →
-    ((op : Micro) → list_any (does op) fs ≡ true → has op ≡ true) → IsHad has other → IsHad has (first_read fs word ts other)
-unfolding first_read
+    ((op : Micro) → list_any (does op) fs ≡ true → has op ≡ true) → IsHad has other → IsHad has (first_form_read fs word ts other)
+unfolding first_form_read
 first_had has [] word ts other each h = h
-first_had has (f ∷ fs) word ts other each h = raw_or_had has f (form_found f word ts) (first_read fs word ts other) (form_fit f word ts)
+first_had has (f ∷ fs) word ts other each h = raw_or_had has f (form_found f word ts) (first_form_read fs word ts other) (form_fit f word ts)
     (λ op d. each op (or_left (does op f) (list_any (does op) fs) d))
     (first_had has fs word ts other (λ op d. each op (or_right (does op f) (list_any (does op) fs) d)) h)
 

@@ -74,8 +74,8 @@ abbrev pub unnamed : Micro → Option RawInstr
 unnamed op = Some (record { op = op; name = nothing })
 
 -- an operation with the name of its place, and 0 for its number
-abbrev pub at_place : Micro → List ℕ → Option RawInstr
-at_place op name = Some (record { op = op; name = place name })
+abbrev pub with_place_name : Micro → List ℕ → Option RawInstr
+with_place_name op name = Some (record { op = op; name = place name })
 
 -- an operation with the name of its label, and 0 for its number
 abbrev pub at_label : Micro → List ℕ → Option RawInstr
@@ -91,12 +91,12 @@ raw_with kinds.Sum (found_register d ∷ found_register a ∷ found_register b �
 raw_with kinds.Load (found_register d ∷ found_register a ∷ []) = unnamed (ops.Load d a None)
 raw_with kinds.LoadIndexed (found_register d ∷ found_register a ∷ found_register i ∷ []) = unnamed (ops.Load d a (Some i))
 raw_with kinds.LoadIndexFirst (found_register d ∷ found_register i ∷ found_register a ∷ []) = unnamed (ops.Load d a (Some i))
-raw_with (kinds.LoadInto r) (found_place name ∷ []) = at_place (ops.LoadAt r 0) name
+raw_with (kinds.LoadInto r) (found_place name ∷ []) = with_place_name (ops.LoadAt r 0) name
 raw_with kinds.LoadAcquire (found_register d ∷ found_register a ∷ []) = unnamed (ops.LoadAcq d a)
 raw_with kinds.Store (found_register s ∷ found_register a ∷ []) = unnamed (ops.Store s a None)
 raw_with kinds.StoreIndexed (found_register s ∷ found_register a ∷ found_register i ∷ []) = unnamed (ops.Store s a (Some i))
 raw_with kinds.StoreIndexFirst (found_register s ∷ found_register i ∷ found_register a ∷ []) = unnamed (ops.Store s a (Some i))
-raw_with kinds.StoreNumber (found_place name ∷ found_number n ∷ []) = at_place (ops.StoreAt 0 n) name
+raw_with kinds.StoreNumber (found_place name ∷ found_number n ∷ []) = with_place_name (ops.StoreAt 0 n) name
 raw_with kinds.StoreRelease (found_register s ∷ found_register a ∷ []) = unnamed (ops.StoreRel s a)
 raw_with kinds.Compare (found_register a ∷ found_register b ∷ []) = unnamed (ops.Cmp a b)
 raw_with kinds.BranchEqual (found_label name ∷ []) = at_label (ops.BranchEq 0) name

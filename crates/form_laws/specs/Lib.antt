@@ -1,3 +1,3 @@
 pub mod Kinds
 pub mod Tables
-pub mod Clear
+pub mod ClearTables

@@ -4,11 +4,11 @@ use Rattle.std.specs.Prelude.{ℕ, ◌+◌, ◌-◌, ◌==◌, Bool, true, false
 use Rattle.std.specs.List.{list_any}
 use Rattle.std.specs.Str.{bytes_eq}
 use Rattle.std.specs.Fmt.{decimal}
-use Rattle.text_laws.specs.Numbers.{number_of}
+use Rattle.text_laws.specs.NumberTexts.{number_of}
 use Rattle.micro_ops.specs.declared.operation.Micro.{Micro}
 use Rattle.micro_ops.specs.declared.operation.Micro.TheVariants as ops
 use Rattle.arch_trait.specs.Forms.{label_alone}
-use Rattle.arch_trait.specs.Reading.{few}
+use Rattle.arch_trait.specs.InstructionReading.{few}
 use Rattle.arch_trait.specs.Writing.{OperandTexts, none, one, two, three, four, more, Written, Writing, RawInstr, immediate, register_at, label_name, label_word}
 use Rattle.form_laws.specs.declared.form.Hole.{Hole}
 use Rattle.form_laws.specs.declared.form.Hole.TheVariants as holes
@@ -79,14 +79,14 @@ after_hole _ [] = []
 after_hole _ (v ∷ vs) = vs
 
 -- the holes can hold these operands, in order, and all of them
-unfoldable pub fits : List PieceText → List Operand → Bool
-fits [] [] = true
-fits [] (v ∷ vs) = false
-fits (p ∷ ps) vs = fits_first p.hole vs && fits ps (after_hole p.hole vs)
+unfoldable pub operands_fit : List PieceText → List Operand → Bool
+operands_fit [] [] = true
+operands_fit [] (v ∷ vs) = false
+operands_fit (p ∷ ps) vs = fits_first p.hole vs && operands_fit ps (after_hole p.hole vs)
 
 -- the holes can hold the operands of an operation, where it is of the kind
 abbrev pub fits_if : List PieceText → Option (List Operand) → Bool
-fits_if ps (Some vs) = fits ps vs
+fits_if ps (Some vs) = operands_fit ps vs
 fits_if ps None = false
 
 -- an instruction of this form does the operation
@@ -104,26 +104,26 @@ table_has t (ops.Label l) = are_known t.labels
 table_has t op = list_any (does op) t.forms
 
 -- what is in a hole
-abbrev pub filled : (ℕ → List ℕ) → Hole → List Operand → List ℕ
-filled names (holes.Register first count) (operands.Register r ∷ vs) = decimal (first + r)
-filled names holes.Number (operands.Number n ∷ vs) = decimal n
-filled names holes.Place (operands.Place p ∷ vs) = names p
-filled names holes.Label (operands.Label l ∷ vs) = label_name l
-filled names _ _ = []
+abbrev pub hole_filled : (ℕ → List ℕ) → Hole → List Operand → List ℕ
+hole_filled names (holes.Register first count) (operands.Register r ∷ vs) = decimal (first + r)
+hole_filled names holes.Number (operands.Number n ∷ vs) = decimal n
+hole_filled names holes.Place (operands.Place p ∷ vs) = names p
+hole_filled names holes.Label (operands.Label l ∷ vs) = label_name l
+hole_filled names _ _ = []
 
 -- the texts of an instruction's operands
 unfoldable pub piece_texts : (ℕ → List ℕ) → List PieceText → List Operand → List (List ℕ)
 piece_texts names [] vs = []
-piece_texts names (p ∷ ps) vs = (p.before ++ (filled names p.hole vs ++ p.after)) ∷ piece_texts names ps (after_hole p.hole vs)
+piece_texts names (p ∷ ps) vs = (p.before ++ (hole_filled names p.hole vs ++ p.after)) ∷ piece_texts names ps (after_hole p.hole vs)
 
 -- the operands of an operation, none where it is of another kind
-abbrev pub given : Option (List Operand) → List Operand
-given (Some vs) = vs
-given None = []
+abbrev pub given_operands : Option (List Operand) → List Operand
+given_operands (Some vs) = vs
+given_operands None = []
 
 -- an operation as an instruction of this form
 abbrev pub form_written : (ℕ → List ℕ) → Micro → FormText → Written
-form_written names op f = record { word = f.word; operands = few (piece_texts names f.pieces (given (operands_of f.kind op))) }
+form_written names op f = record { word = f.word; operands = few (piece_texts names f.pieces (given_operands (operands_of f.kind op))) }
 
 -- an operation as the first instruction that does it
 unfoldable pub first_written : (ℕ → List ℕ) → Micro → List FormText → Written
@@ -160,16 +160,16 @@ unfoldable pub piece_found : PieceText → List ℕ → Option (List FoundOperan
 piece_found p text = option_and_then (hole_found p.hole) (option_and_then (before_suffix p.after) (after_prefix p.before text))
 
 -- the operands of one text and those of the next, where both are operands
-abbrev pub joined : Option (List FoundOperand) → Option (List FoundOperand) → Option (List FoundOperand)
-joined (Some xs) (Some ys) = Some (xs ++ ys)
-joined _ _ = None
+abbrev pub joined_operands : Option (List FoundOperand) → Option (List FoundOperand) → Option (List FoundOperand)
+joined_operands (Some xs) (Some ys) = Some (xs ++ ys)
+joined_operands _ _ = None
 
 -- the operands that texts are by their forms, where there are as many
 unfoldable pub pieces_found : List PieceText → List (List ℕ) → Option (List FoundOperand)
 pieces_found [] [] = Some []
 pieces_found [] (t ∷ ts) = None
 pieces_found (p ∷ ps) [] = None
-pieces_found (p ∷ ps) (t ∷ ts) = joined (piece_found p t) (pieces_found ps ts)
+pieces_found (p ∷ ps) (t ∷ ts) = joined_operands (piece_found p t) (pieces_found ps ts)
 
 -- the operands of an instruction of this form
 abbrev pub form_found : FormText → List ℕ → List (List ℕ) → Option (List FoundOperand)
@@ -180,10 +180,10 @@ abbrev pub raw_or : Kind → Option (List FoundOperand) → Option RawInstr → 
 raw_or kind (Some vs) other = raw_with kind vs
 raw_or kind None other = other
 
--- the instruction of the first form that fits, else another
-unfoldable pub first_read : List FormText → List ℕ → List (List ℕ) → Option RawInstr → Option RawInstr
-first_read [] word ts other = other
-first_read (f ∷ fs) word ts other = raw_or f.kind (form_found f word ts) (first_read fs word ts other)
+-- the instruction of the first form that operands_fit, else another
+unfoldable pub first_form_read : List FormText → List ℕ → List (List ℕ) → Option RawInstr → Option RawInstr
+first_form_read [] word ts other = other
+first_form_read (f ∷ fs) word ts other = raw_or f.kind (form_found f word ts) (first_form_read fs word ts other)
 
 -- the texts of operands, of at most four
 abbrev pub texts_in : OperandTexts → Option (List (List ℕ))
@@ -201,7 +201,7 @@ label_read labels.Unknown w = None
 
 -- the instruction of a word and its operands by the table, none where there are more than four
 abbrev pub raw_if : TableText → Written → Option (List (List ℕ)) → Option RawInstr
-raw_if t w (Some ts) = first_read t.forms w.word ts (label_read t.labels w)
+raw_if t w (Some ts) = first_form_read t.forms w.word ts (label_read t.labels w)
 raw_if t w None = None
 
 -- the instruction that is written so

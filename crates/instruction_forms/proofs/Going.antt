@@ -6,16 +6,16 @@ use Rattle.std.proofs.lemmas.Bool.Decides.{nat_tests}
 use Rattle.form_laws.specs.declared.form.Piece.{Piece}
 use Rattle.std.proofs.Math.Seq.{take-length}
 use Rattle.form_laws.specs.declared.kind.Operand.{Operand}
-use Rattle.form_laws.specs.Tables.{piece_seen, fits_first, after_hole, fits, filled}
-use Rattle.form_laws.specs.Clear.{is_piece_good, most_in, most_of}
-use Rattle.instruction_forms.specs.Printing.{piece_text, byte_before, joined_texts, Ready, ReadyPiece}
+use Rattle.form_laws.specs.Tables.{piece_seen, fits_first, after_hole, operands_fit, hole_filled}
+use Rattle.form_laws.specs.ClearTables.{is_piece_good, most_in, most_of}
+use Rattle.instruction_forms.specs.Printing.{piece_text, byte_before, joined_texts, ReadyToPrint, ReadyPiece}
 use Rattle.instruction_forms.proofs.Room.{filled_short, hole_good, short_after, after_of, byte_one}
 
 -- operands are printed as far as those that are left, to a text that is whole, if they fit
 pub record Going (names : ℕ → List ℕ) (whole : List ℕ) (all : Bool) (out : List ℕ) (left : List Piece) (vs : List Operand) : Type 0 where
   pub same : out ++ joined_texts names (map piece_seen left) vs ≡ whole
-  pub fit : fits (map piece_seen left) vs ≡ all
-  pub ready : Ready names (length out) (map piece_seen left) vs
+  pub fit : operands_fit (map piece_seen left) vs ≡ all
+  pub ready : ReadyToPrint names (length out) (map piece_seen left) vs
 
 -- there is room for the first operand that is left
 pub going_piece : (names : ℕ → List ℕ) (whole : List ℕ) (all : Bool) (out : List ℕ) (left : List Piece) (vs : List Operand) (d : Piece) → 1 ≤ length left →
@@ -31,10 +31,10 @@ going_piece names whole all out (p ∷ ps) vs d l g = record {
 -- where the first hole that is left can't hold its operand, the operands don't fit
 pub going_stops : (names : ℕ → List ℕ) (whole : List ℕ) (all : Bool) (out : List ℕ) (left : List Piece) (vs : List Operand) (d : Piece) → 1 ≤ length left →
     Going names whole all out left vs → fits_first (get_or left 0 d).hole vs ≡ false → all ≡ false
-unfolding fits
+unfolding operands_fit
 going_stops names whole all out [] vs d l g h = absurd (omega (arith, l))
 going_stops names whole all out (p ∷ ps) vs d l g h =
-    sym g.fit ∙ ap (λ b. b && fits (map piece_seen ps) (after_hole p.hole vs)) h
+    sym g.fit ∙ ap (λ b. b && operands_fit (map piece_seen ps) (after_hole p.hole vs)) h
 
 record First (names : ℕ → List ℕ) (whole : List ℕ) (all : Bool) (out : List ℕ) (ps : List Piece) (vs : List Operand) : Type 0 where
   comma : length (out ++ byte_before 44 (map piece_seen ps)) ≤ 40
@@ -43,19 +43,19 @@ record First (names : ℕ → List ℕ) (whole : List ℕ) (all : Bool) (out : L
 first_done : (names : ℕ → List ℕ) (whole : List ℕ) (all : Bool) (out : List ℕ) (p : Piece) (ps : List Piece) (vs : List Operand) →
     Going names whole all out (p ∷ ps) vs → fits_first p.hole vs ≡ true →
     First names whole all (out ++ piece_text names (piece_seen p) vs) ps (after_hole p.hole vs)
-unfolding most_of fits
+unfolding most_of operands_fit
 first_done names whole all out p ps vs g f =
     let good = and_parts (is_piece_good (piece_seen p)) (list_all is_piece_good (map piece_seen ps)) g.ready.good in
     let here = filled_short names p.hole vs g.ready.short (hole_good (piece_seen p) good.0) f in
     let text = piece_text names (piece_seen p) vs in
     let comma = byte_before 44 (map piece_seen ps) in
     let long : length text ≤ length p.before.now + (most_in p.hole + length p.after.now) =
-    omega (arith, here, length-append p.before.now (filled names p.hole vs ++ p.after.now), length-append (filled names p.hole vs) p.after.now) in
+    omega (arith, here, length-append p.before.now (hole_filled names p.hole vs ++ p.after.now), length-append (hole_filled names p.hole vs) p.after.now) in
     record {
       comma = omega (arith, g.ready.room, long, after_of (map piece_seen ps) 44, length-append (out ++ text) comma, length-append out text);
       going = record {
         same = simp append_assoc (simp append_assoc at g.same);
-        fit = sym (ap (λ b. b && fits (map piece_seen ps) (after_hole p.hole vs)) f) ∙ g.fit;
+        fit = sym (ap (λ b. b && operands_fit (map piece_seen ps) (after_hole p.hole vs)) f) ∙ g.fit;
         ready = record {
           good = good.1;
           short = short_after names p.hole vs g.ready.short;
@@ -71,7 +71,7 @@ pub going_comma : (names : ℕ → List ℕ) (whole : List ℕ) (all : Bool) (ou
 going_comma names whole all out [] vs d more l g f e = absurd (omega (arith, l))
 going_comma names whole all out (p ∷ ps) vs d more l g f e =
     let n : length (p ∷ ps) - 1 ≡ length ps = omega arith in
-    let P : List Piece → Type 0 = (λ behind. length (more ++ byte_before 44 (map piece_seen behind)) ≤ 40) in
+    let P : List Piece → Type 0 = (λ remainder. length (more ++ byte_before 44 (map piece_seen remainder)) ≤ 40) in
     let Q : List ℕ → Type 0 = (λ text. length (text ++ byte_before 44 (map piece_seen ps)) ≤ 40) in
     subst P (sym (ap (λ n. take n ps) n ∙ take-length ps)) (subst Q (sym e) (first_done names whole all out p ps vs g f).comma)
 
@@ -86,8 +86,8 @@ going_on names whole all out (p ∷ ps) vs d more next rest l g f e k m =
     let n : length (p ∷ ps) - 1 ≡ length ps = omega arith in
     let b : take (length (p ∷ ps) - 1) ps ≡ ps = ap (λ n. take n ps) n ∙ take-length ps in
     let t : next ≡ (out ++ piece_text names (piece_seen p) vs) ++ byte_before 44 (map piece_seen ps) =
-    k ∙ (ap (λ behind. more ++ byte_before 44 (map piece_seen behind)) b ∙ ap (λ text. text ++ byte_before 44 (map piece_seen ps)) e) in
-    let P : List Piece → Type 0 = (λ behind. Going names whole all next behind rest) in
+    k ∙ (ap (λ remainder. more ++ byte_before 44 (map piece_seen remainder)) b ∙ ap (λ text. text ++ byte_before 44 (map piece_seen ps)) e) in
+    let P : List Piece → Type 0 = (λ remainder. Going names whole all next remainder rest) in
     let Q : List ℕ → Type 0 = (λ text. Going names whole all text ps rest) in
     let R : List Operand → Type 0 = (λ us. Going names whole all ((out ++ piece_text names (piece_seen p) vs) ++ byte_before 44 (map piece_seen ps)) ps us) in
     subst P (sym b) (subst Q (sym t) (subst R (sym m) (first_done names whole all out p ps vs g f).going))
@@ -97,8 +97,8 @@ pub record Ended (whole : List ℕ) (all : Bool) (out : List ℕ) (vs : List Ope
   pub text : out ≡ whole
   pub fit : (length vs == 0) ≡ all
 
-empty_fits : (vs : List Operand) → (length vs == 0) ≡ fits [] vs
-unfolding fits
+empty_fits : (vs : List Operand) → (length vs == 0) ≡ operands_fit [] vs
+unfolding operands_fit
 empty_fits [] = refl
 empty_fits (v ∷ vs) = grind (arith, nat_tests)
 

@@ -4,13 +4,13 @@ use Rattle.std.specs.List.{list_any, list_all}
 use Rattle.std.proofs.lemmas.Bool.{and_parts, leb-true}
 use Rattle.micro_ops.specs.declared.operation.Micro.{Micro}
 use Rattle.micro_ops.specs.declared.operation.Micro.TheVariants as ops
-use Rattle.arch_trait.specs.Reading.{few}
-use Rattle.arch_trait.specs.Writing.{listed, text_of}
+use Rattle.arch_trait.specs.InstructionReading.{few}
+use Rattle.arch_trait.specs.Writing.{listed, written_text}
 use Rattle.form_laws.specs.declared.kind.Operand.{Operand}
 use Rattle.form_laws.specs.Kinds.{operands_of}
 use Rattle.form_laws.specs.declared.form.Form.{Form}
-use Rattle.form_laws.specs.Tables.{PieceText, FormText, TableText, piece_seen, form_seen, table_has, does, given, piece_texts, form_written, first_written}
-use Rattle.form_laws.specs.Clear.{is_clear, forms_apart, is_piece_good, is_form_good}
+use Rattle.form_laws.specs.Tables.{PieceText, FormText, TableText, piece_seen, form_seen, table_has, does, given_operands, piece_texts, form_written, first_written}
+use Rattle.form_laws.specs.ClearTables.{is_clear, forms_apart, is_piece_good, is_form_good}
 use Rattle.std.proofs.Math.Seq.{take-length}
 use Rattle.instruction_forms.specs.Printing.{byte_before, joined_texts, form_text}
 
@@ -36,11 +36,11 @@ good_here f fs h = (and_parts (is_form_good f) (list_all (forms_apart f) fs && i
 
 -- where the first form does the operation, its text is that of the operation
 pub first_here : (names : ℕ → List ℕ) (op : Micro) (f : FormText) (fs : List FormText) → does op f ≡ true → is_clear (f ∷ fs) ≡ true →
-    text_of (first_written names op (f ∷ fs)) ≡ form_text names f.word f.pieces (given (operands_of f.kind op))
+    written_text (first_written names op (f ∷ fs)) ≡ form_text names f.word f.pieces (given_operands (operands_of f.kind op))
 unfolding first_written is_clear
 first_here names op f fs h c =
-    ap (λ b. text_of (cond b (form_written names op f) (first_written names op fs))) h ∙
-    ap (λ t. f.word ++ t) (commas_are names f.pieces (given (operands_of f.kind op)) (few_pieces f (good_here f fs c)))
+    ap (λ b. written_text (cond b (form_written names op f) (first_written names op fs))) h ∙
+    ap (λ t. f.word ++ t) (commas_are names f.pieces (given_operands (operands_of f.kind op)) (few_pieces f (good_here f fs c)))
 
 -- where the first form doesn't do the operation, the others write it
 pub first_after : (names : ℕ → List ℕ) (op : Micro) (f : FormText) (fs : List FormText) → does op f ≡ false →
@@ -86,10 +86,10 @@ walk_on names op whole (f ∷ fs) d l w h =
 -- where the first form that is left does the operation, its text is that of the operation
 pub walk_found : (names : ℕ → List ℕ) (op : Micro) (whole left : List Form) (d : Form) → 1 ≤ length left → Walk names op whole left →
     does op (form_seen (get_or left 0 d)) ≡ true → form_text names (get_or left 0 d).word.now (map piece_seen (get_or left 0 d).pieces.now)
-    (given (operands_of (get_or left 0 d).kind op)) ≡ text_of (first_written names op (map form_seen whole))
+    (given_operands (operands_of (get_or left 0 d).kind op)) ≡ written_text (first_written names op (map form_seen whole))
 walk_found names op whole [] d l w h = absurd (omega (arith, l))
 walk_found names op whole (f ∷ fs) d l w h =
-    sym (first_here names op (form_seen f) (map form_seen fs) h w.clear) ∙ ap text_of w.same
+    sym (first_here names op (form_seen f) (map form_seen fs) h w.clear) ∙ ap written_text w.same
 
 -- a walk that is under way has a form left
 pub walk_ends : (names : ℕ → List ℕ) (op : Micro) (whole left : List Form) → length left < 1 → Walk names op whole left → ⊥

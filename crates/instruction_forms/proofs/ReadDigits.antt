@@ -2,7 +2,7 @@
 use Rattle.std.proofs.Common.{ℕ, ◌+◌, ◌-◌, ◌*◌, ◌/◌, ◌%◌, ◌<◌, ◌≤◌, ◌≡◌, List, [], ◌∷◌, ◌++◌, Some, length, get_or, ap, sym, ◌∙◌, refl, arith}
 use Rattle.std.specs.Fmt.{decimal}
 use Rattle.std.proofs.lemmas.Fmt.{decimal_digit, decimal_step}
-use Rattle.text_laws.specs.Numbers.{number_of}
+use Rattle.text_laws.specs.NumberTexts.{number_of}
 use Rattle.text_laws.proofs.NumberLaws.{number_of-decimal}
 
 -- a digit is the decimal of its number

@@ -12,16 +12,16 @@ use Rattle.form_laws.specs.declared.form.Labels.{Labels}
 use Rattle.form_laws.specs.declared.form.Labels.TheVariants as labels
 use Rattle.form_laws.specs.declared.kind.Kind.{Kind}
 use Rattle.form_laws.specs.Kinds.{FoundOperand, raw_with}
-use Rattle.form_laws.specs.Tables.{FormText, piece_seen, form_seen, joined, pieces_found, form_found, after_prefix, before_suffix, raw_or, first_read, label_read, texts_in, raw_if}
+use Rattle.form_laws.specs.Tables.{FormText, piece_seen, form_seen, joined_operands, pieces_found, form_found, after_prefix, before_suffix, raw_or, first_form_read, label_read, texts_in, raw_if}
 use Rattle.instruction_forms.specs.Founds.{texts_seen, form_raw, forms_raw}
 
--- no operands, joined to others, change nothing
-pub join_nothing : (o : Option (List FoundOperand)) → joined (Some []) o ≡ o
+-- no operands, joined_operands to others, change nothing
+pub join_nothing : (o : Option (List FoundOperand)) → joined_operands (Some []) o ≡ o
 join_nothing None = refl
 join_nothing (Some xs) = refl
 
--- operands that are joined twice may be joined in any grouping
-pub join_joined : (o p q : Option (List FoundOperand)) → joined (joined o p) q ≡ joined o (joined p q)
+-- operands that are joined_operands twice may be joined_operands in any grouping
+pub join_joined : (o p q : Option (List FoundOperand)) → joined_operands (joined_operands o p) q ≡ joined_operands o (joined_operands p q)
 join_joined None p q = refl
 join_joined (Some xs) None q = refl
 join_joined (Some xs) (Some ys) None = refl
@@ -46,24 +46,24 @@ by_none kind (Some vs) other h = cc
 -- the first of some forms fits, or doesn't
 form_fits : (f : FormText) (fs : List FormText) (labels : Labels) (word : List ℕ) (texts : OperandTexts) (raw : Option RawInstr) →
     form_raw f word texts ≡ Some raw → forms_raw (f ∷ fs) labels word texts ≡ raw
-unfolding first_read
+unfolding first_form_read
 form_fits f fs labels word texts raw h = by_texts (texts_in texts) h
   where
     by_texts : (o : Option (List (List ℕ))) → option_map (raw_with f.kind) (option_and_then (form_found f word) o) ≡ Some raw →
         raw_if (record { forms = f ∷ fs; labels = labels }) (record { word = word; operands = texts }) o ≡ raw
     by_texts None h = cc
-    by_texts (Some ts) h = by_found f.kind (form_found f word ts) (first_read fs word ts (label_read labels (record { word = word; operands = texts }))) raw h
+    by_texts (Some ts) h = by_found f.kind (form_found f word ts) (first_form_read fs word ts (label_read labels (record { word = word; operands = texts }))) raw h
 
 form_not : (f : FormText) (fs : List FormText) (labels : Labels) (word : List ℕ) (texts : OperandTexts) →
     form_raw f word texts ≡ None → forms_raw (f ∷ fs) labels word texts ≡ forms_raw fs labels word texts
-unfolding first_read
+unfolding first_form_read
 form_not f fs labels word texts h = by_texts (texts_in texts) h
   where
     by_texts : (o : Option (List (List ℕ))) → option_map (raw_with f.kind) (option_and_then (form_found f word) o) ≡ None →
         raw_if (record { forms = f ∷ fs; labels = labels }) (record { word = word; operands = texts }) o ≡
         raw_if (record { forms = fs; labels = labels }) (record { word = word; operands = texts }) o
     by_texts None h = refl
-    by_texts (Some ts) h = by_none f.kind (form_found f word ts) (first_read fs word ts (label_read labels (record { word = word; operands = texts }))) h
+    by_texts (Some ts) h = by_none f.kind (form_found f word ts) (first_form_read fs word ts (label_read labels (record { word = word; operands = texts }))) h
 
 -- where the first form that is left fits, its instruction is read
 pub first_fits : (left : List Form) (d : Form) (labels : Labels) (word : List ℕ) (texts : OperandTexts) (raw : Option RawInstr) → 1 ≤ length left →
@@ -84,7 +84,7 @@ first_not (f ∷ fs) d labels word texts l h =
 -- where no form is left, a label alone is
 pub no_form : (left : List Form) (kept : Labels) (word : List ℕ) (texts : OperandTexts) → length left < 1 →
     forms_raw (map form_seen left) kept word texts ≡ label_read kept (record { word = word; operands = texts })
-unfolding first_read
+unfolding first_form_read
 no_form [] kept word texts l = by_texts kept texts
   where
     by_texts : (lone : Labels) (texts : OperandTexts) → forms_raw [] lone word texts ≡ label_read lone (record { word = word; operands = texts })

@@ -12,10 +12,10 @@ use Rattle.form_laws.specs.declared.kind.Operand.{Operand}
 use Rattle.form_laws.specs.declared.kind.Operand.TheVariants as operands
 use Rattle.form_laws.specs.declared.kind.Kind.{Kind}
 use Rattle.form_laws.specs.Kinds.{operands_of}
-use Rattle.form_laws.specs.Tables.{PieceText, FormText, fits_first, after_hole, filled, given}
-use Rattle.form_laws.specs.Clear.{is_fixed_byte, is_first_byte, is_hole_good, is_piece_good, is_form_good, most_in, most_of}
+use Rattle.form_laws.specs.Tables.{PieceText, FormText, fits_first, after_hole, hole_filled, given_operands}
+use Rattle.form_laws.specs.ClearTables.{is_fixed_byte, is_first_byte, is_hole_good, is_piece_good, is_form_good, most_in, most_of}
 use Rattle.form_laws.proofs.OfKind.{IsOf, loads_into, stores_number, by_kind}
-use Rattle.instruction_forms.specs.Printing.{byte_before, place_short, AllShort, Ready, ReadyPiece}
+use Rattle.instruction_forms.specs.Printing.{byte_before, place_short, AllShort, ReadyToPrint, ReadyPiece}
 
 -- a number below 10000 has at most four digits
 four_digits : (n : ℕ) → n < 10000 → length (decimal n) ≤ 4
@@ -27,8 +27,8 @@ all_short names (stores_number p n) h = (leb-true (length (names p)) 16 h, tt)
 all_short names is h = tt
 
 -- where the name of its place is short, an operation has short operands
-pub operands_short : (names : ℕ → List ℕ) (kind : Kind) (op : Micro) → place_short names op ≡ true → AllShort names (given (operands_of kind op))
-operands_short names kind op h = by_kind (λ o. AllShort names (given o)) kind op tt (λ vs is. all_short names is h)
+pub operands_short : (names : ℕ → List ℕ) (kind : Kind) (op : Micro) → place_short names op ≡ true → AllShort names (given_operands (operands_of kind op))
+operands_short names kind op h = by_kind (λ o. AllShort names (given_operands o)) kind op tt (λ vs is. all_short names is h)
 
 short_tail : (names : ℕ → List ℕ) (vs : List Operand) → AllShort names vs → AllShort names (after_hole holes.Number vs)
 short_tail names [] h = tt
@@ -51,7 +51,7 @@ short_after names holes.Label (v ∷ vs) h = short_tail names (v ∷ vs) h
 
 -- what is in a hole is no longer than the most that the hole takes
 pub filled_short : (names : ℕ → List ℕ) (hole : Hole) (vs : List Operand) → AllShort names vs → is_hole_good hole ≡ true →
-    fits_first hole vs ≡ true → length (filled names hole vs) ≤ most_in hole
+    fits_first hole vs ≡ true → length (hole_filled names hole vs) ≤ most_in hole
 filled_short names holes.Empty vs short g f = omega arith
 filled_short names (holes.Register first count) (operands.Register r ∷ vs) short g f =
     let a : r < count = ltb-true r count f in
@@ -84,14 +84,14 @@ parts_of f good =
 
 -- there is room for what is in a hole
 pub hole_room : (names : ℕ → List ℕ) (used : ℕ) (p : PieceText) (vs : List Operand) (out : List ℕ) → ReadyPiece names used p vs → fits_first p.hole vs ≡ true →
-    length out ≡ used + length p.before → length (out ++ filled names p.hole vs) ≤ 40
+    length out ≡ used + length p.before → length (out ++ hole_filled names p.hole vs) ≤ 40
 hole_room names used p vs out h f e =
     let here = filled_short names p.hole vs h.short (hole_good p h.good) f in
-    omega (arith, h.room, here, e, length-append out (filled names p.hole vs))
+    omega (arith, h.room, here, e, length-append out (hole_filled names p.hole vs))
 
 -- there is room for the fixed text after a hole
 pub after_room : (names : ℕ → List ℕ) (used : ℕ) (p : PieceText) (vs : List Operand) (out : List ℕ) → ReadyPiece names used p vs → fits_first p.hole vs ≡ true →
-    length out ≡ used + length p.before + length (filled names p.hole vs) → length (out ++ p.after) ≤ 40
+    length out ≡ used + length p.before + length (hole_filled names p.hole vs) → length (out ++ p.after) ≤ 40
 after_room names used p vs out h f e =
     let here = filled_short names p.hole vs h.short (hole_good p h.good) f in
     omega (arith, h.room, here, e, length-append out p.after)
@@ -109,7 +109,7 @@ byte_one (p ∷ ps) b = omega arith
 
 -- after a word and its blank there is room for the operands of a good form
 pub form_ready : (names : ℕ → List ℕ) (f : FormText) (vs : List Operand) (more next : List ℕ) → is_form_good f ≡ true → AllShort names vs →
-    more ≡ f.word → next ≡ more ++ byte_before 32 f.pieces → Ready names (length next) f.pieces vs
+    more ≡ f.word → next ≡ more ++ byte_before 32 f.pieces → ReadyToPrint names (length next) f.pieces vs
 form_ready names f vs more next good short e k =
     let parts = parts_of f good in
     record {
@@ -131,5 +131,5 @@ word_room f good = let parts = parts_of f good in omega (arith, parts.most)
 -- the operands that an operation gives are short
 pub given_are_short : (names : ℕ → List ℕ) (kind : Kind) (op : Micro) (vs : List Operand) → place_short names op ≡ true → Some vs ≡ operands_of kind op → AllShort names vs
 given_are_short names kind op vs h e =
-    let P : Option (List Operand) → Type 0 = (λ r. AllShort names (given r)) in
+    let P : Option (List Operand) → Type 0 = (λ r. AllShort names (given_operands r)) in
     subst P (sym e) (operands_short names kind op h)

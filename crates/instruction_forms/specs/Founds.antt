@@ -7,7 +7,7 @@ use Rattle.instruction_forms.specs.declared.found.Found.{Found}
 use Rattle.instruction_forms.specs.declared.found.Found.TheVariants as founds
 use Rattle.form_laws.specs.Kinds.{FoundOperand, found_register, found_number, found_place, found_label, raw_with}
 use Rattle.form_laws.specs.declared.form.Labels.{Labels}
-use Rattle.form_laws.specs.Tables.{PieceText, FormText, joined, form_found, pieces_found, texts_in, table_raw}
+use Rattle.form_laws.specs.Tables.{PieceText, FormText, joined_operands, form_found, pieces_found, texts_in, table_raw}
 
 -- what the code sees of an operand that was found
 abbrev pub found_seen : Found → FoundOperand
@@ -27,7 +27,7 @@ founds_if false founds = None
 
 -- these operands, and those that are found next, if each is found
 abbrev pub and_founds : List Found → Option (List FoundOperand) → Option (List FoundOperand)
-and_founds founds next = joined (Some (founds_seen founds)) next
+and_founds founds next = joined_operands (Some (founds_seen founds)) next
 
 -- what the code sees of the texts of operands
 abbrev pub texts_seen : List (Bor (List ℕ)) → List (List ℕ)

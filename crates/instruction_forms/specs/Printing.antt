@@ -11,17 +11,17 @@ use Rattle.instruction_forms.specs.declared.operand_list.OperandList.{OperandLis
 use Rattle.instruction_forms.specs.declared.sorts.Sort.{Sort}
 use Rattle.instruction_forms.specs.declared.sorts.Sort.TheVariants as sorts
 use Rattle.form_laws.specs.Kinds.{operands_of}
-use Rattle.form_laws.specs.Tables.{PieceText, FormText, filled, after_hole, given}
-use Rattle.form_laws.specs.Clear.{is_piece_good, most_in, most_of}
+use Rattle.form_laws.specs.Tables.{PieceText, FormText, hole_filled, after_hole, given_operands}
+use Rattle.form_laws.specs.ClearTables.{is_piece_good, most_in, most_of}
 use Rattle.std.specs.List.{list_all}
 
 -- the operands that a list has
-abbrev pub operands_in : OperandList → List Operand
-operands_in l = take l.count l.items
+abbrev pub listed_operands : OperandList → List Operand
+listed_operands l = take l.count l.items
 
 -- the text of an operand
 abbrev pub piece_text : (ℕ → List ℕ) → PieceText → List Operand → List ℕ
-piece_text names p vs = p.before ++ (filled names p.hole vs ++ p.after)
+piece_text names p vs = p.before ++ (hole_filled names p.hole vs ++ p.after)
 
 -- a byte before operands, if there are any
 abbrev pub byte_before : ℕ → List PieceText → List ℕ
@@ -38,8 +38,8 @@ abbrev pub form_text : (ℕ → List ℕ) → List ℕ → List PieceText → Li
 form_text names word ps vs = word ++ (byte_before 32 ps ++ joined_texts names ps vs)
 
 -- the text of an operation as an instruction of a form
-abbrev pub op_text : (ℕ → List ℕ) → Micro → FormText → List ℕ
-op_text names op f = form_text names f.word f.pieces (given (operands_of f.kind op))
+abbrev pub form_op_text : (ℕ → List ℕ) → Micro → FormText → List ℕ
+form_op_text names op f = form_text names f.word f.pieces (given_operands (operands_of f.kind op))
 
 -- each place of operands has a name of at most 16 bytes
 abbrev pub AllShort : (ℕ → List ℕ) → List Operand → Type 0
@@ -56,7 +56,7 @@ pub record ReadyPiece (names : ℕ → List ℕ) (used : ℕ) (p : PieceText) (v
   pub room : used + (length p.before + (most_in p.hole + length p.after)) ≤ 40
 
 -- after so many bytes there is room for operands with commas between
-pub record Ready (names : ℕ → List ℕ) (used : ℕ) (ps : List PieceText) (vs : List Operand) : Type 0 where
+pub record ReadyToPrint (names : ℕ → List ℕ) (used : ℕ) (ps : List PieceText) (vs : List Operand) : Type 0 where
   pub good : list_all is_piece_good ps ≡ true
   pub short : AllShort names vs
   pub room : used + most_of ps ≤ 41

@@ -1,5 +1,5 @@
 ghost use Rattle.std.specs.Prelude.{◌≡◌, map};
-ghost use Rattle.form_laws.specs.Tables.{piece_seen, form_seen, fits_first, after_hole, fits, does};
+ghost use Rattle.form_laws.specs.Tables.{piece_seen, form_seen, fits_first, after_hole, operands_fit, does};
 
 use crate::operands::operands_of;
 use arch_trait::MAX_IMMEDIATE;
@@ -17,14 +17,14 @@ pub(crate) fn does(form: &Form, op: &Micro) -> bool
 }
 
 /// Whether the holes can hold these operands, in order, and all of them.
-#[tactic(auto, unfolding(form_laws::specs::Tables::fits))]
+#[tactic(auto, unfolding(form_laws::specs::Tables::operands_fit))]
 fn fits(pieces: &[Piece], operands: &[Operand]) -> bool
-    ensures { result ≡ fits (map piece_seen pieces.now) operands.now }
+    ensures { result ≡ operands_fit (map piece_seen pieces.now) operands.now }
 {
     match pieces {
         [] => operands.is_empty(),
-        [piece, behind @ ..] => {
-            fits_first(piece.hole, operands) && fits(behind, after_hole(piece.hole, operands))
+        [piece, remainder @ ..] => {
+            fits_first(piece.hole, operands) && fits(remainder, after_hole(piece.hole, operands))
         }
     }
 }
@@ -52,6 +52,6 @@ pub(crate) fn after_hole(hole: Hole, operands: &[Operand]) -> &[Operand]
     match (hole, operands) {
         (Hole::Empty, _) => operands,
         (_, []) => operands,
-        (_, [_, behind @ ..]) => behind,
+        (_, [_, remainder @ ..]) => remainder,
     }
 }

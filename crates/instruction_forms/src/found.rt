@@ -1,7 +1,7 @@
 ghost use Rattle.std.specs.Prelude.{◌≡◌, ◌<◌, ◌≤◌, ◌+◌, ◌∷◌, [], Some, option_map};
 ghost use Rattle.arrayvec.specs.ArrayVec.{array_vec_len};
-ghost use Rattle.arch_trait.specs.Pieces.{raw_seen};
-ghost use Rattle.form_laws.specs.Kinds.{raw_with, unnamed, at_place, at_label};
+ghost use Rattle.arch_trait.specs.InstructionPieces.{raw_seen};
+ghost use Rattle.form_laws.specs.Kinds.{raw_with, unnamed, with_place_name, at_label};
 ghost use Rattle.form_laws.specs.Tables.{hole_found};
 ghost use Rattle.instruction_forms.specs.Founds.{and_founds, found_seen, founds_seen, founds_if};
 
@@ -217,7 +217,7 @@ fn raw_unnamed(op: Micro) -> Option<Raw<'static>>
 }
 
 fn at_place(op: Micro, name: &[u8]) -> Option<Raw<'_>>
-    ensures { raw_seen result ≡ at_place op name.now }
+    ensures { raw_seen result ≡ with_place_name op name.now }
 {
     Some(Raw {
         op,

@@ -25,7 +25,7 @@ fn any_does(forms: &[Form], op: &Micro, sort: Sort) -> bool
 {
     match forms {
         [] => false,
-        [form, behind @ ..] => { does_of_sort(form, op, sort) || any_does(behind, op, sort) }
+        [form, remainder @ ..] => { does_of_sort(form, op, sort) || any_does(remainder, op, sort) }
     }
 }
 

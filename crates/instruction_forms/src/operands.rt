@@ -1,6 +1,6 @@
 ghost use Rattle.std.specs.Prelude.{◌≡◌, ◌≤◌, ◌∷◌, [], Some, option_map};
 ghost use Rattle.form_laws.specs.Kinds.{barrier_number, pick_number, same_barrier, operands_of};
-ghost use Rattle.instruction_forms.specs.Printing.{operands_in};
+ghost use Rattle.instruction_forms.specs.Printing.{listed_operands};
 
 use crate::operand_list::OperandList;
 use form_laws::{Kind, Operand};
@@ -10,7 +10,7 @@ use relax_edges::{FenceKind, Pick};
 /// The operands of an operation in the order of a kind. None where it is not of that kind.
 #[inline(always)]
 pub fn operands_of(kind: &Kind, op: &Micro) -> Option<OperandList>
-    ensures { option_map operands_in result ≡ operands_of kind.now op.now }
+    ensures { option_map listed_operands result ≡ operands_of kind.now op.now }
 {
     use Operand::{Label, Number, Place, Register};
     match (*kind, *op) {
@@ -45,14 +45,14 @@ pub fn operands_of(kind: &Kind, op: &Micro) -> Option<OperandList>
 
 #[inline]
 fn two(a: Operand, b: Operand) -> Option<OperandList>
-    ensures { option_map operands_in result ≡ Some (a ∷ b ∷ []) }
+    ensures { option_map listed_operands result ≡ Some (a ∷ b ∷ []) }
 {
     Some(OperandList::two(a, b))
 }
 
 #[inline]
 fn registers(a: u8, b: u8, c: u8) -> Option<OperandList>
-    ensures { option_map operands_in result ≡ Some (Operand.Register a ∷ Operand.Register b ∷ Operand.Register c ∷ []) }
+    ensures { option_map listed_operands result ≡ Some (Operand.Register a ∷ Operand.Register b ∷ Operand.Register c ∷ []) }
 {
     Some(OperandList::three(
         Operand::Register(a),
@@ -64,8 +64,8 @@ fn registers(a: u8, b: u8, c: u8) -> Option<OperandList>
 /// The operands of an access without an index.
 #[inline]
 fn operands_without_index(r: u8, base: u8, index: Option<u8>) -> Option<OperandList>
-    ensures load { option_map operands_in result ≡ operands_of Kind.Load (Micro.Load r base index) }
-    ensures store { option_map operands_in result ≡ operands_of Kind.Store (Micro.Store r base index) }
+    ensures load { option_map listed_operands result ≡ operands_of Kind.Load (Micro.Load r base index) }
+    ensures store { option_map listed_operands result ≡ operands_of Kind.Store (Micro.Store r base index) }
 {
     match index {
         None => two(Operand::Register(r), Operand::Register(base)),
@@ -76,8 +76,8 @@ fn operands_without_index(r: u8, base: u8, index: Option<u8>) -> Option<OperandL
 /// The operands of an access with an index, the base first.
 #[inline]
 fn operands_with_index(r: u8, base: u8, index: Option<u8>) -> Option<OperandList>
-    ensures load { option_map operands_in result ≡ operands_of Kind.LoadIndexed (Micro.Load r base index) }
-    ensures store { option_map operands_in result ≡ operands_of Kind.StoreIndexed (Micro.Store r base index) }
+    ensures load { option_map listed_operands result ≡ operands_of Kind.LoadIndexed (Micro.Load r base index) }
+    ensures store { option_map listed_operands result ≡ operands_of Kind.StoreIndexed (Micro.Store r base index) }
 {
     match index {
         Some(i) => registers(r, base, i),
@@ -88,8 +88,8 @@ fn operands_with_index(r: u8, base: u8, index: Option<u8>) -> Option<OperandList
 /// The operands of an access with an index, this first.
 #[inline]
 fn index_first(r: u8, base: u8, index: Option<u8>) -> Option<OperandList>
-    ensures load { option_map operands_in result ≡ operands_of Kind.LoadIndexFirst (Micro.Load r base index) }
-    ensures store { option_map operands_in result ≡ operands_of Kind.StoreIndexFirst (Micro.Store r base index) }
+    ensures load { option_map listed_operands result ≡ operands_of Kind.LoadIndexFirst (Micro.Load r base index) }
+    ensures store { option_map listed_operands result ≡ operands_of Kind.StoreIndexFirst (Micro.Store r base index) }
 {
     match index {
         Some(i) => registers(r, i, base),
@@ -99,7 +99,7 @@ fn index_first(r: u8, base: u8, index: Option<u8>) -> Option<OperandList>
 
 #[inline]
 fn with_number(a: u8, b: u8, n: u32) -> Option<OperandList>
-    ensures { option_map operands_in result ≡ Some (Operand.Register a ∷ Operand.Register b ∷ Operand.Number n ∷ []) }
+    ensures { option_map listed_operands result ≡ Some (Operand.Register a ∷ Operand.Register b ∷ Operand.Number n ∷ []) }
 {
     Some(OperandList::three(
         Operand::Register(a),
@@ -110,7 +110,7 @@ fn with_number(a: u8, b: u8, n: u32) -> Option<OperandList>
 
 #[inline]
 fn load_into(r: u8, dst: u8, place: u8) -> Option<OperandList>
-    ensures { option_map operands_in result ≡ operands_of (Kind.LoadInto r) (Micro.LoadAt dst place) }
+    ensures { option_map listed_operands result ≡ operands_of (Kind.LoadInto r) (Micro.LoadAt dst place) }
 {
     if dst == r {
         Some(OperandList::one(Operand::Place(place)))
@@ -121,7 +121,7 @@ fn load_into(r: u8, dst: u8, place: u8) -> Option<OperandList>
 
 #[inline]
 fn order(barrier: Barrier, other: Barrier) -> Option<OperandList>
-    ensures { option_map operands_in result ≡ operands_of (Kind.Order barrier) (Micro.Barrier other) }
+    ensures { option_map listed_operands result ≡ operands_of (Kind.Order barrier) (Micro.Barrier other) }
 {
     if barrier_number(barrier) == barrier_number(other) {
         Some(OperandList::none())

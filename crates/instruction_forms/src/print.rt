@@ -1,9 +1,9 @@
 ghost use Rattle.std.specs.Prelude.{◌≡◌, ◌<◌, ◌≤◌, ◌++◌, [], true, false, map, length};
 ghost use Rattle.std.specs.List.{list_any};
-ghost use Rattle.arch_trait.specs.Writing.{text_of, name_in, place_below, label_below};
-ghost use Rattle.form_laws.specs.Tables.{piece_seen, form_seen, table_seen, does, fits, fits_first, table_has, filled, first_written, table_written};
-ghost use Rattle.form_laws.specs.Clear.{is_clear, is_form_good};
-ghost use Rattle.instruction_forms.specs.Printing.{piece_text, byte_before, joined_texts, form_text, op_text, place_short, op_sort, AllShort, Ready, ReadyPiece};
+ghost use Rattle.arch_trait.specs.Writing.{written_text, name_in, place_below, label_below};
+ghost use Rattle.form_laws.specs.Tables.{piece_seen, form_seen, table_seen, does, operands_fit, fits_first, table_has, hole_filled, first_written, table_written};
+ghost use Rattle.form_laws.specs.ClearTables.{is_clear, is_form_good};
+ghost use Rattle.instruction_forms.specs.Printing.{piece_text, byte_before, joined_texts, form_text, form_op_text, place_short, op_sort, AllShort, ReadyToPrint, ReadyPiece};
 
 use crate::fits::{after_hole, fits_first};
 use crate::operands::operands_of;
@@ -20,7 +20,7 @@ pub fn print_by(table: &Table, op: &Micro, places: &Places, out: &mut ArrayStrin
     requires has { table_has (table_seen table.now) op.now ≡ true }
     requires place { place_below (length places.now) op.now ≡ true }
     requires label { label_below 64 op.now ≡ true }
-    ensures { out.new.bytes ≡ text_of (table_written (table_seen table.now) (name_in places.now) op.now) }
+    ensures { out.new.bytes ≡ written_text (table_written (table_seen table.now) (name_in places.now) op.now) }
 {
     out.clear();
     see_place_short(op, places);
@@ -61,15 +61,15 @@ fn print_first(forms: &[Form], op: &Micro, places: &Places, out: &mut Text)
     requires has { list_any (does op.now) (map form_seen forms.now) ≡ true }
     requires place { place_short (name_in places.now) op.now ≡ true }
     requires empty { out.old.bytes ≡ [] }
-    ensures { out.new.bytes ≡ text_of (first_written (name_in places.now) op.now (map form_seen forms.now)) }
+    ensures { out.new.bytes ≡ written_text (first_written (name_in places.now) op.now (map form_seen forms.now)) }
 {
     let sort = op_sort(op);
     let mut left = forms;
-    while let [form, behind @ ..] = left {
+    while let [form, remainder @ ..] = left {
         if print_of_sort(form, op, sort, places, out) {
             return;
         }
-        left = behind;
+        left = remainder;
     }
 }
 
@@ -81,7 +81,7 @@ fn print_of_sort(form: &Form, op: &Micro, sort: Sort, places: &Places, out: &mut
     requires place { place_short (name_in places.now) op.now ≡ true }
     requires empty { out.old.bytes ≡ [] }
     ensures does { result ≡ does op.now (form_seen form.now) }
-    ensures printed { result ≡ true → out.new.bytes ≡ op_text (name_in places.now) op.now (form_seen form.now) }
+    ensures printed { result ≡ true → out.new.bytes ≡ form_op_text (name_in places.now) op.now (form_seen form.now) }
     ensures kept { result ≡ false → out.new.bytes ≡ [] }
 {
     if may_do(form, op, sort) {
@@ -98,7 +98,7 @@ fn print_if(form: &Form, op: &Micro, places: &Places, out: &mut Text) -> bool
     requires place { place_short (name_in places.now) op.now ≡ true }
     requires empty { out.old.bytes ≡ [] }
     ensures does { result ≡ does op.now (form_seen form.now) }
-    ensures printed { result ≡ true → out.new.bytes ≡ op_text (name_in places.now) op.now (form_seen form.now) }
+    ensures printed { result ≡ true → out.new.bytes ≡ form_op_text (name_in places.now) op.now (form_seen form.now) }
     ensures kept { result ≡ false → out.new.bytes ≡ [] }
 {
     match operands_of(&form.kind, op) {
@@ -114,7 +114,7 @@ fn print_form(form: &Form, operands: &[Operand], places: &Places, out: &mut Text
     requires good { is_form_good (form_seen form.now) ≡ true }
     requires short { AllShort (name_in places.now) operands.now }
     requires empty { out.old.bytes ≡ [] }
-    ensures fits { result ≡ fits (map piece_seen form.now.pieces.now) operands.now }
+    ensures fits { result ≡ operands_fit (map piece_seen form.now.pieces.now) operands.now }
     ensures text { result ≡ true → out.new.bytes ≡ form_text (name_in places.now) form.now.word.now (map piece_seen form.now.pieces.now) operands.now }
     ensures kept { result ≡ false → out.new.bytes ≡ [] }
 {
@@ -130,19 +130,19 @@ fn print_form(form: &Form, operands: &[Operand], places: &Places, out: &mut Text
 /// Appends operands with commas between, if the holes can hold them; else some of them.
 #[inline]
 fn push_pieces(pieces: &[Piece], operands: &[Operand], places: &Places, out: &mut Text) -> bool
-    requires ready { Ready (name_in places.now) (length out.old.bytes) (map piece_seen pieces.now) operands.now }
-    ensures fits { result ≡ fits (map piece_seen pieces.now) operands.now }
+    requires ready { ReadyToPrint (name_in places.now) (length out.old.bytes) (map piece_seen pieces.now) operands.now }
+    ensures fits { result ≡ operands_fit (map piece_seen pieces.now) operands.now }
     ensures text { result ≡ true → out.new.bytes ≡ out.old.bytes ++ joined_texts (name_in places.now) (map piece_seen pieces.now) operands.now }
 {
     let mut left = pieces;
     let mut rest = operands;
-    while let [piece, behind @ ..] = left {
+    while let [piece, remainder @ ..] = left {
         if !push_piece(piece, rest, places, out) {
             return false;
         }
-        push_comma(behind, out);
+        push_comma(remainder, out);
         rest = after_hole(piece.hole, rest);
-        left = behind;
+        left = remainder;
     }
     rest.is_empty()
 }
@@ -190,8 +190,8 @@ fn push_piece(piece: &Piece, operands: &[Operand], places: &Places, out: &mut Te
 /// Appends what is in a hole.
 #[inline]
 fn push_hole(hole: Hole, operands: &[Operand], places: &Places, out: &mut Text)
-    requires room { length (out.old.bytes ++ filled (name_in places.now) hole operands.now) ≤ MAX_TEXT }
-    ensures { out.new.bytes ≡ out.old.bytes ++ filled (name_in places.now) hole operands.now }
+    requires room { length (out.old.bytes ++ hole_filled (name_in places.now) hole operands.now) ≤ MAX_TEXT }
+    ensures { out.new.bytes ≡ out.old.bytes ++ hole_filled (name_in places.now) hole operands.now }
 {
     match (hole, operands) {
         (Hole::Register { first, .. }, [Operand::Register(r), ..]) => {

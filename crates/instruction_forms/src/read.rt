@@ -1,6 +1,6 @@
 ghost use Rattle.std.specs.Prelude.{◌≡◌, ◌<◌, ◌≤◌, ◌+◌, [], map, option_map, length};
 ghost use Rattle.arrayvec.specs.ArrayVec.{array_vec_len};
-ghost use Rattle.arch_trait.specs.Pieces.{raw_seen, texts_of};
+ghost use Rattle.arch_trait.specs.InstructionPieces.{raw_seen, operand_texts};
 ghost use Rattle.form_laws.specs.Tables.{piece_seen, form_seen, table_seen, after_prefix, before_suffix, piece_found, pieces_found, table_raw};
 ghost use Rattle.form_laws.specs.Kinds.{raw_with};
 ghost use Rattle.instruction_forms.specs.Founds.{and_founds, founds_if, found_in, form_raw, texts_seen};
@@ -17,14 +17,14 @@ fn after_prefix<'a>(prefix: &[u8], text: &'a [u8]) -> Option<&'a [u8]>
 {
     let mut left = prefix;
     let mut rest = text;
-    while let [wanted, behind @ ..] = left {
+    while let [wanted, remainder @ ..] = left {
         let [byte, more @ ..] = rest else {
             return None;
         };
         if *wanted != *byte {
             return None;
         }
-        left = behind;
+        left = remainder;
         rest = more;
     }
     Some(rest)
@@ -94,7 +94,7 @@ fn read_texts<'a>(form: &Form, texts: &[&'a [u8]]) -> Option<Option<Raw<'a>>>
 
 /// The instruction of a form with these operands: none where they aren't of the form.
 fn read_operands<'a>(form: &Form, operands: &Operands<'a>) -> Option<Option<Raw<'a>>>
-    ensures { option_map raw_seen result ≡ option_map (raw_with form.now.kind) (found_in (form_seen form.now).pieces (texts_of operands.now)) }
+    ensures { option_map raw_seen result ≡ option_map (raw_with form.now.kind) (found_in (form_seen form.now).pieces (operand_texts operands.now)) }
 {
     match *operands {
         Operands::None => read_texts(form, &[]),
@@ -108,7 +108,7 @@ fn read_operands<'a>(form: &Form, operands: &Operands<'a>) -> Option<Option<Raw<
 
 /// The instruction of a form with this first word and these operands: none where they aren't of the form.
 fn read_form<'a>(form: &Form, word: &[u8], operands: &Operands<'a>) -> Option<Option<Raw<'a>>>
-    ensures { option_map raw_seen result ≡ form_raw (form_seen form.now) word.now (texts_of operands.now) }
+    ensures { option_map raw_seen result ≡ form_raw (form_seen form.now) word.now (operand_texts operands.now) }
 {
     if word == form.word.as_bytes() {
         read_operands(form, operands)
@@ -121,14 +121,14 @@ fn read_form<'a>(form: &Form, word: &[u8], operands: &Operands<'a>) -> Option<Op
 /// no form does. A place or a label has its name and no number.
 #[tactic(auto, using(crate::proofs::Readings::first_fits, crate::proofs::Readings::first_not, crate::proofs::Readings::no_form))]
 pub fn read_by<'a>(table: &Table, word: &'a [u8], operands: Operands<'a>) -> Option<Raw<'a>>
-    ensures { raw_seen result ≡ table_raw (table_seen table.now) (record { word = word.now; operands = texts_of operands.entry }) }
+    ensures { raw_seen result ≡ table_raw (table_seen table.now) (record { word = word.now; operands = operand_texts operands.entry }) }
 {
     let mut left = table.forms;
-    while let [form, behind @ ..] = left {
+    while let [form, remainder @ ..] = left {
         if let Some(raw) = read_form(form, word, &operands) {
             return raw;
         }
-        left = behind;
+        left = remainder;
     }
     match table.labels {
         Labels::Known => read_label_alone(word, operands),

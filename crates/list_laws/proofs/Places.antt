@@ -8,12 +8,12 @@ one_more : (n : ℕ) → 1 + n ≡ suc n
 one_more n = omega arith
 
 -- a byte that fails the test is before the first that passes
-pub before_first-no : (test : ℕ → Bool) (byte : ℕ) (behind : List ℕ) → test byte ≡ false → before_first test (byte ∷ behind) ≡ byte ∷ before_first test behind
-before_first-no test byte behind n = rw (n, one_more (position_or_len test behind)) refl
+pub before_first-no : (test : ℕ → Bool) (byte : ℕ) (remainder : List ℕ) → test byte ≡ false → before_first test (byte ∷ remainder) ≡ byte ∷ before_first test remainder
+before_first-no test byte remainder n = rw (n, one_more (position_or_len test remainder)) refl
 
 -- a byte that fails the test moves the place of the first that passes one further
-pub position_or_len-no : (test : ℕ → Bool) (byte : ℕ) (behind : List ℕ) → test byte ≡ false → position_or_len test (byte ∷ behind) ≡ suc (position_or_len test behind)
-position_or_len-no test byte behind n = rw (n, one_more (position_or_len test behind)) refl
+pub position_or_len-no : (test : ℕ → Bool) (byte : ℕ) (remainder : List ℕ) → test byte ≡ false → position_or_len test (byte ∷ remainder) ≡ suc (position_or_len test remainder)
+position_or_len-no test byte remainder n = rw (n, one_more (position_or_len test remainder)) refl
 
 -- where none is found that fails a test, all pass it
 pub none_foreign : {X : Type 0} (p : X → Bool) (xs : List X) (k : ℕ) → position_from (λ x. not (p x)) k xs ≡ None → list_all p xs ≡ true

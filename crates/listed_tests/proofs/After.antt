@@ -1,7 +1,7 @@
 -- Listed cycles after others that are listed.
 use Rattle.std.proofs.Common.{◌≡◌, ◌⊎◌, inl, inr, Option, Some, List, [], ◌∷◌, ◌++◌, refl, sym, ◌∙◌, ap, subst}
 use Rattle.relax_edges.specs.declared.edge.Edge.{Edge}
-use Rattle.cycle_laws.specs.Order.{Follows}
+use Rattle.cycle_laws.specs.CycleOrder.{Follows}
 use Rattle.cycle_laws.proofs.Ordering.{follows_irreflexive, follows_transitive}
 use Rattle.walk_laws.specs.Listing.{IsOneOf, IsNext, AreRising, AreAllListed, AreListedTo}
 

@@ -3,15 +3,15 @@ use Rattle.std.proofs.Common.{◌≡◌, ◌<◌, ℕ, ◌+◌, get_or, drop, ma
 use Rattle.std.proofs.lemmas.List.{drop_more, map-append}
 use Rattle.diy_io.specs.Shelf.{ShelfSeen, Idle}
 use Rattle.listed_tests.specs.declared.putting.File.{File}
-use Rattle.listed_tests.specs.Given.{PutUpTo}
-use Rattle.listed_tests.specs.Putting.{Put, PutPart, file_put}
+use Rattle.listed_tests.specs.GivenCycles.{PutUpTo}
+use Rattle.listed_tests.specs.Putting.{PutFiles, PutPart, file_put}
 use Rattle.listed_tests.proofs.Shelves.{put_nothing, put_both, put_then_part}
 
 -- the first files are there, and these are left
 pub record FilesPut (files rest : List File) (old new : ShelfSeen) : Type 0 where
   pub done : List File
   pub parts : files ≡ done ++ rest
-  pub put : Put old new (map file_put done)
+  pub put : PutFiles old new (map file_put done)
 
 -- before the first file
 pub files_first : (files : List File) (a : ShelfSeen) → a.mode ≡ Idle → FilesPut files files a a
@@ -22,11 +22,11 @@ left_at files i f h e = drop_more files i f h ∙ ap (λ v. v ∷ drop (i + 1) f
 
 -- one more file
 pub files_more : (files : List File) (i : ℕ) (f : File) (a b c : ShelfSeen) → i < length files → f ≡ get_or files i f
-    → FilesPut files (drop i files) a b → Put b c (file_put f ∷ []) → FilesPut files (drop (i + 1) files) a c
+    → FilesPut files (drop i files) a b → PutFiles b c (file_put f ∷ []) → FilesPut files (drop (i + 1) files) a c
 files_more files i f a b c h e p put = record {
   done = p.done ++ f ∷ [];
   parts = p.parts ∙ ap (λ r. p.done ++ r) (left_at files i f h e) ∙ sym (append_assoc p.done (f ∷ []) (drop (i + 1) files));
-  put = subst (Put a c) (sym (map-append file_put p.done (f ∷ []))) (put_both a b c (map file_put p.done) (file_put f ∷ []) p.put put);
+  put = subst (PutFiles a c) (sym (map-append file_put p.done (f ∷ []))) (put_both a b c (map file_put p.done) (file_put f ∷ []) p.put put);
 }
 
 -- the shelf fails at a file
@@ -41,5 +41,5 @@ files_stop files i f a b c h e p part = record {
 }
 
 -- no file is left
-pub files_end : (files rest : List File) (a b : ShelfSeen) → FilesPut files rest a b → rest ≡ [] → Put a b (map file_put files)
-files_end files rest a b p left = subst (λ fs. Put a b (map file_put fs)) (sym (p.parts ∙ ap (λ r. p.done ++ r) left ∙ append-nil p.done)) p.put
+pub files_end : (files rest : List File) (a b : ShelfSeen) → FilesPut files rest a b → rest ≡ [] → PutFiles a b (map file_put files)
+files_end files rest a b p left = subst (λ fs. PutFiles a b (map file_put fs)) (sym (p.parts ∙ ap (λ r. p.done ++ r) left ∙ append-nil p.done)) p.put

@@ -4,9 +4,9 @@ use Rattle.std.proofs.lemmas.List.{drop_more}
 use Rattle.std.specs.Prelude.{codes}
 use Rattle.relax_edges.specs.declared.edge.Edge.{Edge}
 use Rattle.diy_io.specs.Shelf.{ShelfSeen, Idle, Appended, name_written}
-use Rattle.listed_tests.specs.Files.{number_of, file_of, path_of, all_path, file_lines, test_files}
-use Rattle.listed_tests.specs.Given.{PutUpTo, given_files}
-use Rattle.listed_tests.specs.Putting.{Put, PutPart, Filling}
+use Rattle.listed_tests.specs.ListedFiles.{file_number, file_of, path_of, all_path, file_lines, test_files}
+use Rattle.listed_tests.specs.GivenCycles.{PutUpTo, given_files}
+use Rattle.listed_tests.specs.Putting.{PutFiles, PutPart, Filling}
 use Rattle.listed_tests.proofs.Lines.{length_more, lines_so_far, waits_more, file_lines-append, file_lines_none, test_files_none, test_files_more, files_from, files_parts, counted_next, counted_once, file_counted}
 use Rattle.listed_tests.proofs.Shelves.{put_nothing, put_both, put_then_part, part_more, filling_more}
 
@@ -18,8 +18,8 @@ left_at cycles i u h e = drop_more cycles i u h ∙ ap (λ v. v ∷ drop (i + 1)
 pub record Puts (folder : Option (List ℕ)) (text : List Edge → List ℕ) (cycles rest : List (List Edge)) (old new : ShelfSeen) (number : ℕ) : Type 0 where
   pub done : List (List Edge)
   pub parts : cycles ≡ done ++ rest
-  pub files : Put old new (test_files folder text done)
-  pub counted : number_of number ≡ number_of (length done)
+  pub files : PutFiles old new (test_files folder text done)
+  pub counted : file_number number ≡ file_number (length done)
 
 module _ (folder : Option (List ℕ)) (text : List Edge → List ℕ) (cycles : List (List Edge)) where
   -- before the first cycle
@@ -27,21 +27,21 @@ module _ (folder : Option (List ℕ)) (text : List Edge → List ℕ) (cycles : 
   puts_first a idle = record {
     done = [];
     parts = refl;
-    files = subst (Put a a) (sym (test_files_none folder text)) (put_nothing a idle);
+    files = subst (PutFiles a a) (sym (test_files_none folder text)) (put_nothing a idle);
     counted = refl;
   }
 
   -- one more cycle
   pub puts_more : (rest more : List (List Edge)) (u : List Edge) (a b c : ShelfSeen) (number next : ℕ)
-      → Puts folder text cycles rest a b number → rest ≡ u ∷ more → next ≡ number_of (number + 1)
-      → Put b c ((path_of folder (file_of number u), text u) ∷ []) → Puts folder text cycles more a c next
+      → Puts folder text cycles rest a b number → rest ≡ u ∷ more → next ≡ file_number (number + 1)
+      → PutFiles b c ((path_of folder (file_of number u), text u) ∷ []) → Puts folder text cycles more a c next
   puts_more rest more u a b c number next p left e put = record {
     done = p.done ++ u ∷ [];
     parts = p.parts ∙ ap (λ r. p.done ++ r) left ∙ sym (append_assoc p.done (u ∷ []) more);
-    files = subst (Put a c) (sym (test_files_more folder text p.done u))
+    files = subst (PutFiles a c) (sym (test_files_more folder text p.done u))
         (put_both a b c (test_files folder text p.done) _ p.files
-        (subst (λ file. Put b c ((path_of folder file, text u) ∷ [])) (file_counted number (length p.done) _ p.counted) put));
-    counted = ap number_of e ∙ counted_once (number + 1) ∙ counted_next number (length p.done) p.counted ∙ ap number_of (sym (length_more p.done u));
+        (subst (λ file. PutFiles b c ((path_of folder file, text u) ∷ [])) (file_counted number (length p.done) _ p.counted) put));
+    counted = ap file_number e ∙ counted_once (number + 1) ∙ counted_next number (length p.done) p.counted ∙ ap file_number (sym (length_more p.done u));
   }
 
   -- the shelf fails at a cycle's file
@@ -58,17 +58,17 @@ module _ (folder : Option (List ℕ)) (text : List Edge → List ℕ) (cycles : 
   }
 
   -- no cycle is left
-  pub puts_end : (rest : List (List Edge)) (a b : ShelfSeen) (number : ℕ) → Puts folder text cycles rest a b number → rest ≡ [] → Put a b (test_files folder text cycles)
+  pub puts_end : (rest : List (List Edge)) (a b : ShelfSeen) (number : ℕ) → Puts folder text cycles rest a b number → rest ≡ [] → PutFiles a b (test_files folder text cycles)
   puts_end rest a b number p left =
-      subst (λ us. Put a b (test_files folder text us)) (sym (p.parts ∙ ap (λ r. p.done ++ r) left ∙ append-nil p.done)) p.files
+      subst (λ us. PutFiles a b (test_files folder text us)) (sym (p.parts ∙ ap (λ r. p.done ++ r) left ∙ append-nil p.done)) p.files
 
   -- then the file that names all is there, or the shelf fails at it
-  pub given_put : (a b c : ShelfSeen) → Put a b (test_files folder text cycles) → Put b c ((all_path folder, file_lines 0 cycles) ∷ [])
-      → Put a c (given_files folder text cycles)
+  pub given_put : (a b c : ShelfSeen) → PutFiles a b (test_files folder text cycles) → PutFiles b c ((all_path folder, file_lines 0 cycles) ∷ [])
+      → PutFiles a c (given_files folder text cycles)
   given_put a b c files names = put_both a b c (test_files folder text cycles) _ files names
 
   -- the shelf fails at the file that names all, after the tests
-  pub given_stop : (a b c : ShelfSeen) → Put a b (test_files folder text cycles) → PutPart b c [] (all_path folder) (file_lines 0 cycles)
+  pub given_stop : (a b c : ShelfSeen) → PutFiles a b (test_files folder text cycles) → PutPart b c [] (all_path folder) (file_lines 0 cycles)
       → PutUpTo a c (given_files folder text cycles)
   given_stop a b c files part = record {
     before = test_files folder text cycles;
@@ -95,7 +95,7 @@ pub record Lists (path : List ℕ) (cycles rest : List (List Edge)) (old new : S
   pub written : List ℕ
   pub file : Filling old new path written
   pub text : written ++ waiting ≡ file_lines 0 done
-  pub counted : number_of number ≡ number_of (length done)
+  pub counted : file_number number ≡ file_number (length done)
 
 module _ (path : List ℕ) (cycles : List (List Edge)) where
   -- the file is begun
@@ -123,7 +123,7 @@ module _ (path : List ℕ) (cycles : List (List Edge)) where
 
   -- one more line waits
   pub lists_more : (rest more : List (List Edge)) (u : List Edge) (a b : ShelfSeen) (number next : ℕ) (waiting new : List ℕ)
-      → Lists path cycles rest a b number waiting → rest ≡ u ∷ more → next ≡ number_of (number + 1) → new ≡ waiting ++ (file_of number u ++ codes "\n")
+      → Lists path cycles rest a b number waiting → rest ≡ u ∷ more → next ≡ file_number (number + 1) → new ≡ waiting ++ (file_of number u ++ codes "\n")
       → Lists path cycles more a b next new
   lists_more rest more u a b number next waiting new l left e f =
       record {
@@ -132,7 +132,7 @@ module _ (path : List ℕ) (cycles : List (List Edge)) where
         written = l.written;
         file = l.file;
         text = waits_more l.written waiting new _ (file_of number u ++ codes "\n") l.text f ∙ lines_so_far l.done u number l.counted;
-        counted = ap number_of e ∙ counted_once (number + 1) ∙ counted_next number (length l.done) l.counted ∙ ap number_of (sym (length_more l.done u));
+        counted = ap file_number e ∙ counted_once (number + 1) ∙ counted_next number (length l.done) l.counted ∙ ap file_number (sym (length_more l.done u));
       }
 
   -- the whole text of the file is written with what waits, where no cycle is left

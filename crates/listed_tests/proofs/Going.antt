@@ -3,15 +3,15 @@ use Rattle.std.proofs.Common.{◌≡◌, ℕ, ◌+◌, List, [], ◌∷◌, ◌+
 use Rattle.std.specs.Prelude.{codes, MatchOption}
 use Rattle.std.specs.Fmt.{decimal}
 use Rattle.relax_edges.specs.declared.edge.Edge.{Edge}
-use Rattle.cycle_laws.specs.Order.{IsNormal}
+use Rattle.cycle_laws.specs.CycleOrder.{IsNormal}
 use Rattle.walk_laws.specs.Listing.{IsNext, IsAnswer, AreListedTo}
 use Rattle.walk_laws.proofs.Listings.{listed_first, listed_next, listed_none, listed_once}
 use Rattle.diy_io.specs.Shelf.{ShelfSeen, Idle, NotCreated}
 use Rattle.listed_tests.specs.declared.names.Closed.{Closed}
-use Rattle.listed_tests.specs.Files.{number_of, file_of, path_of, all_path, file_lines, test_files, count_line}
-use Rattle.listed_tests.specs.Putting.{Put, PutPart, Filling}
-use Rattle.listed_tests.specs.Keeping.{Keeps, KeepsLine, Goes, HasGone, NamesAfter, StopsAfter, NamesAll, StopsNaming, Naming}
-use Rattle.listed_tests.specs.Ends.{WritesAll, StopsAtTest, StopsAtAll}
+use Rattle.listed_tests.specs.ListedFiles.{file_number, file_of, path_of, all_path, file_lines, test_files, count_line}
+use Rattle.listed_tests.specs.Putting.{PutFiles, PutPart, Filling}
+use Rattle.listed_tests.specs.Keeping.{KeepsLines, KeepsLine, Goes, HasGone, NamesAfter, StopsAfter, NamesAll, StopsNaming, Naming}
+use Rattle.listed_tests.specs.ListingEnds.{WritesAll, StopsAtTest, StopsAtAll}
 use Rattle.listed_tests.proofs.Lines.{length_more, file_lines-append, file_lines_none, test_files_none, test_files_more, counted_next, counted_once, file_counted, lines_counted, lines_more, lines_so_far, waits_more}
 use Rattle.listed_tests.proofs.Shelves.{put_nothing, put_both, put_then_part, part_more, part_not_begun}
 use Rattle.listed_tests.proofs.After.{GoesOn, begins_all, all_after, listed_after}
@@ -22,16 +22,16 @@ module _ (listed : List Edge → Type 0) (folder : Option (List ℕ)) (text : Li
   goes_first a lines closed idle e f = record {
     cycles = [];
     so_far = listed_first listed given;
-    files = subst (Put a a) (sym (test_files_none folder text)) (put_nothing a idle);
+    files = subst (PutFiles a a) (sym (test_files_none folder text)) (put_nothing a idle);
     counted = omega arith;
-    kept = subst (Keeps listed given [] lines) (sym f) (e ∙ sym (file_lines_none 0), rw e (omega arith));
+    kept = subst (KeepsLines listed given [] lines) (sym f) (e ∙ sym (file_lines_none 0), rw e (omega arith));
   }
 
   kept_more : (last : Option (List Edge)) (cycles : List (List Edge)) (u : List Edge) (lines new : List ℕ) (before after : Option Closed) (number next : ℕ)
-      → AreListedTo listed given (Some u) (cycles ++ u ∷ []) → IsNormal u → number_of number ≡ number_of (length cycles) → next ≡ number_of (length cycles + 1)
-      → Keeps listed given cycles lines before
+      → AreListedTo listed given (Some u) (cycles ++ u ∷ []) → IsNormal u → file_number number ≡ file_number (length cycles) → next ≡ file_number (length cycles + 1)
+      → KeepsLines listed given cycles lines before
       → MatchOption before (KeepsLine lines new after (file_of number u ++ codes "\n") u next) (λ _. (new ≡ lines) × (after ≡ before))
-      → Keeps listed given (cycles ++ u ∷ []) new after
+      → KeepsLines listed given (cycles ++ u ∷ []) new after
   kept_more last cycles u lines new (Some closed) after number next so normal c d kept k =
       rw (k.0, k.1) kept
   kept_more last cycles u lines new None None number next so normal c d kept k =
@@ -41,26 +41,26 @@ module _ (listed : List Edge → Type 0) (folder : Option (List ℕ)) (text : Li
     so_far = subst (λ x. AreListedTo listed given (Some x) (cycles ++ u ∷ [])) (sym k.room.0) so;
     normal = subst IsNormal (sym k.room.0) normal;
     lines_are = k.lines_are ∙ ap (λ t. t ++ (file_of number u ++ codes "\n")) kept.0 ∙ lines_so_far cycles u number c;
-    counted = k.room.1 ∙ d ∙ ap number_of (sym (length_more cycles u));
+    counted = k.room.1 ∙ d ∙ ap file_number (sym (length_more cycles u));
   }
 
   -- one more cycle
   pub goes_on : (last : Option (List Edge)) (a b c : ShelfSeen) (u : List Edge) (number next : ℕ) (lines new : List ℕ) (before after : Option Closed)
-      → Goes listed folder text given last a b number lines before → IsNext listed last u → IsNormal u → next ≡ number_of (number + 1)
-      → Put b c ((path_of folder (file_of number u), text u) ∷ [])
+      → Goes listed folder text given last a b number lines before → IsNext listed last u → IsNormal u → next ≡ file_number (number + 1)
+      → PutFiles b c ((path_of folder (file_of number u), text u) ∷ [])
       → MatchOption before (KeepsLine lines new after (file_of number u ++ codes "\n") u next) (λ _. (new ≡ lines) × (after ≡ before))
       → Goes listed folder text given (Some u) a c next new after
   goes_on last a b c u number next lines new before after g n normal e p k =
-      let counted : number_of number ≡ number_of (length g.cycles) = ap number_of g.counted ∙ counted_once (length g.cycles) in
+      let counted : file_number number ≡ file_number (length g.cycles) = ap file_number g.counted ∙ counted_once (length g.cycles) in
       let so : AreListedTo listed given (Some u) (g.cycles ++ u ∷ []) = listed_next listed given last g.cycles u g.so_far n in
-      let at : next ≡ number_of (length g.cycles + 1) = e ∙ counted_next number (length g.cycles) counted in
+      let at : next ≡ file_number (length g.cycles + 1) = e ∙ counted_next number (length g.cycles) counted in
       record {
         cycles = g.cycles ++ u ∷ [];
         so_far = so;
-        files = subst (Put a c) (sym (test_files_more folder text g.cycles u))
+        files = subst (PutFiles a c) (sym (test_files_more folder text g.cycles u))
             (put_both a b c (test_files folder text g.cycles) _ g.files
-            (subst (λ file. Put b c ((path_of folder file, text u) ∷ [])) (file_counted number (length g.cycles) _ counted) p));
-        counted = at ∙ ap number_of (sym (length_more g.cycles u));
+            (subst (λ file. PutFiles b c ((path_of folder file, text u) ∷ [])) (file_counted number (length g.cycles) _ counted) p));
+        counted = at ∙ ap file_number (sym (length_more g.cycles u));
         kept = kept_more last g.cycles u lines new before after number next so normal counted at g.kept k;
       }
 
@@ -75,7 +75,7 @@ module _ (listed : List Edge → Type 0) (folder : Option (List ℕ)) (text : Li
     so_far = g.so_far;
     is_next = n;
     part = put_then_part a b c (test_files folder text g.cycles) _ (text u) g.files
-        (subst (λ file. PutPart b c [] (path_of folder file) (text u)) (file_counted number (length g.cycles) _ (ap number_of g.counted ∙ counted_once (length g.cycles))) p);
+        (subst (λ file. PutPart b c [] (path_of folder file) (text u)) (file_counted number (length g.cycles) _ (ap file_number g.counted ∙ counted_once (length g.cycles))) p);
   }
 
   -- there is no further cycle
@@ -90,10 +90,10 @@ module _ (listed : List Edge → Type 0) (folder : Option (List ℕ)) (text : Li
   }
 
   -- the lines after those that are kept
-  lines_after : (kept more : List (List Edge)) (lines : List ℕ) (number : ℕ) → lines ≡ file_lines 0 kept → number ≡ number_of (length kept) → lines ++ file_lines number more ≡ file_lines 0 (kept ++ more)
+  lines_after : (kept more : List (List Edge)) (lines : List ℕ) (number : ℕ) → lines ≡ file_lines 0 kept → number ≡ file_number (length kept) → lines ++ file_lines number more ≡ file_lines 0 (kept ++ more)
   lines_after kept more lines number e f =
       let plus : 0 + length kept ≡ length kept = omega arith in
-      let same : number_of number ≡ number_of (length kept) = ap number_of f ∙ counted_once (length kept) in
+      let same : file_number number ≡ file_number (length kept) = ap file_number f ∙ counted_once (length kept) in
       ap (λ t. t ++ file_lines number more) e ∙ ap (λ t. file_lines 0 kept ++ t) (lines_counted number (length kept) more same)
       ∙ sym (file_lines-append 0 kept more ∙ ap (λ k. file_lines 0 kept ++ file_lines k more) plus)
 
@@ -104,14 +104,14 @@ module _ (listed : List Edge → Type 0) (folder : Option (List ℕ)) (text : Li
     cycles = g.cycles;
     all = g.all;
     files = put_both a b c (test_files folder text g.cycles) _ g.files (of_closed closed g.kept n);
-    line = subst SaysLine (ap (λ n. codes "Generator produced " ++ decimal n ++ codes " tests\n") (ap number_of g.counted ∙ counted_once (length g.cycles))) l;
+    line = subst SaysLine (ap (λ n. codes "Generator produced " ++ decimal n ++ codes " tests\n") (ap file_number g.counted ∙ counted_once (length g.cycles))) l;
   }
     where
-      of_closed : (closed : Option Closed) → Keeps listed given g.cycles lines closed → NamesAll listed (all_path folder) lines closed b c → Put b c ((all_path folder, file_lines 0 g.cycles) ∷ [])
-      of_closed None kept n = subst (λ t. Put b c ((all_path folder, t) ∷ [])) kept.0 n
+      of_closed : (closed : Option Closed) → KeepsLines listed given g.cycles lines closed → NamesAll listed (all_path folder) lines closed b c → PutFiles b c ((all_path folder, file_lines 0 g.cycles) ∷ [])
+      of_closed None kept n = subst (λ t. PutFiles b c ((all_path folder, t) ∷ [])) kept.0 n
       of_closed (Some closed) kept n =
           let whole : kept.cycles ++ n.cycles ≡ g.cycles = listed_once listed given (kept.cycles ++ n.cycles) g.cycles (all_after listed given closed.cycle kept.cycles n.cycles kept.so_far n.all) g.all in
-          subst (λ t. Put b c ((all_path folder, t) ∷ [])) (lines_after kept.cycles n.cycles lines closed.number kept.lines_are kept.counted ∙ ap (file_lines 0) whole) n.file
+          subst (λ t. PutFiles b c ((all_path folder, t) ∷ [])) (lines_after kept.cycles n.cycles lines closed.number kept.lines_are kept.counted ∙ ap (file_lines 0) whole) n.file
 
   -- the shelf fails at the file that names all
   pub names_stop : (a b c : ShelfSeen) (number : ℕ) (lines : List ℕ) (closed : Option Closed)
@@ -122,7 +122,7 @@ module _ (listed : List Edge → Type 0) (folder : Option (List ℕ)) (text : Li
     part = put_then_part a b c (test_files folder text g.cycles) (all_path folder) (file_lines 0 g.cycles) g.files (of_closed closed g.kept n);
   }
     where
-      of_closed : (closed : Option Closed) → Keeps listed given g.cycles lines closed → StopsNaming listed (all_path folder) lines closed b c → PutPart b c [] (all_path folder) (file_lines 0 g.cycles)
+      of_closed : (closed : Option Closed) → KeepsLines listed given g.cycles lines closed → StopsNaming listed (all_path folder) lines closed b c → PutPart b c [] (all_path folder) (file_lines 0 g.cycles)
       of_closed None kept n = subst (PutPart b c [] (all_path folder)) kept.0 n
       of_closed (Some closed) kept n =
           let prefix : List (List Edge) = kept.cycles ++ n.cycles in
@@ -149,7 +149,7 @@ module _ (listed : List Edge → Type 0) (path lines : List ℕ) (closed : Close
     written = [];
     file = f;
     text = sym (ap (λ t. lines ++ t) (file_lines_none closed.number) ∙ append-nil lines);
-    counted = ap number_of (sym (zero_more closed.number));
+    counted = ap file_number (sym (zero_more closed.number));
   }
     where
       zero_more : (n : ℕ) → n + 0 ≡ n
@@ -169,11 +169,11 @@ module _ (listed : List Edge → Type 0) (path lines : List ℕ) (closed : Close
 
   -- one more line waits
   pub naming_more : (last : Option (List Edge)) (a b : ShelfSeen) (number next : ℕ) (waiting new : List ℕ) (u : List Edge)
-      → Naming listed path lines closed last a b number waiting → IsNext listed last u → next ≡ number_of (number + 1) → new ≡ waiting ++ (file_of number u ++ codes "\n")
+      → Naming listed path lines closed last a b number waiting → IsNext listed last u → next ≡ file_number (number + 1) → new ≡ waiting ++ (file_of number u ++ codes "\n")
       → Naming listed path lines closed (Some u) a b next new
   naming_more last a b number next waiting new u n is e f =
       let place : ℕ = closed.number + length n.cycles in
-      let counted : number_of number ≡ number_of place = n.counted in
+      let counted : file_number number ≡ file_number place = n.counted in
       let long : closed.number + length (n.cycles ++ u ∷ []) ≡ place + 1 = omega (arith, length_more n.cycles u) in
       record {
         cycles = n.cycles ++ u ∷ [];
@@ -182,16 +182,16 @@ module _ (listed : List Edge → Type 0) (path lines : List ℕ) (closed : Close
         file = n.file;
         text = waits_more n.written waiting new _ (file_of number u ++ codes "\n") n.text f ∙ append_assoc lines (file_lines closed.number n.cycles) (file_of number u ++ codes "\n")
             ∙ ap (λ t. lines ++ t) (lines_more closed.number n.cycles u number counted);
-        counted = ap number_of e ∙ counted_once (number + 1) ∙ counted_next number place counted ∙ ap number_of (sym long);
+        counted = ap file_number e ∙ counted_once (number + 1) ∙ counted_next number place counted ∙ ap file_number (sym long);
       }
 
   -- the file is whole
   pub naming_done : (last : Option (List Edge)) (a b c : ShelfSeen) (number : ℕ) (waiting : List ℕ) (n : Naming listed path lines closed last a b number waiting)
-      → IsAnswer listed last None → Put a c ((path, n.written ++ waiting) ∷ []) → NamesAfter listed path lines closed a c
+      → IsAnswer listed last None → PutFiles a c ((path, n.written ++ waiting) ∷ []) → NamesAfter listed path lines closed a c
   naming_done last a b c number waiting n none p = record {
     cycles = n.cycles;
     all = listed_none listed (Some closed.cycle) last n.cycles n.so_far none;
-    file = subst (λ t. Put a c ((path, t) ∷ [])) n.text p;
+    file = subst (λ t. PutFiles a c ((path, t) ∷ [])) n.text p;
   }
 
   -- the shelf fails

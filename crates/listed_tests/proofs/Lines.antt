@@ -6,7 +6,7 @@ use Rattle.std.specs.Prelude.{codes}
 use Rattle.std.specs.Fmt.{decimal}
 use Rattle.std.specs.List.{enumerate_from, flat_map}
 use Rattle.relax_edges.specs.declared.edge.Edge.{Edge}
-use Rattle.listed_tests.specs.Files.{number_of, file_named, stem_named, file_of, path_of, file_lines, test_files, count_line}
+use Rattle.listed_tests.specs.ListedFiles.{file_number, file_named, stem_named, file_of, path_of, file_lines, test_files, count_line}
 
 -- a list with one more cycle is longer by one
 pub length_more : (us : List (List Edge)) (u : List Edge) → length (us ++ u ∷ []) ≡ length us + 1
@@ -56,37 +56,37 @@ test_files_more folder text us u =
     ∙ ap (λ k. map (λ test. (path_of folder (file_of test.0 test.1), text test.1)) (enumerate_from 0 us) ++ (path_of folder (file_of k u), text u) ∷ []) (zero_plus (length us))
 
 -- a number is counted once
-pub counted_once : (n : ℕ) → number_of (number_of n) ≡ number_of n
+pub counted_once : (n : ℕ) → file_number (file_number n) ≡ file_number n
 counted_once n = omega arith
 
 -- numbers that count as one still do so when both are one more
-pub counted_next : (m n : ℕ) → number_of m ≡ number_of n → number_of (m + 1) ≡ number_of (n + 1)
+pub counted_next : (m n : ℕ) → file_number m ≡ file_number n → file_number (m + 1) ≡ file_number (n + 1)
 counted_next m n h = omega arith
 
 -- a file goes by the number as it is counted
-pub file_counted : (m n : ℕ) (name : List ℕ) → number_of m ≡ number_of n → file_named m name ≡ file_named n name
+pub file_counted : (m n : ℕ) (name : List ℕ) → file_number m ≡ file_number n → file_named m name ≡ file_named n name
 unfolding file_named stem_named
 file_counted m n name h = rw h refl
 
 -- numbers that count as one number the lines alike
-pub lines_counted : (m n : ℕ) (us : List (List Edge)) → number_of m ≡ number_of n → file_lines m us ≡ file_lines n us
+pub lines_counted : (m n : ℕ) (us : List (List Edge)) → file_number m ≡ file_number n → file_lines m us ≡ file_lines n us
 lines_counted m n [] h = file_lines_none m ∙ sym (file_lines_none n)
 lines_counted m n (u ∷ us) h =
     rw (file_lines_first m u us, file_lines_first n u us, lines_counted (m + 1) (n + 1) us (counted_next m n h), file_counted m n _ h) refl
 
-pub counted_itself : (n : ℕ) → n < 2 ^ 128 → number_of n ≡ n
+pub counted_itself : (n : ℕ) → n < 2 ^ 128 → file_number n ≡ n
 counted_itself n h = omega arith
 
 -- the lines up to one more cycle
-pub lines_more : (first : ℕ) (us : List (List Edge)) (u : List Edge) (n : ℕ) → number_of n ≡ number_of (first + length us)
+pub lines_more : (first : ℕ) (us : List (List Edge)) (u : List Edge) (n : ℕ) → file_number n ≡ file_number (first + length us)
     → file_lines first us ++ (file_of n u ++ codes "\n") ≡ file_lines first (us ++ u ∷ [])
 lines_more first us u n h =
     sym (file_lines-append first us (u ∷ [])
     ∙ ap (λ t. file_lines first us ++ t) (file_lines_one (first + length us) u ∙ ap (λ t. t ++ codes "\n") (file_counted (first + length us) n _ (sym h))))
 
 -- the same of those that are numbered from 0
-pub lines_so_far : (us : List (List Edge)) (u : List Edge) (n : ℕ) → number_of n ≡ number_of (length us) → file_lines 0 us ++ (file_of n u ++ codes "\n") ≡ file_lines 0 (us ++ u ∷ [])
-lines_so_far us u n h = lines_more 0 us u n (h ∙ ap number_of (sym (zero_plus (length us))))
+pub lines_so_far : (us : List (List Edge)) (u : List Edge) (n : ℕ) → file_number n ≡ file_number (length us) → file_lines 0 us ++ (file_of n u ++ codes "\n") ≡ file_lines 0 (us ++ u ∷ [])
+lines_so_far us u n h = lines_more 0 us u n (h ∙ ap file_number (sym (zero_plus (length us))))
 
 -- a text is written but for what waits, and one more line waits
 pub waits_more : (written waiting new text line : List ℕ) → written ++ waiting ≡ text → new ≡ waiting ++ line → written ++ new ≡ text ++ line

@@ -1,7 +1,7 @@
 -- A walk that passes over cycles that have no test.
 use Rattle.std.proofs.Common.{Option, Some, None, List, inl, inr}
 use Rattle.relax_edges.specs.declared.edge.Edge.{Edge}
-use Rattle.cycle_laws.specs.Order.{Follows}
+use Rattle.cycle_laws.specs.CycleOrder.{Follows}
 use Rattle.cycle_laws.proofs.Ordering.{follows_transitive, follows_or_same}
 use Rattle.walk_laws.specs.Listing.{ComesAfter, IsNext, IsAnswer}
 

@@ -21,7 +21,7 @@ use Rattle.resolution_laws.proofs.Sizes.{in_slot, slot_below}
 use Rattle.resolution_laws.proofs.Threads.{slot-zero, slot_in, slot_out, thread_end, thread_out, thread_up}
 use Rattle.resolution_laws.proofs.Turning.{external_count-rotated, turn_of}
 use Rattle.listed_tests.specs.Plans.{has_few_accesses}
-use Rattle.listed_tests.specs.Runs.{HasRun, HasLongRun, next_run, run_after, stays_below}
+use Rattle.listed_tests.specs.InternalRuns.{HasRun, HasLongRun, next_run, run_after, stays_below}
 
 -- one edge of the count
 below_first : (m c : ℕ) (u : List Edge) → stays_below m c u ≡ true → c < m
@@ -196,8 +196,8 @@ internal_take (suc k) (e ∷ u) a = (a.0, internal_take k u a.1)
 -- where the count stays below a number, there is no run of that many
 below_no_run : (m : ℕ) (u : List Edge) → stays_below m 0 u ≡ true → HasRun m u → ⊥
 below_no_run m u h r =
-    let behind = below_parts m 0 r.prefix (r.run ++ r.back) (rw r.parts at h) in
-    let within = below_parts m (run_after 0 r.prefix) r.run r.back behind.1 in
+    let remainder = below_parts m 0 r.prefix (r.run ++ r.back) (rw r.parts at h) in
+    let within = below_parts m (run_after 0 r.prefix) r.run r.back remainder.1 in
     absurd (omega (arith, below_internal m (run_after 0 r.prefix) r.run r.internal within.0, r.long))
 
 -- and where it doesn't, there is one, with the edges that were counted before the list

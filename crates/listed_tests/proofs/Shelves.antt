@@ -8,7 +8,7 @@ use Rattle.std.specs.Str.{bytes_eq}
 use Rattle.diy_io.specs.declared.errors.Failed.{Failed}
 use Rattle.diy_io.specs.Count.{Rose}
 use Rattle.diy_io.specs.Shelf.{Files, ShelfSeen, Idle, Writing, name_written, with_file, with_more, bytes_in, CountsStay, Faulted, Created, NotCreated, Appended, AppendedPart, Finished, Stopped}
-use Rattle.listed_tests.specs.Putting.{with_files, Put, PutPart, Filling}
+use Rattle.listed_tests.specs.Putting.{with_files, PutFiles, PutPart, Filling}
 
 -- a file that is written again
 tested_again : {X : Type 0} (t : Bool) (x y z : X) → cond t x (cond t y z) ≡ cond t x z
@@ -56,11 +56,11 @@ later_fault a b c e f = record {
 }
 
 -- nothing is written
-pub put_nothing : (a : ShelfSeen) → a.mode ≡ Idle → Put a a []
+pub put_nothing : (a : ShelfSeen) → a.mode ≡ Idle → PutFiles a a []
 put_nothing a idle = record { mode = idle; files = sym (with_no_files a.files); no_fault = refl; counts = record { taken = refl; opened = refl } }
 
 -- files, and then others
-pub put_both : (a b c : ShelfSeen) (xs ys : List (List ℕ × List ℕ)) → Put a b xs → Put b c ys → Put a c (xs ++ ys)
+pub put_both : (a b c : ShelfSeen) (xs ys : List (List ℕ × List ℕ)) → PutFiles a b xs → PutFiles b c ys → PutFiles a c (xs ++ ys)
 put_both a b c xs ys p q = record {
   mode = q.mode;
   files = q.files ∙ ap (option_map (with_files ys)) p.files ∙ shown-append xs ys a.files;
@@ -69,7 +69,7 @@ put_both a b c xs ys p q = record {
 }
 
 -- files, and then one in part
-pub put_then_part : (a b c : ShelfSeen) (xs : List (List ℕ × List ℕ)) (path text : List ℕ) → Put a b xs → PutPart b c [] path text → PutPart a c xs path text
+pub put_then_part : (a b c : ShelfSeen) (xs : List (List ℕ × List ℕ)) (path text : List ℕ) → PutFiles a b xs → PutPart b c [] path text → PutPart a c xs path text
 put_then_part a b c xs path text p q = record {
   prefix = q.prefix;
   rest = q.rest;
@@ -123,7 +123,7 @@ filling_more a b c path bytes more f x =
     }
 
 -- it is whole
-pub filling_done : (a b c : ShelfSeen) (path bytes : List ℕ) → Filling a b path bytes → Finished b c → Put a c ((path, bytes) ∷ [])
+pub filling_done : (a b c : ShelfSeen) (path bytes : List ℕ) → Filling a b path bytes → Finished b c → PutFiles a c ((path, bytes) ∷ [])
 filling_done a b c path bytes f x = record {
   mode = x.mode;
   files = x.files ∙ f.files ∙ with_one_file path bytes a.files;
@@ -158,7 +158,7 @@ filling_part a b c path bytes more f x =
     }
 
 -- a file is closed, or can't be
-pub closed_ok : (a b c : ShelfSeen) (path bytes : List ℕ) (result : Result (Unit {0}) Failed) → Filling a b path bytes → OnOk result (Finished b c) → OnOk result (Put a c ((path, bytes) ∷ []))
+pub closed_ok : (a b c : ShelfSeen) (path bytes : List ℕ) (result : Result (Unit {0}) Failed) → Filling a b path bytes → OnOk result (Finished b c) → OnOk result (PutFiles a c ((path, bytes) ∷ []))
 closed_ok a b c path bytes (Ok _) f x = filling_done a b c path bytes f x
 closed_ok a b c path bytes (Err _) f x = tt
 

@@ -6,7 +6,7 @@ use Rattle.diy_io.specs.Page.{page_after}
 use Rattle.diy_io.specs.PageLaws.{page_fits}
 use Rattle.diy_io.specs.Shelf.{ShelfSeen, name_written, Appended, AppendedPart}
 use Rattle.arch_trait.specs.Writing.{Writing}
-use Rattle.arch_trait.specs.Tests.{TestSeen}
+use Rattle.arch_trait.specs.SeenTests.{TestSeen}
 use Rattle.litmus_text.specs.declared.parts.TextPart.{TextPart}
 use Rattle.litmus_text.specs.declared.parts.TextPart.TheVariants.{Edges}
 use Rattle.litmus_text.specs.TextParts.{text_from, PutsPart}

@@ -5,7 +5,7 @@ use denote.Ref.{Bor}
 use Rattle.relax_edges.specs.declared.edge.Edge.{Edge}
 use Rattle.relax_edges.specs.declared.kinds.ObsMode.{ObsMode}
 use Rattle.cycle_laws.specs.Composable.{IsCycle}
-use Rattle.cycle_laws.specs.Order.{IsNormal, IsLeast}
+use Rattle.cycle_laws.specs.CycleOrder.{IsNormal, IsLeast}
 use Rattle.cycle_laws.proofs.Laws.{same_cycle_is_equivalence, normal_forms_decide}
 use Rattle.walk_laws.specs.Listing.{IsAnswer}
 use Rattle.cycle_enum.specs.Walking.{Walking, Lists, Says}
@@ -14,8 +14,8 @@ use Rattle.arch_trait.specs.Writing.{Writing}
 use Rattle.diy_io.specs.Shelf.{ShelfSeen}
 use Rattle.listed_tests.specs.declared.names.Closed.{Closed}
 use Rattle.listed_tests.specs.declared.wanted.Wanted.{Wanted}
-use Rattle.listed_tests.specs.Ends.{WritesAll, StopsAtAll}
-use Rattle.listed_tests.specs.Files.{all_path, count_line}
+use Rattle.listed_tests.specs.ListingEnds.{WritesAll, StopsAtAll}
+use Rattle.listed_tests.specs.ListedFiles.{all_path, count_line}
 use Rattle.listed_tests.specs.Keeping.{HasGone, NamesAll, StopsNaming}
 use Rattle.listed_tests.specs.Plans.{HaveTests, plan_of, is_sought, IsPlanned}
 use Rattle.listed_tests.proofs.Going.{names_put, names_stop}
@@ -45,16 +45,16 @@ module _ {K J P : Type 0} where
   -- it went on
   pub went_on : (v w x : Walking K J P) (u : List Edge) → w ≡ record v { last = w.last } → x ≡ record w { last = Some u } → x ≡ record v { last = x.last }
   went_on v w x u e f =
-      let behind : Walking K J P → Walking K J P = λ y. record y { last = Some u } in
-      subst (λ l. x ≡ record v { last = l }) (sym (ap (λ y. y.last) f)) (f ∙ ap behind e)
+      let remainder : Walking K J P → Walking K J P = λ y. record y { last = Some u } in
+      subst (λ l. x ≡ record v { last = l }) (sym (ap (λ y. y.last) f)) (f ∙ ap remainder e)
 
   -- it went on to a cycle
   pub went_to : (v w x : Walking K J P) (u : List Edge) → w ≡ record v { last = w.last } → x ≡ record w { last = Some u } → x ≡ record v { last = Some u }
-  went_to v w x u e f = let behind : Walking K J P → Walking K J P = λ y. record y { last = Some u } in f ∙ ap behind e
+  went_to v w x u e f = let remainder : Walking K J P → Walking K J P = λ y. record y { last = Some u } in f ∙ ap remainder e
 
   -- it went on from where it went
   pub went_further : (v w x : Walking K J P) → w ≡ record v { last = w.last } → x ≡ record w { last = x.last } → x ≡ record v { last = x.last }
-  went_further v w x e f = let behind : Walking K J P → Walking K J P = λ y. record y { last = x.last } in f ∙ ap behind e
+  went_further v w x e f = let remainder : Walking K J P → Walking K J P = λ y. record y { last = x.last } in f ∙ ap remainder e
 
   -- those of its cycles that have a test are what a plan lists
   pub planned : (post : P → (Bor (List Edge) × Unit {0}) → Bool → Type 0) (v : Walking K J P) (puts : Puts) (writing : Writing) (wanted : Wanted)

@@ -21,8 +21,8 @@ use Rattle.test_maker.specs.Refusals.{or_else, foreign_edge, resolved_refusal, r
 use Rattle.list_laws.proofs.Places.{none_foreign}
 use Rattle.diy_io.specs.Shelf.{ShelfSeen}
 use Rattle.listed_tests.specs.Plans.{HaveTests, ends_of_arch, has_few_threads, has_few_accesses, is_sought, is_wanted, may_lead}
-use Rattle.listed_tests.specs.Runs.{HasLongRun}
-use Rattle.listed_tests.specs.Ends.{WritesAll, StopsAtTest, StopsAtAll}
+use Rattle.listed_tests.specs.InternalRuns.{HasLongRun}
+use Rattle.listed_tests.specs.ListingEnds.{WritesAll, StopsAtTest, StopsAtAll}
 use Rattle.listed_tests.proofs.RunLaws.{long_run_crowds}
 use Rattle.listed_tests.proofs.After.{next_too, listed_too, all_too}
 

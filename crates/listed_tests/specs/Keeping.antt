@@ -4,7 +4,7 @@ use Rattle.std.specs.Prelude.{◌≡◌, ◌≤◌, ℕ, ◌+◌, List, [], ◌�
 use Rattle.std.specs.Borrow.{Bor}
 use Rattle.relax_edges.specs.declared.edge.Edge.{Edge}
 use Rattle.relax_edges.specs.declared.kinds.ObsMode.{ObsMode}
-use Rattle.cycle_laws.specs.Order.{IsNormal}
+use Rattle.cycle_laws.specs.CycleOrder.{IsNormal}
 use Rattle.walk_laws.specs.Listing.{AreAllListed, AreListedTo}
 use Rattle.arch_trait.specs.Threads.{Puts}
 use Rattle.arch_trait.specs.Writing.{Writing}
@@ -13,10 +13,10 @@ use Rattle.listed_tests.specs.declared.names.TheConstants.{MAX_LINE, MAX_LINES}
 use Rattle.listed_tests.specs.declared.names.Closed.{Closed}
 use Rattle.listed_tests.specs.declared.names.Names.{Names}
 use Rattle.listed_tests.specs.declared.wanted.Wanted.{Wanted}
-use Rattle.listed_tests.specs.Ends.{StopsAtTest}
-use Rattle.listed_tests.specs.Files.{number_of, all_path, file_lines, test_files}
+use Rattle.listed_tests.specs.ListingEnds.{StopsAtTest}
+use Rattle.listed_tests.specs.ListedFiles.{file_number, all_path, file_lines, test_files}
 use Rattle.listed_tests.specs.Plans.{HaveTests, folder_in, folder_of, named_text}
-use Rattle.listed_tests.specs.Putting.{Put, PutPart, Filling}
+use Rattle.listed_tests.specs.Putting.{PutFiles, PutPart, Filling}
 
 -- the lines that are kept are those of the listed cycles up to one, and the number of the next one is kept
 pub record KeptTo (listed : List Edge → Type 0) (given : Option (List Edge)) (lines : List ℕ) (cycle : List Edge) (number : ℕ) : Type 0 where
@@ -24,12 +24,12 @@ pub record KeptTo (listed : List Edge → Type 0) (given : Option (List Edge)) (
   pub so_far : AreListedTo listed given (Some cycle) cycles
   pub normal : IsNormal cycle
   pub lines_are : lines ≡ file_lines 0 cycles
-  pub counted : number ≡ number_of (length cycles)
+  pub counted : number ≡ file_number (length cycles)
 
 -- the lines of these cycles are all kept, and there is room for one more; or those up to a cycle are kept
-abbrev pub Keeps : (List Edge → Type 0) → Option (List Edge) → List (List Edge) → List ℕ → Option Closed → Type 0
-Keeps listed given cycles lines None = (lines ≡ file_lines 0 cycles) × (length lines + MAX_LINE ≤ MAX_LINES)
-Keeps listed given cycles lines (Some closed) = KeptTo listed given lines closed.cycle closed.number
+abbrev pub KeepsLines : (List Edge → Type 0) → Option (List Edge) → List (List Edge) → List ℕ → Option Closed → Type 0
+KeepsLines listed given cycles lines None = (lines ≡ file_lines 0 cycles) × (length lines + MAX_LINE ≤ MAX_LINES)
+KeepsLines listed given cycles lines (Some closed) = KeptTo listed given lines closed.cycle closed.number
 
 -- one more line is kept, and there is room for another; or there is none, and this cycle is the last one whose line is kept
 pub record KeepsLine (lines new : List ℕ) (closed : Option Closed) (line : List ℕ) (cycle : List Edge) (next : ℕ) : Type 0 where
@@ -49,17 +49,17 @@ KeepsFile old new file cycle next =
 pub record Goes (listed : List Edge → Type 0) (folder : Option (List ℕ)) (text : List Edge → List ℕ) (given last : Option (List Edge)) (old new : ShelfSeen) (count : ℕ) (lines : List ℕ) (closed : Option Closed) : Type 0 where
   pub cycles : List (List Edge)
   pub so_far : AreListedTo listed given last cycles
-  pub files : Put old new (test_files folder text cycles)
-  pub counted : count ≡ number_of (length cycles)
-  pub kept : Keeps listed given cycles lines closed
+  pub files : PutFiles old new (test_files folder text cycles)
+  pub counted : count ≡ file_number (length cycles)
+  pub kept : KeepsLines listed given cycles lines closed
 
 -- the files of all listed cycles are there, their number is counted, and the lines that name them are kept
 pub record HasGone (listed : List Edge → Type 0) (folder : Option (List ℕ)) (text : List Edge → List ℕ) (given : Option (List Edge)) (old new : ShelfSeen) (count : ℕ) (lines : List ℕ) (closed : Option Closed) : Type 0 where
   pub cycles : List (List Edge)
   pub all : AreAllListed listed given cycles
-  pub files : Put old new (test_files folder text cycles)
-  pub counted : count ≡ number_of (length cycles)
-  pub kept : Keeps listed given cycles lines closed
+  pub files : PutFiles old new (test_files folder text cycles)
+  pub counted : count ≡ file_number (length cycles)
+  pub kept : KeepsLines listed given cycles lines closed
 
 -- the same of the tests that are wanted: those of the listed cycles that have one
 abbrev pub PutsAll : Puts → Writing → Wanted → (List Edge → Type 0) → Option (List Edge) → ShelfSeen → ShelfSeen → Names → ℕ → Type 0
@@ -75,7 +75,7 @@ StopsPutting puts writing wanted listed given old new =
 pub record NamesAfter (listed : List Edge → Type 0) (path lines : List ℕ) (closed : Closed) (old new : ShelfSeen) : Type 0 where
   pub cycles : List (List Edge)
   pub all : AreAllListed listed (Some closed.cycle) cycles
-  pub file : Put old new ((path, lines ++ file_lines closed.number cycles) ∷ [])
+  pub file : PutFiles old new ((path, lines ++ file_lines closed.number cycles) ∷ [])
 
 -- the shelf failed at the file that names all, which is as it was or has a prefix of the lines of the listed cycles up to one
 pub record StopsAfter (listed : List Edge → Type 0) (path lines : List ℕ) (closed : Closed) (old new : ShelfSeen) : Type 0 where
@@ -86,7 +86,7 @@ pub record StopsAfter (listed : List Edge → Type 0) (path lines : List ℕ) (c
 
 -- the file that names all is there, with the lines that were kept and, where not all were, those that come after
 abbrev pub NamesAll : (List Edge → Type 0) → List ℕ → List ℕ → Option Closed → ShelfSeen → ShelfSeen → Type 0
-NamesAll listed path lines None old new = Put old new ((path, lines) ∷ [])
+NamesAll listed path lines None old new = PutFiles old new ((path, lines) ∷ [])
 NamesAll listed path lines (Some closed) old new = NamesAfter listed path lines closed old new
 
 -- the shelf failed at that file
@@ -118,4 +118,4 @@ pub record Naming (listed : List Edge → Type 0) (path lines : List ℕ) (close
   pub written : List ℕ
   pub file : Filling old new path written
   pub text : written ++ waiting ≡ lines ++ file_lines closed.number cycles
-  pub counted : number_of number ≡ number_of (closed.number + length cycles)
+  pub counted : file_number number ≡ file_number (closed.number + length cycles)

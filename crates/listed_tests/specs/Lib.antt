@@ -1,8 +1,8 @@
-pub mod Files
+pub mod ListedFiles
 pub mod Putting
 pub mod Plans
 pub mod Ready
-pub mod Runs
-pub mod Ends
-pub mod Given
+pub mod InternalRuns
+pub mod ListingEnds
+pub mod GivenCycles
 pub mod Keeping

@@ -10,7 +10,7 @@ use Rattle.relax_edges.specs.declared.kinds.ObsMode.{ObsMode}
 use Rattle.relax_edges.specs.EdgeTable.{is_of_arch}
 use Rattle.list_laws.specs.Numbers.{upto}
 use Rattle.walk_laws.specs.Listing.{IsListed}
-use Rattle.cycle_names.specs.Names.{name_of}
+use Rattle.cycle_names.specs.CycleNames.{name_of}
 use Rattle.resolution_laws.specs.Resolution.{external_count, turned, events_in}
 use Rattle.arch_trait.specs.Threads.{Puts}
 use Rattle.arch_trait.specs.Writing.{Writing}
@@ -18,7 +18,7 @@ use Rattle.test_maker.specs.Refusals.{refusal_of}
 use Rattle.test_maker.specs.CycleText.{cycle_text}
 use Rattle.cycle_enum.specs.declared.limits.Limits.{Limits}
 use Rattle.cycle_enum.specs.Walking.{Walking}
-use Rattle.listed_tests.specs.Files.{path_of, file_of, test_files}
+use Rattle.listed_tests.specs.ListedFiles.{path_of, file_of, test_files}
 use Rattle.listed_tests.specs.declared.listing.Listing.{Listing}
 use Rattle.listed_tests.specs.declared.wanted.Wanted.{Wanted}
 

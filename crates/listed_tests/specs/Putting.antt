@@ -15,7 +15,7 @@ with_files [] files = files
 with_files (file ∷ rest) files = with_files rest (with_file file.0 file.1 files)
 
 -- these files were written on a shelf, and nothing failed
-pub record Put (old new : ShelfSeen) (added : List (List ℕ × List ℕ)) : Type 0 where
+pub record PutFiles (old new : ShelfSeen) (added : List (List ℕ × List ℕ)) : Type 0 where
   pub mode : new.mode ≡ Idle
   pub files : new.files ≡ option_map (with_files added) old.files
   pub no_fault : new.faults ≡ old.faults

@@ -1,6 +1,6 @@
 ghost use Rattle.std.specs.Prelude.{◌≡◌, ◌≤◌, ◌++◌, length};
 ghost use Rattle.std.specs.Option.{ForSome, option_map};
-ghost use Rattle.listed_tests.specs.Files.{file_named, path_of, stem_named};
+ghost use Rattle.listed_tests.specs.ListedFiles.{file_named, path_of, stem_named};
 
 use arrayvec::ArrayString;
 use itoa::Buffer;
@@ -26,7 +26,7 @@ pub(crate) type FileName = ArrayString<MAX_FILE>;
 pub type Path = ArrayString<MAX_PATH>;
 
 /// The file of a test by its number and its name.
-#[tactic(auto, unfolding(crate::specs::Files::file_named))]
+#[tactic(auto, unfolding(crate::specs::ListedFiles::file_named))]
 pub(crate) fn file_named(number: u128, name: &str) -> FileName
     ensures { result.bytes ≡ file_named number name.now }
 {
@@ -43,7 +43,7 @@ pub fn test_path(folder: Option<&str>, number: u128, name: &str, ending: &str) -
 }
 
 /// What a file of a test is called that has this ending.
-#[tactic(auto, unfolding(crate::specs::Files::stem_named))]
+#[tactic(auto, unfolding(crate::specs::ListedFiles::stem_named))]
 fn file_ending(number: u128, name: &str, ending: &str) -> FileName
     requires { length ending.now ≤ MAX_ENDING }
     ensures { result.bytes ≡ stem_named number name.now ++ ending.now }

@@ -3,10 +3,10 @@ ghost use Rattle.std.specs.List.{All};
 ghost use Rattle.std.specs.Option.{ForSome};
 ghost use Rattle.diy_io.specs.Shelf.{Idle};
 ghost use Rattle.test_maker.specs.Refusals.{refusal_of};
-ghost use Rattle.listed_tests.specs.Files.{file_lines};
-ghost use Rattle.listed_tests.specs.Given.{PutUpTo, EndsPutting, given_files_of};
+ghost use Rattle.listed_tests.specs.ListedFiles.{file_lines};
+ghost use Rattle.listed_tests.specs.GivenCycles.{PutUpTo, EndsPutting, given_files_of};
 ghost use Rattle.listed_tests.specs.Plans.{test_files_of};
-ghost use Rattle.listed_tests.specs.Putting.{Put, PutPart};
+ghost use Rattle.listed_tests.specs.Putting.{PutFiles, PutPart};
 
 use crate::ending::ListingEnd;
 use crate::files::{MAX_FOLDER, path_of};
@@ -68,7 +68,7 @@ fn put_given<A: Arch, H: Shelf>(
     requires tests { All (λ cycle. refusal_of A.puts cycle wanted.now.mode ≡ None) cycles.now }
     requires folder { ForSome wanted.now.folder (λ folder. length folder.now ≤ MAX_FOLDER) }
     requires idle { (H.seen shelf.old).mode ≡ Idle }
-    ensures ok { OnOk result (Put (H.seen shelf.old) (H.seen shelf.new) (given_files_of A.puts A.writing wanted.now cycles.now)) }
+    ensures ok { OnOk result (PutFiles (H.seen shelf.old) (H.seen shelf.new) (given_files_of A.puts A.writing wanted.now cycles.now)) }
     ensures failed { OnErr result (PutUpTo (H.seen shelf.old) (H.seen shelf.new) (given_files_of A.puts A.writing wanted.now cycles.now)) }
 {
     put_tests_of::<A, H>(wanted, cycles, &mut Test::new(), shelf)?;
@@ -87,7 +87,7 @@ fn put_tests_of<A: Arch, H: Shelf>(
     requires tests { All (λ cycle. refusal_of A.puts cycle wanted.now.mode ≡ None) cycles.now }
     requires folder { ForSome wanted.now.folder (λ folder. length folder.now ≤ MAX_FOLDER) }
     requires idle { (H.seen shelf.old).mode ≡ Idle }
-    ensures ok { OnOk result (Put (H.seen shelf.old) (H.seen shelf.new) (test_files_of A.puts A.writing wanted.now cycles.now)) }
+    ensures ok { OnOk result (PutFiles (H.seen shelf.old) (H.seen shelf.new) (test_files_of A.puts A.writing wanted.now cycles.now)) }
     ensures failed { OnErr result (PutUpTo (H.seen shelf.old) (H.seen shelf.new) (test_files_of A.puts A.writing wanted.now cycles.now)) }
 {
     let mut desk = Desk::new();
@@ -102,7 +102,7 @@ fn put_tests_of<A: Arch, H: Shelf>(
 /// Writes the file on the shelf that names the files of cycles.
 fn put_names_of<H: Shelf>(path: &str, cycles: &[Cycle], shelf: &mut H) -> Result<(), Failed>
     requires idle { (H.seen shelf.old).mode ≡ Idle }
-    ensures ok { OnOk result (Put (H.seen shelf.old) (H.seen shelf.new) ((path.now, file_lines 0 cycles.now) ∷ [])) }
+    ensures ok { OnOk result (PutFiles (H.seen shelf.old) (H.seen shelf.new) ((path.now, file_lines 0 cycles.now) ∷ [])) }
     ensures failed { OnErr result (PutPart (H.seen shelf.old) (H.seen shelf.new) [] path.now (file_lines 0 cycles.now)) }
 {
     shelf.create(path)?;

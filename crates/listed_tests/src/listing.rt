@@ -9,11 +9,11 @@ ghost use Rattle.cycle_enum.specs.Walking.{KnowsOf, Lists, Says};
 ghost use Rattle.diy_io.specs.Shelf.{Idle};
 ghost use Rattle.diy_io.specs.Wrote.{Wrote};
 ghost use Rattle.test_maker.specs.Refusals.{refusal_of};
-ghost use Rattle.listed_tests.specs.Ends.{BeginsAfter, EndsAfter, EndsListing};
-ghost use Rattle.listed_tests.specs.Files.{count_line, file_of};
+ghost use Rattle.listed_tests.specs.ListingEnds.{BeginsAfter, EndsAfter, EndsListing};
+ghost use Rattle.listed_tests.specs.ListedFiles.{count_line, file_of};
 ghost use Rattle.listed_tests.specs.Keeping.{PutsAll, StopsPutting};
 ghost use Rattle.listed_tests.specs.Plans.{HaveTests, is_sought, Seeks, plan_in, test_file_of, walk_plan};
-ghost use Rattle.listed_tests.specs.Putting.{Put, FailsAt};
+ghost use Rattle.listed_tests.specs.Putting.{PutFiles, FailsAt};
 ghost use Rattle.listed_tests.specs.Ready.{IsReady};
 
 use crate::ending::ListingEnd;
@@ -232,7 +232,7 @@ pub(crate) fn put_test<A: Arch, H: Shelf>(
     requires folder { ForSome wanted.now.folder (λ folder. length folder.now ≤ MAX_FOLDER) }
     requires idle { (H.seen shelf.old).mode ≡ Idle }
     ensures file { IfOk result (λ file. file.bytes ≡ file_of number cycle.now) }
-    ensures ok { OnOk result (Put (H.seen shelf.old) (H.seen shelf.new) (test_file_of A.puts A.writing wanted.now number cycle.now ∷ [])) }
+    ensures ok { OnOk result (PutFiles (H.seen shelf.old) (H.seen shelf.new) (test_file_of A.puts A.writing wanted.now number cycle.now ∷ [])) }
     ensures failed { OnErr result (FailsAt (H.seen shelf.old) (H.seen shelf.new) (test_file_of A.puts A.writing wanted.now number cycle.now)) }
 {
     if !make_test::<A>(cycle, wanted.mode, test, &mut desk.table) {
@@ -254,7 +254,7 @@ fn put_made<A: Arch, H: Shelf>(
     requires folder { ForSome wanted.now.folder (λ folder. length folder.now ≤ MAX_FOLDER) }
     requires idle { (H.seen shelf.old).mode ≡ Idle }
     ensures file { IfOk result (λ file. file.bytes ≡ file_of number cycle.now) }
-    ensures ok { OnOk result (Put (H.seen shelf.old) (H.seen shelf.new) (test_file_of A.puts A.writing wanted.now number cycle.now ∷ [])) }
+    ensures ok { OnOk result (PutFiles (H.seen shelf.old) (H.seen shelf.new) (test_file_of A.puts A.writing wanted.now number cycle.now ∷ [])) }
     ensures failed { OnErr result (FailsAt (H.seen shelf.old) (H.seen shelf.new) (test_file_of A.puts A.writing wanted.now number cycle.now)) }
 {
     name_of(cycle, &mut desk.name);

@@ -1,11 +1,11 @@
 ghost use Rattle.std.specs.Prelude.{◌≡◌, ◌<◌, ◌≤◌, ◌+◌, ◌++◌, [], Some, None, length, codes, IsTrue, IsFalse, IfSome, OnOk, OnErr};
 ghost use Rattle.std.specs.Option.{ForSome, ForNone};
-ghost use Rattle.cycle_laws.specs.Order.{IsNormal};
+ghost use Rattle.cycle_laws.specs.CycleOrder.{IsNormal};
 ghost use Rattle.walk_laws.specs.Counting.{later};
 ghost use Rattle.walk_laws.specs.Listing.{IsAnswer};
 ghost use Rattle.cycle_enum.specs.Walking.{KnowsOf, Lists};
 ghost use Rattle.diy_io.specs.Shelf.{Idle};
-ghost use Rattle.listed_tests.specs.Files.{file_of};
+ghost use Rattle.listed_tests.specs.ListedFiles.{file_of};
 ghost use Rattle.listed_tests.specs.Keeping.{KeepsFile, NamesKept, NamesRest, StopsNames, StopsRest};
 ghost use Rattle.listed_tests.specs.Plans.{HaveTests};
 ghost use Rattle.test_maker.specs.Refusals.{refusal_of};

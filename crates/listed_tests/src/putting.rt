@@ -5,8 +5,8 @@ ghost use Rattle.litmus_text.specs.KeptCells.{HoldsTable};
 ghost use Rattle.litmus_text.specs.Tests.{IsPrintable, test_seen};
 ghost use Rattle.litmus_text.specs.TestText.{test_text};
 ghost use Rattle.litmus_text.specs.declared.limits.TheConstants.{MAX_NAME};
-ghost use Rattle.listed_tests.specs.Given.{PutUpTo};
-ghost use Rattle.listed_tests.specs.Putting.{Put, PutPart, file_put};
+ghost use Rattle.listed_tests.specs.GivenCycles.{PutUpTo};
+ghost use Rattle.listed_tests.specs.Putting.{PutFiles, PutPart, file_put};
 
 use crate::files::Path;
 use arch_trait::Arch;
@@ -25,7 +25,7 @@ pub struct File<'a> {
 /// one is as it was or has a prefix of its bytes.
 pub fn put_files<H: Shelf>(files: &[File], shelf: &mut H) -> Result<(), Failed>
     requires { (H.seen shelf.old).mode ≡ Idle }
-    ensures ok { OnOk result (Put (H.seen shelf.old) (H.seen shelf.new) (map file_put files.now)) }
+    ensures ok { OnOk result (PutFiles (H.seen shelf.old) (H.seen shelf.new) (map file_put files.now)) }
     ensures failed { OnErr result (PutUpTo (H.seen shelf.old) (H.seen shelf.new) (map file_put files.now)) }
 {
     for file in files {
@@ -38,7 +38,7 @@ pub fn put_files<H: Shelf>(files: &[File], shelf: &mut H) -> Result<(), Failed>
 /// bytes.
 pub(crate) fn put_file<H: Shelf>(path: &str, bytes: &[u8], shelf: &mut H) -> Result<(), Failed>
     requires { (H.seen shelf.old).mode ≡ Idle }
-    ensures ok { OnOk result (Put (H.seen shelf.old) (H.seen shelf.new) ((path.now, bytes.now) ∷ [])) }
+    ensures ok { OnOk result (PutFiles (H.seen shelf.old) (H.seen shelf.new) ((path.now, bytes.now) ∷ [])) }
     ensures failed { OnErr result (PutPart (H.seen shelf.old) (H.seen shelf.new) [] path.now bytes.now) }
 {
     shelf.create(path)?;
@@ -60,7 +60,7 @@ pub(crate) fn put_text<A: Arch, H: Shelf>(
     requires kept { HoldsTable A.writing (test_seen test.now) table.now }
     requires named { length name.now ≤ MAX_NAME }
     requires idle { (H.seen shelf.old).mode ≡ Idle }
-    ensures ok { OnOk result (Put (H.seen shelf.old) (H.seen shelf.new) ((path.now, test_text A.NAME A.writing name.now (test_seen test.now)) ∷ [])) }
+    ensures ok { OnOk result (PutFiles (H.seen shelf.old) (H.seen shelf.new) ((path.now, test_text A.NAME A.writing name.now (test_seen test.now)) ∷ [])) }
     ensures failed { OnErr result (PutPart (H.seen shelf.old) (H.seen shelf.new) [] path.now (test_text A.NAME A.writing name.now (test_seen test.now))) }
 {
     shelf.create(path)?;

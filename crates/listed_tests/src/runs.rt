@@ -2,7 +2,7 @@ ghost use Rattle.std.specs.Prelude.{◌≡◌, ◌<◌, ◌≤◌, ◌+◌, leng
 ghost use Rattle.relax_edges.specs.declared.TheConstants.{MAX_EDGES};
 ghost use Rattle.resolution_laws.specs.Resolution.{external_count};
 ghost use Rattle.listed_tests.specs.Plans.{has_few_accesses};
-ghost use Rattle.listed_tests.specs.Runs.{next_run, run_after, stays_below};
+ghost use Rattle.listed_tests.specs.InternalRuns.{next_run, run_after, stays_below};
 
 use relax_edges::Edge;
 

@@ -3,7 +3,7 @@ ghost use Rattle.std.specs.List.{list_all};
 ghost use Rattle.relax_edges.specs.EdgeTable.{is_of_arch};
 ghost use Rattle.resolution_laws.specs.Resolution.{external_count};
 ghost use Rattle.listed_tests.specs.Plans.{ends_of_arch, has_few_threads, is_sought, may_lead};
-ghost use Rattle.listed_tests.specs.Runs.{HasLongRun};
+ghost use Rattle.listed_tests.specs.InternalRuns.{HasLongRun};
 
 use crate::runs::{has_few_accesses, stays_below};
 use arch_trait::Arch;

@@ -6,13 +6,13 @@ use Rattle.std.proofs.Math.ListN.{replicate}
 use Rattle.std.proofs.lemmas.Bool.{and_from}
 use Rattle.list_laws.proofs.Cases.{by_test}
 use Rattle.text_laws.specs.Blanks.{is_blank, unblanked, before_blanks, kept_before, trim_blanks, is_inked}
-use Rattle.text_laws.specs.Runs.{run_of, after_run}
-use Rattle.arch_trait.specs.Reading.{operands_in, operands_if, written_in, instr_read, number_raw}
+use Rattle.text_laws.specs.LeadingRuns.{leading_run, after_run}
+use Rattle.arch_trait.specs.InstructionReading.{operands_in, operands_if, written_in, instr_read, number_raw}
 use Rattle.arch_trait.specs.Writing.{Writing, Written}
 use Rattle.arch_trait.specs.Cells.{is_cell_byte}
 use Rattle.text_laws.specs.Cuts.{cut_at}
 use Rattle.text_laws.specs.Words.{is_nil}
-use Rattle.litmus_text.specs.Table.{Column, Among, instr_put, instr_in, instr_or_nothing, cell_read}
+use Rattle.litmus_text.specs.TestTable.{Column, Among, instr_put, instr_in, instr_or_nothing, cell_read}
 use Rattle.text_laws.proofs.CutLaws.{cut_back, cut_none, all_both, without_class}
 
 -- so many blanks
@@ -48,8 +48,8 @@ unfolding after_run
 inked_stop zero = refl
 inked_stop (suc k) = refl
 
-inked_none : (k : ℕ) → run_of is_inked (blanks k) ≡ []
-unfolding run_of
+inked_none : (k : ℕ) → leading_run is_inked (blanks k) ≡ []
+unfolding leading_run
 inked_none zero = refl
 inked_none (suc k) = refl
 
@@ -58,8 +58,8 @@ unfolding after_run
 after_padded [] k = inked_stop k
 after_padded (b ∷ text) k = by_test (is_inked b) (λ e. rw e (after_padded text k)) (λ e. rw e refl)
 
-run_padded : (text : List ℕ) (k : ℕ) → run_of is_inked (text ++ blanks k) ≡ run_of is_inked text
-unfolding run_of
+run_padded : (text : List ℕ) (k : ℕ) → leading_run is_inked (text ++ blanks k) ≡ leading_run is_inked text
+unfolding leading_run
 run_padded [] k = inked_none k
 run_padded (b ∷ text) k = by_test (is_inked b) (λ e. rw e (ap (λ rest. b ∷ rest) (run_padded text k))) (λ e. rw e refl)
 
@@ -82,10 +82,10 @@ written_padded b text k e =
     let alone : unblanked (b ∷ text) ≡ b ∷ text = rw e refl in
     let word = run_padded (b ∷ text) k in
     let rest = ap operands_in (after_padded (b ∷ text) k) ∙ operands_padded (after_run is_inked (b ∷ text)) k in
-    ap (λ t. record { word = run_of is_inked t; operands = operands_in (after_run is_inked t) }) prefix
+    ap (λ t. record { word = leading_run is_inked t; operands = operands_in (after_run is_inked t) }) prefix
     ∙ ap (λ x. record { word = x; operands = operands_in (after_run is_inked ((b ∷ text) ++ blanks k)) }) word
-    ∙ ap (λ o. record { word = run_of is_inked (b ∷ text); operands = o }) rest
-    ∙ sym (ap (λ t. record { word = run_of is_inked t; operands = operands_in (after_run is_inked t) }) alone)
+    ∙ ap (λ o. record { word = leading_run is_inked (b ∷ text); operands = o }) rest
+    ∙ sym (ap (λ t. record { word = leading_run is_inked t; operands = operands_in (after_run is_inked t) }) alone)
 
 -- a text begins with a byte that is no blank
 pub record Begins (text : List ℕ) : Type 0 where

@@ -11,20 +11,20 @@ use Rattle.final_cond.specs.declared.cond.Quantifier.{Quantifier}
 use Rattle.final_cond.specs.declared.cond.Quantifier.TheVariants.{Exists, NotExists, Forall}
 use Rattle.text_laws.specs.Names.{is_place_byte}
 use Rattle.text_laws.specs.Blanks.{unblanked}
-use Rattle.text_laws.specs.Runs.{run_of, after_run}
+use Rattle.text_laws.specs.LeadingRuns.{leading_run, after_run}
 use Rattle.final_cond.specs.Conditions.{LeftSeen, InRegister, AtPlace, TermSeen, CondSeen}
 use Rattle.final_cond.specs.CondText.{quantifier_word, left_text, term_text, further_term_text, terms_text, cond_text}
-use Rattle.final_cond.specs.Reading.{opening_read, left_read, right_read, has_form}
-use Rattle.final_cond.specs.ReadBack.{IsFormedTerm}
+use Rattle.final_cond.specs.ConditionReading.{opening_read, left_read, right_read, has_form}
+use Rattle.final_cond.specs.ConditionReadBack.{IsFormedTerm}
 use Rattle.final_cond.proofs.BackLaws.{stops, named, place_bytes, left_unblanked, left_back, right_back, term_parts, closing, joining, opening_back}
 use Rattle.list_laws.proofs.Digits.{digits_of}
 use Rattle.arch_trait.specs.Writing.{Writing}
 use Rattle.arch_trait.specs.Cells.{ends_rows, is_line_byte}
-use Rattle.litmus_text.specs.Lines.{Lines, ends, line, ◌>>=◌}
+use Rattle.litmus_text.specs.TextLines.{Lines, ends, line, ◌>>=◌}
 use Rattle.litmus_text.specs.Joined.{no_text, with_text, all_joined}
-use Rattle.litmus_text.specs.Table.{after_locations}
+use Rattle.litmus_text.specs.TestTable.{after_locations}
 use Rattle.litmus_text.specs.Condition.{Setting, Mentioned, TermRead, at_begin, place_put, left_put, line_of_rest, term_here, terms_here, cond_here, condition_read}
-use Rattle.litmus_text.specs.Terms.{left_mention, terms_mention, is_known, TermFits}
+use Rattle.litmus_text.specs.ReadTerms.{left_mention, terms_mention, is_known, TermFits}
 use Rattle.text_laws.proofs.CutLaws.{all_both}
 use Rattle.litmus_text.proofs.LineBack.{IsLine}
 use Rattle.litmus_text.proofs.HeadBack.{line_is}
@@ -55,18 +55,18 @@ term_back : (w : Writing) (here : Setting) (table s : List (List ℕ)) (term : T
     → term_here w here (state s) (term_text term ++ rest) ≡ Ok (record { term = term; state = state (left_mention s term.left); rest = rest })
 unfolding term_here
 term_back w here table s term rest fits among_table short stop =
-    let behind : List ℕ = 61 ∷ (decimal term.value ++ rest) in
-    let prefix : unblanked (term_text term ++ rest) ≡ left_text term.left ++ behind = ap unblanked (term_shape term rest) ∙ left_unblanked term.left behind fits.formed.form in
-    let left = left_back has_form term.left behind fits.formed.form fits.formed.form refl in
+    let remainder : List ℕ = 61 ∷ (decimal term.value ++ rest) in
+    let prefix : unblanked (term_text term ++ rest) ≡ left_text term.left ++ remainder = ap unblanked (term_shape term rest) ∙ left_unblanked term.left remainder fits.formed.form in
+    let left = left_back has_form term.left remainder fits.formed.form fits.formed.form refl in
     let right = right_back term.value rest fits.formed.value stop in
-    go (unblanked (term_text term ++ rest)) behind prefix left right
+    go (unblanked (term_text term ++ rest)) remainder prefix left right
   where
-    go : (text behind : List ℕ) → text ≡ left_text term.left ++ behind → left_read has_form (left_text term.left ++ behind) ≡ Ok (term.left, behind) → right_read behind ≡ Ok (term.value, rest)
+    go : (text remainder : List ℕ) → text ≡ left_text term.left ++ remainder → left_read has_form (left_text term.left ++ remainder) ≡ Ok (term.left, remainder) → right_read remainder ≡ Ok (term.value, rest)
         → (at_begin here.begins (left_read has_form text) >>= λ left. left_put w here (line_of_rest here text) (state s) left.0 >>= λ next.
         at_begin here.begins (right_read left.1) >>= λ right. Ok (read_as left.0 right.0 next right.1))
         ≡ Ok (record { term = term; state = state (left_mention s term.left); rest = rest })
-    go text behind e left right =
-        rw (e, left, left_put_back w here (line_of_rest here (left_text term.left ++ behind)) table s term.left fits.known among_table short, right) refl
+    go text remainder e left right =
+        rw (e, left, left_put_back w here (line_of_rest here (left_text term.left ++ remainder)) table s term.left fits.known among_table short, right) refl
 
 term_blank : (w : Writing) (here : Setting) (s : Mentioned) (text : List ℕ) → term_here w here s (32 ∷ text) ≡ term_here w here s text
 unfolding term_here after_run
@@ -133,7 +133,7 @@ condition_back w threads table s condition n m some few fits among_table short =
 
 -- the line of the condition ends the rows
 pub cond_ends : (condition : CondSeen) → ends_rows (cond_text condition) ≡ true
-unfolding ends_rows cond_text run_of after_run
+unfolding ends_rows cond_text leading_run after_run
 cond_ends condition = of condition.quantifier
   where
     of : (q : Quantifier) → ends_rows (((quantifier_word q ++ codes " (") ++ terms_text condition.terms) ++ codes ")") ≡ true
@@ -143,7 +143,7 @@ cond_ends condition = of condition.quantifier
 
 -- the line of the condition is no line of locations
 pub no_locations : (condition : CondSeen) (n : ℕ) (rest : Lines) → after_locations (line n (cond_text condition) rest) ≡ line n (cond_text condition) rest
-unfolding after_locations cond_text run_of after_run
+unfolding after_locations cond_text leading_run after_run
 no_locations condition n rest = of condition.quantifier
   where
     of : (q : Quantifier) → after_locations (line n (((quantifier_word q ++ codes " (") ++ terms_text condition.terms) ++ codes ")") rest) ≡ line n (((quantifier_word q ++ codes " (") ++ terms_text condition.terms) ++ codes ")") rest

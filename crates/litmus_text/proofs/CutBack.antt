@@ -6,14 +6,14 @@ use Rattle.std.proofs.lemmas.Bool.{eq-eqb, not-true}
 use Rattle.std.proofs.lemmas.List.Sums.{AllPass-from_list_all}
 use Rattle.std.proofs.lemmas.List.Splits.{slice_split_none, slice_split_at}
 use Rattle.text_laws.specs.Cuts.{is_without}
-use Rattle.litmus_text.specs.Cuts.{pieces}
+use Rattle.litmus_text.specs.TextCuts.{pieces}
 
 none_pass : (sign : ℕ) (text : List ℕ) → is_without sign text ≡ true → All (λ byte. (byte == sign) ≡ false) text
 none_pass sign text h i d k = not-true (get_or text i d == sign) (AllPass-from_list_all (λ byte. not (byte == sign)) text h i d k)
 
 -- the first piece of a text is what comes before its first sign
-pub piece_back : (sign : ℕ) (prefix behind : List ℕ) → is_without sign prefix ≡ true → pieces sign (prefix ++ sign ∷ behind) ≡ prefix ∷ pieces sign behind
-piece_back sign prefix behind h = slice_split_at (λ byte. byte == sign) prefix sign behind (none_pass sign prefix h) (eq-eqb sign sign refl)
+pub piece_back : (sign : ℕ) (prefix remainder : List ℕ) → is_without sign prefix ≡ true → pieces sign (prefix ++ sign ∷ remainder) ≡ prefix ∷ pieces sign remainder
+piece_back sign prefix remainder h = slice_split_at (λ byte. byte == sign) prefix sign remainder (none_pass sign prefix h) (eq-eqb sign sign refl)
 
 -- a text without a sign is one piece
 pub piece_last : (sign : ℕ) (text : List ℕ) → is_without sign text ≡ true → pieces sign text ≡ text ∷ []

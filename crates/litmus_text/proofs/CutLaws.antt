@@ -4,17 +4,17 @@ use Rattle.std.specs.Prelude.{◌||◌}
 use Rattle.std.specs.List.{list_all}
 use Rattle.std.proofs.lemmas.Bool.{eqb-true}
 use Rattle.list_laws.proofs.Cases.{by_test}
-use Rattle.text_laws.specs.Runs.{after_run}
+use Rattle.text_laws.specs.LeadingRuns.{after_run}
 use Rattle.text_laws.specs.Blanks.{is_blank, before_blanks, kept_before, trim_blanks}
 use Rattle.text_laws.specs.Words.{is_nil}
 use Rattle.text_laws.specs.Cuts.{CutParts}
-use Rattle.litmus_text.specs.Cuts.{pieces}
-use Rattle.litmus_text.specs.Lines.{is_comment, is_passed}
+use Rattle.litmus_text.specs.TextCuts.{pieces}
+use Rattle.litmus_text.specs.TextLines.{is_comment, is_passed}
 use Rattle.litmus_text.proofs.CutBack.{piece_back}
 
 -- the pieces of a text that is cut are the first text and the pieces of the second
-pub pieces_cut : (sign : ℕ) (text prefix behind : List ℕ) → CutParts sign text prefix behind → pieces sign text ≡ prefix ∷ pieces sign behind
-pieces_cut sign text prefix behind p = ap (pieces sign) p.parts ∙ piece_back sign prefix behind p.first
+pub pieces_cut : (sign : ℕ) (text prefix remainder : List ℕ) → CutParts sign text prefix remainder → pieces sign text ≡ prefix ∷ pieces sign remainder
+pieces_cut sign text prefix remainder p = ap (pieces sign) p.parts ∙ piece_back sign prefix remainder p.first
 
 -- a text up to the end is blank, or it is a text of its own
 blanks_are : (text : List ℕ) → is_nil (trim_blanks text) ≡ list_all is_blank text

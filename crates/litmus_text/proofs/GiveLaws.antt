@@ -3,7 +3,7 @@ use Rattle.std.proofs.Common.{◌≡◌, Result, Err}
 use Rattle.litmus_text.specs.declared.errors.TextError.{TextError}
 use Rattle.litmus_text.specs.declared.errors.ReadError.{ReadError}
 use Rattle.litmus_text.specs.declared.errors.ReadError.TheVariants.{Text, NoMemory}
-use Rattle.litmus_text.specs.Gives.{GivesInMemory}
+use Rattle.litmus_text.specs.ReadingAnswers.{GivesInMemory}
 
 -- an error is what a definition gives, or there is no memory
 abbrev pub Fails : {Y : Type 0} → ReadError → Result Y TextError → Type 0

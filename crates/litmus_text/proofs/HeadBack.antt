@@ -13,13 +13,13 @@ use Rattle.relax_edges.specs.declared.kinds.ArchName.{ArchName}
 use Rattle.relax_edges.specs.declared.kinds.ArchName.TheVariants.{X86, PPC, AArch64, RISCV}
 use Rattle.relax_edges.specs.declared.edge.Edge.{Edge}
 use Rattle.relax_edges.specs.Architectures.{arch_word}
-use Rattle.relax_edges.specs.Words.{word_of}
+use Rattle.relax_edges.specs.WordParts.{word_of}
 use Rattle.relax_edges.specs.AllEdges.{edges_in_order}
 use Rattle.relax_edges.proofs.Ranks.{each_edge}
 use Rattle.text_laws.specs.Blanks.{is_blank, unblanked, before_blanks, kept_before, trim_blanks}
-use Rattle.text_laws.specs.Runs.{run_of, after_run}
+use Rattle.text_laws.specs.LeadingRuns.{leading_run, after_run}
 use Rattle.arch_trait.specs.Cells.{is_line_byte}
-use Rattle.litmus_text.specs.Lines.{Lines, line, is_passed}
+use Rattle.litmus_text.specs.TextLines.{Lines, line, is_passed}
 use Rattle.text_laws.specs.Words.{is_nil, words}
 use Rattle.litmus_text.specs.Header.{header_read, quote_read, is_setting, after_settings, name_in_header, two_words, quote_cut}
 use Rattle.litmus_text.specs.Printable.{is_name_byte, IsTestName}
@@ -43,13 +43,13 @@ none_blank : (text : List ℕ) → is_inked_word text ≡ true → All (λ b. is
 none_blank text h i d k = not-true (is_blank (get_or text i d)) (AllPass-from_list_all (λ b. not (is_blank b)) text h i d k)
 
 -- two words with a blank between are read as two words
-pub two_back : (a : ℕ) (prefix : List ℕ) (b : ℕ) (behind : List ℕ) → is_inked_word (a ∷ prefix) ≡ true → is_inked_word (b ∷ behind) ≡ true
-    → words ((a ∷ prefix) ++ 32 ∷ b ∷ behind) ≡ (a ∷ prefix) ∷ (b ∷ behind) ∷ []
+pub two_back : (a : ℕ) (prefix : List ℕ) (b : ℕ) (remainder : List ℕ) → is_inked_word (a ∷ prefix) ≡ true → is_inked_word (b ∷ remainder) ≡ true
+    → words ((a ∷ prefix) ++ 32 ∷ b ∷ remainder) ≡ (a ∷ prefix) ∷ (b ∷ remainder) ∷ []
 unfolding words
-two_back a prefix b behind h k =
+two_back a prefix b remainder h k =
     ap (filter (λ word. not (is_nil word)))
-    (slice_split_at is_blank (a ∷ prefix) 32 (b ∷ behind) (none_blank (a ∷ prefix) h) refl
-    ∙ ap (λ rest. (a ∷ prefix) ∷ rest) (slice_split_none is_blank (b ∷ behind) (none_blank (b ∷ behind) k)))
+    (slice_split_at is_blank (a ∷ prefix) 32 (b ∷ remainder) (none_blank (a ∷ prefix) h) refl
+    ∙ ap (λ rest. (a ∷ prefix) ∷ rest) (slice_split_none is_blank (b ∷ remainder) (none_blank (b ∷ remainder) k)))
 
 arch_two : (arch : ArchName) (b : ℕ) (name : List ℕ) → is_inked_word (b ∷ name) ≡ true
     → words (arch_word arch ++ 32 ∷ b ∷ name) ≡ arch_word arch ∷ (b ∷ name) ∷ []
@@ -93,7 +93,7 @@ quote_back edges n rest =
 
 -- a line that begins with a brace is no line of settings
 pub settings_back : (n : ℕ) (text : List ℕ) (rest : Lines) → after_settings (line n (123 ∷ text) rest) ≡ line n (123 ∷ text) rest
-unfolding after_settings is_setting run_of
+unfolding after_settings is_setting leading_run
 settings_back n text rest = refl
 
 -- lines without `*` are no comments
@@ -139,9 +139,9 @@ line_is text h k = record {
 }
 
 -- a text with a byte that is no blank isn't blank
-pub not_all_blank : (prefix : List ℕ) (b : ℕ) (behind : List ℕ) → is_blank b ≡ false → list_all is_blank (prefix ++ b ∷ behind) ≡ false
-not_all_blank [] b behind h = rw h refl
-not_all_blank (a ∷ prefix) b behind h = by_test (is_blank a) (λ e. rw (e, not_all_blank prefix b behind h) refl) (λ e. rw e refl)
+pub not_all_blank : (prefix : List ℕ) (b : ℕ) (remainder : List ℕ) → is_blank b ≡ false → list_all is_blank (prefix ++ b ∷ remainder) ≡ false
+not_all_blank [] b remainder h = rw h refl
+not_all_blank (a ∷ prefix) b remainder h = by_test (is_blank a) (λ e. rw (e, not_all_blank prefix b remainder h) refl) (λ e. rw e refl)
 
 arch_on_line : (arch : ArchName) (rest : List ℕ) → list_all is_line_byte rest ≡ true → IsLine (arch_word arch ++ rest)
 arch_on_line X86 rest h = line_is _ h refl

@@ -11,13 +11,13 @@ use Rattle.std.proofs.lemmas.Bool.Decides.{nat_tests}
 use Rattle.std.proofs.lemmas.List.{replicate_more}
 use Rattle.list_laws.proofs.Elements.{list_all-weaker}
 use Rattle.text_laws.specs.Blanks.{is_blank, before_blanks, kept_before, trim_blanks}
-use Rattle.text_laws.specs.Runs.{after_run}
+use Rattle.text_laws.specs.LeadingRuns.{after_run}
 use Rattle.list_laws.proofs.Digits.{digits_of}
 use Rattle.arch_trait.specs.Threads.{ThreadCode}
 use Rattle.arch_trait.specs.Writing.{Writing}
-use Rattle.litmus_text.specs.Lines.{Lines, line}
+use Rattle.litmus_text.specs.TextLines.{Lines, line}
 use Rattle.litmus_text.specs.InitialState.{Begun}
-use Rattle.litmus_text.specs.Table.{Cells, is_head, heads_read, head_read}
+use Rattle.litmus_text.specs.TestTable.{Cells, is_head, heads_read, head_read}
 use Rattle.litmus_text.specs.TestText.{column_of, columns_of, width_of, cell_text, row_line}
 use Rattle.litmus_text.specs.Printable.{is_row_byte}
 use Rattle.text_laws.proofs.OrderLaws.{bytes_same}

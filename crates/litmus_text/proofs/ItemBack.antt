@@ -12,21 +12,21 @@ use Rattle.list_laws.proofs.Elements.{list_all-weaker}
 use Rattle.relax_edges.specs.declared.kinds.Value.TheVariants as values
 use Rattle.final_cond.specs.declared.errors.CondKind.TheVariants.{BadTerm}
 use Rattle.text_laws.specs.Names.{is_place_name, is_register_name, is_place_byte, begins_place}
-use Rattle.text_laws.specs.Numbers.{number_of}
+use Rattle.text_laws.specs.NumberTexts.{number_of}
 use Rattle.text_laws.specs.Blanks.{is_blank, unblanked, before_blanks, trim_blanks}
-use Rattle.text_laws.specs.Runs.{after_run}
+use Rattle.text_laws.specs.LeadingRuns.{after_run}
 use Rattle.final_cond.specs.Conditions.{LeftSeen, InRegister}
 use Rattle.final_cond.specs.CondText.{left_text}
-use Rattle.final_cond.specs.Reading.{Fault, found, only_known, left_at_start, left_read, has_form}
+use Rattle.final_cond.specs.ConditionReading.{Fault, found, only_known, left_at_start, left_read, has_form}
 use Rattle.final_cond.proofs.BackLaws.{left_back, named, place_bytes}
 use Rattle.list_laws.proofs.Digits.{digits_of}
 use Rattle.text_laws.proofs.NumberLaws.{not_digits}
 use Rattle.arch_trait.specs.Threads.{Puts}
-use Rattle.arch_trait.specs.Names.{number_in, names_added}
+use Rattle.arch_trait.specs.PlaceNames.{number_in, names_added}
 use Rattle.arch_trait.specs.Writing.{Writing, WritesBack, name_in}
 use Rattle.arch_trait.specs.Cells.{is_line_byte}
 use Rattle.text_laws.specs.Cuts.{cut_at, is_without}
-use Rattle.litmus_text.specs.Cuts.{pieces}
+use Rattle.litmus_text.specs.TextCuts.{pieces}
 use Rattle.litmus_text.specs.Joined.{Joined}
 use Rattle.litmus_text.specs.InitialState.{gives, a_place, worth_of, worth_if, item_with, item_if, item_parts, whole_left, some_item, item_of, Begun, nothing_begun, is_given, item_read, items_read}
 use Rattle.litmus_text.specs.TestText.{item_text}

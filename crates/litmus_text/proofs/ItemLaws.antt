@@ -8,10 +8,10 @@ use Rattle.std.proofs.lemmas.Slice.Eq.{bytes_eq-Decides}
 use Rattle.list_laws.proofs.Cases.{by_test}
 use Rattle.final_cond.specs.declared.errors.CondKind.TheVariants.{BadTerm}
 use Rattle.text_laws.specs.Blanks.{is_blank, unblanked, before_blanks, kept_before, trim_blanks}
-use Rattle.text_laws.specs.Runs.{after_run}
+use Rattle.text_laws.specs.LeadingRuns.{after_run}
 use Rattle.final_cond.specs.Conditions.{LeftSeen, InRegister, AtPlace}
 use Rattle.text_laws.specs.Names.{is_register_name}
-use Rattle.final_cond.specs.Reading.{Fault, found, left_at_start, left_read, only_known, has_form}
+use Rattle.final_cond.specs.ConditionReading.{Fault, found, left_at_start, left_read, only_known, has_form}
 use Rattle.arch_trait.specs.Writing.{Writing}
 use Rattle.text_laws.specs.Words.{is_nil}
 use Rattle.litmus_text.specs.InitialState.{item_with, whole_left, item_if}

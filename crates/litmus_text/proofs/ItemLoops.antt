@@ -4,8 +4,8 @@ use Rattle.std.proofs.Math.ListN.{replicate}
 use Rattle.litmus_text.specs.declared.errors.TextError.{TextError}
 use Rattle.arch_trait.specs.Writing.{Writing}
 use Rattle.text_laws.specs.Cuts.{cut_at, CutParts, is_without}
-use Rattle.litmus_text.specs.Cuts.{pieces}
-use Rattle.litmus_text.specs.Lines.{Lines, ends, line, ◌>>=◌}
+use Rattle.litmus_text.specs.TextCuts.{pieces}
+use Rattle.litmus_text.specs.TextLines.{Lines, ends, line, ◌>>=◌}
 use Rattle.litmus_text.specs.Joined.{Joined, with_text, all_joined}
 use Rattle.litmus_text.specs.InitialState.{Begun, item_read, items_read, but_last, closed, open_to, braced}
 use Rattle.litmus_text.proofs.CutBack.{piece_last}
@@ -39,44 +39,44 @@ unfolding items_read
 item_last w j i rest b h = ap (λ ps. items_read w j i ps b) (piece_last 59 rest h) ∙ then_ok (item_read w j i rest b)
 
 -- a piece is read as its item, and then the others
-pub item_more : (w : Writing) (j : Joined) (i : ℕ) (rest piece behind : List ℕ) (b b' : Begun) → CutParts 59 rest piece behind → item_read w j i piece b ≡ Ok b'
-    → items_read w j (i + (length piece + 1)) (pieces 59 behind) b' ≡ items_read w j i (pieces 59 rest) b
+pub item_more : (w : Writing) (j : Joined) (i : ℕ) (rest piece remainder : List ℕ) (b b' : Begun) → CutParts 59 rest piece remainder → item_read w j i piece b ≡ Ok b'
+    → items_read w j (i + (length piece + 1)) (pieces 59 remainder) b' ≡ items_read w j i (pieces 59 rest) b
 unfolding items_read
-item_more w j i rest piece behind b b' p h = rw (pieces_cut 59 rest piece behind p, h) refl
+item_more w j i rest piece remainder b b' p h = rw (pieces_cut 59 rest piece remainder p, h) refl
 
 -- where the item of a piece is faulty, the items are
-pub item_fails : (w : Writing) (j : Joined) (i : ℕ) (rest piece behind : List ℕ) (b : Begun) (e : TextError) → CutParts 59 rest piece behind → item_read w j i piece b ≡ Err e
+pub item_fails : (w : Writing) (j : Joined) (i : ℕ) (rest piece remainder : List ℕ) (b : Begun) (e : TextError) → CutParts 59 rest piece remainder → item_read w j i piece b ≡ Err e
     → items_read w j i (pieces 59 rest) b ≡ Err e
 unfolding items_read
-item_fails w j i rest piece behind b e p h = rw (pieces_cut 59 rest piece behind p, h) refl
+item_fails w j i rest piece remainder b e p h = rw (pieces_cut 59 rest piece remainder p, h) refl
 
 -- what no semicolon ends isn't read
 pub ended_last : (w : Writing) (j : Joined) (i : ℕ) (rest : List ℕ) (b : Begun) → is_without 59 rest ≡ true → items_read w j i (but_last (pieces 59 rest)) b ≡ Ok b
 unfolding items_read
 ended_last w j i rest b h = ap (λ ps. items_read w j i (but_last ps) b) (piece_last 59 rest h)
 
-ended_cut : (rest piece behind : List ℕ) → CutParts 59 rest piece behind → but_last (pieces 59 rest) ≡ piece ∷ but_last (pieces 59 behind)
-ended_cut rest piece behind p =
-    let f = first_piece (λ byte. byte == 59) behind in
-    ap but_last (pieces_cut 59 rest piece behind p) ∙ ap (λ ps. but_last (piece ∷ ps)) f.is ∙ ap (λ ps. piece ∷ but_last ps) (sym f.is)
+ended_cut : (rest piece remainder : List ℕ) → CutParts 59 rest piece remainder → but_last (pieces 59 rest) ≡ piece ∷ but_last (pieces 59 remainder)
+ended_cut rest piece remainder p =
+    let f = first_piece (λ byte. byte == 59) remainder in
+    ap but_last (pieces_cut 59 rest piece remainder p) ∙ ap (λ ps. but_last (piece ∷ ps)) f.is ∙ ap (λ ps. piece ∷ but_last ps) (sym f.is)
 
 -- a piece that a semicolon ends is read as its item, and then the others
-pub ended_more : (w : Writing) (j : Joined) (i : ℕ) (rest piece behind : List ℕ) (b b' : Begun) → CutParts 59 rest piece behind → item_read w j i piece b ≡ Ok b'
-    → items_read w j (i + (length piece + 1)) (but_last (pieces 59 behind)) b' ≡ items_read w j i (but_last (pieces 59 rest)) b
+pub ended_more : (w : Writing) (j : Joined) (i : ℕ) (rest piece remainder : List ℕ) (b b' : Begun) → CutParts 59 rest piece remainder → item_read w j i piece b ≡ Ok b'
+    → items_read w j (i + (length piece + 1)) (but_last (pieces 59 remainder)) b' ≡ items_read w j i (but_last (pieces 59 rest)) b
 unfolding items_read
-ended_more w j i rest piece behind b b' p h = rw (ended_cut rest piece behind p, h) refl
+ended_more w j i rest piece remainder b b' p h = rw (ended_cut rest piece remainder p, h) refl
 
 -- where the item of a piece that a semicolon ends is faulty, the items are
-pub ended_fails : (w : Writing) (j : Joined) (i : ℕ) (rest piece behind : List ℕ) (b : Begun) (e : TextError) → CutParts 59 rest piece behind → item_read w j i piece b ≡ Err e
+pub ended_fails : (w : Writing) (j : Joined) (i : ℕ) (rest piece remainder : List ℕ) (b : Begun) (e : TextError) → CutParts 59 rest piece remainder → item_read w j i piece b ≡ Err e
     → items_read w j i (but_last (pieces 59 rest)) b ≡ Err e
 unfolding items_read
-ended_fails w j i rest piece behind b e p h = rw (ended_cut rest piece behind p, h) refl
+ended_fails w j i rest piece remainder b e p h = rw (ended_cut rest piece remainder p, h) refl
 
 -- a line with a `}` ends the text of the items
-pub brace_found : (j j' : Joined) (n : ℕ) (text prefix behind : List ℕ) (ls : Lines) → Some (prefix, behind) ≡ cut_at 125 text → j' ≡ with_text j n prefix → closed j' n behind ls ≡ braced j n text ls
+pub brace_found : (j j' : Joined) (n : ℕ) (text prefix remainder : List ℕ) (ls : Lines) → Some (prefix, remainder) ≡ cut_at 125 text → j' ≡ with_text j n prefix → closed j' n remainder ls ≡ braced j n text ls
 unfolding braced
-brace_found j j' n text prefix behind (ends m) e f = rw (sym e, f) refl
-brace_found j j' n text prefix behind (line m next rest) e f = rw (sym e, f) refl
+brace_found j j' n text prefix remainder (ends m) e f = rw (sym e, f) refl
+brace_found j j' n text prefix remainder (line m next rest) e f = rw (sym e, f) refl
 
 -- where the lines end without a `}`, the text of the items stays open
 pub brace_missing : (j j' : Joined) (n : ℕ) (text : List ℕ) (ls : Lines) (m : ℕ) → None ≡ cut_at 125 text → ends m ≡ ls → j' ≡ with_text j n text → open_to j' m ≡ braced j n text ls

@@ -4,7 +4,7 @@ use Rattle.std.proofs.Common.{refl, sym, ap, ◌∙◌, arith, append_assoc, app
 use Rattle.std.proofs.lemmas.List.{get_or-take, get_or_append_left, get_or-append-add, length-append, length-map, map-append, take-append-le, take_more, take_all}
 use Rattle.arch_trait.specs.declared.code.Code.{Code}
 use Rattle.arch_trait.specs.Writing.{Writing}
-use Rattle.arch_trait.specs.Codes.{thread_of}
+use Rattle.arch_trait.specs.Codes.{thread_code_of}
 use Rattle.litmus_text.specs.TestText.{column_of, columns_of}
 use Rattle.litmus_text.specs.KeptCells.{all_texts, HoldsColumn}
 use Rattle.litmus_text.proofs.TableLaws.{column_at, length_columns, length-column_of, widest, widest_more}
@@ -66,29 +66,29 @@ kept_few n kept texts e = omega (arith, ap length e, length_take n texts)
 
 -- one more column is kept
 pub column_more : (n : ℕ) (w : Writing) (places : List (List ℕ)) (threads : List Code) (i : ℕ) (code : Code) (old new : List (List ℕ)) → i < length threads → code ≡ get_or threads i code
-    → old ≡ take n (all_texts (take i (columns_of w places (map thread_of threads)))) → new ≡ take n (old ++ column_of w places (i, thread_of code))
-    → new ≡ take n (all_texts (take (i + 1) (columns_of w places (map thread_of threads))))
+    → old ≡ take n (all_texts (take i (columns_of w places (map thread_code_of threads)))) → new ≡ take n (old ++ column_of w places (i, thread_code_of code))
+    → new ≡ take n (all_texts (take (i + 1) (columns_of w places (map thread_code_of threads))))
 column_more n w places threads i code old new h is old_is new_is =
-    let columns = columns_of w places (map thread_of threads) in
+    let columns = columns_of w places (map thread_code_of threads) in
     let long : i < length columns = omega (arith, length_columns w places threads) in
-    new_is ∙ ap (λ old. take n (old ++ column_of w places (i, thread_of code))) old_is ∙ take_again n (all_texts (take i columns)) (column_of w places (i, thread_of code))
+    new_is ∙ ap (λ old. take n (old ++ column_of w places (i, thread_code_of code))) old_is ∙ take_again n (all_texts (take i columns)) (column_of w places (i, thread_code_of code))
     ∙ ap (λ column. take n (all_texts (take i columns) ++ column)) (sym (column_at w places threads i code h is)) ∙ ap (take n) (sym (texts_more columns i long))
 
 -- where no column is left, all columns are kept, as far as there is room
 pub columns_whole : (n : ℕ) (w : Writing) (places : List (List ℕ)) (threads : List Code) (i : ℕ) (kept : List (List ℕ)) → length threads ≤ i
-    → kept ≡ take n (all_texts (take i (columns_of w places (map thread_of threads)))) → kept ≡ take n (all_texts (columns_of w places (map thread_of threads)))
+    → kept ≡ take n (all_texts (take i (columns_of w places (map thread_code_of threads)))) → kept ≡ take n (all_texts (columns_of w places (map thread_code_of threads)))
 columns_whole n w places threads i kept h e =
-    e ∙ ap (λ columns. take n (all_texts columns)) (take_all i (columns_of w places (map thread_of threads)) (omega (arith, length_columns w places threads)))
+    e ∙ ap (λ columns. take n (all_texts columns)) (take_all i (columns_of w places (map thread_code_of threads)) (omega (arith, length_columns w places threads)))
 
 -- the next column begins after the texts of this one
 pub first_more : (w : Writing) (places : List (List ℕ)) (threads : List Code) (i : ℕ) (code : Code) (old new : ℕ) → i < length threads → code ≡ get_or threads i code
-    → old ≡ length (all_texts (take i (columns_of w places (map thread_of threads)))) → new ≡ old + (length code.instrs.items + 1)
-    → new ≡ length (all_texts (take (i + 1) (columns_of w places (map thread_of threads))))
+    → old ≡ length (all_texts (take i (columns_of w places (map thread_code_of threads)))) → new ≡ old + (length code.instrs.items + 1)
+    → new ≡ length (all_texts (take (i + 1) (columns_of w places (map thread_code_of threads))))
 first_more w places threads i code old new h is old_is new_is =
-    let columns = columns_of w places (map thread_of threads) in
+    let columns = columns_of w places (map thread_code_of threads) in
     let long : i < length columns = omega (arith, length_columns w places threads) in
     let more = ap length (texts_more columns i long ∙ ap (λ column. all_texts (take i columns) ++ column) (column_at w places threads i code h is)) in
-    omega (arith, more, old_is, new_is, length-append (all_texts (take i columns)) (column_of w places (i, thread_of code)), length-column_of w places (i, thread_of code))
+    omega (arith, more, old_is, new_is, length-append (all_texts (take i columns)) (column_of w places (i, thread_code_of code)), length-column_of w places (i, thread_code_of code))
 
 in_column : (columns : List (List (List ℕ))) (i row : ℕ) → i < length columns → row < length (get_or columns i [])
     → get_or (all_texts columns) (length (all_texts (take i columns)) + row) [] ≡ get_or (get_or columns i []) row []
@@ -102,10 +102,10 @@ in_column (c ∷ cs) (suc i) row h g =
 
 -- the texts of a thread's column that are kept are at its places
 pub holds_column : (n : ℕ) (w : Writing) (places : List (List ℕ)) (threads : List Code) (i first : ℕ) (code : Code) (kept : List (List ℕ)) → i < length threads → code ≡ get_or threads i code
-    → kept ≡ take n (all_texts (columns_of w places (map thread_of threads))) → first ≡ length (all_texts (take i (columns_of w places (map thread_of threads))))
-    → HoldsColumn kept first (column_of w places (i, thread_of code))
+    → kept ≡ take n (all_texts (columns_of w places (map thread_code_of threads))) → first ≡ length (all_texts (take i (columns_of w places (map thread_code_of threads))))
+    → HoldsColumn kept first (column_of w places (i, thread_code_of code))
 holds_column n w places threads i first code kept h is kept_is first_is row inside within =
-    let columns = columns_of w places (map thread_of threads) in
+    let columns = columns_of w places (map thread_code_of threads) in
     let whole = all_texts columns in
     let long : i < length columns = omega (arith, length_columns w places threads) in
     let column = column_at w places threads i code h is in

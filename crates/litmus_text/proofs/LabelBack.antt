@@ -6,32 +6,32 @@ use Rattle.std.proofs.lemmas.List.Sums.{sum_by-cons}
 use Rattle.std.proofs.lemmas.Bool.{and_parts}
 use Rattle.micro_ops.specs.declared.operation.Micro.{Micro}
 use Rattle.micro_ops.specs.declared.operation.Micro.TheVariants as ops
-use Rattle.litmus_text.specs.Table.{is_label_of, is_label, lands_once, is_landing, labels_judged, all_labels_judged}
-use Rattle.litmus_text.specs.Placing.{renumbered}
+use Rattle.litmus_text.specs.TestTable.{is_label_of, is_label_row, lands_once, is_landing, labels_judged, all_labels_judged}
+use Rattle.litmus_text.specs.Placing.{op_renumbered}
 use Rattle.litmus_text.specs.TablePlan.{placed_from, column_so_far}
 use Rattle.litmus_text.specs.Progress.{occurs_once, op_lands, code_lands}
 
-label_kept : (label : ℕ) (table : List (List ℕ)) (names : ℕ → List ℕ) (op : Micro) → is_label_of label (renumbered table names op) ≡ is_label_of label op
+label_kept : (label : ℕ) (table : List (List ℕ)) (names : ℕ → List ℕ) (op : Micro) → is_label_of label (op_renumbered table names op) ≡ is_label_of label op
 label_kept label table names (ops.LoadAt dst place) = refl
 label_kept label table names op = refl
 
-count_kept : (label : ℕ) (table : List (List ℕ)) (names : ℕ → List ℕ) (n : ℕ) (code : List Micro) → count_by (is_label label) (placed_from table names n code) ≡ count_by (is_label_of label) code
+count_kept : (label : ℕ) (table : List (List ℕ)) (names : ℕ → List ℕ) (n : ℕ) (code : List Micro) → count_by (is_label_row label) (placed_from table names n code) ≡ count_by (is_label_of label) code
 count_kept label table names n [] = refl
 count_kept label table names n (op ∷ code) =
-    sum_by-cons (λ placed. cond (is_label label placed) 1 0) (record { op = renumbered table names op; at_line = n }) (placed_from table names (n + 1) code)
-    ∙ ap (λ b. cond b 1 0 + count_by (is_label label) (placed_from table names (n + 1) code)) (label_kept label table names op)
+    sum_by-cons (λ placed. cond (is_label_row label placed) 1 0) (record { op = op_renumbered table names op; at_line = n }) (placed_from table names (n + 1) code)
+    ∙ ap (λ b. cond b 1 0 + count_by (is_label_row label) (placed_from table names (n + 1) code)) (label_kept label table names op)
     ∙ ap (λ m. cond (is_label_of label op) 1 0 + m) (count_kept label table names (n + 1) code)
     ∙ sym (sum_by-cons (λ op. cond (is_label_of label op) 1 0) op code)
 
-once_kept : (label : ℕ) (table : List (List ℕ)) (names : ℕ → List ℕ) (n m : ℕ) (all behind : List Micro)
-    → lands_once label (placed_from table names n all) (placed_from table names m behind) ≡ occurs_once label all behind
-once_kept label table names n m all behind = rw (count_kept label table names n all, count_kept label table names m behind) refl
+once_kept : (label : ℕ) (table : List (List ℕ)) (names : ℕ → List ℕ) (n m : ℕ) (all remainder : List Micro)
+    → lands_once label (placed_from table names n all) (placed_from table names m remainder) ≡ occurs_once label all remainder
+once_kept label table names n m all remainder = rw (count_kept label table names n all, count_kept label table names m remainder) refl
 
-landing_kept : (op : Micro) (table : List (List ℕ)) (names : ℕ → List ℕ) (n m : ℕ) (all behind : List Micro)
-    → is_landing (renumbered table names op) (placed_from table names n all) (placed_from table names m behind) ≡ op_lands op all behind
-landing_kept (ops.BranchEq label) table names n m all behind = once_kept label table names n m all behind
-landing_kept (ops.BranchNz a label) table names n m all behind = once_kept label table names n m all behind
-landing_kept op table names n m all behind = refl
+landing_kept : (op : Micro) (table : List (List ℕ)) (names : ℕ → List ℕ) (n m : ℕ) (all remainder : List Micro)
+    → is_landing (op_renumbered table names op) (placed_from table names n all) (placed_from table names m remainder) ≡ op_lands op all remainder
+landing_kept (ops.BranchEq label) table names n m all remainder = once_kept label table names n m all remainder
+landing_kept (ops.BranchNz a label) table names n m all remainder = once_kept label table names n m all remainder
+landing_kept op table names n m all remainder = refl
 
 judged_back : (table : List (List ℕ)) (names : ℕ → List ℕ) (n m : ℕ) (all code : List Micro) → code_lands all code ≡ true
     → labels_judged (placed_from table names n all) (placed_from table names m code) ≡ Ok tt

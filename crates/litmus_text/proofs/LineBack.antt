@@ -4,9 +4,9 @@ use Rattle.std.specs.List.{list_all, flat_map, slice_split, AllByRecursion}
 use Rattle.std.proofs.lemmas.Bool.{eqb-true, and_parts}
 use Rattle.list_laws.proofs.Cases.{by_test}
 use Rattle.arch_trait.specs.Cells.{is_line_byte}
-use Rattle.litmus_text.specs.Lines.{Lines, ends, line, is_passed, lines_in, lines_from}
+use Rattle.litmus_text.specs.TextLines.{Lines, ends, line, is_passed, lines_in, lines_from}
 use Rattle.text_laws.specs.Lines.{without_return, is_line_feed}
-use Rattle.litmus_text.specs.TestText.{ended}
+use Rattle.litmus_text.specs.TestText.{with_line_feed}
 use Rattle.litmus_text.proofs.CutBack.{piece_back}
 use Rattle.text_laws.proofs.CutLaws.{without_class}
 use Rattle.text_laws.proofs.PieceLaws.{first_piece}
@@ -40,14 +40,14 @@ unfolding lines_in
 one_line n text pieces piece h = rw (keeps_end text h.bytes, h.stays) refl
 
 -- the text of printed lines is read as these lines
-pub lines_back : (n : ℕ) (texts : List (List ℕ)) → AllByRecursion IsLine texts → lines_from n (flat_map ended texts) ≡ before n texts ends
+pub lines_back : (n : ℕ) (texts : List (List ℕ)) → AllByRecursion IsLine texts → lines_from n (flat_map with_line_feed texts) ≡ before n texts ends
 unfolding lines_from lines_in
 lines_back n [] h = refl
 lines_back n (text ∷ texts) h =
-    let behind = flat_map ended texts in
-    let split : slice_split is_line_feed ((text ++ 10 ∷ []) ++ behind) ≡ text ∷ slice_split is_line_feed behind =
-    ap (slice_split is_line_feed) (append_assoc text (10 ∷ []) behind) ∙ piece_back 10 text behind (without_class is_line_byte 10 text refl h.0.bytes) in
-    let first = first_piece is_line_feed behind in
+    let remainder = flat_map with_line_feed texts in
+    let split : slice_split is_line_feed ((text ++ 10 ∷ []) ++ remainder) ≡ text ∷ slice_split is_line_feed remainder =
+    ap (slice_split is_line_feed) (append_assoc text (10 ∷ []) remainder) ∙ piece_back 10 text remainder (without_class is_line_byte 10 text refl h.0.bytes) in
+    let first = first_piece is_line_feed remainder in
     ap (lines_in n) (split ∙ ap (λ pieces. text ∷ pieces) first.is)
     ∙ one_line n text first.rest first.piece h.0
     ∙ ap (line n text) (ap (lines_in (n + 1)) (sym first.is) ∙ lines_back (n + 1) texts h.1)

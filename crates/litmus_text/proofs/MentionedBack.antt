@@ -10,18 +10,18 @@ use Rattle.micro_ops.specs.declared.operation.Micro.{Micro}
 use Rattle.micro_ops.specs.declared.operation.Micro.TheVariants as ops
 use Rattle.final_cond.specs.Conditions.{LeftSeen, InRegister, AtPlace, TermSeen}
 use Rattle.arch_trait.specs.Threads.{Puts, ThreadCode}
-use Rattle.arch_trait.specs.Names.{number_in, names_added}
+use Rattle.arch_trait.specs.PlaceNames.{number_in, names_added}
 use Rattle.arch_trait.specs.Writing.{Writing, WritesBack, name_in}
-use Rattle.arch_trait.specs.Cells.{WritesCells, accesses_in}
+use Rattle.arch_trait.specs.Cells.{WritesCells, access_count}
 use Rattle.arch_trait.specs.LabelOrder.{labels_in}
-use Rattle.arch_trait.specs.Tests.{TestSeen}
+use Rattle.arch_trait.specs.SeenTests.{TestSeen}
 use Rattle.litmus_text.specs.TestText.{columns_of, row_line}
 use Rattle.litmus_text.specs.Placing.{mentioned}
-use Rattle.litmus_text.specs.Progress.{Progress, moved, advanced, mentioned_first, row_mentions, is_placed, CodeFits}
+use Rattle.litmus_text.specs.Progress.{RowProgress, moved, advanced, mentioned_first, row_mentions, is_placed, CodeFits}
 use Rattle.litmus_text.specs.Items.{Link, links_of, links_mention, LinkFits}
-use Rattle.litmus_text.specs.Terms.{left_mention, terms_mention, is_known, TermFits}
+use Rattle.litmus_text.specs.ReadTerms.{left_mention, terms_mention, is_known, TermFits}
 use Rattle.litmus_text.specs.Reread.{IsReadable}
-use Rattle.litmus_text.specs.Mentioned.{is_in, op_is_in, left_is_in, ReadsBack}
+use Rattle.litmus_text.specs.Mentioned.{is_in, op_is_in, left_is_in, TestReadsBack}
 use Rattle.litmus_text.proofs.NamesBack.{Within, within_self, within_trans, within_number, numbered_in, IsAmong, place_added, none_among}
 use Rattle.litmus_text.proofs.ItemBack.{links_within, links_among}
 use Rattle.litmus_text.proofs.RowBack.{IsReady, row_within, rows_mention, rows_within, all_advance, row_among, mention_among, rows_among}
@@ -65,17 +65,17 @@ first_among a table s names labels accesses [] fits h few = h
 first_among a table s names labels accesses (op ∷ left) fits h few = mention_among table names s op h few fits.0.placed
 
 -- after a row the first operations are in the table
-row_in : (a : Puts) (table s final : List (List ℕ)) (names : ℕ → List ℕ) (first n : ℕ) (ps : List Progress) → AllByRecursion (IsReady a table names first n) ps → IsAmong s table → length table ≤ 64
+row_in : (a : Puts) (table s final : List (List ℕ)) (names : ℕ → List ℕ) (first n : ℕ) (ps : List RowProgress) → AllByRecursion (IsReady a table names first n) ps → IsAmong s table → length table ≤ 64
     → Within (row_mentions names s ps) final → AllByRecursion (λ p. FirstIn final names p.left) ps
 row_in a table s final names first n [] ready h few within = tt
 row_in a table s final names first n (p ∷ ps) ready h few within = (
-  first_in a table s final names (labels_in 0 p.done) (accesses_in p.done) p.left ready.0.code h few
+  first_in a table s final names (labels_in 0 p.done) (access_count p.done) p.left ready.0.code h few
       (within_trans (mentioned_first names s p.left) (row_mentions names s (p ∷ ps)) final (row_within names (mentioned_first names s p.left) ps) within),
-  row_in a table (mentioned_first names s p.left) final names first n ps ready.1 (first_among a table s names (labels_in 0 p.done) (accesses_in p.done) p.left ready.0.code h few) few within,
+  row_in a table (mentioned_first names s p.left) final names first n ps ready.1 (first_among a table s names (labels_in 0 p.done) (access_count p.done) p.left ready.0.code h few) few within,
 )
 
 -- the first operation and then the others
-then_others : (table : List (List ℕ)) (names : ℕ → List ℕ) (ps : List Progress) → AllByRecursion (λ p. FirstIn table names p.left) ps → AllByRecursion (λ p. OpsIn table names p.left) (map advanced ps)
+then_others : (table : List (List ℕ)) (names : ℕ → List ℕ) (ps : List RowProgress) → AllByRecursion (λ p. FirstIn table names p.left) ps → AllByRecursion (λ p. OpsIn table names p.left) (map advanced ps)
     → AllByRecursion (λ p. OpsIn table names p.left) ps
 then_others table names [] h k = tt
 then_others table names (p ∷ ps) h k = (one p.done p.left h.0 k.0, then_others table names ps h.1 k.1)
@@ -84,7 +84,7 @@ then_others table names (p ∷ ps) h k = (one p.done p.left h.0 k.0, then_others
     one done [] h k = tt
     one done (op ∷ left) h k = (h, k)
 
-shorter : (m : ℕ) (ps : List Progress) → AllByRecursion (λ p. length p.left ≤ suc m) ps → AllByRecursion (λ p. length p.left ≤ m) (map advanced ps)
+shorter : (m : ℕ) (ps : List RowProgress) → AllByRecursion (λ p. length p.left ≤ suc m) ps → AllByRecursion (λ p. length p.left ≤ m) (map advanced ps)
 shorter m [] h = tt
 shorter m (p ∷ ps) h = (one p.done p.left h.0, shorter m ps h.1)
   where
@@ -93,7 +93,7 @@ shorter m (p ∷ ps) h = (one p.done p.left h.0, shorter m ps h.1)
     one done (op ∷ left) h = omega arith
 
 -- after all rows all operations are in the table
-rows_in : (a : Puts) (table s final : List (List ℕ)) (names : ℕ → List ℕ) (first n : ℕ) (texts : List (List ℕ)) (ps : List Progress) → AllByRecursion (IsReady a table names first n) ps
+rows_in : (a : Puts) (table s final : List (List ℕ)) (names : ℕ → List ℕ) (first n : ℕ) (texts : List (List ℕ)) (ps : List RowProgress) → AllByRecursion (IsReady a table names first n) ps
     → AllByRecursion (λ p. length p.left ≤ length texts) ps → IsAmong s table → length table ≤ 64 → Within (rows_mention names s texts ps) final → AllByRecursion (λ p. OpsIn final names p.left) ps
 rows_in a table s final names first n [] ps ready short h few within = none ps short
   where
@@ -101,7 +101,7 @@ rows_in a table s final names first n [] ps ready short h few within = none ps s
     nothing [] h = tt
     nothing (op ∷ left) h = absurd (omega arith)
 
-    none : (ps : List Progress) → AllByRecursion (λ p. length p.left ≤ 0) ps → AllByRecursion (λ p. OpsIn final names p.left) ps
+    none : (ps : List RowProgress) → AllByRecursion (λ p. length p.left ≤ 0) ps → AllByRecursion (λ p. OpsIn final names p.left) ps
     none [] h = tt
     none (p ∷ ps) h = (nothing p.left h.0, none ps h.1)
 rows_in a table s final names first n (text ∷ texts) ps ready short h few within =
@@ -147,7 +147,7 @@ start_in table names [] h = tt
 start_in table names (t ∷ threads) h = (subst (OpsIn table names) (drop_none t.instrs) h.0, start_in table names threads h.1)
 
 -- the text of a readable test is read as that test, its places numbered by a table
-pub reads_back : (a : Puts) (arch : ArchName) (w : Writing) (name : List ℕ) (test : TestSeen) → WritesBack a w → WritesCells a w → IsReadable a arch w name test → ReadsBack arch w name test
+pub reads_back : (a : Puts) (arch : ArchName) (w : Writing) (name : List ℕ) (test : TestSeen) → WritesBack a w → WritesCells a w → IsReadable a arch w name test → TestReadsBack arch w name test
 unfolding mentions
 reads_back a arch w name test laws cells h =
     let names = name_in test.places in

@@ -9,7 +9,7 @@ use Rattle.std.proofs.lemmas.List.{length-map}
 use Rattle.std.proofs.lemmas.Map.Steps.{length-le_from_distinct_below}
 use Rattle.std.proofs.lemmas.Slice.Eq.{bytes_eq-Decides}
 use Rattle.list_laws.proofs.Cases.{by_test}
-use Rattle.arch_trait.specs.Names.{number_in, number_added, names_added, number_or_next, with_name}
+use Rattle.arch_trait.specs.PlaceNames.{number_in, number_added, names_added, number_or_next, with_name}
 use Rattle.litmus_text.specs.Placing.{or_zero, place_in}
 use Rattle.text_laws.proofs.OrderLaws.{bytes_same}
 

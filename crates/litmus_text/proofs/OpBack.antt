@@ -11,11 +11,11 @@ use Rattle.text_laws.specs.Names.{is_place_name, is_register_name}
 use Rattle.micro_ops.specs.declared.operation.Micro.{Micro}
 use Rattle.micro_ops.specs.declared.operation.Micro.TheVariants as ops
 use Rattle.arch_trait.specs.declared.reading.InstrError.TheVariants as errors
-use Rattle.arch_trait.specs.Names.{number_in, number_added, names_added, number_or_next, with_name}
-use Rattle.arch_trait.specs.Reading.{numbered, with_place, with_label}
-use Rattle.arch_trait.specs.Writing.{name_of, with_number, label_name}
+use Rattle.arch_trait.specs.PlaceNames.{number_in, number_added, names_added, number_or_next, with_name}
+use Rattle.arch_trait.specs.InstructionReading.{read_numbered, with_place, with_label}
+use Rattle.arch_trait.specs.Writing.{op_name, with_number, label_name}
 use Rattle.arch_trait.specs.LabelOrder.{is_next, labels_after}
-use Rattle.litmus_text.specs.Placing.{or_zero, place_in, renumbered, mentioned}
+use Rattle.litmus_text.specs.Placing.{or_zero, place_in, op_renumbered, mentioned}
 use Rattle.litmus_text.specs.Progress.{is_placed}
 use Rattle.litmus_text.specs.TablePlan.{label_table}
 use Rattle.litmus_text.proofs.NamesBack.{Within, within_number, IsAmong, place_added}
@@ -130,8 +130,8 @@ label_step op s count label next small =
 -- an operation gets the numbers of its place and its label
 pub numbers_back : (op : Micro) (names : ℕ → List ℕ) (s table final : List (List ℕ)) (count : ℕ) → IsAmong s table → length table ≤ 64
     → is_placed table names op ≡ true → is_next count op ≡ true → count ≤ 64 → Within (mentioned names s op) final
-    → numbered (with_number op 0) (name_of names op) s (label_table count)
-    ≡ Ok (record { op = renumbered final names op; places = mentioned names s op; labels = label_table (labels_after count op) })
+    → read_numbered (with_number op 0) (op_name names op) s (label_table count)
+    ≡ Ok (record { op = op_renumbered final names op; places = mentioned names s op; labels = label_table (labels_after count op) })
 numbers_back (ops.LoadAt dst place) names s table final count among few placed next small within =
     let parts = and_parts (is_place_name (names place)) (is_some (number_in table (names place))) placed in
     place_step (ops.LoadAt dst 0) s table final (label_table count) (names place) among few parts.0 parts.1 within

@@ -13,10 +13,10 @@ use Rattle.arch_trait.specs.Writing.{Writing}
 use Rattle.litmus_text.specs.Header.{after_settings, is_setting, header_read, quote_read}
 use Rattle.litmus_text.specs.declared.reading.table.Column.{Column as ThreadColumn}
 use Rattle.litmus_text.specs.Views.{column_seen, rest_read, table_read, body_read}
-use Rattle.litmus_text.specs.Lines.{Lines, ends, line}
+use Rattle.litmus_text.specs.TextLines.{Lines, ends, line}
 use Rattle.litmus_text.specs.InitialState.{Begun}
-use Rattle.litmus_text.specs.Table.{Column, among, rows_read, no_columns, all_labels_judged}
-use Rattle.litmus_text.specs.TestReading.{ThreadRead, values_of, threads_of, lines_read}
+use Rattle.litmus_text.specs.TestTable.{Column, among, rows_read, no_columns, all_labels_judged}
+use Rattle.litmus_text.specs.TestReading.{ThreadRead, values_of_thread, threads_of, lines_read}
 
 -- a line of settings is passed over
 pub settings_more : (n : ℕ) (text : List ℕ) (rest ls : Lines) → line n text rest ≡ ls → is_setting text ≡ true → after_settings rest ≡ after_settings ls
@@ -38,17 +38,17 @@ filter_push p xs x = filter-append p xs (x ∷ [])
 
 -- a value of the thread is added to those of the thread
 pub value_more : (thread : ℕ) (values : List (ℕ × (ℕ × Value))) (i : ℕ) (d : ℕ × (ℕ × Value)) → i < length values → (get_or values i d).0 == thread ≡ true
-    → values_of thread (take (i + 1) values) ≡ values_of thread (take i values) ++ (get_or values i d).1 ∷ []
+    → values_of_thread thread (take (i + 1) values) ≡ values_of_thread thread (take i values) ++ (get_or values i d).1 ∷ []
 value_more thread values i d inside h =
     let p = λ (v : ℕ × (ℕ × Value)). v.0 == thread in
-    ap (values_of thread) (take_more values i d inside) ∙ ap (map (λ v. v.1)) (filter_push p (take i values) (get_or values i d)) ∙ rw h (map_push (λ v. v.1) (filter p (take i values)) (get_or values i d))
+    ap (values_of_thread thread) (take_more values i d inside) ∙ ap (map (λ v. v.1)) (filter_push p (take i values) (get_or values i d)) ∙ rw h (map_push (λ v. v.1) (filter p (take i values)) (get_or values i d))
 
 -- a value of another thread isn't added
 pub value_other : (thread : ℕ) (values : List (ℕ × (ℕ × Value))) (i : ℕ) (d : ℕ × (ℕ × Value)) → i < length values → (get_or values i d).0 == thread ≡ false
-    → values_of thread (take (i + 1) values) ≡ values_of thread (take i values)
+    → values_of_thread thread (take (i + 1) values) ≡ values_of_thread thread (take i values)
 value_other thread values i d inside h =
     let p = λ (v : ℕ × (ℕ × Value)). v.0 == thread in
-    ap (values_of thread) (take_more values i d inside) ∙ ap (map (λ v. v.1)) (filter_push p (take i values) (get_or values i d)) ∙ rw h (ap (map (λ v. v.1)) (append-nil (filter p (take i values))))
+    ap (values_of_thread thread) (take_more values i d inside) ∙ ap (map (λ v. v.1)) (filter_push p (take i values) (get_or values i d)) ∙ rw h (ap (map (λ v. v.1)) (append-nil (filter p (take i values))))
 
 numbered_push : {A : Type 0} (n : ℕ) (xs : List A) (x : A) → enumerate_from n (xs ++ x ∷ []) ≡ enumerate_from n xs ++ (n + length xs, x) ∷ []
 numbered_push n [] x = ap (λ k. (k, x) ∷ []) (sym (add-zero n))
@@ -56,16 +56,16 @@ numbered_push n (y ∷ xs) x = let e : (n + 1) + length xs ≡ n + suc (length x
 
 -- one more column gives one more thread
 pub thread_more : (begun : Begun) (columns : List Column) (i : ℕ) (d : Column) → i < length columns
-    → threads_of begun (take (i + 1) columns) ≡ threads_of begun (take i columns) ++ (record { init = values_of i begun.values; code = map (λ placed. placed.op) (get_or columns i d).ops }) ∷ []
+    → threads_of begun (take (i + 1) columns) ≡ threads_of begun (take i columns) ++ (record { init = values_of_thread i begun.values; code = map (λ placed. placed.op) (get_or columns i d).ops }) ∷ []
 thread_more begun columns i d inside =
-    let f : ℕ × Column → ThreadRead = λ c. record { init = values_of c.0 begun.values; code = map (λ placed. placed.op) c.1.ops } in
+    let f : ℕ × Column → ThreadRead = λ c. record { init = values_of_thread c.0 begun.values; code = map (λ placed. placed.op) c.1.ops } in
     let n : 0 + length (take i columns) ≡ i = omega (arith, length-take i columns) in
     ap (threads_of begun) (take_more columns i d inside) ∙ ap (map f) (numbered_push 0 (take i columns) (get_or columns i d) ∙ ap (λ k. enumerate_from 0 (take i columns) ++ (k, get_or columns i d) ∷ []) n)
     ∙ map_push f (enumerate_from 0 (take i columns)) (i, get_or columns i d)
 
 -- one more column of the code gives one more thread
 pub thread_step : (begun : Begun) (xs : List ThreadColumn) (i : ℕ) (d : ThreadColumn) (threads : List ThreadRead) (t : ThreadRead) → i < length xs → d ≡ get_or xs i d
-    → t ≡ record { init = values_of i begun.values; code = map (λ placed. placed.op) d.ops.items }
+    → t ≡ record { init = values_of_thread i begun.values; code = map (λ placed. placed.op) d.ops.items }
     → threads ≡ threads_of begun (take i (map column_seen xs)) → threads ++ t ∷ [] ≡ threads_of begun (take (i + 1) (map column_seen xs))
 thread_step begun xs i d threads t inside is e so_far =
     let k : i < length (map column_seen xs) = rw length-map inside in

@@ -8,16 +8,16 @@ use Rattle.relax_edges.specs.declared.kinds.Value.{Value}
 use Rattle.relax_edges.specs.declared.kinds.Value.TheVariants as values
 use Rattle.text_laws.specs.Names.{is_place_name}
 use Rattle.final_cond.specs.Conditions.{LeftSeen, InRegister, AtPlace}
-use Rattle.final_cond.specs.Reading.{left_at_start}
-use Rattle.arch_trait.specs.Names.{number_in, number_added, names_added}
+use Rattle.final_cond.specs.ConditionReading.{left_at_start}
+use Rattle.arch_trait.specs.PlaceNames.{number_in, number_added, names_added}
 use Rattle.text_laws.specs.Blanks.{trim_blanks}
 use Rattle.arch_trait.specs.Writing.{Writing}
 use Rattle.litmus_text.specs.declared.limits.TheConstants.{MAX_THREADS}
 use Rattle.text_laws.specs.Cuts.{cut_at}
-use Rattle.litmus_text.specs.Cuts.{pieces}
+use Rattle.litmus_text.specs.TextCuts.{pieces}
 use Rattle.litmus_text.specs.Joined.{Joined, no_text}
-use Rattle.litmus_text.specs.Lines.{Lines, ends, line}
-use Rattle.litmus_text.specs.InitialState.{Worth, a_number, a_place, Item, empty, gives, zero_at, worth_of, given, item_with, whole_left, item_if, item_parts, some_item, item_of, Begun, nothing_begun, is_given, with_value, with_address, with_worth, with_named, item_put, item_read, items_read, but_last, Braced, closed, open_to, braced, brace_ends, braced_read, initial_line, initial_read}
+use Rattle.litmus_text.specs.TextLines.{Lines, ends, line}
+use Rattle.litmus_text.specs.InitialState.{Worth, a_number, a_place, Item, empty, gives, zero_at, worth_of, given_item, item_with, whole_left, item_if, item_parts, some_item, item_of, Begun, nothing_begun, is_given, with_value, address_begun, with_worth, with_named, item_put, item_read, items_read, but_last, Braced, closed, open_to, braced, brace_ends, braced_read, initial_line, initial_read}
 use Rattle.litmus_text.specs.Runnable.{AllNameRegisters}
 use Rattle.litmus_text.proofs.RunnableRead.{Gives, then_gives, all_push}
 
@@ -34,7 +34,7 @@ ItemBelow (Some empty) = Unit
 ItemBelow (Some (gives thread register worth)) = register < 32
 ItemBelow (Some (zero_at place)) = Unit
 
-given_below : (thread : ℕ) (n : Option ℕ) (worth : Option Worth) → ((r : ℕ) → n ≡ Some r → r < 32) → ItemBelow (given thread n worth)
+given_below : (thread : ℕ) (n : Option ℕ) (worth : Option Worth) → ((r : ℕ) → n ≡ Some r → r < 32) → ItemBelow (given_item thread n worth)
 given_below thread None worth h = tt
 given_below thread (Some r) None h = tt
 given_below thread (Some r) (Some worth) h = h r refl
@@ -64,7 +64,7 @@ BegunBelow begun = AllNameRegisters begun.values
 value_below : (begun : Begun) (names : List (List ℕ)) (thread register : ℕ) (value : Value) → BegunBelow begun → register < 32 → BegunBelow (with_value begun names thread register value)
 value_below begun names thread register value h b = all_push (λ (v : ℕ × (ℕ × Value)). v.1.0 < 32) begun.values (thread, (register, value)) h b
 
-address_below : (n : ℕ) (begun : Begun) (thread register : ℕ) (name : List ℕ) (place : Option ℕ) → BegunBelow begun → register < 32 → Gives BegunBelow (with_address n begun thread register name place)
+address_below : (n : ℕ) (begun : Begun) (thread register : ℕ) (name : List ℕ) (place : Option ℕ) → BegunBelow begun → register < 32 → Gives BegunBelow (address_begun n begun thread register name place)
 address_below n begun thread register name None h b = tt
 address_below n begun thread register name (Some place) h b = value_below begun (names_added begun.names name) thread register (values.Place place) h b
 
@@ -97,14 +97,14 @@ items_below w joined i (piece ∷ rest) begun b h =
 abbrev FirstBelow : Begun × Lines → Type 0
 FirstBelow x = BegunBelow x.0
 
-brace_below : (n : ℕ) (behind : List ℕ) (rest : Lines) (begun : Begun) → BegunBelow begun → Gives FirstBelow (brace_ends n behind rest begun)
+brace_below : (n : ℕ) (remainder : List ℕ) (rest : Lines) (begun : Begun) → BegunBelow begun → Gives FirstBelow (brace_ends n remainder rest begun)
 brace_below n [] rest begun h = h
-brace_below n (byte ∷ behind) rest begun h = tt
+brace_below n (byte ∷ remainder) rest begun h = tt
 
 braced_below : (w : Writing) (end : Braced) → length w.registers ≤ 32 → Gives FirstBelow (braced_read w end)
-braced_below w (closed text n behind rest) b =
+braced_below w (closed text n remainder rest) b =
     then_gives BegunBelow FirstBelow (items_read w text 0 (pieces 59 text.bytes) nothing_begun) _
-    (items_below w text 0 (pieces 59 text.bytes) nothing_begun b tt) (λ begun h. brace_below n behind rest begun h)
+    (items_below w text 0 (pieces 59 text.bytes) nothing_begun b tt) (λ begun h. brace_below n remainder rest begun h)
 braced_below w (open_to text n) b =
     then_gives BegunBelow FirstBelow (items_read w text 0 (but_last (pieces 59 text.bytes)) nothing_begun) _
     (items_below w text 0 (but_last (pieces 59 text.bytes)) nothing_begun b tt) (λ begun h. tt)

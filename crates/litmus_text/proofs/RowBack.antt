@@ -11,24 +11,24 @@ use Rattle.text_laws.specs.Names.{is_place_name}
 use Rattle.micro_ops.specs.declared.operation.Micro.{Micro}
 use Rattle.micro_ops.specs.declared.operation.Micro.TheVariants as ops
 use Rattle.arch_trait.specs.Threads.{Puts}
-use Rattle.arch_trait.specs.Names.{number_in, names_added, with_name}
-use Rattle.arch_trait.specs.Reading.{instr_read}
-use Rattle.arch_trait.specs.Writing.{Writing, WritesBack, op_text, name_of, is_named, label_name, listed}
+use Rattle.arch_trait.specs.PlaceNames.{number_in, names_added, with_name}
+use Rattle.arch_trait.specs.InstructionReading.{instr_read}
+use Rattle.arch_trait.specs.Writing.{Writing, WritesBack, op_text, op_name, is_well_named, label_name, listed}
 use Rattle.arch_trait.proofs.Spelling.{instr_back, word_is}
-use Rattle.arch_trait.specs.Cells.{WritesCells, accesses_in, ends_rows, is_access, is_cell_byte, is_label_op}
+use Rattle.arch_trait.specs.Cells.{WritesCells, access_count, ends_rows, is_access, is_cell_byte, is_label_op}
 use Rattle.arch_trait.specs.LabelOrder.{is_next, labels_after, labels_in}
-use Rattle.litmus_text.specs.Lines.{Lines, line, ◌>>=◌}
-use Rattle.litmus_text.specs.Table.{Column, Among, among, has_room, instr_put, cell_read, row_read, before_columns, rows_read, cells_of}
-use Rattle.litmus_text.specs.Placing.{renumbered, mentioned}
+use Rattle.litmus_text.specs.TextLines.{Lines, line, ◌>>=◌}
+use Rattle.litmus_text.specs.TestTable.{Column, Among, among, has_room, instr_put, cell_read, row_read, before_columns, rows_read, cells_of}
+use Rattle.litmus_text.specs.Placing.{op_renumbered, mentioned}
 use Rattle.litmus_text.specs.TablePlan.{placed_from, label_table, column_so_far}
-use Rattle.litmus_text.specs.Progress.{Progress, progress, moved, advanced, column_at, mentioned_first, row_mentions, is_placed, OpFits, CodeFits}
+use Rattle.litmus_text.specs.Progress.{RowProgress, progress, moved, advanced, column_at, mentioned_first, row_mentions, is_placed, OpFits, CodeFits}
 use Rattle.litmus_text.proofs.LineBack.{before}
 use Rattle.litmus_text.proofs.NamesBack.{Within, within_self, within_trans, IsAmong, place_added}
 use Rattle.litmus_text.proofs.CellBack.{padded, Begins, empty_back, plain_back, label_back}
 use Rattle.litmus_text.proofs.OpBack.{numbers_back, label_formed}
 
 -- what an operation names has its form
-pub named_op : (op : Micro) (table : List (List ℕ)) (names : ℕ → List ℕ) (count : ℕ) → is_placed table names op ≡ true → is_next count op ≡ true → is_named (name_of names op) ≡ true
+pub named_op : (op : Micro) (table : List (List ℕ)) (names : ℕ → List ℕ) (count : ℕ) → is_placed table names op ≡ true → is_next count op ≡ true → is_well_named (op_name names op) ≡ true
 named_op (ops.LoadAt dst place) table names count placed next = (and_parts (is_place_name (names place)) (is_some (number_in table (names place))) placed).0
 named_op (ops.StoreAt place n) table names count placed next = (and_parts (is_place_name (names place)) (is_some (number_in table (names place))) placed).0
 named_op (ops.BranchEq label) table names count placed next = label_formed label (ltb-true label 64 (and_parts (nat_le label count) (nat_lt label 64) next).1)
@@ -67,7 +67,7 @@ mention_among table names s (ops.LoadAt dst place) h few placed = (place_added s
 mention_among table names s (ops.StoreAt place n) h few placed = (place_added s table (names place) h few (and_parts (is_place_name (names place)) (is_some (number_in table (names place))) placed).1).among
 mention_among table names s op h few placed = h
 
-access_same : (table : List (List ℕ)) (names : ℕ → List ℕ) (op : Micro) → is_access (renumbered table names op) ≡ is_access op
+access_same : (table : List (List ℕ)) (names : ℕ → List ℕ) (op : Micro) → is_access (op_renumbered table names op) ≡ is_access op
 access_same table names (ops.LoadAt dst place) = refl
 access_same table names op = refl
 
@@ -76,54 +76,54 @@ first_within names s [] = within_self s
 first_within names s (op ∷ left) = mention_within names s op
 
 -- a table goes on to the one after a row
-pub row_within : (names : ℕ → List ℕ) (s : List (List ℕ)) (ps : List Progress) → Within s (row_mentions names s ps)
+pub row_within : (names : ℕ → List ℕ) (s : List (List ℕ)) (ps : List RowProgress) → Within s (row_mentions names s ps)
 row_within names s [] = within_self s
 row_within names s (p ∷ ps) =
     within_trans s (mentioned_first names s p.left) (row_mentions names s (p ∷ ps)) (first_within names s p.left) (row_within names (mentioned_first names s p.left) ps)
 
-accesses_placed : (table : List (List ℕ)) (names : ℕ → List ℕ) (n : ℕ) (code : List Micro) → count_by (λ placed. is_access placed.op) (placed_from table names n code) ≡ accesses_in code
+accesses_placed : (table : List (List ℕ)) (names : ℕ → List ℕ) (n : ℕ) (code : List Micro) → count_by (λ placed. is_access placed.op) (placed_from table names n code) ≡ access_count code
 accesses_placed table names n [] = refl
 accesses_placed table names n (op ∷ code) =
-    sum_by-cons (λ placed. cond (is_access placed.op) 1 0) (record { op = renumbered table names op; at_line = n }) (placed_from table names (n + 1) code)
+    sum_by-cons (λ placed. cond (is_access placed.op) 1 0) (record { op = op_renumbered table names op; at_line = n }) (placed_from table names (n + 1) code)
     ∙ ap (λ b. cond b 1 0 + count_by (λ placed. is_access placed.op) (placed_from table names (n + 1) code)) (access_same table names op)
     ∙ ap (λ m. cond (is_access op) 1 0 + m) (accesses_placed table names (n + 1) code)
     ∙ sym (sum_by-cons (λ op. cond (is_access op) 1 0) op code)
 
-accesses_more : (code : List Micro) (op : Micro) → accesses_in (code ++ op ∷ []) ≡ accesses_in code + cond (is_access op) 1 0
-accesses_more code op = sum_by-append (λ op. cond (is_access op) 1 0) code (op ∷ []) ∙ ap (λ m. accesses_in code + m) (zero-add (cond (is_access op) 1 0))
+accesses_more : (code : List Micro) (op : Micro) → access_count (code ++ op ∷ []) ≡ access_count code + cond (is_access op) 1 0
+accesses_more code op = sum_by-append (λ op. cond (is_access op) 1 0) code (op ∷ []) ∙ ap (λ m. access_count code + m) (zero-add (cond (is_access op) 1 0))
 
 placed_more : (table : List (List ℕ)) (names : ℕ → List ℕ) (n m : ℕ) (code : List Micro) (op : Micro) → n + length code ≡ m
-    → placed_from table names n code ++ (record { op = renumbered table names op; at_line = m }) ∷ [] ≡ placed_from table names n (code ++ op ∷ [])
+    → placed_from table names n code ++ (record { op = op_renumbered table names op; at_line = m }) ∷ [] ≡ placed_from table names n (code ++ op ∷ [])
 placed_more table names n m [] op h = let same : n ≡ m = omega arith in rw same refl
 placed_more table names n m (x ∷ code) op h =
-    ap (λ rest. record { op = renumbered table names x; at_line = n } ∷ rest) (placed_more table names (n + 1) m code op (omega arith))
+    ap (λ rest. record { op = op_renumbered table names x; at_line = n } ∷ rest) (placed_more table names (n + 1) m code op (omega arith))
 
 labels_more : (count : ℕ) (code : List Micro) (op : Micro) → labels_in count (code ++ op ∷ []) ≡ labels_after (labels_in count code) op
 labels_more count [] op = refl
 labels_more count (x ∷ code) op = labels_more (labels_after count x) code op
 
-word_begins : (b : ℕ) (rest behind word : List ℕ) → word ≡ b ∷ rest → list_all (λ x. not (is_blank x) && not (x == 44)) word ≡ true → Begins (word ++ behind)
-word_begins b rest behind word e h =
+word_begins : (b : ℕ) (rest remainder word : List ℕ) → word ≡ b ∷ rest → list_all (λ x. not (is_blank x) && not (x == 44)) word ≡ true → Begins (word ++ remainder)
+word_begins b rest remainder word e h =
     let all : list_all (λ x. not (is_blank x) && not (x == 44)) (b ∷ rest) ≡ true = ap (list_all (λ x. not (is_blank x) && not (x == 44))) (sym e) ∙ h in
     let first = and_parts (not (is_blank b) && not (b == 44)) (list_all (λ x. not (is_blank x) && not (x == 44)) rest) all in
     let inked = and_parts (not (is_blank b)) (not (b == 44)) first.0 in
-    record { first = b; rest = rest ++ behind; is = ap (λ x. x ++ behind) e; inked = not-true (is_blank b) inked.0 }
+    record { first = b; rest = rest ++ remainder; is = ap (λ x. x ++ remainder) e; inked = not-true (is_blank b) inked.0 }
 
 -- the text of an operation begins with no blank
-pub text_begins : (a : Puts) (w : Writing) (names : ℕ → List ℕ) (op : Micro) → WritesBack a w → a.has op ≡ true → is_named (name_of names op) ≡ true → Begins (op_text w names op)
+pub text_begins : (a : Puts) (w : Writing) (names : ℕ → List ℕ) (op : Micro) → WritesBack a w → a.has op ≡ true → is_well_named (op_name names op) ≡ true → Begins (op_text w names op)
 text_begins a w names op laws has named =
     let word = word_is (w.written names op).word (laws.word names op has named) in
     word_begins word.first word.rest (listed (w.written names op).operands) (w.written names op).word word.is word.bytes
 
 -- a thread whose rows were read up to a line: what is left of it fits
-pub record IsReady (a : Puts) (table : List (List ℕ)) (names : ℕ → List ℕ) (first n : ℕ) (p : Progress) : Type 0 where
-  pub code : CodeFits a table names (labels_in 0 p.done) (accesses_in p.done) p.left
+pub record IsReady (a : Puts) (table : List (List ℕ)) (names : ℕ → List ℕ) (first n : ℕ) (p : RowProgress) : Type 0 where
+  pub code : CodeFits a table names (labels_in 0 p.done) (access_count p.done) p.left
   pub few : labels_in 0 p.done ≤ 64
   pub line : 0 < length p.left → first + length p.done ≡ n
 
 -- what one operation more makes of a column
 op_put : (a : Puts) (w : Writing) (table final s : List (List ℕ)) (names : ℕ → List ℕ) (first n : ℕ) (done : List Micro) (op : Micro)
-    → WritesBack a w → OpFits a table names (labels_in 0 done) (accesses_in done) op → labels_in 0 done ≤ 64 → first + length done ≡ n
+    → WritesBack a w → OpFits a table names (labels_in 0 done) (access_count done) op → labels_in 0 done ≤ 64 → first + length done ≡ n
     → IsAmong s table → length table ≤ 64 → Within (mentioned names s op) final
     → instr_put n (column_so_far final names first done) (instr_read w (op_text w names op) s (label_table (labels_in 0 done)))
     ≡ Ok (among (mentioned names s op) (column_so_far final names first (done ++ op ∷ [])))
@@ -131,7 +131,7 @@ op_put a w table final s names first n done op laws fits few at_line among_table
     let named = named_op op table names (labels_in 0 done) fits.placed fits.next in
     let read = instr_back a w laws names op s (label_table (labels_in 0 done)) fits.has named
     ∙ numbers_back op names s table final (labels_in 0 done) among_table short fits.placed fits.next few within in
-    let room : has_room (column_so_far final names first done) (renumbered final names op) ≡ true =
+    let room : has_room (column_so_far final names first done) (op_renumbered final names op) ≡ true =
     ap (λ b. not b || nat_lt (count_by (λ placed. is_access placed.op) (placed_from final names first done)) 64) (access_same final names op)
     ∙ ap (λ m. not (is_access op) || nat_lt m 64) (accesses_placed final names first done) ∙ fits.room in
     ap (instr_put n (column_so_far final names first done)) read
@@ -161,7 +161,7 @@ labelled (ops.Label label) a w names count n k s t e cells has next begins put =
     (label_bytes label (ltb-true label 64 (and_parts (nat_le label count) (nat_lt label 64) next).1)) put
 labelled op a w names count n k s t e cells has next begins put = absurd (cc)
 
-op_cell : (a : Puts) (w : Writing) (names : ℕ → List ℕ) (op : Micro) (count n k : ℕ) (s t : Among Column) → WritesCells a w → a.has op ≡ true → is_named (name_of names op) ≡ true
+op_cell : (a : Puts) (w : Writing) (names : ℕ → List ℕ) (op : Micro) (count n k : ℕ) (s t : Among Column) → WritesCells a w → a.has op ≡ true → is_well_named (op_name names op) ≡ true
     → is_next count op ≡ true → Begins (op_text w names op) → instr_put n s.value (instr_read w (op_text w names op) s.names s.value.labels) ≡ Ok t
     → cell_read w n (padded k (op_text w names op)) s ≡ Ok t
 op_cell a w names op count n k s t cells has named next begins put =
@@ -170,13 +170,13 @@ op_cell a w names op count n k s t cells has named next begins put =
     (λ e. plain_back w n k (op_text w names op) s begins (cells.cells names op has named e) ∙ put)
 
 -- the cell of a thread is read as its next operation, or as nothing
-pub thread_back : (a : Puts) (w : Writing) (table final s : List (List ℕ)) (names : ℕ → List ℕ) (first n k : ℕ) (p : Progress)
+pub thread_back : (a : Puts) (w : Writing) (table final s : List (List ℕ)) (names : ℕ → List ℕ) (first n k : ℕ) (p : RowProgress)
     → WritesBack a w → WritesCells a w → IsReady a table names first n p → IsAmong s table → length table ≤ 64 → Within (mentioned_first names s p.left) final
     → cell_read w n (padded k (next_text w names p.left)) (among s (column_at final names first p))
     ≡ Ok (among (mentioned_first names s p.left) (column_at final names first (advanced p)))
 thread_back a w table final s names first n k p laws cells ready among_table short within = go p.done p.left ready.code ready.few ready.line within
   where
-    go : (done left : List Micro) → CodeFits a table names (labels_in 0 done) (accesses_in done) left → labels_in 0 done ≤ 64 → (0 < length left → first + length done ≡ n)
+    go : (done left : List Micro) → CodeFits a table names (labels_in 0 done) (access_count done) left → labels_in 0 done ≤ 64 → (0 < length left → first + length done ≡ n)
         → Within (mentioned_first names s left) final
         → cell_read w n (padded k (next_text w names left)) (among s (column_at final names first (progress done left)))
         ≡ Ok (among (mentioned_first names s left) (column_at final names first (moved done left)))
@@ -188,13 +188,13 @@ thread_back a w table final s names first n k p laws cells ready among_table sho
         (op_put a w table final s names first n done op laws fits.0 few (at_line (omega arith)) among_table short within)
 
 -- the cells of a row are those of the threads, with blanks
-abbrev pub AreCells : Writing → (ℕ → List ℕ) → List (List ℕ) → List Progress → Type 0
+abbrev pub AreCells : Writing → (ℕ → List ℕ) → List (List ℕ) → List RowProgress → Type 0
 AreCells w names [] [] = Unit {0}
 AreCells w names (cell ∷ cells) (p ∷ ps) = ((k : ℕ) × (cell ≡ padded k (next_text w names p.left))) × AreCells w names cells ps
 AreCells w names _ _ = ⊥
 
 -- a printed row is read as the next operations of all threads
-pub row_back : (a : Puts) (w : Writing) (table final : List (List ℕ)) (names : ℕ → List ℕ) (first n : ℕ) (cells : List (List ℕ)) (ps : List Progress) (s : List (List ℕ))
+pub row_back : (a : Puts) (w : Writing) (table final : List (List ℕ)) (names : ℕ → List ℕ) (first n : ℕ) (cells : List (List ℕ)) (ps : List RowProgress) (s : List (List ℕ))
     → WritesBack a w → WritesCells a w → AreCells w names cells ps → AllByRecursion (IsReady a table names first n) ps → IsAmong s table → length table ≤ 64
     → Within (row_mentions names s ps) final
     → row_read w n true cells s (map (column_at final names first) ps) ≡ Ok (among (row_mentions names s ps) (map (λ p. column_at final names first (advanced p)) ps))
@@ -207,7 +207,7 @@ row_back a w table final names first n (cell ∷ cells) (p ∷ ps) s laws spoken
     let read : cell_read w n cell (among s (column_at final names first p)) ≡ Ok (among (mentioned_first names s p.left) (column_at final names first (advanced p))) =
     ap (λ x. cell_read w n x (among s (column_at final names first p))) are.0.1
     ∙ thread_back a w table final s names first n are.0.0 p laws spoken ready.0 among_table short (within_trans (mentioned_first names s p.left) (row_mentions names s (p ∷ ps)) final here within) in
-    let others = row_back a w table final names first n cells ps (mentioned_first names s p.left) laws spoken are.1 ready.1 (first_among table names s p.left (labels_in 0 p.done) (accesses_in p.done) (ready.0.code) among_table short) short within in
+    let others = row_back a w table final names first n cells ps (mentioned_first names s p.left) laws spoken are.1 ready.1 (first_among table names s p.left (labels_in 0 p.done) (access_count p.done) (ready.0.code) among_table short) short within in
     rw read (ap (λ o. o >>= λ others. Ok (before_columns (column_at final names first (advanced p)) others)) others)
   where
     first_among : (table : List (List ℕ)) (names : ℕ → List ℕ) (s : List (List ℕ)) (left : List Micro) (labels accesses : ℕ) → CodeFits a table names labels accesses left
@@ -216,24 +216,24 @@ row_back a w table final names first n (cell ∷ cells) (p ∷ ps) s laws spoken
     first_among table names s (op ∷ left) labels accesses fits h few = mention_among table names s op h few fits.0.placed
 
 -- a thread after a row is ready for the next
-advance_ready : (a : Puts) (table : List (List ℕ)) (names : ℕ → List ℕ) (first n : ℕ) (p : Progress) → IsReady a table names first n p → IsReady a table names first (n + 1) (advanced p)
+advance_ready : (a : Puts) (table : List (List ℕ)) (names : ℕ → List ℕ) (first n : ℕ) (p : RowProgress) → IsReady a table names first n p → IsReady a table names first (n + 1) (advanced p)
 advance_ready a table names first n p ready = go p.done p.left ready.code ready.few ready.line
   where
-    go : (done left : List Micro) → CodeFits a table names (labels_in 0 done) (accesses_in done) left → labels_in 0 done ≤ 64 → (0 < length left → first + length done ≡ n)
+    go : (done left : List Micro) → CodeFits a table names (labels_in 0 done) (access_count done) left → labels_in 0 done ≤ 64 → (0 < length left → first + length done ≡ n)
         → IsReady a table names first (n + 1) (moved done left)
     go done [] fits few at_line = record { code = tt; few = few; line = λ h. absurd (omega arith) }
     go done (op ∷ left) fits few at_line =
         let here = at_line (omega arith) in
         let longer : length (done ++ op ∷ []) ≡ length done + 1 = length-append done (op ∷ []) in
         record {
-          code = subst (λ labels. CodeFits a table names labels (accesses_in (done ++ op ∷ [])) left) (sym (labels_more 0 done op))
+          code = subst (λ labels. CodeFits a table names labels (access_count (done ++ op ∷ [])) left) (sym (labels_more 0 done op))
               (subst (λ accesses. CodeFits a table names (labels_after (labels_in 0 done) op) accesses left) (sym (accesses_more done op)) fits.1);
           few = subst (λ labels. labels ≤ 64) (sym (labels_more 0 done op)) (few_labels op (labels_in 0 done) fits.0.next few);
           line = λ h. omega arith;
         }
 
 -- the threads after a row are ready for the next
-pub all_advance : (a : Puts) (table : List (List ℕ)) (names : ℕ → List ℕ) (first n : ℕ) (ps : List Progress) → AllByRecursion (IsReady a table names first n) ps
+pub all_advance : (a : Puts) (table : List (List ℕ)) (names : ℕ → List ℕ) (first n : ℕ) (ps : List RowProgress) → AllByRecursion (IsReady a table names first n) ps
     → AllByRecursion (IsReady a table names first (n + 1)) (map advanced ps)
 all_advance a table names first n [] h = tt
 all_advance a table names first n (p ∷ ps) h = (advance_ready a table names first n p h.0, all_advance a table names first n ps h.1)
@@ -243,69 +243,69 @@ map_map f g [] = refl
 map_map f g (x ∷ xs) = ap (λ rest. f (g x) ∷ rest) (map_map f g xs)
 
 -- a line is the row of the threads
-pub record IsRow (w : Writing) (names : ℕ → List ℕ) (text : List ℕ) (ps : List Progress) : Type 0 where
+pub record IsRow (w : Writing) (names : ℕ → List ℕ) (text : List ℕ) (ps : List RowProgress) : Type 0 where
   pub whole : (cells_of text).whole ≡ true
   pub cells : AreCells w names (cells_of text).texts ps
   pub row : ends_rows text ≡ false
 
 -- lines are the rows of the threads, one after another
-abbrev pub AreRows : Writing → (ℕ → List ℕ) → List (List ℕ) → List Progress → Type 0
+abbrev pub AreRows : Writing → (ℕ → List ℕ) → List (List ℕ) → List RowProgress → Type 0
 AreRows w names [] ps = Unit {0}
 AreRows w names (text ∷ texts) ps = IsRow w names text ps × AreRows w names texts (map advanced ps)
 
 -- the threads after rows
-abbrev pub after_rows : List (List ℕ) → List Progress → List Progress
+abbrev pub after_rows : List (List ℕ) → List RowProgress → List RowProgress
 after_rows [] ps = ps
 after_rows (text ∷ texts) ps = after_rows texts (map advanced ps)
 
 -- the table of names after rows
-abbrev pub rows_mention : (ℕ → List ℕ) → List (List ℕ) → List (List ℕ) → List Progress → List (List ℕ)
+abbrev pub rows_mention : (ℕ → List ℕ) → List (List ℕ) → List (List ℕ) → List RowProgress → List (List ℕ)
 rows_mention names s [] ps = s
 rows_mention names s (text ∷ texts) ps = rows_mention names (row_mentions names s ps) texts (map advanced ps)
 
 -- a table goes on to the one after rows
-pub rows_within : (names : ℕ → List ℕ) (s texts : List (List ℕ)) (ps : List Progress) → Within s (rows_mention names s texts ps)
+pub rows_within : (names : ℕ → List ℕ) (s texts : List (List ℕ)) (ps : List RowProgress) → Within s (rows_mention names s texts ps)
 rows_within names s [] ps = within_self s
 rows_within names s (text ∷ texts) ps =
     within_trans s (row_mentions names s ps) (rows_mention names s (text ∷ texts) ps) (row_within names s ps) (rows_within names (row_mentions names s ps) texts (map advanced ps))
 
 -- the names of places stay among those of a table after a row
-pub row_among : (a : Puts) (table : List (List ℕ)) (names : ℕ → List ℕ) (first n : ℕ) (ps : List Progress) (s : List (List ℕ)) → AllByRecursion (IsReady a table names first n) ps
+pub row_among : (a : Puts) (table : List (List ℕ)) (names : ℕ → List ℕ) (first n : ℕ) (ps : List RowProgress) (s : List (List ℕ)) → AllByRecursion (IsReady a table names first n) ps
     → IsAmong s table → length table ≤ 64 → IsAmong (row_mentions names s ps) table
 row_among a table names first n [] s ready h few = h
 row_among a table names first n (p ∷ ps) s ready h few =
-    row_among a table names first n ps (mentioned_first names s p.left) ready.1 (one p.left (labels_in 0 p.done) (accesses_in p.done) ready.0.code) few
+    row_among a table names first n ps (mentioned_first names s p.left) ready.1 (one p.left (labels_in 0 p.done) (access_count p.done) ready.0.code) few
   where
     one : (left : List Micro) (labels accesses : ℕ) → CodeFits a table names labels accesses left → IsAmong (mentioned_first names s left) table
     one [] labels accesses fits = h
     one (op ∷ left) labels accesses fits = mention_among table names s op h few fits.0.placed
 
 -- the names of places stay among those of a table after rows
-pub rows_among : (a : Puts) (table : List (List ℕ)) (names : ℕ → List ℕ) (first n : ℕ) (texts : List (List ℕ)) (ps : List Progress) (s : List (List ℕ)) → AllByRecursion (IsReady a table names first n) ps
+pub rows_among : (a : Puts) (table : List (List ℕ)) (names : ℕ → List ℕ) (first n : ℕ) (texts : List (List ℕ)) (ps : List RowProgress) (s : List (List ℕ)) → AllByRecursion (IsReady a table names first n) ps
     → IsAmong s table → length table ≤ 64 → IsAmong (rows_mention names s texts ps) table
 rows_among a table names first n [] ps s ready h few = h
 rows_among a table names first n (text ∷ texts) ps s ready h few =
     rows_among a table names first (n + 1) texts (map advanced ps) (row_mentions names s ps) (all_advance a table names first n ps ready) (row_among a table names first n ps s ready h few) few
 
 -- printed rows are read up to a line that ends them
-pub rows_back : (a : Puts) (w : Writing) (table final : List (List ℕ)) (names : ℕ → List ℕ) (first n k : ℕ) (texts : List (List ℕ)) (ps : List Progress) (s : List (List ℕ)) (rest : ℕ → Lines)
-    (m : ℕ) (last : List ℕ) (behind : Lines) → rest (n + length texts) ≡ line m last behind → ends_rows last ≡ true
+pub rows_back : (a : Puts) (w : Writing) (table final : List (List ℕ)) (names : ℕ → List ℕ) (first n k : ℕ) (texts : List (List ℕ)) (ps : List RowProgress) (s : List (List ℕ)) (rest : ℕ → Lines)
+    (m : ℕ) (last : List ℕ) (remainder : Lines) → rest (n + length texts) ≡ line m last remainder → ends_rows last ≡ true
     → WritesBack a w → WritesCells a w → AreRows w names texts ps → AllByRecursion (IsReady a table names first n) ps → IsAmong s table → length table ≤ 64
     → Within (rows_mention names s texts ps) final → k + length texts ≤ 1024
     → rows_read w k (among s (map (column_at final names first) ps)) (before n texts rest)
-    ≡ Ok (among (rows_mention names s texts ps) (map (column_at final names first) (after_rows texts ps)), line m last behind)
+    ≡ Ok (among (rows_mention names s texts ps) (map (column_at final names first) (after_rows texts ps)), line m last remainder)
 unfolding rows_read
-rows_back a w table final names first n k [] ps s rest m last behind at_rest ends laws spoken are ready among_table short within few =
-    let here : rest n ≡ line m last behind = ap rest (sym (add-zero n)) ∙ at_rest in
+rows_back a w table final names first n k [] ps s rest m last remainder at_rest ends laws spoken are ready among_table short within few =
+    let here : rest n ≡ line m last remainder = ap rest (sym (add-zero n)) ∙ at_rest in
     rw (here, ends) refl
-rows_back a w table final names first n k (text ∷ texts) ps s rest m last behind at_rest ends laws spoken are ready among_table short within few =
+rows_back a w table final names first n k (text ∷ texts) ps s rest m last remainder at_rest ends laws spoken are ready among_table short within few =
     let room : nat_lt k 1024 ≡ true = lt-ltb k 1024 (omega arith) in
     let further = rows_within names (row_mentions names s ps) texts (map advanced ps) in
     let row = row_back a w table final names first n (cells_of text).texts ps s laws spoken are.0.cells ready among_table short
     (within_trans (row_mentions names s ps) (rows_mention names s (text ∷ texts) ps) final further within) in
     let count : n + length (text ∷ texts) ≡ (n + 1) + length texts = omega arith in
-    let rest_at : rest ((n + 1) + length texts) ≡ line m last behind = ap rest (sym count) ∙ at_rest in
-    let next = rows_back a w table final names first (n + 1) (k + 1) texts (map advanced ps) (row_mentions names s ps) rest m last behind rest_at ends laws spoken are.1
+    let rest_at : rest ((n + 1) + length texts) ≡ line m last remainder = ap rest (sym count) ∙ at_rest in
+    let next = rows_back a w table final names first (n + 1) (k + 1) texts (map advanced ps) (row_mentions names s ps) rest m last remainder rest_at ends laws spoken are.1
     (all_advance a table names first n ps ready) (row_among a table names first n ps s ready among_table short) short within (omega arith) in
     rw (are.0.row, room, are.0.whole)
     (ap (λ r. r >>= λ next. rows_read w (k + 1) next (before (n + 1) texts rest)) row

@@ -17,20 +17,20 @@ use Rattle.micro_ops.specs.Running.{is_load, lands, occurs, occurs_if, target}
 use Rattle.arch_trait.specs.declared.reading.InstrError.{InstrError}
 use Rattle.arch_trait.specs.declared.reading.InstrError.TheVariants as instrs
 use Rattle.text_laws.specs.Names.{is_place_name}
-use Rattle.arch_trait.specs.Names.{number_added, names_added}
+use Rattle.arch_trait.specs.PlaceNames.{number_added, names_added}
 use Rattle.arch_trait.specs.Cells.{is_access, ends_rows}
 use Rattle.text_laws.specs.Blanks.{trim_blanks}
-use Rattle.arch_trait.specs.Reading.{ReadInstr, with_place, with_label, numbered, number_raw, instr_read, written_in}
+use Rattle.arch_trait.specs.InstructionReading.{ReadInstr, with_place, with_label, read_numbered, number_raw, instr_read, written_in}
 use Rattle.arch_trait.specs.Writing.{Writing, Written, RawInstr, Name, nothing, place, label, with_number, is_label_name}
 use Rattle.litmus_text.specs.declared.errors.TestKind.TheVariants.{BadLabel}
 use Rattle.litmus_text.specs.declared.errors.TextError.{TextError}
 use Rattle.litmus_text.specs.declared.reading.table.Placed.{Placed}
 use Rattle.text_laws.specs.Words.{is_nil}
 use Rattle.text_laws.specs.Cuts.{cut_at}
-use Rattle.litmus_text.specs.Lines.{Lines, ends, line, ◌>>=◌, bad}
-use Rattle.litmus_text.specs.Table.{Column, no_column, no_columns, Among, among, has_room, instr_put, instr_in, instr_or_nothing, cell_if, cell_read, row_read, rows_read, cells_of, is_label_of, is_label, lands_once, is_landing, labels_judged, all_labels_judged}
+use Rattle.litmus_text.specs.TextLines.{Lines, ends, line, ◌>>=◌, bad}
+use Rattle.litmus_text.specs.TestTable.{Column, no_column, no_columns, Among, among, has_room, instr_put, instr_in, instr_or_nothing, cell_if, cell_read, row_read, rows_read, cells_of, is_label_of, is_label_row, lands_once, is_landing, labels_judged, all_labels_judged}
 use Rattle.litmus_text.specs.Runnable.{IsRunnable, NamesRegisters, AllNameRegisters, ops_in, AllRunnable}
-use Rattle.litmus_text.specs.TestReading.{values_of}
+use Rattle.litmus_text.specs.TestReading.{values_of_thread}
 use Rattle.litmus_text.specs.declared.reading.table.Column.{Column as ThreadColumn}
 use Rattle.litmus_text.specs.Views.{column_seen}
 
@@ -58,7 +58,7 @@ label_ranged : (op : Micro) (n : Option ℕ) (places labels : List (List ℕ)) �
 label_ranged op None places labels h = tt
 label_ranged op (Some i) places labels h = numbered_range op i h
 
-name_ranged : (op : Micro) (name : Name) (places labels : List (List ℕ)) → InRange op → Ranged (numbered op name places labels)
+name_ranged : (op : Micro) (name : Name) (places labels : List (List ℕ)) → InRange op → Ranged (read_numbered op name places labels)
 name_ranged op nothing places labels h = h
 name_ranged op (place name) places labels h = by_test (is_place_name name)
     (λ e. rw e (place_ranged op (number_added places name) (names_added places name) labels h)) (λ e. rw e tt)
@@ -170,17 +170,17 @@ label_same : (l : ℕ) (op : Micro) → is_label_of l op ≡ run.is_label l op
 label_same l (ops.Label k) = refl
 label_same l op = refl
 
-occurs_counted : (l : ℕ) (placed : List Placed) → 0 < count_by (is_label l) placed → occurs l (map (λ (p : Placed). p.op) placed) ≡ true
+occurs_counted : (l : ℕ) (placed : List Placed) → 0 < count_by (is_label_row l) placed → occurs l (map (λ (p : Placed). p.op) placed) ≡ true
 occurs_counted l [] h = absurd (omega (arith, h))
 occurs_counted l (p ∷ placed) h = by_test (is_label_of l p.op)
     (λ e. or_left (run.is_label l p.op) (occurs l (map (λ (q : Placed). q.op) placed)) (sym (label_same l p.op) ∙ e))
     (λ e. or_right (run.is_label l p.op) (occurs l (map (λ (q : Placed). q.op) placed))
-    (occurs_counted l placed (let c : ◌≡◌ {A = ℕ} (cond (is_label l p) 1 0) 0 = ap (λ b. cond b 1 0) e in omega (arith, h, c, sum_by-cons (λ (q : Placed). cond (is_label l q) 1 0) p placed))))
+    (occurs_counted l placed (let c : ◌≡◌ {A = ℕ} (cond (is_label_row l p) 1 0) 0 = ap (λ b. cond b 1 0) e in omega (arith, h, c, sum_by-cons (λ (q : Placed). cond (is_label_row l q) 1 0) p placed))))
 
 once_occurs : (l : ℕ) (all placed : List Placed) → lands_once l all placed ≡ true → occurs l (map (λ (p : Placed). p.op) placed) ≡ true
 once_occurs l all placed h =
-    let a = and_parts (count_by (is_label l) all == 1) (count_by (is_label l) placed == 1) h in
-    let e = eqb-true (count_by (is_label l) placed) 1 a.1 in
+    let a = and_parts (count_by (is_label_row l) all == 1) (count_by (is_label_row l) placed == 1) h in
+    let e = eqb-true (count_by (is_label_row l) placed) 1 a.1 in
     occurs_counted l placed (omega (arith, e))
 
 landing_occurs : (op : Micro) (all placed : List Placed) → is_landing op all placed ≡ true → occurs_if (target op) (map (λ (p : Placed). p.op) placed) ≡ true
@@ -253,7 +253,7 @@ runnable_at columns i d h inside is =
     subst (λ c. IsRunnable (ops_in c)) g at_i
 
 -- the registers of the values of a thread are the machine's
-pub registers_of : (thread : ℕ) (values : List (ℕ × (ℕ × Value))) → AllNameRegisters values → NamesRegisters (values_of thread values)
+pub registers_of : (thread : ℕ) (values : List (ℕ × (ℕ × Value))) → AllNameRegisters values → NamesRegisters (values_of_thread thread values)
 registers_of thread values h =
     All-map (λ (named : ℕ × Value). named.0 < 32) (λ (v : ℕ × (ℕ × Value)). v.1) (filter (λ (v : ℕ × (ℕ × Value)). v.0 == thread) values)
     (All-filter (λ (v : ℕ × (ℕ × Value)). v.0 == thread) (λ (v : ℕ × (ℕ × Value)). v.1.0 < 32) values (All-from_recursion (λ (v : ℕ × (ℕ × Value)). v.1.0 < 32) values h))

@@ -9,7 +9,7 @@ use Rattle.diy_io.specs.Wrote.{SinkSeen, WrotePart}
 use Rattle.diy_io.specs.Page.{SentAll, Sends}
 use Rattle.diy_io.specs.PageLaws.{sent_nothing, sent_line, sent_part, sent_part_more, sent_same}
 use Rattle.arch_trait.specs.Writing.{Writing}
-use Rattle.arch_trait.specs.Tests.{TestSeen}
+use Rattle.arch_trait.specs.SeenTests.{TestSeen}
 use Rattle.litmus_text.specs.declared.parts.TextPart.{TextPart}
 use Rattle.litmus_text.specs.declared.parts.TextPart.TheVariants.{Edges}
 use Rattle.litmus_text.specs.TextParts.{text_from, PutsPart}

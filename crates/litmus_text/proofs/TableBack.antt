@@ -10,8 +10,8 @@ use Rattle.std.proofs.lemmas.Bool.Decides.{nat_tests}
 use Rattle.list_laws.proofs.Elements.{list_all-weaker}
 use Rattle.list_laws.proofs.Cases.{by_test}
 use Rattle.text_laws.specs.Blanks.{is_blank, unblanked}
-use Rattle.text_laws.specs.Runs.{run_of, after_run}
-use Rattle.text_laws.specs.Words.{is_word_byte}
+use Rattle.text_laws.specs.LeadingRuns.{leading_run, after_run}
+use Rattle.text_laws.specs.Words.{is_argument_byte}
 use Rattle.micro_ops.specs.declared.operation.Micro.{Micro}
 use Rattle.micro_ops.specs.declared.operation.Micro.TheVariants as ops
 use Rattle.arch_trait.specs.Threads.{Puts, ThreadCode}
@@ -19,10 +19,10 @@ use Rattle.arch_trait.specs.Writing.{Writing, WritesBack, op_text, name_in, labe
 use Rattle.arch_trait.specs.Cells.{WritesCells, ends_rows, first_word, is_access, is_cell_byte, is_label_op, is_line_byte}
 use Rattle.arch_trait.specs.LabelOrder.{is_next, labels_after}
 use Rattle.text_laws.specs.Cuts.{cut_at, is_without}
-use Rattle.litmus_text.specs.Cuts.{pieces}
-use Rattle.litmus_text.specs.Table.{cells_if, cells_of}
+use Rattle.litmus_text.specs.TextCuts.{pieces}
+use Rattle.litmus_text.specs.TestTable.{cells_if, cells_of}
 use Rattle.litmus_text.specs.TestText.{column_of, columns_of, width_of, cell_text, row_line}
-use Rattle.litmus_text.specs.Progress.{Progress, progress, moved, advanced}
+use Rattle.litmus_text.specs.Progress.{RowProgress, progress, moved, advanced}
 use Rattle.litmus_text.specs.Printable.{is_row_byte}
 use Rattle.litmus_text.specs.Progress.{CodeFits, OpFits}
 use Rattle.litmus_text.proofs.LineBack.{IsLine}
@@ -77,7 +77,7 @@ row_cells f x xs no_bar no_end =
     ap (cells_if (32 ∷ (cells ++ codes " ;"))) cut ∙ ap (λ texts. record { texts = texts; whole = true }) (bars f x xs no_bar)
 
 -- the threads before a row of operations
-abbrev pub at_row : ℕ → ThreadCode → Progress
+abbrev pub at_row : ℕ → ThreadCode → RowProgress
 at_row i t = progress (take i t.instrs) (drop i t.instrs)
 
 next_at : (w : Writing) (names : ℕ → List ℕ) (code : List Micro) (i : ℕ) → next_text w names (drop i code) ≡ get_or (map (op_text w names) code) i []
@@ -182,14 +182,14 @@ blank_first : (k : ℕ) (text : List ℕ) → (rest : List ℕ) × (replicate k 
 blank_first zero text = (text, refl)
 blank_first (suc k) text = (replicate k 32 ++ 32 ∷ text, refl)
 
-run_stops : (p : ℕ → Bool) (text : List ℕ) (c : ℕ) (rest : List ℕ) → p c ≡ false → run_of p (text ++ c ∷ rest) ≡ run_of p text
-unfolding run_of
+run_stops : (p : ℕ → Bool) (text : List ℕ) (c : ℕ) (rest : List ℕ) → p c ≡ false → leading_run p (text ++ c ∷ rest) ≡ leading_run p text
+unfolding leading_run
 run_stops p [] c rest h = rw h refl
 run_stops p (b ∷ text) c rest h = by_test (p b) (λ e. rw e (ap (λ t. b ∷ t) (run_stops p text c rest h))) (λ e. rw e refl)
 
 -- a sign begins no word that ends rows
 sign_stays : (sign : ℕ) (more : List ℕ) → (sign ≡ 124) ⊎ (sign ≡ 59) → ends_rows (32 ∷ 32 ∷ sign ∷ more) ≡ false
-unfolding ends_rows run_of after_run
+unfolding ends_rows leading_run after_run
 sign_stays sign more (inl e) = rw e refl
 sign_stays sign more (inr e) = rw e refl
 
@@ -200,19 +200,19 @@ word_same text k tail rest begins at_tail =
     let alone : unblanked text ≡ text = ap unblanked begins.is ∙ rw begins.inked (sym begins.is) in
     let prefix : unblanked (text ++ 32 ∷ rest) ≡ text ++ 32 ∷ rest =
     ap (λ t. unblanked (t ++ 32 ∷ rest)) begins.is ∙ rw begins.inked (ap (λ t. t ++ 32 ∷ rest) (sym begins.is)) in
-    ap (λ t. run_of is_word_byte (unblanked t)) shape ∙ ap (run_of is_word_byte) prefix ∙ run_stops is_word_byte text 32 rest refl
-    ∙ ap (run_of is_word_byte) (sym alone)
+    ap (λ t. leading_run is_argument_byte (unblanked t)) shape ∙ ap (leading_run is_argument_byte) prefix ∙ run_stops is_argument_byte text 32 rest refl
+    ∙ ap (leading_run is_argument_byte) (sym alone)
 
 keeps_row : (text : List ℕ) (k : ℕ) (tail : List ℕ) → CellText text → Tail tail → ends_rows (32 ∷ ((text ++ replicate k 32) ++ tail)) ≡ false
 unfolding ends_rows after_run
-keeps_row text k tail cell behind = elim cell.kind [
+keeps_row text k tail cell remainder = elim cell.kind [
   | inl e ↦
-      ap (λ t. ends_rows (32 ∷ ((t ++ replicate k 32) ++ tail))) e ∙ ap (λ t. ends_rows (32 ∷ (replicate k 32 ++ t))) behind.is
-      ∙ ap (λ t. list_any (bytes_eq (run_of is_word_byte t)) keywords) (skip_blanks k (32 ∷ behind.sign ∷ behind.more))
-      ∙ sign_stays behind.sign behind.more behind.which
+      ap (λ t. ends_rows (32 ∷ ((t ++ replicate k 32) ++ tail))) e ∙ ap (λ t. ends_rows (32 ∷ (replicate k 32 ++ t))) remainder.is
+      ∙ ap (λ t. list_any (bytes_eq (leading_run is_argument_byte t)) keywords) (skip_blanks k (32 ∷ remainder.sign ∷ remainder.more))
+      ∙ sign_stays remainder.sign remainder.more remainder.which
   | inr h ↦
-      (let first = blank_first k (behind.sign ∷ behind.more) in
-      ap (λ word. list_any (bytes_eq word) keywords) (word_same text k tail first.0 h.0 (ap (λ t. replicate k 32 ++ t) behind.is ∙ first.1)) ∙ h.1)
+      (let first = blank_first k (remainder.sign ∷ remainder.more) in
+      ap (λ word. list_any (bytes_eq word) keywords) (word_same text k tail first.0 h.0 (ap (λ t. replicate k 32 ++ t) remainder.is ∙ first.1)) ∙ h.1)
 ]
   where
     keywords : List (List ℕ)

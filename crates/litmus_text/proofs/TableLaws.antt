@@ -12,8 +12,8 @@ use Rattle.micro_ops.specs.declared.operation.Micro.{Micro}
 use Rattle.arch_trait.specs.Threads.{ThreadCode}
 use Rattle.arch_trait.specs.declared.code.Code.{Code}
 use Rattle.arch_trait.specs.Writing.{Writing, op_text, name_in}
-use Rattle.litmus_text.specs.TestText.{column_of, columns_of, width_of, cell_text, row_line, row_count, table_lines, ended}
-use Rattle.arch_trait.specs.Codes.{thread_of}
+use Rattle.litmus_text.specs.TestText.{column_of, columns_of, width_of, cell_text, row_line, row_count, table_lines, with_line_feed}
+use Rattle.arch_trait.specs.Codes.{thread_code_of}
 use Rattle.std.proofs.lemmas.List.FromFn.{length-enumerate_from}
 use Rattle.std.proofs.Math.ListN.{replicate}
 use Rattle.litmus_text.proofs.ElementLaws.{numbered_at}
@@ -79,20 +79,20 @@ pub cell_within : (column : List (List ℕ)) (row : ℕ) (cell : List ℕ) (widt
 cell_within column row cell width e f = omega (arith, within_width column row, ap length e, f)
 
 -- the column of a thread is the one at its number
-pub column_at : (w : Writing) (places : List (List ℕ)) (codes : List Code) (i : ℕ) (code : Code) → i < length codes → code ≡ get_or codes i code → get_or (columns_of w places (map thread_of codes)) i [] ≡ column_of w places (i, thread_of code)
+pub column_at : (w : Writing) (places : List (List ℕ)) (codes : List Code) (i : ℕ) (code : Code) → i < length codes → code ≡ get_or codes i code → get_or (columns_of w places (map thread_code_of codes)) i [] ≡ column_of w places (i, thread_code_of code)
 column_at w places codes i code h is =
-    get_or-map (column_of w places) (enumerate_from 0 (map thread_of codes)) i (i, thread_of code) [] (omega (arith, length-enumerate_from 0 (map thread_of codes), length-map codes thread_of))
-    ∙ ap (column_of w places) (numbered_at thread_of codes i code (i, thread_of code) h ∙ ap (λ c. (i, thread_of c)) (sym is))
+    get_or-map (column_of w places) (enumerate_from 0 (map thread_code_of codes)) i (i, thread_code_of code) [] (omega (arith, length-enumerate_from 0 (map thread_code_of codes), length-map codes thread_code_of))
+    ∙ ap (column_of w places) (numbered_at thread_code_of codes i code (i, thread_code_of code) h ∙ ap (λ c. (i, thread_code_of c)) (sym is))
 
 longest : (w : Writing) (places : List (List ℕ)) (n count : ℕ) (threads : List Code)
-    → fold (λ count code. max count (length code.instrs.items + 1)) count threads ≡ fold (λ count column. max count (length column)) count (map (column_of w places) (enumerate_from n (map thread_of threads)))
+    → fold (λ count code. max count (length code.instrs.items + 1)) count threads ≡ fold (λ count column. max count (length column)) count (map (column_of w places) (enumerate_from n (map thread_code_of threads)))
 longest w places n count [] = refl
 longest w places n count (code ∷ threads) =
-    ap (λ m. fold (λ count code. max count (length code.instrs.items + 1)) (max count m) threads) (sym (length-column_of w places (n, thread_of code)))
-    ∙ longest w places (n + 1) (max count (length (column_of w places (n, thread_of code)))) threads
+    ap (λ m. fold (λ count code. max count (length code.instrs.items + 1)) (max count m) threads) (sym (length-column_of w places (n, thread_code_of code)))
+    ∙ longest w places (n + 1) (max count (length (column_of w places (n, thread_code_of code)))) threads
 
 -- the table has as many rows as the longest column has cells
-pub rows_are : (w : Writing) (places : List (List ℕ)) (codes : List Code) → fold (λ count code. max count (length code.instrs.items + 1)) 0 codes ≡ row_count (columns_of w places (map thread_of codes))
+pub rows_are : (w : Writing) (places : List (List ℕ)) (codes : List Code) → fold (λ count code. max count (length code.instrs.items + 1)) 0 codes ≡ row_count (columns_of w places (map thread_code_of codes))
 unfolding row_count
 rows_are w places codes = longest w places 0 0 codes
 
@@ -103,58 +103,58 @@ whole_width w places t row width h e =
     e ∙ ap widest (take_all row (column_of w places t) (omega (arith, length-column_of w places t))) ∙ width_is (column_of w places t)
 
 -- there are as many columns as threads
-pub length_columns : (w : Writing) (places : List (List ℕ)) (threads : List Code) → length (columns_of w places (map thread_of threads)) ≡ length threads
+pub length_columns : (w : Writing) (places : List (List ℕ)) (threads : List Code) → length (columns_of w places (map thread_code_of threads)) ≡ length threads
 length_columns w places threads =
-    omega (arith, length-map (enumerate_from 0 (map thread_of threads)) (column_of w places), length-enumerate_from 0 (map thread_of threads), length-map threads thread_of)
+    omega (arith, length-map (enumerate_from 0 (map thread_code_of threads)) (column_of w places), length-enumerate_from 0 (map thread_code_of threads), length-map threads thread_code_of)
 
 -- one more column has one more width
 pub widths_more : (w : Writing) (places : List (List ℕ)) (threads : List Code) (i : ℕ) (code : Code) (width : ℕ) (old new : List ℕ) → i < length threads → code ≡ get_or threads i code
-    → width ≡ width_of (column_of w places (i, thread_of code)) → old ≡ map width_of (take i (columns_of w places (map thread_of threads))) → new ≡ old ++ width ∷ []
-    → new ≡ map width_of (take (i + 1) (columns_of w places (map thread_of threads)))
+    → width ≡ width_of (column_of w places (i, thread_code_of code)) → old ≡ map width_of (take i (columns_of w places (map thread_code_of threads))) → new ≡ old ++ width ∷ []
+    → new ≡ map width_of (take (i + 1) (columns_of w places (map thread_code_of threads)))
 widths_more w places threads i code width old new h is width_is old_is new_is =
-    let long : i < length (columns_of w places (map thread_of threads)) = omega (arith, length_columns w places threads) in
-    new_is ∙ ap (λ v. old ++ v ∷ []) width_is ∙ ap (λ v. v ++ width_of (column_of w places (i, thread_of code)) ∷ []) old_is
-    ∙ ap (λ column. map width_of (take i (columns_of w places (map thread_of threads))) ++ width_of column ∷ []) (sym (column_at w places threads i code h is))
-    ∙ sym (ap (map width_of) (take_more (columns_of w places (map thread_of threads)) i [] long) ∙ map-append width_of (take i (columns_of w places (map thread_of threads))) (get_or (columns_of w places (map thread_of threads)) i [] ∷ []))
+    let long : i < length (columns_of w places (map thread_code_of threads)) = omega (arith, length_columns w places threads) in
+    new_is ∙ ap (λ v. old ++ v ∷ []) width_is ∙ ap (λ v. v ++ width_of (column_of w places (i, thread_code_of code)) ∷ []) old_is
+    ∙ ap (λ column. map width_of (take i (columns_of w places (map thread_code_of threads))) ++ width_of column ∷ []) (sym (column_at w places threads i code h is))
+    ∙ sym (ap (map width_of) (take_more (columns_of w places (map thread_code_of threads)) i [] long) ∙ map-append width_of (take i (columns_of w places (map thread_code_of threads))) (get_or (columns_of w places (map thread_code_of threads)) i [] ∷ []))
 
 -- where no column is left, the widths are those of all columns
 pub widths_whole : (w : Writing) (places : List (List ℕ)) (threads : List Code) (i : ℕ) (widths : List ℕ) → length threads ≤ i
-    → widths ≡ map width_of (take i (columns_of w places (map thread_of threads))) → widths ≡ map width_of (columns_of w places (map thread_of threads))
+    → widths ≡ map width_of (take i (columns_of w places (map thread_code_of threads))) → widths ≡ map width_of (columns_of w places (map thread_code_of threads))
 widths_whole w places threads i widths h e =
-    e ∙ ap (map width_of) (take_all i (columns_of w places (map thread_of threads)) (omega (arith, length_columns w places threads)))
+    e ∙ ap (map width_of) (take_all i (columns_of w places (map thread_code_of threads)) (omega (arith, length_columns w places threads)))
 
 -- there are as many widths as threads
-pub widths_long : (w : Writing) (places : List (List ℕ)) (threads : List Code) (widths : List ℕ) → widths ≡ map width_of (columns_of w places (map thread_of threads)) → length widths ≡ length threads
-widths_long w places threads widths e = ap length e ∙ length-map (columns_of w places (map thread_of threads)) width_of ∙ length_columns w places threads
+pub widths_long : (w : Writing) (places : List (List ℕ)) (threads : List Code) (widths : List ℕ) → widths ≡ map width_of (columns_of w places (map thread_code_of threads)) → length widths ≡ length threads
+widths_long w places threads widths e = ap length e ∙ length-map (columns_of w places (map thread_code_of threads)) width_of ∙ length_columns w places threads
 
 -- the width at the number of a thread is that of its column
 pub width_at : (w : Writing) (places : List (List ℕ)) (threads : List Code) (i : ℕ) (code : Code) (widths : List ℕ) (d : ℕ) → i < length threads → code ≡ get_or threads i code
-    → widths ≡ map width_of (columns_of w places (map thread_of threads)) → get_or widths i d ≡ width_of (column_of w places (i, thread_of code))
+    → widths ≡ map width_of (columns_of w places (map thread_code_of threads)) → get_or widths i d ≡ width_of (column_of w places (i, thread_code_of code))
 width_at w places threads i code widths d h is e =
-    let long : i < length (columns_of w places (map thread_of threads)) = omega (arith, length_columns w places threads) in
-    ap (λ widths. get_or widths i d) e ∙ get_or-map width_of (columns_of w places (map thread_of threads)) i [] d long ∙ ap width_of (column_at w places threads i code h is)
+    let long : i < length (columns_of w places (map thread_code_of threads)) = omega (arith, length_columns w places threads) in
+    ap (λ widths. get_or widths i d) e ∙ get_or-map width_of (columns_of w places (map thread_code_of threads)) i [] d long ∙ ap width_of (column_at w places threads i code h is)
 
 -- a cell is its text and the blanks that fill it
 pub cell_is : (w : Writing) (places : List (List ℕ)) (threads : List Code) (row i : ℕ) (code : Code) (cell : List ℕ) (width : ℕ) → i < length threads → code ≡ get_or threads i code
-    → cell ≡ get_or (column_of w places (i, thread_of code)) row [] → width ≡ width_of (column_of w places (i, thread_of code))
-    → cell ++ replicate (width - length cell) 32 ≡ cell_text row (get_or (columns_of w places (map thread_of threads)) i [])
+    → cell ≡ get_or (column_of w places (i, thread_code_of code)) row [] → width ≡ width_of (column_of w places (i, thread_code_of code))
+    → cell ++ replicate (width - length cell) 32 ≡ cell_text row (get_or (columns_of w places (map thread_code_of threads)) i [])
 unfolding cell_text
 cell_is w places threads row i code cell width h is e f = rw (column_at w places threads i code h is, e, f) refl
 
 -- a row as it is printed is its line
-pub row_is : (columns : List (List (List ℕ))) (row : ℕ) → codes " " ++ (join_by (cell_text row) (codes " | ") columns ++ codes " ;\n") ≡ ended (row_line columns row)
+pub row_is : (columns : List (List (List ℕ))) (row : ℕ) → codes " " ++ (join_by (cell_text row) (codes " | ") columns ++ codes " ;\n") ≡ with_line_feed (row_line columns row)
 unfolding row_line
 row_is columns row = ap (λ rest. 32 ∷ rest) (sym (append_assoc (join_by (cell_text row) (codes " | ") columns) (codes " ;") (codes "\n")))
 
 -- the rows, as they are printed
 abbrev pub printed_row : List (List (List ℕ)) → ℕ → List ℕ
-printed_row columns row = ended (row_line columns row)
+printed_row columns row = with_line_feed (row_line columns row)
 
 -- the rows as they are printed are the lines of the table
 pub table_is : (w : Writing) (places : List (List ℕ)) (threads : List Code) (rows : ℕ) → rows ≡ fold (λ count code. max count (length code.instrs.items + 1)) 0 threads
-    → flat_map (printed_row (columns_of w places (map thread_of threads))) (range_with_len 0 rows)
-    ≡ flat_map ended (table_lines (columns_of w places (map thread_of threads)))
+    → flat_map (printed_row (columns_of w places (map thread_code_of threads))) (range_with_len 0 rows)
+    ≡ flat_map with_line_feed (table_lines (columns_of w places (map thread_code_of threads)))
 unfolding table_lines
 table_is w places threads rows e =
-    ap (λ n. flat_map (printed_row (columns_of w places (map thread_of threads))) (range_with_len 0 n)) (e ∙ rows_are w places threads)
-    ∙ sym (flat_map-map ended (row_line (columns_of w places (map thread_of threads))) (range_with_len 0 (row_count (columns_of w places (map thread_of threads)))))
+    ap (λ n. flat_map (printed_row (columns_of w places (map thread_code_of threads))) (range_with_len 0 n)) (e ∙ rows_are w places threads)
+    ∙ sym (flat_map-map with_line_feed (row_line (columns_of w places (map thread_code_of threads))) (range_with_len 0 (row_count (columns_of w places (map thread_code_of threads)))))

@@ -14,8 +14,8 @@ use Rattle.arch_trait.specs.Writing.{Writing}
 use Rattle.litmus_text.specs.declared.errors.TextError.{TextError}
 use Rattle.litmus_text.specs.declared.errors.TestKind.TheVariants.{BadTable, TooLarge, EndMissing}
 use Rattle.litmus_text.specs.declared.limits.TheConstants.{MAX_THREADS, MAX_ROWS}
-use Rattle.litmus_text.specs.Lines.{Lines, ends, line, ◌>>=◌, bad}
-use Rattle.litmus_text.specs.Table.{Cells, cells_of, is_head, heads_read, Column, Among, among, cell_read, instr_in, instr_or_nothing, before_columns, row_read, rows_read}
+use Rattle.litmus_text.specs.TextLines.{Lines, ends, line, ◌>>=◌, bad}
+use Rattle.litmus_text.specs.TestTable.{Cells, cells_of, is_head, heads_read, Column, Among, among, cell_read, instr_in, instr_or_nothing, before_columns, row_read, rows_read}
 
 -- where no cell of the header is left, the threads are counted
 pub heads_end : (n k : ℕ) (whole : Bool) (ps : List (List ℕ)) → ps ≡ [] → heads_read n whole k ps ≡ cond whole (Ok k) (bad BadTable n)
@@ -150,13 +150,13 @@ pub not_below_is : (a b : ℕ) → b ≤ a → nat_lt a b ≡ false
 not_below_is a b h = by_test (nat_lt a b) (λ e. let k = ltb-true a b e in absurd (omega arith)) (λ e. e)
 
 -- the text up to the colon of a label
-pub label_prefix : (text prefix behind : List ℕ) → CutParts 58 text prefix behind → take (length prefix + 1) text ≡ prefix ++ codes ":"
-label_prefix text prefix behind p = ap (take (length prefix + 1)) p.parts ∙ take-append-add prefix (58 ∷ behind) 1
+pub label_prefix : (text prefix remainder : List ℕ) → CutParts 58 text prefix remainder → take (length prefix + 1) text ≡ prefix ++ codes ":"
+label_prefix text prefix remainder p = ap (take (length prefix + 1)) p.parts ∙ take-append-add prefix (58 ∷ remainder) 1
 
 -- a cell that begins with a label is read as the label, and then as what comes after it
-pub cell_labelled : (w : Writing) (n : ℕ) (text prefix behind : List ℕ) (s s' : Among Column) → Some (prefix, behind) ≡ cut_at 58 text → CutParts 58 text prefix behind
-    → instr_in w n (take (length prefix + 1) text) s ≡ Ok s' → cell_read w n text s ≡ instr_or_nothing w n behind s'
+pub cell_labelled : (w : Writing) (n : ℕ) (text prefix remainder : List ℕ) (s s' : Among Column) → Some (prefix, remainder) ≡ cut_at 58 text → CutParts 58 text prefix remainder
+    → instr_in w n (take (length prefix + 1) text) s ≡ Ok s' → cell_read w n text s ≡ instr_or_nothing w n remainder s'
 unfolding cell_read
-cell_labelled w n text prefix behind s s' e p h =
-    let k : instr_in w n (prefix ++ codes ":") s ≡ Ok s' = ap (λ t. instr_in w n t s) (sym (label_prefix text prefix behind p)) ∙ h in
+cell_labelled w n text prefix remainder s s' e p h =
+    let k : instr_in w n (prefix ++ codes ":") s ≡ Ok s' = ap (λ t. instr_in w n t s) (sym (label_prefix text prefix remainder p)) ∙ h in
     rw (sym e, k) refl

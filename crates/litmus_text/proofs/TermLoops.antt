@@ -3,44 +3,44 @@ use Rattle.std.proofs.Common.{◌≡◌, ◌+◌, ◌<◌, ℕ, zero, suc, List,
 use Rattle.final_cond.specs.declared.read.Follow.{Follow}
 use Rattle.final_cond.specs.declared.read.Follow.TheVariants as follows
 use Rattle.final_cond.specs.Conditions.{TermSeen}
-use Rattle.final_cond.specs.Reading.{Fault, follow_read}
+use Rattle.final_cond.specs.ConditionReading.{Fault, follow_read}
 use Rattle.arch_trait.specs.Writing.{Writing}
 use Rattle.litmus_text.specs.declared.errors.TextError.{TextError}
 use Rattle.litmus_text.specs.declared.errors.TestKind.TheVariants.{BadCondition, TooLarge}
-use Rattle.litmus_text.specs.Lines.{◌>>=◌, bad}
+use Rattle.litmus_text.specs.TextLines.{◌>>=◌, bad}
 use Rattle.litmus_text.specs.Condition.{Setting, Mentioned, TermRead, TermsRead, before_read, term_here, terms_here}
 
 -- the terms that were read before others
-abbrev pub behind : List TermSeen → Result TermsRead TextError → Result TermsRead TextError
-behind prefix (Ok r) = Ok (record r { terms = prefix ++ r.terms })
-behind prefix (Err e) = Err e
+abbrev pub remainder : List TermSeen → Result TermsRead TextError → Result TermsRead TextError
+remainder prefix (Ok r) = Ok (record r { terms = prefix ++ r.terms })
+remainder prefix (Err e) = Err e
 
 -- where no term was read before, what is read is as it was
-pub nothing_after : (r : Result TermsRead TextError) → behind [] r ≡ r
+pub nothing_after : (r : Result TermsRead TextError) → remainder [] r ≡ r
 nothing_after (Ok r) = refl
 nothing_after (Err e) = refl
 
-after_more : (prefix : List TermSeen) (t : TermSeen) (r : Result TermsRead TextError) → behind (prefix ++ t ∷ []) r ≡ behind prefix (r >>= λ others. Ok (before_read t others))
+after_more : (prefix : List TermSeen) (t : TermSeen) (r : Result TermsRead TextError) → remainder (prefix ++ t ∷ []) r ≡ remainder prefix (r >>= λ others. Ok (before_read t others))
 after_more prefix t (Ok r) = ap (λ ts. Ok (record r { terms = ts })) (append_assoc prefix (t ∷ []) r.terms)
 after_more prefix t (Err e) = refl
 
 -- where a term is faulty, the condition is
 pub stops_at_term : (w : Writing) (here : Setting) (room : ℕ) (s : Mentioned) (text : List ℕ) (prefix : List TermSeen) (e : TextError) (whole : Result TermsRead TextError)
-    → term_here w here s text ≡ Err e → behind prefix (terms_here w here room s text) ≡ whole → whole ≡ Err e
+    → term_here w here s text ≡ Err e → remainder prefix (terms_here w here room s text) ≡ whole → whole ≡ Err e
 unfolding terms_here
 stops_at_term w here zero s text prefix e whole h k = sym k ∙ rw h refl
 stops_at_term w here (suc room) s text prefix e whole h k = sym k ∙ rw h refl
 
 -- a term too many is too large
 pub stops_at_full : (w : Writing) (here : Setting) (room : ℕ) (s : Mentioned) (text : List ℕ) (prefix : List TermSeen) (t : TermRead) (whole : Result TermsRead TextError)
-    → room ≡ 0 → term_here w here s text ≡ Ok t → behind prefix (terms_here w here room s text) ≡ whole → whole ≡ bad TooLarge here.begins
+    → room ≡ 0 → term_here w here s text ≡ Ok t → remainder prefix (terms_here w here room s text) ≡ whole → whole ≡ bad TooLarge here.begins
 unfolding terms_here
 stops_at_full w here zero s text prefix t whole full h k = sym k ∙ rw h refl
 stops_at_full w here (suc room) s text prefix t whole full h k = absurd (omega arith)
 
 -- where what follows a term is faulty, the condition is
 pub stops_at_follow : (w : Writing) (here : Setting) (room : ℕ) (s : Mentioned) (text : List ℕ) (prefix : List TermSeen) (t : TermRead) (f : Fault) (whole : Result TermsRead TextError)
-    → 0 < room → term_here w here s text ≡ Ok t → follow_read t.rest ≡ Err f → behind prefix (terms_here w here room s text) ≡ whole → whole ≡ bad BadCondition here.begins
+    → 0 < room → term_here w here s text ≡ Ok t → follow_read t.rest ≡ Err f → remainder prefix (terms_here w here room s text) ≡ whole → whole ≡ bad BadCondition here.begins
 unfolding terms_here
 stops_at_follow w here zero s text prefix t f whole more h g k = absurd (omega arith)
 stops_at_follow w here (suc room) s text prefix t f whole more h g k = sym k ∙ rw (h, g) refl
@@ -48,7 +48,7 @@ stops_at_follow w here (suc room) s text prefix t f whole more h g k = sym k ∙
 -- where the terms end after one, they are read
 pub ends_at_follow : (w : Writing) (here : Setting) (room : ℕ) (s : Mentioned) (text : List ℕ) (prefix prefix' : List TermSeen) (t : TermRead) (step : Follow) (rest : List ℕ) (whole : Result TermsRead TextError)
     → 0 < room → prefix' ≡ prefix ++ t.term ∷ [] → term_here w here s text ≡ Ok t → follow_read t.rest ≡ Ok (step, rest) → step ≡ follows.End
-    → behind prefix (terms_here w here room s text) ≡ whole → whole ≡ Ok (record { terms = prefix'; state = t.state; rest = rest })
+    → remainder prefix (terms_here w here room s text) ≡ whole → whole ≡ Ok (record { terms = prefix'; state = t.state; rest = rest })
 unfolding terms_here
 ends_at_follow w here zero s text prefix prefix' t step rest whole more f h g d k = absurd (omega arith)
 ends_at_follow w here (suc room) s text prefix prefix' t step rest whole more f h g d k = sym k ∙ rw (h, g, d, f) refl
@@ -56,10 +56,10 @@ ends_at_follow w here (suc room) s text prefix prefix' t step rest whole more f 
 -- where the terms go on after one, the others are read
 pub goes_on : (w : Writing) (here : Setting) (room room' : ℕ) (s : Mentioned) (text : List ℕ) (prefix prefix' : List TermSeen) (t : TermRead) (step : Follow) (rest : List ℕ) (whole : Result TermsRead TextError)
     → room ≡ room' + 1 → prefix' ≡ prefix ++ t.term ∷ [] → term_here w here s text ≡ Ok t → follow_read t.rest ≡ Ok (step, rest) → step ≡ follows.Term
-    → behind prefix (terms_here w here room s text) ≡ whole → behind prefix' (terms_here w here room' t.state rest) ≡ whole
+    → remainder prefix (terms_here w here room s text) ≡ whole → remainder prefix' (terms_here w here room' t.state rest) ≡ whole
 unfolding terms_here
 goes_on w here zero room' s text prefix prefix' t step rest whole more f h g d k = absurd (omega arith)
 goes_on w here (suc room) room' s text prefix prefix' t step rest whole more f h g d k =
     let n : room' ≡ room = omega arith in
-    let e : behind prefix (terms_here w here (suc room) s text) ≡ behind prefix (terms_here w here room t.state rest >>= λ others. Ok (before_read t.term others)) = rw (h, g, d) refl in
+    let e : remainder prefix (terms_here w here (suc room) s text) ≡ remainder prefix (terms_here w here room t.state rest >>= λ others. Ok (before_read t.term others)) = rw (h, g, d) refl in
     rw (n, f) (after_more prefix t.term (terms_here w here room t.state rest) ∙ sym e ∙ k)

@@ -7,30 +7,30 @@ use Rattle.std.proofs.lemmas.List.Concat.{flat_map-append}
 use Rattle.std.proofs.lemmas.List.FromFn.{length-enumerate_from, length-range_with_len, get_or-range_with_len}
 use Rattle.diy_io.specs.declared.page.TheConstants.{LINE_ROOM}
 use Rattle.diy_io.specs.Page.{page_after}
-use Rattle.arch_trait.specs.Codes.{thread_of}
+use Rattle.arch_trait.specs.Codes.{thread_code_of}
 use Rattle.arch_trait.specs.declared.code.Code.{Code}
 use Rattle.arch_trait.specs.Threads.{ThreadCode}
 use Rattle.arch_trait.specs.Writing.{Writing}
-use Rattle.arch_trait.specs.Tests.{TestSeen}
+use Rattle.arch_trait.specs.SeenTests.{TestSeen}
 use Rattle.final_cond.specs.CondText.{cond_text}
 use Rattle.litmus_text.specs.declared.parts.TextPart.TheVariants.{Edges, Items, Row}
-use Rattle.litmus_text.specs.TestText.{edges_line, items_lines, initial_lines, columns_of, row_line, row_count, table_lines, ended}
-use Rattle.litmus_text.specs.TextParts.{rows_from, lines_from, text_from, parts_left, PutsPart}
+use Rattle.litmus_text.specs.TestText.{edges_line, items_lines, initial_lines, columns_of, row_line, row_count, table_lines, with_line_feed}
+use Rattle.litmus_text.specs.TextParts.{rows_from, part_lines, text_from, parts_left, PutsPart}
 use Rattle.litmus_text.proofs.ElementLaws.{numbered_at}
 use Rattle.litmus_text.proofs.InitialLaws.{printed_items}
 
 -- the edges and the opening brace
-edges_text : (w : Writing) (test : TestSeen) → text_from w test (Some Edges) ≡ (ended (edges_line test.edges) ++ codes "{\n") ++ text_from w test (Some (Items 0))
-unfolding lines_from initial_lines
+edges_text : (w : Writing) (test : TestSeen) → text_from w test (Some Edges) ≡ (with_line_feed (edges_line test.edges) ++ codes "{\n") ++ text_from w test (Some (Items 0))
+unfolding part_lines initial_lines
 edges_text w test =
     let items = flat_map (λ t. items_lines w test.places t.0 t.1.links) (enumerate_from 0 test.threads) in
     let rows = rows_from w test 0 in
-    let rest : flat_map ended ((items ++ codes "}" ∷ []) ++ rows) ≡ flat_map ended (items ++ codes "}" ∷ rows) = ap (flat_map ended) (append_assoc items (codes "}" ∷ []) rows) in
-    ap (λ rest. ended (edges_line test.edges) ++ (codes "{\n" ++ rest)) rest
-    ∙ sym (append_assoc (ended (edges_line test.edges)) (codes "{\n") (flat_map ended (items ++ codes "}" ∷ rows)))
+    let rest : flat_map with_line_feed ((items ++ codes "}" ∷ []) ++ rows) ≡ flat_map with_line_feed (items ++ codes "}" ∷ rows) = ap (flat_map with_line_feed) (append_assoc items (codes "}" ∷ []) rows) in
+    ap (λ rest. with_line_feed (edges_line test.edges) ++ (codes "{\n" ++ rest)) rest
+    ∙ sym (append_assoc (with_line_feed (edges_line test.edges)) (codes "{\n") (flat_map with_line_feed (items ++ codes "}" ∷ rows)))
 
 -- the part of the edges is their line and the opening brace
-pub edges_put : (w : Writing) (test : TestSeen) (old new piece : List ℕ) → ended (edges_line test.edges) ++ codes "{\n" ≡ piece → new ≡ page_after old piece → length piece ≤ LINE_ROOM
+pub edges_put : (w : Writing) (test : TestSeen) (old new piece : List ℕ) → with_line_feed (edges_line test.edges) ++ codes "{\n" ≡ piece → new ≡ page_after old piece → length piece ≤ LINE_ROOM
     → PutsPart w test Edges old new (Some (Items 0))
 unfolding parts_left
 edges_put w test old new piece same put short = record {
@@ -44,44 +44,44 @@ edges_put w test old new piece same put short = record {
 -- the items of a thread
 items_text : (w : Writing) (test : TestSeen) (i : ℕ) (t : ℕ × ThreadCode) → i < length test.threads → get_or (enumerate_from 0 test.threads) i t ≡ t
     → text_from w test (Some (Items i)) ≡ printed_items w test.places t ++ text_from w test (Some (Items (i + 1)))
-unfolding lines_from
+unfolding part_lines
 items_text w test i t h is =
     let lines = λ (t : ℕ × ThreadCode). items_lines w test.places t.0 t.1.links in
     let all = enumerate_from 0 test.threads in
     let rest = codes "}" ∷ rows_from w test 0 in
     let more : drop i all ≡ t ∷ drop (i + 1) all = drop_more all i t (omega (arith, length-enumerate_from 0 test.threads)) ∙ ap (λ t. t ∷ drop (i + 1) all) is in
-    ap (λ left. flat_map ended (flat_map lines left ++ rest)) more
-    ∙ ap (flat_map ended) (append_assoc (lines t) (flat_map lines (drop (i + 1) all)) rest)
-    ∙ flat_map-append ended (lines t) (flat_map lines (drop (i + 1) all) ++ rest)
+    ap (λ left. flat_map with_line_feed (flat_map lines left ++ rest)) more
+    ∙ ap (flat_map with_line_feed) (append_assoc (lines t) (flat_map lines (drop (i + 1) all)) rest)
+    ∙ flat_map-append with_line_feed (lines t) (flat_map lines (drop (i + 1) all) ++ rest)
 
 -- the part of a thread is its items
-pub items_put : (w : Writing) (test : TestSeen) (threads : List Code) (i : ℕ) (code : Code) (old new : List ℕ) → test.threads ≡ map thread_of threads → i < length threads → code ≡ get_or threads i code
-    → new ≡ page_after old (printed_items w test.places (i, thread_of code)) → length (printed_items w test.places (i, thread_of code)) ≤ LINE_ROOM
+pub items_put : (w : Writing) (test : TestSeen) (threads : List Code) (i : ℕ) (code : Code) (old new : List ℕ) → test.threads ≡ map thread_code_of threads → i < length threads → code ≡ get_or threads i code
+    → new ≡ page_after old (printed_items w test.places (i, thread_code_of code)) → length (printed_items w test.places (i, thread_code_of code)) ≤ LINE_ROOM
     → PutsPart w test (Items i) old new (Some (Items (i + 1)))
 unfolding parts_left
 items_put w test threads i code old new same h is put short =
-    let inside : i < length test.threads = omega (arith, ap length same, length-map threads thread_of) in
-    let here : get_or (enumerate_from 0 test.threads) i (i, thread_of code) ≡ (i, thread_of code) =
-    ap (λ ts. get_or (enumerate_from 0 ts) i (i, thread_of code)) same ∙ numbered_at thread_of threads i code (i, thread_of code) h ∙ ap (λ c. (i, thread_of c)) (sym is) in
+    let inside : i < length test.threads = omega (arith, ap length same, length-map threads thread_code_of) in
+    let here : get_or (enumerate_from 0 test.threads) i (i, thread_code_of code) ≡ (i, thread_code_of code) =
+    ap (λ ts. get_or (enumerate_from 0 ts) i (i, thread_code_of code)) same ∙ numbered_at thread_code_of threads i code (i, thread_code_of code) h ∙ ap (λ c. (i, thread_code_of c)) (sym is) in
     record {
-      piece = printed_items w test.places (i, thread_of code);
-      text = items_text w test i (i, thread_of code) inside here;
+      piece = printed_items w test.places (i, thread_code_of code);
+      text = items_text w test i (i, thread_code_of code) inside here;
       page = put;
       short = short;
       fewer = omega arith;
     }
 
 -- the part after the last thread is the closing brace
-pub closing_put : (w : Writing) (test : TestSeen) (threads : List Code) (i : ℕ) (old new : List ℕ) → test.threads ≡ map thread_of threads → length threads ≤ i
+pub closing_put : (w : Writing) (test : TestSeen) (threads : List Code) (i : ℕ) (old new : List ℕ) → test.threads ≡ map thread_code_of threads → length threads ≤ i
     → new ≡ page_after old (codes "}\n") → PutsPart w test (Items i) old new (Some (Row 0))
-unfolding parts_left lines_from
+unfolding parts_left part_lines
 closing_put w test threads i old new same h put =
     let lines = λ (t : ℕ × ThreadCode). items_lines w test.places t.0 t.1.links in
     let none : drop i (enumerate_from 0 test.threads) ≡ [] =
-    drop_all i (enumerate_from 0 test.threads) (omega (arith, length-enumerate_from 0 test.threads, ap length same, length-map threads thread_of)) in
+    drop_all i (enumerate_from 0 test.threads) (omega (arith, length-enumerate_from 0 test.threads, ap length same, length-map threads thread_code_of)) in
     record {
       piece = codes "}\n";
-      text = ap (λ left. flat_map ended (flat_map lines left ++ codes "}" ∷ rows_from w test 0)) none;
+      text = ap (λ left. flat_map with_line_feed (flat_map lines left ++ codes "}" ∷ rows_from w test 0)) none;
       page = put;
       short = omega arith;
       fewer = omega arith;
@@ -89,8 +89,8 @@ closing_put w test threads i old new same h put =
 
 -- a row
 row_text : (w : Writing) (test : TestSeen) (row : ℕ) → row < row_count (columns_of w test.places test.threads)
-    → text_from w test (Some (Row row)) ≡ ended (row_line (columns_of w test.places test.threads) row) ++ text_from w test (Some (Row (row + 1)))
-unfolding lines_from rows_from table_lines
+    → text_from w test (Some (Row row)) ≡ with_line_feed (row_line (columns_of w test.places test.threads) row) ++ text_from w test (Some (Row (row + 1)))
+unfolding part_lines rows_from table_lines
 row_text w test row h =
     let columns = columns_of w test.places test.threads in
     let numbers = range_with_len 0 (row_count columns) in
@@ -101,15 +101,15 @@ row_text w test row h =
     let more : drop row (map (row_line columns) numbers) ≡ row_line columns row ∷ drop (row + 1) (map (row_line columns) numbers) =
     drop_more (map (row_line columns) numbers) row [] (omega (arith, inside, length-map numbers (row_line columns)))
     ∙ ap (λ line. line ∷ drop (row + 1) (map (row_line columns) numbers)) here in
-    ap (λ left. flat_map ended (left ++ rest)) more
+    ap (λ left. flat_map with_line_feed (left ++ rest)) more
 
 -- the part of a row is its line
 pub row_put : (w : Writing) (test : TestSeen) (rows row : ℕ) (old new : List ℕ) → rows ≡ row_count (columns_of w test.places test.threads) → row < rows
-    → new ≡ page_after old (ended (row_line (columns_of w test.places test.threads) row)) → length (ended (row_line (columns_of w test.places test.threads) row)) ≤ LINE_ROOM
+    → new ≡ page_after old (with_line_feed (row_line (columns_of w test.places test.threads) row)) → length (with_line_feed (row_line (columns_of w test.places test.threads) row)) ≤ LINE_ROOM
     → PutsPart w test (Row row) old new (Some (Row (row + 1)))
 unfolding parts_left
 row_put w test rows row old new same h put short = record {
-  piece = ended (row_line (columns_of w test.places test.threads) row);
+  piece = with_line_feed (row_line (columns_of w test.places test.threads) row);
   text = row_text w test row (omega (arith, same));
   page = put;
   short = short;
@@ -118,17 +118,17 @@ row_put w test rows row old new same h put short = record {
 
 -- the part after the last row is the line of the condition
 pub condition_put : (w : Writing) (test : TestSeen) (rows row : ℕ) (old new : List ℕ) → rows ≡ row_count (columns_of w test.places test.threads) → rows ≤ row
-    → new ≡ page_after old (ended (cond_text test.cond)) → length (ended (cond_text test.cond)) ≤ LINE_ROOM
+    → new ≡ page_after old (with_line_feed (cond_text test.cond)) → length (with_line_feed (cond_text test.cond)) ≤ LINE_ROOM
     → PutsPart w test (Row row) old new None
-unfolding parts_left lines_from rows_from table_lines
+unfolding parts_left part_lines rows_from table_lines
 condition_put w test rows row old new same h put short =
     let columns = columns_of w test.places test.threads in
     let lines = map (row_line columns) (range_with_len 0 (row_count columns)) in
     let none : drop row lines ≡ [] =
     drop_all row lines (omega (arith, same, length-map (range_with_len 0 (row_count columns)) (row_line columns), length-range_with_len 0 (row_count columns))) in
     record {
-      piece = ended (cond_text test.cond);
-      text = ap (λ left. flat_map ended (left ++ cond_text test.cond ∷ [])) none;
+      piece = with_line_feed (cond_text test.cond);
+      text = ap (λ left. flat_map with_line_feed (left ++ cond_text test.cond ∷ [])) none;
       page = put;
       short = short;
       fewer = omega arith;

@@ -12,26 +12,26 @@ use Rattle.relax_edges.specs.declared.kinds.Value.{Value}
 use Rattle.relax_edges.specs.declared.kinds.Value.TheVariants as values
 use Rattle.relax_edges.specs.declared.edge.Edge.{Edge}
 use Rattle.final_cond.specs.Conditions.{CondSeen}
-use Rattle.relax_edges.specs.Words.{word_of}
+use Rattle.relax_edges.specs.WordParts.{word_of}
 use Rattle.micro_ops.specs.declared.operation.Micro.{Micro}
 use Rattle.final_cond.specs.CondText.{cond_text}
 use Rattle.arch_trait.specs.Threads.{Puts, ThreadCode}
 use Rattle.arch_trait.specs.Writing.{Writing, WritesBack, op_text, name_in}
 use Rattle.arch_trait.specs.Cells.{WritesCells}
-use Rattle.arch_trait.specs.Tests.{TestSeen}
+use Rattle.arch_trait.specs.SeenTests.{TestSeen}
 use Rattle.litmus_text.specs.declared.limits.TheConstants.{MAX_TEXT}
-use Rattle.litmus_text.specs.Lines.{Lines, ends, line}
+use Rattle.litmus_text.specs.TextLines.{Lines, ends, line}
 use Rattle.litmus_text.specs.Header.{header_read, quote_read, after_settings}
 use Rattle.litmus_text.specs.InitialState.{Begun, initial_read}
-use Rattle.litmus_text.specs.Table.{Column, among, head_read, rows_read, all_labels_judged, no_columns, after_locations}
+use Rattle.litmus_text.specs.TestTable.{Column, among, head_read, rows_read, all_labels_judged, no_columns, after_locations}
 use Rattle.litmus_text.specs.Condition.{condition_read}
-use Rattle.litmus_text.specs.TestReading.{ThreadRead, values_of, threads_of, lines_read, test_read}
-use Rattle.litmus_text.specs.TestText.{items_lines, initial_lines, column_of, columns_of, row_line, row_count, table_lines, ended, test_lines, test_text}
-use Rattle.litmus_text.specs.Placing.{place_in, renumbered}
+use Rattle.litmus_text.specs.TestReading.{ThreadRead, values_of_thread, threads_of, lines_read, test_read}
+use Rattle.litmus_text.specs.TestText.{items_lines, initial_lines, column_of, columns_of, row_line, row_count, table_lines, with_line_feed, test_lines, test_text}
+use Rattle.litmus_text.specs.Placing.{place_in, op_renumbered}
 use Rattle.litmus_text.specs.TablePlan.{placed_from, column_so_far}
 use Rattle.litmus_text.specs.Progress.{progress, CodeFits, code_lands, column_at}
 use Rattle.litmus_text.specs.Items.{Link, links_of, links_mention, link_values}
-use Rattle.litmus_text.specs.Terms.{terms_mention}
+use Rattle.litmus_text.specs.ReadTerms.{terms_mention}
 use Rattle.litmus_text.specs.Reread.{thread_reread, reread, IsReadable}
 use Rattle.litmus_text.proofs.LineBack.{IsLine, before, lines_back}
 use Rattle.litmus_text.proofs.HeadBack.{header_back, quote_back, settings_back, header_line_is, edges_line_is}
@@ -135,23 +135,23 @@ all_texts a w table names [] laws cells h = tt
 all_texts a w table names (t ∷ threads) laws cells h = (code_texts a w table names 0 0 t.instrs laws cells h.0, all_texts a w table names threads laws cells h.1)
 
 -- the operations of a column
-ops_of : (table : List (List ℕ)) (names : ℕ → List ℕ) (n : ℕ) (code : List Micro) → map (λ placed. placed.op) (placed_from table names n code) ≡ map (renumbered table names) code
+ops_of : (table : List (List ℕ)) (names : ℕ → List ℕ) (n : ℕ) (code : List Micro) → map (λ placed. placed.op) (placed_from table names n code) ≡ map (op_renumbered table names) code
 ops_of table names n [] = refl
-ops_of table names n (op ∷ code) = ap (λ rest. renumbered table names op ∷ rest) (ops_of table names (n + 1) code)
+ops_of table names n (op ∷ code) = ap (λ rest. op_renumbered table names op ∷ rest) (ops_of table names (n + 1) code)
 
 -- the initial values of a thread
 own_values : (table : List (List ℕ)) (names : ℕ → List ℕ) (n : ℕ) (links : List (ℕ × ℕ)) (rest : List Link)
-    → values_of n (link_values table names (map (λ link. (n, link)) links ++ rest)) ≡ map (λ link. (link.0, values.Place (place_in table (names link.1)))) links ++ values_of n (link_values table names rest)
+    → values_of_thread n (link_values table names (map (λ link. (n, link)) links ++ rest)) ≡ map (λ link. (link.0, values.Place (place_in table (names link.1)))) links ++ values_of_thread n (link_values table names rest)
 own_values table names n [] rest = refl
 own_values table names n (link ∷ links) rest =
     rw (eq-eqb n n refl) (ap (λ more. (link.0, values.Place (place_in table (names link.1))) ∷ more) (own_values table names n links rest))
 
 others_values : (table : List (List ℕ)) (names : ℕ → List ℕ) (n m : ℕ) (links : List (ℕ × ℕ)) (rest : List Link) → (m == n) ≡ false
-    → values_of n (link_values table names (map (λ link. (m, link)) links ++ rest)) ≡ values_of n (link_values table names rest)
+    → values_of_thread n (link_values table names (map (λ link. (m, link)) links ++ rest)) ≡ values_of_thread n (link_values table names rest)
 others_values table names n m [] rest h = refl
 others_values table names n m (link ∷ links) rest h = rw h (others_values table names n m links rest h)
 
-later_values : (table : List (List ℕ)) (names : ℕ → List ℕ) (n m : ℕ) (threads : List ThreadCode) → n < m → values_of n (link_values table names (links_of m threads)) ≡ []
+later_values : (table : List (List ℕ)) (names : ℕ → List ℕ) (n m : ℕ) (threads : List ThreadCode) → n < m → values_of_thread n (link_values table names (links_of m threads)) ≡ []
 later_values table names n m [] h = refl
 later_values table names n m (t ∷ threads) h =
     by_test (m == n)
@@ -165,19 +165,19 @@ eqb-false_from : (m n : ℕ) → m ≢ n → (m == n) ≡ false
 eqb-false_from m n h = by_test (m == n) (λ e. absurd (h (eqb-true m n e))) (λ e. e)
 
 values_read : (table : List (List ℕ)) (names : ℕ → List ℕ) (line_number n : ℕ) (threads : List ThreadCode) (all : List (ℕ × (ℕ × Value)))
-    → ((k : ℕ) → n ≤ k → values_of k all ≡ values_of k (link_values table names (links_of n threads)))
-    → map (λ c. made (values_of c.0 all) (map (λ placed. placed.op) c.1.ops)) (enumerate_from n (map (column_so_far table names line_number) (map (λ t. t.instrs) threads)))
+    → ((k : ℕ) → n ≤ k → values_of_thread k all ≡ values_of_thread k (link_values table names (links_of n threads)))
+    → map (λ c. made (values_of_thread c.0 all) (map (λ placed. placed.op) c.1.ops)) (enumerate_from n (map (column_so_far table names line_number) (map (λ t. t.instrs) threads)))
     ≡ map (thread_reread table names) threads
 values_read table names m n [] all h = refl
 values_read table names m n (t ∷ threads) all h =
-    let own : values_of n all ≡ map (λ link. (link.0, values.Place (place_in table (names link.1)))) t.links =
+    let own : values_of_thread n all ≡ map (λ link. (link.0, values.Place (place_in table (names link.1)))) t.links =
     h n (omega arith) ∙ own_values table names n t.links (links_of (n + 1) threads)
     ∙ ap (λ rest. map (λ link. (link.0, values.Place (place_in table (names link.1)))) t.links ++ rest) (later_values table names n (n + 1) threads (omega arith))
     ∙ append-nil (map (λ link. (link.0, values.Place (place_in table (names link.1)))) t.links) in
     let rest = values_read table names m (n + 1) threads all
     (λ k low. h k (omega arith) ∙ others_values table names k n t.links (links_of (n + 1) threads) (eqb-false_from n k (omega arith))) in
-    ap (λ init. made init (map (λ placed. placed.op) (placed_from table names m t.instrs)) ∷ map (λ c. made (values_of c.0 all) (map (λ placed. placed.op) c.1.ops)) (enumerate_from (n + 1) (map (column_so_far table names m) (map (λ t. t.instrs) threads)))) own
-    ∙ ap (λ code. made (map (λ link. (link.0, values.Place (place_in table (names link.1)))) t.links) code ∷ map (λ c. made (values_of c.0 all) (map (λ placed. placed.op) c.1.ops)) (enumerate_from (n + 1) (map (column_so_far table names m) (map (λ t. t.instrs) threads)))) (ops_of table names m t.instrs)
+    ap (λ init. made init (map (λ placed. placed.op) (placed_from table names m t.instrs)) ∷ map (λ c. made (values_of_thread c.0 all) (map (λ placed. placed.op) c.1.ops)) (enumerate_from (n + 1) (map (column_so_far table names m) (map (λ t. t.instrs) threads)))) own
+    ∙ ap (λ code. made (map (λ link. (link.0, values.Place (place_in table (names link.1)))) t.links) code ∷ map (λ c. made (values_of_thread c.0 all) (map (λ placed. placed.op) c.1.ops)) (enumerate_from (n + 1) (map (column_so_far table names m) (map (λ t. t.instrs) threads)))) (ops_of table names m t.instrs)
     ∙ ap (λ more. thread_reread table names t ∷ more) rest
 
 -- the table of all places that the text mentions, in order
@@ -292,5 +292,5 @@ unfolding test_read test_text
 whole_back a arch w name edges places [] condition laws cells h = let none = h.threads_some in absurd (omega arith)
 whole_back a arch w name edges places (t ∷ threads) condition laws cells h =
     let lines = test_lines arch w name (seen edges places (t ∷ threads) condition) in
-    rw (not_longer MAX_TEXT (length (flat_map ended lines)) h.short)
+    rw (not_longer MAX_TEXT (length (flat_map with_line_feed lines)) h.short)
     (ap (lines_read arch w) (lines_back 1 lines (lines_are a arch w name edges places t threads condition laws cells h)) ∙ parts_back a arch w name edges places t threads condition laws cells h)

@@ -6,12 +6,12 @@ use Rattle.final_cond.specs.declared.read.Follow.{Follow}
 use Rattle.final_cond.specs.declared.read.Follow.TheVariants as follows
 use Rattle.text_laws.specs.Blanks.{unblanked}
 use Rattle.final_cond.specs.Conditions.{LeftSeen, InRegister, AtPlace, TermSeen, CondSeen}
-use Rattle.final_cond.specs.Reading.{Fault, opening_read, left_read, right_read, follow_read, end_at_start, has_form}
-use Rattle.arch_trait.specs.Names.{number_in, number_added, names_added}
+use Rattle.final_cond.specs.ConditionReading.{Fault, opening_read, left_read, right_read, follow_read, end_at_start, has_form}
+use Rattle.arch_trait.specs.PlaceNames.{number_in, number_added, names_added}
 use Rattle.arch_trait.specs.Writing.{Writing}
 use Rattle.litmus_text.specs.declared.errors.TestKind.TheVariants.{BadCondition, TooLarge, EndMissing}
 use Rattle.litmus_text.specs.declared.errors.TextError.{TextError}
-use Rattle.litmus_text.specs.Lines.{Lines, ends, line, ◌>>=◌, bad}
+use Rattle.litmus_text.specs.TextLines.{Lines, ends, line, ◌>>=◌, bad}
 use Rattle.litmus_text.specs.Joined.{Joined, no_text, with_text, all_joined, line_at}
 
 -- the threads of the table, the line where the condition begins, and its text
@@ -45,14 +45,14 @@ place_put begins n s name (Some place) = Ok (record s { names = names_added s.na
 place_put begins n s name None = over_at begins n s
 
 -- a place of a name, at a line, among those that are named so far
-abbrev pub name_put : ℕ → ℕ → Mentioned → List ℕ → Result Mentioned TextError
-name_put begins n s name = place_put begins n s name (number_added s.names name)
+abbrev pub name_mentioned : ℕ → ℕ → Mentioned → List ℕ → Result Mentioned TextError
+name_mentioned begins n s name = place_put begins n s name (number_added s.names name)
 
 -- a left side at a line: a register of a thread of the table, or a place
 abbrev pub left_put : Writing → Setting → ℕ → Mentioned → LeftSeen → Result Mentioned TextError
 left_put w here n s (InRegister thread name) =
     cond (nat_lt thread here.threads && is_some (number_in w.registers name)) (Ok s) (bad BadCondition here.begins)
-left_put w here n s (AtPlace name) = name_put here.begins n s name
+left_put w here n s (AtPlace name) = name_mentioned here.begins n s name
 
 -- the line of the first byte of what is left of the text
 abbrev pub line_of_rest : Setting → List ℕ → ℕ

@@ -6,19 +6,19 @@ use Rattle.std.specs.Str.{bytes_eq}
 use Rattle.relax_edges.specs.declared.kinds.Value.{Value}
 use Rattle.relax_edges.specs.declared.kinds.Value.TheVariants as values
 use Rattle.text_laws.specs.Names.{is_place_name}
-use Rattle.text_laws.specs.Numbers.{number_of}
+use Rattle.text_laws.specs.NumberTexts.{number_of}
 use Rattle.text_laws.specs.Blanks.{unblanked, trim_blanks, before_blanks}
 use Rattle.final_cond.specs.Conditions.{LeftSeen, InRegister, AtPlace}
-use Rattle.final_cond.specs.Reading.{left_at_start}
-use Rattle.arch_trait.specs.Names.{number_in, number_added, names_added}
+use Rattle.final_cond.specs.ConditionReading.{left_at_start}
+use Rattle.arch_trait.specs.PlaceNames.{number_in, number_added, names_added}
 use Rattle.arch_trait.specs.Writing.{Writing}
 use Rattle.litmus_text.specs.declared.errors.TestKind.TheVariants.{BadInit, TooLarge, EndMissing}
 use Rattle.litmus_text.specs.declared.errors.TextError.{TextError}
 use Rattle.litmus_text.specs.declared.limits.TheConstants.{MAX_THREADS}
-use Rattle.litmus_text.specs.Lines.{Lines, ends, line, Read, ◌>>=◌, bad}
+use Rattle.litmus_text.specs.TextLines.{Lines, ends, line, TextRead, ◌>>=◌, bad}
 use Rattle.text_laws.specs.Words.{is_nil}
 use Rattle.text_laws.specs.Cuts.{cut_at}
-use Rattle.litmus_text.specs.Cuts.{pieces}
+use Rattle.litmus_text.specs.TextCuts.{pieces}
 use Rattle.litmus_text.specs.Joined.{Joined, no_text, with_text, line_at}
 
 -- what an item gives a register: a number, or the address of a place
@@ -45,15 +45,15 @@ worth_if text None = place_worth text
 abbrev pub worth_of : List ℕ → Option Worth
 worth_of text = worth_if text (number_of text)
 
--- a register that is given a value
-abbrev pub given : ℕ → Option ℕ → Option Worth → Option Item
-given thread (Some register) (Some worth) = Some (gives thread register worth)
-given thread _ _ = None
+-- a register that is given_item a value
+abbrev pub given_item : ℕ → Option ℕ → Option Worth → Option Item
+given_item thread (Some register) (Some worth) = Some (gives thread register worth)
+given_item thread _ _ = None
 
 -- an item with this left side
 abbrev pub item_with : Writing → LeftSeen → List ℕ → Option Item
 item_with w (InRegister thread name) right =
-    cond (nat_lt thread MAX_THREADS) (given thread (number_in w.registers name) (worth_of right)) None
+    cond (nat_lt thread MAX_THREADS) (given_item thread (number_in w.registers name) (worth_of right)) None
 item_with w (AtPlace name) right =
     cond (is_place_name name && bytes_eq right (codes "0")) (Some (zero_at name)) None
 
@@ -86,7 +86,7 @@ pub record Begun : Type 0 where
   pub names : List (List ℕ)
   pub values : List (ℕ × (ℕ × Value))
 
--- nothing is given so far
+-- nothing is given_item so far
 abbrev pub nothing_begun : Begun
 nothing_begun = record { names = []; values = [] }
 
@@ -102,15 +102,15 @@ with_value begun names thread register value = record {
 }
 
 -- a place that a register holds the address of, at a line
-abbrev pub with_address : ℕ → Begun → ℕ → ℕ → List ℕ → Option ℕ → Result Begun TextError
-with_address n begun thread register name None = bad TooLarge n
-with_address n begun thread register name (Some place) =
+abbrev pub address_begun : ℕ → Begun → ℕ → ℕ → List ℕ → Option ℕ → Result Begun TextError
+address_begun n begun thread register name None = bad TooLarge n
+address_begun n begun thread register name (Some place) =
     Ok (with_value begun (names_added begun.names name) thread register (values.Place place))
 
 -- a register with the value that an item gives it, at a line
 abbrev pub with_worth : ℕ → Begun → ℕ → ℕ → Worth → Result Begun TextError
 with_worth n begun thread register (a_number number) = Ok (with_value begun begun.names thread register (values.Num number))
-with_worth n begun thread register (a_place name) = with_address n begun thread register name (number_added begun.names name)
+with_worth n begun thread register (a_place name) = address_begun n begun thread register name (number_added begun.names name)
 
 -- a place that is named, at a line
 abbrev pub with_named : ℕ → Begun → List ℕ → Option ℕ → Result Begun TextError
@@ -118,8 +118,8 @@ with_named n begun name None = bad TooLarge n
 with_named n begun name (Some place) = Ok (record begun { names = names_added begun.names name })
 
 -- a place of a name, at a line, among those that are named so far
-abbrev pub name_put : ℕ → Begun → List ℕ → Result Begun TextError
-name_put n begun name = with_named n begun name (number_added begun.names name)
+abbrev pub name_begun : ℕ → Begun → List ℕ → Result Begun TextError
+name_begun n begun name = with_named n begun name (number_added begun.names name)
 
 -- an item that begins at a line and ends at one
 abbrev pub item_put : ℕ → ℕ → Begun → Option Item → Result Begun TextError
@@ -127,7 +127,7 @@ item_put first last begun None = bad BadInit first
 item_put first last begun (Some empty) = Ok begun
 item_put first last begun (Some (gives thread register worth)) =
     cond (is_given thread register begun.values) (bad BadInit first) (with_worth last begun thread register worth)
-item_put first last begun (Some (zero_at name)) = name_put first begun name
+item_put first last begun (Some (zero_at name)) = name_begun first begun name
 
 -- the item of a piece that begins at a place of a text
 unfoldable pub item_read : Writing → Joined → ℕ → List ℕ → Begun → Result Begun TextError
@@ -150,7 +150,7 @@ but_last (piece ∷ next ∷ rest) = piece ∷ but_last (next ∷ rest)
 
 -- the text up to the first `}`, what comes after it in its line, and the lines after that; or the text up to the end
 pub data Braced : Type 0 where
-  closed : (text : Joined) (n : ℕ) (behind : List ℕ) (rest : Lines) → Braced
+  closed : (text : Joined) (n : ℕ) (remainder : List ℕ) (rest : Lines) → Braced
   open_to : (text : Joined) (n : ℕ) → Braced
 
 -- a line that may have a `}`
@@ -165,25 +165,25 @@ braced joined n text (line m next rest) =
     braced_if joined n (line m next rest) (cut_at 125 text) (braced (with_text (with_text joined n text) m (32 ∷ [])) m next rest)
 
 -- nothing comes after the `}`
-abbrev pub brace_ends : ℕ → List ℕ → Lines → Begun → Read Begun
+abbrev pub brace_ends : ℕ → List ℕ → Lines → Begun → TextRead Begun
 brace_ends n [] rest begun = Ok (begun, rest)
-brace_ends n (byte ∷ behind) rest begun = bad BadInit n
+brace_ends n (byte ∷ remainder) rest begun = bad BadInit n
 
 -- the initial state that the items between braces give
-abbrev pub braced_read : Writing → Braced → Read Begun
-braced_read w (closed text n behind rest) = do
+abbrev pub braced_read : Writing → Braced → TextRead Begun
+braced_read w (closed text n remainder rest) = do
   begun ← items_read w text 0 (pieces 59 text.bytes) nothing_begun
-  brace_ends n behind rest begun
+  brace_ends n remainder rest begun
 braced_read w (open_to text n) = do
   begun ← items_read w text 0 (but_last (pieces 59 text.bytes)) nothing_begun
   bad EndMissing n
 
 -- the initial state, where its line begins with `{`
-abbrev pub initial_line : Writing → ℕ → List ℕ → Lines → Read Begun
+abbrev pub initial_line : Writing → ℕ → List ℕ → Lines → TextRead Begun
 initial_line w n [] rest = bad BadInit n
 initial_line w n (byte ∷ text) rest = cond (byte == 123) (braced_read w (braced no_text n text rest)) (bad BadInit n)
 
 -- the initial state that lines begin with
-unfoldable pub initial_read : Writing → Lines → Read Begun
+unfoldable pub initial_read : Writing → Lines → TextRead Begun
 initial_read w (ends n) = bad EndMissing n
 initial_read w (line n text rest) = initial_line w n text rest

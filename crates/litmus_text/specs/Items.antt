@@ -6,7 +6,7 @@ use Rattle.relax_edges.specs.declared.kinds.Value.{Value}
 use Rattle.relax_edges.specs.declared.kinds.Value.TheVariants as values
 use Rattle.text_laws.specs.Names.{is_place_name}
 use Rattle.arch_trait.specs.Threads.{ThreadCode}
-use Rattle.arch_trait.specs.Names.{number_in, names_added}
+use Rattle.arch_trait.specs.PlaceNames.{number_in, names_added}
 use Rattle.arch_trait.specs.Writing.{Writing}
 use Rattle.litmus_text.specs.Placing.{place_in}
 

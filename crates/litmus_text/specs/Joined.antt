@@ -2,7 +2,7 @@
 -- Source: own.
 use Rattle.std.specs.Prelude.{ℕ, List, [], ◌∷◌, ◌++◌, length, get_or}
 use Rattle.std.proofs.Math.ListN.{replicate}
-use Rattle.litmus_text.specs.Lines.{Lines, ends, line}
+use Rattle.litmus_text.specs.TextLines.{Lines, ends, line}
 
 -- a text, and for each of its bytes the number of its line
 pub record Joined : Type 0 where

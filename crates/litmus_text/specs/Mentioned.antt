@@ -7,9 +7,9 @@ use Rattle.relax_edges.specs.declared.kinds.ArchName.{ArchName}
 use Rattle.micro_ops.specs.declared.operation.Micro.{Micro}
 use Rattle.micro_ops.specs.declared.operation.Micro.TheVariants as ops
 use Rattle.final_cond.specs.Conditions.{LeftSeen, InRegister, AtPlace}
-use Rattle.arch_trait.specs.Names.{number_in}
+use Rattle.arch_trait.specs.PlaceNames.{number_in}
 use Rattle.arch_trait.specs.Writing.{Writing, name_in}
-use Rattle.arch_trait.specs.Tests.{TestSeen}
+use Rattle.arch_trait.specs.SeenTests.{TestSeen}
 use Rattle.litmus_text.specs.TestText.{test_text}
 use Rattle.litmus_text.specs.TestReading.{test_read}
 use Rattle.litmus_text.specs.Items.{links_of}
@@ -33,7 +33,7 @@ left_is_in table (AtPlace name) = is_in table name
 -- The text of a test under a name is read as the test, its places numbered by a table. The table holds each name
 -- once, no name but those of the test's places, and each place that is in an operation, in an address register
 -- or in the condition.
-pub record ReadsBack (arch : ArchName) (w : Writing) (name : List ℕ) (test : TestSeen) : Type 0 where
+pub record TestReadsBack (arch : ArchName) (w : Writing) (name : List ℕ) (test : TestSeen) : Type 0 where
   pub table : List (List ℕ)
   pub read : test_read arch w (test_text arch w name test) ≡ Ok (reread table name test)
   pub once : IsDistinct bytes_eq table

@@ -3,7 +3,7 @@
 use Rattle.std.specs.Prelude.{ℕ, List, Option, Some, None}
 use Rattle.micro_ops.specs.declared.operation.Micro.{Micro}
 use Rattle.micro_ops.specs.declared.operation.Micro.TheVariants as ops
-use Rattle.arch_trait.specs.Names.{number_in, names_added}
+use Rattle.arch_trait.specs.PlaceNames.{number_in, names_added}
 
 -- the number of a name, or 0 where it has none
 abbrev pub or_zero : Option ℕ → ℕ
@@ -15,10 +15,10 @@ abbrev pub place_in : List (List ℕ) → List ℕ → ℕ
 place_in table name = or_zero (number_in table name)
 
 -- an operation with its place numbered by a table, where places had these names
-abbrev pub renumbered : List (List ℕ) → (ℕ → List ℕ) → Micro → Micro
-renumbered table names (ops.LoadAt dst place) = ops.LoadAt dst (place_in table (names place))
-renumbered table names (ops.StoreAt place n) = ops.StoreAt (place_in table (names place)) n
-renumbered table names op = op
+abbrev pub op_renumbered : List (List ℕ) → (ℕ → List ℕ) → Micro → Micro
+op_renumbered table names (ops.LoadAt dst place) = ops.LoadAt dst (place_in table (names place))
+op_renumbered table names (ops.StoreAt place n) = ops.StoreAt (place_in table (names place)) n
+op_renumbered table names op = op
 
 -- the table after an operation's place was mentioned
 abbrev pub mentioned : (ℕ → List ℕ) → List (List ℕ) → Micro → List (List ℕ)

@@ -5,33 +5,33 @@ use Rattle.text_laws.specs.Names.{is_place_name}
 use Rattle.micro_ops.specs.declared.operation.Micro.{Micro}
 use Rattle.micro_ops.specs.declared.operation.Micro.TheVariants as ops
 use Rattle.arch_trait.specs.Threads.{Puts}
-use Rattle.arch_trait.specs.Names.{number_in}
+use Rattle.arch_trait.specs.PlaceNames.{number_in}
 use Rattle.arch_trait.specs.Cells.{is_access}
 use Rattle.arch_trait.specs.LabelOrder.{is_next, labels_after}
-use Rattle.litmus_text.specs.Table.{Column, is_label_of}
+use Rattle.litmus_text.specs.TestTable.{Column, is_label_of}
 use Rattle.litmus_text.specs.Placing.{mentioned}
 use Rattle.litmus_text.specs.TablePlan.{column_so_far}
 
 -- the operations of a thread that were read, and those that are left
-pub record Progress : Type 0 where
+pub record RowProgress : Type 0 where
   pub done : List Micro
   pub left : List Micro
 
 -- how far a thread was read, by its operations
-abbrev pub progress : List Micro → List Micro → Progress
+abbrev pub progress : List Micro → List Micro → RowProgress
 progress done left = record { done = done; left = left }
 
 -- the operations of a thread after one row more was read
-abbrev pub moved : List Micro → List Micro → Progress
+abbrev pub moved : List Micro → List Micro → RowProgress
 moved done [] = progress done []
 moved done (op ∷ left) = progress (done ++ op ∷ []) left
 
 -- how far a thread was read after one row more
-abbrev pub advanced : Progress → Progress
+abbrev pub advanced : RowProgress → RowProgress
 advanced p = moved p.done p.left
 
 -- the column that was read so far
-abbrev pub column_at : List (List ℕ) → (ℕ → List ℕ) → ℕ → Progress → Column
+abbrev pub column_at : List (List ℕ) → (ℕ → List ℕ) → ℕ → RowProgress → Column
 column_at table names first p = column_so_far table names first p.done
 
 -- the table after the first operation that is left was mentioned
@@ -40,7 +40,7 @@ mentioned_first names s [] = s
 mentioned_first names s (op ∷ left) = mentioned names s op
 
 -- the table after the first operations that are left of all threads were mentioned
-abbrev pub row_mentions : (ℕ → List ℕ) → List (List ℕ) → List Progress → List (List ℕ)
+abbrev pub row_mentions : (ℕ → List ℕ) → List (List ℕ) → List RowProgress → List (List ℕ)
 row_mentions names s [] = s
 row_mentions names s (p ∷ ps) = row_mentions names (mentioned_first names s p.left) ps
 
@@ -66,15 +66,15 @@ CodeFits a table names labels accesses (op ∷ code) =
 
 -- a label is in a thread once, after the branch
 abbrev pub occurs_once : ℕ → List Micro → List Micro → Bool
-occurs_once label all behind = (count_by (is_label_of label) all == 1) && (count_by (is_label_of label) behind == 1)
+occurs_once label all remainder = (count_by (is_label_of label) all == 1) && (count_by (is_label_of label) remainder == 1)
 
 -- where an operation is a branch, its label comes once in the thread, after the branch
 abbrev pub op_lands : Micro → List Micro → List Micro → Bool
-op_lands (ops.BranchEq label) all behind = occurs_once label all behind
-op_lands (ops.BranchNz a label) all behind = occurs_once label all behind
-op_lands op all behind = true
+op_lands (ops.BranchEq label) all remainder = occurs_once label all remainder
+op_lands (ops.BranchNz a label) all remainder = occurs_once label all remainder
+op_lands op all remainder = true
 
 -- the label of each branch of a thread, from an operation on, comes once in the thread, after the branch
 abbrev pub code_lands : List Micro → List Micro → Bool
 code_lands all [] = true
-code_lands all (op ∷ behind) = op_lands op all behind && code_lands all behind
+code_lands all (op ∷ remainder) = op_lands op all remainder && code_lands all remainder

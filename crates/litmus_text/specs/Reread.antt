@@ -4,25 +4,25 @@ use Rattle.std.specs.Prelude.{◌≡◌, ◌<◌, ◌≤◌, ℕ, true, List, []
 use Rattle.std.specs.List.{join_by, AllByRecursion}
 use Rattle.relax_edges.specs.declared.kinds.ArchName.{ArchName}
 use Rattle.relax_edges.specs.declared.kinds.Value.TheVariants as values
-use Rattle.relax_edges.specs.Words.{word_of}
+use Rattle.relax_edges.specs.WordParts.{word_of}
 use Rattle.final_cond.specs.declared.cond.TheConstants.{MAX_TERMS}
 use Rattle.arch_trait.specs.Threads.{Puts, ThreadCode}
 use Rattle.arch_trait.specs.Writing.{Writing, name_in}
-use Rattle.arch_trait.specs.Tests.{TestSeen}
+use Rattle.arch_trait.specs.SeenTests.{TestSeen}
 use Rattle.litmus_text.specs.declared.limits.TheConstants.{MAX_TEXT, MAX_THREADS, MAX_ROWS}
 use Rattle.litmus_text.specs.TestText.{test_text}
 use Rattle.litmus_text.specs.TestReading.{ThreadRead, TestRead}
-use Rattle.litmus_text.specs.Placing.{place_in, renumbered}
+use Rattle.litmus_text.specs.Placing.{place_in, op_renumbered}
 use Rattle.litmus_text.specs.Printable.{IsTestName}
 use Rattle.litmus_text.specs.Progress.{CodeFits, code_lands}
 use Rattle.litmus_text.specs.Items.{links_of, links_once, LinkFits}
-use Rattle.litmus_text.specs.Terms.{TermFits}
+use Rattle.litmus_text.specs.ReadTerms.{TermFits}
 
 -- a thread with its places numbered by a table
 abbrev pub thread_reread : List (List ℕ) → (ℕ → List ℕ) → ThreadCode → ThreadRead
 thread_reread table names t = record {
   init = map (λ link. (link.0, values.Place (place_in table (names link.1)))) t.links;
-  code = map (renumbered table names) t.instrs;
+  code = map (op_renumbered table names) t.instrs;
 }
 
 -- a test under a name as its text is read, with its places numbered by a table

@@ -7,7 +7,7 @@ use Rattle.micro_ops.specs.declared.operation.Micro.{Micro}
 use Rattle.micro_ops.specs.Machines.{InRange}
 use Rattle.micro_ops.specs.Running.{is_load, lands}
 use Rattle.litmus_text.specs.declared.reading.table.Placed.{Placed}
-use Rattle.litmus_text.specs.Table.{Column}
+use Rattle.litmus_text.specs.TestTable.{Column}
 
 -- code that can be run: its registers are the machine's, the label of each branch comes later, and there are at most 64
 -- loads and fewer than 2^32 operations

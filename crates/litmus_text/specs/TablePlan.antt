@@ -6,13 +6,13 @@ use Rattle.micro_ops.specs.declared.operation.Micro.{Micro}
 use Rattle.arch_trait.specs.LabelOrder.{labels_in}
 use Rattle.arch_trait.specs.Writing.{label_name}
 use Rattle.litmus_text.specs.declared.reading.table.Placed.{Placed}
-use Rattle.litmus_text.specs.Table.{Column}
-use Rattle.litmus_text.specs.Placing.{renumbered}
+use Rattle.litmus_text.specs.TestTable.{Column}
+use Rattle.litmus_text.specs.Placing.{op_renumbered}
 
 -- operations with their lines, from a line on
 abbrev pub placed_from : List (List ℕ) → (ℕ → List ℕ) → ℕ → List Micro → List Placed
 placed_from table names n [] = []
-placed_from table names n (op ∷ code) = record { op = renumbered table names op; at_line = n } ∷ placed_from table names (n + 1) code
+placed_from table names n (op ∷ code) = record { op = op_renumbered table names op; at_line = n } ∷ placed_from table names (n + 1) code
 
 -- the names of so many labels
 abbrev pub label_table : ℕ → List (List ℕ)

@@ -10,10 +10,10 @@ use Rattle.final_cond.specs.Conditions.{CondSeen}
 use Rattle.litmus_text.specs.declared.errors.TestKind.TheVariants.{TooLarge}
 use Rattle.litmus_text.specs.declared.errors.TextError.{TextError}
 use Rattle.litmus_text.specs.declared.limits.TheConstants.{MAX_TEXT}
-use Rattle.litmus_text.specs.Lines.{Lines, lines_from, ◌>>=◌, bad}
+use Rattle.litmus_text.specs.TextLines.{Lines, lines_from, ◌>>=◌, bad}
 use Rattle.litmus_text.specs.Header.{header_read, quote_read, after_settings, arch_read}
 use Rattle.litmus_text.specs.InitialState.{Begun, initial_read}
-use Rattle.litmus_text.specs.Table.{Column, head_read, rows_read, all_labels_judged, no_columns, among, after_locations}
+use Rattle.litmus_text.specs.TestTable.{Column, head_read, rows_read, all_labels_judged, no_columns, among, after_locations}
 use Rattle.litmus_text.specs.Condition.{condition_read}
 
 -- a thread: its initial values in order, and its operations
@@ -30,13 +30,13 @@ pub record TestRead : Type 0 where
   pub cond : CondSeen
 
 -- the initial values of a thread
-abbrev pub values_of : ℕ → List (ℕ × (ℕ × Value)) → List (ℕ × Value)
-values_of thread values = map (λ v. v.1) (filter (λ v. v.0 == thread) values)
+abbrev pub values_of_thread : ℕ → List (ℕ × (ℕ × Value)) → List (ℕ × Value)
+values_of_thread thread values = map (λ v. v.1) (filter (λ v. v.0 == thread) values)
 
 -- the threads of the columns
 abbrev pub threads_of : Begun → List Column → List ThreadRead
 threads_of begun columns =
-    map (λ c. record { init = values_of c.0 begun.values; code = map (λ placed. placed.op) c.1.ops }) (enumerate_from 0 columns)
+    map (λ c. record { init = values_of_thread c.0 begun.values; code = map (λ placed. placed.op) c.1.ops }) (enumerate_from 0 columns)
 
 -- the test that lines are read as, part by part, or the first fault
 unfoldable pub lines_read : ArchName → Writing → Lines → Result TestRead TextError

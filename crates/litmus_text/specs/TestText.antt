@@ -7,8 +7,8 @@ use Rattle.std.proofs.Math.ListN.{replicate}
 use Rattle.relax_edges.specs.declared.kinds.ArchName.{ArchName}
 use Rattle.relax_edges.specs.declared.edge.Edge.{Edge}
 use Rattle.relax_edges.specs.Architectures.{arch_word}
-use Rattle.relax_edges.specs.Words.{word_of}
-use Rattle.arch_trait.specs.Tests.{TestSeen}
+use Rattle.relax_edges.specs.WordParts.{word_of}
+use Rattle.arch_trait.specs.SeenTests.{TestSeen}
 use Rattle.arch_trait.specs.Threads.{ThreadCode}
 use Rattle.arch_trait.specs.Writing.{Writing, op_text, name_in}
 use Rattle.final_cond.specs.CondText.{cond_text}
@@ -72,9 +72,9 @@ test_lines arch w name test =
     ++ (table_lines (columns_of w test.places test.threads) ++ cond_text test.cond ∷ []))
 
 -- a line with its line feed
-abbrev pub ended : List ℕ → List ℕ
-ended line = line ++ codes "\n"
+abbrev pub with_line_feed : List ℕ → List ℕ
+with_line_feed line = line ++ codes "\n"
 
 -- the text of a test under a name
 unfoldable pub test_text : ArchName → Writing → List ℕ → TestSeen → List ℕ
-test_text arch w name test = flat_map ended (test_lines arch w name test)
+test_text arch w name test = flat_map with_line_feed (test_lines arch w name test)

@@ -3,10 +3,10 @@
 use Rattle.std.specs.Prelude.{◌≡◌, ℕ, Bool, true, map, nat_lt}
 use Rattle.std.specs.List.{list_all}
 use Rattle.micro_ops.specs.declared.operation.Micro.{Micro}
-use Rattle.arch_trait.specs.Codes.{thread_of}
+use Rattle.arch_trait.specs.Codes.{thread_code_of}
 use Rattle.arch_trait.specs.Writing.{place_below, label_below}
 use Rattle.arch_trait.specs.declared.code.Code.{Code}
-use Rattle.arch_trait.specs.Tests.{TestSeen}
+use Rattle.arch_trait.specs.SeenTests.{TestSeen}
 use Rattle.final_cond.specs.Conditions.{cond_view}
 use Rattle.litmus_text.specs.declared.test.Test.{Test}
 
@@ -15,7 +15,7 @@ abbrev pub test_seen : Test → TestSeen
 test_seen test = record {
   edges = test.edges.items;
   places = test.places;
-  threads = map thread_of test.threads.items;
+  threads = map thread_code_of test.threads.items;
   cond = cond_view test.cond;
 }
 

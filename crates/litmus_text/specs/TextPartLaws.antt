@@ -3,13 +3,13 @@ use Rattle.std.proofs.Common.{◌≡◌, ℕ, List, ◌++◌, refl}
 use Rattle.std.specs.Prelude.{Some}
 use Rattle.relax_edges.specs.declared.kinds.ArchName.{ArchName}
 use Rattle.arch_trait.specs.Writing.{Writing}
-use Rattle.arch_trait.specs.Tests.{TestSeen}
+use Rattle.arch_trait.specs.SeenTests.{TestSeen}
 use Rattle.litmus_text.specs.declared.parts.TextPart.TheVariants.{Edges}
-use Rattle.litmus_text.specs.TestText.{header_line, ended, test_lines, test_text}
-use Rattle.litmus_text.specs.TextParts.{rows_from, lines_from, text_from}
+use Rattle.litmus_text.specs.TestText.{header_line, with_line_feed, test_lines, test_text}
+use Rattle.litmus_text.specs.TextParts.{rows_from, part_lines, text_from}
 
 -- the text of a test is its header, and then that from the edges on
 pub text_begins : (arch : ArchName) (w : Writing) (name : List ℕ) (test : TestSeen)
-    → test_text arch w name test ≡ ended (header_line arch name) ++ text_from w test (Some Edges)
-unfolding test_text test_lines lines_from rows_from
+    → test_text arch w name test ≡ with_line_feed (header_line arch name) ++ text_from w test (Some Edges)
+unfolding test_text test_lines part_lines rows_from
 text_begins arch w name test = refl

@@ -5,26 +5,26 @@ use Rattle.std.specs.List.{flat_map, enumerate_from}
 use Rattle.diy_io.specs.declared.page.TheConstants.{LINE_ROOM}
 use Rattle.diy_io.specs.Page.{page_after}
 use Rattle.arch_trait.specs.Writing.{Writing}
-use Rattle.arch_trait.specs.Tests.{TestSeen}
+use Rattle.arch_trait.specs.SeenTests.{TestSeen}
 use Rattle.final_cond.specs.CondText.{cond_text}
 use Rattle.litmus_text.specs.declared.parts.TextPart.{TextPart}
 use Rattle.litmus_text.specs.declared.parts.TextPart.TheVariants.{Edges, Items, Row}
-use Rattle.litmus_text.specs.TestText.{edges_line, items_lines, initial_lines, columns_of, row_count, table_lines, ended}
+use Rattle.litmus_text.specs.TestText.{edges_line, items_lines, initial_lines, columns_of, row_count, table_lines, with_line_feed}
 
 -- the rows of the table from one on, and the condition
 unfoldable pub rows_from : Writing → TestSeen → ℕ → List (List ℕ)
 rows_from w test row = drop row (table_lines (columns_of w test.places test.threads)) ++ cond_text test.cond ∷ []
 
 -- the lines of the text of a test from a part on
-unfoldable pub lines_from : Writing → TestSeen → TextPart → List (List ℕ)
-lines_from w test Edges = edges_line test.edges ∷ (initial_lines w test.places test.threads ++ rows_from w test 0)
-lines_from w test (Items thread) = flat_map (λ t. items_lines w test.places t.0 t.1.links) (drop thread (enumerate_from 0 test.threads)) ++ codes "}" ∷ rows_from w test 0
-lines_from w test (Row row) = rows_from w test row
+unfoldable pub part_lines : Writing → TestSeen → TextPart → List (List ℕ)
+part_lines w test Edges = edges_line test.edges ∷ (initial_lines w test.places test.threads ++ rows_from w test 0)
+part_lines w test (Items thread) = flat_map (λ t. items_lines w test.places t.0 t.1.links) (drop thread (enumerate_from 0 test.threads)) ++ codes "}" ∷ rows_from w test 0
+part_lines w test (Row row) = rows_from w test row
 
 -- the text of a test from a part on, if there is one more
 abbrev pub text_from : Writing → TestSeen → Option TextPart → List ℕ
 text_from w test None = []
-text_from w test (Some part) = flat_map ended (lines_from w test part)
+text_from w test (Some part) = flat_map with_line_feed (part_lines w test part)
 
 -- at least so many parts are left: those of the edges, of each thread, of each row and of the condition
 unfoldable pub parts_left : Writing → TestSeen → Option TextPart → ℕ

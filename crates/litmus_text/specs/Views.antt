@@ -23,15 +23,15 @@ use Rattle.litmus_text.specs.declared.reading.table.Cells.{Cells as RowCells}
 use Rattle.litmus_text.specs.declared.reading.table.Column.{Column as ThreadColumn}
 use Rattle.litmus_text.specs.declared.reading.terms.Setting.{Setting as Here}
 use Rattle.litmus_text.specs.declared.reading.terms.Mentioned.{Mentioned as Names}
-use Rattle.litmus_text.specs.Cuts.{pieces}
-use Rattle.litmus_text.specs.Lines.{Lines, ends, line, lines_from, ◌>>=◌}
+use Rattle.litmus_text.specs.TextCuts.{pieces}
+use Rattle.litmus_text.specs.TextLines.{Lines, ends, line, lines_from, ◌>>=◌}
 use Rattle.arch_trait.specs.Writing.{Writing}
 use Rattle.relax_edges.specs.declared.kinds.Value.{Value}
 use Rattle.litmus_text.specs.declared.errors.TextError.{TextError}
-use Rattle.litmus_text.specs.Gives.{Gives}
+use Rattle.litmus_text.specs.ReadingAnswers.{GivesTest}
 use Rattle.litmus_text.specs.Joined.{Joined}
 use Rattle.litmus_text.specs.InitialState.{Worth, a_number, a_place, Item, empty, gives, zero_at, Begun, items_read, initial_read, Braced, closed, open_to}
-use Rattle.litmus_text.specs.Table.{Cells, Column, Among, among, no_columns, row_read, rows_read, head_read, all_labels_judged, after_locations}
+use Rattle.litmus_text.specs.TestTable.{Cells, Column, Among, among, no_columns, row_read, rows_read, head_read, all_labels_judged, after_locations}
 use Rattle.litmus_text.specs.Condition.{Setting, Mentioned, TermRead, TermsRead, CondRead, terms_here, condition_read}
 use Rattle.litmus_text.specs.TestReading.{TestRead, threads_of}
 
@@ -103,7 +103,7 @@ pieces_read w joined ps begun = items_read w (joined_seen joined) 0 ps (begun_se
 
 -- what ends the text of the items
 abbrev pub braced_seen : Joined → BracedText → Braced
-braced_seen joined (ends_of.Closed n behind rest) = closed joined n behind.now (text_left rest)
+braced_seen joined (ends_of.Closed n remainder rest) = closed joined n remainder.now (text_left rest)
 braced_seen joined (ends_of.Open n) = open_to joined n
 
 -- what the code sees of the cells of a row
@@ -132,7 +132,7 @@ cells_read w n cells names columns = row_read w n (cells_seen cells).whole (cell
 
 -- an answer to the cells of a row after its last column, whatever the names of places are
 abbrev pub EndsRow : ℕ → Bool → List (List ℕ) → Result (Unit {0}) TextError → Type 0
-EndsRow n whole cells answer = (w : Writing) → (names : List (List ℕ)) → Gives (λ _. among names []) answer (row_read w n whole cells names [])
+EndsRow n whole cells answer = (w : Writing) → (names : List (List ℕ)) → GivesTest (λ _. among names []) answer (row_read w n whole cells names [])
 
 -- what the code sees of the text of a condition and its threads
 abbrev pub setting_seen : Here → Setting
@@ -152,7 +152,7 @@ terms_read_seen terms m rest = record { terms = terms; state = mentioned_seen m;
 
 -- an answer with the names that are mentioned then
 abbrev pub GivesMentioned : Names → Result (Unit {0}) TextError → Result Mentioned TextError → Type 0
-GivesMentioned new answer read = Gives (λ _. mentioned_seen new) answer read
+GivesMentioned new answer read = GivesTest (λ _. mentioned_seen new) answer read
 
 -- terms that were read, the names that are mentioned then, and what is left of the text
 abbrev pub all_terms_seen : List Term → Names → Bor (List ℕ) → TermsRead
@@ -209,13 +209,13 @@ body_read w name quoted ls = do
   table_read w name quoted initial.0 head.0 head.1
 
 -- the same by the values of the code
-abbrev pub rest_of : Writing → Head → List (ℕ × (ℕ × Value)) → List ThreadColumn → List (List ℕ) → Text → Result TestRead TextError
-rest_of w head values columns names text =
+abbrev pub rest_view : Writing → Head → List (ℕ × (ℕ × Value)) → List ThreadColumn → List (List ℕ) → Text → Result TestRead TextError
+rest_view w head values columns names text =
     rest_read w head.0.now (quoted_seen head.1) (only_values values) (map column_seen columns) (length columns) names (text_left text)
 
 -- a test by the values of the code, from the rows of its table on
-abbrev pub table_of : Writing → Head → State → ℕ → Text → Result TestRead TextError
-table_of w head begun threads text = table_read w head.0.now (quoted_seen head.1) (begun_seen begun) threads (text_left text)
+abbrev pub table_view : Writing → Head → State → ℕ → Text → Result TestRead TextError
+table_view w head begun threads text = table_read w head.0.now (quoted_seen head.1) (begun_seen begun) threads (text_left text)
 
 -- a test by the values of the code, from its initial state on
 abbrev pub body_of : Writing → Head → Text → Result TestRead TextError

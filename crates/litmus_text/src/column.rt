@@ -3,7 +3,7 @@ ghost use Rattle.std.specs.List.{All, fold};
 ghost use Rattle.litmus_text.specs.TestText.{column_of, columns_of, width_of};
 ghost use Rattle.litmus_text.specs.Tests.{IsPrintable};
 ghost use Rattle.litmus_text.specs.KeptCells.{all_texts, HoldsColumn};
-ghost use Rattle.arch_trait.specs.Codes.{thread_of};
+ghost use Rattle.arch_trait.specs.Codes.{thread_code_of};
 
 use arch_trait::{Arch, Code, MAX_INSTRS, MAX_TEXT, Places};
 use arrayvec::{ArrayString, ArrayVec};
@@ -23,7 +23,7 @@ pub(crate) fn set_cell<A: Arch>(
     cell: &mut Cell,
 )
     requires { IsPrintable A.puts.has A.REGISTERS (length places.now) code.now }
-    ensures { cell.new.bytes ≡ slice_index_or (column_of A.writing places.now (thread, thread_of code.now)) row [] }
+    ensures { cell.new.bytes ≡ slice_index_or (column_of A.writing places.now (thread, thread_code_of code.now)) row [] }
 {
     cell.clear();
     if row == 0 {
@@ -117,9 +117,9 @@ pub(crate) fn width_of<A: Arch>(
 ) -> usize
     requires printable { IsPrintable A.puts.has A.REGISTERS (length places.now) code.now }
     requires few { length cells.old ≤ KEPT_CELLS }
-    ensures width { result ≡ width_of (column_of A.writing places.now (thread, thread_of code.now)) }
+    ensures width { result ≡ width_of (column_of A.writing places.now (thread, thread_code_of code.now)) }
     ensures short { result ≤ MAX_TEXT }
-    ensures kept { cells.new ≡ take KEPT_CELLS (cells.old ++ column_of A.writing places.now (thread, thread_of code.now)) }
+    ensures kept { cells.new ≡ take KEPT_CELLS (cells.old ++ column_of A.writing places.now (thread, thread_code_of code.now)) }
 {
     let mut cell = Cell::new();
     let mut width = 0;
@@ -140,9 +140,9 @@ pub(crate) fn set_widths<A: Arch>(
 )
     requires printable { All (λ code. IsPrintable A.puts.has A.REGISTERS (length places.now) code) threads.now }
     requires few { length threads.now ≤ MAX_EDGES }
-    ensures widths { widths.new.items ≡ map width_of (columns_of A.writing places.now (map thread_of threads.now)) }
+    ensures widths { widths.new.items ≡ map width_of (columns_of A.writing places.now (map thread_code_of threads.now)) }
     ensures short { All (λ width. width ≤ MAX_TEXT) widths.new.items }
-    ensures kept { cells.new ≡ take KEPT_CELLS (all_texts (columns_of A.writing places.now (map thread_of threads.now))) }
+    ensures kept { cells.new ≡ take KEPT_CELLS (all_texts (columns_of A.writing places.now (map thread_code_of threads.now))) }
 {
     cells.clear();
     widths.clear();
@@ -164,8 +164,8 @@ pub(crate) fn take_cell<A: Arch>(
 )
     requires printable { IsPrintable A.puts.has A.REGISTERS (length places.now) code.now }
     requires near { first ≤ MAX_EDGES * (MAX_INSTRS + 1) }
-    requires kept { HoldsColumn cells.now first (column_of A.writing places.now (thread, thread_of code.now)) }
-    ensures { cell.new.bytes ≡ slice_index_or (column_of A.writing places.now (thread, thread_of code.now)) row [] }
+    requires kept { HoldsColumn cells.now first (column_of A.writing places.now (thread, thread_code_of code.now)) }
+    ensures { cell.new.bytes ≡ slice_index_or (column_of A.writing places.now (thread, thread_code_of code.now)) row [] }
 {
     if row <= code.instrs.len() && cells.copy_to(first + row, cell) {
         return;

@@ -1,8 +1,8 @@
 ghost use Rattle.std.specs.Prelude.{◌≡◌, ◌≤◌, ◌*◌, ◌++◌, codes, length};
 ghost use Rattle.std.specs.List.{join_by};
-ghost use Rattle.relax_edges.specs.Words.{word_of};
+ghost use Rattle.relax_edges.specs.WordParts.{word_of};
 ghost use Rattle.diy_io.specs.Page.{page_after, Sends};
-ghost use Rattle.litmus_text.specs.TestText.{header_line, edges_line, ended};
+ghost use Rattle.litmus_text.specs.TestText.{header_line, edges_line, with_line_feed};
 ghost use Rattle.litmus_text.specs.Separators.{separator_at};
 
 use crate::limits::MAX_NAME;
@@ -22,13 +22,13 @@ pub(crate) fn send_header<O: Sink>(
     page: &mut Page,
     out: &mut O,
 ) -> Result<(), Failed>
-    ensures { Sends (O.seen out.old) page.old (O.seen out.new) page.new (ended (header_line arch name.now)) result }
+    ensures { Sends (O.seen out.old) page.old (O.seen out.new) page.new (with_line_feed (header_line arch name.now)) result }
 {
     send_names(arch.name().as_bytes(), name.as_bytes(), page, out)
 }
 
 fn send_names<O: Sink>(arch: &[u8], name: &[u8], page: &mut Page, out: &mut O) -> Result<(), Failed>
-    ensures { Sends (O.seen out.old) page.old (O.seen out.new) page.new (ended (arch.now ++ (codes " " ++ name.now))) result }
+    ensures { Sends (O.seen out.old) page.old (O.seen out.new) page.new (with_line_feed (arch.now ++ (codes " " ++ name.now))) result }
 {
     page.send_pieces(&[arch, b" ", name, b"\n"], out)
 }
@@ -37,8 +37,8 @@ fn send_names<O: Sink>(arch: &[u8], name: &[u8], page: &mut Page, out: &mut O) -
 #[tactic(auto, using(diy_io::specs::PageLaws::page_more, std::proofs::Common::append_assoc), unfolding(crate::specs::TestText::header_line))]
 pub fn put_header<A: Arch>(name: &str, page: &mut Page)
     requires { length name.now ≤ MAX_NAME }
-    ensures text { page.new ≡ page_after page.old (ended (header_line A.NAME name.now)) }
-    ensures short { length (ended (header_line A.NAME name.now)) ≤ LINE_ROOM }
+    ensures text { page.new ≡ page_after page.old (with_line_feed (header_line A.NAME name.now)) }
+    ensures short { length (with_line_feed (header_line A.NAME name.now)) ≤ LINE_ROOM }
 {
     let arch = A::NAME;
     page.put(arch.name().as_bytes());
@@ -51,8 +51,8 @@ pub fn put_header<A: Arch>(name: &str, page: &mut Page)
 #[tactic(auto, using(diy_io::specs::PageLaws::page_more, std::proofs::Common::append_assoc), unfolding(crate::specs::TestText::edges_line))]
 pub(crate) fn print_opening(edges: &[Edge], page: &mut Page)
     requires { length edges.now ≤ MAX_EDGES }
-    ensures text { page.new ≡ page_after page.old (ended (edges_line edges.now) ++ codes "{\n") }
-    ensures short { length (ended (edges_line edges.now) ++ codes "{\n") ≤ LINE_ROOM }
+    ensures text { page.new ≡ page_after page.old (with_line_feed (edges_line edges.now) ++ codes "{\n") }
+    ensures short { length (with_line_feed (edges_line edges.now) ++ codes "{\n") ≤ LINE_ROOM }
 {
     page.put(b"\"");
     print_words(edges, page);

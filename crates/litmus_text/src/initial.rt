@@ -1,8 +1,8 @@
 ghost use Rattle.std.specs.Prelude.{◌<◌, ◌≤◌, ◌≡◌, ◌*◌, ◌++◌, List, map, length, codes, true, nat_lt};
 ghost use Rattle.std.specs.List.{All, list_all, flat_map, join_by, enumerate_from};
 ghost use Rattle.diy_io.specs.Page.{page_after, Sends};
-ghost use Rattle.arch_trait.specs.Codes.{thread_of};
-ghost use Rattle.litmus_text.specs.TestText.{item_text, items_lines, initial_lines, ended};
+ghost use Rattle.arch_trait.specs.Codes.{thread_code_of};
+ghost use Rattle.litmus_text.specs.TestText.{item_text, items_lines, initial_lines, with_line_feed};
 ghost use Rattle.litmus_text.specs.Tests.{IsPrintable};
 ghost use Rattle.litmus_text.specs.Separators.{separator_at};
 
@@ -18,8 +18,8 @@ const ITEM_ROOM: usize = 56;
 /// Prints the line of the items of a thread, where it has some.
 pub(crate) fn print_item_line<A: Arch>(thread: usize, code: &Code, places: &Places, page: &mut Page)
     requires { IsPrintable A.puts.has A.REGISTERS (length places.now) code.now }
-    ensures text { page.new ≡ page_after page.old (flat_map ended (items_lines A.writing places.now thread code.now.links.items)) }
-    ensures short { length (flat_map ended (items_lines A.writing places.now thread code.now.links.items)) ≤ LINE_ROOM }
+    ensures text { page.new ≡ page_after page.old (flat_map with_line_feed (items_lines A.writing places.now thread code.now.links.items)) }
+    ensures short { length (flat_map with_line_feed (items_lines A.writing places.now thread code.now.links.items)) ≤ LINE_ROOM }
 {
     let links = code.links.as_slice();
     if links.is_empty() {

@@ -5,7 +5,7 @@ ghost use Rattle.diy_io.specs.Wrote.{Wrote};
 ghost use Rattle.final_cond.specs.Conditions.{cond_view};
 ghost use Rattle.final_cond.specs.CondText.{cond_text};
 ghost use Rattle.litmus_text.specs.KeptCells.{HoldsTable};
-ghost use Rattle.litmus_text.specs.TestText.{test_text, ended};
+ghost use Rattle.litmus_text.specs.TestText.{test_text, with_line_feed};
 ghost use Rattle.litmus_text.specs.Tests.{IsPrintable, test_seen};
 ghost use Rattle.litmus_text.specs.TextParts.{text_from};
 ghost use Rattle.litmus_text.specs.declared.parts.TextPart.TheVariants as parts;
@@ -84,8 +84,8 @@ fn send_parts<A: Arch, O: Sink>(
 /// Appends the condition to the page.
 #[tactic(auto, using(diy_io::specs::PageLaws::page_more))]
 pub(crate) fn print_condition(cond: &Cond, page: &mut Page)
-    ensures text { page.new ≡ page_after page.old (ended (cond_text (cond_view cond.now))) }
-    ensures short { length (ended (cond_text (cond_view cond.now))) ≤ LINE_ROOM }
+    ensures text { page.new ≡ page_after page.old (with_line_feed (cond_text (cond_view cond.now))) }
+    ensures short { length (with_line_feed (cond_text (cond_view cond.now))) ≤ LINE_ROOM }
 {
     put_cond(cond, page);
     page.put(b"\n");

@@ -4,8 +4,8 @@ ghost use Rattle.litmus_text.specs.declared.column.TheConstants.{KEPT_CELLS};
 ghost use Rattle.std.proofs.Math.ListN.{replicate};
 ghost use Rattle.std.specs.List.{All, flat_map, join_by};
 ghost use Rattle.diy_io.specs.Page.{page_after, Sends};
-ghost use Rattle.arch_trait.specs.Codes.{thread_of};
-ghost use Rattle.litmus_text.specs.TestText.{columns_of, width_of, cell_text, row_line, table_lines, ended};
+ghost use Rattle.arch_trait.specs.Codes.{thread_code_of};
+ghost use Rattle.litmus_text.specs.TestText.{columns_of, width_of, cell_text, row_line, table_lines, with_line_feed};
 ghost use Rattle.litmus_text.specs.Tests.{IsPrintable};
 ghost use Rattle.litmus_text.specs.Separators.{separator_at};
 
@@ -31,11 +31,11 @@ pub(crate) fn print_row<A: Arch>(
 )
     requires printable { All (λ code. IsPrintable A.puts.has A.REGISTERS (length places.now) code) threads.now }
     requires few { length threads.now ≤ MAX_EDGES }
-    requires kept { cells.now ≡ take KEPT_CELLS (all_texts (columns_of A.writing places.now (map thread_of threads.now))) }
-    requires widths { widths.now ≡ map width_of (columns_of A.writing places.now (map thread_of threads.now)) }
+    requires kept { cells.now ≡ take KEPT_CELLS (all_texts (columns_of A.writing places.now (map thread_code_of threads.now))) }
+    requires widths { widths.now ≡ map width_of (columns_of A.writing places.now (map thread_code_of threads.now)) }
     requires short { All (λ width. width ≤ MAX_TEXT) widths.now }
-    ensures text { page.new ≡ page_after page.old (ended (row_line (columns_of A.writing places.now (map thread_of threads.now)) row)) }
-    ensures short { length (ended (row_line (columns_of A.writing places.now (map thread_of threads.now)) row)) ≤ LINE_ROOM }
+    ensures text { page.new ≡ page_after page.old (with_line_feed (row_line (columns_of A.writing places.now (map thread_code_of threads.now)) row)) }
+    ensures short { length (with_line_feed (row_line (columns_of A.writing places.now (map thread_code_of threads.now)) row)) ≤ LINE_ROOM }
 {
     page.put(b" ");
     print_cells::<A>(row, threads, widths, places, cells, page);
@@ -52,11 +52,11 @@ fn print_cells<A: Arch>(
 )
     requires printable { All (λ code. IsPrintable A.puts.has A.REGISTERS (length places.now) code) threads.now }
     requires few { length threads.now ≤ MAX_EDGES }
-    requires kept { cells.now ≡ take KEPT_CELLS (all_texts (columns_of A.writing places.now (map thread_of threads.now))) }
-    requires widths { widths.now ≡ map width_of (columns_of A.writing places.now (map thread_of threads.now)) }
+    requires kept { cells.now ≡ take KEPT_CELLS (all_texts (columns_of A.writing places.now (map thread_code_of threads.now))) }
+    requires widths { widths.now ≡ map width_of (columns_of A.writing places.now (map thread_code_of threads.now)) }
     requires short { All (λ width. width ≤ MAX_TEXT) widths.now }
-    ensures text { page.new ≡ page_after page.old (join_by (cell_text row) (codes " | ") (columns_of A.writing places.now (map thread_of threads.now))) }
-    ensures short { length (join_by (cell_text row) (codes " | ") (columns_of A.writing places.now (map thread_of threads.now)))
+    ensures text { page.new ≡ page_after page.old (join_by (cell_text row) (codes " | ") (columns_of A.writing places.now (map thread_code_of threads.now))) }
+    ensures short { length (join_by (cell_text row) (codes " | ") (columns_of A.writing places.now (map thread_code_of threads.now)))
         ≤ CELL_ROOM * length threads.now }
 {
     let mut cell = Cell::new();

@@ -14,7 +14,7 @@ use Rattle.list_laws.proofs.Elements.{list_all-weaker}
 use Rattle.list_laws.proofs.Cases.{by_test}
 use Rattle.log_sum.specs.declared.errors.LogKind.{LogKind}
 use Rattle.log_sum.specs.declared.errors.LogKind.TheVariants.{BadState, BadCount}
-use Rattle.text_laws.specs.Runs.{run_of, after_run}
+use Rattle.text_laws.specs.LeadingRuns.{leading_run, after_run}
 use Rattle.text_laws.specs.Words.{is_nil}
 use Rattle.log_sum.specs.Counts.{count_read, count_of_digits, last_count}
 use Rattle.text_laws.proofs.RunLaws.{run_passes}
@@ -37,7 +37,7 @@ digits_ascii digits h =
     utf8_from_ascii digits (list_all-weaker is_ascii_digit is_ascii (λ byte p. grind (arith, nat_tests)) digits h)
 
 -- the digits at the start of a text are digits
-pub prefix_digits : (text digits : List ℕ) → digits ≡ run_of is_ascii_digit text → list_all is_ascii_digit digits ≡ true
+pub prefix_digits : (text digits : List ℕ) → digits ≡ leading_run is_ascii_digit text → list_all is_ascii_digit digits ≡ true
 prefix_digits text digits e = ap (list_all is_ascii_digit) e ∙ run_passes is_ascii_digit text
 
 small_or_not : (n : ℕ) → nat_le n last_count ≡ nat_lt n (2 ^ 64)
@@ -49,7 +49,7 @@ counted_digits [] rest h = cc
 counted_digits (digit ∷ digits) rest h = rw (small_or_not (digits_value 10 (digit ∷ digits))) refl
 
 -- a text that doesn't begin with a digit is wrong
-pub no_digit : (text digits : List ℕ) → digits ≡ run_of is_ascii_digit text → is_nil digits ≡ true → count_read text ≡ Err BadState
+pub no_digit : (text digits : List ℕ) → digits ≡ leading_run is_ascii_digit text → is_nil digits ≡ true → count_read text ≡ Err BadState
 unfolding count_read
 no_digit text [] e h = rw (sym e) refl
 no_digit text (byte ∷ digits) e h = cc
@@ -59,21 +59,21 @@ by_value None rest = Err BadCount
 by_value (Some n) rest = Ok (n, rest)
 
 -- what is read where there are digits
-pub counted : (text digits rest : List ℕ) (n : ℕ) → digits ≡ run_of is_ascii_digit text → rest ≡ after_run is_ascii_digit text → is_nil digits ≡ false
+pub counted : (text digits rest : List ℕ) (n : ℕ) → digits ≡ leading_run is_ascii_digit text → rest ≡ after_run is_ascii_digit text → is_nil digits ≡ false
     → Some n ≡ cond (nat_lt (digits_value 10 digits) (2 ^ 64)) (Some (digits_value 10 digits)) None → count_read text ≡ Ok (n, rest)
 unfolding count_read
 counted text digits rest n e f h g =
-    let from : count_of_digits (run_of is_ascii_digit text) (after_run is_ascii_digit text) ≡ count_of_digits digits rest = rw (sym e, sym f) refl in
+    let from : count_of_digits (leading_run is_ascii_digit text) (after_run is_ascii_digit text) ≡ count_of_digits digits rest = rw (sym e, sym f) refl in
     from ∙ counted_digits digits rest h
     ∙ by_test (nat_lt (digits_value 10 digits) (2 ^ 64))
     (λ t. let k = rw t at g in rw t (let same : n ≡ digits_value 10 digits = cc in rw same refl))
     (λ t. let k = rw t at g in absurd (cc))
 
 -- where the digits write too large a number, the count is wrong
-pub not_counted : (text digits rest : List ℕ) → digits ≡ run_of is_ascii_digit text → rest ≡ after_run is_ascii_digit text → is_nil digits ≡ false
+pub not_counted : (text digits rest : List ℕ) → digits ≡ leading_run is_ascii_digit text → rest ≡ after_run is_ascii_digit text → is_nil digits ≡ false
     → None ≡ cond (nat_lt (digits_value 10 digits) (2 ^ 64)) (Some (digits_value 10 digits)) None → count_read text ≡ Err BadCount
 unfolding count_read
 not_counted text digits rest e f h g =
-    let from : count_of_digits (run_of is_ascii_digit text) (after_run is_ascii_digit text) ≡ count_of_digits digits rest = rw (sym e, sym f) refl in
+    let from : count_of_digits (leading_run is_ascii_digit text) (after_run is_ascii_digit text) ≡ count_of_digits digits rest = rw (sym e, sym f) refl in
     from ∙ counted_digits digits rest h
     ∙ by_test (nat_lt (digits_value 10 digits) (2 ^ 64)) (λ t. let k = rw t at g in absurd (cc)) (λ t. rw t refl)

@@ -23,10 +23,10 @@ use Rattle.log_sum.specs.declared.kinds.Mark.{Mark}
 use Rattle.log_sum.specs.declared.spelling.Spelling.{Spelling}
 use Rattle.log_sum.specs.declared.state_table.StateSum.{StateSum}
 use Rattle.log_sum.specs.Summed.{StateSummed}
-use Rattle.log_sum.specs.States.{form_read}
+use Rattle.log_sum.specs.LogStates.{form_read}
 use Rattle.log_sum.specs.Counts.{last_count}
-use Rattle.log_sum.specs.Steps.{known_state}
-use Rattle.log_sum.specs.Spelling.{written_as, is_later, is_spelled, IsSpelled, AddsText}
+use Rattle.log_sum.specs.SummingSteps.{known_state}
+use Rattle.log_sum.specs.StateSpelling.{written_as, is_later, is_spelled, IsSpelled, AddsText}
 use Rattle.log_sum.specs.StateEntries.{sum_view, state_view, state_at, states_view, AreInOrder, AreWritten, HasState}
 use Rattle.log_sum.proofs.OrderLaws.{ordered_known, ordered_put, ordered_is}
 

@@ -11,12 +11,12 @@ use Rattle.log_sum.specs.declared.errors.LogKind.TheVariants.{LineTooLong}
 use Rattle.log_sum.specs.declared.errors.SumError.{SumError}
 use Rattle.log_sum.specs.declared.kinds.Place.{Place}
 use Rattle.log_sum.specs.declared.kinds.Place.TheVariants.{Outside, Histogram, States, Judgement, Rest, Conditioned}
-use Rattle.log_sum.specs.Facts.{Fact, facts_of, fault_of}
-use Rattle.log_sum.specs.Lines.{Said, line_said, fact_said, test_after, place_after}
-use Rattle.log_sum.specs.Reading.{Seen, ◌>>=◌, fault_at, is_too_long, nothing_seen, fact_put, fact_judged, said_to, said_put, at_next_line, next_line, text_judged, line_judged, lines_judged, lines_of, rest_of, rest_judged, bytes_judged, last_judged, end_at, end_judged, file_judged, files_judged, input_judged}
+use Rattle.log_sum.specs.Facts.{Fact, facts_of, fact_fault}
+use Rattle.log_sum.specs.LogLines.{Said, log_line_said, fact_said, test_after, place_after}
+use Rattle.log_sum.specs.LogReading.{LogSeen, ◌>>=◌, fault_at, is_too_long, nothing_seen, fact_put, fact_judged, said_to, said_put, at_next_line, next_line, text_judged, line_judged, lines_judged, whole_lines, unfinished, rest_judged, bytes_judged, last_judged, end_at, end_judged, file_judged, files_judged, input_judged}
 use Rattle.text_laws.specs.Lines.{without_return}
-use Rattle.log_sum.specs.Representing.{Progress, Kept, Represents, FedTo, EndedTo}
-use Rattle.log_sum.specs.Feeding.{AreMarked, Follows, ReadOn, ReadTo, PieceTo, EndTo, refusal_of}
+use Rattle.log_sum.specs.Representing.{SumProgress, Kept, Represents, FedTo, EndedTo}
+use Rattle.log_sum.specs.Feeding.{AreMarked, FollowsSeen, ReadOn, ProgressReadTo, PieceTo, EndTo, sum_refusal}
 use Rattle.log_sum.proofs.ReadingLaws.{is_one_line, so_far, so_far_more, so_far_ended, input_by_lines, rest_more, rest_ended, read_on}
 use Rattle.log_sum.proofs.SumLaws.{none_marked}
 use Rattle.log_sum.proofs.FollowLaws.{entry_marked}
@@ -33,19 +33,19 @@ middle_of (Ok x) next y h = record { middle = x; is = refl; then = h }
 middle_of (Err error) next y h = cc
 
 -- what is read has one mark for each state
-fact_marked : (seen next : Seen) (fact : Option Fact) → AreMarked seen.entries → fact_put seen fact ≡ Ok next → AreMarked next.entries
-fact_marked seen next None m h = let e : seen ≡ next = cc in subst (λ (s : Seen). AreMarked s.entries) e m
-fact_marked seen next (Some fact) m h = by_fault (fault_of (facts_of seen.test seen.entries) fact) refl h
+fact_marked : (seen next : LogSeen) (fact : Option Fact) → AreMarked seen.entries → fact_put seen fact ≡ Ok next → AreMarked next.entries
+fact_marked seen next None m h = let e : seen ≡ next = cc in subst (λ (s : LogSeen). AreMarked s.entries) e m
+fact_marked seen next (Some fact) m h = by_fault (fact_fault (facts_of seen.test seen.entries) fact) refl h
   where
-    by_fault : (o : Option LogKind) → fault_of (facts_of seen.test seen.entries) fact ≡ o → fact_judged seen fact o ≡ Ok next → AreMarked next.entries
+    by_fault : (o : Option LogKind) → fact_fault (facts_of seen.test seen.entries) fact ≡ o → fact_judged seen fact o ≡ Ok next → AreMarked next.entries
     by_fault None e h =
         let f : record seen { entries = seen.entries ++ (record { test = seen.test; fact = fact }) ∷ [] } ≡ next = cc in
-        subst (λ (s : Seen). AreMarked s.entries) f (entry_marked seen.entries seen.test fact m e)
+        subst (λ (s : LogSeen). AreMarked s.entries) f (entry_marked seen.entries seen.test fact m e)
     by_fault (Some kind) e h = cc
 
-text_marked : (seen next : Seen) (text : List ℕ) → AreMarked seen.entries → text_judged seen text ≡ Ok next → AreMarked next.entries
+text_marked : (seen next : LogSeen) (text : List ℕ) → AreMarked seen.entries → text_judged seen text ≡ Ok next → AreMarked next.entries
 unfolding text_judged
-text_marked seen next text m h = by_said (line_said seen.place text) h
+text_marked seen next text m h = by_said (log_line_said seen.place text) h
   where
     by_said : (s : Result Said LogKind) → said_put seen s ≡ Ok next → AreMarked next.entries
     by_said (Err kind) h = cc
@@ -54,70 +54,70 @@ text_marked seen next text m h = by_said (line_said seen.place text) h
         let k = fact_marked (record seen { test = test_after seen.test said; place = place_after seen.place said }) b.middle (fact_said said) m b.is in
         let c = b.then in
         let e : record b.middle { line = next_line b.middle.line } ≡ next = cc in
-        subst (λ (s : Seen). AreMarked s.entries) e k
+        subst (λ (s : LogSeen). AreMarked s.entries) e k
 
-line_marked : (seen next : Seen) (line : List ℕ) → AreMarked seen.entries → line_judged seen line ≡ Ok next → AreMarked next.entries
+line_marked : (seen next : LogSeen) (line : List ℕ) → AreMarked seen.entries → line_judged seen line ≡ Ok next → AreMarked next.entries
 unfolding line_judged
 line_marked seen next line m h =
     by_test (is_too_long line) (λ e. let k = rw e at h in absurd (cc)) (λ e. text_marked seen next (without_return line) m (rw e at h))
 
-lines_marked : (seen next : Seen) (lines : List (List ℕ)) → AreMarked seen.entries → lines_judged seen lines ≡ Ok next → AreMarked next.entries
-lines_marked seen next [] m h = let e : seen ≡ next = cc in subst (λ (s : Seen). AreMarked s.entries) e m
+lines_marked : (seen next : LogSeen) (lines : List (List ℕ)) → AreMarked seen.entries → lines_judged seen lines ≡ Ok next → AreMarked next.entries
+lines_marked seen next [] m h = let e : seen ≡ next = cc in subst (λ (s : LogSeen). AreMarked s.entries) e m
 lines_marked seen next (line ∷ lines) m h =
     let b = middle_of (line_judged seen line) (λ x. lines_judged x lines) next h in
     lines_marked b.middle next lines (line_marked seen b.middle line m b.is) b.then
 
-rest_same : (seen next : Seen) (line : List ℕ) → rest_judged seen line ≡ Ok next → seen ≡ next
+rest_same : (seen next : LogSeen) (line : List ℕ) → rest_judged seen line ≡ Ok next → seen ≡ next
 unfolding rest_judged
 rest_same seen next line h =
     by_test (is_too_long line) (λ e. let k = rw e at h in absurd (cc)) (λ e. let k = rw e at h in cc)
 
-last_marked : (seen next : Seen) (line : List ℕ) → AreMarked seen.entries → last_judged seen line ≡ Ok next → AreMarked next.entries
+last_marked : (seen next : LogSeen) (line : List ℕ) → AreMarked seen.entries → last_judged seen line ≡ Ok next → AreMarked next.entries
 unfolding last_judged
-last_marked seen next [] m h = let e : seen ≡ next = cc in subst (λ (s : Seen). AreMarked s.entries) e m
+last_marked seen next [] m h = let e : seen ≡ next = cc in subst (λ (s : LogSeen). AreMarked s.entries) e m
 last_marked seen next (byte ∷ line) m h =
     by_test (is_too_long (byte ∷ line)) (λ e. let k = rw e at h in absurd (cc)) (λ e. text_marked seen next (byte ∷ line) m (rw e at h))
 
-end_marked : (seen next : Seen) (place : Place) → AreMarked seen.entries → end_at seen place ≡ Ok next → AreMarked next.entries
+end_marked : (seen next : LogSeen) (place : Place) → AreMarked seen.entries → end_at seen place ≡ Ok next → AreMarked next.entries
 end_marked seen next Outside m h =
-    let e : record { entries = seen.entries; test = []; place = Outside; line = 1 } ≡ next = cc in subst (λ (s : Seen). AreMarked s.entries) e m
+    let e : record { entries = seen.entries; test = []; place = Outside; line = 1 } ≡ next = cc in subst (λ (s : LogSeen). AreMarked s.entries) e m
 end_marked seen next (Histogram kind) m h = cc
 end_marked seen next (States kind left) m h = cc
 end_marked seen next (Judgement kind) m h = cc
 end_marked seen next (Rest kind) m h = cc
 end_marked seen next (Conditioned kind) m h = cc
 
-file_marked : (seen next : Seen) (bytes : List ℕ) → AreMarked seen.entries → file_judged seen bytes ≡ Ok next → AreMarked next.entries
+file_marked : (seen next : LogSeen) (bytes : List ℕ) → AreMarked seen.entries → file_judged seen bytes ≡ Ok next → AreMarked next.entries
 unfolding file_judged
 file_marked seen next bytes m h =
-    let b = middle_of (lines_judged seen (lines_of bytes) >>= (λ x. last_judged x (rest_of bytes))) end_judged next h in
-    let a = middle_of (lines_judged seen (lines_of bytes)) (λ x. last_judged x (rest_of bytes)) b.middle b.is in
-    end_marked b.middle next b.middle.place (last_marked a.middle b.middle (rest_of bytes) (lines_marked seen a.middle (lines_of bytes) m a.is) a.then) b.then
+    let b = middle_of (lines_judged seen (whole_lines bytes) >>= (λ x. last_judged x (unfinished bytes))) end_judged next h in
+    let a = middle_of (lines_judged seen (whole_lines bytes)) (λ x. last_judged x (unfinished bytes)) b.middle b.is in
+    end_marked b.middle next b.middle.place (last_marked a.middle b.middle (unfinished bytes) (lines_marked seen a.middle (whole_lines bytes) m a.is) a.then) b.then
 
-files_marked : (seen next : Seen) (files : List (List ℕ)) → AreMarked seen.entries → files_judged seen files ≡ Ok next → AreMarked next.entries
-files_marked seen next [] m h = let e : seen ≡ next = cc in subst (λ (s : Seen). AreMarked s.entries) e m
+files_marked : (seen next : LogSeen) (files : List (List ℕ)) → AreMarked seen.entries → files_judged seen files ≡ Ok next → AreMarked next.entries
+files_marked seen next [] m h = let e : seen ≡ next = cc in subst (λ (s : LogSeen). AreMarked s.entries) e m
 files_marked seen next (file ∷ files) m h =
     let b = middle_of (file_judged seen file) (λ x. files_judged x files) next h in
     files_marked b.middle next files (file_marked seen b.middle file m b.is) b.then
 
-input_marked : (next : Seen) (files : List (List ℕ)) (bytes : List ℕ) → input_judged files bytes ≡ Ok next → AreMarked next.entries
+input_marked : (next : LogSeen) (files : List (List ℕ)) (bytes : List ℕ) → input_judged files bytes ≡ Ok next → AreMarked next.entries
 unfolding input_judged bytes_judged
 input_marked next files bytes h =
     let a = middle_of (files_judged nothing_seen files) (λ x. bytes_judged x bytes) next h in
-    let b = middle_of (lines_judged a.middle (lines_of bytes)) (λ x. rest_judged x (rest_of bytes)) next a.then in
-    subst (λ (s : Seen). AreMarked s.entries) (rest_same b.middle next (rest_of bytes) b.then)
-    (lines_marked a.middle b.middle (lines_of bytes) (files_marked nothing_seen a.middle files (λ name. none_marked) a.is) b.is)
+    let b = middle_of (lines_judged a.middle (whole_lines bytes)) (λ x. rest_judged x (unfinished bytes)) next a.then in
+    subst (λ (s : LogSeen). AreMarked s.entries) (rest_same b.middle next (unfinished bytes) b.then)
+    (lines_marked a.middle b.middle (whole_lines bytes) (files_marked nothing_seen a.middle files (λ name. none_marked) a.is) b.is)
 
 -- what represents an input follows its reading
-pub represents_follows : (kept : Kept) (files : List (List ℕ)) (bytes : List ℕ) (s : Represents kept files bytes) → Follows kept.progress s.seen
+pub represents_follows : (kept : Kept) (files : List (List ℕ)) (bytes : List ℕ) (s : Represents kept files bytes) → FollowsSeen kept.progress s.seen
 represents_follows kept files bytes s = record { reading = s.reading; marked = input_marked s.seen files bytes s.judged }
 
-lines_ok : (seen : Seen) (files : List (List ℕ)) (bytes : List ℕ) → input_judged files bytes ≡ Ok seen → so_far files bytes ≡ Ok seen
+lines_ok : (seen : LogSeen) (files : List (List ℕ)) (bytes : List ℕ) → input_judged files bytes ≡ Ok seen → so_far files bytes ≡ Ok seen
 lines_ok seen files bytes h =
-    let b = middle_of (so_far files bytes) (λ x. rest_judged x (rest_of bytes)) seen (sym (input_by_lines files bytes) ∙ h) in
-    b.is ∙ ap Ok (rest_same b.middle seen (rest_of bytes) b.then)
+    let b = middle_of (so_far files bytes) (λ x. rest_judged x (unfinished bytes)) seen (sym (input_by_lines files bytes) ∙ h) in
+    b.is ∙ ap Ok (rest_same b.middle seen (unfinished bytes) b.then)
 
-rest_nothing : (seen : Seen) → rest_judged seen [] ≡ Ok seen
+rest_nothing : (seen : LogSeen) → rest_judged seen [] ≡ Ok seen
 unfolding rest_judged
 rest_nothing seen = refl
 
@@ -135,7 +135,7 @@ line_after : (old : Kept) (files : List (List ℕ)) (bytes prefix : List ℕ) (s
     → so_far files ((bytes ++ prefix) ++ 10 ∷ []) ≡ line_judged s.seen (old.held ++ prefix)
 line_after old files bytes prefix s one =
     so_far_ended files (bytes ++ prefix)
-    ∙ ap (λ (r : Result Seen LogError). r >>= (λ next. line_judged next (rest_of (bytes ++ prefix)))) (so_far_more files bytes prefix one ∙ lines_ok s.seen files bytes s.judged)
+    ∙ ap (λ (r : Result LogSeen LogError). r >>= (λ next. line_judged next (unfinished (bytes ++ prefix)))) (so_far_more files bytes prefix one ∙ lines_ok s.seen files bytes s.judged)
     ∙ ap (line_judged s.seen) (rest_more bytes prefix one ∙ ap (λ t. t ++ prefix) (sym s.held))
 
 -- a line that was read without a fault is represented with the input before it
@@ -146,7 +146,7 @@ line_fed old new files bytes prefix s one h held refusal =
     subst (λ (t : List ℕ). Represents new files t) whole (record {
       seen = h.seen;
       judged = input_by_lines files ((bytes ++ prefix) ++ 10 ∷ [])
-          ∙ ap (λ (r : Result Seen LogError). r >>= (λ next. rest_judged next (rest_of ((bytes ++ prefix) ++ 10 ∷ [])))) (line_after old files bytes prefix s one ∙ h.is)
+          ∙ ap (λ (r : Result LogSeen LogError). r >>= (λ next. rest_judged next (unfinished ((bytes ++ prefix) ++ 10 ∷ [])))) (line_after old files bytes prefix s one ∙ h.is)
           ∙ ap (rest_judged h.seen) (rest_ended (bytes ++ prefix)) ∙ rest_nothing h.seen;
       reading = h.follows.reading;
       held = held ∙ sym (rest_ended (bytes ++ prefix));
@@ -160,19 +160,19 @@ pub line_faulty : (old : Kept) (files : List (List ℕ)) (bytes prefix : List �
 line_faulty old files bytes prefix error s one h =
     let whole : (bytes ++ prefix) ++ 10 ∷ [] ≡ bytes ++ (prefix ++ 10 ∷ []) = append_assoc bytes prefix (10 ∷ []) in
     ap (input_judged files) (sym whole) ∙ input_by_lines files ((bytes ++ prefix) ++ 10 ∷ [])
-    ∙ ap (λ (r : Result Seen LogError). r >>= (λ next. rest_judged next (rest_of ((bytes ++ prefix) ++ 10 ∷ [])))) (line_after old files bytes prefix s one ∙ h)
+    ∙ ap (λ (r : Result LogSeen LogError). r >>= (λ next. rest_judged next (unfinished ((bytes ++ prefix) ++ 10 ∷ [])))) (line_after old files bytes prefix s one ∙ h)
 
 -- a part of a line, after the input that is represented
 part_after : (old : Kept) (files : List (List ℕ)) (bytes part : List ℕ) (s : Represents old files bytes) → is_one_line part ≡ true
     → input_judged files (bytes ++ part) ≡ rest_judged s.seen (old.held ++ part)
 part_after old files bytes part s one =
     input_by_lines files (bytes ++ part)
-    ∙ ap (λ (r : Result Seen LogError). r >>= (λ next. rest_judged next (rest_of (bytes ++ part)))) (so_far_more files bytes part one ∙ lines_ok s.seen files bytes s.judged)
+    ∙ ap (λ (r : Result LogSeen LogError). r >>= (λ next. rest_judged next (unfinished (bytes ++ part)))) (so_far_more files bytes part one ∙ lines_ok s.seen files bytes s.judged)
     ∙ ap (rest_judged s.seen) (rest_more bytes part one ∙ ap (λ t. t ++ part) (sym s.held))
 
 -- the answer to a part of a line that goes on is that of the reading
 pub part_answered : (old new : Kept) (files : List (List ℕ)) (bytes part : List ℕ) (s : Represents old files bytes) → is_one_line part ≡ true → (r : Result (Unit {0}) Fault)
-    → ReadTo new.progress (rest_judged s.seen (old.held ++ part)) r → OnOk r (new ≡ record old { held = old.held ++ part }) → PieceTo new files (bytes ++ part) r
+    → ProgressReadTo new.progress (rest_judged s.seen (old.held ++ part)) r → OnOk r (new ≡ record old { held = old.held ++ part }) → PieceTo new files (bytes ++ part) r
 part_answered old new files bytes part s one (Ok x) h e = record {
   seen = h.seen;
   judged = part_after old files bytes part s one ∙ h.is;
@@ -185,11 +185,11 @@ part_answered old new files bytes part s one (Err (Wrong kind)) h e = part_after
 part_answered old new files bytes part s one (Err NoMemory) h e = tt
 
 -- the end of a file, after the input that is represented
-file_by_lines : (files : List (List ℕ)) (bytes : List ℕ) → files_judged nothing_seen (files ++ bytes ∷ []) ≡ (so_far files bytes >>= (λ next. last_judged next (rest_of bytes)) >>= end_judged)
+file_by_lines : (files : List (List ℕ)) (bytes : List ℕ) → files_judged nothing_seen (files ++ bytes ∷ []) ≡ (so_far files bytes >>= (λ next. last_judged next (unfinished bytes)) >>= end_judged)
 unfolding file_judged
 file_by_lines files bytes = read_on nothing_seen files bytes ∙ by_files (files_judged nothing_seen files)
   where
-    by_files : (r : Result Seen LogError) → (r >>= (λ next. file_judged next bytes)) ≡ ((r >>= (λ seen. lines_judged seen (lines_of bytes))) >>= (λ next. last_judged next (rest_of bytes)) >>= end_judged)
+    by_files : (r : Result LogSeen LogError) → (r >>= (λ next. file_judged next bytes)) ≡ ((r >>= (λ seen. lines_judged seen (whole_lines bytes))) >>= (λ next. last_judged next (unfinished bytes)) >>= end_judged)
     by_files (Ok x) = refl
     by_files (Err error) = refl
 
@@ -197,11 +197,11 @@ file_by_lines files bytes = read_on nothing_seen files bytes ∙ by_files (files
 pub end_after : (old : Kept) (files : List (List ℕ)) (bytes : List ℕ) (s : Represents old files bytes) → files_judged nothing_seen (files ++ bytes ∷ []) ≡ (last_judged s.seen old.held >>= end_judged)
 end_after old files bytes s =
     file_by_lines files bytes
-    ∙ ap (λ (r : Result Seen LogError). r >>= (λ next. last_judged next (rest_of bytes)) >>= end_judged) (lines_ok s.seen files bytes s.judged)
+    ∙ ap (λ (r : Result LogSeen LogError). r >>= (λ next. last_judged next (unfinished bytes)) >>= end_judged) (lines_ok s.seen files bytes s.judged)
     ∙ ap (λ t. last_judged s.seen t >>= end_judged) (sym s.held)
 
 -- an empty last line changes nothing
-pub last_nothing : (seen : Seen) (line : List ℕ) → length line ≡ 0 → last_judged seen line ≡ Ok seen
+pub last_nothing : (seen : LogSeen) (line : List ℕ) → length line ≡ 0 → last_judged seen line ≡ Ok seen
 unfolding last_judged
 last_nothing seen [] h = refl
 last_nothing seen (byte ∷ line) h = absurd (omega arith)
@@ -213,15 +213,15 @@ is_over : (n : ℕ) → 65536 < n → nat_lt 65536 n ≡ true
 is_over n h = grind (arith, nat_tests)
 
 -- a last line that fits is judged by its text
-pub last_text : (seen : Seen) (line : List ℕ) → 0 < length line → length line ≤ 65536 → last_judged seen line ≡ text_judged seen line
+pub last_text : (seen : LogSeen) (line : List ℕ) → 0 < length line → length line ≤ 65536 → last_judged seen line ≡ text_judged seen line
 unfolding last_judged
 last_text seen [] h f = absurd (omega arith)
 last_text seen (byte ∷ line) h f = let e : is_too_long (byte ∷ line) ≡ false = fits (length (byte ∷ line)) f in rw e refl
 
 -- the answer to the end of a file is that of the reading
-pub end_answered : (new : Kept) (files : List (List ℕ)) (bytes : List ℕ) (seen : Seen) → files_judged nothing_seen (files ++ bytes ∷ []) ≡ end_judged seen → new.held ≡ [] → new.refusal ≡ None
-    → (r : Result (Unit {0}) Fault) → ReadTo new.progress (end_judged seen) r → OnOk r (new.in_order ≡ true) → EndTo new files bytes r
-unfolding rest_of
+pub end_answered : (new : Kept) (files : List (List ℕ)) (bytes : List ℕ) (seen : LogSeen) → files_judged nothing_seen (files ++ bytes ∷ []) ≡ end_judged seen → new.held ≡ [] → new.refusal ≡ None
+    → (r : Result (Unit {0}) Fault) → ProgressReadTo new.progress (end_judged seen) r → OnOk r (new.in_order ≡ true) → EndTo new files bytes r
+unfolding unfinished
 end_answered new files bytes seen e held going (Ok x) h o = record {
   seen = h.seen;
   judged = nothing_more (files ++ bytes ∷ []) ∙ e ∙ h.is;
@@ -234,25 +234,25 @@ end_answered new files bytes seen e held going (Err (Wrong kind)) h o = e ∙ h
 end_answered new files bytes seen e held going (Err NoMemory) h o = tt
 
 -- a last line that is wrong
-pub last_answered : (new : Kept) (files : List (List ℕ)) (bytes line : List ℕ) (seen : Seen) → files_judged nothing_seen (files ++ bytes ∷ []) ≡ (last_judged seen line >>= end_judged)
-    → last_judged seen line ≡ text_judged seen line → (fault : Fault) → ReadTo new.progress (text_judged seen line) (Err fault) → EndTo new files bytes (Err fault)
-last_answered new files bytes line seen e f (Wrong kind) h = e ∙ ap (λ (r : Result Seen LogError). r >>= end_judged) (f ∙ h)
+pub last_answered : (new : Kept) (files : List (List ℕ)) (bytes line : List ℕ) (seen : LogSeen) → files_judged nothing_seen (files ++ bytes ∷ []) ≡ (last_judged seen line >>= end_judged)
+    → last_judged seen line ≡ text_judged seen line → (fault : Fault) → ProgressReadTo new.progress (text_judged seen line) (Err fault) → EndTo new files bytes (Err fault)
+last_answered new files bytes line seen e f (Wrong kind) h = e ∙ ap (λ (r : Result LogSeen LogError). r >>= end_judged) (f ∙ h)
 last_answered new files bytes line seen e f NoMemory h = tt
 
 -- a refusal is the fault at its line
-pub fed_refused : (middle new : Kept) (files : List (List ℕ)) (bytes : List ℕ) (fault : Fault) (answer : SumError) → answer ≡ refusal_of middle.progress.line fault → new.refusal ≡ Some answer
+pub fed_refused : (middle new : Kept) (files : List (List ℕ)) (bytes : List ℕ) (fault : Fault) (answer : SumError) → answer ≡ sum_refusal middle.progress.line fault → new.refusal ≡ Some answer
     → PieceTo middle files bytes (Err fault) → FedTo new files bytes (Err answer)
 fed_refused middle new files bytes (Wrong kind) answer e k h = rw e (h, k ∙ ap Some e)
 fed_refused middle new files bytes NoMemory answer e k h = rw e (k ∙ ap Some e)
 
 -- a refusal at the end of a log is the fault at its line
-pub end_refused : (middle new : Kept) (files : List (List ℕ)) (bytes : List ℕ) (fault : Fault) (answer : SumError) → answer ≡ refusal_of middle.progress.line fault → new.refusal ≡ Some answer
+pub end_refused : (middle new : Kept) (files : List (List ℕ)) (bytes : List ℕ) (fault : Fault) (answer : SumError) → answer ≡ sum_refusal middle.progress.line fault → new.refusal ≡ Some answer
     → EndTo middle files bytes (Err fault) → EndedTo new files bytes (Err answer)
 end_refused middle new files bytes (Wrong kind) answer e k h = rw e (h, k ∙ ap Some e)
 end_refused middle new files bytes NoMemory answer e k h = rw e (k ∙ ap Some e)
 
 -- a line that goes on, by its length
-pub part_fits : (new : Progress) (seen : Seen) (held part : List ℕ) → length held + length part ≤ 65536 → Follows new seen → ReadOn new (rest_judged seen (held ++ part))
+pub part_fits : (new : SumProgress) (seen : LogSeen) (held part : List ℕ) → length held + length part ≤ 65536 → FollowsSeen new seen → ReadOn new (rest_judged seen (held ++ part))
 unfolding rest_judged
 part_fits new seen held part h f =
     let e : is_too_long (held ++ part) ≡ false = fits (length (held ++ part)) (omega (arith, length-append held part)) in
@@ -263,39 +263,39 @@ pub part_long : (held part : List ℕ) → 65536 < length held + length part →
 part_long held part h = is_over (length (held ++ part)) (omega (arith, length-append held part))
 
 -- a line that fits is judged by its text without the carriage return
-pub line_fits : (seen : Seen) (line : List ℕ) → length line ≤ 65536 → line_judged seen line ≡ text_judged seen (without_return line)
+pub line_fits : (seen : LogSeen) (line : List ℕ) → length line ≤ 65536 → line_judged seen line ≡ text_judged seen (without_return line)
 unfolding line_judged
 line_fits seen line h = let e : is_too_long line ≡ false = fits (length line) h in rw e refl
 
 -- a line that is too long has that fault
-pub line_long : (seen : Seen) (line : List ℕ) → 65536 < length line → line_judged seen line ≡ fault_at seen.line LineTooLong
+pub line_long : (seen : LogSeen) (line : List ℕ) → 65536 < length line → line_judged seen line ≡ fault_at seen.line LineTooLong
 unfolding line_judged
 line_long seen line h = let e : is_too_long line ≡ true = is_over (length line) h in rw e refl
 
 -- the fault of a held line that is too long is that of the line once it has ended
-pub long_ended : (new : Progress) (seen : Seen) (line : List ℕ) (fault : Fault) → ReadTo new (rest_judged seen line) (Err fault) → ReadTo new (line_judged seen line) (Err fault)
+pub long_ended : (new : SumProgress) (seen : LogSeen) (line : List ℕ) (fault : Fault) → ProgressReadTo new (rest_judged seen line) (Err fault) → ProgressReadTo new (line_judged seen line) (Err fault)
 unfolding rest_judged line_judged
 long_ended new seen line (Wrong kind) h = by_test (is_too_long line) (λ e. rw e (rw e at h)) (λ e. let k = rw e at h in absurd (cc))
 long_ended new seen line NoMemory h = tt
 
 -- a line that fits, by its text
-pub line_read : (new : Progress) (seen : Seen) (line text : List ℕ) (r : Result (Unit {0}) Fault) → length line ≤ 65536 → text ≡ without_return line → ReadTo new (text_judged seen text) r
-    → ReadTo new (line_judged seen line) r
+pub line_read : (new : SumProgress) (seen : LogSeen) (line text : List ℕ) (r : Result (Unit {0}) Fault) → length line ≤ 65536 → text ≡ without_return line → ProgressReadTo new (text_judged seen text) r
+    → ProgressReadTo new (line_judged seen line) r
 line_read new seen line text r few e h =
-    subst (λ (t : Result Seen LogError). ReadTo new t r) (ap (text_judged seen) e ∙ sym (line_fits seen line few)) h
+    subst (λ (t : Result LogSeen LogError). ProgressReadTo new t r) (ap (text_judged seen) e ∙ sym (line_fits seen line few)) h
 
 -- a line that is wrong, with the rest of its piece after it
-pub line_answered : (old new : Kept) (files : List (List ℕ)) (bytes prefix behind whole : List ℕ) (s : Represents old files bytes) → is_one_line prefix ≡ true → (bytes ++ (prefix ++ 10 ∷ [])) ++ behind ≡ whole
-    → (fault : Fault) → ReadTo new.progress (line_judged s.seen (old.held ++ prefix)) (Err fault) → PieceTo new files whole (Err fault)
-line_answered old new files bytes prefix behind whole s one e (Wrong kind) h =
-    ap (input_judged files) (sym e) ∙ input_fault files (bytes ++ (prefix ++ 10 ∷ [])) behind _ (line_faulty old files bytes prefix _ s one h)
-line_answered old new files bytes prefix behind whole s one e NoMemory h = tt
+pub line_answered : (old new : Kept) (files : List (List ℕ)) (bytes prefix remainder whole : List ℕ) (s : Represents old files bytes) → is_one_line prefix ≡ true → (bytes ++ (prefix ++ 10 ∷ [])) ++ remainder ≡ whole
+    → (fault : Fault) → ProgressReadTo new.progress (line_judged s.seen (old.held ++ prefix)) (Err fault) → PieceTo new files whole (Err fault)
+line_answered old new files bytes prefix remainder whole s one e (Wrong kind) h =
+    ap (input_judged files) (sym e) ∙ input_fault files (bytes ++ (prefix ++ 10 ∷ [])) remainder _ (line_faulty old files bytes prefix _ s one h)
+line_answered old new files bytes prefix remainder whole s one e NoMemory h = tt
 
 -- a piece by its parts
-pub piece_whole : (bytes done prefix behind rest piece : List ℕ) → rest ≡ prefix ++ 10 ∷ behind → done ++ rest ≡ piece → ((bytes ++ done) ++ (prefix ++ 10 ∷ [])) ++ behind ≡ bytes ++ piece
-piece_whole bytes done prefix behind rest piece e f =
-    append_assoc (bytes ++ done) (prefix ++ 10 ∷ []) behind ∙ append_assoc bytes done ((prefix ++ 10 ∷ []) ++ behind)
-    ∙ ap (λ t. bytes ++ (done ++ t)) (append_assoc prefix (10 ∷ []) behind ∙ sym e) ∙ ap (λ t. bytes ++ t) f
+pub piece_whole : (bytes done prefix remainder rest piece : List ℕ) → rest ≡ prefix ++ 10 ∷ remainder → done ++ rest ≡ piece → ((bytes ++ done) ++ (prefix ++ 10 ∷ [])) ++ remainder ≡ bytes ++ piece
+piece_whole bytes done prefix remainder rest piece e f =
+    append_assoc (bytes ++ done) (prefix ++ 10 ∷ []) remainder ∙ append_assoc bytes done ((prefix ++ 10 ∷ []) ++ remainder)
+    ∙ ap (λ t. bytes ++ (done ++ t)) (append_assoc prefix (10 ∷ []) remainder ∙ sym e) ∙ ap (λ t. bytes ++ t) f
 
 -- a text of length 0 is empty
 pub nothing_there : (text : List ℕ) → length text ≡ 0 → text ≡ []

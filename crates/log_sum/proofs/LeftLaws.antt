@@ -17,7 +17,7 @@ use Rattle.std.proofs.lemmas.Slice.Eq.{bytes_eq-Decides, starts_is}
 use Rattle.list_laws.proofs.Cases.{by_test}
 use Rattle.log_sum.specs.Texts.{begins_with}
 use Rattle.text_laws.specs.Cuts.{before_cut, cut_at}
-use Rattle.log_sum.specs.States.{is_bracketed, left_kept, is_side, sides_read}
+use Rattle.log_sum.specs.LogStates.{is_bracketed, left_kept, is_side, sides_read}
 use Rattle.log_sum.specs.Equalities.{equality_of, before_sign, left_side, HasSign, same_left, has_left_twice}
 use Rattle.log_sum.proofs.OrderLaws.{apart_less}
 use Rattle.text_laws.proofs.OrderLaws.{order}

@@ -11,7 +11,7 @@ use Rattle.std.specs.FinMap.Entries.{put, find, is_sorted, by_order, is_sorted-p
 use Rattle.std.proofs.lemmas.Map.Text.{is_eq-slice_cmp}
 use Rattle.log_sum.specs.declared.kinds.Mark.{Mark}
 use Rattle.log_sum.specs.Summed.{StateSummed}
-use Rattle.log_sum.specs.Steps.{known_state}
+use Rattle.log_sum.specs.SummingSteps.{known_state}
 use Rattle.log_sum.specs.StateEntries.{ordered}
 use Rattle.text_laws.proofs.OrderLaws.{order, is_text}
 

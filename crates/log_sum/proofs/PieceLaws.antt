@@ -4,19 +4,19 @@ use Rattle.std.specs.Prelude.{Result}
 use Rattle.log_sum.specs.declared.errors.LogError.{LogError}
 use Rattle.log_sum.specs.declared.errors.SumError.{SumError}
 use Rattle.log_sum.specs.declared.errors.SumError.TheVariants.{Log, NoMemory}
-use Rattle.log_sum.specs.Reading.{Seen, nothing_seen, files_judged, input_judged}
+use Rattle.log_sum.specs.LogReading.{LogSeen, nothing_seen, files_judged, input_judged}
 use Rattle.log_sum.specs.Representing.{Kept, FedTo, EndedTo}
-use Rattle.log_sum.specs.Pieces.{IsOneAnswer, SameAnswers}
+use Rattle.log_sum.specs.SumPieces.{IsOneAnswer, SameAnswers}
 use Rattle.log_sum.proofs.PrintLaws.{same_sum}
 use Rattle.log_sum.proofs.StayLaws.{input_fault, files_fault, nothing_more}
 
 -- a reading has no fault
-record NoFault (read : Result Seen LogError) : Type 0 where
-  pub seen : Seen
+record NoFault (read : Result LogSeen LogError) : Type 0 where
+  pub seen : LogSeen
   pub is : read ≡ Ok seen
 
 -- what an answer says of the reading of the same bytes
-abbrev Says : Result Seen LogError → Result (Unit {0}) SumError → Type 0
+abbrev Says : Result LogSeen LogError → Result (Unit {0}) SumError → Type 0
 Says read (Ok x) = NoFault read
 Says read (Err (Log error)) = read ≡ Err error
 Says read (Err NoMemory) = Unit {0}
@@ -33,14 +33,14 @@ ended_says kept files log (Err (Log error)) ended = ended.0
 ended_says kept files log (Err NoMemory) ended = tt
 
 -- two answers about one reading
-one_answer : (read : Result Seen LogError) (r s : Result (Unit {0}) SumError) → Says read r → Says read s → IsOneAnswer r s
+one_answer : (read : Result LogSeen LogError) (r s : Result (Unit {0}) SumError) → Says read r → Says read s → IsOneAnswer r s
 one_answer read (Err NoMemory) s h k = tt
 one_answer read (Ok x) (Ok y) h k = inl refl
 one_answer read (Ok x) (Err (Log error)) h k = absurd (let e : Ok h.seen ≡ Err error = sym h.is ∙ k in cc)
 one_answer read (Ok x) (Err NoMemory) h k = inr refl
 one_answer read (Err (Log error)) (Ok y) h k = absurd (let e : Ok k.seen ≡ Err error = sym k.is ∙ h in cc)
 one_answer read (Err (Log error)) (Err (Log other)) h k =
-    let e : ◌≡◌ {A = Result Seen LogError} (Err other) (Err error) = sym k ∙ h in inl (ap (λ x. Err (Log x)) (let f : other ≡ error = cc in f))
+    let e : ◌≡◌ {A = Result LogSeen LogError} (Err other) (Err error) = sym k ∙ h in inl (ap (λ x. Err (Log x)) (let f : other ≡ error = cc in f))
 one_answer read (Err (Log error)) (Err NoMemory) h k = inr refl
 
 -- however the same bytes are cut, there is one answer, and one sum

@@ -12,11 +12,11 @@ use Rattle.diy_io.specs.Page.{SentAll, Sends}
 use Rattle.diy_io.specs.PageLaws.{sent_both, sent_part, sent_part_more, sends_then, sends_stopped, sends_same}
 use Rattle.log_sum.specs.declared.kinds.Kind.TheVariants.{Allowed}
 use Rattle.log_sum.specs.declared.kinds.Mark.{Mark}
-use Rattle.log_sum.specs.Summed.{Summed, summed, or_else, is_validated}
+use Rattle.log_sum.specs.Summed.{Summed, summed, some_or, is_validated}
 use Rattle.log_sum.specs.Representing.{Kept, Represents, kept_text}
-use Rattle.log_sum.specs.Reading.{Seen}
+use Rattle.log_sum.specs.LogReading.{LogSeen}
 use Rattle.log_sum.specs.Facts.{facts_of, tests_of}
-use Rattle.log_sum.specs.SumText.{test_text, sum_text, line_end, filling, mark_sign, state_line, kind_word, verdict_word, how_often, head_text, verdict_text, observation_text}
+use Rattle.log_sum.specs.SumText.{summed_text, sum_text, line_end, filling, mark_sign, state_line, sum_kind_word, verdict_word, how_often, head_text, sum_verdict_text, observation_text}
 
 -- the rest of six blanks and a sign, from a place on
 pub blanks_and_sign : (k a b : ℕ) → k ≤ 6 → take (8 - k) (drop k (32 ∷ 32 ∷ 32 ∷ 32 ∷ 32 ∷ 32 ∷ a ∷ b ∷ [])) ≡ replicate (6 - k) 32 ++ a ∷ b ∷ []
@@ -53,20 +53,20 @@ joined_head x feed histogram count states =
     ∙ sym (append_assoc (x ++ feed ++ histogram ++ count) states feed)
 
 -- the pieces of the lines above the states are their text
-pub head_is : (name kind count : List ℕ) (test : Summed) → kind ≡ kind_word (or_else Allowed test.kind) → count ≡ decimal (length test.states)
+pub head_is : (name kind count : List ℕ) (test : Summed) → kind ≡ sum_kind_word (some_or Allowed test.kind) → count ≡ decimal (length test.states)
     → codes "Test " ++ name ++ codes " " ++ kind ++ (line_end ++ codes "Histogram (") ++ count ++ (codes " states)" ++ line_end)
     ≡ head_text name test
 unfolding head_text
 head_is name kind count test e f =
-    let line = codes "Test " ++ name ++ codes " " ++ kind_word (or_else Allowed test.kind) in
+    let line = codes "Test " ++ name ++ codes " " ++ sum_kind_word (some_or Allowed test.kind) in
     rw (e, f) (joined_head line line_end (codes "Histogram (") (decimal (length test.states)) (codes " states)"))
 
 -- the pieces of the lines of the verdict and of the counts are their text
 pub verdict_is : (word starred plain : List ℕ) (test : Summed)
     → word ≡ verdict_word (is_validated test) → starred ≡ decimal test.starred → plain ≡ decimal test.plain
     → word ++ (line_end ++ line_end ++ codes "Witnesses" ++ line_end ++ codes "Positive: ") ++ starred ++ codes ", Negative: " ++ plain ++ line_end
-    ≡ verdict_text test
-unfolding verdict_text
+    ≡ sum_verdict_text test
+unfolding sum_verdict_text
 verdict_is word starred plain test e f h = rw (e, f, h) (simp append_assoc)
 
 -- the pieces of the line of the observation are its text
@@ -142,19 +142,19 @@ pub covers_this : {A B T : Type 0} (f : A → T) (g : B → T) (ys : List A) (it
 covers_this f g ys it rest x y all e h k =
     ap (λ t. map f ys ++ t ∷ map g rest) e ∙ ap (λ t. map f ys ++ map g t) (sym h) ∙ k
 
-texts_of : (test : List ℕ → Summed) (names : List (List ℕ)) → flat_map (λ (row : List ℕ × Summed). test_text row.0 row.1) (map (λ name. (name, test name)) names) ≡ flat_map (λ name. test_text name (test name)) names
+texts_of : (test : List ℕ → Summed) (names : List (List ℕ)) → flat_map (λ (row : List ℕ × Summed). summed_text row.0 row.1) (map (λ name. (name, test name)) names) ≡ flat_map (λ name. summed_text name (test name)) names
 texts_of test [] = refl
-texts_of test (name ∷ names) = ap (λ t. test_text name (test name) ++ t) (texts_of test names)
+texts_of test (name ∷ names) = ap (λ t. summed_text name (test name) ++ t) (texts_of test names)
 
 -- the sum of what is kept is that of the facts of the input that it represents
 pub sum_is : (kept : Kept) (files : List (List ℕ)) (bytes : List ℕ) (s : Represents kept files bytes) → kept_text kept ≡ sum_text s.seen.entries
 unfolding sum_text
 sum_is kept files bytes s =
-    ap (flat_map (λ (row : List ℕ × Summed). test_text row.0 row.1)) s.reading.tests ∙ texts_of (λ name. summed (facts_of name s.seen.entries)) (tests_of s.seen.entries)
+    ap (flat_map (λ (row : List ℕ × Summed). summed_text row.0 row.1)) s.reading.tests ∙ texts_of (λ name. summed (facts_of name s.seen.entries)) (tests_of s.seen.entries)
 
 -- two summers that represent the same input have the same sum, however its bytes were cut
 pub same_sum : (one other : Kept) (files : List (List ℕ)) (bytes : List ℕ) → Represents one files bytes → Represents other files bytes → kept_text one ≡ kept_text other
 same_sum one other files bytes s t =
     let same : Ok s.seen ≡ Ok t.seen = sym s.judged ∙ t.judged in
     let seen : s.seen ≡ t.seen = cc in
-    sum_is one files bytes s ∙ ap (λ (x : Seen). sum_text x.entries) seen ∙ sym (sum_is other files bytes t)
+    sum_is one files bytes s ∙ ap (λ (x : LogSeen). sum_text x.entries) seen ∙ sym (sum_is other files bytes t)

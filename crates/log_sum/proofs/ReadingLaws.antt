@@ -9,10 +9,10 @@ use Rattle.std.proofs.lemmas.Slice.Eq.{bytes_eq-Decides}
 use Rattle.std.proofs.lemmas.List.{map_push}
 use Rattle.list_laws.proofs.Cases.{by_test}
 use Rattle.log_sum.specs.declared.errors.LogError.{LogError}
-use Rattle.log_sum.specs.Facts.{Fact, Entry, facts_of, tests_of, with_name}
+use Rattle.log_sum.specs.Facts.{Fact, Entry, facts_of, tests_of, with_test_name}
 use Rattle.log_sum.specs.Summed.{Summed, summed}
-use Rattle.log_sum.specs.Representing.{table_of}
-use Rattle.log_sum.specs.Reading.{Seen, ◌>>=◌, lines_judged, line_judged, lines_of, rest_of, bytes_judged, rest_judged, file_judged, files_judged, input_judged, nothing_seen}
+use Rattle.log_sum.specs.Representing.{sum_table}
+use Rattle.log_sum.specs.LogReading.{LogSeen, ◌>>=◌, lines_judged, line_judged, whole_lines, unfinished, bytes_judged, rest_judged, file_judged, files_judged, input_judged, nothing_seen}
 use Rattle.text_laws.specs.Lines.{is_line_feed, but_last, last_of}
 use Rattle.text_laws.proofs.PieceLaws.{first_piece, split_whole, split_both, split_append, but_last_append, last_append, whole_split}
 use Rattle.log_sum.specs.Feeding.{entry_of}
@@ -27,20 +27,20 @@ split_more : (bytes part : List ℕ) → is_one_line part ≡ true
 split_more bytes part h = split_append is_line_feed bytes part part [] (split_whole is_line_feed part h)
 
 -- bytes without a line feed end no line
-pub lines_more : (bytes part : List ℕ) → is_one_line part ≡ true → lines_of (bytes ++ part) ≡ lines_of bytes
-unfolding lines_of
+pub lines_more : (bytes part : List ℕ) → is_one_line part ≡ true → whole_lines (bytes ++ part) ≡ whole_lines bytes
+unfolding whole_lines
 lines_more bytes part h =
     ap but_last (split_more bytes part h) ∙ but_last_append (but_last (slice_split is_line_feed bytes)) (last_of (slice_split is_line_feed bytes) ++ part) []
     ∙ append-nil (but_last (slice_split is_line_feed bytes))
 
 -- bytes without a line feed are appended to the line that goes on
-pub rest_more : (bytes part : List ℕ) → is_one_line part ≡ true → rest_of (bytes ++ part) ≡ rest_of bytes ++ part
-unfolding rest_of
+pub rest_more : (bytes part : List ℕ) → is_one_line part ≡ true → unfinished (bytes ++ part) ≡ unfinished bytes ++ part
+unfolding unfinished
 rest_more bytes part h = ap last_of (split_more bytes part h) ∙ last_append (but_last (slice_split is_line_feed bytes)) (last_of (slice_split is_line_feed bytes) ++ part) []
 
 -- the lines up to a line feed, and those after it, are the lines of the whole
-pub lines_cut : (bytes rest : List ℕ) → lines_of (bytes ++ 10 ∷ rest) ≡ (lines_of bytes ++ rest_of bytes ∷ []) ++ lines_of rest
-unfolding lines_of rest_of
+pub lines_cut : (bytes rest : List ℕ) → whole_lines (bytes ++ 10 ∷ rest) ≡ (whole_lines bytes ++ unfinished bytes ∷ []) ++ whole_lines rest
+unfolding whole_lines unfinished
 lines_cut bytes rest =
     let after = first_piece is_line_feed rest in
     ap but_last (split_both is_line_feed bytes 10 rest refl)
@@ -49,40 +49,40 @@ lines_cut bytes rest =
     ∙ ap (λ t. t ++ but_last (slice_split is_line_feed rest)) (whole_split is_line_feed bytes)
 
 -- a line feed ends the line that goes on
-pub lines_ended : (bytes : List ℕ) → lines_of (bytes ++ 10 ∷ []) ≡ lines_of bytes ++ rest_of bytes ∷ []
-unfolding lines_of
-lines_ended bytes = lines_cut bytes [] ∙ append-nil (lines_of bytes ++ rest_of bytes ∷ [])
+pub lines_ended : (bytes : List ℕ) → whole_lines (bytes ++ 10 ∷ []) ≡ whole_lines bytes ++ unfinished bytes ∷ []
+unfolding whole_lines
+lines_ended bytes = lines_cut bytes [] ∙ append-nil (whole_lines bytes ++ unfinished bytes ∷ [])
 
 -- after a line feed nothing goes on
-pub rest_ended : (bytes : List ℕ) → rest_of (bytes ++ 10 ∷ []) ≡ []
-unfolding rest_of
+pub rest_ended : (bytes : List ℕ) → unfinished (bytes ++ 10 ∷ []) ≡ []
+unfolding unfinished
 rest_ended bytes = ap last_of (split_both is_line_feed bytes 10 [] refl) ∙ last_append (slice_split is_line_feed bytes) [] []
 
 -- what is judged first, and then what comes after it
-then_on : {A : Type 0} (r : Result A LogError) (whole first : A → Result Seen LogError) (last : Seen → Result Seen LogError)
+then_on : {A : Type 0} (r : Result A LogError) (whole first : A → Result LogSeen LogError) (last : LogSeen → Result LogSeen LogError)
     → ((x : A) → whole x ≡ (first x >>= last)) → (r >>= whole) ≡ ((r >>= first) >>= last)
 then_on (Ok x) whole first last law = law x
 then_on (Err e) whole first last law = refl
 
-then_none : (r : Result Seen LogError) → (r >>= (λ next. Ok next)) ≡ r
+then_none : (r : Result LogSeen LogError) → (r >>= (λ next. Ok next)) ≡ r
 then_none (Ok x) = refl
 then_none (Err e) = refl
 
 -- lines are judged one after another
-pub lines_both : (seen : Seen) (lines more : List (List ℕ)) → lines_judged seen (lines ++ more) ≡ (lines_judged seen lines >>= (λ next. lines_judged next more))
+pub lines_both : (seen : LogSeen) (lines more : List (List ℕ)) → lines_judged seen (lines ++ more) ≡ (lines_judged seen lines >>= (λ next. lines_judged next more))
 lines_both seen [] more = refl
 lines_both seen (l ∷ lines) more = then_on (line_judged seen l) _ _ _ (λ next. lines_both next lines more)
 
-lines_then : (seen : Seen) (lines : List (List ℕ)) (line : List ℕ) → lines_judged seen (lines ++ line ∷ []) ≡ (lines_judged seen lines >>= (λ next. line_judged next line))
+lines_then : (seen : LogSeen) (lines : List (List ℕ)) (line : List ℕ) → lines_judged seen (lines ++ line ∷ []) ≡ (lines_judged seen lines >>= (λ next. line_judged next line))
 lines_then seen [] line = then_none (line_judged seen line)
 lines_then seen (l ∷ lines) line = then_on (line_judged seen l) _ _ _ (λ next. lines_then next lines line)
 
 -- what the lines of the bytes so far give, before the line that goes on is judged
-abbrev pub so_far : List (List ℕ) → List ℕ → Result Seen LogError
-so_far files bytes = files_judged nothing_seen files >>= λ seen. lines_judged seen (lines_of bytes)
+abbrev pub so_far : List (List ℕ) → List ℕ → Result LogSeen LogError
+so_far files bytes = files_judged nothing_seen files >>= λ seen. lines_judged seen (whole_lines bytes)
 
 -- an input is judged by its lines, and then by the line that goes on
-pub input_by_lines : (files : List (List ℕ)) (bytes : List ℕ) → input_judged files bytes ≡ (so_far files bytes >>= (λ next. rest_judged next (rest_of bytes)))
+pub input_by_lines : (files : List (List ℕ)) (bytes : List ℕ) → input_judged files bytes ≡ (so_far files bytes >>= (λ next. rest_judged next (unfinished bytes)))
 unfolding input_judged bytes_judged
 input_by_lines files bytes = then_on (files_judged nothing_seen files) _ _ _ (λ x. refl)
 
@@ -91,13 +91,13 @@ pub so_far_more : (files : List (List ℕ)) (bytes part : List ℕ) → is_one_l
 so_far_more files bytes part h = ap (λ lines. files_judged nothing_seen files >>= λ seen. lines_judged seen lines) (lines_more bytes part h)
 
 -- at a line feed the line is judged
-pub so_far_ended : (files : List (List ℕ)) (bytes : List ℕ) → so_far files (bytes ++ 10 ∷ []) ≡ (so_far files bytes >>= (λ next. line_judged next (rest_of bytes)))
+pub so_far_ended : (files : List (List ℕ)) (bytes : List ℕ) → so_far files (bytes ++ 10 ∷ []) ≡ (so_far files bytes >>= (λ next. line_judged next (unfinished bytes)))
 so_far_ended files bytes =
     ap (λ lines. files_judged nothing_seen files >>= λ seen. lines_judged seen lines) (lines_ended bytes)
-    ∙ then_on (files_judged nothing_seen files) _ _ _ (λ x. lines_then x (lines_of bytes) (rest_of bytes))
+    ∙ then_on (files_judged nothing_seen files) _ _ _ (λ x. lines_then x (whole_lines bytes) (unfinished bytes))
 
 -- one file more
-pub read_on : (seen : Seen) (files : List (List ℕ)) (bytes : List ℕ) → files_judged seen (files ++ bytes ∷ []) ≡ (files_judged seen files >>= (λ next. file_judged next bytes))
+pub read_on : (seen : LogSeen) (files : List (List ℕ)) (bytes : List ℕ) → files_judged seen (files ++ bytes ∷ []) ≡ (files_judged seen files >>= (λ next. file_judged next bytes))
 read_on seen [] bytes = then_none (file_judged seen bytes)
 read_on seen (file ∷ files) bytes = then_on (file_judged seen file) _ _ _ (λ next. read_on next files bytes)
 
@@ -116,9 +116,9 @@ facts_elsewhere name test entries fact h =
     ap (map (λ e. e.fact)) (filter-append (λ e. bytes_eq e.test name) entries (entry_of test fact ∷ [])) ∙ rw h (ap (map (λ e. e.fact)) (append-nil (filter (λ e. bytes_eq e.test name) entries)))
 
 -- the test of a new entry comes last, unless it is among the tests
-pub tests_then : (entries : List Entry) (test : List ℕ) (fact : Fact) → tests_of (entries ++ entry_of test fact ∷ []) ≡ with_name (tests_of entries) test
+pub tests_then : (entries : List Entry) (test : List ℕ) (fact : Fact) → tests_of (entries ++ entry_of test fact ∷ []) ≡ with_test_name (tests_of entries) test
 tests_then entries test fact =
-    ap (fold with_name []) (map_push (λ e. e.test) entries (entry_of test fact)) ∙ fold-append with_name [] (map (λ e. e.test) entries) (test ∷ [])
+    ap (fold with_test_name []) (map_push (λ e. e.test) entries (entry_of test fact)) ∙ fold-append with_test_name [] (map (λ e. e.test) entries) (test ∷ [])
 
 -- names that differ
 abbrev pub Without : List ℕ → List (List ℕ) → Type 0
@@ -143,7 +143,7 @@ rows_by name v w (x ∷ names) h n =
     by_test (bytes_eq name x) (λ e. let k = rw e at n in absurd (cc)) (λ e. rw (h x e, rows_by name v w names h (rw e at n)) refl)
 
 put_row : (name : List ℕ) (v w : List ℕ → Summed) (names : List (List ℕ)) → ((x : List ℕ) → bytes_eq name x ≡ false → v x ≡ w x) → Differ names
-    → put_at name (w name) (named v names) ≡ named w (with_name names name)
+    → put_at name (w name) (named v names) ≡ named w (with_test_name names name)
 put_row name v w [] h d = refl
 put_row name v w (x ∷ names) h (more _ _ n d) =
     by_test (bytes_eq name x)
@@ -157,9 +157,9 @@ put_row name v w (x ∷ names) h (more _ _ n d) =
 
 -- the table with an entry more is the table with that test's row put
 pub table_put : (entries : List Entry) (test : List ℕ) (fact : Fact) → Differ (tests_of entries)
-    → put_at test (summed (facts_of test entries ++ fact ∷ [])) (table_of entries) ≡ table_of (entries ++ entry_of test fact ∷ [])
+    → put_at test (summed (facts_of test entries ++ fact ∷ [])) (sum_table entries) ≡ sum_table (entries ++ entry_of test fact ∷ [])
 table_put entries test fact d =
-    ap (λ facts. put_at test (summed facts) (table_of entries)) (sym (facts_here test entries fact))
+    ap (λ facts. put_at test (summed facts) (sum_table entries)) (sym (facts_here test entries fact))
     ∙ put_row test (λ x. summed (facts_of x entries)) (λ x. summed (facts_of x (entries ++ entry_of test fact ∷ []))) (tests_of entries)
     (λ x h. ap summed (sym (facts_elsewhere x test entries fact h))) d
     ∙ ap (named (λ x. summed (facts_of x (entries ++ entry_of test fact ∷ [])))) (sym (tests_then entries test fact))
@@ -180,12 +180,12 @@ differ_name (x ∷ names) name h (more _ _ n d) =
     swap x name e = by_test (bytes_eq x name) (λ f. let k : bytes_eq name x ≡ true = (bytes_eq-Decides name x).1 (sym ((bytes_eq-Decides x name).0 f)) in absurd (let z : true ≡ false = sym k ∙ e in cc)) (λ f. f)
 
 -- the names with one more differ
-pub differ_with : (names : List (List ℕ)) (name : List ℕ) → Differ names → Differ (with_name names name)
+pub differ_with : (names : List (List ℕ)) (name : List ℕ) → Differ names → Differ (with_test_name names name)
 differ_with names name d = by_test (list_any (bytes_eq name) names) (λ e. rw e d) (λ e. rw e (differ_name names name e d))
 
-fold_differ : (more names : List (List ℕ)) → Differ names → Differ (fold with_name names more)
+fold_differ : (more names : List (List ℕ)) → Differ names → Differ (fold with_test_name names more)
 fold_differ [] names d = d
-fold_differ (name ∷ rest) names d = fold_differ rest (with_name names name) (differ_with names name d)
+fold_differ (name ∷ rest) names d = fold_differ rest (with_test_name names name) (differ_with names name d)
 
 -- the tests of entries have different names
 pub tests_differ : (entries : List Entry) → Differ (tests_of entries)

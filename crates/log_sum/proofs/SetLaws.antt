@@ -17,7 +17,7 @@ use Rattle.text_laws.specs.Words.{is_nil}
 use Rattle.text_laws.specs.Blanks.{unblanked}
 use Rattle.log_sum.specs.Texts.{begins_with}
 use Rattle.text_laws.specs.Cuts.{cut_at}
-use Rattle.log_sum.specs.States.{has_left, sides_read, with_equality, and_then, state_read, or_bad}
+use Rattle.log_sum.specs.LogStates.{has_left, sides_read, with_equality, and_then, state_read, or_bad}
 use Rattle.std.proofs.Math.Bool.{or-false}
 use Rattle.std.proofs.lemmas.List.{map_push}
 use Rattle.list_laws.proofs.Cases.{by_test}

@@ -18,8 +18,8 @@ use Rattle.std.proofs.lemmas.Map.Text.{is_eq-slice_cmp}
 use Rattle.std.proofs.lemmas.Slice.Eq.{bytes_eq-Decides}
 use Rattle.list_laws.proofs.Cases.{by_test}
 use Rattle.log_sum.specs.declared.state_table.StateSum.{StateSum}
-use Rattle.log_sum.specs.Spelling.{IsSpelled}
-use Rattle.log_sum.specs.Steps.{known_state}
+use Rattle.log_sum.specs.StateSpelling.{IsSpelled}
+use Rattle.log_sum.specs.SummingSteps.{known_state}
 use Rattle.log_sum.specs.StateEntries.{sum_view, state_view, states_view, AreInOrder, AreWritten}
 use Rattle.log_sum.proofs.OrderLaws.{apart_less, ordered_same}
 use Rattle.text_laws.proofs.OrderLaws.{order}

@@ -7,13 +7,13 @@ use Rattle.std.proofs.lemmas.List.{map_push}
 use Rattle.list_laws.proofs.Cases.{by_test}
 use Rattle.text_laws.specs.Blanks.{is_blank, unblanked}
 use Rattle.text_laws.specs.Words.{is_nil}
-use Rattle.text_laws.specs.Runs.{after_run}
+use Rattle.text_laws.specs.LeadingRuns.{after_run}
 use Rattle.text_laws.specs.Cuts.{cut_at, before_cut}
-use Rattle.log_sum.specs.States.{with_pieces, with_equality, sides_read, and_then, later_unblanked, state_read, state_form, later_forms, separated, form_with}
+use Rattle.log_sum.specs.LogStates.{with_pieces, with_equality, sides_read, and_then, later_unblanked, state_read, state_form, later_forms, separated, form_with}
 use Rattle.log_sum.specs.declared.errors.LogKind.{LogKind}
 use Rattle.log_sum.specs.declared.errors.Fault.{Fault}
 use Rattle.log_sum.specs.declared.errors.Fault.TheVariants.{Wrong, NoMemory}
-use Rattle.log_sum.specs.Classes.{IsFault}
+use Rattle.log_sum.specs.SumViews.{IsFault}
 
 -- the pieces of a text, cut at its first semicolon
 pub pieces_cut : (sign : ℕ) (text : List ℕ) (parts : List ℕ × List ℕ) → cut_at sign text ≡ Some parts
@@ -78,11 +78,11 @@ first_piece (byte ∷ text) =
     semicolon : (byte : ℕ) → (byte == 59) ≡ true → is_blank byte ≡ false
     semicolon byte e = let k : byte ≡ 59 = eqb-true byte 59 e in rw k refl
 
-pieces_go : (state : List (List ℕ)) (piece : List ℕ) (behind : List ℕ)
-    → with_pieces state (piece ∷ map unblanked (slice_split (λ byte. byte == 59) behind)) ≡ and_then (with_equality state (sides_read (cut_at 61 piece))) (λ more. rest_read more (unblanked behind))
+pieces_go : (state : List (List ℕ)) (piece : List ℕ) (remainder : List ℕ)
+    → with_pieces state (piece ∷ map unblanked (slice_split (λ byte. byte == 59) remainder)) ≡ and_then (with_equality state (sides_read (cut_at 61 piece))) (λ more. rest_read more (unblanked remainder))
 unfolding with_pieces
-pieces_go state piece behind =
-    let first = first_piece behind in rw (first.is, first.unblanked_is) refl
+pieces_go state piece remainder =
+    let first = first_piece remainder in rw (first.is, first.unblanked_is) refl
 
 -- the equality of the first piece is read, and then the rest after its semicolon
 pub rest_goes : (state : List (List ℕ)) (rest : List ℕ) (parts : List ℕ × List ℕ) → cut_at 59 rest ≡ Some parts

@@ -7,7 +7,7 @@ use Rattle.list_laws.proofs.Cases.{by_test}
 use Rattle.log_sum.specs.declared.errors.LogError.{LogError}
 use Rattle.log_sum.specs.declared.errors.LogKind.TheVariants.{LineTooLong}
 use Rattle.text_laws.specs.Cuts.{cut_at, before_cut}
-use Rattle.log_sum.specs.Reading.{Seen, ◌>>=◌, fault_at, is_too_long, nothing_seen, lines_judged, line_judged, lines_of, rest_of, rest_judged, bytes_judged, last_judged, end_judged, file_judged, files_judged, input_judged}
+use Rattle.log_sum.specs.LogReading.{LogSeen, ◌>>=◌, fault_at, is_too_long, nothing_seen, lines_judged, line_judged, whole_lines, unfinished, rest_judged, bytes_judged, last_judged, end_judged, file_judged, files_judged, input_judged}
 use Rattle.log_sum.proofs.ReadingLaws.{is_one_line, lines_cut, lines_both, lines_more, rest_more}
 
 -- a text at its first line feed
@@ -47,8 +47,8 @@ cut_none (byte ∷ text) h =
 
 -- bytes with more after them: the line that goes on is longer, or it has ended and others follow
 pub data Goes (bytes rest : List ℕ) : Type 0 where
-  goes_on : lines_of (bytes ++ rest) ≡ lines_of bytes → rest_of (bytes ++ rest) ≡ rest_of bytes ++ rest → Goes bytes rest
-  has_ended : (part : List ℕ) (more : List (List ℕ)) → lines_of (bytes ++ rest) ≡ lines_of bytes ++ (rest_of bytes ++ part) ∷ more → Goes bytes rest
+  goes_on : whole_lines (bytes ++ rest) ≡ whole_lines bytes → unfinished (bytes ++ rest) ≡ unfinished bytes ++ rest → Goes bytes rest
+  has_ended : (part : List ℕ) (more : List (List ℕ)) → whole_lines (bytes ++ rest) ≡ whole_lines bytes ++ (unfinished bytes ++ part) ∷ more → Goes bytes rest
 
 -- one of the two is so
 pub goes : (bytes rest : List ℕ) → Goes bytes rest
@@ -58,11 +58,11 @@ goes bytes rest = by_cut (cut_at 10 rest) refl
     by_cut None e = goes_on (lines_more bytes rest (cut_none rest e)) (rest_more bytes rest (cut_none rest e))
     by_cut (Some parts) e =
         let cut = cut_parts rest parts e in
-        has_ended parts.0 (lines_of parts.1)
-        (ap (λ t. lines_of (bytes ++ t)) cut.whole ∙ ap lines_of (sym (append_assoc bytes parts.0 (10 ∷ parts.1))) ∙ lines_cut (bytes ++ parts.0) parts.1
-        ∙ ap (λ t. (t ++ rest_of (bytes ++ parts.0) ∷ []) ++ lines_of parts.1) (lines_more bytes parts.0 cut.one)
-        ∙ ap (λ t. (lines_of bytes ++ t ∷ []) ++ lines_of parts.1) (rest_more bytes parts.0 cut.one)
-        ∙ append_assoc (lines_of bytes) ((rest_of bytes ++ parts.0) ∷ []) (lines_of parts.1))
+        has_ended parts.0 (whole_lines parts.1)
+        (ap (λ t. whole_lines (bytes ++ t)) cut.whole ∙ ap whole_lines (sym (append_assoc bytes parts.0 (10 ∷ parts.1))) ∙ lines_cut (bytes ++ parts.0) parts.1
+        ∙ ap (λ t. (t ++ unfinished (bytes ++ parts.0) ∷ []) ++ whole_lines parts.1) (lines_more bytes parts.0 cut.one)
+        ∙ ap (λ t. (whole_lines bytes ++ t ∷ []) ++ whole_lines parts.1) (rest_more bytes parts.0 cut.one)
+        ∙ append_assoc (whole_lines bytes) ((unfinished bytes ++ parts.0) ∷ []) (whole_lines parts.1))
 
 -- a line that is too long stays so
 long_more : (line part : List ℕ) → is_too_long line ≡ true → is_too_long (line ++ part) ≡ true
@@ -71,96 +71,96 @@ long_more line part h = by_number (length line) (length part) (length (line ++ p
     by_number : (a b c : ℕ) → c ≡ a + b → nat_lt 65536 a ≡ true → nat_lt 65536 c ≡ true
     by_number a b c e h = grind (arith, nat_tests)
 
-long_line : (seen : Seen) (line : List ℕ) → is_too_long line ≡ true → line_judged seen line ≡ fault_at seen.line LineTooLong
+long_line : (seen : LogSeen) (line : List ℕ) → is_too_long line ≡ true → line_judged seen line ≡ fault_at seen.line LineTooLong
 unfolding line_judged
 long_line seen line h = rw h refl
 
-long_last : (seen : Seen) (line : List ℕ) → is_too_long line ≡ true → last_judged seen line ≡ fault_at seen.line LineTooLong
+long_last : (seen : LogSeen) (line : List ℕ) → is_too_long line ≡ true → last_judged seen line ≡ fault_at seen.line LineTooLong
 unfolding last_judged
 long_last seen [] h = cc
 long_last seen (byte ∷ line) h = rw h refl
 
 -- a line that goes on and is too long has that fault
-pub long_rest : (seen : Seen) (line : List ℕ) → is_too_long line ≡ true → rest_judged seen line ≡ fault_at seen.line LineTooLong
+pub long_rest : (seen : LogSeen) (line : List ℕ) → is_too_long line ≡ true → rest_judged seen line ≡ fault_at seen.line LineTooLong
 unfolding rest_judged
 long_rest seen line h = rw h refl
 
 -- the fault of a line that goes on
-pub record IsLong (seen : Seen) (line : List ℕ) (error : LogError) : Type 0 where
+pub record IsLong (seen : LogSeen) (line : List ℕ) (error : LogError) : Type 0 where
   pub long : is_too_long line ≡ true
-  pub fault : ◌≡◌ {A = Result Seen LogError} (fault_at seen.line LineTooLong) (Err error)
+  pub fault : ◌≡◌ {A = Result LogSeen LogError} (fault_at seen.line LineTooLong) (Err error)
 
-rest_fault : (seen : Seen) (line : List ℕ) (error : LogError) → rest_judged seen line ≡ Err error → IsLong seen line error
+rest_fault : (seen : LogSeen) (line : List ℕ) (error : LogError) → rest_judged seen line ≡ Err error → IsLong seen line error
 unfolding rest_judged
 rest_fault seen line error h =
     by_test (is_too_long line) (λ e. record { long = e; fault = rw e at h }) (λ e. let k = rw e at h in absurd (cc))
 
 -- a step after what was read
-abbrev pub on_from : Result Seen LogError → (Seen → Result Seen LogError) → Result Seen LogError
+abbrev pub on_from : Result LogSeen LogError → (LogSeen → Result LogSeen LogError) → Result LogSeen LogError
 on_from r next = r >>= next
 
 -- a fault of the bytes so far is one of any file that begins with them
-lines_fault : (seen : Seen) (bytes rest : List ℕ) (error : LogError) → lines_judged seen (lines_of bytes) ≡ Err error → lines_judged seen (lines_of (bytes ++ rest)) ≡ Err error
+lines_fault : (seen : LogSeen) (bytes rest : List ℕ) (error : LogError) → lines_judged seen (whole_lines bytes) ≡ Err error → lines_judged seen (whole_lines (bytes ++ rest)) ≡ Err error
 lines_fault seen bytes rest error h = by_goes (goes bytes rest)
   where
-    by_goes : Goes bytes rest → lines_judged seen (lines_of (bytes ++ rest)) ≡ Err error
+    by_goes : Goes bytes rest → lines_judged seen (whole_lines (bytes ++ rest)) ≡ Err error
     by_goes (goes_on e f) = ap (lines_judged seen) e ∙ h
     by_goes (has_ended part more e) =
-        ap (lines_judged seen) e ∙ lines_both seen (lines_of bytes) ((rest_of bytes ++ part) ∷ more) ∙ ap (λ (r : Result Seen LogError). r >>= (λ next. lines_judged next ((rest_of bytes ++ part) ∷ more))) h
+        ap (lines_judged seen) e ∙ lines_both seen (whole_lines bytes) ((unfinished bytes ++ part) ∷ more) ∙ ap (λ (r : Result LogSeen LogError). r >>= (λ next. lines_judged next ((unfinished bytes ++ part) ∷ more))) h
 
 -- a step answers that a line that goes on is too long
-abbrev pub Refuses : (Seen → List ℕ → Result Seen LogError) → Type 0
-Refuses next = (seen : Seen) (line : List ℕ) → is_too_long line ≡ true → next seen line ≡ fault_at seen.line LineTooLong
+abbrev pub Refuses : (LogSeen → List ℕ → Result LogSeen LogError) → Type 0
+Refuses next = (seen : LogSeen) (line : List ℕ) → is_too_long line ≡ true → next seen line ≡ fault_at seen.line LineTooLong
 
-long_fault : (next : Seen → List ℕ → Result Seen LogError) → Refuses next → (seen middle : Seen) (bytes rest : List ℕ) (error : LogError)
-    → lines_judged seen (lines_of bytes) ≡ Ok middle → IsLong middle (rest_of bytes) error
-    → (lines_judged seen (lines_of (bytes ++ rest)) >>= (λ x. next x (rest_of (bytes ++ rest)))) ≡ Err error
+long_fault : (next : LogSeen → List ℕ → Result LogSeen LogError) → Refuses next → (seen middle : LogSeen) (bytes rest : List ℕ) (error : LogError)
+    → lines_judged seen (whole_lines bytes) ≡ Ok middle → IsLong middle (unfinished bytes) error
+    → (lines_judged seen (whole_lines (bytes ++ rest)) >>= (λ x. next x (unfinished (bytes ++ rest)))) ≡ Err error
 long_fault next refuses seen middle bytes rest error h long = by_goes (goes bytes rest)
   where
-    by_goes : Goes bytes rest → (lines_judged seen (lines_of (bytes ++ rest)) >>= (λ x. next x (rest_of (bytes ++ rest)))) ≡ Err error
+    by_goes : Goes bytes rest → (lines_judged seen (whole_lines (bytes ++ rest)) >>= (λ x. next x (unfinished (bytes ++ rest)))) ≡ Err error
     by_goes (goes_on e f) =
-        ap (λ (r : Result Seen LogError). r >>= (λ x. next x (rest_of (bytes ++ rest)))) (ap (lines_judged seen) e ∙ h)
-        ∙ ap (next middle) f ∙ refuses middle (rest_of bytes ++ rest) (long_more (rest_of bytes) rest long.long) ∙ long.fault
+        ap (λ (r : Result LogSeen LogError). r >>= (λ x. next x (unfinished (bytes ++ rest)))) (ap (lines_judged seen) e ∙ h)
+        ∙ ap (next middle) f ∙ refuses middle (unfinished bytes ++ rest) (long_more (unfinished bytes) rest long.long) ∙ long.fault
     by_goes (has_ended part more e) =
-        ap (λ (r : Result Seen LogError). r >>= (λ x. next x (rest_of (bytes ++ rest))))
-        (ap (lines_judged seen) e ∙ lines_both seen (lines_of bytes) ((rest_of bytes ++ part) ∷ more) ∙ ap (λ (r : Result Seen LogError). r >>= (λ x. lines_judged x ((rest_of bytes ++ part) ∷ more))) h
-        ∙ ap (λ (r : Result Seen LogError). r >>= (λ x. lines_judged x more)) (long_line middle (rest_of bytes ++ part) (long_more (rest_of bytes) part long.long) ∙ long.fault))
+        ap (λ (r : Result LogSeen LogError). r >>= (λ x. next x (unfinished (bytes ++ rest))))
+        (ap (lines_judged seen) e ∙ lines_both seen (whole_lines bytes) ((unfinished bytes ++ part) ∷ more) ∙ ap (λ (r : Result LogSeen LogError). r >>= (λ x. lines_judged x ((unfinished bytes ++ part) ∷ more))) h
+        ∙ ap (λ (r : Result LogSeen LogError). r >>= (λ x. lines_judged x more)) (long_line middle (unfinished bytes ++ part) (long_more (unfinished bytes) part long.long) ∙ long.fault))
 
-any_fault : (next : Seen → List ℕ → Result Seen LogError) → Refuses next → (seen : Seen) (bytes rest : List ℕ) (error : LogError) → bytes_judged seen bytes ≡ Err error
-    → (lines_judged seen (lines_of (bytes ++ rest)) >>= (λ x. next x (rest_of (bytes ++ rest)))) ≡ Err error
+any_fault : (next : LogSeen → List ℕ → Result LogSeen LogError) → Refuses next → (seen : LogSeen) (bytes rest : List ℕ) (error : LogError) → bytes_judged seen bytes ≡ Err error
+    → (lines_judged seen (whole_lines (bytes ++ rest)) >>= (λ x. next x (unfinished (bytes ++ rest)))) ≡ Err error
 unfolding bytes_judged
-any_fault next refuses seen bytes rest error h = by_lines (lines_judged seen (lines_of bytes)) refl h
+any_fault next refuses seen bytes rest error h = by_lines (lines_judged seen (whole_lines bytes)) refl h
   where
-    by_lines : (r : Result Seen LogError) → lines_judged seen (lines_of bytes) ≡ r → (r >>= (λ x. rest_judged x (rest_of bytes))) ≡ Err error
-        → (lines_judged seen (lines_of (bytes ++ rest)) >>= (λ x. next x (rest_of (bytes ++ rest)))) ≡ Err error
-    by_lines (Ok middle) e h = long_fault next refuses seen middle bytes rest error e (rest_fault middle (rest_of bytes) error h)
-    by_lines (Err other) e h = ap (λ (r : Result Seen LogError). r >>= (λ x. next x (rest_of (bytes ++ rest)))) (lines_fault seen bytes rest other e) ∙ h
+    by_lines : (r : Result LogSeen LogError) → lines_judged seen (whole_lines bytes) ≡ r → (r >>= (λ x. rest_judged x (unfinished bytes))) ≡ Err error
+        → (lines_judged seen (whole_lines (bytes ++ rest)) >>= (λ x. next x (unfinished (bytes ++ rest)))) ≡ Err error
+    by_lines (Ok middle) e h = long_fault next refuses seen middle bytes rest error e (rest_fault middle (unfinished bytes) error h)
+    by_lines (Err other) e h = ap (λ (r : Result LogSeen LogError). r >>= (λ x. next x (unfinished (bytes ++ rest)))) (lines_fault seen bytes rest other e) ∙ h
 
 -- a fault of bytes stays where more bytes follow
-pub bytes_fault : (seen : Seen) (bytes rest : List ℕ) (error : LogError) → bytes_judged seen bytes ≡ Err error → bytes_judged seen (bytes ++ rest) ≡ Err error
+pub bytes_fault : (seen : LogSeen) (bytes rest : List ℕ) (error : LogError) → bytes_judged seen bytes ≡ Err error → bytes_judged seen (bytes ++ rest) ≡ Err error
 unfolding bytes_judged
 bytes_fault seen bytes rest error h = any_fault rest_judged long_rest seen bytes rest error h
 
 -- a fault of bytes is that of a file that begins with them
-pub file_fault : (seen : Seen) (bytes rest : List ℕ) (error : LogError) → bytes_judged seen bytes ≡ Err error → file_judged seen (bytes ++ rest) ≡ Err error
+pub file_fault : (seen : LogSeen) (bytes rest : List ℕ) (error : LogError) → bytes_judged seen bytes ≡ Err error → file_judged seen (bytes ++ rest) ≡ Err error
 unfolding file_judged
-file_fault seen bytes rest error h = ap (λ (r : Result Seen LogError). r >>= end_judged) (any_fault last_judged long_last seen bytes rest error h)
+file_fault seen bytes rest error h = ap (λ (r : Result LogSeen LogError). r >>= end_judged) (any_fault last_judged long_last seen bytes rest error h)
 
 -- a fault of an input stays where more bytes follow
 pub input_fault : (files : List (List ℕ)) (bytes rest : List ℕ) (error : LogError) → input_judged files bytes ≡ Err error → input_judged files (bytes ++ rest) ≡ Err error
 unfolding input_judged
 input_fault files bytes rest error h = by_files (files_judged nothing_seen files) h
   where
-    by_files : (r : Result Seen LogError) → (r >>= (λ seen. bytes_judged seen bytes)) ≡ Err error → (r >>= (λ seen. bytes_judged seen (bytes ++ rest))) ≡ Err error
+    by_files : (r : Result LogSeen LogError) → (r >>= (λ seen. bytes_judged seen bytes)) ≡ Err error → (r >>= (λ seen. bytes_judged seen (bytes ++ rest))) ≡ Err error
     by_files (Ok seen) h = bytes_fault seen bytes rest error h
     by_files (Err other) h = h
 
 -- files are judged one after another
-files_both : (seen : Seen) (files more : List (List ℕ)) → files_judged seen (files ++ more) ≡ (files_judged seen files >>= (λ next. files_judged next more))
+files_both : (seen : LogSeen) (files more : List (List ℕ)) → files_judged seen (files ++ more) ≡ (files_judged seen files >>= (λ next. files_judged next more))
 files_both seen [] more = refl
 files_both seen (file ∷ files) more = by_result (λ next. files_both next files more) (file_judged seen file)
   where
-    by_result : ((next : Seen) → files_judged next (files ++ more) ≡ (files_judged next files >>= (λ x. files_judged x more))) → (r : Result Seen LogError)
+    by_result : ((next : LogSeen) → files_judged next (files ++ more) ≡ (files_judged next files >>= (λ x. files_judged x more))) → (r : Result LogSeen LogError)
         → (r >>= (λ next. files_judged next (files ++ more))) ≡ ((r >>= (λ next. files_judged next files)) >>= (λ x. files_judged x more))
     by_result law (Ok x) = law x
     by_result law (Err e) = refl
@@ -170,20 +170,20 @@ pub files_fault : (files more : List (List ℕ)) (bytes rest : List ℕ) (error 
 unfolding input_judged
 files_fault files more bytes rest error h = files_both nothing_seen files ((bytes ++ rest) ∷ more) ∙ by_files (files_judged nothing_seen files) h
   where
-    by_files : (r : Result Seen LogError) → (r >>= (λ seen. bytes_judged seen bytes)) ≡ Err error → (r >>= (λ seen. files_judged seen ((bytes ++ rest) ∷ more))) ≡ Err error
-    by_files (Ok seen) h = ap (λ (r : Result Seen LogError). r >>= (λ next. files_judged next more)) (file_fault seen bytes rest error h)
+    by_files : (r : Result LogSeen LogError) → (r >>= (λ seen. bytes_judged seen bytes)) ≡ Err error → (r >>= (λ seen. files_judged seen ((bytes ++ rest) ∷ more))) ≡ Err error
+    by_files (Ok seen) h = ap (λ (r : Result LogSeen LogError). r >>= (λ next. files_judged next more)) (file_fault seen bytes rest error h)
     by_files (Err other) h = h
 
 -- a fault of whole logs stays where more logs follow
 pub file_more : (files more : List (List ℕ)) (bytes : List ℕ) (error : LogError) → files_judged nothing_seen (files ++ bytes ∷ []) ≡ Err error → files_judged nothing_seen (files ++ bytes ∷ more) ≡ Err error
 file_more files more bytes error h =
-    ap (files_judged nothing_seen) (sym (append_assoc files (bytes ∷ []) more)) ∙ files_both nothing_seen (files ++ bytes ∷ []) more ∙ ap (λ (r : Result Seen LogError). r >>= (λ next. files_judged next more)) h
+    ap (files_judged nothing_seen) (sym (append_assoc files (bytes ∷ []) more)) ∙ files_both nothing_seen (files ++ bytes ∷ []) more ∙ ap (λ (r : Result LogSeen LogError). r >>= (λ next. files_judged next more)) h
 
 -- bytes of a file that is still to come have no fault
 pub nothing_more : (files : List (List ℕ)) → input_judged files [] ≡ files_judged nothing_seen files
-unfolding input_judged bytes_judged lines_of rest_of rest_judged
+unfolding input_judged bytes_judged whole_lines unfinished rest_judged
 nothing_more files = by_files (files_judged nothing_seen files)
   where
-    by_files : (r : Result Seen LogError) → (r >>= (λ seen. bytes_judged seen [])) ≡ r
+    by_files : (r : Result LogSeen LogError) → (r >>= (λ seen. bytes_judged seen [])) ≡ r
     by_files (Ok seen) = refl
     by_files (Err error) = refl

@@ -25,9 +25,9 @@ use Rattle.log_sum.specs.declared.kinds.Mark.TheVariants.{Starred, Plain}
 use Rattle.log_sum.specs.declared.kinds.Kind.{Kind}
 use Rattle.log_sum.specs.declared.kinds.Verdict.{Verdict}
 use Rattle.log_sum.specs.Counts.{last_count}
-use Rattle.log_sum.specs.Facts.{Row, Fact, a_kind, a_row, a_condition, a_hash, kinds, rows, conditions, hashes, first_of, same_kind, same_mark, marked_sum, state_sum, states_of, mark_in, verdicts, says_validated, is_other, fault_if, fault_of}
-use Rattle.log_sum.specs.Summed.{Summed, StateSummed, or_else, state_by, summed}
-use Rattle.log_sum.specs.Steps.{or_this, marked, with_marked, known_state, count_known, with_row, fact_to}
+use Rattle.log_sum.specs.Facts.{Row, Fact, a_kind, a_row, a_condition, a_hash, kinds, rows, conditions, hashes, first_of, same_kind, same_state_mark, marked_sum, state_sum, states_of, mark_in, verdicts, says_validated, is_other, fault_if, fact_fault}
+use Rattle.log_sum.specs.Summed.{Summed, StateSummed, some_or, state_by, summed}
+use Rattle.log_sum.specs.SummingSteps.{or_this, marked, with_marked, known_state, count_known, with_row, fact_to}
 use Rattle.log_sum.specs.Feeding.{Marked}
 use Rattle.text_laws.proofs.OrderLaws.{is_text, compare, Above, Ascends, above_all, fold_ascends, not_equal, eq_swap, any_fold}
 
@@ -80,11 +80,11 @@ all_more (true ∷ bs) b = all_more bs b
 all_more (false ∷ bs) b = refl
 
 -- sums with a row more
-marked_more : (mark : Mark) (rs : List Row) (row : Row) → marked_sum mark (rs ++ row ∷ []) ≡ marked_sum mark rs + cond (same_mark row.mark mark) row.count 0
+marked_more : (mark : Mark) (rs : List Row) (row : Row) → marked_sum mark (rs ++ row ∷ []) ≡ marked_sum mark rs + cond (same_state_mark row.mark mark) row.count 0
 unfolding marked_sum
 marked_more mark rs row =
-    ap (sum_by (λ r. r.count)) (filter-append (λ r. same_mark r.mark mark) rs (row ∷ [])) ∙ sum_by-append (λ r. r.count) (filter (λ r. same_mark r.mark mark) rs) (filter (λ r. same_mark r.mark mark) (row ∷ []))
-    ∙ ap (λ n. sum_by (λ r. r.count) (filter (λ r. same_mark r.mark mark) rs) + n) (by_test (same_mark row.mark mark) (λ e. rw e (omega arith)) (λ e. rw e refl))
+    ap (sum_by (λ r. r.count)) (filter-append (λ r. same_state_mark r.mark mark) rs (row ∷ [])) ∙ sum_by-append (λ r. r.count) (filter (λ r. same_state_mark r.mark mark) rs) (filter (λ r. same_state_mark r.mark mark) (row ∷ []))
+    ∙ ap (λ n. sum_by (λ r. r.count) (filter (λ r. same_state_mark r.mark mark) rs) + n) (by_test (same_state_mark row.mark mark) (λ e. rw e (omega arith)) (λ e. rw e refl))
 
 state_more : (state : List ℕ) (rs : List Row) (row : Row) → state_sum state (rs ++ row ∷ []) ≡ state_sum state rs + cond (bytes_eq row.state state) row.count 0
 unfolding state_sum
@@ -155,11 +155,11 @@ state_known k rs = any_fold k (map (λ r. r.state) rs) [] ∙ has_state k rs
 
 known_is : (k : List ℕ) (rs : List Row) → known_state (map (state_by rs) (states_of rs)) k ≡ option_map (λ m. (m, state_sum k rs)) (mark_in k rs)
 known_is k rs =
-    lookup_paired k (λ x. (or_else Plain (mark_in x rs), state_sum x rs)) (states_of rs)
-    ∙ ap (λ b. cond {A = Option (Mark × ℕ)} b (Some (or_else Plain (mark_in k rs), state_sum k rs)) None) (state_known k rs)
+    lookup_paired k (λ x. (some_or Plain (mark_in x rs), state_sum x rs)) (states_of rs)
+    ∙ ap (λ b. cond {A = Option (Mark × ℕ)} b (Some (some_or Plain (mark_in k rs), state_sum k rs)) None) (state_known k rs)
     ∙ by_mark (mark_in k rs)
   where
-    by_mark : (o : Option Mark) → cond {A = Option (Mark × ℕ)} (is_some o) (Some (or_else Plain o, state_sum k rs)) None ≡ option_map (λ m. (m, state_sum k rs)) o
+    by_mark : (o : Option Mark) → cond {A = Option (Mark × ℕ)} (is_some o) (Some (some_or Plain o, state_sum k rs)) None ≡ option_map (λ m. (m, state_sum k rs)) o
     by_mark None = refl
     by_mark (Some m) = refl
 
@@ -168,43 +168,43 @@ pub none_marked : Marked []
 none_marked = record { same = λ k m h. refl }
 
 -- marks that are tested to be the same are the same
-pub same_mark_is : (a b : Mark) → same_mark a b ≡ true → a ≡ b
+pub same_mark_is : (a b : Mark) → same_state_mark a b ≡ true → a ≡ b
 same_mark_is Starred Starred h = refl
 same_mark_is Starred Plain h = cc
 same_mark_is Plain Starred h = cc
 same_mark_is Plain Plain h = refl
 
-mark_same : (m : Mark) → same_mark m m ≡ true
+mark_same : (m : Mark) → same_state_mark m m ≡ true
 mark_same Starred = refl
 mark_same Plain = refl
 
-no_state : (k : List ℕ) (m : Mark) (rs : List Row) → mark_in k rs ≡ None → list_all (λ r. not (bytes_eq r.state k) || same_mark r.mark m) rs ≡ true
+no_state : (k : List ℕ) (m : Mark) (rs : List Row) → mark_in k rs ≡ None → list_all (λ r. not (bytes_eq r.state k) || same_state_mark r.mark m) rs ≡ true
 unfolding mark_in
 no_state k m [] e = refl
 no_state k m (r ∷ rs) e =
     by_test (bytes_eq r.state k) (λ f. let g = rw f at e in absurd (cc)) (λ f. rw f (no_state k m rs (rw f at e)))
 
 -- rows have one mark for each state with a row more whose mark is that of its state
-pub marked_put : (rs : List Row) (row : Row) → is_other same_mark (mark_in row.state rs) row.mark ≡ false → Marked rs → Marked (rs ++ row ∷ [])
+pub marked_put : (rs : List Row) (row : Row) → is_other same_state_mark (mark_in row.state rs) row.mark ≡ false → Marked rs → Marked (rs ++ row ∷ [])
 marked_put rs row agrees h = record {
   same = λ k m e.
-      list_all-append (λ r. not (bytes_eq r.state k) || same_mark r.mark m) rs (row ∷ [])
+      list_all-append (λ r. not (bytes_eq r.state k) || same_state_mark r.mark m) rs (row ∷ [])
       ∙ by_test (bytes_eq row.state k)
       (λ f. let e2 : or_this (mark_in k rs) row.mark ≡ Some m = ap (λ b. cond b (or_this (mark_in k rs) row.mark) (mark_in k rs)) (sym f) ∙ sym (mark_more k rs row) ∙ e in
       let k_is : row.state ≡ k = (bytes_eq-Decides row.state k).0 f in
-      let agrees2 : is_other same_mark (mark_in k rs) row.mark ≡ false = ap (λ s. is_other same_mark (mark_in s rs) row.mark) (sym k_is) ∙ agrees in
+      let agrees2 : is_other same_state_mark (mark_in k rs) row.mark ≡ false = ap (λ s. is_other same_state_mark (mark_in s rs) row.mark) (sym k_is) ∙ agrees in
       rw f (by_known k m (mark_in k rs) refl agrees2 e2))
       (λ f. let e2 : mark_in k rs ≡ Some m = ap (λ b. cond b (or_this (mark_in k rs) row.mark) (mark_in k rs)) (sym f) ∙ sym (mark_more k rs row) ∙ e in
       rw (f, h.same k m e2) refl);
 }
   where
-    by_known : (k : List ℕ) (m : Mark) (o : Option Mark) → mark_in k rs ≡ o → is_other same_mark o row.mark ≡ false → or_this o row.mark ≡ Some m
-        → (list_all (λ r. not (bytes_eq r.state k) || same_mark r.mark m) rs && ((not true || same_mark row.mark m) && true)) ≡ true
+    by_known : (k : List ℕ) (m : Mark) (o : Option Mark) → mark_in k rs ≡ o → is_other same_state_mark o row.mark ≡ false → or_this o row.mark ≡ Some m
+        → (list_all (λ r. not (bytes_eq r.state k) || same_state_mark r.mark m) rs && ((not true || same_state_mark row.mark m) && true)) ≡ true
     by_known k m None e f g =
         let n : row.mark ≡ m = cc in rw (no_state k m rs e, n, mark_same m) refl
     by_known k m (Some l) e f g =
         let n : l ≡ m = cc in
-        let w : same_mark l row.mark ≡ true = not-false (same_mark l row.mark) f in
+        let w : same_state_mark l row.mark ≡ true = not-false (same_state_mark l row.mark) f in
         let o : row.mark ≡ m = sym (same_mark_is l row.mark w) ∙ n in
         rw (h.same k m (e ∙ ap Some n), o, mark_same m) refl
 
@@ -218,13 +218,13 @@ parts_below a b c d true false h k = cc
 parts_below a b c d false true h k = omega arith
 parts_below a b c d false false h k = omega arith
 
-state_below : (k : List ℕ) (m : Mark) (rs : List Row) → list_all (λ r. not (bytes_eq r.state k) || same_mark r.mark m) rs ≡ true → state_sum k rs ≤ marked_sum m rs
+state_below : (k : List ℕ) (m : Mark) (rs : List Row) → list_all (λ r. not (bytes_eq r.state k) || same_state_mark r.mark m) rs ≡ true → state_sum k rs ≤ marked_sum m rs
 unfolding state_sum marked_sum
 state_below k m [] h = omega arith
 state_below k m (r ∷ rs) h =
-    let both = and_parts (not (bytes_eq r.state k) || same_mark r.mark m) (list_all (λ x. not (bytes_eq x.state k) || same_mark x.mark m) rs) h in
-    rw (sum_cons (λ x. bytes_eq x.state k) r rs, sum_cons (λ x. same_mark x.mark m) r rs)
-    (parts_below r.count 0 (sum_by (λ x. x.count) (filter (λ x. bytes_eq x.state k) rs)) (sum_by (λ x. x.count) (filter (λ x. same_mark x.mark m) rs)) (bytes_eq r.state k) (same_mark r.mark m) both.0 (state_below k m rs both.1))
+    let both = and_parts (not (bytes_eq r.state k) || same_state_mark r.mark m) (list_all (λ x. not (bytes_eq x.state k) || same_state_mark x.mark m) rs) h in
+    rw (sum_cons (λ x. bytes_eq x.state k) r rs, sum_cons (λ x. same_state_mark x.mark m) r rs)
+    (parts_below r.count 0 (sum_by (λ x. x.count) (filter (λ x. bytes_eq x.state k) rs)) (sum_by (λ x. x.count) (filter (λ x. same_state_mark x.mark m) rs)) (bytes_eq r.state k) (same_state_mark r.mark m) both.0 (state_below k m rs both.1))
 
 state_none : (k : List ℕ) (rs : List Row) → mark_in k rs ≡ None → state_sum k rs ≡ 0
 unfolding mark_in state_sum
@@ -279,21 +279,21 @@ bytes_same t = (bytes_eq-Decides t t).1 refl
 
 -- the value of a state with a row more
 value_at : List Row → List ℕ → Mark × ℕ
-value_at rs x = (or_else Plain (mark_in x rs), state_sum x rs)
+value_at rs x = (some_or Plain (mark_in x rs), state_sum x rs)
 
 abbrev row_at : List ℕ → Mark → ℕ → Row
 row_at state mark count = record { state = state; mark = mark; count = count }
 
-others_stay : (rs : List Row) (row : Row) → SameBut row.state (λ x. (or_else Plain (mark_in x rs), state_sum x rs)) (λ x. (or_else Plain (mark_in x (rs ++ row ∷ [])), state_sum x (rs ++ row ∷ [])))
-others_stay rs row x h = rw (mark_more x rs row, state_more x rs row, h) (ap (λ n. (or_else Plain (mark_in x rs), n)) (sym (add-zero (state_sum x rs))))
+others_stay : (rs : List Row) (row : Row) → SameBut row.state (λ x. (some_or Plain (mark_in x rs), state_sum x rs)) (λ x. (some_or Plain (mark_in x (rs ++ row ∷ [])), state_sum x (rs ++ row ∷ [])))
+others_stay rs row x h = rw (mark_more x rs row, state_more x rs row, h) (ap (λ n. (some_or Plain (mark_in x rs), n)) (sym (add-zero (state_sum x rs))))
 
 min_small : (a b : ℕ) → a ≤ b → min a b ≡ a
 min_small a b h = omega arith
 
-count_fits : (rs : List Row) (row : Row) (o : Option Mark) → mark_in row.state rs ≡ o → is_other same_mark o row.mark ≡ false → Marked rs → marked_sum row.mark rs + row.count ≤ last_count → state_sum row.state rs + row.count ≤ last_count
+count_fits : (rs : List Row) (row : Row) (o : Option Mark) → mark_in row.state rs ≡ o → is_other same_state_mark o row.mark ≡ false → Marked rs → marked_sum row.mark rs + row.count ≤ last_count → state_sum row.state rs + row.count ≤ last_count
 count_fits rs row None e agrees h fits = let z = state_none row.state rs e in omega arith
 count_fits rs row (Some m) e agrees h fits =
-    let n : m ≡ row.mark = same_mark_is m row.mark (not-false (same_mark m row.mark) agrees) in
+    let n : m ≡ row.mark = same_mark_is m row.mark (not-false (same_state_mark m row.mark) agrees) in
     let below : state_sum row.state rs ≤ marked_sum row.mark rs = state_below row.state row.mark rs (h.same row.state row.mark (e ∙ ap Some n)) in
     omega arith
 
@@ -301,13 +301,13 @@ known_count : (rs : List Row) (k : List ℕ) (o : Option Mark) → mark_in k rs 
 known_count rs k None e = sym (state_none k rs e)
 known_count rs k (Some m) e = refl
 
-mark_stays : (o : Option Mark) (mark : Mark) → is_other same_mark o mark ≡ false → or_else Plain (or_this o mark) ≡ mark
+mark_stays : (o : Option Mark) (mark : Mark) → is_other same_state_mark o mark ≡ false → some_or Plain (or_this o mark) ≡ mark
 mark_stays None mark h = refl
-mark_stays (Some m) mark h = same_mark_is m mark (not-false (same_mark m mark) h)
+mark_stays (Some m) mark h = same_mark_is m mark (not-false (same_state_mark m mark) h)
 
-value_put : (rs : List Row) (row : Row) → is_other same_mark (mark_in row.state rs) row.mark ≡ false → state_sum row.state rs + row.count ≤ last_count
+value_put : (rs : List Row) (row : Row) → is_other same_state_mark (mark_in row.state rs) row.mark ≡ false → state_sum row.state rs + row.count ≤ last_count
     → ◌≡◌ {A = Mark × ℕ} (row.mark, min (count_known (known_state (map (state_by rs) (states_of rs)) row.state) + row.count) last_count)
-    (or_else Plain (mark_in row.state (rs ++ row ∷ [])), state_sum row.state (rs ++ row ∷ []))
+    (some_or Plain (mark_in row.state (rs ++ row ∷ [])), state_sum row.state (rs ++ row ∷ []))
 value_put rs row agrees fits =
     rw (
       mark_more row.state rs row,
@@ -319,17 +319,17 @@ value_put rs row agrees fits =
       min_small (state_sum row.state rs + row.count) last_count fits,
     ) refl
 
-states_put : (rs : List Row) (row : Row) → is_other same_mark (mark_in row.state rs) row.mark ≡ false → state_sum row.state rs + row.count ≤ last_count
+states_put : (rs : List Row) (row : Row) → is_other same_state_mark (mark_in row.state rs) row.mark ≡ false → state_sum row.state rs + row.count ≤ last_count
     → insert_entry (slice_cmp nat_cmp) (map (state_by rs) (states_of rs)) row.state (row.mark, min (count_known (known_state (map (state_by rs) (states_of rs)) row.state) + row.count) last_count)
     ≡ map (state_by (rs ++ row ∷ [])) (states_of (rs ++ row ∷ []))
 states_put rs row agrees fits =
     ap (insert_entry (slice_cmp nat_cmp) (map (state_by rs) (states_of rs)) row.state) (value_put rs row agrees fits)
-    ∙ paired_insert row.state (λ x. (or_else Plain (mark_in x rs), state_sum x rs)) (λ x. (or_else Plain (mark_in x (rs ++ row ∷ [])), state_sum x (rs ++ row ∷ []))) (states_of rs) (others_stay rs row) (states_ascend rs)
+    ∙ paired_insert row.state (λ x. (some_or Plain (mark_in x rs), state_sum x rs)) (λ x. (some_or Plain (mark_in x (rs ++ row ∷ [])), state_sum x (rs ++ row ∷ []))) (states_of rs) (others_stay rs row) (states_ascend rs)
     ∙ ap (map (state_by (rs ++ row ∷ []))) (sym (states_more rs row))
 
 row_summed : (facts : List Fact) (row : Row) → summed (facts ++ a_row row ∷ []) ≡ record (summed facts) {
-  starred = marked_sum Starred (rows facts) + cond (same_mark row.mark Starred) row.count 0;
-  plain = marked_sum Plain (rows facts) + cond (same_mark row.mark Plain) row.count 0;
+  starred = marked_sum Starred (rows facts) + cond (same_state_mark row.mark Starred) row.count 0;
+  plain = marked_sum Plain (rows facts) + cond (same_state_mark row.mark Plain) row.count 0;
   states = map (state_by (rows facts ++ row ∷ [])) (states_of (rows facts ++ row ∷ []));
 }
 unfolding summed
@@ -352,7 +352,7 @@ unfolding summed
 marks_put facts row Starred states m e = rw (row_summed facts row, e, m, add-zero (marked_sum Plain (rows facts))) refl
 marks_put facts row Plain states m e = rw (row_summed facts row, e, m, add-zero (marked_sum Starred (rows facts))) refl
 
-row_to : (facts : List Fact) (row : Row) → is_other same_mark (mark_in row.state (rows facts)) row.mark ≡ false → state_sum row.state (rows facts) + row.count ≤ last_count → with_row (summed facts) row ≡ summed (facts ++ a_row row ∷ [])
+row_to : (facts : List Fact) (row : Row) → is_other same_state_mark (mark_in row.state (rows facts)) row.mark ≡ false → state_sum row.state (rows facts) + row.count ≤ last_count → with_row (summed facts) row ≡ summed (facts ++ a_row row ∷ [])
 unfolding summed
 row_to facts row agrees fits = marks_put facts row row.mark _ refl (states_put (rows facts) row agrees fits)
 
@@ -375,14 +375,14 @@ known_mark facts state = ap (option_map (λ (known : Mark × ℕ). known.0)) (kn
     by_mark (Some m) = refl
 
 -- what is kept of a test with a fact more is what its facts with this one more give, or its fault
-pub fact_put_is : (facts : List Fact) (fact : Fact) → Marked (rows facts) → fact_to (summed facts) fact ≡ by_fault (fault_of facts fact) (summed (facts ++ fact ∷ []))
-unfolding fact_to fault_of summed
+pub fact_put_is : (facts : List Fact) (fact : Fact) → Marked (rows facts) → fact_to (summed facts) fact ≡ by_fault (fact_fault facts fact) (summed (facts ++ fact ∷ []))
+unfolding fact_to fact_fault summed
 fact_put_is facts (a_kind kind) h = sym (fault_cond _ _ _ ∙ ap (λ t. cond (is_other same_kind (first_of (kinds facts)) kind) (Err KindDiffers) (Ok t)) (kind_to facts kind))
 fact_put_is facts (a_condition text verdict) h = sym (fault_cond _ _ _ ∙ ap (λ t. cond (is_other bytes_eq (option_map (λ c. c.0) (first_of (conditions facts))) text) (Err ConditionDiffers) (Ok t)) (condition_to facts text verdict))
 fact_put_is facts (a_hash text) h = sym (fault_cond _ _ _ ∙ ap (λ t. cond (is_other bytes_eq (first_of (hashes facts)) text) (Err HashDiffers) (Ok t)) (hash_to facts text))
 fact_put_is facts (a_row row) h =
     rw (known_mark facts row.state, marked_is facts row.mark)
-    (by_test (is_other same_mark (mark_in row.state (rows facts)) row.mark)
+    (by_test (is_other same_state_mark (mark_in row.state (rows facts)) row.mark)
     (λ e. rw e refl)
     (λ e. rw e (by_test (nat_lt last_count (marked_sum row.mark (rows facts) + row.count))
     (λ f. rw f refl)

@@ -20,12 +20,12 @@ use Rattle.log_sum.specs.declared.table.Table.{Table}
 use Rattle.log_sum.specs.declared.test_sum.TestSum.{TestSum}
 use Rattle.log_sum.specs.declared.errors.Fault.{Fault}
 use Rattle.log_sum.specs.declared.errors.Fault.TheVariants.{Wrong, NoMemory}
-use Rattle.log_sum.specs.Classes.{named_view, test_view, tests_view, GivesOr}
-use Rattle.log_sum.specs.Facts.{Fact, Entry, Row, a_kind, a_row, facts_of, tests_of, fault_of, with_name, marked_sum, states_of}
+use Rattle.log_sum.specs.SumViews.{named_view, test_view, tests_view, GivesOr}
+use Rattle.log_sum.specs.Facts.{Fact, Entry, Row, a_kind, a_row, facts_of, tests_of, fact_fault, with_test_name, marked_sum, states_of}
 use Rattle.log_sum.specs.Summed.{StateSummed, Summed, summed}
-use Rattle.log_sum.specs.Steps.{fact_to, row_to, of_kind}
+use Rattle.log_sum.specs.SummingSteps.{fact_to, row_to, of_kind}
 use Rattle.log_sum.specs.StateEntries.{states_view}
-use Rattle.log_sum.specs.Representing.{table_of, name_at}
+use Rattle.log_sum.specs.Representing.{sum_table, test_name_at}
 use Rattle.log_sum.specs.Feeding.{AreMarked, WithFact, FactPut, RowPut}
 use Rattle.log_sum.proofs.SumLaws.{by_fault, fact_put_is}
 use Rattle.log_sum.proofs.ReadingLaws.{Differ, more, put_at, table_put, tests_differ}
@@ -50,7 +50,7 @@ names_of : (test : List ℕ → Summed) (xs : List (List ℕ)) → names (map (�
 names_of test [] = refl
 names_of test (x ∷ xs) = ap (λ t. x ∷ t) (names_of test xs)
 
-table_names : (entries : List Entry) → names (table_of entries) ≡ tests_of entries
+table_names : (entries : List Entry) → names (sum_table entries) ≡ tests_of entries
 table_names entries = names_of (λ name. summed (facts_of name entries)) (tests_of entries)
 
 -- a write at an index, as the definitions see it
@@ -59,7 +59,7 @@ write_shown [] i t = refl
 write_shown (e ∷ es) zero t = refl
 write_shown (e ∷ es) (suc i) t = ap (λ rest. named_view e ∷ rest) (write_shown es i t)
 
-name_within : (shown : List (List ℕ × Summed)) (i : ℕ) (name : List ℕ) → name_at shown i ≡ Some name → list_any (bytes_eq name) (names shown) ≡ true
+name_within : (shown : List (List ℕ × Summed)) (i : ℕ) (name : List ℕ) → test_name_at shown i ≡ Some name → list_any (bytes_eq name) (names shown) ≡ true
 name_within [] i name h = cc
 name_within (r ∷ shown) zero name h =
     let e : r.0 ≡ name = cc in
@@ -68,7 +68,7 @@ name_within (r ∷ shown) (suc i) name h =
     by_test (bytes_eq name r.0) (λ f. rw f refl) (λ f. rw f (name_within shown i name h))
 
 -- a write at the index of a name is a write at the name
-write_put : (shown : List (List ℕ × Summed)) (i : ℕ) (name : List ℕ) (t : Summed) → name_at shown i ≡ Some name → Differ (names shown) → set_value_at shown i t ≡ put_at name t shown
+write_put : (shown : List (List ℕ × Summed)) (i : ℕ) (name : List ℕ) (t : Summed) → test_name_at shown i ≡ Some name → Differ (names shown) → set_value_at shown i t ≡ put_at name t shown
 write_put [] i name t h d = cc
 write_put (r ∷ shown) zero name t h d =
     let e : r.0 ≡ name = cc in
@@ -81,7 +81,7 @@ write_put (r ∷ shown) (suc i) name t h (more _ _ n d) =
     (λ f. rw f (ap (λ rest. r ∷ rest) (write_put shown i name t h d)))
 
 -- the names stay
-write_names : (shown : List (List ℕ × Summed)) (i k : ℕ) (t : Summed) → name_at (set_value_at shown i t) k ≡ name_at shown k
+write_names : (shown : List (List ℕ × Summed)) (i k : ℕ) (t : Summed) → test_name_at (set_value_at shown i t) k ≡ test_name_at shown k
 write_names [] i k t = refl
 write_names (r ∷ shown) zero zero t = refl
 write_names (r ∷ shown) zero (suc k) t = refl
@@ -89,7 +89,7 @@ write_names (r ∷ shown) (suc i) zero t = refl
 write_names (r ∷ shown) (suc i) (suc k) t = write_names shown i k t
 
 -- what is at an index
-at_shown : (es : List (Vec ℕ Global × TestSum)) (i : ℕ) (name : List ℕ) (t : TestSum) → name_at (map named_view es) i ≡ Some name → slice_get (values_of es) i ≡ Some t
+at_shown : (es : List (Vec ℕ Global × TestSum)) (i : ℕ) (name : List ℕ) (t : TestSum) → test_name_at (map named_view es) i ≡ Some name → slice_get (values_of es) i ≡ Some t
     → slice_get (map named_view es) i ≡ Some (name, test_view t)
 at_shown [] i name t h g = cc
 at_shown (e ∷ es) zero name t h g =
@@ -99,13 +99,13 @@ at_shown (e ∷ es) zero name t h g =
 at_shown (e ∷ es) (suc i) name t h g = at_shown es i name t h g
 
 -- an index that has a name has a test
-pub none_there : (es : List (Vec ℕ Global × TestSum)) (i : ℕ) (name : List ℕ) → name_at (map named_view es) i ≡ Some name → slice_get (values_of es) i ≡ None → ⊥
+pub none_there : (es : List (Vec ℕ Global × TestSum)) (i : ℕ) (name : List ℕ) → test_name_at (map named_view es) i ≡ Some name → slice_get (values_of es) i ≡ None → ⊥
 none_there [] i name h g = cc
 none_there (e ∷ es) zero name h g = cc
 none_there (e ∷ es) (suc i) name h g = none_there es i name h g
 
 -- an index that has a name has an entry
-pub none_at : (es : List (Vec ℕ Global × TestSum)) (i : ℕ) (name : List ℕ) → name_at (map named_view es) i ≡ Some name → slice_get es i ≡ None → ⊥
+pub none_at : (es : List (Vec ℕ Global × TestSum)) (i : ℕ) (name : List ℕ) → test_name_at (map named_view es) i ≡ Some name → slice_get es i ≡ None → ⊥
 none_at [] i name h g = cc
 none_at (e ∷ es) zero name h g = cc
 none_at (e ∷ es) (suc i) name h g = none_at es i name h g
@@ -119,7 +119,7 @@ row_is test (x ∷ xs) (suc i) name t h = row_is test xs i name t h
 
 -- what a fact gives is what the facts with it give
 abbrev pub Both : List Entry → List ℕ → Fact → Summed → Type 0
-Both entries name fact t = (fault_of (facts_of name entries) fact ≡ None) × (t ≡ summed (facts_of name entries ++ fact ∷ []))
+Both entries name fact t = (fact_fault (facts_of name entries) fact ≡ None) × (t ≡ summed (facts_of name entries ++ fact ∷ []))
 
 fault_none : (o : Option LogKind) (s t : Summed) → by_fault o s ≡ Ok t → (o ≡ None) × (t ≡ s)
 fault_none None s t e = (refl, let f : s ≡ t = cc in sym f)
@@ -131,8 +131,8 @@ fault_some (Some k) s kind e = let f : k ≡ kind = cc in ap Some f
 
 -- a test of a table, by its index
 pub record IsTestAt (entries : List Entry) (es : List (Vec ℕ Global × TestSum)) (i : ℕ) (name : List ℕ) (t : TestSum) : Type 0 where
-  pub table : map named_view es ≡ table_of entries
-  pub name_is : name_at (map named_view es) i ≡ Some name
+  pub table : map named_view es ≡ sum_table entries
+  pub name_is : test_name_at (map named_view es) i ≡ Some name
   pub test_is : slice_get (values_of es) i ≡ Some t
   pub marked : AreMarked entries
 
@@ -141,7 +141,7 @@ test_at_summed entries es i name t s =
     row_is (λ x. summed (facts_of x entries)) (tests_of entries) i name (test_view t) (ap (λ rows. slice_get rows i) (sym s.table) ∙ at_shown es i name t s.name_is s.test_is)
 
 test_at_fact : (entries : List Entry) (es : List (Vec ℕ Global × TestSum)) (i : ℕ) (name : List ℕ) (t : TestSum) (fact : Fact) → IsTestAt entries es i name t
-    → fact_to (test_view t) fact ≡ by_fault (fault_of (facts_of name entries) fact) (summed (facts_of name entries ++ fact ∷ []))
+    → fact_to (test_view t) fact ≡ by_fault (fact_fault (facts_of name entries) fact) (summed (facts_of name entries ++ fact ∷ []))
 test_at_fact entries es i name t fact s =
     ap (λ x. fact_to x fact) (test_at_summed entries es i name t s) ∙ fact_put_is (facts_of name entries) fact (s.marked name)
 
@@ -150,7 +150,7 @@ test_at_differ entries es i name t s = subst Differ (sym (ap names s.table ∙ t
 
 -- a fact that has a fault
 pub fact_refused : (entries : List Entry) (es : List (Vec ℕ Global × TestSum)) (i : ℕ) (name : List ℕ) (t : TestSum) (fact : Fact) (kind : LogKind) → IsTestAt entries es i name t
-    → fact_to (test_view t) fact ≡ Err kind → fault_of (facts_of name entries) fact ≡ Some kind
+    → fact_to (test_view t) fact ≡ Err kind → fact_fault (facts_of name entries) fact ≡ Some kind
 fact_refused entries es i name t fact kind s e = fault_some _ _ kind (sym (test_at_fact entries es i name t fact s) ∙ e)
 
 -- a fact without a fault, written to the table
@@ -165,7 +165,7 @@ fact_written entries es i name t u fact new s e w r =
           ∙ ap (λ x. put_at name x (map named_view es)) both.1
           ∙ ap (put_at name (summed (facts_of name entries ++ fact ∷ []))) s.table
           ∙ table_put entries name fact (tests_differ entries);
-      running = ap (name_at (tests_view new)) r ∙ ap (λ rows. name_at rows i) shown ∙ write_names (map named_view es) i i (test_view u) ∙ s.name_is;
+      running = ap (test_name_at (tests_view new)) r ∙ ap (λ rows. test_name_at rows i) shown ∙ write_names (map named_view es) i i (test_view u) ∙ s.name_is;
     }
 
 -- an answer to a fact, written to the table
@@ -201,14 +201,14 @@ position_shown : (p : Vec ℕ Global → Bool) (name : List ℕ) → ((k : Vec �
     → position p (keys_of es) ≡ position (bytes_eq name) (names (map named_view es))
 position_shown p name same es = rw (keys_shown p name same es, keys_many es) refl
 
-name_there : (shown : List (List ℕ × Summed)) (i : ℕ) → i < length (names shown) → name_at shown i ≡ Some (get_or (names shown) i [])
+name_there : (shown : List (List ℕ × Summed)) (i : ℕ) → i < length (names shown) → test_name_at shown i ≡ Some (get_or (names shown) i [])
 name_there [] i h = absurd (omega arith)
 name_there (r ∷ shown) zero h = refl
 name_there (r ∷ shown) (suc i) h = name_there shown i (omega arith)
 
 -- the index at which a name is found has this name
 pub name_found : (p : Vec ℕ Global → Bool) (name : List ℕ) → ((k : Vec ℕ Global) → p k ≡ bytes_eq name k.items) → (es : List (Vec ℕ Global × TestSum)) (i : ℕ)
-    → position p (keys_of es) ≡ Some i → name_at (map named_view es) i ≡ Some name
+    → position p (keys_of es) ≡ Some i → test_name_at (map named_view es) i ≡ Some name
 name_found p name same es i h =
     let f = position-Some (bytes_eq name) (names (map named_view es)) i [] (sym (position_shown p name same es) ∙ h) in
     name_there (map named_view es) i f.0 ∙ ap Some (sym ((bytes_eq-Decides name (get_or (names (map named_view es)) i [])).0 f.1))
@@ -227,10 +227,10 @@ not_any p xs h =
     (λ f. f)
 
 -- a name that no entry has
-any_name : (name : List ℕ) (xs ys : List (List ℕ)) → list_any (bytes_eq name) (fold with_name xs ys) ≡ false → (list_any (bytes_eq name) xs ≡ false) × (list_any (bytes_eq name) ys ≡ false)
+any_name : (name : List ℕ) (xs ys : List (List ℕ)) → list_any (bytes_eq name) (fold with_test_name xs ys) ≡ false → (list_any (bytes_eq name) xs ≡ false) × (list_any (bytes_eq name) ys ≡ false)
 any_name name xs [] h = (h, refl)
 any_name name xs (y ∷ ys) h =
-    let further = any_name name (with_name xs y) ys h in
+    let further = any_name name (with_test_name xs y) ys h in
     by_test (list_any (bytes_eq y) xs)
     (λ f. let one : list_any (bytes_eq name) xs ≡ false = rw f at further.0 in (
       one,
@@ -263,7 +263,7 @@ insert_shown eq same [] key t = refl
 insert_shown eq same (e ∷ es) key t =
     rw (same key e.0) (by_test (bytes_eq key.items e.0.items) (λ f. rw f refl) (λ f. rw f (ap (λ rest. named_view e ∷ rest) (insert_shown eq same es key t))))
 
-put_there : (name : List ℕ) (t : Summed) (shown : List (List ℕ × Summed)) → name_at (put_at name t shown) (position_or_len (bytes_eq name) (names shown)) ≡ Some name
+put_there : (name : List ℕ) (t : Summed) (shown : List (List ℕ × Summed)) → test_name_at (put_at name t shown) (position_or_len (bytes_eq name) (names shown)) ≡ Some name
 put_there name t [] = refl
 put_there name t (r ∷ shown) =
     by_test (bytes_eq name r.0)
@@ -273,7 +273,7 @@ put_there name t (r ∷ shown) =
 
 -- a block begins a test that is new
 pub record IsNew (entries : List Entry) (es : List (Vec ℕ Global × TestSum)) (key : Vec ℕ Global) (name : List ℕ) (t : TestSum) (kind : Kind) : Type 0 where
-  pub table : map named_view es ≡ table_of entries
+  pub table : map named_view es ≡ sum_table entries
   pub key_is : key.items ≡ name
   pub test_is : test_view t ≡ of_kind kind
 
@@ -282,7 +282,7 @@ pub test_begun : (p : Vec ℕ Global → Bool) (eq : Vec ℕ Global → Vec ℕ 
     → ((k : Vec ℕ Global) → p k ≡ bytes_eq name k.items) → ((x y : Vec ℕ Global) → eq x y ≡ bytes_eq x.items y.items)
     → IsNew entries es key name t kind → position p (keys_of es) ≡ None
     → new.tests.entries ≡ insert_entry eq es key t → new.running ≡ position_or_len (eq key) (keys_of es) → WithFact entries name (a_kind kind) new
-unfolding fault_of summed marked_sum states_of
+unfolding fact_fault summed marked_sum states_of
 test_begun p eq entries es key name t kind new same_p same_eq s missing w r =
     let absent : list_any (bytes_eq name) (tests_of entries) ≡ false =
     ap (list_any (bytes_eq name)) (sym (ap names s.table ∙ table_names entries)) ∙ not_any (bytes_eq name) (names (map named_view es)) (sym (position_shown p name same_p es) ∙ missing) in
@@ -292,11 +292,11 @@ test_begun p eq entries es key name t kind new same_p same_eq s missing w r =
     let place : new.running ≡ position_or_len (bytes_eq name) (names (map named_view es)) =
     r ∙ keys_shown (eq key) key.items (same_eq key) es ∙ ap (λ n. position_or_len (bytes_eq n) (names (map named_view es))) s.key_is in
     record {
-      none = ap (λ facts. fault_of facts (a_kind kind)) none;
+      none = ap (λ facts. fact_fault facts (a_kind kind)) none;
       tests = shown ∙ ap (λ x. put_at name x (map named_view es)) (s.test_is ∙ ap (λ facts. summed (facts ++ a_kind kind ∷ [])) (sym none))
           ∙ ap (put_at name (summed (facts_of name entries ++ a_kind kind ∷ []))) s.table
           ∙ table_put entries name (a_kind kind) (tests_differ entries);
-      running = ap (name_at (tests_view new)) place ∙ ap (λ rows. name_at rows (position_or_len (bytes_eq name) (names (map named_view es)))) shown ∙ put_there name (test_view t) (map named_view es);
+      running = ap (test_name_at (tests_view new)) place ∙ ap (λ rows. test_name_at rows (position_or_len (bytes_eq name) (names (map named_view es)))) shown ∙ put_there name (test_view t) (map named_view es);
     }
 
 -- a test written in the place of one that the definitions see as the same

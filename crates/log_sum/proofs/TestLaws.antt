@@ -8,29 +8,29 @@ use Rattle.std.proofs.lemmas.Bool.Decides.{nat_tests}
 use Rattle.log_sum.specs.declared.errors.LogKind.TheVariants.{MarkDiffers, SumTooLarge}
 use Rattle.log_sum.specs.declared.kinds.Mark.{Mark}
 use Rattle.log_sum.specs.Counts.{last_count}
-use Rattle.log_sum.specs.Facts.{Row, a_row, is_other, same_mark}
+use Rattle.log_sum.specs.Facts.{Row, a_row, is_other, same_state_mark}
 use Rattle.log_sum.specs.Summed.{Summed, StateSummed}
-use Rattle.log_sum.specs.Steps.{known_state, count_known, marked, with_marked, with_row, fact_to}
+use Rattle.log_sum.specs.SummingSteps.{known_state, count_known, marked, with_marked, with_row, fact_to}
 use Rattle.log_sum.proofs.SumLaws.{same_mark_is}
 
 -- a row whose mark isn't that of its state has that fault
 pub row_other : (test : Summed) (row : Row) (known : Option (Mark × ℕ)) → known ≡ known_state test.states row.state
-    → is_other same_mark (option_map (λ (k : Mark × ℕ). k.0) known) row.mark ≡ true → fact_to test (a_row row) ≡ Err MarkDiffers
+    → is_other same_state_mark (option_map (λ (k : Mark × ℕ). k.0) known) row.mark ≡ true → fact_to test (a_row row) ≡ Err MarkDiffers
 unfolding fact_to
 row_other test row known e h = rw (sym e, h) refl
 
 -- a row whose count makes the sum of its mark too large has that fault
 pub row_large : (test : Summed) (row : Row) (known : Option (Mark × ℕ)) → known ≡ known_state test.states row.state
-    → is_other same_mark (option_map (λ (k : Mark × ℕ). k.0) known) row.mark ≡ false → nat_lt last_count (marked test row.mark + row.count) ≡ true → fact_to test (a_row row) ≡ Err SumTooLarge
+    → is_other same_state_mark (option_map (λ (k : Mark × ℕ). k.0) known) row.mark ≡ false → nat_lt last_count (marked test row.mark + row.count) ≡ true → fact_to test (a_row row) ≡ Err SumTooLarge
 unfolding fact_to
 row_large test row known e h f = rw (sym e, h, f) refl
 
 -- any other row is added to the test
 pub row_put : (test : Summed) (row : Row) (known : Option (Mark × ℕ)) → known ≡ known_state test.states row.state
-    → is_other same_mark (option_map (λ (k : Mark × ℕ). k.0) known) row.mark ≡ false → nat_lt last_count (marked test row.mark + row.count) ≡ false → fact_to test (a_row row) ≡ Ok (with_row test row)
+    → is_other same_state_mark (option_map (λ (k : Mark × ℕ). k.0) known) row.mark ≡ false → nat_lt last_count (marked test row.mark + row.count) ≡ false → fact_to test (a_row row) ≡ Ok (with_row test row)
 unfolding fact_to
 row_put test row known e h f =
-    let mark : is_other same_mark (option_map (λ (k : Mark × ℕ). k.0) (known_state test.states row.state)) row.mark ≡ false = ap (λ o. is_other same_mark (option_map (λ (k : Mark × ℕ). k.0) o) row.mark) (sym e) ∙ h in
+    let mark : is_other same_state_mark (option_map (λ (k : Mark × ℕ). k.0) (known_state test.states row.state)) row.mark ≡ false = ap (λ o. is_other same_state_mark (option_map (λ (k : Mark × ℕ). k.0) o) row.mark) (sym e) ∙ h in
     rw (mark, f) refl
 
 -- a count above what is left up to the greatest makes the sum too large
@@ -42,7 +42,7 @@ pub not_large : (sum count : ℕ) → sum ≤ last_count → count ≤ last_coun
 not_large sum count g h = grind (arith, nat_tests)
 
 -- what is kept of a state that is known
-pub known_kept : (known : Mark × ℕ) (row : Row) (count : ℕ) (there : Option (Mark × ℕ)) → Some known ≡ there → same_mark known.0 row.mark ≡ true → count ≡ min (known.1 + row.count) last_count
+pub known_kept : (known : Mark × ℕ) (row : Row) (count : ℕ) (there : Option (Mark × ℕ)) → Some known ≡ there → same_state_mark known.0 row.mark ≡ true → count ≡ min (known.1 + row.count) last_count
     → ◌≡◌ {A = Mark × ℕ} (known.0, count) (row.mark, min (count_known there + row.count) last_count)
 known_kept known row count there e h f =
     ap (λ (m : Mark). (m, count)) (same_mark_is known.0 row.mark h) ∙ ap (λ (n : ℕ). (row.mark, n)) (f ∙ ap (λ (t : Option (Mark × ℕ)). min (count_known t + row.count) last_count) e)

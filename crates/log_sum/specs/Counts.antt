@@ -5,7 +5,7 @@ use Rattle.std.specs.Char.{is_ascii_digit}
 use Rattle.std.specs.Str.Parse.{digits_value}
 use Rattle.log_sum.specs.declared.errors.LogKind.{LogKind}
 use Rattle.log_sum.specs.declared.errors.LogKind.TheVariants.{BadState, BadCount}
-use Rattle.text_laws.specs.Runs.{run_of, after_run}
+use Rattle.text_laws.specs.LeadingRuns.{leading_run, after_run}
 
 -- the greatest count, and the greatest sum of counts
 abbrev pub last_count : ℕ
@@ -19,4 +19,4 @@ count_of_digits (digit ∷ digits) rest =
 
 -- a count at the start of a text, and the text after it
 unfoldable pub count_read : List ℕ → Result (ℕ × List ℕ) LogKind
-count_read text = count_of_digits (run_of is_ascii_digit text) (after_run is_ascii_digit text)
+count_read text = count_of_digits (leading_run is_ascii_digit text) (after_run is_ascii_digit text)

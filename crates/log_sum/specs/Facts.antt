@@ -44,12 +44,12 @@ abbrev pub facts_of : List ℕ → List Entry → List Fact
 facts_of test entries = map (λ e. e.fact) (filter (λ e. bytes_eq e.test test) entries)
 
 -- names in the order in which each was first seen
-abbrev pub with_name : List (List ℕ) → List ℕ → List (List ℕ)
-with_name names name = cond (list_any (bytes_eq name) names) names (names ++ name ∷ [])
+abbrev pub with_test_name : List (List ℕ) → List ℕ → List (List ℕ)
+with_test_name names name = cond (list_any (bytes_eq name) names) names (names ++ name ∷ [])
 
 -- the tests of facts, in the order in which each was first seen
 abbrev pub tests_of : List Entry → List (List ℕ)
-tests_of entries = fold with_name [] (map (λ e. e.test) entries)
+tests_of entries = fold with_test_name [] (map (λ e. e.test) entries)
 
 -- the kinds among facts
 abbrev pub kinds : List Fact → List Kind
@@ -88,14 +88,14 @@ same_kind Required Required = true
 same_kind _ _ = false
 
 -- two marks are the same
-abbrev pub same_mark : Mark → Mark → Bool
-same_mark Starred Starred = true
-same_mark Plain Plain = true
-same_mark _ _ = false
+abbrev pub same_state_mark : Mark → Mark → Bool
+same_state_mark Starred Starred = true
+same_state_mark Plain Plain = true
+same_state_mark _ _ = false
 
 -- the sum of the counts of a mark
 unfoldable pub marked_sum : Mark → List Row → ℕ
-marked_sum mark rows = sum_by (λ row. row.count) (filter (λ row. same_mark row.mark mark) rows)
+marked_sum mark rows = sum_by (λ row. row.count) (filter (λ row. same_state_mark row.mark mark) rows)
 
 -- the sum of the counts of a state
 unfoldable pub state_sum : List ℕ → List Row → ℕ
@@ -129,11 +129,11 @@ is_other same (Some known) x = not (same known x)
 
 -- the fault of a fact after others of its test, if it has one: the test has another kind, condition or hash already, the
 -- state has the other mark already, or the sum of the counts of the mark is too large
-unfoldable pub fault_of : List Fact → Fact → Option LogKind
-fault_of facts (a_kind kind) = fault_if (is_other same_kind (first_of (kinds facts)) kind) KindDiffers
-fault_of facts (a_condition text verdict) =
+unfoldable pub fact_fault : List Fact → Fact → Option LogKind
+fact_fault facts (a_kind kind) = fault_if (is_other same_kind (first_of (kinds facts)) kind) KindDiffers
+fact_fault facts (a_condition text verdict) =
     fault_if (is_other bytes_eq (option_map (λ c. c.0) (first_of (conditions facts))) text) ConditionDiffers
-fault_of facts (a_hash text) = fault_if (is_other bytes_eq (first_of (hashes facts)) text) HashDiffers
-fault_of facts (a_row row) =
-    cond (is_other same_mark (mark_in row.state (rows facts)) row.mark) (Some MarkDiffers)
+fact_fault facts (a_hash text) = fault_if (is_other bytes_eq (first_of (hashes facts)) text) HashDiffers
+fact_fault facts (a_row row) =
+    cond (is_other same_state_mark (mark_in row.state (rows facts)) row.mark) (Some MarkDiffers)
     (fault_if (nat_lt last_count (marked_sum row.mark (rows facts) + row.count)) SumTooLarge)

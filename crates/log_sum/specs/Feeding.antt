@@ -11,15 +11,15 @@ use Rattle.log_sum.specs.declared.errors.SumError.{SumError}
 use Rattle.log_sum.specs.declared.errors.SumError.TheVariants as sums
 use Rattle.log_sum.specs.declared.kinds.Mark.{Mark}
 use Rattle.log_sum.specs.declared.table.Table.{Table}
-use Rattle.log_sum.specs.Classes.{tests_view}
-use Rattle.log_sum.specs.Facts.{Row, Fact, Entry, a_row, facts_of, rows, same_mark, mark_in, fault_of}
-use Rattle.log_sum.specs.Lines.{Said, line_said}
-use Rattle.log_sum.specs.Reading.{Seen, nothing_seen, fault_at, said_judged, input_judged, files_judged}
-use Rattle.log_sum.specs.Representing.{Progress, IsAt, Kept, Represents, table_of, name_at}
+use Rattle.log_sum.specs.SumViews.{tests_view}
+use Rattle.log_sum.specs.Facts.{Row, Fact, Entry, a_row, facts_of, rows, same_state_mark, mark_in, fact_fault}
+use Rattle.log_sum.specs.LogLines.{Said, log_line_said}
+use Rattle.log_sum.specs.LogReading.{LogSeen, nothing_seen, fault_at, said_judged, input_judged, files_judged}
+use Rattle.log_sum.specs.Representing.{SumProgress, IsAtSeen, Kept, Represents, sum_table, test_name_at}
 
 -- all rows of a state have the mark that the first one has
 pub record Marked (rs : List Row) : Type 0 where
-  pub same : (k : List ℕ) (m : Mark) → mark_in k rs ≡ Some m → list_all (λ r. not (bytes_eq r.state k) || same_mark r.mark m) rs ≡ true
+  pub same : (k : List ℕ) (m : Mark) → mark_in k rs ≡ Some m → list_all (λ r. not (bytes_eq r.state k) || same_state_mark r.mark m) rs ≡ true
 
 -- in each test all rows of a state have one mark
 abbrev pub AreMarked : List Entry → Type 0
@@ -27,12 +27,12 @@ AreMarked entries = (test : List ℕ) → Marked (rows (facts_of test entries))
 
 -- something is so of the entries that a table stands for, whatever they are, where the rows of each state have one mark
 abbrev pub ForEntries : Table → (List Entry → Type 0) → Type 0
-ForEntries table Holds = (entries : List Entry) → tests_view table ≡ table_of entries → AreMarked entries → Holds entries
+ForEntries table Holds = (entries : List Entry) → tests_view table ≡ sum_table entries → AreMarked entries → Holds entries
 
 -- the same of these entries and of the name of the test that is running
 abbrev pub ForRunningTest : Table → (List Entry → List ℕ → Type 0) → Type 0
 ForRunningTest table Holds =
-    (entries : List Entry) (name : List ℕ) → tests_view table ≡ table_of entries → name_at (tests_view table) table.running ≡ Some name → AreMarked entries
+    (entries : List Entry) (name : List ℕ) → tests_view table ≡ sum_table entries → test_name_at (tests_view table) table.running ≡ Some name → AreMarked entries
     → Holds entries name
 
 -- a fact as an entry of its test
@@ -41,44 +41,44 @@ entry_of test fact = record { test = test; fact = fact }
 
 -- a table after a fact of a test that follows other entries
 pub record WithFact (entries : List Entry) (test : List ℕ) (fact : Fact) (new : Table) : Type 0 where
-  pub none : fault_of (facts_of test entries) fact ≡ None
-  pub tests : tests_view new ≡ table_of (entries ++ entry_of test fact ∷ [])
-  pub running : name_at (tests_view new) new.running ≡ Some test
+  pub none : fact_fault (facts_of test entries) fact ≡ None
+  pub tests : tests_view new ≡ sum_table (entries ++ entry_of test fact ∷ [])
+  pub running : test_name_at (tests_view new) new.running ≡ Some test
 
 -- an answer to a fact of a test that follows other entries: the table has the fact too, and the test is running; or the
 -- fact has this fault
 abbrev pub FactPut : List Entry → List ℕ → Fact → Table → Result (Unit {0}) Fault → Type 0
 FactPut entries test fact new (Ok x) = WithFact entries test fact new
-FactPut entries test fact new (Err (Wrong kind)) = fault_of (facts_of test entries) fact ≡ Some kind
+FactPut entries test fact new (Err (Wrong kind)) = fact_fault (facts_of test entries) fact ≡ Some kind
 FactPut entries test fact new (Err NoMemory) = Unit {0}
 
 -- an answer that is this fault, where there is memory
-abbrev pub IsRefused : LogKind → Result (Unit {0}) Fault → Type 0
-IsRefused kind (Ok x) = ⊥
-IsRefused kind (Err (Wrong other)) = other ≡ kind
-IsRefused kind (Err NoMemory) = Unit {0}
+abbrev pub IsRefusedLine : LogKind → Result (Unit {0}) Fault → Type 0
+IsRefusedLine kind (Ok x) = ⊥
+IsRefusedLine kind (Err (Wrong other)) = other ≡ kind
+IsRefusedLine kind (Err NoMemory) = Unit {0}
 
 -- an answer to a row of a test, whose state may be wrong
 abbrev pub RowPut : List Entry → List ℕ → Result Row LogKind → Table → Result (Unit {0}) Fault → Type 0
 RowPut entries test (Ok row) new answer = FactPut entries test (a_row row) new answer
-RowPut entries test (Err kind) new answer = IsRefused kind answer
+RowPut entries test (Err kind) new answer = IsRefusedLine kind answer
 
 -- the reading is as far as what was seen, and each state has one mark
-pub record Follows (progress : Progress) (seen : Seen) : Type 0 where
-  pub reading : IsAt progress seen
+pub record FollowsSeen (progress : SumProgress) (seen : LogSeen) : Type 0 where
+  pub reading : IsAtSeen progress seen
   pub marked : AreMarked seen.entries
 
 -- a reading has no fault, and what is kept has followed it
-pub record ReadOn (new : Progress) (read : Result Seen LogError) : Type 0 where
-  pub seen : Seen
+pub record ReadOn (new : SumProgress) (read : Result LogSeen LogError) : Type 0 where
+  pub seen : LogSeen
   pub is : read ≡ Ok seen
-  pub follows : Follows new seen
+  pub follows : FollowsSeen new seen
 
 -- an answer compared with a reading: what is kept has followed it, or the fault is the reading's
-abbrev pub ReadTo : Progress → Result Seen LogError → Result (Unit {0}) Fault → Type 0
-ReadTo new read (Ok x) = ReadOn new read
-ReadTo new read (Err (Wrong kind)) = read ≡ fault_at new.line kind
-ReadTo new read (Err NoMemory) = Unit {0}
+abbrev pub ProgressReadTo : SumProgress → Result LogSeen LogError → Result (Unit {0}) Fault → Type 0
+ProgressReadTo new read (Ok x) = ReadOn new read
+ProgressReadTo new read (Err (Wrong kind)) = read ≡ fault_at new.line kind
+ProgressReadTo new read (Err NoMemory) = Unit {0}
 
 -- an answer to a piece of a log, compared with the reading
 abbrev pub PieceTo : Kept → List (List ℕ) → List ℕ → Result (Unit {0}) Fault → Type 0
@@ -93,14 +93,14 @@ EndTo new files bytes (Err (Wrong kind)) = files_judged nothing_seen (files ++ b
 EndTo new files bytes (Err NoMemory) = Unit {0}
 
 -- an answer to what a line says: it is that of every reading which is as far as this one, of every line that says so
-abbrev pub SaidTo : Progress → Progress → Result Said LogKind → Result (Unit {0}) Fault → Type 0
+abbrev pub SaidTo : SumProgress → SumProgress → Result Said LogKind → Result (Unit {0}) Fault → Type 0
 SaidTo old new said answer =
-    (seen : Seen) (text : List ℕ) → Follows old seen → line_said seen.place text ≡ said → ReadTo new (said_judged seen said) answer
+    (seen : LogSeen) (text : List ℕ) → FollowsSeen old seen → log_line_said seen.place text ≡ said → ProgressReadTo new (said_judged seen said) answer
 
 -- a fault as it is answered, at the running line
-abbrev pub refusal_of : ℕ → Fault → SumError
-refusal_of line (Wrong kind) = sums.Log (record { line = line; kind = kind })
-refusal_of line NoMemory = sums.NoMemory
+abbrev pub sum_refusal : ℕ → Fault → SumError
+sum_refusal line (Wrong kind) = sums.Log (record { line = line; kind = kind })
+sum_refusal line NoMemory = sums.NoMemory
 
 -- the bytes of a piece that come before its rest were fed
 pub record FedBefore (old new : Kept) (piece rest : List ℕ) : Type 0 where

@@ -7,14 +7,14 @@ use Rattle.log_sum.specs.declared.errors.SumError.TheVariants.{Log, NoMemory}
 use Rattle.log_sum.specs.declared.kinds.Place.{Place}
 use Rattle.log_sum.specs.declared.kinds.Place.TheVariants.{Outside}
 use Rattle.log_sum.specs.Facts.{Entry, facts_of, tests_of}
-use Rattle.log_sum.specs.Reading.{Seen, nothing_seen, ◌>>=◌, input_judged, files_judged, rest_of}
+use Rattle.log_sum.specs.LogReading.{LogSeen, nothing_seen, ◌>>=◌, input_judged, files_judged, unfinished}
 use Rattle.log_sum.specs.Summed.{Summed, summed}
-use Rattle.log_sum.specs.SumText.{test_text, sum_text}
+use Rattle.log_sum.specs.SumText.{summed_text, sum_text}
 use Rattle.std.specs.List.{flat_map}
 
 -- how far the reading is: the tests by name, in the order in which each was first seen; the place in the running log, the
 -- index of the test of the running block, and the number of the running line
-pub record Progress : Type 0 where
+pub record SumProgress : Type 0 where
   pub tests : List (List ℕ × Summed)
   pub place : Place
   pub test : ℕ
@@ -23,27 +23,27 @@ pub record Progress : Type 0 where
 -- how far the reading is, whether the states of each test are in byte order, the bytes of the running line so far, and the
 -- refusal of a summer that is spent
 pub record Kept : Type 0 where
-  pub progress : Progress
+  pub progress : SumProgress
   pub in_order : Bool
   pub held : List ℕ
   pub refusal : Option SumError
 
 -- the tests of facts, each with what it is by its facts
-abbrev pub table_of : List Entry → List (List ℕ × Summed)
-table_of entries = map (λ name. (name, summed (facts_of name entries))) (tests_of entries)
+abbrev pub sum_table : List Entry → List (List ℕ × Summed)
+sum_table entries = map (λ name. (name, summed (facts_of name entries))) (tests_of entries)
 
 -- the name at an index
-abbrev pub name_at : List (List ℕ × Summed) → ℕ → Option (List ℕ)
-name_at tests i = option_map (λ test. test.0) (slice_get tests i)
+abbrev pub test_name_at : List (List ℕ × Summed) → ℕ → Option (List ℕ)
+test_name_at tests i = option_map (λ test. test.0) (slice_get tests i)
 
 -- inside a block the test that is running has its name at this index
 abbrev pub IsRunning : Place → List (List ℕ × Summed) → ℕ → List ℕ → Type 0
 IsRunning Outside tests i name = Unit {0}
-IsRunning _ tests i name = name_at tests i ≡ Some name
+IsRunning _ tests i name = test_name_at tests i ≡ Some name
 
 -- the reading is as far as what was seen
-pub record IsAt (progress : Progress) (seen : Seen) : Type 0 where
-  pub tests : progress.tests ≡ table_of seen.entries
+pub record IsAtSeen (progress : SumProgress) (seen : LogSeen) : Type 0 where
+  pub tests : progress.tests ≡ sum_table seen.entries
   pub place : progress.place ≡ seen.place
   pub test : IsRunning seen.place progress.tests progress.test seen.test
   pub line : progress.line ≡ seen.line
@@ -51,10 +51,10 @@ pub record IsAt (progress : Progress) (seen : Seen) : Type 0 where
 -- what is kept represents whole files and the bytes so far of one more: the lines that were judged have no fault, what is
 -- kept is what they give, and between two files the states of each test are in byte order
 pub record Represents (kept : Kept) (files : List (List ℕ)) (bytes : List ℕ) : Type 0 where
-  pub seen : Seen
+  pub seen : LogSeen
   pub judged : input_judged files bytes ≡ Ok seen
-  pub reading : IsAt kept.progress seen
-  pub held : kept.held ≡ rest_of bytes
+  pub reading : IsAtSeen kept.progress seen
+  pub held : kept.held ≡ unfinished bytes
   pub going : kept.refusal ≡ None
   pub in_order : bytes ≡ [] → kept.in_order ≡ true
 
@@ -78,12 +78,12 @@ abbrev pub GivenAgain : Kept → Kept → Result (Unit {0}) SumError → Type 0
 GivenAgain old new result = (refusal : SumError) → old.refusal ≡ Some refusal → (result ≡ Err refusal) × (new ≡ old)
 
 -- a refusal is kept
-abbrev pub IsKept : Kept → Result (Unit {0}) SumError → Type 0
-IsKept new result = IfErr result (λ refusal. new.refusal ≡ Some refusal)
+abbrev pub IsKeptRefusal : Kept → Result (Unit {0}) SumError → Type 0
+IsKeptRefusal new result = IfErr result (λ refusal. new.refusal ≡ Some refusal)
 
 -- the printed sum of what is kept
 abbrev pub kept_text : Kept → List ℕ
-kept_text kept = flat_map (λ test. test_text test.0 test.1) kept.progress.tests
+kept_text kept = flat_map (λ test. summed_text test.0 test.1) kept.progress.tests
 
 -- the printed sum of whole logs, or their first fault
 unfoldable pub logs_text : List (List ℕ) → Result (List ℕ) LogError

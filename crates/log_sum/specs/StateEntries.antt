@@ -10,9 +10,9 @@ use Rattle.std.specs.declared.alloc.Global.{Global}
 use Rattle.log_sum.specs.declared.kinds.Mark.{Mark}
 use Rattle.log_sum.specs.declared.state_table.StateSum.{StateSum}
 use Rattle.log_sum.specs.Counts.{last_count}
-use Rattle.log_sum.specs.States.{form_read}
-use Rattle.log_sum.specs.Spelling.{IsSpelled}
-use Rattle.log_sum.specs.Steps.{known_state}
+use Rattle.log_sum.specs.LogStates.{form_read}
+use Rattle.log_sum.specs.StateSpelling.{IsSpelled}
+use Rattle.log_sum.specs.SummingSteps.{known_state}
 use Rattle.log_sum.specs.Summed.{StateSummed}
 
 -- a state's mark and count

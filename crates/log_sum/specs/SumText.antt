@@ -7,17 +7,17 @@ use Rattle.log_sum.specs.declared.kinds.Kind.TheVariants.{Allowed, Forbidden, Re
 use Rattle.log_sum.specs.declared.kinds.Mark.{Mark}
 use Rattle.log_sum.specs.declared.kinds.Mark.TheVariants.{Starred, Plain}
 use Rattle.log_sum.specs.Facts.{Entry, facts_of, tests_of}
-use Rattle.log_sum.specs.Summed.{StateSummed, Summed, summed, is_validated, or_else}
+use Rattle.log_sum.specs.Summed.{StateSummed, Summed, summed, is_validated, some_or}
 
 -- the line feed that ends a line
 abbrev pub line_end : List ℕ
 line_end = 10 ∷ []
 
 -- the word of a kind
-abbrev pub kind_word : Kind → List ℕ
-kind_word Allowed = codes "Allowed"
-kind_word Forbidden = codes "Forbidden"
-kind_word Required = codes "Required"
+abbrev pub sum_kind_word : Kind → List ℕ
+sum_kind_word Allowed = codes "Allowed"
+sum_kind_word Forbidden = codes "Forbidden"
+sum_kind_word Required = codes "Required"
 
 -- the sign of a mark in the line of a state
 abbrev pub mark_sign : Mark → List ℕ
@@ -55,18 +55,18 @@ hash_text (Some hash) = codes "Hash=" ++ hash ++ line_end
 -- the lines above the states of a test
 unfoldable pub head_text : List ℕ → Summed → List ℕ
 head_text name test =
-    codes "Test " ++ name ++ codes " " ++ kind_word (or_else Allowed test.kind) ++ line_end
+    codes "Test " ++ name ++ codes " " ++ sum_kind_word (some_or Allowed test.kind) ++ line_end
     ++ codes "Histogram (" ++ decimal (length test.states) ++ codes " states)" ++ line_end
 
 -- the lines from the verdict to the sums of the counts of both marks
-unfoldable pub verdict_text : Summed → List ℕ
-verdict_text test =
+unfoldable pub sum_verdict_text : Summed → List ℕ
+sum_verdict_text test =
     verdict_word (is_validated test) ++ line_end ++ line_end ++ codes "Witnesses" ++ line_end
     ++ codes "Positive: " ++ decimal test.starred ++ codes ", Negative: " ++ decimal test.plain ++ line_end
 
 -- the line of the condition and whether it is validated
 unfoldable pub claim_text : Summed → List ℕ
-claim_text test = codes "Condition " ++ or_else [] test.condition ++ verdict_end (is_validated test) ++ line_end
+claim_text test = codes "Condition " ++ some_or [] test.condition ++ verdict_end (is_validated test) ++ line_end
 
 -- the lines of the condition and of the hash
 unfoldable pub condition_text : Summed → List ℕ
@@ -79,11 +79,11 @@ observation_text name test =
     ++ codes " " ++ decimal test.starred ++ codes " " ++ decimal test.plain ++ line_end ++ line_end
 
 -- the text of a test
-unfoldable pub test_text : List ℕ → Summed → List ℕ
-test_text name test =
-    head_text name test ++ flat_map state_line test.states ++ verdict_text test
+unfoldable pub summed_text : List ℕ → Summed → List ℕ
+summed_text name test =
+    head_text name test ++ flat_map state_line test.states ++ sum_verdict_text test
     ++ condition_text test ++ observation_text name test
 
 -- the sum of the facts of logs: its tests in the order in which each was first seen
 unfoldable pub sum_text : List Entry → List ℕ
-sum_text entries = flat_map (λ name. test_text name (summed (facts_of name entries))) (tests_of entries)
+sum_text entries = flat_map (λ name. summed_text name (summed (facts_of name entries))) (tests_of entries)

@@ -26,13 +26,13 @@ pub record Summed : Type 0 where
   pub states : List StateSummed
 
 -- a value that may be missing, or else this one
-abbrev pub or_else : {A : Type 0} → A → Option A → A
-or_else other None = other
-or_else other (Some x) = x
+abbrev pub some_or : {A : Type 0} → A → Option A → A
+some_or other None = other
+some_or other (Some x) = x
 
 -- a state by the rows: its mark, and the sum of its counts
 abbrev pub state_by : List Row → List ℕ → StateSummed
-state_by rows state = (state, (or_else Plain (mark_in state rows), state_sum state rows))
+state_by rows state = (state, (some_or Plain (mark_in state rows), state_sum state rows))
 
 -- a test by its facts
 unfoldable pub summed : List Fact → Summed

@@ -2,7 +2,7 @@ ghost use Rattle.std.specs.Prelude.{◌≡◌, ◌^◌, ◌<◌, length, cond, n
 ghost use Rattle.std.specs.Char.{is_ascii_digit};
 ghost use Rattle.std.specs.List.{list_all};
 ghost use Rattle.std.specs.Str.Parse.{digits_value};
-ghost use Rattle.log_sum.specs.Classes.{count_and_rest, Gives};
+ghost use Rattle.log_sum.specs.SumViews.{count_and_rest, GivesParsed};
 ghost use Rattle.log_sum.specs.Counts.{count_read};
 
 use crate::errors::LogKind;
@@ -12,7 +12,7 @@ use text_parts::{Class, split_run};
 /// The count at the start of a text, and the text after it.
 #[tactic(auto, using(text_laws::proofs::WordLaws::empty_is_nil, crate::proofs::CountLaws::prefix_digits, crate::proofs::CountLaws::no_digit, crate::proofs::CountLaws::counted, crate::proofs::CountLaws::not_counted))]
 pub(crate) fn read_count(text: &[u8]) -> Result<(u64, &[u8]), LogKind>
-    ensures { Gives count_and_rest result (count_read text.now) }
+    ensures { GivesParsed count_and_rest result (count_read text.now) }
 {
     let (digits, rest) = split_run(Class::Digit, text);
     if digits.is_empty() {

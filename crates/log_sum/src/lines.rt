@@ -1,7 +1,7 @@
 ghost use Rattle.std.specs.Prelude.{◌≡◌, option_map, take, IfOk};
 ghost use Rattle.std.specs.Borrow.{Bor};
-ghost use Rattle.log_sum.specs.Classes.{Gives, Reads, ReadsOr, row_read, said_read, condition_view};
-ghost use Rattle.log_sum.specs.Lines.{kind_of, test_line, is_states, are_states, after_histogram, histogram_line, mark_of, mark_read, row_line, is_judgement, verdict_cut, condition_line, quantifier, hash_line, hash_said, condition_said, rest_said, is_observation, line_said};
+ghost use Rattle.log_sum.specs.SumViews.{GivesParsed, ReadsBy, ReadsOr, row_code_said, said_read, condition_view};
+ghost use Rattle.log_sum.specs.LogLines.{kind_named, test_line, is_states, are_states, after_histogram, histogram_line, mark_written, mark_read, log_row, is_judgement, verdict_cut, condition_line, quantifier, hash_line, hash_said, condition_said, rest_said, is_observation, log_line_said};
 ghost use Rattle.text_laws.specs.Words.{words};
 ghost use Rattle.log_sum.specs.Texts.{joined_words};
 
@@ -34,7 +34,7 @@ pub(crate) struct Row<'a> {
 }
 
 fn kind_of(word: &[u8]) -> Option<Kind>
-    ensures { result ≡ kind_of word.now }
+    ensures { result ≡ kind_named word.now }
 {
     if word == b"Allowed".as_slice() {
         Some(Kind::Allowed)
@@ -48,7 +48,7 @@ fn kind_of(word: &[u8]) -> Option<Kind>
 }
 
 /// `Test NAME KIND`.
-#[tactic(auto, unfolding(crate::specs::Lines::test_line))]
+#[tactic(auto, unfolding(crate::specs::LogLines::test_line))]
 fn read_test(line: &[u8]) -> Option<(&[u8], Kind)>
     ensures { option_map (λ test. (test.0.now, test.1)) result ≡ test_line (words line.now) }
 {
@@ -79,21 +79,21 @@ fn is_states(text: &[u8]) -> bool
 
 /// Whether a count in parentheses ends so, with nothing between.
 #[tactic(auto, using(text_laws::proofs::WordLaws::empty_is_nil))]
-fn are_states(behind: &[u8], rest: &[u8]) -> bool
-    ensures { result ≡ are_states behind.now (words rest.now) }
+fn are_states(remainder: &[u8], rest: &[u8]) -> bool
+    ensures { result ≡ are_states remainder.now (words rest.now) }
 {
-    behind.is_empty() && is_states(rest)
+    remainder.is_empty() && is_states(rest)
 }
 
 /// The number in `(n states)`.
 fn read_number(text: &[u8]) -> Result<u64, LogKind>
-    ensures { Gives (λ n. n) result (after_histogram (words text.now)) }
+    ensures { GivesParsed (λ n. n) result (after_histogram (words text.now)) }
 {
     let Some(([b'(', digits @ ..], rest)) = next_word(text) else {
         return Err(LogKind::BadState);
     };
-    let (count, behind) = read_count(digits)?;
-    if are_states(behind, rest) {
+    let (count, remainder) = read_count(digits)?;
+    if are_states(remainder, rest) {
         Ok(count)
     } else {
         Err(LogKind::BadState)
@@ -101,9 +101,9 @@ fn read_number(text: &[u8]) -> Result<u64, LogKind>
 }
 
 /// `Histogram (n states)`.
-#[tactic(auto, unfolding(crate::specs::Lines::histogram_line))]
+#[tactic(auto, unfolding(crate::specs::LogLines::histogram_line))]
 fn read_histogram(line: &[u8]) -> Result<u64, LogKind>
-    ensures { Gives (λ n. n) result (histogram_line (words line.now)) }
+    ensures { GivesParsed (λ n. n) result (histogram_line (words line.now)) }
 {
     let Some((first, rest)) = next_word(line) else {
         return Err(LogKind::BadState);
@@ -118,7 +118,7 @@ fn read_histogram(line: &[u8]) -> Result<u64, LogKind>
 }
 
 fn mark_of(byte: u8) -> Option<Mark>
-    ensures { result ≡ mark_of byte }
+    ensures { result ≡ mark_written byte }
 {
     match byte {
         b'*' => Some(Mark::Starred),
@@ -138,9 +138,9 @@ fn read_mark(text: &[u8]) -> Option<(Mark, &[u8])>
 }
 
 /// The line of a state.
-#[tactic(auto, unfolding(crate::specs::Lines::row_line))]
+#[tactic(auto, unfolding(crate::specs::LogLines::log_row))]
 fn read_row(line: &[u8]) -> Result<Row<'_>, LogKind>
-    ensures { Reads row_read result (row_line line.now) }
+    ensures { ReadsBy row_code_said result (log_row line.now) }
 {
     let (count, rest) = read_count(trim_blanks(line))?;
     match read_mark(without_blanks(rest)) {
@@ -167,12 +167,12 @@ fn joined_words(alloc: Global, text: &[u8]) -> Result<Vec<u8>, NoMemory>
 {
     let mut joined = Vec::with_capacity(alloc, text.len())?;
     let mut rest = text;
-    while let Some((word, behind)) = next_word(rest) {
+    while let Some((word, remainder)) = next_word(rest) {
         if !joined.is_empty() {
             joined.push(b' ')?;
         }
         joined.extend_from_slice(word)?;
-        rest = behind;
+        rest = remainder;
     }
     Ok(joined)
 }
@@ -191,7 +191,7 @@ fn read_verdict(text: &[u8]) -> Option<(usize, Verdict)>
 }
 
 /// `Condition TEXT is validated` or `Condition TEXT is NOT validated`.
-#[tactic(auto, unfolding(crate::specs::Lines::condition_line))]
+#[tactic(auto, unfolding(crate::specs::LogLines::condition_line))]
 fn read_condition(alloc: Global, line: &[u8]) -> Result<Option<(Vec<u8>, Verdict)>, NoMemory>
     ensures { IfOk result (λ condition. option_map condition_view condition ≡ condition_line (words line.now)) }
 {
@@ -222,7 +222,7 @@ fn quantifier(kind: Kind) -> &'static [u8]
 }
 
 /// `Hash=TEXT`.
-#[tactic(auto, unfolding(crate::specs::Lines::hash_line))]
+#[tactic(auto, unfolding(crate::specs::LogLines::hash_line))]
 fn read_hash(line: &[u8]) -> Option<&[u8]>
     ensures { option_map (λ text. text.now) result ≡ hash_line line.now }
 {
@@ -274,9 +274,9 @@ fn is_observation(line: &[u8]) -> bool
 }
 
 /// What a line says at a place, or what is wrong with it there.
-#[tactic(auto, unfolding(crate::specs::Lines::line_said))]
+#[tactic(auto, unfolding(crate::specs::LogLines::log_line_said))]
 pub(crate) fn read_line(alloc: Global, place: Place, line: &[u8]) -> Result<Said<'_>, Fault>
-    ensures { ReadsOr said_read result (line_said place line.now) }
+    ensures { ReadsOr said_read result (log_line_said place line.now) }
 {
     match place {
         Place::Outside => Ok(match read_test(line) {

@@ -1,10 +1,10 @@
 ghost use Rattle.std.specs.Prelude.{◌≡◌, ◌++◌, [], true};
 ghost use Rattle.std.specs.List.{flat_map};
 ghost use Rattle.diy_io.specs.Page.{Sends};
-ghost use Rattle.log_sum.specs.Classes.{test_view};
-ghost use Rattle.log_sum.specs.Summed.{is_validated, or_else};
-ghost use Rattle.log_sum.specs.SumText.{kind_word, mark_sign, verdict_word, verdict_end, how_often, filling};
-ghost use Rattle.log_sum.specs.SumText.{head_text, state_line, verdict_text, claim_text, hash_text, condition_text, observation_text, test_text};
+ghost use Rattle.log_sum.specs.SumViews.{test_view};
+ghost use Rattle.log_sum.specs.Summed.{is_validated, some_or};
+ghost use Rattle.log_sum.specs.SumText.{sum_kind_word, mark_sign, verdict_word, verdict_end, how_often, filling};
+ghost use Rattle.log_sum.specs.SumText.{head_text, state_line, sum_verdict_text, claim_text, hash_text, condition_text, observation_text, summed_text};
 
 use crate::kinds::{Kind, Mark};
 use crate::state_table::StateSum;
@@ -18,7 +18,7 @@ const STARRED_SIGN: [u8; 8] = *b"      *>";
 const PLAIN_SIGN: [u8; 8] = *b"      :>";
 
 fn kind_word<'a>(kind: Kind) -> &'a [u8]
-    ensures { result.now ≡ kind_word kind }
+    ensures { result.now ≡ sum_kind_word kind }
 {
     match kind {
         Kind::Allowed => b"Allowed",
@@ -78,7 +78,7 @@ fn is_validated(test: &TestSum) -> bool
 }
 
 fn condition_of(test: &TestSum) -> &[u8]
-    ensures { result.now ≡ or_else [] (test_view test.now).condition }
+    ensures { result.now ≡ some_or [] (test_view test.now).condition }
 {
     match &test.condition {
         Some(text) => text.as_slice(),
@@ -137,7 +137,7 @@ fn print_states<O: Sink>(test: &TestSum, page: &mut Page, out: &mut O) -> Result
 }
 
 fn print_verdict<O: Sink>(test: &TestSum, page: &mut Page, out: &mut O) -> Result<(), Failed>
-    ensures { Sends (O.seen out.old) page.old (O.seen out.new) page.new (verdict_text (test_view test.now)) result }
+    ensures { Sends (O.seen out.old) page.old (O.seen out.new) page.new (sum_verdict_text (test_view test.now)) result }
 {
     let mut starred = Buffer::new();
     let starred = starred.format(test.starred).as_bytes();
@@ -221,7 +221,7 @@ fn print_upper<O: Sink>(
 ) -> Result<(), Failed>
     requires { test.now.states.in_order ≡ true }
     ensures { Sends (O.seen out.old) page.old (O.seen out.new) page.new
-        (head_text name.now (test_view test.now) ++ flat_map state_line (test_view test.now).states ++ verdict_text (test_view test.now)) result }
+        (head_text name.now (test_view test.now) ++ flat_map state_line (test_view test.now).states ++ sum_verdict_text (test_view test.now)) result }
 {
     print_head(name, test, page, out)?;
     print_states(test, page, out)?;
@@ -236,7 +236,7 @@ pub(crate) fn print_sum<O: Sink>(
     out: &mut O,
 ) -> Result<(), Failed>
     requires { test.now.states.in_order ≡ true }
-    ensures { Sends (O.seen out.old) page.old (O.seen out.new) page.new (test_text name.now (test_view test.now)) result }
+    ensures { Sends (O.seen out.old) page.old (O.seen out.new) page.new (summed_text name.now (test_view test.now)) result }
 {
     print_upper(name, test, page, out)?;
     print_condition(test, page, out)?;

@@ -1,5 +1,5 @@
 ghost use Rattle.std.specs.Prelude.{◌≡◌, None, IfOk};
-ghost use Rattle.log_sum.specs.Spelling.{AddsText, is_later, is_spelled, written_as};
+ghost use Rattle.log_sum.specs.StateSpelling.{AddsText, is_later, is_spelled, written_as};
 
 use diy_io::NoMemory;
 use std::alloc::Global;

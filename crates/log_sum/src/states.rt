@@ -1,7 +1,7 @@
 ghost use Rattle.std.specs.Prelude.{◌≡◌, ◌++◌, ◌∷◌, [], option_map, OnOk};
 ghost use Rattle.std.specs.List.{All};
-ghost use Rattle.log_sum.specs.Classes.{GivesOr, texts_of};
-ghost use Rattle.log_sum.specs.States.{left_kept, is_side, state_read, form_read, state_form, or_bad, sides_read, separated, form_with};
+ghost use Rattle.log_sum.specs.SumViews.{GivesOr, texts_of};
+ghost use Rattle.log_sum.specs.LogStates.{left_kept, is_side, state_read, form_read, state_form, or_bad, sides_read, separated, form_with};
 ghost use Rattle.text_laws.specs.Cuts.{cut_at};
 ghost use Rattle.log_sum.specs.Equalities.{HasSign, has_left_twice, left_side, same_left, with_all, with_piece};
 
@@ -138,7 +138,7 @@ impl StateReader {
     }
 
     /// Reads the state that a text writes.
-    #[tactic(auto, unfolding(crate::specs::States::form_read))]
+    #[tactic(auto, unfolding(crate::specs::LogStates::form_read))]
     pub(crate) fn read(&mut self, text: &[u8]) -> Result<(), Fault>
         ensures { GivesOr (λ _. self.new.form.items) result (form_read text.now) }
     {
@@ -206,9 +206,9 @@ impl StateReader {
         ensures { GivesOr (λ _. texts_of self.new.equalities.items) result (or_bad (state_read text.now)) }
     {
         let mut rest = text;
-        while let Some((piece, behind)) = cut(b';', rest) {
+        while let Some((piece, remainder)) = cut(b';', rest) {
             self.put_equality(piece)?;
-            rest = without_blanks(behind);
+            rest = without_blanks(remainder);
         }
         if rest.is_empty() {
             self.put_in_order()

@@ -1,9 +1,9 @@
 ghost use Rattle.std.specs.Prelude.{◌≡◌, ℕ, List, [], ◌++◌, true, Some, None, IfOk, IfErr, OnOk};
 ghost use Rattle.diy_io.specs.Page.{Sends};
 ghost use Rattle.diy_io.specs.Wrote.{Wrote};
-ghost use Rattle.log_sum.specs.Reading.{Seen, line_judged, rest_judged};
-ghost use Rattle.log_sum.specs.Representing.{Kept, Represents, FedTo, EndedTo, IsKept, GivenAgain, kept_text};
-ghost use Rattle.log_sum.specs.Feeding.{Follows, ReadTo, PieceTo, EndTo, refusal_of};
+ghost use Rattle.log_sum.specs.LogReading.{LogSeen, line_judged, rest_judged};
+ghost use Rattle.log_sum.specs.Representing.{Kept, Represents, FedTo, EndedTo, IsKeptRefusal, GivenAgain, kept_text};
+ghost use Rattle.log_sum.specs.Feeding.{FollowsSeen, ProgressReadTo, PieceTo, EndTo, sum_refusal};
 
 use crate::errors::{Fault, LogError, LogKind, SumError};
 use crate::print::print_sum;
@@ -29,7 +29,7 @@ pub struct Summer {
 impl Model for Summer {
     ghost use Rattle.std.specs.Prelude.{◌≤◌, length};
     ghost use Rattle.log_sum.specs.Representing.{Kept};
-    ghost use Rattle.log_sum.specs.Classes.{progress_view, are_in_order};
+    ghost use Rattle.log_sum.specs.SumViews.{progress_view, are_in_order};
 
     ghost Value = { Kept };
 
@@ -62,7 +62,7 @@ impl Summer {
     /// spent then, and answers the same again.
     pub fn feed(&mut self, piece: &[u8]) -> Result<(), SumError>
         ensures fed { (files : List (List ℕ)) (bytes : List ℕ) → Represents self.old files bytes → FedTo self.new files (bytes ++ piece.now) result }
-        ensures kept { IsKept self.new result }
+        ensures kept { IsKeptRefusal self.new result }
         ensures given_again { GivenAgain self.old self.new result }
     {
         self.check_refusal()?;
@@ -79,7 +79,7 @@ impl Summer {
     pub fn end_file(&mut self) -> Result<(), SumError>
         ensures ended { (files : List (List ℕ)) (bytes : List ℕ) → Represents self.old files bytes → EndedTo self.new files bytes result }
         ensures in_order { OnOk result (self.new.in_order ≡ true) }
-        ensures kept { IsKept self.new result }
+        ensures kept { IsKeptRefusal self.new result }
         ensures given_again { GivenAgain self.old self.new result }
     {
         self.check_refusal()?;
@@ -126,7 +126,7 @@ impl Summer {
 
     /// Keeps a fault of the running line, and answers it.
     fn refuse(&mut self, fault: Fault) -> SumError
-        ensures refusal { result ≡ refusal_of self.old.progress.line fault }
+        ensures refusal { result ≡ sum_refusal self.old.progress.line fault }
         ensures kept { self.new ≡ record self.old { refusal = Some result } }
     {
         let refusal = match fault {
@@ -144,16 +144,16 @@ impl Summer {
         ensures { (files : List (List ℕ)) (bytes : List ℕ) → Represents self.old files bytes → PieceTo self.new files (bytes ++ piece.now) result }
     {
         let mut rest = piece;
-        while let Some((prefix, behind)) = cut(b'\n', rest) {
+        while let Some((prefix, remainder)) = cut(b'\n', rest) {
             self.feed_line(prefix)?;
-            rest = behind;
+            rest = remainder;
         }
         self.hold(rest)
     }
 
     /// The end of the running line, which a line feed follows.
     fn feed_line(&mut self, prefix: &[u8]) -> Result<(), Fault>
-        ensures judged { (seen : Seen) → Follows self.old.progress seen → ReadTo self.new.progress (line_judged seen (self.old.held ++ prefix.now)) result }
+        ensures judged { (seen : LogSeen) → FollowsSeen self.old.progress seen → ProgressReadTo self.new.progress (line_judged seen (self.old.held ++ prefix.now)) result }
         ensures held { OnOk result (self.new.held ≡ []) }
         ensures refusal { self.new.refusal ≡ self.old.refusal }
     {
@@ -171,7 +171,7 @@ impl Summer {
 
     /// Holds a part of the running line.
     fn hold(&mut self, part: &[u8]) -> Result<(), Fault>
-        ensures judged { (seen : Seen) → Follows self.old.progress seen → ReadTo self.new.progress (rest_judged seen (self.old.held ++ part.now)) result }
+        ensures judged { (seen : LogSeen) → FollowsSeen self.old.progress seen → ProgressReadTo self.new.progress (rest_judged seen (self.old.held ++ part.now)) result }
         ensures held { OnOk result (self.new ≡ record self.old { held = self.old.held ++ part.now }) }
         ensures refusal { self.new.refusal ≡ self.old.refusal }
     {

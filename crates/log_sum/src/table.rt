@@ -1,5 +1,5 @@
 ghost use Rattle.std.specs.Prelude.{◌≡◌, [], true, OnOk};
-ghost use Rattle.log_sum.specs.Classes.{row_read, tests_view, are_in_order};
+ghost use Rattle.log_sum.specs.SumViews.{row_code_said, tests_view, are_in_order};
 ghost use Rattle.log_sum.specs.Facts.{a_kind, a_condition, a_hash};
 ghost use Rattle.log_sum.specs.Feeding.{FactPut, RowPut, ForEntries, ForRunningTest};
 
@@ -56,7 +56,7 @@ impl Table {
         reader: &mut StateReader,
         row: Row<'_>,
     ) -> Result<(), Fault>
-        ensures { ForRunningTest self.old (λ entries name. RowPut entries name (row_read row.entry) self.new result) }
+        ensures { ForRunningTest self.old (λ entries name. RowPut entries name (row_code_said row.entry) self.new result) }
     {
         match self.tests.get_index_mut(self.running) {
             Some(test) => test.put_row(alloc, reader, row),

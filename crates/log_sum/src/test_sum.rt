@@ -1,9 +1,9 @@
 ghost use Rattle.std.specs.Prelude.{◌≡◌, None, Ok, IfOk};
-ghost use Rattle.log_sum.specs.Classes.{Gives, GivesOr, TestTold, row_read, test_view};
-ghost use Rattle.log_sum.specs.Facts.{same_kind, same_mark, a_kind, a_condition, a_hash, a_row, row_with};
-ghost use Rattle.log_sum.specs.States.{form_read};
+ghost use Rattle.log_sum.specs.SumViews.{GivesParsed, GivesOr, TestTold, row_code_said, test_view};
+ghost use Rattle.log_sum.specs.Facts.{same_kind, same_state_mark, a_kind, a_condition, a_hash, a_row, row_with};
+ghost use Rattle.log_sum.specs.LogStates.{form_read};
 ghost use Rattle.log_sum.specs.StateEntries.{ForStateAt};
-ghost use Rattle.log_sum.specs.Steps.{fact_to, of_kind, known_state, row_to, with_verdict, marked, with_marked};
+ghost use Rattle.log_sum.specs.SummingSteps.{fact_to, of_kind, known_state, row_to, with_verdict, marked, with_marked};
 
 use crate::errors::{Fault, LogKind};
 use crate::kinds::{Kind, Mark, Verdict};
@@ -38,7 +38,7 @@ fn same_kind(one: Kind, other: Kind) -> bool
 }
 
 fn same_mark(one: Mark, other: Mark) -> bool
-    ensures { result ≡ same_mark one other }
+    ensures { result ≡ same_state_mark one other }
 {
     match (one, other) {
         (Mark::Starred, Mark::Starred) => true,
@@ -66,9 +66,9 @@ impl TestSum {
     }
 
     /// A kind that a block says.
-    #[tactic(auto, unfolding(crate::specs::Steps::fact_to))]
+    #[tactic(auto, unfolding(crate::specs::SummingSteps::fact_to))]
     pub(crate) fn put_kind(&self, kind: Kind) -> Result<(), LogKind>
-        ensures { Gives (λ _. test_view self.now) result (fact_to (test_view self.now) (a_kind kind)) }
+        ensures { GivesParsed (λ _. test_view self.now) result (fact_to (test_view self.now) (a_kind kind)) }
     {
         if same_kind(self.kind, kind) {
             Ok(())
@@ -87,9 +87,9 @@ impl TestSum {
     }
 
     /// A condition, and what a block says of it.
-    #[tactic(auto, unfolding(crate::specs::Steps::fact_to))]
+    #[tactic(auto, unfolding(crate::specs::SummingSteps::fact_to))]
     pub(crate) fn put_condition(&mut self, text: Vec<u8>, verdict: Verdict) -> Result<(), LogKind>
-        ensures { Gives (λ _. test_view self.new) result (fact_to (test_view self.old) (a_condition text.items verdict)) }
+        ensures { GivesParsed (λ _. test_view self.new) result (fact_to (test_view self.old) (a_condition text.items verdict)) }
     {
         if let Some(known) = &self.condition {
             if known.as_slice() != text.as_slice() {
@@ -103,7 +103,7 @@ impl TestSum {
     }
 
     /// A hash.
-    #[tactic(auto, unfolding(crate::specs::Steps::fact_to))]
+    #[tactic(auto, unfolding(crate::specs::SummingSteps::fact_to))]
     pub(crate) fn put_hash(&mut self, alloc: Global, text: &[u8]) -> Result<(), Fault>
         ensures { TestTold self.old self.new (a_hash text.now) result }
     {
@@ -143,7 +143,7 @@ impl TestSum {
         reader: &mut StateReader,
         row: Row<'_>,
     ) -> Result<(), Fault>
-        ensures { GivesOr (λ _. test_view self.new) result (row_to (test_view self.old) (row_read row.entry)) }
+        ensures { GivesOr (λ _. test_view self.new) result (row_to (test_view self.old) (row_code_said row.entry)) }
     {
         if let Some(i) = self.states.written_index(row.text) {
             return self.add(i, row.mark, row.count);

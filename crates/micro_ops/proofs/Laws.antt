@@ -12,8 +12,8 @@ use Rattle.micro_ops.specs.declared.operation.Micro.TheVariants as ops
 use Rattle.micro_ops.specs.declared.operation.Item.{Item}
 use Rattle.micro_ops.specs.declared.operation.Item.TheVariants as items
 use Rattle.micro_ops.specs.Machine.{Effect, step}
-use Rattle.micro_ops.specs.Running.{Run, Point, At, Past, Wants, Stuck, go, exec, taken, led, landing, wanting, is_load, is_label, occurs, occurs_if, target, lands, labels_of, is_past, writes, is_named, is_written, is_read, NamesLoads, beginning, starting, add_item, AllNameLoads, RunNamesLoads, OnRun}
-use Rattle.micro_ops.specs.Threads.{goes_on, StopsAt}
+use Rattle.micro_ops.specs.Running.{Run, Point, At, Past, Wants, Stuck, go, exec, taken, led, landing, wanting, is_load, is_label, occurs, occurs_if, target, lands, labels_of, is_past, writes, is_named_register, is_written, is_read_item, NamesLoads, beginning, starting, add_item, AllNameLoads, RunNamesLoads, OnRun}
+use Rattle.micro_ops.specs.RunThreads.{goes_on, StopsAt}
 use Rattle.micro_ops.proofs.Steps.{OnEffect, JumpsTo, step_jumps, Keeps, step_keeps, Named, step_named, step_counts, Counts, reads_in, ItemNames}
 
 -- the run of one list and then another is the run of the second from where the first led
@@ -169,7 +169,7 @@ pub unwritten_kept : (code : List Micro) (q : ℕ) (held : Held) (p : Point) →
     OnRun (λ r. r.state.regs q ≡ held) (exec code p)
 unwritten_kept [] q held p e h = h
 unwritten_kept (op ∷ code) q held p e h =
-    let parts = or_parts (is_named q (writes op)) (is_written q code) e in
+    let parts = or_parts (is_named_register q (writes op)) (is_written q code) e in
     unwritten_kept code q held (go op p) parts.1
     (go_keeps (λ r. r.state.regs q ≡ held) op (keeps parts.0) p h)
   where
@@ -177,7 +177,7 @@ unwritten_kept (op ∷ code) q held p e h =
     or_parts true b h = cc
     or_parts false b h = (refl, h)
 
-    keeps : is_named q (writes op) ≡ false → StepKeeps (λ r. r.state.regs q ≡ held) op
+    keeps : is_named_register q (writes op) ≡ false → StepKeeps (λ r. r.state.regs q ≡ held) op
     keeps e r read reads h = on_effect (step op r.state read) (step_keeps op r.state read q e)
       where
         on_effect : (effect : Option Effect) → OnEffect (Keeps r.state q) effect →
@@ -262,10 +262,10 @@ all_names_add (i ∷ made) None n h g = h
 all_names_add (i ∷ made) (Some item) n h g = (h.0, all_names_add made (Some item) n h.1 g)
 
 count_add : (made : List Item) (item : Option Item) →
-    count_by is_read (add_item made item) ≡ count_by is_read made + reads_in item
+    count_by is_read_item (add_item made item) ≡ count_by is_read_item made + reads_in item
 count_add made None = omega arith
 count_add made (Some item) =
-    omega (arith, sum_by-append (λ x. cond (is_read x) 1 0) made (item ∷ []))
+    omega (arith, sum_by-append (λ x. cond (is_read_item x) 1 0) made (item ∷ []))
 
 names_keep : (op : Micro) → StepKeeps RunNamesLoads op
 names_keep op r read reads h = on_effect (step op r.state read) (step_named op r.state read h.masks)

@@ -6,31 +6,31 @@ use Rattle.std.proofs.Math.Seq.{drop-cons}
 use Rattle.relax_edges.specs.declared.kinds.Value.{Value}
 use Rattle.micro_ops.specs.declared.held.Held.{Held}
 use Rattle.micro_ops.specs.Machine.{num, written}
-use Rattle.micro_ops.specs.Machines.{held_in}
+use Rattle.micro_ops.specs.Machines.{held_by_register}
 use Rattle.micro_ops.specs.Running.{starting}
 
 -- functions that are equal everywhere
 pub same_function : {A : Type 0} (f g : ℕ → A) → ((n : ℕ) → f n ≡ g n) → f ≡ g
 same_function f g h = λ i n. h n i
 
-blank_at : (n r : ℕ) → held_in (replicate n (num 0 0)) r ≡ num 0 0
+blank_at : (n r : ℕ) → held_by_register (replicate n (num 0 0)) r ≡ num 0 0
 blank_at zero r = refl
 blank_at (suc n) zero = refl
 blank_at (suc n) (suc r) = blank_at n r
 
 -- registers that hold 0 are those of a thread of whose initial values none is set
 pub blank_is_start : (registers : List Held) (init : List (ℕ × Value)) →
-    registers ≡ replicate 32 (num 0 0) → held_in registers ≡ starting (drop (length init) init)
+    registers ≡ replicate 32 (num 0 0) → held_by_register registers ≡ starting (drop (length init) init)
 blank_is_start registers init e =
     rw (e, drop_of_length-le init (le_refl (length init))) (same_function _ _ (blank_at 32))
 
 -- an array in which one register was written holds what was written there
 pub held_in_set : (registers : List Held) (d : ℕ) (held : Held) → d < length registers →
-    held_in (set registers d held) ≡ written (held_in registers) d held
+    held_by_register (set registers d held) ≡ written (held_by_register registers) d held
 held_in_set registers d held h = same_function _ _ (λ q. at_each q (q == d) refl)
   where
     at_each : (q : ℕ) (b : Bool) → (q == d) ≡ b →
-        held_in (set registers d held) q ≡ cond b held (held_in registers q)
+        held_by_register (set registers d held) q ≡ cond b held (held_by_register registers q)
     at_each q true e =
         rw (eqb-true q d e) (get_or-set_same registers d held (num 0 0) h)
     at_each q false e =
@@ -39,8 +39,8 @@ held_in_set registers d held h = same_function _ _ (λ q. at_each q (q == d) ref
 -- with one initial value more set, from the end, the registers hold those from this one on
 pub name_more : (registers : List Held) (init : List (ℕ × Value)) (j k d : ℕ) (none : ℕ × Value) →
     k ≡ suc j → j < length init → d ≡ (get_or init j none).0 → d < length registers →
-    held_in registers ≡ starting (drop k init) →
-    held_in (set registers d (record { value = (get_or init j none).1; mask = 0 })) ≡
+    held_by_register registers ≡ starting (drop k init) →
+    held_by_register (set registers d (record { value = (get_or init j none).1; mask = 0 })) ≡
     starting (drop j init)
 name_more registers init j k d none is h e f inv =
     let held : Held = record { value = (get_or init j none).1; mask = 0 } in

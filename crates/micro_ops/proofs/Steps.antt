@@ -10,8 +10,8 @@ use Rattle.micro_ops.specs.declared.held.Held.{Held}
 use Rattle.micro_ops.specs.declared.operation.Micro.{Micro}
 use Rattle.micro_ops.specs.declared.operation.Micro.TheVariants as ops
 use Rattle.micro_ops.specs.declared.operation.Item.{Item}
-use Rattle.micro_ops.specs.Machine.{State, Effect, num, bit, put, step, writing, becomes, loading, storing, comparing, branching, branching_on, xored, same_number, place_of, address_mask, both_masks, plus, ored, summed}
-use Rattle.micro_ops.specs.Running.{is_load, target, writes, is_named, is_read, MasksNameLoads, NamesLoads}
+use Rattle.micro_ops.specs.Machine.{ThreadState, Effect, num, bit, put, step, write_effect, becomes, loading, storing, comparing, branching, branching_on, xored, same_number, place_reached, address_mask, both_masks, plus, ored, sum_of_values}
+use Rattle.micro_ops.specs.Running.{is_load, target, writes, is_named_register, is_read_item, MasksNameLoads, NamesLoads}
 
 -- a fact of what a rule leads to, where there is a rule
 abbrev pub OnEffect : (Effect → Type 0) → Option Effect → Type 0
@@ -25,14 +25,14 @@ either_effect P true x y h k = h
 either_effect P false x y h k = k
 
 -- a fact of each register's write
-pub on_writing : (P : Effect → Type 0) (s : State) (dst mask : ℕ) (value : Option Value) →
+pub on_writing : (P : Effect → Type 0) (s : ThreadState) (dst mask : ℕ) (value : Option Value) →
     ((v : Value) → OnEffect P (becomes (put s dst (record { value = v; mask = mask })))) →
-    OnEffect P (writing s dst mask value)
+    OnEffect P (write_effect s dst mask value)
 on_writing P s dst mask (Some v) h = h v
 on_writing P s dst mask None h = tt
 
 -- a fact of each load
-pub on_loading : (P : Effect → Type 0) (mark : Mark) (s : State) (dst : ℕ) (place : Option ℕ) (mask : ℕ)
+pub on_loading : (P : Effect → Type 0) (mark : Mark) (s : ThreadState) (dst : ℕ) (place : Option ℕ) (mask : ℕ)
     (read : Option ℕ) →
     ((p n : ℕ) → OnEffect P (loading mark s dst (Some p) mask (Some n))) →
     OnEffect P (loading mark s dst place mask read)
@@ -41,7 +41,7 @@ on_loading P mark s dst (Some p) mask None h = tt
 on_loading P mark s dst None mask read h = tt
 
 -- a fact of each store
-pub on_storing : (P : Effect → Type 0) (mark : Mark) (s : State) (place : Option ℕ) (mask : ℕ) (value : Value)
+pub on_storing : (P : Effect → Type 0) (mark : Mark) (s : ThreadState) (place : Option ℕ) (mask : ℕ) (value : Value)
     (data_mask : ℕ) →
     ((p n : ℕ) → OnEffect P (storing mark s (Some p) mask (Num n) data_mask)) →
     OnEffect P (storing mark s place mask value data_mask)
@@ -50,14 +50,14 @@ on_storing P mark s (Some p) mask (Place q) data_mask h = tt
 on_storing P mark s None mask value data_mask h = tt
 
 -- a fact of each comparison
-pub on_comparing : (P : Effect → Type 0) (s : State) (mask : ℕ) (equal : Option Bool) →
+pub on_comparing : (P : Effect → Type 0) (s : ThreadState) (mask : ℕ) (equal : Option Bool) →
     ((b : Bool) → OnEffect P (comparing s mask (Some b))) →
     OnEffect P (comparing s mask equal)
 on_comparing P s mask (Some b) h = h b
 on_comparing P s mask None h = tt
 
 -- a fact of each branch on a register
-pub on_branching : (P : Effect → Type 0) (s : State) (mask : ℕ) (value : Value) (label : ℕ) →
+pub on_branching : (P : Effect → Type 0) (s : ThreadState) (mask : ℕ) (value : Value) (label : ℕ) →
     ((b : Bool) → OnEffect P (branching s mask b label)) →
     OnEffect P (branching_on s mask value label)
 on_branching P s mask (Num n) label h = h (not (n == 0))
@@ -73,7 +73,7 @@ taken_or_not true l = inr refl
 taken_or_not false l = inl refl
 
 -- each step jumps nowhere, or to the label of its operation
-pub step_jumps : (op : Micro) (s : State) (read : Option ℕ) →
+pub step_jumps : (op : Micro) (s : ThreadState) (read : Option ℕ) →
     OnEffect (JumpsTo (target op)) (step op s read)
 step_jumps (ops.Imm d n) s read = inl refl
 step_jumps (ops.Xor d a b) s read =
@@ -85,21 +85,21 @@ step_jumps (ops.AddImm d a n) s read =
 step_jumps (ops.OrImm d a n) s read =
     on_writing (JumpsTo None) s d (s.regs a).mask (ored (s.regs a).value n) (λ v. inl refl)
 step_jumps (ops.Add d a b) s read =
-    on_writing (JumpsTo None) s d (both_masks s a b) (summed (s.regs a).value (s.regs b).value)
+    on_writing (JumpsTo None) s d (both_masks s a b) (sum_of_values (s.regs a).value (s.regs b).value)
     (λ v. inl refl)
 step_jumps (ops.Load d base index) s read =
-    on_loading (JumpsTo None) Plain s d (place_of s base index) (address_mask s base index) read
+    on_loading (JumpsTo None) Plain s d (place_reached s base index) (address_mask s base index) read
     (λ p n. inl refl)
 step_jumps (ops.LoadAcq d base) s read =
-    on_loading (JumpsTo None) Acquire s d (place_of s base None) (address_mask s base None) read
+    on_loading (JumpsTo None) Acquire s d (place_reached s base None) (address_mask s base None) read
     (λ p n. inl refl)
 step_jumps (ops.LoadAt d p) s read =
     on_loading (JumpsTo None) Plain s d (Some p) 0 read (λ p n. inl refl)
 step_jumps (ops.Store src base index) s read =
-    on_storing (JumpsTo None) Plain s (place_of s base index) (address_mask s base index)
+    on_storing (JumpsTo None) Plain s (place_reached s base index) (address_mask s base index)
     (s.regs src).value (s.regs src).mask (λ p n. inl refl)
 step_jumps (ops.StoreRel src base) s read =
-    on_storing (JumpsTo None) Release s (place_of s base None) (address_mask s base None)
+    on_storing (JumpsTo None) Release s (place_reached s base None) (address_mask s base None)
     (s.regs src).value (s.regs src).mask (λ p n. inl refl)
 step_jumps (ops.StoreAt p n) s read = inl refl
 step_jumps (ops.Cmp a b) s read =
@@ -112,20 +112,20 @@ step_jumps (ops.Label l) s read = inl refl
 step_jumps (ops.Barrier kind) s read = inl refl
 
 -- a step keeps what a register holds
-abbrev pub Keeps : State → ℕ → Effect → Type 0
+abbrev pub Keeps : ThreadState → ℕ → Effect → Type 0
 Keeps s r effect = effect.state.regs r ≡ s.regs r
 
 -- the register that was written holds what was written
-pub put_same : (s : State) (d : ℕ) (h : Held) → (put s d h).regs d ≡ h
+pub put_same : (s : ThreadState) (d : ℕ) (h : Held) → (put s d h).regs d ≡ h
 put_same s d h = rw (eq-eqb d d refl) refl
 
 -- a register that wasn't written holds what it held
-pub put_other : (s : State) (r d : ℕ) (h : Held) → (r == d) ≡ false → (put s d h).regs r ≡ s.regs r
+pub put_other : (s : ThreadState) (r d : ℕ) (h : Held) → (r == d) ≡ false → (put s d h).regs r ≡ s.regs r
 put_other s r d h e = rw e refl
 
 -- each step keeps what a register holds that its operation doesn't write
-pub step_keeps : (op : Micro) (s : State) (read : Option ℕ) (r : ℕ) →
-    is_named r (writes op) ≡ false → OnEffect (Keeps s r) (step op s read)
+pub step_keeps : (op : Micro) (s : ThreadState) (read : Option ℕ) (r : ℕ) →
+    is_named_register r (writes op) ≡ false → OnEffect (Keeps s r) (step op s read)
 step_keeps (ops.Imm d n) s read r e = put_other s r d (num n 0) e
 step_keeps (ops.Xor d a b) s read r e =
     let P = Keeps s r in
@@ -139,21 +139,21 @@ step_keeps (ops.OrImm d a n) s read r e =
     on_writing (Keeps s r) s d (s.regs a).mask (ored (s.regs a).value n)
     (λ v. put_other s r d (record { value = v; mask = (s.regs a).mask }) e)
 step_keeps (ops.Add d a b) s read r e =
-    on_writing (Keeps s r) s d (both_masks s a b) (summed (s.regs a).value (s.regs b).value)
+    on_writing (Keeps s r) s d (both_masks s a b) (sum_of_values (s.regs a).value (s.regs b).value)
     (λ v. put_other s r d (record { value = v; mask = both_masks s a b }) e)
 step_keeps (ops.Load d base index) s read r e =
-    on_loading (Keeps s r) Plain s d (place_of s base index) (address_mask s base index) read
+    on_loading (Keeps s r) Plain s d (place_reached s base index) (address_mask s base index) read
     (λ p n. put_other s r d (num n (bit s.loads)) e)
 step_keeps (ops.LoadAcq d base) s read r e =
-    on_loading (Keeps s r) Acquire s d (place_of s base None) (address_mask s base None) read
+    on_loading (Keeps s r) Acquire s d (place_reached s base None) (address_mask s base None) read
     (λ p n. put_other s r d (num n (bit s.loads)) e)
 step_keeps (ops.LoadAt d p) s read r e =
     on_loading (Keeps s r) Plain s d (Some p) 0 read (λ p n. put_other s r d (num n (bit s.loads)) e)
 step_keeps (ops.Store src base index) s read r e =
-    on_storing (Keeps s r) Plain s (place_of s base index) (address_mask s base index)
+    on_storing (Keeps s r) Plain s (place_reached s base index) (address_mask s base index)
     (s.regs src).value (s.regs src).mask (λ p n. refl)
 step_keeps (ops.StoreRel src base) s read r e =
-    on_storing (Keeps s r) Release s (place_of s base None) (address_mask s base None)
+    on_storing (Keeps s r) Release s (place_reached s base None) (address_mask s base None)
     (s.regs src).value (s.regs src).mask (λ p n. refl)
 step_keeps (ops.StoreAt p n) s read r e = refl
 step_keeps (ops.Cmp a b) s read r e =
@@ -172,11 +172,11 @@ ItemNames loads None = Unit {0}
 
 -- how many loads an item is
 abbrev pub reads_in : Option Item → ℕ
-reads_in (Some item) = cond (is_read item) 1 0
+reads_in (Some item) = cond (is_read_item item) 1 0
 reads_in None = 0
 
 -- a step whose masks name loads that were stepped, and which counts those loads
-pub record Named (s : State) (effect : Effect) : Type 0 where
+pub record Named (s : ThreadState) (effect : Effect) : Type 0 where
   pub masks : MasksNameLoads effect.state
   pub item : ItemNames effect.state.loads effect.item
   pub loads : effect.state.loads ≡ s.loads + reads_in effect.item
@@ -187,7 +187,7 @@ empty_mask loads = pow_pos loads
 wider : (m k : ℕ) → m < 2 ^ k → m < 2 ^ (k + 1)
 wider m k h = lt_of_lt_of_le h (pow_mono (omega arith))
 
-named_put : (s : State) (d : ℕ) (v : Value) (mask : ℕ) → MasksNameLoads s → mask < 2 ^ s.loads →
+named_put : (s : ThreadState) (d : ℕ) (v : Value) (mask : ℕ) → MasksNameLoads s → mask < 2 ^ s.loads →
     MasksNameLoads (put s d (record { value = v; mask = mask }))
 named_put s d v mask h k = record {
   in_regs = λ r. in_either (r == d) r;
@@ -200,7 +200,7 @@ named_put s d v mask h k = record {
     in_either true r = k
     in_either false r = h.in_regs r
 
-named_write : (s : State) (d : ℕ) (v : Value) (mask : ℕ) → MasksNameLoads s → mask < 2 ^ s.loads →
+named_write : (s : ThreadState) (d : ℕ) (v : Value) (mask : ℕ) → MasksNameLoads s → mask < 2 ^ s.loads →
     OnEffect (Named s) (becomes (put s d (record { value = v; mask = mask })))
 named_write s d v mask h k = record {
   masks = named_put s d v mask h k;
@@ -208,19 +208,19 @@ named_write s d v mask h k = record {
   loads = omega arith;
 }
 
-pub named_place : (s : State) (base : ℕ) (index : Option ℕ) → MasksNameLoads s →
+pub named_place : (s : ThreadState) (base : ℕ) (index : Option ℕ) → MasksNameLoads s →
     address_mask s base index < 2 ^ s.loads
 named_place s base None h = h.in_regs base
 named_place s base (Some index) h = or_lt s.loads _ _ (h.in_regs base) (h.in_regs index)
 
-named_both : (s : State) (a b : ℕ) → MasksNameLoads s → both_masks s a b < 2 ^ s.loads
+named_both : (s : ThreadState) (a b : ℕ) → MasksNameLoads s → both_masks s a b < 2 ^ s.loads
 named_both s a b h = or_lt s.loads _ _ (h.in_regs a) (h.in_regs b)
 
 bit_below : (k : ℕ) → bit k < 2 ^ (k + 1)
 bit_below k =
     let e : k + 1 ≡ suc k = omega arith in rw e (omega (arith, pow-suc 2 k, pow_pos k))
 
-named_load : (mark : Mark) (s : State) (d p n mask : ℕ) → MasksNameLoads s → mask < 2 ^ s.loads →
+named_load : (mark : Mark) (s : ThreadState) (d p n mask : ℕ) → MasksNameLoads s → mask < 2 ^ s.loads →
     OnEffect (Named s) (loading mark s d (Some p) mask (Some n))
 named_load mark s d p n mask h k = record {
   masks = record {
@@ -237,7 +237,7 @@ named_load mark s d p n mask h k = record {
     in_either true r = bit_below s.loads
     in_either false r = wider (s.regs r).mask s.loads (h.in_regs r)
 
-named_store : (mark : Mark) (s : State) (p n mask data_mask : ℕ) → MasksNameLoads s → mask < 2 ^ s.loads →
+named_store : (mark : Mark) (s : ThreadState) (p n mask data_mask : ℕ) → MasksNameLoads s → mask < 2 ^ s.loads →
     data_mask < 2 ^ s.loads →
     OnEffect (Named s) (storing mark s (Some p) mask (Num n) data_mask)
 named_store mark s p n mask data_mask h k j = record {
@@ -246,7 +246,7 @@ named_store mark s p n mask data_mask h k j = record {
   loads = omega arith;
 }
 
-named_cmp : (s : State) (mask : ℕ) (equal : Bool) → MasksNameLoads s → mask < 2 ^ s.loads →
+named_cmp : (s : ThreadState) (mask : ℕ) (equal : Bool) → MasksNameLoads s → mask < 2 ^ s.loads →
     OnEffect (Named s) (comparing s mask (Some equal))
 named_cmp s mask equal h k = record {
   masks = record { in_regs = h.in_regs; in_flag = k; in_control = h.in_control };
@@ -254,7 +254,7 @@ named_cmp s mask equal h k = record {
   loads = omega arith;
 }
 
-named_branch : (s : State) (mask : ℕ) (b : Bool) (l : ℕ) → MasksNameLoads s → mask < 2 ^ s.loads →
+named_branch : (s : ThreadState) (mask : ℕ) (b : Bool) (l : ℕ) → MasksNameLoads s → mask < 2 ^ s.loads →
     OnEffect (Named s) (branching s mask b l)
 named_branch s mask b l h k = record {
   masks = record {
@@ -267,7 +267,7 @@ named_branch s mask b l h k = record {
 }
 
 -- after each step the masks name loads that were stepped, and the step counts its own load
-pub step_named : (op : Micro) (s : State) (read : Option ℕ) → MasksNameLoads s →
+pub step_named : (op : Micro) (s : ThreadState) (read : Option ℕ) → MasksNameLoads s →
     OnEffect (Named s) (step op s read)
 step_named (ops.Imm d n) s read h = named_write s d (Num n) 0 h (empty_mask s.loads)
 step_named (ops.Xor d a b) s read h =
@@ -282,24 +282,24 @@ step_named (ops.OrImm d a n) s read h =
     on_writing (Named s) s d (s.regs a).mask (ored (s.regs a).value n)
     (λ v. named_write s d v (s.regs a).mask h (h.in_regs a))
 step_named (ops.Add d a b) s read h =
-    on_writing (Named s) s d (both_masks s a b) (summed (s.regs a).value (s.regs b).value)
+    on_writing (Named s) s d (both_masks s a b) (sum_of_values (s.regs a).value (s.regs b).value)
     (λ v. named_write s d v (both_masks s a b) h (named_both s a b h))
 step_named (ops.Load d base index) s read h =
-    on_loading (Named s) Plain s d (place_of s base index) (address_mask s base index) read
+    on_loading (Named s) Plain s d (place_reached s base index) (address_mask s base index) read
     (λ p n. named_load Plain s d p n (address_mask s base index) h (named_place s base index h))
 step_named (ops.LoadAcq d base) s read h =
-    on_loading (Named s) Acquire s d (place_of s base None) (address_mask s base None) read
+    on_loading (Named s) Acquire s d (place_reached s base None) (address_mask s base None) read
     (λ p n. named_load Acquire s d p n (address_mask s base None) h (named_place s base None h))
 step_named (ops.LoadAt d p) s read h =
     on_loading (Named s) Plain s d (Some p) 0 read
     (λ p n. named_load Plain s d p n 0 h (empty_mask s.loads))
 step_named (ops.Store src base index) s read h =
-    on_storing (Named s) Plain s (place_of s base index) (address_mask s base index)
+    on_storing (Named s) Plain s (place_reached s base index) (address_mask s base index)
     (s.regs src).value (s.regs src).mask
     (λ p n. named_store Plain s p n (address_mask s base index) (s.regs src).mask h
     (named_place s base index h) (h.in_regs src))
 step_named (ops.StoreRel src base) s read h =
-    on_storing (Named s) Release s (place_of s base None) (address_mask s base None)
+    on_storing (Named s) Release s (place_reached s base None) (address_mask s base None)
     (s.regs src).value (s.regs src).mask
     (λ p n. named_store Release s p n (address_mask s base None) (s.regs src).mask h
     (named_place s base None h) (h.in_regs src))
@@ -318,11 +318,11 @@ step_named (ops.Barrier kind) s read h =
     record { masks = h; item = h.in_control; loads = omega arith }
 
 -- a step counts a load, and no other operation
-abbrev pub Counts : State → ℕ → Effect → Type 0
+abbrev pub Counts : ThreadState → ℕ → Effect → Type 0
 Counts s more effect = effect.state.loads ≡ s.loads + more
 
 -- each step counts a load, and no other operation
-pub step_counts : (op : Micro) (s : State) (read : Option ℕ) →
+pub step_counts : (op : Micro) (s : ThreadState) (read : Option ℕ) →
     OnEffect (Counts s (cond (is_load op) 1 0)) (step op s read)
 step_counts (ops.Imm d n) s read = sym (add-zero s.loads)
 step_counts (ops.Xor d a b) s read =
@@ -335,20 +335,20 @@ step_counts (ops.AddImm d a n) s read =
 step_counts (ops.OrImm d a n) s read =
     on_writing (Counts s 0) s d (s.regs a).mask (ored (s.regs a).value n) (λ v. sym (add-zero s.loads))
 step_counts (ops.Add d a b) s read =
-    on_writing (Counts s 0) s d (both_masks s a b) (summed (s.regs a).value (s.regs b).value)
+    on_writing (Counts s 0) s d (both_masks s a b) (sum_of_values (s.regs a).value (s.regs b).value)
     (λ v. sym (add-zero s.loads))
 step_counts (ops.Load d base index) s read =
-    on_loading (Counts s 1) Plain s d (place_of s base index) (address_mask s base index) read
+    on_loading (Counts s 1) Plain s d (place_reached s base index) (address_mask s base index) read
     (λ p n. refl)
 step_counts (ops.LoadAcq d base) s read =
-    on_loading (Counts s 1) Acquire s d (place_of s base None) (address_mask s base None) read
+    on_loading (Counts s 1) Acquire s d (place_reached s base None) (address_mask s base None) read
     (λ p n. refl)
 step_counts (ops.LoadAt d p) s read = on_loading (Counts s 1) Plain s d (Some p) 0 read (λ p n. refl)
 step_counts (ops.Store src base index) s read =
-    on_storing (Counts s 0) Plain s (place_of s base index) (address_mask s base index)
+    on_storing (Counts s 0) Plain s (place_reached s base index) (address_mask s base index)
     (s.regs src).value (s.regs src).mask (λ p n. sym (add-zero s.loads))
 step_counts (ops.StoreRel src base) s read =
-    on_storing (Counts s 0) Release s (place_of s base None) (address_mask s base None)
+    on_storing (Counts s 0) Release s (place_reached s base None) (address_mask s base None)
     (s.regs src).value (s.regs src).mask (λ p n. sym (add-zero s.loads))
 step_counts (ops.StoreAt p n) s read = sym (add-zero s.loads)
 step_counts (ops.Cmp a b) s read =

@@ -10,8 +10,8 @@ use Rattle.micro_ops.specs.declared.run.Halt.{Halt}
 use Rattle.micro_ops.specs.declared.run.Halt.TheVariants as halts
 use Rattle.micro_ops.specs.Machines.{state_of}
 use Rattle.micro_ops.specs.Running.{Run, Point, At, go, exec, is_load, is_past, lands, landing, beginning, outcome, runs, ReadsLeft, OnRun}
-use Rattle.micro_ops.specs.Threads.{EndedRun, goes_on, StopsAt, CausedBy}
-use Rattle.micro_ops.specs.Runners.{Progress, point_of, error_of}
+use Rattle.micro_ops.specs.RunThreads.{EndedRun, goes_on, StopsAt, CausedBy}
+use Rattle.micro_ops.specs.Runners.{RunProgress, point_of, error_of}
 use Rattle.micro_ops.proofs.Laws.{exec_append, never_past, loads_within}
 
 -- the run of one operation more is that operation from where the others led
@@ -23,14 +23,14 @@ exec_more code i d p q h e =
     ap (λ ops. exec ops p) (sym (take_more code i d h))
 
 -- a runner before or past an operation goes on
-pub runner_goes_on : (runner : Progress) → goes_on (point_of runner) ≡ true
+pub runner_goes_on : (runner : RunProgress) → goes_on (point_of runner) ≡ true
 runner_goes_on runner = on_landing runner.past _
   where
     on_landing : (j : Option ℕ) (r : Run) → goes_on (landing j r) ≡ true
     on_landing None r = refl
     on_landing (Some l) r = refl
 
-runner_loads : (runner : Progress) (n : ℕ) → OnRun (λ r. r.state.loads ≤ n) (point_of runner) →
+runner_loads : (runner : RunProgress) (n : ℕ) → OnRun (λ r. r.state.loads ≤ n) (point_of runner) →
     (state_of runner.machine).loads ≤ n
 runner_loads runner n h = on_landing runner.past _ h
   where
@@ -41,7 +41,7 @@ runner_loads runner n h = on_landing runner.past _ h
 
 -- before a load of code with at most 64 loads, fewer than 64 were stepped
 pub room_left : (code : List Micro) (init : List (ℕ × Value)) (reads : List ℕ) (i : ℕ) (d : Micro)
-    (runner : Progress) → i < length code →
+    (runner : RunProgress) → i < length code →
     point_of runner ≡ exec (take i code) (At (beginning init reads)) →
     count_by is_load code ≤ 64 → is_load (get_or code i d) ≡ true →
     (state_of runner.machine).loads < 64
@@ -58,7 +58,7 @@ room_left code init reads i d runner h e few is_one =
 
 -- where a runner is stuck, the run stops
 pub stops : (code : List Micro) (init : List (ℕ × Value)) (reads : List ℕ) (i : ℕ) (d : Micro)
-    (runner : Progress) → i < length code →
+    (runner : RunProgress) → i < length code →
     point_of runner ≡ exec (take i code) (At (beginning init reads)) →
     goes_on (go (get_or code i d) (point_of runner)) ≡ false →
     StopsAt code (At (beginning init reads)) i

@@ -1,6 +1,6 @@
 pub mod Machine
 pub mod Machines
 pub mod Running
-pub mod Threads
+pub mod RunThreads
 pub mod Runners
 pub mod Renumbering

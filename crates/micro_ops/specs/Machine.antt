@@ -16,7 +16,7 @@ use Rattle.micro_ops.specs.declared.operation.Item.TheVariants as items
 -- what a thread holds between two operations: its registers, whether the last two compared were
 -- equal and the loads that this depends on, the loads that branches depended on, and how many loads
 -- were stepped. Bit k of a mask names load number k, from 0
-pub record State : Type 0 where
+pub record ThreadState : Type 0 where
   pub regs : ℕ → Held
   pub flag : Bool
   pub flag_mask : ℕ
@@ -25,7 +25,7 @@ pub record State : Type 0 where
 
 -- what an operation leads to: the state after it, the item that it makes and the label it jumps to
 pub record Effect : Type 0 where
-  pub state : State
+  pub state : ThreadState
   pub item : Option Item
   pub jump : Option ℕ
 
@@ -33,13 +33,13 @@ pub record Effect : Type 0 where
 abbrev pub num : ℕ → ℕ → Held
 num n mask = record { value = Num n; mask = mask }
 
--- the address of a place, which depends on the loads of a mask
-abbrev pub address : ℕ → ℕ → Held
-address place mask = record { value = Place place; mask = mask }
+-- the address_held of a place, which depends on the loads of a mask
+abbrev pub address_held : ℕ → ℕ → Held
+address_held place mask = record { value = Place place; mask = mask }
 
--- the address of a place, which depends on no load
-abbrev pub at_place : ℕ → Held
-at_place place = address place 0
+-- the address_held of a place, which depends on no load
+abbrev pub held_at_place : ℕ → Held
+held_at_place place = address_held place 0
 
 -- the mask of load number k alone
 abbrev pub bit : ℕ → ℕ
@@ -50,11 +50,11 @@ abbrev pub written : (ℕ → Held) → ℕ → Held → ℕ → Held
 written regs dst held r = cond (r == dst) held (regs r)
 
 -- a state in which one register was written
-abbrev pub put : State → ℕ → Held → State
+abbrev pub put : ThreadState → ℕ → Held → ThreadState
 put s dst held = record s { regs = written s.regs dst held }
 
 -- the loads that two registers depend on
-abbrev pub both_masks : State → ℕ → ℕ → ℕ
+abbrev pub both_masks : ThreadState → ℕ → ℕ → ℕ
 both_masks s a b = bit_or (s.regs a).mask (s.regs b).mask
 
 -- a sum, which is a number of 32 bits
@@ -76,7 +76,7 @@ abbrev pub ored : Value → ℕ → Option Value
 ored (Num m) n = Some (Num (bit_or m n))
 ored (Place _) _ = None
 
--- the place that an address and the number 0 make, in either order
+-- the place that an address_held and the number 0 make, in either order
 abbrev pub place_at : Value → Value → Option ℕ
 place_at (Place p) (Num zero) = Some p
 place_at (Num zero) (Place p) = Some p
@@ -87,10 +87,10 @@ abbrev pub as_place : Option ℕ → Option Value
 as_place (Some p) = Some (Place p)
 as_place None = None
 
--- the sum of two numbers, or of an address and the number 0
-abbrev pub summed : Value → Value → Option Value
-summed (Num m) (Num n) = fitting (m + n)
-summed a b = as_place (place_at a b)
+-- the sum of two numbers, or of an address_held and the number 0
+abbrev pub sum_of_values : Value → Value → Option Value
+sum_of_values (Num m) (Num n) = fitting (m + n)
+sum_of_values a b = as_place (place_at a b)
 
 -- whether two numbers are equal
 abbrev pub same_number : Value → Value → Option Bool
@@ -98,30 +98,30 @@ same_number (Num m) (Num n) = Some (m == n)
 same_number _ _ = None
 
 -- the place of an access: that of its base, or of base and index
-abbrev pub place_of : State → ℕ → Option ℕ → Option ℕ
-place_of s base None = place_at (s.regs base).value (Num 0)
-place_of s base (Some index) = place_at (s.regs base).value (s.regs index).value
+abbrev pub place_reached : ThreadState → ℕ → Option ℕ → Option ℕ
+place_reached s base None = place_at (s.regs base).value (Num 0)
+place_reached s base (Some index) = place_at (s.regs base).value (s.regs index).value
 
--- the loads that the address of an access depends on
-abbrev pub address_mask : State → ℕ → Option ℕ → ℕ
+-- the loads that the address_held of an access depends on
+abbrev pub address_mask : ThreadState → ℕ → Option ℕ → ℕ
 address_mask s base None = (s.regs base).mask
 address_mask s base (Some index) = both_masks s base index
 
 -- an operation that only changes the state
-abbrev pub becomes : State → Option Effect
+abbrev pub becomes : ThreadState → Option Effect
 becomes s = Some (record { state = s; item = None; jump = None })
 
 -- an operation that writes a value into a register
-abbrev pub writing : State → ℕ → ℕ → Option Value → Option Effect
-writing s dst mask (Some value) = becomes (put s dst (record { value = value; mask = mask }))
-writing _ _ _ None = None
+abbrev pub write_effect : ThreadState → ℕ → ℕ → Option Value → Option Effect
+write_effect s dst mask (Some value) = becomes (put s dst (record { value = value; mask = mask }))
+write_effect _ _ _ None = None
 
 -- an operation that makes an item
-abbrev pub making : State → Item → Option Effect
+abbrev pub making : ThreadState → Item → Option Effect
 making s item = Some (record { state = s; item = Some item; jump = None })
 
 -- a load of a mark from a place: the register gets the number read, which depends on this load alone
-abbrev pub loading : Mark → State → ℕ → Option ℕ → ℕ → Option ℕ → Option Effect
+abbrev pub loading : Mark → ThreadState → ℕ → Option ℕ → ℕ → Option ℕ → Option Effect
 loading mark s dst (Some place) mask (Some n) =
     making
     (record (put s dst (num n (bit s.loads))) { loads = s.loads + 1 })
@@ -129,18 +129,18 @@ loading mark s dst (Some place) mask (Some n) =
 loading _ _ _ _ _ _ = None
 
 -- a store of a mark, of a number to a place
-abbrev pub storing : Mark → State → Option ℕ → ℕ → Value → ℕ → Option Effect
+abbrev pub storing : Mark → ThreadState → Option ℕ → ℕ → Value → ℕ → Option Effect
 storing mark s (Some place) mask (Num n) data_mask =
     making s (items.Access dirs.W mark place n mask data_mask s.control)
 storing _ _ _ _ _ _ = None
 
 -- a comparison
-abbrev pub comparing : State → ℕ → Option Bool → Option Effect
+abbrev pub comparing : ThreadState → ℕ → Option Bool → Option Effect
 comparing s mask (Some equal) = becomes (record s { flag = equal; flag_mask = mask })
 comparing _ _ None = None
 
 -- a branch that depends on the loads of a mask
-abbrev pub branching : State → ℕ → Bool → ℕ → Option Effect
+abbrev pub branching : ThreadState → ℕ → Bool → ℕ → Option Effect
 branching s mask taken label =
     Some (record {
       state = record s { control = bit_or s.control mask };
@@ -149,32 +149,32 @@ branching s mask taken label =
     })
 
 -- a branch that is taken where a value is a number other than 0
-abbrev pub branching_on : State → ℕ → Value → ℕ → Option Effect
+abbrev pub branching_on : ThreadState → ℕ → Value → ℕ → Option Effect
 branching_on s mask (Num n) label = branching s mask (not (n == 0)) label
 branching_on _ _ (Place _) _ = None
 
 -- the rule of each operation, with what a load reads; None where no rule fits the operands or a
 -- load has nothing to read
-abbrev pub step : Micro → State → Option ℕ → Option Effect
-step (ops.Imm dst n) s _ = writing s dst 0 (Some (Num n))
+abbrev pub step : Micro → ThreadState → Option ℕ → Option Effect
+step (ops.Imm dst n) s _ = write_effect s dst 0 (Some (Num n))
 step (ops.Xor dst a b) s _ =
     cond (a == b)
-    (writing s dst (s.regs a).mask (Some (Num 0)))
-    (writing s dst (both_masks s a b) (xored (s.regs a).value (s.regs b).value))
-step (ops.AddImm dst a n) s _ = writing s dst (s.regs a).mask (plus (s.regs a).value n)
-step (ops.OrImm dst a n) s _ = writing s dst (s.regs a).mask (ored (s.regs a).value n)
+    (write_effect s dst (s.regs a).mask (Some (Num 0)))
+    (write_effect s dst (both_masks s a b) (xored (s.regs a).value (s.regs b).value))
+step (ops.AddImm dst a n) s _ = write_effect s dst (s.regs a).mask (plus (s.regs a).value n)
+step (ops.OrImm dst a n) s _ = write_effect s dst (s.regs a).mask (ored (s.regs a).value n)
 step (ops.Add dst a b) s _ =
-    writing s dst (both_masks s a b) (summed (s.regs a).value (s.regs b).value)
+    write_effect s dst (both_masks s a b) (sum_of_values (s.regs a).value (s.regs b).value)
 step (ops.Load dst base index) s read =
-    loading Plain s dst (place_of s base index) (address_mask s base index) read
+    loading Plain s dst (place_reached s base index) (address_mask s base index) read
 step (ops.LoadAt dst place) s read = loading Plain s dst (Some place) 0 read
 step (ops.LoadAcq dst base) s read =
-    loading Acquire s dst (place_of s base None) (address_mask s base None) read
+    loading Acquire s dst (place_reached s base None) (address_mask s base None) read
 step (ops.Store src base index) s _ =
-    storing Plain s (place_of s base index) (address_mask s base index) (s.regs src).value (s.regs src).mask
+    storing Plain s (place_reached s base index) (address_mask s base index) (s.regs src).value (s.regs src).mask
 step (ops.StoreAt place n) s _ = storing Plain s (Some place) 0 (Num n) 0
 step (ops.StoreRel src base) s _ =
-    storing Release s (place_of s base None) (address_mask s base None) (s.regs src).value (s.regs src).mask
+    storing Release s (place_reached s base None) (address_mask s base None) (s.regs src).value (s.regs src).mask
 step (ops.Cmp a b) s _ =
     comparing s (both_masks s a b)
     (cond (a == b) (Some true) (same_number (s.regs a).value (s.regs b).value))

@@ -6,7 +6,7 @@ use Rattle.micro_ops.specs.declared.machine.Stepped.{Stepped}
 use Rattle.micro_ops.specs.declared.machine.Stuck.{Stuck}
 use Rattle.micro_ops.specs.declared.operation.Micro.{Micro}
 use Rattle.micro_ops.specs.declared.operation.Micro.TheVariants as ops
-use Rattle.micro_ops.specs.Machine.{State, Effect, num}
+use Rattle.micro_ops.specs.Machine.{ThreadState, Effect, num}
 
 -- what a machine holds between two operations: its 32 registers, from register 0, whether the last
 -- two compared were equal and the loads that this depends on, the loads that branches depended on,
@@ -19,13 +19,13 @@ pub record Contents : Type 0 where
   pub loads : ℕ
 
 -- what each register of a list holds; past its end, the number 0
-abbrev pub held_in : List Held → ℕ → Held
-held_in registers r = get_or registers r (num 0 0)
+abbrev pub held_by_register : List Held → ℕ → Held
+held_by_register registers r = get_or registers r (num 0 0)
 
 -- the state that a machine with these contents is in
-abbrev pub state_of : Contents → State
+abbrev pub state_of : Contents → ThreadState
 state_of contents = record {
-  regs = held_in contents.registers;
+  regs = held_by_register contents.registers;
   flag = contents.flag;
   flag_mask = contents.flag_mask;
   control = contents.control;
@@ -33,7 +33,7 @@ state_of contents = record {
 }
 
 -- the answer of a step and the state after it, in the form in which a rule gives them
-abbrev pub effect : Result Stepped Stuck → State → Option Effect
+abbrev pub effect : Result Stepped Stuck → ThreadState → Option Effect
 effect (Ok stepped) s = Some (record { state = s; item = stepped.item; jump = stepped.jump })
 effect (Err _) _ = None
 

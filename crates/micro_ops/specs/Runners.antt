@@ -11,14 +11,14 @@ use Rattle.micro_ops.specs.Running.{Point, landing}
 
 -- how far a run has come: what its machine holds, the items made, the label that it is on the way
 -- to, if any, and the numbers that are left to read
-pub record Progress : Type 0 where
+pub record RunProgress : Type 0 where
   pub machine : Contents
   pub made : List Item
   pub past : Option ℕ
   pub reads : List ℕ
 
 -- where a run has come to
-abbrev pub point_of : Progress → Point
+abbrev pub point_of : RunProgress → Point
 point_of progress =
     landing progress.past
     (record {

@@ -8,11 +8,11 @@ use Rattle.micro_ops.specs.declared.operation.Micro.TheVariants as ops
 use Rattle.micro_ops.specs.declared.operation.Item.{Item}
 use Rattle.micro_ops.specs.declared.operation.Item.TheVariants as items
 use Rattle.relax_edges.specs.declared.kinds.Dir.TheVariants as dirs
-use Rattle.micro_ops.specs.Machine.{State, Effect, step, num}
+use Rattle.micro_ops.specs.Machine.{ThreadState, Effect, step, num}
 
 -- a run as far as it has come: the state, the numbers that are left to read, the items made
 pub record Run : Type 0 where
-  pub state : State
+  pub state : ThreadState
   pub reads : List ℕ
   pub made : List Item
 
@@ -110,8 +110,8 @@ starting (named ∷ init) r =
     cond (r == named.0) (record { value = named.1; mask = 0 }) (starting init r)
 
 -- what a thread holds before its first operation
-abbrev pub initial : List (ℕ × Value) → State
-initial init = record {
+abbrev pub initial_state : List (ℕ × Value) → ThreadState
+initial_state init = record {
   regs = starting init;
   flag = false;
   flag_mask = 0;
@@ -121,7 +121,7 @@ initial init = record {
 
 -- a thread before its first operation
 abbrev pub beginning : List (ℕ × Value) → List ℕ → Run
-beginning init reads = record { state = initial init; reads = reads; made = [] }
+beginning init reads = record { state = initial_state init; reads = reads; made = [] }
 
 -- how a run ends: with its items and the values of its registers, all reads used; at its end with
 -- reads left; at a load that lacks a read; or where no rule fits, or a label is missing
@@ -132,18 +132,18 @@ pub data Outcome : Type 0 where
   NoRule : Outcome
 
 -- the end of a run whose code is over
-abbrev pub ended : Run → List ℕ → Outcome
-ended r [] = Ended r.made (λ q. (r.state.regs q).value)
-ended _ (_ ∷ _) = ReadsLeft
+abbrev pub run_ended : Run → List ℕ → Outcome
+run_ended r [] = Ended r.made (λ q. (r.state.regs q).value)
+run_ended _ (_ ∷ _) = ReadsLeft
 
 -- how a run ends that has come to a point, where its code is over
 abbrev pub outcome : Point → Outcome
-outcome (At r) = ended r r.reads
+outcome (At r) = run_ended r r.reads
 outcome (Past _ _) = NoRule
 outcome (Wants _) = ReadsShort
 outcome Stuck = NoRule
 
--- the run of a thread: its code, from its initial registers, on the numbers that its loads read
+-- the run of a thread: its code, from its initial_state registers, on the numbers that its loads read
 abbrev pub runs : List Micro → List (ℕ × Value) → List ℕ → Outcome
 runs code init reads = outcome (exec code (At (beginning init reads)))
 
@@ -165,22 +165,22 @@ writes (ops.LoadAcq dst _) = Some dst
 writes _ = None
 
 -- a register is the one that is named
-abbrev pub is_named : ℕ → Option ℕ → Bool
-is_named r (Some named) = r == named
-is_named _ None = false
+abbrev pub is_named_register : ℕ → Option ℕ → Bool
+is_named_register r (Some named) = r == named
+is_named_register _ None = false
 
 -- some operation writes a register
 abbrev pub is_written : ℕ → List Micro → Bool
 is_written _ [] = false
-is_written r (op ∷ code) = is_named r (writes op) || is_written r code
+is_written r (op ∷ code) = is_named_register r (writes op) || is_written r code
 
 -- an item is a read
-abbrev pub is_read : Item → Bool
-is_read (items.Access dirs.R _ _ _ _ _ _) = true
-is_read _ = false
+abbrev pub is_read_item : Item → Bool
+is_read_item (items.Access dirs.R _ _ _ _ _ _) = true
+is_read_item _ = false
 
 -- a state whose masks name loads that were stepped, and no others
-pub record MasksNameLoads (s : State) : Type 0 where
+pub record MasksNameLoads (s : ThreadState) : Type 0 where
   pub in_regs : (r : ℕ) → (s.regs r).mask < 2 ^ s.loads
   pub in_flag : s.flag_mask < 2 ^ s.loads
   pub in_control : s.control < 2 ^ s.loads
@@ -200,7 +200,7 @@ AllNameLoads loads (item ∷ made) = NamesLoads loads item × AllNameLoads loads
 pub record RunNamesLoads (r : Run) : Type 0 where
   pub masks : MasksNameLoads r.state
   pub items : AllNameLoads r.state.loads r.made
-  pub loads : r.state.loads ≡ count_by is_read r.made
+  pub loads : r.state.loads ≡ count_by is_read_item r.made
 
 -- a fact of the run that a point has, where it isn't stuck
 abbrev pub OnRun : (Run → Type 0) → Point → Type 0

@@ -1,7 +1,7 @@
 ghost use Rattle.std.specs.Prelude.{◌≡◌, ◌<◌, All, OnErr, IfSome, true, replicate};
-ghost use Rattle.micro_ops.specs.Machine.{num, step, writing, loading, storing, branching, place_of, address_mask};
-ghost use Rattle.micro_ops.specs.Running.{initial, is_load, starting};
-ghost use Rattle.micro_ops.specs.Machines.{state_of, held_in, effect, InRange};
+ghost use Rattle.micro_ops.specs.Machine.{num, step, write_effect, loading, storing, branching, place_reached, address_mask};
+ghost use Rattle.micro_ops.specs.Running.{initial_state, is_load, starting};
+ghost use Rattle.micro_ops.specs.Machines.{state_of, held_by_register, effect, InRange};
 
 use crate::held::Held;
 use crate::operand::{add_immediate, equal, exclusive_or, or_immediate, place, sum};
@@ -62,7 +62,7 @@ fn blank_registers() -> [Held; 32]
 fn name_registers(registers: &mut [Held], init: &[(u8, Value)])
     requires blank { registers.old ≡ replicate 32 (num 0 0) }
     requires in_range { All (λ named. named.0 < 32) init.now }
-    ensures { held_in registers.new ≡ starting init.now }
+    ensures { held_by_register registers.new ≡ starting init.now }
 {
     for k in (0..init.len()).rev() {
         let (register, value) = init[k];
@@ -98,7 +98,7 @@ impl Machine {
     /// 0, and no mask names a load.
     pub fn new(init: &[(u8, Value)]) -> Machine
         requires { All (λ named. named.0 < 32) init.now }
-        ensures { state_of result ≡ initial init.now }
+        ensures { state_of result ≡ initial_state init.now }
     {
         let mut registers = blank_registers();
         name_registers(&mut registers, init);
@@ -196,7 +196,7 @@ impl Machine {
     fn place(&self, base: u8, index: Option<u8>) -> Option<u8>
         requires base { base < 32 }
         requires index { IfSome index (λ i. i < 32) }
-        ensures { result ≡ place_of (state_of self.now) base index }
+        ensures { result ≡ place_reached (state_of self.now) base index }
     {
         match index {
             None => place(self.content_of(base).value, Value::Num(0)),
@@ -218,7 +218,7 @@ impl Machine {
 
     fn write(&mut self, register: u8, mask: u64, value: Option<Value>) -> Result<Stepped, Stuck>
         requires { register < 32 }
-        ensures gives { effect result (state_of self.new) ≡ writing (state_of self.old) register mask value }
+        ensures gives { effect result (state_of self.new) ≡ write_effect (state_of self.old) register mask value }
         ensures unchanged { OnErr result (self.new ≡ self.old) }
     {
         let Some(value) = value else {

@@ -1,5 +1,5 @@
 ghost use Rattle.std.specs.Prelude.{◌≡◌};
-ghost use Rattle.micro_ops.specs.Machine.{xored, plus, ored, summed, place_at, same_number};
+ghost use Rattle.micro_ops.specs.Machine.{xored, plus, ored, sum_of_values, place_at, same_number};
 
 use relax_edges::Value;
 
@@ -45,7 +45,7 @@ pub(crate) fn place(base: Value, index: Value) -> Option<u8>
 
 /// The sum of two numbers, if it has 32 bits, or of an address and the number 0.
 pub(crate) fn sum(a: Value, b: Value) -> Option<Value>
-    ensures { result ≡ summed a b }
+    ensures { result ≡ sum_of_values a b }
 {
     match (a, b) {
         (Value::Num(_), Value::Num(n)) => add_immediate(a, n),

@@ -2,7 +2,7 @@ ghost use Rattle.std.specs.Prelude.{◌≡◌, ◌<◌, ◌≤◌, ◌^◌, ◌+
 ghost use Rattle.micro_ops.specs.Machine.{step};
 ghost use Rattle.micro_ops.specs.Machines.{state_of, InRange};
 ghost use Rattle.micro_ops.specs.Running.{At, beginning, go, led, is_load, is_label, is_past, lands, runs, outcome, Ended, ReadsLeft};
-ghost use Rattle.micro_ops.specs.Threads.{value_in, goes_on, CausedBy};
+ghost use Rattle.micro_ops.specs.RunThreads.{value_in_run, goes_on, CausedBy};
 ghost use Rattle.micro_ops.specs.Runners.{point_of, error_of};
 
 use crate::machine::Machine;
@@ -22,7 +22,7 @@ pub struct Trace {
 }
 
 impl Model for Trace {
-    ghost use Rattle.micro_ops.specs.Threads.{EndedRun};
+    ghost use Rattle.micro_ops.specs.RunThreads.{EndedRun};
 
     ghost Value = { EndedRun };
 
@@ -40,7 +40,7 @@ impl Trace {
     /// The value of a register at the end.
     pub fn register(&self, register: u8) -> Value
         requires { register < 32 }
-        ensures { result ≡ value_in self.now register }
+        ensures { result ≡ value_in_run self.now register }
     {
         self.machine.content_of(register).value
     }
@@ -85,7 +85,7 @@ pub fn run_thread(
     requires lands { lands code.now ≡ true }
     requires few_loads { count_by is_load code.now ≤ 64 }
     requires short { length code.now < 2 ^ 32 }
-    ensures ended { IfOk result (λ trace. runs code.now init.now reads.now ≡ Ended trace.items (value_in trace)) }
+    ensures ended { IfOk result (λ trace. runs code.now init.now reads.now ≡ Ended trace.items (value_in_run trace)) }
     ensures refused { IfErr result (λ error. CausedBy error code.now init.now reads.now) }
 {
     let mut runner = Runner::new(alloc, init, reads);
@@ -107,9 +107,9 @@ struct Runner<'a> {
 }
 
 impl<'a> Model for Runner<'a> {
-    ghost use Rattle.micro_ops.specs.Runners.{Progress};
+    ghost use Rattle.micro_ops.specs.Runners.{RunProgress};
 
-    ghost Value = { Progress };
+    ghost Value = { RunProgress };
 
     ghost view = { λ r. record {
       machine = r.machine;
@@ -166,7 +166,7 @@ impl<'a> Runner<'a> {
     /// The trace of a run whose code is over, on the way to no label.
     fn end(self) -> Result<Trace, RunError>
         requires { is_past (point_of self) ≡ false }
-        ensures ended { IfOk result (λ trace. outcome (point_of self.entry) ≡ Ended trace.items (value_in trace)) }
+        ensures ended { IfOk result (λ trace. outcome (point_of self.entry) ≡ Ended trace.items (value_in_run trace)) }
         ensures left { IfErr result (λ error. (error ≡ RunError.ReadsLeft) × (outcome (point_of self.entry) ≡ ReadsLeft)) }
     {
         if self.reads.is_empty() {

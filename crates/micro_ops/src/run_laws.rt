@@ -4,7 +4,7 @@ ghost use Rattle.relax_edges.specs.declared.kinds.Value.{Value};
 ghost use Rattle.micro_ops.specs.declared.operation.Micro.{Micro};
 ghost use Rattle.micro_ops.specs.declared.held.Held.{Held};
 ghost use Rattle.micro_ops.specs.Running.{Run, Point, At, go, exec, lands, is_past, is_written, beginning, OnRun, RunNamesLoads, JumpLands, KeepsHeld, MadeAtMostOne};
-ghost use Rattle.micro_ops.specs.Threads.{StopsAt, goes_on};
+ghost use Rattle.micro_ops.specs.RunThreads.{StopsAt, goes_on};
 
 /// A run of one list of operations and then another is a run of the second from where the first
 /// led.

@@ -4,17 +4,17 @@ use Rattle.relax_edges.specs.declared.kinds.ArchName.{ArchName}
 use Rattle.arch_trait.specs.Threads.{Puts}
 use Rattle.arch_trait.specs.Writing.{Writing, WritesBack}
 use Rattle.arch_trait.specs.Cells.{WritesCells}
-use Rattle.arch_trait.specs.Tests.{TestSeen}
+use Rattle.arch_trait.specs.SeenTests.{TestSeen}
 use Rattle.litmus_text.specs.Reread.{IsReadable}
-use Rattle.litmus_text.specs.Mentioned.{ReadsBack}
+use Rattle.litmus_text.specs.Mentioned.{TestReadsBack}
 use Rattle.litmus_text.proofs.MentionedBack as mentioned_back
 use Rattle.std.specs.Prelude.{is_some}
-use Rattle.arch_trait.specs.Names.{number_in}
+use Rattle.arch_trait.specs.PlaceNames.{number_in}
 use Rattle.litmus_text.proofs.NamesBack.{Numbered}
 use Rattle.litmus_text.proofs.NamesBack as names_back
 
 -- the text of a readable test is read as that test, its places numbered by a table
-pub reads_back : (a : Puts) (arch : ArchName) (w : Writing) (name : List ℕ) (test : TestSeen) → WritesBack a w → WritesCells a w → IsReadable a arch w name test → ReadsBack arch w name test
+pub reads_back : (a : Puts) (arch : ArchName) (w : Writing) (name : List ℕ) (test : TestSeen) → WritesBack a w → WritesCells a w → IsReadable a arch w name test → TestReadsBack arch w name test
 reads_back a arch w name test laws cells h = mentioned_back.reads_back a arch w name test laws cells h
 
 -- a name that is in a table has its number there

@@ -7,8 +7,8 @@ use Rattle.list_laws.proofs.Elements.{list_all-weaker}
 use Rattle.relax_edges.specs.declared.kinds.ObsMode.{ObsMode}
 use Rattle.relax_edges.specs.declared.edge.Edge.{Edge}
 use Rattle.cycle_laws.specs.Composable.{IsCycle}
-use Rattle.cycle_names.specs.Names as cycles
-use Rattle.cycle_names.specs.Names.{name_of}
+use Rattle.cycle_names.specs.CycleNames as cycles
+use Rattle.cycle_names.specs.CycleNames.{name_of}
 use Rattle.cycle_names.proofs.NameLaws.{names_of_cycles}
 use Rattle.resolution_laws.specs.Resolution.{turned}
 use Rattle.arch_trait.specs.Cells.{WritesCells, MakesOneAccess}

@@ -24,10 +24,10 @@ use Rattle.text_laws.specs.Names.{is_place_name, is_register_name}
 use Rattle.arch_trait.specs.declared.arch.TheConstants.{MAX_INSTRS}
 use Rattle.arch_trait.specs.declared.step.Step.{Step}
 use Rattle.arch_trait.specs.Cells.{MakesOneAccess}
-use Rattle.arch_trait.specs.Codes.{AllBelow, IsFormed}
+use Rattle.arch_trait.specs.Codes.{AllBelow, IsFormedCode}
 use Rattle.arch_trait.specs.Laws.{IsArch, InOrder}
 use Rattle.arch_trait.specs.Links.{branches}
-use Rattle.arch_trait.specs.Names.{letters, location_name, number_in}
+use Rattle.arch_trait.specs.PlaceNames.{letters, location_name, number_in}
 use Rattle.arch_trait.specs.Threads.{Puts, ThreadCode, FitSteps, compiled, is_load_dir, setting_out, visits}
 use Rattle.arch_trait.specs.Writing.{Writing, WritesBack, name_in}
 use Rattle.arch_laws.proofs.Ordered.{compiled_ordered, compiled_accesses}
@@ -35,12 +35,12 @@ use Rattle.arch_laws.proofs.NameLaws.{location_new}
 use Rattle.arch_laws.proofs.CodeLaws.{is_formed, thread_short}
 use Rattle.litmus_text.specs.Items.{Link, LinkFits, links_of}
 use Rattle.litmus_text.specs.Progress.{CodeFits, code_lands}
-use Rattle.litmus_text.specs.Terms.{TermFits}
+use Rattle.litmus_text.specs.ReadTerms.{TermFits}
 use Rattle.printed_test_laws.proofs.FormedFits.{HasPlaces, code_fits, lands_once, links_fit}
 use Rattle.communication_laws.proofs.Lists.{image_of}
-use Rattle.test_laws.specs.Headline.{HasCode}
-use Rattle.test_laws.specs.Steps.{cycle_steps, numbers_read}
-use Rattle.test_laws.specs.TestOf.{plain, is_named, last_term, last_terms, load_term, thread_terms, load_terms}
+use Rattle.test_laws.specs.TestHeadline.{HasCode}
+use Rattle.test_laws.specs.CycleSteps.{cycle_steps, numbers_read}
+use Rattle.test_laws.specs.TestOf.{plain, is_named_location, last_term, last_terms, load_term, thread_terms, load_terms}
 use Rattle.test_laws.proofs.Everywhere.{all_from}
 use Rattle.test_laws.proofs.PlaceNames.{letter_at, locations_few}
 use Rattle.test_laws.proofs.StepsFit.{IsThread, all_at, steps_fit, steps_placed}
@@ -91,7 +91,7 @@ each_code a es mode P h =
 -- the code of a thread
 pub record IsThreadCode (a : Puts) (ss : List Step) : Type 0 where
   pub thread : IsThread a.name ss
-  pub formed : IsFormed a ss (compiled a ss)
+  pub formed : IsFormedCode a ss (compiled a ss)
 
 -- the code of a thread of the test is that of a thread of the architecture
 pub thread_is : (a : Puts) (es : List Edge) (mode : ObsMode) (k : ℕ) (ss : List Step) → IsArch a → HasCode a es mode → slice_get (cycle_steps es mode plain) k ≡ Some ss → IsThreadCode a ss
@@ -209,6 +209,6 @@ terms_fit a w es mode laws back t few =
     let threads = length (map (compiled a) (cycle_steps es mode plain)) in
     let size = length-map (cycle_steps es mode plain) (compiled a) in
     all_append (TermFits w threads (letters (move_count es))) (last_terms es mode) (load_terms a (name_in w.registers) 0 (cycle_steps es mode plain))
-    (ends_fit w es threads (filter (is_named es mode) (upto (move_count es))) t.resolved (filter_below (is_named es mode) (move_count es) (upto (move_count es)) (upto_below (move_count es))))
+    (ends_fit w es threads (filter (is_named_location es mode) (upto (move_count es))) t.resolved (filter_below (is_named_location es mode) (move_count es) (upto (move_count es)) (upto_below (move_count es))))
     (all_read_terms a w (letters (move_count es)) threads 0 (cycle_steps es mode plain) back (omega arith) (omega arith) (λ k ss g.
     let c = thread_is a es mode k ss laws t g in (c.formed.loads, numbers_small a.name false ss c.thread.fit)))

@@ -6,10 +6,10 @@ use Rattle.relax_edges.specs.declared.edge.Edge.{Edge}
 use Rattle.final_cond.specs.States.{Meets}
 use Rattle.resolution_laws.specs.Resolution.{move_count}
 use Rattle.arch_trait.specs.Laws.{IsArch}
-use Rattle.arch_trait.specs.Names.{letters, number_in}
+use Rattle.arch_trait.specs.PlaceNames.{letters, number_in}
 use Rattle.arch_trait.specs.Threads.{Puts}
 use Rattle.arch_trait.specs.Writing.{Writing, WritesBack, name_in}
-use Rattle.litmus_text.specs.Mentioned.{ReadsBack}
+use Rattle.litmus_text.specs.Mentioned.{TestReadsBack}
 use Rattle.litmus_text.specs.Reread.{reread}
 use Rattle.litmus_text.specs.TestReading.{TestRead}
 use Rattle.litmus_text.specs.TestText.{test_text}
@@ -18,18 +18,18 @@ use Rattle.program_meaning.specs.Intended.{intended}
 use Rattle.program_meaning.specs.Programs.{Program, IsCandidate, IsCoherentIn}
 use Rattle.program_meaning.specs.Standing.{AllStand}
 use Rattle.test_laws.specs.FinalStates.{final_state, IsAskedFor}
-use Rattle.test_laws.specs.Headline.{HasTest, Forces}
-use Rattle.test_laws.specs.Programs.{test_program}
+use Rattle.test_laws.specs.TestHeadline.{HasTest, Forces}
+use Rattle.test_laws.specs.TestPrograms.{test_program}
 use Rattle.test_laws.specs.TestOf.{test_of}
 use Rattle.test_laws.proofs.Headline.{renumbered_force_law}
 use Rattle.test_laws.proofs.RegisterNames.{registers_found}
-use Rattle.printed_test_laws.specs.Headline.{BytesForce}
-use Rattle.printed_test_laws.specs.Readings.{program_read, place_of, ReadingAsks}
+use Rattle.printed_test_laws.specs.PrintedHeadline.{BytesForce}
+use Rattle.printed_test_laws.specs.Readings.{program_read, place_in_test, ReadingAsks}
 use Rattle.printed_test_laws.proofs.Rereading.{by_table, reread_test, reread_renumbered, threads_numbered, number_of_location, intended_same}
 
 -- the bytes of a test that reads back force the cycle
 pub bytes_force : (a : Puts) (arch : ArchName) (w : Writing) (name : List ℕ) (es : List Edge) (mode : ObsMode) → IsArch a → WritesBack a w → HasTest a es mode
-    → ReadsBack arch w name (test_of a (name_in w.registers) es mode) → BytesForce arch w (test_text arch w name (test_of a (name_in w.registers) es mode)) es mode
+    → TestReadsBack arch w name (test_of a (name_in w.registers) es mode) → BytesForce arch w (test_text arch w name (test_of a (name_in w.registers) es mode)) es mode
 bytes_force a arch w name es mode laws back t r = record {
   test = test;
   reads = r.read;
@@ -49,8 +49,8 @@ bytes_force a arch w name es mode laws back t r = record {
     forced = renumbered_force_law a (name_in w.registers) (number_in w.registers) es mode (reread_test r.table (test_of a (name_in w.registers) es mode)) number laws (registers_found a w back) t
         (reread_renumbered a (name_in w.registers) es mode r.table laws t.code (record { once = r.once; inside = r.among }) r.codes r.links)
 
-    same : intended es mode number ≡ intended es mode (place_of test)
-    same = intended_same es mode number (place_of test) (λ l h. number_of_location r.table (move_count es) l h)
+    same : intended es mode number ≡ intended es mode (place_in_test test)
+    same = intended_same es mode number (place_in_test test) (λ l h. number_of_location r.table (move_count es) l h)
 
     program_is : test_program (reread_test r.table (test_of a (name_in w.registers) es mode)) ≡ program_read test
     program_is = λ i. record { places = length r.table; threads = threads_numbered r.table (letters (move_count es)) (test_of a (name_in w.registers) es mode).threads i }

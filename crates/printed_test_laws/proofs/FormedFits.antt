@@ -10,14 +10,14 @@ use Rattle.micro_ops.specs.declared.operation.Micro.TheVariants as ops
 use Rattle.micro_ops.specs.Running.{labels_of, lands, occurs}
 use Rattle.text_laws.specs.Names.{is_place_name}
 use Rattle.arch_trait.specs.declared.step.Step.{Step}
-use Rattle.arch_trait.specs.Cells.{is_access, accesses_in}
+use Rattle.arch_trait.specs.Cells.{is_access, access_count}
 use Rattle.arch_trait.specs.LabelOrder.{labels_after, is_next, labels_ordered}
 use Rattle.arch_trait.specs.Codes.{is_within}
 use Rattle.arch_trait.specs.Laws.{InOrder}
-use Rattle.arch_trait.specs.Names.{number_in}
+use Rattle.arch_trait.specs.PlaceNames.{number_in}
 use Rattle.arch_trait.specs.Threads.{Puts, ThreadCode, visits}
 use Rattle.arch_trait.specs.Writing.{Writing}
-use Rattle.litmus_text.specs.Table.{is_label_of}
+use Rattle.litmus_text.specs.TestTable.{is_label_of}
 use Rattle.litmus_text.specs.Progress.{is_placed, CodeFits, occurs_once, code_lands}
 use Rattle.litmus_text.specs.Items.{Link, links_of, links_once, LinkFits}
 
@@ -40,13 +40,13 @@ access_room op accesses h = by_test (is_access op)
 
 -- operations of the architecture, with places that have names, with labels in order, and not too many accesses
 pub code_fits : (a : Puts) (table : List (List ℕ)) (names : ℕ → List ℕ) (ss : List Step) (labels accesses : ℕ) (code : List Micro) → HasPlaces table names ss
-    → list_all a.has code ≡ true → list_all (is_within ss) code ≡ true → labels_ordered labels code ≡ true → accesses + accesses_in code ≤ 64 → CodeFits a table names labels accesses code
+    → list_all a.has code ≡ true → list_all (is_within ss) code ≡ true → labels_ordered labels code ≡ true → accesses + access_count code ≤ 64 → CodeFits a table names labels accesses code
 code_fits a table names ss labels accesses [] places has within ordered few = tt
 code_fits a table names ss labels accesses (op ∷ code) places has within ordered few =
     let h = and_parts (a.has op) (list_all a.has code) has in
     let w = and_parts (is_within ss op) (list_all (is_within ss) code) within in
     let o = and_parts (is_next labels op) (labels_ordered (labels_after labels op) code) ordered in
-    let count : accesses_in (op ∷ code) ≡ cond (is_access op) 1 0 + accesses_in code = sum_by-cons (λ op. cond (is_access op) 1 0) op code in (
+    let count : access_count (op ∷ code) ≡ cond (is_access op) 1 0 + access_count code = sum_by-cons (λ op. cond (is_access op) 1 0) op code in (
       record { has = h.0; placed = op_placed table names ss op places w.0; next = o.0; room = access_room op accesses (omega arith) },
       code_fits a table names ss (labels_after labels op) (accesses + cond (is_access op) 1 0) code places h.1 w.1 o.1 (omega arith),
     )
@@ -94,12 +94,12 @@ occurs_some label (op ∷ code) h =
     rest op h e = h
 
 -- a label after a branch, in code whose labels come at most once each, comes once in all
-occurs_exactly : (label : ℕ) (prefix behind : List Micro) → count_by (is_label_of label) (prefix ++ behind) ≤ 1 → occurs label behind ≡ true → occurs_once label (prefix ++ behind) behind ≡ true
-occurs_exactly label prefix behind few h =
-    let some = occurs_some label behind h in
-    let split : count_by (is_label_of label) (prefix ++ behind) ≡ count_by (is_label_of label) prefix + count_by (is_label_of label) behind = sum_by-append (λ op. cond (is_label_of label op) 1 0) prefix behind in
-    and_from (count_by (is_label_of label) (prefix ++ behind) == 1) (count_by (is_label_of label) behind == 1)
-    (eq-eqb (count_by (is_label_of label) (prefix ++ behind)) 1 (omega arith)) (eq-eqb (count_by (is_label_of label) behind) 1 (omega arith))
+occurs_exactly : (label : ℕ) (prefix remainder : List Micro) → count_by (is_label_of label) (prefix ++ remainder) ≤ 1 → occurs label remainder ≡ true → occurs_once label (prefix ++ remainder) remainder ≡ true
+occurs_exactly label prefix remainder few h =
+    let some = occurs_some label remainder h in
+    let split : count_by (is_label_of label) (prefix ++ remainder) ≡ count_by (is_label_of label) prefix + count_by (is_label_of label) remainder = sum_by-append (λ op. cond (is_label_of label op) 1 0) prefix remainder in
+    and_from (count_by (is_label_of label) (prefix ++ remainder) == 1) (count_by (is_label_of label) remainder == 1)
+    (eq-eqb (count_by (is_label_of label) (prefix ++ remainder)) 1 (omega arith)) (eq-eqb (count_by (is_label_of label) remainder) 1 (omega arith))
 
 shifted : (prefix : List Micro) (op : Micro) (code : List Micro) → (prefix ++ op ∷ []) ++ code ≡ prefix ++ op ∷ code
 shifted prefix op code = append_assoc prefix (op ∷ []) code

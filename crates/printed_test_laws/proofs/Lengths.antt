@@ -14,7 +14,7 @@ use Rattle.relax_edges.specs.declared.kinds.ArchName.{ArchName}
 use Rattle.relax_edges.specs.declared.kinds.ArchName.TheVariants as archs
 use Rattle.relax_edges.specs.declared.edge.Edge.{Edge}
 use Rattle.relax_edges.specs.Architectures.{arch_word}
-use Rattle.relax_edges.specs.Words.{word_of}
+use Rattle.relax_edges.specs.WordParts.{word_of}
 use Rattle.cycle_laws.proofs.SpellingLaws.{word_short}
 use Rattle.micro_ops.specs.declared.operation.Micro.{Micro}
 use Rattle.final_cond.specs.declared.cond.Quantifier.{Quantifier}
@@ -22,18 +22,18 @@ use Rattle.final_cond.specs.declared.cond.Quantifier.TheVariants as quantifiers
 use Rattle.final_cond.specs.Conditions.{LeftSeen, InRegister, AtPlace, TermSeen, CondSeen}
 use Rattle.final_cond.specs.CondText.{quantifier_word, left_text, term_text, further_term_text, terms_text, cond_text}
 use Rattle.text_laws.specs.Names.{is_register_name}
-use Rattle.final_cond.specs.ReadBack.{IsFormedTerm}
-use Rattle.final_cond.specs.Reading.{has_form}
+use Rattle.final_cond.specs.ConditionReadBack.{IsFormedTerm}
+use Rattle.final_cond.specs.ConditionReading.{has_form}
 use Rattle.text_laws.proofs.LengthLaws.{pieces_short}
 use Rattle.text_laws.proofs.NameLaws.{place_name_short, register_name_short}
 use Rattle.text_laws.proofs.NumberLaws.{two_digits, ten_digits}
 use Rattle.arch_trait.specs.declared.arch.TheConstants.{MAX_INSTRS}
 use Rattle.arch_trait.specs.Threads.{ThreadCode}
 use Rattle.arch_trait.specs.Writing.{Writing, op_text, name_in}
-use Rattle.arch_trait.specs.Tests.{TestSeen}
+use Rattle.arch_trait.specs.SeenTests.{TestSeen}
 use Rattle.litmus_text.specs.declared.limits.TheConstants.{MAX_TEXT}
 use Rattle.list_laws.proofs.Elements.{flat_map-flat_map}
-use Rattle.litmus_text.specs.TestText.{header_line, edges_line, item_text, items_lines, initial_lines, column_of, width_of, cell_text, row_line, row_count, table_lines, test_lines, ended, test_text}
+use Rattle.litmus_text.specs.TestText.{header_line, edges_line, item_text, items_lines, initial_lines, column_of, width_of, cell_text, row_line, row_count, table_lines, test_lines, with_line_feed, test_text}
 
 -- pieces of at most c bytes each, with a separator between
 joined_short : {X : Type 0} (f : X → List ℕ) (sep : List ℕ) (c e : ℕ) (xs : List X) → c + length sep ≤ e → AllByRecursion (λ x. length (f x) ≤ c) xs → length (join_by f sep xs) ≤ length xs * e
@@ -70,12 +70,12 @@ arch_short archs.PPC = omega arith
 arch_short archs.AArch64 = omega arith
 arch_short archs.RISCV = omega arith
 
-header_short : (arch : ArchName) (name : List ℕ) → length name ≤ 800 → length (ended (header_line arch name)) ≤ 809
+header_short : (arch : ArchName) (name : List ℕ) → length name ≤ 800 → length (with_line_feed (header_line arch name)) ≤ 809
 unfolding header_line
 header_short arch name h =
     omega (arith, arch_short arch, length-append (arch_word arch) (codes " " ++ name), length-append (arch_word arch ++ (codes " " ++ name)) (codes "\n"))
 
-edges_short : (edges : List Edge) → length edges ≤ MAX_EDGES → length (ended (edges_line edges)) ≤ 15 * MAX_EDGES + 3
+edges_short : (edges : List Edge) → length edges ≤ MAX_EDGES → length (with_line_feed (edges_line edges)) ≤ 15 * MAX_EDGES + 3
 unfolding edges_line
 edges_short edges h =
     let words = join_by word_of (codes " ") edges in
@@ -114,16 +114,16 @@ pub record IsSmall (w : Writing) (places : List (List ℕ)) (t : ThreadCode) : T
   pub texts : AllByRecursion (λ op. length (op_text w (name_in places) op) ≤ 40) t.instrs
 
 -- the line of items of a thread
-items_short : (w : Writing) (places : List (List ℕ)) (thread : ℕ) (links : List (ℕ × ℕ)) → AreShort w.registers → AreShort places → thread < 64 → length links ≤ 32 → length (flat_map ended (items_lines w places thread links)) ≤ 1217
+items_short : (w : Writing) (places : List (List ℕ)) (thread : ℕ) (links : List (ℕ × ℕ)) → AreShort w.registers → AreShort places → thread < 64 → length links ≤ 32 → length (flat_map with_line_feed (items_lines w places thread links)) ≤ 1217
 items_short w places thread [] registers names h few = omega arith
 items_short w places thread (link ∷ links) registers names h few =
     let items = join_by (item_text w places thread) (codes " ") (link ∷ links) in
     let short = joined_short (item_text w places thread) (codes " ") 37 38 (link ∷ links) (omega arith)
     (all_always (λ l. length (item_text w places thread l) ≤ 37) (link ∷ links) (λ l. item_short w places thread l registers names h)) in
-    omega (arith, short, length-append items (codes "\n"), length-append (ended items) [])
+    omega (arith, short, length-append items (codes "\n"), length-append (with_line_feed items) [])
 
 all_items_short : (w : Writing) (places : List (List ℕ)) (n : ℕ) (threads : List ThreadCode) → AreShort w.registers → AreShort places → n + length threads ≤ 64 → AllByRecursion (IsSmall w places) threads
-    → AllByRecursion (λ (t : ℕ × ThreadCode). length (flat_map ended (items_lines w places t.0 t.1.links)) ≤ 1217) (enumerate_from n threads)
+    → AllByRecursion (λ (t : ℕ × ThreadCode). length (flat_map with_line_feed (items_lines w places t.0 t.1.links)) ≤ 1217) (enumerate_from n threads)
 all_items_short w places n [] registers names h small = tt
 all_items_short w places n (t ∷ threads) registers names h small =
     (items_short w places n t.links registers names (omega arith) small.0.links, all_items_short w places (n + 1) threads registers names (omega arith) small.1)
@@ -133,23 +133,23 @@ length-enumerate n [] = refl
 length-enumerate n (t ∷ threads) = ap suc (length-enumerate (n + 1) threads)
 
 initial_short : (w : Writing) (places : List (List ℕ)) (threads : List ThreadCode) → AreShort w.registers → AreShort places → length threads ≤ MAX_EDGES → AllByRecursion (IsSmall w places) threads
-    → length (flat_map ended (initial_lines w places threads)) ≤ 1217 * MAX_EDGES + 4
+    → length (flat_map with_line_feed (initial_lines w places threads)) ≤ 1217 * MAX_EDGES + 4
 unfolding initial_lines
 initial_short w places threads registers names few small =
     let items = flat_map (λ (t : ℕ × ThreadCode). items_lines w places t.0 t.1.links) (enumerate_from 0 threads) in
-    let joined = flat_map-flat_map ended (λ (t : ℕ × ThreadCode). items_lines w places t.0 t.1.links) (enumerate_from 0 threads) in
-    let each = All-from_recursion (λ (t : ℕ × ThreadCode). length (flat_map ended (items_lines w places t.0 t.1.links)) ≤ 1217) (enumerate_from 0 threads)
+    let joined = flat_map-flat_map with_line_feed (λ (t : ℕ × ThreadCode). items_lines w places t.0 t.1.links) (enumerate_from 0 threads) in
+    let each = All-from_recursion (λ (t : ℕ × ThreadCode). length (flat_map with_line_feed (items_lines w places t.0 t.1.links)) ≤ 1217) (enumerate_from 0 threads)
     (all_items_short w places 0 threads registers names (omega arith) small) in
-    let short = pieces_short (λ (t : ℕ × ThreadCode). flat_map ended (items_lines w places t.0 t.1.links)) 1217 (enumerate_from 0 threads) each in
-    let split = flat_map-append ended items (codes "}" ∷ []) in
+    let short = pieces_short (λ (t : ℕ × ThreadCode). flat_map with_line_feed (items_lines w places t.0 t.1.links)) 1217 (enumerate_from 0 threads) each in
+    let split = flat_map-append with_line_feed items (codes "}" ∷ []) in
     omega (
       arith,
       short,
       length-enumerate 0 threads,
       ap length joined,
       ap length split,
-      length-append (flat_map ended items) (flat_map ended (codes "}" ∷ [])),
-      length-append (ended (codes "{")) (flat_map ended (items ++ codes "}" ∷ [])),
+      length-append (flat_map with_line_feed items) (flat_map with_line_feed (codes "}" ∷ [])),
+      length-append (with_line_feed (codes "{")) (flat_map with_line_feed (items ++ codes "}" ∷ [])),
     )
 
 -- a column of short texts, not too many
@@ -189,7 +189,7 @@ cells_short row (column ∷ columns) narrow = (cell_short row column narrow.0, c
 abbrev row_room : ℕ
 row_room = 43 * MAX_EDGES + 4
 
-row_short : (columns : List (List (List ℕ))) (row : ℕ) → length columns ≤ MAX_EDGES → AllByRecursion IsNarrow columns → length (ended (row_line columns row)) ≤ row_room
+row_short : (columns : List (List (List ℕ))) (row : ℕ) → length columns ≤ MAX_EDGES → AllByRecursion IsNarrow columns → length (with_line_feed (row_line columns row)) ≤ row_room
 unfolding row_line
 row_short columns row few narrow =
     let cells = join_by (cell_text row) (codes " | ") columns in
@@ -204,12 +204,12 @@ rows_few columns narrow = greatest_short {X = List (List ℕ)} (λ column. lengt
     sizes [] narrow = tt
     sizes (column ∷ columns) narrow = (narrow.0.rows, sizes columns narrow.1)
 
-table_short : (columns : List (List (List ℕ))) → length columns ≤ MAX_EDGES → AllByRecursion IsNarrow columns → length (flat_map ended (table_lines columns)) ≤ (MAX_INSTRS + 1) * row_room
+table_short : (columns : List (List (List ℕ))) → length columns ≤ MAX_EDGES → AllByRecursion IsNarrow columns → length (flat_map with_line_feed (table_lines columns)) ≤ (MAX_INSTRS + 1) * row_room
 unfolding table_lines
 table_short columns few narrow =
     let rows = range_with_len 0 (row_count columns) in
-    let each = map_all (row_line columns) (λ line. length (ended line) ≤ row_room) rows (λ row. row_short columns row few narrow) in
-    let short = pieces_short ended row_room (map (row_line columns) rows) (All-from_recursion (λ line. length (ended line) ≤ row_room) (map (row_line columns) rows) each) in
+    let each = map_all (row_line columns) (λ line. length (with_line_feed line) ≤ row_room) rows (λ row. row_short columns row few narrow) in
+    let short = pieces_short with_line_feed row_room (map (row_line columns) rows) (All-from_recursion (λ line. length (with_line_feed line) ≤ row_room) (map (row_line columns) rows) each) in
     omega (arith, short, length-map rows (row_line columns), length-range_with_len 0 (row_count columns), rows_few columns narrow)
 
 quantifier_short : (q : Quantifier) → length (quantifier_word q) ≤ 7
@@ -244,7 +244,7 @@ terms_short (term ∷ terms) formed =
     further [] formed = tt
     further (term ∷ terms) formed = (omega (arith, term_short term formed.0, length-append (codes " /\\ ") (term_text term)), further terms formed.1)
 
-cond_short : (condition : CondSeen) → AllByRecursion IsFormedTerm condition.terms → length condition.terms ≤ MAX_EDGES → length (ended (cond_text condition)) ≤ 34 * MAX_EDGES + 11
+cond_short : (condition : CondSeen) → AllByRecursion IsFormedTerm condition.terms → length condition.terms ≤ MAX_EDGES → length (with_line_feed (cond_text condition)) ≤ 34 * MAX_EDGES + 11
 unfolding cond_text
 cond_short condition formed few =
     let word = quantifier_word condition.quantifier in
@@ -264,8 +264,8 @@ pub text_short : (arch : ArchName) (w : Writing) (name : List ℕ) (test : TestS
     → AllByRecursion (IsSmall w test.places) test.threads → AllByRecursion IsFormedTerm test.cond.terms → length test.cond.terms ≤ MAX_EDGES → length (test_text arch w name test) ≤ MAX_TEXT
 unfolding test_text test_lines
 text_short arch w name test short edges threads registers names small formed few =
-    let head = ended (header_line arch name) in
-    let quoted = ended (edges_line test.edges) in
+    let head = with_line_feed (header_line arch name) in
+    let quoted = with_line_feed (edges_line test.edges) in
     let initial = initial_lines w test.places test.threads in
     let columns = map (column_of w test.places) (enumerate_from 0 test.threads) in
     let table = table_lines columns in
@@ -277,11 +277,11 @@ text_short arch w name test short edges threads registers names small formed few
       initial_short w test.places test.threads registers names threads small,
       table_short columns (omega (arith, threads, length-map (enumerate_from 0 test.threads) (column_of w test.places), length-enumerate 0 test.threads)) (columns_narrow w test.places 0 test.threads (omega arith) small),
       cond_short test.cond formed few,
-      ap length (flat_map-append ended initial (table ++ condition)),
-      ap length (flat_map-append ended table condition),
-      length-append head (quoted ++ flat_map ended (initial ++ (table ++ condition))),
-      length-append quoted (flat_map ended (initial ++ (table ++ condition))),
-      length-append (flat_map ended initial) (flat_map ended (table ++ condition)),
-      length-append (flat_map ended table) (flat_map ended condition),
-      length-append (ended (cond_text test.cond)) [],
+      ap length (flat_map-append with_line_feed initial (table ++ condition)),
+      ap length (flat_map-append with_line_feed table condition),
+      length-append head (quoted ++ flat_map with_line_feed (initial ++ (table ++ condition))),
+      length-append quoted (flat_map with_line_feed (initial ++ (table ++ condition))),
+      length-append (flat_map with_line_feed initial) (flat_map with_line_feed (table ++ condition)),
+      length-append (flat_map with_line_feed table) (flat_map with_line_feed condition),
+      length-append (with_line_feed (cond_text test.cond)) [],
     )

@@ -15,11 +15,11 @@ use Rattle.micro_ops.specs.Renumbering.{op_at}
 use Rattle.micro_ops.specs.Running.{Ended}
 use Rattle.arch_trait.specs.declared.step.Step.{Step}
 use Rattle.arch_trait.specs.Codes.{MakesSteps}
-use Rattle.arch_trait.specs.Renumbering.{step_at, renumbered}
+use Rattle.arch_trait.specs.PlaceRenumbering.{step_at, renumbered}
 use Rattle.arch_trait.specs.declared.link.Link.{Link}
 use Rattle.arch_trait.specs.declared.link.Link.TheVariants as links
 use Rattle.arch_trait.specs.Links.{link_items, link_control}
-use Rattle.arch_trait.specs.Threads.{ThreadCode, access_item, first_of, left_after, loads_after, thread_items, loads_in}
+use Rattle.arch_trait.specs.Threads.{ThreadCode, access_item, first_number, left_after, loads_after, thread_items, loads_in}
 use Rattle.arch_laws.proofs.Renumbered.{loads_kept, renumbered_makes}
 use Rattle.litmus_text.specs.Mentioned.{is_in, op_is_in}
 
@@ -83,7 +83,7 @@ step_places s l v k c m rest = of_link l
 thread_places : (ss : List Step) (n c : ℕ) (vs : List ℕ) → places_made (thread_items ss n c vs) ≡ map (λ (s : Step). s.place) ss
 thread_places [] n c vs = refl
 thread_places (s ∷ ss) n c vs =
-    step_places s s.link (first_of vs) (n - 1) c (link_control s.link (n - 1) c) (thread_items ss (loads_after s.dir n) (link_control s.link (n - 1) c) (left_after s.dir vs))
+    step_places s s.link (first_number vs) (n - 1) c (link_control s.link (n - 1) c) (thread_items ss (loads_after s.dir n) (link_control s.link (n - 1) c) (left_after s.dir vs))
     ∙ ap (λ l. s.place ∷ l) (thread_places ss (loads_after s.dir n) (link_control s.link (n - 1) c) (left_after s.dir vs))
 
 -- code that makes accesses and is the same with another number for a place makes no access there

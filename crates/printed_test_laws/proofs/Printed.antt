@@ -10,9 +10,9 @@ use Rattle.arch_trait.specs.Writing.{Writing, WritesBack, name_in}
 use Rattle.litmus_text.specs.Printable.{IsTestName}
 use Rattle.litmus_text.specs.TestText.{test_text}
 use Rattle.printed_test_laws.proofs.BackLaws.{reads_back}
-use Rattle.test_laws.specs.Headline.{HasTest}
+use Rattle.test_laws.specs.TestHeadline.{HasTest}
 use Rattle.test_laws.specs.TestOf.{test_of}
-use Rattle.printed_test_laws.specs.Headline.{BytesForce}
+use Rattle.printed_test_laws.specs.PrintedHeadline.{BytesForce}
 use Rattle.printed_test_laws.proofs.Forcing.{bytes_force}
 use Rattle.printed_test_laws.proofs.Readable.{readable}
 

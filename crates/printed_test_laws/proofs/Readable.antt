@@ -12,23 +12,23 @@ use Rattle.resolution_laws.specs.Resolution.{move_count}
 use Rattle.micro_ops.specs.declared.operation.Micro.{Micro}
 use Rattle.final_cond.specs.Conditions.{TermSeen}
 use Rattle.text_laws.specs.Names.{is_register_name}
-use Rattle.final_cond.specs.ReadBack.{IsFormedTerm}
+use Rattle.final_cond.specs.ConditionReadBack.{IsFormedTerm}
 use Rattle.text_laws.proofs.NameLaws.{place_name_short, register_name_short}
 use Rattle.arch_trait.specs.Cells.{WritesCells, MakesOneAccess, is_access}
 use Rattle.arch_trait.specs.LabelOrder.{labels_after}
 use Rattle.arch_trait.specs.Laws.{IsArch, InOrder}
-use Rattle.arch_trait.specs.Names.{letters, location_name}
+use Rattle.arch_trait.specs.PlaceNames.{letters, location_name}
 use Rattle.arch_trait.specs.Threads.{Puts, compiled}
 use Rattle.arch_trait.specs.Writing.{Writing, WritesBack, name_in, op_text}
 use Rattle.arch_laws.proofs.NameLaws.{length-letters, location_new}
 use Rattle.litmus_text.specs.Printable.{IsTestName}
 use Rattle.litmus_text.specs.Progress.{CodeFits, code_lands}
 use Rattle.litmus_text.specs.Reread.{IsReadable}
-use Rattle.litmus_text.specs.Terms.{TermFits}
+use Rattle.litmus_text.specs.ReadTerms.{TermFits}
 use Rattle.printed_test_laws.proofs.FormedFits.{links_single}
 use Rattle.litmus_text.proofs.RowBack.{named_op}
-use Rattle.test_laws.specs.Headline.{HasCode}
-use Rattle.test_laws.specs.Steps.{cycle_steps}
+use Rattle.test_laws.specs.TestHeadline.{HasCode}
+use Rattle.test_laws.specs.CycleSteps.{cycle_steps}
 use Rattle.test_laws.specs.TestOf.{plain, last_terms, load_terms, test_of}
 use Rattle.test_laws.proofs.Everywhere.{all_from}
 use Rattle.test_laws.proofs.PlaceNames.{letter_at, locations_few}

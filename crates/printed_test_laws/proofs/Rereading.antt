@@ -21,14 +21,14 @@ use Rattle.resolution_laws.proofs.Locations.{location_first}
 use Rattle.resolution_laws.proofs.Threads.{event_in_slot}
 use Rattle.arch_trait.specs.declared.step.Step.{Step}
 use Rattle.arch_trait.specs.Laws.{IsArch}
-use Rattle.arch_trait.specs.Names.{location_name, letters}
-use Rattle.arch_trait.specs.Renumbering.{renumbered}
-use Rattle.arch_trait.specs.Taking.{initial}
+use Rattle.arch_trait.specs.PlaceNames.{location_name, letters}
+use Rattle.arch_trait.specs.PlaceRenumbering.{renumbered}
+use Rattle.arch_trait.specs.Taking.{initial_values}
 use Rattle.arch_trait.specs.Threads.{Puts, ThreadCode, compiled}
 use Rattle.arch_trait.specs.Writing.{name_in}
 use Rattle.arch_laws.proofs.NameLaws.{length-letters, letters_more, location_new}
 use Rattle.arch_laws.proofs.CodeLaws.{makes_steps}
-use Rattle.arch_trait.specs.Tests.{TestSeen}
+use Rattle.arch_trait.specs.SeenTests.{TestSeen}
 use Rattle.litmus_text.specs.Items.{links_of}
 use Rattle.litmus_text.specs.Mentioned.{is_in, op_is_in}
 use Rattle.litmus_text.specs.Placing.{place_in}
@@ -39,9 +39,9 @@ use Rattle.printed_test_laws.proofs.BackLaws.{numbered_in}
 use Rattle.program_meaning.specs.Intended.{intended, location_numbered, location_order}
 use Rattle.program_meaning.specs.Programs.{Thread}
 use Rattle.communication_laws.proofs.Lists.{got_map, map_same}
-use Rattle.test_laws.specs.Headline.{HasCode, IsRenumbered}
-use Rattle.test_laws.specs.Programs.{thread_from}
-use Rattle.test_laws.specs.Steps.{event_step, thread_steps, cycle_steps}
+use Rattle.test_laws.specs.TestHeadline.{HasCode, IsRenumbered}
+use Rattle.test_laws.specs.TestPrograms.{thread_from}
+use Rattle.test_laws.specs.CycleSteps.{event_step, thread_steps, cycle_steps}
 use Rattle.test_laws.specs.TestOf.{plain, test_of}
 use Rattle.test_laws.proofs.Everywhere.{all_gets}
 use Rattle.test_laws.proofs.PlaceNames.{letter_at, locations_few}
@@ -156,15 +156,15 @@ reread_renumbered a register_name es mode table laws t among inside linked =
       cond = refl;
     }
 
-op_numbered : (table places : List (List ℕ)) (op : Micro) → placing.renumbered table (name_in places) op ≡ op_at (by_table table places) op
+op_numbered : (table places : List (List ℕ)) (op : Micro) → placing.op_renumbered table (name_in places) op ≡ op_at (by_table table places) op
 op_numbered table places (ops.LoadAt dst p) = refl
 op_numbered table places op = refl
 
-ops_numbered : (table places : List (List ℕ)) (code : List Micro) → map (placing.renumbered table (name_in places)) code ≡ map (op_at (by_table table places)) code
+ops_numbered : (table places : List (List ℕ)) (code : List Micro) → map (placing.op_renumbered table (name_in places)) code ≡ map (op_at (by_table table places)) code
 ops_numbered table places [] = refl
 ops_numbered table places (op ∷ code) = λ i. op_numbered table places op i ∷ ops_numbered table places code i
 
-links_numbered : (table places : List (List ℕ)) (links : List (ℕ × ℕ)) → map (λ link. (link.0, values.Place (place_in table (name_in places link.1)))) links ≡ initial (map (λ link. (link.0, by_table table places link.1)) links)
+links_numbered : (table places : List (List ℕ)) (links : List (ℕ × ℕ)) → map (λ link. (link.0, values.Place (place_in table (name_in places link.1)))) links ≡ initial_values (map (λ link. (link.0, by_table table places link.1)) links)
 links_numbered table places [] = refl
 links_numbered table places (link ∷ links) = ap (λ rest. (link.0, values.Place (by_table table places link.1)) ∷ rest) (links_numbered table places links)
 

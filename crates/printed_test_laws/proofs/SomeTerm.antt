@@ -24,8 +24,8 @@ use Rattle.value_laws.proofs.Along.{value_after, value_most, write_value}
 use Rattle.arch_trait.specs.declared.step.Step.{Step}
 use Rattle.arch_trait.specs.Threads.{Puts, is_load_dir, loads_in}
 use Rattle.communication_laws.proofs.Lists.{got_map}
-use Rattle.test_laws.specs.Steps.{event_step, thread_steps, observing, observer_steps, cycle_steps}
-use Rattle.test_laws.specs.TestOf.{plain, is_named, last_term, last_terms, load_terms}
+use Rattle.test_laws.specs.CycleSteps.{event_step, thread_steps, observing, observer_steps, cycle_steps}
+use Rattle.test_laws.specs.TestOf.{plain, is_named_location, last_term, last_terms, load_terms}
 use Rattle.test_laws.proofs.StepsAt.{thread_steps_at, observer_steps_at}
 use Rattle.test_laws.proofs.Terms.{load_terms-count}
 
@@ -67,9 +67,9 @@ observer_loads es mode l h e some =
 -- the last value of a location
 location_ends : (es : List Edge) (mode : ObsMode) (l : ℕ) → l < move_count es → is_observed es mode l ≡ false → 2 ≤ write_count es l → 1 ≤ length (last_terms es mode)
 location_ends es mode l h e some =
-    let named : is_named es mode l ≡ true = and_from (nat_le 2 (write_count es l)) (not (is_observed es mode l)) (le-leb 2 (write_count es l) some) (ap not e) in
-    let one = counted_one (is_named es mode) (upto (move_count es)) l l (slice_get-upto (move_count es) l h) named in
-    omega (arith, one, length-map (filter (is_named es mode) (upto (move_count es))) (last_term es), length-filter (is_named es mode) (upto (move_count es)))
+    let named : is_named_location es mode l ≡ true = and_from (nat_le 2 (write_count es l)) (not (is_observed es mode l)) (le-leb 2 (write_count es l) some) (ap not e) in
+    let one = counted_one (is_named_location es mode) (upto (move_count es)) l l (slice_get-upto (move_count es) l h) named in
+    omega (arith, one, length-map (filter (is_named_location es mode) (upto (move_count es))) (last_term es), length-filter (is_named_location es mode) (upto (move_count es)))
 
 writes : (d : Dir) → is_load_dir d ≡ false → same_dir d dirs.W ≡ true
 writes dirs.R e = cc

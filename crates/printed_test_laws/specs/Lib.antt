@@ -1,3 +1,3 @@
 pub mod Readings
-pub mod Headline
+pub mod PrintedHeadline
 pub mod CycleTexts

@@ -2,7 +2,7 @@
 #![tactic(auto)]
 
 ghost use Rattle.printed_test_laws.specs.CycleTexts.{CycleTextsShort};
-ghost use Rattle.printed_test_laws.specs.Headline.{TestsReadable, PrintedForce};
+ghost use Rattle.printed_test_laws.specs.PrintedHeadline.{TestsReadable, PrintedForce};
 
 use arch_trait::Arch;
 

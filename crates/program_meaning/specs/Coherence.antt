@@ -65,10 +65,10 @@ abbrev pub last_write : List WriteAt → Option WriteAt
 last_write order = slice_get order (length order - 1)
 
 -- the value of an access, 0 where there is none
-abbrev pub value_in : Option Access → ℕ
-value_in None = 0
-value_in (Some access) = access.value
+abbrev pub value_of_access : Option Access → ℕ
+value_of_access None = 0
+value_of_access (Some access) = access.value
 
 -- the value of a place at the end: that of the last write of its coherence order, 0 where there is none
 abbrev pub final_value : List (List Access) → Execution → ℕ → ℕ
-final_value threads x place = value_in (option_and_then (at_name threads) (last_write (order_at x place)))
+final_value threads x place = value_of_access (option_and_then (at_name threads) (last_write (order_at x place)))

@@ -75,10 +75,10 @@ held_at_end ReadsShort _ = None
 held_at_end NoRule _ = None
 
 -- the value of a register at the end of a run, if there is the run
-abbrev pub held_in : Option Outcome → ℕ → Option Value
-held_in None _ = None
-held_in (Some run) register = held_at_end run register
+abbrev pub held_at_last : Option Outcome → ℕ → Option Value
+held_at_last None _ = None
+held_at_last (Some run) register = held_at_end run register
 
 -- the value of a register of a thread at the end of its run
 abbrev pub register_in : Program → Execution → ℕ → ℕ → Option Value
-register_in p x thread register = held_in (slice_get (runs_of p.threads x.reads) thread) register
+register_in p x thread register = held_at_last (slice_get (runs_of p.threads x.reads) thread) register

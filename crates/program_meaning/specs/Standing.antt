@@ -16,7 +16,7 @@ use Rattle.relax_edges.specs.declared.kinds.Kind.{Kind}
 use Rattle.relax_edges.specs.declared.kinds.Kind.TheVariants as edges
 use Rattle.relax_edges.specs.declared.kinds.Mark.TheVariants.{Plain}
 use Rattle.relax_edges.specs.declared.edge.Edge.{Edge}
-use Rattle.relax_edges.specs.EdgeTable.{source_of, target_of, reach_of, place_of, kind_of, source_mark, target_mark}
+use Rattle.relax_edges.specs.EdgeTable.{source_of, target_of, reach_of, sd_of, kind_of, source_mark, target_mark}
 use Rattle.micro_ops.specs.declared.operation.Barrier.{Barrier}
 use Rattle.micro_ops.specs.declared.operation.Barrier.TheVariants as kinds
 use Rattle.micro_ops.specs.declared.operation.Item.{Item}
@@ -33,12 +33,12 @@ pub record AccessAt : Type 0 where
   pub access : Access
 
 -- an access of an execution, by its name, with what comes before it
-pub record Named : Type 0 where
+pub record NamedAccess : Type 0 where
   pub name : WriteAt
   pub visit : Visit
 
 -- the access alone
-abbrev pub access_at : Named → AccessAt
+abbrev pub access_at : NamedAccess → AccessAt
 access_at e = record { name = e.name; access = e.visit.access }
 
 -- the place of an edge's target is that of its source, or another
@@ -73,32 +73,32 @@ Reaches External e f = e.thread ≢ f.thread
 pub record Joins (threads : List (List Access)) (x : Execution) (edge : Edge) (e f : AccessAt) : Type 0 where
   pub leaves : e.access.dir ≡ source_of edge
   pub enters : f.access.dir ≡ target_of edge
-  pub places : AreAt (place_of edge) e.access.place f.access.place
+  pub places : AreAt (sd_of edge) e.access.place f.access.place
   pub communicates : CommunicatesBy (kind_of edge) threads x e f
   pub reaches : Reaches (reach_of edge) e.name f.name
 
 -- the mask that names the read e alone
-abbrev pub mask_of : List (List Access) → Named → ℕ
+abbrev pub mask_of : List (List Access) → NamedAccess → ℕ
 mask_of threads e = 2 ^ reads_before threads e.name
 
 -- e is a read and the mask names it
-abbrev pub is_in_mask : List (List Access) → Named → ℕ → Bool
+abbrev pub is_in_mask : List (List Access) → NamedAccess → ℕ → Bool
 is_in_mask threads e mask = is_read e.visit.access && (bit_at mask (reads_before threads e.name) == 1)
 
 -- what comes between two accesses of one thread: the barriers, and the dependencies of the second on the first
-pub record IsTied (threads : List (List Access)) (e f : Named) (barriers : List Barrier) (address data_mask : ℕ) (controlled : Bool) : Type 0 where
+pub record IsTied (threads : List (List Access)) (e f : NamedAccess) (barriers : List Barrier) (address data_mask : ℕ) (controlled : Bool) : Type 0 where
   pub barriers_are : map (λ b. b.kind) f.visit.barriers ≡ barriers
   pub address_is : f.visit.address_mask ≡ address
   pub data_is : f.visit.data_mask ≡ data_mask
   pub control_is : is_in_mask threads e f.visit.control_mask ≡ controlled
 
 -- the control mask of each barrier before f names e
-abbrev pub BarriersWait : List (List Access) → Named → List Barred → Type 0
+abbrev pub BarriersWait : List (List Access) → NamedAccess → List Barred → Type 0
 BarriersWait threads e [] = Unit {0}
 BarriersWait threads e (b ∷ bs) = (is_in_mask threads e b.control ≡ true) × BarriersWait threads e bs
 
 -- how a dependency ties the next access to a read
-abbrev pub DependsBy : DepKind → List (List Access) → Named → Named → Type 0
+abbrev pub DependsBy : DepKind → List (List Access) → NamedAccess → NamedAccess → Type 0
 DependsBy deps.Addr threads e f = IsTied threads e f [] (mask_of threads e) 0 false
 DependsBy deps.Ctrl threads e f = IsTied threads e f [] 0 0 true
 DependsBy deps.CtrlIsync threads e f =
@@ -107,7 +107,7 @@ DependsBy deps.CtrlIsb threads e f =
     IsTied threads e f (kinds.Isb ∷ []) 0 0 true × BarriersWait threads e f.visit.barriers
 
 -- how an internal edge ties the next access of the thread; an external one ties nothing
-abbrev pub TiesBy : Kind → List (List Access) → Named → Named → Type 0
+abbrev pub TiesBy : Kind → List (List Access) → NamedAccess → NamedAccess → Type 0
 TiesBy (edges.Com _ Internal) threads e f = IsTied threads e f [] 0 0 false
 TiesBy (edges.Com _ External) threads e f = Unit {0}
 TiesBy (edges.Po _ _ _) threads e f = IsTied threads e f [] 0 0 false
@@ -117,7 +117,7 @@ TiesBy (edges.Data _) threads e f = IsTied threads e f [] 0 (mask_of threads e) 
 
 -- an edge stands from access e to access f: it joins them, their marks are its own, and what comes between them is
 -- what it says
-pub record Stands (threads : List (List Access)) (x : Execution) (edge : Edge) (e f : Named) : Type 0 where
+pub record Stands (threads : List (List Access)) (x : Execution) (edge : Edge) (e f : NamedAccess) : Type 0 where
   pub joins : Joins threads x edge (access_at e) (access_at f)
   pub leaves_mark : e.visit.mark ≡ source_mark edge
   pub enters_mark : f.visit.mark ≡ target_mark edge
@@ -128,7 +128,7 @@ abbrev pub event_name : List Edge → ℕ → WriteAt
 event_name es i = record { thread = thread_of es i; access = slot_of es i }
 
 -- the access that is event i, in the direction of its edge
-pub record IsEvent (es : List Edge) (visits : List (List Visit)) (i : ℕ) (e : Named) : Type 0 where
+pub record IsEvent (es : List Edge) (visits : List (List Visit)) (i : ℕ) (e : NamedAccess) : Type 0 where
   pub name_is : e.name ≡ event_name es i
   pub visit_is : at_name visits e.name ≡ Some e.visit
   pub direction : e.visit.access.dir ≡ source_of (edge_at es i)
@@ -155,7 +155,7 @@ Observes (visit ∷ visits) =
 pub record HasEvents (es : List Edge) (p : Program) (x : Execution) : Type 0 where
   pub threads : external_count es ≤ length p.threads
   pub counts : (k : ℕ) (visits : List Visit) → k < external_count es → slice_get (visits_in p x) k ≡ Some visits → length visits ≡ length (events_in es k)
-  pub events : (i : ℕ) → i < length es → (e : Named) × IsEvent es (visits_in p x) i e
+  pub events : (i : ℕ) → i < length es → (e : NamedAccess) × IsEvent es (visits_in p x) i e
   pub observers : (k : ℕ) (visits : List Visit) → external_count es ≤ k → slice_get (visits_in p x) k ≡ Some visits → Observes visits
   pub starts : (k : ℕ) (visits : List Visit) → slice_get (visits_in p x) k ≡ Some visits → StartsFree visits
   pub ends : (k : ℕ) (made : List Item) → slice_get (items_in p x) k ≡ Some made → barriers_after [] made ≡ []
@@ -163,4 +163,4 @@ pub record HasEvents (es : List Edge) (p : Program) (x : Execution) : Type 0 whe
 -- all edges of a cycle stand, in order, between its events: the last one leads back to event 0
 pub record AllStand (es : List Edge) (p : Program) (x : Execution) : Type 0 where
   pub events : HasEvents es p x
-  pub stand : (i : ℕ) (e f : Named) → i < length es → IsEvent es (visits_in p x) i e → IsEvent es (visits_in p x) (event_after es i) f → Stands (accesses_in p x) x (edge_at es i) e f
+  pub stand : (i : ℕ) (e f : NamedAccess) → i < length es → IsEvent es (visits_in p x) i e → IsEvent es (visits_in p x) (event_after es i) f → Stands (accesses_in p x) x (edge_at es i) e f

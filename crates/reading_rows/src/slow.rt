@@ -144,7 +144,7 @@ fn row_fault(threads: u32, line: &str) -> Option<TestKind> {
 /// The cells of a row, up to the first `;`, and whether that is there and ends the line.
 fn cells_in(line: &str) -> (&str, bool) {
     match line.split_once(';') {
-        Some((cells, behind)) => (cells, behind.is_empty()),
+        Some((cells, remainder)) => (cells, remainder.is_empty()),
         None => (line, false),
     }
 }
@@ -239,8 +239,8 @@ fn is_condition(threads: u32, line: &str) -> bool {
 
 /// The text between the parentheses of a condition.
 fn terms_in(line: &str) -> Option<&str> {
-    let behind = line.trim().strip_prefix(quantifier(line)?)?;
-    behind.trim().strip_prefix('(')?.strip_suffix(')')
+    let remainder = line.trim().strip_prefix(quantifier(line)?)?;
+    remainder.trim().strip_prefix('(')?.strip_suffix(')')
 }
 
 /// Terms with `/\` between.

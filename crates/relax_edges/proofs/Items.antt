@@ -86,17 +86,17 @@ drop_of_nil (suc n) = refl
 -- passing bytes is dropping them
 items_passed : (place passed : ℕ) (text : List ℕ) → items_from place passed text ≡ items_from (place + passed) 0 (drop passed text)
 items_passed place passed [] = ap (λ t. items_from (place + passed) 0 t) (sym (drop_of_nil passed))
-items_passed place zero (byte ∷ behind) =
-    let e : place ≡ place + 0 = omega arith in ap (λ p. item_from p byte behind ++ items_from (p + 1) (bytes_after byte behind) behind) e
-items_passed place (suc passed) (byte ∷ behind) =
+items_passed place zero (byte ∷ remainder) =
+    let e : place ≡ place + 0 = omega arith in ap (λ p. item_from p byte remainder ++ items_from (p + 1) (bytes_after byte remainder) remainder) e
+items_passed place (suc passed) (byte ∷ remainder) =
     let e : place + 1 + passed ≡ place + suc passed = omega arith in
-    items_passed (place + 1) passed behind ∙ ap (λ p. items_from p 0 (drop passed behind)) e
+    items_passed (place + 1) passed remainder ∙ ap (λ p. items_from p 0 (drop passed remainder)) e
 
-items_after : (place byte : ℕ) (behind : List ℕ) (n : ℕ) → items_from (place + 1) n behind ≡ items_from (place + (n + 1)) 0 (drop (n + 1) (byte ∷ behind))
-items_after place byte behind n =
+items_after : (place byte : ℕ) (remainder : List ℕ) (n : ℕ) → items_from (place + 1) n remainder ≡ items_from (place + (n + 1)) 0 (drop (n + 1) (byte ∷ remainder))
+items_after place byte remainder n =
     let e : place + 1 + n ≡ place + (n + 1) = omega arith in
     let more : n + 1 ≡ suc n = omega arith in
-    rw (more, ← more) (items_passed (place + 1) n behind ∙ ap (λ p. items_from p 0 (drop n behind)) e)
+    rw (more, ← more) (items_passed (place + 1) n remainder ∙ ap (λ p. items_from p 0 (drop n remainder)) e)
 
 kept_one : (kept more : List (List Edge)) (item : Item) (items : List Item) → kept_item kept item.words ≡ Ok more → kept_items kept (item ∷ items) ≡ kept_items more items
 unfolding kept_items
@@ -107,13 +107,13 @@ refused_one : (kept : List (List Edge)) (kind : RelaxKind) (item : Item) (items 
 unfolding kept_items
 refused_one kept kind item items err = rw (err, kept_items) refl
 
-separator_at_start : (kept : List (List Edge)) (byte : ℕ) (behind : List ℕ) → is_separator byte ≡ true → kept_prefix kept (byte ∷ behind) ≡ Ok kept
+separator_at_start : (kept : List (List Edge)) (byte : ℕ) (remainder : List ℕ) → is_separator byte ≡ true → kept_prefix kept (byte ∷ remainder) ≡ Ok kept
 unfolding kept_prefix
-separator_at_start kept byte behind s = rw s refl
+separator_at_start kept byte remainder s = rw s refl
 
-item_at_start : (kept : List (List Edge)) (byte : ℕ) (behind : List ℕ) → is_separator byte ≡ false → kept_prefix kept (byte ∷ behind) ≡ kept_item kept (words_from byte behind)
+item_at_start : (kept : List (List Edge)) (byte : ℕ) (remainder : List ℕ) → is_separator byte ≡ false → kept_prefix kept (byte ∷ remainder) ≡ kept_item kept (words_from byte remainder)
 unfolding kept_prefix
-item_at_start kept byte behind n = rw n refl
+item_at_start kept byte remainder n = rw n refl
 
 -- the item that a text begins with is kept, and then those after it
 pub kept_items_prefix : (kept more : List (List Edge)) (place : ℕ) (text : List ℕ) → kept_prefix kept text ≡ Ok more
@@ -123,35 +123,35 @@ kept_items_prefix kept more place [] ok =
     let same : ◌≡◌ {A = Answer} (Ok kept) (Ok more) = ok in
     let same_kept : kept ≡ more = cc in
     ap (λ k. Ok k) same_kept
-kept_items_prefix kept more place (byte ∷ behind) ok =
+kept_items_prefix kept more place (byte ∷ remainder) ok =
     by_test (is_separator byte)
     (λ s.
-    let none : item_from place byte behind ≡ [] = rw s refl in
-    let same : ◌≡◌ {A = Answer} (Ok kept) (Ok more) = sym (separator_at_start kept byte behind s) ∙ ok in
+    let none : item_from place byte remainder ≡ [] = rw s refl in
+    let same : ◌≡◌ {A = Answer} (Ok kept) (Ok more) = sym (separator_at_start kept byte remainder s) ∙ ok in
     let same_kept : kept ≡ more = cc in
-    ap (λ items. kept_items kept (items ++ items_from (place + 1) (bytes_after byte behind) behind)) none
-    ∙ ap (λ k. kept_items k (items_from (place + 1) (bytes_after byte behind) behind)) same_kept
-    ∙ ap (kept_items more) (items_after place byte behind (bytes_after byte behind)))
+    ap (λ items. kept_items kept (items ++ items_from (place + 1) (bytes_after byte remainder) remainder)) none
+    ∙ ap (λ k. kept_items k (items_from (place + 1) (bytes_after byte remainder) remainder)) same_kept
+    ∙ ap (kept_items more) (items_after place byte remainder (bytes_after byte remainder)))
     (λ n.
-    let item : Item = record { start = place; words = words_from byte behind } in
-    let one : item_from place byte behind ≡ item ∷ [] = rw n refl in
-    ap (λ items. kept_items kept (items ++ items_from (place + 1) (bytes_after byte behind) behind)) one
-    ∙ kept_one kept more item (items_from (place + 1) (bytes_after byte behind) behind) (sym (item_at_start kept byte behind n) ∙ ok)
-    ∙ ap (kept_items more) (items_after place byte behind (bytes_after byte behind)))
+    let item : Item = record { start = place; words = words_from byte remainder } in
+    let one : item_from place byte remainder ≡ item ∷ [] = rw n refl in
+    ap (λ items. kept_items kept (items ++ items_from (place + 1) (bytes_after byte remainder) remainder)) one
+    ∙ kept_one kept more item (items_from (place + 1) (bytes_after byte remainder) remainder) (sym (item_at_start kept byte remainder n) ∙ ok)
+    ∙ ap (kept_items more) (items_after place byte remainder (bytes_after byte remainder)))
 
 -- a text whose first item is refused is refused at that item's place
 pub kept_items_refused : (kept : List (List Edge)) (kind : RelaxKind) (place : ℕ) (text : List ℕ) → kept_prefix kept text ≡ Err kind
     → kept_items kept (items_from place 0 text) ≡ Err (record { at = place; kind = kind })
 unfolding kept_items kept_prefix
 kept_items_refused kept kind place [] err = let e : ◌≡◌ {A = Answer} (Ok kept) (Err kind) = err in cc
-kept_items_refused kept kind place (byte ∷ behind) err =
+kept_items_refused kept kind place (byte ∷ remainder) err =
     by_test (is_separator byte)
-    (λ s. let e : ◌≡◌ {A = Answer} (Ok kept) (Err kind) = sym (separator_at_start kept byte behind s) ∙ err in cc)
+    (λ s. let e : ◌≡◌ {A = Answer} (Ok kept) (Err kind) = sym (separator_at_start kept byte remainder s) ∙ err in cc)
     (λ n.
-    let item : Item = record { start = place; words = words_from byte behind } in
-    let one : item_from place byte behind ≡ item ∷ [] = rw n refl in
-    ap (λ items. kept_items kept (items ++ items_from (place + 1) (bytes_after byte behind) behind)) one
-    ∙ refused_one kept kind item (items_from (place + 1) (bytes_after byte behind) behind) (sym (item_at_start kept byte behind n) ∙ err))
+    let item : Item = record { start = place; words = words_from byte remainder } in
+    let one : item_from place byte remainder ≡ item ∷ [] = rw n refl in
+    ap (λ items. kept_items kept (items ++ items_from (place + 1) (bytes_after byte remainder) remainder)) one
+    ∙ refused_one kept kind item (items_from (place + 1) (bytes_after byte remainder) remainder) (sym (item_at_start kept byte remainder n) ∙ err))
 
 -- the same of what is left of a text after some bytes
 rest_of : (text : List ℕ) (place : ℕ) → take (length text - place) (drop place text) ≡ drop place text

@@ -9,21 +9,21 @@ use Rattle.list_laws.proofs.Cases.{by_test}
 use Rattle.relax_edges.specs.declared.edge.Edge.{Edge}
 use Rattle.relax_edges.specs.declared.relax_error.RelaxKind.TheVariants.{TooManyRelaxes}
 use Rattle.relax_edges.specs.Order.{rank_of}
-use Rattle.relax_edges.specs.Relaxations.{is_same, are_distinct, IsRelaxes, keep, at_most_64}
+use Rattle.relax_edges.specs.Relaxations.{is_same, are_distinct_paths, IsRelaxes, keep_path, at_most_64}
 use Rattle.relax_edges.proofs.Paths.{at_most_64-ok}
 
 -- a relaxation that is in the list already leaves it as it is
-pub keep_there : (kept : List (List Edge)) (path : List Edge) → IsRelaxes kept → list_any (is_same path) kept ≡ true → at_most_64 (keep kept path) ≡ Ok kept
+pub keep_there : (kept : List (List Edge)) (path : List Edge) → IsRelaxes kept → list_any (is_same path) kept ≡ true → at_most_64 (keep_path kept path) ≡ Ok kept
 keep_there kept path relaxes there = rw there (at_most_64-ok kept relaxes.few)
 
 -- a new relaxation is refused where there are 64
-pub keep_full : (kept : List (List Edge)) (path : List Edge) → list_any (is_same path) kept ≡ false → 64 ≤ length kept → at_most_64 (keep kept path) ≡ Err TooManyRelaxes
+pub keep_full : (kept : List (List Edge)) (path : List Edge) → list_any (is_same path) kept ≡ false → 64 ≤ length kept → at_most_64 (keep_path kept path) ≡ Err TooManyRelaxes
 keep_full kept path new full =
     let many : nat_lt 64 (length (kept ++ path ∷ [])) ≡ true = lt-ltb 64 (length (kept ++ path ∷ [])) (omega (arith, length-append kept (path ∷ []))) in
     rw new (rw many refl)
 
 -- a new relaxation is added at the end where there are fewer than 64
-pub keep_room : (kept : List (List Edge)) (path : List Edge) → list_any (is_same path) kept ≡ false → length kept < 64 → at_most_64 (keep kept path) ≡ Ok (kept ++ path ∷ [])
+pub keep_room : (kept : List (List Edge)) (path : List Edge) → list_any (is_same path) kept ≡ false → length kept < 64 → at_most_64 (keep_path kept path) ≡ Ok (kept ++ path ∷ [])
 keep_room kept path new room =
     rw new (at_most_64-ok (kept ++ path ∷ []) (omega (arith, length-append kept (path ∷ []))))
 
@@ -42,7 +42,7 @@ any_end test [] path none f = rw f refl
 any_end test (first ∷ paths) path none f =
     by_test (test first) (λ t. absurd (false≢true (sym (rw t at none)))) (λ n. rw n (any_end test paths path (rw n at none) f))
 
-distinct_end : (kept : List (List Edge)) (path : List Edge) → are_distinct kept ≡ true → list_any (is_same path) kept ≡ false → are_distinct (kept ++ path ∷ []) ≡ true
+distinct_end : (kept : List (List Edge)) (path : List Edge) → are_distinct_paths kept ≡ true → list_any (is_same path) kept ≡ false → are_distinct_paths (kept ++ path ∷ []) ≡ true
 distinct_end [] path distinct new = refl
 distinct_end (first ∷ kept) path distinct new =
     by_test (is_same path first)

@@ -20,10 +20,10 @@ use Rattle.relax_edges.specs.declared.kinds.DepKind.{DepKind}
 use Rattle.relax_edges.specs.declared.kinds.Kind.{Kind}
 use Rattle.relax_edges.specs.declared.kinds.Kind.TheVariants as kinds
 use Rattle.relax_edges.specs.EdgeTable.{kind_of, unmarked}
-use Rattle.relax_edges.specs.Words.{kind_word, com_word, reach_word, sd_word, dir_word, fence_word, dependency_word}
+use Rattle.relax_edges.specs.WordParts.{kind_word, com_word, reach_word, sd_word, dir_word, fence_word, dependency_word}
 use Rattle.relax_edges.specs.AllEdges.{edges_in_order}
 use Rattle.relax_edges.specs.Spelling.{kind_spellings}
-use Rattle.relax_edges.specs.Reading.{named, dirs_read, places_read, reaches_read, communications_read, dependencies_read, plain_fences_read, riscv_fences_read, dir_named, sd_named, reach_named, com_named, dependency_named, plain_fence_named, riscv_fence_named, fence_named, communication, communication_of, two_sided, two_sided_of, one_sided, one_sided_of, read_as_communication, read_back_two_sided, read_back_one_sided, kind_read}
+use Rattle.relax_edges.specs.WordReading.{kind_named_by, dirs_read, places_read, reaches_read, communications_read, dependencies_read, plain_fences_read, riscv_fences_read, dir_named, sd_named, reach_named, com_named, dependency_named, plain_fence_named, riscv_fence_named, fence_named, communication, communication_of, two_sided, two_sided_of, one_sided, one_sided_of, read_as_communication, read_back_two_sided, read_back_one_sided, kind_read}
 use Rattle.relax_edges.proofs.Ranks.{each_edge}
 
 -- what `find` finds passes the test
@@ -35,10 +35,10 @@ find_passes {A} test (y ∷ ys) x found =
     (λ f. find_passes test ys x (rw f at found))
 
 -- the kind that a text names has that text as its word
-pub named_is : {K : Type 0} (word : K → List ℕ) (kinds : List K) (text : List ℕ) (kind : K) → named word kinds text ≡ Some kind → text ≡ word kind
+pub named_is : {K : Type 0} (word : K → List ℕ) (kinds : List K) (text : List ℕ) (kind : K) → kind_named_by word kinds text ≡ Some kind → text ≡ word kind
 named_is word kinds text kind found = (bytes_eq-Decides text (word kind)).0 (find_passes (λ k. bytes_eq text (word k)) kinds kind found)
 
-named_in_one : {K : Type 0} (word : K → List ℕ) (one : K) (text : List ℕ) (kind : K) → named word (one ∷ []) text ≡ Some kind → one ≡ kind
+named_in_one : {K : Type 0} (word : K → List ℕ) (one : K) (text : List ℕ) (kind : K) → kind_named_by word (one ∷ []) text ≡ Some kind → one ≡ kind
 named_in_one word one text kind found =
     by_test (bytes_eq text (word one))
     (λ t. let e : Some one ≡ Some kind = rw t at found in cc)
@@ -171,7 +171,7 @@ communication_spelled f s r (Some kind) (Some reach) edge a b found =
     let x : kinds.Com kind reach ≡ edge = cc in
     let e : r ∷ [] ≡ reach_word reach = reach_is (r ∷ []) reach b in
     subst (λ y. is_kind_spelling y (f ∷ s ∷ r ∷ []) ≡ true) x
-    (elim (either_is (named com_word communications_read (f ∷ s ∷ [])) (named (λ _. codes "Co") (coms.Ws ∷ []) (f ∷ s ∷ [])) kind a) [
+    (elim (either_is (kind_named_by com_word communications_read (f ∷ s ∷ [])) (kind_named_by (λ _. codes "Co") (coms.Ws ∷ []) (f ∷ s ∷ [])) kind a) [
       | inl n ↦
           let w : f ∷ s ∷ [] ≡ com_word kind = named_is com_word communications_read (f ∷ s ∷ []) kind n in
           word_is_spelling (kinds.Com kind reach) (f ∷ s ∷ r ∷ []) (cc (ap (λ v. v ++ r ∷ []) w, ap (λ v. com_word kind ++ v) e))

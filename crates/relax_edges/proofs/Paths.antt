@@ -11,7 +11,7 @@ use Rattle.relax_edges.specs.declared.edge.Edge.{Edge}
 use Rattle.relax_edges.specs.declared.relax_error.RelaxKind.{RelaxKind}
 use Rattle.relax_edges.specs.declared.relax_error.RelaxKind.TheVariants.{TooManyRelaxes}
 use Rattle.relax_edges.specs.EdgeTable.{joins_to}
-use Rattle.relax_edges.specs.Relaxations.{joins_on, is_path, choices, is_same, keep, keep_all, at_most_64}
+use Rattle.relax_edges.specs.Relaxations.{joins_on, is_path, path_choices, is_same, keep_path, keep_all, at_most_64}
 use Rattle.relax_edges.specs.RelaxSearch.{paths_after}
 
 abbrev Answer : Type 0
@@ -30,16 +30,16 @@ unfolding paths_after
 paths_after-cons prefix [] lists = refl
 paths_after-cons prefix (edge ∷ edges) lists =
     rw (
-      map-append (λ path. prefix ++ path) (map (λ path. edge ∷ path) (choices lists)) (choices (edges ∷ lists)),
-      filter-append is_path (map (λ path. prefix ++ path) (map (λ path. edge ∷ path) (choices lists))) (map (λ path. prefix ++ path) (choices (edges ∷ lists))),
-      moved prefix edge (choices lists),
+      map-append (λ path. prefix ++ path) (map (λ path. edge ∷ path) (path_choices lists)) (path_choices (edges ∷ lists)),
+      filter-append is_path (map (λ path. prefix ++ path) (map (λ path. edge ∷ path) (path_choices lists))) (map (λ path. prefix ++ path) (path_choices (edges ∷ lists))),
+      moved prefix edge (path_choices lists),
     )
-    (ap (λ paths. filter is_path (map (λ path. (prefix ++ edge ∷ []) ++ path) (choices lists)) ++ paths) (paths_after-cons prefix edges lists))
+    (ap (λ paths. filter is_path (map (λ path. (prefix ++ edge ∷ []) ++ path) (path_choices lists)) ++ paths) (paths_after-cons prefix edges lists))
 
 -- the paths that begin with no edge are all paths
-pub paths_after-nil : (lists : List (List Edge)) → paths_after [] lists ≡ filter is_path (choices lists)
+pub paths_after-nil : (lists : List (List Edge)) → paths_after [] lists ≡ filter is_path (path_choices lists)
 unfolding paths_after
-paths_after-nil lists = ap (filter is_path) (unmoved (choices lists))
+paths_after-nil lists = ap (filter is_path) (unmoved (path_choices lists))
   where
     unmoved : (paths : List (List Edge)) → map (λ path. [] ++ path) paths ≡ paths
     unmoved [] = refl
@@ -51,19 +51,19 @@ unfolding paths_after
 paths_after-end prefix path = rw (append-nil prefix, path) refl
 
 -- edges that begin with no path are no path
-joins_on-false : (edge : Edge) (behind more : List Edge) → joins_on edge behind ≡ false → joins_on edge (behind ++ more) ≡ false
+joins_on-false : (edge : Edge) (remainder more : List Edge) → joins_on edge remainder ≡ false → joins_on edge (remainder ++ more) ≡ false
 joins_on-false edge [] more f = cc
-joins_on-false edge (next ∷ behind) more f =
-    by_test (joins_to edge next) (λ t. rw t (joins_on-false next behind more (rw t at f))) (λ n. rw n refl)
+joins_on-false edge (next ∷ remainder) more f =
+    by_test (joins_to edge next) (λ t. rw t (joins_on-false next remainder more (rw t at f))) (λ n. rw n refl)
 
 -- no path begins with edges that are no path
 pub paths_after-none : (prefix : List Edge) (lists : List (List Edge)) → is_path prefix ≡ false → paths_after prefix lists ≡ []
 unfolding paths_after
-paths_after-none prefix lists none = all_fail (choices lists)
+paths_after-none prefix lists none = all_fail (path_choices lists)
   where
     fails : (prefix path : List Edge) → is_path prefix ≡ false → is_path (prefix ++ path) ≡ false
     fails [] path f = cc
-    fails (edge ∷ behind) path f = joins_on-false edge behind path f
+    fails (edge ∷ remainder) path f = joins_on-false edge remainder path f
 
     all_fail : (paths : List (List Edge)) → filter is_path (map (λ path. prefix ++ path) paths) ≡ []
     all_fail [] = refl
@@ -83,16 +83,16 @@ is_path-end (first ∷ prefix) last edge path = joins_on-end first prefix last e
 -- keeping one after another
 pub keep_all-append : (kept paths more : List (List Edge)) → keep_all kept (paths ++ more) ≡ keep_all (keep_all kept paths) more
 keep_all-append kept [] more = refl
-keep_all-append kept (path ∷ paths) more = keep_all-append (keep kept path) paths more
+keep_all-append kept (path ∷ paths) more = keep_all-append (keep_path kept path) paths more
 
-length-keep : (kept : List (List Edge)) (path : List Edge) → length kept ≤ length (keep kept path)
+length-keep : (kept : List (List Edge)) (path : List Edge) → length kept ≤ length (keep_path kept path)
 length-keep kept path =
     by_test (list_any (is_same path) kept) (λ t. rw t (omega arith)) (λ f. rw f (omega (arith, length-append kept (path ∷ []))))
 
 -- keeping makes no list shorter
 pub length-keep_all : (kept paths : List (List Edge)) → length kept ≤ length (keep_all kept paths)
 length-keep_all kept [] = omega arith
-length-keep_all kept (path ∷ paths) = omega (arith, length-keep kept path, length-keep_all (keep kept path) paths)
+length-keep_all kept (path ∷ paths) = omega (arith, length-keep kept path, length-keep_all (keep_path kept path) paths)
 
 -- within 64 all are kept
 pub at_most_64-ok : (kept : List (List Edge)) → length kept ≤ 64 → at_most_64 kept ≡ Ok kept

@@ -35,7 +35,7 @@ use Rattle.relax_edges.specs.declared.marked.MarkedEnds.TheVariants.{Both, Sourc
 use Rattle.relax_edges.specs.declared.edge.Edge.{Edge}
 use Rattle.relax_edges.specs.declared.edge.Edge.TheVariants as edges
 use Rattle.relax_edges.specs.Order.{rank_of}
-use Rattle.relax_edges.specs.Words.{word_of}
+use Rattle.relax_edges.specs.WordParts.{word_of}
 use Rattle.relax_edges.specs.AllEdges.{edges_in_order}
 
 -- a fact about place and directions, from its eight cases

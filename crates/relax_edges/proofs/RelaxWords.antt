@@ -13,14 +13,14 @@ use Rattle.list_laws.proofs.Places.{before_first-no, position_or_len-no}
 abbrev words_by : (ℕ → Bool) → List ℕ → List (List ℕ)
 words_by test text = filter (λ word. not (is_empty word)) (slice_split test text)
 
-words_by-yes : (test : ℕ → Bool) (byte : ℕ) (behind : List ℕ) → test byte ≡ true → words_by test (byte ∷ behind) ≡ words_by test behind
-words_by-yes test byte behind s = rw s refl
+words_by-yes : (test : ℕ → Bool) (byte : ℕ) (remainder : List ℕ) → test byte ≡ true → words_by test (byte ∷ remainder) ≡ words_by test remainder
+words_by-yes test byte remainder s = rw s refl
 
-before_first-yes : (test : ℕ → Bool) (byte : ℕ) (behind : List ℕ) → test byte ≡ true → before_first test (byte ∷ behind) ≡ []
-before_first-yes test byte behind s = rw s refl
+before_first-yes : (test : ℕ → Bool) (byte : ℕ) (remainder : List ℕ) → test byte ≡ true → before_first test (byte ∷ remainder) ≡ []
+before_first-yes test byte remainder s = rw s refl
 
-position_or_len-yes : (test : ℕ → Bool) (byte : ℕ) (behind : List ℕ) → test byte ≡ true → position_or_len test (byte ∷ behind) ≡ 0
-position_or_len-yes test byte behind s = rw s refl
+position_or_len-yes : (test : ℕ → Bool) (byte : ℕ) (remainder : List ℕ) → test byte ≡ true → position_or_len test (byte ∷ remainder) ≡ 0
+position_or_len-yes test byte remainder s = rw s refl
 
 -- a text is split into what is before its first separator, and parts that have the words after it
 record FirstPart (test : ℕ → Bool) (text : List ℕ) : Type 0 where
@@ -30,59 +30,59 @@ record FirstPart (test : ℕ → Bool) (text : List ℕ) : Type 0 where
 
 first_part : (test : ℕ → Bool) (text : List ℕ) → FirstPart test text
 first_part test [] = record { parts = []; split = refl; words = refl }
-first_part test (byte ∷ behind) =
+first_part test (byte ∷ remainder) =
     by_test (test byte)
     (λ s. record {
-      parts = slice_split test behind;
-      split = rw (before_first-yes test byte behind s) (rw s refl);
-      words = rw (position_or_len-yes test byte behind s) (sym (words_by-yes test byte behind s));
+      parts = slice_split test remainder;
+      split = rw (before_first-yes test byte remainder s) (rw s refl);
+      words = rw (position_or_len-yes test byte remainder s) (sym (words_by-yes test byte remainder s));
     })
-    (λ n. let p = first_part test behind in
+    (λ n. let p = first_part test remainder in
     record {
       parts = p.parts;
-      split = rw (before_first-no test byte behind n) (rw n (ap (onto_first byte) p.split));
-      words = rw (position_or_len-no test byte behind n) p.words;
+      split = rw (before_first-no test byte remainder n) (rw n (ap (onto_first byte) p.split));
+      words = rw (position_or_len-no test byte remainder n) p.words;
     })
 
 kept_first : (word : List ℕ) (parts : List (List ℕ)) → is_empty word ≡ false
     → filter (λ word. not (is_empty word)) (word ∷ parts) ≡ word ∷ filter (λ word. not (is_empty word)) parts
 kept_first word parts some = rw some refl
 
-words_by-no : (test : ℕ → Bool) (byte : ℕ) (behind : List ℕ) → test byte ≡ false
-    → words_by test (byte ∷ behind) ≡ before_first test (byte ∷ behind) ∷ words_by test (drop (position_or_len test (byte ∷ behind)) (byte ∷ behind))
-words_by-no test byte behind n =
-    let p = first_part test (byte ∷ behind) in
-    let first = before_first test (byte ∷ behind) in
+words_by-no : (test : ℕ → Bool) (byte : ℕ) (remainder : List ℕ) → test byte ≡ false
+    → words_by test (byte ∷ remainder) ≡ before_first test (byte ∷ remainder) ∷ words_by test (drop (position_or_len test (byte ∷ remainder)) (byte ∷ remainder))
+words_by-no test byte remainder n =
+    let p = first_part test (byte ∷ remainder) in
+    let first = before_first test (byte ∷ remainder) in
     ap (filter (λ word. not (is_empty word))) p.split
-    ∙ kept_first first p.parts (rw (before_first-no test byte behind n) refl)
+    ∙ kept_first first p.parts (rw (before_first-no test byte remainder n) refl)
     ∙ ap (λ words. first ∷ words) p.words
 
 -- a separator before a text adds no word
-pub words_of_separator : (byte : ℕ) (behind : List ℕ) → is_separator byte ≡ true → words_of (byte ∷ behind) ≡ words_of behind
-words_of_separator byte behind s = words_by-yes is_separator byte behind s
+pub words_of_separator : (byte : ℕ) (remainder : List ℕ) → is_separator byte ≡ true → words_of (byte ∷ remainder) ≡ words_of remainder
+words_of_separator byte remainder s = words_by-yes is_separator byte remainder s
 
 -- the first word of a text that begins with one
-pub words_of_word : (byte : ℕ) (behind : List ℕ) → is_separator byte ≡ false
-    → words_of (byte ∷ behind) ≡ before_first is_separator (byte ∷ behind) ∷ words_of (drop (position_or_len is_separator (byte ∷ behind)) (byte ∷ behind))
-words_of_word byte behind n = words_by-no is_separator byte behind n
+pub words_of_word : (byte : ℕ) (remainder : List ℕ) → is_separator byte ≡ false
+    → words_of (byte ∷ remainder) ≡ before_first is_separator (byte ∷ remainder) ∷ words_of (drop (position_or_len is_separator (byte ∷ remainder)) (byte ∷ remainder))
+words_of_word byte remainder n = words_by-no is_separator byte remainder n
 
 -- the first word has a byte at least
-pub word_len_some : (byte : ℕ) (behind : List ℕ) → is_separator byte ≡ false → 0 < position_or_len is_separator (byte ∷ behind)
-word_len_some byte behind n = rw n (omega arith)
+pub word_len_some : (byte : ℕ) (remainder : List ℕ) → is_separator byte ≡ false → 0 < position_or_len is_separator (byte ∷ remainder)
+word_len_some byte remainder n = rw n (omega arith)
 
 -- before the end of a word there is no separator
-none_before : (test : ℕ → Bool) (behind : List ℕ) → ((byte : ℕ) → ends_word byte ≡ false → test byte ≡ false)
-    → list_all (λ byte. not (test byte)) (before_first ends_word behind) ≡ true
+none_before : (test : ℕ → Bool) (remainder : List ℕ) → ((byte : ℕ) → ends_word byte ≡ false → test byte ≡ false)
+    → list_all (λ byte. not (test byte)) (before_first ends_word remainder) ≡ true
 none_before test [] fails = refl
-none_before test (byte ∷ behind) fails =
+none_before test (byte ∷ remainder) fails =
     by_test (ends_word byte)
-    (λ e. rw (before_first-yes ends_word byte behind e) refl)
-    (λ n. rw (before_first-no ends_word byte behind n) (rw (fails byte n) (none_before test behind fails)))
+    (λ e. rw (before_first-yes ends_word byte remainder e) refl)
+    (λ n. rw (before_first-no ends_word byte remainder n) (rw (fails byte n) (none_before test remainder fails)))
 
 one_part : (test : ℕ → Bool) (text : List ℕ) → list_all (λ byte. not (test byte)) text ≡ true → slice_split test text ≡ text ∷ []
 one_part test [] none = refl
-one_part test (byte ∷ behind) none =
-    by_test (test byte) (λ s. absurd (false≢true (rw s at none))) (λ n. rw n (ap (onto_first byte) (one_part test behind (rw n at none))))
+one_part test (byte ∷ remainder) none =
+    by_test (test byte) (λ s. absurd (false≢true (rw s at none))) (λ n. rw n (ap (onto_first byte) (one_part test remainder (rw n at none))))
 
 not_separator : (byte : ℕ) → ends_word byte ≡ false → is_separator byte ≡ false
 not_separator byte n = first_false (is_separator byte) (is_bracket byte) n
@@ -92,11 +92,11 @@ not_separator byte n = first_false (is_separator byte) (is_bracket byte) n
     first_false false b f = refl
 
 -- a word that ends where a word ends is the one word of its text
-pub words_of_run : (byte : ℕ) (behind : List ℕ) → is_separator byte ≡ false
-    → words_of (byte ∷ before_first ends_word behind) ≡ (byte ∷ before_first ends_word behind) ∷ []
-words_of_run byte behind n =
+pub words_of_run : (byte : ℕ) (remainder : List ℕ) → is_separator byte ≡ false
+    → words_of (byte ∷ before_first ends_word remainder) ≡ (byte ∷ before_first ends_word remainder) ∷ []
+words_of_run byte remainder n =
     ap (filter (λ word. not (is_empty word)))
-    (one_part is_separator (byte ∷ before_first ends_word behind) (rw n (none_before is_separator behind not_separator)))
+    (one_part is_separator (byte ∷ before_first ends_word remainder) (rw n (none_before is_separator remainder not_separator)))
 
 -- the place of the first byte that passes, or the length
 pub position_unwrapped : (test : ℕ → Bool) (text : List ℕ) → unwrap_or (position test text) (length text) ≡ position_or_len test text

@@ -9,7 +9,7 @@ use Rattle.relax_edges.specs.declared.edge.Edge.{Edge}
 use Rattle.relax_edges.specs.declared.relax_error.RelaxKind.{RelaxKind}
 use Rattle.relax_edges.specs.EdgeTable.{joins_to}
 use Rattle.relax_edges.specs.RelaxText.{is_empty}
-use Rattle.relax_edges.specs.Relaxations.{word_edges, is_path, keep, keep_all, at_most_64}
+use Rattle.relax_edges.specs.Relaxations.{word_edges, is_path, keep_path, keep_all, at_most_64}
 use Rattle.relax_edges.specs.RelaxSearch.{paths_after, paths_by, KeepsPaths}
 use Rattle.relax_edges.proofs.Paths.{is_path-end, paths_after-cons, paths_after-end, paths_after-none, keep_all-append, at_most_64-ok, at_most_64-is, at_most_64-few, at_most_64-err}
 
@@ -127,12 +127,12 @@ path_extended prefix edge d some path =
 -- the same laws, by the words of a text
 -- where no word is left, the path is kept
 pub keeps_no_word : (old new : List (List Edge)) (prefix shown : List Edge) (words : List (List ℕ)) → words ≡ [] → shown ≡ prefix → is_path prefix ≡ true
-    → at_most_64 (keep old shown) ≡ Ok new → KeepsPaths old (paths_after prefix (map word_edges words)) new true
+    → at_most_64 (keep_path old shown) ≡ Ok new → KeepsPaths old (paths_after prefix (map word_edges words)) new true
 keeps_no_word old new prefix shown words none same path kept = rw none (keeps_end old new prefix path (rw (← same) kept))
 
 -- where no word is left and there is no room for the path, it is refused
 pub refused_no_word : (old : List (List Edge)) (kind : RelaxKind) (prefix shown : List Edge) (words : List (List ℕ)) → words ≡ [] → shown ≡ prefix → is_path prefix ≡ true
-    → at_most_64 (keep old shown) ≡ Err kind → at_most_64 (keep_all old (paths_after prefix (map word_edges words))) ≡ Err kind
+    → at_most_64 (keep_path old shown) ≡ Err kind → at_most_64 (keep_all old (paths_after prefix (map word_edges words))) ≡ Err kind
 refused_no_word old kind prefix shown words none same path err = rw none (refused_end old kind prefix path (rw (← same) err))
 
 -- the paths by the next edge of a word are kept after those by the edges before it
@@ -144,19 +144,19 @@ keeps_word_next old middle new some more prefix chosen lists edges i d same with
     keeps_next old middle new some more prefix lists edges i d within a (subst (λ f. KeepsPaths middle (paths_after (f ++ get_or edges i d ∷ []) lists) new more) same b)
 
 -- after the last edge of a word all its paths are kept
-pub keeps_word : (old new : List (List Edge)) (some : Bool) (prefix edges : List Edge) (word : List ℕ) (words behind : List (List ℕ)) (n : ℕ)
-    → words ≡ word ∷ behind → edges ≡ word_edges word → n ≡ length edges → KeepsPaths old (paths_by prefix (map word_edges behind) (take n edges)) new some
+pub keeps_word : (old new : List (List Edge)) (some : Bool) (prefix edges : List Edge) (word : List ℕ) (words remainder : List (List ℕ)) (n : ℕ)
+    → words ≡ word ∷ remainder → edges ≡ word_edges word → n ≡ length edges → KeepsPaths old (paths_by prefix (map word_edges remainder) (take n edges)) new some
     → KeepsPaths old (paths_after prefix (map word_edges words)) new some
-keeps_word old new some prefix edges word words behind n cut of_word all a =
-    rw (cut, ← of_word) (keeps_last old new some prefix (map word_edges behind) edges n all a)
+keeps_word old new some prefix edges word words remainder n cut of_word all a =
+    rw (cut, ← of_word) (keeps_last old new some prefix (map word_edges remainder) edges n all a)
 
 -- where there is no room for the paths by an edge of a word, there is none for all
-pub refused_word : (old middle : List (List Edge)) (some : Bool) (kind : RelaxKind) (prefix chosen edges : List Edge) (word : List ℕ) (words behind : List (List ℕ)) (i : ℕ) (d : Edge)
-    → words ≡ word ∷ behind → edges ≡ word_edges word → chosen ≡ prefix → i < length edges
-    → KeepsPaths old (paths_by prefix (map word_edges behind) (take i edges)) middle some
-    → at_most_64 (keep_all middle (paths_after (chosen ++ get_or edges i d ∷ []) (map word_edges behind))) ≡ Err kind
+pub refused_word : (old middle : List (List Edge)) (some : Bool) (kind : RelaxKind) (prefix chosen edges : List Edge) (word : List ℕ) (words remainder : List (List ℕ)) (i : ℕ) (d : Edge)
+    → words ≡ word ∷ remainder → edges ≡ word_edges word → chosen ≡ prefix → i < length edges
+    → KeepsPaths old (paths_by prefix (map word_edges remainder) (take i edges)) middle some
+    → at_most_64 (keep_all middle (paths_after (chosen ++ get_or edges i d ∷ []) (map word_edges remainder))) ≡ Err kind
     → at_most_64 (keep_all old (paths_after prefix (map word_edges words))) ≡ Err kind
-refused_word old middle some kind prefix chosen edges word words behind i d cut of_word same within a err =
-    rw (cut, ← of_word, paths_after_by prefix edges (map word_edges behind))
-    (refused_next old middle some kind prefix (map word_edges behind) edges i d within a
-    (subst (λ f. at_most_64 (keep_all middle (paths_after (f ++ get_or edges i d ∷ []) (map word_edges behind))) ≡ Err kind) same err))
+refused_word old middle some kind prefix chosen edges word words remainder i d cut of_word same within a err =
+    rw (cut, ← of_word, paths_after_by prefix edges (map word_edges remainder))
+    (refused_next old middle some kind prefix (map word_edges remainder) edges i d within a
+    (subst (λ f. at_most_64 (keep_all middle (paths_after (f ++ get_or edges i d ∷ []) (map word_edges remainder))) ≡ Err kind) same err))

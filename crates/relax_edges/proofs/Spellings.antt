@@ -15,10 +15,10 @@ use Rattle.relax_edges.specs.declared.kinds.Mark.TheVariants.{Plain, Acquire, Re
 use Rattle.relax_edges.specs.declared.edge.Edge.{Edge}
 use Rattle.relax_edges.specs.EdgeTable.{kind_of, unmarked, marked_of, marked_edge}
 use Rattle.relax_edges.specs.Order.{rank_of}
-use Rattle.relax_edges.specs.Words.{word_of, mark_word}
+use Rattle.relax_edges.specs.WordParts.{word_of, mark_word}
 use Rattle.relax_edges.specs.AllEdges.{edges_in_order}
 use Rattle.relax_edges.specs.Spelling.{kind_spellings, spellings_of, is_spelling, edge_of}
-use Rattle.relax_edges.specs.Reading.{marks_read, mark_named, communication_of, two_sided_of, one_sided_of, kind_read, edge_spelled, spelled_by, read_by_marks, read_back, read_of}
+use Rattle.relax_edges.specs.WordReading.{marks_read, mark_named, communication_of, two_sided_of, one_sided_of, kind_read, edge_spelled, spelled_by, read_by_marks, read_back, read_of}
 use Rattle.relax_edges.proofs.Ranks.{each_edge, rank_injective}
 use Rattle.relax_edges.proofs.KindSpellings.{find_passes, named_is, each_kind, is_kind_spelling, kind_sound}
 

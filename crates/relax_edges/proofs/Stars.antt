@@ -21,8 +21,8 @@ abbrev ends : List ℕ → ℕ → ℕ → List (List ℕ)
 ends prefix before last = flat_map (λ a. map (λ b. prefix ++ a ∷ b ∷ []) (star_choices last)) (star_choices before)
 
 -- a byte before the last two has itself as its one choice
-plain_choice : (byte behind : ℕ) → 2 ≤ behind → byte_choices byte behind ≡ byte ∷ []
-plain_choice byte behind far = rw (le-ltb behind 2 far, and-false (byte == 42)) refl
+plain_choice : (byte remainder : ℕ) → 2 ≤ remainder → byte_choices byte remainder ≡ byte ∷ []
+plain_choice byte remainder far = rw (le-ltb remainder 2 far, and-false (byte == 42)) refl
 
 -- a byte among the last two has the choices of a star
 near_choice : (byte : ℕ) → cond (byte == 42 && true) (codes "RW") (byte ∷ []) ≡ star_choices byte

@@ -9,7 +9,7 @@ use Rattle.std.proofs.lemmas.Str.Ascii.{IsAscii-from_all}
 use Rattle.relax_edges.specs.declared.kinds.Kind.{Kind}
 use Rattle.relax_edges.specs.declared.edge.Edge.{Edge}
 use Rattle.relax_edges.specs.EdgeTable.{kind_of}
-use Rattle.relax_edges.specs.Words.{word_of, kind_word}
+use Rattle.relax_edges.specs.WordParts.{word_of, kind_word}
 use Rattle.relax_edges.specs.AllEdges.{edges_in_order}
 use Rattle.relax_edges.proofs.Ranks.{each_edge}
 use Rattle.relax_edges.proofs.KindSpellings.{each_kind}

@@ -3,7 +3,7 @@
 use Rattle.std.specs.Prelude.{ℕ, Option, List, [], ◌∷◌, codes}
 use Rattle.relax_edges.specs.declared.kinds.ArchName.{ArchName}
 use Rattle.relax_edges.specs.declared.kinds.ArchName.TheVariants.{X86, PPC, AArch64, RISCV}
-use Rattle.relax_edges.specs.Reading.{named}
+use Rattle.relax_edges.specs.WordReading.{kind_named_by}
 
 -- the text that names an architecture
 abbrev pub arch_word : ArchName → List ℕ
@@ -18,4 +18,4 @@ all_archs = X86 ∷ PPC ∷ AArch64 ∷ RISCV ∷ []
 
 -- the architecture that a text names
 abbrev pub arch_of : List ℕ → Option ArchName
-arch_of = named arch_word all_archs
+arch_of = kind_named_by arch_word all_archs

@@ -111,8 +111,8 @@ kind_place (kinds.Dep _ sd _) = sd
 kind_place (kinds.Data sd) = sd
 
 -- whether the accesses that an edge joins are at one location
-abbrev pub place_of : Edge → Sd
-place_of edge = kind_place (kind_of edge)
+abbrev pub sd_of : Edge → Sd
+sd_of edge = kind_place (kind_of edge)
 
 -- a fence is of an architecture: each fence is of exactly one
 abbrev pub fence_is_of : FenceKind → ArchName → Bool
@@ -196,7 +196,7 @@ is_external edge = reaches_out (reach_of edge)
 
 -- an edge leads to another location
 abbrev pub is_diff : Edge → Bool
-is_diff edge = differs (place_of edge)
+is_diff edge = differs (sd_of edge)
   where
     differs : Sd → Bool
     differs Same = false

@@ -1,10 +1,10 @@
 pub mod Marks
 pub mod EdgeTable
 pub mod Order
-pub mod Words
+pub mod WordParts
 pub mod AllEdges
 pub mod Spelling
-pub mod Reading
+pub mod WordReading
 pub mod Architectures
 pub mod RelaxText
 pub mod Relaxations

@@ -8,28 +8,28 @@ use Rattle.relax_edges.specs.Relaxations.{kept_item}
 -- the words of the item that a text begins with, or none where its bracket is bad
 unfoldable pub first_words : List ℕ → Option (List (List ℕ))
 first_words [] = None
-first_words (byte ∷ behind) = words_from byte behind
+first_words (byte ∷ remainder) = words_from byte remainder
 
 -- the length of the item or separator that a text begins with
 unfoldable pub first_word_len : List ℕ → ℕ
 first_word_len [] = 0
-first_word_len (byte ∷ behind) = bytes_after byte behind + 1
+first_word_len (byte ∷ remainder) = bytes_after byte remainder + 1
 
 -- the list kept once the item or separator that a text begins with is read, or why that item is refused
 unfoldable pub kept_prefix : List (List Edge) → List ℕ → Result (List (List Edge)) RelaxKind
 kept_prefix kept [] = Ok kept
-kept_prefix kept (byte ∷ behind) = cond (is_separator byte) (Ok kept) (kept_item kept (words_from byte behind))
+kept_prefix kept (byte ∷ remainder) = cond (is_separator byte) (Ok kept) (kept_item kept (words_from byte remainder))
 
 -- whether a text begins with the end of a word
 unfoldable pub ends_here : List ℕ → Bool
 ends_here [] = true
-ends_here (byte ∷ behind) = ends_word byte
+ends_here (byte ∷ remainder) = ends_word byte
 
 -- the second text is the inside of a good bracket, whose `[` comes right before the first text
-pub record IsInside (behind words : List ℕ) : Type 0 where
-  pub good : bracket_words behind ≡ Some (words_of words)
-  pub len : length words ≡ length (inside behind)
-  pub closed : length words < length behind
+pub record IsInside (remainder words : List ℕ) : Type 0 where
+  pub good : bracket_words remainder ≡ Some (words_of words)
+  pub len : length words ≡ length (inside remainder)
+  pub closed : length words < length remainder
   pub some : 0 < length (words_of words)
 
 -- a text is the word that another begins with

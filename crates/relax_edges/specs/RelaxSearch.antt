@@ -3,11 +3,11 @@ use Rattle.std.specs.Prelude.{◌≡◌, Bool, not, Result, Ok, Err, MatchResult
 use Rattle.std.specs.List.{flat_map}
 use Rattle.relax_edges.specs.declared.edge.Edge.{Edge}
 use Rattle.relax_edges.specs.RelaxText.{is_empty}
-use Rattle.relax_edges.specs.Relaxations.{choices, is_path, keep_all, at_most_64}
+use Rattle.relax_edges.specs.Relaxations.{path_choices, is_path, keep_all, at_most_64}
 
 -- the paths that begin with some edges and go on with one edge of each list
 unfoldable pub paths_after : List Edge → List (List Edge) → List (List Edge)
-paths_after prefix lists = filter is_path (map (λ path. prefix ++ path) (choices lists))
+paths_after prefix lists = filter is_path (map (λ path. prefix ++ path) (path_choices lists))
 
 -- the paths that begin with some edges, then one of a few edges, and go on with one edge of each list
 unfoldable pub paths_by : List Edge → List (List Edge) → List Edge → List (List Edge)
@@ -19,5 +19,5 @@ pub record KeepsPaths (old paths new : List (List Edge)) (some : Bool) : Type 0 
   pub found : some ≡ not (is_empty paths)
 
 -- an answer beside what reading gives: this is kept, or the text is refused so
-abbrev pub Keeps : {A E : Type 0} → Result (List (List Edge)) E → List (List Edge) → Result A E → Type 0
-Keeps read new answer = MatchResult answer (λ _. read ≡ Ok new) (λ error. read ≡ Err error)
+abbrev pub KeepsRelaxations : {A E : Type 0} → Result (List (List Edge)) E → List (List Edge) → Result A E → Type 0
+KeepsRelaxations read new answer = MatchResult answer (λ _. read ≡ Ok new) (λ error. read ≡ Err error)

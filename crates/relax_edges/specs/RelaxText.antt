@@ -27,11 +27,11 @@ words_of text = filter (λ word. not (is_empty word)) (slice_split is_separator 
 
 -- the text after a `[`, up to the next bracket
 abbrev pub inside : List ℕ → List ℕ
-inside behind = before_first is_bracket behind
+inside remainder = before_first is_bracket remainder
 
 -- whether the next bracket after a `[` is a `]`
-abbrev pub is_closed : List ℕ → Bool
-is_closed behind = get_or behind (length (inside behind)) 0 == 93
+abbrev pub has_closed_bracket : List ℕ → Bool
+has_closed_bracket remainder = get_or remainder (length (inside remainder)) 0 == 93
 
 -- some words, or none where there is no word: a bracket without words is bad
 abbrev pub some_words : List (List ℕ) → Option (List (List ℕ))
@@ -40,7 +40,7 @@ some_words (word ∷ words) = Some (word ∷ words)
 
 -- the words of a bracket, from the text after its `[`
 abbrev pub bracket_words : List ℕ → Option (List (List ℕ))
-bracket_words behind = cond (is_closed behind) (some_words (words_of (inside behind))) None
+bracket_words remainder = cond (has_closed_bracket remainder) (some_words (words_of (inside remainder))) None
 
 -- an item: the byte where it begins, and its words, or none where its bracket is bad
 pub record Item : Type 0 where
@@ -49,22 +49,22 @@ pub record Item : Type 0 where
 
 -- the words of the item that begins with a byte
 abbrev pub words_from : ℕ → List ℕ → Option (List (List ℕ))
-words_from byte behind = cond (byte == 91) (bracket_words behind) (cond (byte == 93) None (Some ((byte ∷ before_first ends_word behind) ∷ [])))
+words_from byte remainder = cond (byte == 91) (bracket_words remainder) (cond (byte == 93) None (Some ((byte ∷ before_first ends_word remainder) ∷ [])))
 
 -- the item that begins with a byte, or none at a separator
 abbrev pub item_from : ℕ → ℕ → List ℕ → List Item
-item_from start byte behind = cond (is_separator byte) [] (record { start = start; words = words_from byte behind } ∷ [])
+item_from start byte remainder = cond (is_separator byte) [] (record { start = start; words = words_from byte remainder } ∷ [])
 
 -- how many bytes of an item follow its first one
 abbrev pub bytes_after : ℕ → List ℕ → ℕ
-bytes_after byte behind =
-    cond (is_separator byte || byte == 93) 0 (cond (byte == 91) (length (inside behind) + 1) (length (before_first ends_word behind)))
+bytes_after byte remainder =
+    cond (is_separator byte || byte == 93) 0 (cond (byte == 91) (length (inside remainder) + 1) (length (before_first ends_word remainder)))
 
 -- the items of a text whose first byte has this place, after that many bytes are passed over
 abbrev pub items_from : ℕ → ℕ → List ℕ → List Item
 items_from place passed [] = []
-items_from place (suc passed) (byte ∷ behind) = items_from (place + 1) passed behind
-items_from place zero (byte ∷ behind) = item_from place byte behind ++ items_from (place + 1) (bytes_after byte behind) behind
+items_from place (suc passed) (byte ∷ remainder) = items_from (place + 1) passed remainder
+items_from place zero (byte ∷ remainder) = item_from place byte remainder ++ items_from (place + 1) (bytes_after byte remainder) remainder
 
 -- the items of a text
 unfoldable pub items_of : List ℕ → List Item

@@ -1,4 +1,4 @@
--- The relaxations of a text: the edges that its words name, the choices that join, and the refusals.
+-- The relaxations of a text: the edges that its words name, the path_choices that join, and the refusals.
 -- Source: the diy part of the herdtools manual, option `-relax`.
 use Rattle.std.specs.Prelude.{ℕ, ◌≡◌, ◌<◌, ◌≤◌, ◌==◌, ◌&&◌, Bool, true, false, not, cond, nat_lt, Option, Some, None, Result, Ok, Err, List, [], ◌∷◌, ◌++◌, length, filter, map, codes}
 use Rattle.std.specs.List.{flat_map, filter_map, list_any}
@@ -14,12 +14,12 @@ use Rattle.relax_edges.specs.RelaxText.{Item, is_empty, items_of}
 
 -- the bytes that a byte of a word means: a `*` among the last two means `R` and `W`, any other byte itself
 abbrev pub byte_choices : ℕ → ℕ → List ℕ
-byte_choices byte behind = cond (byte == 42 && nat_lt behind 2) (codes "RW") (byte ∷ [])
+byte_choices byte remainder = cond (byte == 42 && nat_lt remainder 2) (codes "RW") (byte ∷ [])
 
 -- the words that a word expands to, the first star turning slowest
 abbrev pub expansions : List ℕ → List (List ℕ)
 expansions [] = [] ∷ []
-expansions (byte ∷ behind) = flat_map (λ choice. map (λ word. choice ∷ word) (expansions behind)) (byte_choices byte (length behind))
+expansions (byte ∷ remainder) = flat_map (λ choice. map (λ word. choice ∷ word) (expansions remainder)) (byte_choices byte (length remainder))
 
 -- the edges that a word names
 unfoldable pub word_edges : List ℕ → List Edge
@@ -28,21 +28,21 @@ word_edges word = filter_map edge_of (expansions word)
 -- each edge joins the next, from one on
 abbrev pub joins_on : Edge → List Edge → Bool
 joins_on edge [] = true
-joins_on edge (next ∷ behind) = joins_to edge next && joins_on next behind
+joins_on edge (next ∷ remainder) = joins_to edge next && joins_on next remainder
 
 -- each edge joins the next
 abbrev pub is_path : List Edge → Bool
 is_path [] = true
-is_path (edge ∷ behind) = joins_on edge behind
+is_path (edge ∷ remainder) = joins_on edge remainder
 
--- all choices of one from each list, the last turning fastest
-abbrev pub choices : List (List Edge) → List (List Edge)
-choices [] = [] ∷ []
-choices (edges ∷ behind) = flat_map (λ edge. map (λ path. edge ∷ path) (choices behind)) edges
+-- all path_choices of one from each list, the last turning fastest
+abbrev pub path_choices : List (List Edge) → List (List Edge)
+path_choices [] = [] ∷ []
+path_choices (edges ∷ remainder) = flat_map (λ edge. map (λ path. edge ∷ path) (path_choices remainder)) edges
 
--- the choices of some words in which neighbours join
+-- the path_choices of some words in which neighbours join
 abbrev pub paths_of : List (List ℕ) → List (List Edge)
-paths_of words = filter is_path (choices (map word_edges words))
+paths_of words = filter is_path (path_choices (map word_edges words))
 
 -- whether two lists of edges are the same
 abbrev pub is_same : List Edge → List Edge → Bool
@@ -55,23 +55,23 @@ pub record IsRelax (edges : List Edge) : Type 0 where
   pub joined : is_path edges ≡ true
 
 -- no two lists of edges are the same
-abbrev pub are_distinct : List (List Edge) → Bool
-are_distinct [] = true
-are_distinct (path ∷ paths) = not (list_any (is_same path) paths) && are_distinct paths
+abbrev pub are_distinct_paths : List (List Edge) → Bool
+are_distinct_paths [] = true
+are_distinct_paths (path ∷ paths) = not (list_any (is_same path) paths) && are_distinct_paths paths
 
 -- at most 64 relaxations, no two of which are the same
 pub record IsRelaxes (paths : List (List Edge)) : Type 0 where
   pub few : length paths ≤ 64
-  pub distinct : are_distinct paths ≡ true
+  pub distinct : are_distinct_paths paths ≡ true
 
 -- the list with one relaxation more at its end, unless the list has it already
-abbrev pub keep : List (List Edge) → List Edge → List (List Edge)
-keep kept path = cond (list_any (is_same path) kept) kept (kept ++ path ∷ [])
+abbrev pub keep_path : List (List Edge) → List Edge → List (List Edge)
+keep_path kept path = cond (list_any (is_same path) kept) kept (kept ++ path ∷ [])
 
 -- the list once some relaxations are kept, one after another
 abbrev pub keep_all : List (List Edge) → List (List Edge) → List (List Edge)
 keep_all kept [] = kept
-keep_all kept (path ∷ paths) = keep_all (keep kept path) paths
+keep_all kept (path ∷ paths) = keep_all (keep_path kept path) paths
 
 -- the list itself where it has at most 64 relaxations, and else the refusal
 abbrev pub at_most_64 : List (List Edge) → Result (List (List Edge)) RelaxKind

@@ -11,7 +11,7 @@ use Rattle.relax_edges.specs.declared.kinds.Mark.{Mark}
 use Rattle.relax_edges.specs.declared.kinds.Mark.TheVariants.{Plain}
 use Rattle.relax_edges.specs.declared.edge.Edge.{Edge}
 use Rattle.relax_edges.specs.EdgeTable.{kind_of, source_mark, target_mark, kind_is_of}
-use Rattle.relax_edges.specs.Words.{kind_word, mark_word, reach_word}
+use Rattle.relax_edges.specs.WordParts.{kind_word, mark_word, reach_word}
 use Rattle.relax_edges.specs.AllEdges.{edges_in_order}
 
 -- without its marks an edge is spelled as it is printed, and `Wsi` and `Wse` are spelled `Coi` and `Coe` too

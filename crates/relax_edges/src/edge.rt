@@ -1,6 +1,6 @@
 ghost use Rattle.std.specs.Prelude.{◌≡◌};
 ghost use Rattle.relax_edges.specs.Marks.{markable_kind};
-ghost use Rattle.relax_edges.specs.EdgeTable.{unmarked, marked_of, marked_edge, mark_fits, kind_of, kind_source, kind_target, kind_reach, kind_place, kind_is_of, source_of, target_of, reach_of, place_of, source_mark, target_mark, mark_is_of, is_of_arch, joins_to, com_source, com_target, fence_is_of, dependency_is_of, is_external, is_diff};
+ghost use Rattle.relax_edges.specs.EdgeTable.{unmarked, marked_of, marked_edge, mark_fits, kind_of, kind_source, kind_target, kind_reach, kind_place, kind_is_of, source_of, target_of, reach_of, sd_of, source_mark, target_mark, mark_is_of, is_of_arch, joins_to, com_source, com_target, fence_is_of, dependency_is_of, is_external, is_diff};
 
 use crate::kinds::{ArchName, Com, DepKind, Dir, FenceKind, Kind, Mark, Reach, Sd};
 use crate::marked::{MarkedEdge, as_markable, ends_of};
@@ -327,7 +327,7 @@ impl Edge {
 
     /// Whether the accesses that the edge joins are at one location.
     pub fn place(self) -> Sd
-        ensures { result ≡ place_of self }
+        ensures { result ≡ sd_of self }
     {
         match self {
             Edge::Com { .. } => Sd::Same,

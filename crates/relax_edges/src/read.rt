@@ -1,5 +1,5 @@
 ghost use Rattle.std.specs.Prelude.{◌≡◌, ◌∷◌, [], ◌++◌, reverse};
-ghost use Rattle.relax_edges.specs.Reading.{mark_named, kind_read, edge_spelled, dir_named, sd_named, reach_named, com_named, dependency_named, riscv_fence_named, plain_fence_named, fence_named, communication_of, two_sided_of, one_sided_of, read_as_communication, read_back_two_sided};
+ghost use Rattle.relax_edges.specs.WordReading.{mark_named, kind_read, edge_spelled, dir_named, sd_named, reach_named, com_named, dependency_named, riscv_fence_named, plain_fence_named, fence_named, communication_of, two_sided_of, one_sided_of, read_as_communication, read_back_two_sided};
 ghost use Rattle.relax_edges.specs.Spelling.{edge_of};
 ghost use Rattle.std.specs.Result.{result_ok};
 
@@ -147,7 +147,7 @@ impl FenceKind {
     }
 }
 
-#[tactic(auto, unfolding(crate::specs::Reading::communication_of))]
+#[tactic(auto, unfolding(crate::specs::WordReading::communication_of))]
 fn read_communication(first: u8, second: u8, reach: u8) -> Option<Kind>
     ensures { result ≡ communication_of first second reach }
 {
@@ -156,7 +156,7 @@ fn read_communication(first: u8, second: u8, reach: u8) -> Option<Kind>
     Some(Kind::Com { com, reach })
 }
 
-#[tactic(auto, unfolding(crate::specs::Reading::two_sided_of))]
+#[tactic(auto, unfolding(crate::specs::WordReading::two_sided_of))]
 fn read_two_sided(prefix: &[u8], sd: u8, from: u8, to: u8) -> Option<Kind>
     ensures { result ≡ two_sided_of prefix.now sd from to }
 {
@@ -175,7 +175,7 @@ fn read_two_sided(prefix: &[u8], sd: u8, from: u8, to: u8) -> Option<Kind>
     })
 }
 
-#[tactic(auto, unfolding(crate::specs::Reading::one_sided_of))]
+#[tactic(auto, unfolding(crate::specs::WordReading::one_sided_of))]
 fn read_one_sided(prefix: &[u8], sd: u8, to: u8) -> Option<Kind>
     ensures { result ≡ one_sided_of prefix.now sd to }
 {
@@ -234,7 +234,7 @@ fn read_kind(text: &[u8]) -> Option<Kind>
 
 /// The edge of a kind with the marks of two letters, where `PP` may follow the edges of
 /// AArch64 only.
-#[tactic(auto, unfolding(crate::specs::Reading::edge_spelled))]
+#[tactic(auto, unfolding(crate::specs::WordReading::edge_spelled))]
 fn edge_of_letters(kind: Kind, from: Mark, to: Mark) -> Option<Edge>
     ensures { result ≡ edge_spelled kind from to }
 {

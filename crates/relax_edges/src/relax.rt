@@ -1,6 +1,6 @@
 ghost use Rattle.std.specs.Prelude.{◌≡◌, ◌<◌, ◌≤◌, [], true, length, slice_get, Some, Ok, Err, MatchResult, ◌==◌};
 ghost use Rattle.std.specs.List.{list_any};
-ghost use Rattle.relax_edges.specs.Relaxations.{IsRelax, IsRelaxes, is_path, are_distinct, is_same, keep, at_most_64};
+ghost use Rattle.relax_edges.specs.Relaxations.{IsRelax, IsRelaxes, is_path, are_distinct_paths, is_same, keep_path, at_most_64};
 
 use crate::edge::Edge;
 use crate::relax_error::RelaxKind;
@@ -88,7 +88,7 @@ impl Relaxes {
     pub fn len(&self) -> usize
         ensures value { result ≡ length self.now }
         ensures few { result ≤ 64 }
-        ensures distinct { are_distinct self.now ≡ true }
+        ensures distinct { are_distinct_paths self.now ≡ true }
     {
         self.list.len()
     }
@@ -131,7 +131,7 @@ impl Relaxes {
     #[tactic(auto, using(crate::proofs::Kept::keep_there, crate::proofs::Kept::keep_full, crate::proofs::Kept::keep_room, crate::proofs::Kept::relaxes_end))]
     pub(crate) fn keep(&mut self, path: &[Edge]) -> Result<(), RelaxKind>
         requires { IsRelax path.now }
-        ensures { MatchResult result (λ _. at_most_64 (keep self.old path.now) ≡ Ok self.new) (λ kind. at_most_64 (keep self.old path.now) ≡ Err kind) }
+        ensures { MatchResult result (λ _. at_most_64 (keep_path self.old path.now) ≡ Ok self.new) (λ kind. at_most_64 (keep_path self.old path.now) ≡ Err kind) }
     {
         if self.contains(path) {
             return Ok(());

@@ -2,7 +2,7 @@ ghost use Rattle.std.specs.Prelude.{◌≡◌, ◌<◌, ◌≤◌, ◌+◌, ◌�
 ghost use Rattle.std.specs.List.{position, position_or_len};
 ghost use Rattle.relax_edges.specs.RelaxText.{is_separator, is_bracket, ends_word, words_of, bracket_words};
 ghost use Rattle.relax_edges.specs.RelaxPrefix.{first_word_len, kept_prefix, ends_here, IsInside, IsFirstWord};
-ghost use Rattle.relax_edges.specs.RelaxSearch.{Keeps};
+ghost use Rattle.relax_edges.specs.RelaxSearch.{KeepsRelaxations};
 ghost use Rattle.relax_edges.specs.Relaxations.{kept_words};
 
 use crate::relax::Relaxes;
@@ -53,14 +53,14 @@ fn run_len(text: &[u8]) -> usize
 
 /// The text inside a good bracket, from the text after its `[`.
 #[tactic(auto, using(crate::proofs::Prefixes::bracket_open, crate::proofs::Prefixes::bracket_nested, crate::proofs::Prefixes::bracket_empty, crate::proofs::Prefixes::bracket_good))]
-fn inside_bracket(behind: &[u8]) -> Option<&[u8]>
-    ensures { MatchOption result (bracket_words behind.now ≡ None) (λ words. IsInside behind.now words.now) }
+fn inside_bracket(remainder: &[u8]) -> Option<&[u8]>
+    ensures { MatchOption result (bracket_words remainder.now ≡ None) (λ words. IsInside remainder.now words.now) }
 {
-    let len = inside_len(behind);
-    if len >= behind.len() || behind[len] != b']' {
+    let len = inside_len(remainder);
+    if len >= remainder.len() || remainder[len] != b']' {
         return None;
     }
-    let words = &behind[..len];
+    let words = &remainder[..len];
     match next_word(words) {
         Some(_) => Some(words),
         None => None,
@@ -81,7 +81,7 @@ fn first_word(text: &[u8]) -> &[u8]
 fn keep_words(words: &[u8], kept: &mut Relaxes) -> Result<(), RelaxKind>
     requires some { 0 < length (words_of words.now) }
     requires few { length kept.old ≤ 64 }
-    ensures kept { Keeps (kept_words kept.old (words_of words.now)) kept.new result }
+    ensures kept { KeepsRelaxations (kept_words kept.old (words_of words.now)) kept.new result }
     ensures few { OnOk result (length kept.new ≤ 64) }
 {
     if has_unknown(words) {
@@ -103,7 +103,7 @@ fn keep_words(words: &[u8], kept: &mut Relaxes) -> Result<(), RelaxKind>
 pub(crate) fn keep_item(text: &[u8], kept: &mut Relaxes) -> Result<usize, RelaxKind>
     requires some { 0 < length text.now }
     requires few { length kept.old ≤ 64 }
-    ensures kept { Keeps (kept_prefix kept.old text.now) kept.new result }
+    ensures kept { KeepsRelaxations (kept_prefix kept.old text.now) kept.new result }
     ensures len { IfOk result (λ len. len ≡ first_word_len text.now) }
     ensures more { IfOk result (λ len. 0 < len) }
     ensures within { IfOk result (λ len. len ≤ length text.now) }
@@ -122,15 +122,15 @@ pub(crate) fn keep_item(text: &[u8], kept: &mut Relaxes) -> Result<usize, RelaxK
 }
 
 /// Keeps the relaxations of a bracket, from the text after its `[`, and answers its length.
-fn keep_bracket(behind: &[u8], kept: &mut Relaxes) -> Result<usize, RelaxKind>
+fn keep_bracket(remainder: &[u8], kept: &mut Relaxes) -> Result<usize, RelaxKind>
     requires { length kept.old ≤ 64 }
-    ensures kept { Keeps (kept_prefix kept.old (91 ∷ behind.now)) kept.new result }
-    ensures len { IfOk result (λ len. len ≡ first_word_len (91 ∷ behind.now)) }
+    ensures kept { KeepsRelaxations (kept_prefix kept.old (91 ∷ remainder.now)) kept.new result }
+    ensures len { IfOk result (λ len. len ≡ first_word_len (91 ∷ remainder.now)) }
     ensures more { IfOk result (λ len. 0 < len) }
-    ensures within { IfOk result (λ len. len ≤ length behind.now + 1) }
+    ensures within { IfOk result (λ len. len ≤ length remainder.now + 1) }
     ensures few { OnOk result (length kept.new ≤ 64) }
 {
-    match inside_bracket(behind) {
+    match inside_bracket(remainder) {
         Some(words) => {
             keep_words(words, kept)?;
             Ok(words.len() + 2)
@@ -143,7 +143,7 @@ fn keep_bracket(behind: &[u8], kept: &mut Relaxes) -> Result<usize, RelaxKind>
 fn keep_word(text: &[u8], kept: &mut Relaxes) -> Result<usize, RelaxKind>
     requires word { ends_here text.now ≡ false }
     requires few { length kept.old ≤ 64 }
-    ensures kept { Keeps (kept_prefix kept.old text.now) kept.new result }
+    ensures kept { KeepsRelaxations (kept_prefix kept.old text.now) kept.new result }
     ensures len { IfOk result (λ len. len ≡ first_word_len text.now) }
     ensures more { IfOk result (λ len. 0 < len) }
     ensures within { IfOk result (λ len. len ≤ length text.now) }

@@ -37,14 +37,14 @@ pub(crate) fn keep_paths(
         (λ some. KeepsPaths kept.old (paths_after chosen.old.items (map word_edges (words_of words.now))) kept.new some)
         (λ kind. at_most_64 (keep_all kept.old (paths_after chosen.old.items (map word_edges (words_of words.now)))) ≡ Err kind) }
 {
-    let Some((word, behind)) = next_word(words) else {
+    let Some((word, remainder)) = next_word(words) else {
         kept.keep(chosen.as_slice())?;
         return Ok(true);
     };
     let edges = word_edges(word);
     let mut some = false;
     for edge in edges.as_slice() {
-        some |= keep_after(*edge, behind, chosen, kept)?;
+        some |= keep_after(*edge, remainder, chosen, kept)?;
     }
     Ok(some)
 }

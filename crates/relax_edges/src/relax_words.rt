@@ -39,11 +39,11 @@ pub(crate) fn next_word(text: &[u8]) -> Option<(&[u8], &[u8])>
     ensures shorter { MatchOption result (Unit {0}) (λ p. length p.1.now < length text.now) }
 {
     let mut rest = text;
-    while let [first, behind @ ..] = rest {
+    while let [first, remainder @ ..] = rest {
         if !is_separator(*first) {
             return Some(rest.split_at(word_len(rest)));
         }
-        rest = behind;
+        rest = remainder;
     }
     None
 }
@@ -100,11 +100,11 @@ pub(crate) fn has_unknown(words: &[u8]) -> bool
     ensures { result ≡ list_any (λ word. is_empty (word_edges word)) (words_of words.now) }
 {
     let mut rest = words;
-    while let Some((word, behind)) = next_word(rest) {
+    while let Some((word, remainder)) = next_word(rest) {
         if word_edges(word).is_empty() {
             return true;
         }
-        rest = behind;
+        rest = remainder;
     }
     false
 }
@@ -115,9 +115,9 @@ pub(crate) fn count_words(words: &[u8]) -> usize
 {
     let mut count = 0;
     let mut rest = words;
-    while let Some((_, behind)) = next_word(rest) {
+    while let Some((_, remainder)) = next_word(rest) {
         count += 1;
-        rest = behind;
+        rest = remainder;
     }
     count
 }

@@ -1,6 +1,6 @@
 ghost use Rattle.std.specs.Prelude.{◌≡◌, ◌≤◌, ◌+◌, ◌++◌, length, []};
 ghost use Rattle.std.specs.Str.{IsAscii};
-ghost use Rattle.relax_edges.specs.Words.{word_of, kind_word, mark_word, marks_word, com_word, reach_word, sd_word, dir_word, fence_word, dependency_word};
+ghost use Rattle.relax_edges.specs.WordParts.{word_of, kind_word, mark_word, marks_word, com_word, reach_word, sd_word, dir_word, fence_word, dependency_word};
 
 use crate::edge::Edge;
 use crate::kinds::{Com, DepKind, Dir, FenceKind, Kind, Mark, Pick, Reach, Sd};

@@ -19,21 +19,21 @@ use Rattle.resolution_laws.proofs.Turning.{resolution_resolved}
 use Rattle.value_laws.specs.Values.{observer_need}
 use Rattle.arch_trait.specs.declared.step.Step.{Step}
 use Rattle.arch_trait.specs.Threads.{Puts}
-use Rattle.test_laws.specs.Steps.{cycle_steps}
+use Rattle.test_laws.specs.CycleSteps.{cycle_steps}
 use Rattle.test_laws.specs.TestOf.{plain}
 use Rattle.test_laws.proofs.Everywhere.{position_none}
 use Rattle.test_maker.specs.declared.refusal.MakeRefusal.{MakeRefusal}
 use Rattle.test_maker.specs.declared.refusal.MakeRefusal.TheVariants as refusals
 use Rattle.test_maker.specs.Refusals.{or_else, foreign_edge, unobserved_need, is_crowded, crowded_thread, resolved_refusal, refusal_of}
 use Rattle.list_laws.proofs.Places.{none_foreign}
-use Rattle.rotation_laws.specs.Alike.{AcceptedAlike, RefusedAlike, kind_of}
+use Rattle.rotation_laws.specs.Alike.{AcceptedAlike, RefusedAlike, refusal_kind}
 use Rattle.rotation_laws.proofs.Steps.{has_shape}
 use Rattle.rotation_laws.proofs.Turns.{moved, exchanged, thread_exchanged}
 use Rattle.rotation_laws.proofs.Values.{need_alike}
 
 -- two answers are of one kind: two reasons of one kind, or none
 OfOneKind : Option MakeRefusal → Option MakeRefusal → Type 0
-OfOneKind x y = option_map kind_of x ≡ option_map kind_of y
+OfOneKind x y = option_map refusal_kind x ≡ option_map refusal_kind y
 
 -- the first of two reasons
 or_alike : (x y v w : Option MakeRefusal) → OfOneKind x y → OfOneKind v w → OfOneKind (or_else x v) (or_else y w)
@@ -44,7 +44,7 @@ or_alike (Some x) None v w h k = cc
 or_alike (Some x) (Some y) v w h k = h
 
 -- reasons of one kind, where there is one for both or for none
-of_one_kind : {X : Type 0} (reason : X → MakeRefusal) (kind : MakeRefusal) (x y : Option X) → ((at : X) → kind_of (reason at) ≡ kind) → (x ≡ None → y ≡ None) → (y ≡ None → x ≡ None) → OfOneKind (option_map reason x) (option_map reason y)
+of_one_kind : {X : Type 0} (reason : X → MakeRefusal) (kind : MakeRefusal) (x y : Option X) → ((at : X) → refusal_kind (reason at) ≡ kind) → (x ≡ None → y ≡ None) → (y ≡ None → x ≡ None) → OfOneKind (option_map reason x) (option_map reason y)
 unfolding OfOneKind
 of_one_kind reason kind None None k on back = refl
 of_one_kind reason kind None (Some y) k on back = let e : Some y ≡ None = on refl in cc
@@ -134,7 +134,7 @@ unfolding OfOneKind
 resolved_alike a mode es fs c r = of_resolution (resolution_of es) refl
   where
     kind : Result (List Edge) ResolveError → Option MakeRefusal
-    kind resolution = option_map kind_of (resolved_refusal a resolution mode)
+    kind resolution = option_map refusal_kind (resolved_refusal a resolution mode)
 
     of_resolution : (u : Result (List Edge) ResolveError) → resolution_of es ≡ u → kind (resolution_of es) ≡ kind (resolution_of fs)
     of_resolution (Err error) e = ap kind (e ∙ sym (resolution_refused_alike es fs error r e))

@@ -14,7 +14,7 @@ use Rattle.arch_trait.specs.declared.step.Step.{Step}
 use Rattle.arch_trait.specs.Links.{edge_link}
 use Rattle.arch_trait.specs.Threads.{shape_of}
 use Rattle.communication_laws.proofs.Lists.{map-map}
-use Rattle.test_laws.specs.Steps.{cycle_steps, event_link, event_step, observer_steps, observing, thread_steps}
+use Rattle.test_laws.specs.CycleSteps.{cycle_steps, event_link, event_step, observer_steps, observing, thread_steps}
 use Rattle.test_laws.specs.TestOf.{plain}
 use Rattle.test_laws.proofs.Everywhere.{all_from}
 use Rattle.test_laws.proofs.StepsAt.{by_steps, observer_steps_at, thread_steps_at}

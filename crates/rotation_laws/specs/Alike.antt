@@ -21,17 +21,17 @@ AcceptedAlike a =
     (es fs : List Edge) (mode : ObsMode) → IsCycle es → IsRotation es fs → (refusal_of a es mode ≡ None) ↔ (refusal_of a fs mode ≡ None)
 
 -- the kind of a reason: the reason without the numbers of the edge, location, event or thread that it names
-abbrev pub kind_of : MakeRefusal → MakeRefusal
-kind_of (refusals.NotOfArch at) = refusals.NotOfArch 0
-kind_of refusals.TooFewThreads = refusals.TooFewThreads
-kind_of refusals.CoherenceOnly = refusals.CoherenceOnly
-kind_of (refusals.NeedsObserver location event) = refusals.NeedsObserver 0 0
-kind_of (refusals.TooManyRegisters thread) = refusals.TooManyRegisters 0
+abbrev pub refusal_kind : MakeRefusal → MakeRefusal
+refusal_kind (refusals.NotOfArch at) = refusals.NotOfArch 0
+refusal_kind refusals.TooFewThreads = refusals.TooFewThreads
+refusal_kind refusals.CoherenceOnly = refusals.CoherenceOnly
+refusal_kind (refusals.NeedsObserver location event) = refusals.NeedsObserver 0 0
+refusal_kind (refusals.TooManyRegisters thread) = refusals.TooManyRegisters 0
 
 -- a cycle is refused for a reason of the same kind as each rotation of it, where it is refused
 abbrev pub RefusedAlike : Puts → Type 0
 RefusedAlike a =
-    (es fs : List Edge) (mode : ObsMode) → IsCycle es → IsRotation es fs → option_map kind_of (refusal_of a es mode) ≡ option_map kind_of (refusal_of a fs mode)
+    (es fs : List Edge) (mode : ObsMode) → IsCycle es → IsRotation es fs → option_map refusal_kind (refusal_of a es mode) ≡ option_map refusal_kind (refusal_of a fs mode)
 
 -- es is the turn of a list that begins at an event of its last thread, but not at the first of that thread
 pub record BeginsInside (us es : List Edge) : Type 0 where
@@ -51,10 +51,10 @@ pub record TurnedAlike : Type 0 where
   pub begins : (us es : List Edge) → ends_outside us ≡ true → BeginsAlike us es ↔ (turned es ≡ us)
 
 -- the text of the test of a cycle, under a name
-abbrev pub text_of : Puts → Writing → List ℕ → List Edge → ObsMode → List ℕ
-text_of a w name cycle mode = test_text a.name w name (test_of a (name_in w.registers) (turned cycle) mode)
+abbrev pub text_of_cycle : Puts → Writing → List ℕ → List Edge → ObsMode → List ℕ
+text_of_cycle a w name cycle mode = test_text a.name w name (test_of a (name_in w.registers) (turned cycle) mode)
 
 -- the test of the turned list has the same text as the test of the cycle, and so have those of all lists that begin alike
 pub record SameText (a : Puts) (w : Writing) : Type 0 where
-  pub turns : (name : List ℕ) (es : List Edge) (mode : ObsMode) → 0 < external_count es → text_of a w name (turned es) mode ≡ text_of a w name es mode
-  pub begins : (name : List ℕ) (us es : List Edge) (mode : ObsMode) → ends_outside us ≡ true → BeginsAlike us es → text_of a w name es mode ≡ text_of a w name us mode
+  pub turns : (name : List ℕ) (es : List Edge) (mode : ObsMode) → 0 < external_count es → text_of_cycle a w name (turned es) mode ≡ text_of_cycle a w name es mode
+  pub begins : (name : List ℕ) (us es : List Edge) (mode : ObsMode) → ends_outside us ≡ true → BeginsAlike us es → text_of_cycle a w name es mode ≡ text_of_cycle a w name us mode

@@ -4,9 +4,9 @@ use Rattle.relax_edges.specs.declared.kinds.ObsMode.{ObsMode}
 use Rattle.relax_edges.specs.declared.edge.Edge.{Edge}
 use Rattle.arch_trait.specs.Laws.{IsArch}
 use Rattle.arch_trait.specs.Threads.{Puts}
-use Rattle.arch_trait.specs.Tests.{TestSeen}
+use Rattle.arch_trait.specs.SeenTests.{TestSeen}
 use Rattle.coherence_laws.proofs.Laws.{cycle_tests_are_sc_per_location}
-use Rattle.test_laws.specs.Headline.{HasTest, IsRenumbered}
+use Rattle.test_laws.specs.TestHeadline.{HasTest, IsRenumbered}
 use Rattle.test_laws.specs.TestOf.{test_of}
 use Rattle.test_laws.proofs.Headline.{renumbered_numbers, renumbered_program}
 use Rattle.test_laws.proofs.Making.{makes}

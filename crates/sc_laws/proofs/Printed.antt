@@ -8,15 +8,15 @@ use Rattle.relax_edges.specs.declared.edge.Edge.{Edge}
 use Rattle.resolution_laws.specs.Resolution.{move_count}
 use Rattle.arch_trait.specs.Cells.{WritesCells, MakesOneAccess}
 use Rattle.arch_trait.specs.Laws.{IsArch}
-use Rattle.arch_trait.specs.Names.{letters}
+use Rattle.arch_trait.specs.PlaceNames.{letters}
 use Rattle.arch_trait.specs.Threads.{Puts}
 use Rattle.arch_trait.specs.Writing.{Writing, WritesBack, name_in}
-use Rattle.litmus_text.specs.Mentioned.{ReadsBack}
+use Rattle.litmus_text.specs.Mentioned.{TestReadsBack}
 use Rattle.litmus_text.specs.Reread.{reread}
 use Rattle.litmus_text.specs.TestReading.{TestRead}
 use Rattle.printed_test_laws.proofs.BackLaws.{reads_back}
-use Rattle.test_laws.specs.Headline.{HasTest}
-use Rattle.test_laws.specs.Programs.{test_program}
+use Rattle.test_laws.specs.TestHeadline.{HasTest}
+use Rattle.test_laws.specs.TestPrograms.{test_program}
 use Rattle.test_laws.specs.TestOf.{test_of}
 use Rattle.printed_test_laws.specs.Readings.{program_read}
 use Rattle.printed_test_laws.proofs.Readable.{readable}
@@ -25,7 +25,7 @@ use Rattle.sc_laws.specs.Laws.{ScDecides, PrintedAreScPerLocation}
 use Rattle.sc_laws.proofs.Laws.{tests_are_sc_per_location}
 
 -- the law for what is read back of a printed test
-read_sc : (a : Puts) (arch : ArchName) (w : Writing) (name : List ℕ) (es : List Edge) (mode : ObsMode) → IsArch a → HasTest a es mode → (r : ReadsBack arch w name (test_of a (name_in w.registers) es mode)) → ScDecides (program_read (reread r.table name (test_of a (name_in w.registers) es mode)))
+read_sc : (a : Puts) (arch : ArchName) (w : Writing) (name : List ℕ) (es : List Edge) (mode : ObsMode) → IsArch a → HasTest a es mode → (r : TestReadsBack arch w name (test_of a (name_in w.registers) es mode)) → ScDecides (program_read (reread r.table name (test_of a (name_in w.registers) es mode)))
 read_sc a arch w name es mode laws t r =
     subst ScDecides program_is
     (tests_are_sc_per_location a (name_in w.registers) es mode (reread_test r.table (test_of a (name_in w.registers) es mode)) (by_table r.table (letters (move_count es))) laws t

@@ -8,15 +8,15 @@ use Rattle.relax_edges.specs.declared.edge.Edge.{Edge}
 use Rattle.arch_trait.specs.Laws.{IsArch}
 use Rattle.arch_trait.specs.Threads.{Puts}
 use Rattle.arch_trait.specs.Writing.{Writing, name_in}
-use Rattle.arch_trait.specs.Tests.{TestSeen}
+use Rattle.arch_trait.specs.SeenTests.{TestSeen}
 use Rattle.litmus_text.specs.Printable.{IsTestName}
 use Rattle.litmus_text.specs.TestReading.{TestRead, test_read}
 use Rattle.litmus_text.specs.TestText.{test_text}
 use Rattle.program_meaning.specs.Executions.{Execution}
 use Rattle.program_meaning.specs.Programs.{Program, IsCandidate, IsCoherentIn, accesses_in}
 use Rattle.coherence_laws.specs.Relations.{IsScPerLocation}
-use Rattle.test_laws.specs.Headline.{HasTest, IsRenumbered}
-use Rattle.test_laws.specs.Programs.{test_program}
+use Rattle.test_laws.specs.TestHeadline.{HasTest, IsRenumbered}
+use Rattle.test_laws.specs.TestPrograms.{test_program}
 use Rattle.test_laws.specs.TestOf.{test_of}
 use Rattle.printed_test_laws.specs.Readings.{program_read}
 

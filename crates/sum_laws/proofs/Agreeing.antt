@@ -13,8 +13,8 @@ use Rattle.list_laws.proofs.Cases.{by_test}
 use Rattle.log_sum.specs.declared.errors.LogKind.{LogKind}
 use Rattle.log_sum.specs.declared.errors.LogKind.TheVariants.{HashDiffers, ConditionDiffers, SumTooLarge, KindDiffers}
 use Rattle.log_sum.specs.Counts.{last_count}
-use Rattle.log_sum.specs.Facts.{Row, Fact, Entry, a_kind, a_row, a_condition, a_hash, kinds, rows, conditions, hashes, first_of, same_kind, same_mark, marked_sum, state_sum, mark_in, is_other, fault_if, fault_of, facts_of}
-use Rattle.log_sum.specs.Summed.{or_else}
+use Rattle.log_sum.specs.Facts.{Row, Fact, Entry, a_kind, a_row, a_condition, a_hash, kinds, rows, conditions, hashes, first_of, same_kind, same_state_mark, marked_sum, state_sum, mark_in, is_other, fault_if, fact_fault, facts_of}
+use Rattle.log_sum.specs.Summed.{some_or}
 use Rattle.sum_laws.proofs.Cases.{Kind, Mark, Verdict, allowed, plain, kind_cases, mark_cases}
 use Rattle.sum_laws.proofs.Texts.{bytes_same}
 use Rattle.sum_laws.proofs.Blocks.{Clean}
@@ -76,8 +76,8 @@ first_both (x ∷ xs) ys = refl
 pub marked_both : (m : Mark) (rs ss : List Row) → marked_sum m (rs ++ ss) ≡ marked_sum m rs + marked_sum m ss
 unfolding marked_sum
 marked_both m rs ss =
-    ap (sum_by (λ (r : Row). r.count)) (filter-append (λ (r : Row). same_mark r.mark m) rs ss)
-    ∙ sum_by-append (λ (r : Row). r.count) (filter (λ (r : Row). same_mark r.mark m) rs) (filter (λ (r : Row). same_mark r.mark m) ss)
+    ap (sum_by (λ (r : Row). r.count)) (filter-append (λ (r : Row). same_state_mark r.mark m) rs ss)
+    ∙ sum_by-append (λ (r : Row). r.count) (filter (λ (r : Row). same_state_mark r.mark m) rs) (filter (λ (r : Row). same_state_mark r.mark m) ss)
 
 -- the sum of a state over two lists of rows is that of both sums
 pub state_both : (state : List ℕ) (rs ss : List Row) → state_sum state (rs ++ ss) ≡ state_sum state rs + state_sum state ss
@@ -95,9 +95,9 @@ mark_both state rs ss =
     ∙ first_both (map (λ (r : Row). r.mark) (filter (λ (r : Row). bytes_eq r.state state) rs)) (map (λ (r : Row). r.mark) (filter (λ (r : Row). bytes_eq r.state state) ss))
 
 -- the sum of a mark over one row
-pub marked_one : (m : Mark) (row : Row) → marked_sum m (row ∷ []) ≡ cond (same_mark row.mark m) row.count 0
+pub marked_one : (m : Mark) (row : Row) → marked_sum m (row ∷ []) ≡ cond (same_state_mark row.mark m) row.count 0
 unfolding marked_sum
-marked_one m row = by_test (same_mark row.mark m) (λ e. rw e (zero-add row.count)) (λ e. rw e refl)
+marked_one m row = by_test (same_state_mark row.mark m) (λ e. rw e (zero-add row.count)) (λ e. rw e refl)
 
 -- the sum of a state over one row
 pub state_one : (state : List ℕ) (row : Row) → state_sum state (row ∷ []) ≡ cond (bytes_eq row.state state) row.count 0
@@ -131,7 +131,7 @@ fact_elsewhere name e entries h = rw h refl
 -- facts of one test have no fault, one after another
 abbrev pub CleanFacts : List Fact → List Fact → Type 0
 CleanFacts before [] = Unit {0}
-CleanFacts before (fact ∷ facts) = (fault_of before fact ≡ None) × CleanFacts (before ++ fact ∷ []) facts
+CleanFacts before (fact ∷ facts) = (fact_fault before fact ≡ None) × CleanFacts (before ++ fact ∷ []) facts
 
 -- entries without a fault have facts without one for each test
 pub clean_facts : (before entries : List Entry) (name : List ℕ) → Clean before entries → CleanFacts (facts_of name before) (facts_of name entries)
@@ -141,7 +141,7 @@ clean_facts before (e ∷ entries) name c =
     by_test (bytes_eq e.test name)
     (λ h. let same : e.test ≡ name = (bytes_eq-Decides e.test name).0 h in
     let more : facts_of name (before ++ e ∷ []) ≡ facts_of name before ++ e.fact ∷ [] = facts_both name before (e ∷ []) ∙ ap (λ t. facts_of name before ++ t) (fact_here name e [] h) in
-    let first : fault_of (facts_of name before) e.fact ≡ None = ap (λ n. fault_of (facts_of n before) e.fact) (sym same) ∙ c.0 in
+    let first : fact_fault (facts_of name before) e.fact ≡ None = ap (λ n. fact_fault (facts_of n before) e.fact) (sym same) ∙ c.0 in
     rw (fact_here name e entries h) (first, subst (λ t. CleanFacts t (facts_of name entries)) more further))
     (λ h. let more : facts_of name (before ++ e ∷ []) ≡ facts_of name before = facts_both name before (e ∷ []) ∙ ap (λ t. facts_of name before ++ t) (fact_elsewhere name e [] h) ∙ append-nil (facts_of name before) in
     rw (fact_elsewhere name e entries h) (subst (λ t. CleanFacts t (facts_of name entries)) more further))
@@ -185,26 +185,26 @@ pub kind_same : (k : Kind) → same_kind k k ≡ true
 kind_same k = kind_cases (λ x. same_kind x x ≡ true) refl refl refl k
 
 -- a mark is the same as itself
-pub mark_same : (m : Mark) → same_mark m m ≡ true
-mark_same m = mark_cases (λ x. same_mark x x ≡ true) refl refl m
+pub mark_same : (m : Mark) → same_state_mark m m ≡ true
+mark_same m = mark_cases (λ x. same_state_mark x x ≡ true) refl refl m
 
 -- kinds that are tested to be the same are the same
 pub kind_is : (a b : Kind) → same_kind a b ≡ true → a ≡ b
 kind_is a b h = grind arith
 
 -- marks that are tested to be the same are the same
-pub mark_is : (a b : Mark) → same_mark a b ≡ true → a ≡ b
+pub mark_is : (a b : Mark) → same_state_mark a b ≡ true → a ≡ b
 mark_is a b h = grind arith
 
 abbrev profile_of : List Fact → Profile
 profile_of facts = record {
-  kind = or_else allowed (first_of (kinds facts));
-  text = or_else [] (option_map (λ c. c.0) (first_of (conditions facts)));
-  hash = or_else [] (first_of (hashes facts));
-  mark = λ state. or_else plain (mark_in state (rows facts));
+  kind = some_or allowed (first_of (kinds facts));
+  text = some_or [] (option_map (λ c. c.0) (first_of (conditions facts)));
+  hash = some_or [] (first_of (hashes facts));
+  mark = λ state. some_or plain (mark_in state (rows facts));
 }
 
-pub no_other : {A : Type 0} (same : A → A → Bool) → ((x y : A) → same x y ≡ true → x ≡ y) → (o more : Option A) (d x : A) → is_other same o x ≡ false → x ≡ or_else d (or_first o (or_first (Some x) more))
+pub no_other : {A : Type 0} (same : A → A → Bool) → ((x y : A) → same x y ≡ true → x ≡ y) → (o more : Option A) (d x : A) → is_other same o x ≡ false → x ≡ some_or d (or_first o (or_first (Some x) more))
 no_other same law None more d x h = refl
 no_other same law (Some y) more d x h = sym (law y x (not-false (same y x) h))
 
@@ -225,15 +225,15 @@ map_first f (Some x) p = refl
 pub bytes_is : (x y : List ℕ) → bytes_eq x y ≡ true → x ≡ y
 bytes_is x y h = (bytes_eq-Decides x y).0 h
 
-row_fault : (facts : List Fact) (row : Row) → fault_of facts (a_row row) ≡ None → (is_other same_mark (mark_in row.state (rows facts)) row.mark ≡ false) × (nat_lt last_count (marked_sum row.mark (rows facts) + row.count) ≡ false)
-unfolding fault_of
+row_fault : (facts : List Fact) (row : Row) → fact_fault facts (a_row row) ≡ None → (is_other same_state_mark (mark_in row.state (rows facts)) row.mark ≡ false) × (nat_lt last_count (marked_sum row.mark (rows facts) + row.count) ≡ false)
+unfolding fact_fault
 row_fault facts row h =
-    by_test (is_other same_mark (mark_in row.state (rows facts)) row.mark)
+    by_test (is_other same_state_mark (mark_in row.state (rows facts)) row.mark)
     (λ e. let k = rw e at h in absurd (cc))
     (λ e. (e, none_if (nat_lt last_count (marked_sum row.mark (rows facts) + row.count)) SumTooLarge (rw e at h)))
 
-fit_one : (facts : List Fact) (fact : Fact) (more : List Fact) → fault_of facts fact ≡ None → FitsTo (profile_of (facts ++ fact ∷ more)) fact
-unfolding fault_of
+fit_one : (facts : List Fact) (fact : Fact) (more : List Fact) → fact_fault facts fact ≡ None → FitsTo (profile_of (facts ++ fact ∷ more)) fact
+unfolding fact_fault
 fit_one facts (a_kind kind) more h =
     rw (kinds_both facts (a_kind kind ∷ more), first_both (kinds facts) (kind ∷ kinds more))
     (no_other same_kind kind_is (first_of (kinds facts)) None allowed kind (none_if (is_other same_kind (first_of (kinds facts)) kind) KindDiffers h))
@@ -247,7 +247,7 @@ fit_one facts (a_row row) more h =
     let e : mark_in row.state (row ∷ rows more) ≡ or_first (Some row.mark) (mark_in row.state (rows more)) =
     mark_both row.state (row ∷ []) (rows more) ∙ ap (λ o. or_first o (mark_in row.state (rows more))) (mark_one row.state row ∙ ap (λ b. cond b (Some row.mark) None) (bytes_same row.state)) in
     rw (rows_both facts (a_row row ∷ more), mark_both row.state (rows facts) (row ∷ rows more), e)
-    (no_other same_mark mark_is (mark_in row.state (rows facts)) (mark_in row.state (rows more)) plain row.mark (row_fault facts row h).0)
+    (no_other same_state_mark mark_is (mark_in row.state (rows facts)) (mark_in row.state (rows more)) plain row.mark (row_fault facts row h).0)
 
 fit_all : (facts more : List Fact) → CleanFacts facts more → AllOf (FitsTo (profile_of (facts ++ more))) more
 fit_all facts [] c = tt
@@ -267,13 +267,13 @@ not_above n h = grind (arith, nat_tests)
 row_small : (facts : List Fact) (row : Row) → nat_lt last_count (marked_sum row.mark (rows facts) + row.count) ≡ false → Small facts → Small (facts ++ a_row row ∷ [])
 unfolding Small
 row_small facts row h s m =
-    let e : marked_sum m (rows (facts ++ a_row row ∷ [])) ≡ marked_sum m (rows facts) + cond (same_mark row.mark m) row.count 0 =
+    let e : marked_sum m (rows (facts ++ a_row row ∷ [])) ≡ marked_sum m (rows facts) + cond (same_state_mark row.mark m) row.count 0 =
     ap (marked_sum m) (rows_both facts (a_row row ∷ [])) ∙ marked_both m (rows facts) (row ∷ []) ∙ ap (λ n. marked_sum m (rows facts) + n) (marked_one m row) in
-    rw e (by_test (same_mark row.mark m)
+    rw e (by_test (same_state_mark row.mark m)
     (λ t. rw t (let same : row.mark ≡ m = mark_is row.mark m t in subst (λ x. marked_sum x (rows facts) + row.count ≤ last_count) same (not_above (marked_sum row.mark (rows facts) + row.count) h)))
     (λ t. rw t (omega (arith, s m))))
 
-small_one : (facts : List Fact) (fact : Fact) → fault_of facts fact ≡ None → Small facts → Small (facts ++ fact ∷ [])
+small_one : (facts : List Fact) (fact : Fact) → fact_fault facts fact ≡ None → Small facts → Small (facts ++ fact ∷ [])
 small_one facts (a_kind kind) h s = same_count facts (a_kind kind) refl s
 small_one facts (a_condition text verdict) h s = same_count facts (a_condition text verdict) refl s
 small_one facts (a_hash text) h s = same_count facts (a_hash text) refl s
@@ -332,8 +332,8 @@ mark_fits p (a_hash text ∷ facts) s m a e = mark_fits p facts s m a.1 e
 not_larger : (n : ℕ) → n ≤ last_count → nat_lt last_count n ≡ false
 not_larger n h = grind (arith, nat_tests)
 
-no_fault : (p : Profile) (facts : List Fact) (fact : Fact) (more : List Fact) → AllOf (FitsTo p) facts → FitsTo p fact → Small (facts ++ fact ∷ more) → fault_of facts fact ≡ None
-unfolding fault_of Small
+no_fault : (p : Profile) (facts : List Fact) (fact : Fact) (more : List Fact) → AllOf (FitsTo p) facts → FitsTo p fact → Small (facts ++ fact ∷ more) → fact_fault facts fact ≡ None
+unfolding fact_fault Small
 no_fault p facts (a_kind kind) more a f s =
     if_none (is_other same_kind (first_of (kinds facts)) kind) KindDiffers (is_none_other same_kind (first_of (kinds facts)) kind
     (λ k e. ap (λ x. same_kind k x) (f ∙ sym (kind_fits p facts k a e)) ∙ kind_same k))
@@ -344,8 +344,8 @@ no_fault p facts (a_hash text) more a f s =
     if_none (is_other bytes_eq (first_of (hashes facts)) text) HashDiffers (is_none_other bytes_eq (first_of (hashes facts)) text
     (λ t e. ap (λ x. bytes_eq t x) (f ∙ sym (hash_fits p facts t a e)) ∙ bytes_same t))
 no_fault p facts (a_row row) more a f s =
-    let one : is_other same_mark (mark_in row.state (rows facts)) row.mark ≡ false = is_none_other same_mark (mark_in row.state (rows facts)) row.mark
-    (λ m e. ap (λ x. same_mark m x) (f ∙ sym (mark_fits p facts row.state m a e)) ∙ mark_same m) in
+    let one : is_other same_state_mark (mark_in row.state (rows facts)) row.mark ≡ false = is_none_other same_state_mark (mark_in row.state (rows facts)) row.mark
+    (λ m e. ap (λ x. same_state_mark m x) (f ∙ sym (mark_fits p facts row.state m a e)) ∙ mark_same m) in
     let e : marked_sum row.mark (rows (facts ++ a_row row ∷ more)) ≡ marked_sum row.mark (rows facts) + (row.count + marked_sum row.mark (rows more)) =
     ap (marked_sum row.mark) (rows_both facts (a_row row ∷ more)) ∙ marked_both row.mark (rows facts) (row ∷ rows more)
     ∙ ap (λ n. marked_sum row.mark (rows facts) + n) (marked_both row.mark (row ∷ []) (rows more) ∙ ap (λ n. n + marked_sum row.mark (rows more)) (marked_one row.mark row ∙ ap (λ b. cond b row.count 0) (mark_same row.mark))) in

@@ -12,8 +12,8 @@ use Rattle.std.proofs.lemmas.List.Sums.{fold-append}
 use Rattle.std.proofs.lemmas.List.Folds.{list_any-append, list_all-append}
 use Rattle.list_laws.proofs.Cases.{by_test}
 use Rattle.log_sum.specs.Facts.{Row, Fact, a_kind, a_row, a_condition, a_hash, kinds, rows, conditions, hashes, first_of, marked_sum, state_sum, states_of, mark_in, verdicts, says_validated}
-use Rattle.log_sum.specs.Summed.{Summed, or_else, state_by, summed, validated_by, is_validated}
-use Rattle.log_sum.specs.SumText.{test_text, head_text, verdict_text, claim_text, condition_text, observation_text}
+use Rattle.log_sum.specs.Summed.{Summed, some_or, state_by, summed, validated_by, is_validated}
+use Rattle.log_sum.specs.SumText.{summed_text, head_text, sum_verdict_text, claim_text, condition_text, observation_text}
 use Rattle.sum_laws.proofs.Cases.{Kind, Mark, Verdict, allowed, plain, starred, kind_cases}
 use Rattle.sum_laws.proofs.Texts.{bytes_same}
 use Rattle.sum_laws.proofs.Lines.{said_as}
@@ -54,11 +54,11 @@ states_are facts = refl
 
 -- a whole test is printed with its kind
 pub kind_summed : (facts : List Fact) (c : Complete facts) → kind_of_test (summed facts) ≡ c.kind
-kind_summed facts c = ap (or_else allowed) (kind_is facts ∙ c.is_kind)
+kind_summed facts c = ap (some_or allowed) (kind_is facts ∙ c.is_kind)
 
 -- a whole test is printed with its condition
-pub text_summed : (facts : List Fact) (c : Complete facts) → or_else [] (summed facts).condition ≡ c.text
-text_summed facts c = ap (or_else []) (condition_is facts ∙ ap (option_map (λ (x : List ℕ × Verdict). x.0)) c.is_text)
+pub text_summed : (facts : List Fact) (c : Complete facts) → some_or [] (summed facts).condition ≡ c.text
+text_summed facts c = ap (some_or []) (condition_is facts ∙ ap (option_map (λ (x : List ℕ × Verdict). x.0)) c.is_text)
 
 -- the rows that a printed test gives are the printed rows
 pub rows_printed : (facts : List Fact) → rows (printed_facts (summed facts)) ≡ printed_rows (rows facts)
@@ -126,7 +126,7 @@ states_there rs = all_in (map (λ (r : Row). r.state) rs) (states_of rs) (λ x e
 
 states_fit : (p : Profile) (rs : List Row) (ks : List (List ℕ)) → Marks p.mark rs → AllOf (λ x. list_any (bytes_eq x) (map (λ (r : Row). r.state) rs) ≡ true) ks → AllOf (FitsTo p) (state_facts (map (state_by rs) ks))
 states_fit p rs [] a h = tt
-states_fit p rs (k ∷ ks) a h = (mark_law p.mark rs a k (or_else plain (mark_in k rs)) (a_state_there k rs h.0), states_fit p rs ks a h.1)
+states_fit p rs (k ∷ ks) a h = (mark_law p.mark rs a k (some_or plain (mark_in k rs)) (a_state_there k rs h.0), states_fit p rs ks a h.1)
 
 hashes_fit : (p : Profile) (facts : List Fact) (o : Option (List ℕ)) → AllOf (FitsTo p) facts → first_of (hashes facts) ≡ o → AllOf (FitsTo p) (hash_facts o)
 hashes_fit p facts None a e = tt
@@ -135,10 +135,10 @@ hashes_fit p facts (Some hash) a e = (hash_fits p facts hash a e, tt)
 printed_fits : (p : Profile) (facts : List Fact) → AllOf (FitsTo p) facts → Complete facts → AllOf (FitsTo p) (printed_facts (summed facts))
 printed_fits p facts a c =
     let kind : kind_of_test (summed facts) ≡ p.kind = kind_summed facts c ∙ kind_fits p facts c.kind a c.is_kind in
-    let text : or_else [] (summed facts).condition ≡ p.text = text_summed facts c ∙ condition_fits p facts c.text a (ap (option_map (λ (x : List ℕ × Verdict). x.0)) c.is_text) in
+    let text : some_or [] (summed facts).condition ≡ p.text = text_summed facts c ∙ condition_fits p facts c.text a (ap (option_map (λ (x : List ℕ × Verdict). x.0)) c.is_text) in
     let states : AllOf (FitsTo p) (state_facts (summed facts).states) = subst (λ t. AllOf (FitsTo p) (state_facts t)) (sym (states_are facts)) (states_fit p (rows facts) (states_of (rows facts)) (marks_fit p facts a) (states_there (rows facts))) in (
       kind,
-      all_of_both (FitsTo p) (state_facts (summed facts).states) (a_condition (or_else [] (summed facts).condition) (said_as (is_validated (summed facts))) ∷ hash_facts (summed facts).hash) states
+      all_of_both (FitsTo p) (state_facts (summed facts).states) (a_condition (some_or [] (summed facts).condition) (said_as (is_validated (summed facts))) ∷ hash_facts (summed facts).hash) states
           (text, hashes_fit p facts (summed facts).hash a (sym (hash_is facts))),
     )
 
@@ -183,12 +183,12 @@ pub record Alike (one two : List Fact) : Type 0 where
   pub marked : (m : Mark) → marked_sum m (rows one) ≡ marked_sum m (rows two)
   pub states : map (state_by (rows one)) (states_of (rows one)) ≡ map (state_by (rows two)) (states_of (rows two))
 
-same_text : (name : List ℕ) (s t : Summed) → is_validated s ≡ is_validated t → s.kind ≡ t.kind → s.condition ≡ t.condition → s.hash ≡ t.hash → s.starred ≡ t.starred → s.plain ≡ t.plain → s.states ≡ t.states → test_text name s ≡ test_text name t
-unfolding test_text head_text verdict_text claim_text condition_text observation_text
+same_text : (name : List ℕ) (s t : Summed) → is_validated s ≡ is_validated t → s.kind ≡ t.kind → s.condition ≡ t.condition → s.hash ≡ t.hash → s.starred ≡ t.starred → s.plain ≡ t.plain → s.states ≡ t.states → summed_text name s ≡ summed_text name t
+unfolding summed_text head_text sum_verdict_text claim_text condition_text observation_text
 same_text name s t v k c h p q e = rw (v, k, c, h, p, q, e) refl
 
 -- such facts give the same text
-pub alike_text : (name : List ℕ) (one two : List Fact) → Alike one two → test_text name (summed one) ≡ test_text name (summed two)
+pub alike_text : (name : List ℕ) (one two : List Fact) → Alike one two → summed_text name (summed one) ≡ summed_text name (summed two)
 unfolding summed
 alike_text name one two a = same_text name (summed one) (summed two) a.validated a.kind a.text a.hash (a.marked starred) (a.marked plain) a.states
 

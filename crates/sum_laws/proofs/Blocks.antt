@@ -8,9 +8,9 @@ use Rattle.std.proofs.lemmas.Bool.{and_parts, not-true}
 use Rattle.list_laws.proofs.Elements.{list_all-weaker}
 use Rattle.text_laws.specs.Words.{is_nil}
 use Rattle.log_sum.specs.Counts.{last_count}
-use Rattle.log_sum.specs.Facts.{Fact, Entry, facts_of, fault_of}
-use Rattle.log_sum.specs.Lines.{Said, line_said, place_after, fact_said, test_after}
-use Rattle.log_sum.specs.Reading.{Seen, ◌>>=◌, is_too_long, next_line, fact_put, at_next_line, text_judged, line_judged, lines_judged, lines_of, rest_of}
+use Rattle.log_sum.specs.Facts.{Fact, Entry, facts_of, fact_fault}
+use Rattle.log_sum.specs.LogLines.{Said, log_line_said, place_after, fact_said, test_after}
+use Rattle.log_sum.specs.LogReading.{LogSeen, ◌>>=◌, is_too_long, next_line, fact_put, at_next_line, text_judged, line_judged, lines_judged, whole_lines, unfinished}
 use Rattle.text_laws.specs.Lines.{is_line_feed, without_return, but_last, last_of}
 use Rattle.sum_laws.proofs.Cases.{Place}
 use Rattle.sum_laws.proofs.Texts.{all_both, no_feed}
@@ -18,7 +18,7 @@ use Rattle.text_laws.proofs.PieceLaws.{first_piece, split_off}
 use Rattle.sum_laws.proofs.Lines.{digits_all}
 
 -- what was seen, by its parts
-abbrev pub seen_at : List Entry → List ℕ → Place → ℕ → Seen
+abbrev pub seen_at : List Entry → List ℕ → Place → ℕ → LogSeen
 seen_at entries test place line = record { entries = entries; test = test; place = place; line = line }
 
 -- a fact as an entry of its test
@@ -28,7 +28,7 @@ entry test fact = record { test = test; fact = fact }
 -- entries have no fault after others
 abbrev pub Clean : List Entry → List Entry → Type 0
 Clean before [] = Unit {0}
-Clean before (e ∷ entries) = (fault_of (facts_of e.test before) e.fact ≡ None) × Clean (before ++ e ∷ []) entries
+Clean before (e ∷ entries) = (fact_fault (facts_of e.test before) e.fact ≡ None) × Clean (before ++ e ∷ []) entries
 
 -- entries without a fault together have none one list after another
 pub clean_parts : (before one two : List Entry) → Clean before (one ++ two) → Clean before one × Clean (before ++ one) two
@@ -52,25 +52,25 @@ fact_goes before test place line None c = rw (append-nil before) refl
 fact_goes before test place line (Some fact) c = rw c.0 refl
 
 -- reading goes on from one place to another
-pub record Goes (s t : Seen) (bytes rest : List ℕ) : Type 0 where
-  pub lines : lines_judged s (lines_of bytes) ≡ lines_judged t (lines_of rest)
-  pub last : rest_of bytes ≡ rest_of rest
-  pub fits : list_all (λ line. not (is_too_long line)) (lines_of rest) ≡ true
+pub record Goes (s t : LogSeen) (bytes rest : List ℕ) : Type 0 where
+  pub lines : lines_judged s (whole_lines bytes) ≡ lines_judged t (whole_lines rest)
+  pub last : unfinished bytes ≡ unfinished rest
+  pub fits : list_all (λ line. not (is_too_long line)) (whole_lines rest) ≡ true
 
 -- a reading that goes on in two steps goes on
-pub goes_on : {s t u : Seen} {a b c : List ℕ} → Goes s t a b → Goes t u b c → Goes s u a c
+pub goes_on : {s t u : LogSeen} {a b c : List ℕ} → Goes s t a b → Goes t u b c → Goes s u a c
 goes_on g h = record { lines = g.lines ∙ h.lines; last = g.last ∙ h.last; fits = h.fits }
 
 -- a line and its line feed
-pub line_off : (text rest : List ℕ) → list_all no_feed text ≡ true → lines_of (text ++ 10 ∷ rest) ≡ text ∷ lines_of rest
-unfolding lines_of
+pub line_off : (text rest : List ℕ) → list_all no_feed text ≡ true → whole_lines (text ++ 10 ∷ rest) ≡ text ∷ whole_lines rest
+unfolding whole_lines
 line_off text rest h =
     let first = first_piece is_line_feed rest in
     ap but_last (split_off is_line_feed text 10 rest refl h) ∙ rw first.is refl
 
 -- a line at the start changes nothing in the last line
-pub last_off : (text rest : List ℕ) → list_all no_feed text ≡ true → rest_of (text ++ 10 ∷ rest) ≡ rest_of rest
-unfolding rest_of
+pub last_off : (text rest : List ℕ) → list_all no_feed text ≡ true → unfinished (text ++ 10 ∷ rest) ≡ unfinished rest
+unfolding unfinished
 last_off text rest h =
     let first = first_piece is_line_feed rest in
     ap last_of (split_off is_line_feed text 10 rest refl h) ∙ rw first.is refl
@@ -82,20 +82,20 @@ pub record IsLine (text : List ℕ) : Type 0 where
 
 -- no line of a text is too long
 abbrev pub Fits : List ℕ → Type 0
-Fits bytes = list_all (λ line. not (is_too_long line)) (lines_of bytes) ≡ true
+Fits bytes = list_all (λ line. not (is_too_long line)) (whole_lines bytes) ≡ true
 
 -- a line that can be printed is read, and the reading goes on after it
-pub step : (before : List Entry) (test : List ℕ) (place : Place) (line : ℕ) (text rest : List ℕ) (said : Said) → IsLine text → line_said place text ≡ Ok said
+pub step : (before : List Entry) (test : List ℕ) (place : Place) (line : ℕ) (text rest : List ℕ) (said : Said) → IsLine text → log_line_said place text ≡ Ok said
     → Fits (text ++ 10 ∷ rest) → Clean before (said_entries test said)
     → Goes (seen_at before test place line) (seen_at (before ++ said_entries test said) (test_after test said) (place_after place said) (next_line line)) (text ++ 10 ∷ rest) rest
 unfolding line_judged text_judged
 step before test place line text rest said l e f c =
-    let cut : lines_of (text ++ 10 ∷ rest) ≡ text ∷ lines_of rest = line_off text rest l.one in
-    let fit : list_all (λ line. not (is_too_long line)) (text ∷ lines_of rest) ≡ true = ap (list_all (λ line. not (is_too_long line))) (sym cut) ∙ f in
-    let both : (not (is_too_long text) ≡ true) × (list_all (λ line. not (is_too_long line)) (lines_of rest) ≡ true) = and_parts (not (is_too_long text)) (list_all (λ line. not (is_too_long line)) (lines_of rest)) fit in
+    let cut : whole_lines (text ++ 10 ∷ rest) ≡ text ∷ whole_lines rest = line_off text rest l.one in
+    let fit : list_all (λ line. not (is_too_long line)) (text ∷ whole_lines rest) ≡ true = ap (list_all (λ line. not (is_too_long line))) (sym cut) ∙ f in
+    let both : (not (is_too_long text) ≡ true) × (list_all (λ line. not (is_too_long line)) (whole_lines rest) ≡ true) = and_parts (not (is_too_long text)) (list_all (λ line. not (is_too_long line)) (whole_lines rest)) fit in
     let short : is_too_long text ≡ false = not-true (is_too_long text) both.0 in
     record {
-      lines = rw (cut, short, l.kept, e) (ap (λ r. r >>= (λ next. lines_judged next (lines_of rest))) (fact_goes before (test_after test said) (place_after place said) line (fact_said said) c));
+      lines = rw (cut, short, l.kept, e) (ap (λ r. r >>= (λ next. lines_judged next (whole_lines rest))) (fact_goes before (test_after test said) (place_after place said) line (fact_said said) c));
       last = last_off text rest l.one;
       fits = both.1;
     }

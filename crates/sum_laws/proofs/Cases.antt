@@ -3,12 +3,12 @@ use Rattle.std.proofs.Common.{◌≡◌, ℕ, List, [], true, false, sym, arith,
 use Rattle.std.specs.Prelude.{codes, Option, Bool, Result, Ok, Err}
 use Rattle.list_laws.proofs.Cases.{by_test}
 use Rattle.text_laws.specs.Words.{words}
-use Rattle.text_laws.specs.Runs.{after_run, run_of}
+use Rattle.text_laws.specs.LeadingRuns.{after_run, leading_run}
 use Rattle.text_laws.specs.Blanks.{before_blanks}
 use Rattle.log_sum.specs.Counts.{count_read}
-use Rattle.log_sum.specs.Lines.{begins, judged, conditioned, kind_of, mark_of, kind_at, states_left, verdict_cut, row_said, line_said, place_after, test_line, histogram_line, row_line, condition_line, hash_line}
-use Rattle.log_sum.specs.Reading.{nothing_seen, end_at}
-use Rattle.log_sum.specs.Facts.{same_mark, same_kind, says_validated}
+use Rattle.log_sum.specs.LogLines.{begins, judged, conditioned, kind_named, mark_written, kind_at, states_left, verdict_cut, row_said, log_line_said, place_after, test_line, histogram_line, log_row, condition_line, hash_line}
+use Rattle.log_sum.specs.LogReading.{nothing_seen, end_at}
+use Rattle.log_sum.specs.Facts.{same_state_mark, same_kind, says_validated}
 
 -- the type of a value
 abbrev pub TypeOf : {A : Type 0} → A → Type 0
@@ -34,7 +34,7 @@ Kind = TypeOf (kind_at nothing_seen.place)
 
 -- the type of marks
 abbrev pub Mark : Type 0
-Mark = TypeOf (the (mark_of 42) tt)
+Mark = TypeOf (the (mark_written 42) tt)
 
 -- the type of verdicts
 abbrev pub Verdict : Type 0
@@ -42,23 +42,23 @@ Verdict = TypeOf (the (verdict_cut (codes " is validated")) tt).1
 
 -- the kind of `Allowed`
 abbrev pub allowed : Kind
-allowed = the (kind_of (codes "Allowed")) tt
+allowed = the (kind_named (codes "Allowed")) tt
 
 -- the kind of `Forbidden`
 abbrev pub forbidden : Kind
-forbidden = the (kind_of (codes "Forbidden")) tt
+forbidden = the (kind_named (codes "Forbidden")) tt
 
 -- the kind of `Required`
 abbrev pub required : Kind
-required = the (kind_of (codes "Required")) tt
+required = the (kind_named (codes "Required")) tt
 
 -- the mark of a star
 abbrev pub starred : Mark
-starred = the (mark_of 42) tt
+starred = the (mark_written 42) tt
 
 -- the mark of a colon
 abbrev pub plain : Mark
-plain = the (mark_of 58) tt
+plain = the (mark_written 58) tt
 
 -- the verdict that a condition is validated
 abbrev pub validated : Verdict
@@ -83,15 +83,15 @@ kind_cases P a f r k =
     by_test (same_kind k allowed) (λ h. subst P (sym (allowed_is k h)) a)
     (λ h. by_test (same_kind k forbidden) (λ e. subst P (sym (forbidden_is k e)) f) (λ e. subst P (sym (required_is k h e)) r))
 
-starred_is : (m : Mark) → same_mark m starred ≡ true → m ≡ starred
+starred_is : (m : Mark) → same_state_mark m starred ≡ true → m ≡ starred
 starred_is m h = grind arith
 
-plain_is : (m : Mark) → same_mark m starred ≡ false → m ≡ plain
+plain_is : (m : Mark) → same_state_mark m starred ≡ false → m ≡ plain
 plain_is m h = grind arith
 
 -- what holds of the two marks holds of every mark
 pub mark_cases : (P : Mark → Type 0) → P starred → P plain → (m : Mark) → P m
-mark_cases P s p m = by_test (same_mark m starred) (λ h. subst P (sym (starred_is m h)) s) (λ h. subst P (sym (plain_is m h)) p)
+mark_cases P s p m = by_test (same_state_mark m starred) (λ h. subst P (sym (starred_is m h)) s) (λ h. subst P (sym (plain_is m h)) p)
 
 validated_is : (v : Verdict) → says_validated v ≡ true → v ≡ validated
 validated_is v h = grind arith
@@ -138,29 +138,29 @@ conditioned_at k = place_after (states_left k 0) (conditioned [] validated)
 
 -- a place where a state comes next
 abbrev pub IsStates : Place → Type 0
-IsStates p = (text : List ℕ) → line_said p text ≡ row_said (row_line text)
+IsStates p = (text : List ℕ) → log_line_said p text ≡ row_said (log_row text)
 
 takes : List ℕ → Place → Bool
-takes text p = is_ok (line_said p text)
+takes text p = is_ok (log_line_said p text)
 
 histogram_is : (p : Place) → is_outside p ≡ false → takes [] p ≡ false → takes (codes "Histogram (0 states)") p ≡ true → p ≡ histogram (kind_at p)
-unfolding takes line_said place_after words test_line condition_line hash_line after_run before_blanks row_line histogram_line run_of count_read
+unfolding takes log_line_said place_after words test_line condition_line hash_line after_run before_blanks log_row histogram_line leading_run count_read
 histogram_is p h e f = grind arith
 
 judgement_is : (p : Place) → takes [] p ≡ false → takes (codes "Ok") p ≡ true → p ≡ judgement (kind_at p)
-unfolding takes line_said place_after words test_line condition_line hash_line after_run before_blanks row_line histogram_line run_of count_read
+unfolding takes log_line_said place_after words test_line condition_line hash_line after_run before_blanks log_row histogram_line leading_run count_read
 judgement_is p h e = grind arith
 
 rest_is : (p : Place) → is_outside p ≡ false → takes [] p ≡ true → takes (codes "Observation") p ≡ false → p ≡ in_rest (kind_at p)
-unfolding takes line_said place_after words test_line condition_line hash_line after_run before_blanks row_line histogram_line run_of count_read
+unfolding takes log_line_said place_after words test_line condition_line hash_line after_run before_blanks log_row histogram_line leading_run count_read
 rest_is p h e f = grind arith
 
 conditioned_is : (p : Place) → is_outside p ≡ false → takes [] p ≡ true → takes (codes "Observation") p ≡ true → p ≡ conditioned_at (kind_at p)
-unfolding takes line_said place_after words test_line condition_line hash_line after_run before_blanks row_line histogram_line run_of count_read
+unfolding takes log_line_said place_after words test_line condition_line hash_line after_run before_blanks log_row histogram_line leading_run count_read
 conditioned_is p h e f = grind arith
 
 states_are : (p : Place) → takes [] p ≡ false → takes (codes "Ok") p ≡ false → takes (codes "Histogram (0 states)") p ≡ false → IsStates p
-unfolding takes line_said place_after words test_line condition_line hash_line after_run before_blanks histogram_line run_of count_read
+unfolding takes log_line_said place_after words test_line condition_line hash_line after_run before_blanks histogram_line leading_run count_read
 states_are p h e f text = grind arith
 
 -- what holds of each sort of place holds of every place

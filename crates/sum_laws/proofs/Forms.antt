@@ -14,10 +14,10 @@ use Rattle.std.proofs.lemmas.List.{take_at, take-append-drop}
 use Rattle.std.proofs.lemmas.Slice.Eq.{bytes_eq-Decides}
 use Rattle.text_laws.specs.Blanks.{is_blank, is_inked, before_blanks, unblanked}
 use Rattle.text_laws.specs.Words.{is_nil}
-use Rattle.text_laws.specs.Runs.{after_run}
+use Rattle.text_laws.specs.LeadingRuns.{after_run}
 use Rattle.log_sum.specs.Texts.{begins_with}
 use Rattle.text_laws.specs.Cuts.{before_cut, cut_at}
-use Rattle.log_sum.specs.States.{is_bracketed, left_kept, is_side, sides_read, has_left, with_equality, and_then, with_pieces, later_unblanked, state_read, later_forms, state_form, or_bad, form_read}
+use Rattle.log_sum.specs.LogStates.{is_bracketed, left_kept, is_side, sides_read, has_left, with_equality, and_then, with_pieces, later_unblanked, state_read, later_forms, state_form, or_bad, form_read}
 use Rattle.text_laws.specs.Lines.{without_return}
 use Rattle.text_laws.proofs.PieceLaws.{split_off}
 use Rattle.sum_laws.proofs.Texts.{all_both, all_parts, all_and, all_after, bytes_same, no_feed, end_stays, ink_stays}

@@ -6,13 +6,13 @@ use Rattle.std.specs.Str.{bytes_eq}
 use Rattle.list_laws.proofs.Cases.{by_test}
 use Rattle.log_sum.specs.declared.errors.LogError.{LogError}
 use Rattle.log_sum.specs.Counts.{last_count}
-use Rattle.log_sum.specs.Facts.{Row, Fact, Entry, a_kind, a_row, a_condition, a_hash, rows, hashes, first_of, same_mark, marked_sum, state_sum, states_of, facts_of, tests_of}
-use Rattle.log_sum.specs.Reading.{Seen, nothing_seen, ◌>>=◌, file_judged, files_judged}
+use Rattle.log_sum.specs.Facts.{Row, Fact, Entry, a_kind, a_row, a_condition, a_hash, rows, hashes, first_of, same_state_mark, marked_sum, state_sum, states_of, facts_of, tests_of}
+use Rattle.log_sum.specs.LogReading.{LogSeen, nothing_seen, ◌>>=◌, file_judged, files_judged}
 use Rattle.text_laws.specs.Lines.{without_return}
 use Rattle.log_sum.specs.Summed.{state_by, summed}
-use Rattle.log_sum.specs.SumText.{test_text, sum_text}
+use Rattle.log_sum.specs.SumText.{summed_text, sum_text}
 use Rattle.log_sum.specs.Representing.{logs_text}
-use Rattle.sum_laws.specs.Laws.{KeepsLimits, NoFault, IsSum, Represent, none, a_log, a_sum, SumsAreLogs, SumOfSums}
+use Rattle.sum_laws.specs.Laws.{KeepsSumLimits, NoFault, IsSum, Represent, none, a_log, a_sum, SumsAreLogs, SumOfSums}
 use Rattle.sum_laws.proofs.Cases.{Mark, outside, is_outside, starred, plain}
 use Rattle.sum_laws.proofs.Texts.{bytes_same, is_word}
 use Rattle.sum_laws.proofs.Lines.{line_of_hash}
@@ -72,9 +72,9 @@ cond_within a b x y false false h e f g = omega arith
 more_within : (mark : List ℕ → Mark) (x : List ℕ) (r : Row) (rs : List Row) → r.mark ≡ mark r.state → state_sum x rs ≤ marked_sum (mark x) rs → state_sum x (r ∷ rs) ≤ marked_sum (mark x) (r ∷ rs)
 more_within mark x r rs m h =
     let e : state_sum x (r ∷ rs) ≡ cond (bytes_eq r.state x) r.count 0 + state_sum x rs = state_both x (r ∷ []) rs ∙ ap (λ n. n + state_sum x rs) (state_one x r) in
-    let f : marked_sum (mark x) (r ∷ rs) ≡ cond (same_mark r.mark (mark x)) r.count 0 + marked_sum (mark x) rs = marked_both (mark x) (r ∷ []) rs ∙ ap (λ n. n + marked_sum (mark x) rs) (marked_one (mark x) r) in
-    rw f (cond_within (state_sum x (r ∷ rs)) (marked_sum (mark x) rs) r.count (state_sum x rs) (bytes_eq r.state x) (same_mark r.mark (mark x))
-    (λ t. ap (λ k. same_mark k (mark x)) (m ∙ ap mark (bytes_is r.state x t)) ∙ mark_same (mark x)) e refl h)
+    let f : marked_sum (mark x) (r ∷ rs) ≡ cond (same_state_mark r.mark (mark x)) r.count 0 + marked_sum (mark x) rs = marked_both (mark x) (r ∷ []) rs ∙ ap (λ n. n + marked_sum (mark x) rs) (marked_one (mark x) r) in
+    rw f (cond_within (state_sum x (r ∷ rs)) (marked_sum (mark x) rs) r.count (state_sum x rs) (bytes_eq r.state x) (same_state_mark r.mark (mark x))
+    (λ t. ap (λ k. same_state_mark k (mark x)) (m ∙ ap mark (bytes_is r.state x t)) ∙ mark_same (mark x)) e refl h)
 
 none_within : (mark : List ℕ → Mark) (x : List ℕ) → state_sum x [] ≤ marked_sum (mark x) []
 unfolding state_sum marked_sum
@@ -110,7 +110,7 @@ unfolding summed
 totals facts g = (g.small starred, g.small plain)
 
 -- a whole test can be printed
-printable : (name : List ℕ) (entries : List Entry) → AllOf IsPrintableEntry entries → KeepsLimits entries → Agrees (facts_of name entries) → Complete (facts_of name entries) → list_any (λ (e : Entry). bytes_eq e.test name) entries ≡ true
+printable : (name : List ℕ) (entries : List Entry) → AllOf IsPrintableEntry entries → KeepsSumLimits entries → Agrees (facts_of name entries) → Complete (facts_of name entries) → list_any (λ (e : Entry). bytes_eq e.test name) entries ≡ true
     → Printable name (summed (facts_of name entries))
 printable name entries a l g c h =
     let facts : List Fact = facts_of name entries in
@@ -128,12 +128,12 @@ printable name entries a l g c h =
     }
 
 -- after whole logs each test is whole
-whole_outside : (s : Seen) (name : List ℕ) → s.place ≡ outside → WholeOrRunning s name → Complete (facts_of name s.entries)
+whole_outside : (s : LogSeen) (name : List ℕ) → s.place ≡ outside → WholeOrRunning s name → Complete (facts_of name s.entries)
 whole_outside s name p (whole complete) = complete
 whole_outside s name p (running inside same) = absurd (let k : true ≡ false = sym (ap is_outside p) ∙ inside in cc)
 
-ended_outside : (s : Seen) → IsEnd s → s.place ≡ outside
-ended_outside s e = ap (λ (x : Seen). x.place) e
+ended_outside : (s : LogSeen) → IsEnd s → s.place ≡ outside
+ended_outside s e = ap (λ (x : LogSeen). x.place) e
 
 all_printable : (names : List (List ℕ)) (entries : List Entry) → ((name : List ℕ) → list_any (bytes_eq name) names ≡ true → Printable name (summed (facts_of name entries))) → AllOf (λ name. Printable name (summed (facts_of name entries))) names
 all_printable [] entries h = tt
@@ -147,7 +147,7 @@ reprinted entries = flat_map (λ name. given name (summed (facts_of name entries
 -- the facts of a test between others, with what is printed of them in their place
 record Replaced (prefix mid back : List Entry) (name : List ℕ) : Type 0 where
   agrees : Agrees (facts_of name (prefix ++ (reprinted mid ++ back)))
-  text : test_text name (summed (facts_of name (prefix ++ (reprinted mid ++ back)))) ≡ test_text name (summed (facts_of name (prefix ++ (mid ++ back))))
+  text : summed_text name (summed (facts_of name (prefix ++ (reprinted mid ++ back)))) ≡ summed_text name (summed (facts_of name (prefix ++ (mid ++ back))))
 
 three : (name : List ℕ) (prefix mid back : List Entry) → facts_of name (prefix ++ (mid ++ back)) ≡ facts_of name prefix ++ (facts_of name mid ++ facts_of name back)
 three name prefix mid back = facts_both name prefix (mid ++ back) ∙ ap (λ t. facts_of name prefix ++ t) (facts_both name mid back)
@@ -170,7 +170,7 @@ replaced prefix mid back name g c =
     })
     (λ e. let here : facts_of name (reprinted mid) ≡ m = none_printed_of name sum (tests_of mid) (test_there name mid ∙ e) ∙ sym (no_facts name mid e) in
     let same : facts_of name (prefix ++ (reprinted mid ++ back)) ≡ facts_of name (prefix ++ (mid ++ back)) = new ∙ ap (λ t. f ++ (t ++ b)) here ∙ sym old in
-    record { agrees = subst Agrees (sym same) g; text = ap (λ t. test_text name (summed t)) same })
+    record { agrees = subst Agrees (sym same) g; text = ap (λ t. summed_text name (summed t)) same })
 
 texts_same : (names : List (List ℕ)) (f g : List ℕ → List ℕ) → ((name : List ℕ) → f name ≡ g name) → flat_map f names ≡ flat_map g names
 texts_same [] f g h = refl
@@ -179,8 +179,8 @@ texts_same (n ∷ names) f g h = rw (h n, texts_same names f g h) refl
 sum_same : (prefix mid back : List Entry) → ((name : List ℕ) → Replaced prefix mid back name) → sum_text (prefix ++ (reprinted mid ++ back)) ≡ sum_text (prefix ++ (mid ++ back))
 unfolding sum_text
 sum_same prefix mid back r =
-    ap (flat_map (λ name. test_text name (summed (facts_of name (prefix ++ (reprinted mid ++ back)))))) (tests_between prefix mid back (λ name. summed (facts_of name mid)))
-    ∙ texts_same (tests_of (prefix ++ (mid ++ back))) (λ name. test_text name (summed (facts_of name (prefix ++ (reprinted mid ++ back))))) (λ name. test_text name (summed (facts_of name (prefix ++ (mid ++ back))))) (λ name. (r name).text)
+    ap (flat_map (λ name. summed_text name (summed (facts_of name (prefix ++ (reprinted mid ++ back)))))) (tests_between prefix mid back (λ name. summed (facts_of name mid)))
+    ∙ texts_same (tests_of (prefix ++ (mid ++ back))) (λ name. summed_text name (summed (facts_of name (prefix ++ (reprinted mid ++ back))))) (λ name. summed_text name (summed (facts_of name (prefix ++ (mid ++ back))))) (λ name. (r name).text)
 
 -- logs in three parts
 record Parts (before logs after : List (List ℕ)) : Type 0 where
@@ -192,7 +192,7 @@ record Parts (before logs after : List (List ℕ)) : Type 0 where
   three : (entries : List Entry) → Clean entries back → files_judged (seen_at entries [] outside 1) after ≡ Ok (seen_at (entries ++ back) [] outside 1)
   clean : Clean [] (prefix ++ (mid ++ back))
 
-parts_end : (before logs after : List (List ℕ)) (s1 s2 s3 : Seen) → files_judged nothing_seen before ≡ Ok s1 → files_judged s1 logs ≡ Ok s2 → files_judged s2 after ≡ Ok s3 → Parts before logs after
+parts_end : (before logs after : List (List ℕ)) (s1 s2 s3 : LogSeen) → files_judged nothing_seen before ≡ Ok s1 → files_judged s1 logs ≡ Ok s2 → files_judged s2 after ≡ Ok s3 → Parts before logs after
 parts_end before logs after s1 s2 s3 e f g =
     let i1 : IsEnd s1 = files_end before nothing_seen s1 refl e in
     let i2 : IsEnd s2 = files_end logs s1 s2 i1 f in
@@ -209,19 +209,19 @@ parts_end before logs after s1 s2 s3 e f g =
       mid = b.given;
       back = c.given;
       one = e ∙ ap Ok (i1 ∙ ap (λ x. seen_at x [] outside 1) a.entries);
-      two = λ entries k. ap (λ (x : Seen). files_judged (record x { entries = entries }) logs) (sym i1) ∙ b.again entries k ∙ ap (λ (x : Seen). Ok (record x { entries = entries ++ b.given })) i2;
-      three = λ entries k. ap (λ (x : Seen). files_judged (record x { entries = entries }) after) (sym i2) ∙ c.again entries k ∙ ap (λ (x : Seen). Ok (record x { entries = entries ++ c.given })) i3;
+      two = λ entries k. ap (λ (x : LogSeen). files_judged (record x { entries = entries }) logs) (sym i1) ∙ b.again entries k ∙ ap (λ (x : LogSeen). Ok (record x { entries = entries ++ b.given })) i2;
+      three = λ entries k. ap (λ (x : LogSeen). files_judged (record x { entries = entries }) after) (sym i2) ∙ c.again entries k ∙ ap (λ (x : LogSeen). Ok (record x { entries = entries ++ c.given })) i3;
       clean = clean_both [] a.given (b.given ++ c.given) clean_a (clean_both a.given b.given c.given clean_b clean_c);
     }
 
-parts_from : (before logs after : List (List ℕ)) (s : Seen) → files_judged nothing_seen (before ++ (logs ++ after)) ≡ Ok s → Parts before logs after
+parts_from : (before logs after : List (List ℕ)) (s : LogSeen) → files_judged nothing_seen (before ++ (logs ++ after)) ≡ Ok s → Parts before logs after
 parts_from before logs after s e = by_first (files_judged nothing_seen before) refl (sym (files_both nothing_seen before (logs ++ after)) ∙ e)
   where
-    by_second : (s1 : Seen) → files_judged nothing_seen before ≡ Ok s1 → (r : Result Seen LogError) → files_judged s1 logs ≡ r → (r >>= (λ next. files_judged next after)) ≡ Ok s → Parts before logs after
+    by_second : (s1 : LogSeen) → files_judged nothing_seen before ≡ Ok s1 → (r : Result LogSeen LogError) → files_judged s1 logs ≡ r → (r >>= (λ next. files_judged next after)) ≡ Ok s → Parts before logs after
     by_second s1 f (Err error) g h = absurd (cc)
     by_second s1 f (Ok s2) g h = parts_end before logs after s1 s2 s f g h
 
-    by_first : (r : Result Seen LogError) → files_judged nothing_seen before ≡ r → (r >>= (λ next. files_judged next (logs ++ after))) ≡ Ok s → Parts before logs after
+    by_first : (r : Result LogSeen LogError) → files_judged nothing_seen before ≡ r → (r >>= (λ next. files_judged next (logs ++ after))) ≡ Ok s → Parts before logs after
     by_first (Err error) f g = absurd (cc)
     by_first (Ok s1) f g = by_second s1 f (files_judged s1 logs) refl (sym (files_both s1 logs after) ∙ g)
 
@@ -242,7 +242,7 @@ back_clean prefix mid back c =
 
 -- a faultless reading
 record SeenOf (logs : List (List ℕ)) (sum : List ℕ) : Type 0 where
-  seen : Seen
+  seen : LogSeen
   judged : files_judged nothing_seen logs ≡ Ok seen
   text : sum_text seen.entries ≡ sum
 
@@ -250,21 +250,21 @@ seen_of : (files : List (List ℕ)) (text : List ℕ) → logs_text files ≡ Ok
 unfolding logs_text
 seen_of files text e = by_read (files_judged nothing_seen files) refl e
   where
-    by_read : (r : Result Seen LogError) → files_judged nothing_seen files ≡ r → (r >>= (λ seen. Ok (sum_text seen.entries))) ≡ Ok text → SeenOf files text
+    by_read : (r : Result LogSeen LogError) → files_judged nothing_seen files ≡ r → (r >>= (λ seen. Ok (sum_text seen.entries))) ≡ Ok text → SeenOf files text
     by_read (Err error) f g = absurd (cc)
     by_read (Ok seen) f g = record { seen = seen; judged = f; text = cc }
 
-text_of : (files : List (List ℕ)) (seen : Seen) → files_judged nothing_seen files ≡ Ok seen → logs_text files ≡ Ok (sum_text seen.entries)
+text_of : (files : List (List ℕ)) (seen : LogSeen) → files_judged nothing_seen files ≡ Ok seen → logs_text files ≡ Ok (sum_text seen.entries)
 unfolding logs_text
 text_of files seen e = rw e refl
 
 -- a printed sum in the place of its logs
-whole_tests : (logs : List (List ℕ)) (seen : Seen) → files_judged nothing_seen logs ≡ Ok seen → (name : List ℕ) → list_any (λ (e : Entry). bytes_eq e.test name) seen.entries ≡ true → Complete (facts_of name seen.entries)
+whole_tests : (logs : List (List ℕ)) (seen : LogSeen) → files_judged nothing_seen logs ≡ Ok seen → (name : List ℕ) → list_any (λ (e : Entry). bytes_eq e.test name) seen.entries ≡ true → Complete (facts_of name seen.entries)
 whole_tests logs seen e name h =
     let k : Keeps seen = files_keep logs nothing_seen seen keeps_nothing e in
     whole_outside seen name (ended_outside seen (files_end logs nothing_seen seen refl e)) (k.tests name h)
 
-sum_goes : (before entries : List Entry) → AllOf (λ name. Printable name (summed (facts_of name entries))) (tests_of entries) → KeepsLimits entries → Clean before (reprinted entries)
+sum_goes : (before entries : List Entry) → AllOf (λ name. Printable name (summed (facts_of name entries))) (tests_of entries) → KeepsSumLimits entries → Clean before (reprinted entries)
     → file_judged (seen_at before [] outside 1) (sum_text entries) ≡ Ok (seen_at (before ++ reprinted entries) [] outside 1)
 unfolding sum_text
 sum_goes before entries p l c = file_goes before (λ name. summed (facts_of name entries)) (tests_of entries) p l.lines c
@@ -274,10 +274,10 @@ replace before logs after text n i =
     let all = seen_of (before ++ (logs ++ after)) n.text n.is in
     let p = parts_from before logs after all.seen all.judged in
     let alone : files_judged nothing_seen logs ≡ Ok (seen_at p.mid [] outside 1) = p.two [] (mid_clean p.prefix p.mid p.back p.clean) in
-    let same : ◌≡◌ {A = Result Seen LogError} (Ok i.seen) (Ok (seen_at p.mid [] outside 1)) = sym i.judged ∙ alone in
+    let same : ◌≡◌ {A = Result LogSeen LogError} (Ok i.seen) (Ok (seen_at p.mid [] outside 1)) = sym i.judged ∙ alone in
     let seen : i.seen ≡ seen_at p.mid [] outside 1 = cc in
-    let entries : i.seen.entries ≡ p.mid = ap (λ (x : Seen). x.entries) seen in
-    let limits : KeepsLimits p.mid = subst KeepsLimits entries i.limits in
+    let entries : i.seen.entries ≡ p.mid = ap (λ (x : LogSeen). x.entries) seen in
+    let limits : KeepsSumLimits p.mid = subst KeepsSumLimits entries i.limits in
     let complete = whole_tests logs (seen_at p.mid [] outside 1) alone in
     let printed_mid : AllOf IsPrintableEntry p.mid = (files_keep logs nothing_seen (seen_at p.mid [] outside 1) keeps_nothing alone).given in
     let agree = all_agree p.mid (mid_clean p.prefix p.mid p.back p.clean) in

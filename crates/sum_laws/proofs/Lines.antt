@@ -14,13 +14,13 @@ use Rattle.list_laws.proofs.Elements.{list_all-weaker}
 use Rattle.list_laws.proofs.Cases.{by_test}
 use Rattle.text_laws.specs.Blanks.{is_blank, is_inked, before_blanks, kept_before, unblanked, trim_blanks}
 use Rattle.text_laws.specs.Words.{is_nil, words}
-use Rattle.text_laws.specs.Runs.{run_of, after_run}
+use Rattle.text_laws.specs.LeadingRuns.{leading_run, after_run}
 use Rattle.log_sum.specs.Texts.{later_words, joined_words, ends_with, begins_with}
 use Rattle.log_sum.specs.Counts.{count_read, count_of_digits, last_count}
-use Rattle.log_sum.specs.States.{form_read}
+use Rattle.log_sum.specs.LogStates.{form_read}
 use Rattle.log_sum.specs.Facts.{row_with}
-use Rattle.log_sum.specs.Lines.{passed_over, begins, counts, a_state, judged, conditioned, hashed, ends, test_line, histogram_line, row_line, row_marked, mark_read, condition_line, verdict_cut, hash_line, quantifier, line_said, place_after, states_left}
-use Rattle.log_sum.specs.SumText.{kind_word, mark_sign, filling, verdict_word, verdict_end}
+use Rattle.log_sum.specs.LogLines.{passed_over, begins, counts, a_state, judged, conditioned, hashed, ends, test_line, histogram_line, log_row, row_marked, mark_read, condition_line, verdict_cut, hash_line, quantifier, log_line_said, place_after, states_left}
+use Rattle.log_sum.specs.SumText.{sum_kind_word, mark_sign, filling, verdict_word, verdict_end}
 use Rattle.sum_laws.proofs.Cases.{Kind, Mark, Verdict, validated, not_validated, starred, plain, outside, histogram, judgement, in_rest, conditioned_at, kind_cases, mark_cases}
 use Rattle.sum_laws.proofs.Texts.{is_plain, is_word, word_is, words_both, one_word, end_stays, ink_stays, ends_so, before_so, joined_both}
 use Rattle.text_laws.proofs.PieceLaws.{first_piece}
@@ -50,12 +50,12 @@ decimal_some n h = some_bytes (decimal n) (decimal_nonempty n (below n h))
 
 -- a text begins with no byte that passes
 pub record Stops (p : ℕ → Bool) (text : List ℕ) : Type 0 where
-  pub run : run_of p text ≡ []
+  pub run : leading_run p text ≡ []
   pub after : after_run p text ≡ text
 
 -- a run ends where the text begins with no byte that passes
-pub run_prefix : (p : ℕ → Bool) (prefix text : List ℕ) → list_all p prefix ≡ true → Stops p text → run_of p (prefix ++ text) ≡ prefix
-unfolding run_of
+pub run_prefix : (p : ℕ → Bool) (prefix text : List ℕ) → list_all p prefix ≡ true → Stops p text → leading_run p (prefix ++ text) ≡ prefix
+unfolding leading_run
 run_prefix p [] text h s = s.run
 run_prefix p (b ∷ prefix) text h s =
     let k : (p b ≡ true) × (list_all p prefix ≡ true) = and_parts (p b) (list_all p prefix) h in
@@ -71,12 +71,12 @@ after_prefix p (b ∷ prefix) text h s =
 
 -- an empty text begins with no byte that passes
 pub stops_nil : (p : ℕ → Bool) → Stops p []
-unfolding run_of after_run
+unfolding leading_run after_run
 stops_nil p = record { run = refl; after = refl }
 
 -- a text whose first byte doesn't pass
 pub stops_at : (p : ℕ → Bool) (b : ℕ) (text : List ℕ) → p b ≡ false → Stops p (b ∷ text)
-unfolding run_of after_run
+unfolding leading_run after_run
 stops_at p b text h = record { run = rw h refl; after = rw h refl }
 
 counted_digits : (digits rest : List ℕ) (n : ℕ) → is_nil digits ≡ false → digits_value 10 digits ≡ n → nat_le n last_count ≡ true → count_of_digits digits rest ≡ Ok (n, rest)
@@ -99,7 +99,7 @@ count_alone n h = ap count_read (sym (append-nil (decimal n))) ∙ count_is n []
 
 -- the line that begins a block
 abbrev pub head_line : List ℕ → Kind → List ℕ
-head_line name kind = codes "Test " ++ (name ++ 32 ∷ kind_word kind)
+head_line name kind = codes "Test " ++ (name ++ 32 ∷ sum_kind_word kind)
 
 -- the line of the number of states
 abbrev pub number_line : ℕ → List ℕ
@@ -130,23 +130,23 @@ plain_words : words (codes "Test") ≡ codes "Test" ∷ []
 unfolding words
 plain_words = refl
 
-kind_words : (kind : Kind) → words (kind_word kind) ≡ kind_word kind ∷ []
+kind_words : (kind : Kind) → words (sum_kind_word kind) ≡ sum_kind_word kind ∷ []
 unfolding words
-kind_words kind = kind_cases (λ k. words (kind_word k) ≡ kind_word k ∷ []) refl refl refl kind
+kind_words kind = kind_cases (λ k. words (sum_kind_word k) ≡ sum_kind_word k ∷ []) refl refl refl kind
 
-head_words : (name : List ℕ) (kind : Kind) → is_word name ≡ true → words (head_line name kind) ≡ codes "Test" ∷ name ∷ kind_word kind ∷ []
+head_words : (name : List ℕ) (kind : Kind) → is_word name ≡ true → words (head_line name kind) ≡ codes "Test" ∷ name ∷ sum_kind_word kind ∷ []
 head_words name kind h =
-    words_both (codes "Test") (name ++ 32 ∷ kind_word kind)
-    ∙ ap (λ t. t ++ words (name ++ 32 ∷ kind_word kind)) plain_words
-    ∙ ap (λ t. codes "Test" ∷ t) (words_both name (kind_word kind) ∙ ap (λ t. t ++ words (kind_word kind)) (word_is name h) ∙ ap (λ t. name ∷ t) (kind_words kind))
+    words_both (codes "Test") (name ++ 32 ∷ sum_kind_word kind)
+    ∙ ap (λ t. t ++ words (name ++ 32 ∷ sum_kind_word kind)) plain_words
+    ∙ ap (λ t. codes "Test" ∷ t) (words_both name (sum_kind_word kind) ∙ ap (λ t. t ++ words (sum_kind_word kind)) (word_is name h) ∙ ap (λ t. name ∷ t) (kind_words kind))
 
-head_read : (name : List ℕ) (kind : Kind) → test_line (codes "Test" ∷ name ∷ kind_word kind ∷ []) ≡ Some (name, kind)
+head_read : (name : List ℕ) (kind : Kind) → test_line (codes "Test" ∷ name ∷ sum_kind_word kind ∷ []) ≡ Some (name, kind)
 unfolding test_line
-head_read name kind = kind_cases (λ k. test_line (codes "Test" ∷ name ∷ kind_word k ∷ []) ≡ Some (name, k)) refl refl refl kind
+head_read name kind = kind_cases (λ k. test_line (codes "Test" ∷ name ∷ sum_kind_word k ∷ []) ≡ Some (name, k)) refl refl refl kind
 
 -- the line that begins a block is read back
-pub head_said : (name : List ℕ) (kind : Kind) → is_word name ≡ true → line_said outside (head_line name kind) ≡ Ok (begins name kind)
-unfolding line_said place_after
+pub head_said : (name : List ℕ) (kind : Kind) → is_word name ≡ true → log_line_said outside (head_line name kind) ≡ Ok (begins name kind)
+unfolding log_line_said place_after
 head_said name kind h = rw (head_words name kind h, head_read name kind) refl
 
 -- the number of states
@@ -175,8 +175,8 @@ unfolding histogram_line
 number_read n h = rw (count_alone n h) refl
 
 -- the line of the number of states is read back
-pub number_said : (kind : Kind) (n : ℕ) → n ≤ last_count → line_said (histogram kind) (number_line n) ≡ Ok (counts n)
-unfolding line_said place_after
+pub number_said : (kind : Kind) (n : ℕ) → n ≤ last_count → log_line_said (histogram kind) (number_line n) ≡ Ok (counts n)
+unfolding log_line_said place_after
 number_said kind n h = rw (number_words n h, number_read n h) refl
 
 -- a state
@@ -219,22 +219,22 @@ counted_trimmed n mark form h e =
     ∙ line_end_stays (decimal n ++ filling (decimal n)) mark form e
     ∙ append_assoc (decimal n) (filling (decimal n)) (mark_sign mark ++ form)
 
-row_is : (n : ℕ) (mark : Mark) (form : List ℕ) → n ≤ last_count → before_blanks form ≡ form → form_read form ≡ Ok form → row_line (counted_line n mark form) ≡ Ok (row_with form mark n)
-unfolding row_line
+row_is : (n : ℕ) (mark : Mark) (form : List ℕ) → n ≤ last_count → before_blanks form ≡ form → form_read form ≡ Ok form → log_row (counted_line n mark form) ≡ Ok (row_with form mark n)
+unfolding log_row
 row_is n mark form h e f =
     rw (counted_trimmed n mark form h e, count_is n (filling (decimal n) ++ (mark_sign mark ++ form)) h (filled_stops (6 - length (decimal n)) mark form), blanks_off (6 - length (decimal n)) (mark_sign mark ++ form), sign_first mark form)
     (mark_cases (λ m. row_marked n (mark_read (mark_sign m ++ form)) ≡ Ok (row_with form m n)) (rw f refl) (rw f refl) mark)
 
 -- the line of a state is read back
 pub state_said : (kind : Kind) (left n : ℕ) (mark : Mark) (form : List ℕ) → n ≤ last_count → before_blanks form ≡ form → form_read form ≡ Ok form
-    → line_said (states_left kind (suc left)) (counted_line n mark form) ≡ Ok (a_state (row_with form mark n))
-unfolding line_said
+    → log_line_said (states_left kind (suc left)) (counted_line n mark form) ≡ Ok (a_state (row_with form mark n))
+unfolding log_line_said
 state_said kind left n mark form h e f = rw (row_is n mark form h e f) refl
 
 -- the lines after the states
 -- the line of the verdict is read back
-pub verdict_said : (kind : Kind) (b : Bool) → line_said (judgement kind) (verdict_word b) ≡ Ok judged
-unfolding line_said place_after words
+pub verdict_said : (kind : Kind) (b : Bool) → log_line_said (judgement kind) (verdict_word b) ≡ Ok judged
+unfolding log_line_said place_after words
 verdict_said kind true = refl
 verdict_said kind false = refl
 
@@ -258,23 +258,23 @@ unfolding condition_line
 no_condition first rest h = rw h refl
 
 passed_said : (kind : Kind) (b : ℕ) (text first : List ℕ) (rest : List (List ℕ)) → words (b ∷ text) ≡ first ∷ rest → bytes_eq first (codes "Test") ≡ false → bytes_eq first (codes "Condition") ≡ false → bytes_eq first (codes "Observation") ≡ false
-    → is_blank b ≡ false → (72 == b) ≡ false → line_said (in_rest kind) (b ∷ text) ≡ Ok passed_over
-unfolding line_said place_after
+    → is_blank b ≡ false → (72 == b) ≡ false → log_line_said (in_rest kind) (b ∷ text) ≡ Ok passed_over
+unfolding log_line_said place_after
 passed_said kind b text first rest e f g h i j = rw (e, h, not_head first rest f, no_condition first rest g, not_hash b text i j) refl
 
 -- an empty line inside a block is passed over
-pub empty_said : (kind : Kind) → line_said (in_rest kind) [] ≡ Ok passed_over
-unfolding line_said place_after words test_line condition_line hash_line after_run before_blanks
+pub empty_said : (kind : Kind) → log_line_said (in_rest kind) [] ≡ Ok passed_over
+unfolding log_line_said place_after words test_line condition_line hash_line after_run before_blanks
 empty_said kind = refl
 
 -- an empty line outside the blocks is passed over
-pub outside_said : line_said outside [] ≡ Ok passed_over
-unfolding line_said place_after words test_line
+pub outside_said : log_line_said outside [] ≡ Ok passed_over
+unfolding log_line_said place_after words test_line
 outside_said = refl
 
 -- the line `Witnesses` is passed over
-pub witnesses_said : (kind : Kind) → line_said (in_rest kind) (codes "Witnesses") ≡ Ok passed_over
-unfolding line_said place_after words test_line condition_line hash_line after_run before_blanks
+pub witnesses_said : (kind : Kind) → log_line_said (in_rest kind) (codes "Witnesses") ≡ Ok passed_over
+unfolding log_line_said place_after words test_line condition_line hash_line after_run before_blanks
 witnesses_said kind = refl
 
 positive_words : words (codes "Positive:") ≡ codes "Positive:" ∷ []
@@ -282,7 +282,7 @@ unfolding words
 positive_words = refl
 
 -- the line of the sums of the counts of both marks is passed over
-pub totals_said : (kind : Kind) (starred plain : ℕ) → line_said (in_rest kind) (totals_line starred plain) ≡ Ok passed_over
+pub totals_said : (kind : Kind) (starred plain : ℕ) → log_line_said (in_rest kind) (totals_line starred plain) ≡ Ok passed_over
 totals_said kind starred plain =
     let rest : List ℕ = decimal starred ++ (codes ", Negative: " ++ decimal plain) in
     passed_said kind 80 (codes "ositive: " ++ rest) (codes "Positive:") (words rest)
@@ -344,8 +344,8 @@ claim_read text b e some = ap verdict_cut (joined_so (words text) (end_words b) 
 
 -- the line of the condition is read back
 pub claim_said : (kind : Kind) (text : List ℕ) (b : Bool) → joined_words (words text) ≡ text → is_nil text ≡ false → begins_with text (quantifier kind) ≡ true
-    → line_said (in_rest kind) (claim_line text b) ≡ Ok (conditioned text (said_as b))
-unfolding line_said place_after
+    → log_line_said (in_rest kind) (claim_line text b) ≡ Ok (conditioned text (said_as b))
+unfolding log_line_said place_after
 claim_said kind text b e some q =
     rw (claim_words text b, not_head (codes "Condition") (words text ++ end_words b) refl, claim_read text b e some) (rw q refl)
 
@@ -356,8 +356,8 @@ unfolding words
 first_word b text h = let f = first_piece is_blank text in rw (h, f.is) refl
 
 -- the line of a hash is read back
-pub hash_said : (kind : Kind) (hash : List ℕ) → before_blanks (line_of_hash hash) ≡ line_of_hash hash → line_said (conditioned_at kind) (line_of_hash hash) ≡ Ok (hashed hash)
-unfolding line_said place_after hash_line after_run
+pub hash_said : (kind : Kind) (hash : List ℕ) → before_blanks (line_of_hash hash) ≡ line_of_hash hash → log_line_said (conditioned_at kind) (line_of_hash hash) ≡ Ok (hashed hash)
+unfolding log_line_said place_after hash_line after_run
 hash_said kind hash e =
     let f = first_piece is_blank (codes "ash=" ++ hash) in
     rw (first_word 72 (codes "ash=" ++ hash) refl, not_head (72 ∷ f.piece) (filter (λ word. not (is_nil word)) f.rest) refl, no_condition (72 ∷ f.piece) (filter (λ word. not (is_nil word)) f.rest) refl, e) refl
@@ -368,7 +368,7 @@ unfolding words
 observation_words = refl
 
 -- the line of the observation ends its block
-pub end_said : (kind : Kind) (name rest : List ℕ) → line_said (conditioned_at kind) (end_line name rest) ≡ Ok ends
-unfolding line_said place_after
+pub end_said : (kind : Kind) (name rest : List ℕ) → log_line_said (conditioned_at kind) (end_line name rest) ≡ Ok ends
+unfolding log_line_said place_after
 end_said kind name rest =
     rw (words_both (codes "Observation") (name ++ 32 ∷ rest), observation_words) refl

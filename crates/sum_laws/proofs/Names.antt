@@ -8,8 +8,8 @@ use Rattle.std.proofs.lemmas.List.Sums.{fold-append}
 use Rattle.std.proofs.lemmas.List.Folds.{list_any-append}
 use Rattle.std.proofs.Math.Bool.{or-false, or_assoc}
 use Rattle.list_laws.proofs.Cases.{by_test}
-use Rattle.log_sum.specs.Facts.{Entry, a_condition, facts_of, with_name, tests_of}
-use Rattle.log_sum.specs.Summed.{Summed, StateSummed, or_else, is_validated}
+use Rattle.log_sum.specs.Facts.{Entry, a_condition, facts_of, with_test_name, tests_of}
+use Rattle.log_sum.specs.Summed.{Summed, StateSummed, some_or, is_validated}
 use Rattle.sum_laws.proofs.Texts.{bytes_same}
 use Rattle.text_laws.proofs.OrderLaws.{eq_swap}
 use Rattle.sum_laws.proofs.Lines.{said_as}
@@ -24,17 +24,17 @@ or_known true b h = refl
 or_known false true h = h refl
 or_known false false h = refl
 
-any_with : (k : List ℕ) (names : List (List ℕ)) (x : List ℕ) → list_any (bytes_eq k) (with_name names x) ≡ list_any (bytes_eq k) names || bytes_eq k x
+any_with : (k : List ℕ) (names : List (List ℕ)) (x : List ℕ) → list_any (bytes_eq k) (with_test_name names x) ≡ list_any (bytes_eq k) names || bytes_eq k x
 any_with k names x =
     by_test (list_any (bytes_eq x) names)
     (λ e. rw e (or_known (list_any (bytes_eq k) names) (bytes_eq k x) (λ h. ap (λ y. list_any (bytes_eq y) names) (bytes_is k x h) ∙ e)))
     (λ e. rw e (list_any-append (bytes_eq k) names (x ∷ []) ∙ ap (λ b. list_any (bytes_eq k) names || b) (or-false (bytes_eq k x))))
 
 -- a name is among those with others added where it is among either
-pub any_names : (k : List ℕ) (names xs : List (List ℕ)) → list_any (bytes_eq k) (fold with_name names xs) ≡ list_any (bytes_eq k) names || list_any (bytes_eq k) xs
+pub any_names : (k : List ℕ) (names xs : List (List ℕ)) → list_any (bytes_eq k) (fold with_test_name names xs) ≡ list_any (bytes_eq k) names || list_any (bytes_eq k) xs
 any_names k names [] = sym (or-false (list_any (bytes_eq k) names))
 any_names k names (x ∷ xs) =
-    any_names k (with_name names x) xs ∙ ap (λ b. b || list_any (bytes_eq k) xs) (any_with k names x)
+    any_names k (with_test_name names x) xs ∙ ap (λ b. b || list_any (bytes_eq k) xs) (any_with k names x)
     ∙ or_assoc (list_any (bytes_eq k) names) (bytes_eq k x) (list_any (bytes_eq k) xs)
 
 distinct_end : (names : List (List ℕ)) (x : List ℕ) → list_any (bytes_eq x) names ≡ false → Distinct names → Distinct (names ++ x ∷ [])
@@ -44,48 +44,48 @@ distinct_end (n ∷ names) x h d =
     (λ e. let k = rw e at h in absurd (cc))
     (λ e. (list_any-append (bytes_eq n) names (x ∷ []) ∙ ap (λ b. b || (bytes_eq n x || false)) d.0 ∙ ap (λ b. b || false) (eq_swap n x ∙ e), distinct_end names x (rw e at h) d.1))
 
-distinct_with : (names : List (List ℕ)) (x : List ℕ) → Distinct names → Distinct (with_name names x)
+distinct_with : (names : List (List ℕ)) (x : List ℕ) → Distinct names → Distinct (with_test_name names x)
 distinct_with names x d = by_test (list_any (bytes_eq x) names) (λ e. rw e d) (λ e. rw e (distinct_end names x e d))
 
-distinct_fold : (names xs : List (List ℕ)) → Distinct names → Distinct (fold with_name names xs)
+distinct_fold : (names xs : List (List ℕ)) → Distinct names → Distinct (fold with_test_name names xs)
 distinct_fold names [] d = d
-distinct_fold names (x ∷ xs) d = distinct_fold (with_name names x) xs (distinct_with names x d)
+distinct_fold names (x ∷ xs) d = distinct_fold (with_test_name names x) xs (distinct_with names x d)
 
 -- the tests of entries are all different
 pub tests_distinct : (entries : List Entry) → Distinct (tests_of entries)
 tests_distinct entries = distinct_fold [] (map (λ (e : Entry). e.test) entries) tt
 
 -- a name that is there changes nothing
-with_known : (names : List (List ℕ)) (x : List ℕ) → list_any (bytes_eq x) names ≡ true → with_name names x ≡ names
+with_known : (names : List (List ℕ)) (x : List ℕ) → list_any (bytes_eq x) names ≡ true → with_test_name names x ≡ names
 with_known names x h = rw h refl
 
-with_new : (names : List (List ℕ)) (x : List ℕ) → list_any (bytes_eq x) names ≡ false → with_name names x ≡ names ++ x ∷ []
+with_new : (names : List (List ℕ)) (x : List ℕ) → list_any (bytes_eq x) names ≡ false → with_test_name names x ≡ names ++ x ∷ []
 with_new names x h = rw h refl
 
 or_second : (a b : Bool) → b ≡ true → a || b ≡ true
 or_second true b h = refl
 or_second false b h = h
 
-there : (names : List (List ℕ)) (x : List ℕ) → list_any (bytes_eq x) (with_name names x) ≡ true
+there : (names : List (List ℕ)) (x : List ℕ) → list_any (bytes_eq x) (with_test_name names x) ≡ true
 there names x = any_with x names x ∙ or_second (list_any (bytes_eq x) names) (bytes_eq x x) (bytes_same x)
 
 -- names that are collected first are added to others as they came
-fold_names : (names more xs : List (List ℕ)) → fold with_name names (fold with_name more xs) ≡ fold with_name (fold with_name names more) xs
+fold_names : (names more xs : List (List ℕ)) → fold with_test_name names (fold with_test_name more xs) ≡ fold with_test_name (fold with_test_name names more) xs
 fold_names names more [] = refl
 fold_names names more (x ∷ xs) =
-    fold_names names (with_name more x) xs
-    ∙ ap (λ t. fold with_name t xs)
+    fold_names names (with_test_name more x) xs
+    ∙ ap (λ t. fold with_test_name t xs)
     (by_test (list_any (bytes_eq x) more)
-    (λ e. ap (fold with_name names) (with_known more x e)
-    ∙ sym (with_known (fold with_name names more) x (any_names x names more ∙ or_second (list_any (bytes_eq x) names) (list_any (bytes_eq x) more) e)))
-    (λ e. ap (fold with_name names) (with_new more x e) ∙ fold-append with_name names more (x ∷ [])))
+    (λ e. ap (fold with_test_name names) (with_known more x e)
+    ∙ sym (with_known (fold with_test_name names more) x (any_names x names more ∙ or_second (list_any (bytes_eq x) names) (list_any (bytes_eq x) more) e)))
+    (λ e. ap (fold with_test_name names) (with_new more x e) ∙ fold-append with_test_name names more (x ∷ [])))
 
 -- entries of one test
-same_tests : (names : List (List ℕ)) (name : List ℕ) (entries : List Entry) → AllOf (λ (e : Entry). e.test ≡ name) entries → fold with_name (with_name names name) (map (λ (e : Entry). e.test) entries) ≡ with_name names name
+same_tests : (names : List (List ℕ)) (name : List ℕ) (entries : List Entry) → AllOf (λ (e : Entry). e.test ≡ name) entries → fold with_test_name (with_test_name names name) (map (λ (e : Entry). e.test) entries) ≡ with_test_name names name
 same_tests names name [] a = refl
 same_tests names name (e ∷ entries) a =
-    ap (λ x. fold with_name (with_name (with_name names name) x) (map (λ (e : Entry). e.test) entries)) a.0
-    ∙ ap (λ t. fold with_name t (map (λ (e : Entry). e.test) entries)) (with_known (with_name names name) name (there names name))
+    ap (λ x. fold with_test_name (with_test_name (with_test_name names name) x) (map (λ (e : Entry). e.test) entries)) a.0
+    ∙ ap (λ t. fold with_test_name t (map (λ (e : Entry). e.test) entries)) (with_known (with_test_name names name) name (there names name))
     ∙ same_tests names name entries a.1
 
 states_named : (name : List ℕ) (states : List StateSummed) → AllOf (λ (e : Entry). e.test ≡ name) (state_entries name states)
@@ -99,32 +99,32 @@ hash_named name sum = by_hash sum.hash
     by_hash None = tt
     by_hash (Some h) = (refl, tt)
 
-tests_of_printed : (names : List (List ℕ)) (name : List ℕ) (sum : Summed) → fold with_name names (map (λ (e : Entry). e.test) (given name sum)) ≡ with_name names name
+tests_of_printed : (names : List (List ℕ)) (name : List ℕ) (sum : Summed) → fold with_test_name names (map (λ (e : Entry). e.test) (given name sum)) ≡ with_test_name names name
 tests_of_printed names name sum =
-    same_tests names name (state_entries name sum.states ++ entry name (a_condition (or_else [] sum.condition) (said_as (is_validated sum))) ∷ hash_entries name sum.hash)
-    (all_of_both (λ (e : Entry). e.test ≡ name) (state_entries name sum.states) (entry name (a_condition (or_else [] sum.condition) (said_as (is_validated sum))) ∷ hash_entries name sum.hash) (states_named name sum.states) (refl, hash_named name sum))
+    same_tests names name (state_entries name sum.states ++ entry name (a_condition (some_or [] sum.condition) (said_as (is_validated sum))) ∷ hash_entries name sum.hash)
+    (all_of_both (λ (e : Entry). e.test ≡ name) (state_entries name sum.states) (entry name (a_condition (some_or [] sum.condition) (said_as (is_validated sum))) ∷ hash_entries name sum.hash) (states_named name sum.states) (refl, hash_named name sum))
 
 -- the tests of printed tests are added as the names of the tests
-pub all_tests_of_printed : (names : List (List ℕ)) (sum : List ℕ → Summed) (tests : List (List ℕ)) → fold with_name names (map (λ (e : Entry). e.test) (flat_map (λ name. given name (sum name)) tests)) ≡ fold with_name names tests
+pub all_tests_of_printed : (names : List (List ℕ)) (sum : List ℕ → Summed) (tests : List (List ℕ)) → fold with_test_name names (map (λ (e : Entry). e.test) (flat_map (λ name. given name (sum name)) tests)) ≡ fold with_test_name names tests
 all_tests_of_printed names sum [] = refl
 all_tests_of_printed names sum (t ∷ tests) =
-    ap (fold with_name names) (map-append (λ (e : Entry). e.test) (given t (sum t)) (flat_map (λ name. given name (sum name)) tests))
-    ∙ fold-append with_name names (map (λ (e : Entry). e.test) (given t (sum t))) (map (λ (e : Entry). e.test) (flat_map (λ name. given name (sum name)) tests))
-    ∙ ap (λ x. fold with_name x (map (λ (e : Entry). e.test) (flat_map (λ name. given name (sum name)) tests))) (tests_of_printed names t (sum t))
-    ∙ all_tests_of_printed (with_name names t) sum tests
+    ap (fold with_test_name names) (map-append (λ (e : Entry). e.test) (given t (sum t)) (flat_map (λ name. given name (sum name)) tests))
+    ∙ fold-append with_test_name names (map (λ (e : Entry). e.test) (given t (sum t))) (map (λ (e : Entry). e.test) (flat_map (λ name. given name (sum name)) tests))
+    ∙ ap (λ x. fold with_test_name x (map (λ (e : Entry). e.test) (flat_map (λ name. given name (sum name)) tests))) (tests_of_printed names t (sum t))
+    ∙ all_tests_of_printed (with_test_name names t) sum tests
 
 -- the tests of entries, of what is printed of them, and of others around them
-tests_folded : (prefix mid back : List Entry) → tests_of (prefix ++ (mid ++ back)) ≡ fold with_name (fold with_name (tests_of prefix) (map (λ (e : Entry). e.test) mid)) (map (λ (e : Entry). e.test) back)
+tests_folded : (prefix mid back : List Entry) → tests_of (prefix ++ (mid ++ back)) ≡ fold with_test_name (fold with_test_name (tests_of prefix) (map (λ (e : Entry). e.test) mid)) (map (λ (e : Entry). e.test) back)
 tests_folded prefix mid back =
-    ap (fold with_name []) (map-append (λ (e : Entry). e.test) prefix (mid ++ back) ∙ ap (λ t. map (λ (e : Entry). e.test) prefix ++ t) (map-append (λ (e : Entry). e.test) mid back))
-    ∙ fold-append with_name [] (map (λ (e : Entry). e.test) prefix) (map (λ (e : Entry). e.test) mid ++ map (λ (e : Entry). e.test) back)
-    ∙ fold-append with_name (fold with_name [] (map (λ (e : Entry). e.test) prefix)) (map (λ (e : Entry). e.test) mid) (map (λ (e : Entry). e.test) back)
+    ap (fold with_test_name []) (map-append (λ (e : Entry). e.test) prefix (mid ++ back) ∙ ap (λ t. map (λ (e : Entry). e.test) prefix ++ t) (map-append (λ (e : Entry). e.test) mid back))
+    ∙ fold-append with_test_name [] (map (λ (e : Entry). e.test) prefix) (map (λ (e : Entry). e.test) mid ++ map (λ (e : Entry). e.test) back)
+    ∙ fold-append with_test_name (fold with_test_name [] (map (λ (e : Entry). e.test) prefix)) (map (λ (e : Entry). e.test) mid) (map (λ (e : Entry). e.test) back)
 
 -- entries between others have the same tests as what is printed of them
 pub tests_between : (prefix mid back : List Entry) (sum : List ℕ → Summed) → tests_of (prefix ++ (flat_map (λ name. given name (sum name)) (tests_of mid) ++ back)) ≡ tests_of (prefix ++ (mid ++ back))
 tests_between prefix mid back sum =
     tests_folded prefix (flat_map (λ name. given name (sum name)) (tests_of mid)) back
-    ∙ ap (λ t. fold with_name t (map (λ (e : Entry). e.test) back)) (all_tests_of_printed (tests_of prefix) sum (tests_of mid) ∙ fold_names (tests_of prefix) [] (map (λ (e : Entry). e.test) mid))
+    ∙ ap (λ t. fold with_test_name t (map (λ (e : Entry). e.test) back)) (all_tests_of_printed (tests_of prefix) sum (tests_of mid) ∙ fold_names (tests_of prefix) [] (map (λ (e : Entry). e.test) mid))
     ∙ sym (tests_folded prefix mid back)
 
 -- the facts of a test among what is printed

@@ -7,13 +7,13 @@ use Rattle.text_laws.specs.Words.{is_nil, words}
 use Rattle.text_laws.specs.Blanks.{before_blanks}
 use Rattle.log_sum.specs.Texts.{joined_words, begins_with}
 use Rattle.log_sum.specs.Counts.{last_count}
-use Rattle.log_sum.specs.States.{form_read}
+use Rattle.log_sum.specs.LogStates.{form_read}
 use Rattle.log_sum.specs.Facts.{Entry, a_kind, a_row, a_condition, a_hash, row_with}
-use Rattle.log_sum.specs.Lines.{Said, passed_over, begins, counts, a_state, judged, conditioned, hashed, ends, quantifier, line_said, place_after, states_left, fact_said, test_after}
-use Rattle.log_sum.specs.Reading.{Seen, next_line, lines_of, rest_of, last_judged, file_judged}
+use Rattle.log_sum.specs.LogLines.{Said, passed_over, begins, counts, a_state, judged, conditioned, hashed, ends, quantifier, log_line_said, place_after, states_left, fact_said, test_after}
+use Rattle.log_sum.specs.LogReading.{LogSeen, next_line, whole_lines, unfinished, last_judged, file_judged}
 use Rattle.text_laws.specs.Lines.{without_return}
-use Rattle.log_sum.specs.Summed.{Summed, StateSummed, or_else, is_validated}
-use Rattle.log_sum.specs.SumText.{kind_word, mark_sign, filling, state_line, verdict_word, verdict_end, how_often, hash_text, head_text, verdict_text, claim_text, condition_text, observation_text, test_text}
+use Rattle.log_sum.specs.Summed.{Summed, StateSummed, some_or, is_validated}
+use Rattle.log_sum.specs.SumText.{sum_kind_word, mark_sign, filling, state_line, verdict_word, verdict_end, how_often, hash_text, head_text, sum_verdict_text, claim_text, condition_text, observation_text, summed_text}
 use Rattle.sum_laws.proofs.Cases.{Kind, Mark, Place, allowed, outside, histogram, judgement, in_rest, conditioned_at, kind_cases, mark_cases}
 use Rattle.sum_laws.proofs.Texts.{no_feed, is_word, word_parts}
 use Rattle.sum_laws.proofs.Lines.{decimal_some, head_line, number_line, counted_line, totals_line, claim_line, line_of_hash, end_line, said_as, head_said, number_said, state_said, verdict_said, empty_said, outside_said, witnesses_said, totals_said, claim_said, hash_said, end_said}
@@ -48,7 +48,7 @@ IsHashed (Some hash) = IsHash hash
 
 -- the kind with which a test is printed
 abbrev pub kind_of_test : Summed → Kind
-kind_of_test test = or_else allowed test.kind
+kind_of_test test = some_or allowed test.kind
 
 -- a test can be printed and read back
 pub record Printable (name : List ℕ) (test : Summed) : Type 0 where
@@ -57,7 +57,7 @@ pub record Printable (name : List ℕ) (test : Summed) : Type 0 where
   pub starred : test.starred ≤ last_count
   pub plain : test.plain ≤ last_count
   pub states : AreForms test.states
-  pub condition : IsCondition (kind_of_test test) (or_else [] test.condition)
+  pub condition : IsCondition (kind_of_test test) (some_or [] test.condition)
   pub hash : IsHashed test.hash
 
 -- the entries of the states of a printed test
@@ -73,26 +73,26 @@ hash_entries name (Some hash) = entry name (a_hash hash) ∷ []
 -- the entries that a printed test gives
 abbrev pub given : List ℕ → Summed → List Entry
 given name test =
-    entry name (a_kind (kind_of_test test)) ∷ (state_entries name test.states ++ entry name (a_condition (or_else [] test.condition) (said_as (is_validated test))) ∷ hash_entries name test.hash)
+    entry name (a_kind (kind_of_test test)) ∷ (state_entries name test.states ++ entry name (a_condition (some_or [] test.condition) (said_as (is_validated test))) ∷ hash_entries name test.hash)
 
 -- lines
 abbrev by_refl : (text : List ℕ) → list_all no_feed text ≡ true → without_return text ≡ text → IsLine text
 by_refl text h k = record { one = h; kept = k }
 
-kind_line : (kind : Kind) → IsLine (kind_word kind)
+kind_line : (kind : Kind) → IsLine (sum_kind_word kind)
 unfolding without_return
-kind_line kind = kind_cases (λ k. IsLine (kind_word k)) (by_refl _ refl refl) (by_refl _ refl refl) (by_refl _ refl refl) kind
+kind_line kind = kind_cases (λ k. IsLine (sum_kind_word k)) (by_refl _ refl refl) (by_refl _ refl refl) (by_refl _ refl refl) kind
 
-some_kind : (kind : Kind) → is_nil (kind_word kind) ≡ false
-some_kind kind = kind_cases (λ k. is_nil (kind_word k) ≡ false) refl refl refl kind
+some_kind : (kind : Kind) → is_nil (sum_kind_word kind) ≡ false
+some_kind kind = kind_cases (λ k. is_nil (sum_kind_word k) ≡ false) refl refl refl kind
 
 blank_line : (text : List ℕ) → is_nil text ≡ false → IsLine text → IsLine (32 ∷ text)
 blank_line text some l = append_line (32 ∷ []) text refl some l
 
 head_is_line : (name : List ℕ) (kind : Kind) → is_word name ≡ true → IsLine (head_line name kind)
 head_is_line name kind h =
-    append_line (codes "Test ") (name ++ 32 ∷ kind_word kind) refl (not_nil name (kind_word kind))
-    (append_line name (32 ∷ kind_word kind) (word_parts name h).2 refl (blank_line (kind_word kind) (some_kind kind) (kind_line kind)))
+    append_line (codes "Test ") (name ++ 32 ∷ sum_kind_word kind) refl (not_nil name (sum_kind_word kind))
+    (append_line name (32 ∷ sum_kind_word kind) (word_parts name h).2 refl (blank_line (sum_kind_word kind) (some_kind kind) (kind_line kind)))
   where
     not_nil : (prefix rest : List ℕ) → is_nil (prefix ++ 32 ∷ rest) ≡ false
     not_nil [] rest = refl
@@ -196,11 +196,11 @@ state_by_line : (s : StateSummed) (rest : List ℕ) → state_line s ++ rest ≡
 unfolding state_line
 state_by_line s rest = simp append_assoc
 
-verdict_by_lines : (test : Summed) (rest : List ℕ) → verdict_text test ++ rest ≡ verdict_word (is_validated test) ++ 10 ∷ ([] ++ 10 ∷ (codes "Witnesses" ++ 10 ∷ (totals_line test.starred test.plain ++ 10 ∷ rest)))
-unfolding verdict_text
+verdict_by_lines : (test : Summed) (rest : List ℕ) → sum_verdict_text test ++ rest ≡ verdict_word (is_validated test) ++ 10 ∷ ([] ++ 10 ∷ (codes "Witnesses" ++ 10 ∷ (totals_line test.starred test.plain ++ 10 ∷ rest)))
+unfolding sum_verdict_text
 verdict_by_lines test rest = simp append_assoc
 
-claim_by_line : (test : Summed) (rest : List ℕ) → claim_text test ++ rest ≡ claim_line (or_else [] test.condition) (is_validated test) ++ 10 ∷ rest
+claim_by_line : (test : Summed) (rest : List ℕ) → claim_text test ++ rest ≡ claim_line (some_or [] test.condition) (is_validated test) ++ 10 ∷ rest
 unfolding claim_text
 claim_by_line test rest = simp append_assoc
 
@@ -217,12 +217,12 @@ unfolding observation_text
 end_by_line name test rest = simp append_assoc
 
 test_by_parts : (name : List ℕ) (test : Summed) (rest : List ℕ)
-    → test_text name test ++ rest ≡ head_text name test ++ (flat_map state_line test.states ++ (verdict_text test ++ (claim_text test ++ (hash_text test.hash ++ (observation_text name test ++ rest)))))
-unfolding test_text condition_text
+    → summed_text name test ++ rest ≡ head_text name test ++ (flat_map state_line test.states ++ (sum_verdict_text test ++ (claim_text test ++ (hash_text test.hash ++ (observation_text name test ++ rest)))))
+unfolding summed_text condition_text
 test_by_parts name test rest = simp append_assoc
 
 -- steps that give no fact, and steps to a line whose number isn't given
-pub quiet : (before : List Entry) (test : List ℕ) (place : Place) (line : ℕ) (text rest : List ℕ) (said : Said) → IsLine text → line_said place text ≡ Ok said
+pub quiet : (before : List Entry) (test : List ℕ) (place : Place) (line : ℕ) (text rest : List ℕ) (said : Said) → IsLine text → log_line_said place text ≡ Ok said
     → Fits (text ++ 10 ∷ rest) → fact_said said ≡ None
     → Goes (seen_at before test place line) (seen_at before (test_after test said) (place_after place said) (next_line line)) (text ++ 10 ∷ rest) rest
 quiet before test place line text rest said l e f none =
@@ -231,14 +231,14 @@ quiet before test place line text rest said l e f none =
     let same : before ++ put_fact (test_after test said) (fact_said said) ≡ before = rw none (append-nil before) in
     rw same at g
 
-pub record Went (s : Seen) (entries : List Entry) (test : List ℕ) (place : Place) (bytes rest : List ℕ) : Type 0 where
+pub record Went (s : LogSeen) (entries : List Entry) (test : List ℕ) (place : Place) (bytes rest : List ℕ) : Type 0 where
   pub line : ℕ
   pub goes : Goes s (seen_at entries test place line) bytes rest
 
-pub went_on : {s t : Seen} {a b c : List ℕ} {entries : List Entry} {test : List ℕ} {place : Place} → Goes s t a b → Went t entries test place b c → Went s entries test place a c
+pub went_on : {s t : LogSeen} {a b c : List ℕ} {entries : List Entry} {test : List ℕ} {place : Place} → Goes s t a b → Went t entries test place b c → Went s entries test place a c
 went_on g w = record { line = w.line; goes = goes_on g w.goes }
 
-pub record Read (s : Seen) (entries : List Entry) (bytes rest : List ℕ) : Type 0 where
+pub record Read (s : LogSeen) (entries : List Entry) (bytes rest : List ℕ) : Type 0 where
   pub test : List ℕ
   pub line : ℕ
   pub goes : Goes s (seen_at entries test outside line) bytes rest
@@ -274,8 +274,8 @@ states_go before name kind line (s ∷ states) rest a f c =
     let more = states_go (before ++ here ∷ []) name kind (next_line line) states rest a.1.1 one.fits c.1 in
     rw e (rw (append_assoc before (here ∷ []) (state_entries name states)) at (went_on one more))
 
-verdict_goes : (before : List Entry) (name : List ℕ) (kind : Kind) (line : ℕ) (sum : Summed) (rest : List ℕ) → sum.starred ≤ last_count → sum.plain ≤ last_count → Fits (verdict_text sum ++ rest)
-    → Goes (seen_at before name (states_left kind 0) line) (seen_at before name (in_rest kind) (next_line (next_line (next_line (next_line line))))) (verdict_text sum ++ rest) rest
+verdict_goes : (before : List Entry) (name : List ℕ) (kind : Kind) (line : ℕ) (sum : Summed) (rest : List ℕ) → sum.starred ≤ last_count → sum.plain ≤ last_count → Fits (sum_verdict_text sum ++ rest)
+    → Goes (seen_at before name (states_left kind 0) line) (seen_at before name (in_rest kind) (next_line (next_line (next_line (next_line line))))) (sum_verdict_text sum ++ rest) rest
 unfolding place_after fact_said
 verdict_goes before name kind line sum rest h k f =
     let totals : List ℕ = totals_line sum.starred sum.plain in
@@ -287,15 +287,15 @@ verdict_goes before name kind line sum rest h k f =
     let four = quiet before name (in_rest kind) (next_line (next_line (next_line line))) totals rest passed_over (totals_is_line sum.starred sum.plain h k) (totals_said kind sum.starred sum.plain) three.fits refl in
     rw e (goes_on one (goes_on two (goes_on three four)))
 
-claim_goes : (before : List Entry) (name : List ℕ) (kind : Kind) (line : ℕ) (sum : Summed) (rest : List ℕ) → IsCondition kind (or_else [] sum.condition) → Fits (claim_text sum ++ rest)
-    → Clean before (entry name (a_condition (or_else [] sum.condition) (said_as (is_validated sum))) ∷ [])
-    → Goes (seen_at before name (in_rest kind) line) (seen_at (before ++ entry name (a_condition (or_else [] sum.condition) (said_as (is_validated sum))) ∷ []) name (conditioned_at kind) (next_line line)) (claim_text sum ++ rest) rest
+claim_goes : (before : List Entry) (name : List ℕ) (kind : Kind) (line : ℕ) (sum : Summed) (rest : List ℕ) → IsCondition kind (some_or [] sum.condition) → Fits (claim_text sum ++ rest)
+    → Clean before (entry name (a_condition (some_or [] sum.condition) (said_as (is_validated sum))) ∷ [])
+    → Goes (seen_at before name (in_rest kind) line) (seen_at (before ++ entry name (a_condition (some_or [] sum.condition) (said_as (is_validated sum))) ∷ []) name (conditioned_at kind) (next_line line)) (claim_text sum ++ rest) rest
 unfolding place_after fact_said
 claim_goes before name kind line sum rest i f c =
     let e = claim_by_line sum rest in
-    let f2 : Fits (claim_line (or_else [] sum.condition) (is_validated sum) ++ 10 ∷ rest) = subst Fits e f in
-    rw e (step before name (in_rest kind) line (claim_line (or_else [] sum.condition) (is_validated sum)) rest (conditioned (or_else [] sum.condition) (said_as (is_validated sum)))
-    (claim_is_line (or_else [] sum.condition) (is_validated sum) i.one i.some) (claim_said kind (or_else [] sum.condition) (is_validated sum) i.joined i.some i.begins) f2 c)
+    let f2 : Fits (claim_line (some_or [] sum.condition) (is_validated sum) ++ 10 ∷ rest) = subst Fits e f in
+    rw e (step before name (in_rest kind) line (claim_line (some_or [] sum.condition) (is_validated sum)) rest (conditioned (some_or [] sum.condition) (said_as (is_validated sum)))
+    (claim_is_line (some_or [] sum.condition) (is_validated sum) i.one i.some) (claim_said kind (some_or [] sum.condition) (is_validated sum) i.joined i.some i.begins) f2 c)
 
 hash_goes : (before : List Entry) (name : List ℕ) (kind : Kind) (line : ℕ) (hash : Option (List ℕ)) (rest : List ℕ) → IsHashed hash → Fits (hash_text hash ++ rest) → Clean before (hash_entries name hash)
     → Went (seen_at before name (conditioned_at kind) line) (before ++ hash_entries name hash) name (conditioned_at kind) (hash_text hash ++ rest) rest
@@ -318,14 +318,14 @@ end_goes before name kind line sum rest n h k f =
     rw e (goes_on one two)
 
 -- a printed test is read as the entries that it gives
-pub test_goes : (before : List Entry) (test name : List ℕ) (line : ℕ) (sum : Summed) (rest : List ℕ) → Printable name sum → Fits (test_text name sum ++ rest) → Clean before (given name sum)
-    → Went (seen_at before test outside line) (before ++ given name sum) name outside (test_text name sum ++ rest) rest
+pub test_goes : (before : List Entry) (test name : List ℕ) (line : ℕ) (sum : Summed) (rest : List ℕ) → Printable name sum → Fits (summed_text name sum ++ rest) → Clean before (given name sum)
+    → Went (seen_at before test outside line) (before ++ given name sum) name outside (summed_text name sum ++ rest) rest
 test_goes before test name line sum rest p f c =
     let kind : Kind = kind_of_test sum in
     let e = test_by_parts name sum rest in
     let a : List Entry = entry name (a_kind kind) ∷ [] in
     let b : List Entry = state_entries name sum.states in
-    let d : List Entry = entry name (a_condition (or_else [] sum.condition) (said_as (is_validated sum))) ∷ [] in
+    let d : List Entry = entry name (a_condition (some_or [] sum.condition) (said_as (is_validated sum))) ∷ [] in
     let h : List Entry = hash_entries name sum.hash in
     let c1 : Clean before a × Clean (before ++ a) (b ++ (d ++ h)) = clean_parts before a (b ++ (d ++ h)) c in
     let c2 : Clean (before ++ a) b × Clean ((before ++ a) ++ b) (d ++ h) = clean_parts (before ++ a) b (d ++ h) c1.1 in
@@ -333,7 +333,7 @@ test_goes before test name line sum rest p f c =
     let r4 : List ℕ = observation_text name sum ++ rest in
     let r3 : List ℕ = hash_text sum.hash ++ r4 in
     let r2 : List ℕ = claim_text sum ++ r3 in
-    let r1 : List ℕ = verdict_text sum ++ r2 in
+    let r1 : List ℕ = sum_verdict_text sum ++ r2 in
     let f0 : Fits (head_text name sum ++ (flat_map state_line sum.states ++ r1)) = subst Fits e f in
     let one = head_goes before test name line sum (flat_map state_line sum.states ++ r1) p f0 c1.0 in
     let two = states_go (before ++ a) name kind (next_line (next_line line)) sum.states r1 p.states one.fits c2.0 in
@@ -346,13 +346,13 @@ test_goes before test name line sum rest p f c =
 
 -- a list of printed tests is read as the entries that they give
 pub texts_go : (before : List Entry) (test : List ℕ) (line : ℕ) (sum : List ℕ → Summed) (names : List (List ℕ)) (rest : List ℕ) → AllOf (λ name. Printable name (sum name)) names
-    → Fits (flat_map (λ name. test_text name (sum name)) names ++ rest) → Clean before (flat_map (λ name. given name (sum name)) names)
-    → Read (seen_at before test outside line) (before ++ flat_map (λ name. given name (sum name)) names) (flat_map (λ name. test_text name (sum name)) names ++ rest) rest
+    → Fits (flat_map (λ name. summed_text name (sum name)) names ++ rest) → Clean before (flat_map (λ name. given name (sum name)) names)
+    → Read (seen_at before test outside line) (before ++ flat_map (λ name. given name (sum name)) names) (flat_map (λ name. summed_text name (sum name)) names ++ rest) rest
 texts_go before test line sum [] rest p f c = rw (append-nil before) (record { test = test; line = line; goes = record { lines = refl; last = refl; fits = f } })
 texts_go before test line sum (name ∷ names) rest p f c =
-    let more : List ℕ = flat_map (λ n. test_text n (sum n)) names ++ rest in
-    let e : (test_text name (sum name) ++ flat_map (λ n. test_text n (sum n)) names) ++ rest ≡ test_text name (sum name) ++ more = append_assoc (test_text name (sum name)) (flat_map (λ n. test_text n (sum n)) names) rest in
-    let f2 : Fits (test_text name (sum name) ++ more) = subst Fits e f in
+    let more : List ℕ = flat_map (λ n. summed_text n (sum n)) names ++ rest in
+    let e : (summed_text name (sum name) ++ flat_map (λ n. summed_text n (sum n)) names) ++ rest ≡ summed_text name (sum name) ++ more = append_assoc (summed_text name (sum name)) (flat_map (λ n. summed_text n (sum n)) names) rest in
+    let f2 : Fits (summed_text name (sum name) ++ more) = subst Fits e f in
     let both : Clean before (given name (sum name)) × Clean (before ++ given name (sum name)) (flat_map (λ n. given n (sum n)) names) = clean_parts before (given name (sum name)) (flat_map (λ n. given n (sum n)) names) c in
     let one = test_goes before test name line (sum name) more p.0 f2 both.0 in
     let further = texts_go (before ++ given name (sum name)) name one.line sum names rest p.1 one.goes.fits both.1 in
@@ -360,16 +360,16 @@ texts_go before test line sum (name ∷ names) rest p f c =
     (record { test = further.test; line = further.line; goes = goes_on one.goes further.goes })
 
 -- a file whose reading gives these entries is judged so
-file_read : (s : Seen) (entries : List Entry) (text : List ℕ) → Read s entries text [] → file_judged s text ≡ Ok (seen_at entries [] outside 1)
-unfolding file_judged lines_of rest_of last_judged
+file_read : (s : LogSeen) (entries : List Entry) (text : List ℕ) → Read s entries text [] → file_judged s text ≡ Ok (seen_at entries [] outside 1)
+unfolding file_judged whole_lines unfinished last_judged
 file_read s entries text r = rw (r.goes.lines, r.goes.last) refl
 
 -- a file of printed tests is judged as the entries that they give
 pub file_goes : (before : List Entry) (sum : List ℕ → Summed) (names : List (List ℕ)) → AllOf (λ name. Printable name (sum name)) names
-    → Fits (flat_map (λ name. test_text name (sum name)) names) → Clean before (flat_map (λ name. given name (sum name)) names)
-    → file_judged (seen_at before [] outside 1) (flat_map (λ name. test_text name (sum name)) names) ≡ Ok (seen_at (before ++ flat_map (λ name. given name (sum name)) names) [] outside 1)
+    → Fits (flat_map (λ name. summed_text name (sum name)) names) → Clean before (flat_map (λ name. given name (sum name)) names)
+    → file_judged (seen_at before [] outside 1) (flat_map (λ name. summed_text name (sum name)) names) ≡ Ok (seen_at (before ++ flat_map (λ name. given name (sum name)) names) [] outside 1)
 file_goes before sum names p f c =
-    let text : List ℕ = flat_map (λ name. test_text name (sum name)) names in
+    let text : List ℕ = flat_map (λ name. summed_text name (sum name)) names in
     let e : text ++ [] ≡ text = append-nil text in
     let f2 : Fits (text ++ []) = subst Fits (sym e) f in
     subst (λ t. file_judged (seen_at before [] outside 1) t ≡ Ok (seen_at (before ++ flat_map (λ name. given name (sum name)) names) [] outside 1)) e

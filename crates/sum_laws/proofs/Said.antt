@@ -12,12 +12,12 @@ use Rattle.list_laws.proofs.Cases.{by_test}
 use Rattle.log_sum.specs.declared.errors.LogKind.{LogKind}
 use Rattle.text_laws.specs.Blanks.{is_blank, before_blanks, unblanked, trim_blanks}
 use Rattle.text_laws.specs.Words.{is_nil, words}
-use Rattle.text_laws.specs.Runs.{run_of, after_run}
+use Rattle.text_laws.specs.LeadingRuns.{leading_run, after_run}
 use Rattle.log_sum.specs.Texts.{later_words, joined_words, ends_with, before_end, begins_with}
 use Rattle.log_sum.specs.Counts.{count_read, count_of_digits, last_count}
-use Rattle.log_sum.specs.States.{form_read}
+use Rattle.log_sum.specs.LogStates.{form_read}
 use Rattle.log_sum.specs.Facts.{Row}
-use Rattle.log_sum.specs.Lines.{Said, passed_over, begins, counts, a_state, judged, conditioned, hashed, ends, kind_of, test_named, test_line, outside_said, histogram_line, counts_said, mark_before, mark_of, mark_read, row_of, row_marked, row_counted, row_line, row_said, is_judgement, verdict_cut, condition_line, quantifier, hash_line, is_observation, hash_said, condition_said, no_test, rest_said, line_said, place_after, kind_at}
+use Rattle.log_sum.specs.LogLines.{Said, passed_over, begins, counts, a_state, judged, conditioned, hashed, ends, kind_named, test_named, test_line, outside_said, histogram_line, counts_said, mark_before, mark_written, mark_read, row_of, row_marked, row_counted, log_row, row_said, is_judgement, verdict_cut, condition_line, quantifier, hash_line, is_observation, hash_said, condition_said, no_test, rest_said, log_line_said, place_after, kind_at}
 use Rattle.sum_laws.proofs.Cases.{Kind, Mark, Verdict, Place, validated, not_validated, outside, histogram, judgement, in_rest, conditioned_at, IsStates, is_ok, is_outside, outside_is, kind_cases, place_cases}
 use Rattle.sum_laws.proofs.Texts.{no_feed, is_word, words_plain, words_both, joined_is, joined_both, joined_no_feed, all_take, all_drop, all_after, all_trimmed, before_twice}
 use Rattle.sum_laws.proofs.Lines.{line_of_hash}
@@ -31,7 +31,7 @@ pub record IsRead (hash : List ℕ) : Type 0 where
 
 -- a block has had its condition
 unfoldable pub is_after : Place → Bool
-is_after p = is_ok (line_said p (codes "Observation"))
+is_after p = is_ok (log_line_said p (codes "Observation"))
 
 -- what a line says at a place
 abbrev pub SaidOf : Place → Said → Type 0
@@ -59,7 +59,7 @@ named_is (first ∷ name ∷ kind ∷ []) test h e =
     let k = and_parts (is_word first) (list_all is_word (name ∷ kind ∷ [])) h in
     let l = and_parts (is_word name) (list_all is_word (kind ∷ [])) k.1 in
     by_test (bytes_eq first (codes "Test"))
-    (λ t. by_kind (kind_of kind) (rw t at e) l.0)
+    (λ t. by_kind (kind_named kind) (rw t at e) l.0)
     (λ t. let m = rw t at e in absurd (cc))
   where
     by_kind : (o : Option Kind) → test_named name o ≡ Some test → is_word name ≡ true → is_word test.0 ≡ true
@@ -79,7 +79,7 @@ digits_rest (d ∷ digits) rest counted e =
 counted_rest : (text : List ℕ) (counted : ℕ × List ℕ) → list_all no_feed text ≡ true → count_read text ≡ Ok counted → list_all no_feed counted.1 ≡ true
 unfolding count_read
 counted_rest text counted h e =
-    ap (list_all no_feed) (digits_rest (run_of is_ascii_digit text) (after_run is_ascii_digit text) counted e) ∙ all_after no_feed is_ascii_digit text h
+    ap (list_all no_feed) (digits_rest (leading_run is_ascii_digit text) (after_run is_ascii_digit text) counted e) ∙ all_after no_feed is_ascii_digit text h
 
 marked_rest : (text : List ℕ) (marked : Mark × List ℕ) → list_all no_feed text ≡ true → mark_read text ≡ Some marked → list_all no_feed marked.1 ≡ true
 marked_rest [] marked h e = absurd (cc)
@@ -88,15 +88,15 @@ marked_rest (b ∷ c ∷ text) marked h e =
     let k = and_parts (no_feed b) (list_all no_feed (c ∷ text)) h in
     let l = and_parts (no_feed c) (list_all no_feed text) k.1 in
     by_test (c == 62)
-    (λ t. by_mark (mark_of b) (rw t at e) l.1)
+    (λ t. by_mark (mark_written b) (rw t at e) l.1)
     (λ t. let m = rw t at e in absurd (cc))
   where
     by_mark : (o : Option Mark) → mark_before o text ≡ Some marked → list_all no_feed text ≡ true → list_all no_feed marked.1 ≡ true
     by_mark None f g = absurd (cc)
     by_mark (Some mark) f g = ap (list_all no_feed) (sym (pair_of (mark, text) marked f).1) ∙ g
 
-row_form : (text : List ℕ) (row : Row) → list_all no_feed text ≡ true → row_line text ≡ Ok row → IsForm row.state
-unfolding row_line
+row_form : (text : List ℕ) (row : Row) → list_all no_feed text ≡ true → log_row text ≡ Ok row → IsForm row.state
+unfolding log_row
 row_form text row h e = by_count (count_read (trim_blanks text)) refl e
   where
     by_form : (count : ℕ) (mark : Mark) (form : List ℕ) (r : Result (List ℕ) LogKind) → list_all no_feed form ≡ true → form_read form ≡ r → row_of count mark r ≡ Ok row → IsForm row.state
@@ -213,8 +213,8 @@ rest_says p text said o h e = by_line (test_line (words text)) e
     by_line None g = by_condition (condition_line (words text)) refl g
 
 -- lines at each place
-outside_says : (text : List ℕ) (said : Said) → list_all no_feed text ≡ true → line_said outside text ≡ Ok said → SaidOf outside said
-unfolding line_said
+outside_says : (text : List ℕ) (said : Said) → list_all no_feed text ≡ true → log_line_said outside text ≡ Ok said → SaidOf outside said
+unfolding log_line_said
 outside_says text said h e = by_line (test_line (words text)) refl e
   where
     by_line : (o : Option (List ℕ × Kind)) → test_line (words text) ≡ o → ◌≡◌ {A = Result Said LogKind} (Ok (outside_said o)) (Ok said) → SaidOf outside said
@@ -225,8 +225,8 @@ inside_histogram : (k : Kind) → is_outside (histogram k) ≡ false
 unfolding place_after
 inside_histogram k = refl
 
-histogram_says : (k : Kind) (text : List ℕ) (said : Said) → line_said (histogram k) text ≡ Ok said → SaidOf (histogram k) said
-unfolding line_said place_after
+histogram_says : (k : Kind) (text : List ℕ) (said : Said) → log_line_said (histogram k) text ≡ Ok said → SaidOf (histogram k) said
+unfolding log_line_said place_after
 histogram_says k text said e = by_line (histogram_line (words text)) e
   where
     by_line : (r : Result ℕ LogKind) → counts_said r ≡ Ok said → SaidOf (histogram k) said
@@ -234,21 +234,21 @@ histogram_says k text said e = by_line (histogram_line (words text)) e
     by_line (Ok n) g = let same : counts n ≡ said = cc in subst (SaidOf (histogram k)) same (inside_histogram k)
 
 states_inside : (p : Place) → IsStates p → is_outside p ≡ false
-unfolding line_said words test_line row_line count_read run_of after_run before_blanks
+unfolding log_line_said words test_line log_row count_read leading_run after_run before_blanks
 states_inside p s =
     by_test (is_outside p)
     (λ e. let k = subst IsStates (outside_is p e) s in let m = k [] in absurd (cc))
     (λ e. e)
 
-states_say : (p : Place) → IsStates p → (text : List ℕ) (said : Said) → list_all no_feed text ≡ true → line_said p text ≡ Ok said → SaidOf p said
-states_say p s text said h e = by_line (row_line text) refl (sym (s text) ∙ e)
+states_say : (p : Place) → IsStates p → (text : List ℕ) (said : Said) → list_all no_feed text ≡ true → log_line_said p text ≡ Ok said → SaidOf p said
+states_say p s text said h e = by_line (log_row text) refl (sym (s text) ∙ e)
   where
-    by_line : (r : Result Row LogKind) → row_line text ≡ r → row_said r ≡ Ok said → SaidOf p said
+    by_line : (r : Result Row LogKind) → log_row text ≡ r → row_said r ≡ Ok said → SaidOf p said
     by_line (Err kind) f g = absurd (cc)
     by_line (Ok row) f g = let same : a_state row ≡ said = cc in subst (SaidOf p) same (states_inside p s, row_form text row h f)
 
-judgement_says : (k : Kind) (text : List ℕ) (said : Said) → line_said (judgement k) text ≡ Ok said → SaidOf (judgement k) said
-unfolding line_said
+judgement_says : (k : Kind) (text : List ℕ) (said : Said) → log_line_said (judgement k) text ≡ Ok said → SaidOf (judgement k) said
+unfolding log_line_said
 judgement_says k text said e =
     by_test (is_judgement (words text))
     (λ t. let f = rw t at e in let same : judged ≡ said = cc in subst (SaidOf (judgement k)) same refl)
@@ -262,8 +262,8 @@ kind_in_rest : (k : Kind) → kind_at (in_rest k) ≡ k
 unfolding place_after
 kind_in_rest k = refl
 
-rest_line_says : (k : Kind) (text : List ℕ) (said : Said) → list_all no_feed text ≡ true → line_said (in_rest k) text ≡ Ok said → SaidOf (in_rest k) said
-unfolding line_said place_after
+rest_line_says : (k : Kind) (text : List ℕ) (said : Said) → list_all no_feed text ≡ true → log_line_said (in_rest k) text ≡ Ok said → SaidOf (in_rest k) said
+unfolding log_line_said place_after
 rest_line_says k text said h e =
     by_test (is_observation (words text))
     (λ t. let f = rw t at e in absurd (cc))
@@ -274,18 +274,18 @@ unfolding place_after
 inside_conditioned k = refl
 
 after_conditioned : (k : Kind) → is_after (conditioned_at k) ≡ true
-unfolding is_after place_after line_said words
+unfolding is_after place_after log_line_said words
 after_conditioned k = refl
 
-conditioned_says : (k : Kind) (text : List ℕ) (said : Said) → list_all no_feed text ≡ true → line_said (conditioned_at k) text ≡ Ok said → SaidOf (conditioned_at k) said
-unfolding line_said place_after
+conditioned_says : (k : Kind) (text : List ℕ) (said : Said) → list_all no_feed text ≡ true → log_line_said (conditioned_at k) text ≡ Ok said → SaidOf (conditioned_at k) said
+unfolding log_line_said place_after
 conditioned_says k text said h e =
     by_test (is_observation (words text))
     (λ t. let f = rw t at e in let same : ends ≡ said = cc in subst (SaidOf (conditioned_at k)) same (inside_conditioned k, after_conditioned k))
     (λ t. rest_says (conditioned_at k) text said (inside_conditioned k) h (rw t at e))
 
 -- what a line without line feeds says fits its place, and can be printed
-pub line_says : (p : Place) (text : List ℕ) (said : Said) → list_all no_feed text ≡ true → line_said p text ≡ Ok said → SaidOf p said
+pub line_says : (p : Place) (text : List ℕ) (said : Said) → list_all no_feed text ≡ true → log_line_said p text ≡ Ok said → SaidOf p said
 line_says p text said h =
-    place_cases (λ x. line_said x text ≡ Ok said → SaidOf x said)
+    place_cases (λ x. log_line_said x text ≡ Ok said → SaidOf x said)
     (outside_says text said h) (λ k. histogram_says k text said) (λ x s. states_say x s text said h) (λ k. judgement_says k text said) (λ k. rest_line_says k text said h) (λ k. conditioned_says k text said h) p

@@ -4,8 +4,8 @@ use Rattle.std.specs.Prelude.{Bool, ◌||◌, cond, Option, map}
 use Rattle.std.specs.List.{list_any}
 use Rattle.std.specs.Str.{bytes_eq}
 use Rattle.list_laws.proofs.Cases.{by_test}
-use Rattle.log_sum.specs.Facts.{Row, Fact, a_kind, a_row, a_condition, a_hash, row_with, rows, conditions, hashes, first_of, same_mark, marked_sum, state_sum, states_of, mark_in, facts_of}
-use Rattle.log_sum.specs.Summed.{Summed, StateSummed, or_else, state_by, is_validated}
+use Rattle.log_sum.specs.Facts.{Row, Fact, a_kind, a_row, a_condition, a_hash, row_with, rows, conditions, hashes, first_of, same_state_mark, marked_sum, state_sum, states_of, mark_in, facts_of}
+use Rattle.log_sum.specs.Summed.{Summed, StateSummed, some_or, state_by, is_validated}
 use Rattle.sum_laws.proofs.Cases.{Mark, plain}
 use Rattle.sum_laws.proofs.Texts.{bytes_same}
 use Rattle.sum_laws.proofs.Lines.{said_as}
@@ -27,7 +27,7 @@ hash_facts (Some hash) = a_hash hash ∷ []
 
 -- the facts that a printed test gives
 abbrev pub printed_facts : Summed → List Fact
-printed_facts sum = a_kind (kind_of_test sum) ∷ (state_facts sum.states ++ a_condition (or_else [] sum.condition) (said_as (is_validated sum)) ∷ hash_facts sum.hash)
+printed_facts sum = a_kind (kind_of_test sum) ∷ (state_facts sum.states ++ a_condition (some_or [] sum.condition) (said_as (is_validated sum)) ∷ hash_facts sum.hash)
 
 states_here : (name : List ℕ) (states : List StateSummed) → facts_of name (state_entries name states) ≡ state_facts states
 states_here name [] = refl
@@ -41,7 +41,7 @@ hash_here name (Some hash) = fact_here name (entry name (a_hash hash)) [] (bytes
 -- the facts of the test among the entries that it gives are those facts
 pub printed_here : (name : List ℕ) (sum : Summed) → facts_of name (given name sum) ≡ printed_facts sum
 printed_here name sum =
-    let condition : Fact = a_condition (or_else [] sum.condition) (said_as (is_validated sum)) in
+    let condition : Fact = a_condition (some_or [] sum.condition) (said_as (is_validated sum)) in
     fact_here name (entry name (a_kind (kind_of_test sum))) (state_entries name sum.states ++ entry name condition ∷ hash_entries name sum.hash) (bytes_same name)
     ∙ ap (λ t. a_kind (kind_of_test sum) ∷ t) (facts_both name (state_entries name sum.states) (entry name condition ∷ hash_entries name sum.hash)
     ∙ ap (λ t. t ++ facts_of name (entry name condition ∷ hash_entries name sum.hash)) (states_here name sum.states)
@@ -58,7 +58,7 @@ hash_elsewhere other name (Some hash) h = fact_elsewhere other (entry name (a_ha
 -- the entries of one test have no facts of another
 pub printed_elsewhere : (other name : List ℕ) (sum : Summed) → bytes_eq name other ≡ false → facts_of other (given name sum) ≡ []
 printed_elsewhere other name sum h =
-    let condition : Fact = a_condition (or_else [] sum.condition) (said_as (is_validated sum)) in
+    let condition : Fact = a_condition (some_or [] sum.condition) (said_as (is_validated sum)) in
     fact_elsewhere other (entry name (a_kind (kind_of_test sum))) (state_entries name sum.states ++ entry name condition ∷ hash_entries name sum.hash) h
     ∙ facts_both other (state_entries name sum.states) (entry name condition ∷ hash_entries name sum.hash)
     ∙ ap (λ t. t ++ facts_of other (entry name condition ∷ hash_entries name sum.hash)) (states_elsewhere other name sum.states h)
@@ -95,20 +95,20 @@ hash_first (Some h) = refl
 -- the rows that a printed test gives are those of its states
 pub rows_of_printed : (sum : Summed) → rows (printed_facts sum) ≡ map row_of_state sum.states
 rows_of_printed sum =
-    rows_both (state_facts sum.states) (a_condition (or_else [] sum.condition) (said_as (is_validated sum)) ∷ hash_facts sum.hash)
+    rows_both (state_facts sum.states) (a_condition (some_or [] sum.condition) (said_as (is_validated sum)) ∷ hash_facts sum.hash)
     ∙ ap (λ t. rows (state_facts sum.states) ++ t) (hash_no_row sum.hash) ∙ append-nil (rows (state_facts sum.states)) ∙ states_rows sum.states
 
 -- a printed test gives one condition, with its verdict
-pub printed_conditions : (sum : Summed) → conditions (printed_facts sum) ≡ (or_else [] sum.condition, said_as (is_validated sum)) ∷ []
+pub printed_conditions : (sum : Summed) → conditions (printed_facts sum) ≡ (some_or [] sum.condition, said_as (is_validated sum)) ∷ []
 printed_conditions sum =
-    conditions_both (state_facts sum.states) (a_condition (or_else [] sum.condition) (said_as (is_validated sum)) ∷ hash_facts sum.hash)
-    ∙ ap (λ t. t ++ (or_else [] sum.condition, said_as (is_validated sum)) ∷ conditions (hash_facts sum.hash)) (states_no_condition sum.states)
-    ∙ ap (λ t. (or_else [] sum.condition, said_as (is_validated sum)) ∷ t) (hash_no_condition sum.hash)
+    conditions_both (state_facts sum.states) (a_condition (some_or [] sum.condition) (said_as (is_validated sum)) ∷ hash_facts sum.hash)
+    ∙ ap (λ t. t ++ (some_or [] sum.condition, said_as (is_validated sum)) ∷ conditions (hash_facts sum.hash)) (states_no_condition sum.states)
+    ∙ ap (λ t. (some_or [] sum.condition, said_as (is_validated sum)) ∷ t) (hash_no_condition sum.hash)
 
 -- a printed test gives its hash, where it has one
 pub line_of_hash_first : (sum : Summed) → first_of (hashes (printed_facts sum)) ≡ sum.hash
 line_of_hash_first sum =
-    ap first_of (hashes_both (state_facts sum.states) (a_condition (or_else [] sum.condition) (said_as (is_validated sum)) ∷ hash_facts sum.hash)
+    ap first_of (hashes_both (state_facts sum.states) (a_condition (some_or [] sum.condition) (said_as (is_validated sum)) ∷ hash_facts sum.hash)
     ∙ ap (λ t. t ++ hashes (hash_facts sum.hash)) (states_no_hash sum.states)) ∙ hash_first sum.hash
 
 all_of_same : {A : Type 0} (P Q : A → Type 0) → ((x : A) → P x → Q x) → (xs : List A) → AllOf P xs → AllOf Q xs
@@ -147,12 +147,12 @@ at_one f x (k ∷ ks) d =
 abbrev rows_by : (List ℕ → Mark) → (List ℕ → ℕ) → List (List ℕ) → List Row
 rows_by mark count ks = map (λ s. row_with s (mark s) (count s)) ks
 
-marked_by : (mark : List ℕ → Mark) (count : List ℕ → ℕ) (m : Mark) (ks : List (List ℕ)) → marked_sum m (rows_by mark count ks) ≡ over (λ s. cond (same_mark (mark s) m) (count s) 0) ks
+marked_by : (mark : List ℕ → Mark) (count : List ℕ → ℕ) (m : Mark) (ks : List (List ℕ)) → marked_sum m (rows_by mark count ks) ≡ over (λ s. cond (same_state_mark (mark s) m) (count s) 0) ks
 marked_by mark count m [] = marked_none m
 marked_by mark count m (k ∷ ks) =
     marked_both m (row_with k (mark k) (count k) ∷ []) (rows_by mark count ks)
     ∙ ap (λ n. n + marked_sum m (rows_by mark count ks)) (marked_one m (row_with k (mark k) (count k)))
-    ∙ ap (λ n. cond (same_mark (mark k) m) (count k) 0 + n) (marked_by mark count m ks)
+    ∙ ap (λ n. cond (same_state_mark (mark k) m) (count k) 0 + n) (marked_by mark count m ks)
 
 state_none : (s : List ℕ) → state_sum s [] ≡ 0
 unfolding state_sum
@@ -200,15 +200,15 @@ no_state x (r ∷ rs) h =
     ))
 
 -- a state that a row has has a mark
-pub a_state_there : (x : List ℕ) (rs : List Row) → list_any (bytes_eq x) (map (λ (r : Row). r.state) rs) ≡ true → mark_in x rs ≡ Some (or_else plain (mark_in x rs))
+pub a_state_there : (x : List ℕ) (rs : List Row) → list_any (bytes_eq x) (map (λ (r : Row). r.state) rs) ≡ true → mark_in x rs ≡ Some (some_or plain (mark_in x rs))
 a_state_there x [] h = absurd (cc)
 a_state_there x (r ∷ rs) h =
     let e : mark_in x (r ∷ rs) ≡ or_first (cond (bytes_eq x r.state) (Some r.mark) None) (mark_in x rs) =
     mark_both x (r ∷ []) rs ∙ ap (λ o. or_first o (mark_in x rs)) (mark_one x r ∙ ap (λ b. cond b (Some r.mark) None) (eq_swap r.state x)) in
     by_test (bytes_eq x r.state)
-    (λ f. let g : mark_in x (r ∷ rs) ≡ Some r.mark = e ∙ ap (λ b. or_first (cond b (Some r.mark) None) (mark_in x rs)) f in g ∙ ap (λ o. Some (or_else plain o)) (sym g))
+    (λ f. let g : mark_in x (r ∷ rs) ≡ Some r.mark = e ∙ ap (λ b. or_first (cond b (Some r.mark) None) (mark_in x rs)) f in g ∙ ap (λ o. Some (some_or plain o)) (sym g))
     (λ f. let g : mark_in x (r ∷ rs) ≡ mark_in x rs = e ∙ ap (λ b. or_first (cond b (Some r.mark) None) (mark_in x rs)) f in
-    g ∙ a_state_there x rs (rw f at h) ∙ ap (λ o. Some (or_else plain o)) (sym g))
+    g ∙ a_state_there x rs (rw f at h) ∙ ap (λ o. Some (some_or plain o)) (sym g))
 
 -- the rows that are printed of rows
 abbrev pub printed_rows : List Row → List Row
@@ -218,13 +218,13 @@ map_twice : {A B C : Type 0} (f : B → C) (g : A → B) (xs : List A) → map f
 map_twice f g [] = refl
 map_twice f g (x ∷ xs) = ap (λ t. f (g x) ∷ t) (map_twice f g xs)
 
-as_rows : (rs : List Row) → printed_rows rs ≡ rows_by (λ s. or_else plain (mark_in s rs)) (λ s. state_sum s rs) (states_of rs)
+as_rows : (rs : List Row) → printed_rows rs ≡ rows_by (λ s. some_or plain (mark_in s rs)) (λ s. state_sum s rs) (states_of rs)
 as_rows rs = map_twice row_of_state (state_by rs) (states_of rs)
 
 -- the printed rows have the same sum of each state
 pub printed_state : (x : List ℕ) (rs : List Row) → state_sum x (printed_rows rs) ≡ state_sum x rs
 printed_state x rs =
-    ap (state_sum x) (as_rows rs) ∙ state_by_rows (λ s. or_else plain (mark_in s rs)) (λ s. state_sum s rs) x (states_of rs)
+    ap (state_sum x) (as_rows rs) ∙ state_by_rows (λ s. some_or plain (mark_in s rs)) (λ s. state_sum s rs) x (states_of rs)
     ∙ at_one (λ s. state_sum s rs) x (states_of rs) (ascends_distinct (states_of rs) (states_ascend rs))
     ∙ ap (λ b. cond b (state_sum x rs) 0) (states_in x rs)
     ∙ by_test (list_any (bytes_eq x) (map (λ (r : Row). r.state) rs)) (λ e. rw e refl) (λ e. rw e (sym (no_state x rs e).0))
@@ -232,8 +232,8 @@ printed_state x rs =
 -- the printed rows have the same mark of each state
 pub printed_mark : (x : List ℕ) (rs : List Row) → mark_in x (printed_rows rs) ≡ mark_in x rs
 printed_mark x rs =
-    ap (mark_in x) (as_rows rs) ∙ mark_by_rows (λ s. or_else plain (mark_in s rs)) (λ s. state_sum s rs) x (states_of rs)
-    ∙ ap (λ b. cond b (Some (or_else plain (mark_in x rs))) None) (states_in x rs)
+    ap (mark_in x) (as_rows rs) ∙ mark_by_rows (λ s. some_or plain (mark_in s rs)) (λ s. state_sum s rs) x (states_of rs)
+    ∙ ap (λ b. cond b (Some (some_or plain (mark_in x rs))) None) (states_in x rs)
     ∙ by_test (list_any (bytes_eq x) (map (λ (r : Row). r.state) rs)) (λ e. rw e (sym (a_state_there x rs e))) (λ e. rw e (sym (no_state x rs e).1))
 
 -- each row has the mark of its state
@@ -241,17 +241,17 @@ abbrev pub Marks : (List ℕ → Mark) → List Row → Type 0
 Marks mark rs = AllOf (λ (r : Row). r.mark ≡ mark r.state) rs
 
 sum_over : (mark : List ℕ → Mark) (m : Mark) (rs : List Row) (ks : List (List ℕ)) → Distinct ks → AllOf (λ (r : Row). list_any (bytes_eq r.state) ks ≡ true) rs → Marks mark rs
-    → over (λ s. cond (same_mark (mark s) m) (state_sum s rs) 0) ks ≡ marked_sum m rs
+    → over (λ s. cond (same_state_mark (mark s) m) (state_sum s rs) 0) ks ≡ marked_sum m rs
 sum_over mark m [] ks d a b =
-    over_none (λ s. cond (same_mark (mark s) m) (state_sum s []) 0) ks (λ s. by_test (same_mark (mark s) m) (λ e. rw e (state_none s)) (λ e. rw e refl)) ∙ sym (marked_none m)
+    over_none (λ s. cond (same_state_mark (mark s) m) (state_sum s []) 0) ks (λ s. by_test (same_state_mark (mark s) m) (λ e. rw e (state_none s)) (λ e. rw e refl)) ∙ sym (marked_none m)
 sum_over mark m (r ∷ rs) ks d a b =
-    over_same (λ s. cond (same_mark (mark s) m) (state_sum s (r ∷ rs)) 0) (λ s. cond (bytes_eq r.state s) (cond (same_mark (mark s) m) r.count 0) 0 + cond (same_mark (mark s) m) (state_sum s rs) 0) ks
+    over_same (λ s. cond (same_state_mark (mark s) m) (state_sum s (r ∷ rs)) 0) (λ s. cond (bytes_eq r.state s) (cond (same_state_mark (mark s) m) r.count 0) 0 + cond (same_state_mark (mark s) m) (state_sum s rs) 0) ks
     (λ s. let e : state_sum s (r ∷ rs) ≡ cond (bytes_eq r.state s) r.count 0 + state_sum s rs = state_both s (r ∷ []) rs ∙ ap (λ n. n + state_sum s rs) (state_one s r) in
-    ap (λ n. cond (same_mark (mark s) m) n 0) e ∙ by_tests (same_mark (mark s) m) (bytes_eq r.state s) r.count (state_sum s rs))
-    ∙ over_add (λ s. cond (bytes_eq r.state s) (cond (same_mark (mark s) m) r.count 0) 0) (λ s. cond (same_mark (mark s) m) (state_sum s rs) 0) ks
-    ∙ ap (λ n. n + over (λ s. cond (same_mark (mark s) m) (state_sum s rs) 0) ks)
-    (at_one (λ s. cond (same_mark (mark s) m) r.count 0) r.state ks d ∙ ap (λ c. cond c (cond (same_mark (mark r.state) m) r.count 0) 0) a.0 ∙ ap (λ x. cond (same_mark x m) r.count 0) (sym b.0))
-    ∙ ap (λ n. cond (same_mark r.mark m) r.count 0 + n) (sum_over mark m rs ks d a.1 b.1)
+    ap (λ n. cond (same_state_mark (mark s) m) n 0) e ∙ by_tests (same_state_mark (mark s) m) (bytes_eq r.state s) r.count (state_sum s rs))
+    ∙ over_add (λ s. cond (bytes_eq r.state s) (cond (same_state_mark (mark s) m) r.count 0) 0) (λ s. cond (same_state_mark (mark s) m) (state_sum s rs) 0) ks
+    ∙ ap (λ n. n + over (λ s. cond (same_state_mark (mark s) m) (state_sum s rs) 0) ks)
+    (at_one (λ s. cond (same_state_mark (mark s) m) r.count 0) r.state ks d ∙ ap (λ c. cond c (cond (same_state_mark (mark r.state) m) r.count 0) 0) a.0 ∙ ap (λ x. cond (same_state_mark x m) r.count 0) (sym b.0))
+    ∙ ap (λ n. cond (same_state_mark r.mark m) r.count 0 + n) (sum_over mark m rs ks d a.1 b.1)
     ∙ sym (marked_both m (r ∷ []) rs ∙ ap (λ n. n + marked_sum m rs) (marked_one m r))
   where
     by_tests : (p q : Bool) (a b : ℕ) → cond p (cond q a 0 + b) 0 ≡ cond q (cond p a 0) 0 + cond p b 0
@@ -279,15 +279,15 @@ mark_law mark (r ∷ rs) a x y e =
     (λ t. mark_law mark rs a.1 x y (rw t at f))
 
 marks_found : (mark : List ℕ → Mark) (all rs : List Row) → Marks mark rs → Marks mark all → AllOf (λ (r : Row). list_any (bytes_eq r.state) (map (λ (q : Row). q.state) all) ≡ true) rs
-    → AllOf (λ (r : Row). r.mark ≡ or_else plain (mark_in r.state all)) rs
+    → AllOf (λ (r : Row). r.mark ≡ some_or plain (mark_in r.state all)) rs
 marks_found mark all [] a b h = tt
 marks_found mark all (r ∷ rs) a b h =
-    (a.0 ∙ sym (mark_law mark all b r.state (or_else plain (mark_in r.state all)) (a_state_there r.state all h.0)), marks_found mark all rs a.1 b h.1)
+    (a.0 ∙ sym (mark_law mark all b r.state (some_or plain (mark_in r.state all)) (a_state_there r.state all h.0)), marks_found mark all rs a.1 b h.1)
 
 -- the printed rows have the same sum of each mark
 pub printed_marked : (mark : List ℕ → Mark) (m : Mark) (rs : List Row) → Marks mark rs → marked_sum m (printed_rows rs) ≡ marked_sum m rs
 printed_marked mark m rs a =
     let there : AllOf (λ (r : Row). list_any (bytes_eq r.state) (states_of rs) ≡ true) rs = in_states rs rs (λ x e. states_in x rs ∙ e) in
-    let found : AllOf (λ (r : Row). r.mark ≡ or_else plain (mark_in r.state rs)) rs = marks_found mark rs rs a a (all_of_same (λ (r : Row). list_any (bytes_eq r.state) (states_of rs) ≡ true) (λ (r : Row). list_any (bytes_eq r.state) (map (λ (q : Row). q.state) rs) ≡ true) (λ r e. sym (states_in r.state rs) ∙ e) rs there) in
-    ap (marked_sum m) (as_rows rs) ∙ marked_by (λ s. or_else plain (mark_in s rs)) (λ s. state_sum s rs) m (states_of rs)
-    ∙ sum_over (λ s. or_else plain (mark_in s rs)) m rs (states_of rs) (ascends_distinct (states_of rs) (states_ascend rs)) there found
+    let found : AllOf (λ (r : Row). r.mark ≡ some_or plain (mark_in r.state rs)) rs = marks_found mark rs rs a a (all_of_same (λ (r : Row). list_any (bytes_eq r.state) (states_of rs) ≡ true) (λ (r : Row). list_any (bytes_eq r.state) (map (λ (q : Row). q.state) rs) ≡ true) (λ r e. sym (states_in r.state rs) ∙ e) rs there) in
+    ap (marked_sum m) (as_rows rs) ∙ marked_by (λ s. some_or plain (mark_in s rs)) (λ s. state_sum s rs) m (states_of rs)
+    ∙ sum_over (λ s. some_or plain (mark_in s rs)) m rs (states_of rs) (ascends_distinct (states_of rs) (states_ascend rs)) there found

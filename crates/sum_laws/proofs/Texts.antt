@@ -12,7 +12,7 @@ use Rattle.list_laws.proofs.Elements.{list_all-weaker}
 use Rattle.list_laws.proofs.Cases.{by_test}
 use Rattle.text_laws.specs.Blanks.{is_blank, is_inked, before_blanks, kept_before, unblanked, trim_blanks}
 use Rattle.text_laws.specs.Words.{is_nil, words}
-use Rattle.text_laws.specs.Runs.{after_run}
+use Rattle.text_laws.specs.LeadingRuns.{after_run}
 use Rattle.log_sum.specs.Texts.{later_words, joined_words, ends_with, before_end}
 use Rattle.text_laws.proofs.PieceLaws.{split_both, split_whole}
 

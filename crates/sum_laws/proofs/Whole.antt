@@ -11,12 +11,12 @@ use Rattle.log_sum.specs.declared.errors.LogError.{LogError}
 use Rattle.log_sum.specs.declared.errors.LogKind.{LogKind}
 use Rattle.log_sum.specs.declared.errors.LogKind.TheVariants.{ConditionDiffers, KindDiffers}
 use Rattle.text_laws.specs.Words.{words}
-use Rattle.text_laws.specs.Runs.{run_of, after_run}
+use Rattle.text_laws.specs.LeadingRuns.{leading_run, after_run}
 use Rattle.text_laws.specs.Blanks.{before_blanks}
 use Rattle.log_sum.specs.Counts.{count_read}
-use Rattle.log_sum.specs.Facts.{Fact, Entry, a_kind, a_row, a_condition, a_hash, kinds, conditions, first_of, facts_of, fault_of, is_other, same_kind}
-use Rattle.log_sum.specs.Lines.{Said, passed_over, begins, counts, a_state, judged, conditioned, hashed, ends, histogram_line, line_said, row_line, place_after, kind_at, left_at, states_left, after_state, fact_said}
-use Rattle.log_sum.specs.Reading.{Seen, nothing_seen, ◌>>=◌, is_too_long, next_line, fact_put, fact_judged, at_next_line, said_put, said_to, text_judged, line_judged, lines_judged, lines_of, rest_of, last_judged, end_judged, file_judged, files_judged}
+use Rattle.log_sum.specs.Facts.{Fact, Entry, a_kind, a_row, a_condition, a_hash, kinds, conditions, first_of, facts_of, fact_fault, is_other, same_kind}
+use Rattle.log_sum.specs.LogLines.{Said, passed_over, begins, counts, a_state, judged, conditioned, hashed, ends, histogram_line, log_line_said, log_row, place_after, kind_at, left_at, states_left, after_state, fact_said}
+use Rattle.log_sum.specs.LogReading.{LogSeen, nothing_seen, ◌>>=◌, is_too_long, next_line, fact_put, fact_judged, at_next_line, said_put, said_to, text_judged, line_judged, lines_judged, whole_lines, unfinished, last_judged, end_judged, file_judged, files_judged}
 use Rattle.text_laws.specs.Lines.{without_return, but_last, last_of}
 use Rattle.sum_laws.proofs.Cases.{Kind, Verdict, Place, outside, histogram, in_rest, conditioned_at, is_outside}
 use Rattle.sum_laws.proofs.Texts.{no_feed, is_word, bytes_same}
@@ -40,12 +40,12 @@ abbrev pub IsPrintableEntry : Entry → Type 0
 IsPrintableEntry e = (is_word e.test ≡ true) × IsPrintable e.fact
 
 -- a test is whole, or it is the running one
-pub data WholeOrRunning (s : Seen) (name : List ℕ) : Type 0 where
+pub data WholeOrRunning (s : LogSeen) (name : List ℕ) : Type 0 where
   whole : (complete : Complete (facts_of name s.entries)) → WholeOrRunning s name
   running : (inside : is_outside s.place ≡ false) (same : name ≡ s.test) → WholeOrRunning s name
 
 -- the entries so far can be printed, and each test is whole or is the running one
-pub record Keeps (s : Seen) : Type 0 where
+pub record Keeps (s : LogSeen) : Type 0 where
   pub given : AllOf IsPrintableEntry s.entries
   pub named : is_outside s.place ≡ false → is_word s.test ≡ true
   pub kind : is_outside s.place ≡ false → first_of (kinds (facts_of s.test s.entries)) ≡ Some (kind_at s.place)
@@ -98,21 +98,21 @@ kind_after k zero = refl
 kind_after k (suc n) = kind_left k n
 
 not_after_left : (k : Kind) (n : ℕ) → is_after (states_left k n) ≡ false
-unfolding is_after line_said words row_line count_read run_of after_run before_blanks
+unfolding is_after log_line_said words log_row count_read leading_run after_run before_blanks
 not_after_left k zero = refl
 not_after_left k (suc n) = refl
 
 not_after_state : (k : Kind) (n : ℕ) → is_after (after_state k n) ≡ false
-unfolding is_after line_said words row_line count_read run_of after_run before_blanks
+unfolding is_after log_line_said words log_row count_read leading_run after_run before_blanks
 not_after_state k zero = refl
 not_after_state k (suc n) = not_after_left k n
 
 not_after_histogram : (k : Kind) → is_after (histogram k) ≡ false
-unfolding is_after place_after line_said words histogram_line
+unfolding is_after place_after log_line_said words histogram_line
 not_after_histogram k = refl
 
 not_after_rest : (k : Kind) → is_after (in_rest k) ≡ false
-unfolding is_after place_after line_said words
+unfolding is_after place_after log_line_said words
 not_after_rest k = refl
 
 inside_left : (k : Kind) (n : ℕ) → is_outside (states_left k n) ≡ false
@@ -127,7 +127,7 @@ not_both : {G : Type 0} (b : Bool) → b ≡ true → b ≡ false → G
 not_both b h k = let f : true ≡ false = sym h ∙ k in absurd (cc)
 
 -- a step that gives no fact, to a place that isn't after a condition
-moved : (s : Seen) (place : Place) (line : ℕ) → Keeps s → is_outside s.place ≡ false → kind_at place ≡ kind_at s.place → is_outside place ≡ false → is_after place ≡ false → Keeps (record s { place = place; line = line })
+moved : (s : LogSeen) (place : Place) (line : ℕ) → Keeps s → is_outside s.place ≡ false → kind_at place ≡ kind_at s.place → is_outside place ≡ false → is_after place ≡ false → Keeps (record s { place = place; line = line })
 moved s place line k o e i b = record {
   given = k.given;
   named = λ h. k.named o;
@@ -141,7 +141,7 @@ moved s place line k o e i b = record {
     by_represent name (running inside same) = running i same
 
 -- the end of a block
-ended : (s : Seen) (line : ℕ) → Keeps s → is_outside s.place ≡ false → is_after s.place ≡ true → Keeps (record s { place = outside; line = line })
+ended : (s : LogSeen) (line : ℕ) → Keeps s → is_outside s.place ≡ false → is_after s.place ≡ true → Keeps (record s { place = outside; line = line })
 ended s line k o b = record {
   given = k.given;
   named = λ h. not_both true refl h;
@@ -166,7 +166,7 @@ in_more entries e name h f =
     by_left false false f k = cc
 
 -- a step inside a block that gives a fact of it
-printable_more : (s : Seen) (place : Place) (line : ℕ) (fact : Fact) → Keeps s → is_outside s.place ≡ false → IsPrintable fact → kind_at place ≡ kind_at s.place → is_outside place ≡ false
+printable_more : (s : LogSeen) (place : Place) (line : ℕ) (fact : Fact) → Keeps s → is_outside s.place ≡ false → IsPrintable fact → kind_at place ≡ kind_at s.place → is_outside place ≡ false
     → (is_after place ≡ true → Complete (facts_of s.test (s.entries ++ entry s.test fact ∷ []))) → Keeps (record s { entries = s.entries ++ entry s.test fact ∷ []; place = place; line = line })
 printable_more s place line fact k o t e i c = record {
   given = all_of_both IsPrintableEntry s.entries (entry s.test fact ∷ []) k.given ((k.named o, t), tt);
@@ -183,8 +183,8 @@ printable_more s place line fact k o t e i c = record {
     by_represent name (running inside same) = running i same
 
 -- a block begins
-kind_begun : (facts : List Fact) (k : Kind) → fault_of facts (a_kind k) ≡ None → first_of (kinds (facts ++ a_kind k ∷ [])) ≡ Some k
-unfolding fault_of
+kind_begun : (facts : List Fact) (k : Kind) → fact_fault facts (a_kind k) ≡ None → first_of (kinds (facts ++ a_kind k ∷ [])) ≡ Some k
+unfolding fact_fault
 kind_begun facts k h =
     ap first_of (kinds_both facts (a_kind k ∷ [])) ∙ first_both (kinds facts) (k ∷ [])
     ∙ by_first (first_of (kinds facts)) (none_if (is_other same_kind (first_of (kinds facts)) k) KindDiffers h)
@@ -193,7 +193,7 @@ kind_begun facts k h =
     by_first None e = refl
     by_first (Some known) e = ap Some (kind_is known k (not-false (same_kind known k) e))
 
-begun : (s : Seen) (name : List ℕ) (k : Kind) (line : ℕ) → Keeps s → is_outside s.place ≡ true → is_word name ≡ true → fault_of (facts_of name s.entries) (a_kind k) ≡ None
+begun : (s : LogSeen) (name : List ℕ) (k : Kind) (line : ℕ) → Keeps s → is_outside s.place ≡ true → is_word name ≡ true → fact_fault (facts_of name s.entries) (a_kind k) ≡ None
     → Keeps (record { entries = s.entries ++ entry name (a_kind k) ∷ []; test = name; place = histogram k; line = line })
 unfolding place_after
 begun s name k line keeps o w f = record {
@@ -211,8 +211,8 @@ begun s name k line keeps o w f = record {
     by_represent other (running inside same) = not_both (is_outside s.place) o inside
 
 -- a condition makes a test whole
-condition_printable : (facts : List Fact) (k : Kind) (text : List ℕ) (verdict : Verdict) → first_of (kinds facts) ≡ Some k → IsCondition k text → fault_of facts (a_condition text verdict) ≡ None → Complete (facts ++ a_condition text verdict ∷ [])
-unfolding fault_of
+condition_printable : (facts : List Fact) (k : Kind) (text : List ℕ) (verdict : Verdict) → first_of (kinds facts) ≡ Some k → IsCondition k text → fact_fault facts (a_condition text verdict) ≡ None → Complete (facts ++ a_condition text verdict ∷ [])
+unfolding fact_fault
 condition_printable facts k text verdict e i h =
     by_first (first_of (conditions facts)) refl (none_if (is_other bytes_eq (option_map (λ (c : List ℕ × Verdict). c.0) (first_of (conditions facts))) text) ConditionDiffers h)
   where
@@ -235,14 +235,14 @@ condition_printable facts k text verdict e i h =
     }
 
 -- what a line says keeps it
-fact_or_fault : (s t : Seen) (fact : Fact) → (fact_put s (Some fact) >>= at_next_line) ≡ Ok t → (fault_of (facts_of s.test s.entries) fact ≡ None) × (record s { entries = s.entries ++ entry s.test fact ∷ []; line = next_line s.line } ≡ t)
-fact_or_fault s t fact e = by_fault (fault_of (facts_of s.test s.entries) fact) refl e
+fact_or_fault : (s t : LogSeen) (fact : Fact) → (fact_put s (Some fact) >>= at_next_line) ≡ Ok t → (fact_fault (facts_of s.test s.entries) fact ≡ None) × (record s { entries = s.entries ++ entry s.test fact ∷ []; line = next_line s.line } ≡ t)
+fact_or_fault s t fact e = by_fault (fact_fault (facts_of s.test s.entries) fact) refl e
   where
-    by_fault : (f : Option LogKind) → fault_of (facts_of s.test s.entries) fact ≡ f → (fact_judged s fact f >>= at_next_line) ≡ Ok t → (fault_of (facts_of s.test s.entries) fact ≡ None) × (record s { entries = s.entries ++ entry s.test fact ∷ []; line = next_line s.line } ≡ t)
+    by_fault : (f : Option LogKind) → fact_fault (facts_of s.test s.entries) fact ≡ f → (fact_judged s fact f >>= at_next_line) ≡ Ok t → (fact_fault (facts_of s.test s.entries) fact ≡ None) × (record s { entries = s.entries ++ entry s.test fact ∷ []; line = next_line s.line } ≡ t)
     by_fault (Some kind) h k = absurd (cc)
     by_fault None h k = let same : record s { entries = s.entries ++ entry s.test fact ∷ []; line = next_line s.line } ≡ t = cc in (h, same)
 
-said_keeps : (s t : Seen) (said : Said) → Keeps s → SaidOf s.place said → (said_to s said >>= at_next_line) ≡ Ok t → Keeps t
+said_keeps : (s t : LogSeen) (said : Said) → Keeps s → SaidOf s.place said → (said_to s said >>= at_next_line) ≡ Ok t → Keeps t
 unfolding fact_said place_after
 said_keeps s t passed_over k a e =
     let same : record s { line = next_line s.line } ≡ t = cc in
@@ -275,11 +275,11 @@ said_keeps s t ends k a e =
     let same : record s { place = outside; line = next_line s.line } ≡ t = cc in
     subst Keeps same (ended s (next_line s.line) k a.0 a.1)
 
-text_keeps : (s t : Seen) (text : List ℕ) → list_all no_feed text ≡ true → Keeps s → text_judged s text ≡ Ok t → Keeps t
+text_keeps : (s t : LogSeen) (text : List ℕ) → list_all no_feed text ≡ true → Keeps s → text_judged s text ≡ Ok t → Keeps t
 unfolding text_judged
-text_keeps s t text h k e = by_said (line_said s.place text) refl e
+text_keeps s t text h k e = by_said (log_line_said s.place text) refl e
   where
-    by_said : (r : Result Said LogKind) → line_said s.place text ≡ r → said_put s r ≡ Ok t → Keeps t
+    by_said : (r : Result Said LogKind) → log_line_said s.place text ≡ r → said_put s r ≡ Ok t → Keeps t
     by_said (Err kind) f g = absurd (cc)
     by_said (Ok said) f g = said_keeps s t said k (line_says s.place text said h f) g
 
@@ -291,24 +291,24 @@ no_return (b ∷ c ∷ line) h =
     let k = and_parts (no_feed b) (list_all no_feed (c ∷ line)) h in
     and_from (no_feed b) (list_all no_feed (without_return (c ∷ line))) k.0 (no_return (c ∷ line) k.1)
 
-line_keeps : (s t : Seen) (line : List ℕ) → list_all no_feed line ≡ true → Keeps s → line_judged s line ≡ Ok t → Keeps t
+line_keeps : (s t : LogSeen) (line : List ℕ) → list_all no_feed line ≡ true → Keeps s → line_judged s line ≡ Ok t → Keeps t
 unfolding line_judged
 line_keeps s t line h k e =
     by_test (is_too_long line)
     (λ f. let g = rw f at e in absurd (cc))
     (λ f. text_keeps s t (without_return line) (no_return line h) k (rw f at e))
 
-lines_keep : (lines : List (List ℕ)) (s t : Seen) → list_all (list_all no_feed) lines ≡ true → Keeps s → lines_judged s lines ≡ Ok t → Keeps t
+lines_keep : (lines : List (List ℕ)) (s t : LogSeen) → list_all (list_all no_feed) lines ≡ true → Keeps s → lines_judged s lines ≡ Ok t → Keeps t
 lines_keep [] s t h k e = let same : s ≡ t = cc in subst Keeps same k
 lines_keep (line ∷ lines) s t h k e =
     let p = and_parts (list_all no_feed line) (list_all (list_all no_feed) lines) h in
     by_first (λ next i f. lines_keep lines next t p.1 i f) p.0 (line_judged s line) refl e
   where
-    by_first : ((next : Seen) → Keeps next → lines_judged next lines ≡ Ok t → Keeps t) → list_all no_feed line ≡ true → (r : Result Seen LogError) → line_judged s line ≡ r → (r >>= (λ next. lines_judged next lines)) ≡ Ok t → Keeps t
+    by_first : ((next : LogSeen) → Keeps next → lines_judged next lines ≡ Ok t → Keeps t) → list_all no_feed line ≡ true → (r : Result LogSeen LogError) → line_judged s line ≡ r → (r >>= (λ next. lines_judged next lines)) ≡ Ok t → Keeps t
     by_first law n (Err error) f g = absurd (cc)
     by_first law n (Ok next) f g = law next (line_keeps s next line n k f) g
 
-last_keeps : (bytes : List ℕ) (s t : Seen) → list_all no_feed bytes ≡ true → Keeps s → last_judged s bytes ≡ Ok t → Keeps t
+last_keeps : (bytes : List ℕ) (s t : LogSeen) → list_all no_feed bytes ≡ true → Keeps s → last_judged s bytes ≡ Ok t → Keeps t
 unfolding last_judged
 last_keeps [] s t h k e = let same : s ≡ t = cc in subst Keeps same k
 last_keeps (b ∷ bytes) s t h k e =
@@ -316,7 +316,7 @@ last_keeps (b ∷ bytes) s t h k e =
     (λ f. let g = rw f at e in absurd (cc))
     (λ f. text_keeps s t (b ∷ bytes) h k (rw f at e))
 
-end_keeps : (s t : Seen) → Keeps s → end_judged s ≡ Ok t → Keeps t
+end_keeps : (s t : LogSeen) → Keeps s → end_judged s ≡ Ok t → Keeps t
 end_keeps s t k e =
     let i = end_is s t e in
     subst Keeps (sym i.is) (record {
@@ -344,25 +344,25 @@ last_line [] h = refl
 last_line (line ∷ []) h = (and_parts (list_all no_feed line) true h).0
 last_line (line ∷ next ∷ lines) h = last_line (next ∷ lines) (and_parts (list_all no_feed line) (list_all (list_all no_feed) (next ∷ lines)) h).1
 
-file_keeps : (bytes : List ℕ) (s t : Seen) → Keeps s → file_judged s bytes ≡ Ok t → Keeps t
-unfolding file_judged lines_of rest_of
-file_keeps bytes s t k e = by_lines (lines_judged s (lines_of bytes)) refl e
+file_keeps : (bytes : List ℕ) (s t : LogSeen) → Keeps s → file_judged s bytes ≡ Ok t → Keeps t
+unfolding file_judged whole_lines unfinished
+file_keeps bytes s t k e = by_lines (lines_judged s (whole_lines bytes)) refl e
   where
-    by_last : (r : Result Seen LogError) → ((u : Seen) → r ≡ Ok u → Keeps u) → (r >>= end_judged) ≡ Ok t → Keeps t
+    by_last : (r : Result LogSeen LogError) → ((u : LogSeen) → r ≡ Ok u → Keeps u) → (r >>= end_judged) ≡ Ok t → Keeps t
     by_last (Err error) law g = absurd (cc)
     by_last (Ok u) law g = end_keeps u t (law u refl) g
 
-    by_lines : (r : Result Seen LogError) → lines_judged s (lines_of bytes) ≡ r → ((r >>= (λ next. last_judged next (rest_of bytes))) >>= end_judged) ≡ Ok t → Keeps t
+    by_lines : (r : Result LogSeen LogError) → lines_judged s (whole_lines bytes) ≡ r → ((r >>= (λ next. last_judged next (unfinished bytes))) >>= end_judged) ≡ Ok t → Keeps t
     by_lines (Err error) f g = absurd (cc)
     by_lines (Ok u) f g =
-        let i : Keeps u = lines_keep (lines_of bytes) s u (but_last_lines (slice_split (λ byte. byte == 10) bytes) (split_lacks 10 bytes)) k f in
-        by_last (last_judged u (rest_of bytes)) (λ v h. last_keeps (rest_of bytes) u v (last_line (slice_split (λ byte. byte == 10) bytes) (split_lacks 10 bytes)) i h) g
+        let i : Keeps u = lines_keep (whole_lines bytes) s u (but_last_lines (slice_split (λ byte. byte == 10) bytes) (split_lacks 10 bytes)) k f in
+        by_last (last_judged u (unfinished bytes)) (λ v h. last_keeps (unfinished bytes) u v (last_line (slice_split (λ byte. byte == 10) bytes) (split_lacks 10 bytes)) i h) g
 
 -- whole files without a fault keep that so
-pub files_keep : (files : List (List ℕ)) (s t : Seen) → Keeps s → files_judged s files ≡ Ok t → Keeps t
+pub files_keep : (files : List (List ℕ)) (s t : LogSeen) → Keeps s → files_judged s files ≡ Ok t → Keeps t
 files_keep [] s t k e = let same : s ≡ t = cc in subst Keeps same k
 files_keep (file ∷ files) s t k e = by_first (λ next i f. files_keep files next t i f) (file_judged s file) refl e
   where
-    by_first : ((next : Seen) → Keeps next → files_judged next files ≡ Ok t → Keeps t) → (r : Result Seen LogError) → file_judged s file ≡ r → (r >>= (λ next. files_judged next files)) ≡ Ok t → Keeps t
+    by_first : ((next : LogSeen) → Keeps next → files_judged next files ≡ Ok t → Keeps t) → (r : Result LogSeen LogError) → file_judged s file ≡ r → (r >>= (λ next. files_judged next files)) ≡ Ok t → Keeps t
     by_first law (Err error) f g = absurd (cc)
     by_first law (Ok next) f g = law next (file_keeps file s next k f) g

@@ -4,7 +4,7 @@ use Rattle.std.specs.Prelude.{◌≡◌, ℕ, ◌≤◌, true, not, List, [], �
 use Rattle.std.specs.List.{list_all}
 use Rattle.log_sum.specs.Counts.{last_count}
 use Rattle.log_sum.specs.Facts.{Entry, facts_of}
-use Rattle.log_sum.specs.Reading.{Seen, nothing_seen, is_too_long, lines_of, files_judged}
+use Rattle.log_sum.specs.LogReading.{LogSeen, nothing_seen, is_too_long, whole_lines, files_judged}
 use Rattle.text_laws.specs.Lines.{without_return}
 use Rattle.log_sum.specs.Summed.{summed}
 use Rattle.log_sum.specs.SumText.{sum_text}
@@ -12,8 +12,8 @@ use Rattle.log_sum.specs.Representing.{logs_text}
 
 -- a printed sum keeps the limits of a log: none of its lines is too long, the number of the states of each test isn't above the
 -- greatest count, and no hash ends with a carriage return, which would be taken for a part of the line's end
-pub record KeepsLimits (entries : List Entry) : Type 0 where
-  pub lines : list_all (λ line. not (is_too_long line)) (lines_of (sum_text entries)) ≡ true
+pub record KeepsSumLimits (entries : List Entry) : Type 0 where
+  pub lines : list_all (λ line. not (is_too_long line)) (whole_lines (sum_text entries)) ≡ true
   pub states : (test : List ℕ) → length (summed (facts_of test entries)).states ≤ last_count
   pub hashes : (test hash : List ℕ) → (summed (facts_of test entries)).hash ≡ Some hash → without_return hash ≡ hash
 
@@ -24,10 +24,10 @@ pub record NoFault (logs : List (List ℕ)) : Type 0 where
 
 -- a text is the printed sum of logs without a fault, and keeps the limits
 pub record IsSum (logs : List (List ℕ)) (text : List ℕ) : Type 0 where
-  pub seen : Seen
+  pub seen : LogSeen
   pub judged : files_judged nothing_seen logs ≡ Ok seen
   pub printed : text ≡ sum_text seen.entries
-  pub limits : KeepsLimits seen.entries
+  pub limits : KeepsSumLimits seen.entries
 
 -- files represent logs, in their order: each file is a log, or the printed sum of files that represent logs
 pub data Represent : List (List ℕ) → List (List ℕ) → Type 0 where

@@ -8,8 +8,8 @@ use Rattle.summed_files.specs.declared.feeding.Feeding.{Feeding}
 use Rattle.summed_files.specs.declared.feeding.LogFault.{LogFault}
 use Rattle.summed_files.specs.declared.feeding.LogFault.TheVariants.{Wrong, TooMuch, NoMemory}
 use Rattle.summed_files.specs.declared.sum_end.SumEnd.TheVariants as ends
-use Rattle.summed_files.specs.Faults.{end_at}
-use Rattle.summed_files.specs.Feeding.{IsFaulty, LogSummed, LogFaulty, LogFailed}
+use Rattle.summed_files.specs.FileFaults.{sum_end_at}
+use Rattle.summed_files.specs.FileFeeding.{IsFaulty, LogSummed, LogFaulty, LogFailed}
 use Rattle.summed_files.specs.SumEnds.{InputSaid, InputStopped, InputSummed}
 
 -- this was done with the sum of an input
@@ -27,7 +27,7 @@ input_stopped old new fault f = record { log = f.0.log; text = f.0.text; bytes =
 
 -- an input with a fault
 pub input_faulty : (old new : SourceSeen) (a : SinkSeen) (fault : LogFault) → LogFaulty old new [] fault × (new.faults ≡ old.faults)
-    → InputSummed old new a a (end_at None fault)
+    → InputSummed old new a a (sum_end_at None fault)
 input_faulty old new a (Wrong error) f = (input_stopped old new (Wrong error) f, refl)
 input_faulty old new a (TooMuch line) f = (input_stopped old new (TooMuch line) f, refl)
 input_faulty old new a NoMemory f = refl

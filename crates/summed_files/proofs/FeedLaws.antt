@@ -41,16 +41,16 @@ feeds_found text rest k found e =
 pub counted_on : (text rest next : List ℕ) (count k : ℕ) → IsFirstByte (is_byte 10) rest (Some k) → next ≡ take (length rest - (k + 1)) (drop (k + 1) rest)
     → count + line_feed_count rest ≡ line_feed_count text → (count + 1) + line_feed_count next ≡ line_feed_count text
 counted_on text rest next count k found e so_far =
-    let behind : next ≡ drop (k + 1) rest = e ∙ take_all (length rest - (k + 1)) (drop (k + 1) rest) (omega (arith, length-drop (k + 1) rest)) in
-    add_assoc count 1 (line_feed_count next) ∙ ap (λ n. count + n) (sym (feeds_found rest next k found behind)) ∙ so_far
+    let remainder : next ≡ drop (k + 1) rest = e ∙ take_all (length rest - (k + 1)) (drop (k + 1) rest) (omega (arith, length-drop (k + 1) rest)) in
+    add_assoc count 1 (line_feed_count next) ∙ ap (λ n. count + n) (sym (feeds_found rest next k found remainder)) ∙ so_far
 
 -- the count and the bytes that are left are at most the bytes of the text, also after the next line feed
 pub few_on : (text rest next : List ℕ) (count k : ℕ) → IsFirstByte (is_byte 10) rest (Some k) → next ≡ take (length rest - (k + 1)) (drop (k + 1) rest)
     → count + length rest ≤ length text → (count + 1) + length next ≤ length text
 few_on text rest next count k found e few =
-    let behind : next ≡ drop (k + 1) rest = e ∙ take_all (length rest - (k + 1)) (drop (k + 1) rest) (omega (arith, length-drop (k + 1) rest)) in
+    let remainder : next ≡ drop (k + 1) rest = e ∙ take_all (length rest - (k + 1)) (drop (k + 1) rest) (omega (arith, length-drop (k + 1) rest)) in
     let inside : k < length rest = found.0.high in
-    omega (arith, ap length behind, length-drop (k + 1) rest)
+    omega (arith, ap length remainder, length-drop (k + 1) rest)
 
 -- the count is whole where no other is found
 pub counted_all : (text rest : List ℕ) (count : ℕ) → IsFirstByte (is_byte 10) rest None → count + line_feed_count rest ≡ line_feed_count text → count ≡ line_feed_count text

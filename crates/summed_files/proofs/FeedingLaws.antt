@@ -14,9 +14,9 @@ use Rattle.log_sum.specs.Representing.{Kept, Represents, FedTo, EndedTo}
 use Rattle.log_sum.proofs.RepresentingLaws.{end_fault_stays}
 use Rattle.summed_files.specs.declared.feeding.Feeding.{Feeding}
 use Rattle.summed_files.specs.declared.feeding.LogFault.{LogFault}
-use Rattle.summed_files.specs.Faults.{fault_of}
+use Rattle.summed_files.specs.FileFaults.{sum_fault}
 use Rattle.summed_files.specs.Logs.{IsText, IsShort, max_piece, ShowsNone, PrefixFull, TookCount}
-use Rattle.summed_files.specs.Feeding.{Reads, IsFault, IsEndFault, ReadSoFar, ReadWhole, ReadPart, LogFailed}
+use Rattle.summed_files.specs.FileFeeding.{ReadsLogs, IsFaultOfLogs, IsEndFault, ReadSoFar, ReadWhole, ReadPart, LogFailed}
 
 parts_of : (bytes piece : List ℕ) (n : ℕ) → bytes ++ piece ≡ (bytes ++ take n piece) ++ drop n piece
 parts_of bytes piece n = ap (λ p. bytes ++ p) (sym (take-append-drop n piece)) ∙ sym (append_assoc bytes (take n piece) (drop n piece))
@@ -24,7 +24,7 @@ parts_of bytes piece n = ap (λ p. bytes ++ p) (sym (take-append-drop n piece)) 
 -- a piece that is refused
 pub piece_refused : (kept : Kept) (logs : List (List ℕ)) (bytes piece : List ℕ) (n : ℕ) (error : SumError)
     → length bytes + n ≤ 2 ^ 40 → n ≤ length piece
-    → FedTo kept logs (bytes ++ take n piece) (Err error) → IsFault logs (bytes ++ piece) (fault_of error)
+    → FedTo kept logs (bytes ++ take n piece) (Err error) → IsFaultOfLogs logs (bytes ++ piece) (sum_fault error)
 piece_refused kept logs bytes piece n (sums.Log error) short fits fed = record {
   prefix = bytes ++ take n piece;
   rest = drop n piece;
@@ -54,12 +54,12 @@ pub line_feeds_on : (xs ys : List ℕ) (m n : ℕ) → m ≡ line_feed_count xs 
 line_feeds_on xs ys m n a b = rw (a, b) (sym (sum_by-append (λ byte. cond (byte == 10) 1 0) xs ys))
 
 -- a log that is refused at its end
-pub log_refused : (kept : Kept) (logs : List (List ℕ)) (log : List ℕ) (error : SumError) → EndedTo kept logs log (Err error) → IsEndFault logs log (fault_of error)
+pub log_refused : (kept : Kept) (logs : List (List ℕ)) (log : List ℕ) (error : SumError) → EndedTo kept logs log (Err error) → IsEndFault logs log (sum_fault error)
 log_refused kept logs log (sums.Log error) ended = λ more. end_fault_stays logs more log error ended.0
 log_refused kept logs log sums.NoMemory ended = tt
 
 -- nothing has been read
-pub reads_nothing : (old : SourceSeen) (feeding : Feeding) (logs : List (List ℕ)) → Reads feeding logs [] → ReadSoFar old old feeding logs
+pub reads_nothing : (old : SourceSeen) (feeding : Feeding) (logs : List (List ℕ)) → ReadsLogs feeding logs [] → ReadSoFar old old feeding logs
 reads_nothing old feeding logs reads = record {
   bytes = [];
   consumed = Consumes-nil old.left;
@@ -81,7 +81,7 @@ took_both old mid new a piece p q = let e : new.taken ≡ count_of (mid.taken + 
 
 -- more was read and fed
 pub reads_more : (old mid new : SourceSeen) (feeding after : Feeding) (logs : List (List ℕ)) (piece : List ℕ) (r : ReadSoFar old mid feeding logs)
-    → Took mid new piece → new.faults ≡ mid.faults → Reads after logs (r.bytes ++ piece) → ReadSoFar old new after logs
+    → Took mid new piece → new.faults ≡ mid.faults → ReadsLogs after logs (r.bytes ++ piece) → ReadSoFar old new after logs
 reads_more old mid new feeding after logs piece r took same reads = record {
   bytes = r.bytes ++ piece;
   consumed = Consumes-trans old.left mid.left new.left r.bytes piece r.consumed took.consumed;
@@ -121,16 +121,16 @@ prefix_of (Some xs) None bytes h = absurd h
 prefix_of (Some xs) (Some ys) bytes h = record { log = xs; rest = ys; text = refl; parts = h }
 
 -- bytes that were fed show no fault, and are at most 2^40
-reads_none : (feeding : Feeding) (logs : List (List ℕ)) (bytes : List ℕ) → Reads feeding logs bytes → ShowsNone logs bytes
+reads_none : (feeding : Feeding) (logs : List (List ℕ)) (bytes : List ℕ) → ReadsLogs feeding logs bytes → ShowsNone logs bytes
 reads_none feeding logs bytes reads = record { seen = reads.represents.seen; is = reads.represents.judged }
 
-reads_short : (feeding : Feeding) (logs : List (List ℕ)) (bytes : List ℕ) → Reads feeding logs bytes → feeding.read ≤ 2 ^ 40 → IsShort bytes
+reads_short : (feeding : Feeding) (logs : List (List ℕ)) (bytes : List ℕ) → ReadsLogs feeding logs bytes → feeding.read ≤ 2 ^ 40 → IsShort bytes
 reads_short feeding logs bytes reads short = let read : feeding.read ≡ length bytes = reads.read in omega arith
 
 -- no more is fed
 pub reads_part : (old mid new : SourceSeen) (feeding : Feeding) (logs : List (List ℕ)) (piece : List ℕ) (fault : LogFault) (r : ReadSoFar old mid feeding logs)
     → feeding.read ≤ 2 ^ 40 → length piece ≤ max_piece
-    → Took mid new piece → new.faults ≡ mid.faults → IsFault logs (r.bytes ++ piece) fault → ReadPart old new logs fault
+    → Took mid new piece → new.faults ≡ mid.faults → IsFaultOfLogs logs (r.bytes ++ piece) fault → ReadPart old new logs fault
 reads_part old mid new feeding logs piece fault r short one took same is =
     let prefix = prefix_of old.left new.left (r.bytes ++ piece) (Consumes-trans old.left mid.left new.left r.bytes piece r.consumed took.consumed) in
     record {

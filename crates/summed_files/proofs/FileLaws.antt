@@ -3,8 +3,8 @@ use Rattle.std.proofs.Common.{◌≡◌, ◌≤◌, ◌<◌, ℕ, List, [], leng
 use Rattle.diy_io.specs.Shelf.{ShelfSeen, IsReading, Gave}
 use Rattle.diy_io.specs.Taken.{SourceSeen, Took}
 use Rattle.summed_files.specs.declared.feeding.Feeding.{Feeding}
-use Rattle.summed_files.specs.Files.{log_seen}
-use Rattle.summed_files.specs.Feeding.{ReadSoFar, ReadWhole}
+use Rattle.summed_files.specs.LogFiles.{log_seen}
+use Rattle.summed_files.specs.FileFeeding.{ReadSoFar, ReadWhole}
 use Rattle.summed_files.proofs.FeedingLaws.{reads_whole}
 
 -- the bytes that a shelf gave were taken

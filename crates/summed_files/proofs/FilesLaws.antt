@@ -14,12 +14,12 @@ use Rattle.summed_files.specs.declared.feeding.ReadFault.TheVariants.{Log, Devic
 use Rattle.summed_files.specs.declared.files.FileFault.{FileFault}
 use Rattle.summed_files.specs.declared.files.FileFault.TheVariants.{Missing, Read}
 use Rattle.summed_files.specs.Logs.{IsShort}
-use Rattle.summed_files.specs.Feeding.{Reads, IsFaulty, LogSummed, ClosedTo}
+use Rattle.summed_files.specs.FileFeeding.{ReadsLogs, IsFaulty, LogSummed, ClosedTo}
 use Rattle.file_laws.specs.Opened.{IsFile}
 use Rattle.file_laws.proofs.NameLaws.{absent_before, file_before}
 use Rattle.file_laws.proofs.OpenedLaws.{opened_text, opened_took, took_nothing, took_one_more, took_no_more}
-use Rattle.summed_files.specs.SumEnds.{AreLogs, IsBegun, IsAtWord, FileStopped, FilesSaid, FilesSummed}
-use Rattle.summed_files.specs.Files.{log_seen, FileSummed, FileFaulty, FileTo, FilesSoFar, file_end}
+use Rattle.summed_files.specs.SumEnds.{AreLogs, IsBegun, IsAtWord, FileStopped, LogFilesSaid, FilesSummed}
+use Rattle.summed_files.specs.LogFiles.{log_seen, FileSummed, LogFileFaulty, LogFileTo, FilesSoFar, log_file_end}
 use Rattle.summed_files.proofs.LogLaws.{are_right}
 
 -- a file that was opened is summed
@@ -37,7 +37,7 @@ opened_summed old mid new feeding before name opened s same = record {
 -- a file that was opened isn't summed
 pub opened_refused : (old mid new : ShelfSeen) (feeding : Feeding) (before : List (List ℕ)) (name : List ℕ) (fault : ReadFault) → Opened old mid name
     → ClosedTo (log_seen mid) (log_seen new) feeding before (Err fault) → new.opened ≡ mid.opened
-    → FileTo old new feeding before name (Err (Read fault))
+    → LogFileTo old new feeding before name (Err (Read fault))
 opened_refused old mid new feeding before name (Log fault) opened s same = record {
   log = s.log;
   text = opened_text old mid name s.log opened s.text;
@@ -67,16 +67,16 @@ opened_refused old mid new feeding before name Device opened s same =
 
 -- a file that isn't there
 pub open_absent : (old new : ShelfSeen) (feeding : Feeding) (before : List (List ℕ)) (name : List ℕ) → NotThere old new name
-    → FileTo old new feeding before name (Err Missing)
+    → LogFileTo old new feeding before name (Err Missing)
 open_absent old new feeding before name there = record { absent = there.absent; took = took_nothing old new there.counts }
 
 -- a file at which the shelf failed
 pub open_failed : (old new : ShelfSeen) (feeding : Feeding) (before : List (List ℕ)) (name : List ℕ) → Stopped old new
-    → FileTo old new feeding before name (Err (Read Device))
+    → LogFileTo old new feeding before name (Err (Read Device))
 open_failed old new feeding before name stopped = record { fault = stopped.faulted.fault; took = inl (took_nothing old new stopped.counts) }
 
 -- before the first file
-pub none_so_far : (old : ShelfSeen) (feeding : Feeding) (words : List (List ℕ)) (first : ℕ) → Reads feeding [] [] → FilesSoFar old old feeding words first first
+pub none_so_far : (old : ShelfSeen) (feeding : Feeding) (words : List (List ℕ)) (first : ℕ) → ReadsLogs feeding [] [] → FilesSoFar old old feeding words first first
 none_so_far old feeding words first reads = record {
   logs = [];
   count = omega arith;
@@ -134,7 +134,7 @@ begun_same old mid before name bytes files b = subst (λ o. IsBegun o before nam
 -- the files end at a fault of a log
 files_stopped : (old mid new : ShelfSeen) (feeding : Feeding) (words : List (List ℕ)) (first place : ℕ) (name : List ℕ) (fault : LogFault)
     → (s : FilesSoFar old mid feeding words first place) → mid.files ≡ old.files → slice_get words place ≡ Some name
-    → FileFaulty mid new s.logs name fault → FileStopped old new words first place (λ before log bytes. IsFaulty before log bytes fault)
+    → LogFileFaulty mid new s.logs name fault → FileStopped old new words first place (λ before log bytes. IsFaulty before log bytes fault)
 files_stopped old mid new feeding words first place name fault s files word f = record {
   before = s.logs;
   name = name;
@@ -149,7 +149,7 @@ files_stopped old mid new feeding words first place name fault s files word f = 
 -- a file isn't summed
 pub files_refused : (old mid new : ShelfSeen) (a : SinkSeen) (feeding after : Feeding) (words : List (List ℕ)) (first place : ℕ) (name : List ℕ) (fault : FileFault)
     → (s : FilesSoFar old mid feeding words first place) → mid.files ≡ old.files → slice_get words place ≡ Some name
-    → FileTo mid new after s.logs name (Err fault) → FilesSummed old new words first a a (file_end place fault)
+    → LogFileTo mid new after s.logs name (Err fault) → FilesSummed old new words first a a (log_file_end place fault)
 files_refused old mid new a feeding after words first place name Missing s files word f = (
   record {
     before = s.logs;
@@ -184,7 +184,7 @@ files_refused old mid new a feeding after words first place name (Read (Log NoMe
 
 -- this was done with the sum of the files
 pub files_said : (old new : ShelfSeen) (done : List ℕ → Type 0) (feeding : Feeding) (words : List (List ℕ)) (first place : ℕ)
-    → (s : FilesSoFar old new feeding words first place) → place ≡ length words → (sum : List ℕ) → logs_text s.logs ≡ Ok sum → done sum → FilesSaid old new words first done
+    → (s : FilesSoFar old new feeding words first place) → place ≡ length words → (sum : List ℕ) → logs_text s.logs ≡ Ok sum → done sum → LogFilesSaid old new words first done
 files_said old new done feeding words first place s all sum is wrote = record {
   sum = sum;
   read = record { logs = s.logs; all = sym s.count ∙ all; are = s.are; no_fault = s.no_fault; took = s.took; is = is };

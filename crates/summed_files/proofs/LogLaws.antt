@@ -7,7 +7,7 @@ use Rattle.diy_io.specs.Shelf.{ShelfSeen, Mode, Idle, Stopped, Finished, left_to
 use Rattle.diy_io.specs.Taken.{SourceSeen}
 use Rattle.diy_io.specs.declared.errors.Failed.{Failed}
 use Rattle.log_sum.specs.declared.errors.LogError.{LogError}
-use Rattle.log_sum.specs.Reading.{Seen, input_judged}
+use Rattle.log_sum.specs.LogReading.{LogSeen, input_judged}
 use Rattle.log_sum.specs.Representing.{logs_text}
 use Rattle.log_sum.proofs.RepresentingLaws.{represented_text, fault_stays}
 use Rattle.summed_files.specs.declared.feeding.Feeding.{Feeding}
@@ -15,18 +15,18 @@ use Rattle.summed_files.specs.declared.feeding.LogFault.{LogFault}
 use Rattle.summed_files.specs.declared.feeding.LogFault.TheVariants.{Wrong, TooMuch, NoMemory}
 use Rattle.summed_files.specs.declared.feeding.ReadFault.{ReadFault}
 use Rattle.summed_files.specs.declared.feeding.ReadFault.TheVariants.{Log, Device}
-use Rattle.summed_files.specs.Logs.{IsShort, AreRight, ShowsNone, PrefixWrong, UpToFault, IsWrong}
-use Rattle.summed_files.specs.Feeding.{Reads, IsFault, IsEndFault, ReadWhole, ReadPart, LogFailed, ReadTo, LogSummed, LogFaulty, IsFaulty, SummedTo}
+use Rattle.summed_files.specs.Logs.{IsShort, AreWholeLogs, ShowsNone, PrefixWrong, UpToFault, IsWrongLog}
+use Rattle.summed_files.specs.FileFeeding.{ReadsLogs, IsFaultOfLogs, IsEndFault, ReadWhole, ReadPart, LogFailed, ReadTo, LogSummed, LogFaulty, IsFaulty, SummedTo}
 
 -- logs that were fed without a fault
-pub are_right : (feeding : Feeding) (logs : List (List ℕ)) → Reads feeding logs [] → AreRight logs
+pub are_right : (feeding : Feeding) (logs : List (List ℕ)) → ReadsLogs feeding logs [] → AreWholeLogs logs
 are_right feeding logs reads = record { text = _; is = represented_text feeding.summer logs reads.represents }
 
 -- logs without a fault show none
-pub right_shows_none : (before : List (List ℕ)) (log : List ℕ) → AreRight (before ++ log ∷ []) → ShowsNone before log
+pub right_shows_none : (before : List (List ℕ)) (log : List ℕ) → AreWholeLogs (before ++ log ∷ []) → ShowsNone before log
 right_shows_none before log right = by_judged (input_judged before log) refl
   where
-    by_judged : (r : Result Seen LogError) → input_judged before log ≡ r → ShowsNone before log
+    by_judged : (r : Result LogSeen LogError) → input_judged before log ≡ r → ShowsNone before log
     by_judged (Ok seen) e = record { seen = seen; is = e }
     by_judged (Err error) e =
         let whole : logs_text (before ++ (log ++ []) ∷ []) ≡ logs_text (before ++ log ∷ []) = ap (λ l. logs_text (before ++ l ∷ [])) (append-nil log) in
@@ -34,8 +34,8 @@ right_shows_none before log right = by_judged (input_judged before log) refl
         absurd (cc)
 
 -- a fault that the bytes taken of a log show
-prefix_wrong : (before : List (List ℕ)) (log bytes : List ℕ) (error : LogError) → AreRight before → UpToFault before log bytes
-    → PrefixWrong before bytes error → IsWrong before log bytes error
+prefix_wrong : (before : List (List ℕ)) (log bytes : List ℕ) (error : LogError) → AreWholeLogs before → UpToFault before log bytes
+    → PrefixWrong before bytes error → IsWrongLog before log bytes error
 prefix_wrong before log bytes error right u w =
     let whole : log ≡ w.prefix ++ (w.rest ++ u.rest) = u.parts ∙ ap (λ b. b ++ u.rest) w.parts ∙ append_assoc w.prefix w.rest u.rest in
     record {
@@ -45,14 +45,14 @@ prefix_wrong before log bytes error right u w =
       shown = inr w;
     }
 
-faulty : (before : List (List ℕ)) (log bytes : List ℕ) (fault : LogFault) → AreRight before → UpToFault before log bytes
-    → IsFault before bytes fault → IsFaulty before log bytes fault
+faulty : (before : List (List ℕ)) (log bytes : List ℕ) (fault : LogFault) → AreWholeLogs before → UpToFault before log bytes
+    → IsFaultOfLogs before bytes fault → IsFaulty before log bytes fault
 faulty before log bytes (Wrong error) right up_to is = prefix_wrong before log bytes error right up_to is
 faulty before log bytes (TooMuch line) right up_to is = record { right_before = right; up_to = up_to; full = is }
 faulty before log bytes NoMemory right up_to is = tt
 
 -- a log of which a part was read has a fault
-pub part_faulty : (old new : SourceSeen) (feeding : Feeding) (before : List (List ℕ)) (fault : LogFault) → Reads feeding before []
+pub part_faulty : (old new : SourceSeen) (feeding : Feeding) (before : List (List ℕ)) (fault : LogFault) → ReadsLogs feeding before []
     → ReadPart old new before fault → LogFaulty old new before fault × (new.faults ≡ old.faults)
 part_faulty old new feeding before fault reads part = (
   record {
@@ -65,7 +65,7 @@ part_faulty old new feeding before fault reads part = (
   part.no_fault,
 )
 
-end_wrong : (before : List (List ℕ)) (log : List ℕ) (fault : LogFault) → AreRight before → IsShort log → ShowsNone before log → IsEndFault before log fault
+end_wrong : (before : List (List ℕ)) (log : List ℕ) (fault : LogFault) → AreWholeLogs before → IsShort log → ShowsNone before log → IsEndFault before log fault
     → IsFaulty before log log fault
 end_wrong before log (Wrong error) right short none is = record {
   right_before = right;
@@ -86,7 +86,7 @@ end_wrong before log (TooMuch line) right short none is = absurd is
 end_wrong before log NoMemory right short none is = tt
 
 -- a log that was read whole has a fault at its end
-pub end_faulty : (old new : SourceSeen) (feeding read : Feeding) (before : List (List ℕ)) (fault : LogFault) → Reads feeding before []
+pub end_faulty : (old new : SourceSeen) (feeding read : Feeding) (before : List (List ℕ)) (fault : LogFault) → ReadsLogs feeding before []
     → (whole : ReadWhole old new read before) → IsEndFault before whole.log fault → LogFaulty old new before fault × (new.faults ≡ old.faults)
 end_faulty old new feeding read before fault reads whole is =
     let count : read.read ≡ length whole.log = whole.reads.read in
@@ -104,7 +104,7 @@ end_faulty old new feeding read before fault reads whole is =
 
 -- a log is summed
 pub whole_summed : (old new : SourceSeen) (read after : Feeding) (before : List (List ℕ)) (whole : ReadWhole old new read before)
-    → Reads after (before ++ whole.log ∷ []) [] → LogSummed old new after before
+    → ReadsLogs after (before ++ whole.log ∷ []) [] → LogSummed old new after before
 whole_summed old new read after before whole reads =
     let count : read.read ≡ length whole.log = whole.reads.read in
     let fits : read.read ≤ 2 ^ 40 = read.in_range in
@@ -175,7 +175,7 @@ closed old new (Ok x) f s = record { mode = f.mode; files = f.files; taken = f.c
 closed old new (Err x) f s = record { mode = s.mode; files = s.files; taken = s.counts.taken; opened = s.counts.opened; never_falls = s.faulted.never_falls }
 
 -- a log that isn't read to its end isn't summed
-pub part_summed : (old new : SourceSeen) (feeding read : Feeding) (before : List (List ℕ)) (fault : ReadFault) → Reads feeding before []
+pub part_summed : (old new : SourceSeen) (feeding read : Feeding) (before : List (List ℕ)) (fault : ReadFault) → ReadsLogs feeding before []
     → ReadTo old new read before (Err fault) → SummedTo old new read before (Err fault)
 part_summed old new feeding read before (Log fault) reads part = part_faulty old new feeding before fault reads part
 part_summed old new feeding read before Device reads failed = failed

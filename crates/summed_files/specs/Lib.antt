@@ -1,5 +1,5 @@
 pub mod Logs
-pub mod Feeding
-pub mod Faults
-pub mod Files
+pub mod FileFeeding
+pub mod FileFaults
+pub mod LogFiles
 pub mod SumEnds

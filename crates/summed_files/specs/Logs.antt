@@ -5,7 +5,7 @@ use Rattle.diy_io.specs.Count.{count_of, Rose}
 use Rattle.diy_io.specs.Taken.{SourceSeen}
 use Rattle.diy_io.specs.Sink.{line_feed_count}
 use Rattle.log_sum.specs.declared.errors.LogError.{LogError}
-use Rattle.log_sum.specs.Reading.{Seen, input_judged}
+use Rattle.log_sum.specs.LogReading.{LogSeen, input_judged}
 use Rattle.log_sum.specs.Representing.{logs_text}
 
 -- a log has the text that is known, where one is known
@@ -21,13 +21,13 @@ abbrev pub max_piece : ℕ
 max_piece = 4096
 
 -- logs have no fault
-pub record AreRight (logs : List (List ℕ)) : Type 0 where
+pub record AreWholeLogs (logs : List (List ℕ)) : Type 0 where
   pub text : List ℕ
   pub is : logs_text logs ≡ Ok text
 
 -- the bytes so far of a log after these logs show no fault
 pub record ShowsNone (before : List (List ℕ)) (bytes : List ℕ) : Type 0 where
-  pub seen : Seen
+  pub seen : LogSeen
   pub is : input_judged before bytes ≡ Ok seen
 
 -- a prefix of a log's bytes, of at most 2^40, shows this fault after whole logs
@@ -45,7 +45,7 @@ pub record PrefixFull (logs : List (List ℕ)) (bytes : List ℕ) (line : ℕ) :
   pub parts : bytes ≡ prefix ++ rest
   pub full : length prefix ≡ 2 ^ 40
   pub more : 0 < length rest
-  pub seen : Seen
+  pub seen : LogSeen
   pub no_fault : input_judged logs prefix ≡ Ok seen
   pub number : line ≡ line_feed_count prefix + 1
 
@@ -62,15 +62,15 @@ pub record UpToFault (before : List (List ℕ)) (log taken : List ℕ) : Type 0 
 
 -- the first fault of logs is one of the log after these: the bytes that were taken of it show the fault, or its end does, where all
 -- its bytes were taken
-pub record IsWrong (before : List (List ℕ)) (log taken : List ℕ) (error : LogError) : Type 0 where
-  pub right_before : AreRight before
+pub record IsWrongLog (before : List (List ℕ)) (log taken : List ℕ) (error : LogError) : Type 0 where
+  pub right_before : AreWholeLogs before
   pub wrong : (more : List (List ℕ)) → logs_text (before ++ log ∷ more) ≡ Err error
   pub up_to : UpToFault before log taken
   pub shown : ((taken ≡ log) × IsShort log) ⊎ PrefixWrong before taken error
 
 -- more than 2^40 bytes were taken of the log after these, of which the first 2^40 show no fault, and this is the line after them
 pub record IsTooMuch (before : List (List ℕ)) (log taken : List ℕ) (line : ℕ) : Type 0 where
-  pub right_before : AreRight before
+  pub right_before : AreWholeLogs before
   pub up_to : UpToFault before log taken
   pub full : PrefixFull before taken line
 

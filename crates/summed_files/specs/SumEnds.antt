@@ -12,7 +12,7 @@ use Rattle.log_sum.specs.declared.errors.LogKind.{LogKind}
 use Rattle.log_sum.specs.Representing.{logs_text}
 use Rattle.summed_files.specs.declared.sum_end.SumEnd.{SumEnd}
 use Rattle.summed_files.specs.declared.sum_end.SumEnd.TheVariants as ends
-use Rattle.summed_files.specs.Logs.{IsText, IsShort, TookCount, AreRight, ShowsNone, IsWrong, IsTooMuch, ReadFailed}
+use Rattle.summed_files.specs.Logs.{IsText, IsShort, TookCount, AreWholeLogs, ShowsNone, IsWrongLog, IsTooMuch, ReadFailed}
 
 -- the input is a whole log of at most 2^40 bytes, which was read to its end, and this is its sum
 pub record InputRead (old new : SourceSeen) (sum : List ℕ) : Type 0 where
@@ -41,21 +41,21 @@ pub record InputStopped (old new : SourceSeen) (Is : List ℕ → List ℕ → T
 
 -- the input is a log with this first fault, and no more was taken
 abbrev pub InputWrong : SourceSeen → SourceSeen → LogError → Type 0
-InputWrong old new error = InputStopped old new (λ log bytes. IsWrong [] log bytes error)
+InputWrong old new error = InputStopped old new (λ log bytes. IsWrongLog [] log bytes error)
 
 -- the input is a log of more than 2^40 bytes, and no more was taken
 abbrev pub InputTooMuch : SourceSeen → SourceSeen → ℕ → Type 0
 InputTooMuch old new line = InputStopped old new (λ log bytes. IsTooMuch [] log bytes line)
 
 -- a fault of a kind, at a line
-abbrev pub error_at : ℕ → LogKind → LogError
-error_at line kind = record { line = line; kind = kind }
+abbrev pub log_error_at : ℕ → LogKind → LogError
+log_error_at line kind = record { line = line; kind = kind }
 
 -- how the summing of an input ended
 abbrev pub InputSummed : SourceSeen → SourceSeen → SinkSeen → SinkSeen → SumEnd → Type 0
 InputSummed old new out_old out_new ends.Done = InputSaid old new (WroteAll out_old out_new)
 InputSummed old new out_old out_new ends.OutFault = InputSaid old new (WrotePart out_old out_new)
-InputSummed old new out_old out_new (ends.Wrong None line kind) = InputWrong old new (error_at line kind) × (out_new ≡ out_old)
+InputSummed old new out_old out_new (ends.Wrong None line kind) = InputWrong old new (log_error_at line kind) × (out_new ≡ out_old)
 InputSummed old new out_old out_new (ends.TooMuch None line) = InputTooMuch old new line × (out_new ≡ out_old)
 InputSummed old new out_old out_new ends.InputFault = ReadFailed old new [] × (out_new ≡ out_old)
 InputSummed old new out_old out_new ends.NoMemory = out_new ≡ out_old
@@ -79,7 +79,7 @@ pub record FilesRead (old new : ShelfSeen) (words : List (List ℕ)) (first : �
   pub is : logs_text logs ≡ Ok sum
 
 -- the files were read so, and this was done with their sum
-pub record FilesSaid (old new : ShelfSeen) (words : List (List ℕ)) (first : ℕ) (done : List ℕ → Type 0) : Type 0 where
+pub record LogFilesSaid (old new : ShelfSeen) (words : List (List ℕ)) (first : ℕ) (done : List ℕ → Type 0) : Type 0 where
   pub sum : List ℕ
   pub read : FilesRead old new words first sum
   pub wrote : done sum
@@ -103,19 +103,19 @@ pub record FileStopped (old new : ShelfSeen) (words : List (List ℕ)) (first pl
   pub took : TookFiles old new (before ++ bytes ∷ [])
 
 -- the log that the word at a place names has the first fault of the logs, and no more was opened or taken
-abbrev pub FileWrong : ShelfSeen → ShelfSeen → List (List ℕ) → ℕ → ℕ → LogError → Type 0
-FileWrong old new words first place error = FileStopped old new words first place (λ before log bytes. IsWrong before log bytes error)
+abbrev pub LogFileWrong : ShelfSeen → ShelfSeen → List (List ℕ) → ℕ → ℕ → LogError → Type 0
+LogFileWrong old new words first place error = FileStopped old new words first place (λ before log bytes. IsWrongLog before log bytes error)
 
 -- the log that the word at a place names has more than 2^40 bytes, those before it have no fault, and no more was opened or taken
 abbrev pub FileTooMuch : ShelfSeen → ShelfSeen → List (List ℕ) → ℕ → ℕ → ℕ → Type 0
 FileTooMuch old new words first place line = FileStopped old new words first place (λ before log bytes. IsTooMuch before log bytes line)
 
 -- the word at a place names no file, where the files are known; the logs before it have no fault, and no more was opened
-pub record FileMissing (old new : ShelfSeen) (words : List (List ℕ)) (first place : ℕ) : Type 0 where
+pub record LogFileMissing (old new : ShelfSeen) (words : List (List ℕ)) (first place : ℕ) : Type 0 where
   pub before : List (List ℕ)
   pub name : List ℕ
   pub place_is : IsAtWord old.files words first place before name
-  pub right_before : AreRight before
+  pub right_before : AreWholeLogs before
   pub absent : MatchOption old.files (Rose old.faults new.faults) (λ there. there name ≡ None)
   pub took : TookFiles old new before
 
@@ -129,24 +129,24 @@ pub record IsBegun (files : Option Files) (before : List (List ℕ)) (name bytes
   pub no_fault : ShowsNone before bytes
 
 -- the shelf failed at the file that a word names, after logs with no fault: it wasn't opened, or what was taken of it shows no fault
-pub record ShelfFailed (old new : ShelfSeen) (words : List (List ℕ)) (first : ℕ) : Type 0 where
+pub record SumShelfFailed (old new : ShelfSeen) (words : List (List ℕ)) (first : ℕ) : Type 0 where
   pub fault : Rose old.faults new.faults
   pub place : ℕ
   pub before : List (List ℕ)
   pub name : List ℕ
   pub place_is : IsAtWord old.files words first place before name
-  pub right_before : AreRight before
+  pub right_before : AreWholeLogs before
   pub took : TookFiles old new before ⊎ ((bytes : List ℕ) × IsBegun old.files before name bytes × TookFiles old new (before ++ bytes ∷ []))
 
 -- how the summing of files ended
 abbrev pub FilesSummed : ShelfSeen → ShelfSeen → List (List ℕ) → ℕ → SinkSeen → SinkSeen → SumEnd → Type 0
-FilesSummed old new words first out_old out_new ends.Done = FilesSaid old new words first (WroteAll out_old out_new)
-FilesSummed old new words first out_old out_new ends.OutFault = FilesSaid old new words first (WrotePart out_old out_new)
+FilesSummed old new words first out_old out_new ends.Done = LogFilesSaid old new words first (WroteAll out_old out_new)
+FilesSummed old new words first out_old out_new ends.OutFault = LogFilesSaid old new words first (WrotePart out_old out_new)
 FilesSummed old new words first out_old out_new (ends.Wrong (Some file) line kind) =
-    FileWrong old new words first file (error_at line kind) × (out_new ≡ out_old)
+    LogFileWrong old new words first file (log_error_at line kind) × (out_new ≡ out_old)
 FilesSummed old new words first out_old out_new (ends.TooMuch (Some file) line) = FileTooMuch old new words first file line × (out_new ≡ out_old)
-FilesSummed old new words first out_old out_new (ends.NoFile word) = FileMissing old new words first word × (out_new ≡ out_old)
-FilesSummed old new words first out_old out_new ends.ShelfFault = ShelfFailed old new words first × (out_new ≡ out_old)
+FilesSummed old new words first out_old out_new (ends.NoFile word) = LogFileMissing old new words first word × (out_new ≡ out_old)
+FilesSummed old new words first out_old out_new ends.ShelfFault = SumShelfFailed old new words first × (out_new ≡ out_old)
 FilesSummed old new words first out_old out_new ends.NoMemory = out_new ≡ out_old
 FilesSummed old new words first out_old out_new (ends.Wrong None line kind) = ⊥
 FilesSummed old new words first out_old out_new (ends.TooMuch None line) = ⊥

@@ -1,6 +1,6 @@
 ghost use Rattle.std.specs.Prelude.{true, ◌≡◌, ◌+◌, ◌≤◌, ◌^◌, ◌++◌, ℕ, List, [], length, OnOk, IfOk};
 ghost use Rattle.diy_io.specs.Sink.{line_feed_count};
-ghost use Rattle.summed_files.specs.Faults.{fault_of, end_at};
+ghost use Rattle.summed_files.specs.FileFaults.{sum_fault, sum_end_at};
 ghost use Rattle.summed_files.specs.declared.feeding.ReadFault.TheVariants.{Log, Device};
 
 use crate::sum_end::SumEnd;
@@ -58,7 +58,7 @@ pub(crate) struct Feeding {
 }
 
 fn fault_of(error: SumError) -> LogFault
-    ensures { result ≡ fault_of error }
+    ensures { result ≡ sum_fault error }
 {
     match error {
         SumError::Log(error) => LogFault::Wrong(error),
@@ -83,7 +83,7 @@ fn line_feeds(text: &[u8]) -> u64
 impl LogFault {
     /// The end where a log has a fault.
     pub(crate) fn end_at(self, file: Option<usize>) -> SumEnd
-        ensures { result ≡ end_at file self }
+        ensures { result ≡ sum_end_at file self }
     {
         match self {
             LogFault::Wrong(LogError { line, kind }) => SumEnd::Wrong { file, line, kind },
@@ -94,10 +94,10 @@ impl LogFault {
 }
 
 impl Feeding {
-    ghost use Rattle.summed_files.specs.Feeding.{Reads, FedOn, EndedOn, SumWrote};
+    ghost use Rattle.summed_files.specs.FileFeeding.{ReadsLogs, FedOn, EndedOn, SumWrote};
 
     pub(crate) fn new(alloc: Global) -> Result<Feeding, NoMemory>
-        ensures { IfOk result (λ feeding. Reads feeding [] []) }
+        ensures { IfOk result (λ feeding. ReadsLogs feeding [] []) }
     {
         Ok(Feeding {
             summer: Summer::new(alloc)?,
@@ -108,7 +108,7 @@ impl Feeding {
 
     /// Feeds a piece of the running log, without the bytes after the first 2^40 of the log.
     pub(crate) fn feed(&mut self, piece: &[u8]) -> Result<(), LogFault>
-        ensures fed { (logs : List (List ℕ)) (bytes : List ℕ) → Reads self.old logs bytes → FedOn self.new logs (bytes ++ piece.now) result }
+        ensures fed { (logs : List (List ℕ)) (bytes : List ℕ) → ReadsLogs self.old logs bytes → FedOn self.new logs (bytes ++ piece.now) result }
         ensures counted { OnOk result (self.new.read ≡ self.old.read + length piece.now) }
     {
         let fitting = piece.len().min((MAX_INPUT - self.read) as usize);
@@ -126,7 +126,7 @@ impl Feeding {
 
     /// Ends the running log.
     pub(crate) fn end_log(&mut self) -> Result<(), LogFault>
-        ensures { (logs : List (List ℕ)) (log : List ℕ) → Reads self.old logs log → EndedOn self.new logs log result }
+        ensures { (logs : List (List ℕ)) (log : List ℕ) → ReadsLogs self.old logs log → EndedOn self.new logs log result }
     {
         self.line_feeds = 0;
         self.read = 0;
@@ -139,7 +139,7 @@ impl Feeding {
     /// Writes the sum of the logs that were ended.
     pub(crate) fn write_sum<O: Sink>(&self, out: &mut O) -> Result<(), Failed>
         requires { self.now.summer.in_order ≡ true }
-        ensures { (logs : List (List ℕ)) → Reads self.now logs [] → SumWrote logs (O.seen out.old) (O.seen out.new) result }
+        ensures { (logs : List (List ℕ)) → ReadsLogs self.now logs [] → SumWrote logs (O.seen out.old) (O.seen out.new) result }
     {
         self.summer.write_sum(out)
     }

@@ -1,8 +1,8 @@
 ghost use Rattle.std.specs.Prelude.{◌≡◌, ◌<◌, ◌≤◌, length, ℕ, List, [], Result, MatchResult};
 ghost use Rattle.diy_io.specs.Shelf.{Idle, IsReading};
 ghost use Rattle.summed_files.specs.Logs.{max_piece};
-ghost use Rattle.summed_files.specs.Feeding.{Reads, ReadTo, SummedTo, ClosedTo, ForLogs};
-ghost use Rattle.summed_files.specs.Files.{log_seen, ModeAfter, FileTo, file_end};
+ghost use Rattle.summed_files.specs.FileFeeding.{ReadsLogs, ReadTo, SummedTo, ClosedTo, ForLogs};
+ghost use Rattle.summed_files.specs.LogFiles.{log_seen, ModeAfter, LogFileTo, log_file_end};
 ghost use Rattle.summed_files.specs.SumEnds.{FilesSummed};
 
 use crate::feeding::{Feeding, PIECE, ReadFault};
@@ -20,7 +20,7 @@ pub(crate) enum FileFault {
 impl FileFault {
     /// The end where the file that a word names isn't summed.
     fn end_at(self, word: usize) -> SumEnd
-        ensures { result ≡ file_end word self }
+        ensures { result ≡ log_file_end word self }
     {
         match self {
             FileFault::Missing => SumEnd::NoFile { word },
@@ -103,7 +103,7 @@ fn sum_file<H: Shelf>(
     requires piece { length buf.old ≤ max_piece }
     ensures mode { (H.seen shelf.new).mode ≡ Idle }
     ensures files { (H.seen shelf.new).files ≡ (H.seen shelf.old).files }
-    ensures summed { (logs : List (List ℕ)) → Reads feeding.old logs [] → FileTo (H.seen shelf.old) (H.seen shelf.new) feeding.new logs name.now result }
+    ensures summed { (logs : List (List ℕ)) → ReadsLogs feeding.old logs [] → LogFileTo (H.seen shelf.old) (H.seen shelf.new) feeding.new logs name.now result }
 {
     match shelf.open_file(name) {
         Ok(()) => match sum_open(feeding, shelf, buf) {

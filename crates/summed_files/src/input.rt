@@ -1,6 +1,6 @@
 ghost use Rattle.std.specs.Prelude.{◌≡◌, ◌<◌, ◌≤◌, length, ℕ, List, [], Result};
 ghost use Rattle.summed_files.specs.Logs.{max_piece};
-ghost use Rattle.summed_files.specs.Feeding.{Reads, ReadTo, SummedTo};
+ghost use Rattle.summed_files.specs.FileFeeding.{ReadsLogs, ReadTo, SummedTo};
 ghost use Rattle.summed_files.specs.SumEnds.{InputSummed};
 
 use crate::feeding::{Feeding, PIECE, ReadFault};
@@ -16,7 +16,7 @@ fn read_input<I: Source>(
 ) -> Result<(), ReadFault>
     requires some { 0 < length buf.old }
     requires piece { length buf.old ≤ max_piece }
-    ensures { (logs : List (List ℕ)) → Reads feeding.old logs [] → ReadTo (I.seen input.old) (I.seen input.new) feeding.new logs result }
+    ensures { (logs : List (List ℕ)) → ReadsLogs feeding.old logs [] → ReadTo (I.seen input.old) (I.seen input.new) feeding.new logs result }
 {
     loop {
         let count = input.read(buf)?;
@@ -35,7 +35,7 @@ fn sum_source<I: Source>(
 ) -> Result<(), ReadFault>
     requires some { 0 < length buf.old }
     requires piece { length buf.old ≤ max_piece }
-    ensures { (logs : List (List ℕ)) → Reads feeding.old logs [] → SummedTo (I.seen input.old) (I.seen input.new) feeding.new logs result }
+    ensures { (logs : List (List ℕ)) → ReadsLogs feeding.old logs [] → SummedTo (I.seen input.old) (I.seen input.new) feeding.new logs result }
 {
     read_input(feeding, input, buf)?;
     feeding.end_log()?;

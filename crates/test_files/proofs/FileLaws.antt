@@ -10,7 +10,7 @@ use Rattle.test_files.specs.declared.errors.FileFault.{FileFault}
 use Rattle.test_files.specs.declared.errors.FileFault.TheVariants.{Missing, NoMemory}
 use Rattle.test_files.specs.declared.errors.FileFault.TheVariants as faults
 use Rattle.test_files.specs.FilesRead.{Begins, FileFailed, FileTo}
-use Rattle.test_files.specs.OpenFiles.{TookBytes, ReadWhole, OpenTo}
+use Rattle.test_files.specs.OpenFiles.{TookBytes, FileReadWhole, OpenTo}
 
 -- what was taken before the file was closed
 closed_took : (old mid new : ShelfSeen) (bytes : List ℕ) → TookBytes old mid bytes → new.files ≡ mid.files → CountsStay mid new → TookBytes old new bytes
@@ -21,7 +21,7 @@ closed_took old mid new bytes took files counts = record {
 }
 
 -- a file that was read is closed, or that fails
-pub open_read : (old mid new : ShelfSeen) (bytes : List ℕ) (closed : Result (Unit {0}) Failed) → ReadWhole old mid bytes → OnOk closed (Finished mid new)
+pub open_read : (old mid new : ShelfSeen) (bytes : List ℕ) (closed : Result (Unit {0}) Failed) → FileReadWhole old mid bytes → OnOk closed (Finished mid new)
     → OnErr closed (Stopped mid new) → OpenTo old new bytes (Ok closed)
 open_read old mid new bytes (Ok x) r finished stopped = record {
   text = r.text;

@@ -7,7 +7,7 @@ use Rattle.std.proofs.lemmas.List.{take_all, take_at}
 use Rattle.diy_io.specs.Count.{count_of, Rose}
 use Rattle.diy_io.specs.Shelf.{ShelfSeen, Gave, IsReading, Stopped, left_to_read}
 use Rattle.litmus_text.specs.declared.limits.TheConstants.{MAX_TEXT}
-use Rattle.test_files.specs.OpenFiles.{ReadSoFar, ReadWhole, ReadPart}
+use Rattle.test_files.specs.OpenFiles.{FileReadSoFar, FileReadWhole, FileReadPart}
 
 -- bytes that were consumed are the first of a text
 pub record PrefixOf (shown : Option (List ℕ)) (bytes : List ℕ) : Type 0 where
@@ -22,8 +22,8 @@ prefix_of (Some xs) None bytes h = absurd h
 prefix_of (Some xs) (Some ys) bytes h = record { text = xs; rest = ys; is = refl; parts = h }
 
 -- nothing was read so far
-pub reads_nothing : (old : ShelfSeen) (bytes : List ℕ) → bytes ≡ [] → IsReading old.mode → ReadSoFar old old bytes
-reads_nothing old bytes none mode = subst (ReadSoFar old old) (sym none) (record {
+pub reads_nothing : (old : ShelfSeen) (bytes : List ℕ) → bytes ≡ [] → IsReading old.mode → FileReadSoFar old old bytes
+reads_nothing old bytes none mode = subst (FileReadSoFar old old) (sym none) (record {
   consumed = Consumes-nil (left_to_read old.mode);
   took = record { taken = omega arith; opened = refl; files = refl };
   mode = mode;
@@ -31,12 +31,12 @@ reads_nothing old bytes none mode = subst (ReadSoFar old old) (sym none) (record
 })
 
 -- more was read
-pub reads_more : (old mid new : ShelfSeen) (bytes buf both : List ℕ) (count room : ℕ) → ReadSoFar old mid bytes → count ≤ length buf → Gave mid new (take count buf) room
-    → both ≡ bytes ++ take count buf → ReadSoFar old new both
+pub reads_more : (old mid new : ShelfSeen) (bytes buf both : List ℕ) (count room : ℕ) → FileReadSoFar old mid bytes → count ≤ length buf → Gave mid new (take count buf) room
+    → both ≡ bytes ++ take count buf → FileReadSoFar old new both
 reads_more old mid new bytes buf both count room r within gave all =
     let before : count_of mid.taken ≡ count_of (old.taken + length bytes) = r.took.taken in
     let more : new.taken ≡ count_of (mid.taken + length (take count buf)) = gave.taken in
-    subst (ReadSoFar old new) (sym all) (record {
+    subst (FileReadSoFar old new) (sym all) (record {
       consumed = Consumes-trans (left_to_read old.mode) (left_to_read mid.mode) (left_to_read new.mode) bytes (take count buf) r.consumed gave.consumed;
       took = record {
         taken = omega (arith, length-append bytes (take count buf));
@@ -48,8 +48,8 @@ reads_more old mid new bytes buf both count room r within gave all =
     })
 
 -- the end of the file is reached
-pub reads_whole : (old mid new : ShelfSeen) (bytes buf : List ℕ) (count room : ℕ) → ReadSoFar old mid bytes → length bytes ≤ MAX_TEXT → Gave mid new (take count buf) room
-    → count ≡ 0 → 0 < room → ReadWhole old new bytes
+pub reads_whole : (old mid new : ShelfSeen) (bytes buf : List ℕ) (count room : ℕ) → FileReadSoFar old mid bytes → length bytes ≤ MAX_TEXT → Gave mid new (take count buf) room
+    → count ≡ 0 → 0 < room → FileReadWhole old new bytes
 reads_whole old mid new bytes buf count room r few gave zero some =
     let none : take count buf ≡ [] = ap (λ k. take k buf) zero in
     let r2 = reads_more old mid new bytes buf bytes count room r
@@ -64,7 +64,7 @@ reads_whole old mid new bytes buf count room r few gave zero some =
     }
 
 -- one byte more than a test may have is read
-pub reads_long : (old new : ShelfSeen) (bytes : List ℕ) → ReadSoFar old new bytes → length bytes ≡ MAX_TEXT + 1 → ReadWhole old new bytes
+pub reads_long : (old new : ShelfSeen) (bytes : List ℕ) → FileReadSoFar old new bytes → length bytes ≡ MAX_TEXT + 1 → FileReadWhole old new bytes
 reads_long old new bytes r long =
     let prefix = prefix_of (left_to_read old.mode) (left_to_read new.mode) bytes r.consumed in
     record {
@@ -77,7 +77,7 @@ reads_long old new bytes r long =
     }
 
 -- the shelf failed
-pub reads_failed : (old mid new : ShelfSeen) (bytes : List ℕ) → ReadSoFar old mid bytes → length bytes ≤ MAX_TEXT → Stopped mid new → ReadPart old new
+pub reads_failed : (old mid new : ShelfSeen) (bytes : List ℕ) → FileReadSoFar old mid bytes → length bytes ≤ MAX_TEXT → Stopped mid new → FileReadPart old new
 reads_failed old mid new bytes r few stopped =
     let same : mid.faults ≡ old.faults = r.no_fault in
     let rose : Rose mid.faults new.faults = stopped.faulted.fault in

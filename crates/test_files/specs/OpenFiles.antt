@@ -17,7 +17,7 @@ pub record TookBytes (old new : ShelfSeen) (bytes : List ℕ) : Type 0 where
   pub files : new.files ≡ old.files
 
 -- a file that is open was read to its end, or up to one byte more than a test may have, and this is what was taken
-pub record ReadWhole (old new : ShelfSeen) (bytes : List ℕ) : Type 0 where
+pub record FileReadWhole (old new : ShelfSeen) (bytes : List ℕ) : Type 0 where
   pub text : List ℕ
   pub shown : IfSome (left_to_read old.mode) (λ whole. whole ≡ text)
   pub bytes_are : bytes ≡ take (MAX_TEXT + 1) text
@@ -26,7 +26,7 @@ pub record ReadWhole (old new : ShelfSeen) (bytes : List ℕ) : Type 0 where
   pub no_fault : new.faults ≡ old.faults
 
 -- the shelf failed, after bytes of the file that are no more than a test may have
-pub record ReadPart (old new : ShelfSeen) : Type 0 where
+pub record FileReadPart (old new : ShelfSeen) : Type 0 where
   pub bytes : List ℕ
   pub text : List ℕ
   pub shown : IfSome (left_to_read old.mode) (λ whole. whole ≡ text)
@@ -43,13 +43,13 @@ pub record ReadUnheld (old new : ShelfSeen) : Type 0 where
   pub files : new.files ≡ old.files
 
 -- an answer to the reading of a file that is open
-abbrev pub ReadTo : ShelfSeen → ShelfSeen → List ℕ → Result (Unit {0}) ReadFault → Type 0
-ReadTo old new bytes (Ok x) = ReadWhole old new bytes
-ReadTo old new bytes (Err reads.Failed) = ReadPart old new
-ReadTo old new bytes (Err reads.NoMemory) = ReadUnheld old new
+abbrev pub FileReadTo : ShelfSeen → ShelfSeen → List ℕ → Result (Unit {0}) ReadFault → Type 0
+FileReadTo old new bytes (Ok x) = FileReadWhole old new bytes
+FileReadTo old new bytes (Err reads.Failed) = FileReadPart old new
+FileReadTo old new bytes (Err reads.NoMemory) = ReadUnheld old new
 
 -- bytes of a file that is open were read
-pub record ReadSoFar (old new : ShelfSeen) (bytes : List ℕ) : Type 0 where
+pub record FileReadSoFar (old new : ShelfSeen) (bytes : List ℕ) : Type 0 where
   pub consumed : Consumes (left_to_read old.mode) (left_to_read new.mode) bytes
   pub took : TookBytes old new bytes
   pub mode : IsReading new.mode
@@ -68,5 +68,5 @@ pub record OpenRead (old new : ShelfSeen) (bytes : List ℕ) (closed : Result (U
 abbrev pub OpenTo : ShelfSeen → ShelfSeen → List ℕ → Result (Result (Unit {0}) Failed) FileFault → Type 0
 OpenTo old new bytes (Ok closed) = OpenRead old new bytes closed
 OpenTo old new bytes (Err faults.Missing) = ⊥
-OpenTo old new bytes (Err faults.Failed) = ReadPart old new
+OpenTo old new bytes (Err faults.Failed) = FileReadPart old new
 OpenTo old new bytes (Err faults.NoMemory) = ⊤

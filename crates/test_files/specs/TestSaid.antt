@@ -42,7 +42,7 @@ unfoldable pub test_said : ArchName → Writing → List ℕ → Result TestRead
 test_said arch w text = cond (nat_lt MAX_TEXT (length text)) (wrong (Test TooLarge) 1) (headed_said arch w text (arch_in_text text))
 
 -- an answer is what a text is, or there is no memory
-abbrev pub SaysInMemory : Result TestRead NoTest → Result TestRead TestFileError → Type 0
-SaysInMemory (Ok test) said = said ≡ Ok test
-SaysInMemory (Err (Wrong error)) said = said ≡ Err error
-SaysInMemory (Err NoMemory) said = ⊤
+abbrev pub SaysTestInMemory : Result TestRead NoTest → Result TestRead TestFileError → Type 0
+SaysTestInMemory (Ok test) said = said ≡ Ok test
+SaysTestInMemory (Err (Wrong error)) said = said ≡ Err error
+SaysTestInMemory (Err NoMemory) said = ⊤

@@ -1,7 +1,7 @@
 ghost use Rattle.std.specs.Prelude.{◌≡◌, Ok};
 ghost use Rattle.test_files.specs.declared.errors.NoTest.TheVariants.{Wrong};
 ghost use Rattle.test_files.specs.declared.errors.TestFileKind.TheVariants.{Test};
-ghost use Rattle.test_files.specs.TestSaid.{is_arch, headed_said, test_said, SaysInMemory};
+ghost use Rattle.test_files.specs.TestSaid.{is_arch, headed_said, test_said, SaysTestInMemory};
 
 use crate::errors::{NoTest, TestFileError, TestFileKind};
 use arch_trait::Arch;
@@ -16,7 +16,7 @@ const HEADER_LINE: u64 = 1;
 /// architecture, the rest of the text. `NoMemory` may come for any text.
 #[tactic(auto, unfolding(crate::specs::TestSaid::test_said))]
 pub fn test_of_text<A: Arch>(alloc: Global, text: &[u8]) -> Result<ReadTest<A>, NoTest>
-    ensures { SaysInMemory result (test_said A.NAME A.writing text.now) }
+    ensures { SaysTestInMemory result (test_said A.NAME A.writing text.now) }
 {
     if text.len() > MAX_TEXT {
         return Err(fault_at_line(TestFileKind::Test(TestKind::TooLarge), HEADER_LINE));
@@ -33,7 +33,7 @@ fn test_of_headed<A: Arch>(
     named: ArchName,
     text: &[u8],
 ) -> Result<ReadTest<A>, NoTest>
-    ensures { SaysInMemory result (headed_said A.NAME A.writing text.now (Ok named)) }
+    ensures { SaysTestInMemory result (headed_said A.NAME A.writing text.now (Ok named)) }
 {
     if !is_arch(named, A::NAME) {
         return Err(fault_at_line(TestFileKind::WrongArch, HEADER_LINE));

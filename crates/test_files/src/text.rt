@@ -1,6 +1,6 @@
 ghost use Rattle.std.specs.Prelude.{◌≡◌, ◌<◌, ◌≤◌, [], length, take, IfOk, OnErr};
 ghost use Rattle.diy_io.specs.Shelf.{Gave, IsReading, Stopped};
-ghost use Rattle.test_files.specs.OpenFiles.{ReadTo};
+ghost use Rattle.test_files.specs.OpenFiles.{FileReadTo};
 
 use crate::errors::ReadFault;
 use diy_io::{Failed, Shelf};
@@ -15,7 +15,7 @@ pub(crate) fn read_text<H: Shelf>(
 ) -> Result<(), ReadFault>
     requires reading { IsReading (H.seen shelf.old).mode }
     requires some { 0 < length piece.old }
-    ensures read { ReadTo (H.seen shelf.old) (H.seen shelf.new) text.new.items result }
+    ensures read { FileReadTo (H.seen shelf.old) (H.seen shelf.new) text.new.items result }
 {
     text.clear();
     loop {

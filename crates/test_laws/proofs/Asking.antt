@@ -17,21 +17,21 @@ use Rattle.final_cond.specs.Conditions.{LeftSeen, AtPlace}
 use Rattle.arch_trait.specs.declared.step.Step.{Step}
 use Rattle.arch_trait.specs.Threads.{Puts, ThreadCode, compiled, HoldNumbers}
 use Rattle.arch_trait.specs.Laws.{IsArch}
-use Rattle.arch_trait.specs.Names.{location_name}
-use Rattle.arch_trait.specs.Renumbering.{step_at, renumbered}
+use Rattle.arch_trait.specs.PlaceNames.{location_name}
+use Rattle.arch_trait.specs.PlaceRenumbering.{step_at, renumbered}
 use Rattle.arch_trait.specs.Codes.{AllBelow}
 use Rattle.program_meaning.specs.declared.WriteAt.{WriteAt}
 use Rattle.program_meaning.specs.Accesses.{Access, is_read}
 use Rattle.program_meaning.specs.Executions.{Execution}
 use Rattle.program_meaning.specs.Coherence.{final_value}
-use Rattle.program_meaning.specs.Programs.{IsCandidate, accesses_in, held_in, register_in}
+use Rattle.program_meaning.specs.Programs.{IsCandidate, accesses_in, held_at_last, register_in}
 use Rattle.program_meaning.specs.Intended.{IsNumbering, cycle_accesses}
 use Rattle.communication_laws.specs.Joining.{ReadsAsAsked, EndsAsAsked, values_read}
 use Rattle.communication_laws.proofs.Lists.{got_below, got_map, image_of}
-use Rattle.test_laws.specs.Steps.{cycle_steps, numbers_read}
-use Rattle.test_laws.specs.TestOf.{plain, is_named, last_term, last_terms, thread_terms, load_terms}
+use Rattle.test_laws.specs.CycleSteps.{cycle_steps, numbers_read}
+use Rattle.test_laws.specs.TestOf.{plain, is_named_location, last_term, last_terms, thread_terms, load_terms}
 use Rattle.test_laws.specs.FinalStates.{final_state}
-use Rattle.test_laws.specs.Headline.{HasCode, FindsRegisters}
+use Rattle.test_laws.specs.TestHeadline.{HasCode, FindsRegisters}
 use Rattle.test_laws.proofs.Terms.{reads-count}
 use Rattle.test_laws.proofs.Visits.{step_access}
 use Rattle.test_laws.proofs.ThreadRuns.{DidThread, did_thread}
@@ -44,7 +44,7 @@ use Rattle.test_laws.proofs.Meeting.{IsMet, ShowsRegisters, terms_of_thread, ter
 -- the final state shows what each register of a thread holds at the end of its run
 shows : (a : Puts) (es : List Edge) (mode : ObsMode) (number : ℕ → ℕ) (names : List (List ℕ)) (register_name : ℕ → List ℕ) (register_number : List ℕ → Option ℕ) (x : Execution) (k : ℕ) (steps : List Step) (reads : List (ℕ × Option WriteAt)) → FindsRegisters a register_name register_number → (d : DidThread (cycle_codes a es mode number) (move_count es) x k steps reads) → ShowsRegisters (final_state (cycle_program a es mode number) names register_number x) register_name k a.registers d.regs
 shows a es mode number names register_name register_number x k steps reads finds d q h =
-    ap (option_and_then (register_in (cycle_program a es mode number) x k)) (finds q h) ∙ ap (λ o. held_in o q) d.run_is
+    ap (option_and_then (register_in (cycle_program a es mode number) x k)) (finds q h) ∙ ap (λ o. held_at_last o q) d.run_is
 
 -- what a thread of the test reads and what is known of its run
 record Ran (a : Puts) (es : List Edge) (mode : ObsMode) (number : ℕ → ℕ) (x : Execution) (k : ℕ) (steps : List Step) (reads : List (ℕ × Option WriteAt)) : Type 0 where
@@ -118,9 +118,9 @@ place_shows a es mode number names register_number x l t n named h =
 -- where the terms of locations are met, the locations end as asked
 pub ends_asked : (a : Puts) (es : List Edge) (mode : ObsMode) (number : ℕ → ℕ) (names : List (List ℕ)) (register_number : List ℕ → Option ℕ) (x : Execution) → HasCode a es mode → IsNumbering es number → AreNamed es number names → AllByRecursion (IsMet (final_state (cycle_program a es mode number) names register_number x)) (last_terms es mode) → EndsAsAsked es mode number (cycle_program a es mode number) x
 ends_asked a es mode number names register_number x t n named met l b u two =
-    let yes : is_named es mode l ≡ true = and_from (nat_le 2 (write_count es l)) (not (is_observed es mode l)) (le-leb 2 (write_count es l) two) (ap not u) in
-    let g = got_map (last_term es) (filter (is_named es mode) (upto (move_count es))) (count_by (is_named es mode) (upto l)) l (rank_upto (is_named es mode) (move_count es) l b yes) in
-    let m = all_gets (IsMet (final_state (cycle_program a es mode number) names register_number x)) (last_terms es mode) (count_by (is_named es mode) (upto l)) (last_term es l) met g in
+    let yes : is_named_location es mode l ≡ true = and_from (nat_le 2 (write_count es l)) (not (is_observed es mode l)) (le-leb 2 (write_count es l) two) (ap not u) in
+    let g = got_map (last_term es) (filter (is_named_location es mode) (upto (move_count es))) (count_by (is_named_location es mode) (upto l)) l (rank_upto (is_named_location es mode) (move_count es) l b yes) in
+    let m = all_gets (IsMet (final_state (cycle_program a es mode number) names register_number x)) (last_terms es mode) (count_by (is_named_location es mode) (upto l)) (last_term es l) met g in
     let e : Some (Num (final_value (accesses_in (cycle_program a es mode number) x) x (number l))) ≡ Some (Num (write_count es l)) = sym (place_shows a es mode number names register_number x l t n named b) ∙ m in
     let f : final_value (accesses_in (cycle_program a es mode number) x) x (number l) ≡ write_count es l = cc in
     f
@@ -129,8 +129,8 @@ ends_asked a es mode number names register_number x t n named met l b u two =
 pub asked_ends : (a : Puts) (es : List Edge) (mode : ObsMode) (number : ℕ → ℕ) (names : List (List ℕ)) (register_number : List ℕ → Option ℕ) (x : Execution) → HasCode a es mode → IsNumbering es number → AreNamed es number names → EndsAsAsked es mode number (cycle_program a es mode number) x → AllByRecursion (IsMet (final_state (cycle_program a es mode number) names register_number x)) (last_terms es mode)
 asked_ends a es mode number names register_number x t n named asked =
     all_from (IsMet (final_state (cycle_program a es mode number) names register_number x)) (last_terms es mode)
-    (λ k term g. let i = image_of (last_term es) (filter (is_named es mode) (upto (move_count es))) k term g in
-    let q = unrank_upto (is_named es mode) (move_count es) k i.element i.got in
+    (λ k term g. let i = image_of (last_term es) (filter (is_named_location es mode) (upto (move_count es))) k term g in
+    let q = unrank_upto (is_named_location es mode) (move_count es) k i.element i.got in
     let p = and_parts (nat_le 2 (write_count es i.element)) (not (is_observed es mode i.element)) q.passes in
     subst (IsMet (final_state (cycle_program a es mode number) names register_number x)) i.image
     (place_shows a es mode number names register_number x i.element t n named q.below

@@ -20,11 +20,11 @@ position_none t i [] k x h g = cc
 position_none t i (y ∷ xs) k x h g =
     by_test (t y)
     (λ p. let e : Some i ≡ None = sym (ap (λ b. cond b (Some i) (position_from t (i + 1) xs)) p) ∙ h in cc)
-    (λ n. behind k g n (λ j. position_none t (i + 1) xs j x (sym (ap (λ b. cond b (Some i) (position_from t (i + 1) xs)) n) ∙ h)))
+    (λ n. remainder k g n (λ j. position_none t (i + 1) xs j x (sym (ap (λ b. cond b (Some i) (position_from t (i + 1) xs)) n) ∙ h)))
   where
-    behind : (k : ℕ) → slice_get (y ∷ xs) k ≡ Some x → t y ≡ false → ((j : ℕ) → slice_get xs j ≡ Some x → t x ≡ false) → t x ≡ false
-    behind zero g n rest = let e : y ≡ x = cc in ap t (sym e) ∙ n
-    behind (suc j) g n rest = rest j g
+    remainder : (k : ℕ) → slice_get (y ∷ xs) k ≡ Some x → t y ≡ false → ((j : ℕ) → slice_get xs j ≡ Some x → t x ≡ false) → t x ≡ false
+    remainder zero g n rest = let e : y ≡ x = cc in ap t (sym e) ∙ n
+    remainder (suc j) g n rest = rest j g
 
 -- the place of the first that passes
 pub position_first : {X : Type 0} (t : X → Bool) (i : ℕ) (xs : List X) (k : ℕ) (x : X) → slice_get xs k ≡ Some x → t x ≡ true → ((j : ℕ) (y : X) → j < k → slice_get xs j ≡ Some y → t y ≡ false) → position_from t i xs ≡ Some (i + k)

@@ -13,7 +13,7 @@ use Rattle.arch_trait.specs.declared.step.Step.{Step}
 use Rattle.arch_trait.specs.Links.{kind_link, is_addr, is_data, mask_if, link_control}
 use Rattle.arch_trait.specs.Threads.{FitSteps, is_load_dir, loads_in, control_after}
 use Rattle.program_meaning.specs.Accesses.{Access, Visit, accesses_of, is_read, reads_by, reads_before}
-use Rattle.program_meaning.specs.Standing.{Named}
+use Rattle.program_meaning.specs.Standing.{NamedAccess}
 use Rattle.test_laws.proofs.Visits.{link_barred, data_met, thread_visits}
 use Rattle.test_laws.proofs.VisitsAt.{IsVisit, visit_at, reads_same, reads_taken, loads_more, control_later}
 use Rattle.test_laws.proofs.Ties.{Follows}
@@ -31,7 +31,7 @@ data_met_is s dirs.R k h =
 
 -- s and t are accesses number j and j + 1 of a thread, an edge of a kind asks for the link between them, and e and f are
 -- what they make
-pub next_follows : (arch : ArchName) (kind : Kind) (threads : List (List Access)) (e f : Named) (steps : List Step) (vs : List ℕ) (j : ℕ) (s t : Step) → FitSteps arch false steps → slice_get steps j ≡ Some s → slice_get steps (suc j) ≡ Some t → s.dir ≡ kind_source kind → t.link ≡ kind_link kind → (is_data t.link ≡ true → t.dir ≡ dirs.W) → e.visit.access.dir ≡ kind_source kind → reads_before threads e.name ≡ count_by is_read (take j (accesses_of (thread_visits steps 0 0 vs))) → slice_get (thread_visits steps 0 0 vs) (suc j) ≡ Some f.visit → Follows kind threads e f (0 + loads_in (take (suc j) steps) - 1) (control_after (take (suc j) steps) 0 0)
+pub next_follows : (arch : ArchName) (kind : Kind) (threads : List (List Access)) (e f : NamedAccess) (steps : List Step) (vs : List ℕ) (j : ℕ) (s t : Step) → FitSteps arch false steps → slice_get steps j ≡ Some s → slice_get steps (suc j) ≡ Some t → s.dir ≡ kind_source kind → t.link ≡ kind_link kind → (is_data t.link ≡ true → t.dir ≡ dirs.W) → e.visit.access.dir ≡ kind_source kind → reads_before threads e.name ≡ count_by is_read (take j (accesses_of (thread_visits steps 0 0 vs))) → slice_get (thread_visits steps 0 0 vs) (suc j) ≡ Some f.visit → Follows kind threads e f (0 + loads_in (take (suc j) steps) - 1) (control_after (take (suc j) steps) 0 0)
 next_follows arch kind threads e f steps vs j s t fit here there source link store leaves reads second = record {
   leaves = leaves;
   barriers = ap (λ (y : Visit). y.barriers) (made.is) ∙ ap (λ l. link_barred l (0 + loads_in (take (suc j) steps) - 1) (control_after (take (suc j) steps) 0 0)) link;

@@ -14,11 +14,11 @@ use Rattle.final_cond.specs.Conditions.{CondSeen}
 use Rattle.final_cond.specs.States.{Meets}
 use Rattle.arch_trait.specs.declared.step.Step.{Step}
 use Rattle.arch_trait.specs.Threads.{Puts, ThreadCode, shape_of}
-use Rattle.arch_trait.specs.Renumbering.{renumbered}
+use Rattle.arch_trait.specs.PlaceRenumbering.{renumbered}
 use Rattle.arch_trait.specs.Laws.{IsArch}
-use Rattle.arch_trait.specs.Names.{location_name}
+use Rattle.arch_trait.specs.PlaceNames.{location_name}
 use Rattle.arch_laws.proofs.NameLaws.{length-letters}
-use Rattle.arch_trait.specs.Tests.{TestSeen}
+use Rattle.arch_trait.specs.SeenTests.{TestSeen}
 use Rattle.arch_laws.proofs.Renumbered.{renumbered_same}
 use Rattle.program_meaning.specs.Executions.{Execution}
 use Rattle.program_meaning.specs.Programs.{Program, IsCandidate, IsCoherentIn}
@@ -27,11 +27,11 @@ use Rattle.program_meaning.specs.Intended.{IsNumbering, intended}
 use Rattle.communication_laws.specs.Joining.{IsOutcome}
 use Rattle.communication_laws.proofs.Needs.{served_if_valued}
 use Rattle.communication_laws.proofs.Laws.{all_edges_stand_law, one_outcome_law, an_outcome_law}
-use Rattle.test_laws.specs.Steps.{cycle_steps}
+use Rattle.test_laws.specs.CycleSteps.{cycle_steps}
 use Rattle.test_laws.specs.TestOf.{plain, last_terms, load_terms, test_of}
-use Rattle.test_laws.specs.Programs.{thread_from, test_program}
+use Rattle.test_laws.specs.TestPrograms.{thread_from, test_program}
 use Rattle.test_laws.specs.FinalStates.{final_state, IsAskedFor}
-use Rattle.test_laws.specs.Headline.{HasCode, HasTest, FindsRegisters, IsRenumbered, TestsForce, RenumberedForce, TestsAsk}
+use Rattle.test_laws.specs.TestHeadline.{HasCode, HasTest, FindsRegisters, IsRenumbered, TestsForce, RenumberedForce, TestsAsk}
 use Rattle.test_laws.proofs.Everywhere.{position_none}
 use Rattle.test_laws.proofs.PlaceNames.{AreNamed, letter_at, names_differ, locations_few}
 use Rattle.test_laws.proofs.TestCodes.{cycle_codes, cycle_program, are_codes}

@@ -17,13 +17,13 @@ use Rattle.program_meaning.specs.Executions.{Execution}
 use Rattle.program_meaning.specs.Programs.{IsCandidate}
 use Rattle.program_meaning.specs.Intended.{IsNumbering, observed_locations, event_access, observer_accesses, cycle_accesses, intended}
 use Rattle.execution_laws.proofs.Runs.{accesses-count}
-use Rattle.communication_laws.specs.Joining.{filled, values_read, Makes, ReadsAsAsked}
+use Rattle.communication_laws.specs.Joining.{accesses_filled, values_read, MakesAccesses, ReadsAsAsked}
 use Rattle.communication_laws.proofs.Lists.{got_below, got_map, map_same, map-map}
 use Rattle.communication_laws.proofs.Bridge.{resolves}
 use Rattle.communication_laws.proofs.IntendedReads.{reads-count}
 use Rattle.communication_laws.proofs.Programs.{intended_asked}
-use Rattle.test_laws.specs.Steps.{event_step, thread_steps, observing, observer_steps, cycle_steps, numbers_read}
-use Rattle.test_laws.specs.Programs.{thread_from, program_of}
+use Rattle.test_laws.specs.CycleSteps.{event_step, thread_steps, observing, observer_steps, cycle_steps, numbers_read}
+use Rattle.test_laws.specs.TestPrograms.{thread_from, program_of}
 use Rattle.test_laws.proofs.Terms.{reads-count as numbers-count}
 use Rattle.test_laws.proofs.Visits.{step_access}
 use Rattle.test_laws.proofs.ThreadRuns.{AreCodesOf, AreEnough, AllEnd, did_thread, enough, all_end}
@@ -58,7 +58,7 @@ planned_reads (s ∷ steps) = of_dir s.dir (planned_reads steps)
     of_dir dirs.W h = h
 
 -- with a number for each load, a program whose code makes the accesses of the test makes them
-pub makes_enough : (codes : List ThreadCode) (es : List Edge) (mode : ObsMode) (number : ℕ → ℕ) (x : Execution) → AreCodesOf codes (cycle_steps es mode number) → AreEnough (cycle_steps es mode number) x → Makes es mode number (program_of codes (move_count es)) x
+pub makes_enough : (codes : List ThreadCode) (es : List Edge) (mode : ObsMode) (number : ℕ → ℕ) (x : Execution) → AreCodesOf codes (cycle_steps es mode number) → AreEnough (cycle_steps es mode number) x → MakesAccesses es mode number (program_of codes (move_count es)) x
 makes_enough codes es mode number x m e = record {
   places = refl;
   threads = length-map codes thread_from ∙ m.count ∙ sym (planned-count es mode number);
@@ -67,7 +67,7 @@ makes_enough codes es mode number x m e = record {
       let f : Some (map step_access s.element) ≡ Some planned = sym (planned_at es mode number k s.element s.got) ∙ g in
       let q : map step_access s.element ≡ planned = cc in
       (did_thread codes (cycle_steps es mode number) (move_count es) x k s.element reads m s.got h (e k s.element reads s.got h)).accesses_are
-      ∙ ap (λ l. Some (filled l (values_read reads))) q;
+      ∙ ap (λ l. Some (accesses_filled l (values_read reads))) q;
 }
   where
     below : (k : ℕ) (planned : List Access) → slice_get (cycle_accesses es mode number) k ≡ Some planned → k < length (cycle_steps es mode number)
@@ -78,7 +78,7 @@ pub candidate_enough : (codes : List ThreadCode) (es : List Edge) (mode : ObsMod
 candidate_enough codes es mode number x m c = enough codes (cycle_steps es mode number) (move_count es) x m c.ended
 
 -- so the program makes the accesses of the test in it
-pub makes : (codes : List ThreadCode) (es : List Edge) (mode : ObsMode) (number : ℕ → ℕ) (x : Execution) → AreCodesOf codes (cycle_steps es mode number) → IsCandidate (program_of codes (move_count es)) x → Makes es mode number (program_of codes (move_count es)) x
+pub makes : (codes : List ThreadCode) (es : List Edge) (mode : ObsMode) (number : ℕ → ℕ) (x : Execution) → AreCodesOf codes (cycle_steps es mode number) → IsCandidate (program_of codes (move_count es)) x → MakesAccesses es mode number (program_of codes (move_count es)) x
 makes codes es mode number x m c = makes_enough codes es mode number x m (candidate_enough codes es mode number x m c)
 
 -- it has as many lists of reads as threads

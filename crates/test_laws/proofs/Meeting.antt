@@ -9,7 +9,7 @@ use Rattle.final_cond.specs.Conditions.{LeftSeen, TermSeen, InRegister}
 use Rattle.arch_trait.specs.declared.step.Step.{Step}
 use Rattle.arch_trait.specs.Threads.{Puts, compiled, HoldNumbers}
 use Rattle.arch_trait.specs.Codes.{AllBelow}
-use Rattle.test_laws.specs.Steps.{numbers_read}
+use Rattle.test_laws.specs.CycleSteps.{numbers_read}
 use Rattle.test_laws.specs.TestOf.{load_term, thread_terms, load_terms}
 use Rattle.test_laws.proofs.Terms.{loads-count}
 

@@ -9,7 +9,7 @@ use Rattle.relax_edges.specs.declared.edge.Edge.{Edge}
 use Rattle.list_laws.proofs.Cases.{by_test, by_less}
 use Rattle.resolution_laws.specs.Resolution.{IsResolved, move_count}
 use Rattle.resolution_laws.proofs.Sizes.{external_and_moves}
-use Rattle.arch_trait.specs.Names.{location_name, letters, number_in}
+use Rattle.arch_trait.specs.PlaceNames.{location_name, letters, number_in}
 use Rattle.arch_laws.proofs.NameLaws.{location_new}
 use Rattle.program_meaning.specs.Intended.{IsNumbering}
 use Rattle.communication_laws.proofs.Numbering.{numbering_onto}

@@ -3,10 +3,10 @@ use Rattle.std.proofs.Common.{◌≡◌, ℕ, zero, suc, ◌+◌, ◌<◌, false
 use Rattle.std.specs.List.{position_from, IsDistinct, AllByRecursion}
 use Rattle.std.specs.Str.{bytes_eq}
 use Rattle.std.proofs.lemmas.Slice.Eq.{bytes_eq-Decides}
-use Rattle.arch_trait.specs.Names.{number_in}
+use Rattle.arch_trait.specs.PlaceNames.{number_in}
 use Rattle.arch_trait.specs.Threads.{Puts}
 use Rattle.arch_trait.specs.Writing.{Writing, WritesBack, name_in}
-use Rattle.test_laws.specs.Headline.{FindsRegisters}
+use Rattle.test_laws.specs.TestHeadline.{FindsRegisters}
 
 each_at : (P : List ℕ → Type 0) (names : List (List ℕ)) (i : ℕ) → AllByRecursion P names → i < length names → P (get_or names i [])
 each_at P [] i all h = absurd (omega (arith, h))

@@ -15,7 +15,7 @@ use Rattle.value_laws.proofs.Laws.{threads_and_observers}
 use Rattle.arch_trait.specs.declared.step.Step.{Step}
 use Rattle.program_meaning.specs.Intended.{observed_locations}
 use Rattle.communication_laws.proofs.Lists.{slice_get-append_left, slice_get-append_right, image_of, got_map}
-use Rattle.test_laws.specs.Steps.{thread_steps, observer_steps, cycle_steps}
+use Rattle.test_laws.specs.CycleSteps.{thread_steps, observer_steps, cycle_steps}
 
 -- a thread of the cycle has its events' accesses
 pub thread_steps_at : (es : List Edge) (mode : ObsMode) (number : ℕ → ℕ) (k : ℕ) → k < external_count es → slice_get (cycle_steps es mode number) k ≡ Some (thread_steps es number k)

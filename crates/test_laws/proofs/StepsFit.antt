@@ -33,11 +33,11 @@ use Rattle.value_laws.proofs.Laws.{observed_writes}
 use Rattle.arch_trait.specs.declared.step.Step.{Step}
 use Rattle.arch_trait.specs.declared.link.Link.{Link}
 use Rattle.arch_trait.specs.declared.link.Link.TheVariants.{Plain}
-use Rattle.arch_trait.specs.Links.{kind_link, edge_link, link_is_of, depends, is_data}
+use Rattle.arch_trait.specs.Links.{kind_link, edge_link, link_is_of, depends_on_load, is_data}
 use Rattle.arch_trait.specs.Threads.{FitStep, FitSteps, is_load_dir}
 use Rattle.test_laws.proofs.EdgeMarks.{has_edge}
 use Rattle.communication_laws.proofs.Lists.{image_of}
-use Rattle.test_laws.specs.Steps.{event_link, event_step, thread_steps, observing, observer_steps, cycle_steps}
+use Rattle.test_laws.specs.CycleSteps.{event_link, event_step, thread_steps, observing, observer_steps, cycle_steps}
 use Rattle.test_laws.proofs.StepsAt.{by_steps}
 
 -- an element of a list whose elements all pass
@@ -53,7 +53,7 @@ fit_from arch b (s ∷ ss) first next =
     (first s refl, fit_from arch (is_load_dir s.dir) ss (λ t g. next 0 s t refl g) (λ k t u g h. next (suc k) t u g h))
 
 -- a dependency leaves a load
-link_leaves : (k : Kind) → depends (kind_link k) ≡ true → is_load_dir (kind_source k) ≡ true
+link_leaves : (k : Kind) → depends_on_load (kind_link k) ≡ true → is_load_dir (kind_source k) ≡ true
 link_leaves (kinds.Com c r) h = cc
 link_leaves (kinds.Po s f t) h = cc
 link_leaves (kinds.Fenced f s d t) h = cc
@@ -80,7 +80,7 @@ record IsMarked (arch : ArchName) (s : Step) : Type 0 where
 untied_fits : (arch : ArchName) (b : Bool) (s : Step) → s.link ≡ Plain → IsMarked arch s → s.value < 256 → FitStep arch b s
 untied_fits arch b s e m v = record {
   of_arch = ap (λ l. link_is_of l arch) e;
-  after = λ h. let f : false ≡ true = sym (ap depends e) ∙ h in cc;
+  after = λ h. let f : false ≡ true = sym (ap depends_on_load e) ∙ h in cc;
   to_store = λ h. let f : false ≡ true = sym (ap is_data e) ∙ h in cc;
   mark_fitting = m.fits;
   mark_of_arch = m.of_arch;
@@ -142,7 +142,7 @@ event_fits es arch number i r a b = record {
   of_arch =
       ap (λ l. link_is_of l arch) link
       ∙ (has_edge (edge_at es b.event) arch (all_at (λ e. is_of_arch e arch) es b.event (edges.Com Rf Internal) a b.below)).link;
-  after = λ h. link_leaves (kind_of (edge_at es b.event)) (sym (ap depends link) ∙ h);
+  after = λ h. link_leaves (kind_of (edge_at es b.event)) (sym (ap depends_on_load link) ∙ h);
   to_store = λ h. ap (λ j. source_of (edge_at es j)) (sym b.next)
       ∙ source_after es b.event r.composes b.below
       ∙ link_enters (kind_of (edge_at es b.event)) (sym (ap is_data link) ∙ h);

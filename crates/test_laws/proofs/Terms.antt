@@ -24,8 +24,8 @@ use Rattle.arch_trait.specs.declared.step.Step.{Step}
 use Rattle.arch_trait.specs.Threads.{Puts, is_load_dir, loads_in, setting_out, compiled}
 use Rattle.arch_laws.proofs.CodeLaws.{thread_loads_length}
 use Rattle.program_meaning.specs.Intended.{observed_locations}
-use Rattle.test_laws.specs.Steps.{event_step, thread_steps, observing, observer_steps, cycle_steps, numbers_read}
-use Rattle.test_laws.specs.TestOf.{is_named, last_term, last_terms, load_term, thread_terms, load_terms}
+use Rattle.test_laws.specs.CycleSteps.{event_step, thread_steps, observing, observer_steps, cycle_steps, numbers_read}
+use Rattle.test_laws.specs.TestOf.{is_named_location, last_term, last_terms, load_term, thread_terms, load_terms}
 
 -- a thread has as many terms as loads
 pub reads-count : (steps : List Step) → length (numbers_read steps) ≡ loads_in steps
@@ -150,7 +150,7 @@ chosen_fewer f p q (x ∷ xs) h =
     more false = omega arith
 
 -- a location whose last value is named has a write, and one with an observer isn't named
-named_or_observed : (es : List Edge) (mode : ObsMode) (l : ℕ) → cond (is_named es mode l) 1 0 + cond (is_observed es mode l) (write_count es l) 0 ≤ write_count es l
+named_or_observed : (es : List Edge) (mode : ObsMode) (l : ℕ) → cond (is_named_location es mode l) 1 0 + cond (is_observed es mode l) (write_count es l) 0 ≤ write_count es l
 named_or_observed es mode l = either (is_observed es mode l) (nat_le 2 (write_count es l)) refl
   where
     either : (seen two : Bool) → nat_le 2 (write_count es l) ≡ two → cond (two && not seen) 1 0 + cond seen (write_count es l) 0 ≤ write_count es l
@@ -186,11 +186,11 @@ terms_few a name es mode number r =
     omega (
       arith,
       length-append (last_terms es mode) (load_terms a name 0 (cycle_steps es mode number)),
-      length-map (filter (is_named es mode) (upto (move_count es))) (last_term es),
-      length-filter (is_named es mode) (upto (move_count es)),
+      length-map (filter (is_named_location es mode) (upto (move_count es))) (last_term es),
+      length-filter (is_named_location es mode) (upto (move_count es)),
       load_terms-count a name 0 (cycle_steps es mode number),
       loads_total es mode number r,
-      chosen_fewer (write_count es) (is_observed es mode) (is_named es mode) (upto (move_count es)) (named_or_observed es mode),
+      chosen_fewer (write_count es) (is_observed es mode) (is_named_location es mode) (upto (move_count es)) (named_or_observed es mode),
       writes_total es r,
       either_passes (is_write es) (is_load es) (length es) (load_or_store es),
     )

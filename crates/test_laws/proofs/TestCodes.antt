@@ -14,16 +14,16 @@ use Rattle.arch_trait.specs.declared.step.Step.{Step}
 use Rattle.arch_trait.specs.Codes.{AllBelow, MakesSteps}
 use Rattle.arch_trait.specs.Threads.{Puts, ThreadCode, is_load_dir, compiled}
 use Rattle.arch_trait.specs.Laws.{IsArch}
-use Rattle.arch_trait.specs.Renumbering.{step_at, renumbered}
+use Rattle.arch_trait.specs.PlaceRenumbering.{step_at, renumbered}
 use Rattle.arch_laws.proofs.CodeLaws.{makes_steps, is_formed}
 use Rattle.arch_laws.proofs.Renumbered.{renumbered_makes}
 use Rattle.program_meaning.specs.Programs.{Program}
 use Rattle.program_meaning.specs.Intended.{observed_locations}
 use Rattle.communication_laws.proofs.Lists.{got_map, image_of, map_same, map-map}
-use Rattle.test_laws.specs.Steps.{event_step, thread_steps, observing, observer_steps, cycle_steps, numbers_read}
+use Rattle.test_laws.specs.CycleSteps.{event_step, thread_steps, observing, observer_steps, cycle_steps, numbers_read}
 use Rattle.test_laws.specs.TestOf.{plain}
-use Rattle.test_laws.specs.Programs.{program_of}
-use Rattle.test_laws.specs.Headline.{HasCode}
+use Rattle.test_laws.specs.TestPrograms.{program_of}
+use Rattle.test_laws.specs.TestHeadline.{HasCode}
 use Rattle.test_laws.proofs.StepsFit.{steps_fit}
 use Rattle.test_laws.proofs.ThreadRuns.{AreCodesOf}
 

@@ -15,9 +15,9 @@ use Rattle.program_meaning.specs.Accesses.{Visit, visits_of, accesses_of}
 use Rattle.program_meaning.specs.Executions.{Execution}
 use Rattle.program_meaning.specs.Programs.{Program, Thread, run_of, runs_of, made_in, HasEnded, items_in, visits_in, accesses_in}
 use Rattle.execution_laws.proofs.Runs.{accesses-count}
-use Rattle.communication_laws.specs.Joining.{filled, values_read}
+use Rattle.communication_laws.specs.Joining.{accesses_filled, values_read}
 use Rattle.communication_laws.proofs.Lists.{got_below, got_map}
-use Rattle.test_laws.specs.Programs.{thread_from, program_of}
+use Rattle.test_laws.specs.TestPrograms.{thread_from, program_of}
 use Rattle.test_laws.proofs.Visits.{step_access, thread_visits, visits_are, accesses_are}
 
 -- the code of each thread makes its accesses
@@ -62,7 +62,7 @@ pub record DidThread (codes : List ThreadCode) (places : ℕ) (x : Execution) (k
   pub loaded : HoldNumbers regs code.loads (values_read reads)
   pub items_are : slice_get (items_in (program_of codes places) x) k ≡ Some (thread_items steps 0 0 (values_read reads))
   pub visits_are : slice_get (visits_in (program_of codes places) x) k ≡ Some (thread_visits steps 0 0 (values_read reads))
-  pub accesses_are : slice_get (accesses_in (program_of codes places) x) k ≡ Some (filled (map step_access steps) (values_read reads))
+  pub accesses_are : slice_get (accesses_in (program_of codes places) x) k ≡ Some (accesses_filled (map step_access steps) (values_read reads))
 
 -- with a number for each load it does
 pub did_thread : (codes : List ThreadCode) (threads : List (List Step)) (places : ℕ) (x : Execution) (k : ℕ) (steps : List Step) (reads : List (ℕ × Option WriteAt)) → AreCodesOf codes threads → slice_get threads k ≡ Some steps → slice_get x.reads k ≡ Some reads → length (values_read reads) ≡ loads_in steps → DidThread codes places x k steps reads

@@ -13,12 +13,12 @@ use Rattle.arch_trait.specs.declared.link.Link.{Link}
 use Rattle.arch_trait.specs.Links.{kind_link, branches, is_addr, is_data, mask_if, link_control}
 use Rattle.arch_laws.proofs.Items.{control_row}
 use Rattle.program_meaning.specs.Accesses.{Access, is_read, reads_by, reads_before}
-use Rattle.program_meaning.specs.Standing.{Named, BarriersWait, TiesBy, is_in_mask, mask_of}
+use Rattle.program_meaning.specs.Standing.{NamedAccess, BarriersWait, TiesBy, is_in_mask, mask_of}
 use Rattle.test_laws.proofs.Visits.{link_barred}
 
 -- an access follows another in its thread, by the link of an edge of a kind: load number k is the other access, if that
 -- reads, and branches before the link depended on the loads of c, which come before load number k
-pub record Follows (kind : Kind) (threads : List (List Access)) (e f : Named) (k c : ℕ) : Type 0 where
+pub record Follows (kind : Kind) (threads : List (List Access)) (e f : NamedAccess) (k c : ℕ) : Type 0 where
   pub leaves : e.visit.access.dir ≡ kind_source kind
   pub barriers : f.visit.barriers ≡ link_barred (kind_link kind) k c
   pub address : f.visit.address_mask ≡ mask_if (is_addr (kind_link kind)) k
@@ -28,7 +28,7 @@ pub record Follows (kind : Kind) (threads : List (List Access)) (e f : Named) (k
   pub earlier : is_read e.visit.access ≡ true → c < 2 ^ k
 
 -- a read is in the mask of the branches before the next access where the link between them branches
-in_control : (kind : Kind) (threads : List (List Access)) (e f : Named) (k c : ℕ) → Follows kind threads e f k c → (link : Link) → is_in_mask threads e (link_control link k c) ≡ (is_read e.visit.access && branches link)
+in_control : (kind : Kind) (threads : List (List Access)) (e f : NamedAccess) (k c : ℕ) → Follows kind threads e f k c → (link : Link) → is_in_mask threads e (link_control link k c) ≡ (is_read e.visit.access && branches link)
 in_control kind threads e f k c h link =
     by_test (is_read e.visit.access)
     (λ t. rw t (ap (λ j. bit_at (link_control link k c) j == 1) (h.reads_are t) ∙ ap (λ b. b == 1) (control_row link k c (h.earlier t)) ∙ one_if (branches link)))
@@ -39,25 +39,25 @@ in_control kind threads e f k c h link =
     one_if false = refl
 
 -- where the link doesn't branch
-off : (kind : Kind) (threads : List (List Access)) (e f : Named) (k c : ℕ) → Follows kind threads e f k c → branches (kind_link kind) ≡ false → is_in_mask threads e f.visit.control_mask ≡ false
+off : (kind : Kind) (threads : List (List Access)) (e f : NamedAccess) (k c : ℕ) → Follows kind threads e f k c → branches (kind_link kind) ≡ false → is_in_mask threads e f.visit.control_mask ≡ false
 off kind threads e f k c h b =
     ap (is_in_mask threads e) h.control ∙ in_control kind threads e f k c h (kind_link kind) ∙ ap (λ t. is_read e.visit.access && t) b ∙ and-false (is_read e.visit.access)
 
 -- what a dependency leaves is a read
-leaves_read : (kind : Kind) (threads : List (List Access)) (e f : Named) (k c : ℕ) → Follows kind threads e f k c → kind_source kind ≡ dirs.R → is_read e.visit.access ≡ true
+leaves_read : (kind : Kind) (threads : List (List Access)) (e f : NamedAccess) (k c : ℕ) → Follows kind threads e f k c → kind_source kind ≡ dirs.R → is_read e.visit.access ≡ true
 leaves_read kind threads e f k c h s = ap reads_by (h.leaves ∙ s)
 
 -- where it does, from a read
-on : (kind : Kind) (threads : List (List Access)) (e f : Named) (k c : ℕ) → Follows kind threads e f k c → kind_source kind ≡ dirs.R → branches (kind_link kind) ≡ true → is_in_mask threads e (link_control (kind_link kind) k c) ≡ true
+on : (kind : Kind) (threads : List (List Access)) (e f : NamedAccess) (k c : ℕ) → Follows kind threads e f k c → kind_source kind ≡ dirs.R → branches (kind_link kind) ≡ true → is_in_mask threads e (link_control (kind_link kind) k c) ≡ true
 on kind threads e f k c h s b =
     in_control kind threads e f k c h (kind_link kind) ∙ ap (λ t. is_read e.visit.access && t) b ∙ (let r = leaves_read kind threads e f k c h s in rw r refl)
 
 -- the mask of the read that a dependency is on
-alone : (kind : Kind) (threads : List (List Access)) (e f : Named) (k c : ℕ) → Follows kind threads e f k c → kind_source kind ≡ dirs.R → mask_if true k ≡ mask_of threads e
+alone : (kind : Kind) (threads : List (List Access)) (e f : NamedAccess) (k c : ℕ) → Follows kind threads e f k c → kind_source kind ≡ dirs.R → mask_if true k ≡ mask_of threads e
 alone kind threads e f k c h s = ap (λ j. 2 ^ j) (sym (h.reads_are (leaves_read kind threads e f k c h s)))
 
 -- an edge ties the two as it says
-pub ties : (kind : Kind) (threads : List (List Access)) (e f : Named) (k c : ℕ) → Follows kind threads e f k c → TiesBy kind threads e f
+pub ties : (kind : Kind) (threads : List (List Access)) (e f : NamedAccess) (k c : ℕ) → Follows kind threads e f k c → TiesBy kind threads e f
 ties (kinds.Com kind Internal) threads e f k c h = record {
   barriers_are = ap (map (λ b. b.kind)) h.barriers;
   address_is = h.address;

@@ -4,8 +4,8 @@ use Rattle.std.specs.Prelude.{codes}
 use Rattle.final_cond.specs.declared.cond.Quantifier.TheVariants.{Exists}
 use Rattle.final_cond.specs.Conditions.{TermSeen, InRegister, AtPlace}
 use Rattle.relax_edges.specs.declared.edge.Edge.{Edge}
-use Rattle.arch_trait.specs.Names.{number_in}
-use Rattle.arch_trait.specs.Tests.{TestSeen}
+use Rattle.arch_trait.specs.PlaceNames.{number_in}
+use Rattle.arch_trait.specs.SeenTests.{TestSeen}
 use Rattle.program_meaning.specs.Programs.{Program}
 use Rattle.communication_laws.proofs.Examples.{store_buffering, two_writes, W3O}
 use Rattle.communication_laws.proofs.Executions.{buffers, both_initial, both_initial-candidate, both_initial-coherent, one_later, double_writes, y_exchanged, y_exchanged-candidate, y_exchanged-coherent, unobserved, in_order, in_order-candidate, in_order-coherent, exchanged, exchanged-candidate, exchanged-coherent}

@@ -25,11 +25,11 @@ use Rattle.program_meaning.specs.declared.WriteAt.{WriteAt}
 use Rattle.program_meaning.specs.Accesses.{Access, Visit, got_from, at_name, accesses_of, barriers_after, reads_among, reads_before}
 use Rattle.program_meaning.specs.Executions.{Execution}
 use Rattle.program_meaning.specs.Programs.{IsCandidate, visits_in, accesses_in}
-use Rattle.program_meaning.specs.Standing.{Named, IsEvent, StartsFree, TiesBy}
+use Rattle.program_meaning.specs.Standing.{NamedAccess, IsEvent, StartsFree, TiesBy}
 use Rattle.communication_laws.specs.Joining.{AreFree, IsTiedUp, values_read}
 use Rattle.communication_laws.proofs.Lists.{got_map, image_of}
-use Rattle.test_laws.specs.Steps.{event_link, event_step, thread_steps, observing, observer_steps, cycle_steps}
-use Rattle.test_laws.specs.Programs.{program_of}
+use Rattle.test_laws.specs.CycleSteps.{event_link, event_step, thread_steps, observing, observer_steps, cycle_steps}
+use Rattle.test_laws.specs.TestPrograms.{program_of}
 use Rattle.test_laws.proofs.StepsAt.{thread_steps_at, by_steps}
 use Rattle.test_laws.proofs.StepsFit.{Before, inner_before, link_between, link_first, thread_fits, event_fits}
 use Rattle.test_laws.proofs.Visits.{thread_visits, ends_free}
@@ -40,7 +40,7 @@ use Rattle.test_laws.proofs.ThreadRuns.{AreCodesOf, DidThread, did_thread, Threa
 use Rattle.test_laws.proofs.Making.{candidate_enough, candidate_lists}
 
 -- an edge to another thread ties nothing
-external_ties : (kind : Kind) (edge : Edge) (threads : List (List Access)) (e f : Named) → kind_of edge ≡ kind → is_external edge ≡ true → TiesBy kind threads e f
+external_ties : (kind : Kind) (edge : Edge) (threads : List (List Access)) (e f : NamedAccess) → kind_of edge ≡ kind → is_external edge ≡ true → TiesBy kind threads e f
 external_ties (kinds.Com which Internal) edge threads e f q h = let a = rw q at h in cc
 external_ties (kinds.Com which External) edge threads e f q h = tt
 external_ties (kinds.Po sd from to) edge threads e f q h = let a = rw q at h in cc
@@ -54,7 +54,7 @@ thread_did codes es mode number x k m c t =
     did_thread codes (cycle_steps es mode number) (move_count es) x k t.steps t.reads m t.steps_at t.reads_at (candidate_enough codes es mode number x m c k t.steps t.reads t.steps_at t.reads_at)
 
 -- an event is at its slot among the visits of its thread
-event_visit : (es : List Edge) (visits : List (List Visit)) (i : ℕ) (e : Named) (k j : ℕ) (thread : List Visit) → IsEvent es visits i e → event_thread es i ≡ k → slot_of es i ≡ j → slice_get visits k ≡ Some thread → slice_get thread j ≡ Some e.visit
+event_visit : (es : List Edge) (visits : List (List Visit)) (i : ℕ) (e : NamedAccess) (k j : ℕ) (thread : List Visit) → IsEvent es visits i e → event_thread es i ≡ k → slot_of es i ≡ j → slice_get visits k ≡ Some thread → slice_get thread j ≡ Some e.visit
 event_visit es visits i e k j thread v t s g =
     ap (λ o. got_from o j) (sym g)
     ∙ ap (λ (n : WriteAt). at_name visits n) (λ z. record { thread = sym t z; access = sym s z })
@@ -62,7 +62,7 @@ event_visit es visits i e k j thread v t s g =
     ∙ v.visit_is
 
 -- two events that an internal edge joins: the second follows the first in its thread, by the edge's link
-record IsAfter (codes : List ThreadCode) (es : List Edge) (mode : ObsMode) (number : ℕ → ℕ) (x : Execution) (i : ℕ) (e f : Named) : Type 0 where
+record IsAfter (codes : List ThreadCode) (es : List Edge) (mode : ObsMode) (number : ℕ → ℕ) (x : Execution) (i : ℕ) (e f : NamedAccess) : Type 0 where
   k : ℕ
   c : ℕ
   follows : Follows (kind_of (edge_at es i)) (accesses_in (program_of codes (move_count es)) x) e f k c
@@ -91,7 +91,7 @@ is_next es number i r h inside =
       step = got_map (event_step es number) (events_in es (event_thread es i)) (suc (slot_of es i)) (event_after es i) stands;
     }
 
-is_after : (arch : ArchName) (codes : List ThreadCode) (es : List Edge) (mode : ObsMode) (number : ℕ → ℕ) (x : Execution) (i : ℕ) (e f : Named) → IsResolved es → list_all (λ e. is_of_arch e arch) es ≡ true → AreCodesOf codes (cycle_steps es mode number) → IsCandidate (program_of codes (move_count es)) x → i < length es → is_external (edge_at es i) ≡ false → IsEvent es (visits_in (program_of codes (move_count es)) x) i e → IsEvent es (visits_in (program_of codes (move_count es)) x) (event_after es i) f → IsAfter codes es mode number x i e f
+is_after : (arch : ArchName) (codes : List ThreadCode) (es : List Edge) (mode : ObsMode) (number : ℕ → ℕ) (x : Execution) (i : ℕ) (e f : NamedAccess) → IsResolved es → list_all (λ e. is_of_arch e arch) es ≡ true → AreCodesOf codes (cycle_steps es mode number) → IsCandidate (program_of codes (move_count es)) x → i < length es → is_external (edge_at es i) ≡ false → IsEvent es (visits_in (program_of codes (move_count es)) x) i e → IsEvent es (visits_in (program_of codes (move_count es)) x) (event_after es i) f → IsAfter codes es mode number x i e f
 is_after arch codes es mode number x i e f r o m c h inside u v =
     of_thread (thread_of (cycle_steps es mode number) x (event_thread es i) (candidate_lists codes es mode number x m c) (slice_get_within (cycle_steps es mode number) (event_thread es i) (thread_steps es number (event_thread es i)) stands))
   where
@@ -145,7 +145,7 @@ first_plain es mode number k steps s g h =
     (λ b. (observer_plain es number b.spot 0 s (ap (λ y. slice_get y 0) b.steps_are ∙ h)).link)
 
 -- an event has the mark of what its edge leaves
-event_mark : (codes : List ThreadCode) (es : List Edge) (mode : ObsMode) (number : ℕ → ℕ) (x : Execution) (i : ℕ) (e : Named) → IsResolved es → AreCodesOf codes (cycle_steps es mode number) → IsCandidate (program_of codes (move_count es)) x → i < length es → IsEvent es (visits_in (program_of codes (move_count es)) x) i e → e.visit.mark ≡ source_mark (edge_at es i)
+event_mark : (codes : List ThreadCode) (es : List Edge) (mode : ObsMode) (number : ℕ → ℕ) (x : Execution) (i : ℕ) (e : NamedAccess) → IsResolved es → AreCodesOf codes (cycle_steps es mode number) → IsCandidate (program_of codes (move_count es)) x → i < length es → IsEvent es (visits_in (program_of codes (move_count es)) x) i e → e.visit.mark ≡ source_mark (edge_at es i)
 event_mark codes es mode number x i e r m c h u =
     of_thread (thread_of (cycle_steps es mode number) x (event_thread es i) (candidate_lists codes es mode number x m c) (slice_get_within (cycle_steps es mode number) (event_thread es i) (thread_steps es number (event_thread es i)) stands))
   where

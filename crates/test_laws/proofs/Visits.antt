@@ -10,9 +10,9 @@ use Rattle.arch_trait.specs.declared.step.Step.{Step}
 use Rattle.arch_trait.specs.declared.link.Link.{Link}
 use Rattle.arch_trait.specs.declared.link.Link.TheVariants as links
 use Rattle.arch_trait.specs.Links.{is_addr, is_data, mask_if, link_control, link_items}
-use Rattle.arch_trait.specs.Threads.{is_load_dir, loads_in, loads_after, first_of, left_after, access_item, thread_items}
+use Rattle.arch_trait.specs.Threads.{is_load_dir, loads_in, loads_after, first_number, left_after, access_item, thread_items}
 use Rattle.program_meaning.specs.Accesses.{Access, Barred, Visit, visits_from, visits_of, barriers_after, accesses_of}
-use Rattle.communication_laws.specs.Joining.{value_taken, values_left, filled}
+use Rattle.communication_laws.specs.Joining.{value_taken, values_left, accesses_filled}
 
 -- the barriers of a link
 abbrev pub link_barred : Link → ℕ → ℕ → List Barred
@@ -49,7 +49,7 @@ step_visit s d v k c = record {
 abbrev pub thread_visits : List Step → ℕ → ℕ → List ℕ → List Visit
 thread_visits [] n c vs = []
 thread_visits (s ∷ ss) n c vs =
-    step_visit s s.dir (first_of vs) (n - 1) c ∷ thread_visits ss (loads_after s.dir n) (link_control s.link (n - 1) c) (left_after s.dir vs)
+    step_visit s s.dir (first_number vs) (n - 1) c ∷ thread_visits ss (loads_after s.dir n) (link_control s.link (n - 1) c) (left_after s.dir vs)
 
 item_visit : (s : Step) (d : Dir) (v k c : ℕ) (rest : List Item) → visits_from [] ((link_items s.link k c ++ access_item s d v k (link_control s.link k c) ∷ []) ++ rest) ≡ step_visit s d v k c ∷ visits_from [] rest
 item_visit s d v k c rest = of_link s.link d
@@ -71,8 +71,8 @@ item_visit s d v k c rest = of_link s.link d
 pub visits_are : (ss : List Step) (n c : ℕ) (vs : List ℕ) → visits_of (thread_items ss n c vs) ≡ thread_visits ss n c vs
 visits_are [] n c vs = refl
 visits_are (s ∷ ss) n c vs =
-    item_visit s s.dir (first_of vs) (n - 1) c (thread_items ss (loads_after s.dir n) (link_control s.link (n - 1) c) (left_after s.dir vs))
-    ∙ ap (λ l. step_visit s s.dir (first_of vs) (n - 1) c ∷ l) (visits_are ss (loads_after s.dir n) (link_control s.link (n - 1) c) (left_after s.dir vs))
+    item_visit s s.dir (first_number vs) (n - 1) c (thread_items ss (loads_after s.dir n) (link_control s.link (n - 1) c) (left_after s.dir vs))
+    ∙ ap (λ l. step_visit s s.dir (first_number vs) (n - 1) c ∷ l) (visits_are ss (loads_after s.dir n) (link_control s.link (n - 1) c) (left_after s.dir vs))
 
 item_ends : (s : Step) (d : Dir) (v k c : ℕ) (rest : List Item) → barriers_after [] ((link_items s.link k c ++ access_item s d v k (link_control s.link k c) ∷ []) ++ rest) ≡ barriers_after [] rest
 item_ends s d v k c rest = of_link s.link d
@@ -94,7 +94,7 @@ item_ends s d v k c rest = of_link s.link d
 pub ends_free : (ss : List Step) (n c : ℕ) (vs : List ℕ) → barriers_after [] (thread_items ss n c vs) ≡ []
 ends_free [] n c vs = refl
 ends_free (s ∷ ss) n c vs =
-    item_ends s s.dir (first_of vs) (n - 1) c (thread_items ss (loads_after s.dir n) (link_control s.link (n - 1) c) (left_after s.dir vs))
+    item_ends s s.dir (first_number vs) (n - 1) c (thread_items ss (loads_after s.dir n) (link_control s.link (n - 1) c) (left_after s.dir vs))
     ∙ ends_free ss (loads_after s.dir n) (link_control s.link (n - 1) c) (left_after s.dir vs)
 
 -- an access as the cycle's test plans it
@@ -107,14 +107,14 @@ left_same dirs.R (v ∷ vs) = refl
 left_same dirs.W vs = refl
 
 -- with a number for each load, the accesses are those planned, on these numbers
-pub accesses_are : (ss : List Step) (n c : ℕ) (vs : List ℕ) → length vs ≡ loads_in ss → accesses_of (thread_visits ss n c vs) ≡ filled (map step_access ss) vs
+pub accesses_are : (ss : List Step) (n c : ℕ) (vs : List ℕ) → length vs ≡ loads_in ss → accesses_of (thread_visits ss n c vs) ≡ accesses_filled (map step_access ss) vs
 accesses_are [] n c vs h = refl
 accesses_are (s ∷ ss) n c vs h =
     of_dir s.dir vs (h ∙ sum_by-cons (λ t. cond (is_load_dir t.dir) 1 0) s ss) (λ m us g. accesses_are ss m (link_control s.link (n - 1) c) us g)
   where
     of_dir : (d : Dir) (vs : List ℕ) → length vs ≡ cond (is_load_dir d) 1 0 + loads_in ss →
-        ((m : ℕ) (us : List ℕ) → length us ≡ loads_in ss → accesses_of (thread_visits ss m (link_control s.link (n - 1) c) us) ≡ filled (map step_access ss) us) →
-        ◌≡◌ {A = List Access} (record { dir = d; place = s.place; value = value_met s d (first_of vs) } ∷ accesses_of (thread_visits ss (loads_after d n) (link_control s.link (n - 1) c) (left_after d vs))) (record { dir = d; place = s.place; value = value_taken d vs s.value } ∷ filled (map step_access ss) (values_left d vs))
+        ((m : ℕ) (us : List ℕ) → length us ≡ loads_in ss → accesses_of (thread_visits ss m (link_control s.link (n - 1) c) us) ≡ accesses_filled (map step_access ss) us) →
+        ◌≡◌ {A = List Access} (record { dir = d; place = s.place; value = value_met s d (first_number vs) } ∷ accesses_of (thread_visits ss (loads_after d n) (link_control s.link (n - 1) c) (left_after d vs))) (record { dir = d; place = s.place; value = value_taken d vs s.value } ∷ accesses_filled (map step_access ss) (values_left d vs))
     of_dir dirs.R [] h rest = absurd (omega (arith, h))
     of_dir dirs.R (v ∷ vs) h rest = ap (λ l. record { dir = dirs.R; place = s.place; value = v } ∷ l) (rest (loads_after dirs.R n) vs (omega (arith, h)))
     of_dir dirs.W vs h rest = ap (λ l. record { dir = dirs.W; place = s.place; value = s.value } ∷ l) (rest (loads_after dirs.W n) vs (omega (arith, h)))

@@ -11,7 +11,7 @@ use Rattle.arch_trait.specs.declared.step.Step.{Step}
 use Rattle.arch_trait.specs.declared.link.Link.{Link}
 use Rattle.arch_trait.specs.declared.link.Link.TheVariants.{Plain}
 use Rattle.arch_trait.specs.Links.{link_control}
-use Rattle.arch_trait.specs.Threads.{FitSteps, is_load_dir, loads_in, loads_after, first_of, left_after, control_after}
+use Rattle.arch_trait.specs.Threads.{FitSteps, is_load_dir, loads_in, loads_after, first_number, left_after, control_after}
 use Rattle.arch_laws.proofs.Items.{link_below, branch_depends}
 use Rattle.program_meaning.specs.Accesses.{Visit, accesses_of, reads_by, is_read}
 use Rattle.program_meaning.specs.Standing.{IsFree, StartsFree}
@@ -28,9 +28,9 @@ pub visit_at : (ss : List Step) (n c : ℕ) (vs : List ℕ) (j : ℕ) (s : Step)
 visit_at [] n c vs j s visit g h = cc
 visit_at (t ∷ ss) n c vs zero s visit g h =
     let e : t ≡ s = cc in
-    let f : step_visit t t.dir (first_of vs) (n - 1) c ≡ visit = cc in
+    let f : step_visit t t.dir (first_number vs) (n - 1) c ≡ visit = cc in
     let z : n + 0 ≡ n = omega arith in
-    record { value = first_of vs; is = rw z (sym f ∙ ap (λ u. step_visit u u.dir (first_of vs) (n - 1) c) e) }
+    record { value = first_number vs; is = rw z (sym f ∙ ap (λ u. step_visit u u.dir (first_number vs) (n - 1) c) e) }
 visit_at (t ∷ ss) n c vs (suc j) s visit g h =
     let w = visit_at ss (loads_after t.dir n) (link_control t.link (n - 1) c) (left_after t.dir vs) j s visit g h in
     let e : loads_after t.dir n + loads_in (take j ss) ≡ n + loads_in (t ∷ take j ss) = omega (arith, sum_by-cons (λ u. cond (is_load_dir u.dir) 1 0) t (take j ss)) in
@@ -52,7 +52,7 @@ reads_taken ss n c vs zero = refl
 reads_taken [] n c vs (suc j) = refl
 reads_taken (s ∷ ss) n c vs (suc j) =
     let rest = thread_visits ss (loads_after s.dir n) (link_control s.link (n - 1) c) (left_after s.dir vs) in
-    let a = sum_by-cons (λ x. cond (is_read x) 1 0) (step_visit s s.dir (first_of vs) (n - 1) c).access (take j (accesses_of rest)) in
+    let a = sum_by-cons (λ x. cond (is_read x) 1 0) (step_visit s s.dir (first_number vs) (n - 1) c).access (take j (accesses_of rest)) in
     let b = sum_by-cons (λ u. cond (is_load_dir u.dir) 1 0) s (take j ss) in
     let d : ◌≡◌ {A = ℕ} (cond (reads_by s.dir) 1 0) (cond (is_load_dir s.dir) 1 0) = ap (λ t. cond t 1 0) (reads_same s.dir) in
     omega (arith, a, b, d, reads_taken ss (loads_after s.dir n) (link_control s.link (n - 1) c) (left_after s.dir vs) j)
@@ -96,7 +96,7 @@ free_alone s d v k e = of_link s.link e
 -- the first access of a thread is free
 pub starts_free : (ss : List Step) (vs : List ℕ) → ((s : Step) → slice_get ss 0 ≡ Some s → s.link ≡ Plain) → StartsFree (thread_visits ss 0 0 vs)
 starts_free [] vs h = tt
-starts_free (s ∷ ss) vs h = let e = h s refl in (ap (λ l. link_barred l 0 0) e, free_alone s s.dir (first_of vs) 0 e)
+starts_free (s ∷ ss) vs h = let e = h s refl in (ap (λ l. link_barred l 0 0) e, free_alone s s.dir (first_number vs) 0 e)
 
 -- no edge ties an access or marks it
 pub record IsPlain (s : Step) : Type 0 where
@@ -111,7 +111,7 @@ all_free (s ∷ ss) n vs h =
     let e = plain.link in (
       plain.mark,
       ap (λ l. link_barred l (n - 1) 0) e,
-      free_alone s s.dir (first_of vs) (n - 1) e,
+      free_alone s s.dir (first_number vs) (n - 1) e,
       subst (λ m. AreFree (thread_visits ss (loads_after s.dir n) m (left_after s.dir vs))) (sym (ap (λ l. link_control l (n - 1) 0) e))
           (all_free ss (loads_after s.dir n) (left_after s.dir vs) (λ j t g. h (suc j) t g)),
     )

@@ -6,12 +6,12 @@ use Rattle.relax_edges.specs.declared.kinds.Value.{Value}
 use Rattle.relax_edges.specs.declared.kinds.Value.TheVariants.{Num}
 use Rattle.final_cond.specs.Conditions.{LeftSeen, InRegister, AtPlace}
 use Rattle.final_cond.specs.States.{Meets}
-use Rattle.arch_trait.specs.Names.{number_in}
-use Rattle.arch_trait.specs.Tests.{TestSeen}
+use Rattle.arch_trait.specs.PlaceNames.{number_in}
+use Rattle.arch_trait.specs.SeenTests.{TestSeen}
 use Rattle.program_meaning.specs.Executions.{Execution}
 use Rattle.program_meaning.specs.Coherence.{final_value}
 use Rattle.program_meaning.specs.Programs.{Program, IsCandidate, IsCoherentIn, accesses_in, register_in}
-use Rattle.test_laws.specs.Programs.{test_program}
+use Rattle.test_laws.specs.TestPrograms.{test_program}
 
 -- the value of a left side at the end of an execution of a program: of a register of a thread, found by its name, what it
 -- holds at the end of the thread's run; of a place, found among the names of places, its final value

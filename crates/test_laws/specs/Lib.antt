@@ -1,5 +1,5 @@
-pub mod Steps
+pub mod CycleSteps
 pub mod TestOf
-pub mod Programs
+pub mod TestPrograms
 pub mod FinalStates
-pub mod Headline
+pub mod TestHeadline

@@ -10,14 +10,14 @@ use Rattle.value_laws.specs.Values.{is_observed, write_count}
 use Rattle.final_cond.specs.declared.cond.Quantifier.TheVariants.{Exists}
 use Rattle.final_cond.specs.Conditions.{TermSeen, InRegister, AtPlace}
 use Rattle.arch_trait.specs.declared.step.Step.{Step}
-use Rattle.arch_trait.specs.Names.{letters, location_name}
-use Rattle.arch_trait.specs.Tests.{TestSeen}
+use Rattle.arch_trait.specs.PlaceNames.{letters, location_name}
+use Rattle.arch_trait.specs.SeenTests.{TestSeen}
 use Rattle.arch_trait.specs.Threads.{Puts, compiled}
-use Rattle.test_laws.specs.Steps.{cycle_steps, numbers_read}
+use Rattle.test_laws.specs.CycleSteps.{cycle_steps, numbers_read}
 
 -- the condition names the last value of a location: it has two writes or more and no observer
-abbrev pub is_named : List Edge → ObsMode → ℕ → Bool
-is_named es mode location = nat_le 2 (write_count es location) && not (is_observed es mode location)
+abbrev pub is_named_location : List Edge → ObsMode → ℕ → Bool
+is_named_location es mode location = nat_le 2 (write_count es location) && not (is_observed es mode location)
 
 -- a location ends with its last value
 abbrev pub last_term : List Edge → ℕ → TermSeen
@@ -25,7 +25,7 @@ last_term es location = record { left = AtPlace (location_name location); value 
 
 -- the terms of the locations whose last value is named
 abbrev pub last_terms : List Edge → ObsMode → List TermSeen
-last_terms es mode = map (last_term es) (filter (is_named es mode) (upto (move_count es)))
+last_terms es mode = map (last_term es) (filter (is_named_location es mode) (upto (move_count es)))
 
 -- a load's register holds the number that the load is to read
 abbrev pub load_term : (ℕ → List ℕ) → ℕ → ℕ × ℕ → TermSeen

@@ -1,7 +1,7 @@
 //! The test of a cycle as a definition, and what it means: in every outcome of it the cycle's edges stand.
 #![tactic(auto)]
 
-ghost use Rattle.test_laws.specs.Headline.{TestsForce, RenumberedForce, TestsAsk};
+ghost use Rattle.test_laws.specs.TestHeadline.{TestsForce, RenumberedForce, TestsAsk};
 
 /// On every architecture that keeps the laws, the test of a cycle forces the cycle: all edges of
 /// the cycle stand in every candidate execution of the test that is coherent per location and meets

@@ -20,7 +20,7 @@ use Rattle.value_laws.proofs.Laws.{threads_and_observers}
 use Rattle.program_meaning.specs.Intended.{observed_locations}
 use Rattle.arch_trait.specs.declared.step.Step.{Step}
 use Rattle.arch_trait.specs.Links.{edge_link}
-use Rattle.test_laws.specs.Steps.{event_link, event_step, thread_steps}
+use Rattle.test_laws.specs.CycleSteps.{event_link, event_step, thread_steps}
 use Rattle.test_laws.specs.TestOf.{plain}
 
 -- the edge at a place

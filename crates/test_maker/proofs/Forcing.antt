@@ -8,14 +8,14 @@ use Rattle.value_laws.specs.declared.needs.NeedsObserver.{NeedsObserver}
 use Rattle.value_laws.specs.Values.{Valuation, observer_need, valuation_of}
 use Rattle.value_laws.proofs.Entries.{avoid_allowed, avoid_refused}
 use Rattle.arch_trait.specs.Laws.{IsArch}
-use Rattle.arch_trait.specs.Names.{number_in}
+use Rattle.arch_trait.specs.PlaceNames.{number_in}
 use Rattle.arch_trait.specs.Threads.{Puts}
 use Rattle.arch_trait.specs.Writing.{Writing, WritesBack, name_in}
-use Rattle.arch_trait.specs.Tests.{TestSeen}
+use Rattle.arch_trait.specs.SeenTests.{TestSeen}
 use Rattle.litmus_text.specs.declared.test.Test.{Test}
 use Rattle.litmus_text.specs.Tests.{test_seen}
-use Rattle.test_laws.specs.Headline.{Forces}
-use Rattle.test_laws.specs.Steps.{cycle_steps}
+use Rattle.test_laws.specs.TestHeadline.{Forces}
+use Rattle.test_laws.specs.CycleSteps.{cycle_steps}
 use Rattle.test_laws.specs.TestOf.{plain}
 use Rattle.test_laws.proofs.Headline.{room_left, tests_force_law}
 use Rattle.test_laws.proofs.RegisterNames.{registers_found}

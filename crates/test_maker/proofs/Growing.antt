@@ -16,16 +16,16 @@ use Rattle.final_cond.specs.declared.cond.TheConstants.{MAX_TERMS}
 use Rattle.final_cond.specs.Conditions.{term_view}
 use Rattle.arch_trait.specs.declared.code.Code.{Code}
 use Rattle.arch_trait.specs.declared.step.Step.{Step}
-use Rattle.arch_trait.specs.Codes.{thread_of}
+use Rattle.arch_trait.specs.Codes.{thread_code_of}
 use Rattle.arch_trait.specs.Threads.{Puts, compiled}
-use Rattle.test_laws.specs.Steps.{cycle_steps, numbers_read}
+use Rattle.test_laws.specs.CycleSteps.{cycle_steps, numbers_read}
 use Rattle.test_laws.specs.TestOf.{plain, last_terms, load_terms, thread_terms}
 use Rattle.test_laws.proofs.StepsAt.{steps_few}
 use Rattle.test_laws.proofs.Terms.{load_terms_more, reads-count, terms_room, thread_terms-count}
 use Rattle.test_maker.specs.declared.refusal.MakeRefusal.{MakeRefusal}
 use Rattle.test_maker.specs.declared.refusal.MakeRefusal.TheVariants.{TooManyRegisters}
 use Rattle.test_maker.specs.Refusals.{crowded_thread, is_crowded}
-use Rattle.test_maker.specs.Terms.{PutsCode, PutsThread, PutsThreads}
+use Rattle.test_maker.specs.ConditionTerms.{PutsCode, PutsThread, PutsThreads}
 
 -- the number of the first thread that needs too many registers
 abbrev pub crowded : Puts → List Edge → ObsMode → Option ℕ
@@ -34,7 +34,7 @@ crowded a es mode = position_from (is_crowded a) 0 (cycle_steps es mode plain)
 -- a test whose first k threads are made
 pub record Grown (a : Puts) (name : ℕ → List ℕ) (es : List Edge) (mode : ObsMode) (k : ℕ) (threads : ArrayVec Code) (cond cond' : Cond) : Type 0 where
   pub fitting : position_from (is_crowded a) k (drop k (cycle_steps es mode plain)) ≡ crowded a es mode
-  pub codes : map thread_of (take k threads.items) ≡ map (compiled a) (take k (cycle_steps es mode plain))
+  pub codes : map thread_code_of (take k threads.items) ≡ map (compiled a) (take k (cycle_steps es mode plain))
   pub quantifier : cond'.quantifier ≡ cond.quantifier
   pub terms : map term_view cond'.terms.items ≡ map term_view cond.terms.items ++ load_terms a name 0 (take k (cycle_steps es mode plain))
 
@@ -59,11 +59,11 @@ pub placed : (a : Puts) (name : ℕ → List ℕ) (thread : ℕ) (steps : List S
 placed a name thread steps threads room codes code cond0 cond1 (Err _) within before same put = put
 placed a name thread steps threads room codes code cond0 cond1 (Ok _) within before same put = (
   put.0,
-  ap (λ cs. map thread_of (take (thread + 1) cs))
+  ap (λ cs. map thread_code_of (take (thread + 1) cs))
       (written_over room.items (slice_set codes thread code) (length-set codes thread code ∙ ap length same) ∙ ap (λ cs. slice_set cs thread code) same)
-      ∙ ap (map thread_of) (take_more_set room.items thread code within ∙ ap (λ cs. cs ++ code ∷ []) before)
-      ∙ map-append thread_of (take thread threads.items) (code ∷ [])
-      ∙ ap (λ c. map thread_of (take thread threads.items) ++ c ∷ []) put.1,
+      ∙ ap (map thread_code_of) (take_more_set room.items thread code within ∙ ap (λ cs. cs ++ code ∷ []) before)
+      ∙ map-append thread_code_of (take thread threads.items) (code ∷ [])
+      ∙ ap (λ c. map thread_code_of (take thread threads.items) ++ c ∷ []) put.1,
   put.2,
   put.3,
 )
@@ -120,7 +120,7 @@ grown_all a name es mode k threads threads' cond0 cond1 g h cut =
     let all : take k (cycle_steps es mode plain) ≡ cycle_steps es mode plain = take_all k (cycle_steps es mode plain) h in
     let none : crowded a es mode ≡ None = sym g.fitting ∙ ap (position_from (is_crowded a) k) (drop_all k (cycle_steps es mode plain) h) in (
       ap (option_map (λ thread. TooManyRegisters thread)) none,
-      ap (map thread_of) cut ∙ g.codes ∙ ap (map (compiled a)) all,
+      ap (map thread_code_of) cut ∙ g.codes ∙ ap (map (compiled a)) all,
       g.quantifier,
       g.terms ∙ ap (λ steps. map term_view cond0.terms.items ++ load_terms a name 0 steps) all,
     )
@@ -130,7 +130,7 @@ pub thread_next : (a : Puts) (name : ℕ → List ℕ) (es : List Edge) (mode : 
     Grown a name es mode k threads cond0 cond1 → k < length (cycle_steps es mode plain) → k ≤ length threads.items
 thread_next a name es mode k threads cond0 cond1 g h =
     let long : length (take k threads.items) ≡ length (take k (cycle_steps es mode plain)) =
-    sym (length-map (take k threads.items) thread_of) ∙ ap length g.codes ∙ length-map (take k (cycle_steps es mode plain)) (compiled a) in
+    sym (length-map (take k threads.items) thread_code_of) ∙ ap length g.codes ∙ length-map (take k (cycle_steps es mode plain)) (compiled a) in
     omega (arith, long, length-take k threads.items, length-take k (cycle_steps es mode plain))
 
 -- there is room for a thread

@@ -16,9 +16,9 @@ use Rattle.value_laws.specs.declared.needs.NeedsObserver.{NeedsObserver}
 use Rattle.value_laws.specs.Values.{observer_need, valuation_of}
 use Rattle.value_laws.proofs.Entries.{avoid_allowed}
 use Rattle.arch_trait.specs.Threads.{Puts}
-use Rattle.arch_trait.specs.Tests.{TestSeen}
-use Rattle.test_laws.specs.Headline.{HasCode, HasTest}
-use Rattle.test_laws.specs.Steps.{cycle_steps}
+use Rattle.arch_trait.specs.SeenTests.{TestSeen}
+use Rattle.test_laws.specs.TestHeadline.{HasCode, HasTest}
+use Rattle.test_laws.specs.CycleSteps.{cycle_steps}
 use Rattle.test_laws.specs.TestOf.{plain}
 use Rattle.test_laws.proofs.Headline.{room_left}
 use Rattle.test_maker.specs.declared.refusal.MakeRefusal.{MakeRefusal}

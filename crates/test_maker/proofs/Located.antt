@@ -14,8 +14,8 @@ use Rattle.resolution_laws.proofs.Sizes.{external_and_moves}
 use Rattle.value_laws.specs.declared.needs.NeedsObserver.{NeedsObserver}
 use Rattle.value_laws.specs.Values.{Valuation, valuation_of, observer_need, first_need, first_inner_entry}
 use Rattle.arch_trait.specs.Threads.{Puts}
-use Rattle.arch_trait.specs.Tests.{TestSeen}
-use Rattle.test_laws.specs.Steps.{cycle_steps}
+use Rattle.arch_trait.specs.SeenTests.{TestSeen}
+use Rattle.test_laws.specs.CycleSteps.{cycle_steps}
 use Rattle.test_laws.specs.TestOf.{plain}
 use Rattle.test_maker.specs.declared.refusal.MakeRefusal.{MakeRefusal}
 use Rattle.test_maker.specs.declared.refusal.MakeRefusal.TheVariants.{TooManyRegisters}

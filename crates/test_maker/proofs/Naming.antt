@@ -13,9 +13,9 @@ use Rattle.resolution_laws.specs.Resolution.{IsResolved, move_count}
 use Rattle.resolution_laws.proofs.Sizes.{external_and_moves}
 use Rattle.final_cond.specs.declared.cond.Term.{Term}
 use Rattle.final_cond.specs.Conditions.{AtPlace, term_view}
-use Rattle.arch_trait.specs.Names.{letters, location_name}
+use Rattle.arch_trait.specs.PlaceNames.{letters, location_name}
 use Rattle.value_laws.specs.Values.{write_count}
-use Rattle.test_laws.specs.TestOf.{is_named, last_term}
+use Rattle.test_laws.specs.TestOf.{is_named_location, last_term}
 use Rattle.test_maker.proofs.Filling.{found_more}
 
 -- there are as many names of locations as locations
@@ -24,11 +24,11 @@ letters-length n = length-map-range_with_len location_name 0 n
 
 -- there is room for one more term
 pub last_room : (es : List Edge) (mode : ObsMode) (location : ℕ) (terms : List Term) → IsResolved es →
-    map term_view terms ≡ map (last_term es) (filter (is_named es mode) (upto location)) → location < move_count es → length terms < 128
+    map term_view terms ≡ map (last_term es) (filter (is_named_location es mode) (upto location)) → location < move_count es → length terms < 128
 last_room es mode location terms r e h =
-    let named = filter (is_named es mode) (upto location) in
+    let named = filter (is_named_location es mode) (upto location) in
     let long : length terms ≡ length named = sym (length-map terms term_view) ∙ ap length e ∙ length-map named (last_term es) in
-    omega (arith, long, length-filter-upto (is_named es mode) location, count_upto-le (is_named es mode) location, external_and_moves es, r.composes.few)
+    omega (arith, long, length-filter-upto (is_named_location es mode) location, count_upto-le (is_named_location es mode) location, external_and_moves es, r.composes.few)
 
 -- the name of a location is at its number
 pub letter_at : (n location : ℕ) → location < n → slice_index_or (letters n) location [] ≡ location_name location
@@ -36,10 +36,10 @@ letter_at n location h = get_or-map-range_with_len location_name 0 n location lo
 
 -- one more location that is named
 pub named_more : (es : List Edge) (mode : ObsMode) (location writes : ℕ) (places : List (List ℕ)) (terms terms' : List Term) →
-    map term_view terms ≡ map (last_term es) (filter (is_named es mode) (upto location)) → is_named es mode location ≡ true →
+    map term_view terms ≡ map (last_term es) (filter (is_named_location es mode) (upto location)) → is_named_location es mode location ≡ true →
     places ≡ letters (move_count es) → location < move_count es → writes ≡ write_count es location →
     map term_view terms' ≡ map term_view terms ++ record { left = AtPlace (slice_index_or places location []); value = writes } ∷ [] →
-    map term_view terms' ≡ map (last_term es) (filter (is_named es mode) (upto (location + 1)))
+    map term_view terms' ≡ map (last_term es) (filter (is_named_location es mode) (upto (location + 1)))
 named_more es mode location writes places terms terms' e named p h w grew =
     let name : slice_index_or places location [] ≡ location_name location = ap (λ ps. slice_index_or ps location []) p ∙ letter_at (move_count es) location h in
-    grew ∙ rw (name, w) (found_more (last_term es) (is_named es mode) location (map term_view terms) e named)
+    grew ∙ rw (name, w) (found_more (last_term es) (is_named_location es mode) location (map term_view terms) e named)

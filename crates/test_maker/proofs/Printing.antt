@@ -16,25 +16,25 @@ use Rattle.micro_ops.specs.declared.operation.Micro.TheVariants as ops
 use Rattle.micro_ops.specs.Running.{labels_of, lands, occurs}
 use Rattle.arch_trait.specs.declared.code.Code.{Code}
 use Rattle.arch_trait.specs.declared.step.Step.{Step}
-use Rattle.arch_trait.specs.Codes.{IsFormed, is_within, thread_of}
+use Rattle.arch_trait.specs.Codes.{IsFormedCode, is_within, thread_code_of}
 use Rattle.arch_trait.specs.Laws.{InOrder, IsArch}
 use Rattle.arch_trait.specs.Links.{branches}
 use Rattle.arch_trait.specs.Threads.{Puts, branches_in, compiled, shape_of, visits}
 use Rattle.arch_trait.specs.Writing.{label_below, place_below}
 use Rattle.arch_trait.proofs.Whole.{is_formed}
 use Rattle.litmus_text.specs.Tests.{IsPrintable}
-use Rattle.test_laws.specs.Steps.{cycle_steps}
+use Rattle.test_laws.specs.CycleSteps.{cycle_steps}
 use Rattle.test_laws.specs.TestOf.{plain}
 use Rattle.test_laws.proofs.StepsFit.{steps_fit, steps_placed}
 use Rattle.test_maker.specs.declared.refusal.MakeRefusal.TheVariants.{TooManyRegisters}
 use Rattle.test_maker.specs.Refusals.{crowded_thread, is_crowded}
 use Rattle.test_maker.specs.declared.refusal.MakeRefusal.{MakeRefusal}
 use Rattle.test_maker.specs.Made.{AreOfArch, MadeCanPrint}
-use Rattle.test_maker.specs.Terms.{PutsThreads}
+use Rattle.test_maker.specs.ConditionTerms.{PutsThreads}
 use Rattle.test_maker.proofs.Naming.{letters-length}
 use Rattle.litmus_text.specs.declared.test.Test.{Test}
 use Rattle.final_cond.specs.declared.cond.Cond.{Cond}
-use Rattle.arch_trait.specs.Names.{letters}
+use Rattle.arch_trait.specs.PlaceNames.{letters}
 
 -- the accesses are at places below a number
 abbrev pub ArePlaced : ℕ → List Step → Type 0
@@ -109,7 +109,7 @@ range_below low (suc count) high h =
     and_from (nat_lt low high) (list_all (λ l. nat_lt l high) (range_with_len (low + 1) count)) (lt-ltb low high (omega (arith, h))) (range_below (low + 1) count high (omega (arith, h)))
 
 -- the code of a thread that is well formed, has few branches and visits places below a number can be printed
-formed_printable : (a : Puts) (n : ℕ) (ss : List Step) (code : Code) → IsFormed a ss (thread_of code) → branches_in ss ≤ 64 → ArePlaced n ss → IsPrintable a.has a.registers n code
+formed_printable : (a : Puts) (n : ℕ) (ss : List Step) (code : Code) → IsFormedCode a ss (thread_code_of code) → branches_in ss ≤ 64 → ArePlaced n ss → IsPrintable a.has a.registers n code
 formed_printable a n ss code formed few placed =
     let labels : labels_below 64 code.instrs.items ≡ true =
     ap (list_all (λ l. nat_lt l 64)) formed.labels ∙ range_below 0 (branches_in ss) 64 (omega (arith, few)) in
@@ -140,13 +140,13 @@ uncrowded a es mode e = none_of (position_from (is_crowded a) 0 (cycle_steps es 
     none_of (Some thread) e = cc
 
 -- a thread of the test of a cycle can be printed
-thread_printable : (a : Puts) → IsArch a → (es : List Edge) (mode : ObsMode) (k : ℕ) (ss : List Step) (code : Code) → IsResolved es → AreOfArch a es → crowded_thread a es mode ≡ None → slice_get (cycle_steps es mode plain) k ≡ Some ss → thread_of code ≡ compiled a ss → IsPrintable a.has a.registers (move_count es) code
+thread_printable : (a : Puts) → IsArch a → (es : List Edge) (mode : ObsMode) (k : ℕ) (ss : List Step) (code : Code) → IsResolved es → AreOfArch a es → crowded_thread a es mode ≡ None → slice_get (cycle_steps es mode plain) k ≡ Some ss → thread_code_of code ≡ compiled a ss → IsPrintable a.has a.registers (move_count es) code
 thread_printable a laws es mode k ss code resolved of_arch free got same =
     let thread = steps_fit es mode plain a.name k ss resolved of_arch got in
     let enough = none_crowded a 0 k (cycle_steps es mode plain) ss (uncrowded a es mode free) got in
     let fits : a.need (shape_of ss) ≤ a.registers = grind (arith, nat_tests, enough) in
     let whole = is_formed a laws ss thread.fit fits in
-    let formed : IsFormed a ss (thread_of code) = subst (IsFormed a ss) (sym same) whole in
+    let formed : IsFormedCode a ss (thread_code_of code) = subst (IsFormedCode a ss) (sym same) whole in
     let most = count_by-le-length (λ (s : Step). branches s.link) ss in
     formed_printable a (move_count es) ss code formed (omega (arith, most, thread.few)) (λ j s g.
     let p = steps_placed es mode plain k j ss s resolved got g in
@@ -154,15 +154,15 @@ thread_printable a laws es mode k ss code resolved of_arch free got same =
     omega (arith, q, p.below))
 
 -- all threads of the test of a cycle can be printed
-pub all_printable : (a : Puts) → IsArch a → (es : List Edge) (mode : ObsMode) (codes : List Code) → IsResolved es → AreOfArch a es → crowded_thread a es mode ≡ None → map thread_of codes ≡ map (compiled a) (cycle_steps es mode plain) → All (λ code. IsPrintable a.has a.registers (move_count es) code) codes
+pub all_printable : (a : Puts) → IsArch a → (es : List Edge) (mode : ObsMode) (codes : List Code) → IsResolved es → AreOfArch a es → crowded_thread a es mode ≡ None → map thread_code_of codes ≡ map (compiled a) (cycle_steps es mode plain) → All (λ code. IsPrintable a.has a.registers (move_count es) code) codes
 all_printable a laws es mode codes resolved of_arch free same i d k =
     let threads = cycle_steps es mode plain in
-    let count : length codes ≡ length threads = sym (length-map codes thread_of) ∙ (ap length same ∙ length-map threads (compiled a)) in
+    let count : length codes ≡ length threads = sym (length-map codes thread_code_of) ∙ (ap length same ∙ length-map threads (compiled a)) in
     let got = slice_get-get_or threads i [] (omega (arith, count, k)) in
-    let left = get_or-map thread_of codes i d (thread_of d) k in
-    let right = get_or-map (compiled a) threads i [] (thread_of d) (omega (arith, count, k)) in
+    let left = get_or-map thread_code_of codes i d (thread_code_of d) k in
+    let right = get_or-map (compiled a) threads i [] (thread_code_of d) (omega (arith, count, k)) in
     thread_printable a laws es mode i (get_or threads i []) (get_or codes i d) resolved of_arch free got
-    (sym left ∙ (ap (λ xs. get_or xs i (thread_of d)) same ∙ right))
+    (sym left ∙ (ap (λ xs. get_or xs i (thread_code_of d)) same ∙ right))
 
 -- what a call made of a cycle whose places are letters can be printed
 pub made_printable : (a : Puts) (registers : ℕ) → a.registers ≡ registers → IsArch a → (es : List Edge) (mode : ObsMode) (test : Test) (result : Result (Unit {0}) MakeRefusal) →

@@ -6,7 +6,7 @@ use Rattle.relax_edges.specs.declared.edge.Edge.{Edge}
 use Rattle.resolution_laws.specs.Resolution.{turned}
 use Rattle.arch_trait.specs.Threads.{Puts}
 use Rattle.arch_trait.specs.Writing.{Writing, name_in}
-use Rattle.arch_trait.specs.Tests.{TestSeen}
+use Rattle.arch_trait.specs.SeenTests.{TestSeen}
 use Rattle.litmus_text.specs.TestText.{test_text}
 use Rattle.test_laws.specs.TestOf.{test_of}
 

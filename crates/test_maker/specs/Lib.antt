@@ -1,5 +1,5 @@
 pub mod Refusals
 pub mod Made
-pub mod Terms
+pub mod ConditionTerms
 pub mod CycleText
 pub mod CycleTextLaws

@@ -9,10 +9,10 @@ use Rattle.relax_edges.specs.EdgeTable.{is_of_arch}
 use Rattle.resolution_laws.specs.declared.errors.ResolveError.{ResolveError}
 use Rattle.resolution_laws.specs.Resolution.{resolution_of, turned}
 use Rattle.arch_trait.specs.Threads.{Puts}
-use Rattle.arch_trait.specs.Tests.{TestSeen}
+use Rattle.arch_trait.specs.SeenTests.{TestSeen}
 use Rattle.litmus_text.specs.declared.test.Test.{Test}
 use Rattle.litmus_text.specs.Tests.{IsPrintable, test_seen}
-use Rattle.test_laws.specs.Headline.{Forces}
+use Rattle.test_laws.specs.TestHeadline.{Forces}
 use Rattle.test_laws.specs.TestOf.{plain, test_of}
 use Rattle.test_maker.specs.declared.refusal.MakeRefusal.{MakeRefusal}
 use Rattle.test_maker.specs.declared.refusal.MakeRefusal.TheVariants.{NeedsObserver}
@@ -45,10 +45,10 @@ MakesOfArch a register_name cycle mode test (Ok _) =
 MakesOfArch a register_name cycle mode test (Err refusal) = resolved_refusal a (resolution_of cycle) mode ≡ Some refusal
 
 -- a call makes the test of a cycle, which has no reason against it, or gives the first reason why it has none
-abbrev pub Makes : Puts → (ℕ → List ℕ) → List Edge → ObsMode → TestSeen → Result (Unit {0}) MakeRefusal → Type 0
-Makes a register_name cycle mode test (Ok _) =
+abbrev pub MakesSeenTest : Puts → (ℕ → List ℕ) → List Edge → ObsMode → TestSeen → Result (Unit {0}) MakeRefusal → Type 0
+MakesSeenTest a register_name cycle mode test (Ok _) =
     (refusal_of a cycle mode ≡ None) × (test ≡ test_of a register_name (turned cycle) mode)
-Makes a register_name cycle mode test (Err refusal) = refusal_of a cycle mode ≡ Some refusal
+MakesSeenTest a register_name cycle mode test (Err refusal) = refusal_of a cycle mode ≡ Some refusal
 
 -- the same for a call that answers the test
 abbrev pub MakesTest : Puts → (ℕ → List ℕ) → List Edge → ObsMode → Result Test MakeRefusal → Type 0

@@ -17,7 +17,7 @@ use Rattle.arch_trait.specs.Threads.{Puts, shape_of}
 use Rattle.test_maker.specs.declared.refusal.MakeRefusal.{MakeRefusal}
 use Rattle.test_maker.specs.declared.refusal.MakeRefusal.TheVariants.{NotOfArch, TooFewThreads, CoherenceOnly, TooManyRegisters}
 use Rattle.test_maker.specs.declared.refusal.MakeRefusal.TheVariants as refusals
-use Rattle.test_laws.specs.Steps.{cycle_steps}
+use Rattle.test_laws.specs.CycleSteps.{cycle_steps}
 use Rattle.test_laws.specs.TestOf.{plain}
 
 -- the first of two reasons

@@ -3,12 +3,12 @@ ghost use Rattle.arrayvec.specs.ArrayVec.{array_vec_len};
 ghost use Rattle.final_cond.specs.declared.cond.Quantifier.TheVariants.{Exists};
 ghost use Rattle.final_cond.specs.Conditions.{term_view};
 ghost use Rattle.resolution_laws.specs.Resolution.{move_count};
-ghost use Rattle.arch_trait.specs.Names.{letters};
+ghost use Rattle.arch_trait.specs.PlaceNames.{letters};
 ghost use Rattle.arch_trait.specs.Writing.{name_in};
-ghost use Rattle.test_laws.specs.Steps.{numbers_read};
-ghost use Rattle.test_laws.specs.TestOf.{is_named, last_terms, load_term};
+ghost use Rattle.test_laws.specs.CycleSteps.{numbers_read};
+ghost use Rattle.test_laws.specs.TestOf.{is_named_location, last_terms, load_term};
 ghost use Rattle.arch_trait.specs.Codes.{AllBelow};
-ghost use Rattle.test_maker.specs.Terms.{place_term, terms_of_loads};
+ghost use Rattle.test_maker.specs.ConditionTerms.{place_term, terms_of_loads};
 
 use arch_trait::{Arch, Places, Step};
 use arrayvec::ArrayVec;
@@ -45,7 +45,7 @@ fn fill_last_terms(valued: &Valued, places: &Places, terms: &mut Terms)
 /// Whether the condition names the last value of the location.
 fn is_named(valued: &Valued, location: u8) -> bool
     requires { location < move_count valued.now.edges }
-    ensures { result ≡ is_named valued.now.edges valued.now.mode location }
+    ensures { result ≡ is_named_location valued.now.edges valued.now.mode location }
 {
     valued.writes(location) >= 2 && !valued.observed(location)
 }

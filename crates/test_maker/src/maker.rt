@@ -2,12 +2,12 @@ ghost use Rattle.std.specs.Prelude.{◌≡◌, ◌≤◌, not, length, IfErr, If
 ghost use Rattle.std.specs.List.{position_from};
 ghost use Rattle.relax_edges.specs.EdgeTable.{is_of_arch};
 ghost use Rattle.resolution_laws.specs.Resolution.{turned};
-ghost use Rattle.arch_trait.specs.Names.{number_in};
+ghost use Rattle.arch_trait.specs.PlaceNames.{number_in};
 ghost use Rattle.arch_trait.specs.Writing.{name_in};
 ghost use Rattle.relax_edges.specs.declared.kinds.ObsMode.TheVariants.{Avoid};
 ghost use Rattle.litmus_text.specs.Tests.{test_seen};
-ghost use Rattle.test_laws.specs.Headline.{HasCode, HasTest};
-ghost use Rattle.test_maker.specs.Made.{Makes, MakesOfArch, MakesResolved, MakesTest, MakesValued, AreOfArch, MadeCanPrint, MadeForces, TestCanPrint, TestForces, NamesLocation};
+ghost use Rattle.test_laws.specs.TestHeadline.{HasCode, HasTest};
+ghost use Rattle.test_maker.specs.Made.{MakesSeenTest, MakesOfArch, MakesResolved, MakesTest, MakesValued, AreOfArch, MadeCanPrint, MadeForces, TestCanPrint, TestForces, NamesLocation};
 
 use crate::condition::put_last_terms;
 use crate::refusal::MakeRefusal;
@@ -38,7 +38,7 @@ pub fn make<A: Arch>(cycle: &Cycle, mode: ObsMode) -> Result<Test, MakeRefusal>
 
 /// Makes `test` the test of the cycle, as `make` does. After a refusal nothing is known of it.
 pub fn make_into<A: Arch>(cycle: &Cycle, mode: ObsMode, test: &mut Test) -> Result<(), MakeRefusal>
-    ensures made { Makes A.puts (name_in A.writing.registers) cycle.now mode (test_seen test.new) result }
+    ensures made { MakesSeenTest A.puts (name_in A.writing.registers) cycle.now mode (test_seen test.new) result }
     ensures printable { MadeCanPrint A.puts A.REGISTERS test.new result }
     ensures has_test { OnOk result (HasTest A.puts (turned cycle.now) mode) }
     ensures forces { MadeForces (number_in A.writing.registers) (turned cycle.now) mode test.new result }

@@ -3,7 +3,7 @@ ghost use Rattle.list_laws.specs.Numbers.{upto};
 ghost use Rattle.resolution_laws.specs.Resolution.{external_count, events_in, move_count, slot_of};
 ghost use Rattle.value_laws.specs.Values.{write_count};
 ghost use Rattle.program_meaning.specs.Intended.{observed_locations};
-ghost use Rattle.test_laws.specs.Steps.{event_link, event_step, thread_steps, observing, observer_steps, cycle_steps};
+ghost use Rattle.test_laws.specs.CycleSteps.{event_link, event_step, thread_steps, observing, observer_steps, cycle_steps};
 ghost use Rattle.test_laws.specs.TestOf.{plain};
 
 use arch_trait::{Link, Step, link_of};

@@ -9,13 +9,13 @@ use Rattle.text_laws.specs.Cuts.{before_cut, cut_at, is_without, CutParts}
 use Rattle.std.specs.List.{list_all}
 use Rattle.std.proofs.lemmas.List.Folds.{list_all-append}
 
--- the text before a sign and the text behind it
-pub cut_back : (sign : ℕ) (prefix behind : List ℕ) → is_without sign prefix ≡ true → cut_at sign (prefix ++ sign ∷ behind) ≡ Some (prefix, behind)
+-- the text before a sign and the text after it
+pub cut_back : (sign : ℕ) (prefix remainder : List ℕ) → is_without sign prefix ≡ true → cut_at sign (prefix ++ sign ∷ remainder) ≡ Some (prefix, remainder)
 unfolding cut_at
-cut_back sign [] behind h = rw (eq-eqb sign sign refl) refl
-cut_back sign (byte ∷ prefix) behind h =
+cut_back sign [] remainder h = rw (eq-eqb sign sign refl) refl
+cut_back sign (byte ∷ prefix) remainder h =
     let parts = and_parts (not (byte == sign)) (is_without sign prefix) h in
-    rw (not-true (byte == sign) parts.0) (ap (before_cut byte) (cut_back sign prefix behind parts.1))
+    rw (not-true (byte == sign) parts.0) (ap (before_cut byte) (cut_back sign prefix remainder parts.1))
 
 -- a text without a sign isn't cut
 pub cut_none : (sign : ℕ) (text : List ℕ) → is_without sign text ≡ true → cut_at sign text ≡ None
@@ -45,7 +45,7 @@ cut_there sign text k inside is =
     let d : drop k text ≡ sign ∷ drop (k + 1) text = rw add-one (drop-cons text k 0 inside ∙ ap (λ b. b ∷ drop (suc k) text) e) in
     sym (take-append-drop k text) ∙ ap (λ t. take k text ++ t) d
 
--- the text behind a place
+-- the text after a place
 pub rest_whole : (text : List ℕ) (k : ℕ) → take (length text - k) (drop k text) ≡ drop k text
 rest_whole text k = ap (λ n. take n (drop k text)) (sym (length-drop k text)) ∙ take-length (drop k text)
 
@@ -58,12 +58,12 @@ cut_found sign text k inside before is = rw (rest_whole text (k + 1)) (record {
 })
 
 -- what is cut
-pub cut_is : (sign : ℕ) (text prefix behind : List ℕ) → CutParts sign text prefix behind → cut_at sign text ≡ Some (prefix, behind)
-cut_is sign text prefix behind p = ap (cut_at sign) p.parts ∙ cut_back sign prefix behind p.first
+pub cut_is : (sign : ℕ) (text prefix remainder : List ℕ) → CutParts sign text prefix remainder → cut_at sign text ≡ Some (prefix, remainder)
+cut_is sign text prefix remainder p = ap (cut_at sign) p.parts ∙ cut_back sign prefix remainder p.first
 
 -- how many bytes the parts of a cut have
-pub cut_length : (sign : ℕ) (text prefix behind : List ℕ) → CutParts sign text prefix behind → length text ≡ length prefix + (length behind + 1)
-cut_length sign text prefix behind p = let e : length (prefix ++ sign ∷ behind) ≡ length prefix + length (sign ∷ behind) = length-append prefix (sign ∷ behind) in ap length p.parts ∙ e ∙ (omega arith)
+pub cut_length : (sign : ℕ) (text prefix remainder : List ℕ) → CutParts sign text prefix remainder → length text ≡ length prefix + (length remainder + 1)
+cut_length sign text prefix remainder p = let e : length (prefix ++ sign ∷ remainder) ≡ length prefix + length (sign ∷ remainder) = length-append prefix (sign ∷ remainder) in ap length p.parts ∙ e ∙ (omega arith)
 
 -- bytes of two texts that pass a test pass it as one text
 pub all_both : (p : ℕ → Bool) (xs ys : List ℕ) → list_all p xs ≡ true → list_all p ys ≡ true → list_all p (xs ++ ys) ≡ true

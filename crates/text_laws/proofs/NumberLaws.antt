@@ -15,7 +15,7 @@ use Rattle.std.proofs.lemmas.Slice.Eq.{bytes_eq-Decides}
 use Rattle.std.proofs.lemmas.Str.Parse.{parse_plain}
 use Rattle.list_laws.proofs.Digits.{digits_model, digits_no_plus}
 use Rattle.list_laws.proofs.Elements.{list_all-weaker}
-use Rattle.text_laws.specs.Numbers.{number_of}
+use Rattle.text_laws.specs.NumberTexts.{number_of}
 use Rattle.text_laws.proofs.NameLaws.{utf8_from_ascii}
 
 -- a number is read from its decimal

@@ -5,18 +5,18 @@ use Rattle.std.specs.List.{list_all}
 use Rattle.std.proofs.Math.Seq.{drop-cons, drop-length, take-length}
 use Rattle.std.proofs.lemmas.List.{take_more}
 use Rattle.list_laws.proofs.Cases.{by_test}
-use Rattle.text_laws.specs.Runs.{run_of, after_run}
+use Rattle.text_laws.specs.LeadingRuns.{leading_run, after_run}
 
-run_goes : (passes : ℕ → Bool) (byte : ℕ) (text : List ℕ) → passes byte ≡ true → run_of passes (byte ∷ text) ≡ byte ∷ run_of passes text
-unfolding run_of
+run_goes : (passes : ℕ → Bool) (byte : ℕ) (text : List ℕ) → passes byte ≡ true → leading_run passes (byte ∷ text) ≡ byte ∷ leading_run passes text
+unfolding leading_run
 run_goes passes byte text h = rw h refl
 
 after_goes : (passes : ℕ → Bool) (byte : ℕ) (text : List ℕ) → passes byte ≡ true → after_run passes (byte ∷ text) ≡ after_run passes text
 unfolding after_run
 after_goes passes byte text h = rw h refl
 
-run_halts : (passes : ℕ → Bool) (byte : ℕ) (text : List ℕ) → passes byte ≡ false → run_of passes (byte ∷ text) ≡ []
-unfolding run_of
+run_halts : (passes : ℕ → Bool) (byte : ℕ) (text : List ℕ) → passes byte ≡ false → leading_run passes (byte ∷ text) ≡ []
+unfolding leading_run
 run_halts passes byte text h = rw h refl
 
 after_halts : (passes : ℕ → Bool) (byte : ℕ) (text : List ℕ) → passes byte ≡ false → after_run passes (byte ∷ text) ≡ byte ∷ text
@@ -25,7 +25,7 @@ after_halts passes byte text h = rw h refl
 
 -- the walk has passed the bytes before a place
 pub record Passed (passes : ℕ → Bool) (text : List ℕ) (i : ℕ) : Type 0 where
-  pub run : run_of passes text ≡ take i text ++ run_of passes (drop i text)
+  pub run : leading_run passes text ≡ take i text ++ leading_run passes (drop i text)
   pub rest : after_run passes text ≡ after_run passes (drop i text)
 
 -- at the beginning the walk has passed no bytes
@@ -38,28 +38,28 @@ one_passed passes text i inside passing p =
     let e : drop i text ≡ get_or text i 0 ∷ drop (i + 1) text = rw add-one (drop-cons text i 0 inside) in
     record {
       run = rw (take_more text i 0 inside, append_assoc)
-          (p.run ∙ ap (λ t. take i text ++ t) (ap (run_of passes) e ∙ run_goes passes (get_or text i 0) (drop (i + 1) text) passing));
+          (p.run ∙ ap (λ t. take i text ++ t) (ap (leading_run passes) e ∙ run_goes passes (get_or text i 0) (drop (i + 1) text) passing));
       rest = p.rest ∙ ap (after_run passes) e ∙ after_goes passes (get_or text i 0) (drop (i + 1) text) passing;
     }
 
 -- the walk ends at a byte that doesn't pass
-pub run_stops : (passes : ℕ → Bool) (text : List ℕ) (i : ℕ) → i < length text → passes (get_or text i 0) ≡ false → Passed passes text i → (run_of passes text ≡ take i text) × (after_run passes text ≡ drop i text)
+pub run_stops : (passes : ℕ → Bool) (text : List ℕ) (i : ℕ) → i < length text → passes (get_or text i 0) ≡ false → Passed passes text i → (leading_run passes text ≡ take i text) × (after_run passes text ≡ drop i text)
 run_stops passes text i inside fails p = (
-  p.run ∙ ap (λ t. take i text ++ t) (ap (run_of passes) (drop-cons text i 0 inside) ∙ run_halts passes (get_or text i 0) (drop (suc i) text) fails) ∙ append-nil (take i text),
+  p.run ∙ ap (λ t. take i text ++ t) (ap (leading_run passes) (drop-cons text i 0 inside) ∙ run_halts passes (get_or text i 0) (drop (suc i) text) fails) ∙ append-nil (take i text),
   p.rest ∙ ap (after_run passes) (drop-cons text i 0 inside) ∙ after_halts passes (get_or text i 0) (drop (suc i) text) fails ∙ sym (drop-cons text i 0 inside),
 )
 
 -- the walk ends with the text
-pub run_ends : (passes : ℕ → Bool) (text : List ℕ) (i : ℕ) → i ≡ length text → Passed passes text i → (run_of passes text ≡ text) × (after_run passes text ≡ [])
-unfolding run_of after_run
+pub run_ends : (passes : ℕ → Bool) (text : List ℕ) (i : ℕ) → i ≡ length text → Passed passes text i → (leading_run passes text ≡ text) × (after_run passes text ≡ [])
+unfolding leading_run after_run
 run_ends passes text i whole p =
     let e : drop i text ≡ [] = ap (λ n. drop n text) whole ∙ drop-length text in
     let f : take i text ≡ text = ap (λ n. take n text) whole ∙ take-length text in
-    (p.run ∙ ap (λ t. take i text ++ t) (ap (run_of passes) e) ∙ append-nil (take i text) ∙ f, p.rest ∙ ap (after_run passes) e)
+    (p.run ∙ ap (λ t. take i text ++ t) (ap (leading_run passes) e) ∙ append-nil (take i text) ∙ f, p.rest ∙ ap (after_run passes) e)
 
 -- all bytes of a run pass
-pub run_passes : (passes : ℕ → Bool) (text : List ℕ) → list_all passes (run_of passes text) ≡ true
-unfolding run_of
+pub run_passes : (passes : ℕ → Bool) (text : List ℕ) → list_all passes (leading_run passes text) ≡ true
+unfolding leading_run
 run_passes passes [] = refl
 run_passes passes (byte ∷ text) =
     by_test (passes byte) (λ h. rw (h, h, run_passes passes text) refl) (λ h. rw h refl)
@@ -77,12 +77,12 @@ pub after_run_short : (passes : ℕ → Bool) (text rest : List ℕ) → rest �
 after_run_short passes text rest e = let k : length (after_run passes text) ≤ length text = after_run-le passes text in rw e k
 
 -- a run and what comes after it are the text
-run_and_rest : (passes : ℕ → Bool) (text : List ℕ) → run_of passes text ++ after_run passes text ≡ text
-unfolding run_of after_run
+run_and_rest : (passes : ℕ → Bool) (text : List ℕ) → leading_run passes text ++ after_run passes text ≡ text
+unfolding leading_run after_run
 run_and_rest passes [] = refl
 run_and_rest passes (byte ∷ text) = by_test (passes byte) (λ h. rw h (ap (λ t. byte ∷ t) (run_and_rest passes text))) (λ h. rw h refl)
 
 -- where a run has a byte, what comes after it is shorter than the text
-pub less_behind : (passes : ℕ → Bool) (text word rest : List ℕ) → word ≡ run_of passes text → rest ≡ after_run passes text → 0 < length word → length rest < length text
-less_behind passes text word rest e f some =
+pub less_remainder : (passes : ℕ → Bool) (text word rest : List ℕ) → word ≡ leading_run passes text → rest ≡ after_run passes text → 0 < length word → length rest < length text
+less_remainder passes text word rest e f some =
     let k : length (word ++ rest) ≡ length text = ap length (rw (e, f) (run_and_rest passes text)) in omega (arith, length-append word rest)

@@ -4,7 +4,7 @@ use Rattle.std.specs.Prelude.{not}
 use Rattle.std.specs.List.{slice_split, filter}
 use Rattle.std.proofs.lemmas.Bool.{eqb-true, false_from_ne_true}
 use Rattle.list_laws.proofs.Cases.{by_test}
-use Rattle.text_laws.specs.Runs.{run_of, after_run}
+use Rattle.text_laws.specs.LeadingRuns.{leading_run, after_run}
 use Rattle.text_laws.specs.Blanks.{is_blank, is_inked, unblanked}
 use Rattle.text_laws.specs.Words.{is_nil, words}
 
@@ -13,8 +13,8 @@ abbrev further : List ℕ → List (List ℕ)
 further [] = []
 further (byte ∷ text) = slice_split is_blank text
 
-first_run : (text : List ℕ) → slice_split is_blank text ≡ run_of is_inked text ∷ further (after_run is_inked text)
-unfolding run_of after_run
+first_run : (text : List ℕ) → slice_split is_blank text ≡ leading_run is_inked text ∷ further (after_run is_inked text)
+unfolding leading_run after_run
 first_run [] = refl
 first_run (byte ∷ text) =
     by_test (is_blank byte) (λ h. rw h refl) (λ h. rw h (rw (first_run text) refl))
@@ -28,35 +28,35 @@ words_further [] = refl
 words_further (byte ∷ text) =
     by_test (is_blank byte) (λ h. rw h (rw h refl)) (λ h. rw h (words_further text))
 
-words_first : (text : List ℕ) → is_nil (run_of is_inked text) ≡ false → words text ≡ run_of is_inked text ∷ words (after_run is_inked text)
+words_first : (text : List ℕ) → is_nil (leading_run is_inked text) ≡ false → words text ≡ leading_run is_inked text ∷ words (after_run is_inked text)
 unfolding words
 words_first text h =
-    ap some_words (first_run text) ∙ rw h (ap (λ rest. run_of is_inked text ∷ rest) (words_further text))
+    ap some_words (first_run text) ∙ rw h (ap (λ rest. leading_run is_inked text ∷ rest) (words_further text))
 
 words_unblanked : (text : List ℕ) → words (after_run is_blank text) ≡ words text
 unfolding words after_run
 words_unblanked [] = refl
 words_unblanked (byte ∷ text) = by_test (is_blank byte) (λ h. rw h (words_unblanked text)) (λ h. rw h (rw h refl))
 
-no_run : (text : List ℕ) → is_nil (run_of is_inked (after_run is_blank text)) ≡ true → after_run is_blank text ≡ []
-unfolding run_of after_run
+no_run : (text : List ℕ) → is_nil (leading_run is_inked (after_run is_blank text)) ≡ true → after_run is_blank text ≡ []
+unfolding leading_run after_run
 no_run [] h = refl
 no_run (byte ∷ text) h =
     by_test (is_blank byte) (λ e. rw e (no_run text (rw e at h))) (λ e. let k = rw (e, e) at h in absurd (cc))
 
-words_none : (text : List ℕ) → is_nil (run_of is_inked (after_run is_blank text)) ≡ true → words text ≡ []
+words_none : (text : List ℕ) → is_nil (leading_run is_inked (after_run is_blank text)) ≡ true → words text ≡ []
 unfolding words
 words_none text h = sym (words_unblanked text) ∙ ap words (no_run text h)
 
 -- the first word by what a walk over blanks and then over a word found
-pub word_found : (text prefix word rest : List ℕ) → prefix ≡ unblanked text → word ≡ run_of is_inked prefix → rest ≡ after_run is_inked prefix → is_nil word ≡ false → words text ≡ word ∷ words rest
+pub word_found : (text prefix word rest : List ℕ) → prefix ≡ unblanked text → word ≡ leading_run is_inked prefix → rest ≡ after_run is_inked prefix → is_nil word ≡ false → words text ≡ word ∷ words rest
 word_found text prefix word rest e f g h =
     sym (words_unblanked text) ∙ ap words (sym e) ∙ words_first prefix (ap is_nil (sym f) ∙ h) ∙ ap (λ w. w ∷ words (after_run is_inked prefix)) (sym f) ∙ ap (λ t. word ∷ words t) (sym g)
 
 -- a walk over blanks that found no word after them was at the end of the words
-pub no_word_found : (text prefix word : List ℕ) → prefix ≡ unblanked text → word ≡ run_of is_inked prefix → is_nil word ≡ true → words text ≡ []
+pub no_word_found : (text prefix word : List ℕ) → prefix ≡ unblanked text → word ≡ leading_run is_inked prefix → is_nil word ≡ true → words text ≡ []
 no_word_found text prefix word e f h =
-    words_none text (ap (λ t. is_nil (run_of is_inked t)) (sym e) ∙ ap is_nil (sym f) ∙ h)
+    words_none text (ap (λ t. is_nil (leading_run is_inked t)) (sym e) ∙ ap is_nil (sym f) ∙ h)
 
 -- a test whether a text is empty
 pub empty_is_nil : (text : List ℕ) → is_nil text ≡ (length text == 0)

@@ -1,7 +1,7 @@
 -- Blanks, and a text without those at its ends.
 -- Source: own; a blank is a space or a tab.
 use Rattle.std.specs.Prelude.{ℕ, Bool, ◌||◌, ◌==◌, not, cond, List, [], ◌∷◌}
-use Rattle.text_laws.specs.Runs.{after_run}
+use Rattle.text_laws.specs.LeadingRuns.{after_run}
 
 -- a space or a tab
 abbrev pub is_blank : ℕ → Bool

@@ -18,6 +18,6 @@ abbrev pub is_without : ℕ → List ℕ → Bool
 is_without sign text = list_all (λ byte. not (byte == sign)) text
 
 -- the same cut by its parts: the byte is between them, and not in the first
-pub record CutParts (sign : ℕ) (text prefix behind : List ℕ) : Type 0 where
-  pub parts : text ≡ prefix ++ sign ∷ behind
+pub record CutParts (sign : ℕ) (text prefix remainder : List ℕ) : Type 0 where
+  pub parts : text ≡ prefix ++ sign ∷ remainder
   pub first : is_without sign prefix ≡ true

@@ -1,6 +1,6 @@
 pub mod Names
-pub mod Numbers
-pub mod Runs
+pub mod NumberTexts
+pub mod LeadingRuns
 pub mod Blanks
 pub mod Words
 pub mod Cuts

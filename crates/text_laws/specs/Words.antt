@@ -19,5 +19,5 @@ words_seen None = []
 words_seen (Some parts) = parts.0 ∷ words parts.1
 
 -- a byte of a word that ends before a blank or a `(`
-abbrev pub is_word_byte : ℕ → Bool
-is_word_byte byte = not (is_blank byte || byte == 40)
+abbrev pub is_argument_byte : ℕ → Bool
+is_argument_byte byte = not (is_blank byte || byte == 40)

@@ -3,7 +3,7 @@ use Rattle.std.specs.Prelude.{ℕ, Bool}
 use Rattle.std.specs.Char.{is_ascii_digit, is_ascii_alphabetic, is_ascii_alphanumeric}
 use Rattle.text_laws.specs.Names.{is_place_byte}
 use Rattle.text_laws.specs.Blanks.{is_blank, is_inked}
-use Rattle.text_laws.specs.Words.{is_word_byte}
+use Rattle.text_laws.specs.Words.{is_argument_byte}
 use Rattle.text_parts.specs.declared.classes.Class.{Class}
 use Rattle.text_parts.specs.declared.classes.Class.TheVariants as classes
 
@@ -11,7 +11,7 @@ use Rattle.text_parts.specs.declared.classes.Class.TheVariants as classes
 abbrev pub class_test : Class → ℕ → Bool
 class_test classes.Blank = is_blank
 class_test classes.Inked = is_inked
-class_test classes.Word = is_word_byte
+class_test classes.Word = is_argument_byte
 class_test classes.PlaceName = is_place_byte
 class_test classes.RegisterName = is_ascii_alphanumeric
 class_test classes.Letter = is_ascii_alphabetic

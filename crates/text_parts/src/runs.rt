@@ -1,5 +1,5 @@
 ghost use Rattle.std.specs.Prelude.{◌≡◌};
-ghost use Rattle.text_laws.specs.Runs.{run_of, after_run};
+ghost use Rattle.text_laws.specs.LeadingRuns.{leading_run, after_run};
 ghost use Rattle.text_parts.specs.Classes.{class_test};
 
 use crate::classes::Class;
@@ -7,7 +7,7 @@ use crate::classes::Class;
 /// The bytes of a class with which a text begins, and the text after them.
 #[tactic(auto, using(text_laws::proofs::RunLaws::run_stops, text_laws::proofs::RunLaws::run_ends, text_laws::proofs::RunLaws::none_passed, text_laws::proofs::RunLaws::one_passed))]
 pub fn split_run(class: Class, text: &[u8]) -> (&[u8], &[u8])
-    ensures run { result.0.now ≡ run_of (class_test class) text.now }
+    ensures run { result.0.now ≡ leading_run (class_test class) text.now }
     ensures rest { result.1.now ≡ after_run (class_test class) text.now }
 {
     for (i, byte) in text.iter().enumerate() {

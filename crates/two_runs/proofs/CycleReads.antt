@@ -11,8 +11,8 @@ use Rattle.program_meaning.specs.declared.WriteAt.{WriteAt}
 use Rattle.program_meaning.specs.Accesses.{is_read}
 use Rattle.program_meaning.specs.Executions.{Execution}
 use Rattle.program_meaning.specs.Intended.{event_access, event_read, reads_in, write_of}
-use Rattle.exec_meaning.specs.Kept.{with_read}
-use Rattle.two_runs.specs.Runs.{appended, is_read_of}
+use Rattle.exec_meaning.specs.KeptExecutions.{with_read}
+use Rattle.two_runs.specs.Runs.{with_appended, is_read_of}
 use Rattle.two_runs.proofs.GrowingLists.{added_appended, appended_none, filled_more, filled_to, filter_yes, filter_no}
 
 -- the reads of a thread among the first events
@@ -39,7 +39,7 @@ reads_all es thread n e =
 
 -- an execution in which a thread has the reads of the first events
 abbrev pub thread_to : List Edge → Execution → ℕ → ℕ → Execution
-thread_to es old thread n = record old { reads = appended old.reads thread (map (event_read es) (reads_before es thread n)) }
+thread_to es old thread n = record old { reads = with_appended old.reads thread (map (event_read es) (reads_before es thread n)) }
 
 -- before the first event the execution is as it was
 pub thread_begins : (es : List Edge) (old : Execution) (thread : ℕ) → old ≡ thread_to es old thread 0
@@ -55,23 +55,23 @@ thread_more es old x y thread n location value from reads v l f before put =
     put ∙ ap (λ (z : Execution). with_read z thread (value, from)) before
     ∙ ap (λ r. with_read (thread_to es old thread n) thread r) read
     ∙ ap (λ reads. record old { reads = reads }) (added_appended old.reads thread some (event_read es n))
-    ∙ ap (λ reads. record old { reads = appended old.reads thread reads })
+    ∙ ap (λ reads. record old { reads = with_appended old.reads thread reads })
     (sym (ap (map (event_read es)) (filter_yes (is_read_of es thread) n reads) ∙ map-append (event_read es) (reads_before es thread n) (n ∷ [])))
 
 -- an event that isn't a read of the thread leaves the thread with the reads that it has
 pub thread_same : (es : List Edge) (old x : Execution) (thread n : ℕ) → is_read_of es thread n ≡ false
     → x ≡ thread_to es old thread n → x ≡ thread_to es old thread (n + 1)
 thread_same es old x thread n none before =
-    before ∙ ap (λ events. record old { reads = appended old.reads thread (map (event_read es) events) }) (sym (filter_no (is_read_of es thread) n none))
+    before ∙ ap (λ events. record old { reads = with_appended old.reads thread (map (event_read es) events) }) (sym (filter_no (is_read_of es thread) n none))
 
 -- where no event is left, the thread has all its reads
 pub thread_whole : (es : List Edge) (old x : Execution) (thread n : ℕ) → n ≡ length es → x ≡ thread_to es old thread n
-    → x ≡ record old { reads = appended old.reads thread (map (event_read es) (reads_in es thread)) }
+    → x ≡ record old { reads = with_appended old.reads thread (map (event_read es) (reads_in es thread)) }
 thread_whole es old x thread n e before =
-    before ∙ ap (λ events. record old { reads = appended old.reads thread (map (event_read es) events) }) (reads_all es thread n e)
+    before ∙ ap (λ events. record old { reads = with_appended old.reads thread (map (event_read es) events) }) (reads_all es thread n e)
 
 -- with the reads of one thread more, the first threads have their reads
 pub threads_more : (f : ℕ → List (ℕ × Option WriteAt)) (old x y : Execution) (n k : ℕ) → k < n → x ≡ record old { reads = filled_to f n k }
-    → y ≡ record x { reads = appended x.reads k (f k) } → y ≡ record old { reads = filled_to f n (k + 1) }
+    → y ≡ record x { reads = with_appended x.reads k (f k) } → y ≡ record old { reads = filled_to f n (k + 1) }
 threads_more f old x y n k h before put =
-    put ∙ ap (λ (z : Execution). record z { reads = appended z.reads k (f k) }) before ∙ ap (λ reads. record old { reads = reads }) (filled_more f n k h)
+    put ∙ ap (λ (z : Execution). record z { reads = with_appended z.reads k (f k) }) before ∙ ap (λ reads. record old { reads = reads }) (filled_more f n k h)

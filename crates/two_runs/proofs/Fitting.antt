@@ -23,7 +23,7 @@ use Rattle.program_meaning.specs.declared.WriteAt.{WriteAt}
 use Rattle.program_meaning.specs.Accesses.{is_read}
 use Rattle.program_meaning.specs.Intended.{event_access, event_read, location_numbered, reads_in, write_of}
 use Rattle.program_meaning.specs.Standing.{event_name}
-use Rattle.execution_text.specs.ReadBack.{AccessFits, ExecutionFits, ReadFits, SourceFits}
+use Rattle.execution_text.specs.ExecutionReadBack.{AccessFits, ExecutionFits, ReadFits, SourceFits}
 use Rattle.execution_text.proofs.Short.{small_fits}
 use Rattle.two_runs.specs.Runs.{order_of, run_by, value_there}
 

@@ -6,27 +6,27 @@ use Rattle.std.proofs.lemmas.List.{length-append, length-set}
 use Rattle.std.proofs.lemmas.List.Elements.{filter-append, filter_map-append}
 use Rattle.list_laws.specs.Numbers.{upto}
 use Rattle.list_laws.proofs.Numbers.{length-map-upto, map-upto_more}
-use Rattle.exec_meaning.specs.Kept.{added, empty_lists}
-use Rattle.two_runs.specs.Runs.{appended}
+use Rattle.exec_meaning.specs.KeptExecutions.{added_to_list, empty_lists}
+use Rattle.two_runs.specs.Runs.{with_appended}
 
 -- lists with no element more are as they were
-pub appended_none : {X : Type 0} (lists : List (List X)) (k : ℕ) → appended lists k [] ≡ lists
+pub appended_none : {X : Type 0} (lists : List (List X)) (k : ℕ) → with_appended lists k [] ≡ lists
 appended_none [] k = refl
 appended_none (xs ∷ lists) zero = ap (λ ys. ys ∷ lists) (append-nil xs)
 appended_none (xs ∷ lists) (suc k) = ap (λ ls. xs ∷ ls) (appended_none lists k)
 
--- one element after some appended is all of them appended
-pub added_appended : {X : Type 0} (lists : List (List X)) (k : ℕ) (xs : List X) (x : X) → added (appended lists k xs) k x ≡ appended lists k (xs ++ x ∷ [])
+-- one element after some with_appended is all of them with_appended
+pub added_appended : {X : Type 0} (lists : List (List X)) (k : ℕ) (xs : List X) (x : X) → added_to_list (with_appended lists k xs) k x ≡ with_appended lists k (xs ++ x ∷ [])
 added_appended [] k xs x = refl
 added_appended (ys ∷ lists) zero xs x = ap (λ zs. zs ∷ lists) (append_assoc ys xs (x ∷ []))
 added_appended (ys ∷ lists) (suc k) xs x = ap (λ ls. ys ∷ ls) (added_appended lists k xs x)
 
--- appended elements don't change how many lists there are
-pub appended_length : {X : Type 0} (lists : List (List X)) (k : ℕ) (xs : List X) → length (appended lists k xs) ≡ length lists
+-- with_appended elements don't change how many lists there are
+pub appended_length : {X : Type 0} (lists : List (List X)) (k : ℕ) (xs : List X) → length (with_appended lists k xs) ≡ length lists
 appended_length lists k xs = length-set lists k (unwrap_or (slice_get lists k) [] ++ xs)
 
 -- the list after some gets its elements
-at_end : {X : Type 0} (done : List (List X)) (ys : List X) (rest : List (List X)) (xs : List X) → appended (done ++ ys ∷ rest) (length done) xs ≡ done ++ (ys ++ xs) ∷ rest
+at_end : {X : Type 0} (done : List (List X)) (ys : List X) (rest : List (List X)) (xs : List X) → with_appended (done ++ ys ∷ rest) (length done) xs ≡ done ++ (ys ++ xs) ∷ rest
 at_end [] ys rest xs = refl
 at_end (zs ∷ done) ys rest xs = ap (λ ls. zs ∷ ls) (at_end done ys rest xs)
 
@@ -35,12 +35,12 @@ abbrev pub filled_to : {X : Type 0} → (ℕ → List X) → ℕ → ℕ → Lis
 filled_to f n k = map f (upto k) ++ empty_lists (n - k)
 
 -- with the elements of the next list, one list more has its elements
-pub filled_more : {X : Type 0} (f : ℕ → List X) (n k : ℕ) → k < n → appended (filled_to f n k) k (f k) ≡ filled_to f n (k + 1)
+pub filled_more : {X : Type 0} (f : ℕ → List X) (n k : ℕ) → k < n → with_appended (filled_to f n k) k (f k) ≡ filled_to f n (k + 1)
 filled_more f n k h =
     let left : n - k ≡ suc (n - (k + 1)) = omega arith in
     let rest = empty_lists (n - (k + 1)) in
-    ap (λ m. appended (map f (upto k) ++ empty_lists m) k (f k)) left
-    ∙ ap (λ m. appended (map f (upto k) ++ [] ∷ rest) m (f k)) (sym (length-map-upto f k))
+    ap (λ m. with_appended (map f (upto k) ++ empty_lists m) k (f k)) left
+    ∙ ap (λ m. with_appended (map f (upto k) ++ [] ∷ rest) m (f k)) (sym (length-map-upto f k))
     ∙ at_end (map f (upto k)) [] rest (f k)
     ∙ sym (append_assoc (map f (upto k)) (f k ∷ []) rest)
     ∙ ap (λ ls. ls ++ rest) (sym (map-upto_more f k))

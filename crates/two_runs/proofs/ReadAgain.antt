@@ -11,12 +11,12 @@ use Rattle.resolution_laws.specs.Resolution.{external_count, move_count}
 use Rattle.text_laws.specs.Names.{is_place_name}
 use Rattle.arch_trait.specs.Cells.{WritesCells, MakesOneAccess}
 use Rattle.arch_trait.specs.Laws.{IsArch}
-use Rattle.arch_trait.specs.Names.{letters, location_name}
+use Rattle.arch_trait.specs.PlaceNames.{letters, location_name}
 use Rattle.arch_trait.specs.Threads.{Puts}
 use Rattle.arch_trait.specs.Writing.{Writing, WritesBack, name_in}
 use Rattle.arch_laws.proofs.NameLaws.{length-letters, location_new}
 use Rattle.litmus_text.specs.declared.errors.TextError.{TextError}
-use Rattle.litmus_text.specs.Mentioned.{ReadsBack, is_in}
+use Rattle.litmus_text.specs.Mentioned.{TestReadsBack, is_in}
 use Rattle.litmus_text.specs.Printable.{IsTestName}
 use Rattle.litmus_text.specs.Reread.{reread}
 use Rattle.litmus_text.specs.TestReading.{TestRead, test_read}
@@ -28,10 +28,10 @@ use Rattle.program_meaning.specs.Intended.{event_read, location_numbered, reads_
 use Rattle.program_meaning.specs.Programs.{IsCandidate}
 use Rattle.exec_meaning.proofs.RunLaws.{candidate_count}
 use Rattle.execution_text.specs.ExecutionText.{execution_read}
-use Rattle.execution_text.specs.ReadBack.{ExecutionFits}
+use Rattle.execution_text.specs.ExecutionReadBack.{ExecutionFits}
 use Rattle.execution_text.specs.Written.{text_of_execution}
 use Rattle.execution_text.proofs.ExecutionBack.{written_reads_back}
-use Rattle.test_laws.specs.Headline.{HasCode}
+use Rattle.test_laws.specs.TestHeadline.{HasCode}
 use Rattle.test_laws.proofs.PlaceNames.{letter_at, locations_few}
 use Rattle.test_laws.specs.TestOf.{test_of}
 use Rattle.printed_test_laws.specs.Readings.{program_read}
@@ -61,7 +61,7 @@ one_reading test other e = cc e
 
 -- the places of a reading of the test have names of their form
 places_formed : (a : Puts) (w : Writing) (name : List ℕ) (es : List Edge) (test : TestRead)
-    → HasCode a es Avoid → ReadsBack a.name w name (test_of a (name_in w.registers) es Avoid)
+    → HasCode a es Avoid → TestReadsBack a.name w name (test_of a (name_in w.registers) es Avoid)
     → test_read a.name w (test_text a.name w name (test_of a (name_in w.registers) es Avoid)) ≡ Ok test → list_all is_place_name test.places ≡ true
 places_formed a w name es test code r reads =
     let again : TestRead = reread r.table name (test_of a (name_in w.registers) es Avoid) in
@@ -84,7 +84,7 @@ read_again a w name es moved number test run laws back cells one code named read
     let many : length test.places ≡ move_count es =
     sym candidate.execution.write_lists ∙ ap (λ (x : Execution). length x.orders) is ∙ length-map-upto orders (move_count es) in
     let readable_test = readable a a.name w name es Avoid laws back cells one named code in
-    let again : ReadsBack a.name w name (test_of a (name_in w.registers) es Avoid) = reads_back a a.name w name (test_of a (name_in w.registers) es Avoid) back cells readable_test in
+    let again : TestReadsBack a.name w name (test_of a (name_in w.registers) es Avoid) = reads_back a a.name w name (test_of a (name_in w.registers) es Avoid) back cells readable_test in
     let names = places_formed a w name es test code again reads in
     let fits = run_fits es moved number test.places code.resolved names many in
     written_reads_back (length test.threads) test.places run

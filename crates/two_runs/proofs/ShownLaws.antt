@@ -13,7 +13,7 @@ use Rattle.value_laws.specs.declared.needs.NeedsObserver.{NeedsObserver}
 use Rattle.value_laws.specs.Values.{is_observed, observer_need, write_count}
 use Rattle.arch_trait.specs.Cells.{WritesCells, MakesOneAccess}
 use Rattle.arch_trait.specs.Laws.{IsArch}
-use Rattle.arch_trait.specs.Names.{number_in}
+use Rattle.arch_trait.specs.PlaceNames.{number_in}
 use Rattle.arch_trait.specs.Threads.{Puts}
 use Rattle.arch_trait.specs.Writing.{Writing, WritesBack, name_in}
 use Rattle.litmus_text.specs.Printable.{IsTestName}
@@ -22,18 +22,18 @@ use Rattle.litmus_text.specs.TestText.{test_text}
 use Rattle.litmus_text.specs.declared.errors.TextError.{TextError}
 use Rattle.litmus_text.specs.declared.errors.ReadError.{ReadError}
 use Rattle.litmus_text.specs.declared.errors.ReadError.TheVariants as errors
-use Rattle.litmus_text.specs.Gives.{GivesInMemory}
+use Rattle.litmus_text.specs.ReadingAnswers.{GivesInMemory}
 use Rattle.program_meaning.specs.Executions.{Execution}
 use Rattle.program_meaning.specs.Intended.{intended, location_numbered, location_order, observed_locations, observer_reads, ordered_write, write_of}
 use Rattle.communication_laws.specs.Exchange.{exchanged, exchanged_order}
 use Rattle.communication_laws.proofs.Bridge.{resolves}
 use Rattle.communication_laws.proofs.Needs.{refused_entry}
-use Rattle.test_laws.specs.Headline.{HasCode}
+use Rattle.test_laws.specs.TestHeadline.{HasCode}
 use Rattle.test_laws.specs.TestOf.{test_of}
-use Rattle.printed_test_laws.specs.Readings.{program_read, place_of}
+use Rattle.printed_test_laws.specs.Readings.{program_read, place_in_test}
 use Rattle.exchange_laws.specs.Undecided.{BytesUndecided, NoneTells, PrintedUndecided, Undecided}
 use Rattle.two_runs.specs.Runs.{cycle_reads, numbers_by, order_of, run_by}
-use Rattle.two_runs.specs.Shown.{AreRuns}
+use Rattle.two_runs.specs.Shown.{AreTwoRuns}
 use Rattle.two_runs.proofs.ReadAgain.{read_again}
 
 filter_none : (p : ℕ → Bool) (xs : List ℕ) → ((x : ℕ) → p x ≡ false) → filter p xs ≡ []
@@ -102,7 +102,7 @@ pub are_runs : (a : Puts) (w : Writing) (name : List ℕ) (es : List Edge) (need
     → text ≡ test_text a.name w name (test_of a (name_in w.registers) es Avoid) → bytes ≡ text → BytesUndecided a.name w (test_text a.name w name (test_of a (name_in w.registers) es Avoid)) es need.event
     → test_read a.name w bytes ≡ Ok test → one ≡ run_by es None (numbers_by test.places) → two ≡ run_by es (Some need.event) (numbers_by test.places)
     → IsArch a → WritesBack a w → WritesCells a w → MakesOneAccess a → HasCode a es Avoid → IsTestName name
-    → AreRuns a w name es need text test one two
+    → AreTwoRuns a w name es need text test one two
 are_runs a w name es need text bytes test one two t b u reads first second laws back cells single code named = record {
   text_is = t;
   reads = ap (test_read a.name w) (sym b) ∙ reads;
@@ -119,17 +119,17 @@ are_runs a w name es need text bytes test one two t b u reads first second laws 
     same : u.test ≡ test
     same = is_ok u.test test (sym u.reads ∙ ap (test_read a.name w) (sym (b ∙ t)) ∙ reads)
 
-    one_is : one ≡ intended es Avoid (place_of test)
+    one_is : one ≡ intended es Avoid (place_in_test test)
     one_is = first ∙ run_intended es (numbers_by test.places)
 
-    two_is : two ≡ exchanged es (place_of test) need.event
+    two_is : two ≡ exchanged es (place_in_test test) need.event
     two_is = second ∙ run_exchanged es need.event (numbers_by test.places)
 
     none : NoneTells (program_read test) test.places (number_in w.registers) es (event_before es need.event) one two
     none =
         subst (λ (x : Execution). NoneTells (program_read test) test.places (number_in w.registers) es (event_before es need.event) x two) (sym one_is)
-        (subst (λ (y : Execution). NoneTells (program_read test) test.places (number_in w.registers) es (event_before es need.event) (intended es Avoid (place_of test)) y) (sym two_is)
-        (subst (λ (r : TestRead). Undecided (program_read r) r.places (number_in w.registers) es (place_of r) need.event) same u.undecided))
+        (subst (λ (y : Execution). NoneTells (program_read test) test.places (number_in w.registers) es (event_before es need.event) (intended es Avoid (place_in_test test)) y) (sym two_is)
+        (subst (λ (r : TestRead). Undecided (program_read r) r.places (number_in w.registers) es (place_in_test r) need.event) same u.undecided))
 
     read : test_read a.name w (test_text a.name w name (test_of a (name_in w.registers) es Avoid)) ≡ Ok test
     read = ap (test_read a.name w) (sym (b ∙ t)) ∙ reads

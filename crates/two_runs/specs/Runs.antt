@@ -6,7 +6,7 @@ use Rattle.relax_edges.specs.declared.edge.Edge.{Edge}
 use Rattle.list_laws.specs.Numbers.{upto}
 use Rattle.resolution_laws.specs.Resolution.{external_count, move_count, thread_of}
 use Rattle.value_laws.specs.Values.{write_count}
-use Rattle.arch_trait.specs.Names.{location_name}
+use Rattle.arch_trait.specs.PlaceNames.{location_name}
 use Rattle.litmus_text.specs.Placing.{place_in}
 use Rattle.diy_io.specs.Sink.{shown_bytes}
 use Rattle.diy_io.specs.Wrote.{SinkSeen}
@@ -26,8 +26,8 @@ abbrev pub numbers_by : List (List ℕ) → ℕ → ℕ
 numbers_by places location = place_in places (location_name location)
 
 -- lists, of which number k has these elements more, at its end
-abbrev pub appended : {X : Type 0} → List (List X) → ℕ → List X → List (List X)
-appended lists k xs = slice_set lists k (unwrap_or (slice_get lists k) [] ++ xs)
+abbrev pub with_appended : {X : Type 0} → List (List X) → ℕ → List X → List (List X)
+with_appended lists k xs = slice_set lists k (unwrap_or (slice_get lists k) [] ++ xs)
 
 -- event i is a read of a thread
 abbrev pub is_read_of : List Edge → ℕ → ℕ → Bool

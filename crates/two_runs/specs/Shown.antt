@@ -14,7 +14,7 @@ use Rattle.resolution_laws.specs.declared.errors.ResolveError.TheVariants as res
 use Rattle.resolution_laws.specs.Resolution.{event_before, resolution_of, turned}
 use Rattle.value_laws.specs.declared.needs.NeedsObserver.{NeedsObserver}
 use Rattle.value_laws.specs.Values.{observer_need}
-use Rattle.arch_trait.specs.Names.{number_in}
+use Rattle.arch_trait.specs.PlaceNames.{number_in}
 use Rattle.arch_trait.specs.Threads.{Puts}
 use Rattle.arch_trait.specs.Writing.{Writing, name_in}
 use Rattle.litmus_text.specs.TestReading.{TestRead, test_read}
@@ -22,13 +22,13 @@ use Rattle.litmus_text.specs.TestText.{test_text}
 use Rattle.program_meaning.specs.Executions.{Execution}
 use Rattle.program_meaning.specs.Intended.{intended}
 use Rattle.communication_laws.specs.Exchange.{exchanged}
-use Rattle.test_laws.specs.Headline.{HasCode}
-use Rattle.test_laws.specs.Steps.{cycle_steps}
+use Rattle.test_laws.specs.TestHeadline.{HasCode}
+use Rattle.test_laws.specs.CycleSteps.{cycle_steps}
 use Rattle.test_laws.specs.TestOf.{plain, test_of}
 use Rattle.test_maker.specs.Refusals.{is_crowded}
 use Rattle.execution_text.specs.ExecutionText.{execution_read}
 use Rattle.execution_text.specs.Written.{text_of_execution}
-use Rattle.printed_test_laws.specs.Readings.{program_read, place_of}
+use Rattle.printed_test_laws.specs.Readings.{program_read, place_in_test}
 use Rattle.exchange_laws.specs.Undecided.{NoneTells}
 use Rattle.two_runs.specs.declared.errors.WhyError.{WhyError}
 use Rattle.two_runs.specs.declared.errors.WhyError.TheVariants as errors
@@ -63,11 +63,11 @@ why_refused a cycle = option_or (foreign a.name cycle) (unshown a (resolution_of
 -- execution is the intended one; in the second the write that needs an observer and the one before it are exchanged; and no
 -- condition on the final state tells them apart, though the edge into that write stands in the first alone. The text of each,
 -- with the places of the test, is read as that execution.
-pub record AreRuns (a : Puts) (w : Writing) (name : List ℕ) (es : List Edge) (need : NeedsObserver) (text : List ℕ) (test : TestRead) (one two : Execution) : Type 0 where
+pub record AreTwoRuns (a : Puts) (w : Writing) (name : List ℕ) (es : List Edge) (need : NeedsObserver) (text : List ℕ) (test : TestRead) (one two : Execution) : Type 0 where
   pub text_is : text ≡ test_text a.name w name (test_of a (name_in w.registers) es Avoid)
   pub reads : test_read a.name w text ≡ Ok test
-  pub first : one ≡ intended es Avoid (place_of test)
-  pub second : two ≡ exchanged es (place_of test) need.event
+  pub first : one ≡ intended es Avoid (place_in_test test)
+  pub second : two ≡ exchanged es (place_in_test test) need.event
   pub none_tells : NoneTells (program_read test) test.places (number_in w.registers) es (event_before es need.event) one two
   pub first_reads : execution_read (length test.threads) test.places (text_of_execution test.places one) ≡ Ok one
   pub second_reads : execution_read (length test.threads) test.places (text_of_execution test.places two) ≡ Ok two
@@ -82,7 +82,7 @@ GivesText a w name es (Err (errors.Refused refusal)) = crowded a es ≡ Some ref
 -- what is given for a resolved cycle in which this write needs an observer: the text and the two executions; or the first reason
 -- why nothing is shown; or, where there is no such reason, that there is no memory
 abbrev pub ShowsNeed : {A : Type 0} → Puts → Writing → List ℕ → List Edge → NeedsObserver → Result (TwoRuns A) WhyError → Type 0
-ShowsNeed a w name es need (Ok runs) = (crowded a es ≡ None) × AreRuns a w name es need runs.text.items runs.test runs.one runs.two
+ShowsNeed a w name es need (Ok runs) = (crowded a es ≡ None) × AreTwoRuns a w name es need runs.text.items runs.test runs.one runs.two
 ShowsNeed a w name es need (Err errors.NoMemory) = crowded a es ≡ None
 ShowsNeed a w name es need (Err (errors.Refused refusal)) = crowded a es ≡ Some refusal
 
@@ -90,7 +90,7 @@ ShowsNeed a w name es need (Err (errors.Refused refusal)) = crowded a es ≡ Som
 pub record AreRunsFor (a : Puts) (w : Writing) (name : List ℕ) (es : List Edge) (needed : Option NeedsObserver) (text : List ℕ) (test : TestRead) (one two : Execution) : Type 0 where
   pub need : NeedsObserver
   pub needs : needed ≡ Some need
-  pub runs : AreRuns a w name es need text test one two
+  pub runs : AreTwoRuns a w name es need text test one two
 
 -- what is given for a resolved cycle in which this write needs an observer, or none does
 abbrev pub ShowsResolved : {A : Type 0} → Puts → Writing → List ℕ → List Edge → Option NeedsObserver → Result (TwoRuns A) WhyError → Type 0

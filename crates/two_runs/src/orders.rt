@@ -3,8 +3,8 @@ ghost use Rattle.std.specs.Option.{ForSome};
 ghost use Rattle.resolution_laws.specs.Resolution.{move_count};
 ghost use Rattle.value_laws.specs.Values.{write_count};
 ghost use Rattle.communication_laws.specs.Exchange.{swapped};
-ghost use Rattle.exec_meaning.specs.Kept.{empty_lists};
-ghost use Rattle.two_runs.specs.Runs.{appended, numbers_by, order_of, run_by, value_there};
+ghost use Rattle.exec_meaning.specs.KeptExecutions.{empty_lists};
+ghost use Rattle.two_runs.specs.Runs.{with_appended, numbers_by, order_of, run_by, value_there};
 
 use crate::places::location_at;
 use crate::reads::write_of;
@@ -42,7 +42,7 @@ fn add_order(
     requires place { place < length exec.old.orders }
     requires location { location < move_count valued.now.edges }
     requires moved { ForSome moved (λ event. event < length valued.now.edges) }
-    ensures { OnOk result (exec.new ≡ record exec.old { orders = appended exec.old.orders place (order_of valued.now.edges moved location) }) }
+    ensures { OnOk result (exec.new ≡ record exec.old { orders = with_appended exec.old.orders place (order_of valued.now.edges moved location) }) }
 {
     for k in 0..valued.writes(location) {
         let value = value_there(valued, moved, location, k + 1);

@@ -1,9 +1,9 @@
 ghost use Rattle.std.specs.Prelude.{◌≡◌, ◌≤◌, ◌<◌, length, OnOk};
 ghost use Rattle.resolution_laws.specs.Resolution.{external_count};
 ghost use Rattle.value_laws.specs.Values.{write_count};
-ghost use Rattle.exec_meaning.specs.Kept.{empty_lists};
+ghost use Rattle.exec_meaning.specs.KeptExecutions.{empty_lists};
 ghost use Rattle.program_meaning.specs.Intended.{write_of};
-ghost use Rattle.two_runs.specs.Runs.{appended, cycle_reads, is_read_of, thread_reads};
+ghost use Rattle.two_runs.specs.Runs.{with_appended, cycle_reads, is_read_of, thread_reads};
 
 use coherence_values::Valued;
 use diy_io::NoMemory;
@@ -24,7 +24,7 @@ pub(crate) fn add_reads(valued: &Valued, exec: &mut Execution) -> Result<(), NoM
 
 fn add_thread(valued: &Valued, thread: u8, exec: &mut Execution) -> Result<(), NoMemory>
     requires { thread < length exec.old.reads }
-    ensures { OnOk result (exec.new ≡ record exec.old { reads = appended exec.old.reads thread (thread_reads valued.now.edges thread) }) }
+    ensures { OnOk result (exec.new ≡ record exec.old { reads = with_appended exec.old.reads thread (thread_reads valued.now.edges thread) }) }
 {
     for i in 0..valued.resolved().cycle().len() {
         if is_read_of(valued, thread, i) {

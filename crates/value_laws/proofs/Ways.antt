@@ -22,9 +22,9 @@ way_ahead es i h = cond-false {A = ℕ} (moves_before es i == move_count es) i (
 
 -- an event is after the last move, or before it
 pub by_way : {G : Type 0} (es : List Edge) (i : ℕ) → i < length es → (moves_before es i ≡ move_count es → location_of es i ≡ 0 → way_place es i ≡ i → G) → (moves_before es i < move_count es → location_of es i ≡ moves_before es i → way_place es i ≡ length es + i → G) → G
-by_way es i h behind ahead =
+by_way es i h remainder ahead =
     location_cases es i h
-    (λ w z. behind w z (way_after es i w))
+    (λ w z. remainder w z (way_after es i w))
     (λ l e. ahead l e (way_ahead es i l))
 
 -- no two events are at one place of the way

@@ -67,8 +67,8 @@ record IsNextPlace (es : List Edge) (i : ℕ) : Type 0 where
   location : location_of es (event_before es i) ≡ location_of es i
   place : way_place es i ≡ way_place es (event_before es i) + 1
 
-behind : (es : List Edge) (i : ℕ) → IsResolved es → i < length es → is_diff (edge_at es (event_before es i)) ≡ false → IsNextPlace es i
-behind es i r h f =
+remainder : (es : List Edge) (i : ℕ) → IsResolved es → i < length es → is_diff (edge_at es (event_before es i)) ≡ false → IsNextPlace es i
+remainder es i r h f =
     let below = before_below es i h in
     let back = after_before es i h in
     record {
@@ -91,7 +91,7 @@ write_back es l k i (suc m) r h e v w =
     (λ t. let one : value_of es i ≡ 0 + 1 = rw (d, t) at from in
     record { event = i; is = record { below = h; writes = write_at_from es l i t e; value = omega (arith, one, v) } })
     (λ f. let none : value_of es i ≡ 0 + 0 = rw (d, f) at from in absurd (omega (arith, none, v))))
-    (λ d. let b = behind es i r h d in
+    (λ d. let b = remainder es i r h d in
     by_test (is_write es i)
     (λ t. let more : value_of es i ≡ value_of es (event_before es i) + 1 = rw (d, t) at from in
     by_same (value_of es i) (k + 1)

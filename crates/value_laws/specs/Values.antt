@@ -38,8 +38,8 @@ abbrev pub is_event_at : List Edge → ℕ → ℕ → Bool
 is_event_at es location i = nat_lt i (length es) && (location_of es i == location)
 
 -- how many writes some events have up to number k of them and with it
-abbrev pub writes_to : List Edge → List ℕ → ℕ → ℕ
-writes_to es events k = count_by (is_write es) (take (k + 1) events)
+abbrev pub writes_counted : List Edge → List ℕ → ℕ → ℕ
+writes_counted es events k = count_by (is_write es) (take (k + 1) events)
 
 -- event i is a write at the location
 abbrev pub is_write_at : List Edge → ℕ → ℕ → Bool

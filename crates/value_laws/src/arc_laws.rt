@@ -4,7 +4,7 @@ ghost use Rattle.std.specs.List.{AllPairs, filter, flat_map, slice_get};
 ghost use Rattle.relax_edges.specs.declared.edge.Edge.{Edge};
 ghost use Rattle.list_laws.specs.Numbers.{upto};
 ghost use Rattle.resolution_laws.specs.Resolution.{move_count, IsResolved};
-ghost use Rattle.value_laws.specs.Values.{is_write, way, arc, way_place, value_of, write_at, arc_of, is_event_at, writes_to};
+ghost use Rattle.value_laws.specs.Values.{is_write, way, arc, way_place, value_of, write_at, arc_of, is_event_at, writes_counted};
 
 /// The arc of a location has the events of the location, each once, and nothing else.
 #[tactic(auto, using(crate::proofs::Arcs::arc_events))]
@@ -27,7 +27,7 @@ pub fn places_grow_along_arcs()
 /// The value of an event is the number of writes that its arc has up to it and with it.
 #[tactic(auto, using(crate::proofs::Arcs::value_on_arc))]
 pub fn values_count_writes_along_arcs()
-    ensures { (es : List Edge) → (i k : ℕ) → slice_get (arc_of es i) k ≡ Some i → value_of es i ≡ writes_to es (arc_of es i) k }
+    ensures { (es : List Edge) → (i k : ℕ) → slice_get (arc_of es i) k ≡ Some i → value_of es i ≡ writes_counted es (arc_of es i) k }
 {}
 
 /// The writes of a location are those of its arc, in the order of the arc.

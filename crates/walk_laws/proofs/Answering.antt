@@ -3,9 +3,9 @@ use Rattle.std.proofs.Common.{◌<◌, inl, inr, ℕ, suc, Option, Some, None, L
 use Rattle.std.proofs.lemmas.List.{append-nil}
 use Rattle.std.proofs.lemmas.Bool.{cases_lt}
 use Rattle.relax_edges.specs.declared.edge.Edge.{Edge}
-use Rattle.cycle_laws.specs.Order.{Above, Follows}
+use Rattle.cycle_laws.specs.CycleOrder.{Above, Follows}
 use Rattle.walk_laws.specs.Listing.{IsNext, IsAnswer}
-use Rattle.walk_laws.specs.Search.{Reaches, ToCome, StepsOver, over, replaced, IsRaised, IsExtended, OfLength, LongerThan, IsFirst, IsCut}
+use Rattle.walk_laws.specs.Search.{ReachesList, ToCome, StepsOver, over, replaced, IsRaised, IsExtended, OfLength, LongerThan, IsFirst, IsCut}
 use Rattle.cycle_laws.proofs.Ordering.{above_longer, above_transitive}
 use Rattle.walk_laws.proofs.Searching.{reaches_cases, above_replaced, above_u, to_come_reaches}
 
@@ -37,7 +37,7 @@ module _ (listed : List Edge → Type 0) (keeps : List Edge → Type 0) where
         | inr none ↦ above_u list m (prefix_of list c.rest m (rw c.prefix at a)) (λ r e. none r (rw e at is))
       ]
     where
-      prefix_of : (u r v : List Edge) → Above (u ++ r) v → Reaches u v
+      prefix_of : (u r v : List Edge) → Above (u ++ r) v → ReachesList u v
       prefix_of [] r v h = tt
       prefix_of (x ∷ u) r [] h = h
       prefix_of (x ∷ u) r (y ∷ v) h = elim h [ inl less ↦ inl less | inr both ↦ inr (both.0, prefix_of u r v both.1) ]

@@ -8,7 +8,7 @@ use Rattle.relax_edges.specs.Order.{rank_of}
 use Rattle.cycle_laws.specs.Composable.{is_joined, last_joins}
 use Rattle.cycle_laws.proofs.Composing.{joined_prefix, joined_parts}
 use Rattle.walk_laws.specs.Listing.{IsOneOf, concatenated, IsMadeOf, IsListed}
-use Rattle.walk_laws.specs.Search.{IsIn, OccursIn, IsSingle, IsCandidate, NoneBetween, IsRaised, IsExtended, LeadsNowhere}
+use Rattle.walk_laws.specs.Search.{IsIn, OccursIn, IsSingle, IsListCandidate, NoneBetween, IsRaised, IsExtended, LeadsNowhere}
 use Rattle.walk_laws.proofs.Raising.{raised_within, extended_within}
 
 module _ (relaxes : List (List Edge)) where
@@ -80,7 +80,7 @@ module _ (relaxes : List (List Edge)) where
   }
 
   -- a listed cycle is a candidate
-  pub listed_candidate : (takes : List Edge → Type 0) (size : ℕ) (exact : Bool) (u : List Edge) → IsListed takes relaxes size exact u → IsCandidate relaxes u
+  pub listed_candidate : (takes : List Edge → Type 0) (size : ℕ) (exact : Bool) (u : List Edge) → IsListed takes relaxes size exact u → IsListCandidate relaxes u
   listed_candidate takes size exact u l = record {
     joined = joined_prefix u (take 1 u) l.cycle.closed;
     occurs = made_occurs u l.made;
@@ -88,32 +88,32 @@ module _ (relaxes : List (List Edge)) where
   }
 
   -- no candidate goes on with an edge that occurs in no relaxation
-  pub unused_nowhere : (prefix : List Edge) (e : Edge) → (OccursIn relaxes e → ⊥) → LeadsNowhere (IsCandidate relaxes) (prefix ++ e ∷ [])
+  pub unused_nowhere : (prefix : List Edge) (e : Edge) → (OccursIn relaxes e → ⊥) → LeadsNowhere (IsListCandidate relaxes) (prefix ++ e ∷ [])
   unused_nowhere prefix e none r c = none (all_back prefix (e ∷ []) (all_prefix (prefix ++ e ∷ []) r c.occurs)).0
 
   -- nor with one that the last edge doesn't join
-  pub unjoined_next : (prefix : List Edge) (e : Edge) → last_joins prefix (e ∷ []) ≡ false → LeadsNowhere (IsCandidate relaxes) (prefix ++ e ∷ [])
+  pub unjoined_next : (prefix : List Edge) (e : Edge) → last_joins prefix (e ∷ []) ≡ false → LeadsNowhere (IsListCandidate relaxes) (prefix ++ e ∷ [])
   unjoined_next prefix e fails r c =
       let parts = and_parts (is_joined prefix) (last_joins prefix (e ∷ []) && true) (sym (joined_parts prefix (e ∷ [])) ∙ joined_prefix (prefix ++ e ∷ []) r c.joined) in
       true≢false (sym (and_parts (last_joins prefix (e ∷ [])) true parts.1).0 ∙ fails)
 
   -- nor with one that is smaller than the first
-  pub smaller_nowhere : (f : Edge) (u : List Edge) (e : Edge) → rank_of e < rank_of f → LeadsNowhere (IsCandidate relaxes) ((f ∷ u) ++ e ∷ [])
+  pub smaller_nowhere : (f : Edge) (u : List Edge) (e : Edge) → rank_of e < rank_of f → LeadsNowhere (IsListCandidate relaxes) ((f ∷ u) ++ e ∷ [])
   smaller_nowhere f u e less r c =
       c.normal ((e ∷ r) ++ (f ∷ u)) (record { prefix = f ∷ u; back = e ∷ r; from = append_assoc (f ∷ u) (e ∷ []) r; to = refl }) (inl less)
 
   -- no candidate goes on with an edge of a rank below that of its first edge
-  pub none_smaller : (f : Edge) (u : List Edge) → NoneBetween (IsCandidate relaxes) (f ∷ u) 0 (rank_of f)
+  pub none_smaller : (f : Edge) (u : List Edge) → NoneBetween (IsListCandidate relaxes) (f ∷ u) 0 (rank_of f)
   none_smaller f u e h less = smaller_nowhere f u e less
 
 -- a search that leaves out no candidate leaves out no listed cycle
-pub raised_listed : (relaxes : List (List Edge)) (takes : List Edge → Type 0) (size : ℕ) (exact : Bool) (u v : List Edge) → IsRaised (IsCandidate relaxes) u v
+pub raised_listed : (relaxes : List (List Edge)) (takes : List Edge → Type 0) (size : ℕ) (exact : Bool) (u v : List Edge) → IsRaised (IsListCandidate relaxes) u v
     → IsRaised (IsListed takes relaxes size exact) u v
 raised_listed relaxes takes size exact u v r =
-    raised_within (IsCandidate relaxes) (IsListed takes relaxes size exact) u v (listed_candidate relaxes takes size exact) r
+    raised_within (IsListCandidate relaxes) (IsListed takes relaxes size exact) u v (listed_candidate relaxes takes size exact) r
 
 -- nor does it when the search looks at longer lists
-pub extended_listed : (relaxes : List (List Edge)) (takes : List Edge → Type 0) (size : ℕ) (exact : Bool) (u v : List Edge) → IsExtended (IsCandidate relaxes) u v
+pub extended_listed : (relaxes : List (List Edge)) (takes : List Edge → Type 0) (size : ℕ) (exact : Bool) (u v : List Edge) → IsExtended (IsListCandidate relaxes) u v
     → IsExtended (IsListed takes relaxes size exact) u v
 extended_listed relaxes takes size exact u v x =
-    extended_within (IsCandidate relaxes) (IsListed takes relaxes size exact) u v (listed_candidate relaxes takes size exact) x
+    extended_within (IsListCandidate relaxes) (IsListed takes relaxes size exact) u v (listed_candidate relaxes takes size exact) x

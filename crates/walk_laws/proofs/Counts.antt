@@ -5,7 +5,7 @@ use Rattle.relax_edges.specs.declared.order.TheConstants.{EDGES}
 use Rattle.relax_edges.specs.declared.edge.Edge.{Edge}
 use Rattle.relax_edges.specs.Order.{rank_of}
 use Rattle.cycle_laws.proofs.RankLaws.{rank_below}
-use Rattle.cycle_laws.specs.Order.{Above}
+use Rattle.cycle_laws.specs.CycleOrder.{Above}
 use Rattle.walk_laws.specs.Listing.{ComesAfter}
 use Rattle.walk_laws.specs.Search.{StepsOver, over, replaced, IsRaised, IsExtended}
 use Rattle.walk_laws.specs.Counting.{lists_within, lists_after, later}
@@ -16,18 +16,18 @@ within-suc : (d : ℕ) → lists_within (suc d) ≡ (lists_within d + 1) * EDGES
 unfolding lists_within
 within-suc d = refl
 
-behind-nil : (d : ℕ) → lists_after d [] ≡ lists_within d
+remainder-nil : (d : ℕ) → lists_after d [] ≡ lists_within d
 unfolding lists_within lists_after
-behind-nil zero = refl
-behind-nil (suc d) = refl
+remainder-nil zero = refl
+remainder-nil (suc d) = refl
 
-behind-edge : (d : ℕ) (x : Edge) (u : List Edge) → lists_after (suc d) (x ∷ u) ≡ (lists_within d + 1) * (EDGES - (rank_of x + 1)) + lists_after d u
+remainder-edge : (d : ℕ) (x : Edge) (u : List Edge) → lists_after (suc d) (x ∷ u) ≡ (lists_within d + 1) * (EDGES - (rank_of x + 1)) + lists_after d u
 unfolding lists_after
-behind-edge d x u = refl
+remainder-edge d x u = refl
 
-behind-zero : (u : List Edge) → lists_after 0 u ≡ 0
+remainder-zero : (u : List Edge) → lists_after 0 u ≡ 0
 unfolding lists_after
-behind-zero u = refl
+remainder-zero u = refl
 
 later-none : (size : ℕ) → later size None ≡ (lists_within size + 1) * (size + 1)
 unfolding later
@@ -46,10 +46,10 @@ edges_left x = omega (arith, rank_below x)
 
 -- no more lists come after a list than there are
 pub after_few : (d : ℕ) (u : List Edge) → lists_after d u ≤ lists_within d
-after_few zero u = rw (behind-zero u) (omega arith)
-after_few (suc d) [] = rw (behind-nil (suc d)) (omega arith)
+after_few zero u = rw (remainder-zero u) (omega arith)
+after_few (suc d) [] = rw (remainder-nil (suc d)) (omega arith)
 after_few (suc d) (x ∷ u) =
-    rw (behind-edge d x u, within-suc d)
+    rw (remainder-edge d x u, within-suc d)
     (omega (arith, after_few d u, one_more (lists_within d) (EDGES - (rank_of x + 1)) EDGES (edges_left x)))
 
 -- fewer lists come after a list that is above another than after that one
@@ -58,7 +58,7 @@ above_fewer d [] v a b h = absurd h
 above_fewer d (x ∷ u) [] a b h = absurd h
 above_fewer zero (x ∷ u) (y ∷ v) a b h = absurd (omega arith)
 above_fewer (suc d) (x ∷ u) (y ∷ v) a b h =
-    rw (behind-edge d x u, behind-edge d y v)
+    rw (remainder-edge d x u, remainder-edge d y v)
     (elim h [
       | inl less ↦
           omega (arith, after_few d v, one_more (lists_within d) (EDGES - (rank_of y + 1)) (EDGES - (rank_of x + 1)) (omega (arith, rank_below y)))
@@ -72,10 +72,10 @@ above_fewer (suc d) (x ∷ u) (y ∷ v) a b h =
 pub longer_fewer : (d : ℕ) (u : List Edge) (e : Edge) → length u < d → lists_after d (u ++ e ∷ []) < lists_after d u
 longer_fewer zero u e l = absurd (omega arith)
 longer_fewer (suc d) [] e l =
-    rw (behind-edge d e [], behind-nil d, behind-nil (suc d), within-suc d)
+    rw (remainder-edge d e [], remainder-nil d, remainder-nil (suc d), within-suc d)
     (omega (arith, one_more (lists_within d) (EDGES - (rank_of e + 1)) EDGES (edges_left e)))
 longer_fewer (suc d) (x ∷ u) e l =
-    rw (behind-edge d x (u ++ e ∷ []), behind-edge d x u) (omega (arith, longer_fewer d u e (omega arith)))
+    rw (remainder-edge d x (u ++ e ∷ []), remainder-edge d x u) (omega (arith, longer_fewer d u e (omega arith)))
 
 -- how much is left of a search that is at a list: nothing where it is over
 abbrev pub to_go : ℕ → List Edge → ℕ

@@ -1,7 +1,7 @@
 -- Answers, each the next after the one before, are all that is listed.
 use Rattle.std.proofs.Common.{◌≡◌, ◌⊎◌, inl, inr, Option, Some, None, List, [], ◌∷◌, ◌++◌, true, refl, sym, ◌∙◌}
 use Rattle.relax_edges.specs.declared.edge.Edge.{Edge}
-use Rattle.cycle_laws.specs.Order.{Follows}
+use Rattle.cycle_laws.specs.CycleOrder.{Follows}
 use Rattle.walk_laws.specs.Listing.{IsOneOf, ComesAfter, IsListed, IsNext, IsAnswer, AreRising, AreAllListed, AreListedTo, NextAfterNext}
 use Rattle.cycle_laws.proofs.Ordering.{follows_irreflexive, follows_transitive, follows_or_same}
 

@@ -8,8 +8,8 @@ use Rattle.relax_edges.specs.declared.edge.Edge.{Edge}
 use Rattle.relax_edges.specs.Order.{rank_of}
 use Rattle.cycle_laws.proofs.RankLaws.{rank_below}
 use Rattle.walk_laws.specs.Asked.{KeptBelow, KeptWhole}
-use Rattle.cycle_laws.specs.Order.{Above}
-use Rattle.walk_laws.specs.Search.{Reaches, ToCome, LeadsNowhere, NoneBetween, IsNextEdge, StepsOver, over, replaced, IsLonger, IsRaised, IsExtended, IsCut}
+use Rattle.cycle_laws.specs.CycleOrder.{Above}
+use Rattle.walk_laws.specs.Search.{ReachesList, ToCome, LeadsNowhere, NoneBetween, IsNextEdge, StepsOver, over, replaced, IsLonger, IsRaised, IsExtended, IsCut}
 use Rattle.walk_laws.proofs.Searching.{reaches_cases, reaches_beyond, reaches_with, reaches_to_come}
 
 -- where fewer lists are sought, none of them is left out either
@@ -87,7 +87,7 @@ module _ (sought : List Edge → Type 0) where
   none_of_both prefix from between to a b e l h = elim (cases_lt (rank_of e) between) [ inl less ↦ a e l less | inr more ↦ b e more h ]
 
   -- a list that is reached from another, and longer, begins with it and one more edge, or is above it
-  extended_cases : (u m : List Edge) (G : Type 0) → Reaches u m → length u < length m → ((e : Edge) (rest : List Edge) → m ≡ (u ++ e ∷ []) ++ rest → G) → (Above u m → G) → G
+  extended_cases : (u m : List Edge) (G : Type 0) → ReachesList u m → length u < length m → ((e : Edge) (rest : List Edge) → m ≡ (u ++ e ∷ []) ++ rest → G) → (Above u m → G) → G
   extended_cases u m G h l begins beyond = elim (reaches_cases u m h) [ inl b ↦ by b.rest b.is | inr a ↦ beyond a ]
     where
       by : (rest : List Edge) → m ≡ u ++ rest → G
@@ -99,7 +99,7 @@ module _ (sought : List Edge → Type 0) where
   extended_by u new from y low next to = record {
     step = inl (record { edge = y; is = to });
     all = λ m s l h. reaches_to_come new m (omega (arith, ap length to, length-append u (y ∷ [])))
-        (extended_cases u m (Reaches new m) h l
+        (extended_cases u m (ReachesList new m) h l
         (λ e rest is. rw (to, is) (elim (cases_lt (rank_of e) (rank_of y)) [
           | inl less ↦ absurd (none_of_both u 0 from (rank_of y) low next.1 e (omega arith) less rest (rw is at s))
           | inr more ↦ reaches_with u y e rest more

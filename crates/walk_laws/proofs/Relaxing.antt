@@ -9,39 +9,39 @@ use Rattle.cycle_laws.proofs.RankLaws.{rank_injective}
 use Rattle.cycle_laws.specs.Rotation.{rotated}
 use Rattle.walk_laws.specs.Search.{LeadsNowhere}
 use Rattle.walk_laws.specs.Listing.{IsOneOf, concatenated, IsConcatenation, IsMadeOf}
-use Rattle.walk_laws.specs.Reading.{fits, leads, suffixes_read, suffix_leads}
+use Rattle.walk_laws.specs.RelaxationReading.{begins_with_path, leads, suffixes_read, suffix_leads}
 use Rattle.cycle_laws.proofs.Rotating.{rotation_of_place, place_of_rotation}
-use Rattle.cycle_laws.proofs.Rotating.{before, behind, cuts}
+use Rattle.cycle_laws.proofs.Rotating.{before, remainder, cuts}
 use Rattle.walk_laws.proofs.Searching.{BeginsWith}
 
--- what fits a relaxation begins with it
-fits_whole : (r u : List Edge) → fits false r u ≡ true → BeginsWith r u
+-- what begins_with_path a relaxation begins with it
+fits_whole : (r u : List Edge) → begins_with_path false r u ≡ true → BeginsWith r u
 fits_whole [] u h = record { rest = u; is = refl }
 fits_whole (x ∷ r) [] h = cc
 fits_whole (x ∷ r) (y ∷ u) h =
-    let both = and_parts (nat_eq (rank_of x) (rank_of y)) (fits false r u) h in
+    let both = and_parts (nat_eq (rank_of x) (rank_of y)) (begins_with_path false r u) h in
     let same : x ≡ y = rank_injective x y (eqb-true (rank_of x) (rank_of y) both.0) in
     let b = fits_whole r u both.1 in
     record { rest = b.rest; is = cc (same, b.is) }
 
--- what begins with a relaxation fits it, and where it may end inside one, so does a prefix
-fits_prefix : (inside : Bool) (r v : List Edge) → fits inside r (r ++ v) ≡ true
+-- what begins with a relaxation begins_with_path it, and where it may end inside one, so does a prefix
+fits_prefix : (inside : Bool) (r v : List Edge) → begins_with_path inside r (r ++ v) ≡ true
 fits_prefix inside [] v = refl
-fits_prefix inside (x ∷ r) v = and_from (nat_eq (rank_of x) (rank_of x)) (fits inside r (r ++ v)) (eq-eqb (rank_of x) (rank_of x) refl) (fits_prefix inside r v)
+fits_prefix inside (x ∷ r) v = and_from (nat_eq (rank_of x) (rank_of x)) (begins_with_path inside r (r ++ v)) (eq-eqb (rank_of x) (rank_of x) refl) (fits_prefix inside r v)
 
-fits_inside : (u v : List Edge) → fits true (u ++ v) u ≡ true
+fits_inside : (u v : List Edge) → begins_with_path true (u ++ v) u ≡ true
 fits_inside [] [] = refl
 fits_inside [] (x ∷ v) = refl
-fits_inside (x ∷ u) v = and_from (nat_eq (rank_of x) (rank_of x)) (fits true (u ++ v) u) (eq-eqb (rank_of x) (rank_of x) refl) (fits_inside u v)
+fits_inside (x ∷ u) v = and_from (nat_eq (rank_of x) (rank_of x)) (begins_with_path true (u ++ v) u) (eq-eqb (rank_of x) (rank_of x) refl) (fits_inside u v)
 
-fits_beginning : (inside : Bool) (r u k : List Edge) → u ≡ r ++ k → fits inside r u ≡ true
+fits_beginning : (inside : Bool) (r u k : List Edge) → u ≡ r ++ k → begins_with_path inside r u ≡ true
 fits_beginning inside r u k e = rw e (fits_prefix inside r k)
 
-fits_ending : (inside : Bool) (r u k : List Edge) → r ≡ u ++ k → (inside ≡ true) ⊎ (k ≡ []) → fits inside r u ≡ true
+fits_ending : (inside : Bool) (r u k : List Edge) → r ≡ u ++ k → (inside ≡ true) ⊎ (k ≡ []) → begins_with_path inside r u ≡ true
 fits_ending inside r u k e (inl i) = rw (i, e) (fits_inside u k)
 fits_ending inside r u k e (inr none) =
     let whole : r ≡ u = e ∙ ap (λ w. u ++ w) none ∙ append-nil u in
-    rw whole (ap (fits inside u) (sym (append-nil u)) ∙ fits_prefix inside u [])
+    rw whole (ap (begins_with_path inside u) (sym (append-nil u)) ∙ fits_prefix inside u [])
 
 -- some relaxation passes a test
 record Passing (test : List Edge → Bool) (relaxes : List (List Edge)) : Type 0 where
@@ -122,10 +122,10 @@ module _ (relaxes : List (List Edge)) where
       by_relax : ((prefix back : List Edge) → u ≡ prefix ++ back → get_or (suffixes_read false relaxes u) (length back) false ≡ true → IsConcatenation relaxes back)
           → (r : List Edge) → IsOneOf relaxes r → leads false (e ∷ u) (suffixes_read false relaxes u) r ≡ true → IsConcatenation relaxes (e ∷ u)
       by_relax again [] o h =
-          absurd (true≢false (sym (and_parts (fits false [] (e ∷ u)) (get_or (suffixes_read false relaxes u) (suc (length u) - 0) false) h).1
+          absurd (true≢false (sym (and_parts (begins_with_path false [] (e ∷ u)) (get_or (suffixes_read false relaxes u) (suc (length u) - 0) false) h).1
           ∙ get_or_past (suffixes_read false relaxes u) false (suc (length u) - 0) (omega (arith, length-read false u))))
       by_relax again (x ∷ r) o h =
-          let both = and_parts (fits false (x ∷ r) (e ∷ u)) (get_or (suffixes_read false relaxes u) (suc (length u) - suc (length r)) false) h in
+          let both = and_parts (begins_with_path false (x ∷ r) (e ∷ u)) (get_or (suffixes_read false relaxes u) (suc (length u) - suc (length r)) false) h in
           let b = fits_whole (x ∷ r) (e ∷ u) both.0 in
           let rest : u ≡ r ++ b.rest = cc b.is in
           let place : suc (length u) - suc (length r) ≡ length b.rest = omega (arith, ap length rest, length-append r b.rest) in
@@ -150,10 +150,10 @@ module _ (relaxes : List (List Edge)) where
   leads_from inside e u more y m parts each ends same read =
       elim (cuts (e ∷ u) more (y ∷ m) (concatenated parts) same) [
         | before k long rest ↦ within k long rest
-        | behind k short rest ↦
+        | remainder k short rest ↦
             let tail : u ≡ m ++ k = cc short in
             let place : suc (length u) - suc (length m) ≡ length k = omega (arith, ap length tail, length-append m k) in
-            and_from (fits inside (y ∷ m) (e ∷ u)) (get_or (suffixes_read inside relaxes u) (suc (length u) - suc (length m)) false)
+            and_from (begins_with_path inside (y ∷ m) (e ∷ u)) (get_or (suffixes_read inside relaxes u) (suc (length u) - suc (length m)) false)
             (fits_beginning inside (y ∷ m) (e ∷ u) k short)
             (ap (λ i. get_or (suffixes_read inside relaxes u) i false) place
             ∙ read m k tail (record { more = more; parts = parts; each = each; whole = sym rest; ends = ends }))
@@ -167,7 +167,7 @@ module _ (relaxes : List (List Edge)) where
       within : (k : List Edge) → y ∷ m ≡ (e ∷ u) ++ k → more ≡ k ++ concatenated parts → leads inside (e ∷ u) (suffixes_read inside relaxes u) (y ∷ m) ≡ true
       within k long rest =
           let place : suc (length u) - suc (length m) ≡ 0 = omega (arith, ap length long, length-append (e ∷ u) k) in
-          and_from (fits inside (y ∷ m) (e ∷ u)) (get_or (suffixes_read inside relaxes u) (suc (length u) - suc (length m)) false)
+          and_from (begins_with_path inside (y ∷ m) (e ∷ u)) (get_or (suffixes_read inside relaxes u) (suc (length u) - suc (length m)) false)
           (fits_ending inside (y ∷ m) (e ∷ u) k long (ended k rest ends))
           (ap (λ i. get_or (suffixes_read inside relaxes u) i false) place ∙ read_nothing inside u)
 
@@ -216,7 +216,7 @@ module _ (relaxes : List (List Edge)) where
   is_in (p ∷ parts) e u prefix back each same =
       elim (cuts p (concatenated parts) prefix ((e ∷ u) ++ back) same) [
         | before m f rest ↦ is_in parts e u m back each.1 rest
-        | behind m long rest ↦ inside m long rest (is_in parts e u [] back each.1)
+        | remainder m long rest ↦ inside m long rest (is_in parts e u [] back each.1)
       ]
     where
       inside : (m : List Edge) → p ≡ prefix ++ m → (e ∷ u) ++ back ≡ m ++ concatenated parts

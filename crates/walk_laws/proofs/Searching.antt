@@ -5,12 +5,12 @@ use Rattle.std.proofs.lemmas.Bool.{cases_lt}
 use Rattle.relax_edges.specs.declared.edge.Edge.{Edge}
 use Rattle.relax_edges.specs.Order.{rank_of}
 use Rattle.walk_laws.specs.Asked.{KeptBelow}
-use Rattle.cycle_laws.specs.Order.{Above}
-use Rattle.walk_laws.specs.Search.{Reaches, ToCome, LeadsNowhere, StepsOver, over, replaced, IsRaised, IsExtended, IsFirst, IsFirstFrom}
+use Rattle.cycle_laws.specs.CycleOrder.{Above}
+use Rattle.walk_laws.specs.Search.{ReachesList, ToCome, LeadsNowhere, StepsOver, over, replaced, IsRaised, IsExtended, IsFirst, IsFirstFrom}
 use Rattle.cycle_laws.proofs.Ordering.{by_rank, above_irreflexive, above_one_way}
 
 -- a list reaches itself
-pub reaches_itself : (u : List Edge) → Reaches u u
+pub reaches_itself : (u : List Edge) → ReachesList u u
 reaches_itself [] = tt
 reaches_itself (x ∷ u) = inr (refl, reaches_itself u)
 
@@ -20,11 +20,11 @@ to_come_itself [] h = absurd (omega arith)
 to_come_itself (x ∷ u) h = reaches_itself (x ∷ u)
 
 -- what begins with a list, or is above it, is to come
-pub reaches_prefix : (u r : List Edge) → Reaches u (u ++ r)
+pub reaches_prefix : (u r : List Edge) → ReachesList u (u ++ r)
 reaches_prefix [] r = tt
 reaches_prefix (x ∷ u) r = inr (refl, reaches_prefix u r)
 
-pub reaches_above : (u m : List Edge) → Above u m → Reaches u m
+pub reaches_above : (u m : List Edge) → Above u m → ReachesList u m
 reaches_above [] m h = tt
 reaches_above (x ∷ u) [] h = h
 reaches_above (x ∷ u) (y ∷ m) h = elim h [ inl less ↦ inl less | inr both ↦ inr (both.0, reaches_above u m both.1) ]
@@ -35,7 +35,7 @@ pub record BeginsWith (u m : List Edge) : Type 0 where
   pub is : m ≡ u ++ rest
 
 -- what a list reaches begins with it or is above it
-pub reaches_cases : (u m : List Edge) → Reaches u m → (BeginsWith u m) ⊎ (Above u m)
+pub reaches_cases : (u m : List Edge) → ReachesList u m → (BeginsWith u m) ⊎ (Above u m)
 reaches_cases [] m h = inl (record { rest = m; is = refl })
 reaches_cases (x ∷ u) [] h = absurd h
 reaches_cases (x ∷ u) (y ∷ m) h =
@@ -48,16 +48,16 @@ reaches_cases (x ∷ u) (y ∷ m) h =
     ]
 
 -- where no sought list begins with u, those that it reaches are above it
-pub above_u : (u m : List Edge) → Reaches u m → ((r : List Edge) → m ≡ u ++ r → ⊥) → Above u m
+pub above_u : (u m : List Edge) → ReachesList u m → ((r : List Edge) → m ≡ u ++ r → ⊥) → Above u m
 above_u u m h none = elim (reaches_cases u m h) [ inl b ↦ absurd (none b.rest b.is) | inr a ↦ a ]
 
 -- what reaches a list also reaches each longer one that begins with it, and each one above it
-pub reaches_longer : (u v r : List Edge) → Reaches u v → Reaches u (v ++ r)
+pub reaches_longer : (u v r : List Edge) → ReachesList u v → ReachesList u (v ++ r)
 reaches_longer [] v r h = tt
 reaches_longer (x ∷ u) [] r h = absurd h
 reaches_longer (x ∷ u) (y ∷ v) r h = elim h [ inl less ↦ inl less | inr both ↦ inr (both.0, reaches_longer u v r both.1) ]
 
-pub reaches_on : (u v w : List Edge) → Reaches u v → Above v w → Reaches u w
+pub reaches_on : (u v w : List Edge) → ReachesList u v → Above v w → ReachesList u w
 reaches_on [] v w h a = tt
 reaches_on (x ∷ u) [] w h a = absurd h
 reaches_on (x ∷ u) (y ∷ v) [] h a = absurd a
@@ -71,13 +71,13 @@ reaches_on (x ∷ u) (y ∷ v) (z ∷ w) h a =
     ]
 
 -- what is above a list is reached from each longer one that begins with it
-pub reaches_beyond : (u r m : List Edge) → Above u m → Reaches (u ++ r) m
+pub reaches_beyond : (u r m : List Edge) → Above u m → ReachesList (u ++ r) m
 reaches_beyond [] r m a = absurd a
 reaches_beyond (x ∷ u) r [] a = absurd a
 reaches_beyond (x ∷ u) r (y ∷ m) a = elim a [ inl less ↦ inl less | inr both ↦ inr (both.0, reaches_beyond u r m both.1) ]
 
 -- a list that goes on with the same or a greater edge is reached
-pub reaches_with : (prefix : List Edge) (y z : Edge) (r : List Edge) → rank_of y ≤ rank_of z → Reaches (prefix ++ y ∷ []) ((prefix ++ z ∷ []) ++ r)
+pub reaches_with : (prefix : List Edge) (y z : Edge) (r : List Edge) → rank_of y ≤ rank_of z → ReachesList (prefix ++ y ∷ []) ((prefix ++ z ∷ []) ++ r)
 reaches_with [] y z r h = by_rank y z (λ l. inl l) (λ l. absurd (omega arith)) (λ s. inr (s, tt))
 reaches_with (f ∷ prefix) y z r h = inr (refl, reaches_with prefix y z r h)
 
@@ -87,12 +87,12 @@ above_replaced [] x y back n = inl n
 above_replaced (f ∷ prefix) x y back n = inr (refl, above_replaced prefix x y back n)
 
 -- what is to come at a list is reached from it
-pub to_come_reaches : (u m : List Edge) → ToCome u m → Reaches u m
+pub to_come_reaches : (u m : List Edge) → ToCome u m → ReachesList u m
 to_come_reaches [] m h = absurd h
 to_come_reaches (x ∷ u) m h = h
 
 -- what a list with an edge reaches is to come there
-pub reaches_to_come : (u m : List Edge) → 0 < length u → Reaches u m → ToCome u m
+pub reaches_to_come : (u m : List Edge) → 0 < length u → ReachesList u m → ToCome u m
 reaches_to_come [] m l h = absurd (omega arith)
 reaches_to_come (x ∷ u) m l h = h
 

@@ -1,5 +1,5 @@
 pub mod Asked
 pub mod Counting
 pub mod Listing
-pub mod Reading
+pub mod RelaxationReading
 pub mod Search

@@ -5,7 +5,7 @@ use Rattle.std.specs.List.{AllByRecursion}
 use Rattle.relax_edges.specs.declared.edge.Edge.{Edge}
 use Rattle.cycle_laws.specs.Composable.{IsCycle}
 use Rattle.cycle_laws.specs.Rotation.{IsRotation}
-use Rattle.cycle_laws.specs.Order.{Follows, IsNormal}
+use Rattle.cycle_laws.specs.CycleOrder.{Follows, IsNormal}
 
 -- a list of edges is one of some lists
 abbrev pub IsOneOf : List (List Edge) → List Edge → Type 0

@@ -6,19 +6,19 @@ use Rattle.relax_edges.specs.declared.order.TheConstants.{EDGES}
 use Rattle.relax_edges.specs.declared.edge.Edge.{Edge}
 use Rattle.relax_edges.specs.Order.{rank_of}
 use Rattle.cycle_laws.specs.Composable.{is_joined}
-use Rattle.cycle_laws.specs.Order.{Above, IsNormal}
+use Rattle.cycle_laws.specs.CycleOrder.{Above, IsNormal}
 use Rattle.walk_laws.specs.Asked.{KeptBelow}
 
 -- u reaches m: m begins with u, or has the greater edge at the first place where they differ, which both have
-abbrev pub Reaches : List Edge → List Edge → Type 0
-Reaches [] m = ⊤
-Reaches (_ ∷ _) [] = ⊥
-Reaches (x ∷ u) (y ∷ m) = (rank_of x < rank_of y) ⊎ ((x ≡ y) × Reaches u m)
+abbrev pub ReachesList : List Edge → List Edge → Type 0
+ReachesList [] m = ⊤
+ReachesList (_ ∷ _) [] = ⊥
+ReachesList (x ∷ u) (y ∷ m) = (rank_of x < rank_of y) ⊎ ((x ≡ y) × ReachesList u m)
 
 -- m is to come where the search is at u; at the empty list the search is over
 abbrev pub ToCome : List Edge → List Edge → Type 0
 ToCome [] m = ⊥
-ToCome (x ∷ u) m = Reaches (x ∷ u) m
+ToCome (x ∷ u) m = ReachesList (x ∷ u) m
 
 -- no sought list begins with u
 abbrev pub LeadsNowhere : (List Edge → Type 0) → List Edge → Type 0
@@ -60,7 +60,7 @@ abbrev pub IsSingle : List Edge → Type 0
 IsSingle r = length r ≡ 1
 
 -- what each listed cycle is: a normal form of edges that occur in relaxations, of which each joins the next
-pub record IsCandidate (relaxes : List (List Edge)) (u : List Edge) : Type 0 where
+pub record IsListCandidate (relaxes : List (List Edge)) (u : List Edge) : Type 0 where
   pub joined : is_joined u ≡ true
   pub occurs : AllByRecursion (OccursIn relaxes) u
   pub normal : IsNormal u
@@ -101,4 +101,4 @@ pub record IsLonger (u v : List Edge) : Type 0 where
 -- a list goes on to v where the longer ones that begin with it are looked at, or passed over: no sought list is left out
 pub record IsExtended (sought : List Edge → Type 0) (u v : List Edge) : Type 0 where
   pub step : (IsLonger u v) ⊎ StepsOver u v
-  pub all : (m : List Edge) → sought m → length u < length m → Reaches u m → ToCome v m
+  pub all : (m : List Edge) → sought m → length u < length m → ReachesList u m → ToCome v m

@@ -1,6 +1,6 @@
 ghost use Rattle.std.specs.Prelude.{◌≡◌};
 ghost use Rattle.final_cond.specs.Conditions.{cond_view};
-ghost use Rattle.litmus_text.specs.Gives.{Gives, GivesInMemory};
+ghost use Rattle.litmus_text.specs.ReadingAnswers.{GivesTest, GivesInMemory};
 ghost use Rattle.litmus_text.specs.Condition.{cond_here, condition_read};
 ghost use Rattle.litmus_text.specs.Views.{text_left, setting_seen, cond_read_seen};
 
@@ -18,7 +18,7 @@ use text_parts::without_blanks;
 /// Reads the whole text of a condition.
 #[tactic(auto, unfolding(crate::specs::Condition::cond_here))]
 fn read_cond_here<A: Arch>(here: &Setting, names: Places) -> Result<(Cond, Places), TextError>
-    ensures { Gives cond_read_seen result (cond_here A.writing (setting_seen here.now) names) }
+    ensures { GivesTest cond_read_seen result (cond_here A.writing (setting_seen here.now) names) }
 {
     let (quantifier, inside) = match read_opening(here.text.bytes.as_slice()) {
         Ok(opening) => opening,
@@ -26,8 +26,8 @@ fn read_cond_here<A: Arch>(here: &Setting, names: Places) -> Result<(Cond, Place
     };
     let mut terms = ArrayVec::new();
     let mut mentioned = Mentioned { names, over: None };
-    let behind = read_terms::<A>(here, inside, &mut mentioned, &mut terms)?;
-    if !without_blanks(behind).is_empty() {
+    let remainder = read_terms::<A>(here, inside, &mut mentioned, &mut terms)?;
+    if !without_blanks(remainder).is_empty() {
         return Err(error_at_line(TestKind::BadCondition, here.begins));
     }
     match mentioned.over {

@@ -1,9 +1,9 @@
 ghost use Rattle.std.specs.Prelude.{◌≡◌};
 ghost use Rattle.std.specs.Char.{is_ascii_alphabetic};
-ghost use Rattle.text_laws.specs.Runs.{run_of, after_run};
+ghost use Rattle.text_laws.specs.LeadingRuns.{leading_run, after_run};
 ghost use Rattle.text_laws.specs.Blanks.{unblanked};
-ghost use Rattle.text_laws.specs.Words.{is_word_byte, words};
-ghost use Rattle.litmus_text.specs.Cuts.{pieces};
+ghost use Rattle.text_laws.specs.Words.{is_argument_byte, words};
+ghost use Rattle.litmus_text.specs.TextCuts.{pieces};
 ghost use Rattle.litmus_text.specs.Header.{two_words};
 ghost use Rattle.litmus_text.specs.Views.{cut_seen, pieces_left, FirstPiece};
 
@@ -33,7 +33,7 @@ impl<'a> Pieces<'a> {
     {
         let text = self.rest?;
         match cut(self.sign, text) {
-            Some((piece, behind)) => Some((piece, Pieces::new(self.sign, behind))),
+            Some((piece, remainder)) => Some((piece, Pieces::new(self.sign, remainder))),
             None => Some((
                 text,
                 Pieces {
@@ -49,9 +49,9 @@ impl<'a> Pieces<'a> {
 pub(crate) fn two_words(text: &[u8]) -> Option<(&[u8], &[u8])>
     ensures { cut_seen result ≡ two_words (words text.now) }
 {
-    let (first, behind) = next_word(text)?;
-    let (second, behind) = next_word(behind)?;
-    match next_word(behind) {
+    let (first, remainder) = next_word(text)?;
+    let (second, remainder) = next_word(remainder)?;
+    match next_word(remainder) {
         None => Some((first, second)),
         Some(_) => None,
     }
@@ -59,7 +59,7 @@ pub(crate) fn two_words(text: &[u8]) -> Option<(&[u8], &[u8])>
 
 /// The letters at the beginning of a text, and the text after them.
 pub(crate) fn split_letters(text: &[u8]) -> (&[u8], &[u8])
-    ensures letters { result.0.now ≡ run_of is_ascii_alphabetic text.now }
+    ensures letters { result.0.now ≡ leading_run is_ascii_alphabetic text.now }
     ensures rest { result.1.now ≡ after_run is_ascii_alphabetic text.now }
 {
     split_run(Class::Letter, text)
@@ -67,7 +67,7 @@ pub(crate) fn split_letters(text: &[u8]) -> (&[u8], &[u8])
 
 /// The first word of a line: it ends before a blank or a parenthesis.
 pub(crate) fn first_word_of_line(text: &[u8]) -> &[u8]
-    ensures { result.now ≡ run_of is_word_byte (unblanked text.now) }
+    ensures { result.now ≡ leading_run is_argument_byte (unblanked text.now) }
 {
     split_run(Class::Word, without_blanks(text)).0
 }

@@ -1,10 +1,10 @@
 ghost use Rattle.std.specs.Prelude.{◌≡◌, Option, option_map};
 ghost use Rattle.relax_edges.specs.Architectures.{arch_of};
-ghost use Rattle.litmus_text.specs.Gives.{Gives};
+ghost use Rattle.litmus_text.specs.ReadingAnswers.{GivesTest};
 ghost use Rattle.litmus_text.specs.Header.{arch_read, arch_in, header_read, name_in_header, quote_read, quote_line, quote_cut, is_setting, after_settings, two_words};
 ghost use Rattle.text_laws.specs.Cuts.{cut_at};
 ghost use Rattle.text_laws.specs.Words.{words};
-ghost use Rattle.litmus_text.specs.Lines.{line};
+ghost use Rattle.litmus_text.specs.TextLines.{line};
 ghost use Rattle.litmus_text.specs.Views.{text_left, cut_seen};
 
 use crate::errors::{TestKind, TextError, error_at_line};
@@ -37,7 +37,7 @@ fn arch_in<'a>(
     rest: Text<'a>,
     header: Option<(&'a [u8], &'a [u8])>,
 ) -> Result<(ArchName, Text<'a>), TextError>
-    ensures { Gives (λ x. (x.0, text_left x.1)) result (arch_in number (text_left rest.entry) (cut_seen header.entry)) }
+    ensures { GivesTest (λ x. (x.0, text_left x.1)) result (arch_in number (text_left rest.entry) (cut_seen header.entry)) }
 {
     let Some((word, name)) = header else {
         return Err(error_at_line(TestKind::BadHeader, number));
@@ -51,7 +51,7 @@ fn arch_in<'a>(
 /// The architecture that the header names.
 #[tactic(auto, unfolding(crate::specs::Header::arch_read))]
 pub(crate) fn read_arch(text: Text<'_>) -> Result<(ArchName, Text<'_>), TextError>
-    ensures { Gives (λ x. (x.0, text_left x.1)) result (arch_read (text_left text.entry)) }
+    ensures { GivesTest (λ x. (x.0, text_left x.1)) result (arch_read (text_left text.entry)) }
 {
     match text.lines() {
         Lines::Ends(number) => Err(error_at_line(TestKind::EndMissing, number)),
@@ -65,7 +65,7 @@ fn name_in_header<'a>(
     rest: Text<'a>,
     header: Option<(&'a [u8], &'a [u8])>,
 ) -> Result<(&'a [u8], Text<'a>), TextError>
-    ensures { Gives (λ x. (x.0.now, text_left x.1)) result (name_in_header arch number (text_left rest.entry) (cut_seen header.entry)) }
+    ensures { GivesTest (λ x. (x.0.now, text_left x.1)) result (name_in_header arch number (text_left rest.entry) (cut_seen header.entry)) }
 {
     match header {
         Some((word, name)) if word == arch.name().as_bytes() && name.len() <= MAX_NAME => {
@@ -78,7 +78,7 @@ fn name_in_header<'a>(
 /// The name in the header, which is of this architecture.
 #[tactic(auto, unfolding(crate::specs::Header::header_read))]
 pub(crate) fn read_header(arch: ArchName, text: Text<'_>) -> Result<(&[u8], Text<'_>), TextError>
-    ensures { Gives (λ x. (x.0.now, text_left x.1)) result (header_read arch (text_left text.entry)) }
+    ensures { GivesTest (λ x. (x.0.now, text_left x.1)) result (header_read arch (text_left text.entry)) }
 {
     match text.lines() {
         Lines::Ends(number) => Err(error_at_line(TestKind::EndMissing, number)),
@@ -91,7 +91,7 @@ fn quote_cut<'a>(
     text: &'a [u8],
     rest: Text<'a>,
 ) -> Result<(&'a [u8], Text<'a>), TextError>
-    ensures { Gives (λ x. (Some x.0.now, text_left x.1)) result (quote_cut number (text_left rest.entry) (cut_at 34 text.now)) }
+    ensures { GivesTest (λ x. (Some x.0.now, text_left x.1)) result (quote_cut number (text_left rest.entry) (cut_at 34 text.now)) }
 {
     match cut(b'"', text) {
         Some((quoted, [])) => Ok((quoted, rest)),
@@ -102,7 +102,7 @@ fn quote_cut<'a>(
 /// The quoted text, where the next line begins with a double quote.
 #[tactic(auto, unfolding(crate::specs::Header::quote_read))]
 pub(crate) fn read_quote(text: Text<'_>) -> Result<(Option<&[u8]>, Text<'_>), TextError>
-    ensures { Gives (λ x. (option_map (λ t. t.now) x.0, text_left x.1)) result (quote_read (text_left text.entry)) }
+    ensures { GivesTest (λ x. (option_map (λ t. t.now) x.0, text_left x.1)) result (quote_read (text_left text.entry)) }
 {
     let Lines::Line(line) = text.lines() else {
         return Ok((None, text));

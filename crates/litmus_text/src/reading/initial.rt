@@ -1,8 +1,8 @@
 ghost use Rattle.std.specs.Prelude.{◌≡◌, ◌<◌, ◌+◌, ◌^◌, true, length, option_map, IfSome, IfOk};
 ghost use Rattle.text_laws.specs.Names.{is_place_name};
-ghost use Rattle.litmus_text.specs.Gives.{GivesInMemory};
-ghost use Rattle.litmus_text.specs.Cuts.{pieces};
-ghost use Rattle.litmus_text.specs.InitialState.{nothing_begun, is_given, with_worth, name_put, item_put, item_read, but_last, braced, braced_read, initial_read};
+ghost use Rattle.litmus_text.specs.ReadingAnswers.{GivesInMemory};
+ghost use Rattle.litmus_text.specs.TextCuts.{pieces};
+ghost use Rattle.litmus_text.specs.InitialState.{nothing_begun, is_given, with_worth, name_begun, item_put, item_read, but_last, braced, braced_read, initial_read};
 ghost use Rattle.litmus_text.specs.Views.{text_left, joined_seen, pieces_read, begun_seen, worth_seen, worth_formed, item_seen, item_formed, braced_seen};
 
 use crate::errors::{ReadError, TestKind, error_at_line};
@@ -69,7 +69,7 @@ impl Begun {
     /// Names a place, at a line.
     fn name(&mut self, line: u64, name: &PlaceName) -> Result<(), ReadError>
         requires { is_place_name name.now.bytes ≡ true }
-        ensures { GivesInMemory (λ _. begun_seen self.new) result (name_put line (begun_seen self.old) name.now.bytes) }
+        ensures { GivesInMemory (λ _. begun_seen self.new) result (name_begun line (begun_seen self.old) name.now.bytes) }
     {
         match self.names.add_bytes(name.as_str().as_bytes()) {
             Some(_) => Ok(()),
@@ -126,10 +126,10 @@ fn read_items<A: Arch>(joined: &Joined, begun: &mut Begun) -> Result<(), ReadErr
     let mut rest = joined.bytes.as_slice();
     'items: loop {
         match cut(b';', rest) {
-            Some((piece, behind)) => {
+            Some((piece, remainder)) => {
                 read_item::<A>(joined, i, piece, begun)?;
                 i += piece.len() + 1;
-                rest = behind;
+                rest = remainder;
             }
             None => return read_item::<A>(joined, i, rest, begun),
         }
@@ -142,10 +142,10 @@ fn read_ended_items<A: Arch>(joined: &Joined, begun: &mut Begun) -> Result<(), R
 {
     let mut i = 0;
     let mut rest = joined.bytes.as_slice();
-    'items: while let Some((piece, behind)) = cut(b';', rest) {
+    'items: while let Some((piece, remainder)) = cut(b';', rest) {
         read_item::<A>(joined, i, piece, begun)?;
         i += piece.len() + 1;
-        rest = behind;
+        rest = remainder;
     }
     Ok(())
 }
@@ -155,7 +155,7 @@ fn read_ended_items<A: Arch>(joined: &Joined, begun: &mut Begun) -> Result<(), R
 pub(crate) enum Braced<'a> {
     Closed {
         number: u64,
-        behind: &'a [u8],
+        remainder: &'a [u8],
         rest: Text<'a>,
     },
     /// With the number after that of the last line.
@@ -175,11 +175,11 @@ fn join_braced<'a>(
     let mut text = text;
     let mut rest = rest;
     'lines: loop {
-        if let Some((prefix, behind)) = cut(b'}', text) {
+        if let Some((prefix, remainder)) = cut(b'}', text) {
             joined.push(number, prefix)?;
             return Ok(Braced::Closed {
                 number,
-                behind,
+                remainder,
                 rest,
             });
         }
@@ -207,11 +207,11 @@ fn read_braced<'a, A: Arch>(
     match end {
         Braced::Closed {
             number,
-            behind,
+            remainder,
             rest,
         } => {
             read_items::<A>(joined, begun)?;
-            if !behind.is_empty() {
+            if !remainder.is_empty() {
                 return Err(ReadError::Text(error_at_line(TestKind::BadInit, number)));
             }
             Ok(rest)

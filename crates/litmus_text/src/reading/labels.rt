@@ -1,6 +1,6 @@
 ghost use Rattle.std.specs.Prelude.{◌≡◌, map, count_by};
-ghost use Rattle.litmus_text.specs.Gives.{Gives};
-ghost use Rattle.litmus_text.specs.Table.{is_label, lands_once, is_landing, labels_judged, all_labels_judged};
+ghost use Rattle.litmus_text.specs.ReadingAnswers.{GivesTest};
+ghost use Rattle.litmus_text.specs.TestTable.{is_label_row, lands_once, is_landing, labels_judged, all_labels_judged};
 ghost use Rattle.litmus_text.specs.Views.{column_seen};
 
 use crate::errors::{TestKind, TextError, error_at_line};
@@ -8,7 +8,7 @@ use crate::reading::table::{Column, Placed};
 use micro_ops::Micro;
 
 fn is_label(label: u8, placed: &Placed) -> bool
-    ensures { result ≡ is_label label placed.now }
+    ensures { result ≡ is_label_row label placed.now }
 {
     match placed.op {
         Micro::Label { label: known } => known == label,
@@ -17,35 +17,35 @@ fn is_label(label: u8, placed: &Placed) -> bool
 }
 
 fn count_labels(label: u8, ops: &[Placed]) -> usize
-    ensures { result ≡ count_by (is_label label) ops.now }
+    ensures { result ≡ count_by (is_label_row label) ops.now }
 {
     ops.iter().filter(|placed| is_label(label, placed)).count()
 }
 
 /// Whether a label is in a thread once, after a branch.
-fn lands_once(label: u8, all: &[Placed], behind: &[Placed]) -> bool
-    ensures { result ≡ lands_once label all.now behind.now }
+fn lands_once(label: u8, all: &[Placed], remainder: &[Placed]) -> bool
+    ensures { result ≡ lands_once label all.now remainder.now }
 {
-    count_labels(label, all) == 1 && count_labels(label, behind) == 1
+    count_labels(label, all) == 1 && count_labels(label, remainder) == 1
 }
 
 /// Whether the label of an operation comes once in its thread, after it, if the operation is a branch.
-fn is_landing(op: &Micro, all: &[Placed], behind: &[Placed]) -> bool
-    ensures { result ≡ is_landing op.now all.now behind.now }
+fn is_landing(op: &Micro, all: &[Placed], remainder: &[Placed]) -> bool
+    ensures { result ≡ is_landing op.now all.now remainder.now }
 {
     match *op {
-        Micro::BranchEq { label } => lands_once(label, all, behind),
-        Micro::BranchNz { label, .. } => lands_once(label, all, behind),
+        Micro::BranchEq { label } => lands_once(label, all, remainder),
+        Micro::BranchNz { label, .. } => lands_once(label, all, remainder),
         _ => true,
     }
 }
 
 /// Judges the labels of the branches from an operation of a thread on.
-#[tactic(auto, unfolding(crate::specs::Table::labels_judged))]
-fn judge_labels(all: &[Placed], behind: &[Placed]) -> Result<(), TextError>
-    ensures { Gives (λ judged. judged) result (labels_judged all.now behind.now) }
+#[tactic(auto, unfolding(crate::specs::TestTable::labels_judged))]
+fn judge_labels(all: &[Placed], remainder: &[Placed]) -> Result<(), TextError>
+    ensures { GivesTest (λ judged. judged) result (labels_judged all.now remainder.now) }
 {
-    match behind {
+    match remainder {
         [] => Ok(()),
         [placed, further @ ..] => {
             if !is_landing(&placed.op, all, further) {
@@ -57,9 +57,9 @@ fn judge_labels(all: &[Placed], behind: &[Placed]) -> Result<(), TextError>
 }
 
 /// Judges the labels of all threads.
-#[tactic(auto, unfolding(crate::specs::Table::all_labels_judged))]
+#[tactic(auto, unfolding(crate::specs::TestTable::all_labels_judged))]
 pub(crate) fn judge_all_labels(columns: &[Column]) -> Result<(), TextError>
-    ensures { Gives (λ judged. judged) result (all_labels_judged (map column_seen columns.now)) }
+    ensures { GivesTest (λ judged. judged) result (all_labels_judged (map column_seen columns.now)) }
 {
     match columns {
         [] => Ok(()),

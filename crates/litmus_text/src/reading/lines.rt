@@ -1,5 +1,5 @@
 ghost use Rattle.std.specs.Prelude.{◌≡◌, ◌<◌, length};
-ghost use Rattle.litmus_text.specs.Lines.{kept, is_passed, is_comment, lines_from};
+ghost use Rattle.litmus_text.specs.TextLines.{line_kept, is_passed, is_comment, lines_from};
 ghost use Rattle.litmus_text.specs.Views.{text_left, lines_seen, IsShorter};
 
 use crate::reading::text::Text;
@@ -47,7 +47,7 @@ impl<'a> Text<'a> {
     /// The first line, and what is left after it.
     fn first(self) -> (&'a [u8], Text<'a>)
         requires { 0 < length self.bytes.now }
-        ensures line { text_left self.entry ≡ kept self.entry.number result.0.now (text_left result.1) }
+        ensures line { text_left self.entry ≡ line_kept self.entry.number result.0.now (text_left result.1) }
         ensures shorter { length result.1.bytes.now < length self.entry.bytes.now }
     {
         match cut(b'\n', self.bytes) {

@@ -1,7 +1,7 @@
 ghost use Rattle.std.specs.Prelude.{◌≡◌, map, length, count_by, IfOk};
 ghost use Rattle.arch_trait.specs.Cells.{is_access, ends_rows};
-ghost use Rattle.litmus_text.specs.Gives.{GivesInMemory};
-ghost use Rattle.litmus_text.specs.Table.{no_columns, has_room, instr_in, instr_or_nothing, cell_read, rows_read, after_locations};
+ghost use Rattle.litmus_text.specs.ReadingAnswers.{GivesInMemory};
+ghost use Rattle.litmus_text.specs.TestTable.{no_columns, has_room, instr_in, instr_or_nothing, cell_read, rows_read, after_locations};
 ghost use Rattle.litmus_text.specs.Views.{text_left, pieces_left, cells_read, column_among, columns_among, columns_before, column_seen, EndsRow};
 
 use crate::errors::{ReadError, TestKind, TextError, error_at_line};
@@ -58,7 +58,7 @@ fn has_room(column: &Column, op: &Micro) -> bool
 }
 
 /// Reads an instruction in a line.
-#[tactic(auto, unfolding(crate::specs::Table::instr_in))]
+#[tactic(auto, unfolding(crate::specs::TestTable::instr_in))]
 fn read_instr<A: Arch>(
     number: u64,
     text: &[u8],
@@ -103,7 +103,7 @@ fn read_instr_or_nothing<A: Arch>(
 }
 
 /// Reads a cell: nothing, an instruction, `L:`, or `L:` and an instruction.
-#[tactic(auto, unfolding(crate::specs::Table::cell_read))]
+#[tactic(auto, unfolding(crate::specs::TestTable::cell_read))]
 fn read_one_cell<A: Arch>(
     number: u64,
     text: &[u8],
@@ -114,15 +114,15 @@ fn read_one_cell<A: Arch>(
 {
     match cut(b':', text) {
         None => read_instr_or_nothing::<A>(number, text, names, column),
-        Some((label, behind)) => {
+        Some((label, remainder)) => {
             read_instr::<A>(number, &text[..label.len() + 1], names, column)?;
-            read_instr_or_nothing::<A>(number, behind, names, column)
+            read_instr_or_nothing::<A>(number, remainder, names, column)
         }
     }
 }
 
 /// Judges the end of a row after its last column: no cell is left, and the row is whole.
-#[tactic(auto, unfolding(crate::specs::Table::row_read))]
+#[tactic(auto, unfolding(crate::specs::TestTable::row_read))]
 fn judge_end(number: u64, pieces: Pieces<'_>, is_whole: bool) -> Result<(), TextError>
     ensures { EndsRow number is_whole (pieces_left pieces.entry) result }
 {
@@ -147,11 +147,11 @@ fn read_row<A: Arch>(
 {
     let mut pieces = cells.pieces;
     for i in 0..columns.len() {
-        let Some((cell, behind)) = pieces.first() else {
+        let Some((cell, remainder)) = pieces.first() else {
             return Err(ReadError::Text(error_at_line(TestKind::BadTable, number)));
         };
         read_one_cell::<A>(number, cell, names, &mut columns[i])?;
-        pieces = behind;
+        pieces = remainder;
     }
     judge_end(number, pieces, cells.whole)?;
     Ok(())
@@ -200,7 +200,7 @@ pub(crate) fn read_rows<'a, A: Arch>(
 }
 
 /// What is left after a line of locations, if the next line is one.
-#[tactic(auto, unfolding(crate::specs::Table::after_locations))]
+#[tactic(auto, unfolding(crate::specs::TestTable::after_locations))]
 pub(crate) fn after_locations(text: Text<'_>) -> Text<'_>
     ensures { text_left result ≡ after_locations (text_left text.entry) }
 {

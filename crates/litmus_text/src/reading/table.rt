@@ -1,7 +1,7 @@
 ghost use Rattle.std.specs.Prelude.{◌≡◌, ◌≤◌, nat_lt, IfOk};
 ghost use Rattle.std.specs.List.{list_all};
-ghost use Rattle.litmus_text.specs.Gives.{Gives};
-ghost use Rattle.litmus_text.specs.Table.{cells_of, is_head, heads_read, head_read, threads_there};
+ghost use Rattle.litmus_text.specs.ReadingAnswers.{GivesTest};
+ghost use Rattle.litmus_text.specs.TestTable.{cells_of, is_head, heads_read, head_read, threads_there};
 ghost use Rattle.litmus_text.specs.Views.{text_left, begun_seen, cells_seen};
 
 use crate::errors::{TestKind, TextError, error_at_line};
@@ -37,14 +37,14 @@ pub(crate) struct Cells<'a> {
 }
 
 /// The cells of a line: the pieces between bars before the first `;`.
-#[tactic(auto, unfolding(crate::specs::Table::cells_of))]
+#[tactic(auto, unfolding(crate::specs::TestTable::cells_of))]
 pub(crate) fn cells_of(text: &[u8]) -> Cells<'_>
     ensures { cells_seen result ≡ cells_of text.now }
 {
     match cut(b';', text) {
-        Some((cells, behind)) => Cells {
+        Some((cells, remainder)) => Cells {
             pieces: Pieces::new(b'|', cells),
-            whole: behind.is_empty(),
+            whole: remainder.is_empty(),
         },
         None => Cells {
             pieces: Pieces::new(b'|', text),
@@ -65,12 +65,12 @@ fn is_head(thread: usize, cell: &[u8]) -> bool
 
 /// How many threads the cells of the header are of.
 fn count_heads(number: u64, cells: Cells<'_>) -> Result<usize, TextError>
-    ensures heads { Gives (λ threads. threads) result (heads_read number (cells_seen cells.entry).whole 0 (cells_seen cells.entry).texts) }
+    ensures heads { GivesTest (λ threads. threads) result (heads_read number (cells_seen cells.entry).whole 0 (cells_seen cells.entry).texts) }
     ensures few { IfOk result (λ threads. threads ≤ MAX_THREADS) }
 {
     let mut threads = 0;
     let mut pieces = cells.pieces;
-    'heads: while let Some((cell, behind)) = pieces.first() {
+    'heads: while let Some((cell, remainder)) = pieces.first() {
         if !is_head(threads, cell) {
             return Err(error_at_line(TestKind::BadTable, number));
         }
@@ -78,7 +78,7 @@ fn count_heads(number: u64, cells: Cells<'_>) -> Result<usize, TextError>
             return Err(error_at_line(TestKind::TooLarge, number));
         }
         threads += 1;
-        pieces = behind;
+        pieces = remainder;
     }
     if cells.whole {
         Ok(threads)
@@ -98,9 +98,9 @@ fn has_threads(begun: &Begun, threads: usize) -> bool
 }
 
 /// The number of threads that the header of the table names.
-#[tactic(auto, unfolding(crate::specs::Table::head_read))]
+#[tactic(auto, unfolding(crate::specs::TestTable::head_read))]
 pub(crate) fn read_head<'a>(begun: &Begun, text: Text<'a>) -> Result<(usize, Text<'a>), TextError>
-    ensures head { Gives (λ x. (x.0, text_left x.1)) result (head_read (begun_seen begun.now) (text_left text.entry)) }
+    ensures head { GivesTest (λ x. (x.0, text_left x.1)) result (head_read (begun_seen begun.now) (text_left text.entry)) }
     ensures few { IfOk result (λ x. x.0 ≤ MAX_THREADS) }
 {
     let line = match text.lines() {

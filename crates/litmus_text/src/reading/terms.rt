@@ -1,8 +1,8 @@
 ghost use Rattle.std.specs.Prelude.{◌≡◌, [], true};
 ghost use Rattle.final_cond.specs.Conditions.{AtPlace, left_view};
-ghost use Rattle.final_cond.specs.Reading.{has_form};
-ghost use Rattle.litmus_text.specs.Gives.{Gives};
-ghost use Rattle.litmus_text.specs.Condition.{name_put, left_put, line_of_rest, term_here};
+ghost use Rattle.final_cond.specs.ConditionReading.{has_form};
+ghost use Rattle.litmus_text.specs.ReadingAnswers.{GivesTest};
+ghost use Rattle.litmus_text.specs.Condition.{name_mentioned, left_put, line_of_rest, term_here};
 ghost use Rattle.litmus_text.specs.Views.{setting_seen, mentioned_seen, term_read_seen, all_terms_seen, terms_from, GivesMentioned};
 
 use crate::errors::{TestKind, TextError, error_at_line};
@@ -45,7 +45,7 @@ fn put_place(
     mentioned: &mut Mentioned,
 ) -> Result<(), TextError>
     requires { has_form (AtPlace name.now.bytes) ≡ true }
-    ensures { GivesMentioned mentioned.new result (name_put begins line (mentioned_seen mentioned.old) name.now.bytes) }
+    ensures { GivesMentioned mentioned.new result (name_mentioned begins line (mentioned_seen mentioned.old) name.now.bytes) }
 {
     if mentioned
         .names
@@ -94,7 +94,7 @@ fn read_term<'a, A: Arch>(
     text: &'a [u8],
     mentioned: &mut Mentioned,
 ) -> Result<(Term, &'a [u8]), TextError>
-    ensures { Gives (term_read_seen mentioned.new) result (term_here A.writing (setting_seen here.now) (mentioned_seen mentioned.old) text.now) }
+    ensures { GivesTest (term_read_seen mentioned.new) result (term_here A.writing (setting_seen here.now) (mentioned_seen mentioned.old) text.now) }
 {
     let (left, rest) = match read_left(text) {
         Ok(left) => left,
@@ -120,7 +120,7 @@ pub(crate) fn read_terms<'a, A: Arch>(
     terms: &mut ArrayVec<Term, MAX_TERMS>,
 ) -> Result<&'a [u8], TextError>
     requires { terms.old.items ≡ [] }
-    ensures { Gives (all_terms_seen terms.new.items mentioned.new) result (terms_from A.writing here.now mentioned.old text.now) }
+    ensures { GivesTest (all_terms_seen terms.new.items mentioned.new) result (terms_from A.writing here.now mentioned.old text.now) }
 {
     let mut rest = text;
     'terms: loop {
@@ -133,8 +133,8 @@ pub(crate) fn read_terms<'a, A: Arch>(
         }
         terms.push(term);
         match read_follow(after) {
-            Ok((Follow::Term, behind)) => rest = behind,
-            Ok((Follow::End, behind)) => return Ok(behind),
+            Ok((Follow::Term, remainder)) => rest = remainder,
+            Ok((Follow::End, remainder)) => return Ok(remainder),
             Err(_) => return Err(error_at_line(TestKind::BadCondition, here.begins)),
         }
     }

@@ -1,8 +1,8 @@
 ghost use Rattle.std.specs.Prelude.{◌≡◌, ◌≤◌, map, length, option_map, IfOk};
-ghost use Rattle.litmus_text.specs.Gives.{Gives, GivesInMemory};
+ghost use Rattle.litmus_text.specs.ReadingAnswers.{GivesTest, GivesInMemory};
 ghost use Rattle.litmus_text.specs.Runnable.{IsRunnable, NamesRegisters, AllNameRegisters, AllRunnable, ops_in};
-ghost use Rattle.litmus_text.specs.TestReading.{values_of, threads_of, lines_read, test_read, arch_in_text};
-ghost use Rattle.litmus_text.specs.Views.{rest_of, table_of, body_of, test_of_parts, only_values, text_left, column_seen};
+ghost use Rattle.litmus_text.specs.TestReading.{values_of_thread, threads_of, lines_read, test_read, arch_in_text};
+ghost use Rattle.litmus_text.specs.Views.{rest_view, table_view, body_of, test_of_parts, only_values, text_left, column_seen};
 
 use crate::errors::{ReadError, TestKind, TextError, error_at_line};
 use crate::limits::{MAX_TEXT, MAX_THREADS};
@@ -25,7 +25,7 @@ use std::marker::PhantomData;
 /// The architecture that the header of a text names. The fault is BadHeader or EndMissing.
 #[tactic(auto, unfolding(crate::specs::TestReading::arch_in_text))]
 pub fn arch_of(bytes: &[u8]) -> Result<ArchName, TextError>
-    ensures { Gives (λ arch. arch) result (arch_in_text bytes.now) }
+    ensures { GivesTest (λ arch. arch) result (arch_in_text bytes.now) }
 {
     let (arch, _) = read_arch(Text::new(bytes))?;
     Ok(arch)
@@ -33,7 +33,7 @@ pub fn arch_of(bytes: &[u8]) -> Result<ArchName, TextError>
 
 /// The initial values of a thread.
 fn values_of(alloc: Global, thread: u8, values: &[Given]) -> Result<Vec<(u8, Value)>, AllocError>
-    ensures { IfOk result (λ init. init.items ≡ values_of thread values.now) }
+    ensures { IfOk result (λ init. init.items ≡ values_of_thread thread values.now) }
 {
     let mut init = Vec::new(alloc);
     for given in values {
@@ -62,9 +62,9 @@ fn thread_of(
     values: &[Given],
     column: &Column,
 ) -> Result<Thread, AllocError>
-    requires registers { NamesRegisters (values_of thread values.now) }
+    requires registers { NamesRegisters (values_of_thread thread values.now) }
     requires runnable { IsRunnable (ops_in (column_seen column.now)) }
-    ensures { IfOk result (λ t. t ≡ record { init = values_of thread values.now; code = map (λ placed. placed.op) column.now.ops.items }) }
+    ensures { IfOk result (λ t. t ≡ record { init = values_of_thread thread values.now; code = map (λ placed. placed.op) column.now.ops.items }) }
 {
     let init = values_of(alloc, thread, values)?;
     let code = ops_of(alloc, &column.ops)?;
@@ -140,7 +140,7 @@ fn read_rest<A: Arch>(
     requires few { length columns.now ≤ MAX_THREADS }
     requires registers { AllNameRegisters values.now }
     requires runnable { AllRunnable (map column_seen columns.now) }
-    ensures { GivesInMemory (λ test. test) result (rest_of A.writing head.entry values.now columns.now names text.entry) }
+    ensures { GivesInMemory (λ test. test) result (rest_view A.writing head.entry values.now columns.now names text.entry) }
 {
     let (name, quoted) = head;
     let text = after_locations(text);
@@ -160,7 +160,7 @@ fn read_table<A: Arch>(
 ) -> Result<ReadTest<A>, ReadError>
     requires few { threads ≤ MAX_THREADS }
     requires registers { AllNameRegisters begun.values.items }
-    ensures { GivesInMemory (λ test. test) result (table_of A.writing head.entry begun threads text.entry) }
+    ensures { GivesInMemory (λ test. test) result (table_view A.writing head.entry begun threads text.entry) }
 {
     let Begun { mut names, values } = begun;
     let mut columns = no_columns(alloc, threads)?;

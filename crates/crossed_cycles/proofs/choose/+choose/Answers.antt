@@ -3,7 +3,7 @@ use Rattle.std.proofs.Common.{◌≡◌, ◌<◌, ◌+◌, ◌-◌, ◌++◌, le
 use Rattle.std.specs.Prelude.{OnOk}
 use Rattle.relax_edges.specs.declared.TheConstants.{MAX_EDGES}
 use Rattle.crossed_cycles.specs.Choices.{is_accepted}
-use Rattle.crossed_cycles.specs.Steps.{chosen_first, keep_accepted}
+use Rattle.crossed_cycles.specs.CrossingSteps.{chosen_first, keep_accepted}
 use Rattle.crossed_cycles.proofs.Accepting.{accepted_few}
 use Rattle.crossed_cycles.proofs.Choosing.{chosen_end, chosen_step, chosen_skip, cut_back, chosen_empty, chosen_split}
 use Rattle.crossed_cycles.proofs.choose.+choose.Goals as goal

@@ -2,7 +2,7 @@
 use Rattle.std.proofs.Common.{◌≡◌, drop, length}
 use Rattle.crossed_cycles.specs.Choices.{is_accepted}
 use Rattle.crossed_cycles.specs.Known.{AreNormalForms}
-use Rattle.crossed_cycles.specs.Steps.{chosen_first}
+use Rattle.crossed_cycles.specs.CrossingSteps.{chosen_first}
 use Rattle.crossed_cycles.proofs.choose.+choose.Given as goal
 
 abbrev pub decreases-choose : goal.decreases-choose

@@ -1,6 +1,6 @@
 -- That `gather` keeps the names of the cycles of a source, line by line.
 use Rattle.std.proofs.Common.{◌++◌}
-use Rattle.cycle_lines.specs.Steps.{last_cycle}
+use Rattle.cycle_lines.specs.LineSteps.{last_cycle}
 use Rattle.cycle_lines.proofs.ReadLaws.{found_next, found_last}
 use Rattle.cycle_lines.proofs.TableLaws.{nothing_gathered, part_read, whole_read, gathered_last}
 use Rattle.cycle_lines.proofs.classify.gather.Goals as goal

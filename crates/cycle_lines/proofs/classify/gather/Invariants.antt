@@ -1,5 +1,5 @@
 -- The loop of `gather`: the names of the cycles that were given are kept, and the work falls.
-use Rattle.cycle_lines.specs.Steps.{work}
+use Rattle.cycle_lines.specs.LineSteps.{work}
 use Rattle.cycle_lines.proofs.TableLaws.{Gathering}
 use Rattle.cycle_lines.proofs.classify.gather.Given as goal
 

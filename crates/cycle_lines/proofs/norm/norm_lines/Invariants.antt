@@ -1,5 +1,5 @@
 -- The loop of `norm_lines`: what is sent so far, and the work, which falls.
-use Rattle.cycle_lines.specs.Steps.{work}
+use Rattle.cycle_lines.specs.LineSteps.{work}
 use Rattle.cycle_lines.proofs.NormLaws.{Normed}
 use Rattle.cycle_lines.proofs.norm.norm_lines.Given as goal
 

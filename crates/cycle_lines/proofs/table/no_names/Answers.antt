@@ -2,11 +2,11 @@
 use Rattle.std.proofs.Common.{◌≡◌, ℕ, [], map, take, ap, ◌∙◌, arith}
 use Rattle.cycle_names.specs.declared.family.Family.{Family}
 use Rattle.cycle_lines.specs.Classified.{families_in_order}
-use Rattle.cycle_lines.specs.Tables.{Entry}
+use Rattle.cycle_lines.specs.FamilyTables.{FamilyEntry}
 use Rattle.cycle_lines.proofs.TableLaws.{none_held}
 use Rattle.cycle_lines.proofs.table.no_names.Goals as goal
 
 pub returns-clause-holds : goal.returns-clause-holds
 returns-clause-holds c =
     let last : c.loop-family.family-index ≡ 15 = omega (arith, c.loop-family-test.false, c.loop-family.auto.family-index-end) in
-    none_held c.loop-family.table.items (c.loop-family.invariant ∙ ap (λ (i : ℕ). map {B = Entry} (λ (f : Family). (f, [])) (take i families_in_order)) last)
+    none_held c.loop-family.table.items (c.loop-family.invariant ∙ ap (λ (i : ℕ). map {B = FamilyEntry} (λ (f : Family). (f, [])) (take i families_in_order)) last)

@@ -1,12 +1,12 @@
 -- That `put_cycle` adds the name of a cycle to those of its family.
 use Rattle.std.proofs.Common.{◌∙◌, ap}
-use Rattle.cycle_lines.specs.Tables.{place_of}
+use Rattle.cycle_lines.specs.FamilyTables.{place_of_family}
 use Rattle.cycle_lines.proofs.TableLaws.{adds_cycle, ok_then}
 use Rattle.cycle_lines.proofs.table.put_cycle.Goals as goal
 
 pub returns-clause-adds : goal.returns-clause-adds
 returns-clause-adds c =
     ok_then c.put_name.result
-    (λ h. adds_cycle c.args.table.now.items c.put_name.new.table.items c.args.cycle.now c.place_of.result c.in_ok-name.name.items (c.place_of.ensures.place ∙ ap place_of c.family_of.ensures)
+    (λ h. adds_cycle c.args.table.now.items c.put_name.new.table.items c.args.cycle.now c.place_of.result c.in_ok-name.name.items (c.place_of.ensures.place ∙ ap place_of_family c.family_of.ensures)
     (c.in_ok-name.ensures.items ∙ c.as_bytes.ensures.value ∙ c.as_str.ensures.value ∙ c.name_of.ensures.name) h)
     c.put_name.ensures.put

@@ -1,6 +1,6 @@
 -- The place that the search ends with begins the rotation that the cycle is named from.
 use Rattle.std.proofs.Common.{sym, ◌∙◌, ap, ◌&&◌, map}
-use Rattle.cycle_laws.specs.Order.{ranks_below}
+use Rattle.cycle_laws.specs.CycleOrder.{ranks_below}
 use Rattle.cycle_laws.specs.Rotation.{rotated}
 use Rattle.cycle_names.specs.Fitting.{joins_at, word_place}
 use Rattle.cycle_names.proofs.Places.{named_first, named_kept, named_replaced, named_at}

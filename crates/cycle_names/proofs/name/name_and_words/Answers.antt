@@ -2,10 +2,10 @@
 use Rattle.std.proofs.Common.{◌++◌, sym, ◌∙◌, ap}
 use Rattle.std.specs.Prelude.{codes}
 use Rattle.std.specs.List.{join_by}
-use Rattle.relax_edges.specs.Words.{word_of}
+use Rattle.relax_edges.specs.WordParts.{word_of}
 use Rattle.cycle_names.specs.Families.{family_word}
-use Rattle.cycle_names.specs.Links.{link_words}
-use Rattle.cycle_names.specs.Names.{links_text}
+use Rattle.cycle_names.specs.LinkWords.{link_words}
+use Rattle.cycle_names.specs.CycleNames.{links_text}
 use Rattle.cycle_names.proofs.Chosen.{least_named}
 use Rattle.cycle_names.proofs.CycleOf.{name_in_family, name_in_none, named_at_is}
 use Rattle.cycle_names.proofs.name.name_and_words.Goals as goal

@@ -3,7 +3,7 @@ use Rattle.std.proofs.Common.{sym, ◌∙◌, ap}
 use Rattle.std.proofs.lemmas.Result.{err_from_is_err_and}
 use Rattle.edge_algebra.specs.Compose.{composed}
 use Rattle.std.specs.Str.{bytes_eq}
-use Rattle.cycle_names.specs.Names.{name_of}
+use Rattle.cycle_names.specs.CycleNames.{name_of}
 use Rattle.cycle_names.specs.Laws.{are_of_arch}
 use Rattle.cycle_names.specs.declared.read.NotAName.{NotAName}
 use Rattle.cycle_names.proofs.CycleOf.{none_read, none_composed, none_named, none_of_arch, is_named, made_of}

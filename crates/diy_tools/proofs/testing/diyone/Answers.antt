@@ -1,6 +1,6 @@
 -- That `diyone` answers as diyone7 does on each of the four architectures.
 use Rattle.relax_edges.specs.declared.kinds.ArchName.TheVariants as archs
-use Rattle.diy_tools.specs.Kept.{name_kept}
+use Rattle.diy_tools.specs.KeptRequests.{name_kept}
 use Rattle.diy_tools.proofs.Running.{answered_on}
 use Rattle.diy_tools.proofs.testing.diyone.Goals as goal
 

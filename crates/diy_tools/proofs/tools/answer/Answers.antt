@@ -1,10 +1,10 @@
 -- That `answer` answers as norm7 and mcheck7 do, and that the shelf is at nothing after diyone7 with -why.
 use Rattle.std.proofs.Common.{subst, Ok}
 use Rattle.diy_words.specs.declared.request.Request.{Request}
-use Rattle.diy_words.specs.Given.{Gives}
+use Rattle.diy_words.specs.Given.{GivesTask}
 use Rattle.diy_words.specs.Requests.{asked_of}
-use Rattle.diy_tools.specs.Kept.{edges_kept, folder_kept, named_kept, refused_why}
-use Rattle.diy_tools.specs.Machines.{machine_of}
+use Rattle.diy_tools.specs.KeptRequests.{edges_kept, folder_kept, named_kept, refused_why}
+use Rattle.diy_tools.specs.ArchMachines.{machine_of}
 use Rattle.diy_tools.proofs.Running.{check_answered, name_answered, why_answered}
 use Rattle.diy_tools.proofs.Shows.{runs_idle}
 use Rattle.diy_tools.proofs.tools.answer.Goals as goal
@@ -15,7 +15,7 @@ returns-in-Ok-Name-clause-answers g c =
     (g.I.Source.seen c.args.input.now)
     (g.I.Source.seen c.norm.new.input)
     (g.O.Sink.seen c.args.out.now) (g.O.Sink.seen c.norm.new.out)
-    (subst (λ (r : Request). Gives (Ok r) (asked_of c.args.words.now)) c.in-Ok-Name.field-0-is c.in-Ok-Name.ensures.given) c.norm.ensures.answers
+    (subst (λ (r : Request). GivesTask (Ok r) (asked_of c.args.words.now)) c.in-Ok-Name.field-0-is c.in-Ok-Name.ensures.given) c.norm.ensures.answers
 
 pub returns-in-Ok-Check-clause-answers : goal.returns-in-Ok-Check-clause-answers
 returns-in-Ok-Check-clause-answers g c =
@@ -24,7 +24,7 @@ returns-in-Ok-Check-clause-answers g c =
     (g.H.Shelf.seen c.args.shelf.now)
     (g.H.Shelf.seen c.check.new.shelf)
     (g.O.Sink.seen c.args.out.now) (g.O.Sink.seen c.check.new.out)
-    (subst (λ (r : Request). Gives (Ok r) (asked_of c.args.words.now)) c.in-Ok-Check.field-0-is c.in-Ok-Check.ensures.given) c.check.ensures.answers
+    (subst (λ (r : Request). GivesTask (Ok r) (asked_of c.args.words.now)) c.in-Ok-Check.field-0-is c.in-Ok-Check.ensures.given) c.check.ensures.answers
 
 pub returns-in-Ok-Why-clause-idle : goal.returns-in-Ok-Why-clause-idle
 returns-in-Ok-Why-clause-idle g c =

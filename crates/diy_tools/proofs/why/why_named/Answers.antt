@@ -1,6 +1,6 @@
 -- That `why_named` answers for a cycle under a name.
 use Rattle.std.specs.Option.{option_map}
-use Rattle.diy_tools.specs.Machines.{machine}
+use Rattle.diy_tools.specs.ArchMachines.{machine}
 use Rattle.diy_tools.proofs.Shows.{runs_written}
 use Rattle.diy_tools.proofs.why.why_named.Goals as goal
 

@@ -3,7 +3,7 @@ use Rattle.std.proofs.Common.{◌≡◌, true, sym, ◌∙◌, subst}
 use Rattle.std.specs.Prelude.{IfSome}
 use Rattle.arrayvec.specs.ArrayString.{ArrayString}
 use Rattle.std.specs.Prelude.{Option}
-use Rattle.diy_words.specs.Names.{is_name}
+use Rattle.diy_words.specs.TestNames.{is_name}
 use Rattle.litmus_text.specs.Printable.{IsTestName}
 use Rattle.printed_test_laws.proofs.Cycles.{cycle_named}
 use Rattle.diy_tools.proofs.Forced.{named_so}

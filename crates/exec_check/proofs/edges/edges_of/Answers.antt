@@ -1,6 +1,6 @@
 -- How the list of judged edges grows by one edge.
 use Rattle.std.proofs.Common.{◌≡◌, Some, slice_get, subst}
-use Rattle.litmus_text.specs.Programs.{program_read}
+use Rattle.litmus_text.specs.ReadPrograms.{program_read}
 use Rattle.exec_check.proofs.Judging.{one_judged}
 use Rattle.exec_check.proofs.edges.edges_of.Goals as goal
 

@@ -1,5 +1,5 @@
 -- What holds in the loop over the edges of the cycle.
-use Rattle.litmus_text.specs.Programs.{program_read}
+use Rattle.litmus_text.specs.ReadPrograms.{program_read}
 use Rattle.exec_check.proofs.Judging.{AreJudgedTo}
 use Rattle.exec_check.proofs.edges.edges_of.Given as goal
 

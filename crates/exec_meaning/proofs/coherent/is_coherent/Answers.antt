@@ -1,7 +1,7 @@
 -- The answer is whether the execution is coherent.
 use Rattle.std.proofs.Common.{map, ◌∙◌, ap, sym, subst}
 use Rattle.program_meaning.specs.Coherence.{IsCoherent}
-use Rattle.litmus_text.specs.Programs.{program_read}
+use Rattle.litmus_text.specs.ReadPrograms.{program_read}
 use Rattle.exec_meaning.proofs.RunLaws.{accesses_are}
 use Rattle.exec_meaning.proofs.coherent.is_coherent.Goals as goal
 

@@ -3,8 +3,8 @@ use Rattle.std.proofs.Common.{map, ◌∙◌, ap, sym}
 use Rattle.resolution_laws.proofs.Around.{after_below}
 use Rattle.program_meaning.specs.Accesses.{at_name, visits_of}
 use Rattle.program_meaning.specs.Standing.{event_name}
-use Rattle.litmus_text.specs.Programs.{program_read}
-use Rattle.exec_meaning.specs.Edges.{stands_if}
+use Rattle.litmus_text.specs.ReadPrograms.{program_read}
+use Rattle.exec_meaning.specs.StandingEdges.{stands_if}
 use Rattle.exec_meaning.proofs.RunLaws.{accesses_are, visits_are}
 use Rattle.exec_meaning.proofs.EdgesHeld.{edge_decided, edge_is}
 use Rattle.exec_meaning.proofs.edges.edge_stands.Goals as goal

@@ -1,6 +1,6 @@
 -- In the loop over the places: there is an empty list for each of those before this one.
 use Rattle.std.proofs.Common.{◌≡◌, map, length}
-use Rattle.exec_meaning.specs.Kept.{empty_lists}
+use Rattle.exec_meaning.specs.KeptExecutions.{empty_lists}
 use Rattle.exec_meaning.proofs.execution.no_writes.Given as goal
 
 abbrev pub invariant-loop : goal.invariant-loop

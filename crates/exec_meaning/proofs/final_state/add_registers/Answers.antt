@@ -1,6 +1,6 @@
 -- How the state grows by the value of one register.
 use Rattle.std.proofs.Common.{◌<◌, length, [], ◌∷◌, ◌++◌, get_or, ap, ◌∙◌, arith}
-use Rattle.micro_ops.specs.Threads.{value_in}
+use Rattle.micro_ops.specs.RunThreads.{value_in_run}
 use Rattle.final_cond.specs.Conditions.{InRegister}
 use Rattle.exec_meaning.proofs.FinalLaws.{registers_more}
 use Rattle.exec_meaning.proofs.final_state.add_registers.Goals as goal
@@ -13,4 +13,4 @@ loop-register-preserved g c =
     c.in_ok-add.ensures.ok
     ∙ ap (λ b. c.loop-register.state ++ (InRegister c.args.thread b, c.register.result) ∷ []) c.register_name.ensures
     ∙ ap (λ v. c.loop-register.state ++ (InRegister c.args.thread (get_or names r []), v) ∷ []) c.register.ensures
-    ∙ registers_more c.args.thread r (value_in c.args.trace.now) names c.loop-register.state c.args.state.now inside c.loop-register.invariant
+    ∙ registers_more c.args.thread r (value_in_run c.args.trace.now) names c.loop-register.state c.args.state.now inside c.loop-register.invariant

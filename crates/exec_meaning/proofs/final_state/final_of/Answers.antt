@@ -1,7 +1,7 @@
 -- The state that is made is the final state of the execution.
 use Rattle.std.proofs.Common.{◌≡◌, length, map, ◌++◌, ap, sym, ◌∙◌, arith}
-use Rattle.litmus_text.specs.Programs.{program_read}
-use Rattle.micro_ops.specs.Threads.{value_in}
+use Rattle.litmus_text.specs.ReadPrograms.{program_read}
+use Rattle.micro_ops.specs.RunThreads.{value_in_run}
 use Rattle.program_meaning.specs.Coherence.{final_value}
 use Rattle.exec_meaning.specs.Finals.{all_registers, places_at}
 use Rattle.exec_meaning.proofs.RunLaws.{accesses_are, trace_count}
@@ -21,9 +21,9 @@ returns g c =
     let registers = g.A.Arch.writing.registers in
     let traces = c.in_ok-traces.traces.items in
     let all = c.deref-3.ensures.value ∙ c.in_ok-all.ensures ∙ ap (map _) c.deref.ensures.value in
-    let behind = places_at (final_value c.deref-3.result.now x) 0 in
+    let remainder = places_at (final_value c.deref-3.result.now x) 0 in
     let state = c.in_ok-add_places.ensures
-    ∙ ap (λ l. l ++ behind c.places.result.now) (c.in_ok-add_threads.ensures ∙ ap (λ l. l ++ all_registers registers 0 (map value_in c.deref-2.result.now)) c.new-state.ensures)
-    ∙ ap (λ l. all_registers registers 0 (map value_in l) ++ behind c.places.result.now) c.deref-2.ensures.value
-    ∙ ap (λ l. all_registers registers 0 (map value_in traces) ++ behind l) c.places.ensures in
+    ∙ ap (λ l. l ++ remainder c.places.result.now) (c.in_ok-add_threads.ensures ∙ ap (λ l. l ++ all_registers registers 0 (map value_in_run c.deref-2.result.now)) c.new-state.ensures)
+    ∙ ap (λ l. all_registers registers 0 (map value_in_run l) ++ remainder c.places.result.now) c.deref-2.ensures.value
+    ∙ ap (λ l. all_registers registers 0 (map value_in_run traces) ++ remainder l) c.places.ensures in
     final_is p c.args.test.now.places registers x traces c.deref-3.result.now c.add_places.new.state c.in_ok-traces.ensures (accesses_are p x traces c.in_ok-traces.ensures ∙ sym all) state

@@ -2,8 +2,8 @@
 use Rattle.std.proofs.Common.{subst}
 use Rattle.std.specs.Prelude.{option_map}
 use Rattle.program_meaning.specs.Programs.{runs_of}
-use Rattle.litmus_text.specs.Programs.{program_read}
-use Rattle.exec_meaning.specs.Runs.{AreRuns}
+use Rattle.litmus_text.specs.ReadPrograms.{program_read}
+use Rattle.exec_meaning.specs.EndedRuns.{AreEndedRuns}
 use Rattle.exec_meaning.proofs.RunLaws.{candidate_count, no_candidate}
 use Rattle.exec_meaning.proofs.runs.candidate_runs.Goals as goal
 
@@ -13,4 +13,4 @@ run_all-requires g c = candidate_count c.args.test.now c.args.exec.now c.require
 pub unreachable-requires : goal.unreachable-requires
 unreachable-requires g c =
     no_candidate (program_read c.args.test.now) c.args.exec.now
-    (subst (λ t. AreRuns (option_map (λ list. list.items) t) (runs_of (program_read c.args.test.now).threads c.args.exec.now.reads)) c.in-None.is c.in_ok-traces.ensures) c.requires
+    (subst (λ t. AreEndedRuns (option_map (λ list. list.items) t) (runs_of (program_read c.args.test.now).threads c.args.exec.now.reads)) c.in-None.is c.in_ok-traces.ensures) c.requires

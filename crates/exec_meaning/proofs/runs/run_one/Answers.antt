@@ -1,6 +1,6 @@
 -- The run that is made is that of the program's thread, if it ends.
 use Rattle.std.proofs.Common.{Some, None, ◌∙◌, subst}
-use Rattle.micro_ops.specs.Threads.{CausedBy}
+use Rattle.micro_ops.specs.RunThreads.{CausedBy}
 use Rattle.exec_meaning.proofs.RunLaws.{run_is, is_run, stuck_run, left_run}
 use Rattle.exec_meaning.proofs.runs.run_one.Goals as goal
 

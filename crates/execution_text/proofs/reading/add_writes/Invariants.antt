@@ -1,10 +1,10 @@
 -- What holds in the loop over the words of a place's line.
 use Rattle.std.proofs.Common.{◌≡◌, ◌<◌, length}
 use Rattle.text_laws.specs.Words.{words}
-use Rattle.exec_meaning.specs.Kept.{with_write}
+use Rattle.exec_meaning.specs.KeptExecutions.{with_write}
 use Rattle.execution_text.specs.declared.errors.ExecKind.TheVariants.{BadWrite}
 use Rattle.execution_text.specs.ExecutionText.{access_named, all_named}
-use Rattle.execution_text.specs.Steps.{line_added}
+use Rattle.execution_text.specs.ExecutionSteps.{line_added}
 use Rattle.execution_text.proofs.reading.add_writes.Given as goal
 
 abbrev pub invariant-loop-word : goal.invariant-loop-word

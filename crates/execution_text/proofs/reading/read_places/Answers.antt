@@ -1,7 +1,7 @@
 -- What is read of the places' lines is their reading, fault or not.
 use Rattle.std.proofs.Common.{◌≡◌, ◌+◌, [], map, drop, length, sym, ap, ◌∙◌, arith}
 use Rattle.std.specs.Prelude.{slice_index_or}
-use Rattle.exec_meaning.specs.Kept.{with_write}
+use Rattle.exec_meaning.specs.KeptExecutions.{with_write}
 use Rattle.execution_text.specs.declared.errors.ExecKind.TheVariants.{BadPlace, BadWrite}
 use Rattle.execution_text.specs.ExecutionText.{access_named, line_read, lines_of, place_head}
 use Rattle.execution_text.proofs.LinesRead.{one_line, one_stops, none_left, all_read, error_line}

@@ -1,9 +1,9 @@
 -- What holds in the loop over the places.
 use Rattle.std.proofs.Common.{◌≡◌, ◌+◌, map, drop, length}
-use Rattle.exec_meaning.specs.Kept.{with_write}
+use Rattle.exec_meaning.specs.KeptExecutions.{with_write}
 use Rattle.execution_text.specs.declared.errors.ExecKind.TheVariants.{BadPlace, BadWrite}
 use Rattle.execution_text.specs.ExecutionText.{access_named, line_read, lines_of, each_line_read, place_head}
-use Rattle.execution_text.specs.Steps.{lines_added}
+use Rattle.execution_text.specs.ExecutionSteps.{lines_added}
 use Rattle.execution_text.proofs.reading.read_places.Given as goal
 
 abbrev pub invariant-loop-place : goal.invariant-loop-place

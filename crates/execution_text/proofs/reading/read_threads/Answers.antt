@@ -1,7 +1,7 @@
 -- What is read of the threads' lines is their reading, fault or not.
 use Rattle.std.proofs.Common.{◌≡◌, ◌+◌, ◌-◌, map, sym, ap, ◌∙◌, arith}
 use Rattle.std.specs.List.{range_with_len}
-use Rattle.exec_meaning.specs.Kept.{with_read}
+use Rattle.exec_meaning.specs.KeptExecutions.{with_read}
 use Rattle.execution_text.specs.declared.errors.ExecKind.TheVariants.{BadThread, BadRead}
 use Rattle.execution_text.specs.ExecutionText.{read_named, line_read, lines_of, thread_head}
 use Rattle.execution_text.proofs.LinesRead.{one_line, one_stops, none_left, all_read, error_line}

@@ -1,10 +1,10 @@
 -- What holds in the loop over the threads.
 use Rattle.std.proofs.Common.{◌≡◌, ◌+◌, ◌-◌, map, length}
 use Rattle.std.specs.List.{range_with_len}
-use Rattle.exec_meaning.specs.Kept.{with_read}
+use Rattle.exec_meaning.specs.KeptExecutions.{with_read}
 use Rattle.execution_text.specs.declared.errors.ExecKind.TheVariants.{BadThread, BadRead}
 use Rattle.execution_text.specs.ExecutionText.{read_named, line_read, lines_of, each_line_read, thread_head}
-use Rattle.execution_text.specs.Steps.{lines_added}
+use Rattle.execution_text.specs.ExecutionSteps.{lines_added}
 use Rattle.execution_text.proofs.reading.read_threads.Given as goal
 
 abbrev pub invariant-loop-thread : goal.invariant-loop-thread

@@ -5,8 +5,8 @@ use Rattle.std.proofs.lemmas.List.{map_push}
 use Rattle.std.proofs.lemmas.Result.{err_from_is_err_and}
 use Rattle.final_cond.specs.declared.cond.TheConstants.{MAX_TERMS}
 use Rattle.final_cond.specs.Conditions.{term_view}
-use Rattle.final_cond.specs.Gives.{fault_view, term_and_rest}
-use Rattle.final_cond.specs.Reading.{has_form, terms_read}
+use Rattle.final_cond.specs.ConditionAnswers.{fault_view, term_and_rest}
+use Rattle.final_cond.specs.ConditionReading.{has_form, terms_read}
 use Rattle.final_cond.proofs.TermLaws.{stops_at_term, stops_at_full, stops_at_follow, ends_at_follow, goes_on}
 use Rattle.final_cond.proofs.read.read_terms.Goals as goal
 
@@ -24,25 +24,25 @@ returns-then-is_full c =
     stops_at_full has_form (MAX_TERMS - length c.terms.terms.items) c.terms.rest.now (map term_view c.terms.terms.items) (term_and_rest c.in-Ok.term)
     (terms_read has_form MAX_TERMS c.args.text.now) (omega arith) c.in-Ok.ensures c.terms.invariant ∙ rw c.without_blanks.ensures.text refl
 
-pub returns-in_err-behind : goal.returns-in_err-behind
-returns-in_err-behind c =
+pub returns-in_err-remainder : goal.returns-in_err-remainder
+returns-in_err-remainder c =
     let p = err_from_is_err_and c.from_residual.result c.from_residual.ensures.1 in
     let r : MAX_TERMS - length c.terms.terms.items ≡ (MAX_TERMS - length c.push.new.self.items) + 1 = room_left (length c.terms.terms.items) (length c.push.new.self.items) (sym c.if-is_full.ensures.value) c.if-is_full.ensures.fits c.push.ensures.len in
-    rw (p.1, p.2) (stops_at_follow has_form (MAX_TERMS - length c.terms.terms.items) c.terms.rest.now (map term_view c.terms.terms.items) (term_and_rest c.in-Ok.term) (fault_view c.in_err-behind.field-0.0)
-    (terms_read has_form MAX_TERMS c.args.text.now) (omega arith) c.in-Ok.ensures c.in_err-behind.ensures c.terms.invariant)
+    rw (p.1, p.2) (stops_at_follow has_form (MAX_TERMS - length c.terms.terms.items) c.terms.rest.now (map term_view c.terms.terms.items) (term_and_rest c.in-Ok.term) (fault_view c.in_err-remainder.field-0.0)
+    (terms_read has_form MAX_TERMS c.args.text.now) (omega arith) c.in-Ok.ensures c.in_err-remainder.ensures c.terms.invariant)
 
 pub terms-preserved : goal.terms-preserved
 terms-preserved c =
     let f : map term_view c.push.new.self.items ≡ map term_view c.terms.terms.items ++ term_view c.in-Ok.term.0 ∷ [] = rw c.push.ensures.items (map_push term_view c.terms.terms.items c.in-Ok.term.0) in
     goes_on has_form (MAX_TERMS - length c.terms.terms.items) (MAX_TERMS - length c.push.new.self.items) c.terms.rest.now (map term_view c.terms.terms.items) (map term_view c.push.new.self.items)
-    (term_and_rest c.in-Ok.term) c.in_ok-behind.field-0.0 c.in_ok-behind.field-0.1.now (terms_read has_form MAX_TERMS c.args.text.now)
+    (term_and_rest c.in-Ok.term) c.in_ok-remainder.field-0.0 c.in_ok-remainder.field-0.1.now (terms_read has_form MAX_TERMS c.args.text.now)
     (room_left (length c.terms.terms.items) (length c.push.new.self.items) (sym c.if-is_full.ensures.value) c.if-is_full.ensures.fits c.push.ensures.len)
-    f c.in-Ok.ensures c.in_ok-behind.ensures c.in-Term-default.is-0 c.terms.invariant
+    f c.in-Ok.ensures c.in_ok-remainder.ensures c.in-Term-default.is-0 c.terms.invariant
 
 pub returns-in-End-default : goal.returns-in-End-default
 returns-in-End-default c =
     let f : map term_view c.push.new.self.items ≡ map term_view c.terms.terms.items ++ term_view c.in-Ok.term.0 ∷ [] = rw c.push.ensures.items (map_push term_view c.terms.terms.items c.in-Ok.term.0) in
     let r : MAX_TERMS - length c.terms.terms.items ≡ (MAX_TERMS - length c.push.new.self.items) + 1 = room_left (length c.terms.terms.items) (length c.push.new.self.items) (sym c.if-is_full.ensures.value) c.if-is_full.ensures.fits c.push.ensures.len in
     ends_at_follow has_form (MAX_TERMS - length c.terms.terms.items) c.terms.rest.now (map term_view c.terms.terms.items) (map term_view c.push.new.self.items)
-    (term_and_rest c.in-Ok.term) c.in_ok-behind.field-0.0 c.in_ok-behind.field-0.1.now (terms_read has_form MAX_TERMS c.args.text.now)
-    (omega arith) f c.in-Ok.ensures c.in_ok-behind.ensures c.in-End-default.is-0 c.terms.invariant
+    (term_and_rest c.in-Ok.term) c.in_ok-remainder.field-0.0 c.in_ok-remainder.field-0.1.now (terms_read has_form MAX_TERMS c.args.text.now)
+    (omega arith) f c.in-Ok.ensures c.in_ok-remainder.ensures c.in-End-default.is-0 c.terms.invariant

@@ -1,7 +1,7 @@
 -- There is room for what is in a hole and for the fixed text after it.
 use Rattle.std.proofs.Common.{◌∙◌, sym, ap, length, length-append, arith}
 use Rattle.arch_trait.specs.Writing.{name_in}
-use Rattle.form_laws.specs.Tables.{piece_seen, filled}
+use Rattle.form_laws.specs.Tables.{piece_seen, hole_filled}
 use Rattle.instruction_forms.proofs.Room.{hole_room, after_room}
 use Rattle.instruction_forms.proofs.print.push_piece.Goals as goal
 
@@ -14,7 +14,7 @@ push_hole-requires c = record {
 
 pub push_short-requires-2 : goal.push_short-requires-2
 push_short-requires-2 c =
-    let held = filled (name_in c.args.places.now) c.args.piece.now.hole c.args.operands.now in
+    let held = hole_filled (name_in c.args.places.now) c.args.piece.now.hole c.args.operands.now in
     record {
       room = after_room _ (length c.args.out.now.bytes) (piece_seen c.args.piece.now) c.args.operands.now c.push_hole.new.out.bytes c.requires.ready
           (sym c.fits_first.ensures ∙ c.if-not-fits_first.false)

@@ -1,7 +1,7 @@
 -- Operands are printed as far as those that are left.
 use Rattle.std.proofs.Common.{◌++◌, map, length}
 use Rattle.arch_trait.specs.Writing.{name_in}
-use Rattle.form_laws.specs.Tables.{piece_seen, fits}
+use Rattle.form_laws.specs.Tables.{piece_seen, operands_fit}
 use Rattle.instruction_forms.specs.Printing.{joined_texts}
 use Rattle.instruction_forms.proofs.Going.{Going}
 use Rattle.instruction_forms.proofs.print.push_pieces.Given as goal
@@ -9,7 +9,7 @@ use Rattle.instruction_forms.proofs.print.push_pieces.Given as goal
 abbrev pub invariant-loop-left : goal.invariant-loop-left
 invariant-loop-left l =
     Going (name_in l.places) (l.fn.out.bytes ++ joined_texts (name_in l.places) (map piece_seen l.pieces) l.operands)
-    (fits (map piece_seen l.pieces) l.operands) l.out.bytes l.left l.rest
+    (operands_fit (map piece_seen l.pieces) l.operands) l.out.bytes l.left l.rest
 
 abbrev pub decreases-loop-left : goal.decreases-loop-left
 decreases-loop-left l = length l.left

@@ -1,6 +1,6 @@
 -- That `put_given` writes the files of cycles and the one that names them.
 use Rattle.std.proofs.Common.{◌≡◌, rules}
-use Rattle.listed_tests.specs.Files.{all_path}
+use Rattle.listed_tests.specs.ListedFiles.{all_path}
 use Rattle.listed_tests.specs.Plans.{folder_of}
 use Rattle.listed_tests.proofs.GivenLaws.{given_put, given_stop}
 use Rattle.listed_tests.proofs.Shelves.{ok_so, err_so}

@@ -2,7 +2,7 @@
 use Rattle.std.proofs.Common.{drop, rules}
 use Rattle.std.proofs.lemmas.List.{drop_all}
 use Rattle.diy_io.specs.SinkLaws.{on_err}
-use Rattle.listed_tests.specs.Files.{file_lines}
+use Rattle.listed_tests.specs.ListedFiles.{file_lines}
 use Rattle.listed_tests.proofs.GivenLaws.{Lists, left_at, lists_first, lists_written, lists_more, lists_end, lists_stop}
 use Rattle.listed_tests.proofs.Shelves.{filling_begun, filling_more, filling_part, closed_ok, closed_err}
 use Rattle.listed_tests.proofs.given.put_names_of.Goals as goal

@@ -2,7 +2,7 @@
 use Rattle.std.proofs.Common.{[], ◌∷◌, subst}
 use Rattle.std.specs.Prelude.{List, ℕ}
 use Rattle.diy_io.specs.SinkLaws.{on_err}
-use Rattle.listed_tests.specs.Putting.{Put, PutPart}
+use Rattle.listed_tests.specs.Putting.{PutFiles, PutPart}
 use Rattle.listed_tests.proofs.FilesPut.{files_first, files_more, files_stop, files_end}
 use Rattle.listed_tests.proofs.putting.put_files.Goals as goal
 
@@ -17,4 +17,4 @@ returns-in_err-put_file-clause-failed g c =
 pub loop-file-preserved : goal.loop-file-preserved
 loop-file-preserved g c =
     files_more c.args.files.now c.loop-file.file-index c.file-item.result _ _ _ c.loop-file-test.true c.file-item.is c.loop-file.invariant
-    (subst (λ path. Put (g.H.Shelf.seen c.loop-file.shelf) (g.H.Shelf.seen c.put_file.new.shelf) ((path, c.file-item.result.bytes.now) ∷ [])) c.as_str.ensures.value c.in_ok-put_file.ensures.ok)
+    (subst (λ path. PutFiles (g.H.Shelf.seen c.loop-file.shelf) (g.H.Shelf.seen c.put_file.new.shelf) ((path, c.file-item.result.bytes.now) ∷ [])) c.as_str.ensures.value c.in_ok-put_file.ensures.ok)

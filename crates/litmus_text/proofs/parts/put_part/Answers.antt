@@ -2,7 +2,7 @@
 use Rattle.std.proofs.Common.{◌≡◌, ◌++◌, ap, codes, refl, subst, sym}
 use Rattle.std.specs.Prelude.{Some}
 use Rattle.litmus_text.specs.declared.parts.TextPart.TheVariants as parts
-use Rattle.litmus_text.specs.TestText.{edges_line, ended}
+use Rattle.litmus_text.specs.TestText.{edges_line, with_line_feed}
 use Rattle.litmus_text.specs.Tests.{test_seen}
 use Rattle.litmus_text.specs.TextParts.{PutsPart}
 use Rattle.litmus_text.proofs.TextParts.{edges_put}
@@ -10,6 +10,6 @@ use Rattle.litmus_text.proofs.parts.put_part.Goals as goal
 
 pub returns-in-Edges : goal.returns-in-Edges
 returns-in-Edges g c =
-    let edges = ap (λ edges. ended (edges_line edges) ++ codes "{\n") (sym c.as_slice.ensures.value) in
+    let edges = ap (λ edges. with_line_feed (edges_line edges) ++ codes "{\n") (sym c.as_slice.ensures.value) in
     subst (λ part. PutsPart g.A.Arch.writing (test_seen c.args.test.now) part c.args.page.now c.print_opening.new.page (Some (parts.Items 0))) (sym c.in-Edges.is)
     (edges_put g.A.Arch.writing (test_seen c.args.test.now) c.args.page.now c.print_opening.new.page _ edges c.print_opening.ensures.text c.print_opening.ensures.short)

@@ -1,6 +1,6 @@
 -- The cells of a row are appended one after another.
 use Rattle.std.proofs.Common.{◌∙◌, map, arith, get_or, [], refl}
-use Rattle.arch_trait.specs.Codes.{thread_of}
+use Rattle.arch_trait.specs.Codes.{thread_code_of}
 use Rattle.litmus_text.specs.TestText.{columns_of, column_of}
 use Rattle.litmus_text.proofs.JoinLaws.{none_put, one_text_put, all_put, all_short}
 use Rattle.litmus_text.proofs.TableLaws.{width_at, cell_is, length_columns, widths_long, cell_within}
@@ -22,7 +22,7 @@ loop-thread-preserved g c =
     c.index-threads-thread.is cell width in
     record {
       put =
-          one_text_put _ _ _ _ _ _ (columns_of g.A.Arch.writing c.args.places.now (map thread_of c.args.threads.now)) i [] _
+          one_text_put _ _ _ _ _ _ (columns_of g.A.Arch.writing c.args.places.now (map thread_code_of c.args.threads.now)) i [] _
           (omega (arith, length_columns w c.args.places.now c.args.threads.now)) c.loop-thread.invariant.put text c.print_cell.ensures.text c.print_cell.ensures.short;
       first = first_more w c.args.places.now c.args.threads.now i code c.loop-thread.first _ (omega arith) c.index-threads-thread.is c.loop-thread.invariant.first (omega arith);
       near = omega (arith, c.loop-thread.invariant.near);
@@ -30,12 +30,12 @@ loop-thread-preserved g c =
 
 pub returns-clause-text : goal.returns-clause-text
 returns-clause-text g c =
-    all_put _ _ _ _ _ (columns_of g.A.Arch.writing c.args.places.now (map thread_of c.args.threads.now)) c.loop-thread.thread
+    all_put _ _ _ _ _ (columns_of g.A.Arch.writing c.args.places.now (map thread_code_of c.args.threads.now)) c.loop-thread.thread
     (omega (arith, length_columns g.A.Arch.writing c.args.places.now c.args.threads.now)) c.loop-thread.invariant.put
 
 pub returns-clause-short : goal.returns-clause-short
 returns-clause-short g c =
-    all_short _ _ _ _ _ (columns_of g.A.Arch.writing c.args.places.now (map thread_of c.args.threads.now)) c.loop-thread.thread _
+    all_short _ _ _ _ _ (columns_of g.A.Arch.writing c.args.places.now (map thread_code_of c.args.threads.now)) c.loop-thread.thread _
     (omega (arith, length_columns g.A.Arch.writing c.args.places.now c.args.threads.now)) (omega arith) c.loop-thread.invariant.put
 
 pub bounds-widths-thread : goal.bounds-widths-thread
@@ -49,7 +49,7 @@ print_cell-requires-clause-within g c =
     let code = c.index-threads-thread.result in
     let cell = c.as_bytes.ensures.value ∙ c.as_str.ensures.value ∙ c.take_cell.ensures in
     let width = width_at w c.args.places.now c.args.threads.now i code c.args.widths.now 0 (omega arith) c.index-threads-thread.is c.requires.widths in
-    cell_within (column_of w c.args.places.now (i, thread_of code)) c.args.row c.as_bytes.result.now (get_or c.args.widths.now i 0) cell width
+    cell_within (column_of w c.args.places.now (i, thread_code_of code)) c.args.row c.as_bytes.result.now (get_or c.args.widths.now i 0) cell width
 
 pub take_cell-requires-clause-near : goal.take_cell-requires-clause-near
 take_cell-requires-clause-near g c = omega (arith, c.loop-thread.invariant.near)

@@ -1,6 +1,6 @@
 -- The walk over the threads appends their cells of a row.
 use Rattle.std.proofs.Common.{◌≡◌, ◌≤◌, ◌*◌, codes, map, length, take}
-use Rattle.arch_trait.specs.Codes.{thread_of}
+use Rattle.arch_trait.specs.Codes.{thread_code_of}
 use Rattle.litmus_text.specs.declared.table.TheConstants.{CELL_ROOM}
 use Rattle.litmus_text.specs.TestText.{columns_of, cell_text}
 use Rattle.litmus_text.specs.KeptCells.{all_texts}
@@ -10,7 +10,7 @@ use Rattle.litmus_text.proofs.table.print_cells.Given as goal
 -- the cells so far are appended, and the next column begins at its place
 abbrev pub invariant-loop-thread : goal.invariant-loop-thread
 invariant-loop-thread g l = record {
-  put : Put (cell_text l.row) (codes " | ") CELL_ROOM l.fn.page l.page (columns_of g.A.Arch.writing l.places (map thread_of l.threads)) l.thread;
-  first : l.first ≡ length (all_texts (take l.thread (columns_of g.A.Arch.writing l.places (map thread_of l.threads))));
+  put : Put (cell_text l.row) (codes " | ") CELL_ROOM l.fn.page l.page (columns_of g.A.Arch.writing l.places (map thread_code_of l.threads)) l.thread;
+  first : l.first ≡ length (all_texts (take l.thread (columns_of g.A.Arch.writing l.places (map thread_code_of l.threads))));
   near : l.first ≤ 289 * l.thread;
 }

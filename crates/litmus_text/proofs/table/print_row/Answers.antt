@@ -1,7 +1,7 @@
 -- A row is a blank, its cells, and what ends the line.
 use Rattle.std.proofs.Common.{codes, map, length, ap, arith, length-append}
 use Rattle.std.specs.List.{join_by}
-use Rattle.arch_trait.specs.Codes.{thread_of}
+use Rattle.arch_trait.specs.Codes.{thread_code_of}
 use Rattle.litmus_text.specs.TestText.{columns_of, cell_text}
 use Rattle.litmus_text.proofs.JoinLaws.{three_put}
 use Rattle.litmus_text.proofs.TableLaws.{row_is}
@@ -9,11 +9,11 @@ use Rattle.litmus_text.proofs.table.print_row.Goals as goal
 
 pub returns-clause-text : goal.returns-clause-text
 returns-clause-text g c =
-    let columns = columns_of g.A.Arch.writing c.args.places.now (map thread_of c.args.threads.now) in
+    let columns = columns_of g.A.Arch.writing c.args.places.now (map thread_code_of c.args.threads.now) in
     three_put _ _ _ _ (codes " ") _ (codes " ;\n") _ c.put.ensures c.print_cells.ensures.text c.put-2.ensures (row_is columns c.args.row)
 
 pub returns-clause-short : goal.returns-clause-short
 returns-clause-short g c =
-    let columns = columns_of g.A.Arch.writing c.args.places.now (map thread_of c.args.threads.now) in
+    let columns = columns_of g.A.Arch.writing c.args.places.now (map thread_code_of c.args.threads.now) in
     let whole = ap length (row_is columns c.args.row) in
     omega (arith, length-append (join_by (cell_text c.args.row) (codes " | ") columns) (codes " ;\n"))

@@ -3,7 +3,7 @@ use Rattle.std.proofs.Common.{ap, ◌∙◌, sym, length}
 use Rattle.std.specs.Fmt.{decimal}
 use Rattle.std.proofs.lemmas.List.{length-map}
 use Rattle.diy_io.specs.PageLaws.{sends_same}
-use Rattle.log_sum.specs.Classes.{test_view}
+use Rattle.log_sum.specs.SumViews.{test_view}
 use Rattle.log_sum.specs.StateEntries.{state_view}
 use Rattle.log_sum.proofs.EntryLaws.{in_order_view}
 use Rattle.log_sum.proofs.PrintLaws.{head_is}

@@ -3,7 +3,7 @@ use Rattle.std.proofs.Common.{rules, ◌≡◌, get_or, arith, ap, subst, Err, I
 use Rattle.micro_ops.specs.declared.operation.Micro.TheVariants as ops
 use Rattle.micro_ops.specs.Running.{At, beginning, go, Ended}
 use Rattle.micro_ops.specs.Runners.{point_of}
-use Rattle.micro_ops.specs.Threads.{value_in}
+use Rattle.micro_ops.specs.RunThreads.{value_in_run}
 use Rattle.micro_ops.proofs.Threads.{exec_more, room_left, stops, runner_ends, runner_runs, halt_cause, left_cause}
 use Rattle.micro_ops.proofs.run.run_thread.Goals as goal
 
@@ -27,7 +27,7 @@ end-requires c =
 
 pub returns-clause-ended : goal.returns-clause-ended
 returns-clause-ended c =
-    subst (λ o. IfOk c.end.result (λ trace. o ≡ Ended trace.items (value_in trace)))
+    subst (λ o. IfOk c.end.result (λ trace. o ≡ Ended trace.items (value_in_run trace)))
     (runner_runs c.args.code.now c.args.init.now c.args.reads.now c.loop-index.index
     (point_of c.loop-index.runner) (omega arith) c.loop-index.invariant)
     c.end.ensures.ended

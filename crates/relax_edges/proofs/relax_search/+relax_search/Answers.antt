@@ -30,7 +30,7 @@ keep_paths-returns-in_default-clause-kept t c =
 pub keep_paths-loop-edge-init : goal.keep_paths-loop-edge-init
 keep_paths-loop-edge-init t c = record {
   same_prefix = refl;
-  kept = keeps_first c.args.kept.now c.args.chosen.now.items (map word_edges (words_of c.in-Some.behind.now)) [] c.requires.few;
+  kept = keeps_first c.args.kept.now c.args.chosen.now.items (map word_edges (words_of c.in-Some.remainder.now)) [] c.requires.few;
 }
 
 pub keep_paths-returns-in_err-some-clause-kept : goal.keep_paths-returns-in_err-some-clause-kept
@@ -38,7 +38,7 @@ keep_paths-returns-in_err-some-clause-kept t c =
     let p = err_from_is_err_and c.from_residual-in_err-some.result c.from_residual-in_err-some.ensures.1 in
     rw (p.1, p.2)
     (refused_word c.args.kept.now c.loop-edge.kept c.loop-edge.some c.in_err-some.field-0.0 c.args.chosen.now.items c.loop-edge.chosen.items
-    c.as_slice-edge-items.result.now c.in-Some.word.now (words_of c.args.words.now) (words_of c.in-Some.behind.now) c.loop-edge.edge-index (Com Rf Internal)
+    c.as_slice-edge-items.result.now c.in-Some.word.now (words_of c.args.words.now) (words_of c.in-Some.remainder.now) c.loop-edge.edge-index (Com Rf Internal)
     c.in-Some.ensures.words (c.as_slice-edge-items.ensures.value ∙ c.word_edges-edges.ensures) c.loop-edge.invariant.same_prefix c.loop-edge-test.true
     c.loop-edge.invariant.kept c.in_err-some.ensures.kept)
 
@@ -46,12 +46,12 @@ pub keep_paths-loop-edge-preserved : goal.keep_paths-loop-edge-preserved
 keep_paths-loop-edge-preserved t c = record {
   same_prefix = c.in_ok-some.ensures.chosen ∙ c.loop-edge.invariant.same_prefix;
   kept = keeps_word_next c.args.kept.now c.loop-edge.kept c.keep_after.new.kept c.loop-edge.some c.in_ok-some.field-0 c.args.chosen.now.items c.loop-edge.chosen.items
-      (map word_edges (words_of c.in-Some.behind.now)) c.as_slice-edge-items.result.now c.loop-edge.edge-index (Com Rf Internal)
+      (map word_edges (words_of c.in-Some.remainder.now)) c.as_slice-edge-items.result.now c.loop-edge.edge-index (Com Rf Internal)
       c.loop-edge.invariant.same_prefix c.loop-edge-test.true c.loop-edge.invariant.kept c.in_ok-some.ensures.kept;
 }
 
 pub keep_paths-returns-clause-kept : goal.keep_paths-returns-clause-kept
 keep_paths-returns-clause-kept t c =
     keeps_word c.args.kept.now c.loop-edge.kept c.loop-edge.some c.args.chosen.now.items c.as_slice-edge-items.result.now c.in-Some.word.now (words_of c.args.words.now)
-    (words_of c.in-Some.behind.now) c.loop-edge.edge-index c.in-Some.ensures.words (c.as_slice-edge-items.ensures.value ∙ c.word_edges-edges.ensures) (omega arith)
+    (words_of c.in-Some.remainder.now) c.loop-edge.edge-index c.in-Some.ensures.words (c.as_slice-edge-items.ensures.value ∙ c.word_edges-edges.ensures) (omega arith)
     c.loop-edge.invariant.kept

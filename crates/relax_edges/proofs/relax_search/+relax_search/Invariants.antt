@@ -14,5 +14,5 @@ decreases-keep_paths l = 2 * length l.words.now
 abbrev pub invariant-keep_paths-loop-edge : goal.invariant-keep_paths-loop-edge
 invariant-keep_paths-loop-edge l = record {
   same_prefix : l.chosen.items ≡ l.fn.chosen.items;
-  kept : KeepsPaths l.fn.kept (paths_by l.fn.chosen.items (map word_edges (words_of l.behind)) (take l.edge-index l.edge-items)) l.kept l.some;
+  kept : KeepsPaths l.fn.kept (paths_by l.fn.chosen.items (map word_edges (words_of l.remainder)) (take l.edge-index l.edge-items)) l.kept l.some;
 }

@@ -3,8 +3,8 @@ use Rattle.std.proofs.Common.{◌≡◌, ◌≤◌, ◌+◌, length}
 use Rattle.relax_edges.specs.RelaxText.{words_of}
 use Rattle.relax_edges.proofs.relax_words.count_words.Given as goal
 
-abbrev pub invariant-loop-behind : goal.invariant-loop-behind
-invariant-loop-behind l = (l.count + length (words_of l.rest) ≡ length (words_of l.words)) × (l.count + length l.rest ≤ length l.words)
+abbrev pub invariant-loop-remainder : goal.invariant-loop-remainder
+invariant-loop-remainder l = (l.count + length (words_of l.rest) ≡ length (words_of l.words)) × (l.count + length l.rest ≤ length l.words)
 
-abbrev pub decreases-loop-behind : goal.decreases-loop-behind
-decreases-loop-behind l = length l.rest
+abbrev pub decreases-loop-remainder : goal.decreases-loop-remainder
+decreases-loop-remainder l = length l.rest

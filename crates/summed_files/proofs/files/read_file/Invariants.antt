@@ -1,15 +1,15 @@
 -- `read_file`: what was read so far was fed.
 use Rattle.std.proofs.Common.{◌≡◌, ◌-◌, ◌^◌, ℕ, List, []}
 use Rattle.diy_io.specs.Shelf.{IsReading}
-use Rattle.summed_files.specs.Feeding.{Reads, ReadSoFar}
-use Rattle.summed_files.specs.Files.{log_seen}
+use Rattle.summed_files.specs.FileFeeding.{ReadsLogs, ReadSoFar}
+use Rattle.summed_files.specs.LogFiles.{log_seen}
 use Rattle.summed_files.proofs.files.read_file.Given as goal
 
 -- what was read so far was fed, and the file is still open
 abbrev pub invariant-loop-count : goal.invariant-loop-count
 invariant-loop-count g l = record {
   read :
-      (logs : List (List ℕ)) → Reads l.initial.feeding logs []
+      (logs : List (List ℕ)) → ReadsLogs l.initial.feeding logs []
       → ReadSoFar (log_seen (g.H.Shelf.seen l.initial.shelf)) (log_seen (g.H.Shelf.seen l.shelf)) l.feeding logs;
   mode : IsReading (g.H.Shelf.seen l.shelf).mode;
   files : (g.H.Shelf.seen l.shelf).files ≡ (g.H.Shelf.seen l.initial.shelf).files;

@@ -1,7 +1,7 @@
 -- `sum_files`: the files that the words so far name were summed.
 use Rattle.std.proofs.Common.{◌≡◌}
 use Rattle.diy_io.specs.Shelf.{Idle}
-use Rattle.summed_files.specs.Files.{FilesSoFar}
+use Rattle.summed_files.specs.LogFiles.{FilesSoFar}
 use Rattle.summed_files.proofs.files.sum_files.Given as goal
 
 -- the files before this word were summed

@@ -1,6 +1,6 @@
 -- `sum_open` sums the open file and closes it.
 use Rattle.std.proofs.Common.{ap, ◌∙◌, Err}
-use Rattle.summed_files.specs.Files.{log_seen}
+use Rattle.summed_files.specs.LogFiles.{log_seen}
 use Rattle.summed_files.proofs.LogLaws.{closed, closed_summed, closed_failed, closed_faulty, summed_refused, summed_failed, idle_at_end}
 use Rattle.summed_files.proofs.files.sum_open.Goals as goal
 

@@ -1,12 +1,12 @@
 -- `read_input`: what was read so far was fed.
 use Rattle.std.proofs.Common.{◌-◌, ◌^◌, ℕ, List, []}
-use Rattle.summed_files.specs.Feeding.{Reads, ReadSoFar}
+use Rattle.summed_files.specs.FileFeeding.{ReadsLogs, ReadSoFar}
 use Rattle.summed_files.proofs.input.read_input.Given as goal
 
 -- what was read so far was fed
 abbrev pub invariant-loop-count : goal.invariant-loop-count
 invariant-loop-count g l =
-    (logs : List (List ℕ)) → Reads l.initial.feeding logs []
+    (logs : List (List ℕ)) → ReadsLogs l.initial.feeding logs []
     → ReadSoFar (g.I.Source.seen l.initial.input)
     (g.I.Source.seen l.input) l.feeding logs
 

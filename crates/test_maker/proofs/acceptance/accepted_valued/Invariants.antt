@@ -1,7 +1,7 @@
 -- The loop of `accepted_valued`: no thread before the next needs too many registers.
 use Rattle.std.proofs.Common.{◌≡◌, drop}
 use Rattle.std.specs.List.{position_from}
-use Rattle.test_laws.specs.Steps.{cycle_steps}
+use Rattle.test_laws.specs.CycleSteps.{cycle_steps}
 use Rattle.test_laws.specs.TestOf.{plain}
 use Rattle.test_maker.specs.Refusals.{is_crowded}
 use Rattle.test_maker.proofs.Growing.{crowded}

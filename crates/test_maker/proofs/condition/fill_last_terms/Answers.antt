@@ -4,7 +4,7 @@ use Rattle.resolution_laws.specs.Resolution.{move_count}
 use Rattle.arrayvec.specs.ArrayVec.{ArrayVec}
 use Rattle.final_cond.specs.declared.cond.Term.{Term}
 use Rattle.final_cond.specs.Conditions.{term_view}
-use Rattle.test_laws.specs.TestOf.{is_named, last_term}
+use Rattle.test_laws.specs.TestOf.{is_named_location, last_term}
 use Rattle.test_maker.proofs.Filling.{found_same}
 use Rattle.test_maker.proofs.Naming.{letters-length, last_room, named_more}
 use Rattle.test_maker.proofs.condition.fill_last_terms.Goals as goal
@@ -31,6 +31,6 @@ loop-location-preserved c =
           c.loop-location.invariant (sym c.is_named.ensures ∙ w.if-is_named.true) c.requires below w.writes.ensures w.push_last_term.ensures
       | else-is_named w ↦
           ap (λ (v : ArrayVec Term). map term_view v.items) w.terms-is ∙
-          found_same (last_term es) (is_named es c.args.valued.now.mode) c.loop-location.location (map term_view c.loop-location.terms.items)
+          found_same (last_term es) (is_named_location es c.args.valued.now.mode) c.loop-location.location (map term_view c.loop-location.terms.items)
           c.loop-location.invariant (sym c.is_named.ensures ∙ w.if-is_named.false)
     ]

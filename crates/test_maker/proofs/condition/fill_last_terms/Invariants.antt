@@ -3,8 +3,8 @@ use Rattle.std.proofs.Common.{◌≡◌, map}
 use Rattle.std.specs.List.{filter}
 use Rattle.list_laws.specs.Numbers.{upto}
 use Rattle.final_cond.specs.Conditions.{term_view}
-use Rattle.test_laws.specs.TestOf.{is_named, last_term}
+use Rattle.test_laws.specs.TestOf.{is_named_location, last_term}
 use Rattle.test_maker.proofs.condition.fill_last_terms.Given as goal
 
 abbrev pub invariant-loop-location : goal.invariant-loop-location
-invariant-loop-location l = map term_view l.terms.items ≡ map (last_term l.valued.edges) (filter (is_named l.valued.edges l.valued.mode) (upto l.location))
+invariant-loop-location l = map term_view l.terms.items ≡ map (last_term l.valued.edges) (filter (is_named_location l.valued.edges l.valued.mode) (upto l.location))

@@ -1,7 +1,7 @@
 -- That what `make_valued` makes can be printed.
 use Rattle.std.proofs.Common.{ap, ◌∙◌, subst}
 use Rattle.resolution_laws.specs.Resolution.{IsResolved, move_count}
-use Rattle.arch_trait.specs.Names.{letters}
+use Rattle.arch_trait.specs.PlaceNames.{letters}
 use Rattle.test_maker.proofs.Printing.{made_printable}
 use Rattle.test_maker.proofs.maker.make_valued.Goals as goal
 

@@ -6,7 +6,7 @@ use Rattle.list_laws.specs.Numbers.{upto}
 use Rattle.resolution_laws.specs.Resolution.{thread_of}
 use Rattle.arrayvec.specs.ArrayVec.{ArrayVec}
 use Rattle.arch_trait.specs.declared.step.Step.{Step}
-use Rattle.test_laws.specs.Steps.{event_step}
+use Rattle.test_laws.specs.CycleSteps.{event_step}
 use Rattle.test_laws.specs.TestOf.{plain}
 use Rattle.test_maker.proofs.Filling.{few_found, found_more, found_same, found_all, in_thread, in_another}
 use Rattle.test_maker.proofs.steps.fill_events.Goals as goal

@@ -3,7 +3,7 @@ use Rattle.std.proofs.Common.{◌≡◌, ◌==◌, map}
 use Rattle.std.specs.List.{filter}
 use Rattle.list_laws.specs.Numbers.{upto}
 use Rattle.resolution_laws.specs.Resolution.{thread_of}
-use Rattle.test_laws.specs.Steps.{event_step}
+use Rattle.test_laws.specs.CycleSteps.{event_step}
 use Rattle.test_laws.specs.TestOf.{plain}
 use Rattle.test_maker.proofs.steps.fill_events.Given as goal
 

@@ -21,6 +21,6 @@ returns-then-thread-threads c =
 pub returns-else-thread-threads : goal.returns-else-thread-threads
 returns-else-thread-threads c =
     let threads = c.threads-threads.ensures ∙ ap external_count c.resolved.ensures in
-    let behind : external_count c.args.valued.now.edges ≤ c.args.thread = omega (arith, threads) in
+    let remainder : external_count c.args.valued.now.edges ≤ c.args.thread = omega (arith, threads) in
     let found = ap (λ n. slice_get (observed_locations c.args.valued.now.edges c.args.valued.now.mode) (c.args.thread - n)) (sym threads) ∙ c.observed_location.ensures.found in
-    observer_steps_at c.args.valued.now.edges c.args.valued.now.mode plain c.args.thread (c.args.thread - external_count c.args.valued.now.edges) c.observed_location.result (omega (arith, behind)) found ∙ ap Some (sym c.fill_reads.ensures)
+    observer_steps_at c.args.valued.now.edges c.args.valued.now.mode plain c.args.thread (c.args.thread - external_count c.args.valued.now.edges) c.observed_location.result (omega (arith, remainder)) found ∙ ap Some (sym c.fill_reads.ensures)

@@ -1,6 +1,6 @@
 use Rattle.std.proofs.Common.{◌<◌, ◌≤◌, length, sym, ◌∙◌, arith}
 use Rattle.text_laws.specs.Blanks.{is_inked}
-use Rattle.text_laws.proofs.RunLaws.{less_behind}
+use Rattle.text_laws.proofs.RunLaws.{less_remainder}
 use Rattle.text_laws.proofs.WordLaws.{word_found, no_word_found, empty_is_nil, some_if}
 use Rattle.text_parts.proofs.words.next_word.Goals as goal
 
@@ -18,6 +18,6 @@ returns-clause-some c = some_if c.split_run.result.0.now (empty_is_nil c.split_r
 pub returns-clause-less : goal.returns-clause-less
 returns-clause-less c =
     let some : 0 < length c.split_run.result.0.now = some_if c.split_run.result.0.now (empty_is_nil c.split_run.result.0.now ∙ sym c.is_empty.ensures ∙ c.if-is_empty.false) in
-    let less : length c.split_run.result.1.now < length c.without_blanks.result.now = less_behind is_inked c.without_blanks.result.now c.split_run.result.0.now c.split_run.result.1.now c.split_run.ensures.run c.split_run.ensures.rest some in
+    let less : length c.split_run.result.1.now < length c.without_blanks.result.now = less_remainder is_inked c.without_blanks.result.now c.split_run.result.0.now c.split_run.result.1.now c.split_run.ensures.run c.split_run.ensures.rest some in
     let short : length c.without_blanks.result.now ≤ length c.args.text.now = c.without_blanks.ensures.short in
     omega arith

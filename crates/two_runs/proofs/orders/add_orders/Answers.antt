@@ -4,7 +4,7 @@ use Rattle.resolution_laws.specs.Resolution.{move_count}
 use Rattle.program_meaning.specs.declared.WriteAt.{WriteAt}
 use Rattle.program_meaning.specs.Executions.{Execution}
 use Rattle.program_meaning.specs.Intended.{location_numbered}
-use Rattle.two_runs.specs.Runs.{appended, numbers_by, order_of}
+use Rattle.two_runs.specs.Runs.{with_appended, numbers_by, order_of}
 use Rattle.two_runs.proofs.GrowingLists.{filled_length, filled_none, filled_to, filled_whole}
 use Rattle.two_runs.proofs.CycleOrders.{places_more}
 use Rattle.two_runs.proofs.orders.add_orders.Goals as goal
@@ -30,7 +30,7 @@ loop-place-preserved c =
     let k = c.loop-place.place in
     let below : k < move_count es = omega (arith, c.loop-place-test.true, c.locations-place-end.ensures, ap move_count c.resolved.ensures) in
     places_more f c.args.exec.now c.loop-place.exec c.add_order.new.exec (move_count es) k below c.loop-place.invariant
-    (c.in_ok-add_order.ensures ∙ ap (λ location. record c.loop-place.exec { orders = appended c.loop-place.exec.orders k (order_of es c.args.moved location) }) c.location_at-location.ensures.location)
+    (c.in_ok-add_order.ensures ∙ ap (λ location. record c.loop-place.exec { orders = with_appended c.loop-place.exec.orders k (order_of es c.args.moved location) }) c.location_at-location.ensures.location)
 
 pub returns : goal.returns
 returns c =

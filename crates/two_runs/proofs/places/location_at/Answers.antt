@@ -2,7 +2,7 @@
 use Rattle.std.proofs.Common.{◌≡◌, ◌∙◌, sym, ap, arith, length, []}
 use Rattle.std.specs.Prelude.{slice_index_or}
 use Rattle.resolution_laws.specs.Resolution.{move_count}
-use Rattle.arch_trait.specs.Names.{location_name}
+use Rattle.arch_trait.specs.PlaceNames.{location_name}
 use Rattle.litmus_text.specs.Placing.{place_in}
 use Rattle.test_maker.proofs.Naming.{letter_at, letters-length}
 use Rattle.two_runs.specs.Runs.{numbers_by}

@@ -1,18 +1,18 @@
 -- A list is passed over with all that begin with it, and no candidate after these is left out.
 use Rattle.std.proofs.Common.{rules}
-use Rattle.walk_laws.specs.Search.{IsCandidate}
+use Rattle.walk_laws.specs.Search.{IsListCandidate}
 use Rattle.walk_laws.proofs.Raising.{popped_more, popped_replaced}
 use Rattle.cycle_enum.proofs.alphabet.Alphabet.raise.Goals as goal
 
 pub returns-in-Some-next_edge : goal.returns-in-Some-next_edge
 returns-in-Some-next_edge c =
-    popped_replaced (IsCandidate c.args.self.now) c.args.list.now c.loop-last.list c.pop.new.self c.push.new.self c.in-Some.last.edge c.in-Some-next_edge.next
+    popped_replaced (IsListCandidate c.args.self.now) c.args.list.now c.loop-last.list c.pop.new.self c.push.new.self c.in-Some.last.edge c.in-Some-next_edge.next
     c.loop-last.invariant.popped c.in-Some.ensures.some.0 c.push.ensures (rw (c.edges.ensures.value, c.in-Some.ensures.some.1) at c.in-Some-next_edge.ensures.next)
 
 pub loop-last-preserved : goal.loop-last-preserved
 loop-last-preserved c = record {
   popped =
-      popped_more (IsCandidate c.args.self.now) c.args.list.now c.loop-last.list c.pop.new.self c.in-Some.last.edge c.loop-last.invariant.popped
+      popped_more (IsListCandidate c.args.self.now) c.args.list.now c.loop-last.list c.pop.new.self c.in-Some.last.edge c.loop-last.invariant.popped
       c.in-Some.ensures.some.0 (rw (c.edges.ensures.value, c.in-Some.ensures.some.1) at c.in-None.ensures.next);
   few = search rules;
 }

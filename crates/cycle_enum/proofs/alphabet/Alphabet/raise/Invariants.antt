@@ -1,13 +1,13 @@
 -- Edges were taken off the end of the list, and no candidate above the list is left out.
 use Rattle.std.proofs.Common.{◌≤◌, length}
 use Rattle.relax_edges.specs.declared.TheConstants.{MAX_EDGES}
-use Rattle.walk_laws.specs.Search.{IsCandidate}
+use Rattle.walk_laws.specs.Search.{IsListCandidate}
 use Rattle.walk_laws.proofs.Raising.{Popped}
 use Rattle.cycle_enum.proofs.alphabet.Alphabet.raise.Given as goal
 
 abbrev pub invariant-loop-last : goal.invariant-loop-last
 invariant-loop-last l = record {
-  popped : Popped (IsCandidate l.self) l.fn.list l.list;
+  popped : Popped (IsListCandidate l.self) l.fn.list l.list;
   few : length l.list ≤ MAX_EDGES;
 }
 

@@ -3,7 +3,7 @@ use Rattle.std.proofs.Common.{[], length, refl, IsTrue}
 use Rattle.std.proofs.lemmas.List.{append-nil}
 use Rattle.cycle_laws.proofs.Composing.{path_closed}
 use Rattle.walk_laws.proofs.Stepping.{kept_all}
-use Rattle.cycle_enum.specs.Walking.{Keeps, Lists}
+use Rattle.cycle_enum.specs.Walking.{KeepsList, Lists}
 use Rattle.cycle_enum.proofs.walk.Walk.has_found.Goals as goal
 
 pub returns-then-not-leads_on-clause-other : goal.returns-then-not-leads_on-clause-other
@@ -20,4 +20,4 @@ has_listed-requires-clause-cycle g c =
 
 pub has_listed-requires-clause-kept : goal.has_listed-requires-clause-kept
 has_listed-requires-clause-kept g c =
-    kept_all (Lists g.P.Fn.post c.args.self.now) (Keeps g.K.Fn.post g.J.Fn.post c.args.self.now) (length c.args.list.now) c.args.list.now c.requires.kept (c.if-not-leads_on.ensures.kept refl)
+    kept_all (Lists g.P.Fn.post c.args.self.now) (KeepsList g.K.Fn.post g.J.Fn.post c.args.self.now) (length c.args.list.now) c.args.list.now c.requires.kept (c.if-not-leads_on.ensures.kept refl)

@@ -3,7 +3,7 @@ use Rattle.std.proofs.Common.{◌≡◌, ◌++◌, ◌+◌, drop, refl, sym, ari
 use Rattle.std.proofs.lemmas.List.{drop_all}
 use Rattle.walk_laws.specs.Search.{LeadsNowhere}
 use Rattle.walk_laws.proofs.Raising.{kept_more, cut_refused, cut_whole, one_further}
-use Rattle.cycle_enum.specs.Walking.{Keeps, Lists}
+use Rattle.cycle_enum.specs.Walking.{KeepsList, Lists}
 use Rattle.cycle_enum.proofs.Composing.{next_joined}
 use Rattle.cycle_enum.proofs.walk.Walk.put_first_refused.Goals as goal
 
@@ -22,8 +22,8 @@ loop-edge-preserved g c = record {
   parts =
       one_further c.loop-edge.list c.push.new.self c.args.edges.now c.loop-edge.edge-index _ c.loop-edge.invariant.parts c.loop-edge-test.true c.push.ensures;
   kept =
-      let agreed : Keeps g.K.Fn.post g.J.Fn.post c.args.self.now c.push.new.self = rw c.edges.ensures.value at (c.if-not-is_kept.ensures.kept refl) in
-      kept_more (Lists g.P.Fn.post c.args.self.now) (Keeps g.K.Fn.post g.J.Fn.post c.args.self.now) c.loop-edge.list c.push.new.self _ c.push.ensures c.loop-edge.invariant.kept agreed;
+      let agreed : KeepsList g.K.Fn.post g.J.Fn.post c.args.self.now c.push.new.self = rw c.edges.ensures.value at (c.if-not-is_kept.ensures.kept refl) in
+      kept_more (Lists g.P.Fn.post c.args.self.now) (KeepsList g.K.Fn.post g.J.Fn.post c.args.self.now) c.loop-edge.list c.push.new.self _ c.push.ensures c.loop-edge.invariant.kept agreed;
 }
 
 pub returns : goal.returns

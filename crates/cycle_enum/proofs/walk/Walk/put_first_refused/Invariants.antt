@@ -1,11 +1,11 @@
 -- The edges passed are a prefix of the list that is kept with all shorter ones.
 use Rattle.std.proofs.Common.{◌≡◌, ◌++◌, drop}
 use Rattle.walk_laws.specs.Asked.{KeptWhole}
-use Rattle.cycle_enum.specs.Walking.{Keeps}
+use Rattle.cycle_enum.specs.Walking.{KeepsList}
 use Rattle.cycle_enum.proofs.walk.Walk.put_first_refused.Given as goal
 
 abbrev pub invariant-loop-edge : goal.invariant-loop-edge
 invariant-loop-edge g l = record {
   parts : l.list ++ drop l.edge-index l.edges ≡ l.edges;
-  kept : KeptWhole (Keeps g.K.Fn.post g.J.Fn.post l.self) l.list;
+  kept : KeptWhole (KeepsList g.K.Fn.post g.J.Fn.post l.self) l.list;
 }

@@ -1,10 +1,10 @@
 -- Each step of the search leaves out no listed cycle, and what is found is the first.
 use Rattle.std.proofs.Common.{◌<◌, ◌≤◌, length, refl, rules}
-use Rattle.walk_laws.specs.Search.{IsCandidate, IsExtended, IsRaised, LeadsNowhere}
+use Rattle.walk_laws.specs.Search.{IsListCandidate, IsExtended, IsRaised, LeadsNowhere}
 use Rattle.walk_laws.proofs.Counts.{raised_falls, extended_falls}
 use Rattle.walk_laws.proofs.Candidates.{raised_listed, extended_listed}
 use Rattle.walk_laws.proofs.Stepping.{search_at_first, search_at_raised, search_at_extended, search_at_past, search_at_found}
-use Rattle.cycle_enum.specs.Walking.{Keeps, Lists}
+use Rattle.cycle_enum.specs.Walking.{KeepsList, Lists}
 use Rattle.cycle_enum.proofs.walk.Walk.search.Goals as goal
 
 pub loop-self-init : goal.loop-self-init
@@ -22,7 +22,7 @@ pub loop-self-preserved-else-leads_on : goal.loop-self-preserved-else-leads_on
 loop-self-preserved-else-leads_on g c =
     let some : 0 < length c.loop-self.list = search rules in
     let none : LeadsNowhere (Lists g.P.Fn.post c.args.self.now) c.loop-self.list = c.if-leads_on.ensures.refused refl in
-    let raised : IsRaised (IsCandidate c.args.self.now.relaxes) c.loop-self.list c.raise.new.list = search rules in
+    let raised : IsRaised (IsListCandidate c.args.self.now.relaxes) c.loop-self.list c.raise.new.list = search rules in
     record {
       search_at = search_at_raised _ _ c.args.len c.args.list.now c.loop-self.list c.raise.new.list c.loop-self.invariant.search_at some none (raised_listed _ _ _ _ _ _ raised);
       none = c.loop-self.invariant.none;
@@ -38,8 +38,8 @@ pub loop-self-preserved-then-leads_on : goal.loop-self-preserved-then-leads_on
 loop-self-preserved-then-leads_on g c =
     let some : 0 < length c.loop-self.list = search rules in
     let less : length c.loop-self.list < c.args.len = search rules in
-    let agreed : Keeps g.K.Fn.post g.J.Fn.post c.args.self.now c.loop-self.list = c.if-leads_on.ensures.kept refl in
-    let extended : IsExtended (IsCandidate c.args.self.now.relaxes) c.loop-self.list c.extend.new.list = search rules in
+    let agreed : KeepsList g.K.Fn.post g.J.Fn.post c.args.self.now c.loop-self.list = c.if-leads_on.ensures.kept refl in
+    let extended : IsExtended (IsListCandidate c.args.self.now.relaxes) c.loop-self.list c.extend.new.list = search rules in
     record {
       search_at = search_at_extended _ _ c.args.len c.args.list.now c.loop-self.list c.extend.new.list c.loop-self.invariant.search_at some less agreed (extended_listed _ _ _ _ _ _ extended);
       none = c.loop-self.invariant.none;
@@ -53,7 +53,7 @@ returns-then-has_found g c =
     let some : 0 < length c.loop-self.list = search rules in
     let long : c.args.len ≤ length c.loop-self.list = search rules in
     rw (c.if-has_found.ensures.found refl)
-    (search_at_found _ (Keeps g.K.Fn.post g.J.Fn.post c.args.self.now) c.args.len c.args.list.now c.loop-self.list c.loop-self.list c.loop-self.invariant.search_at some long
+    (search_at_found _ (KeepsList g.K.Fn.post g.J.Fn.post c.args.self.now) c.args.len c.args.list.now c.loop-self.list c.loop-self.list c.loop-self.invariant.search_at some long
     refl (c.if-has_found.ensures.listed refl))
 
 pub loop-self-smaller : goal.loop-self-smaller
@@ -65,7 +65,7 @@ pub loop-self-preserved : goal.loop-self-preserved
 loop-self-preserved g c =
     let some : 0 < length c.loop-self.list = search rules in
     let long : c.args.len ≤ length c.loop-self.list = search rules in
-    let raised : IsRaised (IsCandidate c.args.self.now.relaxes) c.loop-self.list c.raise-else-len-from.new.list = search rules in
+    let raised : IsRaised (IsListCandidate c.args.self.now.relaxes) c.loop-self.list c.raise-else-len-from.new.list = search rules in
     record {
       search_at = search_at_past _ _ c.args.len c.args.list.now c.loop-self.list c.raise-else-len-from.new.list c.loop-self.invariant.search_at some long
           (c.if-has_found.ensures.other refl) (raised_listed _ _ _ _ _ _ raised);

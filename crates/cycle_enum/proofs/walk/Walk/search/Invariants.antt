@@ -2,12 +2,12 @@
 use Rattle.std.proofs.Common.{◌≡◌, None}
 use Rattle.walk_laws.proofs.Counts.{to_go}
 use Rattle.walk_laws.proofs.Stepping.{SearchAt}
-use Rattle.cycle_enum.specs.Walking.{Keeps, Lists}
+use Rattle.cycle_enum.specs.Walking.{KeepsList, Lists}
 use Rattle.cycle_enum.proofs.walk.Walk.search.Given as goal
 
 abbrev pub invariant-loop-self : goal.invariant-loop-self
 invariant-loop-self g l = record {
-  search_at : SearchAt (Lists g.P.Fn.post l.self) (Keeps g.K.Fn.post g.J.Fn.post l.self) l.len l.fn.list l.list;
+  search_at : SearchAt (Lists g.P.Fn.post l.self) (KeepsList g.K.Fn.post g.J.Fn.post l.self) l.len l.fn.list l.list;
   none : l.found ≡ None;
 }
 

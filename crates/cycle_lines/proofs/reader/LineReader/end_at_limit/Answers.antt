@@ -1,6 +1,6 @@
 -- That `end_at_limit` says rightly whether a source has more bytes than are read.
 use Rattle.std.proofs.Common.{ap, sym, subst}
-use Rattle.cycle_lines.specs.Reading.{ReadToLimit}
+use Rattle.cycle_lines.specs.LineReading.{ReadToLimit}
 use Rattle.cycle_lines.proofs.ReadLaws.{past_limit, some_read, stopped_there}
 use Rattle.cycle_lines.proofs.reader.LineReader.end_at_limit.Goals as goal
 

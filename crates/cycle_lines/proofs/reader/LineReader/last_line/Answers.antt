@@ -1,7 +1,7 @@
 -- That `last_line` gives what the last line says, or its fault.
 use Rattle.std.proofs.Common.{ap, sym, subst, ◌∙◌}
 use Rattle.cycle_lines.specs.Cycles.{line_said}
-use Rattle.cycle_lines.specs.Reading.{ReadToFault}
+use Rattle.cycle_lines.specs.LineReading.{ReadToFault}
 use Rattle.cycle_lines.proofs.ReadLaws.{said_last, fault_last, some_if}
 use Rattle.cycle_lines.proofs.reader.LineReader.last_line.Goals as goal
 

@@ -1,6 +1,6 @@
 -- That `next_found` gives what the next line says, or the reason why there is none.
 use Rattle.std.proofs.Common.{ap, sym, subst}
-use Rattle.cycle_lines.specs.Steps.{HasRead}
+use Rattle.cycle_lines.specs.LineSteps.{HasRead}
 use Rattle.cycle_lines.proofs.ReadLaws.{line_given, fault_given, ends_less}
 use Rattle.cycle_lines.proofs.reader.LineReader.next_found.Goals as goal
 

@@ -2,7 +2,7 @@
 use Rattle.std.proofs.Common.{◌≤◌, List}
 use Rattle.diy_io.specs.Taken.{SourceSeen}
 use Rattle.relax_edges.specs.declared.edge.Edge.{Edge}
-use Rattle.cycle_lines.specs.Steps.{HasRead, work}
+use Rattle.cycle_lines.specs.LineSteps.{HasRead, work}
 use Rattle.cycle_lines.proofs.reader.LineReader.next_found.Given as goal
 
 abbrev pub invariant-loop-kind : goal.invariant-loop-kind

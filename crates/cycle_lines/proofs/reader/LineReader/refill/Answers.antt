@@ -2,7 +2,7 @@
 use Rattle.std.proofs.Common.{ap, sym, subst, ◌∙◌}
 use Rattle.cycle_lines.specs.declared.errors.LineKind.TheVariants.{LineTooLong}
 use Rattle.text_laws.specs.Lines.{without_return}
-use Rattle.cycle_lines.specs.Reading.{ReadToFault}
+use Rattle.cycle_lines.specs.LineReading.{ReadToFault}
 use Rattle.cycle_lines.proofs.LineLaws.{is_long, is_short}
 use Rattle.cycle_lines.proofs.ReadLaws.{long_given, stopped_there}
 use Rattle.cycle_lines.proofs.reader.LineReader.refill.Goals as goal

@@ -1,7 +1,7 @@
 -- The tally is that of the text of the cycle's test.
 use Rattle.std.proofs.Common.{◌≡◌, ◌∙◌, ap}
 use Rattle.relax_edges.specs.declared.kinds.ObsMode.TheVariants.{Accept}
-use Rattle.cycle_names.specs.Names.{name_of}
+use Rattle.cycle_names.specs.CycleNames.{name_of}
 use Rattle.litmus_text.specs.Tests.{test_seen}
 use Rattle.litmus_text.specs.TestText.{test_text}
 use Rattle.test_maker.specs.CycleText.{cycle_text}

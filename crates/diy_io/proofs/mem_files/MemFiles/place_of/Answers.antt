@@ -1,12 +1,12 @@
--- That `place_of` gives the place of a file that is there.
+-- That `file_place` gives the place of a file that is there.
 use Rattle.std.proofs.Common.{ap, ◌∙◌, map}
-use Rattle.diy_io.specs.MemFiles.{place_of}
-use Rattle.diy_io.specs.MemEntries.{entry_view}
+use Rattle.diy_io.specs.MemFiles.{file_place}
+use Rattle.diy_io.specs.MemEntries.{file_view}
 use Rattle.diy_io.proofs.FilesLaws.{found_inside}
 use Rattle.diy_io.proofs.mem_files.MemFiles.place_of.Goals as goal
 
 pub returns-clause-inside : goal.returns-clause-inside
 returns-clause-inside c =
     found_inside c.args.name.now c.args.self.now.files _
-    (c.place_of.ensures ∙ ap (λ es. place_of c.args.name.now (map entry_view es)) c.as_slice.ensures.value
-    ∙ ap (λ m. place_of c.args.name.now m.files) c.self.view_is)
+    (c.place_of.ensures ∙ ap (λ es. file_place c.args.name.now (map file_view es)) c.as_slice.ensures.value
+    ∙ ap (λ m. file_place c.args.name.now m.files) c.self.view_is)

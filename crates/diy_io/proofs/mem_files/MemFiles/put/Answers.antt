@@ -2,13 +2,13 @@
 use Rattle.std.proofs.Common.{◌≡◌, refl, sym, ap, ◌∙◌, arith}
 use Rattle.std.specs.Prelude.{Some}
 use Rattle.std.proofs.lemmas.Grind.{common_steps}
-use Rattle.diy_io.specs.MemFiles.{place_of, put_in}
+use Rattle.diy_io.specs.MemFiles.{file_place, put_in}
 use Rattle.diy_io.proofs.EntriesLaws.{entry_set, if_some_at}
 use Rattle.diy_io.proofs.mem_files.MemFiles.put.Goals as goal
 
 pub returns-in-Some-clause-ok : goal.returns-in-Some-clause-ok
 returns-in-Some-clause-ok c =
-    let there : place_of c.args.name.now c.args.self.now.files ≡ Some c.in-Some.place = sym c.place_of.ensures.place ∙ c.in-Some.is in
+    let there : file_place c.args.name.now c.args.self.now.files ≡ Some c.in-Some.place = sym c.place_of.ensures.place ∙ c.in-Some.is in
     let items : c.extend_from_slice.new.self.items ≡ c.args.bytes.now = grind (arith, common_steps) in
     record {
       files =

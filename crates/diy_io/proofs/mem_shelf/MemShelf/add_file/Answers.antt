@@ -1,7 +1,7 @@
 -- That `add_file` begins a file that wasn't there.
 use Rattle.std.proofs.Common.{◌≡◌, ap, sym, ◌∙◌, subst}
 use Rattle.std.specs.Prelude.{None, length, ◌++◌, ◌∷◌, []}
-use Rattle.diy_io.specs.MemFiles.{place_of}
+use Rattle.diy_io.specs.MemFiles.{file_place}
 use Rattle.diy_io.specs.MemShelf.{mode_of, IsPlace}
 use Rattle.diy_io.specs.declared.mem_shelf.Work.TheVariants as works
 use Rattle.diy_io.proofs.ShelfLaws.{after_begun, begins, begins_at}
@@ -9,8 +9,8 @@ use Rattle.diy_io.proofs.mem_shelf.MemShelf.add_file.Goals as goal
 
 pub invariant_of-self : goal.invariant_of-self
 invariant_of-self c =
-    let absent : place_of c.args.name.now c.self-2.inside.held.files ≡ None =
-    ap (λ s. place_of c.args.name.now s.held.files) c.self-2.view_is ∙ c.requires.absent in
+    let absent : file_place c.args.name.now c.self-2.inside.held.files ≡ None =
+    ap (λ s. file_place c.args.name.now s.held.files) c.self-2.view_is ∙ c.requires.absent in
     subst (λ i. IsPlace i c.add.new.self.files) (sym c.add.ensures.place)
     (begins_at c.self-2.inside.held.files c.add.new.self.files c.args.name.now absent (ap (λ h. h.files) c.add.ensures.added))
 

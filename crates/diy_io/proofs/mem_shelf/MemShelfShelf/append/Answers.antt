@@ -2,7 +2,7 @@
 use Rattle.std.proofs.Common.{◌≡◌, ap, ◌∙◌}
 use Rattle.diy_io.specs.Count.{next_count}
 use Rattle.diy_io.specs.Shelf.{Stopped}
-use Rattle.diy_io.specs.MemFiles.{files_of}
+use Rattle.diy_io.specs.MemFiles.{files_named}
 use Rattle.diy_io.specs.MemShelf.{mem_shelf_seen}
 use Rattle.diy_io.proofs.EntriesLaws.{on_ok_is, on_err_is}
 use Rattle.diy_io.proofs.ShelfLaws.{stops_after, on_err_any}
@@ -21,7 +21,7 @@ returns-then-fitting-bytes-clause-failed c =
     let begun : c.begin_call.new.self ≡ record c.grow.new.self { calls = next_count c.grow.new.self.calls } =
     on_ok_is _ _ _ c.begin_call.ensures.ok c.in_ok-begin_call.was in
     stops_after c.args.self.now c.begin_call.new.self c.count_fault.new.self _ c.args.bytes.now c.min-fitting.result
-    (ap (λ s. files_of s.held.files) begun ∙ c.grow.ensures.files)
+    (ap (λ s. files_named s.held.files) begun ∙ c.grow.ensures.files)
     (ap (λ s. s.faults) begun ∙ ap (λ s. s.faults) c.grow.ensures.grown)
     (ap (λ s. s.taken) begun ∙ ap (λ s. s.taken) c.grow.ensures.grown)
     (ap (λ s. s.opened) begun ∙ ap (λ s. s.opened) c.grow.ensures.grown)

@@ -1,7 +1,7 @@
 -- That `open_file` opens a file that is there, and says where there is none.
 use Rattle.std.proofs.Common.{◌≡◌, ℕ, refl, sym, ap, ◌∙◌, Some, None, arith}
 use Rattle.diy_io.specs.Count.{next_count}
-use Rattle.diy_io.specs.MemFiles.{place_of}
+use Rattle.diy_io.specs.MemFiles.{file_place}
 use Rattle.diy_io.specs.MemShelf.{MemShelfState, mode_of}
 use Rattle.diy_io.specs.declared.mem_shelf.Work.TheVariants as works
 use Rattle.diy_io.specs.declared.mem_shelf.MemShelf.TheInside.{Inside}
@@ -23,16 +23,16 @@ the_view inside file opened = record {
 
 pub invariant_of-self : goal.invariant_of-self
 invariant_of-self c =
-    let there : place_of c.as_bytes.result.now c.self.inside.held.files ≡ Some c.in-Some.file = sym c.place_of.ensures.place ∙ c.in-Some.is in
+    let there : file_place c.as_bytes.result.now c.self.inside.held.files ≡ Some c.in-Some.file = sym c.place_of.ensures.place ∙ c.in-Some.is in
     (is_place _ c.self.inside.held.files c.in-Some.file there, omega arith)
 
 pub returns-in-None-clause-missing : goal.returns-in-None-clause-missing
 returns-in-None-clause-missing c = λ same.
     let begun : c.begin_call.new.self ≡ record c.args.self.now { calls = next_count c.args.self.now.calls } =
     on_ok_at _ _ _ c.begin_call.ensures.ok c.is_err.ensures.value c.if-is_err.false in
-    let absent : place_of c.args.name.now c.args.self.now.held.files ≡ None =
-    ap (λ h. place_of c.args.name.now h.files) (sym c.begin_call.ensures.held) ∙ ap (λ s. place_of c.args.name.now s.held.files) (sym c.self.view_is)
-    ∙ ap (λ n. place_of n c.self.inside.held.files) (sym c.as_bytes.ensures.value) ∙ sym c.place_of.ensures.place ∙ c.in-None.is in
+    let absent : file_place c.args.name.now c.args.self.now.held.files ≡ None =
+    ap (λ h. file_place c.args.name.now h.files) (sym c.begin_call.ensures.held) ∙ ap (λ s. file_place c.args.name.now s.held.files) (sym c.self.view_is)
+    ∙ ap (λ n. file_place n c.self.inside.held.files) (sym c.as_bytes.ensures.value) ∙ sym c.place_of.ensures.place ∙ c.in-None.is in
     misses c.args.self.now c.begin_call.new.self c.args.name.now absent c.requires
     (ap (λ s. s.held) begun) (ap (λ s. s.mode) begun) (ap (λ s. s.faults) begun) (ap (λ s. s.taken) begun) (ap (λ s. s.opened) begun)
 
@@ -41,9 +41,9 @@ returns-in-Some-clause-ok c =
     let begun : c.begin_call.new.self ≡ record c.args.self.now { calls = next_count c.args.self.now.calls } =
     on_ok_at _ _ _ c.begin_call.ensures.ok c.is_err.ensures.value c.if-is_err.false in
     let held : c.self.inside.held ≡ c.args.self.now.held = ap (λ s. s.held) c.self.view_is ∙ c.begin_call.ensures.held in
-    let there : place_of c.args.name.now c.args.self.now.held.files ≡ Some c.in-Some.file =
-    ap (λ h. place_of c.args.name.now h.files) (sym held)
-    ∙ ap (λ n. place_of n c.self.inside.held.files) (sym c.as_bytes.ensures.value) ∙ sym c.place_of.ensures.place ∙ c.in-Some.is in
+    let there : file_place c.args.name.now c.args.self.now.held.files ≡ Some c.in-Some.file =
+    ap (λ h. file_place c.args.name.now h.files) (sym held)
+    ∙ ap (λ n. file_place n c.self.inside.held.files) (sym c.as_bytes.ensures.value) ∙ sym c.place_of.ensures.place ∙ c.in-Some.is in
     opens c.args.self.now (the_view c.self.inside c.in-Some.file c.saturating_add-self-inside.result) c.args.name.now c.in-Some.file there held
     (ap (λ h. mode_of h.files (works.Reading c.in-Some.file 0)) held)
     (ap (λ s. s.faults) (c.self.view_is ∙ begun))

@@ -2,7 +2,7 @@
 use Rattle.std.proofs.Common.{◌≡◌, Some, [], subst}
 use Rattle.std.specs.Option.{option_map}
 use Rattle.edge_lists.specs.declared.read.Separators.TheVariants.{BlanksAndCommas}
-use Rattle.edge_lists.specs.Kept.{added, kept}
+use Rattle.edge_lists.specs.KeptEdges.{edges_added, kept_edges}
 use Rattle.edge_lists.specs.Spelled.{edges_of}
 use Rattle.diy_words.specs.Given.{code_notes}
 use Rattle.diy_words.proofs.AfterLaws.{after_made, after_none}
@@ -11,13 +11,13 @@ use Rattle.diy_words.proofs.notes.Notes.take_after.Goals as goal
 pub returns-in-Some : goal.returns-in-Some
 returns-in-Some c =
     after_made (code_notes c.args.self.now) c.args.at (edges_of BlanksAndCommas c.args.value.now) c.read_edges.new.edges c.in-Some.cycle
-    (subst (λ text. Some c.read_edges.new.edges ≡ option_map (added (kept [])) (edges_of BlanksAndCommas text)) c.as_bytes.ensures.value
-    (subst (λ list. Some c.read_edges.new.edges ≡ option_map (added list) (edges_of BlanksAndCommas c.as_bytes.result.now)) c.new-edges.ensures c.in-Ok.ensures))
+    (subst (λ text. Some c.read_edges.new.edges ≡ option_map (edges_added (kept_edges [])) (edges_of BlanksAndCommas text)) c.as_bytes.ensures.value
+    (subst (λ list. Some c.read_edges.new.edges ≡ option_map (edges_added list) (edges_of BlanksAndCommas c.as_bytes.result.now)) c.new-edges.ensures c.in-Ok.ensures))
     c.in-Some.ensures
 
 pub returns-in-None : goal.returns-in-None
 returns-in-None c =
     after_none (code_notes c.args.self.now) c.args.at (edges_of BlanksAndCommas c.args.value.now) c.read_edges.new.edges
-    (subst (λ text. Some c.read_edges.new.edges ≡ option_map (added (kept [])) (edges_of BlanksAndCommas text)) c.as_bytes.ensures.value
-    (subst (λ list. Some c.read_edges.new.edges ≡ option_map (added list) (edges_of BlanksAndCommas c.as_bytes.result.now)) c.new-edges.ensures c.in-Ok.ensures))
+    (subst (λ text. Some c.read_edges.new.edges ≡ option_map (edges_added (kept_edges [])) (edges_of BlanksAndCommas text)) c.as_bytes.ensures.value
+    (subst (λ list. Some c.read_edges.new.edges ≡ option_map (edges_added list) (edges_of BlanksAndCommas c.as_bytes.result.now)) c.new-edges.ensures c.in-Ok.ensures))
     c.in-None.ensures

@@ -1,6 +1,6 @@
 -- What is kept is that of the table of the test.
 use Rattle.std.proofs.Common.{◌≡◌, ◌+◌, ◌∙◌, ap, map, take, fold, max, length}
-use Rattle.arch_trait.specs.Codes.{thread_of}
+use Rattle.arch_trait.specs.Codes.{thread_code_of}
 use Rattle.litmus_text.specs.KeptCells.{all_texts}
 use Rattle.litmus_text.specs.TestText.{columns_of, width_of, row_count}
 use Rattle.litmus_text.proofs.TableLaws.{rows_are}
@@ -11,8 +11,8 @@ returns g c =
     let w = g.A.Arch.writing in
     let places = c.args.test.now.places in
     record {
-      texts = c.set_widths.ensures.kept ∙ ap (λ threads. take 128 (all_texts (columns_of w places (map thread_of threads)))) c.as_slice-threads.ensures.value;
-      widths = c.set_widths.ensures.widths ∙ ap (λ threads. map width_of (columns_of w places (map thread_of threads))) c.as_slice-threads.ensures.value;
-      rows = c.row_count-self-inside.ensures ∙ rows_are w places c.as_slice-threads.result.now ∙ ap (λ threads. row_count (columns_of w places (map thread_of threads))) c.as_slice-threads.ensures.value;
+      texts = c.set_widths.ensures.kept ∙ ap (λ threads. take 128 (all_texts (columns_of w places (map thread_code_of threads)))) c.as_slice-threads.ensures.value;
+      widths = c.set_widths.ensures.widths ∙ ap (λ threads. map width_of (columns_of w places (map thread_code_of threads))) c.as_slice-threads.ensures.value;
+      rows = c.row_count-self-inside.ensures ∙ rows_are w places c.as_slice-threads.result.now ∙ ap (λ threads. row_count (columns_of w places (map thread_code_of threads))) c.as_slice-threads.ensures.value;
       short = c.set_widths.ensures.short;
     }

@@ -6,7 +6,7 @@ use Rattle.litmus_text.proofs.reading.initial.join_braced.Goals as goal
 
 pub returns-in-Some : goal.returns-in-Some
 returns-in-Some c =
-    brace_found (joined_seen c.lines.joined) (joined_seen c.push.new.self) c.lines.number c.lines.text.now c.in-Some.prefix.now c.in-Some.behind.now (text_left c.lines.rest) c.in-Some.ensures.cut c.in_ok-push.ensures
+    brace_found (joined_seen c.lines.joined) (joined_seen c.push.new.self) c.lines.number c.lines.text.now c.in-Some.prefix.now c.in-Some.remainder.now (text_left c.lines.rest) c.in-Some.ensures.cut c.in_ok-push.ensures
     ∙ c.lines.invariant
 
 pub returns-in-Ends : goal.returns-in-Ends

@@ -3,4 +3,4 @@ use Rattle.std.proofs.Common.{length}
 use Rattle.litmus_text.proofs.reading.labels.+judge_labels.Given as goal
 
 abbrev pub decreases-judge_labels : goal.decreases-judge_labels
-decreases-judge_labels l = length l.behind.now
+decreases-judge_labels l = length l.remainder.now

@@ -19,13 +19,13 @@ pub returns-in_err-read_one_cell : goal.returns-in_err-read_one_cell
 returns-in_err-read_one_cell g c =
     let p = err_from_is_err_and c.from_residual.result c.from_residual.ensures.1 in
     rw (p.1, p.2) (fails_map c.in_err-read_one_cell.field-0.0 _ _
-    (λ f h. sym c.loop-i.invariant ∙ row_stops g.A.Arch.writing c.args.number c.args.cells.whole (pieces_left c.loop-i.pieces) (pieces_left c.in-Some.behind) c.in-Some.cell.now c.loop-i.names c.loop-i.columns
+    (λ f h. sym c.loop-i.invariant ∙ row_stops g.A.Arch.writing c.args.number c.args.cells.whole (pieces_left c.loop-i.pieces) (pieces_left c.in-Some.remainder) c.in-Some.cell.now c.loop-i.names c.loop-i.columns
     (take c.loop-i.i (map column_seen c.loop-i.columns)) c.loop-i.i c.index-columns-i.result f (omega (arith, c.loop-i.auto.columns)) c.in-Some.ensures h)
     c.in_err-read_one_cell.ensures)
 
 pub loop-i-preserved : goal.loop-i-preserved
 loop-i-preserved g c =
-    row_step g.A.Arch.writing c.args.number c.args.cells.whole (pieces_left c.loop-i.pieces) (pieces_left c.in-Some.behind) c.in-Some.cell.now c.loop-i.names c.read_one_cell.new.names c.loop-i.columns c.loop-i.i
+    row_step g.A.Arch.writing c.args.number c.args.cells.whole (pieces_left c.loop-i.pieces) (pieces_left c.in-Some.remainder) c.in-Some.cell.now c.loop-i.names c.read_one_cell.new.names c.loop-i.columns c.loop-i.i
     c.index-columns-i.result c.read_one_cell.new.column (omega (arith, c.loop-i.auto.columns)) c.in-Some.ensures c.in_ok-read_one_cell.ensures
     ∙ c.loop-i.invariant
 

@@ -8,19 +8,19 @@ use Rattle.litmus_text.proofs.reading.table.count_heads.Goals as goal
 pub returns-then-not-is_head-clause-heads : goal.returns-then-not-is_head-clause-heads
 returns-then-not-is_head-clause-heads c =
     sym c.heads.invariant.same
-    ∙ heads_bad c.args.number c.heads.threads c.args.cells.whole (pieces_left c.heads.pieces) c.in-Some.cell.now (pieces_left c.in-Some.behind) c.in-Some.ensures (sym c.is_head.ensures ∙ c.if-not-is_head.true)
+    ∙ heads_bad c.args.number c.heads.threads c.args.cells.whole (pieces_left c.heads.pieces) c.in-Some.cell.now (pieces_left c.in-Some.remainder) c.in-Some.ensures (sym c.is_head.ensures ∙ c.if-not-is_head.true)
     ∙ ap Err (sym c.error_at_line.ensures)
 
 pub returns-then-threads-ge-MAX_THREADS-clause-heads : goal.returns-then-threads-ge-MAX_THREADS-clause-heads
 returns-then-threads-ge-MAX_THREADS-clause-heads c =
     sym c.heads.invariant.same
-    ∙ heads_full c.args.number c.heads.threads c.args.cells.whole (pieces_left c.heads.pieces) c.in-Some.cell.now (pieces_left c.in-Some.behind) c.in-Some.ensures (sym c.is_head.ensures ∙ c.if-not-is_head.false)
+    ∙ heads_full c.args.number c.heads.threads c.args.cells.whole (pieces_left c.heads.pieces) c.in-Some.cell.now (pieces_left c.in-Some.remainder) c.in-Some.ensures (sym c.is_head.ensures ∙ c.if-not-is_head.false)
     (not_below_is c.heads.threads MAX_THREADS c.if-threads-ge-MAX_THREADS.true)
     ∙ ap Err (sym c.error_at_line-then-threads-ge-MAX_THREADS.ensures)
 
 pub heads-preserved : goal.heads-preserved
 heads-preserved c = record {
-  same = heads_more c.args.number c.heads.threads c.args.cells.whole (pieces_left c.heads.pieces) c.in-Some.cell.now (pieces_left c.in-Some.behind) c.in-Some.ensures (sym c.is_head.ensures ∙ c.if-not-is_head.false)
+  same = heads_more c.args.number c.heads.threads c.args.cells.whole (pieces_left c.heads.pieces) c.in-Some.cell.now (pieces_left c.in-Some.remainder) c.in-Some.ensures (sym c.is_head.ensures ∙ c.if-not-is_head.false)
       (below_is c.heads.threads MAX_THREADS c.if-threads-ge-MAX_THREADS.false)
       ∙ c.heads.invariant.same;
   few = let k = c.if-threads-ge-MAX_THREADS.false in omega arith;

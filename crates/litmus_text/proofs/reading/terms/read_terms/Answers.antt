@@ -4,7 +4,7 @@ use Rattle.std.proofs.lemmas.Bool.{eqb-true, eqb-false}
 use Rattle.std.proofs.lemmas.List.{map_push}
 use Rattle.final_cond.specs.declared.cond.TheConstants.{MAX_TERMS}
 use Rattle.final_cond.specs.Conditions.{term_view}
-use Rattle.final_cond.specs.Gives.{fault_view}
+use Rattle.final_cond.specs.ConditionAnswers.{fault_view}
 use Rattle.litmus_text.specs.Condition.{terms_here}
 use Rattle.litmus_text.specs.Views.{setting_seen, mentioned_seen, term_read_seen}
 use Rattle.litmus_text.proofs.TermLoops.{stops_at_term, stops_at_full, stops_at_follow, ends_at_follow, goes_on}
@@ -30,7 +30,7 @@ pub terms-preserved : goal.terms-preserved
 terms-preserved g c =
     let f : map term_view c.push.new.self.items ≡ map term_view c.terms.terms.items ++ term_view c.in-Ok.term.0 ∷ [] = rw c.push.ensures.items (map_push term_view c.terms.terms.items c.in-Ok.term.0) in
     goes_on g.A.Arch.writing (setting_seen c.args.here.now) (MAX_TERMS - length c.terms.terms.items) (MAX_TERMS - length c.push.new.self.items) (mentioned_seen c.terms.mentioned) c.terms.rest.now
-    (map term_view c.terms.terms.items) (map term_view c.push.new.self.items) (term_read_seen c.read_term.new.mentioned c.in-Ok.term) c.in-Ok-Term-default.field-0-0 c.in-Ok-Term-default.behind.now
+    (map term_view c.terms.terms.items) (map term_view c.push.new.self.items) (term_read_seen c.read_term.new.mentioned c.in-Ok.term) c.in-Ok-Term-default.field-0-0 c.in-Ok-Term-default.remainder.now
     (terms_here g.A.Arch.writing (setting_seen c.args.here.now) MAX_TERMS (mentioned_seen c.args.mentioned.now) c.args.text.now)
     (room_left (length c.terms.terms.items) (length c.push.new.self.items) (sym c.if-is_full.ensures.value) c.if-is_full.ensures.fits c.push.ensures.len)
     f c.in-Ok.ensures c.in-Ok-Term-default.ensures c.in-Ok-Term-default.field-0-0-is c.terms.invariant
@@ -41,7 +41,7 @@ returns-in-Ok-End-default g c =
     let r : MAX_TERMS - length c.terms.terms.items ≡ (MAX_TERMS - length c.push.new.self.items) + 1 =
     room_left (length c.terms.terms.items) (length c.push.new.self.items) (sym c.if-is_full.ensures.value) c.if-is_full.ensures.fits c.push.ensures.len in
     ends_at_follow g.A.Arch.writing (setting_seen c.args.here.now) (MAX_TERMS - length c.terms.terms.items) (mentioned_seen c.terms.mentioned) c.terms.rest.now
-    (map term_view c.terms.terms.items) (map term_view c.push.new.self.items) (term_read_seen c.read_term.new.mentioned c.in-Ok.term) c.in-Ok-End-default.field-0-0 c.in-Ok-End-default.behind.now
+    (map term_view c.terms.terms.items) (map term_view c.push.new.self.items) (term_read_seen c.read_term.new.mentioned c.in-Ok.term) c.in-Ok-End-default.field-0-0 c.in-Ok-End-default.remainder.now
     (terms_here g.A.Arch.writing (setting_seen c.args.here.now) MAX_TERMS (mentioned_seen c.args.mentioned.now) c.args.text.now)
     (omega arith) f c.in-Ok.ensures c.in-Ok-End-default.ensures c.in-Ok-End-default.field-0-0-is c.terms.invariant
 

@@ -4,13 +4,13 @@ use Rattle.final_cond.specs.declared.cond.TheConstants.{MAX_TERMS}
 use Rattle.final_cond.specs.Conditions.{term_view}
 use Rattle.litmus_text.specs.Condition.{terms_here}
 use Rattle.litmus_text.specs.Views.{setting_seen, mentioned_seen}
-use Rattle.litmus_text.proofs.TermLoops.{behind}
+use Rattle.litmus_text.proofs.TermLoops.{remainder}
 use Rattle.litmus_text.proofs.reading.terms.read_terms.Given as goal
 
 -- the terms so far, and those of the rest, are those of the text
 abbrev pub invariant-terms : goal.invariant-terms
 invariant-terms g l =
-    behind (map term_view l.terms.items) (terms_here g.A.Arch.writing (setting_seen l.here) (MAX_TERMS - length l.terms.items) (mentioned_seen l.mentioned) l.rest)
+    remainder (map term_view l.terms.items) (terms_here g.A.Arch.writing (setting_seen l.here) (MAX_TERMS - length l.terms.items) (mentioned_seen l.mentioned) l.rest)
     ≡ terms_here g.A.Arch.writing (setting_seen l.here) MAX_TERMS (mentioned_seen l.fn.mentioned) l.fn.text
 
 abbrev pub decreases-terms : goal.decreases-terms

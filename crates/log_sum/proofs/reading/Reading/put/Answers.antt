@@ -2,10 +2,10 @@
 use Rattle.std.proofs.Common.{◌≡◌, None, refl, sym, ap, ◌∙◌, inl, inr, subst}
 use Rattle.std.specs.Prelude.{Ok, Result}
 use Rattle.log_sum.specs.declared.errors.LogKind.{LogKind}
-use Rattle.log_sum.specs.Classes.{said_read, row_read, progress_view}
+use Rattle.log_sum.specs.SumViews.{said_read, row_code_said, progress_view}
 use Rattle.log_sum.specs.Facts.{a_kind, a_condition, a_hash}
-use Rattle.log_sum.specs.Lines.{Said, passed_over, begins, counts, a_state, judged, conditioned, hashed, ends, row_said, place_after, fact_said}
-use Rattle.log_sum.specs.Reading.{said_judged}
+use Rattle.log_sum.specs.LogLines.{Said, passed_over, begins, counts, a_state, judged, conditioned, hashed, ends, row_said, place_after, fact_said}
+use Rattle.log_sum.specs.LogReading.{said_judged}
 use Rattle.log_sum.specs.Feeding.{ReadOn}
 use Rattle.log_sum.proofs.FollowLaws.{put_fact, put_place, put_state, running_inside, running_state}
 use Rattle.log_sum.proofs.reading.Reading.put.Goals as goal
@@ -20,9 +20,9 @@ returns-in-Begins-clause-put c = λ seen text follows said.
 
 pub returns-in-State-clause-put : goal.returns-in-State-clause-put
 returns-in-State-clause-put c = λ seen text follows said.
-    let is : said_read c.args.said ≡ row_said (row_read c.in-State.row) = ap said_read c.in-State.is in
-    let running = running_state seen.place text (row_read c.in-State.row) _ _ seen.test (said ∙ is) follows.reading.test in
-    rw is (put_state (progress_view c.put_row.new.self) c.put_row.new.self.table seen (row_read c.in-State.row) c.put_row.result follows.marked
+    let is : said_read c.args.said ≡ row_said (row_code_said c.in-State.row) = ap said_read c.in-State.is in
+    let running = running_state seen.place text (row_code_said c.in-State.row) _ _ seen.test (said ∙ is) follows.reading.test in
+    rw is (put_state (progress_view c.put_row.new.self) c.put_row.new.self.table seen (row_code_said c.in-State.row) c.put_row.result follows.marked
     (c.put_row.ensures.put seen.entries seen.test follows.reading.tests running follows.marked) refl refl
     (λ x e. c.put_row.ensures.place ∙ c.place_after-self.ensures (a_state x) (is ∙ ap row_said e) ∙ ap (λ p. place_after p (a_state x)) follows.reading.place) (c.put_row.ensures.line ∙ follows.reading.line))
 

@@ -3,18 +3,18 @@ use Rattle.std.proofs.Common.{◌≡◌, ◌<◌, ◌≤◌, ◌++◌, [], lengt
 use Rattle.std.specs.Prelude.{Ok, Err}
 use Rattle.std.proofs.lemmas.Result.{err_from_is_err_and}
 use Rattle.log_sum.specs.declared.errors.LogKind.TheVariants.{LineTooLong}
-use Rattle.log_sum.specs.Classes.{progress_view}
-use Rattle.log_sum.specs.Reading.{Seen, fault_at}
+use Rattle.log_sum.specs.SumViews.{progress_view}
+use Rattle.log_sum.specs.LogReading.{LogSeen, fault_at}
 use Rattle.text_laws.specs.Lines.{without_return}
-use Rattle.log_sum.specs.Representing.{Progress, Kept}
-use Rattle.log_sum.specs.Feeding.{Follows}
+use Rattle.log_sum.specs.Representing.{SumProgress, Kept}
+use Rattle.log_sum.specs.Feeding.{FollowsSeen}
 use Rattle.log_sum.proofs.FeedLaws.{line_long, line_read, long_ended, nothing_there, none_there}
 use Rattle.log_sum.proofs.summer.Summer.feed_line.Goals as goal
 
 pub returns-then-prefix-gt-MAX_LINE-clause-judged : goal.returns-then-prefix-gt-MAX_LINE-clause-judged
 returns-then-prefix-gt-MAX_LINE-clause-judged c = λ seen follows.
     let over : 65536 < length (c.args.self.now.held ++ c.args.prefix.now) = omega (arith, c.if-prefix-gt-MAX_LINE.true, length-append c.args.self.now.held c.args.prefix.now) in
-    line_long seen (c.args.self.now.held ++ c.args.prefix.now) over ∙ ap (λ n. fault_at {A = Seen} n LineTooLong) (sym follows.reading.line)
+    line_long seen (c.args.self.now.held ++ c.args.prefix.now) over ∙ ap (λ n. fault_at {A = LogSeen} n LineTooLong) (sym follows.reading.line)
 
 pub returns-then-is_empty-clause-judged : goal.returns-then-is_empty-clause-judged
 returns-then-is_empty-clause-judged c = λ seen follows.
@@ -24,7 +24,7 @@ returns-then-is_empty-clause-judged c = λ seen follows.
     let whole : c.args.self.now.held ++ c.args.prefix.now ≡ c.args.prefix.now = ap (λ t. t ++ c.args.prefix.now) empty in
     let few : length (c.args.self.now.held ++ c.args.prefix.now) ≤ 65536 = omega (arith, c.if-prefix-gt-MAX_LINE.false, ap length whole) in
     line_read _ seen _ c.without_return.result.now c.judge.result few (c.without_return.ensures ∙ ap without_return (sym whole))
-    (c.judge.ensures seen (subst (λ (p : Progress). Follows p seen) (sym (ap (λ (k : Kept). k.progress) c.self.view_is)) follows))
+    (c.judge.ensures seen (subst (λ (p : SumProgress). FollowsSeen p seen) (sym (ap (λ (k : Kept). k.progress) c.self.view_is)) follows))
 
 pub returns-in_err-hold-clause-judged : goal.returns-in_err-hold-clause-judged
 returns-in_err-hold-clause-judged c = λ seen follows.
@@ -38,7 +38,7 @@ returns-in_err-judge-clause-judged c = λ seen follows.
     let whole = ap (λ (k : Kept). k.held) now in
     let few : length (c.args.self.now.held ++ c.args.prefix.now) ≤ 65536 = omega (arith, c.self-2.invariant, ap length whole) in
     rw (p.1, p.2) (line_read (progress_view c.judge-2.new.self) seen (c.args.self.now.held ++ c.args.prefix.now) c.without_return-2.result.now (Err c.in_err-judge.field-0.0) few (c.without_return-2.ensures ∙ ap without_return (c.as_slice.ensures.value ∙ whole))
-    (c.in_err-judge.ensures seen (subst (λ (p : Progress). Follows p seen) (sym (ap (λ (k : Kept). k.progress) now)) follows)))
+    (c.in_err-judge.ensures seen (subst (λ (p : SumProgress). FollowsSeen p seen) (sym (ap (λ (k : Kept). k.progress) now)) follows)))
 
 pub returns-clause-judged : goal.returns-clause-judged
 returns-clause-judged c = λ seen follows.
@@ -46,4 +46,4 @@ returns-clause-judged c = λ seen follows.
     let whole = ap (λ (k : Kept). k.held) now in
     let few : length (c.args.self.now.held ++ c.args.prefix.now) ≤ 65536 = omega (arith, c.self-2.invariant, ap length whole) in
     line_read _ seen _ c.without_return-2.result.now (Ok tt) few (c.without_return-2.ensures ∙ ap without_return (c.as_slice.ensures.value ∙ whole))
-    (c.in_ok-judge.ensures seen (subst (λ (p : Progress). Follows p seen) (sym (ap (λ (k : Kept). k.progress) now)) follows))
+    (c.in_ok-judge.ensures seen (subst (λ (p : SumProgress). FollowsSeen p seen) (sym (ap (λ (k : Kept). k.progress) now)) follows))

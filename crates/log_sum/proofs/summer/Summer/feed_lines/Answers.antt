@@ -16,11 +16,11 @@ loop-prefix-init c = record {
 
 pub loop-prefix-preserved : goal.loop-prefix-preserved
 loop-prefix-preserved c =
-    let cut = cut_parts c.loop-prefix.rest.now (c.in-Some.prefix.now, c.in-Some.behind.now) (sym c.in-Some.ensures.cut) in
+    let cut = cut_parts c.loop-prefix.rest.now (c.in-Some.prefix.now, c.in-Some.remainder.now) (sym c.in-Some.ensures.cut) in
     let fed = c.loop-prefix.invariant in
     record {
       done = fed.done ++ (c.in-Some.prefix.now ++ 10 ∷ []);
-      whole = piece_whole [] fed.done c.in-Some.prefix.now c.in-Some.behind.now c.loop-prefix.rest.now c.args.piece.now cut.whole fed.whole;
+      whole = piece_whole [] fed.done c.in-Some.prefix.now c.in-Some.remainder.now c.loop-prefix.rest.now c.args.piece.now cut.whole fed.whole;
       represents = λ files bytes represents.
           let s = fed.represents files bytes represents in
           subst (λ (t : List ℕ). Represents c.feed_line.new.self files t) (append_assoc bytes fed.done (c.in-Some.prefix.now ++ 10 ∷ []))
@@ -31,11 +31,11 @@ loop-prefix-preserved c =
 pub returns-in_err-feed_line : goal.returns-in_err-feed_line
 returns-in_err-feed_line c = λ files bytes represents.
     let p = err_from_is_err_and c.from_residual.result c.from_residual.ensures.1 in
-    let cut = cut_parts c.loop-prefix.rest.now (c.in-Some.prefix.now, c.in-Some.behind.now) (sym c.in-Some.ensures.cut) in
+    let cut = cut_parts c.loop-prefix.rest.now (c.in-Some.prefix.now, c.in-Some.remainder.now) (sym c.in-Some.ensures.cut) in
     let fed = c.loop-prefix.invariant in
     let s = fed.represents files bytes represents in
-    rw (p.1, p.2) (line_answered c.loop-prefix.self c.feed_line.new.self files (bytes ++ fed.done) c.in-Some.prefix.now c.in-Some.behind.now (bytes ++ c.args.piece.now) s cut.one
-    (piece_whole bytes fed.done c.in-Some.prefix.now c.in-Some.behind.now c.loop-prefix.rest.now c.args.piece.now cut.whole fed.whole) c.in_err-feed_line.field-0.0
+    rw (p.1, p.2) (line_answered c.loop-prefix.self c.feed_line.new.self files (bytes ++ fed.done) c.in-Some.prefix.now c.in-Some.remainder.now (bytes ++ c.args.piece.now) s cut.one
+    (piece_whole bytes fed.done c.in-Some.prefix.now c.in-Some.remainder.now c.loop-prefix.rest.now c.args.piece.now cut.whole fed.whole) c.in_err-feed_line.field-0.0
     (c.in_err-feed_line.ensures.judged s.seen (represents_follows c.loop-prefix.self files (bytes ++ fed.done) s)))
 
 pub returns : goal.returns

@@ -4,16 +4,16 @@ use Rattle.std.specs.List.{list_all}
 use Rattle.std.specs.declared.vec.Vec.{Vec}
 use Rattle.std.specs.declared.alloc.Global.{Global}
 use Rattle.log_sum.specs.declared.test_sum.TestSum.{TestSum}
-use Rattle.log_sum.specs.Classes.{named_view}
-use Rattle.log_sum.specs.Reading.{nothing_seen, input_judged, bytes_judged, lines_of, rest_of, rest_judged}
+use Rattle.log_sum.specs.SumViews.{named_view}
+use Rattle.log_sum.specs.LogReading.{nothing_seen, input_judged, bytes_judged, whole_lines, unfinished, rest_judged}
 use Rattle.log_sum.proofs.summer.Summer.new.Goals as goal
 
 nothing_judged : input_judged [] [] ≡ Ok nothing_seen
-unfolding input_judged bytes_judged lines_of rest_of rest_judged
+unfolding input_judged bytes_judged whole_lines unfinished rest_judged
 nothing_judged = refl
 
-nothing_held : [] ≡ rest_of []
-unfolding rest_of
+nothing_held : [] ≡ unfinished []
+unfolding unfinished
 nothing_held = refl
 
 -- no tests are in order

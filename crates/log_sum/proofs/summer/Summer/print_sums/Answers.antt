@@ -8,8 +8,8 @@ use Rattle.diy_io.specs.PageLaws.{sent_nothing}
 use Rattle.log_sum.specs.declared.test_sum.TestSum.{TestSum}
 use Rattle.log_sum.specs.Representing.{Kept}
 use Rattle.log_sum.specs.Summed.{Summed}
-use Rattle.log_sum.specs.Classes.{named_view, test_view}
-use Rattle.log_sum.specs.SumText.{test_text}
+use Rattle.log_sum.specs.SumViews.{named_view, test_view}
+use Rattle.log_sum.specs.SumText.{summed_text}
 use Rattle.log_sum.proofs.TableLaws.{ordered_first}
 use Rattle.log_sum.proofs.PrintLaws.{lines_go, lines_stop, covers_next, covers_this}
 use Rattle.log_sum.proofs.summer.Summer.print_sums.Goals as goal
@@ -18,7 +18,7 @@ abbrev shown : Bor (Vec ℕ Global) × Bor TestSum → List ℕ × Summed
 shown e = (e.0.now.items, test_view e.1.now)
 
 abbrev text_of : List ℕ × Summed → List ℕ
-text_of test = test_text test.0 test.1
+text_of test = summed_text test.0 test.1
 
 pub loop-name-init : goal.loop-name-init
 loop-name-init g c = record {
@@ -38,7 +38,7 @@ print_sum-requires g c =
 pub loop-name-preserved : goal.loop-name-preserved
 loop-name-preserved g c = record {
   sent = lines_go shown text_of _ _ _ _ _ _ c.loop-name.yielded (c.in-Some.name, c.in-Some.test) _ c.loop-name.invariant.sent c.in_ok-print_sum.ensures.ok
-      (ap (λ t. test_text t (test_view c.in-Some.test.now)) c.as_slice.ensures.value);
+      (ap (λ t. summed_text t (test_view c.in-Some.test.now)) c.as_slice.ensures.value);
   covers = covers_next shown named_view c.loop-name.yielded c.loop-name.name-iterator c.next.new.self (c.in-Some.name, c.in-Some.test)
       (c.in-Some.name.now, c.in-Some.test.now) c.args.self.now.progress.tests refl c.in-Some.ensures.steps c.loop-name.invariant.covers;
   ordered =
@@ -50,7 +50,7 @@ pub returns-in_err-print_sum : goal.returns-in_err-print_sum
 returns-in_err-print_sum g c =
     lines_stop _ shown text_of _ _ _ _ _ _ c.loop-name.yielded (c.in-Some.name, c.in-Some.test) (map named_view c.next.new.self)
     c.args.self.now.progress.tests _ c.from_residual.result c.loop-name.invariant.sent c.in_err-print_sum.ensures.failed
-    (ap (λ t. test_text t (test_view c.in-Some.test.now)) c.as_slice.ensures.value)
+    (ap (λ t. summed_text t (test_view c.in-Some.test.now)) c.as_slice.ensures.value)
     (covers_this shown named_view c.loop-name.yielded c.loop-name.name-iterator c.next.new.self (c.in-Some.name, c.in-Some.test)
     (c.in-Some.name.now, c.in-Some.test.now) c.args.self.now.progress.tests refl c.in-Some.ensures.steps c.loop-name.invariant.covers)
     c.from_residual.ensures.1

@@ -2,16 +2,16 @@
 use Rattle.std.proofs.Common.{◌≡◌, ℕ, true, List, ◌++◌, map}
 use Rattle.std.specs.List.{flat_map, list_all}
 use Rattle.diy_io.specs.Page.{SentAll}
-use Rattle.log_sum.specs.Classes.{named_view, test_view}
+use Rattle.log_sum.specs.SumViews.{named_view, test_view}
 use Rattle.log_sum.specs.Summed.{Summed}
-use Rattle.log_sum.specs.SumText.{test_text}
+use Rattle.log_sum.specs.SumText.{summed_text}
 use Rattle.log_sum.proofs.summer.Summer.print_sums.Given as goal
 
 -- the texts of the tests so far are sent, and the states of those that are left are in byte order
 abbrev pub invariant-loop-name : goal.invariant-loop-name
 invariant-loop-name g l = record {
   sent : SentAll (g.O.Sink.seen l.fn.out) l.fn.page (g.O.Sink.seen l.out) l.page
-      (flat_map (λ (test : List ℕ × Summed). test_text test.0 test.1) (map (λ e. (e.0.now.items, test_view e.1.now)) l.yielded));
+      (flat_map (λ (test : List ℕ × Summed). summed_text test.0 test.1) (map (λ e. (e.0.now.items, test_view e.1.now)) l.yielded));
   covers : map (λ e. (e.0.now.items, test_view e.1.now)) l.yielded ++ map named_view l.name-iterator ≡ l.fn.self.progress.tests;
   ordered : list_all (λ test. test.1.states.in_order) l.name-iterator ≡ true;
 }

@@ -1,6 +1,6 @@
 -- `Table::put_in_order`: the states of the tests so far are in byte order.
 use Rattle.std.proofs.Common.{◌≡◌, length}
-use Rattle.log_sum.specs.Classes.{tests_view}
+use Rattle.log_sum.specs.SumViews.{tests_view}
 use Rattle.log_sum.proofs.TableLaws.{OrderedBelow}
 use Rattle.log_sum.proofs.table.Table.put_in_order.Given as goal
 

@@ -4,10 +4,10 @@ use Rattle.std.specs.Prelude.{nat_lt}
 use Rattle.std.specs.Ordering.{nat_cmp}
 use Rattle.std.specs.Cmp.Lexicographic.{slice_cmp}
 use Rattle.std.specs.BTreeMap.{insert_entry}
-use Rattle.log_sum.specs.States.{form_read}
+use Rattle.log_sum.specs.LogStates.{form_read}
 use Rattle.log_sum.specs.Counts.{last_count}
 use Rattle.log_sum.specs.Facts.{row_with}
-use Rattle.log_sum.specs.Classes.{test_view}
+use Rattle.log_sum.specs.SumViews.{test_view}
 use Rattle.log_sum.proofs.TestLaws.{row_large, row_put, too_large, not_large, new_kept, row_kept}
 use Rattle.log_sum.proofs.test_sum.TestSum.put_new.Goals as goal
 

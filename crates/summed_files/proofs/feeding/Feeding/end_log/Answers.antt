@@ -1,6 +1,6 @@
 -- `Feeding::end_log` answers a fault that the end of a log shows.
 use Rattle.std.proofs.Common.{sym, subst}
-use Rattle.summed_files.specs.Feeding.{IsEndFault}
+use Rattle.summed_files.specs.FileFeeding.{IsEndFault}
 use Rattle.summed_files.proofs.FeedingLaws.{log_refused}
 use Rattle.summed_files.proofs.feeding.Feeding.end_log.Goals as goal
 

@@ -1,12 +1,12 @@
 -- `Feeding::feed` answers a fault that a piece shows, or that the log goes past 2^40 bytes.
 use Rattle.std.proofs.Common.{◌+◌, ◌++◌, take, sym, ap, subst, arith}
-use Rattle.summed_files.specs.Feeding.{IsFault}
+use Rattle.summed_files.specs.FileFeeding.{IsFaultOfLogs}
 use Rattle.summed_files.proofs.FeedingLaws.{piece_refused, piece_full, line_feeds_on}
 use Rattle.summed_files.proofs.feeding.Feeding.feed.Goals as goal
 
 pub returns-in-Err-clause-fed : goal.returns-in-Err-clause-fed
 returns-in-Err-clause-fed c = λ logs bytes reads.
-    subst (IsFault logs (bytes ++ c.args.piece.now)) (sym c.fault_of.ensures)
+    subst (IsFaultOfLogs logs (bytes ++ c.args.piece.now)) (sym c.fault_of.ensures)
     (piece_refused c.feed.new.self logs bytes c.args.piece.now c.min-fitting.result c.in-Err.error
     (omega (arith, c.min-fitting.ensures, reads.read)) (omega (arith, c.min-fitting.ensures)) (c.in-Err.ensures.fed logs bytes reads.represents))
 

@@ -7,7 +7,7 @@ use Rattle.litmus_text.proofs.reading.cuts.Pieces.first.Goals as goal
 
 pub returns-in-Some : goal.returns-in-Some
 returns-in-Some c =
-    ap (pieces_if c.args.self.sign) c.in_ok-text.was ∙ pieces_cut c.args.self.sign c.in_ok-text.text.now c.in-Some.piece.now c.in-Some.behind.now c.in-Some.ensures.parts
+    ap (pieces_if c.args.self.sign) c.in_ok-text.was ∙ pieces_cut c.args.self.sign c.in_ok-text.text.now c.in-Some.piece.now c.in-Some.remainder.now c.in-Some.ensures.parts
     ∙ ap (λ ps. c.in-Some.piece.now ∷ ps) (sym c.new.ensures)
 
 pub returns-in-None : goal.returns-in-None

@@ -1,6 +1,6 @@
 -- The first line of a text ends at its first line feed, or with the text.
 use Rattle.std.proofs.Common.{sym, ap, ◌∙◌, ◌+◌, arith}
-use Rattle.litmus_text.specs.Lines.{kept, lines_from}
+use Rattle.litmus_text.specs.TextLines.{line_kept, lines_from}
 use Rattle.text_laws.proofs.CutLaws.{cut_length}
 use Rattle.litmus_text.proofs.LineLaws.{line_cut, line_last}
 use Rattle.litmus_text.proofs.reading.text.Text.first.Goals as goal
@@ -14,7 +14,7 @@ invariant_of-result c =
 pub returns-in-Some-clause-line : goal.returns-in-Some-clause-line
 returns-in-Some-clause-line c =
     line_cut c.args.self.number c.args.self.bytes.now c.in-Some.line.now c.in-Some.bytes.now c.in-Some.ensures.parts
-    ∙ ap (λ t. kept c.args.self.number t (lines_from (c.args.self.number + 1) c.in-Some.bytes.now)) (sym c.without_return.ensures)
+    ∙ ap (λ t. line_kept c.args.self.number t (lines_from (c.args.self.number + 1) c.in-Some.bytes.now)) (sym c.without_return.ensures)
 
 pub returns-in-Some-clause-shorter : goal.returns-in-Some-clause-shorter
 returns-in-Some-clause-shorter c =

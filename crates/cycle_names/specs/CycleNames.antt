@@ -1,0 +1,43 @@
+-- The name of a cycle.
+-- Source: own, after the names of litmus tests in the diy part of the herdtools manual.
+use Rattle.std.specs.Prelude.{ℕ, Bool, true, ◌==◌, ◌||◌, cond, Option, Some, None, List, [], ◌∷◌, ◌++◌, codes}
+use Rattle.std.specs.List.{list_all, flat_map, join_by}
+use Rattle.std.specs.Char.{is_ascii_alphanumeric}
+use Rattle.std.specs.Str.{bytes_eq}
+use Rattle.relax_edges.specs.declared.edge.Edge.{Edge}
+use Rattle.relax_edges.specs.WordParts.{word_of}
+use Rattle.cycle_names.specs.declared.family.Family.{Family}
+use Rattle.cycle_names.specs.Families.{family_word}
+use Rattle.cycle_names.specs.LinkWords.{link_words}
+use Rattle.cycle_names.specs.Rotations.{found_family, named_rotation}
+
+-- a `+` and a word
+abbrev pub after_plus : List ℕ → List ℕ
+after_plus word = codes "+" ++ word
+
+-- all words are equal
+abbrev pub all_equal : List (List ℕ) → Bool
+all_equal [] = true
+all_equal (word ∷ words) = list_all (bytes_eq word) words
+
+-- one word for all: the first, after a `+` and before an `s`
+abbrev pub plural : List (List ℕ) → List ℕ
+plural [] = []
+plural (word ∷ _) = after_plus word ++ codes "s"
+
+-- what comes after the family in a name: nothing where all words are `po`, else one word for all where all are equal, and else each word
+unfoldable pub links_text : List (List ℕ) → List ℕ
+links_text words = cond (list_all (bytes_eq (codes "po")) words) [] (cond (all_equal words) (plural words) (flat_map after_plus words))
+
+-- the name from a rotation of a cycle: the family and its links where it has a family, else `C+` and the words of the edges
+unfoldable pub name_from : Option Family → List Edge → List ℕ
+name_from (Some family) v = family_word family ++ links_text (link_words v)
+name_from None v = codes "C+" ++ join_by word_of (codes "-") v
+
+-- the name of a cycle
+unfoldable pub name_of : List Edge → List ℕ
+name_of u = name_from (found_family u) (named_rotation u)
+
+-- a byte of names: an ASCII letter or digit, or one of `+`, `-`, `.` and `_`
+abbrev pub is_name_byte : ℕ → Bool
+is_name_byte byte = is_ascii_alphanumeric byte || (byte == 43) || (byte == 45) || (byte == 46) || (byte == 95)

@@ -1,0 +1,38 @@
+-- How the cycle of a test is made from the cycle of its family: a draw picks each link.
+-- Source: own.
+use Rattle.std.specs.Prelude.{ℕ, ◌%◌, if◌then◌else◌, List, [], ◌∷◌, length, filter, slice_index_or}
+use Rattle.relax_edges.specs.declared.kinds.ArchName.{ArchName}
+use Rattle.relax_edges.specs.declared.kinds.Dir.{Dir}
+use Rattle.relax_edges.specs.declared.edge.Edge.{Edge}
+use Rattle.relax_edges.specs.EdgeTable.{source_of, target_of, is_external}
+use Rattle.relax_edges.specs.AllEdges.{edges_in_order}
+use Rattle.family_laws.specs.Filled.{is_choice}
+use Rattle.demo_tests.specs.Draws.{drawn, next_seed}
+
+-- the choices for a link, in the byte order of their words
+unfoldable pub choices_of : ArchName → Dir → Dir → List Edge
+choices_of arch from to = filter (is_choice arch from to) edges_in_order
+
+-- the choice for a link by the number that was drawn
+unfoldable pub choice_of : ArchName → ℕ → Edge → Edge
+choice_of arch number link =
+    let choices = choices_of arch (source_of link) (target_of link) in
+    slice_index_or choices (number % length choices) link
+
+-- the seed after an edge of a family's cycle: there is a draw for each link
+abbrev pub seed_past : ℕ → Edge → ℕ
+seed_past seed slot = if is_external slot then seed else next_seed seed
+
+-- the edge picked for an edge of a family's cycle: an external edge stays as it is
+abbrev pub edge_for : ArchName → ℕ → Edge → Edge
+edge_for arch seed slot = if is_external slot then slot else choice_of arch (drawn (next_seed seed)) slot
+
+-- the edges picked for those of a family's cycle
+abbrev pub links_filled : ArchName → ℕ → List Edge → List Edge
+links_filled arch seed [] = []
+links_filled arch seed (slot ∷ slots) = edge_for arch seed slot ∷ links_filled arch (seed_past seed slot) slots
+
+-- the seed after the draws for some edges of a family's cycle
+abbrev pub seed_after : ℕ → List Edge → ℕ
+seed_after seed [] = seed
+seed_after seed (slot ∷ slots) = seed_after (seed_past seed slot) slots

@@ -1,0 +1,208 @@
+-- What only private functions cite: requests as they are kept, and the parts of a test, of a listing and of a sum.
+use Rattle.std.specs.Prelude.{ℕ, ◌≡◌, ◌⊎◌, List, [], Option, Some, None, Result, Ok, Err}
+use Rattle.std.specs.Borrow.{Bor}
+use Rattle.std.specs.Option.{option_map, option_or}
+use Rattle.arrayvec.specs.ArrayString.{ArrayString}
+use Rattle.relax_edges.specs.declared.edge.Edge.{Edge}
+use Rattle.relax_edges.specs.declared.kinds.ArchName.{ArchName}
+use Rattle.relax_edges.specs.declared.kinds.ObsMode.{ObsMode}
+use Rattle.edge_lists.specs.declared.list.EdgeList.{EdgeList}
+use Rattle.edge_lists.specs.declared.list.EdgeList.TheVariants.{Whole, TooLong}
+use Rattle.cycle_lines.specs.Normed.{name_line}
+use Rattle.diy_io.specs.Shelf.{ShelfSeen}
+use Rattle.diy_io.specs.Taken.{SourceSeen}
+use Rattle.diy_io.specs.Wrote.{SinkSeen}
+use Rattle.diy_words.specs.declared.request.Sought.{Sought}
+use Rattle.diy_words.specs.declared.request.Sought.TheVariants as sought
+use Rattle.listed_tests.specs.declared.ending.ListingEnd.{ListingEnd}
+use Rattle.listed_tests.specs.ListingEnds.{EndsListing}
+use Rattle.listed_tests.specs.Plans.{plan_of}
+use Rattle.listed_tests.specs.declared.listing.Listing.{Listing}
+use Rattle.litmus_text.specs.declared.test.Test.{Test}
+use Rattle.litmus_text.specs.Tests.{test_seen}
+use Rattle.summed_files.specs.declared.sum_end.SumEnd.{SumEnd}
+use Rattle.summed_files.specs.SumEnds.{InputSummed, FilesSummed}
+use Rattle.test_maker.specs.CycleText.{cycle_test, cycle_text}
+use Rattle.test_maker.specs.Refusals.{refusal_of}
+use Rattle.diy_tools.specs.declared.status.Status.{Status}
+use Rattle.diy_tools.specs.declared.status.Refusal.{Refusal}
+use Rattle.diy_tools.specs.declared.status.Refusal.TheVariants as refusals
+use Rattle.diy_words.specs.Requests.{Task, AsksCross}
+use Rattle.diy_words.specs.declared.usage.Usage.{Usage}
+use Rattle.classified_files.specs.declared.errors.FilesEnd.{FilesEnd}
+use Rattle.checked_files.specs.declared.errors.CheckEnd.{CheckEnd}
+use Rattle.diy_tools.specs.CheckAnswers.{EndsChecked, check_status}
+use Rattle.diy_tools.specs.CrossAnswers.{AnswersCross, AnswersChoices}
+use Rattle.diy_tools.specs.FamilyAnswers.{EndsNamed, files_status}
+use Rattle.diy_tools.specs.ArchMachines.{Machine, machine, machine_of}
+use Rattle.diy_tools.specs.NameAnswers.{AnswersLines, AnswersName}
+use Rattle.diy_tools.specs.PrintAnswers.{AnswersEdges}
+use Rattle.diy_tools.specs.Refused.{refused_list, refused_making, refused_showing}
+use Rattle.diy_tools.specs.TestAnswers.{test_name}
+use Rattle.diy_tools.specs.WhyAnswers.{WritesFiles, AnswersRuns, why_files, why_line}
+use Rattle.diy_words.specs.declared.request.Check.{Check}
+use Rattle.diy_words.specs.declared.request.Cross.{Cross}
+use Rattle.diy_words.specs.declared.request.DiyOne.{DiyOne}
+use Rattle.diy_words.specs.declared.request.Why.{Why}
+use Rattle.arch_trait.specs.Threads.{Puts}
+use Rattle.arch_trait.specs.Writing.{Writing}
+use Rattle.checked_files.specs.FilesChecked.{FilesChecked}
+use Rattle.diy_tools.specs.Devices.{DevicesSeen, devices}
+use Rattle.execution_text.specs.Written.{text_of_execution}
+use Rattle.two_runs.specs.declared.shown.TwoRuns.{TwoRuns}
+use Rattle.two_runs.specs.Shown.{why_refused}
+use Rattle.diy_tools.specs.declared.status.Status.TheVariants as statuses
+use Rattle.diy_tools.specs.SumAnswers.{sum_status, AnswersSum}
+
+-- the edges that are kept
+abbrev pub edges_kept : EdgeList → List Edge
+edges_kept (Whole list) = list.items
+edges_kept TooLong = []
+
+-- what is refused of edges as they are kept
+abbrev pub refused_edges : ArchName → EdgeList → Option Refusal
+refused_edges arch (Whole list) = refused_list arch list.items
+refused_edges arch TooLong = Some refusals.TooLong
+
+-- the same, where they are to make a test
+abbrev pub refused_kept : Machine → ObsMode → EdgeList → Option Refusal
+refused_kept m mode list = option_or (refused_edges m.puts.name list) (refused_making (refusal_of m.puts (edges_kept list) mode))
+
+-- the same, where two executions of the test are to be written
+abbrev pub refused_why : Machine → EdgeList → Option Refusal
+refused_why m list = option_or (refused_edges m.puts.name list) (refused_showing (why_refused m.puts (edges_kept list)))
+
+-- a call gives the cycle that edges make, where nothing is refused, or the reason that is given
+abbrev pub MakesCycle : Option Refusal → List Edge → Result (List Edge) Refusal → Type 0
+MakesCycle refused edges (Ok cycle) = (refused ≡ None) × (cycle ≡ edges)
+MakesCycle refused edges (Err refusal) = refused ≡ Some refusal
+
+-- a name as it is kept
+abbrev pub name_kept : Option ArrayString → Option (List ℕ)
+name_kept name = option_map (λ name. name.bytes) name
+
+-- the name that is kept, or that of the cycle where there is none
+abbrev pub chosen_name : Option ArrayString → List Edge → List ℕ
+chosen_name name cycle = test_name (name_kept name) cycle
+
+-- a cycle has no test in a mode, and that is the refusal; or its test is printed
+abbrev pub AnswersCycle : Machine → ObsMode → Option ArrayString → List Edge → Status → SinkSeen → SinkSeen → Type 0
+AnswersCycle m mode name cycle =
+    AnswersEdges (refused_making (refusal_of m.puts cycle mode)) (cycle_text m.puts m.writing mode (chosen_name name cycle) cycle)
+
+-- the edges of a request are refused; or the test of their cycle is printed
+abbrev pub AnswersOne : Machine → DiyOne → Status → SinkSeen → SinkSeen → Type 0
+AnswersOne m request =
+    AnswersEdges (refused_kept m request.mode request.edges)
+    (cycle_text m.puts m.writing request.mode (chosen_name request.name (edges_kept request.edges)) (edges_kept request.edges))
+
+-- a folder that is lent, where one is given
+abbrev pub folder_lent : Option (Bor (List ℕ)) → Option (List ℕ)
+folder_lent folder = option_map (λ folder. folder.now) folder
+
+-- the folder of a request to show two executions, as it is kept
+abbrev pub folder_kept : Why → Option (List ℕ)
+folder_kept request = folder_lent request.folder
+
+-- the name of the test of a request to show two executions, as it is kept
+abbrev pub named_kept : Why → List ℕ
+named_kept request = test_name (name_kept request.name) (edges_kept request.edges)
+
+-- files are written on the shelf and a line is written, or there is no memory, and nothing is written
+abbrev pub WritesInMemory : List (List ℕ × List ℕ) → List ℕ → Status → ShelfSeen → ShelfSeen → SinkSeen → SinkSeen → Type 0
+WritesInMemory files line status old new before after =
+    ((status ≡ statuses.NoMemory) × (new ≡ old) × (after ≡ before)) ⊎ WritesFiles files line status old new before after
+
+-- the edges of a request to show two executions are refused, there is no memory, or the executions of their cycle are written
+abbrev pub AnswersShowing : Machine → Why → Status → ShelfSeen → ShelfSeen → SinkSeen → SinkSeen → Type 0
+AnswersShowing m request =
+    AnswersRuns m (folder_kept request) (named_kept request) (refused_why m request.edges) (edges_kept request.edges)
+
+-- the same of a cycle under a name, on an architecture with this code that is written so
+abbrev pub ShowsOn : Puts → Writing → Option (Bor (List ℕ)) → List ℕ → List Edge → Status → ShelfSeen → ShelfSeen → SinkSeen → SinkSeen → Type 0
+ShowsOn puts writing folder name cycle =
+    AnswersRuns (machine puts writing) (folder_lent folder) name (refused_showing (why_refused puts cycle)) cycle
+
+-- the files of a test with this text and of two executions with these are put on the shelf, and the line on them is written
+abbrev pub PutsRuns : Option (Bor (List ℕ)) → List ℕ → List ℕ → List ℕ → List ℕ → Status → ShelfSeen → ShelfSeen → SinkSeen → SinkSeen → Type 0
+PutsRuns folder name text one two = WritesFiles (why_files (folder_lent folder) name text one two) (why_line name)
+
+-- the same of two executions that aren't texts yet, or there is no memory, and nothing is written
+abbrev pub WritesRunsOf : {A : Type 0} → Option (Bor (List ℕ)) → List ℕ → TwoRuns A → Status → ShelfSeen → ShelfSeen → SinkSeen → SinkSeen → Type 0
+WritesRunsOf folder name runs =
+    WritesInMemory
+    (why_files (folder_lent folder) name runs.text.items (text_of_execution runs.test.places runs.one) (text_of_execution runs.test.places runs.two))
+    (why_line name)
+
+-- the tests of the choices from lists are written, as a request asks for them; or there is no memory, and nothing is
+abbrev pub CrossesFor : Cross → List (List (List Edge)) → Status → ShelfSeen → ShelfSeen → SinkSeen → SinkSeen → Type 0
+CrossesFor request = AnswersChoices (machine_of request.arch) request.mode (folder_lent request.folder)
+
+-- the same on an architecture with this code that is written so
+abbrev pub CrossesOn : Puts → Writing → ObsMode → Option (Bor (List ℕ)) → List (List (List Edge)) → Status → ShelfSeen → ShelfSeen → SinkSeen → SinkSeen → Type 0
+CrossesOn puts writing mode folder = AnswersChoices (machine puts writing) mode (folder_lent folder)
+
+-- the answer for the cycles that are sought, as they are kept
+abbrev pub AnswersKept : ArchName → Sought → Status → SourceSeen → SourceSeen → SinkSeen → SinkSeen → Type 0
+AnswersKept arch (sought.Edges list) status old new before after =
+    (new ≡ old) × AnswersEdges (refused_edges arch list) (name_line (edges_kept list)) status before after
+AnswersKept arch (sought.Named source) status old new before after =
+    (new ≡ old) × AnswersName arch source.word source.name.now status before after
+AnswersKept arch sought.Lines status old new before after = AnswersLines arch status old new before after
+
+-- a call gives the test of a cycle, or the first reason why it has none
+abbrev pub MakesTestOf : Machine → ObsMode → List Edge → Test → Result (Unit {0}) Refusal → Type 0
+MakesTestOf m mode cycle test (Ok _) =
+    (refused_making (refusal_of m.puts cycle mode) ≡ None) × (test_seen test ≡ cycle_test m.puts m.writing mode cycle)
+MakesTestOf m mode cycle test (Err refusal) = refused_making (refusal_of m.puts cycle mode) ≡ Some refusal
+
+-- what is answered of words that ask for the tests of choices
+abbrev pub AnswersCrossing : Result Task Usage → Status → ShelfSeen → ShelfSeen → SinkSeen → SinkSeen → Type 0
+AnswersCrossing (Ok (AsksCross asked)) status old new before after = AnswersCross asked status old new before after
+AnswersCrossing _ status old new before after = ⊥
+
+-- what a listing that is lent leaves, on an architecture
+abbrev pub EndsOn : Machine → Listing → ListingEnd → ShelfSeen → ShelfSeen → SinkSeen → SinkSeen → Type 0
+EndsOn m listing end old new before after =
+    EndsListing (λ (sink : SinkSeen). sink)
+    (plan_of m.puts m.writing (record { threads = listing.threads; accesses = listing.accesses; mode = listing.mode; folder = listing.folder })
+    listing.relaxes listing.limits)
+    listing.after end old new before after
+
+-- the files of the words at these places are classified, or there is a reason why they can't be; no file changes
+pub record ClassifiesNamedFiles (words : List (List ℕ)) (arch : ArchName) (files : List ℕ) (status : Status) (old new : ShelfSeen) (before after : SinkSeen) : Type 0 where
+  pub end : FilesEnd
+  pub ends : EndsNamed words arch files end old new before after
+  pub status_is : status ≡ files_status end
+
+-- the execution in one file is checked of the test in another, or there is a reason why it can't be; no file changes
+pub record ChecksFiles (words : List (List ℕ)) (arch : ArchName) (test execution : ℕ) (status : Status) (old new : ShelfSeen) (before after : SinkSeen) : Type 0 where
+  pub end : CheckEnd
+  pub ends : EndsChecked words (record { arch = arch; test = test; execution = execution }) end old new before after
+  pub status_is : status ≡ check_status end
+
+-- the same by the request, and how the checking itself ends
+abbrev pub ChecksFor : List (List ℕ) → Check → Status → ShelfSeen → ShelfSeen → SinkSeen → SinkSeen → Type 0
+ChecksFor words request = ChecksFiles words request.arch request.test request.execution
+
+-- the checking that words ask for ended so, by what is seen of the devices before and after
+abbrev pub CheckEndsFor : List (List ℕ) → Check → CheckEnd → ShelfSeen → ShelfSeen → SinkSeen → SinkSeen → Type 0
+CheckEndsFor words request end old new before after =
+    FilesChecked request.arch (machine_of request.arch).writing old new words request.test request.execution before after end
+
+-- the input is summed as one log, or there is a reason why it can't be
+pub record SumsInput (status : Status) (old new : SourceSeen) (before after : SinkSeen) : Type 0 where
+  pub end : SumEnd
+  pub summed : InputSummed old new before after end
+  pub status_is : status ≡ sum_status end
+
+-- the logs that the words after the first name are summed, or there is a reason why they can't be; no file changes
+pub record SumsFiles (words : List (List ℕ)) (status : Status) (old new : ShelfSeen) (before after : SinkSeen) : Type 0 where
+  pub end : SumEnd
+  pub summed : FilesSummed old new words 1 before after end
+  pub files : new.files ≡ old.files
+  pub status_is : status ≡ sum_status end
+
+-- the logs that the words name are summed, or the input where they name none, by what is seen of the devices
+abbrev pub AnswersSumOf : List (List ℕ) → Status → DevicesSeen → DevicesSeen → Type 0
+AnswersSumOf words status old new = AnswersSum words status (devices old) (devices new)

@@ -1,0 +1,179 @@
+-- When an edge of a cycle stands in an execution of a program, and the tests by which that is decided.
+-- Source: own.
+use Rattle.std.specs.Prelude.{ℕ, ◌+◌, ◌==◌, ◌&&◌, Bool, true, false, not, nat_lt, List, [], ◌∷◌, Option, Some, None}
+use Rattle.std.specs.List.{list_all}
+use Rattle.relax_edges.specs.declared.kinds.Sd.{Sd}
+use Rattle.relax_edges.specs.declared.kinds.Sd.TheVariants.{Same, Diff}
+use Rattle.relax_edges.specs.declared.kinds.Reach.{Reach}
+use Rattle.relax_edges.specs.declared.kinds.Reach.TheVariants.{Internal, External}
+use Rattle.relax_edges.specs.declared.kinds.Com.{Com}
+use Rattle.relax_edges.specs.declared.kinds.Com.TheVariants as coms
+use Rattle.relax_edges.specs.declared.kinds.Pick.{Pick}
+use Rattle.relax_edges.specs.declared.kinds.Pick.TheVariants as picks
+use Rattle.relax_edges.specs.declared.kinds.FenceKind.{FenceKind}
+use Rattle.relax_edges.specs.declared.kinds.FenceKind.TheVariants as fences
+use Rattle.relax_edges.specs.declared.kinds.DepKind.{DepKind}
+use Rattle.relax_edges.specs.declared.kinds.DepKind.TheVariants as deps
+use Rattle.relax_edges.specs.declared.kinds.Kind.{Kind}
+use Rattle.relax_edges.specs.declared.kinds.Kind.TheVariants as edges
+use Rattle.relax_edges.specs.declared.kinds.Mark.{Mark}
+use Rattle.relax_edges.specs.declared.kinds.Mark.TheVariants.{Plain, Acquire, Release}
+use Rattle.relax_edges.specs.declared.edge.Edge.{Edge}
+use Rattle.relax_edges.specs.EdgeTable.{source_of, target_of, reach_of, sd_of, kind_of, source_mark, target_mark, same_dir}
+use Rattle.micro_ops.specs.declared.operation.Barrier.{Barrier}
+use Rattle.micro_ops.specs.declared.operation.Barrier.TheVariants as barriers
+use Rattle.resolution_laws.specs.Resolution.{edge_at, event_after}
+use Rattle.exec_meaning.specs.declared.edges.Tie.{Tie}
+use Rattle.exec_meaning.specs.declared.edges.Tie.TheVariants as ties
+use Rattle.program_meaning.specs.declared.WriteAt.{WriteAt}
+use Rattle.program_meaning.specs.Accesses.{Access, Barred, Visit}
+use Rattle.program_meaning.specs.Executions.{Execution, same_write}
+use Rattle.program_meaning.specs.Coherence.{coherence_place, source_at}
+use Rattle.program_meaning.specs.Programs.{Program, accesses_in, visits_in}
+use Rattle.program_meaning.specs.Standing.{AccessAt, NamedAccess, access_at, IsEvent, Stands, mask_of, is_in_mask}
+
+-- edge i of a cycle stands in an execution of a program: event i and the one after it are there, and the edge stands from
+-- the first to the second
+pub record EdgeStands (es : List Edge) (p : Program) (x : Execution) (i : ℕ) : Type 0 where
+  pub source : NamedAccess
+  pub target : NamedAccess
+  pub leaves : IsEvent es (visits_in p x) i source
+  pub enters : IsEvent es (visits_in p x) (event_after es i) target
+  pub stands : Stands (accesses_in p x) x (edge_at es i) source target
+
+-- two marks are the same
+abbrev pub same_mark : Mark → Mark → Bool
+same_mark Plain Plain = true
+same_mark Acquire Acquire = true
+same_mark Release Release = true
+same_mark _ _ = false
+
+-- two sides of a fence order the same accesses
+abbrev pub same_pick : Pick → Pick → Bool
+same_pick picks.R picks.R = true
+same_pick picks.W picks.W = true
+same_pick picks.RW picks.RW = true
+same_pick _ _ = false
+
+-- two fences are of the same kind
+abbrev pub same_fence : FenceKind → FenceKind → Bool
+same_fence fences.MFence fences.MFence = true
+same_fence fences.Sync fences.Sync = true
+same_fence fences.LwSync fences.LwSync = true
+same_fence fences.Eieio fences.Eieio = true
+same_fence fences.ISync fences.ISync = true
+same_fence fences.DmbSy fences.DmbSy = true
+same_fence fences.DmbLd fences.DmbLd = true
+same_fence fences.DmbSt fences.DmbSt = true
+same_fence (fences.Fence pred succ) (fences.Fence pred' succ') = same_pick pred pred' && same_pick succ succ'
+same_fence _ _ = false
+
+-- two barriers are the same
+abbrev pub same_barrier : Barrier → Barrier → Bool
+same_barrier (barriers.Fence kind) (barriers.Fence kind') = same_fence kind kind'
+same_barrier barriers.Isb barriers.Isb = true
+same_barrier _ _ = false
+
+-- the only barrier is this one
+abbrev pub is_alone : Barrier → List Barred → Bool
+is_alone kind [] = false
+is_alone kind (b ∷ []) = same_barrier b.kind kind
+is_alone kind (b ∷ c ∷ more) = false
+
+-- there is no barrier
+abbrev pub is_none : List Barred → Bool
+is_none [] = true
+is_none (b ∷ more) = false
+
+-- the place of an edge's target is that of its source, or another, as the edge says
+abbrev pub are_at : Sd → ℕ → ℕ → Bool
+are_at Same p q = p == q
+are_at Diff p q = not (p == q)
+
+-- what is read is this write
+abbrev pub is_source : Option WriteAt → WriteAt → Bool
+is_source None e = false
+is_source (Some w) e = same_write w e
+
+-- an access comes before another in the coherence order
+abbrev pub comes_before : List (List Access) → Execution → AccessAt → AccessAt → Bool
+comes_before threads x e f = nat_lt (coherence_place threads x e.name e.access) (coherence_place threads x f.name f.access)
+
+-- two accesses communicate so: the second reads the first, or comes after it in the coherence order
+abbrev pub communicates : Com → List (List Access) → Execution → AccessAt → AccessAt → Bool
+communicates coms.Rf threads x e f = is_source (source_at threads x f.name) e.name
+communicates coms.Fr threads x e f = comes_before threads x e f
+communicates coms.Ws threads x e f = comes_before threads x e f
+
+-- two accesses communicate as an edge says, if it is a communication
+abbrev pub communicates_by : Kind → List (List Access) → Execution → AccessAt → AccessAt → Bool
+communicates_by (edges.Com kind _) threads x e f = communicates kind threads x e f
+communicates_by (edges.Po _ _ _) threads x e f = true
+communicates_by (edges.Fenced _ _ _ _) threads x e f = true
+communicates_by (edges.Dep _ _ _) threads x e f = true
+communicates_by (edges.Data _) threads x e f = true
+
+-- an internal edge leads to the next access of its thread, an external one to another thread
+abbrev pub reaches : Reach → WriteAt → WriteAt → Bool
+reaches Internal e f = (f.thread == e.thread) && (f.access == e.access + 1)
+reaches External e f = not (e.thread == f.thread)
+
+-- an edge joins two accesses
+abbrev pub joins : List (List Access) → Execution → Edge → AccessAt → AccessAt → Bool
+joins threads x edge e f =
+    same_dir e.access.dir (source_of edge) && (same_dir f.access.dir (target_of edge) &&
+    (are_at (sd_of edge) e.access.place f.access.place &&
+    (communicates_by (kind_of edge) threads x e f && reaches (reach_of edge) e.name f.name)))
+
+-- two answers are the same
+abbrev pub same_answer : Bool → Bool → Bool
+same_answer true b = b
+same_answer false b = not b
+
+-- the second of two accesses depends on the first by these address and data masks, and by control or not
+abbrev pub depends : List (List Access) → NamedAccess → Visit → ℕ → ℕ → Bool → Bool
+depends threads e f address stored controlled =
+    (f.address_mask == address) && ((f.data_mask == stored) && same_answer controlled (is_in_mask threads e f.control_mask))
+
+-- the second depends on the first in this way alone
+abbrev pub depends_as : Tie → List (List Access) → NamedAccess → Visit → Bool
+depends_as ties.Nothing threads e f = depends threads e f 0 0 false
+depends_as ties.Address threads e f = depends threads e f (mask_of threads e) 0 false
+depends_as ties.Data threads e f = depends threads e f 0 (mask_of threads e) false
+depends_as ties.Control threads e f = depends threads e f 0 0 true
+
+-- each barrier waits for the first access
+abbrev pub barriers_wait : List (List Access) → NamedAccess → List Barred → Bool
+barriers_wait threads e bs = list_all (λ (b : Barred). is_in_mask threads e b.control) bs
+
+-- there is this barrier alone before the second access, it waits for the first, and so does the second
+abbrev pub waits : Barrier → List (List Access) → NamedAccess → Visit → Bool
+waits kind threads e f = is_alone kind f.barriers && (depends_as ties.Control threads e f && barriers_wait threads e f.barriers)
+
+-- the next access depends on a read as this dependency says
+abbrev pub depends_by : DepKind → List (List Access) → NamedAccess → Visit → Bool
+depends_by deps.Addr threads e f = is_none f.barriers && depends_as ties.Address threads e f
+depends_by deps.Ctrl threads e f = is_none f.barriers && depends_as ties.Control threads e f
+depends_by deps.CtrlIsync threads e f = waits (barriers.Fence fences.ISync) threads e f
+depends_by deps.CtrlIsb threads e f = waits barriers.Isb threads e f
+
+-- the next access of the thread is tied to the first as an internal edge says
+abbrev pub ties_by : Kind → List (List Access) → NamedAccess → Visit → Bool
+ties_by (edges.Com _ Internal) threads e f = is_none f.barriers && depends_as ties.Nothing threads e f
+ties_by (edges.Com _ External) threads e f = true
+ties_by (edges.Po _ _ _) threads e f = is_none f.barriers && depends_as ties.Nothing threads e f
+ties_by (edges.Fenced kind _ _ _) threads e f = is_alone (barriers.Fence kind) f.barriers && depends_as ties.Nothing threads e f
+ties_by (edges.Dep kind _ _) threads e f = depends_by kind threads e f
+ties_by (edges.Data _) threads e f = is_none f.barriers && depends_as ties.Data threads e f
+
+-- an edge stands between two accesses
+abbrev pub stands : List (List Access) → Execution → Edge → NamedAccess → NamedAccess → Bool
+stands threads x edge e f =
+    joins threads x edge (access_at e) (access_at f) &&
+    (same_mark e.visit.mark (source_mark edge) && (same_mark f.visit.mark (target_mark edge) && ties_by (kind_of edge) threads e f.visit))
+
+-- two accesses are there, and an edge stands between them
+abbrev pub stands_if : List (List Access) → Execution → Edge → WriteAt → Option Visit → WriteAt → Option Visit → Bool
+stands_if threads x edge n None m target = false
+stands_if threads x edge n (Some e) m None = false
+stands_if threads x edge n (Some e) m (Some f) = stands threads x edge (record { name = n; visit = e }) (record { name = m; visit = f })

@@ -1,0 +1,25 @@
+-- What code that reads a text answers, as the definitions see it.
+use Rattle.std.specs.Prelude.{◌≡◌, ℕ, List, Result, Ok, Err}
+use Rattle.std.specs.Borrow.{Bor}
+use Rattle.final_cond.specs.declared.cond.Left.{Left}
+use Rattle.final_cond.specs.declared.cond.Term.{Term}
+use Rattle.final_cond.specs.declared.errors.CondFault.{CondFault}
+use Rattle.final_cond.specs.Conditions.{LeftSeen, TermSeen, left_view, term_view}
+use Rattle.final_cond.specs.ConditionReading.{Fault}
+
+-- a fault, with the text from there on as bytes
+abbrev pub fault_view : CondFault → Fault
+fault_view fault = record { kind = fault.kind; rest = fault.rest.now }
+
+-- an answer is what the definition gives, where view says what it means
+abbrev pub GivesCondition : {X Y : Type 0} → (X → Y) → Result X CondFault → Result Y Fault → Type 0
+GivesCondition view (Ok x) read = read ≡ Ok (view x)
+GivesCondition view (Err fault) read = read ≡ Err (fault_view fault)
+
+-- a left side and the text after it, as bytes
+abbrev pub left_and_rest : Left × Bor (List ℕ) → LeftSeen × List ℕ
+left_and_rest left = (left_view left.0, left.1.now)
+
+-- a term and the text after it, as bytes
+abbrev pub term_and_rest : Term × Bor (List ℕ) → TermSeen × List ℕ
+term_and_rest term = (term_view term.0, term.1.now)

@@ -1,0 +1,17 @@
+-- The conditions whose text reads back.
+use Rattle.std.specs.Prelude.{◌≡◌, ◌^◌, ◌<◌, ◌≤◌, true, length}
+use Rattle.std.specs.List.{AllByRecursion}
+use Rattle.final_cond.specs.declared.cond.TheConstants.{MAX_TERMS}
+use Rattle.final_cond.specs.Conditions.{TermSeen, CondSeen}
+use Rattle.final_cond.specs.ConditionReading.{has_form}
+
+-- a term of a register of a thread below 64 or of a place, by names of their forms, and a value of 32 bits
+pub record IsFormedTerm (term : TermSeen) : Type 0 where
+  pub form : has_form term.left ≡ true
+  pub value : term.value < 2 ^ 32
+
+-- a condition of 1 to `MAX_TERMS` such terms
+pub record IsFormedCondition (condition : CondSeen) : Type 0 where
+  pub some : 0 < length condition.terms
+  pub few : length condition.terms ≤ MAX_TERMS
+  pub terms : AllByRecursion IsFormedTerm condition.terms

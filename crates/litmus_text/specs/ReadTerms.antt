@@ -1,0 +1,27 @@
+-- The terms of a printed condition.
+-- Source: own.
+use Rattle.std.specs.Prelude.{◌≡◌, ℕ, Bool, true, ◌&&◌, nat_lt, is_some, List, [], ◌∷◌}
+use Rattle.final_cond.specs.Conditions.{LeftSeen, InRegister, AtPlace, TermSeen}
+use Rattle.final_cond.specs.ConditionReadBack.{IsFormedTerm}
+use Rattle.arch_trait.specs.PlaceNames.{number_in, names_added}
+use Rattle.arch_trait.specs.Writing.{Writing}
+
+-- the table after a term's place was mentioned
+abbrev pub left_mention : List (List ℕ) → LeftSeen → List (List ℕ)
+left_mention s (InRegister thread name) = s
+left_mention s (AtPlace name) = names_added s name
+
+-- the table after the places of all terms were mentioned
+abbrev pub terms_mention : List (List ℕ) → List TermSeen → List (List ℕ)
+terms_mention s [] = s
+terms_mention s (term ∷ terms) = terms_mention (left_mention s term.left) terms
+
+-- a left side is a register of a thread of the test that tests use, or a place of a table
+abbrev pub is_known : Writing → ℕ → List (List ℕ) → LeftSeen → Bool
+is_known w threads table (InRegister thread name) = nat_lt thread threads && is_some (number_in w.registers name)
+is_known w threads table (AtPlace name) = is_some (number_in table name)
+
+-- a term that reads back
+pub record TermFits (w : Writing) (threads : ℕ) (table : List (List ℕ)) (term : TermSeen) : Type 0 where
+  pub formed : IsFormedTerm term
+  pub known : is_known w threads table term.left ≡ true

@@ -1,0 +1,55 @@
+-- The lines of a text, with their numbers.
+-- Source: own, as the litmus format is read line by line.
+use Rattle.std.specs.Prelude.{ℕ, ◌+◌, ◌-◌, Bool, cond, ◌&&◌, ◌||◌, List, [], ◌∷◌, Result, Ok, Err, codes, length, take, drop}
+use Rattle.std.specs.List.{list_all, slice_split}
+use Rattle.std.specs.Str.{bytes_eq}
+use Rattle.text_laws.specs.Blanks.{is_blank, trim_blanks}
+use Rattle.text_laws.specs.Lines.{is_line_feed, without_return}
+use Rattle.litmus_text.specs.declared.errors.TestKind.{TestKind}
+use Rattle.litmus_text.specs.declared.errors.TextError.{TextError}
+
+-- the lines that aren't passed over, each with its number among all lines, and the number after that of the last line
+pub data Lines : Type 0 where
+  ends : (n : ℕ) → Lines
+  line : (n : ℕ) (text : List ℕ) (rest : Lines) → Lines
+
+-- a comment, from `(*` to `*)`
+abbrev pub is_comment : List ℕ → Bool
+is_comment text = bytes_eq (take 2 text) (codes "(*") && bytes_eq (drop (length text - 2) text) (codes "*)")
+
+-- a line that is passed over: blanks alone, or a comment between blanks
+unfoldable pub is_passed : List ℕ → Bool
+is_passed text = list_all is_blank text || is_comment (trim_blanks text)
+
+-- a line before others, unless it is passed over
+abbrev pub line_kept : ℕ → List ℕ → Lines → Lines
+line_kept n text rest = cond (is_passed text) rest (line n text rest)
+
+-- what comes after the last line feed: a line, if there is a byte
+abbrev pub last_line : ℕ → List ℕ → Lines
+last_line n [] = ends n
+last_line n (byte ∷ text) = line_kept n (byte ∷ text) (ends (n + 1))
+
+-- the lines of the pieces between line feeds, numbered from n on
+unfoldable pub lines_in : ℕ → List (List ℕ) → Lines
+lines_in n [] = ends n
+lines_in n (piece ∷ []) = last_line n piece
+lines_in n (piece ∷ next ∷ pieces) = line_kept n (without_return piece) (lines_in (n + 1) (next ∷ pieces))
+
+-- the lines of a text, numbered from n on
+unfoldable pub lines_from : ℕ → List ℕ → Lines
+lines_from n text = lines_in n (slice_split is_line_feed text)
+
+-- A part is read from the lines that are left: the answer is what it means and the lines after it, or the fault.
+abbrev pub TextRead : Type 0 → Type 0
+TextRead A = Result (A × Lines) TextError
+
+infixl 10 ◌>>=◌
+-- what is read first, and then the rest by it, unless there is a fault
+abbrev pub ◌>>=◌ : {A B : Type 0} → Result A TextError → (A → Result B TextError) → Result B TextError
+(Ok x) >>= f = f x
+(Err e) >>= f = Err e
+
+-- a fault at a line
+abbrev pub bad : {A : Type 0} → TestKind → ℕ → Result A TextError
+bad kind n = Err (record { line = n; kind = kind })

@@ -1,0 +1,133 @@
+-- The reading of logs, line by line: the facts of all logs, or the first fault.
+-- Source: own.
+use Rattle.std.specs.Prelude.{ℕ, ◌+◌, ◌==◌, nat_lt, Bool, cond, List, [], ◌∷◌, ◌++◌, length, min, Option, Some, None, Result, Ok, Err}
+use Rattle.std.specs.List.{slice_split}
+use Rattle.text_laws.specs.Lines.{without_return, but_last, last_of}
+use Rattle.log_sum.specs.declared.errors.LogKind.{LogKind}
+use Rattle.log_sum.specs.declared.errors.LogKind.TheVariants.{Truncated, LineTooLong}
+use Rattle.log_sum.specs.declared.errors.LogError.{LogError}
+use Rattle.log_sum.specs.declared.kinds.Place.{Place}
+use Rattle.log_sum.specs.declared.kinds.Place.TheVariants.{Outside}
+use Rattle.log_sum.specs.Counts.{last_count}
+use Rattle.log_sum.specs.Facts.{Fact, Entry, facts_of, fact_fault}
+use Rattle.log_sum.specs.LogLines.{Said, log_line_said, place_after, fact_said, test_after}
+
+-- the facts so far, the test of the running block, the place in it, and the number of the next line
+pub record LogSeen : Type 0 where
+  pub entries : List Entry
+  pub test : List ℕ
+  pub place : Place
+  pub line : ℕ
+
+-- nothing has been read
+abbrev pub nothing_seen : LogSeen
+nothing_seen = record { entries = []; test = []; place = Outside; line = 1 }
+
+infixl 1 ◌>>=◌
+-- what is read next, where there was no fault
+abbrev pub ◌>>=◌ : {A B : Type 0} → Result A LogError → (A → Result B LogError) → Result B LogError
+(Ok x) >>= next = next x
+(Err error) >>= next = Err error
+
+-- a fault at the next line
+abbrev pub fault_at : {A : Type 0} → ℕ → LogKind → Result A LogError
+fault_at line kind = Err (record { line = line; kind = kind })
+
+-- the greatest number of bytes of a line, its line feed not counted
+abbrev pub max_line : ℕ
+max_line = 65536
+
+-- a line has more bytes than that
+abbrev pub is_too_long : List ℕ → Bool
+is_too_long line = nat_lt max_line (length line)
+
+-- the number of the next line; it stops at the greatest count
+abbrev pub next_line : ℕ → ℕ
+next_line line = min (line + 1) last_count
+
+-- what was seen with a fact more, or the fault of that fact
+abbrev pub fact_judged : LogSeen → Fact → Option LogKind → Result LogSeen LogError
+fact_judged seen fact (Some kind) = fault_at seen.line kind
+fact_judged seen fact None =
+    Ok (record seen { entries = seen.entries ++ (record { test = seen.test; fact = fact }) ∷ [] })
+
+-- what was seen with the fact of a line, if it has one, or the fault of that fact
+abbrev pub fact_put : LogSeen → Option Fact → Result LogSeen LogError
+fact_put seen None = Ok seen
+fact_put seen (Some fact) = fact_judged seen fact (fact_fault (facts_of seen.test seen.entries) fact)
+
+-- the next line
+abbrev pub at_next_line : LogSeen → Result LogSeen LogError
+at_next_line seen = Ok (record seen { line = next_line seen.line })
+
+-- what was seen, with what a line says
+abbrev pub said_to : LogSeen → Said → Result LogSeen LogError
+said_to seen said =
+    fact_put (record seen { test = test_after seen.test said; place = place_after seen.place said }) (fact_said said)
+
+-- what was seen, with what a line says, or the fault of the line
+abbrev pub said_judged : LogSeen → Result Said LogKind → Result LogSeen LogError
+said_judged seen (Err kind) = fault_at seen.line kind
+said_judged seen (Ok said) = said_to seen said
+
+-- what was seen after a line, at the number of the next line
+abbrev pub said_put : LogSeen → Result Said LogKind → Result LogSeen LogError
+said_put seen said = said_judged seen said >>= at_next_line
+
+-- a line that is given without its end
+unfoldable pub text_judged : LogSeen → List ℕ → Result LogSeen LogError
+text_judged seen text = said_put seen (log_line_said seen.place text)
+
+-- a line that a line feed ends
+unfoldable pub line_judged : LogSeen → List ℕ → Result LogSeen LogError
+line_judged seen line = cond (is_too_long line) (fault_at seen.line LineTooLong) (text_judged seen (without_return line))
+
+-- such lines, one after another, up to the first fault
+abbrev pub lines_judged : LogSeen → List (List ℕ) → Result LogSeen LogError
+lines_judged seen [] = Ok seen
+lines_judged seen (line ∷ rest) = line_judged seen line >>= λ next. lines_judged next rest
+
+-- all pieces but the last
+unfoldable pub whole_lines : List ℕ → List (List ℕ)
+whole_lines bytes = but_last (slice_split (λ byte. byte == 10) bytes)
+
+-- the text after the last line feed
+unfoldable pub unfinished : List ℕ → List ℕ
+unfinished bytes = last_of (slice_split (λ byte. byte == 10) bytes)
+
+-- a line that goes on: its one fault is that it is too long
+unfoldable pub rest_judged : LogSeen → List ℕ → Result LogSeen LogError
+rest_judged seen line = cond (is_too_long line) (fault_at seen.line LineTooLong) (Ok seen)
+
+-- the bytes of a file so far
+unfoldable pub bytes_judged : LogSeen → List ℕ → Result LogSeen LogError
+bytes_judged seen bytes = lines_judged seen (whole_lines bytes) >>= λ next. rest_judged next (unfinished bytes)
+
+-- a last line that no line feed ends, if it has a byte
+unfoldable pub last_judged : LogSeen → List ℕ → Result LogSeen LogError
+last_judged seen [] = Ok seen
+last_judged seen (byte ∷ line) =
+    cond (is_too_long (byte ∷ line)) (fault_at seen.line LineTooLong) (text_judged seen (byte ∷ line))
+
+-- the end of a file at a place: it must be outside the blocks
+abbrev pub end_at : LogSeen → Place → Result LogSeen LogError
+end_at seen Outside = Ok (record { entries = seen.entries; test = []; place = Outside; line = 1 })
+end_at seen _ = fault_at seen.line Truncated
+
+-- the end of a file
+abbrev pub end_judged : LogSeen → Result LogSeen LogError
+end_judged seen = end_at seen seen.place
+
+-- a whole file
+unfoldable pub file_judged : LogSeen → List ℕ → Result LogSeen LogError
+file_judged seen bytes =
+    lines_judged seen (whole_lines bytes) >>= (λ next. last_judged next (unfinished bytes)) >>= end_judged
+
+-- whole files, one after another, up to the first fault
+abbrev pub files_judged : LogSeen → List (List ℕ) → Result LogSeen LogError
+files_judged seen [] = Ok seen
+files_judged seen (file ∷ rest) = file_judged seen file >>= λ next. files_judged next rest
+
+-- whole files, and the bytes so far of one more
+unfoldable pub input_judged : List (List ℕ) → List ℕ → Result LogSeen LogError
+input_judged files bytes = files_judged nothing_seen files >>= λ seen. bytes_judged seen bytes

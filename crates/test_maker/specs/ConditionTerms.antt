@@ -1,0 +1,50 @@
+-- How a test grows thread by thread.
+use Rattle.std.specs.Prelude.{ℕ, ◌≡◌, true, false, ◌+◌, List, [], ◌∷◌, ◌++◌, map, take, slice_index_or, Some, None, Result, Ok, Err}
+use Rattle.std.specs.List.{zip}
+use Rattle.arrayvec.specs.ArrayVec.{ArrayVec}
+use Rattle.relax_edges.specs.declared.kinds.ObsMode.{ObsMode}
+use Rattle.relax_edges.specs.declared.edge.Edge.{Edge}
+use Rattle.final_cond.specs.declared.cond.Cond.{Cond}
+use Rattle.final_cond.specs.Conditions.{TermSeen, AtPlace, term_view}
+use Rattle.arch_trait.specs.declared.code.Code.{Code}
+use Rattle.arch_trait.specs.declared.step.Step.{Step}
+use Rattle.arch_trait.specs.Codes.{thread_code_of}
+use Rattle.arch_trait.specs.Threads.{Puts, compiled}
+use Rattle.test_laws.specs.CycleSteps.{cycle_steps, numbers_read}
+use Rattle.test_laws.specs.TestOf.{plain, load_term, load_terms, thread_terms}
+use Rattle.test_maker.specs.declared.refusal.MakeRefusal.{MakeRefusal}
+use Rattle.test_maker.specs.declared.refusal.MakeRefusal.TheVariants.{TooManyRegisters}
+use Rattle.test_maker.specs.Refusals.{crowded_thread, is_crowded}
+
+-- a location ends with a value, where places have these names
+abbrev pub place_term : List (List ℕ) → ℕ → ℕ → TermSeen
+place_term places location value = record { left = AtPlace (slice_index_or places location []); value = value }
+
+-- the registers of the loads of a thread hold the numbers that its steps are to read
+abbrev pub terms_of_loads : (ℕ → List ℕ) → ℕ → List ℕ → List Step → List TermSeen
+terms_of_loads register_name thread loads steps = map (load_term register_name thread) (zip loads (numbers_read steps))
+
+-- a call makes the code of a thread and appends the terms of its loads, or refuses the thread for its registers
+abbrev pub PutsCode : Puts → (ℕ → List ℕ) → ℕ → List Step → Code → Cond → Cond → Result (Unit {0}) MakeRefusal → Type 0
+PutsCode a register_name thread steps code cond cond' (Ok _) =
+    (is_crowded a steps ≡ false) × (thread_code_of code ≡ compiled a steps) ×
+    (cond'.quantifier ≡ cond.quantifier) × (map term_view cond'.terms.items ≡ map term_view cond.terms.items ++ thread_terms a register_name thread steps)
+PutsCode a register_name thread steps code cond cond' (Err refusal) =
+    (is_crowded a steps ≡ true) × (refusal ≡ TooManyRegisters thread)
+
+-- a call makes the code of a thread after those before it and appends the terms of its loads, or refuses the thread for its registers
+abbrev pub PutsThread : Puts → (ℕ → List ℕ) → ℕ → List Step → ArrayVec Code → ArrayVec Code → Cond → Cond → Result (Unit {0}) MakeRefusal → Type 0
+PutsThread a register_name thread steps threads threads' cond cond' (Ok _) =
+    (is_crowded a steps ≡ false) ×
+    (map thread_code_of (take (thread + 1) threads'.items) ≡ map thread_code_of (take thread threads.items) ++ compiled a steps ∷ []) ×
+    (cond'.quantifier ≡ cond.quantifier) × (map term_view cond'.terms.items ≡ map term_view cond.terms.items ++ thread_terms a register_name thread steps)
+PutsThread a register_name thread steps threads threads' cond cond' (Err refusal) =
+    (is_crowded a steps ≡ true) × (refusal ≡ TooManyRegisters thread)
+
+-- a call makes the code of all threads and appends the terms of their loads, or refuses the first for its registers
+abbrev pub PutsThreads : Puts → (ℕ → List ℕ) → List Edge → ObsMode → ArrayVec Code → Cond → Cond → Result (Unit {0}) MakeRefusal → Type 0
+PutsThreads a register_name es mode threads cond cond' (Ok _) =
+    (crowded_thread a es mode ≡ None) × (map thread_code_of threads.items ≡ map (compiled a) (cycle_steps es mode plain)) ×
+    (cond'.quantifier ≡ cond.quantifier) ×
+    (map term_view cond'.terms.items ≡ map term_view cond.terms.items ++ load_terms a register_name 0 (cycle_steps es mode plain))
+PutsThreads a register_name es mode threads cond cond' (Err refusal) = crowded_thread a es mode ≡ Some refusal
