@@ -1,5 +1,5 @@
 -- What an architecture shows of its accesses: they write registers that were taken for them, and none
--- that holds an address_held.
+-- that holds an address.
 use Rattle.std.proofs.Common.{ℕ, ◌+◌, ◌<◌, ◌≤◌, ◌≡◌, ◌==◌, refl, Bool, true, false, cond, not, ◌||◌, List, [], ◌∷◌, ◌++◌, Option, Some, None, ◌∙◌, sym, ap, subst, eq-eqb, ne_eqb, append-nil, arith}
 use Rattle.list_laws.proofs.Cases.{by_test, by_option}
 use Rattle.relax_edges.specs.declared.kinds.Dir.TheVariants as dirs
@@ -19,7 +19,7 @@ use Rattle.arch_trait.specs.Laws.{IsTaken, HoldsPlaces, HasSource, Did, DidLoad,
 use Rattle.arch_laws.proofs.TakingLaws.{address_bounds, address_kept, address_added}
 use Rattle.relax_edges.specs.declared.kinds.Mark.TheVariants.{Plain}
 
--- registers u come from r by writes of registers that were taken between g and h, and the address_held
+-- registers u come from r by writes of registers that were taken between g and h, and the address
 -- registers of h hold their places
 pub record Writes (r u : ℕ → Held) (g h : Taken) : Type 0 where
   pub below : (s : ℕ) → s < g.next → u s ≡ r s
@@ -31,13 +31,13 @@ pub writes_none : (r : Run) (g h : Taken) → HoldsPlaces r h →
     Writes r.state.regs r.state.regs g h
 writes_none r g h places = record { below = λ s k. refl; above = λ s k. refl; places = places }
 
--- a register was taken between g and h, for no address_held
+-- a register was taken between g and h, for no address
 pub record IsSpare (g h : Taken) (d : ℕ) : Type 0 where
   pub above : g.next ≤ d
   pub below : d < h.next
   pub free : (p a : ℕ) → address_in h.links p ≡ Some a → (a == d) ≡ false
 
--- a further write to a spare register writes no address_held register either
+-- a further write to a spare register writes no address register either
 pub writes_more : (r u : ℕ → Held) (g h : Taken) (d : ℕ) (held : Held) → Writes r u g h →
     IsSpare g h d → Writes r (written u d held) g h
 writes_more r u g h d held w spare = record {
@@ -52,7 +52,7 @@ writes_more r u g h d held w spare = record {
 pub written_same : (u : ℕ → Held) (d : ℕ) (held : Held) → written u d held d ≡ held
 written_same u d held = rw (eq-eqb d d refl) refl
 
--- a register taken by an access that takes no address_held register is spare
+-- a register taken by an access that takes no address register is spare
 pub spare_plain : (g h : Taken) (d : ℕ) → IsTaken g → h.links ≡ g.links → g.next ≤ d → d < h.next →
     IsSpare g h d
 spare_plain g h d t e above below = record {
@@ -63,7 +63,7 @@ spare_plain g h d t e above below = record {
       ne_eqb a d (λ s. omega (arith, k.1));
 }
 
--- a register taken before the address_held register of the access's place is spare
+-- a register taken before the address register of the access's place is spare
 pub spare_with : (g i : Taken) (p d : ℕ) → IsTaken g → i.count ≡ g.count → i.links ≡ g.links →
     g.next ≤ d → d < i.next → IsSpare g (with_address i p) d
 spare_with g i p d t c e above below = by_option (address_in i.links p)
@@ -94,13 +94,13 @@ spare_with g i p d t c e above below = by_option (address_in i.links p)
         none_some : (a : ℕ) → None ≡ Some a → ⊥
         none_some a m = cc
 
--- the address_held register of a place is the one that was given or taken for it
+-- the address register of a place is the one that was given or taken for it
 pub address_is : (i : Taken) (p : ℕ) → address_in (with_address i p).links p ≡ Some (address_of i p)
 address_is i p = by_option (address_in i.links p)
     (λ e. rw e (address_added i.links i.next p p e ∙ rw (eq-eqb p p refl) refl))
     (λ a e. rw (e, e) refl)
 
--- the address_held register of a place is one that was taken
+-- the address register of a place is one that was taken
 pub address_below : (g i : Taken) (p : ℕ) → IsTaken g → i.links ≡ g.links → g.next ≤ i.next →
     address_of i p < (with_address i p).next
 address_below g i p t e m = by_option (address_in i.links p)
@@ -185,13 +185,13 @@ on_source r from k P h f = subst P (sym h.is) (f h.register h.value h.holds)
 pub written_other : (u : ℕ → Held) (d s : ℕ) (held : Held) → (s == d) ≡ false → written u d held s ≡ u s
 written_other u d s held e = rw e refl
 
--- a register that is xored with itself is 0 and depends_on_load on the load, whatever was read
+-- a register that is xored with itself is 0 and depends on the load, whatever was read
 pub xor_runs : (d s v k : ℕ) (r : Run) → r.state.regs s ≡ num v (bit k) →
     go (ops.Xor d s s) (At r) ≡ At (holding r d (num 0 (bit k)))
 xor_runs d s v k r e =
     run_xor d s r ∙ ap (λ m. At (holding r d (num 0 m))) (ap (λ (h : Held). h.mask) e)
 
--- an address_held dependency is a dependency
+-- an address dependency is a dependency
 pub addr_depends : (link : Link) → is_addr link ≡ true → depends_on_load link ≡ true
 addr_depends links.Addr e = refl
 addr_depends links.Plain e = cc
@@ -211,7 +211,7 @@ data_depends links.Ctrl e = cc
 data_depends links.CtrlIsync e = cc
 data_depends links.CtrlIsb e = cc
 
--- an address_held dependency is no data dependency
+-- an address dependency is no data dependency
 pub addr_no_data : (link : Link) → is_addr link ≡ true → is_data link ≡ false
 addr_no_data links.Addr e = refl
 addr_no_data links.Plain e = refl
@@ -221,7 +221,7 @@ addr_no_data links.Ctrl e = refl
 addr_no_data links.CtrlIsync e = refl
 addr_no_data links.CtrlIsb e = refl
 
--- an access takes an address_held register where its location is new
+-- an access takes an address register where its location is new
 pub fresh_counts : (g : Taken) (p : ℕ) (is_new : Bool) → is_new ≡ not (has_address g p) →
     ◌≡◌ {A = ℕ} (cond (has_address g p) 0 1) (cond is_new 1 0)
 fresh_counts g p is_new e = of_test (has_address g p) is_new e
@@ -232,7 +232,7 @@ fresh_counts g p is_new e = of_test (has_address g p) is_new e
     of_test false true e = refl
     of_test false false e = cc
 
--- for instance a load on RISC-V that depends_on_load on an earlier one through its address_held: xor D,s,s; add D,D,A; lw V,0(D)
+-- for instance a load on RISC-V that depends on an earlier one through its address: xor D,s,s; add D,D,A; lw V,0(D)
 addressed : (d s a v p n m : ℕ) (reads : List ℕ) (r : Run) → (a == d) ≡ false →
     r.state.regs a ≡ held_at_place p → (r.state.regs s).mask ≡ m → r.reads ≡ n ∷ reads →
     exec (ops.Xor d s s ∷ ops.Add d d a ∷ ops.Load v d None ∷ []) (At r) ≡

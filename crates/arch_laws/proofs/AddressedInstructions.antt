@@ -1,4 +1,4 @@
--- What an architecture whose accesses name a register with the address_held shows of its own instructions, and what follows for
+-- What an architecture whose accesses name a register with the address shows of its own instructions, and what follows for
 -- the code of a single access.
 use Rattle.std.proofs.Common.{ℕ, ◌<◌, ◌≤◌, ◌≡◌, ◌==◌, refl, true, false, bit_or, List, [], ◌∷◌, ◌++◌, None, length, ◌∙◌, ap, arith}
 use Rattle.std.specs.List.{list_all}
@@ -112,7 +112,7 @@ pub record KeepsInstructions (own : Instructions) : Type 0 where
       own.has (ops.Store v a None) ≡ true
   pub marked_has : mark_is_of Acquire own.name ≡ true → HasMarked own
 
--- a load of a mark at the address_held in a register, and a store
+-- a load of a mark at the address in a register, and a store
 pub load_op_runs : (mark : Mark) → mark_fits dirs.R mark ≡ true → (v a p n mask : ℕ) (vs : List ℕ) (r : Run) →
     r.state.regs a ≡ address_held p mask → r.reads ≡ n ∷ vs →
     go (load_op mark v a) (At r) ≡ At (after_load mark r v p n mask vs)
@@ -120,14 +120,14 @@ load_op_runs Plain fits v a p n mask vs r e reads = run_load v a p n mask vs r e
 load_op_runs Acquire fits v a p n mask vs r e reads = run_load_acquire v a p n mask vs r e reads
 load_op_runs Release fits v a p n mask vs r e reads = cc
 
--- without a number to read, a load of a mark at the address_held in a register wants one
+-- without a number to read, a load of a mark at the address in a register wants one
 pub load_op_wants : (mark : Mark) (v a p mask : ℕ) (r : Run) → r.state.regs a ≡ address_held p mask → r.reads ≡ [] →
     go (load_op mark v a) (At r) ≡ Wants r
 load_op_wants Plain v a p mask r e reads = run_load_wants v a p mask r e reads
 load_op_wants Acquire v a p mask r e reads = run_load_acquire_wants v a p mask r e reads
 load_op_wants Release v a p mask r e reads = run_load_wants v a p mask r e reads
 
--- a store of a mark at the address_held in a register makes its access
+-- a store of a mark at the address in a register makes its access
 pub store_op_runs : (mark : Mark) → mark_fits dirs.W mark ≡ true → (v a p n mask data_mask : ℕ) (r : Run) →
     r.state.regs a ≡ address_held p mask → r.state.regs v ≡ num n data_mask →
     go (store_op mark v a) (At r) ≡ At (after_store mark r p n mask data_mask)
@@ -135,7 +135,7 @@ store_op_runs Plain fits v a p n mask data_mask r e holds = run_store v a p n ma
 store_op_runs Release fits v a p n mask data_mask r e holds = run_store_release v a p n mask data_mask r e holds
 store_op_runs Acquire fits v a p n mask data_mask r e holds = cc
 
--- once the address_held is in a register, the others are as they were
+-- once the address is in a register, the others are as they were
 pub but_address : (d p mask : ℕ) (r : Run) → IsBut d r (holding r d (address_held p mask))
 but_address d p mask r = record {
   regs = λ s e. written_other r.state.regs d s (address_held p mask) e;
@@ -145,7 +145,7 @@ but_address d p mask r = record {
   reads = refl;
 }
 
--- the same at an address_held that depends on a register
+-- the same at an address that depends on a register
 pub load_through_runs : (own : Instructions) → KeepsInstructions own → (mark : Mark) → mark_fits dirs.R mark ≡ true →
     (d v a p n mask : ℕ) (vs : List ℕ) (r : Run) → r.state.regs a ≡ held_at_place p →
     r.state.regs d ≡ num 0 mask → r.reads ≡ n ∷ vs → LoadsBy mark (load_through own mark d v a) r d v p n mask vs
@@ -161,7 +161,7 @@ load_through_runs own keeps Acquire fits d v a p n mask vs r e g reads =
     }
 load_through_runs own keeps Release fits d v a p n mask vs r e g reads = cc
 
--- without a number to read, a load of a mark at an address_held that depends on a register wants one
+-- without a number to read, a load of a mark at an address that depends on a register wants one
 pub load_through_wants : (own : Instructions) → KeepsInstructions own → (mark : Mark) (d v a p mask : ℕ) (r : Run) →
     r.state.regs a ≡ held_at_place p → r.state.regs d ≡ num 0 mask → r.reads ≡ [] →
     IsWanting (exec (load_through own mark d v a) (At r))
@@ -176,7 +176,7 @@ load_through_wants own keeps Acquire d v a p mask r e g reads =
           run_load_acquire_wants v d p mask u (written_same r.state.regs d (address_held p mask)) reads;
     }
 
--- a store of a mark at an address_held that depends on a register makes its access
+-- a store of a mark at an address that depends on a register makes its access
 pub store_through_runs : (own : Instructions) → KeepsInstructions own → (mark : Mark) → mark_fits dirs.W mark ≡ true →
     (d v a p n mask : ℕ) (r : Run) → r.state.regs a ≡ held_at_place p → r.state.regs d ≡ num 0 mask →
     r.state.regs v ≡ num n 0 → (v == d) ≡ false → StoresBy mark (store_through own mark d v a) r d p n mask
@@ -194,7 +194,7 @@ store_through_runs own keeps Release fits d v a p n mask r e g holds apart =
     }
 store_through_runs own keeps Acquire fits d v a p n mask r e g holds apart = cc
 
--- the code of a load at an address_held that depends on a register is short
+-- the code of a load at an address that depends on a register is short
 pub load_through_short : (own : Instructions) → KeepsInstructions own → (mark : Mark) (d v a : ℕ) →
     IsShort (load_through own mark d v a)
 load_through_short own keeps Plain d v a = keeps.load_short d v a
@@ -202,7 +202,7 @@ load_through_short own keeps Release d v a = keeps.load_short d v a
 load_through_short own keeps Acquire d v a =
     record { room = omega arith; labels = refl; lands = refl; no_place = λ p. refl }
 
--- the code of a store at an address_held that depends on a register is short
+-- the code of a store at an address that depends on a register is short
 pub store_through_short : (own : Instructions) → KeepsInstructions own → (mark : Mark) (d v a : ℕ) →
     IsShort (store_through own mark d v a)
 store_through_short own keeps Plain d v a = keeps.store_short d v a
@@ -210,7 +210,7 @@ store_through_short own keeps Acquire d v a = keeps.store_short d v a
 store_through_short own keeps Release d v a =
     record { room = omega arith; labels = refl; lands = refl; no_place = λ p. refl }
 
--- the code of a load at the address_held in a register is short
+-- the code of a load at the address in a register is short
 pub load_op_short : (mark : Mark) (v a : ℕ) → IsShort (load_op mark v a ∷ [])
 load_op_short Plain v a = record { room = omega arith; labels = refl; lands = refl; no_place = λ p. refl }
 load_op_short Acquire v a = record { room = omega arith; labels = refl; lands = refl; no_place = λ p. refl }
@@ -247,21 +247,21 @@ release_acquire archs.PPC e = e
 release_acquire archs.AArch64 e = e
 release_acquire archs.RISCV e = e
 
--- the architecture has the load of each of its marks at the address_held in a register
+-- the architecture has the load of each of its marks at the address in a register
 pub load_op_has : (own : Instructions) → KeepsInstructions own → (mark : Mark) → mark_is_of mark own.name ≡ true →
     (v a : ℕ) → v < own.registers → a < own.registers → own.has (load_op mark v a) ≡ true
 load_op_has own keeps Plain e v a h k = keeps.plain_load_has v a h k
 load_op_has own keeps Acquire e v a h k = (keeps.marked_has e).acquire v a h k
 load_op_has own keeps Release e v a h k = keeps.plain_load_has v a h k
 
--- the architecture has the store of each of its marks at the address_held in a register
+-- the architecture has the store of each of its marks at the address in a register
 pub store_op_has : (own : Instructions) → KeepsInstructions own → (mark : Mark) → mark_is_of mark own.name ≡ true →
     (v a : ℕ) → v < own.registers → a < own.registers → own.has (store_op mark v a) ≡ true
 store_op_has own keeps Plain e v a h k = keeps.plain_store_has v a h k
 store_op_has own keeps Acquire e v a h k = keeps.plain_store_has v a h k
 store_op_has own keeps Release e v a h k = (keeps.marked_has (release_acquire own.name e)).release v a h k
 
--- the architecture has the code of a load of each of its marks at an address_held that depends on a register
+-- the architecture has the code of a load of each of its marks at an address that depends on a register
 pub load_through_has : (own : Instructions) → KeepsInstructions own → (mark : Mark) → mark_is_of mark own.name ≡ true →
     (d v a : ℕ) → d < own.registers → v < own.registers → a < own.registers →
     list_all own.has (load_through own mark d v a) ≡ true
@@ -271,7 +271,7 @@ load_through_has own keeps Acquire e d v a h k l =
     let has = keeps.marked_has e in
     and_from _ _ (has.sum d a h l) (and_from _ true (has.acquire v d k h) refl)
 
--- the architecture has the code of a store of each of its marks at an address_held that depends on a register
+-- the architecture has the code of a store of each of its marks at an address that depends on a register
 pub store_through_has : (own : Instructions) → KeepsInstructions own → (mark : Mark) → mark_is_of mark own.name ≡ true →
     (d v a : ℕ) → d < own.registers → v < own.registers → a < own.registers →
     list_all own.has (store_through own mark d v a) ≡ true

@@ -74,19 +74,19 @@ pub run_add : (d a b m n i j : ℕ) (r : Run) → r.state.regs a ≡ num m i →
     go (ops.Add d a b) (At r) ≡ At (holding r d (num (m + n) (bit_or i j)))
 run_add d a b m n i j r e f h = rw (e, f, lt-ltb (m + n) (2 ^ 32) h) refl
 
--- an address_held from a number 0 that depends on loads, and an address_held that depends on none
+-- an address from a number 0 that depends on loads, and an address that depends on none
 pub run_add_address : (d a b p mask : ℕ) (r : Run) → r.state.regs a ≡ num 0 mask →
     r.state.regs b ≡ held_at_place p →
     go (ops.Add d a b) (At r) ≡ At (holding r d (address_held p mask))
 run_add_address d a b p mask r e f = rw (e, f, or_zero mask) refl
 
--- an address_held that depends on no load, and a number 0 that depends on loads
+-- an address that depends on no load, and a number 0 that depends on loads
 pub run_add_to_address : (d a b p mask : ℕ) (r : Run) → r.state.regs a ≡ held_at_place p →
     r.state.regs b ≡ num 0 mask →
     go (ops.Add d a b) (At r) ≡ At (holding r d (address_held p mask))
 run_add_to_address d a b p mask r e f = rw (e, f, zero_or mask) refl
 
--- a load from an address_held
+-- a load from an address
 pub run_load : (d base p n mask : ℕ) (reads : List ℕ) (r : Run) → r.state.regs base ≡ address_held p mask →
     r.reads ≡ n ∷ reads →
     go (ops.Load d base None) (At r) ≡ At (after_load Plain r d p n mask reads)
@@ -94,19 +94,19 @@ run_load d base p n mask reads r e f =
     ap (λ reads. taken (ops.Load d base None) r true reads) f ∙
     ap (λ held. led (loading Plain r.state d (place_at held.value (Num 0)) held.mask (Some n)) reads r.made) e
 
--- a load from an address_held wants a number where none is left
+-- a load from an address wants a number where none is left
 pub run_load_wants : (d base p mask : ℕ) (r : Run) → r.state.regs base ≡ address_held p mask → r.reads ≡ [] →
     go (ops.Load d base None) (At r) ≡ Wants r
 run_load_wants d base p mask r e f =
     ap (λ reads. taken (ops.Load d base None) r true reads) f ∙ rw e refl
 
--- a load from an address_held and an index 0
+-- a load from an address and an index 0
 pub run_load_index : (d base index p n mask : ℕ) (reads : List ℕ) (r : Run) →
     r.state.regs base ≡ held_at_place p → r.state.regs index ≡ num 0 mask → r.reads ≡ n ∷ reads →
     go (ops.Load d base (Some index)) (At r) ≡ At (after_load Plain r d p n mask reads)
 run_load_index d base index p n mask reads r e g f = rw (f, e, g, zero_or mask) refl
 
--- a load from an address_held and an index 0 wants a number where none is left
+-- a load from an address and an index 0 wants a number where none is left
 pub run_load_index_wants : (d base index p mask : ℕ) (r : Run) → r.state.regs base ≡ held_at_place p →
     r.state.regs index ≡ num 0 mask → r.reads ≡ [] →
     go (ops.Load d base (Some index)) (At r) ≡ Wants r
@@ -122,7 +122,7 @@ run_load_at d p n reads r f = rw f refl
 pub run_load_at_wants : (d p : ℕ) (r : Run) → r.reads ≡ [] → go (ops.LoadAt d p) (At r) ≡ Wants r
 run_load_at_wants d p r f = ap (λ reads. taken (ops.LoadAt d p) r true reads) f
 
--- a load-acquire from an address_held
+-- a load-acquire from an address
 pub run_load_acquire : (d base p n mask : ℕ) (reads : List ℕ) (r : Run) → r.state.regs base ≡ address_held p mask →
     r.reads ≡ n ∷ reads →
     go (ops.LoadAcq d base) (At r) ≡ At (after_load Acquire r d p n mask reads)
@@ -130,13 +130,13 @@ run_load_acquire d base p n mask reads r e f =
     ap (λ reads. taken (ops.LoadAcq d base) r true reads) f ∙
     ap (λ held. led (loading Acquire r.state d (place_at held.value (Num 0)) held.mask (Some n)) reads r.made) e
 
--- a load-acquire from an address_held wants a number where none is left
+-- a load-acquire from an address wants a number where none is left
 pub run_load_acquire_wants : (d base p mask : ℕ) (r : Run) → r.state.regs base ≡ address_held p mask → r.reads ≡ [] →
     go (ops.LoadAcq d base) (At r) ≡ Wants r
 run_load_acquire_wants d base p mask r e f =
     ap (λ reads. taken (ops.LoadAcq d base) r true reads) f ∙ rw e refl
 
--- a store to an address_held
+-- a store to an address
 pub run_store : (src base p n mask data_mask : ℕ) (r : Run) → r.state.regs base ≡ address_held p mask →
     r.state.regs src ≡ num n data_mask →
     go (ops.Store src base None) (At r) ≡ At (after_store Plain r p n mask data_mask)
@@ -146,7 +146,7 @@ run_store src base p n mask data_mask r e g =
     (r.state.regs src).value (r.state.regs src).mask) r.reads r.made) e ∙
     ap (λ held. led (storing Plain r.state (Some p) mask held.value held.mask) r.reads r.made) g
 
--- a store-release to an address_held
+-- a store-release to an address
 pub run_store_release : (src base p n mask data_mask : ℕ) (r : Run) → r.state.regs base ≡ address_held p mask →
     r.state.regs src ≡ num n data_mask →
     go (ops.StoreRel src base) (At r) ≡ At (after_store Release r p n mask data_mask)
@@ -156,7 +156,7 @@ run_store_release src base p n mask data_mask r e g =
     (r.state.regs src).value (r.state.regs src).mask) r.reads r.made) e ∙
     ap (λ held. led (storing Release r.state (Some p) mask held.value held.mask) r.reads r.made) g
 
--- a store to an address_held and an index 0
+-- a store to an address and an index 0
 pub run_store_index : (src base index p n mask data_mask : ℕ) (r : Run) →
     r.state.regs base ≡ held_at_place p → r.state.regs index ≡ num 0 mask →
     r.state.regs src ≡ num n data_mask →

@@ -22,7 +22,7 @@ use Rattle.arch_trait.proofs.Taking.{Grew, grew, grew_refl, grew_trans}
 abbrev pub HasFirst : Dir → List ℕ → Type 0
 HasFirst d vs = is_load_dir d ≡ true → vs ≡ first_number vs ∷ left_after d vs
 
--- a register, if it is given, holds a number that depends_on_load on load number n alone
+-- a register, if it is given, holds a number that depends on load number n alone
 abbrev pub HoldsRead : Run → Option ℕ → ℕ → ℕ → Type 0
 HoldsRead r (Some q) v n = r.state.regs q ≡ num v (bit n)
 HoldsRead r None v n = Unit {0}
@@ -212,7 +212,7 @@ has_first dirs.R [] n e = absurd (omega arith)
 has_first dirs.R (v ∷ vs) n e = (λ t. refl, omega arith)
 has_first dirs.W vs n e = (λ t. cc, omega arith)
 
--- after a load its register holds the number read, which depends_on_load on it alone
+-- after a load its register holds the number read, which depends on it alone
 source_after : (r : Run) (d : Dir) (q : Option ℕ) (v n : ℕ) → (is_load_dir d ≡ true → q ≡ None → ⊥) →
     HoldsRead r q v n → r.state.loads ≡ loads_after d n → is_load_dir d ≡ true →
     HasSource r q (r.state.loads - 1)

@@ -42,11 +42,11 @@ pub record Takes (g h : Taken) (p : ℕ) : Type 0 where
   pub more : g.next ≤ h.next
   pub links : (h.links ≡ g.links) ⊎ AddsAddress g h p
 
--- each address register holds its place and depends_on_load on no load
+-- each address register holds its place and depends on no load
 abbrev pub HoldsPlaces : Run → Taken → Type 0
 HoldsPlaces r g = (p a : ℕ) → address_in g.links p ≡ Some a → r.state.regs a ≡ held_at_place p
 
--- a register is given that holds a number which depends_on_load on load number k alone
+-- a register is given that holds a number which depends on load number k alone
 pub record HasSource (r : Run) (from : Option ℕ) (k : ℕ) : Type 0 where
   pub register : ℕ
   pub value : ℕ
@@ -74,7 +74,7 @@ pub record Did (code : List Micro) (r : Run) (g h : Taken) (made : List Item) (c
   pub above : (s : ℕ) → h.next ≤ s → after.state.regs s ≡ r.state.regs s
   pub places : HoldsPlaces after h
 
--- a load's run of code comes to its end: its register holds the number read, which depends_on_load on this load alone
+-- a load's run of code comes to its end: its register holds the number read, which depends on this load alone
 pub record DidLoad (code : List Micro) (r : Run) (g h : Taken) (made : List Item)
     (control loads : ℕ) (reads : List ℕ) (register value : ℕ) : Type 0 where
   pub did : Did code r g h made control loads reads
@@ -192,7 +192,7 @@ pub record MakesAccess (a : Puts) (d : Dir) (put : Taken → Link → Mark → O
       (put g link mark from p).regs.next ≤ a.registers →
       list_all a.has (put g link mark from p).code ≡ true
 
--- the code of a load makes one read of the place and the mark, which depends_on_load as the link says, and
+-- the code of a load makes one read of the place and the mark, which depends as the link says, and
 -- its register, taken for it, holds the number read
 pub record MakesLoads (a : Puts) : Type 0 where
   pub access : MakesAccess a dirs.R a.load
@@ -209,7 +209,7 @@ pub record MakesLoads (a : Puts) : Type 0 where
   pub fills : (g : Taken) (link : Link) (mark : Mark) (from : Option ℕ) (p : ℕ) →
       (g.next ≤ a.filled g link from p) × (a.filled g link from p < (a.load g link mark from p).regs.next)
 
--- the code of a store of a byte makes one write of it to the place, of the mark, which depends_on_load as the
+-- the code of a store of a byte makes one write of it to the place, of the mark, which depends as the
 -- link says
 pub record MakesStores (a : Puts) : Type 0 where
   pub access : (v : ℕ) → v < 256 → MakesAccess a dirs.W (λ g link mark from p. a.store g link mark from p v)

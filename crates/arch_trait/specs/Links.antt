@@ -40,7 +40,7 @@ link_is_of links.Ctrl arch = dependency_is_of deps.Ctrl arch
 link_is_of links.CtrlIsync arch = dependency_is_of deps.CtrlIsync arch
 link_is_of links.CtrlIsb arch = dependency_is_of deps.CtrlIsb arch
 
--- the access depends_on_load on the load before it
+-- the access depends on the load before it
 abbrev pub depends_on_load : Link → Bool
 depends_on_load links.Plain = false
 depends_on_load (links.Fence _) = false
@@ -53,12 +53,12 @@ branches links.CtrlIsync = true
 branches links.CtrlIsb = true
 branches _ = false
 
--- the address of the access depends_on_load on the load before it
+-- the address of the access depends on the load before it
 abbrev pub is_addr : Link → Bool
 is_addr links.Addr = true
 is_addr _ = false
 
--- the value that the access stores depends_on_load on the load before it
+-- the value that the access stores depends on the load before it
 abbrev pub is_data : Link → Bool
 is_data links.Data = true
 is_data _ = false
@@ -67,7 +67,7 @@ is_data _ = false
 abbrev pub source_if : Bool → Option ℕ → Option ℕ
 source_if on from = cond on from None
 
--- the mask of load number k, for a link that depends_on_load on it, else none
+-- the mask of load number k, for a link that depends on it, else none
 abbrev pub mask_if : Bool → ℕ → ℕ
 mask_if on k = cond on (bit k) 0
 
@@ -76,7 +76,7 @@ mask_if on k = cond on (bit k) 0
 abbrev pub link_control : Link → ℕ → ℕ → ℕ
 link_control link k c = cond (branches link) (bit_or c (bit k)) c
 
--- the barriers of a link, in order, each with the branches that it depends_on_load on
+-- the barriers of a link, in order, each with the branches that it depends on
 abbrev pub link_items : Link → ℕ → ℕ → List Item
 link_items (links.Fence kind) k c = items.Barrier (barriers.Fence kind) c ∷ []
 link_items links.CtrlIsync k c =

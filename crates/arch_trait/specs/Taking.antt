@@ -56,7 +56,7 @@ address_of g place = address_or_next (address_in g.links place) g
 abbrev pub with_address : Taken → ℕ → Taken
 with_address g place = after_address (address_in g.links place) g place
 
--- address registers as the initial_values values of a thread
+-- address registers as the initial values of a thread
 abbrev pub initial_values : List (ℕ × ℕ) → List (ℕ × Value)
 initial_values links = map (λ link. (link.0, Place link.1)) links
 

@@ -92,7 +92,7 @@ way_seen way = record { regs = way.regs; last = way.last; label = way.label }
 abbrev pub setting_out : ℕ → Way
 setting_out registers = record { regs = untaken registers; last = None; label = 0 }
 
--- the register that a link depends_on_load on
+-- the register that a link depends on
 abbrev pub from_of : Link → Option ℕ → Option ℕ
 from_of link last = cond (depends_on_load link) last None
 
@@ -195,7 +195,7 @@ FitSteps arch after_load [] = Unit {0}
 FitSteps arch after_load (s ∷ ss) =
     FitStep arch after_load s × FitSteps arch (is_load_dir s.dir) ss
 
--- each register holds the number that its load read, which depends_on_load on that load alone; the loads are
+-- each register holds the number that its load read, which depends on that load alone; the loads are
 -- counted from n on
 abbrev pub Loaded : (ℕ → Held) → List ℕ → List ℕ → ℕ → Type 0
 Loaded regs [] vs n = Unit {0}

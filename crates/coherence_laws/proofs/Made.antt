@@ -17,7 +17,7 @@ use Rattle.communication_laws.proofs.Accesses.{EventAt, LoadAt, by_origin}
 use Rattle.communication_laws.proofs.Resolves.{Resolves}
 use Rattle.coherence_laws.specs.Laws.{WritesWithin}
 
--- an access whose value was accesses_filled in has the direction and the place of the one that was planned
+-- an access whose value was filled in has the direction and the place of the one that was planned
 record Planned (accesses : List Access) (k : ℕ) (a : Access) : Type 0 where
   plan : Access
   got : slice_get accesses k ≡ Some plan

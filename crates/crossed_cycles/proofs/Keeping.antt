@@ -58,7 +58,7 @@ filter_none (u ∷ us) = ap (λ rest. u ∷ rest) (filter_none us)
 pub all_kept : (us : List (List Edge)) → fold keep_turned [] us ≡ first_kept us
 all_kept us = kept_after [] us ∙ filter_none (first_kept us)
 
--- to keep_turned those that are accepted is to keep_turned each of those that pass
+-- to keep those that are accepted is to keep each of those that pass
 pub accepted_kept : (accepts : List Edge → Bool) (kept us : List (List Edge)) → fold (keep_accepted accepts) kept us ≡ fold keep_turned kept (filter accepts us)
 accepted_kept accepts kept [] = refl
 accepted_kept accepts kept (u ∷ us) =

@@ -1,4 +1,4 @@
--- How the edges of a text are kept_edges, and what is made of them.
+-- How the edges of a text are kept, and what is made of them.
 use Rattle.std.proofs.Common.{◌≡◌, true, false, nat_lt, nat_le, List, [], ◌∷◌, length, Option, Some, None, Err, refl, ap, ◌∙◌, arith, lit≤}
 use Rattle.std.specs.Option.{option_map}
 use Rattle.std.proofs.lemmas.Bool.Decides.{nat_tests}
@@ -20,7 +20,7 @@ made_of_kept arch (e ∷ es) =
     (λ h. let k : nat_le (length (e ∷ es)) MAX_EDGES ≡ false = grind (arith, nat_tests, h) in rw h (rw k refl))
     (λ h. let k : nat_le (length (e ∷ es)) MAX_EDGES ≡ true = grind (arith, nat_tests, h) in rw h (rw k (rw h refl)))
 
--- what is made of the edges of a text as they are kept_edges
+-- what is made of the edges of a text as they are kept
 pub read_made : (arch : ArchName) (list none : EdgeList) (read : Option (List Edge)) → none ≡ kept_edges [] →
     Some list ≡ option_map (edges_added none) read → made_kept arch list ≡ spelled_made arch read
 read_made arch list none None e h = cc h

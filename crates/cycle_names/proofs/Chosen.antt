@@ -67,7 +67,7 @@ first_by_words f u v h = record { member = h.member; none = λ w m b. h.none w m
 first_by_ranks : (f : Family) (u v : List Edge) → IsFirst words_below (candidates f u) v → IsFirst links_below (candidates f u) v
 first_by_ranks f u v h = record { member = h.member; none = λ w m b. h.none w m (by_words f u w v m h.member ∙ b) }
 
--- a rotation that fits_family a family is restored from what its name says of it
+-- a rotation that fits a family is restored from what its name says of it
 pub fit_back : (f : Family) (v : List Edge) → IsCycle v → fits_family f v ≡ true → marked_around (map said_of v) ≡ Some v
 fit_back f v c h = around_back v c.closed (plain_of_fits f v h) (fits_either f v h)
 
@@ -202,7 +202,7 @@ named_rotates u c =
     let w = has_named_in_family f u h in
     subst P (sym (named_in_family f u w.one c h w.is)) (rotation_of_member u w.one (filter_among (fits_family f) (rotations u) w.one w.is.member)))
 
--- and fits_family the family that the cycle is of
+-- and fits the family that the cycle is of
 pub named_fits : (u : List Edge) (f : Family) → IsCycle u → found_family u ≡ Some f → fits_family f (named_rotation u) ≡ true
 named_fits u f c h =
     let w = has_named_in_family f u h in

@@ -144,7 +144,7 @@ pub record Fitting (u : List Edge) (f : Family) : Type 0 where
   pub fit : fits_family f (rotated place u) ≡ true
   pub joins : outline (rotated place u) ≡ family_edges f
 
--- a cycle of a family has a rotation that fits_family it
+-- a cycle of a family has a rotation that fits it
 pub fitting : (u : List Edge) (f : Family) → is_of_family u f ≡ true → Fitting u f
 fitting u f h =
     let r = member_of_any (fits_family f) (rotations u) h in
@@ -153,7 +153,7 @@ fitting u f h =
     let fit : fits_family f (rotated n.number u) ≡ true = subst P n.is r.passes in
     record { place = n.number; within = n.below; fit = fit; joins = outline_of_fits f (rotated n.number u) fit }
 
--- a cycle of which a rotation by a place fits_family a family is of that family
+-- a cycle of which a rotation by a place fits a family is of that family
 pub is_of_fitting : (u : List Edge) (f : Family) (k : ℕ) → k < length u → fits_family f (rotated k u) ≡ true → is_of_family u f ≡ true
 is_of_fitting u f k l h = any_of_member (fits_family f) (rotations u) (rotated k u) (member_upto (λ k. rotated k u) (length u) k l) h
 
@@ -196,7 +196,7 @@ pub too_long : (u : List Edge) → 6 < length u → found_family u ≡ None
 unfolding found_family
 too_long u l = find_none (is_of_family u) all_families (λ f m t. omega (arith, family_long u f (fitting u f t), family_small f))
 
--- the family that a rotation fits_family is the cycle's
+-- the family that a rotation fits is the cycle's
 pub family_found : (u : List Edge) (f : Family) → is_of_family u f ≡ true → found_family u ≡ Some f
 unfolding found_family
 family_found u f h = find_only (is_of_family u) all_families f (listed f (never_other u f h)) h (λ g m t. one_family u g f t h)
@@ -214,7 +214,7 @@ either_slots : (v : List Edge) → list_all is_either (outline v) ≡ list_all i
 either_slots [] = refl
 either_slots (e ∷ v) = rw (slot_is_diff e, slot_is_external e, either_slots v) refl
 
--- each edge of a rotation that fits_family a family is a link or external
+-- each edge of a rotation that fits a family is a link or external
 pub fits_either : (f : Family) (v : List Edge) → fits_family f v ≡ true → list_all is_either v ≡ true
 fits_either f v h =
     sym (either_slots v) ∙ ap (list_all is_either) (outline_of_fits f v h) ∙ each_family (λ f. list_all is_either (family_edges f)) all_either f

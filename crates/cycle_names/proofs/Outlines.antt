@@ -43,11 +43,11 @@ edges_same (x ∷ u) = rw (eq-eqb (rank_of x) (rank_of x) refl) (edges_same u)
 pub edges_are_same : (u v : List Edge) → u ≡ v → is_same u v ≡ true
 edges_are_same u v e = rw e (edges_same v)
 
--- what a rotation that fits_family joins, and that it is plain between external edges
+-- what a rotation that fits joins, and that it is plain between external edges
 pub outline_of_fits : (f : Family) (v : List Edge) → fits_family f v ≡ true → outline v ≡ family_edges f
 outline_of_fits f v h = same_edges (outline v) (family_edges f) (and_parts (joins_as f v) (is_plain_outside v) h).0
 
--- a rotation that fits_family is plain between external edges
+-- a rotation that fits is plain between external edges
 pub plain_of_fits : (f : Family) (v : List Edge) → fits_family f v ≡ true → is_plain_outside v ≡ true
 plain_of_fits f v h = (and_parts (joins_as f v) (is_plain_outside v) h).1
 

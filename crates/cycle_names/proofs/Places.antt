@@ -33,7 +33,7 @@ part_is xs list k n e l h =
     let m : (k + n) - k ≡ length xs = omega arith in
     rw (m, e) (window k xs (omega arith))
 
--- of a cycle that is plain between external edges, a rotation fits_family where it joins the same
+-- of a cycle that is plain between external edges, a rotation fits where it joins the same
 fits_said : (f : Family) (u : List Edge) (k : ℕ) → is_plain_outside u ≡ true → fits_family f (rotated k u) ≡ joins_at (family_edges f) u k
 fits_said f u k p = ap (λ b. joins_at (family_edges f) u k && b) (plain_rotated k u ∙ p) ∙ and-true (joins_at (family_edges f) u k)
 
@@ -98,14 +98,14 @@ marked_outside u h =
     let z : true ≡ false = sym (plain_of_fits g (rotated w.place u) w.fit) ∙ plain_rotated w.place u ∙ h in
     cc)
 
--- the first rotation that joins what a family's cycle does fits_family, where the cycle is plain between external edges
+-- the first rotation that joins what a family's cycle does fits, where the cycle is plain between external edges
 pub fits_first : (u : List Edge) (f : Family) (slots : List Edge) (place : ℕ) → slots ≡ family_edges f → JoinsFirst slots u place → is_plain_outside u ≡ true → FitsFirst u f place
 fits_first u f slots place s h p = record { first = rw (← s) h; plain = p }
 
 fits_there : (u : List Edge) (f : Family) (k : ℕ) → FitsFirst u f k → fits_family f (rotated k u) ≡ true
 fits_there u f k h = fits_said f u k h.plain ∙ h.first.joins
 
--- the family that a rotation fits_family is the cycle's
+-- the family that a rotation fits is the cycle's
 pub fits_found : (u : List Edge) (f : Family) (k : ℕ) → FitsFirst u f k → found_family u ≡ Some f
 fits_found u f k h = family_found u f (is_of_fitting u f k h.first.within (fits_there u f k h))
 
@@ -115,7 +115,7 @@ pub record NamedUpTo (u : List Edge) (f : Family) (k named : ℕ) : Type 0 where
   pub joins : joins_at (family_edges f) u named ≡ true
   pub none : (j : ℕ) → j < k → joins_at (family_edges f) u j ≡ true → links_below (rotated j u) (rotated named u) ≡ true → ⊥
 
--- of the places up to the first from which a rotation fits_family, that one comes first
+-- of the places up to the first from which a rotation fits, that one comes first
 pub named_first : (u : List Edge) (f : Family) (k : ℕ) → FitsFirst u f k → NamedUpTo u f (k + 1) k
 named_first u f k h = record {
   within = h.first.within;
@@ -149,7 +149,7 @@ named_kept u f k named h t = record {
       cc);
 }
 
--- where the rotation from the next place fits_family and its words come before, that place replaces it
+-- where the rotation from the next place fits and its words come before, that place replaces it
 pub named_replaced : (u : List Edge) (f : Family) (k named : ℕ) → NamedUpTo u f k named → k < length u →
     (joins_at (family_edges f) u k && ranks_below (rotated k (map word_place u)) (rotated named (map word_place u))) ≡ true → NamedUpTo u f (k + 1) k
 named_replaced u f k named h l t =

@@ -108,7 +108,7 @@ none_of p (x ∷ xs) h =
     let both = and_parts (not (p x)) (list_all (λ b. not (p b)) xs) h in
     rw (not-true (p x) both.0) (none_of p xs both.1)
 
--- a text with a byte after_plus at its end, without its last byte
+-- a text with a byte added at its end, without its last byte
 but_last_is : (word : List ℕ) (byte : ℕ) → but_last (word ++ byte ∷ []) ≡ word
 but_last_is word byte = take_at word (byte ∷ []) (length (word ++ byte ∷ []) - 1) (omega (arith, length-append word (byte ∷ [])))
 

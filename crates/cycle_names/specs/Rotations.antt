@@ -39,12 +39,12 @@ all_unmarked (edge ∷ v) = is_plain_before edge v && all_unmarked v
 abbrev pub is_plain_outside : List Edge → Bool
 is_plain_outside v = all_unmarked (v ++ take 1 v)
 
--- a rotation fits_family a family that has the same external edges at the same places, whatever their marks, and at the other places links from
+-- a rotation fits a family that has the same external edges at the same places, whatever their marks, and at the other places links from
 -- and to the same accesses, whatever theirs, where each event between two external edges is plain
 abbrev pub fits_family : Family → List Edge → Bool
 fits_family family v = joins_as family v && is_plain_outside v
 
--- a cycle is of a family that some rotation of it fits_family
+-- a cycle is of a family that some rotation of it fits
 abbrev pub is_of_family : List Edge → Family → Bool
 is_of_family u family = list_any (fits_family family) (rotations u)
 

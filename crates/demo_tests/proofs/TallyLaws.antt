@@ -1,4 +1,4 @@
--- What is test_counted of tests grows with each test, and stays small.
+-- What is counted of tests grows with each test, and stays small.
 use Rattle.std.proofs.Common.{◌≡◌, ◌<◌, ◌≤◌, ◌+◌, ◌*◌, ◌%◌, ℕ, zero, suc, List, [], ◌∷◌, ◌++◌, length, get_or, map, refl, sym, ap, ◌∙◌, arith, add-one, length-append, append-nil}
 use Rattle.std.specs.Prelude.{cond, filter, replicate, codes, ◌==◌, slice_set, slice_index_or, None}
 use Rattle.std.specs.List.{All, sum_by, IsAmong}
@@ -129,7 +129,7 @@ unfolding tally_of_tests
 tally_more T numbers number =
     rw (length-append numbers (number ∷ []), sum_by_push (λ k. line_feed_count (T k)) numbers number, sum_by_push (λ k. length (T k)) numbers number) refl
 
--- one test more is test_counted in the tally of all
+-- one test more is counted in the tally of all
 pub all_more : (T : ℕ → List ℕ) (text : Tally) (old new : TestTally) (number : ℕ) → text ≡ text_tally (T number) → old ≡ tally_of_tests T (upto number) → new ≡ test_counted text old → new ≡ tally_of_tests T (upto (number + 1))
 all_more T text old new number e o n =
     n ∙ ap (λ t. test_counted t old) e ∙ ap (test_counted (text_tally (T number))) o ∙ sym (tally_more T (upto number) number) ∙ ap (λ k. tally_of_tests T (upto k)) (sym (add-one number))
@@ -156,7 +156,7 @@ map_by : (F G : ℕ → TestTally) (numbers : List ℕ) → ((k : ℕ) → F k �
 map_by F G [] h = refl
 map_by F G (n ∷ numbers) h = rw (h n, map_by F G numbers h) refl
 
--- what is test_counted of a family's tests after one more test, which is its own or not
+-- what is counted of a family's tests after one more test, which is its own or not
 family_more : (T : ℕ → List ℕ) (number place : ℕ) →
     cond (number % 14 == place) (test_counted (text_tally (T number)) (tally_of_tests T (family_numbers number (number % 14)))) (tally_of_tests T (family_numbers number place)) ≡ tally_of_tests T (family_numbers (suc number) place)
 family_more T number place =
@@ -173,7 +173,7 @@ family_more T number place =
     cond-false (number % 14 == place) _ _ f
     ∙ ap (tally_of_tests T) (sym (parts ∙ ap (λ xs. family_numbers number place ++ xs) (cond-false (number % 14 == place) (number ∷ []) [] f) ∙ append-nil (family_numbers number place))))
 
--- one test more is test_counted in the tally of its family
+-- one test more is counted in the tally of its family
 pub families_more : (T : ℕ → List ℕ) (text : Tally) (old new : List TestTally) (number place : ℕ) → text ≡ text_tally (T number) → old ≡ family_tallies T number → place ≡ number % 14
     → ((d : TestTally) → new ≡ slice_set old place (test_counted text (slice_index_or old place d))) → new ≡ family_tallies T (number + 1)
 unfolding family_tallies

@@ -1,4 +1,4 @@
--- How the summary is test_counted, one test after another.
+-- How the summary is counted, one test after another.
 -- Source: own.
 use Rattle.std.specs.Prelude.{ℕ, ◌≡◌, ◌+◌, ◌^◌, ◌<◌, List, length, slice_index_or, slice_set}
 use Rattle.diy_io.specs.Sink.{Tally, line_feed_count, tally_of}

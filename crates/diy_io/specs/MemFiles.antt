@@ -9,7 +9,7 @@ use Rattle.diy_io.specs.Shelf.{Files}
 abbrev pub NamedFile : Type 0
 NamedFile = List ℕ × List ℕ
 
--- the files in the order in which they were made, how many bytes may still be with_bytes to them, and how many more may be made
+-- the files in the order in which they were made, how many bytes may still be appended to them, and how many more may be made
 pub record MemFilesState : Type 0 where
   pub files : List (List ℕ × List ℕ)
   pub room : ℕ
@@ -64,7 +64,7 @@ abbrev pub file_grown : List ℕ → List ℕ → List NamedFile → Option ℕ 
 file_grown name bytes files None = files
 file_grown name bytes files (Some place) = slice_set files place (name, bytes_at place files ++ bytes)
 
--- the files after bytes are with_bytes to the file of a name
+-- the files after bytes are appended to the file of a name
 abbrev pub with_bytes : MemFilesState → List ℕ → List ℕ → MemFilesState
 with_bytes held name bytes = record {
   files = file_grown name bytes held.files (file_place name held.files);

@@ -66,7 +66,7 @@ use Rattle.two_runs.specs.Shown.{why_refused}
 abbrev Answer : Type 0
 Answer = Result (Unit {0}) Failed
 
--- edges as they are kept_edges are refused as those that were given, and a list of them that is kept_edges whole is theirs
+-- edges as they are kept are refused as those that were given, and a list of them that is kept whole is theirs
 record IsKeptSo (list : EdgeList) (es : List Edge) : Type 0 where
   refused : (arch : ArchName) → refused_edges arch list ≡ refused_list arch es
   same : (list ≡ TooLong → ⊥) → edges_kept list ≡ es
@@ -92,7 +92,7 @@ kept_so (e ∷ es) =
         ap (λ b. if b then Some refusals.TooLong else refused_of_arch (e ∷ es) (position_from (λ e. not (is_of_arch e arch)) 0 (e ∷ es)))
         (long (length (e ∷ es)) f)
 
--- what is answered of edges that are kept_edges is answered of those that were given
+-- what is answered of edges that are kept is answered of those that were given
 edges_answered : (list : EdgeList) (es : List Edge) (last : List Edge → Option Refusal) (text : List Edge → List ℕ) (arch : ArchName) (status : Status) (old new : SinkSeen)
     → IsKeptSo list es
     → AnswersEdges (option_or (refused_edges arch list) (last (edges_kept list))) (text (edges_kept list)) status old new
@@ -116,7 +116,7 @@ names_answered arch es status old new h =
     (edges_answered (kept_edges es) es (λ us. None) name_line arch status old new (kept_so es)
     (subst (λ r. AnswersEdges r (name_line (edges_kept (kept_edges es))) status old new) (sym (option_or-none (refused_edges arch (kept_edges es)))) h))
 
--- what is answered of the cycles that are sought, as they are kept_edges, is answered of those that were asked for
+-- what is answered of the cycles that are sought, as they are kept, is answered of those that were asked for
 pub sought_answered : (arch : ArchName) (cycle : Sought) (asked : words.Sought) (status : Status) (old new : SourceSeen) (before after : SinkSeen)
     → IsSought cycle asked → AnswersKept arch cycle status old new before after → AnswersSought arch asked status old new before after
 sought_answered arch (sought.Edges list) (OfEdges es) status old new before after same h =

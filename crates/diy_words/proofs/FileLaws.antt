@@ -65,7 +65,7 @@ value_other : (option : OptionName) (at : ℕ) (value : List ℕ) → option ≡
 value_other option at value e =
     subst (λ (o : OptionName). IsOther files_in (said_by tools.Classify no_notes (Valued o at value))) (sym e) (arch_other (at + 1) (arch_named value))
 
--- an option of classify7 has its value after it, and the words after that have no usage_fault
+-- an option of classify7 has its value after it, and the words after that have no fault
 pub option_first : (words : List (List ℕ)) (at : ℕ) (text : List ℕ) (option : OptionName) → at < length words → slice_get words at ≡ Some text
     → option_named tools.Classify text ≡ Some option → AreFaultless tools.Classify words at → OptionFirst tools.Classify files_in words at
 option_first words at text option within got named fit =

@@ -168,7 +168,7 @@ pub record IsOption (tool : Tool) (words : List (List ℕ)) (at : ℕ) (option :
   pub word_is : slice_get words at ≡ Some word
   pub named : option_named tool word ≡ Some option
 
--- the cycle that edges make, as they are kept_edges, if they make one
+-- the cycle that edges make, as they are kept, if they make one
 abbrev pub cycle_kept : EdgeList → Option (List Edge)
 cycle_kept (Whole list) = result_ok (composed list.items)
 cycle_kept TooLong = None

@@ -53,7 +53,7 @@ pub data Saying : Type 0 where
   SaysPlace : List (List Edge) → Saying
   SaysCount : ℕ → Saying
 
--- a usage_fault at a word
+-- a fault at a word
 abbrev pub usage_fault : ℕ → UsageKind → Result Saying Usage
 usage_fault word kind = Err (record { word = word; kind = kind })
 
@@ -84,7 +84,7 @@ abbrev pub edges_said : ℕ → Option (List Edge) → Result Saying Usage
 edges_said at (Some es) = Ok (SaysEdges at es)
 edges_said at None = usage_fault at UnknownEdge
 
--- what is wrong with relaxations, as a usage_fault of words
+-- what is wrong with relaxations, as a fault of words
 abbrev pub relax_usage : RelaxKind → UsageKind
 relax_usage relaxing.UnknownEdge = UnknownEdge
 relax_usage relaxing.BadBracket = BadBracket
@@ -212,12 +212,12 @@ abbrev pub sayings : Tool → Notes → List Part → List (Result Saying Usage)
 sayings tool notes [] = []
 sayings tool notes (part ∷ parts) = said_by tool notes part ∷ sayings tool (with_next notes (said_by tool notes part)) parts
 
--- something said before the rest, where the rest has no usage_fault
+-- something said before the rest, where the rest has no fault
 abbrev pub said_first : Saying → Result (List Saying) Usage → Result (List Saying) Usage
 said_first saying (Ok rest) = Ok (saying ∷ rest)
 said_first saying (Err usage) = Err usage
 
--- all that words say, or the first usage_fault among them
+-- all that words say, or the first fault among them
 abbrev pub said_all : List (Result Saying Usage) → Result (List Saying) Usage
 said_all [] = Ok []
 said_all (Ok saying ∷ rest) = said_first saying (said_all rest)

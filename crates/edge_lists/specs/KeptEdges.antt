@@ -1,11 +1,11 @@
--- How edges are kept_edges as they are read.
+-- How edges are kept as they are read.
 use Rattle.std.specs.Prelude.{nat_lt, nat_le, if◌then◌else◌, List, [], ◌∷◌, ◌++◌, length}
 use Rattle.relax_edges.specs.declared.TheConstants.{MAX_EDGES}
 use Rattle.relax_edges.specs.declared.edge.Edge.{Edge}
 use Rattle.edge_lists.specs.declared.list.EdgeList.{EdgeList}
 use Rattle.edge_lists.specs.declared.list.EdgeList.TheVariants.{Whole, TooLong}
 
--- edges as they are kept_edges: all of them, or that there are too many
+-- edges as they are kept: all of them, or that there are too many
 abbrev pub kept_edges : List Edge → EdgeList
 kept_edges es = if nat_le (length es) MAX_EDGES then Whole (record { items = es }) else TooLong
 

@@ -1,4 +1,4 @@
--- Laws of edges as they are kept_edges.
+-- Laws of edges as they are kept.
 use Rattle.std.proofs.Common.{◌≡◌, ◌<◌, ◌≤◌, true, false, List, [], ◌∷◌, ◌++◌, length, refl, sym, ap, ◌∙◌, arith, nat_lt, nat_le, append_assoc, append-nil, length-append, le-leb}
 use Rattle.std.proofs.lemmas.Bool.Decides.{nat_tests}
 use Rattle.list_laws.proofs.Cases.{by_test}
@@ -29,7 +29,7 @@ room_left list edge e = rw (length-append list (edge ∷ [])) (grind (arith, nat
 room_passed : (list : List Edge) (edge : Edge) (edges : List Edge) → nat_lt (length list) MAX_EDGES ≡ false → MAX_EDGES < length (list ++ edge ∷ edges)
 room_passed list edge edges e = rw (length-append list (edge ∷ edges)) (grind (arith, nat_tests, e))
 
--- edges edges_added after others that are not too many: all are kept_edges, or there are too many
+-- edges added after others that are not too many: all are kept, or there are too many
 pub added_whole : (list : List Edge) (edges : List Edge) → length list ≤ MAX_EDGES →
     edges_added (Whole (record { items = list })) edges ≡ kept_edges (list ++ edges)
 added_whole list [] h = sym (rw (append-nil list) (kept_few list h))

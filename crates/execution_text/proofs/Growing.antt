@@ -1,4 +1,4 @@
--- An execution that grows keeps its other lists, and its lists are those that were added_to_list where it begins without any.
+-- An execution that grows keeps its other lists, and its lists are those that were added where it begins without any.
 use Rattle.std.proofs.Common.{◌≡◌, ℕ, zero, suc, ◌+◌, ◌-◌, ◌<◌, List, [], ◌∷◌, ◌++◌, length, drop, refl, ◌∙◌, arith, subst}
 use Rattle.std.specs.Prelude.{Result, Ok, Err, Option, slice_get, slice_index_or, unwrap_or}
 use Rattle.std.specs.List.{range_with_len}
@@ -13,7 +13,7 @@ use Rattle.execution_text.specs.ExecutionSteps.{all_added, line_added}
 added_length : {X : Type 0} (lists : List (List X)) (k : ℕ) (x : X) → length (added_to_list lists k x) ≡ length lists
 added_length lists k x = length-set lists k (unwrap_or (slice_get lists k) [] ++ x ∷ [])
 
--- reads that are added_to_list change neither how many lists of reads there are nor the orders
+-- reads that are added change neither how many lists of reads there are nor the orders
 reads_all : (x : Execution) (k : ℕ) (items : List (ℕ × Option WriteAt)) → (length (all_added with_read x k items).reads ≡ length x.reads) × ((all_added with_read x k items).orders ≡ x.orders)
 reads_all x k [] = (refl, refl)
 reads_all x k (item ∷ items) = let p = reads_all (with_read x k item) k items in (p.0 ∙ added_length x.reads k item, p.1)

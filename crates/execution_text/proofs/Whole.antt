@@ -30,7 +30,7 @@ abbrev second_or : {A B F : Type 0} → B → Result (A × B) F → B
 second_or b (Ok p) = p.1
 second_or b (Err f) = b
 
--- lines are read without a fault: what they give is added_to_list to one execution and makes the other
+-- lines are read without a fault: what they give is added to one execution and makes the other
 pub record AreRead {X : Type 0} (add : WayToAdd X) (x y : Execution) (k : ℕ) (told : Result (List (List X) × List (List ℕ)) ExecFault) (left : List (List ℕ)) : Type 0 where
   pub lists : List (List X)
   pub is : told ≡ Ok (lists, left)
@@ -45,7 +45,7 @@ are_read add x y k (Ok told) left h = record {
 }
 are_read add x y k (Err fault) left h = cc
 
--- a fault in what is added_to_list is a fault of the lines
+-- a fault in what is added is a fault of the lines
 pub is_wrong : {X : Type 0} (add : WayToAdd X) (x : Execution) (k : ℕ) (told : Result (List (List X) × List (List ℕ)) ExecFault) (fault : ExecFault) → lines_added add x k told ≡ Err fault → told ≡ Err fault
 is_wrong add x k (Ok told) fault h = cc
 is_wrong add x k (Err other) fault h = let e : other ≡ fault = cc in ap (λ f. Err f) e
@@ -65,7 +65,7 @@ read_length told n (head ∷ heads) [] lists left h = cc
 read_length told n (head ∷ heads) (line ∷ lines) lists left h =
     put_length (length heads) (at_line n (told head (words line))) (each_line_read told (n + 1) heads lines) lists left (λ ls l e. read_length told (n + 1) heads lines ls l e) h
 
--- a thing is added_to_list to the list after others
+-- a thing is added to the list after others
 added_at : {X : Type 0} (done rest : List (List X)) (so_far : List X) (item : X) → added_to_list (done ++ so_far ∷ rest) (length done) item ≡ done ++ (so_far ++ item ∷ []) ∷ rest
 added_at done rest so_far item =
     ap (λ found. set (done ++ so_far ∷ rest) (length done) (found ++ item ∷ [])) (unwrap_or-slice_get (done ++ so_far ∷ rest) (length done) [] ∙ get_or-append_seam done so_far rest [])
@@ -105,11 +105,11 @@ all_writes reads done (items ∷ lists) =
     ∙ ap (λ k. each_added with_write (record { reads = reads; orders = (done ++ items ∷ []) ++ replicate (length lists) [] }) k lists) e
     ∙ all_writes reads (done ++ items ∷ []) lists ∙ ap (λ l. record { reads = reads; orders = l }) (append_assoc done (items ∷ []) lists)
 
--- reads that are added_to_list to an execution without reads and writes are its reads
+-- reads that are added to an execution without reads and writes are its reads
 pub reads_are : (threads places : ℕ) (lists : List (List (ℕ × Option WriteAt))) → length lists ≡ threads → each_added with_read (nothing_kept threads places) 0 lists ≡ record { reads = lists; orders = empty_lists places }
 reads_are threads places lists h = rw (sym h) (all_reads (empty_lists places) [] lists)
 
--- writes that are added_to_list to an execution without writes are its writes
+-- writes that are added to an execution without writes are its writes
 pub writes_are : (places : ℕ) (reads : List (List (ℕ × Option WriteAt))) (lists : List (List WriteAt)) → length lists ≡ places → each_added with_write (record { reads = reads; orders = empty_lists places }) 0 lists ≡ record { reads = reads; orders = lists }
 writes_are places reads lists h = rw (sym h) (all_writes reads [] lists)
 

@@ -1,4 +1,4 @@
--- What a clear table writes operands_fit into the cells of a table.
+-- What a clear table writes fits into the cells of a table.
 use Rattle.std.proofs.Common.{ℕ, ◌+◌, ◌<◌, ◌≤◌, ◌≡◌, ◌==◌, refl, true, false, not, ◌&&◌, nat_le, List, [], ◌∷◌, ◌++◌, length, ◌∙◌, ap, length-append, arith}
 use Rattle.std.specs.List.{list_all, list_any}
 use Rattle.std.specs.Str.{bytes_eq}
@@ -199,7 +199,7 @@ short : (t : TableText) (names : ℕ → List ℕ) (op : Micro) → is_clear t.f
 short t names (ops.Label l) clear has named = label_short t names l
 short t names op clear has named = (fits_cells t names op clear has named refl).short
 
--- what a clear table writes operands_fit into the cells of a table
+-- what a clear table writes fits into the cells of a table
 pub writes_cells : (a : Puts) (t : TableText) (registers : List (List ℕ)) → is_clear t.forms ≡ true →
     ((op : Micro) → a.has op ≡ true → table_has t op ≡ true) → WritesCells a (table_writing t registers)
 writes_cells a t registers clear covers = record {

@@ -1,5 +1,5 @@
--- The instructions that make up the code of architectures whose accesses name a register that holds the address_held: a branch on a register,
--- accesses at an address_held that depends on a register, and what joins a dependency to a number. What each sort of them keeps is
+-- The instructions that make up the code of architectures whose accesses name a register that holds the address: a branch on a register,
+-- accesses at an address that depends on a register, and what joins a dependency to a number. What each sort of them keeps is
 -- proved here once; an architecture says of which sort its own are, and that its table has them.
 -- Source: own.
 use Rattle.std.proofs.Common.{ℕ, ◌+◌, ◌<◌, ◌≤◌, ◌^◌, ◌≡◌, ◌==◌, refl, true, false, bit_or, List, [], ◌∷◌, ◌++◌, Some, None, length, ◌∙◌, sym, ap, append-nil, arith}
@@ -38,7 +38,7 @@ pub record IsBranch (branch : ℕ → ℕ → List Micro) : Type 0 where
       list_all (is_at_place p) (branch s n ++ ops.Label n ∷ rest) ≡ true
   pub no_access : (s n : ℕ) (rest : List Micro) → access_count (branch s n ++ ops.Label n ∷ rest) ≡ access_count rest
 
--- a load and a store of register v at the address_held in register a, so that it depends on register d, which holds 0
+-- a load and a store of register v at the address in register a, so that it depends on register d, which holds 0
 pub record AreDependent (load store : ℕ → ℕ → ℕ → List Micro) : Type 0 where
   pub load_runs : (d v a p n mask : ℕ) (vs : List ℕ) (r : Run) → r.state.regs a ≡ held_at_place p →
       r.state.regs d ≡ num 0 mask → r.reads ≡ n ∷ vs → LoadsBy Plain (load d v a) r d v p n mask vs
@@ -122,7 +122,7 @@ indexed = record {
   store_once = λ d v a. refl;
 }
 
--- accesses at an address_held that is added to a register first depend on it
+-- accesses at an address that is added to a register first depend on it
 pub added : AreDependent (λ d v a. ops.Add d d a ∷ ops.Load v d None ∷ []) (λ d v a. ops.Add d d a ∷ ops.Store v d None ∷ [])
 added = record {
   load_runs = λ d v a p n mask vs r e g reads.

@@ -180,7 +180,7 @@ abbrev pub raw_or : Kind → Option (List FoundOperand) → Option RawInstr → 
 raw_or kind (Some vs) other = raw_with kind vs
 raw_or kind None other = other
 
--- the instruction of the first form that operands_fit, else another
+-- the instruction of the first form that fits, else another
 unfoldable pub first_form_read : List FormText → List ℕ → List (List ℕ) → Option RawInstr → Option RawInstr
 first_form_read [] word ts other = other
 first_form_read (f ∷ fs) word ts other = raw_or f.kind (form_found f word ts) (first_form_read fs word ts other)

@@ -15,12 +15,12 @@ use Rattle.form_laws.specs.Kinds.{FoundOperand, raw_with}
 use Rattle.form_laws.specs.Tables.{FormText, piece_seen, form_seen, joined_operands, pieces_found, form_found, after_prefix, before_suffix, raw_or, first_form_read, label_read, texts_in, raw_if}
 use Rattle.instruction_forms.specs.Founds.{texts_seen, form_raw, forms_raw}
 
--- no operands, joined_operands to others, change nothing
+-- no operands, joined to others, change nothing
 pub join_nothing : (o : Option (List FoundOperand)) → joined_operands (Some []) o ≡ o
 join_nothing None = refl
 join_nothing (Some xs) = refl
 
--- operands that are joined_operands twice may be joined_operands in any grouping
+-- operands that are joined twice may be joined in any grouping
 pub join_joined : (o p q : Option (List FoundOperand)) → joined_operands (joined_operands o p) q ≡ joined_operands o (joined_operands p q)
 join_joined None p q = refl
 join_joined (Some xs) None q = refl

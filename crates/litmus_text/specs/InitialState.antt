@@ -45,7 +45,7 @@ worth_if text None = place_worth text
 abbrev pub worth_of : List ℕ → Option Worth
 worth_of text = worth_if text (number_of text)
 
--- a register that is given_item a value
+-- a register that is given a value
 abbrev pub given_item : ℕ → Option ℕ → Option Worth → Option Item
 given_item thread (Some register) (Some worth) = Some (gives thread register worth)
 given_item thread _ _ = None
@@ -86,7 +86,7 @@ pub record Begun : Type 0 where
   pub names : List (List ℕ)
   pub values : List (ℕ × (ℕ × Value))
 
--- nothing is given_item so far
+-- nothing is given so far
 abbrev pub nothing_begun : Begun
 nothing_begun = record { names = []; values = [] }
 

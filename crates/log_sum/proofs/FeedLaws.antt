@@ -16,7 +16,7 @@ use Rattle.log_sum.specs.LogLines.{Said, log_line_said, fact_said, test_after, p
 use Rattle.log_sum.specs.LogReading.{LogSeen, ◌>>=◌, fault_at, is_too_long, nothing_seen, fact_put, fact_judged, said_to, said_put, at_next_line, next_line, text_judged, line_judged, lines_judged, whole_lines, unfinished, rest_judged, bytes_judged, last_judged, end_at, end_judged, file_judged, files_judged, input_judged}
 use Rattle.text_laws.specs.Lines.{without_return}
 use Rattle.log_sum.specs.Representing.{SumProgress, Kept, Represents, FedTo, EndedTo}
-use Rattle.log_sum.specs.Feeding.{AreMarked, FollowsSeen, ReadOn, ProgressReadTo, PieceTo, EndTo, sum_refusal}
+use Rattle.log_sum.specs.Feeding.{AreMarked, FollowsSeen, ReadOn, JudgedTo, PieceTo, EndTo, sum_refusal}
 use Rattle.log_sum.proofs.ReadingLaws.{is_one_line, so_far, so_far_more, so_far_ended, input_by_lines, rest_more, rest_ended, read_on}
 use Rattle.log_sum.proofs.SumLaws.{none_marked}
 use Rattle.log_sum.proofs.FollowLaws.{entry_marked}
@@ -172,7 +172,7 @@ part_after old files bytes part s one =
 
 -- the answer to a part of a line that goes on is that of the reading
 pub part_answered : (old new : Kept) (files : List (List ℕ)) (bytes part : List ℕ) (s : Represents old files bytes) → is_one_line part ≡ true → (r : Result (Unit {0}) Fault)
-    → ProgressReadTo new.progress (rest_judged s.seen (old.held ++ part)) r → OnOk r (new ≡ record old { held = old.held ++ part }) → PieceTo new files (bytes ++ part) r
+    → JudgedTo new.progress (rest_judged s.seen (old.held ++ part)) r → OnOk r (new ≡ record old { held = old.held ++ part }) → PieceTo new files (bytes ++ part) r
 part_answered old new files bytes part s one (Ok x) h e = record {
   seen = h.seen;
   judged = part_after old files bytes part s one ∙ h.is;
@@ -220,7 +220,7 @@ last_text seen (byte ∷ line) h f = let e : is_too_long (byte ∷ line) ≡ fal
 
 -- the answer to the end of a file is that of the reading
 pub end_answered : (new : Kept) (files : List (List ℕ)) (bytes : List ℕ) (seen : LogSeen) → files_judged nothing_seen (files ++ bytes ∷ []) ≡ end_judged seen → new.held ≡ [] → new.refusal ≡ None
-    → (r : Result (Unit {0}) Fault) → ProgressReadTo new.progress (end_judged seen) r → OnOk r (new.in_order ≡ true) → EndTo new files bytes r
+    → (r : Result (Unit {0}) Fault) → JudgedTo new.progress (end_judged seen) r → OnOk r (new.in_order ≡ true) → EndTo new files bytes r
 unfolding unfinished
 end_answered new files bytes seen e held going (Ok x) h o = record {
   seen = h.seen;
@@ -235,7 +235,7 @@ end_answered new files bytes seen e held going (Err NoMemory) h o = tt
 
 -- a last line that is wrong
 pub last_answered : (new : Kept) (files : List (List ℕ)) (bytes line : List ℕ) (seen : LogSeen) → files_judged nothing_seen (files ++ bytes ∷ []) ≡ (last_judged seen line >>= end_judged)
-    → last_judged seen line ≡ text_judged seen line → (fault : Fault) → ProgressReadTo new.progress (text_judged seen line) (Err fault) → EndTo new files bytes (Err fault)
+    → last_judged seen line ≡ text_judged seen line → (fault : Fault) → JudgedTo new.progress (text_judged seen line) (Err fault) → EndTo new files bytes (Err fault)
 last_answered new files bytes line seen e f (Wrong kind) h = e ∙ ap (λ (r : Result LogSeen LogError). r >>= end_judged) (f ∙ h)
 last_answered new files bytes line seen e f NoMemory h = tt
 
@@ -273,20 +273,20 @@ unfolding line_judged
 line_long seen line h = let e : is_too_long line ≡ true = is_over (length line) h in rw e refl
 
 -- the fault of a held line that is too long is that of the line once it has ended
-pub long_ended : (new : SumProgress) (seen : LogSeen) (line : List ℕ) (fault : Fault) → ProgressReadTo new (rest_judged seen line) (Err fault) → ProgressReadTo new (line_judged seen line) (Err fault)
+pub long_ended : (new : SumProgress) (seen : LogSeen) (line : List ℕ) (fault : Fault) → JudgedTo new (rest_judged seen line) (Err fault) → JudgedTo new (line_judged seen line) (Err fault)
 unfolding rest_judged line_judged
 long_ended new seen line (Wrong kind) h = by_test (is_too_long line) (λ e. rw e (rw e at h)) (λ e. let k = rw e at h in absurd (cc))
 long_ended new seen line NoMemory h = tt
 
 -- a line that fits, by its text
-pub line_read : (new : SumProgress) (seen : LogSeen) (line text : List ℕ) (r : Result (Unit {0}) Fault) → length line ≤ 65536 → text ≡ without_return line → ProgressReadTo new (text_judged seen text) r
-    → ProgressReadTo new (line_judged seen line) r
+pub line_read : (new : SumProgress) (seen : LogSeen) (line text : List ℕ) (r : Result (Unit {0}) Fault) → length line ≤ 65536 → text ≡ without_return line → JudgedTo new (text_judged seen text) r
+    → JudgedTo new (line_judged seen line) r
 line_read new seen line text r few e h =
-    subst (λ (t : Result LogSeen LogError). ProgressReadTo new t r) (ap (text_judged seen) e ∙ sym (line_fits seen line few)) h
+    subst (λ (t : Result LogSeen LogError). JudgedTo new t r) (ap (text_judged seen) e ∙ sym (line_fits seen line few)) h
 
 -- a line that is wrong, with the rest of its piece after it
 pub line_answered : (old new : Kept) (files : List (List ℕ)) (bytes prefix remainder whole : List ℕ) (s : Represents old files bytes) → is_one_line prefix ≡ true → (bytes ++ (prefix ++ 10 ∷ [])) ++ remainder ≡ whole
-    → (fault : Fault) → ProgressReadTo new.progress (line_judged s.seen (old.held ++ prefix)) (Err fault) → PieceTo new files whole (Err fault)
+    → (fault : Fault) → JudgedTo new.progress (line_judged s.seen (old.held ++ prefix)) (Err fault) → PieceTo new files whole (Err fault)
 line_answered old new files bytes prefix remainder whole s one e (Wrong kind) h =
     ap (input_judged files) (sym e) ∙ input_fault files (bytes ++ (prefix ++ 10 ∷ [])) remainder _ (line_faulty old files bytes prefix _ s one h)
 line_answered old new files bytes prefix remainder whole s one e NoMemory h = tt

@@ -13,7 +13,7 @@ use Rattle.log_sum.specs.declared.kinds.Kind.{Kind}
 use Rattle.log_sum.specs.declared.kinds.Place.{Place}
 use Rattle.log_sum.specs.declared.kinds.Place.TheVariants.{Outside, Histogram, States, Judgement, Rest, Conditioned}
 use Rattle.log_sum.specs.declared.table.Table.{Table}
-use Rattle.log_sum.specs.SumViews.{tests_view, IsFault}
+use Rattle.log_sum.specs.SumViews.{tests_view, IsLineFault}
 use Rattle.log_sum.specs.Counts.{last_count}
 use Rattle.log_sum.specs.Facts.{Row, Fact, Entry, a_kind, a_row, a_condition, a_hash, facts_of, rows, same_state_mark, is_other, mark_in, marked_sum, fault_if, fact_fault}
 use Rattle.log_sum.specs.LogLines.{Said, passed_over, begins, counts, a_state, judged, conditioned, hashed, ends, test_line, outside_said, row_said, log_line_said, place_after, fact_said, test_after}
@@ -21,7 +21,7 @@ use Rattle.log_sum.specs.LogReading.{LogSeen, fact_put, fact_judged, fault_at, s
 use Rattle.log_sum.specs.Representing.{SumProgress, IsRunning, test_name_at}
 use Rattle.log_sum.specs.Summed.{Summed}
 use Rattle.text_laws.specs.Words.{words}
-use Rattle.log_sum.specs.Feeding.{Marked, AreMarked, entry_of, FactPut, RowPut, FollowsSeen, ReadOn, ProgressReadTo}
+use Rattle.log_sum.specs.Feeding.{Marked, AreMarked, entry_of, FactPut, RowPut, FollowsSeen, ReadOn, JudgedTo}
 use Rattle.log_sum.proofs.SumLaws.{rows_more, marked_put}
 use Rattle.log_sum.proofs.ReadingLaws.{facts_here, facts_elsewhere}
 
@@ -58,7 +58,7 @@ running_at (Conditioned kind) tests i name h = h
 
 -- an answer to a fact is that of the reading
 pub fact_read : (new : SumProgress) (table : Table) (seen : LogSeen) (fact : Fact) (r : Result (Unit {0}) Fault) → AreMarked seen.entries → FactPut seen.entries seen.test fact table r
-    → new.tests ≡ tests_view table → new.test ≡ table.running → new.place ≡ seen.place → new.line ≡ seen.line → ProgressReadTo new (fact_put seen (Some fact)) r
+    → new.tests ≡ tests_view table → new.test ≡ table.running → new.place ≡ seen.place → new.line ≡ seen.line → JudgedTo new (fact_put seen (Some fact)) r
 fact_read new table seen fact (Ok x) m h t i p l =
     record {
       seen = record seen { entries = seen.entries ++ (record { test = seen.test; fact = fact }) ∷ [] };
@@ -105,7 +105,7 @@ running_inside (Conditioned kind) text said tests i name e h r = r
 -- an answer to what a line says is that of the reading
 pub put_fact : (new : SumProgress) (table : Table) (seen : LogSeen) (said : Said) (fact : Fact) (r : Result (Unit {0}) Fault) → fact_said said ≡ Some fact → AreMarked seen.entries
     → FactPut seen.entries (test_after seen.test said) fact table r → new.tests ≡ tests_view table → new.test ≡ table.running → new.place ≡ place_after seen.place said → new.line ≡ seen.line
-    → ProgressReadTo new (said_to seen said) r
+    → JudgedTo new (said_to seen said) r
 put_fact new table seen said fact r f m h t i p l =
     rw f (fact_read new table (record seen { test = test_after seen.test said; place = place_after seen.place said }) fact r m h t i p l)
 
@@ -161,13 +161,13 @@ put_place old new seen text ends f e h t i p l = record {
 }
 
 -- a line by what it says
-pub text_wrong : (new : SumProgress) (seen : LogSeen) (text : List ℕ) (fault : Fault) → new.line ≡ seen.line → IsFault fault (log_line_said seen.place text) → ProgressReadTo new (text_judged seen text) (Err fault)
+pub text_wrong : (new : SumProgress) (seen : LogSeen) (text : List ℕ) (fault : Fault) → new.line ≡ seen.line → IsLineFault fault (log_line_said seen.place text) → JudgedTo new (text_judged seen text) (Err fault)
 unfolding text_judged
 text_wrong new seen text (Wrong kind) l e = ap (said_put seen) e ∙ ap (λ (n : ℕ). fault_at {A = LogSeen} n kind) (sym l)
 text_wrong new seen text NoMemory l e = tt
 
 -- a fault of what a line says is the fault of the line
-pub text_refused : (new : SumProgress) (seen : LogSeen) (text : List ℕ) (said : Result Said LogKind) (fault : Fault) → log_line_said seen.place text ≡ said → ProgressReadTo new (said_judged seen said) (Err fault) → ProgressReadTo new (text_judged seen text) (Err fault)
+pub text_refused : (new : SumProgress) (seen : LogSeen) (text : List ℕ) (said : Result Said LogKind) (fault : Fault) → log_line_said seen.place text ≡ said → JudgedTo new (said_judged seen said) (Err fault) → JudgedTo new (text_judged seen text) (Err fault)
 unfolding text_judged
 text_refused new seen text said (Wrong kind) e h = ap (said_put seen) e ∙ ap (λ (r : Result LogSeen LogError). r >>= at_next_line) h
 text_refused new seen text said NoMemory e h = tt
@@ -209,7 +209,7 @@ running_state (Conditioned kind) text row tests i name e r = r
 -- an answer to the line of a state is that of the reading
 pub put_state : (new : SumProgress) (table : Table) (seen : LogSeen) (row : Result Row LogKind) (r : Result (Unit {0}) Fault) → AreMarked seen.entries → RowPut seen.entries seen.test row table r
     → new.tests ≡ tests_view table → new.test ≡ table.running → ((x : Row) → row ≡ Ok x → new.place ≡ place_after seen.place (a_state x)) → new.line ≡ seen.line
-    → ProgressReadTo new (said_judged seen (row_said row)) r
+    → JudgedTo new (said_judged seen (row_said row)) r
 unfolding fact_said
 put_state new table seen (Ok row) r m h t i p l = put_fact new table seen (a_state row) (a_row row) r refl m h t i (p row refl) l
 put_state new table seen (Err kind) (Ok x) m h t i p l = absurd h

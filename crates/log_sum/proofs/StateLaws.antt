@@ -13,7 +13,7 @@ use Rattle.log_sum.specs.LogStates.{with_pieces, with_equality, sides_read, and_
 use Rattle.log_sum.specs.declared.errors.LogKind.{LogKind}
 use Rattle.log_sum.specs.declared.errors.Fault.{Fault}
 use Rattle.log_sum.specs.declared.errors.Fault.TheVariants.{Wrong, NoMemory}
-use Rattle.log_sum.specs.SumViews.{IsFault}
+use Rattle.log_sum.specs.SumViews.{IsLineFault}
 
 -- the pieces of a text, cut at its first semicolon
 pub pieces_cut : (sign : ℕ) (text : List ℕ) (parts : List ℕ × List ℕ) → cut_at sign text ≡ Some parts
@@ -140,7 +140,7 @@ form_goes show xs x form next e f =
     f ∙ ap (λ t. form_with t (show x)) e ∙ form_more (map show xs) (show x) ∙ ap state_form (sym (map_push show xs x))
 
 -- a fault that is passed on
-pub fault_on : {Y Z : Type 0} (fault : Fault) (read : Result Y LogKind) (other : Result Z LogKind) → ((kind : LogKind) → read ≡ Err kind → other ≡ Err kind) → IsFault fault read → IsFault fault other
+pub fault_on : {Y Z : Type 0} (fault : Fault) (read : Result Y LogKind) (other : Result Z LogKind) → ((kind : LogKind) → read ≡ Err kind → other ≡ Err kind) → IsLineFault fault read → IsLineFault fault other
 fault_on (Wrong kind) read other f h = f kind h
 fault_on NoMemory read other f h = tt
 

@@ -75,10 +75,10 @@ pub record ReadOn (new : SumProgress) (read : Result LogSeen LogError) : Type 0 
   pub follows : FollowsSeen new seen
 
 -- an answer compared with a reading: what is kept has followed it, or the fault is the reading's
-abbrev pub ProgressReadTo : SumProgress → Result LogSeen LogError → Result (Unit {0}) Fault → Type 0
-ProgressReadTo new read (Ok x) = ReadOn new read
-ProgressReadTo new read (Err (Wrong kind)) = read ≡ fault_at new.line kind
-ProgressReadTo new read (Err NoMemory) = Unit {0}
+abbrev pub JudgedTo : SumProgress → Result LogSeen LogError → Result (Unit {0}) Fault → Type 0
+JudgedTo new read (Ok x) = ReadOn new read
+JudgedTo new read (Err (Wrong kind)) = read ≡ fault_at new.line kind
+JudgedTo new read (Err NoMemory) = Unit {0}
 
 -- an answer to a piece of a log, compared with the reading
 abbrev pub PieceTo : Kept → List (List ℕ) → List ℕ → Result (Unit {0}) Fault → Type 0
@@ -95,7 +95,7 @@ EndTo new files bytes (Err NoMemory) = Unit {0}
 -- an answer to what a line says: it is that of every reading which is as far as this one, of every line that says so
 abbrev pub SaidTo : SumProgress → SumProgress → Result Said LogKind → Result (Unit {0}) Fault → Type 0
 SaidTo old new said answer =
-    (seen : LogSeen) (text : List ℕ) → FollowsSeen old seen → log_line_said seen.place text ≡ said → ProgressReadTo new (said_judged seen said) answer
+    (seen : LogSeen) (text : List ℕ) → FollowsSeen old seen → log_line_said seen.place text ≡ said → JudgedTo new (said_judged seen said) answer
 
 -- a fault as it is answered, at the running line
 abbrev pub sum_refusal : ℕ → Fault → SumError

@@ -1,7 +1,7 @@
 ghost use Rattle.std.specs.Prelude.{◌≡◌, true, OnOk};
 ghost use Rattle.log_sum.specs.SumViews.{said_read, row_code_said, are_in_order, progress_view};
 ghost use Rattle.log_sum.specs.LogReading.{LogSeen, nothing_seen, text_judged, end_judged};
-ghost use Rattle.log_sum.specs.Feeding.{RowPut, FollowsSeen, ProgressReadTo, SaidTo, ForRunningTest};
+ghost use Rattle.log_sum.specs.Feeding.{RowPut, FollowsSeen, JudgedTo, SaidTo, ForRunningTest};
 
 use crate::errors::{Fault, LogKind};
 use crate::kinds::Place;
@@ -39,7 +39,7 @@ impl Reading {
 
     /// Reads a line without its end.
     pub(crate) fn judge(&mut self, text: &[u8]) -> Result<(), Fault>
-        ensures { (seen : LogSeen) → FollowsSeen (progress_view self.old) seen → ProgressReadTo (progress_view self.new) (text_judged seen text.now) result }
+        ensures { (seen : LogSeen) → FollowsSeen (progress_view self.old) seen → JudgedTo (progress_view self.new) (text_judged seen text.now) result }
     {
         let said = read_line(self.alloc, self.place, text)?;
         self.put(said)?;
@@ -50,7 +50,7 @@ impl Reading {
     /// Ends a log, and puts the states of each test in byte order.
     pub(crate) fn end(&mut self) -> Result<(), Fault>
         ensures in_order { OnOk result (are_in_order self.new.table ≡ true) }
-        ensures ended { (seen : LogSeen) → FollowsSeen (progress_view self.old) seen → ProgressReadTo (progress_view self.new) (end_judged seen) result }
+        ensures ended { (seen : LogSeen) → FollowsSeen (progress_view self.old) seen → JudgedTo (progress_view self.new) (end_judged seen) result }
     {
         match self.place {
             Place::Outside => {

@@ -3,7 +3,7 @@ ghost use Rattle.diy_io.specs.Page.{Sends};
 ghost use Rattle.diy_io.specs.Wrote.{Wrote};
 ghost use Rattle.log_sum.specs.LogReading.{LogSeen, line_judged, rest_judged};
 ghost use Rattle.log_sum.specs.Representing.{Kept, Represents, FedTo, EndedTo, IsKeptRefusal, GivenAgain, kept_text};
-ghost use Rattle.log_sum.specs.Feeding.{FollowsSeen, ProgressReadTo, PieceTo, EndTo, sum_refusal};
+ghost use Rattle.log_sum.specs.Feeding.{FollowsSeen, JudgedTo, PieceTo, EndTo, sum_refusal};
 
 use crate::errors::{Fault, LogError, LogKind, SumError};
 use crate::print::print_sum;
@@ -153,7 +153,8 @@ impl Summer {
 
     /// The end of the running line, which a line feed follows.
     fn feed_line(&mut self, prefix: &[u8]) -> Result<(), Fault>
-        ensures judged { (seen : LogSeen) → FollowsSeen self.old.progress seen → ProgressReadTo self.new.progress (line_judged seen (self.old.held ++ prefix.now)) result }
+        ensures judged { (seen : LogSeen) → FollowsSeen self.old.progress seen
+            → JudgedTo self.new.progress (line_judged seen (self.old.held ++ prefix.now)) result }
         ensures held { OnOk result (self.new.held ≡ []) }
         ensures refusal { self.new.refusal ≡ self.old.refusal }
     {
@@ -171,7 +172,8 @@ impl Summer {
 
     /// Holds a part of the running line.
     fn hold(&mut self, part: &[u8]) -> Result<(), Fault>
-        ensures judged { (seen : LogSeen) → FollowsSeen self.old.progress seen → ProgressReadTo self.new.progress (rest_judged seen (self.old.held ++ part.now)) result }
+        ensures judged { (seen : LogSeen) → FollowsSeen self.old.progress seen
+            → JudgedTo self.new.progress (rest_judged seen (self.old.held ++ part.now)) result }
         ensures held { OnOk result (self.new ≡ record self.old { held = self.old.held ++ part.now }) }
         ensures refusal { self.new.refusal ≡ self.old.refusal }
     {

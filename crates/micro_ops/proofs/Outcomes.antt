@@ -5,7 +5,7 @@ use Rattle.micro_ops.specs.declared.operation.Micro.{Micro}
 use Rattle.micro_ops.specs.declared.operation.Item.{Item}
 use Rattle.micro_ops.specs.Running.{Run, Point, At, Past, Wants, Stuck, exec, beginning, Ended, ReadsLeft, ReadsShort, run_ended, outcome, runs}
 
--- a run whose code is over and that has used all its reads has run_ended
+-- a run whose code is over and that has used all its reads has ended
 pub runs_ended : (code : List Micro) (init : List (ℕ × Value)) (reads : List ℕ) (after : Run) →
     exec code (At (beginning init reads)) ≡ At after → after.reads ≡ [] →
     runs code init reads ≡ Ended after.made (λ q. (after.state.regs q).value)
@@ -22,7 +22,7 @@ pub runs_short : (code : List Micro) (init : List (ℕ × Value)) (reads : List 
     exec code (At (beginning init reads)) ≡ Wants after → runs code init reads ≡ ReadsShort
 runs_short code init reads after e = ap outcome e
 
--- where a run that run_ended came to
+-- where a run that ended came to
 pub record EndedRun (code : List Micro) (init : List (ℕ × Value)) (reads : List ℕ) (made : List Item)
     (values : ℕ → Value) : Type 0 where
   pub after : Run
@@ -31,7 +31,7 @@ pub record EndedRun (code : List Micro) (init : List (ℕ × Value)) (reads : Li
   pub made_is : after.made ≡ made
   pub values_are : (q : ℕ) → (after.state.regs q).value ≡ values q
 
--- a run that run_ended came to such a point
+-- a run that ended came to such a point
 pub ended_run : (code : List Micro) (init : List (ℕ × Value)) (reads : List ℕ) (made : List Item)
     (values : ℕ → Value) → runs code init reads ≡ Ended made values →
     EndedRun code init reads made values

@@ -33,11 +33,11 @@ pub record Effect : Type 0 where
 abbrev pub num : ℕ → ℕ → Held
 num n mask = record { value = Num n; mask = mask }
 
--- the address_held of a place, which depends on the loads of a mask
+-- the address of a place, which depends on the loads of a mask
 abbrev pub address_held : ℕ → ℕ → Held
 address_held place mask = record { value = Place place; mask = mask }
 
--- the address_held of a place, which depends on no load
+-- the address of a place, which depends on no load
 abbrev pub held_at_place : ℕ → Held
 held_at_place place = address_held place 0
 
@@ -76,7 +76,7 @@ abbrev pub ored : Value → ℕ → Option Value
 ored (Num m) n = Some (Num (bit_or m n))
 ored (Place _) _ = None
 
--- the place that an address_held and the number 0 make, in either order
+-- the place that an address and the number 0 make, in either order
 abbrev pub place_at : Value → Value → Option ℕ
 place_at (Place p) (Num zero) = Some p
 place_at (Num zero) (Place p) = Some p
@@ -87,7 +87,7 @@ abbrev pub as_place : Option ℕ → Option Value
 as_place (Some p) = Some (Place p)
 as_place None = None
 
--- the sum of two numbers, or of an address_held and the number 0
+-- the sum of two numbers, or of an address and the number 0
 abbrev pub sum_of_values : Value → Value → Option Value
 sum_of_values (Num m) (Num n) = fitting (m + n)
 sum_of_values a b = as_place (place_at a b)
@@ -102,7 +102,7 @@ abbrev pub place_reached : ThreadState → ℕ → Option ℕ → Option ℕ
 place_reached s base None = place_at (s.regs base).value (Num 0)
 place_reached s base (Some index) = place_at (s.regs base).value (s.regs index).value
 
--- the loads that the address_held of an access depends on
+-- the loads that the address of an access depends on
 abbrev pub address_mask : ThreadState → ℕ → Option ℕ → ℕ
 address_mask s base None = (s.regs base).mask
 address_mask s base (Some index) = both_masks s base index

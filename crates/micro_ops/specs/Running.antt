@@ -143,7 +143,7 @@ outcome (Past _ _) = NoRule
 outcome (Wants _) = ReadsShort
 outcome Stuck = NoRule
 
--- the run of a thread: its code, from its initial_state registers, on the numbers that its loads read
+-- the run of a thread: its code, from its initial registers, on the numbers that its loads read
 abbrev pub runs : List Micro → List (ℕ × Value) → List ℕ → Outcome
 runs code init reads = outcome (exec code (At (beginning init reads)))
 

@@ -1,4 +1,4 @@
--- The relaxations of a text: the edges that its words name, the path_choices that join, and the refusals.
+-- The relaxations of a text: the edges that its words name, the choices that join, and the refusals.
 -- Source: the diy part of the herdtools manual, option `-relax`.
 use Rattle.std.specs.Prelude.{ℕ, ◌≡◌, ◌<◌, ◌≤◌, ◌==◌, ◌&&◌, Bool, true, false, not, cond, nat_lt, Option, Some, None, Result, Ok, Err, List, [], ◌∷◌, ◌++◌, length, filter, map, codes}
 use Rattle.std.specs.List.{flat_map, filter_map, list_any}
@@ -35,12 +35,12 @@ abbrev pub is_path : List Edge → Bool
 is_path [] = true
 is_path (edge ∷ remainder) = joins_on edge remainder
 
--- all path_choices of one from each list, the last turning fastest
+-- all choices of one from each list, the last turning fastest
 abbrev pub path_choices : List (List Edge) → List (List Edge)
 path_choices [] = [] ∷ []
 path_choices (edges ∷ remainder) = flat_map (λ edge. map (λ path. edge ∷ path) (path_choices remainder)) edges
 
--- the path_choices of some words in which neighbours join
+-- the choices of some words in which neighbours join
 abbrev pub paths_of : List (List ℕ) → List (List Edge)
 paths_of words = filter is_path (path_choices (map word_edges words))
 

@@ -15,13 +15,13 @@ appended_none [] k = refl
 appended_none (xs ∷ lists) zero = ap (λ ys. ys ∷ lists) (append-nil xs)
 appended_none (xs ∷ lists) (suc k) = ap (λ ls. xs ∷ ls) (appended_none lists k)
 
--- one element after some with_appended is all of them with_appended
+-- one element after some appended is all of them appended
 pub added_appended : {X : Type 0} (lists : List (List X)) (k : ℕ) (xs : List X) (x : X) → added_to_list (with_appended lists k xs) k x ≡ with_appended lists k (xs ++ x ∷ [])
 added_appended [] k xs x = refl
 added_appended (ys ∷ lists) zero xs x = ap (λ zs. zs ∷ lists) (append_assoc ys xs (x ∷ []))
 added_appended (ys ∷ lists) (suc k) xs x = ap (λ ls. ys ∷ ls) (added_appended lists k xs x)
 
--- with_appended elements don't change how many lists there are
+-- appended elements don't change how many lists there are
 pub appended_length : {X : Type 0} (lists : List (List X)) (k : ℕ) (xs : List X) → length (with_appended lists k xs) ≡ length lists
 appended_length lists k xs = length-set lists k (unwrap_or (slice_get lists k) [] ++ xs)
 

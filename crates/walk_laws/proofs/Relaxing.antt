@@ -14,7 +14,7 @@ use Rattle.cycle_laws.proofs.Rotating.{rotation_of_place, place_of_rotation}
 use Rattle.cycle_laws.proofs.Rotating.{before, remainder, cuts}
 use Rattle.walk_laws.proofs.Searching.{BeginsWith}
 
--- what begins_with_path a relaxation begins with it
+-- what fits a relaxation begins with it
 fits_whole : (r u : List Edge) → begins_with_path false r u ≡ true → BeginsWith r u
 fits_whole [] u h = record { rest = u; is = refl }
 fits_whole (x ∷ r) [] h = cc
@@ -24,7 +24,7 @@ fits_whole (x ∷ r) (y ∷ u) h =
     let b = fits_whole r u both.1 in
     record { rest = b.rest; is = cc (same, b.is) }
 
--- what begins with a relaxation begins_with_path it, and where it may end inside one, so does a prefix
+-- what begins with a relaxation fits it, and where it may end inside one, so does a prefix
 fits_prefix : (inside : Bool) (r v : List Edge) → begins_with_path inside r (r ++ v) ≡ true
 fits_prefix inside [] v = refl
 fits_prefix inside (x ∷ r) v = and_from (nat_eq (rank_of x) (rank_of x)) (begins_with_path inside r (r ++ v)) (eq-eqb (rank_of x) (rank_of x) refl) (fits_prefix inside r v)

@@ -1,4 +1,4 @@
--- The loop of `file_place`: no file before a place has the name.
+-- The loop of `place_of`: no file before a place has the name.
 use Rattle.std.proofs.Common.{◌≡◌, drop, map}
 use Rattle.std.specs.List.{position_from}
 use Rattle.diy_io.specs.MemFiles.{has_name, file_place}

@@ -1,4 +1,4 @@
--- That `file_place` gives the place of a file that is there.
+-- That `place_of` gives the place of a file that is there.
 use Rattle.std.proofs.Common.{ap, ◌∙◌, map}
 use Rattle.diy_io.specs.MemFiles.{file_place}
 use Rattle.diy_io.specs.MemEntries.{file_view}

@@ -2,7 +2,7 @@
 use Rattle.std.proofs.Common.{refl, sym, ap, ◌∙◌, subst}
 use Rattle.std.proofs.lemmas.Result.{err_from_is_err_and}
 use Rattle.log_sum.specs.declared.kinds.Place.{Place}
-use Rattle.log_sum.specs.SumViews.{said_read, progress_view, IsFault}
+use Rattle.log_sum.specs.SumViews.{said_read, progress_view, IsLineFault}
 use Rattle.log_sum.specs.LogLines.{log_line_said}
 use Rattle.log_sum.proofs.FollowLaws.{text_wrong, text_refused, text_read}
 use Rattle.log_sum.proofs.reading.Reading.judge.Goals as goal
@@ -11,7 +11,7 @@ pub returns-in_err-said : goal.returns-in_err-said
 returns-in_err-said c = λ seen follows.
     let p = err_from_is_err_and c.from_residual.result c.from_residual.ensures.1 in
     rw (p.1, p.2) (text_wrong (progress_view c.args.self.now) seen c.args.text.now c.in_err-said.field-0.0 follows.reading.line
-    (subst (λ (x : Place). IsFault c.in_err-said.field-0.0 (log_line_said x c.args.text.now)) follows.reading.place c.in_err-said.ensures))
+    (subst (λ (x : Place). IsLineFault c.in_err-said.field-0.0 (log_line_said x c.args.text.now)) follows.reading.place c.in_err-said.ensures))
 
 pub returns-in_err-put : goal.returns-in_err-put
 returns-in_err-put c = λ seen follows.

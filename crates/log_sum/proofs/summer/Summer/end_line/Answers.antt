@@ -6,7 +6,7 @@ use Rattle.log_sum.specs.declared.errors.LogError.{LogError}
 use Rattle.log_sum.specs.SumViews.{progress_view, are_in_order}
 use Rattle.log_sum.specs.LogReading.{LogSeen, ◌>>=◌, text_judged, end_judged}
 use Rattle.log_sum.specs.Representing.{SumProgress, Kept}
-use Rattle.log_sum.specs.Feeding.{FollowsSeen, ProgressReadTo}
+use Rattle.log_sum.specs.Feeding.{FollowsSeen, JudgedTo}
 use Rattle.log_sum.proofs.FeedLaws.{represents_follows, end_after, last_nothing, last_text, end_answered, last_answered, nothing_there, some_there, none_there}
 use Rattle.log_sum.proofs.summer.Summer.end_line.Goals as goal
 use Rattle.log_sum.proofs.summer.Summer.end_line.Goals.{then-not-is_empty+in_ok-judge, else-not-is_empty}
@@ -19,7 +19,7 @@ returns-in_err-judge-clause-ended c = λ files bytes represents.
     let there : 0 < length c.args.self.now.held = omega (arith, some, c.self.inside.held.ok.0, ap length held) in
     let few : length c.args.self.now.held ≤ 65536 = omega (arith, c.self.invariant, ap length held) in
     let follows = subst (λ (p : SumProgress). FollowsSeen p represents.seen) (sym (ap (λ (k : Kept). k.progress) c.self.view_is)) (represents_follows c.args.self.now files bytes represents) in
-    let read = subst (λ (t : List ℕ). ProgressReadTo (progress_view c.judge.new.self) (text_judged represents.seen t) (Err c.in_err-judge.field-0.0)) (c.as_slice.ensures.value ∙ held) (c.in_err-judge.ensures represents.seen follows) in
+    let read = subst (λ (t : List ℕ). JudgedTo (progress_view c.judge.new.self) (text_judged represents.seen t) (Err c.in_err-judge.field-0.0)) (c.as_slice.ensures.value ∙ held) (c.in_err-judge.ensures represents.seen follows) in
     rw (p.1, p.2) (last_answered (record { progress = progress_view c.judge.new.self; in_order = are_in_order c.judge.new.self.table; held = c.self.inside.held.items; refusal = c.self.inside.refusal }) files bytes c.args.self.now.held represents.seen (end_after c.args.self.now files bytes represents) (last_text represents.seen c.args.self.now.held there few) c.in_err-judge.field-0.0 read)
 
 pub returns-clause-ended : goal.returns-clause-ended
