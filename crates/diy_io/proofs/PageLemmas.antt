@@ -3,7 +3,8 @@ use Rattle.std.proofs.Common.{◌≡◌, ◌≤◌, ◌<◌, ℕ, ◌+◌, ◌-�
 use Rattle.std.specs.Prelude.{◌⊎◌, Result, OnOk}
 use Rattle.std.specs.Result.{IsErrAnd}
 use Rattle.std.proofs.lemmas.Bool.{cases_lt}
-use Rattle.std.proofs.lemmas.List.{take_all, length-take-le}
+use Rattle.std.proofs.lemmas.List.{take_all, take-take, length-take-le}
+use Rattle.list_laws.proofs.Parts.{take-append-add}
 use Rattle.diy_io.specs.declared.errors.Failed.{Failed}
 use Rattle.diy_io.specs.declared.page.TheConstants.{PAGE_ROOM}
 use Rattle.diy_io.specs.Page.{put_within, page_after, SentAll, Sends}
@@ -42,6 +43,15 @@ put_is len k old new page text fits long view count copied =
     let part : length (take k text) ≡ k = length-take-le k text (omega arith) in
     page_filled k page text (take (len + k) new) (subst (λ n. k ≡ min (length text) (PAGE_ROOM - n)) (sym held) count) (omega arith)
     (subst (λ n. take (len + n) new ≡ page ++ take k text) part (copied ∙ ap (λ t. t ++ take k text) view))
+
+-- the bytes of a page after which the whole of a text was copied, whose first bytes count
+pub first_is : (len k : ℕ) (old new page text : List ℕ) → len ≤ PAGE_ROOM → length old ≡ PAGE_ROOM → take len old ≡ page → k ≤ length text → len + length text ≤ PAGE_ROOM
+    → take (len + length text) new ≡ take len old ++ text → take (len + k) new ≡ page_after page (take k text)
+first_is len k old new page text fits long view few room copied =
+    let held : length page ≡ len = ap length (sym view) ∙ length-take-le len old (omega arith) in
+    let part : length (take k text) ≡ k = length-take-le k text few in
+    sym (take-take (len + k) (len + length text) new (omega arith)) ∙ ap (take (len + k)) (copied ∙ ap (λ t. t ++ text) view)
+    ∙ ap (λ n. take (n + k) (page ++ text)) (sym held) ∙ take-append-add page text k few ∙ sym (page_fits page (take k text) (omega arith))
 
 -- a text that the page took whole
 pub put_whole : (a : SinkSeen) (held text page : List ℕ) (u : Unit {0}) → page ≡ page_after held text → length held + length text ≤ PAGE_ROOM → Sends a held a page text (Ok u)

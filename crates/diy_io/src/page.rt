@@ -77,6 +77,30 @@ impl Page {
         self.len += count;
     }
 
+    /// Adds the first bytes of a text of fixed length after what it holds, as far as there is room. It copies the whole text where
+    /// that has room, since a copy of fixed length takes a few instructions, and counts only the first bytes.
+    #[inline]
+    pub fn put_first<const N: usize>(&mut self, text: &[u8; N], count: usize)
+        requires { count ≤ N }
+        ensures { self.new ≡ page_after self.old (take count text.now) }
+    {
+        if N <= PAGE_ROOM - self.len {
+            copy_to(&mut self.bytes, self.len, text);
+            self.len += count;
+        } else {
+            self.put(&text[..count]);
+        }
+    }
+
+    /// Adds a text of fixed length, as `put` does, in fewer instructions.
+    #[inline]
+    #[tactic(auto, using(std::proofs::lemmas::List::take_all))]
+    pub fn put_fixed<const N: usize>(&mut self, text: &[u8; N])
+        ensures { self.new ≡ page_after self.old text.now }
+    {
+        self.put_first(text, N);
+    }
+
     /// Hands what it holds to a sink, in one call, or in none where it holds nothing.
     pub fn flush<O: Sink>(&mut self, out: &mut O) -> Result<(), Failed>
         ensures wrote { Wrote (O.seen out.old) (O.seen out.new) self.old result }

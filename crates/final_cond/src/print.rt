@@ -32,27 +32,36 @@ fn print_left(left: &Left, page: &mut Page)
     match left {
         Left::Register { thread, name } => {
             page.put(Buffer::new().format(*thread).as_bytes());
-            page.put(b":");
+            page.put_fixed(b":");
             page.put(name.as_str().as_bytes());
         }
         Left::Place { name } => {
-            page.put(b"[");
+            page.put_fixed(b"[");
             page.put(name.as_str().as_bytes());
-            page.put(b"]");
+            page.put_fixed(b"]");
         }
     }
 }
 
-/// Adds a term after `before`.
+/// Adds a term.
 #[tactic(auto, using(diy_io::specs::PageLaws::page_more, std::proofs::Common::append_assoc), unfolding(crate::specs::CondText::term_text))]
-fn print_term(before: &[u8], term: &Term, page: &mut Page)
-    ensures text { page.new ≡ page_after page.old (before.now ++ term_text (term_view term.now)) }
+fn print_term(term: &Term, page: &mut Page)
+    ensures text { page.new ≡ page_after page.old (term_text (term_view term.now)) }
     ensures short { length (further_term_text (term_view term.now)) ≤ TERM_ROOM }
 {
-    page.put(before);
     print_left(&term.left, page);
-    page.put(b"=");
+    page.put_fixed(b"=");
     page.put(Buffer::new().format(term.value).as_bytes());
+}
+
+/// Adds a term after ` /\ `.
+#[tactic(auto, using(diy_io::specs::PageLaws::page_more))]
+fn print_further_term(term: &Term, page: &mut Page)
+    ensures text { page.new ≡ page_after page.old (further_term_text (term_view term.now)) }
+    ensures short { length (further_term_text (term_view term.now)) ≤ TERM_ROOM }
+{
+    page.put_fixed(b" /\\ ");
+    print_term(term, page);
 }
 
 /// Adds terms, each with ` /\ ` before it.
@@ -61,7 +70,7 @@ fn print_further(terms: &[Term], page: &mut Page)
     ensures short { length (flat_map further_term_text (map term_view terms.now)) ≤ TERM_ROOM * length terms.now }
 {
     for term in terms {
-        print_term(b" /\\ ", term, page);
+        print_further_term(term, page);
     }
 }
 
@@ -74,7 +83,7 @@ fn print_terms(terms: &[Term], page: &mut Page)
     match terms {
         [] => {}
         [first, others @ ..] => {
-            print_term(b"", first, page);
+            print_term(first, page);
             print_further(others, page);
         }
     }
@@ -88,7 +97,7 @@ pub fn put_cond(cond: &Cond, page: &mut Page)
 {
     page.put(opening_text(cond.quantifier));
     print_terms(cond.terms.as_slice(), page);
-    page.put(b")");
+    page.put_fixed(b")");
 }
 
 /// Appends the text of a condition, without a line feed.

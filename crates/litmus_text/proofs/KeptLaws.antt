@@ -15,17 +15,18 @@ take_again (suc n) [] b = refl
 take_again (suc n) (x ∷ a) b = ap (λ rest. x ∷ rest) (take_again n a b)
 
 -- where there is room, one more text is kept
-pub text_kept : {A : Type 0} (f : A → List ℕ) (n : ℕ) (old new : List A) (x : A) → length old < n → new ≡ old ++ x ∷ [] → map f new ≡ take n (map f old ++ f x ∷ [])
-text_kept f n old new x room e =
-    let all : length (map f old ++ f x ∷ []) ≤ n = omega (arith, length-append (map f old) (f x ∷ []), length-map old f) in
-    ap (map f) e ∙ map-append f old (x ∷ []) ∙ sym (take_all n (map f old ++ f x ∷ []) all)
+pub text_kept : {A : Type 0} (f : A → List ℕ) (n : ℕ) (old new : List A) (x : A) (text : List ℕ) → length old < n → f x ≡ text → new ≡ old ++ x ∷ []
+    → map f new ≡ take n (map f old ++ text ∷ [])
+text_kept f n old new x text room is e =
+    let all : length (map f old ++ text ∷ []) ≤ n = omega (arith, length-append (map f old) (text ∷ []), length-map old f) in
+    ap (map f) e ∙ map-append f old (x ∷ []) ∙ ap (λ last. map f old ++ last ∷ []) is ∙ sym (take_all n (map f old ++ text ∷ []) all)
 
 -- where there is no room, one more text isn't kept
-pub text_lost : {A : Type 0} (f : A → List ℕ) (n : ℕ) (old new : List A) (x : A) → n ≡ length old → new ≡ old → map f new ≡ take n (map f old ++ f x ∷ [])
-text_lost f n old new x full e =
+pub text_lost : {A : Type 0} (f : A → List ℕ) (n : ℕ) (old : List A) (text : List ℕ) → n ≡ length old → map f old ≡ take n (map f old ++ text ∷ [])
+text_lost f n old text full =
     let all : length (map f old) ≤ n = omega (arith, full, length-map old f) in
     let cut : n ≤ length (map f old) = omega (arith, full, length-map old f) in
-    ap (map f) e ∙ sym (take_all n (map f old) all) ∙ sym (take-append-le n (map f old) (f x ∷ []) cut)
+    sym (take_all n (map f old) all) ∙ sym (take-append-le n (map f old) (text ∷ []) cut)
 
 -- before the first text of a list what is kept is as it was
 pub kept_none : (n : ℕ) (start : List (List ℕ)) → length start ≤ n → start ≡ take n (start ++ [])

@@ -5,6 +5,7 @@ pub mod SendLaws
 pub mod ElementLaws
 pub mod InitialLaws
 pub mod TableLaws
+pub mod CellLaws
 pub mod CutBack
 pub mod LineBack
 pub mod HeadBack

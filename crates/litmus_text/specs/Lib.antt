@@ -24,3 +24,4 @@ pub mod Mentioned
 pub mod ReadingAnswers
 pub mod Views
 pub mod KeptCells
+pub mod PaddedCells

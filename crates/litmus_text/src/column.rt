@@ -1,18 +1,18 @@
-ghost use Rattle.std.specs.Prelude.{◌≡◌, ◌≤◌, ◌+◌, ◌*◌, ◌∷◌, ◌++◌, [], map, length, max, slice_index_or, take, IsTrue, ◌<◌};
+ghost use Rattle.std.specs.Prelude.{◌≡◌, ◌≤◌, ◌+◌, ◌*◌, ◌∷◌, ◌++◌, [], map, length, max, slice_index_or, take, IfSome, ◌<◌};
 ghost use Rattle.std.specs.List.{All, fold};
 ghost use Rattle.litmus_text.specs.TestText.{column_of, columns_of, width_of};
 ghost use Rattle.litmus_text.specs.Tests.{IsPrintable};
 ghost use Rattle.litmus_text.specs.KeptCells.{all_texts, HoldsColumn};
+ghost use Rattle.litmus_text.specs.PaddedCells.{text_in, PutsCell};
 ghost use Rattle.arch_trait.specs.Codes.{thread_code_of};
 
+use crate::cell::{Cell, PaddedCell};
 use arch_trait::{Arch, Code, MAX_INSTRS, MAX_TEXT, Places};
-use arrayvec::{ArrayString, ArrayVec};
+use arrayvec::ArrayVec;
+use diy_io::Page;
 use itoa::Buffer;
 use relax_edges::MAX_EDGES;
 use std::marker::Model;
-
-/// The text of one cell.
-pub(crate) type Cell = ArrayString<MAX_TEXT>;
 
 /// Makes `cell` the text of a thread's column in a row: its header, an instruction, or nothing.
 pub(crate) fn set_cell<A: Arch>(
@@ -43,15 +43,16 @@ const KEPT_CELLS: usize = 128;
 /// Contracts see the texts that are kept.
 #[derive(Drop)]
 pub(crate) struct KeptCells {
-    texts: ArrayVec<Cell, KEPT_CELLS>,
+    cells: ArrayVec<PaddedCell, KEPT_CELLS>,
 }
 
 impl Model for KeptCells {
     ghost use Rattle.std.specs.Prelude.{ℕ, List, map};
+    ghost use Rattle.litmus_text.specs.PaddedCells.{text_in};
 
     ghost Value = { List (List ℕ) };
 
-    ghost view = { λ c. map (λ text. text.bytes) c.texts.items };
+    ghost view = { λ c. map text_in c.cells.items };
 }
 
 impl KeptCells {
@@ -60,43 +61,36 @@ impl KeptCells {
         ensures { result ≡ [] }
     {
         KeptCells {
-            texts: ArrayVec::new(),
+            cells: ArrayVec::new(),
         }
     }
 
     fn clear(&mut self)
         ensures { self.new ≡ [] }
     {
-        self.texts.clear();
+        self.cells.clear();
     }
 
     /// Keeps one more text, where there is room.
     fn keep(&mut self, cell: &Cell)
         ensures { self.new ≡ take KEPT_CELLS (self.old ++ cell.now.bytes ∷ []) }
     {
-        keep_text(&mut self.texts, cell);
+        keep_cell(&mut self.cells, cell);
     }
 
-    /// Makes `cell` the text that is kept at a place, and says whether there is one.
-    fn copy_to(&self, place: usize, cell: &mut Cell) -> bool
-        ensures within { IsTrue result → place < length self.now }
-        ensures kept { IsTrue result → cell.new.bytes ≡ slice_index_or self.now place [] }
+    /// The cell that is kept at a place, if there is one.
+    fn get(&self, place: usize) -> Option<&PaddedCell>
+        ensures { IfSome result (λ cell. (place < length self.now) × (text_in cell.now ≡ slice_index_or self.now place [])) }
     {
-        match self.texts.as_slice().get(place) {
-            Some(kept) => {
-                *cell = *kept;
-                true
-            }
-            None => false,
-        }
+        self.cells.as_slice().get(place)
     }
 }
 
-fn keep_text(texts: &mut ArrayVec<Cell, KEPT_CELLS>, cell: &Cell)
-    ensures { map (λ text. text.bytes) texts.new.items ≡ take KEPT_CELLS (map (λ text. text.bytes) texts.old.items ++ cell.now.bytes ∷ []) }
+fn keep_cell(cells: &mut ArrayVec<PaddedCell, KEPT_CELLS>, cell: &Cell)
+    ensures { map text_in cells.new.items ≡ take KEPT_CELLS (map text_in cells.old.items ++ cell.now.bytes ∷ []) }
 {
-    if texts.len() < KEPT_CELLS {
-        texts.push(*cell);
+    if cells.len() < KEPT_CELLS {
+        cells.push(PaddedCell::of(cell));
     }
 }
 
@@ -151,26 +145,33 @@ pub(crate) fn set_widths<A: Arch>(
     }
 }
 
-/// Makes `cell` the text of a thread's column in a row, from the cells that are kept, where the first of the column is at
-/// place `first`, or printed again.
-pub(crate) fn take_cell<A: Arch>(
+/// Appends a thread's cell to a row, from the cells that are kept, where the first of its column is at place `first`, or printed again.
+pub(crate) fn put_cell<A: Arch>(
     row: usize,
     thread: usize,
     first: usize,
     code: &Code,
     places: &Places,
     cells: &KeptCells,
-    cell: &mut Cell,
+    width: usize,
+    page: &mut Page,
 )
     requires printable { IsPrintable A.puts.has A.REGISTERS (length places.now) code.now }
     requires near { first ≤ MAX_EDGES * (MAX_INSTRS + 1) }
     requires kept { HoldsColumn cells.now first (column_of A.writing places.now (thread, thread_code_of code.now)) }
-    ensures { cell.new.bytes ≡ slice_index_or (column_of A.writing places.now (thread, thread_code_of code.now)) row [] }
+    requires within { length (slice_index_or (column_of A.writing places.now (thread, thread_code_of code.now)) row []) ≤ width }
+    requires short { width ≤ MAX_TEXT }
+    ensures { PutsCell thread (slice_index_or (column_of A.writing places.now (thread, thread_code_of code.now)) row []) width page.old page.new }
 {
-    if row <= code.instrs.len() && cells.copy_to(first + row, cell) {
-        return;
+    if row <= code.instrs.len() {
+        if let Some(cell) = cells.get(first + row) {
+            cell.put(thread, width, page);
+            return;
+        }
     }
-    set_cell::<A>(row, thread, code, places, cell);
+    let mut cell = Cell::new();
+    set_cell::<A>(row, thread, code, places, &mut cell);
+    PaddedCell::of(&cell).put(thread, width, page);
 }
 
 /// How many rows the longest column has, with its header.

@@ -6,7 +6,7 @@ ghost use Rattle.litmus_text.specs.TestText.{header_line, edges_line, with_line_
 ghost use Rattle.litmus_text.specs.Separators.{separator_at};
 
 use crate::limits::MAX_NAME;
-use crate::separators::separator;
+use crate::separators::put_separator;
 use arch_trait::Arch;
 use arrayvec::ArrayString;
 use diy_io::{Failed, LINE_ROOM, Page, Sink};
@@ -42,9 +42,9 @@ pub fn put_header<A: Arch>(name: &str, page: &mut Page)
 {
     let arch = A::NAME;
     page.put(arch.name().as_bytes());
-    page.put(b" ");
+    page.put_fixed(b" ");
     page.put(name.as_bytes());
-    page.put(b"\n");
+    page.put_fixed(b"\n");
 }
 
 /// Appends the line of the edges and the opening brace to the page.
@@ -54,9 +54,9 @@ pub(crate) fn print_opening(edges: &[Edge], page: &mut Page)
     ensures text { page.new ≡ page_after page.old (with_line_feed (edges_line edges.now) ++ codes "{\n") }
     ensures short { length (with_line_feed (edges_line edges.now) ++ codes "{\n") ≤ LINE_ROOM }
 {
-    page.put(b"\"");
+    page.put_fixed(b"\"");
     print_words(edges, page);
-    page.put(b"\"\n{\n");
+    page.put_fixed(b"\"\n{\n");
 }
 
 fn print_words(edges: &[Edge], page: &mut Page)
@@ -75,6 +75,6 @@ fn print_word(i: usize, edge: Edge, page: &mut Page)
 {
     let mut word: ArrayString<16> = ArrayString::new();
     edge.word(&mut word);
-    page.put(separator(i, b" "));
+    put_separator(i, b" ", page);
     page.put(word.as_str().as_bytes());
 }

@@ -6,7 +6,7 @@ ghost use Rattle.litmus_text.specs.TestText.{item_text, items_lines, initial_lin
 ghost use Rattle.litmus_text.specs.Tests.{IsPrintable};
 ghost use Rattle.litmus_text.specs.Separators.{separator_at};
 
-use crate::separators::separator;
+use crate::separators::put_separator;
 use arch_trait::{Arch, Code, Places};
 use diy_io::{LINE_ROOM, Page};
 use final_cond::RegName;
@@ -26,7 +26,7 @@ pub(crate) fn print_item_line<A: Arch>(thread: usize, code: &Code, places: &Plac
         return;
     }
     print_items::<A>(thread, links, places, page);
-    page.put(b"\n");
+    page.put_fixed(b"\n");
 }
 
 fn print_items<A: Arch>(thread: usize, links: &[(u8, u8)], places: &Places, page: &mut Page)
@@ -50,11 +50,11 @@ fn print_item<A: Arch>(i: usize, thread: usize, link: (u8, u8), places: &Places,
     let (register, place) = link;
     let mut name = RegName::new();
     A::register_name(register, &mut name);
-    page.put(separator(i, b" "));
+    put_separator(i, b" ", page);
     page.put(Buffer::new().format(thread).as_bytes());
-    page.put(b":");
+    page.put_fixed(b":");
     page.put(name.as_str().as_bytes());
-    page.put(b"=");
+    page.put_fixed(b"=");
     page.put(places.get(place).as_str().as_bytes());
-    page.put(b";");
+    page.put_fixed(b";");
 }

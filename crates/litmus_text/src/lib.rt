@@ -1,6 +1,7 @@
 //! The text of a test: how it is printed, and what a text is read as.
 #![tactic(auto)]
 
+mod cell;
 mod column;
 mod errors;
 mod head;
@@ -8,6 +9,7 @@ mod initial;
 mod kept;
 mod law;
 mod limits;
+mod padded;
 mod parts;
 mod print;
 mod reading;

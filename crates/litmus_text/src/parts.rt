@@ -58,7 +58,7 @@ fn put_items<A: Arch>(thread: usize, test: &Test, page: &mut Page) -> TextPart
         print_item_line::<A>(thread, &threads[thread], &test.places, page);
         TextPart::Items(thread + 1)
     } else {
-        page.put(b"}\n");
+        page.put_fixed(b"}\n");
         TextPart::Row(0)
     }
 }

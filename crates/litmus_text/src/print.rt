@@ -88,5 +88,5 @@ pub(crate) fn print_condition(cond: &Cond, page: &mut Page)
     ensures short { length (with_line_feed (cond_text (cond_view cond.now))) ≤ LINE_ROOM }
 {
     put_cond(cond, page);
-    page.put(b"\n");
+    page.put_fixed(b"\n");
 }

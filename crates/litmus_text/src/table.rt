@@ -1,24 +1,17 @@
 ghost use Rattle.std.specs.Prelude.{◌≡◌, ◌≤◌, ◌-◌, ◌*◌, ◌++◌, map, length, codes, take};
 ghost use Rattle.litmus_text.specs.KeptCells.{all_texts};
 ghost use Rattle.litmus_text.specs.declared.column.TheConstants.{KEPT_CELLS};
-ghost use Rattle.std.proofs.Math.ListN.{replicate};
 ghost use Rattle.std.specs.List.{All, flat_map, join_by};
 ghost use Rattle.diy_io.specs.Page.{page_after, Sends};
 ghost use Rattle.arch_trait.specs.Codes.{thread_code_of};
 ghost use Rattle.litmus_text.specs.TestText.{columns_of, width_of, cell_text, row_line, table_lines, with_line_feed};
 ghost use Rattle.litmus_text.specs.Tests.{IsPrintable};
-ghost use Rattle.litmus_text.specs.Separators.{separator_at};
 
-use crate::column::{Cell, KeptCells, take_cell};
-use crate::separators::separator;
+use crate::cell::CELL_ROOM;
+use crate::column::{KeptCells, put_cell};
 use arch_trait::{Arch, Code, MAX_TEXT, Places};
 use diy_io::{LINE_ROOM, Page};
 use relax_edges::MAX_EDGES;
-
-const BLANKS: [u8; MAX_TEXT] = [b' '; MAX_TEXT];
-
-/// The most bytes of a cell with ` | ` before it.
-const CELL_ROOM: usize = MAX_TEXT + 3;
 
 /// Appends a row to the page.
 pub(crate) fn print_row<A: Arch>(
@@ -37,9 +30,9 @@ pub(crate) fn print_row<A: Arch>(
     ensures text { page.new ≡ page_after page.old (with_line_feed (row_line (columns_of A.writing places.now (map thread_code_of threads.now)) row)) }
     ensures short { length (with_line_feed (row_line (columns_of A.writing places.now (map thread_code_of threads.now)) row)) ≤ LINE_ROOM }
 {
-    page.put(b" ");
+    page.put_fixed(b" ");
     print_cells::<A>(row, threads, widths, places, cells, page);
-    page.put(b" ;\n");
+    page.put_fixed(b" ;\n");
 }
 
 fn print_cells<A: Arch>(
@@ -59,23 +52,18 @@ fn print_cells<A: Arch>(
     ensures short { length (join_by (cell_text row) (codes " | ") (columns_of A.writing places.now (map thread_code_of threads.now)))
         ≤ CELL_ROOM * length threads.now }
 {
-    let mut cell = Cell::new();
     let mut first = 0;
     for (thread, code) in threads.iter().enumerate() {
-        take_cell::<A>(row, thread, first, code, places, cells, &mut cell);
-        print_cell(thread, cell.as_str().as_bytes(), widths[thread], page);
+        put_cell::<A>(
+            row,
+            thread,
+            first,
+            code,
+            places,
+            cells,
+            widths[thread],
+            page,
+        );
         first += code.instrs.len() + 1;
     }
-}
-
-#[tactic(auto, using(diy_io::specs::PageLaws::page_more, std::proofs::Common::append_assoc))]
-fn print_cell(i: usize, cell: &[u8], width: usize, page: &mut Page)
-    requires within { length cell.now ≤ width }
-    requires short { width ≤ MAX_TEXT }
-    ensures text { page.new ≡ page_after page.old (separator_at (codes " | ") i ++ (cell.now ++ replicate (width - length cell.now) 32)) }
-    ensures short { length (separator_at (codes " | ") i ++ (cell.now ++ replicate (width - length cell.now) 32)) ≤ CELL_ROOM }
-{
-    page.put(separator(i, b" | "));
-    page.put(cell);
-    page.put(&BLANKS[..width - cell.len()]);
 }

@@ -9,4 +9,4 @@ loop-term-init c = none_put _ _
 pub loop-term-preserved : goal.loop-term-preserved
 loop-term-preserved c =
     one_more_put _ _ _ c.args.terms.now c.loop-term.term-index c.term-item.result (omega arith) c.term-item.is c.loop-term.invariant
-    c.print_term.ensures.text c.print_term.ensures.short
+    c.print_further_term.ensures.text c.print_further_term.ensures.short

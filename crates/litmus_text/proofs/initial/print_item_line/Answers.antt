@@ -13,5 +13,5 @@ returns-then-is_empty-clause-text g c =
 pub returns-clause-text : goal.returns-clause-text
 returns-clause-text g c =
     let some : length c.as_slice-links.result.now ≢ 0 = some_from c.is_empty.result _ c.is_empty.ensures c.if-is_empty.false in
-    two_put _ _ _ _ (codes "\n") _ c.print_items.ensures.text c.put.ensures
+    two_put _ _ _ _ (codes "\n") _ c.print_items.ensures.text c.put_fixed.ensures
     (some_items g.A.Arch.writing c.args.places.now c.args.thread c.args.code.now.links.items c.as_slice-links.result.now c.as_slice-links.ensures.value some)

@@ -13,4 +13,4 @@ returns-then-thread-threads g c =
 pub returns-else-thread-threads : goal.returns-else-thread-threads
 returns-else-thread-threads g c =
     closing_put g.A.Arch.writing (test_seen c.args.test.now) c.as_slice-threads.result.now c.args.thread _ _ (ap (map thread_code_of) (sym c.as_slice-threads.ensures.value))
-    (omega (arith, c.if-thread-threads.false)) c.put.ensures
+    (omega (arith, c.if-thread-threads.false)) c.put_fixed.ensures

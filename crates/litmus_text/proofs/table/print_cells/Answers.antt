@@ -15,15 +15,14 @@ loop-thread-preserved g c =
     let w = g.A.Arch.writing in
     let i = c.loop-thread.thread in
     let code = c.index-threads-thread.result in
-    let cell = c.as_bytes.ensures.value ∙ c.as_str.ensures.value ∙ c.take_cell.ensures in
+    let cell = get_or (column_of w c.args.places.now (i, thread_code_of code)) c.args.row [] in
     let width = width_at w c.args.places.now c.args.threads.now i code c.args.widths.now 0 (omega arith) c.index-threads-thread.is c.requires.widths in
     let text =
-    cell_is w c.args.places.now c.args.threads.now c.args.row i code c.as_bytes.result.now (get_or c.args.widths.now i 0) (omega arith)
-    c.index-threads-thread.is cell width in
+    cell_is w c.args.places.now c.args.threads.now c.args.row i code cell (get_or c.args.widths.now i 0) (omega arith) c.index-threads-thread.is refl width in
     record {
       put =
           one_text_put _ _ _ _ _ _ (columns_of g.A.Arch.writing c.args.places.now (map thread_code_of c.args.threads.now)) i [] _
-          (omega (arith, length_columns w c.args.places.now c.args.threads.now)) c.loop-thread.invariant.put text c.print_cell.ensures.text c.print_cell.ensures.short;
+          (omega (arith, length_columns w c.args.places.now c.args.threads.now)) c.loop-thread.invariant.put text c.put_cell.ensures.put c.put_cell.ensures.short;
       first = first_more w c.args.places.now c.args.threads.now i code c.loop-thread.first _ (omega arith) c.index-threads-thread.is c.loop-thread.invariant.first (omega arith);
       near = omega (arith, c.loop-thread.invariant.near);
     }
@@ -42,19 +41,19 @@ pub bounds-widths-thread : goal.bounds-widths-thread
 bounds-widths-thread g c =
     omega (arith, widths_long g.A.Arch.writing c.args.places.now c.args.threads.now c.args.widths.now c.requires.widths)
 
-pub print_cell-requires-clause-within : goal.print_cell-requires-clause-within
-print_cell-requires-clause-within g c =
+pub put_cell-requires-clause-within : goal.put_cell-requires-clause-within
+put_cell-requires-clause-within g c =
     let w = g.A.Arch.writing in
     let i = c.loop-thread.thread in
     let code = c.index-threads-thread.result in
-    let cell = c.as_bytes.ensures.value ∙ c.as_str.ensures.value ∙ c.take_cell.ensures in
+    let column = column_of w c.args.places.now (i, thread_code_of code) in
     let width = width_at w c.args.places.now c.args.threads.now i code c.args.widths.now 0 (omega arith) c.index-threads-thread.is c.requires.widths in
-    cell_within (column_of w c.args.places.now (i, thread_code_of code)) c.args.row c.as_bytes.result.now (get_or c.args.widths.now i 0) cell width
+    cell_within column c.args.row (get_or column c.args.row []) (get_or c.args.widths.now i 0) refl width
 
-pub take_cell-requires-clause-near : goal.take_cell-requires-clause-near
-take_cell-requires-clause-near g c = omega (arith, c.loop-thread.invariant.near)
+pub put_cell-requires-clause-near : goal.put_cell-requires-clause-near
+put_cell-requires-clause-near g c = omega (arith, c.loop-thread.invariant.near)
 
-pub take_cell-requires-clause-kept : goal.take_cell-requires-clause-kept
-take_cell-requires-clause-kept g c =
+pub put_cell-requires-clause-kept : goal.put_cell-requires-clause-kept
+put_cell-requires-clause-kept g c =
     holds_column 128 g.A.Arch.writing c.args.places.now c.args.threads.now c.loop-thread.thread c.loop-thread.first c.index-threads-thread.result c.args.cells.now
     (omega arith) c.index-threads-thread.is c.requires.kept c.loop-thread.invariant.first

@@ -1,7 +1,7 @@
 -- The walk over the threads appends their cells of a row.
 use Rattle.std.proofs.Common.{◌≡◌, ◌≤◌, ◌*◌, codes, map, length, take}
 use Rattle.arch_trait.specs.Codes.{thread_code_of}
-use Rattle.litmus_text.specs.declared.table.TheConstants.{CELL_ROOM}
+use Rattle.litmus_text.specs.declared.cell.TheConstants.{CELL_ROOM}
 use Rattle.litmus_text.specs.TestText.{columns_of, cell_text}
 use Rattle.litmus_text.specs.KeptCells.{all_texts}
 use Rattle.litmus_text.proofs.JoinLaws.{Put}

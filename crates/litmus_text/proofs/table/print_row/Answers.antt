@@ -10,7 +10,7 @@ use Rattle.litmus_text.proofs.table.print_row.Goals as goal
 pub returns-clause-text : goal.returns-clause-text
 returns-clause-text g c =
     let columns = columns_of g.A.Arch.writing c.args.places.now (map thread_code_of c.args.threads.now) in
-    three_put _ _ _ _ (codes " ") _ (codes " ;\n") _ c.put.ensures c.print_cells.ensures.text c.put-2.ensures (row_is columns c.args.row)
+    three_put _ _ _ _ (codes " ") _ (codes " ;\n") _ c.put_fixed.ensures c.print_cells.ensures.text c.put_fixed-2.ensures (row_is columns c.args.row)
 
 pub returns-clause-short : goal.returns-clause-short
 returns-clause-short g c =

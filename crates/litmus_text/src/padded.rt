@@ -1,0 +1,48 @@
+ghost use Rattle.std.specs.Prelude.{◌≡◌, ◌≤◌, [], length};
+ghost use Rattle.litmus_text.specs.PaddedCells.{text_in, PutsCell};
+
+use crate::cell::{CELL_ROOM, Cell, PaddedCell};
+use arch_trait::MAX_TEXT;
+use diy_io::Page;
+
+/// ` | ` and blanks.
+const BLANK_CELL: &[u8; CELL_ROOM] = b" |                                         ";
+
+impl Default for PaddedCell {
+    fn default() -> PaddedCell
+        ensures { text_in result ≡ [] }
+    {
+        PaddedCell {
+            bytes: *BLANK_CELL,
+            len: 0,
+        }
+    }
+}
+
+impl PaddedCell {
+    /// A cell with this text.
+    pub(crate) fn of(text: &Cell) -> PaddedCell
+        ensures { text_in result ≡ text.now.bytes }
+    {
+        let text = text.as_str().as_bytes();
+        let mut bytes = *BLANK_CELL;
+        bytes[3..3 + text.len()].copy_from_slice(text);
+        PaddedCell {
+            bytes,
+            len: text.len() as u8,
+        }
+    }
+
+    /// Appends the cell of a thread to a row, filled with blanks up to a width, after ` | ` where it isn't the first.
+    pub(crate) fn put(&self, thread: usize, width: usize, page: &mut Page)
+        requires within { length (text_in self.now) ≤ width }
+        requires short { width ≤ MAX_TEXT }
+        ensures { PutsCell thread (text_in self.now) width page.old page.new }
+    {
+        if thread == 0 {
+            page.put(&self.bytes[3..3 + width]);
+        } else {
+            page.put_first(&self.bytes, 3 + width);
+        }
+    }
+}
