@@ -1,6 +1,7 @@
 -- What an architecture shows of its accesses: they write registers that were taken for them, and none
 -- that holds an address.
 use Rattle.std.proofs.Common.{ℕ, ◌+◌, ◌<◌, ◌≤◌, ◌≡◌, ◌==◌, refl, Bool, true, false, cond, not, ◌||◌, List, [], ◌∷◌, ◌++◌, Option, Some, None, ◌∙◌, sym, ap, subst, eq-eqb, ne_eqb, append-nil, arith}
+use Rattle.std.proofs.lemmas.Bool.{or_left, or_right}
 use Rattle.list_laws.proofs.Cases.{by_test, by_option}
 use Rattle.relax_edges.specs.declared.kinds.Dir.TheVariants as dirs
 use Rattle.relax_edges.specs.declared.kinds.Mark.{Mark}
@@ -8,12 +9,14 @@ use Rattle.micro_ops.specs.declared.held.Held.{Held}
 use Rattle.micro_ops.specs.declared.operation.Micro.{Micro}
 use Rattle.micro_ops.specs.declared.operation.Micro.TheVariants as ops
 use Rattle.micro_ops.specs.declared.operation.Item.TheVariants as items
+use Rattle.micro_ops.specs.declared.operation.Barrier.{Barrier}
 use Rattle.micro_ops.specs.Machine.{num, held_at_place, bit, written, address_held}
 use Rattle.micro_ops.specs.Running.{Run, At, go, exec}
-use Rattle.arch_laws.proofs.Rules.{holding, after_load, after_store, run_xor, run_add_address, run_load}
+use Rattle.arch_laws.proofs.Rules.{holding, after_load, after_store, after_barrier, run_xor, run_add_address, run_load}
+use Rattle.arch_laws.proofs.MachineLaws.{exec_append}
 use Rattle.arch_trait.specs.declared.link.Link.{Link}
 use Rattle.arch_trait.specs.declared.link.Link.TheVariants as links
-use Rattle.arch_trait.specs.Links.{depends_on_load, is_addr, is_data}
+use Rattle.arch_trait.specs.Links.{branches, depends_on_load, is_addr, is_data}
 use Rattle.arch_trait.specs.Taking.{Taken, address_in, has_address, address_of, with_address}
 use Rattle.arch_trait.specs.Laws.{IsTaken, HoldsPlaces, HasSource, Did, DidLoad, DidLink, access_room}
 use Rattle.arch_laws.proofs.TakingLaws.{address_bounds, address_kept, address_added}
@@ -168,6 +171,21 @@ did_nothing r = record {
   regs_is = refl;
 }
 
+-- a barrier after the code of a link
+pub did_barrier : (code : List Micro) (kind : Barrier) (r : Run) (c : ℕ) → DidLink code r [] c →
+    DidLink (code ++ ops.Barrier kind ∷ []) r (items.Barrier kind c ∷ []) c
+did_barrier code kind r c d = record {
+  after = after_barrier d.after kind;
+  ran = exec_append code (ops.Barrier kind ∷ []) (At r) ∙ ap (λ p. go (ops.Barrier kind) p) d.ran;
+  made_is =
+      ap (λ m. m ++ items.Barrier kind d.after.state.control ∷ []) (d.made_is ∙ append-nil r.made) ∙
+      ap (λ x. r.made ++ items.Barrier kind x ∷ []) d.control_is;
+  control_is = d.control_is;
+  loads_is = d.loads_is;
+  reads_is = d.reads_is;
+  regs_is = d.regs_is;
+}
+
 -- an access has room for two operations
 pub two_fit : (link : Link) → 2 ≤ access_room link
 two_fit link = of_test (is_addr link || is_data link)
@@ -191,25 +209,27 @@ pub xor_runs : (d s v k : ℕ) (r : Run) → r.state.regs s ≡ num v (bit k) �
 xor_runs d s v k r e =
     run_xor d s r ∙ ap (λ m. At (holding r d (num 0 m))) (ap (λ (h : Held). h.mask) e)
 
+-- a link that depends on the load before it is a dependency of the address, of the data or of a branch
+pub dependency_is : (link : Link) → depends_on_load link ≡ is_addr link || (is_data link || branches link)
+dependency_is links.Plain = refl
+dependency_is (links.Fence kind) = refl
+dependency_is links.Addr = refl
+dependency_is links.Data = refl
+dependency_is links.Ctrl = refl
+dependency_is links.CtrlIsync = refl
+dependency_is links.CtrlIsb = refl
+
 -- an address dependency is a dependency
 pub addr_depends : (link : Link) → is_addr link ≡ true → depends_on_load link ≡ true
-addr_depends links.Addr e = refl
-addr_depends links.Plain e = cc
-addr_depends (links.Fence kind) e = cc
-addr_depends links.Data e = cc
-addr_depends links.Ctrl e = cc
-addr_depends links.CtrlIsync e = cc
-addr_depends links.CtrlIsb e = cc
+addr_depends link e = dependency_is link ∙ or_left _ _ e
 
 -- a data dependency is a dependency
 pub data_depends : (link : Link) → is_data link ≡ true → depends_on_load link ≡ true
-data_depends links.Data e = refl
-data_depends links.Plain e = cc
-data_depends (links.Fence kind) e = cc
-data_depends links.Addr e = cc
-data_depends links.Ctrl e = cc
-data_depends links.CtrlIsync e = cc
-data_depends links.CtrlIsb e = cc
+data_depends link e = dependency_is link ∙ or_right _ _ (or_left _ _ e)
+
+-- a branch is a dependency
+pub branch_depends : (link : Link) → branches link ≡ true → depends_on_load link ≡ true
+branch_depends link e = dependency_is link ∙ or_right _ _ (or_right _ _ e)
 
 -- an address dependency is no data dependency
 pub addr_no_data : (link : Link) → is_addr link ≡ true → is_data link ≡ false

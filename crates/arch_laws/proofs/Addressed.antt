@@ -1,6 +1,6 @@
 -- What is alike in the architectures whose accesses name a register with the address: the laws of
 -- architectures follow from those of their instructions.
-use Rattle.std.proofs.Common.{ℕ, ◌+◌, ◌<◌, ◌≤◌, ◌≡◌, ◌==◌, ◌||◌, refl, Bool, true, false, cond, not, List, [], ◌∷◌, ◌++◌, Option, Some, None, is_some, length, length-append, ◌∙◌, ap, append-nil, append_assoc, subst, arith}
+use Rattle.std.proofs.Common.{ℕ, ◌+◌, ◌<◌, ◌≤◌, ◌≡◌, ◌==◌, ◌||◌, refl, Bool, true, false, cond, not, List, [], ◌∷◌, ◌++◌, Option, Some, None, is_some, length, length-append, ◌∙◌, ap, append_assoc, subst, arith}
 use Rattle.std.specs.List.{list_all}
 use Rattle.std.proofs.lemmas.Bool.{and_from, ne_eqb}
 use Rattle.relax_edges.specs.EdgeTable.{mark_fits, mark_is_of}
@@ -14,8 +14,7 @@ use Rattle.micro_ops.specs.declared.operation.Barrier.{Barrier}
 use Rattle.micro_ops.specs.declared.operation.Barrier.TheVariants as barriers
 use Rattle.micro_ops.specs.Machine.{num, bit}
 use Rattle.micro_ops.specs.Running.{Run, At, go, exec, labels_of, lands}
-use Rattle.arch_laws.proofs.Rules.{holding, after_barrier, run_barrier}
-use Rattle.arch_laws.proofs.MachineLaws.{exec_append}
+use Rattle.arch_laws.proofs.Rules.{holding}
 use Rattle.arch_trait.specs.declared.link.Link.{Link}
 use Rattle.arch_trait.specs.declared.link.Link.TheVariants as links
 use Rattle.arch_trait.specs.Links.{link_is_of, depends_on_load, is_addr, is_data, mask_if, source_if, link_control, link_items}
@@ -23,7 +22,7 @@ use Rattle.arch_trait.specs.Taking.{Taken, took, has_address, address_of, with_a
 use Rattle.arch_trait.specs.Laws.{HoldsPlaces, HasSource, Did, DidLoad, DidLink, IsWanting, IsTaken, Takes, HasLink, IsUsable, MakesLinks, MakesAccess, MakesLoads, MakesStores, IsArch, link_room, link_labels, is_at_place}
 use Rattle.arch_trait.specs.Addressed.{Instructions, puts_of, store_op, load_through, store_through, branch_code, link_code, load_on, filled_on, store_on}
 use Rattle.arch_laws.proofs.TakingLaws.{takes_address, address_there, address_next}
-use Rattle.arch_laws.proofs.Accesses.{Writes, IsSpare, writes_none, writes_more, written_same, spare_with, address_is, address_below, did_load, did_store, did_nothing, on_source, xor_runs, written_other, addr_depends, data_depends, addr_no_data, fresh_counts}
+use Rattle.arch_laws.proofs.Accesses.{Writes, IsSpare, writes_none, writes_more, written_same, spare_with, address_is, address_below, did_load, did_store, did_nothing, did_barrier, on_source, xor_runs, written_other, addr_depends, data_depends, addr_no_data, fresh_counts}
 use Rattle.arch_laws.proofs.AddressedInstructions.{IsBut, KeepsInstructions, both_short, imm_short, load_op_has, load_op_runs, load_op_short, load_op_wants, load_through_has, load_through_runs, load_through_short, load_through_wants, store_op_has, store_op_runs, store_through_has, store_through_runs, store_through_short}
 
 -- registers of which one more was changed
@@ -35,21 +34,6 @@ writes_but r u w g h d x spare but = record {
   above = λ s k. let l : d < h.next = spare.below in
       but.regs s (ne_eqb s d (λ e. omega arith)) ∙ x.above s k;
   places = λ p a e. but.regs a (spare.free p a e) ∙ x.places p a e;
-}
-
--- a barrier after the branch of a link
-did_barrier : (code : List Micro) (kind : Barrier) (r : Run) (c : ℕ) → DidLink code r [] c →
-    DidLink (code ++ ops.Barrier kind ∷ []) r (items.Barrier kind c ∷ []) c
-did_barrier code kind r c d = record {
-  after = after_barrier d.after kind;
-  ran = exec_append code (ops.Barrier kind ∷ []) (At r) ∙ ap (λ p. go (ops.Barrier kind) p) d.ran;
-  made_is =
-      ap (λ m. m ++ items.Barrier kind d.after.state.control ∷ []) (d.made_is ∙ append-nil r.made) ∙
-      ap (λ x. r.made ++ items.Barrier kind x ∷ []) d.control_is;
-  control_is = d.control_is;
-  loads_is = d.loads_is;
-  reads_is = d.reads_is;
-  regs_is = d.regs_is;
 }
 
 did_after : (own : Instructions) (kind : Barrier) (s n : ℕ) (r : Run) (c : ℕ) →
@@ -65,15 +49,7 @@ link_runs : (own : Instructions) → KeepsInstructions own → (link : Link) (fr
     DidLink (link_code own link from n) r (link_items link k r.state.control)
     (link_control link k r.state.control)
 link_runs own keeps links.Plain from n r k source = did_nothing r
-link_runs own keeps (links.Fence kind) from n r k source = record {
-  after = after_barrier r (barriers.Fence kind);
-  ran = run_barrier (barriers.Fence kind) r;
-  made_is = refl;
-  control_is = refl;
-  loads_is = refl;
-  reads_is = refl;
-  regs_is = refl;
-}
+link_runs own keeps (links.Fence kind) from n r k source = did_barrier [] (barriers.Fence kind) r r.state.control (did_nothing r)
 link_runs own keeps links.Addr from n r k source = did_nothing r
 link_runs own keeps links.Data from n r k source = did_nothing r
 link_runs own keeps links.Ctrl from n r k source =
@@ -277,23 +253,18 @@ load_need own g mark p true (Some s) is_new h given fresh =
 load_need own g mark p false from is_new h given fresh =
     omega (arith, address_next (took g 1) p, fresh_counts g p is_new fresh)
 
-load_labels : (own : Instructions) → KeepsInstructions own → (g : Taken) (mark : Mark) (p : ℕ) (o : Option ℕ) →
-    labels_of (load_on own g mark o p).code ≡ []
-load_labels own keeps g mark p None = (load_op_short mark g.next (address_of (took g 1) p)).labels
-load_labels own keeps g mark p (Some s) =
-    (load_through_short own keeps mark g.next (g.next + 1) (address_of (took g 2) p)).labels
+-- code that has no labels, whose jumps land, and whose accesses may be said to be at any place
+record IsBare (code : List Micro) : Type 0 where
+  labels : labels_of code ≡ []
+  lands : lands code ≡ true
+  no_place : (p : ℕ) → list_all (is_at_place p) code ≡ true
 
-load_lands : (own : Instructions) → KeepsInstructions own → (g : Taken) (mark : Mark) (p : ℕ) (o : Option ℕ) →
-    lands (load_on own g mark o p).code ≡ true
-load_lands own keeps g mark p None = (load_op_short mark g.next (address_of (took g 1) p)).lands
-load_lands own keeps g mark p (Some s) =
-    (load_through_short own keeps mark g.next (g.next + 1) (address_of (took g 2) p)).lands
-
-load_at : (own : Instructions) → KeepsInstructions own → (g : Taken) (mark : Mark) (p : ℕ) (o : Option ℕ) →
-    list_all (is_at_place p) (load_on own g mark o p).code ≡ true
-load_at own keeps g mark p None = (load_op_short mark g.next (address_of (took g 1) p)).no_place p
-load_at own keeps g mark p (Some s) =
-    (load_through_short own keeps mark g.next (g.next + 1) (address_of (took g 2) p)).no_place p
+load_bare : (own : Instructions) → KeepsInstructions own → (g : Taken) (mark : Mark) (p : ℕ) (o : Option ℕ) → IsBare ((load_on own g mark o p).code)
+load_bare own keeps g mark p None =
+    let short = load_op_short mark g.next (address_of (took g 1) p) in record { labels = short.labels; lands = short.lands; no_place = short.no_place }
+load_bare own keeps g mark p (Some s) =
+    let short = load_through_short own keeps mark g.next (g.next + 1) (address_of (took g 2) p) in
+    record { labels = short.labels; lands = short.lands; no_place = short.no_place }
 
 load_has : (own : Instructions) → KeepsInstructions own → (g : Taken) (mark : Mark) → mark_is_of mark own.name ≡ true → (p : ℕ) (o : Option ℕ) →
     IsUsable own.registers o → IsTaken g → (load_on own g mark o p).regs.next ≤ own.registers →
@@ -346,32 +317,16 @@ store_need own g mark p v false true (Some s) is_new h given fresh =
 store_need own g mark p v false false from is_new h given fresh =
     omega (arith, address_next (took g 1) p, fresh_counts g p is_new fresh)
 
-store_labels : (own : Instructions) → KeepsInstructions own → (g : Taken) (mark : Mark) (p v : ℕ) (o d : Option ℕ) →
-    labels_of (store_on own g mark o d p v).code ≡ []
-store_labels own keeps g mark p v None None =
-    (both_short (ops.Imm g.next v) mark g.next (address_of (took g 1) p) (imm_short g.next v)).labels
-store_labels own keeps g mark p v None (Some s) =
-    (both_short (own.joins g.next v) mark g.next (address_of (took g 1) p) (keeps.joins_short g.next v)).labels
-store_labels own keeps g mark p v (Some s) d =
-    (store_through_short own keeps mark g.next (g.next + 1) (address_of (took g 2) p)).labels
-
-store_lands : (own : Instructions) → KeepsInstructions own → (g : Taken) (mark : Mark) (p v : ℕ) (o d : Option ℕ) →
-    lands (store_on own g mark o d p v).code ≡ true
-store_lands own keeps g mark p v None None =
-    (both_short (ops.Imm g.next v) mark g.next (address_of (took g 1) p) (imm_short g.next v)).lands
-store_lands own keeps g mark p v None (Some s) =
-    (both_short (own.joins g.next v) mark g.next (address_of (took g 1) p) (keeps.joins_short g.next v)).lands
-store_lands own keeps g mark p v (Some s) d =
-    (store_through_short own keeps mark g.next (g.next + 1) (address_of (took g 2) p)).lands
-
-store_at : (own : Instructions) → KeepsInstructions own → (g : Taken) (mark : Mark) (p v : ℕ) (o d : Option ℕ) →
-    list_all (is_at_place p) (store_on own g mark o d p v).code ≡ true
-store_at own keeps g mark p v None None =
-    (both_short (ops.Imm g.next v) mark g.next (address_of (took g 1) p) (imm_short g.next v)).no_place p
-store_at own keeps g mark p v None (Some s) =
-    (both_short (own.joins g.next v) mark g.next (address_of (took g 1) p) (keeps.joins_short g.next v)).no_place p
-store_at own keeps g mark p v (Some s) d =
-    (store_through_short own keeps mark g.next (g.next + 1) (address_of (took g 2) p)).no_place p
+store_bare : (own : Instructions) → KeepsInstructions own → (g : Taken) (mark : Mark) (p v : ℕ) (o d : Option ℕ) → IsBare (store_on own g mark o d p v).code
+store_bare own keeps g mark p v None None =
+    let short = both_short (ops.Imm g.next v) mark g.next (address_of (took g 1) p) (imm_short g.next v) in
+    record { labels = short.labels; lands = short.lands; no_place = short.no_place }
+store_bare own keeps g mark p v None (Some s) =
+    let short = both_short (own.joins g.next v) mark g.next (address_of (took g 1) p) (keeps.joins_short g.next v) in
+    record { labels = short.labels; lands = short.lands; no_place = short.no_place }
+store_bare own keeps g mark p v (Some s) d =
+    let short = store_through_short own keeps mark g.next (g.next + 1) (address_of (took g 2) p) in
+    record { labels = short.labels; lands = short.lands; no_place = short.no_place }
 
 store_has : (own : Instructions) → KeepsInstructions own → (g : Taken) (mark : Mark) → mark_is_of mark own.name ≡ true → (p v : ℕ) (o d : Option ℕ) → v < 256 →
     IsUsable own.registers o → IsUsable own.registers d → IsTaken g →
@@ -413,9 +368,9 @@ load_access own keeps = record {
       let e = load_need own g mark p (is_addr link) from is_new (h.loads + h.stores + h.addr + h.places)
       (λ t. given.given (addr_depends link t)) (fresh refl) in
       omega (arith, e);
-  no_label = λ g link mark from p. load_labels own keeps g mark p (source_if (is_addr link) from);
-  no_jump = λ g link mark from p. load_lands own keeps g mark p (source_if (is_addr link) from);
-  at_place = λ g link mark from p. load_at own keeps g mark p (source_if (is_addr link) from);
+  no_label = λ g link mark from p. (load_bare own keeps g mark p (source_if (is_addr link) from)).labels;
+  no_jump = λ g link mark from p. (load_bare own keeps g mark p (source_if (is_addr link) from)).lands;
+  at_place = λ g link mark from p. (load_bare own keeps g mark p (source_if (is_addr link) from)).no_place p;
   has = λ g link mark from p given marked usable taken left.
       load_has own keeps g mark marked.of_arch p (source_if (is_addr link) from)
       (source_usable own.registers (is_addr link) from usable) taken left;
@@ -434,11 +389,11 @@ store_access own keeps v small = record {
       (h.loads + h.stores + h.addr + h.places) (λ t. given.given (addr_depends link t)) (fresh refl) in
       omega (arith, e);
   no_label = λ g link mark from p.
-      store_labels own keeps g mark p v (source_if (is_addr link) from) (source_if (is_data link) from);
+      (store_bare own keeps g mark p v (source_if (is_addr link) from) (source_if (is_data link) from)).labels;
   no_jump = λ g link mark from p.
-      store_lands own keeps g mark p v (source_if (is_addr link) from) (source_if (is_data link) from);
+      (store_bare own keeps g mark p v (source_if (is_addr link) from) (source_if (is_data link) from)).lands;
   at_place = λ g link mark from p.
-      store_at own keeps g mark p v (source_if (is_addr link) from) (source_if (is_data link) from);
+      (store_bare own keeps g mark p v (source_if (is_addr link) from) (source_if (is_data link) from)).no_place p;
   has = λ g link mark from p given marked usable taken left.
       store_has own keeps g mark marked.of_arch p v (source_if (is_addr link) from) (source_if (is_data link) from) small
       (source_usable own.registers (is_addr link) from usable)
@@ -504,39 +459,34 @@ link_labels_are own keeps links.CtrlIsb (Some s) n h =
     keeps.branch_labels s n (ops.Barrier barriers.Isb ∷ [])
 link_labels_are own keeps links.CtrlIsb None n h = let e : false ≡ true = h.given refl in cc
 
-branch_lands : (own : Instructions) → KeepsInstructions own → (from : Option ℕ) (n : ℕ) (rest : List Micro) →
-    lands rest ≡ true → lands (branch_code own from n rest) ≡ true
-branch_lands own keeps None n rest h = refl
-branch_lands own keeps (Some s) n rest h = keeps.branch_lands s n rest h
+-- what holds of no code, of a barrier, and of a branch where it holds of what comes after the branch, holds of the code
+-- of each link
+pub code_of_link : (own : Instructions) (Holds : List Micro → Type 0) → Holds [] → ((kind : Barrier) → Holds (ops.Barrier kind ∷ [])) →
+    ((s n : ℕ) (rest : List Micro) → Holds rest → Holds (own.branch s n ++ ops.Label n ∷ rest)) →
+    (link : Link) (from : Option ℕ) (n : ℕ) → Holds (link_code own link from n)
+code_of_link own Holds none barrier branch link from n = of_link link
+  where
+    of_branch : (from : Option ℕ) (rest : List Micro) → Holds rest → Holds (branch_code own from n rest)
+    of_branch None rest h = none
+    of_branch (Some s) rest h = branch s n rest h
+
+    of_link : (link : Link) → Holds (link_code own link from n)
+    of_link links.Plain = none
+    of_link (links.Fence kind) = barrier (barriers.Fence kind)
+    of_link links.Addr = none
+    of_link links.Data = none
+    of_link links.Ctrl = of_branch from [] none
+    of_link links.CtrlIsync = of_branch from (ops.Barrier (barriers.Fence fences.ISync) ∷ []) (barrier (barriers.Fence fences.ISync))
+    of_link links.CtrlIsb = of_branch from (ops.Barrier barriers.Isb ∷ []) (barrier barriers.Isb)
 
 link_lands : (own : Instructions) → KeepsInstructions own → (link : Link) (from : Option ℕ) (n : ℕ) →
     lands (link_code own link from n) ≡ true
-link_lands own keeps links.Plain from n = refl
-link_lands own keeps (links.Fence kind) from n = refl
-link_lands own keeps links.Addr from n = refl
-link_lands own keeps links.Data from n = refl
-link_lands own keeps links.Ctrl from n = branch_lands own keeps from n [] refl
-link_lands own keeps links.CtrlIsync from n =
-    branch_lands own keeps from n (ops.Barrier (barriers.Fence fences.ISync) ∷ []) refl
-link_lands own keeps links.CtrlIsb from n =
-    branch_lands own keeps from n (ops.Barrier barriers.Isb ∷ []) refl
-
-branch_no_place : (own : Instructions) → KeepsInstructions own → (from : Option ℕ) (n p : ℕ) (rest : List Micro) →
-    list_all (is_at_place p) rest ≡ true → list_all (is_at_place p) (branch_code own from n rest) ≡ true
-branch_no_place own keeps None n p rest h = refl
-branch_no_place own keeps (Some s) n p rest h = keeps.branch_no_place s n p rest h
+link_lands own keeps link from n = code_of_link own (λ code. lands code ≡ true) refl (λ kind. refl) keeps.branch_lands link from n
 
 link_no_place : (own : Instructions) → KeepsInstructions own → (link : Link) (from : Option ℕ) (n p : ℕ) →
     list_all (is_at_place p) (link_code own link from n) ≡ true
-link_no_place own keeps links.Plain from n p = refl
-link_no_place own keeps (links.Fence kind) from n p = refl
-link_no_place own keeps links.Addr from n p = refl
-link_no_place own keeps links.Data from n p = refl
-link_no_place own keeps links.Ctrl from n p = branch_no_place own keeps from n p [] refl
-link_no_place own keeps links.CtrlIsync from n p =
-    branch_no_place own keeps from n p (ops.Barrier (barriers.Fence fences.ISync) ∷ []) refl
-link_no_place own keeps links.CtrlIsb from n p =
-    branch_no_place own keeps from n p (ops.Barrier barriers.Isb ∷ []) refl
+link_no_place own keeps link from n p =
+    code_of_link own (λ code. list_all (is_at_place p) code ≡ true) refl (λ kind. refl) (λ s n rest h. keeps.branch_no_place s n p rest h) link from n
 
 branch_has : (own : Instructions) → KeepsInstructions own → (from : Option ℕ) (n : ℕ) (rest : List Micro) →
     IsUsable own.registers from → list_all own.has rest ≡ true →

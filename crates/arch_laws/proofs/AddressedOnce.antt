@@ -3,16 +3,14 @@ use Rattle.std.proofs.Common.{ℕ, ◌+◌, ◌≡◌, refl, false, cond, List, 
 use Rattle.std.proofs.lemmas.List.Sums.{sum_by-cons}
 use Rattle.relax_edges.specs.declared.kinds.Mark.{Mark}
 use Rattle.relax_edges.specs.declared.kinds.Mark.TheVariants.{Plain, Acquire, Release}
-use Rattle.relax_edges.specs.declared.kinds.FenceKind.TheVariants as fences
 use Rattle.micro_ops.specs.declared.operation.Micro.{Micro}
 use Rattle.micro_ops.specs.declared.operation.Micro.TheVariants as ops
-use Rattle.micro_ops.specs.declared.operation.Barrier.TheVariants as barriers
 use Rattle.arch_trait.specs.declared.link.Link.{Link}
-use Rattle.arch_trait.specs.declared.link.Link.TheVariants as links
 use Rattle.arch_trait.specs.Links.{is_addr, is_data, source_if}
 use Rattle.arch_trait.specs.Taking.{Taken, took, address_of}
 use Rattle.arch_trait.specs.Cells.{is_access, access_count, MakesOneAccess}
-use Rattle.arch_trait.specs.Addressed.{Instructions, puts_of, load_op, store_op, load_through, store_through, branch_code, link_code, load_on, store_on}
+use Rattle.arch_trait.specs.Addressed.{Instructions, puts_of, load_op, store_op, load_through, store_through, link_code, load_on, store_on}
+use Rattle.arch_laws.proofs.Addressed.{code_of_link}
 
 -- the accesses of an architecture's own instructions
 pub record MakesOnce (own : Instructions) : Type 0 where
@@ -22,22 +20,10 @@ pub record MakesOnce (own : Instructions) : Type 0 where
   pub store : (d v a : ℕ) → access_count (own.store d v a) ≡ 1
   pub joins : (d n : ℕ) → is_access (own.joins d n) ≡ false
 
-branch_once : (own : Instructions) → MakesOnce own → (from : Option ℕ) (n : ℕ) (rest : List Micro) →
-    access_count rest ≡ 0 → access_count (branch_code own from n rest) ≡ 0
-branch_once own once None n rest h = refl
-branch_once own once (Some s) n rest h = once.branch s n rest ∙ h
-
 link_once : (own : Instructions) → MakesOnce own → (link : Link) (from : Option ℕ) (n : ℕ) →
     access_count (link_code own link from n) ≡ 0
-link_once own once links.Plain from n = refl
-link_once own once (links.Fence kind) from n = refl
-link_once own once links.Addr from n = refl
-link_once own once links.Data from n = refl
-link_once own once links.Ctrl from n = branch_once own once from n [] refl
-link_once own once links.CtrlIsync from n =
-    branch_once own once from n (ops.Barrier (barriers.Fence fences.ISync) ∷ []) refl
-link_once own once links.CtrlIsb from n =
-    branch_once own once from n (ops.Barrier barriers.Isb ∷ []) refl
+link_once own once link from n =
+    code_of_link own (λ code. access_count code ≡ 0) refl (λ kind. refl) (λ s n rest h. once.branch s n rest ∙ h) link from n
 
 load_op_once : (mark : Mark) (v a : ℕ) → access_count (load_op mark v a ∷ []) ≡ 1
 load_op_once Plain v a = refl

@@ -15,7 +15,8 @@ use Rattle.micro_ops.specs.Machine.{bit}
 use Rattle.arch_trait.specs.declared.link.Link.{Link}
 use Rattle.arch_trait.specs.declared.link.Link.TheVariants as links
 use Rattle.arch_trait.specs.declared.step.Step.{Step}
-use Rattle.arch_trait.specs.Links.{branches, depends_on_load, link_control, link_items}
+use Rattle.arch_laws.proofs.Accesses.{branch_depends}
+use Rattle.arch_trait.specs.Links.{branches, link_control, link_items}
 use Rattle.arch_trait.specs.Threads.{FitSteps, is_load_dir, loads_in, loads_after, first_number, left_after, access_item, thread_items, control_after}
 
 -- the numbers left after an access are those after the ones that it read
@@ -63,16 +64,6 @@ link_below link n c some h = by_test (branches link)
     bit_below zero h = absurd (omega arith)
     bit_below (suc n) h =
         let e : suc n - 1 ≡ n = omega arith in rw e (omega (arith, pow-suc 2 n, pow_pos n))
-
--- a branch is a dependency
-pub branch_depends : (link : Link) → branches link ≡ true → depends_on_load link ≡ true
-branch_depends links.Plain e = cc
-branch_depends (links.Fence kind) e = cc
-branch_depends links.Addr e = refl
-branch_depends links.Data e = refl
-branch_depends links.Ctrl e = refl
-branch_depends links.CtrlIsync e = refl
-branch_depends links.CtrlIsb e = refl
 
 pub control_below : (arch : ArchName) (after_load : Bool) (ss : List Step) (n c : ℕ) →
     FitSteps arch after_load ss → (after_load ≡ true → 0 < n) → c < 2 ^ n →

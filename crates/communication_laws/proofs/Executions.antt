@@ -42,6 +42,18 @@ record Fails (es : List Edge) (p : Program) (x : Execution) (i : ℕ) : Type 0 w
   enters : IsEvent es (visits_in p x) (event_after es i) target
   fails : Stands (accesses_in p x) x (edge_at es i) source target → ⊥
 
+-- so it is where the edge doesn't stand between the accesses without a barrier that its events are
+fails_between : (es : List Edge) (p : Program) (x : Execution) (i : ℕ) (a b : Access)
+    → IsEvent es (visits_in p x) i (free es i a) → IsEvent es (visits_in p x) (event_after es i) (free es (event_after es i) b)
+    → (Stands (accesses_in p x) x (edge_at es i) (free es i a) (free es (event_after es i) b) → ⊥) → Fails es p x i
+fails_between es p x i a b leaves enters fails = record {
+  source = free es i a;
+  target = free es (event_after es i) b;
+  leaves = leaves;
+  enters = enters;
+  fails = fails;
+}
+
 not_all : (es : List Edge) (p : Program) (x : Execution) (i : ℕ) → i < length es → Fails es p x i → AllStand es p x → ⊥
 not_all es p x i l f all = f.fails (all.stand i f.source f.target l f.leaves f.enters)
 
@@ -229,13 +241,10 @@ one_later-condition_fails h = cc h
 -- where the first thread reads what the second writes, it doesn't read from before it
 one_later-edge_fails : Fails store_buffering buffers one_later 1
 unfolding thread_of slot_of event_after
-one_later-edge_fails = record {
-  source = free store_buffering 1 (read 1 1);
-  target = free store_buffering 2 (write 1 1);
-  leaves = record { name_is = refl; visit_is = refl; direction = refl };
-  enters = record { name_is = refl; visit_is = refl; direction = refl };
-  fails = λ stands. let before : 1 < 1 = stands.joins.communicates in omega (arith, before);
-}
+one_later-edge_fails =
+    fails_between store_buffering buffers one_later 1 (read 1 1) (write 1 1)
+    (record { name_is = refl; visit_is = refl; direction = refl }) (record { name_is = refl; visit_is = refl; direction = refl })
+    (λ stands. let before : 1 < 1 = stands.joins.communicates in omega (arith, before))
 
 one_later-not_all : AllStand store_buffering buffers one_later → ⊥
 one_later-not_all = not_all store_buffering buffers one_later 1 (omega arith) one_later-edge_fails
@@ -307,13 +316,10 @@ y_exchanged-term_of_y_fails h = omega (arith, h)
 
 y_exchanged-edge_fails : Fails two_writes double_writes y_exchanged 1
 unfolding thread_of slot_of event_after
-y_exchanged-edge_fails = record {
-  source = free two_writes 1 (write 1 1);
-  target = free two_writes 2 (write 1 2);
-  leaves = record { name_is = refl; visit_is = refl; direction = refl };
-  enters = record { name_is = refl; visit_is = refl; direction = refl };
-  fails = λ stands. let before : 2 < 1 = stands.joins.communicates in omega (arith, before);
-}
+y_exchanged-edge_fails =
+    fails_between two_writes double_writes y_exchanged 1 (write 1 1) (write 1 2)
+    (record { name_is = refl; visit_is = refl; direction = refl }) (record { name_is = refl; visit_is = refl; direction = refl })
+    (λ stands. let before : 2 < 1 = stands.joins.communicates in omega (arith, before))
 
 -- the writes of both places come in the order of their values
 abbrev pub both_in_order : Execution
@@ -358,13 +364,10 @@ x_exchanged-term_of_y = refl
 
 x_exchanged-edge_fails : Fails two_writes double_writes x_exchanged 3
 unfolding thread_of slot_of event_after
-x_exchanged-edge_fails = record {
-  source = free two_writes 3 (write 0 1);
-  target = free two_writes 0 (write 0 2);
-  leaves = record { name_is = refl; visit_is = refl; direction = refl };
-  enters = record { name_is = refl; visit_is = refl; direction = refl };
-  fails = λ stands. let before : 2 < 1 = stands.joins.communicates in omega (arith, before);
-}
+x_exchanged-edge_fails =
+    fails_between two_writes double_writes x_exchanged 3 (write 0 1) (write 0 2)
+    (record { name_is = refl; visit_is = refl; direction = refl }) (record { name_is = refl; visit_is = refl; direction = refl })
+    (λ stands. let before : 2 < 1 = stands.joins.communicates in omega (arith, before))
 
 x_exchanged-not_all : AllStand two_writes double_writes x_exchanged → ⊥
 x_exchanged-not_all = not_all two_writes double_writes x_exchanged 3 (omega arith) x_exchanged-edge_fails
@@ -416,10 +419,7 @@ unobserved-end_alike = record { registers = λ thread register. refl; places = e
 
 exchanged-edge_fails : Fails W3O unobserved exchanged 1
 unfolding thread_of slot_of event_after
-exchanged-edge_fails = record {
-  source = free W3O 1 (write 1 1);
-  target = free W3O 2 (write 1 2);
-  leaves = record { name_is = refl; visit_is = refl; direction = refl };
-  enters = record { name_is = refl; visit_is = refl; direction = refl };
-  fails = λ stands. let before : 2 < 1 = stands.joins.communicates in omega (arith, before);
-}
+exchanged-edge_fails =
+    fails_between W3O unobserved exchanged 1 (write 1 1) (write 1 2)
+    (record { name_is = refl; visit_is = refl; direction = refl }) (record { name_is = refl; visit_is = refl; direction = refl })
+    (λ stands. let before : 2 < 1 = stands.joins.communicates in omega (arith, before))

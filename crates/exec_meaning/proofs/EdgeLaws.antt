@@ -1,5 +1,6 @@
 -- The tests of edges decide their definitions.
 use Rattle.std.proofs.Common.{◌≡◌, ◌≢◌, ℕ, ◌+◌, ◌^◌, ◌<◌, ◌≤◌, length, arith, Bool, true, false, ◌==◌, ◌&&◌, not, List, [], ◌∷◌, map, Option, Some, None, refl, sym, ap, subst, ◌∙◌}
+use Rattle.std.specs.Bool.{Decides}
 use Rattle.std.specs.Int.{bit_at}
 use Rattle.std.proofs.lemmas.Bool.Decides.{nat_tests}
 use Rattle.std.proofs.lemmas.Nat.Bits.{bit_at_above}
@@ -36,10 +37,6 @@ use Rattle.program_meaning.specs.Coherence.{source_at}
 use Rattle.program_meaning.specs.Standing.{AccessAt, NamedAccess, access_at, AreAt, ComesBefore, Communicates, CommunicatesBy, Reaches, Joins, mask_of, is_in_mask, IsTied, BarriersWait, DependsBy, TiesBy, Stands}
 use Rattle.execution_laws.proofs.Names.{same_write-refl, same_write-true}
 use Rattle.exec_meaning.specs.StandingEdges.{same_mark, same_pick, same_fence, same_barrier, is_alone, is_none, are_at, is_source, comes_before, communicates, communicates_by, reaches, joins, same_answer, depends, barriers_wait, depends_by, ties_by, stands}
-
--- a test passes exactly where its statement holds
-abbrev Decides : Bool → Type 0 → Type 0
-Decides b P = (b ≡ true → P) × (P → b ≡ true)
 
 both : {P Q : Type 0} (b c : Bool) → Decides b P → Decides c Q → Decides (b && c) (P × Q)
 both b c d e = (λ h. let p = and_parts b c h in (d.0 p.0, e.0 p.1), λ h. and_from b c (d.1 h.0) (e.1 h.1))

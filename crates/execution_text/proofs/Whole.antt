@@ -185,6 +185,12 @@ all_read threads places lines x y left last t h =
       y_is = sym (writes_are (length places) t.reads p.lists many) ∙ ap (λ z. each_added with_write z 0 p.lists) t.x_is ∙ p.grown;
     }
 
+-- the lines of the threads and those of the places were read one after another
+pub both_read : (threads : ℕ) (places lines : List (List ℕ)) (begun x y : Execution) (left last : List (List ℕ)) → begun ≡ nothing_kept threads (length places)
+    → lines_added with_read begun 0 (thread_lines_read threads lines) ≡ Ok (x, left) → lines_added with_write x 0 (place_lines_read threads places left) ≡ Ok (y, last)
+    → AllRead threads places lines y last
+both_read threads places lines begun x y left last begins h k = all_read threads places lines x y left last (threads_read threads places lines x left (rw begins at h)) k
+
 -- where no line is left, the lines give this execution
 pub ended_read : (threads : ℕ) (places lines : List (List ℕ)) (y : Execution) (left : List (List ℕ)) → AllRead threads places lines y left → left ≡ [] → reads_and_writes_read threads places lines ≡ Ok y
 ended_read threads places lines y left a e = a.is ∙ ap (λ l. execution_of (threads + length places + 1) a.reads (a.orders, l)) e ∙ ap (λ z. Ok z) a.y_is

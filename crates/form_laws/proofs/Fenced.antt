@@ -14,7 +14,7 @@ use Rattle.micro_ops.specs.declared.operation.Micro.{Micro}
 use Rattle.micro_ops.specs.declared.operation.Micro.TheVariants as ops
 use Rattle.micro_ops.specs.declared.operation.Barrier.TheVariants as barriers
 use Rattle.micro_ops.specs.Running.{Run, labels_of, lands}
-use Rattle.arch_laws.proofs.Rules.{run_load_at, run_load_at_wants, run_store_at, run_barrier, after_barrier}
+use Rattle.arch_laws.proofs.Rules.{run_load_at, run_load_at_wants, run_store_at}
 use Rattle.arch_trait.specs.declared.link.Link.{Link}
 use Rattle.arch_trait.specs.declared.link.Link.TheVariants as links
 use Rattle.arch_trait.specs.declared.step.Shape.{Shape}
@@ -23,7 +23,7 @@ use Rattle.arch_trait.specs.Links.{link_is_of, depends_on_load, link_control, li
 use Rattle.arch_trait.specs.Taking.{Taken, take_next}
 use Rattle.arch_trait.specs.Threads.{Put, Puts}
 use Rattle.arch_trait.specs.Laws.{DidLink, MakesLinks, MakesAccess, MakesLoads, MakesStores, IsArch, link_room, link_labels, is_at_place}
-use Rattle.arch_laws.proofs.Accesses.{writes_none, spare_plain, did_load, did_store, did_nothing, two_fit}
+use Rattle.arch_laws.proofs.Accesses.{writes_none, spare_plain, did_load, did_store, did_nothing, did_barrier, two_fit}
 
 -- the code of a link: its fence, if it is one
 abbrev pub fence_code : Link → List Micro
@@ -95,15 +95,7 @@ not_data link e = refl
 
 link_runs : (link : Link) (r : Run) (k : ℕ) → depends_on_load link ≡ false →
     DidLink (fence_code link) r (link_items link k r.state.control) (link_control link k r.state.control)
-link_runs (links.Fence kind) r k e = record {
-  after = after_barrier r (barriers.Fence kind);
-  ran = run_barrier (barriers.Fence kind) r;
-  made_is = refl;
-  control_is = refl;
-  loads_is = refl;
-  reads_is = refl;
-  regs_is = refl;
-}
+link_runs (links.Fence kind) r k e = did_barrier [] (barriers.Fence kind) r r.state.control (did_nothing r)
 link_runs links.Plain r k e = did_nothing r
 link_runs link r k e = cc
 

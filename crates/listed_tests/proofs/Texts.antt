@@ -60,8 +60,9 @@ module _ (w : Writing) (test : TestSeen) (a : ShelfSeen) (path whole : List ℕ)
       }
 
   -- all parts are added, and the page goes to the file
-  pub filled_whole : (b c : ShelfSeen) (page bytes : List ℕ) → FilledTo w test a path whole b page None → bytes ≡ page → Appended b c (name_written b.mode) bytes
+  pub filled_whole : (b c : ShelfSeen) (page bytes : List ℕ) (next : Option TextPart) → FilledTo w test a path whole b page next → next ≡ None → bytes ≡ page → Appended b c (name_written b.mode) bytes
       → Filling a c path whole
-  filled_whole b c page bytes f same x =
-      let all : f.written ++ page ≡ whole = ap (λ page. f.written ++ page) (sym (append-nil page)) ∙ f.text in
+  filled_whole b c page bytes next f none same x =
+      let held : page ≡ page ++ text_from w test next = sym (append-nil page) ∙ ap (λ next. page ++ text_from w test next) (sym none) in
+      let all : f.written ++ page ≡ whole = ap (λ page. f.written ++ page) held ∙ f.text in
       subst (Filling a c path) all (filling_more a b c path f.written page f.file (subst (Appended b c (name_written b.mode)) same x))

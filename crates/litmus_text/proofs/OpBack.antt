@@ -1,8 +1,10 @@
 -- The name of an operation gets the number that the plan of the columns has for it.
 use Rattle.std.proofs.Common.{◌≡◌, ◌<◌, ◌≤◌, ◌+◌, ◌==◌, ℕ, zero, suc, List, Some, None, Ok, true, false, cond, length, map, max, get_or, refl, sym, ap, ◌∙◌, arith, zero-add, inl, inr}
-use Rattle.std.specs.Prelude.{Bool, not, ◌&&◌, nat_lt, nat_le, is_some, Err}
+use Rattle.std.specs.Prelude.{Bool, ◌&&◌, nat_lt, nat_le, is_some, Err}
 use Rattle.std.specs.List.{list_all, position_from, range_with_len}
+use Rattle.std.specs.Cmp.{booleans_Decides}
 use Rattle.std.specs.Str.{bytes_eq}
+use Rattle.std.proofs.Math.Bool.{beq}
 use Rattle.std.proofs.lemmas.Bool.{eqb-true, eqb-false, lt-ltb, cases_lt, leb-true, ltb-true, and_parts}
 use Rattle.std.proofs.lemmas.List.Sums.{AllPass-from_list_all}
 use Rattle.std.proofs.lemmas.List.FromFn.{get_or-range_with_len, map-range_with_len_more, length-map-range_with_len}
@@ -20,31 +22,19 @@ use Rattle.litmus_text.specs.Progress.{is_placed}
 use Rattle.litmus_text.specs.TablePlan.{label_table}
 use Rattle.litmus_text.proofs.NamesBack.{Within, within_number, IsAmong, place_added}
 
-same_bool : Bool → Bool → Bool
-same_bool true b = b
-same_bool false b = not b
-
-same_is : (a b : Bool) → same_bool a b ≡ true → a ≡ b
-unfolding same_bool
-same_is true true h = refl
-same_is true false h = cc
-same_is false true h = cc
-same_is false false h = refl
-
 -- labels below 64 have names of their own
-all_apart : list_all (λ i. list_all (λ j. same_bool (bytes_eq (label_name i) (label_name j)) (i == j)) (range_with_len 0 64)) (range_with_len 0 64) ≡ true
-unfolding same_bool
+all_apart : list_all (λ i. list_all (λ j. beq (bytes_eq (label_name i) (label_name j)) (i == j)) (range_with_len 0 64)) (range_with_len 0 64) ≡ true
 all_apart = refl
 
 label_same : (i j : ℕ) → i < 64 → j < 64 → bytes_eq (label_name i) (label_name j) ≡ (i == j)
 label_same i j h k =
-    let row = AllPass-from_list_all (λ i. list_all (λ j. same_bool (bytes_eq (label_name i) (label_name j)) (i == j)) (range_with_len 0 64)) (range_with_len 0 64) all_apart i 0 h in
+    let row = AllPass-from_list_all (λ i. list_all (λ j. beq (bytes_eq (label_name i) (label_name j)) (i == j)) (range_with_len 0 64)) (range_with_len 0 64) all_apart i 0 h in
     let at_i : get_or (range_with_len 0 64) i 0 ≡ i = get_or-range_with_len 0 64 i 0 h ∙ zero-add i in
     let at_j : get_or (range_with_len 0 64) j 0 ≡ j = get_or-range_with_len 0 64 j 0 k ∙ zero-add j in
-    let row_i : list_all (λ j. same_bool (bytes_eq (label_name i) (label_name j)) (i == j)) (range_with_len 0 64) ≡ true =
-    ap (λ n. list_all (λ j. same_bool (bytes_eq (label_name n) (label_name j)) (n == j)) (range_with_len 0 64)) (sym at_i) ∙ row in
-    let cell = AllPass-from_list_all (λ j. same_bool (bytes_eq (label_name i) (label_name j)) (i == j)) (range_with_len 0 64) row_i j 0 k in
-    same_is (bytes_eq (label_name i) (label_name j)) (i == j) (ap (λ n. same_bool (bytes_eq (label_name i) (label_name n)) (i == n)) (sym at_j) ∙ cell)
+    let row_i : list_all (λ j. beq (bytes_eq (label_name i) (label_name j)) (i == j)) (range_with_len 0 64) ≡ true =
+    ap (λ n. list_all (λ j. beq (bytes_eq (label_name n) (label_name j)) (n == j)) (range_with_len 0 64)) (sym at_i) ∙ row in
+    let cell = AllPass-from_list_all (λ j. beq (bytes_eq (label_name i) (label_name j)) (i == j)) (range_with_len 0 64) row_i j 0 k in
+    (booleans_Decides (bytes_eq (label_name i) (label_name j)) (i == j)).0 (ap (λ n. beq (bytes_eq (label_name i) (label_name n)) (i == n)) (sym at_j) ∙ cell)
 
 -- the names of labels below 64 have the form of labels
 all_formed : list_all (λ i. is_register_name (label_name i)) (range_with_len 0 64) ≡ true

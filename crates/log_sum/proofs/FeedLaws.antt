@@ -23,12 +23,13 @@ use Rattle.log_sum.proofs.FollowLaws.{entry_marked}
 use Rattle.log_sum.proofs.StayLaws.{input_fault, nothing_more}
 
 -- what one step and then another give
-record Middle {A B : Type 0} (r : Result A LogError) (next : A → Result B LogError) (y : B) : Type 0 where
-  middle : A
-  is : r ≡ Ok middle
-  then : next middle ≡ Ok y
+pub record Middle {A B : Type 0} (r : Result A LogError) (next : A → Result B LogError) (y : B) : Type 0 where
+  pub middle : A
+  pub is : r ≡ Ok middle
+  pub then : next middle ≡ Ok y
 
-middle_of : {A B : Type 0} (r : Result A LogError) (next : A → Result B LogError) (y : B) → (r >>= next) ≡ Ok y → Middle r next y
+-- where both have no fault, the first gives something
+pub middle_of : {A B : Type 0} (r : Result A LogError) (next : A → Result B LogError) (y : B) → (r >>= next) ≡ Ok y → Middle r next y
 middle_of (Ok x) next y h = record { middle = x; is = refl; then = h }
 middle_of (Err error) next y h = cc
 
@@ -67,7 +68,8 @@ lines_marked seen next (line ∷ lines) m h =
     let b = middle_of (line_judged seen line) (λ x. lines_judged x lines) next h in
     lines_marked b.middle next lines (line_marked seen b.middle line m b.is) b.then
 
-rest_same : (seen next : LogSeen) (line : List ℕ) → rest_judged seen line ≡ Ok next → seen ≡ next
+-- a line that goes on adds nothing
+pub rest_same : (seen next : LogSeen) (line : List ℕ) → rest_judged seen line ≡ Ok next → seen ≡ next
 unfolding rest_judged
 rest_same seen next line h =
     by_test (is_too_long line) (λ e. let k = rw e at h in absurd (cc)) (λ e. let k = rw e at h in cc)

@@ -18,3 +18,4 @@ pub mod PrintLaws
 pub mod PlaceLaws
 pub mod RepresentingLaws
 pub mod PieceLaws
+pub mod LineLaws

@@ -1,6 +1,8 @@
 -- What a summer keeps, and the input that this represents.
 -- Source: own.
-use Rattle.std.specs.Prelude.{◌≡◌, ℕ, Bool, true, List, [], ◌∷◌, ◌++◌, map, slice_get, Option, Some, None, option_map, Result, Ok, Err, IfErr}
+use Rattle.std.specs.Prelude.{◌≡◌, ℕ, ◌+◌, Bool, true, List, [], ◌∷◌, ◌++◌, map, slice_get, Option, Some, None, option_map, Result, Ok, Err, IfErr}
+use Rattle.diy_io.specs.Count.{count_of}
+use Rattle.diy_io.specs.Sink.{line_feed_count}
 use Rattle.log_sum.specs.declared.errors.LogError.{LogError}
 use Rattle.log_sum.specs.declared.errors.SumError.{SumError}
 use Rattle.log_sum.specs.declared.errors.SumError.TheVariants.{Log, NoMemory}
@@ -57,6 +59,10 @@ pub record Represents (kept : Kept) (files : List (List ℕ)) (bytes : List ℕ)
   pub held : kept.held ≡ unfinished bytes
   pub going : kept.refusal ≡ None
   pub in_order : bytes ≡ [] → kept.in_order ≡ true
+
+-- the number of the line that goes on after the bytes of a log so far; it stops at the last value of a count
+abbrev pub line_at : List ℕ → ℕ
+line_at bytes = count_of (line_feed_count bytes + 1)
 
 -- what an answer to a piece of a log says, where this is the input up to the end of the piece: it has no fault and is
 -- represented by what is kept, or it has exactly this first fault

@@ -1,20 +1,17 @@
 -- The locations of a resolved cycle: there are several, which events of a thread share one, and where each one is left.
-use Rattle.std.proofs.Common.{◌≡◌, ℕ, zero, suc, ◌+◌, ◌-◌, ◌<◌, ◌≤◌, Bool, true, false, ◌==◌, ◌&&◌, List, length, get_or, refl, sym, ◌∙◌, ap, arith}
-use Rattle.std.specs.List.{filter}
+use Rattle.std.proofs.Common.{◌≡◌, ℕ, zero, suc, ◌+◌, ◌-◌, ◌<◌, ◌≤◌, Bool, true, false, ◌==◌, ◌&&◌, List, length, refl, sym, ◌∙◌, ap, arith}
 use Rattle.std.specs.Prelude.{◌↔◌}
 use Rattle.std.proofs.lemmas.Bool.{eq-eqb, and_from}
-use Rattle.std.proofs.lemmas.Option.{slice_get-get_or}
 use Rattle.relax_edges.specs.declared.kinds.Reach.TheVariants.{Internal}
 use Rattle.relax_edges.specs.declared.kinds.Com.TheVariants.{Rf}
 use Rattle.relax_edges.specs.declared.edge.Edge.{Edge}
 use Rattle.relax_edges.specs.declared.edge.Edge.TheVariants as edges
 use Rattle.relax_edges.specs.EdgeTable.{is_external, is_diff}
-use Rattle.list_laws.specs.Numbers.{upto}
 use Rattle.list_laws.proofs.Cases.{by_test, by_less}
 use Rattle.list_laws.proofs.Counts.{count_upto_up, count_upto_past, counted}
-use Rattle.list_laws.proofs.Prefixes.{count_all, count_take}
-use Rattle.list_laws.proofs.Ranks.{unrank_upto, length-filter-upto}
+use Rattle.list_laws.proofs.Prefixes.{count_all}
 use Rattle.resolution_laws.specs.Resolution.{external_count, move_count, edge_at, thread_of, moves_before, location_of, moves_in, IsResolved}
+use Rattle.resolution_laws.proofs.EdgeCounts.{passing}
 use Rattle.resolution_laws.proofs.Threads.{thread_up, thread_end, thread_out}
 use Rattle.resolution_laws.proofs.Locations.{ends_with, external_keeps, moves_on, moves_kept, moves_up, moves_end, moves_most, location_wrapped, location_first, same_moves_location, moves_in_before, moves_between, moves_in_fewer}
 
@@ -64,16 +61,7 @@ pub record Leaving (es : List Edge) (l : ℕ) : Type 0 where
 pub leaving : (es : List Edge) (l : ℕ) → l < move_count es → Leaving es l
 unfolding moves_before
 leaving es l h =
-    let p : ℕ → Bool = λ j. is_diff (edge_at es j) in
-    let long : l < length (filter p (upto (length es))) = omega (arith, h, length-filter-upto p (length es), count_all is_diff es (edges.Com Rf Internal)) in
-    let g = slice_get-get_or (filter p (upto (length es))) l 0 long in
-    let w = unrank_upto p (length es) l (get_or (filter p (upto (length es))) l 0) g in
-    record {
-      event = get_or (filter p (upto (length es))) l 0;
-      below = w.below;
-      leaves = w.passes;
-      moves = count_take is_diff es (edges.Com Rf Internal) (get_or (filter p (upto (length es))) l 0) (omega (arith, w.below)) ∙ w.rank;
-    }
+    let w = passing is_diff es l h in record { event = w.event; below = w.below; leaves = w.passes; moves = w.counted }
 
 -- the location of an event is the number of moves before it, except for the events after the last move, which are at
 -- location 0 with those before the first

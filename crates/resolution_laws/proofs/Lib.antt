@@ -1,3 +1,4 @@
+pub mod EdgeCounts
 pub mod Threads
 pub mod Locations
 pub mod Turning

@@ -13,10 +13,11 @@ use Rattle.relax_edges.specs.declared.edge.Edge.TheVariants as edges
 use Rattle.relax_edges.specs.EdgeTable.{kind_of, is_external, is_diff}
 use Rattle.list_laws.specs.Numbers.{upto}
 use Rattle.list_laws.proofs.Cases.{by_less, by_same}
-use Rattle.list_laws.proofs.Counts.{count_upto-le, count_upto_more, count_upto_up, count_upto_fewer, count_upto_none, count_upto_stays}
-use Rattle.list_laws.proofs.Prefixes.{count_take, count_take_more, count_all}
+use Rattle.list_laws.proofs.Counts.{count_upto-le, count_upto_more, count_upto_fewer, count_upto_none, count_upto_stays}
+use Rattle.list_laws.proofs.Prefixes.{count_take_more, count_all}
 use Rattle.list_laws.proofs.Finds.{any_upto_fails}
 use Rattle.resolution_laws.specs.Resolution.{external_count, move_count, edge_at, ends_outside, thread_of, moves_before, location_of, moves_in, is_coherence_only, IsResolved}
+use Rattle.resolution_laws.proofs.EdgeCounts.{counted_on, counted_kept, counted_up, counted_most}
 use Rattle.resolution_laws.proofs.Threads.{thread_up, thread_out}
 
 -- what leads to another thread keeps the location, by the kind of the edge
@@ -46,12 +47,12 @@ moves-zero es = refl
 -- a `d` edge is counted
 pub moves_on : (es : List Edge) (i : ℕ) → i < length es → is_diff (edge_at es i) ≡ true → moves_before es (i + 1) ≡ moves_before es i + 1
 unfolding moves_before
-moves_on es i h t = omega (arith, count_take_more is_diff es i (edges.Com Rf Internal) h, cond-true {A = ℕ} (is_diff (edge_at es i)) 1 0 t)
+moves_on es i h t = counted_on is_diff es i h t
 
 -- an edge that isn't a `d` edge isn't counted
 pub moves_kept : (es : List Edge) (i : ℕ) → i < length es → is_diff (edge_at es i) ≡ false → moves_before es (i + 1) ≡ moves_before es i
 unfolding moves_before
-moves_kept es i h t = omega (arith, count_take_more is_diff es i (edges.Com Rf Internal) h, cond-false {A = ℕ} (is_diff (edge_at es i)) 1 0 t)
+moves_kept es i h t = counted_kept is_diff es i h t
 
 -- at the end of the list all moves are counted
 pub moves_end : (es : List Edge) → moves_before es (length es) ≡ move_count es
@@ -61,13 +62,12 @@ moves_end es = ap move_count (take_all (length es) es (omega arith))
 -- the moves before an event are at most those before a later one
 pub moves_up : (es : List Edge) (i j : ℕ) → i ≤ j → j ≤ length es → moves_before es i ≤ moves_before es j
 unfolding moves_before
-moves_up es i j h l =
-    omega (arith, count_take is_diff es (edges.Com Rf Internal) i (omega arith), count_take is_diff es (edges.Com Rf Internal) j l, count_upto_up (λ m. is_diff (edge_at es m)) i j h)
+moves_up es i j h l = counted_up is_diff es i j h l
 
 -- there are at most as many moves as edges
 pub moves_few : (es : List Edge) (i : ℕ) → i ≤ length es → moves_before es i ≤ i
 unfolding moves_before
-moves_few es i h = omega (arith, count_take is_diff es (edges.Com Rf Internal) i h, count_upto-le (λ m. is_diff (edge_at es m)) i)
+moves_few es i h = counted_most is_diff es i h
 
 -- the moves before an event are at most all moves
 pub moves_most : (es : List Edge) (i : ℕ) → i ≤ length es → moves_before es i ≤ move_count es

@@ -3,18 +3,15 @@ use Rattle.std.proofs.Common.{◌≡◌, ℕ, ◌+◌, ◌<◌, ◌≤◌, Bool,
 use Rattle.std.specs.List.{count_by, filter, sum_by}
 use Rattle.std.proofs.lemmas.Option.{slice_get-get_or, slice_get_within}
 use Rattle.std.proofs.lemmas.List.Sums.{sum_by-cons}
-use Rattle.relax_edges.specs.declared.kinds.Reach.TheVariants.{Internal}
-use Rattle.relax_edges.specs.declared.kinds.Com.TheVariants.{Rf}
 use Rattle.relax_edges.specs.declared.edge.Edge.{Edge}
-use Rattle.relax_edges.specs.declared.edge.Edge.TheVariants as edges
 use Rattle.relax_edges.specs.EdgeTable.{is_external, is_diff}
 use Rattle.list_laws.specs.Numbers.{upto}
 use Rattle.list_laws.proofs.Cases.{by_test}
 use Rattle.list_laws.proofs.Totals.{classes_total, sum_upto_same}
 use Rattle.list_laws.proofs.Counts.{count_upto-le}
-use Rattle.list_laws.proofs.Prefixes.{count_all, count_take}
-use Rattle.list_laws.proofs.Ranks.{unrank_upto, length-filter-upto}
+use Rattle.list_laws.proofs.Ranks.{length-filter-upto}
 use Rattle.resolution_laws.specs.Resolution.{external_count, move_count, edge_at, thread_of, slot_of, events_in, IsResolved}
+use Rattle.resolution_laws.proofs.EdgeCounts.{passing}
 use Rattle.resolution_laws.proofs.Threads.{event_in_slot, slot_of_event, IsAt}
 use Rattle.resolution_laws.proofs.Locations.{external_keeps}
 use Rattle.resolution_laws.proofs.Arcs.{thread_below}
@@ -30,15 +27,7 @@ pub record LastOf (es : List Edge) (k : ℕ) : Type 0 where
 pub last_of : (es : List Edge) (k : ℕ) → k < external_count es → LastOf es k
 unfolding thread_of
 last_of es k h =
-    let p : ℕ → Bool = λ j. is_external (edge_at es j) in
-    let long : k < length (filter p (upto (length es))) = omega (arith, h, length-filter-upto p (length es), count_all is_external es (edges.Com Rf Internal)) in
-    let w = unrank_upto p (length es) k (get_or (filter p (upto (length es))) k 0) (slice_get-get_or (filter p (upto (length es))) k 0 long) in
-    record {
-      event = get_or (filter p (upto (length es))) k 0;
-      below = w.below;
-      leaves = w.passes;
-      thread = count_take is_external es (edges.Com Rf Internal) (get_or (filter p (upto (length es))) k 0) (omega (arith, w.below)) ∙ w.rank;
-    }
+    let w = passing is_external es k h in record { event = w.event; below = w.below; leaves = w.passes; thread = w.counted }
 
 -- the slot of an event is below the size of its thread
 pub slot_below : (es : List Edge) (i : ℕ) → i < length es → slot_of es i < length (events_in es (thread_of es i))

@@ -1,16 +1,13 @@
 -- Threads and slots: how they change along an edge, and that an event and its thread and slot name one another.
 use Rattle.std.proofs.Common.{◌≡◌, ℕ, ◌+◌, ◌<◌, ◌≤◌, true, false, ◌==◌, List, length, Some, slice_get, refl, ap, arith, eq-eqb}
 use Rattle.std.proofs.lemmas.List.{take_all}
-use Rattle.std.proofs.lemmas.Bool.{eqb-true, ne_eqb, cond-true, cond-false}
-use Rattle.relax_edges.specs.declared.kinds.Reach.TheVariants.{Internal}
-use Rattle.relax_edges.specs.declared.kinds.Com.TheVariants.{Rf}
+use Rattle.std.proofs.lemmas.Bool.{eqb-true, ne_eqb}
 use Rattle.relax_edges.specs.declared.edge.Edge.{Edge}
-use Rattle.relax_edges.specs.declared.edge.Edge.TheVariants as edges
 use Rattle.relax_edges.specs.EdgeTable.{is_external}
-use Rattle.list_laws.proofs.Counts.{count_upto_more_yes, count_upto_none, count_upto_up, count_upto-le}
-use Rattle.list_laws.proofs.Prefixes.{count_take, count_take_more}
+use Rattle.list_laws.proofs.Counts.{count_upto_more_yes, count_upto_none, count_upto-le}
 use Rattle.list_laws.proofs.Ranks.{rank_upto, unrank_upto}
 use Rattle.resolution_laws.specs.Resolution.{external_count, edge_at, thread_of, slot_of, events_in}
+use Rattle.resolution_laws.proofs.EdgeCounts.{counted_on, counted_kept, counted_up, counted_most}
 
 -- event 0 is in thread 0
 pub thread-zero : (es : List Edge) → thread_of es 0 ≡ 0
@@ -20,12 +17,12 @@ thread-zero es = refl
 -- an external edge leads to the next thread
 pub thread_out : (es : List Edge) (i : ℕ) → i < length es → is_external (edge_at es i) ≡ true → thread_of es (i + 1) ≡ thread_of es i + 1
 unfolding thread_of
-thread_out es i h t = omega (arith, count_take_more is_external es i (edges.Com Rf Internal) h, cond-true {A = ℕ} (is_external (edge_at es i)) 1 0 t)
+thread_out es i h t = counted_on is_external es i h t
 
 -- an internal edge stays in its thread
 pub thread_in : (es : List Edge) (i : ℕ) → i < length es → is_external (edge_at es i) ≡ false → thread_of es (i + 1) ≡ thread_of es i
 unfolding thread_of
-thread_in es i h t = omega (arith, count_take_more is_external es i (edges.Com Rf Internal) h, cond-false {A = ℕ} (is_external (edge_at es i)) 1 0 t)
+thread_in es i h t = counted_kept is_external es i h t
 
 -- after the last edge all external edges are counted
 pub thread_end : (es : List Edge) → thread_of es (length es) ≡ external_count es
@@ -35,13 +32,12 @@ thread_end es = ap external_count (take_all (length es) es (omega arith))
 -- threads are numbered upwards
 pub thread_up : (es : List Edge) (i j : ℕ) → i ≤ j → j ≤ length es → thread_of es i ≤ thread_of es j
 unfolding thread_of
-thread_up es i j h l =
-    omega (arith, count_take is_external es (edges.Com Rf Internal) i (omega arith), count_take is_external es (edges.Com Rf Internal) j l, count_upto_up (λ m. is_external (edge_at es m)) i j h)
+thread_up es i j h l = counted_up is_external es i j h l
 
 -- threads are at most as many as edges
 pub thread_most : (es : List Edge) (i : ℕ) → i ≤ length es → thread_of es i ≤ i
 unfolding thread_of
-thread_most es i h = omega (arith, count_take is_external es (edges.Com Rf Internal) i h, count_upto-le (λ m. is_external (edge_at es m)) i)
+thread_most es i h = counted_most is_external es i h
 
 -- slots are at most as many as events
 pub slot_most : (es : List Edge) (i : ℕ) → slot_of es i ≤ i

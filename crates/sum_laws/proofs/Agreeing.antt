@@ -1,4 +1,5 @@
 -- Facts that have no fault in any order: they agree.
+use Rattle.std.specs.List.{AllByRecursion}
 use Rattle.std.proofs.Common.{◌≡◌, ℕ, ◌+◌, ◌≤◌, List, [], ◌∷◌, ◌++◌, true, false, refl, sym, ap, ◌∙◌, arith, subst, append_assoc, append-nil, zero-add, Some, None}
 use Rattle.std.specs.Prelude.{Bool, cond, Option, map, filter, sum_by, nat_lt}
 use Rattle.std.specs.Option.{option_map}
@@ -10,6 +11,7 @@ use Rattle.std.proofs.lemmas.Slice.Eq.{bytes_eq-Decides}
 use Rattle.std.proofs.lemmas.Bool.Decides.{nat_tests}
 use Rattle.std.proofs.lemmas.Bool.{not-false}
 use Rattle.list_laws.proofs.Cases.{by_test}
+use Rattle.list_laws.proofs.Elements.{all_append, all_parts}
 use Rattle.log_sum.specs.declared.errors.LogKind.{LogKind}
 use Rattle.log_sum.specs.declared.errors.LogKind.TheVariants.{HashDiffers, ConditionDiffers, SumTooLarge, KindDiffers}
 use Rattle.log_sum.specs.Counts.{last_count}
@@ -18,17 +20,6 @@ use Rattle.log_sum.specs.Summed.{some_or}
 use Rattle.sum_laws.proofs.Cases.{Kind, Mark, Verdict, allowed, plain, kind_cases, mark_cases}
 use Rattle.sum_laws.proofs.Texts.{bytes_same}
 use Rattle.sum_laws.proofs.Blocks.{Clean}
-use Rattle.sum_laws.proofs.Printed.{AllOf}
-
--- what holds of all elements of two lists holds of all elements of both together
-pub all_of_both : {A : Type 0} (P : A → Type 0) (xs ys : List A) → AllOf P xs → AllOf P ys → AllOf P (xs ++ ys)
-all_of_both P [] ys a b = b
-all_of_both P (x ∷ xs) ys a b = (a.0, all_of_both P xs ys a.1 b)
-
--- what holds of all elements of two lists together holds of all elements of each
-pub all_of_parts : {A : Type 0} (P : A → Type 0) (xs ys : List A) → AllOf P (xs ++ ys) → AllOf P xs × AllOf P ys
-all_of_parts P [] ys a = (tt, a)
-all_of_parts P (x ∷ xs) ys a = let k = all_of_parts P xs ys a.1 in ((a.0, k.0), k.1)
 
 -- facts of a sort
 pub kinds_both : (facts more : List Fact) → kinds (facts ++ more) ≡ kinds facts ++ kinds more
@@ -177,7 +168,7 @@ FitsTo p (a_hash text) = text ≡ p.hash
 -- facts agree, and no mark has too large a sum
 pub record Agrees (facts : List Fact) : Type 0 where
   pub profile : Profile
-  pub fits : AllOf (FitsTo profile) facts
+  pub fits : AllByRecursion (FitsTo profile) facts
   pub small : (m : Mark) → marked_sum m (rows facts) ≤ last_count
 
 -- a kind is the same as itself
@@ -249,10 +240,10 @@ fit_one facts (a_row row) more h =
     rw (rows_both facts (a_row row ∷ more), mark_both row.state (rows facts) (row ∷ rows more), e)
     (no_other same_state_mark mark_is (mark_in row.state (rows facts)) (mark_in row.state (rows more)) plain row.mark (row_fault facts row h).0)
 
-fit_all : (facts more : List Fact) → CleanFacts facts more → AllOf (FitsTo (profile_of (facts ++ more))) more
+fit_all : (facts more : List Fact) → CleanFacts facts more → AllByRecursion (FitsTo (profile_of (facts ++ more))) more
 fit_all facts [] c = tt
 fit_all facts (fact ∷ more) c =
-    (fit_one facts fact more c.0, subst (λ t. AllOf (FitsTo (profile_of t)) more) (append_assoc facts (fact ∷ []) more) (fit_all (facts ++ fact ∷ []) more c.1))
+    (fit_one facts fact more c.0, subst (λ t. AllByRecursion (FitsTo (profile_of t)) more) (append_assoc facts (fact ∷ []) more) (fit_all (facts ++ fact ∷ []) more c.1))
 
 Small : List Fact → Type 0
 Small facts = (m : Mark) → marked_sum m (rows facts) ≤ last_count
@@ -294,7 +285,7 @@ is_none_other same None x h = refl
 is_none_other same (Some y) x h = rw (h y refl) refl
 
 -- the kind of agreeing facts is the one that they agree on
-pub kind_fits : (p : Profile) (facts : List Fact) (k : Kind) → AllOf (FitsTo p) facts → first_of (kinds facts) ≡ Some k → k ≡ p.kind
+pub kind_fits : (p : Profile) (facts : List Fact) (k : Kind) → AllByRecursion (FitsTo p) facts → first_of (kinds facts) ≡ Some k → k ≡ p.kind
 kind_fits p [] k a e = absurd (cc)
 kind_fits p (a_kind kind ∷ facts) k a e = let same : kind ≡ k = cc in sym same ∙ a.0
 kind_fits p (a_row row ∷ facts) k a e = kind_fits p facts k a.1 e
@@ -302,7 +293,7 @@ kind_fits p (a_condition text verdict ∷ facts) k a e = kind_fits p facts k a.1
 kind_fits p (a_hash text ∷ facts) k a e = kind_fits p facts k a.1 e
 
 -- the condition of agreeing facts is the one that they agree on
-pub condition_fits : (p : Profile) (facts : List Fact) (t : List ℕ) → AllOf (FitsTo p) facts → option_map (λ c. c.0) (first_of (conditions facts)) ≡ Some t → t ≡ p.text
+pub condition_fits : (p : Profile) (facts : List Fact) (t : List ℕ) → AllByRecursion (FitsTo p) facts → option_map (λ c. c.0) (first_of (conditions facts)) ≡ Some t → t ≡ p.text
 condition_fits p [] t a e = absurd (cc)
 condition_fits p (a_kind kind ∷ facts) t a e = condition_fits p facts t a.1 e
 condition_fits p (a_row row ∷ facts) t a e = condition_fits p facts t a.1 e
@@ -310,7 +301,7 @@ condition_fits p (a_condition text verdict ∷ facts) t a e = let same : text �
 condition_fits p (a_hash text ∷ facts) t a e = condition_fits p facts t a.1 e
 
 -- the hash of agreeing facts is the one that they agree on
-pub hash_fits : (p : Profile) (facts : List Fact) (t : List ℕ) → AllOf (FitsTo p) facts → first_of (hashes facts) ≡ Some t → t ≡ p.hash
+pub hash_fits : (p : Profile) (facts : List Fact) (t : List ℕ) → AllByRecursion (FitsTo p) facts → first_of (hashes facts) ≡ Some t → t ≡ p.hash
 hash_fits p [] t a e = absurd (cc)
 hash_fits p (a_kind kind ∷ facts) t a e = hash_fits p facts t a.1 e
 hash_fits p (a_row row ∷ facts) t a e = hash_fits p facts t a.1 e
@@ -318,7 +309,7 @@ hash_fits p (a_condition text verdict ∷ facts) t a e = hash_fits p facts t a.1
 hash_fits p (a_hash text ∷ facts) t a e = let same : text ≡ t = cc in sym same ∙ a.0
 
 -- the mark of a state in agreeing facts is the one that they agree on
-pub mark_fits : (p : Profile) (facts : List Fact) (s : List ℕ) (m : Mark) → AllOf (FitsTo p) facts → mark_in s (rows facts) ≡ Some m → m ≡ p.mark s
+pub mark_fits : (p : Profile) (facts : List Fact) (s : List ℕ) (m : Mark) → AllByRecursion (FitsTo p) facts → mark_in s (rows facts) ≡ Some m → m ≡ p.mark s
 unfolding mark_in
 mark_fits p [] s m a e = absurd (cc)
 mark_fits p (a_kind kind ∷ facts) s m a e = mark_fits p facts s m a.1 e
@@ -332,7 +323,7 @@ mark_fits p (a_hash text ∷ facts) s m a e = mark_fits p facts s m a.1 e
 not_larger : (n : ℕ) → n ≤ last_count → nat_lt last_count n ≡ false
 not_larger n h = grind (arith, nat_tests)
 
-no_fault : (p : Profile) (facts : List Fact) (fact : Fact) (more : List Fact) → AllOf (FitsTo p) facts → FitsTo p fact → Small (facts ++ fact ∷ more) → fact_fault facts fact ≡ None
+no_fault : (p : Profile) (facts : List Fact) (fact : Fact) (more : List Fact) → AllByRecursion (FitsTo p) facts → FitsTo p fact → Small (facts ++ fact ∷ more) → fact_fault facts fact ≡ None
 unfolding fact_fault Small
 no_fault p facts (a_kind kind) more a f s =
     if_none (is_other same_kind (first_of (kinds facts)) kind) KindDiffers (is_none_other same_kind (first_of (kinds facts)) kind
@@ -352,14 +343,14 @@ no_fault p facts (a_row row) more a f s =
     let within : marked_sum row.mark (rows facts) + row.count ≤ last_count = omega (arith, s row.mark, e) in
     rw one (if_none (nat_lt last_count (marked_sum row.mark (rows facts) + row.count)) SumTooLarge (not_larger (marked_sum row.mark (rows facts) + row.count) within))
 
-clean_onto : (p : Profile) (facts more : List Fact) → AllOf (FitsTo p) facts → AllOf (FitsTo p) more → Small (facts ++ more) → CleanFacts facts more
+clean_onto : (p : Profile) (facts more : List Fact) → AllByRecursion (FitsTo p) facts → AllByRecursion (FitsTo p) more → Small (facts ++ more) → CleanFacts facts more
 clean_onto p facts [] a b s = tt
 clean_onto p facts (fact ∷ more) a b s =
-    (no_fault p facts fact more a b.0 s, clean_onto p (facts ++ fact ∷ []) more (all_of_both (FitsTo p) facts (fact ∷ []) a (b.0, tt)) b.1 (rw (append_assoc facts (fact ∷ []) more) s))
+    (no_fault p facts fact more a b.0 s, clean_onto p (facts ++ fact ∷ []) more (all_append (FitsTo p) facts (fact ∷ []) a (b.0, tt)) b.1 (rw (append_assoc facts (fact ∷ []) more) s))
 
 -- facts that agree with those before them have no fault
 pub clean_from_agrees : (facts more : List Fact) → Agrees (facts ++ more) → CleanFacts facts more
 unfolding Small
 clean_from_agrees facts more g =
-    let both : AllOf (FitsTo g.profile) facts × AllOf (FitsTo g.profile) more = all_of_parts (FitsTo g.profile) facts more g.fits in
+    let both : AllByRecursion (FitsTo g.profile) facts × AllByRecursion (FitsTo g.profile) more = all_parts (FitsTo g.profile) facts more g.fits in
     clean_onto g.profile facts more both.0 both.1 g.small

@@ -1,7 +1,7 @@
 -- Facts and what is printed of them, between other facts.
 use Rattle.std.proofs.Common.{◌≡◌, ℕ, ◌+◌, List, [], ◌∷◌, ◌++◌, true, false, refl, sym, ap, ◌∙◌, arith, subst, Some, None}
 use Rattle.std.specs.Prelude.{Bool, ◌&&◌, ◌||◌, cond, Option, map, fold}
-use Rattle.std.specs.List.{list_any, list_all}
+use Rattle.std.specs.List.{list_any, list_all, AllByRecursion}
 use Rattle.std.specs.Option.{option_map}
 use Rattle.std.specs.Ordering.{nat_cmp}
 use Rattle.std.specs.Cmp.Lexicographic.{slice_cmp}
@@ -11,14 +11,15 @@ use Rattle.std.proofs.lemmas.List.{map-append}
 use Rattle.std.proofs.lemmas.List.Sums.{fold-append}
 use Rattle.std.proofs.lemmas.List.Folds.{list_any-append, list_all-append}
 use Rattle.list_laws.proofs.Cases.{by_test}
+use Rattle.list_laws.proofs.Elements.{all_append, all_parts}
 use Rattle.log_sum.specs.Facts.{Row, Fact, a_kind, a_row, a_condition, a_hash, kinds, rows, conditions, hashes, first_of, marked_sum, state_sum, states_of, mark_in, verdicts, says_validated}
 use Rattle.log_sum.specs.Summed.{Summed, some_or, state_by, summed, validated_by, is_validated}
 use Rattle.log_sum.specs.SumText.{summed_text, head_text, sum_verdict_text, claim_text, condition_text, observation_text}
 use Rattle.sum_laws.proofs.Cases.{Kind, Mark, Verdict, allowed, plain, starred, kind_cases}
 use Rattle.sum_laws.proofs.Texts.{bytes_same}
 use Rattle.sum_laws.proofs.Lines.{said_as}
-use Rattle.sum_laws.proofs.Printed.{AllOf, kind_of_test, IsCondition}
-use Rattle.sum_laws.proofs.Agreeing.{Profile, FitsTo, Agrees, all_of_both, all_of_parts, kinds_both, rows_both, conditions_both, hashes_both, or_first, first_both, map_first, marked_both, state_both, mark_both, kind_fits, condition_fits, hash_fits}
+use Rattle.sum_laws.proofs.Printed.{kind_of_test, IsCondition}
+use Rattle.sum_laws.proofs.Agreeing.{Profile, FitsTo, Agrees, kinds_both, rows_both, conditions_both, hashes_both, or_first, first_both, map_first, marked_both, state_both, mark_both, kind_fits, condition_fits, hash_fits}
 use Rattle.sum_laws.proofs.Sums.{state_facts, hash_facts, printed_facts, rows_of_printed, printed_conditions, line_of_hash_first, row_of_state, printed_rows, printed_state, printed_mark, printed_marked, Marks, mark_law, a_state_there, states_in, states_ascend}
 use Rattle.text_laws.proofs.OrderLaws.{Ascends}
 use Rattle.sum_laws.proofs.Orders.{fold_sorted}
@@ -105,14 +106,14 @@ one_verdict o prefix mid back =
     ∙ sym (list_any-append (λ v. v) prefix (mid ++ back) ∙ ap (λ b. list_any (λ v. v) prefix || b) (list_any-append (λ v. v) mid back))))
 
 -- what is printed agrees with the facts
-pub marks_fit : (p : Profile) (facts : List Fact) → AllOf (FitsTo p) facts → Marks p.mark (rows facts)
+pub marks_fit : (p : Profile) (facts : List Fact) → AllByRecursion (FitsTo p) facts → Marks p.mark (rows facts)
 marks_fit p [] a = tt
 marks_fit p (a_kind kind ∷ facts) a = marks_fit p facts a.1
 marks_fit p (a_row row ∷ facts) a = (a.0, marks_fit p facts a.1)
 marks_fit p (a_condition text verdict ∷ facts) a = marks_fit p facts a.1
 marks_fit p (a_hash text ∷ facts) a = marks_fit p facts a.1
 
-all_in : (all xs : List (List ℕ)) → ((x : List ℕ) → list_any (bytes_eq x) xs ≡ true → list_any (bytes_eq x) all ≡ true) → AllOf (λ x. list_any (bytes_eq x) all ≡ true) xs
+all_in : (all xs : List (List ℕ)) → ((x : List ℕ) → list_any (bytes_eq x) xs ≡ true → list_any (bytes_eq x) all ≡ true) → AllByRecursion (λ x. list_any (bytes_eq x) all ≡ true) xs
 all_in all [] h = tt
 all_in all (x ∷ xs) h = (h x (rw (bytes_same x) refl), all_in all xs (λ y e. h y (or_right (bytes_eq y x) (list_any (bytes_eq y) xs) e)))
   where
@@ -121,24 +122,24 @@ all_in all (x ∷ xs) h = (h x (rw (bytes_same x) refl), all_in all xs (λ y e. 
     or_right false b e = e
 
 -- each of the states of rows is that of a row
-pub states_there : (rs : List Row) → AllOf (λ x. list_any (bytes_eq x) (map (λ (r : Row). r.state) rs) ≡ true) (states_of rs)
+pub states_there : (rs : List Row) → AllByRecursion (λ x. list_any (bytes_eq x) (map (λ (r : Row). r.state) rs) ≡ true) (states_of rs)
 states_there rs = all_in (map (λ (r : Row). r.state) rs) (states_of rs) (λ x e. sym (states_in x rs) ∙ e)
 
-states_fit : (p : Profile) (rs : List Row) (ks : List (List ℕ)) → Marks p.mark rs → AllOf (λ x. list_any (bytes_eq x) (map (λ (r : Row). r.state) rs) ≡ true) ks → AllOf (FitsTo p) (state_facts (map (state_by rs) ks))
+states_fit : (p : Profile) (rs : List Row) (ks : List (List ℕ)) → Marks p.mark rs → AllByRecursion (λ x. list_any (bytes_eq x) (map (λ (r : Row). r.state) rs) ≡ true) ks → AllByRecursion (FitsTo p) (state_facts (map (state_by rs) ks))
 states_fit p rs [] a h = tt
 states_fit p rs (k ∷ ks) a h = (mark_law p.mark rs a k (some_or plain (mark_in k rs)) (a_state_there k rs h.0), states_fit p rs ks a h.1)
 
-hashes_fit : (p : Profile) (facts : List Fact) (o : Option (List ℕ)) → AllOf (FitsTo p) facts → first_of (hashes facts) ≡ o → AllOf (FitsTo p) (hash_facts o)
+hashes_fit : (p : Profile) (facts : List Fact) (o : Option (List ℕ)) → AllByRecursion (FitsTo p) facts → first_of (hashes facts) ≡ o → AllByRecursion (FitsTo p) (hash_facts o)
 hashes_fit p facts None a e = tt
 hashes_fit p facts (Some hash) a e = (hash_fits p facts hash a e, tt)
 
-printed_fits : (p : Profile) (facts : List Fact) → AllOf (FitsTo p) facts → Complete facts → AllOf (FitsTo p) (printed_facts (summed facts))
+printed_fits : (p : Profile) (facts : List Fact) → AllByRecursion (FitsTo p) facts → Complete facts → AllByRecursion (FitsTo p) (printed_facts (summed facts))
 printed_fits p facts a c =
     let kind : kind_of_test (summed facts) ≡ p.kind = kind_summed facts c ∙ kind_fits p facts c.kind a c.is_kind in
     let text : some_or [] (summed facts).condition ≡ p.text = text_summed facts c ∙ condition_fits p facts c.text a (ap (option_map (λ (x : List ℕ × Verdict). x.0)) c.is_text) in
-    let states : AllOf (FitsTo p) (state_facts (summed facts).states) = subst (λ t. AllOf (FitsTo p) (state_facts t)) (sym (states_are facts)) (states_fit p (rows facts) (states_of (rows facts)) (marks_fit p facts a) (states_there (rows facts))) in (
+    let states : AllByRecursion (FitsTo p) (state_facts (summed facts).states) = subst (λ t. AllByRecursion (FitsTo p) (state_facts t)) (sym (states_are facts)) (states_fit p (rows facts) (states_of (rows facts)) (marks_fit p facts a) (states_there (rows facts))) in (
       kind,
-      all_of_both (FitsTo p) (state_facts (summed facts).states) (a_condition (some_or [] (summed facts).condition) (said_as (is_validated (summed facts))) ∷ hash_facts (summed facts).hash) states
+      all_append (FitsTo p) (state_facts (summed facts).states) (a_condition (some_or [] (summed facts).condition) (said_as (is_validated (summed facts))) ∷ hash_facts (summed facts).hash) states
           (text, hashes_fit p facts (summed facts).hash a (sym (hash_is facts))),
     )
 
@@ -154,19 +155,19 @@ marked_printed m facts g = ap (marked_sum m) (rows_printed facts) ∙ printed_ma
 -- parts of agreeing facts agree
 pub agrees_between : (prefix mid back : List Fact) → Agrees (prefix ++ (mid ++ back)) → Agrees mid
 agrees_between prefix mid back g =
-    let one = all_of_parts (FitsTo g.profile) prefix (mid ++ back) g.fits in
-    let two = all_of_parts (FitsTo g.profile) mid back one.1 in
+    let one = all_parts (FitsTo g.profile) prefix (mid ++ back) g.fits in
+    let two = all_parts (FitsTo g.profile) mid back one.1 in
     record { profile = g.profile; fits = two.0; small = λ m. let e = marked_between m prefix mid back in omega (arith, g.small m, e) }
 
 -- where facts agree, what is printed of some of them agrees with the others
 pub printed_agrees : (prefix mid back : List Fact) → Agrees (prefix ++ (mid ++ back)) → Complete mid → Agrees (prefix ++ (printed_facts (summed mid) ++ back))
 printed_agrees prefix mid back g c =
-    let one = all_of_parts (FitsTo g.profile) prefix (mid ++ back) g.fits in
-    let two = all_of_parts (FitsTo g.profile) mid back one.1 in
+    let one = all_parts (FitsTo g.profile) prefix (mid ++ back) g.fits in
+    let two = all_parts (FitsTo g.profile) mid back one.1 in
     let given : List Fact = printed_facts (summed mid) in
     record {
       profile = g.profile;
-      fits = all_of_both (FitsTo g.profile) prefix (given ++ back) one.0 (all_of_both (FitsTo g.profile) given back (printed_fits g.profile mid two.0 c) two.1);
+      fits = all_append (FitsTo g.profile) prefix (given ++ back) one.0 (all_append (FitsTo g.profile) given back (printed_fits g.profile mid two.0 c) two.1);
       small = λ m.
           let e = marked_between m prefix mid back in
           let f = marked_between m prefix given back in
@@ -192,7 +193,7 @@ pub alike_text : (name : List ℕ) (one two : List Fact) → Alike one two → s
 unfolding summed
 alike_text name one two a = same_text name (summed one) (summed two) a.validated a.kind a.text a.hash (a.marked starred) (a.marked plain) a.states
 
-first_kind : (p : Profile) (prefix mid : List Fact) (k : Kind) (more : Option Kind) → AllOf (FitsTo p) prefix → k ≡ p.kind → or_first (first_of (kinds prefix)) (or_first (Some k) more) ≡ Some k
+first_kind : (p : Profile) (prefix mid : List Fact) (k : Kind) (more : Option Kind) → AllByRecursion (FitsTo p) prefix → k ≡ p.kind → or_first (first_of (kinds prefix)) (or_first (Some k) more) ≡ Some k
 first_kind p prefix mid k more a e = by_first (first_of (kinds prefix)) refl
   where
     by_first : (o : Option Kind) → first_of (kinds prefix) ≡ o → or_first o (or_first (Some k) more) ≡ Some k
@@ -271,8 +272,8 @@ verdicts_between prefix mid back = verdicts_both prefix (mid ++ back) ∙ ap (λ
 pub printed_alike : (prefix mid back : List Fact) → Agrees (prefix ++ (mid ++ back)) → Complete mid → Alike (prefix ++ (printed_facts (summed mid) ++ back)) (prefix ++ (mid ++ back))
 printed_alike prefix mid back g c =
     let given : List Fact = printed_facts (summed mid) in
-    let one = all_of_parts (FitsTo g.profile) prefix (mid ++ back) g.fits in
-    let two = all_of_parts (FitsTo g.profile) mid back one.1 in
+    let one = all_parts (FitsTo g.profile) prefix (mid ++ back) g.fits in
+    let two = all_parts (FitsTo g.profile) mid back one.1 in
     let k : c.kind ≡ g.profile.kind = kind_fits g.profile mid c.kind two.0 c.is_kind in
     let kinds_here : first_of (kinds given) ≡ first_of (kinds mid) = ap Some (kind_summed mid c) ∙ sym c.is_kind in
     let texts_here : texts (first_of (conditions given)) ≡ texts (first_of (conditions mid)) =

@@ -1,7 +1,7 @@
 -- A printed form is read as itself.
 use Rattle.std.proofs.Common.{◌≡◌, ◌==◌, ℕ, List, [], ◌∷◌, ◌++◌, length, take, drop, true, false, refl, sym, ap, ◌∙◌, subst, append_assoc, append-nil, Some, None}
 use Rattle.std.specs.Prelude.{Bool, not, ◌&&◌, ◌||◌, cond, Option, Ok, map}
-use Rattle.std.specs.List.{list_any, list_all, slice_split, onto_first}
+use Rattle.std.specs.List.{list_any, list_all, slice_split, onto_first, AllByRecursion}
 use Rattle.std.specs.Option.{option_map}
 use Rattle.std.specs.Ordering.{nat_cmp, match_ordering}
 use Rattle.std.specs.declared.cmp.Ordering.{Ordering}
@@ -22,11 +22,10 @@ use Rattle.text_laws.specs.Lines.{without_return}
 use Rattle.text_laws.proofs.PieceLaws.{split_off}
 use Rattle.sum_laws.proofs.Texts.{all_both, all_parts, all_and, all_after, bytes_same, no_feed, end_stays, ink_stays}
 use Rattle.std.proofs.Math.Bool.{or-true}
-use Rattle.list_laws.proofs.Elements.{list_all-weaker}
+use Rattle.list_laws.proofs.Elements.{list_all-weaker, all_append}
 use Rattle.list_laws.proofs.Cases.{by_test}
 use Rattle.sum_laws.proofs.Blocks.{IsLine, append_line}
-use Rattle.sum_laws.proofs.Printed.{AllOf, IsForm}
-use Rattle.sum_laws.proofs.Agreeing.{all_of_both}
+use Rattle.sum_laws.proofs.Printed.{IsForm}
 use Rattle.text_laws.proofs.OrderLaws.{compare, Above, Ascends, insert_ascends}
 use Rattle.sum_laws.proofs.Orders.{reversed_less}
 
@@ -148,23 +147,23 @@ other_so x y i j h = (h, by_test (begins_with y (head_of x)) (λ e. let k : true
 
 abbrev pub Apart : List (List ℕ) → Type 0
 Apart [] = Unit {0}
-Apart (x ∷ xs) = AllOf (Other x) xs × Apart xs
+Apart (x ∷ xs) = AllByRecursion (Other x) xs × Apart xs
 
 pub record IsState (state : List (List ℕ)) : Type 0 where
-  pub equalities : AllOf IsEquality state
+  pub equalities : AllByRecursion IsEquality state
   pub ascends : Ascends state
   pub apart : Apart state
 
-all_insert : (P : List ℕ → Type 0) (k : List ℕ) (xs : List (List ℕ)) → AllOf P xs → P k → AllOf P (insert_key (slice_cmp nat_cmp) xs k)
+all_insert : (P : List ℕ → Type 0) (k : List ℕ) (xs : List (List ℕ)) → AllByRecursion P xs → P k → AllByRecursion P (insert_key (slice_cmp nat_cmp) xs k)
 all_insert P k [] a h = (h, tt)
 all_insert P k (x ∷ xs) a h = by_ordering (all_insert P k xs a.1 h) (compare k x)
   where
-    by_ordering : AllOf P (insert_key (slice_cmp nat_cmp) xs k) → (o : Ordering) → AllOf P (match_ordering o (k ∷ x ∷ xs) (x ∷ xs) (x ∷ insert_key (slice_cmp nat_cmp) xs k))
+    by_ordering : AllByRecursion P (insert_key (slice_cmp nat_cmp) xs k) → (o : Ordering) → AllByRecursion P (match_ordering o (k ∷ x ∷ xs) (x ∷ xs) (x ∷ insert_key (slice_cmp nat_cmp) xs k))
     by_ordering further Less = (h, a)
     by_ordering further Equal = a
     by_ordering further Greater = (a.0, further)
 
-apart_insert : (k : List ℕ) (xs : List (List ℕ)) → AllOf (Other k) xs → Apart xs → Apart (insert_key (slice_cmp nat_cmp) xs k)
+apart_insert : (k : List ℕ) (xs : List (List ℕ)) → AllByRecursion (Other k) xs → Apart xs → Apart (insert_key (slice_cmp nat_cmp) xs k)
 apart_insert k [] o a = (tt, tt)
 apart_insert k (x ∷ xs) o a = by_ordering (apart_insert k xs o.1 a.1) (compare k x)
   where
@@ -173,7 +172,7 @@ apart_insert k (x ∷ xs) o a = by_ordering (apart_insert k xs o.1 a.1) (compare
     by_ordering further Equal = a
     by_ordering further Greater = (all_insert (Other x) k xs a.0 (o.0.1, o.0.0), further)
 
-others : (k : List ℕ) (xs : List (List ℕ)) → IsEquality k → AllOf IsEquality xs → has_left xs (head_of k) ≡ false → AllOf (Other k) xs
+others : (k : List ℕ) (xs : List (List ℕ)) → IsEquality k → AllByRecursion IsEquality xs → has_left xs (head_of k) ≡ false → AllByRecursion (Other k) xs
 others k [] i a h = tt
 others k (x ∷ xs) i a h =
     by_test (begins_with x (head_of k))
@@ -291,7 +290,7 @@ no_piece : (state : List (List ℕ)) → with_pieces state ([] ∷ []) ≡ Some 
 unfolding with_pieces
 no_piece state = ap Some (sym (append-nil state))
 
-split_later : (xs : List (List ℕ)) → AllOf IsEquality xs → map unblanked (slice_split (λ byte. byte == 59) (later_forms xs)) ≡ xs ++ [] ∷ []
+split_later : (xs : List (List ℕ)) → AllByRecursion IsEquality xs → map unblanked (slice_split (λ byte. byte == 59) (later_forms xs)) ≡ xs ++ [] ∷ []
 unfolding after_run
 split_later [] a = refl
 split_later (x ∷ xs) a =
@@ -301,7 +300,7 @@ split_later (x ∷ xs) a =
     ∙ ap (λ t. t ∷ map unblanked (slice_split (λ byte. byte == 59) (later_forms xs))) (equality_first x i)
     ∙ ap (λ t. x ∷ t) (split_later xs a.1)
 
-split_form : (xs : List (List ℕ)) → AllOf IsEquality xs → later_unblanked (slice_split (λ byte. byte == 59) (state_form xs)) ≡ xs ++ [] ∷ []
+split_form : (xs : List (List ℕ)) → AllByRecursion IsEquality xs → later_unblanked (slice_split (λ byte. byte == 59) (state_form xs)) ≡ xs ++ [] ∷ []
 unfolding state_form
 split_form [] a = refl
 split_form (x ∷ xs) a =
@@ -316,7 +315,7 @@ one_more_piece state piece (x ∷ xs) = refl
 
 -- the text before an equality
 abbrev Before : List (List ℕ) → List ℕ → Type 0
-Before state e = AllOf (λ t. (compare t e ≡ Less) × (begins_with t (head_of e) ≡ false)) state
+Before state e = AllByRecursion (λ t. (compare t e ≡ Less) × (begins_with t (head_of e) ≡ false)) state
 
 none_has : (state : List (List ℕ)) (e : List ℕ) → Before state e → has_left state (head_of e) ≡ false
 none_has [] e b = refl
@@ -326,10 +325,10 @@ put_last : (state : List (List ℕ)) (e : List ℕ) → Before state e → inser
 put_last [] e b = refl
 put_last (t ∷ state) e b = rw (reversed_less t e b.0.0) (ap (λ x. t ∷ x) (put_last state e b.1))
 
-before_more : (state : List (List ℕ)) (e : List ℕ) (xs : List (List ℕ)) → AllOf (Before state) xs → Above e xs → AllOf (Other e) xs → AllOf (Before (state ++ e ∷ [])) xs
+before_more : (state : List (List ℕ)) (e : List ℕ) (xs : List (List ℕ)) → AllByRecursion (Before state) xs → Above e xs → AllByRecursion (Other e) xs → AllByRecursion (Before (state ++ e ∷ [])) xs
 before_more state e [] b a o = tt
 before_more state e (x ∷ xs) b a o =
-    (all_of_both (λ t. (compare t x ≡ Less) × (begins_with t (head_of x) ≡ false)) state (e ∷ []) b.0 ((a.0, o.0.0), tt), before_more state e xs b.1 a.1 o.1)
+    (all_append (λ t. (compare t x ≡ Less) × (begins_with t (head_of x) ≡ false)) state (e ∷ []) b.0 ((a.0, o.0.0), tt), before_more state e xs b.1 a.1 o.1)
 
 equality_again : (state : List (List ℕ)) (e : List ℕ) → IsEquality e → Before state e → with_equality state (sides_read (cut_at 61 e)) ≡ Some (state ++ e ∷ [])
 equality_again state e i b =
@@ -338,14 +337,14 @@ equality_again state e i b =
     let none : has_left state (left_kept i.left ++ 61 ∷ []) ≡ false = ap (has_left state) head ∙ none_has state e b in
     rw (cut_is e i, i.left_side, i.value_side) (rw none (ap Some (ap (insert_key (slice_cmp nat_cmp) state) form ∙ put_last state e b)))
 
-pieces_again : (state xs : List (List ℕ)) → AllOf IsEquality xs → Ascends xs → Apart xs → AllOf (Before state) xs → with_pieces state (xs ++ [] ∷ []) ≡ Some (state ++ xs)
+pieces_again : (state xs : List (List ℕ)) → AllByRecursion IsEquality xs → Ascends xs → Apart xs → AllByRecursion (Before state) xs → with_pieces state (xs ++ [] ∷ []) ≡ Some (state ++ xs)
 pieces_again state [] i a o b = no_piece state
 pieces_again state (x ∷ xs) i a o b =
     one_more_piece state x xs ∙ ap (λ r. and_then r (λ more. with_pieces more (xs ++ [] ∷ []))) (equality_again state x i.0 b.0)
     ∙ pieces_again (state ++ x ∷ []) xs i.1 a.1 o.1 (before_more state x xs b.1 a.0 o.0)
     ∙ ap Some (append_assoc state (x ∷ []) xs)
 
-none_before : (xs : List (List ℕ)) → AllOf (Before []) xs
+none_before : (xs : List (List ℕ)) → AllByRecursion (Before []) xs
 none_before [] = tt
 none_before (x ∷ xs) = (tt, none_before xs)
 
@@ -366,11 +365,11 @@ semi_line : (rest : List ℕ) → IsLine rest → IsLine (59 ∷ rest)
 semi_line [] l = record { one = refl; kept = semi_return }
 semi_line (b ∷ rest) l = append_line (59 ∷ []) (b ∷ rest) refl refl l
 
-later_line : (xs : List (List ℕ)) → AllOf IsEquality xs → IsLine (later_forms xs)
+later_line : (xs : List (List ℕ)) → AllByRecursion IsEquality xs → IsLine (later_forms xs)
 later_line [] a = record { one = refl; kept = no_bytes }
 later_line (x ∷ xs) a = subst IsLine (sym (append_assoc (32 ∷ x) (59 ∷ []) (later_forms xs))) (append_line (32 ∷ x) (59 ∷ later_forms xs) (equality_line x a.0) refl (semi_line (later_forms xs) (later_line xs a.1)))
 
-form_line : (xs : List (List ℕ)) → AllOf IsEquality xs → IsLine (state_form xs)
+form_line : (xs : List (List ℕ)) → AllByRecursion IsEquality xs → IsLine (state_form xs)
 unfolding state_form
 form_line [] a = record { one = refl; kept = no_bytes }
 form_line (x ∷ xs) a = subst IsLine (sym (append_assoc x (59 ∷ []) (later_forms xs))) (append_line x (59 ∷ later_forms xs) (equality_line x a.0) refl (semi_line (later_forms xs) (later_line xs a.1)))

@@ -1,7 +1,7 @@
 -- The laws of sums of sums.
 use Rattle.std.proofs.Common.{◌≡◌, ℕ, ◌+◌, ◌≤◌, List, [], ◌∷◌, ◌++◌, true, false, refl, sym, ap, ◌∙◌, arith, subst, append_assoc, append-nil, Some, None}
 use Rattle.std.specs.Prelude.{Bool, cond, Option, Result, Ok, Err, map, codes}
-use Rattle.std.specs.List.{list_any, flat_map}
+use Rattle.std.specs.List.{list_any, flat_map, AllByRecursion}
 use Rattle.std.specs.Str.{bytes_eq}
 use Rattle.list_laws.proofs.Cases.{by_test}
 use Rattle.log_sum.specs.declared.errors.LogError.{LogError}
@@ -17,7 +17,7 @@ use Rattle.sum_laws.proofs.Cases.{Mark, outside, is_outside, starred, plain}
 use Rattle.sum_laws.proofs.Texts.{bytes_same, is_word}
 use Rattle.sum_laws.proofs.Lines.{line_of_hash}
 use Rattle.sum_laws.proofs.Blocks.{seen_at, Clean, clean_parts, return_prefix}
-use Rattle.sum_laws.proofs.Printed.{AllOf, IsForm, IsHashed, AreForms, Printable, given, file_goes}
+use Rattle.sum_laws.proofs.Printed.{IsForm, IsHashed, AreForms, Printable, given, file_goes}
 use Rattle.sum_laws.proofs.Scans.{files_scan, files_both, files_end, IsEnd, clean_both}
 use Rattle.sum_laws.proofs.Agreeing.{Agrees, facts_both, clean_facts, clean_all, clean_from_agrees, agrees_from_clean, marked_both, state_both, marked_one, state_one, mark_same, bytes_is, fact_here, fact_elsewhere}
 use Rattle.sum_laws.proofs.Sums.{Marks, printed_facts}
@@ -27,35 +27,35 @@ use Rattle.sum_laws.proofs.Whole.{IsPrintable, IsPrintableEntry, Keeps, WholeOrR
 use Rattle.sum_laws.proofs.Names.{tests_distinct, tests_between, printed_of, none_printed_of, test_there, no_facts}
 
 -- what is said of a test
-printable_facts_of : (name : List ℕ) (entries : List Entry) → AllOf IsPrintableEntry entries → AllOf IsPrintable (facts_of name entries)
+printable_facts_of : (name : List ℕ) (entries : List Entry) → AllByRecursion IsPrintableEntry entries → AllByRecursion IsPrintable (facts_of name entries)
 printable_facts_of name [] a = tt
 printable_facts_of name (e ∷ entries) a =
     by_test (bytes_eq e.test name)
     (λ h. rw (fact_here name e entries h) (a.0.1, printable_facts_of name entries a.1))
     (λ h. rw (fact_elsewhere name e entries h) (printable_facts_of name entries a.1))
 
-name_printable : (name : List ℕ) (entries : List Entry) → AllOf IsPrintableEntry entries → list_any (λ (e : Entry). bytes_eq e.test name) entries ≡ true → is_word name ≡ true
+name_printable : (name : List ℕ) (entries : List Entry) → AllByRecursion IsPrintableEntry entries → list_any (λ (e : Entry). bytes_eq e.test name) entries ≡ true → is_word name ≡ true
 name_printable name [] a h = absurd (cc)
 name_printable name (e ∷ entries) a h =
     by_test (bytes_eq e.test name)
     (λ f. ap is_word (sym (bytes_is e.test name f)) ∙ a.0.0)
     (λ f. name_printable name entries a.1 (rw f at h))
 
-row_forms : (facts : List Fact) → AllOf IsPrintable facts → AllOf (λ (r : Row). IsForm r.state) (rows facts)
+row_forms : (facts : List Fact) → AllByRecursion IsPrintable facts → AllByRecursion (λ (r : Row). IsForm r.state) (rows facts)
 row_forms [] a = tt
 row_forms (a_kind kind ∷ facts) a = row_forms facts a.1
 row_forms (a_row row ∷ facts) a = (a.0, row_forms facts a.1)
 row_forms (a_condition text verdict ∷ facts) a = row_forms facts a.1
 row_forms (a_hash hash ∷ facts) a = row_forms facts a.1
 
-hash_read : (facts : List Fact) (hash : List ℕ) → AllOf IsPrintable facts → first_of (hashes facts) ≡ Some hash → IsRead hash
+hash_read : (facts : List Fact) (hash : List ℕ) → AllByRecursion IsPrintable facts → first_of (hashes facts) ≡ Some hash → IsRead hash
 hash_read [] hash a e = absurd (cc)
 hash_read (a_kind kind ∷ facts) hash a e = hash_read facts hash a.1 e
 hash_read (a_row row ∷ facts) hash a e = hash_read facts hash a.1 e
 hash_read (a_condition text verdict ∷ facts) hash a e = hash_read facts hash a.1 e
 hash_read (a_hash h ∷ facts) hash a e = let same : h ≡ hash = cc in subst IsRead same a.0
 
-form_of : (x : List ℕ) (rs : List Row) → AllOf (λ (r : Row). IsForm r.state) rs → list_any (bytes_eq x) (map (λ (r : Row). r.state) rs) ≡ true → IsForm x
+form_of : (x : List ℕ) (rs : List Row) → AllByRecursion (λ (r : Row). IsForm r.state) rs → list_any (bytes_eq x) (map (λ (r : Row). r.state) rs) ≡ true → IsForm x
 form_of x [] a h = absurd (cc)
 form_of x (r ∷ rs) a h =
     by_test (bytes_eq x r.state)
@@ -84,8 +84,8 @@ state_within : (mark : List ℕ → Mark) (x : List ℕ) (rs : List Row) → Mar
 state_within mark x [] a = none_within mark x
 state_within mark x (r ∷ rs) a = more_within mark x r rs a.0 (state_within mark x rs a.1)
 
-forms_of : (rs : List Row) (ks : List (List ℕ)) (mark : List ℕ → Mark) → Marks mark rs → ((m : Mark) → marked_sum m rs ≤ last_count) → AllOf (λ (r : Row). IsForm r.state) rs
-    → AllOf (λ x. list_any (bytes_eq x) (map (λ (r : Row). r.state) rs) ≡ true) ks → AreForms (map (state_by rs) ks)
+forms_of : (rs : List Row) (ks : List (List ℕ)) (mark : List ℕ → Mark) → Marks mark rs → ((m : Mark) → marked_sum m rs ≤ last_count) → AllByRecursion (λ (r : Row). IsForm r.state) rs
+    → AllByRecursion (λ x. list_any (bytes_eq x) (map (λ (r : Row). r.state) rs) ≡ true) ks → AreForms (map (state_by rs) ks)
 forms_of rs [] mark a s f h = tt
 forms_of rs (k ∷ ks) mark a s f h =
     let e = state_within mark k rs a in
@@ -99,7 +99,7 @@ hash_line_kept : (hash : List ℕ) → without_return hash ≡ hash → without_
 hash_line_kept [] h = sign_kept
 hash_line_kept (b ∷ hash) h = return_prefix (codes "Hash=") b hash h
 
-is_hashed : (facts : List Fact) (o : Option (List ℕ)) → AllOf IsPrintable facts → first_of (hashes facts) ≡ o → ((hash : List ℕ) → o ≡ Some hash → without_return hash ≡ hash) → IsHashed o
+is_hashed : (facts : List Fact) (o : Option (List ℕ)) → AllByRecursion IsPrintable facts → first_of (hashes facts) ≡ o → ((hash : List ℕ) → o ≡ Some hash → without_return hash ≡ hash) → IsHashed o
 is_hashed facts None a e h = tt
 is_hashed facts (Some hash) a e h =
     let r = hash_read facts hash a e in
@@ -110,11 +110,11 @@ unfolding summed
 totals facts g = (g.small starred, g.small plain)
 
 -- a whole test can be printed
-printable : (name : List ℕ) (entries : List Entry) → AllOf IsPrintableEntry entries → KeepsSumLimits entries → Agrees (facts_of name entries) → Complete (facts_of name entries) → list_any (λ (e : Entry). bytes_eq e.test name) entries ≡ true
+printable : (name : List ℕ) (entries : List Entry) → AllByRecursion IsPrintableEntry entries → KeepsSumLimits entries → Agrees (facts_of name entries) → Complete (facts_of name entries) → list_any (λ (e : Entry). bytes_eq e.test name) entries ≡ true
     → Printable name (summed (facts_of name entries))
 printable name entries a l g c h =
     let facts : List Fact = facts_of name entries in
-    let printed_here : AllOf IsPrintable facts = printable_facts_of name entries a in
+    let printed_here : AllByRecursion IsPrintable facts = printable_facts_of name entries a in
     let marks : Marks g.profile.mark (rows facts) = marks_fit g.profile facts g.fits in
     let sums = totals facts g in
     record {
@@ -135,7 +135,7 @@ whole_outside s name p (running inside same) = absurd (let k : true ≡ false = 
 ended_outside : (s : LogSeen) → IsEnd s → s.place ≡ outside
 ended_outside s e = ap (λ (x : LogSeen). x.place) e
 
-all_printable : (names : List (List ℕ)) (entries : List Entry) → ((name : List ℕ) → list_any (bytes_eq name) names ≡ true → Printable name (summed (facts_of name entries))) → AllOf (λ name. Printable name (summed (facts_of name entries))) names
+all_printable : (names : List (List ℕ)) (entries : List Entry) → ((name : List ℕ) → list_any (bytes_eq name) names ≡ true → Printable name (summed (facts_of name entries))) → AllByRecursion (λ name. Printable name (summed (facts_of name entries))) names
 all_printable [] entries h = tt
 all_printable (n ∷ names) entries h =
     (h n (rw (bytes_same n) refl), all_printable names entries (λ name e. h name (by_test (bytes_eq name n) (λ f. rw f refl) (λ f. rw f e))))
@@ -264,7 +264,7 @@ whole_tests logs seen e name h =
     let k : Keeps seen = files_keep logs nothing_seen seen keeps_nothing e in
     whole_outside seen name (ended_outside seen (files_end logs nothing_seen seen refl e)) (k.tests name h)
 
-sum_goes : (before entries : List Entry) → AllOf (λ name. Printable name (summed (facts_of name entries))) (tests_of entries) → KeepsSumLimits entries → Clean before (reprinted entries)
+sum_goes : (before entries : List Entry) → AllByRecursion (λ name. Printable name (summed (facts_of name entries))) (tests_of entries) → KeepsSumLimits entries → Clean before (reprinted entries)
     → file_judged (seen_at before [] outside 1) (sum_text entries) ≡ Ok (seen_at (before ++ reprinted entries) [] outside 1)
 unfolding sum_text
 sum_goes before entries p l c = file_goes before (λ name. summed (facts_of name entries)) (tests_of entries) p l.lines c
@@ -279,9 +279,9 @@ replace before logs after text n i =
     let entries : i.seen.entries ≡ p.mid = ap (λ (x : LogSeen). x.entries) seen in
     let limits : KeepsSumLimits p.mid = subst KeepsSumLimits entries i.limits in
     let complete = whole_tests logs (seen_at p.mid [] outside 1) alone in
-    let printed_mid : AllOf IsPrintableEntry p.mid = (files_keep logs nothing_seen (seen_at p.mid [] outside 1) keeps_nothing alone).given in
+    let printed_mid : AllByRecursion IsPrintableEntry p.mid = (files_keep logs nothing_seen (seen_at p.mid [] outside 1) keeps_nothing alone).given in
     let agree = all_agree p.mid (mid_clean p.prefix p.mid p.back p.clean) in
-    let print : AllOf (λ name. Printable name (summed (facts_of name p.mid))) (tests_of p.mid) = all_printable (tests_of p.mid) p.mid
+    let print : AllByRecursion (λ name. Printable name (summed (facts_of name p.mid))) (tests_of p.mid) = all_printable (tests_of p.mid) p.mid
     (λ name h. let there = sym (test_there name p.mid) ∙ h in printable name p.mid printed_mid limits (agree name) (complete name there) there) in
     let r = λ (name : List ℕ). replaced p.prefix p.mid p.back name (all_agree (p.prefix ++ (p.mid ++ p.back)) p.clean name) (complete name) in
     let clean : Clean [] (p.prefix ++ (reprinted p.mid ++ p.back)) = all_clean (p.prefix ++ (reprinted p.mid ++ p.back)) (λ name. (r name).agrees) in

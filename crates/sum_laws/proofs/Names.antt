@@ -1,21 +1,22 @@
 -- Tests in the order in which each was first seen.
 use Rattle.std.proofs.Common.{◌≡◌, ℕ, List, [], ◌∷◌, ◌++◌, true, false, refl, sym, ap, ◌∙◌, append-nil}
 use Rattle.std.specs.Prelude.{Bool, ◌||◌, map, fold, Option, Some, None}
-use Rattle.std.specs.List.{list_any, flat_map}
+use Rattle.std.specs.List.{list_any, flat_map, AllByRecursion}
 use Rattle.std.specs.Str.{bytes_eq}
 use Rattle.std.proofs.lemmas.List.{map-append}
 use Rattle.std.proofs.lemmas.List.Sums.{fold-append}
 use Rattle.std.proofs.lemmas.List.Folds.{list_any-append}
 use Rattle.std.proofs.Math.Bool.{or-false, or_assoc}
 use Rattle.list_laws.proofs.Cases.{by_test}
+use Rattle.list_laws.proofs.Elements.{all_append}
 use Rattle.log_sum.specs.Facts.{Entry, a_condition, facts_of, with_test_name, tests_of}
 use Rattle.log_sum.specs.Summed.{Summed, StateSummed, some_or, is_validated}
 use Rattle.sum_laws.proofs.Texts.{bytes_same}
 use Rattle.text_laws.proofs.OrderLaws.{eq_swap}
 use Rattle.sum_laws.proofs.Lines.{said_as}
 use Rattle.sum_laws.proofs.Blocks.{entry}
-use Rattle.sum_laws.proofs.Printed.{AllOf, state_entries, hash_entries, given}
-use Rattle.sum_laws.proofs.Agreeing.{all_of_both, facts_both, fact_elsewhere, bytes_is}
+use Rattle.sum_laws.proofs.Printed.{state_entries, hash_entries, given}
+use Rattle.sum_laws.proofs.Agreeing.{facts_both, fact_elsewhere, bytes_is}
 use Rattle.sum_laws.proofs.Sums.{printed_facts, printed_here, printed_elsewhere}
 use Rattle.sum_laws.proofs.Orders.{Distinct}
 
@@ -81,28 +82,28 @@ fold_names names more (x ∷ xs) =
     (λ e. ap (fold with_test_name names) (with_new more x e) ∙ fold-append with_test_name names more (x ∷ [])))
 
 -- entries of one test
-same_tests : (names : List (List ℕ)) (name : List ℕ) (entries : List Entry) → AllOf (λ (e : Entry). e.test ≡ name) entries → fold with_test_name (with_test_name names name) (map (λ (e : Entry). e.test) entries) ≡ with_test_name names name
+same_tests : (names : List (List ℕ)) (name : List ℕ) (entries : List Entry) → AllByRecursion (λ (e : Entry). e.test ≡ name) entries → fold with_test_name (with_test_name names name) (map (λ (e : Entry). e.test) entries) ≡ with_test_name names name
 same_tests names name [] a = refl
 same_tests names name (e ∷ entries) a =
     ap (λ x. fold with_test_name (with_test_name (with_test_name names name) x) (map (λ (e : Entry). e.test) entries)) a.0
     ∙ ap (λ t. fold with_test_name t (map (λ (e : Entry). e.test) entries)) (with_known (with_test_name names name) name (there names name))
     ∙ same_tests names name entries a.1
 
-states_named : (name : List ℕ) (states : List StateSummed) → AllOf (λ (e : Entry). e.test ≡ name) (state_entries name states)
+states_named : (name : List ℕ) (states : List StateSummed) → AllByRecursion (λ (e : Entry). e.test ≡ name) (state_entries name states)
 states_named name [] = tt
 states_named name (s ∷ states) = (refl, states_named name states)
 
-hash_named : (name : List ℕ) (sum : Summed) → AllOf (λ (e : Entry). e.test ≡ name) (hash_entries name sum.hash)
+hash_named : (name : List ℕ) (sum : Summed) → AllByRecursion (λ (e : Entry). e.test ≡ name) (hash_entries name sum.hash)
 hash_named name sum = by_hash sum.hash
   where
-    by_hash : (o : Option (List ℕ)) → AllOf (λ (e : Entry). e.test ≡ name) (hash_entries name o)
+    by_hash : (o : Option (List ℕ)) → AllByRecursion (λ (e : Entry). e.test ≡ name) (hash_entries name o)
     by_hash None = tt
     by_hash (Some h) = (refl, tt)
 
 tests_of_printed : (names : List (List ℕ)) (name : List ℕ) (sum : Summed) → fold with_test_name names (map (λ (e : Entry). e.test) (given name sum)) ≡ with_test_name names name
 tests_of_printed names name sum =
     same_tests names name (state_entries name sum.states ++ entry name (a_condition (some_or [] sum.condition) (said_as (is_validated sum))) ∷ hash_entries name sum.hash)
-    (all_of_both (λ (e : Entry). e.test ≡ name) (state_entries name sum.states) (entry name (a_condition (some_or [] sum.condition) (said_as (is_validated sum))) ∷ hash_entries name sum.hash) (states_named name sum.states) (refl, hash_named name sum))
+    (all_append (λ (e : Entry). e.test ≡ name) (state_entries name sum.states) (entry name (a_condition (some_or [] sum.condition) (said_as (is_validated sum))) ∷ hash_entries name sum.hash) (states_named name sum.states) (refl, hash_named name sum))
 
 -- the tests of printed tests are added as the names of the tests
 pub all_tests_of_printed : (names : List (List ℕ)) (sum : List ℕ → Summed) (tests : List (List ℕ)) → fold with_test_name names (map (λ (e : Entry). e.test) (flat_map (λ name. given name (sum name)) tests)) ≡ fold with_test_name names tests

@@ -1,7 +1,7 @@
 -- A printed sum is read as the facts that it prints.
 use Rattle.std.proofs.Common.{◌≡◌, ◌==◌, ℕ, zero, suc, ◌-◌, ◌≤◌, List, [], ◌∷◌, ◌++◌, length, true, false, refl, sym, ◌∙◌, append_assoc, append-nil, subst, Some, None}
 use Rattle.std.specs.Prelude.{Bool, Option, Ok, codes, decimal, replicate}
-use Rattle.std.specs.List.{list_all, flat_map}
+use Rattle.std.specs.List.{list_all, flat_map, AllByRecursion}
 use Rattle.list_laws.proofs.Cases.{by_test}
 use Rattle.text_laws.specs.Words.{is_nil, words}
 use Rattle.text_laws.specs.Blanks.{before_blanks}
@@ -243,11 +243,6 @@ pub record Read (s : LogSeen) (entries : List Entry) (bytes rest : List ℕ) : T
   pub line : ℕ
   pub goes : Goes s (seen_at entries test outside line) bytes rest
 
--- something holds of all elements
-abbrev pub AllOf : {A : Type 0} → (A → Type 0) → List A → Type 0
-AllOf P [] = Unit {0}
-AllOf P (x ∷ xs) = P x × AllOf P xs
-
 -- the parts of a block
 head_goes : (before : List Entry) (test name : List ℕ) (line : ℕ) (sum : Summed) (rest : List ℕ) → Printable name sum → Fits (head_text name sum ++ rest) → Clean before (entry name (a_kind (kind_of_test sum)) ∷ [])
     → Goes (seen_at before test outside line) (seen_at (before ++ entry name (a_kind (kind_of_test sum)) ∷ []) name (states_left (kind_of_test sum) (length sum.states)) (next_line (next_line line))) (head_text name sum ++ rest) rest
@@ -345,7 +340,7 @@ test_goes before test name line sum rest p f c =
     rw (e, sym all) (record { line = next_line (next_line five.line); goes = goes_on one (goes_on two.goes (goes_on three (goes_on four (goes_on five.goes six)))) })
 
 -- a list of printed tests is read as the entries that they give
-pub texts_go : (before : List Entry) (test : List ℕ) (line : ℕ) (sum : List ℕ → Summed) (names : List (List ℕ)) (rest : List ℕ) → AllOf (λ name. Printable name (sum name)) names
+pub texts_go : (before : List Entry) (test : List ℕ) (line : ℕ) (sum : List ℕ → Summed) (names : List (List ℕ)) (rest : List ℕ) → AllByRecursion (λ name. Printable name (sum name)) names
     → Fits (flat_map (λ name. summed_text name (sum name)) names ++ rest) → Clean before (flat_map (λ name. given name (sum name)) names)
     → Read (seen_at before test outside line) (before ++ flat_map (λ name. given name (sum name)) names) (flat_map (λ name. summed_text name (sum name)) names ++ rest) rest
 texts_go before test line sum [] rest p f c = rw (append-nil before) (record { test = test; line = line; goes = record { lines = refl; last = refl; fits = f } })
@@ -365,7 +360,7 @@ unfolding file_judged whole_lines unfinished last_judged
 file_read s entries text r = rw (r.goes.lines, r.goes.last) refl
 
 -- a file of printed tests is judged as the entries that they give
-pub file_goes : (before : List Entry) (sum : List ℕ → Summed) (names : List (List ℕ)) → AllOf (λ name. Printable name (sum name)) names
+pub file_goes : (before : List Entry) (sum : List ℕ → Summed) (names : List (List ℕ)) → AllByRecursion (λ name. Printable name (sum name)) names
     → Fits (flat_map (λ name. summed_text name (sum name)) names) → Clean before (flat_map (λ name. given name (sum name)) names)
     → file_judged (seen_at before [] outside 1) (flat_map (λ name. summed_text name (sum name)) names) ≡ Ok (seen_at (before ++ flat_map (λ name. given name (sum name)) names) [] outside 1)
 file_goes before sum names p f c =

@@ -1,7 +1,7 @@
 -- The facts of a printed test have the sum that the test was printed from.
 use Rattle.std.proofs.Common.{◌≡◌, ℕ, ◌+◌, List, [], ◌∷◌, ◌++◌, true, false, refl, sym, ap, ◌∙◌, arith, append-nil, zero-add, add-zero, Some, None}
 use Rattle.std.specs.Prelude.{Bool, ◌||◌, cond, Option, map}
-use Rattle.std.specs.List.{list_any}
+use Rattle.std.specs.List.{list_any, AllByRecursion}
 use Rattle.std.specs.Str.{bytes_eq}
 use Rattle.list_laws.proofs.Cases.{by_test}
 use Rattle.log_sum.specs.Facts.{Row, Fact, a_kind, a_row, a_condition, a_hash, row_with, rows, conditions, hashes, first_of, same_state_mark, marked_sum, state_sum, states_of, mark_in, facts_of}
@@ -10,7 +10,7 @@ use Rattle.sum_laws.proofs.Cases.{Mark, plain}
 use Rattle.sum_laws.proofs.Texts.{bytes_same}
 use Rattle.sum_laws.proofs.Lines.{said_as}
 use Rattle.sum_laws.proofs.Blocks.{entry}
-use Rattle.sum_laws.proofs.Printed.{AllOf, kind_of_test, state_entries, hash_entries, given}
+use Rattle.sum_laws.proofs.Printed.{kind_of_test, state_entries, hash_entries, given}
 use Rattle.sum_laws.proofs.Agreeing.{rows_both, conditions_both, hashes_both, or_first, marked_both, state_both, mark_both, marked_one, state_one, mark_one, marked_none, fact_here, fact_elsewhere, facts_both, bytes_is}
 use Rattle.text_laws.proofs.OrderLaws.{Ascends, fold_ascends, eq_swap, any_fold}
 use Rattle.sum_laws.proofs.Orders.{Distinct, ascends_distinct}
@@ -111,7 +111,7 @@ line_of_hash_first sum =
     ap first_of (hashes_both (state_facts sum.states) (a_condition (some_or [] sum.condition) (said_as (is_validated sum)) ∷ hash_facts sum.hash)
     ∙ ap (λ t. t ++ hashes (hash_facts sum.hash)) (states_no_hash sum.states)) ∙ hash_first sum.hash
 
-all_of_same : {A : Type 0} (P Q : A → Type 0) → ((x : A) → P x → Q x) → (xs : List A) → AllOf P xs → AllOf Q xs
+all_of_same : {A : Type 0} (P Q : A → Type 0) → ((x : A) → P x → Q x) → (xs : List A) → AllByRecursion P xs → AllByRecursion Q xs
 all_of_same P Q f [] a = tt
 all_of_same P Q f (x ∷ xs) a = (f x a.0, all_of_same P Q f xs a.1)
 
@@ -238,9 +238,9 @@ printed_mark x rs =
 
 -- each row has the mark of its state
 abbrev pub Marks : (List ℕ → Mark) → List Row → Type 0
-Marks mark rs = AllOf (λ (r : Row). r.mark ≡ mark r.state) rs
+Marks mark rs = AllByRecursion (λ (r : Row). r.mark ≡ mark r.state) rs
 
-sum_over : (mark : List ℕ → Mark) (m : Mark) (rs : List Row) (ks : List (List ℕ)) → Distinct ks → AllOf (λ (r : Row). list_any (bytes_eq r.state) ks ≡ true) rs → Marks mark rs
+sum_over : (mark : List ℕ → Mark) (m : Mark) (rs : List Row) (ks : List (List ℕ)) → Distinct ks → AllByRecursion (λ (r : Row). list_any (bytes_eq r.state) ks ≡ true) rs → Marks mark rs
     → over (λ s. cond (same_state_mark (mark s) m) (state_sum s rs) 0) ks ≡ marked_sum m rs
 sum_over mark m [] ks d a b =
     over_none (λ s. cond (same_state_mark (mark s) m) (state_sum s []) 0) ks (λ s. by_test (same_state_mark (mark s) m) (λ e. rw e (state_none s)) (λ e. rw e refl)) ∙ sym (marked_none m)
@@ -260,7 +260,7 @@ sum_over mark m (r ∷ rs) ks d a b =
     by_tests false true a b = refl
     by_tests false false a b = refl
 
-in_states : (all rs : List Row) → ((x : List ℕ) → list_any (bytes_eq x) (map (λ (r : Row). r.state) rs) ≡ true → list_any (bytes_eq x) (states_of all) ≡ true) → AllOf (λ (r : Row). list_any (bytes_eq r.state) (states_of all) ≡ true) rs
+in_states : (all rs : List Row) → ((x : List ℕ) → list_any (bytes_eq x) (map (λ (r : Row). r.state) rs) ≡ true → list_any (bytes_eq x) (states_of all) ≡ true) → AllByRecursion (λ (r : Row). list_any (bytes_eq r.state) (states_of all) ≡ true) rs
 in_states all [] h = tt
 in_states all (r ∷ rs) h = (h r.state (rw (bytes_same r.state) refl), in_states all rs (λ x e. h x (or_right (bytes_eq x r.state) (list_any (bytes_eq x) (map (λ (q : Row). q.state) rs)) e)))
   where
@@ -278,8 +278,8 @@ mark_law mark (r ∷ rs) a x y e =
     (λ t. let k = rw t at f in let same : r.mark ≡ y = cc in sym same ∙ a.0 ∙ ap mark (bytes_is r.state x t))
     (λ t. mark_law mark rs a.1 x y (rw t at f))
 
-marks_found : (mark : List ℕ → Mark) (all rs : List Row) → Marks mark rs → Marks mark all → AllOf (λ (r : Row). list_any (bytes_eq r.state) (map (λ (q : Row). q.state) all) ≡ true) rs
-    → AllOf (λ (r : Row). r.mark ≡ some_or plain (mark_in r.state all)) rs
+marks_found : (mark : List ℕ → Mark) (all rs : List Row) → Marks mark rs → Marks mark all → AllByRecursion (λ (r : Row). list_any (bytes_eq r.state) (map (λ (q : Row). q.state) all) ≡ true) rs
+    → AllByRecursion (λ (r : Row). r.mark ≡ some_or plain (mark_in r.state all)) rs
 marks_found mark all [] a b h = tt
 marks_found mark all (r ∷ rs) a b h =
     (a.0 ∙ sym (mark_law mark all b r.state (some_or plain (mark_in r.state all)) (a_state_there r.state all h.0)), marks_found mark all rs a.1 b h.1)
@@ -287,7 +287,7 @@ marks_found mark all (r ∷ rs) a b h =
 -- the printed rows have the same sum of each mark
 pub printed_marked : (mark : List ℕ → Mark) (m : Mark) (rs : List Row) → Marks mark rs → marked_sum m (printed_rows rs) ≡ marked_sum m rs
 printed_marked mark m rs a =
-    let there : AllOf (λ (r : Row). list_any (bytes_eq r.state) (states_of rs) ≡ true) rs = in_states rs rs (λ x e. states_in x rs ∙ e) in
-    let found : AllOf (λ (r : Row). r.mark ≡ some_or plain (mark_in r.state rs)) rs = marks_found mark rs rs a a (all_of_same (λ (r : Row). list_any (bytes_eq r.state) (states_of rs) ≡ true) (λ (r : Row). list_any (bytes_eq r.state) (map (λ (q : Row). q.state) rs) ≡ true) (λ r e. sym (states_in r.state rs) ∙ e) rs there) in
+    let there : AllByRecursion (λ (r : Row). list_any (bytes_eq r.state) (states_of rs) ≡ true) rs = in_states rs rs (λ x e. states_in x rs ∙ e) in
+    let found : AllByRecursion (λ (r : Row). r.mark ≡ some_or plain (mark_in r.state rs)) rs = marks_found mark rs rs a a (all_of_same (λ (r : Row). list_any (bytes_eq r.state) (states_of rs) ≡ true) (λ (r : Row). list_any (bytes_eq r.state) (map (λ (q : Row). q.state) rs) ≡ true) (λ r e. sym (states_in r.state rs) ∙ e) rs there) in
     ap (marked_sum m) (as_rows rs) ∙ marked_by (λ s. some_or plain (mark_in s rs)) (λ s. state_sum s rs) m (states_of rs)
     ∙ sum_over (λ s. some_or plain (mark_in s rs)) m rs (states_of rs) (ascends_distinct (states_of rs) (states_ascend rs)) there found

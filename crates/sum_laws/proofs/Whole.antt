@@ -1,12 +1,13 @@
 -- Logs give whole tests: after them each test has a kind and a condition, and what logs say of it can be printed.
 use Rattle.std.proofs.Common.{◌≡◌, ◌==◌, ℕ, zero, suc, List, [], ◌∷◌, ◌++◌, true, false, refl, sym, ap, ◌∙◌, subst, Some, None}
 use Rattle.std.specs.Prelude.{Bool, ◌||◌, Option, Result, Ok, Err}
-use Rattle.std.specs.List.{list_any, list_all, slice_split}
+use Rattle.std.specs.List.{list_any, list_all, slice_split, AllByRecursion}
 use Rattle.std.specs.Option.{option_map}
 use Rattle.std.specs.Str.{bytes_eq}
 use Rattle.std.proofs.lemmas.Bool.{and_parts, and_from, not-false}
 use Rattle.std.proofs.lemmas.List.Folds.{list_any-append}
 use Rattle.list_laws.proofs.Cases.{by_test}
+use Rattle.list_laws.proofs.Elements.{all_append}
 use Rattle.log_sum.specs.declared.errors.LogError.{LogError}
 use Rattle.log_sum.specs.declared.errors.LogKind.{LogKind}
 use Rattle.log_sum.specs.declared.errors.LogKind.TheVariants.{ConditionDiffers, KindDiffers}
@@ -21,10 +22,10 @@ use Rattle.text_laws.specs.Lines.{without_return, but_last, last_of}
 use Rattle.sum_laws.proofs.Cases.{Kind, Verdict, Place, outside, histogram, in_rest, conditioned_at, is_outside}
 use Rattle.sum_laws.proofs.Texts.{no_feed, is_word, bytes_same}
 use Rattle.sum_laws.proofs.Blocks.{seen_at, entry}
-use Rattle.sum_laws.proofs.Printed.{AllOf, IsForm, IsCondition}
+use Rattle.sum_laws.proofs.Printed.{IsForm, IsCondition}
 use Rattle.sum_laws.proofs.Forms.{split_lacks}
 use Rattle.sum_laws.proofs.Scans.{end_is}
-use Rattle.sum_laws.proofs.Agreeing.{all_of_both, kinds_both, conditions_both, or_first, first_both, facts_both, fact_here, none_if, kind_is, bytes_is}
+use Rattle.sum_laws.proofs.Agreeing.{kinds_both, conditions_both, or_first, first_both, facts_both, fact_here, none_if, kind_is, bytes_is}
 use Rattle.sum_laws.proofs.Alike.{Complete}
 use Rattle.sum_laws.proofs.Said.{IsRead, SaidOf, is_after, line_says}
 
@@ -46,7 +47,7 @@ pub data WholeOrRunning (s : LogSeen) (name : List ℕ) : Type 0 where
 
 -- the entries so far can be printed, and each test is whole or is the running one
 pub record Keeps (s : LogSeen) : Type 0 where
-  pub given : AllOf IsPrintableEntry s.entries
+  pub given : AllByRecursion IsPrintableEntry s.entries
   pub named : is_outside s.place ≡ false → is_word s.test ≡ true
   pub kind : is_outside s.place ≡ false → first_of (kinds (facts_of s.test s.entries)) ≡ Some (kind_at s.place)
   pub after : is_outside s.place ≡ false → is_after s.place ≡ true → Complete (facts_of s.test s.entries)
@@ -169,7 +170,7 @@ in_more entries e name h f =
 printable_more : (s : LogSeen) (place : Place) (line : ℕ) (fact : Fact) → Keeps s → is_outside s.place ≡ false → IsPrintable fact → kind_at place ≡ kind_at s.place → is_outside place ≡ false
     → (is_after place ≡ true → Complete (facts_of s.test (s.entries ++ entry s.test fact ∷ []))) → Keeps (record s { entries = s.entries ++ entry s.test fact ∷ []; place = place; line = line })
 printable_more s place line fact k o t e i c = record {
-  given = all_of_both IsPrintableEntry s.entries (entry s.test fact ∷ []) k.given ((k.named o, t), tt);
+  given = all_append IsPrintableEntry s.entries (entry s.test fact ∷ []) k.given ((k.named o, t), tt);
   named = λ h. k.named o;
   kind = λ h. kind_on s.entries (entry s.test fact ∷ []) s.test (kind_at s.place) (k.kind o) ∙ ap Some (sym e);
   after = λ h f. c f;
@@ -197,7 +198,7 @@ begun : (s : LogSeen) (name : List ℕ) (k : Kind) (line : ℕ) → Keeps s → 
     → Keeps (record { entries = s.entries ++ entry name (a_kind k) ∷ []; test = name; place = histogram k; line = line })
 unfolding place_after
 begun s name k line keeps o w f = record {
-  given = all_of_both IsPrintableEntry s.entries (entry name (a_kind k) ∷ []) keeps.given ((w, tt), tt);
+  given = all_append IsPrintableEntry s.entries (entry name (a_kind k) ∷ []) keeps.given ((w, tt), tt);
   named = λ h. w;
   kind = λ h. ap (λ t. first_of (kinds t)) (with_fact s.entries name (a_kind k)) ∙ kind_begun (facts_of name s.entries) k f;
   after = λ h e. not_both (is_after (histogram k)) e (not_after_histogram k);

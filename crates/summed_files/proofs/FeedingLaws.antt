@@ -1,16 +1,15 @@
 -- Pieces of a log that are fed, and a device that is read.
-use Rattle.std.proofs.Common.{◌≡◌, ◌≤◌, ◌<◌, ◌^◌, ℕ, ◌+◌, List, [], ◌++◌, length, take, drop, Some, None, refl, sym, ap, ◌∙◌, subst, arith, length-append, length-drop, append_assoc, append-nil, inl, cond}
+use Rattle.std.proofs.Common.{◌≡◌, ◌≤◌, ◌<◌, ◌^◌, ℕ, ◌+◌, List, [], ◌++◌, length, take, drop, Some, None, refl, sym, ap, ◌∙◌, subst, arith, length-append, length-drop, append_assoc, append-nil, inl}
 use Rattle.std.specs.Prelude.{Option, Err, ◌==◌}
 use Rattle.std.proofs.lemmas.List.{take-append-drop, length-take-le}
-use Rattle.std.proofs.lemmas.List.Sums.{sum_by-append}
+use Rattle.std.proofs.lemmas.List.Sums.{count_by-le-length}
 use Rattle.std.specs.Io.KnownBytes.{Consumes, IsAtEnd}
 use Rattle.std.proofs.KnownBytes.{Consumes-nil, Consumes-trans, Consumes-whole}
 use Rattle.diy_io.specs.Count.{count_of, Rose}
-use Rattle.diy_io.specs.Sink.{line_feed_count}
 use Rattle.diy_io.specs.Taken.{SourceSeen, Took}
 use Rattle.log_sum.specs.declared.errors.SumError.{SumError}
 use Rattle.log_sum.specs.declared.errors.SumError.TheVariants as sums
-use Rattle.log_sum.specs.Representing.{Kept, Represents, FedTo, EndedTo}
+use Rattle.log_sum.specs.Representing.{Kept, Represents, FedTo, EndedTo, line_at}
 use Rattle.log_sum.proofs.RepresentingLaws.{end_fault_stays}
 use Rattle.summed_files.specs.declared.feeding.Feeding.{Feeding}
 use Rattle.summed_files.specs.declared.feeding.LogFault.{LogFault}
@@ -37,21 +36,19 @@ piece_refused kept logs bytes piece n sums.NoMemory short fits fed = tt
 -- a piece that goes past the first 2^40 bytes
 pub piece_full : (kept : Kept) (logs : List (List ℕ)) (bytes piece : List ℕ) (n line : ℕ)
     → length bytes + n ≡ 2 ^ 40 → n < length piece
-    → Represents kept logs (bytes ++ take n piece) → line ≡ line_feed_count (bytes ++ take n piece) + 1 → PrefixFull logs (bytes ++ piece) line
-piece_full kept logs bytes piece n line full less represents number = record {
-  prefix = bytes ++ take n piece;
-  rest = drop n piece;
-  parts = parts_of bytes piece n;
-  full = omega (arith, length-append bytes (take n piece), length-take-le n piece (omega arith));
-  more = omega (arith, length-drop n piece);
-  seen = represents.seen;
-  no_fault = represents.judged;
-  number = number;
-}
-
--- the line feeds of bytes and a piece
-pub line_feeds_on : (xs ys : List ℕ) (m n : ℕ) → m ≡ line_feed_count xs → n ≡ line_feed_count ys → m + n ≡ line_feed_count (xs ++ ys)
-line_feeds_on xs ys m n a b = rw (a, b) (sym (sum_by-append (λ byte. cond (byte == 10) 1 0) xs ys))
+    → Represents kept logs (bytes ++ take n piece) → line ≡ line_at (bytes ++ take n piece) → PrefixFull logs (bytes ++ piece) line
+piece_full kept logs bytes piece n line full less represents number =
+    let whole : length (bytes ++ take n piece) ≡ 2 ^ 40 = omega (arith, length-append bytes (take n piece), length-take-le n piece (omega arith)) in
+    record {
+      prefix = bytes ++ take n piece;
+      rest = drop n piece;
+      parts = parts_of bytes piece n;
+      full = whole;
+      more = omega (arith, length-drop n piece);
+      seen = represents.seen;
+      no_fault = represents.judged;
+      number = omega (arith, number, whole, count_by-le-length (λ byte. byte == 10) (bytes ++ take n piece));
+    }
 
 -- a log that is refused at its end
 pub log_refused : (kept : Kept) (logs : List (List ℕ)) (log : List ℕ) (error : SumError) → EndedTo kept logs log (Err error) → IsEndFault logs log (sum_fault error)

@@ -3,4 +3,3 @@ pub mod FileLaws
 pub mod LogLaws
 pub mod EndLaws
 pub mod FilesLaws
-pub mod FeedLaws

@@ -2,7 +2,6 @@
 -- Source: own.
 use Rattle.std.specs.Prelude.{◌≡◌, ◌⊎◌, ℕ, List, [], ◌∷◌, ◌++◌, length, Result, Ok, Err}
 use Rattle.std.specs.Io.KnownBytes.{Consumes, IsAtEnd}
-use Rattle.diy_io.specs.Sink.{line_feed_count}
 use Rattle.diy_io.specs.Taken.{SourceSeen}
 use Rattle.diy_io.specs.Wrote.{SinkSeen, Wrote}
 use Rattle.diy_io.specs.declared.errors.Failed.{Failed}
@@ -14,11 +13,10 @@ use Rattle.summed_files.specs.declared.feeding.ReadFault.{ReadFault}
 use Rattle.summed_files.specs.declared.feeding.ReadFault.TheVariants.{Log, Device}
 use Rattle.summed_files.specs.Logs.{IsText, IsShort, TookCount, PrefixWrong, PrefixFull, UpToFault, IsWrongLog, IsTooMuch, ReadFailed}
 
--- whole logs and the bytes so far of one more were fed, and the bytes and line feeds of this one are counted
+-- whole logs and the bytes so far of one more were fed, and the bytes of this one are counted
 pub record ReadsLogs (feeding : Feeding) (logs : List (List ℕ)) (bytes : List ℕ) : Type 0 where
   pub represents : Represents feeding.summer logs bytes
   pub read : feeding.read ≡ length bytes
-  pub line_feeds : feeding.line_feeds ≡ line_feed_count bytes
 
 -- something is so of the logs that were fed, whatever they are, where nothing has come of one more
 abbrev pub ForLogs : Feeding → (List (List ℕ) → Type 0) → Type 0

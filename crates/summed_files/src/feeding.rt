@@ -1,12 +1,10 @@
 ghost use Rattle.std.specs.Prelude.{true, ◌≡◌, ◌+◌, ◌≤◌, ◌^◌, ◌++◌, ℕ, List, [], length, OnOk, IfOk};
-ghost use Rattle.diy_io.specs.Sink.{line_feed_count};
 ghost use Rattle.summed_files.specs.FileFaults.{sum_fault, sum_end_at};
 ghost use Rattle.summed_files.specs.declared.feeding.ReadFault.TheVariants.{Log, Device};
 
 use crate::sum_end::SumEnd;
 use diy_io::{Failed, MAX_INPUT, NoMemory, Sink};
 use log_sum::{LogError, SumError, Summer};
-use memchr::memchr;
 use std::alloc::Global;
 
 /// How many bytes are read at once.
@@ -47,14 +45,12 @@ impl From<Failed> for ReadFault {
     }
 }
 
-/// A summer, and how many bytes and line feeds of the running log it was fed.
+/// A summer, and how many bytes of the running log it was fed.
 #[derive(Drop)]
 pub(crate) struct Feeding {
     pub(crate) summer: Summer,
     pub(crate) read: u64,
-    pub(crate) line_feeds: u64,
     ghost in_range: { read ≤ 2 ^ 40 },
-    ghost fewer: { line_feeds ≤ read },
 }
 
 fn fault_of(error: SumError) -> LogFault
@@ -64,20 +60,6 @@ fn fault_of(error: SumError) -> LogFault
         SumError::Log(error) => LogFault::Wrong(error),
         SumError::NoMemory => LogFault::NoMemory,
     }
-}
-
-/// How many line feeds a text has.
-fn line_feeds(text: &[u8]) -> u64
-    ensures count { result ≡ line_feed_count text.now }
-    ensures bound { result ≤ length text.now }
-{
-    let mut rest = text;
-    let mut count = 0;
-    while let Some(at) = memchr(b'\n', rest) {
-        count += 1;
-        rest = &rest[at + 1..];
-    }
-    count
 }
 
 impl LogFault {
@@ -102,7 +84,6 @@ impl Feeding {
         Ok(Feeding {
             summer: Summer::new(alloc)?,
             read: 0,
-            line_feeds: 0,
         })
     }
 
@@ -116,10 +97,9 @@ impl Feeding {
         if let Err(error) = self.summer.feed(prefix) {
             return Err(fault_of(error));
         }
-        self.line_feeds += line_feeds(prefix);
         self.read += fitting as u64;
         if fitting < piece.len() {
-            return Err(LogFault::TooMuch(self.line_feeds + 1));
+            return Err(LogFault::TooMuch(self.summer.line()));
         }
         Ok(())
     }
@@ -128,7 +108,6 @@ impl Feeding {
     pub(crate) fn end_log(&mut self) -> Result<(), LogFault>
         ensures { (logs : List (List ℕ)) (log : List ℕ) → ReadsLogs self.old logs log → EndedOn self.new logs log result }
     {
-        self.line_feeds = 0;
         self.read = 0;
         match self.summer.end_file() {
             Ok(()) => Ok(()),

@@ -1,31 +1,12 @@
 ghost use Rattle.std.specs.Prelude.{◌≡◌, ◌<◌, ◌≤◌, length, ℕ, List, [], Result};
 ghost use Rattle.summed_files.specs.Logs.{max_piece};
-ghost use Rattle.summed_files.specs.FileFeeding.{ReadsLogs, ReadTo, SummedTo};
+ghost use Rattle.summed_files.specs.FileFeeding.{ReadsLogs, SummedTo};
 ghost use Rattle.summed_files.specs.SumEnds.{InputSummed};
 
 use crate::feeding::{Feeding, PIECE, ReadFault};
 use crate::sum_end::SumEnd;
 use diy_io::{Failed, Sink, Source};
 use std::alloc::Global;
-
-/// Reads the input to its end.
-fn read_input<I: Source>(
-    feeding: &mut Feeding,
-    input: &mut I,
-    buf: &mut [u8],
-) -> Result<(), ReadFault>
-    requires some { 0 < length buf.old }
-    requires piece { length buf.old ≤ max_piece }
-    ensures { (logs : List (List ℕ)) → ReadsLogs feeding.old logs [] → ReadTo (I.seen input.old) (I.seen input.new) feeding.new logs result }
-{
-    loop {
-        let count = input.read(buf)?;
-        if count == 0 {
-            return Ok(());
-        }
-        feeding.feed(&buf[..count])?;
-    }
-}
 
 /// Sums the log that an input is.
 fn sum_source<I: Source>(
@@ -37,9 +18,14 @@ fn sum_source<I: Source>(
     requires piece { length buf.old ≤ max_piece }
     ensures { (logs : List (List ℕ)) → ReadsLogs feeding.old logs [] → SummedTo (I.seen input.old) (I.seen input.new) feeding.new logs result }
 {
-    read_input(feeding, input, buf)?;
-    feeding.end_log()?;
-    Ok(())
+    loop {
+        let count = input.read(buf)?;
+        if count == 0 {
+            feeding.end_log()?;
+            return Ok(());
+        }
+        feeding.feed(&buf[..count])?;
+    }
 }
 
 /// Sums the input, which is one log.

@@ -13,7 +13,7 @@ use Rattle.arch_trait.specs.declared.link.Link.{Link}
 use Rattle.arch_trait.specs.Links.{kind_link, branches, is_addr, is_data, mask_if, link_control}
 use Rattle.arch_laws.proofs.Items.{control_row}
 use Rattle.program_meaning.specs.Accesses.{Access, is_read, reads_by, reads_before}
-use Rattle.program_meaning.specs.Standing.{NamedAccess, BarriersWait, TiesBy, is_in_mask, mask_of}
+use Rattle.program_meaning.specs.Standing.{NamedAccess, BarriersWait, IsTied, TiesBy, is_in_mask, mask_of}
 use Rattle.test_laws.proofs.Visits.{link_barred}
 
 -- an access follows another in its thread, by the link of an edge of a kind: load number k is the other access, if that
@@ -52,59 +52,51 @@ on : (kind : Kind) (threads : List (List Access)) (e f : NamedAccess) (k c : ℕ
 on kind threads e f k c h s b =
     in_control kind threads e f k c h (kind_link kind) ∙ ap (λ t. is_read e.visit.access && t) b ∙ (let r = leaves_read kind threads e f k c h s in rw r refl)
 
+-- a link that is no dependency of the address or of the data ties the next access by its barriers and by its branch alone
+tied_by : (kind : Kind) (threads : List (List Access)) (e f : NamedAccess) (k c : ℕ) (controlled : Bool) → Follows kind threads e f k c
+    → is_addr (kind_link kind) ≡ false → is_data (kind_link kind) ≡ false → is_in_mask threads e f.visit.control_mask ≡ controlled
+    → IsTied threads e f (map (λ b. b.kind) (link_barred (kind_link kind) k c)) 0 0 controlled
+tied_by kind threads e f k c controlled h address data_mask control = record {
+  barriers_are = ap (map (λ b. b.kind)) h.barriers;
+  address_is = h.address ∙ ap (λ t. mask_if t k) address;
+  data_is = h.stored ∙ ap (λ t. mask_if t k) data_mask;
+  control_is = control;
+}
+
+-- where it doesn't branch
+unbranched : (kind : Kind) (threads : List (List Access)) (e f : NamedAccess) (k c : ℕ) → Follows kind threads e f k c → is_addr (kind_link kind) ≡ false → is_data (kind_link kind) ≡ false
+    → branches (kind_link kind) ≡ false → IsTied threads e f (map (λ b. b.kind) (link_barred (kind_link kind) k c)) 0 0 false
+unbranched kind threads e f k c h address data_mask b = tied_by kind threads e f k c false h address data_mask (off kind threads e f k c h b)
+
+-- where it branches, from a read
+branched : (kind : Kind) (threads : List (List Access)) (e f : NamedAccess) (k c : ℕ) → Follows kind threads e f k c → is_addr (kind_link kind) ≡ false → is_data (kind_link kind) ≡ false
+    → kind_source kind ≡ dirs.R → branches (kind_link kind) ≡ true → IsTied threads e f (map (λ b. b.kind) (link_barred (kind_link kind) k c)) 0 0 true
+branched kind threads e f k c h address data_mask s b =
+    tied_by kind threads e f k c true h address data_mask (ap (is_in_mask threads e) h.control ∙ on kind threads e f k c h s b)
+
 -- the mask of the read that a dependency is on
 alone : (kind : Kind) (threads : List (List Access)) (e f : NamedAccess) (k c : ℕ) → Follows kind threads e f k c → kind_source kind ≡ dirs.R → mask_if true k ≡ mask_of threads e
 alone kind threads e f k c h s = ap (λ j. 2 ^ j) (sym (h.reads_are (leaves_read kind threads e f k c h s)))
 
 -- an edge ties the two as it says
 pub ties : (kind : Kind) (threads : List (List Access)) (e f : NamedAccess) (k c : ℕ) → Follows kind threads e f k c → TiesBy kind threads e f
-ties (kinds.Com kind Internal) threads e f k c h = record {
-  barriers_are = ap (map (λ b. b.kind)) h.barriers;
-  address_is = h.address;
-  data_is = h.stored;
-  control_is = off (kinds.Com kind Internal) threads e f k c h refl;
-}
+ties (kinds.Com kind Internal) threads e f k c h = unbranched (kinds.Com kind Internal) threads e f k c h refl refl refl
 ties (kinds.Com kind External) threads e f k c h = tt
-ties (kinds.Po sd from to) threads e f k c h = record {
-  barriers_are = ap (map (λ b. b.kind)) h.barriers;
-  address_is = h.address;
-  data_is = h.stored;
-  control_is = off (kinds.Po sd from to) threads e f k c h refl;
-}
-ties (kinds.Fenced kind sd from to) threads e f k c h = record {
-  barriers_are = ap (map (λ b. b.kind)) h.barriers;
-  address_is = h.address;
-  data_is = h.stored;
-  control_is = off (kinds.Fenced kind sd from to) threads e f k c h refl;
-}
+ties (kinds.Po sd from to) threads e f k c h = unbranched (kinds.Po sd from to) threads e f k c h refl refl refl
+ties (kinds.Fenced kind sd from to) threads e f k c h = unbranched (kinds.Fenced kind sd from to) threads e f k c h refl refl refl
 ties (kinds.Dep deps.Addr sd to) threads e f k c h = record {
   barriers_are = ap (map (λ b. b.kind)) h.barriers;
   address_is = h.address ∙ alone (kinds.Dep deps.Addr sd to) threads e f k c h refl;
   data_is = h.stored;
   control_is = off (kinds.Dep deps.Addr sd to) threads e f k c h refl;
 }
-ties (kinds.Dep deps.Ctrl sd to) threads e f k c h = record {
-  barriers_are = ap (map (λ b. b.kind)) h.barriers;
-  address_is = h.address;
-  data_is = h.stored;
-  control_is = ap (is_in_mask threads e) h.control ∙ on (kinds.Dep deps.Ctrl sd to) threads e f k c h refl refl;
-}
+ties (kinds.Dep deps.Ctrl sd to) threads e f k c h = branched (kinds.Dep deps.Ctrl sd to) threads e f k c h refl refl refl refl
 ties (kinds.Dep deps.CtrlIsync sd to) threads e f k c h = (
-  record {
-    barriers_are = ap (map (λ b. b.kind)) h.barriers;
-    address_is = h.address;
-    data_is = h.stored;
-    control_is = ap (is_in_mask threads e) h.control ∙ on (kinds.Dep deps.CtrlIsync sd to) threads e f k c h refl refl;
-  },
+  branched (kinds.Dep deps.CtrlIsync sd to) threads e f k c h refl refl refl refl,
   subst (BarriersWait threads e) (sym h.barriers) (on (kinds.Dep deps.CtrlIsync sd to) threads e f k c h refl refl, tt),
 )
 ties (kinds.Dep deps.CtrlIsb sd to) threads e f k c h = (
-  record {
-    barriers_are = ap (map (λ b. b.kind)) h.barriers;
-    address_is = h.address;
-    data_is = h.stored;
-    control_is = ap (is_in_mask threads e) h.control ∙ on (kinds.Dep deps.CtrlIsb sd to) threads e f k c h refl refl;
-  },
+  branched (kinds.Dep deps.CtrlIsb sd to) threads e f k c h refl refl refl refl,
   subst (BarriersWait threads e) (sym h.barriers) (on (kinds.Dep deps.CtrlIsb sd to) threads e f k c h refl refl, tt),
 )
 ties (kinds.Data sd) threads e f k c h = record {

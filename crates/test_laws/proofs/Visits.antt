@@ -1,11 +1,13 @@
 -- The accesses of a thread's run as visits: each with its mark, with the barriers of its link before it and with its masks.
-use Rattle.std.proofs.Common.{◌≡◌, ℕ, ◌+◌, ◌-◌, cond, List, [], ◌∷◌, ◌++◌, length, map, refl, ◌∙◌, ap, arith}
+use Rattle.std.proofs.Common.{◌≡◌, ℕ, ◌+◌, ◌-◌, cond, List, [], ◌∷◌, ◌++◌, length, map, refl, ◌∙◌, ap, append_assoc, arith}
 use Rattle.std.proofs.lemmas.List.Sums.{sum_by-cons}
 use Rattle.relax_edges.specs.declared.kinds.Dir.{Dir}
 use Rattle.relax_edges.specs.declared.kinds.Dir.TheVariants as dirs
 use Rattle.relax_edges.specs.declared.kinds.FenceKind.TheVariants as fences
+use Rattle.micro_ops.specs.declared.operation.Barrier.{Barrier}
 use Rattle.micro_ops.specs.declared.operation.Barrier.TheVariants as kinds
 use Rattle.micro_ops.specs.declared.operation.Item.{Item}
+use Rattle.micro_ops.specs.declared.operation.Item.TheVariants as items
 use Rattle.arch_trait.specs.declared.step.Step.{Step}
 use Rattle.arch_trait.specs.declared.link.Link.{Link}
 use Rattle.arch_trait.specs.declared.link.Link.TheVariants as links
@@ -51,21 +53,25 @@ thread_visits [] n c vs = []
 thread_visits (s ∷ ss) n c vs =
     step_visit s s.dir (first_number vs) (n - 1) c ∷ thread_visits ss (loads_after s.dir n) (link_control s.link (n - 1) c) (left_after s.dir vs)
 
-item_visit : (s : Step) (d : Dir) (v k c : ℕ) (rest : List Item) → visits_from [] ((link_items s.link k c ++ access_item s d v k (link_control s.link k c) ∷ []) ++ rest) ≡ step_visit s d v k c ∷ visits_from [] rest
-item_visit s d v k c rest = of_link s.link d
-  where
-    of_access : (b : List Barred) (c : ℕ) (l : Link) (d : Dir) → visits_from b (access_item (record s { link = l }) d v k c ∷ rest) ≡ record { barriers = b; access = record { dir = d; place = s.place; value = value_met s d v }; mark = s.mark; address_mask = mask_if (is_addr l) k; data_mask = data_met (record s { link = l }) d k; control_mask = c } ∷ visits_from [] rest
-    of_access b c l dirs.R = refl
-    of_access b c l dirs.W = refl
+-- what goes through items with the barriers that it passed has passed a link's barriers after the link's items
+through_link : {X : Type 0} (f : List Barred → List Item → X) → ((kind : Barrier) (control : ℕ) (rest : List Item) → f [] (items.Barrier kind control ∷ rest) ≡ f (record { kind = kind; control = control } ∷ []) rest)
+    → (l : Link) (k c : ℕ) (rest : List Item) → f [] (link_items l k c ++ rest) ≡ f (link_barred l k c) rest
+through_link f passes links.Plain k c rest = refl
+through_link f passes (links.Fence kind) k c rest = passes (kinds.Fence kind) c rest
+through_link f passes links.Addr k c rest = refl
+through_link f passes links.Data k c rest = refl
+through_link f passes links.Ctrl k c rest = refl
+through_link f passes links.CtrlIsync k c rest = passes (kinds.Fence fences.ISync) (link_control links.CtrlIsync k c) rest
+through_link f passes links.CtrlIsb k c rest = passes kinds.Isb (link_control links.CtrlIsb k c) rest
 
-    of_link : (l : Link) (d : Dir) → visits_from [] ((link_items l k c ++ access_item (record s { link = l }) d v k (link_control l k c) ∷ []) ++ rest) ≡ step_visit (record s { link = l }) d v k c ∷ visits_from [] rest
-    of_link links.Plain d = of_access [] c links.Plain d
-    of_link (links.Fence kind) d = of_access (record { kind = kinds.Fence kind; control = c } ∷ []) c (links.Fence kind) d
-    of_link links.Addr d = of_access [] c links.Addr d
-    of_link links.Data d = of_access [] c links.Data d
-    of_link links.Ctrl d = of_access [] (link_control links.Ctrl k c) links.Ctrl d
-    of_link links.CtrlIsync d = of_access (link_barred links.CtrlIsync k c) (link_control links.CtrlIsync k c) links.CtrlIsync d
-    of_link links.CtrlIsb d = of_access (link_barred links.CtrlIsb k c) (link_control links.CtrlIsb k c) links.CtrlIsb d
+item_visit : (s : Step) (d : Dir) (v k c : ℕ) (rest : List Item) → visits_from [] ((link_items s.link k c ++ access_item s d v k (link_control s.link k c) ∷ []) ++ rest) ≡ step_visit s d v k c ∷ visits_from [] rest
+item_visit s d v k c rest =
+    ap (visits_from []) (append_assoc (link_items s.link k c) (access_item s d v k (link_control s.link k c) ∷ []) rest)
+    ∙ through_link visits_from (λ kind control rest. refl) s.link k c (access_item s d v k (link_control s.link k c) ∷ rest) ∙ of_access d
+  where
+    of_access : (d : Dir) → visits_from (link_barred s.link k c) (access_item s d v k (link_control s.link k c) ∷ rest) ≡ step_visit s d v k c ∷ visits_from [] rest
+    of_access dirs.R = refl
+    of_access dirs.W = refl
 
 -- the items of a thread are these visits
 pub visits_are : (ss : List Step) (n c : ℕ) (vs : List ℕ) → visits_of (thread_items ss n c vs) ≡ thread_visits ss n c vs
@@ -75,20 +81,13 @@ visits_are (s ∷ ss) n c vs =
     ∙ ap (λ l. step_visit s s.dir (first_number vs) (n - 1) c ∷ l) (visits_are ss (loads_after s.dir n) (link_control s.link (n - 1) c) (left_after s.dir vs))
 
 item_ends : (s : Step) (d : Dir) (v k c : ℕ) (rest : List Item) → barriers_after [] ((link_items s.link k c ++ access_item s d v k (link_control s.link k c) ∷ []) ++ rest) ≡ barriers_after [] rest
-item_ends s d v k c rest = of_link s.link d
+item_ends s d v k c rest =
+    ap (barriers_after []) (append_assoc (link_items s.link k c) (access_item s d v k (link_control s.link k c) ∷ []) rest)
+    ∙ through_link barriers_after (λ kind control rest. refl) s.link k c (access_item s d v k (link_control s.link k c) ∷ rest) ∙ of_access d
   where
-    of_access : (b : List Barred) (c : ℕ) (l : Link) (d : Dir) → barriers_after b (access_item (record s { link = l }) d v k c ∷ rest) ≡ barriers_after [] rest
-    of_access b c l dirs.R = refl
-    of_access b c l dirs.W = refl
-
-    of_link : (l : Link) (d : Dir) → barriers_after [] ((link_items l k c ++ access_item (record s { link = l }) d v k (link_control l k c) ∷ []) ++ rest) ≡ barriers_after [] rest
-    of_link links.Plain d = of_access [] c links.Plain d
-    of_link (links.Fence kind) d = of_access (record { kind = kinds.Fence kind; control = c } ∷ []) c (links.Fence kind) d
-    of_link links.Addr d = of_access [] c links.Addr d
-    of_link links.Data d = of_access [] c links.Data d
-    of_link links.Ctrl d = of_access [] (link_control links.Ctrl k c) links.Ctrl d
-    of_link links.CtrlIsync d = of_access (link_barred links.CtrlIsync k c) (link_control links.CtrlIsync k c) links.CtrlIsync d
-    of_link links.CtrlIsb d = of_access (link_barred links.CtrlIsb k c) (link_control links.CtrlIsb k c) links.CtrlIsb d
+    of_access : (d : Dir) → barriers_after (link_barred s.link k c) (access_item s d v k (link_control s.link k c) ∷ rest) ≡ barriers_after [] rest
+    of_access dirs.R = refl
+    of_access dirs.W = refl
 
 -- no barrier comes after the last access of a thread
 pub ends_free : (ss : List Step) (n c : ℕ) (vs : List ℕ) → barriers_after [] (thread_items ss n c vs) ≡ []

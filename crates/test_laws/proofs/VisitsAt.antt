@@ -12,7 +12,8 @@ use Rattle.arch_trait.specs.declared.link.Link.{Link}
 use Rattle.arch_trait.specs.declared.link.Link.TheVariants.{Plain}
 use Rattle.arch_trait.specs.Links.{link_control}
 use Rattle.arch_trait.specs.Threads.{FitSteps, is_load_dir, loads_in, loads_after, first_number, left_after, control_after}
-use Rattle.arch_laws.proofs.Items.{link_below, branch_depends}
+use Rattle.arch_laws.proofs.Accesses.{branch_depends}
+use Rattle.arch_laws.proofs.Items.{link_below}
 use Rattle.program_meaning.specs.Accesses.{Visit, accesses_of, reads_by, is_read}
 use Rattle.program_meaning.specs.Standing.{IsFree, StartsFree}
 use Rattle.communication_laws.specs.Joining.{AreFree}

@@ -5,6 +5,7 @@ use Rattle.std.specs.List.{count_by}
 use Rattle.std.proofs.lemmas.Bool.{and_from, lt-ltb, leb-true, le-leb}
 use Rattle.relax_edges.specs.declared.kinds.Dir.TheVariants as dirs
 use Rattle.relax_edges.specs.declared.kinds.Reach.{Reach}
+use Rattle.relax_edges.specs.declared.kinds.Com.{Com}
 use Rattle.relax_edges.specs.declared.kinds.Com.TheVariants.{Rf, Fr, Ws}
 use Rattle.relax_edges.specs.declared.kinds.Kind.TheVariants as kinds
 use Rattle.relax_edges.specs.declared.kinds.ObsMode.{ObsMode}
@@ -36,21 +37,21 @@ reads_from_value es i reach r h e =
     let d : is_diff (edge_at es i) ≡ false = rw e refl in
     omega (arith, rw (d, f) at v)
 
--- a from-read edge leads from a read to the next write
-pub from_read_value : (es : List Edge) (i : ℕ) (reach : Reach) → IsResolved es → i < length es → kind_of (edge_at es i) ≡ kinds.Com Fr reach → value_of es (event_after es i) ≡ value_of es i + 1
-from_read_value es i reach r h e =
+-- a communication that enters a write leads to the next write
+next_write_value : (es : List Edge) (i : ℕ) (kind : Com) (reach : Reach) → IsResolved es → i < length es → kind_of (edge_at es i) ≡ kinds.Com kind reach → same_dir (kind_target (kinds.Com kind reach)) dirs.W ≡ true → value_of es (event_after es i) ≡ value_of es i + 1
+next_write_value es i kind reach r h e w =
     let v = value_after es i r h in
-    let f : is_write es (event_after es i) ≡ true = enters_write es i r h ∙ ap (λ k. same_dir (kind_target k) dirs.W) e in
+    let f : is_write es (event_after es i) ≡ true = enters_write es i r h ∙ ap (λ k. same_dir (kind_target k) dirs.W) e ∙ w in
     let d : is_diff (edge_at es i) ≡ false = rw e refl in
     omega (arith, rw (d, f) at v)
 
+-- a from-read edge leads from a read to the next write
+pub from_read_value : (es : List Edge) (i : ℕ) (reach : Reach) → IsResolved es → i < length es → kind_of (edge_at es i) ≡ kinds.Com Fr reach → value_of es (event_after es i) ≡ value_of es i + 1
+from_read_value es i reach r h e = next_write_value es i Fr reach r h e refl
+
 -- a write serialization edge leads from a write to the next one
 pub serialization_value : (es : List Edge) (i : ℕ) (reach : Reach) → IsResolved es → i < length es → kind_of (edge_at es i) ≡ kinds.Com Ws reach → value_of es (event_after es i) ≡ value_of es i + 1
-serialization_value es i reach r h e =
-    let v = value_after es i r h in
-    let f : is_write es (event_after es i) ≡ true = enters_write es i r h ∙ ap (λ k. same_dir (kind_target k) dirs.W) e in
-    let d : is_diff (edge_at es i) ≡ false = rw e refl in
-    omega (arith, rw (d, f) at v)
+serialization_value es i reach r h e = next_write_value es i Ws reach r h e refl
 
 -- an event with a value above 0 comes after the write of its location that has this value, and no write is between them
 pub record LastWrite (es : List Edge) (i : ℕ) : Type 0 where

@@ -2,7 +2,7 @@
 use Rattle.std.proofs.Common.{◌≡◌, length, ap, ◌∙◌, arith}
 use Rattle.exec_meaning.specs.KeptExecutions.{nothing_kept}
 use Rattle.execution_text.specs.ExecutionText.{lines_of}
-use Rattle.execution_text.proofs.Whole.{threads_wrong, threads_read, orders_many, places_wrong, all_read, ended_read, shape_read, stray_read, short_read, wrong_text}
+use Rattle.execution_text.proofs.Whole.{threads_wrong, threads_read, orders_many, places_wrong, both_read, ended_read, shape_read, stray_read, short_read, wrong_text}
 use Rattle.execution_text.proofs.reading.read_execution.Goals as goal
 
 pub returns-in-Err-read_threads-clause-read : goal.returns-in-Err-read_threads-clause-read
@@ -38,10 +38,8 @@ returns-in-None-clause-read c =
     let n = c.args.threads in
     let places = c.args.places.now in
     let lines = lines_of c.args.text.now in
-    let begins : c.in-Ok.exec ≡ nothing_kept n (length places) = c.in-Ok.ensures ∙ ap (nothing_kept n) c.len.ensures in
     let short = short_read n places c.args.text.now (omega (arith, c.if-text-gt-MAX_TEXT.false)) in
-    let t = threads_read n places lines c.read_threads.new.exec (lines_of c.in-Ok-read_threads.rest.now) (rw begins at c.in-Ok-read_threads.ensures) in
-    let a = all_read n places lines c.read_threads.new.exec c.read_places.new.exec (lines_of c.in-Ok-read_threads.rest.now) (lines_of c.in-Ok-read_places.rest.now) t c.in-Ok-read_places.ensures in
+    let a = both_read n places lines c.in-Ok.exec c.read_threads.new.exec c.read_places.new.exec (lines_of c.in-Ok-read_threads.rest.now) (lines_of c.in-Ok-read_places.rest.now) (c.in-Ok.ensures ∙ ap (nothing_kept n) c.len.ensures) c.in-Ok-read_threads.ensures c.in-Ok-read_places.ensures in
     short ∙ ended_read n places lines c.read_places.new.exec (lines_of c.in-Ok-read_places.rest.now) a c.in-None.ensures
 
 pub returns-in-None-clause-shape : goal.returns-in-None-clause-shape
@@ -49,18 +47,14 @@ returns-in-None-clause-shape c =
     let n = c.args.threads in
     let places = c.args.places.now in
     let lines = lines_of c.args.text.now in
-    let begins : c.in-Ok.exec ≡ nothing_kept n (length places) = c.in-Ok.ensures ∙ ap (nothing_kept n) c.len.ensures in
-    let t = threads_read n places lines c.read_threads.new.exec (lines_of c.in-Ok-read_threads.rest.now) (rw begins at c.in-Ok-read_threads.ensures) in
     shape_read n places lines c.read_places.new.exec (lines_of c.in-Ok-read_places.rest.now)
-    (all_read n places lines c.read_threads.new.exec c.read_places.new.exec (lines_of c.in-Ok-read_threads.rest.now) (lines_of c.in-Ok-read_places.rest.now) t c.in-Ok-read_places.ensures)
+    (both_read n places lines c.in-Ok.exec c.read_threads.new.exec c.read_places.new.exec (lines_of c.in-Ok-read_threads.rest.now) (lines_of c.in-Ok-read_places.rest.now) (c.in-Ok.ensures ∙ ap (nothing_kept n) c.len.ensures) c.in-Ok-read_threads.ensures c.in-Ok-read_places.ensures)
 
 pub returns-in-Some-clause-read : goal.returns-in-Some-clause-read
 returns-in-Some-clause-read c =
     let n = c.args.threads in
     let places = c.args.places.now in
     let lines = lines_of c.args.text.now in
-    let begins : c.in-Ok.exec ≡ nothing_kept n (length places) = c.in-Ok.ensures ∙ ap (nothing_kept n) c.len.ensures in
     let short = short_read n places c.args.text.now (omega (arith, c.if-text-gt-MAX_TEXT.false)) in
-    let t = threads_read n places lines c.read_threads.new.exec (lines_of c.in-Ok-read_threads.rest.now) (rw begins at c.in-Ok-read_threads.ensures) in
-    let a = all_read n places lines c.read_threads.new.exec c.read_places.new.exec (lines_of c.in-Ok-read_threads.rest.now) (lines_of c.in-Ok-read_places.rest.now) t c.in-Ok-read_places.ensures in
+    let a = both_read n places lines c.in-Ok.exec c.read_threads.new.exec c.read_places.new.exec (lines_of c.in-Ok-read_threads.rest.now) (lines_of c.in-Ok-read_places.rest.now) (c.in-Ok.ensures ∙ ap (nothing_kept n) c.len.ensures) c.in-Ok-read_threads.ensures c.in-Ok-read_places.ensures in
     rw (c.from.ensures, c.from-in-Some.ensures, c.len-in-Some.ensures) (short ∙ stray_read n places lines c.read_places.new.exec (lines_of c.in-Ok-read_places.rest.now) _ _ a c.in-Some.ensures)

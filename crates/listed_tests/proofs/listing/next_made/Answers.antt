@@ -1,7 +1,6 @@
 -- That `next_made` gives the next cycle of a walk that has a test.
-use Rattle.std.proofs.Common.{◌≡◌, ap}
 use Rattle.listed_tests.proofs.PassingOver.{passes_none, passes_one, passes_to, passes_all, fewer}
-use Rattle.listed_tests.proofs.Walks.{went_on, went_to}
+use Rattle.listed_tests.proofs.Walks.{same_closures, went_on, went_to}
 use Rattle.listed_tests.proofs.listing.next_made.Goals as goal
 
 pub loop-cycle-init : goal.loop-cycle-init
@@ -9,11 +8,8 @@ loop-cycle-init g c = passes_none g.P.Fn.post g.A.Arch.puts c.args.mode c.args.w
 
 pub next-requires : goal.next-requires
 next-requires g c =
-    let same = c.loop-cycle.invariant.walk in
-    let keep : c.loop-cycle.walk.keep ≡ c.args.walk.now.keep = ap (λ w. w.keep) same in
-    let fit : c.loop-cycle.walk.fit ≡ c.args.walk.now.fit = ap (λ w. w.fit) same in
-    let take : c.loop-cycle.walk.take ≡ c.args.walk.now.take = ap (λ w. w.take) same in
-    record { knows = rw (keep, fit, take) c.requires.knows }
+    let same = same_closures c.args.walk.now c.loop-cycle.walk c.loop-cycle.invariant.walk in
+    record { knows = rw (same.keep, same.fit, same.take) c.requires.knows }
 
 pub returns-then-make_test-clause-next : goal.returns-then-make_test-clause-next
 returns-then-make_test-clause-next g c =

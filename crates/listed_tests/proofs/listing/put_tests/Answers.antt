@@ -1,11 +1,11 @@
 -- That `put_tests` writes the files of the listed cycles, in order.
-use Rattle.std.proofs.Common.{◌≡◌, Some, None, refl, ap}
+use Rattle.std.proofs.Common.{Some, None, refl, ap}
 use Rattle.diy_io.specs.SinkLaws.{on_err}
 use Rattle.walk_laws.specs.Listing.{IsAnswer}
 use Rattle.cycle_enum.specs.Walking.{Lists}
 use Rattle.listed_tests.specs.Plans.{HaveTests, folder_of, named_text}
 use Rattle.listed_tests.proofs.Going.{goes_first, goes_on, goes_stop, goes_end}
-use Rattle.listed_tests.proofs.Walks.{tested_as, went_on, went_further}
+use Rattle.listed_tests.proofs.Walks.{same_closures, tested_as, went_on, went_further}
 use Rattle.listed_tests.proofs.listing.put_tests.Goals as goal
 
 pub loop-cycle-init : goal.loop-cycle-init
@@ -17,10 +17,8 @@ loop-cycle-init g c = record {
 
 pub next_made-requires : goal.next_made-requires
 next_made-requires g c =
-    let keep : c.loop-cycle.walk.keep ≡ c.args.walk.now.keep = ap (λ w. w.keep) c.loop-cycle.invariant.walk in
-    let fit : c.loop-cycle.walk.fit ≡ c.args.walk.now.fit = ap (λ w. w.fit) c.loop-cycle.invariant.walk in
-    let take : c.loop-cycle.walk.take ≡ c.args.walk.now.take = ap (λ w. w.take) c.loop-cycle.invariant.walk in
-    record { knows = rw (keep, fit, take) c.requires.knows }
+    let same = same_closures c.args.walk.now c.loop-cycle.walk c.loop-cycle.invariant.walk in
+    record { knows = rw (same.keep, same.fit, same.take) c.requires.knows }
 
 pub returns-in_err-file-clause-failed : goal.returns-in_err-file-clause-failed
 returns-in_err-file-clause-failed g c =

@@ -50,8 +50,7 @@ returns-clause-ok g c =
     let test = test_seen c.args.test.now in
     let whole = test_text g.A.Arch.NAME w c.args.name.now test in
     let none : c.loop-next.next ≡ None = search rules in
-    let all = subst (FilledTo w test (g.H.Shelf.seen c.args.shelf.now) c.args.path.now whole (g.H.Shelf.seen c.loop-next.shelf) c.loop-next.page) none c.loop-next.invariant in
-    closed_ok _ _ _ c.args.path.now whole c.finish.result (filled_whole w test _ c.args.path.now whole _ _ _ _ all c.as_slice-2.ensures c.in_ok-append-2.ensures.ok) c.finish.ensures.ok
+    closed_ok _ _ _ c.args.path.now whole c.finish.result (filled_whole w test _ c.args.path.now whole _ _ _ _ _ c.loop-next.invariant none c.as_slice-2.ensures c.in_ok-append-2.ensures.ok) c.finish.ensures.ok
 
 pub returns-clause-failed : goal.returns-clause-failed
 returns-clause-failed g c =
@@ -59,5 +58,4 @@ returns-clause-failed g c =
     let test = test_seen c.args.test.now in
     let whole = test_text g.A.Arch.NAME w c.args.name.now test in
     let none : c.loop-next.next ≡ None = search rules in
-    let all = subst (FilledTo w test (g.H.Shelf.seen c.args.shelf.now) c.args.path.now whole (g.H.Shelf.seen c.loop-next.shelf) c.loop-next.page) none c.loop-next.invariant in
-    closed_err _ _ _ c.args.path.now whole c.finish.result (filled_whole w test _ c.args.path.now whole _ _ _ _ all c.as_slice-2.ensures c.in_ok-append-2.ensures.ok) c.finish.ensures.failed
+    closed_err _ _ _ c.args.path.now whole c.finish.result (filled_whole w test _ c.args.path.now whole _ _ _ _ _ c.loop-next.invariant none c.as_slice-2.ensures c.in_ok-append-2.ensures.ok) c.finish.ensures.failed

@@ -1,7 +1,7 @@
 -- `Feeding::feed` answers a fault that a piece shows, or that the log goes past 2^40 bytes.
-use Rattle.std.proofs.Common.{◌+◌, ◌++◌, take, sym, ap, subst, arith}
+use Rattle.std.proofs.Common.{◌+◌, ◌++◌, take, sym, subst, arith}
 use Rattle.summed_files.specs.FileFeeding.{IsFaultOfLogs}
-use Rattle.summed_files.proofs.FeedingLaws.{piece_refused, piece_full, line_feeds_on}
+use Rattle.summed_files.proofs.FeedingLaws.{piece_refused, piece_full}
 use Rattle.summed_files.proofs.feeding.Feeding.feed.Goals as goal
 
 pub returns-in-Err-clause-fed : goal.returns-in-Err-clause-fed
@@ -15,4 +15,4 @@ returns-then-fitting-piece-clause-fed c = λ logs bytes reads.
     piece_full c.feed.new.self logs bytes c.args.piece.now c.min-fitting.result _
     (omega (arith, c.min-fitting.ensures, reads.read, c.if-fitting-piece.true)) c.if-fitting-piece.true
     (c.in_default.ensures.fed logs bytes reads.represents)
-    (ap (λ n. n + 1) (line_feeds_on bytes (take c.min-fitting.result c.args.piece.now) _ _ reads.line_feeds c.line_feeds.ensures.count))
+    (c.line.ensures logs (bytes ++ take c.min-fitting.result c.args.piece.now) (c.in_default.ensures.fed logs bytes reads.represents))

@@ -1,7 +1,7 @@
--- `read_input`: what was read so far was fed.
+-- `sum_source`: what was read so far was fed.
 use Rattle.std.proofs.Common.{◌-◌, ◌^◌, ℕ, List, []}
 use Rattle.summed_files.specs.FileFeeding.{ReadsLogs, ReadSoFar}
-use Rattle.summed_files.proofs.input.read_input.Given as goal
+use Rattle.summed_files.proofs.input.sum_source.Given as goal
 
 -- what was read so far was fed
 abbrev pub invariant-loop-count : goal.invariant-loop-count
