@@ -15,6 +15,7 @@ use Rattle.micro_ops.specs.declared.operation.Barrier.TheVariants as barriers
 use Rattle.micro_ops.specs.Machine.{num, bit}
 use Rattle.micro_ops.specs.Running.{Run, At, go, exec, labels_of, lands}
 use Rattle.arch_laws.proofs.Rules.{holding}
+use Rattle.micro_ops.specs.RunLaws.{exec_append}
 use Rattle.arch_trait.specs.declared.link.Link.{Link}
 use Rattle.arch_trait.specs.declared.link.Link.TheVariants as links
 use Rattle.arch_trait.specs.Links.{link_is_of, depends_on_load, is_addr, is_data, mask_if, source_if, link_control, link_items}

@@ -18,7 +18,7 @@ use Rattle.micro_ops.specs.declared.operation.Barrier.TheVariants as barriers
 use Rattle.micro_ops.specs.Machine.{num, address_held, held_at_place, bit}
 use Rattle.micro_ops.specs.Running.{Run, At, Wants, go, exec, labels_of, lands}
 use Rattle.arch_laws.proofs.Rules.{holding, after_load, after_store, run_load, run_load_wants, run_load_acquire, run_load_acquire_wants, run_store, run_store_release, run_add_to_address}
-use Rattle.arch_laws.proofs.MachineLaws.{labels_append, lands_append}
+use Rattle.micro_ops.specs.RunLaws.{labels_append, lands_append}
 use Rattle.arch_trait.specs.declared.link.Link.TheVariants as links
 use Rattle.arch_trait.specs.Links.{link_is_of}
 use Rattle.arch_trait.specs.Laws.{DidLink, IsWanting, is_at_place}

@@ -9,7 +9,7 @@ use Rattle.std.proofs.lemmas.Bool.Decides.{nat_tests}
 use Rattle.std.proofs.lemmas.List.Folds.{list_all-append}
 use Rattle.list_laws.proofs.Elements.{list_all-weaker}
 use Rattle.text_laws.specs.Names.{is_place_name, is_place_byte}
-use Rattle.final_cond.proofs.BackLaws.{place_bytes}
+use Rattle.final_cond.specs.FormLaws.{place_bytes}
 use Rattle.list_laws.proofs.Digits.{digits_of}
 use Rattle.arch_trait.specs.Cells.{is_cell_byte}
 

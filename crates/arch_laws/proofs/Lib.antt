@@ -14,4 +14,3 @@ pub mod CodeLaws
 pub mod NameLaws
 pub mod TakingLaws
 pub mod SpellingLaws
-pub mod MachineLaws

@@ -10,7 +10,7 @@ use Rattle.relax_edges.specs.declared.kinds.Dir.TheVariants as dirs
 use Rattle.micro_ops.specs.declared.operation.Micro.{Micro}
 use Rattle.micro_ops.specs.declared.operation.Micro.TheVariants as ops
 use Rattle.micro_ops.specs.Running.{labels_of, lands, occurs}
-use Rattle.arch_laws.proofs.MachineLaws.{labels_append, lands_append}
+use Rattle.micro_ops.specs.RunLaws.{labels_append, lands_append}
 use Rattle.arch_trait.specs.declared.step.Step.{Step}
 use Rattle.arch_trait.specs.Cells.{is_access, access_count, MakesOneAccess}
 use Rattle.arch_trait.specs.LabelOrder.{labels_after, labels_in, is_next, labels_ordered}

@@ -10,7 +10,7 @@ use Rattle.relax_edges.specs.declared.kinds.Dir.TheVariants as dirs
 use Rattle.micro_ops.specs.declared.operation.Micro.{Micro}
 use Rattle.micro_ops.specs.declared.operation.Micro.TheVariants as ops
 use Rattle.micro_ops.specs.Running.{lands, labels_of}
-use Rattle.micro_ops.proofs.Laws.{labels_append, lands_append}
+use Rattle.micro_ops.specs.RunLaws.{labels_append, lands_append}
 use Rattle.arch_trait.specs.declared.link.Link.{Link}
 use Rattle.arch_trait.specs.declared.link.Link.TheVariants as links
 use Rattle.arch_trait.specs.declared.step.Step.{Step}

@@ -9,7 +9,7 @@ use Rattle.micro_ops.specs.declared.operation.Micro.{Micro}
 use Rattle.micro_ops.specs.Machine.{num, held_at_place, bit}
 use Rattle.micro_ops.specs.declared.held.Held.{Held}
 use Rattle.micro_ops.specs.Running.{Run, Point, At, exec}
-use Rattle.micro_ops.proofs.Laws.{exec_append, wants_stays}
+use Rattle.micro_ops.specs.RunLaws.{exec_append, wants_stays}
 use Rattle.arch_trait.specs.declared.link.Link.{Link}
 use Rattle.arch_trait.specs.declared.step.Step.{Step}
 use Rattle.arch_trait.specs.Links.{depends_on_load, is_data, link_control, link_items}

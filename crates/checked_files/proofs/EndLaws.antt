@@ -16,7 +16,7 @@ use Rattle.exec_check.specs.declared.verdict.Verdict.{Verdict}
 use Rattle.exec_check.specs.Verdicts.{verdict_text}
 use Rattle.test_files.specs.FilesRead.{FileFailed, FileIs}
 use Rattle.test_files.specs.TestSaid.{test_said}
-use Rattle.test_files.proofs.FileLaws.{failed_after}
+use Rattle.test_files.specs.FailedFiles.{failed_after}
 use Rattle.checked_files.specs.declared.errors.CheckedKind.TheVariants as kinds
 use Rattle.checked_files.specs.declared.errors.CheckFault.{CheckFault}
 use Rattle.checked_files.specs.declared.errors.CheckFault.TheVariants as faults

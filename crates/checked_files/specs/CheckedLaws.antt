@@ -13,7 +13,8 @@ use Rattle.litmus_text.specs.TestReading.{TestRead}
 use Rattle.program_meaning.specs.Executions.{Execution}
 use Rattle.execution_text.specs.declared.errors.ExecFault.{ExecFault}
 use Rattle.execution_text.specs.declared.errors.ExecKind.TheVariants.{TooLarge}
-use Rattle.execution_text.specs.ExecutionText.{execution_read, lines_of, reads_and_writes_read}
+use Rattle.text_laws.specs.Lines.{lines_of}
+use Rattle.execution_text.specs.ExecutionText.{execution_read, reads_and_writes_read}
 use Rattle.test_files.specs.declared.errors.TestFileError.{TestFileError}
 use Rattle.test_files.specs.FilesRead.{Begins}
 use Rattle.test_files.specs.FewBytes.{AreFew, none_few, one_few, both_few, prefix_few, begun_few, few_taken}

@@ -17,7 +17,8 @@ use Rattle.test_files.specs.declared.errors.NoTest.{NoTest}
 use Rattle.test_files.specs.declared.errors.NoTest.TheVariants as no_tests
 use Rattle.test_files.specs.declared.errors.TestFileKind.{TestFileKind}
 use Rattle.test_files.specs.declared.errors.TestFileKind.TheVariants as tests
-use Rattle.test_files.specs.FilesRead.{FileAbsent, FileFailed, FileIs, FileFaulty}
+use Rattle.file_laws.specs.Opened.{FileAbsent}
+use Rattle.test_files.specs.FilesRead.{FileFailed, FileIs, FileFaulty}
 use Rattle.test_files.specs.TestSaid.{test_said}
 use Rattle.checked_files.specs.declared.errors.CheckedKind.{CheckedKind}
 use Rattle.checked_files.specs.declared.errors.CheckedKind.TheVariants as kinds

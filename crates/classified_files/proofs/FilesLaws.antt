@@ -13,7 +13,7 @@ use Rattle.litmus_text.specs.declared.limits.TheConstants.{MAX_TEXT}
 use Rattle.cycle_lines.specs.Classified.{families_text}
 use Rattle.cycle_lines.specs.FamilyTables.{FamilyEntry, HoldsCycles}
 use Rattle.test_files.specs.FilesRead.{FileIs}
-use Rattle.test_files.proofs.FileLaws.{failed_after}
+use Rattle.test_files.specs.FailedFiles.{failed_after}
 use Rattle.classified_files.specs.declared.errors.CycleFault.{CycleFault}
 use Rattle.classified_files.specs.declared.errors.CycleFault.TheVariants.{Missing, Device, Text}
 use Rattle.classified_files.specs.declared.errors.TextFault.TheVariants.{Wrong, NoMemory}

@@ -4,7 +4,8 @@ use Rattle.diy_io.specs.Shelf.{ShelfSeen}
 use Rattle.relax_edges.specs.declared.edge.Edge.{Edge}
 use Rattle.test_files.specs.declared.errors.FileFault.{FileFault}
 use Rattle.test_files.specs.declared.errors.FileFault.TheVariants as reads
-use Rattle.test_files.specs.FilesRead.{FileAbsent, FileFailed, FileIs, FileFaulty}
+use Rattle.file_laws.specs.Opened.{FileAbsent}
+use Rattle.test_files.specs.FilesRead.{FileFailed, FileIs, FileFaulty}
 use Rattle.classified_files.specs.declared.errors.FileError.{FileError}
 use Rattle.classified_files.specs.declared.errors.CycleFault.{CycleFault}
 use Rattle.classified_files.specs.declared.errors.CycleFault.TheVariants.{Missing, Device, Text}

@@ -8,7 +8,7 @@ use Rattle.cycle_laws.specs.Composable.{IsCycle, first_break}
 use Rattle.edge_algebra.specs.declared.errors.CycleError.{CycleError}
 use Rattle.edge_algebra.specs.declared.errors.CycleError.TheVariants.{TooLong}
 use Rattle.edge_algebra.specs.Compose.{composed, unbroken}
-use Rattle.edge_algebra.proofs.Composed.{composes_exactly}
+use Rattle.edge_algebra.specs.ComposingLaws.{composes_exactly}
 use Rattle.arch_trait.specs.Threads.{Puts}
 use Rattle.test_maker.specs.declared.refusal.MakeRefusal.{MakeRefusal}
 use Rattle.test_maker.specs.Made.{Accepts}

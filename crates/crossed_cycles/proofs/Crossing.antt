@@ -12,7 +12,7 @@ use Rattle.cycle_laws.specs.Rotation.{IsRotation}
 use Rattle.cycle_laws.proofs.Rotating.{rotation_same, rotation_on}
 use Rattle.walk_laws.specs.Listing.{IsOneOf, concatenated}
 use Rattle.edge_algebra.specs.Compose.{composed}
-use Rattle.edge_algebra.proofs.Composed.{composes_exactly}
+use Rattle.edge_algebra.specs.ComposingLaws.{composes_exactly}
 use Rattle.arch_trait.specs.Threads.{Puts}
 use Rattle.test_maker.specs.Refusals.{refusal_of}
 use Rattle.crossed_cycles.specs.Choices.{choices, is_turn, is_accepted, first_kept, crossed}

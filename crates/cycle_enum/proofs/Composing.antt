@@ -5,7 +5,8 @@ use Rattle.relax_edges.specs.declared.edge.Edge.{Edge}
 use Rattle.std.proofs.lemmas.Bool.{and_parts, true≢false}
 use Rattle.std.proofs.lemmas.List.{take-append-drop}
 use Rattle.std.proofs.Math.Seq.{drop-cons}
-use Rattle.cycle_laws.specs.Composable.{IsCycle, is_joined, last_joins}
+use Rattle.relax_edges.specs.JoinedEdges.{is_joined}
+use Rattle.cycle_laws.specs.Composable.{IsCycle, last_joins}
 use Rattle.cycle_laws.proofs.Composing.{joined_parts, joined_prefix}
 
 -- of the edges that come after a list the first decides whether the last edge of the list joins them

@@ -1,6 +1,7 @@
 ghost use Rattle.std.specs.Prelude.{◌≡◌, ◌<◌, ◌≤◌, ◌+◌, ◌↔◌, ◌++◌, ◌∷◌, [], length, map, IsFalse, IfSome, IfNone, true};
 ghost use Rattle.relax_edges.specs.Order.{rank_of};
-ghost use Rattle.cycle_laws.specs.Composable.{is_joined, last_joins};
+ghost use Rattle.relax_edges.specs.JoinedEdges.{is_joined};
+ghost use Rattle.cycle_laws.specs.Composable.{last_joins};
 
 use arrayvec::ArrayVec;
 use relax_edges::{Edge, MAX_EDGES};
@@ -20,7 +21,7 @@ impl Model for Prefix {
     ghost use Rattle.std.specs.Prelude.{◌≡◌, List, map, true};
     ghost use Rattle.relax_edges.specs.declared.edge.Edge.{Edge as EdgeValue};
     ghost use Rattle.relax_edges.specs.Order.{rank_of};
-    ghost use Rattle.cycle_laws.specs.Composable.{is_joined};
+    ghost use Rattle.relax_edges.specs.JoinedEdges.{is_joined};
 
     ghost Value = { List EdgeValue };
 

@@ -6,7 +6,8 @@ use Rattle.std.proofs.Math.Bool.{and-true, and_assoc, and_comm}
 use Rattle.relax_edges.specs.declared.TheConstants.{MAX_EDGES}
 use Rattle.relax_edges.specs.declared.edge.Edge.{Edge}
 use Rattle.relax_edges.specs.EdgeTable.{joins_to}
-use Rattle.cycle_laws.specs.Composable.{joins_first, is_joined, is_closed, IsPath, IsCycle, first_break, one_later, last_joins}
+use Rattle.relax_edges.specs.JoinedEdges.{joins_first, is_joined}
+use Rattle.cycle_laws.specs.Composable.{is_closed, IsPath, IsCycle, first_break, one_later, last_joins}
 use Rattle.cycle_laws.specs.Rotation.{rotated}
 
 joins_first_prefix : (e m : Edge) (a b : List Edge) → joins_first e (a ++ m ∷ b) ≡ joins_first e (a ++ m ∷ [])

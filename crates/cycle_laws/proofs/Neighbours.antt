@@ -5,7 +5,8 @@ use Rattle.std.proofs.lemmas.Option.{slice_get_within}
 use Rattle.std.proofs.Math.Nat.{mod-eq_of_lt, mod-lt}
 use Rattle.relax_edges.specs.declared.edge.Edge.{Edge}
 use Rattle.relax_edges.specs.EdgeTable.{joins_to}
-use Rattle.cycle_laws.specs.Composable.{is_joined, is_closed, first_break, one_later, JoinsNext}
+use Rattle.relax_edges.specs.JoinedEdges.{is_joined}
+use Rattle.cycle_laws.specs.Composable.{is_closed, first_break, one_later, JoinsNext}
 use Rattle.cycle_laws.proofs.Places.{get_in_prefix, get_after, past_once}
 
 -- each edge of a joined list joins the one after it

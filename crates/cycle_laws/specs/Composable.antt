@@ -1,19 +1,10 @@
 -- When edges compose, as a path and as a cycle.
 -- Source: the diy part of the herdtools manual, "Candidate relaxations".
-use Rattle.std.specs.Prelude.{◌≡◌, ℕ, ◌+◌, ◌<◌, ◌≤◌, Bool, true, ◌&&◌, cond, List, [], ◌∷◌, ◌++◌, length, take, Option, Some, None, slice_get, ◌%◌}
+use Rattle.std.specs.Prelude.{◌≡◌, ℕ, ◌+◌, ◌<◌, ◌≤◌, Bool, true, cond, List, [], ◌∷◌, ◌++◌, length, take, Option, Some, None, slice_get, ◌%◌}
 use Rattle.relax_edges.specs.declared.TheConstants.{MAX_EDGES}
 use Rattle.relax_edges.specs.declared.edge.Edge.{Edge}
 use Rattle.relax_edges.specs.EdgeTable.{joins_to}
-
--- an edge joins the first of a list, if there is one
-abbrev pub joins_first : Edge → List Edge → Bool
-joins_first _ [] = true
-joins_first e (f ∷ _) = joins_to e f
-
--- each edge of a list joins the next one
-abbrev pub is_joined : List Edge → Bool
-is_joined [] = true
-is_joined (e ∷ u) = joins_first e u && is_joined u
+use Rattle.relax_edges.specs.JoinedEdges.{joins_first, is_joined}
 
 -- each edge of a list joins the next one, and the last one the first
 abbrev pub is_closed : List Edge → Bool

@@ -7,9 +7,8 @@ use Rattle.std.proofs.lemmas.List.Splits.{slice_split_at, slice_split_none, leng
 use Rattle.std.proofs.lemmas.Bool.Decides.{nat_tests}
 use Rattle.list_laws.proofs.Cases.{by_test}
 use Rattle.diy_io.specs.Sink.{line_feed_count}
-use Rattle.text_laws.specs.Lines.{is_line_feed, without_return, but_last, last_of}
+use Rattle.text_laws.specs.Lines.{is_line_feed, without_return, but_last, last_of, whole_lines, ended_lines, unended, last_line, lines_of}
 use Rattle.text_laws.proofs.PieceLaws.{first_piece, split_append, but_last_append, last_append}
-use Rattle.cycle_lines.specs.CycleLines.{ended_lines, unended, last_line, lines_of}
 use Rattle.cycle_lines.specs.Cycles.{is_long_line}
 use Rattle.cycle_lines.specs.LineSteps.{Without}
 
@@ -22,7 +21,7 @@ split_after a b l ls e h =
 
 -- where nothing of a text is unended, its ended lines come before those of what follows it
 pub ended_after : (a b : List ℕ) → unended a ≡ [] → ended_lines (a ++ b) ≡ ended_lines a ++ ended_lines b
-unfolding ended_lines
+unfolding ended_lines whole_lines
 ended_after a b e =
     let first = first_piece is_line_feed b in
     ap (λ t. map without_return (but_last t)) (split_after a b first.piece first.rest e first.is)
@@ -64,7 +63,7 @@ without_rest sign byte text h = λ k d l. h (suc k) d (omega arith)
 
 -- a text without a line feed
 pub ended_none : (text : List ℕ) → Without 10 text → ended_lines text ≡ []
-unfolding ended_lines
+unfolding ended_lines whole_lines
 ended_none text h = ap (λ t. map without_return (but_last t)) (slice_split_none is_line_feed text h)
 
 -- a text without a line feed is unended as a whole
@@ -82,7 +81,7 @@ unended_nil = unended_all [] (without_nil 10)
 
 -- a line, its line feed, and what comes after it
 pub ended_cut : (line rest : List ℕ) → Without 10 line → ended_lines (line ++ 10 ∷ rest) ≡ without_return line ∷ ended_lines rest
-unfolding ended_lines
+unfolding ended_lines whole_lines
 ended_cut line rest h =
     let first = first_piece is_line_feed rest in
     ap (λ t. map without_return (but_last t)) (slice_split_at is_line_feed line 10 rest h refl)
@@ -142,7 +141,7 @@ some_line (b ∷ text) h = refl
 
 -- a text that is one line and is too long: so is the first line of each text that begins with it
 pub long_first : (text rest : List ℕ) → Without 10 text → is_long_line (without_return text) ≡ true → LongFirst (lines_of (text ++ rest))
-unfolding ended_lines unended
+unfolding ended_lines whole_lines unended
 long_first text rest h long =
     let first = first_piece is_line_feed rest in
     let alone = slice_split_none is_line_feed text h in
@@ -179,7 +178,7 @@ but_last_length line (next ∷ rest) = ap suc (but_last_length next rest)
 
 -- as many lines have ended as there are line feeds
 pub ended_count : (text : List ℕ) → length (ended_lines text) ≡ line_feed_count text
-unfolding ended_lines
+unfolding ended_lines whole_lines
 ended_count text =
     let first = first_piece is_line_feed text in
     let all : length (first.piece ∷ first.rest) ≡ line_feed_count text + 1 = ap length (sym first.is) ∙ length-slice_split is_line_feed text in

@@ -22,8 +22,7 @@ use Rattle.cycle_lines.specs.declared.errors.LinesError.{LinesError}
 use Rattle.cycle_lines.specs.declared.reader.Found.{Found}
 use Rattle.cycle_lines.specs.declared.reader.Found.TheVariants.{Next, Last}
 use Rattle.cycle_lines.specs.declared.reader.Line.{Line}
-use Rattle.text_laws.specs.Lines.{without_return}
-use Rattle.cycle_lines.specs.CycleLines.{ended_lines, unended, last_line, lines_of}
+use Rattle.text_laws.specs.Lines.{without_return, ended_lines, unended, last_line, lines_of}
 use Rattle.cycle_lines.specs.Cycles.{line_said, line_fault, is_sound, are_sound, cycle_said, cycles_of, is_long_line}
 use Rattle.cycle_lines.specs.LineReading.{TookUpTo, Untouched, ReadAll, ReadToFault, ReadToLimit, ReadToStop, ReadSome, whole_of, cycles_before}
 use Rattle.cycle_lines.specs.LineSteps.{Without, CutsAtSign, ReaderSeen, HasRead, GivesLine, GivesNext, line_said_by, work, Fills, FillsBuffer, Ended, Stops, Ends, LessToDo, Continues, last_cycle}

@@ -1,4 +1,3 @@
-pub mod CycleLines
 pub mod Cycles
 pub mod LineReading
 pub mod ReadingLaws

@@ -11,8 +11,7 @@ use Rattle.relax_edges.specs.declared.edge.Edge.{Edge}
 use Rattle.cycle_lines.specs.declared.errors.LineKind.{LineKind}
 use Rattle.cycle_lines.specs.declared.errors.LinesError.{LinesError}
 use Rattle.cycle_lines.specs.declared.errors.LinesError.TheVariants.{Wrong, TooMuch, InputFault}
-use Rattle.cycle_lines.specs.CycleLines.{ended_lines, unended, lines_of}
-use Rattle.text_laws.specs.Lines.{without_return}
+use Rattle.text_laws.specs.Lines.{without_return, ended_lines, unended, lines_of}
 use Rattle.cycle_lines.specs.Cycles.{FirstFault, are_sound, cycles_of, is_sound, is_long_line}
 
 -- what was taken of a source and, where its text is known, what is left of it: then all that it had

@@ -12,8 +12,7 @@ use Rattle.cycle_lines.specs.declared.reader.Line.{Line}
 use Rattle.cycle_lines.specs.declared.reader.Line.TheVariants as lines
 use Rattle.cycle_lines.specs.declared.reader.Found.{Found}
 use Rattle.cycle_lines.specs.declared.reader.Found.TheVariants.{Next, Last}
-use Rattle.cycle_lines.specs.CycleLines.{ended_lines, unended}
-use Rattle.text_laws.specs.Lines.{without_return}
+use Rattle.text_laws.specs.Lines.{without_return, ended_lines, unended}
 use Rattle.cycle_lines.specs.Cycles.{line_said, are_sound, cycles_of}
 use Rattle.cycle_lines.specs.LineReading.{ReadAll, ReadUpTo, TookUpTo, Untouched}
 

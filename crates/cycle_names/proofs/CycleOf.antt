@@ -21,7 +21,7 @@ use Rattle.cycle_laws.proofs.Rotating.{rotation_length}
 use Rattle.edge_algebra.specs.declared.errors.CycleError.{CycleError}
 use Rattle.edge_algebra.specs.declared.errors.CycleError.TheVariants.{TooLong}
 use Rattle.edge_algebra.specs.Compose.{composed, unbroken}
-use Rattle.edge_algebra.proofs.Composed.{composes_exactly}
+use Rattle.edge_algebra.specs.ComposingLaws.{composes_exactly}
 use Rattle.cycle_names.specs.declared.family.Family.{Family}
 use Rattle.cycle_names.specs.Families.{family_word, family_edges, all_families}
 use Rattle.cycle_names.specs.LinkWords.{link_words}

@@ -16,7 +16,7 @@ use Rattle.cycle_names.specs.Families.{family_edges, family_word, all_families}
 use Rattle.cycle_names.specs.LinkWords.{edge_of_slot, outline}
 use Rattle.cycle_names.specs.Rotations.{rotations, fits_family, is_of_family, found_family}
 use Rattle.cycle_names.specs.Fitting.{edges_counted}
-use Rattle.cycle_names.specs.CycleNames.{is_name_byte}
+use Rattle.text_laws.specs.Names.{is_name_byte}
 use Rattle.cycle_names.specs.NameReading.{named_family}
 use Rattle.cycle_names.proofs.Members.{Member, any_of_member, member_of_any, member_upto, upto_member, find_none, find_only, found_passes, map_rotated}
 use Rattle.cycle_names.proofs.Tables.{slot_is_diff, slot_is_external}

@@ -10,7 +10,8 @@ use Rattle.relax_edges.specs.declared.kinds.Mark.{Mark}
 use Rattle.relax_edges.specs.declared.kinds.Mark.TheVariants.{Plain}
 use Rattle.relax_edges.specs.declared.edge.Edge.{Edge}
 use Rattle.relax_edges.specs.EdgeTable.{kind_of, source_mark, target_mark, same_mark, joins_to, is_external, is_diff, unmarked, marked_edge}
-use Rattle.cycle_laws.specs.Composable.{is_joined, is_closed}
+use Rattle.relax_edges.specs.JoinedEdges.{is_joined}
+use Rattle.cycle_laws.specs.Composable.{is_closed}
 use Rattle.cycle_laws.proofs.Joining.{same_mark_is, joined_marks}
 use Rattle.cycle_laws.proofs.Marks.{marked_edge_of}
 use Rattle.cycle_names.specs.LinkWords.{edge_of_slot}

@@ -22,7 +22,8 @@ use Rattle.cycle_names.specs.declared.family.Family.{Family}
 use Rattle.cycle_names.specs.Families.{family_word}
 use Rattle.cycle_names.specs.LinkWords.{link_word, link_words}
 use Rattle.cycle_names.specs.Rotations.{found_family, named_rotation}
-use Rattle.cycle_names.specs.CycleNames.{after_plus, all_equal, plural, links_text, name_from, name_of, is_name_byte}
+use Rattle.text_laws.specs.Names.{is_name_byte}
+use Rattle.cycle_names.specs.CycleNames.{after_plus, all_equal, plural, links_text, name_from, name_of}
 use Rattle.cycle_names.specs.NameReading.{edges_read}
 use Rattle.cycle_names.specs.Laws.{are_of_arch, NamesDecide, NamesReadBack, FamiliesApart, IsName, NamesAreNames}
 use Rattle.cycle_names.proofs.Tables.{link_word_short, link_word_bytes, word_bytes}

@@ -24,7 +24,7 @@ use Rattle.cycle_names.specs.declared.slot.Slot.{Slot}
 use Rattle.cycle_names.specs.declared.slot.Slot.TheVariants as slots
 use Rattle.cycle_names.specs.LinkWords.{edge_of_slot, fence_link, dependency_link, mark_letters, kind_link_text, link_word}
 use Rattle.cycle_names.specs.Fitting.{slot_edge, is_kind_slot, edge_count, word_place}
-use Rattle.cycle_names.specs.CycleNames.{is_name_byte}
+use Rattle.text_laws.specs.Names.{is_name_byte}
 use Rattle.cycle_names.specs.NameReading.{is_plus, is_dash, link_between, link_with}
 
 -- the words of links compare as their ranks do

@@ -1,8 +1,7 @@
 -- The name of a cycle.
 -- Source: own, after the names of litmus tests in the diy part of the herdtools manual.
-use Rattle.std.specs.Prelude.{ℕ, Bool, true, ◌==◌, ◌||◌, cond, Option, Some, None, List, [], ◌∷◌, ◌++◌, codes}
+use Rattle.std.specs.Prelude.{ℕ, Bool, true, cond, Option, Some, None, List, [], ◌∷◌, ◌++◌, codes}
 use Rattle.std.specs.List.{list_all, flat_map, join_by}
-use Rattle.std.specs.Char.{is_ascii_alphanumeric}
 use Rattle.std.specs.Str.{bytes_eq}
 use Rattle.relax_edges.specs.declared.edge.Edge.{Edge}
 use Rattle.relax_edges.specs.WordParts.{word_of}
@@ -37,7 +36,3 @@ name_from None v = codes "C+" ++ join_by word_of (codes "-") v
 -- the name of a cycle
 unfoldable pub name_of : List Edge → List ℕ
 name_of u = name_from (found_family u) (named_rotation u)
-
--- a byte of names: an ASCII letter or digit, or one of `+`, `-`, `.` and `_`
-abbrev pub is_name_byte : ℕ → Bool
-is_name_byte byte = is_ascii_alphanumeric byte || (byte == 43) || (byte == 45) || (byte == 46) || (byte == 95)

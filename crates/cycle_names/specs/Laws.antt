@@ -9,7 +9,8 @@ use Rattle.cycle_laws.specs.Rotation.{IsRotation}
 use Rattle.cycle_names.specs.declared.name.TheConstants.{MAX_NAME}
 use Rattle.cycle_names.specs.declared.family.Family.{Family}
 use Rattle.cycle_names.specs.Rotations.{is_of_family, named_rotation}
-use Rattle.cycle_names.specs.CycleNames.{name_of, is_name_byte}
+use Rattle.text_laws.specs.Names.{is_name_byte}
+use Rattle.cycle_names.specs.CycleNames.{name_of}
 
 -- all edges of a cycle are of an architecture
 abbrev pub are_of_arch : ArchName → List Edge → Bool

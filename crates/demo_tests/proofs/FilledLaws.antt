@@ -14,10 +14,11 @@ use Rattle.relax_edges.specs.declared.kinds.Mark.{Mark}
 use Rattle.relax_edges.specs.declared.kinds.Mark.TheVariants.{Plain, Acquire, Release}
 use Rattle.relax_edges.specs.declared.edge.Edge.{Edge}
 use Rattle.relax_edges.specs.EdgeTable.{source_of, target_of, source_mark, target_mark, same_dir, same_mark, is_external}
-use Rattle.cycle_laws.specs.Composable.{IsCycle, is_joined, is_closed}
+use Rattle.relax_edges.specs.JoinedEdges.{is_joined}
+use Rattle.cycle_laws.specs.Composable.{IsCycle, is_closed}
 use Rattle.edge_algebra.specs.declared.errors.CycleError.{CycleError}
 use Rattle.edge_algebra.specs.Compose.{composed}
-use Rattle.edge_algebra.proofs.Composed.{composes_exactly}
+use Rattle.edge_algebra.specs.ComposingLaws.{composes_exactly}
 use Rattle.cycle_names.specs.declared.family.Family.{Family}
 use Rattle.cycle_names.specs.Families.{all_families, family_edges}
 use Rattle.demo_tests.specs.Draws.{drawn, next_seed}

@@ -32,18 +32,17 @@ use Rattle.arch_aarch64.specs.ReadsBack as aarch64_back
 use Rattle.arch_riscv.specs.InCells as riscv_cells
 use Rattle.arch_riscv.specs.Laws as riscv_laws
 use Rattle.arch_riscv.specs.ReadsBack as riscv_back
-use Rattle.litmus_text.specs.Printable as printable
 use Rattle.litmus_text.specs.Printable.{IsTestName}
 use Rattle.diy_words.specs.declared.usage.Usage.{Usage}
-use Rattle.diy_words.specs.TestNames.{is_name, is_name_byte}
+use Rattle.text_laws.specs.Names.{is_name_byte}
+use Rattle.diy_words.specs.TestNames.{is_name}
 use Rattle.diy_words.specs.Requests.{Task, TestTask, ListTask, AsksTest, AsksWhy, WhyTask, AsksName, AsksList, AsksFamilies, AsksSum, AsksCross, AsksDemo, AsksCheck, CrossTask, asked_of}
 use Rattle.cycle_names.specs.CycleNames.{name_of}
 use Rattle.diy_words.proofs.RequestForm.{asked_form}
 use Rattle.test_maker.specs.declared.refusal.MakeRefusal.{MakeRefusal}
 use Rattle.test_maker.specs.Refusals.{refusal_of}
-use Rattle.test_maker.proofs.HavingTests.{accepted_has_test}
 use Rattle.printed_test_laws.specs.PrintedHeadline.{BytesForce}
-use Rattle.printed_test_laws.proofs.Cycles.{cycle_named, name_byte}
+use Rattle.printed_test_laws.proofs.Cycles.{accepted_has_test, cycle_named}
 use Rattle.printed_test_laws.proofs.Printed.{printed_force}
 use Rattle.diy_tools.specs.declared.status.Refusal.{Refusal}
 use Rattle.diy_tools.specs.declared.status.Refusal.TheVariants as refusals
@@ -64,7 +63,6 @@ use Rattle.diy_tools.specs.Headline.{Headline, HeadlineAsked}
 use Rattle.listed_tests.specs.Plans.{is_wanted}
 use Rattle.test_maker.specs.CycleText.{cycle_text}
 use Rattle.std.specs.Prelude.{is_none}
-use Rattle.list_laws.proofs.Elements.{list_all-weaker}
 
 -- what the law over the bytes asks of an architecture
 record KeepsLaws (m : Machine) : Type 0 where
@@ -138,7 +136,7 @@ pub named_so : (name : List ℕ) → is_name name ≡ true → IsTestName name
 named_so name h =
     let outer = and_parts (nat_lt 0 (length name) && nat_le (length name) 800) (list_all is_name_byte name) h in
     let inner = and_parts (nat_lt 0 (length name)) (nat_le (length name) 800) outer.0 in
-    record { some = grind (arith, nat_tests, inner.0); short = inner.1; bytes = list_all-weaker is_name_byte printable.is_name_byte name_byte name outer.1 }
+    record { some = grind (arith, nat_tests, inner.0); short = inner.1; bytes = outer.1 }
 
 test_named_so : (name : Option (List ℕ)) (es : List Edge) → IsCycle es → IfSome name (λ name. is_name name ≡ true) → IsTestName (test_name name es)
 test_named_so (Some name) es whole h = named_so name h

@@ -7,7 +7,7 @@ use Rattle.classified_files.specs.FilesEnds.{ReadFiles}
 use Rattle.checked_files.specs.FilesChecked.{AreTestAndExecution}
 use Rattle.cycle_names.specs.Laws.{NamesNone}
 use Rattle.cycle_lines.specs.Cycles.{are_sound}
-use Rattle.cycle_lines.specs.CycleLines.{lines_of}
+use Rattle.text_laws.specs.Lines.{lines_of}
 use Rattle.diy_io.specs.declared.source.TheConstants.{MAX_INPUT}
 use Rattle.diy_io.specs.Count.{Rose}
 use Rattle.diy_io.specs.Shelf.{Files}

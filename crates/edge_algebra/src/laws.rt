@@ -3,7 +3,7 @@ ghost use Rattle.edge_algebra.specs.Laws.{ComposesExactly, JoiningIsAssociative}
 /// A list of edges makes a cycle, or is refused, exactly where `cycle` says so: of a list that
 /// isn't empty nor too long, `DoesNotCompose` names the first edge that doesn't join the next one,
 /// cyclically.
-#[tactic(auto, using(crate::proofs::Composed::composes_exactly))]
+#[tactic(auto, using(crate::specs::ComposingLaws::composes_exactly))]
 pub fn composes_exactly()
     ensures { ComposesExactly }
 {}

@@ -27,7 +27,7 @@ use Rattle.relax_edges.specs.declared.kinds.Kind.TheVariants as edges
 use Rattle.relax_edges.specs.declared.kinds.Mark.{Mark}
 use Rattle.relax_edges.specs.declared.kinds.Mark.TheVariants.{Plain, Acquire, Release}
 use Rattle.relax_edges.specs.declared.edge.Edge.{Edge}
-use Rattle.relax_edges.specs.EdgeTable.{source_of, target_of, reach_of, sd_of, kind_of, source_mark, target_mark, same_dir}
+use Rattle.relax_edges.specs.EdgeTable.{source_of, target_of, reach_of, sd_of, kind_of, source_mark, target_mark, same_dir, same_mark}
 use Rattle.micro_ops.specs.declared.operation.Barrier.{Barrier}
 use Rattle.micro_ops.specs.declared.operation.Barrier.TheVariants as barriers
 use Rattle.program_meaning.specs.declared.WriteAt.{WriteAt}
@@ -36,7 +36,7 @@ use Rattle.program_meaning.specs.Executions.{Execution, same_write}
 use Rattle.program_meaning.specs.Coherence.{source_at}
 use Rattle.program_meaning.specs.Standing.{AccessAt, NamedAccess, access_at, AreAt, ComesBefore, Communicates, CommunicatesBy, Reaches, Joins, mask_of, is_in_mask, IsTied, BarriersWait, DependsBy, TiesBy, Stands}
 use Rattle.execution_laws.proofs.Names.{same_write-refl, same_write-true}
-use Rattle.exec_meaning.specs.StandingEdges.{same_mark, same_pick, same_fence, same_barrier, is_alone, is_none, are_at, is_source, comes_before, communicates, communicates_by, reaches, joins, same_answer, depends, barriers_wait, depends_by, ties_by, stands}
+use Rattle.exec_meaning.specs.StandingEdges.{same_pick, same_fence, same_barrier, is_alone, is_none, are_at, is_source, comes_before, communicates, communicates_by, reaches, joins, same_answer, depends, barriers_wait, depends_by, ties_by, stands}
 
 both : {P Q : Type 0} (b c : Bool) → Decides b P → Decides c Q → Decides (b && c) (P × Q)
 both b c d e = (λ h. let p = and_parts b c h in (d.0 p.0, e.0 p.1), λ h. and_from b c (d.1 h.0) (e.1 h.1))

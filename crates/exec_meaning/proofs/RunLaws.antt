@@ -10,7 +10,7 @@ use Rattle.micro_ops.specs.declared.operation.Micro.{Micro}
 use Rattle.micro_ops.specs.declared.run.RunError.TheVariants as errors
 use Rattle.micro_ops.specs.Running.{Point, At, Past, Wants, Stuck, exec, beginning, outcome, runs, Outcome, NoRule}
 use Rattle.micro_ops.specs.RunThreads.{EndedRun, goes_on, CausedBy}
-use Rattle.micro_ops.proofs.Laws.{stops_for_good}
+use Rattle.micro_ops.specs.RunLaws.{stops_for_good}
 use Rattle.litmus_text.specs.TestReading.{ThreadRead, TestRead}
 use Rattle.litmus_text.specs.ReadPrograms.{thread_read, program_read}
 use Rattle.program_meaning.specs.declared.WriteAt.{WriteAt}

@@ -16,10 +16,8 @@ use Rattle.relax_edges.specs.declared.kinds.DepKind.{DepKind}
 use Rattle.relax_edges.specs.declared.kinds.DepKind.TheVariants as deps
 use Rattle.relax_edges.specs.declared.kinds.Kind.{Kind}
 use Rattle.relax_edges.specs.declared.kinds.Kind.TheVariants as edges
-use Rattle.relax_edges.specs.declared.kinds.Mark.{Mark}
-use Rattle.relax_edges.specs.declared.kinds.Mark.TheVariants.{Plain, Acquire, Release}
 use Rattle.relax_edges.specs.declared.edge.Edge.{Edge}
-use Rattle.relax_edges.specs.EdgeTable.{source_of, target_of, reach_of, sd_of, kind_of, source_mark, target_mark, same_dir}
+use Rattle.relax_edges.specs.EdgeTable.{source_of, target_of, reach_of, sd_of, kind_of, source_mark, target_mark, same_dir, same_mark}
 use Rattle.micro_ops.specs.declared.operation.Barrier.{Barrier}
 use Rattle.micro_ops.specs.declared.operation.Barrier.TheVariants as barriers
 use Rattle.resolution_laws.specs.Resolution.{edge_at, event_after}
@@ -40,13 +38,6 @@ pub record EdgeStands (es : List Edge) (p : Program) (x : Execution) (i : ℕ) :
   pub leaves : IsEvent es (visits_in p x) i source
   pub enters : IsEvent es (visits_in p x) (event_after es i) target
   pub stands : Stands (accesses_in p x) x (edge_at es i) source target
-
--- two marks are the same
-abbrev pub same_mark : Mark → Mark → Bool
-same_mark Plain Plain = true
-same_mark Acquire Acquire = true
-same_mark Release Release = true
-same_mark _ _ = false
 
 -- two sides of a fence order the same accesses
 abbrev pub same_pick : Pick → Pick → Bool

@@ -1,12 +1,12 @@
 ghost use Rattle.std.specs.Prelude.{◌≡◌, ◌↔◌, ◌==◌, ◌^◌, ◌<◌, IsTrue, IfOk, length, map};
 ghost use Rattle.std.specs.Int.{bit_at};
-ghost use Rattle.relax_edges.specs.EdgeTable.{same_dir};
+ghost use Rattle.relax_edges.specs.EdgeTable.{same_dir, same_mark};
 ghost use Rattle.resolution_laws.specs.Resolution.{event_after};
 ghost use Rattle.program_meaning.specs.Accesses.{at_name, visits_of};
 ghost use Rattle.program_meaning.specs.Standing.{is_in_mask, event_name};
 ghost use Rattle.program_meaning.specs.Programs.{IsCandidate};
 ghost use Rattle.litmus_text.specs.ReadPrograms.{program_read};
-ghost use Rattle.exec_meaning.specs.StandingEdges.{EdgeStands, same_mark, same_pick, same_fence, same_barrier, is_alone, are_at, is_source, reaches, comes_before, communicates_by, joins, depends_as, barriers_wait, waits, depends_by, ties_by, stands, stands_if};
+ghost use Rattle.exec_meaning.specs.StandingEdges.{EdgeStands, same_pick, same_fence, same_barrier, is_alone, are_at, is_source, reaches, comes_before, communicates_by, joins, depends_as, barriers_wait, waits, depends_by, ties_by, stands, stands_if};
 
 use crate::accesses::{Accesses, all_accesses, is_read};
 use crate::coherent::{place_of_name, reads_before_name, source_of_name};

@@ -1,33 +1,35 @@
 -- The first line of a text.
-use Rattle.std.proofs.Common.{◌≡◌, ◌==◌, ◌<◌, ℕ, List, [], ◌∷◌, true, false, get_or, length, refl, ap, ◌∙◌, arith}
-use Rattle.std.specs.Prelude.{not}
+use Rattle.std.proofs.Common.{◌≡◌, ◌==◌, ◌<◌, ℕ, List, [], ◌∷◌, ◌++◌, true, false, get_or, length, refl, ap, ◌∙◌, arith}
+use Rattle.std.specs.Prelude.{not, map}
 use Rattle.std.specs.List.{list_all, All, slice_split}
 use Rattle.std.proofs.lemmas.Bool.{eq-eqb, not-true}
 use Rattle.std.proofs.lemmas.List.Sums.{AllPass-from_list_all}
-use Rattle.std.proofs.lemmas.List.Splits.{slice_split_none, slice_split_at, length-slice_split}
-use Rattle.text_laws.specs.Lines.{is_line_feed, without_return}
+use Rattle.std.proofs.lemmas.List.Splits.{slice_split_none, slice_split_at}
+use Rattle.text_laws.specs.Lines.{is_line_feed, without_return, but_last, last_of, whole_lines, ended_lines, unended, last_line, lines_of}
+use Rattle.text_laws.proofs.PieceLaws.{first_piece}
 use Rattle.text_laws.specs.Cuts.{CutParts}
-use Rattle.execution_text.specs.ExecutionText.{lines_in, lines_of}
 
 no_feed : (text : List ℕ) → list_all (λ byte. not (byte == 10)) text ≡ true → All (λ byte. is_line_feed byte ≡ false) text
 no_feed text h i d k = not-true (get_or text i d == 10) (AllPass-from_list_all (λ byte. not (byte == 10)) text h i d k)
 
--- there is a piece before others
-before_others : (prefix : List ℕ) (pieces : List (List ℕ)) → 0 < length pieces → lines_in (prefix ∷ pieces) ≡ without_return prefix ∷ lines_in pieces
-before_others prefix [] h = absurd (omega arith)
-before_others prefix (piece ∷ pieces) h = refl
+-- an empty text has no line
+pub line_none : lines_of [] ≡ []
+unfolding ended_lines whole_lines unended
+line_none = refl
 
 -- a text that is cut at a line feed has the line before it, and then the lines after it
 pub line_cut : (text prefix rest : List ℕ) → CutParts 10 text prefix rest → lines_of text ≡ without_return prefix ∷ lines_of rest
+unfolding ended_lines whole_lines unended
 line_cut text prefix rest c =
     let split : slice_split is_line_feed text ≡ prefix ∷ slice_split is_line_feed rest =
     ap (slice_split is_line_feed) c.parts ∙ slice_split_at is_line_feed prefix 10 rest (no_feed prefix c.first) (eq-eqb 10 10 refl) in
-    ap lines_in split ∙ before_others prefix (slice_split is_line_feed rest) (some_piece rest)
-  where
-    some_piece : (t : List ℕ) → 0 < length (slice_split is_line_feed t)
-    some_piece t = omega (arith, length-slice_split is_line_feed t)
+    let first = first_piece is_line_feed rest in
+    ap (λ pieces. map without_return (but_last pieces) ++ last_line (last_of pieces)) split ∙ rw first.is refl
 
 -- a text without a line feed is its one line, if it has a byte
 pub line_last : (text : List ℕ) → list_all (λ byte. not (byte == 10)) text ≡ true → 0 < length text → lines_of text ≡ text ∷ []
+unfolding ended_lines whole_lines unended
 line_last [] h k = absurd (omega arith)
-line_last (byte ∷ text) h k = ap lines_in (slice_split_none is_line_feed (byte ∷ text) (no_feed (byte ∷ text) h))
+line_last (byte ∷ text) h k =
+    ap (λ pieces. map without_return (but_last pieces) ++ last_line (last_of pieces))
+    (slice_split_none is_line_feed (byte ∷ text) (no_feed (byte ∷ text) h))

@@ -11,16 +11,16 @@ use Rattle.std.proofs.lemmas.Bool.{and_parts}
 use Rattle.list_laws.proofs.Elements.{list_all-weaker}
 use Rattle.text_laws.specs.Blanks.{is_blank}
 use Rattle.text_laws.specs.Words.{is_nil, words}
-use Rattle.text_laws.specs.Lines.{without_return}
+use Rattle.text_laws.specs.Lines.{without_return, lines_of}
 use Rattle.litmus_text.specs.TestText.{with_line_feed}
 use Rattle.text_laws.specs.Cuts.{CutParts}
 use Rattle.text_laws.proofs.OrderLaws.{bytes_same}
 use Rattle.text_laws.proofs.CutLaws.{all_both, without_class}
 use Rattle.execution_text.specs.declared.errors.ExecKind.{ExecKind}
-use Rattle.execution_text.specs.ExecutionText.{all_named, line_read, lines_of}
+use Rattle.execution_text.specs.ExecutionText.{all_named, line_read}
 use Rattle.execution_text.specs.Written.{line_of}
 use Rattle.execution_text.proofs.Appending.{further}
-use Rattle.execution_text.proofs.FirstLines.{line_cut}
+use Rattle.execution_text.proofs.FirstLines.{line_none, line_cut}
 use Rattle.execution_text.proofs.WordsBack.{IsWord, is_graphic}
 
 -- a byte of a line: a blank or a graphic character
@@ -87,7 +87,7 @@ keeps_end (byte ∷ next ∷ line) h =
 
 -- a text has the lines of which it is made
 pub lines_back : (lines : List (List ℕ)) → AllByRecursion (λ line. list_all is_printed line ≡ true) lines → lines_of (flat_map with_line_feed lines) ≡ lines
-lines_back [] h = refl
+lines_back [] h = line_none
 lines_back (line ∷ lines) h =
     let rest = flat_map with_line_feed lines in
     let cut : CutParts 10 (with_line_feed line ++ rest) line rest = record { parts = append_assoc line (codes "\n") rest; first = without_class is_printed 10 line refl h.0 } in

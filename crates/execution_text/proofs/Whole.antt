@@ -16,7 +16,8 @@ use Rattle.execution_text.specs.declared.errors.ExecKind.{ExecKind}
 use Rattle.execution_text.specs.declared.errors.ExecKind.TheVariants.{BadThread, BadRead, BadPlace, BadWrite, StrayLine}
 use Rattle.litmus_text.specs.declared.limits.TheConstants.{MAX_TEXT}
 use Rattle.execution_text.specs.declared.errors.ExecFault.{ExecFault}
-use Rattle.execution_text.specs.ExecutionText.{access_named, at_line, execution_of, execution_read, line_read, lines_of, reads_and_writes_read, each_line_read, place_head, put_line, read_named, thread_head}
+use Rattle.text_laws.specs.Lines.{lines_of}
+use Rattle.execution_text.specs.ExecutionText.{access_named, at_line, execution_of, execution_read, line_read, reads_and_writes_read, each_line_read, place_head, put_line, read_named, thread_head}
 use Rattle.execution_text.specs.declared.errors.ExecError.{ExecError}
 use Rattle.execution_text.specs.declared.errors.ExecError.TheVariants as errors
 use Rattle.execution_text.specs.ExecutionSteps.{WayToAdd, ReadsLines, ReadsText, all_added, each_added, lines_added}

@@ -9,7 +9,7 @@ use Rattle.execution_text.specs.declared.errors.ExecError.{ExecError}
 use Rattle.execution_text.specs.declared.errors.ExecError.TheVariants as errors
 use Rattle.execution_text.specs.declared.reading.LineError.{LineError}
 use Rattle.execution_text.specs.declared.reading.LineError.TheVariants as line_errors
-use Rattle.execution_text.specs.ExecutionText.{lines_of}
+use Rattle.text_laws.specs.Lines.{lines_of}
 
 -- a way to add one thing to number k of an execution's lists: a read to a thread, or a write to a place
 abbrev pub WayToAdd : Type 0 → Type 0

@@ -3,13 +3,13 @@
 -- Source: own.
 use Rattle.std.specs.Prelude.{ℕ, ◌+◌, cond, List, [], ◌∷◌, ◌++◌, length, map, codes, nat_lt, Option, Some, None, option_and_then, Result, Ok, Err, slice_index_or}
 use Rattle.std.specs.Fmt.{decimal}
-use Rattle.std.specs.List.{slice_split, range_with_len}
+use Rattle.std.specs.List.{range_with_len}
 use Rattle.std.specs.Option.{option_map}
 use Rattle.std.specs.Str.{bytes_eq}
 use Rattle.text_laws.specs.NumberTexts.{number_of}
 use Rattle.text_laws.specs.Cuts.{cut_at}
 use Rattle.text_laws.specs.Words.{words}
-use Rattle.text_laws.specs.Lines.{is_line_feed, without_return}
+use Rattle.text_laws.specs.Lines.{lines_of}
 use Rattle.program_meaning.specs.declared.WriteAt.{WriteAt}
 use Rattle.program_meaning.specs.Executions.{Execution}
 use Rattle.execution_text.specs.declared.errors.ExecKind.{ExecKind}
@@ -137,21 +137,6 @@ reads_and_writes_read threads places lines = do
   reads ← all_reads_told threads lines
   orders ← all_writes_told threads places reads.1
   execution_of (threads + length places + 1) reads.0 orders
-
--- what comes after the last line feed is a line if it has a byte
-abbrev pub last_line : List ℕ → List (List ℕ)
-last_line [] = []
-last_line (byte ∷ bytes) = (byte ∷ bytes) ∷ []
-
--- the lines of a text by its pieces between line feeds; a carriage return before a line feed is dropped
-abbrev pub lines_in : List (List ℕ) → List (List ℕ)
-lines_in [] = []
-lines_in (piece ∷ []) = last_line piece
-lines_in (piece ∷ next ∷ pieces) = without_return piece ∷ lines_in (next ∷ pieces)
-
--- the lines of a text
-abbrev pub lines_of : List ℕ → List (List ℕ)
-lines_of text = lines_in (slice_split is_line_feed text)
 
 -- the execution that a text gives, of a program of so many threads and of these places
 unfoldable pub execution_read : ℕ → List (List ℕ) → List ℕ → Result Execution ExecFault

@@ -1,7 +1,7 @@
 -- Files of a shelf that are opened one after another, as far as the shelf shows and counts them.
 -- Source: own.
-use Rattle.std.specs.Prelude.{◌≡◌, ◌+◌, ℕ, List, [], ◌∷◌, length, slice_index_or, Option, Some, IfSome}
-use Rattle.diy_io.specs.Count.{count_of}
+use Rattle.std.specs.Prelude.{◌≡◌, ◌+◌, ℕ, List, [], ◌∷◌, length, slice_index_or, Option, Some, None, IfSome, MatchOption}
+use Rattle.diy_io.specs.Count.{Rose, count_of}
 use Rattle.diy_io.specs.Shelf.{Files, ShelfSeen}
 
 -- the word at a place, which names a file
@@ -21,3 +21,8 @@ last_taken taken (bytes ∷ more) = last_taken (length bytes) more
 pub record TookFiles (old new : ShelfSeen) (taken : List (List ℕ)) : Type 0 where
   pub opened : count_of new.opened ≡ count_of (old.opened + length taken)
   pub last : count_of new.taken ≡ count_of (last_taken old.taken taken)
+
+-- a file isn't there; where the files aren't shown, that is a fault
+pub record FileAbsent (old new : ShelfSeen) (name : List ℕ) : Type 0 where
+  pub absent : MatchOption old.files (Rose old.faults new.faults) (λ there. there name ≡ None)
+  pub took : TookFiles old new []

@@ -1,10 +1,10 @@
 -- Printed conditions read back, part by part, whatever follows a part, and whichever left sides are accepted beside those of their form.
 use Rattle.std.proofs.Common.{◌≡◌, ℕ, zero, suc, ◌^◌, ◌<◌, ◌≤◌, List, [], ◌∷◌, ◌++◌, length, refl, sym, ap, ◌∙◌, arith, append_assoc, append-nil}
-use Rattle.std.specs.Prelude.{Bool, true, false, not, codes, nat_eq, nat_lt, Some, Ok}
-use Rattle.std.specs.Char.{is_ascii_alphabetic, is_ascii_alphanumeric, is_ascii_digit}
+use Rattle.std.specs.Prelude.{Bool, true, false, not, codes, nat_eq, Some, Ok}
+use Rattle.std.specs.Char.{is_ascii_alphanumeric, is_ascii_digit}
 use Rattle.std.specs.Fmt.{decimal}
 use Rattle.std.specs.List.{AllByRecursion, list_all}
-use Rattle.std.proofs.lemmas.Bool.{and_parts, ltb-true, not-true}
+use Rattle.std.proofs.lemmas.Bool.{and_parts, not-true}
 use Rattle.std.proofs.lemmas.Bool.Decides.{nat_tests}
 use Rattle.list_laws.proofs.Digits.{Digits, digits_of}
 use Rattle.final_cond.specs.declared.cond.Quantifier.{Quantifier}
@@ -12,14 +12,14 @@ use Rattle.final_cond.specs.declared.cond.Quantifier.TheVariants.{Exists, NotExi
 use Rattle.final_cond.specs.declared.cond.TheConstants.{MAX_TERMS}
 use Rattle.final_cond.specs.declared.errors.CondKind.TheVariants.{BadTerm}
 use Rattle.final_cond.specs.declared.read.Follow.TheVariants as follows
-use Rattle.text_laws.specs.Names.{is_place_byte, begins_place, is_register_name}
+use Rattle.text_laws.specs.Names.{is_place_byte}
 use Rattle.final_cond.specs.Conditions.{LeftSeen, InRegister, AtPlace, TermSeen, CondSeen}
 use Rattle.final_cond.specs.CondText.{quantifier_word, left_text, term_text, terms_text, cond_text}
 use Rattle.text_laws.specs.LeadingRuns.{leading_run, after_run}
 use Rattle.text_laws.specs.Blanks.{is_blank, unblanked}
+use Rattle.final_cond.specs.FormLaws.{Named, named, place_bytes}
 use Rattle.final_cond.specs.ConditionReadBack.{IsFormedTerm, IsFormedCondition}
 use Rattle.final_cond.specs.ConditionReading.{sign_read, opening_read, left_at_start, register_at_start, has_form, left_read, value_read, right_read, term_read, follow_read, terms_read, parts_read, cond_read}
-use Rattle.text_laws.proofs.NameLaws.{place_shaped, register_shaped, shaped_all}
 use Rattle.text_laws.proofs.NumberLaws.{number_of-decimal}
 
 -- a text doesn't begin with a byte that passes
@@ -62,24 +62,6 @@ digits_left (byte ∷ digits) rest h n =
 
 register_text : (digits name rest : List ℕ) → ((digits ++ 58 ∷ []) ++ name) ++ rest ≡ digits ++ (58 ∷ (name ++ rest))
 register_text digits name rest = simp append_assoc
-
--- what the form of a register says
-pub record Named (thread : ℕ) (name : List ℕ) : Type 0 where
-  pub few : thread < 64
-  pub bytes : list_all is_ascii_alphanumeric name ≡ true
-
--- a register of a form has a thread below 64 and a name of a register's form
-pub named : (thread : ℕ) (name : List ℕ) → has_form (InRegister thread name) ≡ true → Named thread name
-named thread name h =
-    let p : (nat_lt thread 64 ≡ true) × (is_register_name name ≡ true) = and_parts (nat_lt thread 64) (is_register_name name) h in
-    record {
-      few = ltb-true thread 64 p.0;
-      bytes = shaped_all is_ascii_alphabetic is_ascii_alphanumeric is_ascii_alphanumeric (λ byte l. grind (arith, nat_tests)) (λ byte l. l) name (register_shaped name p.1);
-    }
-
--- each byte of a name of a place's form is one that such names may have
-pub place_bytes : (name : List ℕ) → has_form (AtPlace name) ≡ true → list_all is_place_byte name ≡ true
-place_bytes name h = shaped_all begins_place is_place_byte is_place_byte (λ byte l. grind (arith, nat_tests)) (λ byte l. l) name (place_shaped name h)
 
 -- a text that begins with a left side isn't changed where blanks are passed over
 pub left_unblanked : (left : LeftSeen) (rest : List ℕ) → has_form left ≡ true → unblanked (left_text left ++ rest) ≡ left_text left ++ rest

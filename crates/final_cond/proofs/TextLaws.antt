@@ -16,7 +16,7 @@ use Rattle.final_cond.specs.Conditions.{LeftSeen, InRegister, AtPlace, TermSeen,
 use Rattle.final_cond.specs.CondText.{quantifier_word, left_text, term_text, further_term_text, terms_text, cond_text}
 use Rattle.final_cond.specs.ConditionReadBack.{IsFormedTerm, IsFormedCondition}
 use Rattle.final_cond.specs.ConditionReading.{has_form}
-use Rattle.final_cond.proofs.BackLaws.{Named, named, place_bytes}
+use Rattle.final_cond.specs.FormLaws.{Named, named, place_bytes}
 use Rattle.list_laws.proofs.Digits.{digits_of}
 
 -- a byte from the blank to `~`

@@ -4,3 +4,4 @@ pub mod ConditionReading
 pub mod ConditionAnswers
 pub mod States
 pub mod ConditionReadBack
+pub mod FormLaws

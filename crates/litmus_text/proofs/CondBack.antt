@@ -16,7 +16,8 @@ use Rattle.final_cond.specs.Conditions.{LeftSeen, InRegister, AtPlace, TermSeen,
 use Rattle.final_cond.specs.CondText.{quantifier_word, left_text, term_text, further_term_text, terms_text, cond_text}
 use Rattle.final_cond.specs.ConditionReading.{opening_read, left_read, right_read, has_form}
 use Rattle.final_cond.specs.ConditionReadBack.{IsFormedTerm}
-use Rattle.final_cond.proofs.BackLaws.{stops, named, place_bytes, left_unblanked, left_back, right_back, term_parts, closing, joining, opening_back}
+use Rattle.final_cond.specs.FormLaws.{named, place_bytes}
+use Rattle.final_cond.proofs.BackLaws.{stops, left_unblanked, left_back, right_back, term_parts, closing, joining, opening_back}
 use Rattle.list_laws.proofs.Digits.{digits_of}
 use Rattle.arch_trait.specs.Writing.{Writing}
 use Rattle.arch_trait.specs.Cells.{ends_rows, is_line_byte}

@@ -15,14 +15,15 @@ use Rattle.relax_edges.specs.declared.edge.Edge.{Edge}
 use Rattle.relax_edges.specs.Architectures.{arch_word}
 use Rattle.relax_edges.specs.WordParts.{word_of}
 use Rattle.relax_edges.specs.AllEdges.{edges_in_order}
-use Rattle.relax_edges.proofs.Ranks.{each_edge}
+use Rattle.cycle_laws.proofs.RankLaws.{each_edge}
 use Rattle.text_laws.specs.Blanks.{is_blank, unblanked, before_blanks, kept_before, trim_blanks}
 use Rattle.text_laws.specs.LeadingRuns.{leading_run, after_run}
 use Rattle.arch_trait.specs.Cells.{is_line_byte}
 use Rattle.litmus_text.specs.TextLines.{Lines, line, is_passed}
 use Rattle.text_laws.specs.Words.{is_nil, words}
 use Rattle.litmus_text.specs.Header.{header_read, quote_read, is_setting, after_settings, name_in_header, two_words, quote_cut}
-use Rattle.litmus_text.specs.Printable.{is_name_byte, IsTestName}
+use Rattle.text_laws.specs.Names.{is_name_byte}
+use Rattle.litmus_text.specs.Printable.{IsTestName}
 use Rattle.litmus_text.specs.TestText.{header_line, edges_line}
 use Rattle.text_laws.proofs.OrderLaws.{bytes_same}
 use Rattle.text_laws.proofs.CutLaws.{cut_back, all_both, without_class}

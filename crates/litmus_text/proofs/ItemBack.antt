@@ -18,7 +18,8 @@ use Rattle.text_laws.specs.LeadingRuns.{after_run}
 use Rattle.final_cond.specs.Conditions.{LeftSeen, InRegister}
 use Rattle.final_cond.specs.CondText.{left_text}
 use Rattle.final_cond.specs.ConditionReading.{Fault, found, only_known, left_at_start, left_read, has_form}
-use Rattle.final_cond.proofs.BackLaws.{left_back, named, place_bytes}
+use Rattle.final_cond.specs.FormLaws.{named, place_bytes}
+use Rattle.final_cond.proofs.BackLaws.{left_back}
 use Rattle.list_laws.proofs.Digits.{digits_of}
 use Rattle.text_laws.proofs.NumberLaws.{not_digits}
 use Rattle.arch_trait.specs.Threads.{Puts}

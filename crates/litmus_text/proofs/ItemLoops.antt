@@ -7,7 +7,8 @@ use Rattle.text_laws.specs.Cuts.{cut_at, CutParts, is_without}
 use Rattle.litmus_text.specs.TextCuts.{pieces}
 use Rattle.litmus_text.specs.TextLines.{Lines, ends, line, ◌>>=◌}
 use Rattle.litmus_text.specs.Joined.{Joined, with_text, all_joined}
-use Rattle.litmus_text.specs.InitialState.{Begun, item_read, items_read, but_last, closed, open_to, braced}
+use Rattle.text_laws.specs.Lines.{but_last}
+use Rattle.litmus_text.specs.InitialState.{Begun, item_read, items_read, closed, open_to, braced}
 use Rattle.litmus_text.proofs.CutBack.{piece_last}
 use Rattle.text_laws.proofs.PieceLaws.{first_piece}
 use Rattle.litmus_text.proofs.CutLaws.{pieces_cut}

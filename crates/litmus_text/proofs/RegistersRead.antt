@@ -17,7 +17,8 @@ use Rattle.text_laws.specs.Cuts.{cut_at}
 use Rattle.litmus_text.specs.TextCuts.{pieces}
 use Rattle.litmus_text.specs.Joined.{Joined, no_text}
 use Rattle.litmus_text.specs.TextLines.{Lines, ends, line}
-use Rattle.litmus_text.specs.InitialState.{Worth, a_number, a_place, Item, empty, gives, zero_at, worth_of, given_item, item_with, whole_left, item_if, item_parts, some_item, item_of, Begun, nothing_begun, is_given, with_value, address_begun, with_worth, with_named, item_put, item_read, items_read, but_last, Braced, closed, open_to, braced, brace_ends, braced_read, initial_line, initial_read}
+use Rattle.text_laws.specs.Lines.{but_last}
+use Rattle.litmus_text.specs.InitialState.{Worth, a_number, a_place, Item, empty, gives, zero_at, worth_of, given_item, item_with, whole_left, item_if, item_parts, some_item, item_of, Begun, nothing_begun, is_given, with_value, address_begun, with_worth, with_named, item_put, item_read, items_read, Braced, closed, open_to, braced, brace_ends, braced_read, initial_line, initial_read}
 use Rattle.litmus_text.specs.Runnable.{AllNameRegisters}
 use Rattle.litmus_text.proofs.RunnableRead.{Gives, then_gives, all_push}
 

@@ -18,6 +18,7 @@ use Rattle.litmus_text.specs.declared.limits.TheConstants.{MAX_THREADS}
 use Rattle.litmus_text.specs.TextLines.{Lines, ends, line, TextRead, ◌>>=◌, bad}
 use Rattle.text_laws.specs.Words.{is_nil}
 use Rattle.text_laws.specs.Cuts.{cut_at}
+use Rattle.text_laws.specs.Lines.{but_last}
 use Rattle.litmus_text.specs.TextCuts.{pieces}
 use Rattle.litmus_text.specs.Joined.{Joined, no_text, with_text, line_at}
 
@@ -141,12 +142,6 @@ items_read w joined place [] begun = Ok begun
 items_read w joined place (piece ∷ rest) begun = do
   next ← item_read w joined place piece begun
   items_read w joined (place + (length piece + 1)) rest next
-
--- all but the last
-abbrev pub but_last : List (List ℕ) → List (List ℕ)
-but_last [] = []
-but_last (piece ∷ []) = []
-but_last (piece ∷ next ∷ rest) = piece ∷ but_last (next ∷ rest)
 
 -- the text up to the first `}`, what comes after it in its line, and the lines after that; or the text up to the end
 pub data Braced : Type 0 where

@@ -1,19 +1,15 @@
 -- The bytes of a printed test.
 -- Source: own.
 use Rattle.std.specs.Prelude.{◌≡◌, ℕ, ◌==◌, Bool, true, not, ◌&&◌, ◌||◌, nat_le, List, length}
-use Rattle.std.specs.Char.{is_ascii_alphanumeric}
 use Rattle.std.specs.List.{list_all}
+use Rattle.text_laws.specs.Names.{is_name_byte}
 use Rattle.arch_trait.specs.Cells.{is_line_byte}
 
 -- a byte of a row's cells: one of a line that ends neither a cell nor a row
 abbrev pub is_row_byte : ℕ → Bool
 is_row_byte byte = is_line_byte byte && not (byte == 124 || byte == 59)
 
--- a byte of the name of a test: a letter, a digit, `+`, `-`, `.` or `_`
-abbrev pub is_name_byte : ℕ → Bool
-is_name_byte byte = is_ascii_alphanumeric byte || (byte == 43 || (byte == 45 || (byte == 46 || byte == 95)))
-
--- a name of a test: 1 to 800 such bytes
+-- a name of a test: 1 to 800 bytes of names
 pub record IsTestName (name : List ℕ) : Type 0 where
   pub some : nat_le 1 (length name) ≡ true
   pub short : nat_le (length name) 800 ≡ true

@@ -16,7 +16,8 @@ use Rattle.log_sum.specs.declared.errors.LogKind.{LogKind}
 use Rattle.log_sum.specs.declared.errors.LogKind.TheVariants.{BadState, BadCount}
 use Rattle.text_laws.specs.LeadingRuns.{leading_run, after_run}
 use Rattle.text_laws.specs.Words.{is_nil}
-use Rattle.log_sum.specs.Counts.{count_read, count_of_digits, last_count}
+use Rattle.diy_io.specs.Count.{last_count}
+use Rattle.log_sum.specs.Counts.{count_read, count_of_digits}
 use Rattle.text_laws.proofs.RunLaws.{run_passes}
 use Rattle.text_laws.proofs.NameLaws.{utf8_from_ascii}
 

@@ -24,7 +24,7 @@ use Rattle.log_sum.specs.declared.spelling.Spelling.{Spelling}
 use Rattle.log_sum.specs.declared.state_table.StateSum.{StateSum}
 use Rattle.log_sum.specs.Summed.{StateSummed}
 use Rattle.log_sum.specs.LogStates.{form_read}
-use Rattle.log_sum.specs.Counts.{last_count}
+use Rattle.diy_io.specs.Count.{last_count}
 use Rattle.log_sum.specs.SummingSteps.{known_state}
 use Rattle.log_sum.specs.StateSpelling.{written_as, is_later, is_spelled, IsSpelled, AddsText}
 use Rattle.log_sum.specs.StateEntries.{sum_view, state_view, state_at, states_view, AreInOrder, AreWritten, HasState}

@@ -13,8 +13,8 @@ use Rattle.log_sum.specs.declared.kinds.Place.{Place}
 use Rattle.log_sum.specs.declared.kinds.Place.TheVariants.{Outside, Histogram, States, Judgement, Rest, Conditioned}
 use Rattle.log_sum.specs.Facts.{Fact, facts_of, fact_fault}
 use Rattle.log_sum.specs.LogLines.{Said, log_line_said, fact_said, test_after, place_after}
-use Rattle.log_sum.specs.LogReading.{LogSeen, ◌>>=◌, fault_at, is_too_long, nothing_seen, fact_put, fact_judged, said_to, said_put, at_next_line, next_line, text_judged, line_judged, lines_judged, whole_lines, unfinished, rest_judged, bytes_judged, last_judged, end_at, end_judged, file_judged, files_judged, input_judged}
-use Rattle.text_laws.specs.Lines.{without_return}
+use Rattle.log_sum.specs.LogReading.{LogSeen, ◌>>=◌, fault_at, is_too_long, nothing_seen, fact_put, fact_judged, said_to, said_put, at_next_line, next_line, text_judged, line_judged, lines_judged, rest_judged, bytes_judged, last_judged, end_at, end_judged, file_judged, files_judged, input_judged}
+use Rattle.text_laws.specs.Lines.{without_return, whole_lines, unended}
 use Rattle.log_sum.specs.Representing.{SumProgress, Kept, Represents, FedTo, EndedTo}
 use Rattle.log_sum.specs.Feeding.{AreMarked, FollowsSeen, ReadOn, JudgedTo, PieceTo, EndTo, sum_refusal}
 use Rattle.log_sum.proofs.ReadingLaws.{is_one_line, so_far, so_far_more, so_far_ended, input_by_lines, rest_more, rest_ended, read_on}
@@ -92,9 +92,9 @@ end_marked seen next (Conditioned kind) m h = cc
 file_marked : (seen next : LogSeen) (bytes : List ℕ) → AreMarked seen.entries → file_judged seen bytes ≡ Ok next → AreMarked next.entries
 unfolding file_judged
 file_marked seen next bytes m h =
-    let b = middle_of (lines_judged seen (whole_lines bytes) >>= (λ x. last_judged x (unfinished bytes))) end_judged next h in
-    let a = middle_of (lines_judged seen (whole_lines bytes)) (λ x. last_judged x (unfinished bytes)) b.middle b.is in
-    end_marked b.middle next b.middle.place (last_marked a.middle b.middle (unfinished bytes) (lines_marked seen a.middle (whole_lines bytes) m a.is) a.then) b.then
+    let b = middle_of (lines_judged seen (whole_lines bytes) >>= (λ x. last_judged x (unended bytes))) end_judged next h in
+    let a = middle_of (lines_judged seen (whole_lines bytes)) (λ x. last_judged x (unended bytes)) b.middle b.is in
+    end_marked b.middle next b.middle.place (last_marked a.middle b.middle (unended bytes) (lines_marked seen a.middle (whole_lines bytes) m a.is) a.then) b.then
 
 files_marked : (seen next : LogSeen) (files : List (List ℕ)) → AreMarked seen.entries → files_judged seen files ≡ Ok next → AreMarked next.entries
 files_marked seen next [] m h = let e : seen ≡ next = cc in subst (λ (s : LogSeen). AreMarked s.entries) e m
@@ -106,8 +106,8 @@ input_marked : (next : LogSeen) (files : List (List ℕ)) (bytes : List ℕ) →
 unfolding input_judged bytes_judged
 input_marked next files bytes h =
     let a = middle_of (files_judged nothing_seen files) (λ x. bytes_judged x bytes) next h in
-    let b = middle_of (lines_judged a.middle (whole_lines bytes)) (λ x. rest_judged x (unfinished bytes)) next a.then in
-    subst (λ (s : LogSeen). AreMarked s.entries) (rest_same b.middle next (unfinished bytes) b.then)
+    let b = middle_of (lines_judged a.middle (whole_lines bytes)) (λ x. rest_judged x (unended bytes)) next a.then in
+    subst (λ (s : LogSeen). AreMarked s.entries) (rest_same b.middle next (unended bytes) b.then)
     (lines_marked a.middle b.middle (whole_lines bytes) (files_marked nothing_seen a.middle files (λ name. none_marked) a.is) b.is)
 
 -- what represents an input follows its reading
@@ -116,8 +116,8 @@ represents_follows kept files bytes s = record { reading = s.reading; marked = i
 
 lines_ok : (seen : LogSeen) (files : List (List ℕ)) (bytes : List ℕ) → input_judged files bytes ≡ Ok seen → so_far files bytes ≡ Ok seen
 lines_ok seen files bytes h =
-    let b = middle_of (so_far files bytes) (λ x. rest_judged x (unfinished bytes)) seen (sym (input_by_lines files bytes) ∙ h) in
-    b.is ∙ ap Ok (rest_same b.middle seen (unfinished bytes) b.then)
+    let b = middle_of (so_far files bytes) (λ x. rest_judged x (unended bytes)) seen (sym (input_by_lines files bytes) ∙ h) in
+    b.is ∙ ap Ok (rest_same b.middle seen (unended bytes) b.then)
 
 rest_nothing : (seen : LogSeen) → rest_judged seen [] ≡ Ok seen
 unfolding rest_judged
@@ -137,7 +137,7 @@ line_after : (old : Kept) (files : List (List ℕ)) (bytes prefix : List ℕ) (s
     → so_far files ((bytes ++ prefix) ++ 10 ∷ []) ≡ line_judged s.seen (old.held ++ prefix)
 line_after old files bytes prefix s one =
     so_far_ended files (bytes ++ prefix)
-    ∙ ap (λ (r : Result LogSeen LogError). r >>= (λ next. line_judged next (unfinished (bytes ++ prefix)))) (so_far_more files bytes prefix one ∙ lines_ok s.seen files bytes s.judged)
+    ∙ ap (λ (r : Result LogSeen LogError). r >>= (λ next. line_judged next (unended (bytes ++ prefix)))) (so_far_more files bytes prefix one ∙ lines_ok s.seen files bytes s.judged)
     ∙ ap (line_judged s.seen) (rest_more bytes prefix one ∙ ap (λ t. t ++ prefix) (sym s.held))
 
 -- a line that was read without a fault is represented with the input before it
@@ -148,7 +148,7 @@ line_fed old new files bytes prefix s one h held refusal =
     subst (λ (t : List ℕ). Represents new files t) whole (record {
       seen = h.seen;
       judged = input_by_lines files ((bytes ++ prefix) ++ 10 ∷ [])
-          ∙ ap (λ (r : Result LogSeen LogError). r >>= (λ next. rest_judged next (unfinished ((bytes ++ prefix) ++ 10 ∷ [])))) (line_after old files bytes prefix s one ∙ h.is)
+          ∙ ap (λ (r : Result LogSeen LogError). r >>= (λ next. rest_judged next (unended ((bytes ++ prefix) ++ 10 ∷ [])))) (line_after old files bytes prefix s one ∙ h.is)
           ∙ ap (rest_judged h.seen) (rest_ended (bytes ++ prefix)) ∙ rest_nothing h.seen;
       reading = h.follows.reading;
       held = held ∙ sym (rest_ended (bytes ++ prefix));
@@ -162,14 +162,14 @@ pub line_faulty : (old : Kept) (files : List (List ℕ)) (bytes prefix : List �
 line_faulty old files bytes prefix error s one h =
     let whole : (bytes ++ prefix) ++ 10 ∷ [] ≡ bytes ++ (prefix ++ 10 ∷ []) = append_assoc bytes prefix (10 ∷ []) in
     ap (input_judged files) (sym whole) ∙ input_by_lines files ((bytes ++ prefix) ++ 10 ∷ [])
-    ∙ ap (λ (r : Result LogSeen LogError). r >>= (λ next. rest_judged next (unfinished ((bytes ++ prefix) ++ 10 ∷ [])))) (line_after old files bytes prefix s one ∙ h)
+    ∙ ap (λ (r : Result LogSeen LogError). r >>= (λ next. rest_judged next (unended ((bytes ++ prefix) ++ 10 ∷ [])))) (line_after old files bytes prefix s one ∙ h)
 
 -- a part of a line, after the input that is represented
 part_after : (old : Kept) (files : List (List ℕ)) (bytes part : List ℕ) (s : Represents old files bytes) → is_one_line part ≡ true
     → input_judged files (bytes ++ part) ≡ rest_judged s.seen (old.held ++ part)
 part_after old files bytes part s one =
     input_by_lines files (bytes ++ part)
-    ∙ ap (λ (r : Result LogSeen LogError). r >>= (λ next. rest_judged next (unfinished (bytes ++ part)))) (so_far_more files bytes part one ∙ lines_ok s.seen files bytes s.judged)
+    ∙ ap (λ (r : Result LogSeen LogError). r >>= (λ next. rest_judged next (unended (bytes ++ part)))) (so_far_more files bytes part one ∙ lines_ok s.seen files bytes s.judged)
     ∙ ap (rest_judged s.seen) (rest_more bytes part one ∙ ap (λ t. t ++ part) (sym s.held))
 
 -- the answer to a part of a line that goes on is that of the reading
@@ -187,11 +187,11 @@ part_answered old new files bytes part s one (Err (Wrong kind)) h e = part_after
 part_answered old new files bytes part s one (Err NoMemory) h e = tt
 
 -- the end of a file, after the input that is represented
-file_by_lines : (files : List (List ℕ)) (bytes : List ℕ) → files_judged nothing_seen (files ++ bytes ∷ []) ≡ (so_far files bytes >>= (λ next. last_judged next (unfinished bytes)) >>= end_judged)
+file_by_lines : (files : List (List ℕ)) (bytes : List ℕ) → files_judged nothing_seen (files ++ bytes ∷ []) ≡ (so_far files bytes >>= (λ next. last_judged next (unended bytes)) >>= end_judged)
 unfolding file_judged
 file_by_lines files bytes = read_on nothing_seen files bytes ∙ by_files (files_judged nothing_seen files)
   where
-    by_files : (r : Result LogSeen LogError) → (r >>= (λ next. file_judged next bytes)) ≡ ((r >>= (λ seen. lines_judged seen (whole_lines bytes))) >>= (λ next. last_judged next (unfinished bytes)) >>= end_judged)
+    by_files : (r : Result LogSeen LogError) → (r >>= (λ next. file_judged next bytes)) ≡ ((r >>= (λ seen. lines_judged seen (whole_lines bytes))) >>= (λ next. last_judged next (unended bytes)) >>= end_judged)
     by_files (Ok x) = refl
     by_files (Err error) = refl
 
@@ -199,7 +199,7 @@ file_by_lines files bytes = read_on nothing_seen files bytes ∙ by_files (files
 pub end_after : (old : Kept) (files : List (List ℕ)) (bytes : List ℕ) (s : Represents old files bytes) → files_judged nothing_seen (files ++ bytes ∷ []) ≡ (last_judged s.seen old.held >>= end_judged)
 end_after old files bytes s =
     file_by_lines files bytes
-    ∙ ap (λ (r : Result LogSeen LogError). r >>= (λ next. last_judged next (unfinished bytes)) >>= end_judged) (lines_ok s.seen files bytes s.judged)
+    ∙ ap (λ (r : Result LogSeen LogError). r >>= (λ next. last_judged next (unended bytes)) >>= end_judged) (lines_ok s.seen files bytes s.judged)
     ∙ ap (λ t. last_judged s.seen t >>= end_judged) (sym s.held)
 
 -- an empty last line changes nothing
@@ -223,7 +223,7 @@ last_text seen (byte ∷ line) h f = let e : is_too_long (byte ∷ line) ≡ fal
 -- the answer to the end of a file is that of the reading
 pub end_answered : (new : Kept) (files : List (List ℕ)) (bytes : List ℕ) (seen : LogSeen) → files_judged nothing_seen (files ++ bytes ∷ []) ≡ end_judged seen → new.held ≡ [] → new.refusal ≡ None
     → (r : Result (Unit {0}) Fault) → JudgedTo new.progress (end_judged seen) r → OnOk r (new.in_order ≡ true) → EndTo new files bytes r
-unfolding unfinished
+unfolding unended
 end_answered new files bytes seen e held going (Ok x) h o = record {
   seen = h.seen;
   judged = nothing_more (files ++ bytes ∷ []) ∙ e ∙ h.is;

@@ -12,8 +12,8 @@ use Rattle.log_sum.specs.declared.errors.LogError.{LogError}
 use Rattle.log_sum.specs.Facts.{Fact, Entry, facts_of, tests_of, with_test_name}
 use Rattle.log_sum.specs.Summed.{Summed, summed}
 use Rattle.log_sum.specs.Representing.{sum_table}
-use Rattle.log_sum.specs.LogReading.{LogSeen, ◌>>=◌, lines_judged, line_judged, whole_lines, unfinished, bytes_judged, rest_judged, file_judged, files_judged, input_judged, nothing_seen}
-use Rattle.text_laws.specs.Lines.{is_line_feed, but_last, last_of}
+use Rattle.log_sum.specs.LogReading.{LogSeen, ◌>>=◌, lines_judged, line_judged, bytes_judged, rest_judged, file_judged, files_judged, input_judged, nothing_seen}
+use Rattle.text_laws.specs.Lines.{is_line_feed, but_last, last_of, whole_lines, unended}
 use Rattle.text_laws.proofs.PieceLaws.{first_piece, split_whole, split_both, split_append, but_last_append, last_append, whole_split}
 use Rattle.log_sum.specs.Feeding.{entry_of}
 
@@ -34,13 +34,13 @@ lines_more bytes part h =
     ∙ append-nil (but_last (slice_split is_line_feed bytes))
 
 -- bytes without a line feed are appended to the line that goes on
-pub rest_more : (bytes part : List ℕ) → is_one_line part ≡ true → unfinished (bytes ++ part) ≡ unfinished bytes ++ part
-unfolding unfinished
+pub rest_more : (bytes part : List ℕ) → is_one_line part ≡ true → unended (bytes ++ part) ≡ unended bytes ++ part
+unfolding unended
 rest_more bytes part h = ap last_of (split_more bytes part h) ∙ last_append (but_last (slice_split is_line_feed bytes)) (last_of (slice_split is_line_feed bytes) ++ part) []
 
 -- the lines up to a line feed, and those after it, are the lines of the whole
-pub lines_cut : (bytes rest : List ℕ) → whole_lines (bytes ++ 10 ∷ rest) ≡ (whole_lines bytes ++ unfinished bytes ∷ []) ++ whole_lines rest
-unfolding whole_lines unfinished
+pub lines_cut : (bytes rest : List ℕ) → whole_lines (bytes ++ 10 ∷ rest) ≡ (whole_lines bytes ++ unended bytes ∷ []) ++ whole_lines rest
+unfolding whole_lines unended
 lines_cut bytes rest =
     let after = first_piece is_line_feed rest in
     ap but_last (split_both is_line_feed bytes 10 rest refl)
@@ -49,13 +49,13 @@ lines_cut bytes rest =
     ∙ ap (λ t. t ++ but_last (slice_split is_line_feed rest)) (whole_split is_line_feed bytes)
 
 -- a line feed ends the line that goes on
-pub lines_ended : (bytes : List ℕ) → whole_lines (bytes ++ 10 ∷ []) ≡ whole_lines bytes ++ unfinished bytes ∷ []
+pub lines_ended : (bytes : List ℕ) → whole_lines (bytes ++ 10 ∷ []) ≡ whole_lines bytes ++ unended bytes ∷ []
 unfolding whole_lines
-lines_ended bytes = lines_cut bytes [] ∙ append-nil (whole_lines bytes ++ unfinished bytes ∷ [])
+lines_ended bytes = lines_cut bytes [] ∙ append-nil (whole_lines bytes ++ unended bytes ∷ [])
 
 -- after a line feed nothing goes on
-pub rest_ended : (bytes : List ℕ) → unfinished (bytes ++ 10 ∷ []) ≡ []
-unfolding unfinished
+pub rest_ended : (bytes : List ℕ) → unended (bytes ++ 10 ∷ []) ≡ []
+unfolding unended
 rest_ended bytes = ap last_of (split_both is_line_feed bytes 10 [] refl) ∙ last_append (slice_split is_line_feed bytes) [] []
 
 -- what is judged first, and then what comes after it
@@ -82,7 +82,7 @@ abbrev pub so_far : List (List ℕ) → List ℕ → Result LogSeen LogError
 so_far files bytes = files_judged nothing_seen files >>= λ seen. lines_judged seen (whole_lines bytes)
 
 -- an input is judged by its lines, and then by the line that goes on
-pub input_by_lines : (files : List (List ℕ)) (bytes : List ℕ) → input_judged files bytes ≡ (so_far files bytes >>= (λ next. rest_judged next (unfinished bytes)))
+pub input_by_lines : (files : List (List ℕ)) (bytes : List ℕ) → input_judged files bytes ≡ (so_far files bytes >>= (λ next. rest_judged next (unended bytes)))
 unfolding input_judged bytes_judged
 input_by_lines files bytes = then_on (files_judged nothing_seen files) _ _ _ (λ x. refl)
 
@@ -91,10 +91,10 @@ pub so_far_more : (files : List (List ℕ)) (bytes part : List ℕ) → is_one_l
 so_far_more files bytes part h = ap (λ lines. files_judged nothing_seen files >>= λ seen. lines_judged seen lines) (lines_more bytes part h)
 
 -- at a line feed the line is judged
-pub so_far_ended : (files : List (List ℕ)) (bytes : List ℕ) → so_far files (bytes ++ 10 ∷ []) ≡ (so_far files bytes >>= (λ next. line_judged next (unfinished bytes)))
+pub so_far_ended : (files : List (List ℕ)) (bytes : List ℕ) → so_far files (bytes ++ 10 ∷ []) ≡ (so_far files bytes >>= (λ next. line_judged next (unended bytes)))
 so_far_ended files bytes =
     ap (λ lines. files_judged nothing_seen files >>= λ seen. lines_judged seen lines) (lines_ended bytes)
-    ∙ then_on (files_judged nothing_seen files) _ _ _ (λ x. lines_then x (whole_lines bytes) (unfinished bytes))
+    ∙ then_on (files_judged nothing_seen files) _ _ _ (λ x. lines_then x (whole_lines bytes) (unended bytes))
 
 -- one file more
 pub read_on : (seen : LogSeen) (files : List (List ℕ)) (bytes : List ℕ) → files_judged seen (files ++ bytes ∷ []) ≡ (files_judged seen files >>= (λ next. file_judged next bytes))

@@ -7,7 +7,8 @@ use Rattle.list_laws.proofs.Cases.{by_test}
 use Rattle.log_sum.specs.declared.errors.LogError.{LogError}
 use Rattle.log_sum.specs.declared.errors.LogKind.TheVariants.{LineTooLong}
 use Rattle.text_laws.specs.Cuts.{cut_at, before_cut}
-use Rattle.log_sum.specs.LogReading.{LogSeen, ◌>>=◌, fault_at, is_too_long, nothing_seen, lines_judged, line_judged, whole_lines, unfinished, rest_judged, bytes_judged, last_judged, end_judged, file_judged, files_judged, input_judged}
+use Rattle.text_laws.specs.Lines.{whole_lines, unended}
+use Rattle.log_sum.specs.LogReading.{LogSeen, ◌>>=◌, fault_at, is_too_long, nothing_seen, lines_judged, line_judged, rest_judged, bytes_judged, last_judged, end_judged, file_judged, files_judged, input_judged}
 use Rattle.log_sum.proofs.ReadingLaws.{is_one_line, lines_cut, lines_both, lines_more, rest_more}
 
 -- a text at its first line feed
@@ -47,8 +48,8 @@ cut_none (byte ∷ text) h =
 
 -- bytes with more after them: the line that goes on is longer, or it has ended and others follow
 pub data Goes (bytes rest : List ℕ) : Type 0 where
-  goes_on : whole_lines (bytes ++ rest) ≡ whole_lines bytes → unfinished (bytes ++ rest) ≡ unfinished bytes ++ rest → Goes bytes rest
-  has_ended : (part : List ℕ) (more : List (List ℕ)) → whole_lines (bytes ++ rest) ≡ whole_lines bytes ++ (unfinished bytes ++ part) ∷ more → Goes bytes rest
+  goes_on : whole_lines (bytes ++ rest) ≡ whole_lines bytes → unended (bytes ++ rest) ≡ unended bytes ++ rest → Goes bytes rest
+  has_ended : (part : List ℕ) (more : List (List ℕ)) → whole_lines (bytes ++ rest) ≡ whole_lines bytes ++ (unended bytes ++ part) ∷ more → Goes bytes rest
 
 -- one of the two is so
 pub goes : (bytes rest : List ℕ) → Goes bytes rest
@@ -60,9 +61,9 @@ goes bytes rest = by_cut (cut_at 10 rest) refl
         let cut = cut_parts rest parts e in
         has_ended parts.0 (whole_lines parts.1)
         (ap (λ t. whole_lines (bytes ++ t)) cut.whole ∙ ap whole_lines (sym (append_assoc bytes parts.0 (10 ∷ parts.1))) ∙ lines_cut (bytes ++ parts.0) parts.1
-        ∙ ap (λ t. (t ++ unfinished (bytes ++ parts.0) ∷ []) ++ whole_lines parts.1) (lines_more bytes parts.0 cut.one)
+        ∙ ap (λ t. (t ++ unended (bytes ++ parts.0) ∷ []) ++ whole_lines parts.1) (lines_more bytes parts.0 cut.one)
         ∙ ap (λ t. (whole_lines bytes ++ t ∷ []) ++ whole_lines parts.1) (rest_more bytes parts.0 cut.one)
-        ∙ append_assoc (whole_lines bytes) ((unfinished bytes ++ parts.0) ∷ []) (whole_lines parts.1))
+        ∙ append_assoc (whole_lines bytes) ((unended bytes ++ parts.0) ∷ []) (whole_lines parts.1))
 
 -- a line that is too long stays so
 long_more : (line part : List ℕ) → is_too_long line ≡ true → is_too_long (line ++ part) ≡ true
@@ -106,35 +107,35 @@ lines_fault seen bytes rest error h = by_goes (goes bytes rest)
     by_goes : Goes bytes rest → lines_judged seen (whole_lines (bytes ++ rest)) ≡ Err error
     by_goes (goes_on e f) = ap (lines_judged seen) e ∙ h
     by_goes (has_ended part more e) =
-        ap (lines_judged seen) e ∙ lines_both seen (whole_lines bytes) ((unfinished bytes ++ part) ∷ more) ∙ ap (λ (r : Result LogSeen LogError). r >>= (λ next. lines_judged next ((unfinished bytes ++ part) ∷ more))) h
+        ap (lines_judged seen) e ∙ lines_both seen (whole_lines bytes) ((unended bytes ++ part) ∷ more) ∙ ap (λ (r : Result LogSeen LogError). r >>= (λ next. lines_judged next ((unended bytes ++ part) ∷ more))) h
 
 -- a step answers that a line that goes on is too long
 abbrev pub Refuses : (LogSeen → List ℕ → Result LogSeen LogError) → Type 0
 Refuses next = (seen : LogSeen) (line : List ℕ) → is_too_long line ≡ true → next seen line ≡ fault_at seen.line LineTooLong
 
 long_fault : (next : LogSeen → List ℕ → Result LogSeen LogError) → Refuses next → (seen middle : LogSeen) (bytes rest : List ℕ) (error : LogError)
-    → lines_judged seen (whole_lines bytes) ≡ Ok middle → IsLong middle (unfinished bytes) error
-    → (lines_judged seen (whole_lines (bytes ++ rest)) >>= (λ x. next x (unfinished (bytes ++ rest)))) ≡ Err error
+    → lines_judged seen (whole_lines bytes) ≡ Ok middle → IsLong middle (unended bytes) error
+    → (lines_judged seen (whole_lines (bytes ++ rest)) >>= (λ x. next x (unended (bytes ++ rest)))) ≡ Err error
 long_fault next refuses seen middle bytes rest error h long = by_goes (goes bytes rest)
   where
-    by_goes : Goes bytes rest → (lines_judged seen (whole_lines (bytes ++ rest)) >>= (λ x. next x (unfinished (bytes ++ rest)))) ≡ Err error
+    by_goes : Goes bytes rest → (lines_judged seen (whole_lines (bytes ++ rest)) >>= (λ x. next x (unended (bytes ++ rest)))) ≡ Err error
     by_goes (goes_on e f) =
-        ap (λ (r : Result LogSeen LogError). r >>= (λ x. next x (unfinished (bytes ++ rest)))) (ap (lines_judged seen) e ∙ h)
-        ∙ ap (next middle) f ∙ refuses middle (unfinished bytes ++ rest) (long_more (unfinished bytes) rest long.long) ∙ long.fault
+        ap (λ (r : Result LogSeen LogError). r >>= (λ x. next x (unended (bytes ++ rest)))) (ap (lines_judged seen) e ∙ h)
+        ∙ ap (next middle) f ∙ refuses middle (unended bytes ++ rest) (long_more (unended bytes) rest long.long) ∙ long.fault
     by_goes (has_ended part more e) =
-        ap (λ (r : Result LogSeen LogError). r >>= (λ x. next x (unfinished (bytes ++ rest))))
-        (ap (lines_judged seen) e ∙ lines_both seen (whole_lines bytes) ((unfinished bytes ++ part) ∷ more) ∙ ap (λ (r : Result LogSeen LogError). r >>= (λ x. lines_judged x ((unfinished bytes ++ part) ∷ more))) h
-        ∙ ap (λ (r : Result LogSeen LogError). r >>= (λ x. lines_judged x more)) (long_line middle (unfinished bytes ++ part) (long_more (unfinished bytes) part long.long) ∙ long.fault))
+        ap (λ (r : Result LogSeen LogError). r >>= (λ x. next x (unended (bytes ++ rest))))
+        (ap (lines_judged seen) e ∙ lines_both seen (whole_lines bytes) ((unended bytes ++ part) ∷ more) ∙ ap (λ (r : Result LogSeen LogError). r >>= (λ x. lines_judged x ((unended bytes ++ part) ∷ more))) h
+        ∙ ap (λ (r : Result LogSeen LogError). r >>= (λ x. lines_judged x more)) (long_line middle (unended bytes ++ part) (long_more (unended bytes) part long.long) ∙ long.fault))
 
 any_fault : (next : LogSeen → List ℕ → Result LogSeen LogError) → Refuses next → (seen : LogSeen) (bytes rest : List ℕ) (error : LogError) → bytes_judged seen bytes ≡ Err error
-    → (lines_judged seen (whole_lines (bytes ++ rest)) >>= (λ x. next x (unfinished (bytes ++ rest)))) ≡ Err error
+    → (lines_judged seen (whole_lines (bytes ++ rest)) >>= (λ x. next x (unended (bytes ++ rest)))) ≡ Err error
 unfolding bytes_judged
 any_fault next refuses seen bytes rest error h = by_lines (lines_judged seen (whole_lines bytes)) refl h
   where
-    by_lines : (r : Result LogSeen LogError) → lines_judged seen (whole_lines bytes) ≡ r → (r >>= (λ x. rest_judged x (unfinished bytes))) ≡ Err error
-        → (lines_judged seen (whole_lines (bytes ++ rest)) >>= (λ x. next x (unfinished (bytes ++ rest)))) ≡ Err error
-    by_lines (Ok middle) e h = long_fault next refuses seen middle bytes rest error e (rest_fault middle (unfinished bytes) error h)
-    by_lines (Err other) e h = ap (λ (r : Result LogSeen LogError). r >>= (λ x. next x (unfinished (bytes ++ rest)))) (lines_fault seen bytes rest other e) ∙ h
+    by_lines : (r : Result LogSeen LogError) → lines_judged seen (whole_lines bytes) ≡ r → (r >>= (λ x. rest_judged x (unended bytes))) ≡ Err error
+        → (lines_judged seen (whole_lines (bytes ++ rest)) >>= (λ x. next x (unended (bytes ++ rest)))) ≡ Err error
+    by_lines (Ok middle) e h = long_fault next refuses seen middle bytes rest error e (rest_fault middle (unended bytes) error h)
+    by_lines (Err other) e h = ap (λ (r : Result LogSeen LogError). r >>= (λ x. next x (unended (bytes ++ rest)))) (lines_fault seen bytes rest other e) ∙ h
 
 -- a fault of bytes stays where more bytes follow
 pub bytes_fault : (seen : LogSeen) (bytes rest : List ℕ) (error : LogError) → bytes_judged seen bytes ≡ Err error → bytes_judged seen (bytes ++ rest) ≡ Err error
@@ -181,7 +182,7 @@ file_more files more bytes error h =
 
 -- bytes of a file that is still to come have no fault
 pub nothing_more : (files : List (List ℕ)) → input_judged files [] ≡ files_judged nothing_seen files
-unfolding input_judged bytes_judged whole_lines unfinished rest_judged
+unfolding input_judged bytes_judged whole_lines unended rest_judged
 nothing_more files = by_files (files_judged nothing_seen files)
   where
     by_files : (r : Result LogSeen LogError) → (r >>= (λ seen. bytes_judged seen [])) ≡ r

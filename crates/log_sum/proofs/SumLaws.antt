@@ -24,7 +24,7 @@ use Rattle.log_sum.specs.declared.kinds.Mark.{Mark}
 use Rattle.log_sum.specs.declared.kinds.Mark.TheVariants.{Starred, Plain}
 use Rattle.log_sum.specs.declared.kinds.Kind.{Kind}
 use Rattle.log_sum.specs.declared.kinds.Verdict.{Verdict}
-use Rattle.log_sum.specs.Counts.{last_count}
+use Rattle.diy_io.specs.Count.{last_count}
 use Rattle.log_sum.specs.Facts.{Row, Fact, a_kind, a_row, a_condition, a_hash, kinds, rows, conditions, hashes, first_of, same_kind, same_state_mark, marked_sum, state_sum, states_of, mark_in, verdicts, says_validated, is_other, fault_if, fact_fault}
 use Rattle.log_sum.specs.Summed.{Summed, StateSummed, some_or, state_by, summed}
 use Rattle.log_sum.specs.SummingSteps.{or_this, marked, with_marked, known_state, count_known, with_row, fact_to}

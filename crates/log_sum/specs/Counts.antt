@@ -1,15 +1,12 @@
 -- Counts at the start of a text.
 -- Source: the logs of litmus7; the limit is own.
-use Rattle.std.specs.Prelude.{ℕ, ◌-◌, ◌^◌, nat_le, cond, List, [], ◌∷◌, Result, Ok, Err}
+use Rattle.std.specs.Prelude.{ℕ, nat_le, cond, List, [], ◌∷◌, Result, Ok, Err}
 use Rattle.std.specs.Char.{is_ascii_digit}
 use Rattle.std.specs.Str.Parse.{digits_value}
+use Rattle.diy_io.specs.Count.{last_count}
 use Rattle.log_sum.specs.declared.errors.LogKind.{LogKind}
 use Rattle.log_sum.specs.declared.errors.LogKind.TheVariants.{BadState, BadCount}
 use Rattle.text_laws.specs.LeadingRuns.{leading_run, after_run}
-
--- the greatest count, and the greatest sum of counts
-abbrev pub last_count : ℕ
-last_count = 2 ^ 64 - 1
 
 -- the count that digits write, with the text after them: there is a digit, and the count isn't too large
 abbrev pub count_of_digits : List ℕ → List ℕ → Result (ℕ × List ℕ) LogKind

@@ -15,7 +15,7 @@ use Rattle.log_sum.specs.declared.kinds.Mark.{Mark}
 use Rattle.log_sum.specs.declared.kinds.Mark.TheVariants.{Starred, Plain}
 use Rattle.log_sum.specs.declared.kinds.Verdict.{Verdict}
 use Rattle.log_sum.specs.declared.kinds.Verdict.TheVariants.{Validated, NotValidated}
-use Rattle.log_sum.specs.Counts.{last_count}
+use Rattle.diy_io.specs.Count.{last_count}
 
 -- a state, by its printed form, with its mark, was seen so often
 pub record Row : Type 0 where

@@ -1,14 +1,13 @@
 -- The reading of logs, line by line: the facts of all logs, or the first fault.
 -- Source: own.
-use Rattle.std.specs.Prelude.{ℕ, ◌+◌, ◌==◌, nat_lt, Bool, cond, List, [], ◌∷◌, ◌++◌, length, min, Option, Some, None, Result, Ok, Err}
-use Rattle.std.specs.List.{slice_split}
-use Rattle.text_laws.specs.Lines.{without_return, but_last, last_of}
+use Rattle.std.specs.Prelude.{ℕ, ◌+◌, nat_lt, Bool, cond, List, [], ◌∷◌, ◌++◌, length, min, Option, Some, None, Result, Ok, Err}
+use Rattle.text_laws.specs.Lines.{without_return, whole_lines, unended}
 use Rattle.log_sum.specs.declared.errors.LogKind.{LogKind}
 use Rattle.log_sum.specs.declared.errors.LogKind.TheVariants.{Truncated, LineTooLong}
 use Rattle.log_sum.specs.declared.errors.LogError.{LogError}
 use Rattle.log_sum.specs.declared.kinds.Place.{Place}
 use Rattle.log_sum.specs.declared.kinds.Place.TheVariants.{Outside}
-use Rattle.log_sum.specs.Counts.{last_count}
+use Rattle.diy_io.specs.Count.{last_count}
 use Rattle.log_sum.specs.Facts.{Fact, Entry, facts_of, fact_fault}
 use Rattle.log_sum.specs.LogLines.{Said, log_line_said, place_after, fact_said, test_after}
 
@@ -87,21 +86,13 @@ abbrev pub lines_judged : LogSeen → List (List ℕ) → Result LogSeen LogErro
 lines_judged seen [] = Ok seen
 lines_judged seen (line ∷ rest) = line_judged seen line >>= λ next. lines_judged next rest
 
--- all pieces but the last
-unfoldable pub whole_lines : List ℕ → List (List ℕ)
-whole_lines bytes = but_last (slice_split (λ byte. byte == 10) bytes)
-
--- the text after the last line feed
-unfoldable pub unfinished : List ℕ → List ℕ
-unfinished bytes = last_of (slice_split (λ byte. byte == 10) bytes)
-
 -- a line that goes on: its one fault is that it is too long
 unfoldable pub rest_judged : LogSeen → List ℕ → Result LogSeen LogError
 rest_judged seen line = cond (is_too_long line) (fault_at seen.line LineTooLong) (Ok seen)
 
 -- the bytes of a file so far
 unfoldable pub bytes_judged : LogSeen → List ℕ → Result LogSeen LogError
-bytes_judged seen bytes = lines_judged seen (whole_lines bytes) >>= λ next. rest_judged next (unfinished bytes)
+bytes_judged seen bytes = lines_judged seen (whole_lines bytes) >>= λ next. rest_judged next (unended bytes)
 
 -- a last line that no line feed ends, if it has a byte
 unfoldable pub last_judged : LogSeen → List ℕ → Result LogSeen LogError
@@ -121,7 +112,7 @@ end_judged seen = end_at seen seen.place
 -- a whole file
 unfoldable pub file_judged : LogSeen → List ℕ → Result LogSeen LogError
 file_judged seen bytes =
-    lines_judged seen (whole_lines bytes) >>= (λ next. last_judged next (unfinished bytes)) >>= end_judged
+    lines_judged seen (whole_lines bytes) >>= (λ next. last_judged next (unended bytes)) >>= end_judged
 
 -- whole files, one after another, up to the first fault
 abbrev pub files_judged : LogSeen → List (List ℕ) → Result LogSeen LogError

@@ -9,7 +9,8 @@ use Rattle.log_sum.specs.declared.errors.SumError.TheVariants.{Log, NoMemory}
 use Rattle.log_sum.specs.declared.kinds.Place.{Place}
 use Rattle.log_sum.specs.declared.kinds.Place.TheVariants.{Outside}
 use Rattle.log_sum.specs.Facts.{Entry, facts_of, tests_of}
-use Rattle.log_sum.specs.LogReading.{LogSeen, nothing_seen, ◌>>=◌, input_judged, files_judged, unfinished}
+use Rattle.text_laws.specs.Lines.{unended}
+use Rattle.log_sum.specs.LogReading.{LogSeen, nothing_seen, ◌>>=◌, input_judged, files_judged}
 use Rattle.log_sum.specs.Summed.{Summed, summed}
 use Rattle.log_sum.specs.SumText.{summed_text, sum_text}
 use Rattle.std.specs.List.{flat_map}
@@ -56,7 +57,7 @@ pub record Represents (kept : Kept) (files : List (List ℕ)) (bytes : List ℕ)
   pub seen : LogSeen
   pub judged : input_judged files bytes ≡ Ok seen
   pub reading : IsAtSeen kept.progress seen
-  pub held : kept.held ≡ unfinished bytes
+  pub held : kept.held ≡ unended bytes
   pub going : kept.refusal ≡ None
   pub in_order : bytes ≡ [] → kept.in_order ≡ true
 

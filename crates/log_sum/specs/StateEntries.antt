@@ -9,7 +9,7 @@ use Rattle.std.specs.declared.vec.Vec.{Vec}
 use Rattle.std.specs.declared.alloc.Global.{Global}
 use Rattle.log_sum.specs.declared.kinds.Mark.{Mark}
 use Rattle.log_sum.specs.declared.state_table.StateSum.{StateSum}
-use Rattle.log_sum.specs.Counts.{last_count}
+use Rattle.diy_io.specs.Count.{last_count}
 use Rattle.log_sum.specs.LogStates.{form_read}
 use Rattle.log_sum.specs.StateSpelling.{IsSpelled}
 use Rattle.log_sum.specs.SummingSteps.{known_state}

@@ -12,7 +12,7 @@ use Rattle.log_sum.specs.declared.kinds.Kind.{Kind}
 use Rattle.log_sum.specs.declared.kinds.Mark.{Mark}
 use Rattle.log_sum.specs.declared.kinds.Mark.TheVariants.{Starred, Plain}
 use Rattle.log_sum.specs.declared.kinds.Verdict.{Verdict}
-use Rattle.log_sum.specs.Counts.{last_count}
+use Rattle.diy_io.specs.Count.{last_count}
 use Rattle.log_sum.specs.Facts.{Row, Fact, a_kind, a_row, a_condition, a_hash, same_kind, same_state_mark, says_validated, is_other}
 use Rattle.log_sum.specs.Summed.{Summed, StateSummed}
 

@@ -1,7 +1,7 @@
--- The laws of runs: one list of operations after another, jumps, registers that keep their value,
+-- The laws of runs: jumps, registers that keep their value,
 -- what masks name.
-use Rattle.std.proofs.Common.{take, drop, take-append-drop, true≢false, ℕ, ◌+◌, ◌^◌, ◌<◌, ◌≡◌, ◌==◌, refl, Bool, true, false, cond, ◌||◌, List, [], ◌∷◌, ◌++◌, Option, Some, None, ◌∙◌, sym, ap, eq-eqb, ◌⊎◌, inl, inr, count_by, ◌≤◌, lt_of_lt_of_le, arith}
-use Rattle.std.proofs.lemmas.Bool.{and_parts, and_from}
+use Rattle.std.proofs.Common.{ℕ, ◌+◌, ◌^◌, ◌<◌, ◌≡◌, ◌==◌, refl, Bool, true, false, cond, ◌||◌, List, [], ◌∷◌, ◌++◌, Option, Some, None, ◌∙◌, sym, ap, eq-eqb, ◌⊎◌, inl, inr, count_by, ◌≤◌, lt_of_lt_of_le, arith}
+use Rattle.std.proofs.lemmas.Bool.{and_parts}
 use Rattle.std.proofs.lemmas.Nat.{pow_pos}
 use Rattle.std.proofs.lemmas.List.Sums.{sum_by-append}
 use Rattle.std.proofs.Math.Pow.{pow_mono}
@@ -12,30 +12,14 @@ use Rattle.micro_ops.specs.declared.operation.Micro.TheVariants as ops
 use Rattle.micro_ops.specs.declared.operation.Item.{Item}
 use Rattle.micro_ops.specs.declared.operation.Item.TheVariants as items
 use Rattle.micro_ops.specs.Machine.{Effect, step}
-use Rattle.micro_ops.specs.Running.{Run, Point, At, Past, Wants, Stuck, go, exec, taken, led, landing, wanting, is_load, is_label, occurs, occurs_if, target, lands, labels_of, is_past, writes, is_named_register, is_written, is_read_item, NamesLoads, beginning, starting, add_item, AllNameLoads, RunNamesLoads, OnRun}
-use Rattle.micro_ops.specs.RunThreads.{goes_on, StopsAt}
+use Rattle.micro_ops.specs.Running.{Run, Point, At, Past, Wants, Stuck, go, exec, taken, led, landing, wanting, is_load, is_label, occurs, occurs_if, target, lands, is_past, writes, is_named_register, is_written, is_read_item, NamesLoads, beginning, starting, add_item, AllNameLoads, RunNamesLoads, OnRun}
+use Rattle.micro_ops.specs.RunLaws.{exec_append}
 use Rattle.micro_ops.proofs.Steps.{OnEffect, JumpsTo, step_jumps, Keeps, step_keeps, Named, step_named, step_counts, Counts, reads_in, ItemNames}
-
--- the run of one list and then another is the run of the second from where the first led
-pub exec_append : (code after : List Micro) (p : Point) →
-    exec (code ++ after) p ≡ exec after (exec code p)
-exec_append [] after p = refl
-exec_append (op ∷ code) after p = exec_append code after (go op p)
 
 -- a run that goes on with another list from where it ended
 pub run_then : (code after : List Micro) (p : Point) (r : Run) → exec code p ≡ At r →
     exec (code ++ after) p ≡ exec after (At r)
 run_then code after p r e = exec_append code after p ∙ ap (exec after) e
-
--- a run that is stuck stays stuck
-pub stuck_stays : (code : List Micro) → exec code Stuck ≡ Stuck
-stuck_stays [] = refl
-stuck_stays (op ∷ code) = stuck_stays code
-
--- a run that wants a read still wants it after more operations
-pub wants_stays : (code : List Micro) (r : Run) → exec code (Wants r) ≡ Wants r
-wants_stays [] r = refl
-wants_stays (op ∷ code) r = wants_stays code r
 
 -- a jump goes on after its label
 pub jump_lands : (before after : List Micro) (l : ℕ) (r : Run) → occurs l before ≡ false →
@@ -215,33 +199,6 @@ one_item op r = at_taken (is_load op) r.reads
     at_taken true (n ∷ reads) = at_effect (step op r.state (Some n)) reads
     at_taken true [] = at_wanting (step op r.state (Some 0))
 
--- a label that is in the first part is in the whole
-pub occurs_before : (l : ℕ) (a b : List Micro) → occurs l a ≡ true → occurs l (a ++ b) ≡ true
-occurs_before l [] b h = absurd (true≢false (sym h))
-occurs_before l (op ∷ a) b h = either (is_label l op) h (λ g. occurs_before l a b g)
-  where
-    either : (x : Bool) → (x || occurs l a) ≡ true →
-        (occurs l a ≡ true → occurs l (a ++ b) ≡ true) → (x || occurs l (a ++ b)) ≡ true
-    either true g k = refl
-    either false g k = k g
-
--- where each branch's label comes later in both parts, it does in the whole
-pub lands_append : (a b : List Micro) → lands a ≡ true → lands b ≡ true → lands (a ++ b) ≡ true
-lands_append [] b h k = k
-lands_append (op ∷ a) b h k =
-    let parts = and_parts (occurs_if (target op) a) (lands a) h in
-    and_from _ _ (in_whole (target op) parts.0) (lands_append a b parts.1 k)
-  where
-    in_whole : (j : Option ℕ) → occurs_if j a ≡ true → occurs_if j (a ++ b) ≡ true
-    in_whole None g = refl
-    in_whole (Some l) g = occurs_before l a b g
-
--- the labels of one list and then another
-pub labels_append : (a b : List Micro) → labels_of (a ++ b) ≡ labels_of a ++ labels_of b
-labels_append [] b = refl
-labels_append (ops.Label l ∷ a) b = ap (λ ls. l ∷ ls) (labels_append a b)
-labels_append (_ ∷ a) b = labels_append a b
-
 more_names : (item : Item) (m n : ℕ) → m ≤ n → NamesLoads m item → NamesLoads n item
 more_names (items.Access d a p v i j k) m n h g = (wide g.0, wide g.1, wide g.2)
   where
@@ -344,21 +301,6 @@ loads_within code init reads =
     more_loads (0 + count_by is_load code) (count_by is_load code) (omega arith)
     (exec code (At (beginning init reads)))
     (loads_grow code 0 (At (beginning init reads)) (omega arith))
-
--- a run that doesn't go on still doesn't after more operations
-halted_stays : (code : List Micro) (p : Point) → goes_on p ≡ false → goes_on (exec code p) ≡ false
-halted_stays code (At r) h = absurd (true≢false h)
-halted_stays code (Past l r) h = absurd (true≢false h)
-halted_stays code (Wants r) h = ap goes_on (wants_stays code r)
-halted_stays code Stuck h = ap goes_on (stuck_stays code)
-
--- a run that stops at an operation doesn't go on after it
-pub stops_for_good : (code : List Micro) (start : Point) (i : ℕ) → StopsAt code start i →
-    goes_on (exec code start) ≡ false
-stops_for_good code start i h =
-    ap (λ ops. goes_on (exec ops start)) (sym (take-append-drop (i + 1) code)) ∙
-    ap goes_on (exec_append (take (i + 1) code) (drop (i + 1) code) start) ∙
-    halted_stays (drop (i + 1) code) (exec (take (i + 1) code) start) h.later
 
 -- each mask of a run of a thread names only loads that were stepped
 pub runs_name_loads : (code : List Micro) (init : List (ℕ × Value)) (reads : List ℕ) →

@@ -12,7 +12,8 @@ use Rattle.micro_ops.specs.Machines.{state_of}
 use Rattle.micro_ops.specs.Running.{Run, Point, At, go, exec, is_load, is_past, lands, landing, beginning, outcome, runs, ReadsLeft, OnRun}
 use Rattle.micro_ops.specs.RunThreads.{EndedRun, goes_on, StopsAt, CausedBy}
 use Rattle.micro_ops.specs.Runners.{RunProgress, point_of, error_of}
-use Rattle.micro_ops.proofs.Laws.{exec_append, never_past, loads_within}
+use Rattle.micro_ops.specs.RunLaws.{exec_append}
+use Rattle.micro_ops.proofs.Laws.{never_past, loads_within}
 
 -- the run of one operation more is that operation from where the others led
 pub exec_more : (code : List Micro) (i : ℕ) (d : Micro) (p q : Point) → i < length code →

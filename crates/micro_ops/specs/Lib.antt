@@ -4,3 +4,4 @@ pub mod Running
 pub mod RunThreads
 pub mod Runners
 pub mod Renumbering
+pub mod RunLaws

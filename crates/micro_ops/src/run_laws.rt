@@ -8,7 +8,7 @@ ghost use Rattle.micro_ops.specs.RunThreads.{StopsAt, goes_on};
 
 /// A run of one list of operations and then another is a run of the second from where the first
 /// led.
-#[tactic(auto, using(crate::proofs::Laws::exec_append))]
+#[tactic(auto, using(crate::specs::RunLaws::exec_append))]
 pub fn runs_append()
     ensures { (code after : List Micro) → (p : Point) → exec (code ++ after) p ≡ exec after (exec code p) }
 {}
@@ -44,7 +44,7 @@ pub fn masks_name_stepped_loads()
 {}
 
 /// A run that stops at an operation doesn't go on after it.
-#[tactic(auto, using(crate::proofs::Laws::stops_for_good))]
+#[tactic(auto, using(crate::specs::RunLaws::stops_for_good))]
 pub fn stopped_runs_stay_stopped()
     ensures { (code : List Micro) → (start : Point) → (op : ℕ) → StopsAt code start op → goes_on (exec code start) ≡ false }
 {}

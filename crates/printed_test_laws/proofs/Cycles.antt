@@ -1,13 +1,9 @@
 -- The printed text of the test of a cycle, under the cycle's name, is short.
-use Rattle.std.proofs.Common.{◌≡◌, ◌≤◌, ℕ, Bool, true, false, List, length, None, refl, arith}
-use Rattle.std.specs.Char.{is_ascii_alphanumeric}
-use Rattle.std.specs.Prelude.{◌==◌, ◌||◌}
+use Rattle.std.proofs.Common.{◌≡◌, ◌≤◌, List, length, None, arith}
 use Rattle.std.proofs.lemmas.Bool.Decides.{nat_tests}
-use Rattle.list_laws.proofs.Elements.{list_all-weaker}
 use Rattle.relax_edges.specs.declared.kinds.ObsMode.{ObsMode}
 use Rattle.relax_edges.specs.declared.edge.Edge.{Edge}
 use Rattle.cycle_laws.specs.Composable.{IsCycle}
-use Rattle.cycle_names.specs.CycleNames as cycles
 use Rattle.cycle_names.specs.CycleNames.{name_of}
 use Rattle.cycle_names.proofs.NameLaws.{names_of_cycles}
 use Rattle.resolution_laws.specs.Resolution.{turned}
@@ -16,29 +12,22 @@ use Rattle.arch_trait.specs.Laws.{IsArch}
 use Rattle.arch_trait.specs.Threads.{Puts}
 use Rattle.arch_trait.specs.Writing.{Writing, WritesBack}
 use Rattle.litmus_text.specs.declared.limits.TheConstants.{MAX_TEXT}
-use Rattle.litmus_text.specs.Printable as printable
 use Rattle.litmus_text.specs.Printable.{IsTestName}
 use Rattle.test_maker.specs.CycleText.{cycle_text}
 use Rattle.test_maker.specs.Refusals.{refusal_of}
-use Rattle.test_maker.proofs.HavingTests.{accepted_has_test}
+use Rattle.test_laws.specs.TestHeadline.{HasTest}
+use Rattle.test_maker.proofs.HavingTests as having
 use Rattle.printed_test_laws.proofs.Readable.{readable}
-
--- a byte of a cycle's name is one of a test's
-pub name_byte : (b : ℕ) → cycles.is_name_byte b ≡ true → printable.is_name_byte b ≡ true
-name_byte b h = regrouped (is_ascii_alphanumeric b) (b == 43) (b == 45) (b == 46) (b == 95) h
-  where
-    regrouped : (p q r s t : Bool) → (p || q || r || s || t) ≡ true → (p || (q || (r || (s || t)))) ≡ true
-    regrouped true q r s t h = refl
-    regrouped false true r s t h = refl
-    regrouped false false true s t h = refl
-    regrouped false false false true t h = refl
-    regrouped false false false false t h = h
 
 -- the name of a cycle is one of a test
 pub cycle_named : (cycle : List Edge) → IsCycle cycle → IsTestName (name_of cycle)
 cycle_named cycle whole =
     let name = names_of_cycles cycle whole in
-    record { some = grind (arith, nat_tests, name.some); short = grind (arith, nat_tests, name.short); bytes = list_all-weaker cycles.is_name_byte printable.is_name_byte name_byte (name_of cycle) name.bytes }
+    record { some = grind (arith, nat_tests, name.some); short = grind (arith, nat_tests, name.short); bytes = name.bytes }
+
+-- a cycle that isn't refused has a test, once it is turned
+pub accepted_has_test : (a : Puts) (cycle : List Edge) (mode : ObsMode) → IsCycle cycle → refusal_of a cycle mode ≡ None → HasTest a (turned cycle) mode
+accepted_has_test a cycle mode whole accepted = having.accepted_has_test a cycle mode whole accepted
 
 -- the text of the test of a cycle that isn't refused is short
 pub cycle_text_short : (a : Puts) (w : Writing) (mode : ObsMode) (cycle : List Edge) → IsArch a → WritesBack a w → WritesCells a w → MakesOneAccess a → IsCycle cycle → refusal_of a cycle mode ≡ None

@@ -11,7 +11,8 @@ use Rattle.relax_edges.specs.declared.edge.Edge.{Edge}
 use Rattle.relax_edges.specs.declared.relax_error.RelaxKind.{RelaxKind}
 use Rattle.relax_edges.specs.declared.relax_error.RelaxKind.TheVariants.{TooManyRelaxes}
 use Rattle.relax_edges.specs.EdgeTable.{joins_to}
-use Rattle.relax_edges.specs.Relaxations.{joins_on, is_path, path_choices, is_same, keep_path, keep_all, at_most_64}
+use Rattle.relax_edges.specs.JoinedEdges.{is_joined}
+use Rattle.relax_edges.specs.Relaxations.{path_choices, is_same, keep_path, keep_all, at_most_64}
 use Rattle.relax_edges.specs.RelaxSearch.{paths_after}
 
 abbrev Answer : Type 0
@@ -31,54 +32,47 @@ paths_after-cons prefix [] lists = refl
 paths_after-cons prefix (edge ∷ edges) lists =
     rw (
       map-append (λ path. prefix ++ path) (map (λ path. edge ∷ path) (path_choices lists)) (path_choices (edges ∷ lists)),
-      filter-append is_path (map (λ path. prefix ++ path) (map (λ path. edge ∷ path) (path_choices lists))) (map (λ path. prefix ++ path) (path_choices (edges ∷ lists))),
+      filter-append is_joined (map (λ path. prefix ++ path) (map (λ path. edge ∷ path) (path_choices lists))) (map (λ path. prefix ++ path) (path_choices (edges ∷ lists))),
       moved prefix edge (path_choices lists),
     )
-    (ap (λ paths. filter is_path (map (λ path. (prefix ++ edge ∷ []) ++ path) (path_choices lists)) ++ paths) (paths_after-cons prefix edges lists))
+    (ap (λ paths. filter is_joined (map (λ path. (prefix ++ edge ∷ []) ++ path) (path_choices lists)) ++ paths) (paths_after-cons prefix edges lists))
 
 -- the paths that begin with no edge are all paths
-pub paths_after-nil : (lists : List (List Edge)) → paths_after [] lists ≡ filter is_path (path_choices lists)
+pub paths_after-nil : (lists : List (List Edge)) → paths_after [] lists ≡ filter is_joined (path_choices lists)
 unfolding paths_after
-paths_after-nil lists = ap (filter is_path) (unmoved (path_choices lists))
+paths_after-nil lists = ap (filter is_joined) (unmoved (path_choices lists))
   where
     unmoved : (paths : List (List Edge)) → map (λ path. [] ++ path) paths ≡ paths
     unmoved [] = refl
     unmoved (path ∷ paths) = ap (λ ps. path ∷ ps) (unmoved paths)
 
 -- a path with no list to go on with is the only one
-pub paths_after-end : (prefix : List Edge) → is_path prefix ≡ true → paths_after prefix [] ≡ prefix ∷ []
+pub paths_after-end : (prefix : List Edge) → is_joined prefix ≡ true → paths_after prefix [] ≡ prefix ∷ []
 unfolding paths_after
 paths_after-end prefix path = rw (append-nil prefix, path) refl
 
 -- edges that begin with no path are no path
-joins_on-false : (edge : Edge) (remainder more : List Edge) → joins_on edge remainder ≡ false → joins_on edge (remainder ++ more) ≡ false
-joins_on-false edge [] more f = cc
-joins_on-false edge (next ∷ remainder) more f =
-    by_test (joins_to edge next) (λ t. rw t (joins_on-false next remainder more (rw t at f))) (λ n. rw n refl)
+is_joined-false : (prefix more : List Edge) → is_joined prefix ≡ false → is_joined (prefix ++ more) ≡ false
+is_joined-false [] more f = cc
+is_joined-false (edge ∷ []) more f = cc
+is_joined-false (edge ∷ next ∷ remainder) more f =
+    by_test (joins_to edge next) (λ t. rw t (is_joined-false (next ∷ remainder) more (rw t at f))) (λ n. rw n refl)
 
 -- no path begins with edges that are no path
-pub paths_after-none : (prefix : List Edge) (lists : List (List Edge)) → is_path prefix ≡ false → paths_after prefix lists ≡ []
+pub paths_after-none : (prefix : List Edge) (lists : List (List Edge)) → is_joined prefix ≡ false → paths_after prefix lists ≡ []
 unfolding paths_after
 paths_after-none prefix lists none = all_fail (path_choices lists)
   where
-    fails : (prefix path : List Edge) → is_path prefix ≡ false → is_path (prefix ++ path) ≡ false
-    fails [] path f = cc
-    fails (edge ∷ remainder) path f = joins_on-false edge remainder path f
-
-    all_fail : (paths : List (List Edge)) → filter is_path (map (λ path. prefix ++ path) paths) ≡ []
+    all_fail : (paths : List (List Edge)) → filter is_joined (map (λ path. prefix ++ path) paths) ≡ []
     all_fail [] = refl
-    all_fail (path ∷ paths) = rw (fails prefix path none) (all_fail paths)
-
-joins_on-end : (first : Edge) (prefix : List Edge) (last edge : Edge) → joins_on first (prefix ++ last ∷ []) ≡ true
-    → joins_on first ((prefix ++ last ∷ []) ++ edge ∷ []) ≡ joins_to last edge
-joins_on-end first [] last edge path = by_test (joins_to first last) (λ t. rw t (and-true (joins_to last edge))) (λ f. absurd (false≢true (rw f at path)))
-joins_on-end first (next ∷ prefix) last edge path =
-    by_test (joins_to first next) (λ t. rw t (joins_on-end next prefix last edge (rw t at path))) (λ f. absurd (false≢true (rw f at path)))
+    all_fail (path ∷ paths) = rw (is_joined-false prefix path none) (all_fail paths)
 
 -- a path goes on with an edge that its last edge joins
-pub is_path-end : (prefix : List Edge) (last edge : Edge) → is_path (prefix ++ last ∷ []) ≡ true → is_path ((prefix ++ last ∷ []) ++ edge ∷ []) ≡ joins_to last edge
-is_path-end [] last edge path = and-true (joins_to last edge)
-is_path-end (first ∷ prefix) last edge path = joins_on-end first prefix last edge path
+pub is_joined-end : (prefix : List Edge) (last edge : Edge) → is_joined (prefix ++ last ∷ []) ≡ true → is_joined ((prefix ++ last ∷ []) ++ edge ∷ []) ≡ joins_to last edge
+is_joined-end [] last edge path = and-true (joins_to last edge)
+is_joined-end (first ∷ []) last edge path = by_test (joins_to first last) (λ t. rw t (and-true (joins_to last edge))) (λ f. absurd (false≢true (rw f at path)))
+is_joined-end (first ∷ next ∷ prefix) last edge path =
+    by_test (joins_to first next) (λ t. rw t (is_joined-end (next ∷ prefix) last edge (rw t at path))) (λ f. absurd (false≢true (rw f at path)))
 
 -- keeping one after another
 pub keep_all-append : (kept paths more : List (List Edge)) → keep_all kept (paths ++ more) ≡ keep_all (keep_all kept paths) more

@@ -9,9 +9,10 @@ use Rattle.relax_edges.specs.declared.edge.Edge.{Edge}
 use Rattle.relax_edges.specs.declared.relax_error.RelaxKind.{RelaxKind}
 use Rattle.relax_edges.specs.EdgeTable.{joins_to}
 use Rattle.relax_edges.specs.RelaxText.{is_empty}
-use Rattle.relax_edges.specs.Relaxations.{word_edges, is_path, keep_path, keep_all, at_most_64}
+use Rattle.relax_edges.specs.JoinedEdges.{is_joined}
+use Rattle.relax_edges.specs.Relaxations.{word_edges, keep_path, keep_all, at_most_64}
 use Rattle.relax_edges.specs.RelaxSearch.{paths_after, paths_by, KeepsPaths}
-use Rattle.relax_edges.proofs.Paths.{is_path-end, paths_after-cons, paths_after-end, paths_after-none, keep_all-append, at_most_64-ok, at_most_64-is, at_most_64-few, at_most_64-err}
+use Rattle.relax_edges.proofs.Paths.{is_joined-end, paths_after-cons, paths_after-end, paths_after-none, keep_all-append, at_most_64-ok, at_most_64-is, at_most_64-few, at_most_64-err}
 
 -- the paths that begin with some edges, by the edges of the first list
 pub paths_after_by : (prefix edges : List Edge) (lists : List (List Edge)) → paths_after prefix (edges ∷ lists) ≡ paths_by prefix lists edges
@@ -95,17 +96,17 @@ keeps_last old new some prefix lists edges n all kept =
     rw (paths_after_by prefix edges lists) (subst (λ es. KeepsPaths old (paths_by prefix lists es) new some) whole kept)
 
 -- a path that goes on no further is kept
-pub keeps_end : (old new : List (List Edge)) (prefix : List Edge) → is_path prefix ≡ true → at_most_64 (keep_all old (prefix ∷ [])) ≡ Ok new
+pub keeps_end : (old new : List (List Edge)) (prefix : List Edge) → is_joined prefix ≡ true → at_most_64 (keep_all old (prefix ∷ [])) ≡ Ok new
     → KeepsPaths old (paths_after prefix []) new true
 keeps_end old new prefix path kept = rw (paths_after-end prefix path) (record { kept = kept; found = refl })
 
 -- where there is no room for it, a path that goes on no further is refused
-pub refused_end : (old : List (List Edge)) (kind : RelaxKind) (prefix : List Edge) → is_path prefix ≡ true → at_most_64 (keep_all old (prefix ∷ [])) ≡ Err kind
+pub refused_end : (old : List (List Edge)) (kind : RelaxKind) (prefix : List Edge) → is_joined prefix ≡ true → at_most_64 (keep_all old (prefix ∷ [])) ≡ Err kind
     → at_most_64 (keep_all old (paths_after prefix [])) ≡ Err kind
 refused_end old kind prefix path err = rw (paths_after-end prefix path) err
 
 -- from edges that don't join no path is kept
-pub keeps_no_path : (kept : List (List Edge)) (prefix : List Edge) (lists : List (List Edge)) → length kept ≤ 64 → is_path prefix ≡ false
+pub keeps_no_path : (kept : List (List Edge)) (prefix : List Edge) (lists : List (List Edge)) → length kept ≤ 64 → is_joined prefix ≡ false
     → KeepsPaths kept (paths_after prefix lists) kept false
 keeps_no_path kept prefix lists few none = rw (paths_after-none prefix lists none) (keeps_none kept few)
 
@@ -114,24 +115,24 @@ pub kept_few : (old paths new : List (List Edge)) (some : Bool) → KeepsPaths o
 kept_few old paths new some a = at_most_64-few (keep_all old paths) new a.kept
 
 -- a path goes on with an edge, by its last edge
-pub path_extended : (prefix : List Edge) (edge d : Edge) → 1 ≤ length prefix → is_path prefix ≡ true
-    → is_path (prefix ++ edge ∷ []) ≡ joins_to (get_or prefix (length prefix - 1) d) edge
+pub path_extended : (prefix : List Edge) (edge d : Edge) → 1 ≤ length prefix → is_joined prefix ≡ true
+    → is_joined (prefix ++ edge ∷ []) ≡ joins_to (get_or prefix (length prefix - 1) d) edge
 path_extended prefix edge d some path =
     let n : ℕ = length prefix - 1 in
     let more : suc n ≡ length prefix = omega arith in
     let within : n < length prefix = omega arith in
     let parts : prefix ≡ take n prefix ++ get_or prefix n d ∷ [] = sym (take-length prefix) ∙ ap (λ k. take k prefix) (sym more) ∙ take-suc prefix n d within in
-    subst (λ f. is_path (f ++ edge ∷ []) ≡ joins_to (get_or prefix n d) edge) (sym parts)
-    (is_path-end (take n prefix) (get_or prefix n d) edge (subst (λ f. is_path f ≡ true) parts path))
+    subst (λ f. is_joined (f ++ edge ∷ []) ≡ joins_to (get_or prefix n d) edge) (sym parts)
+    (is_joined-end (take n prefix) (get_or prefix n d) edge (subst (λ f. is_joined f ≡ true) parts path))
 
 -- the same laws, by the words of a text
 -- where no word is left, the path is kept
-pub keeps_no_word : (old new : List (List Edge)) (prefix shown : List Edge) (words : List (List ℕ)) → words ≡ [] → shown ≡ prefix → is_path prefix ≡ true
+pub keeps_no_word : (old new : List (List Edge)) (prefix shown : List Edge) (words : List (List ℕ)) → words ≡ [] → shown ≡ prefix → is_joined prefix ≡ true
     → at_most_64 (keep_path old shown) ≡ Ok new → KeepsPaths old (paths_after prefix (map word_edges words)) new true
 keeps_no_word old new prefix shown words none same path kept = rw none (keeps_end old new prefix path (rw (← same) kept))
 
 -- where no word is left and there is no room for the path, it is refused
-pub refused_no_word : (old : List (List Edge)) (kind : RelaxKind) (prefix shown : List Edge) (words : List (List ℕ)) → words ≡ [] → shown ≡ prefix → is_path prefix ≡ true
+pub refused_no_word : (old : List (List Edge)) (kind : RelaxKind) (prefix shown : List Edge) (words : List (List ℕ)) → words ≡ [] → shown ≡ prefix → is_joined prefix ≡ true
     → at_most_64 (keep_path old shown) ≡ Err kind → at_most_64 (keep_all old (paths_after prefix (map word_edges words))) ≡ Err kind
 refused_no_word old kind prefix shown words none same path err = rw none (refused_end old kind prefix path (rw (← same) err))
 

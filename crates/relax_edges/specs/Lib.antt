@@ -1,5 +1,6 @@
 pub mod Marks
 pub mod EdgeTable
+pub mod JoinedEdges
 pub mod Order
 pub mod WordParts
 pub mod AllEdges

@@ -3,11 +3,12 @@ use Rattle.std.specs.Prelude.{◌≡◌, Bool, not, Result, Ok, Err, MatchResult
 use Rattle.std.specs.List.{flat_map}
 use Rattle.relax_edges.specs.declared.edge.Edge.{Edge}
 use Rattle.relax_edges.specs.RelaxText.{is_empty}
-use Rattle.relax_edges.specs.Relaxations.{path_choices, is_path, keep_all, at_most_64}
+use Rattle.relax_edges.specs.JoinedEdges.{is_joined}
+use Rattle.relax_edges.specs.Relaxations.{path_choices, keep_all, at_most_64}
 
 -- the paths that begin with some edges and go on with one edge of each list
 unfoldable pub paths_after : List Edge → List (List Edge) → List (List Edge)
-paths_after prefix lists = filter is_path (map (λ path. prefix ++ path) (path_choices lists))
+paths_after prefix lists = filter is_joined (map (λ path. prefix ++ path) (path_choices lists))
 
 -- the paths that begin with some edges, then one of a few edges, and go on with one edge of each list
 unfoldable pub paths_by : List Edge → List (List Edge) → List Edge → List (List Edge)

@@ -7,7 +7,7 @@ use Rattle.relax_edges.specs.declared.edge.Edge.{Edge}
 use Rattle.relax_edges.specs.declared.relax_error.RelaxKind.{RelaxKind}
 use Rattle.relax_edges.specs.declared.relax_error.RelaxKind.TheVariants.{UnknownEdge, BadBracket, RelaxTooLong, DoesNotJoin, TooManyRelaxes}
 use Rattle.relax_edges.specs.declared.relax_error.RelaxError.{RelaxError}
-use Rattle.relax_edges.specs.EdgeTable.{joins_to}
+use Rattle.relax_edges.specs.JoinedEdges.{is_joined}
 use Rattle.relax_edges.specs.Order.{rank_of}
 use Rattle.relax_edges.specs.Spelling.{edge_of}
 use Rattle.relax_edges.specs.RelaxText.{Item, is_empty, items_of}
@@ -25,16 +25,6 @@ expansions (byte ∷ remainder) = flat_map (λ choice. map (λ word. choice ∷ 
 unfoldable pub word_edges : List ℕ → List Edge
 word_edges word = filter_map edge_of (expansions word)
 
--- each edge joins the next, from one on
-abbrev pub joins_on : Edge → List Edge → Bool
-joins_on edge [] = true
-joins_on edge (next ∷ remainder) = joins_to edge next && joins_on next remainder
-
--- each edge joins the next
-abbrev pub is_path : List Edge → Bool
-is_path [] = true
-is_path (edge ∷ remainder) = joins_on edge remainder
-
 -- all choices of one from each list, the last turning fastest
 abbrev pub path_choices : List (List Edge) → List (List Edge)
 path_choices [] = [] ∷ []
@@ -42,7 +32,7 @@ path_choices (edges ∷ remainder) = flat_map (λ edge. map (λ path. edge ∷ p
 
 -- the choices of some words in which neighbours join
 abbrev pub paths_of : List (List ℕ) → List (List Edge)
-paths_of words = filter is_path (path_choices (map word_edges words))
+paths_of words = filter is_joined (path_choices (map word_edges words))
 
 -- whether two lists of edges are the same
 abbrev pub is_same : List Edge → List Edge → Bool
@@ -52,7 +42,7 @@ is_same = pointwise (λ a b. rank_of a == rank_of b)
 pub record IsRelax (edges : List Edge) : Type 0 where
   pub some : 0 < length edges
   pub few : length edges ≤ 8
-  pub joined : is_path edges ≡ true
+  pub joined : is_joined edges ≡ true
 
 -- no two lists of edges are the same
 abbrev pub are_distinct_paths : List (List Edge) → Bool

@@ -1,6 +1,7 @@
 ghost use Rattle.std.specs.Prelude.{◌≡◌, ◌<◌, ◌≤◌, [], true, length, slice_get, Some, Ok, Err, MatchResult, ◌==◌};
 ghost use Rattle.std.specs.List.{list_any};
-ghost use Rattle.relax_edges.specs.Relaxations.{IsRelax, IsRelaxes, is_path, are_distinct_paths, is_same, keep_path, at_most_64};
+ghost use Rattle.relax_edges.specs.JoinedEdges.{is_joined};
+ghost use Rattle.relax_edges.specs.Relaxations.{IsRelax, IsRelaxes, are_distinct_paths, is_same, keep_path, at_most_64};
 
 use crate::edge::Edge;
 use crate::relax_error::RelaxKind;
@@ -39,7 +40,7 @@ impl Relax {
         ensures value { result.now ≡ self.now }
         ensures some { 0 < length result.now }
         ensures few { length result.now ≤ 8 }
-        ensures joined { is_path result.now ≡ true }
+        ensures joined { is_joined result.now ≡ true }
     {
         self.edges.as_slice()
     }

@@ -1,7 +1,8 @@
 ghost use Rattle.std.specs.Prelude.{◌≡◌, ◌<◌, ◌≤◌, ◌+◌, ◌∷◌, [], ◌++◌, true, length, map, Ok, Err, OnOk, MatchResult};
 ghost use Rattle.arrayvec.specs.ArrayVec.{array_vec_len};
 ghost use Rattle.relax_edges.specs.RelaxText.{words_of};
-ghost use Rattle.relax_edges.specs.Relaxations.{word_edges, is_path, keep_all, at_most_64};
+ghost use Rattle.relax_edges.specs.JoinedEdges.{is_joined};
+ghost use Rattle.relax_edges.specs.Relaxations.{word_edges, keep_all, at_most_64};
 ghost use Rattle.relax_edges.specs.RelaxSearch.{paths_after, KeepsPaths};
 
 use crate::edge::Edge;
@@ -11,8 +12,8 @@ use crate::relax_words::{next_word, word_edges};
 use arrayvec::ArrayVec;
 
 fn extends(prefix: &[Edge], edge: Edge) -> bool
-    requires { is_path prefix.now ≡ true }
-    ensures { result ≡ is_path (prefix.now ++ edge ∷ []) }
+    requires { is_joined prefix.now ≡ true }
+    ensures { result ≡ is_joined (prefix.now ++ edge ∷ []) }
 {
     match prefix {
         [.., last] => last.joins(edge),
@@ -28,7 +29,7 @@ pub(crate) fn keep_paths(
     chosen: &mut ArrayVec<Edge, 8>,
     kept: &mut Relaxes,
 ) -> Result<bool, RelaxKind>
-    requires path { is_path chosen.old.items ≡ true }
+    requires path { is_joined chosen.old.items ≡ true }
     requires some { 0 < array_vec_len chosen.old + length (words_of words.now) }
     requires short { array_vec_len chosen.old + length (words_of words.now) ≤ 8 }
     requires few { length kept.old ≤ 64 }
@@ -57,7 +58,7 @@ fn keep_after(
     chosen: &mut ArrayVec<Edge, 8>,
     kept: &mut Relaxes,
 ) -> Result<bool, RelaxKind>
-    requires path { is_path chosen.old.items ≡ true }
+    requires path { is_joined chosen.old.items ≡ true }
     requires short { array_vec_len chosen.old + length (words_of words.now) < 8 }
     requires few { length kept.old ≤ 64 }
     ensures chosen { OnOk result (chosen.new.items ≡ chosen.old.items) }

@@ -4,7 +4,8 @@ use Rattle.std.proofs.lemmas.List.{get_or_append_left, get_or_push}
 use Rattle.std.proofs.lemmas.Bool.{eq-eqb, ne_eqb, and_parts, cond-true, cond-false}
 use Rattle.relax_edges.specs.declared.edge.Edge.{Edge}
 use Rattle.relax_edges.specs.EdgeTable.{source_of, target_of, source_mark, target_mark, joins_to, is_external, is_diff}
-use Rattle.cycle_laws.specs.Composable.{is_joined, IsCycle}
+use Rattle.relax_edges.specs.JoinedEdges.{is_joined}
+use Rattle.cycle_laws.specs.Composable.{IsCycle}
 use Rattle.cycle_laws.proofs.Joining.{joined_dirs, joined_marks}
 use Rattle.list_laws.proofs.Cases.{by_same}
 use Rattle.resolution_laws.specs.Resolution.{external_count, edge_at, thread_of, slot_of, location_of, event_after, event_before, IsResolved}

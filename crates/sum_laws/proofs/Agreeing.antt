@@ -14,7 +14,7 @@ use Rattle.list_laws.proofs.Cases.{by_test}
 use Rattle.list_laws.proofs.Elements.{all_append, all_parts}
 use Rattle.log_sum.specs.declared.errors.LogKind.{LogKind}
 use Rattle.log_sum.specs.declared.errors.LogKind.TheVariants.{HashDiffers, ConditionDiffers, SumTooLarge, KindDiffers}
-use Rattle.log_sum.specs.Counts.{last_count}
+use Rattle.diy_io.specs.Count.{last_count}
 use Rattle.log_sum.specs.Facts.{Row, Fact, Entry, a_kind, a_row, a_condition, a_hash, kinds, rows, conditions, hashes, first_of, same_kind, same_state_mark, marked_sum, state_sum, mark_in, is_other, fault_if, fact_fault, facts_of}
 use Rattle.log_sum.specs.Summed.{some_or}
 use Rattle.sum_laws.proofs.Cases.{Kind, Mark, Verdict, allowed, plain, kind_cases, mark_cases}

@@ -7,11 +7,11 @@ use Rattle.std.proofs.lemmas.Bool.Decides.{nat_tests}
 use Rattle.std.proofs.lemmas.Bool.{and_parts, not-true}
 use Rattle.list_laws.proofs.Elements.{list_all-weaker}
 use Rattle.text_laws.specs.Words.{is_nil}
-use Rattle.log_sum.specs.Counts.{last_count}
+use Rattle.diy_io.specs.Count.{last_count}
 use Rattle.log_sum.specs.Facts.{Fact, Entry, facts_of, fact_fault}
 use Rattle.log_sum.specs.LogLines.{Said, log_line_said, place_after, fact_said, test_after}
-use Rattle.log_sum.specs.LogReading.{LogSeen, ◌>>=◌, is_too_long, next_line, fact_put, at_next_line, text_judged, line_judged, lines_judged, whole_lines, unfinished}
-use Rattle.text_laws.specs.Lines.{is_line_feed, without_return, but_last, last_of}
+use Rattle.log_sum.specs.LogReading.{LogSeen, ◌>>=◌, is_too_long, next_line, fact_put, at_next_line, text_judged, line_judged, lines_judged}
+use Rattle.text_laws.specs.Lines.{is_line_feed, without_return, but_last, last_of, whole_lines, unended}
 use Rattle.sum_laws.proofs.Cases.{Place}
 use Rattle.sum_laws.proofs.Texts.{all_both, no_feed}
 use Rattle.text_laws.proofs.PieceLaws.{first_piece, split_off}
@@ -54,7 +54,7 @@ fact_goes before test place line (Some fact) c = rw c.0 refl
 -- reading goes on from one place to another
 pub record Goes (s t : LogSeen) (bytes rest : List ℕ) : Type 0 where
   pub lines : lines_judged s (whole_lines bytes) ≡ lines_judged t (whole_lines rest)
-  pub last : unfinished bytes ≡ unfinished rest
+  pub last : unended bytes ≡ unended rest
   pub fits : list_all (λ line. not (is_too_long line)) (whole_lines rest) ≡ true
 
 -- a reading that goes on in two steps goes on
@@ -69,8 +69,8 @@ line_off text rest h =
     ap but_last (split_off is_line_feed text 10 rest refl h) ∙ rw first.is refl
 
 -- a line at the start changes nothing in the last line
-pub last_off : (text rest : List ℕ) → list_all no_feed text ≡ true → unfinished (text ++ 10 ∷ rest) ≡ unfinished rest
-unfolding unfinished
+pub last_off : (text rest : List ℕ) → list_all no_feed text ≡ true → unended (text ++ 10 ∷ rest) ≡ unended rest
+unfolding unended
 last_off text rest h =
     let first = first_piece is_line_feed rest in
     ap last_of (split_off is_line_feed text 10 rest refl h) ∙ rw first.is refl

@@ -15,12 +15,13 @@ use Rattle.log_sum.specs.declared.errors.LogError.{LogError}
 use Rattle.text_laws.specs.LeadingRuns.{leading_run, after_run}
 use Rattle.text_laws.specs.Blanks.{before_blanks}
 use Rattle.text_laws.specs.Words.{words}
-use Rattle.log_sum.specs.Counts.{count_read, last_count}
+use Rattle.diy_io.specs.Count.{last_count}
+use Rattle.log_sum.specs.Counts.{count_read}
 use Rattle.log_sum.specs.LogStates.{form_read, with_pieces, state_read, state_form}
 use Rattle.text_laws.specs.Cuts.{cut_at}
 use Rattle.log_sum.specs.LogLines.{test_line, histogram_line, log_row, condition_line, hash_line, log_line_said, place_after, fact_said}
-use Rattle.log_sum.specs.LogReading.{text_judged, line_judged, whole_lines, unfinished, last_judged, file_judged}
-use Rattle.text_laws.specs.Lines.{without_return}
+use Rattle.log_sum.specs.LogReading.{text_judged, line_judged, last_judged, file_judged}
+use Rattle.text_laws.specs.Lines.{without_return, whole_lines, unended}
 use Rattle.log_sum.specs.Summed.{summed}
 use Rattle.log_sum.specs.SumText.{state_line, head_text, sum_verdict_text, condition_text, claim_text, hash_text, observation_text, summed_text, sum_text}
 use Rattle.log_sum.specs.Representing.{logs_text}
@@ -52,11 +53,11 @@ or_nothing (Ok text) = text
 or_nothing (Err error) = []
 
 together : logs_text (one_log ∷ other_log ∷ []) ≡ Ok all
-unfolding logs_text form_read digits leading_run after_run before_blanks words count_read cut_at with_pieces state_read state_form marked_sum state_sum states_of mark_in fact_fault test_line histogram_line log_row condition_line hash_line log_line_said place_after fact_said text_judged without_return line_judged whole_lines unfinished last_judged file_judged summed state_line head_text sum_verdict_text condition_text claim_text hash_text observation_text summed_text sum_text
+unfolding logs_text form_read digits leading_run after_run before_blanks words count_read cut_at with_pieces state_read state_form marked_sum state_sum states_of mark_in fact_fault test_line histogram_line log_row condition_line hash_line log_line_said place_after fact_said text_judged without_return line_judged whole_lines unended last_judged file_judged summed state_line head_text sum_verdict_text condition_text claim_text hash_text observation_text summed_text sum_text
 together = refl
 
 by_sums : logs_text (or_nothing (logs_text (one_log ∷ [])) ∷ or_nothing (logs_text (other_log ∷ [])) ∷ []) ≡ Ok all
-unfolding logs_text form_read digits leading_run after_run before_blanks words count_read cut_at with_pieces state_read state_form marked_sum state_sum states_of mark_in fact_fault test_line histogram_line log_row condition_line hash_line log_line_said place_after fact_said text_judged without_return line_judged whole_lines unfinished last_judged file_judged summed state_line head_text sum_verdict_text condition_text claim_text hash_text observation_text summed_text sum_text
+unfolding logs_text form_read digits leading_run after_run before_blanks words count_read cut_at with_pieces state_read state_form marked_sum state_sum states_of mark_in fact_fault test_line histogram_line log_row condition_line hash_line log_line_said place_after fact_said text_judged without_return line_judged whole_lines unended last_judged file_judged summed state_line head_text sum_verdict_text condition_text claim_text hash_text observation_text summed_text sum_text
 by_sums = refl
 
 -- a hash that ends with a carriage return isn't read back
@@ -64,7 +65,7 @@ abbrev returned : List ℕ
 returned = block (codes "7:>x=0;") (codes "is validated") (nl (codes "Hash=a" ++ 13 ∷ 13 ∷ []))
 
 not_read_back : logs_text (or_nothing (logs_text (returned ∷ [])) ∷ returned ∷ []) ≡ Err (record { line = 6; kind = HashDiffers })
-unfolding logs_text form_read digits leading_run after_run before_blanks words count_read cut_at with_pieces state_read state_form marked_sum state_sum states_of mark_in fact_fault test_line histogram_line log_row condition_line hash_line log_line_said place_after fact_said text_judged without_return line_judged whole_lines unfinished last_judged file_judged summed state_line head_text sum_verdict_text condition_text claim_text hash_text observation_text summed_text sum_text
+unfolding logs_text form_read digits leading_run after_run before_blanks words count_read cut_at with_pieces state_read state_form marked_sum state_sum states_of mark_in fact_fault test_line histogram_line log_row condition_line hash_line log_line_said place_after fact_said text_judged without_return line_judged whole_lines unended last_judged file_judged summed state_line head_text sum_verdict_text condition_text claim_text hash_text observation_text summed_text sum_text
 not_read_back = refl
 
 -- a printed sum that keeps the limits
@@ -102,7 +103,7 @@ unfolding summed
 hash_nowhere hash h = absurd (cc)
 
 a_sum_that_keeps_them : IsSum (other_log ∷ []) (sum_text printed_other)
-unfolding form_read digits leading_run after_run before_blanks words count_read cut_at with_pieces state_read state_form marked_sum state_sum states_of mark_in fact_fault test_line histogram_line log_row condition_line hash_line log_line_said place_after fact_said text_judged without_return line_judged whole_lines unfinished last_judged file_judged summed state_line head_text sum_verdict_text condition_text claim_text hash_text observation_text summed_text sum_text
+unfolding form_read digits leading_run after_run before_blanks words count_read cut_at with_pieces state_read state_form marked_sum state_sum states_of mark_in fact_fault test_line histogram_line log_row condition_line hash_line log_line_said place_after fact_said text_judged without_return line_judged whole_lines unended last_judged file_judged summed state_line head_text sum_verdict_text condition_text claim_text hash_text observation_text summed_text sum_text
 a_sum_that_keeps_them = record {
   seen = record { entries = printed_other; test = []; place = outside; line = 1 };
   judged = refl;

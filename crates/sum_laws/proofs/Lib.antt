@@ -14,3 +14,4 @@ pub mod Said
 pub mod Whole
 pub mod Names
 pub mod Laws
+pub mod Represented

@@ -16,7 +16,8 @@ use Rattle.text_laws.specs.Blanks.{is_blank, is_inked, before_blanks, kept_befor
 use Rattle.text_laws.specs.Words.{is_nil, words}
 use Rattle.text_laws.specs.LeadingRuns.{leading_run, after_run}
 use Rattle.log_sum.specs.Texts.{later_words, joined_words, ends_with, begins_with}
-use Rattle.log_sum.specs.Counts.{count_read, count_of_digits, last_count}
+use Rattle.diy_io.specs.Count.{last_count}
+use Rattle.log_sum.specs.Counts.{count_read, count_of_digits}
 use Rattle.log_sum.specs.LogStates.{form_read}
 use Rattle.log_sum.specs.Facts.{row_with}
 use Rattle.log_sum.specs.LogLines.{passed_over, begins, counts, a_state, judged, conditioned, hashed, ends, test_line, histogram_line, log_row, row_marked, mark_read, condition_line, verdict_cut, hash_line, quantifier, log_line_said, place_after, states_left}

@@ -6,12 +6,12 @@ use Rattle.list_laws.proofs.Cases.{by_test}
 use Rattle.text_laws.specs.Words.{is_nil, words}
 use Rattle.text_laws.specs.Blanks.{before_blanks}
 use Rattle.log_sum.specs.Texts.{joined_words, begins_with}
-use Rattle.log_sum.specs.Counts.{last_count}
+use Rattle.diy_io.specs.Count.{last_count}
 use Rattle.log_sum.specs.LogStates.{form_read}
 use Rattle.log_sum.specs.Facts.{Entry, a_kind, a_row, a_condition, a_hash, row_with}
 use Rattle.log_sum.specs.LogLines.{Said, passed_over, begins, counts, a_state, judged, conditioned, hashed, ends, quantifier, log_line_said, place_after, states_left, fact_said, test_after}
-use Rattle.log_sum.specs.LogReading.{LogSeen, next_line, whole_lines, unfinished, last_judged, file_judged}
-use Rattle.text_laws.specs.Lines.{without_return}
+use Rattle.log_sum.specs.LogReading.{LogSeen, next_line, last_judged, file_judged}
+use Rattle.text_laws.specs.Lines.{without_return, whole_lines, unended}
 use Rattle.log_sum.specs.Summed.{Summed, StateSummed, some_or, is_validated}
 use Rattle.log_sum.specs.SumText.{sum_kind_word, mark_sign, filling, state_line, verdict_word, verdict_end, how_often, hash_text, head_text, sum_verdict_text, claim_text, condition_text, observation_text, summed_text}
 use Rattle.sum_laws.proofs.Cases.{Kind, Mark, Place, allowed, outside, histogram, judgement, in_rest, conditioned_at, kind_cases, mark_cases}
@@ -356,7 +356,7 @@ texts_go before test line sum (name ∷ names) rest p f c =
 
 -- a file whose reading gives these entries is judged so
 file_read : (s : LogSeen) (entries : List Entry) (text : List ℕ) → Read s entries text [] → file_judged s text ≡ Ok (seen_at entries [] outside 1)
-unfolding file_judged whole_lines unfinished last_judged
+unfolding file_judged whole_lines unended last_judged
 file_read s entries text r = rw (r.goes.lines, r.goes.last) refl
 
 -- a file of printed tests is judged as the entries that they give

@@ -14,7 +14,8 @@ use Rattle.text_laws.specs.Blanks.{is_blank, before_blanks, unblanked, trim_blan
 use Rattle.text_laws.specs.Words.{is_nil, words}
 use Rattle.text_laws.specs.LeadingRuns.{leading_run, after_run}
 use Rattle.log_sum.specs.Texts.{later_words, joined_words, ends_with, before_end, begins_with}
-use Rattle.log_sum.specs.Counts.{count_read, count_of_digits, last_count}
+use Rattle.diy_io.specs.Count.{last_count}
+use Rattle.log_sum.specs.Counts.{count_read, count_of_digits}
 use Rattle.log_sum.specs.LogStates.{form_read}
 use Rattle.log_sum.specs.Facts.{Row}
 use Rattle.log_sum.specs.LogLines.{Said, passed_over, begins, counts, a_state, judged, conditioned, hashed, ends, kind_named, test_named, test_line, outside_said, histogram_line, counts_said, mark_before, mark_written, mark_read, row_of, row_marked, row_counted, log_row, row_said, is_judgement, verdict_cut, condition_line, quantifier, hash_line, is_observation, hash_said, condition_said, no_test, rest_said, log_line_said, place_after, kind_at}

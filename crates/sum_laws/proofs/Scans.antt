@@ -6,8 +6,8 @@ use Rattle.log_sum.specs.declared.errors.LogError.{LogError}
 use Rattle.log_sum.specs.declared.errors.LogKind.{LogKind}
 use Rattle.log_sum.specs.Facts.{Fact, Entry, facts_of, fact_fault}
 use Rattle.log_sum.specs.LogLines.{Said, log_line_said, place_after, fact_said, test_after}
-use Rattle.log_sum.specs.LogReading.{LogSeen, ◌>>=◌, is_too_long, next_line, fact_put, fact_judged, at_next_line, said_put, text_judged, line_judged, lines_judged, whole_lines, unfinished, last_judged, end_at, end_judged, file_judged, files_judged}
-use Rattle.text_laws.specs.Lines.{without_return}
+use Rattle.log_sum.specs.LogReading.{LogSeen, ◌>>=◌, is_too_long, next_line, fact_put, fact_judged, at_next_line, said_put, text_judged, line_judged, lines_judged, last_judged, end_at, end_judged, file_judged, files_judged}
+use Rattle.text_laws.specs.Lines.{without_return, whole_lines, unended}
 use Rattle.sum_laws.proofs.Cases.{Place, outside, is_outside, outside_is}
 use Rattle.sum_laws.proofs.Blocks.{seen_at, entry, Clean, clean_parts}
 
@@ -134,8 +134,8 @@ end_scans s t e =
 file_scans : (bytes : List ℕ) → Scans (λ s. file_judged s bytes)
 unfolding file_judged
 file_scans bytes =
-    then_scans (λ s. lines_judged s (whole_lines bytes) >>= (λ next. last_judged next (unfinished bytes))) end_judged
-    (then_scans (λ s. lines_judged s (whole_lines bytes)) (λ s. last_judged s (unfinished bytes)) (lines_scan (whole_lines bytes)) (last_scans (unfinished bytes))) end_scans
+    then_scans (λ s. lines_judged s (whole_lines bytes) >>= (λ next. last_judged next (unended bytes))) end_judged
+    (then_scans (λ s. lines_judged s (whole_lines bytes)) (λ s. last_judged s (unended bytes)) (lines_scan (whole_lines bytes)) (last_scans (unended bytes))) end_scans
 
 -- whole files give entries so
 pub files_scan : (files : List (List ℕ)) → Scans (λ s. files_judged s files)
@@ -160,7 +160,7 @@ IsEnd s = s ≡ seen_at s.entries [] outside 1
 
 file_ends : (s : LogSeen) (bytes : List ℕ) (t : LogSeen) → file_judged s bytes ≡ Ok t → IsEnd t
 unfolding file_judged
-file_ends s bytes t e = by_end (lines_judged s (whole_lines bytes) >>= (λ next. last_judged next (unfinished bytes))) t e
+file_ends s bytes t e = by_end (lines_judged s (whole_lines bytes) >>= (λ next. last_judged next (unended bytes))) t e
   where
     by_end : (r : Result LogSeen LogError) (next : LogSeen) → (r >>= end_judged) ≡ Ok next → IsEnd next
     by_end (Err error) next h = absurd (cc)

@@ -17,8 +17,8 @@ use Rattle.text_laws.specs.Blanks.{before_blanks}
 use Rattle.log_sum.specs.Counts.{count_read}
 use Rattle.log_sum.specs.Facts.{Fact, Entry, a_kind, a_row, a_condition, a_hash, kinds, conditions, first_of, facts_of, fact_fault, is_other, same_kind}
 use Rattle.log_sum.specs.LogLines.{Said, passed_over, begins, counts, a_state, judged, conditioned, hashed, ends, histogram_line, log_line_said, log_row, place_after, kind_at, left_at, states_left, after_state, fact_said}
-use Rattle.log_sum.specs.LogReading.{LogSeen, nothing_seen, ◌>>=◌, is_too_long, next_line, fact_put, fact_judged, at_next_line, said_put, said_to, text_judged, line_judged, lines_judged, whole_lines, unfinished, last_judged, end_judged, file_judged, files_judged}
-use Rattle.text_laws.specs.Lines.{without_return, but_last, last_of}
+use Rattle.log_sum.specs.LogReading.{LogSeen, nothing_seen, ◌>>=◌, is_too_long, next_line, fact_put, fact_judged, at_next_line, said_put, said_to, text_judged, line_judged, lines_judged, last_judged, end_judged, file_judged, files_judged}
+use Rattle.text_laws.specs.Lines.{without_return, but_last, last_of, whole_lines, unended}
 use Rattle.sum_laws.proofs.Cases.{Kind, Verdict, Place, outside, histogram, in_rest, conditioned_at, is_outside}
 use Rattle.sum_laws.proofs.Texts.{no_feed, is_word, bytes_same}
 use Rattle.sum_laws.proofs.Blocks.{seen_at, entry}
@@ -346,18 +346,18 @@ last_line (line ∷ []) h = (and_parts (list_all no_feed line) true h).0
 last_line (line ∷ next ∷ lines) h = last_line (next ∷ lines) (and_parts (list_all no_feed line) (list_all (list_all no_feed) (next ∷ lines)) h).1
 
 file_keeps : (bytes : List ℕ) (s t : LogSeen) → Keeps s → file_judged s bytes ≡ Ok t → Keeps t
-unfolding file_judged whole_lines unfinished
+unfolding file_judged whole_lines unended
 file_keeps bytes s t k e = by_lines (lines_judged s (whole_lines bytes)) refl e
   where
     by_last : (r : Result LogSeen LogError) → ((u : LogSeen) → r ≡ Ok u → Keeps u) → (r >>= end_judged) ≡ Ok t → Keeps t
     by_last (Err error) law g = absurd (cc)
     by_last (Ok u) law g = end_keeps u t (law u refl) g
 
-    by_lines : (r : Result LogSeen LogError) → lines_judged s (whole_lines bytes) ≡ r → ((r >>= (λ next. last_judged next (unfinished bytes))) >>= end_judged) ≡ Ok t → Keeps t
+    by_lines : (r : Result LogSeen LogError) → lines_judged s (whole_lines bytes) ≡ r → ((r >>= (λ next. last_judged next (unended bytes))) >>= end_judged) ≡ Ok t → Keeps t
     by_lines (Err error) f g = absurd (cc)
     by_lines (Ok u) f g =
         let i : Keeps u = lines_keep (whole_lines bytes) s u (but_last_lines (slice_split (λ byte. byte == 10) bytes) (split_lacks 10 bytes)) k f in
-        by_last (last_judged u (unfinished bytes)) (λ v h. last_keeps (unfinished bytes) u v (last_line (slice_split (λ byte. byte == 10) bytes) (split_lacks 10 bytes)) i h) g
+        by_last (last_judged u (unended bytes)) (λ v h. last_keeps (unended bytes) u v (last_line (slice_split (λ byte. byte == 10) bytes) (split_lacks 10 bytes)) i h) g
 
 -- whole files without a fault keep that so
 pub files_keep : (files : List (List ℕ)) (s t : LogSeen) → Keeps s → files_judged s files ≡ Ok t → Keeps t

@@ -2,10 +2,10 @@
 -- Source: own.
 use Rattle.std.specs.Prelude.{◌≡◌, ℕ, ◌≤◌, true, not, List, [], ◌∷◌, ◌++◌, length, Some, Ok}
 use Rattle.std.specs.List.{list_all}
-use Rattle.log_sum.specs.Counts.{last_count}
+use Rattle.diy_io.specs.Count.{last_count}
 use Rattle.log_sum.specs.Facts.{Entry, facts_of}
-use Rattle.log_sum.specs.LogReading.{LogSeen, nothing_seen, is_too_long, whole_lines, files_judged}
-use Rattle.text_laws.specs.Lines.{without_return}
+use Rattle.log_sum.specs.LogReading.{LogSeen, nothing_seen, is_too_long, files_judged}
+use Rattle.text_laws.specs.Lines.{without_return, whole_lines}
 use Rattle.log_sum.specs.Summed.{summed}
 use Rattle.log_sum.specs.SumText.{sum_text}
 use Rattle.log_sum.specs.Representing.{logs_text}

@@ -10,7 +10,7 @@ use Rattle.diy_io.specs.Taken.{SourceSeen, Took}
 use Rattle.log_sum.specs.declared.errors.SumError.{SumError}
 use Rattle.log_sum.specs.declared.errors.SumError.TheVariants as sums
 use Rattle.log_sum.specs.Representing.{Kept, Represents, FedTo, EndedTo, line_at}
-use Rattle.log_sum.proofs.RepresentingLaws.{end_fault_stays}
+use Rattle.sum_laws.proofs.Represented.{end_fault_stays}
 use Rattle.summed_files.specs.declared.feeding.Feeding.{Feeding}
 use Rattle.summed_files.specs.declared.feeding.LogFault.{LogFault}
 use Rattle.summed_files.specs.FileFaults.{sum_fault}

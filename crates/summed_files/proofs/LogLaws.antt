@@ -9,7 +9,7 @@ use Rattle.diy_io.specs.declared.errors.Failed.{Failed}
 use Rattle.log_sum.specs.declared.errors.LogError.{LogError}
 use Rattle.log_sum.specs.LogReading.{LogSeen, input_judged}
 use Rattle.log_sum.specs.Representing.{logs_text}
-use Rattle.log_sum.proofs.RepresentingLaws.{represented_text, fault_stays}
+use Rattle.sum_laws.proofs.Represented.{represented_text, fault_stays}
 use Rattle.summed_files.specs.declared.feeding.Feeding.{Feeding}
 use Rattle.summed_files.specs.declared.feeding.LogFault.{LogFault}
 use Rattle.summed_files.specs.declared.feeding.LogFault.TheVariants.{Wrong, TooMuch, NoMemory}

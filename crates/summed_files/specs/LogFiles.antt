@@ -1,6 +1,6 @@
 -- Logs in the files of a shelf.
 -- Source: own.
-use Rattle.std.specs.Prelude.{◌≡◌, ◌+◌, ◌⊎◌, ℕ, List, [], ◌∷◌, ◌++◌, length, MatchOption, None, Some, Result, Ok, Err}
+use Rattle.std.specs.Prelude.{◌≡◌, ◌+◌, ◌⊎◌, ℕ, List, [], ◌∷◌, ◌++◌, length, Some, Result, Ok, Err}
 use Rattle.diy_io.specs.Count.{Rose}
 use Rattle.diy_io.specs.Shelf.{Mode, Idle, IsReading, ShelfSeen, left_to_read}
 use Rattle.diy_io.specs.Taken.{SourceSeen}
@@ -13,7 +13,7 @@ use Rattle.summed_files.specs.declared.sum_end.SumEnd.TheVariants as ends
 use Rattle.summed_files.specs.FileFaults.{sum_end_at}
 use Rattle.summed_files.specs.Logs.{IsShort}
 use Rattle.summed_files.specs.FileFeeding.{ReadsLogs, IsFaulty}
-use Rattle.file_laws.specs.Opened.{IsFile, TookFiles}
+use Rattle.file_laws.specs.Opened.{FileAbsent, IsFile, TookFiles}
 use Rattle.summed_files.specs.SumEnds.{AreLogs, IsBegun}
 use Rattle.summed_files.specs.declared.feeding.ReadFault.{ReadFault}
 use Rattle.summed_files.specs.declared.feeding.ReadFault.TheVariants.{Log, Device}
@@ -44,11 +44,6 @@ pub record LogFileFaulty (old new : ShelfSeen) (before : List (List ℕ)) (name 
   pub bytes : List ℕ
   pub is : IsFaulty before log bytes fault
   pub took : TookFiles old new (bytes ∷ [])
-
--- a file isn't there
-pub record FileAbsent (old new : ShelfSeen) (name : List ℕ) : Type 0 where
-  pub absent : MatchOption old.files (Rose old.faults new.faults) (λ there. there name ≡ None)
-  pub took : TookFiles old new []
 
 -- the shelf failed before a file was opened, or after bytes of it that show no fault
 pub record LogFileFailed (old new : ShelfSeen) (before : List (List ℕ)) (name : List ℕ) : Type 0 where

@@ -1,15 +1,15 @@
 -- A file that is opened, read and closed.
-use Rattle.std.proofs.Common.{◌≡◌, ℕ, List, [], ◌∷◌, ◌++◌, ap, ◌∙◌, subst, arith, inl, inr}
-use Rattle.std.specs.Prelude.{◌⊎◌, OnOk, OnErr, Result, Ok, Err}
+use Rattle.std.proofs.Common.{◌≡◌, ℕ, List, [], ◌∷◌, ap, ◌∙◌, subst, arith, inl, inr}
+use Rattle.std.specs.Prelude.{OnOk, OnErr, Result, Ok, Err}
 use Rattle.diy_io.specs.Count.{count_of, Rose}
 use Rattle.diy_io.specs.Shelf.{ShelfSeen, CountsStay, Finished, NotThere, Opened, Stopped}
 use Rattle.diy_io.specs.declared.errors.Failed.{Failed}
 use Rattle.file_laws.specs.Opened.{TookFiles}
-use Rattle.file_laws.proofs.OpenedLaws.{opened_text, opened_took, took_nothing, took_one_more, took_no_more}
+use Rattle.file_laws.proofs.OpenedLaws.{opened_text, opened_took, took_nothing}
 use Rattle.test_files.specs.declared.errors.FileFault.{FileFault}
 use Rattle.test_files.specs.declared.errors.FileFault.TheVariants.{Missing, NoMemory}
 use Rattle.test_files.specs.declared.errors.FileFault.TheVariants as faults
-use Rattle.test_files.specs.FilesRead.{Begins, FileFailed, FileTo}
+use Rattle.test_files.specs.FilesRead.{FileTo}
 use Rattle.test_files.specs.OpenFiles.{TookBytes, FileReadWhole, OpenTo}
 
 -- what was taken before the file was closed
@@ -75,11 +75,3 @@ file_absent old new name bytes there = record { absent = there.absent; took = to
 
 pub file_unopened : (old new : ShelfSeen) (name bytes : List ℕ) → Stopped old new → FileTo old new name bytes (Err faults.Failed)
 file_unopened old new name bytes stopped = record { fault = stopped.faulted.fault; took = inl (took_nothing old new stopped.counts) }
-
--- what was taken where the shelf failed at a file after others
-pub failed_after : (old mid new : ShelfSeen) (before : List (List ℕ)) (name : List ℕ) → mid.files ≡ old.files → TookFiles old mid before → FileFailed mid new name
-    → TookFiles old new before ⊎ ((bytes : List ℕ) × Begins old.files name bytes × TookFiles old new (before ++ bytes ∷ []))
-failed_after old mid new before name files took h = elim h.took [
-  | inl none ↦ inl (took_no_more old mid new before took none)
-  | inr some ↦ inr (some.0, subst (λ o. Begins o name some.0) files some.1, took_one_more old mid new before some.0 took some.2)
-]

@@ -1,10 +1,10 @@
 -- What a call that reads a file took of it, and what it did to its shelf.
 -- Source: own.
-use Rattle.std.specs.Prelude.{◌≡◌, ◌≤◌, ◌⊎◌, ◌+◌, ⊤, ℕ, List, [], ◌∷◌, ◌++◌, length, take, Option, None, MatchOption, OnOk, OnErr, Result, Ok, Err}
+use Rattle.std.specs.Prelude.{◌≡◌, ◌≤◌, ◌⊎◌, ◌+◌, ⊤, ℕ, List, [], ◌∷◌, ◌++◌, length, take, Option, OnOk, OnErr, Result, Ok, Err}
 use Rattle.diy_io.specs.Count.{Rose}
 use Rattle.diy_io.specs.Shelf.{Files, ShelfSeen}
 use Rattle.diy_io.specs.declared.errors.Failed.{Failed}
-use Rattle.file_laws.specs.Opened.{IsFile, TookFiles}
+use Rattle.file_laws.specs.Opened.{FileAbsent, IsFile, TookFiles}
 use Rattle.litmus_text.specs.declared.limits.TheConstants.{MAX_TEXT}
 use Rattle.test_files.specs.declared.errors.FileFault.{FileFault}
 use Rattle.test_files.specs.declared.errors.FileFault.TheVariants as faults
@@ -18,11 +18,6 @@ pub record FileRead (old new : ShelfSeen) (name text : List ℕ) (closed : Resul
   pub took : TookFiles old new (text ∷ [])
   pub no_fault : OnOk closed (new.faults ≡ old.faults)
   pub fault : OnErr closed (Rose old.faults new.faults)
-
--- a file isn't there; where the files aren't shown, that is a fault
-pub record FileAbsent (old new : ShelfSeen) (name : List ℕ) : Type 0 where
-  pub absent : MatchOption old.files (Rose old.faults new.faults) (λ there. there name ≡ None)
-  pub took : TookFiles old new []
 
 -- these are the first bytes of a file, and no more than a test may have
 pub record Begins (files : Option Files) (name bytes : List ℕ) : Type 0 where

@@ -3,3 +3,4 @@ pub mod TestSaid
 pub mod FirstBytes
 pub mod FewBytes
 pub mod OpenFiles
+pub mod FailedFiles

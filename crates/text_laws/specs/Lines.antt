@@ -1,6 +1,7 @@
 -- Lines of a text and their ends.
 -- Source: own.
-use Rattle.std.specs.Prelude.{ℕ, ◌==◌, Bool, cond, List, [], ◌∷◌}
+use Rattle.std.specs.Prelude.{ℕ, ◌==◌, Bool, cond, List, [], ◌∷◌, ◌++◌, map}
+use Rattle.std.specs.List.{slice_split}
 
 -- a byte that ends a line
 abbrev pub is_line_feed : ℕ → Bool
@@ -23,3 +24,24 @@ abbrev pub last_of : List (List ℕ) → List ℕ
 last_of [] = []
 last_of (piece ∷ []) = piece
 last_of (piece ∷ next ∷ rest) = last_of (next ∷ rest)
+
+-- the texts that a line feed ends, each without that
+unfoldable pub whole_lines : List ℕ → List (List ℕ)
+whole_lines text = but_last (slice_split is_line_feed text)
+
+-- the lines that a line feed ends, each without that and without a carriage return right before it
+unfoldable pub ended_lines : List ℕ → List (List ℕ)
+ended_lines text = map without_return (whole_lines text)
+
+-- what comes after the last line feed
+unfoldable pub unended : List ℕ → List ℕ
+unended text = last_of (slice_split is_line_feed text)
+
+-- what comes after the last line feed is a line if it has a byte
+abbrev pub last_line : List ℕ → List (List ℕ)
+last_line [] = []
+last_line (byte ∷ bytes) = (byte ∷ bytes) ∷ []
+
+-- all lines of a text
+abbrev pub lines_of : List ℕ → List (List ℕ)
+lines_of text = ended_lines text ++ last_line (unended text)

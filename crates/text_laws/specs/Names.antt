@@ -1,8 +1,12 @@
--- The forms of the names of places and of registers.
+-- The forms of the names of places, of registers and of tests.
 -- Source: own, within the names that the litmus format has.
 use Rattle.std.specs.Prelude.{ℕ, Bool, false, ◌&&◌, ◌||◌, ◌==◌, List, [], ◌∷◌, nat_le, length}
 use Rattle.std.specs.Char.{is_ascii_alphabetic, is_ascii_alphanumeric}
 use Rattle.std.specs.List.{list_all}
+
+-- a byte of the name of a test: an ASCII letter or digit, or one of `+`, `-`, `.` and `_`
+abbrev pub is_name_byte : ℕ → Bool
+is_name_byte byte = is_ascii_alphanumeric byte || (byte == 43) || (byte == 45) || (byte == 46) || (byte == 95)
 
 -- a letter or `_`
 abbrev pub begins_place : ℕ → Bool

@@ -5,7 +5,8 @@ use Rattle.std.proofs.lemmas.Bool.{and_parts, true≢false}
 use Rattle.std.proofs.lemmas.List.{append-nil}
 use Rattle.relax_edges.specs.declared.edge.Edge.{Edge}
 use Rattle.relax_edges.specs.Order.{rank_of}
-use Rattle.cycle_laws.specs.Composable.{is_joined, last_joins}
+use Rattle.relax_edges.specs.JoinedEdges.{is_joined}
+use Rattle.cycle_laws.specs.Composable.{last_joins}
 use Rattle.cycle_laws.proofs.Composing.{joined_prefix, joined_parts}
 use Rattle.walk_laws.specs.Listing.{IsOneOf, concatenated, IsMadeOf, IsListed}
 use Rattle.walk_laws.specs.Search.{IsIn, OccursIn, IsSingle, IsListCandidate, NoneBetween, IsRaised, IsExtended, LeadsNowhere}

@@ -5,7 +5,7 @@ use Rattle.std.specs.List.{AllByRecursion}
 use Rattle.relax_edges.specs.declared.order.TheConstants.{EDGES}
 use Rattle.relax_edges.specs.declared.edge.Edge.{Edge}
 use Rattle.relax_edges.specs.Order.{rank_of}
-use Rattle.cycle_laws.specs.Composable.{is_joined}
+use Rattle.relax_edges.specs.JoinedEdges.{is_joined}
 use Rattle.cycle_laws.specs.CycleOrder.{Above, IsNormal}
 use Rattle.walk_laws.specs.Asked.{KeptBelow}
 

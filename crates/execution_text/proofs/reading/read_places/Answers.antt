@@ -3,7 +3,8 @@ use Rattle.std.proofs.Common.{◌≡◌, ◌+◌, [], map, drop, length, sym, ap
 use Rattle.std.specs.Prelude.{slice_index_or}
 use Rattle.exec_meaning.specs.KeptExecutions.{with_write}
 use Rattle.execution_text.specs.declared.errors.ExecKind.TheVariants.{BadPlace, BadWrite}
-use Rattle.execution_text.specs.ExecutionText.{access_named, line_read, lines_of, place_head}
+use Rattle.text_laws.specs.Lines.{lines_of}
+use Rattle.execution_text.specs.ExecutionText.{access_named, line_read, place_head}
 use Rattle.execution_text.proofs.LinesRead.{one_line, one_stops, none_left, all_read, error_line}
 use Rattle.execution_text.proofs.Growing.{writes_kept, elements_from, no_elements}
 use Rattle.execution_text.proofs.reading.read_places.Goals as goal

@@ -2,7 +2,8 @@
 use Rattle.std.proofs.Common.{◌≡◌, ◌+◌, map, drop, length}
 use Rattle.exec_meaning.specs.KeptExecutions.{with_write}
 use Rattle.execution_text.specs.declared.errors.ExecKind.TheVariants.{BadPlace, BadWrite}
-use Rattle.execution_text.specs.ExecutionText.{access_named, line_read, lines_of, each_line_read, place_head}
+use Rattle.text_laws.specs.Lines.{lines_of}
+use Rattle.execution_text.specs.ExecutionText.{access_named, line_read, each_line_read, place_head}
 use Rattle.execution_text.specs.ExecutionSteps.{lines_added}
 use Rattle.execution_text.proofs.reading.read_places.Given as goal
 

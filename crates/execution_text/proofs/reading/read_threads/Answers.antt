@@ -3,7 +3,8 @@ use Rattle.std.proofs.Common.{◌≡◌, ◌+◌, ◌-◌, map, sym, ap, ◌∙�
 use Rattle.std.specs.List.{range_with_len}
 use Rattle.exec_meaning.specs.KeptExecutions.{with_read}
 use Rattle.execution_text.specs.declared.errors.ExecKind.TheVariants.{BadThread, BadRead}
-use Rattle.execution_text.specs.ExecutionText.{read_named, line_read, lines_of, thread_head}
+use Rattle.text_laws.specs.Lines.{lines_of}
+use Rattle.execution_text.specs.ExecutionText.{read_named, line_read, thread_head}
 use Rattle.execution_text.proofs.LinesRead.{one_line, one_stops, none_left, all_read, error_line}
 use Rattle.execution_text.proofs.Growing.{reads_kept, numbers_from, no_numbers}
 use Rattle.execution_text.proofs.reading.read_threads.Goals as goal

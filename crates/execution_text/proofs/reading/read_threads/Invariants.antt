@@ -3,7 +3,8 @@ use Rattle.std.proofs.Common.{◌≡◌, ◌+◌, ◌-◌, map, length}
 use Rattle.std.specs.List.{range_with_len}
 use Rattle.exec_meaning.specs.KeptExecutions.{with_read}
 use Rattle.execution_text.specs.declared.errors.ExecKind.TheVariants.{BadThread, BadRead}
-use Rattle.execution_text.specs.ExecutionText.{read_named, line_read, lines_of, each_line_read, thread_head}
+use Rattle.text_laws.specs.Lines.{lines_of}
+use Rattle.execution_text.specs.ExecutionText.{read_named, line_read, each_line_read, thread_head}
 use Rattle.execution_text.specs.ExecutionSteps.{lines_added}
 use Rattle.execution_text.proofs.reading.read_threads.Given as goal
 

@@ -5,14 +5,15 @@ use Rattle.relax_edges.specs.declared.kinds.Reach.TheVariants.{Internal}
 use Rattle.relax_edges.specs.declared.kinds.Com.TheVariants.{Rf}
 use Rattle.relax_edges.specs.declared.edge.Edge.TheVariants.{Com}
 use Rattle.relax_edges.specs.RelaxText.{words_of}
-use Rattle.relax_edges.specs.Relaxations.{word_edges, is_path}
+use Rattle.relax_edges.specs.JoinedEdges.{is_joined}
+use Rattle.relax_edges.specs.Relaxations.{word_edges}
 use Rattle.relax_edges.proofs.Search.{keeps_no_path, keeps_first, keeps_word_next, refused_word, keeps_word, keeps_no_word, refused_no_word}
 use Rattle.relax_edges.proofs.relax_search.+relax_search.Goals as goal
 
 pub keep_after-returns-then-not-extends-clause-kept : goal.keep_after-returns-then-not-extends-clause-kept
 keep_after-returns-then-not-extends-clause-kept t c =
-    let none : is_path (c.args.chosen.now.items ++ c.args.edge ∷ []) ≡ false =
-    cc (ap (λ f. is_path (f ++ c.args.edge ∷ [])) c.as_slice.ensures.value, c.extends.ensures, c.if-not-extends.true) in
+    let none : is_joined (c.args.chosen.now.items ++ c.args.edge ∷ []) ≡ false =
+    cc (ap (λ f. is_joined (f ++ c.args.edge ∷ [])) c.as_slice.ensures.value, c.extends.ensures, c.if-not-extends.true) in
     keeps_no_path c.args.kept.now (c.args.chosen.now.items ++ c.args.edge ∷ []) (map word_edges (words_of c.args.words.now)) c.requires.few none
 
 pub keep_paths-returns-in_err-keep-clause-kept : goal.keep_paths-returns-in_err-keep-clause-kept

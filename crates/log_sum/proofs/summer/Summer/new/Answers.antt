@@ -5,15 +5,16 @@ use Rattle.std.specs.declared.vec.Vec.{Vec}
 use Rattle.std.specs.declared.alloc.Global.{Global}
 use Rattle.log_sum.specs.declared.test_sum.TestSum.{TestSum}
 use Rattle.log_sum.specs.SumViews.{named_view}
-use Rattle.log_sum.specs.LogReading.{nothing_seen, input_judged, bytes_judged, whole_lines, unfinished, rest_judged}
+use Rattle.text_laws.specs.Lines.{whole_lines, unended}
+use Rattle.log_sum.specs.LogReading.{nothing_seen, input_judged, bytes_judged, rest_judged}
 use Rattle.log_sum.proofs.summer.Summer.new.Goals as goal
 
 nothing_judged : input_judged [] [] ≡ Ok nothing_seen
-unfolding input_judged bytes_judged whole_lines unfinished rest_judged
+unfolding input_judged bytes_judged whole_lines unended rest_judged
 nothing_judged = refl
 
-nothing_held : [] ≡ unfinished []
-unfolding unfinished
+nothing_held : [] ≡ unended []
+unfolding unended
 nothing_held = refl
 
 -- no tests are in order

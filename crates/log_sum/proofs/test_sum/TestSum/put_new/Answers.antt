@@ -5,7 +5,7 @@ use Rattle.std.specs.Ordering.{nat_cmp}
 use Rattle.std.specs.Cmp.Lexicographic.{slice_cmp}
 use Rattle.std.specs.BTreeMap.{insert_entry}
 use Rattle.log_sum.specs.LogStates.{form_read}
-use Rattle.log_sum.specs.Counts.{last_count}
+use Rattle.diy_io.specs.Count.{last_count}
 use Rattle.log_sum.specs.Facts.{row_with}
 use Rattle.log_sum.specs.SumViews.{test_view}
 use Rattle.log_sum.proofs.TestLaws.{row_large, row_put, too_large, not_large, new_kept, row_kept}

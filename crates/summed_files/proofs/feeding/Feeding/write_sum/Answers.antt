@@ -1,5 +1,5 @@
 -- `Feeding::write_sum` writes the sum of the logs that were ended.
-use Rattle.log_sum.proofs.RepresentingLaws.{represented_text}
+use Rattle.sum_laws.proofs.Represented.{represented_text}
 use Rattle.summed_files.proofs.feeding.Feeding.write_sum.Goals as goal
 
 pub returns : goal.returns
