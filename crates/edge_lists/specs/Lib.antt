@@ -1,3 +1,4 @@
 pub mod Spelled
 pub mod KeptEdges
+pub mod Expected
 pub mod KeptLaws

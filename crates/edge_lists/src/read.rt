@@ -2,6 +2,7 @@ ghost use Rattle.std.specs.Prelude.{◌≡◌, [], ◌∷◌, Option, Some, None
 ghost use Rattle.std.specs.Option.{option_map};
 ghost use Rattle.std.specs.List.{position};
 ghost use Rattle.edge_lists.specs.Spelled.{separates, edges_spelled, edges_of, CutsAtSeparator, IsOneWord};
+ghost use Rattle.edge_lists.specs.Expected.{BeginsWith, ReadsFirst};
 ghost use Rattle.edge_lists.specs.KeptEdges.{edges_added};
 
 use crate::list::EdgeList;
@@ -27,14 +28,82 @@ pub fn read_edges(
     ensures { (if is_ok result then Some edges.new else None) ≡ option_map (edges_added edges.old) (edges_of separators text.now) }
 {
     let mut rest = text;
-    loop {
-        match cut_at_separator(separators, rest) {
-            Some((word, remainder)) => {
-                read_word(word, edges)?;
-                rest = remainder;
+    'words: loop {
+        if let Some(remainder) = read_expected(rest, separators, edges) {
+            rest = remainder;
+        } else {
+            match cut_at_separator(separators, rest) {
+                Some((word, remainder)) => {
+                    read_word(word, edges)?;
+                    rest = remainder;
+                }
+                None => return read_word(rest, edges),
             }
-            None => return read_word(rest, edges),
         }
+    }
+}
+
+/// Appends the first edge of a text, and gives the text after it, where the edge is as long as its
+/// first bytes let expect. Else the list stays as it was, and the edge has to be sought.
+fn read_expected<'a>(
+    text: &'a [u8],
+    separators: Separators,
+    edges: &mut EdgeList,
+) -> Option<&'a [u8]>
+    ensures { MatchOption result (edges.new ≡ edges.old) (λ remainder. ReadsFirst separators edges.old edges.new text.now remainder.now) }
+{
+    let (word, remainder) = expected_word(separators, text)?;
+    match read_edge_bytes(word) {
+        Ok(edge) => {
+            edges.push(edge);
+            Some(remainder)
+        }
+        Err(_) => None,
+    }
+}
+
+/// As many bytes of a text as an edge with its first bytes mostly has, and the text after them and a
+/// separator, if there is one there, or they end the text.
+fn expected_word(separators: Separators, text: &[u8]) -> Option<(&[u8], &[u8])>
+    ensures { IfSome result (λ parts. BeginsWith separators text.now parts.0.now parts.1.now) }
+{
+    let length = expected_length(text);
+    if length > text.len() {
+        return None;
+    }
+    let (word, rest) = text.split_at(length);
+    match rest {
+        [] => Some((word, rest)),
+        [byte, remainder @ ..] => {
+            if separates(separators, *byte) {
+                Some((word, remainder))
+            } else {
+                None
+            }
+        }
+    }
+}
+
+/// How many bytes an edge that begins as a text does mostly has. Nothing rests on it: an edge of
+/// another length is sought.
+fn expected_length(text: &[u8]) -> usize {
+    match text {
+        [b'R' | b'W' | b'C' | b'F', ..] => 3,
+        [b'P', ..] => 5,
+        [b'S', ..] => 7,
+        [b'D', b'M', ..] => 9,
+        [b'D' | b'E' | b'I', ..] => 8,
+        [b'L' | b'M', ..] => 9,
+        _ => 0,
+    }
+}
+
+fn separates(separators: Separators, byte: u8) -> bool
+    ensures { result ≡ separates separators byte }
+{
+    match separators {
+        Separators::Blanks => Class::Blank.has(byte),
+        Separators::BlanksAndCommas => Class::Blank.has(byte) || byte == b',',
     }
 }
 

@@ -1,13 +1,14 @@
 -- A text is read as the edge without marks that it spells, and as none where it spells none.
 use Rattle.std.specs.Prelude.{ℕ, ◌≡◌, ◌<◌, ◌⊎◌, ◌==◌, ◌++◌, ◌∷◌, [], Bool, true, false, not, List, length, Option, Some, None, reverse, codes}
 use Rattle.std.specs.List.{list_all, list_any, find}
-use Rattle.std.specs.Option.{option_or}
+use Rattle.std.specs.Option.{option_or, option_map}
 use Rattle.std.specs.Str.{bytes_eq}
 use Rattle.std.proofs.Common.{refl, arith, ap, subst, sym, ◌∙◌, inl, inr, append_assoc}
 use Rattle.std.proofs.lemmas.Grind.{reverse_onto}
 use Rattle.std.proofs.lemmas.List.{reverse-reverse, reverse-append}
 use Rattle.std.proofs.lemmas.Slice.Eq.{bytes_eq-Decides}
 use Rattle.list_laws.proofs.Cases.{by_test}
+use Rattle.list_laws.proofs.Elements.{option_or-none}
 use Rattle.relax_edges.specs.declared.kinds.Dir.{Dir}
 use Rattle.relax_edges.specs.declared.kinds.Dir.TheVariants as dirs
 use Rattle.relax_edges.specs.declared.kinds.Sd.{Sd}
@@ -229,18 +230,92 @@ kind_sound text edge found =
     ]
 
 -- a text with these last two bytes is read by its end
-pub ending_is_read : (prefix : List ℕ) (before last : ℕ)
+ending_is_read : (prefix : List ℕ) (before last : ℕ)
     → kind_read (prefix ++ before ∷ last ∷ [])
-    ≡ option_or (option_or (read_as_communication (prefix ++ before ∷ last ∷ [])) (read_back_two_sided (reverse (prefix ++ before ∷ last ∷ [])))) (one_sided_of prefix before last)
+    ≡ option_or (read_as_communication (prefix ++ before ∷ last ∷ [])) (option_or (read_back_two_sided (reverse (prefix ++ before ∷ last ∷ []))) (one_sided_of prefix before last))
 unfolding kind_read
 ending_is_read prefix before last =
     let text = prefix ++ before ∷ last ∷ [] in
     ap (λ o. option_or (read_as_communication text) (option_or (read_back_two_sided (reverse text)) o)) (one_sided_end prefix before last)
-    ∙ grouped (read_as_communication text) (read_back_two_sided (reverse text)) (one_sided_of prefix before last)
-  where
-    grouped : (a b d : Option Kind) → option_or a (option_or b d) ≡ option_or (option_or a b) d
-    grouped None b d = refl
-    grouped (Some x) b d = refl
+
+-- what needs a letter that isn't there is none
+no_reach : (kind : Option Com) → communication kind None ≡ None
+no_reach None = refl
+no_reach (Some kind) = refl
+
+no_target : (sd : Option Sd) (from : Option Dir) (po : Bool) (kind : Option FenceKind) → two_sided sd from None po kind ≡ None
+no_target None from po kind = refl
+no_target (Some sd) None po kind = refl
+no_target (Some sd) (Some from) po kind = refl
+
+no_direction : (sd : Option Sd) (data_word : Bool) (kind : Option DepKind) → one_sided sd None data_word kind ≡ None
+no_direction None data_word kind = refl
+no_direction (Some sd) data_word kind = refl
+
+no_source : (sd : Option Sd) (to : Option Dir) (po : Bool) (kind : Option FenceKind) → two_sided sd None to po kind ≡ None
+no_source None to po kind = refl
+no_source (Some sd) to po kind = refl
+
+-- a letter of a direction is none of a reach or of a place
+word_alone : (dir : Dir) → (reach_named (dir_word dir) ≡ None) × (sd_named (dir_word dir) ≡ None)
+word_alone dirs.R = (refl, refl)
+word_alone dirs.W = (refl, refl)
+
+direction_alone : (byte : ℕ) (dir : Dir) → dir_named (byte ∷ []) ≡ Some dir → (reach_named (byte ∷ []) ≡ None) × (sd_named (byte ∷ []) ≡ None)
+direction_alone byte dir named = subst (λ text. (reach_named text ≡ None) × (sd_named text ≡ None)) (sym (dir_is (byte ∷ []) dir named)) (word_alone dir)
+
+communication_needs : (prefix : List ℕ) (before last : ℕ) → reach_named (last ∷ []) ≡ None → read_as_communication (prefix ++ before ∷ last ∷ []) ≡ None
+unfolding communication_of
+communication_needs [] before last none = refl
+communication_needs (a ∷ []) before last none = rw none (no_reach (com_named (a ∷ before ∷ [])))
+communication_needs (a ∷ b ∷ prefix) before last none = communication_long (a ∷ b ∷ prefix) before last (omega arith)
+
+two_sided_back : (back : List ℕ) (before last : ℕ) → (dir_named (last ∷ []) ≡ None) ⊎ (dir_named (before ∷ []) ≡ None)
+    → read_back_two_sided (last ∷ before ∷ back) ≡ None
+unfolding two_sided_of
+two_sided_back [] before last none = refl
+two_sided_back (sd ∷ back) before last (inl none) = rw none (no_target (sd_named (sd ∷ [])) (dir_named (before ∷ [])) (bytes_eq (reverse back) (codes "Po")) (fence_named (reverse back)))
+two_sided_back (sd ∷ back) before last (inr none) = rw none (no_source (sd_named (sd ∷ [])) (dir_named (last ∷ [])) (bytes_eq (reverse back) (codes "Po")) (fence_named (reverse back)))
+
+two_sided_needs : (prefix : List ℕ) (before last : ℕ) → (dir_named (last ∷ []) ≡ None) ⊎ (dir_named (before ∷ []) ≡ None)
+    → read_back_two_sided (reverse (prefix ++ before ∷ last ∷ [])) ≡ None
+two_sided_needs prefix before last none = rw (reverse-append prefix (before ∷ last ∷ [])) (two_sided_back (reverse prefix) before last none)
+
+one_sided_needs_direction : (prefix : List ℕ) (before last : ℕ) → dir_named (last ∷ []) ≡ None → one_sided_of prefix before last ≡ None
+unfolding one_sided_of
+one_sided_needs_direction prefix before last none = rw none (no_direction (sd_named (before ∷ [])) (bytes_eq prefix (codes "DpData")) (dependency_named prefix))
+
+one_sided_needs_place : (prefix : List ℕ) (before last : ℕ) → sd_named (before ∷ []) ≡ None → one_sided_of prefix before last ≡ None
+unfolding one_sided_of
+one_sided_needs_place prefix before last none = rw none refl
+
+-- a text whose last byte is no direction is read as a communication
+pub ends_in_no_direction : (prefix : List ℕ) (before last : ℕ) → dir_named (last ∷ []) ≡ None
+    → kind_read (prefix ++ before ∷ last ∷ []) ≡ read_as_communication (prefix ++ before ∷ last ∷ [])
+ends_in_no_direction prefix before last none =
+    ending_is_read prefix before last
+    ∙ rw (two_sided_needs prefix before last (inl none), one_sided_needs_direction prefix before last none)
+    (option_or-none (read_as_communication (prefix ++ before ∷ last ∷ [])))
+
+-- one whose last byte alone is a direction is read by a place and that direction
+pub ends_in_one_direction : (prefix : List ℕ) (before last : ℕ) (to : Dir) → dir_named (last ∷ []) ≡ Some to → dir_named (before ∷ []) ≡ None
+    → kind_read (prefix ++ before ∷ last ∷ []) ≡ one_sided_of prefix before last
+ends_in_one_direction prefix before last to named none =
+    ending_is_read prefix before last
+    ∙ rw (communication_needs prefix before last (direction_alone last to named).0, two_sided_needs prefix before last (inr none)) refl
+
+-- one whose last two bytes are directions is read by a place and these
+pub ends_in_two_directions : (prefix : List ℕ) (before last : ℕ) (from to : Dir) → dir_named (last ∷ []) ≡ Some to → dir_named (before ∷ []) ≡ Some from
+    → kind_read (prefix ++ before ∷ last ∷ []) ≡ read_back_two_sided (reverse (prefix ++ before ∷ last ∷ []))
+ends_in_two_directions prefix before last from to named source =
+    ending_is_read prefix before last
+    ∙ rw (communication_needs prefix before last (direction_alone last to named).0, one_sided_needs_place prefix before last (direction_alone before from source).1)
+    (option_or-none (read_back_two_sided (reverse (prefix ++ before ∷ last ∷ []))))
+
+-- the kind of what is read without marks
+pub kinds_of_unmarked : (kind : Option Kind) → option_map kind_of (option_map unmarked kind) ≡ kind
+kinds_of_unmarked None = refl
+kinds_of_unmarked (Some kind) = ap Some (kind_of_unmarked kind)
 
 -- a text of fewer than two bytes is read as none
 pub short_is_none : (text : List ℕ) → length text < 2 → kind_read text ≡ None

@@ -9,6 +9,7 @@ pub mod Stars
 pub mod Kept
 pub mod KindRanks
 pub mod KindSpellings
+pub mod FenceWords
 pub mod Search
 pub mod Items
 pub mod Prefixes

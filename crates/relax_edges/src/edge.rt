@@ -359,6 +359,21 @@ impl Edge {
     pub fn of_arch(self, arch: ArchName) -> bool
         ensures { result ≡ is_of_arch self arch }
     {
+        match self {
+            Edge::Com { .. } | Edge::Po { .. } => true,
+            Edge::Fenced { fence, .. } => fence.is_of(arch),
+            Edge::Dep { dep, .. } => dep.is_of(arch),
+            Edge::Data { .. } => !matches!(arch, ArchName::X86),
+            Edge::Marked(_) => self.marks_of_arch(arch),
+        }
+    }
+
+    /// The same where an access has a mark. It is apart so that `of_arch` is short for edges without
+    /// marks, which are met most often.
+    #[inline(never)]
+    fn marks_of_arch(self, arch: ArchName) -> bool
+        ensures { result ≡ is_of_arch self arch }
+    {
         self.source_mark().is_of(arch) && self.target_mark().is_of(arch) && self.kind().is_of(arch)
     }
 

@@ -1,6 +1,8 @@
 ghost use Rattle.std.specs.Prelude.{◌≡◌, ◌∷◌, [], ◌++◌, reverse};
-ghost use Rattle.relax_edges.specs.WordReading.{mark_named, kind_read, edge_spelled, dir_named, sd_named, reach_named, com_named, dependency_named, riscv_fence_named, plain_fence_named, fence_named, communication_of, two_sided_of, one_sided_of, read_as_communication, read_back_two_sided};
+ghost use Rattle.relax_edges.specs.WordReading.{mark_named, kind_read, edge_spelled, dir_named, sd_named, reach_named, com_named, dependency_named, riscv_fence_named, fence_named, communication_of, two_sided_of, one_sided_of, read_as_communication, read_back_two_sided};
 ghost use Rattle.relax_edges.specs.Spelling.{edge_of};
+ghost use Rattle.relax_edges.specs.EdgeTable.{unmarked};
+ghost use Rattle.std.specs.Option.{option_map};
 ghost use Rattle.std.specs.Result.{result_ok};
 
 use crate::edge::Edge;
@@ -87,6 +89,7 @@ impl DepKind {
     }
 }
 
+#[inline(never)]
 fn riscv_fence(text: &[u8]) -> Option<FenceKind>
     ensures { result ≡ riscv_fence_named text.now }
 {
@@ -114,60 +117,89 @@ fn riscv_fence(text: &[u8]) -> Option<FenceKind>
     Some(FenceKind::Fence { pred, succ })
 }
 
-fn plain_fence(text: &[u8]) -> Option<FenceKind>
-    ensures { result ≡ plain_fence_named text.now }
+#[tactic(auto, using(crate::proofs::FenceWords::fence_of_four))]
+fn fence_of_four(first: u8, second: u8, third: u8, fourth: u8) -> Option<FenceKind>
+    ensures { result ≡ fence_named (first ∷ second ∷ third ∷ fourth ∷ []) }
 {
-    let fence = if text == b"MFence".as_slice() {
-        FenceKind::MFence
-    } else if text == b"Sync".as_slice() {
-        FenceKind::Sync
-    } else if text == b"LwSync".as_slice() {
-        FenceKind::LwSync
-    } else if text == b"Eieio".as_slice() {
-        FenceKind::Eieio
-    } else if text == b"ISync".as_slice() {
-        FenceKind::ISync
-    } else if text == b"DMB.SY".as_slice() {
-        FenceKind::DmbSy
-    } else if text == b"DMB.LD".as_slice() {
-        FenceKind::DmbLd
-    } else if text == b"DMB.ST".as_slice() {
-        FenceKind::DmbSt
-    } else {
-        return None;
-    };
-    Some(fence)
+    match (first, second, third, fourth) {
+        (b'S', b'y', b'n', b'c') => Some(FenceKind::Sync),
+        _ => None,
+    }
+}
+
+#[tactic(auto, using(crate::proofs::FenceWords::fence_of_five))]
+fn fence_of_five(first: u8, second: u8, third: u8, fourth: u8, fifth: u8) -> Option<FenceKind>
+    ensures { result ≡ fence_named (first ∷ second ∷ third ∷ fourth ∷ fifth ∷ []) }
+{
+    match (first, second, third, fourth, fifth) {
+        (b'E', b'i', b'e', b'i', b'o') => Some(FenceKind::Eieio),
+        (b'I', b'S', b'y', b'n', b'c') => Some(FenceKind::ISync),
+        _ => None,
+    }
+}
+
+#[tactic(auto, using(crate::proofs::FenceWords::fence_of_six))]
+fn fence_of_six(
+    first: u8,
+    second: u8,
+    third: u8,
+    fourth: u8,
+    fifth: u8,
+    sixth: u8,
+) -> Option<FenceKind>
+    ensures { result ≡ fence_named (first ∷ second ∷ third ∷ fourth ∷ fifth ∷ sixth ∷ []) }
+{
+    match (first, second, third, fourth, fifth, sixth) {
+        (b'M', b'F', b'e', b'n', b'c', b'e') => Some(FenceKind::MFence),
+        (b'L', b'w', b'S', b'y', b'n', b'c') => Some(FenceKind::LwSync),
+        (b'D', b'M', b'B', b'.', b'S', b'Y') => Some(FenceKind::DmbSy),
+        (b'D', b'M', b'B', b'.', b'L', b'D') => Some(FenceKind::DmbLd),
+        (b'D', b'M', b'B', b'.', b'S', b'T') => Some(FenceKind::DmbSt),
+        _ => None,
+    }
 }
 
 impl FenceKind {
+    /// The words of a length are few, so the length is asked first.
+    #[tactic(auto, using(crate::proofs::FenceWords::short_fence, crate::proofs::FenceWords::long_fence))]
     fn from_word(text: &[u8]) -> Option<FenceKind>
         ensures { result ≡ fence_named text.now }
     {
-        plain_fence(text).or(riscv_fence(text))
+        match text {
+            [first, second, third, fourth] => fence_of_four(*first, *second, *third, *fourth),
+            [first, second, third, fourth, fifth] => {
+                fence_of_five(*first, *second, *third, *fourth, *fifth)
+            }
+            [first, second, third, fourth, fifth, sixth] => {
+                fence_of_six(*first, *second, *third, *fourth, *fifth, *sixth)
+            }
+            _ => riscv_fence(text),
+        }
     }
 }
 
 #[tactic(auto, unfolding(crate::specs::WordReading::communication_of))]
-fn read_communication(first: u8, second: u8, reach: u8) -> Option<Kind>
-    ensures { result ≡ communication_of first second reach }
+fn read_communication(first: u8, second: u8, reach: u8) -> Option<Edge>
+    ensures { result ≡ option_map unmarked (communication_of first second reach) }
 {
     let com = Com::from_bytes(first, second)?;
     let reach = Reach::from_byte(reach)?;
-    Some(Kind::Com { com, reach })
+    Some(Edge::Com { com, reach })
 }
 
 #[tactic(auto, unfolding(crate::specs::WordReading::two_sided_of))]
-fn read_two_sided(prefix: &[u8], sd: u8, from: u8, to: u8) -> Option<Kind>
-    ensures { result ≡ two_sided_of prefix.now sd from to }
+#[inline(always)]
+fn read_two_sided(prefix: &[u8], sd: u8, from: u8, to: u8) -> Option<Edge>
+    ensures { result ≡ option_map unmarked (two_sided_of prefix.now sd from to) }
 {
     let sd = Sd::from_byte(sd)?;
     let from = Dir::from_byte(from)?;
     let to = Dir::from_byte(to)?;
     if prefix == b"Po".as_slice() {
-        return Some(Kind::Po { sd, from, to });
+        return Some(Edge::Po { sd, from, to });
     }
     let fence = FenceKind::from_word(prefix)?;
-    Some(Kind::Fenced {
+    Some(Edge::Fenced {
         fence,
         sd,
         from,
@@ -176,24 +208,25 @@ fn read_two_sided(prefix: &[u8], sd: u8, from: u8, to: u8) -> Option<Kind>
 }
 
 #[tactic(auto, unfolding(crate::specs::WordReading::one_sided_of))]
-fn read_one_sided(prefix: &[u8], sd: u8, to: u8) -> Option<Kind>
-    ensures { result ≡ one_sided_of prefix.now sd to }
+#[inline(always)]
+fn read_one_sided(prefix: &[u8], sd: u8, to: u8) -> Option<Edge>
+    ensures { result ≡ option_map unmarked (one_sided_of prefix.now sd to) }
 {
     let sd = Sd::from_byte(sd)?;
     let to = Dir::from_byte(to)?;
     if prefix == b"DpData".as_slice() {
         return match to {
             Dir::R => None,
-            Dir::W => Some(Kind::Data { sd }),
+            Dir::W => Some(Edge::Data { sd }),
         };
     }
     let dep = DepKind::from_word(prefix)?;
-    Some(Kind::Dep { dep, sd, to })
+    Some(Edge::Dep { dep, sd, to })
 }
 
 #[tactic(auto, using(crate::proofs::KindSpellings::communication_bare, crate::proofs::KindSpellings::communication_long))]
-fn end_communication(prefix: &[u8], before: u8, last: u8) -> Option<Kind>
-    ensures { result ≡ read_as_communication (prefix.now ++ before ∷ last ∷ []) }
+fn end_communication(prefix: &[u8], before: u8, last: u8) -> Option<Edge>
+    ensures { result ≡ option_map unmarked (read_as_communication (prefix.now ++ before ∷ last ∷ [])) }
 {
     match prefix {
         [first] => read_communication(*first, before, last),
@@ -202,8 +235,9 @@ fn end_communication(prefix: &[u8], before: u8, last: u8) -> Option<Kind>
 }
 
 #[tactic(auto, using(crate::proofs::KindSpellings::two_sided_end, crate::proofs::KindSpellings::two_sided_none))]
-fn end_two_sided(prefix: &[u8], from: u8, to: u8) -> Option<Kind>
-    ensures { result ≡ read_back_two_sided (reverse (prefix.now ++ from ∷ to ∷ [])) }
+#[inline(always)]
+fn end_two_sided(prefix: &[u8], from: u8, to: u8) -> Option<Edge>
+    ensures { result ≡ option_map unmarked (read_back_two_sided (reverse (prefix.now ++ from ∷ to ∷ []))) }
 {
     match prefix {
         [prefix @ .., sd] => read_two_sided(prefix, *sd, from, to),
@@ -211,23 +245,33 @@ fn end_two_sided(prefix: &[u8], from: u8, to: u8) -> Option<Kind>
     }
 }
 
-/// The edge without marks that a text spells that ends with these two bytes.
-#[tactic(auto, using(crate::proofs::KindSpellings::ending_is_read))]
-fn end_kind(prefix: &[u8], before: u8, last: u8) -> Option<Kind>
-    ensures { result ≡ kind_read (prefix.now ++ before ∷ last ∷ []) }
+/// The edge without marks that a text spells that ends with these two bytes. Which of them are
+/// directions says which form it has.
+#[inline(always)]
+fn end_unmarked(prefix: &[u8], before: u8, last: u8) -> Option<Edge>
+    ensures { result ≡ option_map unmarked (kind_read (prefix.now ++ before ∷ last ∷ [])) }
 {
-    end_communication(prefix, before, last)
-        .or_else(|| end_two_sided(prefix, before, last))
-        .or_else(|| read_one_sided(prefix, before, last))
+    match Dir::from_byte(last) {
+        None => end_communication(prefix, before, last),
+        Some(_) => match Dir::from_byte(before) {
+            None => read_one_sided(prefix, before, last),
+            Some(_) => end_two_sided(prefix, before, last),
+        },
+    }
 }
 
-/// The edge without marks that a text spells.
-#[tactic(auto, using(crate::proofs::KindSpellings::short_is_none))]
+/// The edge without marks that a text spells, as its kind. It is apart so that `read_ending` is short
+/// for edges without marks, which are met most often.
+#[tactic(auto, using(crate::proofs::KindSpellings::short_is_none, crate::proofs::KindSpellings::kinds_of_unmarked))]
+#[inline(never)]
 fn read_kind(text: &[u8]) -> Option<Kind>
     ensures { result ≡ kind_read text.now }
 {
     match text {
-        [prefix @ .., before, last] => end_kind(prefix, *before, *last),
+        [prefix @ .., before, last] => match end_unmarked(prefix, *before, *last) {
+            Some(edge) => Some(edge.kind()),
+            None => None,
+        },
         _ => None,
     }
 }
@@ -254,10 +298,10 @@ pub(crate) fn read_ending(prefix: &[u8], before: u8, last: u8) -> Option<Edge>
     ensures { result ≡ edge_of (prefix.now ++ before ∷ last ∷ []) }
 {
     let Some(from) = Mark::from_byte(before) else {
-        return Some(end_kind(prefix, before, last)?.without_marks());
+        return end_unmarked(prefix, before, last);
     };
     let Some(to) = Mark::from_byte(last) else {
-        return Some(end_kind(prefix, before, last)?.without_marks());
+        return end_unmarked(prefix, before, last);
     };
     edge_of_letters(read_kind(prefix)?, from, to)
 }

@@ -5,8 +5,8 @@ use Rattle.edge_lists.specs.Spelled.{separates}
 use Rattle.edge_lists.proofs.ReadingLaws.{spelled}
 use Rattle.edge_lists.proofs.read.read_edges.Given as goal
 
-abbrev pub invariant-loop-word : goal.invariant-loop-word
-invariant-loop-word l = spelled l.edges (slice_split (separates l.separators) l.rest) ≡ spelled l.fn.edges (slice_split (separates l.fn.separators) l.fn.text)
+abbrev pub invariant-words : goal.invariant-words
+invariant-words l = spelled l.edges (slice_split (separates l.separators) l.rest) ≡ spelled l.fn.edges (slice_split (separates l.fn.separators) l.fn.text)
 
-abbrev pub decreases-loop-word : goal.decreases-loop-word
-decreases-loop-word l = length l.rest
+abbrev pub decreases-words : goal.decreases-words
+decreases-words l = length l.rest

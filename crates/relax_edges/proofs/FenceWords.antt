@@ -1,0 +1,48 @@
+-- The fences that a text of a given length may name.
+use Rattle.std.specs.Prelude.{ℕ, ◌≡◌, ◌<◌, ◌∷◌, [], List, length, Option, Some, None, cond, codes}
+use Rattle.std.specs.Str.{bytes_eq}
+use Rattle.std.specs.Option.{option_or}
+use Rattle.std.proofs.Common.{refl, arith}
+use Rattle.std.proofs.Math.Bool.{and-false}
+use Rattle.list_laws.proofs.Elements.{option_or-none}
+use Rattle.relax_edges.specs.declared.kinds.FenceKind.{FenceKind}
+use Rattle.relax_edges.specs.declared.kinds.FenceKind.TheVariants as fences
+use Rattle.relax_edges.specs.WordReading.{fence_named, riscv_fence_named}
+
+-- four bytes name no fence but `Sync`
+pub fence_of_four : (a b d e : ℕ) → fence_named (a ∷ b ∷ d ∷ e ∷ []) ≡ cond (bytes_eq (a ∷ b ∷ d ∷ e ∷ []) (codes "Sync")) (Some fences.Sync) None
+fence_of_four a b d e = simp (and-false, option_or-none)
+
+-- five bytes name no fence but `Eieio` and `ISync`
+pub fence_of_five : (a b d e f : ℕ) → fence_named (a ∷ b ∷ d ∷ e ∷ f ∷ [])
+    ≡ cond (bytes_eq (a ∷ b ∷ d ∷ e ∷ f ∷ []) (codes "Eieio")) (Some fences.Eieio)
+    (cond (bytes_eq (a ∷ b ∷ d ∷ e ∷ f ∷ []) (codes "ISync")) (Some fences.ISync) None)
+fence_of_five a b d e f = simp (and-false, option_or-none)
+
+-- six bytes name no fence but these five
+pub fence_of_six : (a b d e f g : ℕ) → fence_named (a ∷ b ∷ d ∷ e ∷ f ∷ g ∷ [])
+    ≡ cond (bytes_eq (a ∷ b ∷ d ∷ e ∷ f ∷ g ∷ []) (codes "MFence")) (Some fences.MFence)
+    (cond (bytes_eq (a ∷ b ∷ d ∷ e ∷ f ∷ g ∷ []) (codes "LwSync")) (Some fences.LwSync)
+    (cond (bytes_eq (a ∷ b ∷ d ∷ e ∷ f ∷ g ∷ []) (codes "DMB.SY")) (Some fences.DmbSy)
+    (cond (bytes_eq (a ∷ b ∷ d ∷ e ∷ f ∷ g ∷ []) (codes "DMB.LD")) (Some fences.DmbLd)
+    (cond (bytes_eq (a ∷ b ∷ d ∷ e ∷ f ∷ g ∷ []) (codes "DMB.ST")) (Some fences.DmbSt) None))))
+fence_of_six a b d e f g = simp (and-false, option_or-none)
+
+-- fewer bytes name no fence but one of RISC-V
+pub short_fence : (text : List ℕ) → length text < 4 → fence_named text ≡ riscv_fence_named text
+short_fence [] short = refl
+short_fence (a ∷ []) short = simp and-false
+short_fence (a ∷ b ∷ []) short = simp and-false
+short_fence (a ∷ b ∷ d ∷ []) short = simp and-false
+short_fence (a ∷ b ∷ d ∷ e ∷ text) short = absurd (omega arith)
+
+-- and more bytes name none but one of RISC-V
+pub long_fence : (text : List ℕ) → 6 < length text → fence_named text ≡ riscv_fence_named text
+long_fence [] long = absurd (omega arith)
+long_fence (a ∷ []) long = absurd (omega arith)
+long_fence (a ∷ b ∷ []) long = absurd (omega arith)
+long_fence (a ∷ b ∷ d ∷ []) long = absurd (omega arith)
+long_fence (a ∷ b ∷ d ∷ e ∷ []) long = absurd (omega arith)
+long_fence (a ∷ b ∷ d ∷ e ∷ f ∷ []) long = absurd (omega arith)
+long_fence (a ∷ b ∷ d ∷ e ∷ f ∷ g ∷ []) long = absurd (omega arith)
+long_fence (a ∷ b ∷ d ∷ e ∷ f ∷ g ∷ h ∷ text) long = simp and-false
