@@ -1,12 +1,22 @@
--- It doesn't matter which of three paths are joined first.
-use Rattle.std.proofs.Common.{◌≡◌, ◌<◌, ◌+◌, Bool, true, false, cond, List, [], ◌∷◌, ◌++◌, length, Ok, Err, refl, ◌∙◌, arith, append_assoc, length-append, nat_lt}
+-- It doesn't matter which of three paths are joined first, and how places of breaks are counted.
+use Rattle.std.proofs.Common.{◌≡◌, ◌<◌, ◌+◌, ℕ, Bool, true, false, cond, List, [], ◌∷◌, ◌++◌, length, Option, Some, None, Ok, Err, refl, ap, ◌∙◌, arith, append_assoc, length-append, nat_lt}
 use Rattle.relax_edges.specs.declared.TheConstants.{MAX_EDGES}
 use Rattle.relax_edges.specs.declared.edge.Edge.{Edge}
 use Rattle.relax_edges.specs.JoinedEdges.{joins_first}
-use Rattle.cycle_laws.specs.Composable.{last_joins}
+use Rattle.cycle_laws.specs.Composable.{one_later, last_joins}
 use Rattle.edge_algebra.specs.declared.errors.JoinError.TheVariants as joins
-use Rattle.edge_algebra.specs.Compose.{joined}
+use Rattle.edge_algebra.specs.Compose.{counted_from, joined}
 use Rattle.edge_algebra.specs.Laws.{JoiningIsAssociative}
+
+-- counted from 0, a place is itself
+pub counted_from_zero : (place : Option ℕ) → counted_from 0 place ≡ place
+counted_from_zero None = refl
+counted_from_zero (Some i) = let same : 0 + i ≡ i = omega arith in ap Some same
+
+-- a place that comes one later is counted from one more
+pub counted_later : (at : ℕ) (place : Option ℕ) → counted_from (at + 1) place ≡ counted_from at (one_later place)
+counted_later at None = refl
+counted_later at (Some i) = let same : (at + 1) + i ≡ at + (i + 1) = omega arith in ap Some same
 
 -- what two joined paths are
 record Joined (u v w : List Edge) : Type 0 where

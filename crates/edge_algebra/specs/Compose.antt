@@ -10,6 +10,11 @@ use Rattle.edge_algebra.specs.declared.errors.JoinError.TheVariants as joins
 use Rattle.edge_algebra.specs.declared.errors.NotClosed.{NotClosed}
 use Rattle.cycle_laws.specs.Composable.{first_break, last_joins}
 
+-- a place, counted from this one and not from 0
+abbrev pub counted_from : ℕ → Option ℕ → Option ℕ
+counted_from _ None = None
+counted_from at (Some i) = Some (at + i)
+
 -- the list itself where each edge joins the next, cyclically, and else the fault at the first place where one doesn't
 abbrev pub unbroken : List Edge → Option ℕ → Result (List Edge) CycleError
 unbroken u None = Ok u

@@ -1,7 +1,8 @@
 -- A list in which no break is found is a cycle.
-use Rattle.std.proofs.Common.{rules, arith, sym}
+use Rattle.std.proofs.Common.{rules, arith, sym, ◌∙◌}
 use Rattle.cycle_laws.proofs.Composing.{unbroken_cycle}
+use Rattle.edge_algebra.proofs.Composed.{counted_from_zero}
 use Rattle.edge_algebra.proofs.compose.cycle.Goals as goal
 
 pub of-requires : goal.of-requires
-of-requires c = unbroken_cycle c.args.edges.now c.in-Some.first.now (sym c.in-Some.ensures.value) (omega arith) (search rules)
+of-requires c = unbroken_cycle c.args.edges.now c.in-Some.first.now (sym c.in-Some.ensures.value) (omega arith) (sym (counted_from_zero _) ∙ search rules)
