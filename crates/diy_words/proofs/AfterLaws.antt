@@ -12,7 +12,7 @@ use Rattle.edge_algebra.specs.Compose.{composed}
 use Rattle.edge_lists.specs.declared.list.EdgeList.{EdgeList}
 use Rattle.edge_lists.specs.KeptEdges.{kept_edges, edges_added}
 use Rattle.edge_lists.specs.KeptLaws.{added_whole}
-use Rattle.diy_words.specs.Given.{notes_after, cycle_kept}
+use Rattle.diy_words.specs.CodeNotes.{notes_after, cycle_kept}
 use Rattle.diy_words.specs.declared.usage.Usage.{Usage}
 use Rattle.diy_words.specs.declared.usage.UsageKind.TheVariants.{BadAfter}
 use Rattle.diy_words.specs.Notes.{Notes}

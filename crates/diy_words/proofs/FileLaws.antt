@@ -1,23 +1,22 @@
 -- Where words ask for something of classify7, each word that is neither an option nor its value names a file.
 use Rattle.std.proofs.Common.{◌≡◌, ◌<◌, ◌≤◌, ◌+◌, get_or, ℕ, Bool, true, false, List, [], ◌∷◌, ◌++◌, length, Option, Some, None, Result, Ok, Err, append_assoc, append-nil, refl, sym, ap, ◌∙◌, subst, arith, slice_get}
-use Rattle.std.specs.Prelude.{if◌then◌else◌, IsOk, OnErr, All, codes}
-use Rattle.std.specs.List.{AllByRecursion}
+use Rattle.std.specs.Prelude.{if◌then◌else◌, OnErr, All, codes}
 use Rattle.std.specs.Str.{bytes_eq}
 use Rattle.std.proofs.lemmas.List.Elements.{All-append}
-use Rattle.relax_edges.specs.declared.edge.Edge.{Edge}
 use Rattle.relax_edges.specs.declared.kinds.ArchName.{ArchName}
 use Rattle.diy_words.specs.declared.options.OptionName.{OptionName}
 use Rattle.diy_words.specs.declared.options.OptionName.TheVariants as opts
-use Rattle.diy_words.specs.declared.options.Tool.{Tool}
 use Rattle.diy_words.specs.declared.options.Tool.TheVariants as tools
 use Rattle.diy_words.specs.declared.usage.Usage.{Usage}
-use Rattle.diy_words.specs.declared.usage.UsageKind.TheVariants.{UnknownOption, ExcludedOption}
-use Rattle.diy_words.specs.Parts.{Alone, Valued, Unvalued, parts_of, option_named, arch_named, mode_named}
-use Rattle.diy_words.specs.Notes.{Notes, no_notes}
-use Rattle.diy_words.specs.Sayings.{Saying, SaysFile, usage_fault, arch_said, mode_said, begins_option, said_by, sayings, said_all, files_in, files_given, notes_of, edges_given, places_given}
-use Rattle.diy_words.specs.Requests.{Task, AsksTest, AsksWhy, AsksName, AsksList, AsksFamilies, AsksCross, AsksDemo, AsksCheck, asks, cross_asked, families_with, demo_with, why_asked, test_asked, diyone_asked, diy_asked, norm_asked, tool_asked, asked_for, asked_of, IsClassifying, files_of, check_with, said_asked}
-use Rattle.diy_words.proofs.BeforeLaws.{IsSilent, IsUncounted}
-use Rattle.diy_words.proofs.OperandLaws.{given_all, said_from, AreFaultless, given_from, alone_then, IsOther, OptionFirst, option_then, all_said, none_left}
+use Rattle.diy_words.specs.declared.usage.UsageKind.TheVariants.{UnknownOption}
+use Rattle.diy_words.specs.Parts.{Alone, Valued, option_named, arch_named}
+use Rattle.diy_words.specs.Sayings.{SaysFile, usage_fault, arch_said, begins_option, said_by}
+use Rattle.diy_words.specs.Gathered.{Gathered, files_in}
+use Rattle.diy_words.specs.SaidInOrder.{before_of}
+use Rattle.diy_words.specs.Requests.{Task, AsksFamilies, asks, families_with, tool_asked, asked_of, IsClassifying, files_of}
+use Rattle.diy_words.proofs.BeforeLaws.{IsSilent, IsUncounted, by_words}
+use Rattle.diy_words.proofs.OperandLaws.{given_among, said_from, AreFaultless, given_from, alone_then, IsOther, OptionFirst, option_then, none_left}
+use Rattle.diy_words.proofs.AskedLaws.{ToolWords, tool_words}
 
 -- the places of the files among the words of classify7 from a place on
 abbrev pub files_from : List (List ℕ) → ℕ → List ℕ
@@ -25,10 +24,7 @@ files_from words at = given_from tools.Classify files_in words at
 
 -- no word of classify7 is an operand of a limited number
 same_said : IsUncounted tools.Classify
-same_said a b (Alone at text) h = refl
-same_said a b (Valued opts.Obs at value) h = ap (λ why. if why then usage_fault at ExcludedOption else mode_said (at + 1) (mode_named value)) h
-same_said a b (Valued option at value) h = refl
-same_said a b (Unvalued option at) h = refl
+same_said = by_words tools.Classify (λ a b at text. refl)
 
 -- a word that names a file, before others
 pub record FileFirst (words : List (List ℕ)) (at : ℕ) : Type 0 where
@@ -47,7 +43,7 @@ file_first words at text got plain fit =
 
     of_test : (b : Bool) → said_from tools.Classify words at ≡ (if b then usage_fault at UnknownOption else Ok (SaysFile at)) ∷ said_from tools.Classify words (at + 1) → FileFirst words at
     of_test true e = let k = rw e at fit in cc k.0
-    of_test false e = let k = rw e at fit in record { faultless = k.1; first = ap (given_all files_in) e }
+    of_test false e = let k = rw e at fit in record { faultless = k.1; first = ap (given_among files_in) e }
 
 arch_other : (at : ℕ) (arch : Option ArchName) → IsOther files_in (arch_said at arch)
 arch_other at None = record { none = refl; silent = λ before. refl }
@@ -61,9 +57,9 @@ only_arch text option h = of_test (bytes_eq text (codes "-arch")) h
     of_test true e = cc e
     of_test false e = cc e
 
-value_other : (option : OptionName) (at : ℕ) (value : List ℕ) → option ≡ opts.Arch → IsOther files_in (said_by tools.Classify no_notes (Valued option at value))
+value_other : (option : OptionName) (at : ℕ) (value : List ℕ) → option ≡ opts.Arch → IsOther files_in (said_by tools.Classify (before_of []) (Valued option at value))
 value_other option at value e =
-    subst (λ (o : OptionName). IsOther files_in (said_by tools.Classify no_notes (Valued o at value))) (sym e) (arch_other (at + 1) (arch_named value))
+    subst (λ (o : OptionName). IsOther files_in (said_by tools.Classify (before_of []) (Valued o at value))) (sym e) (arch_other (at + 1) (arch_named value))
 
 -- an option of classify7 has its value after it, and the words after that have no fault
 pub option_first : (words : List (List ℕ)) (at : ℕ) (text : List ℕ) (option : OptionName) → at < length words → slice_get words at ≡ Some text
@@ -71,64 +67,23 @@ pub option_first : (words : List (List ℕ)) (at : ℕ) (text : List ℕ) (optio
 option_first words at text option within got named fit =
     option_then tools.Classify same_said files_in words at text option within got named (λ value. value_other option at value (only_arch text option named)) fit
 
-other_tool : {X : Type 0} (request : X → Task) (asked : Result X Usage) → ((x : X) → IsClassifying (Ok (request x)) → ⊥) → IsClassifying (asks request asked) → ⊥
-other_tool request (Ok x) apart h = apart x h
-other_tool request (Err usage) apart h = h
-
-families_files : (count : ℕ) (arch : Option ArchName) (files : List ℕ) → IsClassifying (asks AsksFamilies (families_with count arch files))
-    → files ≡ files_of (asks AsksFamilies (families_with count arch files))
-families_files count None files h = absurd h
-families_files count (Some arch) files h = refl
-
-no_diyone : (count : ℕ) (notes : Notes) (edges : List Edge) → IsClassifying (diyone_asked count notes edges) → ⊥
-no_diyone count notes edges h = of_test notes.why h
+families_files : (count : ℕ) (given : Gathered) (task : Task) → tool_asked tools.Classify count given ≡ Ok task → given.files ≡ files_of (Ok task)
+families_files count given task e = of_arch given.arch e
   where
-    of_test : (b : Bool) → IsClassifying (if b then asks AsksWhy (why_asked count notes edges) else asks AsksTest (test_asked count notes edges)) → ⊥
-    of_test true h = other_tool AsksWhy (why_asked count notes edges) (λ x k. k) h
-    of_test false h = other_tool AsksTest (test_asked count notes edges) (λ x k. k) h
+    of_arch : (arch : Option ArchName) → asks AsksFamilies (families_with count arch given.files) ≡ Ok task → given.files ≡ files_of (Ok task)
+    of_arch None e = cc e
+    of_arch (Some arch) e =
+        let same : AsksFamilies (record { arch = arch; files = given.files }) ≡ task = cc e in
+        ap (λ (t : Task). files_of (Ok t)) same
 
-no_classify : (tool : Tool) (count : ℕ) (notes : Notes) (edges : List Edge) (places : List (List (List Edge))) (files : List ℕ) → (tool ≡ tools.Classify → ⊥)
-    → IsClassifying (tool_asked tool count notes edges places files) → ⊥
-no_classify tools.DiyOne count notes edges places files other h = no_diyone count notes edges h
-no_classify tools.Diy count notes edges places files other h = other_tool AsksList (diy_asked count notes) (λ x k. k) h
-no_classify tools.Cross count notes edges places files other h = other_tool AsksCross (cross_asked count notes places) (λ x k. k) h
-no_classify tools.Norm count notes edges places files other h = other_tool AsksName (norm_asked count notes edges) (λ x k. k) h
-no_classify tools.Classify count notes edges places files other h = other refl
-no_classify tools.Msum count notes edges places files other h = h
-no_classify tools.Demo count notes edges places files other h = other_tool AsksDemo (demo_with count notes.arch notes.count) (λ x k. k) h
-no_classify tools.Check count notes edges places files other h = other_tool AsksCheck (check_with count notes.arch notes.test notes.execution) (λ x k. k) h
-
-no_classify_said : (tool : Tool) (count : ℕ) (said : Result (List Saying) Usage) → (tool ≡ tools.Classify → ⊥) → IsClassifying (said_asked tool count said) → ⊥
-no_classify_said tool count (Err usage) other h = h
-no_classify_said tool count (Ok said) other h = no_classify tool count (notes_of said) (edges_given said) (places_given said) (files_given said) other h
-
--- the words of classify7 after the tool's name, and what they ask for
-record ClassifyAsks (words : List (List ℕ)) (asked : Result Task Usage) : Type 0 where
-  faultless : AllByRecursion IsOk (sayings tools.Classify no_notes (parts_of tools.Classify 1 words))
-  first : given_all files_in (sayings tools.Classify no_notes (parts_of tools.Classify 1 words)) ≡ files_of asked
-
-classify_asks : (found : Option Tool) (count : ℕ) (words : List (List ℕ)) → IsClassifying (asked_for found count words) → ClassifyAsks words (asked_for found count words)
-classify_asks None count words h = absurd h
-classify_asks (Some tools.Classify) count words h = of_said (said_all (sayings tools.Classify no_notes (parts_of tools.Classify 1 words))) refl h
+-- the words of classify7 after the tool's name
+classify_words : (words : List (List ℕ)) → IsClassifying (asked_of words) → ToolWords tools.Classify files_in words (files_of (asked_of words))
+classify_words words h = of_asked (asked_of words) refl h
   where
-    of_said : (said : Result (List Saying) Usage) → said_all (sayings tools.Classify no_notes (parts_of tools.Classify 1 words)) ≡ said
-        → IsClassifying (said_asked tools.Classify count said) → ClassifyAsks words (said_asked tools.Classify count said)
-    of_said (Err usage) e h = absurd h
-    of_said (Ok said) e h =
-        let all = all_said files_in files_given refl (λ first more. refl) (sayings tools.Classify no_notes (parts_of tools.Classify 1 words)) said e in
-        record { faultless = all.faultless; first = all.given ∙ families_files count (notes_of said).arch (files_given said) h }
-classify_asks (Some tool) count words h = absurd (no_classify_said tool count (said_all (sayings tool no_notes (parts_of tool 1 words))) (λ e. cc e) h)
-
--- the words of classify7 begin so
-pub record ClassifyWords (words : List (List ℕ)) : Type 0 where
-  pub faultless : AreFaultless tools.Classify words 1
-  pub first : files_from words 1 ≡ files_of (asked_of words)
-
-classify_words : (words : List (List ℕ)) → IsClassifying (asked_of words) → ClassifyWords words
-classify_words [] h = absurd h
-classify_words (first ∷ words) h =
-    let asks = classify_asks _ (length (first ∷ words)) words h in
-    record { faultless = asks.faultless; first = asks.first }
+    of_asked : (asked : Result Task Usage) → asked_of words ≡ asked → IsClassifying asked → ToolWords tools.Classify files_in words (files_of asked)
+    of_asked (Ok (AsksFamilies families)) e h =
+        tool_words tools.Classify files_in (λ given. given.files) (λ task. files_of (Ok task)) (λ said. refl) families_files words (AsksFamilies families) refl e
+    of_asked asked e h = absurd h
 
 -- the files before a place are found, and no word from there on is faulty
 pub record FilesRead (words : List (List ℕ)) (at : ℕ) (files : List ℕ) : Type 0 where

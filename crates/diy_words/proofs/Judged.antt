@@ -1,20 +1,21 @@
 -- The notes that are taken while the words are read are those of the definition, and the request comes of them.
-use Rattle.std.proofs.Common.{◌≡◌, ◌≤◌, ℕ, ◌+◌, List, [], ◌∷◌, length, drop, Option, Some, None, Result, Ok, Err, refl, sym, ap, ◌∙◌, subst, arith, slice_get, lit≤, nat_lt}
+use Rattle.std.proofs.Common.{◌≡◌, ◌≤◌, ℕ, ◌+◌, List, [], ◌∷◌, length, drop, Option, Some, None, Result, Ok, Err, refl, sym, ap, ◌∙◌, subst, arith, slice_get, nat_lt}
 use Rattle.std.proofs.lemmas.List.{drop_all}
 use Rattle.list_laws.proofs.Elements.{drop_given}
-use Rattle.edge_lists.specs.KeptEdges.{edges_added}
-use Rattle.edge_lists.specs.KeptLaws.{added_more, added_whole}
 use Rattle.diy_words.specs.declared.options.OptionName.{OptionName}
 use Rattle.diy_words.specs.declared.options.Tool.{Tool}
 use Rattle.diy_words.specs.declared.request.Request.{Request}
 use Rattle.diy_words.specs.declared.request.TheConstants.{MAX_CHOICES}
 use Rattle.diy_words.specs.declared.usage.Usage.{Usage}
 use Rattle.diy_words.specs.Parts.{Alone, Valued, Unvalued, parts_from, parts_of, option_named, tool_named}
-use Rattle.diy_words.specs.Notes.{Notes, no_notes}
-use Rattle.diy_words.specs.Sayings.{Saying, SaysEdges, SaysPlace, with_saying, with_next, said_by, sayings, said_first, said_all, notes_with, notes_of, edges_in, edges_given, places_of_word, places_given, files_given}
-use Rattle.diy_words.specs.Requests.{said_asked, tool_asked, asked_of}
-use Rattle.diy_words.specs.Given.{GivesTask, GivesAtEnd, notes_after, all_notes, sayings_from, notes_at_end}
-use Rattle.diy_words.proofs.ChoiceLaws.{choices_after, choices_more, choices_said}
+use Rattle.diy_words.specs.Sayings.{Saying, said_by}
+use Rattle.diy_words.specs.Gathered.{Gathered, edges_in, places_of_word, files_in, all_given}
+use Rattle.diy_words.specs.SaidInOrder.{said_first, said_all}
+use Rattle.diy_words.specs.Requests.{said_asked, tool_asked, asked_for, asked_of}
+use Rattle.diy_words.specs.Given.{GivesTask}
+use Rattle.diy_words.specs.Notes.{Notes, no_notes, with_saying, with_next, notes_with, notes_of, before_noted, said_noted, gathered_noted}
+use Rattle.diy_words.specs.CodeNotes.{GivesAtEnd, notes_after, all_notes, sayings_from, notes_at_end}
+use Rattle.diy_words.proofs.NotedLaws.{edges_noted, choices_noted, all_noted, said_so}
 
 alone_parts : (tool : Tool) (word : List ℕ) (at : ℕ) (rest : List (List ℕ)) (found : Option OptionName) → option_named tool word ≡ found → found ≡ None →
     parts_of tool at (word ∷ rest) ≡ Alone at word ∷ parts_of tool (at + 1) rest
@@ -27,28 +28,28 @@ option_parts tool word at rest option e = rw e
 -- a word by itself, and what the words after it say
 pub alone_first : (tool : Tool) (notes : Notes) (words : List (List ℕ)) (at : ℕ) (word : List ℕ) →
     slice_get words at ≡ Some word → option_named tool word ≡ None →
-    sayings_from tool notes words at ≡ said_by tool notes (Alone at word) ∷ sayings_from tool (with_next notes (said_by tool notes (Alone at word))) words (at + 1)
+    sayings_from tool notes words at ≡ said_by tool (before_noted notes) (Alone at word) ∷ sayings_from tool (with_next notes (said_by tool (before_noted notes) (Alone at word))) words (at + 1)
 alone_first tool notes words at word got plain =
-    ap (λ rest. sayings tool notes (parts_of tool at rest)) (drop_given words at word got) ∙ ap (sayings tool notes) (alone_parts tool word at (drop (at + 1) words) None plain refl)
+    ap (λ rest. said_noted tool notes (parts_of tool at rest)) (drop_given words at word got) ∙ ap (said_noted tool notes) (alone_parts tool word at (drop (at + 1) words) None plain refl)
 
 -- an option with its value and what the words after them say
 pub value_first : (tool : Tool) (notes : Notes) (words : List (List ℕ)) (at : ℕ) (word value : List ℕ) (option : OptionName) →
     slice_get words at ≡ Some word → option_named tool word ≡ Some option → slice_get words (at + 1) ≡ Some value →
-    sayings_from tool notes words at ≡ said_by tool notes (Valued option at value) ∷ sayings_from tool (with_next notes (said_by tool notes (Valued option at value))) words (at + 2)
+    sayings_from tool notes words at ≡ said_by tool (before_noted notes) (Valued option at value) ∷ sayings_from tool (with_next notes (said_by tool (before_noted notes) (Valued option at value))) words (at + 2)
 value_first tool notes words at word value option got named valued =
-    ap (λ rest. sayings tool notes (parts_of tool at rest)) (drop_given words at word got) ∙
-    ap (sayings tool notes) (option_parts tool word at (drop (at + 1) words) option named) ∙
-    ap (λ rest. sayings tool notes (parts_from tool (Some (option, at)) (at + 1) rest)) (drop_given words (at + 1) value valued) ∙
+    ap (λ rest. said_noted tool notes (parts_of tool at rest)) (drop_given words at word got) ∙
+    ap (said_noted tool notes) (option_parts tool word at (drop (at + 1) words) option named) ∙
+    ap (λ rest. said_noted tool notes (parts_from tool (Some (option, at)) (at + 1) rest)) (drop_given words (at + 1) value valued) ∙
     (let e : at + 1 + 1 ≡ at + 2 = omega arith in rw e)
 
 -- an option that is the last word
 pub unvalued_last : (tool : Tool) (notes : Notes) (words : List (List ℕ)) (at : ℕ) (word : List ℕ) (option : OptionName) →
     slice_get words at ≡ Some word → option_named tool word ≡ Some option → at + 1 ≡ length words →
-    sayings_from tool notes words at ≡ said_by tool notes (Unvalued option at) ∷ []
+    sayings_from tool notes words at ≡ said_by tool (before_noted notes) (Unvalued option at) ∷ []
 unvalued_last tool notes words at word option got named last =
-    ap (λ rest. sayings tool notes (parts_of tool at rest)) (drop_given words at word got) ∙
-    ap (sayings tool notes) (option_parts tool word at (drop (at + 1) words) option named) ∙
-    ap (λ rest. sayings tool notes (parts_from tool (Some (option, at)) (at + 1) rest)) (drop_all (at + 1) words (omega arith))
+    ap (λ rest. said_noted tool notes (parts_of tool at rest)) (drop_given words at word got) ∙
+    ap (said_noted tool notes) (option_parts tool word at (drop (at + 1) words) option named) ∙
+    ap (λ rest. said_noted tool notes (parts_from tool (Some (option, at)) (at + 1) rest)) (drop_all (at + 1) words (omega arith))
 
 fault_stays : (usage : Usage) (rest : List (Result Saying Usage)) → all_notes (Err usage) rest ≡ Err usage
 fault_stays usage [] = refl
@@ -84,56 +85,38 @@ after_first : (notes : Notes) (saying : Saying) (rest : Result (List Saying) Usa
 after_first notes saying (Ok list) = refl
 after_first notes saying (Err usage) = refl
 
-all_noted : (notes : Notes) (said : List (Result Saying Usage)) → all_notes (Ok notes) said ≡ notes_or_fault notes (said_all said)
-all_noted notes [] = refl
-all_noted notes (Err usage ∷ rest) = fault_stays usage rest
-all_noted notes (Ok saying ∷ rest) = all_noted (with_saying notes saying) rest ∙ after_first notes saying (said_all rest)
-
--- the edges that are noted are those of all operands
-edges_noted : (notes : Notes) (said : List Saying) → (notes_with notes said).edges ≡ edges_added notes.edges (edges_given said)
-edges_noted notes [] = refl
-edges_noted notes (saying ∷ rest) =
-    edges_noted (with_saying notes saying) rest ∙ ap (λ list. edges_added list (edges_given rest)) (one_noted saying) ∙
-    added_more notes.edges (edges_in saying) (edges_given rest)
-  where
-    one_noted : (saying : Saying) → (with_saying notes saying).edges ≡ edges_added notes.edges (edges_in saying)
-    one_noted (SaysEdges at edges) = refl
-    one_noted saying = refl
-
--- and the number of choices is that of all places
-choices_noted : (notes : Notes) (said : List Saying) → (notes_with notes said).choices ≡ choices_after notes.choices (places_given said)
-choices_noted notes [] = refl
-choices_noted notes (saying ∷ rest) =
-    choices_noted (with_saying notes saying) rest ∙ ap (λ choices. choices_after choices (places_given rest)) (one_noted saying) ∙
-    choices_more notes.choices (places_of_word saying) (places_given rest)
-  where
-    one_noted : (saying : Saying) → (with_saying notes saying).choices ≡ choices_after notes.choices (places_of_word saying)
-    one_noted (SaysPlace relaxes) = refl
-    one_noted saying = refl
+notes_left_by : (notes : Notes) (said : List (Result Saying Usage)) → all_notes (Ok notes) said ≡ notes_or_fault notes (said_all said)
+notes_left_by notes [] = refl
+notes_left_by notes (Err usage ∷ rest) = fault_stays usage rest
+notes_left_by notes (Ok saying ∷ rest) = notes_left_by (with_saying notes saying) rest ∙ after_first notes saying (said_all rest)
 
 -- the request of a tool from the notes after all words
 pub gives_finished : (tool : Tool) (words : List (List ℕ)) (at : ℕ) (notes : Notes) (result : Result Request Usage) → length words ≤ at
     → notes_at_end tool words at notes ≡ notes_at_end tool words 1 no_notes → GivesAtEnd tool (length words) notes result
-    → GivesTask result (said_asked tool (length words) (said_all (sayings_from tool no_notes words 1)))
+    → GivesTask result (asked_for (Some tool) (length words) (drop 1 words))
 gives_finished tool words at notes result last e finishes =
-    of_all (said_all (sayings_from tool no_notes words 1)) (ended ∙ e ∙ all_noted no_notes (sayings_from tool no_notes words 1))
+    subst (λ (said : List (Result Saying Usage)). GivesTask result (said_asked tool (length words) (said_all said))) (said_so tool [] (parts_of tool 1 (drop 1 words)))
+    (of_all (said_all (sayings_from tool no_notes words 1)) (ended ∙ e ∙ notes_left_by no_notes (sayings_from tool no_notes words 1)))
   where
     ended : Ok notes ≡ notes_at_end tool words at notes
-    ended = ap (λ rest. all_notes (Ok notes) (sayings tool notes (parts_of tool at rest))) (sym (drop_all at words last))
+    ended = ap (λ rest. all_notes (Ok notes) (said_noted tool notes (parts_of tool at rest))) (sym (drop_all at words last))
 
     of_all : (all : Result (List Saying) Usage) → Ok notes ≡ notes_or_fault no_notes all → GivesTask result (said_asked tool (length words) all)
     of_all (Err usage) e = cc e
     of_all (Ok said) e =
         let same : notes ≡ notes_of said = ok_is _ _ e in
-        subst (λ (n : Notes). GivesTask result (tool_asked tool (length words) n (edges_given said) (places_given said) (files_given said))) same
-        (finishes (edges_given said) (places_given said) (files_given said)
-        (ap (λ (n : Notes). n.edges) same ∙ edges_noted no_notes said ∙ added_whole [] (edges_given said) (lit≤ tt))
-        (ap (λ (n : Notes). nat_lt MAX_CHOICES n.choices) same ∙ ap (nat_lt MAX_CHOICES) (choices_noted no_notes said) ∙ choices_said (places_given said)))
+        subst (λ (given : Gathered). GivesTask result (tool_asked tool (length words) given))
+        (ap (λ (n : Notes). gathered_noted n (all_given edges_in said) (all_given places_of_word said) (all_given files_in said)) same ∙ all_noted said)
+        (finishes (all_given edges_in said) (all_given places_of_word said) (all_given files_in said)
+        (ap (λ (n : Notes). n.edges) same ∙ edges_noted said)
+        (ap (λ (n : Notes). nat_lt MAX_CHOICES n.choices) same ∙ choices_noted said))
 
 -- the first fault among the words
 pub gives_fault : (tool : Tool) (words : List (List ℕ)) (usage : Usage) → Err usage ≡ notes_at_end tool words 1 no_notes
-    → GivesTask (Err usage) (said_asked tool (length words) (said_all (sayings_from tool no_notes words 1)))
-gives_fault tool words usage e = of_all (said_all (sayings_from tool no_notes words 1)) (e ∙ all_noted no_notes (sayings_from tool no_notes words 1))
+    → GivesTask (Err usage) (asked_for (Some tool) (length words) (drop 1 words))
+gives_fault tool words usage e =
+    subst (λ (said : List (Result Saying Usage)). GivesTask (Err usage) (said_asked tool (length words) (said_all said))) (said_so tool [] (parts_of tool 1 (drop 1 words)))
+    (of_all (said_all (sayings_from tool no_notes words 1)) (e ∙ notes_left_by no_notes (sayings_from tool no_notes words 1)))
   where
     of_all : (all : Result (List Saying) Usage) → Err usage ≡ notes_or_fault no_notes all → GivesTask (Err usage) (said_asked tool (length words) all)
     of_all (Err other) e = cc e
@@ -142,7 +125,7 @@ gives_fault tool words usage e = of_all (said_all (sayings_from tool no_notes wo
 -- the request of a tool, where the first word names it
 pub gives_named : (words : List (List ℕ)) (word : List ℕ) (tool : Tool) (request : Result Request Usage) →
     slice_get words 0 ≡ Some word → tool_named word ≡ Some tool →
-    GivesTask request (said_asked tool (length words) (said_all (sayings_from tool no_notes words 1))) → GivesTask request (asked_of words)
+    GivesTask request (asked_for (Some tool) (length words) (drop 1 words)) → GivesTask request (asked_of words)
 gives_named [] word tool request got named h = cc got
 gives_named (first ∷ words) word tool request got named h =
     let same : first ≡ word = cc got in

@@ -1,3 +1,4 @@
+pub mod NotedLaws
 pub mod Judged
 pub mod BeforeLaws
 pub mod RequestForm
@@ -5,5 +6,6 @@ pub mod NumberLaws
 pub mod AfterLaws
 pub mod ChoiceLaws
 pub mod OperandLaws
+pub mod AskedLaws
 pub mod FileLaws
 pub mod PlaceLaws

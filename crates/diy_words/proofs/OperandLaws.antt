@@ -8,10 +8,12 @@ use Rattle.std.proofs.lemmas.Option.{slice_get-get_or}
 use Rattle.diy_words.specs.declared.options.OptionName.{OptionName}
 use Rattle.diy_words.specs.declared.options.Tool.{Tool}
 use Rattle.diy_words.specs.declared.usage.Usage.{Usage}
-use Rattle.diy_words.specs.Given.{sayings_from}
 use Rattle.diy_words.specs.Parts.{Alone, Valued, parts_of, option_named}
-use Rattle.diy_words.specs.Notes.{no_notes}
-use Rattle.diy_words.specs.Sayings.{Saying, with_next, said_by, sayings, said_first, said_all}
+use Rattle.diy_words.specs.Sayings.{Saying, said_by}
+use Rattle.diy_words.specs.Gathered.{all_given}
+use Rattle.diy_words.specs.SaidInOrder.{before_of, said_first, said_all}
+use Rattle.diy_words.specs.Notes.{no_notes, with_next, said_noted}
+use Rattle.diy_words.specs.CodeNotes.{sayings_from}
 use Rattle.diy_words.proofs.BeforeLaws.{IsSilent, IsUncounted, uncounted}
 use Rattle.diy_words.proofs.Judged.{alone_first, value_first, unvalued_last}
 
@@ -21,9 +23,9 @@ given_by gives (Ok said) = gives said
 given_by gives (Err _) = []
 
 -- what is given among what words say, one after another
-abbrev pub given_all : {X : Type 0} → (Saying → List X) → List (Result Saying Usage) → List X
-given_all gives [] = []
-given_all gives (said ∷ rest) = given_by gives said ++ given_all gives rest
+abbrev pub given_among : {X : Type 0} → (Saying → List X) → List (Result Saying Usage) → List X
+given_among gives [] = []
+given_among gives (said ∷ rest) = given_by gives said ++ given_among gives rest
 
 -- the words of a tool from a place on: what they say, that none is faulty, and what they give
 abbrev pub said_from : Tool → List (List ℕ) → ℕ → List (Result Saying Usage)
@@ -35,7 +37,7 @@ AreFaultless tool words at = AllByRecursion IsOk (said_from tool words at)
 
 -- what the words of a tool from a place on give
 abbrev pub given_from : {X : Type 0} → Tool → (Saying → List X) → List (List ℕ) → ℕ → List X
-given_from tool gives words at = given_all gives (said_from tool words at)
+given_from tool gives words at = given_among gives (said_from tool words at)
 
 -- the words after one that isn't `-why` say what they say alone
 said_after : (tool : Tool) → IsUncounted tool → (said : Result Saying Usage) (words : List (List ℕ)) (at : ℕ) → IsSilent said
@@ -45,10 +47,10 @@ said_after tool same said words at silent =
 
 -- a word that is neither an option nor a value, before others
 pub alone_then : (tool : Tool) → IsUncounted tool → (words : List (List ℕ)) (at : ℕ) (text : List ℕ) → slice_get words at ≡ Some text → option_named tool text ≡ None
-    → IsSilent (said_by tool no_notes (Alone at text)) → said_from tool words at ≡ said_by tool no_notes (Alone at text) ∷ said_from tool words (at + 1)
+    → IsSilent (said_by tool (before_of []) (Alone at text)) → said_from tool words at ≡ said_by tool (before_of []) (Alone at text) ∷ said_from tool words (at + 1)
 alone_then tool same words at text got plain silent =
     alone_first tool no_notes words at text got plain ∙
-    ap (λ rest. said_by tool no_notes (Alone at text) ∷ rest) (said_after tool same (said_by tool no_notes (Alone at text)) words (at + 1) silent)
+    ap (λ rest. said_by tool (before_of []) (Alone at text) ∷ rest) (said_after tool same (said_by tool (before_of []) (Alone at text)) words (at + 1) silent)
 
 -- something said that gives nothing and isn't `-why`
 pub record IsOther {X : Type 0} (gives : Saying → List X) (said : Result Saying Usage) : Type 0 where
@@ -63,22 +65,22 @@ pub record OptionFirst {X : Type 0} (tool : Tool) (gives : Saying → List X) (w
 
 -- an option comes with its value, and gives nothing of what is asked for
 pub option_then : {X : Type 0} (tool : Tool) → IsUncounted tool → (gives : Saying → List X) (words : List (List ℕ)) (at : ℕ) (text : List ℕ) (option : OptionName) → at < length words
-    → slice_get words at ≡ Some text → option_named tool text ≡ Some option → ((value : List ℕ) → IsOther gives (said_by tool no_notes (Valued option at value)))
+    → slice_get words at ≡ Some text → option_named tool text ≡ Some option → ((value : List ℕ) → IsOther gives (said_by tool (before_of []) (Valued option at value)))
     → AreFaultless tool words at → OptionFirst tool gives words at
 option_then tool same gives words at text option within got named others fit = ⊎_elim of_more of_last (cases_lt (at + 1) (length words))
   where
     of_value : (value : List ℕ) → at + 1 < length words → slice_get words (at + 1) ≡ Some value → OptionFirst tool gives words at
     of_value value more valued =
-        let other : IsOther gives (said_by tool no_notes (Valued option at value)) = others value in
-        let e : said_from tool words at ≡ said_by tool no_notes (Valued option at value) ∷ said_from tool words (at + 2) =
+        let other : IsOther gives (said_by tool (before_of []) (Valued option at value)) = others value in
+        let e : said_from tool words at ≡ said_by tool (before_of []) (Valued option at value) ∷ said_from tool words (at + 2) =
         value_first tool no_notes words at text value option got named valued ∙
-        ap (λ rest. said_by tool no_notes (Valued option at value) ∷ rest)
-        (said_after tool same (said_by tool no_notes (Valued option at value)) words (at + 2) other.silent) in
+        ap (λ rest. said_by tool (before_of []) (Valued option at value) ∷ rest)
+        (said_after tool same (said_by tool (before_of []) (Valued option at value)) words (at + 2) other.silent) in
         let k = subst (AllByRecursion IsOk) e fit in
         record {
           valued = more;
           faultless = k.1;
-          first = ap (given_all gives) e ∙ ap (λ none. none ++ given_from tool gives words (at + 2)) other.none;
+          first = ap (given_among gives) e ∙ ap (λ none. none ++ given_from tool gives words (at + 2)) other.none;
         }
 
     of_more : at + 1 < length words → OptionFirst tool gives words at
@@ -91,23 +93,22 @@ option_then tool same gives words at text option within got named others fit = �
 -- what faultless words say
 pub record AllSaid {X : Type 0} (gives : Saying → List X) (said : List (Result Saying Usage)) (all : List X) : Type 0 where
   pub faultless : AllByRecursion IsOk said
-  pub given : given_all gives said ≡ all
+  pub given : given_among gives said ≡ all
 
--- words that are all read are faultless, and what they give adds up
-pub all_said : {X : Type 0} (gives : Saying → List X) (total : List Saying → List X) → [] ≡ total [] → ((first : Saying) (more : List Saying) → gives first ++ total more ≡ total (first ∷ more))
-    → (said : List (Result Saying Usage)) (all : List Saying) → said_all said ≡ Ok all → AllSaid gives said (total all)
-all_said gives total none one [] all e = let same : [] ≡ all = cc in record { faultless = tt; given = none ∙ ap total same }
-all_said gives total none one (Err usage ∷ rest) all e = cc e
-all_said gives total none one (Ok first ∷ rest) all e = of_rest (said_all rest) (all_said gives total none one rest) e
+-- words that are all read are faultless, and give what each of them gives
+pub all_said : {X : Type 0} (gives : Saying → List X) (said : List (Result Saying Usage)) (all : List Saying) → said_all said ≡ Ok all → AllSaid gives said (all_given gives all)
+all_said gives [] all e = let same : [] ≡ all = cc in record { faultless = tt; given = ap (all_given gives) same }
+all_said gives (Err usage ∷ rest) all e = cc e
+all_said {X = X} gives (Ok first ∷ rest) all e = of_rest (said_all rest) (all_said gives rest) e
   where
-    of_rest : (further : Result (List Saying) Usage) → ((more : List Saying) → further ≡ Ok more → AllSaid gives rest (total more)) → said_first first further ≡ Ok all
-        → AllSaid gives (Ok first ∷ rest) (total all)
+    of_rest : (further : Result (List Saying) Usage) → ((more : List Saying) → further ≡ Ok more → AllSaid gives rest (all_given gives more)) → said_first first further ≡ Ok all
+        → AllSaid gives (Ok first ∷ rest) (all_given gives all)
     of_rest (Err usage) tail e = cc e
     of_rest (Ok more) tail e =
         let same : first ∷ more ≡ all = cc e in
-        let further : AllSaid gives rest (total more) = tail more refl in
-        record { faultless = (refl, further.faultless); given = ap (λ given. gives first ++ given) further.given ∙ one first more ∙ ap total same }
+        let further : AllSaid gives rest (all_given gives more) = tail more refl in
+        record { faultless = (refl, further.faultless); given = ap (λ given. gives first ++ given) further.given ∙ ap (all_given gives) same }
 
 -- no word is left at the end
 pub none_left : {X : Type 0} (tool : Tool) (gives : Saying → List X) (words : List (List ℕ)) (at : ℕ) → length words ≤ at → given_from tool gives words at ≡ []
-none_left tool gives words at h = ap (λ rest. given_all gives (sayings tool no_notes (parts_of tool at rest))) (drop_all at words h)
+none_left tool gives words at h = ap (λ rest. given_among gives (said_noted tool no_notes (parts_of tool at rest))) (drop_all at words h)

@@ -1,10 +1,10 @@
 -- What a request has of its own form: the name of a test, the size of a listing, a folder, and the files of mcheck7.
-use Rattle.std.proofs.Common.{◌≡◌, ◌≤◌, ◌<◌, ◌+◌, ℕ, ap, arith, lit≤, nat_lt, nat_le, Bool, true, false, List, [], ◌∷◌, Option, Some, None, Result, Ok, Err, refl, sym, subst, length}
-use Rattle.std.specs.Prelude.{if◌then◌else◌, is_some, IfOk, IfSome, ◌&&◌, ◌==◌, codes}
+use Rattle.std.proofs.Common.{◌≡◌, ◌≤◌, ◌<◌, ◌+◌, ℕ, ap, arith, lit≤, nat_lt, nat_le, Bool, true, false, List, [], ◌∷◌, ◌++◌, Option, Some, None, Result, Ok, Err, refl, sym, subst, length}
+use Rattle.std.specs.Prelude.{if◌then◌else◌, IfOk, IfSome, ◌&&◌, ◌==◌, codes}
 use Rattle.std.specs.Str.{bytes_eq}
 use Rattle.std.specs.Str.Parse.{digits_value}
 use Rattle.std.proofs.lemmas.Bool.Decides.{nat_tests}
-use Rattle.std.specs.Option.{option_map}
+use Rattle.std.specs.Option.{option_map, option_or, unwrap_or, ForSome}
 use Rattle.std.specs.List.{AllByRecursion}
 use Rattle.relax_edges.specs.declared.edge.Edge.{Edge}
 use Rattle.relax_edges.specs.declared.TheConstants.{MAX_EDGES}
@@ -18,7 +18,6 @@ use Rattle.diy_words.specs.declared.request.TheConstants.{MAX_FOLDER, MAX_CHOICE
 use Rattle.diy_words.specs.declared.request.Check.{Check}
 use Rattle.diy_words.specs.declared.request.Demo.{Demo}
 use Rattle.diy_words.specs.declared.request.Diy.{Diy}
-use Rattle.std.specs.Option.{ForSome}
 use Rattle.std.specs.Borrow.{Bor}
 use Rattle.relax_edges.specs.declared.kinds.ArchName.{ArchName}
 use Rattle.relax_edges.specs.declared.kinds.ObsMode.{ObsMode}
@@ -33,8 +32,9 @@ use Rattle.diy_words.specs.declared.options.OptionName.TheVariants as opts
 use Rattle.diy_words.specs.TestNames.{is_name}
 use Rattle.diy_words.specs.EdgeWords.{operand_edges}
 use Rattle.diy_words.specs.Parts.{Part, Alone, Valued, Unvalued, waiting_at, alone_before, parts_from, parts_of, option_named, tool_named, arch_named, mode_named}
-use Rattle.diy_words.specs.Notes.{Notes, no_notes}
-use Rattle.diy_words.specs.Sayings.{Saying, SaysName, SaysSize, SaysExact, SaysWhy, SaysFolder, SaysCount, SaysTest, SaysExecution, usage_fault, dashed_said, operand_said, relaxes_said, size_said, threads_said, after_said, cycle_word_said, places_given, files_given, place_said, count_said, with_saying, with_next, sayings, said_by, said_first, said_all, notes_with, notes_of, arch_said, mode_said, edges_said, begins_option, edges_given, accesses_said}
+use Rattle.diy_words.specs.Sayings.{Saying, SaysName, SaysRelaxes, SaysPlace, SaysSize, SaysExact, SaysWhy, SaysThreads, SaysAccesses, SaysFolder, SaysCount, SaysTest, SaysExecution, Before, usage_fault, dashed_said, operand_said, relaxes_said, number_said, after_said, cycle_word_said, said_by, arch_said, mode_said, edges_said, begins_option}
+use Rattle.diy_words.specs.Gathered.{Gathered, gathered_of, last_given, name_in, size_in, folder_in, count_in, test_in, execution_in}
+use Rattle.diy_words.specs.SaidInOrder.{before_of, said_in, sayings, said_first, said_all}
 use Rattle.diy_words.specs.Requests.{Task, AsksTest, AsksWhy, AsksName, AsksList, AsksFamilies, AsksCross, AsksDemo, AsksCheck, NameTask, ListTask, FamiliesTask, list_with, families_with, cross_with, demo_with, check_with, choice_count, mode_or_accept, asks, test_with, why_with, why_asked, test_asked, diyone_asked, asked_for, norm_asked, tool_asked, said_asked, asked_of}
 use Rattle.arrayvec.specs.ArrayString.{ArrayString}
 use Rattle.diy_words.specs.Given.{GivesTask, HasForm, WithinWords, list_kept}
@@ -76,8 +76,8 @@ why_form count at true true = tt
 why_form count at true false = tt
 why_form count at false c = tt
 
-alone_dashed : (count : ℕ) (tool : Tool) (before : Notes) (at : ℕ) (text : List ℕ) → SaysForm count (dashed_said tool before at text)
-alone_dashed count tools.DiyOne before at text = why_form count at (bytes_eq text (codes "-why")) (is_some before.mode)
+alone_dashed : (count : ℕ) (tool : Tool) (before : Before) (at : ℕ) (text : List ℕ) → SaysForm count (dashed_said tool before at text)
+alone_dashed count tools.DiyOne before at text = why_form count at (bytes_eq text (codes "-why")) before.obs
 alone_dashed count tools.Diy before at text = dashed_form count at (bytes_eq text (codes "-exact"))
 alone_dashed count tools.Norm before at text = tt
 alone_dashed count tools.Classify before at text = tt
@@ -86,9 +86,10 @@ alone_dashed count tools.Cross before at text = tt
 alone_dashed count tools.Demo before at text = tt
 alone_dashed count tools.Check before at text = tt
 
-place_form : (count at : ℕ) (relaxes : Result (List (List Edge)) RelaxError) → SaysForm count (place_said at relaxes)
-place_form count at (Ok relaxes) = tt
-place_form count at (Err error) = tt
+relaxes_form : (count : ℕ) (says : List (List Edge) → Saying) (at : ℕ) (relaxes : Result (List (List Edge)) RelaxError) → ((x : List (List Edge)) → IsFit count (says x))
+    → SaysForm count (relaxes_said says at relaxes)
+relaxes_form count says at (Ok relaxes) fit = fit relaxes
+relaxes_form count says at (Err error) fit = tt
 
 number_form : (greatest : ℕ) (text : List ℕ) (number : ℕ) → number_to greatest text ≡ Some number → (1 ≤ number) × (number ≤ greatest)
 number_form greatest text number h = of_test (is_number text) (nat_lt 0 (digits_value 10 text)) (nat_le (digits_value 10 text) greatest) refl refl h
@@ -100,12 +101,17 @@ number_form greatest text number h = of_test (is_number text) (nat_lt 0 (digits_
     of_test true false r f e h = cc h
     of_test false q r f e h = cc h
 
-count_form : (count at : ℕ) (tests : Option ℕ) → ((n : ℕ) → tests ≡ Some n → (1 ≤ n) × (n ≤ MAX_TESTS)) → SaysForm count (count_said at tests)
-count_form count at (Some tests) fit = fit tests refl
-count_form count at None fit = tt
+-- what a number is said to be has its form, where numbers up to the greatest have it
+said_number_form : (count : ℕ) (says : ℕ → Saying) (at greatest : ℕ) (text : List ℕ) → ((n : ℕ) → (1 ≤ n) × (n ≤ greatest) → IsFit count (says n))
+    → SaysForm count (number_said says at (number_to greatest text))
+said_number_form count says at greatest text fit = of_number (number_to greatest text) (number_form greatest text)
+  where
+    of_number : (number : Option ℕ) → ((n : ℕ) → number ≡ Some n → (1 ≤ n) × (n ≤ greatest)) → SaysForm count (number_said says at number)
+    of_number (Some number) within = fit number (within number refl)
+    of_number None within = tt
 
-demo_said : (count at : ℕ) (text : List ℕ) (b : Bool) → SaysForm count (if b then count_said at (number_to MAX_TESTS text) else usage_fault at StrayWord)
-demo_said count at text true = count_form count at (number_to MAX_TESTS text) (number_form MAX_TESTS text)
+demo_said : (count at : ℕ) (text : List ℕ) (b : Bool) → SaysForm count (if b then number_said SaysCount at (number_to MAX_TESTS text) else usage_fault at StrayWord)
+demo_said count at text true = said_number_form count SaysCount at MAX_TESTS text (λ n h. h)
 demo_said count at text false = tt
 
 check_said : (count at : ℕ) (p q : Bool) → at < count → SaysForm count (if p then Ok (SaysTest at) else if q then Ok (SaysExecution at) else usage_fault at StrayWord)
@@ -116,14 +122,14 @@ check_said count at false false h = tt
 alone_operand : (count : ℕ) (tool : Tool) (taken at : ℕ) (text : List ℕ) → at < count → SaysForm count (operand_said tool taken at text)
 alone_operand count tools.DiyOne taken at text h = edges_form count at (operand_edges text)
 alone_operand count tools.Diy taken at text h = tt
-alone_operand count tools.Cross taken at text h = place_form count at (relaxes_of text)
+alone_operand count tools.Cross taken at text h = relaxes_form count SaysPlace at (relaxes_of text) (λ x. tt)
 alone_operand count tools.Norm taken at text h = edges_form count at (operand_edges text)
 alone_operand count tools.Classify taken at text h = tt
 alone_operand count tools.Msum taken at text h = tt
 alone_operand count tools.Demo taken at text h = demo_said count at text (taken == 0)
 alone_operand count tools.Check taken at text h = check_said count at (taken == 0) (taken == 1) h
 
-alone_form : (count : ℕ) (tool : Tool) (before : Notes) (at : ℕ) (text : List ℕ) (b : Bool) → at < count
+alone_form : (count : ℕ) (tool : Tool) (before : Before) (at : ℕ) (text : List ℕ) (b : Bool) → at < count
     → SaysForm count (if b then dashed_said tool before at text else operand_said tool before.taken at text)
 alone_form count tool before at text true h = alone_dashed count tool before at text
 alone_form count tool before at text false h = alone_operand count tool before.taken at text h
@@ -131,22 +137,6 @@ alone_form count tool before at text false h = alone_operand count tool before.t
 obs_form : (count at : ℕ) (mode : Option ObsMode) (b : Bool) → SaysForm count (if b then usage_fault at ExcludedOption else mode_said (at + 1) mode)
 obs_form count at mode true = tt
 obs_form count at mode false = mode_form count (at + 1) mode
-
-relaxes_form : (count at : ℕ) (relaxes : Result (List (List Edge)) RelaxError) → SaysForm count (relaxes_said at relaxes)
-relaxes_form count at (Ok relaxes) = tt
-relaxes_form count at (Err error) = tt
-
-size_form : (count at : ℕ) (size : Option ℕ) → ((n : ℕ) → size ≡ Some n → n ≤ MAX_EDGES) → SaysForm count (size_said at size)
-size_form count at (Some size) few = few size refl
-size_form count at None few = tt
-
-threads_form : (count at : ℕ) (threads : Option ℕ) → SaysForm count (threads_said at threads)
-threads_form count at (Some threads) = tt
-threads_form count at None = tt
-
-accesses_form : (count at : ℕ) (accesses : Option ℕ) → SaysForm count (accesses_said at accesses)
-accesses_form count at (Some accesses) = tt
-accesses_form count at None = tt
 
 cycle_form : (count at : ℕ) (cycle : Result (List Edge) CycleError) → SaysForm count (cycle_word_said at cycle)
 cycle_form count at (Ok cycle) = tt
@@ -183,16 +173,16 @@ parts_among count tool None at (word ∷ words) h =
     of_found (Some option) rest = rest (Some (option, at))
     of_found None rest = (omega (arith, h), rest None)
 
-said_form : (count : ℕ) (tool : Tool) (before : Notes) (part : Part) → IsAmong count part → SaysForm count (said_by tool before part)
+said_form : (count : ℕ) (tool : Tool) (before : Before) (part : Part) → IsAmong count part → SaysForm count (said_by tool before part)
 said_form count tool before (Alone at text) h = alone_form count tool before at text (begins_option text) h
 said_form count tool before (Valued opts.Arch at value) h = arch_form count _ (arch_named value)
 said_form count tool before (Valued opts.Name at value) h = name_form count _ value (is_name value) refl
 said_form count tool before (Valued opts.Obs at value) h = obs_form count at (mode_named value) before.why
 said_form count tool before (Valued opts.From at value) h = tt
-said_form count tool before (Valued opts.Edges at value) h = relaxes_form count _ (relaxes_of value)
-said_form count tool before (Valued opts.Size at value) h = size_form count _ (number_to MAX_EDGES value) (λ n e. (number_form MAX_EDGES value n e).1)
-said_form count tool before (Valued opts.Nprocs at value) h = threads_form count _ (number_to MAX_EDGES value)
-said_form count tool before (Valued opts.Accesses at value) h = accesses_form count _ (number_to MAX_EDGES value)
+said_form count tool before (Valued opts.Edges at value) h = relaxes_form count SaysRelaxes _ (relaxes_of value) (λ x. tt)
+said_form count tool before (Valued opts.Size at value) h = said_number_form count SaysSize _ MAX_EDGES value (λ n h. h.1)
+said_form count tool before (Valued opts.Nprocs at value) h = said_number_form count SaysThreads _ MAX_EDGES value (λ n h. tt)
+said_form count tool before (Valued opts.Accesses at value) h = said_number_form count SaysAccesses _ MAX_EDGES value (λ n h. tt)
 said_form count tool before (Valued opts.After at value) h = after_form count _ (edges_of BlanksAndCommas value)
 said_form count tool before (Valued opts.Folder at value) h = folder_form count _ value (nat_lt 0 (length value)) (nat_le (length value) MAX_FOLDER) refl
 said_form count tool before (Unvalued option at) h = tt
@@ -211,29 +201,63 @@ said_all_form count [] h = tt
 said_all_form count (Ok said ∷ rest) h = first_form count said (said_all rest) h.0 (said_all_form count rest h.1)
 said_all_form count (Err usage ∷ rest) h = tt
 
-parts_form : (count : ℕ) (tool : Tool) (before : Notes) (parts : List Part) → AllByRecursion (IsAmong count) parts → AllByRecursion (SaysForm count) (sayings tool before parts)
+parts_form : (count : ℕ) (tool : Tool) (before : List Saying) (parts : List Part) → AllByRecursion (IsAmong count) parts → AllByRecursion (SaysForm count) (sayings tool before parts)
 parts_form count tool before [] h = tt
 parts_form count tool before (part ∷ parts) h =
-    (said_form count tool before part h.0, parts_form count tool (with_next before (said_by tool before part)) parts h.1)
+    (said_form count tool (before_of before) part h.0, parts_form count tool (before ++ said_in (said_by tool (before_of before) part)) parts h.1)
 
--- and what is noted of them has its form
-abbrev AreFit : ℕ → Notes → Type 0
-AreFit count notes =
-    IfSome notes.name (λ name. is_name name ≡ true) × (notes.size ≤ MAX_EDGES) × IfSome notes.folder (λ folder. length folder ≤ MAX_FOLDER)
-    × IfSome notes.count (λ tests. (1 ≤ tests) × (tests ≤ MAX_TESTS)) × IfSome notes.test (λ at. at < count) × IfSome notes.execution (λ at. at < count)
+-- and what is gathered of them has its form
+abbrev AreFit : ℕ → Gathered → Type 0
+AreFit count given =
+    IfSome given.name (λ name. is_name name ≡ true) × (given.size ≤ MAX_EDGES) × IfSome given.folder (λ folder. length folder ≤ MAX_FOLDER)
+    × IfSome given.count (λ tests. (1 ≤ tests) × (tests ≤ MAX_TESTS)) × IfSome given.test (λ at. at < count) × IfSome given.execution (λ at. at < count)
 
-with_fit : (count : ℕ) (notes : Notes) (saying : Saying) → IsFit count saying → AreFit count notes → AreFit count (with_saying notes saying)
-with_fit count notes (SaysName name) h f = (h, f.1, f.2, f.3, f.4, f.5)
-with_fit count notes (SaysSize size) h f = (f.0, h, f.2, f.3, f.4, f.5)
-with_fit count notes (SaysFolder folder) h f = (f.0, f.1, h, f.3, f.4, f.5)
-with_fit count notes (SaysCount tests) h f = (f.0, f.1, f.2, h, f.4, f.5)
-with_fit count notes (SaysTest at) h f = (f.0, f.1, f.2, f.3, h, f.5)
-with_fit count notes (SaysExecution at) h f = (f.0, f.1, f.2, f.3, f.4, h)
-with_fit count notes saying h f = f
+last_fit : {X : Type 0} (count : ℕ) (kind : Saying → Option X) (Fit : X → Type 0) → ((saying : Saying) → IsFit count saying → IfSome (kind saying) Fit)
+    → (said : List Saying) → AllByRecursion (IsFit count) said → IfSome (last_given kind said) Fit
+last_fit count kind Fit one [] h = tt
+last_fit {X = X} count kind Fit one (saying ∷ rest) h = of_last (last_given kind rest) (last_fit count kind Fit one rest h.1)
+  where
+    of_last : (last : Option X) → IfSome last Fit → IfSome (option_or last (kind saying)) Fit
+    of_last (Some x) k = k
+    of_last None k = one saying h.0
 
-notes_fit : (count : ℕ) (notes : Notes) (said : List Saying) → AllByRecursion (IsFit count) said → AreFit count notes → AreFit count (notes_with notes said)
-notes_fit count notes [] h f = f
-notes_fit count notes (saying ∷ rest) h f = notes_fit count (with_saying notes saying) rest h.1 (with_fit count notes saying h.0 f)
+gathered_fit : (count : ℕ) (said : List Saying) → AllByRecursion (IsFit count) said → AreFit count (gathered_of said)
+gathered_fit count said h = (
+  last_fit count name_in (λ name. is_name name ≡ true) of_name said h,
+  of_given (last_given size_in said) (last_fit count size_in (λ size. size ≤ MAX_EDGES) of_size said h),
+  last_fit count folder_in (λ folder. length folder ≤ MAX_FOLDER) of_folder said h,
+  last_fit count count_in (λ tests. (1 ≤ tests) × (tests ≤ MAX_TESTS)) of_count said h,
+  last_fit count test_in (λ at. at < count) of_test said h,
+  last_fit count execution_in (λ at. at < count) of_execution said h,
+)
+  where
+    of_name : (saying : Saying) → IsFit count saying → IfSome (name_in saying) (λ name. is_name name ≡ true)
+    of_name (SaysName name) k = k
+    of_name saying k = tt
+
+    of_size : (saying : Saying) → IsFit count saying → IfSome (size_in saying) (λ size. size ≤ MAX_EDGES)
+    of_size (SaysSize size) k = k
+    of_size saying k = tt
+
+    of_given : (size : Option ℕ) → IfSome size (λ size. size ≤ MAX_EDGES) → unwrap_or size 6 ≤ MAX_EDGES
+    of_given (Some size) k = k
+    of_given None k = lit≤ tt
+
+    of_folder : (saying : Saying) → IsFit count saying → IfSome (folder_in saying) (λ folder. length folder ≤ MAX_FOLDER)
+    of_folder (SaysFolder folder) k = k
+    of_folder saying k = tt
+
+    of_count : (saying : Saying) → IsFit count saying → IfSome (count_in saying) (λ tests. (1 ≤ tests) × (tests ≤ MAX_TESTS))
+    of_count (SaysCount tests) k = k
+    of_count saying k = tt
+
+    of_test : (saying : Saying) → IsFit count saying → IfSome (test_in saying) (λ at. at < count)
+    of_test (SaysTest at) k = k
+    of_test saying k = tt
+
+    of_execution : (saying : Saying) → IsFit count saying → IfSome (execution_in saying) (λ at. at < count)
+    of_execution (SaysExecution at) k = k
+    of_execution saying k = tt
 
 -- the name of a test that words ask for has its form, and so have the size and the folder of a listing, the folders of diyone7
 -- and diycross7 and the number of demo; the files of mcheck7 are words among so many
@@ -296,35 +320,34 @@ check_form count (Some arch) (Some test) (Some execution) h k = (h, k)
 check_form count (Some arch) (Some test) None h k = tt
 check_form count (Some arch) None execution h k = tt
 
-diyone_form : (count : ℕ) (notes : Notes) (edges : List Edge) → AreFit count notes → IsTaskSo count (diyone_asked count notes edges)
-diyone_form count notes edges f = of_test notes.why
+diyone_form : (count : ℕ) (given : Gathered) → AreFit count given → IsTaskSo count (diyone_asked count given)
+diyone_form count given f = of_test given.why
   where
-    of_test : (b : Bool) → IsTaskSo count (if b then asks AsksWhy (why_asked count notes edges) else asks AsksTest (test_asked count notes edges))
-    of_test true = explained_form count notes.arch notes.name edges notes.folder f.0 f.2
-    of_test false = test_form count notes.arch notes.name (mode_or_accept notes.mode) edges notes.folder f.0
+    of_test : (b : Bool) → IsTaskSo count (if b then asks AsksWhy (why_asked count given) else asks AsksTest (test_asked count given))
+    of_test true = explained_form count given.arch given.name given.edges given.folder f.0 f.2
+    of_test false = test_form count given.arch given.name (mode_or_accept given.mode) given.edges given.folder f.0
 
-tool_form : (tool : Tool) (count : ℕ) (notes : Notes) (edges : List Edge) (places : List (List (List Edge))) (files : List ℕ) → AreFit count notes
-    → IsTaskSo count (tool_asked tool count notes edges places files)
-tool_form tools.DiyOne count notes edges places files f = diyone_form count notes edges f
-tool_form tools.Diy count notes edges places files f =
-    list_form count notes.arch notes.relaxes notes.size notes.exact notes.threads notes.accesses (mode_or_accept notes.mode) notes.after notes.folder f.1 f.2
-tool_form tools.Norm count notes edges places files f = norm_form count (norm_asked count notes edges)
-tool_form tools.Classify count notes edges places files f = families_form count (families_with count notes.arch files)
-tool_form tools.Msum count notes edges places files f = tt
-tool_form tools.Cross count notes edges places files f = cross_form count notes.arch (mode_or_accept notes.mode) notes.folder places f.2
-tool_form tools.Demo count notes edges places files f = demo_form count notes.arch notes.count f.3
-tool_form tools.Check count notes edges places files f = check_form count notes.arch notes.test notes.execution f.4 f.5
+tool_form : (tool : Tool) (count : ℕ) (given : Gathered) → AreFit count given
+    → IsTaskSo count (tool_asked tool count given)
+tool_form tools.DiyOne count given f = diyone_form count given f
+tool_form tools.Diy count given f =
+    list_form count given.arch given.relaxes given.size given.exact given.threads given.accesses (mode_or_accept given.mode) given.after given.folder f.1 f.2
+tool_form tools.Norm count given f = norm_form count (norm_asked count given)
+tool_form tools.Classify count given f = families_form count (families_with count given.arch given.files)
+tool_form tools.Msum count given f = tt
+tool_form tools.Cross count given f = cross_form count given.arch (mode_or_accept given.mode) given.folder given.places f.2
+tool_form tools.Demo count given f = demo_form count given.arch given.count f.3
+tool_form tools.Check count given f = check_form count given.arch given.test given.execution f.4 f.5
 
 words_said_form : (tool : Tool) (count : ℕ) (said : Result (List Saying) Usage) → AllForm count said → IsTaskSo count (said_asked tool count said)
 words_said_form tool count (Err usage) h = tt
-words_said_form tool count (Ok said) h =
-    tool_form tool count (notes_of said) (edges_given said) (places_given said) (files_given said) (notes_fit count no_notes said h (tt, lit≤ tt, tt, tt, tt, tt))
+words_said_form tool count (Ok said) h = tool_form tool count (gathered_of said) (gathered_fit count said h)
 
 found_form : (found : Option Tool) (count : ℕ) (words : List (List ℕ)) → 1 + length words ≤ count → IsTaskSo count (asked_for found count words)
 found_form None count words h = tt
 found_form (Some tool) count words h =
     words_said_form tool count _
-    (said_all_form count (sayings tool no_notes (parts_of tool 1 words)) (parts_form count tool no_notes (parts_of tool 1 words) (parts_among count tool None 1 words h)))
+    (said_all_form count (sayings tool [] (parts_of tool 1 words)) (parts_form count tool [] (parts_of tool 1 words) (parts_among count tool None 1 words h)))
 
 words_form : (words : List (List ℕ)) → IsTaskSo (length words) (asked_of words)
 words_form [] = tt

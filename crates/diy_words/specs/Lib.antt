@@ -2,8 +2,11 @@ pub mod TestNames
 pub mod EdgeWords
 pub mod NumberWords
 pub mod Parts
-pub mod Notes
 pub mod Sayings
+pub mod Gathered
+pub mod SaidInOrder
 pub mod Requests
 pub mod Given
 pub mod GivenLaws
+pub mod Notes
+pub mod CodeNotes

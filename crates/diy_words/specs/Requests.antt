@@ -14,8 +14,9 @@ use Rattle.diy_words.specs.declared.request.TheConstants.{MAX_CHOICES}
 use Rattle.diy_words.specs.declared.options.Tool.{Tool}
 use Rattle.diy_words.specs.declared.options.Tool.TheVariants as tools
 use Rattle.diy_words.specs.Parts.{parts_of, tool_named}
-use Rattle.diy_words.specs.Notes.{Notes, no_notes}
-use Rattle.diy_words.specs.Sayings.{Saying, sayings, said_all, notes_of, edges_given, places_given, files_given}
+use Rattle.diy_words.specs.Sayings.{Saying}
+use Rattle.diy_words.specs.Gathered.{Gathered, gathered_of}
+use Rattle.diy_words.specs.SaidInOrder.{sayings, said_all}
 
 -- what diyone7 is asked for without `-why`: a test, under a name that is given or that of its cycle
 pub record TestTask : Type 0 where
@@ -151,51 +152,51 @@ abbrev pub asks : {X : Type 0} → (X → Task) → Result X Usage → Result Ta
 asks request (Ok asked) = Ok (request asked)
 asks request (Err usage) = Err usage
 
--- what diyone7 is asked for without `-why`, from the notes of its words and their edges
-abbrev pub test_asked : ℕ → Notes → List Edge → Result TestTask Usage
-test_asked count notes edges = test_with count notes.arch notes.name (mode_or_accept notes.mode) edges notes.folder
+-- what diyone7 is asked for without `-why`, from all that is gathered
+abbrev pub test_asked : ℕ → Gathered → Result TestTask Usage
+test_asked count given = test_with count given.arch given.name (mode_or_accept given.mode) given.edges given.folder
 
 -- and with `-why`
-abbrev pub why_asked : ℕ → Notes → List Edge → Result WhyTask Usage
-why_asked count notes edges = why_with count notes.arch notes.name edges notes.folder
+abbrev pub why_asked : ℕ → Gathered → Result WhyTask Usage
+why_asked count given = why_with count given.arch given.name given.edges given.folder
 
--- the request of diyone7 from the notes of its words and their edges
-abbrev pub diyone_asked : ℕ → Notes → List Edge → Result Task Usage
-diyone_asked count notes edges = if notes.why then asks AsksWhy (why_asked count notes edges) else asks AsksTest (test_asked count notes edges)
+-- the request of diyone7
+abbrev pub diyone_asked : ℕ → Gathered → Result Task Usage
+diyone_asked count given = if given.why then asks AsksWhy (why_asked count given) else asks AsksTest (test_asked count given)
 
--- the request of norm7 from the notes of its words and their edges
-abbrev pub norm_asked : ℕ → Notes → List Edge → Result NameTask Usage
-norm_asked count notes edges = named_with count notes.arch notes.from notes.operand edges
+-- the request of norm7
+abbrev pub norm_asked : ℕ → Gathered → Result NameTask Usage
+norm_asked count given = named_with count given.arch given.from given.operand given.edges
 
--- the request of diy7 from the notes of its words
-abbrev pub diy_asked : ℕ → Notes → Result ListTask Usage
-diy_asked count notes =
-    list_with count notes.arch notes.relaxes notes.size notes.exact notes.threads notes.accesses (mode_or_accept notes.mode) notes.after notes.folder
+-- the request of diy7
+abbrev pub diy_asked : ℕ → Gathered → Result ListTask Usage
+diy_asked count given =
+    list_with count given.arch given.relaxes given.size given.exact given.threads given.accesses (mode_or_accept given.mode) given.after given.folder
 
--- the request of diycross7 from the notes of its words and their places
-abbrev pub cross_asked : ℕ → Notes → List (List (List Edge)) → Result CrossTask Usage
-cross_asked count notes places = cross_with count notes.arch (mode_or_accept notes.mode) notes.folder places
+-- the request of diycross7
+abbrev pub cross_asked : ℕ → Gathered → Result CrossTask Usage
+cross_asked count given = cross_with count given.arch (mode_or_accept given.mode) given.folder given.places
 
--- the request of a tool from the notes of its words, and their edges, places and files
-abbrev pub tool_asked : Tool → ℕ → Notes → List Edge → List (List (List Edge)) → List ℕ → Result Task Usage
-tool_asked tools.DiyOne count notes edges places files = diyone_asked count notes edges
-tool_asked tools.Diy count notes edges places files = asks AsksList (diy_asked count notes)
-tool_asked tools.Norm count notes edges places files = asks AsksName (norm_asked count notes edges)
-tool_asked tools.Classify count notes edges places files = asks AsksFamilies (families_with count notes.arch files)
-tool_asked tools.Msum count notes edges places files = Ok AsksSum
-tool_asked tools.Cross count notes edges places files = asks AsksCross (cross_asked count notes places)
-tool_asked tools.Demo count notes edges places files = asks AsksDemo (demo_with count notes.arch notes.count)
-tool_asked tools.Check count notes edges places files = asks AsksCheck (check_with count notes.arch notes.test notes.execution)
+-- the request of a tool from all that is gathered
+abbrev pub tool_asked : Tool → ℕ → Gathered → Result Task Usage
+tool_asked tools.DiyOne count given = diyone_asked count given
+tool_asked tools.Diy count given = asks AsksList (diy_asked count given)
+tool_asked tools.Norm count given = asks AsksName (norm_asked count given)
+tool_asked tools.Classify count given = asks AsksFamilies (families_with count given.arch given.files)
+tool_asked tools.Msum count given = Ok AsksSum
+tool_asked tools.Cross count given = asks AsksCross (cross_asked count given)
+tool_asked tools.Demo count given = asks AsksDemo (demo_with count given.arch given.count)
+tool_asked tools.Check count given = asks AsksCheck (check_with count given.arch given.test given.execution)
 
 -- the request of a tool from what its words say, where no word is faulty
 abbrev pub said_asked : Tool → ℕ → Result (List Saying) Usage → Result Task Usage
 said_asked tool count (Err usage) = Err usage
-said_asked tool count (Ok said) = tool_asked tool count (notes_of said) (edges_given said) (places_given said) (files_given said)
+said_asked tool count (Ok said) = tool_asked tool count (gathered_of said)
 
 -- the request of a tool from its words but the first
 abbrev pub asked_for : Option Tool → ℕ → List (List ℕ) → Result Task Usage
 asked_for None count words = Err (record { word = 0; kind = UnknownTool })
-asked_for (Some tool) count words = said_asked tool count (said_all (sayings tool no_notes (parts_of tool 1 words)))
+asked_for (Some tool) count words = said_asked tool count (said_all (sayings tool [] (parts_of tool 1 words)))
 
 -- the request that words make: the first names the tool
 abbrev pub asked_of : List (List ℕ) → Result Task Usage

@@ -5,14 +5,13 @@ ghost use Rattle.edge_lists.specs.declared.read.Separators.TheVariants.{BlanksAn
 ghost use Rattle.edge_lists.specs.Spelled.{edges_of};
 ghost use Rattle.edge_algebra.specs.Compose.{composed};
 ghost use Rattle.diy_words.specs.EdgeWords.{operand_edges};
-ghost use Rattle.diy_words.specs.Given.{cycle_kept};
+ghost use Rattle.diy_words.specs.CodeNotes.{cycle_kept};
 ghost use Rattle.diy_words.specs.NumberWords.{number_to};
 ghost use Rattle.diy_words.specs.declared.options.Tool.TheVariants as tools;
 ghost use Rattle.diy_words.specs.declared.usage.UsageKind.TheVariants.{ExcludedOption};
-ghost use Rattle.diy_words.specs.Parts.{Alone, Valued, Unvalued, arch_named, mode_named};
-ghost use Rattle.diy_words.specs.Notes as noting;
-ghost use Rattle.diy_words.specs.Notes.{more_choices};
-ghost use Rattle.diy_words.specs.Sayings.{said_by, arch_said, name_said, mode_said, obs_said, why_said, edges_said, relaxes_said, relax_usage, size_said, threads_said, accesses_said, after_said, folder_said, place_said, checked_said, dashed_said, operand_said, begins_option};
+ghost use Rattle.diy_words.specs.Parts.{Unvalued, arch_named, mode_named};
+ghost use Rattle.diy_words.specs.Notes.{before_noted, more_choices};
+ghost use Rattle.diy_words.specs.Sayings.{Before, SaysRelaxes, SaysPlace, SaysSize, SaysThreads, SaysAccesses, said_by, arch_said, name_said, mode_said, obs_said, why_said, edges_said, relaxes_said, relax_usage, number_said, after_said, folder_said, checked_said, operand_said, begins_option};
 
 use crate::name::name_of;
 use crate::number::number_to;
@@ -58,7 +57,7 @@ pub struct Notes<'a> {
 }
 
 impl<'a> Notes<'a> {
-    ghost use Rattle.diy_words.specs.Given.{code_notes, notes_after, notes_left, notes_valued};
+    ghost use Rattle.diy_words.specs.CodeNotes.{code_notes, notes_after, notes_alone, notes_dashed, notes_left, notes_valued};
     ghost use Rattle.diy_words.specs.Notes.{no_notes};
 
     pub fn new() -> Notes<'a>
@@ -154,7 +153,7 @@ impl<'a> Notes<'a> {
     /// Takes in `-obs` at place `at` with its value, unless `-why` comes before it.
     fn take_obs(&mut self, at: usize, value: &str) -> Result<(), Usage>
         requires { at + 1 < 2 ^ 64 }
-        ensures { notes_left result (code_notes self.new) ≡ notes_after (code_notes self.old) (obs_said (code_notes self.old) at value.now) }
+        ensures { notes_left result (code_notes self.new) ≡ notes_after (code_notes self.old) (obs_said (before_noted (code_notes self.old)) at value.now) }
     {
         if self.why {
             return Err(excluded_option(at));
@@ -178,7 +177,7 @@ impl<'a> Notes<'a> {
     }
 
     fn take_relaxes(&mut self, at: usize, value: &str) -> Result<(), Usage>
-        ensures { notes_left result (code_notes self.new) ≡ notes_after (code_notes self.old) (relaxes_said at (relaxes_of value.now)) }
+        ensures { notes_left result (code_notes self.new) ≡ notes_after (code_notes self.old) (relaxes_said SaysRelaxes at (relaxes_of value.now)) }
     {
         let mut relaxes = Relaxes::new();
         match read_relaxes(value, &mut relaxes) {
@@ -194,7 +193,7 @@ impl<'a> Notes<'a> {
     }
 
     fn take_size(&mut self, at: usize, value: &str) -> Result<(), Usage>
-        ensures { notes_left result (code_notes self.new) ≡ notes_after (code_notes self.old) (size_said at (number_to MAX_EDGES value.now)) }
+        ensures { notes_left result (code_notes self.new) ≡ notes_after (code_notes self.old) (number_said SaysSize at (number_to MAX_EDGES value.now)) }
     {
         match number_to(MAX_EDGES as u32, value) {
             Some(size) => {
@@ -209,7 +208,7 @@ impl<'a> Notes<'a> {
     }
 
     fn take_threads(&mut self, at: usize, value: &str) -> Result<(), Usage>
-        ensures { notes_left result (code_notes self.new) ≡ notes_after (code_notes self.old) (threads_said at (number_to MAX_EDGES value.now)) }
+        ensures { notes_left result (code_notes self.new) ≡ notes_after (code_notes self.old) (number_said SaysThreads at (number_to MAX_EDGES value.now)) }
     {
         match number_to(MAX_EDGES as u32, value) {
             Some(threads) => {
@@ -224,7 +223,7 @@ impl<'a> Notes<'a> {
     }
 
     fn take_accesses(&mut self, at: usize, value: &str) -> Result<(), Usage>
-        ensures { notes_left result (code_notes self.new) ≡ notes_after (code_notes self.old) (accesses_said at (number_to MAX_EDGES value.now)) }
+        ensures { notes_left result (code_notes self.new) ≡ notes_after (code_notes self.old) (number_said SaysAccesses at (number_to MAX_EDGES value.now)) }
     {
         match number_to(MAX_EDGES as u32, value) {
             Some(accesses) => {
@@ -275,7 +274,7 @@ impl<'a> Notes<'a> {
 
     /// Takes in a word of a tool at place `at` that is no option with a value.
     pub fn take_alone(&mut self, tool: Tool, at: usize, text: &str) -> Result<(), Usage>
-        ensures { notes_left result (code_notes self.new) ≡ notes_after (code_notes self.old) (said_by tool (code_notes self.old) (Alone at text.now)) }
+        ensures { notes_left result (code_notes self.new) ≡ notes_alone tool (code_notes self.old) at text.now }
     {
         if begins_option(text.as_bytes()) {
             self.take_dashed(tool, at, text)
@@ -286,7 +285,7 @@ impl<'a> Notes<'a> {
 
     /// Takes in a word that begins with `-`.
     fn take_dashed(&mut self, tool: Tool, at: usize, text: &str) -> Result<(), Usage>
-        ensures { notes_left result (code_notes self.new) ≡ notes_after (code_notes self.old) (dashed_said tool (code_notes self.old) at text.now) }
+        ensures { notes_left result (code_notes self.new) ≡ notes_dashed tool (code_notes self.old) at text.now }
     {
         match tool {
             Tool::DiyOne if text == "-why" => self.take_why(at),
@@ -303,7 +302,7 @@ impl<'a> Notes<'a> {
 
     /// Takes in `-why`, unless `-obs` comes before it.
     fn take_why(&mut self, at: usize) -> Result<(), Usage>
-        ensures { notes_left result (code_notes self.new) ≡ notes_after (code_notes self.old) (why_said (code_notes self.old) at) }
+        ensures { notes_left result (code_notes self.new) ≡ notes_after (code_notes self.old) (why_said (before_noted (code_notes self.old)) at) }
     {
         if self.mode.is_some() {
             return Err(excluded_option(at));
@@ -345,7 +344,7 @@ impl<'a> Notes<'a> {
 
     /// Takes in the relaxations of one more place.
     fn take_place(&mut self, at: usize, text: &str) -> Result<(), Usage>
-        ensures { notes_left result (code_notes self.new) ≡ notes_after (code_notes self.old) (place_said at (relaxes_of text.now)) }
+        ensures { notes_left result (code_notes self.new) ≡ notes_after (code_notes self.old) (relaxes_said SaysPlace at (relaxes_of text.now)) }
     {
         let mut relaxes = Relaxes::new();
         match read_relaxes(text, &mut relaxes) {
@@ -445,7 +444,7 @@ fn excluded_option(at: usize) -> Usage
 
 /// What is wrong with an option at place `at` that is the last word.
 pub fn missing_value(tool: Tool, option: OptionName, at: usize) -> Usage
-    ensures { (notes : noting.Notes) → said_by tool notes (Unvalued option at) ≡ Err result }
+    ensures { (before : Before) → said_by tool before (Unvalued option at) ≡ Err result }
 {
     let _ = (tool, option);
     Usage {

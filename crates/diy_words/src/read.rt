@@ -1,11 +1,8 @@
-ghost use Rattle.std.specs.Prelude.{◌≡◌, ◌<◌, ◌+◌, ◌^◌, ℕ, List, length, IfOk};
-ghost use Rattle.relax_edges.specs.declared.edge.Edge.{Edge};
-ghost use Rattle.edge_lists.specs.KeptEdges.{kept_edges};
+ghost use Rattle.std.specs.Prelude.{◌≡◌, ◌<◌, ◌+◌, ◌^◌, ℕ, List, Some, length, drop, IfOk};
 ghost use Rattle.diy_words.specs.declared.usage.UsageKind.TheVariants.{MissingArch};
-ghost use Rattle.diy_words.specs.Notes.{no_notes};
-ghost use Rattle.diy_words.specs.Sayings.{said_all};
-ghost use Rattle.diy_words.specs.Requests.{asked_of, said_asked, asks, AsksTest, AsksWhy, AsksName, AsksList, AsksFamilies, AsksDemo, AsksCheck, test_asked, why_asked, diyone_asked, norm_asked, diy_asked, families_with, demo_with, check_with};
-ghost use Rattle.diy_words.specs.Given.{GivesTask, HasForm, WithinWords, Steps, GivesAtEnd, GivesCross, IsPlain, IsOption, code_notes, sayings_from};
+ghost use Rattle.diy_words.specs.Requests.{asked_of, asked_for, asks, AsksTest, AsksWhy, AsksName, AsksList, AsksFamilies, AsksCross, AsksDemo, AsksCheck, test_asked, why_asked, diyone_asked, norm_asked, diy_asked, cross_asked, families_with, demo_with, check_with};
+ghost use Rattle.diy_words.specs.Given.{GivesTask, HasForm, WithinWords};
+ghost use Rattle.diy_words.specs.CodeNotes.{Steps, GivesAtEnd, GivesFrom, IsPlain, IsOption, code_notes};
 
 use crate::notes::{Notes, missing_value};
 use crate::options::{OptionName, Tool, option_named, tool_named};
@@ -44,7 +41,7 @@ pub fn read_request(words: &Words) -> Result<Request<'_>, Usage>
 
 fn read_words(tool: Tool, words: &Words) -> Result<Request<'_>, Usage>
     requires { 0 < length words.now }
-    ensures { GivesTask result (said_asked tool (length words.now) (said_all (sayings_from tool no_notes words.now 1))) }
+    ensures { GivesTask result (asked_for (Some tool) (length words.now) (drop 1 words.now)) }
 {
     let mut notes = Notes::new();
     let mut at = 1;
@@ -120,7 +117,7 @@ fn finish(tool: Tool, count: usize, notes: Notes<'_>) -> Result<Request<'_>, Usa
 }
 
 fn finish_diyone(count: usize, notes: Notes<'_>) -> Result<Request<'_>, Usage>
-    ensures { (edges : List Edge) → notes.entry.edges ≡ kept_edges edges → GivesTask result (diyone_asked count (code_notes notes.entry) edges) }
+    ensures { GivesFrom (λ given. diyone_asked count given) (code_notes notes.entry) result }
 {
     if notes.why {
         finish_why(count, notes)
@@ -130,7 +127,7 @@ fn finish_diyone(count: usize, notes: Notes<'_>) -> Result<Request<'_>, Usage>
 }
 
 fn finish_why(count: usize, notes: Notes<'_>) -> Result<Request<'_>, Usage>
-    ensures { (edges : List Edge) → notes.entry.edges ≡ kept_edges edges → GivesTask result (asks AsksWhy (why_asked count (code_notes notes.entry) edges)) }
+    ensures { GivesFrom (λ given. asks AsksWhy (why_asked count given)) (code_notes notes.entry) result }
 {
     let Some(arch) = notes.arch else {
         return Err(missing_arch(count));
@@ -144,7 +141,7 @@ fn finish_why(count: usize, notes: Notes<'_>) -> Result<Request<'_>, Usage>
 }
 
 fn finish_test(count: usize, notes: Notes<'_>) -> Result<Request<'_>, Usage>
-    ensures { (edges : List Edge) → notes.entry.edges ≡ kept_edges edges → GivesTask result (asks AsksTest (test_asked count (code_notes notes.entry) edges)) }
+    ensures { GivesFrom (λ given. asks AsksTest (test_asked count given)) (code_notes notes.entry) result }
 {
     let Some(arch) = notes.arch else {
         return Err(missing_arch(count));
@@ -164,7 +161,7 @@ fn finish_test(count: usize, notes: Notes<'_>) -> Result<Request<'_>, Usage>
 }
 
 fn finish_list(count: usize, notes: Notes<'_>) -> Result<Request<'_>, Usage>
-    ensures { GivesTask result (asks AsksList (diy_asked count (code_notes notes.entry))) }
+    ensures { GivesFrom (λ given. asks AsksList (diy_asked count given)) (code_notes notes.entry) result }
 {
     let Notes {
         arch,
@@ -217,7 +214,7 @@ fn finish_families(count: usize, notes: Notes<'_>) -> Result<Request<'_>, Usage>
 }
 
 fn finish_cross(count: usize, notes: Notes<'_>) -> Result<Request<'_>, Usage>
-    ensures { GivesCross count (code_notes notes.entry) result }
+    ensures { GivesFrom (λ given. asks AsksCross (cross_asked count given)) (code_notes notes.entry) result }
 {
     let Some(arch) = notes.arch else {
         return Err(missing_arch(count));
@@ -270,7 +267,7 @@ fn finish_check(count: usize, notes: Notes<'_>) -> Result<Request<'_>, Usage>
 }
 
 fn finish_name(count: usize, notes: Notes<'_>) -> Result<Request<'_>, Usage>
-    ensures { (edges : List Edge) → notes.entry.edges ≡ kept_edges edges → GivesTask result (asks AsksName (norm_asked count (code_notes notes.entry) edges)) }
+    ensures { GivesFrom (λ given. asks AsksName (norm_asked count given)) (code_notes notes.entry) result }
 {
     let Some(arch) = notes.arch else {
         return Err(missing_arch(count));

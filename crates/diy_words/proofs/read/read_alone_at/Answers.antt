@@ -1,6 +1,6 @@
 -- That `read_alone_at` takes in a word by itself, or gives its fault.
 use Rattle.std.proofs.Common.{◌+◌, arith}
-use Rattle.diy_words.specs.Given.{code_notes}
+use Rattle.diy_words.specs.CodeNotes.{code_notes}
 use Rattle.diy_words.proofs.Judged.{taken, faulty, alone_first}
 use Rattle.diy_words.proofs.read.read_alone_at.Goals as goal
 

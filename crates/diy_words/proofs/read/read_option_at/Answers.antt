@@ -1,6 +1,7 @@
 -- That `read_option_at` takes in an option with its value, or gives the fault.
 use Rattle.std.proofs.Common.{◌≡◌, ◌+◌, arith, length, sym, ap}
-use Rattle.diy_words.specs.Given.{notes_after, code_notes}
+use Rattle.diy_words.specs.Notes.{before_noted}
+use Rattle.diy_words.specs.CodeNotes.{notes_after, code_notes}
 use Rattle.diy_words.proofs.Judged.{taken, faulty, value_first, unvalued_last}
 use Rattle.diy_words.proofs.read.read_option_at.Goals as goal
 
@@ -8,7 +9,7 @@ pub returns-then-count-at-eq1 : goal.returns-then-count-at-eq1
 returns-then-count-at-eq1 c =
     let o = c.requires.named in
     let last : c.args.at + 1 ≡ length c.args.words.now = omega arith in
-    faulty _ _ _ _ _ (unvalued_last c.args.tool (code_notes c.args.notes.now) c.args.words.now c.args.at o.word c.args.option o.word_is o.named last) (sym (ap (notes_after (code_notes c.args.notes.now)) (c.missing_value.ensures (code_notes c.args.notes.now))))
+    faulty _ _ _ _ _ (unvalued_last c.args.tool (code_notes c.args.notes.now) c.args.words.now c.args.at o.word c.args.option o.word_is o.named last) (sym (ap (notes_after (code_notes c.args.notes.now)) (c.missing_value.ensures (before_noted (code_notes c.args.notes.now)))))
 
 pub returns-in-Ok : goal.returns-in-Ok
 returns-in-Ok c =

@@ -4,7 +4,7 @@ use Rattle.std.specs.Option.{option_map}
 use Rattle.edge_lists.specs.declared.read.Separators.TheVariants.{BlanksAndCommas}
 use Rattle.edge_lists.specs.KeptEdges.{edges_added, kept_edges}
 use Rattle.edge_lists.specs.Spelled.{edges_of}
-use Rattle.diy_words.specs.Given.{code_notes}
+use Rattle.diy_words.specs.CodeNotes.{code_notes}
 use Rattle.diy_words.proofs.AfterLaws.{after_made, after_none}
 use Rattle.diy_words.proofs.notes.Notes.take_after.Goals as goal
 

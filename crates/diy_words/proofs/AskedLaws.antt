@@ -1,0 +1,79 @@
+-- Words that ask for something of a tool: the first names it, none is faulty, and the others give what is asked for.
+use Rattle.std.proofs.Common.{◌≡◌, ℕ, Bool, true, false, List, [], ◌∷◌, length, Option, Some, None, Result, Ok, Err, refl, sym, ap, ◌∙◌, subst}
+use Rattle.std.specs.Prelude.{if◌then◌else◌}
+use Rattle.diy_words.specs.declared.options.Tool.{Tool}
+use Rattle.diy_words.specs.declared.options.Tool.TheVariants as tools
+use Rattle.diy_words.specs.declared.usage.Usage.{Usage}
+use Rattle.diy_words.specs.Parts.{parts_of, tool_named}
+use Rattle.diy_words.specs.Sayings.{Saying}
+use Rattle.diy_words.specs.Gathered.{Gathered, gathered_of, all_given}
+use Rattle.diy_words.specs.SaidInOrder.{sayings, said_all}
+use Rattle.diy_words.specs.Requests.{Task, AsksTest, AsksWhy, AsksName, AsksList, AsksFamilies, AsksSum, AsksCross, AsksDemo, AsksCheck, asks, families_with, demo_with, check_with, why_asked, test_asked, diyone_asked, diy_asked, norm_asked, cross_asked, tool_asked, said_asked, asked_for, asked_of}
+use Rattle.diy_words.specs.Notes.{no_notes, said_noted}
+use Rattle.diy_words.proofs.NotedLaws.{said_so}
+use Rattle.diy_words.proofs.OperandLaws.{AreFaultless, given_from, all_said}
+
+-- the tool that is asked for something
+abbrev pub tool_of : Task → Tool
+tool_of (AsksTest _) = tools.DiyOne
+tool_of (AsksWhy _) = tools.DiyOne
+tool_of (AsksName _) = tools.Norm
+tool_of (AsksList _) = tools.Diy
+tool_of (AsksFamilies _) = tools.Classify
+tool_of AsksSum = tools.Msum
+tool_of (AsksCross _) = tools.Cross
+tool_of (AsksDemo _) = tools.Demo
+tool_of (AsksCheck _) = tools.Check
+
+asks_tool : {X : Type 0} (tool : Tool) (request : X → Task) (asked : Result X Usage) (task : Task) → ((x : X) → tool_of (request x) ≡ tool) → asks request asked ≡ Ok task → tool_of task ≡ tool
+asks_tool tool request (Ok x) task of_tool e = let same : request x ≡ task = cc e in ap tool_of (sym same) ∙ of_tool x
+asks_tool tool request (Err usage) task of_tool e = cc e
+
+diyone_tool : (count : ℕ) (given : Gathered) (task : Task) → diyone_asked count given ≡ Ok task → tool_of task ≡ tools.DiyOne
+diyone_tool count given task e = of_test given.why e
+  where
+    of_test : (b : Bool) → (if b then asks AsksWhy (why_asked count given) else asks AsksTest (test_asked count given)) ≡ Ok task → tool_of task ≡ tools.DiyOne
+    of_test true e = asks_tool tools.DiyOne AsksWhy (why_asked count given) task (λ x. refl) e
+    of_test false e = asks_tool tools.DiyOne AsksTest (test_asked count given) task (λ x. refl) e
+
+-- a tool is asked only for something of its own
+asked_tool : (tool : Tool) (count : ℕ) (given : Gathered) (task : Task) → tool_asked tool count given ≡ Ok task → tool_of task ≡ tool
+asked_tool tools.DiyOne count given task e = diyone_tool count given task e
+asked_tool tools.Diy count given task e = asks_tool tools.Diy AsksList (diy_asked count given) task (λ x. refl) e
+asked_tool tools.Cross count given task e = asks_tool tools.Cross AsksCross (cross_asked count given) task (λ x. refl) e
+asked_tool tools.Norm count given task e = asks_tool tools.Norm AsksName (norm_asked count given) task (λ x. refl) e
+asked_tool tools.Classify count given task e = asks_tool tools.Classify AsksFamilies (families_with count given.arch given.files) task (λ x. refl) e
+asked_tool tools.Msum count given task e = let same : AsksSum ≡ task = cc e in ap tool_of (sym same)
+asked_tool tools.Demo count given task e = asks_tool tools.Demo AsksDemo (demo_with count given.arch given.count) task (λ x. refl) e
+asked_tool tools.Check count given task e = asks_tool tools.Check AsksCheck (check_with count given.arch given.test given.execution) task (λ x. refl) e
+
+said_tool : (tool : Tool) (count : ℕ) (said : Result (List Saying) Usage) (task : Task) → said_asked tool count said ≡ Ok task → tool_of task ≡ tool
+said_tool tool count (Err usage) task e = cc e
+said_tool tool count (Ok said) task e = asked_tool tool count (gathered_of said) task e
+
+-- the words of a tool after its name: none is faulty, and they give so much
+pub record ToolWords {X : Type 0} (tool : Tool) (gives : Saying → List X) (words : List (List ℕ)) (given : List X) : Type 0 where
+  pub faultless : AreFaultless tool words 1
+  pub first : given_from tool gives words 1 ≡ given
+
+-- words that ask for something of a tool are such, where a part of what is gathered is all that they give, and the task keeps it
+pub tool_words : {X : Type 0} (tool : Tool) (gives : Saying → List X) (part : Gathered → List X) (kept : Task → List X)
+    → ((said : List Saying) → all_given gives said ≡ part (gathered_of said))
+    → ((count : ℕ) (given : Gathered) (task : Task) → tool_asked tool count given ≡ Ok task → part given ≡ kept task)
+    → (words : List (List ℕ)) (task : Task) → tool_of task ≡ tool → asked_of words ≡ Ok task → ToolWords tool gives words (kept task)
+tool_words tool gives part kept gathers keeps [] task t e = cc e
+tool_words {X = X} tool gives part kept gathers keeps (first ∷ words) task t e = of_found (tool_named first) e
+  where
+    of_said : (said : Result (List Saying) Usage) → said_all (sayings tool [] (parts_of tool 1 words)) ≡ said → said_asked tool (length (first ∷ words)) said ≡ Ok task
+        → ToolWords tool gives (first ∷ words) (kept task)
+    of_said (Err usage) f e = cc e
+    of_said (Ok all) f e =
+        let read = all_said gives (said_noted tool no_notes (parts_of tool 1 words)) all (ap said_all (said_so tool [] (parts_of tool 1 words)) ∙ f) in
+        record { faultless = read.faultless; first = read.given ∙ gathers all ∙ keeps (length (first ∷ words)) (gathered_of all) task e }
+
+    of_found : (found : Option Tool) → asked_for found (length (first ∷ words)) words ≡ Ok task → ToolWords tool gives (first ∷ words) (kept task)
+    of_found None e = cc e
+    of_found (Some own) e =
+        let same : own ≡ tool = sym (said_tool own (length (first ∷ words)) (said_all (sayings own [] (parts_of own 1 words))) task e) ∙ t in
+        of_said (said_all (sayings tool [] (parts_of tool 1 words))) refl
+        (subst (λ (o : Tool). said_asked o (length (first ∷ words)) (said_all (sayings o [] (parts_of o 1 words))) ≡ Ok task) same e)

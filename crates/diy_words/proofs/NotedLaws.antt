@@ -1,0 +1,231 @@
+-- What is noted word by word is what is gathered of all words at once.
+use Rattle.std.proofs.Common.{◌≡◌, ◌+◌, ℕ, Bool, true, false, List, [], ◌∷◌, ◌++◌, length, Option, Some, None, Result, Ok, Err, append-nil, refl, sym, ap, ◌∙◌, arith, lit≤, nat_lt}
+use Rattle.std.specs.Prelude.{◌||◌, if◌then◌else◌, filter}
+use Rattle.std.specs.List.{list_any}
+use Rattle.std.specs.Option.{option_or, unwrap_or}
+use Rattle.list_laws.proofs.Elements.{option_or-none}
+use Rattle.edge_lists.specs.KeptEdges.{kept_edges, edges_added}
+use Rattle.edge_lists.specs.KeptLaws.{added_more, added_whole}
+use Rattle.diy_words.specs.declared.options.Tool.{Tool}
+use Rattle.diy_words.specs.declared.request.TheConstants.{MAX_CHOICES}
+use Rattle.diy_words.specs.declared.usage.Usage.{Usage}
+use Rattle.diy_words.specs.Parts.{Part}
+use Rattle.diy_words.specs.Sayings.{Saying, SaysArch, SaysName, SaysMode, SaysFrom, SaysEdges, SaysRelaxes, SaysSize, SaysExact, SaysWhy, SaysThreads, SaysAccesses, SaysAfter, SaysFolder, SaysTest, SaysExecution, SaysPlace, SaysCount, said_by}
+use Rattle.diy_words.specs.Gathered.{arch_in, name_in, mode_in, from_in, operand_in, relaxes_in, size_in, is_exact, threads_in, accesses_in, after_in, folder_in, is_why, count_in, test_in, execution_in, edges_in, places_of_word, files_in, last_given, first_given, all_given, gathered_of}
+use Rattle.diy_words.specs.SaidInOrder.{is_limited, before_of, said_in, sayings}
+use Rattle.diy_words.specs.Requests.{choice_count}
+use Rattle.diy_words.specs.Notes.{Notes, no_notes, with_saying, with_next, notes_with, notes_of, before_noted, said_noted, gathered_noted}
+use Rattle.diy_words.proofs.ChoiceLaws.{choices_after, choices_more, choices_said}
+
+-- a part of the notes that each word changes by itself, after all that words say
+noted : {F : Type 0} (field : Notes → F) (one : Saying → F → F) (all : List Saying → F → F)
+    → ((f : F) → all [] f ≡ f) → ((saying : Saying) (rest : List Saying) (f : F) → all (saying ∷ rest) f ≡ all rest (one saying f))
+    → ((notes : Notes) (saying : Saying) → field (with_saying notes saying) ≡ one saying (field notes))
+    → (notes : Notes) (said : List Saying) → field (notes_with notes said) ≡ all said (field notes)
+noted field one all none more step notes [] = sym (none (field notes))
+noted field one all none more step notes (saying ∷ rest) =
+    noted field one all none more step (with_saying notes saying) rest ∙ ap (all rest) (step notes saying) ∙ sym (more saying rest (field notes))
+
+or_or : {X : Type 0} (a b c : Option X) → option_or (option_or a b) c ≡ option_or a (option_or b c)
+or_or (Some x) b c = refl
+or_or None b c = refl
+
+unwrap_or_or : {X : Type 0} (a b : Option X) (c : X) → unwrap_or (option_or a b) c ≡ unwrap_or a (unwrap_or b c)
+unwrap_or_or (Some x) b c = refl
+unwrap_or_or None b c = refl
+
+any_swap : (a b c : Bool) → ((a || b) || c) ≡ (b || (a || c))
+any_swap true true c = refl
+any_swap true false c = refl
+any_swap false true c = refl
+any_swap false false c = refl
+
+-- where the later takes the place of the earlier, the last is noted
+last_noted : {X : Type 0} (field : Notes → Option X) (kind : Saying → Option X) → field no_notes ≡ None
+    → ((notes : Notes) (saying : Saying) → field (with_saying notes saying) ≡ option_or (kind saying) (field notes))
+    → (said : List Saying) → field (notes_of said) ≡ last_given kind said
+last_noted field kind none step said =
+    noted field (λ saying f. option_or (kind saying) f) (λ said f. option_or (last_given kind said) f) (λ f. refl)
+    (λ saying rest f. or_or (last_given kind rest) (kind saying) f) step no_notes said ∙
+    ap (λ f. option_or (last_given kind said) f) none ∙ option_or-none (last_given kind said)
+
+-- a value is the last that was given, or else that before the first word
+value_noted : (field : Notes → ℕ) (kind : Saying → Option ℕ)
+    → ((notes : Notes) (saying : Saying) → field (with_saying notes saying) ≡ unwrap_or (kind saying) (field notes))
+    → (said : List Saying) → field (notes_of said) ≡ unwrap_or (last_given kind said) (field no_notes)
+value_noted field kind step said =
+    noted field (λ saying f. unwrap_or (kind saying) f) (λ said f. unwrap_or (last_given kind said) f) (λ f. refl)
+    (λ saying rest f. unwrap_or_or (last_given kind rest) (kind saying) f) step no_notes said
+
+-- what any word says is noted
+any_noted : (field : Notes → Bool) (kind : Saying → Bool) → field no_notes ≡ false
+    → ((notes : Notes) (saying : Saying) → field (with_saying notes saying) ≡ (kind saying || field notes))
+    → (said : List Saying) → field (notes_of said) ≡ list_any kind said
+any_noted field kind none step said =
+    noted field (λ saying f. kind saying || f) (λ said f. list_any kind said || f) (λ f. refl)
+    (λ saying rest f. any_swap (kind saying) (list_any kind rest) f) step no_notes said ∙
+    ap (λ f. list_any kind said || f) none ∙ or_false (list_any kind said)
+  where
+    or_false : (b : Bool) → (b || false) ≡ b
+    or_false true = refl
+    or_false false = refl
+
+arch_step : (notes : Notes) (saying : Saying) → (with_saying notes saying).arch ≡ option_or (arch_in saying) notes.arch
+arch_step notes (SaysArch arch) = refl
+arch_step notes saying = refl
+
+name_step : (notes : Notes) (saying : Saying) → (with_saying notes saying).name ≡ option_or (name_in saying) notes.name
+name_step notes (SaysName name) = refl
+name_step notes saying = refl
+
+mode_step : (notes : Notes) (saying : Saying) → (with_saying notes saying).mode ≡ option_or (mode_in saying) notes.mode
+mode_step notes (SaysMode mode) = refl
+mode_step notes saying = refl
+
+from_step : (notes : Notes) (saying : Saying) → (with_saying notes saying).from ≡ option_or (from_in saying) notes.from
+from_step notes (SaysFrom at name) = refl
+from_step notes saying = refl
+
+relaxes_step : (notes : Notes) (saying : Saying) → (with_saying notes saying).relaxes ≡ option_or (relaxes_in saying) notes.relaxes
+relaxes_step notes (SaysRelaxes relaxes) = refl
+relaxes_step notes saying = refl
+
+accesses_step : (notes : Notes) (saying : Saying) → (with_saying notes saying).accesses ≡ option_or (accesses_in saying) notes.accesses
+accesses_step notes (SaysAccesses accesses) = refl
+accesses_step notes saying = refl
+
+after_step : (notes : Notes) (saying : Saying) → (with_saying notes saying).after ≡ option_or (after_in saying) notes.after
+after_step notes (SaysAfter cycle) = refl
+after_step notes saying = refl
+
+folder_step : (notes : Notes) (saying : Saying) → (with_saying notes saying).folder ≡ option_or (folder_in saying) notes.folder
+folder_step notes (SaysFolder folder) = refl
+folder_step notes saying = refl
+
+count_step : (notes : Notes) (saying : Saying) → (with_saying notes saying).count ≡ option_or (count_in saying) notes.count
+count_step notes (SaysCount count) = refl
+count_step notes saying = refl
+
+test_step : (notes : Notes) (saying : Saying) → (with_saying notes saying).test ≡ option_or (test_in saying) notes.test
+test_step notes (SaysTest at) = refl
+test_step notes saying = refl
+
+execution_step : (notes : Notes) (saying : Saying) → (with_saying notes saying).execution ≡ option_or (execution_in saying) notes.execution
+execution_step notes (SaysExecution at) = refl
+execution_step notes saying = refl
+
+size_step : (notes : Notes) (saying : Saying) → (with_saying notes saying).size ≡ unwrap_or (size_in saying) notes.size
+size_step notes (SaysSize size) = refl
+size_step notes saying = refl
+
+threads_step : (notes : Notes) (saying : Saying) → (with_saying notes saying).threads ≡ unwrap_or (threads_in saying) notes.threads
+threads_step notes (SaysThreads threads) = refl
+threads_step notes saying = refl
+
+exact_step : (notes : Notes) (saying : Saying) → (with_saying notes saying).exact ≡ (is_exact saying || notes.exact)
+exact_step notes SaysExact = refl
+exact_step notes saying = refl
+
+why_step : (notes : Notes) (saying : Saying) → (with_saying notes saying).why ≡ (is_why saying || notes.why)
+why_step notes SaysWhy = refl
+why_step notes saying = refl
+
+mode_noted : (said : List Saying) → (notes_of said).mode ≡ last_given mode_in said
+mode_noted said = last_noted (λ n. n.mode) mode_in refl mode_step said
+
+why_noted : (said : List Saying) → (notes_of said).why ≡ list_any is_why said
+why_noted said = any_noted (λ n. n.why) is_why refl why_step said
+
+-- the place of the first operand of edges is noted
+operand_noted : (said : List Saying) → (notes_of said).operand ≡ first_given operand_in said
+operand_noted said =
+    noted (λ n. n.operand) (λ saying f. option_or f (operand_in saying)) (λ said f. option_or f (first_given operand_in said)) (λ f. option_or-none f)
+    (λ saying rest f. sym (or_or f (operand_in saying) (first_given operand_in rest))) step no_notes said
+  where
+    step : (notes : Notes) (saying : Saying) → (with_saying notes saying).operand ≡ option_or notes.operand (operand_in saying)
+    step notes (SaysEdges at edges) = refl
+    step notes saying = sym (option_or-none notes.operand)
+
+-- as many operands are taken as there are of those whose number is limited
+taken_noted : (said : List Saying) → (notes_of said).taken ≡ length (filter is_limited said)
+taken_noted said =
+    noted (λ n. n.taken) (λ saying n. if is_limited saying then n + 1 else n) (λ said n. n + length (filter is_limited said)) (λ n. omega arith)
+    (λ saying rest n. of_test saying rest n (is_limited saying)) step no_notes said ∙
+    (let whole : 0 + length (filter is_limited said) ≡ length (filter is_limited said) = omega arith in whole)
+  where
+    of_test : (saying : Saying) (rest : List Saying) (n : ℕ) (b : Bool)
+        → n + length (if b then saying ∷ filter is_limited rest else filter is_limited rest) ≡ (if b then n + 1 else n) + length (filter is_limited rest)
+    of_test saying rest n true = omega arith
+    of_test saying rest n false = refl
+
+    step : (notes : Notes) (saying : Saying) → (with_saying notes saying).taken ≡ (if is_limited saying then notes.taken + 1 else notes.taken)
+    step notes (SaysCount count) = refl
+    step notes (SaysTest at) = refl
+    step notes (SaysExecution at) = refl
+    step notes saying = refl
+
+-- the edges that are noted are those of all operands
+pub edges_noted : (said : List Saying) → (notes_of said).edges ≡ kept_edges (all_given edges_in said)
+edges_noted said =
+    noted (λ n. n.edges) (λ saying list. edges_added list (edges_in saying)) (λ said list. edges_added list (all_given edges_in said)) (λ list. refl)
+    (λ saying rest list. sym (added_more list (edges_in saying) (all_given edges_in rest))) step no_notes said ∙
+    added_whole [] (all_given edges_in said) (lit≤ tt)
+  where
+    step : (notes : Notes) (saying : Saying) → (with_saying notes saying).edges ≡ edges_added notes.edges (edges_in saying)
+    step notes (SaysEdges at edges) = refl
+    step notes saying = refl
+
+-- there are too many choices for all places just where too many are noted
+pub choices_noted : (said : List Saying) → nat_lt MAX_CHOICES (notes_of said).choices ≡ nat_lt MAX_CHOICES (choice_count (all_given places_of_word said))
+choices_noted said =
+    ap (nat_lt MAX_CHOICES)
+    (noted (λ n. n.choices) (λ saying n. choices_after n (places_of_word saying)) (λ said n. choices_after n (all_given places_of_word said)) (λ n. refl)
+    (λ saying rest n. sym (choices_more n (places_of_word saying) (all_given places_of_word rest))) step no_notes said) ∙
+    choices_said (all_given places_of_word said)
+  where
+    step : (notes : Notes) (saying : Saying) → (with_saying notes saying).choices ≡ choices_after notes.choices (places_of_word saying)
+    step notes (SaysPlace relaxes) = refl
+    step notes saying = refl
+
+-- the notes after all words, with all edges, places and files, hold what is gathered
+pub all_noted : (said : List Saying) → gathered_noted (notes_of said) (all_given edges_in said) (all_given places_of_word said) (all_given files_in said) ≡ gathered_of said
+all_noted said =
+    rw (
+      last_noted (λ n. n.arch) arch_in refl arch_step said,
+      last_noted (λ n. n.name) name_in refl name_step said,
+      mode_noted said,
+      last_noted (λ n. n.from) from_in refl from_step said,
+      operand_noted said,
+      last_noted (λ n. n.relaxes) relaxes_in refl relaxes_step said,
+      value_noted (λ n. n.size) size_in size_step said,
+      any_noted (λ n. n.exact) is_exact refl exact_step said,
+      value_noted (λ n. n.threads) threads_in threads_step said,
+      last_noted (λ n. n.accesses) accesses_in refl accesses_step said,
+      last_noted (λ n. n.after) after_in refl after_step said,
+      last_noted (λ n. n.folder) folder_in refl folder_step said,
+      last_noted (λ n. n.count) count_in refl count_step said,
+      last_noted (λ n. n.test) test_in refl test_step said,
+      last_noted (λ n. n.execution) execution_in refl execution_step said,
+      why_noted said,
+    ) refl
+
+-- and what bears on the fault of the next word
+before_all : (said : List Saying) → before_noted (notes_of said) ≡ before_of said
+before_all said = rw (taken_noted said, mode_noted said, why_noted said) refl
+
+notes_more : (notes : Notes) (xs ys : List Saying) → notes_with notes (xs ++ ys) ≡ notes_with (notes_with notes xs) ys
+notes_more notes [] ys = refl
+notes_more notes (x ∷ xs) ys = notes_more (with_saying notes x) xs ys
+
+next_noted : (before : List Saying) (said : Result Saying Usage) → with_next (notes_of before) said ≡ notes_of (before ++ said_in said)
+next_noted before (Ok saying) = sym (notes_more no_notes before (saying ∷ []))
+next_noted before (Err usage) = ap notes_of (sym (append-nil before))
+
+-- so parts say the same, judged by the notes of the words before them, as judged by what these words said
+pub said_so : (tool : Tool) (before : List Saying) (parts : List Part) → said_noted tool (notes_of before) parts ≡ sayings tool before parts
+said_so tool before [] = refl
+said_so tool before (part ∷ parts) =
+    ap (λ b. said_by tool b part ∷ said_noted tool (with_next (notes_of before) (said_by tool b part)) parts) (before_all before) ∙
+    ap (λ rest. said_by tool (before_of before) part ∷ rest)
+    (ap (λ notes. said_noted tool notes parts) (next_noted before (said_by tool (before_of before) part)) ∙
+    said_so tool (before ++ said_in (said_by tool (before_of before) part)) parts)

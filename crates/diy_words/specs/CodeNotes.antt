@@ -1,0 +1,114 @@
+-- For private functions of the code alone: how what they note stands for `Notes`, and what each call leaves of them.
+use Rattle.std.specs.Prelude.{ℕ, ◌≡◌, ◌<◌, nat_lt, List, [], ◌∷◌, drop, slice_get, Option, Some, None, Result, Ok, Err}
+use Rattle.std.specs.Option.{option_map}
+use Rattle.std.specs.Result.{result_ok}
+use Rattle.relax_edges.specs.declared.edge.Edge.{Edge}
+use Rattle.edge_lists.specs.declared.list.EdgeList.{EdgeList}
+use Rattle.edge_lists.specs.declared.list.EdgeList.TheVariants.{Whole, TooLong}
+use Rattle.edge_lists.specs.KeptEdges.{kept_edges}
+use Rattle.edge_algebra.specs.Compose.{composed}
+use Rattle.diy_words.specs.declared.notes.Notes as code
+use Rattle.diy_words.specs.declared.options.OptionName.{OptionName}
+use Rattle.diy_words.specs.declared.options.Tool.{Tool}
+use Rattle.diy_words.specs.declared.request.Request.{Request}
+use Rattle.diy_words.specs.declared.request.TheConstants.{MAX_CHOICES}
+use Rattle.diy_words.specs.declared.usage.Usage.{Usage}
+use Rattle.diy_words.specs.Parts.{Alone, Valued, parts_of, option_named}
+use Rattle.diy_words.specs.Sayings.{Saying, dashed_said, said_by}
+use Rattle.diy_words.specs.Gathered.{Gathered}
+use Rattle.diy_words.specs.Requests.{Task, choice_count, tool_asked}
+use Rattle.diy_words.specs.Given.{GivesTask}
+use Rattle.diy_words.specs.Notes.{Notes, with_saying, before_noted, gathered_noted, said_noted}
+
+-- what the code notes
+abbrev pub code_notes : code.Notes → Notes
+code_notes notes = record {
+  arch = notes.arch;
+  name = option_map (λ name. name.bytes) notes.name;
+  mode = notes.mode;
+  from = option_map (λ from. (from.word, from.name.now)) notes.from;
+  operand = notes.operand;
+  edges = notes.edges;
+  relaxes = notes.relaxes;
+  size = notes.limits.size;
+  exact = notes.limits.exact;
+  threads = notes.threads;
+  accesses = notes.accesses;
+  after = notes.after;
+  folder = option_map (λ folder. folder.now) notes.folder;
+  choices = notes.choices;
+  count = notes.count;
+  test = notes.test;
+  execution = notes.execution;
+  taken = notes.taken;
+  why = notes.why;
+}
+
+-- the notes after a part of the words, or its fault
+abbrev pub notes_after : Notes → Result Saying Usage → Result Notes Usage
+notes_after notes (Ok saying) = Ok (with_saying notes saying)
+notes_after notes (Err usage) = Err usage
+
+-- the notes after an option at a place with its value, or its fault
+abbrev pub notes_valued : Tool → Notes → OptionName → ℕ → List ℕ → Result Notes Usage
+notes_valued tool notes option at value = notes_after notes (said_by tool (before_noted notes) (Valued option at value))
+
+-- the notes after a word at a place that is no option with a value, or its fault
+abbrev pub notes_alone : Tool → Notes → ℕ → List ℕ → Result Notes Usage
+notes_alone tool notes at text = notes_after notes (said_by tool (before_noted notes) (Alone at text))
+
+-- the notes after a word at a place that begins with `-` and takes no value, or its fault
+abbrev pub notes_dashed : Tool → Notes → ℕ → List ℕ → Result Notes Usage
+notes_dashed tool notes at text = notes_after notes (dashed_said tool (before_noted notes) at text)
+
+-- the notes that a call leaves, or its fault
+abbrev pub notes_left : Result (Unit {0}) Usage → Notes → Result Notes Usage
+notes_left (Ok _) notes = Ok notes
+notes_left (Err usage) notes = Err usage
+
+-- the notes after parts of the words, one after another, or the first fault
+abbrev pub all_notes : Result Notes Usage → List (Result Saying Usage) → Result Notes Usage
+all_notes notes [] = notes
+all_notes (Ok notes) (said ∷ rest) = all_notes (notes_after notes said) rest
+all_notes (Err usage) (said ∷ rest) = all_notes (Err usage) rest
+
+-- what the words from a place on say, after words of which so much is noted
+abbrev pub sayings_from : Tool → Notes → List (List ℕ) → ℕ → List (Result Saying Usage)
+sayings_from tool notes words at = said_noted tool notes (parts_of tool at (drop at words))
+
+-- the notes after all words, from those before the words from a place on
+abbrev pub notes_at_end : Tool → List (List ℕ) → ℕ → Notes → Result Notes Usage
+notes_at_end tool words at notes = all_notes (Ok notes) (sayings_from tool notes words at)
+
+-- a call that takes in the part of the words at a place gives the place after it, or the fault there: the notes after all words
+-- stay the same
+abbrev pub Steps : Tool → List (List ℕ) → ℕ → Notes → Notes → Result ℕ Usage → Type 0
+Steps tool words at old new (Ok next) =
+    (at < next) × (notes_at_end tool words next new ≡ notes_at_end tool words at old)
+Steps tool words at old new (Err usage) = Err usage ≡ notes_at_end tool words at old
+
+-- a call gives the request that is asked for by what is gathered, of which these are the notes, whatever the edges, places and
+-- files of which they are the notes
+abbrev pub GivesFrom : (Gathered → Result Task Usage) → Notes → Result Request Usage → Type 0
+GivesFrom asked notes result =
+    (edges : List Edge) (places : List (List (List Edge))) (files : List ℕ) → notes.edges ≡ kept_edges edges
+    → nat_lt MAX_CHOICES notes.choices ≡ nat_lt MAX_CHOICES (choice_count places) → GivesTask result (asked (gathered_noted notes edges places files))
+
+-- a call gives the request of a tool from these notes
+abbrev pub GivesAtEnd : Tool → ℕ → Notes → Result Request Usage → Type 0
+GivesAtEnd tool count notes result = GivesFrom (λ given. tool_asked tool count given) notes result
+
+-- the word at a place is no option that takes a value
+abbrev pub IsPlain : Tool → List (List ℕ) → ℕ → Type 0
+IsPlain tool words at = (word : List ℕ) → slice_get words at ≡ Some word → option_named tool word ≡ None
+
+-- the word at a place is this option
+pub record IsOption (tool : Tool) (words : List (List ℕ)) (at : ℕ) (option : OptionName) : Type 0 where
+  pub word : List ℕ
+  pub word_is : slice_get words at ≡ Some word
+  pub named : option_named tool word ≡ Some option
+
+-- the cycle that edges make, as they are kept, if they make one
+abbrev pub cycle_kept : EdgeList → Option (List Edge)
+cycle_kept (Whole list) = result_ok (composed list.items)
+cycle_kept TooLong = None

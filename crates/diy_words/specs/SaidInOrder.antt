@@ -1,0 +1,45 @@
+-- What the words say one after another, each judged by what those before it said, or the first fault among them.
+use Rattle.std.specs.Prelude.{Bool, true, false, List, [], ◌∷◌, ◌++◌, length, filter, is_some, Result, Ok, Err}
+use Rattle.std.specs.List.{list_any}
+use Rattle.diy_words.specs.declared.usage.Usage.{Usage}
+use Rattle.diy_words.specs.declared.options.Tool.{Tool}
+use Rattle.diy_words.specs.Parts.{Part}
+use Rattle.diy_words.specs.Sayings.{Saying, SaysCount, SaysTest, SaysExecution, Before, said_by}
+use Rattle.diy_words.specs.Gathered.{mode_in, is_why, last_given}
+
+-- the number of demo and the files of mcheck7 are the operands whose number is limited
+abbrev pub is_limited : Saying → Bool
+is_limited (SaysCount _) = true
+is_limited (SaysTest _) = true
+is_limited (SaysExecution _) = true
+is_limited _ = false
+
+-- what bears on the fault of the next word, of all that the words before it said
+abbrev pub before_of : List Saying → Before
+before_of said = record {
+  taken = length (filter is_limited said);
+  obs = is_some (last_given mode_in said);
+  why = list_any is_why said;
+}
+
+-- what a word adds to what is said: a faulty word says nothing
+abbrev pub said_in : Result Saying Usage → List Saying
+said_in (Ok saying) = saying ∷ []
+said_in (Err usage) = []
+
+-- what the parts of the words say, one after another, after words that said so much
+abbrev pub sayings : Tool → List Saying → List Part → List (Result Saying Usage)
+sayings tool before [] = []
+sayings tool before (part ∷ parts) =
+    said_by tool (before_of before) part ∷ sayings tool (before ++ said_in (said_by tool (before_of before) part)) parts
+
+-- something said before the rest, where the rest has no fault
+abbrev pub said_first : Saying → Result (List Saying) Usage → Result (List Saying) Usage
+said_first saying (Ok rest) = Ok (saying ∷ rest)
+said_first saying (Err usage) = Err usage
+
+-- all that words say, or the first fault among them
+abbrev pub said_all : List (Result Saying Usage) → Result (List Saying) Usage
+said_all [] = Ok []
+said_all (Ok saying ∷ rest) = said_first saying (said_all rest)
+said_all (Err usage ∷ _) = Err usage
