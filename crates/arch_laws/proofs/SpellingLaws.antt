@@ -4,7 +4,7 @@ use Rattle.std.specs.Fmt.{decimal}
 use Rattle.std.specs.List.{list_all}
 use Rattle.arch_trait.specs.WordBytes.{is_instruction_byte}
 use Rattle.text_laws.specs.Names.{is_place_name}
-use Rattle.arch_trait.specs.Writing.{immediate, label, label_name, label_word, label_raw}
+use Rattle.arch_trait.specs.Writing.{immediate_number, label, label_name, label_word, label_raw}
 use Rattle.micro_ops.specs.declared.operation.Micro.TheVariants as ops
 use Rattle.arch_trait.proofs.PlainTexts as proved
 
@@ -17,7 +17,7 @@ pub place_name_plain : (name : List ℕ) → is_place_name name ≡ true → lis
 place_name_plain name h = proved.place_name_plain name h
 
 -- an immediate is read from its decimal
-pub immediate_back : (n : ℕ) → n ≤ 2047 → immediate (decimal n) ≡ Some n
+pub immediate_back : (n : ℕ) → n ≤ 2047 → immediate_number (decimal n) ≡ Some n
 immediate_back n h = proved.immediate_back n h
 
 -- a label is read from its name and the colon

@@ -11,12 +11,12 @@ use Rattle.list_laws.proofs.Elements.{list_all-weaker}
 use Rattle.text_laws.specs.Names.{is_place_name, is_place_byte, begins_place}
 use Rattle.text_laws.proofs.NumberLaws.{number_of-decimal}
 use Rattle.micro_ops.specs.declared.operation.Micro.TheVariants as ops
-use Rattle.arch_trait.specs.Writing.{immediate, at_most, label, label_name, label_word, label_raw}
+use Rattle.arch_trait.specs.Writing.{immediate_number, at_most, label, label_name, label_word, label_raw}
 use Rattle.arch_trait.specs.WordBytes.{is_instruction_byte}
 
 -- an immediate is read from its decimal
-pub immediate_back : (n : ℕ) → n ≤ 2047 → immediate (decimal n) ≡ Some n
-unfolding immediate
+pub immediate_back : (n : ℕ) → n ≤ 2047 → immediate_number (decimal n) ≡ Some n
+unfolding immediate_number
 immediate_back n h =
     ap (at_most 2047) (number_of-decimal n (omega arith)) ∙ rw (le-leb n 2047 h) refl
 

@@ -138,8 +138,8 @@ at_most limit None = None
 at_most limit (Some n) = cond (nat_le n limit) (Some n) None
 
 -- an immediate: a number of at most 2,047 in decimal
-unfoldable pub immediate : List ℕ → Option ℕ
-immediate digits = at_most 2047 (number_of digits)
+unfoldable pub immediate_number : List ℕ → Option ℕ
+immediate_number digits = at_most 2047 (number_of digits)
 
 -- a text in square brackets
 abbrev pub bracketed : List ℕ → List ℕ

@@ -1,5 +1,5 @@
 ghost use Rattle.std.specs.Prelude.{◌≡◌, ◌<◌, ◌≤◌, ◌+◌, ◌++◌, ◌∷◌, [], length};
-ghost use Rattle.arch_trait.specs.Writing.{immediate, label_raw, label_name};
+ghost use Rattle.arch_trait.specs.Writing.{immediate_number, label_raw, label_name};
 ghost use Rattle.arch_trait.specs.InstructionPieces.{raw_seen, operand_texts};
 ghost use Rattle.arch_trait.specs.Forms.{label_alone};
 
@@ -13,9 +13,9 @@ pub const MAX_IMMEDIATE: u32 = 2047;
 
 /// The number that these digits write, in decimal without leading zeros. None where they write none,
 /// or one above `MAX_IMMEDIATE`.
-#[tactic(auto, unfolding(crate::specs::Writing::immediate))]
+#[tactic(auto, unfolding(crate::specs::Writing::immediate_number))]
 pub fn immediate(digits: &[u8]) -> Option<u32>
-    ensures { result ≡ immediate digits.now }
+    ensures { result ≡ immediate_number digits.now }
 {
     match number_of(digits) {
         Some(n) if n <= MAX_IMMEDIATE => Some(n),

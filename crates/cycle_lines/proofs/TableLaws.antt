@@ -33,7 +33,7 @@ use Rattle.cycle_names.specs.Rotations.{family_of}
 use Rattle.cycle_lines.specs.declared.table.FamilyNames.{FamilyNames}
 use Rattle.cycle_lines.specs.LineReading.{ReadAll}
 use Rattle.cycle_lines.specs.Classified.{families_in_order, is_family, with_cycle_name, family_names, name_entry, family_text, families_text, ReadsPart, ClassifiedAll, ClassifiedPart}
-use Rattle.cycle_lines.specs.FamilyTables.{place_of_family, names_in_set, FamilyEntry, family_view, entry_text, family_table, HoldsCycles, entry_with, name_entered, AddsCycle, AddsLast, Gathered}
+use Rattle.cycle_lines.specs.FamilyTables.{place_of_family, names_in_set, FamilyEntry, family_view, entry_text, family_table, HoldsCycles, entry_with, name_entered, AddsCycle, AddsLast, GatheredFamilies}
 use Rattle.cycle_lines.specs.LineSteps.{ReaderSeen, HasRead, last_cycle}
 use Rattle.cycle_lines.proofs.ReadLaws.{nothing_read, kept_same}
 
@@ -227,11 +227,11 @@ pub table_text : (table items : List FamilyNames) (cycles : List (List Edge)) �
 table_text table items cycles e h = ap (flat_map (λ entry. entry_text (family_view entry))) e ∙ all_text items cycles h
 
 -- where the names were gathered and the text of the families was written, all was classified
-pub classified : (arch : ArchName) (s t : SourceSeen) (a b : SinkSeen) (table : List FamilyEntry) (h : Gathered arch s t table) → WroteAll a b (families_text h.cycles) → ClassifiedAll arch s t a b
+pub classified : (arch : ArchName) (s t : SourceSeen) (a b : SinkSeen) (table : List FamilyEntry) (h : GatheredFamilies arch s t table) → WroteAll a b (families_text h.cycles) → ClassifiedAll arch s t a b
 classified arch s t a b table h w = record { cycles = h.cycles; read = h.read; wrote = w }
 
 -- where the names were gathered and the sink failed, a prefix of the text was written
-pub classified_part : (arch : ArchName) (s t : SourceSeen) (a b : SinkSeen) (table : List FamilyEntry) (h : Gathered arch s t table) → WrotePart a b (families_text h.cycles) → ClassifiedPart arch s t a b
+pub classified_part : (arch : ArchName) (s t : SourceSeen) (a b : SinkSeen) (table : List FamilyEntry) (h : GatheredFamilies arch s t table) → WrotePart a b (families_text h.cycles) → ClassifiedPart arch s t a b
 classified_part arch s t a b table h w = record { cycles = h.cycles; read = h.read; wrote = w }
 
 -- nothing is kept at the start
@@ -262,7 +262,7 @@ nothing_gathered arch s r table e h = subst (λ r. Gathering arch s s r table) (
 
 -- the last one
 pub gathered_last : (arch : ArchName) (s t : SourceSeen) (cycles : List (List Edge)) (cycle : Option (List Edge)) (old new : List FamilyEntry) →
-    ReadAll arch s t (cycles ++ last_cycle cycle) → HoldsCycles old cycles → AddsLast old new cycle → Gathered arch s t new
+    ReadAll arch s t (cycles ++ last_cycle cycle) → HoldsCycles old cycles → AddsLast old new cycle → GatheredFamilies arch s t new
 gathered_last arch s t cycles cycle old new h held adds = record { cycles = cycles ++ last_cycle cycle; read = h; holds = adds cycles held }
 
 -- no cycle is kept

@@ -74,14 +74,14 @@ abbrev pub AddsLast : List FamilyEntry → List FamilyEntry → Option (List Edg
 AddsLast old new cycle = (cycles : List (List Edge)) → HoldsCycles old cycles → HoldsCycles new (cycles ++ last_cycle cycle)
 
 -- a source was read to its end, and the names of its cycles are kept
-pub record Gathered (arch : ArchName) (old new : SourceSeen) (table : List FamilyEntry) : Type 0 where
+pub record GatheredFamilies (arch : ArchName) (old new : SourceSeen) (table : List FamilyEntry) : Type 0 where
   pub cycles : List (List Edge)
   pub read : ReadAll arch old new cycles
   pub holds : HoldsCycles table cycles
 
 -- the names of the cycles of a source are kept, or there is a reason why they can't be
 abbrev pub Gathers : ArchName → SourceSeen → SourceSeen → Result (List FamilyEntry) ClassifyError → Type 0
-Gathers arch old new (Ok table) = Gathered arch old new table
+Gathers arch old new (Ok table) = GatheredFamilies arch old new table
 Gathers arch old new (Err (Lines error)) = ReadsUpTo arch old new error
 Gathers arch old new (Err NoMemory) = ReadsPart old new
 Gathers arch old new (Err OutFault) = ⊥

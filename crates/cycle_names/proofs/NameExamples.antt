@@ -16,7 +16,7 @@ use Rattle.relax_edges.specs.Spelling.{edge_of}
 use Rattle.cycle_names.specs.Families.{pod, rfe, fre, wse}
 use Rattle.cycle_names.specs.Rotations.{found_family, named_rotation}
 use Rattle.cycle_names.specs.CycleNames.{links_text, name_from, name_of}
-use Rattle.cycle_names.specs.NameReading.{is_dash, edges_spelled}
+use Rattle.cycle_names.specs.NameReading.{is_dash, edges_of_words}
 
 -- `LwSyncdWW Rfe DpAddrdR Fre`, and its rotation by one
 mp_lwsync_addr : name_of (edges.Fenced fences.LwSync Diff W W ∷ rfe ∷ edges.Dep deps.Addr Diff R ∷ fre ∷ []) ≡ codes "MP+lwsync+addr"
@@ -75,7 +75,7 @@ four_sb = refl
 
 -- the name of a cycle by the words of its edges
 named_by : List ℕ → Option (List ℕ)
-named_by words = option_map name_of (edges_spelled (slice_split is_dash words))
+named_by words = option_map name_of (edges_of_words (slice_split is_dash words))
 
 -- marks: of links, and of the external edges beside them
 mp_marked : named_by (codes "PodWWPL-RfeLA-PodRRAP-Fre") ≡ Some (codes "MP+popl+poap")

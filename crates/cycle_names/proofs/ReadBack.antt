@@ -24,7 +24,7 @@ use Rattle.cycle_names.specs.Families.{family_word, family_edges, all_families}
 use Rattle.cycle_names.specs.LinkWords.{edge_of_slot, outline, link_word, link_words}
 use Rattle.cycle_names.specs.Rotations.{fits_family, found_family, named_rotation}
 use Rattle.cycle_names.specs.CycleNames.{after_plus, all_equal, plural, links_text, name_from, name_of}
-use Rattle.cycle_names.specs.NameReading.{is_plus, is_dash, named_family, link_with, slot_with, before, filled_alike, first_name_word, after_word, filled_each, but_last, slots_filled, marked_if, edges_spelled, read_by_family, edges_read}
+use Rattle.cycle_names.specs.NameReading.{is_plus, is_dash, named_family, link_with, slot_with, before, filled_alike, first_name_word, after_word, filled_each, without_last_byte, slots_filled, marked_if, edges_of_words, read_by_family, edges_read}
 use Rattle.cycle_names.proofs.Tables.{slot_is_diff, link_back, link_word_whole, word_whole}
 use Rattle.cycle_names.proofs.Marks.{said_of, said_link, said_slot}
 use Rattle.cycle_names.proofs.Outlines.{outline_of_fits, words_of_link, words_of_plain}
@@ -109,7 +109,7 @@ none_of p (x ∷ xs) h =
     rw (not-true (p x) both.0) (none_of p xs both.1)
 
 -- a text with a byte added at its end, without its last byte
-but_last_is : (word : List ℕ) (byte : ℕ) → but_last (word ++ byte ∷ []) ≡ word
+but_last_is : (word : List ℕ) (byte : ℕ) → without_last_byte (word ++ byte ∷ []) ≡ word
 but_last_is word byte = take_at word (byte ∷ []) (length (word ++ byte ∷ []) - 1) (omega (arith, length-append word (byte ∷ [])))
 
 plural_back : (v : List Edge) (words : List (List ℕ)) → words ≡ link_words v → 0 < length words → all_equal words ≡ true → slots_filled (outline v) (plural words) ≡ Some (map said_of v)
@@ -120,7 +120,7 @@ plural_back v (word ∷ words) e l h =
     let itself : bytes_eq word word ≡ true = (bytes_decides word word).1 refl in
     let alike : list_all (bytes_eq word) (link_words v) ≡ true = sym (ap (list_all (bytes_eq word)) e) ∙ rw itself h in
     let none : list_any is_plus (word ++ 115 ∷ []) ≡ false = list_any-append is_plus word (115 ∷ []) ∙ ap (λ b. b || false) (none_of is_plus word whole) in
-    cond-false (list_any is_plus (word ++ 115 ∷ [])) (filled_each (outline v) (43 ∷ (word ++ 115 ∷ []))) (filled_alike (outline v) (but_last (word ++ 115 ∷ []))) none
+    cond-false (list_any is_plus (word ++ 115 ∷ [])) (filled_each (outline v) (43 ∷ (word ++ 115 ∷ []))) (filled_alike (outline v) (without_last_byte (word ++ 115 ∷ []))) none
     ∙ ap (filled_alike (outline v)) (but_last_is word 115)
     ∙ alike_back v word alike
 
@@ -131,7 +131,7 @@ words_back v (word ∷ next ∷ words) e l =
     let text : List ℕ = word ++ 43 ∷ (next ++ flat_map after_plus words) in
     let some : list_any is_plus text ≡ true =
     list_any-append is_plus word (43 ∷ (next ++ flat_map after_plus words)) ∙ or_right (list_any is_plus word) true refl in
-    cond-true (list_any is_plus text) (filled_each (outline v) (43 ∷ text)) (filled_alike (outline v) (but_last text)) some
+    cond-true (list_any is_plus text) (filled_each (outline v) (43 ∷ text)) (filled_alike (outline v) (without_last_byte text)) some
     ∙ ap (filled_each (outline v)) (ap (flat_map after_plus) e)
     ∙ each_back v
 
@@ -226,15 +226,15 @@ split_words e [] = ap (slice_split is_dash) (append-nil (word_of e)) ∙ cut_las
 split_words e (d ∷ v) =
     cut_first is_dash (word_of e) 45 (join_by word_of (codes "-") (d ∷ v)) (word_whole e) refl ∙ ap (λ w. word_of e ∷ w) (split_words d v)
 
-spelled_back : (v : List Edge) → edges_spelled (map word_of v) ≡ Some v
+spelled_back : (v : List Edge) → edges_of_words (map word_of v) ≡ Some v
 spelled_back [] = refl
-spelled_back (e ∷ v) = both_there (edge_of (word_of e)) (edges_spelled (map word_of v)) e v (edge_of-word_of e) (spelled_back v)
+spelled_back (e ∷ v) = both_there (edge_of (word_of e)) (edges_of_words (map word_of v)) e v (edge_of-word_of e) (spelled_back v)
 
 -- the name of another cycle
 other_back : (v : List Edge) → 0 < length v → edges_read (name_from None v) ≡ Some v
 unfolding edges_read name_from
 other_back [] l = absurd (omega arith)
-other_back (e ∷ v) l = ap edges_spelled (split_words e v) ∙ spelled_back (e ∷ v)
+other_back (e ∷ v) l = ap edges_of_words (split_words e v) ∙ spelled_back (e ∷ v)
 
 -- the name of a cycle is read as the rotation that it was made from
 pub name_back : (u : List Edge) → IsCycle u → edges_read (name_of u) ≡ Some (named_rotation u)

@@ -22,7 +22,7 @@ use Rattle.relax_edges.specs.AllEdges.{edges_in_order}
 use Rattle.cycle_laws.proofs.RankLaws.{rank_injective, rank_below}
 use Rattle.list_laws.proofs.Places.{position_or_len-no}
 use Rattle.cycle_names.specs.LinkWords.{link_word}
-use Rattle.cycle_names.specs.NameReading.{is_dash, is_link, link_between, link_with, first_mark, marked_between, marked_along, before, first_name_word, after_word, filled_each, edges_spelled, AddsEdges}
+use Rattle.cycle_names.specs.NameReading.{is_dash, is_link, link_between, link_with, first_mark, marked_between, marked_along, before, first_name_word, after_word, filled_each, edges_of_words, AddsEdges}
 use Rattle.cycle_names.proofs.Tables.{link_found_back}
 use Rattle.cycle_names.proofs.Members.{find_none}
 
@@ -53,11 +53,11 @@ split_is (b ∷ text) =
     ∙ sym (ap (λ n. take n (b ∷ text) ∷ parts_after (drop n (b ∷ text))) (position_or_len-no is_dash b text f)))
 
 spelled_parts : (text word remainder : List ℕ) (n : ℕ) → n ≡ position_or_len is_dash text → word ≡ take n text → remainder ≡ drop n text →
-    edges_spelled (slice_split is_dash text) ≡ before (edge_of word) (edges_spelled (parts_after remainder))
+    edges_of_words (slice_split is_dash text) ≡ before (edge_of word) (edges_of_words (parts_after remainder))
 spelled_parts text word remainder n i w b =
-    ap edges_spelled (split_is text) ∙ ap (λ n. before (edge_of (take n text)) (edges_spelled (parts_after (drop n text)))) (sym i)
-    ∙ ap (λ x. before (edge_of x) (edges_spelled (parts_after (drop n text)))) (sym w)
-    ∙ ap (λ x. before (edge_of word) (edges_spelled (parts_after x))) (sym b)
+    ap edges_of_words (split_is text) ∙ ap (λ n. before (edge_of (take n text)) (edges_of_words (parts_after (drop n text)))) (sym i)
+    ∙ ap (λ x. before (edge_of x) (edges_of_words (parts_after (drop n text)))) (sym w)
+    ∙ ap (λ x. before (edge_of word) (edges_of_words (parts_after x))) (sym b)
 
 parts_more : (remainder : List ℕ) → 1 ≤ length remainder → parts_after remainder ≡ slice_split is_dash (rest_of remainder)
 parts_more [] h = absurd (omega arith)
@@ -134,36 +134,36 @@ module _ {E : Type 0} where
   -- one word more
   pub spell_more : (text word remainder : List ℕ) (n : ℕ) (e : Edge) (old pushed new : List Edge) (result : Result (Unit {0}) E) →
       n ≡ position_or_len is_dash text → word ≡ take n text → remainder ≡ drop n text → 1 ≤ length remainder → Some e ≡ edge_of word → pushed ≡ old ++ e ∷ [] →
-      AddsEdges (edges_spelled (slice_split is_dash (rest_of remainder))) pushed new result → AddsEdges (edges_spelled (slice_split is_dash text)) old new result
+      AddsEdges (edges_of_words (slice_split is_dash (rest_of remainder))) pushed new result → AddsEdges (edges_of_words (slice_split is_dash text)) old new result
   spell_more text word remainder n e old pushed new result i w b h o k a =
-      adds_same (edges_spelled (slice_split is_dash text)) (before (edge_of word) (edges_spelled (slice_split is_dash (rest_of remainder)))) old new result
-      (spelled_parts text word remainder n i w b ∙ ap (λ parts. before (edge_of word) (edges_spelled parts)) (parts_more remainder h))
-      (adds_before (edge_of word) (edges_spelled (slice_split is_dash (rest_of remainder))) e old pushed new result (sym o) k a)
+      adds_same (edges_of_words (slice_split is_dash text)) (before (edge_of word) (edges_of_words (slice_split is_dash (rest_of remainder)))) old new result
+      (spelled_parts text word remainder n i w b ∙ ap (λ parts. before (edge_of word) (edges_of_words parts)) (parts_more remainder h))
+      (adds_before (edge_of word) (edges_of_words (slice_split is_dash (rest_of remainder))) e old pushed new result (sym o) k a)
 
   -- the last word
   pub spell_last : (text word remainder : List ℕ) (n : ℕ) (e : Edge) (old pushed : List Edge) (result : Result (Unit {0}) E) →
       n ≡ position_or_len is_dash text → word ≡ take n text → remainder ≡ drop n text → length remainder < 1 → Some e ≡ edge_of word → pushed ≡ old ++ e ∷ [] →
-      IsOk result → AddsEdges (edges_spelled (slice_split is_dash text)) old pushed result
+      IsOk result → AddsEdges (edges_of_words (slice_split is_dash text)) old pushed result
   spell_last text word remainder n e old pushed result i w b h o k a =
-      adds_same (edges_spelled (slice_split is_dash text)) (before (edge_of word) (Some [])) old pushed result
-      (spelled_parts text word remainder n i w b ∙ ap (λ parts. before (edge_of word) (edges_spelled parts)) (parts_last remainder h))
+      adds_same (edges_of_words (slice_split is_dash text)) (before (edge_of word) (Some [])) old pushed result
+      (spelled_parts text word remainder n i w b ∙ ap (λ parts. before (edge_of word) (edges_of_words parts)) (parts_last remainder h))
       (adds_before (edge_of word) (Some []) e old pushed pushed result (sym o) k (λ edges found fits. let z : [] ≡ edges = same_Some [] edges found in (a, sym (append-nil pushed) ∙ ap (λ w. pushed ++ w) z)))
 
   -- no word
   pub spell_none : (text word : List ℕ) (n : ℕ) (old new : List Edge) (result : Result (Unit {0}) E) →
-      n ≡ position_or_len is_dash text → word ≡ take n text → None ≡ edge_of word → AddsEdges (edges_spelled (slice_split is_dash text)) old new result
+      n ≡ position_or_len is_dash text → word ≡ take n text → None ≡ edge_of word → AddsEdges (edges_of_words (slice_split is_dash text)) old new result
   spell_none text word n old new result i w o =
-      adds_same (edges_spelled (slice_split is_dash text)) (before (edge_of word) (edges_spelled (parts_after (drop n text)))) old new result
+      adds_same (edges_of_words (slice_split is_dash text)) (before (edge_of word) (edges_of_words (parts_after (drop n text)))) old new result
       (spelled_parts text word (drop n text) n i w refl)
-      (adds_none (edge_of word) (edges_spelled (parts_after (drop n text))) old new result (sym o))
+      (adds_none (edge_of word) (edges_of_words (parts_after (drop n text))) old new result (sym o))
 
   -- where there is no room, nothing has to be added
-  pub spell_full : (text : List ℕ) (old new : List Edge) (result : Result (Unit {0}) E) → MAX_EDGES ≤ length old → AddsEdges (edges_spelled (slice_split is_dash text)) old new result
+  pub spell_full : (text : List ℕ) (old new : List Edge) (result : Result (Unit {0}) E) → MAX_EDGES ≤ length old → AddsEdges (edges_of_words (slice_split is_dash text)) old new result
   spell_full text old new result h =
       let n : ℕ = position_or_len is_dash text in
-      adds_same (edges_spelled (slice_split is_dash text)) (before (edge_of (take n text)) (edges_spelled (parts_after (drop n text)))) old new result
+      adds_same (edges_of_words (slice_split is_dash text)) (before (edge_of (take n text)) (edges_of_words (parts_after (drop n text)))) old new result
       (spelled_parts text (take n text) (drop n text) n refl refl refl)
-      (adds_full (edge_of (take n text)) (edges_spelled (parts_after (drop n text))) old new result h)
+      (adds_full (edge_of (take n text)) (edges_of_words (parts_after (drop n text))) old new result h)
 
 -- the link that is found is the one
 same_dir_is : (a b : Dir) → same_dir a b ≡ true → a ≡ b

@@ -75,13 +75,13 @@ filled_each (slot ∷ slots) text =
     cond (is_diff slot) (before (link_with slot (first_name_word text)) (filled_each slots (after_word text))) (before (Some slot) (filled_each slots text))
 
 -- a text without its last byte
-abbrev pub but_last : List ℕ → List ℕ
-but_last text = take (length text - 1) text
+abbrev pub without_last_byte : List ℕ → List ℕ
+without_last_byte text = take (length text - 1) text
 
 -- the edges of slots, with the links that a name gives, and no marks but theirs
 abbrev pub slots_filled : List Edge → List ℕ → Option (List Edge)
 slots_filled slots [] = filled_alike slots (codes "po")
-slots_filled slots (plus ∷ text) = cond (list_any is_plus text) (filled_each slots (plus ∷ text)) (filled_alike slots (but_last text))
+slots_filled slots (plus ∷ text) = cond (list_any is_plus text) (filled_each slots (plus ∷ text)) (filled_alike slots (without_last_byte text))
 
 -- the mark of the access before some edges, where it is `mark` before none
 abbrev pub first_mark : List Edge → Mark → Mark
@@ -112,13 +112,13 @@ marked_if None = None
 marked_if (Some edges) = marked_around edges
 
 -- the edges that some words spell
-abbrev pub edges_spelled : List (List ℕ) → Option (List Edge)
-edges_spelled [] = Some []
-edges_spelled (word ∷ words) = before (edge_of word) (edges_spelled words)
+abbrev pub edges_of_words : List (List ℕ) → Option (List Edge)
+edges_of_words [] = Some []
+edges_of_words (word ∷ words) = before (edge_of word) (edges_of_words words)
 
 -- the edges whose words a text has after `C+`, joined by `-`
 abbrev pub words_read : List ℕ → Option (List Edge)
-words_read text = cond (starts_with nat_eq text (codes "C+")) (edges_spelled (slice_split is_dash (drop 2 text))) None
+words_read text = cond (starts_with nat_eq text (codes "C+")) (edges_of_words (slice_split is_dash (drop 2 text))) None
 
 -- the edges that a text would name, by the family whose name it begins with
 abbrev pub read_by_family : Option Family → List ℕ → Option (List Edge)

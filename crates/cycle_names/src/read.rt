@@ -4,7 +4,7 @@ ghost use Rattle.std.specs.Str.{bytes_eq};
 ghost use Rattle.std.specs.Result.{result_ok};
 ghost use Rattle.cycle_names.specs.Families.{family_edges};
 ghost use Rattle.cycle_names.specs.CycleNames.{name_of};
-ghost use Rattle.cycle_names.specs.NameReading.{begins_with_word, named_family, is_link, link_with, first_mark, last_mark, marked_between, marked_along, marked_around, slot_with, first_name_word, after_word, but_last, filled_alike, filled_each, slots_filled, is_dash, edges_spelled, words_read, edges_read, AddsEdges};
+ghost use Rattle.cycle_names.specs.NameReading.{begins_with_word, named_family, is_link, link_with, first_mark, last_mark, marked_between, marked_along, marked_around, slot_with, first_name_word, after_word, without_last_byte, filled_alike, filled_each, slots_filled, is_dash, edges_of_words, words_read, edges_read, AddsEdges};
 ghost use Rattle.cycle_names.specs.Laws.{are_of_arch, IsNamed, NamesNone};
 
 use crate::family::{FAMILIES, Family};
@@ -138,7 +138,7 @@ fn fill(slots: &[Edge], links: &[u8], edges: &mut Edges) -> Result<(), NotAName>
 }
 
 fn but_last(text: &[u8]) -> &[u8]
-    ensures { result.now ≡ but_last text.now }
+    ensures { result.now ≡ without_last_byte text.now }
 {
     match text {
         [] => text,
@@ -311,7 +311,7 @@ fn read_other(text: &[u8], edges: &mut Edges) -> Result<(), NotAName>
 
 /// Adds the edges whose words a text has, joined by `-`.
 fn read_words(text: &[u8], edges: &mut Edges) -> Result<(), NotAName>
-    ensures { AddsEdges (edges_spelled (slice_split is_dash text.now)) edges.old.items edges.new.items result }
+    ensures { AddsEdges (edges_of_words (slice_split is_dash text.now)) edges.old.items edges.new.items result }
 {
     let (word, remainder) = text.split_at(len_before(b'-', text));
     let Ok(edge) = read_edge_bytes(word) else {

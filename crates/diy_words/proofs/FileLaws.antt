@@ -11,7 +11,7 @@ use Rattle.diy_words.specs.declared.usage.Usage.{Usage}
 use Rattle.diy_words.specs.declared.usage.UsageKind.TheVariants.{UnknownOption}
 use Rattle.diy_words.specs.Parts.{Alone, Valued, option_named, arch_named}
 use Rattle.diy_words.specs.Sayings.{SaysFile, usage_fault, arch_said, begins_option, said_by}
-use Rattle.diy_words.specs.Gathered.{Gathered, files_in}
+use Rattle.diy_words.specs.Gathered.{Gathered, files_of_saying}
 use Rattle.diy_words.specs.SaidInOrder.{before_of}
 use Rattle.diy_words.specs.Requests.{Task, AsksFamilies, asks, families_with, tool_asked, asked_of, IsClassifying, files_of}
 use Rattle.diy_words.proofs.BeforeLaws.{IsSilent, IsUncounted, by_words}
@@ -20,7 +20,7 @@ use Rattle.diy_words.proofs.AskedLaws.{ToolWords, tool_words}
 
 -- the places of the files among the words of classify7 from a place on
 abbrev pub files_from : List (List ℕ) → ℕ → List ℕ
-files_from words at = given_from tools.Classify files_in words at
+files_from words at = given_from tools.Classify files_of_saying words at
 
 -- no word of classify7 is an operand of a limited number
 same_said : IsUncounted tools.Classify
@@ -43,9 +43,9 @@ file_first words at text got plain fit =
 
     of_test : (b : Bool) → said_from tools.Classify words at ≡ (if b then usage_fault at UnknownOption else Ok (SaysFile at)) ∷ said_from tools.Classify words (at + 1) → FileFirst words at
     of_test true e = let k = rw e at fit in cc k.0
-    of_test false e = let k = rw e at fit in record { faultless = k.1; first = ap (given_among files_in) e }
+    of_test false e = let k = rw e at fit in record { faultless = k.1; first = ap (given_among files_of_saying) e }
 
-arch_other : (at : ℕ) (arch : Option ArchName) → IsOther files_in (arch_said at arch)
+arch_other : (at : ℕ) (arch : Option ArchName) → IsOther files_of_saying (arch_said at arch)
 arch_other at None = record { none = refl; silent = λ before. refl }
 arch_other at (Some arch) = record { none = refl; silent = λ before. refl }
 
@@ -57,15 +57,15 @@ only_arch text option h = of_test (bytes_eq text (codes "-arch")) h
     of_test true e = cc e
     of_test false e = cc e
 
-value_other : (option : OptionName) (at : ℕ) (value : List ℕ) → option ≡ opts.Arch → IsOther files_in (said_by tools.Classify (before_of []) (Valued option at value))
+value_other : (option : OptionName) (at : ℕ) (value : List ℕ) → option ≡ opts.Arch → IsOther files_of_saying (said_by tools.Classify (before_of []) (Valued option at value))
 value_other option at value e =
-    subst (λ (o : OptionName). IsOther files_in (said_by tools.Classify (before_of []) (Valued o at value))) (sym e) (arch_other (at + 1) (arch_named value))
+    subst (λ (o : OptionName). IsOther files_of_saying (said_by tools.Classify (before_of []) (Valued o at value))) (sym e) (arch_other (at + 1) (arch_named value))
 
 -- an option of classify7 has its value after it, and the words after that have no fault
 pub option_first : (words : List (List ℕ)) (at : ℕ) (text : List ℕ) (option : OptionName) → at < length words → slice_get words at ≡ Some text
-    → option_named tools.Classify text ≡ Some option → AreFaultless tools.Classify words at → OptionFirst tools.Classify files_in words at
+    → option_named tools.Classify text ≡ Some option → AreFaultless tools.Classify words at → OptionFirst tools.Classify files_of_saying words at
 option_first words at text option within got named fit =
-    option_then tools.Classify same_said files_in words at text option within got named (λ value. value_other option at value (only_arch text option named)) fit
+    option_then tools.Classify same_said files_of_saying words at text option within got named (λ value. value_other option at value (only_arch text option named)) fit
 
 families_files : (count : ℕ) (given : Gathered) (task : Task) → tool_asked tools.Classify count given ≡ Ok task → given.files ≡ files_of (Ok task)
 families_files count given task e = of_arch given.arch e
@@ -77,12 +77,12 @@ families_files count given task e = of_arch given.arch e
         ap (λ (t : Task). files_of (Ok t)) same
 
 -- the words of classify7 after the tool's name
-classify_words : (words : List (List ℕ)) → IsClassifying (asked_of words) → ToolWords tools.Classify files_in words (files_of (asked_of words))
+classify_words : (words : List (List ℕ)) → IsClassifying (asked_of words) → ToolWords tools.Classify files_of_saying words (files_of (asked_of words))
 classify_words words h = of_asked (asked_of words) refl h
   where
-    of_asked : (asked : Result Task Usage) → asked_of words ≡ asked → IsClassifying asked → ToolWords tools.Classify files_in words (files_of asked)
+    of_asked : (asked : Result Task Usage) → asked_of words ≡ asked → IsClassifying asked → ToolWords tools.Classify files_of_saying words (files_of asked)
     of_asked (Ok (AsksFamilies families)) e h =
-        tool_words tools.Classify files_in (λ given. given.files) (λ task. files_of (Ok task)) (λ said. refl) families_files words (AsksFamilies families) refl e
+        tool_words tools.Classify files_of_saying (λ given. given.files) (λ task. files_of (Ok task)) (λ said. refl) families_files words (AsksFamilies families) refl e
     of_asked asked e h = absurd h
 
 -- the files before a place are found, and no word from there on is faulty
@@ -120,7 +120,7 @@ option_read words at text option files within got named before =
 
 -- after the last word all files are found
 pub files_ended : (words : List (List ℕ)) (at : ℕ) (files : List ℕ) → length words ≤ at → FilesRead words at files → files ≡ files_of (asked_of words)
-files_ended words at files last before = sym (append-nil files) ∙ ap (λ rest. files ++ rest) (sym (none_left tools.Classify files_in words at last)) ∙ before.read
+files_ended words at files last before = sym (append-nil files) ∙ ap (λ rest. files ++ rest) (sym (none_left tools.Classify files_of_saying words at last)) ∙ before.read
 
 -- where a word names a file, there is one
 pub file_there : (words : List (List ℕ)) (at : ℕ) (text : List ℕ) (files : List ℕ) → slice_get words at ≡ Some text → option_named tools.Classify text ≡ None

@@ -9,7 +9,7 @@ use Rattle.diy_words.specs.declared.request.TheConstants.{MAX_CHOICES}
 use Rattle.diy_words.specs.declared.usage.Usage.{Usage}
 use Rattle.diy_words.specs.Parts.{Alone, Valued, Unvalued, parts_from, parts_of, option_named, tool_named}
 use Rattle.diy_words.specs.Sayings.{Saying, said_by}
-use Rattle.diy_words.specs.Gathered.{Gathered, edges_in, places_of_word, files_in, all_given}
+use Rattle.diy_words.specs.Gathered.{Gathered, edges_of_saying, places_of_word, files_of_saying, all_given}
 use Rattle.diy_words.specs.SaidInOrder.{said_first, said_all}
 use Rattle.diy_words.specs.Requests.{said_asked, tool_asked, asked_for, asked_of}
 use Rattle.diy_words.specs.Given.{GivesTask}
@@ -106,8 +106,8 @@ gives_finished tool words at notes result last e finishes =
     of_all (Ok said) e =
         let same : notes ≡ notes_of said = ok_is _ _ e in
         subst (λ (given : Gathered). GivesTask result (tool_asked tool (length words) given))
-        (ap (λ (n : Notes). gathered_noted n (all_given edges_in said) (all_given places_of_word said) (all_given files_in said)) same ∙ all_noted said)
-        (finishes (all_given edges_in said) (all_given places_of_word said) (all_given files_in said)
+        (ap (λ (n : Notes). gathered_noted n (all_given edges_of_saying said) (all_given places_of_word said) (all_given files_of_saying said)) same ∙ all_noted said)
+        (finishes (all_given edges_of_saying said) (all_given places_of_word said) (all_given files_of_saying said)
         (ap (λ (n : Notes). n.edges) same ∙ edges_noted said)
         (ap (λ (n : Notes). nat_lt MAX_CHOICES n.choices) same ∙ choices_noted said))
 

@@ -11,7 +11,7 @@ use Rattle.diy_words.specs.declared.request.TheConstants.{MAX_CHOICES}
 use Rattle.diy_words.specs.declared.usage.Usage.{Usage}
 use Rattle.diy_words.specs.Parts.{Part}
 use Rattle.diy_words.specs.Sayings.{Saying, SaysArch, SaysName, SaysMode, SaysFrom, SaysEdges, SaysRelaxes, SaysSize, SaysExact, SaysWhy, SaysThreads, SaysAccesses, SaysAfter, SaysFolder, SaysTest, SaysExecution, SaysPlace, SaysCount, said_by}
-use Rattle.diy_words.specs.Gathered.{arch_in, name_in, mode_in, from_in, operand_in, relaxes_in, size_in, is_exact, threads_in, accesses_in, after_in, folder_in, is_why, count_in, test_in, execution_in, edges_in, places_of_word, files_in, last_given, first_given, all_given, gathered_of}
+use Rattle.diy_words.specs.Gathered.{arch_of_saying, name_of_saying, mode_of_saying, from_of_saying, operand_of_saying, relaxes_of_saying, size_of_saying, is_exact, threads_of_saying, accesses_of_saying, after_of_saying, folder_of_saying, is_why, count_of_saying, test_of_saying, execution_of_saying, edges_of_saying, places_of_word, files_of_saying, last_given, first_given, all_given, gathered_of}
 use Rattle.diy_words.specs.SaidInOrder.{is_limited, before_of, said_in, sayings}
 use Rattle.diy_words.specs.Requests.{choice_count}
 use Rattle.diy_words.specs.Notes.{Notes, no_notes, with_saying, with_next, notes_with, notes_of, before_noted, said_noted, gathered_noted}
@@ -70,55 +70,55 @@ any_noted field kind none step said =
     or_false true = refl
     or_false false = refl
 
-arch_step : (notes : Notes) (saying : Saying) → (with_saying notes saying).arch ≡ option_or (arch_in saying) notes.arch
+arch_step : (notes : Notes) (saying : Saying) → (with_saying notes saying).arch ≡ option_or (arch_of_saying saying) notes.arch
 arch_step notes (SaysArch arch) = refl
 arch_step notes saying = refl
 
-name_step : (notes : Notes) (saying : Saying) → (with_saying notes saying).name ≡ option_or (name_in saying) notes.name
+name_step : (notes : Notes) (saying : Saying) → (with_saying notes saying).name ≡ option_or (name_of_saying saying) notes.name
 name_step notes (SaysName name) = refl
 name_step notes saying = refl
 
-mode_step : (notes : Notes) (saying : Saying) → (with_saying notes saying).mode ≡ option_or (mode_in saying) notes.mode
+mode_step : (notes : Notes) (saying : Saying) → (with_saying notes saying).mode ≡ option_or (mode_of_saying saying) notes.mode
 mode_step notes (SaysMode mode) = refl
 mode_step notes saying = refl
 
-from_step : (notes : Notes) (saying : Saying) → (with_saying notes saying).from ≡ option_or (from_in saying) notes.from
+from_step : (notes : Notes) (saying : Saying) → (with_saying notes saying).from ≡ option_or (from_of_saying saying) notes.from
 from_step notes (SaysFrom at name) = refl
 from_step notes saying = refl
 
-relaxes_step : (notes : Notes) (saying : Saying) → (with_saying notes saying).relaxes ≡ option_or (relaxes_in saying) notes.relaxes
+relaxes_step : (notes : Notes) (saying : Saying) → (with_saying notes saying).relaxes ≡ option_or (relaxes_of_saying saying) notes.relaxes
 relaxes_step notes (SaysRelaxes relaxes) = refl
 relaxes_step notes saying = refl
 
-accesses_step : (notes : Notes) (saying : Saying) → (with_saying notes saying).accesses ≡ option_or (accesses_in saying) notes.accesses
+accesses_step : (notes : Notes) (saying : Saying) → (with_saying notes saying).accesses ≡ option_or (accesses_of_saying saying) notes.accesses
 accesses_step notes (SaysAccesses accesses) = refl
 accesses_step notes saying = refl
 
-after_step : (notes : Notes) (saying : Saying) → (with_saying notes saying).after ≡ option_or (after_in saying) notes.after
+after_step : (notes : Notes) (saying : Saying) → (with_saying notes saying).after ≡ option_or (after_of_saying saying) notes.after
 after_step notes (SaysAfter cycle) = refl
 after_step notes saying = refl
 
-folder_step : (notes : Notes) (saying : Saying) → (with_saying notes saying).folder ≡ option_or (folder_in saying) notes.folder
+folder_step : (notes : Notes) (saying : Saying) → (with_saying notes saying).folder ≡ option_or (folder_of_saying saying) notes.folder
 folder_step notes (SaysFolder folder) = refl
 folder_step notes saying = refl
 
-count_step : (notes : Notes) (saying : Saying) → (with_saying notes saying).count ≡ option_or (count_in saying) notes.count
+count_step : (notes : Notes) (saying : Saying) → (with_saying notes saying).count ≡ option_or (count_of_saying saying) notes.count
 count_step notes (SaysCount count) = refl
 count_step notes saying = refl
 
-test_step : (notes : Notes) (saying : Saying) → (with_saying notes saying).test ≡ option_or (test_in saying) notes.test
+test_step : (notes : Notes) (saying : Saying) → (with_saying notes saying).test ≡ option_or (test_of_saying saying) notes.test
 test_step notes (SaysTest at) = refl
 test_step notes saying = refl
 
-execution_step : (notes : Notes) (saying : Saying) → (with_saying notes saying).execution ≡ option_or (execution_in saying) notes.execution
+execution_step : (notes : Notes) (saying : Saying) → (with_saying notes saying).execution ≡ option_or (execution_of_saying saying) notes.execution
 execution_step notes (SaysExecution at) = refl
 execution_step notes saying = refl
 
-size_step : (notes : Notes) (saying : Saying) → (with_saying notes saying).size ≡ unwrap_or (size_in saying) notes.size
+size_step : (notes : Notes) (saying : Saying) → (with_saying notes saying).size ≡ unwrap_or (size_of_saying saying) notes.size
 size_step notes (SaysSize size) = refl
 size_step notes saying = refl
 
-threads_step : (notes : Notes) (saying : Saying) → (with_saying notes saying).threads ≡ unwrap_or (threads_in saying) notes.threads
+threads_step : (notes : Notes) (saying : Saying) → (with_saying notes saying).threads ≡ unwrap_or (threads_of_saying saying) notes.threads
 threads_step notes (SaysThreads threads) = refl
 threads_step notes saying = refl
 
@@ -130,19 +130,19 @@ why_step : (notes : Notes) (saying : Saying) → (with_saying notes saying).why 
 why_step notes SaysWhy = refl
 why_step notes saying = refl
 
-mode_noted : (said : List Saying) → (notes_of said).mode ≡ last_given mode_in said
-mode_noted said = last_noted (λ n. n.mode) mode_in refl mode_step said
+mode_noted : (said : List Saying) → (notes_of said).mode ≡ last_given mode_of_saying said
+mode_noted said = last_noted (λ n. n.mode) mode_of_saying refl mode_step said
 
 why_noted : (said : List Saying) → (notes_of said).why ≡ list_any is_why said
 why_noted said = any_noted (λ n. n.why) is_why refl why_step said
 
 -- the place of the first operand of edges is noted
-operand_noted : (said : List Saying) → (notes_of said).operand ≡ first_given operand_in said
+operand_noted : (said : List Saying) → (notes_of said).operand ≡ first_given operand_of_saying said
 operand_noted said =
-    noted (λ n. n.operand) (λ saying f. option_or f (operand_in saying)) (λ said f. option_or f (first_given operand_in said)) (λ f. option_or-none f)
-    (λ saying rest f. sym (or_or f (operand_in saying) (first_given operand_in rest))) step no_notes said
+    noted (λ n. n.operand) (λ saying f. option_or f (operand_of_saying saying)) (λ said f. option_or f (first_given operand_of_saying said)) (λ f. option_or-none f)
+    (λ saying rest f. sym (or_or f (operand_of_saying saying) (first_given operand_of_saying rest))) step no_notes said
   where
-    step : (notes : Notes) (saying : Saying) → (with_saying notes saying).operand ≡ option_or notes.operand (operand_in saying)
+    step : (notes : Notes) (saying : Saying) → (with_saying notes saying).operand ≡ option_or notes.operand (operand_of_saying saying)
     step notes (SaysEdges at edges) = refl
     step notes saying = sym (option_or-none notes.operand)
 
@@ -165,13 +165,13 @@ taken_noted said =
     step notes saying = refl
 
 -- the edges that are noted are those of all operands
-pub edges_noted : (said : List Saying) → (notes_of said).edges ≡ kept_edges (all_given edges_in said)
+pub edges_noted : (said : List Saying) → (notes_of said).edges ≡ kept_edges (all_given edges_of_saying said)
 edges_noted said =
-    noted (λ n. n.edges) (λ saying list. edges_added list (edges_in saying)) (λ said list. edges_added list (all_given edges_in said)) (λ list. refl)
-    (λ saying rest list. sym (added_more list (edges_in saying) (all_given edges_in rest))) step no_notes said ∙
-    added_whole [] (all_given edges_in said) (lit≤ tt)
+    noted (λ n. n.edges) (λ saying list. edges_added list (edges_of_saying saying)) (λ said list. edges_added list (all_given edges_of_saying said)) (λ list. refl)
+    (λ saying rest list. sym (added_more list (edges_of_saying saying) (all_given edges_of_saying rest))) step no_notes said ∙
+    added_whole [] (all_given edges_of_saying said) (lit≤ tt)
   where
-    step : (notes : Notes) (saying : Saying) → (with_saying notes saying).edges ≡ edges_added notes.edges (edges_in saying)
+    step : (notes : Notes) (saying : Saying) → (with_saying notes saying).edges ≡ edges_added notes.edges (edges_of_saying saying)
     step notes (SaysEdges at edges) = refl
     step notes saying = refl
 
@@ -188,24 +188,24 @@ choices_noted said =
     step notes saying = refl
 
 -- the notes after all words, with all edges, places and files, hold what is gathered
-pub all_noted : (said : List Saying) → gathered_noted (notes_of said) (all_given edges_in said) (all_given places_of_word said) (all_given files_in said) ≡ gathered_of said
+pub all_noted : (said : List Saying) → gathered_noted (notes_of said) (all_given edges_of_saying said) (all_given places_of_word said) (all_given files_of_saying said) ≡ gathered_of said
 all_noted said =
     rw (
-      last_noted (λ n. n.arch) arch_in refl arch_step said,
-      last_noted (λ n. n.name) name_in refl name_step said,
+      last_noted (λ n. n.arch) arch_of_saying refl arch_step said,
+      last_noted (λ n. n.name) name_of_saying refl name_step said,
       mode_noted said,
-      last_noted (λ n. n.from) from_in refl from_step said,
+      last_noted (λ n. n.from) from_of_saying refl from_step said,
       operand_noted said,
-      last_noted (λ n. n.relaxes) relaxes_in refl relaxes_step said,
-      value_noted (λ n. n.size) size_in size_step said,
+      last_noted (λ n. n.relaxes) relaxes_of_saying refl relaxes_step said,
+      value_noted (λ n. n.size) size_of_saying size_step said,
       any_noted (λ n. n.exact) is_exact refl exact_step said,
-      value_noted (λ n. n.threads) threads_in threads_step said,
-      last_noted (λ n. n.accesses) accesses_in refl accesses_step said,
-      last_noted (λ n. n.after) after_in refl after_step said,
-      last_noted (λ n. n.folder) folder_in refl folder_step said,
-      last_noted (λ n. n.count) count_in refl count_step said,
-      last_noted (λ n. n.test) test_in refl test_step said,
-      last_noted (λ n. n.execution) execution_in refl execution_step said,
+      value_noted (λ n. n.threads) threads_of_saying threads_step said,
+      last_noted (λ n. n.accesses) accesses_of_saying refl accesses_step said,
+      last_noted (λ n. n.after) after_of_saying refl after_step said,
+      last_noted (λ n. n.folder) folder_of_saying refl folder_step said,
+      last_noted (λ n. n.count) count_of_saying refl count_step said,
+      last_noted (λ n. n.test) test_of_saying refl test_step said,
+      last_noted (λ n. n.execution) execution_of_saying refl execution_step said,
       why_noted said,
     ) refl
 

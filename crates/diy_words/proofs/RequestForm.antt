@@ -33,7 +33,7 @@ use Rattle.diy_words.specs.TestNames.{is_name}
 use Rattle.diy_words.specs.EdgeWords.{operand_edges}
 use Rattle.diy_words.specs.Parts.{Part, Alone, Valued, Unvalued, waiting_at, alone_before, parts_from, parts_of, option_named, tool_named, arch_named, mode_named}
 use Rattle.diy_words.specs.Sayings.{Saying, SaysName, SaysRelaxes, SaysPlace, SaysSize, SaysExact, SaysWhy, SaysThreads, SaysAccesses, SaysFolder, SaysCount, SaysTest, SaysExecution, Before, usage_fault, dashed_said, operand_said, relaxes_said, number_said, after_said, cycle_word_said, said_by, arch_said, mode_said, edges_said, begins_option}
-use Rattle.diy_words.specs.Gathered.{Gathered, gathered_of, last_given, name_in, size_in, folder_in, count_in, test_in, execution_in}
+use Rattle.diy_words.specs.Gathered.{Gathered, gathered_of, last_given, name_of_saying, size_of_saying, folder_of_saying, count_of_saying, test_of_saying, execution_of_saying}
 use Rattle.diy_words.specs.SaidInOrder.{before_of, said_in, sayings, said_first, said_all}
 use Rattle.diy_words.specs.Requests.{Task, AsksTest, AsksWhy, AsksName, AsksList, AsksFamilies, AsksCross, AsksDemo, AsksCheck, NameTask, ListTask, FamiliesTask, list_with, families_with, cross_with, demo_with, check_with, choice_count, mode_or_accept, asks, test_with, why_with, why_asked, test_asked, diyone_asked, asked_for, norm_asked, tool_asked, said_asked, asked_of}
 use Rattle.arrayvec.specs.ArrayString.{ArrayString}
@@ -223,19 +223,19 @@ last_fit {X = X} count kind Fit one (saying ∷ rest) h = of_last (last_given ki
 
 gathered_fit : (count : ℕ) (said : List Saying) → AllByRecursion (IsFit count) said → AreFit count (gathered_of said)
 gathered_fit count said h = (
-  last_fit count name_in (λ name. is_name name ≡ true) of_name said h,
-  of_given (last_given size_in said) (last_fit count size_in (λ size. size ≤ MAX_EDGES) of_size said h),
-  last_fit count folder_in (λ folder. length folder ≤ MAX_FOLDER) of_folder said h,
-  last_fit count count_in (λ tests. (1 ≤ tests) × (tests ≤ MAX_TESTS)) of_count said h,
-  last_fit count test_in (λ at. at < count) of_test said h,
-  last_fit count execution_in (λ at. at < count) of_execution said h,
+  last_fit count name_of_saying (λ name. is_name name ≡ true) of_name said h,
+  of_given (last_given size_of_saying said) (last_fit count size_of_saying (λ size. size ≤ MAX_EDGES) of_size said h),
+  last_fit count folder_of_saying (λ folder. length folder ≤ MAX_FOLDER) of_folder said h,
+  last_fit count count_of_saying (λ tests. (1 ≤ tests) × (tests ≤ MAX_TESTS)) of_count said h,
+  last_fit count test_of_saying (λ at. at < count) of_test said h,
+  last_fit count execution_of_saying (λ at. at < count) of_execution said h,
 )
   where
-    of_name : (saying : Saying) → IsFit count saying → IfSome (name_in saying) (λ name. is_name name ≡ true)
+    of_name : (saying : Saying) → IsFit count saying → IfSome (name_of_saying saying) (λ name. is_name name ≡ true)
     of_name (SaysName name) k = k
     of_name saying k = tt
 
-    of_size : (saying : Saying) → IsFit count saying → IfSome (size_in saying) (λ size. size ≤ MAX_EDGES)
+    of_size : (saying : Saying) → IsFit count saying → IfSome (size_of_saying saying) (λ size. size ≤ MAX_EDGES)
     of_size (SaysSize size) k = k
     of_size saying k = tt
 
@@ -243,19 +243,19 @@ gathered_fit count said h = (
     of_given (Some size) k = k
     of_given None k = lit≤ tt
 
-    of_folder : (saying : Saying) → IsFit count saying → IfSome (folder_in saying) (λ folder. length folder ≤ MAX_FOLDER)
+    of_folder : (saying : Saying) → IsFit count saying → IfSome (folder_of_saying saying) (λ folder. length folder ≤ MAX_FOLDER)
     of_folder (SaysFolder folder) k = k
     of_folder saying k = tt
 
-    of_count : (saying : Saying) → IsFit count saying → IfSome (count_in saying) (λ tests. (1 ≤ tests) × (tests ≤ MAX_TESTS))
+    of_count : (saying : Saying) → IsFit count saying → IfSome (count_of_saying saying) (λ tests. (1 ≤ tests) × (tests ≤ MAX_TESTS))
     of_count (SaysCount tests) k = k
     of_count saying k = tt
 
-    of_test : (saying : Saying) → IsFit count saying → IfSome (test_in saying) (λ at. at < count)
+    of_test : (saying : Saying) → IsFit count saying → IfSome (test_of_saying saying) (λ at. at < count)
     of_test (SaysTest at) k = k
     of_test saying k = tt
 
-    of_execution : (saying : Saying) → IsFit count saying → IfSome (execution_in saying) (λ at. at < count)
+    of_execution : (saying : Saying) → IsFit count saying → IfSome (execution_of_saying saying) (λ at. at < count)
     of_execution (SaysExecution at) k = k
     of_execution saying k = tt
 

@@ -8,39 +8,39 @@ use Rattle.relax_edges.specs.declared.edge.Edge.{Edge}
 use Rattle.diy_words.specs.Sayings.{Saying, SaysArch, SaysName, SaysMode, SaysFrom, SaysEdges, SaysRelaxes, SaysSize, SaysExact, SaysWhy, SaysThreads, SaysAccesses, SaysAfter, SaysFolder, SaysFile, SaysTest, SaysExecution, SaysPlace, SaysCount}
 
 -- the architecture that is given
-abbrev pub arch_in : Saying → Option ArchName
-arch_in (SaysArch arch) = Some arch
-arch_in _ = None
+abbrev pub arch_of_saying : Saying → Option ArchName
+arch_of_saying (SaysArch arch) = Some arch
+arch_of_saying _ = None
 
 -- the name of the test
-abbrev pub name_in : Saying → Option (List ℕ)
-name_in (SaysName name) = Some name
-name_in _ = None
+abbrev pub name_of_saying : Saying → Option (List ℕ)
+name_of_saying (SaysName name) = Some name
+name_of_saying _ = None
 
 -- the observer mode
-abbrev pub mode_in : Saying → Option ObsMode
-mode_in (SaysMode mode) = Some mode
-mode_in _ = None
+abbrev pub mode_of_saying : Saying → Option ObsMode
+mode_of_saying (SaysMode mode) = Some mode
+mode_of_saying _ = None
 
 -- the value of `-from` with its place
-abbrev pub from_in : Saying → Option (ℕ × List ℕ)
-from_in (SaysFrom at name) = Some (at, name)
-from_in _ = None
+abbrev pub from_of_saying : Saying → Option (ℕ × List ℕ)
+from_of_saying (SaysFrom at name) = Some (at, name)
+from_of_saying _ = None
 
 -- the place of an operand of edges
-abbrev pub operand_in : Saying → Option ℕ
-operand_in (SaysEdges at _) = Some at
-operand_in _ = None
+abbrev pub operand_of_saying : Saying → Option ℕ
+operand_of_saying (SaysEdges at _) = Some at
+operand_of_saying _ = None
 
 -- the relaxations of a listing
-abbrev pub relaxes_in : Saying → Option (List (List Edge))
-relaxes_in (SaysRelaxes relaxes) = Some relaxes
-relaxes_in _ = None
+abbrev pub relaxes_of_saying : Saying → Option (List (List Edge))
+relaxes_of_saying (SaysRelaxes relaxes) = Some relaxes
+relaxes_of_saying _ = None
 
 -- the size of the cycles of a listing
-abbrev pub size_in : Saying → Option ℕ
-size_in (SaysSize size) = Some size
-size_in _ = None
+abbrev pub size_of_saying : Saying → Option ℕ
+size_of_saying (SaysSize size) = Some size
+size_of_saying _ = None
 
 -- that the cycles of a listing have exactly so many edges
 abbrev pub is_exact : Saying → Bool
@@ -48,24 +48,24 @@ is_exact SaysExact = true
 is_exact _ = false
 
 -- the most threads of a cycle
-abbrev pub threads_in : Saying → Option ℕ
-threads_in (SaysThreads threads) = Some threads
-threads_in _ = None
+abbrev pub threads_of_saying : Saying → Option ℕ
+threads_of_saying (SaysThreads threads) = Some threads
+threads_of_saying _ = None
 
 -- the most accesses of a thread
-abbrev pub accesses_in : Saying → Option ℕ
-accesses_in (SaysAccesses accesses) = Some accesses
-accesses_in _ = None
+abbrev pub accesses_of_saying : Saying → Option ℕ
+accesses_of_saying (SaysAccesses accesses) = Some accesses
+accesses_of_saying _ = None
 
 -- the cycle after which a listing begins
-abbrev pub after_in : Saying → Option (List Edge)
-after_in (SaysAfter cycle) = Some cycle
-after_in _ = None
+abbrev pub after_of_saying : Saying → Option (List Edge)
+after_of_saying (SaysAfter cycle) = Some cycle
+after_of_saying _ = None
 
 -- the folder of the files
-abbrev pub folder_in : Saying → Option (List ℕ)
-folder_in (SaysFolder folder) = Some folder
-folder_in _ = None
+abbrev pub folder_of_saying : Saying → Option (List ℕ)
+folder_of_saying (SaysFolder folder) = Some folder
+folder_of_saying _ = None
 
 -- that `-why` is given
 abbrev pub is_why : Saying → Bool
@@ -73,24 +73,24 @@ is_why SaysWhy = true
 is_why _ = false
 
 -- how many tests demo makes
-abbrev pub count_in : Saying → Option ℕ
-count_in (SaysCount count) = Some count
-count_in _ = None
+abbrev pub count_of_saying : Saying → Option ℕ
+count_of_saying (SaysCount count) = Some count
+count_of_saying _ = None
 
 -- the place of the file of the test of mcheck7
-abbrev pub test_in : Saying → Option ℕ
-test_in (SaysTest at) = Some at
-test_in _ = None
+abbrev pub test_of_saying : Saying → Option ℕ
+test_of_saying (SaysTest at) = Some at
+test_of_saying _ = None
 
 -- the place of the file of the execution of mcheck7
-abbrev pub execution_in : Saying → Option ℕ
-execution_in (SaysExecution at) = Some at
-execution_in _ = None
+abbrev pub execution_of_saying : Saying → Option ℕ
+execution_of_saying (SaysExecution at) = Some at
+execution_of_saying _ = None
 
 -- the edges of an operand
-abbrev pub edges_in : Saying → List Edge
-edges_in (SaysEdges _ edges) = edges
-edges_in _ = []
+abbrev pub edges_of_saying : Saying → List Edge
+edges_of_saying (SaysEdges _ edges) = edges
+edges_of_saying _ = []
 
 -- the relaxations of a place of the cycles of diycross7
 abbrev pub places_of_word : Saying → List (List (List Edge))
@@ -98,9 +98,9 @@ places_of_word (SaysPlace relaxes) = relaxes ∷ []
 places_of_word _ = []
 
 -- the place of a file of classify7
-abbrev pub files_in : Saying → List ℕ
-files_in (SaysFile at) = at ∷ []
-files_in _ = []
+abbrev pub files_of_saying : Saying → List ℕ
+files_of_saying (SaysFile at) = at ∷ []
+files_of_saying _ = []
 
 -- the last of the things of a kind that words give
 abbrev pub last_given : {X : Type 0} → (Saying → Option X) → List Saying → Option X
@@ -143,23 +143,23 @@ pub record Gathered : Type 0 where
 -- edges, places and files all; a cycle of a listing has at most 6 edges and 4 threads unless words say otherwise
 abbrev pub gathered_of : List Saying → Gathered
 gathered_of said = record {
-  arch = last_given arch_in said;
-  name = last_given name_in said;
-  mode = last_given mode_in said;
-  from = last_given from_in said;
-  operand = first_given operand_in said;
-  edges = all_given edges_in said;
-  relaxes = last_given relaxes_in said;
-  size = unwrap_or (last_given size_in said) 6;
+  arch = last_given arch_of_saying said;
+  name = last_given name_of_saying said;
+  mode = last_given mode_of_saying said;
+  from = last_given from_of_saying said;
+  operand = first_given operand_of_saying said;
+  edges = all_given edges_of_saying said;
+  relaxes = last_given relaxes_of_saying said;
+  size = unwrap_or (last_given size_of_saying said) 6;
   exact = list_any is_exact said;
-  threads = unwrap_or (last_given threads_in said) 4;
-  accesses = last_given accesses_in said;
-  after = last_given after_in said;
-  folder = last_given folder_in said;
+  threads = unwrap_or (last_given threads_of_saying said) 4;
+  accesses = last_given accesses_of_saying said;
+  after = last_given after_of_saying said;
+  folder = last_given folder_of_saying said;
   places = all_given places_of_word said;
-  files = all_given files_in said;
-  count = last_given count_in said;
-  test = last_given test_in said;
-  execution = last_given execution_in said;
+  files = all_given files_of_saying said;
+  count = last_given count_of_saying said;
+  test = last_given test_of_saying said;
+  execution = last_given execution_of_saying said;
   why = list_any is_why said;
 }

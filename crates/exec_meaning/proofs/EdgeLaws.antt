@@ -36,7 +36,7 @@ use Rattle.program_meaning.specs.Executions.{Execution, same_write}
 use Rattle.program_meaning.specs.Coherence.{source_at}
 use Rattle.program_meaning.specs.Standing.{AccessAt, NamedAccess, access_at, AreAt, ComesBefore, Communicates, CommunicatesBy, Reaches, Joins, mask_of, is_in_mask, IsTied, BarriersWait, DependsBy, TiesBy, Stands}
 use Rattle.execution_laws.proofs.Names.{same_write-refl, same_write-true}
-use Rattle.exec_meaning.specs.StandingEdges.{same_pick, same_fence, same_barrier, is_alone, is_none, are_at, is_source, comes_before, communicates, communicates_by, reaches, joins, same_answer, depends, barriers_wait, depends_by, ties_by, stands}
+use Rattle.exec_meaning.specs.StandingEdges.{same_pick, same_fence, barriers_agree, is_alone, is_none, are_at, is_source, comes_before, communicates, communicates_by, reaches, joins, same_answer, depends, barriers_wait, depends_by, ties_by, stands}
 
 both : {P Q : Type 0} (b c : Bool) → Decides b P → Decides c Q → Decides (b && c) (P × Q)
 both b c d e = (λ h. let p = and_parts b c h in (d.0 p.0, e.0 p.1), λ h. and_from b c (d.1 h.0) (e.1 h.1))
@@ -75,7 +75,7 @@ fence_decides (fences.Fence p s) (fences.Fence q t) = (
 )
 fence_decides a b = (λ h. cc h, λ h. cc h)
 
-barrier_decides : (a b : Barrier) → Decides (same_barrier a b) (a ≡ b)
+barrier_decides : (a b : Barrier) → Decides (barriers_agree a b) (a ≡ b)
 barrier_decides (barriers.Fence k) (barriers.Fence l) = (
   λ h. ap barriers.Fence ((fence_decides k l).0 h),
   λ h. let e : k ≡ l = cc h in (fence_decides k l).1 e,

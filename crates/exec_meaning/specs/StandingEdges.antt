@@ -60,15 +60,15 @@ same_fence (fences.Fence pred succ) (fences.Fence pred' succ') = same_pick pred 
 same_fence _ _ = false
 
 -- two barriers are the same
-abbrev pub same_barrier : Barrier → Barrier → Bool
-same_barrier (barriers.Fence kind) (barriers.Fence kind') = same_fence kind kind'
-same_barrier barriers.Isb barriers.Isb = true
-same_barrier _ _ = false
+abbrev pub barriers_agree : Barrier → Barrier → Bool
+barriers_agree (barriers.Fence kind) (barriers.Fence kind') = same_fence kind kind'
+barriers_agree barriers.Isb barriers.Isb = true
+barriers_agree _ _ = false
 
 -- the only barrier is this one
 abbrev pub is_alone : Barrier → List Barred → Bool
 is_alone kind [] = false
-is_alone kind (b ∷ []) = same_barrier b.kind kind
+is_alone kind (b ∷ []) = barriers_agree b.kind kind
 is_alone kind (b ∷ c ∷ more) = false
 
 -- there is no barrier

@@ -6,7 +6,7 @@ ghost use Rattle.program_meaning.specs.Accesses.{at_name, visits_of};
 ghost use Rattle.program_meaning.specs.Standing.{is_in_mask, event_name};
 ghost use Rattle.program_meaning.specs.Programs.{IsCandidate};
 ghost use Rattle.litmus_text.specs.ReadPrograms.{program_read};
-ghost use Rattle.exec_meaning.specs.StandingEdges.{EdgeStands, same_pick, same_fence, same_barrier, is_alone, are_at, is_source, reaches, comes_before, communicates_by, joins, depends_as, barriers_wait, waits, depends_by, ties_by, stands, stands_if};
+ghost use Rattle.exec_meaning.specs.StandingEdges.{EdgeStands, same_pick, same_fence, barriers_agree, is_alone, are_at, is_source, reaches, comes_before, communicates_by, joins, depends_as, barriers_wait, waits, depends_by, ties_by, stands, stands_if};
 
 use crate::accesses::{Accesses, all_accesses, is_read};
 use crate::coherent::{place_of_name, reads_before_name, source_of_name};
@@ -75,7 +75,7 @@ fn same_fence(a: FenceKind, b: FenceKind) -> bool
 }
 
 fn same_barrier(a: Barrier, b: Barrier) -> bool
-    ensures { result ≡ same_barrier a b }
+    ensures { result ≡ barriers_agree a b }
 {
     match (a, b) {
         (Barrier::Fence(kind), Barrier::Fence(other)) => same_fence(kind, other),

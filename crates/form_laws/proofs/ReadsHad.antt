@@ -10,7 +10,7 @@ use Rattle.list_laws.proofs.Cases.{by_test}
 use Rattle.text_laws.specs.NumberTexts.{number_of}
 use Rattle.micro_ops.specs.declared.operation.Micro.{Micro}
 use Rattle.micro_ops.specs.declared.operation.Micro.TheVariants as ops
-use Rattle.arch_trait.specs.Writing.{OperandTexts, none, one, two, three, four, more, RawInstr, Written, immediate, at_most, register_at, label_raw}
+use Rattle.arch_trait.specs.Writing.{OperandTexts, none, one, two, three, four, more, RawInstr, Written, immediate_number, at_most, register_at, label_raw}
 use Rattle.arch_trait.specs.Forms.{label_alone}
 use Rattle.form_laws.specs.declared.form.Hole.{Hole}
 use Rattle.form_laws.specs.declared.form.Hole.TheVariants as holes
@@ -52,7 +52,7 @@ number_fits None ws = tt
 number_fits (Some n) ws = by_test (nat_le n 2047) (λ h. rw h (record { first = h; rest = refl })) (λ h. rw h tt)
 
 hole_fits : (hole : Hole) (text : List ℕ) (ws : List Operand) → FitsIf hole (hole_found hole text) ws
-unfolding immediate
+unfolding immediate_number
 hole_fits holes.Empty [] ws = record { first = refl; rest = refl }
 hole_fits holes.Empty (b ∷ text) ws = tt
 hole_fits (holes.Register first count) text ws = register_fits first count (number_of text) ws

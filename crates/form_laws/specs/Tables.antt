@@ -9,7 +9,7 @@ use Rattle.micro_ops.specs.declared.operation.Micro.{Micro}
 use Rattle.micro_ops.specs.declared.operation.Micro.TheVariants as ops
 use Rattle.arch_trait.specs.Forms.{label_alone}
 use Rattle.arch_trait.specs.InstructionReading.{few}
-use Rattle.arch_trait.specs.Writing.{OperandTexts, none, one, two, three, four, more, Written, Writing, RawInstr, immediate, register_at, label_name, label_word}
+use Rattle.arch_trait.specs.Writing.{OperandTexts, none, one, two, three, four, more, Written, Writing, RawInstr, immediate_number, register_at, label_name, label_word}
 use Rattle.form_laws.specs.declared.form.Hole.{Hole}
 use Rattle.form_laws.specs.declared.form.Hole.TheVariants as holes
 use Rattle.form_laws.specs.declared.form.Piece.{Piece}
@@ -151,7 +151,7 @@ abbrev pub hole_found : Hole → List ℕ → Option (List FoundOperand)
 hole_found holes.Empty [] = Some []
 hole_found holes.Empty (b ∷ text) = None
 hole_found (holes.Register first count) text = option_map (λ r. found_register r ∷ []) (register_at first count (number_of text))
-hole_found holes.Number text = option_map (λ n. found_number n ∷ []) (immediate text)
+hole_found holes.Number text = option_map (λ n. found_number n ∷ []) (immediate_number text)
 hole_found holes.Place text = Some (found_place text ∷ [])
 hole_found holes.Label text = Some (found_label text ∷ [])
 

@@ -1,6 +1,6 @@
 ghost use Rattle.std.specs.Prelude.{◌≡◌, ◌∷◌, []};
 ghost use Rattle.text_laws.specs.NumberTexts.{number_of};
-ghost use Rattle.arch_trait.specs.Writing.{register_at, immediate};
+ghost use Rattle.arch_trait.specs.Writing.{register_at, immediate_number};
 
 use arch_trait::MAX_IMMEDIATE;
 use final_cond::number_of;
@@ -64,9 +64,9 @@ pub(crate) fn register_in(first: u8, count: u8, digits: &[u8]) -> Option<u8>
 
 /// The number that these bytes write, where it is at most `MAX_IMMEDIATE`.
 #[inline(always)]
-#[tactic(auto, unfolding(arch_trait::specs::Writing::immediate))]
+#[tactic(auto, unfolding(arch_trait::specs::Writing::immediate_number))]
 pub(crate) fn immediate(digits: &[u8]) -> Option<u32>
-    ensures { result ≡ immediate digits.now }
+    ensures { result ≡ immediate_number digits.now }
 {
     match number(digits) {
         Some(n) if n <= MAX_IMMEDIATE => Some(n),

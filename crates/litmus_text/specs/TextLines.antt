@@ -26,14 +26,14 @@ abbrev pub line_kept : ℕ → List ℕ → Lines → Lines
 line_kept n text rest = cond (is_passed text) rest (line n text rest)
 
 -- what comes after the last line feed: a line, if there is a byte
-abbrev pub last_line : ℕ → List ℕ → Lines
-last_line n [] = ends n
-last_line n (byte ∷ text) = line_kept n (byte ∷ text) (ends (n + 1))
+abbrev pub last_line_numbered : ℕ → List ℕ → Lines
+last_line_numbered n [] = ends n
+last_line_numbered n (byte ∷ text) = line_kept n (byte ∷ text) (ends (n + 1))
 
 -- the lines of the pieces between line feeds, numbered from n on
 unfoldable pub lines_in : ℕ → List (List ℕ) → Lines
 lines_in n [] = ends n
-lines_in n (piece ∷ []) = last_line n piece
+lines_in n (piece ∷ []) = last_line_numbered n piece
 lines_in n (piece ∷ next ∷ pieces) = line_kept n (without_return piece) (lines_in (n + 1) (next ∷ pieces))
 
 -- the lines of a text, numbered from n on

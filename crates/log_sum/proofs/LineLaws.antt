@@ -13,7 +13,7 @@ use Rattle.log_sum.specs.declared.kinds.Place.TheVariants.{Outside, Histogram, S
 use Rattle.log_sum.specs.Facts.{Fact, facts_of, fact_fault}
 use Rattle.log_sum.specs.LogLines.{Said, log_line_said, fact_said, test_after, place_after}
 use Rattle.log_sum.specs.LogReading.{LogSeen, ◌>>=◌, is_too_long, nothing_seen, fact_put, fact_judged, said_to, said_put, at_next_line, next_line, text_judged, line_judged, lines_judged, whole_lines, unfinished, rest_judged, bytes_judged, last_judged, end_at, end_judged, file_judged, files_judged, input_judged}
-use Rattle.log_sum.specs.Representing.{Kept, Represents, line_at}
+use Rattle.log_sum.specs.Representing.{Kept, Represents, running_line}
 use Rattle.log_sum.proofs.FeedLaws.{Middle, middle_of, rest_same}
 
 -- a fact leaves the number of the line as it is
@@ -86,7 +86,7 @@ whole_count bytes =
     ap (λ t. length (but_last t)) first.is ∙ but_last_length first.piece first.rest ∙ omega arith
 
 -- the line that goes on after the bytes of a log so far has its number by their line feeds
-input_line : (next : LogSeen) (files : List (List ℕ)) (bytes : List ℕ) → input_judged files bytes ≡ Ok next → next.line ≡ line_at bytes
+input_line : (next : LogSeen) (files : List (List ℕ)) (bytes : List ℕ) → input_judged files bytes ≡ Ok next → next.line ≡ running_line bytes
 unfolding input_judged bytes_judged
 input_line next files bytes h =
     let a = middle_of (files_judged nothing_seen files) (λ x. bytes_judged x bytes) next h in
@@ -96,5 +96,5 @@ input_line next files bytes h =
     ∙ lines_line a.middle b.middle (whole_lines bytes) 1 first b.is ∙ ap count_of (omega (arith, whole_count bytes))
 
 -- what represents bytes of a log is at the line that goes on after them
-pub represents_line : (kept : Kept) (files : List (List ℕ)) (bytes : List ℕ) → Represents kept files bytes → kept.progress.line ≡ line_at bytes
+pub represents_line : (kept : Kept) (files : List (List ℕ)) (bytes : List ℕ) → Represents kept files bytes → kept.progress.line ≡ running_line bytes
 represents_line kept files bytes s = s.reading.line ∙ input_line s.seen files bytes s.judged

@@ -62,8 +62,8 @@ pub record Represents (kept : Kept) (files : List (List ℕ)) (bytes : List ℕ)
   pub in_order : bytes ≡ [] → kept.in_order ≡ true
 
 -- the number of the line that goes on after the bytes of a log so far; it stops at the last value of a count
-abbrev pub line_at : List ℕ → ℕ
-line_at bytes = count_of (line_feed_count bytes + 1)
+abbrev pub running_line : List ℕ → ℕ
+running_line bytes = count_of (line_feed_count bytes + 1)
 
 -- what an answer to a piece of a log says, where this is the input up to the end of the piece: it has no fault and is
 -- represented by what is kept, or it has exactly this first fault

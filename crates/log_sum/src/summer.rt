@@ -2,7 +2,7 @@ ghost use Rattle.std.specs.Prelude.{◌≡◌, ℕ, List, [], ◌++◌, true, So
 ghost use Rattle.diy_io.specs.Page.{Sends};
 ghost use Rattle.diy_io.specs.Wrote.{Wrote};
 ghost use Rattle.log_sum.specs.LogReading.{LogSeen, line_judged, rest_judged};
-ghost use Rattle.log_sum.specs.Representing.{Kept, Represents, FedTo, EndedTo, IsKeptRefusal, GivenAgain, kept_text, line_at};
+ghost use Rattle.log_sum.specs.Representing.{Kept, Represents, FedTo, EndedTo, IsKeptRefusal, GivenAgain, kept_text, running_line};
 ghost use Rattle.log_sum.specs.Feeding.{FollowsSeen, JudgedTo, PieceTo, EndTo, sum_refusal};
 
 use crate::errors::{Fault, LogError, LogKind, SumError};
@@ -103,9 +103,8 @@ impl Summer {
     }
 
     /// The number of the running line in the running log, from 1; it stops at 2^64-1.
-    #[tactic(auto, using(crate::proofs::LineLaws::represents_line))]
     pub fn line(&self) -> u64
-        ensures { (files : List (List ℕ)) (bytes : List ℕ) → Represents self.now files bytes → result ≡ line_at bytes }
+        ensures { (files : List (List ℕ)) (bytes : List ℕ) → Represents self.now files bytes → result ≡ running_line bytes }
     {
         self.reading.line
     }

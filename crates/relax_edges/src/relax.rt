@@ -132,7 +132,8 @@ impl Relaxes {
     #[tactic(auto, using(crate::proofs::Kept::keep_there, crate::proofs::Kept::keep_full, crate::proofs::Kept::keep_room, crate::proofs::Kept::relaxes_end))]
     pub(crate) fn keep(&mut self, path: &[Edge]) -> Result<(), RelaxKind>
         requires { IsRelax path.now }
-        ensures { MatchResult result (λ _. at_most_64 (keep_path self.old path.now) ≡ Ok self.new) (λ kind. at_most_64 (keep_path self.old path.now) ≡ Err kind) }
+        ensures { MatchResult result (λ _. at_most_64 (keep_path self.old path.now) ≡ Ok self.new)
+            (λ kind. at_most_64 (keep_path self.old path.now) ≡ Err kind) }
     {
         if self.contains(path) {
             return Ok(());

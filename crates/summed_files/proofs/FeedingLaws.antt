@@ -9,7 +9,7 @@ use Rattle.diy_io.specs.Count.{count_of, Rose}
 use Rattle.diy_io.specs.Taken.{SourceSeen, Took}
 use Rattle.log_sum.specs.declared.errors.SumError.{SumError}
 use Rattle.log_sum.specs.declared.errors.SumError.TheVariants as sums
-use Rattle.log_sum.specs.Representing.{Kept, Represents, FedTo, EndedTo, line_at}
+use Rattle.log_sum.specs.Representing.{Kept, Represents, FedTo, EndedTo, running_line}
 use Rattle.sum_laws.proofs.Represented.{end_fault_stays}
 use Rattle.summed_files.specs.declared.feeding.Feeding.{Feeding}
 use Rattle.summed_files.specs.declared.feeding.LogFault.{LogFault}
@@ -36,7 +36,7 @@ piece_refused kept logs bytes piece n sums.NoMemory short fits fed = tt
 -- a piece that goes past the first 2^40 bytes
 pub piece_full : (kept : Kept) (logs : List (List ℕ)) (bytes piece : List ℕ) (n line : ℕ)
     → length bytes + n ≡ 2 ^ 40 → n < length piece
-    → Represents kept logs (bytes ++ take n piece) → line ≡ line_at (bytes ++ take n piece) → PrefixFull logs (bytes ++ piece) line
+    → Represents kept logs (bytes ++ take n piece) → line ≡ running_line (bytes ++ take n piece) → PrefixFull logs (bytes ++ piece) line
 piece_full kept logs bytes piece n line full less represents number =
     let whole : length (bytes ++ take n piece) ≡ 2 ^ 40 = omega (arith, length-append bytes (take n piece), length-take-le n piece (omega arith)) in
     record {
