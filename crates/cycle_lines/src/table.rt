@@ -7,7 +7,7 @@ ghost use Rattle.cycle_lines.specs.Classified.{name_entry};
 ghost use Rattle.cycle_lines.specs.FamilyTables.{place_of_family, names_in_set, family_view, entry_text, HoldsCycles, AddsCycle, name_entered};
 
 use arrayvec::ArrayString;
-use cycle_names::{Family, MAX_NAME, family_of, name_of};
+use cycle_names::{Family, MAX_NAME, name_and_family};
 use diy_io::{Failed, NoMemory, Page, Sink};
 use edge_algebra::Cycle;
 use std::alloc::Global;
@@ -88,9 +88,9 @@ pub(crate) fn put_cycle(
     ensures adds { OnOk result (AddsCycle (map family_view table.old.items) (map family_view table.new.items) cycle.now) }
     ensures whole { length table.new.items ≡ 15 }
 {
-    name_of(cycle, text);
+    let family = name_and_family(cycle, text);
     let name = Vec::from_slice(*table.allocator(), text.as_str().as_bytes())?;
-    put_name(table, place_of(family_of(cycle)), name)
+    put_name(table, place_of(family), name)
 }
 
 fn put_name(table: &mut Vec<FamilyNames>, place: usize, name: Vec<u8>) -> Result<(), NoMemory>

@@ -1,5 +1,5 @@
 -- What is read is the cycle of the name, and what is refused is no name.
-use Rattle.std.specs.Prelude.{◌≡◌, ◌≤◌, ℕ, suc, true, false, Option, Some, None, nat_lt, Result, Ok, Err, IsOk, List, [], ◌∷◌, ◌++◌, length, drop, codes}
+use Rattle.std.specs.Prelude.{◌≡◌, ◌≤◌, ℕ, suc, true, false, Option, Some, None, nat_lt, unwrap_or, Result, Ok, Err, IsOk, List, [], ◌∷◌, ◌++◌, length, drop, codes}
 use Rattle.std.specs.Str.{bytes_eq}
 use Rattle.std.specs.Cmp.Lexicographic.{bytes_decides}
 use Rattle.std.proofs.Common.{refl, sym, ◌∙◌, ap, arith}
@@ -23,9 +23,10 @@ use Rattle.edge_algebra.specs.declared.errors.CycleError.TheVariants.{TooLong}
 use Rattle.edge_algebra.specs.Compose.{composed, unbroken}
 use Rattle.edge_algebra.specs.ComposingLaws.{composes_exactly}
 use Rattle.cycle_names.specs.declared.family.Family.{Family}
+use Rattle.cycle_names.specs.declared.family.Family.TheVariants as families
 use Rattle.cycle_names.specs.Families.{family_word, family_edges, all_families}
 use Rattle.cycle_names.specs.LinkWords.{link_words}
-use Rattle.cycle_names.specs.Rotations.{found_family, named_rotation}
+use Rattle.cycle_names.specs.Rotations.{family_of, found_family, named_rotation}
 use Rattle.cycle_names.specs.CycleNames.{links_text, name_from, name_of}
 use Rattle.cycle_names.specs.Fitting.{IsNamedAt}
 use Rattle.cycle_names.specs.NameReading.{begins_with_word, named_family, before, marked_between, first_mark, last_mark, marked_along, marked_around, marked_if, slots_filled, words_read, read_by_family, edges_read, AddsEdges}
@@ -40,6 +41,14 @@ pub name_in_family : (u : List Edge) (f : Family) (place : ℕ) → IsNamedAt u 
 unfolding name_of name_from
 name_in_family u f place h =
     ap (λ o. name_from o (named_rotation u)) h.found ∙ ap (λ v. family_word f ++ links_text (link_words v)) h.named
+
+-- the family that is found is that of the cycle
+pub family_of_found : (u : List Edge) (f : Family) → found_family u ≡ Some f → f ≡ family_of u
+family_of_found u f h = ap (λ found. unwrap_or found families.Other) (sym h)
+
+-- where none is found, the cycle is of no family of the table
+pub family_of_none : (u : List Edge) → found_family u ≡ None → families.Other ≡ family_of u
+family_of_none u h = ap (λ found. unwrap_or found families.Other) (sym h)
 
 -- a cycle that is named at a place is named from the rotation from that place
 pub named_at_is : (u : List Edge) (f : Family) (place : ℕ) → IsNamedAt u f place → named_rotation u ≡ rotated place u

@@ -1,6 +1,6 @@
 -- How the code finds the family of a cycle and the rotation that it is named from.
 -- Source: own.
-use Rattle.std.specs.Prelude.{◌≡◌, ◌<◌, ◌≤◌, ℕ, ◌+◌, ◌*◌, ◌==◌, ◌&&◌, ◌||◌, nat_lt, cond, Bool, true, false, sum, Option, Some, List, [], ◌++◌, length, map}
+use Rattle.std.specs.Prelude.{◌≡◌, ◌<◌, ◌≤◌, ℕ, ◌+◌, ◌*◌, ◌==◌, ◌&&◌, ◌||◌, nat_lt, cond, Bool, true, false, sum, Option, Some, List, [], ◌++◌, length, map, codes}
 use Rattle.std.specs.List.{find}
 use Rattle.relax_edges.specs.declared.kinds.Dir.{Dir}
 use Rattle.relax_edges.specs.declared.kinds.Dir.TheVariants.{R, W}
@@ -27,6 +27,8 @@ use Rattle.cycle_laws.specs.CycleOrder.{ranks_below}
 use Rattle.cycle_laws.specs.Rotation.{rotated}
 use Rattle.cycle_names.specs.declared.slot.Slot.{Slot}
 use Rattle.cycle_names.specs.declared.slot.Slot.TheVariants as slots
+use Rattle.cycle_names.specs.declared.words.Separator.{Separator}
+use Rattle.cycle_names.specs.declared.words.Separator.TheVariants.{Dash, Blank}
 use Rattle.cycle_names.specs.declared.family.Family.{Family}
 use Rattle.cycle_names.specs.declared.family.TheConstants.{LONGEST}
 use Rattle.cycle_names.specs.Families.{family_edges, all_families}
@@ -124,6 +126,11 @@ pub record IsNamedAt (u : List Edge) (family : Family) (place : ℕ) : Type 0 wh
 -- what an edge adds to a name: a link its word, another edge nothing
 abbrev pub link_text : Edge → List ℕ
 link_text edge = cond (is_diff edge) (after_plus (link_word edge)) []
+
+-- what a separator adds to a name
+abbrev pub separator_text : Separator → List ℕ
+separator_text Dash = codes "-"
+separator_text Blank = codes " "
 
 -- a list twice over
 abbrev pub twice : List ℕ → List ℕ

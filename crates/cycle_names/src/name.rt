@@ -7,7 +7,7 @@ ghost use Rattle.cycle_names.specs.Laws.{IsName};
 
 use crate::family::Family;
 use crate::fit::{found_family, named_fit};
-use crate::words::{push_both, push_links, push_words};
+use crate::words::{Separator, push_both, push_links, push_words};
 use arrayvec::ArrayString;
 use edge_algebra::Cycle;
 
@@ -36,17 +36,28 @@ pub fn name_of(cycle: &Cycle, out: &mut ArrayString<MAX_NAME>)
     ensures name { out.new.bytes ≡ name_of cycle.now }
     ensures form { IsName out.new.bytes }
 {
+    name_and_family(cycle, out);
+}
+
+/// Makes `out` the name of a cycle, whatever it held, and gives the family of the cycle, as `name_of` and `family_of` do.
+pub fn name_and_family(cycle: &Cycle, out: &mut ArrayString<MAX_NAME>) -> Family
+    ensures name { out.new.bytes ≡ name_of cycle.now }
+    ensures form { IsName out.new.bytes }
+    ensures family { result ≡ family_of cycle.now }
+{
     out.clear();
     match named_fit(cycle.edges()) {
         Some(fit) => {
             let rotation = cycle.rotate(fit.place as u8);
             out.push_str(fit.family.word());
             push_links(rotation.edges(), out);
+            fit.family
         }
         None => {
             let rotation = cycle.least();
             out.push_str("C+");
-            push_words(rotation.edges(), "-", out);
+            push_words(rotation.edges(), Separator::Dash, out);
+            Family::Other
         }
     }
 }
@@ -68,7 +79,7 @@ pub fn name_and_words(
             let rotation = cycle.rotate(fit.place as u8);
             name.push_str(fit.family.word());
             push_links(rotation.edges(), name);
-            push_words(rotation.edges(), " ", words);
+            push_words(rotation.edges(), Separator::Blank, words);
         }
         None => {
             let normal = cycle.least();

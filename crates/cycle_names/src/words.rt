@@ -1,16 +1,16 @@
-ghost use Rattle.std.specs.Prelude.{◌≡◌, ◌+◌, ◌*◌, ◌≤◌, ◌++◌, ◌||◌, not, length, codes};
+ghost use Rattle.std.specs.Prelude.{◌≡◌, ◌+◌, ◌*◌, ◌<◌, ◌≤◌, ◌++◌, ◌||◌, not, length, codes};
 ghost use Rattle.std.specs.List.{find, flat_map, list_all, join_by};
 ghost use Rattle.std.specs.Str.{bytes_eq};
 ghost use Rattle.relax_edges.specs.EdgeTable.{is_diff};
 ghost use Rattle.relax_edges.specs.WordParts.{word_of};
 ghost use Rattle.cycle_names.specs.LinkWords.{link_word, link_words};
 ghost use Rattle.cycle_names.specs.CycleNames.{links_text};
-ghost use Rattle.cycle_names.specs.Fitting.{link_text, has_word_place};
+ghost use Rattle.cycle_names.specs.Fitting.{link_text, has_word_place, separator_text};
 
 use crate::link::{kind_link, mark_letters, word_place};
 use crate::name::MAX_NAME;
 use arrayvec::ArrayString;
-use relax_edges::{Edge, MAX_EDGES};
+use relax_edges::{Edge, MAX_EDGES, Mark};
 
 type Name = ArrayString<MAX_NAME>;
 
@@ -81,7 +81,10 @@ fn push_link(edge: Edge, name: &mut Name)
     if edge.is_diff() {
         name.push_str("+");
         name.push_str(kind_link(edge.kind()));
-        name.push_str(mark_letters(edge.source_mark(), edge.target_mark()));
+        match (edge.source_mark(), edge.target_mark()) {
+            (Mark::Plain, Mark::Plain) => {}
+            (from, to) => name.push_str(mark_letters(from, to)),
+        }
     }
 }
 
@@ -99,12 +102,30 @@ fn push_each(edges: &[Edge], name: &mut Name)
     }
 }
 
-/// Adds the words of some edges, joined by a byte, to a text of at most 16 bytes.
-pub(crate) fn push_words(edges: &[Edge], between: &str, name: &mut Name)
+/// What comes between the words of edges.
+#[derive(Clone, Copy)]
+pub(crate) enum Separator {
+    Dash,
+    Blank,
+}
+
+/// Adds a separator. It is apart so that the length of each text is known where it is added.
+fn push_separator(between: Separator, name: &mut Name)
+    requires { length name.old.bytes < MAX_NAME }
+    ensures text { name.new.bytes ≡ name.old.bytes ++ separator_text between }
+    ensures short { length name.new.bytes ≤ length name.old.bytes + 1 }
+{
+    match between {
+        Separator::Dash => name.push_str("-"),
+        Separator::Blank => name.push_str(" "),
+    }
+}
+
+/// Adds the words of some edges, with a separator between, to a text of at most 16 bytes.
+pub(crate) fn push_words(edges: &[Edge], between: Separator, name: &mut Name)
     requires few { length edges.now ≤ MAX_EDGES }
-    requires one { length between.now ≡ 1 }
     requires room { length name.old.bytes ≤ 16 }
-    ensures { name.new.bytes ≡ name.old.bytes ++ join_by word_of between.now edges.now }
+    ensures { name.new.bytes ≡ name.old.bytes ++ join_by word_of (separator_text between) edges.now }
 {
     match edges {
         [] => {}
@@ -125,16 +146,15 @@ fn push_word(edge: Edge, name: &mut Name)
     name.push_str(word.as_str());
 }
 
-/// Adds a byte and the word for each edge.
-fn push_separated(edges: &[Edge], between: &str, name: &mut Name)
-    requires one { length between.now ≡ 1 }
-    requires room { length name.old.bytes + 15 * length edges.now ≤ MAX_NAME }
-    ensures { name.new.bytes ≡ name.old.bytes ++ flat_map (λ edge. between.now ++ word_of edge) edges.now }
+/// Adds a separator and the word for each edge.
+fn push_separated(edges: &[Edge], between: Separator, name: &mut Name)
+    requires { length name.old.bytes + 15 * length edges.now ≤ MAX_NAME }
+    ensures { name.new.bytes ≡ name.old.bytes ++ flat_map (λ edge. separator_text between ++ word_of edge) edges.now }
 {
     match edges {
         [] => {}
         [edge, rest @ ..] => {
-            name.push_str(between);
+            push_separator(between, name);
             push_word(*edge, name);
             push_separated(rest, between, name);
         }

@@ -1,4 +1,4 @@
--- The text made is the name of the cycle.
+-- The text made is the name of the cycle, and its family that of the fit.
 use Rattle.std.proofs.Common.{◌++◌, sym, ◌∙◌, ap}
 use Rattle.std.specs.Prelude.{codes}
 use Rattle.std.specs.List.{join_by}
@@ -6,9 +6,10 @@ use Rattle.relax_edges.specs.WordParts.{word_of}
 use Rattle.cycle_names.specs.Families.{family_word}
 use Rattle.cycle_names.specs.LinkWords.{link_words}
 use Rattle.cycle_names.specs.CycleNames.{links_text}
+use Rattle.cycle_names.specs.Fitting.{IsNamedAt}
 use Rattle.cycle_names.proofs.NameLaws.{names_of_cycles}
-use Rattle.cycle_names.proofs.CycleOf.{name_in_family, name_in_none}
-use Rattle.cycle_names.proofs.name.name_of.Goals as goal
+use Rattle.cycle_names.proofs.CycleOf.{name_in_family, name_in_none, family_of_found, family_of_none}
+use Rattle.cycle_names.proofs.name.name_and_family.Goals as goal
 
 pub returns-in-Some-clause-name : goal.returns-in-Some-clause-name
 returns-in-Some-clause-name c =
@@ -29,3 +30,11 @@ returns-in-Some-clause-form c = rw (returns-in-Some-clause-name c) (names_of_cyc
 
 pub returns-in-None-clause-form : goal.returns-in-None-clause-form
 returns-in-None-clause-form c = rw (returns-in-None-clause-name c) (names_of_cycles c.args.cycle.now c.edges.ensures.composable)
+
+pub returns-in-Some-clause-family : goal.returns-in-Some-clause-family
+returns-in-Some-clause-family c =
+    let at : IsNamedAt c.args.cycle.now c.in-Some.fit.family c.in-Some.fit.place = rw (← c.edges.ensures.value) c.in-Some.ensures in
+    family_of_found c.args.cycle.now c.in-Some.fit.family at.found
+
+pub returns-in-None-clause-family : goal.returns-in-None-clause-family
+returns-in-None-clause-family c = family_of_none c.args.cycle.now (rw (← c.edges.ensures.value) c.in-None.ensures)
