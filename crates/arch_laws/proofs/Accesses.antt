@@ -13,7 +13,7 @@ use Rattle.micro_ops.specs.declared.operation.Barrier.{Barrier}
 use Rattle.micro_ops.specs.Machine.{num, held_at_place, bit, written, address_held}
 use Rattle.micro_ops.specs.Running.{Run, At, go, exec}
 use Rattle.arch_laws.proofs.Rules.{holding, after_load, after_store, after_barrier, run_xor, run_add_address, run_load}
-use Rattle.arch_laws.proofs.MachineLaws.{exec_append}
+use Rattle.micro_ops.specs.RunLaws.{exec_append}
 use Rattle.arch_trait.specs.declared.link.Link.{Link}
 use Rattle.arch_trait.specs.declared.link.Link.TheVariants as links
 use Rattle.arch_trait.specs.Links.{branches, depends_on_load, is_addr, is_data}

@@ -1,10 +1,8 @@
-ghost use Rattle.std.specs.Prelude.{◌≡◌, ◌≤◌, length, map};
-ghost use Rattle.relax_edges.specs.Order.{rank_of};
 ghost use Rattle.crossed_cycles.specs.NormalForms.{IsNormalForm};
 
 use arrayvec::ArrayVec;
-use edge_algebra::Cycle;
-use relax_edges::{Edge, MAX_EDGES};
+use edge_algebra::{Cycle, ranks_of};
+use relax_edges::MAX_EDGES;
 
 /// The normal form of a cycle, by the ranks of its edges: cycles that are rotations of each other
 /// have one, and other cycles another.
@@ -23,15 +21,4 @@ impl NormalForm {
             ranks: ranks_of(least.edges()),
         }
     }
-}
-
-fn ranks_of(edges: &[Edge]) -> ArrayVec<u16, MAX_EDGES>
-    requires { length edges.now ≤ MAX_EDGES }
-    ensures { result.items ≡ map rank_of edges.now }
-{
-    let mut ranks = ArrayVec::new();
-    for edge in edges {
-        ranks.push(edge.rank());
-    }
-    ranks
 }

@@ -79,7 +79,7 @@ fn least_place(edges: &[Edge], ranks: &[u16]) -> u8
 }
 
 /// The ranks of the edges of a list.
-fn ranks_of(edges: &[Edge]) -> ArrayVec<u16, MAX_EDGES>
+pub fn ranks_of(edges: &[Edge]) -> ArrayVec<u16, MAX_EDGES>
     requires { length edges.now ≤ MAX_EDGES }
     ensures { result.items ≡ map rank_of edges.now }
 {

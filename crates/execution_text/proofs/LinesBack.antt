@@ -1,21 +1,21 @@
 -- A line that is written has the words of which it is made, and gives what these name; the lines of a text that is written are
 -- those of which it is made.
-use Rattle.std.proofs.Common.{◌≡◌, ◌==◌, ◌≤◌, ℕ, List, [], ◌∷◌, ◌++◌, map, length, get_or, true, false, refl, ap, ◌∙◌, arith, append_assoc, length-append}
+use Rattle.std.proofs.Common.{◌≡◌, ◌≤◌, ℕ, List, [], ◌∷◌, ◌++◌, map, length, get_or, true, false, refl, ap, ◌∙◌, arith, append_assoc, length-append}
 use Rattle.std.specs.Prelude.{Bool, not, ◌&&◌, nat_le, nat_lt, codes, Option, Some, Ok}
 use Rattle.std.specs.List.{All, AllByRecursion, list_all, filter, flat_map, slice_split}
 use Rattle.std.proofs.lemmas.Bool.Decides.{nat_tests}
 use Rattle.std.proofs.lemmas.List.{append-nil}
 use Rattle.std.proofs.lemmas.List.Splits.{slice_split_at, slice_split_none}
 use Rattle.std.proofs.lemmas.List.Sums.{AllPass-from_list_all}
-use Rattle.std.proofs.lemmas.Bool.{and_parts}
 use Rattle.list_laws.proofs.Elements.{list_all-weaker}
 use Rattle.text_laws.specs.Blanks.{is_blank}
 use Rattle.text_laws.specs.Words.{is_nil, words}
-use Rattle.text_laws.specs.Lines.{without_return, lines_of}
+use Rattle.text_laws.specs.Lines.{lines_of}
 use Rattle.litmus_text.specs.TestText.{with_line_feed}
 use Rattle.text_laws.specs.Cuts.{CutParts}
 use Rattle.text_laws.proofs.OrderLaws.{bytes_same}
 use Rattle.text_laws.proofs.CutLaws.{all_both, without_class}
+use Rattle.text_laws.proofs.LineLaws.{class_kept}
 use Rattle.execution_text.specs.declared.errors.ExecKind.{ExecKind}
 use Rattle.execution_text.specs.ExecutionText.{all_named, line_read}
 use Rattle.execution_text.specs.Written.{line_of}
@@ -74,24 +74,13 @@ unfolding line_read
 line_back bad_head bad name word head xs w ws h =
     ap (line_read bad_head bad name head) (words_back head (map word xs) w ws) ∙ rw (bytes_same head) (named_back bad name word xs h)
 
--- a line keeps its last byte
-no_return : (byte : ℕ) → is_printed byte ≡ true → (byte == 13) ≡ false
-no_return byte h = grind (arith, nat_tests)
-
-keeps_end : (line : List ℕ) → list_all is_printed line ≡ true → without_return line ≡ line
-unfolding without_return
-keeps_end [] h = refl
-keeps_end (byte ∷ []) h = let parts = and_parts (is_printed byte) true h in rw (no_return byte parts.0) refl
-keeps_end (byte ∷ next ∷ line) h =
-    let parts = and_parts (is_printed byte) (list_all is_printed (next ∷ line)) h in ap (λ rest. byte ∷ rest) (keeps_end (next ∷ line) parts.1)
-
 -- a text has the lines of which it is made
 pub lines_back : (lines : List (List ℕ)) → AllByRecursion (λ line. list_all is_printed line ≡ true) lines → lines_of (flat_map with_line_feed lines) ≡ lines
 lines_back [] h = line_none
 lines_back (line ∷ lines) h =
     let rest = flat_map with_line_feed lines in
     let cut : CutParts 10 (with_line_feed line ++ rest) line rest = record { parts = append_assoc line (codes "\n") rest; first = without_class is_printed 10 line refl h.0 } in
-    line_cut (with_line_feed line ++ rest) line rest cut ∙ ap (λ first. first ∷ lines_of rest) (keeps_end line h.0) ∙ ap (λ others. line ∷ others) (lines_back lines h.1)
+    line_cut (with_line_feed line ++ rest) line rest cut ∙ ap (λ first. first ∷ lines_of rest) (class_kept is_printed line refl h.0) ∙ ap (λ others. line ∷ others) (lines_back lines h.1)
 
 -- there are no more lines than bytes
 pub lines_few : (lines : List (List ℕ)) → length lines ≤ length (flat_map with_line_feed lines)

@@ -1,5 +1,5 @@
 -- A cell that is kept padded, and the part of it that a row has.
-use Rattle.std.proofs.Common.{◌≡◌, ◌≤◌, ◌<◌, ◌≢◌, ◌+◌, ◌-◌, ℕ, List, [], ◌∷◌, ◌++◌, zero, suc, length, take, drop, get_or}
+use Rattle.std.proofs.Common.{◌≡◌, ◌≤◌, ◌≢◌, ◌+◌, ◌-◌, ℕ, List, ◌++◌, zero, suc, length, take, drop}
 use Rattle.std.proofs.Common.{refl, sym, ap, ◌∙◌, subst, arith, length-append}
 use Rattle.std.specs.Prelude.{codes}
 use Rattle.std.proofs.Math.ListN.{replicate}

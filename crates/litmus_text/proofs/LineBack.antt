@@ -1,14 +1,13 @@
 -- Printed lines are the lines of their text.
-use Rattle.std.proofs.Common.{◌≡◌, ◌+◌, ◌==◌, ℕ, List, [], ◌∷◌, ◌++◌, true, false, refl, sym, ap, ◌∙◌, append_assoc}
+use Rattle.std.proofs.Common.{◌≡◌, ◌+◌, ℕ, List, [], ◌∷◌, ◌++◌, true, false, refl, sym, ap, ◌∙◌, append_assoc}
 use Rattle.std.specs.List.{list_all, flat_map, slice_split, AllByRecursion}
-use Rattle.std.proofs.lemmas.Bool.{eqb-true, and_parts}
-use Rattle.list_laws.proofs.Cases.{by_test}
 use Rattle.arch_trait.specs.Cells.{is_line_byte}
 use Rattle.litmus_text.specs.TextLines.{Lines, ends, line, is_passed, lines_in, lines_from}
-use Rattle.text_laws.specs.Lines.{without_return, is_line_feed}
+use Rattle.text_laws.specs.Lines.{is_line_feed}
 use Rattle.litmus_text.specs.TestText.{with_line_feed}
 use Rattle.litmus_text.proofs.CutBack.{piece_back}
 use Rattle.text_laws.proofs.CutLaws.{without_class}
+use Rattle.text_laws.proofs.LineLaws.{class_kept}
 use Rattle.text_laws.proofs.PieceLaws.{first_piece}
 
 -- a line of printed bytes that isn't passed over
@@ -21,23 +20,10 @@ abbrev pub before : ℕ → List (List ℕ) → (ℕ → Lines) → Lines
 before n [] rest = rest n
 before n (text ∷ texts) rest = line n text (before (n + 1) texts rest)
 
-no_return : (byte : ℕ) → is_line_byte byte ≡ true → (byte == 13) ≡ false
-no_return byte h =
-    by_test (byte == 13)
-    (λ e. let same : byte ≡ 13 = eqb-true byte 13 e in let clash : true ≡ false = sym h ∙ ap is_line_byte same in absurd (cc))
-    (λ e. e)
-
-keeps_end : (text : List ℕ) → list_all is_line_byte text ≡ true → without_return text ≡ text
-unfolding without_return
-keeps_end [] h = refl
-keeps_end (byte ∷ []) h = let parts = and_parts (is_line_byte byte) true h in rw (no_return byte parts.0) refl
-keeps_end (byte ∷ next ∷ text) h =
-    let parts = and_parts (is_line_byte byte) (list_all is_line_byte (next ∷ text)) h in ap (λ rest. byte ∷ rest) (keeps_end (next ∷ text) parts.1)
-
 one_line : (n : ℕ) (text : List ℕ) (pieces : List (List ℕ)) (piece : List ℕ) → IsLine text
     → lines_in n (text ∷ piece ∷ pieces) ≡ line n text (lines_in (n + 1) (piece ∷ pieces))
 unfolding lines_in
-one_line n text pieces piece h = rw (keeps_end text h.bytes, h.stays) refl
+one_line n text pieces piece h = rw (class_kept is_line_byte text refl h.bytes, h.stays) refl
 
 -- the text of printed lines is read as these lines
 pub lines_back : (n : ℕ) (texts : List (List ℕ)) → AllByRecursion IsLine texts → lines_from n (flat_map with_line_feed texts) ≡ before n texts ends

@@ -1,5 +1,5 @@
 -- The first line of what is left of a text.
-use Rattle.std.proofs.Common.{◌≡◌, ◌==◌, ◌+◌, ◌-◌, ◌<◌, ℕ, suc, List, [], ◌∷◌, true, false, length, refl, sym, ap, ◌∙◌, arith}
+use Rattle.std.proofs.Common.{◌≡◌, ◌==◌, ◌+◌, ◌<◌, ℕ, suc, List, [], ◌∷◌, true, false, length, refl, sym, ap, ◌∙◌, arith}
 use Rattle.std.proofs.lemmas.Bool.{eqb-true}
 use Rattle.litmus_text.specs.TextLines.{Lines, ends, line, line_kept, is_passed, lines_in, lines_from}
 use Rattle.text_laws.specs.Lines.{without_return, is_line_feed}

@@ -3,7 +3,7 @@ use Rattle.std.proofs.Common.{◌≡◌, ℕ, suc, ◌+◌, List, [], ◌∷◌,
 use Rattle.std.specs.Prelude.{Option, Some, None, Result, Ok, Err}
 use Rattle.std.proofs.lemmas.List.Splits.{length-slice_split}
 use Rattle.list_laws.proofs.Cases.{by_test}
-use Rattle.text_laws.specs.Lines.{is_line_feed, but_last, without_return}
+use Rattle.text_laws.specs.Lines.{is_line_feed, but_last, whole_lines, unended, without_return}
 use Rattle.text_laws.proofs.PieceLaws.{first_piece}
 use Rattle.diy_io.specs.Count.{count_of}
 use Rattle.diy_io.specs.Sink.{line_feed_count}
@@ -12,7 +12,7 @@ use Rattle.log_sum.specs.declared.kinds.Place.{Place}
 use Rattle.log_sum.specs.declared.kinds.Place.TheVariants.{Outside, Histogram, States, Judgement, Rest, Conditioned}
 use Rattle.log_sum.specs.Facts.{Fact, facts_of, fact_fault}
 use Rattle.log_sum.specs.LogLines.{Said, log_line_said, fact_said, test_after, place_after}
-use Rattle.log_sum.specs.LogReading.{LogSeen, ◌>>=◌, is_too_long, nothing_seen, fact_put, fact_judged, said_to, said_put, at_next_line, next_line, text_judged, line_judged, lines_judged, whole_lines, unfinished, rest_judged, bytes_judged, last_judged, end_at, end_judged, file_judged, files_judged, input_judged}
+use Rattle.log_sum.specs.LogReading.{LogSeen, ◌>>=◌, is_too_long, nothing_seen, fact_put, fact_judged, said_to, said_put, at_next_line, next_line, text_judged, line_judged, lines_judged, rest_judged, bytes_judged, last_judged, end_at, end_judged, file_judged, files_judged, input_judged}
 use Rattle.log_sum.specs.Representing.{Kept, Represents, running_line}
 use Rattle.log_sum.proofs.FeedLaws.{Middle, middle_of, rest_same}
 
@@ -70,7 +70,7 @@ unfolding file_judged
 files_line seen next [] first h = let e : seen ≡ next = cc in ap (λ (s : LogSeen). s.line) (sym e) ∙ first
 files_line seen next (file ∷ files) first h =
     let b = middle_of (file_judged seen file) (λ x. files_judged x files) next h in
-    let a = middle_of (lines_judged seen (whole_lines file) >>= (λ x. last_judged x (unfinished file))) end_judged b.middle b.is in
+    let a = middle_of (lines_judged seen (whole_lines file) >>= (λ x. last_judged x (unended file))) end_judged b.middle b.is in
     files_line b.middle next files (end_line_first a.middle b.middle a.middle.place a.then) b.then
 
 but_last_length : (line : List ℕ) (rest : List (List ℕ)) → length (but_last (line ∷ rest)) ≡ length rest
@@ -90,9 +90,9 @@ input_line : (next : LogSeen) (files : List (List ℕ)) (bytes : List ℕ) → i
 unfolding input_judged bytes_judged
 input_line next files bytes h =
     let a = middle_of (files_judged nothing_seen files) (λ x. bytes_judged x bytes) next h in
-    let b = middle_of (lines_judged a.middle (whole_lines bytes)) (λ x. rest_judged x (unfinished bytes)) next a.then in
+    let b = middle_of (lines_judged a.middle (whole_lines bytes)) (λ x. rest_judged x (unended bytes)) next a.then in
     let first : a.middle.line ≡ count_of 1 = files_line nothing_seen a.middle files refl a.is ∙ omega arith in
-    ap (λ (s : LogSeen). s.line) (sym (rest_same b.middle next (unfinished bytes) b.then))
+    ap (λ (s : LogSeen). s.line) (sym (rest_same b.middle next (unended bytes) b.then))
     ∙ lines_line a.middle b.middle (whole_lines bytes) 1 first b.is ∙ ap count_of (omega (arith, whole_count bytes))
 
 -- what represents bytes of a log is at the line that goes on after them

@@ -14,6 +14,7 @@ use Rattle.log_sum.specs.LogReading.{LogSeen, ◌>>=◌, is_too_long, next_line,
 use Rattle.text_laws.specs.Lines.{is_line_feed, without_return, but_last, last_of, whole_lines, unended}
 use Rattle.sum_laws.proofs.Cases.{Place}
 use Rattle.sum_laws.proofs.Texts.{all_both, no_feed}
+use Rattle.text_laws.proofs.LineLaws.{class_kept}
 use Rattle.text_laws.proofs.PieceLaws.{first_piece, split_off}
 use Rattle.sum_laws.proofs.Lines.{digits_all}
 
@@ -107,20 +108,13 @@ return_prefix [] b text h = h
 return_prefix (c ∷ []) b text h = ap (λ t. c ∷ t) h
 return_prefix (c ∷ d ∷ prefix) b text h = ap (λ t. c ∷ t) (return_prefix (d ∷ prefix) b text h)
 
--- a text without carriage returns keeps its end
-pub no_return : (text : List ℕ) → list_all (λ b. not (b == 13)) text ≡ true → without_return text ≡ text
-unfolding without_return
-no_return [] h = refl
-no_return (b ∷ []) h = rw (not-true (b == 13) (and_parts (not (b == 13)) true h).0) refl
-no_return (b ∷ c ∷ text) h = ap (λ t. b ∷ t) (no_return (c ∷ text) (and_parts (not (b == 13)) (list_all (λ x. not (x == 13)) (c ∷ text)) h).1)
-
 -- a printed line may begin with any text without line feeds
 pub append_line : (prefix text : List ℕ) → list_all no_feed prefix ≡ true → is_nil text ≡ false → IsLine text → IsLine (prefix ++ text)
 append_line prefix [] h some l = absurd (cc)
 append_line prefix (b ∷ text) h some l = record { one = all_both no_feed prefix (b ∷ text) h l.one; kept = return_prefix prefix b text l.kept }
 
 plain_feed : (text : List ℕ) → list_all no_feed text ≡ true → list_all (λ b. not (b == 13)) text ≡ true → IsLine text
-plain_feed text h k = record { one = h; kept = no_return text k }
+plain_feed text h k = record { one = h; kept = class_kept (λ b. not (b == 13)) text refl k }
 
 digit_feed : (b : ℕ) → is_ascii_digit b ≡ true → no_feed b ≡ true
 digit_feed b h = grind (arith, nat_tests)

@@ -1,6 +1,9 @@
 -- The carriage return at the end of a line.
 use Rattle.std.proofs.Common.{◌≡◌, ◌==◌, ℕ, ◌-◌, ◌<◌, ◌≤◌, List, [], ◌∷◌, ◌++◌, true, false, length, get_or, take, refl, sym, ap, ◌∙◌, arith}
 use Rattle.std.specs.Prelude.{Bool, cond}
+use Rattle.std.specs.List.{list_all}
+use Rattle.std.proofs.lemmas.Bool.{eqb-true, and_parts}
+use Rattle.list_laws.proofs.Cases.{by_test}
 use Rattle.text_laws.specs.Lines.{without_return}
 use Rattle.text_laws.proofs.BlankLaws.{front_and_last}
 
@@ -34,3 +37,17 @@ pub return_none : (text : List ℕ) → length text < 1 → without_return text 
 unfolding without_return
 return_none [] h = refl
 return_none (b ∷ text) h = absurd (omega arith)
+
+not_return : (p : ℕ → Bool) (byte : ℕ) → p 13 ≡ false → p byte ≡ true → (byte == 13) ≡ false
+not_return p byte fails passes =
+    by_test (byte == 13)
+    (λ e. let same : byte ≡ 13 = eqb-true byte 13 e in let clash : true ≡ false = sym passes ∙ ap p same ∙ fails in absurd (cc))
+    (λ e. e)
+
+-- a line whose bytes all pass a test that the carriage return fails stays as it is
+pub class_kept : (p : ℕ → Bool) (text : List ℕ) → p 13 ≡ false → list_all p text ≡ true → without_return text ≡ text
+unfolding without_return
+class_kept p [] fails h = refl
+class_kept p (byte ∷ []) fails h = let parts = and_parts (p byte) true h in rw (not_return p byte fails parts.0) refl
+class_kept p (byte ∷ next ∷ text) fails h =
+    let parts = and_parts (p byte) (list_all p (next ∷ text)) h in ap (λ rest. byte ∷ rest) (class_kept p (next ∷ text) fails parts.1)

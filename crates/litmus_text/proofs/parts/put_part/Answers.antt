@@ -1,5 +1,5 @@
 -- The part of the edges is their line and the opening brace.
-use Rattle.std.proofs.Common.{◌≡◌, ◌++◌, ap, codes, refl, subst, sym}
+use Rattle.std.proofs.Common.{◌++◌, ap, codes, subst, sym}
 use Rattle.std.specs.Prelude.{Some}
 use Rattle.litmus_text.specs.declared.parts.TextPart.TheVariants as parts
 use Rattle.litmus_text.specs.TestText.{edges_line, with_line_feed}

@@ -1,5 +1,5 @@
 -- The cells of a row are appended one after another.
-use Rattle.std.proofs.Common.{◌∙◌, map, arith, get_or, [], refl}
+use Rattle.std.proofs.Common.{map, arith, get_or, [], refl}
 use Rattle.arch_trait.specs.Codes.{thread_code_of}
 use Rattle.litmus_text.specs.TestText.{columns_of, column_of}
 use Rattle.litmus_text.proofs.JoinLaws.{none_put, one_text_put, all_put, all_short}

@@ -1,5 +1,5 @@
 -- What is kept is that of the table of the test.
-use Rattle.std.proofs.Common.{◌≡◌, ◌+◌, ◌∙◌, ap, map, take, fold, max, length}
+use Rattle.std.proofs.Common.{◌∙◌, ap, map, take}
 use Rattle.arch_trait.specs.Codes.{thread_code_of}
 use Rattle.litmus_text.specs.KeptCells.{all_texts}
 use Rattle.litmus_text.specs.TestText.{columns_of, width_of, row_count}
