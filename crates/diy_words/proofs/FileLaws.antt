@@ -9,7 +9,8 @@ use Rattle.diy_words.specs.declared.options.OptionName.TheVariants as opts
 use Rattle.diy_words.specs.declared.options.Tool.TheVariants as tools
 use Rattle.diy_words.specs.declared.usage.Usage.{Usage}
 use Rattle.diy_words.specs.declared.usage.UsageKind.TheVariants.{UnknownOption}
-use Rattle.diy_words.specs.Parts.{Alone, Valued, option_named, arch_named}
+use Rattle.relax_edges.specs.Architectures.{arch_of}
+use Rattle.diy_words.specs.Parts.{Alone, Valued, option_named}
 use Rattle.diy_words.specs.Sayings.{SaysFile, usage_fault, arch_said, begins_option, said_by}
 use Rattle.diy_words.specs.Gathered.{Gathered, files_of_saying}
 use Rattle.diy_words.specs.SaidInOrder.{before_of}
@@ -59,7 +60,7 @@ only_arch text option h = of_test (bytes_eq text (codes "-arch")) h
 
 value_other : (option : OptionName) (at : ℕ) (value : List ℕ) → option ≡ opts.Arch → IsOther files_of_saying (said_by tools.Classify (before_of []) (Valued option at value))
 value_other option at value e =
-    subst (λ (o : OptionName). IsOther files_of_saying (said_by tools.Classify (before_of []) (Valued o at value))) (sym e) (arch_other (at + 1) (arch_named value))
+    subst (λ (o : OptionName). IsOther files_of_saying (said_by tools.Classify (before_of []) (Valued o at value))) (sym e) (arch_other (at + 1) (arch_of value))
 
 -- an option of classify7 has its value after it, and the words after that have no fault
 pub option_first : (words : List (List ℕ)) (at : ℕ) (text : List ℕ) (option : OptionName) → at < length words → slice_get words at ≡ Some text

@@ -19,7 +19,8 @@ use Rattle.diy_words.specs.declared.usage.Usage.{Usage}
 use Rattle.diy_words.specs.declared.usage.UsageKind.TheVariants.{UnknownOption, BadName, BadFolder, TooManyChoices}
 use Rattle.diy_words.specs.TestNames.{is_name}
 use Rattle.diy_words.specs.NumberWords.{number_to}
-use Rattle.diy_words.specs.Parts.{Alone, Valued, option_named, arch_named, mode_named}
+use Rattle.relax_edges.specs.Architectures.{arch_of}
+use Rattle.diy_words.specs.Parts.{Alone, Valued, option_named, mode_named}
 use Rattle.diy_words.specs.Sayings.{Saying, SaysName, SaysFolder, SaysRelaxes, SaysPlace, SaysSize, SaysThreads, SaysAccesses, usage_fault, arch_said, mode_said, relaxes_said, number_said, cycle_word_said, after_said, begins_option, said_by}
 use Rattle.diy_words.specs.Gathered.{Gathered, places_of_word}
 use Rattle.diy_words.specs.SaidInOrder.{before_of}
@@ -97,7 +98,7 @@ folder_other at text false = record { none = refl; silent = λ before. refl }
 
 -- an option gives no relaxations of a place
 value_other : (option : OptionName) (at : ℕ) (value : List ℕ) → IsOther places_of_word (said_by tools.Cross (before_of []) (Valued option at value))
-value_other opts.Arch at value = arch_other (at + 1) (arch_named value)
+value_other opts.Arch at value = arch_other (at + 1) (arch_of value)
 value_other opts.Name at value = name_other (at + 1) value (is_name value)
 value_other opts.Obs at value = mode_other (at + 1) (mode_named value)
 value_other opts.From at value = record { none = refl; silent = λ before. refl }

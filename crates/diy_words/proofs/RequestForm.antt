@@ -31,7 +31,8 @@ use Rattle.diy_words.specs.declared.options.OptionName.{OptionName}
 use Rattle.diy_words.specs.declared.options.OptionName.TheVariants as opts
 use Rattle.diy_words.specs.TestNames.{is_name}
 use Rattle.diy_words.specs.EdgeWords.{operand_edges}
-use Rattle.diy_words.specs.Parts.{Part, Alone, Valued, Unvalued, waiting_at, alone_before, parts_from, parts_of, option_named, tool_named, arch_named, mode_named}
+use Rattle.relax_edges.specs.Architectures.{arch_of}
+use Rattle.diy_words.specs.Parts.{Part, Alone, Valued, Unvalued, waiting_at, alone_before, parts_from, parts_of, option_named, tool_named, mode_named}
 use Rattle.diy_words.specs.Sayings.{Saying, SaysName, SaysRelaxes, SaysPlace, SaysSize, SaysExact, SaysWhy, SaysThreads, SaysAccesses, SaysFolder, SaysCount, SaysTest, SaysExecution, Before, usage_fault, dashed_said, operand_said, relaxes_said, number_said, after_said, cycle_word_said, said_by, arch_said, mode_said, edges_said, begins_option}
 use Rattle.diy_words.specs.Gathered.{Gathered, gathered_of, last_given, name_of_saying, size_of_saying, folder_of_saying, count_of_saying, test_of_saying, execution_of_saying}
 use Rattle.diy_words.specs.SaidInOrder.{before_of, said_in, sayings, said_first, said_all}
@@ -175,7 +176,7 @@ parts_among count tool None at (word ∷ words) h =
 
 said_form : (count : ℕ) (tool : Tool) (before : Before) (part : Part) → IsAmong count part → SaysForm count (said_by tool before part)
 said_form count tool before (Alone at text) h = alone_form count tool before at text (begins_option text) h
-said_form count tool before (Valued opts.Arch at value) h = arch_form count _ (arch_named value)
+said_form count tool before (Valued opts.Arch at value) h = arch_form count _ (arch_of value)
 said_form count tool before (Valued opts.Name at value) h = name_form count _ value (is_name value) refl
 said_form count tool before (Valued opts.Obs at value) h = obs_form count at (mode_named value) before.why
 said_form count tool before (Valued opts.From at value) h = tt

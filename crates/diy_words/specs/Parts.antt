@@ -1,8 +1,6 @@
 -- The words after the tool's name: options, each with the word after it as its value, and the other words.
 use Rattle.std.specs.Prelude.{ℕ, ◌+◌, List, [], ◌∷◌, Option, Some, None, codes, if◌then◌else◌}
 use Rattle.std.specs.Str.{bytes_eq}
-use Rattle.relax_edges.specs.declared.kinds.ArchName.{ArchName}
-use Rattle.relax_edges.specs.declared.kinds.ArchName.TheVariants as archs
 use Rattle.relax_edges.specs.declared.kinds.ObsMode.{ObsMode}
 use Rattle.relax_edges.specs.declared.kinds.ObsMode.TheVariants as modes
 use Rattle.diy_words.specs.declared.options.Tool.{Tool}
@@ -37,10 +35,6 @@ options_of tools.Check = (codes "-arch", opts.Arch) ∷ []
 -- the option of a tool with this name that takes a value
 abbrev pub option_named : Tool → List ℕ → Option OptionName
 option_named tool = named (options_of tool)
-
--- the architectures by their names
-abbrev pub arch_named : List ℕ → Option ArchName
-arch_named = named ((codes "X86", archs.X86) ∷ (codes "PPC", archs.PPC) ∷ (codes "AArch64", archs.AArch64) ∷ (codes "RISCV", archs.RISCV) ∷ [])
 
 -- the observer modes by their names
 abbrev pub mode_named : List ℕ → Option ObsMode

@@ -24,7 +24,8 @@ use Rattle.diy_words.specs.declared.options.OptionName.TheVariants as opts
 use Rattle.diy_words.specs.TestNames.{is_name}
 use Rattle.diy_words.specs.NumberWords.{number_to}
 use Rattle.diy_words.specs.EdgeWords.{operand_edges}
-use Rattle.diy_words.specs.Parts.{Part, Alone, Valued, Unvalued, arch_named, mode_named}
+use Rattle.relax_edges.specs.Architectures.{arch_of}
+use Rattle.diy_words.specs.Parts.{Part, Alone, Valued, Unvalued, mode_named}
 
 -- what a word says, an option with its value; the value of `-from` and an operand of edges with their places; an operand of
 -- diycross7, the relaxations of a place of its cycles; the operand of demo, a number; an operand of classify7, which names a
@@ -151,7 +152,7 @@ operand_said tools.Check taken at text = checked_said taken at
 -- what a word says, an option with its value, or what is wrong with it, where the words before it said so much
 abbrev pub said_by : Tool → Before → Part → Result Saying Usage
 said_by tool before (Alone at text) = if begins_option text then dashed_said tool before at text else operand_said tool before.taken at text
-said_by tool before (Valued opts.Arch at value) = arch_said (at + 1) (arch_named value)
+said_by tool before (Valued opts.Arch at value) = arch_said (at + 1) (arch_of value)
 said_by tool before (Valued opts.Name at value) = name_said (at + 1) value
 said_by tool before (Valued opts.Obs at value) = obs_said before at value
 said_by tool before (Valued opts.From at value) = Ok (SaysFrom (at + 1) value)

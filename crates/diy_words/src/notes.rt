@@ -1,4 +1,5 @@
 ghost use Rattle.std.specs.Prelude.{◌≡◌, ◌<◌, ◌≤◌, ◌+◌, ◌^◌, Err};
+ghost use Rattle.relax_edges.specs.Architectures.{arch_of};
 ghost use Rattle.relax_edges.specs.Relaxations.{relaxes_of};
 ghost use Rattle.relax_edges.specs.declared.TheConstants.{MAX_EDGES};
 ghost use Rattle.edge_lists.specs.declared.read.Separators.TheVariants.{BlanksAndCommas};
@@ -9,19 +10,21 @@ ghost use Rattle.diy_words.specs.CodeNotes.{cycle_kept};
 ghost use Rattle.diy_words.specs.NumberWords.{number_to};
 ghost use Rattle.diy_words.specs.declared.options.Tool.TheVariants as tools;
 ghost use Rattle.diy_words.specs.declared.usage.UsageKind.TheVariants.{ExcludedOption};
-ghost use Rattle.diy_words.specs.Parts.{Unvalued, arch_named, mode_named};
+ghost use Rattle.diy_words.specs.Parts.{Unvalued, mode_named};
 ghost use Rattle.diy_words.specs.Notes.{before_noted, more_choices};
 ghost use Rattle.diy_words.specs.Sayings.{Before, SaysRelaxes, SaysPlace, SaysSize, SaysThreads, SaysAccesses, said_by, arch_said, name_said, mode_said, obs_said, why_said, edges_said, relaxes_said, relax_usage, number_said, after_said, folder_said, checked_said, operand_said, begins_option};
 
 use crate::name::name_of;
 use crate::number::number_to;
-use crate::options::{OptionName, Tool, arch_named, mode_named};
+use crate::options::{OptionName, Tool, mode_named};
 use crate::request::{MAX_CHOICES, MAX_FOLDER, MAX_TESTS, Source, TestName};
 use crate::usage::{Usage, UsageKind};
 use cycle_enum::Limits;
 use edge_algebra::{Cycle, cycle};
 use edge_lists::{EdgeList, Separators, read_edges};
-use relax_edges::{ArchName, Edge, MAX_EDGES, ObsMode, RelaxKind, Relaxes, read_relaxes};
+use relax_edges::{
+    ArchName, Edge, MAX_EDGES, ObsMode, RelaxKind, Relaxes, read_arch, read_relaxes,
+};
 
 /// What is noted of the words so far.
 #[derive(Drop)]
@@ -121,9 +124,9 @@ impl<'a> Notes<'a> {
     }
 
     fn take_arch(&mut self, at: usize, value: &str) -> Result<(), Usage>
-        ensures { notes_left result (code_notes self.new) ≡ notes_after (code_notes self.old) (arch_said at (arch_named value.now)) }
+        ensures { notes_left result (code_notes self.new) ≡ notes_after (code_notes self.old) (arch_said at (arch_of value.now)) }
     {
-        match arch_named(value) {
+        match read_arch(value) {
             Some(arch) => {
                 self.arch = Some(arch);
                 Ok(())

@@ -1,8 +1,8 @@
 ghost use Rattle.std.specs.Prelude.{◌≡◌};
 ghost use Rattle.diy_words.specs.declared.options.Tool.TheVariants as tools;
-ghost use Rattle.diy_words.specs.Parts.{tool_named, option_named, arch_named, mode_named};
+ghost use Rattle.diy_words.specs.Parts.{tool_named, option_named, mode_named};
 
-use relax_edges::{ArchName, ObsMode};
+use relax_edges::ObsMode;
 
 /// The tools that a first word can name.
 #[derive(Clone, Copy)]
@@ -118,19 +118,6 @@ fn norm_option(text: &str) -> Option<OptionName>
     match text {
         "-arch" => Some(OptionName::Arch),
         "-from" => Some(OptionName::From),
-        _ => None,
-    }
-}
-
-/// The architecture with this name.
-pub fn arch_named(text: &str) -> Option<ArchName>
-    ensures { result ≡ arch_named text.now }
-{
-    match text {
-        "X86" => Some(ArchName::X86),
-        "PPC" => Some(ArchName::PPC),
-        "AArch64" => Some(ArchName::AArch64),
-        "RISCV" => Some(ArchName::RISCV),
         _ => None,
     }
 }
