@@ -8,6 +8,8 @@ use Rattle.form_laws.specs.declared.kind.Kind.TheVariants as kinds
 use Rattle.form_laws.specs.declared.kind.Operand.{Operand}
 use Rattle.form_laws.specs.declared.kind.Operand.TheVariants as operands
 use Rattle.instruction_forms.specs.declared.operand_list.OperandList.{OperandList}
+use Rattle.instruction_forms.specs.declared.print.Separator.{Separator}
+use Rattle.instruction_forms.specs.declared.print.Separator.TheVariants.{Blank, Comma}
 use Rattle.instruction_forms.specs.declared.sorts.Sort.{Sort}
 use Rattle.instruction_forms.specs.declared.sorts.Sort.TheVariants as sorts
 use Rattle.form_laws.specs.Kinds.{operands_of}
@@ -22,6 +24,11 @@ listed_operands l = take l.count l.items
 -- the text of an operand
 abbrev pub piece_text : (ℕ → List ℕ) → PieceText → List Operand → List ℕ
 piece_text names p vs = p.before ++ (hole_filled names p.hole vs ++ p.after)
+
+-- the byte of a separator
+abbrev pub separator_byte : Separator → ℕ
+separator_byte Blank = 32
+separator_byte Comma = 44
 
 -- a byte before operands, if there are any
 abbrev pub byte_before : ℕ → List PieceText → List ℕ

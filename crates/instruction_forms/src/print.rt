@@ -3,7 +3,7 @@ ghost use Rattle.std.specs.List.{list_any};
 ghost use Rattle.arch_trait.specs.Writing.{written_text, name_in, place_below, label_below};
 ghost use Rattle.form_laws.specs.Tables.{piece_seen, form_seen, table_seen, does, operands_fit, fits_first, table_has, hole_filled, first_written, table_written};
 ghost use Rattle.form_laws.specs.ClearTables.{is_clear, is_form_good};
-ghost use Rattle.instruction_forms.specs.Printing.{piece_text, byte_before, joined_texts, form_text, form_op_text, place_short, op_sort, AllShort, ReadyToPrint, ReadyPiece};
+ghost use Rattle.instruction_forms.specs.Printing.{piece_text, separator_byte, byte_before, joined_texts, form_text, form_op_text, place_short, op_sort, AllShort, ReadyToPrint, ReadyPiece};
 
 use crate::fits::{after_hole, fits_first};
 use crate::operands::operands_of;
@@ -13,6 +13,13 @@ use arch_trait::{MAX_TEXT, Places};
 use arrayvec::ArrayString;
 use form_laws::{Form, Hole, Operand, Piece, Table};
 use micro_ops::Micro;
+
+/// What is put before operands.
+#[derive(Clone, Copy)]
+enum Separator {
+    Blank,
+    Comma,
+}
 
 /// Makes `out` the text of an operation, by the first form of the table that does it.
 pub fn print_by(table: &Table, op: &Micro, places: &Places, out: &mut ArrayString<MAX_TEXT>)
@@ -119,7 +126,7 @@ fn print_form(form: &Form, operands: &[Operand], places: &Places, out: &mut Text
     ensures kept { result ≡ false → out.new.bytes ≡ [] }
 {
     push_word(form.word, out);
-    push_blank(form.pieces, out);
+    push_before(Separator::Blank, form.pieces, out);
     if push_pieces(form.pieces, operands, places, out) {
         return true;
     }
@@ -140,34 +147,23 @@ fn push_pieces(pieces: &[Piece], operands: &[Operand], places: &Places, out: &mu
         if !push_piece(piece, rest, places, out) {
             return false;
         }
-        push_comma(remainder, out);
+        push_before(Separator::Comma, remainder, out);
         rest = after_hole(piece.hole, rest);
         left = remainder;
     }
     rest.is_empty()
 }
 
-/// Appends a blank before operands, if there are any.
+/// Appends a separator before operands, if there are any.
 #[inline]
-fn push_blank(pieces: &[Piece], out: &mut Text)
-    requires room { length (out.old.bytes ++ byte_before 32 (map piece_seen pieces.now)) ≤ MAX_TEXT }
-    ensures { out.new.bytes ≡ out.old.bytes ++ byte_before 32 (map piece_seen pieces.now) }
+fn push_before(separator: Separator, pieces: &[Piece], out: &mut Text)
+    requires room { length (out.old.bytes ++ byte_before (separator_byte separator) (map piece_seen pieces.now)) ≤ MAX_TEXT }
+    ensures { out.new.bytes ≡ out.old.bytes ++ byte_before (separator_byte separator) (map piece_seen pieces.now) }
 {
-    match pieces {
-        [] => {}
-        [_, ..] => out.push_str(" "),
-    }
-}
-
-/// Appends a comma before operands, if there are any.
-#[inline]
-fn push_comma(pieces: &[Piece], out: &mut Text)
-    requires room { length (out.old.bytes ++ byte_before 44 (map piece_seen pieces.now)) ≤ MAX_TEXT }
-    ensures { out.new.bytes ≡ out.old.bytes ++ byte_before 44 (map piece_seen pieces.now) }
-{
-    match pieces {
-        [] => {}
-        [_, ..] => out.push_str(","),
+    match (separator, pieces) {
+        (_, []) => {}
+        (Separator::Blank, [_, ..]) => out.push_str(" "),
+        (Separator::Comma, [_, ..]) => out.push_str(","),
     }
 }
 

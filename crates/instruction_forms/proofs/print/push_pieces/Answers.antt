@@ -13,8 +13,8 @@ pub returns-then-not-push_piece-clause-fits : goal.returns-then-not-push_piece-c
 returns-then-not-push_piece-clause-fits c =
     sym (going_stops _ _ _ _ c.loop-left.left.now _ _ c.in-len1-up.len_at_least c.loop-left.invariant (sym c.push_piece.ensures.fits ∙ c.if-not-push_piece.true))
 
-pub push_comma-requires : goal.push_comma-requires
-push_comma-requires c = record {
+pub push_before-requires : goal.push_before-requires
+push_before-requires c = record {
   room = going_comma _ _ _ _ c.loop-left.left.now _ _ _ c.in-len1-up.len_at_least c.loop-left.invariant
       (sym c.push_piece.ensures.fits ∙ c.if-not-push_piece.false) (c.push_piece.ensures.text c.if-not-push_piece.false);
 }
@@ -23,7 +23,7 @@ pub loop-left-preserved : goal.loop-left-preserved
 loop-left-preserved c =
     going_on _ _ _ _ c.loop-left.left.now _ _ _ _ _ c.in-len1-up.len_at_least c.loop-left.invariant
     (sym c.push_piece.ensures.fits ∙ c.if-not-push_piece.false) (c.push_piece.ensures.text c.if-not-push_piece.false)
-    c.push_comma.ensures c.after_hole-rest.ensures
+    c.push_before.ensures c.after_hole-rest.ensures
 
 pub returns-clause-fits : goal.returns-clause-fits
 returns-clause-fits c = c.is_empty.ensures ∙ (going_ends _ _ _ _ c.loop-left.left.now _ c.in_default.len_below c.loop-left.invariant).fit
