@@ -1,12 +1,14 @@
 -- Facts about all edges, each computed once over the list of all.
 use Rattle.std.specs.Prelude.{◌≡◌, ◌≤◌, ◌+◌, ◌==◌, ◌||◌, ℕ, Bool, true, false, not, Option, Some, None, List, [], ◌++◌, length, nat_le}
 use Rattle.std.specs.Ordering.{nat_cmp, ordering_index}
+use Rattle.std.specs.Cmp.{booleans_Decides}
 use Rattle.std.specs.Cmp.Lexicographic.{slice_cmp}
 use Rattle.std.specs.List.{list_all}
 use Rattle.std.specs.Str.{bytes_eq}
 use Rattle.std.specs.declared.cmp.Ordering.{Ordering}
 use Rattle.std.specs.declared.cmp.Ordering.TheVariants.{Less, Equal, Greater}
 use Rattle.std.proofs.Common.{refl, sym, ◌∙◌, ap, arith, length-append}
+use Rattle.std.proofs.Math.Bool.{beq}
 use Rattle.std.proofs.lemmas.Bool.{eqb-true, leb-true, not-true}
 use Rattle.std.proofs.lemmas.List.{append-nil}
 use Rattle.relax_edges.specs.declared.kinds.Dir.TheVariants as dirs
@@ -47,31 +49,19 @@ unfolding words_alike
 link_words_order a b =
     same_index _ _ (eqb-true _ _ (each_edge (words_alike a) (each_edge (λ a. list_all (words_alike a) edges_in_order) all_words_alike a) b))
 
--- two tests that agree
-agree : Bool → Bool → Bool
-agree true b = b
-agree false b = not b
-
-agreed : (a b : Bool) → agree a b ≡ true → a ≡ b
-unfolding agree
-agreed true true e = refl
-agreed true false e = cc
-agreed false true e = cc
-agreed false false e = refl
-
 -- the words of links are equal where their ranks are
 ranks_alike : Edge → Edge → Bool
-ranks_alike a b = agree (bytes_eq (link_word a) (link_word b)) (word_place a == word_place b)
+ranks_alike a b = beq (bytes_eq (link_word a) (link_word b)) (word_place a == word_place b)
 
 all_ranks_alike : list_all (λ a. list_all (ranks_alike a) edges_in_order) edges_in_order ≡ true
-unfolding edges_in_order ranks_alike agree
+unfolding edges_in_order ranks_alike
 all_ranks_alike = refl
 
 -- the words of two links are equal exactly where their places are
 pub link_words_equal : (a b : Edge) → bytes_eq (link_word a) (link_word b) ≡ (word_place a == word_place b)
 unfolding ranks_alike
 link_words_equal a b =
-    agreed _ _ (each_edge (ranks_alike a) (each_edge (λ a. list_all (ranks_alike a) edges_in_order) all_ranks_alike a) b)
+    (booleans_Decides _ _).0 (each_edge (ranks_alike a) (each_edge (λ a. list_all (ranks_alike a) edges_in_order) all_ranks_alike a) b)
 
 -- a fact that holds of an edge where a test does
 if_so : Bool → Bool → Bool
@@ -84,18 +74,18 @@ so false c h t = cc
 
 -- a slot leads to another location where the edge does, and to another thread
 pub slot_is_diff : (e : Edge) → is_diff (edge_of_slot e) ≡ is_diff e
-unfolding agree edges_in_order
-slot_is_diff e = agreed _ _ (each_edge (λ e. agree (is_diff (edge_of_slot e)) (is_diff e)) all e)
+unfolding edges_in_order
+slot_is_diff e = (booleans_Decides _ _).0 (each_edge (λ e. beq (is_diff (edge_of_slot e)) (is_diff e)) all e)
   where
-    all : list_all (λ e. agree (is_diff (edge_of_slot e)) (is_diff e)) edges_in_order ≡ true
+    all : list_all (λ e. beq (is_diff (edge_of_slot e)) (is_diff e)) edges_in_order ≡ true
     all = refl
 
 -- a slot leads to another thread where the edge does
 pub slot_is_external : (e : Edge) → is_external (edge_of_slot e) ≡ is_external e
-unfolding agree edges_in_order
-slot_is_external e = agreed _ _ (each_edge (λ e. agree (is_external (edge_of_slot e)) (is_external e)) all e)
+unfolding edges_in_order
+slot_is_external e = (booleans_Decides _ _).0 (each_edge (λ e. beq (is_external (edge_of_slot e)) (is_external e)) all e)
   where
-    all : list_all (λ e. agree (is_external (edge_of_slot e)) (is_external e)) edges_in_order ≡ true
+    all : list_all (λ e. beq (is_external (edge_of_slot e)) (is_external e)) edges_in_order ≡ true
     all = refl
 
 -- an external edge keeps the location
@@ -132,10 +122,10 @@ edge_counts e = eqb-true _ _ (each_edge (λ e. edge_count (edge_of_slot e) == ed
 
 -- whether the slot of a family's cycle is what an edge joins
 slot_agrees : Slot → Edge → Bool
-slot_agrees slot e = agree (is_kind_slot slot (kind_of e)) (rank_of (edge_of_slot e) == rank_of (slot_edge slot))
+slot_agrees slot e = beq (is_kind_slot slot (kind_of e)) (rank_of (edge_of_slot e) == rank_of (slot_edge slot))
 
 all_slots_agree : (slot : Slot) → list_all (slot_agrees slot) edges_in_order ≡ true
-unfolding slot_agrees agree rank_of edges_in_order
+unfolding slot_agrees rank_of edges_in_order
 all_slots_agree (slots.External coms.Rf) = refl
 all_slots_agree (slots.External coms.Fr) = refl
 all_slots_agree (slots.External coms.Ws) = refl
@@ -147,7 +137,7 @@ all_slots_agree (slots.Link dirs.W dirs.W) = refl
 -- an edge's kind belongs to a slot where the edge's own slot has the same rank
 pub slot_is_of : (slot : Slot) (e : Edge) → is_kind_slot slot (kind_of e) ≡ (rank_of (edge_of_slot e) == rank_of (slot_edge slot))
 unfolding slot_agrees
-slot_is_of slot e = agreed _ _ (each_edge (slot_agrees slot) (all_slots_agree slot) e)
+slot_is_of slot e = (booleans_Decides _ _).0 (each_edge (slot_agrees slot) (all_slots_agree slot) e)
 
 -- a link is the one that joins what it joins, with its word
 is_the : Edge → Option Edge → Bool
