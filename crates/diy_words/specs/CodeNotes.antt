@@ -1,4 +1,4 @@
--- For private functions of the code alone: how what they note stands for `Notes`, and what each call leaves of them.
+-- For private functions of the code alone: how what they note is one of `Notes`, and what each call leaves of them.
 use Rattle.std.specs.Prelude.{ℕ, ◌≡◌, ◌<◌, nat_lt, List, [], ◌∷◌, drop, slice_get, Option, Some, None, Result, Ok, Err}
 use Rattle.std.specs.Option.{option_map}
 use Rattle.std.specs.Result.{result_ok}
@@ -87,8 +87,7 @@ Steps tool words at old new (Ok next) =
     (at < next) × (notes_at_end tool words next new ≡ notes_at_end tool words at old)
 Steps tool words at old new (Err usage) = Err usage ≡ notes_at_end tool words at old
 
--- a call gives the request that is asked for by what is gathered, of which these are the notes, whatever the edges, places and
--- files of which they are the notes
+-- a call gives the request that is asked for by what is gathered, whichever edges, places and files are gathered with these notes
 abbrev pub GivesFrom : (Gathered → Result Task Usage) → Notes → Result Request Usage → Type 0
 GivesFrom asked notes result =
     (edges : List Edge) (places : List (List (List Edge))) (files : List ℕ) → notes.edges ≡ kept_edges edges

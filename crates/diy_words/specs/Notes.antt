@@ -1,4 +1,4 @@
--- For private functions of the code alone: what they note of the words so far, word by word, and how it stands for what the
+-- For private functions of the code alone: what they note of the words so far, word by word, and how it holds what the
 -- words said. What words ask for is defined without it.
 use Rattle.std.specs.Prelude.{ℕ, ◌+◌, ◌*◌, Bool, true, false, min, List, [], ◌∷◌, length, Option, Some, None, is_some, Result, Ok, Err}
 use Rattle.std.specs.Option.{option_or}
