@@ -9,15 +9,17 @@ ghost use Rattle.listed_tests.specs.Plans.{test_files_of};
 ghost use Rattle.listed_tests.specs.Putting.{PutFiles, PutPart};
 
 use crate::ending::ListingEnd;
-use crate::files::{MAX_FOLDER, path_of};
+use crate::files::{MAX_FOLDER, Path, path_of};
 use crate::listing::{put_test, write_count};
 use crate::making::Desk;
 use crate::names::{Lines, MAX_LINE, file_of, push_line};
 use crate::wanted::Wanted;
-use arch_trait::Arch;
-use diy_io::{Failed, Shelf, Sink};
+use arch_trait::{Arch, Places};
+use arrayvec::{ArrayString, ArrayVec};
+use diy_io::{Failed, Page, Shelf, Sink};
 use edge_algebra::Cycle;
-use litmus_text::Test;
+use final_cond::Cond;
+use litmus_text::{KeptTable, Test};
 use relax_edges::{MAX_EDGES, ObsMode};
 
 /// Writes a file for each of some cycles, in their order, then the file `@all` that names them, and
@@ -71,7 +73,14 @@ fn put_given<A: Arch, H: Shelf>(
     ensures ok { OnOk result (PutFiles (H.seen shelf.old) (H.seen shelf.new) (given_files_of A.puts A.writing wanted.now cycles.now)) }
     ensures failed { OnErr result (PutUpTo (H.seen shelf.old) (H.seen shelf.new) (given_files_of A.puts A.writing wanted.now cycles.now)) }
 {
-    put_tests_of::<A, H>(wanted, cycles, &mut Test::new(), shelf)?;
+    // It is written out here, and not made by a call of `Test::new`, for the reason that `Desk` gives.
+    let mut test = Test {
+        edges: ArrayVec::new(),
+        places: Places::new(),
+        threads: ArrayVec::new(),
+        cond: Cond::default(),
+    };
+    put_tests_of::<A, H>(wanted, cycles, &mut test, shelf)?;
     let path = path_of(wanted.folder, "@all");
     put_names_of(path.as_str(), cycles, shelf)
 }
@@ -90,7 +99,12 @@ fn put_tests_of<A: Arch, H: Shelf>(
     ensures ok { OnOk result (PutFiles (H.seen shelf.old) (H.seen shelf.new) (test_files_of A.puts A.writing wanted.now cycles.now)) }
     ensures failed { OnErr result (PutUpTo (H.seen shelf.old) (H.seen shelf.new) (test_files_of A.puts A.writing wanted.now cycles.now)) }
 {
-    let mut desk = Desk::new();
+    let mut desk = Desk {
+        name: ArrayString::new(),
+        path: Path::new(),
+        table: KeptTable::new(),
+        page: Page::new(),
+    };
     let mut number: u128 = 0;
     for cycle in cycles {
         put_test::<A, H>(wanted, cycle, number, test, &mut desk, shelf)?;

@@ -17,17 +17,18 @@ ghost use Rattle.listed_tests.specs.Putting.{PutFiles, FailsAt};
 ghost use Rattle.listed_tests.specs.Ready.{IsReady};
 
 use crate::ending::ListingEnd;
-use crate::files::{FileName, MAX_FOLDER, file_named, set_path};
+use crate::files::{FileName, MAX_FOLDER, Path, file_named, set_path};
 use crate::making::{Desk, make_test};
 use crate::names::{Names, put_names};
 use crate::putting::put_text;
 use crate::wanted::Wanted;
-use arch_trait::Arch;
-use arrayvec::ArrayString;
+use arch_trait::{Arch, Places};
+use arrayvec::{ArrayString, ArrayVec};
 use cycle_enum::{Limits, Walk};
 use cycle_names::name_of;
-use diy_io::{Failed, Shelf, Sink};
+use diy_io::{Failed, Page, Shelf, Sink};
 use edge_algebra::Cycle;
+use final_cond::Cond;
 use itoa::Buffer;
 use litmus_text::{KeptTable, Test};
 use relax_edges::{Edge, ObsMode, Relaxes};
@@ -105,7 +106,13 @@ pub fn list_tests<A: Arch, H: Shelf, O: Sink>(
     { wanted.seeks::<A>(cycle) };
     let mut walk = Walk::new(relaxes, limits, keep, fit, take);
     begin_after(&mut walk, &after);
-    let mut test = Test::new();
+    // It is written out here, and not made by a call of `Test::new`, for the reason that `Desk` gives.
+    let mut test = Test {
+        edges: ArrayVec::new(),
+        places: Places::new(),
+        threads: ArrayVec::new(),
+        cond: Cond::default(),
+    };
     list_walk::<A, H, O, _, _, _>(&wanted, &mut walk, &mut test, shelf, out)
 }
 
@@ -186,7 +193,12 @@ fn put_tests<
     ensures failed { OnErr result (StopsPutting A.puts A.writing wanted.now (Lists P.Fn.post walk.old) walk.old.last (H.seen shelf.old) (H.seen shelf.new)) }
     ensures walk { walk.new ≡ record walk.old { last = walk.new.last } }
 {
-    let mut desk = Desk::new();
+    let mut desk = Desk {
+        name: ArrayString::new(),
+        path: Path::new(),
+        table: KeptTable::new(),
+        page: Page::new(),
+    };
     let mut count: u128 = 0;
     while let Some(cycle) = next_made::<A, K, J, P>(walk, wanted.mode, test, &mut desk.table) {
         let file = put_made::<A, H>(wanted, &cycle, count, test, &mut desk, shelf)?;
