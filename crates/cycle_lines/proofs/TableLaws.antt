@@ -1,15 +1,11 @@
 -- The names of cycles by their families, as they are kept and written.
 use Rattle.std.proofs.Common.{◌≡◌, ◌≤◌, ◌<◌, ◌+◌, ℕ, zero, suc, List, [], ◌∷◌, ◌++◌, length, take, get_or, Option, None, Ok, Err, true, false, refl, sym, ap, inl, inr, ◌∙◌, subst, arith, append-nil, append_assoc}
-use Rattle.std.specs.Prelude.{cond, map, filter, fold, codes, Result, OnOk, IsTrue, ◌↔◌, slice_set}
+use Rattle.std.specs.Prelude.{cond, map, filter, fold, codes, Result, OnOk, String, IsTrue, ◌↔◌, slice_set}
 use Rattle.std.specs.List.{flat_map}
 use Rattle.std.specs.Result.{IsErrAnd}
-use Rattle.std.specs.Ordering.{nat_cmp, match_ordering}
-use Rattle.std.specs.declared.cmp.Ordering.{Ordering}
-use Rattle.std.specs.declared.cmp.Ordering.TheVariants.{Less, Equal, Greater}
-use Rattle.std.specs.Cmp.Lexicographic.{slice_cmp}
-use Rattle.std.specs.BTreeSet.{BTreeSet, btree_set_len, insert_key}
+use Rattle.std.specs.BTreeSet.{BTreeSet, btree_set_len}
 use Rattle.std.specs.Borrow.{Bor}
-use Rattle.std.specs.declared.vec.Vec.{Vec}
+use Rattle.std.specs.String.{string_bytes}
 use Rattle.std.specs.declared.alloc.Global.{Global}
 use Rattle.std.proofs.lemmas.List.Elements.{filter-append}
 use Rattle.std.proofs.lemmas.List.Sums.{fold-append}
@@ -30,10 +26,11 @@ use Rattle.cycle_names.specs.declared.family.Family.TheVariants as families
 use Rattle.cycle_names.specs.Families.{family_word}
 use Rattle.cycle_names.specs.CycleNames.{name_of}
 use Rattle.cycle_names.specs.Rotations.{family_of}
-use Rattle.cycle_lines.specs.declared.table.FamilyNames.{FamilyNames}
+use Rattle.cycle_lines.specs.declared.names.FamilyNames.{FamilyNames}
 use Rattle.cycle_lines.specs.LineReading.{ReadAll}
 use Rattle.cycle_lines.specs.Classified.{families_in_order, is_family, with_cycle_name, family_names, name_entry, family_text, families_text, ReadsPart, ClassifiedAll, ClassifiedPart}
-use Rattle.cycle_lines.specs.FamilyTables.{place_of_family, names_in_set, FamilyEntry, family_view, entry_text, family_table, HoldsCycles, entry_with, name_entered, AddsCycle, AddsLast, GatheredFamilies}
+use Rattle.cycle_lines.specs.FamilyTables.{place_of_family, FamilyEntry, family_view, entry_text, family_table, HoldsCycles, entry_with, name_entered, AddsCycle, AddsLast, GatheredFamilies}
+use Rattle.cycle_lines.specs.KeptNames.{names_in_set}
 use Rattle.cycle_lines.specs.LineSteps.{ReaderSeen, HasRead, last_cycle}
 use Rattle.cycle_lines.proofs.ReadLaws.{nothing_read, kept_same}
 
@@ -82,25 +79,6 @@ pub adds_cycle : (old new : List FamilyNames) (c : List Edge) (place : ℕ) (nam
 adds_cycle old new c place name e f h = λ cycles holds.
     h ∙ ap (λ table. name_entered place name table) holds ∙ ap (λ p. name_entered p name (family_table cycles)) e ∙ ap (λ n. name_entered (place_of_family (family_of c)) n (family_table cycles)) f ∙ table_more cycles c
 
--- a set to which a text is added
-shown_insert : (cmp : Vec ℕ Global → Vec ℕ Global → Ordering) → ((x y : Vec ℕ Global) → cmp x y ≡ slice_cmp nat_cmp x.items y.items) → (keys : List (Vec ℕ Global)) (key : Vec ℕ Global)
-    → map (λ text. text.items) (insert_key cmp keys key) ≡ insert_key (slice_cmp nat_cmp) (map (λ text. text.items) keys) key.items
-shown_insert cmp same [] key = refl
-shown_insert cmp same (x ∷ keys) key =
-    rw (same key x) (by_ordering (shown_insert cmp same keys key) (slice_cmp nat_cmp key.items x.items))
-  where
-    by_ordering : map (λ text. text.items) (insert_key cmp keys key) ≡ insert_key (slice_cmp nat_cmp) (map (λ text. text.items) keys) key.items → (o : Ordering)
-        → map (λ (text : Vec ℕ Global). text.items) (match_ordering o (key ∷ x ∷ keys) (x ∷ keys) (x ∷ insert_key cmp keys key))
-        ≡ match_ordering o (key.items ∷ x.items ∷ map (λ text. text.items) keys) (x.items ∷ map (λ text. text.items) keys) (x.items ∷ insert_key (slice_cmp nat_cmp) (map (λ text. text.items) keys) key.items)
-    by_ordering further Less = refl
-    by_ordering further Equal = refl
-    by_ordering further Greater = ap (λ t. x.items ∷ t) further
-
--- the texts of a set into which a key was inserted are the old ones with that text
-pub set_shown : (old new : BTreeSet (Vec ℕ Global)) (cmp : Vec ℕ Global → Vec ℕ Global → Ordering) (key : Vec ℕ Global) → ((x y : Vec ℕ Global) → cmp x y ≡ slice_cmp nat_cmp x.items y.items) →
-    new.keys ≡ insert_key cmp old.keys key → names_in_set new ≡ with_cycle_name (names_in_set old) key.items
-set_shown old new cmp key same e = ap (map (λ text. text.items)) e ∙ shown_insert cmp same old.keys key
-
 -- a table to which a name is added
 put_entry : (old new : FamilyNames) (name : List ℕ) → new.family ≡ old.family → names_in_set new.names ≡ with_cycle_name (names_in_set old.names) name → ◌≡◌ {A = FamilyEntry} (family_view new) (entry_with name (family_view old))
 put_entry old new name e f = rw (e, f) refl
@@ -139,41 +117,41 @@ names_then : (names : List (List ℕ)) (name : List ℕ) → flat_map name_entry
 names_then names name = flat_map-append name_entry names (name ∷ []) ∙ ap (λ t. flat_map name_entry names ++ t) (append-nil (name_entry name))
 
 -- one more name is sent after the names so far
-pub names_go : (a b c : SinkSeen) (held mid kept : List ℕ) (ys : List (Bor (Vec ℕ Global))) (x : Bor (Vec ℕ Global)) (text : List ℕ) → text ≡ x.now.items
-    → SentAll a held b mid (flat_map name_entry (map (λ name. name.now.items) ys)) → SentAll b mid c kept (name_entry text)
-    → SentAll a held c kept (flat_map name_entry (map (λ name. name.now.items) (ys ++ x ∷ [])))
+pub names_go : (a b c : SinkSeen) (held mid kept : List ℕ) (ys : List (Bor (String Global))) (x : Bor (String Global)) (text : List ℕ) → text ≡ (string_bytes x.now)
+    → SentAll a held b mid (flat_map name_entry (map (λ name. string_bytes name.now) ys)) → SentAll b mid c kept (name_entry text)
+    → SentAll a held c kept (flat_map name_entry (map (λ name. string_bytes name.now) (ys ++ x ∷ [])))
 names_go a b c held mid kept ys x text e h k =
-    let shown = map (λ (name : Bor (Vec ℕ Global)). name.now.items) ys in
-    subst (SentAll a held c kept) (sym (ap (flat_map name_entry) (map_push (λ (name : Bor (Vec ℕ Global)). name.now.items) ys x) ∙ names_then shown x.now.items))
-    (sent_both a b c held mid kept (flat_map name_entry shown) (name_entry x.now.items) h (entry_as b c mid kept text x.now.items e k))
+    let shown = map (λ (name : Bor (String Global)). string_bytes name.now) ys in
+    subst (SentAll a held c kept) (sym (ap (flat_map name_entry) (map_push (λ (name : Bor (String Global)). string_bytes name.now) ys x) ∙ names_then shown (string_bytes x.now)))
+    (sent_both a b c held mid kept (flat_map name_entry shown) (name_entry (string_bytes x.now)) h (entry_as b c mid kept text (string_bytes x.now) e k))
 
 -- the names that were passed, with one more, and those that are left are all names
-pub names_cover : (ys : List (Bor (Vec ℕ Global))) (it rest : List (Vec ℕ Global)) (x : Bor (Vec ℕ Global)) (all : List (List ℕ)) → it ≡ x.now ∷ rest →
-    map (λ name. name.now.items) ys ++ map (λ name. name.items) it ≡ all → map (λ name. name.now.items) (ys ++ x ∷ []) ++ map (λ name. name.items) rest ≡ all
+pub names_cover : (ys : List (Bor (String Global))) (it rest : List (String Global)) (x : Bor (String Global)) (all : List (List ℕ)) → it ≡ x.now ∷ rest →
+    map (λ name. string_bytes name.now) ys ++ map (λ name. string_bytes name) it ≡ all → map (λ name. string_bytes name.now) (ys ++ x ∷ []) ++ map (λ name. string_bytes name) rest ≡ all
 names_cover ys it rest x all h k =
-    let f = λ (name : Bor (Vec ℕ Global)). name.now.items in
-    let g = λ (name : Vec ℕ Global). name.items in
+    let f = λ (name : Bor (String Global)). string_bytes name.now in
+    let g = λ (name : String Global). string_bytes name in
     ap (λ t. t ++ map g rest) (map_push f ys x) ∙ append_assoc (map f ys) (f x ∷ []) (map g rest) ∙ ap (λ t. map f ys ++ map g t) (sym h) ∙ k
 
 -- where the sink fails at a name, it has taken a prefix of what the page held and the lines of all names
-pub names_stop : (a b c : SinkSeen) (held mid : List ℕ) (ys : List (Bor (Vec ℕ Global))) (it rest : List (Vec ℕ Global)) (x : Bor (Vec ℕ Global)) (text : List ℕ) (all : List (List ℕ))
-    → text ≡ x.now.items → it ≡ x.now ∷ rest → map (λ name. name.now.items) ys ++ map (λ name. name.items) it ≡ all
-    → SentAll a held b mid (flat_map name_entry (map (λ name. name.now.items) ys)) → WrotePart b c (mid ++ name_entry text) → WrotePart a c (held ++ flat_map name_entry all)
+pub names_stop : (a b c : SinkSeen) (held mid : List ℕ) (ys : List (Bor (String Global))) (it rest : List (String Global)) (x : Bor (String Global)) (text : List ℕ) (all : List (List ℕ))
+    → text ≡ (string_bytes x.now) → it ≡ x.now ∷ rest → map (λ name. string_bytes name.now) ys ++ map (λ name. string_bytes name) it ≡ all
+    → SentAll a held b mid (flat_map name_entry (map (λ name. string_bytes name.now) ys)) → WrotePart b c (mid ++ name_entry text) → WrotePart a c (held ++ flat_map name_entry all)
 names_stop a b c held mid ys it rest x text all e h k w p =
-    let shown = map (λ (name : Bor (Vec ℕ Global)). name.now.items) ys in
-    let left = map (λ (name : Vec ℕ Global). name.items) rest in
+    let shown = map (λ (name : Bor (String Global)). string_bytes name.now) ys in
+    let left = map (λ (name : String Global). string_bytes name) rest in
     let here = subst (λ t. WrotePart b c (mid ++ name_entry t)) e p in
     let part =
-    sent_part_more a c held (flat_map name_entry shown ++ name_entry x.now.items) (flat_map name_entry left)
-    (sent_part a b c held mid (flat_map name_entry shown) (name_entry x.now.items) w here) in
+    sent_part_more a c held (flat_map name_entry shown ++ name_entry (string_bytes x.now)) (flat_map name_entry left)
+    (sent_part a b c held mid (flat_map name_entry shown) (name_entry (string_bytes x.now)) w here) in
     subst (λ t. WrotePart a c (held ++ t))
-    (ap (λ t. t ++ flat_map name_entry left) (sym (names_then shown x.now.items) ∙ ap (flat_map name_entry) (sym (map_push (λ (name : Bor (Vec ℕ Global)). name.now.items) ys x)))
-    ∙ sym (flat_map-append name_entry (map (λ (name : Bor (Vec ℕ Global)). name.now.items) (ys ++ x ∷ [])) left) ∙ ap (flat_map name_entry) (names_cover ys it rest x all h k))
+    (ap (λ t. t ++ flat_map name_entry left) (sym (names_then shown (string_bytes x.now)) ∙ ap (flat_map name_entry) (sym (map_push (λ (name : Bor (String Global)). string_bytes name.now) ys x)))
+    ∙ sym (flat_map-append name_entry (map (λ (name : Bor (String Global)). string_bytes name.now) (ys ++ x ∷ [])) left) ∙ ap (flat_map name_entry) (names_cover ys it rest x all h k))
     part
 
-pub names_done : (ys : List (Bor (Vec ℕ Global))) (it : List (Vec ℕ Global)) (all : List (List ℕ)) → it ≡ [] → map (λ name. name.now.items) ys ++ map (λ name. name.items) it ≡ all → map (λ name. name.now.items) ys ≡ all
+pub names_done : (ys : List (Bor (String Global))) (it : List (String Global)) (all : List (List ℕ)) → it ≡ [] → map (λ name. string_bytes name.now) ys ++ map (λ name. string_bytes name) it ≡ all → map (λ name. string_bytes name.now) ys ≡ all
 names_done ys it all e k =
-    sym (append-nil (map (λ name. name.now.items) ys)) ∙ ap (λ t. map (λ (name : Bor (Vec ℕ Global)). name.now.items) ys ++ map (λ (name : Vec ℕ Global). name.items) t) (sym e) ∙ k
+    sym (append-nil (map (λ name. string_bytes name.now) ys)) ∙ ap (λ t. map (λ (name : Bor (String Global)). string_bytes name.now) ys ++ map (λ (name : String Global). string_bytes name) t) (sym e) ∙ k
 
 -- the lines of families one after another
 pub each_entry : (a b c : SinkSeen) (held mid kept : List ℕ) (table : List FamilyNames) (i : ℕ) (entry : FamilyNames) → i < length table → entry ≡ get_or table i entry
@@ -201,15 +179,15 @@ unfolding family_text
 some_text f [] h = absurd (omega arith)
 some_text f (n ∷ names) h = refl
 
-texts_length : (set : BTreeSet (Vec ℕ Global)) → length (names_in_set set) ≡ btree_set_len set
-texts_length set = length-map set.keys (λ text. text.items)
+texts_length : (set : BTreeSet (String Global)) → length (names_in_set set) ≡ btree_set_len set
+texts_length set = length-map set.keys (λ text. string_bytes text)
 
 -- a set of length 0 holds no text
-pub empty_set : (set : BTreeSet (Vec ℕ Global)) → IsTrue true ↔ (btree_set_len set ≡ 0) → length (names_in_set set) ≡ 0
+pub empty_set : (set : BTreeSet (String Global)) → IsTrue true ↔ (btree_set_len set ≡ 0) → length (names_in_set set) ≡ 0
 empty_set set h = texts_length set ∙ h.0 refl
 
 -- a set of another length holds a text
-pub some_set : (set : BTreeSet (Vec ℕ Global)) → IsTrue false ↔ (btree_set_len set ≡ 0) → 0 < length (names_in_set set)
+pub some_set : (set : BTreeSet (String Global)) → IsTrue false ↔ (btree_set_len set ≡ 0) → 0 < length (names_in_set set)
 some_set set h = by_length (length (names_in_set set)) refl
   where
     by_length : (n : ℕ) → length (names_in_set set) ≡ n → 0 < length (names_in_set set)

@@ -1,8 +1,5 @@
 -- The names of cycles by their families, as they are kept.
 use Rattle.std.specs.Prelude.{◌≡◌, ℕ, List, [], ◌∷◌, ◌++◌, map, slice_set, slice_index_or, Option, Result, Ok, Err}
-use Rattle.std.specs.BTreeSet.{BTreeSet}
-use Rattle.std.specs.declared.vec.Vec.{Vec}
-use Rattle.std.specs.declared.alloc.Global.{Global}
 use Rattle.diy_io.specs.Taken.{SourceSeen}
 use Rattle.relax_edges.specs.declared.kinds.ArchName.{ArchName}
 use Rattle.relax_edges.specs.declared.edge.Edge.{Edge}
@@ -10,7 +7,8 @@ use Rattle.cycle_names.specs.declared.family.Family.{Family}
 use Rattle.cycle_names.specs.declared.family.Family.TheVariants as families
 use Rattle.cycle_lines.specs.declared.errors.ClassifyError.{ClassifyError}
 use Rattle.cycle_lines.specs.declared.errors.ClassifyError.TheVariants.{Lines, OutFault, NoMemory}
-use Rattle.cycle_lines.specs.declared.table.FamilyNames.{FamilyNames}
+use Rattle.cycle_lines.specs.declared.names.FamilyNames.{FamilyNames}
+use Rattle.cycle_lines.specs.KeptNames.{names_in_set}
 use Rattle.cycle_lines.specs.LineReading.{ReadAll}
 use Rattle.cycle_lines.specs.LineSteps.{last_cycle}
 use Rattle.cycle_lines.specs.Classified.{families_in_order, family_names, family_text, with_cycle_name, ReadsUpTo, ReadsPart}
@@ -32,10 +30,6 @@ place_of_family families.SB3 = 11
 place_of_family families.LB3 = 12
 place_of_family families.W3 = 13
 place_of_family families.Other = 14
-
--- the texts of a set
-abbrev pub names_in_set : BTreeSet (Vec ℕ Global) → List (List ℕ)
-names_in_set set = map (λ text. text.items) set.keys
 
 -- a family and the names that are kept of it
 abbrev pub FamilyEntry : Type 0

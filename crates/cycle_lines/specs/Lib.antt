@@ -5,4 +5,5 @@ pub mod Normed
 pub mod KeptLines
 pub mod LineSteps
 pub mod Classified
+pub mod KeptNames
 pub mod FamilyTables

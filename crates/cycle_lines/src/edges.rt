@@ -1,11 +1,13 @@
-ghost use Rattle.std.specs.Prelude.{◌≡◌, option_map};
-ghost use Rattle.edge_algebra.specs.Compose.{composed};
+ghost use Rattle.std.specs.Prelude.{◌≡◌, [], ◌∷◌, ◌++◌, Some, option_map};
+ghost use Rattle.relax_edges.specs.EdgeTable.{joins_to};
+ghost use Rattle.relax_edges.specs.JoinedEdges.{is_joined};
+ghost use Rattle.cycle_laws.specs.Composable.{IsCycle};
 ghost use Rattle.cycle_names.specs.Laws.{are_of_arch};
-ghost use Rattle.cycle_lines.specs.Cycles.{text_edges, spelled_made, cycle_made, composed_or, cycle_spelled, quoted_cycle};
+ghost use Rattle.cycle_lines.specs.Cycles.{text_edges, spelled_made, cycle_made, cycle_spelled, quoted_cycle};
 ghost use Rattle.cycle_lines.specs.KeptLines.{made_kept, said_with};
 
 use crate::errors::LineKind;
-use edge_algebra::{Cycle, cycle};
+use edge_algebra::Cycle;
 use edge_lists::{EdgeList, Separators, read_edges};
 use relax_edges::{ArchName, Edge, MAX_EDGES, UnknownEdge};
 
@@ -62,19 +64,24 @@ fn make_of(arch: ArchName, edges: &EdgeList, cycle: &mut Option<Cycle>) -> Resul
     }
 }
 
+#[tactic(auto, using(crate::proofs::Joined::joined_cycle, crate::proofs::Joined::made_of_joined, crate::proofs::Joined::made_of_unjoined))]
 fn make_cycle(arch: ArchName, edges: &[Edge], cycle: &mut Option<Cycle>) -> Result<(), LineKind>
     ensures { said_with result cycle.new ≡ cycle_made arch edges.now }
 {
-    if edges.is_empty() {
+    let Some(first) = edges.first() else {
         return Err(LineKind::Empty);
-    }
+    };
     if edges.len() > MAX_EDGES {
         return Err(LineKind::TooLong);
     }
     if !are_of_arch(arch, edges) {
         return Err(LineKind::NotOfArch);
     }
-    compose(edges, cycle)
+    if !are_joined(edges, first) {
+        return Err(LineKind::DoesNotCompose);
+    }
+    keep(edges, cycle);
+    Ok(())
 }
 
 fn are_of_arch(arch: ArchName, edges: &[Edge]) -> bool
@@ -83,14 +90,32 @@ fn are_of_arch(arch: ArchName, edges: &[Edge]) -> bool
     edges.iter().all(|edge| edge.of_arch(arch))
 }
 
-fn compose(edges: &[Edge], place: &mut Option<Cycle>) -> Result<(), LineKind>
-    ensures { said_with result place.new ≡ composed_or (composed edges.now) }
+/// Whether each edge joins the next one, where `next` comes after the last.
+fn are_joined(edges: &[Edge], next: &Edge) -> bool
+    ensures { result ≡ is_joined (edges.now ++ next.now ∷ []) }
 {
-    match cycle(edges) {
-        Ok(cycle) => {
-            *place = Some(cycle);
-            Ok(())
-        }
-        Err(_) => Err(LineKind::DoesNotCompose),
+    match edges {
+        [] => true,
+        [edge, rest @ ..] => { joins(edge, rest.first().unwrap_or(next)) && are_joined(rest, next) }
     }
+}
+
+/// Whether an edge joins the next one. Edges without marks, which are met most often, are read where
+/// they are, which `Edge::joins` doesn't do.
+fn joins(edge: &Edge, next: &Edge) -> bool
+    ensures { result ≡ joins_to edge.now next.now }
+{
+    match (*edge, *next) {
+        (Edge::Marked(_), _) | (_, Edge::Marked(_)) => edge.joins(*next),
+        _ => edge.target() == next.source(),
+    }
+}
+
+/// Makes `cycle` the one of edges that are known to make one. It is apart so that the edges are copied
+/// straight to their place.
+fn keep(edges: &[Edge], cycle: &mut Option<Cycle>)
+    requires { IsCycle edges.now }
+    ensures { cycle.new ≡ Some edges.now }
+{
+    *cycle = Some(Cycle::of(edges));
 }

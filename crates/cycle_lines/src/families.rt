@@ -4,7 +4,8 @@ ghost use Rattle.relax_edges.specs.declared.edge.Edge.{Edge};
 ghost use Rattle.cycle_lines.specs.Classified.{families_text};
 ghost use Rattle.cycle_lines.specs.FamilyTables.{HoldsCycles};
 
-use crate::table::{FamilyNames, no_names, put_cycle, write_families};
+use crate::names::FamilyNames;
+use crate::table::{no_names, put_cycle, write_families};
 use arrayvec::ArrayString;
 use cycle_names::MAX_NAME;
 use diy_io::{Failed, NoMemory, Sink};

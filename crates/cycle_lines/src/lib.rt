@@ -6,6 +6,7 @@ mod edges;
 mod errors;
 mod families;
 mod line;
+mod names;
 mod norm;
 mod reader;
 mod table;

@@ -4,8 +4,10 @@ ghost use Rattle.diy_io.specs.Page.{Sends};
 ghost use Rattle.diy_io.specs.Wrote.{Wrote};
 ghost use Rattle.cycle_names.specs.Families.{family_word};
 ghost use Rattle.cycle_lines.specs.Classified.{name_entry};
-ghost use Rattle.cycle_lines.specs.FamilyTables.{place_of_family, names_in_set, family_view, entry_text, HoldsCycles, AddsCycle, name_entered};
+ghost use Rattle.cycle_lines.specs.KeptNames.{names_in_set};
+ghost use Rattle.cycle_lines.specs.FamilyTables.{place_of_family, family_view, entry_text, HoldsCycles, AddsCycle, name_entered};
 
+use crate::names::FamilyNames;
 use arrayvec::ArrayString;
 use cycle_names::{Family, MAX_NAME, name_and_family};
 use diy_io::{Failed, NoMemory, Page, Sink};
@@ -31,13 +33,6 @@ const FAMILIES: [Family; 15] = [
     Family::W3,
     Family::Other,
 ];
-
-/// The names of the cycles of a family, each once, in byte order.
-#[derive(Drop)]
-pub(crate) struct FamilyNames {
-    pub(crate) family: Family,
-    pub(crate) names: BTreeSet<Vec<u8>>,
-}
 
 /// The place of a family in the table.
 fn place_of(family: Family) -> usize
@@ -70,10 +65,7 @@ pub(crate) fn no_names(alloc: Global) -> Result<Vec<FamilyNames>, NoMemory>
 {
     let mut table = Vec::new(alloc);
     for family in &FAMILIES {
-        table.push(FamilyNames {
-            family: *family,
-            names: BTreeSet::new(alloc),
-        })?;
+        table.push(FamilyNames::new(alloc, *family))?;
     }
     Ok(table)
 }
@@ -89,17 +81,21 @@ pub(crate) fn put_cycle(
     ensures whole { length table.new.items ≡ 15 }
 {
     let family = name_and_family(cycle, text);
-    let name = Vec::from_slice(*table.allocator(), text.as_str().as_bytes())?;
-    put_name(table, place_of(family), name)
+    let alloc = *table.allocator();
+    put_name(table, place_of(family), alloc, text.as_str())
 }
 
-fn put_name(table: &mut Vec<FamilyNames>, place: usize, name: Vec<u8>) -> Result<(), NoMemory>
+fn put_name(
+    table: &mut Vec<FamilyNames>,
+    place: usize,
+    alloc: Global,
+    name: &str,
+) -> Result<(), NoMemory>
     requires { place < length table.old.items }
-    ensures put { OnOk result (map family_view table.new.items ≡ name_entered place name.items (map family_view table.old.items)) }
+    ensures put { OnOk result (map family_view table.new.items ≡ name_entered place name.now (map family_view table.old.items)) }
     ensures whole { length table.new.items ≡ length table.old.items }
 {
-    table[place].names.insert(name)?;
-    Ok(())
+    table[place].put(alloc, name)
 }
 
 /// Writes the lines of the families that have a name. Where the sink fails, it has taken a prefix of
@@ -137,21 +133,17 @@ fn send_title<O: Sink>(family: Family, page: &mut Page, out: &mut O) -> Result<(
     page.send_pieces(&[family.word().as_bytes(), b":\n"], out)
 }
 
-fn send_names<O: Sink>(
-    names: &BTreeSet<Vec<u8>>,
-    page: &mut Page,
-    out: &mut O,
-) -> Result<(), Failed>
+fn send_names<O: Sink>(names: &BTreeSet<String>, page: &mut Page, out: &mut O) -> Result<(), Failed>
     ensures { Sends (O.seen out.old) page.old (O.seen out.new) page.new (flat_map name_entry (names_in_set names.now)) result }
 {
     for name in names {
-        send_name(name.as_slice(), page, out)?;
+        send_name(name.as_str(), page, out)?;
     }
     Ok(())
 }
 
-fn send_name<O: Sink>(name: &[u8], page: &mut Page, out: &mut O) -> Result<(), Failed>
+fn send_name<O: Sink>(name: &str, page: &mut Page, out: &mut O) -> Result<(), Failed>
     ensures { Sends (O.seen out.old) page.old (O.seen out.new) page.new (name_entry name.now) result }
 {
-    page.send_pieces(&[b"  ", name, b"\n"], out)
+    page.send_pieces(&[b"  ", name.as_bytes(), b"\n"], out)
 }

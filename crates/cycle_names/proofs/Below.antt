@@ -9,11 +9,12 @@ use Rattle.cycle_names.specs.Rotations.{least_of}
 use Rattle.cycle_names.proofs.Members.{Member, any_of_member, any_none, found_passes, found_among, find_only}
 
 -- the ranks of two lists, at the first place where they differ
-data Below (x y : ℕ) (u v : List ℕ) : Type 0 where
+pub data Below (x y : ℕ) (u v : List ℕ) : Type 0 where
   less : x < y → Below x y u v
   same : x ≡ y → ranks_below u v ≡ true → Below x y u v
 
-below_parts : (x y : ℕ) (u v : List ℕ) → ranks_below (x ∷ u) (y ∷ v) ≡ true → Below x y u v
+-- one list is below another at their first ranks, or at a later place
+pub below_parts : (x y : ℕ) (u v : List ℕ) → ranks_below (x ∷ u) (y ∷ v) ≡ true → Below x y u v
 below_parts x y u v h =
     elim (or_cases (nat_lt x y) (nat_eq x y && ranks_below u v) h) [
       | inl l ↦ less (ltb-true x y l)

@@ -10,6 +10,8 @@ pub mod Chosen
 pub mod ReadBack
 pub mod NameLaws
 pub mod Texts
+pub mod Alike
+pub mod Numbers
 pub mod Places
 pub mod Steps
 pub mod CycleOf

@@ -1,14 +1,16 @@
 -- What comes after a family's word in a name, by the links of a cycle.
-use Rattle.std.specs.Prelude.{◌≡◌, ◌==◌, ◌&&◌, ◌||◌, ℕ, Bool, true, false, not, Some, None, List, [], ◌∷◌, ◌++◌, codes}
-use Rattle.std.specs.List.{find, list_all, flat_map}
+use Rattle.std.specs.Prelude.{◌≡◌, ◌==◌, ◌<◌, ◌&&◌, ◌||◌, ℕ, Bool, true, false, not, Some, None, List, [], ◌∷◌, ◌++◌, length, codes}
+use Rattle.std.specs.List.{find, list_all, flat_map, join_by}
 use Rattle.std.specs.Str.{bytes_eq}
 use Rattle.std.specs.Cmp.Lexicographic.{bytes_decides}
-use Rattle.std.proofs.Common.{refl, sym, ◌∙◌, ap}
+use Rattle.std.proofs.Common.{refl, sym, ◌∙◌, ap, arith, append_assoc}
 use Rattle.std.proofs.lemmas.Bool.{and_parts, eqb-true, eq-eqb, cond-true, cond-false}
+use Rattle.std.proofs.lemmas.Grind.{flat_map-append}
 use Rattle.list_laws.proofs.Cases.{by_test}
 use Rattle.relax_edges.specs.declared.kinds.Dir.TheVariants.{R}
 use Rattle.relax_edges.specs.declared.edge.Edge.{Edge}
 use Rattle.relax_edges.specs.EdgeTable.{is_diff}
+use Rattle.relax_edges.specs.WordParts.{word_of}
 use Rattle.cycle_names.specs.LinkWords.{link_word, link_words}
 use Rattle.cycle_names.specs.CycleNames.{after_plus, all_equal, plural, links_text}
 use Rattle.cycle_names.specs.Families.{pod}
@@ -159,6 +161,10 @@ text_at_each v e h t =
     text_of_each v e h (ap (λ w. list_all (bytes_eq w) (link_words v)) same ∙ f) f)
     (λ b. text_of_each v e h (not_plain v e h (λ t. let z : true ≡ false = sym t ∙ b in cc)) f)
 
--- what the code finds of the places
-pub places_said : (place : ℕ) (e : Edge) (v : List Edge) (result value : Bool) → place ≡ word_place e → result ≡ list_all (has_word_place place) v → result ≡ value → list_all (has_word_place (word_place e)) v ≡ value
-places_said place e v result value p r t = ap (λ n. list_all (has_word_place n) v) (sym p) ∙ sym r ∙ t
+-- the words of two parts with a separator between
+pub joined_parts : (separator : List ℕ) (a b : List Edge) → 0 < length a →
+    join_by word_of separator (a ++ b) ≡ join_by word_of separator a ++ flat_map (λ edge. separator ++ word_of edge) b
+joined_parts separator [] b h = absurd (omega (arith, h))
+joined_parts separator (e ∷ a) b h =
+    ap (λ t. word_of e ++ t) (flat_map-append (λ edge. separator ++ word_of edge) a b)
+    ∙ sym (append_assoc (word_of e) (flat_map (λ edge. separator ++ word_of edge) a) (flat_map (λ edge. separator ++ word_of edge) b))

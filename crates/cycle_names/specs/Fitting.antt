@@ -1,12 +1,10 @@
 -- How the code finds the family of a cycle and the rotation that it is named from.
 -- Source: own.
-use Rattle.std.specs.Prelude.{◌≡◌, ◌<◌, ◌≤◌, ℕ, ◌+◌, ◌*◌, ◌==◌, ◌&&◌, ◌||◌, nat_lt, cond, Bool, true, false, sum, Option, Some, List, [], ◌++◌, length, map, codes}
+use Rattle.std.specs.Prelude.{◌≡◌, ◌<◌, ◌≤◌, ℕ, ◌+◌, ◌*◌, ◌^◌, ◌==◌, ◌||◌, nat_lt, cond, Bool, true, false, sum, Option, Some, None, List, [], ◌∷◌, length, map, codes}
 use Rattle.std.specs.List.{find}
 use Rattle.relax_edges.specs.declared.kinds.Dir.{Dir}
 use Rattle.relax_edges.specs.declared.kinds.Dir.TheVariants.{R, W}
-use Rattle.relax_edges.specs.declared.kinds.Sd.{Sd}
 use Rattle.relax_edges.specs.declared.kinds.Sd.TheVariants.{Diff}
-use Rattle.relax_edges.specs.declared.kinds.Reach.{Reach}
 use Rattle.relax_edges.specs.declared.kinds.Reach.TheVariants.{External}
 use Rattle.relax_edges.specs.declared.kinds.Com.{Com}
 use Rattle.relax_edges.specs.declared.kinds.Com.TheVariants as coms
@@ -20,20 +18,20 @@ use Rattle.relax_edges.specs.declared.kinds.Mark.{Mark}
 use Rattle.relax_edges.specs.declared.kinds.Mark.TheVariants.{Plain, Acquire, Release}
 use Rattle.relax_edges.specs.declared.edge.Edge.{Edge}
 use Rattle.relax_edges.specs.declared.edge.Edge.TheVariants as edges
-use Rattle.relax_edges.specs.EdgeTable.{kind_of, source_mark, target_mark, is_diff, same_dir}
+use Rattle.relax_edges.specs.EdgeTable.{kind_of, source_mark, target_mark, is_diff}
 use Rattle.relax_edges.specs.Order.{pick_rank}
 use Rattle.relax_edges.specs.Relaxations.{is_same}
-use Rattle.cycle_laws.specs.CycleOrder.{ranks_below}
 use Rattle.cycle_laws.specs.Rotation.{rotated}
+use Rattle.cycle_names.specs.declared.links.Links.{Links}
+use Rattle.cycle_names.specs.declared.links.Links.TheVariants.{Absent, Alike, Different}
 use Rattle.cycle_names.specs.declared.slot.Slot.{Slot}
 use Rattle.cycle_names.specs.declared.slot.Slot.TheVariants as slots
 use Rattle.cycle_names.specs.declared.words.Separator.{Separator}
 use Rattle.cycle_names.specs.declared.words.Separator.TheVariants.{Dash, Blank}
 use Rattle.cycle_names.specs.declared.family.Family.{Family}
-use Rattle.cycle_names.specs.declared.family.TheConstants.{LONGEST}
 use Rattle.cycle_names.specs.Families.{family_edges, all_families}
 use Rattle.cycle_names.specs.LinkWords.{outline, link_word}
-use Rattle.cycle_names.specs.Rotations.{is_plain_outside, found_family, named_rotation}
+use Rattle.cycle_names.specs.Rotations.{found_family, named_rotation}
 use Rattle.cycle_names.specs.CycleNames.{after_plus}
 
 -- the edge of a family's cycle that a slot represents
@@ -41,50 +39,40 @@ abbrev pub slot_edge : Slot → Edge
 slot_edge (slots.External kind) = edges.Com kind External
 slot_edge (slots.Link from to) = edges.Po Diff from to
 
--- whether two communications are the same
-abbrev pub same_com : Com → Com → Bool
-same_com coms.Rf coms.Rf = true
-same_com coms.Fr coms.Fr = true
-same_com coms.Ws coms.Ws = true
-same_com _ _ = false
+-- the digit of an external edge of a communication
+abbrev pub com_digit : Com → ℕ
+com_digit coms.Rf = 1
+com_digit coms.Fr = 2
+com_digit coms.Ws = 3
 
--- whether a slot is an external edge of this communication, where the reach is external
-abbrev pub is_com_slot : Slot → Com → Reach → Bool
-is_com_slot (slots.External external) kind External = same_com kind external
-is_com_slot _ _ _ = false
+-- the digit of a link from an access to another
+abbrev pub link_digit : Dir → Dir → ℕ
+link_digit R R = 4
+link_digit R W = 5
+link_digit W R = 6
+link_digit W W = 7
 
--- whether a slot is a link between these accesses, where the locations are different
-abbrev pub is_link_slot : Slot → Sd → Dir → Dir → Bool
-is_link_slot (slots.Link source target) Diff from to = same_dir from source && same_dir to target
-is_link_slot _ _ _ _ = false
+-- the digit of an edge of a kind, 0 where it is neither a link nor external
+abbrev pub kind_digit : Kind → ℕ
+kind_digit (kinds.Com kind External) = com_digit kind
+kind_digit (kinds.Po Diff from to) = link_digit from to
+kind_digit (kinds.Fenced _ Diff from to) = link_digit from to
+kind_digit (kinds.Dep _ Diff to) = link_digit R to
+kind_digit (kinds.Data Diff) = link_digit R W
+kind_digit _ = 0
 
--- whether an edge of a kind joins what a slot does
-abbrev pub is_kind_slot : Slot → Kind → Bool
-is_kind_slot slot (kinds.Com kind reach) = is_com_slot slot kind reach
-is_kind_slot slot (kinds.Po sd from to) = is_link_slot slot sd from to
-is_kind_slot slot (kinds.Fenced _ sd from to) = is_link_slot slot sd from to
-is_kind_slot slot (kinds.Dep _ sd to) = is_link_slot slot sd R to
-is_kind_slot slot (kinds.Data sd) = is_link_slot slot sd R W
+-- the digit of an edge by what it joins, whatever its marks
+abbrev pub slot_digit : Edge → ℕ
+slot_digit edge = kind_digit (kind_of edge)
 
--- what an external edge of a communication adds to a count: the digits of base 8 are the links and the external edges of each
--- communication
-abbrev pub com_count : Com → ℕ
-com_count coms.Rf = 1
-com_count coms.Fr = 8
-com_count coms.Ws = 64
-
--- what an edge of a kind adds to a count: too much for any family where it is neither a link nor external
-abbrev pub kind_count : Kind → ℕ
-kind_count (kinds.Com kind External) = com_count kind
-kind_count (kinds.Po Diff _ _) = 512
-kind_count (kinds.Fenced _ Diff _ _) = 512
-kind_count (kinds.Dep _ Diff _) = 512
-kind_count (kinds.Data Diff) = 512
-kind_count _ = 4096
+-- what an edge with a digit adds to a count: too much for any family where it is neither a link nor external; else the digits of base 8
+-- are the links and the external edges of each communication
+abbrev pub digit_count : ℕ → ℕ
+digit_count digit = cond (digit == 0) 4096 (cond (digit == 1) 1 (cond (digit == 2) 8 (cond (digit == 3) 64 512)))
 
 -- what an edge adds to a count
 abbrev pub edge_count : Edge → ℕ
-edge_count edge = kind_count (kind_of edge)
+edge_count edge = digit_count (slot_digit edge)
 
 -- how many links and external edges of each communication a cycle has, the same for all its rotations
 abbrev pub edges_counted : List Edge → ℕ
@@ -94,28 +82,22 @@ edges_counted u = sum (map edge_count u)
 unfoldable pub family_of_counts : ℕ → Option Family
 family_of_counts count = find (λ family. edges_counted (family_edges family) == count) all_families
 
--- the rotation from place k joins what these edges do
-abbrev pub joins_at : List Edge → List Edge → ℕ → Bool
-joins_at slots u k = is_same (outline (rotated k u)) slots
+-- digits in a base as one number, the first digit the highest
+abbrev pub digits_number : ℕ → List ℕ → ℕ
+digits_number base [] = 0
+digits_number base (digit ∷ digits) = digit * base ^ length digits + digits_number base digits
 
--- the rotation from no place below n joins what these edges do
-abbrev pub JoinsNone : List Edge → List Edge → ℕ → Type 0
-JoinsNone slots u n = (k : ℕ) → k < n → joins_at slots u k ≡ false
+-- what the edges of a list join, as one number
+abbrev pub slots_number : List Edge → ℕ
+slots_number u = digits_number 8 (map slot_digit u)
 
--- the first place from which a rotation joins what these edges do
-pub record JoinsFirst (slots u : List Edge) (place : ℕ) : Type 0 where
-  pub within : place < length u
-  pub joins : joins_at slots u place ≡ true
-  pub before : JoinsNone slots u place
+-- the rotation from place k joins what the family's cycle does
+abbrev pub joins_at : List Edge → Family → ℕ → Bool
+joins_at u family k = is_same (outline (rotated k u)) (family_edges family)
 
--- the first place from which a rotation fits a family
-pub record FitsFirst (u : List Edge) (family : Family) (place : ℕ) : Type 0 where
-  pub first : JoinsFirst (family_edges family) u place
-  pub plain : is_plain_outside u ≡ true
-
--- a list of edges may be of this family: it is no longer than a family's cycle may be, and has as many edges of each sort
-abbrev pub MayBeOf : List Edge → Family → Type 0
-MayBeOf u family = (length u ≤ LONGEST) × (family_of_counts (edges_counted u) ≡ Some family)
+-- no rotation joins what the family's cycle does
+abbrev pub JoinsNone : List Edge → Family → Type 0
+JoinsNone u family = (k : ℕ) → k < length u → joins_at u family k ≡ false
 
 -- a cycle is of this family, and named from the rotation from this place
 pub record IsNamedAt (u : List Edge) (family : Family) (place : ℕ) : Type 0 where
@@ -131,10 +113,6 @@ link_text edge = cond (is_diff edge) (after_plus (link_word edge)) []
 abbrev pub separator_text : Separator → List ℕ
 separator_text Dash = codes "-"
 separator_text Blank = codes " "
-
--- a list twice over
-abbrev pub twice : List ℕ → List ℕ
-twice places = places ++ places
 
 -- the place of the letters of two marks in byte order, 0 for none
 abbrev pub letters_place : Mark → Mark → ℕ
@@ -179,10 +157,32 @@ kind_word_place _ _ = 0
 abbrev pub word_place : Edge → ℕ
 word_place edge = kind_word_place (kind_of edge) (letters_place (source_mark edge) (target_mark edge))
 
--- the words of the rotation from one place come before those of the rotation from another
-abbrev pub place_comes_before : List Edge → ℕ → ℕ → Bool
-place_comes_before u place named = ranks_below (rotated place (map word_place u)) (rotated named (map word_place u))
+-- the places of the words of the links of a list of edges, as one number
+abbrev pub words_number : List Edge → ℕ
+words_number u = digits_number 256 (map word_place u)
+
+-- the rotation from a place joins what the family's cycle does, and no other that does has words that come before
+pub record JoinsLeast (u : List Edge) (family : Family) (place : ℕ) : Type 0 where
+  pub within : place < length u
+  pub joins : joins_at u family place ≡ true
+  pub least : (k : ℕ) → k < length u → joins_at u family k ≡ true → words_number (rotated place u) ≤ words_number (rotated k u)
 
 -- an edge is no link, or its word has this place
 abbrev pub has_word_place : ℕ → Edge → Bool
 has_word_place place edge = (word_place edge == 0) || (word_place edge == place)
+
+-- what one edge more says of the words of links, by the place of its word
+abbrev pub with_place : Links → ℕ → Links
+with_place Absent place = cond (place == 0) Absent (Alike place)
+with_place (Alike other) place = cond ((place == 0) || (place == other)) (Alike other) Different
+with_place Different place = Different
+
+-- what the words of links are like with those of these edges
+abbrev pub links_after : Links → List Edge → Links
+links_after links [] = links
+links_after links (edge ∷ u) = links_after (with_place links (word_place edge)) u
+
+-- what the first link adds to a name, if there is one
+abbrev pub first_link_text : Option Edge → List ℕ
+first_link_text None = []
+first_link_text (Some edge) = link_text edge

@@ -2,7 +2,7 @@ ghost use Rattle.std.specs.Prelude.{◌≡◌, map};
 ghost use Rattle.std.specs.List.{find};
 ghost use Rattle.std.specs.Str.{bytes_eq};
 ghost use Rattle.cycle_names.specs.Families.{family_word, family_edges, all_families};
-ghost use Rattle.cycle_names.specs.Fitting.{slot_edge};
+ghost use Rattle.cycle_names.specs.Fitting.{slot_edge, slots_number};
 
 use crate::slot::Slot;
 use relax_edges::{Com, Dir};
@@ -136,6 +136,29 @@ impl Family {
             Family::LB3 => "3.LB",
             Family::W3 => "3.2W",
             Family::Other => "OTHER",
+        }
+    }
+
+    /// What the edges of the family's cycle join, a digit for each.
+    pub(crate) fn outline(self) -> u32
+        ensures { result ≡ slots_number (family_edges self) }
+    {
+        match self {
+            Family::SB => 0o6262,
+            Family::MP => 0o7142,
+            Family::LB => 0o5151,
+            Family::R => 0o7362,
+            Family::S => 0o7153,
+            Family::W2 => 0o7373,
+            Family::WRC => 0o15142,
+            Family::RWC => 0o14262,
+            Family::ISA2 => 0o715142,
+            Family::IRIW => 0o142142,
+            Family::WRWC => 0o714262,
+            Family::SB3 => 0o626262,
+            Family::LB3 => 0o515151,
+            Family::W3 => 0o737373,
+            Family::Other => 0,
         }
     }
 

@@ -1,83 +1,120 @@
-ghost use Rattle.std.specs.Prelude.{◌≡◌, ◌<◌, ◌+◌, ◌≤◌, ◌++◌, ◌∷◌, [], ◌||◌, ◌&&◌, ◌*◌, not, length, map, None, Some, MatchOption, true};
+ghost use Rattle.std.specs.Prelude.{◌≡◌, ◌==◌, ◌<◌, ◌+◌, ◌*◌, ◌/◌, ◌%◌, ◌^◌, ◌≤◌, ◌++◌, ◌∷◌, [], ◌||◌, ◌&&◌, not, nat_lt, length, None, MatchOption};
 ghost use Rattle.relax_edges.specs.declared.kinds.Mark.TheVariants.{Plain};
 ghost use Rattle.relax_edges.specs.EdgeTable.{target_mark, same_mark, is_external};
-ghost use Rattle.relax_edges.specs.Relaxations.{is_same};
 ghost use Rattle.cycle_laws.specs.Composable.{IsCycle};
-ghost use Rattle.cycle_laws.specs.CycleOrder.{ranks_below};
-ghost use Rattle.cycle_names.specs.Families.{family_edges};
-ghost use Rattle.cycle_names.specs.LinkWords.{outline};
 ghost use Rattle.cycle_names.specs.Rotations.{all_unmarked, is_plain_outside, found_family};
-ghost use Rattle.cycle_names.specs.Fitting.{slot_edge, edges_counted, family_of_counts, joins_at, JoinsNone, JoinsFirst, FitsFirst, IsNamedAt, word_place, twice, MayBeOf, place_comes_before};
+ghost use Rattle.cycle_names.specs.Fitting.{edge_count, edges_counted, slot_digit, slots_number, word_place, words_number, with_place, links_after, family_of_counts, JoinsNone, JoinsLeast, IsNamedAt};
+ghost use Rattle.cycle_names.specs.declared.links.Links.TheVariants.{Absent};
 
 use crate::family::{Family, LONGEST};
-use crate::link::word_place;
-use crate::slot::{Slot, edge_count};
-use arrayvec::ArrayVec;
+use crate::links::Links;
+use crate::slot::{digit_count, edge_digits};
 use relax_edges::{Edge, Mark};
 
-const TWICE: usize = 2 * LONGEST;
-
-/// A family, and the place of a list of edges from which a rotation of it fits the family.
+/// A family, the place of a list of edges from which a rotation of it fits the family, and what the
+/// words of its links are like.
 #[derive(Clone, Copy)]
 pub(crate) struct Fit {
     pub(crate) family: Family,
     pub(crate) place: usize,
+    pub(crate) links: Links,
 }
 
-/// The family of a cycle, and the place from which the rotation begins that it is named from.
+/// A list of edges as two numbers with a digit for each edge, the highest for the first: what the
+/// edges join, in base 8, and the places of the words of its links, in base 256.
+#[derive(Clone, Copy)]
+struct Numbers {
+    slots: u32,
+    words: u64,
+}
+
+/// What is counted in a list of edges, what the words of its links are like, and its numbers.
+#[derive(Clone, Copy)]
+struct Outline {
+    count: u16,
+    links: Links,
+    numbers: Numbers,
+}
+
+/// The rotation whose words come first of those that fit: the number of its words, and its place.
+#[derive(Clone, Copy)]
+struct Best {
+    words: u64,
+    place: Option<usize>,
+}
+
+/// The family of a cycle, the place from which the rotation begins that it is named from, and what
+/// the words of its links are like.
 pub(crate) fn named_fit(edges: &[Edge]) -> Option<Fit>
     requires { IsCycle edges.now }
-    ensures { MatchOption result (found_family edges.now ≡ None) (λ fit. IsNamedAt edges.now fit.family fit.place) }
+    ensures { MatchOption result (found_family edges.now ≡ None) (λ f. IsNamedAt edges.now f.family f.place × (f.links ≡ links_after Absent edges.now)) }
 {
-    let first = first_fit(edges)?;
-    let place = named_place(edges, first);
+    if edges.len() > LONGEST {
+        return None;
+    }
+    let outline = outline_of(edges);
+    let family = family_of_counts(outline.count)?;
+    let place = named_place(edges, family, outline)?;
+    if !is_plain_outside(edges) {
+        return None;
+    }
     Some(Fit {
-        family: first.family,
+        family,
         place,
+        links: outline.links,
     })
 }
 
-/// The family of a list of edges.
+/// The family of a cycle.
 pub(crate) fn found_family(edges: &[Edge]) -> Option<Family>
+    requires { IsCycle edges.now }
     ensures { result ≡ found_family edges.now }
 {
-    match first_fit(edges) {
+    match named_fit(edges) {
         Some(fit) => Some(fit.family),
         None => None,
     }
 }
 
-/// The family of a list of edges, and the first place from which a rotation fits it.
-fn first_fit(edges: &[Edge]) -> Option<Fit>
-    ensures { MatchOption result (found_family edges.now ≡ None) (λ fit. (length edges.now ≤ LONGEST) × FitsFirst edges.now fit.family fit.place) }
-{
-    let family = likely_family(edges)?;
-    let place = first_place(edges, family.slots())?;
-    if !is_plain_outside(edges) {
-        return None;
-    }
-    Some(Fit { family, place })
-}
-
-/// The only family that a list of edges can be of: its cycle has as many edges of each sort.
-fn likely_family(edges: &[Edge]) -> Option<Family>
-    ensures { MatchOption result (found_family edges.now ≡ None) (MayBeOf edges.now) }
-{
-    if edges.len() > LONGEST {
-        return None;
-    }
-    family_of_counts(edge_counts(edges))
-}
-
-/// How many links and external edges of each communication a list of edges has.
-fn edge_counts(edges: &[Edge]) -> u16
+/// How many links and external edges of each communication a list of edges has, what the words of
+/// its links are like, and its numbers.
+fn outline_of(edges: &[Edge]) -> Outline
     requires { length edges.now ≤ LONGEST }
-    ensures value { result ≡ edges_counted edges.now }
-    ensures small { result ≤ 4096 * length edges.now }
+    ensures count { result.count ≡ edges_counted edges.now }
+    ensures links { result.links ≡ links_after Absent edges.now }
+    ensures slots { result.numbers.slots ≡ slots_number edges.now }
+    ensures words { result.numbers.words ≡ words_number edges.now }
 {
-    match edges {
-        [] => 0,
-        [edge, rest @ ..] => edge_count(*edge) + edge_counts(rest),
+    let mut outline = Outline {
+        count: 0,
+        links: Links::Absent,
+        numbers: Numbers { slots: 0, words: 0 },
+    };
+    for edge in edges {
+        outline = with_edge(outline, *edge);
+    }
+    outline
+}
+
+/// The outline of a list of at most five edges and one more.
+fn with_edge(outline: Outline, edge: Edge) -> Outline
+    requires count { outline.count ≤ 20480 }
+    requires slots { outline.numbers.slots < 32768 }
+    requires words { outline.numbers.words < 1099511627776 }
+    ensures count { result.count ≡ outline.count + edge_count edge }
+    ensures small { result.count ≤ outline.count + 4096 }
+    ensures links { result.links ≡ with_place outline.links (word_place edge) }
+    ensures slots { result.numbers.slots ≡ outline.numbers.slots * 8 + slot_digit edge }
+    ensures words { result.numbers.words ≡ outline.numbers.words * 256 + word_place edge }
+{
+    let digits = edge_digits(edge);
+    Outline {
+        count: outline.count + digit_count(digits.slot),
+        links: outline.links.with_place(digits.word),
+        numbers: Numbers {
+            slots: outline.numbers.slots * 8 + u32::from(digits.slot),
+            words: outline.numbers.words * 256 + u64::from(digits.word),
+        },
     }
 }
 
@@ -105,42 +142,91 @@ fn family_of_counts(count: u16) -> Option<Family>
     }
 }
 
-/// The first place from which a rotation joins what the slots do.
-fn first_place(edges: &[Edge], slots: &[Slot]) -> Option<usize>
-    ensures { MatchOption result (JoinsNone (map slot_edge slots.now) edges.now (length edges.now)) (JoinsFirst (map slot_edge slots.now) edges.now) }
+/// The place from which the rotation begins whose words come first, of those that join what the
+/// family's cycle does.
+fn named_place(edges: &[Edge], family: Family, outline: Outline) -> Option<usize>
+    requires few { length edges.now ≤ LONGEST }
+    requires slots { outline.numbers.slots ≡ slots_number edges.now }
+    requires words { outline.numbers.words ≡ words_number edges.now }
+    ensures { MatchOption result (JoinsNone edges.now family) (JoinsLeast edges.now family) }
 {
-    for place in 0..edges.len() {
-        if joins_at(edges, place, slots) {
-            return Some(place);
+    if family.slots().len() != edges.len() {
+        return None;
+    }
+    let wanted = family.outline();
+    let worth = worth_before(edges.len());
+    let mut numbers = outline.numbers;
+    let mut best = Best {
+        words: u64::MAX,
+        place: None,
+    };
+    for place in (0..edges.len()).rev() {
+        numbers = turned(numbers, worth);
+        if is_better(numbers, wanted, best) {
+            best = Best {
+                words: numbers.words,
+                place: Some(place),
+            };
         }
     }
-    None
+    best.place
 }
 
-/// Whether the rotation from a place joins what the slots do.
-fn joins_at(edges: &[Edge], place: usize, slots: &[Slot]) -> bool
-    requires { place ≤ length edges.now }
-    ensures { result ≡ joins_at (map slot_edge slots.now) edges.now place }
+/// The worth of the place before so many digits.
+fn worth_before(len: usize) -> Numbers
+    requires { len ≤ LONGEST }
+    ensures slots { result.slots ≡ 8 ^ len }
+    ensures words { result.words ≡ 256 ^ len }
 {
-    let (prefix, back) = edges.split_at(place);
-    if slots.len() != edges.len() {
-        return false;
-    }
-    let (first, last) = slots.split_at(back.len());
-    join_as(back, first) && join_as(prefix, last)
-}
-
-/// Whether edges join what the slots do, each in its place.
-fn join_as(edges: &[Edge], slots: &[Slot]) -> bool
-    ensures { result ≡ is_same (outline edges.now) (map slot_edge slots.now) }
-{
-    match edges {
-        [] => slots.is_empty(),
-        [edge, rest @ ..] => match slots {
-            [] => false,
-            [slot, others @ ..] => slot.is_of(*edge) && join_as(rest, others),
+    match len {
+        0 => Numbers { slots: 1, words: 1 },
+        1 => Numbers {
+            slots: 0o10,
+            words: 0x100,
+        },
+        2 => Numbers {
+            slots: 0o100,
+            words: 0x1_0000,
+        },
+        3 => Numbers {
+            slots: 0o1000,
+            words: 0x100_0000,
+        },
+        4 => Numbers {
+            slots: 0o1_0000,
+            words: 0x1_0000_0000,
+        },
+        5 => Numbers {
+            slots: 0o10_0000,
+            words: 0x100_0000_0000,
+        },
+        _ => Numbers {
+            slots: 0o100_0000,
+            words: 0x1_0000_0000_0000,
         },
     }
+}
+
+/// The numbers of a rotation with its last edge put before the others.
+fn turned(numbers: Numbers, worth: Numbers) -> Numbers
+    requires slots { numbers.slots < worth.slots }
+    requires words { numbers.words < worth.words }
+    requires slots_worth { worth.slots ≤ 262144 }
+    requires words_worth { worth.words ≤ 281474976710656 }
+    ensures slots { result.slots ≡ (numbers.slots + numbers.slots % 8 * worth.slots) / 8 }
+    ensures words { result.words ≡ (numbers.words + numbers.words % 256 * worth.words) / 256 }
+{
+    Numbers {
+        slots: (numbers.slots + numbers.slots % 8 * worth.slots) / 8,
+        words: (numbers.words + numbers.words % 256 * worth.words) / 256,
+    }
+}
+
+/// Whether a rotation joins what is wanted, with words that come before the best ones.
+fn is_better(numbers: Numbers, wanted: u32, best: Best) -> bool
+    ensures { result ≡ ((numbers.slots == wanted) && nat_lt numbers.words best.words) }
+{
+    numbers.slots == wanted && numbers.words < best.words
 }
 
 /// Whether each event of a cycle between two external edges is plain.
@@ -149,17 +235,17 @@ fn is_plain_outside(edges: &[Edge]) -> bool
 {
     match edges {
         [] => true,
-        [first, ..] => all_plain(edges, *first),
+        [first, ..] => all_plain(edges, first),
     }
 }
 
 /// Whether each access between two external edges is plain, where one edge more comes last.
-fn all_plain(edges: &[Edge], last: Edge) -> bool
-    ensures { result ≡ all_unmarked (edges.now ++ last ∷ []) }
+fn all_plain(edges: &[Edge], last: &Edge) -> bool
+    ensures { result ≡ all_unmarked (edges.now ++ last.now ∷ []) }
 {
     match edges {
         [] => true,
-        [edge] => is_plain_before(*edge, last),
+        [edge] => is_plain_before(*edge, *last),
         [edge, rest @ ..] => {
             let [next, ..] = rest else {
                 return true;
@@ -173,80 +259,4 @@ fn is_plain_before(edge: Edge, next: Edge) -> bool
     ensures { result ≡ (same_mark (target_mark edge) Plain || not (is_external edge && is_external next)) }
 {
     edge.target_mark() == Mark::Plain || !(edge.is_external() && next.is_external())
-}
-
-/// The place from which the rotation begins whose words come first, of those that fit the family.
-fn named_place(edges: &[Edge], first: Fit) -> usize
-    requires cycle { IsCycle edges.now }
-    requires few { length edges.now ≤ LONGEST }
-    requires first { FitsFirst edges.now first.family first.place }
-    ensures { IsNamedAt edges.now first.family result }
-{
-    let slots = first.family.slots();
-    let mut named = first.place;
-    for place in first.place + 1..edges.len() {
-        if is_better(edges, slots, place, named) {
-            named = place;
-        }
-    }
-    named
-}
-
-/// Whether the rotation from a place joins what the slots do, with words that come before those of
-/// the rotation from another.
-fn is_better(edges: &[Edge], slots: &[Slot], place: usize, named: usize) -> bool
-    requires few { length edges.now ≤ LONGEST }
-    requires place { place < length edges.now }
-    requires named { named < length edges.now }
-    ensures { result ≡ (joins_at (map slot_edge slots.now) edges.now place && place_comes_before edges.now place named) }
-{
-    joins_at(edges, place, slots) && comes_first(edges, place, named)
-}
-
-/// Whether the words of the rotation from a place come before those of the rotation from another.
-fn comes_first(edges: &[Edge], place: usize, named: usize) -> bool
-    requires few { length edges.now ≤ LONGEST }
-    requires place { place < length edges.now }
-    requires named { named < length edges.now }
-    ensures { result ≡ place_comes_before edges.now place named }
-{
-    let places = places_twice(edges);
-    let len = edges.len();
-    is_below(&places[place..place + len], &places[named..named + len])
-}
-
-/// The places of the words of the links of a list of edges, twice over: those of each rotation are
-/// a part.
-fn places_twice(edges: &[Edge]) -> ArrayVec<u8, TWICE>
-    requires { length edges.now ≤ LONGEST }
-    ensures { result.items ≡ twice (map word_place edges.now) }
-{
-    let mut places = ArrayVec::new();
-    push_places(&mut places, edges);
-    push_places(&mut places, edges);
-    places
-}
-
-fn push_places(places: &mut ArrayVec<u8, TWICE>, edges: &[Edge])
-    requires { length places.old.items + length edges.now ≤ TWICE }
-    ensures { places.new.items ≡ places.old.items ++ map word_place edges.now }
-{
-    for edge in edges {
-        places.push(word_place(*edge));
-    }
-}
-
-/// Whether the first list of places is less at the first place where they differ, which both have.
-fn is_below(places: &[u8], others: &[u8]) -> bool
-    ensures { result ≡ ranks_below places.now others.now }
-{
-    match places {
-        [] => false,
-        [place, places_left @ ..] => match others {
-            [] => false,
-            [other, others_left @ ..] => {
-                place < other || place == other && is_below(places_left, others_left)
-            }
-        },
-    }
 }

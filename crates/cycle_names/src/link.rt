@@ -3,7 +3,7 @@ ghost use Rattle.std.specs.Str.{bytes_eq};
 ghost use Rattle.relax_edges.specs.EdgeTable.{is_diff};
 ghost use Rattle.relax_edges.specs.Order.{pick_rank};
 ghost use Rattle.cycle_names.specs.LinkWords.{link_word, fence_link, dependency_link, mark_letters, kind_link_text};
-ghost use Rattle.cycle_names.specs.Fitting.{letters_place, fence_place, dependency_place, kind_word_place, word_place};
+ghost use Rattle.cycle_names.specs.Fitting.{letters_place, fence_place, dependency_place};
 
 use arrayvec::ArrayString;
 use relax_edges::{DepKind, Edge, FenceKind, Kind, Mark, Pick, Sd};
@@ -18,7 +18,8 @@ fn pick_rank(pick: Pick) -> u8
     }
 }
 
-fn fence_place(fence: FenceKind) -> u8
+/// The place of a fence's word without letters among the words of links, in byte order.
+pub(crate) fn fence_place(fence: FenceKind) -> u8
     ensures { result ≡ fence_place fence }
 {
     match fence {
@@ -34,7 +35,8 @@ fn fence_place(fence: FenceKind) -> u8
     }
 }
 
-fn dependency_place(dep: DepKind, letters: u8) -> u8
+/// The place of a dependency's word with the letters of this place.
+pub(crate) fn dependency_place(dep: DepKind, letters: u8) -> u8
     requires { letters ≤ 8 }
     ensures { result ≡ dependency_place dep letters }
 {
@@ -52,7 +54,8 @@ fn dependency_place(dep: DepKind, letters: u8) -> u8
     }
 }
 
-fn letters_place(from: Mark, to: Mark) -> u8
+/// The place of the letters of two marks in byte order, 0 for none.
+pub(crate) fn letters_place(from: Mark, to: Mark) -> u8
     ensures value { result ≡ letters_place from to }
     ensures small { result ≤ 8 }
 {
@@ -66,29 +69,6 @@ fn letters_place(from: Mark, to: Mark) -> u8
         (Mark::Release, Mark::Plain) => 6,
         (Mark::Plain, Mark::Acquire) => 7,
         (Mark::Plain, Mark::Release) => 8,
-    }
-}
-
-/// The place of a link's word among the words of links, in byte order, and 0 for an edge that is no
-/// link.
-pub(crate) fn word_place(edge: Edge) -> u8
-    ensures { result ≡ word_place edge }
-{
-    let letters = letters_place(edge.source_mark(), edge.target_mark());
-    match edge.kind() {
-        Kind::Po { sd: Sd::Diff, .. } => 126 + letters,
-        Kind::Fenced {
-            fence,
-            sd: Sd::Diff,
-            ..
-        } => fence_place(fence) + letters,
-        Kind::Dep {
-            dep,
-            sd: Sd::Diff,
-            ..
-        } => dependency_place(dep, letters),
-        Kind::Data { sd: Sd::Diff } => 45 + letters,
-        _ => 0,
     }
 }
 

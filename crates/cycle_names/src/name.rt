@@ -1,15 +1,19 @@
-ghost use Rattle.std.specs.Prelude.{◌≡◌, codes};
+ghost use Rattle.std.specs.Prelude.{◌≡◌, [], codes};
 ghost use Rattle.std.specs.List.{join_by};
 ghost use Rattle.relax_edges.specs.WordParts.{word_of};
 ghost use Rattle.cycle_names.specs.Rotations.{family_of, named_rotation};
+ghost use Rattle.cycle_laws.specs.Composable.{IsCycle};
 ghost use Rattle.cycle_names.specs.CycleNames.{name_of};
+ghost use Rattle.cycle_names.specs.Fitting.{IsNamedAt, links_after};
+ghost use Rattle.cycle_names.specs.declared.links.Links.TheVariants.{Absent};
 ghost use Rattle.cycle_names.specs.Laws.{IsName};
 
 use crate::family::Family;
-use crate::fit::{found_family, named_fit};
-use crate::words::{Separator, push_both, push_links, push_words};
+use crate::fit::{Fit, found_family, named_fit};
+use crate::words::{Separator, push_both, push_links, push_rotation, push_words};
 use arrayvec::ArrayString;
 use edge_algebra::Cycle;
+use relax_edges::Edge;
 
 /// The most bytes of a name.
 pub const MAX_NAME: usize = 800;
@@ -48,9 +52,7 @@ pub fn name_and_family(cycle: &Cycle, out: &mut ArrayString<MAX_NAME>) -> Family
     out.clear();
     match named_fit(cycle.edges()) {
         Some(fit) => {
-            let rotation = cycle.rotate(fit.place as u8);
-            out.push_str(fit.family.word());
-            push_links(rotation.edges(), out);
+            push_family_name(cycle.edges(), fit, out);
             fit.family
         }
         None => {
@@ -76,10 +78,8 @@ pub fn name_and_words(
     words.clear();
     match named_fit(cycle.edges()) {
         Some(fit) => {
-            let rotation = cycle.rotate(fit.place as u8);
-            name.push_str(fit.family.word());
-            push_links(rotation.edges(), name);
-            push_words(rotation.edges(), Separator::Blank, words);
+            push_family_name(cycle.edges(), fit, name);
+            push_rotation(cycle.edges(), fit.place, words);
         }
         None => {
             let normal = cycle.least();
@@ -87,4 +87,16 @@ pub fn name_and_words(
             push_both(normal.edges(), name, words);
         }
     }
+}
+
+/// Adds the name of a cycle of a family to an empty text.
+fn push_family_name(edges: &[Edge], fit: Fit, name: &mut ArrayString<MAX_NAME>)
+    requires cycle { IsCycle edges.now }
+    requires empty { name.old.bytes ≡ [] }
+    requires named { IsNamedAt edges.now fit.family fit.place }
+    requires links { fit.links ≡ links_after Absent edges.now }
+    ensures { name.new.bytes ≡ name_of edges.now }
+{
+    name.push_str(fit.family.word());
+    push_links(edges, fit, name);
 }

@@ -1,13 +1,16 @@
-ghost use Rattle.std.specs.Prelude.{◌≡◌, ◌+◌, ◌*◌, ◌<◌, ◌≤◌, ◌++◌, ◌||◌, not, length, codes};
-ghost use Rattle.std.specs.List.{find, flat_map, list_all, join_by};
-ghost use Rattle.std.specs.Str.{bytes_eq};
+ghost use Rattle.std.specs.Prelude.{◌≡◌, ◌+◌, ◌*◌, ◌<◌, ◌≤◌, ◌++◌, ◌||◌, true, length, codes};
+ghost use Rattle.std.specs.List.{find, flat_map, join_by};
 ghost use Rattle.relax_edges.specs.EdgeTable.{is_diff};
 ghost use Rattle.relax_edges.specs.WordParts.{word_of};
 ghost use Rattle.cycle_names.specs.LinkWords.{link_word, link_words};
 ghost use Rattle.cycle_names.specs.CycleNames.{links_text};
-ghost use Rattle.cycle_names.specs.Fitting.{link_text, has_word_place, separator_text};
+ghost use Rattle.cycle_names.specs.Fitting.{link_text, first_link_text, links_after, separator_text};
+ghost use Rattle.cycle_names.specs.declared.links.Links.TheVariants.{Absent};
+ghost use Rattle.cycle_laws.specs.Rotation.{rotated};
 
-use crate::link::{kind_link, mark_letters, word_place};
+use crate::fit::Fit;
+use crate::link::{kind_link, mark_letters};
+use crate::links::Links;
 use crate::name::MAX_NAME;
 use arrayvec::ArrayString;
 use relax_edges::{Edge, MAX_EDGES, Mark};
@@ -17,59 +20,46 @@ type Name = ArrayString<MAX_NAME>;
 /// The place of `po` among the words of links.
 const PLAIN: u8 = 126;
 
-/// Adds what a name of a family has after the family's word.
-pub(crate) fn push_links(edges: &[Edge], name: &mut Name)
+/// Adds what a name of a family has after the family's word, for the rotation of a cycle that fits.
+pub(crate) fn push_links(edges: &[Edge], fit: Fit, name: &mut Name)
     requires few { length edges.now ≤ MAX_EDGES }
     requires room { length name.old.bytes ≤ 16 }
-    ensures { name.new.bytes ≡ name.old.bytes ++ links_text (link_words edges.now) }
+    requires place { fit.place ≤ length edges.now }
+    requires links { fit.links ≡ links_after Absent edges.now }
+    ensures { name.new.bytes ≡ name.old.bytes ++ links_text (link_words (rotated fit.place edges.now)) }
 {
-    let Some(link) = first_link(edges) else {
-        return;
-    };
-    let place = word_place(link);
-    if !are_at(place, edges) {
-        push_each(edges, name);
-        return;
-    }
-    if place == PLAIN {
-        return;
-    }
-    push_link(link, name);
-    name.push_str("s");
-}
-
-/// The first link of a list of edges.
-fn first_link(edges: &[Edge]) -> Option<Edge>
-    ensures { result ≡ find is_diff edges.now }
-{
-    match edges {
-        [] => None,
-        [edge, rest @ ..] => {
-            if edge.is_diff() {
-                Some(*edge)
-            } else {
-                first_link(rest)
+    match fit.links {
+        Links::Absent => {}
+        Links::Alike(place) => {
+            if place != PLAIN {
+                push_first(edges, name);
+                name.push_str("s");
             }
+        }
+        Links::Different => {
+            let (prefix, back) = edges.split_at(fit.place);
+            push_each(back, name);
+            push_each(prefix, name);
         }
     }
 }
 
-/// Whether the words of the links of a list of edges all have this place.
-fn are_at(place: u8, edges: &[Edge]) -> bool
-    ensures { result ≡ list_all (has_word_place place) edges.now }
+/// Adds a `+` and the word for the first link of a list of edges.
+fn push_first(edges: &[Edge], name: &mut Name)
+    requires { length name.old.bytes + 12 ≤ MAX_NAME }
+    ensures text { name.new.bytes ≡ name.old.bytes ++ first_link_text (find is_diff edges.now) }
+    ensures short { length name.new.bytes ≤ length name.old.bytes + 12 }
 {
     match edges {
-        [] => true,
-        [edge, rest @ ..] => is_at(place, *edge) && are_at(place, rest),
+        [] => {}
+        [edge, rest @ ..] => {
+            if edge.is_diff() {
+                push_link_word(*edge, name);
+            } else {
+                push_first(rest, name);
+            }
+        }
     }
-}
-
-/// Whether an edge is no link, or its word has this place.
-fn is_at(place: u8, edge: Edge) -> bool
-    ensures { result ≡ has_word_place place edge }
-{
-    let other = word_place(edge);
-    other == 0 || other == place
 }
 
 /// Adds a `+` and the word of an edge, if the edge is a link.
@@ -79,19 +69,31 @@ fn push_link(edge: Edge, name: &mut Name)
     ensures short { length name.new.bytes ≤ length name.old.bytes + 12 }
 {
     if edge.is_diff() {
-        name.push_str("+");
-        name.push_str(kind_link(edge.kind()));
-        match (edge.source_mark(), edge.target_mark()) {
-            (Mark::Plain, Mark::Plain) => {}
-            (from, to) => name.push_str(mark_letters(from, to)),
-        }
+        push_link_word(edge, name);
+    }
+}
+
+/// Adds a `+` and the word of a link. It is apart so that `push_link` is short for the other edges.
+#[inline(never)]
+fn push_link_word(edge: Edge, name: &mut Name)
+    requires room { length name.old.bytes + 12 ≤ MAX_NAME }
+    requires link { is_diff edge ≡ true }
+    ensures text { name.new.bytes ≡ name.old.bytes ++ link_text edge }
+    ensures short { length name.new.bytes ≤ length name.old.bytes + 12 }
+{
+    name.push_str("+");
+    name.push_str(kind_link(edge.kind()));
+    match (edge.source_mark(), edge.target_mark()) {
+        (Mark::Plain, Mark::Plain) => {}
+        (from, to) => name.push_str(mark_letters(from, to)),
     }
 }
 
 /// Adds a `+` and the word for each link.
 fn push_each(edges: &[Edge], name: &mut Name)
     requires { length name.old.bytes + 12 * length edges.now ≤ MAX_NAME }
-    ensures { name.new.bytes ≡ name.old.bytes ++ flat_map link_text edges.now }
+    ensures text { name.new.bytes ≡ name.old.bytes ++ flat_map link_text edges.now }
+    ensures short { length name.new.bytes ≤ length name.old.bytes + 12 * length edges.now }
 {
     match edges {
         [] => {}
@@ -121,11 +123,24 @@ fn push_separator(between: Separator, name: &mut Name)
     }
 }
 
+/// Adds the words of the rotation of a list of edges from a place, with blanks between.
+pub(crate) fn push_rotation(edges: &[Edge], place: usize, words: &mut Name)
+    requires few { length edges.now ≤ MAX_EDGES }
+    requires room { length words.old.bytes ≤ 16 }
+    requires place { place < length edges.now }
+    ensures { words.new.bytes ≡ words.old.bytes ++ join_by word_of (codes " ") (rotated place edges.now) }
+{
+    let (prefix, back) = edges.split_at(place);
+    push_words(back, Separator::Blank, words);
+    push_separated(prefix, Separator::Blank, words);
+}
+
 /// Adds the words of some edges, with a separator between, to a text of at most 16 bytes.
 pub(crate) fn push_words(edges: &[Edge], between: Separator, name: &mut Name)
     requires few { length edges.now ≤ MAX_EDGES }
     requires room { length name.old.bytes ≤ 16 }
-    ensures { name.new.bytes ≡ name.old.bytes ++ join_by word_of (separator_text between) edges.now }
+    ensures text { name.new.bytes ≡ name.old.bytes ++ join_by word_of (separator_text between) edges.now }
+    ensures short { length name.new.bytes ≤ length name.old.bytes + 15 * length edges.now }
 {
     match edges {
         [] => {}
@@ -149,15 +164,12 @@ fn push_word(edge: Edge, name: &mut Name)
 /// Adds a separator and the word for each edge.
 fn push_separated(edges: &[Edge], between: Separator, name: &mut Name)
     requires { length name.old.bytes + 15 * length edges.now ≤ MAX_NAME }
-    ensures { name.new.bytes ≡ name.old.bytes ++ flat_map (λ edge. separator_text between ++ word_of edge) edges.now }
+    ensures text { name.new.bytes ≡ name.old.bytes ++ flat_map (λ edge. separator_text between ++ word_of edge) edges.now }
+    ensures short { length name.new.bytes ≤ length name.old.bytes + 15 * length edges.now }
 {
-    match edges {
-        [] => {}
-        [edge, rest @ ..] => {
-            push_separator(between, name);
-            push_word(*edge, name);
-            push_separated(rest, between, name);
-        }
+    for edge in edges {
+        push_separator(between, name);
+        push_word(*edge, name);
     }
 }
 
@@ -199,13 +211,9 @@ fn push_both_separated(edges: &[Edge], name: &mut Name, words: &mut Name)
     ensures name { name.new.bytes ≡ name.old.bytes ++ flat_map (λ edge. codes "-" ++ word_of edge) edges.now }
     ensures words { words.new.bytes ≡ words.old.bytes ++ flat_map (λ edge. codes " " ++ word_of edge) edges.now }
 {
-    match edges {
-        [] => {}
-        [edge, rest @ ..] => {
-            name.push_str("-");
-            words.push_str(" ");
-            push_word_twice(*edge, name, words);
-            push_both_separated(rest, name, words);
-        }
+    for edge in edges {
+        name.push_str("-");
+        words.push_str(" ");
+        push_word_twice(*edge, name, words);
     }
 }

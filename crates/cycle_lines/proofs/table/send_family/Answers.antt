@@ -1,7 +1,7 @@
 -- That `send_family` sends the lines of a family, if it has a name.
 use Rattle.std.proofs.Common.{sym}
 use Rattle.diy_io.specs.PageLaws.{sends_then, sends_stopped, sends_same}
-use Rattle.cycle_lines.specs.FamilyTables.{names_in_set}
+use Rattle.cycle_lines.specs.KeptNames.{names_in_set}
 use Rattle.cycle_lines.proofs.TableLaws.{no_text, some_text, empty_set, some_set, sends_nothing}
 use Rattle.cycle_lines.proofs.table.send_family.Goals as goal
 

@@ -1,23 +1,51 @@
--- The place that the search ends with begins the rotation that the cycle is named from.
-use Rattle.std.proofs.Common.{sym, ◌∙◌, ap, ◌&&◌, map}
-use Rattle.cycle_laws.specs.CycleOrder.{ranks_below}
+-- The place kept at the end is the best of all.
+use Rattle.std.proofs.Common.{◌≡◌, ◌<◌, ◌+◌, ◌-◌, ℕ, length, sym, ◌∙◌, ap, subst, arith}
+use Rattle.std.proofs.lemmas.List.{length-map}
 use Rattle.cycle_laws.specs.Rotation.{rotated}
-use Rattle.cycle_names.specs.Fitting.{joins_at, word_place}
-use Rattle.cycle_names.proofs.Places.{named_first, named_kept, named_replaced, named_at}
-use Rattle.cycle_names.proofs.fit.named_place.Goals.{then-is_better, else-is_better}
+use Rattle.cycle_names.specs.Families.{family_edges}
+use Rattle.cycle_names.specs.Fitting.{slot_edge, slots_number, words_number}
+use Rattle.cycle_names.proofs.Numbers.{slots_turned, words_turned}
+use Rattle.cycle_names.proofs.Places.{BestFrom, slots_bound, words_bound, best_kept, best_found, best_answer}
 use Rattle.cycle_names.proofs.fit.named_place.Goals as goal
 
-pub loop-place-init : goal.loop-place-init
-loop-place-init c = named_first c.args.edges.now c.args.first.family c.args.first.place c.requires.first
+pub turned-numbers-requires-clause-slots : goal.turned-numbers-requires-clause-slots
+turned-numbers-requires-clause-slots c = slots_bound c.args.edges.now c.loop-place.place _ _ c.loop-place.invariant.slots c.worth_before-worth.ensures.slots
+
+pub turned-numbers-requires-clause-words : goal.turned-numbers-requires-clause-words
+turned-numbers-requires-clause-words c = words_bound c.args.edges.now c.loop-place.place _ _ c.loop-place.invariant.words c.worth_before-worth.ensures.words
+
+pub loop-place-preserved-then-is_better : goal.loop-place-preserved-then-is_better
+loop-place-preserved-then-is_better c =
+    let k : ℕ = c.loop-place.place - 1 in
+    let at : c.loop-place.place ≡ k + 1 = omega (arith, c.loop-place-test.true) in
+    let long : length c.args.edges.now ≡ length (family_edges c.args.family) = omega (arith, c.if-slots-edges.false, ap length c.slots.ensures, length-map c.slots.result.now slot_edge) in
+    let within : k < length c.args.edges.now = omega (arith, c.loop-place.invariant.within, at) in
+    let slots = c.turned-numbers.ensures.slots ∙ slots_turned k _ _ c.args.edges.now within (c.loop-place.invariant.slots ∙ ap (λ x. slots_number (rotated x c.args.edges.now)) at) c.worth_before-worth.ensures.slots in
+    let words = c.turned-numbers.ensures.words ∙ words_turned k _ _ c.args.edges.now within (c.loop-place.invariant.words ∙ ap (λ x. words_number (rotated x c.args.edges.now)) at) c.worth_before-worth.ensures.words in
+    let before = subst (λ x. BestFrom c.args.edges.now c.args.family x c.loop-place.best.words c.loop-place.best.place) at c.loop-place.invariant.best in
+    record {
+      within = omega (arith, within);
+      slots = slots;
+      words = words;
+      best = best_found c.args.edges.now c.args.family k _ _ _ _ _ before slots words c.outline-wanted.ensures long within (sym c.is_better.ensures ∙ c.if-is_better.true);
+    }
 
 pub loop-place-preserved : goal.loop-place-preserved
 loop-place-preserved c =
-    let test = c.is_better.ensures
-    ∙ ap (λ slots. joins_at slots c.args.edges.now c.loop-place.place && ranks_below (rotated c.loop-place.place (map word_place c.args.edges.now)) (rotated c.loop-place.named (map word_place c.args.edges.now))) c.slots-slots.ensures in
-    elim c.if-is_better.branch [
-      | then-is_better w ↦ rw w.named-is (named_replaced c.args.edges.now c.args.first.family c.loop-place.place c.loop-place.named c.loop-place.invariant c.loop-place-test.true (sym test ∙ w.if-is_better.true))
-      | else-is_better w ↦ rw w.named-is (named_kept c.args.edges.now c.args.first.family c.loop-place.place c.loop-place.named c.loop-place.invariant (sym test ∙ w.if-is_better.false))
-    ]
+    let k : ℕ = c.loop-place.place - 1 in
+    let at : c.loop-place.place ≡ k + 1 = omega (arith, c.loop-place-test.true) in
+    let within : k < length c.args.edges.now = omega (arith, c.loop-place.invariant.within, at) in
+    let slots = c.turned-numbers.ensures.slots ∙ slots_turned k _ _ c.args.edges.now within (c.loop-place.invariant.slots ∙ ap (λ x. slots_number (rotated x c.args.edges.now)) at) c.worth_before-worth.ensures.slots in
+    let words = c.turned-numbers.ensures.words ∙ words_turned k _ _ c.args.edges.now within (c.loop-place.invariant.words ∙ ap (λ x. words_number (rotated x c.args.edges.now)) at) c.worth_before-worth.ensures.words in
+    let before = subst (λ x. BestFrom c.args.edges.now c.args.family x c.loop-place.best.words c.loop-place.best.place) at c.loop-place.invariant.best in
+    record {
+      within = omega (arith, within);
+      slots = slots;
+      words = words;
+      best = best_kept c.args.edges.now c.args.family k _ _ _ _ _ before slots words c.outline-wanted.ensures (sym c.is_better.ensures ∙ c.if-is_better.false);
+    }
 
 pub returns : goal.returns
-returns c = named_at c.args.edges.now c.args.first.family c.args.first.place c.loop-place.place c.loop-place.named c.requires.cycle c.requires.first c.loop-place-test.false c.loop-place.invariant
+returns c =
+    let end : c.loop-place.place ≡ 0 = omega (arith, c.loop-place-test.false) in
+    best_answer c.args.edges.now c.args.family _ _ c.requires.few (subst (λ x. BestFrom c.args.edges.now c.args.family x c.loop-place.best.words c.loop-place.best.place) end c.loop-place.invariant.best)

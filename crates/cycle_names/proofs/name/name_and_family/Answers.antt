@@ -3,25 +3,19 @@ use Rattle.std.proofs.Common.{◌++◌, sym, ◌∙◌, ap}
 use Rattle.std.specs.Prelude.{codes}
 use Rattle.std.specs.List.{join_by}
 use Rattle.relax_edges.specs.WordParts.{word_of}
-use Rattle.cycle_names.specs.Families.{family_word}
-use Rattle.cycle_names.specs.LinkWords.{link_words}
-use Rattle.cycle_names.specs.CycleNames.{links_text}
+use Rattle.cycle_names.specs.CycleNames.{name_of}
 use Rattle.cycle_names.specs.Fitting.{IsNamedAt}
 use Rattle.cycle_names.proofs.NameLaws.{names_of_cycles}
-use Rattle.cycle_names.proofs.CycleOf.{name_in_family, name_in_none, family_of_found, family_of_none}
+use Rattle.cycle_names.proofs.CycleOf.{name_in_none, family_of_found, family_of_none}
 use Rattle.cycle_names.proofs.name.name_and_family.Goals as goal
 
 pub returns-in-Some-clause-name : goal.returns-in-Some-clause-name
-returns-in-Some-clause-name c =
-    c.push_links.ensures
-    ∙ ap (λ w. w ++ links_text (link_words c.edges-in-Some.result.now)) (c.push_str.ensures.bytes ∙ ap (λ w. w ++ c.word.result.now) c.clear.ensures ∙ c.word.ensures)
-    ∙ ap (λ v. family_word c.in-Some.fit.family ++ links_text (link_words v)) (c.edges-in-Some.ensures.value ∙ c.rotate-rotation.ensures)
-    ∙ sym (name_in_family c.args.cycle.now c.in-Some.fit.family c.in-Some.fit.place (rw (← c.edges.ensures.value) c.in-Some.ensures))
+returns-in-Some-clause-name c = c.push_family_name.ensures ∙ ap name_of c.edges-in-Some.ensures.value
 
 pub returns-in-None-clause-name : goal.returns-in-None-clause-name
 returns-in-None-clause-name c =
-    c.push_words.ensures
-    ∙ ap (λ w. w ++ join_by word_of (codes "-") c.edges-in-None.result.now) (c.push_str-in-None.ensures.bytes ∙ ap (λ w. w ++ codes "C+") c.clear.ensures)
+    c.push_words.ensures.text
+    ∙ ap (λ w. w ++ join_by word_of (codes "-") c.edges-in-None.result.now) (c.push_str.ensures.bytes ∙ ap (λ w. w ++ codes "C+") c.clear.ensures)
     ∙ ap (λ v. codes "C+" ++ join_by word_of (codes "-") v) c.edges-in-None.ensures.value
     ∙ sym (name_in_none c.args.cycle.now c.least-rotation.result c.edges.ensures.composable (rw (← c.edges.ensures.value) c.in-None.ensures) c.least-rotation.ensures)
 
@@ -33,7 +27,7 @@ returns-in-None-clause-form c = rw (returns-in-None-clause-name c) (names_of_cyc
 
 pub returns-in-Some-clause-family : goal.returns-in-Some-clause-family
 returns-in-Some-clause-family c =
-    let at : IsNamedAt c.args.cycle.now c.in-Some.fit.family c.in-Some.fit.place = rw (← c.edges.ensures.value) c.in-Some.ensures in
+    let at : IsNamedAt c.args.cycle.now c.in-Some.fit.family c.in-Some.fit.place = rw (← c.edges.ensures.value) c.in-Some.ensures.0 in
     family_of_found c.args.cycle.now c.in-Some.fit.family at.found
 
 pub returns-in-None-clause-family : goal.returns-in-None-clause-family

@@ -1,0 +1,14 @@
+-- What is said of the links, the count and the numbers are those of the edges passed.
+use Rattle.std.proofs.Common.{◌≡◌, ◌≤◌, ◌*◌, take, drop}
+use Rattle.cycle_names.specs.Fitting.{edges_counted, slots_number, words_number, links_after}
+use Rattle.cycle_names.specs.declared.links.Links.TheVariants.{Absent}
+use Rattle.cycle_names.proofs.fit.outline_of.Given as goal
+
+abbrev pub invariant-loop-edge : goal.invariant-loop-edge
+invariant-loop-edge l = record {
+  count : l.outline.count ≡ edges_counted (take l.edge-index l.edges);
+  links : links_after l.outline.links (drop l.edge-index l.edges) ≡ links_after Absent l.edges;
+  small : l.outline.count ≤ 4096 * l.edge-index;
+  slots : l.outline.numbers.slots ≡ slots_number (take l.edge-index l.edges);
+  words : l.outline.numbers.words ≡ words_number (take l.edge-index l.edges);
+}

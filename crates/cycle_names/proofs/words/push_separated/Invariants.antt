@@ -1,0 +1,13 @@
+-- The words of the edges passed are added, and there is room for the others.
+use Rattle.std.proofs.Common.{◌≡◌, ◌≤◌, ◌+◌, ◌*◌, ◌++◌, length, drop}
+use Rattle.std.specs.List.{flat_map}
+use Rattle.relax_edges.specs.WordParts.{word_of}
+use Rattle.cycle_names.specs.Fitting.{separator_text}
+use Rattle.cycle_names.proofs.words.push_separated.Given as goal
+
+abbrev pub invariant-loop-edge : goal.invariant-loop-edge
+invariant-loop-edge l = record {
+  pushed : l.name.bytes ++ flat_map (λ edge. separator_text l.fn.between ++ word_of edge) (drop l.edge-index l.edges)
+      ≡ l.fn.name.bytes ++ flat_map (λ edge. separator_text l.fn.between ++ word_of edge) l.edges;
+  room : length l.name.bytes ≤ length l.fn.name.bytes + 15 * l.edge-index;
+}
