@@ -1,18 +1,20 @@
 -- The steps of a walk along the arcs.
 use Rattle.std.proofs.Common.{◌≡◌, ℕ, zero, suc, ◌+◌, ◌-◌, ◌<◌, ◌≤◌, Bool, true, false, ◌==◌, ◌&&◌, cond, List, [], ◌∷◌, ◌++◌, length, get_or, map, Option, Some, None, refl, sym, ◌∙◌, ap, arith, add-one}
-use Rattle.std.specs.Prelude.{nat_lt, nat_le}
+use Rattle.std.specs.Prelude.{not, nat_lt, nat_le}
 use Rattle.std.specs.Option.{option_or}
-use Rattle.std.proofs.lemmas.Bool.{cond-true, cond-false, and_from, and_left, and_right, lt-ltb, le-ltb, le-leb, lt-leb}
+use Rattle.std.proofs.lemmas.Bool.{eq-eqb, ne_eqb, cond-true, cond-false, and_from, and_left, and_right, lt-ltb, le-ltb, le-leb, lt-leb}
 use Rattle.relax_edges.specs.declared.kinds.Dir.TheVariants as dirs
 use Rattle.relax_edges.specs.declared.edge.Edge.{Edge}
-use Rattle.relax_edges.specs.EdgeTable.{source_of, same_dir, is_external, is_diff}
+use Rattle.relax_edges.specs.EdgeTable.{same_dir, is_external, is_diff}
 use Rattle.list_laws.specs.Numbers.{upto}
 use Rattle.list_laws.proofs.Cases.{by_test, by_less, by_same, by_option}
 use Rattle.list_laws.proofs.Counts.{count_upto_one_more, count_upto_same}
 use Rattle.list_laws.proofs.Numbers.{map-upto_more, length-map-upto, get_or-map-upto}
-use Rattle.resolution_laws.specs.Resolution.{move_count, edge_at, event_before, moves_before, location_of, IsResolved}
-use Rattle.resolution_laws.proofs.Locations.{moves_on, moves_kept, moves_most, moves_end, location_first, location_wrapped, location_kept}
-use Rattle.resolution_laws.proofs.Arcs.{several_locations}
+use Rattle.resolution_laws.specs.declared.event.Event.{Event}
+use Rattle.resolution_laws.specs.Resolution.{move_count, edge_at, event_of, events_of, event_before, moves_before, location_of, slot_of, IsResolved}
+use Rattle.resolution_laws.proofs.Threads.{slot-zero, slot_in, slot_out}
+use Rattle.resolution_laws.proofs.Locations.{external_keeps, ends_with, moves-zero, moves_on, moves_kept, moves_most, moves_end, location_first, location_wrapped, location_kept}
+use Rattle.resolution_laws.proofs.Arcs.{several_locations, moved_location}
 use Rattle.coherence_values.specs.declared.valued.Arc.{Arc}
 use Rattle.value_laws.specs.Values.{edge_into, is_write_at, way_place, value_of, write_count, write_at}
 use Rattle.value_laws.specs.Entries.{is_later_entry, first_entry, inner_entry, last_entry}
@@ -22,12 +24,21 @@ use Rattle.value_laws.proofs.Ways.{only_on_way}
 use Rattle.value_laws.proofs.Writes.{write_of, is_write_number, write_at_from, value_from}
 use Rattle.value_laws.proofs.Entries.{find_more}
 
--- an arc with one event more, which the edge `into` enters and the edge `out` leaves
-abbrev pub arc_with : Arc → ℕ → Edge → Edge → Arc
-arc_with arc event into out =
-    cond (same_dir (source_of out) dirs.W)
-    (record { writes = arc.writes + 1; inner = option_or arc.inner arc.entered; entered = cond (is_external into && nat_lt 0 arc.writes) (Some event) None })
+-- an arc with one event more
+abbrev pub arc_with : Arc → ℕ → Event → Arc
+arc_with arc i event =
+    cond (same_dir event.dir dirs.W)
+    (record { writes = arc.writes + 1; inner = option_or arc.inner arc.entered; entered = cond ((event.slot == 0) && nat_lt 0 arc.writes) (Some i) None })
     arc
+
+-- an external edge enters an event exactly where it is the first of its thread
+pub entered_first : (es : List Edge) (i : ℕ) → IsResolved es → i < length es → is_external (edge_into es i) ≡ (slot_of es i == 0)
+entered_first es zero r h = sym (ends_with es (length es - 1) (omega (arith, h))) ∙ r.outside ∙ sym (eq-eqb (slot_of es 0) 0 (slot-zero es))
+entered_first es (suc i) r h =
+    let next : slot_of es (suc i) ≡ slot_of es (i + 1) = ap (slot_of es) (sym (add-one i)) in
+    by_test (is_external (edge_at es i))
+    (λ t. t ∙ sym (eq-eqb (slot_of es (suc i)) 0 (next ∙ slot_out es i (omega (arith, h)) t)))
+    (λ f. f ∙ sym (ne_eqb (slot_of es (suc i)) 0 (λ z. omega (arith, z, next, slot_in es i (omega (arith, h)) f))))
 
 -- the writes of the arc of event i before it, by the event before
 abbrev pub writes_so_far : List Edge → ℕ → ℕ
@@ -101,18 +112,19 @@ same_arc : (a b : ℕ) (x y u v : Option ℕ) → a ≡ b → x ≡ y → u ≡ 
 same_arc a b x y u v e f g = cc
 
 -- what is kept, with the event that comes next on the arc
-pub arc_step : (es : List Edge) (i : ℕ) → IsResolved es → i < length es → arc_with (seen_of es (location_of es i) (writes_so_far es i)) i (edge_into es i) (edge_at es i) ≡ seen_of es (location_of es i) (value_of es i)
+pub arc_step : (es : List Edge) (i : ℕ) → IsResolved es → i < length es → arc_with (seen_of es (location_of es i) (writes_so_far es i)) i (event_of es i) ≡ seen_of es (location_of es i) (value_of es i)
 arc_step es i r h =
     let from : value_of es i ≡ writes_so_far es i + cond (is_write es i) 1 0 = value_from es i r h in
     let l = location_of es i in
     let n = writes_so_far es i in
-    let more_arc : Arc = record { writes = n + 1; inner = option_or (inner_entry es l n) (last_entry es l n); entered = cond (is_external (edge_into es i) && nat_lt 0 n) (Some i) None } in
+    let more_arc : Arc = record { writes = n + 1; inner = option_or (inner_entry es l n) (last_entry es l n); entered = cond ((slot_of es i == 0) && nat_lt 0 n) (Some i) None } in
     by_test (is_write es i)
     (λ t. let more : value_of es i ≡ suc (writes_so_far es i) = rw t at from ∙ add-one (writes_so_far es i) in
     let here : write_at es (location_of es i) (writes_so_far es i) ≡ Some i = is_write_number es (location_of es i) (writes_so_far es i) i (record { below = h; writes = write_at_from es (location_of es i) i t refl; value = more ∙ sym (add-one (writes_so_far es i)) }) in
     cond-true {A = Arc} (is_write es i) more_arc (seen_of es l n) t
-    ∙ same_arc (n + 1) (value_of es i) (option_or (inner_entry es l n) (last_entry es l n)) (inner_entry es l (value_of es i)) (cond (is_external (edge_into es i) && nat_lt 0 n) (Some i) None) (last_entry es l (value_of es i))
-    (add-one n ∙ sym more) (sym (ap (inner_entry es l) more ∙ inner_more es l n)) (sym (ap (last_entry es l) more ∙ last_more es l n i here)))
+    ∙ same_arc (n + 1) (value_of es i) (option_or (inner_entry es l n) (last_entry es l n)) (inner_entry es l (value_of es i)) (cond ((slot_of es i == 0) && nat_lt 0 n) (Some i) None) (last_entry es l (value_of es i))
+    (add-one n ∙ sym more) (sym (ap (inner_entry es l) more ∙ inner_more es l n))
+    (ap (λ b. cond (b && nat_lt 0 n) (Some i) None) (sym (entered_first es i r h)) ∙ sym (ap (last_entry es l) more ∙ last_more es l n i here)))
     (λ f. let same : value_of es i ≡ writes_so_far es i + 0 = rw f at from in
     cond-false {A = Arc} (is_write es i) more_arc (seen_of es l n) f ∙ ap (seen_of es l) (omega (arith, same)))
 
@@ -131,10 +143,6 @@ arc_goes_on es i h f =
     let on : writes_so_far es (i + 1) ≡ value_of es i = ap (writes_so_far es) (add-one i) ∙ cond-false {A = ℕ} (is_diff (edge_at es i)) 0 (value_of es i) f in
     rw (on, location_kept es i h f) refl
 
--- the edge into the next event
-pub into_next : (es : List Edge) (i : ℕ) → edge_into es (i + 1) ≡ edge_at es i
-into_next es i = ap (edge_into es) (add-one i)
-
 -- the arc of location 0 goes on from the last event to event 0
 pub arc_wraps : (es : List Edge) → IsResolved es → seen_of es (location_of es (length es)) (writes_so_far es (length es)) ≡ seen_of es 0 (writes_so_far es 0)
 arc_wraps es r =
@@ -142,9 +150,44 @@ arc_wraps es r =
     let same : writes_so_far es (length es) ≡ writes_so_far es 0 = ap (writes_so_far es) here in
     rw (same, location_wrapped es (length es) (moves_end es)) refl
 
--- there are moves before the end
-pub moves_made : (es : List Edge) → IsResolved es → 0 < moves_before es (length es)
-moves_made es r = omega (arith, several_locations es r, moves_end es)
+-- the last edge leads to no other location
+pub last_keeps : (es : List Edge) (i : ℕ) → IsResolved es → i < length es → length es ≤ i + 1 → is_diff (edge_at es i) ≡ false
+last_keeps es i r h l = external_keeps (edge_at es i) (sym (ends_with es i (omega (arith, h, l))) ∙ r.outside)
+
+-- an edge leads to another location where the next event is at another one
+pub leads_elsewhere : (es : List Edge) (i : ℕ) → i < length es → (location_of es i ≡ location_of es (i + 1) → ⊥) → is_diff (edge_at es i) ≡ true
+leads_elsewhere es i h d =
+    by_test (is_diff (edge_at es i))
+    (λ t. t)
+    (λ f. absurd (d (sym (location_kept es i h f))))
+
+-- and it doesn't where the next event is at the same one
+pub leads_nowhere : (es : List Edge) (i : ℕ) → IsResolved es → i + 1 < length es → location_of es i ≡ location_of es (i + 1) → is_diff (edge_at es i) ≡ false
+leads_nowhere es i r h e =
+    by_test (is_diff (edge_at es i))
+    (λ t. absurd (moved_location es i r h t (sym e)))
+    (λ f. f)
+
+-- where all moves are made after an event at location 0, they are made before it
+pub made_before : (es : List Edge) (i : ℕ) → IsResolved es → i < length es → moves_before es (i + 1) ≡ move_count es → location_of es i ≡ 0 → moves_before es i ≡ move_count es
+made_before es i r h m z =
+    by_test (is_diff (edge_at es i))
+    (λ t. let on = moves_on es i h t in absurd (omega (arith, on, m, z, location_first es i (omega (arith, on, m)), several_locations es r)))
+    (λ f. sym (moves_kept es i h f) ∙ m)
+
+-- where all moves are made after an event at another location, it makes the last one
+pub makes_last : (es : List Edge) (i : ℕ) → i < length es → moves_before es (i + 1) ≡ move_count es → (location_of es i ≡ 0 → ⊥) → is_diff (edge_at es i) ≡ true
+makes_last es i h m d =
+    by_test (is_diff (edge_at es i))
+    (λ t. t)
+    (λ f. absurd (d (location_wrapped es i (sym (moves_kept es i h f) ∙ m))))
+
+-- where all moves are made, an edge makes none
+pub makes_none : (es : List Edge) (i : ℕ) → i < length es → moves_before es i ≡ move_count es → is_diff (edge_at es i) ≡ false
+makes_none es i h m =
+    by_test (is_diff (edge_at es i))
+    (λ t. absurd (omega (arith, moves_on es i h t, m, moves_most es (i + 1) (omega (arith, h)))))
+    (λ f. f)
 
 -- one location more whose arc is walked
 pub arcs_more : (es : List Edge) (i : ℕ) → IsResolved es → i < length es → is_diff (edge_at es i) ≡ true → map (λ l. seen_of es l (write_count es l)) (upto (moves_before es (i + 1))) ≡ map (λ l. seen_of es l (write_count es l)) (upto (moves_before es i)) ++ seen_of es (location_of es i) (value_of es i) ∷ []
@@ -158,18 +201,49 @@ arcs_more es i r h t =
 pub arcs_same : (es : List Edge) (i : ℕ) → i < length es → is_diff (edge_at es i) ≡ false → map (λ l. seen_of es l (write_count es l)) (upto (moves_before es (i + 1))) ≡ map (λ l. seen_of es l (write_count es l)) (upto (moves_before es i))
 arcs_same es i h f = ap (λ n. map (λ l. seen_of es l (write_count es l)) (upto n)) (moves_kept es i h f)
 
+-- whether the next event is at another location is whether an edge leads to another one
+pub arc_ended : (es : List Edge) (i a b : ℕ) → IsResolved es → i + 1 < length es → a ≡ location_of es i → b ≡ location_of es (i + 1) → not (a == b) ≡ is_diff (edge_at es i)
+arc_ended es i a b r h p q =
+    by_same a b
+    (λ s. rw (eq-eqb a b s) (sym (leads_nowhere es i r h (sym p ∙ s ∙ q))))
+    (λ d. rw (ne_eqb a b d) (sym (leads_elsewhere es i (omega (arith, h)) (λ s. d (p ∙ s ∙ sym q)))))
+
+-- all moves are made after some event
+pub some_made : (es : List Edge) (n : ℕ) → IsResolved es → moves_before es n ≡ move_count es → 0 < n
+some_made es zero r m = absurd (omega (arith, moves-zero es, m, several_locations es r))
+some_made es (suc n) r m = omega arith
+
+-- what is read past the end of the events
+abbrev pub no_event : Event
+no_event = record { dir = dirs.R; thread = 0; slot = 0; location = 0 }
+
+-- an event is read from the list of all
+pub record EventRead (es : List Edge) (xs : List Event) (i : ℕ) : Type 0 where
+  pub below : i < length es
+  pub is : get_or xs i no_event ≡ event_of es i
+
+-- there are as many events as edges
+pub events_many : (es : List Edge) (xs : List Event) → xs ≡ events_of es → length xs ≡ length es
+events_many es xs e = ap length e ∙ length-map-upto (event_of es) (length es)
+
+-- each event of the list of all is that of the cycle
+pub event_read : (es : List Edge) (xs : List Event) (i : ℕ) → xs ≡ events_of es → i < length xs → EventRead es xs i
+event_read es xs i e h =
+    let below : i < length es = omega (arith, h, events_many es xs e) in
+    record { below = below; is = rw e (get_or-map-upto (event_of es) (length es) i no_event below) }
+
 -- the step of the code leads on to the next event
-pub with_leads_on : (arc next : Arc) (i : ℕ) (into out : Edge) → next ≡ arc_with arc i into out → LeadsOn arc i into out next
+pub with_leads_on : (arc next : Arc) (i : ℕ) (event : Event) → next ≡ arc_with arc i event → LeadsOn arc i event next
 unfolding LeadsOn
-with_leads_on arc next i into out n es e a =
+with_leads_on arc next i event n es e a =
     let before : arc ≡ seen_of es (location_of es i) (writes_so_far es i) = a ∙ ap (seen_of es (location_of es i)) (writes_before_is es i e.resolved e.below) in
-    n ∙ rw (before, e.enters, e.leaves) (arc_step es i e.resolved e.below)
+    n ∙ rw (before, e.is) (arc_step es i e.resolved e.below)
 
 -- the step of a walk that knows its arc
-pub walk_step : (es : List Edge) (i : ℕ) (arc next : Arc) (into : Edge) → IsResolved es → i < length es → into ≡ edge_into es i → arc ≡ seen_of es (location_of es i) (writes_so_far es i) → LeadsOn arc i into (edge_at es i) next → next ≡ seen_with es i
+pub walk_step : (es : List Edge) (i : ℕ) (arc next : Arc) (event : Event) → IsResolved es → i < length es → event ≡ event_of es i → arc ≡ seen_of es (location_of es i) (writes_so_far es i) → LeadsOn arc i event next → next ≡ seen_with es i
 unfolding LeadsOn
-walk_step es i arc next into r h e a leads =
-    leads es (record { resolved = r; below = h; enters = e; leaves = refl }) (a ∙ ap (seen_of es (location_of es i)) (sym (writes_before_is es i r h)))
+walk_step es i arc next event r h e a leads =
+    leads es (record { resolved = r; below = h; is = e }) (a ∙ ap (seen_of es (location_of es i)) (sym (writes_before_is es i r h)))
 
 -- the writes of an arc are at most as many as the edges
 pub writes_before_most : (es : List Edge) (i : ℕ) → writes_so_far es i ≤ length es

@@ -1,11 +1,12 @@
 -- What the code keeps of the writes on an arc, its struct `Arc`, and of all events: for the clauses of private functions
 -- and the invariant of `Valued`.
-use Rattle.std.specs.Prelude.{◌≡◌, ℕ, ◌-◌, ◌<◌, ◌&&◌, nat_lt, List, length, map, count_by}
+use Rattle.std.specs.Prelude.{◌≡◌, ℕ, ◌<◌, ◌&&◌, nat_lt, List, length, map, count_by}
 use Rattle.relax_edges.specs.declared.edge.Edge.{Edge}
 use Rattle.list_laws.specs.Numbers.{upto}
-use Rattle.resolution_laws.specs.Resolution.{edge_at, move_count, location_of, IsResolved}
+use Rattle.resolution_laws.specs.declared.event.Event.{Event}
+use Rattle.resolution_laws.specs.Resolution.{event_of, move_count, location_of, IsResolved}
 use Rattle.coherence_values.specs.declared.valued.Arc.{Arc}
-use Rattle.value_laws.specs.Values.{edge_into, is_write_at, way_place, value_of, write_count}
+use Rattle.value_laws.specs.Values.{is_write_at, way_place, value_of, write_count}
 use Rattle.value_laws.specs.Entries.{inner_entry, last_entry}
 
 -- what is kept of the first n writes of a location
@@ -24,17 +25,16 @@ seen_before es i = seen_of es (location_of es i) (writes_before es i)
 abbrev pub seen_with : List Edge → ℕ → Arc
 seen_with es i = seen_of es (location_of es i) (value_of es i)
 
--- event i of a resolved cycle, with the edges that enter and leave it
-pub record IsEventBetween (es : List Edge) (i : ℕ) (into out : Edge) : Type 0 where
+-- event i of a resolved cycle
+pub record IsEventOf (es : List Edge) (i : ℕ) (event : Event) : Type 0 where
   pub resolved : IsResolved es
   pub below : i < length es
-  pub enters : into ≡ edge_into es i
-  pub leaves : out ≡ edge_at es i
+  pub is : event ≡ event_of es i
 
--- where `arc` is what is kept before event i of any resolved cycle, with these edges into it and out of it, `next` is what
--- is kept with the event
-unfoldable pub LeadsOn : Arc → ℕ → Edge → Edge → Arc → Type 0
-LeadsOn arc i into out next = (es : List Edge) → IsEventBetween es i into out → arc ≡ seen_before es i → next ≡ seen_with es i
+-- where `arc` is what is kept before event i of any resolved cycle, and `event` is that event, `next` is what is kept
+-- with the event
+unfoldable pub LeadsOn : Arc → ℕ → Event → Arc → Type 0
+LeadsOn arc i event next = (es : List Edge) → IsEventOf es i event → arc ≡ seen_before es i → next ≡ seen_with es i
 
 -- the values of all events
 abbrev pub values_of : List Edge → List ℕ

@@ -1,12 +1,13 @@
-ghost use Rattle.std.specs.Prelude.{◌≡◌, ◌+◌, ◌<◌, ◌≤◌, ◌==◌, ◌&&◌, length, Some};
+ghost use Rattle.std.specs.Prelude.{◌≡◌, ◌+◌, ◌-◌, ◌<◌, ◌≤◌, ◌==◌, ◌&&◌, true, [], length, Some};
+ghost use Rattle.relax_edges.specs.EdgeTable.{is_diff};
 ghost use Rattle.relax_edges.specs.declared.kinds.ObsMode.TheVariants.{Avoid};
-ghost use Rattle.resolution_laws.specs.Resolution.{move_count, IsResolved};
+ghost use Rattle.resolution_laws.specs.Resolution.{edge_at, move_count, moves_before, IsResolved};
 ghost use Rattle.value_laws.specs.Values.{value_of, write_count, write_at, is_write_at, is_observed, valuation_of};
 ghost use Rattle.coherence_values.specs.Arc.{LeadsOn, seen_of, writes_before, values_of, all_seen};
 
 use arrayvec::ArrayVec;
-use cycle_resolve::Resolved;
-use relax_edges::{Dir, Edge, MAX_EDGES, ObsMode};
+use cycle_resolve::{Event, Resolved};
+use relax_edges::{Dir, MAX_EDGES, ObsMode};
 use std::marker::Model;
 use value_laws::NeedsObserver;
 
@@ -23,22 +24,22 @@ struct Arc {
 }
 
 impl Arc {
-    /// What is kept with one event more, the next of its arc, which the edge `into` enters and the
-    /// edge `out` leaves.
+    /// What is kept with one event more, the next of its arc: an external edge enters it where it is
+    /// the first of its thread.
     #[tactic(auto, using(crate::proofs::Walk::with_leads_on))]
-    fn with(self, event: u8, into: Edge, out: Edge) -> Arc
+    fn with(self, i: u8, event: Event) -> Arc
         requires { self.writes < 255 }
         ensures most { result.writes ≤ self.writes + 1 }
-        ensures next { LeadsOn self event into out result }
+        ensures next { LeadsOn self i event result }
     {
-        if out.source() == Dir::R {
+        if event.dir == Dir::R {
             return self;
         }
         Arc {
             writes: self.writes + 1,
             inner: self.inner.or(self.entered),
-            entered: if into.is_external() && self.writes > 0 {
-                Some(event)
+            entered: if event.slot == 0 && self.writes > 0 {
+                Some(i)
             } else {
                 None
             },
@@ -80,9 +81,11 @@ impl<'a> Model for Valued<'a> {
 pub fn value(resolved: &Resolved, mode: ObsMode) -> Result<Valued<'_>, NeedsObserver>
     ensures { result ≡ valuation_of resolved.now mode }
 {
-    let walk = walk_arcs(resolved.cycle().edges());
+    let mut values = ArrayVec::new();
+    let mut arcs = ArrayVec::new();
+    walk_arcs(resolved, &mut values, &mut arcs);
     if let ObsMode::Avoid = mode {
-        for (location, arc) in walk.arcs.iter().enumerate() {
+        for (location, arc) in arcs.iter().enumerate() {
             if let Some(event) = arc.inner {
                 return Err(NeedsObserver {
                     location: location as u8,
@@ -94,8 +97,8 @@ pub fn value(resolved: &Resolved, mode: ObsMode) -> Result<Valued<'_>, NeedsObse
     Ok(Valued {
         resolved,
         mode,
-        values: walk.values,
-        arcs: walk.arcs,
+        values,
+        arcs,
     })
 }
 
@@ -104,61 +107,80 @@ pub fn value(resolved: &Resolved, mode: ObsMode) -> Result<Valued<'_>, NeedsObse
 pub fn value_unobserved(resolved: &Resolved) -> Valued<'_>
     ensures { result ≡ record { edges = resolved.now; mode = Avoid } }
 {
-    let walk = walk_arcs(resolved.cycle().edges());
+    let mut values = ArrayVec::new();
+    let mut arcs = ArrayVec::new();
+    walk_arcs(resolved, &mut values, &mut arcs);
     Valued {
         resolved,
         mode: ObsMode::Avoid,
-        values: walk.values,
-        arcs: walk.arcs,
+        values,
+        arcs,
     }
 }
 
-/// The values of all events, and the arcs of all locations.
-#[derive(Drop)]
-struct Walk {
-    values: ArrayVec<u8, MAX_EDGES>,
-    arcs: ArrayVec<Arc, MAX_EDGES>,
-}
-
-/// Walks along all arcs, that of location 0 first, after the last edge to another location.
-fn walk_arcs(edges: &[Edge]) -> Walk
-    requires { IsResolved edges.now }
-    ensures values { result.values.items ≡ values_of edges.now }
-    ensures arcs { result.arcs.items ≡ all_seen edges.now }
+/// Walks along all arcs, that of location 0 first, after the last edge to another location. The
+/// values of all events and the arcs of all locations are put into the empty lists.
+fn walk_arcs(
+    resolved: &Resolved,
+    values: &mut ArrayVec<u8, MAX_EDGES>,
+    arcs: &mut ArrayVec<Arc, MAX_EDGES>,
+)
+    requires values { values.old.items ≡ [] }
+    requires arcs { arcs.old.items ≡ [] }
+    ensures values { values.new.items ≡ values_of resolved.now }
+    ensures arcs { arcs.new.items ≡ all_seen resolved.now }
+    ensures resolved { IsResolved resolved.now }
 {
-    let mut walk = Walk {
-        values: ArrayVec::new(),
-        arcs: ArrayVec::new(),
-    };
-    let mut arc = arc_after(edges);
-    let mut into = edges[edges.len() - 1];
-    for (i, out) in edges.iter().enumerate() {
-        arc = arc.with(i as u8, into, *out);
-        walk.values.push(arc.writes);
-        if out.is_diff() {
-            walk.arcs.push(arc);
+    let _edges = resolved.cycle();
+    let mut arc = arc_after(resolved);
+    for (i, event) in resolved.events().iter().enumerate() {
+        arc = arc.with(i as u8, *event);
+        values.push(arc.writes);
+        if ends_arc(resolved, i) {
+            arcs.push(arc);
             arc = Arc::default();
         }
-        into = *out;
     }
-    walk
+}
+
+/// Whether the next event is at another location.
+fn ends_arc(resolved: &Resolved, i: usize) -> bool
+    requires { i < length resolved.now }
+    ensures { result ≡ is_diff (edge_at resolved.now i) }
+{
+    let _edges = resolved.cycle();
+    let events = resolved.events();
+    i + 1 < events.len() && events[i].location != events[i + 1].location
 }
 
 /// The arc of location 0, as far as it lies after the last edge to another location.
-fn arc_after(edges: &[Edge]) -> Arc
-    requires { IsResolved edges.now }
-    ensures { result ≡ seen_of edges.now 0 (writes_before edges.now 0) }
+fn arc_after(resolved: &Resolved) -> Arc
+    ensures { result ≡ seen_of resolved.now 0 (writes_before resolved.now 0) }
 {
+    let _edges = resolved.cycle();
+    let events = resolved.events();
     let mut arc = Arc::default();
-    let mut into = edges[edges.len() - 1];
-    for (i, out) in edges.iter().enumerate() {
-        arc = arc.with(i as u8, into, *out);
-        if out.is_diff() {
-            arc = Arc::default();
-        }
-        into = *out;
+    for i in after_moves(resolved)..events.len() {
+        arc = arc.with(i as u8, events[i]);
     }
     arc
+}
+
+/// The event that the last edge to another location leads to: all events from it on are at
+/// location 0, and the one before it isn't.
+fn after_moves(resolved: &Resolved) -> usize
+    ensures below { 0 < result }
+    ensures most { result ≤ length resolved.now }
+    ensures all { moves_before resolved.now result ≡ move_count resolved.now }
+    ensures last { is_diff (edge_at resolved.now (result - 1)) ≡ true }
+{
+    let _edges = resolved.cycle();
+    let events = resolved.events();
+    let mut end = events.len();
+    while events[end - 1].location == 0 {
+        end -= 1;
+    }
+    end
 }
 
 impl<'a> Valued<'a> {

@@ -1,4 +1,4 @@
-ghost use Rattle.std.specs.Prelude.{◌≡◌, ◌≤◌, ◌<◌, length, IfOk, position};
+ghost use Rattle.std.specs.Prelude.{◌≡◌, ◌≤◌, ◌<◌, false, [], length, IfOk, position};
 ghost use Rattle.cycle_laws.specs.Rotation.{rotated};
 ghost use Rattle.relax_edges.specs.EdgeTable.{is_external};
 ghost use Rattle.resolution_laws.specs.Resolution.{external_count, move_count, ends_outside, turned, event_of, events_of, is_coherence_only, resolution_of, IsResolved};
@@ -15,6 +15,12 @@ use std::marker::Model;
 /// Contracts see the list of its edges.
 #[derive(Drop)]
 pub struct Resolved {
+    kept: Kept,
+}
+
+/// What a `Resolved` keeps: it is made here, where no copy of it is needed to fill the list of events.
+#[derive(Drop)]
+struct Kept {
     cycle: Cycle,
     events: ArrayVec<Event, MAX_EDGES>,
     threads: u8,
@@ -28,9 +34,9 @@ impl Model for Resolved {
 
     ghost Value = { List Edge };
 
-    ghost view = { λ r. r.cycle };
+    ghost view = { λ r. r.kept.cycle };
 
-    ghost invariant = { λ r. AreKeptEvents r.cycle r.events.items r.threads r.locations };
+    ghost invariant = { λ r. AreKeptEvents r.kept.cycle r.kept.events.items r.kept.threads r.kept.locations };
 }
 
 impl Resolved {
@@ -39,7 +45,7 @@ impl Resolved {
         ensures value { result.now ≡ self.now }
         ensures resolved { IsResolved self.now }
     {
-        &self.cycle
+        &self.kept.cycle
     }
 
     /// Event number `i`, which is below the number of edges: the access that edge `i` leaves.
@@ -47,28 +53,28 @@ impl Resolved {
         requires { i < length self.now }
         ensures { result ≡ event_of self.now i }
     {
-        self.events[usize::from(i)]
+        self.kept.events[usize::from(i)]
     }
 
     /// All events, in the order of the edges.
     pub fn events(&self) -> &[Event]
         ensures { result.now ≡ events_of self.now }
     {
-        self.events.as_slice()
+        self.kept.events.as_slice()
     }
 
     /// How many threads the cycle has: its external edges.
     pub fn threads(&self) -> u8
         ensures { result ≡ external_count self.now }
     {
-        self.threads
+        self.kept.threads
     }
 
     /// How many locations the cycle has: its edges to another location.
     pub fn locations(&self) -> u8
         ensures { result ≡ move_count self.now }
     {
-        self.locations
+        self.kept.locations
     }
 }
 
@@ -84,36 +90,44 @@ pub fn resolve(cycle: &Cycle) -> Result<Resolved, ResolveError>
     ensures made { result ≡ resolution_of cycle.now }
     ensures resolved { IfOk result IsResolved }
 {
-    let threads = count_external(cycle.edges());
+    let Counts { threads, locations } = counts_of(cycle.edges());
     if threads < 2 {
         return Err(ResolveError::TooFewThreads);
     }
-    let cycle = cycle.rotate(turn(cycle.edges()));
-    let locations = count_diff(cycle.edges());
-    if is_coherence_only(cycle.edges(), locations) {
-        return Err(ResolveError::CoherenceOnly);
-    }
-    let events = events_of(cycle.edges(), locations);
-    Ok(Resolved {
-        cycle,
-        events,
+    let mut kept = Kept {
+        cycle: cycle.rotate(turn(cycle.edges())),
+        events: ArrayVec::new(),
         threads,
         locations,
-    })
+    };
+    if is_coherence_only(kept.cycle.edges(), locations, &mut kept.events) {
+        return Err(ResolveError::CoherenceOnly);
+    }
+    Ok(Resolved { kept })
 }
 
-fn count_external(edges: &[Edge]) -> u8
-    requires { length edges.now ≤ MAX_EDGES }
-    ensures { result ≡ external_count edges.now }
-{
-    edges.iter().filter(|edge| edge.is_external()).count() as u8
+/// How many threads and locations a cycle has.
+struct Counts {
+    threads: u8,
+    locations: u8,
 }
 
-fn count_diff(edges: &[Edge]) -> u8
+/// Counts the threads and the locations in one pass: an external edge is no edge to another location.
+fn counts_of(edges: &[Edge]) -> Counts
     requires { length edges.now ≤ MAX_EDGES }
-    ensures { result ≡ move_count edges.now }
+    ensures threads { result.threads ≡ external_count edges.now }
+    ensures locations { result.locations ≡ move_count edges.now }
 {
-    edges.iter().filter(|edge| edge.is_diff()).count() as u8
+    let mut threads = 0;
+    let mut locations = 0;
+    for edge in edges {
+        if edge.is_external() {
+            threads += 1;
+        } else if edge.is_diff() {
+            locations += 1;
+        }
+    }
+    Counts { threads, locations }
 }
 
 /// By how many places to rotate so that the last edge is external.
@@ -147,55 +161,46 @@ fn first_external(edges: &[Edge]) -> Option<usize>
     edges.iter().position(|edge| edge.is_external())
 }
 
-/// Whether one thread has all the edges to another location.
-fn is_coherence_only(edges: &[Edge], locations: u8) -> bool
+/// Whether one thread has all the edges to another location; where none has, the events of all edges
+/// are put into the empty list.
+fn is_coherence_only(edges: &[Edge], locations: u8, events: &mut ArrayVec<Event, MAX_EDGES>) -> bool
     requires few { length edges.now ≤ MAX_EDGES }
     requires locations { locations ≡ move_count edges.now }
-    ensures { result ≡ is_coherence_only edges.now }
+    requires empty { events.old.items ≡ [] }
+    ensures only { result ≡ is_coherence_only edges.now }
+    ensures events { result ≡ false → events.new.items ≡ events_of edges.now }
 {
-    let mut in_thread = 0;
-    for edge in edges {
-        if edge.is_diff() {
-            in_thread += 1;
-        }
-        if edge.is_external() {
-            if in_thread == locations {
-                return true;
-            }
-            in_thread = 0;
-        }
-    }
-    false
-}
-
-fn events_of(edges: &[Edge], locations: u8) -> ArrayVec<Event, MAX_EDGES>
-    requires few { length edges.now ≤ MAX_EDGES }
-    requires locations { locations ≡ move_count edges.now }
-    ensures { result.items ≡ events_of edges.now }
-{
-    let mut events = ArrayVec::new();
     let mut thread = 0;
     let mut slot = 0;
     let mut location = 0;
+    let mut moves = 0;
     for edge in edges {
+        // Both are asked before the event is put, so that the edge's kind is looked at once.
+        let external = edge.is_external();
+        let diff = edge.is_diff();
         events.push(Event {
             dir: edge.source(),
             thread,
             slot,
             location,
         });
-        if edge.is_external() {
+        if external {
+            if moves == locations {
+                return true;
+            }
             thread += 1;
             slot = 0;
+            moves = 0;
         } else {
             slot += 1;
-        }
-        if edge.is_diff() {
-            location += 1;
-            if location == locations {
-                location = 0;
+            if diff {
+                moves += 1;
+                location += 1;
+                if location == locations {
+                    location = 0;
+                }
             }
         }
     }
-    events
+    false
 }

@@ -1,45 +1,43 @@
 -- What is walked is the rest of the arc of location 0.
-use Rattle.std.proofs.Common.{◌≡◌, true, false, length, refl, sym, ◌∙◌, ap, arith}
-use Rattle.relax_edges.specs.EdgeTable.{is_diff}
-use Rattle.resolution_laws.specs.Resolution.{edge_at}
-use Rattle.resolution_laws.proofs.Locations.{moves-zero, moves_kept}
+use Rattle.std.proofs.Common.{◌≡◌, ◌+◌, ◌-◌, length, sym, ◌∙◌, ap, arith}
+use Rattle.resolution_laws.specs.Resolution.{location_of}
+use Rattle.resolution_laws.proofs.Locations.{moves_kept}
 use Rattle.coherence_values.specs.declared.valued.Arc.{Arc}
 use Rattle.coherence_values.specs.Arc.{seen_of}
-use Rattle.coherence_values.proofs.Walk.{into_next, arc_begins, arc_goes_on, walk_step, fresh_arc, arc_wraps, moves_made, writes_before_is}
+use Rattle.coherence_values.proofs.Walk.{writes_so_far, arc_begins, arc_goes_on, walk_step, fresh_arc, arc_wraps, makes_none, events_many, event_read, writes_before_is, writes_before_most}
 use Rattle.coherence_values.proofs.valued.arc_after.Goals as goal
-use Rattle.coherence_values.proofs.valued.arc_after.Goals.{then-is_diff, else-is_diff}
 
 pub loop-i-init : goal.loop-i-init
-loop-i-init c = record {
-  small = omega (arith, c.default-arc.ensures.0);
-  enters = refl;
-  goes = λ g. absurd (omega (arith, g, moves-zero c.args.edges.now));
-}
+loop-i-init c =
+    let es = c.args.resolved.now in
+    let from = c.after_moves-i.result in
+    let same : c.after_moves-i.result ≡ c.after_moves-i.result - 1 + 1 = omega (arith, c.after_moves-i.ensures.below) in
+    record {
+      made = c.after_moves-i.ensures.all;
+      goes = fresh_arc c.default-arc.result c.default-arc.ensures ∙ sym (ap (λ n. seen_of es (location_of es n) (writes_so_far es n)) same ∙ arc_begins es (from - 1) c.after_moves-i.ensures.last);
+    }
+
+pub overflow_cast-i : goal.overflow_cast-i
+overflow_cast-i c = omega (arith, c.loop-i-test.true, events_many c.args.resolved.now c.events-events.result.now c.events-events.ensures, c.cycle-edges.ensures.resolved.composes.few)
+
+pub with-arc-requires : goal.with-arc-requires
+with-arc-requires c = omega (arith, c.cycle-edges.ensures.resolved.composes.few, writes_before_most c.args.resolved.now c.loop-i.i, ap (λ (a : Arc). a.writes) c.loop-i.invariant.goes)
 
 pub loop-i-preserved : goal.loop-i-preserved
 loop-i-preserved c =
-    elim c.if-is_diff.branch [
-      | then-is_diff w ↦
-          let d : is_diff (edge_at c.args.edges.now c.loop-i.i) ≡ true = sym c.is_diff.ensures ∙ w.if-is_diff.true in
-          let z = w.arc-is ∙ fresh_arc w.default-arc-then-is_diff.result w.default-arc-then-is_diff.ensures in
-          record {
-            small = omega (arith, ap (λ (a : Arc). a.writes) z);
-            enters = sym (into_next c.args.edges.now c.loop-i.i);
-            goes = λ g. z ∙ sym (arc_begins c.args.edges.now c.loop-i.i d);
-          }
-      | else-is_diff w ↦
-          let d : is_diff (edge_at c.args.edges.now c.loop-i.i) ≡ false = sym c.is_diff.ensures ∙ w.if-is_diff.false in
-          record {
-            small = omega (arith, ap (λ (a : Arc). a.writes) w.arc-is, c.with-arc.ensures.most, c.loop-i.invariant.small);
-            enters = sym (into_next c.args.edges.now c.loop-i.i);
-            goes = λ g. w.arc-is ∙ walk_step c.args.edges.now c.loop-i.i c.loop-i.arc c.with-arc.result c.loop-i.into c.requires (omega arith) c.loop-i.invariant.enters (c.loop-i.invariant.goes (omega (arith, g, moves_kept c.args.edges.now c.loop-i.i (omega arith) d))) c.with-arc.ensures.next
-                ∙ sym (arc_goes_on c.args.edges.now c.loop-i.i (omega arith) d);
-          }
-    ]
+    let es = c.args.resolved.now in
+    let i = c.loop-i.i in
+    let read = event_read es c.events-events.result.now i c.events-events.ensures (omega (arith, c.loop-i-test.true)) in
+    let keeps = makes_none es i read.below c.loop-i.invariant.made in
+    record {
+      made = moves_kept es i read.below keeps ∙ c.loop-i.invariant.made;
+      goes = walk_step es i c.loop-i.arc c.with-arc.result _ c.cycle-edges.ensures.resolved read.below read.is c.loop-i.invariant.goes c.with-arc.ensures.next ∙ sym (arc_goes_on es i read.below keeps);
+    }
 
 pub returns : goal.returns
 returns c =
-    let e : c.loop-i.i ≡ length c.args.edges.now = omega arith in
+    let many = events_many c.args.resolved.now c.events-events.result.now c.events-events.ensures in
+    let e : c.loop-i.i ≡ length c.args.resolved.now = omega (arith, many, c.after_moves-i.ensures.most) in
     let g = rw e at c.loop-i.invariant.goes in
-    g (moves_made c.args.edges.now c.requires) ∙ arc_wraps c.args.edges.now c.requires
-    ∙ ap (seen_of c.args.edges.now 0) (sym (writes_before_is c.args.edges.now 0 c.requires (omega (arith, c.requires.composes.some))))
+    g ∙ arc_wraps c.args.resolved.now c.cycle-edges.ensures.resolved
+    ∙ ap (seen_of c.args.resolved.now 0) (sym (writes_before_is c.args.resolved.now 0 c.cycle-edges.ensures.resolved (omega (arith, c.cycle-edges.ensures.resolved.composes.some))))

@@ -14,14 +14,14 @@ use Rattle.coherence_values.proofs.valued.value.Goals.{in-Avoid+else-loop-locati
 
 pub returns-in-Some : goal.returns-in-Some
 returns-in-Some c =
-    let arcs : c.deref-arc-items.result.now ≡ all_seen c.args.resolved.now = c.deref-arc-items.ensures.0 ∙ c.walk_arcs-walk.ensures.arcs ∙ ap all_seen (c.edges.ensures.value ∙ c.cycle.ensures.value) in
+    let arcs : c.deref-arc-items.result.now ≡ all_seen c.args.resolved.now = c.deref-arc-items.ensures.0 ∙ c.walk_arcs.ensures.arcs in
     let a = arc_read c.args.resolved.now c.deref-arc-items.result.now c.loop-location.location (record { writes = 0; inner = None; entered = None }) arcs (omega arith) in
     let found : inner_entry c.args.resolved.now c.loop-location.location (write_count c.args.resolved.now c.loop-location.location) ≡ Some c.in-Some.event = ap (λ (x : Arc). x.inner) (sym a.is) ∙ c.in-Some.is in
     rw c.in-Avoid.is (sym (avoid_refused c.args.resolved.now (record { location = c.loop-location.location; event = c.in-Some.event }) (need_found c.args.resolved.now c.loop-location.location (move_count c.args.resolved.now) c.in-Some.event a.below c.loop-location.invariant found)))
 
 pub loop-location-preserved : goal.loop-location-preserved
 loop-location-preserved c =
-    let arcs : c.deref-arc-items.result.now ≡ all_seen c.args.resolved.now = c.deref-arc-items.ensures.0 ∙ c.walk_arcs-walk.ensures.arcs ∙ ap all_seen (c.edges.ensures.value ∙ c.cycle.ensures.value) in
+    let arcs : c.deref-arc-items.result.now ≡ all_seen c.args.resolved.now = c.deref-arc-items.ensures.0 ∙ c.walk_arcs.ensures.arcs in
     let a = arc_read c.args.resolved.now c.deref-arc-items.result.now c.loop-location.location (record { writes = 0; inner = None; entered = None }) arcs (omega arith) in
     no_need_more c.args.resolved.now c.loop-location.location c.loop-location.invariant (ap (λ (x : Arc). x.inner) (sym a.is) ∙ c.in_default-inner.is)
 
@@ -29,7 +29,7 @@ pub returns : goal.returns
 returns c =
     elim c.match-mode.branch [
       | in-Avoid+else-loop-location-test w ↦
-          let arcs : w.deref-arc-items.result.now ≡ all_seen c.args.resolved.now = w.deref-arc-items.ensures.0 ∙ c.walk_arcs-walk.ensures.arcs ∙ ap all_seen (c.edges.ensures.value ∙ c.cycle.ensures.value) in
+          let arcs : w.deref-arc-items.result.now ≡ all_seen c.args.resolved.now = w.deref-arc-items.ensures.0 ∙ c.walk_arcs.ensures.arcs in
           let all : w.loop-location.location ≡ move_count c.args.resolved.now = omega (arith, ap length arcs, length-map-upto (λ l. seen_of c.args.resolved.now l (write_count c.args.resolved.now l)) (move_count c.args.resolved.now)) in
           let none : observer_need c.args.resolved.now ≡ None = ap (λ n. first_need c.args.resolved.now (upto n)) (sym all) ∙ w.loop-location.invariant in
           rw w.in-Avoid.is (sym (avoid_allowed c.args.resolved.now none))

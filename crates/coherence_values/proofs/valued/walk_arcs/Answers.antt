@@ -1,5 +1,5 @@
 -- What is walked is the values and the arcs of the cycle.
-use Rattle.std.proofs.Common.{◌≡◌, ◌+◌, true, false, length, map, refl, sym, ◌∙◌, ap, arith}
+use Rattle.std.proofs.Common.{◌≡◌, ◌+◌, true, false, length, map, sym, ◌∙◌, ap, arith}
 use Rattle.relax_edges.specs.EdgeTable.{is_diff}
 use Rattle.resolution_laws.specs.Resolution.{edge_at, location_of, moves_before}
 use Rattle.resolution_laws.proofs.Locations.{moves-zero, moves_few, moves_end, location-zero}
@@ -8,57 +8,93 @@ use Rattle.value_laws.specs.Values.{value_of, write_count}
 use Rattle.coherence_values.specs.Arc.{seen_of}
 use Rattle.list_laws.specs.Numbers.{upto}
 use Rattle.list_laws.proofs.Numbers.{length-map-upto, map-upto_more}
-use Rattle.coherence_values.proofs.Walk.{into_next, arc_begins, arc_goes_on, walk_step, fresh_arc, writes_before_is, writes_before_most, arcs_more, arcs_same}
+use Rattle.coherence_values.proofs.Walk.{arc_begins, arc_goes_on, walk_step, fresh_arc, events_many, event_read, writes_before_is, writes_before_most, arcs_more, arcs_same}
 use Rattle.coherence_values.proofs.valued.walk_arcs.Goals as goal
-use Rattle.coherence_values.proofs.valued.walk_arcs.Goals.{then-is_diff, else-is_diff}
+use Rattle.coherence_values.proofs.valued.walk_arcs.Goals.{then-ends_arc, else-ends_arc}
 
 pub loop-i-init : goal.loop-i-init
 loop-i-init c = record {
-  enters = refl;
-  goes = rw location-zero (c.arc_after-arc.ensures ∙ ap (seen_of c.args.edges.now 0) (writes_before_is c.args.edges.now 0 c.requires (omega (arith, c.requires.composes.some))));
-  values = c.new.ensures;
-  arcs = rw moves-zero c.new-2.ensures;
+  goes = rw location-zero (c.arc_after-arc.ensures ∙ ap (seen_of c.args.resolved.now 0) (writes_before_is c.args.resolved.now 0 c.cycle-edges.ensures.resolved (omega (arith, c.cycle-edges.ensures.resolved.composes.some))));
+  values = c.requires.values;
+  arcs = rw moves-zero c.requires.arcs;
 }
 
+pub overflow_cast-i : goal.overflow_cast-i
+overflow_cast-i c =
+    omega (arith, c.loop-i-test.true, events_many c.args.resolved.now c.events-event-items.result.now c.events-event-items.ensures, c.cycle-edges.ensures.resolved.composes.few)
+
 pub with-arc-requires : goal.with-arc-requires
-with-arc-requires c = omega (arith, c.requires.composes.few, writes_before_most c.args.edges.now c.loop-i.i, ap (λ (a : Arc). a.writes) c.loop-i.invariant.goes)
+with-arc-requires c = omega (arith, c.cycle-edges.ensures.resolved.composes.few, writes_before_most c.args.resolved.now c.loop-i.i, ap (λ (a : Arc). a.writes) c.loop-i.invariant.goes)
 
 pub push-requires : goal.push-requires
-push-requires c = (omega arith, omega (arith, c.requires.composes.few, ap length c.loop-i.invariant.values, length-map-upto (value_of c.args.edges.now) c.loop-i.i))
-
-pub push-requires-then-is_diff : goal.push-requires-then-is_diff
-push-requires-then-is_diff c = (
+push-requires c = (
   omega arith,
-  omega (arith, c.requires.composes.few, ap length c.loop-i.invariant.arcs, length-map-upto (λ n. seen_of c.args.edges.now n (write_count c.args.edges.now n)) (moves_before c.args.edges.now c.loop-i.i), moves_few c.args.edges.now c.loop-i.i (omega arith)),
+  omega (
+    arith,
+    c.loop-i-test.true,
+    events_many c.args.resolved.now c.events-event-items.result.now c.events-event-items.ensures,
+    c.cycle-edges.ensures.resolved.composes.few,
+    ap length c.loop-i.invariant.values,
+    length-map-upto (value_of c.args.resolved.now) c.loop-i.i,
+  ),
 )
+
+pub ends_arc-requires : goal.ends_arc-requires
+ends_arc-requires c = omega (arith, c.loop-i-test.true, events_many c.args.resolved.now c.events-event-items.result.now c.events-event-items.ensures)
+
+pub push-requires-then-ends_arc : goal.push-requires-then-ends_arc
+push-requires-then-ends_arc c =
+    let es = c.args.resolved.now in
+    let many = events_many es c.events-event-items.result.now c.events-event-items.ensures in (
+      omega arith,
+      omega (
+        arith,
+        c.loop-i-test.true,
+        many,
+        c.cycle-edges.ensures.resolved.composes.few,
+        ap length c.loop-i.invariant.arcs,
+        length-map-upto (λ n. seen_of es n (write_count es n)) (moves_before es c.loop-i.i),
+        moves_few es c.loop-i.i (omega (arith, c.loop-i-test.true, many)),
+      ),
+    )
 
 pub loop-i-preserved : goal.loop-i-preserved
 loop-i-preserved c =
-    let stands : c.with-arc.result ≡ seen_of c.args.edges.now (location_of c.args.edges.now c.loop-i.i) (value_of c.args.edges.now c.loop-i.i) =
-    walk_step c.args.edges.now c.loop-i.i c.loop-i.arc c.with-arc.result c.loop-i.into c.requires (omega arith) c.loop-i.invariant.enters c.loop-i.invariant.goes c.with-arc.ensures.next in
-    let values : c.push.new.self.items ≡ map (value_of c.args.edges.now) (upto (c.loop-i.i + 1)) =
-    c.push.ensures.items ∙ rw (c.loop-i.invariant.values, ap (λ (a : Arc). a.writes) stands) (sym (map-upto_more (value_of c.args.edges.now) c.loop-i.i)) in
-    elim c.if-is_diff.branch [
-      | then-is_diff w ↦
-          let d : is_diff (edge_at c.args.edges.now c.loop-i.i) ≡ true = sym c.is_diff.ensures ∙ w.if-is_diff.true in
+    let es = c.args.resolved.now in
+    let i = c.loop-i.i in
+    let r = c.cycle-edges.ensures.resolved in
+    let read = event_read es c.events-event-items.result.now i c.events-event-items.ensures (omega (arith, c.loop-i-test.true)) in
+    let stands : c.with-arc.result ≡ seen_of c.args.resolved.now (location_of c.args.resolved.now c.loop-i.i) (value_of c.args.resolved.now c.loop-i.i) =
+    walk_step es i c.loop-i.arc c.with-arc.result _ r read.below read.is c.loop-i.invariant.goes c.with-arc.ensures.next in
+    let values : c.push.new.self.items ≡ map (value_of c.args.resolved.now) (upto (c.loop-i.i + 1)) =
+    c.push.ensures.items ∙ rw (c.loop-i.invariant.values, ap (λ (a : Arc). a.writes) stands) (sym (map-upto_more (value_of c.args.resolved.now) c.loop-i.i)) in
+    elim c.if-ends_arc.branch [
+      | then-ends_arc w ↦
+          let d : is_diff (edge_at es i) ≡ true = sym c.ends_arc.ensures ∙ w.if-ends_arc.true in
           record {
-            enters = sym (into_next c.args.edges.now c.loop-i.i);
-            goes = w.arc-is ∙ fresh_arc w.default-arc.result w.default-arc.ensures ∙ sym (arc_begins c.args.edges.now c.loop-i.i d);
-            values = rw w.walk-is values;
-            arcs = rw w.walk-is (w.push-then-is_diff.ensures.items ∙ rw (c.loop-i.invariant.arcs, stands) (sym (arcs_more c.args.edges.now c.loop-i.i c.requires (omega arith) d)));
+            goes = w.arc-is ∙ fresh_arc w.default-arc.result w.default-arc.ensures ∙ sym (arc_begins es i d);
+            values = values;
+            arcs = rw w.arcs-is (w.push-then-ends_arc.ensures.items ∙ rw (c.loop-i.invariant.arcs, stands) (sym (arcs_more es i r read.below d)));
           }
-      | else-is_diff w ↦
-          let d : is_diff (edge_at c.args.edges.now c.loop-i.i) ≡ false = sym c.is_diff.ensures ∙ w.if-is_diff.false in
+      | else-ends_arc w ↦
+          let d : is_diff (edge_at es i) ≡ false = sym c.ends_arc.ensures ∙ w.if-ends_arc.false in
           record {
-            enters = sym (into_next c.args.edges.now c.loop-i.i);
-            goes = w.arc-is ∙ stands ∙ sym (arc_goes_on c.args.edges.now c.loop-i.i (omega arith) d);
-            values = rw w.walk-is values;
-            arcs = rw w.walk-is (c.loop-i.invariant.arcs ∙ sym (arcs_same c.args.edges.now c.loop-i.i (omega arith) d));
+            goes = w.arc-is ∙ stands ∙ sym (arc_goes_on es i read.below d);
+            values = values;
+            arcs = rw w.arcs-is (c.loop-i.invariant.arcs ∙ sym (arcs_same es i read.below d));
           }
     ]
 
+pub returns-clause-values : goal.returns-clause-values
+returns-clause-values c =
+    let many = events_many c.args.resolved.now c.events-event-items.result.now c.events-event-items.ensures in
+    let e : c.loop-i.i ≡ length c.args.resolved.now = omega (arith, many) in
+    let g = rw e at c.loop-i.invariant.values in
+    g
+
 pub returns-clause-arcs : goal.returns-clause-arcs
 returns-clause-arcs c =
-    let e : c.loop-i.i ≡ length c.args.edges.now = omega arith in
-    let g = rw (e, moves_end c.args.edges.now) at c.loop-i.invariant.arcs in
+    let many = events_many c.args.resolved.now c.events-event-items.result.now c.events-event-items.ensures in
+    let e : c.loop-i.i ≡ length c.args.resolved.now = omega (arith, many) in
+    let g = rw (e, moves_end c.args.resolved.now) at c.loop-i.invariant.arcs in
     g

@@ -1,6 +1,13 @@
--- In the loop over the edges: no thread that ended has all edges to another location.
-use Rattle.resolution_laws.proofs.Walking.{SomeElsewhere}
+-- In the loop over the edges: the events so far are put, and no thread that ended has all edges to another location.
+use Rattle.std.proofs.Common.{◌≡◌, map}
+use Rattle.list_laws.specs.Numbers.{upto}
+use Rattle.resolution_laws.specs.Resolution.{event_of}
+use Rattle.resolution_laws.proofs.Walking.{SomeElsewhere, WalkAt}
 use Rattle.cycle_resolve.proofs.resolved.is_coherence_only.Given as goal
 
 abbrev pub invariant-loop-edge : goal.invariant-loop-edge
-invariant-loop-edge l = SomeElsewhere l.edges l.edge-index l.in_thread
+invariant-loop-edge l = record {
+  made : l.events.items ≡ map (event_of l.edges) (upto l.edge-index);
+  walk_at : WalkAt l.edges l.edge-index l.thread l.slot l.location;
+  elsewhere : SomeElsewhere l.edges l.edge-index l.moves;
+}
