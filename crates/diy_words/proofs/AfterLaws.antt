@@ -15,8 +15,8 @@ use Rattle.edge_lists.specs.KeptLaws.{added_whole}
 use Rattle.diy_words.specs.CodeNotes.{notes_after, cycle_kept}
 use Rattle.diy_words.specs.declared.usage.Usage.{Usage}
 use Rattle.diy_words.specs.declared.usage.UsageKind.TheVariants.{BadAfter}
-use Rattle.diy_words.specs.Notes.{Notes}
-use Rattle.diy_words.specs.Sayings.{after_said, cycle_word_said}
+use Rattle.diy_words.specs.Notes.{Notes, with_saying}
+use Rattle.diy_words.specs.Sayings.{SaysAfter, after_said, cycle_word_said}
 use Rattle.cycle_laws.specs.Composable.{first_break}
 use Rattle.edge_algebra.specs.Compose.{unbroken}
 
@@ -33,8 +33,8 @@ kept_cycle es = of_test (nat_le (length es) MAX_EDGES) refl
     of_test true e = rw e refl
     of_test false e = rw e (sym (long_none es e))
 
-said_made : (h : Notes) (at : ℕ) (composing : Result (List Edge) CycleError) (cycle : List Edge) → Some cycle ≡ result_ok composing → Ok (record h { after = Some cycle }) ≡ notes_after h (cycle_word_said at composing)
-said_made h at (Ok made) cycle e = let same : cycle ≡ made = cc e in ap (λ (c : List Edge). let notes : Notes = record h { after = Some c } in let ok : Result Notes Usage = Ok notes in ok) same
+said_made : (h : Notes) (at : ℕ) (composing : Result (List Edge) CycleError) (cycle : List Edge) → Some cycle ≡ result_ok composing → Ok (with_saying h (SaysAfter cycle)) ≡ notes_after h (cycle_word_said at composing)
+said_made h at (Ok made) cycle e = let same : cycle ≡ made = cc e in ap (λ (c : List Edge). let ok : Result Notes Usage = Ok (with_saying h (SaysAfter c)) in ok) same
 said_made h at (Err error) cycle e = cc e
 
 said_none : (h : Notes) (at : ℕ) (composing : Result (List Edge) CycleError) → None ≡ result_ok composing → Err (record { word = at; kind = BadAfter }) ≡ notes_after h (cycle_word_said at composing)
@@ -43,7 +43,7 @@ said_none h at (Err error) e = refl
 
 -- edges that make a cycle
 pub after_made : (h : Notes) (at : ℕ) (spelled : Option (List Edge)) (list : EdgeList) (cycle : List Edge) → Some list ≡ option_map (edges_added (kept_edges [])) spelled → Some cycle ≡ cycle_kept list
-    → Ok (record h { after = Some cycle }) ≡ notes_after h (after_said at spelled)
+    → Ok (with_saying h (SaysAfter cycle)) ≡ notes_after h (after_said at spelled)
 after_made h at None list cycle e c = cc e
 after_made h at (Some es) list cycle e c =
     let same : list ≡ edges_added (kept_edges []) es = cc e in

@@ -12,7 +12,7 @@ use Rattle.diy_words.specs.Notes.{Notes, with_next, before_noted, said_noted}
 
 -- something said that isn't `-why`
 abbrev pub IsSilent : Result Saying Usage → Type 0
-IsSilent said = (before : Notes) → (with_next before said).why ≡ before.why
+IsSilent said = (before : Notes) → (with_next before said).given.why ≡ before.given.why
 
 -- of a tool: a word says the same after words that agree on whether `-why` was given
 abbrev pub IsUncounted : Tool → Type 0
@@ -25,13 +25,13 @@ by_words tool same a b (Valued opts.Obs at value) h = ap (λ why. if why then us
 by_words tool same a b (Valued option at value) h = refl
 by_words tool same a b (Unvalued option at) h = refl
 
-next_why : (a b : Notes) (said : Result Saying Usage) → a.why ≡ b.why → (with_next a said).why ≡ (with_next b said).why
+next_why : (a b : Notes) (said : Result Saying Usage) → a.given.why ≡ b.given.why → (with_next a said).given.why ≡ (with_next b said).given.why
 next_why a b (Err usage) h = h
 next_why a b (Ok SaysWhy) h = refl
 next_why a b (Ok said) h = h
 
 -- then so do all words
-pub uncounted : (tool : Tool) → IsUncounted tool → (parts : List Part) (a b : Notes) → a.why ≡ b.why → said_noted tool a parts ≡ said_noted tool b parts
+pub uncounted : (tool : Tool) → IsUncounted tool → (parts : List Part) (a b : Notes) → a.given.why ≡ b.given.why → said_noted tool a parts ≡ said_noted tool b parts
 uncounted tool same [] a b h = refl
 uncounted tool same (part ∷ parts) a b h =
     ap (λ said. said ∷ said_noted tool (with_next a said) parts) (same (before_noted a) (before_noted b) part h) ∙

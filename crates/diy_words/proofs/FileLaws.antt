@@ -1,6 +1,6 @@
 -- Where words ask for something of classify7, each word that is neither an option nor its value names a file.
-use Rattle.std.proofs.Common.{◌≡◌, ◌<◌, ◌≤◌, ◌+◌, get_or, ℕ, Bool, true, false, List, [], ◌∷◌, ◌++◌, length, Option, Some, None, Result, Ok, Err, append_assoc, append-nil, refl, sym, ap, ◌∙◌, subst, arith, slice_get}
-use Rattle.std.specs.Prelude.{if◌then◌else◌, OnErr, All, codes}
+use Rattle.std.proofs.Common.{◌≡◌, ◌<◌, ◌≤◌, ◌+◌, get_or, ℕ, Bool, true, false, List, [], ◌∷◌, ◌++◌, length, Option, Some, None, Result, Ok, append_assoc, append-nil, refl, sym, ap, ◌∙◌, subst, arith, slice_get}
+use Rattle.std.specs.Prelude.{if◌then◌else◌, All, codes}
 use Rattle.std.specs.Str.{bytes_eq}
 use Rattle.std.proofs.lemmas.List.Elements.{All-append}
 use Rattle.relax_edges.specs.declared.kinds.ArchName.{ArchName}
@@ -10,7 +10,7 @@ use Rattle.diy_words.specs.declared.options.Tool.TheVariants as tools
 use Rattle.diy_words.specs.declared.usage.Usage.{Usage}
 use Rattle.diy_words.specs.declared.usage.UsageKind.TheVariants.{UnknownOption}
 use Rattle.relax_edges.specs.Architectures.{arch_of}
-use Rattle.diy_words.specs.Parts.{Alone, Valued, option_named}
+use Rattle.diy_words.specs.Parts.{Valued, option_named}
 use Rattle.diy_words.specs.Sayings.{SaysFile, usage_fault, arch_said, begins_option, said_by}
 use Rattle.diy_words.specs.Gathered.{Gathered, files_of_saying}
 use Rattle.diy_words.specs.SaidInOrder.{before_of}
@@ -133,8 +133,3 @@ file_there words at text files got plain before none =
     no_nil : (xs : List ℕ) (x : ℕ) (ys : List ℕ) → xs ++ x ∷ ys ≡ [] → ⊥
     no_nil [] x ys e = cc e
     no_nil (z ∷ xs) x ys e = cc e
-
--- what holds in any case holds where there is an error
-pub where_err : {A E P : Type 0} (r : Result A E) → P → OnErr r P
-where_err (Ok x) h = tt
-where_err (Err e) h = h

@@ -70,81 +70,81 @@ any_noted field kind none step said =
     or_false true = refl
     or_false false = refl
 
-arch_step : (notes : Notes) (saying : Saying) → (with_saying notes saying).arch ≡ option_or (arch_of_saying saying) notes.arch
+arch_step : (notes : Notes) (saying : Saying) → (with_saying notes saying).given.arch ≡ option_or (arch_of_saying saying) notes.given.arch
 arch_step notes (SaysArch arch) = refl
 arch_step notes saying = refl
 
-name_step : (notes : Notes) (saying : Saying) → (with_saying notes saying).name ≡ option_or (name_of_saying saying) notes.name
+name_step : (notes : Notes) (saying : Saying) → (with_saying notes saying).given.name ≡ option_or (name_of_saying saying) notes.given.name
 name_step notes (SaysName name) = refl
 name_step notes saying = refl
 
-mode_step : (notes : Notes) (saying : Saying) → (with_saying notes saying).mode ≡ option_or (mode_of_saying saying) notes.mode
+mode_step : (notes : Notes) (saying : Saying) → (with_saying notes saying).given.mode ≡ option_or (mode_of_saying saying) notes.given.mode
 mode_step notes (SaysMode mode) = refl
 mode_step notes saying = refl
 
-from_step : (notes : Notes) (saying : Saying) → (with_saying notes saying).from ≡ option_or (from_of_saying saying) notes.from
+from_step : (notes : Notes) (saying : Saying) → (with_saying notes saying).given.from ≡ option_or (from_of_saying saying) notes.given.from
 from_step notes (SaysFrom at name) = refl
 from_step notes saying = refl
 
-relaxes_step : (notes : Notes) (saying : Saying) → (with_saying notes saying).relaxes ≡ option_or (relaxes_of_saying saying) notes.relaxes
+relaxes_step : (notes : Notes) (saying : Saying) → (with_saying notes saying).given.relaxes ≡ option_or (relaxes_of_saying saying) notes.given.relaxes
 relaxes_step notes (SaysRelaxes relaxes) = refl
 relaxes_step notes saying = refl
 
-accesses_step : (notes : Notes) (saying : Saying) → (with_saying notes saying).accesses ≡ option_or (accesses_of_saying saying) notes.accesses
+accesses_step : (notes : Notes) (saying : Saying) → (with_saying notes saying).given.accesses ≡ option_or (accesses_of_saying saying) notes.given.accesses
 accesses_step notes (SaysAccesses accesses) = refl
 accesses_step notes saying = refl
 
-after_step : (notes : Notes) (saying : Saying) → (with_saying notes saying).after ≡ option_or (after_of_saying saying) notes.after
+after_step : (notes : Notes) (saying : Saying) → (with_saying notes saying).given.after ≡ option_or (after_of_saying saying) notes.given.after
 after_step notes (SaysAfter cycle) = refl
 after_step notes saying = refl
 
-folder_step : (notes : Notes) (saying : Saying) → (with_saying notes saying).folder ≡ option_or (folder_of_saying saying) notes.folder
+folder_step : (notes : Notes) (saying : Saying) → (with_saying notes saying).given.folder ≡ option_or (folder_of_saying saying) notes.given.folder
 folder_step notes (SaysFolder folder) = refl
 folder_step notes saying = refl
 
-count_step : (notes : Notes) (saying : Saying) → (with_saying notes saying).count ≡ option_or (count_of_saying saying) notes.count
+count_step : (notes : Notes) (saying : Saying) → (with_saying notes saying).given.count ≡ option_or (count_of_saying saying) notes.given.count
 count_step notes (SaysCount count) = refl
 count_step notes saying = refl
 
-test_step : (notes : Notes) (saying : Saying) → (with_saying notes saying).test ≡ option_or (test_of_saying saying) notes.test
+test_step : (notes : Notes) (saying : Saying) → (with_saying notes saying).given.test ≡ option_or (test_of_saying saying) notes.given.test
 test_step notes (SaysTest at) = refl
 test_step notes saying = refl
 
-execution_step : (notes : Notes) (saying : Saying) → (with_saying notes saying).execution ≡ option_or (execution_of_saying saying) notes.execution
+execution_step : (notes : Notes) (saying : Saying) → (with_saying notes saying).given.execution ≡ option_or (execution_of_saying saying) notes.given.execution
 execution_step notes (SaysExecution at) = refl
 execution_step notes saying = refl
 
-size_step : (notes : Notes) (saying : Saying) → (with_saying notes saying).size ≡ unwrap_or (size_of_saying saying) notes.size
+size_step : (notes : Notes) (saying : Saying) → (with_saying notes saying).given.size ≡ unwrap_or (size_of_saying saying) notes.given.size
 size_step notes (SaysSize size) = refl
 size_step notes saying = refl
 
-threads_step : (notes : Notes) (saying : Saying) → (with_saying notes saying).threads ≡ unwrap_or (threads_of_saying saying) notes.threads
+threads_step : (notes : Notes) (saying : Saying) → (with_saying notes saying).given.threads ≡ unwrap_or (threads_of_saying saying) notes.given.threads
 threads_step notes (SaysThreads threads) = refl
 threads_step notes saying = refl
 
-exact_step : (notes : Notes) (saying : Saying) → (with_saying notes saying).exact ≡ (is_exact saying || notes.exact)
+exact_step : (notes : Notes) (saying : Saying) → (with_saying notes saying).given.exact ≡ (is_exact saying || notes.given.exact)
 exact_step notes SaysExact = refl
 exact_step notes saying = refl
 
-why_step : (notes : Notes) (saying : Saying) → (with_saying notes saying).why ≡ (is_why saying || notes.why)
+why_step : (notes : Notes) (saying : Saying) → (with_saying notes saying).given.why ≡ (is_why saying || notes.given.why)
 why_step notes SaysWhy = refl
 why_step notes saying = refl
 
-mode_noted : (said : List Saying) → (notes_of said).mode ≡ last_given mode_of_saying said
-mode_noted said = last_noted (λ n. n.mode) mode_of_saying refl mode_step said
+mode_noted : (said : List Saying) → (notes_of said).given.mode ≡ last_given mode_of_saying said
+mode_noted said = last_noted (λ n. n.given.mode) mode_of_saying refl mode_step said
 
-why_noted : (said : List Saying) → (notes_of said).why ≡ list_any is_why said
-why_noted said = any_noted (λ n. n.why) is_why refl why_step said
+why_noted : (said : List Saying) → (notes_of said).given.why ≡ list_any is_why said
+why_noted said = any_noted (λ n. n.given.why) is_why refl why_step said
 
 -- the place of the first operand of edges is noted
-operand_noted : (said : List Saying) → (notes_of said).operand ≡ first_given operand_of_saying said
+operand_noted : (said : List Saying) → (notes_of said).given.operand ≡ first_given operand_of_saying said
 operand_noted said =
-    noted (λ n. n.operand) (λ saying f. option_or f (operand_of_saying saying)) (λ said f. option_or f (first_given operand_of_saying said)) (λ f. option_or-none f)
+    noted (λ n. n.given.operand) (λ saying f. option_or f (operand_of_saying saying)) (λ said f. option_or f (first_given operand_of_saying said)) (λ f. option_or-none f)
     (λ saying rest f. sym (or_or f (operand_of_saying saying) (first_given operand_of_saying rest))) step no_notes said
   where
-    step : (notes : Notes) (saying : Saying) → (with_saying notes saying).operand ≡ option_or notes.operand (operand_of_saying saying)
+    step : (notes : Notes) (saying : Saying) → (with_saying notes saying).given.operand ≡ option_or notes.given.operand (operand_of_saying saying)
     step notes (SaysEdges at edges) = refl
-    step notes saying = sym (option_or-none notes.operand)
+    step notes saying = sym (option_or-none notes.given.operand)
 
 -- as many operands are taken as there are of those whose number is limited
 taken_noted : (said : List Saying) → (notes_of said).taken ≡ length (filter is_limited said)
@@ -191,21 +191,21 @@ choices_noted said =
 pub all_noted : (said : List Saying) → gathered_noted (notes_of said) (all_given edges_of_saying said) (all_given places_of_word said) (all_given files_of_saying said) ≡ gathered_of said
 all_noted said =
     rw (
-      last_noted (λ n. n.arch) arch_of_saying refl arch_step said,
-      last_noted (λ n. n.name) name_of_saying refl name_step said,
+      last_noted (λ n. n.given.arch) arch_of_saying refl arch_step said,
+      last_noted (λ n. n.given.name) name_of_saying refl name_step said,
       mode_noted said,
-      last_noted (λ n. n.from) from_of_saying refl from_step said,
+      last_noted (λ n. n.given.from) from_of_saying refl from_step said,
       operand_noted said,
-      last_noted (λ n. n.relaxes) relaxes_of_saying refl relaxes_step said,
-      value_noted (λ n. n.size) size_of_saying size_step said,
-      any_noted (λ n. n.exact) is_exact refl exact_step said,
-      value_noted (λ n. n.threads) threads_of_saying threads_step said,
-      last_noted (λ n. n.accesses) accesses_of_saying refl accesses_step said,
-      last_noted (λ n. n.after) after_of_saying refl after_step said,
-      last_noted (λ n. n.folder) folder_of_saying refl folder_step said,
-      last_noted (λ n. n.count) count_of_saying refl count_step said,
-      last_noted (λ n. n.test) test_of_saying refl test_step said,
-      last_noted (λ n. n.execution) execution_of_saying refl execution_step said,
+      last_noted (λ n. n.given.relaxes) relaxes_of_saying refl relaxes_step said,
+      value_noted (λ n. n.given.size) size_of_saying size_step said,
+      any_noted (λ n. n.given.exact) is_exact refl exact_step said,
+      value_noted (λ n. n.given.threads) threads_of_saying threads_step said,
+      last_noted (λ n. n.given.accesses) accesses_of_saying refl accesses_step said,
+      last_noted (λ n. n.given.after) after_of_saying refl after_step said,
+      last_noted (λ n. n.given.folder) folder_of_saying refl folder_step said,
+      last_noted (λ n. n.given.count) count_of_saying refl count_step said,
+      last_noted (λ n. n.given.test) test_of_saying refl test_step said,
+      last_noted (λ n. n.given.execution) execution_of_saying refl execution_step said,
       why_noted said,
     ) refl
 

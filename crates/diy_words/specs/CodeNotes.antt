@@ -23,25 +23,30 @@ use Rattle.diy_words.specs.Notes.{Notes, with_saying, before_noted, gathered_not
 -- what the code notes
 abbrev pub code_notes : code.Notes → Notes
 code_notes notes = record {
-  arch = notes.arch;
-  name = option_map (λ name. name.bytes) notes.name;
-  mode = notes.mode;
-  from = option_map (λ from. (from.word, from.name.now)) notes.from;
-  operand = notes.operand;
+  given = record {
+    arch = notes.arch;
+    name = option_map (λ name. name.bytes) notes.name;
+    mode = notes.mode;
+    from = option_map (λ from. (from.word, from.name.now)) notes.from;
+    operand = notes.operand;
+    edges = [];
+    relaxes = notes.relaxes;
+    size = notes.limits.size;
+    exact = notes.limits.exact;
+    threads = notes.threads;
+    accesses = notes.accesses;
+    after = notes.after;
+    folder = option_map (λ folder. folder.now) notes.folder;
+    places = [];
+    files = [];
+    count = notes.count;
+    test = notes.test;
+    execution = notes.execution;
+    why = notes.why;
+  };
   edges = notes.edges;
-  relaxes = notes.relaxes;
-  size = notes.limits.size;
-  exact = notes.limits.exact;
-  threads = notes.threads;
-  accesses = notes.accesses;
-  after = notes.after;
-  folder = option_map (λ folder. folder.now) notes.folder;
   choices = notes.choices;
-  count = notes.count;
-  test = notes.test;
-  execution = notes.execution;
   taken = notes.taken;
-  why = notes.why;
 }
 
 -- the notes after a part of the words, or its fault

@@ -1,9 +1,7 @@
 -- For private functions of the code alone: what they note of the words so far, word by word, and how it holds what the
 -- words said. What words ask for is defined without it.
-use Rattle.std.specs.Prelude.{ℕ, ◌+◌, ◌*◌, Bool, true, false, min, List, [], ◌∷◌, length, Option, Some, None, is_some, Result, Ok, Err}
+use Rattle.std.specs.Prelude.{ℕ, ◌+◌, ◌*◌, true, min, List, [], ◌∷◌, length, Some, is_some, Result, Ok, Err}
 use Rattle.std.specs.Option.{option_or}
-use Rattle.relax_edges.specs.declared.kinds.ArchName.{ArchName}
-use Rattle.relax_edges.specs.declared.kinds.ObsMode.{ObsMode}
 use Rattle.relax_edges.specs.declared.edge.Edge.{Edge}
 use Rattle.edge_lists.specs.declared.list.EdgeList.{EdgeList}
 use Rattle.edge_lists.specs.KeptEdges.{kept_edges, edges_added}
@@ -12,56 +10,20 @@ use Rattle.diy_words.specs.declared.request.TheConstants.{MAX_CHOICES}
 use Rattle.diy_words.specs.declared.usage.Usage.{Usage}
 use Rattle.diy_words.specs.Parts.{Part}
 use Rattle.diy_words.specs.Sayings.{Saying, SaysArch, SaysName, SaysMode, SaysFrom, SaysEdges, SaysRelaxes, SaysSize, SaysExact, SaysWhy, SaysThreads, SaysAccesses, SaysAfter, SaysFolder, SaysLog, SaysFile, SaysTest, SaysExecution, SaysPlace, SaysCount, Before, said_by}
-use Rattle.diy_words.specs.Gathered.{Gathered}
+use Rattle.diy_words.specs.Gathered.{Gathered, gathered_of}
 
--- the last of each thing that was given; the last value of `-from` with its place, and the place of the first operand of edges;
--- the edges, as many as a list holds; in how many ways a relaxation can be chosen for each place, up to one more than may be;
--- how many tests demo makes; the places of the files of mcheck7; how many operands were taken, of those whose number is limited;
--- and whether `-why` was given
+-- what is gathered so far, but for edges, places and files, of which nothing is gathered here; the edges, as many as a list holds; in
+-- how many ways a relaxation can be chosen for each place, up to one more than may be; and how many operands were taken, of those
+-- whose number is limited
 pub record Notes : Type 0 where
-  pub arch : Option ArchName
-  pub name : Option (List ℕ)
-  pub mode : Option ObsMode
-  pub from : Option (ℕ × List ℕ)
-  pub operand : Option ℕ
+  pub given : Gathered
   pub edges : EdgeList
-  pub relaxes : Option (List (List Edge))
-  pub size : ℕ
-  pub exact : Bool
-  pub threads : ℕ
-  pub accesses : Option ℕ
-  pub after : Option (List Edge)
-  pub folder : Option (List ℕ)
   pub choices : ℕ
-  pub count : Option ℕ
-  pub test : Option ℕ
-  pub execution : Option ℕ
   pub taken : ℕ
-  pub why : Bool
 
 -- the notes before the first word
 abbrev pub no_notes : Notes
-no_notes = record {
-  arch = None;
-  name = None;
-  mode = None;
-  from = None;
-  operand = None;
-  edges = kept_edges [];
-  relaxes = None;
-  size = 6;
-  exact = false;
-  threads = 4;
-  accesses = None;
-  after = None;
-  folder = None;
-  choices = 1;
-  count = None;
-  test = None;
-  execution = None;
-  taken = 0;
-  why = false;
-}
+no_notes = record { given = gathered_of []; edges = kept_edges []; choices = 1; taken = 0 }
 
 -- in how many ways relaxations are chosen with those of one more place: all numbers of ways above the limit count as one
 abbrev pub more_choices : ℕ → ℕ → ℕ
@@ -70,25 +32,26 @@ more_choices choices relaxes = min (choices * relaxes) (MAX_CHOICES + 1)
 -- the notes with what one more word says: the later of two takes the place of the earlier, but of the operands of edges the place
 -- of the first stays; the number of demo and the files of mcheck7 are the operands whose number is limited
 abbrev pub with_saying : Notes → Saying → Notes
-with_saying notes (SaysArch arch) = record notes { arch = Some arch }
-with_saying notes (SaysName name) = record notes { name = Some name }
-with_saying notes (SaysMode mode) = record notes { mode = Some mode }
-with_saying notes (SaysFrom at name) = record notes { from = Some (at, name) }
-with_saying notes (SaysEdges at edges) = record notes { operand = option_or notes.operand (Some at); edges = edges_added notes.edges edges }
-with_saying notes (SaysRelaxes relaxes) = record notes { relaxes = Some relaxes }
-with_saying notes (SaysSize size) = record notes { size = size }
-with_saying notes SaysExact = record notes { exact = true }
-with_saying notes SaysWhy = record notes { why = true }
-with_saying notes (SaysThreads threads) = record notes { threads = threads }
-with_saying notes (SaysAccesses accesses) = record notes { accesses = Some accesses }
-with_saying notes (SaysAfter cycle) = record notes { after = Some cycle }
-with_saying notes (SaysFolder folder) = record notes { folder = Some folder }
+with_saying notes (SaysArch arch) = record notes { given = record notes.given { arch = Some arch } }
+with_saying notes (SaysName name) = record notes { given = record notes.given { name = Some name } }
+with_saying notes (SaysMode mode) = record notes { given = record notes.given { mode = Some mode } }
+with_saying notes (SaysFrom at name) = record notes { given = record notes.given { from = Some (at, name) } }
+with_saying notes (SaysEdges at edges) =
+    record notes { given = record notes.given { operand = option_or notes.given.operand (Some at) }; edges = edges_added notes.edges edges }
+with_saying notes (SaysRelaxes relaxes) = record notes { given = record notes.given { relaxes = Some relaxes } }
+with_saying notes (SaysSize size) = record notes { given = record notes.given { size = size } }
+with_saying notes SaysExact = record notes { given = record notes.given { exact = true } }
+with_saying notes SaysWhy = record notes { given = record notes.given { why = true } }
+with_saying notes (SaysThreads threads) = record notes { given = record notes.given { threads = threads } }
+with_saying notes (SaysAccesses accesses) = record notes { given = record notes.given { accesses = Some accesses } }
+with_saying notes (SaysAfter cycle) = record notes { given = record notes.given { after = Some cycle } }
+with_saying notes (SaysFolder folder) = record notes { given = record notes.given { folder = Some folder } }
 with_saying notes SaysLog = notes
 with_saying notes (SaysFile at) = notes
 with_saying notes (SaysPlace relaxes) = record notes { choices = more_choices notes.choices (length relaxes) }
-with_saying notes (SaysCount count) = record notes { count = Some count; taken = notes.taken + 1 }
-with_saying notes (SaysTest at) = record notes { test = Some at; taken = notes.taken + 1 }
-with_saying notes (SaysExecution at) = record notes { execution = Some at; taken = notes.taken + 1 }
+with_saying notes (SaysCount count) = record notes { given = record notes.given { count = Some count }; taken = notes.taken + 1 }
+with_saying notes (SaysTest at) = record notes { given = record notes.given { test = Some at }; taken = notes.taken + 1 }
+with_saying notes (SaysExecution at) = record notes { given = record notes.given { execution = Some at }; taken = notes.taken + 1 }
 
 -- the notes before the next word: a faulty word adds nothing to them
 abbrev pub with_next : Notes → Result Saying Usage → Notes
@@ -106,7 +69,7 @@ notes_of = notes_with no_notes
 
 -- what the notes hold of what bears on the fault of the next word
 abbrev pub before_noted : Notes → Before
-before_noted notes = record { taken = notes.taken; obs = is_some notes.mode; why = notes.why }
+before_noted notes = record { taken = notes.taken; obs = is_some notes.given.mode; why = notes.given.why }
 
 -- what the parts of the words say, one after another, after words of which so much is noted
 abbrev pub said_noted : Tool → Notes → List Part → List (Result Saying Usage)
@@ -114,26 +77,6 @@ said_noted tool notes [] = []
 said_noted tool notes (part ∷ parts) =
     said_by tool (before_noted notes) part ∷ said_noted tool (with_next notes (said_by tool (before_noted notes) part)) parts
 
--- what the notes hold of what is gathered, with edges, places and files, of which they hold less
+-- what the notes have gathered, with edges, places and files
 abbrev pub gathered_noted : Notes → List Edge → List (List (List Edge)) → List ℕ → Gathered
-gathered_noted notes edges places files = record {
-  arch = notes.arch;
-  name = notes.name;
-  mode = notes.mode;
-  from = notes.from;
-  operand = notes.operand;
-  edges = edges;
-  relaxes = notes.relaxes;
-  size = notes.size;
-  exact = notes.exact;
-  threads = notes.threads;
-  accesses = notes.accesses;
-  after = notes.after;
-  folder = notes.folder;
-  places = places;
-  files = files;
-  count = notes.count;
-  test = notes.test;
-  execution = notes.execution;
-  why = notes.why;
-}
+gathered_noted notes edges places files = record notes.given { edges = edges; places = places; files = files }

@@ -1,8 +1,8 @@
 -- The code of a thread reads back.
-use Rattle.std.proofs.Common.{◌≡◌, ◌≢◌, ◌<◌, ◌≤◌, ◌+◌, ◌==◌, ℕ, zero, suc, List, [], ◌∷◌, ◌++◌, true, false, cond, length, map, refl, sym, ap, ◌∙◌, subst, arith, append_assoc, append-nil, zero-add}
+use Rattle.std.proofs.Common.{◌≡◌, ◌<◌, ◌≤◌, ◌+◌, ◌==◌, ℕ, zero, suc, List, [], ◌∷◌, ◌++◌, true, false, cond, length, map, refl, sym, ap, ◌∙◌, subst, arith, append_assoc, append-nil, zero-add}
 use Rattle.std.specs.Prelude.{Bool, not, ◌&&◌, ◌||◌, nat_lt, is_some, count_by}
 use Rattle.std.specs.List.{list_all, list_any, range_with_len, AllByRecursion}
-use Rattle.std.proofs.lemmas.Bool.{eqb-true, eq-eqb, lt-ltb, ltb-true, and_parts, and_from}
+use Rattle.std.proofs.lemmas.Bool.{eqb-true, eq-eqb, ne_eqb, lt-ltb, ltb-true, and_parts, and_from}
 use Rattle.std.proofs.lemmas.List.Sums.{sum_by-append, sum_by-cons}
 use Rattle.list_laws.proofs.Cases.{by_test}
 use Rattle.micro_ops.specs.declared.operation.Micro.{Micro}
@@ -64,10 +64,7 @@ later_none : (label a n : ℕ) → label < a → count_by (λ l. l == label) (ra
 later_none label a zero h = refl
 later_none label a (suc n) h =
     sum_by-cons (λ l. cond (l == label) 1 0) a (range_with_len (a + 1) n)
-    ∙ rw (other a label (omega arith)) (zero-add _ ∙ later_none label (a + 1) n (omega arith))
-  where
-    other : (a b : ℕ) → a ≢ b → (a == b) ≡ false
-    other a b ne = by_test (a == b) (λ e. absurd (ne (eqb-true a b e))) (λ e. e)
+    ∙ rw (ne_eqb a label (λ e. omega (arith, e))) (zero-add _ ∙ later_none label (a + 1) n (omega arith))
 
 range_once : (label a n : ℕ) → count_by (λ l. l == label) (range_with_len a n) ≤ 1
 range_once label a zero = omega arith

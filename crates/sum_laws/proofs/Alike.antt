@@ -7,6 +7,7 @@ use Rattle.std.specs.Ordering.{nat_cmp}
 use Rattle.std.specs.Cmp.Lexicographic.{slice_cmp}
 use Rattle.std.specs.BTreeSet.{insert_key}
 use Rattle.std.specs.Str.{bytes_eq}
+use Rattle.std.proofs.lemmas.Bool.{or_right}
 use Rattle.std.proofs.lemmas.List.{map-append}
 use Rattle.std.proofs.lemmas.List.Sums.{fold-append}
 use Rattle.std.proofs.lemmas.List.Folds.{list_any-append, list_all-append}
@@ -116,10 +117,6 @@ marks_fit p (a_hash text ∷ facts) a = marks_fit p facts a.1
 all_in : (all xs : List (List ℕ)) → ((x : List ℕ) → list_any (bytes_eq x) xs ≡ true → list_any (bytes_eq x) all ≡ true) → AllByRecursion (λ x. list_any (bytes_eq x) all ≡ true) xs
 all_in all [] h = tt
 all_in all (x ∷ xs) h = (h x (rw (bytes_same x) refl), all_in all xs (λ y e. h y (or_right (bytes_eq y x) (list_any (bytes_eq y) xs) e)))
-  where
-    or_right : (a b : Bool) → b ≡ true → a || b ≡ true
-    or_right true b e = refl
-    or_right false b e = e
 
 -- each of the states of rows is that of a row
 pub states_there : (rs : List Row) → AllByRecursion (λ x. list_any (bytes_eq x) (map (λ (r : Row). r.state) rs) ≡ true) (states_of rs)

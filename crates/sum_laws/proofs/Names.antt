@@ -3,6 +3,7 @@ use Rattle.std.proofs.Common.{◌≡◌, ℕ, List, [], ◌∷◌, ◌++◌, tru
 use Rattle.std.specs.Prelude.{Bool, ◌||◌, map, fold, Option, Some, None}
 use Rattle.std.specs.List.{list_any, flat_map, AllByRecursion}
 use Rattle.std.specs.Str.{bytes_eq}
+use Rattle.std.proofs.lemmas.Bool.{or_right}
 use Rattle.std.proofs.lemmas.List.{map-append}
 use Rattle.std.proofs.lemmas.List.Sums.{fold-append}
 use Rattle.std.proofs.lemmas.List.Folds.{list_any-append}
@@ -63,12 +64,8 @@ with_known names x h = rw h refl
 with_new : (names : List (List ℕ)) (x : List ℕ) → list_any (bytes_eq x) names ≡ false → with_test_name names x ≡ names ++ x ∷ []
 with_new names x h = rw h refl
 
-or_second : (a b : Bool) → b ≡ true → a || b ≡ true
-or_second true b h = refl
-or_second false b h = h
-
 there : (names : List (List ℕ)) (x : List ℕ) → list_any (bytes_eq x) (with_test_name names x) ≡ true
-there names x = any_with x names x ∙ or_second (list_any (bytes_eq x) names) (bytes_eq x x) (bytes_same x)
+there names x = any_with x names x ∙ or_right (list_any (bytes_eq x) names) (bytes_eq x x) (bytes_same x)
 
 -- names that are collected first are added to others as they came
 fold_names : (names more xs : List (List ℕ)) → fold with_test_name names (fold with_test_name more xs) ≡ fold with_test_name (fold with_test_name names more) xs
@@ -78,7 +75,7 @@ fold_names names more (x ∷ xs) =
     ∙ ap (λ t. fold with_test_name t xs)
     (by_test (list_any (bytes_eq x) more)
     (λ e. ap (fold with_test_name names) (with_known more x e)
-    ∙ sym (with_known (fold with_test_name names more) x (any_names x names more ∙ or_second (list_any (bytes_eq x) names) (list_any (bytes_eq x) more) e)))
+    ∙ sym (with_known (fold with_test_name names more) x (any_names x names more ∙ or_right (list_any (bytes_eq x) names) (list_any (bytes_eq x) more) e)))
     (λ e. ap (fold with_test_name names) (with_new more x e) ∙ fold-append with_test_name names more (x ∷ [])))
 
 -- entries of one test

@@ -1,8 +1,9 @@
 -- The facts of a printed test have the sum that the test was printed from.
 use Rattle.std.proofs.Common.{◌≡◌, ℕ, ◌+◌, List, [], ◌∷◌, ◌++◌, true, false, refl, sym, ap, ◌∙◌, arith, append-nil, zero-add, add-zero, Some, None}
-use Rattle.std.specs.Prelude.{Bool, ◌||◌, cond, Option, map}
+use Rattle.std.specs.Prelude.{Bool, cond, Option, map}
 use Rattle.std.specs.List.{list_any, AllByRecursion}
 use Rattle.std.specs.Str.{bytes_eq}
+use Rattle.std.proofs.lemmas.Bool.{or_right}
 use Rattle.list_laws.proofs.Cases.{by_test}
 use Rattle.log_sum.specs.Facts.{Row, Fact, a_kind, a_row, a_condition, a_hash, row_with, rows, conditions, hashes, first_of, same_state_mark, marked_sum, state_sum, states_of, mark_in, facts_of}
 use Rattle.log_sum.specs.Summed.{Summed, StateSummed, some_or, state_by, is_validated}
@@ -263,10 +264,6 @@ sum_over mark m (r ∷ rs) ks d a b =
 in_states : (all rs : List Row) → ((x : List ℕ) → list_any (bytes_eq x) (map (λ (r : Row). r.state) rs) ≡ true → list_any (bytes_eq x) (states_of all) ≡ true) → AllByRecursion (λ (r : Row). list_any (bytes_eq r.state) (states_of all) ≡ true) rs
 in_states all [] h = tt
 in_states all (r ∷ rs) h = (h r.state (rw (bytes_same r.state) refl), in_states all rs (λ x e. h x (or_right (bytes_eq x r.state) (list_any (bytes_eq x) (map (λ (q : Row). q.state) rs)) e)))
-  where
-    or_right : (a b : Bool) → b ≡ true → a || b ≡ true
-    or_right true b e = refl
-    or_right false b e = e
 
 -- the mark that is found is the state's own
 pub mark_law : (mark : List ℕ → Mark) (rs : List Row) → Marks mark rs → (x : List ℕ) (y : Mark) → mark_in x rs ≡ Some y → y ≡ mark x

@@ -7,6 +7,7 @@ use Rattle.diy_io.specs.Sink.{line_feed_count}
 use Rattle.log_sum.specs.declared.errors.LogError.{LogError}
 use Rattle.log_sum.specs.LogReading.{LogSeen, input_judged}
 use Rattle.log_sum.specs.Representing.{logs_text}
+use Rattle.sum_laws.specs.Laws.{NoFault}
 
 -- a log has the text that is known, where one is known
 abbrev pub IsText : Option (List ℕ) → List ℕ → Type 0
@@ -21,9 +22,8 @@ abbrev pub max_piece : ℕ
 max_piece = 4096
 
 -- logs have no fault
-pub record AreWholeLogs (logs : List (List ℕ)) : Type 0 where
-  pub text : List ℕ
-  pub is : logs_text logs ≡ Ok text
+abbrev pub AreWholeLogs : List (List ℕ) → Type 0
+AreWholeLogs logs = NoFault logs
 
 -- the bytes so far of a log after these logs show no fault
 pub record ShowsNone (before : List (List ℕ)) (bytes : List ℕ) : Type 0 where

@@ -3,6 +3,7 @@ use Rattle.std.proofs.Common.{◌≡◌, ℕ, ◌+◌, ◌<◌, ◌≤◌, ◌==
 use Rattle.std.specs.Prelude.{slice_index_or, unwrap_or}
 use Rattle.std.specs.List.{find, position_from}
 use Rattle.std.specs.Str.{bytes_eq}
+use Rattle.std.proofs.lemmas.Bool.{ne_eqb}
 use Rattle.std.proofs.lemmas.List.{drop_more}
 use Rattle.std.proofs.Math.Seq.{drop-length}
 use Rattle.list_laws.specs.Numbers.{upto}
@@ -62,7 +63,4 @@ numbered_nowhere es number place n h none =
 pub none_more : (number : ℕ → ℕ) (place n : ℕ) → ((j : ℕ) → j < n → (number j == place) ≡ false) → (number n ≡ place → ⊥) → (j : ℕ) → j < n + 1 → (number j == place) ≡ false
 none_more number place n none other j below =
     by_less j n (λ before. none j before)
-    (λ last. let same : j ≡ n = omega arith in subst (λ k. (number k == place) ≡ false) (sym same) (apart (number n) place other))
-  where
-    apart : (m k : ℕ) → (m ≡ k → ⊥) → (m == k) ≡ false
-    apart m k e = grind (arith, e)
+    (λ last. let same : j ≡ n = omega arith in subst (λ k. (number k == place) ≡ false) (sym same) (ne_eqb (number n) place other))

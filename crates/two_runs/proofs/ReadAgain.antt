@@ -56,7 +56,7 @@ names_formed n (name ∷ names) few h =
     and_from (is_place_name name) (list_all is_place_name names) (name_formed n name few h.0) (names_formed n names few h.1)
 
 -- a text has one reading
-one_reading : (test other : TestRead) → (let left : Result TestRead TextError = Ok test in left) ≡ Ok other → test ≡ other
+pub one_reading : (test other : TestRead) → (let left : Result TestRead TextError = Ok test in left) ≡ Ok other → test ≡ other
 one_reading test other e = cc e
 
 -- the places of a reading of the test have names of their form

@@ -34,7 +34,7 @@ use Rattle.printed_test_laws.specs.Readings.{program_read, place_in_test}
 use Rattle.exchange_laws.specs.Undecided.{BytesUndecided, NoneTells, PrintedUndecided, Undecided}
 use Rattle.two_runs.specs.Runs.{cycle_reads, numbers_by, order_of, run_by}
 use Rattle.two_runs.specs.Shown.{AreTwoRuns}
-use Rattle.two_runs.proofs.ReadAgain.{read_again}
+use Rattle.two_runs.proofs.ReadAgain.{one_reading, read_again}
 
 filter_none : (p : ℕ → Bool) (xs : List ℕ) → ((x : ℕ) → p x ≡ false) → filter p xs ≡ []
 filter_none p [] h = refl
@@ -113,11 +113,8 @@ are_runs a w name es need text bytes test one two t b u reads first second laws 
   second_reads = read_again a w name es (Some need.event) (numbers_by test.places) test two laws back cells single code named read none.second second;
 }
   where
-    is_ok : (x y : TestRead) → (let left : Result TestRead TextError = Ok x in left) ≡ Ok y → x ≡ y
-    is_ok x y e = cc e
-
     same : u.test ≡ test
-    same = is_ok u.test test (sym u.reads ∙ ap (test_read a.name w) (sym (b ∙ t)) ∙ reads)
+    same = one_reading u.test test (sym u.reads ∙ ap (test_read a.name w) (sym (b ∙ t)) ∙ reads)
 
     one_is : one ≡ intended es Avoid (place_in_test test)
     one_is = first ∙ run_intended es (numbers_by test.places)

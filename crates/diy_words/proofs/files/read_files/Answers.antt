@@ -1,6 +1,7 @@
 -- That `read_files` finds the places of the files that words name.
 use Rattle.std.proofs.Common.{arith, ◌∙◌, sym, subst}
-use Rattle.diy_words.proofs.FileLaws.{FilesRead, files_begun, file_read, file_there, where_err, option_first, option_read, files_ended}
+use Rattle.diy_io.specs.SinkLaws.{on_err}
+use Rattle.diy_words.proofs.FileLaws.{FilesRead, files_begun, file_read, file_there, option_first, option_read, files_ended}
 use Rattle.diy_words.proofs.files.read_files.Goals as goal
 
 pub loop-at-init : goal.loop-at-init
@@ -25,5 +26,5 @@ returns-clause-files c = files_ended c.args.words.now c.loop-at.at c.loop-at.fil
 
 pub returns-in_err-push-in-None-clause-some : goal.returns-in_err-push-in-None-clause-some
 returns-in_err-push-in-None-clause-some c =
-    where_err c.from_residual.result
+    on_err c.from_residual.result
     (file_there c.args.words.now c.loop-at.at c.get.result.now c.loop-at.files.items c.get.ensures (sym c.option_named.ensures ∙ c.in-None.is) c.loop-at.invariant)
