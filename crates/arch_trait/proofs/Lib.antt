@@ -5,6 +5,7 @@ pub mod Shapes
 pub mod Whole
 pub mod Tables
 pub mod Compiling
+pub mod NextThreads
 pub mod Spelling
 pub mod Commas
 pub mod PlainTexts

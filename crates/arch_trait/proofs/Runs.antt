@@ -15,7 +15,7 @@ use Rattle.arch_trait.specs.declared.step.Step.{Step}
 use Rattle.arch_trait.specs.Links.{depends_on_load, is_data, link_control, link_items}
 use Rattle.arch_trait.specs.Taking.{Taken, address_in}
 use Rattle.arch_trait.specs.Threads.{Way, Puts, FitStep, FitSteps, is_load_dir, loads_in, from_of, put_of, filled_by, next_put, next_filled, further, step_code, thread_code, thread_regs, thread_loads, put_before, access_item, first_number, left_after, loads_after, thread_items, Loaded}
-use Rattle.arch_trait.specs.Laws.{IsTaken, Takes, HoldsPlaces, HasSource, ReadyForAccess, IsWanting, IsArch}
+use Rattle.arch_trait.specs.Laws.{IsTaken, Takes, HoldsPlaces, HasSource, ReadyForAccess, DidLink, IsWanting, IsArch}
 use Rattle.arch_trait.proofs.Taking.{Grew, grew, grew_refl, grew_trans}
 
 -- there is a number to read, if the access reads
@@ -124,6 +124,30 @@ pub record DidStep (a : Puts) (w : Way) (s : Step) (r : Run) (vs more : List ℕ
   pub places : HoldsPlaces after (further a w s).regs
   pub filled : HoldsRead after (next_filled a w s) (first_number vs) r.state.loads
 
+-- the code of the link of an access came to its end, and the run is ready for the access
+pub record DidItsLink (a : Puts) (w : Way) (s : Step) (r : Run) : Type 0 where
+  pub link : DidLink (a.link s.link (from_of s.link w.last) w.label) r (link_items s.link (r.state.loads - 1) r.state.control)
+      (link_control s.link (r.state.loads - 1) r.state.control)
+  pub ready : ReadyForAccess link.after w.regs (next_put a w s).regs s.link (from_of s.link w.last) (r.state.loads - 1)
+
+its_link_runs : (a : Puts) → IsArch a → (w : Way) (s : Step) (after_load : Bool) (r : Run) →
+    FitStep a.name after_load s → IsTaken w.regs → HoldsPlaces r (further a w s).regs →
+    (after_load ≡ true → HasSource r w.last (r.state.loads - 1)) → DidItsLink a w s r
+its_link_runs a laws w s b r fit taken places source =
+    let k = r.state.loads - 1 in
+    let from = from_of s.link w.last in
+    let dep : depends_on_load s.link ≡ true → HasSource r from k =
+    λ e. source_from r s.link w.last k (λ f. source (fit.after f)) e in
+    let l = laws.links.runs s.link from w.label r k fit.of_arch dep in
+    record {
+      link = l;
+      ready = record {
+        taken = taken;
+        places = λ p q e. ap (λ f. f q) l.regs_is ∙ places p q e;
+        source = λ e. source_along r l.after from k l.regs_is (dep e);
+      };
+    }
+
 step_runs : (a : Puts) → IsArch a → (w : Way) (s : Step) (after_load : Bool) (r : Run)
     (vs more : List ℕ) → FitStep a.name after_load s → IsTaken w.regs →
     HoldsPlaces r (further a w s).regs →
@@ -132,15 +156,9 @@ step_runs : (a : Puts) → IsArch a → (w : Way) (s : Step) (after_load : Bool)
 step_runs a laws w s b r vs more fit taken places source first reads =
     let k = r.state.loads - 1 in
     let from = from_of s.link w.last in
-    let dep : depends_on_load s.link ≡ true → HasSource r from k =
-    λ e. source_from r s.link w.last k (λ f. source (fit.after f)) e in
-    let l = laws.links.runs s.link from w.label r k fit.of_arch dep in
-    let ready : ReadyForAccess l.after w.regs (next_put a w s).regs s.link from k = record {
-      taken = taken;
-      places = λ p q e. ap (λ f. f q) l.regs_is ∙ places p q e;
-      source = λ e. source_along r l.after from k l.regs_is (dep e);
-    } in
-    let d = access_runs a laws w.regs from s s.dir b l.after k vs more fit fit.to_store fit.mark_fitting ready first
+    let linked = its_link_runs a laws w s b r fit taken places source in
+    let l = linked.link in
+    let d = access_runs a laws w.regs from s s.dir b l.after k vs more fit fit.to_store fit.mark_fitting linked.ready first
     (l.reads_is ∙ reads) in
     record {
       after = d.after;
@@ -375,15 +393,9 @@ step_wants : (a : Puts) → IsArch a → (w : Way) (s : Step) (after_load : Bool
 step_wants a laws w s b r fit taken places source e reads =
     let k = r.state.loads - 1 in
     let from = from_of s.link w.last in
-    let dep : depends_on_load s.link ≡ true → HasSource r from k =
-    λ e. source_from r s.link w.last k (λ f. source (fit.after f)) e in
-    let l = laws.links.runs s.link from w.label r k fit.of_arch dep in
-    let ready : ReadyForAccess l.after w.regs (next_put a w s).regs s.link from k = record {
-      taken = taken;
-      places = λ p q e. ap (λ f. f q) l.regs_is ∙ places p q e;
-      source = λ e. source_along r l.after from k l.regs_is (dep e);
-    } in
-    let h = access_wants a laws w.regs from s s.dir b l.after k fit fit.to_store fit.mark_fitting ready e
+    let linked = its_link_runs a laws w s b r fit taken places source in
+    let l = linked.link in
+    let h = access_wants a laws w.regs from s s.dir b l.after k fit fit.to_store fit.mark_fitting linked.ready e
     (l.reads_is ∙ reads) in
     record {
       run = h.run;

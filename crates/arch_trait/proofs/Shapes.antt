@@ -78,13 +78,13 @@ places_last (s ∷ ss) = ap (λ n. cond (visits s.place ss) 0 1 + n) (places_las
 pub places_first : (ss : List Step) → places_in ss ≡ first_seen (λ q. false) ss
 places_first ss = places_last ss ∙ last_is_first (λ q. false) ss
 
--- a shape with further accesses, at further locations where they aren't seen
-abbrev pub more_steps : Shape → (ℕ → Bool) → List Step → Shape
-more_steps h seen ss = record {
+-- a shape with further accesses, at so many further locations
+abbrev pub grown_by : Shape → List Step → ℕ → Shape
+grown_by h ss places = record {
   loads = h.loads + loads_in ss;
   stores = h.stores + count_by (λ s. is_store_dir s.dir) ss;
   addr = h.addr + count_by (λ s. is_addr s.link) ss;
-  places = h.places + first_seen seen ss;
+  places = h.places + places;
 }
 
 same_shape : (h i : Shape) → h.loads ≡ i.loads → h.stores ≡ i.stores → h.addr ≡ i.addr →
@@ -98,24 +98,44 @@ same_shape h i e f g k =
     made : ℕ → ℕ → ℕ → ℕ → Shape
     made l s a p = record { loads = l; stores = s; addr = a; places = p }
 
-more_none : (h : Shape) (seen : ℕ → Bool) → more_steps h seen [] ≡ h
-more_none h seen =
-    same_shape (more_steps h seen []) h (omega arith) (omega arith) (omega arith) (omega arith)
+grown_by_none : (h : Shape) → grown_by h [] 0 ≡ h
+grown_by_none h =
+    same_shape (grown_by h [] 0) h (omega arith) (omega arith) (omega arith) (omega arith)
 
-more_cons : (h : Shape) (seen : ℕ → Bool) (s : Step) (ss : List Step) →
-    more_steps h seen (s ∷ ss) ≡
-    more_steps (shape_grown h s.dir s.link (not (seen s.place))) (λ q. s.place == q || seen q) ss
-more_cons h seen s ss =
-    same_shape (more_steps h seen (s ∷ ss))
-    (more_steps (shape_grown h s.dir s.link (not (seen s.place))) (λ q. s.place == q || seen q) ss)
+grown_by_cons : (h : Shape) (s : Step) (ss : List Step) (old : Bool) (places : ℕ) →
+    grown_by h (s ∷ ss) (cond old 0 1 + places) ≡ grown_by (shape_grown h s.dir s.link (not old)) ss places
+grown_by_cons h s ss old places =
+    same_shape (grown_by h (s ∷ ss) (cond old 0 1 + places)) (grown_by (shape_grown h s.dir s.link (not old)) ss places)
     (omega (arith, sum_by-cons (λ t. cond (is_load_dir t.dir) 1 0) s ss))
     (omega (arith, sum_by-cons (λ t. cond (is_store_dir t.dir) 1 0) s ss))
     (omega (arith, sum_by-cons (λ t. cond (is_addr t.link) 1 0) s ss))
-    (let e = of_seen (seen s.place) in omega (arith, e))
+    (let e = of_old old in omega (arith, e))
   where
-    of_seen : (b : Bool) → ◌≡◌ {A = ℕ} (cond (not b) 1 0) (cond b 0 1)
-    of_seen true = refl
-    of_seen false = refl
+    of_old : (b : Bool) → ◌≡◌ {A = ℕ} (cond (not b) 1 0) (cond b 0 1)
+    of_old true = refl
+    of_old false = refl
+
+-- a shape with further accesses, at further locations where they aren't seen
+abbrev pub more_steps : Shape → (ℕ → Bool) → List Step → Shape
+more_steps h seen ss = grown_by h ss (first_seen seen ss)
+
+-- a shape with further accesses, as they are counted one after another: each location at its last access
+abbrev pub shape_with : Shape → List Step → Shape
+shape_with h [] = h
+shape_with h (s ∷ ss) = shape_with (shape_grown h s.dir s.link (not (visits s.place ss))) ss
+
+shape_with_is : (h : Shape) (ss : List Step) → shape_with h ss ≡ grown_by h ss (places_in ss)
+shape_with_is h [] = sym (grown_by_none h)
+shape_with_is h (s ∷ ss) =
+    shape_with_is (shape_grown h s.dir s.link (not (visits s.place ss))) ss ∙
+    sym (grown_by_cons h s ss (visits s.place ss) (places_in ss))
+
+-- the shape that is counted access by access is that of the thread
+pub counted_shape : (ss : List Step) → shape_with no_shape ss ≡ shape_of ss
+counted_shape ss =
+    shape_with_is no_shape ss ∙
+    same_shape (grown_by no_shape ss (places_in ss)) (shape_of ss) (omega arith) (omega arith) (omega arith)
+    (omega arith)
 
 -- the places that have address registers are those seen, where accesses name address registers
 abbrev pub Tracks : Puts → Taken → (ℕ → Bool) → Type 0
@@ -133,7 +153,7 @@ pub taken_is : (a : Puts) → IsArch a → (b : Bool) (w : Way) (ss : List Step)
     (seen : ℕ → Bool) → FitSteps a.name b ss → IsGiven b w.last → Tracks a w.regs seen →
     (thread_regs a w ss).next + a.need h ≡ w.regs.next + a.need (more_steps h seen ss)
 taken_is a laws b w [] h seen fit given follows =
-    ap (λ i. w.regs.next + a.need i) (sym (more_none h seen))
+    ap (λ i. w.regs.next + a.need i) (sym (grown_by_none h))
 taken_is a laws b w (s ∷ ss) h seen fit given follows =
     let seen_after : ℕ → Bool = λ q. s.place == q || seen q in
     let h_after = shape_grown h s.dir s.link (not (seen s.place)) in
@@ -144,7 +164,7 @@ taken_is a laws b w (s ∷ ss) h seen fit given follows =
     (λ e. ap not (sym (follows e s.place))) in
     joined (thread_regs a w (s ∷ ss)).next (further a w s).regs.next w.regs.next (a.need h)
     (a.need h_after) (a.need (more_steps h_after seen_after ss)) rest here ∙
-    ap (λ i. w.regs.next + a.need i) (sym (more_cons h seen s ss))
+    ap (λ i. w.regs.next + a.need i) (sym (grown_by_cons h s ss (seen s.place) (first_seen seen_after ss)))
   where
     joined : (t u w h i m : ℕ) → t + i ≡ u + m → u + h ≡ w + i → t + h ≡ w + m
     joined t u w h i m e f = omega arith

@@ -13,6 +13,7 @@ mod reading;
 mod regs;
 mod shape;
 mod step;
+mod thread_codes;
 mod way;
 
 pub use access::{AskedAccess, DependentAccess, PlainAccess};
@@ -27,3 +28,4 @@ pub use reading::{InstrError, Named, Operands, Raw};
 pub use regs::{Links, MAX_REGISTERS, Regs};
 pub use shape::shape_of;
 pub use step::{MAX_STEPS, Shape, Step};
+pub use thread_codes::ThreadCodes;

@@ -1,64 +1,41 @@
-ghost use Rattle.std.specs.Prelude.{◌≡◌, ◌≤◌, length};
-ghost use Rattle.arch_trait.specs.Threads.{shape_of, places_in, visits, is_load_dir, is_store_dir};
-ghost use Rattle.std.specs.Prelude.{count_by};
-ghost use Rattle.arch_trait.specs.Links.{is_addr};
+ghost use Rattle.std.specs.Prelude.{◌≡◌, ◌≤◌, ◌<◌, ◌+◌, length, not};
+ghost use Rattle.arch_trait.specs.Threads.{shape_of, visits};
+ghost use Rattle.arch_trait.specs.Laws.{shape_grown};
 
 use crate::link::Link;
 use crate::step::{MAX_STEPS, Shape, Step};
 use relax_edges::Dir;
 
 /// What the accesses need registers for.
+#[tactic(auto, using(crate::proofs::Shapes::counted_shape))]
 pub fn shape_of(steps: &[Step]) -> Shape
     requires { length steps.now ≤ MAX_STEPS }
     ensures { result ≡ shape_of steps.now }
 {
-    Shape {
-        loads: count_loads(steps),
-        stores: count_stores(steps),
-        addr: count_addresses(steps),
-        places: count_places(steps),
+    let mut shape = Shape {
+        loads: 0,
+        stores: 0,
+        addr: 0,
+        places: 0,
+    };
+    for (i, step) in steps.iter().enumerate() {
+        add_step(step, &steps[i + 1..], &mut shape);
     }
+    shape
 }
 
-fn count_loads(steps: &[Step]) -> u8
-    requires { length steps.now ≤ MAX_STEPS }
-    ensures { result ≡ count_by (λ s. is_load_dir s.dir) steps.now }
+/// Counts one more access, before the rest: a location counts at its last access.
+fn add_step(step: &Step, rest: &[Step], shape: &mut Shape)
+    requires loads_room { shape.old.loads < 255 }
+    requires stores_room { shape.old.stores < 255 }
+    requires addr_room { shape.old.addr < 255 }
+    requires places_room { shape.old.places < 255 }
+    ensures { shape.new ≡ shape_grown shape.old step.now.dir step.now.link (not (visits step.now.place rest.now)) }
 {
-    steps
-        .iter()
-        .filter(|step| matches!(step.dir, Dir::R))
-        .count() as u8
-}
-
-fn count_stores(steps: &[Step]) -> u8
-    requires { length steps.now ≤ MAX_STEPS }
-    ensures { result ≡ count_by (λ s. is_store_dir s.dir) steps.now }
-{
-    steps
-        .iter()
-        .filter(|step| matches!(step.dir, Dir::W))
-        .count() as u8
-}
-
-fn count_addresses(steps: &[Step]) -> u8
-    requires { length steps.now ≤ MAX_STEPS }
-    ensures { result ≡ count_by (λ s. is_addr s.link) steps.now }
-{
-    steps
-        .iter()
-        .filter(|step| matches!(step.link, Link::Addr))
-        .count() as u8
-}
-
-fn count_places(steps: &[Step]) -> u8
-    requires { length steps.now ≤ MAX_STEPS }
-    ensures count { result ≡ places_in steps.now }
-    ensures few { result ≤ length steps.now }
-{
-    match steps {
-        [] => 0,
-        [step, rest @ ..] => u8::from(!visits(step.place, rest)) + count_places(rest),
-    }
+    shape.loads += u8::from(matches!(step.dir, Dir::R));
+    shape.stores += u8::from(matches!(step.dir, Dir::W));
+    shape.addr += u8::from(matches!(step.link, Link::Addr));
+    shape.places += u8::from(!visits(step.place, rest));
 }
 
 fn visits(place: u8, steps: &[Step]) -> bool

@@ -1,29 +1,19 @@
 -- Which lists of edges are accepted.
-use Rattle.std.proofs.Common.{◌≡◌, ◌≤◌, ℕ, Bool, true, false, cond, ◌&&◌, List, [], ◌∷◌, ◌++◌, length, Option, Some, None, Result, Ok, Err, nat_lt, refl, sym, ap, ◌∙◌}
+use Rattle.std.proofs.Common.{◌≡◌, ◌≤◌, true, false, cond, ◌&&◌, List, length, Option, Some, None, Result, Ok, Err, refl, sym, ap, ◌∙◌}
 use Rattle.std.specs.Prelude.{is_ok, is_none}
 use Rattle.relax_edges.specs.declared.TheConstants.{MAX_EDGES}
 use Rattle.relax_edges.specs.declared.kinds.ObsMode.{ObsMode}
 use Rattle.relax_edges.specs.declared.edge.Edge.{Edge}
-use Rattle.cycle_laws.specs.Composable.{IsCycle, first_break}
+use Rattle.cycle_laws.specs.Composable.{IsCycle}
 use Rattle.edge_algebra.specs.declared.errors.CycleError.{CycleError}
-use Rattle.edge_algebra.specs.declared.errors.CycleError.TheVariants.{TooLong}
-use Rattle.edge_algebra.specs.Compose.{composed, unbroken}
+use Rattle.edge_algebra.specs.Compose.{composed}
 use Rattle.edge_algebra.specs.ComposingLaws.{composes_exactly}
 use Rattle.arch_trait.specs.Threads.{Puts}
 use Rattle.test_maker.specs.declared.refusal.MakeRefusal.{MakeRefusal}
 use Rattle.test_maker.specs.Made.{Accepts}
 use Rattle.test_maker.specs.Refusals.{refusal_of}
 use Rattle.crossed_cycles.specs.Choices.{is_accepted}
-
--- the cycle that a list of edges makes is that list
-pub composed_same : (u w : List Edge) → composed u ≡ Ok w → w ≡ u
-composed_same [] w h = cc
-composed_same (e ∷ u) w h = by (nat_lt MAX_EDGES (length (e ∷ u))) (first_break ((e ∷ u) ++ e ∷ [])) h
-  where
-    by : (long : Bool) (at_place : Option ℕ) → cond long (Err TooLong) (unbroken (e ∷ u) at_place) ≡ Ok w → w ≡ e ∷ u
-    by true at_place k = cc
-    by false None k = cc
-    by false (Some i) k = cc
+use Rattle.crossed_cycles.specs.ComposedLaws.{composed_same}
 
 -- an accepted list is a cycle and has a test
 pub accepted_parts : (puts : Puts) (mode : ObsMode) (u : List Edge) → is_accepted puts mode u ≡ true → IsCycle u × (refusal_of puts u mode ≡ None)

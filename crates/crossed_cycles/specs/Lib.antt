@@ -2,4 +2,5 @@ pub mod Choices
 pub mod CrossingSteps
 pub mod NormalForms
 pub mod Known
+pub mod ComposedLaws
 pub mod Laws

@@ -1,10 +1,9 @@
 -- Where a test is printed, its bytes force the cycle.
-use Rattle.std.proofs.Common.{◌≡◌, ℕ, Bool, true, false, cond, not, nat_lt, nat_le, List, [], ◌∷◌, ◌++◌, length, Option, Some, None, refl, sym, ap, subst, arith, inl, inr, Ok, Err, ◌∙◌}
+use Rattle.std.proofs.Common.{◌≡◌, ℕ, Bool, true, false, cond, not, nat_lt, List, [], ◌∷◌, ◌++◌, length, Option, Some, None, refl, sym, ap, subst, inl, inr, Ok, Err, ◌∙◌}
 use Rattle.std.specs.Option.{option_or}
-use Rattle.std.specs.Prelude.{IfSome, Result, ◌⊎◌, ◌&&◌, if◌then◌else◌}
-use Rattle.std.specs.List.{list_all, position_from}
-use Rattle.std.proofs.lemmas.Bool.{and_parts, ltb-false}
-use Rattle.std.proofs.lemmas.Bool.Decides.{nat_tests}
+use Rattle.std.specs.Prelude.{IfSome, Result, ◌⊎◌, if◌then◌else◌}
+use Rattle.std.specs.List.{position_from}
+use Rattle.std.proofs.lemmas.Bool.{ltb-false}
 use Rattle.relax_edges.specs.declared.TheConstants.{MAX_EDGES}
 use Rattle.relax_edges.specs.declared.kinds.ArchName.{ArchName}
 use Rattle.relax_edges.specs.declared.kinds.ArchName.TheVariants as archs
@@ -34,7 +33,6 @@ use Rattle.arch_riscv.specs.Laws as riscv_laws
 use Rattle.arch_riscv.specs.ReadsBack as riscv_back
 use Rattle.litmus_text.specs.Printable.{IsTestName}
 use Rattle.diy_words.specs.declared.usage.Usage.{Usage}
-use Rattle.text_laws.specs.Names.{is_name_byte}
 use Rattle.diy_words.specs.TestNames.{is_name}
 use Rattle.diy_words.specs.Requests.{Task, TestTask, ListTask, AsksTest, AsksWhy, WhyTask, AsksName, AsksList, AsksFamilies, AsksSum, AsksCross, AsksDemo, AsksCheck, CrossTask, asked_of}
 use Rattle.cycle_names.specs.CycleNames.{name_of}
@@ -60,9 +58,9 @@ use Rattle.diy_tools.specs.ListAnswers.{AnswersList}
 use Rattle.diy_tools.specs.Answers.{Answers, AnswersAsked}
 use Rattle.diy_tools.specs.Devices.{Devices, DevicesSeen, devices}
 use Rattle.diy_tools.specs.Headline.{Headline, HeadlineAsked}
-use Rattle.listed_tests.specs.Plans.{is_wanted}
+use Rattle.listed_tests.specs.WantedLaws.{wanted_has_test}
 use Rattle.test_maker.specs.CycleText.{cycle_text}
-use Rattle.std.specs.Prelude.{is_none}
+use Rattle.diy_tools.proofs.TestNames.{words_name}
 
 -- what the law over the bytes asks of an architecture
 record KeepsLaws (m : Machine) : Type 0 where
@@ -131,15 +129,8 @@ accepted a mode es h =
     none_made None h = refl
     none_made (Some reason) h = cc h
 
--- a name as words give it has the form that a test's has
-pub named_so : (name : List ℕ) → is_name name ≡ true → IsTestName name
-named_so name h =
-    let outer = and_parts (nat_lt 0 (length name) && nat_le (length name) 800) (list_all is_name_byte name) h in
-    let inner = and_parts (nat_lt 0 (length name)) (nat_le (length name) 800) outer.0 in
-    record { some = grind (arith, nat_tests, inner.0); short = inner.1; bytes = outer.1 }
-
 test_named_so : (name : Option (List ℕ)) (es : List Edge) → IsCycle es → IfSome name (λ name. is_name name ≡ true) → IsTestName (test_name name es)
-test_named_so (Some name) es whole h = named_so name h
+test_named_so (Some name) es whole h = (words_name name).0 h
 test_named_so None es whole h = cycle_named es whole
 
 -- the text of the test of a cycle that has one, under a name of its form, forces the cycle
@@ -151,15 +142,6 @@ text_forces arch mode name es named whole unrefused =
     let keeps = keeps_laws arch in
     printed_force m.puts m.puts.name m.writing name (turned es) mode keeps.laws keeps.back keeps.cells keeps.one named
     (accepted_has_test m.puts es mode whole unrefused)
-
--- a cycle that is wanted in a listing has a test
-wanted_unrefused : (a : Puts) (mode : ObsMode) (threads : ℕ) (accesses : Option ℕ) (es : List Edge) → is_wanted a mode threads accesses es ≡ true → refusal_of a es mode ≡ None
-unfolding is_wanted
-wanted_unrefused a mode threads accesses es h = of_none (refusal_of a es mode) (and_parts (is_none (refusal_of a es mode)) _ h).0
-  where
-    of_none : (refused : Option MakeRefusal) → is_none refused ≡ true → refused ≡ None
-    of_none None h = refl
-    of_none (Some refusal) h = cc h
 
 -- what is answered says that the tests that are printed and listed force their cycles
 asked_force : (words : List (List ℕ)) (status : Status) (old new : Devices) → AnswersAsked words (asked_of words) status old new → HeadlineAsked (asked_of words) status old new
@@ -182,7 +164,7 @@ asked_force words status old new h = of_asked (asked_of words) refl h
       lists = h;
       forces = λ cycle planned.
           text_forces asked.arch asked.mode (name_of cycle) cycle (cycle_named cycle planned.cycle) planned.cycle
-          (wanted_unrefused (machine_of asked.arch).puts asked.mode asked.threads asked.accesses cycle planned.taken);
+          (wanted_has_test (machine_of asked.arch).puts asked.mode asked.threads asked.accesses cycle planned.taken);
     }
 
     of_cross : (asked : CrossTask) → AnswersCross asked status old.shelf new.shelf old.out new.out → HeadlineAsked (Ok (AsksCross asked)) status old new

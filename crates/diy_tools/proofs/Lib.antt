@@ -1,6 +1,7 @@
 pub mod Reported
 pub mod Running
 pub mod Shows
+pub mod TestNames
 pub mod Forced
 pub mod Listed
 pub mod Crossed

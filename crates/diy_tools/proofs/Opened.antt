@@ -1,21 +1,18 @@
 -- What was opened and taken of logs, as far as it is counted.
-use Rattle.std.proofs.Common.{◌≡◌, ◌≤◌, ◌<◌, ◌+◌, ◌^◌, ℕ, List, [], ◌∷◌, ◌++◌, length, All, suc, refl, ap, ◌∙◌, arith, inl, inr, length-append}
+use Rattle.std.proofs.Common.{◌≡◌, ◌≤◌, ◌<◌, ◌+◌, ◌^◌, ℕ, List, [], ◌∷◌, ◌++◌, length, All, suc, ap, ◌∙◌, arith, inl, inr, length-append}
 use Rattle.std.specs.Prelude.{◌⊎◌}
 use Rattle.diy_io.specs.Count.{count_of, Rose}
 use Rattle.diy_io.specs.Shelf.{ShelfSeen}
 use Rattle.diy_io.specs.Taken.{SourceSeen}
 use Rattle.summed_files.specs.Logs.{IsShort, IsTooMuch, TookCount}
 use Rattle.file_laws.specs.Opened.{TookFiles, last_taken}
+use Rattle.file_laws.proofs.OpenedLaws.{last_of}
 use Rattle.summed_files.specs.SumEnds.{FileTooMuch, IsBegun, SumShelfFailed}
 use Rattle.diy_tools.specs.Causes.{RoseFar}
 
 -- at most 2^40 bytes were taken of the last file that was opened since
 abbrev pub IsWithin : ShelfSeen → ShelfSeen → Type 0
 IsWithin old new = count_of old.opened < count_of new.opened → new.taken ≤ 2 ^ 40
-
-last_is : (taken : ℕ) (xs : List (List ℕ)) (x : List ℕ) → last_taken taken (xs ++ x ∷ []) ≡ length x
-last_is taken [] x = refl
-last_is taken (y ∷ xs) x = last_is (length y) xs x
 
 last_within : (taken : ℕ) (xs : List (List ℕ)) → taken ≤ 2 ^ 40 → All IsShort xs → last_taken taken xs ≤ 2 ^ 40
 last_within taken [] few short = few
@@ -31,7 +28,7 @@ files_within old new (x ∷ xs) took short = λ more.
     omega arith
 
 last_bytes : (old new : ShelfSeen) (before : List (List ℕ)) (bytes : List ℕ) → TookFiles old new (before ++ bytes ∷ []) → count_of new.taken ≡ count_of (length bytes)
-last_bytes old new before bytes took = took.last ∙ ap count_of (last_is old.taken before bytes)
+last_bytes old new before bytes took = took.last ∙ ap count_of (last_of old.taken before bytes)
 
 -- a shelf that failed
 pub failed_within : (old new : ShelfSeen) (words : List (List ℕ)) (first : ℕ) → SumShelfFailed old new words first → IsWithin old new

@@ -1,6 +1,6 @@
 -- What `run` answers, from what its parts answer.
-use Rattle.std.proofs.Common.{◌≡◌, ℕ, Bool, true, false, not, nat_lt, nat_le, List, [], ◌∷◌, ◌++◌, length, Option, Some, None, refl, sym, ap, subst, arith, Ok, Err}
-use Rattle.std.specs.Prelude.{Result, cond, if◌then◌else◌}
+use Rattle.std.proofs.Common.{◌≡◌, ℕ, true, false, not, nat_lt, nat_le, List, [], ◌∷◌, length, Option, Some, None, refl, sym, ap, subst, arith, Ok}
+use Rattle.std.specs.Prelude.{Result, if◌then◌else◌}
 use Rattle.std.specs.List.{position_from}
 use Rattle.std.specs.Option.{option_or}
 use Rattle.std.proofs.lemmas.Bool.Decides.{nat_tests}
@@ -12,8 +12,7 @@ use Rattle.relax_edges.specs.declared.kinds.ObsMode.{ObsMode}
 use Rattle.relax_edges.specs.EdgeTable.{is_of_arch}
 use Rattle.edge_algebra.specs.declared.errors.CycleError.{CycleError}
 use Rattle.edge_algebra.specs.declared.errors.CycleError.TheVariants as composing
-use Rattle.edge_algebra.specs.Compose.{composed, unbroken}
-use Rattle.cycle_laws.specs.Composable.{first_break}
+use Rattle.edge_algebra.specs.Compose.{composed}
 use Rattle.diy_io.specs.declared.errors.Failed.{Failed}
 use Rattle.diy_io.specs.Wrote.{SinkSeen}
 use Rattle.edge_lists.specs.declared.list.EdgeList.{EdgeList}
@@ -23,6 +22,7 @@ use Rattle.cycle_lines.specs.Normed.{name_line}
 use Rattle.diy_io.specs.Taken.{SourceSeen}
 use Rattle.diy_io.specs.Shelf.{ShelfSeen}
 use Rattle.diy_words.specs.declared.request.Diy.{Diy}
+use Rattle.crossed_cycles.specs.ComposedLaws.{composed_same}
 use Rattle.diy_tools.specs.Devices.{DevicesSeen, devices}
 use Rattle.diy_tools.specs.SumAnswers.{AnswersSum}
 use Rattle.test_maker.specs.CycleText.{cycle_text}
@@ -131,16 +131,6 @@ pub named_refused : (a b : ArchName) (list : EdgeList) (result : Result (List Ed
     → MakesCycle (refused_edges b list) (edges_kept list) result → MakesCycle (refused_edges a list) (edges_kept list) result
 named_refused a b list result same h = subst (λ n. MakesCycle (refused_edges n list) (edges_kept list) result) (sym same) h
 
--- a cycle that edges make is those edges
-pub composed_is : (es u : List Edge) → composed es ≡ Ok u → u ≡ es
-composed_is [] u e = cc e
-composed_is (x ∷ es) u e = whole (nat_lt MAX_EDGES (length (x ∷ es))) (first_break ((x ∷ es) ++ x ∷ [])) (x ∷ es) u e
-  where
-    whole : (b : Bool) (o : Option ℕ) (us v : List Edge) → cond b (Err composing.TooLong) (unbroken us o) ≡ Ok v → v ≡ us
-    whole true o us v h = cc h
-    whole false None us v h = cc h
-    whole false (Some at) us v h = cc h
-
 -- a refusal of the maker names a location that a test can have
 pub making_located : (refusal : MakeRefusal) → made.NamesLocation refusal → RefusesLocation (making_refusal refusal)
 making_located (making.NotOfArch at) h = tt
@@ -157,7 +147,7 @@ composing_located (composing.DoesNotCompose at) = tt
 
 -- a cycle that is composed isn't refused, and is the edges
 pub composed_made : (es u : List Edge) → composed es ≡ Ok u → (refused_composing (composed es) ≡ None) × (u ≡ es)
-composed_made es u e = (ap refused_composing e, composed_is es u e)
+composed_made es u e = (ap refused_composing e, composed_same es u e)
 
 -- what is answered on an architecture is answered on the one with its name
 pub answered_on : (arch a : ArchName) (mode : ObsMode) (list : EdgeList) (name : Option (List ℕ)) (status : Status) (old new : SinkSeen)

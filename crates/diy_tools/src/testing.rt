@@ -12,7 +12,7 @@ use crate::status::{Device, Refusal, Status};
 use arch_aarch64::A64;
 use arch_power::Power;
 use arch_riscv::Riscv;
-use arch_trait::{Arch, Places};
+use arch_trait::{Arch, Places, ThreadCodes};
 use arch_x86::X86;
 use arrayvec::ArrayVec;
 use cycle_names::name_of;
@@ -75,7 +75,7 @@ fn answer_cycle<A: Arch, O: Sink>(
     let mut test = Test {
         edges: ArrayVec::new(),
         places: Places::new(),
-        threads: ArrayVec::new(),
+        threads: ThreadCodes::new(),
         cond: Cond::default(),
     };
     match make_test::<A>(cycle, mode, &mut test) {

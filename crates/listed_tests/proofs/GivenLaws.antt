@@ -7,7 +7,9 @@ use Rattle.diy_io.specs.Shelf.{ShelfSeen, Idle, Appended, name_written}
 use Rattle.listed_tests.specs.ListedFiles.{file_number, file_of, path_of, all_path, file_lines, test_files}
 use Rattle.listed_tests.specs.GivenCycles.{PutUpTo, given_files}
 use Rattle.listed_tests.specs.Putting.{PutFiles, PutPart, Filling}
-use Rattle.listed_tests.proofs.Lines.{length_more, lines_so_far, waits_more, file_lines-append, file_lines_none, test_files_none, test_files_more, files_from, files_parts, counted_next, counted_once, file_counted}
+use Rattle.listed_tests.proofs.Lines.{length_more, file_lines-append, test_files_none, test_files_more, files_from, files_parts, counted_next, counted_once, file_counted}
+use Rattle.listed_tests.specs.Keeping.{FillsLines}
+use Rattle.listed_tests.proofs.FilledLines.{fills_first, fills_written, fills_more}
 use Rattle.listed_tests.proofs.Shelves.{put_nothing, put_both, put_then_part, part_more, filling_more}
 
 -- the cycle at a place is the first of those that are left there
@@ -92,59 +94,39 @@ module _ (folder : Option (List ℕ)) (text : List Edge → List ℕ) (cycles : 
 pub record Lists (path : List ℕ) (cycles rest : List (List Edge)) (old new : ShelfSeen) (number : ℕ) (waiting : List ℕ) : Type 0 where
   pub done : List (List Edge)
   pub parts : cycles ≡ done ++ rest
-  pub written : List ℕ
-  pub file : Filling old new path written
-  pub text : written ++ waiting ≡ file_lines 0 done
-  pub counted : file_number number ≡ file_number (length done)
+  pub filled : FillsLines path [] 0 done old new number waiting
 
 module _ (path : List ℕ) (cycles : List (List Edge)) where
   -- the file is begun
   pub lists_first : (a b : ShelfSeen) (waiting : List ℕ) → waiting ≡ [] → Filling a b path [] → Lists path cycles cycles a b 0 waiting
-  lists_first a b waiting none f = record {
-    done = [];
-    parts = refl;
-    written = [];
-    file = f;
-    text = none ∙ sym (file_lines_none 0);
-    counted = refl;
-  }
+  lists_first a b waiting none f = record { done = []; parts = refl; filled = fills_first path [] 0 a b 0 waiting f refl none }
 
   -- the lines that wait are written
   pub lists_written : (rest : List (List Edge)) (a b c : ShelfSeen) (number : ℕ) (waiting : List ℕ) (l : Lists path cycles rest a b number waiting)
-      → Filling a c path (l.written ++ waiting) → Lists path cycles rest a c number []
-  lists_written rest a b c number waiting l f = record {
-    done = l.done;
-    parts = l.parts;
-    written = l.written ++ waiting;
-    file = f;
-    text = append-nil (l.written ++ waiting) ∙ l.text;
-    counted = l.counted;
-  }
+      → Filling a c path (l.filled.written ++ waiting) → Lists path cycles rest a c number []
+  lists_written rest a b c number waiting l f =
+      record { done = l.done; parts = l.parts; filled = fills_written path [] 0 l.done a b number waiting l.filled c f }
 
   -- one more line waits
   pub lists_more : (rest more : List (List Edge)) (u : List Edge) (a b : ShelfSeen) (number next : ℕ) (waiting new : List ℕ)
       → Lists path cycles rest a b number waiting → rest ≡ u ∷ more → next ≡ file_number (number + 1) → new ≡ waiting ++ (file_of number u ++ codes "\n")
       → Lists path cycles more a b next new
-  lists_more rest more u a b number next waiting new l left e f =
-      record {
-        done = l.done ++ u ∷ [];
-        parts = l.parts ∙ ap (λ r. l.done ++ r) left ∙ sym (append_assoc l.done (u ∷ []) more);
-        written = l.written;
-        file = l.file;
-        text = waits_more l.written waiting new _ (file_of number u ++ codes "\n") l.text f ∙ lines_so_far l.done u number l.counted;
-        counted = ap file_number e ∙ counted_once (number + 1) ∙ counted_next number (length l.done) l.counted ∙ ap file_number (sym (length_more l.done u));
-      }
+  lists_more rest more u a b number next waiting new l left e f = record {
+    done = l.done ++ u ∷ [];
+    parts = l.parts ∙ ap (λ r. l.done ++ r) left ∙ sym (append_assoc l.done (u ∷ []) more);
+    filled = fills_more path [] 0 l.done a b number waiting l.filled u next new e f;
+  }
 
   -- the whole text of the file is written with what waits, where no cycle is left
   pub lists_end : (rest : List (List Edge)) (a b c : ShelfSeen) (number : ℕ) (waiting : List ℕ)
       → Lists path cycles rest a b number waiting → rest ≡ [] → Appended b c (name_written b.mode) waiting → Filling a c path (file_lines 0 cycles)
   lists_end rest a b c number waiting l left x =
-      subst (Filling a c path) (l.text ∙ ap (file_lines 0) (sym (l.parts ∙ ap (λ r. l.done ++ r) left ∙ append-nil l.done)))
-      (filling_more a b c path l.written waiting l.file x)
+      subst (Filling a c path) (l.filled.text ∙ ap (file_lines 0) (sym (l.parts ∙ ap (λ r. l.done ++ r) left ∙ append-nil l.done)))
+      (filling_more a b c path l.filled.written waiting l.filled.file x)
 
   -- the shelf fails at what is written of it so far
   pub lists_stop : (rest : List (List Edge)) (a b c : ShelfSeen) (number : ℕ) (waiting : List ℕ) (l : Lists path cycles rest a b number waiting)
-      → PutPart a c [] path (l.written ++ waiting) → PutPart a c [] path (file_lines 0 cycles)
+      → PutPart a c [] path (l.filled.written ++ waiting) → PutPart a c [] path (file_lines 0 cycles)
   lists_stop rest a b c number waiting l p =
-      part_more a c [] path (l.written ++ waiting) (file_lines (0 + length l.done) rest) (file_lines 0 cycles) p
-      (ap (file_lines 0) l.parts ∙ file_lines-append 0 l.done rest ∙ ap (λ t. t ++ file_lines (0 + length l.done) rest) (sym l.text))
+      part_more a c [] path (l.filled.written ++ waiting) (file_lines (0 + length l.done) rest) (file_lines 0 cycles) p
+      (ap (file_lines 0) l.parts ∙ file_lines-append 0 l.done rest ∙ ap (λ t. t ++ file_lines (0 + length l.done) rest) (sym l.filled.text))

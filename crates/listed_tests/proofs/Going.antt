@@ -1,5 +1,5 @@
 -- The steps of writing the files of listed cycles, and what they come to.
-use Rattle.std.proofs.Common.{◌≡◌, ℕ, ◌+◌, List, [], ◌∷◌, ◌++◌, length, Option, Some, None, sym, ◌∙◌, ap, subst, arith, append-nil, append_assoc}
+use Rattle.std.proofs.Common.{◌≡◌, ℕ, ◌+◌, List, [], ◌∷◌, ◌++◌, length, Option, Some, None, refl, sym, ◌∙◌, ap, subst, arith}
 use Rattle.std.specs.Prelude.{codes, MatchOption}
 use Rattle.std.specs.Fmt.{decimal}
 use Rattle.relax_edges.specs.declared.edge.Edge.{Edge}
@@ -12,8 +12,9 @@ use Rattle.listed_tests.specs.ListedFiles.{file_number, file_of, path_of, all_pa
 use Rattle.listed_tests.specs.Putting.{PutFiles, PutPart, Filling}
 use Rattle.listed_tests.specs.Keeping.{KeepsLines, KeepsLine, Goes, HasGone, NamesAfter, StopsAfter, NamesAll, StopsNaming, Naming}
 use Rattle.listed_tests.specs.ListingEnds.{WritesAll, StopsAtTest, StopsAtAll}
-use Rattle.listed_tests.proofs.Lines.{length_more, file_lines-append, file_lines_none, test_files_none, test_files_more, counted_next, counted_once, file_counted, lines_counted, lines_more, lines_so_far, waits_more}
+use Rattle.listed_tests.proofs.Lines.{length_more, file_lines-append, file_lines_none, test_files_none, test_files_more, counted_next, counted_once, file_counted, lines_counted, lines_so_far}
 use Rattle.listed_tests.proofs.Shelves.{put_nothing, put_both, put_then_part, part_more, part_not_begun}
+use Rattle.listed_tests.proofs.FilledLines.{fills_first, fills_written, fills_more}
 use Rattle.listed_tests.proofs.After.{GoesOn, begins_all, all_after, listed_after}
 
 module _ (listed : List Edge → Type 0) (folder : Option (List ℕ)) (text : List Edge → List ℕ) (given : Option (List Edge)) where
@@ -146,60 +147,40 @@ module _ (listed : List Edge → Type 0) (path lines : List ℕ) (closed : Close
   naming_first last a b e f = record {
     cycles = [];
     so_far = subst (λ l. AreListedTo listed (Some closed.cycle) l []) (sym e) (listed_first listed (Some closed.cycle));
-    written = [];
-    file = f;
-    text = sym (ap (λ t. lines ++ t) (file_lines_none closed.number) ∙ append-nil lines);
-    counted = ap file_number (sym (zero_more closed.number));
+    filled = fills_first path lines closed.number a b closed.number lines f refl refl;
   }
-    where
-      zero_more : (n : ℕ) → n + 0 ≡ n
-      zero_more n = omega arith
 
   -- the lines that wait are written
   pub naming_written : (last : Option (List Edge)) (a b c : ShelfSeen) (number : ℕ) (waiting : List ℕ) (n : Naming listed path lines closed last a b number waiting)
-      → Filling a c path (n.written ++ waiting) → Naming listed path lines closed last a c number []
-  naming_written last a b c number waiting n f = record {
-    cycles = n.cycles;
-    so_far = n.so_far;
-    written = n.written ++ waiting;
-    file = f;
-    text = append-nil (n.written ++ waiting) ∙ n.text;
-    counted = n.counted;
-  }
+      → Filling a c path (n.filled.written ++ waiting) → Naming listed path lines closed last a c number []
+  naming_written last a b c number waiting n f =
+      record { cycles = n.cycles; so_far = n.so_far; filled = fills_written path lines closed.number n.cycles a b number waiting n.filled c f }
 
   -- one more line waits
   pub naming_more : (last : Option (List Edge)) (a b : ShelfSeen) (number next : ℕ) (waiting new : List ℕ) (u : List Edge)
       → Naming listed path lines closed last a b number waiting → IsNext listed last u → next ≡ file_number (number + 1) → new ≡ waiting ++ (file_of number u ++ codes "\n")
       → Naming listed path lines closed (Some u) a b next new
-  naming_more last a b number next waiting new u n is e f =
-      let place : ℕ = closed.number + length n.cycles in
-      let counted : file_number number ≡ file_number place = n.counted in
-      let long : closed.number + length (n.cycles ++ u ∷ []) ≡ place + 1 = omega (arith, length_more n.cycles u) in
-      record {
-        cycles = n.cycles ++ u ∷ [];
-        so_far = listed_next listed (Some closed.cycle) last n.cycles u n.so_far is;
-        written = n.written;
-        file = n.file;
-        text = waits_more n.written waiting new _ (file_of number u ++ codes "\n") n.text f ∙ append_assoc lines (file_lines closed.number n.cycles) (file_of number u ++ codes "\n")
-            ∙ ap (λ t. lines ++ t) (lines_more closed.number n.cycles u number counted);
-        counted = ap file_number e ∙ counted_once (number + 1) ∙ counted_next number place counted ∙ ap file_number (sym long);
-      }
+  naming_more last a b number next waiting new u n is e f = record {
+    cycles = n.cycles ++ u ∷ [];
+    so_far = listed_next listed (Some closed.cycle) last n.cycles u n.so_far is;
+    filled = fills_more path lines closed.number n.cycles a b number waiting n.filled u next new e f;
+  }
 
   -- the file is whole
   pub naming_done : (last : Option (List Edge)) (a b c : ShelfSeen) (number : ℕ) (waiting : List ℕ) (n : Naming listed path lines closed last a b number waiting)
-      → IsAnswer listed last None → PutFiles a c ((path, n.written ++ waiting) ∷ []) → NamesAfter listed path lines closed a c
+      → IsAnswer listed last None → PutFiles a c ((path, n.filled.written ++ waiting) ∷ []) → NamesAfter listed path lines closed a c
   naming_done last a b c number waiting n none p = record {
     cycles = n.cycles;
     all = listed_none listed (Some closed.cycle) last n.cycles n.so_far none;
-    file = subst (λ t. PutFiles a c ((path, t) ∷ [])) n.text p;
+    file = subst (λ t. PutFiles a c ((path, t) ∷ [])) n.filled.text p;
   }
 
   -- the shelf fails
   pub naming_stop : (last : Option (List Edge)) (a b c : ShelfSeen) (number : ℕ) (waiting : List ℕ) (n : Naming listed path lines closed last a b number waiting)
-      → PutPart a c [] path (n.written ++ waiting) → StopsAfter listed path lines closed a c
+      → PutPart a c [] path (n.filled.written ++ waiting) → StopsAfter listed path lines closed a c
   naming_stop last a b c number waiting n p = record {
     last = last;
     cycles = n.cycles;
     so_far = n.so_far;
-    part = subst (PutPart a c [] path) n.text p;
+    part = subst (PutPart a c [] path) n.filled.text p;
   }

@@ -1,6 +1,7 @@
 pub mod Shelves
 pub mod FilesPut
 pub mod Lines
+pub mod FilledLines
 pub mod After
 pub mod Going
 pub mod GivenLaws

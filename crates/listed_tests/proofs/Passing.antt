@@ -1,18 +1,14 @@
 -- A walk that passes over cycles that have no test.
 use Rattle.std.proofs.Common.{Option, Some, None, List, inl, inr}
 use Rattle.relax_edges.specs.declared.edge.Edge.{Edge}
-use Rattle.cycle_laws.specs.CycleOrder.{Follows}
-use Rattle.cycle_laws.proofs.Ordering.{follows_transitive, follows_or_same}
+use Rattle.cycle_laws.proofs.Ordering.{follows_or_same}
 use Rattle.walk_laws.specs.Listing.{ComesAfter, IsNext, IsAnswer}
+use Rattle.walk_laws.proofs.Listings.{after_more}
 
 -- no listed cycle that comes after the one that was given is passed over up to the last one
 pub record Passes (listed : List Edge → Type 0) (given last : Option (List Edge)) : Type 0 where
   pub beyond : (v : List Edge) → ComesAfter last v → ComesAfter given v
   pub none : (v : List Edge) → listed v → ComesAfter given v → ComesAfter last v
-
-after_more : (given : Option (List Edge)) (u v : List Edge) → ComesAfter given u → Follows u v → ComesAfter given v
-after_more None u v h f = tt
-after_more (Some w) u v h f = follows_transitive w u v h f
 
 -- before the first cycle none is passed over
 pub passes_first : (listed : List Edge → Type 0) (given : Option (List Edge)) → Passes listed given given

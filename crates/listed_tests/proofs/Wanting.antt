@@ -22,21 +22,12 @@ use Rattle.list_laws.proofs.Places.{none_foreign}
 use Rattle.diy_io.specs.Shelf.{ShelfSeen}
 use Rattle.listed_tests.specs.Plans.{HaveTests, ends_of_arch, has_few_threads, has_few_accesses, is_sought, is_wanted, may_lead}
 use Rattle.listed_tests.specs.InternalRuns.{HasLongRun}
+use Rattle.listed_tests.specs.WantedLaws.{wanted_has_test}
 use Rattle.listed_tests.specs.ListingEnds.{WritesAll, StopsAtTest, StopsAtAll}
 use Rattle.listed_tests.proofs.RunLaws.{long_run_crowds}
 use Rattle.listed_tests.proofs.After.{next_too, listed_too, all_too}
 
-none_is : {X : Type 0} (o : Option X) → is_none o ≡ true → o ≡ None
-none_is None h = refl
-none_is (Some x) h = cc
-
--- a cycle that is wanted has a test
-pub wanted_has_test : (puts : Puts) (mode : ObsMode) (threads : ℕ) (accesses : Option ℕ) (cycle : List Edge) → is_wanted puts mode threads accesses cycle ≡ true → refusal_of puts cycle mode ≡ None
-unfolding is_wanted
-wanted_has_test puts mode threads accesses cycle h =
-    none_is (refusal_of puts cycle mode) (and_parts (is_none (refusal_of puts cycle mode)) (has_few_threads threads cycle && has_few_accesses accesses cycle) h).0
-
--- and at most so many threads, and accesses in each
+-- a cycle that is wanted has at most so many threads, and accesses in each
 wanted_few : (puts : Puts) (mode : ObsMode) (threads : ℕ) (accesses : Option ℕ) (cycle : List Edge) → is_wanted puts mode threads accesses cycle ≡ true
     → (has_few_threads threads cycle ≡ true) × (has_few_accesses accesses cycle ≡ true)
 unfolding is_wanted

@@ -111,11 +111,16 @@ NamesRest puts mode listed path lines closed old new = NamesAfter (HaveTests put
 abbrev pub StopsRest : Puts → ObsMode → (List Edge → Type 0) → List ℕ → List ℕ → Closed → ShelfSeen → ShelfSeen → Type 0
 StopsRest puts mode listed path lines closed old new = StopsAfter (HaveTests puts mode listed) path lines closed old new
 
+-- a file has lines that were kept, and then those of cycles by their numbers from a first one on, but for the lines that wait; and the
+-- number of the next cycle is counted
+pub record FillsLines (path kept : List ℕ) (first : ℕ) (cycles : List (List Edge)) (old new : ShelfSeen) (number : ℕ) (waiting : List ℕ) : Type 0 where
+  pub written : List ℕ
+  pub file : Filling old new path written
+  pub text : written ++ waiting ≡ kept ++ file_lines first cycles
+  pub counted : file_number number ≡ file_number (first + length cycles)
+
 -- the file that names all has the lines of the listed cycles up to the last one, but for those that wait
 pub record Naming (listed : List Edge → Type 0) (path lines : List ℕ) (closed : Closed) (last : Option (List Edge)) (old new : ShelfSeen) (number : ℕ) (waiting : List ℕ) : Type 0 where
   pub cycles : List (List Edge)
   pub so_far : AreListedTo listed (Some closed.cycle) last cycles
-  pub written : List ℕ
-  pub file : Filling old new path written
-  pub text : written ++ waiting ≡ lines ++ file_lines closed.number cycles
-  pub counted : file_number number ≡ file_number (closed.number + length cycles)
+  pub filled : FillsLines path lines closed.number cycles old new number waiting

@@ -1,8 +1,10 @@
 pub mod ListedFiles
 pub mod Putting
 pub mod Plans
+pub mod WantedLaws
 pub mod Ready
 pub mod InternalRuns
 pub mod ListingEnds
 pub mod GivenCycles
 pub mod Keeping
+pub mod Arrives

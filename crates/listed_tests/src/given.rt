@@ -12,9 +12,9 @@ use crate::ending::ListingEnd;
 use crate::files::{MAX_FOLDER, Path, path_of};
 use crate::listing::{put_test, write_count};
 use crate::making::Desk;
-use crate::names::{Lines, MAX_LINE, file_of, push_line};
+use crate::names::{MAX_LINE, file_of, push_line};
 use crate::wanted::Wanted;
-use arch_trait::{Arch, Places};
+use arch_trait::{Arch, Places, ThreadCodes};
 use arrayvec::{ArrayString, ArrayVec};
 use diy_io::{Failed, Page, Shelf, Sink};
 use edge_algebra::Cycle;
@@ -77,7 +77,7 @@ fn put_given<A: Arch, H: Shelf>(
     let mut test = Test {
         edges: ArrayVec::new(),
         places: Places::new(),
-        threads: ArrayVec::new(),
+        threads: ThreadCodes::new(),
         cond: Cond::default(),
     };
     put_tests_of::<A, H>(wanted, cycles, &mut test, shelf)?;
@@ -113,6 +113,9 @@ fn put_tests_of<A: Arch, H: Shelf>(
     Ok(())
 }
 
+/// The most bytes of lines that wait to be written: none is looked at again, so that there is little room to be cleared.
+const MAX_WAITING: usize = 8_192;
+
 /// Writes the file on the shelf that names the files of cycles.
 fn put_names_of<H: Shelf>(path: &str, cycles: &[Cycle], shelf: &mut H) -> Result<(), Failed>
     requires idle { (H.seen shelf.old).mode ≡ Idle }
@@ -120,7 +123,7 @@ fn put_names_of<H: Shelf>(path: &str, cycles: &[Cycle], shelf: &mut H) -> Result
     ensures failed { OnErr result (PutPart (H.seen shelf.old) (H.seen shelf.new) [] path.now (file_lines 0 cycles.now)) }
 {
     shelf.create(path)?;
-    let mut lines = Lines::new();
+    let mut lines: ArrayVec<u8, MAX_WAITING> = ArrayVec::new();
     let mut number: u128 = 0;
     for cycle in cycles {
         if lines.remaining_capacity() < MAX_LINE {

@@ -1,16 +1,15 @@
-ghost use Rattle.std.specs.Prelude.{◌≡◌, ◌<◌, ◌≤◌, ◌↔◌, true, Some, None, length, List, [], ◌∷◌, OnOk, OnErr, IfOk, IfSome};
+ghost use Rattle.std.specs.Prelude.{◌≡◌, ◌≤◌, ◌↔◌, true, Some, None, length, List, [], ◌∷◌, OnOk, OnErr, IfOk, IfSome};
 ghost use Rattle.std.specs.Option.{ForSome};
 ghost use Rattle.relax_edges.specs.declared.TheConstants.{MAX_EDGES};
 ghost use Rattle.relax_edges.specs.declared.edge.Edge.{Edge as EdgeValue};
 ghost use Rattle.cycle_laws.specs.Composable.{IsCycle};
-ghost use Rattle.walk_laws.specs.Counting.{later};
-ghost use Rattle.walk_laws.specs.Listing.{IsAnswer};
 ghost use Rattle.cycle_enum.specs.Walking.{KnowsOf, Lists, Says};
 ghost use Rattle.diy_io.specs.Shelf.{Idle};
 ghost use Rattle.diy_io.specs.Wrote.{Wrote};
 ghost use Rattle.test_maker.specs.Refusals.{refusal_of};
 ghost use Rattle.listed_tests.specs.ListingEnds.{BeginsAfter, EndsAfter, EndsListing};
 ghost use Rattle.listed_tests.specs.ListedFiles.{count_line, file_of};
+ghost use Rattle.listed_tests.specs.Arrives.{ArrivesOrEnds};
 ghost use Rattle.listed_tests.specs.Keeping.{PutsAll, StopsPutting};
 ghost use Rattle.listed_tests.specs.Plans.{HaveTests, is_sought, Seeks, plan_in, test_file_of, walk_plan};
 ghost use Rattle.listed_tests.specs.Putting.{PutFiles, FailsAt};
@@ -22,7 +21,7 @@ use crate::making::{Desk, make_test};
 use crate::names::{Names, put_names};
 use crate::putting::put_text;
 use crate::wanted::Wanted;
-use arch_trait::{Arch, Places};
+use arch_trait::{Arch, Places, ThreadCodes};
 use arrayvec::{ArrayString, ArrayVec};
 use cycle_enum::{Limits, Walk};
 use cycle_names::name_of;
@@ -73,9 +72,32 @@ pub struct Listing<'a> {
 /// written to `out`. `OutFault` comes only where the count of `out` rose. Then all files are whole,
 /// and `out` has a prefix of the line. In each case the shelf is at nothing again.
 #[inline(never)]
-#[tactic(auto, using(crate::proofs::Wanting::refused_leads_none, crate::proofs::Wanting::long_run_leads_none))]
 pub fn list_tests<A: Arch, H: Shelf, O: Sink>(
     listing: Listing,
+    shelf: &mut H,
+    out: &mut O,
+) -> ListingEnd
+    requires size { listing.limits.size ≤ MAX_EDGES }
+    requires folder { ForSome listing.folder (λ folder. length folder.now ≤ MAX_FOLDER) }
+    requires idle { (H.seen shelf.old).mode ≡ Idle }
+    ensures { EndsListing O.seen (plan_in A.puts A.writing listing.entry) listing.entry.after result (H.seen shelf.old) (H.seen shelf.new) out.old out.new }
+{
+    // It is written out here, and not made by a call of `Test::new`, for the reasons that `Desk` gives.
+    let mut test = Test {
+        edges: ArrayVec::new(),
+        places: Places::new(),
+        threads: ThreadCodes::new(),
+        cond: Cond::default(),
+    };
+    list_with::<A, H, O>(listing, &mut test, shelf, out)
+}
+
+/// Writes the files of a listing and the line on their number, as `list_tests` does. Each test is made in `test`.
+#[inline(never)]
+#[tactic(auto, using(crate::proofs::Wanting::refused_leads_none, crate::proofs::Wanting::long_run_leads_none))]
+fn list_with<A: Arch, H: Shelf, O: Sink>(
+    listing: Listing,
+    test: &mut Test,
     shelf: &mut H,
     out: &mut O,
 ) -> ListingEnd
@@ -106,14 +128,7 @@ pub fn list_tests<A: Arch, H: Shelf, O: Sink>(
     { wanted.seeks::<A>(cycle) };
     let mut walk = Walk::new(relaxes, limits, keep, fit, take);
     begin_after(&mut walk, &after);
-    // It is written out here, and not made by a call of `Test::new`, for the reason that `Desk` gives.
-    let mut test = Test {
-        edges: ArrayVec::new(),
-        places: Places::new(),
-        threads: ArrayVec::new(),
-        cond: Cond::default(),
-    };
-    list_walk::<A, H, O, _, _, _>(&wanted, &mut walk, &mut test, shelf, out)
+    list_walk::<A, H, O, _, _, _>(&wanted, &mut walk, test, shelf, out)
 }
 
 /// Lets a walk go on after a cycle, where there is one.
@@ -216,10 +231,7 @@ fn next_made<A: Arch, K: Fn(&[Edge]) -> bool, J: Fn(&[Edge]) -> bool, P: Fn(&Cyc
     table: &mut KeptTable,
 ) -> Option<Cycle>
     requires knows { KnowsOf K.pre K.Fn.post J.pre J.Fn.post P.pre P.Fn.post walk.old.keep walk.old.fit walk.old.take }
-    ensures next { IsAnswer (HaveTests A.puts mode (Lists P.Fn.post walk.old)) walk.old.last result }
-    ensures some { IfSome result (λ cycle. walk.new ≡ record walk.old { last = Some cycle }) }
-    ensures same { walk.new ≡ record walk.old { last = walk.new.last } }
-    ensures falls { IfSome result (λ cycle. later walk.old.limits.size (Some cycle) < later walk.old.limits.size walk.old.last) }
+    ensures next { ArrivesOrEnds (HaveTests A.puts mode (Lists P.Fn.post walk.old)) walk.old walk.new result }
     ensures ready { IfSome result (λ cycle. IsReady A.NAME A.REGISTERS A.puts A.writing mode cycle test.new table.new) }
 {
     while let Some(cycle) = walk.next() {

@@ -14,7 +14,8 @@ use test_maker::make_into;
 
 /// What writing tests to their files, one after another, needs: the name of a test, the path of its file, what is kept of its
 /// table, and the page that it is printed to. What these held before doesn't count. It is written out where it is used, and not made by a
-/// call, so that the program clears its 80 KB once where they are, and copies nothing.
+/// call, so that the program clears its 80 KB once where they are, and copies nothing. Room as large is alone in its function: beside
+/// calls that take other large values the program would clear it once at the beginning and once more where it is made.
 #[derive(Drop)]
 pub(crate) struct Desk {
     pub(crate) name: ArrayString<MAX_NAME>,

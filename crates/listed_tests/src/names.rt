@@ -1,11 +1,10 @@
-ghost use Rattle.std.specs.Prelude.{◌≡◌, ◌<◌, ◌≤◌, ◌+◌, ◌++◌, [], Some, None, length, codes, IsTrue, IsFalse, IfSome, OnOk, OnErr};
+ghost use Rattle.std.specs.Prelude.{◌≡◌, ◌≤◌, ◌+◌, ◌++◌, [], Some, None, length, codes, IsTrue, IsFalse, OnOk, OnErr};
 ghost use Rattle.std.specs.Option.{ForSome, ForNone};
 ghost use Rattle.cycle_laws.specs.CycleOrder.{IsNormal};
-ghost use Rattle.walk_laws.specs.Counting.{later};
-ghost use Rattle.walk_laws.specs.Listing.{IsAnswer};
 ghost use Rattle.cycle_enum.specs.Walking.{KnowsOf, Lists};
 ghost use Rattle.diy_io.specs.Shelf.{Idle};
 ghost use Rattle.listed_tests.specs.ListedFiles.{file_of};
+ghost use Rattle.listed_tests.specs.Arrives.{ArrivesOrEnds};
 ghost use Rattle.listed_tests.specs.Keeping.{KeepsFile, NamesKept, NamesRest, StopsNames, StopsRest};
 ghost use Rattle.listed_tests.specs.Plans.{HaveTests};
 ghost use Rattle.test_maker.specs.Refusals.{refusal_of};
@@ -73,8 +72,8 @@ impl Names {
 }
 
 /// Appends the line that names a file.
-pub(crate) fn push_line(file: &FileName, lines: &mut Lines)
-    requires { length lines.old.items + MAX_LINE ≤ MAX_LINES }
+pub(crate) fn push_line<const N: usize>(file: &FileName, lines: &mut ArrayVec<u8, N>)
+    requires { length lines.old.items + MAX_LINE ≤ N }
     ensures { lines.new.items ≡ lines.old.items ++ (file.now.bytes ++ codes "\n") }
 {
     let bytes = file.as_str().as_bytes();
@@ -170,9 +169,7 @@ fn next_accepted<A: Arch, K: Fn(&[Edge]) -> bool, J: Fn(&[Edge]) -> bool, P: Fn(
     mode: ObsMode,
 ) -> Option<Cycle>
     requires knows { KnowsOf K.pre K.Fn.post J.pre J.Fn.post P.pre P.Fn.post walk.old.keep walk.old.fit walk.old.take }
-    ensures next { IsAnswer (HaveTests A.puts mode (Lists P.Fn.post walk.old)) walk.old.last result }
-    ensures some { IfSome result (λ cycle. walk.new ≡ record walk.old { last = Some cycle }) }
-    ensures falls { IfSome result (λ cycle. later walk.old.limits.size (Some cycle) < later walk.old.limits.size walk.old.last) }
+    ensures { ArrivesOrEnds (HaveTests A.puts mode (Lists P.Fn.post walk.old)) walk.old walk.new result }
 {
     while let Some(cycle) = walk.next() {
         if is_accepted::<A>(&cycle, mode) {

@@ -6,8 +6,10 @@ use Rattle.std.proofs.Math.ListN.{replicate}
 use Rattle.std.proofs.lemmas.List.{drop-replicate, take-replicate, length-replicate}
 use Rattle.std.proofs.Math.Seq.{take-append_seam}
 use Rattle.list_laws.proofs.Parts.{take-append-add}
+use Rattle.arch_trait.specs.declared.arch.TheConstants.{MAX_TEXT}
 use Rattle.diy_io.specs.Page.{page_after}
 use Rattle.litmus_text.specs.Separators.{separator_at, padded}
+use Rattle.litmus_text.specs.declared.cell.TheConstants.{CELL_ROOM}
 use Rattle.litmus_text.specs.PaddedCells.{padded_at, PutsCell}
 use Rattle.litmus_text.proofs.JoinLaws.{separator_short}
 
@@ -30,22 +32,22 @@ take_later width xs =
     let e : 3 + width ≡ suc (suc (suc width)) = omega arith in
     rw e refl
 
-text_and_blanks : (text : List ℕ) (width : ℕ) → length text ≤ width → width ≤ 40
-    → take width (text ++ replicate (40 - length text) 32) ≡ text ++ replicate (width - length text) 32
+text_and_blanks : (text : List ℕ) (width : ℕ) → length text ≤ width → width ≤ MAX_TEXT
+    → take width (text ++ replicate (MAX_TEXT - length text) 32) ≡ text ++ replicate (width - length text) 32
 text_and_blanks text width within short =
     let more = width - length text in
     let whole : width ≡ length text + more = omega arith in
-    ap (λ n. take n (text ++ replicate (40 - length text) 32)) whole
-    ∙ take-append-add text (replicate (40 - length text) 32) more (omega (arith, length-replicate {A = ℕ} (40 - length text) 32))
+    ap (λ n. take n (text ++ replicate (MAX_TEXT - length text) 32)) whole
+    ∙ take-append-add text (replicate (MAX_TEXT - length text) 32) more (omega (arith, length-replicate {A = ℕ} (40 - length text) 32))
     ∙ ap (λ rest. text ++ rest) (take-replicate {X = ℕ} more (40 - length text) 32 (omega arith))
 
-part_short : (i : ℕ) (text : List ℕ) (width : ℕ) → length text ≤ width → width ≤ 40 → length (padded_at i text width) ≤ 43
+part_short : (i : ℕ) (text : List ℕ) (width : ℕ) → length text ≤ width → width ≤ MAX_TEXT → length (padded_at i text width) ≤ CELL_ROOM
 part_short i text width within short =
     let blanks : List ℕ = replicate (width - length text) 32 in
     omega (arith, separator_short (codes " | ") i, length-append (separator_at (codes " | ") i) (text ++ blanks), length-append text blanks, length-replicate {A = ℕ} (width - length text) 32)
 
 -- the first cell of a row is put without ` | `
-pub first_put : (i : ℕ) (bytes text : List ℕ) (width n : ℕ) (page new : List ℕ) → i ≡ 0 → bytes ≡ padded text → length text ≤ width → width ≤ 40 → n ≡ width
+pub first_put : (i : ℕ) (bytes text : List ℕ) (width n : ℕ) (page new : List ℕ) → i ≡ 0 → bytes ≡ padded text → length text ≤ width → width ≤ MAX_TEXT → n ≡ width
     → new ≡ page_after page (take n (drop 3 bytes)) → PutsCell i text width page new
 first_put zero bytes text width n page new h e within short whole put = record {
   put =
@@ -56,13 +58,13 @@ first_put zero bytes text width n page new h e within short whole put = record {
 first_put (suc i) bytes text width n page new h e within short whole put = absurd (omega arith)
 
 -- a later cell is put with ` | `
-pub later_put : (i : ℕ) (bytes text : List ℕ) (width : ℕ) (page new : List ℕ) → i ≢ 0 → bytes ≡ padded text → length text ≤ width → width ≤ 40
+pub later_put : (i : ℕ) (bytes text : List ℕ) (width : ℕ) (page new : List ℕ) → i ≢ 0 → bytes ≡ padded text → length text ≤ width → width ≤ MAX_TEXT
     → new ≡ page_after page (take (3 + width) bytes) → PutsCell i text width page new
 later_put zero bytes text width page new h e within short put = absurd (h refl)
 later_put (suc i) bytes text width page new h e within short put = record {
   put =
       put ∙ ap (λ b. page_after page (take (3 + width) b)) e
-      ∙ ap (page_after page) (take_later width (text ++ replicate (40 - length text) 32))
+      ∙ ap (page_after page) (take_later width (text ++ replicate (MAX_TEXT - length text) 32))
       ∙ ap (λ t. page_after page (codes " | " ++ t)) (text_and_blanks text width within short);
   short = part_short (suc i) text width within short;
 }

@@ -1,7 +1,7 @@
 -- Cells that are kept are those of the columns, one column after the other.
 use Rattle.std.proofs.Common.{◌≡◌, ◌<◌, ◌≤◌, ◌+◌, ℕ, zero, suc, List, [], ◌∷◌, ◌++◌, length, map, take, get_or, max}
-use Rattle.std.proofs.Common.{refl, sym, ap, ◌∙◌, arith, append_assoc, append-nil}
-use Rattle.std.proofs.lemmas.List.{get_or-take, get_or_append_left, get_or-append-add, length-append, length-map, map-append, take-append-le, take_more, take_all}
+use Rattle.std.proofs.Common.{set, refl, sym, ap, ◌∙◌, arith, append_assoc, append-nil}
+use Rattle.std.proofs.lemmas.List.{get_or-take, take_more_set, map-set, get_or_append_left, get_or-append-add, length-append, length-map, take-append-le, take_more, take_all}
 use Rattle.arch_trait.specs.declared.code.Code.{Code}
 use Rattle.arch_trait.specs.Writing.{Writing}
 use Rattle.arch_trait.specs.Codes.{thread_code_of}
@@ -9,24 +9,29 @@ use Rattle.litmus_text.specs.TestText.{column_of, columns_of}
 use Rattle.litmus_text.specs.KeptCells.{all_texts, HoldsColumn}
 use Rattle.litmus_text.proofs.TableLaws.{column_at, length_columns, length-column_of, widest, widest_more}
 
+length_take : (n : ℕ) (xs : List (List ℕ)) → length (take n xs) ≤ n
+length_take zero xs = omega arith
+length_take (suc n) [] = omega arith
+length_take (suc n) (x ∷ xs) = let rest = length_take n xs in omega arith
+
 take_again : (n : ℕ) (a b : List (List ℕ)) → take n (take n a ++ b) ≡ take n (a ++ b)
 take_again zero a b = refl
 take_again (suc n) [] b = refl
 take_again (suc n) (x ∷ a) b = ap (λ rest. x ∷ rest) (take_again n a b)
 
--- where there is room, one more text is kept
-pub text_kept : {A : Type 0} (f : A → List ℕ) (n : ℕ) (old new : List A) (x : A) (text : List ℕ) → length old < n → f x ≡ text → new ≡ old ++ x ∷ []
-    → map f new ≡ take n (map f old ++ text ∷ [])
-text_kept f n old new x text room is e =
-    let all : length (map f old ++ text ∷ []) ≤ n = omega (arith, length-append (map f old) (text ∷ []), length-map old f) in
-    ap (map f) e ∙ map-append f old (x ∷ []) ∙ ap (λ last. map f old ++ last ∷ []) is ∙ sym (take_all n (map f old ++ text ∷ []) all)
+-- where there is room, one more text is kept in its place
+pub text_kept : {A : Type 0} (f : A → List ℕ) (n count : ℕ) (cells : List A) (cell : A) (old : List (List ℕ)) (text : List ℕ) → length cells ≡ n → count < n
+    → take count (map f cells) ≡ old → f cell ≡ text → take (count + 1) (map f (set cells count cell)) ≡ take n (old ++ text ∷ [])
+text_kept f n count cells cell old text long room view is =
+    let texts = map f cells in
+    let inside : count < length texts = omega (arith, long, length-map cells f) in
+    let all : length (take count texts ++ text ∷ []) ≤ n = omega (arith, length-append (take count texts) (text ∷ []), length_take count texts) in
+    ap (take (count + 1)) (map-set f cells count cell) ∙ take_more_set texts count (f cell) inside ∙ ap (λ last. take count texts ++ last ∷ []) is
+    ∙ sym (take_all n (take count texts ++ text ∷ []) all) ∙ ap (λ old. take n (old ++ text ∷ [])) view
 
 -- where there is no room, one more text isn't kept
-pub text_lost : {A : Type 0} (f : A → List ℕ) (n : ℕ) (old : List A) (text : List ℕ) → n ≡ length old → map f old ≡ take n (map f old ++ text ∷ [])
-text_lost f n old text full =
-    let all : length (map f old) ≤ n = omega (arith, full, length-map old f) in
-    let cut : n ≤ length (map f old) = omega (arith, full, length-map old f) in
-    sym (take_all n (map f old) all) ∙ sym (take-append-le n (map f old) (text ∷ []) cut)
+pub text_lost : (n : ℕ) (old : List (List ℕ)) (text : List ℕ) → n ≡ length old → old ≡ take n (old ++ text ∷ [])
+text_lost n old text full = sym (take_all n old (omega (arith, full))) ∙ sym (take-append-le n old (text ∷ []) (omega (arith, full)))
 
 -- before the first text of a list what is kept is as it was
 pub kept_none : (n : ℕ) (start : List (List ℕ)) → length start ≤ n → start ≡ take n (start ++ [])
@@ -55,11 +60,6 @@ all_texts_more (c ∷ columns) column = ap (λ rest. c ++ rest) (all_texts_more 
 
 texts_more : (columns : List (List (List ℕ))) (i : ℕ) → i < length columns → all_texts (take (i + 1) columns) ≡ all_texts (take i columns) ++ get_or columns i []
 texts_more columns i h = ap all_texts (take_more columns i [] h) ∙ all_texts_more (take i columns) (get_or columns i [])
-
-length_take : (n : ℕ) (xs : List (List ℕ)) → length (take n xs) ≤ n
-length_take zero xs = omega arith
-length_take (suc n) [] = omega arith
-length_take (suc n) (x ∷ xs) = let rest = length_take n xs in omega arith
 
 -- no more texts are kept than there is room for
 pub kept_few : (n : ℕ) (kept texts : List (List ℕ)) → kept ≡ take n texts → length kept ≤ n

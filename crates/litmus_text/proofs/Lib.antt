@@ -33,3 +33,4 @@ pub mod KeptLaws
 pub mod TextParts
 pub mod RunnableRead
 pub mod RegistersRead
+mod ItemText

@@ -2,13 +2,12 @@
 use Rattle.std.proofs.Common.{◌≡◌, ◌+◌, ◌<◌, ◌≤◌, ℕ, Bool, true, false, List, [], ◌∷◌, ◌++◌, Result, Ok, Err, length, map, get_or, take, drop, refl, sym, ap, ◌∙◌, arith, add-one, append_assoc}
 use Rattle.std.specs.Prelude.{nat_lt, cond, codes, Some}
 use Rattle.std.proofs.Math.ListN.{set, get_or-map}
-use Rattle.std.proofs.lemmas.Bool.{ltb-true, ltb-false}
+use Rattle.std.proofs.lemmas.Bool.{lt-ltb, le-ltb}
 use Rattle.std.proofs.Math.Seq.{drop-cons, take-length, drop-length, take-append-add}
 use Rattle.text_laws.specs.Cuts.{cut_at, CutParts}
 use Rattle.litmus_text.specs.Views.{column_seen}
 use Rattle.litmus_text.specs.declared.reading.table.Column.{Column as ThreadColumn}
 use Rattle.std.proofs.lemmas.List.{take_more_set, drop-set-lt, append-nil, map-set, length-map}
-use Rattle.list_laws.proofs.Cases.{by_test}
 use Rattle.arch_trait.specs.Cells.{ends_rows}
 use Rattle.arch_trait.specs.Writing.{Writing}
 use Rattle.litmus_text.specs.declared.errors.TextError.{TextError}
@@ -143,11 +142,11 @@ rows_more w k n s s' ls rest text cells e h g same r = rw (sym e, h, g, sym same
 
 -- a number below another passes the test
 pub below_is : (a b : ℕ) → a < b → nat_lt a b ≡ true
-below_is a b h = by_test (nat_lt a b) (λ e. e) (λ e. let k = ltb-false a b e in absurd (omega arith))
+below_is = lt-ltb
 
 -- a number that isn't below another fails the test
 pub not_below_is : (a b : ℕ) → b ≤ a → nat_lt a b ≡ false
-not_below_is a b h = by_test (nat_lt a b) (λ e. let k = ltb-true a b e in absurd (omega arith)) (λ e. e)
+not_below_is = le-ltb
 
 -- the text up to the colon of a label
 pub label_prefix : (text prefix remainder : List ℕ) → CutParts 58 text prefix remainder → take (length prefix + 1) text ≡ prefix ++ codes ":"

@@ -1,5 +1,5 @@
 -- What a part of a text is that is appended to a page.
-use Rattle.std.proofs.Common.{◌≡◌, ◌≤◌, ◌<◌, ◌+◌, ℕ, List, [], ◌∷◌, ◌++◌, length, drop, get_or, map, sym, ap, ◌∙◌, arith, append_assoc, zero-add}
+use Rattle.std.proofs.Common.{◌≡◌, ◌≤◌, ◌<◌, ◌+◌, ◌-◌, ℕ, List, [], ◌∷◌, ◌++◌, length, length-append, drop, get_or, map, refl, sym, ap, ◌∙◌, arith, append_assoc, zero-add}
 use Rattle.std.specs.Prelude.{codes, Some, None}
 use Rattle.std.specs.List.{flat_map, enumerate_from, range_with_len}
 use Rattle.std.proofs.lemmas.List.{length-map, get_or-map, drop_more, drop_all}
@@ -7,12 +7,14 @@ use Rattle.std.proofs.lemmas.List.Concat.{flat_map-append}
 use Rattle.std.proofs.lemmas.List.FromFn.{length-enumerate_from, length-range_with_len, get_or-range_with_len}
 use Rattle.diy_io.specs.declared.page.TheConstants.{LINE_ROOM}
 use Rattle.diy_io.specs.Page.{page_after}
+use Rattle.diy_io.specs.PageLaws.{page_nothing, page_more}
 use Rattle.arch_trait.specs.Codes.{thread_code_of}
 use Rattle.arch_trait.specs.declared.code.Code.{Code}
 use Rattle.arch_trait.specs.Threads.{ThreadCode}
 use Rattle.arch_trait.specs.Writing.{Writing}
 use Rattle.arch_trait.specs.SeenTests.{TestSeen}
 use Rattle.final_cond.specs.CondText.{cond_text}
+use Rattle.litmus_text.specs.declared.parts.TextPart.{TextPart}
 use Rattle.litmus_text.specs.declared.parts.TextPart.TheVariants.{Edges, Items, Row}
 use Rattle.litmus_text.specs.TestText.{edges_line, items_lines, initial_lines, columns_of, row_line, row_count, table_lines, with_line_feed}
 use Rattle.litmus_text.specs.TextParts.{rows_from, part_lines, text_from, parts_left, PutsPart}
@@ -41,6 +43,27 @@ edges_put w test old new piece same put short = record {
   fewer = omega arith;
 }
 
+-- the text of a test from a part up to another one was appended to a page, with so many bytes left of the room for a line
+pub record PutsParts (w : Writing) (test : TestSeen) (part : TextPart) (old new : List ℕ) (left : ℕ) (next : TextPart) : Type 0 where
+  pub piece : List ℕ
+  pub text : text_from w test (Some part) ≡ piece ++ text_from w test (Some next)
+  pub page : new ≡ page_after old piece
+  pub short : length piece + left ≤ LINE_ROOM
+
+-- at the beginning no part was appended
+pub no_parts : (w : Writing) (test : TestSeen) (part : TextPart) (page : List ℕ) (left : ℕ) → left ≤ LINE_ROOM → PutsParts w test part page page left part
+no_parts w test part page left h = record { piece = []; text = refl; page = sym (page_nothing page); short = omega arith }
+
+-- one more part was appended
+more_parts : (w : Writing) (test : TestSeen) (part next after : TextPart) (old mid new piece : List ℕ) (left less : ℕ) → PutsParts w test part old mid left next
+    → text_from w test (Some next) ≡ piece ++ text_from w test (Some after) → new ≡ page_after mid piece → length piece + less ≤ left → PutsParts w test part old new less after
+more_parts w test part next after old mid new piece left less so_far text put short = record {
+  piece = so_far.piece ++ piece;
+  text = so_far.text ∙ ap (λ t. so_far.piece ++ t) text ∙ sym (append_assoc so_far.piece piece (text_from w test (Some after)));
+  page = put ∙ ap (λ p. page_after p piece) so_far.page ∙ page_more old so_far.piece piece;
+  short = omega (arith, length-append so_far.piece piece, so_far.short);
+}
+
 -- the items of a thread
 items_text : (w : Writing) (test : TestSeen) (i : ℕ) (t : ℕ × ThreadCode) → i < length test.threads → get_or (enumerate_from 0 test.threads) i t ≡ t
     → text_from w test (Some (Items i)) ≡ printed_items w test.places t ++ text_from w test (Some (Items (i + 1)))
@@ -54,36 +77,47 @@ items_text w test i t h is =
     ∙ ap (flat_map with_line_feed) (append_assoc (lines t) (flat_map lines (drop (i + 1) all)) rest)
     ∙ flat_map-append with_line_feed (lines t) (flat_map lines (drop (i + 1) all) ++ rest)
 
--- the part of a thread is its items
-pub items_put : (w : Writing) (test : TestSeen) (threads : List Code) (i : ℕ) (code : Code) (old new : List ℕ) → test.threads ≡ map thread_code_of threads → i < length threads → code ≡ get_or threads i code
-    → new ≡ page_after old (printed_items w test.places (i, thread_code_of code)) → length (printed_items w test.places (i, thread_code_of code)) ≤ LINE_ROOM
-    → PutsPart w test (Items i) old new (Some (Items (i + 1)))
-unfolding parts_left
-items_put w test threads i code old new same h is put short =
+-- the items of one more thread were appended
+pub items_more : (w : Writing) (test : TestSeen) (threads : List Code) (first i : ℕ) (code : Code) (old mid new : List ℕ) (left less : ℕ) → test.threads ≡ map thread_code_of threads
+    → PutsParts w test (Items first) old mid left (Items i) → i < length threads → code ≡ get_or threads i code
+    → new ≡ page_after mid (printed_items w test.places (i, thread_code_of code)) → length (printed_items w test.places (i, thread_code_of code)) + less ≤ left
+    → PutsParts w test (Items first) old new less (Items (i + 1))
+items_more w test threads first i code old mid new left less same so_far h is put short =
     let inside : i < length test.threads = omega (arith, ap length same, length-map threads thread_code_of) in
     let here : get_or (enumerate_from 0 test.threads) i (i, thread_code_of code) ≡ (i, thread_code_of code) =
     ap (λ ts. get_or (enumerate_from 0 ts) i (i, thread_code_of code)) same ∙ numbered_at thread_code_of threads i code (i, thread_code_of code) h ∙ ap (λ c. (i, thread_code_of c)) (sym is) in
-    record {
-      piece = printed_items w test.places (i, thread_code_of code);
-      text = items_text w test i (i, thread_code_of code) inside here;
-      page = put;
-      short = short;
-      fewer = omega arith;
-    }
+    more_parts w test (Items first) (Items i) (Items (i + 1)) old mid new (printed_items w test.places (i, thread_code_of code)) left less so_far
+    (items_text w test i (i, thread_code_of code) inside here) put short
 
--- the part after the last thread is the closing brace
-pub closing_put : (w : Writing) (test : TestSeen) (threads : List Code) (i : ℕ) (old new : List ℕ) → test.threads ≡ map thread_code_of threads → length threads ≤ i
-    → new ≡ page_after old (codes "}\n") → PutsPart w test (Items i) old new (Some (Row 0))
+-- the text goes on from the items of a later thread
+pub items_put : (w : Writing) (test : TestSeen) (threads : List Code) (first i : ℕ) (old new : List ℕ) (left : ℕ) → test.threads ≡ map thread_code_of threads
+    → PutsParts w test (Items first) old new left (Items i) → first < i → i ≤ length threads → PutsPart w test (Items first) old new (Some (Items i))
+unfolding parts_left
+items_put w test threads first i old new left same so_far later h = record {
+  piece = so_far.piece;
+  text = so_far.text;
+  page = so_far.page;
+  short = omega (arith, so_far.short);
+  fewer = omega (arith, ap length same, length-map threads thread_code_of);
+}
+
+-- after the items of the last thread, the closing brace
+pub closing_put : (w : Writing) (test : TestSeen) (threads : List Code) (first i : ℕ) (old mid new : List ℕ) (left : ℕ) → test.threads ≡ map thread_code_of threads
+    → PutsParts w test (Items first) old mid left (Items i) → 2 ≤ left → length threads ≤ i
+    → new ≡ page_after mid (codes "}\n") → PutsPart w test (Items first) old new (Some (Row 0))
 unfolding parts_left part_lines
-closing_put w test threads i old new same h put =
+closing_put w test threads first i old mid new left same so_far room h put =
     let lines = λ (t : ℕ × ThreadCode). items_lines w test.places t.0 t.1.links in
     let none : drop i (enumerate_from 0 test.threads) ≡ [] =
     drop_all i (enumerate_from 0 test.threads) (omega (arith, length-enumerate_from 0 test.threads, ap length same, length-map threads thread_code_of)) in
+    let closed : PutsParts w test (Items first) old new (left - 2) (Row 0) =
+    more_parts w test (Items first) (Items i) (Row 0) old mid new (codes "}\n") left (left - 2) so_far
+    (ap (λ left. flat_map with_line_feed (flat_map lines left ++ codes "}" ∷ rows_from w test 0)) none) put (omega arith) in
     record {
-      piece = codes "}\n";
-      text = ap (λ left. flat_map with_line_feed (flat_map lines left ++ codes "}" ∷ rows_from w test 0)) none;
-      page = put;
-      short = omega arith;
+      piece = closed.piece;
+      text = closed.text;
+      page = closed.page;
+      short = omega (arith, closed.short);
       fewer = omega arith;
     }
 
@@ -103,16 +137,24 @@ row_text w test row h =
     ∙ ap (λ line. line ∷ drop (row + 1) (map (row_line columns) numbers)) here in
     ap (λ left. flat_map with_line_feed (left ++ rest)) more
 
--- the part of a row is its line
-pub row_put : (w : Writing) (test : TestSeen) (rows row : ℕ) (old new : List ℕ) → rows ≡ row_count (columns_of w test.places test.threads) → row < rows
-    → new ≡ page_after old (with_line_feed (row_line (columns_of w test.places test.threads) row)) → length (with_line_feed (row_line (columns_of w test.places test.threads) row)) ≤ LINE_ROOM
-    → PutsPart w test (Row row) old new (Some (Row (row + 1)))
+-- one more row was appended
+pub rows_more : (w : Writing) (test : TestSeen) (rows first row : ℕ) (old mid new : List ℕ) (left less : ℕ) → rows ≡ row_count (columns_of w test.places test.threads)
+    → PutsParts w test (Row first) old mid left (Row row) → row < rows
+    → new ≡ page_after mid (with_line_feed (row_line (columns_of w test.places test.threads) row)) → length (with_line_feed (row_line (columns_of w test.places test.threads) row)) + less ≤ left
+    → PutsParts w test (Row first) old new less (Row (row + 1))
+rows_more w test rows first row old mid new left less same so_far h put short =
+    more_parts w test (Row first) (Row row) (Row (row + 1)) old mid new (with_line_feed (row_line (columns_of w test.places test.threads) row)) left less so_far
+    (row_text w test row (omega (arith, same))) put short
+
+-- the text goes on from a later row
+pub rows_put : (w : Writing) (test : TestSeen) (rows first row : ℕ) (old new : List ℕ) (left : ℕ) → rows ≡ row_count (columns_of w test.places test.threads)
+    → PutsParts w test (Row first) old new left (Row row) → first < row → row ≤ rows → PutsPart w test (Row first) old new (Some (Row row))
 unfolding parts_left
-row_put w test rows row old new same h put short = record {
-  piece = with_line_feed (row_line (columns_of w test.places test.threads) row);
-  text = row_text w test row (omega (arith, same));
-  page = put;
-  short = short;
+rows_put w test rows first row old new left same so_far later h = record {
+  piece = so_far.piece;
+  text = so_far.text;
+  page = so_far.page;
+  short = omega (arith, so_far.short);
   fewer = omega (arith, same);
 }
 

@@ -1,8 +1,8 @@
 -- A printed test reads back.
-use Rattle.std.proofs.Common.{◌≡◌, ◌≢◌, ◌<◌, ◌≤◌, ◌+◌, ◌==◌, ℕ, suc, List, [], ◌∷◌, ◌++◌, Some, Ok, true, false, length, map, max, take, drop, fold, refl, sym, ap, ◌∙◌, subst, arith, append-nil, add-zero, zero-add}
+use Rattle.std.proofs.Common.{◌≡◌, ◌<◌, ◌≤◌, ◌+◌, ◌==◌, ℕ, suc, List, [], ◌∷◌, ◌++◌, Some, Ok, true, false, length, map, max, take, drop, fold, refl, sym, ap, ◌∙◌, subst, arith, append-nil, add-zero, zero-add}
 use Rattle.std.specs.Prelude.{Option, nat_lt, codes}
 use Rattle.std.specs.List.{flat_map, join_by, AllByRecursion, enumerate_from, range_with_len}
-use Rattle.std.proofs.lemmas.Bool.{eqb-true, eq-eqb, ltb-true}
+use Rattle.std.proofs.lemmas.Bool.{eqb-true, eq-eqb, ne_eqb, le-ltb}
 use Rattle.std.proofs.lemmas.List.{length-map, take_all}
 use Rattle.std.proofs.lemmas.List.FromFn.{length-range_with_len}
 use Rattle.list_laws.proofs.Elements.{all_append}
@@ -161,9 +161,6 @@ later_values table names n m (t ∷ threads) h =
 abbrev made : List (ℕ × Value) → List Micro → ThreadRead
 made init code = record { init = init; code = code }
 
-eqb-false_from : (m n : ℕ) → m ≢ n → (m == n) ≡ false
-eqb-false_from m n h = by_test (m == n) (λ e. absurd (h (eqb-true m n e))) (λ e. e)
-
 values_read : (table : List (List ℕ)) (names : ℕ → List ℕ) (line_number n : ℕ) (threads : List ThreadCode) (all : List (ℕ × (ℕ × Value)))
     → ((k : ℕ) → n ≤ k → values_of_thread k all ≡ values_of_thread k (link_values table names (links_of n threads)))
     → map (λ c. made (values_of_thread c.0 all) (map (λ placed. placed.op) c.1.ops)) (enumerate_from n (map (column_so_far table names line_number) (map (λ t. t.instrs) threads)))
@@ -175,7 +172,7 @@ values_read table names m n (t ∷ threads) all h =
     ∙ ap (λ rest. map (λ link. (link.0, values.Place (place_in table (names link.1)))) t.links ++ rest) (later_values table names n (n + 1) threads (omega arith))
     ∙ append-nil (map (λ link. (link.0, values.Place (place_in table (names link.1)))) t.links) in
     let rest = values_read table names m (n + 1) threads all
-    (λ k low. h k (omega arith) ∙ others_values table names k n t.links (links_of (n + 1) threads) (eqb-false_from n k (omega arith))) in
+    (λ k low. h k (omega arith) ∙ others_values table names k n t.links (links_of (n + 1) threads) (ne_eqb n k (λ e. omega (arith, e)))) in
     ap (λ init. made init (map (λ placed. placed.op) (placed_from table names m t.instrs)) ∷ map (λ c. made (values_of_thread c.0 all) (map (λ placed. placed.op) c.1.ops)) (enumerate_from (n + 1) (map (column_so_far table names m) (map (λ t. t.instrs) threads)))) own
     ∙ ap (λ code. made (map (λ link. (link.0, values.Place (place_in table (names link.1)))) t.links) code ∷ map (λ c. made (values_of_thread c.0 all) (map (λ placed. placed.op) c.1.ops)) (enumerate_from (n + 1) (map (column_so_far table names m) (map (λ t. t.instrs) threads)))) (ops_of table names m t.instrs)
     ∙ ap (λ more. thread_reread table names t ∷ more) rest
@@ -223,9 +220,6 @@ settled : (w : Writing) (places : List (List ℕ)) (threads : List ThreadCode) (
 unfolding initial_lines
 settled w places threads n after =
     settings_back n [] (before (n + 1) (flat_map (λ t. items_lines w places t.0 t.1.links) (enumerate_from 0 threads) ++ (125 ∷ []) ∷ []) after)
-
-not_longer : (m n : ℕ) → n ≤ m → nat_lt m n ≡ false
-not_longer m n h = by_test (nat_lt m n) (λ e. let clash = ltb-true m n e in absurd (omega arith)) (λ e. e)
 
 parts_back : (a : Puts) (arch : ArchName) (w : Writing) (name : List ℕ) (edges : List Edge) (places : List (List ℕ)) (t : ThreadCode) (threads : List ThreadCode) (condition : CondSeen) → WritesBack a w → WritesCells a w
     → IsReadable a arch w name (seen edges places (t ∷ threads) condition)
@@ -292,5 +286,5 @@ unfolding test_read test_text
 whole_back a arch w name edges places [] condition laws cells h = let none = h.threads_some in absurd (omega arith)
 whole_back a arch w name edges places (t ∷ threads) condition laws cells h =
     let lines = test_lines arch w name (seen edges places (t ∷ threads) condition) in
-    rw (not_longer MAX_TEXT (length (flat_map with_line_feed lines)) h.short)
+    rw (le-ltb MAX_TEXT (length (flat_map with_line_feed lines)) h.short)
     (ap (lines_read arch w) (lines_back 1 lines (lines_are a arch w name edges places t threads condition laws cells h)) ∙ parts_back a arch w name edges places t threads condition laws cells h)

@@ -4,7 +4,9 @@ use Rattle.std.specs.Prelude.{◌≡◌, ◌<◌, ◌≤◌, ◌+◌, ℕ, List,
 use Rattle.std.specs.List.{All}
 use Rattle.arch_trait.specs.Writing.{Writing}
 use Rattle.arch_trait.specs.SeenTests.{TestSeen}
+use Rattle.arch_trait.specs.declared.arch.TheConstants.{MAX_TEXT}
 use Rattle.litmus_text.specs.TestText.{columns_of, width_of, row_count}
+use Rattle.litmus_text.specs.declared.column.TheConstants.{KEPT_CELLS}
 
 -- the texts of all columns, one column after the other
 abbrev pub all_texts : List (List (List ℕ)) → List (List ℕ)
@@ -24,7 +26,7 @@ pub record TableSeen : Type 0 where
 
 -- what is kept is that of the table of a test, whose columns are no wider than a text can be
 pub record HoldsTable (w : Writing) (test : TestSeen) (table : TableSeen) : Type 0 where
-  pub texts : table.texts ≡ take 128 (all_texts (columns_of w test.places test.threads))
+  pub texts : table.texts ≡ take KEPT_CELLS (all_texts (columns_of w test.places test.threads))
   pub widths : table.widths ≡ map width_of (columns_of w test.places test.threads)
   pub rows : table.rows ≡ row_count (columns_of w test.places test.threads)
-  pub short : All (λ width. width ≤ 40) table.widths
+  pub short : All (λ width. width ≤ MAX_TEXT) table.widths

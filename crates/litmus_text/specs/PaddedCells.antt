@@ -4,6 +4,7 @@ use Rattle.std.specs.Prelude.{◌≡◌, ◌≤◌, ◌-◌, ◌++◌, ℕ, List
 use Rattle.std.proofs.Math.ListN.{replicate}
 use Rattle.diy_io.specs.Page.{page_after}
 use Rattle.litmus_text.specs.declared.cell.PaddedCell.{PaddedCell}
+use Rattle.litmus_text.specs.declared.cell.TheConstants.{CELL_ROOM}
 use Rattle.litmus_text.specs.Separators.{separator_at}
 
 -- the text of a cell that is kept
@@ -14,7 +15,7 @@ text_in cell = take cell.len (drop 3 cell.bytes)
 abbrev pub padded_at : ℕ → List ℕ → ℕ → List ℕ
 padded_at i text width = separator_at (codes " | ") i ++ (text ++ replicate (width - length text) 32)
 
--- number i of the cells of a row was added to a page, and it has at most 40 bytes after its ` | `
+-- number i of the cells of a row was added to a page, and it has room in a padded cell
 pub record PutsCell (i : ℕ) (text : List ℕ) (width : ℕ) (old new : List ℕ) : Type 0 where
   pub put : new ≡ page_after old (padded_at i text width)
-  pub short : length (padded_at i text width) ≤ 43
+  pub short : length (padded_at i text width) ≤ CELL_ROOM

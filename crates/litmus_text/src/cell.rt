@@ -1,4 +1,5 @@
 ghost use Rattle.std.specs.Prelude.{◌≡◌, ◌≤◌, take, drop};
+ghost use Rattle.arch_trait.specs.declared.arch.TheConstants.{MAX_TEXT};
 ghost use Rattle.litmus_text.specs.Separators.{padded};
 
 use arch_trait::MAX_TEXT;
@@ -16,6 +17,6 @@ pub(crate) const CELL_ROOM: usize = MAX_TEXT + 3;
 pub(crate) struct PaddedCell {
     pub(crate) bytes: [u8; CELL_ROOM],
     pub(crate) len: u8,
-    ghost short: { len ≤ 40 },
+    ghost short: { len ≤ MAX_TEXT },
     ghost filled: { bytes ≡ padded (take len (drop 3 bytes)) },
 }

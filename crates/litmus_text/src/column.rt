@@ -1,4 +1,5 @@
 ghost use Rattle.std.specs.Prelude.{◌≡◌, ◌≤◌, ◌+◌, ◌*◌, ◌∷◌, ◌++◌, [], map, length, max, slice_index_or, take, IfSome, ◌<◌};
+ghost use Rattle.std.specs.Fmt.{decimal};
 ghost use Rattle.std.specs.List.{All, fold};
 ghost use Rattle.litmus_text.specs.TestText.{column_of, columns_of, width_of};
 ghost use Rattle.litmus_text.specs.Tests.{IsPrintable};
@@ -28,9 +29,22 @@ pub(crate) fn set_cell<A: Arch>(
     cell.clear();
     if row == 0 {
         cell.push_str("P");
-        cell.push_str(Buffer::new().format(thread));
+        push_number(thread, cell);
     } else if let Some(op) = code.instrs.as_slice().get(row - 1) {
         A::print(op, places, cell);
+    }
+}
+
+/// Appends a number in decimal, of one digit without a loop.
+#[tactic(auto, using(std::proofs::lemmas::Fmt::decimal_digit, std::proofs::lemmas::Str::encode_ascii))]
+fn push_number(number: usize, cell: &mut Cell)
+    requires { length cell.old.bytes ≤ 1 }
+    ensures { cell.new.bytes ≡ cell.old.bytes ++ decimal number }
+{
+    if number < 10 {
+        cell.push(char::from(b'0' + number as u8));
+    } else {
+        cell.push_str(Buffer::new().format(number));
     }
 }
 
@@ -43,16 +57,20 @@ const KEPT_CELLS: usize = 128;
 /// Contracts see the texts that are kept.
 #[derive(Drop)]
 pub(crate) struct KeptCells {
-    cells: ArrayVec<PaddedCell, KEPT_CELLS>,
+    cells: [PaddedCell; KEPT_CELLS],
+    count: usize,
 }
 
 impl Model for KeptCells {
-    ghost use Rattle.std.specs.Prelude.{ℕ, List, map};
+    ghost use Rattle.std.specs.Prelude.{◌≤◌, ℕ, List, map, take};
+    ghost use Rattle.litmus_text.specs.declared.column.TheConstants.{KEPT_CELLS};
     ghost use Rattle.litmus_text.specs.PaddedCells.{text_in};
 
     ghost Value = { List (List ℕ) };
 
-    ghost view = { λ c. map text_in c.cells.items };
+    ghost view = { λ c. take c.count (map text_in c.cells) };
+
+    ghost invariant = { λ c. c.count ≤ KEPT_CELLS };
 }
 
 impl KeptCells {
@@ -61,36 +79,36 @@ impl KeptCells {
         ensures { result ≡ [] }
     {
         KeptCells {
-            cells: ArrayVec::new(),
+            cells: [PaddedCell::default(); KEPT_CELLS],
+            count: 0,
         }
     }
 
     fn clear(&mut self)
         ensures { self.new ≡ [] }
     {
-        self.cells.clear();
+        self.count = 0;
     }
 
     /// Keeps one more text, where there is room.
     fn keep(&mut self, cell: &Cell)
         ensures { self.new ≡ take KEPT_CELLS (self.old ++ cell.now.bytes ∷ []) }
     {
-        keep_cell(&mut self.cells, cell);
+        if self.count < KEPT_CELLS {
+            self.cells[self.count].set(cell);
+            self.count += 1;
+        }
     }
 
     /// The cell that is kept at a place, if there is one.
     fn get(&self, place: usize) -> Option<&PaddedCell>
         ensures { IfSome result (λ cell. (place < length self.now) × (text_in cell.now ≡ slice_index_or self.now place [])) }
     {
-        self.cells.as_slice().get(place)
-    }
-}
-
-fn keep_cell(cells: &mut ArrayVec<PaddedCell, KEPT_CELLS>, cell: &Cell)
-    ensures { map text_in cells.new.items ≡ take KEPT_CELLS (map text_in cells.old.items ++ cell.now.bytes ∷ []) }
-{
-    if cells.len() < KEPT_CELLS {
-        cells.push(PaddedCell::of(cell));
+        if place < self.count {
+            Some(&self.cells[place])
+        } else {
+            None
+        }
     }
 }
 
@@ -163,15 +181,19 @@ pub(crate) fn put_cell<A: Arch>(
     requires short { width ≤ MAX_TEXT }
     ensures { PutsCell thread (slice_index_or (column_of A.writing places.now (thread, thread_code_of code.now)) row []) width page.old page.new }
 {
-    if row <= code.instrs.len() {
-        if let Some(cell) = cells.get(first + row) {
-            cell.put(thread, width, page);
-            return;
-        }
+    if row > code.instrs.len() {
+        PaddedCell::default().put(thread, width, page);
+        return;
+    }
+    if let Some(cell) = cells.get(first + row) {
+        cell.put(thread, width, page);
+        return;
     }
     let mut cell = Cell::new();
     set_cell::<A>(row, thread, code, places, &mut cell);
-    PaddedCell::of(&cell).put(thread, width, page);
+    let mut padded = PaddedCell::default();
+    padded.set(&cell);
+    padded.put(thread, width, page);
 }
 
 /// How many rows the longest column has, with its header.

@@ -1,4 +1,5 @@
 ghost use Rattle.std.specs.Prelude.{◌<◌, ◌≤◌, ◌≡◌, ◌*◌, ◌++◌, List, map, length, codes, true, nat_lt};
+ghost use Rattle.std.specs.Fmt.{decimal};
 ghost use Rattle.std.specs.List.{All, list_all, flat_map, join_by, enumerate_from};
 ghost use Rattle.diy_io.specs.Page.{page_after, Sends};
 ghost use Rattle.arch_trait.specs.Codes.{thread_code_of};
@@ -7,19 +8,22 @@ ghost use Rattle.litmus_text.specs.Tests.{IsPrintable};
 ghost use Rattle.litmus_text.specs.Separators.{separator_at};
 
 use crate::separators::put_separator;
-use arch_trait::{Arch, Code, Places};
-use diy_io::{LINE_ROOM, Page};
+use arch_trait::{Arch, Code, MAX_STEPS, Places};
+use diy_io::Page;
 use final_cond::RegName;
 use itoa::Buffer;
 
 /// The most bytes of an item with a blank before it.
 const ITEM_ROOM: usize = 56;
 
+/// The most bytes of the line of the items of a thread.
+pub(crate) const ITEMS_ROOM: usize = ITEM_ROOM * MAX_STEPS + 1;
+
 /// Prints the line of the items of a thread, where it has some.
 pub(crate) fn print_item_line<A: Arch>(thread: usize, code: &Code, places: &Places, page: &mut Page)
     requires { IsPrintable A.puts.has A.REGISTERS (length places.now) code.now }
     ensures text { page.new ≡ page_after page.old (flat_map with_line_feed (items_lines A.writing places.now thread code.now.links.items)) }
-    ensures short { length (flat_map with_line_feed (items_lines A.writing places.now thread code.now.links.items)) ≤ LINE_ROOM }
+    ensures short { length (flat_map with_line_feed (items_lines A.writing places.now thread code.now.links.items)) ≤ ITEMS_ROOM }
 {
     let links = code.links.as_slice();
     if links.is_empty() {
@@ -51,10 +55,40 @@ fn print_item<A: Arch>(i: usize, thread: usize, link: (u8, u8), places: &Places,
     let mut name = RegName::new();
     A::register_name(register, &mut name);
     put_separator(i, b" ", page);
+    put_link(
+        thread,
+        name.as_str().as_bytes(),
+        places.get(place).as_str().as_bytes(),
+        page,
+    );
+}
+
+/// Appends the item of a register and a place by their names, one of the usual length in one piece.
+#[tactic(auto, using(std::proofs::lemmas::Fmt::decimal_digit))]
+fn put_link(thread: usize, register: &[u8], place: &[u8], page: &mut Page)
+    ensures { page.new ≡ page_after page.old (decimal thread ++ codes ":" ++ register.now ++ codes "=" ++ place.now ++ codes ";") }
+{
+    if let [letter] = place {
+        if let [first, second] = register {
+            if thread < 10 {
+                let digit = b'0' + thread as u8;
+                page.put_fixed(&[digit, b':', *first, *second, b'=', *letter, b';']);
+                return;
+            }
+        }
+    }
+    put_long_link(thread, register, place, page);
+}
+
+/// Appends the item of a register and a place by their names, piece by piece.
+#[tactic(auto, using(diy_io::specs::PageLaws::page_more, std::proofs::Common::append_assoc))]
+fn put_long_link(thread: usize, register: &[u8], place: &[u8], page: &mut Page)
+    ensures { page.new ≡ page_after page.old (decimal thread ++ codes ":" ++ register.now ++ codes "=" ++ place.now ++ codes ";") }
+{
     page.put(Buffer::new().format(thread).as_bytes());
     page.put_fixed(b":");
-    page.put(name.as_str().as_bytes());
+    page.put(register);
     page.put_fixed(b"=");
-    page.put(places.get(place).as_str().as_bytes());
+    page.put(place);
     page.put_fixed(b";");
 }

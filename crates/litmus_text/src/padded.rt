@@ -20,17 +20,14 @@ impl Default for PaddedCell {
 }
 
 impl PaddedCell {
-    /// A cell with this text.
-    pub(crate) fn of(text: &Cell) -> PaddedCell
-        ensures { text_in result ≡ text.now.bytes }
+    /// Makes it the cell with this text.
+    pub(crate) fn set(&mut self, text: &Cell)
+        ensures { text_in self.new ≡ text.now.bytes }
     {
         let text = text.as_str().as_bytes();
-        let mut bytes = *BLANK_CELL;
-        bytes[3..3 + text.len()].copy_from_slice(text);
-        PaddedCell {
-            bytes,
-            len: text.len() as u8,
-        }
+        self.bytes = *BLANK_CELL;
+        self.bytes[3..3 + text.len()].copy_from_slice(text);
+        self.len = text.len() as u8;
     }
 
     /// Appends the cell of a thread to a row, filled with blanks up to a width, after ` | ` where it isn't the first.
@@ -40,7 +37,10 @@ impl PaddedCell {
         ensures { PutsCell thread (text_in self.now) width page.old page.new }
     {
         if thread == 0 {
-            page.put(&self.bytes[3..3 + width]);
+            match self.bytes.last_chunk::<MAX_TEXT>() {
+                Some(text) => page.put_first(text, width),
+                None => unreachable!(),
+            }
         } else {
             page.put_first(&self.bytes, 3 + width);
         }

@@ -1,4 +1,4 @@
-ghost use Rattle.std.specs.Prelude.{◌≤◌, length};
+ghost use Rattle.std.specs.Prelude.{◌≤◌, ◌<◌, length};
 ghost use Rattle.std.specs.List.{All};
 ghost use Rattle.std.specs.Prelude.{Some};
 ghost use Rattle.litmus_text.specs.KeptCells.{HoldsTable};
@@ -6,14 +6,18 @@ ghost use Rattle.litmus_text.specs.Tests.{IsPrintable, test_seen};
 ghost use Rattle.litmus_text.specs.TextParts.{PutsPart};
 ghost use Rattle.litmus_text.specs.declared.parts.TextPart.TheVariants as parts;
 
+use crate::cell::CELL_ROOM;
 use crate::head::print_opening;
-use crate::initial::print_item_line;
+use crate::initial::{ITEMS_ROOM, print_item_line};
 use crate::kept::KeptTable;
 use crate::print::print_condition;
-use crate::table::print_row;
+use crate::table::{ROW_ENDS, print_row};
 use crate::test::Test;
 use arch_trait::Arch;
-use diy_io::Page;
+use diy_io::{LINE_ROOM, Page};
+
+/// What closes the initial state.
+const CLOSING: &[u8; 2] = b"}\n";
 
 /// A part of the text of a test after its header, from where on it is printed.
 #[derive(Clone, Copy, Debug, PartialEq, Eq)]
@@ -26,8 +30,8 @@ pub enum TextPart {
     Row(usize),
 }
 
-/// Appends a part of the text of a test to the page, at most `LINE_ROOM` bytes, and says from which part on the text goes on,
-/// where it does. `TextPart::Edges` comes first, after the header.
+/// Appends a part of the text of a test to the page, and parts after it where there is room for them, at most `LINE_ROOM` bytes in
+/// all, and says from which part on the text goes on, where it does. `TextPart::Edges` comes first, after the header.
 pub fn put_part<A: Arch>(
     part: TextPart,
     test: &Test,
@@ -48,39 +52,61 @@ pub fn put_part<A: Arch>(
     }
 }
 
-/// Appends the items of a thread, or the brace after them.
-fn put_items<A: Arch>(thread: usize, test: &Test, page: &mut Page) -> TextPart
+/// Appends the items of threads, from one on, as far as there is room for them, and the brace after those of the last.
+fn put_items<A: Arch>(first: usize, test: &Test, page: &mut Page) -> TextPart
     requires { All (λ code. IsPrintable A.puts.has A.REGISTERS (length test.now.places) code) test.now.threads.items }
-    ensures { PutsPart A.writing (test_seen test.now) (parts.Items thread) page.old page.new (Some result) }
+    ensures { PutsPart A.writing (test_seen test.now) (parts.Items first) page.old page.new (Some result) }
 {
     let threads = test.threads.as_slice();
-    if thread < threads.len() {
+    let mut left = LINE_ROOM - CLOSING.len();
+    for thread in first..threads.len() {
+        if left < ITEMS_ROOM {
+            return TextPart::Items(thread);
+        }
         print_item_line::<A>(thread, &threads[thread], &test.places, page);
-        TextPart::Items(thread + 1)
-    } else {
-        page.put_fixed(b"}\n");
-        TextPart::Row(0)
+        left -= ITEMS_ROOM;
     }
+    page.put_fixed(CLOSING);
+    TextPart::Row(0)
 }
 
-/// Appends a row of the table, or the condition after it.
+/// Appends rows of the table, or the condition after them.
 fn put_row<A: Arch>(row: usize, test: &Test, table: &KeptTable, page: &mut Page) -> Option<TextPart>
     requires printable { All (λ code. IsPrintable A.puts.has A.REGISTERS (length test.now.places) code) test.now.threads.items }
     requires kept { HoldsTable A.writing (test_seen test.now) table.now }
     ensures { PutsPart A.writing (test_seen test.now) (parts.Row row) page.old page.new result }
 {
     if row < table.rows {
+        Some(put_rows::<A>(row, test, table, page))
+    } else {
+        print_condition(&test.cond, page);
+        None
+    }
+}
+
+/// Appends rows of the table, from one on, as many as there is room for.
+fn put_rows<A: Arch>(first: usize, test: &Test, table: &KeptTable, page: &mut Page) -> TextPart
+    requires printable { All (λ code. IsPrintable A.puts.has A.REGISTERS (length test.now.places) code) test.now.threads.items }
+    requires kept { HoldsTable A.writing (test_seen test.now) table.now }
+    requires inside { first < table.now.rows }
+    ensures { PutsPart A.writing (test_seen test.now) (parts.Row first) page.old page.new (Some result) }
+{
+    let threads = test.threads.as_slice();
+    let room = CELL_ROOM * threads.len() + ROW_ENDS;
+    let mut left = LINE_ROOM;
+    for row in first..table.rows {
+        if left < room {
+            return TextPart::Row(row);
+        }
         print_row::<A>(
             row,
-            test.threads.as_slice(),
+            threads,
             table.widths.as_slice(),
             &test.places,
             &table.cells,
             page,
         );
-        Some(TextPart::Row(row + 1))
-    } else {
-        print_condition(&test.cond, page);
-        None
+        left -= room;
     }
+    TextPart::Row(table.rows)
 }

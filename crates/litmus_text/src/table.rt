@@ -1,4 +1,4 @@
-ghost use Rattle.std.specs.Prelude.{◌≡◌, ◌≤◌, ◌-◌, ◌*◌, ◌++◌, map, length, codes, take};
+ghost use Rattle.std.specs.Prelude.{◌≡◌, ◌≤◌, ◌+◌, ◌-◌, ◌*◌, ◌++◌, map, length, codes, take};
 ghost use Rattle.litmus_text.specs.KeptCells.{all_texts};
 ghost use Rattle.litmus_text.specs.declared.column.TheConstants.{KEPT_CELLS};
 ghost use Rattle.std.specs.List.{All, flat_map, join_by};
@@ -10,8 +10,11 @@ ghost use Rattle.litmus_text.specs.Tests.{IsPrintable};
 use crate::cell::CELL_ROOM;
 use crate::column::{KeptCells, put_cell};
 use arch_trait::{Arch, Code, MAX_TEXT, Places};
-use diy_io::{LINE_ROOM, Page};
+use diy_io::Page;
 use relax_edges::MAX_EDGES;
+
+/// How many bytes a row has before its first cell and after its last one.
+pub(crate) const ROW_ENDS: usize = 4;
 
 /// Appends a row to the page.
 pub(crate) fn print_row<A: Arch>(
@@ -28,7 +31,8 @@ pub(crate) fn print_row<A: Arch>(
     requires widths { widths.now ≡ map width_of (columns_of A.writing places.now (map thread_code_of threads.now)) }
     requires short { All (λ width. width ≤ MAX_TEXT) widths.now }
     ensures text { page.new ≡ page_after page.old (with_line_feed (row_line (columns_of A.writing places.now (map thread_code_of threads.now)) row)) }
-    ensures short { length (with_line_feed (row_line (columns_of A.writing places.now (map thread_code_of threads.now)) row)) ≤ LINE_ROOM }
+    ensures short { length (with_line_feed (row_line (columns_of A.writing places.now (map thread_code_of threads.now)) row))
+        ≤ CELL_ROOM * length threads.now + ROW_ENDS }
 {
     page.put_fixed(b" ");
     print_cells::<A>(row, threads, widths, places, cells, page);

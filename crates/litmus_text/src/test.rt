@@ -2,7 +2,7 @@ ghost use Rattle.std.specs.Prelude.{◌≡◌, []};
 ghost use Rattle.final_cond.specs.declared.cond.Quantifier.TheVariants.{Exists};
 ghost use Rattle.final_cond.specs.Conditions.{cond_view};
 
-use arch_trait::{Code, Places};
+use arch_trait::{Places, ThreadCodes};
 use arrayvec::ArrayVec;
 use final_cond::Cond;
 use relax_edges::{Edge, MAX_EDGES};
@@ -14,7 +14,7 @@ pub struct Test {
     /// The edges of the resolved cycle.
     pub edges: ArrayVec<Edge, MAX_EDGES>,
     pub places: Places,
-    pub threads: ArrayVec<Code, MAX_EDGES>,
+    pub threads: ThreadCodes,
     pub cond: Cond,
 }
 
@@ -31,7 +31,7 @@ impl Test {
         Test {
             edges: ArrayVec::new(),
             places: Places::new(),
-            threads: ArrayVec::new(),
+            threads: ThreadCodes::new(),
             cond: Cond::default(),
         }
     }

@@ -1,12 +1,11 @@
 -- How a test grows thread by thread.
-use Rattle.std.proofs.Common.{◌≡◌, ℕ, zero, suc, ◌+◌, ◌<◌, ◌≤◌, cond, true, false, List, [], ◌∷◌, ◌++◌, length, take, drop, map, Option, Some, None, Ok, Err, refl, sym, ◌∙◌, ap, arith, slice_get, append_assoc, length-take, append-nil, Result}
-use Rattle.std.specs.Prelude.{slice_set}
-use Rattle.std.specs.List.{position_from, refill}
+use Rattle.std.proofs.Common.{◌≡◌, ℕ, zero, suc, ◌+◌, ◌<◌, ◌≤◌, cond, true, false, List, [], ◌∷◌, ◌++◌, length, take, drop, map, Option, Some, None, Ok, Err, refl, sym, ◌∙◌, ap, arith, slice_get, append_assoc, length-take, append-nil}
+use Rattle.std.specs.List.{position_from}
 use Rattle.std.specs.Option.{option_map}
 use Rattle.std.proofs.lemmas.Option.{get_or_from_slice_get}
-use Rattle.std.proofs.lemmas.List.{drop_all, length-map, length-set, map-append, take_all, take_more, take_more_set}
+use Rattle.std.proofs.lemmas.List.{drop_all, length-map, map-append, take_all, take_more}
 use Rattle.list_laws.proofs.Elements.{drop_given}
-use Rattle.arrayvec.specs.ArrayVec.{ArrayVec, with_items}
+use Rattle.arrayvec.specs.ArrayVec.{ArrayVec}
 use Rattle.relax_edges.specs.declared.TheConstants.{MAX_EDGES}
 use Rattle.relax_edges.specs.declared.kinds.ObsMode.{ObsMode}
 use Rattle.relax_edges.specs.declared.edge.Edge.{Edge}
@@ -25,7 +24,7 @@ use Rattle.test_laws.proofs.Terms.{load_terms_more, reads-count, terms_room, thr
 use Rattle.test_maker.specs.declared.refusal.MakeRefusal.{MakeRefusal}
 use Rattle.test_maker.specs.declared.refusal.MakeRefusal.TheVariants.{TooManyRegisters}
 use Rattle.test_maker.specs.Refusals.{crowded_thread, is_crowded}
-use Rattle.test_maker.specs.ConditionTerms.{PutsCode, PutsThread, PutsThreads}
+use Rattle.test_maker.specs.ConditionTerms.{PutsThread, PutsThreads}
 
 -- the number of the first thread that needs too many registers
 abbrev pub crowded : Puts → List Edge → ObsMode → Option ℕ
@@ -34,7 +33,7 @@ crowded a es mode = position_from (is_crowded a) 0 (cycle_steps es mode plain)
 -- a test whose first k threads are made
 pub record Grown (a : Puts) (name : ℕ → List ℕ) (es : List Edge) (mode : ObsMode) (k : ℕ) (threads : ArrayVec Code) (cond cond' : Cond) : Type 0 where
   pub fitting : position_from (is_crowded a) k (drop k (cycle_steps es mode plain)) ≡ crowded a es mode
-  pub codes : map thread_code_of (take k threads.items) ≡ map (compiled a) (take k (cycle_steps es mode plain))
+  pub codes : map thread_code_of threads.items ≡ map (compiled a) (take k (cycle_steps es mode plain))
   pub quantifier : cond'.quantifier ≡ cond.quantifier
   pub terms : map term_view cond'.terms.items ≡ map term_view cond.terms.items ++ load_terms a name 0 (take k (cycle_steps es mode plain))
 
@@ -46,34 +45,12 @@ got_within (y ∷ ys) (suc i) x h = let k = got_within ys i x h in omega (arith,
 take_got : {X : Type 0} (xs : List X) (i : ℕ) (x : X) → slice_get xs i ≡ Some x → take (i + 1) xs ≡ take i xs ++ x ∷ []
 take_got xs i x h = take_more xs i x (got_within xs i x h) ∙ ap (λ y. take i xs ++ y ∷ []) (get_or_from_slice_get xs i x x h)
 
--- a vector whose elements are written over by as many others has these
-written_over : {X : Type 0} (xs ys : List X) → length ys ≡ length xs → refill (length xs) xs ys ≡ ys
-written_over xs ys e =
-    ap (λ rest. take (length xs) (ys ++ rest)) (drop_all (length ys) xs (omega (arith, e)))
-    ∙ ap (take (length xs)) (append-nil ys) ∙ take_all (length xs) ys (omega (arith, e))
-
--- the code of the next thread is made in its place
-pub placed : (a : Puts) (name : ℕ → List ℕ) (thread : ℕ) (steps : List Step) (threads room : ArrayVec Code) (codes : List Code) (code : Code) (cond0 cond1 : Cond) (result : Result (Unit {0}) MakeRefusal) →
-    thread < length room.items → take thread room.items ≡ take thread threads.items → codes ≡ room.items →
-    PutsCode a name thread steps code cond0 cond1 result → PutsThread a name thread steps threads (with_items room (slice_set codes thread code)) cond0 cond1 result
-placed a name thread steps threads room codes code cond0 cond1 (Err _) within before same put = put
-placed a name thread steps threads room codes code cond0 cond1 (Ok _) within before same put = (
-  put.0,
-  ap (λ cs. map thread_code_of (take (thread + 1) cs))
-      (written_over room.items (slice_set codes thread code) (length-set codes thread code ∙ ap length same) ∙ ap (λ cs. slice_set cs thread code) same)
-      ∙ ap (map thread_code_of) (take_more_set room.items thread code within ∙ ap (λ cs. cs ++ code ∷ []) before)
-      ∙ map-append thread_code_of (take thread threads.items) (code ∷ [])
-      ∙ ap (λ c. map thread_code_of (take thread threads.items) ++ c ∷ []) put.1,
-  put.2,
-  put.3,
-)
-
 -- no thread is made so far
 pub grown_none : (a : Puts) (name : ℕ → List ℕ) (es : List Edge) (mode : ObsMode) (threads : ArrayVec Code) (cond : Cond) →
-    Grown a name es mode 0 threads cond cond
-grown_none a name es mode threads cond = record {
+    threads.items ≡ [] → Grown a name es mode 0 threads cond cond
+grown_none a name es mode threads cond none = record {
   fitting = refl;
-  codes = refl;
+  codes = ap (map thread_code_of) none;
   quantifier = refl;
   terms = sym (append-nil (map term_view cond.terms.items));
 }
@@ -112,30 +89,25 @@ grown_refused a name es mode k steps threads threads' cond0 cond1 cond2 refusal 
     ap (λ b. cond b (Some k) (position_from (is_crowded a) (k + 1) (drop (k + 1) (cycle_steps es mode plain)))) put.0 in
     ap (option_map (λ thread. TooManyRegisters thread)) (sym g.fitting ∙ here) ∙ ap Some (sym put.1)
 
--- all threads are made, and those that were there after them are cut off
-pub grown_all : (a : Puts) (name : ℕ → List ℕ) (es : List Edge) (mode : ObsMode) (k : ℕ) (threads threads' : ArrayVec Code) (cond0 cond1 : Cond) →
-    Grown a name es mode k threads cond0 cond1 → length (cycle_steps es mode plain) ≤ k → threads'.items ≡ take k threads.items →
-    PutsThreads a name es mode threads' cond0 cond1 (Ok tt)
-grown_all a name es mode k threads threads' cond0 cond1 g h cut =
+-- all threads are made
+pub grown_all : (a : Puts) (name : ℕ → List ℕ) (es : List Edge) (mode : ObsMode) (k : ℕ) (threads : ArrayVec Code) (cond0 cond1 : Cond) →
+    Grown a name es mode k threads cond0 cond1 → length (cycle_steps es mode plain) ≤ k → PutsThreads a name es mode threads cond0 cond1 (Ok tt)
+grown_all a name es mode k threads cond0 cond1 g h =
     let all : take k (cycle_steps es mode plain) ≡ cycle_steps es mode plain = take_all k (cycle_steps es mode plain) h in
     let none : crowded a es mode ≡ None = sym g.fitting ∙ ap (position_from (is_crowded a) k) (drop_all k (cycle_steps es mode plain) h) in (
       ap (option_map (λ thread. TooManyRegisters thread)) none,
-      ap (map thread_code_of) cut ∙ g.codes ∙ ap (map (compiled a)) all,
+      g.codes ∙ ap (map (compiled a)) all,
       g.quantifier,
       g.terms ∙ ap (λ steps. map term_view cond0.terms.items ++ load_terms a name 0 steps) all,
     )
 
--- the next thread has a place after those that are made
-pub thread_next : (a : Puts) (name : ℕ → List ℕ) (es : List Edge) (mode : ObsMode) (k : ℕ) (threads : ArrayVec Code) (cond0 cond1 : Cond) →
-    Grown a name es mode k threads cond0 cond1 → k < length (cycle_steps es mode plain) → k ≤ length threads.items
-thread_next a name es mode k threads cond0 cond1 g h =
-    let long : length (take k threads.items) ≡ length (take k (cycle_steps es mode plain)) =
-    sym (length-map (take k threads.items) thread_code_of) ∙ ap length g.codes ∙ length-map (take k (cycle_steps es mode plain)) (compiled a) in
-    omega (arith, long, length-take k threads.items, length-take k (cycle_steps es mode plain))
-
 -- there is room for a thread
-pub thread_room : (es : List Edge) (mode : ObsMode) (k : ℕ) → IsResolved es → k < length (cycle_steps es mode plain) → k < MAX_EDGES
-thread_room es mode k r h = omega (arith, h, steps_few es mode plain, r.composes.few)
+pub thread_room : (a : Puts) (name : ℕ → List ℕ) (es : List Edge) (mode : ObsMode) (k : ℕ) (threads : ArrayVec Code) (cond0 cond1 : Cond) →
+    IsResolved es → Grown a name es mode k threads cond0 cond1 → k < length (cycle_steps es mode plain) → length threads.items < MAX_EDGES
+thread_room a name es mode k threads cond0 cond1 r g h =
+    let long : length threads.items ≡ length (take k (cycle_steps es mode plain)) =
+    sym (length-map threads.items thread_code_of) ∙ ap length g.codes ∙ length-map (take k (cycle_steps es mode plain)) (compiled a) in
+    omega (arith, long, length-take k (cycle_steps es mode plain), h, steps_few es mode plain, r.composes.few)
 
 -- there is room for its terms
 pub load_room : (a : Puts) (name : ℕ → List ℕ) (es : List Edge) (mode : ObsMode) (k : ℕ) (steps : List Step) (threads : ArrayVec Code) (cond0 cond1 : Cond) →

@@ -1,5 +1,5 @@
 -- How a test grows thread by thread.
-use Rattle.std.specs.Prelude.{ℕ, ◌≡◌, true, false, ◌+◌, List, [], ◌∷◌, ◌++◌, map, take, slice_index_or, Some, None, Result, Ok, Err}
+use Rattle.std.specs.Prelude.{ℕ, ◌≡◌, true, false, List, [], ◌∷◌, ◌++◌, map, slice_index_or, Some, None, Result, Ok, Err}
 use Rattle.std.specs.List.{zip}
 use Rattle.arrayvec.specs.ArrayVec.{ArrayVec}
 use Rattle.relax_edges.specs.declared.kinds.ObsMode.{ObsMode}
@@ -24,19 +24,11 @@ place_term places location value = record { left = AtPlace (slice_index_or place
 abbrev pub terms_of_loads : (ℕ → List ℕ) → ℕ → List ℕ → List Step → List TermSeen
 terms_of_loads register_name thread loads steps = map (load_term register_name thread) (zip loads (numbers_read steps))
 
--- a call makes the code of a thread and appends the terms of its loads, or refuses the thread for its registers
-abbrev pub PutsCode : Puts → (ℕ → List ℕ) → ℕ → List Step → Code → Cond → Cond → Result (Unit {0}) MakeRefusal → Type 0
-PutsCode a register_name thread steps code cond cond' (Ok _) =
-    (is_crowded a steps ≡ false) × (thread_code_of code ≡ compiled a steps) ×
-    (cond'.quantifier ≡ cond.quantifier) × (map term_view cond'.terms.items ≡ map term_view cond.terms.items ++ thread_terms a register_name thread steps)
-PutsCode a register_name thread steps code cond cond' (Err refusal) =
-    (is_crowded a steps ≡ true) × (refusal ≡ TooManyRegisters thread)
-
 -- a call makes the code of a thread after those before it and appends the terms of its loads, or refuses the thread for its registers
 abbrev pub PutsThread : Puts → (ℕ → List ℕ) → ℕ → List Step → ArrayVec Code → ArrayVec Code → Cond → Cond → Result (Unit {0}) MakeRefusal → Type 0
 PutsThread a register_name thread steps threads threads' cond cond' (Ok _) =
     (is_crowded a steps ≡ false) ×
-    (map thread_code_of (take (thread + 1) threads'.items) ≡ map thread_code_of (take thread threads.items) ++ compiled a steps ∷ []) ×
+    (map thread_code_of threads'.items ≡ map thread_code_of threads.items ++ compiled a steps ∷ []) ×
     (cond'.quantifier ≡ cond.quantifier) × (map term_view cond'.terms.items ≡ map term_view cond.terms.items ++ thread_terms a register_name thread steps)
 PutsThread a register_name thread steps threads threads' cond cond' (Err refusal) =
     (is_crowded a steps ≡ true) × (refusal ≡ TooManyRegisters thread)

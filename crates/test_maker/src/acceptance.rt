@@ -26,10 +26,10 @@ pub fn accepted<A: Arch>(cycle: &Cycle, mode: ObsMode) -> Result<(), MakeRefusal
 fn accepted_of_arch<A: Arch>(cycle: &Cycle, mode: ObsMode) -> Result<(), MakeRefusal>
     ensures { AcceptsResolution A.puts (resolution_of cycle.now) mode result }
 {
-    match resolve(cycle) {
+    match &resolve(cycle) {
         Err(ResolveError::TooFewThreads) => Err(MakeRefusal::TooFewThreads),
         Err(ResolveError::CoherenceOnly) => Err(MakeRefusal::CoherenceOnly),
-        Ok(resolved) => accepted_resolved::<A>(&resolved, mode),
+        Ok(resolved) => accepted_resolved::<A>(resolved, mode),
     }
 }
 

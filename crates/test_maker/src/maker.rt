@@ -93,10 +93,10 @@ fn make_of_arch<A: Arch>(cycle: &Cycle, mode: ObsMode, test: &mut Test) -> Resul
     ensures located { IfErr result NamesLocation }
 {
     let _edges = cycle.edges();
-    match resolve(cycle) {
+    match &resolve(cycle) {
         Err(ResolveError::TooFewThreads) => Err(MakeRefusal::TooFewThreads),
         Err(ResolveError::CoherenceOnly) => Err(MakeRefusal::CoherenceOnly),
-        Ok(resolved) => make_resolved::<A>(&resolved, mode, test),
+        Ok(resolved) => make_resolved::<A>(resolved, mode, test),
     }
 }
 

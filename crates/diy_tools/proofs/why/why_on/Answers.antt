@@ -6,13 +6,13 @@ use Rattle.std.specs.Prelude.{Option}
 use Rattle.diy_words.specs.TestNames.{is_name}
 use Rattle.litmus_text.specs.Printable.{IsTestName}
 use Rattle.printed_test_laws.proofs.Cycles.{cycle_named}
-use Rattle.diy_tools.proofs.Forced.{named_so}
+use Rattle.diy_tools.proofs.TestNames.{words_name}
 use Rattle.diy_tools.proofs.why.why_on.Goals as goal
 
 pub why_named-requires-clause-named : goal.why_named-requires-clause-named
 why_named-requires-clause-named g c =
     subst IsTestName (sym c.as_str.ensures.value)
-    (named_so c.in-Some.name.bytes (subst (λ (name : Option ArrayString). IfSome name (λ name. is_name name.bytes ≡ true)) c.in-Some.is c.requires.form.0))
+    ((words_name c.in-Some.name.bytes).0 (subst (λ (name : Option ArrayString). IfSome name (λ name. is_name name.bytes ≡ true)) c.in-Some.is c.requires.form.0))
 
 pub why_named-requires-in-None-clause-named : goal.why_named-requires-in-None-clause-named
 why_named-requires-in-None-clause-named g c =

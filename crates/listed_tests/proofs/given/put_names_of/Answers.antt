@@ -16,7 +16,7 @@ loop-cycle-init g c = record {
 pub returns-in_err-append-clause-failed : goal.returns-in_err-append-clause-failed
 returns-in_err-append-clause-failed g c =
     let l = c.loop-cycle.invariant.lists in
-    on_err _ (lists_stop _ _ _ _ _ _ _ _ l (filling_part _ _ _ c.args.path.now l.written c.loop-cycle.lines.items l.file (rw c.as_slice.ensures.value at c.in_err-append.ensures.failed)))
+    on_err _ (lists_stop _ _ _ _ _ _ _ _ l (filling_part _ _ _ c.args.path.now l.filled.written c.loop-cycle.lines.items l.filled.file (rw c.as_slice.ensures.value at c.in_err-append.ensures.failed)))
 
 pub loop-cycle-preserved : goal.loop-cycle-preserved
 loop-cycle-preserved g c =
@@ -24,7 +24,7 @@ loop-cycle-preserved g c =
     let before : Lists c.args.path.now c.args.cycles.now (drop c.loop-cycle.cycle-index c.args.cycles.now) (g.H.Shelf.seen c.args.shelf.now) (g.H.Shelf.seen c.if-remaining_capacity-lt-MAX_LINE.shelf) c.loop-cycle.number c.if-remaining_capacity-lt-MAX_LINE.lines.items =
     elim c.if-remaining_capacity-lt-MAX_LINE.branch [
       | then-remaining_capacity-lt-MAX_LINE+in_ok-append w ↦ rw (w.lines-is, w.shelf-is, w.clear.ensures) (lists_written _ _ _ _ _ _ _ _ l
-          (filling_more _ _ _ c.args.path.now l.written c.loop-cycle.lines.items l.file (rw w.as_slice.ensures.value at w.in_ok-append.ensures.ok)))
+          (filling_more _ _ _ c.args.path.now l.filled.written c.loop-cycle.lines.items l.filled.file (rw w.as_slice.ensures.value at w.in_ok-append.ensures.ok)))
       | else-remaining_capacity-lt-MAX_LINE w ↦ rw (w.lines-is, w.shelf-is) l
     ] in
     record {
@@ -35,7 +35,7 @@ loop-cycle-preserved g c =
 pub returns-in_err-append-2-clause-failed : goal.returns-in_err-append-2-clause-failed
 returns-in_err-append-2-clause-failed g c =
     let l = c.loop-cycle.invariant.lists in
-    on_err _ (lists_stop _ _ _ _ _ _ _ _ l (filling_part _ _ _ c.args.path.now l.written c.loop-cycle.lines.items l.file (rw c.as_slice-2.ensures.value at c.in_err-append-2.ensures.failed)))
+    on_err _ (lists_stop _ _ _ _ _ _ _ _ l (filling_part _ _ _ c.args.path.now l.filled.written c.loop-cycle.lines.items l.filled.file (rw c.as_slice-2.ensures.value at c.in_err-append-2.ensures.failed)))
 
 pub returns-clause-ok : goal.returns-clause-ok
 returns-clause-ok g c =

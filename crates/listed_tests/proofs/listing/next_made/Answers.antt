@@ -1,6 +1,6 @@
 -- That `next_made` gives the next cycle of a walk that has a test.
-use Rattle.listed_tests.proofs.PassingOver.{passes_none, passes_one, passes_to, passes_all, fewer}
-use Rattle.listed_tests.proofs.Walks.{same_closures, went_on, went_to}
+use Rattle.listed_tests.proofs.PassingOver.{passes_none, passes_one, passes_to, passes_all}
+use Rattle.listed_tests.proofs.Walks.{same_closures}
 use Rattle.listed_tests.proofs.listing.next_made.Goals as goal
 
 pub loop-cycle-init : goal.loop-cycle-init
@@ -13,25 +13,14 @@ next-requires g c =
 
 pub returns-then-make_test-clause-next : goal.returns-then-make_test-clause-next
 returns-then-make_test-clause-next g c =
-    passes_to g.P.Fn.post g.A.Arch.puts c.args.mode c.args.walk.now c.loop-cycle.walk c.loop-cycle.invariant c.in-Some.cycle c.in-Some.ensures.next (c.make_test.ensures.made c.if-make_test.true)
-
-pub returns-then-make_test-clause-some : goal.returns-then-make_test-clause-some
-returns-then-make_test-clause-some g c =
-    went_to c.args.walk.now c.loop-cycle.walk c.next.new.self c.in-Some.cycle c.loop-cycle.invariant.walk c.in-Some.ensures.some
-
-pub returns-then-make_test-clause-falls : goal.returns-then-make_test-clause-falls
-returns-then-make_test-clause-falls g c =
-    fewer g.P.Fn.post g.A.Arch.puts c.args.mode c.args.walk.now c.loop-cycle.walk c.loop-cycle.invariant c.in-Some.cycle c.in-Some.ensures.falls
+    passes_to g.P.Fn.post g.A.Arch.puts c.args.mode c.args.walk.now c.loop-cycle.walk c.loop-cycle.invariant c.next.new.self c.in-Some.cycle
+    c.in-Some.ensures.next c.in-Some.ensures.some c.in-Some.ensures.falls (c.make_test.ensures.made c.if-make_test.true)
 
 pub loop-cycle-preserved : goal.loop-cycle-preserved
 loop-cycle-preserved g c =
-    passes_one g.P.Fn.post g.A.Arch.puts c.args.mode c.args.walk.now c.loop-cycle.walk c.loop-cycle.invariant c.next.new.self c.in-Some.cycle c.in-Some.ensures.some
-    c.in-Some.ensures.next c.in-Some.ensures.falls (c.make_test.ensures.refused c.if-make_test.false)
+    passes_one g.P.Fn.post g.A.Arch.puts c.args.mode c.args.walk.now c.loop-cycle.walk c.loop-cycle.invariant c.next.new.self c.in-Some.cycle
+    c.in-Some.ensures.next c.in-Some.ensures.some c.in-Some.ensures.falls (c.make_test.ensures.refused c.if-make_test.false)
 
 pub returns-clause-next : goal.returns-clause-next
 returns-clause-next g c =
-    passes_all g.P.Fn.post g.A.Arch.puts c.args.mode c.args.walk.now c.loop-cycle.walk c.loop-cycle.invariant c.in_default.ensures.next
-
-pub returns-then-make_test-clause-same : goal.returns-then-make_test-clause-same
-returns-then-make_test-clause-same g c =
-    went_on c.args.walk.now c.loop-cycle.walk c.next.new.self c.in-Some.cycle c.loop-cycle.invariant.walk c.in-Some.ensures.some
+    passes_all g.P.Fn.post g.A.Arch.puts c.args.mode c.args.walk.now c.loop-cycle.walk c.loop-cycle.invariant c.in_default.ensures.next c.next.new.self c.in_default.ensures.none

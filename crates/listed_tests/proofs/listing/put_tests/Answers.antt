@@ -23,15 +23,15 @@ next_made-requires g c =
 pub returns-in_err-file-clause-failed : goal.returns-in_err-file-clause-failed
 returns-in_err-file-clause-failed g c =
     let is : IsAnswer (HaveTests g.A.Arch.puts c.args.wanted.now.mode (Lists g.P.Fn.post c.args.walk.now)) c.loop-cycle.walk.last (Some c.in-Some.cycle) =
-    tested_as g.P.Fn.post g.A.Arch.puts c.args.wanted.now.mode c.args.walk.now c.loop-cycle.walk c.loop-cycle.walk.last (Some c.in-Some.cycle) c.loop-cycle.invariant.walk c.in-Some.ensures.next in
+    tested_as g.P.Fn.post g.A.Arch.puts c.args.wanted.now.mode c.args.walk.now c.loop-cycle.walk c.loop-cycle.walk.last (Some c.in-Some.cycle) c.loop-cycle.invariant.walk c.in-Some.ensures.next.next in
     on_err _ (goes_stop (HaveTests g.A.Arch.puts c.args.wanted.now.mode (Lists g.P.Fn.post c.args.walk.now)) (folder_of c.args.wanted.now) (named_text g.A.Arch.puts g.A.Arch.writing c.args.wanted.now.mode) c.args.walk.now.last
     c.loop-cycle.walk.last _ _ _ c.in-Some.cycle c.loop-cycle.count _ _ c.loop-cycle.invariant.goes is c.in_err-file.ensures.failed)
 
 pub loop-cycle-preserved : goal.loop-cycle-preserved
 loop-cycle-preserved g c =
     let is : IsAnswer (HaveTests g.A.Arch.puts c.args.wanted.now.mode (Lists g.P.Fn.post c.args.walk.now)) c.loop-cycle.walk.last (Some c.in-Some.cycle) =
-    tested_as g.P.Fn.post g.A.Arch.puts c.args.wanted.now.mode c.args.walk.now c.loop-cycle.walk c.loop-cycle.walk.last (Some c.in-Some.cycle) c.loop-cycle.invariant.walk c.in-Some.ensures.next in
-    let on = c.in-Some.ensures.some in
+    tested_as g.P.Fn.post g.A.Arch.puts c.args.wanted.now.mode c.args.walk.now c.loop-cycle.walk c.loop-cycle.walk.last (Some c.in-Some.cycle) c.loop-cycle.invariant.walk c.in-Some.ensures.next.next in
+    let on = c.in-Some.ensures.next.walk in
     record {
       goes = rw (ap (λ w. w.last) on) (goes_on (HaveTests g.A.Arch.puts c.args.wanted.now.mode (Lists g.P.Fn.post c.args.walk.now)) (folder_of c.args.wanted.now) (named_text g.A.Arch.puts g.A.Arch.writing c.args.wanted.now.mode) c.args.walk.now.last
           c.loop-cycle.walk.last _ _ _ c.in-Some.cycle c.loop-cycle.count c.saturating_add-count.result _ _ _ _ c.loop-cycle.invariant.goes is is.is.0.normal c.saturating_add-count.ensures c.in_ok-file.ensures.ok
@@ -43,7 +43,7 @@ pub returns-clause-ok : goal.returns-clause-ok
 returns-clause-ok g c =
     goes_end (HaveTests g.A.Arch.puts c.args.wanted.now.mode (Lists g.P.Fn.post c.args.walk.now)) (folder_of c.args.wanted.now) (named_text g.A.Arch.puts g.A.Arch.writing c.args.wanted.now.mode) c.args.walk.now.last
     c.loop-cycle.walk.last _ _ c.loop-cycle.count _ _ c.loop-cycle.invariant.goes
-    (tested_as g.P.Fn.post g.A.Arch.puts c.args.wanted.now.mode c.args.walk.now c.loop-cycle.walk c.loop-cycle.walk.last None c.loop-cycle.invariant.walk c.in_default.ensures.next)
+    (tested_as g.P.Fn.post g.A.Arch.puts c.args.wanted.now.mode c.args.walk.now c.loop-cycle.walk c.loop-cycle.walk.last None c.loop-cycle.invariant.walk c.in_default.ensures.next.0)
 
 pub returns-clause-walk : goal.returns-clause-walk
-returns-clause-walk g c = went_further c.args.walk.now c.loop-cycle.walk c.next_made.new.walk c.loop-cycle.invariant.walk c.next_made.ensures.same
+returns-clause-walk g c = went_further c.args.walk.now c.loop-cycle.walk c.next_made.new.walk c.loop-cycle.invariant.walk c.in_default.ensures.next.1

@@ -32,18 +32,18 @@ next_accepted-requires g c =
 pub returns-in_err-append-clause-failed : goal.returns-in_err-append-clause-failed
 returns-in_err-append-clause-failed g c =
     let n = c.loop-cycle.invariant.naming in
-    on_err _ (naming_stop _ _ _ _ _ _ _ _ _ _ n (filling_part _ _ _ c.args.path.now n.written c.loop-cycle.lines.items n.file (rw c.as_slice.ensures.value at c.in_err-append.ensures.failed)))
+    on_err _ (naming_stop _ _ _ _ _ _ _ _ _ _ n (filling_part _ _ _ c.args.path.now n.filled.written c.loop-cycle.lines.items n.filled.file (rw c.as_slice.ensures.value at c.in_err-append.ensures.failed)))
 
 pub loop-cycle-preserved : goal.loop-cycle-preserved
 loop-cycle-preserved g c =
     let n = c.loop-cycle.invariant.naming in
     let is : IsAnswer (HaveTests g.A.Arch.puts c.args.mode (Lists g.P.Fn.post c.args.walk.now)) c.loop-cycle.walk.last (Some c.in-Some.cycle) =
     tested_as g.P.Fn.post g.A.Arch.puts c.args.mode c.args.walk.now c.loop-cycle.walk c.loop-cycle.walk.last (Some c.in-Some.cycle) c.loop-cycle.invariant.walk c.in-Some.ensures.next in
-    let on = c.in-Some.ensures.some in
+    let on = c.in-Some.ensures.walk in
     let before : Naming (HaveTests g.A.Arch.puts c.args.mode (Lists g.P.Fn.post c.args.walk.now)) c.args.path.now c.args.lines.now.items c.args.closed.now c.loop-cycle.walk.last (g.H.Shelf.seen c.args.shelf.now) (g.H.Shelf.seen c.if-remaining_capacity-lt-MAX_LINE.shelf) c.loop-cycle.number c.if-remaining_capacity-lt-MAX_LINE.lines.items =
     elim c.if-remaining_capacity-lt-MAX_LINE.branch [
       | then-remaining_capacity-lt-MAX_LINE+in_ok-append w ↦ rw (w.lines-is, w.shelf-is, w.clear.ensures) (naming_written _ _ _ _ _ _ _ _ _ _ n
-          (filling_more _ _ _ c.args.path.now n.written c.loop-cycle.lines.items n.file (rw w.as_slice.ensures.value at w.in_ok-append.ensures.ok)))
+          (filling_more _ _ _ c.args.path.now n.filled.written c.loop-cycle.lines.items n.filled.file (rw w.as_slice.ensures.value at w.in_ok-append.ensures.ok)))
       | else-remaining_capacity-lt-MAX_LINE w ↦ rw (w.lines-is, w.shelf-is) n
     ] in
     record {
@@ -54,20 +54,20 @@ loop-cycle-preserved g c =
 pub returns-in_err-append-2-clause-failed : goal.returns-in_err-append-2-clause-failed
 returns-in_err-append-2-clause-failed g c =
     let n = c.loop-cycle.invariant.naming in
-    on_err _ (naming_stop _ _ _ _ _ _ _ _ _ _ n (filling_part _ _ _ c.args.path.now n.written c.loop-cycle.lines.items n.file (rw c.as_slice-2.ensures.value at c.in_err-append-2.ensures.failed)))
+    on_err _ (naming_stop _ _ _ _ _ _ _ _ _ _ n (filling_part _ _ _ c.args.path.now n.filled.written c.loop-cycle.lines.items n.filled.file (rw c.as_slice-2.ensures.value at c.in_err-append-2.ensures.failed)))
 
 pub returns-clause-ok : goal.returns-clause-ok
 returns-clause-ok g c =
     let n = c.loop-cycle.invariant.naming in
-    let f : Filling (g.H.Shelf.seen c.args.shelf.now) (g.H.Shelf.seen c.append-2.new.self) c.args.path.now (n.written ++ c.loop-cycle.lines.items) =
-    filling_more _ _ _ c.args.path.now n.written c.loop-cycle.lines.items n.file (rw c.as_slice-2.ensures.value at c.in_ok-append-2.ensures.ok) in
+    let f : Filling (g.H.Shelf.seen c.args.shelf.now) (g.H.Shelf.seen c.append-2.new.self) c.args.path.now (n.filled.written ++ c.loop-cycle.lines.items) =
+    filling_more _ _ _ c.args.path.now n.filled.written c.loop-cycle.lines.items n.filled.file (rw c.as_slice-2.ensures.value at c.in_ok-append-2.ensures.ok) in
     let none : IsAnswer (HaveTests g.A.Arch.puts c.args.mode (Lists g.P.Fn.post c.args.walk.now)) c.loop-cycle.walk.last None =
-    tested_as g.P.Fn.post g.A.Arch.puts c.args.mode c.args.walk.now c.loop-cycle.walk c.loop-cycle.walk.last None c.loop-cycle.invariant.walk c.in_default.ensures.next in
-    ok_so c.finish.result (naming_done _ _ _ _ _ _ _ _ _ _ n none) (closed_ok _ _ _ c.args.path.now (n.written ++ c.loop-cycle.lines.items) c.finish.result f c.finish.ensures.ok)
+    tested_as g.P.Fn.post g.A.Arch.puts c.args.mode c.args.walk.now c.loop-cycle.walk c.loop-cycle.walk.last None c.loop-cycle.invariant.walk c.in_default.ensures.0 in
+    ok_so c.finish.result (naming_done _ _ _ _ _ _ _ _ _ _ n none) (closed_ok _ _ _ c.args.path.now (n.filled.written ++ c.loop-cycle.lines.items) c.finish.result f c.finish.ensures.ok)
 
 pub returns-clause-failed : goal.returns-clause-failed
 returns-clause-failed g c =
     let n = c.loop-cycle.invariant.naming in
-    let f : Filling (g.H.Shelf.seen c.args.shelf.now) (g.H.Shelf.seen c.append-2.new.self) c.args.path.now (n.written ++ c.loop-cycle.lines.items) =
-    filling_more _ _ _ c.args.path.now n.written c.loop-cycle.lines.items n.file (rw c.as_slice-2.ensures.value at c.in_ok-append-2.ensures.ok) in
-    err_so c.finish.result (naming_stop _ _ _ _ _ _ _ _ _ _ n) (closed_err _ _ _ c.args.path.now (n.written ++ c.loop-cycle.lines.items) c.finish.result f c.finish.ensures.failed)
+    let f : Filling (g.H.Shelf.seen c.args.shelf.now) (g.H.Shelf.seen c.append-2.new.self) c.args.path.now (n.filled.written ++ c.loop-cycle.lines.items) =
+    filling_more _ _ _ c.args.path.now n.filled.written c.loop-cycle.lines.items n.filled.file (rw c.as_slice-2.ensures.value at c.in_ok-append-2.ensures.ok) in
+    err_so c.finish.result (naming_stop _ _ _ _ _ _ _ _ _ _ n) (closed_err _ _ _ c.args.path.now (n.filled.written ++ c.loop-cycle.lines.items) c.finish.result f c.finish.ensures.failed)

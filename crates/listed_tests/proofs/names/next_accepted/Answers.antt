@@ -1,6 +1,6 @@
 -- That `next_accepted` gives the next cycle of a walk that has a test.
-use Rattle.listed_tests.proofs.PassingOver.{passes_none, passes_one, passes_to, passes_all, fewer}
-use Rattle.listed_tests.proofs.Walks.{same_closures, went_to}
+use Rattle.listed_tests.proofs.PassingOver.{passes_none, passes_one, passes_to, passes_all}
+use Rattle.listed_tests.proofs.Walks.{same_closures}
 use Rattle.listed_tests.proofs.names.next_accepted.Goals as goal
 
 pub loop-cycle-init : goal.loop-cycle-init
@@ -11,23 +11,16 @@ next-requires g c =
     let same = same_closures c.args.walk.now c.loop-cycle.walk c.loop-cycle.invariant.walk in
     record { knows = rw (same.keep, same.fit, same.take) c.requires.knows }
 
-pub returns-then-is_accepted-clause-next : goal.returns-then-is_accepted-clause-next
-returns-then-is_accepted-clause-next g c =
-    passes_to g.P.Fn.post g.A.Arch.puts c.args.mode c.args.walk.now c.loop-cycle.walk c.loop-cycle.invariant c.in-Some.cycle c.in-Some.ensures.next (c.is_accepted.ensures.accepted c.if-is_accepted.true)
-
-pub returns-then-is_accepted-clause-some : goal.returns-then-is_accepted-clause-some
-returns-then-is_accepted-clause-some g c =
-    went_to c.args.walk.now c.loop-cycle.walk c.next.new.self c.in-Some.cycle c.loop-cycle.invariant.walk c.in-Some.ensures.some
-
-pub returns-then-is_accepted-clause-falls : goal.returns-then-is_accepted-clause-falls
-returns-then-is_accepted-clause-falls g c =
-    fewer g.P.Fn.post g.A.Arch.puts c.args.mode c.args.walk.now c.loop-cycle.walk c.loop-cycle.invariant c.in-Some.cycle c.in-Some.ensures.falls
+pub returns-then-is_accepted : goal.returns-then-is_accepted
+returns-then-is_accepted g c =
+    passes_to g.P.Fn.post g.A.Arch.puts c.args.mode c.args.walk.now c.loop-cycle.walk c.loop-cycle.invariant c.next.new.self c.in-Some.cycle
+    c.in-Some.ensures.next c.in-Some.ensures.some c.in-Some.ensures.falls (c.is_accepted.ensures.accepted c.if-is_accepted.true)
 
 pub loop-cycle-preserved : goal.loop-cycle-preserved
 loop-cycle-preserved g c =
-    passes_one g.P.Fn.post g.A.Arch.puts c.args.mode c.args.walk.now c.loop-cycle.walk c.loop-cycle.invariant c.next.new.self c.in-Some.cycle c.in-Some.ensures.some
-    c.in-Some.ensures.next c.in-Some.ensures.falls (c.is_accepted.ensures.refused c.if-is_accepted.false)
+    passes_one g.P.Fn.post g.A.Arch.puts c.args.mode c.args.walk.now c.loop-cycle.walk c.loop-cycle.invariant c.next.new.self c.in-Some.cycle
+    c.in-Some.ensures.next c.in-Some.ensures.some c.in-Some.ensures.falls (c.is_accepted.ensures.refused c.if-is_accepted.false)
 
-pub returns-clause-next : goal.returns-clause-next
-returns-clause-next g c =
-    passes_all g.P.Fn.post g.A.Arch.puts c.args.mode c.args.walk.now c.loop-cycle.walk c.loop-cycle.invariant c.in_default.ensures.next
+pub returns : goal.returns
+returns g c =
+    passes_all g.P.Fn.post g.A.Arch.puts c.args.mode c.args.walk.now c.loop-cycle.walk c.loop-cycle.invariant c.in_default.ensures.next c.next.new.self c.in_default.ensures.none

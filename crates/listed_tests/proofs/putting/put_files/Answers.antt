@@ -1,9 +1,8 @@
 -- That `put_files` writes the files one after another.
 use Rattle.std.proofs.Common.{[], ◌∷◌, subst}
-use Rattle.std.specs.Prelude.{List, ℕ}
 use Rattle.diy_io.specs.SinkLaws.{on_err}
 use Rattle.listed_tests.specs.Putting.{PutFiles, PutPart}
-use Rattle.listed_tests.proofs.FilesPut.{files_first, files_more, files_stop, files_end}
+use Rattle.listed_tests.proofs.FilesPut.{files_first, files_more, files_stop}
 use Rattle.listed_tests.proofs.putting.put_files.Goals as goal
 
 pub loop-file-init : goal.loop-file-init

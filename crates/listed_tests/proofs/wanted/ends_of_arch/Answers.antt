@@ -1,5 +1,5 @@
 -- The last edge decides.
-use Rattle.std.proofs.Common.{sym, ◌∙◌, arith}
+use Rattle.std.proofs.Common.{sym, ◌∙◌}
 use Rattle.listed_tests.proofs.Wanting.{ends_at}
 use Rattle.listed_tests.proofs.wanted.ends_of_arch.Goals as goal
 

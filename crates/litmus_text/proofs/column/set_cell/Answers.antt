@@ -1,12 +1,12 @@
 -- The cell of a row is the header, an instruction, or nothing.
-use Rattle.std.proofs.Common.{◌-◌, arith}
+use Rattle.std.proofs.Common.{◌-◌, arith, refl}
 use Rattle.arch_trait.specs.Codes.{thread_code_of}
 use Rattle.litmus_text.proofs.TableLaws.{header_cell, op_cell, no_cell}
 use Rattle.litmus_text.proofs.column.set_cell.Goals as goal
 
 pub returns-then-row-eq0 : goal.returns-then-row-eq0
 returns-then-row-eq0 g c =
-    header_cell g.A.Arch.writing c.args.places.now (c.args.thread, thread_code_of c.args.code.now) c.args.row _ _ _ _ (omega arith) c.clear.ensures c.push_str.ensures.bytes c.push_str-then-row-eq0.ensures.bytes c.format.ensures.text
+    header_cell g.A.Arch.writing c.args.places.now (c.args.thread, thread_code_of c.args.code.now) c.args.row _ _ _ _ (omega arith) c.clear.ensures c.push_str.ensures.bytes c.push_number.ensures refl
 
 pub returns-in-Some : goal.returns-in-Some
 returns-in-Some g c =

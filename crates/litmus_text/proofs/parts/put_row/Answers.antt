@@ -1,14 +1,8 @@
--- The part of a row is its line, and after the last row the condition.
+-- The part of a row is its line, with later ones, and after the last row the condition.
 use Rattle.std.proofs.Common.{arith, ap}
 use Rattle.litmus_text.specs.Tests.{test_seen}
-use Rattle.litmus_text.proofs.TextParts.{row_put, condition_put}
+use Rattle.litmus_text.proofs.TextParts.{condition_put}
 use Rattle.litmus_text.proofs.parts.put_row.Goals as goal
-
-pub returns-then-row-table : goal.returns-then-row-table
-returns-then-row-table g c =
-    row_put g.A.Arch.writing (test_seen c.args.test.now) c.args.table.now.rows c.args.row _ _ c.requires.kept.rows
-    (omega (arith, c.if-row-table.true, ap (λ table. table.rows) c.table.view_is))
-    (rw c.as_slice.ensures.value at c.print_row.ensures.text) (rw c.as_slice.ensures.value at c.print_row.ensures.short)
 
 pub returns-else-row-table : goal.returns-else-row-table
 returns-else-row-table g c =

@@ -1,16 +1,34 @@
--- That `put_thread` makes the code of a thread after those before it.
-use Rattle.std.proofs.Common.{◌≡◌, ◌∙◌, ◌<◌, sym, ap, arith, length, take}
-use Rattle.arch_trait.specs.Writing.{name_in}
-use Rattle.test_maker.proofs.Growing.{placed}
+-- That the loads of a thread have registers, and that there is room for their terms.
+use Rattle.std.proofs.Common.{◌∙◌, ◌∷◌, [], sym, ap, subst, arith, length, length-append, map}
+use Rattle.std.proofs.lemmas.List.{length-map}
+use Rattle.arch_trait.specs.Codes.{AllBelow, thread_code_of}
+use Rattle.arch_trait.specs.Threads.{compiled}
+use Rattle.test_laws.proofs.Terms.{reads-count}
 use Rattle.test_maker.proofs.threads.put_thread.Goals as goal
 
-pub returns : goal.returns
-returns g c =
-    let room = c.have_place.new.threads in
-    let same = c.from-place.ensures in
-    let within : c.args.thread < length room.items = omega (arith, c.have_place.ensures.within, same) in
-    let before : take c.args.thread room.items ≡ take c.args.thread c.args.threads.now.items =
-    ap (λ place. take place room.items) (sym same) ∙ c.have_place.ensures.before ∙ ap (λ place. take place c.args.threads.now.items) same in
-    rw same
-    (placed g.A.Arch.puts (name_in g.A.Arch.writing.registers) c.args.thread c.args.steps.now c.args.threads.now room c.deref_mut.result.now c.put_code.new.code c.args.cond.now c.put_code.new.cond c.put_code.result
-    within before c.deref_mut.ensures.value c.put_code.ensures)
+pub last_loads-requires : goal.last_loads-requires
+last_loads-requires g c =
+    let threads = c.compile_next.new.self.items in
+    let before = map thread_code_of c.args.threads.now.items in
+    omega (
+      arith,
+      length-map threads thread_code_of,
+      ap length c.in-Ok.ensures.ok,
+      length-append before (compiled g.A.Arch.puts c.args.steps.now ∷ []),
+    )
+
+pub put_load_terms-requires-clause-loads : goal.put_load_terms-requires-clause-loads
+put_load_terms-requires-clause-loads g c =
+    let loads = c.last_loads.ensures (map thread_code_of c.args.threads.now.items) (compiled g.A.Arch.puts c.args.steps.now) c.in-Ok.ensures.ok in
+    ap length loads ∙ c.in-Ok.ensures.formed.count ∙ sym (reads-count c.args.steps.now)
+
+pub put_load_terms-requires-clause-registers : goal.put_load_terms-requires-clause-registers
+put_load_terms-requires-clause-registers g c =
+    let loads = c.last_loads.ensures (map thread_code_of c.args.threads.now.items) (compiled g.A.Arch.puts c.args.steps.now) c.in-Ok.ensures.ok in
+    subst (AllBelow g.A.Arch.puts.registers) (sym loads) c.in-Ok.ensures.formed.loads
+
+pub put_load_terms-requires-clause-room : goal.put_load_terms-requires-clause-room
+put_load_terms-requires-clause-room g c =
+    let loads = c.last_loads.ensures (map thread_code_of c.args.threads.now.items) (compiled g.A.Arch.puts c.args.steps.now) c.in-Ok.ensures.ok in
+    let long = ap length loads ∙ c.in-Ok.ensures.formed.count ∙ sym (reads-count c.args.steps.now) in
+    omega (arith, long, c.requires.terms_room)

@@ -3,7 +3,7 @@ use Rattle.std.proofs.Common.{◌∙◌, sym, ap, arith, Some}
 use Rattle.arch_trait.specs.Writing.{name_in}
 use Rattle.test_laws.specs.TestOf.{plain}
 use Rattle.test_laws.proofs.StepsFit.{steps_fit}
-use Rattle.test_maker.proofs.Growing.{grown_more, grown_refused, thread_next, thread_room, load_room}
+use Rattle.test_maker.proofs.Growing.{grown_more, grown_refused, thread_room, load_room}
 use Rattle.test_maker.proofs.threads.put_threads.Goals as goal
 
 pub put_thread-requires-clause-fit : goal.put_thread-requires-clause-fit
@@ -12,15 +12,11 @@ put_thread-requires-clause-fit g c =
     rw c.as_slice.ensures.value
     (steps_fit c.args.valued.now.edges c.args.valued.now.mode plain g.A.Arch.puts.name c.loop-thread.thread c.fill_steps.new.steps.items resolved c.requires.of_arch c.fill_steps.ensures).fit
 
-pub put_thread-requires-clause-next : goal.put_thread-requires-clause-next
-put_thread-requires-clause-next g c =
-    thread_next g.A.Arch.puts (name_in g.A.Arch.writing.registers) c.args.valued.now.edges c.args.valued.now.mode c.loop-thread.thread c.loop-thread.threads c.args.cond.now c.loop-thread.cond
-    c.loop-thread.invariant (omega arith)
-
 pub put_thread-requires-clause-room : goal.put_thread-requires-clause-room
 put_thread-requires-clause-room g c =
     let resolved = rw c.resolved.ensures at c.cycle-edges.ensures.resolved in
-    thread_room c.args.valued.now.edges c.args.valued.now.mode c.loop-thread.thread resolved (omega arith)
+    thread_room g.A.Arch.puts (name_in g.A.Arch.writing.registers) c.args.valued.now.edges c.args.valued.now.mode c.loop-thread.thread c.loop-thread.threads c.args.cond.now c.loop-thread.cond
+    resolved c.loop-thread.invariant (omega arith)
 
 pub put_thread-requires-clause-terms_room : goal.put_thread-requires-clause-terms_room
 put_thread-requires-clause-terms_room g c =

@@ -1,6 +1,6 @@
 -- That `list_tests` leaves what a listing is to leave.
 use Rattle.std.proofs.Common.{◌≡◌, ◌∙◌, ap, rules, refl}
-use Rattle.listed_tests.proofs.listing.list_tests.Goals as goal
+use Rattle.listed_tests.proofs.listing.list_with.Goals as goal
 
 pub list_walk-requires-clause-sought : goal.list_walk-requires-clause-sought
 list_walk-requires-clause-sought g c = λ u cycle. (λ said. search rules, λ yes. record { shown = record { ref_ptr = (0, 0); now = u }; shows = refl; met = search rules })

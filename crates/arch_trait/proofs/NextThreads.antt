@@ -1,0 +1,24 @@
+-- The code of the threads of a test, as one more is made in its place.
+use Rattle.std.proofs.Common.{◌≡◌, ℕ, ◌+◌, ◌<◌, ◌≤◌, List, [], ◌∷◌, ◌++◌, ◌∙◌, ap, arith, length, take, map, append-nil}
+use Rattle.std.specs.Prelude.{slice_set}
+use Rattle.std.specs.List.{refill}
+use Rattle.std.proofs.lemmas.List.{drop_all, length-set, map-append, take_all, take_more_set}
+
+-- a vector whose elements are written over by as many others has these
+written_over : {X : Type 0} (xs ys : List X) → length ys ≡ length xs → refill (length xs) xs ys ≡ ys
+written_over xs ys e =
+    ap (λ rest. take (length xs) (ys ++ rest)) (drop_all (length ys) xs (omega (arith, e)))
+    ∙ ap (take (length xs)) (append-nil ys) ∙ take_all (length xs) ys (omega (arith, e))
+
+-- the code of the next thread is made in its place
+pub next_made : {X Y : Type 0} (f : X → Y) (xs codes : List X) (n : ℕ) (x : X) (y : Y) → n < length xs → codes ≡ xs → f x ≡ y →
+    map f (take (n + 1) (refill (length xs) xs (slice_set codes n x))) ≡ map f (take n xs) ++ y ∷ []
+next_made f xs codes n x y within same is =
+    ap (λ cs. map f (take (n + 1) cs))
+    (written_over xs (slice_set codes n x) (length-set codes n x ∙ ap length same) ∙ ap (λ cs. slice_set cs n x) same)
+    ∙ ap (map f) (take_more_set xs n x within) ∙ map-append f (take n xs) (x ∷ []) ∙ ap (λ z. map f (take n xs) ++ z ∷ []) is
+
+-- the next thread is among those that are there
+pub next_within : {X : Type 0} (xs codes : List X) (n : ℕ) (x : X) → n < length xs → codes ≡ xs → n + 1 ≤ length (refill (length xs) xs (slice_set codes n x))
+next_within xs codes n x within same =
+    omega (arith, within, ap length (written_over xs (slice_set codes n x) (length-set codes n x ∙ ap length same)), length-set codes n x, ap length same)

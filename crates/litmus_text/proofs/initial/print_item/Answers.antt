@@ -1,0 +1,10 @@
+-- An item has room.
+use Rattle.std.proofs.Common.{arith, ap, length}
+use Rattle.litmus_text.proofs.ItemText.{item_short}
+use Rattle.litmus_text.proofs.initial.print_item.Goals as goal
+
+pub returns-clause-short : goal.returns-clause-short
+returns-clause-short g c =
+    item_short g.A.Arch.writing c.args.places.now c.args.i c.args.thread c.args.link (omega arith)
+    (omega (arith, ap length c.register_name.ensures, ap length c.as_str.ensures.value, c.as_str.ensures.fits))
+    (omega (arith, ap length c.get.ensures, ap length c.as_str-2.ensures.value, c.as_str-2.ensures.fits))
