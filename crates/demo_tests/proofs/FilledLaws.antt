@@ -1,6 +1,6 @@
 -- The edges picked for a family's cycle are a cycle, and those for its links are choices.
-use Rattle.std.proofs.Common.{◌≡◌, ◌<◌, ◌≤◌, ℕ, suc, ◌%◌, Bool, true, List, [], ◌∷◌, ◌++◌, length, Ok, Err, refl, sym, ap, ◌∙◌, arith, subst}
-use Rattle.std.specs.Prelude.{◌&&◌, MatchBool, Result, nat_lt, nat_le}
+use Rattle.std.proofs.Common.{◌≡◌, ◌<◌, ◌≤◌, ℕ, suc, ◌%◌, Bool, true, List, [], ◌∷◌, ◌++◌, length, refl, sym, ap, ◌∙◌, arith, subst}
+use Rattle.std.specs.Prelude.{◌&&◌, MatchBool, nat_lt, nat_le}
 use Rattle.std.specs.List.{All, IsAmong, list_all}
 use Rattle.std.proofs.lemmas.Bool.{and_parts}
 use Rattle.std.proofs.lemmas.Bool.Decides.{nat_tests}
@@ -16,14 +16,11 @@ use Rattle.relax_edges.specs.declared.edge.Edge.{Edge}
 use Rattle.relax_edges.specs.EdgeTable.{source_of, target_of, source_mark, target_mark, same_dir, same_mark, is_external}
 use Rattle.relax_edges.specs.JoinedEdges.{is_joined}
 use Rattle.cycle_laws.specs.Composable.{IsCycle, is_closed}
-use Rattle.edge_algebra.specs.declared.errors.CycleError.{CycleError}
-use Rattle.edge_algebra.specs.Compose.{composed}
-use Rattle.edge_algebra.specs.ComposingLaws.{composes_exactly}
 use Rattle.cycle_names.specs.declared.family.Family.{Family}
 use Rattle.cycle_names.specs.Families.{all_families, family_edges}
 use Rattle.demo_tests.specs.Draws.{drawn, next_seed}
 use Rattle.family_laws.specs.Filled.{is_choice, IsFilled}
-use Rattle.demo_tests.specs.FilledLinks.{choices_of, choice_of, edge_for, seed_past, links_filled}
+use Rattle.demo_tests.specs.FilledLinks.{IsFamilyCycle, choices_of, choice_of, edge_for, seed_past, links_filled}
 use Rattle.demo_tests.proofs.ChoiceLaws.{some_choices}
 
 -- what is picked is a choice
@@ -166,18 +163,9 @@ filled_cycle arch seed family h =
     let same = alike_length edges slots alike in
     record { some = omega (arith, same, own.some); few = omega (arith, same, own.short); closed = alike_closed edges slots alike ∙ own.closed }
 
--- so the edges compose
-pub never_refused : (arch : ArchName) (seed : ℕ) (family : Family) (edges : List Edge) (error : CycleError) → IsAmong all_families family
-    → edges ≡ links_filled arch seed (family_edges family) → Err error ≡ composed edges → ⊥
-never_refused arch seed family edges error h e refused =
-    let made : composed edges ≡ Ok edges = (composes_exactly.cycle edges).1 (rw e (filled_cycle arch seed family h)) in
-    not_both (refused ∙ made)
-  where
-    not_both : {v : List Edge} {x : CycleError} → ◌≡◌ {A = Result (List Edge) CycleError} (Err x) (Ok v) → ⊥
-    not_both z = cc
-
--- the edges that the steps pick are those picked for the family's cycle
-pub filled_from : (arch : ArchName) (seed : ℕ) (family : Family) (slots shown start edges whole : List Edge) → slots ≡ family_edges family → shown ≡ slots → start ≡ []
-    → edges ≡ start ++ links_filled arch seed shown → whole ≡ edges → whole ≡ links_filled arch seed (family_edges family)
-filled_from arch seed family slots shown start edges whole s t n e w =
-    w ∙ e ∙ ap (λ u. u ++ links_filled arch seed shown) n ∙ ap (links_filled arch seed) (t ∙ s)
+-- the edges that the steps pick for the edges of a family's cycle are a cycle
+pub filled_from : (arch : ArchName) (seed : ℕ) (slots start edges whole : List Edge) → IsFamilyCycle slots → start ≡ [] → edges ≡ start ++ links_filled arch seed slots → whole ≡ edges
+    → (whole ≡ links_filled arch seed slots) × IsCycle whole
+filled_from arch seed slots start edges whole h n e w =
+    let same : whole ≡ links_filled arch seed slots = w ∙ e ∙ ap (λ u. u ++ links_filled arch seed slots) n in
+    (same, rw (same, h.edges) (filled_cycle arch seed h.family h.listed))

@@ -1,11 +1,11 @@
 -- What is counted of tests grows with each test, and stays small.
-use Rattle.std.proofs.Common.{◌≡◌, ◌<◌, ◌≤◌, ◌+◌, ◌*◌, ◌%◌, ℕ, zero, suc, List, [], ◌∷◌, ◌++◌, length, get_or, map, refl, sym, ap, ◌∙◌, arith, add-one, length-append, append-nil}
+use Rattle.std.proofs.Common.{◌≡◌, ◌<◌, ◌≤◌, ◌+◌, ◌*◌, ◌%◌, ℕ, zero, suc, List, [], ◌∷◌, ◌++◌, length, get_or, take, drop, map, refl, sym, ap, ◌∙◌, arith, add-one, length-append, append-nil}
 use Rattle.std.specs.Prelude.{cond, filter, replicate, codes, ◌==◌, slice_set, slice_index_or, None}
 use Rattle.std.specs.List.{All, sum_by, IsAmong}
 use Rattle.std.proofs.lemmas.Bool.{eqb-true, cond-true, cond-false}
 use Rattle.std.proofs.lemmas.List.{get_or_default}
 use Rattle.std.proofs.lemmas.List.Elements.{filter-append, All-map}
-use Rattle.std.proofs.lemmas.List.Sums.{sum_by_push, sum_by-le, length-filter, count_by-le-length}
+use Rattle.std.proofs.lemmas.List.Sums.{sum_by_push, sum_by-take-drop, sum_by-le, length-filter, count_by-le-length}
 use Rattle.list_laws.specs.Numbers.{upto}
 use Rattle.list_laws.proofs.Cases.{by_test}
 use Rattle.list_laws.proofs.Numbers.{length-upto, get_or-map-upto}
@@ -29,45 +29,44 @@ use Rattle.printed_test_laws.proofs.Cycles.{cycle_text_short}
 use Rattle.demo_tests.specs.declared.tally.TestTally.{TestTally}
 use Rattle.demo_tests.specs.TestCounting.{nothing_counted, test_counted, Fits}
 use Rattle.family_laws.specs.Filled.{MakesAll}
-use Rattle.demo_tests.specs.FilledLinks.{links_filled, seed_after}
+use Rattle.demo_tests.specs.FilledLinks.{IsFamilyCycle, links_filled, seed_after}
 use Rattle.demo_tests.specs.DemoText.{demo_text, family_lines, tally_line}
 use Rattle.demo_tests.specs.Tallies.{family_tally_place, slots_of, seed_of, numbered_cycle, numbered_text, family_numbers, tally_of_tests, family_tallies}
 use Rattle.demo_tests.proofs.FilledLaws.{is_filled, filled_cycle}
 use Rattle.demo_tests.proofs.Texts.{line_feeds_few}
 
 -- a family of the table by its place
-pub family_among : (place : ℕ) (d : Family) → place < 14 → IsAmong all_families (slice_index_or all_families place d)
+family_among : (place : ℕ) (d : Family) → place < 14 → IsAmong all_families (slice_index_or all_families place d)
 family_among place d h = (place, (h, get_or_default all_families place d (slice_index_or all_families place d) h))
 
-family_at : (number : ℕ) (d : Family) → slice_index_or all_families (number % 14) d ≡ slice_index_or all_families (family_tally_place number) Other
-family_at number d = get_or_default all_families (number % 14) d Other (omega arith)
+-- the cycle of the family of a test is that of a family of the table
+pub family_cycle : (number : ℕ) (slots : List Edge) → slots ≡ slots_of number → IsFamilyCycle slots
+family_cycle number slots h =
+    let place = family_tally_place number in
+    record { family = slice_index_or all_families place Other; listed = family_among place Other (omega arith); edges = h }
 
 -- the seed for the next test
-pub next_seed_of : (number seed old : ℕ) (d : Family) → old ≡ seed_of number → seed ≡ seed_after old (family_edges (slice_index_or all_families (number % 14) d)) → seed ≡ seed_of (number + 1)
-next_seed_of number seed old d o h =
-    let slots : family_edges (slice_index_or all_families (number % 14) d) ≡ slots_of number = ap family_edges (family_at number d) in
-    h ∙ ap (λ s. seed_after s (family_edges (slice_index_or all_families (number % 14) d))) o ∙ ap (seed_after (seed_of number)) slots ∙ ap seed_of (sym (add-one number))
+pub next_seed_of : (number seed old : ℕ) (slots : List Edge) → slots ≡ slots_of number → old ≡ seed_of number → seed ≡ seed_after old slots → seed ≡ seed_of (number + 1)
+next_seed_of number seed old slots s o h = h ∙ ap (seed_after old) s ∙ ap (λ n. seed_after n (slots_of number)) o ∙ ap seed_of (sym (add-one number))
 
 -- the tally of the text of a test
 abbrev pub text_tally : List ℕ → Tally
 text_tally text = sinks.tally_of (length text) (line_feed_count text)
 
 -- a cycle is that of a test
-numbered_so : (puts : Puts) (arch : ArchName) (number old : ℕ) (d : Family) (cycle : List Edge) → arch ≡ puts.name → old ≡ seed_of number
-    → cycle ≡ links_filled arch old (family_edges (slice_index_or all_families (number % 14) d)) → cycle ≡ numbered_cycle puts.name number
+numbered_so : (puts : Puts) (arch : ArchName) (number old : ℕ) (slots cycle : List Edge) → arch ≡ puts.name → slots ≡ slots_of number → old ≡ seed_of number
+    → cycle ≡ links_filled arch old slots → cycle ≡ numbered_cycle puts.name number
 unfolding numbered_cycle
-numbered_so puts arch number old d cycle same o h =
-    let slots : family_edges (slice_index_or all_families (number % 14) d) ≡ slots_of number = ap family_edges (family_at number d) in
-    h ∙ ap (λ n. links_filled n old (family_edges (slice_index_or all_families (number % 14) d))) same
-    ∙ ap (λ s. links_filled puts.name s (family_edges (slice_index_or all_families (number % 14) d))) o ∙ ap (links_filled puts.name (seed_of number)) slots
+numbered_so puts arch number old slots cycle same s o h =
+    h ∙ ap (links_filled arch old) s ∙ ap (λ n. links_filled n old (slots_of number)) same ∙ ap (λ n. links_filled puts.name n (slots_of number)) o
 
 -- its text is the test's
-pub text_so : (puts : Puts) (w : Writing) (arch : ArchName) (number old : ℕ) (d : Family) (cycle : List Edge) (text : Tally) → arch ≡ puts.name → old ≡ seed_of number
-    → cycle ≡ links_filled arch old (family_edges (slice_index_or all_families (number % 14) d)) → text ≡ text_tally (cycle_text puts w Accept (name_of cycle) cycle)
+pub text_so : (puts : Puts) (w : Writing) (arch : ArchName) (number old : ℕ) (slots cycle : List Edge) (text : Tally) → arch ≡ puts.name → slots ≡ slots_of number → old ≡ seed_of number
+    → cycle ≡ links_filled arch old slots → text ≡ text_tally (cycle_text puts w Accept (name_of cycle) cycle)
     → text ≡ text_tally (numbered_text puts w number)
 unfolding numbered_text
-text_so puts w arch number old d cycle text same o h e =
-    e ∙ ap (λ u. text_tally (cycle_text puts w Accept (name_of u) u)) (numbered_so puts arch number old d cycle same o h)
+text_so puts w arch number old slots cycle text same s o h e =
+    e ∙ ap (λ u. text_tally (cycle_text puts w Accept (name_of u) u)) (numbered_so puts arch number old slots cycle same s o h)
 
 -- a cycle picked for a family of the table has a test
 pub accepted : (puts : Puts) (arch : ArchName) → MakesAll puts → (family : Family) (seed : ℕ) (cycle : List Edge) → IsAmong all_families family → arch ≡ puts.name → cycle ≡ links_filled arch seed (family_edges family)
@@ -210,3 +209,8 @@ pub summary_is : (puts : Puts) (w : Writing) (count : ℕ) (families : List Test
     → family_lines all_families families ++ tally_line (codes "total") all ≡ demo_text puts w count
 unfolding demo_text
 summary_is puts w count families all f a = ap (λ fs. family_lines all_families fs ++ tally_line (codes "total") all) f ∙ ap (λ t. family_lines all_families (family_tallies (numbered_text puts w) count) ++ tally_line (codes "total") t) a
+
+-- the line feeds of a text are those of its first bytes and those of the bytes after them
+pub line_feeds_parted : (count : ℕ) (text front back : List ℕ) → front ≡ take count text → back ≡ drop count text
+    → line_feed_count front + line_feed_count back ≡ line_feed_count text
+line_feeds_parted count text front back f b = rw (f, b) (sum_by-take-drop _ text count)

@@ -1,14 +1,11 @@
 ghost use Rattle.std.specs.Prelude.{◌≡◌, ◌+◌, ◌≤◌, ◌++◌, length};
-ghost use Rattle.std.specs.List.{IsAmong};
 ghost use Rattle.relax_edges.specs.declared.TheConstants.{MAX_EDGES};
-ghost use Rattle.cycle_names.specs.Families.{all_families, family_edges};
-ghost use Rattle.demo_tests.specs.FilledLinks.{edge_for, links_filled, seed_after, seed_past};
+ghost use Rattle.demo_tests.specs.FilledLinks.{IsFamilyCycle, edge_for, links_filled, seed_after, seed_past};
 
 use crate::choices::Choices;
 use crate::draws::Draws;
 use arrayvec::ArrayVec;
-use cycle_names::{Family, edges_of};
-use edge_algebra::{Cycle, cycle};
+use edge_algebra::Cycle;
 use relax_edges::{Edge, MAX_EDGES};
 
 pub(crate) type Edges = ArrayVec<Edge, MAX_EDGES>;
@@ -39,22 +36,19 @@ fn fill(slots: &[Edge], choices: &Choices, draws: &mut Draws, edges: &mut Edges)
     }
 }
 
-/// The cycle of a test of a family. It is drawn in `edges`, and what these were before doesn't count.
+/// The cycle of a test of a family whose cycle has the edges `slots`. It is drawn in `edges`, and what these were before doesn't
+/// count.
 pub(crate) fn draw_cycle(
-    family: Family,
+    slots: &[Edge],
     choices: &Choices,
     draws: &mut Draws,
     edges: &mut Edges,
 ) -> Cycle
-    requires { IsAmong all_families family }
-    ensures cycle { result ≡ links_filled choices.now.arch draws.old.seed (family_edges family) }
-    ensures seed { draws.new.seed ≡ seed_after draws.old.seed (family_edges family) }
+    requires { IsFamilyCycle slots.now }
+    ensures cycle { result ≡ links_filled choices.now.arch draws.old.seed slots.now }
+    ensures seed { draws.new.seed ≡ seed_after draws.old.seed slots.now }
 {
-    let slots = edges_of(family);
     edges.clear();
-    fill(slots.as_slice(), choices, draws, edges);
-    match cycle(edges.as_slice()) {
-        Ok(cycle) => cycle,
-        Err(_) => unreachable!(),
-    }
+    fill(slots, choices, draws, edges);
+    Cycle::of(edges.as_slice())
 }

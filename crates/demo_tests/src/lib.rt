@@ -3,6 +3,7 @@
 
 mod choices;
 mod draws;
+mod family_cycles;
 mod filling;
 mod making;
 mod measure;

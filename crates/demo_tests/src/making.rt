@@ -7,6 +7,7 @@ ghost use Rattle.demo_tests.specs.Tallies.{family_tallies, numbered_text, tally_
 
 use crate::choices::Choices;
 use crate::draws::Draws;
+use crate::family_cycles::FamilyCycles;
 use crate::filling::{Edges, draw_cycle};
 use crate::measure::Desk;
 use crate::summary::Summary;
@@ -41,6 +42,7 @@ fn tally_tests<A: Arch>(count: u32, test: &mut Test) -> Summary
     ensures families { result.families ≡ family_tallies (numbered_text A.puts A.writing) count }
     ensures all { result.all ≡ tally_of_tests (numbered_text A.puts A.writing) (upto count) }
 {
+    let cycles = FamilyCycles::new();
     let choices = Choices::new(A::NAME);
     let mut draws = Draws::new();
     let mut edges = Edges::new();
@@ -48,8 +50,8 @@ fn tally_tests<A: Arch>(count: u32, test: &mut Test) -> Summary
     let mut summary = Summary::new();
     for number in 0..count {
         let place = number as usize % FAMILIES.len();
-        let cycle = draw_cycle(FAMILIES[place], &choices, &mut draws, &mut edges);
-        let text = desk.measure::<A>(&cycle, test);
+        let slots = cycles.edges(place);
+        let text = desk.measure::<A>(&draw_cycle(slots, &choices, &mut draws, &mut edges), test);
         summary.count(place, &text);
     }
     summary

@@ -1,11 +1,11 @@
--- How the count of line feeds grows byte by byte.
-use Rattle.std.proofs.Common.{◌≡◌, ◌≤◌, take}
+-- How the count of line feeds grows chunk by chunk, and why it ends.
+use Rattle.std.proofs.Common.{◌≡◌, ◌+◌, length}
 use Rattle.diy_io.specs.Sink.{line_feed_count}
 use Rattle.demo_tests.proofs.text_tally.count_line_feeds.Given as goal
 
--- the line feeds before the place are counted
-abbrev pub invariant-loop-byte : goal.invariant-loop-byte
-invariant-loop-byte l = record {
-  counted : l.count ≡ line_feed_count (take l.byte-index l.text);
-  few : l.count ≤ l.byte-index;
-}
+-- the line feeds that are counted and those that are left are those of the text
+abbrev pub invariant-loop-left : goal.invariant-loop-left
+invariant-loop-left l = l.count + line_feed_count l.left ≡ line_feed_count l.text
+
+abbrev pub decreases-loop-left : goal.decreases-loop-left
+decreases-loop-left l = length l.left
