@@ -15,7 +15,6 @@ use Rattle.micro_ops.specs.declared.operation.Barrier.TheVariants as barriers
 use Rattle.micro_ops.specs.Machine.{num, bit}
 use Rattle.micro_ops.specs.Running.{Run, At, go, exec, labels_of, lands}
 use Rattle.arch_laws.proofs.Rules.{holding}
-use Rattle.micro_ops.specs.RunLaws.{exec_append}
 use Rattle.arch_trait.specs.declared.link.Link.{Link}
 use Rattle.arch_trait.specs.declared.link.Link.TheVariants as links
 use Rattle.arch_trait.specs.Links.{link_is_of, depends_on_load, is_addr, is_data, mask_if, source_if, link_control, link_items}
@@ -56,18 +55,18 @@ link_runs own keeps links.Data from n r k source = did_nothing r
 link_runs own keeps links.Ctrl from n r k source =
     on_source r from k
     (λ o. DidLink (link_code own links.Ctrl o n) r [] (link_control links.Ctrl k r.state.control))
-    (source refl) (λ s v h. keeps.branch_runs s n v k r h)
+    (source refl) (λ s v h. keeps.branch.runs s n v k r h)
 link_runs own keeps links.CtrlIsync from n r k source =
     on_source r from k
     (λ o. DidLink (link_code own links.CtrlIsync o n) r (link_items links.CtrlIsync k r.state.control)
     (link_control links.CtrlIsync k r.state.control))
     (source refl)
-    (λ s v h. did_after own (barriers.Fence fences.ISync) s n r _ (keeps.branch_runs s n v k r h))
+    (λ s v h. did_after own (barriers.Fence fences.ISync) s n r _ (keeps.branch.runs s n v k r h))
 link_runs own keeps links.CtrlIsb from n r k source =
     on_source r from k
     (λ o. DidLink (link_code own links.CtrlIsb o n) r (link_items links.CtrlIsb k r.state.control)
     (link_control links.CtrlIsb k r.state.control))
-    (source refl) (λ s v h. did_after own barriers.Isb s n r _ (keeps.branch_runs s n v k r h))
+    (source refl) (λ s v h. did_after own barriers.Isb s n r _ (keeps.branch.runs s n v k r h))
 
 -- what is to be shown of a load
 abbrev pub LoadRuns : Instructions → Taken → Mark → Run → ℕ → ℕ → ℕ → List ℕ → Bool → Option ℕ → Type 0
@@ -208,7 +207,7 @@ store_of_sum own keeps g mark fits r p v k taken small s n e places =
     (ap (λ q. go (store_op mark g.next (address_of i p)) (go (own.joins g.next v) q))
     (xor_runs g.next s n k r e) ∙
     (ap (λ q. go (store_op mark g.next (address_of i p)) q)
-    (keeps.joins_runs g.next v (bit k) u small (written_same r.state.regs g.next (num 0 (bit k)))) ∙
+    (keeps.joining.runs g.next v (bit k) u small (written_same r.state.regs g.next (num 0 (bit k)))) ∙
     store_op_runs mark fits g.next (address_of i p) p v 0 (bit k) t (x.places p (address_of i p) (address_is i p))
     (written_same u.state.regs g.next (num v (bit k)))))
     x refl refl refl refl
@@ -323,7 +322,7 @@ store_bare own keeps g mark p v None None =
     let short = both_short (ops.Imm g.next v) mark g.next (address_of (took g 1) p) (imm_short g.next v) in
     record { labels = short.labels; lands = short.lands; no_place = short.no_place }
 store_bare own keeps g mark p v None (Some s) =
-    let short = both_short (own.joins g.next v) mark g.next (address_of (took g 1) p) (keeps.joins_short g.next v) in
+    let short = both_short (own.joins g.next v) mark g.next (address_of (took g 1) p) (keeps.joining.short g.next v) in
     record { labels = short.labels; lands = short.lands; no_place = short.no_place }
 store_bare own keeps g mark p v (Some s) d =
     let short = store_through_short own keeps mark g.next (g.next + 1) (address_of (took g 2) p) in
@@ -431,7 +430,7 @@ branch_room : (own : Instructions) → KeepsInstructions own → (from : Option 
     length (branch_code own from n rest) ≤ 3 + length rest
 branch_room own keeps None n rest = omega arith
 branch_room own keeps (Some s) n rest =
-    omega (arith, length-append (own.branch s n) (ops.Label n ∷ rest), keeps.branch_room s n)
+    omega (arith, length-append (own.branch s n) (ops.Label n ∷ rest), keeps.branch.room s n)
 
 link_short : (own : Instructions) → KeepsInstructions own → (link : Link) (from : Option ℕ) (n : ℕ) →
     length (link_code own link from n) ≤ link_room link
@@ -451,13 +450,13 @@ link_labels_are own keeps links.Plain from n h = refl
 link_labels_are own keeps (links.Fence kind) from n h = refl
 link_labels_are own keeps links.Addr from n h = refl
 link_labels_are own keeps links.Data from n h = refl
-link_labels_are own keeps links.Ctrl (Some s) n h = keeps.branch_labels s n []
+link_labels_are own keeps links.Ctrl (Some s) n h = keeps.branch.label s n []
 link_labels_are own keeps links.Ctrl None n h = let e : false ≡ true = h.given refl in cc
 link_labels_are own keeps links.CtrlIsync (Some s) n h =
-    keeps.branch_labels s n (ops.Barrier (barriers.Fence fences.ISync) ∷ [])
+    keeps.branch.label s n (ops.Barrier (barriers.Fence fences.ISync) ∷ [])
 link_labels_are own keeps links.CtrlIsync None n h = let e : false ≡ true = h.given refl in cc
 link_labels_are own keeps links.CtrlIsb (Some s) n h =
-    keeps.branch_labels s n (ops.Barrier barriers.Isb ∷ [])
+    keeps.branch.label s n (ops.Barrier barriers.Isb ∷ [])
 link_labels_are own keeps links.CtrlIsb None n h = let e : false ≡ true = h.given refl in cc
 
 -- what holds of no code, of a barrier, and of a branch where it holds of what comes after the branch, holds of the code
@@ -482,12 +481,12 @@ code_of_link own Holds none barrier branch link from n = of_link link
 
 link_lands : (own : Instructions) → KeepsInstructions own → (link : Link) (from : Option ℕ) (n : ℕ) →
     lands (link_code own link from n) ≡ true
-link_lands own keeps link from n = code_of_link own (λ code. lands code ≡ true) refl (λ kind. refl) keeps.branch_lands link from n
+link_lands own keeps link from n = code_of_link own (λ code. lands code ≡ true) refl (λ kind. refl) keeps.branch.jumps link from n
 
 link_no_place : (own : Instructions) → KeepsInstructions own → (link : Link) (from : Option ℕ) (n p : ℕ) →
     list_all (is_at_place p) (link_code own link from n) ≡ true
 link_no_place own keeps link from n p =
-    code_of_link own (λ code. list_all (is_at_place p) code ≡ true) refl (λ kind. refl) (λ s n rest h. keeps.branch_no_place s n p rest h) link from n
+    code_of_link own (λ code. list_all (is_at_place p) code ≡ true) refl (λ kind. refl) (λ s n rest h. keeps.branch.no_place s n p rest h) link from n
 
 branch_has : (own : Instructions) → KeepsInstructions own → (from : Option ℕ) (n : ℕ) (rest : List Micro) →
     IsUsable own.registers from → list_all own.has rest ≡ true →

@@ -21,6 +21,7 @@ use Rattle.arch_laws.proofs.Rules.{holding, after_load, after_store, run_load, r
 use Rattle.micro_ops.specs.RunLaws.{labels_append, lands_append}
 use Rattle.arch_trait.specs.declared.link.Link.TheVariants as links
 use Rattle.arch_trait.specs.Links.{link_is_of}
+use Rattle.arch_trait.specs.Cells.{is_access, access_count}
 use Rattle.arch_trait.specs.Laws.{DidLink, IsWanting, is_at_place}
 use Rattle.arch_trait.specs.Addressed.{Instructions, load_op, store_op, load_through, store_through}
 use Rattle.arch_laws.proofs.Accesses.{written_same, written_other}
@@ -68,18 +69,44 @@ pub record HasMarked (own : Instructions) : Type 0 where
   pub release : (v a : ℕ) → v < own.registers → a < own.registers → own.has (ops.StoreRel v a) ≡ true
   pub sum : (d a : ℕ) → d < own.registers → a < own.registers → own.has (ops.Add d a d) ≡ true
 
--- what the instructions of an architecture keep
+-- a branch to label n that depends on register s
+pub record IsBranch (branch : ℕ → ℕ → List Micro) : Type 0 where
+  pub runs : (s n v k : ℕ) (r : Run) → r.state.regs s ≡ num v (bit k) →
+      DidLink (branch s n ++ ops.Label n ∷ []) r [] (bit_or r.state.control (bit k))
+  pub room : (s n : ℕ) → length (branch s n) ≤ 2
+  pub label : (s n : ℕ) (rest : List Micro) → labels_of (branch s n ++ ops.Label n ∷ rest) ≡ n ∷ labels_of rest
+  pub jumps : (s n : ℕ) (rest : List Micro) → lands rest ≡ true → lands (branch s n ++ ops.Label n ∷ rest) ≡ true
+  pub no_place : (s n p : ℕ) (rest : List Micro) → list_all (is_at_place p) rest ≡ true →
+      list_all (is_at_place p) (branch s n ++ ops.Label n ∷ rest) ≡ true
+  pub no_access : (s n : ℕ) (rest : List Micro) → access_count (branch s n ++ ops.Label n ∷ rest) ≡ access_count rest
+
+-- a load and a store of register v at the address in register a, so that it depends on register d, which holds 0
+pub record AreDependent (load store : ℕ → ℕ → ℕ → List Micro) : Type 0 where
+  pub load_runs : (d v a p n mask : ℕ) (vs : List ℕ) (r : Run) → r.state.regs a ≡ held_at_place p →
+      r.state.regs d ≡ num 0 mask → r.reads ≡ n ∷ vs → LoadsBy Plain (load d v a) r d v p n mask vs
+  pub load_wants : (d v a p mask : ℕ) (r : Run) → r.state.regs a ≡ held_at_place p →
+      r.state.regs d ≡ num 0 mask → r.reads ≡ [] → IsWanting (exec (load d v a) (At r))
+  pub load_short : (d v a : ℕ) → IsShort (load d v a)
+  pub load_once : (d v a : ℕ) → access_count (load d v a) ≡ 1
+  pub store_runs : (d v a p n mask : ℕ) (r : Run) → r.state.regs a ≡ held_at_place p →
+      r.state.regs d ≡ num 0 mask → r.state.regs v ≡ num n 0 → (v == d) ≡ false →
+      StoresBy Plain (store d v a) r d p n mask
+  pub store_short : (d v a : ℕ) → IsShort (store d v a)
+  pub store_once : (d v a : ℕ) → access_count (store d v a) ≡ 1
+
+-- what makes register d, which holds 0, the number n and keeps its dependency
+pub record IsJoining (joins : ℕ → ℕ → Micro) : Type 0 where
+  pub runs : (d n mask : ℕ) (r : Run) → n < 256 → r.state.regs d ≡ num 0 mask →
+      go (joins d n) (At r) ≡ At (holding r d (num n mask))
+  pub short : (d n : ℕ) → IsShort (joins d n ∷ [])
+  pub no_access : (d n : ℕ) → is_access (joins d n) ≡ false
+
+-- what an architecture shows: its own instructions are of such sorts, and it has all of which its code is made
 pub record KeepsInstructions (own : Instructions) : Type 0 where
   pub few : own.registers ≤ 32
-  pub branch_runs : (s n v k : ℕ) (r : Run) → r.state.regs s ≡ num v (bit k) →
-      DidLink (own.branch s n ++ ops.Label n ∷ []) r [] (bit_or r.state.control (bit k))
-  pub branch_room : (s n : ℕ) → length (own.branch s n) ≤ 2
-  pub branch_labels : (s n : ℕ) (rest : List Micro) →
-      labels_of (own.branch s n ++ ops.Label n ∷ rest) ≡ n ∷ labels_of rest
-  pub branch_lands : (s n : ℕ) (rest : List Micro) → lands rest ≡ true →
-      lands (own.branch s n ++ ops.Label n ∷ rest) ≡ true
-  pub branch_no_place : (s n p : ℕ) (rest : List Micro) → list_all (is_at_place p) rest ≡ true →
-      list_all (is_at_place p) (own.branch s n ++ ops.Label n ∷ rest) ≡ true
+  pub branch : IsBranch own.branch
+  pub accesses : AreDependent own.load own.store
+  pub joining : IsJoining own.joins
   pub branch_has : (s n : ℕ) (rest : List Micro) → s < own.registers → list_all own.has rest ≡ true →
       list_all own.has (own.branch s n ++ ops.Label n ∷ rest) ≡ true
   pub fence_has : (kind : FenceKind) → fence_is_of kind own.name ≡ true →
@@ -87,29 +114,15 @@ pub record KeepsInstructions (own : Instructions) : Type 0 where
   pub isync_has : link_is_of links.CtrlIsync own.name ≡ true →
       own.has (ops.Barrier (barriers.Fence fences.ISync)) ≡ true
   pub isb_has : link_is_of links.CtrlIsb own.name ≡ true → own.has (ops.Barrier barriers.Isb) ≡ true
-  pub load_runs : (d v a p n mask : ℕ) (vs : List ℕ) (r : Run) → r.state.regs a ≡ held_at_place p →
-      r.state.regs d ≡ num 0 mask → r.reads ≡ n ∷ vs → LoadsBy Plain (own.load d v a) r d v p n mask vs
-  pub load_wants : (d v a p mask : ℕ) (r : Run) → r.state.regs a ≡ held_at_place p →
-      r.state.regs d ≡ num 0 mask → r.reads ≡ [] → IsWanting (exec (own.load d v a) (At r))
-  pub load_short : (d v a : ℕ) → IsShort (own.load d v a)
   pub load_has : (d v a : ℕ) → d < own.registers → v < own.registers → a < own.registers →
       list_all own.has (own.load d v a) ≡ true
-  pub store_runs : (d v a p n mask : ℕ) (r : Run) → r.state.regs a ≡ held_at_place p →
-      r.state.regs d ≡ num 0 mask → r.state.regs v ≡ num n 0 → (v == d) ≡ false →
-      StoresBy Plain (own.store d v a) r d p n mask
-  pub store_short : (d v a : ℕ) → IsShort (own.store d v a)
   pub store_has : (d v a : ℕ) → d < own.registers → v < own.registers → a < own.registers →
       list_all own.has (own.store d v a) ≡ true
-  pub joins_runs : (d n mask : ℕ) (r : Run) → n < 256 → r.state.regs d ≡ num 0 mask →
-      go (own.joins d n) (At r) ≡ At (holding r d (num n mask))
-  pub joins_short : (d n : ℕ) → IsShort (own.joins d n ∷ [])
   pub joins_has : (d n : ℕ) → d < own.registers → n < 256 → own.has (own.joins d n) ≡ true
   pub xor_has : (d s : ℕ) → d < own.registers → s < own.registers → own.has (ops.Xor d s s) ≡ true
   pub imm_has : (d n : ℕ) → d < own.registers → n < 256 → own.has (ops.Imm d n) ≡ true
-  pub plain_load_has : (v a : ℕ) → v < own.registers → a < own.registers →
-      own.has (ops.Load v a None) ≡ true
-  pub plain_store_has : (v a : ℕ) → v < own.registers → a < own.registers →
-      own.has (ops.Store v a None) ≡ true
+  pub plain_load_has : (v a : ℕ) → v < own.registers → a < own.registers → own.has (ops.Load v a None) ≡ true
+  pub plain_store_has : (v a : ℕ) → v < own.registers → a < own.registers → own.has (ops.Store v a None) ≡ true
   pub marked_has : mark_is_of Acquire own.name ≡ true → HasMarked own
 
 -- a load of a mark at the address in a register, and a store
@@ -149,7 +162,7 @@ but_address d p mask r = record {
 pub load_through_runs : (own : Instructions) → KeepsInstructions own → (mark : Mark) → mark_fits dirs.R mark ≡ true →
     (d v a p n mask : ℕ) (vs : List ℕ) (r : Run) → r.state.regs a ≡ held_at_place p →
     r.state.regs d ≡ num 0 mask → r.reads ≡ n ∷ vs → LoadsBy mark (load_through own mark d v a) r d v p n mask vs
-load_through_runs own keeps Plain fits d v a p n mask vs r e g reads = keeps.load_runs d v a p n mask vs r e g reads
+load_through_runs own keeps Plain fits d v a p n mask vs r e g reads = keeps.accesses.load_runs d v a p n mask vs r e g reads
 load_through_runs own keeps Acquire fits d v a p n mask vs r e g reads =
     let u = holding r d (address_held p mask) in
     record {
@@ -165,8 +178,8 @@ load_through_runs own keeps Release fits d v a p n mask vs r e g reads = cc
 pub load_through_wants : (own : Instructions) → KeepsInstructions own → (mark : Mark) (d v a p mask : ℕ) (r : Run) →
     r.state.regs a ≡ held_at_place p → r.state.regs d ≡ num 0 mask → r.reads ≡ [] →
     IsWanting (exec (load_through own mark d v a) (At r))
-load_through_wants own keeps Plain d v a p mask r e g reads = keeps.load_wants d v a p mask r e g reads
-load_through_wants own keeps Release d v a p mask r e g reads = keeps.load_wants d v a p mask r e g reads
+load_through_wants own keeps Plain d v a p mask r e g reads = keeps.accesses.load_wants d v a p mask r e g reads
+load_through_wants own keeps Release d v a p mask r e g reads = keeps.accesses.load_wants d v a p mask r e g reads
 load_through_wants own keeps Acquire d v a p mask r e g reads =
     let u = holding r d (address_held p mask) in
     record {
@@ -181,7 +194,7 @@ pub store_through_runs : (own : Instructions) → KeepsInstructions own → (mar
     (d v a p n mask : ℕ) (r : Run) → r.state.regs a ≡ held_at_place p → r.state.regs d ≡ num 0 mask →
     r.state.regs v ≡ num n 0 → (v == d) ≡ false → StoresBy mark (store_through own mark d v a) r d p n mask
 store_through_runs own keeps Plain fits d v a p n mask r e g holds apart =
-    keeps.store_runs d v a p n mask r e g holds apart
+    keeps.accesses.store_runs d v a p n mask r e g holds apart
 store_through_runs own keeps Release fits d v a p n mask r e g holds apart =
     let u = holding r d (address_held p mask) in
     record {
@@ -197,16 +210,16 @@ store_through_runs own keeps Acquire fits d v a p n mask r e g holds apart = cc
 -- the code of a load at an address that depends on a register is short
 pub load_through_short : (own : Instructions) → KeepsInstructions own → (mark : Mark) (d v a : ℕ) →
     IsShort (load_through own mark d v a)
-load_through_short own keeps Plain d v a = keeps.load_short d v a
-load_through_short own keeps Release d v a = keeps.load_short d v a
+load_through_short own keeps Plain d v a = keeps.accesses.load_short d v a
+load_through_short own keeps Release d v a = keeps.accesses.load_short d v a
 load_through_short own keeps Acquire d v a =
     record { room = omega arith; labels = refl; lands = refl; no_place = λ p. refl }
 
 -- the code of a store at an address that depends on a register is short
 pub store_through_short : (own : Instructions) → KeepsInstructions own → (mark : Mark) (d v a : ℕ) →
     IsShort (store_through own mark d v a)
-store_through_short own keeps Plain d v a = keeps.store_short d v a
-store_through_short own keeps Acquire d v a = keeps.store_short d v a
+store_through_short own keeps Plain d v a = keeps.accesses.store_short d v a
+store_through_short own keeps Acquire d v a = keeps.accesses.store_short d v a
 store_through_short own keeps Release d v a =
     record { room = omega arith; labels = refl; lands = refl; no_place = λ p. refl }
 

@@ -5,6 +5,7 @@ pub mod Ordered
 pub mod AddressedInstructions
 pub mod Addressed
 pub mod AddressedOnce
+pub mod OwnCode
 pub mod FormBacks
 pub mod Masks
 pub mod Rules

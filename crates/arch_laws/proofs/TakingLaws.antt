@@ -4,6 +4,10 @@ use Rattle.arch_trait.specs.Taking.{address_in, Taken, has_address, with_address
 use Rattle.arch_trait.specs.Laws.{InOrder, Takes}
 use Rattle.arch_trait.proofs.Taking as proved
 
+-- address registers in order are within their bounds
+pub in_order_le : (low : ℕ) (links : List (ℕ × ℕ)) (high : ℕ) → InOrder low links high → low ≤ high
+in_order_le low links high h = proved.in_order_le low links high h
+
 -- an address register is within the bounds
 pub address_bounds : (low : ℕ) (links : List (ℕ × ℕ)) (high p a : ℕ) → InOrder low links high →
     address_in links p ≡ Some a → (low ≤ a) × (a < high)

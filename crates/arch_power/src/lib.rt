@@ -10,8 +10,10 @@ ghost use Rattle.arch_power.specs.InCells.{writes_cells as power_writes_cells, m
 ghost use Rattle.arch_power.specs.Table.{writing as power_writing};
 
 mod own;
+mod short;
 mod table;
 
+use crate::short::print_short;
 use crate::table::{NAMES, table};
 use addressed_code::{put_link, put_load, put_store, registers_needed};
 use arch_trait::{Arch, AskedAccess, Instrs, Link, MAX_TEXT, Operands, Places, Raw, Regs, Shape};
@@ -59,7 +61,9 @@ impl Arch for Power {
 
     #[tactic(auto, using(crate::specs::Clear::is_clear_table))]
     fn print(op: &Micro, places: &Places, out: &mut ArrayString<MAX_TEXT>) {
-        print_by(&table(), op, places, out);
+        if !print_short(op, out) {
+            print_by(&table(), op, places, out);
+        }
     }
 
     fn read_raw<'a>(word: &'a [u8], operands: Operands<'a>) -> Option<Raw<'a>> {

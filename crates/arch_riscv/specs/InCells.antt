@@ -2,7 +2,7 @@
 use Rattle.arch_trait.specs.Cells.{WritesCells, MakesOneAccess}
 use Rattle.arch_trait.specs.Forms.{register_names}
 use Rattle.form_laws.proofs.InCells as tables
-use Rattle.form_laws.proofs.OwnCode.{own_code_once}
+use Rattle.arch_laws.proofs.AddressedOnce.{accesses_once}
 use Rattle.arch_riscv.specs.Puts.{puts, instructions}
 use Rattle.arch_riscv.specs.Table.{table, numbered, writing}
 use Rattle.arch_riscv.specs.Clear.{is_clear_table}
@@ -14,4 +14,4 @@ writes_cells = tables.writes_cells puts table (register_names numbered) is_clear
 
 -- the code of each access of RISC-V makes one access
 pub makes_one_access : MakesOneAccess puts
-makes_one_access = own_code_once instructions own_code
+makes_one_access = accesses_once instructions own_code

@@ -4,14 +4,16 @@ use Rattle.std.proofs.lemmas.Bool.Decides.{nat_tests}
 use Rattle.std.proofs.lemmas.Bool.{and_from}
 use Rattle.relax_edges.specs.declared.kinds.ArchName.TheVariants as archs
 use Rattle.arch_trait.specs.Laws.{IsArch}
+use Rattle.arch_laws.proofs.AddressedInstructions.{KeepsInstructions}
+use Rattle.arch_laws.proofs.Addressed.{keeps_laws}
+use Rattle.arch_laws.proofs.OwnCode.{tests, added, ors}
 use Rattle.form_laws.specs.Tables.{operands_fit}
 use Rattle.form_laws.proofs.Barriers.{fences_had}
-use Rattle.form_laws.proofs.OwnCode.{HasOwnCode, tests, added, ors, own_code_laws}
 use Rattle.arch_riscv.specs.Table.{forms, table}
 use Rattle.arch_riscv.specs.Puts.{puts, instructions}
 
 -- RISC-V's own instructions are of the sorts that the laws ask for
-pub own_code : HasOwnCode instructions
+pub own_code : KeepsInstructions instructions
 unfolding forms operands_fit
 own_code = record {
   few = omega arith;
@@ -34,4 +36,4 @@ own_code = record {
 
 -- RISC-V obeys the laws of architectures
 pub laws : IsArch puts
-laws = own_code_laws instructions own_code
+laws = keeps_laws instructions own_code

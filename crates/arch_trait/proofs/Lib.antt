@@ -9,3 +9,4 @@ pub mod NextThreads
 pub mod Spelling
 pub mod Commas
 pub mod PlainTexts
+pub mod Digits

@@ -2,7 +2,7 @@
 use Rattle.std.proofs.Common.{◌≡◌, ℕ, ◌+◌, ◌<◌, ◌≤◌, List, [], ◌∷◌, ◌++◌, ◌∙◌, ap, arith, length, take, map, append-nil}
 use Rattle.std.specs.Prelude.{slice_set}
 use Rattle.std.specs.List.{refill}
-use Rattle.std.proofs.lemmas.List.{drop_all, length-set, map-append, take_all, take_more_set}
+use Rattle.std.proofs.lemmas.List.{drop_all, length-set, map-append, take-set, take_all, take_more_set}
 
 -- a vector whose elements are written over by as many others has these
 written_over : {X : Type 0} (xs ys : List X) → length ys ≡ length xs → refill (length xs) xs ys ≡ ys
@@ -22,3 +22,8 @@ next_made f xs codes n x y within same is =
 pub next_within : {X : Type 0} (xs codes : List X) (n : ℕ) (x : X) → n < length xs → codes ≡ xs → n + 1 ≤ length (refill (length xs) xs (slice_set codes n x))
 next_within xs codes n x within same =
     omega (arith, within, ap length (written_over xs (slice_set codes n x) (length-set codes n x ∙ ap length same)), length-set codes n x, ap length same)
+
+-- the threads before the next one stay as they were, whatever is in its place
+pub next_before : {X : Type 0} (xs codes : List X) (n : ℕ) (x : X) → codes ≡ xs → take n (refill (length xs) xs (slice_set codes n x)) ≡ take n xs
+next_before xs codes n x same =
+    ap (take n) (written_over xs (slice_set codes n x) (length-set codes n x ∙ ap length same)) ∙ take-set codes n x ∙ ap (take n) same

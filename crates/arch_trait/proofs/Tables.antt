@@ -1,9 +1,9 @@
 -- Tables of names.
-use Rattle.std.proofs.Common.{ℕ, zero, suc, ◌+◌, ◌/◌, ◌%◌, ◌<◌, ◌≡◌, refl, Bool, true, false, cond, nat_lt, nat_le, ◌==◌, List, [], ◌∷◌, ◌++◌, Option, Some, None, is_none, ◌&&◌, length, get_or, length-append, ◌∙◌, sym, ap, subst, arith}
+use Rattle.std.proofs.Common.{ℕ, zero, suc, ◌+◌, ◌/◌, ◌%◌, ◌<◌, ◌≡◌, refl, Bool, true, nat_lt, nat_le, ◌==◌, List, [], ◌∷◌, ◌++◌, Option, Some, None, is_none, ◌&&◌, length, get_or, length-append, ◌∙◌, sym, ap, subst, arith}
 use Rattle.std.proofs.lemmas.Bool.{and_from, and_parts, or_left, eqb-true, eqb-false, ltb-true}
 use Rattle.std.proofs.lemmas.List.Folds.{list_all-append}
 use Rattle.std.proofs.lemmas.List.FromFn.{map-range_with_len_more, length-map-range_with_len}
-use Rattle.std.specs.List.{list_all, position_from, IsDistinct, AllByRecursion}
+use Rattle.std.specs.List.{list_all, IsDistinct}
 use Rattle.std.specs.Str.{bytes_eq}
 use Rattle.text_laws.specs.Names.{is_place_name, is_register_name, begins_place, is_place_byte}
 use Rattle.std.specs.Char.{is_ascii_alphabetic, is_ascii_alphanumeric}
@@ -11,6 +11,8 @@ use Rattle.list_laws.proofs.Elements.{list_all-weaker}
 use Rattle.list_laws.proofs.Cases.{by_test}
 use Rattle.arch_trait.specs.declared.step.TheConstants.{MAX_STEPS}
 use Rattle.arch_trait.specs.PlaceNames.{IsTable, number_in, location_letters, lap_mark, location_name, letters}
+use Rattle.list_laws.proofs.Places.{none_passes}
+use Rattle.list_laws.proofs.Distinct.{distinct_push}
 
 distinct_none : IsDistinct bytes_eq []
 unfolding IsDistinct
@@ -22,32 +24,6 @@ no_names names e =
     let P : List (List ℕ) → Type 0 = IsTable in
     subst P (sym e) (record { formed = refl; once = distinct_none; few = omega arith })
 
-none_passes : (t : List ℕ → Bool) (i : ℕ) (names : List (List ℕ)) → position_from t i names ≡ None →
-    AllByRecursion (λ x. t x ≡ false) names
-none_passes t i [] e = tt
-none_passes t i (x ∷ names) e = by_test (t x)
-    (λ f. absurd (some_none (sym (ap (λ b. cond b (Some i) (position_from t (i + 1) names)) f) ∙ e)))
-    (λ f. (
-      f,
-      none_passes t (i + 1) names
-          (sym (ap (λ b. cond b (Some i) (position_from t (i + 1) names)) f) ∙ e),
-    ))
-  where
-    some_none : Some i ≡ None → ⊥
-    some_none e = cc
-
-all_push : (P : List ℕ → Type 0) (names : List (List ℕ)) (name : List ℕ) → AllByRecursion P names →
-    P name → AllByRecursion P (names ++ name ∷ [])
-all_push P [] name h p = (p, tt)
-all_push P (x ∷ names) name h p = (h.0, all_push P names name h.1 p)
-
-distinct_push : (names : List (List ℕ)) (name : List ℕ) → IsDistinct bytes_eq names →
-    AllByRecursion (λ x. bytes_eq x name ≡ false) names → IsDistinct bytes_eq (names ++ name ∷ [])
-unfolding IsDistinct
-distinct_push [] name d h = (tt, tt)
-distinct_push (x ∷ names) name d h =
-    (all_push (λ y. bytes_eq x y ≡ false) names name d.0 h.0, distinct_push names name d.1 h.1)
-
 -- a table to which a new name is added is a table, where there is room
 pub one_name : (names : List (List ℕ)) (name : List ℕ) (after : List (List ℕ)) → IsTable names →
     is_place_name name ≡ true → number_in names name ≡ None → length names < 64 →
@@ -58,7 +34,7 @@ one_name names name after t formed new room e =
       formed = list_all-append is_place_name names (name ∷ []) ∙
           and_from (list_all is_place_name names) (list_all is_place_name (name ∷ [])) t.formed
           (and_from (is_place_name name) true formed refl);
-      once = distinct_push names name t.once (none_passes (λ x. bytes_eq x name) 0 names new);
+      once = distinct_push bytes_eq names name t.once (none_passes (λ x. bytes_eq x name) 0 names new);
       few = omega (arith, length-append names (name ∷ []));
     })
 

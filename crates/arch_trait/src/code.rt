@@ -67,30 +67,30 @@ pub fn compile_into<A: Arch>(steps: &[Step], code: &mut Code) -> Result<(), TooM
     if A::need(&shape_of(steps)) > u32::from(A::REGISTERS) {
         return Err(TooManyRegisters);
     }
-    let way = put_steps::<A>(steps, code);
-    code.links = way.regs.into_links();
-    Ok(())
-}
-
-fn put_steps<A: Arch>(steps: &[Step], code: &mut Code) -> Way
-    requires fit { FitSteps A.puts.name false steps.now }
-    requires few { length steps.now ≤ MAX_STEPS }
-    requires left { A.puts.need (shape_of steps.now) ≤ A.puts.registers }
-    ensures regs { result.regs ≡ thread_regs A.puts (setting_out A.puts.registers) steps.now }
-    ensures instrs { code.new.instrs.items ≡ thread_code A.puts (setting_out A.puts.registers) steps.now }
-    ensures loads { code.new.loads.items ≡ thread_loads A.puts (setting_out A.puts.registers) steps.now }
-{
-    code.instrs.clear();
-    code.loads.clear();
     let mut way = Way {
         regs: Regs::new(A::REGISTERS),
         last: None,
         label: 0,
     };
+    put_steps::<A>(steps, &mut way, code);
+    code.links = way.regs.into_links();
+    Ok(())
+}
+
+fn put_steps<A: Arch>(steps: &[Step], way: &mut Way, code: &mut Code)
+    requires fit { FitSteps A.puts.name false steps.now }
+    requires few { length steps.now ≤ MAX_STEPS }
+    requires left { A.puts.need (shape_of steps.now) ≤ A.puts.registers }
+    requires begins { way_seen way.old ≡ setting_out A.puts.registers }
+    ensures regs { way.new.regs ≡ thread_regs A.puts (setting_out A.puts.registers) steps.now }
+    ensures instrs { code.new.instrs.items ≡ thread_code A.puts (setting_out A.puts.registers) steps.now }
+    ensures loads { code.new.loads.items ≡ thread_loads A.puts (setting_out A.puts.registers) steps.now }
+{
+    code.instrs.clear();
+    code.loads.clear();
     for step in steps {
-        put_step::<A>(*step, &mut way, code);
+        put_step::<A>(*step, way, code);
     }
-    way
 }
 
 fn put_step<A: Arch>(step: Step, way: &mut Way, code: &mut Code)

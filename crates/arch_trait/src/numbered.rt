@@ -1,4 +1,5 @@
-ghost use Rattle.std.specs.Prelude.{◌≡◌, ◌<◌, ◌≤◌, ◌+◌, ◌++◌, length};
+ghost use Rattle.std.specs.Prelude.{◌≡◌, ◌<◌, ◌≤◌, ◌+◌, ◌++◌, ◌∷◌, [], length};
+ghost use Rattle.std.specs.Fmt.{decimal};
 ghost use Rattle.arch_trait.specs.Writing.{register_text};
 
 use crate::operand::push_ascii;
@@ -23,6 +24,32 @@ impl Numbered {
         ensures short { length out.new.bytes ≤ length out.old.bytes + 4 }
     {
         push_ascii(out, self.letter);
-        out.push_str(Buffer::new().format(u16::from(self.first) + u16::from(r)));
+        push_number(u16::from(self.first) + u16::from(r), out);
     }
+}
+
+/// Appends a number in decimal, one of one digit or two without a loop.
+#[tactic(auto, using(crate::proofs::Digits::one_digit, crate::proofs::Digits::two_digits))]
+fn push_number<const N: usize>(number: u16, out: &mut ArrayString<N>)
+    requires few { number < 1000 }
+    requires room { length out.old.bytes + 3 ≤ N }
+    ensures { out.new.bytes ≡ out.old.bytes ++ decimal number }
+{
+    if number < 10 {
+        push_digit(number, out);
+    } else if number < 100 {
+        push_digit(number / 10, out);
+        push_digit(number % 10, out);
+    } else {
+        out.push_str(Buffer::new().format(number));
+    }
+}
+
+/// Appends a digit.
+fn push_digit<const N: usize>(digit: u16, out: &mut ArrayString<N>)
+    requires one { digit < 10 }
+    requires room { length out.old.bytes < N }
+    ensures { out.new.bytes ≡ out.old.bytes ++ (48 + digit) ∷ [] }
+{
+    push_ascii(out, b'0' + digit as u8);
 }

@@ -1,4 +1,4 @@
-ghost use Rattle.std.specs.Prelude.{◌≡◌, ◌<◌, ◌≤◌, ◌++◌, ◌∷◌, [], ◌↔◌, false, List, length, map, take, IsErr, OnOk};
+ghost use Rattle.std.specs.Prelude.{◌≡◌, ◌<◌, ◌≤◌, ◌++◌, ◌∷◌, [], ◌↔◌, false, List, length, map, take, IsErr, OnOk, OnErr};
 ghost use Rattle.arrayvec.specs.ArrayVec.{array_vec_len};
 ghost use Rattle.arch_trait.specs.Codes.{thread_code_of, IsFormedCode};
 ghost use Rattle.arch_trait.specs.Threads.{FitSteps, ThreadCode, compiled, shape_of};
@@ -64,7 +64,7 @@ impl ThreadCodes {
         self.codes.as_slice()[self.count - 1].loads.as_slice()
     }
 
-    /// Makes the code of one more thread, as `compile_into` does.
+    /// Makes the code of one more thread, as `compile_into` does. Where it is refused, the threads stay as they were.
     pub fn compile_next<A: Arch>(&mut self, steps: &[Step]) -> Result<(), TooManyRegisters>
         requires fit { FitSteps A.puts.name false steps.now }
         requires few { length steps.now ≤ MAX_STEPS }
@@ -72,6 +72,7 @@ impl ThreadCodes {
         ensures ok { OnOk result (map thread_code_of self.new.items ≡ map thread_code_of self.old.items ++ compiled A.puts steps.now ∷ []) }
         ensures formed { OnOk result (IsFormedCode A.puts steps.now (compiled A.puts steps.now)) }
         ensures refused { IsErr result ↔ (A.puts.registers < A.puts.need (shape_of steps.now)) }
+        ensures err { OnErr result (self.new.items ≡ self.old.items) }
     {
         have_place(self.count, &mut self.codes);
         match compile_into::<A>(steps, &mut self.codes[self.count]) {

@@ -9,8 +9,10 @@ ghost use Rattle.arch_x86.specs.Table.{writing as x86_writing};
 ghost use Rattle.arch_x86.specs.ReadsBack.{reads_back as x86_reads_back, reads_own as x86_reads_own};
 ghost use Rattle.arch_x86.specs.InCells.{writes_cells as x86_writes_cells, makes_one_access as x86_makes_one_access};
 
+mod short;
 mod table;
 
+use crate::short::print_short;
 use crate::table::table;
 use arch_trait::{Arch, AskedAccess, Instrs, Link, MAX_TEXT, Operands, Places, Raw, Regs, Shape};
 use arrayvec::ArrayString;
@@ -71,7 +73,9 @@ impl Arch for X86 {
 
     #[tactic(auto, using(crate::specs::Clear::is_clear_table))]
     fn print(op: &Micro, places: &Places, out: &mut ArrayString<MAX_TEXT>) {
-        print_by(&table(), op, places, out);
+        if !print_short(op, places, out) {
+            print_by(&table(), op, places, out);
+        }
     }
 
     fn read_raw<'a>(word: &'a [u8], operands: Operands<'a>) -> Option<Raw<'a>> {

@@ -136,7 +136,7 @@ resolves es r = record {
   location = λ i. location_under es i (omega (arith, several_locations es r));
   thread = λ i h. thread_below es i r h;
   stands = λ i h. event_in_slot es i h;
-  event = λ k s i h. let a = slot_of_event es k s i h in record { below = a.below; thread = a.thread; slot = a.slot };
+  event = slot_of_event es;
   rises = λ i j h l t. slots_rise es i j h t;
   enters = λ i h. sym (source_after es i r.composes h);
   marks = λ i h. sym (mark_after es i r.composes h);

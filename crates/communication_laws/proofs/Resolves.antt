@@ -13,12 +13,7 @@ use Rattle.resolution_laws.specs.Resolution.{edge_at, external_count, move_count
 use Rattle.resolution_laws.proofs.Around.{before_below, after_before}
 use Rattle.value_laws.specs.Values.{value_of, write_at, write_count, edge_into, is_observed}
 use Rattle.program_meaning.specs.Coherence.{MayFollow}
-
--- event i is in slot s of thread k
-pub record IsIn (es : List Edge) (k s i : ℕ) : Type 0 where
-  pub below : i < length es
-  pub thread : thread_of es i ≡ k
-  pub slot : slot_of es i ≡ s
+use Rattle.resolution_laws.proofs.Threads.{IsAt}
 
 -- event i is write number k of location l, from 0
 pub record IsWrite (es : List Edge) (l k i : ℕ) : Type 0 where
@@ -38,7 +33,7 @@ pub record Resolves (es : List Edge) : Type 0 where
   pub location : (i : ℕ) → location_of es i < move_count es
   pub thread : (i : ℕ) → i < length es → thread_of es i < external_count es
   pub stands : (i : ℕ) → i < length es → slice_get (events_in es (thread_of es i)) (slot_of es i) ≡ Some i
-  pub event : (k s i : ℕ) → slice_get (events_in es k) s ≡ Some i → IsIn es k s i
+  pub event : (k s i : ℕ) → slice_get (events_in es k) s ≡ Some i → IsAt es k s i
   pub rises : (i j : ℕ) → i < j → j < length es → thread_of es i ≡ thread_of es j → slot_of es i < slot_of es j
   pub enters : (i : ℕ) → i < length es → target_of (edge_at es i) ≡ source_of (edge_at es (event_after es i))
   pub marks : (i : ℕ) → i < length es → target_mark (edge_at es i) ≡ source_mark (edge_at es (event_after es i))

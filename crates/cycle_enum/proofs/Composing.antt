@@ -1,6 +1,5 @@
 -- When a list that grows edge by edge is a cycle.
-use Rattle.std.proofs.Common.{◌≡◌, ◌<◌, ◌≤◌, ℕ, Bool, true, false, List, [], ◌∷◌, ◌++◌, length, get_or, suc, take, drop, ◌&&◌, refl, sym, ap, ◌∙◌, arith}
-use Rattle.relax_edges.specs.declared.TheConstants.{MAX_EDGES}
+use Rattle.std.proofs.Common.{◌≡◌, ◌<◌, ℕ, true, false, List, [], ◌∷◌, ◌++◌, length, get_or, suc, take, drop, ◌&&◌, refl, sym, ap, ◌∙◌, arith}
 use Rattle.relax_edges.specs.declared.edge.Edge.{Edge}
 use Rattle.std.proofs.lemmas.Bool.{and_parts, true≢false}
 use Rattle.std.proofs.lemmas.List.{take-append-drop}

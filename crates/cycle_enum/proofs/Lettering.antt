@@ -1,20 +1,26 @@
 -- The table of letters: by another test of which edges are letters, and which edges are marked.
-use Rattle.std.proofs.Common.{◌≡◌, ◌↔◌, ℕ, Bool, Option, Some, None, List, [], ◌∷◌, map, refl, get_or}
+use Rattle.std.proofs.Common.{◌↔◌, ℕ, Bool, Option, Some, None, List, [], ◌∷◌, map, refl, get_or}
 use Rattle.std.specs.Prelude.{IsTrue}
 use Rattle.std.specs.List.{AllByRecursion, list_all}
 use Rattle.std.proofs.lemmas.Bool.{and_parts, and_from}
 use Rattle.relax_edges.specs.declared.edge.Edge.{Edge}
 use Rattle.relax_edges.specs.Order.{rank_of}
-use Rattle.cycle_enum.specs.Letters.{IsFirstLetter, IsLetterFrom, HasLettersFrom}
+use Rattle.cycle_enum.specs.Letters.{IsLetterFrom, HasLettersFrom}
+use Rattle.cycle_enum.specs.declared.letter.Letter.{Letter}
 use Rattle.cycle_enum.specs.LetterMarks.{is_marked_at, MarksExactly}
 
 module _ (one other : Edge → Type 0) (same : (e : Edge) → one e ↔ other e) where
-  same_from : (from : ℕ) (found : Option Edge) → IsLetterFrom one from found → IsLetterFrom other from found
+  same_from : (from : ℕ) (found : Option Letter) → IsLetterFrom one from found → IsLetterFrom other from found
   same_from from None none = λ e a b o. none e a b ((same e).1 o)
-  same_from from (Some e) is = record { letter = (same e).0 is.letter; at_least = is.at_least; first = λ f a b o. is.first f a b ((same f).1 o) }
+  same_from from (Some first) is = record {
+    letter = (same first.edge).0 is.letter;
+    at_least = is.at_least;
+    none_less = λ f a b o. is.none_less f a b ((same f).1 o);
+    is = is.is;
+  }
 
   -- where two tests agree on each edge, the letters by the one are those by the other
-  pub same_letters : (rank : ℕ) (table : List (Option Edge)) → HasLettersFrom one rank table → HasLettersFrom other rank table
+  pub same_letters : (rank : ℕ) (table : List (Option Letter)) → HasLettersFrom one rank table → HasLettersFrom other rank table
   same_letters rank table t = record { long = t.long; each = λ from l h. same_from from (get_or table from None) (t.each from l h) }
 
 -- the edges of a list are all letters exactly where their ranks are all marked

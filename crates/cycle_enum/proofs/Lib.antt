@@ -3,3 +3,4 @@ pub mod Lettering
 pub mod Marking
 pub mod Passing
 pub mod Ranking
+pub mod Repeating

@@ -1,37 +1,73 @@
 -- Which edges a walk passes over after a list.
-use Rattle.std.proofs.Common.{◌≡◌, inl, inr, ℕ, ◌+◌, ◌<◌, map, slice_index_or, false, Option, Some, None, List, [], ◌∷◌, arith}
-use Rattle.std.proofs.lemmas.Bool.{cases_lt}
+use Rattle.std.proofs.Common.{◌≡◌, inl, inr, ℕ, ◌+◌, ◌<◌, ◌&&◌, map, option_map, slice_index_or, true, false, Option, Some, None, List, [], ◌∷◌, sym, ◌∙◌, arith}
+use Rattle.std.specs.Prelude.{IfSome}
+use denote.Ref.{Bor}
+use Rattle.std.proofs.lemmas.Bool.{cases_Bool, true≢false}
+use Rattle.relax_edges.specs.declared.kinds.Dir.{Dir}
+use Rattle.relax_edges.specs.declared.kinds.Mark.{Mark}
+use Rattle.relax_edges.specs.EdgeTable.{same_dir, same_mark, source_of, source_mark}
 use Rattle.relax_edges.specs.declared.order.TheConstants.{EDGES}
 use Rattle.relax_edges.specs.declared.edge.Edge.{Edge}
 use Rattle.relax_edges.specs.Order.{rank_of}
-use Rattle.cycle_laws.proofs.RankLaws.{rank_below, rank_injective}
+use Rattle.cycle_laws.proofs.Ordering.{by_rank}
+use Rattle.cycle_laws.proofs.RankLaws.{rank_below}
 use Rattle.cycle_laws.specs.Composable.{last_joins}
 use Rattle.walk_laws.specs.Search.{IsListCandidate, IsNextEdge, NoneBetween, OccursIn}
 use Rattle.walk_laws.proofs.Candidates.{unused_nowhere, unjoined_next, none_smaller}
-use Rattle.cycle_enum.specs.Letters.{NoLetter, IsFirstLetter, least_rank}
+use Rattle.cycle_enum.specs.declared.letter.Letter.{Letter}
+use Rattle.cycle_enum.specs.Letters.{NoLetter, IsFirstLetter, IsLetterFrom, OccursAndLeaves, least_rank}
 
-module _ (relaxes : List (List Edge)) (prefix : List Edge) (from : ℕ) where
-  -- where there is no letter, no candidate goes on
-  pub none_used : (to : ℕ) → NoLetter (OccursIn relaxes) from to → NoneBetween (IsListCandidate relaxes) prefix from to
-  none_used to none e a b = unused_nowhere relaxes prefix e (none e a b)
+-- a letter that leaves another access is passed over
+module _ (relaxes : List (List Edge)) (dir : Dir) (mark : Mark) (from : ℕ) where
+  passed : (e : Edge) (to : ℕ) → NoLetter (OccursIn relaxes) from (rank_of e) → (same_dir dir (source_of e) && same_mark mark (source_mark e)) ≡ false
+      → NoLetter (OccursAndLeaves relaxes dir mark) (rank_of e + 1) to → NoLetter (OccursAndLeaves relaxes dir mark) from to
+  passed e to less other none f a b l =
+      by_rank f e (λ h. less f a h l.occurs) (λ h. none f (omega arith) b l) (λ same. true≢false (sym l.leaves ∙ rw same other))
 
-  -- a letter that the last edge doesn't join is passed over
-  passed : (e : Edge) (to : ℕ) → IsFirstLetter (OccursIn relaxes) from e → last_joins prefix (e ∷ []) ≡ false → NoneBetween (IsListCandidate relaxes) prefix (rank_of e + 1) to
-      → NoneBetween (IsListCandidate relaxes) prefix from to
-  passed e to first fails none f a b =
-      elim (cases_lt (rank_of f) (rank_of e)) [
-        | inl less ↦ none_used (rank_of e) first.first f a less
-        | inr more ↦ elim (cases_lt (rank_of e) (rank_of f)) [
-          | inl greater ↦ none f (omega arith) b
-          | inr same ↦ let s : e ≡ f = rank_injective e f (omega arith) in unjoined_next relaxes prefix f (rw s at fails)
-        ]
-      ]
+  -- the first letter that leaves the access is the first one after such a letter
+  pub next_leaving : (letter : Letter) (next : Option Letter) → IsFirstLetter (OccursIn relaxes) from letter
+      → (same_dir dir (source_of letter.edge) && same_mark mark (source_mark letter.edge)) ≡ false
+      → IsLetterFrom (OccursAndLeaves relaxes dir mark) (rank_of letter.edge + 1) next → IsLetterFrom (OccursAndLeaves relaxes dir mark) from next
+  next_leaving letter None first other none = passed letter.edge EDGES first.none_less other none
+  next_leaving letter (Some f) first other next = record {
+    letter = next.letter;
+    at_least = omega (arith, first.at_least, next.at_least);
+    none_less = passed letter.edge (rank_of f.edge) first.none_less other next.none_less;
+    is = next.is;
+  }
 
-  -- the next edge after a letter that the last edge doesn't join is the next edge from that letter on
-  pub next_unjoined : (e : Edge) (next : Option Edge) → IsFirstLetter (OccursIn relaxes) from e → last_joins prefix (e ∷ []) ≡ false
-      → IsNextEdge (IsListCandidate relaxes) prefix (rank_of e + 1) next → IsNextEdge (IsListCandidate relaxes) prefix from next
-  next_unjoined e None first fails none = passed e EDGES first fails none
-  next_unjoined e (Some f) first fails next = (omega (arith, first.at_least, next.0), passed e (rank_of f) first fails next.1)
+  -- a letter that leaves the access is the first one that does
+  pub first_leaving : (letter : Letter) → IsFirstLetter (OccursIn relaxes) from letter → (same_dir dir (source_of letter.edge) && same_mark mark (source_mark letter.edge)) ≡ true
+      → IsFirstLetter (OccursAndLeaves relaxes dir mark) from letter
+  first_leaving letter first leaves = record {
+    letter = record { occurs = first.letter; leaves = leaves };
+    at_least = first.at_least;
+    none_less = λ e a b l. first.none_less e a b l.occurs;
+    is = first.is;
+  }
+
+-- an edge that occurs may follow a list exactly where it leaves the access that the last edge of the list enters
+module _ (relaxes : List (List Edge)) (prefix : List Edge) (from : ℕ) (dir : Dir) (mark : Mark)
+    (joins : (e : Edge) → last_joins prefix (e ∷ []) ≡ (same_dir dir (source_of e) && same_mark mark (source_mark e))) where
+  none_follows : (to : ℕ) → NoLetter (OccursAndLeaves relaxes dir mark) from to → NoneBetween (IsListCandidate relaxes) prefix from to
+  none_follows to none e a b r c =
+      unused_nowhere relaxes prefix e
+      (λ o.
+      elim (cases_Bool (same_dir dir (source_of e) && same_mark mark (source_mark e))) [
+        | inl leaves ↦ none e a b (record { occurs = o; leaves = leaves })
+        | inr other ↦ unjoined_next relaxes prefix e (joins e ∙ other) r c
+      ])
+      r c
+
+  pub next_follows : (next : Option (Bor Letter)) → IsLetterFrom (OccursAndLeaves relaxes dir mark) from (option_map (λ letter. letter.now) next)
+      → IsNextEdge (IsListCandidate relaxes) prefix from (option_map (λ letter. letter.now.edge) next)
+  next_follows None none = none_follows EDGES none
+  next_follows (Some letter) next = (next.at_least, none_follows (rank_of letter.now.edge) next.none_less)
+
+  pub next_joined : (next : Option (Bor Letter)) → IsLetterFrom (OccursAndLeaves relaxes dir mark) from (option_map (λ letter. letter.now) next)
+      → IfSome next (λ letter. last_joins prefix (letter.now.edge ∷ []) ≡ true)
+  next_joined None none = tt
+  next_joined (Some letter) next = joins letter.now.edge ∙ next.letter.leaves
 
 -- no candidate goes on with an edge below the least rank
 pub none_below_least : (relaxes : List (List Edge)) (u : List Edge) → NoneBetween (IsListCandidate relaxes) u 0 (least_rank u)

@@ -1,36 +1,52 @@
 -- The letters of a walk: the edges that occur in its relaxations.
 -- Source: own.
-use Rattle.std.specs.Prelude.{◌≡◌, ◌<◌, ◌≤◌, ◌+◌, ℕ, Bool, true, Option, Some, None, List, [], ◌∷◌, length, get_or}
+use Rattle.std.specs.Prelude.{◌≡◌, ◌<◌, ◌&&◌, ◌≤◌, ◌+◌, ℕ, Bool, true, Option, Some, None, List, [], ◌∷◌, length, get_or}
 use Rattle.std.specs.List.{AllByRecursion}
 use Rattle.relax_edges.specs.declared.order.TheConstants.{EDGES}
 use Rattle.relax_edges.specs.declared.edge.Edge.{Edge}
+use Rattle.relax_edges.specs.declared.kinds.Dir.{Dir}
+use Rattle.relax_edges.specs.declared.kinds.Mark.{Mark}
+use Rattle.relax_edges.specs.EdgeTable.{same_dir, same_mark, source_of, source_mark}
 use Rattle.relax_edges.specs.Order.{rank_of}
 use Rattle.walk_laws.specs.Search.{OccursIn, IsSingle}
 use Rattle.cycle_enum.specs.LetterMarks.{MarksExactly}
+use Rattle.cycle_enum.specs.declared.letter.Letter.{Letter}
 
 -- no letter has rank `from` or more, and below `to`
 abbrev pub NoLetter : (Edge → Type 0) → ℕ → ℕ → Type 0
 NoLetter is_letter from to = (e : Edge) → from ≤ rank_of e → rank_of e < to → is_letter e → ⊥
 
+-- what a letter has beside its edge is that of the edge
+pub record IsLetter (letter : Letter) : Type 0 where
+  pub rank : letter.rank ≡ rank_of letter.edge
+  pub source : letter.source ≡ source_of letter.edge
+  pub mark : letter.source_mark ≡ source_mark letter.edge
+
 -- the first letter of rank `from` or more
-pub record IsFirstLetter (is_letter : Edge → Type 0) (from : ℕ) (e : Edge) : Type 0 where
-  pub letter : is_letter e
-  pub at_least : from ≤ rank_of e
-  pub first : NoLetter is_letter from (rank_of e)
+pub record IsFirstLetter (is_letter : Edge → Type 0) (from : ℕ) (first : Letter) : Type 0 where
+  pub letter : is_letter first.edge
+  pub at_least : from ≤ rank_of first.edge
+  pub none_less : NoLetter is_letter from (rank_of first.edge)
+  pub is : IsLetter first
 
 -- the answer is the first letter of rank `from` or more, and none exactly where there is none
-abbrev pub IsLetterFrom : (Edge → Type 0) → ℕ → Option Edge → Type 0
+abbrev pub IsLetterFrom : (Edge → Type 0) → ℕ → Option Letter → Type 0
 IsLetterFrom is_letter from None = NoLetter is_letter from EDGES
-IsLetterFrom is_letter from (Some e) = IsFirstLetter is_letter from e
+IsLetterFrom is_letter from (Some first) = IsFirstLetter is_letter from first
+
+-- an edge occurs in a relaxation, and leaves an access that does this and has this mark
+pub record OccursAndLeaves (relaxes : List (List Edge)) (dir : Dir) (mark : Mark) (e : Edge) : Type 0 where
+  pub occurs : OccursIn relaxes e
+  pub leaves : (same_dir dir (source_of e) && same_mark mark (source_mark e)) ≡ true
 
 -- a table has, at each rank from one on and at the place after the last, the first letter of this rank or a greater one
-pub record HasLettersFrom (is_letter : Edge → Type 0) (rank : ℕ) (table : List (Option Edge)) : Type 0 where
+pub record HasLettersFrom (is_letter : Edge → Type 0) (rank : ℕ) (table : List (Option Letter)) : Type 0 where
   pub long : length table ≡ EDGES + 1
   pub each : (from : ℕ) → rank ≤ from → from ≤ EDGES → IsLetterFrom is_letter from (get_or table from None)
 
 -- what a walk knows of its relaxations: which edges occur in them, the first of these from each rank on, and if it says so each
 -- relaxation has one edge
-pub record IsAlphabet (relaxes : List (List Edge)) (marks : List Bool) (letters : List (Option Edge)) (all_single : Bool) : Type 0 where
+pub record IsAlphabet (relaxes : List (List Edge)) (marks : List Bool) (letters : List (Option Letter)) (all_single : Bool) : Type 0 where
   pub marked : MarksExactly (OccursIn relaxes) marks
   pub has : HasLettersFrom (OccursIn relaxes) 0 letters
   pub single : all_single ≡ true → AllByRecursion IsSingle relaxes

@@ -2,3 +2,4 @@ pub mod WalkEnds
 pub mod Letters
 pub mod LetterMarks
 pub mod Walking
+pub mod Repeats

@@ -1,16 +1,17 @@
-ghost use Rattle.std.specs.Prelude.{◌≡◌, ◌<◌, ◌≤◌, ◌↔◌, ◌∷◌, [], IsTrue, IsFalse, IfSome, length, map, true};
+ghost use Rattle.std.specs.Prelude.{◌≡◌, ◌<◌, ◌≤◌, ◌↔◌, ◌∷◌, [], IsTrue, IsFalse, IfSome, length, map, option_map, true};
 ghost use Rattle.std.specs.List.{AllByRecursion};
 ghost use Rattle.relax_edges.specs.Order.{rank_of};
 ghost use Rattle.cycle_laws.specs.Composable.{IsCycle, last_joins};
 ghost use Rattle.walk_laws.specs.Listing.{IsMadeOf};
 ghost use Rattle.walk_laws.specs.Search.{IsListCandidate, IsExtended, IsNextEdge, IsRaised, IsSingle, LeadsNowhere, OccursIn};
-ghost use Rattle.cycle_enum.specs.Letters.{least_rank};
+ghost use Rattle.cycle_enum.specs.Letters.{IsLetter, IsLetterFrom, OccursAndLeaves, least_rank};
 
+use crate::letter::Letter;
 use crate::letters::{Letters, Marks, are_marked, first_letters, marks_of};
 use crate::prefix::Prefix;
 use crate::relaxed::{is_made, may_occur};
 use edge_algebra::Cycle;
-use relax_edges::{EDGES, Edge, MAX_EDGES, Relax, Relaxes};
+use relax_edges::{Dir, EDGES, Edge, MAX_EDGES, Mark, Relax, Relaxes};
 use std::marker::Model;
 
 /// Relaxations, and which edges occur in them: a walk passes over all other edges.
@@ -61,7 +62,7 @@ impl Alphabet {
     {
         let _room = list.len();
         while let Some(last) = list.pop() {
-            match self.next_edge(list.edges(), last.rank + 1) {
+            match self.next_letter(list.edges(), last.rank + 1) {
                 Some(next) => {
                     list.push(next);
                     return;
@@ -77,30 +78,48 @@ impl Alphabet {
         requires { length list.old < MAX_EDGES }
         ensures { IsExtended (IsListCandidate self.now) list.old list.new }
     {
-        match self.next_edge(list.edges(), least_rank(list)) {
-            Some(edge) => list.push(edge),
+        match self.next_letter(list.edges(), least_rank(list)) {
+            Some(letter) => list.push(letter),
             None => self.raise(list),
         }
     }
 
-    /// The first edge of this rank or a greater one that may follow a list: it occurs in a
-    /// relaxation, and the last edge of the list joins it.
-    fn next_edge(&self, list: &[Edge], from: u16) -> Option<Edge>
+    /// The first letter of this rank or a greater one that may follow a list: the last edge of the list joins it.
+    fn next_letter(&self, list: &[Edge], from: u16) -> Option<&Letter>
         requires { from ≤ EDGES }
-        ensures next { IsNextEdge (IsListCandidate self.now) list.now from result }
-        ensures occurs { IfSome result (OccursIn self.now) }
-        ensures joined { IfSome result (λ edge. last_joins list.now (edge ∷ []) ≡ true) }
+        ensures next { IsNextEdge (IsListCandidate self.now) list.now from (option_map (λ letter. letter.now.edge) result) }
+        ensures joined { IfSome result (λ letter. last_joins list.now (letter.now.edge ∷ []) ≡ true) }
+        ensures letter { IfSome result (λ letter. IsLetter letter.now) }
     {
-        match self.letters[usize::from(from)] {
-            Some(edge) => {
-                if is_joined_to(list, edge) {
-                    Some(edge)
+        match list {
+            [] => self.first_letter(from),
+            [.., last] => self.next_leaving(last.target(), last.target_mark(), from),
+        }
+    }
+
+    /// The first letter of this rank or a greater one that leaves an access that does this and has this mark.
+    fn next_leaving(&self, dir: Dir, mark: Mark, from: u16) -> Option<&Letter>
+        requires { from ≤ EDGES }
+        ensures { IsLetterFrom (OccursAndLeaves self.now dir mark) from (option_map (λ letter. letter.now) result) }
+    {
+        match self.first_letter(from) {
+            Some(letter) => {
+                if letter.leaves(dir, mark) {
+                    Some(letter)
                 } else {
-                    self.next_edge(list, edge.rank() + 1)
+                    self.next_leaving(dir, mark, letter.rank + 1)
                 }
             }
             None => None,
         }
+    }
+
+    /// The first letter of this rank or a greater one.
+    fn first_letter(&self, from: u16) -> Option<&Letter>
+        requires { from ≤ EDGES }
+        ensures { IsLetterFrom (OccursIn self.now) from (option_map (λ letter. letter.now) result) }
+    {
+        self.letters[usize::from(from)].as_ref()
     }
 
     /// Whether a list may be part of a concatenation of relaxations, if its edges occur in them.

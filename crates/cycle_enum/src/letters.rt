@@ -1,16 +1,17 @@
-ghost use Rattle.std.specs.Prelude.{◌≡◌};
+ghost use Rattle.std.specs.Prelude.{◌≡◌, ◌<◌, ◌+◌};
 ghost use Rattle.std.specs.List.{list_all};
 ghost use Rattle.walk_laws.specs.Search.{OccursIn};
-ghost use Rattle.cycle_enum.specs.Letters.{HasLettersFrom};
+ghost use Rattle.cycle_enum.specs.Letters.{HasLettersFrom, IsLetterFrom};
 ghost use Rattle.cycle_enum.specs.LetterMarks.{is_marked_at, IsMarked, MarksAlphabet, MarksAlso, MarksExactly};
 
+use crate::letter::Letter;
 use relax_edges::{EDGES, Edge, Relax};
 
 const RANKS: usize = EDGES as usize;
 
 /// For each rank, and for the place after the last, the first letter of this rank or a greater one:
-/// a letter is an edge that occurs in a relaxation.
-pub(crate) type Letters = [Option<Edge>; RANKS + 1];
+/// the letters are the edges that occur in a relaxation.
+pub(crate) type Letters = [Option<Letter>; RANKS + 1];
 
 /// For each rank whether its edge occurs in a relaxation.
 pub(crate) type Marks = [bool; RANKS];
@@ -50,13 +51,22 @@ pub(crate) fn first_letters(marks: &Marks) -> Letters
     let mut letters = [None; RANKS + 1];
     for rank in (0..EDGES).rev() {
         let place = usize::from(rank);
-        letters[place] = if marks[place] {
-            Some(Edge::at_rank(rank))
-        } else {
-            letters[place + 1]
-        };
+        letters[place] = letter_from(marks, rank, letters[place + 1]);
     }
     letters
+}
+
+/// The first letter of this rank or a greater one, where `next` is the first one of a greater rank.
+fn letter_from(marks: &Marks, rank: u16, next: Option<Letter>) -> Option<Letter>
+    requires rank { rank < EDGES }
+    requires next { IsLetterFrom (IsMarked marks.now) (rank + 1) next }
+    ensures { IsLetterFrom (IsMarked marks.now) rank result }
+{
+    if is_marked_at(marks, rank) {
+        Some(Letter::of(Edge::at_rank(rank)))
+    } else {
+        next
+    }
 }
 
 /// Marks the edges of relaxations, in addition to those that are marked.

@@ -2,6 +2,7 @@
 #![tactic(auto)]
 
 mod alphabet;
+mod letter;
 mod letters;
 mod limits;
 mod prefix;

@@ -1,11 +1,47 @@
-ghost use Rattle.std.specs.Prelude.{◌≡◌, ◌<◌, ◌≤◌, ◌+◌, ◌↔◌, ◌++◌, ◌∷◌, [], length, map, IsFalse, IfSome, IfNone, true};
+ghost use Rattle.std.specs.Prelude.{◌≡◌, ◌<◌, ◌≤◌, ◌+◌, ◌↔◌, ◌++◌, ◌∷◌, [], get_or, length, map, IsFalse, IfSome, IfNone, IsTrue, true};
 ghost use Rattle.relax_edges.specs.Order.{rank_of};
 ghost use Rattle.relax_edges.specs.JoinedEdges.{is_joined};
+ghost use Rattle.relax_edges.specs.declared.edge.Edge.{Edge as EdgeValue};
 ghost use Rattle.cycle_laws.specs.Composable.{last_joins};
+ghost use Rattle.cycle_laws.specs.CycleOrder.{IsNormal};
+ghost use Rattle.walk_laws.specs.Search.{LeadsNowhere};
+ghost use Rattle.cycle_enum.specs.Letters.{IsLetter};
+ghost use Rattle.cycle_enum.specs.Repeats.{IsRepeat};
+ghost use Rattle.cycle_enum.specs.declared.prefix.Repeat.TheVariants.{First, Less};
 
+use crate::letter::Letter;
 use arrayvec::ArrayVec;
+use edge_algebra::is_normal;
 use relax_edges::{Edge, MAX_EDGES};
 use std::marker::Model;
+
+/// How the end of a list of edges repeats its beginning.
+#[derive(Clone, Copy, Default)]
+enum Repeat {
+    /// So many edges at its end, and not all edges, are the first ones again; no suffix of it is less than
+    /// the list, and each longer one, but the whole list, is greater.
+    First(u8),
+    /// Some suffix is less than the list: no normal form begins with it.
+    #[default]
+    Less,
+}
+
+/// How the end of a list repeats its beginning, with one edge more of this rank, where it repeats the first `many` edges and the next one
+/// has the rank `next`.
+fn repeat_after(many: u8, next: u16, rank: u16) -> Repeat
+    requires { many < MAX_EDGES }
+    ensures same { rank ≡ next → result ≡ First (many + 1) }
+    ensures less { rank < next → result ≡ Less }
+    ensures greater { next < rank → result ≡ First 0 }
+{
+    if rank < next {
+        Repeat::Less
+    } else if rank == next {
+        Repeat::First(many + 1)
+    } else {
+        Repeat::First(0)
+    }
+}
 
 /// The first edges of the cycles that a walk looks for, with the rank of each edge beside it: so an edge is asked
 /// for its rank once, where it is appended, however often prefixes are compared. Each edge joins the next one.
@@ -15,6 +51,7 @@ use std::marker::Model;
 pub(crate) struct Prefix {
     edges: ArrayVec<Edge, MAX_EDGES>,
     ranks: ArrayVec<u16, MAX_EDGES>,
+    repeats: ArrayVec<Repeat, MAX_EDGES>,
 }
 
 impl Model for Prefix {
@@ -22,12 +59,13 @@ impl Model for Prefix {
     ghost use Rattle.relax_edges.specs.declared.edge.Edge.{Edge as EdgeValue};
     ghost use Rattle.relax_edges.specs.Order.{rank_of};
     ghost use Rattle.relax_edges.specs.JoinedEdges.{is_joined};
+    ghost use Rattle.cycle_enum.specs.Repeats.{HasRepeats};
 
     ghost Value = { List EdgeValue };
 
     ghost view = { λ p. p.edges.items };
 
-    ghost invariant = { λ p. (p.ranks.items ≡ map rank_of p.edges.items) × (is_joined p.edges.items ≡ true) };
+    ghost invariant = { λ p. (p.ranks.items ≡ map rank_of p.edges.items) × (is_joined p.edges.items ≡ true) × HasRepeats p.edges.items p.repeats.items };
 }
 
 /// The last edge of a prefix and its rank.
@@ -45,6 +83,7 @@ impl Prefix {
         Prefix {
             edges: ArrayVec::new(),
             ranks: ArrayVec::new(),
+            repeats: ArrayVec::new(),
         }
     }
 
@@ -76,13 +115,77 @@ impl Prefix {
     }
 
     /// Appends an edge that the last one joins.
-    pub(crate) fn push(&mut self, edge: Edge)
+    pub(crate) fn push(&mut self, letter: &Letter)
         requires room { length self.old < MAX_EDGES }
-        requires joined { last_joins self.old (edge ∷ []) ≡ true }
-        ensures { self.new ≡ self.old ++ edge ∷ [] }
+        requires joined { last_joins self.old (letter.now.edge ∷ []) ≡ true }
+        requires letter { IsLetter letter.now }
+        ensures { self.new ≡ self.old ++ letter.now.edge ∷ [] }
     {
-        self.edges.push(edge);
-        self.ranks.push(edge.rank());
+        let repeat = self.repeat_with(letter.rank);
+        self.edges.push(letter.edge);
+        self.ranks.push(letter.rank);
+        self.repeats.push(repeat);
+    }
+
+    /// How its end repeats its beginning with one edge more, of this rank.
+    fn repeat_with(&self, rank: u16) -> Repeat
+        requires { length self.now < MAX_EDGES }
+        ensures { (e : EdgeValue) → rank ≡ rank_of e → IsRepeat (self.now ++ e ∷ []) result }
+    {
+        match self.last_repeat() {
+            None => Repeat::First(0),
+            Some(last) => match last {
+                Repeat::Less => Repeat::Less,
+                Repeat::First(many) => repeat_after(many, self.rank_at(many), rank),
+            },
+        }
+    }
+
+    /// The rank of the edge at a place.
+    fn rank_at(&self, place: u8) -> u16
+        requires { place < length self.now }
+        ensures { result ≡ get_or (map rank_of self.now) place 0 }
+    {
+        self.ranks()[usize::from(place)]
+    }
+
+    /// How its end repeats its beginning, where it has an edge.
+    fn last_repeat(&self) -> Option<Repeat>
+        ensures some { IfSome result (λ repeat. IsRepeat self.now repeat) }
+        ensures none { IfNone result (self.now ≡ []) }
+    {
+        match self.repeats.as_slice() {
+            [] => None,
+            [.., last] => Some(*last),
+        }
+    }
+
+    /// Whether a normal form may begin with its edges: none does where the answer is no.
+    pub(crate) fn may_begin(&self) -> bool
+        ensures { IsFalse result → LeadsNowhere IsNormal self.now }
+    {
+        match self.last_repeat() {
+            None => true,
+            Some(last) => match last {
+                Repeat::Less => false,
+                Repeat::First(_) => true,
+            },
+        }
+    }
+
+    /// Whether its edges are a normal form.
+    pub(crate) fn is_normal(&self) -> bool
+        requires some { 0 < length self.now }
+        requires few { length self.now ≤ MAX_EDGES }
+        ensures { IsTrue result ↔ IsNormal self.now }
+    {
+        match self.last_repeat() {
+            None => unreachable!(),
+            Some(last) => match last {
+                Repeat::Less => false,
+                Repeat::First(many) => many == 0 || is_normal(self.edges(), self.ranks()),
+            },
+        }
     }
 
     /// Takes its last edge away, and gives it with its rank.
@@ -93,6 +196,7 @@ impl Prefix {
     {
         let edge = self.edges.pop()?;
         let rank = self.ranks.pop()?;
+        self.repeats.pop()?;
         Some(Last { edge, rank })
     }
 }

@@ -10,9 +10,10 @@ ghost use Rattle.walk_laws.specs.Search.{IsCut, IsFirst, LeadsNowhere, LongerTha
 ghost use Rattle.cycle_enum.specs.Walking.{KeepsList, KnowsOf, Lists, Walking};
 
 use crate::alphabet::{Alphabet, closes};
+use crate::letter::Letter;
 use crate::limits::Limits;
 use crate::prefix::Prefix;
-use edge_algebra::{Cycle, is_normal, may_begin};
+use edge_algebra::Cycle;
 use relax_edges::{Edge, MAX_EDGES, Relaxes};
 use std::marker::Model;
 
@@ -177,7 +178,7 @@ impl<K: Fn(&[Edge]) -> bool, J: Fn(&[Edge]) -> bool, P: Fn(&Cycle) -> bool> Walk
         ensures { IsCut (Lists P.Fn.post self.now) (KeepsList K.Fn.post J.Fn.post self.now) edges.now list.new }
     {
         for edge in edges {
-            list.push(*edge);
+            list.push(&Letter::of(*edge));
             if !self.is_kept(list.edges()) {
                 return;
             }
@@ -218,7 +219,7 @@ impl<K: Fn(&[Edge]) -> bool, J: Fn(&[Edge]) -> bool, P: Fn(&Cycle) -> bool> Walk
         ensures kept { IsTrue result → KeepsList K.Fn.post J.Fn.post self.now list.now }
         ensures refused { IsFalse result → LeadsNowhere (Lists P.Fn.post self.now) list.now }
     {
-        if !may_begin(list.ranks()) {
+        if !list.may_begin() {
             return false;
         }
         if !self.is_kept(list.edges()) {
@@ -256,7 +257,7 @@ impl<K: Fn(&[Edge]) -> bool, J: Fn(&[Edge]) -> bool, P: Fn(&Cycle) -> bool> Walk
         if !self.leads_on(list) {
             return false;
         }
-        if !is_normal(list.edges(), list.ranks()) {
+        if !list.is_normal() {
             return false;
         }
         self.has_listed(list, found)

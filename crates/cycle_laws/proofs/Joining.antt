@@ -1,6 +1,6 @@
 -- Where an edge joins the next, the two agree on what the access between them does, and on its mark.
-use Rattle.std.specs.Prelude.{◌≡◌, Bool, true, false}
-use Rattle.std.proofs.Common.{refl}
+use Rattle.std.specs.Prelude.{◌≡◌, true}
+use Rattle.std.proofs.Common.{refl, sym}
 use Rattle.std.proofs.lemmas.Bool.{and_parts}
 use Rattle.relax_edges.specs.declared.kinds.Dir.{Dir}
 use Rattle.relax_edges.specs.declared.kinds.Dir.TheVariants as dirs
@@ -9,7 +9,8 @@ use Rattle.relax_edges.specs.declared.kinds.Mark.TheVariants.{Plain, Acquire, Re
 use Rattle.relax_edges.specs.declared.edge.Edge.{Edge}
 use Rattle.relax_edges.specs.EdgeTable.{source_of, target_of, source_mark, target_mark, same_dir, same_mark, joins_to}
 
-same_dir_is : (a b : Dir) → same_dir a b ≡ true → b ≡ a
+-- accesses that the test finds to do the same do the same
+pub same_dir_is : (a b : Dir) → same_dir a b ≡ true → a ≡ b
 same_dir_is dirs.R dirs.R e = refl
 same_dir_is dirs.W dirs.W e = refl
 same_dir_is dirs.R dirs.W e = cc
@@ -30,7 +31,7 @@ same_mark_is Release Acquire e = cc
 -- the access that the next edge leaves does what the access that the edge enters does
 pub joined_dirs : (edge next : Edge) → joins_to edge next ≡ true → source_of next ≡ target_of edge
 joined_dirs edge next joins =
-    same_dir_is (target_of edge) (source_of next) (and_parts (same_dir (target_of edge) (source_of next)) (same_mark (target_mark edge) (source_mark next)) joins).0
+    sym (same_dir_is (target_of edge) (source_of next) (and_parts (same_dir (target_of edge) (source_of next)) (same_mark (target_mark edge) (source_mark next)) joins).0)
 
 -- and it has the same mark
 pub joined_marks : (edge next : Edge) → joins_to edge next ≡ true → source_mark next ≡ target_mark edge

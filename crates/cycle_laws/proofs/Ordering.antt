@@ -43,6 +43,7 @@ pub above_after : (prefix u v : List Edge) → Above (prefix ++ u) (prefix ++ v)
 above_after [] u v h = h
 above_after (x ∷ prefix) u v h = elim h [ inl less ↦ absurd (omega arith) | inr both ↦ above_after prefix u v both.1 ]
 
+-- and the other way round
 pub above_before : (prefix u v : List Edge) → Above u v → Above (prefix ++ u) (prefix ++ v)
 above_before [] u v h = h
 above_before (x ∷ prefix) u v h = inr (refl, above_before prefix u v h)

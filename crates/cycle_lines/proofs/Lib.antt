@@ -2,6 +2,7 @@ pub mod Joined
 pub mod Words
 pub mod LineLaws
 pub mod Cuts
+pub mod Labels
 pub mod ReadLaws
 pub mod NormLaws
 pub mod NameSetLaws

@@ -3,7 +3,7 @@ use Rattle.std.proofs.Common.{◌≡◌, ◌==◌, ℕ, zero, suc, ◌+◌, ◌<
 use Rattle.std.specs.Prelude.{map}
 use Rattle.std.specs.List.{slice_split}
 use Rattle.std.proofs.lemmas.List.{map-append, length-map}
-use Rattle.std.proofs.lemmas.List.Splits.{slice_split_at, slice_split_none, length-slice_split}
+use Rattle.std.proofs.lemmas.List.Splits.{slice_split_none, length-slice_split}
 use Rattle.std.proofs.lemmas.Bool.Decides.{nat_tests}
 use Rattle.list_laws.proofs.Cases.{by_test}
 use Rattle.diy_io.specs.Sink.{line_feed_count}
@@ -78,27 +78,6 @@ ended_nil = ended_none [] (without_nil 10)
 -- nothing is unended in an empty text
 pub unended_nil : unended [] ≡ []
 unended_nil = unended_all [] (without_nil 10)
-
--- a line, its line feed, and what comes after it
-pub ended_cut : (line rest : List ℕ) → Without 10 line → ended_lines (line ++ 10 ∷ rest) ≡ without_return line ∷ ended_lines rest
-unfolding ended_lines whole_lines
-ended_cut line rest h =
-    let first = first_piece is_line_feed rest in
-    ap (λ t. map without_return (but_last t)) (slice_split_at is_line_feed line 10 rest h refl)
-    ∙ rw first.is refl
-
--- what is unended after a line and its line feed is what is unended in the rest
-pub unended_cut : (line rest : List ℕ) → Without 10 line → unended (line ++ 10 ∷ rest) ≡ unended rest
-unfolding unended
-unended_cut line rest h =
-    let first = first_piece is_line_feed rest in
-    ap last_of (slice_split_at is_line_feed line 10 rest h refl) ∙ rw first.is refl
-
--- the lines of a text are the line before its first line feed, and then those of the rest
-pub lines_cut : (line rest : List ℕ) → Without 10 line → lines_of (line ++ 10 ∷ rest) ≡ without_return line ∷ lines_of rest
-lines_cut line rest h =
-    ap (λ t. t ++ last_line (unended (line ++ 10 ∷ rest))) (ended_cut line rest h)
-    ∙ ap (λ t. (without_return line ∷ ended_lines rest) ++ last_line t) (unended_cut line rest h)
 
 -- what the return takes off
 return_short : (text : List ℕ) → length (without_return text) ≤ length text

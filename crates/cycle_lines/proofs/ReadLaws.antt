@@ -26,7 +26,8 @@ use Rattle.text_laws.specs.Lines.{without_return, ended_lines, unended, last_lin
 use Rattle.cycle_lines.specs.Cycles.{line_said, line_fault, is_sound, are_sound, cycle_said, cycles_of, is_long_line}
 use Rattle.cycle_lines.specs.LineReading.{TookUpTo, Untouched, ReadAll, ReadToFault, ReadToLimit, ReadToStop, ReadSome, whole_of, cycles_before}
 use Rattle.cycle_lines.specs.LineSteps.{Without, CutsAtSign, ReaderSeen, HasRead, GivesLine, GivesNext, line_said_by, work, Fills, FillsBuffer, Ended, Stops, Ends, LessToDo, Continues, last_cycle}
-use Rattle.cycle_lines.proofs.LineLaws.{ended_after, unended_after, lines_after, ended_none, unended_all, ended_nil, unended_nil, ended_cut, unended_cut, lines_cut, short_pending, long_first, ended_count}
+use Rattle.cycle_lines.proofs.LineLaws.{ended_after, unended_after, lines_after, ended_none, unended_all, ended_nil, unended_nil, short_pending, long_first, ended_count}
+use Rattle.text_laws.proofs.LineLaws.{ended_cut, unended_cut, lines_cut}
 
 -- bytes that are taken one after another
 consumes_both : (a b c : Option (List ℕ)) (x y : List ℕ) → Consumes a b x → Consumes b c y → Consumes a c (x ++ y)

@@ -7,7 +7,7 @@ use Rattle.relax_edges.specs.declared.TheConstants.{MAX_EDGES}
 use Rattle.relax_edges.specs.declared.kinds.ArchName.{ArchName}
 use Rattle.relax_edges.specs.declared.edge.Edge.{Edge}
 use Rattle.edge_lists.specs.declared.read.Separators.TheVariants.{Blanks}
-use Rattle.edge_lists.specs.Spelled.{edges_of, separates}
+use Rattle.edge_lists.specs.Spelled.{separates, text_edges}
 use Rattle.edge_algebra.specs.declared.errors.CycleError.{CycleError}
 use Rattle.edge_algebra.specs.Compose.{composed}
 use Rattle.cycle_names.specs.Laws.{are_of_arch}
@@ -27,10 +27,6 @@ after_colon (byte ∷ text) = cond (byte == 58) (Some text) (after_colon text)
 -- a line without a label: all of it, if it has no colon
 abbrev pub without_label : List ℕ → List ℕ
 without_label line = unwrap_or (after_colon line) line
-
--- the edges of a text, which blanks separate; None where a word in it is no edge
-abbrev pub text_edges : List ℕ → Option (List Edge)
-text_edges text = edges_of Blanks text
 
 -- a list of edges as a cycle, or the fault that it composes to none
 abbrev pub composed_or : Result (List Edge) CycleError → Result (Option (List Edge)) LineKind

@@ -1,15 +1,17 @@
 ghost use Rattle.std.specs.Prelude.{◌≡◌, [], ◌∷◌, ◌++◌, Some, option_map};
-ghost use Rattle.relax_edges.specs.EdgeTable.{joins_to};
+ghost use Rattle.relax_edges.specs.declared.edge.Edge.{Edge};
+ghost use Rattle.relax_edges.specs.EdgeTable.{source_of, target_of, source_mark, target_mark};
 ghost use Rattle.relax_edges.specs.JoinedEdges.{is_joined};
 ghost use Rattle.cycle_laws.specs.Composable.{IsCycle};
 ghost use Rattle.cycle_names.specs.Laws.{are_of_arch};
-ghost use Rattle.cycle_lines.specs.Cycles.{text_edges, spelled_made, cycle_made, cycle_spelled, quoted_cycle};
+ghost use Rattle.edge_lists.specs.Spelled.{text_edges};
+ghost use Rattle.cycle_lines.specs.Cycles.{spelled_made, cycle_made, cycle_spelled, quoted_cycle};
 ghost use Rattle.cycle_lines.specs.KeptLines.{made_kept, said_with};
 
 use crate::errors::LineKind;
 use edge_algebra::Cycle;
 use edge_lists::{EdgeList, Separators, read_edges};
-use relax_edges::{ArchName, Edge, MAX_EDGES, UnknownEdge};
+use relax_edges::{ArchName, Com, Dir, Edge, MAX_EDGES, Mark, UnknownEdge};
 
 /// Makes `cycle` the cycle of an architecture that a text spells, whose edges blanks separate, or
 /// finds the first fault that it has. `edges` is room for the edges: what it held doesn't count.
@@ -96,18 +98,50 @@ fn are_joined(edges: &[Edge], next: &Edge) -> bool
 {
     match edges {
         [] => true,
-        [edge, rest @ ..] => { joins(edge, rest.first().unwrap_or(next)) && are_joined(rest, next) }
+        [edge, rest @ ..] => follow(directions(edge).1, marks(edge).1, rest, next),
     }
 }
 
-/// Whether an edge joins the next one. Edges without marks, which are met most often, are read where
-/// they are, which `Edge::joins` doesn't do.
-fn joins(edge: &Edge, next: &Edge) -> bool
-    ensures { result ≡ joins_to edge.now next.now }
+/// Whether edges follow an access that does this and has this mark: whether each joins the next one,
+/// where `next` comes after the last.
+fn follow(dir: Dir, mark: Mark, edges: &[Edge], next: &Edge) -> bool
+    ensures { (edge : Edge) → target_of edge ≡ dir → target_mark edge ≡ mark → result ≡ is_joined (edge ∷ (edges.now ++ next.now ∷ [])) }
 {
-    match (*edge, *next) {
-        (Edge::Marked(_), _) | (_, Edge::Marked(_)) => edge.joins(*next),
-        _ => edge.target() == next.source(),
+    match edges {
+        [] => dir == directions(next).0 && mark == marks(next).0,
+        [edge, rest @ ..] => {
+            let (source, target) = directions(edge);
+            let (source_mark, target_mark) = marks(edge);
+            dir == source && mark == source_mark && follow(target, target_mark, rest, next)
+        }
+    }
+}
+
+/// What the accesses do that an edge leaves and enters. Edges without marks, which are met most often,
+/// are read where they are, which `Edge::source` and `Edge::target` don't do, and once for both.
+fn directions(edge: &Edge) -> (Dir, Dir)
+    ensures source { result.0 ≡ source_of edge.now }
+    ensures target { result.1 ≡ target_of edge.now }
+{
+    match *edge {
+        Edge::Com { com: Com::Rf, .. } => (Dir::W, Dir::R),
+        Edge::Com { com: Com::Fr, .. } => (Dir::R, Dir::W),
+        Edge::Com { com: Com::Ws, .. } => (Dir::W, Dir::W),
+        Edge::Po { from, to, .. } | Edge::Fenced { from, to, .. } => (from, to),
+        Edge::Dep { to, .. } => (Dir::R, to),
+        Edge::Data { .. } => (Dir::R, Dir::W),
+        Edge::Marked(_) => (edge.source(), edge.target()),
+    }
+}
+
+/// The marks of the accesses that an edge leaves and enters.
+fn marks(edge: &Edge) -> (Mark, Mark)
+    ensures source { result.0 ≡ source_mark edge.now }
+    ensures target { result.1 ≡ target_mark edge.now }
+{
+    match *edge {
+        Edge::Marked(_) => (edge.source_mark(), edge.target_mark()),
+        _ => (Mark::Plain, Mark::Plain),
     }
 }
 
@@ -117,5 +151,8 @@ fn keep(edges: &[Edge], cycle: &mut Option<Cycle>)
     requires { IsCycle edges.now }
     ensures { cycle.new ≡ Some edges.now }
 {
-    *cycle = Some(Cycle::of(edges));
+    match cycle {
+        Some(cycle) => cycle.refill(edges),
+        None => *cycle = Some(Cycle::of(edges)),
+    }
 }

@@ -14,7 +14,10 @@ use text_parts::{Class, cut};
 
 /// Makes `cycle` what a line says: its cycle, or none where it has no byte but blanks; or finds the
 /// first fault that it has. `edges` is room for the edges: what it held doesn't count.
-#[tactic(auto, unfolding(crate::specs::Cycles::line_said))]
+///
+/// Most lines have no label, and no edge is spelled with a colon, so a label is sought only where the
+/// whole line makes no cycle.
+#[tactic(auto, using(crate::proofs::Labels::read_unlabelled), unfolding(crate::specs::Cycles::line_said))]
 pub(crate) fn read_line(
     arch: ArchName,
     line: &[u8],
@@ -30,7 +33,10 @@ pub(crate) fn read_line(
         *cycle = None;
         return Ok(());
     }
-    read_cycle(arch, without_label(line), edges, cycle)
+    match read_cycle(arch, line, edges, cycle) {
+        Ok(()) => Ok(()),
+        Err(_) => read_cycle(arch, without_label(line), edges, cycle),
+    }
 }
 
 fn are_blank(line: &[u8]) -> bool

@@ -15,12 +15,12 @@ use Rattle.relax_edges.specs.EdgeTable.{is_diff}
 use Rattle.cycle_laws.specs.Rotation.{rotated}
 use Rattle.cycle_names.specs.declared.links.Links.{Links}
 use Rattle.cycle_names.specs.declared.links.Links.TheVariants.{Absent, Alike, Different}
-use Rattle.cycle_names.specs.LinkWords.{link_word, link_words}
-use Rattle.cycle_names.specs.CycleNames.{after_plus, links_text}
-use Rattle.cycle_names.specs.Fitting.{link_text, first_link_text, word_place, has_word_place, with_place, links_after}
+use Rattle.cycle_names.specs.LinkWords.{link_words}
+use Rattle.cycle_names.specs.CycleNames.{links_text}
+use Rattle.cycle_names.specs.Fitting.{link_text, place_text, word_place, has_word_place, with_place, links_after}
+use Rattle.cycle_names.proofs.LinkTexts.{text_at_place}
 use Rattle.cycle_names.proofs.Members.{found_passes}
 use Rattle.cycle_names.proofs.Tables.{no_place, some_place}
-use Rattle.cycle_names.proofs.Outlines.{words_same}
 use Rattle.cycle_names.proofs.Texts.{text_of_none, text_at_plain, text_at_one, text_at_each}
 
 -- a test passes all edges of a rotation where it passes all
@@ -164,13 +164,10 @@ text_different u k a =
 
 -- the words of a cycle and of its rotation, where all have one place
 record OneWord (u : List Edge) (k p : ℕ) : Type 0 where
-  first : Edge
-  found : find is_diff u ≡ Some first
   one : Edge
   turned : find is_diff (rotated k u) ≡ Some one
   at : word_place one ≡ p
   all : list_all (has_word_place (word_place one)) (rotated k u) ≡ true
-  text : link_text one ≡ link_text first
 
 alike_place : (b : Bool) (n p : ℕ) → cond b (Alike n) Different ≡ Alike p → (b ≡ true) × (n ≡ p)
 alike_place true n p e = let z : n ≡ p = cc in (refl, z)
@@ -187,15 +184,10 @@ one_word u k p a =
     let d : is_diff first.one ≡ true = found_passes is_diff (rotated k u) first.one first.found in
     let at : word_place first.one ≡ p = same_place p first.one d (all_of_found (has_word_place p) is_diff (rotated k u) first.one first.found all) in
     record {
-      first = e;
-      found = h;
       one = first.one;
       turned = first.found;
       at = at;
       all = ap (λ n. list_all (has_word_place n) (rotated k u)) at ∙ all;
-      text = cond-true (is_diff first.one) (after_plus (link_word first.one)) [] d
-          ∙ ap after_plus (words_same first.one e (at ∙ sym said.1))
-          ∙ sym (cond-true (is_diff e) (after_plus (link_word e)) [] (found_passes is_diff u e h));
     })
 
 -- where all words are `po`, nothing comes
@@ -203,7 +195,7 @@ pub text_plain : (u : List Edge) (k p : ℕ) → links_after Absent u ≡ Alike 
 text_plain u k p a e = let w = one_word u k p a in text_at_plain (rotated k u) w.one (w.at ∙ e) w.all
 
 -- where all are another word, it comes once, and an `s`
-pub text_alike : (u : List Edge) (k p : ℕ) → links_after Absent u ≡ Alike p → (p ≡ 126 → ⊥) → links_text (link_words (rotated k u)) ≡ first_link_text (find is_diff u) ++ codes "s"
+pub text_alike : (u : List Edge) (k p : ℕ) → links_after Absent u ≡ Alike p → (p ≡ 126 → ⊥) → links_text (link_words (rotated k u)) ≡ place_text p ++ codes "s"
 text_alike u k p a n =
     let w = one_word u k p a in
-    text_at_one (rotated k u) w.one w.turned (λ e. n (sym w.at ∙ e)) w.all ∙ ap (λ t. t ++ codes "s") w.text ∙ sym (ap (λ o. first_link_text o ++ codes "s") w.found)
+    text_at_one (rotated k u) w.one w.turned (λ e. n (sym w.at ∙ e)) w.all ∙ ap (λ t. t ++ codes "s") (sym (text_at_place w.one) ∙ ap place_text w.at)

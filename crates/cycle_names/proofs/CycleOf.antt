@@ -29,12 +29,13 @@ use Rattle.cycle_names.specs.LinkWords.{link_words}
 use Rattle.cycle_names.specs.Rotations.{family_of, found_family, named_rotation}
 use Rattle.cycle_names.specs.CycleNames.{links_text, name_from, name_of}
 use Rattle.cycle_names.specs.Fitting.{IsNamedAt}
-use Rattle.cycle_names.specs.NameReading.{begins_with_word, named_family, before, marked_between, first_mark, last_mark, marked_along, marked_around, marked_if, slots_filled, words_read, read_by_family, edges_read, AddsEdges}
+use Rattle.cycle_names.specs.NameReading.{begins_with_word, named_family, marked_between, first_mark, last_mark, marked_along, marked_around, marked_if, slots_filled, words_read, read_by_family, edges_read, AddsEdges}
 use Rattle.cycle_names.specs.Laws.{are_of_arch, IsNamed, NamesNone}
 use Rattle.cycle_names.proofs.Members.{found_passes}
 use Rattle.cycle_names.proofs.Chosen.{named_rotates, least_named}
 use Rattle.cycle_names.proofs.ReadBack.{name_back}
 use Rattle.cycle_names.proofs.NameLaws.{named, arch_turned}
+use Rattle.relax_edges.specs.ReadEdges.{before_edges}
 
 -- the name that a cycle of a family gets
 pub name_in_family : (u : List Edge) (f : Family) (place : ℕ) → IsNamedAt u f place → name_of u ≡ family_word f ++ links_text (link_words (rotated place u))
@@ -131,7 +132,7 @@ record HasRest (p : Option (List Edge)) (v : List Edge) : Type 0 where
   is : p ≡ Some rest
   long : length v ≡ suc (length rest)
 
-before_long : (o : Option Edge) (p : Option (List Edge)) (v : List Edge) → before o p ≡ Some v → HasRest p v
+before_long : (o : Option Edge) (p : Option (List Edge)) (v : List Edge) → before_edges o p ≡ Some v → HasRest p v
 before_long (Some e) (Some w) v h = record { rest = w; is = refl; long = ap length (same_Some v (e ∷ w) (sym h)) }
 before_long (Some e) None v h = cc
 before_long None p v h = cc

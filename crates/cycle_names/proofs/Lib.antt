@@ -15,3 +15,4 @@ pub mod Numbers
 pub mod Places
 pub mod Steps
 pub mod CycleOf
+pub mod LinkTexts

@@ -16,8 +16,9 @@ use Rattle.cycle_laws.proofs.Joining.{same_mark_is, joined_marks}
 use Rattle.cycle_laws.proofs.Marks.{marked_edge_of}
 use Rattle.cycle_names.specs.LinkWords.{edge_of_slot}
 use Rattle.cycle_names.specs.Rotations.{is_plain_before, all_unmarked, is_plain_outside}
-use Rattle.cycle_names.specs.NameReading.{before, last_mark, marked_between, marked_along, marked_around}
+use Rattle.cycle_names.specs.NameReading.{last_mark, marked_between, marked_along, marked_around}
 use Rattle.cycle_names.proofs.Tables.{slot_is_external, external_same}
+use Rattle.relax_edges.specs.ReadEdges.{before_edges}
 
 -- what a name says of an edge: a link with its marks, another edge without
 abbrev pub said_of : Edge → Edge
@@ -112,7 +113,7 @@ one_back from to e h s t =
     cond-false (is_external (said_of e)) (marked_edge (kind_of (said_of e)) from to) (Some (said_of e)) (ap is_external (said_link e d) ∙ x)
     ∙ ap Some (said_link e d))
 
-both_there : (o : Option Edge) (p : Option (List Edge)) (e : Edge) (v : List Edge) → o ≡ Some e → p ≡ Some v → before o p ≡ Some (e ∷ v)
+both_there : (o : Option Edge) (p : Option (List Edge)) (e : Edge) (v : List Edge) → o ≡ Some e → p ≡ Some v → before_edges o p ≡ Some (e ∷ v)
 both_there o p e v a b = rw (a, b) refl
 
 along_back : (from : Mark) (e : Edge) (v : List Edge) (last : Edge) → is_joined ((e ∷ v) ++ last ∷ []) ≡ true → all_unmarked ((e ∷ v) ++ last ∷ []) ≡ true →

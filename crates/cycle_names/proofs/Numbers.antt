@@ -17,7 +17,7 @@ digit_bound a b p x y h l =
     let m : suc a * p ≤ b * p = mul-le-mul_right p h in
     omega (arith, suc-mul a p, m, l)
 
--- one digit more: what stands before it counts once more by the base
+-- one digit more: what comes before it counts once more by the base
 digit_push : (a p base q d n : ℕ) → n ≡ q * base + d → a * (p * base) + n ≡ (a * p + q) * base + d
 digit_push a p base q d n e = omega (arith, e, mul_assoc a p base, add-mul (a * p) q base)
 
@@ -92,6 +92,7 @@ worth_of_words n h = pow-le-pow_right (omega arith) h
 pub slots_below : (u : List Edge) → slots_number u < 8 ^ length u
 slots_below u = number_below 8 slot_digit slot_digit_small u
 
+-- the same of the number of words
 pub words_below_worth : (u : List Edge) → words_number u < 256 ^ length u
 words_below_worth u = number_below 256 word_place word_place_small u
 
@@ -103,6 +104,7 @@ five_slots u i n h e =
     let below : slots_number (take i u) < 8 ^ length (take i u) = slots_below (take i u) in
     omega (arith, e, worth, below)
 
+-- the same of the number of words
 pub five_words : (u : List Edge) (i n : ℕ) → i < 6 → n ≡ words_number (take i u) → n < 1099511627776
 five_words u i n h e =
     let few : length (take i u) ≤ 5 = omega (arith, h, length-take i u) in
@@ -115,6 +117,7 @@ pub slots_more : (u : List Edge) (i n : ℕ) (d : Edge) → i < length u → n �
 slots_more u i n d h e =
     ap (λ m. m * 8 + slot_digit (get_or u i d)) e ∙ sym (ap slots_number (take_more u i d h) ∙ number_push 8 slot_digit slot_digit_small (take i u) (get_or u i d))
 
+-- the same of the number of words
 pub words_more : (u : List Edge) (i n : ℕ) (d : Edge) → i < length u → n ≡ words_number (take i u) → n * 256 + word_place (get_or u i d) ≡ words_number (take (i + 1) u)
 words_more u i n d h e =
     ap (λ m. m * 256 + word_place (get_or u i d)) e ∙ sym (ap words_number (take_more u i d h) ∙ number_push 256 word_place word_place_small (take i u) (get_or u i d))
@@ -127,18 +130,19 @@ pub record Turn (k : ℕ) (u : List Edge) : Type 0 where
   pub sooner : rotated k u ≡ one ∷ others
   pub long : length u ≡ suc (length others)
 
+-- each rotation and the one after it are so
 pub turn : (k : ℕ) (u : List Edge) → k < length u → Turn k u
 turn k [] h = absurd (omega (arith, h))
 turn k (e ∷ rest) h =
     let u : List Edge = e ∷ rest in
-    let front = take_more u k e h in
+    let up_to = take_more u k e h in
     let back = drop_more u k e h in
     record {
       one = get_or u k e;
       others = drop (k + 1) u ++ take k u;
-      later = ap (λ w. drop (k + 1) u ++ w) front ∙ sym (append_assoc (drop (k + 1) u) (take k u) (get_or u k e ∷ []));
+      later = ap (λ w. drop (k + 1) u ++ w) up_to ∙ sym (append_assoc (drop (k + 1) u) (take k u) (get_or u k e ∷ []));
       sooner = ap (λ w. w ++ take k u) back;
-      long = omega (arith, length-append (drop (k + 1) u) (take k u), length-append (take k u) (get_or u k e ∷ []), ap length front, ap length (take-append-drop (k + 1) u), length-append (take (k + 1) u) (drop (k + 1) u));
+      long = omega (arith, length-append (drop (k + 1) u) (take k u), length-append (take k u) (get_or u k e ∷ []), ap length up_to, ap length (take-append-drop (k + 1) u), length-append (take (k + 1) u) (drop (k + 1) u));
     }
 
 turned_digits : (base n q d p w : ℕ) → n ≡ q * base + d → w ≡ p * base → n % base ≡ d → n + n % base * w ≡ (q + d * p) * base + d
@@ -158,6 +162,7 @@ slots_turned k n w u h e f =
     let value : (n + n % 8 * w) / 8 ≡ slots_number t.others + slot_digit t.one * p = ap (λ x. x / 8) whole ∙ omega (arith, small) in
     value ∙ omega (arith, ap (λ x. slot_digit t.one * 8 ^ x) (length-map t.others slot_digit)) ∙ sym (ap slots_number t.sooner)
 
+-- the same of the number of words
 pub words_turned : (k n w : ℕ) (u : List Edge) → k < length u → n ≡ words_number (rotated (k + 1) u) → w ≡ 256 ^ length u → (n + n % 256 * w) / 256 ≡ words_number (rotated k u)
 words_turned k n w u h e f =
     let t = turn k u h in

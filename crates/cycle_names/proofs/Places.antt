@@ -103,6 +103,7 @@ slots_bound u k n w e f =
     let b : slots_number (rotated k u) < 8 ^ length (rotated k u) = slots_below (rotated k u) in
     omega (arith, e, f, b, ap (λ x. 8 ^ x) (rotated_length k u))
 
+-- the same of the number of words
 pub words_bound : (u : List Edge) (k n w : ℕ) → n ≡ words_number (rotated k u) → w ≡ 256 ^ length u → n < w
 words_bound u k n w e f =
     let b : words_number (rotated k u) < 256 ^ length (rotated k u) = words_below_worth (rotated k u) in

@@ -13,6 +13,7 @@ use Rattle.relax_edges.specs.declared.edge.Edge.{Edge}
 use Rattle.relax_edges.specs.EdgeTable.{is_diff}
 use Rattle.relax_edges.specs.WordParts.{word_of}
 use Rattle.relax_edges.specs.Spelling.{edge_of}
+use Rattle.relax_edges.specs.ReadEdges.{before_edges}
 use Rattle.cycle_laws.proofs.SpellingLaws.{edge_of-word_of}
 use Rattle.list_laws.proofs.Places.{before_first-no}
 use Rattle.cycle_laws.specs.Composable.{IsCycle}
@@ -24,7 +25,7 @@ use Rattle.cycle_names.specs.Families.{family_word, family_edges, all_families}
 use Rattle.cycle_names.specs.LinkWords.{edge_of_slot, outline, link_word, link_words}
 use Rattle.cycle_names.specs.Rotations.{fits_family, found_family, named_rotation}
 use Rattle.cycle_names.specs.CycleNames.{after_plus, all_equal, plural, links_text, name_from, name_of}
-use Rattle.cycle_names.specs.NameReading.{is_plus, is_dash, named_family, link_with, slot_with, before, filled_alike, first_name_word, after_word, filled_each, without_last_byte, slots_filled, marked_if, edges_of_words, read_by_family, edges_read}
+use Rattle.cycle_names.specs.NameReading.{is_plus, is_dash, named_family, link_with, slot_with, filled_alike, first_name_word, after_word, filled_each, without_last_byte, slots_filled, marked_if, edges_of_words, read_by_family, edges_read}
 use Rattle.cycle_names.proofs.Tables.{slot_is_diff, link_back, link_word_whole, word_whole}
 use Rattle.cycle_names.proofs.Marks.{said_of, said_link, said_slot}
 use Rattle.cycle_names.proofs.Outlines.{outline_of_fits, words_of_link, words_of_plain}
@@ -51,7 +52,7 @@ slot_back e word h =
     (λ t. cond-true (is_diff (edge_of_slot e)) (link_with (edge_of_slot e) word) (Some (edge_of_slot e)) (slot_is_diff e ∙ t) ∙ ap (link_with (edge_of_slot e)) (h t) ∙ link_back e t ∙ ap Some (sym (said_link e t)))
     (λ f. cond-false (is_diff (edge_of_slot e)) (link_with (edge_of_slot e) word) (Some (edge_of_slot e)) (slot_is_diff e ∙ f) ∙ ap Some (sym (said_slot e f)))
 
-both_there : (o : Option Edge) (p : Option (List Edge)) (e : Edge) (v : List Edge) → o ≡ Some e → p ≡ Some v → before o p ≡ Some (e ∷ v)
+both_there : (o : Option Edge) (p : Option (List Edge)) (e : Edge) (v : List Edge) → o ≡ Some e → p ≡ Some v → before_edges o p ≡ Some (e ∷ v)
 both_there o p e v a b = rw (a, b) refl
 
 -- where all links have one word
@@ -84,14 +85,14 @@ each_back (e ∷ v) =
     (λ t.
     let text : List ℕ = 43 ∷ (link_word e ++ flat_map after_plus (link_words v)) in
     ap (filled_each (edge_of_slot e ∷ outline v)) (ap (flat_map after_plus) (words_of_link e v t))
-    ∙ cond-true (is_diff (edge_of_slot e)) (before (link_with (edge_of_slot e) (first_name_word text)) (filled_each (outline v) (after_word text))) (before (Some (edge_of_slot e)) (filled_each (outline v) text)) (slot_is_diff e ∙ t)
+    ∙ cond-true (is_diff (edge_of_slot e)) (before_edges (link_with (edge_of_slot e) (first_name_word text)) (filled_each (outline v) (after_word text))) (before_edges (Some (edge_of_slot e)) (filled_each (outline v) text)) (slot_is_diff e ∙ t)
     ∙ both_there (link_with (edge_of_slot e) (first_name_word text)) (filled_each (outline v) (after_word text)) (said_of e) (map said_of v)
     (ap (link_with (edge_of_slot e)) (first_word_is (link_word e) (link_words v) (link_word_whole e)) ∙ link_back e t ∙ ap Some (sym (said_link e t)))
     (ap (filled_each (outline v)) (after_word_is (link_word e) (link_words v) (link_word_whole e)) ∙ each_back v))
     (λ f.
     let text : List ℕ = flat_map after_plus (link_words v) in
     ap (filled_each (edge_of_slot e ∷ outline v)) (ap (flat_map after_plus) (words_of_plain e v f))
-    ∙ cond-false (is_diff (edge_of_slot e)) (before (link_with (edge_of_slot e) (first_name_word text)) (filled_each (outline v) (after_word text))) (before (Some (edge_of_slot e)) (filled_each (outline v) text)) (slot_is_diff e ∙ f)
+    ∙ cond-false (is_diff (edge_of_slot e)) (before_edges (link_with (edge_of_slot e) (first_name_word text)) (filled_each (outline v) (after_word text))) (before_edges (Some (edge_of_slot e)) (filled_each (outline v) text)) (slot_is_diff e ∙ f)
     ∙ both_there (Some (edge_of_slot e)) (filled_each (outline v) text) (said_of e) (map said_of v) (ap Some (sym (said_slot e f))) (each_back v))
 
 -- no word of a link has a `+`

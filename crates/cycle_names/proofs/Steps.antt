@@ -12,19 +12,20 @@ use Rattle.list_laws.proofs.Cases.{by_test, by_option, by_less}
 use Rattle.relax_edges.specs.declared.TheConstants.{MAX_EDGES}
 use Rattle.relax_edges.specs.declared.order.TheConstants.{EDGES}
 use Rattle.relax_edges.specs.declared.kinds.Dir.{Dir}
-use Rattle.relax_edges.specs.declared.kinds.Dir.TheVariants.{R, W}
 use Rattle.relax_edges.specs.declared.kinds.Mark.{Mark}
 use Rattle.relax_edges.specs.declared.edge.Edge.{Edge}
 use Rattle.relax_edges.specs.EdgeTable.{source_of, target_of, target_mark, is_diff, same_dir}
 use Rattle.relax_edges.specs.Order.{rank_of}
 use Rattle.relax_edges.specs.Spelling.{edge_of}
+use Rattle.relax_edges.specs.ReadEdges.{before_edges}
 use Rattle.relax_edges.specs.AllEdges.{edges_in_order}
 use Rattle.cycle_laws.proofs.RankLaws.{rank_injective, rank_below}
 use Rattle.list_laws.proofs.Places.{position_or_len-no}
 use Rattle.cycle_names.specs.LinkWords.{link_word}
-use Rattle.cycle_names.specs.NameReading.{is_dash, is_link, link_between, link_with, first_mark, marked_between, marked_along, before, first_name_word, after_word, filled_each, edges_of_words, AddsEdges}
+use Rattle.cycle_names.specs.NameReading.{is_dash, is_link, link_between, link_with, first_mark, marked_between, marked_along, first_name_word, after_word, filled_each, edges_of_words, AddsEdges}
 use Rattle.cycle_names.proofs.Tables.{link_found_back}
 use Rattle.cycle_names.proofs.Members.{find_none}
+use Rattle.cycle_laws.proofs.Joining.{same_dir_is}
 
 -- a list without its first element, as slice patterns give it
 abbrev rest_of : {A : Type 0} → List A → List A
@@ -53,11 +54,11 @@ split_is (b ∷ text) =
     ∙ sym (ap (λ n. take n (b ∷ text) ∷ parts_after (drop n (b ∷ text))) (position_or_len-no is_dash b text f)))
 
 spelled_parts : (text word remainder : List ℕ) (n : ℕ) → n ≡ position_or_len is_dash text → word ≡ take n text → remainder ≡ drop n text →
-    edges_of_words (slice_split is_dash text) ≡ before (edge_of word) (edges_of_words (parts_after remainder))
+    edges_of_words (slice_split is_dash text) ≡ before_edges (edge_of word) (edges_of_words (parts_after remainder))
 spelled_parts text word remainder n i w b =
-    ap edges_of_words (split_is text) ∙ ap (λ n. before (edge_of (take n text)) (edges_of_words (parts_after (drop n text)))) (sym i)
-    ∙ ap (λ x. before (edge_of x) (edges_of_words (parts_after (drop n text)))) (sym w)
-    ∙ ap (λ x. before (edge_of word) (edges_of_words (parts_after x))) (sym b)
+    ap edges_of_words (split_is text) ∙ ap (λ n. before_edges (edge_of (take n text)) (edges_of_words (parts_after (drop n text)))) (sym i)
+    ∙ ap (λ x. before_edges (edge_of x) (edges_of_words (parts_after (drop n text)))) (sym w)
+    ∙ ap (λ x. before_edges (edge_of word) (edges_of_words (parts_after x))) (sym b)
 
 parts_more : (remainder : List ℕ) → 1 ≤ length remainder → parts_after remainder ≡ slice_split is_dash (rest_of remainder)
 parts_more [] h = absurd (omega arith)
@@ -70,7 +71,7 @@ parts_last (b ∷ remainder) h = absurd (omega arith)
 module _ {E : Type 0} where
   -- an edge has been added before others
   pub adds_before : (o : Option Edge) (p : Option (List Edge)) (e : Edge) (old pushed new : List Edge) (result : Result (Unit {0}) E) →
-      o ≡ Some e → pushed ≡ old ++ e ∷ [] → AddsEdges p pushed new result → AddsEdges (before o p) old new result
+      o ≡ Some e → pushed ≡ old ++ e ∷ [] → AddsEdges p pushed new result → AddsEdges (before_edges o p) old new result
   adds_before o p e old pushed new result h k a edges found fits =
       by_option p
       (λ n. let z : None ≡ Some edges = sym (rw (h, n) refl) ∙ found in cc)
@@ -82,11 +83,11 @@ module _ {E : Type 0} where
       (r.0, r.1 ∙ ap (λ w. w ++ rest) k ∙ append_assoc old (e ∷ []) rest ∙ ap (λ w. old ++ w) same))
 
   -- nothing is read where an edge isn't there
-  pub adds_none : (o : Option Edge) (p : Option (List Edge)) (old new : List Edge) (result : Result (Unit {0}) E) → o ≡ None → AddsEdges (before o p) old new result
+  pub adds_none : (o : Option Edge) (p : Option (List Edge)) (old new : List Edge) (result : Result (Unit {0}) E) → o ≡ None → AddsEdges (before_edges o p) old new result
   adds_none o p old new result h edges found fits = let z : None ≡ Some edges = sym (rw h refl) ∙ found in cc
 
   -- no edge more fits where all are there
-  pub adds_full : (o : Option Edge) (p : Option (List Edge)) (old new : List Edge) (result : Result (Unit {0}) E) → MAX_EDGES ≤ length old → AddsEdges (before o p) old new result
+  pub adds_full : (o : Option Edge) (p : Option (List Edge)) (old new : List Edge) (result : Result (Unit {0}) E) → MAX_EDGES ≤ length old → AddsEdges (before_edges o p) old new result
   adds_full None p old new result h edges found fits = cc
   adds_full (Some e) p old new result h edges found fits =
       by_option p
@@ -106,8 +107,8 @@ module _ {E : Type 0} where
       pushed ≡ old ++ e ∷ [] → AddsEdges (filled_each (rest_of slots) remainder) pushed new result → AddsEdges (filled_each slots links) old new result
   fill_link [] links word remainder d e old pushed new result h t w b o k a = absurd (omega arith)
   fill_link (s ∷ slots) links word remainder d e old pushed new result h t w b o k a =
-      adds_same (filled_each (s ∷ slots) links) (before (link_with s word) (filled_each (rest_of (s ∷ slots)) remainder)) old new result
-      (cond-true (is_diff s) (before (link_with s (first_name_word links)) (filled_each slots (after_word links))) (before (Some s) (filled_each slots links)) t
+      adds_same (filled_each (s ∷ slots) links) (before_edges (link_with s word) (filled_each (rest_of (s ∷ slots)) remainder)) old new result
+      (cond-true (is_diff s) (before_edges (link_with s (first_name_word links)) (filled_each slots (after_word links))) (before_edges (Some s) (filled_each slots links)) t
       ∙ rw (w, b, rest_is s slots) refl)
       (adds_before (link_with s word) (filled_each (rest_of (s ∷ slots)) remainder) e old pushed new result (sym o) k a)
 
@@ -116,9 +117,9 @@ module _ {E : Type 0} where
       1 ≤ length slots → is_diff (get_or slots 0 d) ≡ false → pushed ≡ old ++ get_or slots 0 d ∷ [] → AddsEdges (filled_each (rest_of slots) links) pushed new result → AddsEdges (filled_each slots links) old new result
   fill_plain [] links d old pushed new result h t k a = absurd (omega arith)
   fill_plain (s ∷ slots) links d old pushed new result h t k a =
-      adds_same (filled_each (s ∷ slots) links) (before (Some s) (filled_each (rest_of (s ∷ slots)) links)) old new result
-      (cond-false (is_diff s) (before (link_with s (first_name_word links)) (filled_each slots (after_word links))) (before (Some s) (filled_each slots links)) t
-      ∙ ap (λ u. before (Some s) (filled_each u links)) (sym (rest_is s slots)))
+      adds_same (filled_each (s ∷ slots) links) (before_edges (Some s) (filled_each (rest_of (s ∷ slots)) links)) old new result
+      (cond-false (is_diff s) (before_edges (link_with s (first_name_word links)) (filled_each slots (after_word links))) (before_edges (Some s) (filled_each slots links)) t
+      ∙ ap (λ u. before_edges (Some s) (filled_each u links)) (sym (rest_is s slots)))
       (adds_before (Some s) (filled_each (rest_of (s ∷ slots)) links) s old pushed new result refl k a)
 
   -- one edge more, with its marks
@@ -127,7 +128,7 @@ module _ {E : Type 0} where
       AddsEdges (marked_along (target_mark (get_or unmarked 0 d)) (rest_of unmarked) to) pushed new result → AddsEdges (marked_along from unmarked to) old new result
   mark_more from to mark [] d e old pushed new result h m o k a = absurd (omega arith)
   mark_more from to mark (x ∷ unmarked) d e old pushed new result h m o k a =
-      adds_same (marked_along from (x ∷ unmarked) to) (before (marked_between from x mark) (marked_along (target_mark x) (rest_of (x ∷ unmarked)) to)) old new result
+      adds_same (marked_along from (x ∷ unmarked) to) (before_edges (marked_between from x mark) (marked_along (target_mark x) (rest_of (x ∷ unmarked)) to)) old new result
       (rw (m, rest_is x unmarked) refl)
       (adds_before (marked_between from x mark) (marked_along (target_mark x) (rest_of (x ∷ unmarked)) to) e old pushed new result (sym o) k a)
 
@@ -136,8 +137,8 @@ module _ {E : Type 0} where
       n ≡ position_or_len is_dash text → word ≡ take n text → remainder ≡ drop n text → 1 ≤ length remainder → Some e ≡ edge_of word → pushed ≡ old ++ e ∷ [] →
       AddsEdges (edges_of_words (slice_split is_dash (rest_of remainder))) pushed new result → AddsEdges (edges_of_words (slice_split is_dash text)) old new result
   spell_more text word remainder n e old pushed new result i w b h o k a =
-      adds_same (edges_of_words (slice_split is_dash text)) (before (edge_of word) (edges_of_words (slice_split is_dash (rest_of remainder)))) old new result
-      (spelled_parts text word remainder n i w b ∙ ap (λ parts. before (edge_of word) (edges_of_words parts)) (parts_more remainder h))
+      adds_same (edges_of_words (slice_split is_dash text)) (before_edges (edge_of word) (edges_of_words (slice_split is_dash (rest_of remainder)))) old new result
+      (spelled_parts text word remainder n i w b ∙ ap (λ parts. before_edges (edge_of word) (edges_of_words parts)) (parts_more remainder h))
       (adds_before (edge_of word) (edges_of_words (slice_split is_dash (rest_of remainder))) e old pushed new result (sym o) k a)
 
   -- the last word
@@ -145,15 +146,15 @@ module _ {E : Type 0} where
       n ≡ position_or_len is_dash text → word ≡ take n text → remainder ≡ drop n text → length remainder < 1 → Some e ≡ edge_of word → pushed ≡ old ++ e ∷ [] →
       IsOk result → AddsEdges (edges_of_words (slice_split is_dash text)) old pushed result
   spell_last text word remainder n e old pushed result i w b h o k a =
-      adds_same (edges_of_words (slice_split is_dash text)) (before (edge_of word) (Some [])) old pushed result
-      (spelled_parts text word remainder n i w b ∙ ap (λ parts. before (edge_of word) (edges_of_words parts)) (parts_last remainder h))
+      adds_same (edges_of_words (slice_split is_dash text)) (before_edges (edge_of word) (Some [])) old pushed result
+      (spelled_parts text word remainder n i w b ∙ ap (λ parts. before_edges (edge_of word) (edges_of_words parts)) (parts_last remainder h))
       (adds_before (edge_of word) (Some []) e old pushed pushed result (sym o) k (λ edges found fits. let z : [] ≡ edges = same_Some [] edges found in (a, sym (append-nil pushed) ∙ ap (λ w. pushed ++ w) z)))
 
   -- no word
   pub spell_none : (text word : List ℕ) (n : ℕ) (old new : List Edge) (result : Result (Unit {0}) E) →
       n ≡ position_or_len is_dash text → word ≡ take n text → None ≡ edge_of word → AddsEdges (edges_of_words (slice_split is_dash text)) old new result
   spell_none text word n old new result i w o =
-      adds_same (edges_of_words (slice_split is_dash text)) (before (edge_of word) (edges_of_words (parts_after (drop n text)))) old new result
+      adds_same (edges_of_words (slice_split is_dash text)) (before_edges (edge_of word) (edges_of_words (parts_after (drop n text)))) old new result
       (spelled_parts text word (drop n text) n i w refl)
       (adds_none (edge_of word) (edges_of_words (parts_after (drop n text))) old new result (sym o))
 
@@ -161,16 +162,9 @@ module _ {E : Type 0} where
   pub spell_full : (text : List ℕ) (old new : List Edge) (result : Result (Unit {0}) E) → MAX_EDGES ≤ length old → AddsEdges (edges_of_words (slice_split is_dash text)) old new result
   spell_full text old new result h =
       let n : ℕ = position_or_len is_dash text in
-      adds_same (edges_of_words (slice_split is_dash text)) (before (edge_of (take n text)) (edges_of_words (parts_after (drop n text)))) old new result
+      adds_same (edges_of_words (slice_split is_dash text)) (before_edges (edge_of (take n text)) (edges_of_words (parts_after (drop n text)))) old new result
       (spelled_parts text (take n text) (drop n text) n refl refl refl)
       (adds_full (edge_of (take n text)) (edges_of_words (parts_after (drop n text))) old new result h)
-
--- the link that is found is the one
-same_dir_is : (a b : Dir) → same_dir a b ≡ true → a ≡ b
-same_dir_is R R e = refl
-same_dir_is W W e = refl
-same_dir_is R W e = cc
-same_dir_is W R e = cc
 
 -- an edge that joins the accesses with this word is the link between them
 pub link_found : (from to : Dir) (e : Edge) (word : List ℕ) → is_link from to word e ≡ true → link_between from to word ≡ Some e

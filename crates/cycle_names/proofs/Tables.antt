@@ -5,8 +5,6 @@ use Rattle.std.specs.Cmp.{booleans_Decides}
 use Rattle.std.specs.Cmp.Lexicographic.{slice_cmp}
 use Rattle.std.specs.List.{list_all}
 use Rattle.std.specs.Str.{bytes_eq}
-use Rattle.std.specs.declared.cmp.Ordering.{Ordering}
-use Rattle.std.specs.declared.cmp.Ordering.TheVariants.{Less, Equal, Greater}
 use Rattle.std.proofs.Common.{refl, sym, ◌∙◌, ap, arith, length-append}
 use Rattle.std.proofs.Math.Bool.{beq}
 use Rattle.std.proofs.lemmas.Bool.{eqb-true, eq-eqb, leb-true, ltb-true, and_parts, not-true}
@@ -28,6 +26,7 @@ use Rattle.cycle_names.specs.LinkWords.{edge_of_slot, outline, fence_link, depen
 use Rattle.cycle_names.specs.Fitting.{slot_digit, edge_count, word_place}
 use Rattle.text_laws.specs.Names.{is_name_byte}
 use Rattle.cycle_names.specs.NameReading.{is_plus, is_dash, link_between, link_with}
+use Rattle.list_laws.proofs.Cases.{same_index}
 
 -- the words of links compare as their ranks do
 words_alike : Edge → Edge → Bool
@@ -36,12 +35,6 @@ words_alike a b = ordering_index (slice_cmp nat_cmp (link_word a) (link_word b))
 all_words_alike : list_all (λ a. list_all (words_alike a) edges_in_order) edges_in_order ≡ true
 unfolding edges_in_order words_alike
 all_words_alike = refl
-
-same_index : (r s : Ordering) → ordering_index r ≡ ordering_index s → r ≡ s
-same_index Less Less e = refl
-same_index Equal Equal e = refl
-same_index Greater Greater e = refl
-same_index _ _ e = absurd (omega arith)
 
 -- the words of two links compare as their places do
 pub link_words_order : (a b : Edge) → slice_cmp nat_cmp (link_word a) (link_word b) ≡ nat_cmp (word_place a) (word_place b)
@@ -263,6 +256,7 @@ kind_diff e t = so (is_diff e) (is_diff (unmarked (kind_of e))) (each_edge (λ e
     all : list_all (λ e. if_so (is_diff e) (is_diff (unmarked (kind_of e)))) edges_in_order ≡ true
     all = refl
 
+-- the word of a link is the text of its kind and the letters of its marks, and short
 pub record WordParts (e : Edge) : Type 0 where
   pub joined : link_word e ≡ kind_link_text (kind_of e) [] ++ mark_letters (source_mark e) (target_mark e)
   pub short : length (kind_link_text (kind_of e) []) + length (mark_letters (source_mark e) (target_mark e)) ≤ 11

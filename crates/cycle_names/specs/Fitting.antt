@@ -19,6 +19,7 @@ use Rattle.relax_edges.specs.declared.kinds.Mark.TheVariants.{Plain, Acquire, Re
 use Rattle.relax_edges.specs.declared.edge.Edge.{Edge}
 use Rattle.relax_edges.specs.declared.edge.Edge.TheVariants as edges
 use Rattle.relax_edges.specs.EdgeTable.{kind_of, source_mark, target_mark, is_diff}
+use Rattle.relax_edges.specs.AllEdges.{edges_in_order}
 use Rattle.relax_edges.specs.Order.{pick_rank}
 use Rattle.relax_edges.specs.Relaxations.{is_same}
 use Rattle.cycle_laws.specs.Rotation.{rotated}
@@ -186,3 +187,7 @@ links_after links (edge ∷ u) = links_after (with_place links (word_place edge)
 abbrev pub first_link_text : Option Edge → List ℕ
 first_link_text None = []
 first_link_text (Some edge) = link_text edge
+
+-- what a link adds to a name whose word has this place, nothing where no link has it
+unfoldable pub place_text : ℕ → List ℕ
+place_text place = first_link_text (find (λ edge. word_place edge == place) edges_in_order)

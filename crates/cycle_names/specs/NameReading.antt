@@ -11,6 +11,7 @@ use Rattle.relax_edges.specs.declared.edge.Edge.{Edge}
 use Rattle.relax_edges.specs.EdgeTable.{kind_of, source_of, target_of, source_mark, target_mark, is_external, is_diff, same_dir, marked_edge}
 use Rattle.relax_edges.specs.AllEdges.{edges_in_order}
 use Rattle.relax_edges.specs.Spelling.{edge_of}
+use Rattle.relax_edges.specs.ReadEdges.{before_edges}
 use Rattle.cycle_names.specs.declared.family.Family.{Family}
 use Rattle.cycle_names.specs.Families.{family_word, family_edges, all_families}
 use Rattle.cycle_names.specs.LinkWords.{link_word}
@@ -50,15 +51,10 @@ link_with slot word = link_between (source_of slot) (target_of slot) word
 abbrev pub slot_with : Edge → List ℕ → Option Edge
 slot_with slot word = cond (is_diff slot) (link_with slot word) (Some slot)
 
--- one edge before some others, where there is the edge and there are the others
-abbrev pub before : Option Edge → Option (List Edge) → Option (List Edge)
-before (Some edge) (Some edges) = Some (edge ∷ edges)
-before _ _ = None
-
 -- the edges of slots, the links with this word
 abbrev pub filled_alike : List Edge → List ℕ → Option (List Edge)
 filled_alike [] word = Some []
-filled_alike (slot ∷ slots) word = before (slot_with slot word) (filled_alike slots word)
+filled_alike (slot ∷ slots) word = before_edges (slot_with slot word) (filled_alike slots word)
 
 -- the word after the first byte of a text, up to the next `+`
 abbrev pub first_name_word : List ℕ → List ℕ
@@ -72,7 +68,7 @@ after_word text = drop (length (first_name_word text)) (drop 1 text)
 abbrev pub filled_each : List Edge → List ℕ → Option (List Edge)
 filled_each [] text = Some []
 filled_each (slot ∷ slots) text =
-    cond (is_diff slot) (before (link_with slot (first_name_word text)) (filled_each slots (after_word text))) (before (Some slot) (filled_each slots text))
+    cond (is_diff slot) (before_edges (link_with slot (first_name_word text)) (filled_each slots (after_word text))) (before_edges (Some slot) (filled_each slots text))
 
 -- a text without its last byte
 abbrev pub without_last_byte : List ℕ → List ℕ
@@ -100,7 +96,7 @@ marked_between from edge to = cond (is_external edge) (marked_edge (kind_of edge
 -- the external edges take the marks that the edges beside them have, the outer ones these marks
 abbrev pub marked_along : Mark → List Edge → Mark → Option (List Edge)
 marked_along from [] to = Some []
-marked_along from (edge ∷ edges) to = before (marked_between from edge (first_mark edges to)) (marked_along (target_mark edge) edges to)
+marked_along from (edge ∷ edges) to = before_edges (marked_between from edge (first_mark edges to)) (marked_along (target_mark edge) edges to)
 
 -- the edges of a cycle whose external edges have no marks, with the marks that the edges beside these have
 abbrev pub marked_around : List Edge → Option (List Edge)
@@ -114,7 +110,7 @@ marked_if (Some edges) = marked_around edges
 -- the edges that some words spell
 abbrev pub edges_of_words : List (List ℕ) → Option (List Edge)
 edges_of_words [] = Some []
-edges_of_words (word ∷ words) = before (edge_of word) (edges_of_words words)
+edges_of_words (word ∷ words) = before_edges (edge_of word) (edges_of_words words)
 
 -- the edges whose words a text has after `C+`, joined by `-`
 abbrev pub words_read : List ℕ → Option (List Edge)

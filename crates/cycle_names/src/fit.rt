@@ -1,15 +1,19 @@
-ghost use Rattle.std.specs.Prelude.{◌≡◌, ◌==◌, ◌<◌, ◌+◌, ◌*◌, ◌/◌, ◌%◌, ◌^◌, ◌≤◌, ◌++◌, ◌∷◌, [], ◌||◌, ◌&&◌, not, nat_lt, length, None, MatchOption};
+ghost use Rattle.std.specs.Prelude.{[], map, ◌≡◌, ◌==◌, ◌<◌, ◌+◌, ◌*◌, ◌/◌, ◌%◌, ◌^◌, ◌≤◌, ◌++◌, ◌∷◌, ◌||◌, ◌&&◌, not, nat_lt, length, None, MatchOption};
 ghost use Rattle.relax_edges.specs.declared.kinds.Mark.TheVariants.{Plain};
 ghost use Rattle.relax_edges.specs.EdgeTable.{target_mark, same_mark, is_external};
 ghost use Rattle.cycle_laws.specs.Composable.{IsCycle};
 ghost use Rattle.cycle_names.specs.Rotations.{all_unmarked, is_plain_outside, found_family};
-ghost use Rattle.cycle_names.specs.Fitting.{edge_count, edges_counted, slot_digit, slots_number, word_place, words_number, with_place, links_after, family_of_counts, JoinsNone, JoinsLeast, IsNamedAt};
+ghost use Rattle.cycle_names.specs.Fitting.{edges_counted, slots_number, word_place, words_number, with_place, links_after, family_of_counts, JoinsNone, JoinsLeast, IsNamedAt};
 ghost use Rattle.cycle_names.specs.declared.links.Links.TheVariants.{Absent};
 
 use crate::family::{Family, LONGEST};
 use crate::links::Links;
-use crate::slot::{digit_count, edge_digits};
+use crate::slot::{Digits, edge_digits};
+use arrayvec::ArrayVec;
 use relax_edges::{Edge, Mark};
+
+/// The places of the words of the links of a cycle's edges, and 0 for each edge that is no link.
+pub(crate) type Places = ArrayVec<u8, LONGEST>;
 
 /// A family, the place of a list of edges from which a rotation of it fits the family, and what the
 /// words of its links are like.
@@ -44,15 +48,16 @@ struct Best {
 }
 
 /// The family of a cycle, the place from which the rotation begins that it is named from, and what
-/// the words of its links are like.
-pub(crate) fn named_fit(edges: &[Edge]) -> Option<Fit>
-    requires { IsCycle edges.now }
-    ensures { MatchOption result (found_family edges.now ≡ None) (λ f. IsNamedAt edges.now f.family f.place × (f.links ≡ links_after Absent edges.now)) }
+/// the words of its links are like, whose places are put into `places`.
+pub(crate) fn named_fit(edges: &[Edge], places: &mut Places) -> Option<Fit>
+    requires cycle { IsCycle edges.now }
+    requires empty { places.old.items ≡ [] }
+    ensures { MatchOption result (found_family edges.now ≡ None) (λ f. IsNamedAt edges.now f.family f.place × (f.links ≡ links_after Absent edges.now) × (places.new.items ≡ map word_place edges.now)) }
 {
     if edges.len() > LONGEST {
         return None;
     }
-    let outline = outline_of(edges);
+    let outline = outline_of(edges, places);
     let family = family_of_counts(outline.count)?;
     let place = named_place(edges, family, outline)?;
     if !is_plain_outside(edges) {
@@ -70,16 +75,19 @@ pub(crate) fn found_family(edges: &[Edge]) -> Option<Family>
     requires { IsCycle edges.now }
     ensures { result ≡ found_family edges.now }
 {
-    match named_fit(edges) {
+    let mut places = ArrayVec::new();
+    match named_fit(edges, &mut places) {
         Some(fit) => Some(fit.family),
         None => None,
     }
 }
 
 /// How many links and external edges of each communication a list of edges has, what the words of
-/// its links are like, and its numbers.
-fn outline_of(edges: &[Edge]) -> Outline
-    requires { length edges.now ≤ LONGEST }
+/// its links are like, and its numbers. The places of these words are put into `places`.
+fn outline_of(edges: &[Edge], places: &mut Places) -> Outline
+    requires few { length edges.now ≤ LONGEST }
+    requires empty { places.old.items ≡ [] }
+    ensures places { places.new.items ≡ map word_place edges.now }
     ensures count { result.count ≡ edges_counted edges.now }
     ensures links { result.links ≡ links_after Absent edges.now }
     ensures slots { result.numbers.slots ≡ slots_number edges.now }
@@ -91,25 +99,27 @@ fn outline_of(edges: &[Edge]) -> Outline
         numbers: Numbers { slots: 0, words: 0 },
     };
     for edge in edges {
-        outline = with_edge(outline, *edge);
+        let digits = edge_digits(*edge);
+        places.push(digits.word);
+        outline = with_digits(outline, digits);
     }
     outline
 }
 
-/// The outline of a list of at most five edges and one more.
-fn with_edge(outline: Outline, edge: Edge) -> Outline
+/// The outline of a list of at most five edges and one more, which has these digits.
+fn with_digits(outline: Outline, digits: Digits) -> Outline
     requires count { outline.count ≤ 20480 }
     requires slots { outline.numbers.slots < 32768 }
     requires words { outline.numbers.words < 1099511627776 }
-    ensures count { result.count ≡ outline.count + edge_count edge }
-    ensures small { result.count ≤ outline.count + 4096 }
-    ensures links { result.links ≡ with_place outline.links (word_place edge) }
-    ensures slots { result.numbers.slots ≡ outline.numbers.slots * 8 + slot_digit edge }
-    ensures words { result.numbers.words ≡ outline.numbers.words * 256 + word_place edge }
+    requires few { digits.count ≤ 4096 }
+    requires small { digits.slot < 8 }
+    ensures count { result.count ≡ outline.count + digits.count }
+    ensures links { result.links ≡ with_place outline.links digits.word }
+    ensures slots { result.numbers.slots ≡ outline.numbers.slots * 8 + digits.slot }
+    ensures words { result.numbers.words ≡ outline.numbers.words * 256 + digits.word }
 {
-    let digits = edge_digits(edge);
     Outline {
-        count: outline.count + digit_count(digits.slot),
+        count: outline.count + digits.count,
         links: outline.links.with_place(digits.word),
         numbers: Numbers {
             slots: outline.numbers.slots * 8 + u32::from(digits.slot),

@@ -5,6 +5,7 @@ mod family;
 mod fit;
 mod laws;
 mod link;
+mod link_texts;
 mod links;
 mod name;
 mod read;

@@ -116,7 +116,7 @@ fn dependency_word(dep: DepKind) -> &'static str
 }
 
 /// The letters of two marks, none where both are plain.
-pub(crate) fn mark_letters(from: Mark, to: Mark) -> &'static str
+fn mark_letters(from: Mark, to: Mark) -> &'static str
     ensures { result.now ≡ mark_letters from to }
 {
     match (from, to) {
@@ -133,7 +133,7 @@ pub(crate) fn mark_letters(from: Mark, to: Mark) -> &'static str
 }
 
 /// The word of a link of a kind without letters.
-pub(crate) fn kind_link(kind: Kind) -> &'static str
+fn kind_link(kind: Kind) -> &'static str
     ensures { result.now ≡ kind_link_text kind [] }
 {
     match kind {

@@ -1,19 +1,19 @@
-ghost use Rattle.std.specs.Prelude.{◌≡◌, [], codes};
+ghost use Rattle.std.specs.Prelude.{◌≡◌, ◌<◌, ◌≤◌, List, [], None, codes, length, map};
 ghost use Rattle.std.specs.List.{join_by};
 ghost use Rattle.relax_edges.specs.WordParts.{word_of};
-ghost use Rattle.cycle_names.specs.Rotations.{family_of, named_rotation};
-ghost use Rattle.cycle_laws.specs.Composable.{IsCycle};
+ghost use Rattle.cycle_names.specs.Rotations.{family_of, found_family, named_rotation};
+ghost use Rattle.relax_edges.specs.declared.edge.Edge.{Edge};
+ghost use Rattle.cycle_laws.specs.Rotation.{rotated};
 ghost use Rattle.cycle_names.specs.CycleNames.{name_of};
-ghost use Rattle.cycle_names.specs.Fitting.{IsNamedAt, links_after};
+ghost use Rattle.cycle_names.specs.Fitting.{IsNamedAt, links_after, word_place};
 ghost use Rattle.cycle_names.specs.declared.links.Links.TheVariants.{Absent};
 ghost use Rattle.cycle_names.specs.Laws.{IsName};
 
-use crate::family::Family;
+use crate::family::{Family, LONGEST};
 use crate::fit::{Fit, found_family, named_fit};
-use crate::words::{Separator, push_both, push_links, push_rotation, push_words};
-use arrayvec::ArrayString;
+use crate::words::{Separator, push_links, push_rotation};
+use arrayvec::{ArrayString, ArrayVec};
 use edge_algebra::Cycle;
-use relax_edges::Edge;
 
 /// The most bytes of a name.
 pub const MAX_NAME: usize = 800;
@@ -50,15 +50,14 @@ pub fn name_and_family(cycle: &Cycle, out: &mut ArrayString<MAX_NAME>) -> Family
     ensures family { result ≡ family_of cycle.now }
 {
     out.clear();
-    match named_fit(cycle.edges()) {
+    let mut places = ArrayVec::new();
+    match named_fit(cycle.edges(), &mut places) {
         Some(fit) => {
-            push_family_name(cycle.edges(), fit, out);
+            push_family_name(places.as_slice(), fit, out);
             fit.family
         }
         None => {
-            let rotation = cycle.least();
-            out.push_str("C+");
-            push_words(rotation.edges(), Separator::Dash, out);
+            push_own_name(cycle, out);
             Family::Other
         }
     }
@@ -76,27 +75,41 @@ pub fn name_and_words(
 {
     name.clear();
     words.clear();
-    match named_fit(cycle.edges()) {
+    let mut places = ArrayVec::new();
+    match named_fit(cycle.edges(), &mut places) {
         Some(fit) => {
-            push_family_name(cycle.edges(), fit, name);
-            push_rotation(cycle.edges(), fit.place, words);
+            push_family_name(places.as_slice(), fit, name);
+            push_rotation(cycle.edges(), fit.place, Separator::Blank, words);
         }
         None => {
-            let normal = cycle.least();
-            name.push_str("C+");
-            push_both(normal.edges(), name, words);
+            let place = push_own_name(cycle, name);
+            push_rotation(cycle.edges(), place, Separator::Blank, words);
         }
     }
 }
 
-/// Adds the name of a cycle of a family to an empty text.
-fn push_family_name(edges: &[Edge], fit: Fit, name: &mut ArrayString<MAX_NAME>)
-    requires cycle { IsCycle edges.now }
+/// Adds the name of a cycle of a family to an empty text, by the places of the words of its links.
+fn push_family_name(places: &[u8], fit: Fit, name: &mut ArrayString<MAX_NAME>)
+    requires few { length places.now ≤ LONGEST }
     requires empty { name.old.bytes ≡ [] }
-    requires named { IsNamedAt edges.now fit.family fit.place }
-    requires links { fit.links ≡ links_after Absent edges.now }
-    ensures { name.new.bytes ≡ name_of edges.now }
+    requires place { fit.place ≤ length places.now }
+    ensures { (u : List Edge) → map word_place u ≡ places.now → IsNamedAt u fit.family fit.place → fit.links ≡ links_after Absent u → name.new.bytes ≡ name_of u }
 {
     name.push_str(fit.family.word());
-    push_links(edges, fit, name);
+    push_links(places, fit, name);
+}
+
+/// Adds the name of a cycle of no family to an empty text, and gives the place from which the
+/// rotation begins that it is named from.
+fn push_own_name(cycle: &Cycle, name: &mut ArrayString<MAX_NAME>) -> usize
+    requires empty { name.old.bytes ≡ [] }
+    requires none { found_family cycle.now ≡ None }
+    ensures name { name.new.bytes ≡ name_of cycle.now }
+    ensures within { result < length cycle.now }
+    ensures named { named_rotation cycle.now ≡ rotated result cycle.now }
+{
+    let place = usize::from(cycle.least_place());
+    name.push_str("C+");
+    push_rotation(cycle.edges(), place, Separator::Dash, name);
+    place
 }

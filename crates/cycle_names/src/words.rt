@@ -1,106 +1,69 @@
-ghost use Rattle.std.specs.Prelude.{◌≡◌, ◌+◌, ◌*◌, ◌<◌, ◌≤◌, ◌++◌, ◌||◌, true, length, codes};
-ghost use Rattle.std.specs.List.{find, flat_map, join_by};
-ghost use Rattle.relax_edges.specs.EdgeTable.{is_diff};
+ghost use Rattle.std.specs.Prelude.{◌≡◌, ◌+◌, ◌*◌, ◌<◌, ◌≤◌, ◌++◌, List, length, map};
+ghost use Rattle.std.specs.List.{flat_map, join_by};
+ghost use Rattle.relax_edges.specs.declared.edge.Edge.{Edge};
 ghost use Rattle.relax_edges.specs.WordParts.{word_of};
-ghost use Rattle.cycle_names.specs.LinkWords.{link_word, link_words};
+ghost use Rattle.cycle_names.specs.LinkWords.{link_words};
 ghost use Rattle.cycle_names.specs.CycleNames.{links_text};
-ghost use Rattle.cycle_names.specs.Fitting.{link_text, first_link_text, links_after, separator_text};
+ghost use Rattle.cycle_names.specs.Fitting.{word_place, place_text, links_after, separator_text};
 ghost use Rattle.cycle_names.specs.declared.links.Links.TheVariants.{Absent};
 ghost use Rattle.cycle_laws.specs.Rotation.{rotated};
 
+use crate::family::LONGEST;
 use crate::fit::Fit;
-use crate::link::{kind_link, mark_letters};
+use crate::link_texts::place_text;
 use crate::links::Links;
 use crate::name::MAX_NAME;
 use arrayvec::ArrayString;
-use relax_edges::{Edge, MAX_EDGES, Mark};
+use relax_edges::{Edge, MAX_EDGES};
 
 type Name = ArrayString<MAX_NAME>;
 
 /// The place of `po` among the words of links.
 const PLAIN: u8 = 126;
 
-/// Adds what a name of a family has after the family's word, for the rotation of a cycle that fits.
-pub(crate) fn push_links(edges: &[Edge], fit: Fit, name: &mut Name)
-    requires few { length edges.now ≤ MAX_EDGES }
+/// Adds what a name of a family has after the family's word, for the rotation of a cycle that fits,
+/// by the places of the words of its links.
+pub(crate) fn push_links(places: &[u8], fit: Fit, name: &mut Name)
+    requires few { length places.now ≤ LONGEST }
     requires room { length name.old.bytes ≤ 16 }
-    requires place { fit.place ≤ length edges.now }
-    requires links { fit.links ≡ links_after Absent edges.now }
-    ensures { name.new.bytes ≡ name.old.bytes ++ links_text (link_words (rotated fit.place edges.now)) }
+    requires place { fit.place ≤ length places.now }
+    ensures { (u : List Edge) → map word_place u ≡ places.now → fit.links ≡ links_after Absent u → name.new.bytes ≡ name.old.bytes ++ links_text (link_words (rotated fit.place u)) }
 {
     match fit.links {
         Links::Absent => {}
         Links::Alike(place) => {
             if place != PLAIN {
-                push_first(edges, name);
+                name.push_str(place_text(place));
                 name.push_str("s");
             }
         }
         Links::Different => {
-            let (prefix, back) = edges.split_at(fit.place);
+            let (prefix, back) = places.split_at(fit.place);
             push_each(back, name);
             push_each(prefix, name);
         }
     }
 }
 
-/// Adds a `+` and the word for the first link of a list of edges.
-fn push_first(edges: &[Edge], name: &mut Name)
+/// Adds a `+` and the word of this place, if a link has it.
+fn push_link(place: u8, name: &mut Name)
     requires { length name.old.bytes + 12 ≤ MAX_NAME }
-    ensures text { name.new.bytes ≡ name.old.bytes ++ first_link_text (find is_diff edges.now) }
+    ensures text { name.new.bytes ≡ name.old.bytes ++ place_text place }
     ensures short { length name.new.bytes ≤ length name.old.bytes + 12 }
 {
-    match edges {
-        [] => {}
-        [edge, rest @ ..] => {
-            if edge.is_diff() {
-                push_link_word(*edge, name);
-            } else {
-                push_first(rest, name);
-            }
-        }
+    if place != 0 {
+        name.push_str(place_text(place));
     }
 }
 
-/// Adds a `+` and the word of an edge, if the edge is a link.
-fn push_link(edge: Edge, name: &mut Name)
-    requires { length name.old.bytes + 12 ≤ MAX_NAME }
-    ensures text { name.new.bytes ≡ name.old.bytes ++ link_text edge }
-    ensures short { length name.new.bytes ≤ length name.old.bytes + 12 }
+/// Adds a `+` and the word for each link, by the places of these words.
+fn push_each(places: &[u8], name: &mut Name)
+    requires { length name.old.bytes + 12 * length places.now ≤ MAX_NAME }
+    ensures text { name.new.bytes ≡ name.old.bytes ++ flat_map place_text places.now }
+    ensures short { length name.new.bytes ≤ length name.old.bytes + 12 * length places.now }
 {
-    if edge.is_diff() {
-        push_link_word(edge, name);
-    }
-}
-
-/// Adds a `+` and the word of a link. It is apart so that `push_link` is short for the other edges.
-#[inline(never)]
-fn push_link_word(edge: Edge, name: &mut Name)
-    requires room { length name.old.bytes + 12 ≤ MAX_NAME }
-    requires link { is_diff edge ≡ true }
-    ensures text { name.new.bytes ≡ name.old.bytes ++ link_text edge }
-    ensures short { length name.new.bytes ≤ length name.old.bytes + 12 }
-{
-    name.push_str("+");
-    name.push_str(kind_link(edge.kind()));
-    match (edge.source_mark(), edge.target_mark()) {
-        (Mark::Plain, Mark::Plain) => {}
-        (from, to) => name.push_str(mark_letters(from, to)),
-    }
-}
-
-/// Adds a `+` and the word for each link.
-fn push_each(edges: &[Edge], name: &mut Name)
-    requires { length name.old.bytes + 12 * length edges.now ≤ MAX_NAME }
-    ensures text { name.new.bytes ≡ name.old.bytes ++ flat_map link_text edges.now }
-    ensures short { length name.new.bytes ≤ length name.old.bytes + 12 * length edges.now }
-{
-    match edges {
-        [] => {}
-        [edge, rest @ ..] => {
-            push_link(*edge, name);
-            push_each(rest, name);
-        }
+    for place in places {
+        push_link(*place, name);
     }
 }
 
@@ -123,20 +86,20 @@ fn push_separator(between: Separator, name: &mut Name)
     }
 }
 
-/// Adds the words of the rotation of a list of edges from a place, with blanks between.
-pub(crate) fn push_rotation(edges: &[Edge], place: usize, words: &mut Name)
+/// Adds the words of the rotation of a list of edges from a place, with a separator between.
+pub(crate) fn push_rotation(edges: &[Edge], place: usize, between: Separator, words: &mut Name)
     requires few { length edges.now ≤ MAX_EDGES }
     requires room { length words.old.bytes ≤ 16 }
     requires place { place < length edges.now }
-    ensures { words.new.bytes ≡ words.old.bytes ++ join_by word_of (codes " ") (rotated place edges.now) }
+    ensures { words.new.bytes ≡ words.old.bytes ++ join_by word_of (separator_text between) (rotated place edges.now) }
 {
     let (prefix, back) = edges.split_at(place);
-    push_words(back, Separator::Blank, words);
-    push_separated(prefix, Separator::Blank, words);
+    push_words(back, between, words);
+    push_separated(prefix, between, words);
 }
 
 /// Adds the words of some edges, with a separator between, to a text of at most 16 bytes.
-pub(crate) fn push_words(edges: &[Edge], between: Separator, name: &mut Name)
+fn push_words(edges: &[Edge], between: Separator, name: &mut Name)
     requires few { length edges.now ≤ MAX_EDGES }
     requires room { length name.old.bytes ≤ 16 }
     ensures text { name.new.bytes ≡ name.old.bytes ++ join_by word_of (separator_text between) edges.now }
@@ -145,20 +108,10 @@ pub(crate) fn push_words(edges: &[Edge], between: Separator, name: &mut Name)
     match edges {
         [] => {}
         [edge, rest @ ..] => {
-            push_word(*edge, name);
+            name.push_str(edge.text());
             push_separated(rest, between, name);
         }
     }
-}
-
-fn push_word(edge: Edge, name: &mut Name)
-    requires { length name.old.bytes + 14 ≤ MAX_NAME }
-    ensures text { name.new.bytes ≡ name.old.bytes ++ word_of edge }
-    ensures short { length name.new.bytes ≤ length name.old.bytes + 14 }
-{
-    let mut word: ArrayString<16> = ArrayString::new();
-    edge.word(&mut word);
-    name.push_str(word.as_str());
 }
 
 /// Adds a separator and the word for each edge.
@@ -169,51 +122,6 @@ fn push_separated(edges: &[Edge], between: Separator, name: &mut Name)
 {
     for edge in edges {
         push_separator(between, name);
-        push_word(*edge, name);
-    }
-}
-
-/// Adds the words of some edges to two texts, joined by `-` in the one and by blanks in the other.
-pub(crate) fn push_both(edges: &[Edge], name: &mut Name, words: &mut Name)
-    requires few { length edges.now ≤ MAX_EDGES }
-    requires name_room { length name.old.bytes ≤ 16 }
-    requires words_room { length words.old.bytes ≤ 16 }
-    ensures name { name.new.bytes ≡ name.old.bytes ++ join_by word_of (codes "-") edges.now }
-    ensures words { words.new.bytes ≡ words.old.bytes ++ join_by word_of (codes " ") edges.now }
-{
-    match edges {
-        [] => {}
-        [edge, rest @ ..] => {
-            push_word_twice(*edge, name, words);
-            push_both_separated(rest, name, words);
-        }
-    }
-}
-
-fn push_word_twice(edge: Edge, name: &mut Name, words: &mut Name)
-    requires name_room { length name.old.bytes + 14 ≤ MAX_NAME }
-    requires words_room { length words.old.bytes + 14 ≤ MAX_NAME }
-    ensures name { name.new.bytes ≡ name.old.bytes ++ word_of edge }
-    ensures words { words.new.bytes ≡ words.old.bytes ++ word_of edge }
-    ensures short { length name.new.bytes ≤ length name.old.bytes + 14 }
-    ensures words_short { length words.new.bytes ≤ length words.old.bytes + 14 }
-{
-    let mut word: ArrayString<16> = ArrayString::new();
-    edge.word(&mut word);
-    name.push_str(word.as_str());
-    words.push_str(word.as_str());
-}
-
-/// Adds the word of each edge to both texts, after `-` in the one and after a blank in the other.
-fn push_both_separated(edges: &[Edge], name: &mut Name, words: &mut Name)
-    requires name_room { length name.old.bytes + 15 * length edges.now ≤ MAX_NAME }
-    requires words_room { length words.old.bytes + 15 * length edges.now ≤ MAX_NAME }
-    ensures name { name.new.bytes ≡ name.old.bytes ++ flat_map (λ edge. codes "-" ++ word_of edge) edges.now }
-    ensures words { words.new.bytes ≡ words.old.bytes ++ flat_map (λ edge. codes " " ++ word_of edge) edges.now }
-{
-    for edge in edges {
-        name.push_str("-");
-        words.push_str(" ");
-        push_word_twice(*edge, name, words);
+        name.push_str(edge.text());
     }
 }

@@ -8,8 +8,6 @@ use Rattle.std.proofs.lemmas.List.Elements.{filter_passes}
 use Rattle.std.proofs.lemmas.List.Sums.{AllPass-from_list_all}
 use Rattle.list_laws.proofs.Cases.{by_test}
 use Rattle.relax_edges.specs.declared.kinds.ArchName.{ArchName}
-use Rattle.relax_edges.specs.declared.kinds.Dir.{Dir}
-use Rattle.relax_edges.specs.declared.kinds.Dir.TheVariants as dirs
 use Rattle.relax_edges.specs.declared.kinds.Mark.{Mark}
 use Rattle.relax_edges.specs.declared.kinds.Mark.TheVariants.{Plain, Acquire, Release}
 use Rattle.relax_edges.specs.declared.edge.Edge.{Edge}
@@ -22,6 +20,7 @@ use Rattle.demo_tests.specs.Draws.{drawn, next_seed}
 use Rattle.family_laws.specs.Filled.{is_choice, IsFilled}
 use Rattle.demo_tests.specs.FilledLinks.{IsFamilyCycle, choices_of, choice_of, edge_for, seed_past, links_filled}
 use Rattle.demo_tests.proofs.ChoiceLaws.{some_choices}
+use Rattle.cycle_laws.proofs.Joining.{same_dir_is}
 
 -- what is picked is a choice
 choice_is_one : (arch : ArchName) (n : ℕ) (link : Edge) → is_choice arch (source_of link) (target_of link) (choice_of arch n link) ≡ true
@@ -57,12 +56,6 @@ AreAlike _ _ = ⊥
 is_plain : Edge → Bool
 is_plain e = same_mark (source_mark e) Plain && same_mark (target_mark e) Plain
 
-dir_is : (a b : Dir) → same_dir a b ≡ true → a ≡ b
-dir_is dirs.R dirs.R h = refl
-dir_is dirs.W dirs.W h = refl
-dir_is dirs.R dirs.W h = cc
-dir_is dirs.W dirs.R h = cc
-
 plain_is : (mark : Mark) → same_mark mark Plain ≡ true → mark ≡ Plain
 plain_is Plain h = refl
 plain_is Acquire h = cc
@@ -77,8 +70,8 @@ choice_alike arch link e plain h =
     let mark = and_parts _ (same_mark (source_mark e) Plain) last.0 in
     let to = and_parts _ (same_dir (target_of e) (target_of link)) mark.0 in
     record {
-      source = dir_is (source_of e) (source_of link) (and_parts _ (same_dir (source_of e) (source_of link)) to.0).1;
-      target = dir_is (target_of e) (target_of link) to.1;
+      source = same_dir_is (source_of e) (source_of link) (and_parts _ (same_dir (source_of e) (source_of link)) to.0).1;
+      target = same_dir_is (target_of e) (target_of link) to.1;
       from_mark = plain_is (source_mark e) mark.1 ∙ sym (plain_is (source_mark link) own.0);
       to_mark = plain_is (target_mark e) last.1 ∙ sym (plain_is (target_mark link) own.1);
     }

@@ -211,6 +211,6 @@ unfolding demo_text
 summary_is puts w count families all f a = ap (λ fs. family_lines all_families fs ++ tally_line (codes "total") all) f ∙ ap (λ t. family_lines all_families (family_tallies (numbered_text puts w) count) ++ tally_line (codes "total") t) a
 
 -- the line feeds of a text are those of its first bytes and those of the bytes after them
-pub line_feeds_parted : (count : ℕ) (text front back : List ℕ) → front ≡ take count text → back ≡ drop count text
-    → line_feed_count front + line_feed_count back ≡ line_feed_count text
-line_feeds_parted count text front back f b = rw (f, b) (sum_by-take-drop _ text count)
+pub line_feeds_parted : (count : ℕ) (text prefix back : List ℕ) → prefix ≡ take count text → back ≡ drop count text
+    → line_feed_count prefix + line_feed_count back ≡ line_feed_count text
+line_feeds_parted count text prefix back f b = rw (f, b) (sum_by-take-drop _ text count)

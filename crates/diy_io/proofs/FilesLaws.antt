@@ -8,7 +8,7 @@ use Rattle.std.proofs.Math.Path.{fun_ext}
 use Rattle.std.proofs.lemmas.Option.{none-some, same_Some}
 use Rattle.std.proofs.lemmas.List.Folds.{find-append}
 use Rattle.std.proofs.lemmas.Slice.Eq.{bytes_eq-Decides}
-use Rattle.list_laws.proofs.Cases.{by_test}
+use Rattle.list_laws.proofs.Cases.{by_test, eq_swap}
 use Rattle.diy_io.specs.Shelf.{with_file}
 use Rattle.diy_io.specs.MemFiles.{NamedFile, has_name, file_place, file_name_at, bytes_at, files_named}
 
@@ -67,11 +67,6 @@ same_bytes a b = (bytes_eq-Decides a b).0
 pub bytes_same : (a b : List ℕ) → a ≡ b → bytes_eq a b ≡ true
 bytes_same a b = (bytes_eq-Decides a b).1
 
-differ_back : (a b : List ℕ) → bytes_eq a b ≡ false → bytes_eq b a ≡ false
-differ_back a b failed = by_test (bytes_eq b a)
-    (λ passed. absurd (let e : bytes_eq a b ≡ true = bytes_same a b (sym (same_bytes b a passed)) in cc))
-    (λ fails. fails)
-
 -- the first file of a name
 pub first_named : (name : List ℕ) (files : List NamedFile) (i : ℕ) → file_place name files ≡ Some i → FirstAt (has_name name) 0 files i
 first_named name files i e = first_at (has_name name) 0 files i e
@@ -120,8 +115,8 @@ put_other : (files : List NamedFile) (name bytes other : List ℕ) (i : ℕ) →
     → files_named (set files i (name, bytes)) other ≡ files_named files other
 put_other files name bytes other i e differs =
     let n = name_there name files i e in
-    let old : has_name other (get_or files i ([], [])) ≡ false = ap (λ known. bytes_eq known other) n ∙ differ_back other name differs in
-    ap (option_map (λ file. file.1)) (find_put_other (has_name other) files i ([], []) (name, bytes) (differ_back other name differs) old)
+    let old : has_name other (get_or files i ([], [])) ≡ false = ap (λ known. bytes_eq known other) n ∙ (eq_swap name other ∙ differs) in
+    ap (option_map (λ file. file.1)) (find_put_other (has_name other) files i ([], []) (name, bytes) (eq_swap name other ∙ differs) old)
 
 -- a file has other bytes in its place
 pub files_put : (files : List NamedFile) (name bytes : List ℕ) (i : ℕ) → file_place name files ≡ Some i
@@ -149,7 +144,7 @@ pub files_added : (files : List NamedFile) (name bytes : List ℕ) → file_plac
     → files_named (files ++ (name, bytes) ∷ []) ≡ with_file name bytes (files_named files)
 files_added files name bytes e = fun_ext (λ other. by_test (bytes_eq other name)
     (λ same. rw same (add_same files name bytes other e (same_bytes other name same)))
-    (λ differs. rw differs (add_other files name bytes other (differ_back other name differs))))
+    (λ differs. rw differs (add_other files name bytes other (eq_swap name other ∙ differs))))
 
 added_from : (t : NamedFile → Bool) (k : ℕ) (files : List NamedFile) (y : NamedFile) → position_from t k files ≡ None → t y ≡ true
     → position_from t k (files ++ y ∷ []) ≡ Some (k + length files)

@@ -30,7 +30,7 @@ use Rattle.diy_words.specs.declared.options.Tool.TheVariants as tools
 use Rattle.diy_words.specs.declared.options.OptionName.{OptionName}
 use Rattle.diy_words.specs.declared.options.OptionName.TheVariants as opts
 use Rattle.diy_words.specs.TestNames.{is_name}
-use Rattle.diy_words.specs.EdgeWords.{operand_edges}
+use Rattle.edge_lists.specs.Spelled.{text_edges}
 use Rattle.relax_edges.specs.Architectures.{arch_of}
 use Rattle.diy_words.specs.Parts.{Part, Alone, Valued, Unvalued, waiting_at, alone_before, parts_from, parts_of, option_named, tool_named, mode_named}
 use Rattle.diy_words.specs.Sayings.{Saying, SaysName, SaysRelaxes, SaysPlace, SaysSize, SaysExact, SaysWhy, SaysThreads, SaysAccesses, SaysFolder, SaysCount, SaysTest, SaysExecution, Before, usage_fault, dashed_said, operand_said, relaxes_said, number_said, after_said, cycle_word_said, said_by, arch_said, mode_said, edges_said, begins_option}
@@ -121,10 +121,10 @@ check_said count at false true h = h
 check_said count at false false h = tt
 
 alone_operand : (count : ℕ) (tool : Tool) (taken at : ℕ) (text : List ℕ) → at < count → SaysForm count (operand_said tool taken at text)
-alone_operand count tools.DiyOne taken at text h = edges_form count at (operand_edges text)
+alone_operand count tools.DiyOne taken at text h = edges_form count at (text_edges text)
 alone_operand count tools.Diy taken at text h = tt
 alone_operand count tools.Cross taken at text h = relaxes_form count SaysPlace at (relaxes_of text) (λ x. tt)
-alone_operand count tools.Norm taken at text h = edges_form count at (operand_edges text)
+alone_operand count tools.Norm taken at text h = edges_form count at (text_edges text)
 alone_operand count tools.Classify taken at text h = tt
 alone_operand count tools.Msum taken at text h = tt
 alone_operand count tools.Demo taken at text h = demo_said count at text (taken == 0)

@@ -1,5 +1,4 @@
 pub mod TestNames
-pub mod EdgeWords
 pub mod NumberWords
 pub mod Parts
 pub mod Sayings

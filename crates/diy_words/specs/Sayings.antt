@@ -23,7 +23,7 @@ use Rattle.diy_words.specs.declared.options.Tool.TheVariants as tools
 use Rattle.diy_words.specs.declared.options.OptionName.TheVariants as opts
 use Rattle.diy_words.specs.TestNames.{is_name}
 use Rattle.diy_words.specs.NumberWords.{number_to}
-use Rattle.diy_words.specs.EdgeWords.{operand_edges}
+use Rattle.edge_lists.specs.Spelled.{text_edges}
 use Rattle.relax_edges.specs.Architectures.{arch_of}
 use Rattle.diy_words.specs.Parts.{Part, Alone, Valued, Unvalued, mode_named}
 
@@ -140,10 +140,10 @@ checked_said taken at = if taken == 0 then Ok (SaysTest at) else if taken == 1 t
 
 -- an operand of a tool, at its place, where so many of those whose number is limited were taken before: demo takes one
 abbrev pub operand_said : Tool → ℕ → ℕ → List ℕ → Result Saying Usage
-operand_said tools.DiyOne _ at text = edges_said at (operand_edges text)
+operand_said tools.DiyOne _ at text = edges_said at (text_edges text)
 operand_said tools.Diy _ at text = usage_fault at StrayWord
 operand_said tools.Cross _ at text = relaxes_said SaysPlace at (relaxes_of text)
-operand_said tools.Norm _ at text = edges_said at (operand_edges text)
+operand_said tools.Norm _ at text = edges_said at (text_edges text)
 operand_said tools.Classify _ at text = Ok (SaysFile at)
 operand_said tools.Msum _ at text = Ok SaysLog
 operand_said tools.Demo taken at text = if taken == 0 then number_said SaysCount at (number_to MAX_TESTS text) else usage_fault at StrayWord

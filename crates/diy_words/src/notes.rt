@@ -5,7 +5,7 @@ ghost use Rattle.relax_edges.specs.declared.TheConstants.{MAX_EDGES};
 ghost use Rattle.edge_lists.specs.declared.read.Separators.TheVariants.{BlanksAndCommas};
 ghost use Rattle.edge_lists.specs.Spelled.{edges_of};
 ghost use Rattle.edge_algebra.specs.Compose.{composed};
-ghost use Rattle.diy_words.specs.EdgeWords.{operand_edges};
+ghost use Rattle.edge_lists.specs.Spelled.{text_edges};
 ghost use Rattle.diy_words.specs.CodeNotes.{cycle_kept};
 ghost use Rattle.diy_words.specs.NumberWords.{number_to};
 ghost use Rattle.diy_words.specs.declared.options.Tool.TheVariants as tools;
@@ -331,7 +331,7 @@ impl<'a> Notes<'a> {
     }
 
     fn take_edges(&mut self, at: usize, text: &str) -> Result<(), Usage>
-        ensures { notes_left result (code_notes self.new) ≡ notes_after (code_notes self.old) (edges_said at (operand_edges text.now)) }
+        ensures { notes_left result (code_notes self.new) ≡ notes_after (code_notes self.old) (edges_said at (text_edges text.now)) }
     {
         match read_edges(text.as_bytes(), Separators::Blanks, &mut self.edges) {
             Ok(()) => {

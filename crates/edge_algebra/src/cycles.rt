@@ -65,6 +65,15 @@ impl Cycle {
         Cycle { edges: list }
     }
 
+    /// Makes the cycle the one of edges that are known to make one, where it is.
+    pub fn refill(&mut self, edges: &[Edge])
+        requires { IsCycle edges.now }
+        ensures { self.new ≡ edges.now }
+    {
+        self.edges.clear();
+        put(edges, &mut self.edges);
+    }
+
     /// How many edges the cycle has.
     pub fn len(&self) -> u8
         ensures { result ≡ length self.now }

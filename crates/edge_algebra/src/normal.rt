@@ -16,9 +16,16 @@ impl Cycle {
     pub fn least(&self) -> Cycle
         ensures { IsLeast self.now result }
     {
+        self.rotate(self.least_place())
+    }
+
+    /// The first place from which the normal form of the cycle begins.
+    pub fn least_place(&self) -> u8
+        ensures within { result < length self.now }
+        ensures least { IsLeast self.now (rotated result self.now) }
+    {
         let ranks = ranks_of(self.edges());
-        let place = least_place(self.edges(), ranks.as_slice());
-        self.rotate(place)
+        least_place(self.edges(), ranks.as_slice())
     }
 
     /// Whether the other cycle is the same: a rotation of this one.

@@ -8,8 +8,9 @@ use Rattle.std.proofs.lemmas.Bool.Decides.{nat_tests}
 use Rattle.std.proofs.lemmas.Grind.{common_steps}
 use Rattle.relax_edges.specs.declared.edge.Edge.{Edge}
 use Rattle.relax_edges.specs.Spelling.{edge_of}
+use Rattle.relax_edges.specs.ReadEdges.{before_edges}
 use Rattle.edge_lists.specs.declared.list.EdgeList.{EdgeList}
-use Rattle.edge_lists.specs.Spelled.{CutsAtSeparator, separates, before_edges, edges_spelled}
+use Rattle.edge_lists.specs.Spelled.{CutsAtSeparator, separates, edges_spelled}
 use Rattle.edge_lists.specs.declared.read.Separators.{Separators}
 use Rattle.edge_lists.specs.KeptEdges.{edges_added}
 

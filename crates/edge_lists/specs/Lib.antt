@@ -1,4 +1,4 @@
 pub mod Spelled
 pub mod KeptEdges
-pub mod Expected
+pub mod Leading
 pub mod KeptLaws

@@ -1,10 +1,11 @@
 -- The edges that a text spells, with separators between them.
 -- Source: own.
-use Rattle.std.specs.Prelude.{ℕ, ◌≡◌, ◌<◌, Bool, ◌==◌, ◌||◌, List, [], ◌∷◌, length, Option, Some, None}
+use Rattle.std.specs.Prelude.{ℕ, ◌≡◌, ◌<◌, Bool, ◌==◌, ◌||◌, List, [], ◌∷◌, length, Option, Some}
 use Rattle.std.specs.List.{slice_split}
 use Rattle.text_laws.specs.Blanks.{is_blank}
 use Rattle.relax_edges.specs.declared.edge.Edge.{Edge}
 use Rattle.relax_edges.specs.Spelling.{edge_of}
+use Rattle.relax_edges.specs.ReadEdges.{before_edges}
 use Rattle.edge_lists.specs.declared.read.Separators.{Separators}
 use Rattle.edge_lists.specs.declared.read.Separators.TheVariants.{Blanks, BlanksAndCommas}
 
@@ -22,12 +23,6 @@ pub record CutsAtSeparator (separators : Separators) (text prefix remainder : Li
   pub words : slice_split (separates separators) text ≡ prefix ∷ slice_split (separates separators) remainder
   pub shorter : length remainder < length text
 
--- an edge before some others, where there is the edge and there are the others
-abbrev pub before_edges : Option Edge → Option (List Edge) → Option (List Edge)
-before_edges (Some e) (Some es) = Some (e ∷ es)
-before_edges (Some e) None = None
-before_edges None _ = None
-
 -- the edges that texts spell, where each that isn't empty spells one
 abbrev pub edges_spelled : List (List ℕ) → Option (List Edge)
 edges_spelled [] = Some []
@@ -37,3 +32,7 @@ edges_spelled ((byte ∷ bytes) ∷ texts) = before_edges (edge_of (byte ∷ byt
 -- the edges of a text; None where a word in it is no edge
 abbrev pub edges_of : Separators → List ℕ → Option (List Edge)
 edges_of separators text = edges_spelled (slice_split (separates separators) text)
+
+-- the edges of a text, which blanks separate; None where a word in it is no edge
+abbrev pub text_edges : List ℕ → Option (List Edge)
+text_edges text = edges_of Blanks text

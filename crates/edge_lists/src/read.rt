@@ -1,12 +1,12 @@
-ghost use Rattle.std.specs.Prelude.{◌≡◌, [], ◌∷◌, Option, Some, None, is_ok, if◌then◌else◌, MatchOption, IfSome, ◌<◌, length};
+ghost use Rattle.std.specs.Prelude.{◌≡◌, ℕ, List, [], ◌∷◌, ◌++◌, Option, Some, None, is_ok, if◌then◌else◌, MatchOption, IfSome, ◌<◌, length};
 ghost use Rattle.std.specs.Option.{option_map};
 ghost use Rattle.std.specs.List.{position};
 ghost use Rattle.edge_lists.specs.Spelled.{separates, edges_spelled, edges_of, CutsAtSeparator, IsOneWord};
-ghost use Rattle.edge_lists.specs.Expected.{BeginsWith, ReadsFirst};
+ghost use Rattle.edge_lists.specs.Leading.{BeginsWith, ReadsFirst};
 ghost use Rattle.edge_lists.specs.KeptEdges.{edges_added};
 
 use crate::list::EdgeList;
-use relax_edges::{Edge, UnknownEdge, read_edge_bytes};
+use relax_edges::{UnknownEdge, leading_edge, read_edge_bytes};
 use text_parts::Class;
 
 /// What separates the edges of a text.
@@ -29,7 +29,7 @@ pub fn read_edges(
 {
     let mut rest = text;
     'words: loop {
-        if let Some(remainder) = read_expected(rest, separators, edges) {
+        if let Some(remainder) = read_leading(rest, separators, edges) {
             rest = remainder;
         } else {
             match cut_at_separator(separators, rest) {
@@ -43,58 +43,36 @@ pub fn read_edges(
     }
 }
 
-/// Appends the first edge of a text, and gives the text after it, where the edge is as long as its
-/// first bytes let expect. Else the list stays as it was, and the edge has to be sought.
-fn read_expected<'a>(
+/// Appends the edge with whose word a text begins, and gives the text after that word and a separator,
+/// if there is one there, or the word ends the text. Else the list stays as it was, and the first word
+/// has to be sought.
+fn read_leading<'a>(
     text: &'a [u8],
     separators: Separators,
     edges: &mut EdgeList,
 ) -> Option<&'a [u8]>
     ensures { MatchOption result (edges.new ≡ edges.old) (λ remainder. ReadsFirst separators edges.old edges.new text.now remainder.now) }
 {
-    let (word, remainder) = expected_word(separators, text)?;
-    match read_edge_bytes(word) {
-        Ok(edge) => {
-            edges.push(edge);
-            Some(remainder)
-        }
-        Err(_) => None,
-    }
+    let (edge, rest) = leading_edge(text)?;
+    let remainder = after_separator(separators, rest)?;
+    edges.push(edge);
+    Some(remainder)
 }
 
-/// As many bytes of a text as an edge with its first bytes mostly has, and the text after them and a
-/// separator, if there is one there, or they end the text.
-fn expected_word(separators: Separators, text: &[u8]) -> Option<(&[u8], &[u8])>
-    ensures { IfSome result (λ parts. BeginsWith separators text.now parts.0.now parts.1.now) }
+/// The text after the separator with which a text begins, or the text where it is empty: what comes
+/// after a word, if nothing but a separator ends it.
+fn after_separator(separators: Separators, text: &[u8]) -> Option<&[u8]>
+    ensures { IfSome result (λ remainder. (word : List ℕ) → BeginsWith separators (word ++ text.now) word remainder.now) }
 {
-    let length = expected_length(text);
-    if length > text.len() {
-        return None;
-    }
-    let (word, rest) = text.split_at(length);
-    match rest {
-        [] => Some((word, rest)),
+    match text {
+        [] => Some(text),
         [byte, remainder @ ..] => {
             if separates(separators, *byte) {
-                Some((word, remainder))
+                Some(remainder)
             } else {
                 None
             }
         }
-    }
-}
-
-/// How many bytes an edge that begins as a text does mostly has. Nothing rests on it: an edge of
-/// another length is sought.
-fn expected_length(text: &[u8]) -> usize {
-    match text {
-        [b'R' | b'W' | b'C' | b'F', ..] => 3,
-        [b'P', ..] => 5,
-        [b'S', ..] => 7,
-        [b'D', b'M', ..] => 9,
-        [b'D' | b'E' | b'I', ..] => 8,
-        [b'L' | b'M', ..] => 9,
-        _ => 0,
     }
 }
 

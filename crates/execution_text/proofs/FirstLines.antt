@@ -1,13 +1,13 @@
 -- The first line of a text.
 use Rattle.std.proofs.Common.{◌≡◌, ◌==◌, ◌<◌, ℕ, List, [], ◌∷◌, ◌++◌, true, false, get_or, length, refl, sym, ap, ◌∙◌, arith}
 use Rattle.std.specs.Prelude.{not, map}
-use Rattle.std.specs.List.{list_all, All, slice_split}
-use Rattle.std.proofs.lemmas.Bool.{eq-eqb, not-true}
+use Rattle.std.specs.List.{list_all, All}
+use Rattle.std.proofs.lemmas.Bool.{not-true}
 use Rattle.std.proofs.lemmas.List.Sums.{AllPass-from_list_all}
-use Rattle.std.proofs.lemmas.List.Splits.{slice_split_none, slice_split_at}
+use Rattle.std.proofs.lemmas.List.Splits.{slice_split_none}
 use Rattle.text_laws.specs.Lines.{is_line_feed, without_return, but_last, last_of, whole_lines, ended_lines, unended, last_line, lines_of}
-use Rattle.text_laws.proofs.PieceLaws.{first_piece}
 use Rattle.text_laws.specs.Cuts.{CutParts}
+use Rattle.text_laws.proofs.LineLaws.{lines_cut}
 
 no_feed : (text : List ℕ) → list_all (λ byte. not (byte == 10)) text ≡ true → All (λ byte. is_line_feed byte ≡ false) text
 no_feed text h i d k = not-true (get_or text i d == 10) (AllPass-from_list_all (λ byte. not (byte == 10)) text h i d k)
@@ -31,12 +31,7 @@ only_line (byte ∷ text) h k =
 
 -- a text that is cut at a line feed has the line before it, and then the lines after it
 pub line_cut : (text prefix rest : List ℕ) → CutParts 10 text prefix rest → lines_of text ≡ without_return prefix ∷ lines_of rest
-unfolding ended_lines whole_lines unended
-line_cut text prefix rest c =
-    let split : slice_split is_line_feed text ≡ prefix ∷ slice_split is_line_feed rest =
-    ap (slice_split is_line_feed) c.parts ∙ slice_split_at is_line_feed prefix 10 rest (no_feed prefix c.first) (eq-eqb 10 10 refl) in
-    let first = first_piece is_line_feed rest in
-    ap (λ pieces. map without_return (but_last pieces) ++ last_line (last_of pieces)) split ∙ rw first.is refl
+line_cut text prefix rest c = ap lines_of c.parts ∙ lines_cut prefix rest (no_feed prefix c.first)
 
 -- a text without a line feed is its one line, if it has a byte, and then no more lines come
 pub line_last : (text : List ℕ) → list_all (λ byte. not (byte == 10)) text ≡ true → 0 < length text → lines_of text ≡ text ∷ lines_of []

@@ -8,7 +8,6 @@ use Rattle.relax_edges.specs.declared.kinds.Dir.{Dir}
 use Rattle.relax_edges.specs.declared.kinds.Kind.{Kind}
 use Rattle.relax_edges.specs.declared.kinds.Kind.TheVariants as kinds
 use Rattle.relax_edges.specs.declared.kinds.Mark.TheVariants.{Plain}
-use Rattle.relax_edges.specs.declared.kinds.Dir.TheVariants as dirs
 use Rattle.relax_edges.specs.declared.kinds.Reach.TheVariants.{Internal, External}
 use Rattle.relax_edges.specs.declared.kinds.Sd.TheVariants.{Same, Diff}
 use Rattle.relax_edges.specs.declared.edge.Edge.{Edge}
@@ -16,18 +15,13 @@ use Rattle.relax_edges.specs.declared.edge.Edge.TheVariants as edges
 use Rattle.relax_edges.specs.EdgeTable.{kind_of, source_of, target_of, source_mark, target_mark, is_of_arch, same_dir, same_mark, is_external, is_diff}
 use Rattle.family_laws.specs.Filled.{IsFilled, is_choice}
 use Rattle.family_laws.proofs.Bare.{bare, bare_edges}
+use Rattle.cycle_laws.proofs.Joining.{same_dir_is}
 
 -- an edge as the cycle of a family has it: an external communication, or program order to another location
 abbrev pub is_slot : Edge → Bool
 is_slot (edges.Com _ External) = true
 is_slot (edges.Po Diff _ _) = true
 is_slot _ = false
-
-same_dirs : (d e : Dir) → same_dir d e ≡ true → d ≡ e
-same_dirs dirs.R dirs.R h = refl
-same_dirs dirs.R dirs.W h = cc
-same_dirs dirs.W dirs.R h = cc
-same_dirs dirs.W dirs.W h = refl
 
 -- the bare edge of an edge that stays in its thread and leads to another location
 inner_bare : (edge : Edge) → is_external edge ≡ false → is_diff edge ≡ true → bare edge ≡ edges.Po Diff (source_of edge) (target_of edge)
@@ -62,8 +56,8 @@ choice_replaces arch from to edge h =
     record {
       bare_is =
           inner_bare edge (not-true (is_external edge) s.0) s.1
-          ∙ ap (λ d. edges.Po Diff d (target_of edge)) (same_dirs (source_of edge) from q.1)
-          ∙ ap (λ d. edges.Po Diff from d) (same_dirs (target_of edge) to p.1);
+          ∙ ap (λ d. edges.Po Diff d (target_of edge)) (same_dir_is (source_of edge) from q.1)
+          ∙ ap (λ d. edges.Po Diff from d) (same_dir_is (target_of edge) to p.1);
       of_arch = r.1;
     }
 

@@ -1,7 +1,7 @@
 -- Each cycle that is made of a family's has a test.
-use Rattle.std.proofs.Common.{◌≡◌, ℕ, ◌+◌, Bool, true, false, not, cond, ◌&&◌, List, [], ◌∷◌, Some, None, Ok, Err, nat_le, nat_lt, refl, sym, ◌∙◌, ap}
+use Rattle.std.proofs.Common.{◌≡◌, Bool, true, false, not, ◌&&◌, List, None, Ok, Err, nat_le, nat_lt, refl, sym, ◌∙◌, ap}
 use Rattle.std.specs.Prelude.{if◌then◌else◌}
-use Rattle.std.specs.List.{IsAmong, list_all, position_from}
+use Rattle.std.specs.List.{IsAmong, list_all}
 use Rattle.std.specs.Option.{option_map}
 use Rattle.std.proofs.lemmas.Bool.{and_parts, leb-true, le-ltb, not-true}
 use Rattle.std.proofs.lemmas.List.Folds.{list_all_at}
@@ -20,6 +20,7 @@ use Rattle.family_laws.specs.Filled.{MakesAll}
 use Rattle.family_laws.proofs.Bare.{bare_edges, coherence_bare, events_bare, externals_bare, moves_bare, turned_bare, writes_bare}
 use Rattle.family_laws.proofs.Rooms.{HasRoom, few_events, few_writes, is_small, none_crowded}
 use Rattle.family_laws.proofs.Slots.{filled_replace, is_slot}
+use Rattle.list_laws.proofs.Places.{none_fails}
 
 -- a cycle resolves, and is small
 abbrev is_accepted : List Edge → Bool
@@ -45,12 +46,6 @@ accepted_bare es =
     ∙ ap (λ b. nat_le 2 (external_count es) && (not (is_coherence_only (turned es)) && b)) (small_bare (turned es))
 
 -- a cycle of the architecture's edges that is accepted has a test
-none_fails : {X : Type 0} (t : X → Bool) (i : ℕ) (xs : List X) → list_all t xs ≡ true → position_from (λ x. not (t x)) i xs ≡ None
-none_fails t i [] h = refl
-none_fails t i (x ∷ xs) h =
-    let p = and_parts (t x) (list_all t xs) h in
-    ap (λ b. cond (not b) (Some i) (position_from (λ y. not (t y)) (i + 1) xs)) p.0 ∙ none_fails t (i + 1) xs p.1
-
 accepted_tested : (a : Puts) → HasRoom a → (es : List Edge) → list_all (λ e. is_of_arch e a.name) es ≡ true → is_accepted es ≡ true → refusal_of a es Accept ≡ None
 accepted_tested a room es own h =
     let p = and_parts (nat_le 2 (external_count es)) (not (is_coherence_only (turned es)) && is_small (turned es)) h in

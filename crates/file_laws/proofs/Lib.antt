@@ -1,3 +1,4 @@
 pub mod OpenedLaws
 pub mod NameLaws
 pub mod FaultLaws
+pub mod ConsumedLaws

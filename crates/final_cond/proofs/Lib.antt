@@ -7,3 +7,4 @@ pub mod BackLaws
 pub mod PrintLaws
 pub mod KnownLaws
 pub mod TextLaws
+pub mod TermText

@@ -1,9 +1,10 @@
 ghost use Rattle.std.specs.Prelude.{◌≡◌, ◌≤◌, ◌<◌, ◌*◌, ◌++◌, List, map, codes, length};
+ghost use Rattle.std.specs.Fmt.{decimal};
 ghost use Rattle.std.specs.List.{flat_map};
 ghost use Rattle.diy_io.specs.Page.{page_after};
 ghost use Rattle.diy_io.specs.Wrote.{Wrote};
-ghost use Rattle.final_cond.specs.Conditions.{left_view, term_view, cond_view};
-ghost use Rattle.final_cond.specs.CondText.{quantifier_word, left_text, term_text, further_term_text, terms_text, cond_text};
+ghost use Rattle.final_cond.specs.Conditions.{InRegister, AtPlace, term_view, cond_view};
+ghost use Rattle.final_cond.specs.CondText.{quantifier_word, term_text, further_term_text, terms_text, cond_text};
 
 use crate::cond::{Cond, Left, Quantifier, Term};
 use diy_io::{Failed, LINE_ROOM, Page, Sink};
@@ -23,35 +24,84 @@ fn opening_text(quantifier: Quantifier) -> &'static [u8]
     }
 }
 
-/// Adds the left side of a term.
-#[tactic(auto, using(diy_io::specs::PageLaws::page_more, std::proofs::Common::append_assoc), unfolding(crate::specs::CondText::left_text))]
-fn print_left(left: &Left, page: &mut Page)
-    ensures text { page.new ≡ page_after page.old (left_text (left_view left.now)) }
-    ensures short { length (left_text (left_view left.now)) ≤ 20 }
+/// Adds a term on a register by its parts, one of the usual length in one piece.
+#[tactic(auto, using(crate::proofs::TermText::register_term_short))]
+fn put_register_term(thread: u8, name: &[u8], value: u32, page: &mut Page)
+    requires { length name.now ≤ 16 }
+    ensures text { page.new ≡ page_after page.old (decimal thread ++ codes ":" ++ name.now ++ codes "=" ++ decimal value) }
+    ensures short { length (further_term_text (record { left = InRegister thread name.now; value = value })) ≤ TERM_ROOM }
 {
-    match left {
-        Left::Register { thread, name } => {
-            page.put(Buffer::new().format(*thread).as_bytes());
-            page.put_fixed(b":");
-            page.put(name.as_str().as_bytes());
-        }
-        Left::Place { name } => {
-            page.put_fixed(b"[");
-            page.put(name.as_str().as_bytes());
-            page.put_fixed(b"]");
+    if let [first, second] = name {
+        if thread < 10 && value < 10 {
+            page.put_fixed(&[
+                b'0' + thread,
+                b':',
+                *first,
+                *second,
+                b'=',
+                b'0' + value as u8,
+            ]);
+            return;
         }
     }
+    put_long_register_term(thread, name, value, page);
+}
+
+/// Adds a term on a register by its parts, piece by piece.
+#[tactic(auto, using(diy_io::specs::PageLaws::page_more, std::proofs::Common::append_assoc))]
+fn put_long_register_term(thread: u8, name: &[u8], value: u32, page: &mut Page)
+    ensures { page.new ≡ page_after page.old (decimal thread ++ codes ":" ++ name.now ++ codes "=" ++ decimal value) }
+{
+    page.put(Buffer::new().format(thread).as_bytes());
+    page.put_fixed(b":");
+    page.put(name);
+    page.put_fixed(b"=");
+    page.put(Buffer::new().format(value).as_bytes());
+}
+
+/// Adds a term on a place by its parts, one of the usual length in one piece.
+#[tactic(auto, using(crate::proofs::TermText::place_term_short))]
+fn put_place_term(name: &[u8], value: u32, page: &mut Page)
+    requires { length name.now ≤ 16 }
+    ensures text { page.new ≡ page_after page.old (codes "[" ++ name.now ++ codes "]" ++ codes "=" ++ decimal value) }
+    ensures short { length (further_term_text (record { left = AtPlace name.now; value = value })) ≤ TERM_ROOM }
+{
+    if let [letter] = name {
+        if value < 10 {
+            page.put_fixed(&[b'[', *letter, b']', b'=', b'0' + value as u8]);
+            return;
+        }
+    }
+    put_long_place_term(name, value, page);
+}
+
+/// Adds a term on a place by its parts, piece by piece.
+#[tactic(auto, using(diy_io::specs::PageLaws::page_more, std::proofs::Common::append_assoc))]
+fn put_long_place_term(name: &[u8], value: u32, page: &mut Page)
+    ensures { page.new ≡ page_after page.old (codes "[" ++ name.now ++ codes "]" ++ codes "=" ++ decimal value) }
+{
+    page.put_fixed(b"[");
+    page.put(name);
+    page.put_fixed(b"]");
+    page.put_fixed(b"=");
+    page.put(Buffer::new().format(value).as_bytes());
 }
 
 /// Adds a term.
-#[tactic(auto, using(diy_io::specs::PageLaws::page_more, std::proofs::Common::append_assoc), unfolding(crate::specs::CondText::term_text))]
+#[tactic(auto, using(diy_io::specs::PageLaws::page_more, std::proofs::Common::append_assoc), unfolding(crate::specs::CondText::term_text, crate::specs::CondText::left_text))]
 fn print_term(term: &Term, page: &mut Page)
     ensures text { page.new ≡ page_after page.old (term_text (term_view term.now)) }
     ensures short { length (further_term_text (term_view term.now)) ≤ TERM_ROOM }
 {
-    print_left(&term.left, page);
-    page.put_fixed(b"=");
-    page.put(Buffer::new().format(term.value).as_bytes());
+    match &term.left {
+        Left::Register { thread, name } => put_register_term(
+            *thread,
+            name.as_str().as_bytes(),
+            term.value,
+            page,
+        ),
+        Left::Place { name } => put_place_term(name.as_str().as_bytes(), term.value, page),
+    }
 }
 
 /// Adds a term after ` /\ `.

@@ -6,14 +6,14 @@ use Rattle.std.specs.Str.{bytes_eq}
 use Rattle.std.proofs.lemmas.Bool.{and_parts, not-true, eqb-true}
 use Rattle.std.proofs.lemmas.List.{take-append-drop}
 use Rattle.std.proofs.lemmas.Slice.Eq.{bytes_eq-Decides}
-use Rattle.list_laws.proofs.Cases.{by_test}
+use Rattle.list_laws.proofs.Cases.{by_test, eq_swap}
 use Rattle.form_laws.specs.declared.form.Hole.{Hole}
 use Rattle.form_laws.specs.declared.form.Hole.TheVariants as holes
 use Rattle.form_laws.specs.declared.kind.Operand.{Operand}
 use Rattle.form_laws.specs.Kinds.{FoundOperand}
-use Rattle.form_laws.specs.Tables.{PieceText, FormText, fits_first, after_hole, operands_fit, hole_filled, piece_texts, after_prefix, before_suffix, hole_found, piece_found, joined_operands, pieces_found, form_found}
+use Rattle.form_laws.specs.Tables.{PieceText, FormText, fits_first, after_hole, operands_fit, hole_filled, piece_texts, after_prefix, before_suffix, hole_found, piece_found, joined_operands, pieces_found, form_found, piece_text}
 use Rattle.form_laws.specs.ClearTables.{differ, is_empty_hole, is_fixed, fixed_text, piece_apart, pieces_apart, forms_apart, is_piece_good}
-use Rattle.form_laws.proofs.PieceBacks.{named, held, piece_text, piece_back}
+use Rattle.form_laws.proofs.PieceBacks.{named, held, piece_back}
 
 -- a test that one of two passes is passed by the first, or by the second
 by_either : {G : Type 0} (a b : Bool) → a || b ≡ true → (a ≡ true → G) → (b ≡ true → G) → G
@@ -137,15 +137,9 @@ pub form_none : (names : ℕ → List ℕ) (f g : FormText) (vs : List Operand) 
     operands_fit g.pieces vs ≡ true → form_found f g.word (piece_texts names g.pieces vs) ≡ None
 unfolding forms_apart
 form_none names f g vs apart good fit = by_either (not (bytes_eq f.word g.word)) (pieces_apart f.pieces g.pieces) apart
-    (λ h. let other : bytes_eq g.word f.word ≡ false = turned g.word f.word (not-true (bytes_eq f.word g.word) h) in rw other refl)
+    (λ h. let other : bytes_eq g.word f.word ≡ false = eq_swap g.word f.word ∙ not-true (bytes_eq f.word g.word) h in rw other refl)
     (λ h. ap (λ o. cond (bytes_eq g.word f.word) o None) (pieces_none names f.pieces g.pieces vs h good fit) ∙ both_none (bytes_eq g.word f.word))
   where
-    turned : (a b : List ℕ) → bytes_eq b a ≡ false → bytes_eq a b ≡ false
-    turned a b h = by_test (bytes_eq a b)
-        (λ e. let same : b ≡ a = sym ((bytes_eq-Decides a b).0 e) in
-        let k : bytes_eq b a ≡ true = (bytes_eq-Decides b a).1 same in cc)
-        (λ e. e)
-
     both_none : (b : Bool) → cond {A = Option (List FoundOperand)} b None None ≡ None
     both_none true = refl
     both_none false = refl

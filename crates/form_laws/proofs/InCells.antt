@@ -25,9 +25,9 @@ use Rattle.form_laws.specs.declared.form.Hole.TheVariants as holes
 use Rattle.form_laws.specs.declared.kind.Operand.{Operand}
 use Rattle.form_laws.specs.declared.kind.Operand.TheVariants as operands
 use Rattle.form_laws.specs.Kinds.{operands_of}
-use Rattle.form_laws.specs.Tables.{PieceText, TableText, fits_first, after_hole, operands_fit, does, table_has, hole_filled, piece_texts, given_operands, form_written, first_written, table_written, table_writing}
+use Rattle.form_laws.specs.Tables.{PieceText, TableText, fits_first, after_hole, operands_fit, does, table_has, hole_filled, piece_texts, given_operands, form_written, first_written, table_written, table_writing, piece_text}
 use Rattle.form_laws.specs.ClearTables.{is_fixed_byte, is_first_byte, is_hole_good, is_piece_good, ending_words, most_in, most_of, is_clear}
-use Rattle.form_laws.proofs.PieceBacks.{piece_text, piece_is_good, length-piece_texts}
+use Rattle.form_laws.proofs.PieceBacks.{piece_is_good, length-piece_texts}
 use Rattle.form_laws.proofs.OperationBacks.{is_named_operand, operands_named}
 use Rattle.form_laws.proofs.ChosenForms.{form_is_good, done, op_texts, chosen}
 use Rattle.form_laws.proofs.PlainForms.{left_named, first_word_fixed, filled_all}

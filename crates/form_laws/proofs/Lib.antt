@@ -9,5 +9,4 @@ pub mod ReadsBack
 pub mod ReadsHad
 pub mod InCells
 pub mod Ranges
-pub mod OwnCode
 pub mod Fenced

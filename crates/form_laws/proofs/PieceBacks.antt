@@ -16,7 +16,7 @@ use Rattle.form_laws.specs.declared.form.Hole.TheVariants as holes
 use Rattle.form_laws.specs.declared.kind.Operand.{Operand}
 use Rattle.form_laws.specs.declared.kind.Operand.TheVariants as operands
 use Rattle.form_laws.specs.Kinds.{FoundOperand, found_register, found_number, found_place, found_label}
-use Rattle.form_laws.specs.Tables.{PieceText, fits_first, after_hole, operands_fit, hole_filled, piece_texts, after_prefix, before_suffix, hole_found, piece_found, joined_operands, pieces_found}
+use Rattle.form_laws.specs.Tables.{PieceText, fits_first, after_hole, operands_fit, hole_filled, piece_texts, after_prefix, before_suffix, hole_found, piece_found, joined_operands, pieces_found, piece_text}
 use Rattle.form_laws.specs.ClearTables.{is_hole_good, is_filled, fixed_text, is_fixed_byte, is_piece_good}
 
 -- an operand as it is read from its own text
@@ -31,10 +31,6 @@ abbrev pub held : Hole → List Operand → List Operand
 held holes.Empty vs = []
 held _ [] = []
 held _ (v ∷ vs) = v ∷ []
-
--- an operand as it is written by its form
-abbrev pub piece_text : (ℕ → List ℕ) → PieceText → List Operand → List ℕ
-piece_text names p vs = p.before ++ (hole_filled names p.hole vs ++ p.after)
 
 -- fixed texts at the beginning and at the end are taken off:
 -- what is left of a text after its prefix

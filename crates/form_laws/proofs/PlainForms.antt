@@ -21,9 +21,9 @@ use Rattle.form_laws.specs.declared.form.Hole.{Hole}
 use Rattle.form_laws.specs.declared.form.Hole.TheVariants as holes
 use Rattle.form_laws.specs.declared.kind.Operand.{Operand}
 use Rattle.form_laws.specs.declared.kind.Operand.TheVariants as operands
-use Rattle.form_laws.specs.Tables.{PieceText, fits_first, after_hole, operands_fit, hole_filled, piece_texts, texts_in}
+use Rattle.form_laws.specs.Tables.{PieceText, fits_first, after_hole, operands_fit, hole_filled, piece_texts, texts_in, piece_text}
 use Rattle.form_laws.specs.ClearTables.{is_hole_good, is_filled, is_fixed_byte, is_first_byte, is_piece_good}
-use Rattle.form_laws.proofs.PieceBacks.{piece_text, piece_is_good}
+use Rattle.form_laws.proofs.PieceBacks.{piece_is_good}
 use Rattle.form_laws.proofs.OperationBacks.{is_named_operand}
 
 -- a text of one byte or more is plain where each of its bytes is

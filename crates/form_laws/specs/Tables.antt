@@ -111,10 +111,14 @@ hole_filled names holes.Place (operands.Place p ∷ vs) = names p
 hole_filled names holes.Label (operands.Label l ∷ vs) = label_name l
 hole_filled names _ _ = []
 
+-- the text of an operand: what is in its hole, between its fixed texts
+abbrev pub piece_text : (ℕ → List ℕ) → PieceText → List Operand → List ℕ
+piece_text names p vs = p.before ++ (hole_filled names p.hole vs ++ p.after)
+
 -- the texts of an instruction's operands
 unfoldable pub piece_texts : (ℕ → List ℕ) → List PieceText → List Operand → List (List ℕ)
 piece_texts names [] vs = []
-piece_texts names (p ∷ ps) vs = (p.before ++ (hole_filled names p.hole vs ++ p.after)) ∷ piece_texts names ps (after_hole p.hole vs)
+piece_texts names (p ∷ ps) vs = piece_text names p vs ∷ piece_texts names ps (after_hole p.hole vs)
 
 -- the operands of an operation, none where it is of another kind
 abbrev pub given_operands : Option (List Operand) → List Operand

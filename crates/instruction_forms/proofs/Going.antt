@@ -6,9 +6,9 @@ use Rattle.std.proofs.lemmas.Bool.Decides.{nat_tests}
 use Rattle.form_laws.specs.declared.form.Piece.{Piece}
 use Rattle.std.proofs.Math.Seq.{take-length}
 use Rattle.form_laws.specs.declared.kind.Operand.{Operand}
-use Rattle.form_laws.specs.Tables.{piece_seen, fits_first, after_hole, operands_fit, hole_filled}
+use Rattle.form_laws.specs.Tables.{piece_seen, fits_first, after_hole, operands_fit, hole_filled, piece_text}
 use Rattle.form_laws.specs.ClearTables.{is_piece_good, most_in, most_of}
-use Rattle.instruction_forms.specs.Printing.{piece_text, byte_before, joined_texts, ReadyToPrint, ReadyPiece}
+use Rattle.instruction_forms.specs.Printing.{byte_before, joined_texts, ReadyToPrint, ReadyPiece}
 use Rattle.instruction_forms.proofs.Room.{filled_short, hole_good, short_after, after_of, byte_one}
 
 -- operands are printed as far as those that are left, to a text that is whole, if they fit

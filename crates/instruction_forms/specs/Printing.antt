@@ -13,17 +13,13 @@ use Rattle.instruction_forms.specs.declared.print.Separator.TheVariants.{Blank, 
 use Rattle.instruction_forms.specs.declared.sorts.Sort.{Sort}
 use Rattle.instruction_forms.specs.declared.sorts.Sort.TheVariants as sorts
 use Rattle.form_laws.specs.Kinds.{operands_of}
-use Rattle.form_laws.specs.Tables.{PieceText, FormText, hole_filled, after_hole, given_operands}
+use Rattle.form_laws.specs.Tables.{PieceText, FormText, after_hole, given_operands, piece_text}
 use Rattle.form_laws.specs.ClearTables.{is_piece_good, most_in, most_of}
 use Rattle.std.specs.List.{list_all}
 
 -- the operands that a list has
 abbrev pub listed_operands : OperandList → List Operand
 listed_operands l = take l.count l.items
-
--- the text of an operand
-abbrev pub piece_text : (ℕ → List ℕ) → PieceText → List Operand → List ℕ
-piece_text names p vs = p.before ++ (hole_filled names p.hole vs ++ p.after)
 
 -- the byte of a separator
 abbrev pub separator_byte : Separator → ℕ

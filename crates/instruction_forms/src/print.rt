@@ -1,9 +1,9 @@
 ghost use Rattle.std.specs.Prelude.{◌≡◌, ◌<◌, ◌≤◌, ◌++◌, [], true, false, map, length};
 ghost use Rattle.std.specs.List.{list_any};
 ghost use Rattle.arch_trait.specs.Writing.{written_text, name_in, place_below, label_below};
-ghost use Rattle.form_laws.specs.Tables.{piece_seen, form_seen, table_seen, does, operands_fit, fits_first, table_has, hole_filled, first_written, table_written};
+ghost use Rattle.form_laws.specs.Tables.{piece_seen, form_seen, table_seen, piece_text, does, operands_fit, fits_first, table_has, hole_filled, first_written, table_written};
 ghost use Rattle.form_laws.specs.ClearTables.{is_clear, is_form_good};
-ghost use Rattle.instruction_forms.specs.Printing.{piece_text, separator_byte, byte_before, joined_texts, form_text, form_op_text, place_short, op_sort, AllShort, ReadyToPrint, ReadyPiece};
+ghost use Rattle.instruction_forms.specs.Printing.{separator_byte, byte_before, joined_texts, form_text, form_op_text, place_short, op_sort, AllShort, ReadyToPrint, ReadyPiece};
 
 use crate::fits::{after_hole, fits_first};
 use crate::operands::operands_of;

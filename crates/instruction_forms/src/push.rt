@@ -11,7 +11,7 @@ pub(crate) type Text = ArrayString<MAX_TEXT>;
 
 /// Appends a text, a very short one without a loop over its bytes.
 #[inline]
-pub(crate) fn push_short(text: &str, out: &mut Text)
+pub fn push_short(text: &str, out: &mut Text)
     requires room { length (out.old.bytes ++ text.now) ≤ MAX_TEXT }
     ensures { out.new.bytes ≡ out.old.bytes ++ text.now }
 {
@@ -54,7 +54,7 @@ pub(crate) fn push_number(n: u32, out: &mut Text)
 
 /// Appends a digit.
 #[inline]
-fn push_digit(digit: u32, out: &mut Text)
+pub fn push_digit(digit: u32, out: &mut Text)
     requires one { digit < 10 }
     requires room { length out.old.bytes < MAX_TEXT }
     ensures { out.new.bytes ≡ out.old.bytes ++ (48 + digit) ∷ [] }

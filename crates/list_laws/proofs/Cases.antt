@@ -1,7 +1,13 @@
 -- Cases to split on, with the goal given first: a test is true or false, a number is below another or not.
-use Rattle.std.proofs.Common.{◌≡◌, ℕ, ◌<◌, ◌≤◌, Bool, true, false, Option, Some, None, refl, inl, inr, not, ◌||◌}
+use Rattle.std.proofs.Common.{◌≡◌, ℕ, ◌<◌, ◌≤◌, Bool, true, false, Option, Some, None, refl, inl, inr, not, ◌||◌, arith, List, sym}
 use Rattle.std.specs.Prelude.{◌⊎◌}
 use Rattle.std.proofs.lemmas.Bool.{cases_lt, cases_eq}
+use Rattle.std.specs.declared.cmp.Ordering.{Ordering}
+use Rattle.std.specs.declared.cmp.Ordering.TheVariants.{Less, Equal, Greater}
+use Rattle.std.specs.Ordering.{ordering_index}
+use Rattle.std.specs.Str.{bytes_eq}
+use Rattle.std.proofs.lemmas.Slice.Eq.{bytes_eq-Decides}
+use Rattle.std.specs.Cmp.{both_ways}
 
 -- a test is true, or it is false
 pub by_test : {G : Type 0} (b : Bool) → (b ≡ true → G) → (b ≡ false → G) → G
@@ -33,3 +39,15 @@ by_same {G} m n s d = either (cases_eq m n)
 pub by_option : {A G : Type 0} (o : Option A) → (o ≡ None → G) → ((x : A) → o ≡ Some x → G) → G
 by_option None n s = n refl
 by_option (Some x) n s = s x refl
+
+-- answers of comparisons with one index are the same
+pub same_index : (r s : Ordering) → ordering_index r ≡ ordering_index s → r ≡ s
+same_index Less Less e = refl
+same_index Equal Equal e = refl
+same_index Greater Greater e = refl
+same_index _ _ e = absurd (omega arith)
+
+-- two texts are equal whichever is named first
+pub eq_swap : (a b : List ℕ) → bytes_eq a b ≡ bytes_eq b a
+eq_swap a b = both_ways (bytes_eq a b) (bytes_eq b a)
+    (λ h. (bytes_eq-Decides b a).1 (sym ((bytes_eq-Decides a b).0 h))) (λ h. (bytes_eq-Decides a b).1 (sym ((bytes_eq-Decides b a).0 h)))

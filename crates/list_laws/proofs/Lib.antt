@@ -7,5 +7,6 @@ pub mod Prefixes
 pub mod Totals
 pub mod Parts
 pub mod Elements
+pub mod Distinct
 pub mod Digits
 pub mod Places

@@ -1,8 +1,9 @@
 -- The first element of a list that passes a test: its place, and what is before it.
 use Rattle.std.specs.Prelude.{ℕ, ◌≡◌, ◌+◌, Bool, false, List, ◌∷◌}
 use Rattle.std.proofs.Common.{suc, arith, refl, true, not, cond, [], Some, None, sym, ap, ◌∙◌}
-use Rattle.std.specs.List.{before_first, position_or_len, list_all, position_from}
+use Rattle.std.specs.List.{before_first, position_or_len, list_all, position_from, AllByRecursion}
 use Rattle.list_laws.proofs.Cases.{by_test}
+use Rattle.std.proofs.lemmas.Bool.{and_parts}
 
 one_more : (n : ℕ) → 1 + n ≡ suc n
 one_more n = omega arith
@@ -25,3 +26,21 @@ none_foreign p (x ∷ xs) k h =
   where
     some_none : {G : Type 0} (k : ℕ) → Some k ≡ None → G
     some_none k e = cc e
+
+-- where all pass a test, none is found that fails it
+pub none_fails : {X : Type 0} (p : X → Bool) (k : ℕ) (xs : List X) → list_all p xs ≡ true → position_from (λ x. not (p x)) k xs ≡ None
+none_fails p k [] h = refl
+none_fails p k (x ∷ xs) h =
+    let parts = and_parts (p x) (list_all p xs) h in
+    ap (λ b. cond (not b) (Some k) (position_from (λ y. not (p y)) (k + 1) xs)) parts.0 ∙ none_fails p (k + 1) xs parts.1
+
+-- where none is found that passes a test, each fails it
+pub none_passes : {X : Type 0} (p : X → Bool) (k : ℕ) (xs : List X) → position_from p k xs ≡ None → AllByRecursion (λ x. p x ≡ false) xs
+none_passes p k [] e = tt
+none_passes p k (x ∷ xs) e =
+    by_test (p x)
+    (λ f. absurd (some_none (sym (ap (λ b. cond b (Some k) (position_from p (k + 1) xs)) f) ∙ e)))
+    (λ f. (f, none_passes p (k + 1) xs (sym (ap (λ b. cond b (Some k) (position_from p (k + 1) xs)) f) ∙ e)))
+  where
+    some_none : Some k ≡ None → ⊥
+    some_none e = cc

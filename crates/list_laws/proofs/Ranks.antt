@@ -1,5 +1,5 @@
 -- The numbers below n that pass a test, in order: the place of each is how many pass before it.
-use Rattle.std.proofs.Common.{◌≡◌, ℕ, zero, suc, ◌<◌, Bool, true, false, [], ◌∷◌, ◌++◌, length, get_or, Some, slice_get, sym, ◌∙◌, ap, arith}
+use Rattle.std.proofs.Common.{◌≡◌, ℕ, zero, suc, ◌+◌, ◌<◌, Bool, true, false, [], ◌∷◌, ◌++◌, length, get_or, Some, slice_get, sym, ◌∙◌, ap, arith}
 use Rattle.std.specs.List.{count_by, filter}
 use Rattle.std.proofs.lemmas.List.{append-nil, get_or_push, get_or_append_left, length_push}
 use Rattle.std.proofs.lemmas.List.Elements.{filter-append}
@@ -10,11 +10,21 @@ use Rattle.list_laws.specs.Numbers.{upto}
 use Rattle.list_laws.proofs.Cases.{by_test, by_less}
 use Rattle.list_laws.proofs.Counts.{count_upto_past}
 
-filter_upto_yes : (p : ℕ → Bool) (n : ℕ) → p n ≡ true → filter p (upto (suc n)) ≡ filter p (upto n) ++ n ∷ []
+-- a number that passes a test is the last of those up to it that pass
+pub filter_upto_yes : (p : ℕ → Bool) (n : ℕ) → p n ≡ true → filter p (upto (suc n)) ≡ filter p (upto n) ++ n ∷ []
 filter_upto_yes p n h = filter-append p (upto n) (n ∷ []) ∙ ap (λ l. filter p (upto n) ++ l) (cond-true (p n) (n ∷ []) [] h)
 
-filter_upto_no : (p : ℕ → Bool) (n : ℕ) → p n ≡ false → filter p (upto (suc n)) ≡ filter p (upto n)
+-- a number that doesn't pass a test adds none to those that pass
+pub filter_upto_no : (p : ℕ → Bool) (n : ℕ) → p n ≡ false → filter p (upto (suc n)) ≡ filter p (upto n)
 filter_upto_no p n h = filter-append p (upto n) (n ∷ []) ∙ ap (λ l. filter p (upto n) ++ l) (cond-false (p n) (n ∷ []) [] h) ∙ append-nil (filter p (upto n))
+
+-- the same, with the number after it written as a sum
+pub filter_yes : (p : ℕ → Bool) (n : ℕ) → p n ≡ true → filter p (upto (n + 1)) ≡ filter p (upto n) ++ n ∷ []
+filter_yes p n h = let more : n + 1 ≡ suc n = omega arith in ap (λ m. filter p (upto m)) more ∙ filter_upto_yes p n h
+
+-- the same, with the number after it written as a sum
+pub filter_no : (p : ℕ → Bool) (n : ℕ) → p n ≡ false → filter p (upto (n + 1)) ≡ filter p (upto n)
+filter_no p n h = let more : n + 1 ≡ suc n = omega arith in ap (λ m. filter p (upto m)) more ∙ filter_upto_no p n h
 
 -- as many numbers are filtered as are counted
 pub length-filter-upto : (p : ℕ → Bool) (n : ℕ) → length (filter p (upto n)) ≡ count_by p (upto n)

@@ -12,6 +12,9 @@ use Rattle.list_laws.proofs.Cases.{by_test}
 use Rattle.arch_trait.specs.PlaceNames.{number_in, number_added, names_added, number_or_next, with_name}
 use Rattle.litmus_text.specs.Placing.{or_zero, place_in}
 use Rattle.text_laws.proofs.OrderLaws.{bytes_same}
+use Rattle.list_laws.proofs.Places.{none_passes}
+use Rattle.list_laws.proofs.Distinct.{distinct_push}
+use Rattle.list_laws.proofs.Elements.{all_append}
 
 none_some : {i : ℕ} {G : Type 0} → None ≡ Some i → G
 none_some e = cc
@@ -154,27 +157,11 @@ few_names s table h =
     length-le_from_distinct_below (map (place_in table) s) (length table) (numbers_once table s h.once h.inside) (numbers_below table s h.inside) in
     omega (arith, length-map s (place_in table))
 
-none_passes : (t : List ℕ → Bool) (k : ℕ) (names : List (List ℕ)) → position_from t k names ≡ None → AllByRecursion (λ x. t x ≡ false) names
-none_passes t k [] e = tt
-none_passes t k (x ∷ names) e =
-    by_test (t x)
-    (λ f. some_none (sym (ap (λ b. cond b (Some k) (position_from t (k + 1) names)) f) ∙ e))
-    (λ f. (f, none_passes t (k + 1) names (sym (ap (λ b. cond b (Some k) (position_from t (k + 1) names)) f) ∙ e)))
-
-all_push : (P : List ℕ → Type 0) (names : List (List ℕ)) (name : List ℕ) → AllByRecursion P names → P name → AllByRecursion P (names ++ name ∷ [])
-all_push P [] name h p = (p, tt)
-all_push P (x ∷ names) name h p = (h.0, all_push P names name h.1 p)
-
-distinct_push : (names : List (List ℕ)) (name : List ℕ) → IsDistinct bytes_eq names → AllByRecursion (λ x. bytes_eq x name ≡ false) names → IsDistinct bytes_eq (names ++ name ∷ [])
-unfolding IsDistinct
-distinct_push [] name d h = (tt, tt)
-distinct_push (x ∷ names) name d h = (all_push (λ y. bytes_eq x y ≡ false) names name d.0 h.0, distinct_push names name d.1 h.1)
-
 -- a table among another one stays so when a new name of that one is added
 pub push_among : (s table : List (List ℕ)) (name : List ℕ) → IsAmong s table → number_in s name ≡ None → is_some (number_in table name) ≡ true → IsAmong (s ++ name ∷ []) table
 push_among s table name h new inside = record {
-  once = distinct_push s name h.once (none_passes (λ x. bytes_eq x name) 0 s new);
-  inside = all_push (λ x. is_some (number_in table x) ≡ true) s name h.inside inside;
+  once = distinct_push bytes_eq s name h.once (none_passes (λ x. bytes_eq x name) 0 s new);
+  inside = all_append (λ x. is_some (number_in table x) ≡ true) s (name ∷ []) h.inside (inside, tt);
 }
 
 -- a name gets its number in a table that stays among another one

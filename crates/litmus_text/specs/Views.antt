@@ -97,7 +97,7 @@ item_formed (items.Zero name) = is_place_name name.bytes
 abbrev pub begun_seen : State → Begun
 begun_seen b = record { names = b.names; values = b.values.items }
 
--- the items of pieces of a text, of which the first stands at its beginning, added to what is given so far
+-- the items of pieces of a text, of which the first is at its beginning, added to what is given so far
 abbrev pub pieces_read : Writing → JoinedText → List (List ℕ) → State → Result Begun TextError
 pieces_read w joined ps begun = items_read w (joined_seen joined) 0 ps (begun_seen begun)
 

@@ -64,6 +64,7 @@ fn print_item<A: Arch>(i: usize, thread: usize, link: (u8, u8), places: &Places,
 }
 
 /// Appends the item of a register and a place by their names, one of the usual length in one piece.
+#[inline(always)]
 #[tactic(auto, using(std::proofs::lemmas::Fmt::decimal_digit))]
 fn put_link(thread: usize, register: &[u8], place: &[u8], page: &mut Page)
     ensures { page.new ≡ page_after page.old (decimal thread ++ codes ":" ++ register.now ++ codes "=" ++ place.now ++ codes ";") }

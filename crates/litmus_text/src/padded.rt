@@ -31,6 +31,7 @@ impl PaddedCell {
     }
 
     /// Appends the cell of a thread to a row, filled with blanks up to a width, after ` | ` where it isn't the first.
+    #[inline(always)]
     pub(crate) fn put(&self, thread: usize, width: usize, page: &mut Page)
         requires within { length (text_in self.now) ≤ width }
         requires short { width ≤ MAX_TEXT }

@@ -1,16 +1,14 @@
 -- Counts and the digits that write them.
 use Rattle.std.proofs.Common.{◌≡◌, ℕ, ◌^◌, ◌<◌, List, [], ◌∷◌, length, refl, sym, ap, ◌∙◌, arith}
 use Rattle.std.specs.Prelude.{true, false, cond, nat_le, nat_lt, Option, Some, None, Result, Ok, Err}
-use Rattle.std.specs.Char.{is_ascii, is_ascii_digit}
+use Rattle.std.specs.Char.{is_ascii_digit}
 use Rattle.std.specs.List.{list_all}
 use Rattle.std.specs.Result.{result_ok, OkIff}
-use Rattle.std.specs.Str.{IsUtf8}
 use Rattle.std.specs.Str.Parse.{digits_value, ParsesUnsigned}
 use Rattle.std.proofs.lemmas.Bool.{ltb-true, lt-ltb}
 use Rattle.std.proofs.lemmas.Bool.Decides.{nat_tests}
 use Rattle.std.proofs.lemmas.Str.Parse.{parse_plain}
 use Rattle.list_laws.proofs.Digits.{digits_model, digits_no_plus}
-use Rattle.list_laws.proofs.Elements.{list_all-weaker}
 use Rattle.list_laws.proofs.Cases.{by_test}
 use Rattle.log_sum.specs.declared.errors.LogKind.{LogKind}
 use Rattle.log_sum.specs.declared.errors.LogKind.TheVariants.{BadState, BadCount}
@@ -19,7 +17,6 @@ use Rattle.text_laws.specs.Words.{is_nil}
 use Rattle.diy_io.specs.Count.{last_count}
 use Rattle.log_sum.specs.Counts.{count_read, count_of_digits}
 use Rattle.text_laws.proofs.RunLaws.{run_passes}
-use Rattle.text_laws.proofs.NameLaws.{utf8_from_ascii}
 
 -- what is parsed is the digits' value, if it is small
 pub parsed : {E : Type 0} (digits : List ℕ) (r : Result ℕ E) → list_all is_ascii_digit digits ≡ true → 0 < length digits → ParsesUnsigned 64 10 digits r
@@ -31,11 +28,6 @@ parsed digits r all some parses = by_answer r (parse_plain digits_model 64 digit
     by_answer (Ok x) h = rw (lt-ltb (digits_value 10 digits) (2 ^ 64) h.0.2) (ap Some h.1)
     by_answer (Err e) h =
         by_test (nat_lt (digits_value 10 digits) (2 ^ 64)) (λ t. absurd (h (all, some, ltb-true (digits_value 10 digits) (2 ^ 64) t))) (λ t. rw t refl)
-
--- digits are UTF-8
-pub digits_ascii : (digits : List ℕ) → list_all is_ascii_digit digits ≡ true → IsUtf8 digits
-digits_ascii digits h =
-    utf8_from_ascii digits (list_all-weaker is_ascii_digit is_ascii (λ byte p. grind (arith, nat_tests)) digits h)
 
 -- the digits at the start of a text are digits
 pub prefix_digits : (text digits : List ℕ) → digits ≡ leading_run is_ascii_digit text → list_all is_ascii_digit digits ≡ true

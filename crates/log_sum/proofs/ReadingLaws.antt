@@ -7,7 +7,7 @@ use Rattle.std.proofs.lemmas.List.Elements.{filter-append}
 use Rattle.std.proofs.lemmas.List.Sums.{fold-append}
 use Rattle.std.proofs.lemmas.Slice.Eq.{bytes_eq-Decides}
 use Rattle.std.proofs.lemmas.List.{map_push}
-use Rattle.list_laws.proofs.Cases.{by_test}
+use Rattle.list_laws.proofs.Cases.{by_test, eq_swap}
 use Rattle.log_sum.specs.declared.errors.LogError.{LogError}
 use Rattle.log_sum.specs.Facts.{Fact, Entry, facts_of, tests_of, with_test_name}
 use Rattle.log_sum.specs.Summed.{Summed, summed}
@@ -174,10 +174,7 @@ differ_name [] name h d = more name [] refl none
 differ_name (x ∷ names) name h (more _ _ n d) =
     by_test (bytes_eq name x)
     (λ e. let k = rw e at h in absurd (cc))
-    (λ e. more x (names ++ name ∷ []) (without_end x name names n (swap x name e)) (differ_name names name (rw e at h) d))
-  where
-    swap : (x name : List ℕ) → bytes_eq name x ≡ false → bytes_eq x name ≡ false
-    swap x name e = by_test (bytes_eq x name) (λ f. let k : bytes_eq name x ≡ true = (bytes_eq-Decides name x).1 (sym ((bytes_eq-Decides x name).0 f)) in absurd (let z : true ≡ false = sym k ∙ e in cc)) (λ f. f)
+    (λ e. more x (names ++ name ∷ []) (without_end x name names n (eq_swap x name ∙ e)) (differ_name names name (rw e at h) d))
 
 -- the names with one more differ
 pub differ_with : (names : List (List ℕ)) (name : List ℕ) → Differ names → Differ (with_test_name names name)

@@ -10,7 +10,7 @@ use Rattle.std.proofs.lemmas.Bool.{and_parts}
 use Rattle.std.proofs.lemmas.Bool.Decides.{nat_tests}
 use Rattle.std.proofs.lemmas.List.Quantifiers.{position-Some}
 use Rattle.std.proofs.lemmas.Slice.Eq.{bytes_eq-Decides}
-use Rattle.list_laws.proofs.Cases.{by_test}
+use Rattle.list_laws.proofs.Cases.{by_test, eq_swap}
 use Rattle.indexmap.specs.IndexMap.{insert_entry}
 use Rattle.indexmap.specs.Layout.{set_value_at}
 use Rattle.log_sum.specs.declared.errors.LogKind.{LogKind}
@@ -248,13 +248,10 @@ any_name name xs (y ∷ ys) h =
     any_end [] y h = (refl, by_test (bytes_eq name y) (λ g. let k = rw g at h in absurd (cc)) (λ g. g))
     any_end (x ∷ xs) y h = by_test (bytes_eq name x) (λ g. let k = rw g at h in absurd (cc)) (λ g. let further = any_end xs y (rw g at h) in (rw g further.0, further.1))
 
-swap_false : (a b : List ℕ) → bytes_eq a b ≡ false → bytes_eq b a ≡ false
-swap_false a b e = by_test (bytes_eq b a) (λ f. let k : bytes_eq a b ≡ true = (bytes_eq-Decides a b).1 (sym ((bytes_eq-Decides b a).0 f)) in absurd (let z : true ≡ false = sym k ∙ e in cc)) (λ f. f)
-
 no_facts : (name : List ℕ) (entries : List Entry) → list_any (bytes_eq name) (map (λ e. e.test) entries) ≡ false → facts_of name entries ≡ []
 no_facts name [] h = refl
 no_facts name (e ∷ entries) h =
-    by_test (bytes_eq name e.test) (λ f. let k = rw f at h in absurd (cc)) (λ f. rw (swap_false name e.test f) (no_facts name entries (rw f at h)))
+    by_test (bytes_eq name e.test) (λ f. let k = rw f at h in absurd (cc)) (λ f. rw (eq_swap e.test name ∙ f) (no_facts name entries (rw f at h)))
 
 -- a new test goes last
 insert_shown : (eq : Vec ℕ Global → Vec ℕ Global → Bool) → ((x y : Vec ℕ Global) → eq x y ≡ bytes_eq x.items y.items) → (es : List (Vec ℕ Global × TestSum)) (key : Vec ℕ Global) (t : TestSum)

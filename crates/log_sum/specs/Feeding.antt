@@ -25,7 +25,7 @@ pub record Marked (rs : List Row) : Type 0 where
 abbrev pub AreMarked : List Entry → Type 0
 AreMarked entries = (test : List ℕ) → Marked (rows (facts_of test entries))
 
--- something is so of the entries that a table stands for, whatever they are, where the rows of each state have one mark
+-- something is so of the entries that a table represents, whatever they are, where the rows of each state have one mark
 abbrev pub ForEntries : Table → (List Entry → Type 0) → Type 0
 ForEntries table Holds = (entries : List Entry) → tests_view table ≡ sum_table entries → AreMarked entries → Holds entries
 

@@ -25,7 +25,7 @@ pub(crate) fn read_count(text: &[u8]) -> Result<(u64, &[u8]), LogKind>
 }
 
 /// The count that digits write, if it isn't too large.
-#[tactic(auto, using(crate::proofs::CountLaws::parsed, crate::proofs::CountLaws::digits_ascii))]
+#[tactic(auto, using(crate::proofs::CountLaws::parsed, text_laws::proofs::NumberLaws::digits_ascii))]
 fn count_of(digits: &[u8]) -> Option<u64>
     requires some { 0 < length digits.now }
     requires all { list_all is_ascii_digit digits.now ≡ true }

@@ -1,7 +1,7 @@
 -- The laws of runs: jumps, registers that keep their value,
 -- what masks name.
 use Rattle.std.proofs.Common.{ℕ, ◌+◌, ◌^◌, ◌<◌, ◌≡◌, ◌==◌, refl, Bool, true, false, cond, ◌||◌, List, [], ◌∷◌, ◌++◌, Option, Some, None, ◌∙◌, sym, ap, eq-eqb, ◌⊎◌, inl, inr, count_by, ◌≤◌, lt_of_lt_of_le, arith}
-use Rattle.std.proofs.lemmas.Bool.{and_parts}
+use Rattle.std.proofs.lemmas.Bool.{and_parts, or_parts}
 use Rattle.std.proofs.lemmas.Nat.{pow_pos}
 use Rattle.std.proofs.lemmas.List.Sums.{sum_by-append}
 use Rattle.std.proofs.Math.Pow.{pow_mono}
@@ -157,10 +157,6 @@ unwritten_kept (op ∷ code) q held p e h =
     unwritten_kept code q held (go op p) parts.1
     (go_keeps (λ r. r.state.regs q ≡ held) op (keeps parts.0) p h)
   where
-    or_parts : (a b : Bool) → (a || b) ≡ false → (a ≡ false) × (b ≡ false)
-    or_parts true b h = cc
-    or_parts false b h = (refl, h)
-
     keeps : is_named_register q (writes op) ≡ false → StepKeeps (λ r. r.state.regs q ≡ held) op
     keeps e r read reads h = on_effect (step op r.state read) (step_keeps op r.state read q e)
       where

@@ -20,6 +20,7 @@ use Rattle.arch_trait.specs.Writing.{Writing}
 use Rattle.litmus_text.specs.TestTable.{is_label_of}
 use Rattle.litmus_text.specs.Progress.{is_placed, CodeFits, occurs_once, code_lands}
 use Rattle.litmus_text.specs.Items.{Link, links_of, links_once, LinkFits}
+use Rattle.arch_laws.proofs.TakingLaws.{in_order_le}
 
 -- the place of each visit has a name of its form in a table
 abbrev pub HasPlaces : List (List ℕ) → (ℕ → List ℕ) → List Step → Type 0
@@ -131,12 +132,8 @@ links_fit w table names ss thread low [] places small order visited = tt
 links_fit w table names ss thread low (link ∷ links) places small order visited =
     let v = and_parts (visits link.1 ss) (list_all (λ (l : ℕ × ℕ). visits l.1 ss) links) visited in
     let p = and_parts (is_place_name (names link.1)) (is_some (number_in table (names link.1))) (places link.1 v.0) in
-    let high = order_below (link.0 + 1) links (length w.registers) order.1 in
+    let high = in_order_le (link.0 + 1) links (length w.registers) order.1 in
     (record { thread = small; register = omega arith; formed = p.0; inside = p.1 }, links_fit w table names ss thread (link.0 + 1) links places small order.1 v.1)
-  where
-    order_below : (low : ℕ) (links : List (ℕ × ℕ)) (high : ℕ) → InOrder low links high → low ≤ high
-    order_below low [] high h = h
-    order_below low (link ∷ links) high h = let rest = order_below (link.0 + 1) links high h.1 in omega (arith, h.0, rest)
 
 -- the registers of links before one: of earlier threads, or below its own
 abbrev pub are_before : ℕ → ℕ → List Link → Bool

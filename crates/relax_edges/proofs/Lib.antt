@@ -13,3 +13,4 @@ pub mod FenceWords
 pub mod Search
 pub mod Items
 pub mod Prefixes
+pub mod WordTable

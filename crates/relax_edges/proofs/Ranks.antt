@@ -3,9 +3,7 @@ use Rattle.std.specs.Prelude.{◌≡◌, ◌<◌, ◌==◌, ◌↔◌, IsTrue, B
 use Rattle.std.specs.Ordering.{nat_cmp, ordering_index}
 use Rattle.std.specs.Cmp.Lexicographic.{slice_cmp}
 use Rattle.std.specs.List.{list_all}
-use Rattle.std.specs.declared.cmp.Ordering.{Ordering}
-use Rattle.std.specs.declared.cmp.Ordering.TheVariants.{Less, Equal, Greater}
-use Rattle.std.proofs.Common.{refl, arith, ap, subst}
+use Rattle.std.proofs.Common.{refl, ap, subst}
 use Rattle.std.proofs.lemmas.Bool.{eqb-true, eq-eqb}
 use Rattle.std.proofs.lemmas.List.Elements.{All-get_or}
 use Rattle.std.proofs.lemmas.List.Sums.{AllPass-from_list_all}
@@ -37,6 +35,7 @@ use Rattle.relax_edges.specs.declared.edge.Edge.TheVariants as edges
 use Rattle.relax_edges.specs.Order.{rank_of}
 use Rattle.relax_edges.specs.WordParts.{word_of}
 use Rattle.relax_edges.specs.AllEdges.{edges_in_order}
+use Rattle.list_laws.proofs.Cases.{same_index}
 
 -- a fact about place and directions, from its eight cases
 eight : (P : Sd → Dir → Dir → Type 0)
@@ -206,12 +205,6 @@ compare_alike a b = ordering_index (slice_cmp nat_cmp (word_of a) (word_of b)) =
 all_alike : list_all (λ a. list_all (compare_alike a) edges_in_order) edges_in_order ≡ true
 unfolding rank_of edges_in_order compare_alike
 all_alike = refl
-
-same_index : (r s : Ordering) → ordering_index r ≡ ordering_index s → r ≡ s
-same_index Less Less e = refl
-same_index Equal Equal e = refl
-same_index Greater Greater e = refl
-same_index _ _ e = absurd (omega arith)
 
 -- the printed words of two edges compare as their ranks do
 pub rank_orders : (a b : Edge) → slice_cmp nat_cmp (word_of a) (word_of b) ≡ nat_cmp (rank_of a) (rank_of b)

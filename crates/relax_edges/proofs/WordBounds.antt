@@ -6,13 +6,10 @@ use Rattle.std.proofs.Common.{refl, get_or, nat_le, nat_lt}
 use Rattle.std.proofs.lemmas.Bool.{leb-true, ltb-true}
 use Rattle.std.proofs.lemmas.List.Sums.{AllPass-from_list_all}
 use Rattle.std.proofs.lemmas.Str.Ascii.{IsAscii-from_all}
-use Rattle.relax_edges.specs.declared.kinds.Kind.{Kind}
 use Rattle.relax_edges.specs.declared.edge.Edge.{Edge}
-use Rattle.relax_edges.specs.EdgeTable.{kind_of}
-use Rattle.relax_edges.specs.WordParts.{word_of, kind_word}
+use Rattle.relax_edges.specs.WordParts.{word_of}
 use Rattle.relax_edges.specs.AllEdges.{edges_in_order}
 use Rattle.relax_edges.proofs.Ranks.{each_edge}
-use Rattle.relax_edges.proofs.KindSpellings.{each_kind}
 
 has_three : Edge → Bool
 has_three edge = nat_le 3 (length (word_of edge))
@@ -53,15 +50,3 @@ pub word_ascii : (edge : Edge) → IsAscii (word_of edge)
 unfolding is_ascii_word
 word_ascii edge =
     IsAscii-from_all (word_of edge) (below_each (word_of edge) (AllPass-from_list_all (λ b. nat_lt b 128) (word_of edge) (each_edge is_ascii_word all_ascii edge)))
-
-is_short_kind : Kind → Bool
-is_short_kind kind = nat_le (length (kind_word kind)) 14
-
-all_kinds_short : list_all (λ edge. is_short_kind (kind_of edge)) edges_in_order ≡ true
-unfolding is_short_kind edges_in_order
-all_kinds_short = refl
-
--- so has the word of an edge without its marks
-pub kind_word_short : (kind : Kind) → length (kind_word kind) ≤ 14
-unfolding is_short_kind
-kind_word_short kind = leb-true (length (kind_word kind)) 14 (each_kind is_short_kind all_kinds_short kind)

@@ -5,6 +5,7 @@ pub mod Order
 pub mod WordParts
 pub mod AllEdges
 pub mod Spelling
+pub mod ReadEdges
 pub mod WordReading
 pub mod Architectures
 pub mod RelaxText

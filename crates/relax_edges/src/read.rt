@@ -10,7 +10,7 @@ use crate::kinds::{ArchName, Com, DepKind, Dir, FenceKind, Kind, Mark, Pick, Rea
 use thiserror::Error;
 
 impl Dir {
-    fn from_byte(byte: u8) -> Option<Dir>
+    pub(crate) fn from_byte(byte: u8) -> Option<Dir>
         ensures { result ≡ dir_named (byte ∷ []) }
     {
         match byte {
@@ -22,7 +22,7 @@ impl Dir {
 }
 
 impl Sd {
-    fn from_byte(byte: u8) -> Option<Sd>
+    pub(crate) fn from_byte(byte: u8) -> Option<Sd>
         ensures { result ≡ sd_named (byte ∷ []) }
     {
         match byte {
@@ -34,7 +34,7 @@ impl Sd {
 }
 
 impl Reach {
-    fn from_byte(byte: u8) -> Option<Reach>
+    pub(crate) fn from_byte(byte: u8) -> Option<Reach>
         ensures { result ≡ reach_named (byte ∷ []) }
     {
         match byte {

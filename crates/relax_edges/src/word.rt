@@ -1,109 +1,361 @@
-ghost use Rattle.std.specs.Prelude.{◌≡◌, ◌≤◌, ◌+◌, ◌++◌, length, []};
+ghost use Rattle.std.specs.Prelude.{◌≡◌, ◌≤◌, ◌<◌, length, map};
 ghost use Rattle.std.specs.Str.{IsAscii};
-ghost use Rattle.relax_edges.specs.WordParts.{word_of, kind_word, mark_word, marks_word, com_word, reach_word, sd_word, dir_word, fence_word, dependency_word};
+ghost use Rattle.relax_edges.specs.WordParts.{word_of};
+ghost use Rattle.relax_edges.specs.AllEdges.{edges_in_order};
 
 use crate::edge::Edge;
-use crate::kinds::{Com, DepKind, Dir, FenceKind, Kind, Mark, Pick, Reach, Sd};
 use arrayvec::ArrayString;
 
-impl Dir {
-    fn word(self) -> &'static str
-        ensures { result.now ≡ dir_word self }
-    {
-        match self {
-            Dir::R => "R",
-            Dir::W => "W",
-        }
-    }
-}
+/// The words of all edges, in byte order, so that the place of each is the rank of its edge.
+const WORDS: [&str; 324] = [
+    "DMB.LDdRR",
+    "DMB.LDdRRAA",
+    "DMB.LDdRRAP",
+    "DMB.LDdRRPA",
+    "DMB.LDdRW",
+    "DMB.LDdRWAL",
+    "DMB.LDdRWAP",
+    "DMB.LDdRWPL",
+    "DMB.LDdWR",
+    "DMB.LDdWRLA",
+    "DMB.LDdWRLP",
+    "DMB.LDdWRPA",
+    "DMB.LDdWW",
+    "DMB.LDdWWLL",
+    "DMB.LDdWWLP",
+    "DMB.LDdWWPL",
+    "DMB.LDsRR",
+    "DMB.LDsRRAA",
+    "DMB.LDsRRAP",
+    "DMB.LDsRRPA",
+    "DMB.LDsRW",
+    "DMB.LDsRWAL",
+    "DMB.LDsRWAP",
+    "DMB.LDsRWPL",
+    "DMB.LDsWR",
+    "DMB.LDsWRLA",
+    "DMB.LDsWRLP",
+    "DMB.LDsWRPA",
+    "DMB.LDsWW",
+    "DMB.LDsWWLL",
+    "DMB.LDsWWLP",
+    "DMB.LDsWWPL",
+    "DMB.STdRR",
+    "DMB.STdRRAA",
+    "DMB.STdRRAP",
+    "DMB.STdRRPA",
+    "DMB.STdRW",
+    "DMB.STdRWAL",
+    "DMB.STdRWAP",
+    "DMB.STdRWPL",
+    "DMB.STdWR",
+    "DMB.STdWRLA",
+    "DMB.STdWRLP",
+    "DMB.STdWRPA",
+    "DMB.STdWW",
+    "DMB.STdWWLL",
+    "DMB.STdWWLP",
+    "DMB.STdWWPL",
+    "DMB.STsRR",
+    "DMB.STsRRAA",
+    "DMB.STsRRAP",
+    "DMB.STsRRPA",
+    "DMB.STsRW",
+    "DMB.STsRWAL",
+    "DMB.STsRWAP",
+    "DMB.STsRWPL",
+    "DMB.STsWR",
+    "DMB.STsWRLA",
+    "DMB.STsWRLP",
+    "DMB.STsWRPA",
+    "DMB.STsWW",
+    "DMB.STsWWLL",
+    "DMB.STsWWLP",
+    "DMB.STsWWPL",
+    "DMB.SYdRR",
+    "DMB.SYdRRAA",
+    "DMB.SYdRRAP",
+    "DMB.SYdRRPA",
+    "DMB.SYdRW",
+    "DMB.SYdRWAL",
+    "DMB.SYdRWAP",
+    "DMB.SYdRWPL",
+    "DMB.SYdWR",
+    "DMB.SYdWRLA",
+    "DMB.SYdWRLP",
+    "DMB.SYdWRPA",
+    "DMB.SYdWW",
+    "DMB.SYdWWLL",
+    "DMB.SYdWWLP",
+    "DMB.SYdWWPL",
+    "DMB.SYsRR",
+    "DMB.SYsRRAA",
+    "DMB.SYsRRAP",
+    "DMB.SYsRRPA",
+    "DMB.SYsRW",
+    "DMB.SYsRWAL",
+    "DMB.SYsRWAP",
+    "DMB.SYsRWPL",
+    "DMB.SYsWR",
+    "DMB.SYsWRLA",
+    "DMB.SYsWRLP",
+    "DMB.SYsWRPA",
+    "DMB.SYsWW",
+    "DMB.SYsWWLL",
+    "DMB.SYsWWLP",
+    "DMB.SYsWWPL",
+    "DpAddrdR",
+    "DpAddrdRAA",
+    "DpAddrdRAP",
+    "DpAddrdRPA",
+    "DpAddrdW",
+    "DpAddrdWAL",
+    "DpAddrdWAP",
+    "DpAddrdWPL",
+    "DpAddrsR",
+    "DpAddrsRAA",
+    "DpAddrsRAP",
+    "DpAddrsRPA",
+    "DpAddrsW",
+    "DpAddrsWAL",
+    "DpAddrsWAP",
+    "DpAddrsWPL",
+    "DpCtrlIsbdR",
+    "DpCtrlIsbdRAA",
+    "DpCtrlIsbdRAP",
+    "DpCtrlIsbdRPA",
+    "DpCtrlIsbdW",
+    "DpCtrlIsbdWAL",
+    "DpCtrlIsbdWAP",
+    "DpCtrlIsbdWPL",
+    "DpCtrlIsbsR",
+    "DpCtrlIsbsRAA",
+    "DpCtrlIsbsRAP",
+    "DpCtrlIsbsRPA",
+    "DpCtrlIsbsW",
+    "DpCtrlIsbsWAL",
+    "DpCtrlIsbsWAP",
+    "DpCtrlIsbsWPL",
+    "DpCtrlIsyncdR",
+    "DpCtrlIsyncdW",
+    "DpCtrlIsyncsR",
+    "DpCtrlIsyncsW",
+    "DpCtrldR",
+    "DpCtrldRAA",
+    "DpCtrldRAP",
+    "DpCtrldRPA",
+    "DpCtrldW",
+    "DpCtrldWAL",
+    "DpCtrldWAP",
+    "DpCtrldWPL",
+    "DpCtrlsR",
+    "DpCtrlsRAA",
+    "DpCtrlsRAP",
+    "DpCtrlsRPA",
+    "DpCtrlsW",
+    "DpCtrlsWAL",
+    "DpCtrlsWAP",
+    "DpCtrlsWPL",
+    "DpDatadW",
+    "DpDatadWAL",
+    "DpDatadWAP",
+    "DpDatadWPL",
+    "DpDatasW",
+    "DpDatasWAL",
+    "DpDatasWAP",
+    "DpDatasWPL",
+    "EieiodRR",
+    "EieiodRW",
+    "EieiodWR",
+    "EieiodWW",
+    "EieiosRR",
+    "EieiosRW",
+    "EieiosWR",
+    "EieiosWW",
+    "Fence.r.rdRR",
+    "Fence.r.rdRW",
+    "Fence.r.rdWR",
+    "Fence.r.rdWW",
+    "Fence.r.rsRR",
+    "Fence.r.rsRW",
+    "Fence.r.rsWR",
+    "Fence.r.rsWW",
+    "Fence.r.rwdRR",
+    "Fence.r.rwdRW",
+    "Fence.r.rwdWR",
+    "Fence.r.rwdWW",
+    "Fence.r.rwsRR",
+    "Fence.r.rwsRW",
+    "Fence.r.rwsWR",
+    "Fence.r.rwsWW",
+    "Fence.r.wdRR",
+    "Fence.r.wdRW",
+    "Fence.r.wdWR",
+    "Fence.r.wdWW",
+    "Fence.r.wsRR",
+    "Fence.r.wsRW",
+    "Fence.r.wsWR",
+    "Fence.r.wsWW",
+    "Fence.rw.rdRR",
+    "Fence.rw.rdRW",
+    "Fence.rw.rdWR",
+    "Fence.rw.rdWW",
+    "Fence.rw.rsRR",
+    "Fence.rw.rsRW",
+    "Fence.rw.rsWR",
+    "Fence.rw.rsWW",
+    "Fence.rw.rwdRR",
+    "Fence.rw.rwdRW",
+    "Fence.rw.rwdWR",
+    "Fence.rw.rwdWW",
+    "Fence.rw.rwsRR",
+    "Fence.rw.rwsRW",
+    "Fence.rw.rwsWR",
+    "Fence.rw.rwsWW",
+    "Fence.rw.wdRR",
+    "Fence.rw.wdRW",
+    "Fence.rw.wdWR",
+    "Fence.rw.wdWW",
+    "Fence.rw.wsRR",
+    "Fence.rw.wsRW",
+    "Fence.rw.wsWR",
+    "Fence.rw.wsWW",
+    "Fence.w.rdRR",
+    "Fence.w.rdRW",
+    "Fence.w.rdWR",
+    "Fence.w.rdWW",
+    "Fence.w.rsRR",
+    "Fence.w.rsRW",
+    "Fence.w.rsWR",
+    "Fence.w.rsWW",
+    "Fence.w.rwdRR",
+    "Fence.w.rwdRW",
+    "Fence.w.rwdWR",
+    "Fence.w.rwdWW",
+    "Fence.w.rwsRR",
+    "Fence.w.rwsRW",
+    "Fence.w.rwsWR",
+    "Fence.w.rwsWW",
+    "Fence.w.wdRR",
+    "Fence.w.wdRW",
+    "Fence.w.wdWR",
+    "Fence.w.wdWW",
+    "Fence.w.wsRR",
+    "Fence.w.wsRW",
+    "Fence.w.wsWR",
+    "Fence.w.wsWW",
+    "Fre",
+    "FreAL",
+    "FreAP",
+    "FrePL",
+    "Fri",
+    "FriAL",
+    "FriAP",
+    "FriPL",
+    "ISyncdRR",
+    "ISyncdRW",
+    "ISyncdWR",
+    "ISyncdWW",
+    "ISyncsRR",
+    "ISyncsRW",
+    "ISyncsWR",
+    "ISyncsWW",
+    "LwSyncdRR",
+    "LwSyncdRW",
+    "LwSyncdWR",
+    "LwSyncdWW",
+    "LwSyncsRR",
+    "LwSyncsRW",
+    "LwSyncsWR",
+    "LwSyncsWW",
+    "MFencedRR",
+    "MFencedRW",
+    "MFencedWR",
+    "MFencedWW",
+    "MFencesRR",
+    "MFencesRW",
+    "MFencesWR",
+    "MFencesWW",
+    "PodRR",
+    "PodRRAA",
+    "PodRRAP",
+    "PodRRPA",
+    "PodRW",
+    "PodRWAL",
+    "PodRWAP",
+    "PodRWPL",
+    "PodWR",
+    "PodWRLA",
+    "PodWRLP",
+    "PodWRPA",
+    "PodWW",
+    "PodWWLL",
+    "PodWWLP",
+    "PodWWPL",
+    "PosRR",
+    "PosRRAA",
+    "PosRRAP",
+    "PosRRPA",
+    "PosRW",
+    "PosRWAL",
+    "PosRWAP",
+    "PosRWPL",
+    "PosWR",
+    "PosWRLA",
+    "PosWRLP",
+    "PosWRPA",
+    "PosWW",
+    "PosWWLL",
+    "PosWWLP",
+    "PosWWPL",
+    "Rfe",
+    "RfeLA",
+    "RfeLP",
+    "RfePA",
+    "Rfi",
+    "RfiLA",
+    "RfiLP",
+    "RfiPA",
+    "SyncdRR",
+    "SyncdRW",
+    "SyncdWR",
+    "SyncdWW",
+    "SyncsRR",
+    "SyncsRW",
+    "SyncsWR",
+    "SyncsWW",
+    "Wse",
+    "WseLL",
+    "WseLP",
+    "WsePL",
+    "Wsi",
+    "WsiLL",
+    "WsiLP",
+    "WsiPL",
+];
 
-impl Sd {
-    fn word(self) -> &'static str
-        ensures { result.now ≡ sd_word self }
-    {
-        match self {
-            Sd::Same => "s",
-            Sd::Diff => "d",
-        }
-    }
-}
-
-impl Reach {
-    fn word(self) -> &'static str
-        ensures { result.now ≡ reach_word self }
-    {
-        match self {
-            Reach::Internal => "i",
-            Reach::External => "e",
-        }
-    }
-}
-
-impl Com {
-    fn word(self) -> &'static str
-        ensures { result.now ≡ com_word self }
-    {
-        match self {
-            Com::Rf => "Rf",
-            Com::Fr => "Fr",
-            Com::Ws => "Ws",
-        }
-    }
-}
-
-fn riscv_fence_word(pred: Pick, succ: Pick) -> &'static str
-    ensures { result.now ≡ fence_word (FenceKind.Fence pred succ) }
+#[tactic(auto, unfolding(crate::specs::AllEdges::edges_in_order))]
+fn words() -> &'static [&'static str]
+    ensures { map (λ word. word.now) result.now ≡ map word_of edges_in_order }
 {
-    match (pred, succ) {
-        (Pick::R, Pick::R) => "Fence.r.r",
-        (Pick::R, Pick::W) => "Fence.r.w",
-        (Pick::R, Pick::RW) => "Fence.r.rw",
-        (Pick::W, Pick::R) => "Fence.w.r",
-        (Pick::W, Pick::W) => "Fence.w.w",
-        (Pick::W, Pick::RW) => "Fence.w.rw",
-        (Pick::RW, Pick::R) => "Fence.rw.r",
-        (Pick::RW, Pick::W) => "Fence.rw.w",
-        (Pick::RW, Pick::RW) => "Fence.rw.rw",
-    }
-}
-
-impl FenceKind {
-    fn word(self) -> &'static str
-        ensures { result.now ≡ fence_word self }
-    {
-        match self {
-            FenceKind::MFence => "MFence",
-            FenceKind::Sync => "Sync",
-            FenceKind::LwSync => "LwSync",
-            FenceKind::Eieio => "Eieio",
-            FenceKind::ISync => "ISync",
-            FenceKind::DmbSy => "DMB.SY",
-            FenceKind::DmbLd => "DMB.LD",
-            FenceKind::DmbSt => "DMB.ST",
-            FenceKind::Fence { pred, succ } => riscv_fence_word(pred, succ),
-        }
-    }
-}
-
-impl DepKind {
-    fn word(self) -> &'static str
-        ensures { result.now ≡ dependency_word self }
-    {
-        match self {
-            DepKind::Addr => "DpAddr",
-            DepKind::Ctrl => "DpCtrl",
-            DepKind::CtrlIsync => "DpCtrlIsync",
-            DepKind::CtrlIsb => "DpCtrlIsb",
-        }
-    }
+    &WORDS
 }
 
 impl Edge {
-    /// Makes `out` the printed word of the edge, whatever it held. A word is ASCII, of 3 to 14
-    /// bytes.
+    /// The printed word of the edge. A word is ASCII, of 3 to 14 bytes.
     ///
     /// The words are those of the diy part of the herdtools manual, "Candidate relaxations".
-    #[tactic(auto, using(crate::proofs::WordBounds::word_not_short, crate::proofs::WordBounds::word_short, crate::proofs::WordBounds::word_ascii))]
+    pub fn text(self) -> &'static str
+        ensures word { result.now ≡ word_of self }
+        ensures not_short { 3 ≤ length result.now }
+        ensures short { length result.now ≤ 14 }
+        ensures ascii { IsAscii result.now }
+    {
+        words()[usize::from(self.rank())]
+    }
+
+    /// Makes `out` the printed word of the edge, whatever it held. A word is ASCII, of 3 to 14
+    /// bytes.
     pub fn word(self, out: &mut ArrayString<16>)
         ensures word { out.new.bytes ≡ word_of self }
         ensures not_short { 3 ≤ length out.new.bytes }
@@ -111,75 +363,6 @@ impl Edge {
         ensures ascii { IsAscii out.new.bytes }
     {
         out.clear();
-        self.push_word(out);
-    }
-
-    fn push_word(self, out: &mut ArrayString<16>)
-        requires { out.old.bytes ≡ [] }
-        ensures { out.new.bytes ≡ word_of self }
-    {
-        match self {
-            Edge::Marked(marked) => {
-                marked.kind().push_word(out);
-                out.push_str(self.source_mark().word());
-                out.push_str(self.target_mark().word());
-            }
-            _ => self.kind().push_word(out),
-        }
-    }
-}
-
-impl Mark {
-    fn word(self) -> &'static str
-        ensures { result.now ≡ mark_word self }
-    {
-        match self {
-            Mark::Plain => "P",
-            Mark::Acquire => "A",
-            Mark::Release => "L",
-        }
-    }
-}
-
-impl Kind {
-    #[tactic(auto, using(crate::proofs::WordBounds::kind_word_short))]
-    fn push_word(self, out: &mut ArrayString<16>)
-        requires { out.old.bytes ≡ [] }
-        ensures word { out.new.bytes ≡ kind_word self }
-        ensures short { length out.new.bytes ≤ 14 }
-    {
-        match self {
-            Kind::Com { com, reach } => {
-                out.push_str(com.word());
-                out.push_str(reach.word());
-            }
-            Kind::Po { sd, from, to } => {
-                out.push_str("Po");
-                out.push_str(sd.word());
-                out.push_str(from.word());
-                out.push_str(to.word());
-            }
-            Kind::Fenced {
-                fence,
-                sd,
-                from,
-                to,
-            } => {
-                out.push_str(fence.word());
-                out.push_str(sd.word());
-                out.push_str(from.word());
-                out.push_str(to.word());
-            }
-            Kind::Dep { dep, sd, to } => {
-                out.push_str(dep.word());
-                out.push_str(sd.word());
-                out.push_str(to.word());
-            }
-            Kind::Data { sd } => {
-                out.push_str("DpData");
-                out.push_str(sd.word());
-                out.push_str("W");
-            }
-        }
+        out.push_str(self.text());
     }
 }

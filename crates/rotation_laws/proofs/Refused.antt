@@ -25,7 +25,7 @@ use Rattle.test_laws.proofs.Everywhere.{position_none}
 use Rattle.test_maker.specs.declared.refusal.MakeRefusal.{MakeRefusal}
 use Rattle.test_maker.specs.declared.refusal.MakeRefusal.TheVariants as refusals
 use Rattle.test_maker.specs.Refusals.{or_else, foreign_edge, unobserved_need, is_crowded, crowded_thread, resolved_refusal, refusal_of}
-use Rattle.list_laws.proofs.Places.{none_foreign}
+use Rattle.list_laws.proofs.Places.{none_foreign, none_fails}
 use Rattle.rotation_laws.specs.Alike.{AcceptedAlike, RefusedAlike, refusal_kind}
 use Rattle.rotation_laws.proofs.Steps.{has_shape}
 use Rattle.rotation_laws.proofs.Turns.{moved, exchanged, thread_exchanged}
@@ -56,12 +56,6 @@ position_never : {X : Type 0} (t : X → Bool) (i : ℕ) (xs : List X) → ((k :
 position_never t i [] h = refl
 position_never t i (x ∷ xs) h =
     ap (λ b. cond b (Some i) (position_from t (i + 1) xs)) (h 0 x refl) ∙ position_never t (i + 1) xs (λ k y g. h (suc k) y g)
-
-none_fails : {X : Type 0} (t : X → Bool) (i : ℕ) (xs : List X) → list_all t xs ≡ true → position_from (λ x. not (t x)) i xs ≡ None
-none_fails t i [] h = refl
-none_fails t i (x ∷ xs) h =
-    let p = and_parts (t x) (list_all t xs) h in
-    ap (λ b. cond (not b) (Some i) (position_from (λ y. not (t y)) (i + 1) xs)) p.0 ∙ none_fails t (i + 1) xs p.1
 
 all_exchanged : {X : Type 0} (t : X → Bool) (xs ys : List X) → list_all t (xs ++ ys) ≡ true → list_all t (ys ++ xs) ≡ true
 all_exchanged t xs ys h =

@@ -4,7 +4,7 @@ use Rattle.std.specs.Prelude.{Bool, cond, Option, map}
 use Rattle.std.specs.List.{list_any, AllByRecursion}
 use Rattle.std.specs.Str.{bytes_eq}
 use Rattle.std.proofs.lemmas.Bool.{or_right}
-use Rattle.list_laws.proofs.Cases.{by_test}
+use Rattle.list_laws.proofs.Cases.{by_test, eq_swap}
 use Rattle.log_sum.specs.Facts.{Row, Fact, a_kind, a_row, a_condition, a_hash, row_with, rows, conditions, hashes, first_of, same_state_mark, marked_sum, state_sum, states_of, mark_in, facts_of}
 use Rattle.log_sum.specs.Summed.{Summed, StateSummed, some_or, state_by, is_validated}
 use Rattle.sum_laws.proofs.Cases.{Mark, plain}
@@ -13,7 +13,7 @@ use Rattle.sum_laws.proofs.Lines.{said_as}
 use Rattle.sum_laws.proofs.Blocks.{entry}
 use Rattle.sum_laws.proofs.Printed.{kind_of_test, state_entries, hash_entries, given}
 use Rattle.sum_laws.proofs.Agreeing.{rows_both, conditions_both, hashes_both, or_first, marked_both, state_both, mark_both, marked_one, state_one, mark_one, marked_none, fact_here, fact_elsewhere, facts_both, bytes_is}
-use Rattle.text_laws.proofs.OrderLaws.{Ascends, fold_ascends, eq_swap, any_fold}
+use Rattle.text_laws.proofs.OrderLaws.{Ascends, fold_ascends, any_fold}
 use Rattle.sum_laws.proofs.Orders.{Distinct, ascends_distinct}
 
 -- the facts of the states of a printed test

@@ -1,6 +1,6 @@
 -- Pieces of a log that are fed, and a device that is read.
-use Rattle.std.proofs.Common.{◌≡◌, ◌≤◌, ◌<◌, ◌^◌, ℕ, ◌+◌, List, [], ◌++◌, length, take, drop, Some, None, refl, sym, ap, ◌∙◌, subst, arith, length-append, length-drop, append_assoc, append-nil, inl}
-use Rattle.std.specs.Prelude.{Option, Err, ◌==◌}
+use Rattle.std.proofs.Common.{◌≡◌, ◌≤◌, ◌<◌, ◌^◌, ℕ, ◌+◌, List, [], ◌++◌, length, take, drop, refl, sym, ap, ◌∙◌, subst, arith, length-append, length-drop, append_assoc, append-nil, inl}
+use Rattle.std.specs.Prelude.{Err, ◌==◌}
 use Rattle.std.proofs.lemmas.List.{take-append-drop, length-take-le}
 use Rattle.std.proofs.lemmas.List.Sums.{count_by-le-length}
 use Rattle.std.specs.Io.KnownBytes.{Consumes, IsAtEnd}
@@ -14,8 +14,9 @@ use Rattle.sum_laws.proofs.Represented.{end_fault_stays}
 use Rattle.summed_files.specs.declared.feeding.Feeding.{Feeding}
 use Rattle.summed_files.specs.declared.feeding.LogFault.{LogFault}
 use Rattle.summed_files.specs.FileFaults.{sum_fault}
-use Rattle.summed_files.specs.Logs.{IsText, IsShort, max_piece, ShowsNone, PrefixFull, TookCount}
+use Rattle.summed_files.specs.Logs.{IsShort, max_piece, ShowsNone, PrefixFull, TookCount}
 use Rattle.summed_files.specs.FileFeeding.{ReadsLogs, IsFaultOfLogs, IsEndFault, ReadSoFar, ReadWhole, ReadPart, LogFailed}
+use Rattle.file_laws.proofs.ConsumedLaws.{prefix_of}
 
 parts_of : (bytes piece : List ℕ) (n : ℕ) → bytes ++ piece ≡ (bytes ++ take n piece) ++ drop n piece
 parts_of bytes piece n = ap (λ p. bytes ++ p) (sym (take-append-drop n piece)) ∙ sym (append_assoc bytes (take n piece) (drop n piece))
@@ -105,18 +106,6 @@ reads_whole old mid new feeding logs piece r took none end same =
       no_fault = same ∙ r.no_fault;
     }
 
--- bytes that were consumed are the beginning of a log
-record PrefixOf (told : Option (List ℕ)) (bytes : List ℕ) : Type 0 where
-  pub log : List ℕ
-  pub rest : List ℕ
-  pub text : IsText told log
-  pub parts : log ≡ bytes ++ rest
-
-prefix_of : (old new : Option (List ℕ)) (bytes : List ℕ) → Consumes old new bytes → PrefixOf old bytes
-prefix_of None new bytes h = record { log = bytes; rest = []; text = tt; parts = sym (append-nil bytes) }
-prefix_of (Some xs) None bytes h = absurd h
-prefix_of (Some xs) (Some ys) bytes h = record { log = xs; rest = ys; text = refl; parts = h }
-
 -- bytes that were fed show no fault, and are at most 2^40
 reads_none : (feeding : Feeding) (logs : List (List ℕ)) (bytes : List ℕ) → ReadsLogs feeding logs bytes → ShowsNone logs bytes
 reads_none feeding logs bytes reads = record { seen = reads.represents.seen; is = reads.represents.judged }
@@ -131,8 +120,8 @@ pub reads_part : (old mid new : SourceSeen) (feeding : Feeding) (logs : List (Li
 reads_part old mid new feeding logs piece fault r short one took same is =
     let prefix = prefix_of old.left new.left (r.bytes ++ piece) (Consumes-trans old.left mid.left new.left r.bytes piece r.consumed took.consumed) in
     record {
-      log = prefix.log;
-      text = prefix.text;
+      log = prefix.text;
+      text = prefix.is;
       bytes = r.bytes ++ piece;
       taken = subst (TookCount old new) (sym (length-append r.bytes piece)) (took_both old mid new (length r.bytes) piece r.taken took);
       up_to = record {
@@ -161,8 +150,8 @@ reads_failed old mid new feeding logs r short taken fault never_falls =
     let prefix = prefix_of old.left mid.left r.bytes r.consumed in
     record {
       failed = record {
-        log = prefix.log;
-        text = prefix.text;
+        log = prefix.text;
+        text = prefix.is;
         bytes = r.bytes;
         rest = prefix.rest;
         parts = prefix.parts;

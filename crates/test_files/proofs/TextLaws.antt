@@ -1,25 +1,12 @@
 -- A file that is open and read.
-use Rattle.std.proofs.Common.{◌≡◌, ◌≤◌, ◌<◌, ◌+◌, ℕ, List, [], ◌++◌, length, take, Some, None, refl, sym, ap, ◌∙◌, subst, arith, length-append, append-nil}
-use Rattle.std.specs.Prelude.{Option, IfSome}
-use Rattle.std.specs.Io.KnownBytes.{Consumes}
+use Rattle.std.proofs.Common.{◌≡◌, ◌≤◌, ◌<◌, ◌+◌, ℕ, List, [], ◌++◌, length, take, refl, sym, ap, ◌∙◌, subst, arith, length-append, append-nil}
 use Rattle.std.proofs.KnownBytes.{Consumes-nil, Consumes-trans, Consumes-whole}
 use Rattle.std.proofs.lemmas.List.{take_all, take_at}
 use Rattle.diy_io.specs.Count.{count_of, Rose}
 use Rattle.diy_io.specs.Shelf.{ShelfSeen, Gave, IsReading, Stopped, left_to_read}
 use Rattle.litmus_text.specs.declared.limits.TheConstants.{MAX_TEXT}
 use Rattle.test_files.specs.OpenFiles.{FileReadSoFar, FileReadWhole, FileReadPart}
-
--- bytes that were consumed are the first of a text
-pub record PrefixOf (shown : Option (List ℕ)) (bytes : List ℕ) : Type 0 where
-  pub text : List ℕ
-  pub rest : List ℕ
-  pub is : IfSome shown (λ whole. whole ≡ text)
-  pub parts : text ≡ bytes ++ rest
-
-prefix_of : (old new : Option (List ℕ)) (bytes : List ℕ) → Consumes old new bytes → PrefixOf old bytes
-prefix_of None new bytes h = record { text = bytes; rest = []; is = tt; parts = sym (append-nil bytes) }
-prefix_of (Some xs) None bytes h = absurd h
-prefix_of (Some xs) (Some ys) bytes h = record { text = xs; rest = ys; is = refl; parts = h }
+use Rattle.file_laws.proofs.ConsumedLaws.{prefix_of}
 
 -- nothing was read so far
 pub reads_nothing : (old : ShelfSeen) (bytes : List ℕ) → bytes ≡ [] → IsReading old.mode → FileReadSoFar old old bytes

@@ -1,27 +1,22 @@
 -- How the accesses of a thread are found in the events of a cycle.
-use Rattle.std.proofs.Common.{◌≡◌, ℕ, zero, suc, ◌+◌, ◌-◌, ◌<◌, ◌≤◌, ◌==◌, Bool, true, false, cond, List, [], ◌∷◌, ◌++◌, length, map, Some, sym, ap, ◌∙◌, arith, slice_get, append-nil, eq-eqb, ne_eqb}
-use Rattle.std.proofs.lemmas.List.{length-map, map-append}
+use Rattle.std.proofs.Common.{◌≡◌, ℕ, zero, suc, ◌+◌, ◌-◌, ◌<◌, ◌≤◌, ◌==◌, Bool, true, false, List, [], ◌∷◌, ◌++◌, length, map, Some, sym, ap, ◌∙◌, arith, slice_get}
+use Rattle.std.proofs.lemmas.List.{map-append}
 use Rattle.std.proofs.lemmas.Bool.Decides.{nat_tests}
 use Rattle.std.specs.List.{filter, count_by}
-use Rattle.std.proofs.lemmas.List.Elements.{filter-append}
 use Rattle.relax_edges.specs.declared.TheConstants.{MAX_EDGES}
 use Rattle.relax_edges.specs.declared.edge.Edge.{Edge}
 use Rattle.relax_edges.specs.declared.kinds.ObsMode.{ObsMode}
 use Rattle.list_laws.specs.Numbers.{upto}
 use Rattle.list_laws.proofs.Numbers.{length-map-upto}
-use Rattle.list_laws.proofs.Counts.{count_upto-le}
-use Rattle.list_laws.proofs.Ranks.{length-filter-upto, rank_upto}
-use Rattle.resolution_laws.specs.Resolution.{IsResolved, edge_at, events_in, event_of, external_count, move_count, slot_of, thread_of}
-use Rattle.resolution_laws.specs.declared.event.Event.{Event}
+use Rattle.list_laws.proofs.Ranks.{length-filter-upto, rank_upto, filter_upto_yes, filter_upto_no}
+use Rattle.resolution_laws.specs.Resolution.{IsResolved, edge_at, external_count, move_count, slot_of}
 use Rattle.resolution_laws.proofs.Threads.{slot-zero}
 use Rattle.value_laws.specs.Values.{is_observed, write_count}
 use Rattle.value_laws.proofs.Along.{write_count_most}
 use Rattle.value_laws.proofs.Laws.{threads_and_observers}
 use Rattle.program_meaning.specs.Intended.{observed_locations}
-use Rattle.arch_trait.specs.declared.step.Step.{Step}
 use Rattle.arch_trait.specs.Links.{edge_link}
-use Rattle.test_laws.specs.CycleSteps.{event_link, event_step, thread_steps}
-use Rattle.test_laws.specs.TestOf.{plain}
+use Rattle.test_laws.specs.CycleSteps.{event_link}
 
 -- the edge at a place
 pub edge_got : (es : List Edge) (k : ℕ) (e : Edge) → slice_get es k ≡ Some e → e ≡ edge_at es k
@@ -43,35 +38,17 @@ link_after es (suc i) e h got =
     let test : (slot_of es (suc i) == 0) ≡ false = grind (arith, nat_tests, h) in
     rw (same, test)
 
--- the number of the accesses found so far is below the most
-pub few_found : {X : Type 0} (f : ℕ → X) (p : ℕ → Bool) (i n m : ℕ) (xs : List X) → xs ≡ map f (filter p (upto i)) → i < n → n ≤ m → length xs < m
-few_found f p i n m xs e h k =
-    let long : length xs ≡ count_by p (upto i) = ap length e ∙ length-map (filter p (upto i)) f ∙ length-filter-upto p i in
-    omega (arith, long, count_upto-le p i)
-
-filter_yes : (p : ℕ → Bool) (i : ℕ) → p i ≡ true → filter p (upto (i + 1)) ≡ filter p (upto i) ++ i ∷ []
-filter_yes p i h =
-    let e : i + 1 ≡ suc i = omega arith in
-    ap (λ n. filter p (upto n)) e ∙ filter-append p (upto i) (i ∷ []) ∙ ap (λ b. filter p (upto i) ++ cond b (i ∷ []) []) h
-
-filter_no : (p : ℕ → Bool) (i : ℕ) → p i ≡ false → filter p (upto (i + 1)) ≡ filter p (upto i)
-filter_no p i h =
-    let e : i + 1 ≡ suc i = omega arith in
-    ap (λ n. filter p (upto n)) e ∙ filter-append p (upto i) (i ∷ []) ∙ ap (λ b. filter p (upto i) ++ cond b (i ∷ []) []) h ∙ append-nil (filter p (upto i))
-
--- one more event of the thread
+-- what is made of the numbers that pass, with one more that does
 pub found_more : {X : Type 0} (f : ℕ → X) (p : ℕ → Bool) (i : ℕ) (xs : List X) → xs ≡ map f (filter p (upto i)) → p i ≡ true → xs ++ f i ∷ [] ≡ map f (filter p (upto (i + 1)))
 found_more f p i xs e h =
-    ap (λ ys. ys ++ f i ∷ []) e ∙ sym (map-append f (filter p (upto i)) (i ∷ [])) ∙ ap (map f) (sym (filter_yes p i h))
+    let next : i + 1 ≡ suc i = omega arith in
+    ap (λ ys. ys ++ f i ∷ []) e ∙ sym (map-append f (filter p (upto i)) (i ∷ [])) ∙ ap (map f) (sym (ap (λ n. filter p (upto n)) next ∙ filter_upto_yes p i h))
 
--- an event of another thread
+-- what is made of the numbers that pass, with one more that doesn't
 pub found_same : {X : Type 0} (f : ℕ → X) (p : ℕ → Bool) (i : ℕ) (xs : List X) → xs ≡ map f (filter p (upto i)) → p i ≡ false → xs ≡ map f (filter p (upto (i + 1)))
-found_same f p i xs e h = e ∙ ap (map f) (sym (filter_no p i h))
-
--- all events of a thread are found
-pub found_all : (es : List Edge) (thread : ℕ) (xs : List Step) → xs ≡ map (event_step es plain) (filter (λ j. thread_of es j == thread) (upto (length es))) → xs ≡ thread_steps es plain thread
-unfolding events_in
-found_all es thread xs e = e
+found_same f p i xs e h =
+    let next : i + 1 ≡ suc i = omega arith in
+    e ∙ ap (map f) (sym (ap (λ n. filter p (upto n)) next ∙ filter_upto_no p i h))
 
 -- the reads of an observer are few
 pub few_reads : {X : Type 0} (f : ℕ → X) (es : List Edge) (l k : ℕ) (xs : List X) → IsResolved es → xs ≡ map f (upto k) → k < write_count es l → length xs < MAX_EDGES
@@ -94,15 +71,3 @@ observed_got es mode location observer h seen e =
 pub observers_all : (es : List Edge) (mode : ObsMode) (before observer : ℕ) → before ≡ count_by (is_observed es mode) (upto (move_count es)) → before ≤ observer →
     observer < length (observed_locations es mode) → ⊥
 observers_all es mode before observer e h k = omega (arith, e, length-filter-upto (is_observed es mode) (move_count es))
-
--- an event is in the thread
-pub in_thread : (es fs : List Edge) (event : Event) (i thread : ℕ) → event ≡ event_of fs i → fs ≡ es → event.thread ≡ thread → (thread_of es i == thread) ≡ true
-in_thread es fs event i thread e same h =
-    let t : thread_of es i ≡ thread = ap (λ z. thread_of z i) (sym same) ∙ sym (ap (λ (v : Event). v.thread) e) ∙ h in
-    eq-eqb (thread_of es i) thread t
-
--- an event is in another thread
-pub in_another : (es fs : List Edge) (event : Event) (i thread : ℕ) → event ≡ event_of fs i → fs ≡ es → (event.thread ≡ thread → ⊥) → (thread_of es i == thread) ≡ false
-in_another es fs event i thread e same h =
-    let t : event.thread ≡ thread_of es i = ap (λ (v : Event). v.thread) e ∙ ap (λ z. thread_of z i) same in
-    ne_eqb (thread_of es i) thread (λ z. h (t ∙ z))

@@ -1,5 +1,6 @@
 pub mod HavingTests
 pub mod Filling
+pub mod Ranges
 pub mod Forcing
 pub mod Growing
 pub mod Naming

@@ -35,6 +35,7 @@ use Rattle.test_maker.proofs.Naming.{letters-length}
 use Rattle.litmus_text.specs.declared.test.Test.{Test}
 use Rattle.final_cond.specs.declared.cond.Cond.{Cond}
 use Rattle.arch_trait.specs.PlaceNames.{letters}
+use Rattle.arch_laws.proofs.TakingLaws.{in_order_le}
 
 -- the accesses are at places below a number
 abbrev pub ArePlaced : ℕ → List Step → Type 0
@@ -65,14 +66,10 @@ links_placed n ss (link ∷ links) placed h =
     let parts = and_parts (visits link.1 ss) (list_all (λ (l : ℕ × ℕ). visits l.1 ss) links) h in
     and_from (nat_lt link.1 n) (list_all (λ (l : ℕ × ℕ). nat_lt l.1 n) links) (visited_below n ss link.1 placed parts.0) (links_placed n ss links placed parts.1)
 
-order_below : (low : ℕ) (links : List (ℕ × ℕ)) (high : ℕ) → InOrder low links high → low ≤ high
-order_below low [] high h = h
-order_below low (link ∷ links) high h = let rest = order_below (link.0 + 1) links high h.1 in omega (arith, h.0, rest)
-
 registers_below : (low : ℕ) (links : List (ℕ × ℕ)) (high : ℕ) → InOrder low links high → list_all (λ (link : ℕ × ℕ). nat_lt link.0 high) links ≡ true
 registers_below low [] high h = refl
 registers_below low (link ∷ links) high h =
-    let rest = order_below (link.0 + 1) links high h.1 in
+    let rest = in_order_le (link.0 + 1) links high h.1 in
     and_from (nat_lt link.0 high) (list_all (λ (l : ℕ × ℕ). nat_lt l.0 high) links) (lt-ltb link.0 high (omega (arith, rest))) (registers_below (link.0 + 1) links high h.1)
 
 -- labels below a number

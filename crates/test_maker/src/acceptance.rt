@@ -5,7 +5,7 @@ ghost use Rattle.test_maker.specs.Made.{Accepts, AcceptsResolution, AcceptsValue
 
 use crate::maker::first_unsupported;
 use crate::refusal::MakeRefusal;
-use crate::steps::{Steps, fill_steps, thread_count};
+use crate::steps::{Steps, fill_events, fill_observer, steps_of, thread_count};
 use arch_trait::{Arch, MAX_STEPS, Step, shape_of};
 use coherence_values::{NeedsObserver, Valued, value};
 use cycle_resolve::{ResolveError, Resolved, resolve};
@@ -47,10 +47,12 @@ fn accepted_resolved<A: Arch>(resolved: &Resolved, mode: ObsMode) -> Result<(), 
 fn accepted_valued<A: Arch>(valued: &Valued) -> Result<(), MakeRefusal>
     ensures { AcceptsValued A.puts valued.now.edges valued.now.mode result }
 {
-    let mut steps = Steps::new();
+    let mut events = Steps::new();
+    let mut reads = Steps::new();
+    fill_events(valued, &mut events);
     for thread in 0..thread_count(valued) {
-        fill_steps(valued, thread, &mut steps);
-        if is_crowded::<A>(steps.as_slice()) {
+        fill_observer(valued, thread, &mut reads);
+        if is_crowded::<A>(steps_of(valued, thread, &events, &reads)) {
             return Err(MakeRefusal::TooManyRegisters { thread });
         }
     }

@@ -1,10 +1,11 @@
-ghost use Rattle.std.specs.Prelude.{◌≡◌, ◌<◌, ◌+◌, length, map, Some, slice_get};
+ghost use Rattle.std.specs.Prelude.{◌≡◌, ℕ, ◌<◌, ◌≤◌, ◌+◌, length, map, Some, slice_get};
 ghost use Rattle.list_laws.specs.Numbers.{upto};
-ghost use Rattle.resolution_laws.specs.Resolution.{external_count, events_in, move_count, slot_of};
+ghost use Rattle.resolution_laws.specs.Resolution.{external_count, move_count, slot_of, thread_of};
 ghost use Rattle.value_laws.specs.Values.{write_count};
 ghost use Rattle.program_meaning.specs.Intended.{observed_locations};
 ghost use Rattle.test_laws.specs.CycleSteps.{event_link, event_step, thread_steps, observing, observer_steps, cycle_steps};
 ghost use Rattle.test_laws.specs.TestOf.{plain};
+ghost use Rattle.test_maker.specs.ThreadStarts.{IsThreadStart, all_steps};
 
 use arch_trait::{Link, Step, link_of};
 use arrayvec::ArrayVec;
@@ -34,29 +35,69 @@ fn observer_count(valued: &Valued) -> u8
     count
 }
 
-/// Makes `steps` the accesses of a thread of the test.
-pub fn fill_steps(valued: &Valued, thread: u8, steps: &mut Steps)
-    requires { thread < length (cycle_steps valued.now.edges valued.now.mode plain) }
-    ensures { slice_get (cycle_steps valued.now.edges valued.now.mode plain) thread ≡ Some steps.new.items }
-{
-    steps.clear();
-    let threads = valued.resolved().threads();
-    if thread < threads {
-        fill_events(valued, thread, steps)
-    } else {
-        fill_reads(valued, observed_location(valued, thread - threads), steps)
-    }
-}
-
-fn fill_events(valued: &Valued, thread: u8, steps: &mut Steps)
-    ensures { steps.new.items ≡ thread_steps valued.now.edges plain thread }
+/// Makes `steps` the accesses of all events of the cycle: those of a thread are side by side.
+pub fn fill_events(valued: &Valued, steps: &mut Steps)
+    ensures { steps.new.items ≡ all_steps valued.now.edges }
 {
     steps.clear();
     for i in 0..valued.resolved().cycle().len() {
-        if valued.resolved().event(i).thread == thread {
-            steps.push(step_of(valued, i));
+        steps.push(step_of(valued, i));
+    }
+}
+
+/// Makes `reads` the accesses of the observer that a thread of the test is, if it is one.
+pub fn fill_observer(valued: &Valued, thread: u8, reads: &mut Steps)
+    requires { thread < length (cycle_steps valued.now.edges valued.now.mode plain) }
+    ensures { external_count valued.now.edges ≤ thread → slice_get (cycle_steps valued.now.edges valued.now.mode plain) thread ≡ Some reads.new.items }
+{
+    let threads = valued.resolved().threads();
+    if thread >= threads {
+        fill_reads(valued, observed_location(valued, thread - threads), reads);
+    }
+}
+
+/// The accesses of a thread of the test: they are among those of all events, or the reads of the observer that it is.
+pub fn steps_of<'a>(valued: &Valued, thread: u8, events: &'a Steps, reads: &'a Steps) -> &'a [Step]
+    requires events { events.now.items ≡ all_steps valued.now.edges }
+    requires reads { external_count valued.now.edges ≤ thread → slice_get (cycle_steps valued.now.edges valued.now.mode plain) thread ≡ Some reads.now.items }
+    ensures steps { slice_get (cycle_steps valued.now.edges valued.now.mode plain) thread ≡ Some result.now }
+    ensures few { length result.now ≤ MAX_EDGES }
+{
+    if thread < valued.resolved().threads() {
+        steps_in(valued, thread, events.as_slice())
+    } else {
+        reads.as_slice()
+    }
+}
+
+/// The accesses of a thread of the cycle, among those of all events.
+fn steps_in<'a>(valued: &Valued, thread: u8, events: &'a [Step]) -> &'a [Step]
+    requires events { events.now ≡ all_steps valued.now.edges }
+    requires few { length events.now ≤ MAX_EDGES }
+    requires within { thread < external_count valued.now.edges }
+    ensures steps { result.now ≡ thread_steps valued.now.edges plain thread }
+    ensures few { length result.now ≤ MAX_EDGES }
+{
+    let _edges = valued.resolved().cycle();
+    let start = thread_start(valued, thread, 0);
+    let end = thread_start(valued, thread + 1, start);
+    &events[usize::from(start)..usize::from(end)]
+}
+
+/// The event that a thread begins with, or how many events there are where it has none: it is searched from an event on, before
+/// which there are events of the threads before it alone.
+fn thread_start(valued: &Valued, thread: u8, from: u8) -> u8
+    requires within { from ≤ length valued.now.edges }
+    requires before { (event : ℕ) → event < from → thread_of valued.now.edges event < thread }
+    ensures { IsThreadStart valued.now.edges thread result }
+{
+    let count = valued.resolved().cycle().len();
+    for event in from..count {
+        if valued.resolved().event(event).thread >= thread {
+            return event;
         }
     }
+    count
 }
 
 fn step_of(valued: &Valued, i: u8) -> Step

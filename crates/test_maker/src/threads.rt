@@ -10,7 +10,7 @@ ghost use Rattle.test_maker.specs.ConditionTerms.{PutsThread, PutsThreads};
 
 use crate::condition::put_load_terms;
 use crate::refusal::MakeRefusal;
-use crate::steps::{Steps, fill_steps, thread_count};
+use crate::steps::{Steps, fill_events, fill_observer, steps_of, thread_count};
 use arch_trait::{Arch, MAX_STEPS, Step, ThreadCodes};
 use coherence_values::Valued;
 use final_cond::{Cond, MAX_TERMS};
@@ -28,12 +28,14 @@ pub fn put_threads<A: Arch>(
     ensures { PutsThreads A.puts (name_in A.writing.registers) valued.now.edges valued.now.mode threads.new cond.old cond.new result }
 {
     let _edges = valued.resolved().cycle();
-    let count = thread_count(valued);
-    let mut steps = Steps::new();
+    let mut events = Steps::new();
+    let mut reads = Steps::new();
+    fill_events(valued, &mut events);
     threads.clear();
-    for thread in 0..count {
-        fill_steps(valued, thread, &mut steps);
-        match put_thread::<A>(thread, steps.as_slice(), threads, cond) {
+    for thread in 0..thread_count(valued) {
+        fill_observer(valued, thread, &mut reads);
+        let steps = steps_of(valued, thread, &events, &reads);
+        match put_thread::<A>(thread, steps, threads, cond) {
             Ok(()) => {}
             Err(refusal) => return Err(refusal),
         }

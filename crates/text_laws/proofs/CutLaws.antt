@@ -25,7 +25,7 @@ cut_none sign (byte ∷ text) h =
     let parts = and_parts (not (byte == sign)) (is_without sign text) h in
     rw (not-true (byte == sign) parts.0) (ap (before_cut byte) (cut_none sign text parts.1))
 
--- the bytes before a place are without a sign that stands at none of them
+-- the bytes before a place are without a sign that is at none of them
 pub without_take : (sign : ℕ) (text : List ℕ) (k : ℕ) → ((j : ℕ) → j < k → j < length text → get_or text j 0 == sign ≡ true → ⊥) → is_without sign (take k text) ≡ true
 without_take sign text zero h = refl
 without_take sign [] (suc k) h = refl

@@ -1,11 +1,13 @@
--- The carriage return at the end of a line.
+-- The carriage return at the end of a line, and the first line of a text.
 use Rattle.std.proofs.Common.{◌≡◌, ◌==◌, ℕ, ◌-◌, ◌<◌, ◌≤◌, List, [], ◌∷◌, ◌++◌, true, false, length, get_or, take, refl, sym, ap, ◌∙◌, arith}
-use Rattle.std.specs.Prelude.{Bool, cond}
-use Rattle.std.specs.List.{list_all}
+use Rattle.std.specs.Prelude.{Bool, cond, map}
+use Rattle.std.specs.List.{list_all, All}
 use Rattle.std.proofs.lemmas.Bool.{eqb-true, and_parts}
 use Rattle.list_laws.proofs.Cases.{by_test}
-use Rattle.text_laws.specs.Lines.{without_return}
+use Rattle.text_laws.specs.Lines.{without_return, is_line_feed, but_last, last_of, whole_lines, ended_lines, unended, last_line, lines_of}
 use Rattle.text_laws.proofs.BlankLaws.{front_and_last}
+use Rattle.std.proofs.lemmas.List.Splits.{slice_split_at}
+use Rattle.text_laws.proofs.PieceLaws.{first_piece}
 
 last_return : (text : List ℕ) (byte : ℕ) → without_return (text ++ byte ∷ []) ≡ cond (byte == 13) text (text ++ byte ∷ [])
 unfolding without_return
@@ -51,3 +53,24 @@ class_kept p [] fails h = refl
 class_kept p (byte ∷ []) fails h = let parts = and_parts (p byte) true h in rw (not_return p byte fails parts.0) refl
 class_kept p (byte ∷ next ∷ text) fails h =
     let parts = and_parts (p byte) (list_all p (next ∷ text)) h in ap (λ rest. byte ∷ rest) (class_kept p (next ∷ text) fails parts.1)
+
+-- a line, its line feed, and what comes after it
+pub ended_cut : (line rest : List ℕ) → All (λ byte. (byte == 10) ≡ false) line → ended_lines (line ++ 10 ∷ rest) ≡ without_return line ∷ ended_lines rest
+unfolding ended_lines whole_lines
+ended_cut line rest h =
+    let first = first_piece is_line_feed rest in
+    ap (λ t. map without_return (but_last t)) (slice_split_at is_line_feed line 10 rest h refl)
+    ∙ rw first.is refl
+
+-- what is unended after a line and its line feed is what is unended in the rest
+pub unended_cut : (line rest : List ℕ) → All (λ byte. (byte == 10) ≡ false) line → unended (line ++ 10 ∷ rest) ≡ unended rest
+unfolding unended
+unended_cut line rest h =
+    let first = first_piece is_line_feed rest in
+    ap last_of (slice_split_at is_line_feed line 10 rest h refl) ∙ rw first.is refl
+
+-- the lines of a text are the line before its first line feed, and then those of the rest
+pub lines_cut : (line rest : List ℕ) → All (λ byte. (byte == 10) ≡ false) line → lines_of (line ++ 10 ∷ rest) ≡ without_return line ∷ lines_of rest
+lines_cut line rest h =
+    ap (λ t. t ++ last_line (unended (line ++ 10 ∷ rest))) (ended_cut line rest h)
+    ∙ ap (λ t. (without_return line ∷ ended_lines rest) ++ last_line t) (unended_cut line rest h)

@@ -1,6 +1,6 @@
 -- Texts in byte order, and texts that are put in order one after another.
 use Rattle.std.specs.Ordering.{nat_cmp, is_eq, match_ordering, ordering_reverse}
-use Rattle.std.specs.Cmp.{IsTotalOrder, nat_cmp_total, both_ways}
+use Rattle.std.specs.Cmp.{IsTotalOrder, nat_cmp_total}
 use Rattle.std.specs.Cmp.Lexicographic.{slice_cmp, lists_total}
 use Rattle.std.proofs.Common.{◌≡◌, ℕ, List, sym, ap, ◌∙◌, [], ◌∷◌, refl, false, true}
 use Rattle.std.specs.declared.cmp.Ordering.TheVariants.{Equal, Less, Greater}
@@ -70,11 +70,6 @@ fold_ascends (k ∷ ks) xs s = fold_ascends ks (insert_key (slice_cmp nat_cmp) x
 -- texts that compare as different aren't equal
 pub not_equal : (k x : List ℕ) (o : Ordering) → compare k x ≡ o → is_eq o ≡ false → bytes_eq k x ≡ false
 not_equal k x o e f = sym (is_eq-slice_cmp k x) ∙ ap is_eq e ∙ f
-
--- two texts are equal whichever is named first
-pub eq_swap : (a b : List ℕ) → bytes_eq a b ≡ bytes_eq b a
-eq_swap a b = both_ways (bytes_eq a b) (bytes_eq b a)
-    (λ h. (bytes_eq-Decides b a).1 (sym ((bytes_eq-Decides a b).0 h))) (λ h. (bytes_eq-Decides a b).1 (sym ((bytes_eq-Decides b a).0 h)))
 
 exchange : (a b c : Bool) → a || (b || c) ≡ b || (a || c)
 exchange true true c = refl

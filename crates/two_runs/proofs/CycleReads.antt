@@ -1,5 +1,5 @@
 -- The reads of a thread among the first events, and those of the first threads.
-use Rattle.std.proofs.Common.{◌≡◌, ℕ, ◌+◌, ◌<◌, ◌==◌, ◌&&◌, Bool, true, false, cond, List, [], ◌∷◌, ◌++◌, length, map, Option, refl, sym, ap, ◌∙◌, subst}
+use Rattle.std.proofs.Common.{◌≡◌, ℕ, ◌+◌, ◌<◌, ◌==◌, ◌&&◌, Bool, true, false, List, [], ◌∷◌, length, map, Option, refl, sym, ap, ◌∙◌}
 use Rattle.std.specs.List.{filter}
 use Rattle.std.proofs.lemmas.List.{map-append}
 use Rattle.list_laws.specs.Numbers.{upto}
@@ -13,7 +13,8 @@ use Rattle.program_meaning.specs.Executions.{Execution}
 use Rattle.program_meaning.specs.Intended.{event_access, event_read, reads_in, write_of}
 use Rattle.exec_meaning.specs.KeptExecutions.{with_read}
 use Rattle.two_runs.specs.Runs.{with_appended, is_read_of}
-use Rattle.two_runs.proofs.GrowingLists.{added_appended, appended_none, filled_more, filled_to, filter_yes, filter_no}
+use Rattle.two_runs.proofs.GrowingLists.{added_appended, appended_none, filled_more, filled_to}
+use Rattle.list_laws.proofs.Ranks.{filter_yes, filter_no}
 
 -- the reads of a thread among the first events
 abbrev pub reads_before : List Edge → ℕ → ℕ → List ℕ

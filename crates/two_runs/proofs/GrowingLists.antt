@@ -1,9 +1,9 @@
 -- Lists of lists that grow at their ends, and what numbers lead to, with one number more.
-use Rattle.std.proofs.Common.{◌≡◌, ℕ, zero, suc, ◌+◌, ◌-◌, ◌<◌, Bool, true, false, cond, List, [], ◌∷◌, ◌++◌, length, map, Option, Some, None, refl, sym, ap, ◌∙◌, subst, arith, append_assoc, append-nil}
+use Rattle.std.proofs.Common.{◌≡◌, ℕ, zero, suc, ◌+◌, ◌-◌, ◌<◌, List, [], ◌∷◌, ◌++◌, length, map, Option, Some, None, refl, sym, ap, ◌∙◌, subst, arith, append_assoc, append-nil}
 use Rattle.std.specs.Prelude.{slice_get, unwrap_or}
-use Rattle.std.specs.List.{filter, filter_map, cons_option}
+use Rattle.std.specs.List.{filter_map, cons_option}
 use Rattle.std.proofs.lemmas.List.{length-append, length-set}
-use Rattle.std.proofs.lemmas.List.Elements.{filter-append, filter_map-append}
+use Rattle.std.proofs.lemmas.List.Elements.{filter_map-append}
 use Rattle.list_laws.specs.Numbers.{upto}
 use Rattle.list_laws.proofs.Numbers.{length-map-upto, map-upto_more}
 use Rattle.exec_meaning.specs.KeptExecutions.{added_to_list, empty_lists}
@@ -65,18 +65,6 @@ filled_length f n k h =
   where
     longer : {Y : Type 0} (ys : List Y) (y : Y) (rest : List Y) (k : ℕ) → length ys ≡ k → k < length (ys ++ y ∷ rest)
     longer ys y rest k e = rw (length-append ys (y ∷ rest)) (omega (arith, e))
-
--- a number that passes a test is the last of those up to it that pass
-pub filter_yes : (p : ℕ → Bool) (n : ℕ) → p n ≡ true → filter p (upto (n + 1)) ≡ filter p (upto n) ++ n ∷ []
-filter_yes p n h =
-    let more : n + 1 ≡ suc n = omega arith in
-    ap (λ m. filter p (upto m)) more ∙ filter-append p (upto n) (n ∷ []) ∙ ap (λ b. filter p (upto n) ++ cond b (n ∷ []) []) h
-
--- a number that doesn't pass a test adds none to those that pass
-pub filter_no : (p : ℕ → Bool) (n : ℕ) → p n ≡ false → filter p (upto (n + 1)) ≡ filter p (upto n)
-filter_no p n h =
-    let more : n + 1 ≡ suc n = omega arith in
-    ap (λ m. filter p (upto m)) more ∙ filter-append p (upto n) (n ∷ []) ∙ ap (λ b. filter p (upto n) ++ cond b (n ∷ []) []) h ∙ append-nil (filter p (upto n))
 
 -- a number that leads to something adds that to what the numbers before it lead to
 pub found_more : {X : Type 0} (f : ℕ → Option X) (n : ℕ) (x : X) → f n ≡ Some x → filter_map f (upto (n + 1)) ≡ filter_map f (upto n) ++ x ∷ []

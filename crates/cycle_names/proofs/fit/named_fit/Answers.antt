@@ -22,6 +22,7 @@ returns-then-not-is_plain_outside c = marked_outside c.args.edges.now (sym c.is_
 
 pub returns : goal.returns
 returns c = (
-  named_at c.args.edges.now c.in_ok-family.family c.in_ok-place.place c.requires c.in_ok-place.ensures (sym c.is_plain_outside.ensures ∙ c.if-not-is_plain_outside.false),
+  named_at c.args.edges.now c.in_ok-family.family c.in_ok-place.place c.requires.cycle c.in_ok-place.ensures (sym c.is_plain_outside.ensures ∙ c.if-not-is_plain_outside.false),
   c.outline_of-outline.ensures.links,
+  c.outline_of-outline.ensures.places,
 )

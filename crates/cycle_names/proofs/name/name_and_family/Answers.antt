@@ -1,23 +1,18 @@
 -- The text made is the name of the cycle, and its family that of the fit.
-use Rattle.std.proofs.Common.{◌++◌, sym, ◌∙◌, ap}
-use Rattle.std.specs.Prelude.{codes}
-use Rattle.std.specs.List.{join_by}
-use Rattle.relax_edges.specs.WordParts.{word_of}
-use Rattle.cycle_names.specs.CycleNames.{name_of}
-use Rattle.cycle_names.specs.Fitting.{IsNamedAt}
+use Rattle.std.proofs.Common.{sym, ◌∙◌, ap}
+use Rattle.std.specs.Prelude.{map}
+use Rattle.cycle_names.specs.Fitting.{IsNamedAt, word_place}
 use Rattle.cycle_names.proofs.NameLaws.{names_of_cycles}
-use Rattle.cycle_names.proofs.CycleOf.{name_in_none, family_of_found, family_of_none}
+use Rattle.cycle_names.proofs.CycleOf.{family_of_found, family_of_none}
 use Rattle.cycle_names.proofs.name.name_and_family.Goals as goal
 
 pub returns-in-Some-clause-name : goal.returns-in-Some-clause-name
-returns-in-Some-clause-name c = c.push_family_name.ensures ∙ ap name_of c.edges-in-Some.ensures.value
+returns-in-Some-clause-name c =
+    let at : IsNamedAt c.args.cycle.now c.in-Some.fit.family c.in-Some.fit.place = rw (← c.edges.ensures.value) c.in-Some.ensures.0 in
+    c.push_family_name.ensures c.args.cycle.now (sym (c.as_slice.ensures.value ∙ c.in-Some.ensures.2 ∙ ap (map word_place) c.edges.ensures.value)) at (rw (← c.edges.ensures.value) c.in-Some.ensures.1)
 
 pub returns-in-None-clause-name : goal.returns-in-None-clause-name
-returns-in-None-clause-name c =
-    c.push_words.ensures.text
-    ∙ ap (λ w. w ++ join_by word_of (codes "-") c.edges-in-None.result.now) (c.push_str.ensures.bytes ∙ ap (λ w. w ++ codes "C+") c.clear.ensures)
-    ∙ ap (λ v. codes "C+" ++ join_by word_of (codes "-") v) c.edges-in-None.ensures.value
-    ∙ sym (name_in_none c.args.cycle.now c.least-rotation.result c.edges.ensures.composable (rw (← c.edges.ensures.value) c.in-None.ensures) c.least-rotation.ensures)
+returns-in-None-clause-name c = c.push_own_name.ensures.name
 
 pub returns-in-Some-clause-form : goal.returns-in-Some-clause-form
 returns-in-Some-clause-form c = rw (returns-in-Some-clause-name c) (names_of_cycles c.args.cycle.now c.edges.ensures.composable)

@@ -1,15 +1,14 @@
 -- That `accepted_valued` finds the first thread that needs too many registers, if there is one.
-use Rattle.std.proofs.Common.{◌∙◌, sym, ap}
-use Rattle.std.specs.Prelude.{Some}
+use Rattle.std.proofs.Common.{◌∙◌, sym}
 use Rattle.test_maker.proofs.Growing.{crowded_here, calm_here}
 use Rattle.test_maker.proofs.acceptance.accepted_valued.Goals as goal
 
 pub returns-then-is_crowded : goal.returns-then-is_crowded
 returns-then-is_crowded g c =
-    crowded_here g.A.Arch.puts c.args.valued.now.edges c.args.valued.now.mode c.loop-thread.thread c.as_slice.result.now
-    c.loop-thread.invariant (c.fill_steps.ensures ∙ ap Some (sym c.as_slice.ensures.value)) (sym c.is_crowded.ensures ∙ c.if-is_crowded.true)
+    crowded_here g.A.Arch.puts c.args.valued.now.edges c.args.valued.now.mode c.loop-thread.thread c.steps_of.result.now
+    c.loop-thread.invariant c.steps_of.ensures.steps (sym c.is_crowded.ensures ∙ c.if-is_crowded.true)
 
 pub loop-thread-preserved : goal.loop-thread-preserved
 loop-thread-preserved g c =
-    calm_here g.A.Arch.puts c.args.valued.now.edges c.args.valued.now.mode c.loop-thread.thread c.as_slice.result.now
-    c.loop-thread.invariant (c.fill_steps.ensures ∙ ap Some (sym c.as_slice.ensures.value)) (sym c.is_crowded.ensures ∙ c.if-is_crowded.false)
+    calm_here g.A.Arch.puts c.args.valued.now.edges c.args.valued.now.mode c.loop-thread.thread c.steps_of.result.now
+    c.loop-thread.invariant c.steps_of.ensures.steps (sym c.is_crowded.ensures ∙ c.if-is_crowded.false)

@@ -1,11 +1,9 @@
--- The loop of `fill_events`: the accesses of the events so far that are in the thread.
-use Rattle.std.proofs.Common.{◌≡◌, ◌==◌, map}
-use Rattle.std.specs.List.{filter}
+-- The loop of `fill_events`: the accesses of the events so far.
+use Rattle.std.proofs.Common.{◌≡◌, map}
 use Rattle.list_laws.specs.Numbers.{upto}
-use Rattle.resolution_laws.specs.Resolution.{thread_of}
 use Rattle.test_laws.specs.CycleSteps.{event_step}
 use Rattle.test_laws.specs.TestOf.{plain}
 use Rattle.test_maker.proofs.steps.fill_events.Given as goal
 
 abbrev pub invariant-loop-i : goal.invariant-loop-i
-invariant-loop-i l = l.steps.items ≡ map (event_step l.valued.edges plain) (filter (λ j. thread_of l.valued.edges j == l.thread) (upto l.i))
+invariant-loop-i l = l.steps.items ≡ map (event_step l.valued.edges plain) (upto l.i)

@@ -4,7 +4,7 @@ use Rattle.arrayvec.specs.ArrayVec.{ArrayVec}
 use Rattle.arch_trait.specs.declared.code.Code.{Code}
 use Rattle.arch_trait.specs.Codes.{thread_code_of}
 use Rattle.arch_trait.specs.Threads.{compiled}
-use Rattle.arch_trait.proofs.NextThreads.{next_made, next_within}
+use Rattle.arch_trait.proofs.NextThreads.{next_before, next_made, next_within}
 use Rattle.arch_trait.proofs.thread_codes.ThreadCodes.compile_next.Goals as goal
 
 pub bounds-deref_mut-self-inside : goal.bounds-deref_mut-self-inside
@@ -19,3 +19,8 @@ returns-in-Ok-clause-ok g c =
     next_made thread_code_of c.have_place.new.codes.items c.deref_mut.result.now c.self.inside.count c.compile_into.new.code (compiled g.A.Arch.puts c.args.steps.now)
     c.have_place.ensures.within c.deref_mut.ensures.value c.in-Ok.ensures.ok ∙
     ap (λ codes. map thread_code_of codes ++ compiled g.A.Arch.puts c.args.steps.now ∷ []) (c.have_place.ensures.before ∙ ap (λ (v : ArrayVec Code). v.items) c.self.view_is)
+
+pub returns-in-Err-clause-err : goal.returns-in-Err-clause-err
+returns-in-Err-clause-err g c =
+    next_before c.have_place.new.codes.items c.deref_mut.result.now c.self.inside.count c.compile_into.new.code c.deref_mut.ensures.value ∙
+    c.have_place.ensures.before ∙ ap (λ (v : ArrayVec Code). v.items) c.self.view_is

@@ -7,7 +7,7 @@ use Rattle.cycle_enum.proofs.alphabet.Alphabet.extend.Goals as goal
 
 pub returns-in-Some : goal.returns-in-Some
 returns-in-Some c =
-    extended_by (IsListCandidate c.args.self.now) c.args.list.now c.push.new.self (least_rank c.args.list.now) c.in-Some.edge
+    extended_by (IsListCandidate c.args.self.now) c.args.list.now c.push.new.self (least_rank c.args.list.now) c.in-Some.letter.now.edge
     (none_below_least c.args.self.now c.args.list.now)
     (rw (c.edges.ensures.value, c.least_rank.ensures.value) at c.in-Some.ensures.next) c.push.ensures
 

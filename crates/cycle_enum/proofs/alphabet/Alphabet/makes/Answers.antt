@@ -1,5 +1,5 @@
 -- Where each relaxation has one edge, a cycle is made of them exactly where each of its edges occurs in one.
-use Rattle.std.proofs.Common.{◌↔◌, sym, rules}
+use Rattle.std.proofs.Common.{◌↔◌}
 use Rattle.std.specs.List.{AllByRecursion}
 use Rattle.std.specs.Prelude.{IsTrue}
 use Rattle.walk_laws.specs.Search.{OccursIn}

@@ -4,10 +4,10 @@ use Rattle.walk_laws.specs.Search.{IsListCandidate}
 use Rattle.walk_laws.proofs.Raising.{popped_more, popped_replaced}
 use Rattle.cycle_enum.proofs.alphabet.Alphabet.raise.Goals as goal
 
-pub returns-in-Some-next_edge : goal.returns-in-Some-next_edge
-returns-in-Some-next_edge c =
-    popped_replaced (IsListCandidate c.args.self.now) c.args.list.now c.loop-last.list c.pop.new.self c.push.new.self c.in-Some.last.edge c.in-Some-next_edge.next
-    c.loop-last.invariant.popped c.in-Some.ensures.some.0 c.push.ensures (rw (c.edges.ensures.value, c.in-Some.ensures.some.1) at c.in-Some-next_edge.ensures.next)
+pub returns-in-Some-next_letter : goal.returns-in-Some-next_letter
+returns-in-Some-next_letter c =
+    popped_replaced (IsListCandidate c.args.self.now) c.args.list.now c.loop-last.list c.pop.new.self c.push.new.self c.in-Some.last.edge c.in-Some-next_letter.next.now.edge
+    c.loop-last.invariant.popped c.in-Some.ensures.some.0 c.push.ensures (rw (c.edges.ensures.value, c.in-Some.ensures.some.1) at c.in-Some-next_letter.ensures.next)
 
 pub loop-last-preserved : goal.loop-last-preserved
 loop-last-preserved c = record {

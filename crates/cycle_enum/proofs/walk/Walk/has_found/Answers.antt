@@ -11,7 +11,7 @@ returns-then-not-leads_on-clause-other g c _ l = c.if-not-leads_on.ensures.refus
 
 pub returns-then-not-is_normal-clause-other : goal.returns-then-not-is_normal-clause-other
 returns-then-not-is_normal-clause-other g c _ l =
-    let h : IsTrue c.is_normal.result = c.is_normal.ensures.1 (rw c.edges-2.ensures.value l.normal) in cc (h, c.if-not-is_normal.true)
+    let h : IsTrue c.is_normal.result = c.is_normal.ensures.1 l.normal in cc (h, c.if-not-is_normal.true)
 
 pub has_listed-requires-clause-cycle : goal.has_listed-requires-clause-cycle
 has_listed-requires-clause-cycle g c =

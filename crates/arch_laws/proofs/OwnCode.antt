@@ -1,0 +1,132 @@
+-- The instructions that make up the code of architectures whose accesses name a register that holds the address: a branch on a register,
+-- accesses at an address that depends on a register, and what joins a dependency to a number. What each sort of them keeps is
+-- proved here once; an architecture says of which sort its own are, and that its table has them.
+-- Source: own.
+use Rattle.std.proofs.Common.{◌+◌, ◌<◌, ◌^◌, ◌≡◌, refl, true, [], ◌∷◌, Some, None, ◌∙◌, sym, ap, append-nil, arith}
+use Rattle.std.proofs.lemmas.Bool.{and_from, or_left, eq-eqb}
+use Rattle.micro_ops.specs.declared.held.Held.{Held}
+use Rattle.micro_ops.specs.declared.operation.Micro.TheVariants as ops
+use Rattle.micro_ops.specs.Machine.{num, address_held, bit}
+use Rattle.micro_ops.specs.Running.{At, go, lands}
+use Rattle.arch_laws.proofs.Masks.{zero_or}
+use Rattle.arch_laws.proofs.Rules.{holding, after_cmp, after_branch, run_add_imm, run_or_imm, run_add_address, run_load, run_load_wants, run_load_index, run_load_index_wants, run_store, run_store_index, run_cmp_branch, run_branch_nz}
+use Rattle.arch_laws.proofs.Accesses.{written_same, written_other}
+use Rattle.arch_laws.proofs.AddressedInstructions.{IsBranch, AreDependent, IsJoining, same_run, but_address}
+
+-- a comparison of a register with itself and a branch where the two are equal depend on the register
+pub compares : IsBranch (λ s n. ops.Cmp s s ∷ ops.BranchEq n ∷ [])
+compares = record {
+  runs = λ s n v k r e. record {
+    after = after_branch (after_cmp r true (bit k)) (bit k);
+    ran =
+        run_cmp_branch s n r ∙
+        ap (λ m. At (after_branch (after_cmp r true m) m)) (ap (λ (h : Held). h.mask) e);
+    made_is = sym (append-nil r.made);
+    control_is = refl;
+    loads_is = refl;
+    reads_is = refl;
+    regs_is = refl;
+  };
+  room = λ s n. omega arith;
+  label = λ s n rest. refl;
+  jumps = λ s n rest h. and_from _ _ (or_left _ _ (eq-eqb n n refl)) h;
+  no_place = λ s n p rest h. h;
+  no_access = λ s n rest. refl;
+}
+
+-- a branch where a register isn't 0 depends on the register
+pub tests : IsBranch (λ s n. ops.BranchNz s n ∷ [])
+tests = record {
+  runs = λ s n v k r e. record {
+    after = after_branch r (bit k);
+    ran = run_branch_nz s n v (bit k) r e;
+    made_is = sym (append-nil r.made);
+    control_is = refl;
+    loads_is = refl;
+    reads_is = refl;
+    regs_is = refl;
+  };
+  room = λ s n. omega arith;
+  label = λ s n rest. refl;
+  jumps = λ s n rest h. and_from _ _ (or_left _ _ (eq-eqb n n refl)) h;
+  no_place = λ s n p rest h. h;
+  no_access = λ s n rest. refl;
+}
+
+-- accesses with an index register depend on it
+pub indexed : AreDependent (λ d v a. ops.Load v a (Some d) ∷ []) (λ d v a. ops.Store v a (Some d) ∷ [])
+indexed = record {
+  load_runs = λ d v a p n mask vs r e g reads. record {
+    before = r;
+    ran = run_load_index v a d p n mask vs r e g reads;
+    same = same_run d r;
+  };
+  load_wants = λ d v a p mask r e g reads. record {
+    run = r;
+    is = run_load_index_wants v a d p mask r e g reads;
+  };
+  load_short = λ d v a. record { room = omega arith; labels = refl; lands = refl; no_place = λ p. refl };
+  load_once = λ d v a. refl;
+  store_runs = λ d v a p n mask r e g holds apart. record {
+    before = r;
+    ran = run_store_index v a d p n mask 0 r e g holds;
+    same = same_run d r;
+  };
+  store_short = λ d v a. record { room = omega arith; labels = refl; lands = refl; no_place = λ p. refl };
+  store_once = λ d v a. refl;
+}
+
+-- accesses at an address that is added to a register first depend on it
+pub added : AreDependent (λ d v a. ops.Add d d a ∷ ops.Load v d None ∷ []) (λ d v a. ops.Add d d a ∷ ops.Store v d None ∷ [])
+added = record {
+  load_runs = λ d v a p n mask vs r e g reads.
+      let u = holding r d (address_held p mask) in
+      record {
+        before = u;
+        ran =
+            ap (λ x. go (ops.Load v d None) x) (run_add_address d d a p mask r g e) ∙
+            run_load v d p n mask vs u (written_same r.state.regs d (address_held p mask)) reads;
+        same = but_address d p mask r;
+      };
+  load_wants = λ d v a p mask r e g reads.
+      let u = holding r d (address_held p mask) in
+      record {
+        run = u;
+        is =
+            ap (λ x. go (ops.Load v d None) x) (run_add_address d d a p mask r g e) ∙
+            run_load_wants v d p mask u (written_same r.state.regs d (address_held p mask)) reads;
+      };
+  load_short = λ d v a. record { room = omega arith; labels = refl; lands = refl; no_place = λ p. refl };
+  load_once = λ d v a. refl;
+  store_runs = λ d v a p n mask r e g holds apart.
+      let u = holding r d (address_held p mask) in
+      record {
+        before = u;
+        ran =
+            ap (λ x. go (ops.Store v d None) x) (run_add_address d d a p mask r g e) ∙
+            run_store v d p n mask 0 u (written_same r.state.regs d (address_held p mask))
+            (written_other r.state.regs d v (address_held p mask) apart ∙ holds);
+        same = but_address d p mask r;
+      };
+  store_short = λ d v a. record { room = omega arith; labels = refl; lands = refl; no_place = λ p. refl };
+  store_once = λ d v a. refl;
+}
+
+-- a number that is added to a register keeps its dependency
+pub sums : IsJoining (λ d n. ops.AddImm d d n)
+sums = record {
+  runs = λ d n mask r small e.
+      let fits : 0 + n < 2 ^ 32 = omega arith in
+      let sum : 0 + n ≡ n = omega arith in
+      run_add_imm d d n 0 mask r e fits ∙ ap (λ m. At (holding r d (num m mask))) sum;
+  short = λ d n. record { room = omega arith; labels = refl; lands = refl; no_place = λ p. refl };
+  no_access = λ d n. refl;
+}
+
+-- a number that is joined to a register by a bitwise or keeps its dependency
+pub ors : IsJoining (λ d n. ops.OrImm d d n)
+ors = record {
+  runs = λ d n mask r small e. run_or_imm d d n 0 mask r e ∙ ap (λ m. At (holding r d (num m mask))) (zero_or n);
+  short = λ d n. record { room = omega arith; labels = refl; lands = refl; no_place = λ p. refl };
+  no_access = λ d n. refl;
+}

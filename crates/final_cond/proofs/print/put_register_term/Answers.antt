@@ -1,0 +1,9 @@
+-- A short term on a register is put in one piece.
+use Rattle.std.proofs.Common.{arith}
+use Rattle.final_cond.proofs.TermText.{short_register_term}
+use Rattle.final_cond.proofs.print.put_register_term.Goals as goal
+
+pub returns-then-value-lt10-clause-text : goal.returns-then-value-lt10-clause-text
+returns-then-value-lt10-clause-text c =
+    short_register_term c.args.thread c.args.value c.args.name.now c.args.page.now c.put_fixed.new.self c.if-thread-lt10.true c.if-value-lt10.true (omega arith)
+    c.put_fixed.ensures
