@@ -10,16 +10,14 @@ ghost use Rattle.arch_aarch64.specs.ReadsBack.{reads_back as a64_reads_back, rea
 ghost use Rattle.arch_aarch64.specs.InCells.{writes_cells as a64_writes_cells, makes_one_access as a64_makes_one_access};
 
 mod own;
-mod short;
 mod table;
 
-use crate::short::print_short;
-use crate::table::{NAMES, table};
+use crate::table::{NAMES, fixed_texts, table};
 use addressed_code::{put_link, put_load, put_store, registers_needed};
 use arch_trait::{Arch, AskedAccess, Instrs, Link, MAX_TEXT, Operands, Places, Raw, Regs, Shape};
 use arrayvec::ArrayString;
 use final_cond::RegName;
-use instruction_forms::{has_by, print_by, read_by};
+use instruction_forms::{has_by, print_with, read_by};
 use micro_ops::Micro;
 use relax_edges::ArchName;
 
@@ -40,7 +38,7 @@ impl Arch for A64 {
     const REGISTERS: u8 = 28;
 
     fn has(op: &Micro) -> bool {
-        has_by(&table(), op)
+        has_by(table(), op)
     }
 
     fn need(shape: &Shape) -> u32 {
@@ -61,13 +59,11 @@ impl Arch for A64 {
 
     #[tactic(auto, using(crate::specs::Clear::is_clear_table))]
     fn print(op: &Micro, places: &Places, out: &mut ArrayString<MAX_TEXT>) {
-        if !print_short(op, out) {
-            print_by(&table(), op, places, out);
-        }
+        print_with(table(), fixed_texts(), op, places, out);
     }
 
     fn read_raw<'a>(word: &'a [u8], operands: Operands<'a>) -> Option<Raw<'a>> {
-        read_by(&table(), word, operands)
+        read_by(table(), word, operands)
     }
 
     #[tactic(auto, using(crate::specs::ReadsBack::name_is))]

@@ -1,33 +1,36 @@
 ghost use Rattle.std.specs.Prelude.{◌≡◌};
 ghost use Rattle.form_laws.specs.Tables.{table_seen};
+ghost use Rattle.instruction_forms.specs.FixedTexts.{AreOfTable};
 ghost use Rattle.arch_aarch64.specs.Table.{table};
 
 use arch_trait::Numbered;
 use form_laws::{Form, Hole, Kind, Labels, Piece, Table, form, piece};
+use instruction_forms::{BarrierText, FixedTexts, around, barrier_text};
 use micro_ops::Barrier;
 use relax_edges::FenceKind;
 
-macro_rules! fence {
+macro_rules! barrier {
     ($kind:ident) => {
-        Kind::Order(Barrier::Fence(FenceKind::$kind))
+        Barrier::Fence(FenceKind::$kind)
     };
 }
 
-/// The number in the name of register 0, and how many registers tests use.
-const FIRST: u8 = 0;
+macro_rules! fence {
+    ($kind:ident) => {
+        Kind::Order(barrier!($kind))
+    };
+}
 
-const COUNT: u8 = 28;
-
-/// The names of registers in conditions.
+/// The names of registers in conditions: the number of register 0, and how many registers tests use.
 pub const NAMES: Numbered = Numbered {
     letter: b'X',
-    first: FIRST,
-    count: COUNT,
+    first: 0,
+    count: 28,
 };
 
 const REGISTERS: Hole = Hole::Register {
-    first: FIRST,
-    count: COUNT,
+    first: NAMES.first,
+    count: NAMES.count,
 };
 
 const W: Piece = piece!("W", REGISTERS, "");
@@ -60,13 +63,38 @@ const FORMS: &[Form] = &[
     form!("ADD", [X, X, W, piece!("SXTW")], Kind::Sum),
 ];
 
+const TABLE: &Table = &Table {
+    forms: FORMS,
+    labels: Labels::Known,
+};
+
 /// AArch64's instructions, in the order in which the forms are tried.
 #[tactic(auto, unfolding(crate::specs::Table::forms))]
-pub fn table() -> Table
-    ensures { table_seen result ≡ table }
+pub fn table() -> &'static Table
+    ensures { table_seen result.now ≡ table }
 {
-    Table {
-        forms: FORMS,
-        labels: Labels::Known,
-    }
+    TABLE
+}
+
+const BARRIERS: &[BarrierText] = &[
+    barrier_text!("DMB SY", barrier!(DmbSy)),
+    barrier_text!("DMB LD", barrier!(DmbLd)),
+    barrier_text!("DMB ST", barrier!(DmbSt)),
+    barrier_text!("ISB", Barrier::Isb),
+];
+
+const TEXTS: &FixedTexts = &FixedTexts {
+    first: NAMES.first,
+    number: around!("MOV W", ",#", ""),
+    load: around!("LDR W", ",[X", "]"),
+    store: around!("STR W", ",[X", "]"),
+    barriers: BARRIERS,
+};
+
+/// The fixed texts of the instructions that tests are full of: those that the table writes.
+#[inline(always)]
+pub fn fixed_texts() -> &'static FixedTexts
+    ensures { AreOfTable result.now table }
+{
+    TEXTS
 }

@@ -12,12 +12,12 @@ ghost use Rattle.arch_riscv.specs.InCells.{writes_cells as riscv_writes_cells, m
 mod own;
 mod table;
 
-use crate::table::{NAMES, table};
+use crate::table::{NAMES, fixed_texts, table};
 use addressed_code::{put_link, put_load, put_store, registers_needed};
 use arch_trait::{Arch, AskedAccess, Instrs, Link, MAX_TEXT, Operands, Places, Raw, Regs, Shape};
 use arrayvec::ArrayString;
 use final_cond::RegName;
-use instruction_forms::{has_by, print_by, read_by};
+use instruction_forms::{has_by, print_with, read_by};
 use micro_ops::Micro;
 use relax_edges::ArchName;
 
@@ -38,7 +38,7 @@ impl Arch for Riscv {
     const REGISTERS: u8 = 27;
 
     fn has(op: &Micro) -> bool {
-        has_by(&table(), op)
+        has_by(table(), op)
     }
 
     fn need(shape: &Shape) -> u32 {
@@ -59,11 +59,11 @@ impl Arch for Riscv {
 
     #[tactic(auto, using(crate::specs::Clear::is_clear_table))]
     fn print(op: &Micro, places: &Places, out: &mut ArrayString<MAX_TEXT>) {
-        print_by(&table(), op, places, out);
+        print_with(table(), fixed_texts(), op, places, out);
     }
 
     fn read_raw<'a>(word: &'a [u8], operands: Operands<'a>) -> Option<Raw<'a>> {
-        read_by(&table(), word, operands)
+        read_by(table(), word, operands)
     }
 
     #[tactic(auto, using(crate::specs::ReadsBack::name_is))]

@@ -1,36 +1,39 @@
 ghost use Rattle.std.specs.Prelude.{◌≡◌};
 ghost use Rattle.form_laws.specs.Tables.{table_seen};
+ghost use Rattle.instruction_forms.specs.FixedTexts.{AreOfTable};
 ghost use Rattle.arch_riscv.specs.Table.{table};
 
 use arch_trait::Numbered;
 use form_laws::{Form, Hole, Kind, Labels, Piece, Table, form, piece};
+use instruction_forms::{BarrierText, FixedTexts, around, barrier_text};
 use micro_ops::Barrier;
 use relax_edges::{FenceKind, Pick};
 
-macro_rules! fence {
+macro_rules! barrier {
     ($pred:ident, $succ:ident) => {
-        Kind::Order(Barrier::Fence(FenceKind::Fence {
+        Barrier::Fence(FenceKind::Fence {
             pred: Pick::$pred,
             succ: Pick::$succ,
-        }))
+        })
     };
 }
 
-/// The number in the name of register 0, and how many registers tests use.
-const FIRST: u8 = 5;
+macro_rules! fence {
+    ($pred:ident, $succ:ident) => {
+        Kind::Order(barrier!($pred, $succ))
+    };
+}
 
-const COUNT: u8 = 27;
-
-/// The names of registers in conditions.
+/// The names of registers in conditions: the number of register 0, and how many registers tests use.
 pub const NAMES: Numbered = Numbered {
     letter: b'x',
-    first: FIRST,
-    count: COUNT,
+    first: 5,
+    count: 27,
 };
 
 const REGISTERS: Hole = Hole::Register {
-    first: FIRST,
-    count: COUNT,
+    first: NAMES.first,
+    count: NAMES.count,
 };
 
 const X: Piece = piece!("x", REGISTERS, "");
@@ -62,13 +65,43 @@ const FORMS: &[Form] = &[
     form!("fence", [piece!("rw"), piece!("rw")], fence!(RW, RW)),
 ];
 
+const TABLE: &Table = &Table {
+    forms: FORMS,
+    labels: Labels::Known,
+};
+
 /// RISC-V's instructions, in the order in which the forms are tried.
 #[tactic(auto, unfolding(crate::specs::Table::forms))]
-pub fn table() -> Table
-    ensures { table_seen result ≡ table }
+pub fn table() -> &'static Table
+    ensures { table_seen result.now ≡ table }
 {
-    Table {
-        forms: FORMS,
-        labels: Labels::Known,
-    }
+    TABLE
+}
+
+const FENCES: &[BarrierText] = &[
+    barrier_text!("fence r,r", barrier!(R, R)),
+    barrier_text!("fence r,w", barrier!(R, W)),
+    barrier_text!("fence r,rw", barrier!(R, RW)),
+    barrier_text!("fence w,r", barrier!(W, R)),
+    barrier_text!("fence w,w", barrier!(W, W)),
+    barrier_text!("fence w,rw", barrier!(W, RW)),
+    barrier_text!("fence rw,r", barrier!(RW, R)),
+    barrier_text!("fence rw,w", barrier!(RW, W)),
+    barrier_text!("fence rw,rw", barrier!(RW, RW)),
+];
+
+const TEXTS: &FixedTexts = &FixedTexts {
+    first: NAMES.first,
+    number: around!("ori x", ",x0,", ""),
+    load: around!("lw x", ",0(x", ")"),
+    store: around!("sw x", ",0(x", ")"),
+    barriers: FENCES,
+};
+
+/// The fixed texts of the instructions that tests are full of: those that the table writes.
+#[inline(always)]
+pub fn fixed_texts() -> &'static FixedTexts
+    ensures { AreOfTable result.now table }
+{
+    TEXTS
 }

@@ -40,7 +40,7 @@ impl Arch for X86 {
     const REGISTERS: u8 = 6;
 
     fn has(op: &Micro) -> bool {
-        has_by(&table(), op)
+        has_by(table(), op)
     }
 
     fn need(shape: &Shape) -> u32 {
@@ -74,12 +74,12 @@ impl Arch for X86 {
     #[tactic(auto, using(crate::specs::Clear::is_clear_table))]
     fn print(op: &Micro, places: &Places, out: &mut ArrayString<MAX_TEXT>) {
         if !print_short(op, places, out) {
-            print_by(&table(), op, places, out);
+            print_by(table(), op, places, out);
         }
     }
 
     fn read_raw<'a>(word: &'a [u8], operands: Operands<'a>) -> Option<Raw<'a>> {
-        read_by(&table(), word, operands)
+        read_by(table(), word, operands)
     }
 
     fn register_name(r: u8, out: &mut RegName) {

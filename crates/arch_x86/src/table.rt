@@ -21,13 +21,15 @@ const FORMS: &[Form] = &[
     form!("MOV", [piece!("EDI"), ADDRESS], Kind::LoadInto(5)),
 ];
 
+const TABLE: &Table = &Table {
+    forms: FORMS,
+    labels: Labels::Unknown,
+};
+
 /// X86's instructions, in the order in which the forms are tried.
 #[tactic(auto, unfolding(crate::specs::Table::forms))]
-pub fn table() -> Table
-    ensures { table_seen result ≡ table }
+pub fn table() -> &'static Table
+    ensures { table_seen result.now ≡ table }
 {
-    Table {
-        forms: FORMS,
-        labels: Labels::Unknown,
-    }
+    TABLE
 }

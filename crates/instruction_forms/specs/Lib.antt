@@ -1,2 +1,3 @@
+pub mod FixedTexts
 pub mod Founds
 pub mod Printing

@@ -2,6 +2,7 @@
 #![tactic(auto)]
 
 mod fits;
+mod fixed;
 mod found;
 mod has;
 mod numbers;
@@ -10,11 +11,10 @@ mod operands;
 mod print;
 mod push;
 mod read;
-mod short;
 mod sorts;
 
+pub use fixed::{BarrierText, FixedTexts, TextsAround, print_fixed};
 pub use has::has_by;
-pub use print::print_by;
+pub use print::{print_by, print_with};
 pub use push::{push_digit, push_short};
 pub use read::read_by;
-pub use short::{print_fixed, print_two};

@@ -3,6 +3,7 @@ ghost use Rattle.form_laws.specs.Kinds.{barrier_number, pick_number, same_barrie
 ghost use Rattle.instruction_forms.specs.Printing.{listed_operands};
 
 use crate::operand_list::OperandList;
+use form_laws::Operand::{Label, Number, Place, Register};
 use form_laws::{Kind, Operand};
 use micro_ops::{Barrier, Micro};
 use relax_edges::{FenceKind, Pick};
@@ -12,13 +13,24 @@ use relax_edges::{FenceKind, Pick};
 pub fn operands_of(kind: &Kind, op: &Micro) -> Option<OperandList>
     ensures { option_map listed_operands result ≡ operands_of kind.now op.now }
 {
-    use Operand::{Label, Number, Place, Register};
     match (*kind, *op) {
         (Kind::SetNumber, Micro::Imm { dst, n }) => two(Register(dst), Number(n)),
-        (Kind::ExclusiveOr, Micro::Xor { dst, a, b }) => registers(dst, a, b),
-        (Kind::AddNumber, Micro::AddImm { dst, a, n }) => with_number(dst, a, n),
-        (Kind::OrNumber, Micro::OrImm { dst, a, n }) => with_number(dst, a, n),
-        (Kind::Sum, Micro::Add { dst, a, b }) => registers(dst, a, b),
+        (Kind::ExclusiveOr, Micro::Xor { dst, a, b }) => three(
+            Register(dst),
+            Register(a),
+            Register(b),
+        ),
+        (Kind::AddNumber, Micro::AddImm { dst, a, n }) => three(
+            Register(dst),
+            Register(a),
+            Number(n),
+        ),
+        (Kind::OrNumber, Micro::OrImm { dst, a, n }) => three(
+            Register(dst),
+            Register(a),
+            Number(n),
+        ),
+        (Kind::Sum, Micro::Add { dst, a, b }) => three(Register(dst), Register(a), Register(b)),
         (Kind::Load, Micro::Load { dst, base, index }) => operands_without_index(dst, base, index),
         (Kind::LoadIndexed, Micro::Load { dst, base, index }) => operands_with_index(
             dst, base, index,
@@ -51,14 +63,10 @@ fn two(a: Operand, b: Operand) -> Option<OperandList>
 }
 
 #[inline]
-fn registers(a: u8, b: u8, c: u8) -> Option<OperandList>
-    ensures { option_map listed_operands result ≡ Some (Operand.Register a ∷ Operand.Register b ∷ Operand.Register c ∷ []) }
+fn three(a: Operand, b: Operand, c: Operand) -> Option<OperandList>
+    ensures { option_map listed_operands result ≡ Some (a ∷ b ∷ c ∷ []) }
 {
-    Some(OperandList::three(
-        Operand::Register(a),
-        Operand::Register(b),
-        Operand::Register(c),
-    ))
+    Some(OperandList::three(a, b, c))
 }
 
 /// The operands of an access without an index.
@@ -68,7 +76,7 @@ fn operands_without_index(r: u8, base: u8, index: Option<u8>) -> Option<OperandL
     ensures store { option_map listed_operands result ≡ operands_of Kind.Store (Micro.Store r base index) }
 {
     match index {
-        None => two(Operand::Register(r), Operand::Register(base)),
+        None => two(Register(r), Register(base)),
         Some(_) => None,
     }
 }
@@ -80,7 +88,7 @@ fn operands_with_index(r: u8, base: u8, index: Option<u8>) -> Option<OperandList
     ensures store { option_map listed_operands result ≡ operands_of Kind.StoreIndexed (Micro.Store r base index) }
 {
     match index {
-        Some(i) => registers(r, base, i),
+        Some(i) => three(Register(r), Register(base), Register(i)),
         None => None,
     }
 }
@@ -92,20 +100,9 @@ fn index_first(r: u8, base: u8, index: Option<u8>) -> Option<OperandList>
     ensures store { option_map listed_operands result ≡ operands_of Kind.StoreIndexFirst (Micro.Store r base index) }
 {
     match index {
-        Some(i) => registers(r, i, base),
+        Some(i) => three(Register(r), Register(i), Register(base)),
         None => None,
     }
-}
-
-#[inline]
-fn with_number(a: u8, b: u8, n: u32) -> Option<OperandList>
-    ensures { option_map listed_operands result ≡ Some (Operand.Register a ∷ Operand.Register b ∷ Operand.Number n ∷ []) }
-{
-    Some(OperandList::three(
-        Operand::Register(a),
-        Operand::Register(b),
-        Operand::Number(n),
-    ))
 }
 
 #[inline]
@@ -113,7 +110,7 @@ fn load_into(r: u8, dst: u8, place: u8) -> Option<OperandList>
     ensures { option_map listed_operands result ≡ operands_of (Kind.LoadInto r) (Micro.LoadAt dst place) }
 {
     if dst == r {
-        Some(OperandList::one(Operand::Place(place)))
+        Some(OperandList::one(Place(place)))
     } else {
         None
     }

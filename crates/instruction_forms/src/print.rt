@@ -3,9 +3,11 @@ ghost use Rattle.std.specs.List.{list_any};
 ghost use Rattle.arch_trait.specs.Writing.{written_text, name_in, place_below, label_below};
 ghost use Rattle.form_laws.specs.Tables.{piece_seen, form_seen, table_seen, piece_text, does, operands_fit, fits_first, table_has, hole_filled, first_written, table_written};
 ghost use Rattle.form_laws.specs.ClearTables.{is_clear, is_form_good};
+ghost use Rattle.instruction_forms.specs.FixedTexts.{AreOfTable};
 ghost use Rattle.instruction_forms.specs.Printing.{separator_byte, byte_before, joined_texts, form_text, form_op_text, place_short, op_sort, AllShort, ReadyToPrint, ReadyPiece};
 
 use crate::fits::{after_hole, fits_first};
+use crate::fixed::{FixedTexts, print_short};
 use crate::operands::operands_of;
 use crate::push::{Text, push_label, push_number, push_place, push_short, push_word};
 use crate::sorts::{Sort, may_do, op_sort};
@@ -37,6 +39,27 @@ pub fn print_by(table: &Table, op: &Micro, places: &Places, out: &mut ArrayStrin
             out.push_str(":");
         }
         _ => print_first(table.forms, op, places, out),
+    }
+}
+
+/// The same as `print_by`, by its fixed text where the operation has one: in fewer instructions.
+#[inline(always)]
+pub fn print_with(
+    table: &Table,
+    texts: &FixedTexts,
+    op: &Micro,
+    places: &Places,
+    out: &mut ArrayString<MAX_TEXT>,
+)
+    requires texts { AreOfTable texts.now (table_seen table.now) }
+    requires clear { is_clear (table_seen table.now).forms ≡ true }
+    requires has { table_has (table_seen table.now) op.now ≡ true }
+    requires place { place_below (length places.now) op.now ≡ true }
+    requires label { label_below 64 op.now ≡ true }
+    ensures { out.new.bytes ≡ written_text (table_written (table_seen table.now) (name_in places.now) op.now) }
+{
+    if !print_short(texts, op, out) {
+        print_by(table, op, places, out);
     }
 }
 

@@ -37,7 +37,7 @@ pub(crate) fn push_word(word: &str, out: &mut Text)
 
 /// Appends a number in decimal.
 #[inline(always)]
-#[tactic(auto, using(crate::proofs::Digits::one_digit, crate::proofs::Digits::two_digits))]
+#[tactic(auto, using(arch_trait::proofs::Digits::one_digit, arch_trait::proofs::Digits::two_digits))]
 pub(crate) fn push_number(n: u32, out: &mut Text)
     requires room { length (out.old.bytes ++ decimal n) ≤ MAX_TEXT }
     ensures { out.new.bytes ≡ out.old.bytes ++ decimal n }

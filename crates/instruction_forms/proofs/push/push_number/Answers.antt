@@ -1,7 +1,7 @@
 -- A number of one or two digits is printed digit by digit: there is room for them, and they are its decimal.
 use Rattle.std.proofs.Common.{ℕ, ◌+◌, ◌/◌, ◌%◌, List, [], ◌∷◌, ◌++◌, length, length-append, append_assoc, ◌∙◌, ap, sym, arith}
 use Rattle.std.specs.Fmt.{decimal}
-use Rattle.instruction_forms.proofs.Digits.{one_digit, two_digits}
+use Rattle.arch_trait.proofs.Digits.{one_digit, two_digits}
 use Rattle.instruction_forms.proofs.push.push_number.Goals as goal
 
 pub push_digit-requires-clause-room : goal.push_digit-requires-clause-room
