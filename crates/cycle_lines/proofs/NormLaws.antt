@@ -25,11 +25,10 @@ use Rattle.cycle_lines.specs.Normed.{name_line, name_lines, last_lines, WritesLa
 use Rattle.cycle_lines.specs.LineSteps.{ReaderSeen, HasRead, GivesLine, last_cycle}
 use Rattle.cycle_lines.proofs.ReadLaws.{Before, nothing_read, line_given, fault_given, no_cycles, given_before, all_before}
 
--- a name, a colon and a blank, and the words of the edges make the line of a cycle
-pub line_text : (cycle : List Edge) (name words : List ℕ) → name ≡ name_of cycle → words ≡ join_by word_of (codes " ") (named_rotation cycle) →
-    ((name ++ codes ": ") ++ words) ++ codes "\n" ≡ name_line cycle
+-- a name, a colon and a blank, the words of the edges and a line feed make the line of a cycle
+pub line_text : (cycle : List Edge) → ((name_of cycle ++ codes ": ") ++ join_by word_of (codes " ") (named_rotation cycle)) ++ codes "\n" ≡ name_line cycle
 unfolding name_line
-line_text cycle name words e f = rw (e, f) refl
+line_text cycle = refl
 
 lines_more : (cycles more : List (List Edge)) → name_lines (cycles ++ more) ≡ name_lines cycles ++ name_lines more
 lines_more cycles more = flat_map-append name_line cycles more

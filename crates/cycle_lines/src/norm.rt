@@ -6,14 +6,11 @@ ghost use Rattle.cycle_lines.specs.Normed.{name_line, Norms, WritesLast, last_li
 use crate::errors::{LinesError, NormError};
 use crate::reader::{Line, LineReader};
 use arrayvec::ArrayString;
-use cycle_names::{MAX_NAME, name_and_words};
+use cycle_names::{MAX_NAME, MAX_NAME_LINE, name_and_words};
 use diy_io::{Failed, Page, Sink, Source};
 use edge_algebra::Cycle;
 use edge_lists::EdgeList;
 use relax_edges::ArchName;
-
-/// The most bytes of the line of a cycle: its name, a colon and a blank, its edges and a line feed.
-const MAX_NAME_LINE: usize = 2 * MAX_NAME + 3;
 
 /// Reads lines of cycles of an architecture, and writes for each cycle the line of its name and its
 /// edges, in order. These lines are gathered on a page, and each is at the sink before more of the
@@ -35,7 +32,6 @@ pub fn norm_lines<I: Source, O: Sink>(
 {
     let mut reader = LineReader::new();
     let mut page = Page::new();
-    let mut name: ArrayString<MAX_NAME> = ArrayString::new();
     let mut words: ArrayString<MAX_NAME> = ArrayString::new();
     let mut line: ArrayString<MAX_NAME_LINE> = ArrayString::new();
     let mut edges = EdgeList::new();
@@ -45,7 +41,7 @@ pub fn norm_lines<I: Source, O: Sink>(
         match reader.next_line(arch, &mut edges, &mut cycle) {
             Line::Read => match &cycle {
                 Some(cycle) => {
-                    match send_line(cycle, &mut name, &mut words, &mut line, &mut page, out) {
+                    match send_line(cycle, &mut words, &mut line, &mut page, out) {
                         Ok(()) => {}
                         Err(Failed) => return Err(NormError::OutFault),
                     }
@@ -108,18 +104,16 @@ fn write_last<O: Sink>(cycle: &Option<Cycle>, out: &mut O) -> Result<(), NormErr
 pub fn write_name_line<O: Sink>(cycle: &Cycle, out: &mut O) -> Result<(), Failed>
     ensures { Wrote (O.seen out.old) (O.seen out.new) (name_line cycle.now) result }
 {
-    let mut name: ArrayString<MAX_NAME> = ArrayString::new();
     let mut words: ArrayString<MAX_NAME> = ArrayString::new();
     let mut line: ArrayString<MAX_NAME_LINE> = ArrayString::new();
-    make_line(cycle, &mut name, &mut words, &mut line);
+    make_line(cycle, &mut words, &mut line);
     out.write_all(line.as_str().as_bytes())
 }
 
-/// Sends the line of a cycle by way of a page, as a whole. What `name`, `words` and `line` held
+/// Sends the line of a cycle by way of a page, as a whole. What `words` and `line` held
 /// doesn't count.
 fn send_line<O: Sink>(
     cycle: &Cycle,
-    name: &mut ArrayString<MAX_NAME>,
     words: &mut ArrayString<MAX_NAME>,
     line: &mut ArrayString<MAX_NAME_LINE>,
     page: &mut Page,
@@ -127,26 +121,20 @@ fn send_line<O: Sink>(
 ) -> Result<(), Failed>
     ensures { Sends (O.seen out.old) page.old (O.seen out.new) page.new (name_line cycle.now) result }
 {
-    make_line(cycle, name, words, line);
+    make_line(cycle, words, line);
     page.spill(out)?;
     page.put(line.as_str().as_bytes());
     Ok(())
 }
 
-/// Makes `line` the line of a cycle, `name` its name and `words` its edges. What they held doesn't
-/// count.
+/// Makes `line` the line of a cycle. What `words` and `line` held doesn't count.
 fn make_line(
     cycle: &Cycle,
-    name: &mut ArrayString<MAX_NAME>,
     words: &mut ArrayString<MAX_NAME>,
     line: &mut ArrayString<MAX_NAME_LINE>,
 )
     ensures { line.new.bytes ≡ name_line cycle.now }
 {
-    name_and_words(cycle, name, words);
-    line.clear();
-    line.push_str(name.as_str());
-    line.push_str(": ");
-    line.push_str(words.as_str());
+    name_and_words(cycle, words, line);
     line.push_str("\n");
 }

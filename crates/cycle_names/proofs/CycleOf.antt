@@ -22,6 +22,7 @@ use Rattle.edge_algebra.specs.declared.errors.CycleError.{CycleError}
 use Rattle.edge_algebra.specs.declared.errors.CycleError.TheVariants.{TooLong}
 use Rattle.edge_algebra.specs.Compose.{composed, unbroken}
 use Rattle.edge_algebra.specs.ComposingLaws.{composes_exactly}
+use Rattle.cycle_names.specs.declared.name.TheConstants.{MAX_NAME}
 use Rattle.cycle_names.specs.declared.family.Family.{Family}
 use Rattle.cycle_names.specs.declared.family.Family.TheVariants as families
 use Rattle.cycle_names.specs.Families.{family_word, family_edges, all_families}
@@ -34,7 +35,7 @@ use Rattle.cycle_names.specs.Laws.{are_of_arch, IsNamed, NamesNone}
 use Rattle.cycle_names.proofs.Members.{found_passes}
 use Rattle.cycle_names.proofs.Chosen.{named_rotates, least_named}
 use Rattle.cycle_names.proofs.ReadBack.{name_back}
-use Rattle.cycle_names.proofs.NameLaws.{named, arch_turned}
+use Rattle.cycle_names.proofs.NameLaws.{named, arch_turned, names_of_cycles}
 use Rattle.relax_edges.specs.ReadEdges.{before_edges}
 
 -- the name that a cycle of a family gets
@@ -51,15 +52,30 @@ family_of_found u f h = ap (λ found. unwrap_or found families.Other) (sym h)
 pub family_of_none : (u : List Edge) → found_family u ≡ None → families.Other ≡ family_of u
 family_of_none u h = ap (λ found. unwrap_or found families.Other) (sym h)
 
--- a cycle that is named at a place is named from the rotation from that place
-pub named_at_is : (u : List Edge) (f : Family) (place : ℕ) → IsNamedAt u f place → named_rotation u ≡ rotated place u
-named_at_is u f place h = h.named
-
 -- the name that any other cycle gets
 pub name_in_none : (u v : List Edge) → IsCycle u → found_family u ≡ None → IsLeast u v → name_of u ≡ codes "C+" ++ join_by word_of (codes "-") v
 unfolding name_of name_from
 name_in_none u v c h l =
     ap (λ o. name_from o (named_rotation u)) h ∙ ap (λ w. codes "C+" ++ join_by word_of (codes "-") w) (least_named u v c.some h l)
+
+-- the text that is made of the words of the normal form of such a cycle is its name
+pub own_name : (u edges : List Edge) (place least : ℕ) (start text new : List ℕ) → IsCycle u → found_family u ≡ None → IsLeast u (rotated least u) → edges ≡ u → place ≡ least → start ≡ [] → text ≡ start ++ codes "C+" →
+    new ≡ text ++ join_by word_of (codes "-") (rotated place edges) → new ≡ name_of u
+own_name u edges place least start text new c h l e p s t n = rw (n, t, s, p, e) (sym (name_in_none u (rotated least u) c h l))
+
+-- and the words of its normal form are those of the rotation that it is named from
+pub own_words : (u edges : List Edge) (place least : ℕ) (start new : List ℕ) → IsCycle u → found_family u ≡ None → IsLeast u (rotated least u) → edges ≡ u → place ≡ least → start ≡ [] →
+    new ≡ start ++ join_by word_of (codes " ") (rotated place edges) → new ≡ join_by word_of (codes " ") (named_rotation u)
+own_words u edges place least start new c h l e p s n = rw (n, s, p, e) (ap (join_by word_of (codes " ")) (sym (least_named u (rotated least u) c.some h l)))
+
+-- a name has few bytes
+pub name_short : (u : List Edge) (name : List ℕ) → IsCycle u → name ≡ name_of u → length name ≤ MAX_NAME
+name_short u name c e = omega (arith, ap length e, (names_of_cycles u c).short)
+
+-- a name, a colon and a blank, and the words of the rotation that the cycle is named from
+pub name_and_words_of : (u : List Edge) (name words between line : List ℕ) → name ≡ name_of u → between ≡ name ++ codes ": " → words ≡ join_by word_of (codes " ") (named_rotation u) → line ≡ between ++ words →
+    line ≡ (name_of u ++ codes ": ") ++ join_by word_of (codes " ") (named_rotation u)
+name_and_words_of u name words between line n b w l = rw (l, b, n, w) refl
 
 -- what is read of a name
 pub record ReadAs (u edges : List Edge) (E : Type 0) (result : Result (Unit {0}) E) : Type 0 where

@@ -4,12 +4,12 @@ use Rattle.std.proofs.Common.{refl, sym, ◌∙◌, ap, inl, inr, arith, get_or,
 use Rattle.std.proofs.lemmas.Bool.{cases_order}
 use Rattle.std.proofs.lemmas.List.{length-map, drop_more, take_more, length-take, take-append-drop}
 use Rattle.std.proofs.Math.Nat.{pow-le-pow_right, pow-zero}
+use Rattle.std.proofs.lemmas.Nat.{pow-add, mul-pow, one_shl, div-mul-add, mod-mul-add}
 use Rattle.relax_edges.specs.declared.edge.Edge.{Edge}
 use Rattle.cycle_laws.specs.Rotation.{rotated}
 use Rattle.cycle_laws.specs.CycleOrder.{ranks_below}
-use Rattle.cycle_names.specs.Fitting.{digits_number, slot_digit, slots_number, word_place, words_number}
+use Rattle.cycle_names.specs.Fitting.{digits_number}
 use Rattle.cycle_names.proofs.Below.{less, same, below_parts}
-use Rattle.cycle_names.proofs.Tables.{slot_digit_small, word_place_small}
 
 -- a digit and what comes after it, below the next digit
 digit_bound : (a b p x y : ℕ) → a < b → x < p → a * p + x < b * p + y
@@ -20,6 +20,37 @@ digit_bound a b p x y h l =
 -- one digit more: what comes before it counts once more by the base
 digit_push : (a p base q d n : ℕ) → n ≡ q * base + d → a * (p * base) + n ≡ (a * p + q) * base + d
 digit_push a p base q d n e = omega (arith, e, mul_assoc a p base, add-mul (a * p) q base)
+
+-- two neighbouring rotations: the last edge of the one is the first of the other
+pub record Turn (k : ℕ) (u : List Edge) : Type 0 where
+  pub one : Edge
+  pub others : List Edge
+  pub later : rotated (k + 1) u ≡ others ++ one ∷ []
+  pub sooner : rotated k u ≡ one ∷ others
+  pub long : length u ≡ suc (length others)
+
+-- each rotation and the one after it are so
+pub turn : (k : ℕ) (u : List Edge) → k < length u → Turn k u
+turn k [] h = absurd (omega (arith, h))
+turn k (e ∷ rest) h =
+    let u : List Edge = e ∷ rest in
+    let up_to = take_more u k e h in
+    let back = drop_more u k e h in
+    record {
+      one = get_or u k e;
+      others = drop (k + 1) u ++ take k u;
+      later = ap (λ w. drop (k + 1) u ++ w) up_to ∙ sym (append_assoc (drop (k + 1) u) (take k u) (get_or u k e ∷ []));
+      sooner = ap (λ w. w ++ take k u) back;
+      long = omega (arith, length-append (drop (k + 1) u) (take k u), length-append (take k u) (get_or u k e ∷ []), ap length up_to, ap length (take-append-drop (k + 1) u), length-append (take (k + 1) u) (drop (k + 1) u));
+    }
+
+turned_digits : (base n q d p w : ℕ) → n ≡ q * base + d → w ≡ p * base → n % base ≡ d → n + n % base * w ≡ (q + d * p) * base + d
+turned_digits base n q d p w e f m =
+    ap (λ x. n + x * w) m ∙ omega (arith, e, ap (λ x. d * x) f, mul_assoc d p base, add-mul q (d * p) base)
+
+-- a rotation has as many edges
+pub rotated_length : (k : ℕ) (u : List Edge) → length (rotated k u) ≡ length u
+rotated_length k u = omega (arith, length-append (drop k u) (take k u), length-append (take k u) (drop k u), ap length (take-append-drop k u))
 
 module _ (base : ℕ) (digit : Edge → ℕ) (below : (e : Edge) → digit e < base) where
   abbrev number : List Edge → ℕ
@@ -84,93 +115,48 @@ module _ (base : ℕ) (digit : Edge → ℕ) (below : (e : Edge) → digit e < b
             omega (arith, less, ap (λ w. digit x * w) (worth u), ap (λ w. digit y * w) q, ap (λ w. w * p) s)
       ]
 
--- the worth of the place before at most six digits
-pub worth_of_words : (n : ℕ) → n ≤ 6 → 256 ^ n ≤ 281474976710656
-worth_of_words n h = pow-le-pow_right (omega arith) h
+  -- the number of at most five edges
+  pub five_digits : (u : List Edge) (i n : ℕ) → 0 < base → i < 6 → n ≡ number (take i u) → n < base ^ 5
+  five_digits u i n some h e =
+      let few : length (take i u) ≤ 5 = omega (arith, h, length-take i u) in
+      let worth : base ^ length (take i u) ≤ base ^ 5 = pow-le-pow_right some few in
+      let below : number (take i u) < base ^ length (take i u) = number_below (take i u) in
+      omega (arith, e, worth, below)
 
--- a number is below the worth of the place before its digits
-pub slots_below : (u : List Edge) → slots_number u < 8 ^ length u
-slots_below u = number_below 8 slot_digit slot_digit_small u
+  -- the number of the edges up to one more
+  pub number_more : (u : List Edge) (i n : ℕ) (d : Edge) → i < length u → n ≡ number (take i u) → n * base + digit (get_or u i d) ≡ number (take (i + 1) u)
+  number_more u i n d h e = ap (λ m. m * base + digit (get_or u i d)) e ∙ sym (ap number (take_more u i d h) ∙ number_push (take i u) (get_or u i d))
 
--- the same of the number of words
-pub words_below_worth : (u : List Edge) → words_number u < 256 ^ length u
-words_below_worth u = number_below 256 word_place word_place_small u
+  -- the number of a rotation is below the worth of the place before its digits
+  pub number_bound : (u : List Edge) (k n w : ℕ) → n ≡ number (rotated k u) → w ≡ base ^ length u → n < w
+  number_bound u k n w e f =
+      let b : number (rotated k u) < base ^ length (rotated k u) = number_below (rotated k u) in
+      omega (arith, e, f, b, ap (λ x. base ^ x) (rotated_length k u))
 
--- the numbers of at most five edges
-pub five_slots : (u : List Edge) (i n : ℕ) → i < 6 → n ≡ slots_number (take i u) → n < 32768
-five_slots u i n h e =
-    let few : length (take i u) ≤ 5 = omega (arith, h, length-take i u) in
-    let worth : 8 ^ length (take i u) ≤ 32768 = pow-le-pow_right (omega arith) few in
-    let below : slots_number (take i u) < 8 ^ length (take i u) = slots_below (take i u) in
-    omega (arith, e, worth, below)
+  -- the code's step from a rotation to the one before
+  pub number_turned : (k n w : ℕ) (u : List Edge) → k < length u → n ≡ number (rotated (k + 1) u) → w ≡ base ^ length u → (n + n % base * w) / base ≡ number (rotated k u)
+  number_turned k n w u h e f =
+      let t = turn k u h in
+      let p : ℕ = base ^ length t.others in
+      let is : n ≡ number t.others * base + digit t.one = e ∙ ap number t.later ∙ number_push t.others t.one in
+      let rest : n % base ≡ digit t.one = ap (λ x. x % base) is ∙ mod-mul-add (number t.others) base (digit t.one) (below t.one) in
+      let by : w ≡ p * base = f ∙ ap (λ x. base ^ x) t.long ∙ pow-suc base (length t.others) in
+      ap (λ x. x / base) (turned_digits base n (number t.others) (digit t.one) p w is by rest)
+      ∙ div-mul-add (number t.others + digit t.one * p) base (digit t.one) (below t.one)
+      ∙ omega (arith, ap (λ x. digit t.one * x) (worth t.others))
+      ∙ sym (ap number t.sooner)
 
--- the same of the number of words
-pub five_words : (u : List Edge) (i n : ℕ) → i < 6 → n ≡ words_number (take i u) → n < 1099511627776
-five_words u i n h e =
-    let few : length (take i u) ≤ 5 = omega (arith, h, length-take i u) in
-    let worth : 256 ^ length (take i u) ≤ 1099511627776 = pow-le-pow_right (omega arith) few in
-    let below : words_number (take i u) < 256 ^ length (take i u) = words_below_worth (take i u) in
-    omega (arith, e, worth, below)
+square : (a n : ℕ) → a ^ (n + n) ≡ (a * a) ^ n
+square a n = pow-add a n n ∙ sym (mul-pow a a n)
 
--- what the numbers are of the edges up to one more
-pub slots_more : (u : List Edge) (i n : ℕ) (d : Edge) → i < length u → n ≡ slots_number (take i u) → n * 8 + slot_digit (get_or u i d) ≡ slots_number (take (i + 1) u)
-slots_more u i n d h e =
-    ap (λ m. m * 8 + slot_digit (get_or u i d)) e ∙ sym (ap slots_number (take_more u i d h) ∙ number_push 8 slot_digit slot_digit_small (take i u) (get_or u i d))
-
--- the same of the number of words
-pub words_more : (u : List Edge) (i n : ℕ) (d : Edge) → i < length u → n ≡ words_number (take i u) → n * 256 + word_place (get_or u i d) ≡ words_number (take (i + 1) u)
-words_more u i n d h e =
-    ap (λ m. m * 256 + word_place (get_or u i d)) e ∙ sym (ap words_number (take_more u i d h) ∙ number_push 256 word_place word_place_small (take i u) (get_or u i d))
-
--- two neighbouring rotations: the last edge of the one is the first of the other
-pub record Turn (k : ℕ) (u : List Edge) : Type 0 where
-  pub one : Edge
-  pub others : List Edge
-  pub later : rotated (k + 1) u ≡ others ++ one ∷ []
-  pub sooner : rotated k u ≡ one ∷ others
-  pub long : length u ≡ suc (length others)
-
--- each rotation and the one after it are so
-pub turn : (k : ℕ) (u : List Edge) → k < length u → Turn k u
-turn k [] h = absurd (omega (arith, h))
-turn k (e ∷ rest) h =
-    let u : List Edge = e ∷ rest in
-    let up_to = take_more u k e h in
-    let back = drop_more u k e h in
-    record {
-      one = get_or u k e;
-      others = drop (k + 1) u ++ take k u;
-      later = ap (λ w. drop (k + 1) u ++ w) up_to ∙ sym (append_assoc (drop (k + 1) u) (take k u) (get_or u k e ∷ []));
-      sooner = ap (λ w. w ++ take k u) back;
-      long = omega (arith, length-append (drop (k + 1) u) (take k u), length-append (take k u) (get_or u k e ∷ []), ap length up_to, ap length (take-append-drop (k + 1) u), length-append (take (k + 1) u) (drop (k + 1) u));
-    }
-
-turned_digits : (base n q d p w : ℕ) → n ≡ q * base + d → w ≡ p * base → n % base ≡ d → n + n % base * w ≡ (q + d * p) * base + d
-turned_digits base n q d p w e f m =
-    ap (λ x. n + x * w) m ∙ omega (arith, e, ap (λ x. d * x) f, mul_assoc d p base, add-mul q (d * p) base)
-
--- the code's step from a rotation to the one before
-pub slots_turned : (k n w : ℕ) (u : List Edge) → k < length u → n ≡ slots_number (rotated (k + 1) u) → w ≡ 8 ^ length u → (n + n % 8 * w) / 8 ≡ slots_number (rotated k u)
-slots_turned k n w u h e f =
-    let t = turn k u h in
-    let p : ℕ = 8 ^ length t.others in
-    let small = slot_digit_small t.one in
-    let is : n ≡ slots_number t.others * 8 + slot_digit t.one = e ∙ ap slots_number t.later ∙ number_push 8 slot_digit slot_digit_small t.others t.one in
-    let rest : n % 8 ≡ slot_digit t.one = omega (arith, is, small) in
-    let by : w ≡ p * 8 = f ∙ ap (λ x. 8 ^ x) t.long ∙ pow-suc 8 (length t.others) in
-    let whole = turned_digits 8 n (slots_number t.others) (slot_digit t.one) p w is by rest in
-    let value : (n + n % 8 * w) / 8 ≡ slots_number t.others + slot_digit t.one * p = ap (λ x. x / 8) whole ∙ omega (arith, small) in
-    value ∙ omega (arith, ap (λ x. slot_digit t.one * 8 ^ x) (length-map t.others slot_digit)) ∙ sym (ap slots_number t.sooner)
+-- the worth of the place before at most six digits, as a shift
+pub worth_of_slots : (n : ℕ) → n ≤ 6 → (1 * 2 ^ (3 * n)) % 2 ^ 32 ≡ 8 ^ n
+worth_of_slots n h =
+    let parts : 3 * n ≡ n + n + n = omega arith in
+    one_shl (3 * n) 32 (omega (arith, h)) ∙ ap (λ k. 2 ^ k) parts ∙ pow-add 2 (n + n) n ∙ ap (λ x. x * 2 ^ n) (square 2 n) ∙ sym (mul-pow 4 2 n)
 
 -- the same of the number of words
-pub words_turned : (k n w : ℕ) (u : List Edge) → k < length u → n ≡ words_number (rotated (k + 1) u) → w ≡ 256 ^ length u → (n + n % 256 * w) / 256 ≡ words_number (rotated k u)
-words_turned k n w u h e f =
-    let t = turn k u h in
-    let p : ℕ = 256 ^ length t.others in
-    let small = word_place_small t.one in
-    let is : n ≡ words_number t.others * 256 + word_place t.one = e ∙ ap words_number t.later ∙ number_push 256 word_place word_place_small t.others t.one in
-    let rest : n % 256 ≡ word_place t.one = omega (arith, is, small) in
-    let by : w ≡ p * 256 = f ∙ ap (λ x. 256 ^ x) t.long ∙ pow-suc 256 (length t.others) in
-    let whole = turned_digits 256 n (words_number t.others) (word_place t.one) p w is by rest in
-    let value : (n + n % 256 * w) / 256 ≡ words_number t.others + word_place t.one * p = ap (λ x. x / 256) whole ∙ omega (arith, small) in
-    value ∙ omega (arith, ap (λ x. word_place t.one * 256 ^ x) (length-map t.others word_place)) ∙ sym (ap words_number t.sooner)
+pub worth_of_words : (n : ℕ) → n ≤ 6 → (1 * 2 ^ (8 * n)) % 2 ^ 64 ≡ 256 ^ n
+worth_of_words n h =
+    let parts : 8 * n ≡ ((n + n) + (n + n)) + ((n + n) + (n + n)) = omega arith in
+    one_shl (8 * n) 64 (omega (arith, h)) ∙ ap (λ k. 2 ^ k) parts ∙ square 2 ((n + n) + (n + n)) ∙ square 4 (n + n) ∙ square 16 n

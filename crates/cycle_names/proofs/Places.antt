@@ -1,9 +1,13 @@
 -- The places from which rotations fit, as the code finds them, and the rotation that it names a cycle from.
 use Rattle.std.specs.Prelude.{◌≡◌, ◌<◌, ◌≤◌, ◌+◌, ◌^◌, ◌&&◌, ◌==◌, ℕ, true, false, nat_lt, sum, Option, Some, None, MatchOption, List, [], ◌∷◌, ◌++◌, length, map, take, drop}
-use Rattle.std.proofs.Common.{refl, sym, ◌∙◌, ap, arith, get_or, length-append}
+use Rattle.std.proofs.Common.{refl, sym, ◌∙◌, ap, arith, get_or}
 use Rattle.std.proofs.lemmas.Bool.{and_parts, eqb-true, eq-eqb, ltb-true, lt-ltb}
 use Rattle.std.proofs.lemmas.List.{length-map, take-append-drop, take_more}
 use Rattle.std.proofs.lemmas.List.Sums.{sum_by-append, sum_by-cons}
+use Rattle.std.proofs.Math.Bool.{and_comm}
+use Rattle.std.proofs.lemmas.List.Folds.{list_all-append, list_all_at}
+use Rattle.std.proofs.Math.Nat.{pow-le-pow_right}
+use Rattle.std.specs.List.{list_all}
 use Rattle.std.proofs.Math.Bool.{and-true}
 use Rattle.std.proofs.lemmas.Option.{same_Some}
 use Rattle.list_laws.proofs.Cases.{by_test, by_less}
@@ -18,10 +22,11 @@ use Rattle.cycle_names.specs.Rotations.{is_plain_outside, rotations, fits_family
 use Rattle.cycle_names.specs.Fitting.{edge_count, edges_counted, family_of_counts, digits_number, slot_digit, slots_number, word_place, words_number, joins_at, JoinsNone, JoinsLeast, IsNamedAt}
 use Rattle.cycle_names.proofs.Members.{find_none, find_only, filter_among, filter_passes, filter_member, member_upto, upto_member, map_rotated}
 use Rattle.cycle_names.proofs.Plain.{plain_rotated}
-use Rattle.cycle_names.proofs.Tables.{edge_counts, slot_digit_small, word_place_small, joins_by_digits, digits_join}
+use Rattle.cycle_names.proofs.Tables.{edge_counts, no_digit, slot_digit_small, word_place_small, joins_by_digits, digits_join}
+use Rattle.cycle_names.proofs.Marks.{is_either}
 use Rattle.cycle_names.proofs.Outlines.{plain_of_fits}
-use Rattle.cycle_names.proofs.Numbers.{number_same, number_order, slots_below, words_below_worth, worth_of_words}
-use Rattle.cycle_names.proofs.Families.{Fitting, fitting, family_found, is_of_fitting, listed, never_other, counts_differ}
+use Rattle.cycle_names.proofs.Numbers.{rotated_length, number_same, number_order, number_below}
+use Rattle.cycle_names.proofs.Families.{Fitting, fitting, fits_either, family_found, is_of_fitting, listed, never_other, counts_differ}
 use Rattle.cycle_names.proofs.Chosen.{first_by_words, named_in_family}
 
 -- of a cycle that is plain between external edges, a rotation fits where it joins the same
@@ -72,6 +77,21 @@ no_family : (u : List Edge) → ((f : Family) → is_of_family u f ≡ true → 
 unfolding found_family
 no_family u h = find_none (is_of_family u) all_families (λ f m t. h f t)
 
+-- all edges of a cycle of a family are links or external
+all_either : (u : List Edge) (f : Family) → is_of_family u f ≡ true → list_all is_either u ≡ true
+all_either u f h =
+    let w = fitting u f h in
+    ap (list_all is_either) (sym (take-append-drop w.place u))
+    ∙ list_all-append is_either (take w.place u) (drop w.place u)
+    ∙ and_comm (list_all is_either (take w.place u)) (list_all is_either (drop w.place u))
+    ∙ sym (list_all-append is_either (drop w.place u) (take w.place u))
+    ∙ fits_either f (rotated w.place u) w.fit
+
+-- a cycle with an edge that is neither is of none
+pub none_beside : (u : List Edge) (i : ℕ) (d : Edge) → i < length u → slot_digit (get_or u i d) ≡ 0 → found_family u ≡ None
+none_beside u i d l h =
+    no_family u (λ f t. let z : true ≡ false = sym (all_either u f t) ∙ list_all_at is_either u i d l (no_digit (get_or u i d) h) in cc)
+
 -- where no family has as many, the cycle is of none
 pub unlikely : (u : List Edge) → family_of_counts (edges_counted u) ≡ None → found_family u ≡ None
 unlikely u h = no_family u (λ f t. let z : None ≡ Some f = sym h ∙ likely u f t in cc)
@@ -93,21 +113,6 @@ marked_outside u h =
     let w = fitting u g t in
     let z : true ≡ false = sym (plain_of_fits g (rotated w.place u) w.fit) ∙ plain_rotated w.place u ∙ h in
     cc)
-
-rotated_length : (k : ℕ) (u : List Edge) → length (rotated k u) ≡ length u
-rotated_length k u = omega (arith, length-append (drop k u) (take k u), length-append (take k u) (drop k u), ap length (take-append-drop k u))
-
--- the numbers of a rotation are below the worth of the place before their digits
-pub slots_bound : (u : List Edge) (k n w : ℕ) → n ≡ slots_number (rotated k u) → w ≡ 8 ^ length u → n < w
-slots_bound u k n w e f =
-    let b : slots_number (rotated k u) < 8 ^ length (rotated k u) = slots_below (rotated k u) in
-    omega (arith, e, f, b, ap (λ x. 8 ^ x) (rotated_length k u))
-
--- the same of the number of words
-pub words_bound : (u : List Edge) (k n w : ℕ) → n ≡ words_number (rotated k u) → w ≡ 256 ^ length u → n < w
-words_bound u k n w e f =
-    let b : words_number (rotated k u) < 256 ^ length (rotated k u) = words_below_worth (rotated k u) in
-    omega (arith, e, f, b, ap (λ x. 256 ^ x) (rotated_length k u))
 
 -- edges join only as many slots as there are edges
 pub other_length : (u : List Edge) (f : Family) (n : ℕ) → n ≡ length (family_edges f) → (n ≡ length u → ⊥) → JoinsNone u f
@@ -175,8 +180,9 @@ best_answer u f words None few h = λ k below.
     by_test (joins_at u f k)
     (λ t.
     let most : words ≤ words_number (rotated k u) = h.least k (omega arith) below t in
-    let small : words_number (rotated k u) < 256 ^ length (rotated k u) = words_below_worth (rotated k u) in
-    let worth : 256 ^ length (rotated k u) ≤ 281474976710656 = worth_of_words (length (rotated k u)) (omega (arith, few, rotated_length k u)) in
+    let small : words_number (rotated k u) < 256 ^ length (rotated k u) = number_below 256 word_place word_place_small (rotated k u) in
+    let six : length (rotated k u) ≤ 6 = omega (arith, few, rotated_length k u) in
+    let worth : 256 ^ length (rotated k u) ≤ 256 ^ 6 = pow-le-pow_right (omega arith) six in
     absurd (omega (arith, most, small, worth, h.kept)))
     (λ e. e)
 best_answer u f words (Some place) few h = record {

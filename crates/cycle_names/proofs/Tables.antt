@@ -113,6 +113,14 @@ edge_counts e = eqb-true _ _ (each_edge (λ e. edge_count (edge_of_slot e) == ed
     all : list_all (λ e. edge_count (edge_of_slot e) == edge_count e) edges_in_order ≡ true
     all = refl
 
+-- an edge that has no digit is neither a link nor external
+pub no_digit : (e : Edge) → slot_digit e ≡ 0 → (is_diff e || is_external e) ≡ false
+unfolding if_so edges_in_order
+no_digit e h = not-true (is_diff e || is_external e) (so (slot_digit e == 0) (not (is_diff e || is_external e)) (each_edge (λ e. if_so (slot_digit e == 0) (not (is_diff e || is_external e))) all e) (eq-eqb _ _ h))
+  where
+    all : list_all (λ e. if_so (slot_digit e == 0) (not (is_diff e || is_external e))) edges_in_order ≡ true
+    all = refl
+
 -- a digit is below 8, and a place below 256
 pub slot_digit_small : (e : Edge) → slot_digit e < 8
 unfolding edges_in_order

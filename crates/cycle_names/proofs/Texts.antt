@@ -1,16 +1,18 @@
 -- What comes after a family's word in a name, by the links of a cycle.
-use Rattle.std.specs.Prelude.{◌≡◌, ◌==◌, ◌<◌, ◌&&◌, ◌||◌, ℕ, Bool, true, false, not, Some, None, List, [], ◌∷◌, ◌++◌, length, codes}
+use Rattle.std.specs.Prelude.{◌≡◌, ◌==◌, ◌<◌, ◌&&◌, ◌||◌, ℕ, Bool, true, false, not, Some, None, List, [], ◌∷◌, ◌++◌, length, drop, take, codes}
 use Rattle.std.specs.List.{find, list_all, flat_map, join_by}
 use Rattle.std.specs.Str.{bytes_eq}
 use Rattle.std.specs.Cmp.Lexicographic.{bytes_decides}
 use Rattle.std.proofs.Common.{refl, sym, ◌∙◌, ap, arith, append_assoc}
 use Rattle.std.proofs.lemmas.Bool.{and_parts, eqb-true, eq-eqb, cond-true, cond-false}
 use Rattle.std.proofs.lemmas.Grind.{flat_map-append}
+use Rattle.std.proofs.lemmas.List.{length-drop}
 use Rattle.list_laws.proofs.Cases.{by_test}
 use Rattle.relax_edges.specs.declared.kinds.Dir.TheVariants.{R}
 use Rattle.relax_edges.specs.declared.edge.Edge.{Edge}
 use Rattle.relax_edges.specs.EdgeTable.{is_diff}
 use Rattle.relax_edges.specs.WordParts.{word_of}
+use Rattle.cycle_laws.specs.Rotation.{rotated}
 use Rattle.cycle_names.specs.LinkWords.{link_word, link_words}
 use Rattle.cycle_names.specs.CycleNames.{after_plus, all_equal, plural, links_text}
 use Rattle.cycle_names.specs.Families.{pod}
@@ -162,9 +164,21 @@ text_at_each v e h t =
     (λ b. text_of_each v e h (not_plain v e h (λ t. let z : true ≡ false = sym t ∙ b in cc)) f)
 
 -- the words of two parts with a separator between
-pub joined_parts : (separator : List ℕ) (a b : List Edge) → 0 < length a →
+joined_parts : (separator : List ℕ) (a b : List Edge) → 0 < length a →
     join_by word_of separator (a ++ b) ≡ join_by word_of separator a ++ flat_map (λ edge. separator ++ word_of edge) b
 joined_parts separator [] b h = absurd (omega (arith, h))
 joined_parts separator (e ∷ a) b h =
     ap (λ t. word_of e ++ t) (flat_map-append (λ edge. separator ++ word_of edge) a b)
     ∙ sym (append_assoc (word_of e) (flat_map (λ edge. separator ++ word_of edge) a) (flat_map (λ edge. separator ++ word_of edge) b))
+
+-- the words of the two parts of a rotation, added one after the other, are those of the rotation
+pub joined_rotation : (separator : List ℕ) (u back prefix : List Edge) (place : ℕ) (old between new : List ℕ) → place < length u → back ≡ drop place u → prefix ≡ take place u →
+    between ≡ old ++ join_by word_of separator back → new ≡ between ++ flat_map (λ edge. separator ++ word_of edge) prefix → new ≡ old ++ join_by word_of separator (rotated place u)
+joined_rotation separator u back prefix place old between new l b p m n =
+    let some : 0 < length (drop place u) = omega (arith, l, length-drop place u) in
+    n
+    ∙ ap (λ t. t ++ flat_map (λ edge. separator ++ word_of edge) prefix) m
+    ∙ append_assoc old (join_by word_of separator back) (flat_map (λ edge. separator ++ word_of edge) prefix)
+    ∙ ap (λ v. old ++ (join_by word_of separator v ++ flat_map (λ edge. separator ++ word_of edge) prefix)) b
+    ∙ ap (λ v. old ++ (join_by word_of separator (drop place u) ++ flat_map (λ edge. separator ++ word_of edge) v)) p
+    ∙ ap (λ t. old ++ t) (sym (joined_parts separator (drop place u) (take place u) some))

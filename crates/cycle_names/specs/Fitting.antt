@@ -27,6 +27,10 @@ use Rattle.cycle_names.specs.declared.links.Links.{Links}
 use Rattle.cycle_names.specs.declared.links.Links.TheVariants.{Absent, Alike, Different}
 use Rattle.cycle_names.specs.declared.slot.Slot.{Slot}
 use Rattle.cycle_names.specs.declared.slot.Slot.TheVariants as slots
+use Rattle.cycle_names.specs.declared.slot.Digits.{Digits}
+use Rattle.cycle_names.specs.declared.slot.TheConstants.{LINK}
+use Rattle.cycle_names.specs.declared.fit.Fit.{Fit}
+use Rattle.cycle_names.specs.declared.fit.Outline.{Outline}
 use Rattle.cycle_names.specs.declared.words.Separator.{Separator}
 use Rattle.cycle_names.specs.declared.words.Separator.TheVariants.{Dash, Blank}
 use Rattle.cycle_names.specs.declared.family.Family.{Family}
@@ -66,10 +70,10 @@ kind_digit _ = 0
 abbrev pub slot_digit : Edge → ℕ
 slot_digit edge = kind_digit (kind_of edge)
 
--- what an edge with a digit adds to a count: too much for any family where it is neither a link nor external; else the digits of base 8
--- are the links and the external edges of each communication
+-- what an edge with a digit adds to a count, whose digits in base 8 are the links and the external edges of each communication: nothing
+-- where it is neither
 abbrev pub digit_count : ℕ → ℕ
-digit_count digit = cond (digit == 0) 4096 (cond (digit == 1) 1 (cond (digit == 2) 8 (cond (digit == 3) 64 512)))
+digit_count digit = cond (digit == 0) 0 (cond (digit == 1) 1 (cond (digit == 2) 8 (cond (digit == 3) 64 512)))
 
 -- what an edge adds to a count
 abbrev pub edge_count : Edge → ℕ
@@ -162,6 +166,14 @@ word_place edge = kind_word_place (kind_of edge) (letters_place (source_mark edg
 abbrev pub words_number : List Edge → ℕ
 words_number u = digits_number 256 (map word_place u)
 
+-- the digits of an edge with this digit, whose word has this place
+pub record AreDigits (digit place : ℕ) (digits : Digits) : Type 0 where
+  pub slot : digits.slot ≡ digit
+  pub small : digits.slot < 8
+  pub word : digits.word ≡ place
+  pub count : digits.count ≡ digit_count digit
+  pub few : digits.count ≤ LINK
+
 -- the rotation from a place joins what the family's cycle does, and no other that does has words that come before
 pub record JoinsLeast (u : List Edge) (family : Family) (place : ℕ) : Type 0 where
   pub within : place < length u
@@ -182,6 +194,20 @@ with_place Different place = Different
 abbrev pub links_after : Links → List Edge → Links
 links_after links [] = links
 links_after links (edge ∷ u) = links_after (with_place links (word_place edge)) u
+
+-- what is found out of a list of edges, and the places of the words of its links
+pub record IsOutlineOf (u : List Edge) (outline : Outline) (listed : List ℕ) : Type 0 where
+  pub count : outline.count ≡ edges_counted u
+  pub links : outline.links ≡ links_after Absent u
+  pub slots : outline.numbers.slots ≡ slots_number u
+  pub words : outline.numbers.words ≡ words_number u
+  pub places : listed ≡ map word_place u
+
+-- a cycle is of a family and named from a rotation that fits it, and what its links are like is told, with the places of their words
+pub record IsFitOf (u : List Edge) (fit : Fit) (listed : List ℕ) : Type 0 where
+  pub named : IsNamedAt u fit.family fit.place
+  pub links : fit.links ≡ links_after Absent u
+  pub places : listed ≡ map word_place u
 
 -- what the first link adds to a name, if there is one
 abbrev pub first_link_text : Option Edge → List ℕ

@@ -139,7 +139,8 @@ impl Family {
         }
     }
 
-    /// What the edges of the family's cycle join, a digit for each.
+    /// What the edges of the family's cycle join, as a number in base 8 with a digit for each: 1 to 3
+    /// for the external edges Rf, Fr and Ws, and 4 to 7 for the links RR, RW, WR and WW.
     pub(crate) fn outline(self) -> u32
         ensures { result ≡ slots_number (family_edges self) }
     {

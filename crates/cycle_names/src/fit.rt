@@ -1,14 +1,13 @@
-ghost use Rattle.std.specs.Prelude.{[], map, ◌≡◌, ◌==◌, ◌<◌, ◌+◌, ◌*◌, ◌/◌, ◌%◌, ◌^◌, ◌≤◌, ◌++◌, ◌∷◌, ◌||◌, ◌&&◌, not, nat_lt, length, None, MatchOption};
+ghost use Rattle.std.specs.Prelude.{[], ◌≡◌, ◌==◌, ◌<◌, ◌+◌, ◌-◌, ◌*◌, ◌/◌, ◌%◌, ◌^◌, ◌≤◌, ◌++◌, ◌∷◌, ◌||◌, ◌&&◌, not, nat_lt, length, None, MatchOption};
 ghost use Rattle.relax_edges.specs.declared.kinds.Mark.TheVariants.{Plain};
 ghost use Rattle.relax_edges.specs.EdgeTable.{target_mark, same_mark, is_external};
 ghost use Rattle.cycle_laws.specs.Composable.{IsCycle};
 ghost use Rattle.cycle_names.specs.Rotations.{all_unmarked, is_plain_outside, found_family};
-ghost use Rattle.cycle_names.specs.Fitting.{edges_counted, slots_number, word_place, words_number, with_place, links_after, family_of_counts, JoinsNone, JoinsLeast, IsNamedAt};
-ghost use Rattle.cycle_names.specs.declared.links.Links.TheVariants.{Absent};
+ghost use Rattle.cycle_names.specs.Fitting.{slots_number, words_number, with_place, family_of_counts, JoinsNone, JoinsLeast, IsOutlineOf, IsFitOf};
 
 use crate::family::{Family, LONGEST};
 use crate::links::Links;
-use crate::slot::{Digits, edge_digits};
+use crate::slot::{Digits, LINK, edge_digits};
 use arrayvec::ArrayVec;
 use relax_edges::{Edge, Mark};
 
@@ -52,12 +51,12 @@ struct Best {
 pub(crate) fn named_fit(edges: &[Edge], places: &mut Places) -> Option<Fit>
     requires cycle { IsCycle edges.now }
     requires empty { places.old.items ≡ [] }
-    ensures { MatchOption result (found_family edges.now ≡ None) (λ f. IsNamedAt edges.now f.family f.place × (f.links ≡ links_after Absent edges.now) × (places.new.items ≡ map word_place edges.now)) }
+    ensures { MatchOption result (found_family edges.now ≡ None) (λ fit. IsFitOf edges.now fit places.new.items) }
 {
     if edges.len() > LONGEST {
         return None;
     }
-    let outline = outline_of(edges, places);
+    let outline = outline_of(edges, places)?;
     let family = family_of_counts(outline.count)?;
     let place = named_place(edges, family, outline)?;
     if !is_plain_outside(edges) {
@@ -82,16 +81,13 @@ pub(crate) fn found_family(edges: &[Edge]) -> Option<Family>
     }
 }
 
-/// How many links and external edges of each communication a list of edges has, what the words of
-/// its links are like, and its numbers. The places of these words are put into `places`.
-fn outline_of(edges: &[Edge], places: &mut Places) -> Outline
+/// How many links and external edges of each communication a cycle has, what the words of its links
+/// are like, and its numbers, if it has no other edges: with others it is of no family. The places of
+/// these words are put into `places`.
+fn outline_of(edges: &[Edge], places: &mut Places) -> Option<Outline>
     requires few { length edges.now ≤ LONGEST }
     requires empty { places.old.items ≡ [] }
-    ensures places { places.new.items ≡ map word_place edges.now }
-    ensures count { result.count ≡ edges_counted edges.now }
-    ensures links { result.links ≡ links_after Absent edges.now }
-    ensures slots { result.numbers.slots ≡ slots_number edges.now }
-    ensures words { result.numbers.words ≡ words_number edges.now }
+    ensures { MatchOption result (found_family edges.now ≡ None) (λ outline. IsOutlineOf edges.now outline places.new.items) }
 {
     let mut outline = Outline {
         count: 0,
@@ -99,19 +95,19 @@ fn outline_of(edges: &[Edge], places: &mut Places) -> Outline
         numbers: Numbers { slots: 0, words: 0 },
     };
     for edge in edges {
-        let digits = edge_digits(*edge);
+        let digits = edge_digits(*edge)?;
         places.push(digits.word);
         outline = with_digits(outline, digits);
     }
-    outline
+    Some(outline)
 }
 
 /// The outline of a list of at most five edges and one more, which has these digits.
 fn with_digits(outline: Outline, digits: Digits) -> Outline
-    requires count { outline.count ≤ 20480 }
-    requires slots { outline.numbers.slots < 32768 }
-    requires words { outline.numbers.words < 1099511627776 }
-    requires few { digits.count ≤ 4096 }
+    requires count { outline.count ≤ (LONGEST - 1) * LINK }
+    requires slots { outline.numbers.slots < 8 ^ (LONGEST - 1) }
+    requires words { outline.numbers.words < 256 ^ (LONGEST - 1) }
+    requires few { digits.count ≤ LINK }
     requires small { digits.slot < 8 }
     ensures count { result.count ≡ outline.count + digits.count }
     ensures links { result.links ≡ with_place outline.links digits.word }
@@ -128,7 +124,8 @@ fn with_digits(outline: Outline, digits: Digits) -> Outline
     }
 }
 
-/// The family whose cycle has as many: the digits are its links, Ws, Fr and Rf.
+/// The family whose cycle has as many. The digits in base 8 are its links and its external edges Ws,
+/// Fr and Rf: `0o2020` is two links and two Fr.
 #[tactic(auto, unfolding(crate::specs::Fitting::family_of_counts))]
 fn family_of_counts(count: u16) -> Option<Family>
     ensures { result ≡ family_of_counts count }
@@ -188,32 +185,9 @@ fn worth_before(len: usize) -> Numbers
     ensures slots { result.slots ≡ 8 ^ len }
     ensures words { result.words ≡ 256 ^ len }
 {
-    match len {
-        0 => Numbers { slots: 1, words: 1 },
-        1 => Numbers {
-            slots: 0o10,
-            words: 0x100,
-        },
-        2 => Numbers {
-            slots: 0o100,
-            words: 0x1_0000,
-        },
-        3 => Numbers {
-            slots: 0o1000,
-            words: 0x100_0000,
-        },
-        4 => Numbers {
-            slots: 0o1_0000,
-            words: 0x1_0000_0000,
-        },
-        5 => Numbers {
-            slots: 0o10_0000,
-            words: 0x100_0000_0000,
-        },
-        _ => Numbers {
-            slots: 0o100_0000,
-            words: 0x1_0000_0000_0000,
-        },
+    Numbers {
+        slots: 1 << (3 * len),
+        words: 1 << (8 * len),
     }
 }
 
@@ -221,8 +195,8 @@ fn worth_before(len: usize) -> Numbers
 fn turned(numbers: Numbers, worth: Numbers) -> Numbers
     requires slots { numbers.slots < worth.slots }
     requires words { numbers.words < worth.words }
-    requires slots_worth { worth.slots ≤ 262144 }
-    requires words_worth { worth.words ≤ 281474976710656 }
+    requires slots_worth { worth.slots ≤ 8 ^ LONGEST }
+    requires words_worth { worth.words ≤ 256 ^ LONGEST }
     ensures slots { result.slots ≡ (numbers.slots + numbers.slots % 8 * worth.slots) / 8 }
     ensures words { result.words ≡ (numbers.words + numbers.words % 256 * worth.words) / 256 }
 {

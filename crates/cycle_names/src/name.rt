@@ -1,22 +1,23 @@
-ghost use Rattle.std.specs.Prelude.{◌≡◌, ◌<◌, ◌≤◌, List, [], None, codes, length, map};
+ghost use Rattle.std.specs.Prelude.{◌≡◌, ◌<◌, ◌≤◌, ◌++◌, List, [], None, codes, length};
 ghost use Rattle.std.specs.List.{join_by};
 ghost use Rattle.relax_edges.specs.WordParts.{word_of};
 ghost use Rattle.cycle_names.specs.Rotations.{family_of, found_family, named_rotation};
 ghost use Rattle.relax_edges.specs.declared.edge.Edge.{Edge};
-ghost use Rattle.cycle_laws.specs.Rotation.{rotated};
 ghost use Rattle.cycle_names.specs.CycleNames.{name_of};
-ghost use Rattle.cycle_names.specs.Fitting.{IsNamedAt, links_after, word_place};
-ghost use Rattle.cycle_names.specs.declared.links.Links.TheVariants.{Absent};
+ghost use Rattle.cycle_names.specs.Fitting.{IsFitOf};
 ghost use Rattle.cycle_names.specs.Laws.{IsName};
 
 use crate::family::{Family, LONGEST};
 use crate::fit::{Fit, found_family, named_fit};
-use crate::words::{Separator, push_links, push_rotation};
+use crate::words::{Separator, push_links, push_rotation, push_rotation_twice};
 use arrayvec::{ArrayString, ArrayVec};
 use edge_algebra::Cycle;
 
 /// The most bytes of a name.
 pub const MAX_NAME: usize = 800;
+
+/// The most bytes of the line of a cycle: its name, a colon and a blank, its edges and a line feed.
+pub const MAX_NAME_LINE: usize = 2 * MAX_NAME + 3;
 
 /// The family of a cycle: that of the table of which some rotation of the cycle has the external
 /// edges at their places and, for each `PodXY`, an edge from X to Y that leads to another location
@@ -63,53 +64,74 @@ pub fn name_and_family(cycle: &Cycle, out: &mut ArrayString<MAX_NAME>) -> Family
     }
 }
 
-/// Makes `name` the name of a cycle, and `words` the words of the edges of the rotation that it is
-/// named from, joined by blanks, whatever they held.
+/// Makes `line` the name of a cycle, a colon and a blank, and the words of the edges of the rotation
+/// that it is named from, joined by blanks, whatever it held. There is room for a line feed after that.
+/// `words` is room for the words: what it held doesn't count.
 pub fn name_and_words(
     cycle: &Cycle,
-    name: &mut ArrayString<MAX_NAME>,
     words: &mut ArrayString<MAX_NAME>,
+    line: &mut ArrayString<MAX_NAME_LINE>,
 )
-    ensures name { name.new.bytes ≡ name_of cycle.now }
-    ensures words { words.new.bytes ≡ join_by word_of (codes " ") (named_rotation cycle.now) }
+    ensures text { line.new.bytes ≡ name_of cycle.now ++ codes ": " ++ join_by word_of (codes " ") (named_rotation cycle.now) }
+    ensures room { length line.new.bytes < MAX_NAME_LINE }
 {
-    name.clear();
-    words.clear();
+    line.clear();
     let mut places = ArrayVec::new();
     match named_fit(cycle.edges(), &mut places) {
         Some(fit) => {
-            push_family_name(places.as_slice(), fit, name);
-            push_rotation(cycle.edges(), fit.place, Separator::Blank, words);
+            push_family_name(places.as_slice(), fit, line);
+            line.push_str(": ");
+            push_rotation(cycle.edges(), fit.place, Separator::Blank, line);
         }
         None => {
-            let place = push_own_name(cycle, name);
-            push_rotation(cycle.edges(), place, Separator::Blank, words);
+            words.clear();
+            push_own_words(cycle, line, words);
+            line.push_str(": ");
+            line.push_str(words.as_str());
         }
     }
 }
 
 /// Adds the name of a cycle of a family to an empty text, by the places of the words of its links.
-fn push_family_name(places: &[u8], fit: Fit, name: &mut ArrayString<MAX_NAME>)
+fn push_family_name<const N: usize>(places: &[u8], fit: Fit, name: &mut ArrayString<N>)
     requires few { length places.now ≤ LONGEST }
     requires empty { name.old.bytes ≡ [] }
+    requires room { MAX_NAME ≤ N }
     requires place { fit.place ≤ length places.now }
-    ensures { (u : List Edge) → map word_place u ≡ places.now → IsNamedAt u fit.family fit.place → fit.links ≡ links_after Absent u → name.new.bytes ≡ name_of u }
+    ensures { (u : List Edge) → IsFitOf u fit places.now → name.new.bytes ≡ name_of u }
 {
     name.push_str(fit.family.word());
     push_links(places, fit, name);
 }
 
-/// Adds the name of a cycle of no family to an empty text, and gives the place from which the
-/// rotation begins that it is named from.
-fn push_own_name(cycle: &Cycle, name: &mut ArrayString<MAX_NAME>) -> usize
+/// Adds the name of a cycle of no family to an empty text.
+fn push_own_name(cycle: &Cycle, name: &mut ArrayString<MAX_NAME>)
     requires empty { name.old.bytes ≡ [] }
     requires none { found_family cycle.now ≡ None }
-    ensures name { name.new.bytes ≡ name_of cycle.now }
-    ensures within { result < length cycle.now }
-    ensures named { named_rotation cycle.now ≡ rotated result cycle.now }
+    ensures { name.new.bytes ≡ name_of cycle.now }
 {
-    let place = usize::from(cycle.least_place());
     name.push_str("C+");
-    push_rotation(cycle.edges(), place, Separator::Dash, name);
-    place
+    push_rotation(
+        cycle.edges(),
+        usize::from(cycle.least_place()),
+        Separator::Dash,
+        name,
+    );
+}
+
+/// Adds the name of a cycle of no family to an empty text, and the words of the edges of the rotation
+/// that it is named from, joined by blanks, to another.
+fn push_own_words(
+    cycle: &Cycle,
+    name: &mut ArrayString<MAX_NAME_LINE>,
+    words: &mut ArrayString<MAX_NAME>,
+)
+    requires empty { name.old.bytes ≡ [] }
+    requires no_words { words.old.bytes ≡ [] }
+    requires none { found_family cycle.now ≡ None }
+    ensures name { name.new.bytes ≡ name_of cycle.now }
+    ensures words { words.new.bytes ≡ join_by word_of (codes " ") (named_rotation cycle.now) }
+{
+    name.push_str("C+");
+    push_rotation_twice(cycle.edges(), usize::from(cycle.least_place()), name, words);
 }

@@ -1,8 +1,11 @@
-ghost use Rattle.std.specs.Prelude.{◌≡◌, ◌<◌, ◌≤◌};
-ghost use Rattle.cycle_names.specs.Fitting.{slot_edge, com_digit, link_digit, kind_digit, slot_digit, digit_count, edge_count, kind_word_place, word_place};
+ghost use Rattle.std.specs.Prelude.{◌≡◌, ◌<◌, ◌≤◌, MatchOption};
+ghost use Rattle.cycle_names.specs.Fitting.{slot_edge, com_digit, link_digit, kind_digit, slot_digit, digit_count, kind_word_place, word_place, AreDigits};
 
 use crate::link::{dependency_place, fence_place, letters_place};
 use relax_edges::{Com, Dir, Edge, Kind, Reach, Sd};
+
+/// What a link adds to a count.
+pub(crate) const LINK: u16 = 0o1000;
 
 /// What an edge of a family's cycle joins.
 #[derive(Clone, Copy)]
@@ -35,7 +38,7 @@ impl Slot {
 fn link_digit(from: Dir, to: Dir) -> u8
     ensures value { result ≡ link_digit from to }
     ensures small { result < 8 }
-    ensures count { digit_count result ≡ 0o1000 }
+    ensures count { digit_count result ≡ LINK }
 {
     match (from, to) {
         (Dir::R, Dir::R) => 4,
@@ -47,11 +50,7 @@ fn link_digit(from: Dir, to: Dir) -> u8
 
 /// The digits of an external edge.
 fn com_digits(kind: Com) -> Digits
-    ensures slot { result.slot ≡ com_digit kind }
-    ensures small { result.slot < 8 }
-    ensures word { result.word ≡ 0 }
-    ensures count { result.count ≡ digit_count (com_digit kind) }
-    ensures few { result.count ≤ 0o10000 }
+    ensures { AreDigits (com_digit kind) 0 result }
 {
     match kind {
         Com::Rf => Digits {
@@ -74,80 +73,64 @@ fn com_digits(kind: Com) -> Digits
 
 /// The digits of a link from an access to another, whose word has this place.
 fn link_digits(from: Dir, to: Dir, word: u8) -> Digits
-    ensures slot { result.slot ≡ link_digit from to }
-    ensures small { result.slot < 8 }
-    ensures word { result.word ≡ word }
-    ensures count { result.count ≡ digit_count (link_digit from to) }
-    ensures few { result.count ≤ 0o10000 }
+    ensures { AreDigits (link_digit from to) word result }
 {
     Digits {
         slot: link_digit(from, to),
         word,
-        count: 0o1000,
+        count: LINK,
     }
 }
 
 /// The digits of an edge.
 #[derive(Clone, Copy)]
 pub(crate) struct Digits {
-    /// By what the edge joins, whatever its marks: 1 to 3 for the external edges, 4 to 7 for the
-    /// links, and 0 for all others.
+    /// By what the edge joins, whatever its marks: 1 to 3 for the external edges Rf, Fr and Ws, and 4 to
+    /// 7 for the links RR, RW, WR and WW.
     pub(crate) slot: u8,
-    /// The place of a link's word among the words of links, in byte order, and 0 for an edge that
-    /// is no link.
+    /// The place of a link's word among the words of links, in byte order, and 0 for an external edge.
     pub(crate) word: u8,
-    /// What the edge adds to a count, whose digits of base 8 are the links and the external edges of
-    /// each communication: too much for any family where it is neither.
+    /// What the edge adds to a count, whose digits in base 8 are the links and the external edges Ws, Fr
+    /// and Rf.
     pub(crate) count: u16,
 }
 
-/// The digits of an edge.
-pub(crate) fn edge_digits(edge: Edge) -> Digits
-    ensures slot { result.slot ≡ slot_digit edge }
-    ensures small { result.slot < 8 }
-    ensures word { result.word ≡ word_place edge }
-    ensures count { result.count ≡ edge_count edge }
-    ensures few { result.count ≤ 0o10000 }
+/// The digits of an edge, if it is a link or external: a cycle of a family has no other.
+pub(crate) fn edge_digits(edge: Edge) -> Option<Digits>
+    ensures { MatchOption result (slot_digit edge ≡ 0) (λ digits. AreDigits (slot_digit edge) (word_place edge) digits) }
 {
     let letters = letters_place(edge.source_mark(), edge.target_mark());
     kind_digits(edge.kind(), letters)
 }
 
-/// The digits of an edge of a kind, whose marks have the letters of this place.
-fn kind_digits(kind: Kind, letters: u8) -> Digits
+/// The digits of an edge of a kind, whose marks have the letters of this place, if it is a link or
+/// external.
+fn kind_digits(kind: Kind, letters: u8) -> Option<Digits>
     requires { letters ≤ 8 }
-    ensures slot { result.slot ≡ kind_digit kind }
-    ensures small { result.slot < 8 }
-    ensures word { result.word ≡ kind_word_place kind letters }
-    ensures count { result.count ≡ digit_count (kind_digit kind) }
-    ensures few { result.count ≤ 0o10000 }
+    ensures { MatchOption result (kind_digit kind ≡ 0) (λ digits. AreDigits (kind_digit kind) (kind_word_place kind letters) digits) }
 {
     match kind {
         Kind::Com {
             com,
             reach: Reach::External,
-        } => com_digits(com),
+        } => Some(com_digits(com)),
         Kind::Po {
             sd: Sd::Diff,
             from,
             to,
-        } => link_digits(from, to, 126 + letters),
+        } => Some(link_digits(from, to, 126 + letters)),
         Kind::Fenced {
             fence,
             sd: Sd::Diff,
             from,
             to,
-        } => link_digits(from, to, fence_place(fence) + letters),
+        } => Some(link_digits(from, to, fence_place(fence) + letters)),
         Kind::Dep {
             dep,
             sd: Sd::Diff,
             to,
-        } => link_digits(Dir::R, to, dependency_place(dep, letters)),
-        Kind::Data { sd: Sd::Diff } => link_digits(Dir::R, Dir::W, 45 + letters),
-        _ => Digits {
-            slot: 0,
-            word: 0,
-            count: 0o10000,
-        },
+        } => Some(link_digits(Dir::R, to, dependency_place(dep, letters))),
+        Kind::Data { sd: Sd::Diff } => Some(link_digits(Dir::R, Dir::W, 45 + letters)),
+        _ => None,
     }
 }

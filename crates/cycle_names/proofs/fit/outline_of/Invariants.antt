@@ -10,7 +10,7 @@ invariant-loop-edge l = record {
   places : l.places.items ≡ map word_place (take l.edge-index l.edges);
   count : l.outline.count ≡ edges_counted (take l.edge-index l.edges);
   links : links_after l.outline.links (drop l.edge-index l.edges) ≡ links_after Absent l.edges;
-  small : l.outline.count ≤ 4096 * l.edge-index;
+  small : l.outline.count ≤ 512 * l.edge-index;
   slots : l.outline.numbers.slots ≡ slots_number (take l.edge-index l.edges);
   words : l.outline.numbers.words ≡ words_number (take l.edge-index l.edges);
 }

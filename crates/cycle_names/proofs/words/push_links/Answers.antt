@@ -9,26 +9,26 @@ use Rattle.cycle_names.proofs.LinkTexts.{texts_at_places}
 use Rattle.cycle_names.proofs.words.push_links.Goals as goal
 
 pub returns-in-Absent : goal.returns-in-Absent
-returns-in-Absent c = λ u is links.
-    sym (ap (λ t. c.args.name.now.bytes ++ t) (text_absent u c.args.fit.place (sym links ∙ c.in-Absent.is)) ∙ append-nil c.args.name.now.bytes)
+returns-in-Absent g c = λ u fits.
+    sym (ap (λ t. c.args.name.now.bytes ++ t) (text_absent u c.args.fit.place (sym fits.links ∙ c.in-Absent.is)) ∙ append-nil c.args.name.now.bytes)
 
 pub returns-then-place-ne-PLAIN : goal.returns-then-place-ne-PLAIN
-returns-then-place-ne-PLAIN c = λ u is links.
+returns-then-place-ne-PLAIN g c = λ u fits.
     c.push_str-then-place-ne-PLAIN.ensures.bytes ∙ ap (λ t. t ++ codes "s") (c.push_str.ensures.bytes ∙ ap (λ t. c.args.name.now.bytes ++ t) c.place_text.ensures.text)
     ∙ append_assoc c.args.name.now.bytes (place_text c.in-Alike.place) (codes "s")
-    ∙ ap (λ t. c.args.name.now.bytes ++ t) (sym (text_alike u c.args.fit.place c.in-Alike.place (sym links ∙ c.in-Alike.is) c.if-place-ne-PLAIN.true))
+    ∙ ap (λ t. c.args.name.now.bytes ++ t) (sym (text_alike u c.args.fit.place c.in-Alike.place (sym fits.links ∙ c.in-Alike.is) c.if-place-ne-PLAIN.true))
 
 pub returns-else-place-ne-PLAIN : goal.returns-else-place-ne-PLAIN
-returns-else-place-ne-PLAIN c = λ u is links.
-    sym (ap (λ t. c.args.name.now.bytes ++ t) (text_plain u c.args.fit.place c.in-Alike.place (sym links ∙ c.in-Alike.is) c.if-place-ne-PLAIN.false) ∙ append-nil c.args.name.now.bytes)
+returns-else-place-ne-PLAIN g c = λ u fits.
+    sym (ap (λ t. c.args.name.now.bytes ++ t) (text_plain u c.args.fit.place c.in-Alike.place (sym fits.links ∙ c.in-Alike.is) c.if-place-ne-PLAIN.false) ∙ append-nil c.args.name.now.bytes)
 
 pub returns-in-Different : goal.returns-in-Different
-returns-in-Different c = λ u is links.
+returns-in-Different g c = λ u fits.
     c.push_each-in-Different.ensures.text
     ∙ ap (λ t. t ++ flat_map place_text c.split_at.result.0.now) c.push_each.ensures.text
     ∙ append_assoc c.args.name.now.bytes (flat_map place_text c.split_at.result.1.now) (flat_map place_text c.split_at.result.0.now)
-    ∙ ap (λ v. c.args.name.now.bytes ++ (flat_map place_text v ++ flat_map place_text c.split_at.result.0.now)) (c.split_at.ensures.back ∙ ap (drop c.args.fit.place) (sym is) ∙ drop-map word_place c.args.fit.place u)
-    ∙ ap (λ v. c.args.name.now.bytes ++ (flat_map place_text (map word_place (drop c.args.fit.place u)) ++ flat_map place_text v)) (c.split_at.ensures.front ∙ ap (take c.args.fit.place) (sym is) ∙ take-map word_place c.args.fit.place u)
+    ∙ ap (λ v. c.args.name.now.bytes ++ (flat_map place_text v ++ flat_map place_text c.split_at.result.0.now)) (c.split_at.ensures.back ∙ ap (drop c.args.fit.place) fits.places ∙ drop-map word_place c.args.fit.place u)
+    ∙ ap (λ v. c.args.name.now.bytes ++ (flat_map place_text (map word_place (drop c.args.fit.place u)) ++ flat_map place_text v)) (c.split_at.ensures.front ∙ ap (take c.args.fit.place) fits.places ∙ take-map word_place c.args.fit.place u)
     ∙ ap (λ t. c.args.name.now.bytes ++ (t ++ flat_map place_text (map word_place (take c.args.fit.place u)))) (texts_at_places (drop c.args.fit.place u))
     ∙ ap (λ t. c.args.name.now.bytes ++ (flat_map link_text (drop c.args.fit.place u) ++ t)) (texts_at_places (take c.args.fit.place u))
-    ∙ ap (λ t. c.args.name.now.bytes ++ t) (sym (text_different u c.args.fit.place (sym links ∙ c.in-Different.is)))
+    ∙ ap (λ t. c.args.name.now.bytes ++ t) (sym (text_different u c.args.fit.place (sym fits.links ∙ c.in-Different.is)))

@@ -6,8 +6,8 @@ use Rattle.cycle_names.specs.Fitting.{separator_text}
 use Rattle.cycle_names.proofs.words.push_separated.Given as goal
 
 abbrev pub invariant-loop-edge : goal.invariant-loop-edge
-invariant-loop-edge l = record {
-  pushed : l.name.bytes ++ flat_map (λ edge. separator_text l.fn.between ++ word_of edge) (drop l.edge-index l.edges)
-      ≡ l.fn.name.bytes ++ flat_map (λ edge. separator_text l.fn.between ++ word_of edge) l.edges;
-  room : length l.name.bytes ≤ length l.fn.name.bytes + 15 * l.edge-index;
+invariant-loop-edge g l = record {
+  pushed : l.words.bytes ++ flat_map (λ edge. separator_text l.fn.between ++ word_of edge) (drop l.edge-index l.edges)
+      ≡ l.fn.words.bytes ++ flat_map (λ edge. separator_text l.fn.between ++ word_of edge) l.edges;
+  room : length l.words.bytes ≤ length l.fn.words.bytes + 15 * l.edge-index;
 }
