@@ -43,8 +43,9 @@ fn repeat_after(many: u8, next: u16, rank: u16) -> Repeat
     }
 }
 
-/// The first edges of the cycles that a walk looks for, with the rank of each edge beside it: so an edge is asked
-/// for its rank once, where it is appended, however often prefixes are compared. Each edge joins the next one.
+/// The first edges of the cycles that a walk looks for. Each edge joins the next one. Beside each edge is its rank,
+/// so that an edge is asked for its rank once, where it is appended, however often prefixes are compared; and how the
+/// list up to that edge repeats its beginning, so that one comparison tells this of a longer list.
 ///
 /// Contracts see the edges.
 #[derive(Drop)]

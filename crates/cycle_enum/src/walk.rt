@@ -1,4 +1,4 @@
-ghost use Rattle.std.specs.Prelude.{◌≡◌, ◌<◌, ◌≤◌, [], Some, None, IfSome, IfNone, MatchOption, IsTrue, IsFalse, length, map, true};
+ghost use Rattle.std.specs.Prelude.{◌≡◌, ◌<◌, ◌≤◌, ◌⊎◌, [], Some, None, IfSome, IfNone, MatchOption, IsTrue, IsFalse, length, map, true};
 ghost use Rattle.walk_laws.specs.Asked.{KeptBelow, KeptWhole};
 ghost use Rattle.walk_laws.specs.Counting.{later};
 ghost use Rattle.walk_laws.specs.Listing.{IsAnswer, KeepsLimits};
@@ -7,7 +7,8 @@ ghost use Rattle.relax_edges.specs.JoinedEdges.{is_joined};
 ghost use Rattle.cycle_laws.specs.Composable.{IsCycle};
 ghost use Rattle.cycle_laws.specs.CycleOrder.{IsLeast, IsNormal};
 ghost use Rattle.walk_laws.specs.Search.{IsCut, IsFirst, LeadsNowhere, LongerThan, OfLength};
-ghost use Rattle.cycle_enum.specs.Walking.{KeepsList, KnowsOf, Lists, Walking};
+ghost use Rattle.cycle_enum.specs.Walking.{KeepsList, KnowsOf, Lists};
+ghost use Rattle.cycle_enum.specs.WalkEnds.{IsAtLast};
 
 use crate::alphabet::{Alphabet, closes};
 use crate::letter::Letter;
@@ -17,30 +18,53 @@ use edge_algebra::Cycle;
 use relax_edges::{Edge, MAX_EDGES, Relaxes};
 use std::marker::Model;
 
+/// What a walk goes through: its relaxations, its limits, its pruners and its test.
+///
+/// Contracts see it as a walk that has no last cycle.
+#[derive(Drop)]
+struct Space<K, J, P> {
+    relaxes: Alphabet,
+    limits: Limits,
+    keep: K,
+    fit: J,
+    take: P,
+}
+
+impl<K, J, P> Model for Space<K, J, P> {
+    ghost use Rattle.std.specs.Prelude.{◌≤◌, None};
+    ghost use Rattle.relax_edges.specs.declared.TheConstants.{MAX_EDGES};
+    ghost use Rattle.cycle_enum.specs.Walking.{Walking};
+
+    ghost Value = { Walking K J P };
+
+    ghost view = { λ s. record { relaxes = s.relaxes; limits = s.limits; keep = s.keep; fit = s.fit; take = s.take; last = None } };
+
+    ghost invariant = { λ s. s.limits.size ≤ MAX_EDGES };
+}
+
 /// A walk over the listed cycles, in order.
 ///
 /// Contracts see its relaxations, its limits, its pruners `keep` and `fit` and its test `take`, and
 /// the last cycle in normal form: the last answer or the one given to `after`.
 #[derive(Drop)]
 pub struct Walk<K, J, P> {
-    relaxes: Alphabet,
-    limits: Limits,
-    keep: K,
-    fit: J,
-    take: P,
+    space: Space<K, J, P>,
     last: Option<Cycle>,
+    /// The edges of the last cycle, from which the search goes on, or none.
+    list: Prefix,
+    /// Room for the cycle that the test is asked of; what it was before doesn't count.
+    room: Option<Cycle>,
 }
 
 impl<K, J, P> Model for Walk<K, J, P> {
-    ghost use Rattle.std.specs.Prelude.{◌≤◌};
-    ghost use Rattle.relax_edges.specs.declared.TheConstants.{MAX_EDGES};
     ghost use Rattle.cycle_enum.specs.Walking.{Walking};
+    ghost use Rattle.cycle_enum.specs.WalkEnds.{IsAtLast};
 
     ghost Value = { Walking K J P };
 
-    ghost view = { λ w. record { relaxes = w.relaxes; limits = w.limits; keep = w.keep; fit = w.fit; take = w.take; last = w.last } };
+    ghost view = { λ w. record w.space { last = w.last } };
 
-    ghost invariant = { λ w. w.limits.size ≤ MAX_EDGES };
+    ghost invariant = { λ w. IsAtLast w.list w.last };
 }
 
 impl<K: Fn(&[Edge]) -> bool, J: Fn(&[Edge]) -> bool, P: Fn(&Cycle) -> bool> Walk<K, J, P> {
@@ -61,12 +85,16 @@ impl<K: Fn(&[Edge]) -> bool, J: Fn(&[Edge]) -> bool, P: Fn(&Cycle) -> bool> Walk
         ensures { result ≡ record { relaxes = relaxes; limits = limits; keep = keep; fit = fit; take = take; last = None } }
     {
         Walk {
-            relaxes: Alphabet::of(relaxes),
-            limits,
-            keep,
-            fit,
-            take,
+            space: Space {
+                relaxes: Alphabet::of(relaxes),
+                limits,
+                keep,
+                fit,
+                take,
+            },
             last: None,
+            list: Prefix::new(),
+            room: None,
         }
     }
 
@@ -77,6 +105,7 @@ impl<K: Fn(&[Edge]) -> bool, J: Fn(&[Edge]) -> bool, P: Fn(&Cycle) -> bool> Walk
         ensures same { self.new ≡ record self.old { last = self.new.last } }
     {
         self.last = Some(cycle.least());
+        self.list = Prefix::new();
     }
 
     /// The next listed cycle: the least that comes after the last one, and none exactly where there
@@ -95,77 +124,120 @@ impl<K: Fn(&[Edge]) -> bool, J: Fn(&[Edge]) -> bool, P: Fn(&Cycle) -> bool> Walk
         ensures none { IfNone result (self.new ≡ self.old) }
         ensures falls { IfSome result (λ cycle. later self.old.limits.size (Some cycle) < later self.old.limits.size self.old.last) }
     {
-        let mut found = None;
-        self.find(&mut found);
-        if let Some(cycle) = &found {
-            self.last = Some(cycle.copied());
+        if !self.space.find(&self.last, &mut self.list, &mut self.room) {
+            self.list = Prefix::new();
+            return None;
         }
-        found
+        fill(&mut self.last, self.list.edges());
+        Some(Cycle::of(self.list.edges()))
     }
+}
 
-    /// Finds the least listed cycle that comes after the last one.
-    fn find(&self, found: &mut Option<Cycle>)
+/// Makes a cycle that of edges that are known to make one, where it is.
+fn fill(cycle: &mut Option<Cycle>, edges: &[Edge])
+    requires { IsCycle edges.now }
+    ensures { cycle.new ≡ Some edges.now }
+{
+    match cycle {
+        Some(cycle) => cycle.refill(edges),
+        None => *cycle = Some(Cycle::of(edges)),
+    }
+}
+
+impl<K: Fn(&[Edge]) -> bool, J: Fn(&[Edge]) -> bool, P: Fn(&Cycle) -> bool> Space<K, J, P> {
+    /// Whether a listed cycle comes after the last one: the list becomes the least then.
+    fn find(&self, last: &Option<Cycle>, list: &mut Prefix, room: &mut Option<Cycle>) -> bool
         requires knows { KnowsOf K.pre K.Fn.post J.pre J.Fn.post P.pre P.Fn.post self.now.keep self.now.fit self.now.take }
-        requires none { found.old ≡ None }
-        ensures { IsAnswer (Lists P.Fn.post self.now) self.now.last found.new }
+        requires at { IsAtLast list.old last.now }
+        ensures found { IsTrue result → IsAnswer (Lists P.Fn.post self.now) last.now (Some list.new) }
+        ensures none { IsFalse result → IsAnswer (Lists P.Fn.post self.now) last.now None }
     {
-        match &self.last {
-            None => self.longer(0, found),
+        match last {
+            None => self.longer(0, list, room),
             Some(last) => {
-                self.as_long(last, found);
-                if found.is_none() {
-                    let _edges = last.edges();
-                    self.longer(last.len(), found);
+                if self.as_long(last, list, room) {
+                    return true;
                 }
+                let _edges = last.edges();
+                self.longer(last.len(), list, room)
             }
         }
     }
 
-    /// Finds the first listed cycle of more than `len` edges.
-    fn longer(&self, len: u8, found: &mut Option<Cycle>)
+    /// Whether a listed cycle has more than `len` edges: the list becomes the first then.
+    fn longer(&self, len: u8, list: &mut Prefix, room: &mut Option<Cycle>) -> bool
         requires knows { KnowsOf K.pre K.Fn.post J.pre J.Fn.post P.pre P.Fn.post self.now.keep self.now.fit self.now.take }
         requires few { len ≤ MAX_EDGES }
-        requires none { found.old ≡ None }
-        ensures { IsAnswer (LongerThan len (Lists P.Fn.post self.now)) None found.new }
+        ensures found { IsTrue result → IsAnswer (LongerThan len (Lists P.Fn.post self.now)) None (Some list.new) }
+        ensures none { IsFalse result → IsAnswer (LongerThan len (Lists P.Fn.post self.now)) None None }
     {
         if len >= self.limits.size {
-            return;
+            return false;
         }
-        self.of_len(len + 1, found);
-        if found.is_none() {
-            self.longer(len + 1, found);
+        if self.of_len(len + 1, list, room) {
+            return true;
         }
+        self.longer(len + 1, list, room)
     }
 
-    /// Finds the first listed cycle of `len` edges.
-    fn of_len(&self, len: u8, found: &mut Option<Cycle>)
+    /// Whether a listed cycle has `len` edges: the list becomes the first then.
+    fn of_len(&self, len: u8, list: &mut Prefix, room: &mut Option<Cycle>) -> bool
         requires knows { KnowsOf K.pre K.Fn.post J.pre J.Fn.post P.pre P.Fn.post self.now.keep self.now.fit self.now.take }
         requires some { 0 < len }
         requires few { len ≤ MAX_EDGES }
-        requires none { found.old ≡ None }
-        ensures { IsAnswer (OfLength len (Lists P.Fn.post self.now)) None found.new }
+        ensures found { IsTrue result → IsAnswer (OfLength len (Lists P.Fn.post self.now)) None (Some list.new) }
+        ensures none { IsFalse result → IsAnswer (OfLength len (Lists P.Fn.post self.now)) None None }
     {
         if !self.limits.keeps(len) {
-            return;
+            return false;
         }
-        let mut list = Prefix::new();
-        self.relaxes.extend(&mut list);
-        self.search(&mut list, len, found);
+        *list = Prefix::new();
+        self.relaxes.extend(list);
+        self.search(list, len, room)
     }
 
-    /// Finds the first listed cycle of as many edges as the last one that follows it.
-    fn as_long(&self, last: &Cycle, found: &mut Option<Cycle>)
+    /// Whether a listed cycle of as many edges as the last one follows it: the list becomes the first then.
+    fn as_long(&self, last: &Cycle, list: &mut Prefix, room: &mut Option<Cycle>) -> bool
         requires knows { KnowsOf K.pre K.Fn.post J.pre J.Fn.post P.pre P.Fn.post self.now.keep self.now.fit self.now.take }
-        requires none { found.old ≡ None }
-        ensures { IsAnswer (OfLength (length last.now) (Lists P.Fn.post self.now)) (Some last.now) found.new }
+        requires at { (list.old ≡ []) ⊎ (list.old ≡ last.now) }
+        ensures found { IsTrue result → IsAnswer (OfLength (length last.now) (Lists P.Fn.post self.now)) (Some last.now) (Some list.new) }
+        ensures none { IsFalse result → IsAnswer (OfLength (length last.now) (Lists P.Fn.post self.now)) (Some last.now) None }
     {
         if !self.limits.keeps(last.len()) {
+            return false;
+        }
+        self.put_last(last, list);
+        self.relaxes.raise(list);
+        self.search(list, last.len(), room)
+    }
+
+    /// Puts the shortest prefix of the last cycle on which a pruner says no, else the cycle. The list may be at that
+    /// cycle already, so that it stays where no pruner says no.
+    fn put_last(&self, last: &Cycle, list: &mut Prefix)
+        requires knows { KnowsOf K.pre K.Fn.post J.pre J.Fn.post P.pre P.Fn.post self.now.keep self.now.fit self.now.take }
+        requires at { (list.old ≡ []) ⊎ (list.old ≡ last.now) }
+        ensures { IsCut (Lists P.Fn.post self.now) (KeepsList K.Fn.post J.Fn.post self.now) last.now list.new }
+    {
+        let edges = last.edges();
+        if !list.is_empty() && self.keeps_all(edges) {
             return;
         }
-        let mut list = Prefix::new();
-        self.put_first_refused(last.edges(), &mut list);
-        self.relaxes.raise(&mut list);
-        self.search(&mut list, last.len(), found);
+        *list = Prefix::new();
+        self.put_first_refused(edges, list);
+    }
+
+    /// Whether no pruner says no on a prefix of a list.
+    fn keeps_all(&self, edges: &[Edge]) -> bool
+        requires knows { KnowsOf K.pre K.Fn.post J.pre J.Fn.post P.pre P.Fn.post self.now.keep self.now.fit self.now.take }
+        requires few { length edges.now ≤ MAX_EDGES }
+        ensures { IsTrue result → KeptWhole (KeepsList K.Fn.post J.Fn.post self.now) edges.now }
+    {
+        for len in 1..=edges.len() {
+            if !self.is_kept(&edges[..len]) {
+                return false;
+            }
+        }
+        true
     }
 
     /// Puts the shortest prefix of a list on which a pruner says no, so that no listed cycle begins
@@ -185,15 +257,15 @@ impl<K: Fn(&[Edge]) -> bool, J: Fn(&[Edge]) -> bool, P: Fn(&Cycle) -> bool> Walk
         }
     }
 
-    /// Finds the first listed cycle of `len` edges from the list on.
-    fn search(&self, list: &mut Prefix, len: u8, found: &mut Option<Cycle>)
+    /// Whether a listed cycle of `len` edges comes from the list on: the list becomes the first then.
+    fn search(&self, list: &mut Prefix, len: u8, room: &mut Option<Cycle>) -> bool
         requires knows { KnowsOf K.pre K.Fn.post J.pre J.Fn.post P.pre P.Fn.post self.now.keep self.now.fit self.now.take }
         requires few { len ≤ MAX_EDGES }
         requires limits { KeepsLimits self.now.limits.size self.now.limits.exact len }
         requires within { length list.old ≤ len }
         requires kept { KeptBelow (KeepsList K.Fn.post J.Fn.post self.now) (length list.old) list.old }
-        requires none { found.old ≡ None }
-        ensures { IsFirst (OfLength len (Lists P.Fn.post self.now)) list.old found.new }
+        ensures found { IsTrue result → IsFirst (OfLength len (Lists P.Fn.post self.now)) list.old (Some list.new) }
+        ensures none { IsFalse result → IsFirst (OfLength len (Lists P.Fn.post self.now)) list.old None }
     {
         while !list.is_empty() {
             if list.len() < usize::from(len) {
@@ -203,12 +275,13 @@ impl<K: Fn(&[Edge]) -> bool, J: Fn(&[Edge]) -> bool, P: Fn(&Cycle) -> bool> Walk
                     self.relaxes.raise(list);
                 }
             } else {
-                if self.has_found(list, found) {
-                    return;
+                if self.has_found(list, room) {
+                    return true;
                 }
                 self.relaxes.raise(list);
             }
         }
+        false
     }
 
     /// Whether a listed cycle may begin with the list.
@@ -239,16 +312,14 @@ impl<K: Fn(&[Edge]) -> bool, J: Fn(&[Edge]) -> bool, P: Fn(&Cycle) -> bool> Walk
         (self.keep)(list) && (self.fit)(list)
     }
 
-    /// Whether the cycle of these edges is listed: it is found then.
-    fn has_found(&self, list: &Prefix, found: &mut Option<Cycle>) -> bool
+    /// Whether the list is a listed cycle.
+    fn has_found(&self, list: &Prefix, room: &mut Option<Cycle>) -> bool
         requires knows { KnowsOf K.pre K.Fn.post J.pre J.Fn.post P.pre P.Fn.post self.now.keep self.now.fit self.now.take }
         requires limits { KeepsLimits self.now.limits.size self.now.limits.exact (length list.now) }
         requires some { 0 < length list.now }
         requires few { length list.now ≤ MAX_EDGES }
         requires kept { KeptBelow (KeepsList K.Fn.post J.Fn.post self.now) (length list.now) list.now }
-        ensures found { IsTrue result → found.new ≡ Some list.now }
         ensures listed { IsTrue result → Lists P.Fn.post self.now list.now }
-        ensures same { IsFalse result → found.new ≡ found.old }
         ensures other { IsFalse result → Lists P.Fn.post self.now list.now → ⊥ }
     {
         if !closes(list.edges()) {
@@ -260,29 +331,24 @@ impl<K: Fn(&[Edge]) -> bool, J: Fn(&[Edge]) -> bool, P: Fn(&Cycle) -> bool> Walk
         if !list.is_normal() {
             return false;
         }
-        self.has_listed(list, found)
+        self.has_listed(list, room)
     }
 
-    /// Whether a cycle in normal form, by its edges, is listed, where the walk keeps them: it is found then. It is a function of its own in
-    /// the program too (`inline(never)`), so that room for a cycle is cleared only for lists that may be one.
-    #[inline(never)]
-    fn has_listed(&self, list: &Prefix, found: &mut Option<Cycle>) -> bool
+    /// Whether a cycle in normal form, by its edges, is listed, where the walk keeps them.
+    fn has_listed(&self, list: &Prefix, room: &mut Option<Cycle>) -> bool
         requires cycle { IsCycle list.now }
         requires knows { KnowsOf K.pre K.Fn.post J.pre J.Fn.post P.pre P.Fn.post self.now.keep self.now.fit self.now.take }
         requires limits { KeepsLimits self.now.limits.size self.now.limits.exact (length list.now) }
         requires normal { IsNormal list.now }
         requires kept { KeptWhole (KeepsList K.Fn.post J.Fn.post self.now) list.now }
-        ensures found { IsTrue result → found.new ≡ Some list.now }
         ensures listed { IsTrue result → Lists P.Fn.post self.now list.now }
-        ensures same { IsFalse result → found.new ≡ found.old }
         ensures other { IsFalse result → Lists P.Fn.post self.now list.now → ⊥ }
     {
-        let cycle = Cycle::of(list.edges());
-        if !self.is_listed(&cycle, list.ranks()) {
-            return false;
+        fill(room, list.edges());
+        match room {
+            Some(cycle) => self.is_listed(cycle, list.ranks()),
+            None => unreachable!(),
         }
-        *found = Some(cycle);
-        true
     }
 
     /// Whether a cycle, whose edges have these ranks, is listed, where it is in normal form and its number of edges keeps the limits.

@@ -1,12 +1,16 @@
--- With each answer the number `later` falls.
-use Rattle.std.proofs.Common.{◌≡◌, Some, rules}
+-- The list that is found is the next cycle, and with it the number `later` falls.
+use Rattle.std.proofs.Common.{refl}
 use Rattle.walk_laws.specs.Listing.{IsNext}
 use Rattle.walk_laws.proofs.Counts.{later_falls}
 use Rattle.cycle_enum.specs.Walking.{Lists}
 use Rattle.cycle_enum.proofs.walk.Walk.next.Goals as goal
 
-pub returns-in-Some-clause-falls : goal.returns-in-Some-clause-falls
-returns-in-Some-clause-falls g c =
-    let next : IsNext (Lists g.P.Fn.post c.args.self.now) c.args.self.now.last c.in-Some.cycle = search rules in
-    let found : c.find.new.found ≡ Some c.in-Some.cycle = search rules in
-    rw found (later_falls c.args.self.now.limits.size c.args.self.now.last c.in-Some.cycle next.after next.is.limits.few)
+pub returns-clause-next : goal.returns-clause-next
+returns-clause-next g c =
+    let next : IsNext (Lists g.P.Fn.post c.args.self.now) c.args.self.now.last c.find.new.list = rw (← c.self.view_is) (c.if-not-find.ensures.found refl) in
+    rw (c.of.ensures, c.edges-2.ensures.value) next
+
+pub returns-clause-falls : goal.returns-clause-falls
+returns-clause-falls g c =
+    let next : IsNext (Lists g.P.Fn.post c.args.self.now) c.args.self.now.last c.find.new.list = rw (← c.self.view_is) (c.if-not-find.ensures.found refl) in
+    rw (c.of.ensures, c.edges-2.ensures.value) (later_falls c.args.self.now.limits.size c.args.self.now.last c.find.new.list next.after next.is.limits.few)

@@ -1,7 +1,7 @@
 -- A cycle on which the test says no is not listed.
 use Rattle.std.proofs.Common.{true, false, rules}
 use Rattle.cycle_enum.specs.Walking.{Says}
-use Rattle.cycle_enum.proofs.walk.Walk.is_listed.Goals as goal
+use Rattle.cycle_enum.proofs.walk.Space.is_listed.Goals as goal
 
 pub returns-clause-other : goal.returns-clause-other
 returns-clause-other g c h l =

@@ -5,28 +5,22 @@ use Rattle.walk_laws.proofs.Counts.{raised_falls, extended_falls}
 use Rattle.walk_laws.proofs.Candidates.{raised_listed, extended_listed}
 use Rattle.walk_laws.proofs.Stepping.{search_at_first, search_at_raised, search_at_extended, search_at_past, search_at_found}
 use Rattle.cycle_enum.specs.Walking.{KeepsList, Lists}
-use Rattle.cycle_enum.proofs.walk.Walk.search.Goals as goal
+use Rattle.cycle_enum.proofs.walk.Space.search.Goals as goal
 
 pub loop-self-init : goal.loop-self-init
-loop-self-init g c = record {
-  search_at = search_at_first _ _ c.args.len c.args.list.now c.requires.within c.requires.kept;
-  none = c.requires.none;
-}
+loop-self-init g c = search_at_first _ _ c.args.len c.args.list.now c.requires.within c.requires.kept
 
 pub loop-self-smaller-else-leads_on : goal.loop-self-smaller-else-leads_on
 loop-self-smaller-else-leads_on g c =
     let some : 0 < length c.loop-self.list = search rules in
-    raised_falls _ c.args.len c.loop-self.list c.raise.new.list some c.loop-self.invariant.search_at.few c.raise.ensures
+    raised_falls _ c.args.len c.loop-self.list c.raise.new.list some c.loop-self.invariant.few c.raise.ensures
 
 pub loop-self-preserved-else-leads_on : goal.loop-self-preserved-else-leads_on
 loop-self-preserved-else-leads_on g c =
     let some : 0 < length c.loop-self.list = search rules in
     let none : LeadsNowhere (Lists g.P.Fn.post c.args.self.now) c.loop-self.list = c.if-leads_on.ensures.refused refl in
     let raised : IsRaised (IsListCandidate c.args.self.now.relaxes) c.loop-self.list c.raise.new.list = search rules in
-    record {
-      search_at = search_at_raised _ _ c.args.len c.args.list.now c.loop-self.list c.raise.new.list c.loop-self.invariant.search_at some none (raised_listed _ _ _ _ _ _ raised);
-      none = c.loop-self.invariant.none;
-    }
+    search_at_raised _ _ c.args.len c.args.list.now c.loop-self.list c.raise.new.list c.loop-self.invariant some none (raised_listed _ _ _ _ _ _ raised)
 
 pub loop-self-smaller-then-leads_on : goal.loop-self-smaller-then-leads_on
 loop-self-smaller-then-leads_on g c =
@@ -40,34 +34,26 @@ loop-self-preserved-then-leads_on g c =
     let less : length c.loop-self.list < c.args.len = search rules in
     let agreed : KeepsList g.K.Fn.post g.J.Fn.post c.args.self.now c.loop-self.list = c.if-leads_on.ensures.kept refl in
     let extended : IsExtended (IsListCandidate c.args.self.now.relaxes) c.loop-self.list c.extend.new.list = search rules in
-    record {
-      search_at = search_at_extended _ _ c.args.len c.args.list.now c.loop-self.list c.extend.new.list c.loop-self.invariant.search_at some less agreed (extended_listed _ _ _ _ _ _ extended);
-      none = c.loop-self.invariant.none;
-    }
+    search_at_extended _ _ c.args.len c.args.list.now c.loop-self.list c.extend.new.list c.loop-self.invariant some less agreed (extended_listed _ _ _ _ _ _ extended)
 
 pub has_found-requires-clause-kept : goal.has_found-requires-clause-kept
-has_found-requires-clause-kept g c = c.loop-self.invariant.search_at.kept
+has_found-requires-clause-kept g c = c.loop-self.invariant.kept
 
-pub returns-then-has_found : goal.returns-then-has_found
-returns-then-has_found g c =
+pub returns-then-has_found-clause-found : goal.returns-then-has_found-clause-found
+returns-then-has_found-clause-found g c _ =
     let some : 0 < length c.loop-self.list = search rules in
     let long : c.args.len ≤ length c.loop-self.list = search rules in
-    rw (c.if-has_found.ensures.found refl)
-    (search_at_found _ (KeepsList g.K.Fn.post g.J.Fn.post c.args.self.now) c.args.len c.args.list.now c.loop-self.list c.loop-self.list c.loop-self.invariant.search_at some long
-    refl (c.if-has_found.ensures.listed refl))
+    search_at_found _ (KeepsList g.K.Fn.post g.J.Fn.post c.args.self.now) c.args.len c.args.list.now c.loop-self.list c.loop-self.list c.loop-self.invariant some long
+    refl (c.if-has_found.ensures.listed refl)
 
 pub loop-self-smaller : goal.loop-self-smaller
 loop-self-smaller g c =
     let some : 0 < length c.loop-self.list = search rules in
-    raised_falls _ c.args.len c.loop-self.list c.raise-else-len-from.new.list some c.loop-self.invariant.search_at.few c.raise-else-len-from.ensures
+    raised_falls _ c.args.len c.loop-self.list c.raise-else-len-from.new.list some c.loop-self.invariant.few c.raise-else-len-from.ensures
 
 pub loop-self-preserved : goal.loop-self-preserved
 loop-self-preserved g c =
     let some : 0 < length c.loop-self.list = search rules in
     let long : c.args.len ≤ length c.loop-self.list = search rules in
     let raised : IsRaised (IsListCandidate c.args.self.now.relaxes) c.loop-self.list c.raise-else-len-from.new.list = search rules in
-    record {
-      search_at = search_at_past _ _ c.args.len c.args.list.now c.loop-self.list c.raise-else-len-from.new.list c.loop-self.invariant.search_at some long
-          (c.if-has_found.ensures.other refl) (raised_listed _ _ _ _ _ _ raised);
-      none = search rules;
-    }
+    search_at_past _ _ c.args.len c.args.list.now c.loop-self.list c.raise-else-len-from.new.list c.loop-self.invariant some long (c.if-has_found.ensures.other refl) (raised_listed _ _ _ _ _ _ raised)

@@ -5,7 +5,7 @@ use Rattle.walk_laws.specs.Search.{LeadsNowhere}
 use Rattle.walk_laws.proofs.Raising.{kept_more, cut_refused, cut_whole, one_further}
 use Rattle.cycle_enum.specs.Walking.{KeepsList, Lists}
 use Rattle.cycle_enum.proofs.Composing.{next_joined}
-use Rattle.cycle_enum.proofs.walk.Walk.put_first_refused.Goals as goal
+use Rattle.cycle_enum.proofs.walk.Space.put_first_refused.Goals as goal
 
 pub push-requires-clause-joined : goal.push-requires-clause-joined
 push-requires-clause-joined g c =

@@ -2,7 +2,7 @@
 use Rattle.std.proofs.Common.{◌≡◌, ◌++◌, drop}
 use Rattle.walk_laws.specs.Asked.{KeptWhole}
 use Rattle.cycle_enum.specs.Walking.{KeepsList}
-use Rattle.cycle_enum.proofs.walk.Walk.put_first_refused.Given as goal
+use Rattle.cycle_enum.proofs.walk.Space.put_first_refused.Given as goal
 
 abbrev pub invariant-loop-edge : goal.invariant-loop-edge
 invariant-loop-edge g l = record {

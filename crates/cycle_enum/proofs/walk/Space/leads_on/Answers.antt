@@ -3,7 +3,7 @@ use Rattle.std.proofs.Common.{rules, IsFalse}
 use Rattle.walk_laws.specs.Listing.{IsMadeOf}
 use Rattle.walk_laws.specs.Search.{LeadsNowhere}
 use Rattle.walk_laws.proofs.Nowhere.{unmade_nowhere}
-use Rattle.cycle_enum.proofs.walk.Walk.leads_on.Goals as goal
+use Rattle.cycle_enum.proofs.walk.Space.leads_on.Goals as goal
 
 pub returns-then-not-may_begin-clause-refused : goal.returns-then-not-may_begin-clause-refused
 returns-then-not-may_begin-clause-refused g c _ = λ r l. c.may_begin.ensures c.if-not-may_begin.true r l.normal

@@ -4,7 +4,7 @@ use Rattle.std.proofs.lemmas.List.{append-nil}
 use Rattle.cycle_laws.proofs.Composing.{path_closed}
 use Rattle.walk_laws.proofs.Stepping.{kept_all}
 use Rattle.cycle_enum.specs.Walking.{KeepsList, Lists}
-use Rattle.cycle_enum.proofs.walk.Walk.has_found.Goals as goal
+use Rattle.cycle_enum.proofs.walk.Space.has_found.Goals as goal
 
 pub returns-then-not-leads_on-clause-other : goal.returns-then-not-leads_on-clause-other
 returns-then-not-leads_on-clause-other g c _ l = c.if-not-leads_on.ensures.refused refl [] (rw (append-nil c.args.list.now) l)

@@ -1,1 +1,0 @@
--- A list is found exactly where it is listed.
