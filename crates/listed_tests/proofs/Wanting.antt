@@ -1,9 +1,9 @@
 -- Which cycles a listing wants, and what its walk knows of that.
-use Rattle.std.proofs.Common.{◌≡◌, ◌<◌, ◌≤◌, ◌+◌, ◌&&◌, nat_lt, nat_le, ℕ, ◌-◌, suc, Bool, true, false, cond, not, List, [], ◌∷◌, ◌++◌, length, get_or, Option, Some, None, refl, sym, ◌∙◌, ap, arith}
+use Rattle.std.proofs.Common.{◌≡◌, ◌<◌, ◌≤◌, ◌+◌, ◌&&◌, ◌||◌, nat_lt, nat_le, ℕ, ◌-◌, suc, Bool, true, false, cond, not, List, [], ◌∷◌, ◌++◌, length, get_or, Option, Some, None, refl, sym, ◌∙◌, ap, arith}
 use Rattle.std.specs.Prelude.{◌↔◌, is_none}
 use Rattle.std.specs.List.{list_all, position_from}
 use Rattle.std.specs.Option.{option_map}
-use Rattle.std.proofs.lemmas.Bool.{and_parts, and_from, leb-true, le-leb, lt-ltb}
+use Rattle.std.proofs.lemmas.Bool.{and_parts, and_from, or_right, leb-true, le-leb, lt-ltb}
 use Rattle.std.proofs.lemmas.List.Sums.{sum_by-append}
 use Rattle.std.proofs.lemmas.List.Folds.{list_all-append}
 use Rattle.relax_edges.specs.declared.edge.Edge.{Edge}
@@ -20,7 +20,7 @@ use Rattle.test_maker.specs.declared.refusal.MakeRefusal.TheVariants.{NotOfArch,
 use Rattle.test_maker.specs.Refusals.{or_else, foreign_edge, resolved_refusal, refusal_of}
 use Rattle.list_laws.proofs.Places.{none_foreign}
 use Rattle.diy_io.specs.Shelf.{ShelfSeen}
-use Rattle.listed_tests.specs.Plans.{HaveTests, ends_of_arch, has_few_threads, has_few_accesses, is_sought, is_wanted, may_lead}
+use Rattle.listed_tests.specs.Plans.{HaveTests, ends_in, ends_inside, ends_of_arch, has_few_threads, has_few_accesses, is_sought, is_wanted, may_lead}
 use Rattle.listed_tests.specs.InternalRuns.{HasLongRun}
 use Rattle.listed_tests.specs.WantedLaws.{wanted_has_test}
 use Rattle.listed_tests.specs.ListingEnds.{WritesAll, StopsAtTest, StopsAtAll}
@@ -71,12 +71,12 @@ tested_of_arch puts mode cycle none =
     unfound (Some at) e = cc
 
 -- the last edge is one of all
-pub ends_at : (arch : ArchName) (u : List Edge) (d : Edge) → 0 < length u → ends_of_arch arch u ≡ is_of_arch (get_or u (length u - 1) d) arch
-ends_at arch [] d some = absurd (omega arith)
-ends_at arch (x ∷ []) d some = refl
-ends_at arch (x ∷ y ∷ u) d some =
+pub ends_at : (is_such : Edge → Bool) (u : List Edge) (d : Edge) → 0 < length u → ends_in is_such u ≡ is_such (get_or u (length u - 1) d)
+ends_at is_such [] d some = absurd (omega arith)
+ends_at is_such (x ∷ []) d some = refl
+ends_at is_such (x ∷ y ∷ u) d some =
     let n : length (x ∷ y ∷ u) - 1 ≡ suc (length (y ∷ u) - 1) = omega arith in
-    rw n (ends_at arch (y ∷ u) d (omega arith))
+    rw n (ends_at is_such (y ∷ u) d (omega arith))
 
 ends_if_all : (arch : ArchName) (u : List Edge) → list_all (λ e. is_of_arch e arch) u ≡ true → ends_of_arch arch u ≡ true
 ends_if_all arch [] all = refl
@@ -104,9 +104,9 @@ unfolding may_lead
 prefix_leads arch threads accesses u r s =
     let few : external_count (u ++ r) ≤ threads = leb-true (external_count (u ++ r)) threads s.few_threads in
     let both : external_count (u ++ r) ≡ external_count u + external_count r = sum_by-append (λ e. cond (is_external e) 1 0) u r in
-    and_from (ends_of_arch arch u) (has_few_threads threads u)
+    and_from (ends_of_arch arch u) (ends_inside u || has_few_threads threads u)
     (ends_if_all arch u (and_parts (list_all (λ e. is_of_arch e arch) u) (list_all (λ e. is_of_arch e arch) r) (sym (list_all-append (λ e. is_of_arch e arch) u r) ∙ s.of_arch)).0)
-    (le-leb (external_count u) threads (omega (arith, few, both)))
+    (or_right (ends_inside u) (has_few_threads threads u) (le-leb (external_count u) threads (omega (arith, few, both))))
 
 -- no such cycle begins with edges with which none may
 pub refused_leads_none : (arch : ArchName) (threads : ℕ) (accesses : Option ℕ) (u r : List Edge) → may_lead arch threads u ≡ false → is_sought arch threads accesses (u ++ r) ≡ true → ⊥

@@ -1,13 +1,13 @@
 -- What a listing asks for: which cycles have a test in it, and what their tests are.
 -- Source: own, after diy.
-use Rattle.std.specs.Prelude.{◌≡◌, ℕ, Bool, true, ◌&&◌, nat_le, is_none, List, [], ◌∷◌, length, Option, Some, None}
+use Rattle.std.specs.Prelude.{◌≡◌, ℕ, Bool, true, ◌&&◌, ◌||◌, not, nat_le, is_none, List, [], ◌∷◌, length, Option, Some, None}
 use Rattle.std.specs.List.{list_all}
 use Rattle.std.specs.Borrow.{Bor}
 use Rattle.std.specs.Option.{option_map}
 use Rattle.relax_edges.specs.declared.edge.Edge.{Edge}
 use Rattle.relax_edges.specs.declared.kinds.ArchName.{ArchName}
 use Rattle.relax_edges.specs.declared.kinds.ObsMode.{ObsMode}
-use Rattle.relax_edges.specs.EdgeTable.{is_of_arch}
+use Rattle.relax_edges.specs.EdgeTable.{is_external, is_of_arch}
 use Rattle.list_laws.specs.Numbers.{upto}
 use Rattle.walk_laws.specs.Listing.{IsListed}
 use Rattle.cycle_names.specs.CycleNames.{name_of}
@@ -37,16 +37,24 @@ unfoldable pub is_wanted : Puts → ObsMode → ℕ → Option ℕ → List Edge
 is_wanted puts mode threads accesses cycle =
     is_none (refusal_of puts cycle mode) && (has_few_threads threads cycle && has_few_accesses accesses cycle)
 
+-- the last of some edges, if there is one, is such an edge
+abbrev pub ends_in : (Edge → Bool) → List Edge → Bool
+ends_in is_such [] = true
+ends_in is_such (edge ∷ []) = is_such edge
+ends_in is_such (_ ∷ edge ∷ edges) = ends_in is_such (edge ∷ edges)
+
 -- the last of some edges is of the architecture
 abbrev pub ends_of_arch : ArchName → List Edge → Bool
-ends_of_arch arch [] = true
-ends_of_arch arch (edge ∷ []) = is_of_arch edge arch
-ends_of_arch arch (_ ∷ edge ∷ edges) = ends_of_arch arch (edge ∷ edges)
+ends_of_arch arch = ends_in (λ edge. is_of_arch edge arch)
 
--- such a cycle may begin with these edges if it may with those before the last: the last is of the architecture, and there are
--- no more threads so far
+-- the last of some edges stays in its thread
+abbrev pub ends_inside : List Edge → Bool
+ends_inside = ends_in (λ edge. not (is_external edge))
+
+-- such a cycle may begin with these edges if it may with those before the last: the last is of the architecture, and stays in its
+-- thread, or there are no more threads so far
 unfoldable pub may_lead : ArchName → ℕ → List Edge → Bool
-may_lead arch threads edges = ends_of_arch arch edges && has_few_threads threads edges
+may_lead arch threads edges = ends_of_arch arch edges && (ends_inside edges || has_few_threads threads edges)
 
 -- a cycle is wanted if it has a test: it has two threads or more, but no more than are asked for, all its edges are of the
 -- architecture, and each of its threads has few accesses

@@ -2,7 +2,7 @@ ghost use Rattle.std.specs.Prelude.{◌≡◌, ◌↔◌, IsFalse, nat_le};
 ghost use Rattle.std.specs.List.{list_all};
 ghost use Rattle.relax_edges.specs.EdgeTable.{is_of_arch};
 ghost use Rattle.resolution_laws.specs.Resolution.{external_count};
-ghost use Rattle.listed_tests.specs.Plans.{ends_of_arch, has_few_threads, is_sought, may_lead};
+ghost use Rattle.listed_tests.specs.Plans.{ends_inside, ends_of_arch, has_few_threads, is_sought, may_lead};
 ghost use Rattle.listed_tests.specs.InternalRuns.{HasLongRun};
 
 use crate::runs::{has_few_accesses, stays_below};
@@ -21,13 +21,13 @@ pub(crate) struct Wanted<'a> {
 
 impl Wanted<'_> {
     /// Whether a cycle that is wanted may begin with the edges, if it may with those before the last: by the
-    /// architecture of the last, and by how many of them lead to another thread. A walk asks this of each list
-    /// as it grows, so that the edges before the last needn't be looked at again.
+    /// architecture of the last, and, where that leads to another thread, by how many of them do. A walk asks this
+    /// of each list as it grows, so that the edges before an internal one needn't be looked at again.
     #[tactic(auto, unfolding(crate::specs::Plans::may_lead))]
     pub(crate) fn may_lead<A: Arch>(&self, edges: &[Edge]) -> bool
         ensures { result ≡ may_lead A.puts.name self.now.threads edges.now }
     {
-        ends_of_arch::<A>(edges) && has_few_threads(edges, self.threads)
+        ends_of_arch::<A>(edges) && (ends_inside(edges) || has_few_threads(edges, self.threads))
     }
 
     /// Whether a cycle that is wanted may begin with the edges, by the accesses of its threads: the edges
@@ -63,6 +63,16 @@ fn ends_of_arch<A: Arch>(edges: &[Edge]) -> bool
     match edges {
         [] => true,
         [.., last] => A::supports(*last),
+    }
+}
+
+/// Whether the last edge, if there is one, stays in its thread.
+fn ends_inside(edges: &[Edge]) -> bool
+    ensures { result ≡ ends_inside edges.now }
+{
+    match edges {
+        [] => true,
+        [.., last] => !last.is_external(),
     }
 }
 
