@@ -70,7 +70,8 @@ fn source_at(all: &[Accesses], exec: &Execution, thread: usize, access: usize) -
 fn position_of(order: &[WriteAt], thread: usize, access: usize) -> Option<usize>
     ensures { result ≡ position (same_write (name thread access)) order.now }
 {
-    order.iter().position(|w| thread == usize::from(w.thread) && access == usize::from(w.access))
+    order.iter().position(|write| thread == usize::from(write.thread)
+        && access == usize::from(write.access))
 }
 
 /// The place of a write in an order, from 1; 0 where it isn't there.
@@ -159,24 +160,28 @@ fn may_follow(dir: Dir, before: usize, after: usize) -> bool
     }
 }
 
-/// Whether two accesses of a thread, access number `e` before number `f`, are at two places, or the
-/// second may follow the first.
+/// Whether two accesses of a thread, the first before the second by their numbers, are at two places, or
+/// the second may follow the first.
 fn agrees(
     all: &[Accesses],
     exec: &Execution,
     thread: usize,
-    e: usize,
-    a: &Access,
-    f: usize,
-    b: &Access,
+    number: usize,
+    access: &Access,
+    later_number: usize,
+    later: &Access,
 ) -> bool
-    ensures { result ≡ agrees all.now exec.now thread e a.now f b.now }
+    ensures { result ≡ agrees all.now exec.now thread number access.now later_number later.now }
 {
-    if a.place != b.place {
+    if access.place != later.place {
         return true;
     }
-    let before = coherence_place(all, exec, thread, e, a);
-    may_follow(b.dir, before, coherence_place(all, exec, thread, f, b))
+    let before = coherence_place(all, exec, thread, number, access);
+    may_follow(
+        later.dir,
+        before,
+        coherence_place(all, exec, thread, later_number, later),
+    )
 }
 
 /// Whether the second of two accesses of a thread isn't after the first, or they agree.
@@ -184,15 +189,15 @@ fn agrees_if_later(
     all: &[Accesses],
     exec: &Execution,
     thread: usize,
-    e: usize,
-    a: &Access,
-    f: usize,
-    b: &Access,
+    number: usize,
+    access: &Access,
+    later_number: usize,
+    later: &Access,
 ) -> bool
-    ensures { result ≡ (not (nat_lt e f) || agrees all.now exec.now thread e a.now f b.now) }
+    ensures { result ≡ (not (nat_lt number later_number) || agrees all.now exec.now thread number access.now later_number later.now) }
 {
-    if e < f {
-        agrees(all, exec, thread, e, a, f, b)
+    if number < later_number {
+        agrees(all, exec, thread, number, access, later_number, later)
     } else {
         true
     }
@@ -204,13 +209,13 @@ fn agrees_later(
     exec: &Execution,
     thread: usize,
     accesses: &[Access],
-    e: usize,
-    a: &Access,
+    number: usize,
+    access: &Access,
 ) -> bool
-    ensures { result ≡ agrees_later all.now exec.now thread accesses.now e a.now }
+    ensures { result ≡ agrees_later all.now exec.now thread accesses.now number access.now }
 {
-    for (f, b) in accesses.iter().enumerate() {
-        if !agrees_if_later(all, exec, thread, e, a, f, b) {
+    for (later_number, later) in accesses.iter().enumerate() {
+        if !agrees_if_later(all, exec, thread, number, access, later_number, later) {
             return false;
         }
     }
@@ -221,8 +226,8 @@ fn agrees_later(
 fn thread_coheres(all: &[Accesses], exec: &Execution, thread: usize, accesses: &[Access]) -> bool
     ensures { result ≡ thread_coheres all.now exec.now thread accesses.now }
 {
-    for (e, a) in accesses.iter().enumerate() {
-        if !agrees_later(all, exec, thread, accesses, e, a) {
+    for (number, access) in accesses.iter().enumerate() {
+        if !agrees_later(all, exec, thread, accesses, number, access) {
             return false;
         }
     }

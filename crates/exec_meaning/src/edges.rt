@@ -132,13 +132,13 @@ fn comes_before(
     all: &[Accesses],
     exec: &Execution,
     from: WriteAt,
-    e: &Access,
+    source: &Access,
     to: WriteAt,
-    f: &Access,
+    target: &Access,
 ) -> bool
-    ensures { result ≡ comes_before all.now exec.now (record { name = from; access = e.now }) (record { name = to; access = f.now }) }
+    ensures { result ≡ comes_before all.now exec.now (record { name = from; access = source.now }) (record { name = to; access = target.now }) }
 {
-    place_of_name(all, exec, from, e) < place_of_name(all, exec, to, f)
+    place_of_name(all, exec, from, source) < place_of_name(all, exec, to, target)
 }
 
 /// Whether two accesses communicate as an edge says, if it is a communication.
@@ -147,18 +147,18 @@ fn communicates_by(
     all: &[Accesses],
     exec: &Execution,
     from: WriteAt,
-    e: &Access,
+    source: &Access,
     to: WriteAt,
-    f: &Access,
+    target: &Access,
 ) -> bool
-    ensures { result ≡ communicates_by kind all.now exec.now (record { name = from; access = e.now }) (record { name = to; access = f.now }) }
+    ensures { result ≡ communicates_by kind all.now exec.now (record { name = from; access = source.now }) (record { name = to; access = target.now }) }
 {
     let Kind::Com { com, .. } = kind else {
         return true;
     };
     match com {
         Com::Rf => is_source(source_of_name(all, exec, to), from),
-        Com::Fr | Com::Ws => comes_before(all, exec, from, e, to, f),
+        Com::Fr | Com::Ws => comes_before(all, exec, from, source, to, target),
     }
 }
 
@@ -168,16 +168,16 @@ fn joins(
     exec: &Execution,
     edge: Edge,
     from: WriteAt,
-    e: &Access,
+    source: &Access,
     to: WriteAt,
-    f: &Access,
+    target: &Access,
 ) -> bool
-    ensures { result ≡ joins all.now exec.now edge (record { name = from; access = e.now }) (record { name = to; access = f.now }) }
+    ensures { result ≡ joins all.now exec.now edge (record { name = from; access = source.now }) (record { name = to; access = target.now }) }
 {
-    same_dir(e.dir, edge.source())
-        && same_dir(f.dir, edge.target())
-        && are_at(edge.place(), e.place, f.place)
-        && communicates_by(edge.kind(), all, exec, from, e, to, f)
+    same_dir(source.dir, edge.source())
+        && same_dir(target.dir, edge.target())
+        && are_at(edge.place(), source.place, target.place)
+        && communicates_by(edge.kind(), all, exec, from, source, to, target)
         && reaches(edge.reach(), from, to)
 }
 
@@ -214,64 +214,80 @@ enum Tie {
 }
 
 /// Whether the second of two accesses depends on the first so, and in no other way.
-fn depends(tie: Tie, all: &[Accesses], from: WriteAt, e: &Visit, f: &Visit) -> bool
-    ensures { result ≡ depends_as tie all.now (record { name = from; visit = e.now }) f.now }
+fn depends(tie: Tie, all: &[Accesses], from: WriteAt, source: &Visit, target: &Visit) -> bool
+    ensures { result ≡ depends_as tie all.now (record { name = from; visit = source.now }) target.now }
 {
     let load = reads_before_name(all, from);
-    let controlled = is_in_mask(all, from, e, f.control_mask());
+    let controlled = is_in_mask(all, from, source, target.control_mask());
     match tie {
-        Tie::Nothing => f.address_mask() == 0 && f.data_mask() == 0 && !controlled,
-        Tie::Address => is_mask_of(f.address_mask(), load) && f.data_mask() == 0 && !controlled,
-        Tie::Data => f.address_mask() == 0 && is_mask_of(f.data_mask(), load) && !controlled,
-        Tie::Control => f.address_mask() == 0 && f.data_mask() == 0 && controlled,
+        Tie::Nothing => target.address_mask() == 0 && target.data_mask() == 0 && !controlled,
+        Tie::Address => is_mask_of(target.address_mask(), load)
+            && target.data_mask() == 0
+            && !controlled,
+        Tie::Data => target.address_mask() == 0
+            && is_mask_of(target.data_mask(), load)
+            && !controlled,
+        Tie::Control => target.address_mask() == 0 && target.data_mask() == 0 && controlled,
     }
 }
 
 /// Whether the access is in the control mask of each barrier.
-fn barriers_wait(all: &[Accesses], from: WriteAt, e: &Visit, barriers: &[Barred]) -> bool
-    ensures { result ≡ barriers_wait all.now (record { name = from; visit = e.now }) barriers.now }
+fn barriers_wait(all: &[Accesses], from: WriteAt, source: &Visit, barriers: &[Barred]) -> bool
+    ensures { result ≡ barriers_wait all.now (record { name = from; visit = source.now }) barriers.now }
 {
     barriers
         .iter()
-        .all(|barrier| is_in_mask(all, from, e, barrier.control))
+        .all(|barrier| is_in_mask(all, from, source, barrier.control))
 }
 
 /// Whether the only barrier before the access is this one, and it waits for the access before, as the access does.
-fn waits(kind: Barrier, all: &[Accesses], from: WriteAt, e: &Visit, f: &Visit) -> bool
-    ensures { result ≡ waits kind all.now (record { name = from; visit = e.now }) f.now }
+fn waits(kind: Barrier, all: &[Accesses], from: WriteAt, source: &Visit, target: &Visit) -> bool
+    ensures { result ≡ waits kind all.now (record { name = from; visit = source.now }) target.now }
 {
-    is_alone(kind, f.barriers())
-        && depends(Tie::Control, all, from, e, f)
-        && barriers_wait(all, from, e, f.barriers())
+    is_alone(kind, target.barriers())
+        && depends(Tie::Control, all, from, source, target)
+        && barriers_wait(all, from, source, target.barriers())
 }
 
 /// Whether a dependency ties an access to the one before it.
-fn depends_by(kind: DepKind, all: &[Accesses], from: WriteAt, e: &Visit, f: &Visit) -> bool
-    ensures { result ≡ depends_by kind all.now (record { name = from; visit = e.now }) f.now }
+fn depends_by(
+    kind: DepKind,
+    all: &[Accesses],
+    from: WriteAt,
+    source: &Visit,
+    target: &Visit,
+) -> bool
+    ensures { result ≡ depends_by kind all.now (record { name = from; visit = source.now }) target.now }
 {
     match kind {
-        DepKind::Addr => f.barriers().is_empty() && depends(Tie::Address, all, from, e, f),
-        DepKind::Ctrl => f.barriers().is_empty() && depends(Tie::Control, all, from, e, f),
-        DepKind::CtrlIsync => waits(Barrier::Fence(FenceKind::ISync), all, from, e, f),
-        DepKind::CtrlIsb => waits(Barrier::Isb, all, from, e, f),
+        DepKind::Addr => target.barriers().is_empty()
+            && depends(Tie::Address, all, from, source, target),
+        DepKind::Ctrl => target.barriers().is_empty()
+            && depends(Tie::Control, all, from, source, target),
+        DepKind::CtrlIsync => waits(Barrier::Fence(FenceKind::ISync), all, from, source, target),
+        DepKind::CtrlIsb => waits(Barrier::Isb, all, from, source, target),
     }
 }
 
 /// Whether what lies between two accesses is what an edge says, if it is internal.
-fn ties_by(kind: Kind, all: &[Accesses], from: WriteAt, e: &Visit, f: &Visit) -> bool
-    ensures { result ≡ ties_by kind all.now (record { name = from; visit = e.now }) f.now }
+fn ties_by(kind: Kind, all: &[Accesses], from: WriteAt, source: &Visit, target: &Visit) -> bool
+    ensures { result ≡ ties_by kind all.now (record { name = from; visit = source.now }) target.now }
 {
     match kind {
         Kind::Com { reach, .. } => match reach {
-            Reach::Internal => f.barriers().is_empty() && depends(Tie::Nothing, all, from, e, f),
+            Reach::Internal => target.barriers().is_empty()
+                && depends(Tie::Nothing, all, from, source, target),
             Reach::External => true,
         },
-        Kind::Po { .. } => f.barriers().is_empty() && depends(Tie::Nothing, all, from, e, f),
+        Kind::Po { .. } => target.barriers().is_empty()
+            && depends(Tie::Nothing, all, from, source, target),
         Kind::Fenced { fence, .. } => {
-            is_alone(Barrier::Fence(fence), f.barriers()) && depends(Tie::Nothing, all, from, e, f)
+            is_alone(Barrier::Fence(fence), target.barriers())
+                && depends(Tie::Nothing, all, from, source, target)
         }
-        Kind::Dep { dep, .. } => depends_by(dep, all, from, e, f),
-        Kind::Data { .. } => f.barriers().is_empty() && depends(Tie::Data, all, from, e, f),
+        Kind::Dep { dep, .. } => depends_by(dep, all, from, source, target),
+        Kind::Data { .. } => target.barriers().is_empty()
+            && depends(Tie::Data, all, from, source, target),
     }
 }
 
@@ -281,16 +297,16 @@ fn stands(
     exec: &Execution,
     edge: Edge,
     from: WriteAt,
-    e: &Visit,
+    source: &Visit,
     to: WriteAt,
-    f: &Visit,
+    target: &Visit,
 ) -> bool
-    ensures { result ≡ stands all.now exec.now edge (record { name = from; visit = e.now }) (record { name = to; visit = f.now }) }
+    ensures { result ≡ stands all.now exec.now edge (record { name = from; visit = source.now }) (record { name = to; visit = target.now }) }
 {
-    joins(all, exec, edge, from, e.access(), to, f.access())
-        && same_mark(e.mark(), edge.source_mark())
-        && same_mark(f.mark(), edge.target_mark())
-        && ties_by(edge.kind(), all, from, e, f)
+    joins(all, exec, edge, from, source.access(), to, target.access())
+        && same_mark(source.mark(), edge.source_mark())
+        && same_mark(target.mark(), edge.target_mark())
+        && ties_by(edge.kind(), all, from, source, target)
 }
 
 /// Whether two accesses are there and an edge stands between them.
@@ -306,8 +322,8 @@ fn stands_if(
     ensures { result ≡ stands_if all.now exec.now edge from source.now to target.now }
 {
     match source {
-        Some(e) => match target {
-            Some(f) => stands(all, exec, edge, from, e, to, f),
+        Some(source) => match target {
+            Some(target) => stands(all, exec, edge, from, source, to, target),
             None => false,
         },
         None => false,

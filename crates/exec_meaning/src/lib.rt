@@ -1,4 +1,4 @@
-//! Which executions a test has, which of them are coherent, how they end, and which edges of a cycle stand in them.
+//! Whether an execution that is given is one of a test, whether it is coherent, how it ends, and which edges of a cycle stand in it.
 #![tactic(auto)]
 
 mod accesses;

@@ -3,5 +3,5 @@ use Rattle.std.proofs.Common.{◌≡◌, drop}
 use Rattle.execution_laws.specs.Deciding.{every, agrees_later, thread_coheres}
 use Rattle.exec_meaning.proofs.coherent.thread_coheres.Given as goal
 
-abbrev pub invariant-loop-e : goal.invariant-loop-e
-invariant-loop-e l = thread_coheres l.all l.exec l.thread l.accesses ≡ every (agrees_later l.all l.exec l.thread l.accesses) l.e (drop l.e l.accesses)
+abbrev pub invariant-loop-number : goal.invariant-loop-number
+invariant-loop-number l = thread_coheres l.all l.exec l.thread l.accesses ≡ every (agrees_later l.all l.exec l.thread l.accesses) l.number (drop l.number l.accesses)
