@@ -65,7 +65,7 @@ IsUsage (Err usage) word kind = (word ≡ usage.word) × (kind ≡ usage.kind)
 IsUsage (Ok (AsksName asked)) word kind = SeeksNone asked.arch asked.cycle word kind
 IsUsage _ word kind = ⊥
 
--- the first reason why the edges of norm7 are refused, or those of diyone7, with the option -why or without it
+-- the first reason why the edges are refused whose name norm7 seeks, if it is given edges
 abbrev pub sought_refused : ArchName → Sought → Option Refusal
 sought_refused arch (OfEdges edges) = refused_list arch edges
 sought_refused arch _ = None

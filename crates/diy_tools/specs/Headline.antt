@@ -42,8 +42,8 @@ pub record CrossesForcing (asked : CrossTask) (status : Status) (old new : Shelf
 
 -- where the words ask for the test of edges that nothing refuses, it is printed and forces the cycle that they make; where
 -- they ask for a listing, or for the tests of choices, it is written and each of its tests forces its cycle; where they ask why
--- the mode avoid refuses edges, and it does because a write needs an observer, two executions of the test without observers
--- are written that no condition tells apart, though all edges stand in the first and one doesn't in the second
+-- the mode avoid refuses edges, and it does because a write needs an observer, there is no memory, or two executions of the test
+-- without observers are written that no condition tells apart, though all edges stand in the first and one doesn't in the second
 abbrev pub HeadlineAsked : Result Task Usage → Status → Devices → Devices → Type 0
 HeadlineAsked (Ok (AsksTest asked)) status old new =
     refused_of (machine_of asked.arch).puts asked.mode asked.edges ≡ None →

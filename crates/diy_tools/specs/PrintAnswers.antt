@@ -7,7 +7,7 @@ use Rattle.diy_tools.specs.declared.status.Status.TheVariants as statuses
 use Rattle.diy_tools.specs.declared.status.Refusal.{Refusal}
 use Rattle.diy_tools.specs.declared.status.Device.TheVariants as devices
 
--- all of a text is printed, with no fault; or the device takes a prefix of it, and its count of faults rises
+-- all of a text is printed, with no fault; or the device takes a prefix of it, and its count of faults rises, or is at its last value
 abbrev pub Prints : List ℕ → Status → SinkSeen → SinkSeen → Type 0
 Prints text statuses.Done old new = WroteAll old new text
 Prints text (statuses.WriteFault devices.Out) old new = WrotePart old new text

@@ -173,7 +173,7 @@ status_line words (statuses.ReadFault device) = codes "diy: read fault: " ++ dev
 status_line words (statuses.WriteFault device) = codes "diy: write fault: " ++ device_text device ++ codes "\n"
 status_line words statuses.NoMemory = codes "diy: no memory\n"
 
--- a line is written, with no fault; or the device takes a prefix of it, and its count of faults rises
+-- a line is written, with no fault; or the device takes a prefix of it, and its count of faults rises, or is at its last value
 abbrev pub TakesLine : List ℕ → SinkSeen → SinkSeen → Type 0
 TakesLine line old new = (WroteAll old new line) ⊎ (WrotePart old new line)
 

@@ -16,7 +16,7 @@ use two_runs::WhyRefusal;
 pub enum Status {
     /// All that was asked for is written.
     Done,
-    /// The edges make no cycle, or the cycle has no test.
+    /// The edges make no cycle, the cycle has no test, or nothing shows that it needs an observer.
     Refused(Refusal),
     /// A line of a text that was read is wrong, the first such; `file` is the place of the word that
     /// names the text, and none where it is the input. Lines are counted from 1.

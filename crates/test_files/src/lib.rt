@@ -1,4 +1,5 @@
-//! Files of tests: a file is read whole from a shelf, and what its text is as a test of an architecture.
+//! Files of tests: a file is read from a shelf, to its end or up to one byte more than a test may have, and what its text is as a test of
+//! an architecture.
 #![tactic(auto)]
 
 mod errors;
