@@ -40,7 +40,7 @@ impl Choices {
 
     /// The choices for a link from an access to another.
     #[tactic(auto, using(crate::proofs::ChoiceLaws::some_choices))]
-    fn between(&self, from: Dir, to: Dir) -> &[Edge]
+    fn edges_between(&self, from: Dir, to: Dir) -> &[Edge]
         ensures choices { result.now ≡ choices_of self.now.arch from to }
         ensures some { 0 < length result.now }
     {
@@ -61,7 +61,7 @@ impl Choices {
     pub(crate) fn choice(&self, drawn: u32, link: Edge) -> Edge
         ensures { result ≡ choice_of self.now.arch drawn link }
     {
-        let choices = self.between(link.source(), link.target());
+        let choices = self.edges_between(link.source(), link.target());
         choices[drawn as usize % choices.len()]
     }
 }

@@ -9,13 +9,13 @@ use Rattle.diy_words.specs.declared.options.OptionName.{OptionName}
 use Rattle.diy_words.specs.declared.options.OptionName.TheVariants as opts
 
 -- the first of some named things whose name is the text
-abbrev pub named : {X : Type 0} → List (List ℕ × X) → List ℕ → Option X
-named [] text = None
-named (row ∷ rows) text = if bytes_eq text row.0 then Some row.1 else named rows text
+abbrev pub of_name : {X : Type 0} → List (List ℕ × X) → List ℕ → Option X
+of_name [] text = None
+of_name (row ∷ rows) text = if bytes_eq text row.0 then Some row.1 else of_name rows text
 
 -- the tools by their names
 abbrev pub tool_named : List ℕ → Option Tool
-tool_named = named ((codes "diyone7", tools.DiyOne) ∷ (codes "diy7", tools.Diy) ∷ (codes "diycross7", tools.Cross) ∷
+tool_named = of_name ((codes "diyone7", tools.DiyOne) ∷ (codes "diy7", tools.Diy) ∷ (codes "diycross7", tools.Cross) ∷
     (codes "norm7", tools.Norm) ∷ (codes "classify7", tools.Classify) ∷ (codes "msum7", tools.Msum) ∷ (codes "demo", tools.Demo) ∷
     (codes "mcheck7", tools.Check) ∷ [])
 
@@ -34,11 +34,11 @@ options_of tools.Check = (codes "-arch", opts.Arch) ∷ []
 
 -- the option of a tool with this name that takes a value
 abbrev pub option_named : Tool → List ℕ → Option OptionName
-option_named tool = named (options_of tool)
+option_named tool = of_name (options_of tool)
 
 -- the observer modes by their names
 abbrev pub mode_named : List ℕ → Option ObsMode
-mode_named = named ((codes "accept", modes.Accept) ∷ (codes "avoid", modes.Avoid) ∷ (codes "force", modes.Force) ∷ [])
+mode_named = of_name ((codes "accept", modes.Accept) ∷ (codes "avoid", modes.Avoid) ∷ (codes "force", modes.Force) ∷ [])
 
 -- a part of the words: a word by itself, at its place, or an option at its place with its value, if there is one
 pub data Part : Type 0 where

@@ -32,7 +32,7 @@ impl Model for Cycle {
     ghost invariant = { λ c. IsCycle c.edges.items };
 }
 
-pub(crate) fn copied(edges: &[Edge]) -> ArrayVec<Edge, MAX_EDGES>
+pub(crate) fn copy(edges: &[Edge]) -> ArrayVec<Edge, MAX_EDGES>
     requires { length edges.now ≤ MAX_EDGES }
     ensures { result.items ≡ edges.now }
 {
@@ -111,7 +111,7 @@ impl Cycle {
     }
 
     /// A second value of the same list of edges.
-    pub fn copied(&self) -> Cycle
+    pub fn copy(&self) -> Cycle
         ensures { result ≡ self.now }
     {
         Cycle::of(self.edges())

@@ -2,7 +2,7 @@ ghost use Rattle.std.specs.Prelude.{◌≡◌, ◌<◌, [], ◌∷◌, length};
 ghost use Rattle.cycle_laws.specs.Composable.{IsPath, last_joins};
 ghost use Rattle.edge_algebra.specs.Compose.{joined, closed};
 
-use crate::cycles::copied;
+use crate::cycles::copy;
 use crate::{Cycle, JoinError, NotClosed};
 use arrayvec::ArrayVec;
 use relax_edges::{Edge, MAX_EDGES};
@@ -61,7 +61,7 @@ impl Path {
         if !joins(prefix, back) {
             return Err(JoinError::DoesNotCompose);
         }
-        let mut edges = copied(prefix);
+        let mut edges = copy(prefix);
         match edges.try_extend_from_slice(back) {
             Ok(()) => Ok(Path { edges }),
             Err(_) => unreachable!(),

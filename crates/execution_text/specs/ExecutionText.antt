@@ -10,6 +10,7 @@ use Rattle.text_laws.specs.NumberTexts.{number_of}
 use Rattle.text_laws.specs.Cuts.{cut_at}
 use Rattle.text_laws.specs.Words.{words}
 use Rattle.text_laws.specs.Lines.{lines_of}
+use Rattle.text_laws.specs.ReadingSteps.{◌>>=◌}
 use Rattle.program_meaning.specs.declared.WriteAt.{WriteAt}
 use Rattle.program_meaning.specs.Executions.{Execution}
 use Rattle.execution_text.specs.declared.errors.ExecKind.{ExecKind}
@@ -124,12 +125,6 @@ all_writes_told threads places lines = each_line_read (writes_told threads) (thr
 abbrev pub execution_of : ℕ → List (List (ℕ × Option WriteAt)) → List (List WriteAt) × List (List ℕ) → Result Execution ExecFault
 execution_of n reads (orders, []) = Ok (record { reads = reads; orders = orders })
 execution_of n reads (orders, line ∷ lines) = Err (record { line = n; kind = StrayLine })
-
-infixl 10 ◌>>=◌
--- what follows from a right answer; a fault stays as it is
-abbrev pub ◌>>=◌ : {A B : Type 0} → Result A ExecFault → (A → Result B ExecFault) → Result B ExecFault
-(Ok x) >>= f = f x
-(Err e) >>= f = Err e
 
 -- the execution that lines give, of a program of so many threads and of these places
 unfoldable pub reads_and_writes_read : ℕ → List (List ℕ) → List (List ℕ) → Result Execution ExecFault

@@ -4,7 +4,8 @@ use Rattle.std.specs.Prelude.{Bool, true, cond, Option, Some, None, Ok}
 use Rattle.list_laws.proofs.Cases.{by_test}
 use Rattle.final_cond.specs.declared.errors.CondKind.TheVariants.{BadTerm}
 use Rattle.final_cond.specs.Conditions.{LeftSeen}
-use Rattle.final_cond.specs.ConditionReading.{ConditionRead, ◌>>=◌, cond_fault, found, only_known, left_at_start, left_read}
+use Rattle.final_cond.specs.ConditionReading.{ConditionRead, cond_fault, found, only_known, left_at_start, left_read}
+use Rattle.text_laws.specs.ReadingSteps.{◌>>=◌}
 
 -- a left side that was read, where it passes a stricter test too
 abbrev pub judged : (LeftSeen → Bool) → List ℕ → LeftSeen × List ℕ → ConditionRead LeftSeen

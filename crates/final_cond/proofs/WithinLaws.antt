@@ -13,7 +13,8 @@ use Rattle.final_cond.specs.Conditions.{LeftSeen, TermSeen, CondSeen}
 use Rattle.text_laws.specs.NumberTexts.{number_of}
 use Rattle.text_laws.specs.LeadingRuns.{leading_run, after_run}
 use Rattle.text_laws.specs.Blanks.{is_blank, unblanked}
-use Rattle.final_cond.specs.ConditionReading.{Fault, ConditionRead, ◌>>=◌, sign_at_start, sign_read, found, before_text, quantifier_of, quantifier_at_start, opening_read, bracket_closed, bracketed_at_start, register_of_thread, register_at_start, left_at_start, known_left, only_known, left_read, value_at_start, value_read, right_read, term_read, and_at_start, follow_at_start, follow_read, and_further, terms_read, end_at_start, parts_read}
+use Rattle.final_cond.specs.ConditionReading.{Fault, ConditionRead, sign_at_start, sign_read, found, before_text, quantifier_of, quantifier_at_start, opening_read, bracket_closed, bracketed_at_start, register_of_thread, register_at_start, left_at_start, known_left, only_known, left_read, value_at_start, value_read, right_read, term_read, and_at_start, follow_at_start, follow_read, and_further, terms_read, end_at_start, parts_read}
+use Rattle.text_laws.specs.ReadingSteps.{◌>>=◌}
 use Rattle.text_laws.specs.Words.{is_argument_byte}
 use Rattle.text_laws.proofs.RunLaws.{after_run-le}
 

@@ -18,6 +18,7 @@ use Rattle.text_laws.specs.NumberTexts.{number_of}
 use Rattle.text_laws.specs.LeadingRuns.{leading_run, after_run}
 use Rattle.text_laws.specs.Blanks.{unblanked}
 use Rattle.text_laws.specs.Words.{is_argument_byte}
+use Rattle.text_laws.specs.ReadingSteps.{◌>>=◌}
 
 -- what is faulty, and the text from there on
 pub record Fault : Type 0 where
@@ -27,12 +28,6 @@ pub record Fault : Type 0 where
 -- A part is read from the start of a text: the answer is what it means and the text after it, or the fault.
 abbrev pub ConditionRead : Type 0 → Type 0
 ConditionRead A = Result (A × List ℕ) Fault
-
-infixl 10 ◌>>=◌
--- what is read goes on with the answer of the part before, and a fault stays the fault
-abbrev pub ◌>>=◌ : {A B : Type 0} → Result A Fault → (A → Result B Fault) → Result B Fault
-(Ok x) >>= f = f x
-(Err e) >>= f = Err e
 
 -- a fault where this text begins
 abbrev pub cond_fault : {A : Type 0} → CondKind → List ℕ → Result A Fault

@@ -12,7 +12,7 @@ use Rattle.form_laws.specs.declared.form.Hole.TheVariants as holes
 use Rattle.form_laws.specs.declared.kind.Operand.{Operand}
 use Rattle.form_laws.specs.Kinds.{FoundOperand}
 use Rattle.form_laws.specs.Tables.{PieceText, FormText, fits_first, after_hole, operands_fit, hole_filled, piece_texts, after_prefix, before_suffix, hole_found, piece_found, joined_operands, pieces_found, form_found, piece_text}
-use Rattle.form_laws.specs.ClearTables.{differ, is_empty_hole, is_fixed, fixed_text, piece_apart, pieces_apart, forms_apart, is_piece_good}
+use Rattle.form_laws.specs.ClearTables.{differ, is_empty_hole, is_fixed, text_without_hole, piece_apart, pieces_apart, forms_apart, is_piece_good}
 use Rattle.form_laws.proofs.PieceBacks.{named, held, piece_back}
 
 -- a test that one of two passes is passed by the first, or by the second
@@ -105,14 +105,14 @@ piece_none : (names : ℕ → List ℕ) (p q : PieceText) (vs : List Operand) �
     fits_first q.hole vs ≡ true → piece_found p (piece_text names q vs) ≡ None
 unfolding piece_apart
 piece_none names p q vs apart good fit =
-    by_either (differ p.before q.before) ((is_fixed q && not (is_some (piece_found p (fixed_text q)))) || (is_fixed p && not (is_some (piece_found q (fixed_text p))))) apart
+    by_either (differ p.before q.before) ((is_fixed q && not (is_some (piece_found p (text_without_hole q)))) || (is_fixed p && not (is_some (piece_found q (text_without_hole p))))) apart
     (by_prefix names p q vs)
-    (λ rest. by_either (is_fixed q && not (is_some (piece_found p (fixed_text q)))) (is_fixed p && not (is_some (piece_found q (fixed_text p)))) rest
-    (λ h. let k = and_parts (is_fixed q) (not (is_some (piece_found p (fixed_text q)))) h in
-    by_fixed names p q.before q.hole q.after vs k.0 (not_some (piece_found p (fixed_text q)) k.1))
-    (λ h. let k = and_parts (is_fixed p) (not (is_some (piece_found q (fixed_text p)))) h in
+    (λ rest. by_either (is_fixed q && not (is_some (piece_found p (text_without_hole q)))) (is_fixed p && not (is_some (piece_found q (text_without_hole p)))) rest
+    (λ h. let k = and_parts (is_fixed q) (not (is_some (piece_found p (text_without_hole q)))) h in
+    by_fixed names p q.before q.hole q.after vs k.0 (not_some (piece_found p (text_without_hole q)) k.1))
+    (λ h. let k = and_parts (is_fixed p) (not (is_some (piece_found q (text_without_hole p)))) h in
     by_other q p.before p.hole p.after (piece_text names q vs) (map (named names) (held q.hole vs)) k.0
-    (not_some (piece_found q (fixed_text p)) k.1) (piece_back names q vs good fit)))
+    (not_some (piece_found q (text_without_hole p)) k.1) (piece_back names q vs good fit)))
 
 joined_none : (o : Option (List FoundOperand)) → joined_operands o None ≡ None
 joined_none None = refl

@@ -17,7 +17,7 @@ use Rattle.form_laws.specs.declared.kind.Operand.{Operand}
 use Rattle.form_laws.specs.declared.kind.Operand.TheVariants as operands
 use Rattle.form_laws.specs.Kinds.{FoundOperand, found_register, found_number, found_place, found_label}
 use Rattle.form_laws.specs.Tables.{PieceText, fits_first, after_hole, operands_fit, hole_filled, piece_texts, after_prefix, before_suffix, hole_found, piece_found, joined_operands, pieces_found, piece_text}
-use Rattle.form_laws.specs.ClearTables.{is_hole_good, is_filled, fixed_text, is_fixed_byte, is_piece_good}
+use Rattle.form_laws.specs.ClearTables.{is_hole_good, is_filled, text_without_hole, is_fixed_byte, is_piece_good}
 
 -- an operand as it is read from its own text
 abbrev pub named : (ℕ → List ℕ) → Operand → FoundOperand
@@ -77,15 +77,15 @@ pub record GoodPiece (p : PieceText) : Type 0 where
   pub before : list_all is_fixed_byte p.before ≡ true
   pub after : list_all is_fixed_byte p.after ≡ true
   pub hole : is_hole_good p.hole ≡ true
-  pub full : is_filled p.hole (fixed_text p) ≡ true
+  pub full : is_filled p.hole (text_without_hole p) ≡ true
 
 -- an operand that passes its test has those parts
 pub piece_is_good : (p : PieceText) → is_piece_good p ≡ true → GoodPiece p
 unfolding is_piece_good
 piece_is_good p h =
-    let q = and_parts (list_all is_fixed_byte p.before) (list_all is_fixed_byte p.after && (is_hole_good p.hole && is_filled p.hole (fixed_text p))) h in
-    let r = and_parts (list_all is_fixed_byte p.after) (is_hole_good p.hole && is_filled p.hole (fixed_text p)) q.1 in
-    let s = and_parts (is_hole_good p.hole) (is_filled p.hole (fixed_text p)) r.1 in
+    let q = and_parts (list_all is_fixed_byte p.before) (list_all is_fixed_byte p.after && (is_hole_good p.hole && is_filled p.hole (text_without_hole p))) h in
+    let r = and_parts (list_all is_fixed_byte p.after) (is_hole_good p.hole && is_filled p.hole (text_without_hole p)) q.1 in
+    let s = and_parts (is_hole_good p.hole) (is_filled p.hole (text_without_hole p)) r.1 in
     record { before = q.0; after = r.0; hole = s.0; full = s.1 }
 
 -- an operand reads back by its form

@@ -25,14 +25,14 @@ abbrev pub is_fixed : PieceText → Bool
 is_fixed p = is_empty_hole p.hole
 
 -- the text of an operand without a hole
-abbrev pub fixed_text : PieceText → List ℕ
-fixed_text p = p.before ++ p.after
+abbrev pub text_without_hole : PieceText → List ℕ
+text_without_hole p = p.before ++ p.after
 
 -- no text is an operand of both forms
 unfoldable pub piece_apart : PieceText → PieceText → Bool
 piece_apart p q = differ p.before q.before ||
-    ((is_fixed q && not (is_some (piece_found p (fixed_text q)))) ||
-    (is_fixed p && not (is_some (piece_found q (fixed_text p)))))
+    ((is_fixed q && not (is_some (piece_found p (text_without_hole q)))) ||
+    (is_fixed p && not (is_some (piece_found q (text_without_hole p)))))
 
 -- no texts are the operands of both forms: they differ in number, or one operand is of one form alone
 unfoldable pub pieces_apart : List PieceText → List PieceText → Bool
@@ -62,7 +62,7 @@ is_filled _ text = true
 -- a good operand: its fixed texts have bytes that may be there, its registers have short numbers, and it isn't empty
 unfoldable pub is_piece_good : PieceText → Bool
 is_piece_good p = list_all is_fixed_byte p.before && (list_all is_fixed_byte p.after &&
-    (is_hole_good p.hole && is_filled p.hole (fixed_text p)))
+    (is_hole_good p.hole && is_filled p.hole (text_without_hole p)))
 
 -- the most bytes that a hole takes
 abbrev pub most_in : Hole → ℕ

@@ -64,7 +64,7 @@ impl Names {
         push_line(file, &mut self.lines);
         if self.lines.remaining_capacity() < MAX_LINE {
             self.closed = Some(Closed {
-                cycle: cycle.copied(),
+                cycle: cycle.copy(),
                 number: next,
             });
         }

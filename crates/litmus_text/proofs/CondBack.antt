@@ -21,7 +21,8 @@ use Rattle.final_cond.proofs.BackLaws.{stops, left_unblanked, left_back, right_b
 use Rattle.list_laws.proofs.Digits.{digits_of}
 use Rattle.arch_trait.specs.Writing.{Writing}
 use Rattle.arch_trait.specs.Cells.{ends_rows, is_line_byte}
-use Rattle.litmus_text.specs.TextLines.{Lines, ends, line, ◌>>=◌}
+use Rattle.litmus_text.specs.TextLines.{Lines, ends, line}
+use Rattle.text_laws.specs.ReadingSteps.{◌>>=◌}
 use Rattle.litmus_text.specs.Joined.{no_text, with_text, all_joined}
 use Rattle.litmus_text.specs.TestTable.{after_locations}
 use Rattle.litmus_text.specs.Condition.{Setting, Mentioned, TermRead, at_begin, place_put, left_put, line_of_rest, term_here, terms_here, cond_here, condition_read}

@@ -13,7 +13,8 @@ use Rattle.list_laws.proofs.Elements.{list_all-weaker, all_append, all_parts}
 use Rattle.text_laws.specs.Blanks.{is_blank}
 use Rattle.arch_trait.specs.Threads.{Puts, ThreadCode}
 use Rattle.arch_trait.specs.Writing.{Writing, WritesBack, name_in}
-use Rattle.litmus_text.specs.TextLines.{Lines, ends, line, ◌>>=◌}
+use Rattle.litmus_text.specs.TextLines.{Lines, ends, line}
+use Rattle.text_laws.specs.ReadingSteps.{◌>>=◌}
 use Rattle.litmus_text.specs.Joined.{Joined, no_text, with_text}
 use Rattle.litmus_text.specs.InitialState.{closed, braced_if, braced, brace_ends, braced_read, initial_read}
 use Rattle.litmus_text.specs.TestText.{item_text, items_lines, initial_lines}

@@ -5,7 +5,8 @@ use Rattle.litmus_text.specs.declared.errors.TextError.{TextError}
 use Rattle.arch_trait.specs.Writing.{Writing}
 use Rattle.text_laws.specs.Cuts.{cut_at, CutParts, is_without}
 use Rattle.litmus_text.specs.TextCuts.{pieces}
-use Rattle.litmus_text.specs.TextLines.{Lines, ends, line, ◌>>=◌}
+use Rattle.litmus_text.specs.TextLines.{Lines, ends, line}
+use Rattle.text_laws.specs.ReadingSteps.{◌>>=◌}
 use Rattle.litmus_text.specs.Joined.{Joined, with_text, all_joined}
 use Rattle.text_laws.specs.Lines.{but_last}
 use Rattle.litmus_text.specs.InitialState.{Begun, item_read, items_read, closed, open_to, braced}

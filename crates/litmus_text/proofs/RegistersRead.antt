@@ -18,7 +18,7 @@ use Rattle.litmus_text.specs.TextCuts.{pieces}
 use Rattle.litmus_text.specs.Joined.{Joined, no_text}
 use Rattle.litmus_text.specs.TextLines.{Lines, ends, line}
 use Rattle.text_laws.specs.Lines.{but_last}
-use Rattle.litmus_text.specs.InitialState.{Worth, a_number, a_place, Item, empty, gives, zero_at, worth_of, given_item, item_with, whole_left, item_if, item_parts, some_item, item_of, Begun, nothing_begun, is_given, with_value, address_begun, with_worth, with_named, item_put, item_read, items_read, Braced, closed, open_to, braced, brace_ends, braced_read, initial_line, initial_read}
+use Rattle.litmus_text.specs.InitialState.{Worth, a_number, a_place, InitialItem, empty, gives, zero_at, worth_of, given_item, item_with, whole_left, item_if, item_parts, some_item, item_of, Begun, nothing_begun, is_given, with_value, address_begun, with_worth, with_named, item_put, item_read, items_read, Braced, closed, open_to, braced, brace_ends, braced_read, initial_line, initial_read}
 use Rattle.litmus_text.specs.Runnable.{AllNameRegisters}
 use Rattle.litmus_text.proofs.RunnableRead.{Gives, then_gives, all_push}
 
@@ -29,7 +29,7 @@ position_within t i (x ∷ xs) r h = by_test (t x)
     (λ e. let f : Some i ≡ Some r = sym (rw e refl) ∙ h in let g : i ≡ r = cc in omega (arith, g))
     (λ e. let f : position_from t (i + 1) xs ≡ Some r = sym (rw e refl) ∙ h in omega (arith, position_within t (i + 1) xs r f))
 
-abbrev ItemBelow : Option Item → Type 0
+abbrev ItemBelow : Option InitialItem → Type 0
 ItemBelow None = Unit
 ItemBelow (Some empty) = Unit
 ItemBelow (Some (gives thread register worth)) = register < 32
@@ -77,7 +77,7 @@ named_below : (n : ℕ) (begun : Begun) (name : List ℕ) (place : Option ℕ) �
 named_below n begun name None h = tt
 named_below n begun name (Some place) h = h
 
-put_below : (first last : ℕ) (begun : Begun) (item : Option Item) → BegunBelow begun → ItemBelow item → Gives BegunBelow (item_put first last begun item)
+put_below : (first last : ℕ) (begun : Begun) (item : Option InitialItem) → BegunBelow begun → ItemBelow item → Gives BegunBelow (item_put first last begun item)
 put_below first last begun None h b = tt
 put_below first last begun (Some empty) h b = h
 put_below first last begun (Some (gives thread register worth)) h b = by_test (is_given thread register begun.values)

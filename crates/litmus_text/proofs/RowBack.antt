@@ -17,8 +17,9 @@ use Rattle.arch_trait.specs.Writing.{Writing, WritesBack, op_text, op_name, is_w
 use Rattle.arch_trait.proofs.Spelling.{instr_back, word_is}
 use Rattle.arch_trait.specs.Cells.{WritesCells, access_count, ends_rows, is_access, is_cell_byte, is_label_op}
 use Rattle.arch_trait.specs.LabelOrder.{is_next, labels_after, labels_in}
-use Rattle.litmus_text.specs.TextLines.{Lines, line, ◌>>=◌}
-use Rattle.litmus_text.specs.TestTable.{Column, Among, among, has_room, instr_put, cell_read, row_read, before_columns, rows_read, cells_of}
+use Rattle.litmus_text.specs.TextLines.{Lines, line}
+use Rattle.text_laws.specs.ReadingSteps.{◌>>=◌}
+use Rattle.litmus_text.specs.TestTable.{Column, Among, among, fits_in_column, instr_put, cell_read, row_read, before_columns, rows_read, cells_of}
 use Rattle.litmus_text.specs.Placing.{op_renumbered, mentioned}
 use Rattle.litmus_text.specs.TablePlan.{placed_from, label_table, column_so_far}
 use Rattle.litmus_text.specs.Progress.{RowProgress, progress, moved, advanced, column_at, mentioned_first, row_mentions, is_placed, OpFits, CodeFits}
@@ -131,7 +132,7 @@ op_put a w table final s names first n done op laws fits few at_line among_table
     let named = named_op op table names (labels_in 0 done) fits.placed fits.next in
     let read = instr_back a w laws names op s (label_table (labels_in 0 done)) fits.has named
     ∙ numbers_back op names s table final (labels_in 0 done) among_table short fits.placed fits.next few within in
-    let room : has_room (column_so_far final names first done) (op_renumbered final names op) ≡ true =
+    let room : fits_in_column (column_so_far final names first done) (op_renumbered final names op) ≡ true =
     ap (λ b. not b || nat_lt (count_by (λ placed. is_access placed.op) (placed_from final names first done)) 64) (access_same final names op)
     ∙ ap (λ m. not (is_access op) || nat_lt m 64) (accesses_placed final names first done) ∙ fits.room in
     ap (instr_put n (column_so_far final names first done)) read

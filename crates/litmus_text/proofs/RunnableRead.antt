@@ -27,8 +27,9 @@ use Rattle.litmus_text.specs.declared.errors.TextError.{TextError}
 use Rattle.litmus_text.specs.declared.reading.table.Placed.{Placed}
 use Rattle.text_laws.specs.Words.{is_nil}
 use Rattle.text_laws.specs.Cuts.{cut_at}
-use Rattle.litmus_text.specs.TextLines.{Lines, ends, line, ◌>>=◌, bad}
-use Rattle.litmus_text.specs.TestTable.{Column, no_column, no_columns, Among, among, has_room, instr_put, instr_in, instr_or_nothing, cell_if, cell_read, row_read, rows_read, cells_of, is_label_of, is_label_row, lands_once, is_landing, labels_judged, all_labels_judged}
+use Rattle.litmus_text.specs.TextLines.{Lines, ends, line, bad}
+use Rattle.text_laws.specs.ReadingSteps.{◌>>=◌}
+use Rattle.litmus_text.specs.TestTable.{Column, no_column, no_columns, Among, among, fits_in_column, instr_put, instr_in, instr_or_nothing, cell_if, cell_read, row_read, rows_read, cells_of, is_label_of, is_label_row, lands_once, is_landing, labels_judged, all_labels_judged}
 use Rattle.litmus_text.specs.Runnable.{IsRunnable, NamesRegisters, AllNameRegisters, ops_in, AllRunnable}
 use Rattle.litmus_text.specs.TestReading.{values_of_thread}
 use Rattle.litmus_text.specs.declared.reading.table.Column.{Column as ThreadColumn}
@@ -100,7 +101,7 @@ all_weaker P Q (x ∷ xs) f h = (f x h.0, all_weaker P Q xs f h.1)
 good_weaker : (m n : ℕ) (placed : List Placed) → m ≤ n → IsGood m placed → IsGood n placed
 good_weaker m n placed h g = record { in_range = g.in_range; few = g.few; short = let s = g.short in omega arith }
 
-pushed_good : (m : ℕ) (column : Column) (p : Placed) → IsGood m column.ops → InRange p.op → has_room column p.op ≡ true → IsGood (m + 1) (column.ops ++ p ∷ [])
+pushed_good : (m : ℕ) (column : Column) (p : Placed) → IsGood m column.ops → InRange p.op → fits_in_column column p.op ≡ true → IsGood (m + 1) (column.ops ++ p ∷ [])
 pushed_good m column p g r room = record {
   in_range = all_push (λ (q : Placed). InRange q.op) column.ops p g.in_range r;
   few = let a = sum_by_push (λ (q : Placed). cond (is_access q.op) 1 0) column.ops p in let b = g.few in
@@ -113,7 +114,7 @@ pushed_good m column p g r room = record {
 }
 
 put_good : (n m : ℕ) (column : Column) (read : Result ReadInstr InstrError) → IsGood m column.ops → Ranged read → Gives (λ (s : Among Column). IsGood (m + 1) s.value.ops) (instr_put n column read)
-put_good n m column (Ok read) g r = by_test (has_room column read.op)
+put_good n m column (Ok read) g r = by_test (fits_in_column column read.op)
     (λ h. rw h (pushed_good m column (record { op = read.op; at_line = n }) g r h)) (λ h. rw h tt)
 put_good n m column (Err instrs.BadInstruction) g r = tt
 put_good n m column (Err instrs.TooManyPlaces) g r = tt

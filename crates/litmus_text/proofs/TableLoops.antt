@@ -13,7 +13,8 @@ use Rattle.arch_trait.specs.Writing.{Writing}
 use Rattle.litmus_text.specs.declared.errors.TextError.{TextError}
 use Rattle.litmus_text.specs.declared.errors.TestKind.TheVariants.{BadTable, TooLarge, EndMissing}
 use Rattle.litmus_text.specs.declared.limits.TheConstants.{MAX_THREADS, MAX_ROWS}
-use Rattle.litmus_text.specs.TextLines.{Lines, ends, line, ◌>>=◌, bad}
+use Rattle.litmus_text.specs.TextLines.{Lines, ends, line, bad}
+use Rattle.text_laws.specs.ReadingSteps.{◌>>=◌}
 use Rattle.litmus_text.specs.TestTable.{Cells, cells_of, is_head, heads_read, Column, Among, among, cell_read, instr_in, instr_or_nothing, before_columns, row_read, rows_read}
 
 -- where no cell of the header is left, the threads are counted

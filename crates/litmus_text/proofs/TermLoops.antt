@@ -7,7 +7,8 @@ use Rattle.final_cond.specs.ConditionReading.{Fault, follow_read}
 use Rattle.arch_trait.specs.Writing.{Writing}
 use Rattle.litmus_text.specs.declared.errors.TextError.{TextError}
 use Rattle.litmus_text.specs.declared.errors.TestKind.TheVariants.{BadCondition, TooLarge}
-use Rattle.litmus_text.specs.TextLines.{◌>>=◌, bad}
+use Rattle.litmus_text.specs.TextLines.{bad}
+use Rattle.text_laws.specs.ReadingSteps.{◌>>=◌}
 use Rattle.litmus_text.specs.Condition.{Setting, Mentioned, TermRead, TermsRead, before_read, term_here, terms_here}
 
 -- the terms that were read before others

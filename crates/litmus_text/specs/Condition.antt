@@ -11,7 +11,8 @@ use Rattle.arch_trait.specs.PlaceNames.{number_in, number_added, names_added}
 use Rattle.arch_trait.specs.Writing.{Writing}
 use Rattle.litmus_text.specs.declared.errors.TestKind.TheVariants.{BadCondition, TooLarge, EndMissing}
 use Rattle.litmus_text.specs.declared.errors.TextError.{TextError}
-use Rattle.litmus_text.specs.TextLines.{Lines, ends, line, ◌>>=◌, bad}
+use Rattle.litmus_text.specs.TextLines.{Lines, ends, line, bad}
+use Rattle.text_laws.specs.ReadingSteps.{◌>>=◌}
 use Rattle.litmus_text.specs.Joined.{Joined, no_text, with_text, all_joined, line_at}
 
 -- the threads of the table, the line where the condition begins, and its text

@@ -15,7 +15,8 @@ use Rattle.arch_trait.specs.Writing.{Writing}
 use Rattle.litmus_text.specs.declared.errors.TestKind.TheVariants.{BadInit, TooLarge, EndMissing}
 use Rattle.litmus_text.specs.declared.errors.TextError.{TextError}
 use Rattle.litmus_text.specs.declared.limits.TheConstants.{MAX_THREADS}
-use Rattle.litmus_text.specs.TextLines.{Lines, ends, line, TextRead, ◌>>=◌, bad}
+use Rattle.litmus_text.specs.TextLines.{Lines, ends, line, TextRead, bad}
+use Rattle.text_laws.specs.ReadingSteps.{◌>>=◌}
 use Rattle.text_laws.specs.Words.{is_nil}
 use Rattle.text_laws.specs.Cuts.{cut_at}
 use Rattle.text_laws.specs.Lines.{but_last}
@@ -28,10 +29,10 @@ pub data Worth : Type 0 where
   a_place : List ℕ → Worth
 
 -- an item: empty, `T:REG=PLACE` or `T:REG=NUM` by the number of the register, `PLACE=0` or `[PLACE]=0`
-pub data Item : Type 0 where
-  empty : Item
-  gives : (thread register : ℕ) (worth : Worth) → Item
-  zero_at : (place : List ℕ) → Item
+pub data InitialItem : Type 0 where
+  empty : InitialItem
+  gives : (thread register : ℕ) (worth : Worth) → InitialItem
+  zero_at : (place : List ℕ) → InitialItem
 
 -- the name of a place as the value of a register
 abbrev pub place_worth : List ℕ → Option Worth
@@ -47,12 +48,12 @@ abbrev pub worth_of : List ℕ → Option Worth
 worth_of text = worth_if text (number_of text)
 
 -- a register that is given a value
-abbrev pub given_item : ℕ → Option ℕ → Option Worth → Option Item
+abbrev pub given_item : ℕ → Option ℕ → Option Worth → Option InitialItem
 given_item thread (Some register) (Some worth) = Some (gives thread register worth)
 given_item thread _ _ = None
 
 -- an item with this left side
-abbrev pub item_with : Writing → LeftSeen → List ℕ → Option Item
+abbrev pub item_with : Writing → LeftSeen → List ℕ → Option InitialItem
 item_with w (InRegister thread name) right =
     cond (nat_lt thread MAX_THREADS) (given_item thread (number_in w.registers name) (worth_of right)) None
 item_with w (AtPlace name) right =
@@ -64,22 +65,22 @@ whole_left None = None
 whole_left (Some left) = cond (is_nil left.1) (Some left.0) None
 
 -- the item of a left side, if there is one
-abbrev pub item_if : Writing → Option LeftSeen → List ℕ → Option Item
+abbrev pub item_if : Writing → Option LeftSeen → List ℕ → Option InitialItem
 item_if w None right = None
 item_if w (Some left) right = item_with w left right
 
 -- the item of the two sides of `=`, around which blanks may be
-abbrev pub item_parts : Writing → Option (List ℕ × List ℕ) → Option Item
+abbrev pub item_parts : Writing → Option (List ℕ × List ℕ) → Option InitialItem
 item_parts w None = None
 item_parts w (Some sides) = item_if w (whole_left (left_at_start (trim_blanks sides.0))) (trim_blanks sides.1)
 
 -- the item of a text without blanks at its ends
-abbrev pub some_item : Writing → List ℕ → Option Item
+abbrev pub some_item : Writing → List ℕ → Option InitialItem
 some_item w [] = Some empty
 some_item w (byte ∷ text) = item_parts w (cut_at 61 (byte ∷ text))
 
 -- the item of a text, with blanks at both ends
-unfoldable pub item_of : Writing → List ℕ → Option Item
+unfoldable pub item_of : Writing → List ℕ → Option InitialItem
 item_of w text = some_item w (trim_blanks text)
 
 -- the initial values so far, each with its thread and register, and the names of places
@@ -123,7 +124,7 @@ abbrev pub name_begun : ℕ → Begun → List ℕ → Result Begun TextError
 name_begun n begun name = with_named n begun name (number_added begun.names name)
 
 -- an item that begins at a line and ends at one
-abbrev pub item_put : ℕ → ℕ → Begun → Option Item → Result Begun TextError
+abbrev pub item_put : ℕ → ℕ → Begun → Option InitialItem → Result Begun TextError
 item_put first last begun None = bad BadInit first
 item_put first last begun (Some empty) = Ok begun
 item_put first last begun (Some (gives thread register worth)) =

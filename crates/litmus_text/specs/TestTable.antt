@@ -17,7 +17,8 @@ use Rattle.litmus_text.specs.declared.errors.TestKind.TheVariants.{BadTable, Bad
 use Rattle.litmus_text.specs.declared.errors.TextError.{TextError}
 use Rattle.litmus_text.specs.declared.limits.TheConstants.{MAX_THREADS, MAX_ROWS, MAX_ACCESSES}
 use Rattle.litmus_text.specs.declared.reading.table.Placed.{Placed}
-use Rattle.litmus_text.specs.TextLines.{Lines, ends, line, TextRead, ◌>>=◌, bad}
+use Rattle.litmus_text.specs.TextLines.{Lines, ends, line, TextRead, bad}
+use Rattle.text_laws.specs.ReadingSteps.{◌>>=◌}
 use Rattle.text_laws.specs.Words.{is_nil}
 use Rattle.text_laws.specs.Cuts.{cut_at}
 use Rattle.litmus_text.specs.TextCuts.{pieces}
@@ -84,8 +85,8 @@ abbrev pub among : {A : Type 0} → List (List ℕ) → A → Among A
 among names value = record { names = names; value = value }
 
 -- a column has room for an operation: one access more is not too many
-abbrev pub has_room : Column → Micro → Bool
-has_room column op = not (is_access op) || nat_lt (count_by (λ placed. is_access placed.op) column.ops) MAX_ACCESSES
+abbrev pub fits_in_column : Column → Micro → Bool
+fits_in_column column op = not (is_access op) || nat_lt (count_by (λ placed. is_access placed.op) column.ops) MAX_ACCESSES
 
 -- a column with an operation more
 abbrev pub with_op : ℕ → Column → ReadInstr → Column
@@ -96,7 +97,7 @@ with_op n column read = record {
 
 -- an instruction that was read in a line
 abbrev pub instr_put : ℕ → Column → Result ReadInstr InstrError → Result (Among Column) TextError
-instr_put n column (Ok read) = cond (has_room column read.op) (Ok (among read.places (with_op n column read))) (bad TooLarge n)
+instr_put n column (Ok read) = cond (fits_in_column column read.op) (Ok (among read.places (with_op n column read))) (bad TooLarge n)
 instr_put n column (Err instrs.BadInstruction) = bad BadInstruction n
 instr_put n column (Err instrs.TooManyPlaces) = bad TooLarge n
 instr_put n column (Err instrs.TooManyLabels) = bad TooLarge n

@@ -44,12 +44,6 @@ lines_from n text = lines_in n (slice_split is_line_feed text)
 abbrev pub TextRead : Type 0 → Type 0
 TextRead A = Result (A × Lines) TextError
 
-infixl 10 ◌>>=◌
--- what is read first, and then the rest by it, unless there is a fault
-abbrev pub ◌>>=◌ : {A B : Type 0} → Result A TextError → (A → Result B TextError) → Result B TextError
-(Ok x) >>= f = f x
-(Err e) >>= f = Err e
-
 -- a fault at a line
 abbrev pub bad : {A : Type 0} → TestKind → ℕ → Result A TextError
 bad kind n = Err (record { line = n; kind = kind })

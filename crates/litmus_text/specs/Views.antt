@@ -24,13 +24,14 @@ use Rattle.litmus_text.specs.declared.reading.table.Column.{Column as ThreadColu
 use Rattle.litmus_text.specs.declared.reading.terms.Setting.{Setting as Here}
 use Rattle.litmus_text.specs.declared.reading.terms.Mentioned.{Mentioned as Names}
 use Rattle.litmus_text.specs.TextCuts.{pieces}
-use Rattle.litmus_text.specs.TextLines.{Lines, ends, line, lines_from, ◌>>=◌}
+use Rattle.litmus_text.specs.TextLines.{Lines, ends, line, lines_from}
+use Rattle.text_laws.specs.ReadingSteps.{◌>>=◌}
 use Rattle.arch_trait.specs.Writing.{Writing}
 use Rattle.relax_edges.specs.declared.kinds.Value.{Value}
 use Rattle.litmus_text.specs.declared.errors.TextError.{TextError}
 use Rattle.litmus_text.specs.ReadingAnswers.{GivesTest}
 use Rattle.litmus_text.specs.Joined.{Joined}
-use Rattle.litmus_text.specs.InitialState.{Worth, a_number, a_place, Item, empty, gives, zero_at, Begun, items_read, initial_read, Braced, closed, open_to}
+use Rattle.litmus_text.specs.InitialState.{Worth, a_number, a_place, InitialItem, empty, gives, zero_at, Begun, items_read, initial_read, Braced, closed, open_to}
 use Rattle.litmus_text.specs.TestTable.{Cells, Column, Among, among, no_columns, row_read, rows_read, head_read, all_labels_judged, after_locations}
 use Rattle.litmus_text.specs.Condition.{Setting, Mentioned, TermRead, TermsRead, CondRead, terms_here, condition_read}
 use Rattle.litmus_text.specs.TestReading.{TestRead, threads_of}
@@ -77,7 +78,7 @@ worth_seen (worths.Number n) = a_number n
 worth_seen (worths.Place name) = a_place name.now
 
 -- what the code sees of an item of the initial state
-abbrev pub item_seen : TextItem → Item
+abbrev pub item_seen : TextItem → InitialItem
 item_seen items.Empty = empty
 item_seen (items.Register thread register worth) = gives thread register (worth_seen worth)
 item_seen (items.Zero name) = zero_at name.bytes

@@ -13,7 +13,8 @@ use Rattle.log_sum.specs.declared.kinds.Place.{Place}
 use Rattle.log_sum.specs.declared.kinds.Place.TheVariants.{Outside, Histogram, States, Judgement, Rest, Conditioned}
 use Rattle.log_sum.specs.Facts.{Fact, facts_of, fact_fault}
 use Rattle.log_sum.specs.LogLines.{Said, log_line_said, fact_said, test_after, place_after}
-use Rattle.log_sum.specs.LogReading.{LogSeen, ◌>>=◌, fault_at, is_too_long, nothing_seen, fact_put, fact_judged, said_to, said_put, at_next_line, next_line, text_judged, line_judged, lines_judged, rest_judged, bytes_judged, last_judged, end_at, end_judged, file_judged, files_judged, input_judged}
+use Rattle.log_sum.specs.LogReading.{LogSeen, fault_at, is_too_long, nothing_seen, fact_put, fact_judged, said_to, said_put, at_next_line, next_line, text_judged, line_judged, lines_judged, rest_judged, bytes_judged, last_judged, end_at, end_judged, file_judged, files_judged, input_judged}
+use Rattle.text_laws.specs.ReadingSteps.{◌>>=◌}
 use Rattle.text_laws.specs.Lines.{without_return, whole_lines, unended}
 use Rattle.log_sum.specs.Representing.{SumProgress, Kept, Represents, FedTo, EndedTo}
 use Rattle.log_sum.specs.Feeding.{AreMarked, FollowsSeen, ReadOn, JudgedTo, PieceTo, EndTo, sum_refusal}

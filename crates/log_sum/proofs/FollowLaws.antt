@@ -17,7 +17,8 @@ use Rattle.log_sum.specs.SumViews.{tests_view, IsLineFault}
 use Rattle.diy_io.specs.Count.{last_count}
 use Rattle.log_sum.specs.Facts.{Row, Fact, Entry, a_kind, a_row, a_condition, a_hash, facts_of, rows, same_state_mark, is_other, mark_in, marked_sum, fault_if, fact_fault}
 use Rattle.log_sum.specs.LogLines.{Said, passed_over, begins, counts, a_state, judged, conditioned, hashed, ends, test_line, outside_said, row_said, log_line_said, place_after, fact_said, test_after}
-use Rattle.log_sum.specs.LogReading.{LogSeen, fact_put, fact_judged, fault_at, said_to, said_judged, said_put, text_judged, at_next_line, next_line, ◌>>=◌}
+use Rattle.log_sum.specs.LogReading.{LogSeen, fact_put, fact_judged, fault_at, said_to, said_judged, said_put, text_judged, at_next_line, next_line}
+use Rattle.text_laws.specs.ReadingSteps.{◌>>=◌}
 use Rattle.log_sum.specs.Representing.{SumProgress, IsRunning, test_name_at}
 use Rattle.log_sum.specs.Summed.{Summed}
 use Rattle.text_laws.specs.Words.{words}

@@ -2,7 +2,8 @@
 use Rattle.std.proofs.Common.{◌≡◌, ℕ, List, [], ◌∷◌, ◌++◌, Ok, Err, sym, ap, ◌∙◌}
 use Rattle.std.specs.Prelude.{Result}
 use Rattle.log_sum.specs.declared.errors.LogError.{LogError}
-use Rattle.log_sum.specs.LogReading.{LogSeen, ◌>>=◌, nothing_seen, files_judged, input_judged}
+use Rattle.log_sum.specs.LogReading.{LogSeen, nothing_seen, files_judged, input_judged}
+use Rattle.text_laws.specs.ReadingSteps.{◌>>=◌}
 use Rattle.log_sum.specs.Representing.{Kept, Represents, kept_text, logs_text}
 use Rattle.log_sum.specs.SumText.{sum_text}
 use Rattle.log_sum.proofs.PrintLaws.{sum_is}

@@ -8,7 +8,8 @@ use Rattle.log_sum.specs.declared.errors.LogError.{LogError}
 use Rattle.log_sum.specs.declared.errors.LogKind.TheVariants.{LineTooLong}
 use Rattle.text_laws.specs.Cuts.{cut_at, before_cut}
 use Rattle.text_laws.specs.Lines.{whole_lines, unended}
-use Rattle.log_sum.specs.LogReading.{LogSeen, ◌>>=◌, fault_at, is_too_long, nothing_seen, lines_judged, line_judged, rest_judged, bytes_judged, last_judged, end_judged, file_judged, files_judged, input_judged}
+use Rattle.log_sum.specs.LogReading.{LogSeen, fault_at, is_too_long, nothing_seen, lines_judged, line_judged, rest_judged, bytes_judged, last_judged, end_judged, file_judged, files_judged, input_judged}
+use Rattle.text_laws.specs.ReadingSteps.{◌>>=◌}
 use Rattle.log_sum.proofs.ReadingLaws.{is_one_line, lines_cut, lines_both, lines_more, rest_more}
 
 -- a text at its first line feed

@@ -2,6 +2,7 @@
 -- Source: own.
 use Rattle.std.specs.Prelude.{ℕ, ◌+◌, nat_lt, Bool, cond, List, [], ◌∷◌, ◌++◌, length, min, Option, Some, None, Result, Ok, Err}
 use Rattle.text_laws.specs.Lines.{without_return, whole_lines, unended}
+use Rattle.text_laws.specs.ReadingSteps.{◌>>=◌}
 use Rattle.log_sum.specs.declared.errors.LogKind.{LogKind}
 use Rattle.log_sum.specs.declared.errors.LogKind.TheVariants.{Truncated, LineTooLong}
 use Rattle.log_sum.specs.declared.errors.LogError.{LogError}
@@ -21,12 +22,6 @@ pub record LogSeen : Type 0 where
 -- nothing has been read
 abbrev pub nothing_seen : LogSeen
 nothing_seen = record { entries = []; test = []; place = Outside; line = 1 }
-
-infixl 1 ◌>>=◌
--- what is read next, where there was no fault
-abbrev pub ◌>>=◌ : {A B : Type 0} → Result A LogError → (A → Result B LogError) → Result B LogError
-(Ok x) >>= next = next x
-(Err error) >>= next = Err error
 
 -- a fault at the next line
 abbrev pub fault_at : {A : Type 0} → ℕ → LogKind → Result A LogError

@@ -10,7 +10,7 @@ use Rattle.list_laws.proofs.Cases.{by_test}
 use Rattle.relax_edges.specs.declared.edge.Edge.{Edge}
 use Rattle.relax_edges.specs.declared.relax_error.RelaxKind.{RelaxKind}
 use Rattle.relax_edges.specs.declared.relax_error.RelaxKind.TheVariants.{UnknownEdge, RelaxTooLong, DoesNotJoin}
-use Rattle.relax_edges.specs.RelaxText.{is_separator, is_empty, Item, words_from, item_from, bytes_after, items_from, items_of}
+use Rattle.relax_edges.specs.RelaxText.{is_separator, is_empty, RelaxItem, words_from, item_from, bytes_after, items_from, items_of}
 use Rattle.relax_edges.specs.Relaxations.{word_edges, paths_of, keep_all, at_most_64, kept_paths, kept_words, kept_item, kept_items, relaxes_of}
 use Rattle.relax_edges.specs.RelaxSearch.{paths_after, KeepsPaths}
 use Rattle.relax_edges.specs.RelaxPrefix.{first_word_len, kept_prefix}
@@ -98,11 +98,11 @@ items_after place byte remainder n =
     let more : n + 1 ≡ suc n = omega arith in
     rw (more, ← more) (items_passed (place + 1) n remainder ∙ ap (λ p. items_from p 0 (drop n remainder)) e)
 
-kept_one : (kept more : List (List Edge)) (item : Item) (items : List Item) → kept_item kept item.words ≡ Ok more → kept_items kept (item ∷ items) ≡ kept_items more items
+kept_one : (kept more : List (List Edge)) (item : RelaxItem) (items : List RelaxItem) → kept_item kept item.words ≡ Ok more → kept_items kept (item ∷ items) ≡ kept_items more items
 unfolding kept_items
 kept_one kept more item items ok = rw (ok, kept_items) refl
 
-refused_one : (kept : List (List Edge)) (kind : RelaxKind) (item : Item) (items : List Item) → kept_item kept item.words ≡ Err kind
+refused_one : (kept : List (List Edge)) (kind : RelaxKind) (item : RelaxItem) (items : List RelaxItem) → kept_item kept item.words ≡ Err kind
     → kept_items kept (item ∷ items) ≡ Err (record { at = item.start; kind = kind })
 unfolding kept_items
 refused_one kept kind item items err = rw (err, kept_items) refl
@@ -133,7 +133,7 @@ kept_items_prefix kept more place (byte ∷ remainder) ok =
     ∙ ap (λ k. kept_items k (items_from (place + 1) (bytes_after byte remainder) remainder)) same_kept
     ∙ ap (kept_items more) (items_after place byte remainder (bytes_after byte remainder)))
     (λ n.
-    let item : Item = record { start = place; words = words_from byte remainder } in
+    let item : RelaxItem = record { start = place; words = words_from byte remainder } in
     let one : item_from place byte remainder ≡ item ∷ [] = rw n refl in
     ap (λ items. kept_items kept (items ++ items_from (place + 1) (bytes_after byte remainder) remainder)) one
     ∙ kept_one kept more item (items_from (place + 1) (bytes_after byte remainder) remainder) (sym (item_at_start kept byte remainder n) ∙ ok)
@@ -148,7 +148,7 @@ kept_items_refused kept kind place (byte ∷ remainder) err =
     by_test (is_separator byte)
     (λ s. let e : ◌≡◌ {A = Answer} (Ok kept) (Err kind) = sym (separator_at_start kept byte remainder s) ∙ err in cc)
     (λ n.
-    let item : Item = record { start = place; words = words_from byte remainder } in
+    let item : RelaxItem = record { start = place; words = words_from byte remainder } in
     let one : item_from place byte remainder ≡ item ∷ [] = rw n refl in
     ap (λ items. kept_items kept (items ++ items_from (place + 1) (bytes_after byte remainder) remainder)) one
     ∙ refused_one kept kind item (items_from (place + 1) (bytes_after byte remainder) remainder) (sym (item_at_start kept byte remainder n) ∙ err))

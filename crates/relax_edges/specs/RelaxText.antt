@@ -43,7 +43,7 @@ abbrev pub bracket_words : List ℕ → Option (List (List ℕ))
 bracket_words remainder = cond (has_closed_bracket remainder) (some_words (words_of (inside remainder))) None
 
 -- an item: the byte where it begins, and its words, or none where its bracket is bad
-pub record Item : Type 0 where
+pub record RelaxItem : Type 0 where
   pub start : ℕ
   pub words : Option (List (List ℕ))
 
@@ -52,7 +52,7 @@ abbrev pub words_from : ℕ → List ℕ → Option (List (List ℕ))
 words_from byte remainder = cond (byte == 91) (bracket_words remainder) (cond (byte == 93) None (Some ((byte ∷ before_first ends_word remainder) ∷ [])))
 
 -- the item that begins with a byte, or none at a separator
-abbrev pub item_from : ℕ → ℕ → List ℕ → List Item
+abbrev pub item_from : ℕ → ℕ → List ℕ → List RelaxItem
 item_from start byte remainder = cond (is_separator byte) [] (record { start = start; words = words_from byte remainder } ∷ [])
 
 -- how many bytes of an item follow its first one
@@ -61,11 +61,11 @@ bytes_after byte remainder =
     cond (is_separator byte || byte == 93) 0 (cond (byte == 91) (length (inside remainder) + 1) (length (before_first ends_word remainder)))
 
 -- the items of a text whose first byte has this place, after that many bytes are passed over
-abbrev pub items_from : ℕ → ℕ → List ℕ → List Item
+abbrev pub items_from : ℕ → ℕ → List ℕ → List RelaxItem
 items_from place passed [] = []
 items_from place (suc passed) (byte ∷ remainder) = items_from (place + 1) passed remainder
 items_from place zero (byte ∷ remainder) = item_from place byte remainder ++ items_from (place + 1) (bytes_after byte remainder) remainder
 
 -- the items of a text
-unfoldable pub items_of : List ℕ → List Item
+unfoldable pub items_of : List ℕ → List RelaxItem
 items_of text = items_from 0 0 text

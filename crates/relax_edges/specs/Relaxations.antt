@@ -10,7 +10,7 @@ use Rattle.relax_edges.specs.declared.relax_error.RelaxError.{RelaxError}
 use Rattle.relax_edges.specs.JoinedEdges.{is_joined}
 use Rattle.relax_edges.specs.Order.{rank_of}
 use Rattle.relax_edges.specs.Spelling.{edge_of}
-use Rattle.relax_edges.specs.RelaxText.{Item, is_empty, items_of}
+use Rattle.relax_edges.specs.RelaxText.{RelaxItem, is_empty, items_of}
 
 -- the bytes that a byte of a word means: a `*` among the last two means `R` and `W`, any other byte itself
 abbrev pub byte_choices : ℕ → ℕ → List ℕ
@@ -90,7 +90,7 @@ kept_item kept None = Err BadBracket
 kept_item kept (Some words) = kept_words kept words
 
 -- the list kept after some items, or the first refusal
-unfoldable pub kept_items : List (List Edge) → List Item → Result (List (List Edge)) RelaxError
+unfoldable pub kept_items : List (List Edge) → List RelaxItem → Result (List (List Edge)) RelaxError
 kept_items kept [] = Ok kept
 kept_items kept (item ∷ items) =
     elim (kept_item kept item.words) as (λ _. Result (List (List Edge)) RelaxError) [

@@ -15,7 +15,7 @@ pub fn leading_edge(text: &[u8]) -> Option<(Edge, &[u8])>
         [b'W', b's', rest @ ..] => communication(Com::Ws, rest),
         [b'P', b'o', rest @ ..] => program_order(rest),
         [b'D', b'p', rest @ ..] => dependency(rest),
-        _ => fenced(text),
+        _ => fence_edge(text),
     }
 }
 
@@ -41,7 +41,7 @@ fn program_order(text: &[u8]) -> Option<(Edge, &[u8])>
 }
 
 /// Program order with the fence with whose word a text begins.
-fn fenced(text: &[u8]) -> Option<(Edge, &[u8])>
+fn fence_edge(text: &[u8]) -> Option<(Edge, &[u8])>
     ensures { IfSome result (λ parts. text.now ≡ word_of parts.0 ++ parts.1.now) }
 {
     let (fence, letters) = leading_fence(text)?;

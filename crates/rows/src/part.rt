@@ -34,7 +34,7 @@ pub fn are_met(parts: &[Part]) -> bool
 }
 
 /// A copy of bytes, where they are there.
-fn copied(alloc: Global, bytes: Option<&[u8]>) -> Result<Option<Vec<u8>>, TableError> {
+fn copy_of(alloc: Global, bytes: Option<&[u8]>) -> Result<Option<Vec<u8>>, TableError> {
     match bytes {
         Some(bytes) => Ok(Some(Vec::from_slice(alloc, bytes)?)),
         None => Ok(None),
@@ -49,8 +49,8 @@ pub fn add_part(
     wanted: Option<&[u8]>,
     got: Option<&[u8]>,
 ) -> Result<(), TableError> {
-    let wanted = copied(alloc, wanted)?;
-    let got = copied(alloc, got)?;
+    let wanted = copy_of(alloc, wanted)?;
+    let got = copy_of(alloc, got)?;
     let name = String::from_str(alloc, name)?;
     parts.push(Part { name, wanted, got })?;
     Ok(())

@@ -10,7 +10,8 @@ use Rattle.text_laws.specs.Words.{is_nil}
 use Rattle.diy_io.specs.Count.{last_count}
 use Rattle.log_sum.specs.Facts.{Fact, Entry, facts_of, fact_fault}
 use Rattle.log_sum.specs.LogLines.{Said, log_line_said, place_after, fact_said, test_after}
-use Rattle.log_sum.specs.LogReading.{LogSeen, ◌>>=◌, is_too_long, next_line, fact_put, at_next_line, text_judged, line_judged, lines_judged}
+use Rattle.log_sum.specs.LogReading.{LogSeen, is_too_long, next_line, fact_put, at_next_line, text_judged, line_judged, lines_judged}
+use Rattle.text_laws.specs.ReadingSteps.{◌>>=◌}
 use Rattle.text_laws.specs.Lines.{is_line_feed, without_return, but_last, last_of, whole_lines, unended}
 use Rattle.sum_laws.proofs.Cases.{Place}
 use Rattle.sum_laws.proofs.Texts.{all_both, no_feed}

@@ -7,7 +7,8 @@ use Rattle.list_laws.proofs.Cases.{by_test}
 use Rattle.log_sum.specs.declared.errors.LogError.{LogError}
 use Rattle.diy_io.specs.Count.{last_count}
 use Rattle.log_sum.specs.Facts.{Row, Fact, Entry, a_kind, a_row, a_condition, a_hash, rows, hashes, first_of, same_state_mark, marked_sum, state_sum, states_of, facts_of, tests_of}
-use Rattle.log_sum.specs.LogReading.{LogSeen, nothing_seen, ◌>>=◌, file_judged, files_judged}
+use Rattle.log_sum.specs.LogReading.{LogSeen, nothing_seen, file_judged, files_judged}
+use Rattle.text_laws.specs.ReadingSteps.{◌>>=◌}
 use Rattle.text_laws.specs.Lines.{without_return}
 use Rattle.log_sum.specs.Summed.{state_by, summed}
 use Rattle.log_sum.specs.SumText.{summed_text, sum_text}

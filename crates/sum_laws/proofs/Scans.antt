@@ -6,7 +6,8 @@ use Rattle.log_sum.specs.declared.errors.LogError.{LogError}
 use Rattle.log_sum.specs.declared.errors.LogKind.{LogKind}
 use Rattle.log_sum.specs.Facts.{Fact, Entry, facts_of, fact_fault}
 use Rattle.log_sum.specs.LogLines.{Said, log_line_said, place_after, fact_said, test_after}
-use Rattle.log_sum.specs.LogReading.{LogSeen, ◌>>=◌, is_too_long, next_line, fact_put, fact_judged, at_next_line, said_put, text_judged, line_judged, lines_judged, last_judged, end_at, end_judged, file_judged, files_judged}
+use Rattle.log_sum.specs.LogReading.{LogSeen, is_too_long, next_line, fact_put, fact_judged, at_next_line, said_put, text_judged, line_judged, lines_judged, last_judged, end_at, end_judged, file_judged, files_judged}
+use Rattle.text_laws.specs.ReadingSteps.{◌>>=◌}
 use Rattle.text_laws.specs.Lines.{without_return, whole_lines, unended}
 use Rattle.sum_laws.proofs.Cases.{Place, outside, is_outside, outside_is}
 use Rattle.sum_laws.proofs.Blocks.{seen_at, entry, Clean, clean_parts}

@@ -17,7 +17,8 @@ use Rattle.text_laws.specs.Blanks.{before_blanks}
 use Rattle.log_sum.specs.Counts.{count_read}
 use Rattle.log_sum.specs.Facts.{Fact, Entry, a_kind, a_row, a_condition, a_hash, kinds, conditions, first_of, facts_of, fact_fault, is_other, same_kind}
 use Rattle.log_sum.specs.LogLines.{Said, passed_over, begins, counts, a_state, judged, conditioned, hashed, ends, histogram_line, log_line_said, log_row, place_after, kind_at, left_at, states_left, after_state, fact_said}
-use Rattle.log_sum.specs.LogReading.{LogSeen, nothing_seen, ◌>>=◌, is_too_long, next_line, fact_put, fact_judged, at_next_line, said_put, said_to, text_judged, line_judged, lines_judged, last_judged, end_judged, file_judged, files_judged}
+use Rattle.log_sum.specs.LogReading.{LogSeen, nothing_seen, is_too_long, next_line, fact_put, fact_judged, at_next_line, said_put, said_to, text_judged, line_judged, lines_judged, last_judged, end_judged, file_judged, files_judged}
+use Rattle.text_laws.specs.ReadingSteps.{◌>>=◌}
 use Rattle.text_laws.specs.Lines.{without_return, but_last, last_of, whole_lines, unended}
 use Rattle.sum_laws.proofs.Cases.{Kind, Verdict, Place, outside, histogram, in_rest, conditioned_at, is_outside}
 use Rattle.sum_laws.proofs.Texts.{no_feed, is_word, bytes_same}

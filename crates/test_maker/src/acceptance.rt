@@ -19,32 +19,32 @@ pub fn accepted<A: Arch>(cycle: &Cycle, mode: ObsMode) -> Result<(), MakeRefusal
 {
     match first_unsupported::<A>(cycle.edges()) {
         Some(at) => Err(MakeRefusal::NotOfArch { at }),
-        None => accepted_of_arch::<A>(cycle, mode),
+        None => acceptance_on_arch::<A>(cycle, mode),
     }
 }
 
-fn accepted_of_arch<A: Arch>(cycle: &Cycle, mode: ObsMode) -> Result<(), MakeRefusal>
+fn acceptance_on_arch<A: Arch>(cycle: &Cycle, mode: ObsMode) -> Result<(), MakeRefusal>
     ensures { AcceptsResolution A.puts (resolution_of cycle.now) mode result }
 {
     match &resolve(cycle) {
         Err(ResolveError::TooFewThreads) => Err(MakeRefusal::TooFewThreads),
         Err(ResolveError::CoherenceOnly) => Err(MakeRefusal::CoherenceOnly),
-        Ok(resolved) => accepted_resolved::<A>(resolved, mode),
+        Ok(resolved) => acceptance_of_resolved::<A>(resolved, mode),
     }
 }
 
-fn accepted_resolved<A: Arch>(resolved: &Resolved, mode: ObsMode) -> Result<(), MakeRefusal>
+fn acceptance_of_resolved<A: Arch>(resolved: &Resolved, mode: ObsMode) -> Result<(), MakeRefusal>
     ensures { AcceptsResolution A.puts (Ok resolved.now) mode result }
 {
     match value(resolved, mode) {
         Err(NeedsObserver { location, event }) => {
             Err(MakeRefusal::NeedsObserver { location, event })
         }
-        Ok(valued) => accepted_valued::<A>(&valued),
+        Ok(valued) => acceptance_of_valued::<A>(&valued),
     }
 }
 
-fn accepted_valued<A: Arch>(valued: &Valued) -> Result<(), MakeRefusal>
+fn acceptance_of_valued<A: Arch>(valued: &Valued) -> Result<(), MakeRefusal>
     ensures { AcceptsValued A.puts valued.now.edges valued.now.mode result }
 {
     let mut events = Steps::new();

@@ -5,3 +5,4 @@ pub mod Blanks
 pub mod Words
 pub mod Cuts
 pub mod Lines
+pub mod ReadingSteps

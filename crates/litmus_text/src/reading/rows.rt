@@ -1,7 +1,7 @@
 ghost use Rattle.std.specs.Prelude.{◌≡◌, map, length, count_by, IfOk};
 ghost use Rattle.arch_trait.specs.Cells.{is_access, ends_rows};
 ghost use Rattle.litmus_text.specs.ReadingAnswers.{GivesInMemory};
-ghost use Rattle.litmus_text.specs.TestTable.{no_columns, has_room, instr_in, instr_or_nothing, cell_read, rows_read, after_locations};
+ghost use Rattle.litmus_text.specs.TestTable.{no_columns, fits_in_column, instr_in, instr_or_nothing, cell_read, rows_read, after_locations};
 ghost use Rattle.litmus_text.specs.Views.{text_left, pieces_left, cells_read, column_among, columns_among, columns_before, column_seen, EndsRow};
 
 use crate::errors::{ReadError, TestKind, TextError, error_at_line};
@@ -51,8 +51,8 @@ fn count_accesses(ops: &[Placed]) -> usize
 }
 
 /// Whether one access more is not too many, if the operation is one.
-fn has_room(column: &Column, op: &Micro) -> bool
-    ensures { result ≡ has_room (column_seen column.now) op.now }
+fn fits_in_column(column: &Column, op: &Micro) -> bool
+    ensures { result ≡ fits_in_column (column_seen column.now) op.now }
 {
     !is_access(op) || count_accesses(&column.ops) < MAX_ACCESSES
 }
@@ -69,7 +69,7 @@ fn read_instr<A: Arch>(
 {
     match read_cell::<A>(text, names, &mut column.labels) {
         Ok(op) => {
-            if !has_room(column, &op) {
+            if !fits_in_column(column, &op) {
                 return Err(ReadError::Text(error_at_line(TestKind::TooLarge, number)));
             }
             column.ops.push(Placed {

@@ -1,11 +1,11 @@
--- The loop of `accepted_valued`: no thread before the next needs too many registers.
+-- The loop of `acceptance_of_valued`: no thread before the next needs too many registers.
 use Rattle.std.proofs.Common.{◌≡◌, drop}
 use Rattle.std.specs.List.{position_from}
 use Rattle.test_laws.specs.CycleSteps.{cycle_steps}
 use Rattle.test_laws.specs.TestOf.{plain}
 use Rattle.test_maker.specs.Refusals.{is_crowded}
 use Rattle.test_maker.proofs.Growing.{crowded}
-use Rattle.test_maker.proofs.acceptance.accepted_valued.Given as goal
+use Rattle.test_maker.proofs.acceptance.acceptance_of_valued.Given as goal
 
 abbrev pub invariant-loop-thread : goal.invariant-loop-thread
 invariant-loop-thread g l =
