@@ -5,8 +5,9 @@ ghost use Rattle.edge_lists.specs.Spelled.{separates, edges_spelled, edges_of, C
 ghost use Rattle.edge_lists.specs.Leading.{BeginsWith, ReadsFirst};
 ghost use Rattle.edge_lists.specs.KeptEdges.{edges_added};
 
+use crate::leading::leading_edge;
 use crate::list::EdgeList;
-use relax_edges::{UnknownEdge, leading_edge, read_edge_bytes};
+use relax_edges::{UnknownEdge, read_edge_bytes};
 use text_parts::Class;
 
 /// What separates the edges of a text.

@@ -4,7 +4,6 @@
 mod arch;
 mod edge;
 mod kinds;
-mod leading;
 mod marked;
 mod order;
 mod read;
@@ -21,7 +20,6 @@ pub use edge::Edge;
 pub use kinds::{
     ArchName, Com, DepKind, Dir, FenceKind, Kind, Mark, ObsMode, Pick, Reach, Sd, Value,
 };
-pub use leading::leading_edge;
 pub use marked::MarkedEdge;
 pub use order::EDGES;
 pub use read::{UnknownEdge, read_edge, read_edge_bytes};

@@ -10,7 +10,9 @@ use crate::kinds::{ArchName, Com, DepKind, Dir, FenceKind, Kind, Mark, Pick, Rea
 use thiserror::Error;
 
 impl Dir {
-    pub(crate) fn from_byte(byte: u8) -> Option<Dir>
+    /// The direction that a letter spells: `R` or `W`.
+    #[inline]
+    pub fn from_byte(byte: u8) -> Option<Dir>
         ensures { result ≡ dir_named (byte ∷ []) }
     {
         match byte {
@@ -22,7 +24,9 @@ impl Dir {
 }
 
 impl Sd {
-    pub(crate) fn from_byte(byte: u8) -> Option<Sd>
+    /// The place that a letter spells: `s` for the same location, `d` for another.
+    #[inline]
+    pub fn from_byte(byte: u8) -> Option<Sd>
         ensures { result ≡ sd_named (byte ∷ []) }
     {
         match byte {
@@ -34,7 +38,9 @@ impl Sd {
 }
 
 impl Reach {
-    pub(crate) fn from_byte(byte: u8) -> Option<Reach>
+    /// The reach that a letter spells: `i` for internal, `e` for external.
+    #[inline]
+    pub fn from_byte(byte: u8) -> Option<Reach>
         ensures { result ≡ reach_named (byte ∷ []) }
     {
         match byte {

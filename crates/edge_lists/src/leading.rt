@@ -1,12 +1,11 @@
 ghost use Rattle.std.specs.Prelude.{◌≡◌, ◌++◌, IfSome, codes};
 ghost use Rattle.relax_edges.specs.WordParts.{dir_word, sd_word, com_word, fence_word, dependency_word, word_of};
 
-use crate::edge::Edge;
-use crate::kinds::{Com, DepKind, Dir, FenceKind, Reach, Sd};
+use relax_edges::{Com, DepKind, Dir, Edge, FenceKind, Reach, Sd};
 
 /// The edge with whose printed word a text begins, and the text after that word. `None` says nothing:
 /// an edge with marks isn't found so, nor a fence of RISC-V.
-pub fn leading_edge(text: &[u8]) -> Option<(Edge, &[u8])>
+pub(crate) fn leading_edge(text: &[u8]) -> Option<(Edge, &[u8])>
     ensures { IfSome result (λ parts. text.now ≡ word_of parts.0 ++ parts.1.now) }
 {
     match text {
