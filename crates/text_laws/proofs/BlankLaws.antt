@@ -1,6 +1,13 @@
--- Blanks at the end of a text: how a walk from its end finds the text without them.
-use Rattle.std.proofs.Common.{◌≡◌, ℕ, suc, ◌-◌, ◌<◌, ◌≤◌, List, [], ◌∷◌, ◌++◌, true, false, length, get_or, take, refl, sym, ap, ◌∙◌, arith}
-use Rattle.text_laws.specs.Blanks.{is_blank, kept_before, before_blanks}
+-- Blanks at the ends of a text: how a walk from its end finds the text without them, and what is known of that text.
+use Rattle.std.proofs.Common.{◌≡◌, ℕ, zero, suc, ◌-◌, ◌<◌, ◌≤◌, List, [], ◌∷◌, ◌++◌, true, false, length, get_or, take, refl, sym, ap, ◌∙◌, arith}
+use Rattle.std.specs.Prelude.{Bool}
+use Rattle.std.specs.List.{list_all}
+use Rattle.std.proofs.Math.ListN.{replicate}
+use Rattle.std.proofs.lemmas.Bool.{and_parts, and_from, not-true}
+use Rattle.list_laws.proofs.Cases.{by_test}
+use Rattle.text_laws.specs.Blanks.{is_blank, is_inked, kept_before, before_blanks, unblanked, trim_blanks}
+use Rattle.text_laws.specs.LeadingRuns.{after_run}
+use Rattle.text_laws.proofs.RunLaws.{after_halts, after_class}
 
 -- a blank at the end falls away
 last_blank : (text : List ℕ) (byte : ℕ) → is_blank byte ≡ true → before_blanks (text ++ byte ∷ []) ≡ before_blanks text
@@ -42,3 +49,113 @@ pub none_stays : (text : List ℕ) → length text < 1 → before_blanks text �
 unfolding before_blanks
 none_stays [] h = refl
 none_stays (b ∷ text) h = absurd (omega arith)
+
+-- a byte that isn't a blank is kept before any text
+pub kept_inked : (b : ℕ) (text : List ℕ) → is_blank b ≡ false → kept_before b text ≡ b ∷ text
+kept_inked b [] h = rw h refl
+kept_inked b (c ∷ text) h = refl
+
+-- where a text has no blanks at its end, neither has it with a byte before it that isn't a blank
+pub ink_stays : (b : ℕ) (text : List ℕ) → is_blank b ≡ false → before_blanks text ≡ text → before_blanks (b ∷ text) ≡ b ∷ text
+unfolding before_blanks
+ink_stays b text h e = ap (kept_before b) e ∙ kept_inked b text h
+
+one_more : (c b : ℕ) (text : List ℕ) → before_blanks (b ∷ text) ≡ b ∷ text → before_blanks (c ∷ b ∷ text) ≡ c ∷ b ∷ text
+unfolding before_blanks
+one_more c b text h = ap (kept_before c) h
+
+-- where a text of one byte or more has no blanks at its end, neither has it with another text before it
+pub end_stays : (prefix : List ℕ) (b : ℕ) (text : List ℕ) → before_blanks (b ∷ text) ≡ b ∷ text → before_blanks (prefix ++ b ∷ text) ≡ prefix ++ b ∷ text
+end_stays [] b text h = h
+end_stays (c ∷ []) b text h = one_more c b text h
+end_stays (c ∷ d ∷ prefix) b text h = one_more c d (prefix ++ b ∷ text) (end_stays (d ∷ prefix) b text h)
+
+-- a text without blanks has none at its end
+pub inked_ends : (text : List ℕ) → list_all is_inked text ≡ true → before_blanks text ≡ text
+unfolding before_blanks
+inked_ends [] h = refl
+inked_ends (b ∷ text) h =
+    let parts = and_parts (is_inked b) (list_all is_inked text) h in
+    ink_stays b text (not-true (is_blank b) parts.0) (inked_ends text parts.1)
+
+kept_twice : (b : ℕ) (text : List ℕ) → before_blanks text ≡ text → before_blanks (kept_before b text) ≡ kept_before b text
+unfolding before_blanks
+kept_twice b [] h = by_test (is_blank b) (λ e. rw e refl) (λ e. rw e (rw e refl))
+kept_twice b (c ∷ text) h = ap (kept_before b) h
+
+-- a text without the blanks at its end has none there
+pub before_twice : (text : List ℕ) → before_blanks (before_blanks text) ≡ before_blanks text
+unfolding before_blanks
+before_twice [] = refl
+before_twice (b ∷ text) = kept_twice b (before_blanks text) (before_twice text)
+
+-- a text without the blanks at both ends has none at its start
+pub trimmed_start : (text : List ℕ) → unblanked (trim_blanks text) ≡ trim_blanks text
+unfolding after_run before_blanks
+trimmed_start [] = refl
+trimmed_start (b ∷ text) =
+    by_test (is_blank b)
+    (λ e. rw e (trimmed_start text))
+    (λ e. rw (e, kept_inked b (before_blanks text) e) (after_halts is_blank b (before_blanks text) e))
+
+-- a text without the blanks at its end is no longer
+pub before_blanks-le : (text : List ℕ) → length (before_blanks text) ≤ length text
+unfolding before_blanks
+before_blanks-le [] = omega arith
+before_blanks-le (b ∷ text) = let k : length (before_blanks text) ≤ length text = before_blanks-le text in by_kept (before_blanks text) k
+  where
+    by_kept : (rest : List ℕ) → length rest ≤ length text → length (kept_before b rest) ≤ suc (length text)
+    by_kept [] k = by_test (is_blank b) (λ e. rw e (omega arith)) (λ e. rw e (omega arith))
+    by_kept (c ∷ rest) k = omega arith
+
+kept_class : (p : ℕ → Bool) (b : ℕ) (text : List ℕ) → p b ≡ true → list_all p text ≡ true → list_all p (kept_before b text) ≡ true
+kept_class p b [] h k = by_test (is_blank b) (λ e. rw e refl) (λ e. rw e (and_from (p b) true h refl))
+kept_class p b (c ∷ text) h k = and_from (p b) (list_all p (c ∷ text)) h k
+
+-- a test that all bytes of a text pass is passed by those before the blanks at its end
+pub before_class : (p : ℕ → Bool) (text : List ℕ) → list_all p text ≡ true → list_all p (before_blanks text) ≡ true
+unfolding before_blanks
+before_class p [] h = refl
+before_class p (b ∷ text) h =
+    let parts = and_parts (p b) (list_all p text) h in
+    kept_class p b (before_blanks text) parts.0 (before_class p text parts.1)
+
+-- a test that all bytes of a text pass is passed by those between the blanks at both ends
+pub trimmed_class : (p : ℕ → Bool) (text : List ℕ) → list_all p text ≡ true → list_all p (trim_blanks text) ≡ true
+trimmed_class p text h = before_class p (unblanked text) (after_class p is_blank text h)
+
+-- a test that a space passes is passed by all bytes of so many spaces
+pub spaces_class : (p : ℕ → Bool) (n : ℕ) → p 32 ≡ true → list_all p (replicate n 32) ≡ true
+spaces_class p zero h = refl
+spaces_class p (suc n) h = and_from (p 32) (list_all p (replicate n 32)) h (spaces_class p n h)
+
+-- spaces before a text go with the blanks at its start
+pub unblanked_spaces : (n : ℕ) (text : List ℕ) → unblanked (replicate n 32 ++ text) ≡ unblanked text
+unfolding after_run
+unblanked_spaces zero text = refl
+unblanked_spaces (suc n) text = unblanked_spaces n text
+
+before_spaces : (n : ℕ) → before_blanks (replicate n 32) ≡ []
+unfolding before_blanks
+before_spaces zero = refl
+before_spaces (suc n) = ap (kept_before 32) (before_spaces n)
+
+-- spaces after a text go with the blanks at its end
+pub before_padded : (text : List ℕ) (n : ℕ) → before_blanks (text ++ replicate n 32) ≡ before_blanks text
+unfolding before_blanks
+before_padded [] n = before_spaces n
+before_padded (b ∷ text) n = ap (kept_before b) (before_padded text n)
+
+no_space_left : (n : ℕ) → unblanked (replicate n 32) ≡ []
+unfolding after_run
+no_space_left zero = refl
+no_space_left (suc n) = no_space_left n
+
+-- spaces after a text don't change it between the blanks at both ends
+pub trimmed_padded : (text : List ℕ) (n : ℕ) → trim_blanks (text ++ replicate n 32) ≡ trim_blanks text
+unfolding after_run before_blanks
+trimmed_padded [] n = ap before_blanks (no_space_left n)
+trimmed_padded (b ∷ text) n =
+    by_test (is_blank b)
+    (λ e. rw e (trimmed_padded text n))
+    (λ e. rw e (before_padded (b ∷ text) n))

@@ -65,8 +65,8 @@ cut_is sign text prefix remainder p = ap (cut_at sign) p.parts ∙ cut_back sign
 pub cut_length : (sign : ℕ) (text prefix remainder : List ℕ) → CutParts sign text prefix remainder → length text ≡ length prefix + (length remainder + 1)
 cut_length sign text prefix remainder p = let e : length (prefix ++ sign ∷ remainder) ≡ length prefix + length (sign ∷ remainder) = length-append prefix (sign ∷ remainder) in ap length p.parts ∙ e ∙ (omega arith)
 
--- bytes of two texts that pass a test pass it as one text
-pub all_both : (p : ℕ → Bool) (xs ys : List ℕ) → list_all p xs ≡ true → list_all p ys ≡ true → list_all p (xs ++ ys) ≡ true
+-- a test that all elements of two lists pass is passed by all of both joined
+pub all_both : {A : Type 0} (p : A → Bool) (xs ys : List A) → list_all p xs ≡ true → list_all p ys ≡ true → list_all p (xs ++ ys) ≡ true
 all_both p xs ys h k = list_all-append p xs ys ∙ and_from (list_all p xs) (list_all p ys) h k
 
 -- bytes that all pass a test are not one that fails it

@@ -1,7 +1,7 @@
--- Names of places and registers: how code tests their form, and that they are short and ASCII.
+-- Names of places and registers: how code tests their form, which bytes they have, and that they are short and ASCII.
 use Rattle.std.proofs.Common.{◌≡◌, ℕ, ◌-◌, ◌≤◌, List, [], ◌∷◌, length, get_or, take, drop, refl, ap, ◌∙◌, arith}
 use Rattle.std.specs.Prelude.{Bool, true, ◌&&◌, nat_le}
-use Rattle.std.specs.Char.{is_ascii, is_ascii_alphabetic, is_ascii_alphanumeric}
+use Rattle.std.specs.Char.{is_ascii, is_ascii_alphabetic, is_ascii_alphanumeric, is_ascii_digit}
 use Rattle.std.specs.List.{list_all}
 use Rattle.std.specs.Str.{IsAscii, IsUtf8}
 use Rattle.std.proofs.Math.Seq.{take-length}
@@ -43,14 +43,20 @@ utf8_from_ascii bytes h = IsUtf8-from_ascii bytes (all_ascii bytes h)
 place_byte_ascii : (byte : ℕ) → is_place_byte byte ≡ true → is_ascii byte ≡ true
 place_byte_ascii byte h = grind (arith, nat_tests)
 
-begins_place_ascii : (byte : ℕ) → begins_place byte ≡ true → is_ascii byte ≡ true
-begins_place_ascii byte h = grind (arith, nat_tests)
-
 register_byte_ascii : (byte : ℕ) → is_ascii_alphanumeric byte ≡ true → is_ascii byte ≡ true
 register_byte_ascii byte h = grind (arith, nat_tests)
 
-letter_ascii : (byte : ℕ) → is_ascii_alphabetic byte ≡ true → is_ascii byte ≡ true
-letter_ascii byte h = grind (arith, nat_tests)
+-- the first byte of a place's name may also be one of the others
+pub first_place_byte : (byte : ℕ) → begins_place byte ≡ true → is_place_byte byte ≡ true
+first_place_byte byte h = grind (arith, nat_tests)
+
+-- a letter is a letter or a digit
+pub letter_alphanumeric : (byte : ℕ) → is_ascii_alphabetic byte ≡ true → is_ascii_alphanumeric byte ≡ true
+letter_alphanumeric byte h = grind (arith, nat_tests)
+
+-- a digit is a letter or a digit
+pub digit_alphanumeric : (byte : ℕ) → is_ascii_digit byte ≡ true → is_ascii_alphanumeric byte ≡ true
+digit_alphanumeric byte h = grind (arith, nat_tests)
 
 -- a name's first byte passes, the others pass, and they are at most 16
 pub record Shaped (first others : ℕ → Bool) (name : List ℕ) : Type 0 where
@@ -91,10 +97,19 @@ place_name_short name h = (place_shaped name h).short
 pub register_name_short : (name : List ℕ) → is_register_name name ≡ true → length name ≤ 16
 register_name_short name h = (register_shaped name h).short
 
+-- each byte of a place's name is one that such names may have
+pub place_name_bytes : (name : List ℕ) → is_place_name name ≡ true → list_all is_place_byte name ≡ true
+place_name_bytes name h = shaped_all begins_place is_place_byte is_place_byte first_place_byte (λ byte passes. passes) name (place_shaped name h)
+
+-- each byte of a register's name is a letter or a digit
+pub register_name_bytes : (name : List ℕ) → is_register_name name ≡ true → list_all is_ascii_alphanumeric name ≡ true
+register_name_bytes name h =
+    shaped_all is_ascii_alphabetic is_ascii_alphanumeric is_ascii_alphanumeric letter_alphanumeric (λ byte passes. passes) name (register_shaped name h)
+
 -- the name of a place is ASCII
 pub place_name_ascii : (name : List ℕ) → is_place_name name ≡ true → list_all is_ascii name ≡ true
-place_name_ascii name h = shaped_all begins_place is_place_byte is_ascii begins_place_ascii place_byte_ascii name (place_shaped name h)
+place_name_ascii name h = list_all-weaker is_place_byte is_ascii place_byte_ascii name (place_name_bytes name h)
 
 -- the name of a register is ASCII
 pub register_name_ascii : (name : List ℕ) → is_register_name name ≡ true → list_all is_ascii name ≡ true
-register_name_ascii name h = shaped_all is_ascii_alphabetic is_ascii_alphanumeric is_ascii letter_ascii register_byte_ascii name (register_shaped name h)
+register_name_ascii name h = list_all-weaker is_ascii_alphanumeric is_ascii register_byte_ascii name (register_name_bytes name h)

@@ -71,6 +71,11 @@ fold_ascends (k ∷ ks) xs s = fold_ascends ks (insert_key (slice_cmp nat_cmp) x
 pub not_equal : (k x : List ℕ) (o : Ordering) → compare k x ≡ o → is_eq o ≡ false → bytes_eq k x ≡ false
 not_equal k x o e f = sym (is_eq-slice_cmp k x) ∙ ap is_eq e ∙ f
 
+-- a text below all of these is none of them
+pub none_above : (k : List ℕ) (xs : List (List ℕ)) → Above k xs → list_any (bytes_eq k) xs ≡ false
+none_above k [] a = refl
+none_above k (x ∷ xs) a = rw (not_equal k x Less a.0 refl) (none_above k xs a.1)
+
 exchange : (a b c : Bool) → a || (b || c) ≡ b || (a || c)
 exchange true true c = refl
 exchange true false c = refl

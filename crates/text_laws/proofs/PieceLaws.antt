@@ -1,5 +1,5 @@
 -- The pieces between bytes of a class.
-use Rattle.std.proofs.Common.{◌≡◌, ℕ, List, [], ◌∷◌, ◌++◌, true, refl, ap, ◌∙◌}
+use Rattle.std.proofs.Common.{◌≡◌, ℕ, suc, List, [], ◌∷◌, ◌++◌, length, true, refl, ap, ◌∙◌}
 use Rattle.std.specs.Prelude.{Bool, not}
 use Rattle.std.specs.List.{slice_split, onto_first, list_all}
 use Rattle.list_laws.proofs.Cases.{by_test}
@@ -71,3 +71,8 @@ whole_split p text = let first = first_piece p text in rw first.is (by_rest firs
     by_rest : (piece : List ℕ) (rest : List (List ℕ)) → piece ∷ rest ≡ but_last (piece ∷ rest) ++ last_of (piece ∷ rest) ∷ []
     by_rest piece [] = refl
     by_rest piece (next ∷ rest) = ap (λ t. piece ∷ t) (by_rest next rest)
+
+-- all pieces but the last are one fewer
+pub length-but_last : (piece : List ℕ) (rest : List (List ℕ)) → length (but_last (piece ∷ rest)) ≡ length rest
+length-but_last piece [] = refl
+length-but_last piece (next ∷ rest) = ap suc (length-but_last next rest)

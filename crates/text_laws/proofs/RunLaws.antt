@@ -1,7 +1,8 @@
 -- The longest beginning of a text whose bytes all pass a test: how a walk finds it, and what it is for a text that is known.
 use Rattle.std.proofs.Common.{◌≡◌, ℕ, suc, ◌+◌, ◌<◌, ◌≤◌, List, [], ◌∷◌, ◌++◌, length, get_or, take, drop, refl, sym, ap, ◌∙◌, arith, add-one, append_assoc, append-nil, length-append}
-use Rattle.std.specs.Prelude.{Bool, true, false}
+use Rattle.std.specs.Prelude.{Bool, true, false, not}
 use Rattle.std.specs.List.{list_all}
+use Rattle.std.proofs.lemmas.Bool.{and_parts, not-true}
 use Rattle.std.proofs.Math.Seq.{drop-cons, drop-length, take-length}
 use Rattle.std.proofs.lemmas.List.{take_more}
 use Rattle.list_laws.proofs.Cases.{by_test}
@@ -19,7 +20,8 @@ run_halts : (passes : ℕ → Bool) (byte : ℕ) (text : List ℕ) → passes by
 unfolding leading_run
 run_halts passes byte text h = rw h refl
 
-after_halts : (passes : ℕ → Bool) (byte : ℕ) (text : List ℕ) → passes byte ≡ false → after_run passes (byte ∷ text) ≡ byte ∷ text
+-- a text whose first byte doesn't pass is what is left of it
+pub after_halts : (passes : ℕ → Bool) (byte : ℕ) (text : List ℕ) → passes byte ≡ false → after_run passes (byte ∷ text) ≡ byte ∷ text
 unfolding after_run
 after_halts passes byte text h = rw h refl
 
@@ -86,3 +88,34 @@ run_and_rest passes (byte ∷ text) = by_test (passes byte) (λ h. rw h (ap (λ 
 pub less_remainder : (passes : ℕ → Bool) (text word rest : List ℕ) → word ≡ leading_run passes text → rest ≡ after_run passes text → 0 < length word → length rest < length text
 less_remainder passes text word rest e f some =
     let k : length (word ++ rest) ≡ length text = ap length (rw (e, f) (run_and_rest passes text)) in omega (arith, length-append word rest)
+
+-- a test that all bytes of a text pass is passed by those after a run
+pub after_class : (p passes : ℕ → Bool) (text : List ℕ) → list_all p text ≡ true → list_all p (after_run passes text) ≡ true
+unfolding after_run
+after_class p passes [] h = refl
+after_class p passes (byte ∷ text) h =
+    by_test (passes byte)
+    (λ e. rw e (after_class p passes text (and_parts (p byte) (list_all p text) h).1))
+    (λ e. rw e h)
+
+-- a text doesn't begin with a byte that passes
+abbrev pub stops : (ℕ → Bool) → List ℕ → Bool
+stops passes [] = true
+stops passes (byte ∷ text) = not (passes byte)
+
+-- the run of a text is a word at its start, and the rest comes after the run
+pub record IsRun (passes : ℕ → Bool) (word rest : List ℕ) : Type 0 where
+  pub run : leading_run passes (word ++ rest) ≡ word
+  pub after : after_run passes (word ++ rest) ≡ rest
+
+-- a word of bytes that all pass is the run where the text after it doesn't begin with one that passes
+pub whole_run : (passes : ℕ → Bool) (word rest : List ℕ) → list_all passes word ≡ true → stops passes rest ≡ true → IsRun passes word rest
+unfolding leading_run after_run
+whole_run passes [] [] h s = record { run = refl; after = refl }
+whole_run passes [] (byte ∷ rest) h s =
+    let p : passes byte ≡ false = not-true (passes byte) s in
+    record { run = rw p refl; after = rw p refl }
+whole_run passes (byte ∷ word) rest h s =
+    let p : (passes byte ≡ true) × (list_all passes word ≡ true) = and_parts (passes byte) (list_all passes word) h in
+    let r : IsRun passes word rest = whole_run passes word rest p.1 s in
+    record { run = rw p.0 (ap (λ w. byte ∷ w) r.run); after = rw p.0 r.after }
