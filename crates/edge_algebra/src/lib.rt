@@ -12,5 +12,5 @@ pub use compose::cycle;
 pub use cycles::Cycle;
 pub use errors::{CycleError, JoinError, NotClosed};
 pub use laws::{composes_exactly, joining_is_associative};
-pub use normal::{is_normal, may_begin, ranks_of};
+pub use normal::{is_normal, ranks_of};
 pub use paths::Path;

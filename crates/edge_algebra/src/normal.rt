@@ -1,6 +1,5 @@
 ghost use Rattle.std.specs.Prelude.{◌≡◌, ◌+◌, ◌<◌, ◌≤◌, ◌↔◌, ◌++◌, length, map, IsTrue};
 ghost use Rattle.relax_edges.specs.Order.{rank_of};
-ghost use Rattle.cycle_laws.specs.Beginning.{none_below};
 ghost use Rattle.cycle_laws.specs.CycleOrder.{IsLeast, IsNormal, ranks_below};
 ghost use Rattle.cycle_laws.specs.Rotation.{IsRotation, rotated};
 
@@ -33,24 +32,6 @@ impl Cycle {
         ensures { IsTrue result ↔ IsRotation self.now other.now }
     {
         self.least() == other.least()
-    }
-}
-
-/// Whether a list of edges may begin a normal form, by the ranks of its edges: no suffix of it is less
-/// than the list itself, at a place that both have. No normal form begins with a list that may not.
-pub fn may_begin(ranks: &[u16]) -> bool
-    ensures { result ≡ none_below ranks.now ranks.now }
-{
-    none_below(ranks, ranks)
-}
-
-/// Whether no suffix of the second list of ranks is less than the first list.
-fn none_below(ranks: &[u16], back: &[u16]) -> bool
-    ensures { result ≡ none_below ranks.now back.now }
-{
-    match back {
-        [] => true,
-        [_, rest @ ..] => !is_below(back, ranks) && none_below(ranks, rest),
     }
 }
 
