@@ -1,16 +1,10 @@
 -- Why no listed cycle begins with a list.
-use Rattle.std.proofs.Common.{◌≡◌, ℕ, Bool, false, List}
+use Rattle.std.proofs.Common.{ℕ, Bool, List}
 use Rattle.relax_edges.specs.declared.edge.Edge.{Edge}
-use Rattle.cycle_laws.specs.Beginning.{may_begin}
 use Rattle.walk_laws.specs.Listing.{IsListed, IsMadeOf, KeepsLimits}
 use Rattle.walk_laws.specs.Search.{LeadsNowhere, OfLength}
-use Rattle.cycle_laws.proofs.Beginnings.{begins_none}
 
 module _ (takes : List Edge → Type 0) (relaxes : List (List Edge)) (size : ℕ) (exact : Bool) where
-  -- one of its suffixes is less
-  pub begins_nowhere : (u : List Edge) → may_begin u ≡ false → LeadsNowhere (IsListed takes relaxes size exact) u
-  begins_nowhere u h r l = begins_none u r h l.normal
-
   -- it is part of no concatenation of relaxations
   pub unmade_nowhere : (u : List Edge) → LeadsNowhere (IsMadeOf relaxes) u → LeadsNowhere (IsListed takes relaxes size exact) u
   unmade_nowhere u h r l = h r l.made
