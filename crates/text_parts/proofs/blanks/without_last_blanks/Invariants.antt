@@ -2,7 +2,7 @@ use Rattle.std.proofs.Common.{◌≡◌, length}
 use Rattle.text_laws.specs.Blanks.{before_blanks}
 use Rattle.text_parts.proofs.blanks.without_last_blanks.Given as goal
 
--- the text so far has the same front
+-- the text that is left is the same as the whole without the blanks at their ends
 abbrev pub invariant-loop-text : goal.invariant-loop-text
 invariant-loop-text l = before_blanks l.text ≡ before_blanks l.fn.text
 
