@@ -1,12 +1,14 @@
--- The first word of a text, by a walk over blanks and then over a word.
-use Rattle.std.proofs.Common.{◌≡◌, ◌==◌, ℕ, ◌<◌, List, [], ◌∷◌, true, false, length, refl, sym, ap, ◌∙◌, arith}
+-- The first word of a text, by a walk over blanks and then over a word, and the words of two texts with a blank between.
+use Rattle.std.proofs.Common.{◌≡◌, ◌==◌, ℕ, ◌<◌, List, [], ◌∷◌, ◌++◌, true, false, length, refl, sym, ap, ◌∙◌, arith}
 use Rattle.std.specs.Prelude.{not}
-use Rattle.std.specs.List.{slice_split, filter}
+use Rattle.std.specs.List.{slice_split, filter, list_all}
 use Rattle.std.proofs.lemmas.Bool.{eqb-true, false_from_ne_true}
+use Rattle.std.proofs.lemmas.List.Elements.{filter-append}
 use Rattle.list_laws.proofs.Cases.{by_test}
 use Rattle.text_laws.specs.LeadingRuns.{leading_run, after_run}
 use Rattle.text_laws.specs.Blanks.{is_blank, is_inked, unblanked}
 use Rattle.text_laws.specs.Words.{is_nil, words}
+use Rattle.text_laws.proofs.PieceLaws.{split_both, split_whole}
 
 -- the pieces between blanks, by the first of them
 abbrev further : List ℕ → List (List ℕ)
@@ -57,6 +59,18 @@ word_found text prefix word rest e f g h =
 pub no_word_found : (text prefix word : List ℕ) → prefix ≡ unblanked text → word ≡ leading_run is_inked prefix → is_nil word ≡ true → words text ≡ []
 no_word_found text prefix word e f h =
     words_none text (ap (λ t. is_nil (leading_run is_inked t)) (sym e) ∙ ap is_nil (sym f) ∙ h)
+
+-- the words of two texts with a blank between are those of both
+pub words_both : (prefix text : List ℕ) → words (prefix ++ 32 ∷ text) ≡ words prefix ++ words text
+unfolding words
+words_both prefix text =
+    ap some_words (split_both is_blank prefix 32 text refl)
+    ∙ filter-append (λ word. not (is_nil word)) (slice_split is_blank prefix) (slice_split is_blank text)
+
+-- a text without blanks that isn't empty is one word
+pub one_word : (word : List ℕ) → list_all is_inked word ≡ true → is_nil word ≡ false → words word ≡ word ∷ []
+unfolding words
+one_word word h some = ap some_words (split_whole is_blank word h) ∙ rw some refl
 
 -- a test whether a text is empty
 pub empty_is_nil : (text : List ℕ) → is_nil text ≡ (length text == 0)
