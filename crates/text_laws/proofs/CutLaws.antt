@@ -1,6 +1,6 @@
 -- A cut at the first place of a byte.
 use Rattle.std.proofs.Common.{◌≡◌, ◌==◌, ◌+◌, ◌-◌, ◌<◌, ◌≤◌, ℕ, zero, suc, List, [], ◌∷◌, ◌++◌, Some, None, true, get_or, take, drop, length, length-drop, length-append, refl, sym, ap, ◌∙◌, arith, add-one, false}
-use Rattle.std.specs.Prelude.{not, Bool}
+use Rattle.std.specs.Prelude.{not, Bool, Option}
 use Rattle.std.proofs.lemmas.Bool.{eqb-true, eq-eqb, and_parts, not-true, and_from}
 use Rattle.std.proofs.lemmas.List.{take-append-drop}
 use Rattle.std.proofs.Math.Seq.{drop-cons, take-length}
@@ -60,6 +60,37 @@ cut_found sign text k inside before is = rw (rest_whole text (k + 1)) (record {
 -- what is cut
 pub cut_is : (sign : ℕ) (text prefix remainder : List ℕ) → CutParts sign text prefix remainder → cut_at sign text ≡ Some (prefix, remainder)
 cut_is sign text prefix remainder p = ap (cut_at sign) p.parts ∙ cut_back sign prefix remainder p.first
+
+-- what was cut are the parts of the text
+pub cut_parts : (sign : ℕ) (text : List ℕ) (parts : List ℕ × List ℕ) → cut_at sign text ≡ Some parts → CutParts sign text parts.0 parts.1
+unfolding cut_at
+cut_parts sign [] parts h = absurd (cc)
+cut_parts sign (byte ∷ text) parts h =
+    by_test (byte == sign)
+    (λ e. let same : ◌≡◌ {A = List ℕ × List ℕ} ([], text) parts = let k = rw e at h in cc in
+    rw (sym same) (record { parts = ap (λ b. b ∷ text) (eqb-true byte sign e); first = refl }))
+    (λ e. by_rest (cut_parts sign text) (cut_at sign text) refl e (rw e at h))
+  where
+    by_rest : ((inner : List ℕ × List ℕ) → cut_at sign text ≡ Some inner → CutParts sign text inner.0 inner.1) → (o : Option (List ℕ × List ℕ)) → cut_at sign text ≡ o → (byte == sign) ≡ false
+        → before_cut byte o ≡ Some parts → CutParts sign (byte ∷ text) parts.0 parts.1
+    by_rest law None k e g = absurd (cc)
+    by_rest law (Some inner) k e g =
+        let same : ◌≡◌ {A = List ℕ × List ℕ} (byte ∷ inner.0, inner.1) parts = cc in
+        let further : CutParts sign text inner.0 inner.1 = law inner k in
+        rw (sym same) (record { parts = ap (λ t. byte ∷ t) further.parts; first = rw e further.first })
+
+-- a text that isn't cut is without the sign
+pub uncut_without : (sign : ℕ) (text : List ℕ) → cut_at sign text ≡ None → is_without sign text ≡ true
+unfolding cut_at
+uncut_without sign [] h = refl
+uncut_without sign (byte ∷ text) h =
+    by_test (byte == sign)
+    (λ e. let k = rw e at h in absurd (cc))
+    (λ e. rw e (uncut_without sign text (nothing (cut_at sign text) (rw e at h))))
+  where
+    nothing : (o : Option (List ℕ × List ℕ)) → before_cut byte o ≡ None → o ≡ None
+    nothing None g = refl
+    nothing (Some parts) g = absurd (cc)
 
 -- how many bytes the parts of a cut have
 pub cut_length : (sign : ℕ) (text prefix remainder : List ℕ) → CutParts sign text prefix remainder → length text ≡ length prefix + (length remainder + 1)
