@@ -1,10 +1,10 @@
 -- Printed conditions read back, part by part, whatever follows a part, and whichever left sides are accepted beside those of their form.
 use Rattle.std.proofs.Common.{◌≡◌, ℕ, zero, suc, ◌^◌, ◌<◌, ◌≤◌, List, [], ◌∷◌, ◌++◌, length, refl, sym, ap, ◌∙◌, arith, append_assoc, append-nil}
-use Rattle.std.specs.Prelude.{Bool, true, false, not, codes, nat_eq, Some, Ok}
+use Rattle.std.specs.Prelude.{Bool, true, false, codes, nat_eq, Some, Ok}
 use Rattle.std.specs.Char.{is_ascii_alphanumeric, is_ascii_digit}
 use Rattle.std.specs.Fmt.{decimal}
 use Rattle.std.specs.List.{AllByRecursion, list_all}
-use Rattle.std.proofs.lemmas.Bool.{and_parts, not-true}
+use Rattle.std.proofs.lemmas.Bool.{and_parts}
 use Rattle.std.proofs.lemmas.Bool.Decides.{nat_tests}
 use Rattle.list_laws.proofs.Digits.{Digits, digits_of}
 use Rattle.final_cond.specs.declared.cond.Quantifier.{Quantifier}
@@ -21,36 +21,15 @@ use Rattle.final_cond.specs.FormLaws.{Named, named, place_bytes}
 use Rattle.final_cond.specs.ConditionReadBack.{IsFormedTerm, IsFormedCondition}
 use Rattle.final_cond.specs.ConditionReading.{sign_read, opening_read, left_at_start, register_at_start, has_form, left_read, value_read, right_read, term_read, follow_read, terms_read, parts_read, cond_read}
 use Rattle.text_laws.proofs.NumberLaws.{number_of-decimal}
-
--- a text doesn't begin with a byte that passes
-abbrev pub stops : (ℕ → Bool) → List ℕ → Bool
-stops passes [] = true
-stops passes (byte ∷ text) = not (passes byte)
-
--- a word of bytes that pass, and then one that doesn't: the word is the run
-pub record IsRun (passes : ℕ → Bool) (word rest : List ℕ) : Type 0 where
-  pub run : leading_run passes (word ++ rest) ≡ word
-  pub after : after_run passes (word ++ rest) ≡ rest
-
-pub whole_run : (passes : ℕ → Bool) (word rest : List ℕ) → list_all passes word ≡ true → stops passes rest ≡ true → IsRun passes word rest
-unfolding leading_run after_run
-whole_run passes [] [] h s = record { run = refl; after = refl }
-whole_run passes [] (byte ∷ rest) h s =
-    let p : passes byte ≡ false = not-true (passes byte) s in
-    record { run = rw p refl; after = rw p refl }
-whole_run passes (byte ∷ word) rest h s =
-    let p : (passes byte ≡ true) × (list_all passes word ≡ true) = and_parts (passes byte) (list_all passes word) h in
-    let r : IsRun passes word rest = whole_run passes word rest p.1 s in
-    record { run = rw p.0 (ap (λ w. byte ∷ w) r.run); after = rw p.0 r.after }
+use Rattle.text_laws.proofs.RunLaws.{after_halts, stops, IsRun, whole_run}
 
 -- a text that begins with a byte of a word isn't changed where blanks are passed over
 digits_unblanked : (digits rest : List ℕ) → list_all is_ascii_digit digits ≡ true → 0 < length digits → unblanked (digits ++ rest) ≡ digits ++ rest
-unfolding after_run
 digits_unblanked [] rest h n = absurd (omega arith)
 digits_unblanked (byte ∷ digits) rest h n =
     let d : is_ascii_digit byte ≡ true = (and_parts (is_ascii_digit byte) (list_all is_ascii_digit digits) h).0 in
     let b : is_blank byte ≡ false = grind (arith, nat_tests) in
-    rw b refl
+    after_halts is_blank byte (digits ++ rest) b
 
 digits_left : (digits rest : List ℕ) → list_all is_ascii_digit digits ≡ true → 0 < length digits → left_at_start (digits ++ rest) ≡ register_at_start (digits ++ rest)
 unfolding left_at_start
