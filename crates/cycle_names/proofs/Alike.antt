@@ -13,6 +13,7 @@ use Rattle.list_laws.proofs.Cases.{by_test, by_option}
 use Rattle.relax_edges.specs.declared.edge.Edge.{Edge}
 use Rattle.relax_edges.specs.EdgeTable.{is_diff}
 use Rattle.cycle_laws.specs.Rotation.{rotated}
+use Rattle.cycle_names.specs.declared.link.TheConstants.{PO_PLACE}
 use Rattle.cycle_names.specs.declared.links.Links.{Links}
 use Rattle.cycle_names.specs.declared.links.Links.TheVariants.{Absent, Alike, Different}
 use Rattle.cycle_names.specs.LinkWords.{link_words}
@@ -191,11 +192,11 @@ one_word u k p a =
     })
 
 -- where all words are `po`, nothing comes
-pub text_plain : (u : List Edge) (k p : ℕ) → links_after Absent u ≡ Alike p → p ≡ 126 → links_text (link_words (rotated k u)) ≡ []
+pub text_plain : (u : List Edge) (k p : ℕ) → links_after Absent u ≡ Alike p → p ≡ PO_PLACE → links_text (link_words (rotated k u)) ≡ []
 text_plain u k p a e = let w = one_word u k p a in text_at_plain (rotated k u) w.one (w.at ∙ e) w.all
 
 -- where all are another word, it comes once, and an `s`
-pub text_alike : (u : List Edge) (k p : ℕ) → links_after Absent u ≡ Alike p → (p ≡ 126 → ⊥) → links_text (link_words (rotated k u)) ≡ place_text p ++ codes "s"
+pub text_alike : (u : List Edge) (k p : ℕ) → links_after Absent u ≡ Alike p → (p ≡ PO_PLACE → ⊥) → links_text (link_words (rotated k u)) ≡ place_text p ++ codes "s"
 text_alike u k p a n =
     let w = one_word u k p a in
     text_at_one (rotated k u) w.one w.turned (λ e. n (sym w.at ∙ e)) w.all ∙ ap (λ t. t ++ codes "s") (sym (text_at_place w.one) ∙ ap place_text w.at)

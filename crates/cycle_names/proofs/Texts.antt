@@ -13,6 +13,7 @@ use Rattle.relax_edges.specs.declared.edge.Edge.{Edge}
 use Rattle.relax_edges.specs.EdgeTable.{is_diff}
 use Rattle.relax_edges.specs.WordParts.{word_of}
 use Rattle.cycle_laws.specs.Rotation.{rotated}
+use Rattle.cycle_names.specs.declared.link.TheConstants.{PO_PLACE}
 use Rattle.cycle_names.specs.LinkWords.{link_word, link_words}
 use Rattle.cycle_names.specs.CycleNames.{after_plus, all_equal, plural, links_text}
 use Rattle.cycle_names.specs.Families.{pod}
@@ -129,11 +130,11 @@ po = pod R R
 po_word : link_word po ≡ codes "po"
 po_word = refl
 
-po_place : word_place po ≡ 126
+po_place : word_place po ≡ PO_PLACE
 po_place = refl
 
 -- nothing comes after it where all words have the place of `po`
-pub text_at_plain : (v : List Edge) (e : Edge) → word_place e ≡ 126 → list_all (has_word_place (word_place e)) v ≡ true → links_text (link_words v) ≡ []
+pub text_at_plain : (v : List Edge) (e : Edge) → word_place e ≡ PO_PLACE → list_all (has_word_place (word_place e)) v ≡ true → links_text (link_words v) ≡ []
 text_at_plain v e p h =
     text_of_plain v (ap (λ w. list_all (bytes_eq w) (link_words v)) (sym po_word ∙ words_same po e (po_place ∙ sym p)) ∙ sym (all_at e v) ∙ h)
 
@@ -147,7 +148,7 @@ not_plain v e h n =
     (λ f. f)
 
 -- one word comes after it where all words have one place that isn't that of `po`
-pub text_at_one : (v : List Edge) (e : Edge) → find is_diff v ≡ Some e → (word_place e ≡ 126 → ⊥) → list_all (has_word_place (word_place e)) v ≡ true → links_text (link_words v) ≡ link_text e ++ codes "s"
+pub text_at_one : (v : List Edge) (e : Edge) → find is_diff v ≡ Some e → (word_place e ≡ PO_PLACE → ⊥) → list_all (has_word_place (word_place e)) v ≡ true → links_text (link_words v) ≡ link_text e ++ codes "s"
 text_at_one v e h p t =
     text_of_alike v e h
     (not_plain v e h (λ b. p (sym (eqb-true (word_place po) (word_place e) (sym (link_words_equal po e) ∙ b)) ∙ po_place)))

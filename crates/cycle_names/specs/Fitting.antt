@@ -23,6 +23,7 @@ use Rattle.relax_edges.specs.AllEdges.{edges_in_order}
 use Rattle.relax_edges.specs.Order.{pick_rank}
 use Rattle.relax_edges.specs.Relaxations.{is_same}
 use Rattle.cycle_laws.specs.Rotation.{rotated}
+use Rattle.cycle_names.specs.declared.link.TheConstants.{DATA_PLACE, PO_PLACE}
 use Rattle.cycle_names.specs.declared.links.Links.{Links}
 use Rattle.cycle_names.specs.declared.links.Links.TheVariants.{Absent, Alike, Different}
 use Rattle.cycle_names.specs.declared.slot.Slot.{Slot}
@@ -152,10 +153,10 @@ dependency_place deps.CtrlIsync letters = 36 + letters
 
 -- the place of the word of a link of a kind with the letters of this place, and 0 for a kind that is no link
 abbrev pub kind_word_place : Kind → ℕ → ℕ
-kind_word_place (kinds.Po Diff _ _) letters = 126 + letters
+kind_word_place (kinds.Po Diff _ _) letters = PO_PLACE + letters
 kind_word_place (kinds.Fenced fence Diff _ _) letters = fence_place fence + letters
 kind_word_place (kinds.Dep dep Diff _) letters = dependency_place dep letters
-kind_word_place (kinds.Data Diff) letters = 45 + letters
+kind_word_place (kinds.Data Diff) letters = DATA_PLACE + letters
 kind_word_place _ _ = 0
 
 -- the place of a link's word among the words of links, in byte order, and 0 for an edge that is no link

@@ -8,6 +8,12 @@ ghost use Rattle.cycle_names.specs.Fitting.{letters_place, fence_place, dependen
 use arrayvec::ArrayString;
 use relax_edges::{DepKind, Edge, FenceKind, Kind, Mark, Pick, Sd};
 
+/// The place of `data` among the words of links, in byte order.
+pub(crate) const DATA_PLACE: u8 = 45;
+
+/// The place of `po`, the word of a link that is plain program order, among the words of links.
+pub(crate) const PO_PLACE: u8 = 126;
+
 fn pick_rank(pick: Pick) -> u8
     ensures { result ≡ pick_rank pick }
 {

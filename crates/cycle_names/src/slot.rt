@@ -1,7 +1,7 @@
 ghost use Rattle.std.specs.Prelude.{◌≡◌, ◌<◌, ◌≤◌, MatchOption};
 ghost use Rattle.cycle_names.specs.Fitting.{slot_edge, com_digit, link_digit, kind_digit, slot_digit, digit_count, kind_word_place, word_place, AreDigits};
 
-use crate::link::{dependency_place, fence_place, letters_place};
+use crate::link::{DATA_PLACE, PO_PLACE, dependency_place, fence_place, letters_place};
 use relax_edges::{Com, Dir, Edge, Kind, Reach, Sd};
 
 /// What a link adds to a count.
@@ -118,7 +118,7 @@ fn kind_digits(kind: Kind, letters: u8) -> Option<Digits>
             sd: Sd::Diff,
             from,
             to,
-        } => Some(link_digits(from, to, 126 + letters)),
+        } => Some(link_digits(from, to, PO_PLACE + letters)),
         Kind::Fenced {
             fence,
             sd: Sd::Diff,
@@ -130,7 +130,7 @@ fn kind_digits(kind: Kind, letters: u8) -> Option<Digits>
             sd: Sd::Diff,
             to,
         } => Some(link_digits(Dir::R, to, dependency_place(dep, letters))),
-        Kind::Data { sd: Sd::Diff } => Some(link_digits(Dir::R, Dir::W, 45 + letters)),
+        Kind::Data { sd: Sd::Diff } => Some(link_digits(Dir::R, Dir::W, DATA_PLACE + letters)),
         _ => None,
     }
 }

@@ -9,6 +9,7 @@ ghost use Rattle.cycle_laws.specs.Rotation.{rotated};
 
 use crate::family::LONGEST;
 use crate::fit::Fit;
+use crate::link::PO_PLACE;
 use crate::link_texts::place_text;
 use crate::links::Links;
 use arrayvec::ArrayString;
@@ -16,9 +17,6 @@ use relax_edges::Edge;
 
 /// The most bytes that a name of a family has after the family's word: 12 for each link.
 pub(crate) const MAX_LINKS: usize = 12 * LONGEST;
-
-/// The place of `po` among the words of links.
-const PLAIN: u8 = 126;
 
 /// Adds what a name of a family has after the family's word, for the rotation of a cycle that fits,
 /// by the places of the words of its links.
@@ -31,7 +29,7 @@ pub(crate) fn push_links<const N: usize>(places: &[u8], fit: Fit, name: &mut Arr
     match fit.links {
         Links::Absent => {}
         Links::Alike(place) => {
-            if place != PLAIN {
+            if place != PO_PLACE {
                 name.push_str(place_text(place));
                 name.push_str("s");
             }

@@ -12,15 +12,15 @@ pub returns-in-Absent : goal.returns-in-Absent
 returns-in-Absent g c = λ u fits.
     sym (ap (λ t. c.args.name.now.bytes ++ t) (text_absent u c.args.fit.place (sym fits.links ∙ c.in-Absent.is)) ∙ append-nil c.args.name.now.bytes)
 
-pub returns-then-place-ne-PLAIN : goal.returns-then-place-ne-PLAIN
-returns-then-place-ne-PLAIN g c = λ u fits.
-    c.push_str-then-place-ne-PLAIN.ensures.bytes ∙ ap (λ t. t ++ codes "s") (c.push_str.ensures.bytes ∙ ap (λ t. c.args.name.now.bytes ++ t) c.place_text.ensures.text)
+pub returns-then-place-ne-PO_PLACE : goal.returns-then-place-ne-PO_PLACE
+returns-then-place-ne-PO_PLACE g c = λ u fits.
+    c.push_str-then-place-ne-PO_PLACE.ensures.bytes ∙ ap (λ t. t ++ codes "s") (c.push_str.ensures.bytes ∙ ap (λ t. c.args.name.now.bytes ++ t) c.place_text.ensures.text)
     ∙ append_assoc c.args.name.now.bytes (place_text c.in-Alike.place) (codes "s")
-    ∙ ap (λ t. c.args.name.now.bytes ++ t) (sym (text_alike u c.args.fit.place c.in-Alike.place (sym fits.links ∙ c.in-Alike.is) c.if-place-ne-PLAIN.true))
+    ∙ ap (λ t. c.args.name.now.bytes ++ t) (sym (text_alike u c.args.fit.place c.in-Alike.place (sym fits.links ∙ c.in-Alike.is) c.if-place-ne-PO_PLACE.true))
 
-pub returns-else-place-ne-PLAIN : goal.returns-else-place-ne-PLAIN
-returns-else-place-ne-PLAIN g c = λ u fits.
-    sym (ap (λ t. c.args.name.now.bytes ++ t) (text_plain u c.args.fit.place c.in-Alike.place (sym fits.links ∙ c.in-Alike.is) c.if-place-ne-PLAIN.false) ∙ append-nil c.args.name.now.bytes)
+pub returns-else-place-ne-PO_PLACE : goal.returns-else-place-ne-PO_PLACE
+returns-else-place-ne-PO_PLACE g c = λ u fits.
+    sym (ap (λ t. c.args.name.now.bytes ++ t) (text_plain u c.args.fit.place c.in-Alike.place (sym fits.links ∙ c.in-Alike.is) c.if-place-ne-PO_PLACE.false) ∙ append-nil c.args.name.now.bytes)
 
 pub returns-in-Different : goal.returns-in-Different
 returns-in-Different g c = λ u fits.
