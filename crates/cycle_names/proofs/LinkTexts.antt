@@ -1,10 +1,10 @@
 -- What links add to a name, by the places of their words.
-use Rattle.std.specs.Prelude.{◌≡◌, ◌≤◌, ◌<◌, ◌==◌, ◌+◌, ℕ, Bool, true, Option, Some, None, List, [], ◌∷◌, ◌++◌, length, map, take, nat_lt, codes}
+use Rattle.std.specs.Prelude.{◌≡◌, ◌≤◌, ◌<◌, ◌==◌, ◌+◌, ℕ, Bool, true, Option, Some, None, List, [], ◌∷◌, ◌++◌, length, map, take, codes}
 use Rattle.std.specs.List.{list_all, find, flat_map}
 use Rattle.std.specs.Str.{bytes_eq}
 use Rattle.std.specs.Cmp.Lexicographic.{bytes_decides}
 use Rattle.std.proofs.Common.{refl, sym, ◌∙◌, ap, arith, get_or, length-append}
-use Rattle.std.proofs.lemmas.Bool.{eqb-true, ltb-true, cond-true, cond-false}
+use Rattle.std.proofs.lemmas.Bool.{eqb-true, cond-true, cond-false}
 use Rattle.std.proofs.lemmas.List.{length-map, length-take, map_more, get_or-map}
 use Rattle.list_laws.specs.Numbers.{upto}
 use Rattle.list_laws.proofs.Numbers.{length-upto, get_or-map-upto}
@@ -18,7 +18,7 @@ use Rattle.cycle_names.specs.CycleNames.{after_plus}
 use Rattle.cycle_names.specs.Fitting.{link_text, first_link_text, word_place, place_text}
 use Rattle.cycle_names.specs.declared.link_texts.TheConstants.{PLACES}
 use Rattle.cycle_names.proofs.Members.{find_none}
-use Rattle.cycle_names.proofs.Tables.{link_word_short}
+use Rattle.cycle_names.proofs.Tables.{link_word_short, each_below}
 
 text_agrees : Edge → Bool
 unfolding place_text
@@ -45,10 +45,7 @@ no_text = refl
 
 place_below : (e : Edge) → word_place e < PLACES
 unfolding edges_in_order
-place_below e = ltb-true (word_place e) PLACES (each_edge (λ e. nat_lt (word_place e) PLACES) all e)
-  where
-    all : list_all (λ e. nat_lt (word_place e) PLACES) edges_in_order ≡ true
-    all = refl
+place_below = each_below word_place PLACES refl
 
 -- no word has a place that isn't below their number
 pub none_past : (p : ℕ) → PLACES ≤ p → place_text p ≡ []

@@ -26,9 +26,28 @@ use Rattle.cycle_names.specs.LinkWords.{edge_of_slot, outline, fence_link, depen
 use Rattle.cycle_names.specs.Fitting.{slot_digit, edge_count, word_place}
 use Rattle.text_laws.specs.Names.{is_name_byte}
 use Rattle.cycle_names.specs.NameReading.{is_plus, is_dash, link_between, link_with}
-use Rattle.list_laws.proofs.Cases.{same_index}
+use Rattle.list_laws.proofs.Cases.{same_index, implied}
 
--- the words of links compare as their ranks do
+-- a test of two edges that passes for all that are listed passes for each two
+each_pair : (test : Edge → Edge → Bool) → list_all (λ a. list_all (test a) edges_in_order) edges_in_order ≡ true → (a b : Edge) → test a b ≡ true
+each_pair test all a b = each_edge (test a) (each_edge (λ a. list_all (test a) edges_in_order) all a) b
+
+-- two tests that agree on all edges that are listed agree on each
+each_agrees : (p q : Edge → Bool) → list_all (λ e. beq (p e) (q e)) edges_in_order ≡ true → (e : Edge) → p e ≡ q e
+each_agrees p q all e = (booleans_Decides (p e) (q e)).0 (each_edge (λ e. beq (p e) (q e)) all e)
+
+-- a test that implies another for all edges that are listed implies it for each
+each_implies : (p q : Edge → Bool) → list_all (λ e. not (p e) || q e) edges_in_order ≡ true → (e : Edge) → p e ≡ true → q e ≡ true
+each_implies p q all e = implied (p e) (q e) (each_edge (λ e. not (p e) || q e) all e)
+
+-- a number that is below a bound for all edges that are listed is below it for each
+pub each_below : (number : Edge → ℕ) (bound : ℕ) → list_all (λ e. nat_lt (number e) bound) edges_in_order ≡ true → (e : Edge) → number e < bound
+each_below number bound all e = ltb-true (number e) bound (each_edge (λ e. nat_lt (number e) bound) all e)
+
+-- a test of the bytes of texts that passes for all edges that are listed passes for each
+each_text : (text : Edge → List ℕ) (test : ℕ → Bool) → list_all (λ e. list_all test (text e)) edges_in_order ≡ true → (e : Edge) → list_all test (text e) ≡ true
+each_text text test all e = each_edge (λ e. list_all test (text e)) all e
+
 words_alike : Edge → Edge → Bool
 words_alike a b = ordering_index (slice_cmp nat_cmp (link_word a) (link_word b)) == ordering_index (nat_cmp (word_place a) (word_place b))
 
@@ -39,103 +58,64 @@ all_words_alike = refl
 -- the words of two links compare as their places do
 pub link_words_order : (a b : Edge) → slice_cmp nat_cmp (link_word a) (link_word b) ≡ nat_cmp (word_place a) (word_place b)
 unfolding words_alike
-link_words_order a b =
-    same_index _ _ (eqb-true _ _ (each_edge (words_alike a) (each_edge (λ a. list_all (words_alike a) edges_in_order) all_words_alike a) b))
+link_words_order a b = same_index _ _ (eqb-true _ _ (each_pair words_alike all_words_alike a b))
 
--- the words of links are equal where their ranks are
-ranks_alike : Edge → Edge → Bool
-ranks_alike a b = beq (bytes_eq (link_word a) (link_word b)) (word_place a == word_place b)
+places_alike : Edge → Edge → Bool
+places_alike a b = beq (bytes_eq (link_word a) (link_word b)) (word_place a == word_place b)
 
-all_ranks_alike : list_all (λ a. list_all (ranks_alike a) edges_in_order) edges_in_order ≡ true
-unfolding edges_in_order ranks_alike
-all_ranks_alike = refl
+all_places_alike : list_all (λ a. list_all (places_alike a) edges_in_order) edges_in_order ≡ true
+unfolding edges_in_order places_alike
+all_places_alike = refl
 
 -- the words of two links are equal exactly where their places are
 pub link_words_equal : (a b : Edge) → bytes_eq (link_word a) (link_word b) ≡ (word_place a == word_place b)
-unfolding ranks_alike
-link_words_equal a b =
-    (booleans_Decides _ _).0 (each_edge (ranks_alike a) (each_edge (λ a. list_all (ranks_alike a) edges_in_order) all_ranks_alike a) b)
+unfolding places_alike
+link_words_equal a b = (booleans_Decides _ _).0 (each_pair places_alike all_places_alike a b)
 
--- a fact that holds of an edge where a test does
-if_so : Bool → Bool → Bool
-if_so b c = not b || c
-
-so : (b c : Bool) → if_so b c ≡ true → b ≡ true → c ≡ true
-unfolding if_so
-so true c h t = h
-so false c h t = cc
-
--- a slot leads to another location where the edge does, and to another thread
+-- a slot leads to another location where the edge does
 pub slot_is_diff : (e : Edge) → is_diff (edge_of_slot e) ≡ is_diff e
 unfolding edges_in_order
-slot_is_diff e = (booleans_Decides _ _).0 (each_edge (λ e. beq (is_diff (edge_of_slot e)) (is_diff e)) all e)
-  where
-    all : list_all (λ e. beq (is_diff (edge_of_slot e)) (is_diff e)) edges_in_order ≡ true
-    all = refl
+slot_is_diff = each_agrees (λ e. is_diff (edge_of_slot e)) is_diff refl
 
 -- a slot leads to another thread where the edge does
 pub slot_is_external : (e : Edge) → is_external (edge_of_slot e) ≡ is_external e
 unfolding edges_in_order
-slot_is_external e = (booleans_Decides _ _).0 (each_edge (λ e. beq (is_external (edge_of_slot e)) (is_external e)) all e)
-  where
-    all : list_all (λ e. beq (is_external (edge_of_slot e)) (is_external e)) edges_in_order ≡ true
-    all = refl
+slot_is_external = each_agrees (λ e. is_external (edge_of_slot e)) is_external refl
 
 -- an external edge keeps the location
 pub external_same : (e : Edge) → is_external e ≡ true → is_diff e ≡ false
-unfolding if_so edges_in_order
-external_same e t = not-true (is_diff e) (so (is_external e) (not (is_diff e)) (each_edge (λ e. if_so (is_external e) (not (is_diff e))) all e) t)
-  where
-    all : list_all (λ e. if_so (is_external e) (not (is_diff e))) edges_in_order ≡ true
-    all = refl
+unfolding edges_in_order
+external_same e t = not-true (is_diff e) (each_implies is_external (λ e. not (is_diff e)) refl e t)
 
 -- the word of an edge that is no link has no place
 pub no_place : (e : Edge) → is_diff e ≡ false → word_place e ≡ 0
-unfolding if_so edges_in_order
-no_place e f = eqb-true _ _ (so (not (is_diff e)) (word_place e == 0) (each_edge (λ e. if_so (not (is_diff e)) (word_place e == 0)) all e) (rw f refl))
-  where
-    all : list_all (λ e. if_so (not (is_diff e)) (word_place e == 0)) edges_in_order ≡ true
-    all = refl
+unfolding edges_in_order
+no_place e f = eqb-true _ _ (each_implies (λ e. not (is_diff e)) (λ e. word_place e == 0) refl e (rw f refl))
 
 -- the word of a link has a place
 pub some_place : (e : Edge) → is_diff e ≡ true → (word_place e == 0) ≡ false
-unfolding if_so edges_in_order
-some_place e t = not-true (word_place e == 0) (so (is_diff e) (not (word_place e == 0)) (each_edge (λ e. if_so (is_diff e) (not (word_place e == 0))) all e) t)
-  where
-    all : list_all (λ e. if_so (is_diff e) (not (word_place e == 0))) edges_in_order ≡ true
-    all = refl
+unfolding edges_in_order
+some_place e t = not-true (word_place e == 0) (each_implies is_diff (λ e. not (word_place e == 0)) refl e t)
 
 -- an edge counts what its slot does
 pub edge_counts : (e : Edge) → edge_count (edge_of_slot e) ≡ edge_count e
 unfolding edges_in_order
-edge_counts e = eqb-true _ _ (each_edge (λ e. edge_count (edge_of_slot e) == edge_count e) all e)
-  where
-    all : list_all (λ e. edge_count (edge_of_slot e) == edge_count e) edges_in_order ≡ true
-    all = refl
+edge_counts e = eqb-true _ _ (each_edge (λ e. edge_count (edge_of_slot e) == edge_count e) refl e)
 
 -- an edge that has no digit is neither a link nor external
 pub no_digit : (e : Edge) → slot_digit e ≡ 0 → (is_diff e || is_external e) ≡ false
-unfolding if_so edges_in_order
-no_digit e h = not-true (is_diff e || is_external e) (so (slot_digit e == 0) (not (is_diff e || is_external e)) (each_edge (λ e. if_so (slot_digit e == 0) (not (is_diff e || is_external e))) all e) (eq-eqb _ _ h))
-  where
-    all : list_all (λ e. if_so (slot_digit e == 0) (not (is_diff e || is_external e))) edges_in_order ≡ true
-    all = refl
+unfolding edges_in_order
+no_digit e h = not-true (is_diff e || is_external e) (each_implies (λ e. slot_digit e == 0) (λ e. not (is_diff e || is_external e)) refl e (eq-eqb _ _ h))
 
--- a digit is below 8, and a place below 256
+-- the digit of what an edge joins is one in base 8
 pub slot_digit_small : (e : Edge) → slot_digit e < 8
 unfolding edges_in_order
-slot_digit_small e = ltb-true (slot_digit e) 8 (each_edge (λ e. nat_lt (slot_digit e) 8) all e)
-  where
-    all : list_all (λ e. nat_lt (slot_digit e) 8) edges_in_order ≡ true
-    all = refl
+slot_digit_small = each_below slot_digit 8 refl
 
--- the place of a word is below 256
+-- the place of a word is a digit in base 256
 pub word_place_small : (e : Edge) → word_place e < 256
 unfolding edges_in_order
-word_place_small e = ltb-true (word_place e) 256 (each_edge (λ e. nat_lt (word_place e) 256) all e)
-  where
-    all : list_all (λ e. nat_lt (word_place e) 256) edges_in_order ≡ true
-    all = refl
+word_place_small = each_below word_place 256 refl
 
 -- the digits of the edges of a family's cycle say what edges join
 digit_tells : Edge → Edge → Bool
@@ -202,10 +182,10 @@ is_the e None = false
 is_the e (Some d) = rank_of d == rank_of e
 
 is_found : Edge → Bool
-is_found e = if_so (is_diff e) (is_the e (link_between (source_of e) (target_of e) (link_word e)))
+is_found e = is_the e (link_between (source_of e) (target_of e) (link_word e))
 
-all_found : list_all is_found edges_in_order ≡ true
-unfolding is_found if_so is_the rank_of link_between edges_in_order
+all_found : list_all (λ e. not (is_diff e) || is_found e) edges_in_order ≡ true
+unfolding is_found is_the rank_of link_between edges_in_order
 all_found = refl
 
 the_one : (e : Edge) (o : Option Edge) → is_the e o ≡ true → o ≡ Some e
@@ -216,8 +196,7 @@ the_one e (Some d) h = ap Some (rank_injective d e (eqb-true _ _ h))
 -- the link between its accesses with its word is the link itself
 pub link_found_back : (e : Edge) → is_diff e ≡ true → link_between (source_of e) (target_of e) (link_word e) ≡ Some e
 unfolding is_found
-link_found_back e t =
-    the_one e (link_between (source_of e) (target_of e) (link_word e)) (so (is_diff e) (is_the e (link_between (source_of e) (target_of e) (link_word e))) (each_edge is_found all_found e) t)
+link_found_back e t = the_one e (link_between (source_of e) (target_of e) (link_word e)) (each_implies is_diff is_found all_found e t)
 
 slot_source : (e : Edge) → is_diff e ≡ true → source_of (edge_of_slot e) ≡ source_of e
 slot_source e t = rw t refl
@@ -232,18 +211,10 @@ link_back e t =
     ∙ ap (λ d. link_between (source_of e) d (link_word e)) (slot_target e t)
     ∙ link_found_back e t
 
--- a link's word has at most 11 bytes, all of them bytes of names and none of them `+`
-is_short : Edge → Bool
-is_short e = nat_le (length (link_word e)) 11
-
-all_short : list_all is_short edges_in_order ≡ true
-unfolding is_short edges_in_order
-all_short = refl
-
 -- a link's word has at most 11 bytes
 pub link_word_short : (e : Edge) → length (link_word e) ≤ 11
-unfolding is_short
-link_word_short e = leb-true (length (link_word e)) 11 (each_edge is_short all_short e)
+unfolding edges_in_order
+link_word_short e = leb-true (length (link_word e)) 11 (each_edge (λ e. nat_le (length (link_word e)) 11) refl e)
 
 -- it is the word of the link without letters, and the letters
 kind_letters : (kind : Kind) (letters : List ℕ) → is_diff (unmarked kind) ≡ true → kind_link_text kind letters ≡ kind_link_text kind [] ++ letters
@@ -258,11 +229,8 @@ kind_letters (kinds.Data Diff) letters h = refl
 kind_letters (kinds.Data Same) letters h = cc
 
 kind_diff : (e : Edge) → is_diff e ≡ true → is_diff (unmarked (kind_of e)) ≡ true
-unfolding if_so edges_in_order
-kind_diff e t = so (is_diff e) (is_diff (unmarked (kind_of e))) (each_edge (λ e. if_so (is_diff e) (is_diff (unmarked (kind_of e)))) all e) t
-  where
-    all : list_all (λ e. if_so (is_diff e) (is_diff (unmarked (kind_of e)))) edges_in_order ≡ true
-    all = refl
+unfolding edges_in_order
+kind_diff = each_implies is_diff (λ e. is_diff (unmarked (kind_of e))) refl
 
 -- the word of a link is the text of its kind and the letters of its marks, and short
 pub record WordParts (e : Edge) : Type 0 where
@@ -278,31 +246,19 @@ word_parts e t =
 -- a link's word has bytes of names only
 pub link_word_bytes : (e : Edge) → list_all is_name_byte (link_word e) ≡ true
 unfolding edges_in_order
-link_word_bytes e = each_edge (λ e. list_all is_name_byte (link_word e)) all e
-  where
-    all : list_all (λ e. list_all is_name_byte (link_word e)) edges_in_order ≡ true
-    all = refl
+link_word_bytes = each_text link_word is_name_byte refl
 
 -- a link's word has no `+`
 pub link_word_whole : (e : Edge) → list_all (λ b. not (is_plus b)) (link_word e) ≡ true
 unfolding edges_in_order
-link_word_whole e = each_edge (λ e. list_all (λ b. not (is_plus b)) (link_word e)) all e
-  where
-    all : list_all (λ e. list_all (λ b. not (is_plus b)) (link_word e)) edges_in_order ≡ true
-    all = refl
+link_word_whole = each_text link_word (λ b. not (is_plus b)) refl
 
--- a printed word has bytes of names only, and no `-`
+-- a printed word has bytes of names only
 pub word_bytes : (e : Edge) → list_all is_name_byte (word_of e) ≡ true
 unfolding edges_in_order
-word_bytes e = each_edge (λ e. list_all is_name_byte (word_of e)) all e
-  where
-    all : list_all (λ e. list_all is_name_byte (word_of e)) edges_in_order ≡ true
-    all = refl
+word_bytes = each_text word_of is_name_byte refl
 
 -- a printed word has no `-`
 pub word_whole : (e : Edge) → list_all (λ b. not (is_dash b)) (word_of e) ≡ true
 unfolding edges_in_order
-word_whole e = each_edge (λ e. list_all (λ b. not (is_dash b)) (word_of e)) all e
-  where
-    all : list_all (λ e. list_all (λ b. not (is_dash b)) (word_of e)) edges_in_order ≡ true
-    all = refl
+word_whole = each_text word_of (λ b. not (is_dash b)) refl
