@@ -5,7 +5,6 @@ use Rattle.std.proofs.Common.{refl, sym, ◌∙◌, ap}
 use Rattle.std.proofs.lemmas.Bool.{and_parts, cond-true, cond-false}
 use Rattle.list_laws.proofs.Cases.{by_test}
 use Rattle.relax_edges.specs.declared.kinds.Kind.{Kind}
-use Rattle.relax_edges.specs.declared.kinds.Kind.TheVariants as kinds
 use Rattle.relax_edges.specs.declared.kinds.Mark.{Mark}
 use Rattle.relax_edges.specs.declared.kinds.Mark.TheVariants.{Plain}
 use Rattle.relax_edges.specs.declared.edge.Edge.{Edge}
@@ -13,7 +12,7 @@ use Rattle.relax_edges.specs.EdgeTable.{kind_of, source_mark, target_mark, same_
 use Rattle.relax_edges.specs.JoinedEdges.{is_joined}
 use Rattle.cycle_laws.specs.Composable.{is_closed}
 use Rattle.cycle_laws.proofs.Joining.{same_mark_is, joined_marks}
-use Rattle.cycle_laws.proofs.Marks.{marked_edge_of}
+use Rattle.cycle_laws.proofs.Marks.{marked_edge_of, marked_edge_is}
 use Rattle.cycle_names.specs.LinkWords.{edge_of_slot}
 use Rattle.cycle_names.specs.Rotations.{is_plain_before, all_unmarked, is_plain_outside}
 use Rattle.cycle_names.specs.NameReading.{last_mark, marked_between, marked_along, marked_around}
@@ -28,26 +27,10 @@ said_of e = cond (is_diff e) e (edge_of_slot e)
 abbrev pub is_either : Edge → Bool
 is_either e = is_diff e || is_external e
 
-kind_of_unmarked : (k : Kind) → kind_of (unmarked k) ≡ k
-kind_of_unmarked (kinds.Com _ _) = refl
-kind_of_unmarked (kinds.Po _ _ _) = refl
-kind_of_unmarked (kinds.Fenced _ _ _ _) = refl
-kind_of_unmarked (kinds.Dep _ _ _) = refl
-kind_of_unmarked (kinds.Data _) = refl
-
-source_unmarked : (k : Kind) → source_mark (unmarked k) ≡ Plain
-source_unmarked (kinds.Com _ _) = refl
-source_unmarked (kinds.Po _ _ _) = refl
-source_unmarked (kinds.Fenced _ _ _ _) = refl
-source_unmarked (kinds.Dep _ _ _) = refl
-source_unmarked (kinds.Data _) = refl
-
-target_unmarked : (k : Kind) → target_mark (unmarked k) ≡ Plain
-target_unmarked (kinds.Com _ _) = refl
-target_unmarked (kinds.Po _ _ _) = refl
-target_unmarked (kinds.Fenced _ _ _ _) = refl
-target_unmarked (kinds.Dep _ _ _) = refl
-target_unmarked (kinds.Data _) = refl
+-- an edge without marks has its kind, and joins plain accesses
+unmarked_parts : (k : Kind) → (kind_of (unmarked k) ≡ k) × (source_mark (unmarked k) ≡ Plain) × (target_mark (unmarked k) ≡ Plain)
+unfolding marked_edge
+unmarked_parts k = marked_edge_is k Plain Plain (unmarked k) refl
 
 -- a name says all of a link
 pub said_link : (e : Edge) → is_diff e ≡ true → said_of e ≡ e
@@ -86,7 +69,7 @@ mark_after : (e n : Edge) → joins_to e n ≡ true → is_plain_before e (n ∷
 mark_after e n j p h t =
     by_test (is_diff n)
     (λ d. ap source_mark (said_link n d) ∙ joined_marks e n j)
-    (λ d. ap source_mark (said_plain n d) ∙ source_unmarked (kind_of n) ∙ sym (plain_mark e n p t (external_either n h d)))
+    (λ d. ap source_mark (said_plain n d) ∙ (unmarked_parts (kind_of n)).1 ∙ sym (plain_mark e n p t (external_either n h d)))
 
 -- and that of the edge before it
 mark_before : (e n : Edge) → joins_to e n ≡ true → is_plain_before e (n ∷ []) ≡ true → is_either e ≡ true → is_external n ≡ true → source_mark n ≡ target_mark (said_of e)
@@ -94,7 +77,7 @@ mark_before e n j p h t =
     joined_marks e n j
     ∙ by_test (is_diff e)
     (λ d. ap target_mark (sym (said_link e d)))
-    (λ d. plain_mark e n p (external_either e h d) t ∙ sym (ap target_mark (said_plain e d) ∙ target_unmarked (kind_of e)))
+    (λ d. plain_mark e n p (external_either e h d) t ∙ sym (ap target_mark (said_plain e d) ∙ (unmarked_parts (kind_of e)).2))
 
 -- so it is the edge
 one_back : (from to : Mark) (e : Edge) → is_either e ≡ true → (is_external e ≡ true → source_mark e ≡ from) → (is_external e ≡ true → to ≡ target_mark e) → marked_between from (said_of e) to ≡ Some e
@@ -102,7 +85,7 @@ one_back from to e h s t =
     by_test (is_external e)
     (λ x.
     let f : is_diff e ≡ false = external_same e x in
-    let k : kind_of (said_of e) ≡ kind_of e = ap kind_of (said_plain e f) ∙ kind_of_unmarked (kind_of e) in
+    let k : kind_of (said_of e) ≡ kind_of e = ap kind_of (said_plain e f) ∙ (unmarked_parts (kind_of e)).0 in
     cond-true (is_external (said_of e)) (marked_edge (kind_of (said_of e)) from to) (Some (said_of e)) (ap is_external (said_slot e f) ∙ slot_is_external e ∙ x)
     ∙ ap (λ kind. marked_edge kind from to) k
     ∙ ap (λ m. marked_edge (kind_of e) m to) (sym (s x))
@@ -113,7 +96,8 @@ one_back from to e h s t =
     cond-false (is_external (said_of e)) (marked_edge (kind_of (said_of e)) from to) (Some (said_of e)) (ap is_external (said_link e d) ∙ x)
     ∙ ap Some (said_link e d))
 
-both_there : (o : Option Edge) (p : Option (List Edge)) (e : Edge) (v : List Edge) → o ≡ Some e → p ≡ Some v → before_edges o p ≡ Some (e ∷ v)
+-- an edge and others that are there are there together
+pub both_there : (o : Option Edge) (p : Option (List Edge)) (e : Edge) (v : List Edge) → o ≡ Some e → p ≡ Some v → before_edges o p ≡ Some (e ∷ v)
 both_there o p e v a b = rw (a, b) refl
 
 along_back : (from : Mark) (e : Edge) (v : List Edge) (last : Edge) → is_joined ((e ∷ v) ++ last ∷ []) ≡ true → all_unmarked ((e ∷ v) ++ last ∷ []) ≡ true →

@@ -1,6 +1,6 @@
 -- Reading a name gives the edges of the rotation that it was made from.
 use Rattle.std.specs.Prelude.{◌≡◌, ◌<◌, ◌≤◌, ◌-◌, ◌||◌, ℕ, suc, Bool, true, false, not, cond, Option, Some, None, List, [], ◌∷◌, ◌++◌, length, map, filter, drop, codes}
-use Rattle.std.specs.List.{list_any, list_all, flat_map, join_by, before_first, slice_split, onto_first}
+use Rattle.std.specs.List.{list_any, list_all, flat_map, join_by, before_first, slice_split}
 use Rattle.std.specs.Str.{bytes_eq}
 use Rattle.std.specs.Cmp.Lexicographic.{bytes_decides}
 use Rattle.std.proofs.Common.{refl, sym, ◌∙◌, ap, arith, length-append}
@@ -16,6 +16,7 @@ use Rattle.relax_edges.specs.Spelling.{edge_of}
 use Rattle.relax_edges.specs.ReadEdges.{before_edges}
 use Rattle.cycle_laws.proofs.SpellingLaws.{edge_of-word_of}
 use Rattle.list_laws.proofs.Places.{before_first-no}
+use Rattle.text_laws.proofs.PieceLaws.{split_whole, split_off}
 use Rattle.cycle_laws.specs.Composable.{IsCycle}
 use Rattle.cycle_laws.proofs.Laws.{cycle_of_rotation}
 use Rattle.cycle_laws.proofs.Rotating.{rotation_length}
@@ -27,23 +28,17 @@ use Rattle.cycle_names.specs.Rotations.{fits_family, found_family, named_rotatio
 use Rattle.cycle_names.specs.CycleNames.{after_plus, all_equal, plural, links_text, name_from, name_of}
 use Rattle.cycle_names.specs.NameReading.{is_plus, is_dash, named_family, link_with, slot_with, filled_alike, first_name_word, after_word, filled_each, without_last_byte, slots_filled, marked_if, edges_of_words, read_by_family, edges_read}
 use Rattle.cycle_names.proofs.Tables.{slot_is_diff, link_back, link_word_whole, word_whole}
-use Rattle.cycle_names.proofs.Marks.{said_of, said_link, said_slot}
+use Rattle.cycle_names.proofs.Marks.{said_of, said_link, said_slot, both_there}
 use Rattle.cycle_names.proofs.Outlines.{outline_of_fits, words_of_link, words_of_plain}
 use Rattle.cycle_names.proofs.Families.{never_other, found_is_of, family_links, word_alone, word_before}
 use Rattle.cycle_names.proofs.Chosen.{fit_back, named_fits, named_rotates}
 
--- a word up to a byte that doesn't occur in it
-until : (p : ℕ → Bool) (word : List ℕ) (byte : ℕ) (rest : List ℕ) → list_all (λ b. not (p b)) word ≡ true → p byte ≡ true → before_first p (word ++ byte ∷ rest) ≡ word
-until p [] byte rest h t = rw t refl
-until p (b ∷ word) byte rest h t =
+-- a word up to a byte that doesn't occur in it, with which what follows it begins, if anything does
+until : (p : ℕ → Bool) (word rest : List ℕ) → list_all (λ b. not (p b)) word ≡ true → before_first p rest ≡ [] → before_first p (word ++ rest) ≡ word
+until p [] rest h t = t
+until p (b ∷ word) rest h t =
     let both = and_parts (not (p b)) (list_all (λ b. not (p b)) word) h in
-    before_first-no p b (word ++ byte ∷ rest) (not-true (p b) both.0) ∙ ap (λ w. b ∷ w) (until p word byte rest both.1 t)
-
-until_end : (p : ℕ → Bool) (word : List ℕ) → list_all (λ b. not (p b)) word ≡ true → before_first p word ≡ word
-until_end p [] h = refl
-until_end p (b ∷ word) h =
-    let both = and_parts (not (p b)) (list_all (λ b. not (p b)) word) h in
-    before_first-no p b word (not-true (p b) both.0) ∙ ap (λ w. b ∷ w) (until_end p word both.1)
+    before_first-no p b (word ++ rest) (not-true (p b) both.0) ∙ ap (λ w. b ∷ w) (until p word rest both.1 t)
 
 -- the edge of a slot, with the word of the edge
 slot_back : (e : Edge) (word : List ℕ) → (is_diff e ≡ true → word ≡ link_word e) → slot_with (edge_of_slot e) word ≡ Some (said_of e)
@@ -51,9 +46,6 @@ slot_back e word h =
     by_test (is_diff e)
     (λ t. cond-true (is_diff (edge_of_slot e)) (link_with (edge_of_slot e) word) (Some (edge_of_slot e)) (slot_is_diff e ∙ t) ∙ ap (link_with (edge_of_slot e)) (h t) ∙ link_back e t ∙ ap Some (sym (said_link e t)))
     (λ f. cond-false (is_diff (edge_of_slot e)) (link_with (edge_of_slot e) word) (Some (edge_of_slot e)) (slot_is_diff e ∙ f) ∙ ap Some (sym (said_slot e f)))
-
-both_there : (o : Option Edge) (p : Option (List Edge)) (e : Edge) (v : List Edge) → o ≡ Some e → p ≡ Some v → before_edges o p ≡ Some (e ∷ v)
-both_there o p e v a b = rw (a, b) refl
 
 -- where all links have one word
 alike_back : (v : List Edge) (word : List ℕ) → list_all (bytes_eq word) (link_words v) ≡ true → filled_alike (outline v) word ≡ Some (map said_of v)
@@ -71,8 +63,8 @@ alike_back (e ∷ v) word h =
 
 -- the first of some words, each of which follows a `+`
 first_word_is : (word : List ℕ) (words : List (List ℕ)) → list_all (λ b. not (is_plus b)) word ≡ true → first_name_word (43 ∷ (word ++ flat_map after_plus words)) ≡ word
-first_word_is word [] h = ap (before_first is_plus) (append-nil word) ∙ until_end is_plus word h
-first_word_is word (next ∷ words) h = until is_plus word 43 (next ++ flat_map after_plus words) h refl
+first_word_is word [] h = until is_plus word [] h refl
+first_word_is word (next ∷ words) h = until is_plus word (43 ∷ (next ++ flat_map after_plus words)) h refl
 
 after_word_is : (word : List ℕ) (words : List (List ℕ)) → list_all (λ b. not (is_plus b)) word ≡ true → after_word (43 ∷ (word ++ flat_map after_plus words)) ≡ flat_map after_plus words
 after_word_is word words h =
@@ -209,23 +201,11 @@ family_back f v n c h =
     ∙ ap marked_if (links_back v many)
     ∙ fit_back f v c h
 
--- a list cut at a byte
-cut_first : (p : ℕ → Bool) (word : List ℕ) (byte : ℕ) (rest : List ℕ) → list_all (λ b. not (p b)) word ≡ true → p byte ≡ true → slice_split p (word ++ byte ∷ rest) ≡ word ∷ slice_split p rest
-cut_first p [] byte rest h t = rw t refl
-cut_first p (b ∷ word) byte rest h t =
-    let both = and_parts (not (p b)) (list_all (λ b. not (p b)) word) h in
-    rw (not-true (p b) both.0) (ap (onto_first b) (cut_first p word byte rest both.1 t))
-
-cut_last : (p : ℕ → Bool) (word : List ℕ) → list_all (λ b. not (p b)) word ≡ true → slice_split p word ≡ word ∷ []
-cut_last p [] h = refl
-cut_last p (b ∷ word) h =
-    let both = and_parts (not (p b)) (list_all (λ b. not (p b)) word) h in
-    rw (not-true (p b) both.0) (ap (onto_first b) (cut_last p word both.1))
-
+-- the words of a cycle joined by dashes, cut at the dashes
 split_words : (e : Edge) (v : List Edge) → slice_split is_dash (join_by word_of (codes "-") (e ∷ v)) ≡ word_of e ∷ map word_of v
-split_words e [] = ap (slice_split is_dash) (append-nil (word_of e)) ∙ cut_last is_dash (word_of e) (word_whole e)
+split_words e [] = ap (slice_split is_dash) (append-nil (word_of e)) ∙ split_whole is_dash (word_of e) (word_whole e)
 split_words e (d ∷ v) =
-    cut_first is_dash (word_of e) 45 (join_by word_of (codes "-") (d ∷ v)) (word_whole e) refl ∙ ap (λ w. word_of e ∷ w) (split_words d v)
+    split_off is_dash (word_of e) 45 (join_by word_of (codes "-") (d ∷ v)) refl (word_whole e) ∙ ap (λ w. word_of e ∷ w) (split_words d v)
 
 spelled_back : (v : List Edge) → edges_of_words (map word_of v) ≡ Some v
 spelled_back [] = refl
