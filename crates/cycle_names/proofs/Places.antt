@@ -1,6 +1,6 @@
 -- The places from which rotations fit, as the code finds them, and the rotation that it names a cycle from.
-use Rattle.std.specs.Prelude.{◌≡◌, ◌<◌, ◌≤◌, ◌+◌, ◌^◌, ◌&&◌, ◌==◌, ℕ, true, false, nat_lt, sum, Option, Some, None, MatchOption, List, [], ◌∷◌, ◌++◌, length, map, take, drop}
-use Rattle.std.proofs.Common.{refl, sym, ◌∙◌, ap, arith, get_or}
+use Rattle.std.specs.Prelude.{◌≡◌, ◌<◌, ◌≤◌, ◌+◌, ◌-◌, ◌*◌, ◌/◌, ◌%◌, ◌^◌, ◌&&◌, ◌==◌, ℕ, true, false, nat_lt, sum, Option, Some, None, MatchOption, List, [], ◌∷◌, ◌++◌, length, map, take, drop}
+use Rattle.std.proofs.Common.{refl, sym, ◌∙◌, ap, subst, arith, get_or}
 use Rattle.std.proofs.lemmas.Bool.{and_parts, eqb-true, eq-eqb, ltb-true, lt-ltb}
 use Rattle.std.proofs.lemmas.List.{length-map, take-append-drop, take_more}
 use Rattle.std.proofs.lemmas.List.Sums.{sum_by-append, sum_by-cons}
@@ -25,7 +25,7 @@ use Rattle.cycle_names.proofs.Plain.{plain_rotated}
 use Rattle.cycle_names.proofs.Tables.{edge_counts, no_digit, slot_digit_small, word_place_small, joins_by_digits, digits_join}
 use Rattle.cycle_names.proofs.Marks.{is_either}
 use Rattle.cycle_names.proofs.Outlines.{plain_of_fits}
-use Rattle.cycle_names.proofs.Numbers.{rotated_length, number_same, number_order, number_below}
+use Rattle.cycle_names.proofs.Numbers.{rotated_length, number_same, number_order, number_below, number_turned}
 use Rattle.cycle_names.proofs.Families.{Fitting, fitting, fits_either, family_found, is_of_fitting, listed, never_other, counts_differ}
 use Rattle.cycle_names.proofs.Chosen.{first_by_words, named_in_family}
 
@@ -141,37 +141,57 @@ pub record BestFrom (u : List Edge) (f : Family) (k words : ℕ) (place : Option
 pub best_first : (u : List Edge) (f : Family) → BestFrom u f (length u) 18446744073709551615 None
 best_first u f = record { least = λ j h l t. absurd (omega (arith, h, l)); kept = refl }
 
--- where the next rotation doesn't join the same, or its words don't come before, the place stays
-pub best_kept : (u : List Edge) (f : Family) (k words slots number wanted : ℕ) (place : Option ℕ) → BestFrom u f (k + 1) words place → slots ≡ slots_number (rotated k u) →
-    number ≡ words_number (rotated k u) → wanted ≡ slots_number (family_edges f) → ((slots == wanted) && nat_lt number words) ≡ false → BestFrom u f k words place
-best_kept u f k words slots number wanted place h s n w t = record {
+-- the step to a place: it is one of the list, the numbers are those of the rotation from it, and the best is that of the places passed before
+pub record IsStep (u : List Edge) (f : Family) (k slots number words : ℕ) (place : Option ℕ) : Type 0 where
+  pub within : k < length u
+  pub slots_are : slots ≡ slots_number (rotated k u)
+  pub words_are : number ≡ words_number (rotated k u)
+  pub best : BestFrom u f (k + 1) words place
+
+-- the numbers that are turned at a place are those of the rotation from the place before it
+pub step : (u : List Edge) (f : Family) (last slots number slots_worth words_worth turned_slots turned_number words : ℕ) (place : Option ℕ) → 0 < last → last ≤ length u →
+    slots ≡ slots_number (rotated last u) → number ≡ words_number (rotated last u) → slots_worth ≡ 8 ^ length u → words_worth ≡ 256 ^ length u → BestFrom u f last words place →
+    turned_slots ≡ (slots + slots % 8 * slots_worth) / 8 → turned_number ≡ (number + number % 256 * words_worth) / 256 → IsStep u f (last - 1) turned_slots turned_number words place
+step u f last slots number slots_worth words_worth turned_slots turned_number words place some few s n sw nw best st nt =
+    let after : last ≡ last - 1 + 1 = omega (arith, some) in
+    let within : last - 1 < length u = omega (arith, some, few) in
+    record {
+      within = within;
+      slots_are = st ∙ number_turned 8 slot_digit slot_digit_small (last - 1) slots slots_worth u within (s ∙ ap (λ x. slots_number (rotated x u)) after) sw;
+      words_are = nt ∙ number_turned 256 word_place word_place_small (last - 1) number words_worth u within (n ∙ ap (λ x. words_number (rotated x u)) after) nw;
+      best = subst (λ x. BestFrom u f x words place) after best;
+    }
+
+-- where the rotation from there doesn't join the same, or its words don't come before, the place kept stays
+pub best_kept : (u : List Edge) (f : Family) (k slots number words wanted : ℕ) (place : Option ℕ) → IsStep u f k slots number words place → wanted ≡ slots_number (family_edges f) →
+    ((slots == wanted) && nat_lt number words) ≡ false → BestFrom u f k words place
+best_kept u f k slots number words wanted place h w t = record {
   least = λ j l below joins.
       by_less k j
-      (λ more. h.least j (omega (arith, more)) below joins)
+      (λ more. h.best.least j (omega (arith, more)) below joins)
       (λ less.
       let at : j ≡ k = omega (arith, less, l) in
       let here : joins_at u f k ≡ true = ap (joins_at u f) (sym at) ∙ joins in
-      let equal : (slots == wanted) ≡ true = eq-eqb slots wanted (s ∙ number_of_joins u f k here ∙ sym w) in
+      let equal : (slots == wanted) ≡ true = eq-eqb slots wanted (h.slots_are ∙ number_of_joins u f k here ∙ sym w) in
       let lower : nat_lt number words ≡ false = sym (ap (λ b. b && nat_lt number words) equal) ∙ t in
       by_less number words
       (λ low. let z : true ≡ false = sym (lt-ltb number words low) ∙ lower in cc)
-      (λ high. omega (arith, high, n, ap (λ x. words_number (rotated x u)) at)));
-  kept = h.kept;
+      (λ high. omega (arith, high, h.words_are, ap (λ x. words_number (rotated x u)) at)));
+  kept = h.best.kept;
 }
 
 -- where it joins the same and its words come before, its place is kept
-pub best_found : (u : List Edge) (f : Family) (k words slots number wanted : ℕ) (place : Option ℕ) → BestFrom u f (k + 1) words place → slots ≡ slots_number (rotated k u) →
-    number ≡ words_number (rotated k u) → wanted ≡ slots_number (family_edges f) → length u ≡ length (family_edges f) → k < length u → ((slots == wanted) && nat_lt number words) ≡ true →
-    BestFrom u f k number (Some k)
-best_found u f k words slots number wanted place h s n w long within t =
+pub best_found : (u : List Edge) (f : Family) (k slots number words wanted : ℕ) (place : Option ℕ) → IsStep u f k slots number words place → wanted ≡ slots_number (family_edges f) →
+    length u ≡ length (family_edges f) → ((slots == wanted) && nat_lt number words) ≡ true → BestFrom u f k number (Some k)
+best_found u f k slots number words wanted place h w long t =
     let both = and_parts (slots == wanted) (nat_lt number words) t in
     let lower : number < words = ltb-true number words both.1 in
     record {
       least = λ j l below joins.
           by_less k j
-          (λ more. (let w : words ≤ words_number (rotated j u) = h.least j (omega (arith, more)) below joins in omega (arith, w, lower)))
-          (λ less. (let at : j ≡ k = omega (arith, less, l) in omega (arith, n, ap (λ x. words_number (rotated x u)) at)));
-      kept = (within, joins_by_number u f k long (sym s ∙ eqb-true slots wanted both.0 ∙ w), n);
+          (λ more. (let w : words ≤ words_number (rotated j u) = h.best.least j (omega (arith, more)) below joins in omega (arith, w, lower)))
+          (λ less. (let at : j ≡ k = omega (arith, less, l) in omega (arith, h.words_are, ap (λ x. words_number (rotated x u)) at)));
+      kept = (h.within, joins_by_number u f k long (sym h.slots_are ∙ eqb-true slots wanted both.0 ∙ w), h.words_are);
     }
 
 -- once all places are passed, the place kept is the one
