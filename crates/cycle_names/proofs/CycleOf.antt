@@ -166,33 +166,40 @@ unfolding edges_read
 read_same families text word remainder f slots e h w s b =
     ap (λ fs. read_by_family (named_family fs text) text) (sym e) ∙ ap (λ o. read_by_family o text) (sym h) ∙ ap (λ x. marked_if (slots_filled (family_edges f) (drop (length x) text))) (sym w) ∙ ap (λ x. marked_if (slots_filled (family_edges f) x)) (sym b) ∙ ap (λ u. marked_if (slots_filled u remainder)) (sym s)
 
--- the edges that a text with a family's name would name: first those read, with marks; then none where none are read
-module _ {E : Type 0} where
-  -- the edges read, with the marks of the edges beside them, are those that the text would name
-  pub family_marked : (families : List Family) (text word remainder : List ℕ) (f : Family) (slots old new start unmarked given : List Edge) (told result : Result (Unit {0}) E) → families ≡ all_families → Some f ≡ named_family families text →
-      word ≡ family_word f → slots ≡ family_edges f → remainder ≡ drop (length word) text → old ≡ [] → start ≡ [] → AddsEdges (slots_filled slots remainder) start unmarked told → given ≡ unmarked → AddsEdges (marked_around given) old new result → AddsEdges (edges_read text) old new result
-  family_marked families text word remainder f slots old new start unmarked given told result e h w s b o n a g m edges found fit =
-      let same : edges_read text ≡ marked_if (slots_filled slots remainder) = read_same families text word remainder f slots e h w s b in
-      by_option (slots_filled slots remainder)
-      (λ n. let z : None ≡ Some edges = sym (same ∙ ap marked_if n) ∙ found in cc)
-      (λ raw r.
-      let made : marked_around raw ≡ Some edges = sym (same ∙ ap marked_if r) ∙ found in
-      let long : length edges ≡ length raw = along_long (last_mark Plain raw) raw (first_mark raw Plain) edges made in
-      let got = a raw r (omega (arith, fit, long, ap length n)) in
-      let given_is : given ≡ raw = g ∙ got.1 ∙ ap (λ v. v ++ raw) n in
-      m edges (ap marked_around given_is ∙ made) fit)
+-- what is read of a text with a family's name, if it is read as these edges: they are the filled slots, with marks
+record HasRaw (slots edges : List Edge) (remainder : List ℕ) : Type 0 where
+  raw : List Edge
+  filled : slots_filled slots remainder ≡ Some raw
+  marked : marked_around raw ≡ Some edges
+  long : length edges ≡ length raw
 
-  -- where no edges are read, the text names none
-  pub family_none : (families : List Family) (text word remainder : List ℕ) (f : Family) (slots old new start unmarked : List Edge) (error : E) (result : Result (Unit {0}) E) → families ≡ all_families → Some f ≡ named_family families text →
-      word ≡ family_word f → slots ≡ family_edges f → remainder ≡ drop (length word) text → old ≡ [] → start ≡ [] → AddsEdges (slots_filled slots remainder) start unmarked (Err error) → AddsEdges (edges_read text) old new result
-  family_none families text word remainder f slots old new start unmarked error result e h w s b o n a edges found fit =
-      let same : edges_read text ≡ marked_if (slots_filled slots remainder) = read_same families text word remainder f slots e h w s b in
-      by_option (slots_filled slots remainder)
-      (λ n. let z : None ≡ Some edges = sym (same ∙ ap marked_if n) ∙ found in cc)
-      (λ raw r.
-      let made : marked_around raw ≡ Some edges = sym (same ∙ ap marked_if r) ∙ found in
-      let long : length edges ≡ length raw = along_long (last_mark Plain raw) raw (first_mark raw Plain) edges made in
-      absurd (false≢true (a raw r (omega (arith, fit, long, ap length n))).0))
+has_raw : (slots edges : List Edge) (remainder : List ℕ) → marked_if (slots_filled slots remainder) ≡ Some edges → HasRaw slots edges remainder
+has_raw slots edges remainder found =
+    by_option (slots_filled slots remainder)
+    (λ n. let z : None ≡ Some edges = sym (ap marked_if n) ∙ found in cc)
+    (λ raw r.
+    let made : marked_around raw ≡ Some edges = sym (ap marked_if r) ∙ found in
+    record { raw = raw; filled = r; marked = made; long = along_long (last_mark Plain raw) raw (first_mark raw Plain) edges made })
+
+-- the edges that a text with a family's name would name
+module _ (families : List Family) (text word remainder : List ℕ) (f : Family) (slots old start unmarked : List Edge) (whole : families ≡ all_families) (begun : Some f ≡ named_family families text)
+    (worded : word ≡ family_word f) (slots_are : slots ≡ family_edges f) (cut : remainder ≡ drop (length word) text) (empty : old ≡ []) (none_yet : start ≡ []) where
+  raw_of : (edges : List Edge) → edges_read text ≡ Some edges → HasRaw slots edges remainder
+  raw_of edges found = has_raw slots edges remainder (sym (read_same families text word remainder f slots whole begun worded slots_are cut) ∙ found)
+
+  -- where the slots are filled, the edges read, with the marks of the edges beside them, are those that the text would name
+  pub family_marked : {E : Type 0} (new given : List Edge) (told result : Result (Unit {0}) E) → AddsEdges (slots_filled slots remainder) start unmarked told → given ≡ unmarked → AddsEdges (marked_around given) old new result →
+      AddsEdges (edges_read text) old new result
+  family_marked new given told result a g m edges found fit =
+      let r = raw_of edges found in
+      let got = a r.raw r.filled (omega (arith, fit, r.long, ap length none_yet)) in
+      m edges (ap marked_around (g ∙ got.1 ∙ ap (λ v. v ++ r.raw) none_yet) ∙ r.marked) fit
+
+  -- where they aren't, the text names none
+  pub family_none : {E : Type 0} (new : List Edge) (error : E) (result : Result (Unit {0}) E) → AddsEdges (slots_filled slots remainder) start unmarked (Err error) → AddsEdges (edges_read text) old new result
+  family_none new error result a edges found fit =
+      let r = raw_of edges found in
+      absurd (false≢true (a r.raw r.filled (omega (arith, fit, r.long, ap length none_yet))).0)
 
 -- a text that begins with no family's name is read by the words after `C+`
 pub read_none : {E : Type 0} (families : List Family) (text : List ℕ) (old new : List Edge) (result : Result (Unit {0}) E) → families ≡ all_families → None ≡ named_family families text
