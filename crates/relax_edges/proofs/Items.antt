@@ -37,17 +37,23 @@ kept_words_short : (kept : List (List Edge)) (words : List (List ℕ)) → list_
 unfolding kept_words
 kept_words_short kept words known short = rw (known, le-ltb 8 (length words) short, kept_words) refl
 
-paths_some : (kept paths : List (List Edge)) (new : List (List Edge)) → KeepsPaths kept paths new true → kept_paths kept paths ≡ Ok new
-paths_some kept [] new a = let f : true ≡ false = a.found in cc
-paths_some kept (path ∷ paths) new a = a.kept
+paths_some : (kept paths : List (List Edge)) (new : List (List Edge)) (some : Bool) → some ≡ true → KeepsPaths kept paths new some → kept_paths kept paths ≡ Ok new
+paths_some kept [] new some found a = let f : true ≡ false = sym found ∙ a.found in cc
+paths_some kept (path ∷ paths) new some found a = a.kept
 
-paths_none : (kept paths : List (List Edge)) (new : List (List Edge)) → KeepsPaths kept paths new false → kept_paths kept paths ≡ Err DoesNotJoin
-paths_none kept [] new a = refl
-paths_none kept (path ∷ paths) new a = let f : false ≡ true = a.found in cc
+paths_none : (kept paths : List (List Edge)) (new : List (List Edge)) (some : Bool) → some ≡ false → KeepsPaths kept paths new some
+    → kept_paths kept paths ≡ Err DoesNotJoin
+paths_none kept [] new some found a = refl
+paths_none kept (path ∷ paths) new some found a = let f : false ≡ true = sym found ∙ a.found in cc
 
 paths_refused : (kept paths : List (List Edge)) (kind : RelaxKind) → length kept ≤ 64 → at_most_64 (keep_all kept paths) ≡ Err kind → kept_paths kept paths ≡ Err kind
 paths_refused kept [] kind few err = let ok = at_most_64-ok kept few in cc
 paths_refused kept (path ∷ paths) kind few err = err
+
+-- what holds of the paths that go on after no edge holds of the words' paths
+after_nothing : (P : List (List Edge) → Type 0) (words : List (List ℕ)) (prefix : List Edge) → prefix ≡ []
+    → P (paths_after prefix (map word_edges words)) → P (paths_of words)
+after_nothing P words prefix none h = subst P (paths_after-nil (map word_edges words)) (subst (λ f. P (paths_after f (map word_edges words))) none h)
 
 -- where some choice of the words' edges joins, what their search kept is what the words keep
 pub kept_words_some : (kept : List (List Edge)) (words : List (List ℕ)) (prefix : List Edge) (new : List (List Edge)) (some : Bool)
@@ -55,9 +61,7 @@ pub kept_words_some : (kept : List (List Edge)) (words : List (List ℕ)) (prefi
     → KeepsPaths kept (paths_after prefix (map word_edges words)) new some → kept_words kept words ≡ Ok new
 kept_words_some kept words prefix new some known short none found a =
     kept_words_short kept words known short
-    ∙ paths_some kept (paths_of words) new
-    (subst (λ p. KeepsPaths kept p new true) (paths_after-nil (map word_edges words))
-    (subst (λ f. KeepsPaths kept (paths_after f (map word_edges words)) new true) none (subst (λ b. KeepsPaths kept (paths_after prefix (map word_edges words)) new b) found a)))
+    ∙ paths_some kept (paths_of words) new some found (after_nothing (λ paths. KeepsPaths kept paths new some) words prefix none a)
 
 -- where no choice of the words' edges joins, the words are refused
 pub kept_words_none : (kept : List (List Edge)) (words : List (List ℕ)) (prefix : List Edge) (new : List (List Edge)) (some : Bool)
@@ -65,9 +69,7 @@ pub kept_words_none : (kept : List (List Edge)) (words : List (List ℕ)) (prefi
     → KeepsPaths kept (paths_after prefix (map word_edges words)) new some → kept_words kept words ≡ Err DoesNotJoin
 kept_words_none kept words prefix new some known short none found a =
     kept_words_short kept words known short
-    ∙ paths_none kept (paths_of words) new
-    (subst (λ p. KeepsPaths kept p new false) (paths_after-nil (map word_edges words))
-    (subst (λ f. KeepsPaths kept (paths_after f (map word_edges words)) new false) none (subst (λ b. KeepsPaths kept (paths_after prefix (map word_edges words)) new b) found a)))
+    ∙ paths_none kept (paths_of words) new some found (after_nothing (λ paths. KeepsPaths kept paths new some) words prefix none a)
 
 -- where their search is refused for want of room, the words are refused
 pub kept_words_refused : (kept : List (List Edge)) (words : List (List ℕ)) (prefix : List Edge) (kind : RelaxKind)
@@ -75,9 +77,7 @@ pub kept_words_refused : (kept : List (List Edge)) (words : List (List ℕ)) (pr
     → at_most_64 (keep_all kept (paths_after prefix (map word_edges words))) ≡ Err kind → kept_words kept words ≡ Err kind
 kept_words_refused kept words prefix kind known short none few err =
     kept_words_short kept words known short
-    ∙ paths_refused kept (paths_of words) kind few
-    (subst (λ p. at_most_64 (keep_all kept p) ≡ Err kind) (paths_after-nil (map word_edges words))
-    (subst (λ f. at_most_64 (keep_all kept (paths_after f (map word_edges words))) ≡ Err kind) none err))
+    ∙ paths_refused kept (paths_of words) kind few (after_nothing (λ paths. at_most_64 (keep_all kept paths) ≡ Err kind) words prefix none err)
 
 drop_of_nil : (n : ℕ) → drop {A = ℕ} n [] ≡ []
 drop_of_nil zero = refl

@@ -7,6 +7,7 @@ use Rattle.std.proofs.Common.{refl, arith, ap, subst, sym, ◌∙◌}
 use Rattle.std.proofs.lemmas.Bool.{eqb-true, false≢true}
 use Rattle.std.proofs.lemmas.Grind.{reverse_onto}
 use Rattle.std.proofs.lemmas.List.{reverse-reverse, reverse-append}
+use Rattle.std.proofs.lemmas.List.Sums.{AllPass-from_list_all}
 use Rattle.std.proofs.lemmas.Slice.Eq.{bytes_eq-Decides}
 use Rattle.list_laws.proofs.Cases.{by_test}
 use Rattle.relax_edges.specs.declared.kinds.Kind.{Kind}
@@ -125,24 +126,9 @@ all_marked_spelled = refl
 
 -- what a test says of all marks, it says of each
 pub each_mark : (test : Mark → Bool) → list_all test marks_read ≡ true → (mark : Mark) → test mark ≡ true
-each_mark test all Plain = passing (test Plain) (test Acquire) (test Release) all
-  where
-    passing : (a b d : Bool) → list_all (λ x. x) (a ∷ b ∷ d ∷ []) ≡ true → a ≡ true
-    passing true b d e = refl
-    passing false b d e = cc
-each_mark test all Acquire = passing (test Plain) (test Acquire) (test Release) all
-  where
-    passing : (a b d : Bool) → list_all (λ x. x) (a ∷ b ∷ d ∷ []) ≡ true → b ≡ true
-    passing true true d e = refl
-    passing true false d e = cc
-    passing false b d e = cc
-each_mark test all Release = passing (test Plain) (test Acquire) (test Release) all
-  where
-    passing : (a b d : Bool) → list_all (λ x. x) (a ∷ b ∷ d ∷ []) ≡ true → d ≡ true
-    passing true true true e = refl
-    passing true true false e = cc
-    passing true false d e = cc
-    passing false b d e = cc
+each_mark test all Plain = AllPass-from_list_all test marks_read all 0 Plain (omega arith)
+each_mark test all Acquire = AllPass-from_list_all test marks_read all 1 Plain (omega arith)
+each_mark test all Release = AllPass-from_list_all test marks_read all 2 Plain (omega arith)
 
 marked_spelled : (kind : Kind) (from to : Mark) (edge : Edge) (text : List ℕ)
     → is_kind_spelling kind text ≡ true → edge_spelled kind from to ≡ Some edge → is_spelling edge (text ++ (mark_word from ++ mark_word to)) ≡ true
