@@ -1,5 +1,5 @@
 -- The steps of a walk over the edges that counts threads, slots, locations and the moves of a thread.
-use Rattle.std.proofs.Common.{◌≡◌, ℕ, ◌+◌, ◌<◌, ◌≤◌, true, false, ◌==◌, List, length, sym, ◌∙◌, ap, arith}
+use Rattle.std.proofs.Common.{◌≡◌, ℕ, ◌+◌, ◌<◌, ◌≤◌, true, false, ◌==◌, List, length, refl, sym, ◌∙◌, ap, arith}
 use Rattle.std.proofs.lemmas.Bool.{eq-eqb, ne_eqb, cond-true, cond-false}
 use Rattle.relax_edges.specs.declared.edge.Edge.{Edge}
 use Rattle.relax_edges.specs.EdgeTable.{is_external, is_diff}
@@ -7,10 +7,10 @@ use Rattle.list_laws.proofs.Cases.{by_same}
 use Rattle.list_laws.proofs.Finds.{any_upto, any_upto_none}
 use Rattle.resolution_laws.specs.Resolution.{external_count, move_count, edge_at, thread_of, slot_of, location_of, moves_in, is_coherence_only}
 use Rattle.resolution_laws.proofs.Threads.{thread-zero, thread_most, slot-zero, slot_most, thread_out, thread_in, thread_up, thread_end, slot_in, slot_out}
-use Rattle.resolution_laws.proofs.Locations.{location_on, location_kept, moves_in_before, moves_counted-zero, one_move_more, no_moves_yet, all_moves_made, location_most, location-zero, moves_few}
+use Rattle.resolution_laws.proofs.Locations.{external_keeps, location_on, location_kept, moves_in_before, moves_counted-zero, one_move_more, no_moves_yet, all_moves_made, location_most, location-zero, moves_few}
 
 -- a `d` edge adds one to the moves of its thread
-pub counts_move : (es : List Edge) (i m n : ℕ) → n ≡ moves_in_before es (thread_of es i) i → m ≡ n + 1 → is_diff (edge_at es i) ≡ true → m ≡ moves_in_before es (thread_of es i) (i + 1)
+counts_move : (es : List Edge) (i m n : ℕ) → n ≡ moves_in_before es (thread_of es i) i → m ≡ n + 1 → is_diff (edge_at es i) ≡ true → m ≡ moves_in_before es (thread_of es i) (i + 1)
 counts_move es i m n h e t = omega (arith, h, e, one_move_more es i, cond-true {A = ℕ} (is_diff (edge_at es i)) 1 0 t)
 
 -- any other edge adds none to the moves of its thread
@@ -23,20 +23,20 @@ pub record SomeElsewhere (es : List Edge) (i n : ℕ) : Type 0 where
   pub fewer : (k : ℕ) → k < thread_of es i → (moves_in es k == move_count es) ≡ false
 
 -- before event 0 the walk has counted nothing
-pub elsewhere_start : (es : List Edge) → SomeElsewhere es 0 0
+elsewhere_start : (es : List Edge) → SomeElsewhere es 0 0
 elsewhere_start es = record {
   counted = sym (moves_counted-zero es (thread_of es 0));
   fewer = λ k l. absurd (omega (arith, l, thread-zero es));
 }
 
 -- along an internal edge the walk counts on in its thread
-pub elsewhere_in : (es : List Edge) (i m n : ℕ) → i < length es → SomeElsewhere es i n → is_external (edge_at es i) ≡ false → m ≡ moves_in_before es (thread_of es i) (i + 1) → SomeElsewhere es (i + 1) m
+elsewhere_in : (es : List Edge) (i m n : ℕ) → i < length es → SomeElsewhere es i n → is_external (edge_at es i) ≡ false → m ≡ moves_in_before es (thread_of es i) (i + 1) → SomeElsewhere es (i + 1) m
 elsewhere_in es i m n h s t e =
     let a : thread_of es (i + 1) ≡ thread_of es i = thread_in es i h t in
     record { counted = rw a e; fewer = rw a s.fewer }
 
 -- along an external edge of a thread that doesn't have all moves the walk begins the next thread
-pub elsewhere_out : (es : List Edge) (i m n : ℕ) → i < length es → SomeElsewhere es i n → is_external (edge_at es i) ≡ true → m ≡ moves_in_before es (thread_of es i) (i + 1) → (m ≡ move_count es → ⊥) → SomeElsewhere es (i + 1) 0
+elsewhere_out : (es : List Edge) (i m n : ℕ) → i < length es → SomeElsewhere es i n → is_external (edge_at es i) ≡ true → m ≡ moves_in_before es (thread_of es i) (i + 1) → (m ≡ move_count es → ⊥) → SomeElsewhere es (i + 1) 0
 elsewhere_out es i m n h s t e d = record {
   counted = sym (no_moves_yet es i h t);
   fewer = λ k l. by_same k (thread_of es i)
@@ -65,7 +65,7 @@ pub record WalkAt (es : List Edge) (i thread slot location : ℕ) : Type 0 where
   pub location_is : location ≡ location_of es i
 
 -- the walk begins at thread 0, slot 0 and location 0
-pub walk_at_start : (es : List Edge) → WalkAt es 0 0 0 0
+walk_at_start : (es : List Edge) → WalkAt es 0 0 0 0
 walk_at_start es = record {
   thread_is = sym (thread-zero es);
   slot_is = sym (slot-zero es);
@@ -86,26 +86,71 @@ walk_small es i t s l h w = record {
   location_small = omega (arith, w.location_is, location_most es i h, moves_few es i h);
 }
 
--- along an external edge the walk comes to the next thread and slot 0
-pub walk_out : (es : List Edge) (i t u : ℕ) → i < length es → t ≡ thread_of es i → is_external (edge_at es i) ≡ true → u ≡ t + 1 → (u ≡ thread_of es (i + 1)) × (0 ≡ slot_of es (i + 1))
-walk_out es i t u h e x v = (v ∙ ap (λ n. n + 1) e ∙ sym (thread_out es i h x), sym (slot_out es i h x))
-
--- along an internal edge the walk comes to the next slot of its thread
-pub walk_in : (es : List Edge) (i t s u : ℕ) → i < length es → t ≡ thread_of es i → s ≡ slot_of es i → is_external (edge_at es i) ≡ false → u ≡ s + 1 → (t ≡ thread_of es (i + 1)) × (u ≡ slot_of es (i + 1))
-walk_in es i t s u h e f x v = (e ∙ sym (thread_in es i h x), v ∙ ap (λ n. n + 1) f ∙ sym (slot_in es i h x))
-
 -- along the last `d` edge the walk comes to location 0
-pub location_goes_round : (es : List Edge) (i l d : ℕ) → i < length es → l ≡ location_of es i → is_diff (edge_at es i) ≡ true → d ≡ move_count es → l + 1 ≡ d → 0 ≡ location_of es (i + 1)
+location_goes_round : (es : List Edge) (i l d : ℕ) → i < length es → l ≡ location_of es i → is_diff (edge_at es i) ≡ true → d ≡ move_count es → l + 1 ≡ d → 0 ≡ location_of es (i + 1)
 location_goes_round es i l d h e x q w =
     let here : location_of es i + 1 ≡ move_count es = omega (arith, e, q, w) in
     sym (location_on es i h x ∙ cond-true {A = ℕ} (location_of es i + 1 == move_count es) 0 (location_of es i + 1) (eq-eqb (location_of es i + 1) (move_count es) here))
 
 -- along any other `d` edge the walk comes to the next location
-pub location_goes_on : (es : List Edge) (i l d : ℕ) → i < length es → l ≡ location_of es i → is_diff (edge_at es i) ≡ true → d ≡ move_count es → (l + 1 ≡ d → ⊥) → l + 1 ≡ location_of es (i + 1)
+location_goes_on : (es : List Edge) (i l d : ℕ) → i < length es → l ≡ location_of es i → is_diff (edge_at es i) ≡ true → d ≡ move_count es → (l + 1 ≡ d → ⊥) → l + 1 ≡ location_of es (i + 1)
 location_goes_on es i l d h e x q w =
     ap (λ n. n + 1) e
     ∙ sym (location_on es i h x ∙ cond-false {A = ℕ} (location_of es i + 1 == move_count es) 0 (location_of es i + 1) (ne_eqb (location_of es i + 1) (move_count es) (λ z. w (omega (arith, z, e, q)))))
 
 -- along an edge that isn't a `d` edge the walk stays at its location
-pub location_stays : (es : List Edge) (i l : ℕ) → i < length es → l ≡ location_of es i → is_diff (edge_at es i) ≡ false → l ≡ location_of es (i + 1)
+location_stays : (es : List Edge) (i l : ℕ) → i < length es → l ≡ location_of es i → is_diff (edge_at es i) ≡ false → l ≡ location_of es (i + 1)
 location_stays es i l h e x = e ∙ sym (location_kept es i h x)
+
+-- what is known of a walk at event i: its numbers, and that no thread before its own has all moves
+pub record Walked (es : List Edge) (i thread slot location moves : ℕ) : Type 0 where
+  pub walk_at : WalkAt es i thread slot location
+  pub elsewhere : SomeElsewhere es i moves
+
+-- the walk begins with all numbers 0
+pub walked_start : (es : List Edge) → Walked es 0 0 0 0 0
+walked_start es = record { walk_at = walk_at_start es; elsewhere = elsewhere_start es }
+
+-- along an external edge of a thread that doesn't have all moves the walk comes to the next thread
+pub walked_out : (es : List Edge) (i t s l m thread slot location moves : ℕ) → i < length es → Walked es i t s l m → is_external (edge_at es i) ≡ true → (m ≡ move_count es → ⊥)
+    → thread ≡ t + 1 → slot ≡ 0 → location ≡ l → moves ≡ 0 → Walked es (i + 1) thread slot location moves
+walked_out es i t s l m thread slot location moves h w out d a b c e =
+    let keeps = external_keeps (edge_at es i) out in
+    record {
+      walk_at = record {
+        thread_is = a ∙ ap (λ n. n + 1) w.walk_at.thread_is ∙ sym (thread_out es i h out);
+        slot_is = b ∙ sym (slot_out es i h out);
+        location_is = c ∙ location_stays es i l h w.walk_at.location_is keeps;
+      };
+      elsewhere = rw e (elsewhere_out es i m m h w.elsewhere out (counts_none es i m m w.elsewhere.counted refl keeps) d);
+    }
+
+-- along an internal edge the walk comes to the next slot of its thread
+walked_in : (es : List Edge) (i t s l m thread slot location moves : ℕ) → i < length es → Walked es i t s l m → is_external (edge_at es i) ≡ false
+    → thread ≡ t → slot ≡ s + 1 → location ≡ location_of es (i + 1) → moves ≡ moves_in_before es (thread_of es i) (i + 1) → Walked es (i + 1) thread slot location moves
+walked_in es i t s l m thread slot location moves h w stays a b c e = record {
+  walk_at = record {
+    thread_is = a ∙ w.walk_at.thread_is ∙ sym (thread_in es i h stays);
+    slot_is = b ∙ ap (λ n. n + 1) w.walk_at.slot_is ∙ sym (slot_in es i h stays);
+    location_is = c;
+  };
+  elsewhere = elsewhere_in es i moves m h w.elsewhere stays e;
+}
+
+-- along the last `d` edge of a round, which is internal, it comes to location 0 too
+pub walked_round : (es : List Edge) (i t s l m thread slot location moves d : ℕ) → i < length es → Walked es i t s l m → is_external (edge_at es i) ≡ false → is_diff (edge_at es i) ≡ true → d ≡ move_count es → l + 1 ≡ d
+    → thread ≡ t → slot ≡ s + 1 → location ≡ 0 → moves ≡ m + 1 → Walked es (i + 1) thread slot location moves
+walked_round es i t s l m thread slot location moves d h w stays diff q last a b c e =
+    walked_in es i t s l m thread slot location moves h w stays a b (c ∙ location_goes_round es i l d h w.walk_at.location_is diff q last) (counts_move es i moves m w.elsewhere.counted e diff)
+
+-- along any other `d` edge it comes to the next location too
+pub walked_on : (es : List Edge) (i t s l m thread slot location moves d : ℕ) → i < length es → Walked es i t s l m → is_external (edge_at es i) ≡ false → is_diff (edge_at es i) ≡ true → d ≡ move_count es → (l + 1 ≡ d → ⊥)
+    → thread ≡ t → slot ≡ s + 1 → location ≡ l + 1 → moves ≡ m + 1 → Walked es (i + 1) thread slot location moves
+walked_on es i t s l m thread slot location moves d h w stays diff q other a b c e =
+    walked_in es i t s l m thread slot location moves h w stays a b (c ∙ location_goes_on es i l d h w.walk_at.location_is diff q other) (counts_move es i moves m w.elsewhere.counted e diff)
+
+-- along any other internal edge it stays at its location
+pub walked_stays : (es : List Edge) (i t s l m thread slot location moves : ℕ) → i < length es → Walked es i t s l m → is_external (edge_at es i) ≡ false → is_diff (edge_at es i) ≡ false
+    → thread ≡ t → slot ≡ s + 1 → location ≡ l → moves ≡ m → Walked es (i + 1) thread slot location moves
+walked_stays es i t s l m thread slot location moves h w stays keeps a b c e =
+    walked_in es i t s l m thread slot location moves h w stays a b (c ∙ location_stays es i l h w.walk_at.location_is keeps) (counts_none es i moves m w.elsewhere.counted e keeps)

@@ -2,12 +2,11 @@
 use Rattle.std.proofs.Common.{◌≡◌, map}
 use Rattle.list_laws.specs.Numbers.{upto}
 use Rattle.resolution_laws.specs.Resolution.{event_of}
-use Rattle.resolution_laws.proofs.Walking.{SomeElsewhere, WalkAt}
+use Rattle.resolution_laws.proofs.Walking.{Walked}
 use Rattle.cycle_resolve.proofs.resolved.is_coherence_only.Given as goal
 
 abbrev pub invariant-loop-edge : goal.invariant-loop-edge
 invariant-loop-edge l = record {
   made : l.events.items ≡ map (event_of l.edges) (upto l.edge-index);
-  walk_at : WalkAt l.edges l.edge-index l.thread l.slot l.location;
-  elsewhere : SomeElsewhere l.edges l.edge-index l.moves;
+  walked : Walked l.edges l.edge-index l.thread l.slot l.location l.moves;
 }
