@@ -1,5 +1,5 @@
 -- The threads of a resolved cycle: each has an event, and together they have all.
-use Rattle.std.proofs.Common.{◌≡◌, ℕ, ◌+◌, ◌<◌, ◌≤◌, Bool, true, ◌==◌, cond, List, [], ◌∷◌, length, get_or, Some, slice_get, sym, ◌∙◌, ap, arith}
+use Rattle.std.proofs.Common.{◌≡◌, ℕ, ◌+◌, ◌<◌, ◌≤◌, ◌==◌, cond, List, [], ◌∷◌, length, get_or, Some, slice_get, sym, ◌∙◌, ap, arith}
 use Rattle.std.specs.List.{count_by, filter, sum_by}
 use Rattle.std.proofs.lemmas.Option.{slice_get-get_or, slice_get_within}
 use Rattle.std.proofs.lemmas.List.Sums.{sum_by-cons}
@@ -10,24 +10,11 @@ use Rattle.list_laws.proofs.Cases.{by_test}
 use Rattle.list_laws.proofs.Totals.{classes_total, sum_upto_same}
 use Rattle.list_laws.proofs.Counts.{count_upto-le}
 use Rattle.list_laws.proofs.Ranks.{length-filter-upto}
-use Rattle.resolution_laws.specs.Resolution.{external_count, move_count, edge_at, thread_of, slot_of, events_in, IsResolved}
+use Rattle.resolution_laws.specs.Resolution.{external_count, move_count, thread_of, slot_of, events_in, IsResolved}
 use Rattle.resolution_laws.proofs.EdgeCounts.{passing}
 use Rattle.resolution_laws.proofs.Threads.{event_in_slot, slot_of_event, IsAt}
 use Rattle.resolution_laws.proofs.Locations.{external_keeps}
 use Rattle.resolution_laws.proofs.Arcs.{thread_below}
-
--- the last event of each thread is left by an external edge
-pub record LastOf (es : List Edge) (k : ℕ) : Type 0 where
-  pub event : ℕ
-  pub below : event < length es
-  pub leaves : is_external (edge_at es event) ≡ true
-  pub thread : thread_of es event ≡ k
-
--- each thread has such a last event
-pub last_of : (es : List Edge) (k : ℕ) → k < external_count es → LastOf es k
-unfolding thread_of
-last_of es k h =
-    let w = passing is_external es k h in record { event = w.event; below = w.below; leaves = w.passes; thread = w.counted }
 
 -- the slot of an event is below the size of its thread
 pub slot_below : (es : List Edge) (i : ℕ) → i < length es → slot_of es i < length (events_in es (thread_of es i))
@@ -55,9 +42,11 @@ only_in_slot es i j h l t s =
 
 -- each thread has an event
 pub thread_has_events : (es : List Edge) (k : ℕ) → k < external_count es → 0 < length (events_in es k)
+unfolding thread_of
 thread_has_events es k h =
-    let w = last_of es k h in
-    omega (arith, slot_below es w.event w.below, ap (λ t. length (events_in es t)) w.thread)
+    let w = passing is_external es k h in
+    let last : thread_of es w.event ≡ k = w.counted in
+    omega (arith, slot_below es w.event w.below, ap (λ t. length (events_in es t)) last)
 
 -- a thread has at most as many events as the cycle has edges
 pub thread_size_most : (es : List Edge) (k : ℕ) → length (events_in es k) ≤ length es
