@@ -232,6 +232,29 @@ event_read es xs i e h =
     let below : i < length es = omega (arith, h, events_many es xs e) in
     record { below = below; is = rw e (get_or-map-upto (event_of es) (length es) i no_event below) }
 
+-- the event before one after which all moves are made is read from the list of all
+pub record LastRead (es : List Edge) (xs : List Event) (end : ℕ) : Type 0 where
+  pub some : 0 < end
+  pub within : end - 1 < length xs
+  pub below : end - 1 < length es
+  pub location : (get_or xs (end - 1) no_event).location ≡ location_of es (end - 1)
+  pub all : moves_before es (end - 1 + 1) ≡ move_count es
+
+-- there is such an event
+pub last_read : (es : List Edge) (xs : List Event) (end : ℕ) → IsResolved es → xs ≡ events_of es → end ≤ length es → moves_before es end ≡ move_count es → LastRead es xs end
+last_read es xs end r e most all =
+    let some = some_made es end r all in
+    let same : end - 1 + 1 ≡ end = omega (arith, some) in
+    let within : end - 1 < length xs = omega (arith, some, most, events_many es xs e) in
+    let read = event_read es xs (end - 1) e within in
+    record {
+      some = some;
+      within = within;
+      below = read.below;
+      location = ap (λ (x : Event). x.location) read.is;
+      all = ap (moves_before es) same ∙ all;
+    }
+
 -- the step of the code leads on to the next event
 pub with_leads_on : (arc next : Arc) (i : ℕ) (event : Event) → next ≡ arc_with arc i event → LeadsOn arc i event next
 unfolding LeadsOn
