@@ -3,11 +3,10 @@ use Rattle.std.specs.Prelude.{◌≡◌, ◌==◌, ◌&&◌, ◌||◌, ◌<◌, 
 use Rattle.std.specs.List.{find, list_all, flat_map}
 use Rattle.std.proofs.Common.{refl, sym, ◌∙◌, ap, subst, get_or}
 use Rattle.std.proofs.Math.Bool.{and_comm}
-use Rattle.std.proofs.lemmas.Bool.{and_parts, or_right, eqb-true, eq-eqb, cond-true, cond-false}
+use Rattle.std.proofs.lemmas.Bool.{or_right, eqb-true, eq-eqb}
 use Rattle.std.proofs.lemmas.Grind.{flat_map-append}
 use Rattle.std.proofs.lemmas.List.{drop_more, take-append-drop}
 use Rattle.std.proofs.lemmas.List.Folds.{list_all-append}
-use Rattle.std.proofs.lemmas.Option.{same_Some}
 use Rattle.std.proofs.Math.ListN.{drop_of_length-le}
 use Rattle.list_laws.proofs.Cases.{by_test, by_option}
 use Rattle.relax_edges.specs.declared.edge.Edge.{Edge}
@@ -20,7 +19,7 @@ use Rattle.cycle_names.specs.LinkWords.{link_words}
 use Rattle.cycle_names.specs.CycleNames.{links_text}
 use Rattle.cycle_names.specs.Fitting.{link_text, place_text, word_place, has_word_place, with_place, links_after}
 use Rattle.cycle_names.proofs.LinkTexts.{text_at_place}
-use Rattle.cycle_names.proofs.Members.{found_passes}
+use Rattle.cycle_names.proofs.Members.{all_of_member, found_first, found_later, found_in, found_nowhere, found_among, found_passes}
 use Rattle.cycle_names.proofs.Tables.{no_place, some_place}
 use Rattle.cycle_names.proofs.Texts.{text_of_none, text_at_plain, text_at_one, text_at_each}
 
@@ -34,12 +33,7 @@ all_rotated p k u =
 
 -- a test that passes all passes the one found
 all_of_found : (q p : Edge → Bool) (v : List Edge) (e : Edge) → find p v ≡ Some e → list_all q v ≡ true → q e ≡ true
-all_of_found q p [] e h t = cc
-all_of_found q p (d ∷ v) e h t =
-    let both = and_parts (q d) (list_all q v) t in
-    by_test (p d)
-    (λ s. let same : d ≡ e = same_Some d e (sym (cond-true (p d) (Some d) (find p v) s) ∙ h) in ap q (sym same) ∙ both.0)
-    (λ f. all_of_found q p v e (sym (cond-false (p d) (Some d) (find p v) f) ∙ h) both.1)
+all_of_found q p v e h t = all_of_member q v t e (found_among p v e h)
 
 -- the word of a link has the place that it passes the test for
 same_place : (p : ℕ) (e : Edge) → is_diff e ≡ true → has_word_place p e ≡ true → word_place e ≡ p
@@ -52,9 +46,8 @@ plain_passes p e f = ap (λ n. (n == 0) || (n == p)) (no_place e f)
 none_all : (p : ℕ) (v : List Edge) → find is_diff v ≡ None → list_all (has_word_place p) v ≡ true
 none_all p [] h = refl
 none_all p (d ∷ v) h =
-    by_test (is_diff d)
-    (λ t. let z : Some d ≡ None = sym (cond-true (is_diff d) (Some d) (find is_diff v) t) ∙ h in cc)
-    (λ f. ap (λ b. b && list_all (has_word_place p) v) (plain_passes p d f) ∙ none_all p v (sym (cond-false (is_diff d) (Some d) (find is_diff v) f) ∙ h))
+    let none = found_nowhere is_diff d v h in
+    ap (λ b. b && list_all (has_word_place p) v) (plain_passes p d none.0) ∙ none_all p v none.1
 
 -- where all pass for the place of no word, there is no link
 none_found : (v : List Edge) → list_all (has_word_place 0) v ≡ true → find is_diff v ≡ None
@@ -104,28 +97,27 @@ after_alike p (e ∷ v) =
 after_none : (v : List Edge) → find is_diff v ≡ None → links_after Absent v ≡ Absent
 after_none [] h = refl
 after_none (d ∷ v) h =
-    by_test (is_diff d)
-    (λ t. let z : Some d ≡ None = sym (cond-true (is_diff d) (Some d) (find is_diff v) t) ∙ h in cc)
-    (λ f. ap (λ n. links_after (with_place Absent n) v) (no_place d f) ∙ after_none v (sym (cond-false (is_diff d) (Some d) (find is_diff v) f) ∙ h))
+    let none = found_nowhere is_diff d v h in
+    ap (λ n. links_after (with_place Absent n) v) (no_place d none.0) ∙ after_none v none.1
 
 -- else the words are alike where all have the place of the first
 after_first : (v : List Edge) (e : Edge) → find is_diff v ≡ Some e →
     links_after Absent v ≡ cond (list_all (has_word_place (word_place e)) v) (Alike (word_place e)) Different
 after_first [] e h = cc
 after_first (d ∷ v) e h =
-    by_test (is_diff d)
-    (λ t.
-    let same : d ≡ e = same_Some d e (sym (cond-true (is_diff d) (Some d) (find is_diff v) t) ∙ h) in
-    let itself : has_word_place (word_place d) d ≡ true = or_right (word_place d == 0) (word_place d == word_place d) (eq-eqb (word_place d) (word_place d) refl) in
-    let here : links_after Absent (d ∷ v) ≡ cond (list_all (has_word_place (word_place d)) (d ∷ v)) (Alike (word_place d)) Different =
-    ap (λ b. links_after (cond b Absent (Alike (word_place d))) v) (some_place d t)
-    ∙ after_alike (word_place d) v
-    ∙ sym (ap (λ b. cond (b && list_all (has_word_place (word_place d)) v) (Alike (word_place d)) Different) itself) in
-    subst (λ x. links_after Absent (d ∷ v) ≡ cond (list_all (has_word_place (word_place x)) (d ∷ v)) (Alike (word_place x)) Different) same here)
-    (λ f.
-    ap (λ n. links_after (with_place Absent n) v) (no_place d f)
-    ∙ after_first v e (sym (cond-false (is_diff d) (Some d) (find is_diff v) f) ∙ h)
-    ∙ sym (ap (λ b. cond (b && list_all (has_word_place (word_place e)) v) (Alike (word_place e)) Different) (plain_passes (word_place e) d f)))
+    elim (found_in is_diff d v e h) [
+      | found_first t same ↦
+          let itself : has_word_place (word_place d) d ≡ true = or_right (word_place d == 0) (word_place d == word_place d) (eq-eqb (word_place d) (word_place d) refl) in
+          let here : links_after Absent (d ∷ v) ≡ cond (list_all (has_word_place (word_place d)) (d ∷ v)) (Alike (word_place d)) Different =
+          ap (λ b. links_after (cond b Absent (Alike (word_place d))) v) (some_place d t)
+          ∙ after_alike (word_place d) v
+          ∙ sym (ap (λ b. cond (b && list_all (has_word_place (word_place d)) v) (Alike (word_place d)) Different) itself) in
+          subst (λ x. links_after Absent (d ∷ v) ≡ cond (list_all (has_word_place (word_place x)) (d ∷ v)) (Alike (word_place x)) Different) same here
+      | found_later f rest ↦
+          ap (λ n. links_after (with_place Absent n) v) (no_place d f)
+          ∙ after_first v e rest
+          ∙ sym (ap (λ b. cond (b && list_all (has_word_place (word_place e)) v) (Alike (word_place e)) Different) (plain_passes (word_place e) d f))
+    ]
 
 -- one edge more
 pub links_more : (u : List Edge) (i : ℕ) (d : Edge) (links all : Links) → i < length u → links_after links (drop i u) ≡ all → links_after (with_place links (word_place (get_or u i d))) (drop (i + 1) u) ≡ all

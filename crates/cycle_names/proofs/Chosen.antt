@@ -20,7 +20,7 @@ use Rattle.cycle_names.specs.LinkWords.{edge_of_slot, outline}
 use Rattle.cycle_names.specs.Fitting.{word_place}
 use Rattle.cycle_names.specs.NameReading.{marked_around}
 use Rattle.cycle_names.specs.Rotations.{rotations, fits_family, is_of_family, found_family, words_below, edges_below, rotation_in, named_rotation}
-use Rattle.cycle_names.proofs.Members.{Member, any_of_member, member_of_any, member_upto, upto_member, find_same, filter_among, filter_passes, filter_member}
+use Rattle.cycle_names.proofs.Members.{Member, any_of_member, member_of_any, member_upto, upto_member, find_same, filter_among, filter_passes, filter_member, same_head, same_tail}
 use Rattle.cycle_names.proofs.Below.{below_irreflexive, below_transitive, neither_below, IsFirst, HasFirst, has_first, first_is_least}
 use Rattle.cycle_names.proofs.Marks.{said_of, around_back}
 use Rattle.cycle_names.proofs.Outlines.{outline_of_fits, plain_of_fits, words_by_ranks, same_lists}
@@ -92,16 +92,18 @@ named_in_family f u v c h k =
     ap (λ o. unwrap_or (rotation_in o u) u) h
     ∙ ap (λ o. unwrap_or o u) (first_is_least words_below (candidates f u) v k (λ w i. only_by_words f u v w c k i))
 
-some_first : (xs : List (List Edge)) (x : List Edge) → Member x xs → HasFirst links_below xs
-some_first [] x m = absurd m
-some_first (y ∷ ys) x m = has_first links_below (λ u. below_irreflexive (map word_place u)) (λ u v w. below_transitive (map word_place u) (map word_place v) (map word_place w)) y ys
+-- of lists compared by numbers of their edges, some member is first
+some_first : (number : Edge → ℕ) (xs : List (List Edge)) (x : List Edge) → Member x xs → HasFirst (λ u v. ranks_below (map number u) (map number v)) xs
+some_first number [] x m = absurd m
+some_first number (y ∷ ys) x m =
+    has_first (λ u v. ranks_below (map number u) (map number v)) (λ u. below_irreflexive (map number u)) (λ u v w. below_transitive (map number u) (map number v) (map number w)) y ys
 
 pub has_named_in_family : (f : Family) (u : List Edge) → found_family u ≡ Some f → HasFirst words_below (candidates f u)
 has_named_in_family f u h =
     let w = fitting u f (found_is_of u f h) in
     let v : List Edge = rotated w.place u in
     let m : Member v (candidates f u) = filter_member (fits_family f) (rotations u) v (member_upto (λ k. rotated k u) (length u) w.place w.within) w.fit in
-    let r = some_first (candidates f u) v m in
+    let r = some_first word_place (candidates f u) v m in
     record { one = r.one; is = first_by_words f u r.one r.is }
 
 -- two lists of edges whose ranks are equal are equal
@@ -110,15 +112,9 @@ ranks_same [] [] e = refl
 ranks_same [] (y ∷ v) e = cc
 ranks_same (x ∷ u) [] e = cc
 ranks_same (x ∷ u) (y ∷ v) e =
-    let one : x ≡ y = rank_injective x y (head_of (rank_of x) (rank_of y) (map rank_of u) (map rank_of v) e) in
-    let rest : u ≡ v = ranks_same u v (tail_of (rank_of x) (rank_of y) (map rank_of u) (map rank_of v) e) in
+    let one : x ≡ y = rank_injective x y (same_head _ _ (map rank_of u) (map rank_of v) e) in
+    let rest : u ≡ v = ranks_same u v (same_tail _ _ (map rank_of u) (map rank_of v) e) in
     rw (one, rest) refl
-  where
-    head_of : (a b : ℕ) (c d : List ℕ) → a ∷ c ≡ b ∷ d → a ≡ b
-    head_of a b c d e = cc
-
-    tail_of : (a b : ℕ) (c d : List ℕ) → a ∷ c ≡ b ∷ d → c ≡ d
-    tail_of a b c d e = cc
 
 only_normal : (u v w : List Edge) → IsFirst edges_below (rotations u) v → IsFirst edges_below (rotations u) w → w ≡ v
 only_normal u v w h k =
@@ -141,12 +137,8 @@ least_named u v some h k =
       none = λ w m b. k.normal w (rotation_on v u w (rotation_back u v k.rotation) (rotation_of_member u w m)) (above_of_ranks w v b);
     })
 
-some_normal : (xs : List (List Edge)) (x : List Edge) → Member x xs → HasFirst edges_below xs
-some_normal [] x m = absurd m
-some_normal (y ∷ ys) x m = has_first edges_below (λ u. below_irreflexive (map rank_of u)) (λ u v w. below_transitive (map rank_of u) (map rank_of v) (map rank_of w)) y ys
-
 pub has_named_in_none : (u : List Edge) → 0 < length u → HasFirst edges_below (rotations u)
-has_named_in_none u some = some_normal (rotations u) u (member_of_rotation u u some (rotation_same u))
+has_named_in_none u some = some_first rank_of (rotations u) u (member_of_rotation u u some (rotation_same u))
 
 -- rotations of one cycle are of one family
 is_of_turned : (u v : List Edge) (f : Family) → 0 < length u → IsRotation u v → is_of_family u f ≡ true → is_of_family v f ≡ true

@@ -18,7 +18,7 @@ use Rattle.cycle_names.specs.Rotations.{rotations, fits_family, is_of_family, fo
 use Rattle.cycle_names.specs.Fitting.{edges_counted}
 use Rattle.text_laws.specs.Names.{is_name_byte}
 use Rattle.cycle_names.specs.NameReading.{named_family}
-use Rattle.cycle_names.proofs.Members.{Member, any_of_member, member_of_any, member_upto, upto_member, find_none, find_only, found_passes, map_rotated}
+use Rattle.cycle_names.proofs.Members.{Member, all_of_member, any_of_member, member_of_any, member_upto, upto_member, find_none, find_only, found_passes, map_rotated}
 use Rattle.cycle_names.proofs.Tables.{slot_is_diff, slot_is_external}
 use Rattle.cycle_names.proofs.Marks.{is_either}
 use Rattle.cycle_names.proofs.Outlines.{edges_are_same, outline_of_fits}
@@ -86,13 +86,7 @@ families_all families.Other = inr (inr (inr (inr (inr (inr (inr (inr (inr (inr (
 
 -- a test that all families pass, each family passes
 each_family : (test : Family → Bool) → list_all test every_family ≡ true → (f : Family) → test f ≡ true
-each_family test all f = all_members test every_family all f (families_all f)
-  where
-    all_members : (test : Family → Bool) (fs : List Family) → list_all test fs ≡ true → (f : Family) → Member f fs → test f ≡ true
-    all_members test [] h f m = absurd m
-    all_members test (g ∷ fs) h f m =
-        let both = and_parts (test g) (list_all test fs) h in
-        elim m [ inl e ↦ rw e both.0 | inr r ↦ all_members test fs both.1 f r ]
+each_family test all f = all_of_member test every_family all f (families_all f)
 
 -- each but the last is a member of the table
 pub listed : (f : Family) → (f ≡ families.Other → ⊥) → Member f all_families

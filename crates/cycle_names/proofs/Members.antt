@@ -1,7 +1,9 @@
 -- Members of lists, those that pass a test, and the one before which none comes.
 use Rattle.std.specs.Prelude.{◌≡◌, ◌<◌, ◌⊎◌, ℕ, zero, suc, Bool, true, false, Some, None, List, [], ◌∷◌, ◌++◌, map, filter, take, drop}
-use Rattle.std.specs.List.{find, list_any}
+use Rattle.std.specs.List.{find, list_any, list_all}
 use Rattle.std.proofs.Common.{refl, sym, ◌∙◌, ap, inl, inr, arith}
+use Rattle.std.proofs.lemmas.Bool.{and_parts, cond-true, cond-false}
+use Rattle.std.proofs.lemmas.Option.{same_Some}
 use Rattle.std.proofs.lemmas.List.{map_push, map-append, drop-map, take-map}
 use Rattle.list_laws.specs.Numbers.{upto}
 use Rattle.list_laws.proofs.Cases.{by_test, by_option, by_less}
@@ -57,29 +59,47 @@ module _ {A : Type 0} where
   any_none p xs none =
       by_test (list_any p xs) (λ t. let r = member_of_any p xs t in absurd (none r.member r.among r.passes)) (λ f. f)
 
+  -- what all elements pass, each member passes
+  pub all_of_member : (p : A → Bool) (xs : List A) → list_all p xs ≡ true → (x : A) → Member x xs → p x ≡ true
+  all_of_member p [] h x m = absurd m
+  all_of_member p (y ∷ ys) h x m =
+      let both = and_parts (p y) (list_all p ys) h in
+      elim m [ inl e ↦ rw e both.0 | inr r ↦ all_of_member p ys both.1 x r ]
+
+  -- what is found is the first element, or is found among the others
+  pub data FoundIn (p : A → Bool) (y : A) (ys : List A) (x : A) : Type 0 where
+    found_first : p y ≡ true → y ≡ x → FoundIn p y ys x
+    found_later : p y ≡ false → find p ys ≡ Some x → FoundIn p y ys x
+
+  pub found_in : (p : A → Bool) (y : A) (ys : List A) (x : A) → find p (y ∷ ys) ≡ Some x → FoundIn p y ys x
+  found_in p y ys x h =
+      by_test (p y)
+      (λ t. found_first t (same_Some y x (sym (cond-true (p y) (Some y) (find p ys) t) ∙ h)))
+      (λ f. found_later f (sym (cond-false (p y) (Some y) (find p ys) f) ∙ h))
+
+  -- where nothing is found, the first element doesn't pass, and nothing is found among the others
+  pub found_nowhere : (p : A → Bool) (y : A) (ys : List A) → find p (y ∷ ys) ≡ None → (p y ≡ false) × (find p ys ≡ None)
+  found_nowhere p y ys h =
+      by_test (p y)
+      (λ t. let z : Some y ≡ None = sym (cond-true (p y) (Some y) (find p ys) t) ∙ h in cc)
+      (λ f. (f, sym (cond-false (p y) (Some y) (find p ys) f) ∙ h))
+
   -- what is found is a member that passes
   pub found_passes : (p : A → Bool) (xs : List A) (x : A) → find p xs ≡ Some x → p x ≡ true
   found_passes p [] x h = cc
-  found_passes p (y ∷ ys) x h =
-      by_test (p y)
-      (λ t. let a : Some y ≡ Some x = rw t at h in let e : y ≡ x = cc in rw (← e) t)
-      (λ f. found_passes p ys x (rw f at h))
+  found_passes p (y ∷ ys) x h = elim (found_in p y ys x h) [ found_first t e ↦ rw (← e) t | found_later f r ↦ found_passes p ys x r ]
 
   -- what is found is a member
   pub found_among : (p : A → Bool) (xs : List A) (x : A) → find p xs ≡ Some x → Member x xs
   found_among p [] x h = cc
-  found_among p (y ∷ ys) x h =
-      by_test (p y)
-      (λ t. let a : Some y ≡ Some x = rw t at h in let e : x ≡ y = cc in inl e)
-      (λ f. inr (found_among p ys x (rw f at h)))
+  found_among p (y ∷ ys) x h = elim (found_in p y ys x h) [ found_first t e ↦ inl (sym e) | found_later f r ↦ inr (found_among p ys x r) ]
 
   -- where nothing is found, no member passes
   pub found_none : (p : A → Bool) (xs : List A) (x : A) → find p xs ≡ None → Member x xs → p x ≡ true → ⊥
   found_none p [] x h m t = m
   found_none p (y ∷ ys) x h m t =
-      by_test (p y)
-      (λ k. let a : Some y ≡ None = rw k at h in cc)
-      (λ f. elim m [ inl e ↦ let a : p y ≡ true = rw (← e) t in (let b : true ≡ false = sym a ∙ f in cc) | inr r ↦ found_none p ys x (rw f at h) r t ])
+      let none = found_nowhere p y ys h in
+      elim m [ inl e ↦ let b : true ≡ false = sym t ∙ ap p e ∙ none.0 in cc | inr r ↦ found_none p ys x none.1 r t ]
 
   -- where no member passes, nothing is found
   pub find_none : (p : A → Bool) (xs : List A) → ((x : A) → Member x xs → p x ≡ true → ⊥) → find p xs ≡ None
@@ -148,6 +168,14 @@ module _ {A : Type 0} where
         | inl a ↦ let r = upto_member f n x a in record { number = r.number; below = omega (arith, r.below); is = r.is }
         | inr b ↦ elim b [ inl e ↦ record { number = n; below = omega arith; is = e } | inr no_more ↦ absurd no_more ]
       ]
+
+-- equal lists have equal first elements
+pub same_head : {A : Type 0} (x y : A) (xs ys : List A) → x ∷ xs ≡ y ∷ ys → x ≡ y
+same_head x y xs ys e = cc
+
+-- and the others are equal
+pub same_tail : {A : Type 0} (x y : A) (xs ys : List A) → x ∷ xs ≡ y ∷ ys → xs ≡ ys
+same_tail x y xs ys e = cc
 
 -- what a function makes of a rotation
 pub map_rotated : {A B : Type 0} (f : A → B) (k : ℕ) (u : List A) → map f (rotated k u) ≡ rotated k (map f u)

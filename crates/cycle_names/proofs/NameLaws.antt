@@ -1,9 +1,9 @@
 -- The laws of names, each from its lemmas.
-use Rattle.std.specs.Prelude.{◌≡◌, ◌≤◌, ◌+◌, ◌*◌, ℕ, Bool, true, false, cond, Option, Some, None, List, [], ◌∷◌, ◌++◌, length, codes, nat_le}
+use Rattle.std.specs.Prelude.{◌≡◌, ◌≤◌, ◌+◌, ◌*◌, ℕ, Bool, true, Option, Some, None, List, [], ◌∷◌, ◌++◌, length, codes, nat_le}
 use Rattle.std.specs.List.{list_all, flat_map, join_by}
 use Rattle.std.specs.Str.{bytes_eq}
 use Rattle.std.proofs.Common.{refl, sym, ◌∙◌, ap, subst, arith, length-append}
-use Rattle.std.proofs.lemmas.Bool.{and_parts, leb-true, le-leb}
+use Rattle.std.proofs.lemmas.Bool.{and_parts, cond_both, leb-true, le-leb}
 use Rattle.std.proofs.lemmas.List.Folds.{list_all-append}
 use Rattle.std.proofs.Math.Bool.{and_comm}
 use Rattle.std.proofs.lemmas.Option.{same_Some}
@@ -120,16 +120,13 @@ plural_long (word ∷ words) h =
     let both = and_parts (short_word word) (list_all short_word words) h in
     omega (arith, leb-true (length word) 11 both.0, length-append word (115 ∷ []))
 
-cond_long : (b : Bool) (s t : List ℕ) (n : ℕ) → length s ≤ n → length t ≤ n → length (cond b s t) ≤ n
-cond_long true s t n x y = x
-cond_long false s t n x y = y
-
 pub links_long : (v : List Edge) → length (links_text (link_words v)) ≤ 13 + 12 * length v
 unfolding links_text
 links_long v =
     let short : list_all short_word (link_words v) ≡ true = each_word short_word (λ e. le-leb (length (link_word e)) 11 (link_word_short e)) v in
-    cond_long (list_all (bytes_eq (codes "po")) (link_words v)) [] _ (13 + 12 * length v) (omega arith)
-    (cond_long (all_equal (link_words v)) _ _ (13 + 12 * length v) (omega (arith, plural_long (link_words v) short)) (omega (arith, words_long (link_words v) short, few_words v)))
+    let fits : List ℕ → Type 0 = λ text. length text ≤ 13 + 12 * length v in
+    cond_both (list_all (bytes_eq (codes "po")) (link_words v)) [] _ fits (λ _. omega arith)
+    (λ _. cond_both (all_equal (link_words v)) _ _ fits (λ _. omega (arith, plural_long (link_words v) short)) (λ _. omega (arith, words_long (link_words v) short, few_words v)))
 
 dashed_long : (v : List Edge) → length (flat_map (λ e. codes "-" ++ word_of e) v) ≤ 15 * length v
 dashed_long [] = omega arith
@@ -155,16 +152,13 @@ plural_bytes : (words : List (List ℕ)) → list_all named_bytes words ≡ true
 plural_bytes [] h = refl
 plural_bytes (word ∷ words) h = bytes_both word (115 ∷ []) (and_parts (named_bytes word) (list_all named_bytes words) h).0 refl
 
-cond_bytes : (b : Bool) (s t : List ℕ) → named_bytes s ≡ true → named_bytes t ≡ true → named_bytes (cond b s t) ≡ true
-cond_bytes true s t x y = x
-cond_bytes false s t x y = y
-
 links_bytes : (v : List Edge) → named_bytes (links_text (link_words v)) ≡ true
 unfolding links_text
 links_bytes v =
     let each : list_all named_bytes (link_words v) ≡ true = each_word named_bytes link_word_bytes v in
-    cond_bytes (list_all (bytes_eq (codes "po")) (link_words v)) [] _ refl
-    (cond_bytes (all_equal (link_words v)) _ _ (plural_bytes (link_words v) each) (words_bytes (link_words v) each))
+    let named : List ℕ → Type 0 = λ text. named_bytes text ≡ true in
+    cond_both (list_all (bytes_eq (codes "po")) (link_words v)) [] _ named (λ _. refl)
+    (λ _. cond_both (all_equal (link_words v)) _ _ named (λ _. plural_bytes (link_words v) each) (λ _. words_bytes (link_words v) each))
 
 dashed_bytes : (v : List Edge) → named_bytes (flat_map (λ e. codes "-" ++ word_of e) v) ≡ true
 dashed_bytes [] = refl

@@ -21,6 +21,7 @@ use Rattle.cycle_names.specs.LinkWords.{edge_of_slot, outline, link_word, link_w
 use Rattle.cycle_names.specs.Rotations.{joins_as, is_plain_outside, fits_family, words_below}
 use Rattle.cycle_names.specs.Fitting.{word_place}
 use Rattle.cycle_names.specs.NameReading.{link_with}
+use Rattle.cycle_names.proofs.Members.{same_head, same_tail}
 use Rattle.cycle_names.proofs.Tables.{link_words_order, link_words_equal, link_back, slot_is_diff, no_place}
 use Rattle.cycle_names.proofs.Marks.{said_of, said_link, said_slot}
 
@@ -74,18 +75,6 @@ same_links a b e r =
     ∙ sym (said_link b d))
     (λ f. said_slot a f ∙ e ∙ sym (said_slot b (sym (diff_alike a b e) ∙ f)))
 
-heads : (x y : Edge) (u v : List Edge) → outline (x ∷ u) ≡ outline (y ∷ v) → edge_of_slot x ≡ edge_of_slot y
-heads x y u v e = head_same (edge_of_slot x) (edge_of_slot y) (outline u) (outline v) e
-  where
-    head_same : (a b : Edge) (c d : List Edge) → a ∷ c ≡ b ∷ d → a ≡ b
-    head_same a b c d e = cc
-
-tails : (x y : Edge) (u v : List Edge) → outline (x ∷ u) ≡ outline (y ∷ v) → outline u ≡ outline v
-tails x y u v e = tail_same (edge_of_slot x) (edge_of_slot y) (outline u) (outline v) e
-  where
-    tail_same : (a b : Edge) (c d : List Edge) → a ∷ c ≡ b ∷ d → c ≡ d
-    tail_same a b c d e = cc
-
 outline_long : (u v : List Edge) → outline u ≡ outline v → length u ≡ length v
 outline_long u v e = sym (length-map u edge_of_slot) ∙ ap length e ∙ length-map v edge_of_slot
 
@@ -95,15 +84,9 @@ same_lists [] [] e r = refl
 same_lists [] (y ∷ v) e r = absurd (omega (arith, outline_long [] (y ∷ v) e))
 same_lists (x ∷ u) [] e r = absurd (omega (arith, outline_long (x ∷ u) [] e))
 same_lists (x ∷ u) (y ∷ v) e r =
-    let one : said_of x ≡ said_of y = same_links x y (heads x y u v e) (number_same (word_place x) (word_place y) (map word_place u) (map word_place v) r) in
-    let rest : map said_of u ≡ map said_of v = same_lists u v (tails x y u v e) (numbers_same (word_place x) (word_place y) (map word_place u) (map word_place v) r) in
+    let one : said_of x ≡ said_of y = same_links x y (same_head _ _ (outline u) (outline v) e) (same_head _ _ (map word_place u) (map word_place v) r) in
+    let rest : map said_of u ≡ map said_of v = same_lists u v (same_tail _ _ (outline u) (outline v) e) (same_tail _ _ (map word_place u) (map word_place v) r) in
     rw (one, rest) refl
-  where
-    number_same : (a b : ℕ) (c d : List ℕ) → a ∷ c ≡ b ∷ d → a ≡ b
-    number_same a b c d e = cc
-
-    numbers_same : (a b : ℕ) (c d : List ℕ) → a ∷ c ≡ b ∷ d → c ≡ d
-    numbers_same a b c d e = cc
 
 -- the order by words, on one more link
 one_more : (l q b : Bool) (o : Ordering) → is_lt o ≡ b → is_lt (ordering_then (cond l Less (cond q Equal Greater)) o) ≡ (l || q && b)
@@ -136,9 +119,9 @@ words_by_ranks [] [] e = refl
 words_by_ranks [] (y ∷ v) e = absurd (omega (arith, outline_long [] (y ∷ v) e))
 words_by_ranks (x ∷ u) [] e = absurd (omega (arith, outline_long (x ∷ u) [] e))
 words_by_ranks (x ∷ u) (y ∷ v) e =
-    let slots : edge_of_slot x ≡ edge_of_slot y = heads x y u v e in
+    let slots : edge_of_slot x ≡ edge_of_slot y = same_head _ _ (outline u) (outline v) e in
     let both : is_diff x ≡ is_diff y = diff_alike x y slots in
-    let remainder : words_before (link_words u) (link_words v) ≡ ranks_below (map word_place u) (map word_place v) = words_by_ranks u v (tails x y u v e) in
+    let remainder : words_before (link_words u) (link_words v) ≡ ranks_below (map word_place u) (map word_place v) = words_by_ranks u v (same_tail _ _ (outline u) (outline v) e) in
     by_test (is_diff x)
     (λ t.
     ap (λ a. words_before a (link_words (y ∷ v))) (words_of_link x u t)

@@ -1,11 +1,11 @@
 -- Reading a name gives the edges of the rotation that it was made from.
-use Rattle.std.specs.Prelude.{◌≡◌, ◌<◌, ◌≤◌, ◌-◌, ◌||◌, ℕ, suc, Bool, true, false, not, cond, Option, Some, None, List, [], ◌∷◌, ◌++◌, length, map, filter, drop, codes}
+use Rattle.std.specs.Prelude.{◌≡◌, ◌<◌, ◌≤◌, ◌-◌, ◌||◌, ℕ, suc, Bool, true, false, not, cond, Some, None, List, [], ◌∷◌, ◌++◌, length, map, filter, drop, codes}
 use Rattle.std.specs.List.{list_any, list_all, flat_map, join_by, before_first, slice_split}
 use Rattle.std.specs.Str.{bytes_eq}
 use Rattle.std.specs.Cmp.Lexicographic.{bytes_decides}
 use Rattle.std.proofs.Common.{refl, sym, ◌∙◌, ap, arith, length-append}
 use Rattle.std.proofs.Math.Seq.{drop-append_seam}
-use Rattle.std.proofs.lemmas.Bool.{and_parts, or_right, cond-true, cond-false, not-true}
+use Rattle.std.proofs.lemmas.Bool.{and_parts, or_right, cond-true, cond-false, cond_both, not-true}
 use Rattle.std.proofs.lemmas.List.Folds.{list_any-append}
 use Rattle.std.proofs.lemmas.List.{append-nil, take_at}
 use Rattle.list_laws.proofs.Cases.{by_test, by_option}
@@ -157,11 +157,8 @@ words_start (word ∷ words) = goes_on (word ++ flat_map after_plus words) refl
 links_start : (words : List (List ℕ)) → StartsPlus (links_text words)
 unfolding links_text
 links_start words =
-    choose (list_all (bytes_eq (codes "po")) words) [] _ (ends_here refl) (choose (all_equal words) _ _ (plural_starts words) (words_start words))
-  where
-    choose : (b : Bool) (s t : List ℕ) → StartsPlus s → StartsPlus t → StartsPlus (cond b s t)
-    choose true s t x y = x
-    choose false s t x y = y
+    cond_both (list_all (bytes_eq (codes "po")) words) [] _ StartsPlus (λ _. ends_here refl)
+    (λ _. cond_both (all_equal words) _ _ StartsPlus (λ _. plural_starts words) (λ _. words_start words))
 
 family_named : (f : Family) (text : List ℕ) → (f ≡ families.Other → ⊥) → StartsPlus text → named_family all_families (family_word f ++ text) ≡ Some f
 family_named f text n s =

@@ -28,11 +28,16 @@ use Rattle.cycle_names.proofs.Members.{find_none}
 use Rattle.cycle_laws.proofs.Joining.{same_dir_is}
 
 -- a list without its first element, as slice patterns give it
-abbrev rest_of : {A : Type 0} → List A → List A
+abbrev pub rest_of : {A : Type 0} → List A → List A
 rest_of xs = take (length xs - 1) (drop 1 xs)
 
 rest_is : {A : Type 0} (x : A) (xs : List A) → rest_of (x ∷ xs) ≡ xs
 rest_is x xs = take_all (length (x ∷ xs) - 1) xs (omega arith)
+
+-- a list that has elements is the first and the others, as slice patterns give them
+pub first_and_rest : {A : Type 0} (xs : List A) (d : A) → 1 ≤ length xs → xs ≡ get_or xs 0 d ∷ rest_of xs
+first_and_rest [] d h = absurd (omega arith)
+first_and_rest (x ∷ xs) d h = ap (λ w. x ∷ w) (sym (rest_is x xs))
 
 rest_drop : {A : Type 0} (xs : List A) → 1 ≤ length xs → rest_of xs ≡ drop 1 xs
 rest_drop [] h = absurd (omega arith)

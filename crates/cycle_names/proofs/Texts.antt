@@ -1,12 +1,11 @@
 -- What comes after a family's word in a name, by the links of a cycle.
-use Rattle.std.specs.Prelude.{◌≡◌, ◌==◌, ◌<◌, ◌&&◌, ◌||◌, ℕ, Bool, true, false, not, Some, None, List, [], ◌∷◌, ◌++◌, length, drop, take, codes}
+use Rattle.std.specs.Prelude.{◌≡◌, ◌==◌, ◌&&◌, ◌||◌, ℕ, Bool, true, false, not, Some, None, List, [], ◌∷◌, ◌++◌, drop, take, codes}
 use Rattle.std.specs.List.{find, list_all, flat_map, join_by}
 use Rattle.std.specs.Str.{bytes_eq}
 use Rattle.std.specs.Cmp.Lexicographic.{bytes_decides}
-use Rattle.std.proofs.Common.{refl, sym, ◌∙◌, ap, arith, append_assoc}
+use Rattle.std.proofs.Common.{refl, sym, ◌∙◌, ap, append_assoc}
 use Rattle.std.proofs.lemmas.Bool.{and_parts, eqb-true, eq-eqb, cond-true, cond-false}
 use Rattle.std.proofs.lemmas.Grind.{flat_map-append}
-use Rattle.std.proofs.lemmas.List.{length-drop}
 use Rattle.list_laws.proofs.Cases.{by_test}
 use Rattle.relax_edges.specs.declared.kinds.Dir.TheVariants.{R}
 use Rattle.relax_edges.specs.declared.edge.Edge.{Edge}
@@ -18,6 +17,7 @@ use Rattle.cycle_names.specs.LinkWords.{link_word, link_words}
 use Rattle.cycle_names.specs.CycleNames.{after_plus, all_equal, plural, links_text}
 use Rattle.cycle_names.specs.Families.{pod}
 use Rattle.cycle_names.specs.Fitting.{link_text, word_place, has_word_place}
+use Rattle.cycle_names.proofs.Members.{found_first, found_later, found_in, found_nowhere}
 use Rattle.cycle_names.proofs.Tables.{link_words_equal, no_place, some_place}
 use Rattle.cycle_names.proofs.Outlines.{words_same, words_of_link, words_of_plain}
 
@@ -31,10 +31,7 @@ all_links_cons p e v =
 -- where there is no link, there is no word
 no_words : (v : List Edge) → find is_diff v ≡ None → link_words v ≡ []
 no_words [] h = refl
-no_words (e ∷ v) h =
-    by_test (is_diff e)
-    (λ t. let a : Some e ≡ None = sym (cond-true (is_diff e) (Some e) (find is_diff v) t) ∙ h in cc)
-    (λ f. words_of_plain e v f ∙ no_words v (sym (cond-false (is_diff e) (Some e) (find is_diff v) f) ∙ h))
+no_words (e ∷ v) h = let none = found_nowhere is_diff e v h in words_of_plain e v none.0 ∙ no_words v none.1
 
 -- the first word is that of the first link
 record FirstWord (e : Edge) (v : List Edge) : Type 0 where
@@ -45,14 +42,12 @@ record FirstWord (e : Edge) (v : List Edge) : Type 0 where
 first_words : (v : List Edge) (e : Edge) → find is_diff v ≡ Some e → FirstWord e v
 first_words [] e h = cc
 first_words (d ∷ v) e h =
-    by_test (is_diff d)
-    (λ t.
-    let a : Some d ≡ Some e = sym (cond-true (is_diff d) (Some d) (find is_diff v) t) ∙ h in
-    let same : d ≡ e = cc in
-    record { remainder = link_words v; words = words_of_link d v t ∙ ap (λ x. link_word x ∷ link_words v) same; links = rw (← same) t })
-    (λ f.
-    let r = first_words v e (sym (cond-false (is_diff d) (Some d) (find is_diff v) f) ∙ h) in
-    record { remainder = r.remainder; words = words_of_plain d v f ∙ r.words; links = r.links })
+    elim (found_in is_diff d v e h) [
+      | found_first t same ↦ record { remainder = link_words v; words = words_of_link d v t ∙ ap (λ x. link_word x ∷ link_words v) same; links = rw (← same) t }
+      | found_later f rest ↦
+          let r = first_words v e rest in
+          record { remainder = r.remainder; words = words_of_plain d v f ∙ r.words; links = r.links }
+    ]
 
 -- nothing comes after it where there is no link
 pub text_of_none : (v : List Edge) → find is_diff v ≡ None → links_text (link_words v) ≡ []
@@ -164,22 +159,15 @@ text_at_each v e h t =
     text_of_each v e h (ap (λ w. list_all (bytes_eq w) (link_words v)) same ∙ f) f)
     (λ b. text_of_each v e h (not_plain v e h (λ t. let z : true ≡ false = sym t ∙ b in cc)) f)
 
--- the words of two parts with a separator between
-joined_parts : (separator : List ℕ) (a b : List Edge) → 0 < length a →
-    join_by word_of separator (a ++ b) ≡ join_by word_of separator a ++ flat_map (λ edge. separator ++ word_of edge) b
-joined_parts separator [] b h = absurd (omega (arith, h))
-joined_parts separator (e ∷ a) b h =
-    ap (λ t. word_of e ++ t) (flat_map-append (λ edge. separator ++ word_of edge) a b)
-    ∙ sym (append_assoc (word_of e) (flat_map (λ edge. separator ++ word_of edge) a) (flat_map (λ edge. separator ++ word_of edge) b))
-
--- the words of the two parts of a rotation, added one after the other, are those of the rotation
-pub joined_rotation : (separator : List ℕ) (u back prefix : List Edge) (place : ℕ) (old between new : List ℕ) → place < length u → back ≡ drop place u → prefix ≡ take place u →
-    between ≡ old ++ join_by word_of separator back → new ≡ between ++ flat_map (λ edge. separator ++ word_of edge) prefix → new ≡ old ++ join_by word_of separator (rotated place u)
-joined_rotation separator u back prefix place old between new l b p m n =
-    let some : 0 < length (drop place u) = omega (arith, l, length-drop place u) in
+-- the words of a rotation, added for its first edge, for the edges after it and for those of the prefix, are those of the rotation
+pub joined_rotation : (separator : List ℕ) (u : List Edge) (place : ℕ) (first : Edge) (rest prefix : List Edge) (old word one between new : List ℕ) → drop place u ≡ first ∷ rest → take place u ≡ prefix →
+    word ≡ word_of first → one ≡ old ++ word → between ≡ one ++ flat_map (λ edge. separator ++ word_of edge) rest → new ≡ between ++ flat_map (λ edge. separator ++ word_of edge) prefix →
+    new ≡ old ++ join_by word_of separator (rotated place u)
+joined_rotation separator u place first rest prefix old word one between new b p w o m n =
+    let separated : List Edge → List ℕ = flat_map (λ edge. separator ++ word_of edge) in
     n
-    ∙ ap (λ t. t ++ flat_map (λ edge. separator ++ word_of edge) prefix) m
-    ∙ append_assoc old (join_by word_of separator back) (flat_map (λ edge. separator ++ word_of edge) prefix)
-    ∙ ap (λ v. old ++ (join_by word_of separator v ++ flat_map (λ edge. separator ++ word_of edge) prefix)) b
-    ∙ ap (λ v. old ++ (join_by word_of separator (drop place u) ++ flat_map (λ edge. separator ++ word_of edge) v)) p
-    ∙ ap (λ t. old ++ t) (sym (joined_parts separator (drop place u) (take place u) some))
+    ∙ ap (λ t. t ++ separated prefix) (m ∙ ap (λ t. t ++ separated rest) (o ∙ ap (λ t. old ++ t) w))
+    ∙ append_assoc (old ++ word_of first) (separated rest) (separated prefix)
+    ∙ append_assoc old (word_of first) (separated rest ++ separated prefix)
+    ∙ ap (λ t. old ++ (word_of first ++ t)) (sym (flat_map-append (λ edge. separator ++ word_of edge) rest prefix))
+    ∙ ap (λ v. old ++ join_by word_of separator v) (sym (ap (λ v. v ++ take place u) b ∙ ap (λ v. (first ∷ rest) ++ v) p))

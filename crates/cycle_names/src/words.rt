@@ -107,22 +107,10 @@ pub(crate) fn push_rotation<const N: usize>(
     ensures short { length words.new.bytes ≤ length words.old.bytes + 15 * length edges.now }
 {
     let (prefix, back) = edges.split_at(place);
-    push_words(back, between, words);
-    push_separated(prefix, between, words);
-}
-
-/// Adds the words of some edges, with a separator between.
-fn push_words<const N: usize>(edges: &[Edge], between: Separator, words: &mut ArrayString<N>)
-    requires { length words.old.bytes + 15 * length edges.now ≤ N }
-    ensures text { words.new.bytes ≡ words.old.bytes ++ join_by word_of (separator_text between) edges.now }
-    ensures short { length words.new.bytes ≤ length words.old.bytes + 15 * length edges.now }
-{
-    match edges {
-        [] => {}
-        [edge, rest @ ..] => {
-            words.push_str(edge.text());
-            push_separated(rest, between, words);
-        }
+    if let [edge, rest @ ..] = back {
+        words.push_str(edge.text());
+        push_separated(rest, between, words);
+        push_separated(prefix, between, words);
     }
 }
 
@@ -154,32 +142,12 @@ pub(crate) fn push_rotation_twice<const N: usize, const M: usize>(
     ensures blanked_short { length blanked.new.bytes ≤ length blanked.old.bytes + 15 * length edges.now }
 {
     let (prefix, back) = edges.split_at(place);
-    push_words_twice(back, dashed, blanked);
-    push_separated_twice(prefix, dashed, blanked);
-}
-
-/// Adds the words of some edges to two texts, with dashes between to the one and with blanks between to
-/// the other.
-fn push_words_twice<const N: usize, const M: usize>(
-    edges: &[Edge],
-    dashed: &mut ArrayString<N>,
-    blanked: &mut ArrayString<M>,
-)
-    requires dashed_room { length dashed.old.bytes + 15 * length edges.now ≤ N }
-    requires blanked_room { length blanked.old.bytes + 15 * length edges.now ≤ M }
-    ensures dashed { dashed.new.bytes ≡ dashed.old.bytes ++ join_by word_of (codes "-") edges.now }
-    ensures dashed_short { length dashed.new.bytes ≤ length dashed.old.bytes + 15 * length edges.now }
-    ensures blanked { blanked.new.bytes ≡ blanked.old.bytes ++ join_by word_of (codes " ") edges.now }
-    ensures blanked_short { length blanked.new.bytes ≤ length blanked.old.bytes + 15 * length edges.now }
-{
-    match edges {
-        [] => {}
-        [edge, rest @ ..] => {
-            let word = edge.text();
-            dashed.push_str(word);
-            blanked.push_str(word);
-            push_separated_twice(rest, dashed, blanked);
-        }
+    if let [edge, rest @ ..] = back {
+        let word = edge.text();
+        dashed.push_str(word);
+        blanked.push_str(word);
+        push_separated_twice(rest, dashed, blanked);
+        push_separated_twice(prefix, dashed, blanked);
     }
 }
 

@@ -1,9 +1,12 @@
--- The words of the two parts are those of the rotation.
+-- The words of the first edge, of those after it and of the prefix are those of the rotation.
+use Rattle.std.proofs.Common.{◌∙◌, sym, arith}
 use Rattle.cycle_names.specs.Fitting.{separator_text}
+use Rattle.cycle_names.proofs.Steps.{first_and_rest}
 use Rattle.cycle_names.proofs.Texts.{joined_rotation}
 use Rattle.cycle_names.proofs.words.push_rotation.Goals as goal
 
-pub returns-clause-text : goal.returns-clause-text
-returns-clause-text g c =
-    joined_rotation (separator_text c.args.between) c.args.edges.now c.split_at.result.1.now c.split_at.result.0.now c.args.place _ _ _ c.requires.place c.split_at.ensures.back c.split_at.ensures.front
-    c.push_words.ensures.text c.push_separated.ensures.text
+pub returns-in-len1-up-clause-text : goal.returns-in-len1-up-clause-text
+returns-in-len1-up-clause-text g c =
+    joined_rotation (separator_text c.args.between) c.args.edges.now c.args.place _ _ c.split_at.result.0.now _ _ _ _ _
+    (sym c.split_at.ensures.back ∙ first_and_rest c.split_at.result.1.now _ (omega (arith, c.in-len1-up.len_at_least))) (sym c.split_at.ensures.front)
+    c.text.ensures.word c.push_str.ensures.bytes c.push_separated.ensures.text c.push_separated-in-len1-up.ensures.text

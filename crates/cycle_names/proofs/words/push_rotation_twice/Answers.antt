@@ -1,14 +1,18 @@
--- The words of the two parts are those of the rotation, in both texts.
+-- The words of the first edge, of those after it and of the prefix are those of the rotation, in both texts.
+use Rattle.std.proofs.Common.{◌∙◌, sym, arith}
 use Rattle.std.specs.Prelude.{codes}
+use Rattle.cycle_names.proofs.Steps.{first_and_rest}
 use Rattle.cycle_names.proofs.Texts.{joined_rotation}
 use Rattle.cycle_names.proofs.words.push_rotation_twice.Goals as goal
 
-pub returns-clause-dashed : goal.returns-clause-dashed
-returns-clause-dashed g c =
-    joined_rotation (codes "-") c.args.edges.now c.split_at.result.1.now c.split_at.result.0.now c.args.place _ _ _ c.requires.place c.split_at.ensures.back c.split_at.ensures.front
-    c.push_words_twice.ensures.dashed c.push_separated_twice.ensures.dashed
+pub returns-in-len1-up-clause-dashed : goal.returns-in-len1-up-clause-dashed
+returns-in-len1-up-clause-dashed g c =
+    joined_rotation (codes "-") c.args.edges.now c.args.place _ _ c.split_at.result.0.now _ _ _ _ _
+    (sym c.split_at.ensures.back ∙ first_and_rest c.split_at.result.1.now _ (omega (arith, c.in-len1-up.len_at_least))) (sym c.split_at.ensures.front)
+    c.text-word.ensures.word c.push_str.ensures.bytes c.push_separated_twice.ensures.dashed c.push_separated_twice-in-len1-up.ensures.dashed
 
-pub returns-clause-blanked : goal.returns-clause-blanked
-returns-clause-blanked g c =
-    joined_rotation (codes " ") c.args.edges.now c.split_at.result.1.now c.split_at.result.0.now c.args.place _ _ _ c.requires.place c.split_at.ensures.back c.split_at.ensures.front
-    c.push_words_twice.ensures.blanked c.push_separated_twice.ensures.blanked
+pub returns-in-len1-up-clause-blanked : goal.returns-in-len1-up-clause-blanked
+returns-in-len1-up-clause-blanked g c =
+    joined_rotation (codes " ") c.args.edges.now c.args.place _ _ c.split_at.result.0.now _ _ _ _ _
+    (sym c.split_at.ensures.back ∙ first_and_rest c.split_at.result.1.now _ (omega (arith, c.in-len1-up.len_at_least))) (sym c.split_at.ensures.front)
+    c.text-word.ensures.word c.push_str-in-len1-up.ensures.bytes c.push_separated_twice.ensures.blanked c.push_separated_twice-in-len1-up.ensures.blanked
