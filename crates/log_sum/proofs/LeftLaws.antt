@@ -1,6 +1,6 @@
 -- The left sides of equalities: in byte order those that have one left side are neighbours.
-use Rattle.std.proofs.Common.{◌≡◌, ◌==◌, ℕ, zero, suc, ◌+◌, ◌-◌, ◌<◌, List, [], ◌∷◌, ◌++◌, Some, None, true, false, length, drop, refl, sym, ap, ◌∙◌, arith}
-use Rattle.std.specs.Prelude.{◌||◌, ◌&&◌, Option, IsSome, is_some, map, slice_index_or, nat_lt}
+use Rattle.std.proofs.Common.{◌≡◌, ◌==◌, ℕ, zero, suc, ◌+◌, ◌-◌, ◌<◌, List, [], ◌∷◌, ◌++◌, Some, None, true, false, length, drop, refl, sym, ap, ◌∙◌, arith, append_assoc}
+use Rattle.std.specs.Prelude.{not, ◌||◌, ◌&&◌, Option, IsSome, is_some, map, slice_index_or, nat_lt}
 use Rattle.std.specs.List.{list_any, All, AllByRecursion, IsDistinct}
 use Rattle.std.specs.List.Sorted.{IsSortedBy, IsStrictlySortedBy}
 use Rattle.std.specs.Ordering.{nat_cmp, ordering_then, ordering_reverse, is_eq, is_lt}
@@ -12,11 +12,11 @@ use Rattle.std.specs.Str.{bytes_eq}
 use Rattle.std.proofs.lemmas.Bool.{eqb-true, or_from, or_parts, or_right, false_from_ne_true}
 use Rattle.std.proofs.lemmas.Bool.Decides.{Decides-eqb, nat_tests}
 use Rattle.std.proofs.lemmas.List.Elements.{All-head, All-tail}
-use Rattle.std.proofs.lemmas.List.Folds.{list_any-append}
 use Rattle.std.proofs.lemmas.Slice.Eq.{bytes_eq-Decides, starts_is}
 use Rattle.list_laws.proofs.Cases.{by_test}
 use Rattle.log_sum.specs.Texts.{begins_with}
-use Rattle.text_laws.specs.Cuts.{before_cut, cut_at}
+use Rattle.text_laws.specs.Cuts.{cut_at, is_without, CutParts}
+use Rattle.text_laws.proofs.CutLaws.{cut_back, cut_parts, all_both}
 use Rattle.log_sum.specs.LogStates.{is_bracketed, left_kept, is_side, sides_read}
 use Rattle.log_sum.specs.Equalities.{equality_of, before_sign, left_side, HasSign, same_left, has_left_twice}
 use Rattle.log_sum.proofs.OrderLaws.{apart_less}
@@ -25,37 +25,10 @@ use Rattle.log_sum.proofs.StateLaws.{text_at, shown_at}
 
 -- a text has no sign
 abbrev NoSign : List ℕ → Type 0
-NoSign text = list_any (λ byte. byte == 61) text ≡ false
-
--- a text that is cut at its first sign
-record Cut (text : List ℕ) (sides : List ℕ × List ℕ) : Type 0 where
-  whole : text ≡ (sides.0 ++ 61 ∷ []) ++ sides.1
-  no_sign : NoSign sides.0
-
-cut_parts : (text : List ℕ) (sides : List ℕ × List ℕ) → cut_at 61 text ≡ Some sides → Cut text sides
-unfolding cut_at
-cut_parts [] sides h = absurd (cc)
-cut_parts (byte ∷ text) sides h =
-    by_test (byte == 61)
-    (λ e. let k = rw e at h in
-    let l : sides ≡ ([], text) = cc in
-    let same : byte ≡ 61 = eqb-true byte 61 e in
-    rw (l, same) (record { whole = refl; no_sign = refl }))
-    (λ e. let k = rw e at h in by_cut e (cut_parts text) (cut_at 61 text) refl k)
-  where
-    by_cut : (byte == 61) ≡ false → ((further : List ℕ × List ℕ) → cut_at 61 text ≡ Some further → Cut text further) → (o : Option (List ℕ × List ℕ)) → cut_at 61 text ≡ o → before_cut byte o ≡ Some sides → Cut (byte ∷ text) sides
-    by_cut e law None f g = absurd (cc)
-    by_cut e law (Some further) f g =
-        let l : sides ≡ (byte ∷ further.0, further.1) = cc in
-        let inner : Cut text further = law further f in
-        rw l (record { whole = ap (λ t. byte ∷ t) inner.whole; no_sign = or_from (byte == 61) (list_any (λ b. b == 61) further.0) e inner.no_sign })
+NoSign text = is_without 61 text ≡ true
 
 cut_again : (left value : List ℕ) → NoSign left → cut_at 61 ((left ++ 61 ∷ []) ++ value) ≡ Some (left, value)
-unfolding cut_at
-cut_again [] value h = refl
-cut_again (byte ∷ left) value h =
-    let k : ((byte == 61) ≡ false) × NoSign left = or_parts (byte == 61) (list_any (λ b. b == 61) left) h in
-    rw (k.0, cut_again left value k.1) refl
+cut_again left value h = ap (cut_at 61) (append_assoc left (61 ∷ []) value) ∙ cut_back 61 left value h
 
 left_again : (left value : List ℕ) → NoSign left → left_side ((left ++ 61 ∷ []) ++ value) ≡ left
 left_again left value h = ap before_sign (cut_again left value h)
@@ -72,16 +45,16 @@ sides_of text h = by_cut (cut_at 61 text) refl h
     by_cut : (o : Option (List ℕ × List ℕ)) → cut_at 61 text ≡ o → IsSome o → Sides text
     by_cut None e g = absurd (let k : false ≡ true = g in cc)
     by_cut (Some sides) e g =
-        let cut : Cut text sides = cut_parts text sides e in
+        let cut : CutParts 61 text sides.0 sides.1 = cut_parts 61 text sides e in
         let left : sides.0 ≡ left_side text = sym (ap before_sign e) in
-        record { value = sides.1; whole = cut.whole ∙ ap (λ t. (t ++ 61 ∷ []) ++ sides.1) left; no_sign = ap (list_any (λ b. b == 61)) (sym left) ∙ cut.no_sign }
+        record { value = sides.1; whole = cut.parts ∙ sym (append_assoc sides.0 (61 ∷ []) sides.1) ∙ ap (λ t. (t ++ 61 ∷ []) ++ sides.1) left; no_sign = ap (is_without 61) (sym left) ∙ cut.first }
 
 -- the equality of a piece has its sign, after the left side as it is kept
 kept_no_sign : (left : List ℕ) → NoSign left → NoSign (left_kept left)
 kept_no_sign left h =
     by_test (list_any (λ byte. byte == 58) left || is_bracketed left)
     (λ e. rw e h)
-    (λ e. rw e (list_any-append (λ b. b == 61) left (93 ∷ []) ∙ or_from (list_any (λ b. b == 61) left) false h refl))
+    (λ e. rw e (all_both (λ b. not (b == 61)) left (93 ∷ []) h refl))
 
 read_no_sign : (piece : List ℕ) (sides : List ℕ × List ℕ) → sides_read (cut_at 61 piece) ≡ Some sides → NoSign sides.0
 read_no_sign piece sides h = by_cut (cut_at 61 piece) refl h
@@ -92,7 +65,7 @@ read_no_sign piece sides h = by_cut (cut_at 61 piece) refl h
         by_test (is_side parts.0 && is_side parts.1)
         (λ t. let k = rw t at g in
         let same : parts.0 ≡ sides.0 = let pair : parts ≡ sides = cc in ap (λ (x : List ℕ × List ℕ). x.0) pair in
-        ap (list_any (λ b. b == 61)) (sym same) ∙ (cut_parts piece parts e).no_sign)
+        ap (is_without 61) (sym same) ∙ (cut_parts 61 piece parts e).first)
         (λ t. let k = rw t at g in absurd (cc))
 
 -- what the equality of a piece has before its first sign, and that it has one

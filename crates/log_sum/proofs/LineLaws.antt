@@ -1,10 +1,10 @@
 -- The number of the running line: one more than the line feeds of its log so far.
-use Rattle.std.proofs.Common.{◌≡◌, ℕ, suc, ◌+◌, List, [], ◌∷◌, ◌++◌, length, refl, sym, ap, ◌∙◌, arith}
+use Rattle.std.proofs.Common.{◌≡◌, ℕ, ◌+◌, List, [], ◌∷◌, ◌++◌, length, refl, sym, ap, ◌∙◌, arith}
 use Rattle.std.specs.Prelude.{Option, Some, None, Result, Ok, Err}
 use Rattle.std.proofs.lemmas.List.Splits.{length-slice_split}
 use Rattle.list_laws.proofs.Cases.{by_test}
 use Rattle.text_laws.specs.Lines.{is_line_feed, but_last, whole_lines, unended, without_return}
-use Rattle.text_laws.proofs.PieceLaws.{first_piece}
+use Rattle.text_laws.proofs.PieceLaws.{first_piece, length-but_last}
 use Rattle.diy_io.specs.Count.{count_of}
 use Rattle.diy_io.specs.Sink.{line_feed_count}
 use Rattle.log_sum.specs.declared.errors.LogKind.{LogKind}
@@ -15,7 +15,7 @@ use Rattle.log_sum.specs.LogLines.{Said, log_line_said, fact_said, test_after, p
 use Rattle.log_sum.specs.LogReading.{LogSeen, is_too_long, nothing_seen, fact_put, fact_judged, said_to, said_put, at_next_line, next_line, text_judged, line_judged, lines_judged, rest_judged, bytes_judged, last_judged, end_at, end_judged, file_judged, files_judged, input_judged}
 use Rattle.text_laws.specs.ReadingSteps.{◌>>=◌}
 use Rattle.log_sum.specs.Representing.{Kept, Represents, running_line}
-use Rattle.log_sum.proofs.FeedLaws.{Middle, middle_of, rest_same}
+use Rattle.log_sum.proofs.FeedLaws.{middle_of, rest_same}
 
 -- a fact leaves the number of the line as it is
 fact_line : (seen next : LogSeen) (fact : Option Fact) → fact_put seen fact ≡ Ok next → next.line ≡ seen.line
@@ -74,17 +74,13 @@ files_line seen next (file ∷ files) first h =
     let a = middle_of (lines_judged seen (whole_lines file) >>= (λ x. last_judged x (unended file))) end_judged b.middle b.is in
     files_line b.middle next files (end_line_first a.middle b.middle a.middle.place a.then) b.then
 
-but_last_length : (line : List ℕ) (rest : List (List ℕ)) → length (but_last (line ∷ rest)) ≡ length rest
-but_last_length line [] = refl
-but_last_length line (next ∷ rest) = ap suc (but_last_length next rest)
-
 -- as many lines have ended as there are line feeds
 whole_count : (bytes : List ℕ) → length (whole_lines bytes) ≡ line_feed_count bytes
 unfolding whole_lines
 whole_count bytes =
     let first = first_piece is_line_feed bytes in
     let all : length (first.piece ∷ first.rest) ≡ line_feed_count bytes + 1 = ap length (sym first.is) ∙ length-slice_split is_line_feed bytes in
-    ap (λ t. length (but_last t)) first.is ∙ but_last_length first.piece first.rest ∙ omega arith
+    ap (λ t. length (but_last t)) first.is ∙ length-but_last first.piece first.rest ∙ omega arith
 
 -- the line that goes on after the bytes of a log so far has its number by their line feeds
 input_line : (next : LogSeen) (files : List (List ℕ)) (bytes : List ℕ) → input_judged files bytes ≡ Ok next → next.line ≡ running_line bytes

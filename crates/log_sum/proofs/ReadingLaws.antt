@@ -17,6 +17,7 @@ use Rattle.text_laws.specs.ReadingSteps.{◌>>=◌}
 use Rattle.text_laws.specs.Lines.{is_line_feed, but_last, last_of, whole_lines, unended}
 use Rattle.text_laws.proofs.PieceLaws.{first_piece, split_whole, split_both, split_append, but_last_append, last_append, whole_split}
 use Rattle.log_sum.specs.Feeding.{entry_of}
+use Rattle.text_laws.proofs.OrderLaws.{bytes_same}
 
 -- a text has no line feed
 abbrev pub is_one_line : List ℕ → Bool
@@ -101,10 +102,6 @@ so_far_ended files bytes =
 pub read_on : (seen : LogSeen) (files : List (List ℕ)) (bytes : List ℕ) → files_judged seen (files ++ bytes ∷ []) ≡ (files_judged seen files >>= (λ next. file_judged next bytes))
 read_on seen [] bytes = then_none (file_judged seen bytes)
 read_on seen (file ∷ files) bytes = then_on (file_judged seen file) _ _ _ (λ next. read_on next files bytes)
-
--- a text is the same as itself
-bytes_same : (t : List ℕ) → bytes_eq t t ≡ true
-bytes_same t = (bytes_eq-Decides t t).1 refl
 
 -- a fact of this test comes after the others
 pub facts_here : (test : List ℕ) (entries : List Entry) (fact : Fact) → facts_of test (entries ++ entry_of test fact ∷ []) ≡ facts_of test entries ++ fact ∷ []

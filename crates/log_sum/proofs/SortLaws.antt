@@ -1,6 +1,6 @@
 -- A table of states whose entries were sorted.
 use Rattle.std.proofs.Common.{◌≡◌, ℕ, suc, ◌+◌, ◌<◌, List, [], ◌∷◌, None, true, false, length, refl, sym, ap, ◌∙◌, arith, subst}
-use Rattle.std.specs.Prelude.{Bool, ◌&&◌, map, option_map, T, Ok, slice_index_or}
+use Rattle.std.specs.Prelude.{Bool, ◌&&◌, map, option_map, T, slice_index_or}
 use Rattle.std.specs.Ordering.{nat_cmp, is_eq, is_lt}
 use Rattle.std.specs.declared.cmp.Ordering.{Ordering}
 use Rattle.std.specs.declared.cmp.Ordering.TheVariants.{Less, Equal, Greater}

@@ -1,14 +1,16 @@
 -- Sets of texts, as the code keeps them.
 use Rattle.std.proofs.Common.{◌≡◌, ◌==◌, ℕ, zero, suc, ◌<◌, ◌≤◌, List, [], ◌∷◌, ◌++◌, Some, None, true, false, length, refl, sym, ap, ◌∙◌, arith, append_assoc, append-nil}
 use Rattle.std.specs.Prelude.{cond, Option, map, Result, Err, get_or, take, slice_index_or}
-use Rattle.std.specs.List.{slice_split, onto_first}
-use Rattle.std.proofs.lemmas.Bool.{eqb-true}
+use Rattle.std.specs.List.{slice_split}
+use Rattle.std.proofs.lemmas.Bool.{eqb-true, eq-eqb}
 use Rattle.std.proofs.lemmas.List.{map_push}
 use Rattle.list_laws.proofs.Cases.{by_test}
 use Rattle.text_laws.specs.Blanks.{is_blank, unblanked}
 use Rattle.text_laws.specs.Words.{is_nil}
 use Rattle.text_laws.specs.LeadingRuns.{after_run}
-use Rattle.text_laws.specs.Cuts.{cut_at, before_cut}
+use Rattle.text_laws.specs.Cuts.{cut_at}
+use Rattle.text_laws.proofs.CutLaws.{cut_parts, uncut_without}
+use Rattle.text_laws.proofs.PieceLaws.{split_off, split_whole}
 use Rattle.log_sum.specs.LogStates.{with_pieces, with_equality, sides_read, and_then, later_unblanked, state_read, state_form, later_forms, separated, form_with}
 use Rattle.log_sum.specs.declared.errors.LogKind.{LogKind}
 use Rattle.log_sum.specs.declared.errors.Fault.{Fault}
@@ -18,32 +20,13 @@ use Rattle.log_sum.specs.SumViews.{IsLineFault}
 -- the pieces of a text, cut at its first semicolon
 pub pieces_cut : (sign : ℕ) (text : List ℕ) (parts : List ℕ × List ℕ) → cut_at sign text ≡ Some parts
     → slice_split (λ byte. byte == sign) text ≡ parts.0 ∷ slice_split (λ byte. byte == sign) parts.1
-unfolding cut_at
-pieces_cut sign [] parts h = absurd (cc)
-pieces_cut sign (byte ∷ text) parts h =
-    by_test (byte == sign)
-    (λ e. let k = rw e at h in let l : parts ≡ ([], text) = cc in rw (e, l) refl)
-    (λ e. let k = rw e at h in rw e (by_cut (pieces_cut sign text) (cut_at sign text) refl k))
-  where
-    by_cut : ((further : List ℕ × List ℕ) → cut_at sign text ≡ Some further → slice_split (λ x. x == sign) text ≡ further.0 ∷ slice_split (λ x. x == sign) further.1)
-        → (o : Option (List ℕ × List ℕ)) → cut_at sign text ≡ o → before_cut byte o ≡ Some parts → onto_first byte (slice_split (λ x. x == sign) text) ≡ parts.0 ∷ slice_split (λ x. x == sign) parts.1
-    by_cut law None f g = absurd (cc)
-    by_cut law (Some further) f g =
-        let l : parts ≡ (byte ∷ further.0, further.1) = cc in
-        rw l (ap (onto_first byte) (law further f))
+pieces_cut sign text parts h =
+    let cut = cut_parts sign text parts h in
+    ap (slice_split (λ byte. byte == sign)) cut.parts ∙ split_off (λ byte. byte == sign) parts.0 sign parts.1 (eq-eqb sign sign refl) cut.first
 
 -- a text without a sign is one piece
 pub pieces_whole : (sign : ℕ) (text : List ℕ) → cut_at sign text ≡ None → slice_split (λ byte. byte == sign) text ≡ text ∷ []
-unfolding cut_at
-pieces_whole sign [] h = refl
-pieces_whole sign (byte ∷ text) h =
-    by_test (byte == sign)
-    (λ e. let k = rw e at h in absurd (cc))
-    (λ e. let k = rw e at h in rw e (by_cut (pieces_whole sign text) (cut_at sign text) refl k))
-  where
-    by_cut : (cut_at sign text ≡ None → slice_split (λ x. x == sign) text ≡ text ∷ []) → (o : Option (List ℕ × List ℕ)) → cut_at sign text ≡ o → before_cut byte o ≡ None → onto_first byte (slice_split (λ x. x == sign) text) ≡ (byte ∷ text) ∷ []
-    by_cut law None f g = ap (onto_first byte) (law f)
-    by_cut law (Some further) f g = absurd (cc)
+pieces_whole sign text h = split_whole (λ byte. byte == sign) text (uncut_without sign text h)
 
 -- what is read from the rest of a text into a set
 abbrev pub rest_read : List (List ℕ) → List ℕ → Option (List (List ℕ))

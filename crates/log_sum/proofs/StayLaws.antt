@@ -1,51 +1,16 @@
 -- A fault stays the first fault, whatever follows.
-use Rattle.std.proofs.Common.{◌≡◌, ℕ, ◌+◌, List, [], ◌∷◌, ◌++◌, Some, None, true, false, length, refl, sym, ap, ◌∙◌, arith, append_assoc, length-append}
-use Rattle.std.specs.Prelude.{Option, Result, Ok, Err, nat_lt, ◌==◌}
-use Rattle.std.proofs.lemmas.Bool.{eqb-true}
+use Rattle.std.proofs.Common.{◌≡◌, ℕ, ◌+◌, List, [], ◌∷◌, ◌++◌, Some, None, true, length, refl, sym, ap, ◌∙◌, arith, append_assoc, length-append}
+use Rattle.std.specs.Prelude.{Option, Result, Ok, Err, nat_lt}
 use Rattle.std.proofs.lemmas.Bool.Decides.{nat_tests}
 use Rattle.list_laws.proofs.Cases.{by_test}
 use Rattle.log_sum.specs.declared.errors.LogError.{LogError}
 use Rattle.log_sum.specs.declared.errors.LogKind.TheVariants.{LineTooLong}
-use Rattle.text_laws.specs.Cuts.{cut_at, before_cut}
+use Rattle.text_laws.specs.Cuts.{cut_at}
+use Rattle.text_laws.proofs.CutLaws.{cut_parts, uncut_without}
 use Rattle.text_laws.specs.Lines.{whole_lines, unended}
 use Rattle.log_sum.specs.LogReading.{LogSeen, fault_at, is_too_long, nothing_seen, lines_judged, line_judged, rest_judged, bytes_judged, last_judged, end_judged, file_judged, files_judged, input_judged}
 use Rattle.text_laws.specs.ReadingSteps.{◌>>=◌}
-use Rattle.log_sum.proofs.ReadingLaws.{is_one_line, lines_cut, lines_both, lines_more, rest_more}
-
--- a text at its first line feed
-pub record Cut (text : List ℕ) (parts : List ℕ × List ℕ) : Type 0 where
-  pub whole : text ≡ parts.0 ++ 10 ∷ parts.1
-  pub one : is_one_line parts.0 ≡ true
-
--- a text that is cut at its first line feed is a line and what follows it
-pub cut_parts : (text : List ℕ) (parts : List ℕ × List ℕ) → cut_at 10 text ≡ Some parts → Cut text parts
-unfolding cut_at
-cut_parts [] parts h = cc
-cut_parts (byte ∷ text) parts h =
-    by_test (byte == 10)
-    (λ e. let f : ◌≡◌ {A = List ℕ × List ℕ} ([], text) parts = let k = rw e at h in cc in
-    let g : byte ≡ 10 = eqb-true byte 10 e in
-    rw (sym f) (record { whole = ap (λ b. b ∷ text) g; one = refl }))
-    (λ e. by_rest (cut_parts text) (cut_at 10 text) refl e parts (rw e at h))
-  where
-    by_rest : ((inner : List ℕ × List ℕ) → cut_at 10 text ≡ Some inner → Cut text inner) → (o : Option (List ℕ × List ℕ)) → cut_at 10 text ≡ o → (byte == 10) ≡ false
-        → (parts : List ℕ × List ℕ) → before_cut byte o ≡ Some parts → Cut (byte ∷ text) parts
-    by_rest law None k e parts h = cc
-    by_rest law (Some inner) k e parts h =
-        let further = law inner k in
-        let f : ◌≡◌ {A = List ℕ × List ℕ} (byte ∷ inner.0, inner.1) parts = cc in
-        rw (sym f) (record { whole = ap (λ t. byte ∷ t) further.whole; one = rw e further.one })
-
--- a text that isn't cut has no line feed
-pub cut_none : (text : List ℕ) → cut_at 10 text ≡ None → is_one_line text ≡ true
-unfolding cut_at
-cut_none [] h = refl
-cut_none (byte ∷ text) h =
-    by_test (byte == 10) (λ e. let k = rw e at h in absurd (cc)) (λ e. rw e (cut_none text (inner (cut_at 10 text) (rw e at h))))
-  where
-    inner : (o : Option (List ℕ × List ℕ)) → before_cut byte o ≡ None → o ≡ None
-    inner None h = refl
-    inner (Some parts) h = cc
+use Rattle.log_sum.proofs.ReadingLaws.{lines_cut, lines_both, lines_more, rest_more}
 
 -- bytes with more after them: the line that goes on is longer, or it has ended and others follow
 pub data Goes (bytes rest : List ℕ) : Type 0 where
@@ -57,13 +22,13 @@ pub goes : (bytes rest : List ℕ) → Goes bytes rest
 goes bytes rest = by_cut (cut_at 10 rest) refl
   where
     by_cut : (o : Option (List ℕ × List ℕ)) → cut_at 10 rest ≡ o → Goes bytes rest
-    by_cut None e = goes_on (lines_more bytes rest (cut_none rest e)) (rest_more bytes rest (cut_none rest e))
+    by_cut None e = goes_on (lines_more bytes rest (uncut_without 10 rest e)) (rest_more bytes rest (uncut_without 10 rest e))
     by_cut (Some parts) e =
-        let cut = cut_parts rest parts e in
+        let cut = cut_parts 10 rest parts e in
         has_ended parts.0 (whole_lines parts.1)
-        (ap (λ t. whole_lines (bytes ++ t)) cut.whole ∙ ap whole_lines (sym (append_assoc bytes parts.0 (10 ∷ parts.1))) ∙ lines_cut (bytes ++ parts.0) parts.1
-        ∙ ap (λ t. (t ++ unended (bytes ++ parts.0) ∷ []) ++ whole_lines parts.1) (lines_more bytes parts.0 cut.one)
-        ∙ ap (λ t. (whole_lines bytes ++ t ∷ []) ++ whole_lines parts.1) (rest_more bytes parts.0 cut.one)
+        (ap (λ t. whole_lines (bytes ++ t)) cut.parts ∙ ap whole_lines (sym (append_assoc bytes parts.0 (10 ∷ parts.1))) ∙ lines_cut (bytes ++ parts.0) parts.1
+        ∙ ap (λ t. (t ++ unended (bytes ++ parts.0) ∷ []) ++ whole_lines parts.1) (lines_more bytes parts.0 cut.first)
+        ∙ ap (λ t. (whole_lines bytes ++ t ∷ []) ++ whole_lines parts.1) (rest_more bytes parts.0 cut.first)
         ∙ append_assoc (whole_lines bytes) ((unended bytes ++ parts.0) ∷ []) (whole_lines parts.1))
 
 -- a line that is too long stays so

@@ -29,7 +29,7 @@ use Rattle.log_sum.specs.Facts.{Row, Fact, a_kind, a_row, a_condition, a_hash, k
 use Rattle.log_sum.specs.Summed.{Summed, StateSummed, some_or, state_by, summed}
 use Rattle.log_sum.specs.SummingSteps.{or_this, marked, with_marked, known_state, count_known, with_row, fact_to}
 use Rattle.log_sum.specs.Feeding.{Marked}
-use Rattle.text_laws.proofs.OrderLaws.{is_text, compare, Above, Ascends, above_all, fold_ascends, not_equal, any_fold}
+use Rattle.text_laws.proofs.OrderLaws.{is_text, compare, Above, Ascends, above_all, fold_ascends, not_equal, any_fold, bytes_same}
 
 -- the facts of a sort, with a fact more
 kinds_more : (facts : List Fact) (fact : Fact) → kinds (facts ++ fact ∷ []) ≡ kinds facts ++ kinds (fact ∷ [])
@@ -273,9 +273,6 @@ condition_to facts text verdict =
       any_more (verdicts facts) (says_validated verdict),
       all_more (verdicts facts) (says_validated verdict),
     ) refl
-
-bytes_same : (t : List ℕ) → bytes_eq t t ≡ true
-bytes_same t = (bytes_eq-Decides t t).1 refl
 
 -- the value of a state with a row more
 value_at : List Row → List ℕ → Mark × ℕ

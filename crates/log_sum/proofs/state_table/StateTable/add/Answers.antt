@@ -1,5 +1,5 @@
 -- `StateTable::add` adds a count to that of the state at an index, and changes nothing else.
-use Rattle.std.proofs.Common.{sym, ap, ◌∙◌, refl}
+use Rattle.std.proofs.Common.{sym, ap, ◌∙◌}
 use Rattle.log_sum.specs.declared.state_table.StateTable.{StateTable}
 use Rattle.log_sum.specs.StateEntries.{states_view}
 use Rattle.log_sum.proofs.EntryLaws.{written_again, order_written, view_added, nothing_at}
