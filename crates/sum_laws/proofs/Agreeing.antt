@@ -18,7 +18,7 @@ use Rattle.diy_io.specs.Count.{last_count}
 use Rattle.log_sum.specs.Facts.{Row, Fact, Entry, a_kind, a_row, a_condition, a_hash, kinds, rows, conditions, hashes, first_of, same_kind, same_state_mark, marked_sum, state_sum, mark_in, is_other, fault_if, fact_fault, facts_of}
 use Rattle.log_sum.specs.Summed.{some_or}
 use Rattle.sum_laws.proofs.Cases.{Kind, Mark, Verdict, allowed, plain, kind_cases, mark_cases}
-use Rattle.sum_laws.proofs.Texts.{bytes_same}
+use Rattle.text_laws.proofs.OrderLaws.{bytes_same}
 use Rattle.sum_laws.proofs.Blocks.{Clean}
 
 -- facts of a sort

@@ -17,12 +17,11 @@ use Rattle.log_sum.specs.Facts.{Row, Fact, a_kind, a_row, a_condition, a_hash, k
 use Rattle.log_sum.specs.Summed.{Summed, some_or, state_by, summed, validated_by, is_validated}
 use Rattle.log_sum.specs.SumText.{summed_text, head_text, sum_verdict_text, claim_text, condition_text, observation_text}
 use Rattle.sum_laws.proofs.Cases.{Kind, Mark, Verdict, allowed, plain, starred, kind_cases}
-use Rattle.sum_laws.proofs.Texts.{bytes_same}
 use Rattle.sum_laws.proofs.Lines.{said_as}
 use Rattle.sum_laws.proofs.Printed.{kind_of_test, IsCondition}
 use Rattle.sum_laws.proofs.Agreeing.{Profile, FitsTo, Agrees, kinds_both, rows_both, conditions_both, hashes_both, or_first, first_both, map_first, marked_both, state_both, mark_both, kind_fits, condition_fits, hash_fits}
 use Rattle.sum_laws.proofs.Sums.{state_facts, hash_facts, printed_facts, rows_of_printed, printed_conditions, line_of_hash_first, row_of_state, printed_rows, printed_state, printed_mark, printed_marked, Marks, mark_law, a_state_there, states_in, states_ascend}
-use Rattle.text_laws.proofs.OrderLaws.{Ascends}
+use Rattle.text_laws.proofs.OrderLaws.{Ascends, bytes_same}
 use Rattle.sum_laws.proofs.Orders.{fold_sorted}
 
 -- the facts of a test have a kind and a condition, as those of whole blocks do

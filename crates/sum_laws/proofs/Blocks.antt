@@ -14,7 +14,8 @@ use Rattle.log_sum.specs.LogReading.{LogSeen, is_too_long, next_line, fact_put, 
 use Rattle.text_laws.specs.ReadingSteps.{◌>>=◌}
 use Rattle.text_laws.specs.Lines.{is_line_feed, without_return, but_last, last_of, whole_lines, unended}
 use Rattle.sum_laws.proofs.Cases.{Place}
-use Rattle.sum_laws.proofs.Texts.{all_both, no_feed}
+use Rattle.sum_laws.proofs.Texts.{no_feed}
+use Rattle.text_laws.proofs.CutLaws.{all_both}
 use Rattle.text_laws.proofs.LineLaws.{class_kept}
 use Rattle.text_laws.proofs.PieceLaws.{first_piece, split_off}
 use Rattle.sum_laws.proofs.Lines.{digits_all}

@@ -9,24 +9,27 @@ use Rattle.std.specs.declared.cmp.Ordering.TheVariants.{Less, Equal, Greater}
 use Rattle.std.specs.Cmp.Lexicographic.{slice_cmp}
 use Rattle.std.specs.BTreeSet.{insert_key}
 use Rattle.std.specs.Str.{bytes_eq}
-use Rattle.std.proofs.lemmas.Bool.{and_parts, and_from, eqb-true, not-true}
+use Rattle.std.proofs.lemmas.Bool.{and_parts, and_from, not-true}
 use Rattle.std.proofs.lemmas.List.{take_at, take-append-drop}
 use Rattle.std.proofs.lemmas.Slice.Eq.{bytes_eq-Decides}
 use Rattle.text_laws.specs.Blanks.{is_blank, is_inked, before_blanks, unblanked}
 use Rattle.text_laws.specs.Words.{is_nil}
 use Rattle.text_laws.specs.LeadingRuns.{after_run}
 use Rattle.log_sum.specs.Texts.{begins_with}
-use Rattle.text_laws.specs.Cuts.{before_cut, cut_at}
+use Rattle.text_laws.specs.Cuts.{cut_at, CutParts}
 use Rattle.log_sum.specs.LogStates.{is_bracketed, left_kept, is_side, sides_read, has_left, with_equality, and_then, with_pieces, later_unblanked, state_read, later_forms, state_form, or_bad, form_read}
 use Rattle.text_laws.specs.Lines.{without_return}
 use Rattle.text_laws.proofs.PieceLaws.{split_off}
-use Rattle.sum_laws.proofs.Texts.{all_both, all_parts, all_and, all_after, bytes_same, no_feed, end_stays, ink_stays}
+use Rattle.sum_laws.proofs.Texts.{all_parts, all_and, no_feed}
+use Rattle.text_laws.proofs.CutLaws.{all_both, cut_back, cut_parts}
+use Rattle.text_laws.proofs.RunLaws.{after_class, after_halts}
+use Rattle.text_laws.proofs.BlankLaws.{end_stays, ink_stays}
 use Rattle.std.proofs.Math.Bool.{or-true}
 use Rattle.list_laws.proofs.Elements.{list_all-weaker, all_append}
 use Rattle.list_laws.proofs.Cases.{by_test}
 use Rattle.sum_laws.proofs.Blocks.{IsLine, append_line}
 use Rattle.sum_laws.proofs.Printed.{IsForm}
-use Rattle.text_laws.proofs.OrderLaws.{compare, Above, Ascends, insert_ascends}
+use Rattle.text_laws.proofs.OrderLaws.{compare, Above, Ascends, insert_ascends, bytes_same}
 use Rattle.sum_laws.proofs.Orders.{reversed_less}
 
 -- bytes of an equality, and of its left side
@@ -51,43 +54,6 @@ feeds_of text h = list_all-weaker is_part no_feed (λ b p. (and_parts (not (b ==
 inked_of : (text : List ℕ) → list_all is_part text ≡ true → list_all is_inked text ≡ true
 inked_of text h = list_all-weaker is_part is_inked (λ b p. (and_parts (is_inked b) (not (b == 59) && no_feed b) p).0) text h
 
--- cuts
-pub record Cut (sign : ℕ) (text left right : List ℕ) : Type 0 where
-  pub whole : text ≡ left ++ sign ∷ right
-  pub before : list_all (λ b. not (b == sign)) left ≡ true
-
-sign_is : (b sign : ℕ) → (b == sign) ≡ true → b ≡ sign
-sign_is b sign h = eqb-true b sign h
-
-cut_parts : (sign : ℕ) (text left right : List ℕ) → cut_at sign text ≡ Some (left, right) → Cut sign text left right
-unfolding cut_at
-cut_parts sign [] left right h = absurd (cc)
-cut_parts sign (b ∷ text) left right h =
-    by_test (b == sign)
-    (λ e. let k = rw e at h in
-    let pair : ◌≡◌ {A = List ℕ × List ℕ} ([], text) (left, right) = cc in
-    let l : left ≡ [] = ap (λ (x : List ℕ × List ℕ). x.0) (sym pair) in
-    let r : right ≡ text = ap (λ (x : List ℕ × List ℕ). x.1) (sym pair) in
-    let same : b ≡ sign = sign_is b sign e in
-    rw (l, r, same) (record { whole = refl; before = refl }))
-    (λ e. by_cut e (cut_at sign text) refl (λ l r f. cut_parts sign text l r f) (rw e at h))
-  where
-    by_cut : (b == sign) ≡ false → (o : Option (List ℕ × List ℕ)) → cut_at sign text ≡ o → ((l r : List ℕ) → cut_at sign text ≡ Some (l, r) → Cut sign text l r) → before_cut b o ≡ Some (left, right) → Cut sign (b ∷ text) left right
-    by_cut e None f law k = absurd (cc)
-    by_cut e (Some parts) f law k =
-        let pair : ◌≡◌ {A = List ℕ × List ℕ} (b ∷ parts.0, parts.1) (left, right) = cc in
-        let l : left ≡ b ∷ parts.0 = ap (λ (x : List ℕ × List ℕ). x.0) (sym pair) in
-        let r : right ≡ parts.1 = ap (λ (x : List ℕ × List ℕ). x.1) (sym pair) in
-        let further : Cut sign text parts.0 parts.1 = law parts.0 parts.1 f in
-        rw (l, r) (record { whole = ap (λ t. b ∷ t) further.whole; before = and_from (not (b == sign)) (list_all (λ c. not (c == sign)) parts.0) (rw e refl) further.before })
-
-cut_again : (sign : ℕ) (left right : List ℕ) → list_all (λ b. not (b == sign)) left ≡ true → (sign == sign) ≡ true → cut_at sign (left ++ sign ∷ right) ≡ Some (left, right)
-unfolding cut_at
-cut_again sign [] right h s = rw s refl
-cut_again sign (b ∷ left) right h s =
-    let k : (not (b == sign) ≡ true) × (list_all (λ c. not (c == sign)) left ≡ true) = and_parts (not (b == sign)) (list_all (λ c. not (c == sign)) left) h in
-    rw (not-true (b == sign) k.0, cut_again sign left right k.1 s) refl
-
 -- an equality as it is kept
 pub record IsEquality (e : List ℕ) : Type 0 where
   pub left : List ℕ
@@ -109,7 +75,7 @@ pub head_of : List ℕ → List ℕ
 head_of e = prefix_of (cut_at 61 e)
 
 cut_is : (e : List ℕ) (i : IsEquality e) → cut_at 61 e ≡ Some (i.left, i.value)
-cut_is e i = ap (cut_at 61) i.is ∙ cut_again 61 i.left i.value i.one_sign refl
+cut_is e i = ap (cut_at 61) i.is ∙ cut_back 61 i.left i.value i.one_sign
 
 head_is : (e : List ℕ) (i : IsEquality e) → head_of e ≡ i.left ++ 61 ∷ []
 unfolding head_of
@@ -136,7 +102,7 @@ same_head x y i j h =
     let at_y : begins_with y (i.left ++ 61 ∷ []) ≡ true = ap (begins_with y) (sym (head_is x i)) ∙ h in
     let rest : List ℕ = drop (length (i.left ++ 61 ∷ [])) y in
     let whole : y ≡ i.left ++ 61 ∷ rest = begins_so y (i.left ++ 61 ∷ []) at_y ∙ append_assoc i.left (61 ∷ []) rest in
-    let cut : cut_at 61 y ≡ Some (i.left, rest) = ap (cut_at 61) whole ∙ cut_again 61 i.left rest i.one_sign refl in
+    let cut : cut_at 61 y ≡ Some (i.left, rest) = ap (cut_at 61) whole ∙ cut_back 61 i.left rest i.one_sign in
     let both : ◌≡◌ {A = Option (List ℕ × List ℕ)} (Some (i.left, rest)) (Some (j.left, j.value)) = sym cut ∙ cut_is y j in
     let left : i.left ≡ j.left = left_same (i.left, rest) (j.left, j.value) both in
     let form : x ≡ (j.left ++ 61 ∷ []) ++ i.value = i.is ∙ ap (λ t. t ++ 61 ∷ i.value) left ∙ sym (append_assoc j.left (61 ∷ []) i.value) in
@@ -209,12 +175,12 @@ side_from : (text : List ℕ) → is_nil text ≡ false → list_all is_inked te
 side_from text h k = and_from (not (is_nil text)) (list_all is_inked text) (rw h refl) k
 
 -- an equality that was read is as it is kept
-equality_from : (piece left value : List ℕ) → Cut 61 piece left value → is_side left ≡ true → is_side value ≡ true → list_all no_semi piece ≡ true → list_all no_feed piece ≡ true → IsEquality ((left_kept left ++ 61 ∷ []) ++ value)
+equality_from : (piece left value : List ℕ) → CutParts 61 piece left value → is_side left ≡ true → is_side value ≡ true → list_all no_semi piece ≡ true → list_all no_feed piece ≡ true → IsEquality ((left_kept left ++ 61 ∷ []) ++ value)
 equality_from piece left value c l v semi feed =
     let lp = side_parts left l in
     let vp = side_parts value v in
-    let semis = all_parts no_semi left (61 ∷ value) (ap (list_all no_semi) (sym c.whole) ∙ semi) in
-    let feeds = all_parts no_feed left (61 ∷ value) (ap (list_all no_feed) (sym c.whole) ∙ feed) in
+    let semis = all_parts no_semi left (61 ∷ value) (ap (list_all no_semi) (sym c.parts) ∙ semi) in
+    let feeds = all_parts no_feed left (61 ∷ value) (ap (list_all no_feed) (sym c.parts) ∙ feed) in
     let left_part : list_all is_part left ≡ true = part_of left lp.1 semis.0 feeds.0 in
     let kept_part : list_all is_part (left_kept left) ≡ true = kept_all is_part left refl refl left_part in
     record {
@@ -225,7 +191,7 @@ equality_from piece left value c l v semi feed =
       value_side = v;
       left_part = kept_part;
       value_part = part_of value vp.1 semis.1 feeds.1;
-      one_sign = kept_all no_sign left refl refl c.before;
+      one_sign = kept_all no_sign left refl refl c.first;
       kept = kept_twice left;
     }
 
@@ -234,7 +200,7 @@ abbrev PutsInto : List (List ℕ) → Option (List (List ℕ)) → Type 0
 PutsInto state None = Unit {0}
 PutsInto state (Some more) = IsState more
 
-sides_put : (state : List (List ℕ)) (piece left value : List ℕ) → IsState state → Cut 61 piece left value → list_all no_semi piece ≡ true → list_all no_feed piece ≡ true
+sides_put : (state : List (List ℕ)) (piece left value : List ℕ) → IsState state → CutParts 61 piece left value → list_all no_semi piece ≡ true → list_all no_feed piece ≡ true
     → PutsInto state (with_equality state (cond {A = Option (List ℕ × List ℕ)} (is_side left && is_side value) (Some (left, value)) None))
 unfolding equality_from
 sides_put state piece left value s c semi feed =
@@ -248,7 +214,7 @@ sides_put state piece left value s c semi feed =
 
 piece_put : (state : List (List ℕ)) (piece : List ℕ) (o : Option (List ℕ × List ℕ)) → cut_at 61 piece ≡ o → IsState state → list_all no_semi piece ≡ true → list_all no_feed piece ≡ true → PutsInto state (with_equality state (sides_read o))
 piece_put state piece None e s semi feed = tt
-piece_put state piece (Some sides) e s semi feed = sides_put state piece sides.0 sides.1 s (cut_parts 61 piece sides.0 sides.1 e) semi feed
+piece_put state piece (Some sides) e s semi feed = sides_put state piece sides.0 sides.1 s (cut_parts 61 piece sides e) semi feed
 
 any_base : (one two : List (List ℕ)) (o : Option (List (List ℕ))) → PutsInto one o → PutsInto two o
 any_base one two None p = tt
@@ -272,9 +238,8 @@ equality_semis : (x : List ℕ) → IsEquality x → list_all no_semi x ≡ true
 equality_semis x i = ap (list_all no_semi) i.is ∙ all_both no_semi i.left (61 ∷ i.value) (semis_of i.left i.left_part) (semis_of i.value i.value_part)
 
 first_stays : (left rest : List ℕ) → is_nil left ≡ false → list_all is_inked left ≡ true → unblanked (left ++ rest) ≡ left ++ rest
-unfolding after_run
 first_stays [] rest h k = absurd (cc)
-first_stays (b ∷ left) rest h k = let n : is_blank b ≡ false = not-true (is_blank b) (and_parts (is_inked b) (list_all is_inked left) k).0 in rw n refl
+first_stays (b ∷ left) rest h k = after_halts is_blank b (left ++ rest) (not-true (is_blank b) (and_parts (is_inked b) (list_all is_inked left) k).0)
 
 equality_first : (x : List ℕ) → IsEquality x → unblanked (32 ∷ x) ≡ x
 unfolding after_run
@@ -415,7 +380,7 @@ all_unblanked : (p : ℕ → Bool) (pieces : List (List ℕ)) → list_all (list
 all_unblanked p [] h = refl
 all_unblanked p (piece ∷ pieces) h =
     let k = and_parts (list_all p piece) (list_all (list_all p) pieces) h in
-    and_from (list_all p (unblanked piece)) (list_all (list_all p) (map unblanked pieces)) (all_after p is_blank piece k.0) (all_unblanked p pieces k.1)
+    and_from (list_all p (unblanked piece)) (list_all (list_all p) (map unblanked pieces)) (after_class p is_blank piece k.0) (all_unblanked p pieces k.1)
 
 all_later : (p : ℕ → Bool) (pieces : List (List ℕ)) → list_all (list_all p) pieces ≡ true → list_all (list_all p) (later_unblanked pieces) ≡ true
 all_later p [] h = refl

@@ -15,7 +15,8 @@ use Rattle.log_sum.specs.SumText.{summed_text, sum_text}
 use Rattle.log_sum.specs.Representing.{logs_text}
 use Rattle.sum_laws.specs.Laws.{KeepsSumLimits, NoFault, IsSum, Represent, none, a_log, a_sum, SumsAreLogs, SumOfSums}
 use Rattle.sum_laws.proofs.Cases.{Mark, outside, is_outside, starred, plain}
-use Rattle.sum_laws.proofs.Texts.{bytes_same, is_word}
+use Rattle.sum_laws.proofs.Texts.{is_word}
+use Rattle.text_laws.proofs.OrderLaws.{bytes_same}
 use Rattle.sum_laws.proofs.Lines.{line_of_hash}
 use Rattle.sum_laws.proofs.Blocks.{seen_at, Clean, clean_parts, return_prefix}
 use Rattle.sum_laws.proofs.Printed.{IsForm, IsHashed, AreForms, Printable, given, file_goes}

@@ -14,7 +14,7 @@ use Rattle.list_laws.proofs.Elements.{list_all-weaker}
 use Rattle.list_laws.proofs.Cases.{by_test}
 use Rattle.text_laws.specs.Blanks.{is_blank, is_inked, before_blanks, kept_before, unblanked, trim_blanks}
 use Rattle.text_laws.specs.Words.{is_nil, words}
-use Rattle.text_laws.specs.LeadingRuns.{leading_run, after_run}
+use Rattle.text_laws.specs.LeadingRuns.{after_run}
 use Rattle.log_sum.specs.Texts.{later_words, joined_words, ends_with, begins_with}
 use Rattle.diy_io.specs.Count.{last_count}
 use Rattle.log_sum.specs.Counts.{count_read, count_of_digits}
@@ -23,8 +23,11 @@ use Rattle.log_sum.specs.Facts.{row_with}
 use Rattle.log_sum.specs.LogLines.{passed_over, begins, counts, a_state, judged, conditioned, hashed, ends, test_line, histogram_line, log_row, row_marked, mark_read, condition_line, verdict_cut, hash_line, quantifier, log_line_said, place_after, states_left}
 use Rattle.log_sum.specs.SumText.{sum_kind_word, mark_sign, filling, verdict_word, verdict_end}
 use Rattle.sum_laws.proofs.Cases.{Kind, Mark, Verdict, validated, not_validated, starred, plain, outside, histogram, judgement, in_rest, conditioned_at, kind_cases, mark_cases}
-use Rattle.sum_laws.proofs.Texts.{is_plain, is_word, word_is, words_both, one_word, end_stays, ink_stays, ends_so, before_so, joined_both}
+use Rattle.sum_laws.proofs.Texts.{is_plain, is_word, word_is, ends_so, before_so, joined_both}
+use Rattle.text_laws.proofs.BlankLaws.{end_stays, ink_stays, unblanked_spaces}
 use Rattle.text_laws.proofs.PieceLaws.{first_piece}
+use Rattle.text_laws.proofs.RunLaws.{after_halts, stops, whole_run}
+use Rattle.text_laws.proofs.WordLaws.{words_both, one_word}
 
 -- counts
 below : (n : ℕ) → n ≤ last_count → n < 2 ^ 64
@@ -49,37 +52,6 @@ some_bytes (b ∷ text) h = refl
 pub decimal_some : (n : ℕ) → n ≤ last_count → is_nil (decimal n) ≡ false
 decimal_some n h = some_bytes (decimal n) (decimal_nonempty n (below n h))
 
--- a text begins with no byte that passes
-pub record Stops (p : ℕ → Bool) (text : List ℕ) : Type 0 where
-  pub run : leading_run p text ≡ []
-  pub after : after_run p text ≡ text
-
--- a run ends where the text begins with no byte that passes
-pub run_prefix : (p : ℕ → Bool) (prefix text : List ℕ) → list_all p prefix ≡ true → Stops p text → leading_run p (prefix ++ text) ≡ prefix
-unfolding leading_run
-run_prefix p [] text h s = s.run
-run_prefix p (b ∷ prefix) text h s =
-    let k : (p b ≡ true) × (list_all p prefix ≡ true) = and_parts (p b) (list_all p prefix) h in
-    rw k.0 (ap (λ t. b ∷ t) (run_prefix p prefix text k.1 s))
-
--- the text after that run
-pub after_prefix : (p : ℕ → Bool) (prefix text : List ℕ) → list_all p prefix ≡ true → Stops p text → after_run p (prefix ++ text) ≡ text
-unfolding after_run
-after_prefix p [] text h s = s.after
-after_prefix p (b ∷ prefix) text h s =
-    let k : (p b ≡ true) × (list_all p prefix ≡ true) = and_parts (p b) (list_all p prefix) h in
-    rw k.0 (after_prefix p prefix text k.1 s)
-
--- an empty text begins with no byte that passes
-pub stops_nil : (p : ℕ → Bool) → Stops p []
-unfolding leading_run after_run
-stops_nil p = record { run = refl; after = refl }
-
--- a text whose first byte doesn't pass
-pub stops_at : (p : ℕ → Bool) (b : ℕ) (text : List ℕ) → p b ≡ false → Stops p (b ∷ text)
-unfolding leading_run after_run
-stops_at p b text h = record { run = rw h refl; after = rw h refl }
-
 counted_digits : (digits rest : List ℕ) (n : ℕ) → is_nil digits ≡ false → digits_value 10 digits ≡ n → nat_le n last_count ≡ true → count_of_digits digits rest ≡ Ok (n, rest)
 counted_digits [] rest n h e s = cc
 counted_digits (b ∷ digits) rest n h e s = rw (e, s) refl
@@ -88,15 +60,16 @@ small_so : (n : ℕ) → n ≤ last_count → nat_le n last_count ≡ true
 small_so n h = grind (arith, nat_tests)
 
 -- a printed count is read back, with the text after it
-pub count_is : (n : ℕ) (rest : List ℕ) → n ≤ last_count → Stops is_ascii_digit rest → count_read (decimal n ++ rest) ≡ Ok (n, rest)
+pub count_is : (n : ℕ) (rest : List ℕ) → n ≤ last_count → stops is_ascii_digit rest ≡ true → count_read (decimal n ++ rest) ≡ Ok (n, rest)
 unfolding count_read
 count_is n rest h s =
-    rw (run_prefix is_ascii_digit (decimal n) rest (digits_all n h) s, after_prefix is_ascii_digit (decimal n) rest (digits_all n h) s)
+    let r = whole_run is_ascii_digit (decimal n) rest (digits_all n h) s in
+    rw (r.run, r.after)
     (counted_digits (decimal n) rest n (decimal_some n h) (digits_value-decimal digits_model n (below n h)) (small_so n h))
 
 -- a printed count alone is read back
 pub count_alone : (n : ℕ) → n ≤ last_count → count_read (decimal n) ≡ Ok (n, [])
-count_alone n h = ap count_read (sym (append-nil (decimal n))) ∙ count_is n [] h (stops_nil is_ascii_digit)
+count_alone n h = ap count_read (sym (append-nil (decimal n))) ∙ count_is n [] h refl
 
 -- the line that begins a block
 abbrev pub head_line : List ℕ → Kind → List ℕ
@@ -181,30 +154,23 @@ unfolding log_line_said place_after
 number_said kind n h = rw (number_words n h, number_read n h) refl
 
 -- a state
-blanks_off : (n : ℕ) (text : List ℕ) → unblanked (replicate n 32 ++ text) ≡ unblanked text
-unfolding after_run
-blanks_off zero text = refl
-blanks_off (suc n) text = blanks_off n text
-
 sign_first : (mark : Mark) (form : List ℕ) → unblanked (mark_sign mark ++ form) ≡ mark_sign mark ++ form
 unfolding after_run
 sign_first mark form = mark_cases (λ m. unblanked (mark_sign m ++ form) ≡ mark_sign m ++ form) refl refl mark
 
-sign_stops : (mark : Mark) (form : List ℕ) → Stops is_ascii_digit (mark_sign mark ++ form)
-sign_stops mark form =
-    mark_cases (λ m. Stops is_ascii_digit (mark_sign m ++ form)) (stops_at is_ascii_digit 42 (62 ∷ form) refl) (stops_at is_ascii_digit 58 (62 ∷ form) refl) mark
+sign_stops : (mark : Mark) (form : List ℕ) → stops is_ascii_digit (mark_sign mark ++ form) ≡ true
+sign_stops mark form = mark_cases (λ m. stops is_ascii_digit (mark_sign m ++ form) ≡ true) refl refl mark
 
-filled_stops : (n : ℕ) (mark : Mark) (form : List ℕ) → Stops is_ascii_digit (replicate n 32 ++ (mark_sign mark ++ form))
+filled_stops : (n : ℕ) (mark : Mark) (form : List ℕ) → stops is_ascii_digit (replicate n 32 ++ (mark_sign mark ++ form)) ≡ true
 filled_stops zero mark form = sign_stops mark form
-filled_stops (suc n) mark form = stops_at is_ascii_digit 32 (replicate n 32 ++ (mark_sign mark ++ form)) refl
+filled_stops (suc n) mark form = refl
 
 first_digit : (digits rest : List ℕ) → list_all is_plain digits ≡ true → is_nil digits ≡ false → unblanked (digits ++ rest) ≡ digits ++ rest
-unfolding after_run
 first_digit [] rest h some = cc
 first_digit (b ∷ digits) rest h some =
     let k : (is_plain b ≡ true) × (list_all is_plain digits ≡ true) = and_parts (is_plain b) (list_all is_plain digits) h in
     let n : is_blank b ≡ false = not-true (is_blank b) (and_parts (is_inked b) (not (b == 10)) k.0).0 in
-    rw n refl
+    after_halts is_blank b (digits ++ rest) n
 
 line_end_stays : (prefix : List ℕ) (mark : Mark) (form : List ℕ) → before_blanks form ≡ form → before_blanks (prefix ++ (mark_sign mark ++ form)) ≡ prefix ++ (mark_sign mark ++ form)
 line_end_stays prefix mark form h =
@@ -223,7 +189,7 @@ counted_trimmed n mark form h e =
 row_is : (n : ℕ) (mark : Mark) (form : List ℕ) → n ≤ last_count → before_blanks form ≡ form → form_read form ≡ Ok form → log_row (counted_line n mark form) ≡ Ok (row_with form mark n)
 unfolding log_row
 row_is n mark form h e f =
-    rw (counted_trimmed n mark form h e, count_is n (filling (decimal n) ++ (mark_sign mark ++ form)) h (filled_stops (6 - length (decimal n)) mark form), blanks_off (6 - length (decimal n)) (mark_sign mark ++ form), sign_first mark form)
+    rw (counted_trimmed n mark form h e, count_is n (filling (decimal n) ++ (mark_sign mark ++ form)) h (filled_stops (6 - length (decimal n)) mark form), unblanked_spaces (6 - length (decimal n)) (mark_sign mark ++ form), sign_first mark form)
     (mark_cases (λ m. row_marked n (mark_read (mark_sign m ++ form)) ≡ Ok (row_with form m n)) (rw f refl) (rw f refl) mark)
 
 -- the line of a state is read back

@@ -12,7 +12,7 @@ use Rattle.list_laws.proofs.Cases.{by_test, eq_swap}
 use Rattle.list_laws.proofs.Elements.{all_append}
 use Rattle.log_sum.specs.Facts.{Entry, a_condition, facts_of, with_test_name, tests_of}
 use Rattle.log_sum.specs.Summed.{Summed, StateSummed, some_or, is_validated}
-use Rattle.sum_laws.proofs.Texts.{bytes_same}
+use Rattle.text_laws.proofs.OrderLaws.{bytes_same}
 use Rattle.sum_laws.proofs.Lines.{said_as}
 use Rattle.sum_laws.proofs.Blocks.{entry}
 use Rattle.sum_laws.proofs.Printed.{state_entries, hash_entries, given}

@@ -10,17 +10,11 @@ use Rattle.std.specs.BTreeSet.{insert_key}
 use Rattle.std.specs.Str.{bytes_eq}
 use Rattle.std.proofs.lemmas.Slice.Eq.{bytes_eq-Decides}
 use Rattle.list_laws.proofs.Cases.{by_test}
-use Rattle.sum_laws.proofs.Texts.{bytes_same}
-use Rattle.text_laws.proofs.OrderLaws.{order, is_text, compare, Above, Ascends, above_all, reversed, fold_ascends, not_equal, any_fold}
+use Rattle.text_laws.proofs.OrderLaws.{order, is_text, compare, Above, Ascends, above_all, reversed, fold_ascends, none_above, any_fold, bytes_same}
 
 -- a text below another: the other is above it
 pub reversed_less : (k x : List ℕ) → compare k x ≡ Less → compare x k ≡ Greater
 reversed_less k x h = order.antisymm x k ∙ ap ordering_reverse h
-
--- a text below all of these isn't among them
-pub above_not_in : (k : List ℕ) (xs : List (List ℕ)) → Above k xs → list_any (bytes_eq k) xs ≡ false
-above_not_in k [] a = refl
-above_not_in k (x ∷ xs) a = rw (not_equal k x Less a.0 refl) (above_not_in k xs a.1)
 
 -- two lists in byte order with the same texts are the same
 abbrev SameIn : List (List ℕ) → List (List ℕ) → Type 0
@@ -31,13 +25,13 @@ here x xs = rw (bytes_same x) refl
 
 not_below : (x y : List ℕ) (xs ys : List (List ℕ)) → compare x y ≡ Less → Above y ys → list_any (bytes_eq x) (x ∷ xs) ≡ list_any (bytes_eq x) (y ∷ ys) → ⊥
 not_below x y xs ys h a e =
-    let k : true ≡ false = sym (here x xs) ∙ e ∙ above_not_in x (y ∷ ys) (h, above_all x y ys h a) in cc
+    let k : true ≡ false = sym (here x xs) ∙ e ∙ none_above x (y ∷ ys) (h, above_all x y ys h a) in cc
 
 same_tails : (x : List ℕ) (xs ys : List (List ℕ)) → Above x xs → Above x ys → SameIn (x ∷ xs) (x ∷ ys) → SameIn xs ys
 same_tails x xs ys a b h k =
     by_test (bytes_eq k x)
     (λ e. let same : x ≡ k = sym ((bytes_eq-Decides k x).0 e) in
-    subst (λ (y : List ℕ). list_any (bytes_eq y) xs ≡ list_any (bytes_eq y) ys) same (above_not_in x xs a ∙ sym (above_not_in x ys b)))
+    subst (λ (y : List ℕ). list_any (bytes_eq y) xs ≡ list_any (bytes_eq y) ys) same (none_above x xs a ∙ sym (none_above x ys b)))
     (λ e. rw e at (h k))
 
 pub same_in : (xs ys : List (List ℕ)) → Ascends xs → Ascends ys → SameIn xs ys → xs ≡ ys
@@ -71,4 +65,4 @@ Distinct (x ∷ xs) = (list_any (bytes_eq x) xs ≡ false) × Distinct xs
 -- texts in byte order, each once, are all different
 pub ascends_distinct : (xs : List (List ℕ)) → Ascends xs → Distinct xs
 ascends_distinct [] a = tt
-ascends_distinct (x ∷ xs) a = (above_not_in x xs a.0, ascends_distinct xs a.1)
+ascends_distinct (x ∷ xs) a = (none_above x xs a.0, ascends_distinct xs a.1)

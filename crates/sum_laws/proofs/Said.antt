@@ -20,7 +20,10 @@ use Rattle.log_sum.specs.LogStates.{form_read}
 use Rattle.log_sum.specs.Facts.{Row}
 use Rattle.log_sum.specs.LogLines.{Said, passed_over, begins, counts, a_state, judged, conditioned, hashed, ends, kind_named, test_named, test_line, outside_said, histogram_line, counts_said, mark_before, mark_written, mark_read, row_of, row_marked, row_counted, log_row, row_said, is_judgement, verdict_cut, condition_line, quantifier, hash_line, is_observation, hash_said, condition_said, no_test, rest_said, log_line_said, place_after, kind_at}
 use Rattle.sum_laws.proofs.Cases.{Kind, Mark, Verdict, Place, validated, not_validated, outside, histogram, judgement, in_rest, conditioned_at, IsStates, is_ok, is_outside, outside_is, kind_cases, place_cases}
-use Rattle.sum_laws.proofs.Texts.{no_feed, is_word, words_plain, words_both, joined_is, joined_both, joined_no_feed, all_take, all_drop, all_after, all_trimmed, before_twice}
+use Rattle.sum_laws.proofs.Texts.{no_feed, is_word, words_plain, joined_is, joined_both, joined_no_feed, all_take, all_drop}
+use Rattle.text_laws.proofs.WordLaws.{words_both}
+use Rattle.text_laws.proofs.RunLaws.{after_class}
+use Rattle.text_laws.proofs.BlankLaws.{trimmed_class, before_twice}
 use Rattle.sum_laws.proofs.Lines.{line_of_hash}
 use Rattle.sum_laws.proofs.Printed.{IsForm, IsCondition}
 use Rattle.sum_laws.proofs.Forms.{form_is, begins_so}
@@ -80,7 +83,7 @@ digits_rest (d ∷ digits) rest counted e =
 counted_rest : (text : List ℕ) (counted : ℕ × List ℕ) → list_all no_feed text ≡ true → count_read text ≡ Ok counted → list_all no_feed counted.1 ≡ true
 unfolding count_read
 counted_rest text counted h e =
-    ap (list_all no_feed) (digits_rest (leading_run is_ascii_digit text) (after_run is_ascii_digit text) counted e) ∙ all_after no_feed is_ascii_digit text h
+    ap (list_all no_feed) (digits_rest (leading_run is_ascii_digit text) (after_run is_ascii_digit text) counted e) ∙ after_class no_feed is_ascii_digit text h
 
 marked_rest : (text : List ℕ) (marked : Mark × List ℕ) → list_all no_feed text ≡ true → mark_read text ≡ Some marked → list_all no_feed marked.1 ≡ true
 marked_rest [] marked h e = absurd (cc)
@@ -109,12 +112,12 @@ row_form text row h e = by_count (count_read (trim_blanks text)) refl e
     by_mark : (count : ℕ) (rest : List ℕ) (o : Option (Mark × List ℕ)) → list_all no_feed rest ≡ true → mark_read (unblanked rest) ≡ o → row_marked count o ≡ Ok row → IsForm row.state
     by_mark count rest None n f g = absurd (cc)
     by_mark count rest (Some marked) n f g =
-        by_form count marked.0 marked.1 (form_read marked.1) (marked_rest (unblanked rest) marked (all_after no_feed is_blank rest n) f) refl g
+        by_form count marked.0 marked.1 (form_read marked.1) (marked_rest (unblanked rest) marked (after_class no_feed is_blank rest n) f) refl g
 
     by_count : (r : Result (ℕ × List ℕ) LogKind) → count_read (trim_blanks text) ≡ r → row_counted r ≡ Ok row → IsForm row.state
     by_count (Err kind) f g = absurd (cc)
     by_count (Ok counted) f g =
-        by_mark counted.0 counted.1 (mark_read (unblanked counted.1)) (counted_rest (trim_blanks text) counted (all_trimmed no_feed text h) f) refl g
+        by_mark counted.0 counted.1 (mark_read (unblanked counted.1)) (counted_rest (trim_blanks text) counted (trimmed_class no_feed text h) f) refl g
 
 -- a condition
 ended : (text tail : List ℕ) → ends_with text tail ≡ true → text ≡ before_end text tail ++ tail
@@ -185,7 +188,7 @@ hash_from text hash h e =
     let whole : trim_blanks text ≡ line_of_hash (drop 5 (trim_blanks text)) = begins_so (trim_blanks text) (codes "Hash=") t in
     subst IsRead same (record {
       trimmed = ap before_blanks (sym whole) ∙ before_twice (unblanked text) ∙ whole;
-      one = all_drop no_feed 5 (trim_blanks text) (all_trimmed no_feed text h);
+      one = all_drop no_feed 5 (trim_blanks text) (trimmed_class no_feed text h);
     }))
     (λ t. let k = rw t at e in absurd (cc))
 

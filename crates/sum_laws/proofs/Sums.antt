@@ -4,16 +4,16 @@ use Rattle.std.specs.Prelude.{Bool, cond, Option, map}
 use Rattle.std.specs.List.{list_any, AllByRecursion}
 use Rattle.std.specs.Str.{bytes_eq}
 use Rattle.std.proofs.lemmas.Bool.{or_right}
+use Rattle.std.proofs.lemmas.Simd.{map-map}
 use Rattle.list_laws.proofs.Cases.{by_test, eq_swap}
 use Rattle.log_sum.specs.Facts.{Row, Fact, a_kind, a_row, a_condition, a_hash, row_with, rows, conditions, hashes, first_of, same_state_mark, marked_sum, state_sum, states_of, mark_in, facts_of}
 use Rattle.log_sum.specs.Summed.{Summed, StateSummed, some_or, state_by, is_validated}
 use Rattle.sum_laws.proofs.Cases.{Mark, plain}
-use Rattle.sum_laws.proofs.Texts.{bytes_same}
 use Rattle.sum_laws.proofs.Lines.{said_as}
 use Rattle.sum_laws.proofs.Blocks.{entry}
 use Rattle.sum_laws.proofs.Printed.{kind_of_test, state_entries, hash_entries, given}
 use Rattle.sum_laws.proofs.Agreeing.{rows_both, conditions_both, hashes_both, or_first, marked_both, state_both, mark_both, marked_one, state_one, mark_one, marked_none, fact_here, fact_elsewhere, facts_both, bytes_is}
-use Rattle.text_laws.proofs.OrderLaws.{Ascends, fold_ascends, any_fold}
+use Rattle.text_laws.proofs.OrderLaws.{Ascends, fold_ascends, any_fold, bytes_same}
 use Rattle.sum_laws.proofs.Orders.{Distinct, ascends_distinct}
 
 -- the facts of the states of a printed test
@@ -215,12 +215,8 @@ a_state_there x (r ∷ rs) h =
 abbrev pub printed_rows : List Row → List Row
 printed_rows rs = map row_of_state (map (state_by rs) (states_of rs))
 
-map_twice : {A B C : Type 0} (f : B → C) (g : A → B) (xs : List A) → map f (map g xs) ≡ map (λ x. f (g x)) xs
-map_twice f g [] = refl
-map_twice f g (x ∷ xs) = ap (λ t. f (g x) ∷ t) (map_twice f g xs)
-
 as_rows : (rs : List Row) → printed_rows rs ≡ rows_by (λ s. some_or plain (mark_in s rs)) (λ s. state_sum s rs) (states_of rs)
-as_rows rs = map_twice row_of_state (state_by rs) (states_of rs)
+as_rows rs = map-map row_of_state (state_by rs) (states_of rs)
 
 -- the printed rows have the same sum of each state
 pub printed_state : (x : List ℕ) (rs : List Row) → state_sum x (printed_rows rs) ≡ state_sum x rs

@@ -3,26 +3,17 @@ use Rattle.std.proofs.Common.{◌≡◌, ◌==◌, ℕ, zero, suc, ◌-◌, List
 use Rattle.std.specs.Prelude.{Bool, not, ◌&&◌}
 use Rattle.std.specs.List.{slice_split, onto_first, filter, list_all}
 use Rattle.std.proofs.lemmas.List.{drop_at, take_at}
-use Rattle.std.proofs.lemmas.List.Elements.{filter-append}
 use Rattle.std.proofs.lemmas.List.Folds.{list_all-append}
 use Rattle.std.proofs.lemmas.Bool.{and_parts, and_from, not-true}
 use Rattle.std.specs.Str.{bytes_eq}
-use Rattle.std.proofs.lemmas.Slice.Eq.{bytes_eq-Decides}
 use Rattle.list_laws.proofs.Elements.{list_all-weaker}
 use Rattle.list_laws.proofs.Cases.{by_test}
-use Rattle.text_laws.specs.Blanks.{is_blank, is_inked, before_blanks, kept_before, unblanked, trim_blanks}
+use Rattle.text_laws.specs.Blanks.{is_blank, is_inked}
 use Rattle.text_laws.specs.Words.{is_nil, words}
-use Rattle.text_laws.specs.LeadingRuns.{after_run}
 use Rattle.log_sum.specs.Texts.{later_words, joined_words, ends_with, before_end}
-use Rattle.text_laws.proofs.PieceLaws.{split_both, split_whole}
-
--- a text is equal to itself
-pub bytes_same : (t : List ℕ) → bytes_eq t t ≡ true
-bytes_same t = (bytes_eq-Decides t t).1 refl
-
--- what holds of all elements of two lists holds of all elements of both together
-pub all_both : {A : Type 0} (p : A → Bool) (xs ys : List A) → list_all p xs ≡ true → list_all p ys ≡ true → list_all p (xs ++ ys) ≡ true
-all_both p xs ys h k = list_all-append p xs ys ∙ and_from (list_all p xs) (list_all p ys) h k
+use Rattle.text_laws.proofs.CutLaws.{all_both}
+use Rattle.text_laws.proofs.OrderLaws.{bytes_same}
+use Rattle.text_laws.proofs.WordLaws.{words_both, one_word}
 
 -- what holds of all elements of two lists together holds of all elements of each
 pub all_parts : {A : Type 0} (p : A → Bool) (xs ys : List A) → list_all p (xs ++ ys) ≡ true → (list_all p xs ≡ true) × (list_all p ys ≡ true)
@@ -49,77 +40,6 @@ pub all_drop : {A : Type 0} (p : A → Bool) (n : ℕ) (xs : List A) → list_al
 all_drop p zero xs h = h
 all_drop p (suc n) [] h = refl
 all_drop p (suc n) (x ∷ xs) h = all_drop p n xs (and_parts (p x) (list_all p xs) h).1
-
--- what holds of all bytes holds of those after a run
-pub all_after : (p q : ℕ → Bool) (text : List ℕ) → list_all p text ≡ true → list_all p (after_run q text) ≡ true
-unfolding after_run
-all_after p q [] h = refl
-all_after p q (b ∷ text) h =
-    by_test (q b) (λ e. rw e (all_after p q text (and_parts (p b) (list_all p text) h).1)) (λ e. rw e h)
-
-all_kept : (p : ℕ → Bool) (b : ℕ) (text : List ℕ) → p b ≡ true → list_all p text ≡ true → list_all p (kept_before b text) ≡ true
-all_kept p b [] h k = by_test (is_blank b) (λ e. rw e refl) (λ e. rw e (and_from (p b) true h refl))
-all_kept p b (c ∷ text) h k = and_from (p b) (list_all p (c ∷ text)) h k
-
--- what holds of all bytes holds of those before the last blanks
-pub all_before : (p : ℕ → Bool) (text : List ℕ) → list_all p text ≡ true → list_all p (before_blanks text) ≡ true
-unfolding before_blanks
-all_before p [] h = refl
-all_before p (b ∷ text) h =
-    let k : (p b ≡ true) × (list_all p text ≡ true) = and_parts (p b) (list_all p text) h in
-    all_kept p b (before_blanks text) k.0 (all_before p text k.1)
-
--- what holds of all bytes holds of those between the blanks at both ends
-pub all_trimmed : (p : ℕ → Bool) (text : List ℕ) → list_all p text ≡ true → list_all p (trim_blanks text) ≡ true
-all_trimmed p text h = all_before p (unblanked text) (all_after p is_blank text h)
-
--- blanks at the end
-kept_twice : (b : ℕ) (text : List ℕ) → before_blanks text ≡ text → before_blanks (kept_before b text) ≡ kept_before b text
-unfolding before_blanks
-kept_twice b [] h = by_test (is_blank b) (λ e. rw e refl) (λ e. rw e (rw e refl))
-kept_twice b (c ∷ text) h = ap (kept_before b) h
-
--- the blanks at the end are left out once and for all
-pub before_twice : (text : List ℕ) → before_blanks (before_blanks text) ≡ before_blanks text
-unfolding before_blanks
-before_twice [] = refl
-before_twice (b ∷ text) = kept_twice b (before_blanks text) (before_twice text)
-
--- a text that has no blank at its end keeps the text before it
-kept_whole : (b c : ℕ) (text : List ℕ) → kept_before b (c ∷ text) ≡ b ∷ c ∷ text
-kept_whole b c text = refl
-
-one_more : (c b : ℕ) (text : List ℕ) → before_blanks (b ∷ text) ≡ b ∷ text → before_blanks (c ∷ b ∷ text) ≡ c ∷ b ∷ text
-unfolding before_blanks
-one_more c b text h = ap (kept_before c) h
-
--- a text whose later part has no blank at its end stays as it is
-pub end_stays : (prefix : List ℕ) (b : ℕ) (text : List ℕ) → before_blanks (b ∷ text) ≡ b ∷ text → before_blanks (prefix ++ b ∷ text) ≡ prefix ++ b ∷ text
-end_stays [] b text h = h
-end_stays (c ∷ []) b text h = one_more c b text h
-end_stays (c ∷ d ∷ prefix) b text h = one_more c d (prefix ++ b ∷ text) (end_stays (d ∷ prefix) b text h)
-
--- a byte that isn't a blank stays before a text that stays
-pub ink_stays : (b : ℕ) (text : List ℕ) → is_blank b ≡ false → before_blanks text ≡ text → before_blanks (b ∷ text) ≡ b ∷ text
-unfolding before_blanks
-ink_stays b [] h e = rw h refl
-ink_stays b (c ∷ text) h e = ap (kept_before b) e
-
--- words
-some_words : List (List ℕ) → List (List ℕ)
-some_words pieces = filter (λ word. not (is_nil word)) pieces
-
--- the words of two texts with a blank between them are those of both
-pub words_both : (prefix text : List ℕ) → words (prefix ++ 32 ∷ text) ≡ words prefix ++ words text
-unfolding words
-words_both prefix text =
-    ap (filter (λ word. not (is_nil word))) (split_both is_blank prefix 32 text refl)
-    ∙ filter-append (λ word. not (is_nil word)) (slice_split is_blank prefix) (slice_split is_blank text)
-
--- a text without blanks that isn't empty is one word
-pub one_word : (word : List ℕ) → list_all is_inked word ≡ true → is_nil word ≡ false → words word ≡ word ∷ []
-unfolding words
-one_word word h some = ap (filter (λ w. not (is_nil w))) (split_whole is_blank word h) ∙ rw some refl
 
 -- a byte that is in a word
 abbrev pub is_plain : ℕ → Bool

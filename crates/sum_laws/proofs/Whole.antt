@@ -21,7 +21,8 @@ use Rattle.log_sum.specs.LogReading.{LogSeen, nothing_seen, is_too_long, next_li
 use Rattle.text_laws.specs.ReadingSteps.{◌>>=◌}
 use Rattle.text_laws.specs.Lines.{without_return, but_last, last_of, whole_lines, unended}
 use Rattle.sum_laws.proofs.Cases.{Kind, Verdict, Place, outside, histogram, in_rest, conditioned_at, is_outside}
-use Rattle.sum_laws.proofs.Texts.{no_feed, is_word, bytes_same}
+use Rattle.sum_laws.proofs.Texts.{no_feed, is_word}
+use Rattle.text_laws.proofs.OrderLaws.{bytes_same}
 use Rattle.sum_laws.proofs.Blocks.{seen_at, entry}
 use Rattle.sum_laws.proofs.Printed.{IsForm, IsCondition}
 use Rattle.sum_laws.proofs.Forms.{split_lacks}
