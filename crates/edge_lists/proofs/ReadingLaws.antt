@@ -1,11 +1,10 @@
 -- How a text is read word by word.
-use Rattle.std.proofs.Common.{◌≡◌, ℕ, ◌+◌, ◌-◌, ◌<◌, ◌≤◌, Bool, true, false, cond, nat_lt, not, List, [], ◌∷◌, length, take, drop, Option, Some, None, refl, sym, ap, ◌∙◌, arith, subst, length-drop}
+use Rattle.std.proofs.Common.{◌≡◌, ℕ, ◌+◌, ◌<◌, ◌≤◌, Bool, true, false, cond, nat_lt, not, List, [], ◌∷◌, length, take, drop, Option, Some, None, refl, sym, ap, ◌∙◌, arith, subst, length-drop}
 use Rattle.std.specs.List.{position, position_or_len, prefix_len, slice_split, onto_first}
 use Rattle.std.specs.Option.{option_map}
 use Rattle.std.proofs.lemmas.List.Splits.{slice_split_first}
 use Rattle.std.proofs.lemmas.List.Quantifiers.{position-Some}
 use Rattle.std.proofs.lemmas.Bool.Decides.{nat_tests}
-use Rattle.std.proofs.lemmas.Grind.{common_steps}
 use Rattle.relax_edges.specs.declared.edge.Edge.{Edge}
 use Rattle.relax_edges.specs.Spelling.{edge_of}
 use Rattle.relax_edges.specs.ReadEdges.{before_edges}
@@ -108,7 +107,3 @@ pub reading_ends : (s : Separators) (old list : EdgeList) (end : Option EdgeList
     slice_split (separates s) rest ≡ rest ∷ [] → end ≡ spelled list (rest ∷ []) →
     end ≡ spelled old (slice_split (separates s) text)
 reading_ends s old list end text rest kept alone h = h ∙ ap (spelled list) (sym alone) ∙ kept
-
--- the text after a place is all the rest
-pub all_after : (text : List ℕ) (i : ℕ) → take (length text - (i + 1)) (drop (i + 1) text) ≡ drop (i + 1) text
-all_after text i = grind (arith, common_steps)
