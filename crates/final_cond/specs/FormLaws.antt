@@ -1,12 +1,11 @@
 -- Laws of the forms of the left sides of terms.
-use Rattle.std.proofs.Common.{◌≡◌, ℕ, ◌<◌, List, arith}
+use Rattle.std.proofs.Common.{◌≡◌, ℕ, ◌<◌, List}
 use Rattle.std.specs.Prelude.{true, nat_lt}
-use Rattle.std.specs.Char.{is_ascii_alphabetic, is_ascii_alphanumeric}
+use Rattle.std.specs.Char.{is_ascii_alphanumeric}
 use Rattle.std.specs.List.{list_all}
 use Rattle.std.proofs.lemmas.Bool.{and_parts, ltb-true}
-use Rattle.std.proofs.lemmas.Bool.Decides.{nat_tests}
-use Rattle.text_laws.specs.Names.{is_place_byte, begins_place, is_register_name}
-use Rattle.text_laws.proofs.NameLaws.{place_shaped, register_shaped, shaped_all}
+use Rattle.text_laws.specs.Names.{is_place_byte, is_register_name}
+use Rattle.text_laws.proofs.NameLaws.{place_name_bytes, register_name_bytes}
 use Rattle.final_cond.specs.Conditions.{InRegister, AtPlace}
 use Rattle.final_cond.specs.ConditionReading.{has_form}
 
@@ -21,9 +20,9 @@ named thread name h =
     let p : (nat_lt thread 64 ≡ true) × (is_register_name name ≡ true) = and_parts (nat_lt thread 64) (is_register_name name) h in
     record {
       few = ltb-true thread 64 p.0;
-      bytes = shaped_all is_ascii_alphabetic is_ascii_alphanumeric is_ascii_alphanumeric (λ byte l. grind (arith, nat_tests)) (λ byte l. l) name (register_shaped name p.1);
+      bytes = register_name_bytes name p.1;
     }
 
 -- each byte of a name of a place's form is one that such names may have
 pub place_bytes : (name : List ℕ) → has_form (AtPlace name) ≡ true → list_all is_place_byte name ≡ true
-place_bytes name h = shaped_all begins_place is_place_byte is_place_byte (λ byte l. grind (arith, nat_tests)) (λ byte l. l) name (place_shaped name h)
+place_bytes name h = place_name_bytes name h
