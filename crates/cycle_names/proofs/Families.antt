@@ -1,6 +1,8 @@
 -- The table of families: no rotation of one is another, each has two links or more and at most six edges, and no name begins another.
-use Rattle.std.specs.Prelude.{◌≡◌, ◌<◌, ◌≤◌, ◌==◌, ◌&&◌, ◌||◌, ℕ, Bool, true, false, not, Some, None, List, [], ◌∷◌, ◌++◌, length, filter, nat_le, slice_get}
+use Rattle.std.specs.Prelude.{◌≡◌, ◌<◌, ◌≤◌, ◌==◌, ◌&&◌, ◌||◌, ℕ, Bool, true, false, not, Some, None, List, [], ◌∷◌, ◌++◌, length, map, filter, nat_le, slice_get}
 use Rattle.std.specs.List.{list_any, list_all}
+use Rattle.std.specs.Cmp.{booleans_Decides}
+use Rattle.std.proofs.Math.Bool.{beq}
 use Rattle.std.proofs.Common.{refl, sym, ◌∙◌, ap, subst, arith, inl, inr}
 use Rattle.std.proofs.lemmas.Bool.{eqb-true, eq-eqb, leb-true, and_parts, or_cases}
 use Rattle.std.proofs.lemmas.List.{length-map}
@@ -8,6 +10,8 @@ use Rattle.relax_edges.specs.declared.edge.Edge.{Edge}
 use Rattle.relax_edges.specs.EdgeTable.{is_diff}
 use Rattle.relax_edges.specs.Order.{rank_of}
 use Rattle.relax_edges.specs.Relaxations.{is_same}
+use Rattle.relax_edges.specs.AllEdges.{edges_in_order}
+use Rattle.cycle_laws.proofs.RankLaws.{each_edge}
 use Rattle.cycle_laws.specs.Rotation.{IsRotation, rotated}
 use Rattle.cycle_laws.proofs.Rotating.{rotation_back, rotation_on, rotation_length, place_of_rotation, rotation_of_place}
 use Rattle.cycle_names.specs.declared.family.Family.{Family}
@@ -15,10 +19,10 @@ use Rattle.cycle_names.specs.declared.family.Family.TheVariants as families
 use Rattle.cycle_names.specs.Families.{family_edges, family_word, all_families}
 use Rattle.cycle_names.specs.LinkWords.{edge_of_slot, outline}
 use Rattle.cycle_names.specs.Rotations.{rotations, fits_family, is_of_family, found_family}
-use Rattle.cycle_names.specs.Fitting.{edges_counted}
+use Rattle.cycle_names.specs.Fitting.{edges_counted, slot_digit}
 use Rattle.text_laws.specs.Names.{is_name_byte}
 use Rattle.cycle_names.specs.NameReading.{named_family}
-use Rattle.cycle_names.proofs.Members.{Member, all_of_member, any_of_member, member_of_any, member_upto, upto_member, find_none, find_only, found_passes, map_rotated}
+use Rattle.cycle_names.proofs.Members.{Member, member_at, member_either, all_of_member, any_of_member, member_of_any, member_upto, upto_member, find_none, find_only, found_passes, map_rotated}
 use Rattle.cycle_names.proofs.Tables.{slot_is_diff, slot_is_external}
 use Rattle.cycle_names.proofs.Marks.{is_either}
 use Rattle.cycle_names.proofs.Outlines.{edges_are_same, outline_of_fits}
@@ -68,21 +72,7 @@ family_same f g e = cc (family_placed f, family_placed g, ap (slice_get every_fa
 
 -- each family is a member of the list of all
 families_all : (f : Family) → Member f every_family
-families_all families.SB = inl refl
-families_all families.MP = inr (inl refl)
-families_all families.LB = inr (inr (inl refl))
-families_all families.R = inr (inr (inr (inl refl)))
-families_all families.S = inr (inr (inr (inr (inl refl))))
-families_all families.W2 = inr (inr (inr (inr (inr (inl refl)))))
-families_all families.WRC = inr (inr (inr (inr (inr (inr (inl refl))))))
-families_all families.RWC = inr (inr (inr (inr (inr (inr (inr (inl refl)))))))
-families_all families.ISA2 = inr (inr (inr (inr (inr (inr (inr (inr (inl refl))))))))
-families_all families.IRIW = inr (inr (inr (inr (inr (inr (inr (inr (inr (inl refl)))))))))
-families_all families.WRWC = inr (inr (inr (inr (inr (inr (inr (inr (inr (inr (inl refl))))))))))
-families_all families.SB3 = inr (inr (inr (inr (inr (inr (inr (inr (inr (inr (inr (inl refl)))))))))))
-families_all families.LB3 = inr (inr (inr (inr (inr (inr (inr (inr (inr (inr (inr (inr (inl refl))))))))))))
-families_all families.W3 = inr (inr (inr (inr (inr (inr (inr (inr (inr (inr (inr (inr (inr (inl refl)))))))))))))
-families_all families.Other = inr (inr (inr (inr (inr (inr (inr (inr (inr (inr (inr (inr (inr (inr (inl refl))))))))))))))
+families_all f = member_at every_family (family_place f) f (family_placed f)
 
 -- a test that all families pass, each family passes
 each_family : (test : Family → Bool) → list_all test every_family ≡ true → (f : Family) → test f ≡ true
@@ -90,21 +80,11 @@ each_family test all f = all_of_member test every_family all f (families_all f)
 
 -- each but the last is a member of the table
 pub listed : (f : Family) → (f ≡ families.Other → ⊥) → Member f all_families
-listed families.SB n = inl refl
-listed families.MP n = inr (inl refl)
-listed families.LB n = inr (inr (inl refl))
-listed families.R n = inr (inr (inr (inl refl)))
-listed families.S n = inr (inr (inr (inr (inl refl))))
-listed families.W2 n = inr (inr (inr (inr (inr (inl refl)))))
-listed families.WRC n = inr (inr (inr (inr (inr (inr (inl refl))))))
-listed families.RWC n = inr (inr (inr (inr (inr (inr (inr (inl refl)))))))
-listed families.ISA2 n = inr (inr (inr (inr (inr (inr (inr (inr (inl refl))))))))
-listed families.IRIW n = inr (inr (inr (inr (inr (inr (inr (inr (inr (inl refl)))))))))
-listed families.WRWC n = inr (inr (inr (inr (inr (inr (inr (inr (inr (inr (inl refl))))))))))
-listed families.SB3 n = inr (inr (inr (inr (inr (inr (inr (inr (inr (inr (inr (inl refl)))))))))))
-listed families.LB3 n = inr (inr (inr (inr (inr (inr (inr (inr (inr (inr (inr (inr (inl refl))))))))))))
-listed families.W3 n = inr (inr (inr (inr (inr (inr (inr (inr (inr (inr (inr (inr (inr (inl refl)))))))))))))
-listed families.Other n = absurd (n refl)
+listed f n =
+    elim (member_either f all_families (families.Other ∷ []) (families_all f)) [
+      | inl m ↦ m
+      | inr last ↦ elim last [ inl e ↦ absurd (n e) | inr none ↦ absurd none ]
+    ]
 
 -- no rotation of the cycle of one family is the cycle of another
 apart : Family → Family → Bool
@@ -215,7 +195,7 @@ fits_either f v h =
 
 -- a family's cycle has two links or more
 has_links : Family → Bool
-has_links f = (family_place f == 14) || nat_le 2 (length (filter is_diff (family_edges f)))
+has_links f = (family_place f == family_place families.Other) || nat_le 2 (length (filter is_diff (family_edges f)))
 
 all_have_links : list_all has_links every_family ≡ true
 unfolding has_links family_place
@@ -223,15 +203,12 @@ all_have_links = refl
 
 -- each family's cycle but that of `Other` has at least two links
 pub family_links : (f : Family) → (f ≡ families.Other → ⊥) → 2 ≤ length (filter is_diff (family_edges f))
-unfolding has_links family_place
+unfolding has_links
 family_links f n =
-    elim (or_cases (family_place f == 14) (nat_le 2 (length (filter is_diff (family_edges f)))) (each_family has_links all_have_links f)) [
-      | inl e ↦ absurd (n (family_same f families.Other (eqb-true (family_place f) 14 e ∙ last)))
+    elim (or_cases (family_place f == family_place families.Other) (nat_le 2 (length (filter is_diff (family_edges f)))) (each_family has_links all_have_links f)) [
+      | inl e ↦ absurd (n (family_same f families.Other (eqb-true (family_place f) (family_place families.Other) e)))
       | inr l ↦ leb-true 2 (length (filter is_diff (family_edges f))) l
     ]
-  where
-    last : 14 ≡ family_place families.Other
-    last = refl
 
 -- the family's word has at most five bytes, all of them bytes of names
 is_word : Family → Bool
@@ -256,41 +233,23 @@ pub family_word_bytes : (f : Family) → list_all is_name_byte (family_word f) �
 unfolding is_word
 family_word_bytes f = (and_parts _ _ (and_parts _ _ (each_family is_word all_words f)).1).1
 
--- the name of a family is read as that family, alone or with `+` after it
-pub word_alone : (f : Family) → (f ≡ families.Other → ⊥) → named_family all_families (family_word f ++ []) ≡ Some f
-word_alone families.SB n = refl
-word_alone families.MP n = refl
-word_alone families.LB n = refl
-word_alone families.R n = refl
-word_alone families.S n = refl
-word_alone families.W2 n = refl
-word_alone families.WRC n = refl
-word_alone families.RWC n = refl
-word_alone families.ISA2 n = refl
-word_alone families.IRIW n = refl
-word_alone families.WRWC n = refl
-word_alone families.SB3 n = refl
-word_alone families.LB3 n = refl
-word_alone families.W3 n = refl
-word_alone families.Other n = absurd (n refl)
-
--- the name of a family followed by `+` is read as that family
-pub word_before : (f : Family) (text : List ℕ) → (f ≡ families.Other → ⊥) → named_family all_families (family_word f ++ 43 ∷ text) ≡ Some f
-word_before families.SB text n = refl
-word_before families.MP text n = refl
-word_before families.LB text n = refl
-word_before families.R text n = refl
-word_before families.S text n = refl
-word_before families.W2 text n = refl
-word_before families.WRC text n = refl
-word_before families.RWC text n = refl
-word_before families.ISA2 text n = refl
-word_before families.IRIW text n = refl
-word_before families.WRWC text n = refl
-word_before families.SB3 text n = refl
-word_before families.LB3 text n = refl
-word_before families.W3 text n = refl
-word_before families.Other text n = absurd (n refl)
+-- the name of a family is read as that family, alone and with `+` and a text after it
+pub words_named : (f : Family) (text : List ℕ) → (f ≡ families.Other → ⊥) → (named_family all_families (family_word f ++ []) ≡ Some f) × (named_family all_families (family_word f ++ 43 ∷ text) ≡ Some f)
+words_named families.SB text n = (refl, refl)
+words_named families.MP text n = (refl, refl)
+words_named families.LB text n = (refl, refl)
+words_named families.R text n = (refl, refl)
+words_named families.S text n = (refl, refl)
+words_named families.W2 text n = (refl, refl)
+words_named families.WRC text n = (refl, refl)
+words_named families.RWC text n = (refl, refl)
+words_named families.ISA2 text n = (refl, refl)
+words_named families.IRIW text n = (refl, refl)
+words_named families.WRWC text n = (refl, refl)
+words_named families.SB3 text n = (refl, refl)
+words_named families.LB3 text n = (refl, refl)
+words_named families.W3 text n = (refl, refl)
+words_named families.Other text n = absurd (n refl)
 
 -- no two families have as many links and external edges of each communication
 counts_apart : Family → Family → Bool
@@ -311,3 +270,51 @@ counts_differ f g e =
     one_of true c t a = refl
     one_of false true t a = cc
     one_of false false t a = cc
+
+-- the digits of the edges of a family's cycle say what edges join
+digit_tells : Edge → Edge → Bool
+digit_tells slot e = beq (rank_of (edge_of_slot e) == rank_of slot) (slot_digit e == slot_digit slot)
+
+digits_tell : Edge → Bool
+digits_tell slot = list_all (digit_tells slot) edges_in_order
+
+all_digits_tell : list_all (λ f. list_all digits_tell (family_edges f)) every_family ≡ true
+unfolding digits_tell digit_tells rank_of edges_in_order
+all_digits_tell = refl
+
+family_digits : (f : Family) → list_all digits_tell (family_edges f) ≡ true
+family_digits = each_family (λ f. list_all digits_tell (family_edges f)) all_digits_tell
+
+digit_told : (slot e : Edge) → digits_tell slot ≡ true → (rank_of (edge_of_slot e) == rank_of slot) ≡ (slot_digit e == slot_digit slot)
+unfolding digits_tell digit_tells
+digit_told slot e t = (booleans_Decides _ _).0 (each_edge (digit_tells slot) t e)
+
+digits_said : (v slots : List Edge) → list_all digits_tell slots ≡ true → is_same (outline v) slots ≡ true → map slot_digit v ≡ map slot_digit slots
+digits_said [] [] t h = refl
+digits_said [] (s ∷ slots) t h = cc
+digits_said (e ∷ v) [] t h = cc
+digits_said (e ∷ v) (s ∷ slots) t h =
+    let all = and_parts (digits_tell s) (list_all digits_tell slots) t in
+    let both = and_parts (rank_of (edge_of_slot e) == rank_of s) (is_same (outline v) slots) h in
+    let one : slot_digit e ≡ slot_digit s = eqb-true _ _ (sym (digit_told s e all.0) ∙ both.0) in
+    let rest : map slot_digit v ≡ map slot_digit slots = digits_said v slots all.1 both.1 in
+    rw (one, rest) refl
+
+said_digits : (v slots : List Edge) → list_all digits_tell slots ≡ true → map slot_digit v ≡ map slot_digit slots → is_same (outline v) slots ≡ true
+said_digits [] [] t h = refl
+said_digits [] (s ∷ slots) t h = cc
+said_digits (e ∷ v) [] t h = cc
+said_digits (e ∷ v) (s ∷ slots) t h =
+    let all = and_parts (digits_tell s) (list_all digits_tell slots) t in
+    let one : slot_digit e ≡ slot_digit s = cc in
+    let rest : map slot_digit v ≡ map slot_digit slots = cc in
+    let here : (rank_of (edge_of_slot e) == rank_of s) ≡ true = digit_told s e all.0 ∙ eq-eqb _ _ one in
+    ap (λ b. b && is_same (outline v) slots) here ∙ said_digits v slots all.1 rest
+
+-- edges join what those of a family's cycle do exactly where their digits are the same
+pub joins_by_digits : (f : Family) (v : List Edge) → is_same (outline v) (family_edges f) ≡ true → map slot_digit v ≡ map slot_digit (family_edges f)
+joins_by_digits f v h = digits_said v (family_edges f) (family_digits f) h
+
+-- and back
+pub digits_join : (f : Family) (v : List Edge) → map slot_digit v ≡ map slot_digit (family_edges f) → is_same (outline v) (family_edges f) ≡ true
+digits_join f v h = said_digits v (family_edges f) (family_digits f) h

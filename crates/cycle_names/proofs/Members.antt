@@ -1,5 +1,5 @@
 -- Members of lists, those that pass a test, and the one before which none comes.
-use Rattle.std.specs.Prelude.{◌≡◌, ◌<◌, ◌⊎◌, ℕ, zero, suc, Bool, true, false, Some, None, List, [], ◌∷◌, ◌++◌, map, filter, take, drop}
+use Rattle.std.specs.Prelude.{◌≡◌, ◌<◌, ◌⊎◌, ℕ, zero, suc, Bool, true, false, Some, None, List, [], ◌∷◌, ◌++◌, map, filter, take, drop, slice_get}
 use Rattle.std.specs.List.{find, list_any, list_all}
 use Rattle.std.proofs.Common.{refl, sym, ◌∙◌, ap, inl, inr, arith}
 use Rattle.std.proofs.lemmas.Bool.{and_parts, cond-true, cond-false}
@@ -58,6 +58,12 @@ module _ {A : Type 0} where
   pub any_none : (p : A → Bool) (xs : List A) → ((x : A) → Member x xs → p x ≡ true → ⊥) → list_any p xs ≡ false
   any_none p xs none =
       by_test (list_any p xs) (λ t. let r = member_of_any p xs t in absurd (none r.member r.among r.passes)) (λ f. f)
+
+  -- what a list has at a place is a member
+  pub member_at : (xs : List A) (i : ℕ) (x : A) → slice_get xs i ≡ Some x → Member x xs
+  member_at [] i x h = cc
+  member_at (y ∷ ys) zero x h = inl (sym (same_Some y x h))
+  member_at (y ∷ ys) (suc i) x h = inr (member_at ys i x h)
 
   -- what all elements pass, each member passes
   pub all_of_member : (p : A → Bool) (xs : List A) → list_all p xs ≡ true → (x : A) → Member x xs → p x ≡ true

@@ -22,11 +22,11 @@ use Rattle.cycle_names.specs.Rotations.{is_plain_outside, rotations, fits_family
 use Rattle.cycle_names.specs.Fitting.{edge_count, edges_counted, family_of_counts, digits_number, slot_digit, slots_number, word_place, words_number, joins_at, JoinsNone, JoinsLeast, IsNamedAt}
 use Rattle.cycle_names.proofs.Members.{find_none, find_only, filter_among, filter_passes, filter_member, member_upto, upto_member, map_rotated}
 use Rattle.cycle_names.proofs.Plain.{plain_rotated}
-use Rattle.cycle_names.proofs.Tables.{edge_counts, no_digit, slot_digit_small, word_place_small, joins_by_digits, digits_join}
+use Rattle.cycle_names.proofs.Tables.{edge_counts, no_digit, slot_digit_small, word_place_small}
 use Rattle.cycle_names.proofs.Marks.{is_either}
 use Rattle.cycle_names.proofs.Outlines.{plain_of_fits}
 use Rattle.cycle_names.proofs.Numbers.{rotated_length, number_same, number_order, number_below, number_turned}
-use Rattle.cycle_names.proofs.Families.{Fitting, fitting, fits_either, family_found, is_of_fitting, listed, never_other, counts_differ}
+use Rattle.cycle_names.proofs.Families.{Fitting, fitting, fits_either, family_found, is_of_fitting, listed, never_other, counts_differ, joins_by_digits, digits_join}
 use Rattle.cycle_names.proofs.Chosen.{first_by_words, named_in_family}
 
 -- of a cycle that is plain between external edges, a rotation fits where it joins the same
@@ -131,14 +131,18 @@ joins_by_number u f k l e =
 number_of_joins : (u : List Edge) (f : Family) (k : ℕ) → joins_at u f k ≡ true → slots_number (rotated k u) ≡ slots_number (family_edges f)
 number_of_joins u f k t = ap (digits_number 8) (joins_by_digits f (rotated k u) t)
 
+-- more than any number of the words of six edges: the highest of 64 bits
+abbrev no_words : ℕ
+no_words = 18446744073709551615
+
 -- of the rotations that join the same from the places from k on, the one from the place kept has the lowest number of words; there is none
 -- where none is kept
 pub record BestFrom (u : List Edge) (f : Family) (k words : ℕ) (place : Option ℕ) : Type 0 where
   pub least : (j : ℕ) → k ≤ j → j < length u → joins_at u f j ≡ true → words ≤ words_number (rotated j u)
-  pub kept : MatchOption place (words ≡ 18446744073709551615) (λ p. (p < length u) × (joins_at u f p ≡ true) × (words ≡ words_number (rotated p u)))
+  pub kept : MatchOption place (words ≡ no_words) (λ p. (p < length u) × (joins_at u f p ≡ true) × (words ≡ words_number (rotated p u)))
 
 -- at first no place is passed
-pub best_first : (u : List Edge) (f : Family) → BestFrom u f (length u) 18446744073709551615 None
+pub best_first : (u : List Edge) (f : Family) → BestFrom u f (length u) no_words None
 best_first u f = record { least = λ j h l t. absurd (omega (arith, h, l)); kept = refl }
 
 -- the step to a place: it is one of the list, the numbers are those of the rotation from it, and the best is that of the places passed before

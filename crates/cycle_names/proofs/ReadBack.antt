@@ -30,7 +30,7 @@ use Rattle.cycle_names.specs.NameReading.{is_plus, is_dash, named_family, link_w
 use Rattle.cycle_names.proofs.Tables.{slot_is_diff, link_back, link_word_whole, word_whole}
 use Rattle.cycle_names.proofs.Marks.{said_of, said_link, said_slot, both_there}
 use Rattle.cycle_names.proofs.Outlines.{outline_of_fits, words_of_link, words_of_plain}
-use Rattle.cycle_names.proofs.Families.{never_other, found_is_of, family_links, word_alone, word_before}
+use Rattle.cycle_names.proofs.Families.{never_other, found_is_of, family_links, words_named}
 use Rattle.cycle_names.proofs.Chosen.{fit_back, named_fits, named_rotates}
 
 -- a word up to a byte that doesn't occur in it, with which what follows it begins, if anything does
@@ -163,8 +163,8 @@ links_start words =
 family_named : (f : Family) (text : List ℕ) → (f ≡ families.Other → ⊥) → StartsPlus text → named_family all_families (family_word f ++ text) ≡ Some f
 family_named f text n s =
     elim s [
-      | ends_here e ↦ ap (λ t. named_family all_families (family_word f ++ t)) e ∙ word_alone f n
-      | goes_on rest e ↦ ap (λ t. named_family all_families (family_word f ++ t)) e ∙ word_before f rest n
+      | ends_here e ↦ ap (λ t. named_family all_families (family_word f ++ t)) e ∙ (words_named f [] n).0
+      | goes_on rest e ↦ ap (λ t. named_family all_families (family_word f ++ t)) e ∙ (words_named f rest n).1
     ]
 
 -- as many words as there are links among the slots

@@ -1,5 +1,5 @@
 -- Facts about all edges, each computed once over the list of all.
-use Rattle.std.specs.Prelude.{◌≡◌, ◌≤◌, ◌<◌, ◌+◌, ◌==◌, ◌||◌, ◌&&◌, ℕ, Bool, true, false, not, Option, Some, None, List, [], ◌∷◌, ◌++◌, length, map, nat_le, nat_lt}
+use Rattle.std.specs.Prelude.{◌≡◌, ◌≤◌, ◌<◌, ◌+◌, ◌==◌, ◌||◌, ℕ, Bool, true, false, not, Option, Some, None, List, [], ◌++◌, length, nat_le, nat_lt}
 use Rattle.std.specs.Ordering.{nat_cmp, ordering_index}
 use Rattle.std.specs.Cmp.{booleans_Decides}
 use Rattle.std.specs.Cmp.Lexicographic.{slice_cmp}
@@ -7,7 +7,7 @@ use Rattle.std.specs.List.{list_all}
 use Rattle.std.specs.Str.{bytes_eq}
 use Rattle.std.proofs.Common.{refl, sym, ◌∙◌, ap, arith, length-append}
 use Rattle.std.proofs.Math.Bool.{beq}
-use Rattle.std.proofs.lemmas.Bool.{eqb-true, eq-eqb, leb-true, ltb-true, and_parts, not-true}
+use Rattle.std.proofs.lemmas.Bool.{eqb-true, eq-eqb, leb-true, ltb-true, not-true}
 use Rattle.std.proofs.lemmas.List.{append-nil}
 use Rattle.relax_edges.specs.declared.kinds.Sd.TheVariants.{Same, Diff}
 use Rattle.relax_edges.specs.declared.kinds.Kind.{Kind}
@@ -15,14 +15,10 @@ use Rattle.relax_edges.specs.declared.kinds.Kind.TheVariants as kinds
 use Rattle.relax_edges.specs.declared.edge.Edge.{Edge}
 use Rattle.relax_edges.specs.EdgeTable.{kind_of, source_of, target_of, source_mark, target_mark, is_external, is_diff, unmarked}
 use Rattle.relax_edges.specs.Order.{rank_of}
-use Rattle.relax_edges.specs.Relaxations.{is_same}
 use Rattle.relax_edges.specs.WordParts.{word_of}
 use Rattle.relax_edges.specs.AllEdges.{edges_in_order}
 use Rattle.cycle_laws.proofs.RankLaws.{each_edge, rank_injective}
-use Rattle.cycle_names.specs.declared.family.Family.{Family}
-use Rattle.cycle_names.specs.declared.family.Family.TheVariants as families
-use Rattle.cycle_names.specs.Families.{family_edges}
-use Rattle.cycle_names.specs.LinkWords.{edge_of_slot, outline, fence_link, dependency_link, mark_letters, kind_link_text, link_word}
+use Rattle.cycle_names.specs.LinkWords.{edge_of_slot, fence_link, dependency_link, mark_letters, kind_link_text, link_word}
 use Rattle.cycle_names.specs.Fitting.{slot_digit, edge_count, word_place}
 use Rattle.text_laws.specs.Names.{is_name_byte}
 use Rattle.cycle_names.specs.NameReading.{is_plus, is_dash, link_between, link_with}
@@ -116,65 +112,6 @@ slot_digit_small = each_below slot_digit 8 refl
 pub word_place_small : (e : Edge) → word_place e < 256
 unfolding edges_in_order
 word_place_small = each_below word_place 256 refl
-
--- the digits of the edges of a family's cycle say what edges join
-digit_tells : Edge → Edge → Bool
-digit_tells slot e = beq (rank_of (edge_of_slot e) == rank_of slot) (slot_digit e == slot_digit slot)
-
-digits_tell : Edge → Bool
-digits_tell slot = list_all (digit_tells slot) edges_in_order
-
-family_digits : (f : Family) → list_all digits_tell (family_edges f) ≡ true
-unfolding digits_tell digit_tells rank_of edges_in_order
-family_digits families.SB = refl
-family_digits families.MP = refl
-family_digits families.LB = refl
-family_digits families.R = refl
-family_digits families.S = refl
-family_digits families.W2 = refl
-family_digits families.WRC = refl
-family_digits families.RWC = refl
-family_digits families.ISA2 = refl
-family_digits families.IRIW = refl
-family_digits families.WRWC = refl
-family_digits families.SB3 = refl
-family_digits families.LB3 = refl
-family_digits families.W3 = refl
-family_digits families.Other = refl
-
-digit_told : (slot e : Edge) → digits_tell slot ≡ true → (rank_of (edge_of_slot e) == rank_of slot) ≡ (slot_digit e == slot_digit slot)
-unfolding digits_tell digit_tells
-digit_told slot e t = (booleans_Decides _ _).0 (each_edge (digit_tells slot) t e)
-
-digits_said : (v slots : List Edge) → list_all digits_tell slots ≡ true → is_same (outline v) slots ≡ true → map slot_digit v ≡ map slot_digit slots
-digits_said [] [] t h = refl
-digits_said [] (s ∷ slots) t h = cc
-digits_said (e ∷ v) [] t h = cc
-digits_said (e ∷ v) (s ∷ slots) t h =
-    let all = and_parts (digits_tell s) (list_all digits_tell slots) t in
-    let both = and_parts (rank_of (edge_of_slot e) == rank_of s) (is_same (outline v) slots) h in
-    let one : slot_digit e ≡ slot_digit s = eqb-true _ _ (sym (digit_told s e all.0) ∙ both.0) in
-    let rest : map slot_digit v ≡ map slot_digit slots = digits_said v slots all.1 both.1 in
-    rw (one, rest) refl
-
-said_digits : (v slots : List Edge) → list_all digits_tell slots ≡ true → map slot_digit v ≡ map slot_digit slots → is_same (outline v) slots ≡ true
-said_digits [] [] t h = refl
-said_digits [] (s ∷ slots) t h = cc
-said_digits (e ∷ v) [] t h = cc
-said_digits (e ∷ v) (s ∷ slots) t h =
-    let all = and_parts (digits_tell s) (list_all digits_tell slots) t in
-    let one : slot_digit e ≡ slot_digit s = cc in
-    let rest : map slot_digit v ≡ map slot_digit slots = cc in
-    let here : (rank_of (edge_of_slot e) == rank_of s) ≡ true = digit_told s e all.0 ∙ eq-eqb _ _ one in
-    ap (λ b. b && is_same (outline v) slots) here ∙ said_digits v slots all.1 rest
-
--- edges join what those of a family's cycle do exactly where their digits are the same
-pub joins_by_digits : (f : Family) (v : List Edge) → is_same (outline v) (family_edges f) ≡ true → map slot_digit v ≡ map slot_digit (family_edges f)
-joins_by_digits f v h = digits_said v (family_edges f) (family_digits f) h
-
--- and back
-pub digits_join : (f : Family) (v : List Edge) → map slot_digit v ≡ map slot_digit (family_edges f) → is_same (outline v) (family_edges f) ≡ true
-digits_join f v h = said_digits v (family_edges f) (family_digits f) h
 
 -- a link is the one that joins what it joins, with its word
 is_the : Edge → Option Edge → Bool

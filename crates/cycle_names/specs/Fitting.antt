@@ -74,7 +74,7 @@ slot_digit edge = kind_digit (kind_of edge)
 -- what an edge with a digit adds to a count, whose digits in base 8 are the links and the external edges of each communication: nothing
 -- where it is neither
 abbrev pub digit_count : ℕ → ℕ
-digit_count digit = cond (digit == 0) 0 (cond (digit == 1) 1 (cond (digit == 2) 8 (cond (digit == 3) 64 512)))
+digit_count digit = cond (digit == 0) 0 (cond (digit == 1) 1 (cond (digit == 2) 8 (cond (digit == 3) 64 LINK)))
 
 -- what an edge adds to a count
 abbrev pub edge_count : Edge → ℕ
