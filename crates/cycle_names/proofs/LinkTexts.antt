@@ -16,7 +16,7 @@ use Rattle.cycle_laws.proofs.RankLaws.{each_edge}
 use Rattle.cycle_names.specs.LinkWords.{link_word}
 use Rattle.cycle_names.specs.CycleNames.{after_plus}
 use Rattle.cycle_names.specs.Fitting.{link_text, first_link_text, word_place, place_text}
-use Rattle.cycle_names.specs.declared.link_texts.TheConstants.{PLACES}
+use Rattle.cycle_names.specs.declared.link_texts.TheConstants.{PLACES, MAX_LINK}
 use Rattle.cycle_names.proofs.Members.{find_none}
 use Rattle.cycle_names.proofs.Tables.{link_word_short, each_below}
 
@@ -53,7 +53,7 @@ unfolding place_text
 none_past p h =
     ap first_link_text (find_none (λ e. word_place e == p) edges_in_order (λ e m t. absurd (omega (arith, h, eqb-true (word_place e) p t, place_below e))))
 
-first_short : (o : Option Edge) → length (first_link_text o) ≤ 12
+first_short : (o : Option Edge) → length (first_link_text o) ≤ MAX_LINK
 first_short None = omega arith
 first_short (Some e) =
     by_test (is_diff e)
@@ -61,7 +61,7 @@ first_short (Some e) =
     (λ f. omega (arith, ap length (cond-false (is_diff e) (after_plus (link_word e)) [] f)))
 
 -- what a link adds is short
-pub place_short : (p : ℕ) → length (place_text p) ≤ 12
+pub place_short : (p : ℕ) → length (place_text p) ≤ MAX_LINK
 unfolding place_text
 place_short p = first_short (find (λ e. word_place e == p) edges_in_order)
 

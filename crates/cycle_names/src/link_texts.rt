@@ -3,11 +3,14 @@ ghost use Rattle.list_laws.specs.Numbers.{upto};
 ghost use Rattle.cycle_names.specs.Fitting.{place_text};
 
 /// The number of places that words of links have.
-const PLACES: u8 = 144;
+const PLACES: usize = 144;
+
+/// The most bytes that a link adds to a name: a `+` and its word.
+pub(crate) const MAX_LINK: usize = 12;
 
 /// What a link adds to a name, a `+` and its word, by the place of the word among the words of
 /// links; nothing at the places that no word has.
-const LINK_TEXTS: [&str; 144] = [
+const LINK_TEXTS: [&str; PLACES] = [
     "",
     "",
     "",
@@ -163,7 +166,7 @@ fn link_texts() -> &'static [&'static str]
 /// What a link adds to a name whose word has this place.
 pub(crate) fn place_text(place: u8) -> &'static str
     ensures text { result.now ≡ place_text place }
-    ensures short { length result.now ≤ 12 }
+    ensures short { length result.now ≤ MAX_LINK }
 {
     let texts = link_texts();
     let place = usize::from(place);

@@ -10,13 +10,16 @@ ghost use Rattle.cycle_laws.specs.Rotation.{rotated};
 use crate::family::LONGEST;
 use crate::fit::Fit;
 use crate::link::PO_PLACE;
-use crate::link_texts::place_text;
+use crate::link_texts::{MAX_LINK, place_text};
 use crate::links::Links;
 use arrayvec::ArrayString;
 use relax_edges::Edge;
 
-/// The most bytes that a name of a family has after the family's word: 12 for each link.
-pub(crate) const MAX_LINKS: usize = 12 * LONGEST;
+/// The most bytes that a name of a family has after the family's word.
+pub(crate) const MAX_LINKS: usize = MAX_LINK * LONGEST;
+
+/// The most bytes of a separator and the word of an edge.
+const MAX_SEPARATED: usize = 15;
 
 /// Adds what a name of a family has after the family's word, for the rotation of a cycle that fits,
 /// by the places of the words of its links.
@@ -44,9 +47,9 @@ pub(crate) fn push_links<const N: usize>(places: &[u8], fit: Fit, name: &mut Arr
 
 /// Adds a `+` and the word of this place, if a link has it.
 fn push_link<const N: usize>(place: u8, name: &mut ArrayString<N>)
-    requires { length name.old.bytes + 12 ≤ N }
+    requires { length name.old.bytes + MAX_LINK ≤ N }
     ensures text { name.new.bytes ≡ name.old.bytes ++ place_text place }
-    ensures short { length name.new.bytes ≤ length name.old.bytes + 12 }
+    ensures short { length name.new.bytes ≤ length name.old.bytes + MAX_LINK }
 {
     if place != 0 {
         name.push_str(place_text(place));
@@ -55,9 +58,9 @@ fn push_link<const N: usize>(place: u8, name: &mut ArrayString<N>)
 
 /// Adds a `+` and the word for each link, by the places of these words.
 fn push_each<const N: usize>(places: &[u8], name: &mut ArrayString<N>)
-    requires { length name.old.bytes + 12 * length places.now ≤ N }
+    requires { length name.old.bytes + MAX_LINK * length places.now ≤ N }
     ensures text { name.new.bytes ≡ name.old.bytes ++ flat_map place_text places.now }
-    ensures short { length name.new.bytes ≤ length name.old.bytes + 12 * length places.now }
+    ensures short { length name.new.bytes ≤ length name.old.bytes + MAX_LINK * length places.now }
 {
     for place in places {
         push_link(*place, name);
@@ -85,10 +88,10 @@ fn push_separator<const N: usize>(between: Separator, text: &mut ArrayString<N>)
 
 /// Adds a separator and a word of an edge.
 fn push_word<const N: usize>(between: Separator, word: &'static str, text: &mut ArrayString<N>)
-    requires word { length word.now ≤ 14 }
-    requires room { length text.old.bytes + 15 ≤ N }
+    requires word { length word.now < MAX_SEPARATED }
+    requires room { length text.old.bytes + MAX_SEPARATED ≤ N }
     ensures text { text.new.bytes ≡ text.old.bytes ++ (separator_text between ++ word.now) }
-    ensures short { length text.new.bytes ≤ length text.old.bytes + 15 }
+    ensures short { length text.new.bytes ≤ length text.old.bytes + MAX_SEPARATED }
 {
     push_separator(between, text);
     text.push_str(word);
@@ -101,10 +104,10 @@ pub(crate) fn push_rotation<const N: usize>(
     between: Separator,
     words: &mut ArrayString<N>,
 )
-    requires room { length words.old.bytes + 15 * length edges.now ≤ N }
+    requires room { length words.old.bytes + MAX_SEPARATED * length edges.now ≤ N }
     requires place { place < length edges.now }
     ensures text { words.new.bytes ≡ words.old.bytes ++ join_by word_of (separator_text between) (rotated place edges.now) }
-    ensures short { length words.new.bytes ≤ length words.old.bytes + 15 * length edges.now }
+    ensures short { length words.new.bytes ≤ length words.old.bytes + MAX_SEPARATED * length edges.now }
 {
     let (prefix, back) = edges.split_at(place);
     if let [edge, rest @ ..] = back {
@@ -116,9 +119,9 @@ pub(crate) fn push_rotation<const N: usize>(
 
 /// Adds a separator and the word for each edge.
 fn push_separated<const N: usize>(edges: &[Edge], between: Separator, words: &mut ArrayString<N>)
-    requires { length words.old.bytes + 15 * length edges.now ≤ N }
+    requires { length words.old.bytes + MAX_SEPARATED * length edges.now ≤ N }
     ensures text { words.new.bytes ≡ words.old.bytes ++ flat_map (λ edge. separator_text between ++ word_of edge) edges.now }
-    ensures short { length words.new.bytes ≤ length words.old.bytes + 15 * length edges.now }
+    ensures short { length words.new.bytes ≤ length words.old.bytes + MAX_SEPARATED * length edges.now }
 {
     for edge in edges {
         push_word(between, edge.text(), words);
@@ -133,13 +136,13 @@ pub(crate) fn push_rotation_twice<const N: usize, const M: usize>(
     dashed: &mut ArrayString<N>,
     blanked: &mut ArrayString<M>,
 )
-    requires dashed_room { length dashed.old.bytes + 15 * length edges.now ≤ N }
-    requires blanked_room { length blanked.old.bytes + 15 * length edges.now ≤ M }
+    requires dashed_room { length dashed.old.bytes + MAX_SEPARATED * length edges.now ≤ N }
+    requires blanked_room { length blanked.old.bytes + MAX_SEPARATED * length edges.now ≤ M }
     requires place { place < length edges.now }
     ensures dashed { dashed.new.bytes ≡ dashed.old.bytes ++ join_by word_of (codes "-") (rotated place edges.now) }
-    ensures dashed_short { length dashed.new.bytes ≤ length dashed.old.bytes + 15 * length edges.now }
+    ensures dashed_short { length dashed.new.bytes ≤ length dashed.old.bytes + MAX_SEPARATED * length edges.now }
     ensures blanked { blanked.new.bytes ≡ blanked.old.bytes ++ join_by word_of (codes " ") (rotated place edges.now) }
-    ensures blanked_short { length blanked.new.bytes ≤ length blanked.old.bytes + 15 * length edges.now }
+    ensures blanked_short { length blanked.new.bytes ≤ length blanked.old.bytes + MAX_SEPARATED * length edges.now }
 {
     let (prefix, back) = edges.split_at(place);
     if let [edge, rest @ ..] = back {
@@ -157,12 +160,12 @@ fn push_separated_twice<const N: usize, const M: usize>(
     dashed: &mut ArrayString<N>,
     blanked: &mut ArrayString<M>,
 )
-    requires dashed_room { length dashed.old.bytes + 15 * length edges.now ≤ N }
-    requires blanked_room { length blanked.old.bytes + 15 * length edges.now ≤ M }
+    requires dashed_room { length dashed.old.bytes + MAX_SEPARATED * length edges.now ≤ N }
+    requires blanked_room { length blanked.old.bytes + MAX_SEPARATED * length edges.now ≤ M }
     ensures dashed { dashed.new.bytes ≡ dashed.old.bytes ++ flat_map (λ edge. codes "-" ++ word_of edge) edges.now }
-    ensures dashed_short { length dashed.new.bytes ≤ length dashed.old.bytes + 15 * length edges.now }
+    ensures dashed_short { length dashed.new.bytes ≤ length dashed.old.bytes + MAX_SEPARATED * length edges.now }
     ensures blanked { blanked.new.bytes ≡ blanked.old.bytes ++ flat_map (λ edge. codes " " ++ word_of edge) edges.now }
-    ensures blanked_short { length blanked.new.bytes ≤ length blanked.old.bytes + 15 * length edges.now }
+    ensures blanked_short { length blanked.new.bytes ≤ length blanked.old.bytes + MAX_SEPARATED * length edges.now }
 {
     for edge in edges {
         let word = edge.text();

@@ -3,11 +3,12 @@ use Rattle.std.proofs.Common.{◌≡◌, ◌≤◌, ◌+◌, ◌*◌, ◌++◌, 
 use Rattle.std.specs.List.{flat_map}
 use Rattle.relax_edges.specs.WordParts.{word_of}
 use Rattle.cycle_names.specs.Fitting.{separator_text}
+use Rattle.cycle_names.specs.declared.words.TheConstants.{MAX_SEPARATED}
 use Rattle.cycle_names.proofs.words.push_separated.Given as goal
 
 abbrev pub invariant-loop-edge : goal.invariant-loop-edge
 invariant-loop-edge g l = record {
   pushed : l.words.bytes ++ flat_map (λ edge. separator_text l.fn.between ++ word_of edge) (drop l.edge-index l.edges)
       ≡ l.fn.words.bytes ++ flat_map (λ edge. separator_text l.fn.between ++ word_of edge) l.edges;
-  room : length l.words.bytes ≤ length l.fn.words.bytes + 15 * l.edge-index;
+  room : length l.words.bytes ≤ length l.fn.words.bytes + MAX_SEPARATED * l.edge-index;
 }
