@@ -1,11 +1,12 @@
 -- The table of families: no rotation of one is another, each has two links or more and at most six edges, and no name begins another.
-use Rattle.std.specs.Prelude.{◌≡◌, ◌<◌, ◌≤◌, ◌==◌, ◌&&◌, ◌||◌, ℕ, Bool, true, false, not, Some, None, List, [], ◌∷◌, ◌++◌, length, map, filter, nat_le, slice_get}
+use Rattle.std.specs.Prelude.{◌≡◌, ◌<◌, ◌≤◌, ◌==◌, ◌&&◌, ◌||◌, ℕ, Bool, true, not, Some, None, List, [], ◌∷◌, ◌++◌, length, map, filter, nat_le, slice_get, codes}
 use Rattle.std.specs.List.{list_any, list_all}
 use Rattle.std.specs.Cmp.{booleans_Decides}
 use Rattle.std.proofs.Math.Bool.{beq}
 use Rattle.std.proofs.Common.{refl, sym, ◌∙◌, ap, subst, arith, inl, inr}
 use Rattle.std.proofs.lemmas.Bool.{eqb-true, eq-eqb, leb-true, and_parts, or_cases}
 use Rattle.std.proofs.lemmas.List.{length-map}
+use Rattle.list_laws.proofs.Cases.{implied}
 use Rattle.relax_edges.specs.declared.edge.Edge.{Edge}
 use Rattle.relax_edges.specs.EdgeTable.{is_diff}
 use Rattle.relax_edges.specs.Order.{rank_of}
@@ -86,30 +87,31 @@ listed f n =
       | inr last ↦ elim last [ inl e ↦ absurd (n e) | inr none ↦ absurd none ]
     ]
 
--- no rotation of the cycle of one family is the cycle of another
-apart : Family → Family → Bool
-apart f g = (family_place f == family_place g) || not (list_any (is_same (family_edges g)) (rotations (family_edges f)))
+-- a relation that is computed to hold of no two families of different places holds of none but a family and itself
+holds_of_one : (relates : Family → Family → Bool) → list_all (λ f. list_all (λ g. not (relates f g) || (family_place f == family_place g)) every_family) every_family ≡ true →
+    (f g : Family) → relates f g ≡ true → f ≡ g
+holds_of_one relates all f g t =
+    let implies : Family → Family → Bool = λ f g. not (relates f g) || (family_place f == family_place g) in
+    let here : implies f g ≡ true = each_family (implies f) (each_family (λ f. list_all (implies f) every_family) all f) g in
+    family_same f g (eqb-true (family_place f) (family_place g) (implied (relates f g) (family_place f == family_place g) here t))
 
-all_apart : list_all (λ f. list_all (apart f) every_family) every_family ≡ true
-unfolding apart family_place rank_of
-all_apart = refl
+-- some rotation of the cycle of one family is the cycle of another
+turns_into : Family → Family → Bool
+turns_into f g = list_any (is_same (family_edges g)) (rotations (family_edges f))
+
+none_turns : list_all (λ f. list_all (λ g. not (turns_into f g) || (family_place f == family_place g)) every_family) every_family ≡ true
+unfolding turns_into family_place rank_of
+none_turns = refl
 
 -- families whose cycles are rotations of each other are the same
 same_cycle_family : (f g : Family) → 0 < length (family_edges f) → IsRotation (family_edges f) (family_edges g) → f ≡ g
-unfolding apart
+unfolding turns_into
 same_cycle_family f g some r =
     let p = place_of_rotation (family_edges f) (family_edges g) some r in
     let m : Member (rotated p.place (family_edges f)) (rotations (family_edges f)) =
     member_upto (λ k. rotated k (family_edges f)) (length (family_edges f)) p.place p.within in
-    let a : list_any (is_same (family_edges g)) (rotations (family_edges f)) ≡ true =
-    any_of_member (is_same (family_edges g)) (rotations (family_edges f)) (rotated p.place (family_edges f)) m (edges_are_same (family_edges g) (rotated p.place (family_edges f)) p.is) in
-    let t : apart f g ≡ true = each_family (apart f) (each_family (λ f. list_all (apart f) every_family) all_apart f) g in
-    family_same f g (eqb-true (family_place f) (family_place g) (first_of (family_place f == family_place g) (list_any (is_same (family_edges g)) (rotations (family_edges f))) t a))
-  where
-    first_of : (b c : Bool) → (b || not c) ≡ true → c ≡ true → b ≡ true
-    first_of true c t a = refl
-    first_of false true t a = cc
-    first_of false false t a = cc
+    holds_of_one turns_into none_turns f g
+    (any_of_member (is_same (family_edges g)) (rotations (family_edges f)) (rotated p.place (family_edges f)) m (edges_are_same (family_edges g) (rotated p.place (family_edges f)) p.is))
 
 -- the rotation that makes a cycle one of a family
 pub record Fitting (u : List Edge) (f : Family) : Type 0 where
@@ -234,7 +236,7 @@ unfolding is_word
 family_word_bytes f = (and_parts _ _ (and_parts _ _ (each_family is_word all_words f)).1).1
 
 -- the name of a family is read as that family, alone and with `+` and a text after it
-pub words_named : (f : Family) (text : List ℕ) → (f ≡ families.Other → ⊥) → (named_family all_families (family_word f ++ []) ≡ Some f) × (named_family all_families (family_word f ++ 43 ∷ text) ≡ Some f)
+pub words_named : (f : Family) (text : List ℕ) → (f ≡ families.Other → ⊥) → (named_family all_families (family_word f ++ []) ≡ Some f) × (named_family all_families (family_word f ++ (codes "+" ++ text)) ≡ Some f)
 words_named families.SB text n = (refl, refl)
 words_named families.MP text n = (refl, refl)
 words_named families.LB text n = (refl, refl)
@@ -251,25 +253,18 @@ words_named families.LB3 text n = (refl, refl)
 words_named families.W3 text n = (refl, refl)
 words_named families.Other text n = absurd (n refl)
 
--- no two families have as many links and external edges of each communication
-counts_apart : Family → Family → Bool
-counts_apart f g = (family_place f == family_place g) || not (edges_counted (family_edges f) == edges_counted (family_edges g))
+-- two families have as many links and external edges of each communication
+counts_alike : Family → Family → Bool
+counts_alike f g = edges_counted (family_edges f) == edges_counted (family_edges g)
 
-all_counts_apart : list_all (λ f. list_all (counts_apart f) every_family) every_family ≡ true
-unfolding counts_apart family_place
-all_counts_apart = refl
+none_alike : list_all (λ f. list_all (λ g. not (counts_alike f g) || (family_place f == family_place g)) every_family) every_family ≡ true
+unfolding counts_alike family_place
+none_alike = refl
 
 -- families whose cycles have the same counts are the same
 pub counts_differ : (f g : Family) → edges_counted (family_edges f) ≡ edges_counted (family_edges g) → f ≡ g
-unfolding counts_apart
-counts_differ f g e =
-    let t : counts_apart f g ≡ true = each_family (counts_apart f) (each_family (λ f. list_all (counts_apart f) every_family) all_counts_apart f) g in
-    family_same f g (eqb-true (family_place f) (family_place g) (one_of (family_place f == family_place g) (edges_counted (family_edges f) == edges_counted (family_edges g)) t (eq-eqb _ _ e)))
-  where
-    one_of : (b c : Bool) → (b || not c) ≡ true → c ≡ true → b ≡ true
-    one_of true c t a = refl
-    one_of false true t a = cc
-    one_of false false t a = cc
+unfolding counts_alike
+counts_differ f g e = holds_of_one counts_alike none_alike f g (eq-eqb _ _ e)
 
 -- the digits of the edges of a family's cycle say what edges join
 digit_tells : Edge → Edge → Bool

@@ -27,7 +27,7 @@ use Rattle.cycle_names.specs.CycleNames.{after_plus, all_equal, plural, links_te
 use Rattle.cycle_names.specs.NameReading.{edges_read}
 use Rattle.cycle_names.specs.Laws.{are_of_arch, NamesDecide, NamesReadBack, FamiliesApart, IsName, NamesAreNames}
 use Rattle.cycle_names.proofs.Tables.{link_word_short, link_word_bytes, word_bytes}
-use Rattle.cycle_names.proofs.Outlines.{words_of_link, words_of_plain}
+use Rattle.cycle_names.proofs.Outlines.{words_of_link, words_of_plain, each_word}
 use Rattle.cycle_names.proofs.Families.{one_family, family_word_short, family_word_some, family_word_bytes}
 use Rattle.cycle_names.proofs.Chosen.{family_turned, named_turned, named_rotates}
 use Rattle.cycle_names.proofs.ReadBack.{name_back}
@@ -90,14 +90,6 @@ read_names_back = record {
 pub keep_families_apart : FamiliesApart
 keep_families_apart = one_family
 
--- what is true of each word of a link is true of the words of the links of a cycle
-each_word : (p : List ℕ → Bool) → ((e : Edge) → p (link_word e) ≡ true) → (v : List Edge) → list_all p (link_words v) ≡ true
-each_word p h [] = refl
-each_word p h (e ∷ v) =
-    by_test (is_diff e)
-    (λ t. ap (list_all p) (words_of_link e v t) ∙ rw (h e) (each_word p h v))
-    (λ f. ap (list_all p) (words_of_plain e v f) ∙ each_word p h v)
-
 few_words : (v : List Edge) → length (link_words v) ≤ length v
 few_words [] = omega arith
 few_words (e ∷ v) =
@@ -118,7 +110,7 @@ plural_long : (words : List (List ℕ)) → list_all short_word words ≡ true �
 plural_long [] h = omega arith
 plural_long (word ∷ words) h =
     let both = and_parts (short_word word) (list_all short_word words) h in
-    omega (arith, leb-true (length word) 11 both.0, length-append word (115 ∷ []))
+    omega (arith, leb-true (length word) 11 both.0, length-append word (codes "s"))
 
 pub links_long : (v : List Edge) → length (links_text (link_words v)) ≤ 13 + 12 * length v
 unfolding links_text
@@ -150,7 +142,7 @@ words_bytes (word ∷ words) h =
 
 plural_bytes : (words : List (List ℕ)) → list_all named_bytes words ≡ true → named_bytes (plural words) ≡ true
 plural_bytes [] h = refl
-plural_bytes (word ∷ words) h = bytes_both word (115 ∷ []) (and_parts (named_bytes word) (list_all named_bytes words) h).0 refl
+plural_bytes (word ∷ words) h = bytes_both word (codes "s") (and_parts (named_bytes word) (list_all named_bytes words) h).0 refl
 
 links_bytes : (v : List Edge) → named_bytes (links_text (link_words v)) ≡ true
 unfolding links_text

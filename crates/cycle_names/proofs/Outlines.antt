@@ -2,6 +2,7 @@
 use Rattle.std.specs.Prelude.{◌≡◌, ◌==◌, ◌&&◌, ℕ, Bool, true, false, cond, List, [], ◌∷◌, length, map, nat_eq, nat_lt, ◌||◌}
 use Rattle.std.specs.declared.cmp.Ordering.{Ordering}
 use Rattle.std.specs.declared.cmp.Ordering.TheVariants.{Less, Equal, Greater}
+use Rattle.std.specs.List.{list_all}
 use Rattle.std.specs.Ordering.{nat_cmp, is_lt, ordering_then}
 use Rattle.std.specs.Cmp.Lexicographic.{slice_cmp, bytes_decides}
 use Rattle.std.proofs.Common.{refl, sym, ◌∙◌, ap, arith}
@@ -108,6 +109,14 @@ words_of_link x u t = rw t refl
 -- an edge that is no link adds no word
 pub words_of_plain : (x : Edge) (u : List Edge) → is_diff x ≡ false → link_words (x ∷ u) ≡ link_words u
 words_of_plain x u f = rw f refl
+
+-- what is true of each word of a link is true of the words of the links of a cycle
+pub each_word : (p : List ℕ → Bool) → ((e : Edge) → p (link_word e) ≡ true) → (v : List Edge) → list_all p (link_words v) ≡ true
+each_word p h [] = refl
+each_word p h (e ∷ v) =
+    by_test (is_diff e)
+    (λ t. ap (list_all p) (words_of_link e v t) ∙ rw (h e) (each_word p h v))
+    (λ f. ap (list_all p) (words_of_plain e v f) ∙ each_word p h v)
 
 -- the order of lists of words
 abbrev words_before : List (List ℕ) → List (List ℕ) → Bool

@@ -8,7 +8,7 @@ use Rattle.std.proofs.Math.Seq.{drop-append_seam}
 use Rattle.std.proofs.lemmas.Bool.{and_parts, or_right, cond-true, cond-false, cond_both, not-true}
 use Rattle.std.proofs.lemmas.List.Folds.{list_any-append}
 use Rattle.std.proofs.lemmas.List.{append-nil, take_at}
-use Rattle.list_laws.proofs.Cases.{by_test, by_option}
+use Rattle.list_laws.proofs.Cases.{by_test, by_option, implied}
 use Rattle.relax_edges.specs.declared.edge.Edge.{Edge}
 use Rattle.relax_edges.specs.EdgeTable.{is_diff}
 use Rattle.relax_edges.specs.WordParts.{word_of}
@@ -29,9 +29,10 @@ use Rattle.cycle_names.specs.CycleNames.{after_plus, all_equal, plural, links_te
 use Rattle.cycle_names.specs.NameReading.{is_plus, is_dash, named_family, link_with, slot_with, filled_alike, first_name_word, after_word, filled_each, without_last_byte, slots_filled, marked_if, edges_of_words, read_by_family, edges_read}
 use Rattle.cycle_names.proofs.Tables.{slot_is_diff, link_back, link_word_whole, word_whole}
 use Rattle.cycle_names.proofs.Marks.{said_of, said_link, said_slot, both_there}
-use Rattle.cycle_names.proofs.Outlines.{outline_of_fits, words_of_link, words_of_plain}
+use Rattle.cycle_names.proofs.Outlines.{outline_of_fits, words_of_link, words_of_plain, each_word}
 use Rattle.cycle_names.proofs.Families.{never_other, found_is_of, family_links, words_named}
 use Rattle.cycle_names.proofs.Chosen.{fit_back, named_fits, named_rotates}
+use Rattle.cycle_names.proofs.Texts.{all_links_cons}
 
 -- a word up to a byte that doesn't occur in it, with which what follows it begins, if anything does
 until : (p : ℕ → Bool) (word rest : List ℕ) → list_all (λ b. not (p b)) word ≡ true → before_first p rest ≡ [] → before_first p (word ++ rest) ≡ word
@@ -51,22 +52,17 @@ slot_back e word h =
 alike_back : (v : List Edge) (word : List ℕ) → list_all (bytes_eq word) (link_words v) ≡ true → filled_alike (outline v) word ≡ Some (map said_of v)
 alike_back [] word h = refl
 alike_back (e ∷ v) word h =
+    let both = and_parts (not (is_diff e) || bytes_eq word (link_word e)) (list_all (bytes_eq word) (link_words v)) (sym (all_links_cons (bytes_eq word) e v) ∙ h) in
     both_there (slot_with (edge_of_slot e) word) (filled_alike (outline v) word) (said_of e) (map said_of v)
-    (slot_back e word (λ t.
-    let a : list_all (bytes_eq word) (link_word e ∷ link_words v) ≡ true = sym (ap (list_all (bytes_eq word)) (words_of_link e v t)) ∙ h in
-    (bytes_decides word (link_word e)).0 (and_parts (bytes_eq word (link_word e)) (list_all (bytes_eq word) (link_words v)) a).0))
-    (alike_back v word (by_test (is_diff e)
-    (λ t.
-    let a : list_all (bytes_eq word) (link_word e ∷ link_words v) ≡ true = sym (ap (list_all (bytes_eq word)) (words_of_link e v t)) ∙ h in
-    (and_parts (bytes_eq word (link_word e)) (list_all (bytes_eq word) (link_words v)) a).1)
-    (λ f. sym (ap (list_all (bytes_eq word)) (words_of_plain e v f)) ∙ h)))
+    (slot_back e word (λ t. (bytes_decides word (link_word e)).0 (implied (is_diff e) (bytes_eq word (link_word e)) both.0 t)))
+    (alike_back v word both.1)
 
 -- the first of some words, each of which follows a `+`
-first_word_is : (word : List ℕ) (words : List (List ℕ)) → list_all (λ b. not (is_plus b)) word ≡ true → first_name_word (43 ∷ (word ++ flat_map after_plus words)) ≡ word
+first_word_is : (word : List ℕ) (words : List (List ℕ)) → list_all (λ b. not (is_plus b)) word ≡ true → first_name_word (flat_map after_plus (word ∷ words)) ≡ word
 first_word_is word [] h = until is_plus word [] h refl
-first_word_is word (next ∷ words) h = until is_plus word (43 ∷ (next ++ flat_map after_plus words)) h refl
+first_word_is word (next ∷ words) h = until is_plus word (flat_map after_plus (next ∷ words)) h refl
 
-after_word_is : (word : List ℕ) (words : List (List ℕ)) → list_all (λ b. not (is_plus b)) word ≡ true → after_word (43 ∷ (word ++ flat_map after_plus words)) ≡ flat_map after_plus words
+after_word_is : (word : List ℕ) (words : List (List ℕ)) → list_all (λ b. not (is_plus b)) word ≡ true → after_word (flat_map after_plus (word ∷ words)) ≡ flat_map after_plus words
 after_word_is word words h =
     ap (λ w. drop (length w) (word ++ flat_map after_plus words)) (first_word_is word words h) ∙ drop-append_seam word (flat_map after_plus words)
 
@@ -75,7 +71,7 @@ each_back [] = refl
 each_back (e ∷ v) =
     by_test (is_diff e)
     (λ t.
-    let text : List ℕ = 43 ∷ (link_word e ++ flat_map after_plus (link_words v)) in
+    let text : List ℕ = flat_map after_plus (link_word e ∷ link_words v) in
     ap (filled_each (edge_of_slot e ∷ outline v)) (ap (flat_map after_plus) (words_of_link e v t))
     ∙ cond-true (is_diff (edge_of_slot e)) (before_edges (link_with (edge_of_slot e) (first_name_word text)) (filled_each (outline v) (after_word text))) (before_edges (Some (edge_of_slot e)) (filled_each (outline v) text)) (slot_is_diff e ∙ t)
     ∙ both_there (link_with (edge_of_slot e) (first_name_word text)) (filled_each (outline v) (after_word text)) (said_of e) (map said_of v)
@@ -86,14 +82,6 @@ each_back (e ∷ v) =
     ap (filled_each (edge_of_slot e ∷ outline v)) (ap (flat_map after_plus) (words_of_plain e v f))
     ∙ cond-false (is_diff (edge_of_slot e)) (before_edges (link_with (edge_of_slot e) (first_name_word text)) (filled_each (outline v) (after_word text))) (before_edges (Some (edge_of_slot e)) (filled_each (outline v) text)) (slot_is_diff e ∙ f)
     ∙ both_there (Some (edge_of_slot e)) (filled_each (outline v) text) (said_of e) (map said_of v) (ap Some (sym (said_slot e f))) (each_back v))
-
--- no word of a link has a `+`
-words_whole : (v : List Edge) → list_all (list_all (λ b. not (is_plus b))) (link_words v) ≡ true
-words_whole [] = refl
-words_whole (e ∷ v) =
-    by_test (is_diff e)
-    (λ t. ap (list_all (list_all (λ b. not (is_plus b)))) (words_of_link e v t) ∙ rw (link_word_whole e) (words_whole v))
-    (λ f. ap (list_all (list_all (λ b. not (is_plus b)))) (words_of_plain e v f) ∙ words_whole v)
 
 none_of : (p : ℕ → Bool) (xs : List ℕ) → list_all (λ b. not (p b)) xs ≡ true → list_any p xs ≡ false
 none_of p [] h = refl
@@ -109,22 +97,22 @@ plural_back : (v : List Edge) (words : List (List ℕ)) → words ≡ link_words
 plural_back v [] e l h = absurd (omega arith)
 plural_back v (word ∷ words) e l h =
     let whole : list_all (λ b. not (is_plus b)) word ≡ true =
-    (and_parts (list_all (λ b. not (is_plus b)) word) (list_all (list_all (λ b. not (is_plus b))) words) (ap (list_all (list_all (λ b. not (is_plus b)))) e ∙ words_whole v)).0 in
+    (and_parts (list_all (λ b. not (is_plus b)) word) (list_all (list_all (λ b. not (is_plus b))) words) (ap (list_all (list_all (λ b. not (is_plus b)))) e ∙ each_word (list_all (λ b. not (is_plus b))) link_word_whole v)).0 in
     let itself : bytes_eq word word ≡ true = (bytes_decides word word).1 refl in
     let alike : list_all (bytes_eq word) (link_words v) ≡ true = sym (ap (list_all (bytes_eq word)) e) ∙ rw itself h in
-    let none : list_any is_plus (word ++ 115 ∷ []) ≡ false = list_any-append is_plus word (115 ∷ []) ∙ ap (λ b. b || false) (none_of is_plus word whole) in
-    cond-false (list_any is_plus (word ++ 115 ∷ [])) (filled_each (outline v) (43 ∷ (word ++ 115 ∷ []))) (filled_alike (outline v) (without_last_byte (word ++ 115 ∷ []))) none
-    ∙ ap (filled_alike (outline v)) (but_last_is word 115)
+    let none : list_any is_plus (word ++ codes "s") ≡ false = list_any-append is_plus word (codes "s") ∙ ap (λ b. b || false) (none_of is_plus word whole) in
+    cond-false (list_any is_plus (word ++ codes "s")) (filled_each (outline v) (plural (word ∷ words))) (filled_alike (outline v) (without_last_byte (word ++ codes "s"))) none
+    ∙ ap (filled_alike (outline v)) (but_last_is word _)
     ∙ alike_back v word alike
 
 words_back : (v : List Edge) (words : List (List ℕ)) → words ≡ link_words v → 2 ≤ length words → slots_filled (outline v) (flat_map after_plus words) ≡ Some (map said_of v)
 words_back v [] e l = absurd (omega arith)
 words_back v (word ∷ []) e l = absurd (omega arith)
 words_back v (word ∷ next ∷ words) e l =
-    let text : List ℕ = word ++ 43 ∷ (next ++ flat_map after_plus words) in
+    let text : List ℕ = word ++ flat_map after_plus (next ∷ words) in
     let some : list_any is_plus text ≡ true =
-    list_any-append is_plus word (43 ∷ (next ++ flat_map after_plus words)) ∙ or_right (list_any is_plus word) true refl in
-    cond-true (list_any is_plus text) (filled_each (outline v) (43 ∷ text)) (filled_alike (outline v) (without_last_byte text)) some
+    list_any-append is_plus word (flat_map after_plus (next ∷ words)) ∙ or_right (list_any is_plus word) true refl in
+    cond-true (list_any is_plus text) (filled_each (outline v) (flat_map after_plus (word ∷ next ∷ words))) (filled_alike (outline v) (without_last_byte text)) some
     ∙ ap (filled_each (outline v)) (ap (flat_map after_plus) e)
     ∙ each_back v
 
@@ -144,11 +132,11 @@ links_back v l =
 -- an empty text, or one that begins with `+`
 data StartsPlus (text : List ℕ) : Type 0 where
   ends_here : text ≡ [] → StartsPlus text
-  goes_on : (rest : List ℕ) → text ≡ 43 ∷ rest → StartsPlus text
+  goes_on : (rest : List ℕ) → text ≡ codes "+" ++ rest → StartsPlus text
 
 plural_starts : (words : List (List ℕ)) → StartsPlus (plural words)
 plural_starts [] = ends_here refl
-plural_starts (word ∷ words) = goes_on (word ++ 115 ∷ []) refl
+plural_starts (word ∷ words) = goes_on (word ++ codes "s") refl
 
 words_start : (words : List (List ℕ)) → StartsPlus (flat_map after_plus words)
 words_start [] = ends_here refl
@@ -202,7 +190,7 @@ family_back f v n c h =
 split_words : (e : Edge) (v : List Edge) → slice_split is_dash (join_by word_of (codes "-") (e ∷ v)) ≡ word_of e ∷ map word_of v
 split_words e [] = ap (slice_split is_dash) (append-nil (word_of e)) ∙ split_whole is_dash (word_of e) (word_whole e)
 split_words e (d ∷ v) =
-    split_off is_dash (word_of e) 45 (join_by word_of (codes "-") (d ∷ v)) refl (word_whole e) ∙ ap (λ w. word_of e ∷ w) (split_words d v)
+    split_off is_dash (word_of e) _ (join_by word_of (codes "-") (d ∷ v)) refl (word_whole e) ∙ ap (λ w. word_of e ∷ w) (split_words d v)
 
 spelled_back : (v : List Edge) → edges_of_words (map word_of v) ≡ Some v
 spelled_back [] = refl
