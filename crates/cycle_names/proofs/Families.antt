@@ -1,4 +1,5 @@
--- The table of families: no rotation of one is another, each has two links or more and at most six edges, and no name begins another.
+-- The table of families: no rotation of one is another, each has two links or more and at most six edges, no name begins another, and the
+-- digits of a family's cycle say what its edges join.
 use Rattle.std.specs.Prelude.{◌≡◌, ◌<◌, ◌≤◌, ◌==◌, ◌&&◌, ◌||◌, ℕ, Bool, true, not, Some, None, List, [], ◌∷◌, ◌++◌, length, map, filter, nat_le, slice_get, codes}
 use Rattle.std.specs.List.{list_any, list_all}
 use Rattle.std.specs.Cmp.{booleans_Decides}
@@ -87,7 +88,7 @@ listed f n =
       | inr last ↦ elim last [ inl e ↦ absurd (n e) | inr none ↦ absurd none ]
     ]
 
--- a relation that is computed to hold of no two families of different places holds of none but a family and itself
+-- a relation that holds only of families of one place, as computed for each two, holds only of a family and itself
 holds_of_one : (relates : Family → Family → Bool) → list_all (λ f. list_all (λ g. not (relates f g) || (family_place f == family_place g)) every_family) every_family ≡ true →
     (f g : Family) → relates f g ≡ true → f ≡ g
 holds_of_one relates all f g t =
@@ -306,10 +307,10 @@ said_digits (e ∷ v) (s ∷ slots) t h =
     let here : (rank_of (edge_of_slot e) == rank_of s) ≡ true = digit_told s e all.0 ∙ eq-eqb _ _ one in
     ap (λ b. b && is_same (outline v) slots) here ∙ said_digits v slots all.1 rest
 
--- edges join what those of a family's cycle do exactly where their digits are the same
+-- edges that join what those of a family's cycle do have their digits
 pub joins_by_digits : (f : Family) (v : List Edge) → is_same (outline v) (family_edges f) ≡ true → map slot_digit v ≡ map slot_digit (family_edges f)
 joins_by_digits f v h = digits_said v (family_edges f) (family_digits f) h
 
--- and back
+-- edges whose digits are those of a family's cycle join what its edges do
 pub digits_join : (f : Family) (v : List Edge) → map slot_digit v ≡ map slot_digit (family_edges f) → is_same (outline v) (family_edges f) ≡ true
 digits_join f v h = said_digits v (family_edges f) (family_digits f) h

@@ -77,6 +77,7 @@ module _ {A : Type 0} where
     found_first : p y ≡ true → y ≡ x → FoundIn p y ys x
     found_later : p y ≡ false → find p ys ≡ Some x → FoundIn p y ys x
 
+  -- one of the two holds of what is found
   pub found_in : (p : A → Bool) (y : A) (ys : List A) (x : A) → find p (y ∷ ys) ≡ Some x → FoundIn p y ys x
   found_in p y ys x h =
       by_test (p y)

@@ -15,6 +15,7 @@ use Rattle.relax_edges.specs.declared.edge.Edge.{Edge}
 use Rattle.cycle_laws.specs.Composable.{IsCycle}
 use Rattle.cycle_laws.specs.Rotation.{rotated}
 use Rattle.cycle_laws.specs.CycleOrder.{ranks_below}
+use Rattle.cycle_names.specs.declared.slot.TheConstants.{SLOT_BASE, WORD_BASE}
 use Rattle.cycle_names.specs.declared.family.Family.{Family}
 use Rattle.cycle_names.specs.Families.{family_edges, all_families}
 use Rattle.cycle_names.specs.LinkWords.{edge_of_slot, outline}
@@ -126,10 +127,10 @@ other_length u f n l h k below =
 -- a rotation joins what the family's cycle does where it has the same number
 pub joins_by_number : (u : List Edge) (f : Family) (k : ℕ) → length u ≡ length (family_edges f) → slots_number (rotated k u) ≡ slots_number (family_edges f) → joins_at u f k ≡ true
 joins_by_number u f k l e =
-    digits_join f (rotated k u) (number_same 8 slot_digit slot_digit_small (rotated k u) (family_edges f) (rotated_length k u ∙ l) e)
+    digits_join f (rotated k u) (number_same SLOT_BASE slot_digit slot_digit_small (rotated k u) (family_edges f) (rotated_length k u ∙ l) e)
 
 number_of_joins : (u : List Edge) (f : Family) (k : ℕ) → joins_at u f k ≡ true → slots_number (rotated k u) ≡ slots_number (family_edges f)
-number_of_joins u f k t = ap (digits_number 8) (joins_by_digits f (rotated k u) t)
+number_of_joins u f k t = ap (digits_number SLOT_BASE) (joins_by_digits f (rotated k u) t)
 
 -- more than any number of the words of six edges: the highest of 64 bits
 abbrev no_words : ℕ
@@ -154,15 +155,15 @@ pub record IsStep (u : List Edge) (f : Family) (k slots number words : ℕ) (pla
 
 -- the numbers that are turned at a place are those of the rotation from the place before it
 pub step : (u : List Edge) (f : Family) (last slots number slots_worth words_worth turned_slots turned_number words : ℕ) (place : Option ℕ) → 0 < last → last ≤ length u →
-    slots ≡ slots_number (rotated last u) → number ≡ words_number (rotated last u) → slots_worth ≡ 8 ^ length u → words_worth ≡ 256 ^ length u → BestFrom u f last words place →
-    turned_slots ≡ (slots + slots % 8 * slots_worth) / 8 → turned_number ≡ (number + number % 256 * words_worth) / 256 → IsStep u f (last - 1) turned_slots turned_number words place
+    slots ≡ slots_number (rotated last u) → number ≡ words_number (rotated last u) → slots_worth ≡ SLOT_BASE ^ length u → words_worth ≡ WORD_BASE ^ length u → BestFrom u f last words place →
+    turned_slots ≡ (slots + slots % SLOT_BASE * slots_worth) / SLOT_BASE → turned_number ≡ (number + number % WORD_BASE * words_worth) / WORD_BASE → IsStep u f (last - 1) turned_slots turned_number words place
 step u f last slots number slots_worth words_worth turned_slots turned_number words place some few s n sw nw best st nt =
     let after : last ≡ last - 1 + 1 = omega (arith, some) in
     let within : last - 1 < length u = omega (arith, some, few) in
     record {
       within = within;
-      slots_are = st ∙ number_turned 8 slot_digit slot_digit_small (last - 1) slots slots_worth u within (s ∙ ap (λ x. slots_number (rotated x u)) after) sw;
-      words_are = nt ∙ number_turned 256 word_place word_place_small (last - 1) number words_worth u within (n ∙ ap (λ x. words_number (rotated x u)) after) nw;
+      slots_are = st ∙ number_turned SLOT_BASE slot_digit slot_digit_small (last - 1) slots slots_worth u within (s ∙ ap (λ x. slots_number (rotated x u)) after) sw;
+      words_are = nt ∙ number_turned WORD_BASE word_place word_place_small (last - 1) number words_worth u within (n ∙ ap (λ x. words_number (rotated x u)) after) nw;
       best = subst (λ x. BestFrom u f x words place) after best;
     }
 
@@ -204,9 +205,9 @@ best_answer u f words None few h = λ k below.
     by_test (joins_at u f k)
     (λ t.
     let most : words ≤ words_number (rotated k u) = h.least k (omega arith) below t in
-    let small : words_number (rotated k u) < 256 ^ length (rotated k u) = number_below 256 word_place word_place_small (rotated k u) in
+    let small : words_number (rotated k u) < WORD_BASE ^ length (rotated k u) = number_below WORD_BASE word_place word_place_small (rotated k u) in
     let six : length (rotated k u) ≤ 6 = omega (arith, few, rotated_length k u) in
-    let worth : 256 ^ length (rotated k u) ≤ 256 ^ 6 = pow-le-pow_right (omega arith) six in
+    let worth : WORD_BASE ^ length (rotated k u) ≤ WORD_BASE ^ 6 = pow-le-pow_right (omega arith) six in
     absurd (omega (arith, most, small, worth, h.kept)))
     (λ e. e)
 best_answer u f words (Some place) few h = record {
@@ -231,7 +232,7 @@ named_at u f place c h p =
             let least : words_number (rotated place u) ≤ words_number (rotated n.number u) = h.least n.number n.below joins in
             let before : ranks_below (map word_place (rotated n.number u)) (map word_place (rotated place u)) ≡ true = ap (λ x. ranks_below (map word_place x) (map word_place (rotated place u))) (sym n.is) ∙ b in
             let lower : words_number (rotated n.number u) < words_number (rotated place u) =
-            number_order 256 word_place word_place_small (rotated n.number u) (rotated place u) (rotated_length n.number u ∙ sym (rotated_length place u)) before in
+            number_order WORD_BASE word_place word_place_small (rotated n.number u) (rotated place u) (rotated_length n.number u ∙ sym (rotated_length place u)) before in
             omega (arith, least, lower);
       }));
     }

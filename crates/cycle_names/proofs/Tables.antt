@@ -18,6 +18,7 @@ use Rattle.relax_edges.specs.Order.{rank_of}
 use Rattle.relax_edges.specs.WordParts.{word_of}
 use Rattle.relax_edges.specs.AllEdges.{edges_in_order}
 use Rattle.cycle_laws.proofs.RankLaws.{each_edge, rank_injective}
+use Rattle.cycle_names.specs.declared.slot.TheConstants.{SLOT_BASE, WORD_BASE}
 use Rattle.cycle_names.specs.LinkWords.{edge_of_slot, fence_link, dependency_link, mark_letters, kind_link_text, link_word}
 use Rattle.cycle_names.specs.Fitting.{slot_digit, edge_count, word_place}
 use Rattle.text_laws.specs.Names.{is_name_byte}
@@ -103,15 +104,15 @@ pub no_digit : (e : Edge) → slot_digit e ≡ 0 → (is_diff e || is_external e
 unfolding edges_in_order
 no_digit e h = not-true (is_diff e || is_external e) (each_implies (λ e. slot_digit e == 0) (λ e. not (is_diff e || is_external e)) refl e (eq-eqb _ _ h))
 
--- the digit of what an edge joins is one in base 8
-pub slot_digit_small : (e : Edge) → slot_digit e < 8
+-- the digit of what an edge joins is one in its base
+pub slot_digit_small : (e : Edge) → slot_digit e < SLOT_BASE
 unfolding edges_in_order
-slot_digit_small = each_below slot_digit 8 refl
+slot_digit_small = each_below slot_digit SLOT_BASE refl
 
--- the place of a word is a digit in base 256
-pub word_place_small : (e : Edge) → word_place e < 256
+-- the place of a word is a digit in its base
+pub word_place_small : (e : Edge) → word_place e < WORD_BASE
 unfolding edges_in_order
-word_place_small = each_below word_place 256 refl
+word_place_small = each_below word_place WORD_BASE refl
 
 -- a link is the one that joins what it joins, with its word
 is_the : Edge → Option Edge → Bool

@@ -29,7 +29,7 @@ use Rattle.cycle_names.specs.declared.links.Links.TheVariants.{Absent, Alike, Di
 use Rattle.cycle_names.specs.declared.slot.Slot.{Slot}
 use Rattle.cycle_names.specs.declared.slot.Slot.TheVariants as slots
 use Rattle.cycle_names.specs.declared.slot.Digits.{Digits}
-use Rattle.cycle_names.specs.declared.slot.TheConstants.{LINK}
+use Rattle.cycle_names.specs.declared.slot.TheConstants.{LINK, SLOT_BASE, WORD_BASE}
 use Rattle.cycle_names.specs.declared.fit.Fit.{Fit}
 use Rattle.cycle_names.specs.declared.fit.Outline.{Outline}
 use Rattle.cycle_names.specs.declared.words.Separator.{Separator}
@@ -95,7 +95,7 @@ digits_number base (digit ∷ digits) = digit * base ^ length digits + digits_nu
 
 -- what the edges of a list join, as one number
 abbrev pub slots_number : List Edge → ℕ
-slots_number u = digits_number 8 (map slot_digit u)
+slots_number u = digits_number SLOT_BASE (map slot_digit u)
 
 -- the rotation from place k joins what the family's cycle does
 abbrev pub joins_at : List Edge → Family → ℕ → Bool
@@ -165,12 +165,12 @@ word_place edge = kind_word_place (kind_of edge) (letters_place (source_mark edg
 
 -- the places of the words of the links of a list of edges, as one number
 abbrev pub words_number : List Edge → ℕ
-words_number u = digits_number 256 (map word_place u)
+words_number u = digits_number WORD_BASE (map word_place u)
 
 -- the digits of an edge with this digit, whose word has this place
 pub record AreDigits (digit place : ℕ) (digits : Digits) : Type 0 where
   pub slot : digits.slot ≡ digit
-  pub small : digits.slot < 8
+  pub small : digits.slot < SLOT_BASE
   pub word : digits.word ≡ place
   pub count : digits.count ≡ digit_count digit
   pub few : digits.count ≤ LINK

@@ -7,7 +7,7 @@ ghost use Rattle.cycle_names.specs.Fitting.{slots_number, words_number, with_pla
 
 use crate::family::{Family, LONGEST};
 use crate::links::Links;
-use crate::slot::{Digits, LINK, edge_digits};
+use crate::slot::{Digits, LINK, SLOT_BASE, WORD_BASE, edge_digits};
 use arrayvec::ArrayVec;
 use relax_edges::{Edge, Mark};
 
@@ -24,7 +24,7 @@ pub(crate) struct Fit {
 }
 
 /// A list of edges as two numbers with a digit for each edge, the highest for the first: what the
-/// edges join, in base 8, and the places of the words of its links, in base 256.
+/// edges join, in the base `SLOT_BASE`, and the places of the words of its links, in the base `WORD_BASE`.
 #[derive(Clone, Copy)]
 struct Numbers {
     slots: u32,
@@ -105,21 +105,21 @@ fn outline_of(edges: &[Edge], places: &mut Places) -> Option<Outline>
 /// The outline of a list of at most five edges and one more, which has these digits.
 fn with_digits(outline: Outline, digits: Digits) -> Outline
     requires count { outline.count ≤ (LONGEST - 1) * LINK }
-    requires slots { outline.numbers.slots < 8 ^ (LONGEST - 1) }
-    requires words { outline.numbers.words < 256 ^ (LONGEST - 1) }
+    requires slots { outline.numbers.slots < SLOT_BASE ^ (LONGEST - 1) }
+    requires words { outline.numbers.words < WORD_BASE ^ (LONGEST - 1) }
     requires few { digits.count ≤ LINK }
-    requires small { digits.slot < 8 }
+    requires small { digits.slot < SLOT_BASE }
     ensures count { result.count ≡ outline.count + digits.count }
     ensures links { result.links ≡ with_place outline.links digits.word }
-    ensures slots { result.numbers.slots ≡ outline.numbers.slots * 8 + digits.slot }
-    ensures words { result.numbers.words ≡ outline.numbers.words * 256 + digits.word }
+    ensures slots { result.numbers.slots ≡ outline.numbers.slots * SLOT_BASE + digits.slot }
+    ensures words { result.numbers.words ≡ outline.numbers.words * WORD_BASE + digits.word }
 {
     Outline {
         count: outline.count + digits.count,
         links: outline.links.with_place(digits.word),
         numbers: Numbers {
-            slots: outline.numbers.slots * 8 + u32::from(digits.slot),
-            words: outline.numbers.words * 256 + u64::from(digits.word),
+            slots: outline.numbers.slots * SLOT_BASE + u32::from(digits.slot),
+            words: outline.numbers.words * WORD_BASE + u64::from(digits.word),
         },
     }
 }
@@ -179,11 +179,11 @@ fn named_place(edges: &[Edge], family: Family, outline: Outline) -> Option<usize
     best.place
 }
 
-/// The worth of the place before so many digits.
+/// The worth of the place before so many digits. The bases are 2 to the power of 3 and of 8.
 fn worth_before(len: usize) -> Numbers
     requires { len ≤ LONGEST }
-    ensures slots { result.slots ≡ 8 ^ len }
-    ensures words { result.words ≡ 256 ^ len }
+    ensures slots { result.slots ≡ SLOT_BASE ^ len }
+    ensures words { result.words ≡ WORD_BASE ^ len }
 {
     Numbers {
         slots: 1 << (3 * len),
@@ -195,14 +195,14 @@ fn worth_before(len: usize) -> Numbers
 fn turned(numbers: Numbers, worth: Numbers) -> Numbers
     requires slots { numbers.slots < worth.slots }
     requires words { numbers.words < worth.words }
-    requires slots_worth { worth.slots ≤ 8 ^ LONGEST }
-    requires words_worth { worth.words ≤ 256 ^ LONGEST }
-    ensures slots { result.slots ≡ (numbers.slots + numbers.slots % 8 * worth.slots) / 8 }
-    ensures words { result.words ≡ (numbers.words + numbers.words % 256 * worth.words) / 256 }
+    requires slots_worth { worth.slots ≤ SLOT_BASE ^ LONGEST }
+    requires words_worth { worth.words ≤ WORD_BASE ^ LONGEST }
+    ensures slots { result.slots ≡ (numbers.slots + numbers.slots % SLOT_BASE * worth.slots) / SLOT_BASE }
+    ensures words { result.words ≡ (numbers.words + numbers.words % WORD_BASE * worth.words) / WORD_BASE }
 {
     Numbers {
-        slots: (numbers.slots + numbers.slots % 8 * worth.slots) / 8,
-        words: (numbers.words + numbers.words % 256 * worth.words) / 256,
+        slots: (numbers.slots + numbers.slots % SLOT_BASE * worth.slots) / SLOT_BASE,
+        words: (numbers.words + numbers.words % WORD_BASE * worth.words) / WORD_BASE,
     }
 }
 

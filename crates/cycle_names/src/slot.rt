@@ -7,6 +7,12 @@ use relax_edges::{Com, Dir, Edge, Kind, Reach, Sd};
 /// What a link adds to a count.
 pub(crate) const LINK: u16 = 0o1000;
 
+/// The base of the number of what edges join, whose digits are those of `Digits::slot`.
+pub(crate) const SLOT_BASE: u32 = 8;
+
+/// The base of the number of the words of links, whose digits are the places of the words.
+pub(crate) const WORD_BASE: u64 = 256;
+
 /// What an edge of a family's cycle joins.
 #[derive(Clone, Copy)]
 pub(crate) enum Slot {
@@ -37,7 +43,7 @@ impl Slot {
 
 fn link_digit(from: Dir, to: Dir) -> u8
     ensures value { result ≡ link_digit from to }
-    ensures small { result < 8 }
+    ensures small { result < SLOT_BASE }
     ensures count { digit_count result ≡ LINK }
 {
     match (from, to) {

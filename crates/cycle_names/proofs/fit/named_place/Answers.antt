@@ -1,6 +1,7 @@
 -- The place kept at the end is the best of all.
 use Rattle.std.proofs.Common.{◌≡◌, length, sym, ◌∙◌, ap, subst, arith}
 use Rattle.std.proofs.lemmas.List.{length-map}
+use Rattle.cycle_names.specs.declared.slot.TheConstants.{SLOT_BASE, WORD_BASE}
 use Rattle.cycle_names.specs.Families.{family_edges}
 use Rattle.cycle_names.specs.Fitting.{slot_edge, slot_digit, word_place}
 use Rattle.cycle_names.proofs.Numbers.{number_bound}
@@ -9,10 +10,10 @@ use Rattle.cycle_names.proofs.Places.{BestFrom, step, best_kept, best_found, bes
 use Rattle.cycle_names.proofs.fit.named_place.Goals as goal
 
 pub turned-numbers-requires-clause-slots : goal.turned-numbers-requires-clause-slots
-turned-numbers-requires-clause-slots c = number_bound 8 slot_digit slot_digit_small c.args.edges.now c.loop-place.place _ _ c.loop-place.invariant.slots c.worth_before-worth.ensures.slots
+turned-numbers-requires-clause-slots c = number_bound SLOT_BASE slot_digit slot_digit_small c.args.edges.now c.loop-place.place _ _ c.loop-place.invariant.slots c.worth_before-worth.ensures.slots
 
 pub turned-numbers-requires-clause-words : goal.turned-numbers-requires-clause-words
-turned-numbers-requires-clause-words c = number_bound 256 word_place word_place_small c.args.edges.now c.loop-place.place _ _ c.loop-place.invariant.words c.worth_before-worth.ensures.words
+turned-numbers-requires-clause-words c = number_bound WORD_BASE word_place word_place_small c.args.edges.now c.loop-place.place _ _ c.loop-place.invariant.words c.worth_before-worth.ensures.words
 
 pub loop-place-preserved-then-is_better : goal.loop-place-preserved-then-is_better
 loop-place-preserved-then-is_better c =

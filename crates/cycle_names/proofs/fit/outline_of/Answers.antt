@@ -1,5 +1,6 @@
 -- One edge more is one digit more.
 use Rattle.std.proofs.Common.{◌+◌, ◌*◌, ◌∙◌, ap, arith, drop}
+use Rattle.cycle_names.specs.declared.slot.TheConstants.{SLOT_BASE, WORD_BASE}
 use Rattle.cycle_names.specs.Fitting.{slot_digit, word_place, with_place, links_after}
 use Rattle.cycle_names.proofs.LinkTexts.{places_room, places_more}
 use Rattle.cycle_names.proofs.Alike.{links_more}
@@ -13,11 +14,11 @@ push-requires c = (omega arith, places_room c.args.edges.now c.loop-edge.edge-in
 
 pub with_digits-outline-requires-clause-slots : goal.with_digits-outline-requires-clause-slots
 with_digits-outline-requires-clause-slots c =
-    five_digits 8 slot_digit slot_digit_small c.args.edges.now c.loop-edge.edge-index _ (omega arith) (omega (arith, c.loop-edge-test.true, c.requires.few)) c.loop-edge.invariant.slots
+    five_digits SLOT_BASE slot_digit slot_digit_small c.args.edges.now c.loop-edge.edge-index _ (omega arith) (omega (arith, c.loop-edge-test.true, c.requires.few)) c.loop-edge.invariant.slots
 
 pub with_digits-outline-requires-clause-words : goal.with_digits-outline-requires-clause-words
 with_digits-outline-requires-clause-words c =
-    five_digits 256 word_place word_place_small c.args.edges.now c.loop-edge.edge-index _ (omega arith) (omega (arith, c.loop-edge-test.true, c.requires.few)) c.loop-edge.invariant.words
+    five_digits WORD_BASE word_place word_place_small c.args.edges.now c.loop-edge.edge-index _ (omega arith) (omega (arith, c.loop-edge-test.true, c.requires.few)) c.loop-edge.invariant.words
 
 pub returns-in_err-digits : goal.returns-in_err-digits
 returns-in_err-digits c = rw c.from_residual.ensures (none_beside c.args.edges.now c.loop-edge.edge-index _ c.loop-edge-test.true c.in_err-digits.ensures)
@@ -30,6 +31,6 @@ loop-edge-preserved c = record {
       ap (λ links. links_after links (drop (c.loop-edge.edge-index + 1) c.args.edges.now)) (c.with_digits-outline.ensures.links ∙ ap (with_place c.loop-edge.outline.links) c.in_ok-digits.ensures.word)
       ∙ links_more c.args.edges.now c.loop-edge.edge-index _ _ _ c.loop-edge-test.true c.loop-edge.invariant.links;
   small = omega (arith, c.with_digits-outline.ensures.count, c.in_ok-digits.ensures.few, c.loop-edge.invariant.small);
-  slots = c.with_digits-outline.ensures.slots ∙ ap (λ n. c.loop-edge.outline.numbers.slots * 8 + n) c.in_ok-digits.ensures.slot ∙ number_more 8 slot_digit slot_digit_small c.args.edges.now c.loop-edge.edge-index _ _ c.loop-edge-test.true c.loop-edge.invariant.slots;
-  words = c.with_digits-outline.ensures.words ∙ ap (λ n. c.loop-edge.outline.numbers.words * 256 + n) c.in_ok-digits.ensures.word ∙ number_more 256 word_place word_place_small c.args.edges.now c.loop-edge.edge-index _ _ c.loop-edge-test.true c.loop-edge.invariant.words;
+  slots = c.with_digits-outline.ensures.slots ∙ ap (λ n. c.loop-edge.outline.numbers.slots * SLOT_BASE + n) c.in_ok-digits.ensures.slot ∙ number_more SLOT_BASE slot_digit slot_digit_small c.args.edges.now c.loop-edge.edge-index _ _ c.loop-edge-test.true c.loop-edge.invariant.slots;
+  words = c.with_digits-outline.ensures.words ∙ ap (λ n. c.loop-edge.outline.numbers.words * WORD_BASE + n) c.in_ok-digits.ensures.word ∙ number_more WORD_BASE word_place word_place_small c.args.edges.now c.loop-edge.edge-index _ _ c.loop-edge-test.true c.loop-edge.invariant.words;
 }
