@@ -11,8 +11,8 @@ use Rattle.relax_edges.specs.declared.edge.Edge.{Edge}
 use Rattle.relax_edges.specs.AllEdges.{edges_in_order}
 use Rattle.relax_edges.specs.Spelling.{edge_of, spellings_of}
 use Rattle.relax_edges.specs.ReadEdges.{before_edges}
+use Rattle.cycle_laws.proofs.SpellingLaws.{each_spelling}
 use Rattle.edge_lists.specs.Spelled.{edges_spelled, text_edges}
-use Rattle.edge_lists.proofs.LeadingLaws.{found_passes}
 use Rattle.cycle_lines.specs.Cycles.{spelled_made, without_label}
 use Rattle.cycle_lines.proofs.Cuts.{label_none}
 
@@ -25,8 +25,8 @@ unfolding are_without edges_in_order
 all_without = refl
 
 word_without : (word : List ℕ) (edge : Edge) → edge_of word ≡ Some edge → is_without 58 word ≡ true
-unfolding edge_of are_without
-word_without word edge found = found_passes (is_without 58) word edges_in_order edge all_without found
+unfolding are_without
+word_without word edge found = each_spelling (is_without 58) all_without word edge found
 
 both_spelled : (word : List ℕ) (edge : Option Edge) (rest : Option (List Edge)) (edges : List Edge) (words : List (List ℕ)) → edge_of word ≡ edge
     → edges_spelled words ≡ rest → before_edges edge rest ≡ Some edges

@@ -1,16 +1,13 @@
 -- The first edge of a text is read where the text begins with its word and a separator follows.
 use Rattle.std.proofs.Common.{◌≡◌, ℕ, ◌<◌, Bool, true, not, List, [], ◌∷◌, ◌++◌, length, Option, Some, None, refl, sym, ap, ◌∙◌, arith, subst, length-append, append-nil, take, drop, get_or, ◌-◌, ◌≤◌}
-use Rattle.std.specs.List.{slice_split, list_all, list_any, find}
+use Rattle.std.specs.List.{slice_split, list_all}
 use Rattle.std.specs.Option.{option_map}
-use Rattle.std.specs.Str.{bytes_eq}
-use Rattle.std.proofs.lemmas.Bool.{false≢true}
-use Rattle.std.proofs.lemmas.Slice.Eq.{bytes_eq-Decides}
-use Rattle.list_laws.proofs.Cases.{by_test}
 use Rattle.text_laws.proofs.PieceLaws.{split_off, split_whole}
 use Rattle.relax_edges.specs.declared.edge.Edge.{Edge}
 use Rattle.relax_edges.specs.AllEdges.{edges_in_order}
-use Rattle.relax_edges.specs.Spelling.{edge_of, is_spelling, spellings_of}
+use Rattle.relax_edges.specs.Spelling.{edge_of, spellings_of}
 use Rattle.relax_edges.specs.ReadEdges.{before_edges}
+use Rattle.cycle_laws.proofs.SpellingLaws.{each_spelling}
 use Rattle.edge_lists.specs.declared.read.Separators.{Separators}
 use Rattle.edge_lists.specs.declared.read.Separators.TheVariants.{Blanks, BlanksAndCommas}
 use Rattle.edge_lists.specs.declared.list.EdgeList.{EdgeList}
@@ -23,27 +20,6 @@ use Rattle.text_laws.proofs.CutLaws.{rest_whole}
 abbrev is_whole : Separators → List ℕ → Bool
 is_whole s text = list_all (λ byte. not (separates s byte)) text
 
--- what each of some texts passes, one that equals one of them passes
-any_passes : (test : List ℕ → Bool) (text : List ℕ) (texts : List (List ℕ)) → list_all test texts ≡ true → list_any (bytes_eq text) texts ≡ true → test text ≡ true
-any_passes test text [] all any = cc
-any_passes test text (x ∷ texts) all any =
-    by_test (test x)
-    (λ p. by_test (bytes_eq text x)
-    (λ e. subst (λ t. test t ≡ true) (sym ((bytes_eq-Decides text x).0 e)) p)
-    (λ n. any_passes test text texts (rw p at all) (rw n at any)))
-    (λ f. absurd (false≢true (rw f at all)))
-
--- what each spelling of some edges passes, a text that one of them is found by passes
-pub found_passes : (test : List ℕ → Bool) (text : List ℕ) (edges : List Edge) (edge : Edge) → list_all (λ e. list_all test (spellings_of e)) edges ≡ true
-    → find (λ e. is_spelling e text) edges ≡ Some edge → test text ≡ true
-found_passes test text [] edge all found = cc
-found_passes test text (e ∷ edges) edge all found =
-    by_test (list_all test (spellings_of e))
-    (λ p. by_test (is_spelling e text)
-    (λ s. any_passes test text (spellings_of e) p s)
-    (λ n. found_passes test text edges edge (rw p at all) (rw n at found)))
-    (λ f. absurd (false≢true (rw f at all)))
-
 are_whole : Separators → Bool
 are_whole s = list_all (λ e. list_all (is_whole s) (spellings_of e)) edges_in_order
 
@@ -54,8 +30,8 @@ all_whole BlanksAndCommas = refl
 
 -- a text that spells an edge has no separator
 edge_whole : (s : Separators) (text : List ℕ) (edge : Edge) → edge_of text ≡ Some edge → is_whole s text ≡ true
-unfolding edge_of are_whole
-edge_whole s text edge found = found_passes (is_whole s) text edges_in_order edge (all_whole s) found
+unfolding are_whole
+edge_whole s text edge found = each_spelling (is_whole s) (all_whole s) text edge found
 
 -- no text spells no edge
 nothing_spelled : edge_of [] ≡ None

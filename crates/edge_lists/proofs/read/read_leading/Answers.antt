@@ -1,7 +1,7 @@
 -- That an edge is read with whose word a text begins.
 use Rattle.std.proofs.Common.{sym, subst}
 use Rattle.relax_edges.specs.WordParts.{word_of}
-use Rattle.relax_edges.proofs.Spellings.{edge_of-word_of}
+use Rattle.cycle_laws.proofs.SpellingLaws.{edge_of-word_of}
 use Rattle.edge_lists.specs.Leading.{BeginsWith}
 use Rattle.edge_lists.proofs.LeadingLaws.{leading_read}
 use Rattle.edge_lists.proofs.read.read_leading.Goals as goal
