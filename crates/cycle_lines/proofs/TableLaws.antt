@@ -23,7 +23,7 @@ use Rattle.relax_edges.specs.declared.kinds.ArchName.{ArchName}
 use Rattle.relax_edges.specs.declared.edge.Edge.{Edge}
 use Rattle.cycle_names.specs.declared.family.Family.{Family}
 use Rattle.cycle_names.specs.declared.family.Family.TheVariants as families
-use Rattle.cycle_names.specs.Families.{family_word}
+use Rattle.cycle_names.specs.Families.{all_families, family_word}
 use Rattle.cycle_names.specs.CycleNames.{name_of}
 use Rattle.cycle_names.specs.Rotations.{family_of}
 use Rattle.cycle_lines.specs.declared.names.FamilyNames.{FamilyNames}
@@ -212,10 +212,11 @@ classified arch s t a b table h w = record { cycles = h.cycles; read = h.read; w
 pub classified_part : (arch : ArchName) (s t : SourceSeen) (a b : SinkSeen) (table : List FamilyEntry) (h : GatheredFamilies arch s t table) → WrotePart a b (families_text h.cycles) → ClassifiedPart arch s t a b
 classified_part arch s t a b table h w = record { cycles = h.cycles; read = h.read; wrote = w }
 
--- nothing is kept at the start
-pub none_held : (table : List FamilyNames) → ◌≡◌ {A = List FamilyEntry} (map family_view table) (map (λ f. (f, [])) families_in_order) → HoldsCycles (map family_view table) []
+-- nothing is kept at the start, where no family of the table has a name, and the last entry, of the cycles of none, has none
+pub none_held : (table : List FamilyNames) (other : FamilyNames) → ◌≡◌ {A = List FamilyEntry} (map family_view table) (map (λ f. (f, [])) all_families)
+    → other.family ≡ families.Other → names_in_set other.names ≡ [] → HoldsCycles (map family_view (table ++ other ∷ [])) []
 unfolding family_names
-none_held table e = e
+none_held table other e f n = map_push family_view table other ∙ rw (e, f, n) refl
 
 -- a source was read up to where there is no memory
 pub part_read : (arch : ArchName) (s t : SourceSeen) (r : ReaderSeen) (cycles : List (List Edge)) → HasRead arch s t r cycles → ReadsPart s t

@@ -9,30 +9,11 @@ ghost use Rattle.cycle_lines.specs.FamilyTables.{place_of_family, family_view, e
 
 use crate::names::FamilyNames;
 use arrayvec::ArrayString;
-use cycle_names::{Family, MAX_NAME, name_and_family};
+use cycle_names::{FAMILIES, Family, MAX_NAME, name_and_family};
 use diy_io::{Failed, NoMemory, Page, Sink};
 use edge_algebra::Cycle;
 use std::alloc::Global;
 use std::collections::BTreeSet;
-
-/// The families of the table, and that of the cycles of none.
-const FAMILIES: [Family; 15] = [
-    Family::SB,
-    Family::MP,
-    Family::LB,
-    Family::R,
-    Family::S,
-    Family::W2,
-    Family::WRC,
-    Family::RWC,
-    Family::ISA2,
-    Family::IRIW,
-    Family::WRWC,
-    Family::SB3,
-    Family::LB3,
-    Family::W3,
-    Family::Other,
-];
 
 /// The place of a family in the table.
 fn place_of(family: Family) -> usize
@@ -67,6 +48,7 @@ pub(crate) fn no_names(alloc: Global) -> Result<Vec<FamilyNames>, NoMemory>
     for family in &FAMILIES {
         table.push(FamilyNames::new(alloc, *family))?;
     }
+    table.push(FamilyNames::new(alloc, Family::Other))?;
     Ok(table)
 }
 
