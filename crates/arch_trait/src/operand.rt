@@ -1,10 +1,9 @@
-ghost use Rattle.std.specs.Prelude.{◌≡◌, ◌<◌, ◌≤◌, ◌+◌, ◌++◌, ◌∷◌, [], length};
-ghost use Rattle.arch_trait.specs.Writing.{immediate_number, label_raw, label_name};
+ghost use Rattle.std.specs.Prelude.{◌≡◌};
+ghost use Rattle.arch_trait.specs.Writing.{immediate_number, label_raw};
 ghost use Rattle.arch_trait.specs.InstructionPieces.{raw_seen, operand_texts};
 ghost use Rattle.arch_trait.specs.Forms.{label_alone};
 
 use crate::reading::{Named, Operands, Raw};
-use arrayvec::ArrayString;
 use final_cond::number_of;
 use micro_ops::Micro;
 
@@ -45,25 +44,4 @@ fn read_label(word: &[u8]) -> Option<Raw<'_>>
         }),
         _ => None,
     }
-}
-
-/// Appends the name of a label: LC and its number in two digits.
-pub fn push_label<const N: usize>(label: u8, out: &mut ArrayString<N>)
-    requires two_digits { label < 100 }
-    requires room { length out.old.bytes + 4 ≤ N }
-    ensures { out.new.bytes ≡ out.old.bytes ++ label_name label }
-{
-    out.push_str("LC");
-    push_ascii(out, b'0' + label / 10);
-    push_ascii(out, b'0' + label % 10);
-}
-
-/// Appends one ASCII byte.
-#[tactic(auto, using(std::proofs::lemmas::Str::encode_ascii))]
-pub(crate) fn push_ascii<const N: usize>(out: &mut ArrayString<N>, byte: u8)
-    requires ascii { byte < 128 }
-    requires room { length out.old.bytes < N }
-    ensures { out.new.bytes ≡ out.old.bytes ++ byte ∷ [] }
-{
-    out.push(char::from(byte));
 }

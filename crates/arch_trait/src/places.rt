@@ -2,7 +2,7 @@ ghost use Rattle.std.specs.Prelude.{◌≡◌, ◌<◌, ◌≤◌, ◌++◌, ◌
 ghost use Rattle.text_laws.specs.Names.{is_place_name};
 ghost use Rattle.arch_trait.specs.PlaceNames.{IsTable, letters, location_name, number_in, number_added, names_added};
 
-use crate::operand::push_ascii;
+use crate::push::push_ascii;
 use crate::step::MAX_STEPS;
 use arrayvec::ArrayVec;
 use final_cond::{PlaceName, place_name};
@@ -149,11 +149,11 @@ fn location_name(i: u8) -> PlaceName
     ensures { result.bytes ≡ location_name i }
 {
     let mut name = PlaceName::new();
-    push_ascii(&mut name, LETTERS[usize::from(i % 26)]);
+    push_ascii(LETTERS[usize::from(i % 26)], &mut name);
     let lap = i / 26;
     if lap > 0 {
-        push_ascii(&mut name, b'_');
-        push_ascii(&mut name, b'0' + lap);
+        push_ascii(b'_', &mut name);
+        push_ascii(b'0' + lap, &mut name);
     }
     name
 }

@@ -3,8 +3,8 @@ ghost use Rattle.std.specs.List.{list_all};
 ghost use Rattle.instruction_forms.specs.FixedTexts.{text_around, barrier_text, fixed_text, has_room, is_short, have_room};
 
 use crate::operands::barrier_number;
-use crate::push::{Text, push_digit};
-use arch_trait::MAX_TEXT;
+use crate::push::Text;
+use arch_trait::{MAX_TEXT, push_digit};
 use micro_ops::{Barrier, Micro};
 
 /// The texts before, between and after the two numbers of an instruction.

@@ -16,5 +16,5 @@ mod sorts;
 pub use fixed::{BarrierText, FixedTexts, TextsAround, print_fixed};
 pub use has::has_by;
 pub use print::{print_by, print_with};
-pub use push::{push_digit, push_short};
+pub use push::push_short;
 pub use read::read_by;

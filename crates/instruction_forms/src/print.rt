@@ -9,9 +9,9 @@ ghost use Rattle.instruction_forms.specs.Printing.{separator_byte, byte_before, 
 use crate::fits::{after_hole, fits_first};
 use crate::fixed::{FixedTexts, print_short};
 use crate::operands::operands_of;
-use crate::push::{Text, push_label, push_number, push_place, push_short, push_word};
+use crate::push::{Text, push_place, push_short, push_word};
 use crate::sorts::{Sort, may_do, op_sort};
-use arch_trait::{MAX_TEXT, Places};
+use arch_trait::{MAX_TEXT, Places, push_label, push_number};
 use arrayvec::ArrayString;
 use form_laws::{Form, Hole, Operand, Piece, Table};
 use micro_ops::Micro;

@@ -1,8 +1,23 @@
 -- There is room for the name of a numbered register, which is a letter and at most three digits.
-use Rattle.std.proofs.Common.{◌∷◌, [], ◌+◌, length, length-append, ap, arith}
+use Rattle.std.proofs.Common.{◌∷◌, [], ◌+◌, length, length-append, ap, arith, rules}
 use Rattle.std.specs.Fmt.{decimal}
 use Rattle.list_laws.proofs.Digits.{three_digits}
 use Rattle.arch_trait.proofs.numbered.Numbered.push.Goals as goal
+
+pub push_number-requires : goal.push_number-requires
+push_number-requires g c =
+    let n = c.from.result + c.from-2.result in
+    let digits = three_digits n (omega (arith, c.from.ensures, c.from-2.ensures, c.ranges.r)) in (
+      search rules,
+      omega (
+        arith,
+        digits,
+        c.requires.room,
+        ap length c.push_ascii.ensures,
+        length-append c.args.out.now.bytes (c.args.self.letter ∷ []),
+        length-append c.push_ascii.new.out.bytes (decimal n),
+      ),
+    )
 
 pub returns-clause-short : goal.returns-clause-short
 returns-clause-short g c =
