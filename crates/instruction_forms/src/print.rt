@@ -96,16 +96,17 @@ fn print_first(forms: &[Form], op: &Micro, places: &Places, out: &mut Text)
     let sort = op_sort(op);
     let mut left = forms;
     while let [form, remainder @ ..] = left {
-        if print_of_sort(form, op, sort, places, out) {
+        if print_if(form, op, sort, places, out) {
             return;
         }
         left = remainder;
     }
 }
 
-/// The same as `print_if`. `sort` is that of the operation.
+/// Makes `out`, which is empty, the operation as an instruction of a form, if the form does it. `sort` is that of
+/// the operation: a form of another sort is passed over before any operands are made.
 #[inline(always)]
-fn print_of_sort(form: &Form, op: &Micro, sort: Sort, places: &Places, out: &mut Text) -> bool
+fn print_if(form: &Form, op: &Micro, sort: Sort, places: &Places, out: &mut Text) -> bool
     requires sort { sort ≡ op_sort op.now }
     requires good { is_form_good (form_seen form.now) ≡ true }
     requires place { place_short (name_in places.now) op.now ≡ true }
@@ -114,23 +115,9 @@ fn print_of_sort(form: &Form, op: &Micro, sort: Sort, places: &Places, out: &mut
     ensures printed { result ≡ true → out.new.bytes ≡ form_op_text (name_in places.now) op.now (form_seen form.now) }
     ensures kept { result ≡ false → out.new.bytes ≡ [] }
 {
-    if may_do(form, op, sort) {
-        print_if(form, op, places, out)
-    } else {
-        false
+    if !may_do(form, op, sort) {
+        return false;
     }
-}
-
-/// Makes `out`, which is empty, the operation as an instruction of a form, if the form does it.
-#[inline(always)]
-fn print_if(form: &Form, op: &Micro, places: &Places, out: &mut Text) -> bool
-    requires good { is_form_good (form_seen form.now) ≡ true }
-    requires place { place_short (name_in places.now) op.now ≡ true }
-    requires empty { out.old.bytes ≡ [] }
-    ensures does { result ≡ does op.now (form_seen form.now) }
-    ensures printed { result ≡ true → out.new.bytes ≡ form_op_text (name_in places.now) op.now (form_seen form.now) }
-    ensures kept { result ≡ false → out.new.bytes ≡ [] }
-{
     match operands_of(&form.kind, op) {
         Some(operands) => print_form(form, operands.as_slice(), places, out),
         None => false,

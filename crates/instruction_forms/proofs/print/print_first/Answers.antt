@@ -3,22 +3,22 @@ use Rattle.std.proofs.Common.{◌∙◌, sym}
 use Rattle.instruction_forms.proofs.Printed.{walk_good, walk_on, walk_found, walk_ends}
 use Rattle.instruction_forms.proofs.print.print_first.Goals as goal
 
-pub print_of_sort-requires-clause-good : goal.print_of_sort-requires-clause-good
-print_of_sort-requires-clause-good c =
+pub print_if-requires-clause-good : goal.print_if-requires-clause-good
+print_if-requires-clause-good c =
     walk_good _ _ _ c.loop-left.left.now _ c.in-len1-up.len_at_least c.loop-left.invariant.walk
 
-pub returns-then-print_of_sort : goal.returns-then-print_of_sort
-returns-then-print_of_sort c =
-    let made = c.print_of_sort.ensures in
-    made.printed c.if-print_of_sort.true ∙
-    walk_found _ _ _ c.loop-left.left.now _ c.in-len1-up.len_at_least c.loop-left.invariant.walk (sym made.does ∙ c.if-print_of_sort.true)
+pub returns-then-print_if : goal.returns-then-print_if
+returns-then-print_if c =
+    let made = c.print_if.ensures in
+    made.printed c.if-print_if.true ∙
+    walk_found _ _ _ c.loop-left.left.now _ c.in-len1-up.len_at_least c.loop-left.invariant.walk (sym made.does ∙ c.if-print_if.true)
 
 pub loop-left-preserved : goal.loop-left-preserved
 loop-left-preserved c =
-    let made = c.print_of_sort.ensures in
+    let made = c.print_if.ensures in
     record {
-      empty = made.kept c.if-print_of_sort.false;
-      walk = walk_on _ _ _ c.loop-left.left.now _ c.in-len1-up.len_at_least c.loop-left.invariant.walk (sym made.does ∙ c.if-print_of_sort.false);
+      empty = made.kept c.if-print_if.false;
+      walk = walk_on _ _ _ c.loop-left.left.now _ c.in-len1-up.len_at_least c.loop-left.invariant.walk (sym made.does ∙ c.if-print_if.false);
     }
 
 pub returns : goal.returns
