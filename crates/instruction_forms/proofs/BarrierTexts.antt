@@ -4,6 +4,7 @@ use Rattle.std.specs.List.{list_all}
 use Rattle.std.proofs.Math.Seq.{take-length}
 use Rattle.std.proofs.lemmas.Bool.{and_parts, leb-true, eq-eqb, ne_eqb}
 use Rattle.micro_ops.specs.declared.operation.Barrier.{Barrier}
+use Rattle.arch_trait.specs.declared.arch.TheConstants.{MAX_TEXT}
 use Rattle.form_laws.specs.Kinds.{barrier_number}
 use Rattle.instruction_forms.specs.declared.fixed.BarrierText.{BarrierText}
 use Rattle.instruction_forms.specs.FixedTexts.{barrier_text, is_short}
@@ -29,9 +30,9 @@ later_text (t ∷ ts) d b l h =
     sym (other ∙ ap (λ us. barrier_text us b) (rest_is t ts))
 
 -- the first text has room
-pub first_short : (ts : List BarrierText) (d : BarrierText) → 1 ≤ length ts → list_all is_short ts ≡ true → length (get_or ts 0 d).text.now ≤ 40
+pub first_short : (ts : List BarrierText) (d : BarrierText) → 1 ≤ length ts → list_all is_short ts ≡ true → length (get_or ts 0 d).text.now ≤ MAX_TEXT
 first_short [] d l h = absurd (omega (arith, l))
-first_short (t ∷ ts) d l h = leb-true (length t.text.now) 40 (and_parts (is_short t) (list_all is_short ts) h).0
+first_short (t ∷ ts) d l h = leb-true (length t.text.now) MAX_TEXT (and_parts (is_short t) (list_all is_short ts) h).0
 
 -- the later texts have room
 pub later_short : (ts : List BarrierText) → 1 ≤ length ts → list_all is_short ts ≡ true → list_all is_short (take (length ts - 1) (drop 1 ts)) ≡ true
