@@ -2,56 +2,73 @@
 -- accesses at an address that depends on a register, and what joins a dependency to a number. What each sort of them keeps is
 -- proved here once; an architecture says of which sort its own are, and that its table has them.
 -- Source: own.
-use Rattle.std.proofs.Common.{◌+◌, ◌<◌, ◌^◌, ◌≡◌, refl, true, [], ◌∷◌, Some, None, ◌∙◌, sym, ap, append-nil, arith}
+use Rattle.std.proofs.Common.{ℕ, ◌+◌, ◌<◌, ◌≤◌, ◌^◌, ◌≡◌, refl, Bool, true, bit_or, List, [], ◌∷◌, ◌++◌, length, Some, None, ◌∙◌, sym, ap, append-nil, arith}
+use Rattle.std.specs.List.{list_all}
 use Rattle.std.proofs.lemmas.Bool.{and_from, or_left, eq-eqb}
 use Rattle.micro_ops.specs.declared.held.Held.{Held}
+use Rattle.micro_ops.specs.declared.operation.Micro.{Micro}
 use Rattle.micro_ops.specs.declared.operation.Micro.TheVariants as ops
 use Rattle.micro_ops.specs.Machine.{num, address_held, bit}
-use Rattle.micro_ops.specs.Running.{At, go, lands}
+use Rattle.micro_ops.specs.Running.{Run, At, go, exec, labels_of, lands}
+use Rattle.arch_trait.specs.Cells.{access_count}
+use Rattle.arch_trait.specs.Laws.{DidLink, is_at_place}
 use Rattle.arch_laws.proofs.Masks.{zero_or}
 use Rattle.arch_laws.proofs.Rules.{holding, after_cmp, after_branch, run_add_imm, run_or_imm, run_add_address, run_load, run_load_wants, run_load_index, run_load_index_wants, run_store, run_store_index, run_cmp_branch, run_branch_nz}
 use Rattle.arch_laws.proofs.Accesses.{written_same, written_other}
 use Rattle.arch_laws.proofs.AddressedInstructions.{IsBranch, AreDependent, IsJoining, same_run, but_address}
 
+-- what a link's laws ask of code, but for its run
+record Asked : Type 0 where
+  labels : List ℕ
+  jumps : Bool
+  no_place : ℕ → Bool
+  accesses : ℕ
+
+abbrev asked : List Micro → Asked
+asked code = record {
+  labels = labels_of code;
+  jumps = lands code;
+  no_place = λ p. list_all (is_at_place p) code;
+  accesses = access_count code;
+}
+
+-- what changes the flags alone, and then branches depending on the loads of a mask, does what a link of this mask does
+branched : (code : List Micro) (r : Run) (equal : Bool) (flag_mask mask : ℕ) → exec code (At r) ≡ At (after_branch (after_cmp r equal flag_mask) mask) →
+    DidLink code r [] (bit_or r.state.control mask)
+branched code r equal flag_mask mask ran = record {
+  after = after_branch (after_cmp r equal flag_mask) mask;
+  ran = ran;
+  made_is = sym (append-nil r.made);
+  control_is = refl;
+  loads_is = refl;
+  reads_is = refl;
+  regs_is = refl;
+}
+
+-- short code of which the laws ask no more than of one branch to the label after it depends on a register, if its runs do
+is_branch : (branch : ℕ → ℕ → List Micro) → ((s n : ℕ) → length (branch s n) ≤ 2) →
+    ((s n : ℕ) (rest : List Micro) → asked (branch s n ++ ops.Label n ∷ rest) ≡ asked (ops.BranchEq n ∷ ops.Label n ∷ rest)) →
+    ((s n v k : ℕ) (r : Run) → r.state.regs s ≡ num v (bit k) → DidLink (branch s n ++ ops.Label n ∷ []) r [] (bit_or r.state.control (bit k))) →
+    IsBranch branch
+is_branch branch room same runs = record {
+  runs = runs;
+  room = room;
+  label = λ s n rest. ap (λ (a : Asked). a.labels) (same s n rest);
+  jumps = λ s n rest h. ap (λ (a : Asked). a.jumps) (same s n rest) ∙ and_from _ _ (or_left _ _ (eq-eqb n n refl)) h;
+  no_place = λ s n p rest h. ap (λ (a : Asked). a.no_place p) (same s n rest) ∙ h;
+  no_access = λ s n rest. ap (λ (a : Asked). a.accesses) (same s n rest);
+}
+
 -- a comparison of a register with itself and a branch where the two are equal depend on the register
 pub compares : IsBranch (λ s n. ops.Cmp s s ∷ ops.BranchEq n ∷ [])
-compares = record {
-  runs = λ s n v k r e. record {
-    after = after_branch (after_cmp r true (bit k)) (bit k);
-    ran =
-        run_cmp_branch s n r ∙
-        ap (λ m. At (after_branch (after_cmp r true m) m)) (ap (λ (h : Held). h.mask) e);
-    made_is = sym (append-nil r.made);
-    control_is = refl;
-    loads_is = refl;
-    reads_is = refl;
-    regs_is = refl;
-  };
-  room = λ s n. omega arith;
-  label = λ s n rest. refl;
-  jumps = λ s n rest h. and_from _ _ (or_left _ _ (eq-eqb n n refl)) h;
-  no_place = λ s n p rest h. h;
-  no_access = λ s n rest. refl;
-}
+compares = is_branch _ (λ s n. omega arith) (λ s n rest. refl)
+    (λ s n v k r e. branched _ r true (bit k) (bit k)
+    (run_cmp_branch s n r ∙ ap (λ m. At (after_branch (after_cmp r true m) m)) (ap (λ (h : Held). h.mask) e)))
 
 -- a branch where a register isn't 0 depends on the register
 pub tests : IsBranch (λ s n. ops.BranchNz s n ∷ [])
-tests = record {
-  runs = λ s n v k r e. record {
-    after = after_branch r (bit k);
-    ran = run_branch_nz s n v (bit k) r e;
-    made_is = sym (append-nil r.made);
-    control_is = refl;
-    loads_is = refl;
-    reads_is = refl;
-    regs_is = refl;
-  };
-  room = λ s n. omega arith;
-  label = λ s n rest. refl;
-  jumps = λ s n rest h. and_from _ _ (or_left _ _ (eq-eqb n n refl)) h;
-  no_place = λ s n p rest h. h;
-  no_access = λ s n rest. refl;
-}
+tests = is_branch _ (λ s n. omega arith) (λ s n rest. refl)
+    (λ s n v k r e. branched _ r r.state.flag r.state.flag_mask (bit k) (run_branch_nz s n v (bit k) r e))
 
 -- accesses with an index register depend on it
 pub indexed : AreDependent (λ d v a. ops.Load v a (Some d) ∷ []) (λ d v a. ops.Store v a (Some d) ∷ [])
