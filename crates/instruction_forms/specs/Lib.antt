@@ -1,3 +1,4 @@
 pub mod FixedTexts
+pub mod FixedTextLaws
 pub mod Founds
 pub mod Printing

@@ -1,4 +1,6 @@
--- The fixed texts of operations are what a table writes, where the checker finds it so for all digits and all barriers.
+-- The law by which an architecture proves that its fixed texts are what its table writes: the checker finds it so for all digits
+-- and all barriers.
+-- Source: own.
 use Rattle.std.proofs.Common.{ℕ, zero, suc, ◌+◌, ◌<◌, ◌≡◌, Bool, true, cond, ◌&&◌, nat_lt, List, ◌∷◌, ◌++◌, Option, Some, None, sym, ap, ◌∙◌, arith}
 use Rattle.std.specs.List.{list_all}
 use Rattle.std.specs.Str.{bytes_eq}
@@ -19,6 +21,7 @@ abbrev all_below : ℕ → (ℕ → Bool) → Bool
 all_below zero p = true
 all_below (suc n) p = p n && all_below n p
 
+-- each number below n passes what all pass
 each_below : (n : ℕ) (p : ℕ → Bool) (i : ℕ) → all_below n p ≡ true → i < n → p i ≡ true
 each_below zero p i h l = absurd (omega (arith, l))
 each_below (suc n) p i h l =
@@ -29,6 +32,7 @@ each_below (suc n) p i h l =
 abbrev digits_pass : (ℕ → ℕ → Bool) → Bool
 digits_pass p = all_below 10 (λ x. all_below 10 (p x))
 
+-- each pair of digits passes what all pass
 each_pair : (p : ℕ → ℕ → Bool) (x y : ℕ) → digits_pass p ≡ true → x < 10 → y < 10 → p x y ≡ true
 each_pair p x y h l m = each_below 10 (p x) y (each_below 10 (λ z. all_below 10 (p z)) x h l) m
 
@@ -37,6 +41,7 @@ abbrev is_if_some : Option (List ℕ) → List ℕ → Bool
 is_if_some None text = true
 is_if_some (Some fixed) text = bytes_eq fixed text
 
+-- a text that passes is the other
 is_some_text : (o : Option (List ℕ)) (fixed text : List ℕ) → is_if_some o text ≡ true → o ≡ Some fixed → fixed ≡ text
 is_some_text None fixed text h e = cc
 is_some_text (Some t) fixed text h e =
@@ -77,7 +82,7 @@ pass t table names h (ops.Store s a None) text e =
 pass t table names h (ops.Barrier b) text e = each_barrier (λ kind. is_written t table names (ops.Barrier kind)) h.barriers b
 pass t table names h op text e = cc
 
--- fixed texts that pass the tests are what the table writes
+-- fixed texts that have room, and pass the tests whatever the names of places, are what the table writes
 pub are_of_table : (t : FixedTexts) (table : TableText) → ((names : ℕ → List ℕ) → AreWritten t table names) → have_room t ≡ true → AreOfTable t table
 are_of_table t table h room = record {
   written = λ names op text e. is_some_text (fixed_text t op) text (written_text (table_written table names op)) (pass t table names (h names) op text e) e;
