@@ -66,7 +66,7 @@ impl Arch for Riscv {
         read_by(table(), word, operands)
     }
 
-    #[tactic(auto, using(crate::specs::ReadsBack::name_is))]
+    #[tactic(auto, using(arch_laws::proofs::FormBacks::name_at))]
     fn register_name(r: u8, out: &mut RegName) {
         out.clear();
         NAMES.push(r, out);
