@@ -17,7 +17,7 @@ use Rattle.cycle_names.specs.declared.links.Links.{Links}
 use Rattle.cycle_names.specs.declared.links.Links.TheVariants.{Absent, Alike, Different}
 use Rattle.cycle_names.specs.LinkWords.{link_words}
 use Rattle.cycle_names.specs.CycleNames.{links_text}
-use Rattle.cycle_names.specs.Fitting.{link_text, place_text, word_place, has_word_place, with_place, links_after}
+use Rattle.cycle_names.specs.Fitting.{link_text, place_text, word_place, has_word_place, links_with_place, links_after}
 use Rattle.cycle_names.proofs.LinkTexts.{text_at_place}
 use Rattle.cycle_names.proofs.Members.{all_of_member, found_first, found_later, found_in, found_nowhere, found_among, found_passes}
 use Rattle.cycle_names.proofs.Tables.{no_place, some_place}
@@ -98,7 +98,7 @@ after_none : (v : List Edge) → find is_diff v ≡ None → links_after Absent 
 after_none [] h = refl
 after_none (d ∷ v) h =
     let none = found_nowhere is_diff d v h in
-    ap (λ n. links_after (with_place Absent n) v) (no_place d none.0) ∙ after_none v none.1
+    ap (λ n. links_after (links_with_place Absent n) v) (no_place d none.0) ∙ after_none v none.1
 
 -- else the words are alike where all have the place of the first
 after_first : (v : List Edge) (e : Edge) → find is_diff v ≡ Some e →
@@ -114,13 +114,13 @@ after_first (d ∷ v) e h =
           ∙ sym (ap (λ b. cond (b && list_all (has_word_place (word_place d)) v) (Alike (word_place d)) Different) itself) in
           subst (λ x. links_after Absent (d ∷ v) ≡ cond (list_all (has_word_place (word_place x)) (d ∷ v)) (Alike (word_place x)) Different) same here
       | found_later f rest ↦
-          ap (λ n. links_after (with_place Absent n) v) (no_place d f)
+          ap (λ n. links_after (links_with_place Absent n) v) (no_place d f)
           ∙ after_first v e rest
           ∙ sym (ap (λ b. cond (b && list_all (has_word_place (word_place e)) v) (Alike (word_place e)) Different) (plain_passes (word_place e) d f))
     ]
 
 -- one edge more
-pub links_more : (u : List Edge) (i : ℕ) (d : Edge) (links all : Links) → i < length u → links_after links (drop i u) ≡ all → links_after (with_place links (word_place (get_or u i d))) (drop (i + 1) u) ≡ all
+pub links_more : (u : List Edge) (i : ℕ) (d : Edge) (links all : Links) → i < length u → links_after links (drop i u) ≡ all → links_after (links_with_place links (word_place (get_or u i d))) (drop (i + 1) u) ≡ all
 links_more u i d links all h e = sym (ap (links_after links) (drop_more u i d h)) ∙ e
 
 -- no edge more

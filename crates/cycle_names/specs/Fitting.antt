@@ -186,15 +186,15 @@ abbrev pub has_word_place : ℕ → Edge → Bool
 has_word_place place edge = (word_place edge == 0) || (word_place edge == place)
 
 -- what one edge more says of the words of links, by the place of its word
-abbrev pub with_place : Links → ℕ → Links
-with_place Absent place = cond (place == 0) Absent (Alike place)
-with_place (Alike other) place = cond ((place == 0) || (place == other)) (Alike other) Different
-with_place Different place = Different
+abbrev pub links_with_place : Links → ℕ → Links
+links_with_place Absent place = cond (place == 0) Absent (Alike place)
+links_with_place (Alike other) place = cond ((place == 0) || (place == other)) (Alike other) Different
+links_with_place Different place = Different
 
 -- what the words of links are like with those of these edges
 abbrev pub links_after : Links → List Edge → Links
 links_after links [] = links
-links_after links (edge ∷ u) = links_after (with_place links (word_place edge)) u
+links_after links (edge ∷ u) = links_after (links_with_place links (word_place edge)) u
 
 -- what is found out of a list of edges, and the places of the words of its links
 pub record IsOutlineOf (u : List Edge) (outline : Outline) (listed : List ℕ) : Type 0 where

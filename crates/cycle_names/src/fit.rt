@@ -3,7 +3,7 @@ ghost use Rattle.relax_edges.specs.declared.kinds.Mark.TheVariants.{Plain};
 ghost use Rattle.relax_edges.specs.EdgeTable.{target_mark, same_mark, is_external};
 ghost use Rattle.cycle_laws.specs.Composable.{IsCycle};
 ghost use Rattle.cycle_names.specs.Rotations.{all_unmarked, is_plain_outside, found_family};
-ghost use Rattle.cycle_names.specs.Fitting.{slots_number, words_number, with_place, family_of_counts, JoinsNone, JoinsLeast, IsOutlineOf, IsFitOf};
+ghost use Rattle.cycle_names.specs.Fitting.{slots_number, words_number, links_with_place, family_of_counts, JoinsNone, JoinsLeast, IsOutlineOf, IsFitOf};
 
 use crate::family::{Family, LONGEST};
 use crate::links::Links;
@@ -110,7 +110,7 @@ fn with_digits(outline: Outline, digits: Digits) -> Outline
     requires few { digits.count ≤ LINK }
     requires small { digits.slot < SLOT_BASE }
     ensures count { result.count ≡ outline.count + digits.count }
-    ensures links { result.links ≡ with_place outline.links digits.word }
+    ensures links { result.links ≡ links_with_place outline.links digits.word }
     ensures slots { result.numbers.slots ≡ outline.numbers.slots * SLOT_BASE + digits.slot }
     ensures words { result.numbers.words ≡ outline.numbers.words * WORD_BASE + digits.word }
 {
@@ -168,7 +168,7 @@ fn named_place(edges: &[Edge], family: Family, outline: Outline) -> Option<usize
         place: None,
     };
     for place in (0..edges.len()).rev() {
-        numbers = turned(numbers, worth);
+        numbers = turn(numbers, worth);
         if is_better(numbers, wanted, best) {
             best = Best {
                 words: numbers.words,
@@ -192,7 +192,7 @@ fn worth_before(len: usize) -> Numbers
 }
 
 /// The numbers of a rotation with its last edge put before the others.
-fn turned(numbers: Numbers, worth: Numbers) -> Numbers
+fn turn(numbers: Numbers, worth: Numbers) -> Numbers
     requires slots { numbers.slots < worth.slots }
     requires words { numbers.words < worth.words }
     requires slots_worth { worth.slots ≤ SLOT_BASE ^ LONGEST }

@@ -1,5 +1,5 @@
 ghost use Rattle.std.specs.Prelude.{◌≡◌};
-ghost use Rattle.cycle_names.specs.Fitting.{with_place};
+ghost use Rattle.cycle_names.specs.Fitting.{links_with_place};
 
 /// What the words of the links of a list of edges are like.
 #[derive(Clone, Copy)]
@@ -15,7 +15,7 @@ pub(crate) enum Links {
 impl Links {
     /// With one edge more, whose word has this place.
     pub(crate) fn with_place(self, place: u8) -> Links
-        ensures { result ≡ with_place self place }
+        ensures { result ≡ links_with_place self place }
     {
         match self {
             Links::Absent => {

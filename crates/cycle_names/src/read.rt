@@ -281,14 +281,14 @@ fn mark_along(from: Mark, unmarked: &[Edge], to: Mark, edges: &mut Edges) -> Res
         [] => Ok(()),
         [edge, rest @ ..] => {
             let next = first_mark(rest, to);
-            edges.push(marked_between(from, *edge, next)?);
+            edges.push(mark_between(from, *edge, next)?);
             mark_along(edge.target_mark(), rest, to, edges)
         }
     }
 }
 
 /// An external edge with the marks of the accesses beside it, another edge with its own.
-fn marked_between(from: Mark, edge: Edge, to: Mark) -> Result<Edge, NotAName>
+fn mark_between(from: Mark, edge: Edge, to: Mark) -> Result<Edge, NotAName>
     ensures { result_ok result ≡ marked_between from edge to }
 {
     if edge.is_external() {

@@ -26,23 +26,23 @@ last_inked [] byte h = rw h refl
 last_inked (b ∷ text) byte h = ap (kept_before b) (last_inked text byte h) ∙ kept_whole b text byte
 
 -- a text of one byte or more is the text before its last byte, and that byte
-pub front_and_last : (text : List ℕ) → 1 ≤ length text → text ≡ take (length text - 1) text ++ get_or text (length text - 1) 0 ∷ []
-front_and_last [] h = absurd (omega arith)
-front_and_last (b ∷ []) h = refl
-front_and_last (b ∷ c ∷ text) h =
-    let further : c ∷ text ≡ take (length (c ∷ text) - 1) (c ∷ text) ++ get_or (c ∷ text) (length (c ∷ text) - 1) 0 ∷ [] = front_and_last (c ∷ text) (omega arith) in
+pub split_at_last : (text : List ℕ) → 1 ≤ length text → text ≡ take (length text - 1) text ++ get_or text (length text - 1) 0 ∷ []
+split_at_last [] h = absurd (omega arith)
+split_at_last (b ∷ []) h = refl
+split_at_last (b ∷ c ∷ text) h =
+    let further : c ∷ text ≡ take (length (c ∷ text) - 1) (c ∷ text) ++ get_or (c ∷ text) (length (c ∷ text) - 1) 0 ∷ [] = split_at_last (c ∷ text) (omega arith) in
     let e : length (b ∷ c ∷ text) - 1 ≡ suc (length (c ∷ text) - 1) = omega arith in
     rw e (ap (λ t. b ∷ t) further)
 
 -- a blank at the end of a text falls away
 pub blank_off : (text : List ℕ) → 1 ≤ length text → is_blank (get_or text (length text - 1) 0) ≡ true → before_blanks (take (length text - 1) text) ≡ before_blanks text
 blank_off text h blank =
-    sym (last_blank (take (length text - 1) text) (get_or text (length text - 1) 0) blank) ∙ ap before_blanks (sym (front_and_last text h))
+    sym (last_blank (take (length text - 1) text) (get_or text (length text - 1) 0) blank) ∙ ap before_blanks (sym (split_at_last text h))
 
 -- a text that ends in another byte has no blanks at its end
 pub inked_stays : (text : List ℕ) → 1 ≤ length text → is_blank (get_or text (length text - 1) 0) ≡ false → before_blanks text ≡ text
 inked_stays text h inked =
-    ap before_blanks (front_and_last text h) ∙ last_inked (take (length text - 1) text) (get_or text (length text - 1) 0) inked ∙ sym (front_and_last text h)
+    ap before_blanks (split_at_last text h) ∙ last_inked (take (length text - 1) text) (get_or text (length text - 1) 0) inked ∙ sym (split_at_last text h)
 
 -- an empty text has no blanks at its end
 pub none_stays : (text : List ℕ) → length text < 1 → before_blanks text ≡ text

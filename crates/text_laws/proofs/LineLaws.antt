@@ -5,7 +5,7 @@ use Rattle.std.specs.List.{list_all, All}
 use Rattle.std.proofs.lemmas.Bool.{eqb-true, and_parts}
 use Rattle.list_laws.proofs.Cases.{by_test}
 use Rattle.text_laws.specs.Lines.{without_return, is_line_feed, but_last, last_of, whole_lines, ended_lines, unended, last_line, lines_of}
-use Rattle.text_laws.proofs.BlankLaws.{front_and_last}
+use Rattle.text_laws.proofs.BlankLaws.{split_at_last}
 use Rattle.std.proofs.lemmas.List.Splits.{slice_split_at}
 use Rattle.text_laws.proofs.PieceLaws.{first_piece}
 
@@ -24,7 +24,7 @@ last_return (b ∷ d ∷ text) byte = ap (λ t. b ∷ t) (last_return (d ∷ tex
     inside false = refl
 
 by_last : (text : List ℕ) → 1 ≤ length text → without_return text ≡ cond (get_or text (length text - 1) 0 == 13) (take (length text - 1) text) (take (length text - 1) text ++ get_or text (length text - 1) 0 ∷ [])
-by_last text h = ap without_return (front_and_last text h) ∙ last_return (take (length text - 1) text) (get_or text (length text - 1) 0)
+by_last text h = ap without_return (split_at_last text h) ∙ last_return (take (length text - 1) text) (get_or text (length text - 1) 0)
 
 -- a carriage return at the end of a line falls away
 pub return_off : (text : List ℕ) → 1 ≤ length text → get_or text (length text - 1) 0 ≡ 13 → without_return text ≡ take (length text - 1) text
@@ -32,7 +32,7 @@ return_off text h e = by_last text h ∙ ap (λ b. cond (b == 13) (take (length 
 
 -- a line that ends in another byte stays as it is
 pub return_kept : (text : List ℕ) → 1 ≤ length text → (get_or text (length text - 1) 0 == 13) ≡ false → without_return text ≡ text
-return_kept text h e = by_last text h ∙ ap (λ b. cond b (take (length text - 1) text) (take (length text - 1) text ++ get_or text (length text - 1) 0 ∷ [])) e ∙ sym (front_and_last text h)
+return_kept text h e = by_last text h ∙ ap (λ b. cond b (take (length text - 1) text) (take (length text - 1) text ++ get_or text (length text - 1) 0 ∷ [])) e ∙ sym (split_at_last text h)
 
 -- an empty line stays as it is
 pub return_none : (text : List ℕ) → length text < 1 → without_return text ≡ text

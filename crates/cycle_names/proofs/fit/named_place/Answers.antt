@@ -9,16 +9,16 @@ use Rattle.cycle_names.proofs.Tables.{slot_digit_small, word_place_small}
 use Rattle.cycle_names.proofs.Places.{BestFrom, step, best_kept, best_found, best_answer}
 use Rattle.cycle_names.proofs.fit.named_place.Goals as goal
 
-pub turned-numbers-requires-clause-slots : goal.turned-numbers-requires-clause-slots
-turned-numbers-requires-clause-slots c = number_bound SLOT_BASE slot_digit slot_digit_small c.args.edges.now c.loop-place.place _ _ c.loop-place.invariant.slots c.worth_before-worth.ensures.slots
+pub turn-numbers-requires-clause-slots : goal.turn-numbers-requires-clause-slots
+turn-numbers-requires-clause-slots c = number_bound SLOT_BASE slot_digit slot_digit_small c.args.edges.now c.loop-place.place _ _ c.loop-place.invariant.slots c.worth_before-worth.ensures.slots
 
-pub turned-numbers-requires-clause-words : goal.turned-numbers-requires-clause-words
-turned-numbers-requires-clause-words c = number_bound WORD_BASE word_place word_place_small c.args.edges.now c.loop-place.place _ _ c.loop-place.invariant.words c.worth_before-worth.ensures.words
+pub turn-numbers-requires-clause-words : goal.turn-numbers-requires-clause-words
+turn-numbers-requires-clause-words c = number_bound WORD_BASE word_place word_place_small c.args.edges.now c.loop-place.place _ _ c.loop-place.invariant.words c.worth_before-worth.ensures.words
 
 pub loop-place-preserved-then-is_better : goal.loop-place-preserved-then-is_better
 loop-place-preserved-then-is_better c =
     let here = step c.args.edges.now c.args.family c.loop-place.place _ _ _ _ _ _ _ _ (omega (arith, c.loop-place-test.true)) c.loop-place.invariant.within c.loop-place.invariant.slots c.loop-place.invariant.words
-    c.worth_before-worth.ensures.slots c.worth_before-worth.ensures.words c.loop-place.invariant.best c.turned-numbers.ensures.slots c.turned-numbers.ensures.words in
+    c.worth_before-worth.ensures.slots c.worth_before-worth.ensures.words c.loop-place.invariant.best c.turn-numbers.ensures.slots c.turn-numbers.ensures.words in
     let long : length c.args.edges.now ≡ length (family_edges c.args.family) = omega (arith, c.if-slots-edges.false, ap length c.slots.ensures, length-map c.slots.result.now slot_edge) in
     record {
       within = omega (arith, here.within);
@@ -30,7 +30,7 @@ loop-place-preserved-then-is_better c =
 pub loop-place-preserved : goal.loop-place-preserved
 loop-place-preserved c =
     let here = step c.args.edges.now c.args.family c.loop-place.place _ _ _ _ _ _ _ _ (omega (arith, c.loop-place-test.true)) c.loop-place.invariant.within c.loop-place.invariant.slots c.loop-place.invariant.words
-    c.worth_before-worth.ensures.slots c.worth_before-worth.ensures.words c.loop-place.invariant.best c.turned-numbers.ensures.slots c.turned-numbers.ensures.words in
+    c.worth_before-worth.ensures.slots c.worth_before-worth.ensures.words c.loop-place.invariant.best c.turn-numbers.ensures.slots c.turn-numbers.ensures.words in
     record {
       within = omega (arith, here.within);
       slots = here.slots_are;
