@@ -5,7 +5,7 @@ use Rattle.std.specs.List.{list_all}
 use Rattle.std.proofs.Math.ListN.{replicate}
 use Rattle.std.proofs.lemmas.Bool.{and_from}
 use Rattle.list_laws.proofs.Cases.{by_test}
-use Rattle.text_laws.specs.Blanks.{is_blank, unblanked, before_blanks, kept_before, trim_blanks, is_inked}
+use Rattle.text_laws.specs.Blanks.{is_blank, unblanked, before_blanks, trim_blanks, is_inked}
 use Rattle.text_laws.specs.LeadingRuns.{leading_run, after_run}
 use Rattle.arch_trait.specs.InstructionReading.{operands_in, operands_if, written_in, instr_read, number_raw}
 use Rattle.arch_trait.specs.Writing.{Writing, Written}
@@ -13,35 +13,12 @@ use Rattle.arch_trait.specs.Cells.{is_cell_byte}
 use Rattle.text_laws.specs.Cuts.{cut_at}
 use Rattle.text_laws.specs.Words.{is_nil}
 use Rattle.litmus_text.specs.TestTable.{Column, Among, instr_put, instr_in, instr_or_nothing, cell_read}
+use Rattle.text_laws.proofs.BlankLaws.{kept_inked, spaces_class, trimmed_padded}
 use Rattle.text_laws.proofs.CutLaws.{cut_back, cut_none, all_both, without_class}
 
 -- so many blanks
 abbrev pub blanks : ℕ → List ℕ
 blanks k = replicate k 32
-
-blanks_before : (k : ℕ) → before_blanks (blanks k) ≡ []
-unfolding before_blanks
-blanks_before zero = refl
-blanks_before (suc k) = ap (kept_before 32) (blanks_before k)
-
--- blanks that are added at the end of a text go with those at its end
-pub before_padded : (text : List ℕ) (k : ℕ) → before_blanks (text ++ blanks k) ≡ before_blanks text
-unfolding before_blanks
-before_padded [] k = blanks_before k
-before_padded (b ∷ text) k = ap (kept_before b) (before_padded text k)
-
-no_blanks_left : (k : ℕ) → unblanked (blanks k) ≡ []
-unfolding after_run
-no_blanks_left zero = refl
-no_blanks_left (suc k) = no_blanks_left k
-
-trimmed_padded : (text : List ℕ) (k : ℕ) → trim_blanks (text ++ blanks k) ≡ trim_blanks text
-unfolding after_run before_blanks
-trimmed_padded [] k = ap before_blanks (no_blanks_left k)
-trimmed_padded (b ∷ text) k =
-    by_test (is_blank b)
-    (λ e. rw e (trimmed_padded text k))
-    (λ e. rw e (before_padded (b ∷ text) k))
 
 inked_stop : (k : ℕ) → after_run is_inked (blanks k) ≡ blanks k
 unfolding after_run
@@ -108,14 +85,9 @@ nothing_left k = trimmed_padded [] k
 pub nothing_back : (w : Writing) (n k : ℕ) (s : Among Column) → instr_or_nothing w n (blanks k) s ≡ Ok s
 nothing_back w n k s = rw (nothing_left k) refl
 
--- blanks all pass a test that a blank passes
-pub blanks_class : (p : ℕ → Bool) (k : ℕ) → p 32 ≡ true → list_all p (blanks k) ≡ true
-blanks_class p zero h = refl
-blanks_class p (suc k) h = and_from (p 32) (list_all p (blanks k)) h (blanks_class p k h)
-
 -- a text in its cell passes a test that it and a blank pass
 pub padded_class : (p : ℕ → Bool) (k : ℕ) (text : List ℕ) → p 32 ≡ true → list_all p text ≡ true → list_all p (padded k text) ≡ true
-padded_class p k text h t = and_from (p 32) (list_all p (text ++ blanks k)) h (all_both p text (blanks k) t (blanks_class p k h))
+padded_class p k text h t = and_from (p 32) (list_all p (text ++ blanks k)) h (all_both p text (blanks k) t (spaces_class p k h))
 
 -- an empty cell is read as nothing
 pub empty_back : (w : Writing) (n k : ℕ) (s : Among Column) → cell_read w n (padded k []) s ≡ Ok s
@@ -126,11 +98,7 @@ empty_back w n k s =
 
 begins_inked : (b : ℕ) (text : List ℕ) (k : ℕ) → is_blank b ≡ false → is_nil (trim_blanks (padded k (b ∷ text))) ≡ false
 unfolding after_run before_blanks
-begins_inked b text k e = rw e (kept_some b (before_blanks (text ++ blanks k)) e)
-  where
-    kept_some : (b : ℕ) (rest : List ℕ) → is_blank b ≡ false → is_nil (kept_before b rest) ≡ false
-    kept_some b [] e = rw e refl
-    kept_some b (c ∷ rest) e = refl
+begins_inked b text k e = rw e (ap is_nil (kept_inked b (before_blanks (text ++ blanks k)) e))
 
 -- a cell without a colon is read as its instruction
 pub plain_back : (w : Writing) (n k : ℕ) (text : List ℕ) (s : Among Column) → Begins text → list_all is_cell_byte text ≡ true

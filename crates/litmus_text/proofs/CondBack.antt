@@ -17,7 +17,8 @@ use Rattle.final_cond.specs.CondText.{quantifier_word, left_text, term_text, fur
 use Rattle.final_cond.specs.ConditionReading.{opening_read, left_read, right_read, has_form}
 use Rattle.final_cond.specs.ConditionReadBack.{IsFormedTerm}
 use Rattle.final_cond.specs.FormLaws.{named, place_bytes}
-use Rattle.final_cond.proofs.BackLaws.{stops, left_unblanked, left_back, right_back, term_parts, closing, joining, opening_back}
+use Rattle.text_laws.proofs.RunLaws.{stops}
+use Rattle.final_cond.proofs.BackLaws.{left_unblanked, left_back, right_back, term_parts, closing, joining, opening_back}
 use Rattle.list_laws.proofs.Digits.{digits_of}
 use Rattle.arch_trait.specs.Writing.{Writing}
 use Rattle.arch_trait.specs.Cells.{ends_rows, is_line_byte}

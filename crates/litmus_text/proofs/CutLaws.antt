@@ -5,11 +5,12 @@ use Rattle.std.specs.List.{list_all}
 use Rattle.std.proofs.lemmas.Bool.{eqb-true}
 use Rattle.list_laws.proofs.Cases.{by_test}
 use Rattle.text_laws.specs.LeadingRuns.{after_run}
-use Rattle.text_laws.specs.Blanks.{is_blank, before_blanks, kept_before, trim_blanks}
+use Rattle.text_laws.specs.Blanks.{is_blank, before_blanks, trim_blanks}
 use Rattle.text_laws.specs.Words.{is_nil}
 use Rattle.text_laws.specs.Cuts.{CutParts}
 use Rattle.litmus_text.specs.TextCuts.{pieces}
 use Rattle.litmus_text.specs.TextLines.{is_comment, is_passed}
+use Rattle.text_laws.proofs.BlankLaws.{kept_inked}
 use Rattle.litmus_text.proofs.CutBack.{piece_back}
 
 -- the pieces of a text that is cut are the first text and the pieces of the second
@@ -23,11 +24,7 @@ blanks_are [] = refl
 blanks_are (b ∷ text) =
     by_test (is_blank b)
     (λ e. rw e (blanks_are text))
-    (λ e. rw e (kept_some (before_blanks text) b e))
-  where
-    kept_some : (t : List ℕ) (b : ℕ) → is_blank b ≡ false → is_nil (kept_before b t) ≡ false
-    kept_some [] b e = rw e refl
-    kept_some (c ∷ t) b e = refl
+    (λ e. rw e (ap is_nil (kept_inked b (before_blanks text) e)))
 
 pub passed_is : (text : List ℕ) → is_passed text ≡ is_nil (trim_blanks text) || is_comment (trim_blanks text)
 unfolding is_passed

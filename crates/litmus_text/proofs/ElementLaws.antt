@@ -1,7 +1,7 @@
 -- Facts about one element of a list.
 use Rattle.std.proofs.Common.{◌≡◌, ◌≤◌, ◌∷◌, ◌++◌, [], ◌<◌, ℕ, true, List, length, map, get_or, zero, suc, subst, sym, arith, zero-add}
 use Rattle.std.specs.Prelude.{Bool, nat_lt}
-use Rattle.std.specs.List.{list_all, enumerate_from, All}
+use Rattle.std.specs.List.{list_all, enumerate_from, All, AllByRecursion}
 use Rattle.std.proofs.lemmas.List.{get_or-map, length-map}
 use Rattle.std.proofs.lemmas.List.Elements.{All-append}
 use Rattle.std.proofs.lemmas.List.Sums.{AllPass-from_list_all}
@@ -30,3 +30,8 @@ one_short n x h (suc i) d k = absurd (omega arith)
 pub short_more : (n : ℕ) (old new : List ℕ) (x : ℕ) → new ≡ old ++ x ∷ [] → All (λ y. y ≤ n) old → x ≤ n → All (λ y. y ≤ n) new
 short_more n old new x e all h =
     subst (All (λ y. y ≤ n)) (sym e) (All-append (λ y. y ≤ n) old (x ∷ []) all (one_short n x h))
+
+-- where a fact holds of each element, each fact that follows from it does
+pub all_weaker : {X : Type 0} (P Q : X → Type 0) → ((x : X) → P x → Q x) → (xs : List X) → AllByRecursion P xs → AllByRecursion Q xs
+all_weaker P Q f [] h = tt
+all_weaker P Q f (x ∷ xs) h = (f x h.0, all_weaker P Q f xs h.1)

@@ -1,12 +1,10 @@
 -- The printed header and the printed edges are read back.
-use Rattle.std.proofs.Common.{◌≡◌, ◌==◌, ℕ, List, [], ◌∷◌, ◌++◌, Some, Ok, true, false, get_or, take, refl, sym, ap, ◌∙◌, arith}
+use Rattle.std.proofs.Common.{◌≡◌, ◌==◌, ℕ, List, [], ◌∷◌, ◌++◌, Some, Ok, true, false, take, refl, sym, ap, ◌∙◌, arith}
 use Rattle.std.specs.Prelude.{Bool, not, ◌&&◌, codes}
-use Rattle.std.specs.List.{list_all, All, filter, flat_map, join_by}
+use Rattle.std.specs.List.{list_all, flat_map, join_by}
 use Rattle.std.specs.Str.{bytes_eq}
-use Rattle.std.proofs.lemmas.Bool.{eqb-true, not-true, and_parts, and_from}
+use Rattle.std.proofs.lemmas.Bool.{eqb-true, and_parts}
 use Rattle.std.proofs.lemmas.Bool.Decides.{nat_tests}
-use Rattle.std.proofs.lemmas.List.Sums.{AllPass-from_list_all}
-use Rattle.std.proofs.lemmas.List.Splits.{slice_split_none, slice_split_at}
 use Rattle.list_laws.proofs.Elements.{list_all-weaker}
 use Rattle.list_laws.proofs.Cases.{by_test}
 use Rattle.relax_edges.specs.declared.kinds.ArchName.{ArchName}
@@ -16,15 +14,17 @@ use Rattle.relax_edges.specs.Architectures.{arch_word}
 use Rattle.relax_edges.specs.WordParts.{word_of}
 use Rattle.relax_edges.specs.AllEdges.{edges_in_order}
 use Rattle.cycle_laws.proofs.RankLaws.{each_edge}
-use Rattle.text_laws.specs.Blanks.{is_blank, unblanked, before_blanks, kept_before, trim_blanks}
-use Rattle.text_laws.specs.LeadingRuns.{leading_run, after_run}
+use Rattle.text_laws.specs.Blanks.{is_blank, trim_blanks}
+use Rattle.text_laws.specs.LeadingRuns.{leading_run}
 use Rattle.arch_trait.specs.Cells.{is_line_byte}
 use Rattle.litmus_text.specs.TextLines.{Lines, line, is_passed}
-use Rattle.text_laws.specs.Words.{is_nil, words}
+use Rattle.text_laws.specs.Words.{words}
 use Rattle.litmus_text.specs.Header.{header_read, quote_read, is_setting, after_settings, name_in_header, two_words, quote_cut}
 use Rattle.text_laws.specs.Names.{is_name_byte}
 use Rattle.litmus_text.specs.Printable.{IsTestName}
 use Rattle.litmus_text.specs.TestText.{header_line, edges_line}
+use Rattle.text_laws.proofs.BlankLaws.{trimmed_class}
+use Rattle.text_laws.proofs.WordLaws.{words_both, one_word}
 use Rattle.text_laws.proofs.OrderLaws.{bytes_same}
 use Rattle.text_laws.proofs.CutLaws.{cut_back, all_both, without_class}
 use Rattle.litmus_text.proofs.LineBack.{IsLine}
@@ -40,17 +40,13 @@ name_inked b h = grind (arith, nat_tests)
 abbrev pub is_inked_word : List ℕ → Bool
 is_inked_word text = list_all (λ b. not (is_blank b)) text
 
-none_blank : (text : List ℕ) → is_inked_word text ≡ true → All (λ b. is_blank b ≡ false) text
-none_blank text h i d k = not-true (is_blank (get_or text i d)) (AllPass-from_list_all (λ b. not (is_blank b)) text h i d k)
-
 -- two words with a blank between are read as two words
 pub two_back : (a : ℕ) (prefix : List ℕ) (b : ℕ) (remainder : List ℕ) → is_inked_word (a ∷ prefix) ≡ true → is_inked_word (b ∷ remainder) ≡ true
     → words ((a ∷ prefix) ++ 32 ∷ b ∷ remainder) ≡ (a ∷ prefix) ∷ (b ∷ remainder) ∷ []
-unfolding words
 two_back a prefix b remainder h k =
-    ap (filter (λ word. not (is_nil word)))
-    (slice_split_at is_blank (a ∷ prefix) 32 (b ∷ remainder) (none_blank (a ∷ prefix) h) refl
-    ∙ ap (λ rest. (a ∷ prefix) ∷ rest) (slice_split_none is_blank (b ∷ remainder) (none_blank (b ∷ remainder) k)))
+    words_both (a ∷ prefix) (b ∷ remainder)
+    ∙ ap (λ ws. ws ++ words (b ∷ remainder)) (one_word (a ∷ prefix) h refl)
+    ∙ ap (λ ws. (a ∷ prefix) ∷ ws) (one_word (b ∷ remainder) k refl)
 
 arch_two : (arch : ArchName) (b : ℕ) (name : List ℕ) → is_inked_word (b ∷ name) ≡ true
     → words (arch_word arch ++ 32 ∷ b ∷ name) ≡ arch_word arch ∷ (b ∷ name) ∷ []
@@ -97,29 +93,7 @@ pub settings_back : (n : ℕ) (text : List ℕ) (rest : Lines) → after_setting
 unfolding after_settings is_setting leading_run
 settings_back n text rest = refl
 
--- lines without `*` are no comments
-trim_class : (p : ℕ → Bool) (text : List ℕ) → list_all p text ≡ true → list_all p (unblanked text) ≡ true
-unfolding after_run
-trim_class p [] h = refl
-trim_class p (b ∷ text) h =
-    by_test (is_blank b)
-    (λ e. rw e (trim_class p text (and_parts (p b) (list_all p text) h).1))
-    (λ e. rw e h)
-
-kept_class : (p : ℕ → Bool) (b : ℕ) (text : List ℕ) → p b ≡ true → list_all p text ≡ true → list_all p (kept_before b text) ≡ true
-kept_class p b [] h k = by_test (is_blank b) (λ e. rw e refl) (λ e. rw e (and_from (p b) true h refl))
-kept_class p b (c ∷ text) h k = and_from (p b) (list_all p (c ∷ text)) h k
-
-before_class : (p : ℕ → Bool) (text : List ℕ) → list_all p text ≡ true → list_all p (before_blanks text) ≡ true
-unfolding before_blanks
-before_class p [] h = refl
-before_class p (b ∷ text) h =
-    let parts = and_parts (p b) (list_all p text) h in kept_class p b (before_blanks text) parts.0 (before_class p text parts.1)
-
--- a trim_blanks text passes a test that the text passes
-pub trimmed_class : (p : ℕ → Bool) (text : List ℕ) → list_all p text ≡ true → list_all p (trim_blanks text) ≡ true
-trimmed_class p text h = before_class p (unblanked text) (trim_class p text h)
-
+-- a line without `*` is no comment
 no_comment : (text : List ℕ) → list_all is_line_byte text ≡ true → bytes_eq (take 2 text) (codes "(*") ≡ false
 no_comment [] h = refl
 no_comment (a ∷ []) h = by_test (a == 40) (λ e. rw e refl) (λ e. rw e refl)

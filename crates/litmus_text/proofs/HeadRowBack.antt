@@ -6,11 +6,11 @@ use Rattle.std.specs.Fmt.{decimal}
 use Rattle.std.specs.List.{list_all, AllByRecursion, enumerate_from}
 use Rattle.std.specs.Str.{bytes_eq}
 use Rattle.std.proofs.Math.ListN.{replicate}
-use Rattle.std.proofs.lemmas.Bool.{lt-ltb, not-true, and_parts, and_from}
+use Rattle.std.proofs.lemmas.Bool.{lt-ltb, and_from}
 use Rattle.std.proofs.lemmas.Bool.Decides.{nat_tests}
 use Rattle.std.proofs.lemmas.List.{replicate_more}
 use Rattle.list_laws.proofs.Elements.{list_all-weaker}
-use Rattle.text_laws.specs.Blanks.{is_blank, before_blanks, kept_before, trim_blanks}
+use Rattle.text_laws.specs.Blanks.{is_blank, trim_blanks}
 use Rattle.text_laws.specs.LeadingRuns.{after_run}
 use Rattle.list_laws.proofs.Digits.{digits_of}
 use Rattle.arch_trait.specs.Threads.{ThreadCode}
@@ -22,7 +22,8 @@ use Rattle.litmus_text.specs.TestText.{column_of, columns_of, width_of, cell_tex
 use Rattle.litmus_text.specs.Printable.{is_row_byte}
 use Rattle.text_laws.proofs.OrderLaws.{bytes_same}
 use Rattle.text_laws.proofs.CutLaws.{all_both}
-use Rattle.litmus_text.proofs.CellBack.{padded, blanks_class, before_padded}
+use Rattle.text_laws.proofs.BlankLaws.{before_padded, inked_ends, spaces_class}
+use Rattle.litmus_text.proofs.CellBack.{padded}
 use Rattle.litmus_text.proofs.LineBack.{IsLine}
 use Rattle.litmus_text.proofs.TableBack.{spaced, row_cells, cells_without, row_line_is}
 
@@ -31,13 +32,6 @@ digit_on_row b h = grind (arith, nat_tests)
 
 digit_inked : (b : ℕ) → is_ascii_digit b ≡ true → not (is_blank b) ≡ true
 digit_inked b h = grind (arith, nat_tests)
-
--- a text without blanks has none at its end
-pub inked_ends : (text : List ℕ) → list_all (λ b. not (is_blank b)) text ≡ true → before_blanks text ≡ text
-unfolding before_blanks
-inked_ends [] h = refl
-inked_ends (b ∷ []) h = rw (not-true (is_blank b) (and_parts (not (is_blank b)) true h).0) refl
-inked_ends (b ∷ c ∷ text) h = ap (kept_before b) (inked_ends (c ∷ text) (and_parts (not (is_blank b)) (list_all (λ b. not (is_blank b)) (c ∷ text)) h).1)
 
 head_text : ℕ → List ℕ
 head_text n = 80 ∷ decimal n
@@ -74,7 +68,7 @@ head_bytes w places n (t ∷ threads) h =
     let digits = digits_of n (omega arith) in (
       all_both is_row_byte (80 ∷ decimal n) (replicate (width_of (column_of w places (n, t)) - length (80 ∷ decimal n)) 32)
           (and_from true (list_all is_row_byte (decimal n)) refl (list_all-weaker is_ascii_digit is_row_byte digit_on_row (decimal n) digits.all))
-          (blanks_class is_row_byte (width_of (column_of w places (n, t)) - length (80 ∷ decimal n)) refl),
+          (spaces_class is_row_byte (width_of (column_of w places (n, t)) - length (80 ∷ decimal n)) refl),
       head_bytes w places (n + 1) threads (omega arith),
     )
 

@@ -21,6 +21,7 @@ use Rattle.litmus_text.specs.TestText.{item_text, items_lines, initial_lines}
 use Rattle.litmus_text.specs.Items.{Link, links_of, links_mention, link_values, links_once, LinkFits}
 use Rattle.text_laws.specs.Cuts.{is_without}
 use Rattle.text_laws.proofs.CutLaws.{cut_back, cut_none, all_both, without_class}
+use Rattle.litmus_text.proofs.ElementLaws.{all_weaker}
 use Rattle.litmus_text.proofs.LineBack.{IsLine, before}
 use Rattle.litmus_text.proofs.HeadBack.{line_is, not_all_blank}
 use Rattle.litmus_text.proofs.NamesBack.{Within, IsAmong}
@@ -144,10 +145,6 @@ item_line_is a w table places n (link ∷ links) laws fits =
       tt,
     )
 
-all_map : {X : Type 0} (P Q : X → Type 0) → ((x : X) → P x → Q x) → (xs : List X) → AllByRecursion P xs → AllByRecursion Q xs
-all_map P Q f [] h = tt
-all_map P Q f (x ∷ xs) h = (f x h.0, all_map P Q f xs h.1)
-
 item_lines_are : (a : Puts) (w : Writing) (table places : List (List ℕ)) (n : ℕ) (threads : List ThreadCode) → WritesBack a w → AllByRecursion (LinkFits w table (name_in places)) (links_of n threads)
     → AllByRecursion ItemLine (item_lines w places n threads)
 item_lines_are a w table places n [] laws fits = tt
@@ -167,7 +164,7 @@ unfolding initial_lines
 initial_lines_are a w table places threads laws fits = (
   line_is (123 ∷ []) refl refl,
   all_append IsLine (item_lines w places 0 threads) ((125 ∷ []) ∷ [])
-      (all_map ItemLine IsLine (λ l h. line_is l (list_all-weaker is_items_byte is_line_byte items_on_line l h.bytes) h.inked) (item_lines w places 0 threads) (item_lines_are a w table places 0 threads laws fits))
+      (all_weaker ItemLine IsLine (λ l h. line_is l (list_all-weaker is_items_byte is_line_byte items_on_line l h.bytes) h.inked) (item_lines w places 0 threads) (item_lines_are a w table places 0 threads laws fits))
       (line_is (125 ∷ []) refl refl, tt),
 )
 
@@ -180,7 +177,7 @@ pub initial_back : (a : Puts) (w : Writing) (table final places : List (List ℕ
 unfolding initial_read initial_lines
 initial_back a w table final places threads n after laws fits among_table short within once =
     let lines = item_lines w places 0 threads in
-    let gather = gathered no_text n [] (n + 1) lines after refl (all_map ItemLine (λ l. is_without 125 l ≡ true) no_brace_in lines (item_lines_are a w table places 0 threads laws fits)) in
+    let gather = gathered no_text n [] (n + 1) lines after refl (all_weaker ItemLine (λ l. is_without 125 l ≡ true) no_brace_in lines (item_lines_are a w table places 0 threads laws fits)) in
     let items = all_items_back a w table final (name_in places) (links_of 0 threads) gather.whole laws fits among_table short within once
     (gather.bytes ∙ ap (λ x. x ++ 32 ∷ []) (all_joined_items w places 0 threads)) in
     let size : length (lines ++ (125 ∷ []) ∷ []) ≡ length lines + 1 = length-append lines ((125 ∷ []) ∷ []) in

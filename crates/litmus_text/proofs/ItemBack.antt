@@ -18,7 +18,8 @@ use Rattle.text_laws.specs.LeadingRuns.{after_run}
 use Rattle.final_cond.specs.Conditions.{LeftSeen, InRegister}
 use Rattle.final_cond.specs.CondText.{left_text}
 use Rattle.final_cond.specs.ConditionReading.{Fault, found, only_known, left_at_start, left_read, has_form}
-use Rattle.final_cond.specs.FormLaws.{named, place_bytes}
+use Rattle.final_cond.specs.FormLaws.{named}
+use Rattle.text_laws.proofs.NameLaws.{place_name_bytes}
 use Rattle.final_cond.proofs.BackLaws.{left_back}
 use Rattle.list_laws.proofs.Digits.{digits_of}
 use Rattle.text_laws.proofs.NumberLaws.{not_digits}
@@ -38,7 +39,7 @@ use Rattle.text_laws.proofs.OrderLaws.{bytes_same}
 use Rattle.text_laws.proofs.CutLaws.{cut_back, all_both, without_class}
 use Rattle.litmus_text.proofs.NamesBack.{Within, within_self, within_trans, within_number, IsAmong, place_added}
 use Rattle.litmus_text.proofs.RowBack.{added_within}
-use Rattle.litmus_text.proofs.HeadRowBack.{inked_ends}
+use Rattle.text_laws.proofs.BlankLaws.{inked_ends}
 
 -- a byte of an item: one of a line that is no blank and ends neither an item nor the initial state
 abbrev pub is_item_byte : ℕ → Bool
@@ -138,7 +139,7 @@ side_bytes a w link laws small h =
     (list_all-weaker is_ascii_alphanumeric is_item_byte letter_in_item (name_in w.registers link.1.0) parts.bytes)
 
 name_bytes : (name : List ℕ) → is_place_name name ≡ true → list_all is_item_byte name ≡ true
-name_bytes name h = list_all-weaker is_place_byte is_item_byte place_in_item name (place_bytes name h)
+name_bytes name h = list_all-weaker is_place_byte is_item_byte place_in_item name (place_name_bytes name h)
 
 -- the bytes of an item without its semicolon are those of an item
 pub core_bytes : (a : Puts) (w : Writing) (table : List (List ℕ)) (names : ℕ → List ℕ) (link : Link) → WritesBack a w → LinkFits w table names link → list_all is_item_byte (core w names link) ≡ true

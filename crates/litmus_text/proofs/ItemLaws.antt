@@ -1,5 +1,5 @@
 -- The item of a text, by what the reading of conditions knows of its left side.
-use Rattle.std.proofs.Common.{◌≡◌, ◌==◌, ◌+◌, ◌≤◌, ℕ, suc, List, [], ◌∷◌, Option, Some, None, Ok, Err, true, false, length, refl, sym, ap, ◌∙◌, arith}
+use Rattle.std.proofs.Common.{◌≡◌, ◌==◌, ◌+◌, ℕ, suc, List, [], ◌∷◌, Option, Some, None, Ok, Err, true, false, length, refl, sym, ap, ◌∙◌, arith}
 use Rattle.std.specs.Prelude.{nat_lt, cond}
 use Rattle.std.specs.List.{list_all, position_from}
 use Rattle.std.specs.Str.{bytes_eq}
@@ -7,35 +7,14 @@ use Rattle.std.proofs.lemmas.Bool.{eqb-true, and_parts}
 use Rattle.std.proofs.lemmas.Slice.Eq.{bytes_eq-Decides}
 use Rattle.list_laws.proofs.Cases.{by_test}
 use Rattle.final_cond.specs.declared.errors.CondKind.TheVariants.{BadTerm}
-use Rattle.text_laws.specs.Blanks.{is_blank, unblanked, before_blanks, kept_before, trim_blanks}
-use Rattle.text_laws.specs.LeadingRuns.{after_run}
+use Rattle.text_laws.specs.Blanks.{unblanked, trim_blanks}
+use Rattle.text_laws.proofs.BlankLaws.{trimmed_start}
 use Rattle.final_cond.specs.Conditions.{LeftSeen, InRegister, AtPlace}
 use Rattle.text_laws.specs.Names.{is_register_name}
 use Rattle.final_cond.specs.ConditionReading.{Fault, found, left_at_start, left_read, only_known, has_form}
 use Rattle.arch_trait.specs.Writing.{Writing}
 use Rattle.text_laws.specs.Words.{is_nil}
 use Rattle.litmus_text.specs.InitialState.{item_with, whole_left, item_if}
-
--- a text without blanks at its ends has none at its beginning
-inked_start : (b : ℕ) (t : List ℕ) → is_blank b ≡ false → unblanked (kept_before b t) ≡ kept_before b t
-unfolding after_run
-inked_start b [] e = rw (e, e) refl
-inked_start b (c ∷ t) e = rw e refl
-
-pub trimmed_start : (t : List ℕ) → unblanked (trim_blanks t) ≡ trim_blanks t
-unfolding after_run before_blanks
-trimmed_start [] = refl
-trimmed_start (b ∷ t) = by_test (is_blank b) (λ e. rw e (trimmed_start t)) (λ e. rw e (inked_start b (before_blanks t) e))
-
--- a text without the blanks at its end is no longer
-pub before_blanks-le : (t : List ℕ) → length (before_blanks t) ≤ length t
-unfolding before_blanks
-before_blanks-le [] = omega arith
-before_blanks-le (b ∷ t) = let k : length (before_blanks t) ≤ length t = before_blanks-le t in by_kept (before_blanks t) k
-  where
-    by_kept : (u : List ℕ) → length u ≤ length t → length (kept_before b u) ≤ suc (length t)
-    by_kept [] k = by_test (is_blank b) (λ e. rw e (omega arith)) (λ e. rw e (omega arith))
-    by_kept (c ∷ u) k = omega arith
 
 -- a name without the form of a register's is no register's
 no_register : (names : List (List ℕ)) (name : List ℕ) (i : ℕ) → list_all is_register_name names ≡ true → is_register_name name ≡ false → position_from (λ x. bytes_eq x name) i names ≡ None

@@ -1,6 +1,6 @@
 -- The name of an operation gets the number that the plan of the columns has for it.
-use Rattle.std.proofs.Common.{◌≡◌, ◌<◌, ◌≤◌, ◌+◌, ◌==◌, ℕ, zero, suc, List, Some, None, Ok, true, false, cond, length, map, max, get_or, refl, sym, ap, ◌∙◌, arith, zero-add, inl, inr}
-use Rattle.std.specs.Prelude.{Bool, ◌&&◌, nat_lt, nat_le, is_some, Err}
+use Rattle.std.proofs.Common.{◌≡◌, ◌<◌, ◌≤◌, ◌+◌, ◌==◌, ℕ, zero, suc, List, Some, None, Ok, true, cond, length, map, max, get_or, refl, sym, ap, ◌∙◌, arith, zero-add, inl, inr}
+use Rattle.std.specs.Prelude.{◌&&◌, nat_lt, nat_le, is_some, Err}
 use Rattle.std.specs.List.{list_all, position_from, range_with_len}
 use Rattle.std.specs.Cmp.{booleans_Decides}
 use Rattle.std.specs.Str.{bytes_eq}

@@ -5,6 +5,7 @@ use Rattle.std.specs.List.{list_all, AllByRecursion, range_with_len}
 use Rattle.std.proofs.lemmas.Bool.{lt-ltb, ltb-true, not-true, and_parts}
 use Rattle.std.proofs.lemmas.List.Sums.{sum_by-append, sum_by-cons, AllPass-from_list_all}
 use Rattle.std.proofs.lemmas.List.FromFn.{get_or-range_with_len}
+use Rattle.std.proofs.lemmas.Simd.{map-map}
 use Rattle.list_laws.proofs.Cases.{by_test}
 use Rattle.text_laws.specs.Blanks.{is_blank}
 use Rattle.text_laws.specs.Names.{is_place_name}
@@ -239,10 +240,6 @@ pub all_advance : (a : Puts) (table : List (List ℕ)) (names : ℕ → List ℕ
 all_advance a table names first n [] h = tt
 all_advance a table names first n (p ∷ ps) h = (advance_ready a table names first n p h.0, all_advance a table names first n ps h.1)
 
-map_map : {X Y Z : Type 0} (f : Y → Z) (g : X → Y) (xs : List X) → map f (map g xs) ≡ map (λ x. f (g x)) xs
-map_map f g [] = refl
-map_map f g (x ∷ xs) = ap (λ rest. f (g x) ∷ rest) (map_map f g xs)
-
 -- a line is the row of the threads
 pub record IsRow (w : Writing) (names : ℕ → List ℕ) (text : List ℕ) (ps : List RowProgress) : Type 0 where
   pub whole : (cells_of text).whole ≡ true
@@ -310,5 +307,5 @@ rows_back a w table final names first n k (text ∷ texts) ps s rest m last rema
     (all_advance a table names first n ps ready) (row_among a table names first n ps s ready among_table short) short within (omega arith) in
     rw (are.0.row, room, are.0.whole)
     (ap (λ r. r >>= λ next. rows_read w (k + 1) next (before (n + 1) texts rest)) row
-    ∙ ap (λ columns. rows_read w (k + 1) (among (row_mentions names s ps) columns) (before (n + 1) texts rest)) (sym (map_map (column_at final names first) advanced ps))
+    ∙ ap (λ columns. rows_read w (k + 1) (among (row_mentions names s ps) columns) (before (n + 1) texts rest)) (sym (map-map (column_at final names first) advanced ps))
     ∙ next)

@@ -34,6 +34,7 @@ use Rattle.litmus_text.specs.Runnable.{IsRunnable, NamesRegisters, AllNameRegist
 use Rattle.litmus_text.specs.TestReading.{values_of_thread}
 use Rattle.litmus_text.specs.declared.reading.table.Column.{Column as ThreadColumn}
 use Rattle.litmus_text.specs.Views.{column_seen}
+use Rattle.litmus_text.proofs.ElementLaws.{all_weaker}
 
 -- what is read raw names registers of the machine
 abbrev pub RawInRange : Writing → Type 0
@@ -94,10 +95,6 @@ pub all_push : {X : Type 0} (P : X → Type 0) (xs : List X) (x : X) → AllByRe
 all_push P [] x h p = (p, tt)
 all_push P (y ∷ ys) x h p = (h.0, all_push P ys x h.1 p)
 
-all_weaker : {X : Type 0} (P Q : X → Type 0) (xs : List X) → ((x : X) → P x → Q x) → AllByRecursion P xs → AllByRecursion Q xs
-all_weaker P Q [] f h = tt
-all_weaker P Q (x ∷ xs) f h = (f x h.0, all_weaker P Q xs f h.1)
-
 good_weaker : (m n : ℕ) (placed : List Placed) → m ≤ n → IsGood m placed → IsGood n placed
 good_weaker m n placed h g = record { in_range = g.in_range; few = g.few; short = let s = g.short in omega arith }
 
@@ -154,7 +151,7 @@ rows_good : (w : Writing) (k m : ℕ) (s : Among (List Column)) (ls : Lines) →
 unfolding rows_read
 rows_good w k m s (ends n) r b e g = tt
 rows_good w k m s (line n text rest) r b e g = by_test (ends_rows text)
-    (λ h. rw h (all_weaker (λ (c : Column). IsGood m c.ops) (λ (c : Column). IsGood 2048 c.ops) s.value (λ c. good_weaker m 2048 c.ops (omega arith)) g))
+    (λ h. rw h (all_weaker (λ (c : Column). IsGood m c.ops) (λ (c : Column). IsGood 2048 c.ops) (λ c. good_weaker m 2048 c.ops (omega arith)) s.value g))
     (λ h. rw h (by_test (nat_lt k 1024)
     (λ i. let less : k < 1024 = ltb-true k 1024 i in
     rw i (then_gives (λ (s : Among (List Column)). AllGood (m + 1 + 1) s.value) (λ (x : Among (List Column) × Lines). AllGood 2048 x.0.value) (row_read w n (cells_of text).whole (cells_of text).texts s.names s.value) _

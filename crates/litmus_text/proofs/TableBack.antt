@@ -29,7 +29,8 @@ use Rattle.litmus_text.proofs.LineBack.{IsLine}
 use Rattle.litmus_text.proofs.HeadBack.{line_is, not_all_blank}
 use Rattle.litmus_text.proofs.CutBack.{piece_back, piece_last}
 use Rattle.text_laws.proofs.CutLaws.{cut_back, all_both, without_class}
-use Rattle.litmus_text.proofs.CellBack.{padded, Begins, blanks_class}
+use Rattle.text_laws.proofs.BlankLaws.{spaces_class, unblanked_spaces}
+use Rattle.litmus_text.proofs.CellBack.{padded, Begins}
 use Rattle.litmus_text.proofs.RowBack.{next_text, AreCells, IsRow, AreRows, after_rows, named_op, text_begins, label_bytes}
 
 -- the cells of a row, with a blank on both sides
@@ -173,11 +174,6 @@ tail_of : (f : List (List ℕ) → List ℕ) (xs : List (List (List ℕ))) → T
 tail_of f [] = record { sign = 59; more = []; is = refl; which = inr refl }
 tail_of f (y ∷ ys) = record { sign = 124; more = 32 ∷ ((f y ++ flat_map (λ y. codes " | " ++ f y) ys) ++ codes " ;"); is = refl; which = inl refl }
 
-skip_blanks : (k : ℕ) (text : List ℕ) → unblanked (replicate k 32 ++ text) ≡ unblanked text
-unfolding after_run
-skip_blanks zero text = refl
-skip_blanks (suc k) text = skip_blanks k text
-
 blank_first : (k : ℕ) (text : List ℕ) → (rest : List ℕ) × (replicate k 32 ++ 32 ∷ text ≡ 32 ∷ rest)
 blank_first zero text = (text, refl)
 blank_first (suc k) text = (replicate k 32 ++ 32 ∷ text, refl)
@@ -208,7 +204,7 @@ unfolding ends_rows after_run
 keeps_row text k tail cell remainder = elim cell.kind [
   | inl e ↦
       ap (λ t. ends_rows (32 ∷ ((t ++ replicate k 32) ++ tail))) e ∙ ap (λ t. ends_rows (32 ∷ (replicate k 32 ++ t))) remainder.is
-      ∙ ap (λ t. list_any (bytes_eq (leading_run is_argument_byte t)) keywords) (skip_blanks k (32 ∷ remainder.sign ∷ remainder.more))
+      ∙ ap (λ t. list_any (bytes_eq (leading_run is_argument_byte t)) keywords) (unblanked_spaces k (32 ∷ remainder.sign ∷ remainder.more))
       ∙ sign_stays remainder.sign remainder.more remainder.which
   | inr h ↦
       (let first = blank_first k (remainder.sign ∷ remainder.more) in
@@ -232,7 +228,7 @@ unfolding cell_text
 cell_bytes w places t i h =
     let text = get_or (column_of w places t) (suc i) [] in
     all_both is_row_byte text (replicate (width_of (column_of w places t) - length text) 32) (cell_of w places t i h).bytes
-    (blanks_class is_row_byte (width_of (column_of w places t) - length text) refl)
+    (spaces_class is_row_byte (width_of (column_of w places t) - length text) refl)
 
 all_cells : (w : Writing) (places : List (List ℕ)) (i n : ℕ) (threads : List ThreadCode) → AreTexts w (name_in places) threads
     → AllByRecursion (λ c. list_all is_row_byte (cell_text (suc i) c) ≡ true) (map (column_of w places) (enumerate_from n threads))

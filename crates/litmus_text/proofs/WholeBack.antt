@@ -1,6 +1,6 @@
 -- A printed test reads back.
 use Rattle.std.proofs.Common.{◌≡◌, ◌<◌, ◌≤◌, ◌+◌, ◌==◌, ℕ, suc, List, [], ◌∷◌, ◌++◌, Some, Ok, true, false, length, map, max, take, drop, fold, refl, sym, ap, ◌∙◌, subst, arith, append-nil, add-zero, zero-add}
-use Rattle.std.specs.Prelude.{Option, nat_lt, codes}
+use Rattle.std.specs.Prelude.{Option, codes}
 use Rattle.std.specs.List.{flat_map, join_by, AllByRecursion, enumerate_from, range_with_len}
 use Rattle.std.proofs.lemmas.Bool.{eqb-true, eq-eqb, ne_eqb, le-ltb}
 use Rattle.std.proofs.lemmas.List.{length-map, take_all}

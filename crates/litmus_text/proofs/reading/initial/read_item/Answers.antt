@@ -2,7 +2,7 @@
 use Rattle.std.proofs.Common.{◌≤◌, length, arith}
 use Rattle.text_laws.specs.Blanks.{is_blank}
 use Rattle.text_laws.proofs.RunLaws.{after_run-le}
-use Rattle.litmus_text.proofs.ItemLaws.{before_blanks-le}
+use Rattle.text_laws.proofs.BlankLaws.{before_blanks-le}
 use Rattle.litmus_text.proofs.reading.initial.read_item.Goals as goal
 
 pub overflow_sub-piece : goal.overflow_sub-piece
