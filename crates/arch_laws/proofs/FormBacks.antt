@@ -1,10 +1,10 @@
 -- The names of labels fit in cells, and those of numbered registers have their form and occur once each.
-use Rattle.std.proofs.Common.{ℕ, zero, suc, ◌+◌, ◌<◌, ◌≤◌, ◌≡◌, refl, true, false, ◌&&◌, nat_le, List, [], ◌∷◌, map, length, get_or, drop, ◌∙◌, ap, arith}
+use Rattle.std.proofs.Common.{ℕ, zero, suc, ◌+◌, ◌<◌, ◌≤◌, ◌≡◌, refl, true, false, [], ◌∷◌, map, length, get_or, drop, ◌∙◌, ap, arith}
 use Rattle.std.specs.Char.{is_ascii_alphabetic, is_ascii_alphanumeric, is_ascii_digit}
 use Rattle.std.specs.Fmt.{decimal}
 use Rattle.std.specs.List.{list_all, range_with_len, IsDistinct, AllByRecursion}
 use Rattle.std.specs.Str.{bytes_eq}
-use Rattle.std.proofs.lemmas.Bool.{and_parts, and_from, le-leb}
+use Rattle.std.proofs.lemmas.Bool.{and_from, le-leb}
 use Rattle.std.proofs.lemmas.Bool.Decides.{nat_tests}
 use Rattle.std.proofs.lemmas.Fmt.{decimal_injective}
 use Rattle.std.proofs.lemmas.List.Folds.{list_all-append}
@@ -12,6 +12,7 @@ use Rattle.std.proofs.lemmas.Slice.Eq.{bytes_eq-Decides}
 use Rattle.list_laws.proofs.Elements.{list_all-weaker}
 use Rattle.list_laws.proofs.Cases.{by_test}
 use Rattle.text_laws.specs.Names.{is_register_name}
+use Rattle.text_laws.proofs.NameLaws.{digit_alphanumeric, register_name_bytes}
 use Rattle.arch_trait.specs.declared.numbered.Numbered.{Numbered}
 use Rattle.arch_trait.specs.Cells.{is_cell_byte}
 use Rattle.arch_trait.specs.Forms.{register_name, register_names}
@@ -30,24 +31,9 @@ name_byte_word b h = grind (arith, nat_tests)
 name_byte_cell : (b : ℕ) → is_ascii_alphanumeric b ≡ true → is_cell_byte b ≡ true
 name_byte_cell b h = grind (arith, nat_tests)
 
-letter_name_byte : (b : ℕ) → is_ascii_alphabetic b ≡ true → is_ascii_alphanumeric b ≡ true
-letter_name_byte b h = grind (arith, nat_tests)
-
-digit_name_byte : (b : ℕ) → is_ascii_digit b ≡ true → is_ascii_alphanumeric b ≡ true
-digit_name_byte b h = grind (arith, nat_tests)
-
--- the name of a label that has its form is plain and fits in a cell
-label_bytes : (name : List ℕ) → is_register_name name ≡ true → list_all is_ascii_alphanumeric name ≡ true
-unfolding is_register_name
-label_bytes [] h = cc
-label_bytes (b ∷ bytes) h =
-    let p = and_parts (is_ascii_alphabetic b && list_all is_ascii_alphanumeric bytes) (nat_le (length (b ∷ bytes)) 16) h in
-    let q = and_parts (is_ascii_alphabetic b) (list_all is_ascii_alphanumeric bytes) p.0 in
-    and_from (is_ascii_alphanumeric b) (list_all is_ascii_alphanumeric bytes) (letter_name_byte b q.0) q.1
-
 -- the name of a label that has its form is plain
 pub label_plain : (l : ℕ) → is_label_name (label_name l) ≡ true → is_plain (label_name l) ≡ true
-label_plain l h = list_all-weaker is_ascii_alphanumeric is_instruction_byte name_byte_word (label_name l) (label_bytes (label_name l) h)
+label_plain l h = list_all-weaker is_ascii_alphanumeric is_instruction_byte name_byte_word (label_name l) (register_name_bytes (label_name l) h)
 
 -- so is the word that sets the label
 pub label_word_plain : (l : ℕ) → is_label_name (label_name l) ≡ true → is_plain (label_word l) ≡ true
@@ -57,7 +43,7 @@ label_word_plain l h =
 
 -- the name of a label that has its form fits in a cell
 pub label_cell : (l : ℕ) → is_label_name (label_name l) ≡ true → list_all is_cell_byte (label_name l) ≡ true
-label_cell l h = list_all-weaker is_ascii_alphanumeric is_cell_byte name_byte_cell (label_name l) (label_bytes (label_name l) h)
+label_cell l h = list_all-weaker is_ascii_alphanumeric is_cell_byte name_byte_cell (label_name l) (register_name_bytes (label_name l) h)
 
 -- the names of numbered registers: as many as they are, each at its number, of their form, and each once
 pub names_count : (n : Numbered) → length (register_names n) ≡ n.count
@@ -82,7 +68,7 @@ formed : (n : Numbered) (r : ℕ) → IsNumbered n → n.first + r < 1000 → is
 unfolding is_register_name
 formed n r h s =
     and_from _ _ (and_from (is_ascii_alphabetic n.letter) (list_all is_ascii_alphanumeric (decimal (n.first + r))) h.letter
-    (list_all-weaker is_ascii_digit is_ascii_alphanumeric digit_name_byte (decimal (n.first + r)) (digits_of (n.first + r) (omega arith)).all))
+    (list_all-weaker is_ascii_digit is_ascii_alphanumeric digit_alphanumeric (decimal (n.first + r)) (digits_of (n.first + r) (omega arith)).all))
     (le-leb (length (register_name n r)) 16 (omega (arith, three_digits (n.first + r) s)))
 
 -- the names of numbered registers have the form of registers' names
