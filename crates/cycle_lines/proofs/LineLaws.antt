@@ -8,7 +8,7 @@ use Rattle.std.proofs.lemmas.Bool.Decides.{nat_tests}
 use Rattle.list_laws.proofs.Cases.{by_test}
 use Rattle.diy_io.specs.Sink.{line_feed_count}
 use Rattle.text_laws.specs.Lines.{is_line_feed, without_return, but_last, last_of, whole_lines, ended_lines, unended, last_line, lines_of}
-use Rattle.text_laws.proofs.PieceLaws.{first_piece, split_append, but_last_append, last_append}
+use Rattle.text_laws.proofs.PieceLaws.{first_piece, split_append, but_last_append, last_append, length-but_last}
 use Rattle.cycle_lines.specs.Cycles.{is_long_line}
 use Rattle.cycle_lines.specs.LineSteps.{Without}
 
@@ -151,14 +151,10 @@ long_first text rest h long =
       long = kept_return line;
     }
 
-but_last_length : (line : List ℕ) (rest : List (List ℕ)) → length (but_last (line ∷ rest)) ≡ length rest
-but_last_length line [] = refl
-but_last_length line (next ∷ rest) = ap suc (but_last_length next rest)
-
 -- as many lines have ended as there are line feeds
 pub ended_count : (text : List ℕ) → length (ended_lines text) ≡ line_feed_count text
 unfolding ended_lines whole_lines
 ended_count text =
     let first = first_piece is_line_feed text in
     let all : length (first.piece ∷ first.rest) ≡ line_feed_count text + 1 = ap length (sym first.is) ∙ length-slice_split is_line_feed text in
-    length-map (but_last (slice_split is_line_feed text)) without_return ∙ ap (λ t. length (but_last t)) first.is ∙ but_last_length first.piece first.rest ∙ omega arith
+    length-map (but_last (slice_split is_line_feed text)) without_return ∙ ap (λ t. length (but_last t)) first.is ∙ length-but_last first.piece first.rest ∙ omega arith

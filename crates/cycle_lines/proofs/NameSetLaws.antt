@@ -15,14 +15,9 @@ use Rattle.std.specs.BTreeSet.{BTreeSet, insert_key}
 use Rattle.std.specs.declared.alloc.Global.{Global}
 use Rattle.std.proofs.lemmas.Slice.Eq.{bytes_eq-Decides}
 use Rattle.list_laws.proofs.Cases.{by_test}
-use Rattle.text_laws.proofs.OrderLaws.{Above, Ascends, above_all, not_equal, any_insert, bytes_same}
+use Rattle.text_laws.proofs.OrderLaws.{Above, Ascends, above_all, not_equal, none_above, any_insert, bytes_same}
 use Rattle.cycle_lines.specs.Classified.{with_cycle_name}
 use Rattle.cycle_lines.specs.KeptNames.{names_in_set, is_absent, AreAmong}
-
--- a text below all of these is none of them
-none_above : (k : List ℕ) (xs : List (List ℕ)) → Above k xs → list_any (bytes_eq k) xs ≡ false
-none_above k [] a = refl
-none_above k (x ∷ xs) a = ap (λ b. b || list_any (bytes_eq k) xs) (not_equal k x Less a.0 refl) ∙ none_above k xs a.1
 
 -- where a text that is there is put in order, nothing changes
 pub present_same : (k : List ℕ) (xs : List (List ℕ)) → Ascends xs → list_any (bytes_eq k) xs ≡ true → with_cycle_name xs k ≡ xs
