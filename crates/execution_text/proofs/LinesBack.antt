@@ -8,12 +8,13 @@ use Rattle.std.proofs.lemmas.List.{append-nil}
 use Rattle.std.proofs.lemmas.List.Splits.{slice_split_at, slice_split_none}
 use Rattle.std.proofs.lemmas.List.Sums.{AllPass-from_list_all}
 use Rattle.list_laws.proofs.Elements.{list_all-weaker}
-use Rattle.text_laws.specs.Blanks.{is_blank}
+use Rattle.text_laws.specs.Blanks.{is_inked}
 use Rattle.text_laws.specs.Words.{is_nil, words}
 use Rattle.text_laws.specs.Lines.{lines_of}
 use Rattle.litmus_text.specs.TestText.{with_line_feed}
 use Rattle.text_laws.specs.Cuts.{CutParts}
 use Rattle.text_laws.proofs.OrderLaws.{bytes_same}
+use Rattle.text_laws.proofs.WordLaws.{words_both, one_word}
 use Rattle.text_laws.proofs.CutLaws.{all_both, without_class}
 use Rattle.text_laws.proofs.LineLaws.{class_kept}
 use Rattle.execution_text.specs.declared.errors.ExecKind.{ExecKind}
@@ -30,26 +31,18 @@ is_printed byte = nat_le 32 byte && nat_lt byte 127
 graphic_printed : (byte : ℕ) → is_graphic byte ≡ true → is_printed byte ≡ true
 graphic_printed byte h = grind (arith, nat_tests)
 
-graphic_inked : (byte : ℕ) → is_graphic byte ≡ true → is_blank byte ≡ false
+graphic_inked : (byte : ℕ) → is_graphic byte ≡ true → is_inked byte ≡ true
 graphic_inked byte h = grind (arith, nat_tests)
 
-no_blank : (word : List ℕ) → list_all is_graphic word ≡ true → All (λ byte. is_blank byte ≡ false) word
-no_blank word h i d k = graphic_inked (get_or word i d) (AllPass-from_list_all is_graphic word h i d k)
-
--- a piece that is a word is kept
-word_kept : (word : List ℕ) (pieces : List (List ℕ)) → IsWord word → filter (λ w. not (is_nil w)) (word ∷ pieces) ≡ word ∷ filter (λ w. not (is_nil w)) pieces
-word_kept word pieces w = rw w.some refl
+word_back : (word : List ℕ) → IsWord word → words word ≡ word ∷ []
+word_back word w = one_word word (list_all-weaker is_graphic is_inked graphic_inked word w.bytes) w.some
 
 -- a line has the words of which it is made
 words_back : (word : List ℕ) (others : List (List ℕ)) → IsWord word → AllByRecursion IsWord others → words (word ++ further others) ≡ word ∷ others
-unfolding words
-words_back word [] w h =
-    ap words (append-nil word)
-    ∙ ap (λ pieces. filter (λ p. not (is_nil p)) pieces) (slice_split_none is_blank word (no_blank word w.bytes))
-    ∙ word_kept word [] w
+words_back word [] w h = ap words (append-nil word) ∙ word_back word w
 words_back word (next ∷ others) w h =
-    ap (λ pieces. filter (λ p. not (is_nil p)) pieces) (slice_split_at is_blank word 32 (next ++ further others) (no_blank word w.bytes) refl)
-    ∙ word_kept word (slice_split is_blank (next ++ further others)) w
+    words_both word (next ++ further others)
+    ∙ ap (λ ws. ws ++ words (next ++ further others)) (word_back word w)
     ∙ ap (λ rest. word ∷ rest) (words_back next others h.0 h.1)
 
 further_printed : (others : List (List ℕ)) → AllByRecursion IsWord others → list_all is_printed (further others) ≡ true

@@ -9,11 +9,11 @@ use Rattle.std.proofs.lemmas.Bool.{lt-ltb}
 use Rattle.std.proofs.lemmas.Bool.Decides.{nat_tests}
 use Rattle.std.proofs.lemmas.Fmt.{digits_decimal}
 use Rattle.std.proofs.lemmas.Slice.Eq.{bytes_eq-Decides}
-use Rattle.list_laws.proofs.Digits.{digits_model}
+use Rattle.list_laws.proofs.Digits.{digits_of}
 use Rattle.list_laws.proofs.Elements.{list_all-weaker}
 use Rattle.list_laws.proofs.Cases.{by_test}
 use Rattle.text_laws.specs.Names.{begins_place, is_place_byte, is_place_name}
-use Rattle.text_laws.proofs.NameLaws.{place_shaped, shaped_all}
+use Rattle.text_laws.proofs.NameLaws.{place_name_bytes}
 use Rattle.text_laws.proofs.NumberLaws.{number_of-decimal}
 use Rattle.text_laws.specs.Cuts.{cut_at}
 use Rattle.text_laws.specs.Words.{is_nil}
@@ -36,9 +36,6 @@ pub record IsWord (word : List ℕ) : Type 0 where
 digit_graphic : (byte : ℕ) → is_ascii_digit byte ≡ true → is_graphic byte ≡ true
 digit_graphic byte h = grind (arith, nat_tests)
 
-begins_graphic : (byte : ℕ) → begins_place byte ≡ true → is_graphic byte ≡ true
-begins_graphic byte h = grind (arith, nat_tests)
-
 place_graphic : (byte : ℕ) → is_place_byte byte ≡ true → is_graphic byte ≡ true
 place_graphic byte h = grind (arith, nat_tests)
 
@@ -47,11 +44,8 @@ some_text : (prefix remainder : List ℕ) (byte : ℕ) → is_nil (prefix ++ byt
 some_text [] remainder byte = refl
 some_text (b ∷ prefix) remainder byte = refl
 
-digits_are : (n : ℕ) → n < 2 ^ 32 → list_all is_ascii_digit (decimal n) ≡ true
-digits_are n h = digits_decimal digits_model n (omega (arith, h))
-
 digits_graphic : (n : ℕ) → n < 2 ^ 32 → list_all is_graphic (decimal n) ≡ true
-digits_graphic n h = list_all-weaker is_ascii_digit is_graphic digit_graphic (decimal n) (digits_are n h)
+digits_graphic n h = list_all-weaker is_ascii_digit is_graphic digit_graphic (decimal n) (digits_of n h).all
 
 -- a number below a bound
 number_back : (bound n : ℕ) → n < bound → n < 2 ^ 32 → number_below bound (decimal n) ≡ Some n
@@ -61,7 +55,7 @@ number_back bound n h k = ap (option_and_then (kept_below bound)) (number_of-dec
 access_cut : (threads : ℕ) (w : WriteAt) → AccessFits threads w → threads ≤ MAX_TEXT → cut_at 46 (access_word w) ≡ Some (decimal w.thread, decimal w.access)
 unfolding access_word
 access_cut threads w f h =
-    cut_back 46 (decimal w.thread) (decimal w.access) (without_class is_ascii_digit 46 (decimal w.thread) refl (digits_are w.thread (omega (arith, f.0, h))))
+    cut_back 46 (decimal w.thread) (decimal w.access) (without_class is_ascii_digit 46 (decimal w.thread) refl (digits_of w.thread (omega (arith, f.0, h))).all)
 
 -- an access is named by its word
 pub access_back : (threads : ℕ) → threads ≤ MAX_TEXT → (w : WriteAt) → AccessFits threads w → access_named threads (access_word w) ≡ Some w
@@ -103,7 +97,7 @@ source_graphic threads h (Some w) f = (access_is_word threads h w f).bytes
 pub read_back : (threads : ℕ) → threads ≤ MAX_TEXT → (r : ℕ × Option WriteAt) → ReadFits threads r → read_named threads (read_word r) ≡ Some r
 unfolding read_named read_word
 read_back threads h r f =
-    ap (read_written threads) (cut_back 64 (decimal r.0) (source_word r.1) (without_class is_ascii_digit 64 (decimal r.0) refl (digits_are r.0 f.0)))
+    ap (read_written threads) (cut_back 64 (decimal r.0) (source_word r.1) (without_class is_ascii_digit 64 (decimal r.0) refl (digits_of r.0 f.0).all))
     ∙ rw (number_of-decimal r.0 f.0, source_back threads h r.1 f.1) refl
 
 -- what is written of a read is a word
@@ -125,5 +119,5 @@ thread_is_word thread h = record {
 pub place_is_word : (place : List ℕ) → is_place_name place ≡ true → IsWord (place_head place)
 place_is_word place h = record {
   some = some_text place [] 58;
-  bytes = all_both is_graphic place (codes ":") (shaped_all begins_place is_place_byte is_graphic begins_graphic place_graphic place (place_shaped place h)) refl;
+  bytes = all_both is_graphic place (codes ":") (list_all-weaker is_place_byte is_graphic place_graphic place (place_name_bytes place h)) refl;
 }
