@@ -1,6 +1,6 @@
 -- Which edges stand in an execution, by the accesses that were found.
 use Rattle.std.proofs.Common.{◌≡◌, ℕ, ◌<◌, slice_get, Bool, true, false, List, length, Option, Some, None, sym, ap, subst, ◌∙◌}
-use Rattle.std.specs.Prelude.{◌↔◌, IsTrue}
+use Rattle.std.specs.Prelude.{◌↔◌, IsTrue, option_map}
 use Rattle.std.proofs.lemmas.Option.{get_or_from_slice_get, same_Some}
 use Rattle.relax_edges.specs.declared.kinds.Reach.TheVariants.{Internal}
 use Rattle.relax_edges.specs.declared.kinds.Com.TheVariants.{Rf}
@@ -13,11 +13,11 @@ use Rattle.program_meaning.specs.Accesses.{Access, Visit, at_name}
 use Rattle.program_meaning.specs.Executions.{Execution}
 use Rattle.program_meaning.specs.Programs.{Program, accesses_in, visits_in}
 use Rattle.program_meaning.specs.Standing.{NamedAccess, IsEvent, Stands, event_name}
-use Rattle.exec_meaning.specs.StandingEdges.{EdgeStands, stands, stands_if}
+use Rattle.exec_meaning.specs.StandingEdges.{EdgeStands, named, stands, stands_if}
 use Rattle.exec_meaning.proofs.EdgeLaws.{stands_means, stands_from}
 
 -- an event is the access that was found under its name
-found_is : (es : List Edge) (vs : List (List Visit)) (j : ℕ) (n : WriteAt) (v : Visit) (e : NamedAccess) → n ≡ event_name es j → at_name vs n ≡ Some v → IsEvent es vs j e → e ≡ record { name = n; visit = v }
+found_is : (es : List Edge) (vs : List (List Visit)) (j : ℕ) (n : WriteAt) (v : Visit) (e : NamedAccess) → n ≡ event_name es j → at_name vs n ≡ Some v → IsEvent es vs j e → e ≡ named n v
 found_is es vs j n v e is got h =
     let a : e.name ≡ n = h.name_is ∙ sym is in
     let b : e.visit ≡ v = same_Some e.visit v (sym h.visit_is ∙ ap (at_name vs) a ∙ got) in
@@ -26,21 +26,21 @@ found_is es vs j n v e is got h =
 -- the test between the two accesses that were found decides whether the edge stands
 pub edge_decides : (es : List Edge) (p : Program) (x : Execution) (i : ℕ) (vs : List (List Visit)) (all : List (List Access)) (n m : WriteAt) (v w : Visit) (b : Bool)
     → visits_in p x ≡ vs → accesses_in p x ≡ all → IsResolved es → i < length es → n ≡ event_name es i → m ≡ event_name es (event_after es i) → at_name vs n ≡ Some v → at_name vs m ≡ Some w
-    → b ≡ stands all x (edge_at es i) (record { name = n; visit = v }) (record { name = m; visit = w }) → IsTrue b ↔ EdgeStands es p x i
+    → b ≡ stands all x (edge_at es i) (named n v) (named m w) → IsTrue b ↔ EdgeStands es p x i
 edge_decides es p x i vs all n m v w b s t r l j k g h q = (
-  λ yes. let d : Stands (accesses_in p x) x (edge_at es i) (record { name = n; visit = v }) (record { name = m; visit = w }) =
-      subst (λ a. Stands a x (edge_at es i) (record { name = n; visit = v }) (record { name = m; visit = w })) (sym t) (stands_means all x (edge_at es i) (record { name = n; visit = v }) (record { name = m; visit = w }) (sym q ∙ yes)) in
+  λ yes. let d : Stands (accesses_in p x) x (edge_at es i) (named n v) (named m w) =
+      subst (λ a. Stands a x (edge_at es i) (named n v) (named m w)) (sym t) (stands_means all x (edge_at es i) (named n v) (named m w) (sym q ∙ yes)) in
       record {
-        source = record { name = n; visit = v };
-        target = record { name = m; visit = w };
+        source = named n v;
+        target = named m w;
         leaves = record { name_is = j; visit_is = ap (λ u. at_name u n) s ∙ g; direction = d.joins.leaves };
         enters = record { name_is = k; visit_is = ap (λ u. at_name u m) s ∙ h; direction = d.joins.enters ∙ sym (source_after es i r.composes l) };
         stands = d;
       },
-  λ held. let e : held.source ≡ record { name = n; visit = v } = found_is es vs i n v held.source j g (subst (λ u. IsEvent es u i held.source) s held.leaves) in
-      let f : held.target ≡ record { name = m; visit = w } = found_is es vs (event_after es i) m w held.target k h (subst (λ u. IsEvent es u (event_after es i) held.target) s held.enters) in
-      let d = subst (λ y. Stands (accesses_in p x) x (edge_at es i) (record { name = n; visit = v }) y) f (subst (λ y. Stands (accesses_in p x) x (edge_at es i) y held.target) e held.stands) in
-      q ∙ stands_from all x (edge_at es i) (record { name = n; visit = v }) (record { name = m; visit = w }) (subst (λ a. Stands a x (edge_at es i) (record { name = n; visit = v }) (record { name = m; visit = w })) t d),
+  λ held. let e : held.source ≡ named n v = found_is es vs i n v held.source j g (subst (λ u. IsEvent es u i held.source) s held.leaves) in
+      let f : held.target ≡ named m w = found_is es vs (event_after es i) m w held.target k h (subst (λ u. IsEvent es u (event_after es i) held.target) s held.enters) in
+      let d = subst (λ y. Stands (accesses_in p x) x (edge_at es i) (named n v) y) f (subst (λ y. Stands (accesses_in p x) x (edge_at es i) y held.target) e held.stands) in
+      q ∙ stands_from all x (edge_at es i) (named n v) (named m w) (subst (λ a. Stands a x (edge_at es i) (named n v) (named m w)) t d),
 )
 
 none_there : (es : List Edge) (vs : List (List Visit)) (j : ℕ) (n : WriteAt) (e : NamedAccess) → n ≡ event_name es j → at_name vs n ≡ None → IsEvent es vs j e → ⊥
@@ -56,11 +56,11 @@ no_target es p x i vs m s k g held = none_there es vs (event_after es i) m held.
 
 -- whether its two accesses are there or not, the test decides whether the edge stands
 pub edge_decided : (es : List Edge) (p : Program) (x : Execution) (i : ℕ) (vs : List (List Visit)) (all : List (List Access)) (n m : WriteAt) (source target : Option Visit) (b : Bool)
-    → visits_in p x ≡ vs → accesses_in p x ≡ all → IsResolved es → i < length es → n ≡ event_name es i → m ≡ event_name es (event_after es i) → source ≡ at_name vs n → target ≡ at_name vs m
-    → b ≡ stands_if all x (edge_at es i) n source m target → IsTrue b ↔ EdgeStands es p x i
-edge_decided es p x i vs all n m None target b s t r l j k g h q = (λ yes. let e : false ≡ true = sym q ∙ yes in cc e, λ held. absurd (no_source es p x i vs n s j (sym g) held))
-edge_decided es p x i vs all n m (Some v) None b s t r l j k g h q = (λ yes. let e : false ≡ true = sym q ∙ yes in cc e, λ held. absurd (no_target es p x i vs m s k (sym h) held))
-edge_decided es p x i vs all n m (Some v) (Some w) b s t r l j k g h q = edge_decides es p x i vs all n m v w b s t r l j k (sym g) (sym h) q
+    → visits_in p x ≡ vs → accesses_in p x ≡ all → IsResolved es → i < length es → n ≡ event_name es i → m ≡ event_name es (event_after es i) → at_name vs n ≡ source → at_name vs m ≡ target
+    → b ≡ stands_if all x (edge_at es i) (option_map (named n) source) (option_map (named m) target) → IsTrue b ↔ EdgeStands es p x i
+edge_decided es p x i vs all n m None target b s t r l j k g h q = (λ yes. let e : false ≡ true = sym q ∙ yes in cc e, λ held. absurd (no_source es p x i vs n s j g held))
+edge_decided es p x i vs all n m (Some v) None b s t r l j k g h q = (λ yes. let e : false ≡ true = sym q ∙ yes in cc e, λ held. absurd (no_target es p x i vs m s k h held))
+edge_decided es p x i vs all n m (Some v) (Some w) b s t r l j k g h q = edge_decides es p x i vs all n m v w b s t r l j k g h q
 
 -- the edge that was found
 pub edge_is : (es found : List Edge) (i : ℕ) (e : Edge) → found ≡ es → slice_get found i ≡ Some e → e ≡ edge_at es i

@@ -1,6 +1,6 @@
 -- When an edge of a cycle stands in an execution of a program, and the tests by which that is decided.
 -- Source: own.
-use Rattle.std.specs.Prelude.{ℕ, ◌+◌, ◌==◌, ◌&&◌, Bool, true, false, not, nat_lt, List, [], ◌∷◌, Option, Some, None}
+use Rattle.std.specs.Prelude.{ℕ, ◌+◌, ◌==◌, ◌&&◌, Bool, true, false, not, nat_lt, List, [], ◌∷◌, Option, Some, None, option_map}
 use Rattle.std.specs.List.{list_all}
 use Rattle.relax_edges.specs.declared.kinds.Sd.{Sd}
 use Rattle.relax_edges.specs.declared.kinds.Sd.TheVariants.{Same, Diff}
@@ -24,7 +24,7 @@ use Rattle.resolution_laws.specs.Resolution.{edge_at, event_after}
 use Rattle.exec_meaning.specs.declared.edges.Tie.{Tie}
 use Rattle.exec_meaning.specs.declared.edges.Tie.TheVariants as ties
 use Rattle.program_meaning.specs.declared.WriteAt.{WriteAt}
-use Rattle.program_meaning.specs.Accesses.{Access, Barred, Visit}
+use Rattle.program_meaning.specs.Accesses.{Access, Barred, Visit, at_name}
 use Rattle.program_meaning.specs.Executions.{Execution, same_write}
 use Rattle.program_meaning.specs.Coherence.{coherence_place, source_at}
 use Rattle.program_meaning.specs.Programs.{Program, accesses_in, visits_in}
@@ -38,6 +38,14 @@ pub record EdgeStands (es : List Edge) (p : Program) (x : Execution) (i : ℕ) :
   pub leaves : IsEvent es (visits_in p x) i source
   pub enters : IsEvent es (visits_in p x) (event_after es i) target
   pub stands : Stands (accesses_in p x) x (edge_at es i) source target
+
+-- an access with this name
+abbrev pub named : WriteAt → Visit → NamedAccess
+named name visit = record { name = name; visit = visit }
+
+-- the access with a name, if it is there
+abbrev pub named_access : List (List Visit) → WriteAt → Option NamedAccess
+named_access visits name = option_map (named name) (at_name visits name)
 
 -- two sides of a fence order the same accesses
 abbrev pub same_pick : Pick → Pick → Bool
@@ -164,7 +172,7 @@ stands threads x edge e f =
     (same_mark e.visit.mark (source_mark edge) && (same_mark f.visit.mark (target_mark edge) && ties_by (kind_of edge) threads e f.visit))
 
 -- two accesses are there, and an edge stands between them
-abbrev pub stands_if : List (List Access) → Execution → Edge → WriteAt → Option Visit → WriteAt → Option Visit → Bool
-stands_if threads x edge n None m target = false
-stands_if threads x edge n (Some e) m None = false
-stands_if threads x edge n (Some e) m (Some f) = stands threads x edge (record { name = n; visit = e }) (record { name = m; visit = f })
+abbrev pub stands_if : List (List Access) → Execution → Edge → Option NamedAccess → Option NamedAccess → Bool
+stands_if threads x edge None f = false
+stands_if threads x edge (Some e) None = false
+stands_if threads x edge (Some e) (Some f) = stands threads x edge e f

@@ -1,6 +1,7 @@
 ghost use Rattle.std.specs.Prelude.{◌≡◌, ◌++◌, map, IfOk, OnOk};
 ghost use Rattle.program_meaning.specs.Accesses.{at_name, accesses_of, visits_of, is_read, reads_before};
-ghost use Rattle.execution_laws.specs.Deciding.{writes_to};
+ghost use Rattle.program_meaning.specs.Executions.{same_write};
+ghost use Rattle.execution_laws.specs.Deciding.{name, writes_to};
 ghost use Rattle.exec_meaning.specs.EndedRuns.{item_access};
 
 use micro_ops::{Item, Trace};
@@ -82,6 +83,20 @@ pub(crate) fn access_at(all: &[Accesses], name: WriteAt) -> Option<Access>
         Some(access) => Some(*access),
         None => None,
     }
+}
+
+/// Whether two names are the same.
+pub(crate) fn is_same(write: WriteAt, other: WriteAt) -> bool
+    ensures { result ≡ same_write write other }
+{
+    write.thread == other.thread && write.access == other.access
+}
+
+/// Whether a name has these numbers, which may be past those of a name.
+pub(crate) fn has_numbers(write: WriteAt, thread: usize, access: usize) -> bool
+    ensures { result ≡ same_write (name thread access) write }
+{
+    thread == usize::from(write.thread) && access == usize::from(write.access)
 }
 
 /// Whether an access reads.

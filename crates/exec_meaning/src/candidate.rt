@@ -6,7 +6,9 @@ ghost use Rattle.program_meaning.specs.Programs.{IsCandidate};
 ghost use Rattle.litmus_text.specs.ReadPrograms.{program_read};
 ghost use Rattle.execution_laws.specs.Deciding.{every, name, writes_there, can_read, are_reads, are_distinct, is_covered, thread_covered, is_order, reads_fit, orders_fit, lists_fit};
 
-use crate::accesses::{Accesses, access_at, all_accesses, is_read, writes_to};
+use crate::accesses::{
+    Accesses, access_at, all_accesses, has_numbers, is_read, is_same, writes_to,
+};
 use crate::execution::{Execution, Read};
 use crate::runs::run_all;
 use arch_trait::Arch;
@@ -46,12 +48,6 @@ fn are_reads(all: &[Accesses], accesses: &[Access], reads: &[Read]) -> bool
     read.0 == access.value && can_read(all, access, read.1) && are_reads(all, further, others)
 }
 
-fn is_same(write: WriteAt, other: WriteAt) -> bool
-    ensures { result ≡ same_write write other }
-{
-    write.thread == other.thread && write.access == other.access
-}
-
 /// Whether each of the writes is there, and writes to the place.
 fn are_there(all: &[Accesses], place: u8, order: &[WriteAt]) -> bool
     ensures { result ≡ list_all (λ w. writes_there place (at_name all.now w)) order.now }
@@ -87,8 +83,9 @@ fn are_distinct(order: &[WriteAt]) -> bool
 fn is_named(order: &[WriteAt], thread: usize, access: usize) -> bool
     ensures { result ≡ list_any (same_write (name thread access)) order.now }
 {
-    order.iter().any(|write| thread == usize::from(write.thread)
-        && access == usize::from(write.access))
+    order
+        .iter()
+        .any(|write| has_numbers(*write, thread, access))
 }
 
 /// Whether each write of a thread to the place is in the place's order.

@@ -6,7 +6,7 @@ ghost use Rattle.program_meaning.specs.Programs.{IsCandidate, IsCoherentIn};
 ghost use Rattle.litmus_text.specs.ReadPrograms.{program_read};
 ghost use Rattle.execution_laws.specs.Deciding.{name, may_follow, agrees, agrees_later, thread_coheres, coheres};
 
-use crate::accesses::{Accesses, all_accesses, is_read};
+use crate::accesses::{Accesses, all_accesses, has_numbers, is_read};
 use crate::execution::{Execution, Read};
 use crate::runs::candidate_runs;
 use arch_trait::Arch;
@@ -15,6 +15,13 @@ use litmus_text::ReadTest;
 use program_meaning::{Access, WriteAt};
 use relax_edges::Dir;
 use std::alloc::Global;
+
+/// An access of a thread with its number there, from 0, which may be past those of a name.
+#[derive(Clone, Copy)]
+struct NumberedAccess {
+    number: usize,
+    access: Access,
+}
 
 fn count_reads(accesses: &[Access]) -> usize
     ensures { result ≡ count_by is_read accesses.now }
@@ -70,8 +77,9 @@ fn source_at(all: &[Accesses], exec: &Execution, thread: usize, access: usize) -
 fn position_of(order: &[WriteAt], thread: usize, access: usize) -> Option<usize>
     ensures { result ≡ position (same_write (name thread access)) order.now }
 {
-    order.iter().position(|write| thread == usize::from(write.thread)
-        && access == usize::from(write.access))
+    order
+        .iter()
+        .position(|write| has_numbers(*write, thread, access))
 }
 
 /// The place of a write in an order, from 1; 0 where it isn't there.
@@ -100,14 +108,14 @@ fn coherence_place(
     all: &[Accesses],
     exec: &Execution,
     thread: usize,
-    i: usize,
-    access: &Access,
+    numbered: NumberedAccess,
 ) -> usize
-    ensures { result ≡ coherence_place all.now exec.now (name thread i) access.now }
+    ensures { result ≡ coherence_place all.now exec.now (name thread numbered.number) numbered.access }
 {
+    let NumberedAccess { number, access } = numbered;
     match access.dir {
-        Dir::W => place_of_write(exec, access.place, thread, i),
-        Dir::R => match source_at(all, exec, thread, i) {
+        Dir::W => place_of_write(exec, access.place, thread, number),
+        Dir::R => match source_at(all, exec, thread, number) {
             Some(write) => {
                 let from = usize::from(write.thread);
                 place_of_write(exec, access.place, from, usize::from(write.access))
@@ -127,7 +135,11 @@ pub(crate) fn place_of_name(
     ensures { result ≡ coherence_place all.now exec.now name access.now }
 {
     let thread = usize::from(name.thread);
-    coherence_place(all, exec, thread, usize::from(name.access), access)
+    let numbered = NumberedAccess {
+        number: usize::from(name.access),
+        access: *access,
+    };
+    coherence_place(all, exec, thread, numbered)
 }
 
 /// The write that an access with this name reads.
@@ -166,21 +178,19 @@ fn agrees(
     all: &[Accesses],
     exec: &Execution,
     thread: usize,
-    number: usize,
-    access: &Access,
-    later_number: usize,
-    later: &Access,
+    first: NumberedAccess,
+    later: NumberedAccess,
 ) -> bool
-    ensures { result ≡ agrees all.now exec.now thread number access.now later_number later.now }
+    ensures { result ≡ agrees all.now exec.now thread first.number first.access later.number later.access }
 {
-    if access.place != later.place {
+    if first.access.place != later.access.place {
         return true;
     }
-    let before = coherence_place(all, exec, thread, number, access);
+    let before = coherence_place(all, exec, thread, first);
     may_follow(
-        later.dir,
+        later.access.dir,
         before,
-        coherence_place(all, exec, thread, later_number, later),
+        coherence_place(all, exec, thread, later),
     )
 }
 
@@ -189,15 +199,13 @@ fn agrees_if_later(
     all: &[Accesses],
     exec: &Execution,
     thread: usize,
-    number: usize,
-    access: &Access,
-    later_number: usize,
-    later: &Access,
+    first: NumberedAccess,
+    later: NumberedAccess,
 ) -> bool
-    ensures { result ≡ (not (nat_lt number later_number) || agrees all.now exec.now thread number access.now later_number later.now) }
+    ensures { result ≡ (not (nat_lt first.number later.number) || agrees all.now exec.now thread first.number first.access later.number later.access) }
 {
-    if number < later_number {
-        agrees(all, exec, thread, number, access, later_number, later)
+    if first.number < later.number {
+        agrees(all, exec, thread, first, later)
     } else {
         true
     }
@@ -209,13 +217,16 @@ fn agrees_later(
     exec: &Execution,
     thread: usize,
     accesses: &[Access],
-    number: usize,
-    access: &Access,
+    first: NumberedAccess,
 ) -> bool
-    ensures { result ≡ agrees_later all.now exec.now thread accesses.now number access.now }
+    ensures { result ≡ agrees_later all.now exec.now thread accesses.now first.number first.access }
 {
-    for (later_number, later) in accesses.iter().enumerate() {
-        if !agrees_if_later(all, exec, thread, number, access, later_number, later) {
+    for (number, access) in accesses.iter().enumerate() {
+        let later = NumberedAccess {
+            number,
+            access: *access,
+        };
+        if !agrees_if_later(all, exec, thread, first, later) {
             return false;
         }
     }
@@ -227,7 +238,11 @@ fn thread_coheres(all: &[Accesses], exec: &Execution, thread: usize, accesses: &
     ensures { result ≡ thread_coheres all.now exec.now thread accesses.now }
 {
     for (number, access) in accesses.iter().enumerate() {
-        if !agrees_later(all, exec, thread, accesses, number, access) {
+        let first = NumberedAccess {
+            number,
+            access: *access,
+        };
+        if !agrees_later(all, exec, thread, accesses, first) {
             return false;
         }
     }

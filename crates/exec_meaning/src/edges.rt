@@ -1,55 +1,25 @@
 ghost use Rattle.std.specs.Prelude.{◌≡◌, ◌↔◌, ◌==◌, ◌^◌, ◌<◌, IsTrue, IfOk, length, map};
 ghost use Rattle.std.specs.Int.{bit_at};
-ghost use Rattle.relax_edges.specs.EdgeTable.{same_dir, same_mark};
 ghost use Rattle.resolution_laws.specs.Resolution.{event_after};
 ghost use Rattle.program_meaning.specs.Accesses.{at_name, visits_of};
-ghost use Rattle.program_meaning.specs.Standing.{is_in_mask, event_name};
+ghost use Rattle.program_meaning.specs.Standing.{access_at, is_in_mask, event_name};
 ghost use Rattle.program_meaning.specs.Programs.{IsCandidate};
 ghost use Rattle.litmus_text.specs.ReadPrograms.{program_read};
-ghost use Rattle.exec_meaning.specs.StandingEdges.{EdgeStands, same_pick, same_fence, barriers_agree, is_alone, are_at, is_source, reaches, comes_before, communicates_by, joins, depends_as, barriers_wait, waits, depends_by, ties_by, stands, stands_if};
+ghost use Rattle.exec_meaning.specs.StandingEdges.{EdgeStands, named_access, same_fence, barriers_agree, is_alone, are_at, is_source, reaches, comes_before, communicates_by, joins, depends_as, barriers_wait, waits, depends_by, ties_by, stands, stands_if};
 
-use crate::accesses::{Accesses, all_accesses, is_read};
+use crate::accesses::{Accesses, all_accesses, is_read, is_same};
 use crate::coherent::{place_of_name, reads_before_name, source_of_name};
 use crate::execution::Execution;
 use crate::runs::candidate_runs;
-use crate::visits::{Visit, visit_at};
+use crate::visits::{NamedAccess, Visit, visit_at};
 use arch_trait::Arch;
 use cycle_resolve::Resolved;
 use diy_io::NoMemory;
 use litmus_text::ReadTest;
 use micro_ops::{Barrier, Trace};
-use program_meaning::{Access, Barred, WriteAt};
-use relax_edges::{Com, DepKind, Dir, Edge, FenceKind, Kind, Mark, Pick, Reach, Sd};
+use program_meaning::{Barred, WriteAt};
+use relax_edges::{Com, DepKind, Edge, FenceKind, Kind, Reach, Sd};
 use std::alloc::{AllocError, Global};
-
-fn same_dir(a: Dir, b: Dir) -> bool
-    ensures { result ≡ same_dir a b }
-{
-    match (a, b) {
-        (Dir::R, Dir::R) | (Dir::W, Dir::W) => true,
-        _ => false,
-    }
-}
-
-fn same_mark(a: Mark, b: Mark) -> bool
-    ensures { result ≡ same_mark a b }
-{
-    match (a, b) {
-        (Mark::Plain, Mark::Plain)
-        | (Mark::Acquire, Mark::Acquire)
-        | (Mark::Release, Mark::Release) => true,
-        _ => false,
-    }
-}
-
-fn same_pick(a: Pick, b: Pick) -> bool
-    ensures { result ≡ same_pick a b }
-{
-    match (a, b) {
-        (Pick::R, Pick::R) | (Pick::W, Pick::W) | (Pick::RW, Pick::RW) => true,
-        _ => false,
-    }
-}
 
 fn same_fence(a: FenceKind, b: FenceKind) -> bool
     ensures { result ≡ same_fence a b }
@@ -69,7 +39,7 @@ fn same_fence(a: FenceKind, b: FenceKind) -> bool
                 pred: other_pred,
                 succ: other_succ,
             },
-        ) => same_pick(pred, other_pred) && same_pick(succ, other_succ),
+        ) => pred == other_pred && succ == other_succ,
         _ => false,
     }
 }
@@ -109,7 +79,7 @@ fn is_source(source: Option<WriteAt>, write: WriteAt) -> bool
     ensures { result ≡ is_source source write }
 {
     match source {
-        Some(read) => read.thread == write.thread && read.access == write.access,
+        Some(read) => is_same(read, write),
         None => false,
     }
 }
@@ -131,14 +101,13 @@ fn reaches(reach: Reach, from: WriteAt, to: WriteAt) -> bool
 fn comes_before(
     all: &[Accesses],
     exec: &Execution,
-    from: WriteAt,
-    source: &Access,
-    to: WriteAt,
-    target: &Access,
+    source: &NamedAccess,
+    target: &NamedAccess,
 ) -> bool
-    ensures { result ≡ comes_before all.now exec.now (record { name = from; access = source.now }) (record { name = to; access = target.now }) }
+    ensures { result ≡ comes_before all.now exec.now (access_at source.now) (access_at target.now) }
 {
-    place_of_name(all, exec, from, source) < place_of_name(all, exec, to, target)
+    let before = place_of_name(all, exec, source.name(), source.visit().access());
+    before < place_of_name(all, exec, target.name(), target.visit().access())
 }
 
 /// Whether two accesses communicate as an edge says, if it is a communication.
@@ -146,19 +115,17 @@ fn communicates_by(
     kind: Kind,
     all: &[Accesses],
     exec: &Execution,
-    from: WriteAt,
-    source: &Access,
-    to: WriteAt,
-    target: &Access,
+    source: &NamedAccess,
+    target: &NamedAccess,
 ) -> bool
-    ensures { result ≡ communicates_by kind all.now exec.now (record { name = from; access = source.now }) (record { name = to; access = target.now }) }
+    ensures { result ≡ communicates_by kind all.now exec.now (access_at source.now) (access_at target.now) }
 {
     let Kind::Com { com, .. } = kind else {
         return true;
     };
     match com {
-        Com::Rf => is_source(source_of_name(all, exec, to), from),
-        Com::Fr | Com::Ws => comes_before(all, exec, from, source, to, target),
+        Com::Rf => is_source(source_of_name(all, exec, target.name()), source.name()),
+        Com::Fr | Com::Ws => comes_before(all, exec, source, target),
     }
 }
 
@@ -167,18 +134,18 @@ fn joins(
     all: &[Accesses],
     exec: &Execution,
     edge: Edge,
-    from: WriteAt,
-    source: &Access,
-    to: WriteAt,
-    target: &Access,
+    source: &NamedAccess,
+    target: &NamedAccess,
 ) -> bool
-    ensures { result ≡ joins all.now exec.now edge (record { name = from; access = source.now }) (record { name = to; access = target.now }) }
+    ensures { result ≡ joins all.now exec.now edge (access_at source.now) (access_at target.now) }
 {
-    same_dir(source.dir, edge.source())
-        && same_dir(target.dir, edge.target())
-        && are_at(edge.place(), source.place, target.place)
-        && communicates_by(edge.kind(), all, exec, from, source, to, target)
-        && reaches(edge.reach(), from, to)
+    let from = source.visit().access();
+    let to = target.visit().access();
+    from.dir == edge.source()
+        && to.dir == edge.target()
+        && are_at(edge.place(), from.place, to.place)
+        && communicates_by(edge.kind(), all, exec, source, target)
+        && reaches(edge.reach(), source.name(), target.name())
 }
 
 /// Whether a mask names load number `load` alone.
@@ -198,10 +165,10 @@ fn has_load(mask: u64, load: usize) -> bool
 }
 
 /// Whether an access reads, and is in a mask.
-fn is_in_mask(all: &[Accesses], name: WriteAt, visit: &Visit, mask: u64) -> bool
-    ensures { result ≡ is_in_mask all.now (record { name = name; visit = visit.now }) mask }
+fn is_in_mask(all: &[Accesses], source: &NamedAccess, mask: u64) -> bool
+    ensures { result ≡ is_in_mask all.now source.now mask }
 {
-    is_read(visit.access()) && has_load(mask, reads_before_name(all, name))
+    is_read(source.visit().access()) && has_load(mask, reads_before_name(all, source.name()))
 }
 
 /// How the second of two accesses depends on the first.
@@ -214,11 +181,11 @@ enum Tie {
 }
 
 /// Whether the second of two accesses depends on the first so, and in no other way.
-fn depends(tie: Tie, all: &[Accesses], from: WriteAt, source: &Visit, target: &Visit) -> bool
-    ensures { result ≡ depends_as tie all.now (record { name = from; visit = source.now }) target.now }
+fn depends(tie: Tie, all: &[Accesses], source: &NamedAccess, target: &Visit) -> bool
+    ensures { result ≡ depends_as tie all.now source.now target.now }
 {
-    let load = reads_before_name(all, from);
-    let controlled = is_in_mask(all, from, source, target.control_mask());
+    let load = reads_before_name(all, source.name());
+    let controlled = is_in_mask(all, source, target.control_mask());
     match tie {
         Tie::Nothing => target.address_mask() == 0 && target.data_mask() == 0 && !controlled,
         Tie::Address => is_mask_of(target.address_mask(), load)
@@ -232,62 +199,54 @@ fn depends(tie: Tie, all: &[Accesses], from: WriteAt, source: &Visit, target: &V
 }
 
 /// Whether the access is in the control mask of each barrier.
-fn barriers_wait(all: &[Accesses], from: WriteAt, source: &Visit, barriers: &[Barred]) -> bool
-    ensures { result ≡ barriers_wait all.now (record { name = from; visit = source.now }) barriers.now }
+fn barriers_wait(all: &[Accesses], source: &NamedAccess, barriers: &[Barred]) -> bool
+    ensures { result ≡ barriers_wait all.now source.now barriers.now }
 {
     barriers
         .iter()
-        .all(|barrier| is_in_mask(all, from, source, barrier.control))
+        .all(|barrier| is_in_mask(all, source, barrier.control))
 }
 
 /// Whether the only barrier before the access is this one, and it waits for the access before, as the access does.
-fn waits(kind: Barrier, all: &[Accesses], from: WriteAt, source: &Visit, target: &Visit) -> bool
-    ensures { result ≡ waits kind all.now (record { name = from; visit = source.now }) target.now }
+fn waits(kind: Barrier, all: &[Accesses], source: &NamedAccess, target: &Visit) -> bool
+    ensures { result ≡ waits kind all.now source.now target.now }
 {
     is_alone(kind, target.barriers())
-        && depends(Tie::Control, all, from, source, target)
-        && barriers_wait(all, from, source, target.barriers())
+        && depends(Tie::Control, all, source, target)
+        && barriers_wait(all, source, target.barriers())
 }
 
 /// Whether a dependency ties an access to the one before it.
-fn depends_by(
-    kind: DepKind,
-    all: &[Accesses],
-    from: WriteAt,
-    source: &Visit,
-    target: &Visit,
-) -> bool
-    ensures { result ≡ depends_by kind all.now (record { name = from; visit = source.now }) target.now }
+fn depends_by(kind: DepKind, all: &[Accesses], source: &NamedAccess, target: &Visit) -> bool
+    ensures { result ≡ depends_by kind all.now source.now target.now }
 {
     match kind {
-        DepKind::Addr => target.barriers().is_empty()
-            && depends(Tie::Address, all, from, source, target),
-        DepKind::Ctrl => target.barriers().is_empty()
-            && depends(Tie::Control, all, from, source, target),
-        DepKind::CtrlIsync => waits(Barrier::Fence(FenceKind::ISync), all, from, source, target),
-        DepKind::CtrlIsb => waits(Barrier::Isb, all, from, source, target),
+        DepKind::Addr => target.barriers().is_empty() && depends(Tie::Address, all, source, target),
+        DepKind::Ctrl => target.barriers().is_empty() && depends(Tie::Control, all, source, target),
+        DepKind::CtrlIsync => waits(Barrier::Fence(FenceKind::ISync), all, source, target),
+        DepKind::CtrlIsb => waits(Barrier::Isb, all, source, target),
     }
 }
 
 /// Whether what lies between two accesses is what an edge says, if it is internal.
-fn ties_by(kind: Kind, all: &[Accesses], from: WriteAt, source: &Visit, target: &Visit) -> bool
-    ensures { result ≡ ties_by kind all.now (record { name = from; visit = source.now }) target.now }
+fn ties_by(kind: Kind, all: &[Accesses], source: &NamedAccess, target: &Visit) -> bool
+    ensures { result ≡ ties_by kind all.now source.now target.now }
 {
     match kind {
         Kind::Com { reach, .. } => match reach {
             Reach::Internal => target.barriers().is_empty()
-                && depends(Tie::Nothing, all, from, source, target),
+                && depends(Tie::Nothing, all, source, target),
             Reach::External => true,
         },
         Kind::Po { .. } => target.barriers().is_empty()
-            && depends(Tie::Nothing, all, from, source, target),
+            && depends(Tie::Nothing, all, source, target),
         Kind::Fenced { fence, .. } => {
             is_alone(Barrier::Fence(fence), target.barriers())
-                && depends(Tie::Nothing, all, from, source, target)
+                && depends(Tie::Nothing, all, source, target)
         }
-        Kind::Dep { dep, .. } => depends_by(dep, all, from, source, target),
+        Kind::Dep { dep, .. } => depends_by(dep, all, source, target),
         Kind::Data { .. } => target.barriers().is_empty()
-            && depends(Tie::Data, all, from, source, target),
+            && depends(Tie::Data, all, source, target),
     }
 }
 
@@ -296,17 +255,15 @@ fn stands(
     all: &[Accesses],
     exec: &Execution,
     edge: Edge,
-    from: WriteAt,
-    source: &Visit,
-    to: WriteAt,
-    target: &Visit,
+    source: &NamedAccess,
+    target: &NamedAccess,
 ) -> bool
-    ensures { result ≡ stands all.now exec.now edge (record { name = from; visit = source.now }) (record { name = to; visit = target.now }) }
+    ensures { result ≡ stands all.now exec.now edge source.now target.now }
 {
-    joins(all, exec, edge, from, source.access(), to, target.access())
-        && same_mark(source.mark(), edge.source_mark())
-        && same_mark(target.mark(), edge.target_mark())
-        && ties_by(edge.kind(), all, from, source, target)
+    joins(all, exec, edge, source, target)
+        && source.visit().mark() == edge.source_mark()
+        && target.visit().mark() == edge.target_mark()
+        && ties_by(edge.kind(), all, source, target.visit())
 }
 
 /// Whether two accesses are there and an edge stands between them.
@@ -314,28 +271,40 @@ fn stands_if(
     all: &[Accesses],
     exec: &Execution,
     edge: Edge,
-    from: WriteAt,
-    source: &Option<Visit>,
-    to: WriteAt,
-    target: &Option<Visit>,
+    source: &Option<NamedAccess>,
+    target: &Option<NamedAccess>,
 ) -> bool
-    ensures { result ≡ stands_if all.now exec.now edge from source.now to target.now }
+    ensures { result ≡ stands_if all.now exec.now edge source.now target.now }
 {
     match source {
         Some(source) => match target {
-            Some(target) => stands(all, exec, edge, from, source, to, target),
+            Some(target) => stands(all, exec, edge, source, target),
             None => false,
         },
         None => false,
     }
 }
 
-/// The access of an event, if it is there.
+/// The access with a name, without its name, if it is there.
 fn visit_of(alloc: Global, traces: &[Trace], name: WriteAt) -> Result<Option<Visit>, AllocError>
     ensures { IfOk result (λ visit. visit ≡ at_name (map (λ trace. visits_of trace.items) traces.now) name) }
 {
     match traces.get(usize::from(name.thread)) {
         Some(trace) => visit_at(alloc, trace.items(), name.access),
+        None => Ok(None),
+    }
+}
+
+/// The access with a name, if it is there.
+fn named_access(
+    alloc: Global,
+    traces: &[Trace],
+    name: WriteAt,
+) -> Result<Option<NamedAccess>, AllocError>
+    ensures { IfOk result (λ access. access ≡ named_access (map (λ trace. visits_of trace.items) traces.now) name) }
+{
+    match visit_of(alloc, traces, name)? {
+        Some(visit) => Ok(Some(NamedAccess::new(name, visit))),
         None => Ok(None),
     }
 }
@@ -379,8 +348,8 @@ pub fn edge_stands<A: Arch>(
     let all = all_accesses(alloc, &traces)?;
     let from = event_name(resolved, i);
     let to = event_name(resolved, event_after(resolved, i));
-    let source = visit_of(alloc, &traces, from)?;
-    let target = visit_of(alloc, &traces, to)?;
+    let source = named_access(alloc, &traces, from)?;
+    let target = named_access(alloc, &traces, to)?;
     let edge = resolved.cycle().edge(i);
-    Ok(stands_if(&all, exec, edge, from, &source, to, &target))
+    Ok(stands_if(&all, exec, edge, &source, &target))
 }

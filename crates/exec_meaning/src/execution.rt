@@ -29,23 +29,13 @@ impl Model for Execution {
     ghost invariant = { λ x. (length x.reads.items ≤ 255) × (length x.writes.items ≤ 255) };
 }
 
-fn no_reads(alloc: Global, threads: u8) -> Result<Vec<Vec<Read>>, AllocError>
-    ensures lists { IfOk result (λ lists. map (λ list. list.items) lists.items ≡ empty_lists threads) }
-    ensures count { IfOk result (λ lists. length lists.items ≡ threads) }
+/// So many empty lists.
+fn no_lists<T: Drop>(alloc: Global, count: u8) -> Result<Vec<Vec<T>>, AllocError>
+    ensures lists { IfOk result (λ lists. map (λ list. list.items) lists.items ≡ empty_lists count) }
+    ensures count { IfOk result (λ lists. length lists.items ≡ count) }
 {
     let mut lists = Vec::new(alloc);
-    for _ in 0..threads {
-        lists.push(Vec::new(alloc))?;
-    }
-    Ok(lists)
-}
-
-fn no_writes(alloc: Global, places: u8) -> Result<Vec<Vec<WriteAt>>, AllocError>
-    ensures lists { IfOk result (λ lists. map (λ list. list.items) lists.items ≡ empty_lists places) }
-    ensures count { IfOk result (λ lists. length lists.items ≡ places) }
-{
-    let mut lists = Vec::new(alloc);
-    for _ in 0..places {
+    for _ in 0..count {
         lists.push(Vec::new(alloc))?;
     }
     Ok(lists)
@@ -56,8 +46,8 @@ impl Execution {
     pub fn new(alloc: Global, threads: u8, places: u8) -> Result<Execution, NoMemory>
         ensures { IfOk result (λ x. x ≡ nothing_kept threads places) }
     {
-        let reads = no_reads(alloc, threads)?;
-        let writes = no_writes(alloc, places)?;
+        let reads = no_lists(alloc, threads)?;
+        let writes = no_lists(alloc, places)?;
         Ok(Execution { reads, writes })
     }
 

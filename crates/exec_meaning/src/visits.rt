@@ -1,8 +1,9 @@
 ghost use Rattle.std.specs.Prelude.{◌≡◌, IfOk, option_map, slice_get};
 ghost use Rattle.program_meaning.specs.Accesses.{visits_of};
+ghost use Rattle.exec_meaning.specs.StandingEdges.{named};
 
 use micro_ops::Item;
-use program_meaning::{Access, Barred};
+use program_meaning::{Access, Barred, WriteAt};
 use relax_edges::Mark;
 use std::alloc::{AllocError, Global};
 use std::marker::Model;
@@ -62,6 +63,41 @@ impl Visit {
         ensures { result ≡ self.now.control_mask }
     {
         self.control_mask
+    }
+}
+
+/// An access of an execution, by its name, with what comes before it.
+#[derive(Debug, Drop)]
+pub(crate) struct NamedAccess {
+    name: WriteAt,
+    visit: Visit,
+}
+
+impl Model for NamedAccess {
+    ghost use Rattle.program_meaning.specs.Standing.{NamedAccess as Given};
+
+    ghost Value = { Given };
+
+    ghost view = { λ a. record { name = a.name; visit = a.visit } };
+}
+
+impl NamedAccess {
+    pub(crate) fn new(name: WriteAt, visit: Visit) -> NamedAccess
+        ensures { result ≡ named name visit }
+    {
+        NamedAccess { name, visit }
+    }
+
+    pub(crate) fn name(&self) -> WriteAt
+        ensures { result ≡ self.now.name }
+    {
+        self.name
+    }
+
+    pub(crate) fn visit(&self) -> &Visit
+        ensures { result.now ≡ self.now.visit }
+    {
+        &self.visit
     }
 }
 

@@ -4,7 +4,7 @@ use Rattle.std.specs.Prelude.{not, nat_lt}
 use Rattle.execution_laws.specs.Deciding.{every, agrees, agrees_later}
 use Rattle.exec_meaning.proofs.coherent.agrees_later.Given as goal
 
-abbrev pub invariant-loop-later_number : goal.invariant-loop-later_number
-invariant-loop-later_number l =
-    agrees_later l.all l.exec l.thread l.accesses l.number l.access ≡
-    every (λ k later. not (nat_lt l.number k) || agrees l.all l.exec l.thread l.number l.access k later) l.later_number (drop l.later_number l.accesses)
+abbrev pub invariant-loop-number : goal.invariant-loop-number
+invariant-loop-number l =
+    agrees_later l.all l.exec l.thread l.accesses l.first.number l.first.access ≡
+    every (λ k later. not (nat_lt l.first.number k) || agrees l.all l.exec l.thread l.first.number l.first.access k later) l.number (drop l.number l.accesses)

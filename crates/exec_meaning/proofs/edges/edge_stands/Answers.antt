@@ -1,10 +1,11 @@
 -- The answer is whether the edge stands in the execution.
-use Rattle.std.proofs.Common.{map, ◌∙◌, ap, sym}
+use Rattle.std.proofs.Common.{map, refl, ◌∙◌, ap, sym}
+use Rattle.resolution_laws.specs.Resolution.{edge_at}
 use Rattle.resolution_laws.proofs.Around.{after_below}
 use Rattle.program_meaning.specs.Accesses.{at_name, visits_of}
 use Rattle.program_meaning.specs.Standing.{event_name}
 use Rattle.litmus_text.specs.ReadPrograms.{program_read}
-use Rattle.exec_meaning.specs.StandingEdges.{stands_if}
+use Rattle.exec_meaning.specs.StandingEdges.{named_access, stands_if}
 use Rattle.exec_meaning.proofs.RunLaws.{accesses_are, visits_are}
 use Rattle.exec_meaning.proofs.EdgesHeld.{edge_decided, edge_is}
 use Rattle.exec_meaning.proofs.edges.edge_stands.Goals as goal
@@ -14,14 +15,19 @@ event_name-to-requires g c = rw c.event_after.ensures (after_below c.args.resolv
 
 pub returns : goal.returns
 returns g c =
+    let es = c.args.resolved.now in
     let p = program_read c.args.test.now in
     let traces = c.in_ok-traces.traces.items in
+    let vs = map (λ trace. visits_of trace.items) traces in
+    let from = c.event_name-from.result in
+    let to = c.event_name-to.result in
     let all = c.deref-4.ensures.value ∙ c.in_ok-all.ensures ∙ ap (map _) c.deref.ensures.value in
-    let edge = edge_is c.args.resolved.now c.cycle.result.now c.args.i c.edge-edge.result c.cycle.ensures.value c.edge-edge.ensures in
-    edge_decided c.args.resolved.now p c.args.exec.now c.args.i (map (λ trace. visits_of trace.items) traces) c.deref-4.result.now c.event_name-from.result c.event_name-to.result
-    c.in_ok-source.source c.in_ok-target.target c.stands_if.result
+    let edge = edge_is es c.cycle.result.now c.args.i c.edge-edge.result c.cycle.ensures.value c.edge-edge.ensures in
+    let source = c.in_ok-source.ensures ∙ ap (λ l. named_access (map (λ trace. visits_of trace.items) l) from) c.deref-2.ensures.value in
+    let target = c.in_ok-target.ensures ∙ ap (λ l. named_access (map (λ trace. visits_of trace.items) l) to) c.deref-3.ensures.value in
+    edge_decided es p c.args.exec.now c.args.i vs c.deref-4.result.now from to (at_name vs from) (at_name vs to) c.stands_if.result
     (visits_are p c.args.exec.now traces c.in_ok-traces.ensures) (accesses_are p c.args.exec.now traces c.in_ok-traces.ensures ∙ sym all) c.cycle.ensures.resolved c.requires.within
-    c.event_name-from.ensures (c.event_name-to.ensures ∙ ap (event_name c.args.resolved.now) c.event_after.ensures)
-    (c.in_ok-source.ensures ∙ ap (λ l. at_name (map (λ trace. visits_of trace.items) l) c.event_name-from.result) c.deref-2.ensures.value)
-    (c.in_ok-target.ensures ∙ ap (λ l. at_name (map (λ trace. visits_of trace.items) l) c.event_name-to.result) c.deref-3.ensures.value)
-    (c.stands_if.ensures ∙ ap (λ e. stands_if c.deref-4.result.now c.args.exec.now e c.event_name-from.result c.in_ok-source.source c.event_name-to.result c.in_ok-target.target) edge)
+    c.event_name-from.ensures (c.event_name-to.ensures ∙ ap (event_name es) c.event_after.ensures) refl refl
+    (c.stands_if.ensures ∙ ap (λ e. stands_if c.deref-4.result.now c.args.exec.now e c.in_ok-source.source c.in_ok-target.target) edge
+    ∙ ap (λ e. stands_if c.deref-4.result.now c.args.exec.now (edge_at es c.args.i) e c.in_ok-target.target) source
+    ∙ ap (λ f. stands_if c.deref-4.result.now c.args.exec.now (edge_at es c.args.i) (named_access vs from) f) target)

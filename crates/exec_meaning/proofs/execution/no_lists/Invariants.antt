@@ -1,10 +1,10 @@
--- In the loop over the places: there is an empty list for each of those before this one.
+-- In the loop: there is an empty list for each of those before this one.
 use Rattle.std.proofs.Common.{◌≡◌, map, length}
 use Rattle.exec_meaning.specs.KeptExecutions.{empty_lists}
-use Rattle.exec_meaning.proofs.execution.no_writes.Given as goal
+use Rattle.exec_meaning.proofs.execution.no_lists.Given as goal
 
 abbrev pub invariant-loop : goal.invariant-loop
-invariant-loop l = record {
+invariant-loop g l = record {
   lists : map (λ list. list.items) l.lists.items ≡ empty_lists l.counter;
   count : length l.lists.items ≡ l.counter;
 }
