@@ -1,14 +1,15 @@
 -- Immediates and labels read back from their text, and names and numbers are plain.
-use Rattle.std.proofs.Common.{ℕ, ◌^◌, ◌<◌, ◌≤◌, ◌≡◌, refl, true, ◌&&◌, nat_le, List, [], ◌∷◌, Some, length, ◌∙◌, ap, arith}
+use Rattle.std.proofs.Common.{ℕ, ◌^◌, ◌<◌, ◌≤◌, ◌≡◌, refl, true, List, Some, ◌∙◌, ap, arith}
 use Rattle.std.specs.Char.{is_ascii_digit}
 use Rattle.std.specs.Fmt.{decimal}
 use Rattle.std.specs.List.{list_all}
-use Rattle.std.proofs.lemmas.Bool.{and_parts, and_from, le-leb}
+use Rattle.std.proofs.lemmas.Bool.{le-leb}
 use Rattle.std.proofs.lemmas.Bool.Decides.{nat_tests}
 use Rattle.std.proofs.lemmas.Fmt.{digits_decimal}
 use Rattle.list_laws.proofs.Digits.{digits_model}
 use Rattle.list_laws.proofs.Elements.{list_all-weaker}
-use Rattle.text_laws.specs.Names.{is_place_name, is_place_byte, begins_place}
+use Rattle.text_laws.specs.Names.{is_place_name, is_place_byte}
+use Rattle.text_laws.proofs.NameLaws.{place_name_bytes}
 use Rattle.text_laws.proofs.NumberLaws.{number_of-decimal}
 use Rattle.micro_ops.specs.declared.operation.Micro.TheVariants as ops
 use Rattle.arch_trait.specs.Writing.{immediate_number, at_most, label, label_name, label_word, label_raw}
@@ -24,22 +25,12 @@ immediate_back n h =
 place_word_byte : (b : ℕ) → is_place_byte b ≡ true → is_instruction_byte b ≡ true
 place_word_byte b h = grind (arith, nat_tests)
 
-first_place_byte : (b : ℕ) → begins_place b ≡ true → is_place_byte b ≡ true
-first_place_byte b h = grind (arith, nat_tests)
-
 digit_word_byte : (b : ℕ) → is_ascii_digit b ≡ true → is_instruction_byte b ≡ true
 digit_word_byte b h = grind (arith, nat_tests)
 
 -- the name of a place has neither blanks nor commas
 pub place_name_plain : (name : List ℕ) → is_place_name name ≡ true → list_all is_instruction_byte name ≡ true
-unfolding is_place_name
-place_name_plain [] h = cc
-place_name_plain (b ∷ bytes) h =
-    let p = and_parts (begins_place b && list_all is_place_byte bytes) (nat_le (length (b ∷ bytes)) 16) h in
-    let q = and_parts (begins_place b) (list_all is_place_byte bytes) p.0 in
-    and_from (is_instruction_byte b) (list_all is_instruction_byte bytes)
-    (place_word_byte b (first_place_byte b q.0))
-    (list_all-weaker is_place_byte is_instruction_byte place_word_byte bytes q.1)
+place_name_plain name h = list_all-weaker is_place_byte is_instruction_byte place_word_byte name (place_name_bytes name h)
 
 -- a number in decimal has neither blanks nor commas
 pub decimal_plain : (n : ℕ) → n < 2 ^ 32 → list_all is_instruction_byte (decimal n) ≡ true

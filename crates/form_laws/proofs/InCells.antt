@@ -17,7 +17,8 @@ use Rattle.arch_trait.specs.Cells.{is_cell_byte, first_word, ends_rows, is_label
 use Rattle.arch_trait.specs.InstructionReading.{few}
 use Rattle.arch_trait.specs.Threads.{Puts}
 use Rattle.arch_trait.specs.Writing.{OperandTexts, none, one, two, three, four, more, listed, written_text, op_name, is_well_named}
-use Rattle.arch_laws.proofs.CellTexts.{all_both, place_cell, decimal_cell}
+use Rattle.text_laws.proofs.CutLaws.{all_both}
+use Rattle.arch_laws.proofs.CellTexts.{place_cell, decimal_cell}
 use Rattle.arch_laws.proofs.FormBacks.{label_cell}
 use Rattle.list_laws.proofs.Digits.{three_digits}
 use Rattle.form_laws.specs.declared.form.Hole.{Hole}

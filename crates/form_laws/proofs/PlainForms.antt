@@ -13,7 +13,7 @@ use Rattle.list_laws.proofs.Digits.{digits_of}
 use Rattle.arch_trait.specs.Cells.{is_cell_byte}
 use Rattle.arch_trait.specs.InstructionReading.{few}
 use Rattle.arch_trait.specs.Writing.{is_plain, all_plain_texts, is_label_name, label_name, label_word}
-use Rattle.arch_laws.proofs.CellTexts.{all_both}
+use Rattle.text_laws.proofs.CutLaws.{all_both}
 use Rattle.arch_laws.proofs.FormBacks.{label_plain}
 use Rattle.arch_laws.proofs.SpellingLaws.{decimal_plain, place_name_plain}
 use Rattle.arch_trait.specs.WordBytes.{is_instruction_byte}
