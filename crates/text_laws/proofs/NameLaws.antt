@@ -1,7 +1,9 @@
--- Names of places and registers: how code tests their form, which bytes they have, and that they are short and ASCII.
-use Rattle.std.proofs.Common.{◌≡◌, ℕ, ◌-◌, ◌≤◌, List, [], ◌∷◌, length, get_or, take, drop, refl, ap, ◌∙◌, arith}
+-- Names of places and registers: how code tests their form, which bytes they have, and that they are short and ASCII. What each letter, digit
+-- and `_` passes, names and numbers pass.
+use Rattle.std.proofs.Common.{◌≡◌, ℕ, ◌-◌, ◌≤◌, ◌<◌, ◌^◌, List, [], ◌∷◌, length, get_or, take, drop, refl, ap, ◌∙◌, arith}
 use Rattle.std.specs.Prelude.{Bool, true, ◌&&◌, nat_le}
 use Rattle.std.specs.Char.{is_ascii, is_ascii_alphabetic, is_ascii_alphanumeric, is_ascii_digit}
+use Rattle.std.specs.Fmt.{decimal}
 use Rattle.std.specs.List.{list_all}
 use Rattle.std.specs.Str.{IsAscii, IsUtf8}
 use Rattle.std.proofs.Math.Seq.{take-length}
@@ -9,6 +11,7 @@ use Rattle.std.proofs.lemmas.Bool.{and_parts, and_from, leb-true, ltb-true}
 use Rattle.std.proofs.lemmas.Bool.Decides.{nat_tests}
 use Rattle.std.proofs.lemmas.Str.{IsUtf8-from_ascii}
 use Rattle.std.proofs.lemmas.Str.Ascii.{IsAscii-nil, IsAscii-cons}
+use Rattle.list_laws.proofs.Digits.{digits_of}
 use Rattle.list_laws.proofs.Elements.{list_all-weaker}
 use Rattle.text_laws.specs.Names.{begins_place, is_place_byte, is_place_name, is_register_name}
 
@@ -39,12 +42,6 @@ all_ascii (byte ∷ bytes) h =
 -- ASCII bytes are UTF-8
 pub utf8_from_ascii : (bytes : List ℕ) → list_all is_ascii bytes ≡ true → IsUtf8 bytes
 utf8_from_ascii bytes h = IsUtf8-from_ascii bytes (all_ascii bytes h)
-
-place_byte_ascii : (byte : ℕ) → is_place_byte byte ≡ true → is_ascii byte ≡ true
-place_byte_ascii byte h = grind (arith, nat_tests)
-
-register_byte_ascii : (byte : ℕ) → is_ascii_alphanumeric byte ≡ true → is_ascii byte ≡ true
-register_byte_ascii byte h = grind (arith, nat_tests)
 
 -- the first byte of a place's name may also be one of the others
 pub first_place_byte : (byte : ℕ) → begins_place byte ≡ true → is_place_byte byte ≡ true
@@ -106,10 +103,33 @@ pub register_name_bytes : (name : List ℕ) → is_register_name name ≡ true �
 register_name_bytes name h =
     shaped_all is_ascii_alphabetic is_ascii_alphanumeric is_ascii_alphanumeric letter_alphanumeric (λ byte passes. passes) name (register_shaped name h)
 
+-- a letter or a digit may be in the name of a place
+alphanumeric_in_place : (byte : ℕ) → is_ascii_alphanumeric byte ≡ true → is_place_byte byte ≡ true
+alphanumeric_in_place byte h = grind (arith, nat_tests)
+
+-- a test that each byte of places' names passes is passed by the name of a place
+pub place_passes : (test : ℕ → Bool) → ((byte : ℕ) → is_place_byte byte ≡ true → test byte ≡ true) → (name : List ℕ) → is_place_name name ≡ true → list_all test name ≡ true
+place_passes test each name h = list_all-weaker is_place_byte test each name (place_name_bytes name h)
+
+-- such a test is passed by letters and digits
+pub letters_pass : (test : ℕ → Bool) → ((byte : ℕ) → is_place_byte byte ≡ true → test byte ≡ true) → (name : List ℕ) → list_all is_ascii_alphanumeric name ≡ true → list_all test name ≡ true
+letters_pass test each name h = list_all-weaker is_ascii_alphanumeric test (λ byte passes. each byte (alphanumeric_in_place byte passes)) name h
+
+-- such a test is passed by the name of a register
+pub register_passes : (test : ℕ → Bool) → ((byte : ℕ) → is_place_byte byte ≡ true → test byte ≡ true) → (name : List ℕ) → is_register_name name ≡ true → list_all test name ≡ true
+register_passes test each name h = letters_pass test each name (register_name_bytes name h)
+
+-- such a test is passed by the digits of a number
+pub decimal_passes : (test : ℕ → Bool) → ((byte : ℕ) → is_place_byte byte ≡ true → test byte ≡ true) → (n : ℕ) → n < 2 ^ 32 → list_all test (decimal n) ≡ true
+decimal_passes test each n h = letters_pass test each (decimal n) (list_all-weaker is_ascii_digit is_ascii_alphanumeric digit_alphanumeric (decimal n) (digits_of n h).all)
+
+place_byte_ascii : (byte : ℕ) → is_place_byte byte ≡ true → is_ascii byte ≡ true
+place_byte_ascii byte h = grind (arith, nat_tests)
+
 -- the name of a place is ASCII
 pub place_name_ascii : (name : List ℕ) → is_place_name name ≡ true → list_all is_ascii name ≡ true
-place_name_ascii name h = list_all-weaker is_place_byte is_ascii place_byte_ascii name (place_name_bytes name h)
+place_name_ascii name h = place_passes is_ascii place_byte_ascii name h
 
 -- the name of a register is ASCII
 pub register_name_ascii : (name : List ℕ) → is_register_name name ≡ true → list_all is_ascii name ≡ true
-register_name_ascii name h = list_all-weaker is_ascii_alphanumeric is_ascii register_byte_ascii name (register_name_bytes name h)
+register_name_ascii name h = register_passes is_ascii place_byte_ascii name h
