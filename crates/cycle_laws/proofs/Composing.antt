@@ -1,37 +1,31 @@
 -- Laws of composable lists: parts, rotations, the first break.
-use Rattle.std.proofs.Common.{◌≡◌, ℕ, suc, ◌-◌, ◌+◌, ◌<◌, ◌≤◌, true, false, ◌&&◌, cond, List, [], ◌∷◌, ◌++◌, length, take, drop, Option, Some, None, refl, sym, ◌∙◌, ap, arith, append_assoc, length-append, slice_get, get_or}
-use Rattle.std.proofs.lemmas.List.{append-nil, take-append-drop}
+use Rattle.std.proofs.Common.{◌≡◌, ℕ, suc, ◌-◌, ◌+◌, ◌<◌, ◌≤◌, true, false, ◌&&◌, cond, List, [], ◌∷◌, ◌++◌, length, take, drop, Option, Some, None, refl, sym, ◌∙◌, ap, arith, length-append, slice_get, get_or}
+use Rattle.std.proofs.lemmas.List.{take-append-drop}
 use Rattle.std.proofs.lemmas.Bool.{and_parts, and_from}
-use Rattle.std.proofs.Math.Bool.{and-true, and_assoc, and_comm}
+use Rattle.std.proofs.Math.Bool.{and-true, and_assoc}
 use Rattle.relax_edges.specs.declared.TheConstants.{MAX_EDGES}
 use Rattle.relax_edges.specs.declared.edge.Edge.{Edge}
 use Rattle.relax_edges.specs.EdgeTable.{joins_to}
 use Rattle.relax_edges.specs.JoinedEdges.{joins_first, is_joined}
 use Rattle.cycle_laws.specs.Composable.{is_closed, IsPath, IsCycle, first_break, one_later, last_joins}
 use Rattle.cycle_laws.specs.Rotation.{rotated}
+use Rattle.cycle_laws.proofs.Turning.{IsStepwise, stepwise_at, stepwise_turned}
 
 joins_first_prefix : (e m : Edge) (a b : List Edge) → joins_first e (a ++ m ∷ b) ≡ joins_first e (a ++ m ∷ [])
 joins_first_prefix e m [] b = refl
 joins_first_prefix e m (f ∷ a) b = refl
 
+-- joined lists look at each edge and the one after it
+joined_stepwise : IsStepwise joins_first is_joined is_closed
+joined_stepwise = record { looks = joins_first_prefix; alone = λ e. refl; step = λ e es. refl; closes = λ e es. refl }
+
 -- a list is joined where it is joined up to an edge and from that edge on
 pub joined_at : (a : List Edge) (m : Edge) (b : List Edge) → is_joined (a ++ m ∷ b) ≡ (is_joined (a ++ m ∷ []) && is_joined (m ∷ b))
-joined_at [] m b = refl
-joined_at (e ∷ a) m b =
-    ap (λ x. x && is_joined (a ++ m ∷ b)) (joins_first_prefix e m a b)
-    ∙ ap (λ x. joins_first e (a ++ m ∷ []) && x) (joined_at a m b)
-    ∙ sym (and_assoc (joins_first e (a ++ m ∷ [])) (is_joined (a ++ m ∷ [])) (is_joined (m ∷ b)))
+joined_at = stepwise_at joins_first is_joined is_closed joined_stepwise
 
 -- whether a list closes is the same for the list with two parts exchanged
 pub closed_turned : (prefix back : List Edge) → is_closed (prefix ++ back) ≡ is_closed (back ++ prefix)
-closed_turned [] back = ap is_closed (sym (append-nil back))
-closed_turned (f ∷ fs) [] = ap is_closed (append-nil (f ∷ fs))
-closed_turned (f ∷ fs) (g ∷ gs) =
-    let one : is_joined (((f ∷ fs) ++ g ∷ gs) ++ f ∷ []) ≡ (is_joined ((f ∷ fs) ++ g ∷ []) && is_joined ((g ∷ gs) ++ f ∷ [])) =
-    ap is_joined (append_assoc (f ∷ fs) (g ∷ gs) (f ∷ [])) ∙ joined_at (f ∷ fs) g (gs ++ f ∷ []) in
-    let two : is_joined (((g ∷ gs) ++ f ∷ fs) ++ g ∷ []) ≡ (is_joined ((g ∷ gs) ++ f ∷ []) && is_joined ((f ∷ fs) ++ g ∷ [])) =
-    ap is_joined (append_assoc (g ∷ gs) (f ∷ fs) (g ∷ [])) ∙ joined_at (g ∷ gs) f (fs ++ g ∷ []) in
-    one ∙ and_comm (is_joined ((f ∷ fs) ++ g ∷ [])) (is_joined ((g ∷ gs) ++ f ∷ [])) ∙ sym two
+closed_turned = stepwise_turned joins_first is_joined is_closed joined_stepwise
 
 -- a list with two parts exchanged is a cycle where the list is
 pub turned_cycle : (prefix back : List Edge) → IsCycle (prefix ++ back) → IsCycle (back ++ prefix)

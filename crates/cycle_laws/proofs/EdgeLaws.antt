@@ -1,6 +1,5 @@
 -- The laws of the words and the marks of edges, each from its lemmas.
-use Rattle.std.specs.Prelude.{◌≡◌, ◌↔◌, Some}
-use Rattle.std.proofs.Common.{sym}
+use Rattle.std.specs.Prelude.{◌≡◌, Some}
 use Rattle.relax_edges.specs.declared.kinds.Kind.{Kind}
 use Rattle.relax_edges.specs.declared.kinds.Mark.{Mark}
 use Rattle.relax_edges.specs.declared.edge.Edge.{Edge}

@@ -3,8 +3,7 @@ use Rattle.std.proofs.Common.{List}
 use Rattle.relax_edges.specs.declared.edge.Edge.{Edge}
 use Rattle.cycle_laws.specs.Composable.{IsCycle}
 use Rattle.cycle_laws.specs.Rotation.{IsRotation}
-use Rattle.cycle_laws.specs.Laws.{SameCycleIsEquivalence, RotationsArePlaces, EdgesTurn, RotationsAdd, CyclesTurn, ClosesByPlace, OrderIsStrict, CyclesInOrder, NormalFormsDecide, BeginsNone}
-use Rattle.cycle_laws.proofs.Beginnings.{begins_none}
+use Rattle.cycle_laws.specs.Laws.{SameCycleIsEquivalence, RotationsArePlaces, EdgesTurn, RotationsAdd, CyclesTurn, ClosesByPlace, OrderIsStrict, CyclesInOrder, NormalFormsDecide}
 use Rattle.cycle_laws.proofs.Composing.{turned_cycle}
 use Rattle.cycle_laws.proofs.Neighbours.{closed_at_place, closed_of_places}
 use Rattle.cycle_laws.proofs.Ordering.{above_irreflexive, above_transitive, above_or_same, follows_irreflexive, follows_transitive, follows_or_same}
@@ -50,7 +49,3 @@ cycles_in_order = record { irreflexive = follows_irreflexive; transitive = follo
 -- two cycles have equal normal forms exactly where they are the same cycle
 pub normal_forms_decide : NormalFormsDecide
 normal_forms_decide u v a b p q = (same_least u v a b p q, least_same u v a b p q)
-
--- no normal form begins with a list that may not begin one
-pub begins_no_normal_form : BeginsNone
-begins_no_normal_form = begins_none

@@ -1,4 +1,3 @@
-pub mod Beginnings
 pub mod Composing
 pub mod EdgeLaws
 pub mod Joining
@@ -10,3 +9,4 @@ pub mod Places
 pub mod Rotating
 pub mod RankLaws
 pub mod SpellingLaws
+pub mod Turning

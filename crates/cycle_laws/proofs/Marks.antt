@@ -1,6 +1,6 @@
 -- The marks of an edge: they fit what its accesses do, are of each architecture that the edge is of, and together with
 -- its kind they determine the edge.
-use Rattle.std.specs.Prelude.{ℕ, ◌≡◌, ◌==◌, ◌&&◌, Bool, true, false, Option, Some, None}
+use Rattle.std.specs.Prelude.{◌≡◌, ◌==◌, ◌&&◌, Bool, true, false, Option, Some, None}
 use Rattle.std.specs.List.{list_all}
 use Rattle.std.proofs.Common.{refl, ap, subst, sym, ◌∙◌}
 use Rattle.std.proofs.lemmas.Bool.{and_parts, eqb-true}
@@ -10,7 +10,7 @@ use Rattle.relax_edges.specs.declared.kinds.Dir.TheVariants as dirs
 use Rattle.relax_edges.specs.declared.kinds.Kind.{Kind}
 use Rattle.relax_edges.specs.declared.kinds.Kind.TheVariants as kinds
 use Rattle.relax_edges.specs.declared.kinds.Mark.{Mark}
-use Rattle.relax_edges.specs.declared.kinds.Mark.TheVariants.{Plain, Acquire, Release}
+use Rattle.relax_edges.specs.declared.kinds.Mark.TheVariants.{Plain}
 use Rattle.relax_edges.specs.declared.edge.Edge.{Edge}
 use Rattle.relax_edges.specs.declared.edge.Edge.TheVariants as edges
 use Rattle.relax_edges.specs.Marks.{markable_kind, marks_source, marks_target, mark_of}

@@ -1,10 +1,9 @@
 -- The laws of rotations, of the order and of the normal form, as statements.
-use Rattle.std.specs.Prelude.{◌≡◌, ◌<◌, ◌⊎◌, ◌↔◌, ℕ, ◌+◌, ◌%◌, true, false, List, ◌++◌, length, slice_get}
+use Rattle.std.specs.Prelude.{◌≡◌, ◌<◌, ◌⊎◌, ◌↔◌, ℕ, ◌+◌, ◌%◌, true, List, length, slice_get}
 use Rattle.relax_edges.specs.declared.edge.Edge.{Edge}
 use Rattle.cycle_laws.specs.Composable.{is_closed, IsCycle, JoinsNext}
 use Rattle.cycle_laws.specs.Rotation.{IsRotation, rotated}
-use Rattle.cycle_laws.specs.CycleOrder.{Above, Follows, IsNormal, IsLeast}
-use Rattle.cycle_laws.specs.Beginning.{may_begin}
+use Rattle.cycle_laws.specs.CycleOrder.{Above, Follows, IsLeast}
 
 -- being the same cycle is an equivalence
 pub record SameCycleIsEquivalence : Type 0 where
@@ -56,7 +55,3 @@ pub record CyclesInOrder : Type 0 where
 -- two cycles have equal normal forms exactly where they are the same cycle
 abbrev pub NormalFormsDecide : Type 0
 NormalFormsDecide = (u v a b : List Edge) → IsLeast u a → IsLeast v b → (a ≡ b) ↔ IsRotation u v
-
--- no normal form begins with a list that may not begin one
-abbrev pub BeginsNone : Type 0
-BeginsNone = (u r : List Edge) → may_begin u ≡ false → IsNormal (u ++ r) → ⊥

@@ -1,4 +1,3 @@
-pub mod Beginning
 pub mod Composable
 pub mod Laws
 pub mod CycleOrder

@@ -3,7 +3,7 @@
 
 mod edges;
 
-ghost use Rattle.cycle_laws.specs.Laws.{SameCycleIsEquivalence, RotationsArePlaces, EdgesTurn, RotationsAdd, CyclesTurn, ClosesByPlace, OrderIsStrict, CyclesInOrder, NormalFormsDecide, BeginsNone};
+ghost use Rattle.cycle_laws.specs.Laws.{SameCycleIsEquivalence, RotationsArePlaces, EdgesTurn, RotationsAdd, CyclesTurn, ClosesByPlace, OrderIsStrict, CyclesInOrder, NormalFormsDecide};
 
 pub use edges::{parts_decide, words_decide};
 
@@ -57,9 +57,4 @@ pub fn cycles_in_order()
 /// Two cycles have equal normal forms exactly where they are the same cycle.
 pub fn normal_forms_decide()
     ensures { NormalFormsDecide }
-{}
-
-/// No normal form begins with a list that may not begin one.
-pub fn begins_none()
-    ensures { BeginsNone }
 {}
