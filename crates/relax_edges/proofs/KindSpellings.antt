@@ -1,5 +1,5 @@
 -- A text is read as the edge without marks that it spells, and as none where it spells none.
-use Rattle.std.specs.Prelude.{ℕ, ◌≡◌, ◌<◌, ◌⊎◌, ◌==◌, ◌++◌, ◌∷◌, [], Bool, true, false, not, List, length, Option, Some, None, reverse, codes}
+use Rattle.std.specs.Prelude.{ℕ, ◌≡◌, ◌<◌, ◌⊎◌, ◌++◌, ◌∷◌, [], Bool, true, false, List, length, Option, Some, None, reverse, codes}
 use Rattle.std.specs.List.{list_all, list_any, find}
 use Rattle.std.specs.Option.{option_or, option_map}
 use Rattle.std.specs.Str.{bytes_eq}

@@ -13,7 +13,6 @@ use Rattle.relax_edges.specs.declared.kinds.Pick.{Pick}
 use Rattle.relax_edges.specs.declared.kinds.Pick.TheVariants as picks
 use Rattle.relax_edges.specs.declared.kinds.FenceKind.{FenceKind}
 use Rattle.relax_edges.specs.declared.kinds.FenceKind.TheVariants as fences
-use Rattle.relax_edges.specs.declared.kinds.DepKind.{DepKind}
 use Rattle.relax_edges.specs.declared.kinds.DepKind.TheVariants as deps
 use Rattle.relax_edges.specs.declared.marked.Dmb.{Dmb}
 use Rattle.relax_edges.specs.declared.marked.Dmb.TheVariants.{Sy, Ld, St}

@@ -11,5 +11,6 @@ pub mod Architectures
 pub mod RelaxText
 pub mod Relaxations
 pub mod RelaxSearch
+pub mod RelaxRuns
 pub mod RelaxPrefix
 pub mod Stars

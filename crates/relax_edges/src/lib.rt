@@ -11,6 +11,7 @@ mod relax;
 mod relax_error;
 mod relax_items;
 mod relax_list;
+mod relax_runs;
 mod relax_search;
 mod relax_words;
 mod word;

@@ -1,62 +1,22 @@
 ghost use Rattle.std.specs.Prelude.{◌≡◌, ◌<◌, ◌≤◌, ◌+◌, ◌∷◌, false, length, None, OnOk, IfOk, MatchOption};
-ghost use Rattle.std.specs.List.{position, position_or_len};
-ghost use Rattle.relax_edges.specs.RelaxText.{is_separator, is_bracket, ends_word, words_of, bracket_words};
+ghost use Rattle.relax_edges.specs.RelaxText.{is_separator, words_of, bracket_words};
 ghost use Rattle.relax_edges.specs.RelaxPrefix.{first_word_len, kept_prefix, ends_here, IsInside, IsFirstWord};
 ghost use Rattle.relax_edges.specs.RelaxSearch.{KeepsRelaxations};
 ghost use Rattle.relax_edges.specs.Relaxations.{kept_words};
 
 use crate::relax::Relaxes;
 use crate::relax_error::RelaxKind;
+use crate::relax_runs::{is_separator, run_len, RunEnd};
 use crate::relax_search::keep_paths;
-use crate::relax_words::{count_words, has_unknown, is_separator, next_word};
+use crate::relax_words::{count_words, has_unknown, next_word};
 use arrayvec::ArrayVec;
-
-fn is_bracket(byte: u8) -> bool
-    ensures { result ≡ is_bracket byte }
-{
-    matches!(byte, b'[' | b']')
-}
-
-fn ends_word(byte: u8) -> bool
-    ensures { result ≡ ends_word byte }
-{
-    is_separator(byte) || is_bracket(byte)
-}
-
-fn first_bracket(text: &[u8]) -> Option<usize>
-    ensures { result ≡ position is_bracket text.now }
-{
-    text.iter().position(|byte| is_bracket(*byte))
-}
-
-#[tactic(auto, using(crate::proofs::RelaxWords::position_unwrapped))]
-fn inside_len(text: &[u8]) -> usize
-    ensures value { result ≡ position_or_len is_bracket text.now }
-    ensures within { result ≤ length text.now }
-{
-    first_bracket(text).unwrap_or(text.len())
-}
-
-fn first_end(text: &[u8]) -> Option<usize>
-    ensures { result ≡ position ends_word text.now }
-{
-    text.iter().position(|byte| ends_word(*byte))
-}
-
-#[tactic(auto, using(crate::proofs::RelaxWords::position_unwrapped))]
-fn run_len(text: &[u8]) -> usize
-    ensures value { result ≡ position_or_len ends_word text.now }
-    ensures within { result ≤ length text.now }
-{
-    first_end(text).unwrap_or(text.len())
-}
 
 /// The text inside a good bracket, from the text after its `[`.
 #[tactic(auto, using(crate::proofs::Prefixes::bracket_open, crate::proofs::Prefixes::bracket_nested, crate::proofs::Prefixes::bracket_empty, crate::proofs::Prefixes::bracket_good))]
 fn inside_bracket(remainder: &[u8]) -> Option<&[u8]>
     ensures { MatchOption result (bracket_words remainder.now ≡ None) (λ words. IsInside remainder.now words.now) }
 {
-    let len = inside_len(remainder);
+    let len = run_len(remainder, RunEnd::Bracket);
     if len >= remainder.len() || remainder[len] != b']' {
         return None;
     }
@@ -73,7 +33,7 @@ fn first_word(text: &[u8]) -> &[u8]
     requires { ends_here text.now ≡ false }
     ensures { IsFirstWord text.now result.now }
 {
-    &text[..run_len(text)]
+    &text[..run_len(text, RunEnd::Word)]
 }
 
 /// Keeps the relaxations of some words.

@@ -1,5 +1,5 @@
 ghost use Rattle.std.specs.Prelude.{◌≡◌, ◌<◌, ◌≤◌, ◌+◌, ◌∷◌, [], ◌++◌, length, MatchOption};
-ghost use Rattle.std.specs.List.{position, position_or_len, list_any};
+ghost use Rattle.std.specs.List.{list_any};
 ghost use Rattle.std.specs.Option.{option_to_list};
 ghost use Rattle.arrayvec.specs.ArrayVec.{array_vec_len};
 ghost use Rattle.relax_edges.specs.Spelling.{edge_of};
@@ -9,28 +9,8 @@ ghost use Rattle.relax_edges.specs.Stars.{edges_by_last, edges_by_end};
 
 use crate::edge::Edge;
 use crate::read::read_ending;
+use crate::relax_runs::{is_separator, run_len, RunEnd};
 use arrayvec::ArrayVec;
-
-/// Whether a byte separates words: a comma, a space or a tab.
-pub(crate) fn is_separator(byte: u8) -> bool
-    ensures { result ≡ is_separator byte }
-{
-    matches!(byte, b',' | b' ' | b'\t')
-}
-
-fn first_separator(text: &[u8]) -> Option<usize>
-    ensures { result ≡ position is_separator text.now }
-{
-    text.iter().position(|byte| is_separator(*byte))
-}
-
-#[tactic(auto, using(crate::proofs::RelaxWords::position_unwrapped))]
-fn word_len(text: &[u8]) -> usize
-    ensures value { result ≡ position_or_len is_separator text.now }
-    ensures within { result ≤ length text.now }
-{
-    first_separator(text).unwrap_or(text.len())
-}
 
 /// The first word of a text without brackets, and the text after it.
 #[tactic(auto, using(crate::proofs::RelaxWords::words_of_separator, crate::proofs::RelaxWords::words_of_word, crate::proofs::RelaxWords::word_len_some))]
@@ -41,7 +21,7 @@ pub(crate) fn next_word(text: &[u8]) -> Option<(&[u8], &[u8])>
     let mut rest = text;
     while let [first, remainder @ ..] = rest {
         if !is_separator(*first) {
-            return Some(rest.split_at(word_len(rest)));
+            return Some(rest.split_at(run_len(rest, RunEnd::Separator)));
         }
         rest = remainder;
     }

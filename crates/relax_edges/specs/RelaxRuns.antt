@@ -1,0 +1,11 @@
+-- What ends a run of bytes in the text of relaxations.
+use Rattle.std.specs.Prelude.{ℕ, Bool}
+use Rattle.relax_edges.specs.declared.relax_runs.RunEnd.{RunEnd}
+use Rattle.relax_edges.specs.declared.relax_runs.RunEnd.TheVariants as ends
+use Rattle.relax_edges.specs.RelaxText.{is_separator, is_bracket, ends_word}
+
+-- whether a byte ends a run
+abbrev pub end_test : RunEnd → ℕ → Bool
+end_test ends.Separator = is_separator
+end_test ends.Bracket = is_bracket
+end_test ends.Word = ends_word
