@@ -7,47 +7,28 @@ use Rattle.relax_edges.specs.declared.kinds.Com.TheVariants as coms
 use Rattle.relax_edges.specs.declared.kinds.ObsMode.TheVariants.{Accept}
 use Rattle.relax_edges.specs.declared.edge.Edge.{Edge}
 use Rattle.relax_edges.specs.declared.edge.Edge.TheVariants as edges
+use Rattle.relax_edges.specs.NamedEdges.{pod, wse, wsi, fre}
 use Rattle.resolution_laws.specs.Resolution.{thread_of, slot_of, location_of, moves_before, events_in}
 use Rattle.value_laws.specs.Values.{value_of, way_place, write_count, write_at, is_observed}
 use Rattle.program_meaning.specs.Accesses.{read, write}
 use Rattle.program_meaning.specs.Intended.{cycle_accesses, intended, location_order, location_numbered}
 use Rattle.execution_laws.specs.Deciding.{name}
 
--- program order to another location, from a write to a write
-abbrev pub PodWW : Edge
-PodWW = edges.Po Diff dirs.W dirs.W
-
--- program order to another location, from a write to a read
-abbrev pub PodWR : Edge
-PodWR = edges.Po Diff dirs.W dirs.R
-
--- an external coherence edge
-abbrev pub Wse : Edge
-Wse = edges.Com coms.Ws External
-
--- an internal coherence edge
-abbrev pub Wsi : Edge
-Wsi = edges.Com coms.Ws Internal
-
--- an external from-read edge
-abbrev pub Fre : Edge
-Fre = edges.Com coms.Fr External
-
 -- two threads that each write both of two locations, in opposite orders
 abbrev pub two_writes : List Edge
-two_writes = PodWW ∷ Wse ∷ PodWW ∷ Wse ∷ []
+two_writes = pod dirs.W dirs.W ∷ wse ∷ pod dirs.W dirs.W ∷ wse ∷ []
 
 -- store buffering
 abbrev pub store_buffering : List Edge
-store_buffering = PodWR ∷ Fre ∷ PodWR ∷ Fre ∷ []
+store_buffering = pod dirs.W dirs.R ∷ fre ∷ pod dirs.W dirs.R ∷ fre ∷ []
 
 -- three writes of a location, two of them in one thread
 abbrev pub W3 : List Edge
-W3 = PodWW ∷ Wsi ∷ Wse ∷ PodWR ∷ Fre ∷ []
+W3 = pod dirs.W dirs.W ∷ wsi ∷ wse ∷ pod dirs.W dirs.R ∷ fre ∷ []
 
 -- three writes of a location in three threads, so that it needs an observer
 abbrev pub W3O : List Edge
-W3O = PodWW ∷ Wse ∷ Wse ∷ PodWR ∷ Fre ∷ []
+W3O = pod dirs.W dirs.W ∷ wse ∷ wse ∷ pod dirs.W dirs.R ∷ fre ∷ []
 
 -- the numbering in which each location's place has the location's own number
 abbrev pub here : ℕ → ℕ

@@ -22,13 +22,14 @@ use Rattle.program_meaning.specs.Coherence.{coherence_place, final_value}
 use Rattle.program_meaning.specs.Standing.{event_name}
 use Rattle.execution_laws.specs.Deciding.{name, coheres}
 use Rattle.program_meaning.specs.Intended.{cycle_accesses, event_access, intended, location_order, location_numbered}
-use Rattle.communication_laws.proofs.Examples.{PodWW, Wse, Fre, two_writes, W3, W3O, here}
+use Rattle.relax_edges.specs.NamedEdges.{pod, wse, fre}
+use Rattle.communication_laws.proofs.Examples.{two_writes, W3, W3O, here}
 
 abbrev MFencedWR : Edge
 MFencedWR = edges.Fenced fences.MFence Diff dirs.W dirs.R
 
 abbrev R_mfence : List Edge
-R_mfence = PodWW ∷ Wse ∷ MFencedWR ∷ Fre ∷ []
+R_mfence = pod dirs.W dirs.W ∷ wse ∷ MFencedWR ∷ fre ∷ []
 
 -- an element inserted at each place of a list
 abbrev inserted : {X : Type 0} → X → List X → List (List X)

@@ -13,7 +13,7 @@ use Rattle.relax_edges.specs.declared.edge.Edge.TheVariants as edges
 use Rattle.relax_edges.specs.Order.{rank_of}
 use Rattle.relax_edges.specs.AllEdges.{edges_in_order}
 use Rattle.relax_edges.specs.Spelling.{edge_of}
-use Rattle.cycle_names.specs.Families.{pod, rfe, fre, wse}
+use Rattle.relax_edges.specs.NamedEdges.{pod, rfe, fre, wse}
 use Rattle.cycle_names.specs.Rotations.{found_family, named_rotation}
 use Rattle.cycle_names.specs.CycleNames.{links_text, name_from, name_of}
 use Rattle.cycle_names.specs.NameReading.{is_dash, edges_of_words}

@@ -15,7 +15,7 @@ use Rattle.cycle_laws.specs.Rotation.{rotated}
 use Rattle.cycle_names.specs.declared.link.TheConstants.{PO_PLACE}
 use Rattle.cycle_names.specs.LinkWords.{link_word, link_words}
 use Rattle.cycle_names.specs.CycleNames.{after_plus, all_equal, plural, links_text}
-use Rattle.cycle_names.specs.Families.{pod}
+use Rattle.relax_edges.specs.NamedEdges.{pod}
 use Rattle.cycle_names.specs.Fitting.{link_text, word_place, has_word_place}
 use Rattle.cycle_names.proofs.Members.{found_first, found_later, found_in, found_nowhere}
 use Rattle.cycle_names.proofs.Tables.{link_words_equal, no_place, some_place}

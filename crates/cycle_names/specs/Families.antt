@@ -1,31 +1,11 @@
 -- The table of the families: the name of each, and its cycle, in which each `PodXY` represents a link from X to Y.
 -- Source: the names of litmus tests in the diy part of the herdtools manual.
 use Rattle.std.specs.Prelude.{ℕ, List, [], ◌∷◌, codes}
-use Rattle.relax_edges.specs.declared.kinds.Dir.{Dir}
 use Rattle.relax_edges.specs.declared.kinds.Dir.TheVariants.{R, W}
-use Rattle.relax_edges.specs.declared.kinds.Sd.TheVariants.{Diff}
-use Rattle.relax_edges.specs.declared.kinds.Reach.TheVariants.{External}
-use Rattle.relax_edges.specs.declared.kinds.Com.TheVariants as coms
 use Rattle.relax_edges.specs.declared.edge.Edge.{Edge}
-use Rattle.relax_edges.specs.declared.edge.Edge.TheVariants as edges
+use Rattle.relax_edges.specs.NamedEdges.{pod, rfe, fre, wse}
 use Rattle.cycle_names.specs.declared.family.Family.{Family}
 use Rattle.cycle_names.specs.declared.family.Family.TheVariants as families
-
--- program order to another location
-abbrev pub pod : Dir → Dir → Edge
-pod from to = edges.Po Diff from to
-
--- the external reads-from edge
-abbrev pub rfe : Edge
-rfe = edges.Com coms.Rf External
-
--- the external from-read edge
-abbrev pub fre : Edge
-fre = edges.Com coms.Fr External
-
--- the external edge of the coherence order
-abbrev pub wse : Edge
-wse = edges.Com coms.Ws External
 
 -- the name of a family, `OTHER` for cycles that are of no family of the table
 abbrev pub family_word : Family → List ℕ

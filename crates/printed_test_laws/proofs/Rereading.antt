@@ -92,7 +92,7 @@ visited es mode location r h =
       step = event_step es plain w.event;
       steps_at = thread_steps_at es mode plain k (thread_below es w.event r w.below);
       step_at = got_map (event_step es plain) (events_in es k) (slot_of es w.event) w.event (event_in_slot es w.event w.below);
-      place_is = location_first es w.event (omega (arith, w.moves, h)) ∙ w.moves;
+      place_is = location_first es w.event (omega (arith, w.counted, h)) ∙ w.counted;
     }
 
 -- the name of each location is in the table

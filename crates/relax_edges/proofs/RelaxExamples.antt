@@ -3,23 +3,15 @@ use Rattle.std.specs.Prelude.{◌≡◌, Ok, Err, [], ◌∷◌, codes}
 use Rattle.std.proofs.Common.{refl}
 use Rattle.relax_edges.specs.declared.kinds.Dir.TheVariants as dirs
 use Rattle.relax_edges.specs.declared.kinds.Sd.TheVariants.{Diff}
-use Rattle.relax_edges.specs.declared.kinds.Reach.TheVariants.{External}
-use Rattle.relax_edges.specs.declared.kinds.Com.TheVariants as coms
 use Rattle.relax_edges.specs.declared.kinds.DepKind.TheVariants as deps
-use Rattle.relax_edges.specs.declared.edge.Edge.{Edge}
 use Rattle.relax_edges.specs.declared.edge.Edge.TheVariants as edges
 use Rattle.relax_edges.specs.declared.relax_error.RelaxKind.TheVariants.{UnknownEdge, BadBracket, RelaxTooLong, DoesNotJoin}
+use Rattle.relax_edges.specs.NamedEdges.{fre, rfe}
 use Rattle.relax_edges.specs.Order.{rank_of}
 use Rattle.relax_edges.specs.AllEdges.{edges_in_order}
 use Rattle.relax_edges.specs.Spelling.{edge_of}
 use Rattle.relax_edges.specs.RelaxText.{items_of}
 use Rattle.relax_edges.specs.Relaxations.{word_edges, kept_words, kept_item, kept_items, relaxes_of}
-
-abbrev fre : Edge
-fre = edges.Com coms.Fr External
-
-abbrev rfe : Edge
-rfe = edges.Com coms.Rf External
 
 empty_list : relaxes_of (codes " ,, ") ≡ Ok []
 unfolding rank_of edges_in_order edge_of word_edges kept_words kept_item kept_items items_of relaxes_of

@@ -11,6 +11,7 @@ pub mod Architectures
 pub mod RelaxText
 pub mod Relaxations
 pub mod RelaxSearch
+pub mod NamedEdges
 pub mod RelaxRuns
 pub mod RelaxPrefix
 pub mod Stars

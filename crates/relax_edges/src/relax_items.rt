@@ -6,7 +6,7 @@ ghost use Rattle.relax_edges.specs.Relaxations.{kept_words};
 
 use crate::relax::Relaxes;
 use crate::relax_error::RelaxKind;
-use crate::relax_runs::{is_separator, run_len, RunEnd};
+use crate::relax_runs::{RunEnd, is_separator, run_len};
 use crate::relax_search::keep_paths;
 use crate::relax_words::{count_words, has_unknown, next_word};
 use arrayvec::ArrayVec;

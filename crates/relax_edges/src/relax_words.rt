@@ -9,7 +9,7 @@ ghost use Rattle.relax_edges.specs.Stars.{edges_by_last, edges_by_end};
 
 use crate::edge::Edge;
 use crate::read::read_ending;
-use crate::relax_runs::{is_separator, run_len, RunEnd};
+use crate::relax_runs::{RunEnd, is_separator, run_len};
 use arrayvec::ArrayVec;
 
 /// The first word of a text without brackets, and the text after it.

@@ -11,7 +11,7 @@ use Rattle.list_laws.proofs.Cases.{by_test, by_less}
 use Rattle.list_laws.proofs.Counts.{count_upto_up, count_upto_past, counted}
 use Rattle.list_laws.proofs.Prefixes.{count_all}
 use Rattle.resolution_laws.specs.Resolution.{external_count, move_count, edge_at, thread_of, moves_before, location_of, moves_in, IsResolved}
-use Rattle.resolution_laws.proofs.EdgeCounts.{passing}
+use Rattle.resolution_laws.proofs.EdgeCounts.{PassingEdge, passing}
 use Rattle.resolution_laws.proofs.Threads.{thread_up, thread_end, thread_out}
 use Rattle.resolution_laws.proofs.Locations.{ends_with, external_keeps, moves_on, moves_kept, moves_up, moves_end, moves_most, location_wrapped, location_first, same_moves_location, moves_in_before, moves_between, moves_in_fewer}
 
@@ -51,17 +51,9 @@ several_locations es r =
     omega (arith, move_in_thread es w.number w.below w.passes, moves_in_fewer es (thread_of es w.number) r (thread_below es w.number r w.below))
 
 -- each location is that of some event, which a `d` edge leaves
-pub record Leaving (es : List Edge) (l : ℕ) : Type 0 where
-  pub event : ℕ
-  pub below : event < length es
-  pub leaves : is_diff (edge_at es event) ≡ true
-  pub moves : moves_before es event ≡ l
-
--- each location of a cycle is left so
-pub leaving : (es : List Edge) (l : ℕ) → l < move_count es → Leaving es l
+pub leaving : (es : List Edge) (l : ℕ) → l < move_count es → PassingEdge is_diff (moves_before es) es l
 unfolding moves_before
-leaving es l h =
-    let w = passing is_diff es l h in record { event = w.event; below = w.below; leaves = w.passes; moves = w.counted }
+leaving es l h = passing is_diff es l h
 
 -- the location of an event is the number of moves before it, except for the events after the last move, which are at
 -- location 0 with those before the first

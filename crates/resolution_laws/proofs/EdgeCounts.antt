@@ -30,15 +30,15 @@ counted_up p es i j h l =
 pub counted_most : (p : Edge → Bool) (es : List Edge) (i : ℕ) → i ≤ length es → count_by p (take i es) ≤ i
 counted_most p es i h = omega (arith, count_take p es (edges.Com Rf Internal) i h, count_upto-le (λ m. p (edge_at es m)) i)
 
--- an edge passes that has n passing edges before it
-pub record Passing (p : Edge → Bool) (es : List Edge) (n : ℕ) : Type 0 where
+-- an edge passes before which a count is n
+pub record PassingEdge (p : Edge → Bool) (before : ℕ → ℕ) (es : List Edge) (n : ℕ) : Type 0 where
   pub event : ℕ
   pub below : event < length es
   pub passes : p (edge_at es event) ≡ true
-  pub counted : count_by p (take event es) ≡ n
+  pub counted : before event ≡ n
 
--- there is such an edge for each number below that of the passing edges
-pub passing : (p : Edge → Bool) (es : List Edge) (n : ℕ) → n < count_by p es → Passing p es n
+-- for each number below that of the passing edges, an edge passes that has so many passing edges before it
+pub passing : (p : Edge → Bool) (es : List Edge) (n : ℕ) → n < count_by p es → PassingEdge p (λ i. count_by p (take i es)) es n
 passing p es n h =
     let q : ℕ → Bool = λ j. p (edge_at es j) in
     let long : n < length (filter q (upto (length es))) = omega (arith, h, length-filter-upto q (length es), count_all p es (edges.Com Rf Internal)) in

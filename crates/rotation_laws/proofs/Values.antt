@@ -61,9 +61,9 @@ value_on es fs to i a r s h same =
 pub values_alike : (es fs : List Edge) (to : ℕ → ℕ) → Alike es fs to → IsResolved es → IsResolved fs → (i : ℕ) → i < length es → value_of es i ≡ value_of fs (to i)
 values_alike es fs to a r s =
     let w = leaving es 0 (omega (arith, several_locations es r)) in
-    let within = moves_within es w.event r w.below w.leaves in
+    let within = moves_within es w.event r w.below w.passes in
     let first : value_of es (event_after es w.event) ≡ value_of fs (to (event_after es w.event)) =
-    value_on es fs to w.event a r s w.below (λ f. let e : true ≡ false = sym w.leaves ∙ f in cc) in
+    value_on es fs to w.event a r s w.below (λ f. let e : true ≡ false = sym w.passes ∙ f in cc) in
     let one : event_after es w.event ≡ w.event + 1 = by_after es w.event w.below (λ l e. e) (λ l e. absurd (omega (arith, l, within))) in
     around (λ i. value_of es i ≡ value_of fs (to i)) es w.event within
     (subst (λ i. value_of es i ≡ value_of fs (to i)) one first)
@@ -84,8 +84,8 @@ pub spot_from : (es fs : List Edge) (to : ℕ → ℕ) (l : ℕ) → Alike es fs
 spot_from es fs to l a r s h =
     let w = leaving fs l h in
     let c = a.from w.event w.below in
-    let there : location_of fs w.event ≡ l = location_first fs w.event (omega (arith, w.moves, h)) ∙ w.moves in
-    let leaves : is_diff (edge_at es c.event) ≡ true = ap is_diff (sym (a.edge c.event c.below) ∙ ap (edge_at fs) c.is) ∙ w.leaves in
+    let there : location_of fs w.event ≡ l = location_first fs w.event (omega (arith, w.counted, h)) ∙ w.counted in
+    let leaves : is_diff (edge_at es c.event) ≡ true = ap is_diff (sym (a.edge c.event c.below) ∙ ap (edge_at fs) c.is) ∙ w.passes in
     record {
       spot = location_of es c.event;
       below = location_below es c.event r c.below;
@@ -95,7 +95,7 @@ spot_from es fs to l a r s h =
       there = ap (location_of fs) c.is ∙ there;
       written =
           ap (write_count fs) (sym there)
-          ∙ sym (value_at_end fs w.event s w.below w.leaves)
+          ∙ sym (value_at_end fs w.event s w.below w.passes)
           ∙ ap (value_of fs) (sym c.is)
           ∙ sym (values_alike es fs to a r s c.event c.below)
           ∙ value_at_end es c.event r c.below leaves;

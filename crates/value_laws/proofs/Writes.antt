@@ -116,8 +116,8 @@ pub some_write : (es : List Edge) (l k : ℕ) → IsResolved es → k < write_co
 some_write es l k r h =
     let below = written_below es l r (omega (arith, h)) in
     let end = leaving es l below in
-    let here : location_of es end.event ≡ l = location_first es end.event (omega (arith, end.moves, below)) ∙ end.moves in
-    let all : value_of es end.event ≡ write_count es l = value_at_end es end.event r end.below end.leaves ∙ ap (write_count es) here in
+    let here : location_of es end.event ≡ l = location_first es end.event (omega (arith, end.counted, below)) ∙ end.counted in
+    let all : value_of es end.event ≡ write_count es l = value_at_end es end.event r end.below end.passes ∙ ap (write_count es) here in
     rw here at (write_with_value es k end.event r end.below (omega (arith, h, all)))
 
 -- there is a write number k of a location, for each k below the number of its writes
