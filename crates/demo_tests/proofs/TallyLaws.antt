@@ -1,11 +1,11 @@
 -- What is counted of tests grows with each test, and stays small.
-use Rattle.std.proofs.Common.{◌≡◌, ◌<◌, ◌≤◌, ◌+◌, ◌*◌, ◌%◌, ℕ, zero, suc, List, [], ◌∷◌, ◌++◌, length, get_or, take, drop, map, refl, sym, ap, ◌∙◌, arith, add-one, length-append, append-nil}
+use Rattle.std.proofs.Common.{◌≡◌, ◌<◌, ◌≤◌, ◌+◌, ◌*◌, ◌%◌, ℕ, zero, suc, List, [], ◌∷◌, ◌++◌, length, get_or, map, refl, sym, ap, ◌∙◌, arith, add-one, length-append, append-nil}
 use Rattle.std.specs.Prelude.{cond, filter, replicate, codes, ◌==◌, slice_set, slice_index_or, None}
 use Rattle.std.specs.List.{All, sum_by, IsAmong}
 use Rattle.std.proofs.lemmas.Bool.{eqb-true, cond-true, cond-false}
 use Rattle.std.proofs.lemmas.List.{get_or_default}
 use Rattle.std.proofs.lemmas.List.Elements.{filter-append, All-map}
-use Rattle.std.proofs.lemmas.List.Sums.{sum_by_push, sum_by-take-drop, sum_by-le, length-filter, count_by-le-length}
+use Rattle.std.proofs.lemmas.List.Sums.{sum_by_push, sum_by-le, length-filter, count_by-le-length}
 use Rattle.list_laws.specs.Numbers.{upto}
 use Rattle.list_laws.proofs.Cases.{by_test}
 use Rattle.list_laws.proofs.Numbers.{length-upto, get_or-map-upto}
@@ -22,12 +22,11 @@ use Rattle.arch_trait.specs.Threads.{Puts}
 use Rattle.arch_trait.specs.Writing.{Writing, WritesBack}
 use Rattle.litmus_text.specs.declared.limits.TheConstants.{MAX_TEXT}
 use Rattle.diy_io.specs.Sink.{Tally, line_feed_count}
-use Rattle.diy_io.specs.Sink as sinks
 use Rattle.test_maker.specs.CycleText.{cycle_text}
 use Rattle.test_maker.specs.Refusals.{refusal_of}
 use Rattle.printed_test_laws.proofs.Cycles.{cycle_text_short}
 use Rattle.demo_tests.specs.declared.tally.TestTally.{TestTally}
-use Rattle.demo_tests.specs.TestCounting.{nothing_counted, test_counted, Fits}
+use Rattle.demo_tests.specs.TestCounting.{nothing_counted, test_counted, text_tally, Fits}
 use Rattle.family_laws.specs.Filled.{MakesAll}
 use Rattle.demo_tests.specs.FilledLinks.{IsFamilyCycle, links_filled, seed_after}
 use Rattle.demo_tests.specs.DemoText.{demo_text, family_lines, tally_line}
@@ -48,10 +47,6 @@ family_cycle number slots h =
 -- the seed for the next test
 pub next_seed_of : (number seed old : ℕ) (slots : List Edge) → slots ≡ slots_of number → old ≡ seed_of number → seed ≡ seed_after old slots → seed ≡ seed_of (number + 1)
 next_seed_of number seed old slots s o h = h ∙ ap (seed_after old) s ∙ ap (λ n. seed_after n (slots_of number)) o ∙ ap seed_of (sym (add-one number))
-
--- the tally of the text of a test
-abbrev pub text_tally : List ℕ → Tally
-text_tally text = sinks.tally_of (length text) (line_feed_count text)
 
 -- a cycle is that of a test
 numbered_so : (puts : Puts) (arch : ArchName) (number old : ℕ) (slots cycle : List Edge) → arch ≡ puts.name → slots ≡ slots_of number → old ≡ seed_of number
@@ -209,8 +204,3 @@ pub summary_is : (puts : Puts) (w : Writing) (count : ℕ) (families : List Test
     → family_lines all_families families ++ tally_line (codes "total") all ≡ demo_text puts w count
 unfolding demo_text
 summary_is puts w count families all f a = ap (λ fs. family_lines all_families fs ++ tally_line (codes "total") all) f ∙ ap (λ t. family_lines all_families (family_tallies (numbered_text puts w) count) ++ tally_line (codes "total") t) a
-
--- the line feeds of a text are those of its first bytes and those of the bytes after them
-pub line_feeds_parted : (count : ℕ) (text prefix back : List ℕ) → prefix ≡ take count text → back ≡ drop count text
-    → line_feed_count prefix + line_feed_count back ≡ line_feed_count text
-line_feeds_parted count text prefix back f b = rw (f, b) (sum_by-take-drop _ text count)

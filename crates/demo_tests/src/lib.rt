@@ -9,6 +9,5 @@ mod making;
 mod measure;
 mod summary;
 mod tally;
-mod text_tally;
 
 pub use making::demo;

@@ -5,11 +5,10 @@ ghost use Rattle.test_maker.specs.CycleText.{cycle_text};
 ghost use Rattle.test_maker.specs.Refusals.{refusal_of};
 ghost use Rattle.demo_tests.specs.TestCounting.{text_tally};
 
-use crate::text_tally::TextTally;
 use arch_trait::Arch;
 use arrayvec::ArrayString;
 use cycle_names::{MAX_NAME, name_of};
-use diy_io::{Failed, Page};
+use diy_io::{Failed, Page, TallySink};
 use edge_algebra::Cycle;
 use litmus_text::{KeptTable, Test, print_test_by};
 use relax_edges::ObsMode;
@@ -35,7 +34,7 @@ impl Desk {
     }
 
     /// The bytes and line feeds of the text of the test of a cycle that has one, under its name. The test is made in `test`.
-    pub(crate) fn measure<A: Arch>(&mut self, cycle: &Cycle, test: &mut Test) -> TextTally
+    pub(crate) fn measure<A: Arch>(&mut self, cycle: &Cycle, test: &mut Test) -> TallySink
         requires { refusal_of A.puts cycle.now Accept ≡ None }
         ensures { result ≡ text_tally (cycle_text A.puts A.writing Accept (name_of cycle.now) cycle.now) }
     {
@@ -46,8 +45,8 @@ impl Desk {
         }
         name_of(cycle, &mut self.name);
         self.page.clear();
-        let mut tally = TextTally::new();
-        match print_test_by::<A, TextTally>(
+        let mut tally = TallySink::new();
+        match print_test_by::<A, TallySink>(
             test,
             self.name.as_str(),
             &mut self.table,

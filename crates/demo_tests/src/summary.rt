@@ -6,9 +6,8 @@ ghost use Rattle.demo_tests.specs.TestCounting.{Fits, test_counted, nothing_coun
 ghost use Rattle.demo_tests.specs.DemoText.{family_line, family_lines, tally_line, summary_lines};
 
 use crate::tally::TestTally;
-use crate::text_tally::TextTally;
 use cycle_names::{FAMILIES, Family};
-use diy_io::{Failed, Page, Sink};
+use diy_io::{Failed, Page, Sink, TallySink};
 use itoa::Buffer;
 
 /// How many families have a cycle.
@@ -34,7 +33,7 @@ impl Summary {
     }
 
     /// Counts one test more, of the family at a place of the table, by the tally of its text.
-    pub(crate) fn count(&mut self, place: usize, text: &TextTally)
+    pub(crate) fn count(&mut self, place: usize, text: &TallySink)
         requires place { place < length self.old.families }
         requires families { All (Fits text.now) self.old.families }
         requires all { Fits text.now self.old.all }

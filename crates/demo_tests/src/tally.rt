@@ -1,7 +1,7 @@
 ghost use Rattle.std.specs.Prelude.{◌≡◌};
 ghost use Rattle.demo_tests.specs.TestCounting.{Fits, test_counted, nothing_counted};
 
-use crate::text_tally::TextTally;
+use diy_io::TallySink;
 
 /// How many tests there are, and how many line feeds and bytes are in their texts.
 #[derive(Clone, Copy)]
@@ -24,12 +24,12 @@ impl TestTally {
     }
 
     /// Counts one test more, by the tally of its text.
-    pub(crate) fn count(&mut self, text: &TextTally)
+    pub(crate) fn count(&mut self, text: &TallySink)
         requires { Fits text.now self.old }
         ensures { self.new ≡ test_counted text.now self.old }
     {
         self.tests += 1;
-        self.lines += text.line_feeds();
+        self.lines += text.lines();
         self.bytes += text.bytes();
     }
 }

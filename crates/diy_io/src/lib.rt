@@ -3,6 +3,7 @@
 
 mod dir_shelf;
 mod errors;
+mod line_feeds;
 mod mem_files;
 mod mem_shelf;
 mod mem_sink;

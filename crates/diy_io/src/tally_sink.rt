@@ -3,6 +3,7 @@ ghost use Rattle.diy_io.specs.Sink.{Tally, tally_after};
 ghost use Rattle.diy_io.specs.Wrote.{Wrote, tally_seen};
 
 use crate::errors::Failed;
+use crate::line_feeds::count_line_feeds;
 use crate::sink::Sink;
 use std::marker::Model;
 
@@ -51,9 +52,8 @@ impl Sink for TallySink {
         ensures answer { IsOk result }
         ensures wrote { Wrote (tally_seen self.old) (tally_seen self.new) bytes.now result }
     {
-        let line_feeds = bytes.iter().filter(|byte| **byte == b'\n').count();
         self.bytes = self.bytes.saturating_add(bytes.len() as u64);
-        self.lines = self.lines.saturating_add(line_feeds as u64);
+        self.lines = self.lines.saturating_add(count_line_feeds(bytes));
         Ok(())
     }
 }
