@@ -27,7 +27,7 @@ use Rattle.log_sum.specs.LogStates.{form_read}
 use Rattle.diy_io.specs.Count.{last_count}
 use Rattle.log_sum.specs.SummingSteps.{known_state}
 use Rattle.log_sum.specs.StateSpelling.{written_as, is_later, is_spelled, IsSpelled, AddsText}
-use Rattle.log_sum.specs.StateEntries.{sum_view, state_view, state_at, states_view, AreInOrder, AreWritten, HasState}
+use Rattle.log_sum.specs.StateEntries.{sum_view, state_view, state_at, states_view, AreInOrder, EntriesAreWritten, HasState}
 use Rattle.log_sum.proofs.OrderLaws.{ordered_known, ordered_put, ordered_is}
 
 abbrev Entries : Type 0
@@ -109,7 +109,7 @@ order_written es i w h = subst T (sym (sorted_written es i w)) h
 
 -- the texts that are kept of states are read as these where a sum is changed to one whose texts are
 pub written_again : (es : List (Vec ℕ Global × StateSum)) (i : ℕ) (v w : StateSum) → slice_get (values_of es) i ≡ Some v
-    → ((state : List ℕ) → state_at es i ≡ Some state → IsSpelled state v.spelling → IsSpelled state w.spelling) → AreWritten es → AreWritten (set_value_at es i w)
+    → ((state : List ℕ) → state_at es i ≡ Some state → IsSpelled state v.spelling → IsSpelled state w.spelling) → EntriesAreWritten es → EntriesAreWritten (set_value_at es i w)
 written_again [] i v w at_i keeps h j key sum e = h j key sum e
 written_again (x ∷ es) zero v w at_i keeps h zero key sum e =
     let first : x.1 ≡ v = cc in
@@ -216,7 +216,7 @@ view_more es key w none =
     (λ q. ap (λ t. known_state t q) (map_more es key w) ∙ known_more (map state_view es) key.items (sum_view w) q (sym (ordered_known (map state_view es) key.items) ∙ none))
 
 -- a new entry whose texts are read as its state keeps that so for all entries
-pub written_more : (es : List (Vec ℕ Global × StateSum)) (key : Vec ℕ Global) (w : StateSum) → IsSpelled key.items w.spelling → AreWritten es → AreWritten (es ++ (key, w) ∷ [])
+pub written_more : (es : List (Vec ℕ Global × StateSum)) (key : Vec ℕ Global) (w : StateSum) → IsSpelled key.items w.spelling → EntriesAreWritten es → EntriesAreWritten (es ++ (key, w) ∷ [])
 written_more [] key w shown h zero other sum e =
     let pair : ◌≡◌ {A = Vec ℕ Global × StateSum} (key, w) (other, sum) = cc in
     subst (λ (y : Vec ℕ Global × StateSum). IsSpelled y.0.items y.1.spelling) pair shown
@@ -293,10 +293,10 @@ pub view_put : (es more : List (Vec ℕ Global × StateSum)) (key : Vec ℕ Glob
 view_put es more key w e h = ap states_view (e ∙ put_last es key w h) ∙ view_more es key w h
 
 -- the table's texts are read as its states after a new state was put, or wasn't for want of memory
-pub written_put : {X Y : Type 0} (es more : List (Vec ℕ Global × StateSum)) (key : Vec ℕ Global) (w : StateSum) → known_state (states_view es) key.items ≡ None → IsSpelled key.items w.spelling → AreWritten es
-    → (r : Result X Y) → OnOk r (more ≡ indexed.insert_entry (λ (x y : Vec ℕ Global). bytes_eq x.items y.items) es key w) → OnErr r (more ≡ es) → AreWritten more
-written_put es more key w none shown h (Ok x) e g = subst AreWritten (sym (e ∙ put_last es key w none)) (written_more es key w shown h)
-written_put es more key w none shown h (Err x) e g = subst AreWritten (sym g) h
+pub written_put : {X Y : Type 0} (es more : List (Vec ℕ Global × StateSum)) (key : Vec ℕ Global) (w : StateSum) → known_state (states_view es) key.items ≡ None → IsSpelled key.items w.spelling → EntriesAreWritten es
+    → (r : Result X Y) → OnOk r (more ≡ indexed.insert_entry (λ (x y : Vec ℕ Global). bytes_eq x.items y.items) es key w) → OnErr r (more ≡ es) → EntriesAreWritten more
+written_put es more key w none shown h (Ok x) e g = subst EntriesAreWritten (sym (e ∙ put_last es key w none)) (written_more es key w shown h)
+written_put es more key w none shown h (Err x) e g = subst EntriesAreWritten (sym g) h
 
 -- a text that is kept of a state is read as that state
 spelled_read : (state text : List ℕ) (spelling : Spelling) → IsSpelled state spelling → is_spelled state spelling text ≡ true → form_read text ≡ Ok state
@@ -310,7 +310,7 @@ spelled_read state text spelling spelled has =
     later_read (Some l) read is = ap form_read (sym ((bytes_eq-Decides l.items text).0 is)) ∙ read l refl
 
 -- and so the state that the text writes is at the index
-pub written_at : (es : List (Vec ℕ Global × StateSum)) (i : ℕ) (text form : List ℕ) (key : Vec ℕ Global) (sum : StateSum) (b : Bool) → AreWritten es → Some (key, sum) ≡ slice_get es i
+pub written_at : (es : List (Vec ℕ Global × StateSum)) (i : ℕ) (text form : List ℕ) (key : Vec ℕ Global) (sum : StateSum) (b : Bool) → EntriesAreWritten es → Some (key, sum) ≡ slice_get es i
     → form ≡ key.items → b ≡ is_spelled form sum.spelling text → OnTrue b (HasState es text i)
 written_at es i text form key sum true h e is has = record {
   state = key.items;

@@ -20,7 +20,7 @@ use Rattle.list_laws.proofs.Cases.{by_test}
 use Rattle.log_sum.specs.declared.state_table.StateSum.{StateSum}
 use Rattle.log_sum.specs.StateSpelling.{IsSpelled}
 use Rattle.log_sum.specs.SummingSteps.{known_state}
-use Rattle.log_sum.specs.StateEntries.{sum_view, state_view, states_view, AreInOrder, AreWritten}
+use Rattle.log_sum.specs.StateEntries.{sum_view, state_view, states_view, AreInOrder, EntriesAreWritten}
 use Rattle.log_sum.proofs.OrderLaws.{apart_less, ordered_same}
 use Rattle.text_laws.proofs.OrderLaws.{order}
 use Rattle.log_sum.proofs.EntryLaws.{entries_known}
@@ -72,7 +72,7 @@ view_reordered old new same = ordered_same (map state_view new) (map state_view 
 
 -- the texts that are kept of states are read as before where each key has the same sum
 pub written_reordered : (old new : List (Vec ℕ Global × StateSum)) → IsDistinct (λ (x y : Vec ℕ Global). bytes_eq x.items y.items) (keys_of new)
-    → ((k : Vec ℕ Global) → lookup (λ (y : Vec ℕ Global). bytes_eq k.items y.items) new ≡ lookup (λ (y : Vec ℕ Global). bytes_eq k.items y.items) old) → AreWritten old → AreWritten new
+    → ((k : Vec ℕ Global) → lookup (λ (y : Vec ℕ Global). bytes_eq k.items y.items) new ≡ lookup (λ (y : Vec ℕ Global). bytes_eq k.items y.items) old) → EntriesAreWritten old → EntriesAreWritten new
 written_reordered old new distinct same h i key sum e =
     let there = sym (same key) ∙ lookup_from_place by_bytes new i key sum distinct e in
     let place = place_from_lookup (λ (y : Vec ℕ Global). bytes_eq key.items y.items) old sum there in

@@ -9,6 +9,7 @@ use Rattle.text_laws.specs.Cuts.{cut_at}
 use Rattle.text_laws.proofs.CutLaws.{cut_parts, uncut_without}
 use Rattle.text_laws.specs.Lines.{whole_lines, unended}
 use Rattle.log_sum.specs.LogReading.{LogSeen, fault_at, is_too_long, nothing_seen, lines_judged, line_judged, rest_judged, bytes_judged, last_judged, end_judged, file_judged, files_judged, input_judged}
+use Rattle.log_sum.specs.JudgedLaws.{files_both}
 use Rattle.text_laws.specs.ReadingSteps.{◌>>=◌}
 use Rattle.log_sum.proofs.ReadingLaws.{lines_cut, lines_both, lines_more, rest_more}
 
@@ -121,16 +122,6 @@ input_fault files bytes rest error h = by_files (files_judged nothing_seen files
     by_files : (r : Result LogSeen LogError) → (r >>= (λ seen. bytes_judged seen bytes)) ≡ Err error → (r >>= (λ seen. bytes_judged seen (bytes ++ rest))) ≡ Err error
     by_files (Ok seen) h = bytes_fault seen bytes rest error h
     by_files (Err other) h = h
-
--- files are judged one after another
-files_both : (seen : LogSeen) (files more : List (List ℕ)) → files_judged seen (files ++ more) ≡ (files_judged seen files >>= (λ next. files_judged next more))
-files_both seen [] more = refl
-files_both seen (file ∷ files) more = by_result (λ next. files_both next files more) (file_judged seen file)
-  where
-    by_result : ((next : LogSeen) → files_judged next (files ++ more) ≡ (files_judged next files >>= (λ x. files_judged x more))) → (r : Result LogSeen LogError)
-        → (r >>= (λ next. files_judged next (files ++ more))) ≡ ((r >>= (λ next. files_judged next files)) >>= (λ x. files_judged x more))
-    by_result law (Ok x) = law x
-    by_result law (Err e) = refl
 
 -- a fault of an input is that of all logs that begin with it
 pub files_fault : (files more : List (List ℕ)) (bytes rest : List ℕ) (error : LogError) → input_judged files bytes ≡ Err error → files_judged nothing_seen (files ++ (bytes ++ rest) ∷ more) ≡ Err error

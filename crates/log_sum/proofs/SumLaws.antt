@@ -29,6 +29,7 @@ use Rattle.log_sum.specs.Facts.{Row, Fact, a_kind, a_row, a_condition, a_hash, k
 use Rattle.log_sum.specs.Summed.{Summed, StateSummed, some_or, state_by, summed}
 use Rattle.log_sum.specs.SummingSteps.{or_this, marked, with_marked, known_state, count_known, with_row, fact_to}
 use Rattle.log_sum.specs.Feeding.{Marked}
+use Rattle.log_sum.specs.JudgedLaws.{same_mark_is, mark_same}
 use Rattle.text_laws.proofs.OrderLaws.{is_text, compare, Above, Ascends, above_all, fold_ascends, not_equal, any_fold, bytes_same}
 
 -- the facts of a sort, with a fact more
@@ -166,17 +167,6 @@ known_is k rs =
 -- no rows have one mark for each state
 pub none_marked : Marked []
 none_marked = record { same = λ k m h. refl }
-
--- marks that are tested to be the same are the same
-pub same_mark_is : (a b : Mark) → same_state_mark a b ≡ true → a ≡ b
-same_mark_is Starred Starred h = refl
-same_mark_is Starred Plain h = cc
-same_mark_is Plain Starred h = cc
-same_mark_is Plain Plain h = refl
-
-mark_same : (m : Mark) → same_state_mark m m ≡ true
-mark_same Starred = refl
-mark_same Plain = refl
 
 no_state : (k : List ℕ) (m : Mark) (rs : List Row) → mark_in k rs ≡ None → list_all (λ r. not (bytes_eq r.state k) || same_state_mark r.mark m) rs ≡ true
 unfolding mark_in

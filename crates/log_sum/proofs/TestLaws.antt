@@ -9,9 +9,9 @@ use Rattle.log_sum.specs.declared.errors.LogKind.TheVariants.{MarkDiffers, SumTo
 use Rattle.log_sum.specs.declared.kinds.Mark.{Mark}
 use Rattle.diy_io.specs.Count.{last_count}
 use Rattle.log_sum.specs.Facts.{Row, a_row, is_other, same_state_mark}
+use Rattle.log_sum.specs.JudgedLaws.{same_mark_is}
 use Rattle.log_sum.specs.Summed.{Summed, StateSummed}
 use Rattle.log_sum.specs.SummingSteps.{known_state, count_known, marked, with_marked, with_row, fact_to}
-use Rattle.log_sum.proofs.SumLaws.{same_mark_is}
 
 -- a row whose mark isn't that of its state has that fault
 pub row_other : (test : Summed) (row : Row) (known : Option (Mark × ℕ)) → known ≡ known_state test.states row.state

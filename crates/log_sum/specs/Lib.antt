@@ -7,6 +7,7 @@ pub mod Equalities
 pub mod Facts
 pub mod LogLines
 pub mod LogReading
+pub mod JudgedLaws
 pub mod Summed
 pub mod Representing
 pub mod Feeding

@@ -63,8 +63,8 @@ abbrev pub AreInOrder : List (Vec ℕ Global × StateSum) → Type 0
 AreInOrder entries = T (is_sorted (slice_cmp nat_cmp) (map state_view entries))
 
 -- the texts that are kept of each state are read as that state
-abbrev pub AreWritten : List (Vec ℕ Global × StateSum) → Type 0
-AreWritten entries =
+abbrev pub EntriesAreWritten : List (Vec ℕ Global × StateSum) → Type 0
+EntriesAreWritten entries =
     (i : ℕ) (key : Vec ℕ Global) (sum : StateSum) → slice_get entries i ≡ Some (key, sum) → IsSpelled key.items sum.spelling
 
 -- the state that a text writes is at an index

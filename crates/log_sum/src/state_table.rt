@@ -1,7 +1,7 @@
 ghost use Rattle.std.specs.Prelude.{◌≡◌, ℕ, [], true, Some, None, OnOk, IfSome, MatchOption};
 ghost use Rattle.std.specs.Bool.{OnTrue};
 ghost use Rattle.log_sum.specs.StateSpelling.{IsSpelled};
-ghost use Rattle.log_sum.specs.StateEntries.{AreInOrder, AreWritten, HasState, IsSumAt, SeenMore, known_in, sum_view, state_at, states_view, with_state};
+ghost use Rattle.log_sum.specs.StateEntries.{AreInOrder, EntriesAreWritten, HasState, IsSumAt, SeenMore, known_in, sum_view, state_at, states_view, with_state};
 
 use crate::kinds::Mark;
 use crate::spelling::Spelling;
@@ -26,7 +26,7 @@ pub(crate) struct StateTable {
     next: usize,
     /// Whether the states are known to be in byte order.
     pub(crate) in_order: bool,
-    ghost are_written: { AreWritten sums.entries },
+    ghost are_written: { EntriesAreWritten sums.entries },
     ghost are_in_order: { in_order ≡ true → AreInOrder sums.entries },
 }
 

@@ -16,8 +16,9 @@ use Rattle.log_sum.specs.declared.errors.LogKind.{LogKind}
 use Rattle.log_sum.specs.declared.errors.LogKind.TheVariants.{HashDiffers, ConditionDiffers, SumTooLarge, KindDiffers}
 use Rattle.diy_io.specs.Count.{last_count}
 use Rattle.log_sum.specs.Facts.{Row, Fact, Entry, a_kind, a_row, a_condition, a_hash, kinds, rows, conditions, hashes, first_of, same_kind, same_state_mark, marked_sum, state_sum, mark_in, is_other, fault_if, fact_fault, facts_of}
+use Rattle.log_sum.specs.JudgedLaws.{same_mark_is, mark_same}
 use Rattle.log_sum.specs.Summed.{some_or}
-use Rattle.sum_laws.proofs.Cases.{Kind, Mark, Verdict, allowed, plain, kind_cases, mark_cases}
+use Rattle.sum_laws.proofs.Cases.{Kind, Mark, Verdict, allowed, plain, kind_cases}
 use Rattle.text_laws.proofs.OrderLaws.{bytes_same}
 use Rattle.sum_laws.proofs.Blocks.{Clean}
 
@@ -175,17 +176,9 @@ pub record Agrees (facts : List Fact) : Type 0 where
 pub kind_same : (k : Kind) → same_kind k k ≡ true
 kind_same k = kind_cases (λ x. same_kind x x ≡ true) refl refl refl k
 
--- a mark is the same as itself
-pub mark_same : (m : Mark) → same_state_mark m m ≡ true
-mark_same m = mark_cases (λ x. same_state_mark x x ≡ true) refl refl m
-
 -- kinds that are tested to be the same are the same
 pub kind_is : (a b : Kind) → same_kind a b ≡ true → a ≡ b
 kind_is a b h = grind arith
-
--- marks that are tested to be the same are the same
-pub mark_is : (a b : Mark) → same_state_mark a b ≡ true → a ≡ b
-mark_is a b h = grind arith
 
 abbrev profile_of : List Fact → Profile
 profile_of facts = record {
@@ -238,7 +231,7 @@ fit_one facts (a_row row) more h =
     let e : mark_in row.state (row ∷ rows more) ≡ or_first (Some row.mark) (mark_in row.state (rows more)) =
     mark_both row.state (row ∷ []) (rows more) ∙ ap (λ o. or_first o (mark_in row.state (rows more))) (mark_one row.state row ∙ ap (λ b. cond b (Some row.mark) None) (bytes_same row.state)) in
     rw (rows_both facts (a_row row ∷ more), mark_both row.state (rows facts) (row ∷ rows more), e)
-    (no_other same_state_mark mark_is (mark_in row.state (rows facts)) (mark_in row.state (rows more)) plain row.mark (row_fault facts row h).0)
+    (no_other same_state_mark same_mark_is (mark_in row.state (rows facts)) (mark_in row.state (rows more)) plain row.mark (row_fault facts row h).0)
 
 fit_all : (facts more : List Fact) → CleanFacts facts more → AllByRecursion (FitsTo (profile_of (facts ++ more))) more
 fit_all facts [] c = tt
@@ -261,7 +254,7 @@ row_small facts row h s m =
     let e : marked_sum m (rows (facts ++ a_row row ∷ [])) ≡ marked_sum m (rows facts) + cond (same_state_mark row.mark m) row.count 0 =
     ap (marked_sum m) (rows_both facts (a_row row ∷ [])) ∙ marked_both m (rows facts) (row ∷ []) ∙ ap (λ n. marked_sum m (rows facts) + n) (marked_one m row) in
     rw e (by_test (same_state_mark row.mark m)
-    (λ t. rw t (let same : row.mark ≡ m = mark_is row.mark m t in subst (λ x. marked_sum x (rows facts) + row.count ≤ last_count) same (not_above (marked_sum row.mark (rows facts) + row.count) h)))
+    (λ t. rw t (let same : row.mark ≡ m = same_mark_is row.mark m t in subst (λ x. marked_sum x (rows facts) + row.count ≤ last_count) same (not_above (marked_sum row.mark (rows facts) + row.count) h)))
     (λ t. rw t (omega (arith, s m))))
 
 small_one : (facts : List Fact) (fact : Fact) → fact_fault facts fact ≡ None → Small facts → Small (facts ++ fact ∷ [])

@@ -1,11 +1,9 @@
 -- Printed blocks are read as what they print.
 use Rattle.std.proofs.Common.{◌≡◌, ◌==◌, ℕ, ◌≤◌, List, [], ◌∷◌, ◌++◌, true, false, refl, sym, ap, ◌∙◌, arith, append_assoc, append-nil, Some, None}
 use Rattle.std.specs.Prelude.{not, Option, Ok, decimal}
-use Rattle.std.specs.Char.{is_ascii_digit}
 use Rattle.std.specs.List.{list_all}
 use Rattle.std.proofs.lemmas.Bool.Decides.{nat_tests}
 use Rattle.std.proofs.lemmas.Bool.{and_parts, not-true}
-use Rattle.list_laws.proofs.Elements.{list_all-weaker}
 use Rattle.text_laws.specs.Words.{is_nil}
 use Rattle.diy_io.specs.Count.{last_count}
 use Rattle.log_sum.specs.Facts.{Fact, Entry, facts_of, fact_fault}
@@ -18,7 +16,7 @@ use Rattle.sum_laws.proofs.Texts.{no_feed}
 use Rattle.text_laws.proofs.CutLaws.{all_both}
 use Rattle.text_laws.proofs.LineLaws.{class_kept}
 use Rattle.text_laws.proofs.PieceLaws.{first_piece, split_off}
-use Rattle.sum_laws.proofs.Lines.{digits_all}
+use Rattle.sum_laws.proofs.Lines.{digits_pass}
 
 -- what was seen, by its parts
 abbrev pub seen_at : List Entry → List ℕ → Place → ℕ → LogSeen
@@ -118,13 +116,7 @@ append_line prefix (b ∷ text) h some l = record { one = all_both no_feed prefi
 plain_feed : (text : List ℕ) → list_all no_feed text ≡ true → list_all (λ b. not (b == 13)) text ≡ true → IsLine text
 plain_feed text h k = record { one = h; kept = class_kept (λ b. not (b == 13)) text refl k }
 
-digit_feed : (b : ℕ) → is_ascii_digit b ≡ true → no_feed b ≡ true
-digit_feed b h = grind (arith, nat_tests)
-
-digit_return : (b : ℕ) → is_ascii_digit b ≡ true → not (b == 13) ≡ true
-digit_return b h = grind (arith, nat_tests)
-
 -- a count can be a printed line
 pub decimal_line : (n : ℕ) → n ≤ last_count → IsLine (decimal n)
 decimal_line n h =
-    plain_feed (decimal n) (list_all-weaker is_ascii_digit no_feed digit_feed (decimal n) (digits_all n h)) (list_all-weaker is_ascii_digit (λ b. not (b == 13)) digit_return (decimal n) (digits_all n h))
+    plain_feed (decimal n) (digits_pass no_feed (λ b d. grind (arith, nat_tests)) n h) (digits_pass (λ b. not (b == 13)) (λ b d. grind (arith, nat_tests)) n h)

@@ -8,6 +8,7 @@ use Rattle.log_sum.specs.declared.errors.LogError.{LogError}
 use Rattle.diy_io.specs.Count.{last_count}
 use Rattle.log_sum.specs.Facts.{Row, Fact, Entry, a_kind, a_row, a_condition, a_hash, rows, hashes, first_of, same_state_mark, marked_sum, state_sum, states_of, facts_of, tests_of}
 use Rattle.log_sum.specs.LogReading.{LogSeen, nothing_seen, file_judged, files_judged}
+use Rattle.log_sum.specs.JudgedLaws.{files_both, mark_same}
 use Rattle.text_laws.specs.ReadingSteps.{◌>>=◌}
 use Rattle.text_laws.specs.Lines.{without_return}
 use Rattle.log_sum.specs.Summed.{state_by, summed}
@@ -20,8 +21,8 @@ use Rattle.text_laws.proofs.OrderLaws.{bytes_same}
 use Rattle.sum_laws.proofs.Lines.{line_of_hash}
 use Rattle.sum_laws.proofs.Blocks.{seen_at, Clean, clean_parts, return_prefix}
 use Rattle.sum_laws.proofs.Printed.{IsForm, IsHashed, AreForms, Printable, given, file_goes}
-use Rattle.sum_laws.proofs.Scans.{files_scan, files_both, files_end, IsEnd, clean_both}
-use Rattle.sum_laws.proofs.Agreeing.{Agrees, facts_both, clean_facts, clean_all, clean_from_agrees, agrees_from_clean, marked_both, state_both, marked_one, state_one, mark_same, bytes_is, fact_here, fact_elsewhere}
+use Rattle.sum_laws.proofs.Scans.{files_scan, files_end, IsEnd, clean_both}
+use Rattle.sum_laws.proofs.Agreeing.{Agrees, facts_both, clean_facts, clean_all, clean_from_agrees, agrees_from_clean, marked_both, state_both, marked_one, state_one, bytes_is, fact_here, fact_elsewhere}
 use Rattle.sum_laws.proofs.Sums.{Marks, printed_facts}
 use Rattle.sum_laws.proofs.Alike.{Complete, printed_alike, printed_agrees, agrees_between, alike_text, kind_summed, text_summed, hash_is, states_are, states_there, marks_fit}
 use Rattle.sum_laws.proofs.Said.{IsRead}

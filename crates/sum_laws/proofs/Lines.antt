@@ -34,15 +34,16 @@ below : (n : ℕ) → n ≤ last_count → n < 2 ^ 64
 below n h = omega arith
 
 -- a printed count is made of digits
-pub digits_all : (n : ℕ) → n ≤ last_count → list_all is_ascii_digit (decimal n) ≡ true
+digits_all : (n : ℕ) → n ≤ last_count → list_all is_ascii_digit (decimal n) ≡ true
 digits_all n h = digits_decimal digits_model n (below n h)
 
-digit_plain : (b : ℕ) → is_ascii_digit b ≡ true → is_plain b ≡ true
-digit_plain b h = grind (arith, nat_tests)
+-- what each digit passes, a printed count passes
+pub digits_pass : (test : ℕ → Bool) → ((b : ℕ) → is_ascii_digit b ≡ true → test b ≡ true) → (n : ℕ) → n ≤ last_count → list_all test (decimal n) ≡ true
+digits_pass test each n h = list_all-weaker is_ascii_digit test each (decimal n) (digits_all n h)
 
 -- a printed count has no blank and no line feed
-pub decimal_plain : (n : ℕ) → n ≤ last_count → list_all is_plain (decimal n) ≡ true
-decimal_plain n h = list_all-weaker is_ascii_digit is_plain digit_plain (decimal n) (digits_all n h)
+decimal_plain : (n : ℕ) → n ≤ last_count → list_all is_plain (decimal n) ≡ true
+decimal_plain n h = digits_pass is_plain (λ b d. grind (arith, nat_tests)) n h
 
 some_bytes : (text : List ℕ) → 0 < length text → is_nil text ≡ false
 some_bytes [] h = absurd (omega arith)

@@ -145,16 +145,6 @@ files_scan [] s t e =
     nothing_given (λ x. files_judged x []) s t (ap (λ (x : LogSeen). x.entries) (sym same)) (λ before. ap Ok (ap (λ (x : LogSeen). record x { entries = before }) same))
 files_scan (file ∷ files) s t e = then_scans (λ x. file_judged x file) (λ x. files_judged x files) (file_scans file) (files_scan files) s t e
 
--- files are judged one list after another
-pub files_both : (s : LogSeen) (one two : List (List ℕ)) → files_judged s (one ++ two) ≡ (files_judged s one >>= (λ next. files_judged next two))
-files_both s [] two = refl
-files_both s (file ∷ one) two = by_first (λ next. files_both next one two) (file_judged s file)
-  where
-    by_first : ((next : LogSeen) → files_judged next (one ++ two) ≡ (files_judged next one >>= (λ x. files_judged x two))) → (r : Result LogSeen LogError)
-        → (r >>= (λ next. files_judged next (one ++ two))) ≡ ((r >>= (λ next. files_judged next one)) >>= (λ next. files_judged next two))
-    by_first law (Err error) = refl
-    by_first law (Ok next) = law next
-
 -- after whole files only the entries matter
 abbrev pub IsEnd : LogSeen → Type 0
 IsEnd s = s ≡ seen_at s.entries [] outside 1

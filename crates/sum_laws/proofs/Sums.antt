@@ -112,10 +112,6 @@ line_of_hash_first sum =
     ap first_of (hashes_both (state_facts sum.states) (a_condition (some_or [] sum.condition) (said_as (is_validated sum)) ∷ hash_facts sum.hash)
     ∙ ap (λ t. t ++ hashes (hash_facts sum.hash)) (states_no_hash sum.states)) ∙ hash_first sum.hash
 
-all_of_same : {A : Type 0} (P Q : A → Type 0) → ((x : A) → P x → Q x) → (xs : List A) → AllByRecursion P xs → AllByRecursion Q xs
-all_of_same P Q f [] a = tt
-all_of_same P Q f (x ∷ xs) a = (f x a.0, all_of_same P Q f xs a.1)
-
 -- sums over texts
 abbrev over : (List ℕ → ℕ) → List (List ℕ) → ℕ
 over f [] = 0
@@ -271,16 +267,16 @@ mark_law mark (r ∷ rs) a x y e =
     (λ t. let k = rw t at f in let same : r.mark ≡ y = cc in sym same ∙ a.0 ∙ ap mark (bytes_is r.state x t))
     (λ t. mark_law mark rs a.1 x y (rw t at f))
 
-marks_found : (mark : List ℕ → Mark) (all rs : List Row) → Marks mark rs → Marks mark all → AllByRecursion (λ (r : Row). list_any (bytes_eq r.state) (map (λ (q : Row). q.state) all) ≡ true) rs
+marks_found : (mark : List ℕ → Mark) (all rs : List Row) → Marks mark rs → Marks mark all → AllByRecursion (λ (r : Row). list_any (bytes_eq r.state) (states_of all) ≡ true) rs
     → AllByRecursion (λ (r : Row). r.mark ≡ some_or plain (mark_in r.state all)) rs
 marks_found mark all [] a b h = tt
 marks_found mark all (r ∷ rs) a b h =
-    (a.0 ∙ sym (mark_law mark all b r.state (some_or plain (mark_in r.state all)) (a_state_there r.state all h.0)), marks_found mark all rs a.1 b h.1)
+    (a.0 ∙ sym (mark_law mark all b r.state (some_or plain (mark_in r.state all)) (a_state_there r.state all (sym (states_in r.state all) ∙ h.0))), marks_found mark all rs a.1 b h.1)
 
 -- the printed rows have the same sum of each mark
 pub printed_marked : (mark : List ℕ → Mark) (m : Mark) (rs : List Row) → Marks mark rs → marked_sum m (printed_rows rs) ≡ marked_sum m rs
 printed_marked mark m rs a =
     let there : AllByRecursion (λ (r : Row). list_any (bytes_eq r.state) (states_of rs) ≡ true) rs = in_states rs rs (λ x e. states_in x rs ∙ e) in
-    let found : AllByRecursion (λ (r : Row). r.mark ≡ some_or plain (mark_in r.state rs)) rs = marks_found mark rs rs a a (all_of_same (λ (r : Row). list_any (bytes_eq r.state) (states_of rs) ≡ true) (λ (r : Row). list_any (bytes_eq r.state) (map (λ (q : Row). q.state) rs) ≡ true) (λ r e. sym (states_in r.state rs) ∙ e) rs there) in
+    let found : AllByRecursion (λ (r : Row). r.mark ≡ some_or plain (mark_in r.state rs)) rs = marks_found mark rs rs a a there in
     ap (marked_sum m) (as_rows rs) ∙ marked_by (λ s. some_or plain (mark_in s rs)) (λ s. state_sum s rs) m (states_of rs)
     ∙ sum_over (λ s. some_or plain (mark_in s rs)) m rs (states_of rs) (ascends_distinct (states_of rs) (states_ascend rs)) there found

@@ -92,56 +92,46 @@ with_fact : (entries : List Entry) (name : List ℕ) (fact : Fact) → facts_of 
 with_fact entries name fact = facts_both name entries (entry name fact ∷ []) ∙ ap (λ t. facts_of name entries ++ t) (fact_here name (entry name fact) [] (bytes_same name))
 
 -- places
-kind_left : (k : Kind) (n : ℕ) → kind_at (states_left k n) ≡ k
-kind_left k zero = refl
-kind_left k (suc n) = refl
+-- a place is in a block of a kind, before its condition
+record IsBefore (k : Kind) (place : Place) : Type 0 where
+  kind : kind_at place ≡ k
+  inside : is_outside place ≡ false
+  before : is_after place ≡ false
 
-kind_after : (k : Kind) (n : ℕ) → kind_at (after_state k n) ≡ k
-kind_after k zero = refl
-kind_after k (suc n) = kind_left k n
-
-not_after_left : (k : Kind) (n : ℕ) → is_after (states_left k n) ≡ false
+-- the places of the states and the one after them are such places
+left_before : (k : Kind) (n : ℕ) → IsBefore k (states_left k n)
 unfolding is_after log_line_said words log_row count_read leading_run after_run before_blanks
-not_after_left k zero = refl
-not_after_left k (suc n) = refl
+left_before k zero = record { kind = refl; inside = refl; before = refl }
+left_before k (suc n) = record { kind = refl; inside = refl; before = refl }
 
-not_after_state : (k : Kind) (n : ℕ) → is_after (after_state k n) ≡ false
-unfolding is_after log_line_said words log_row count_read leading_run after_run before_blanks
-not_after_state k zero = refl
-not_after_state k (suc n) = not_after_left k n
+state_before : (k : Kind) (n : ℕ) → IsBefore k (after_state k n)
+state_before k zero = left_before k zero
+state_before k (suc n) = left_before k n
 
 not_after_histogram : (k : Kind) → is_after (histogram k) ≡ false
 unfolding is_after place_after log_line_said words histogram_line
 not_after_histogram k = refl
 
-not_after_rest : (k : Kind) → is_after (in_rest k) ≡ false
+rest_before : (k : Kind) → IsBefore k (in_rest k)
 unfolding is_after place_after log_line_said words
-not_after_rest k = refl
-
-inside_left : (k : Kind) (n : ℕ) → is_outside (states_left k n) ≡ false
-inside_left k zero = refl
-inside_left k (suc n) = refl
-
-inside_after : (k : Kind) (n : ℕ) → is_outside (after_state k n) ≡ false
-inside_after k zero = refl
-inside_after k (suc n) = inside_left k n
+rest_before k = record { kind = refl; inside = refl; before = refl }
 
 not_both : {G : Type 0} (b : Bool) → b ≡ true → b ≡ false → G
 not_both b h k = let f : true ≡ false = sym h ∙ k in absurd (cc)
 
 -- a step that gives no fact, to a place that isn't after a condition
-moved : (s : LogSeen) (place : Place) (line : ℕ) → Keeps s → is_outside s.place ≡ false → kind_at place ≡ kind_at s.place → is_outside place ≡ false → is_after place ≡ false → Keeps (record s { place = place; line = line })
-moved s place line k o e i b = record {
+moved : (s : LogSeen) (place : Place) (line : ℕ) → Keeps s → is_outside s.place ≡ false → IsBefore (kind_at s.place) place → Keeps (record s { place = place; line = line })
+moved s place line k o b = record {
   given = k.given;
   named = λ h. k.named o;
-  kind = λ h. k.kind o ∙ ap Some (sym e);
-  after = λ h f. not_both (is_after place) f b;
+  kind = λ h. k.kind o ∙ ap Some (sym b.kind);
+  after = λ h f. not_both (is_after place) f b.before;
   tests = λ name h. by_represent name (k.tests name h);
 }
   where
     by_represent : (name : List ℕ) → WholeOrRunning s name → WholeOrRunning (record s { place = place; line = line }) name
     by_represent name (whole complete) = whole complete
-    by_represent name (running inside same) = running i same
+    by_represent name (running inside same) = running b.inside same
 
 -- the end of a block
 ended : (s : LogSeen) (line : ℕ) → Keeps s → is_outside s.place ≡ false → is_after s.place ≡ true → Keeps (record s { place = outside; line = line })
@@ -259,14 +249,15 @@ said_keeps s t (begins name kind) k a e =
     subst Keeps f.1 (begun s name kind (next_line s.line) k a.0 a.1 f.0)
 said_keeps s t (counts n) k a e =
     let same : record s { place = states_left (kind_at s.place) n; line = next_line s.line } ≡ t = cc in
-    subst Keeps same (moved s (states_left (kind_at s.place) n) (next_line s.line) k a (kind_left (kind_at s.place) n) (inside_left (kind_at s.place) n) (not_after_left (kind_at s.place) n))
+    subst Keeps same (moved s (states_left (kind_at s.place) n) (next_line s.line) k a (left_before (kind_at s.place) n))
 said_keeps s t (a_state row) k a e =
     let place : Place = after_state (kind_at s.place) (left_at s.place) in
+    let before = state_before (kind_at s.place) (left_at s.place) in
     let f = fact_or_fault (record s { place = place }) t (a_row row) e in
-    subst Keeps f.1 (printable_more s place (next_line s.line) (a_row row) k a.0 a.1 (kind_after (kind_at s.place) (left_at s.place)) (inside_after (kind_at s.place) (left_at s.place)) (λ b. not_both (is_after place) b (not_after_state (kind_at s.place) (left_at s.place))))
+    subst Keeps f.1 (printable_more s place (next_line s.line) (a_row row) k a.0 a.1 before.kind before.inside (λ b. not_both (is_after place) b before.before))
 said_keeps s t judged k a e =
     let same : record s { place = in_rest (kind_at s.place); line = next_line s.line } ≡ t = cc in
-    subst Keeps same (moved s (in_rest (kind_at s.place)) (next_line s.line) k a refl refl (not_after_rest (kind_at s.place)))
+    subst Keeps same (moved s (in_rest (kind_at s.place)) (next_line s.line) k a (rest_before (kind_at s.place)))
 said_keeps s t (conditioned text verdict) k a e =
     let f = fact_or_fault (record s { place = conditioned_at (kind_at s.place) }) t (a_condition text verdict) e in
     subst Keeps f.1 (printable_more s (conditioned_at (kind_at s.place)) (next_line s.line) (a_condition text verdict) k a.0 tt refl refl

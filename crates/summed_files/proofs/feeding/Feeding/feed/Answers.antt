@@ -1,5 +1,5 @@
 -- `Feeding::feed` answers a fault that a piece shows, or that the log goes past 2^40 bytes.
-use Rattle.std.proofs.Common.{◌+◌, ◌++◌, take, sym, subst, arith}
+use Rattle.std.proofs.Common.{◌++◌, take, sym, subst, arith}
 use Rattle.summed_files.specs.FileFeeding.{IsFaultOfLogs}
 use Rattle.summed_files.proofs.FeedingLaws.{piece_refused, piece_full}
 use Rattle.summed_files.proofs.feeding.Feeding.feed.Goals as goal
