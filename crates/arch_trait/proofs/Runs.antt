@@ -124,11 +124,12 @@ pub record DidStep (a : Puts) (w : Way) (s : Step) (r : Run) (vs more : List ℕ
   pub places : HoldsPlaces after (further a w s).regs
   pub filled : HoldsRead after (next_filled a w s) (first_number vs) r.state.loads
 
--- the code of the link of an access came to its end, and the run is ready for the access
+-- the code of the link of an access came to its end, the run is ready for the access, and the code of the step goes on with it
 pub record DidItsLink (a : Puts) (w : Way) (s : Step) (r : Run) : Type 0 where
   pub link : DidLink (a.link s.link (from_of s.link w.last) w.label) r (link_items s.link (r.state.loads - 1) r.state.control)
       (link_control s.link (r.state.loads - 1) r.state.control)
   pub ready : ReadyForAccess link.after w.regs (next_put a w s).regs s.link (from_of s.link w.last) (r.state.loads - 1)
+  pub goes_on : exec (step_code a w s) (At r) ≡ exec (next_put a w s).code (At link.after)
 
 its_link_runs : (a : Puts) → IsArch a → (w : Way) (s : Step) (after_load : Bool) (r : Run) →
     FitStep a.name after_load s → IsTaken w.regs → HoldsPlaces r (further a w s).regs →
@@ -146,6 +147,7 @@ its_link_runs a laws w s b r fit taken places source =
         places = λ p q e. ap (λ f. f q) l.regs_is ∙ places p q e;
         source = λ e. source_along r l.after from k l.regs_is (dep e);
       };
+      goes_on = exec_append (a.link s.link from w.label) (next_put a w s).code (At r) ∙ ap (λ p. exec (next_put a w s).code p) l.ran;
     }
 
 step_runs : (a : Puts) → IsArch a → (w : Way) (s : Step) (after_load : Bool) (r : Run)
@@ -162,9 +164,7 @@ step_runs a laws w s b r vs more fit taken places source first reads =
     (l.reads_is ∙ reads) in
     record {
       after = d.after;
-      ran =
-          exec_append (a.link s.link from w.label) (next_put a w s).code (At r) ∙
-          (ap (λ p. exec (next_put a w s).code p) l.ran ∙ d.ran);
+      ran = linked.goes_on ∙ d.ran;
       made_is =
           d.made_is ∙
           (ap (λ c. l.after.made ++ access_item s s.dir (first_number vs) k c ∷ []) l.control_is ∙
@@ -277,6 +277,17 @@ places_now : (a : Puts) → IsArch a → (w : Way) (s : Step) (ss : List Step) (
 places_now a laws w s ss b r fit places p q e =
     places p q ((thread_grew a laws b (further a w s) ss fit).kept p q e)
 
+-- after a step the run is ready for the accesses that follow
+begins_next : (a : Puts) → IsArch a → (s : Step) (ss : List Step) (w : Way) (after_load : Bool) (r : Run) (vs more : List ℕ) →
+    FitSteps a.name after_load (s ∷ ss) → Begins a w (s ∷ ss) after_load r → (d : DidStep a w s r vs more) →
+    Begins a (further a w s) ss (is_load_dir s.dir) d.after
+begins_next a laws s ss w b r vs more fit begins d = record {
+  taken = (step_grew a laws w s fit.0.value).taken begins.taken;
+  places = places_along a laws w s ss (is_load_dir s.dir) r vs more fit.1 begins.places d;
+  source = λ e. source_after d.after s.dir (next_filled a w s) (first_number vs) r.state.loads
+      (filled_some a w.regs (from_of s.link w.last) s s.dir) d.filled d.loads_is e;
+}
+
 -- a load's register keeps what it read
 read_kept : (r u : Run) (low high : ℕ) (q : Option ℕ) (v n : ℕ) →
     ((s : ℕ) → s < high → u.state.regs s ≡ r.state.regs s) → IsWithin low high q →
@@ -331,12 +342,7 @@ thread_runs a laws (s ∷ ss) w b r vs more fit begins count reads =
     let d = step_runs a laws w s b r vs more fit.0 begins.taken
     (places_now a laws w s ss (is_load_dir s.dir) r fit.1 begins.places) begins.source c.0 reads in
     let from = from_of s.link w.last in
-    let next : Begins a (further a w s) ss (is_load_dir s.dir) d.after = record {
-      taken = (step_grew a laws w s fit.0.value).taken begins.taken;
-      places = places_along a laws w s ss (is_load_dir s.dir) r vs more fit.1 begins.places d;
-      source = λ e. source_after d.after s.dir (next_filled a w s) (first_number vs) r.state.loads
-          (filled_some a w.regs from s s.dir) d.filled d.loads_is e;
-    } in
+    let next = begins_next a laws s ss w b r vs more fit begins d in
     let f = thread_runs a laws ss (further a w s) (is_load_dir s.dir) d.after (left_after s.dir vs) more
     fit.1 next c.1 d.reads_is in
     let k = r.state.loads - 1 in
@@ -397,12 +403,7 @@ step_wants a laws w s b r fit taken places source e reads =
     let l = linked.link in
     let h = access_wants a laws w.regs from s s.dir b l.after k fit fit.to_store fit.mark_fitting linked.ready e
     (l.reads_is ∙ reads) in
-    record {
-      run = h.run;
-      is =
-          exec_append (a.link s.link from w.label) (next_put a w s).code (At r) ∙
-          (ap (λ p. exec (next_put a w s).code p) l.ran ∙ h.is);
-    }
+    record { run = h.run; is = linked.goes_on ∙ h.is }
 
 apart : {b : Bool} → b ≡ true → b ≡ false → ⊥
 apart {b} t f = let g : true ≡ false = sym t ∙ f in cc
@@ -432,12 +433,7 @@ wants_later a laws s ss w b r vs fit begins first few reads later =
     let now = places_now a laws w s ss (is_load_dir s.dir) r fit.1 begins.places in
     let d = step_runs a laws w s b r vs [] fit.0 begins.taken now begins.source first
     (reads ∙ sym (append-nil vs)) in
-    let next : Begins a (further a w s) ss (is_load_dir s.dir) d.after = record {
-      taken = (step_grew a laws w s fit.0.value).taken begins.taken;
-      places = places_along a laws w s ss (is_load_dir s.dir) r vs [] fit.1 begins.places d;
-      source = λ e. source_after d.after s.dir (next_filled a w s) (first_number vs) r.state.loads
-          (filled_some a w.regs (from_of s.link w.last) s s.dir) d.filled d.loads_is e;
-    } in
+    let next = begins_next a laws s ss w b r vs [] fit begins d in
     let h = later d.after (left_after s.dir vs) next
     (fewer s.dir vs (loads_in ss) (omega (arith, few, reads_cons s ss)) first)
     (d.reads_is ∙ append-nil (left_after s.dir vs)) in

@@ -65,7 +65,7 @@ op_text w names op = written_text (w.written names op)
 abbrev pub name_in : List (List ℕ) → ℕ → List ℕ
 name_in names i = get_or names i []
 
--- the name of label n: LC and the number in two digits
+-- the name of label n: LC and the number, in two digits where it is below 100
 abbrev pub label_name : ℕ → List ℕ
 label_name n = codes "LC" ++ (48 + n / 10) ∷ (48 + n % 10) ∷ []
 

@@ -32,7 +32,7 @@ pub fn push_digit<const N: usize>(digit: u32, out: &mut ArrayString<N>)
     push_ascii(b'0' + digit as u8, out);
 }
 
-/// Appends the name of a label: LC and its number in two digits.
+/// Appends the name of a label: LC and its number, in two digits where it is below 100.
 #[inline]
 pub fn push_label<const N: usize>(label: u8, out: &mut ArrayString<N>)
     requires room { length out.old.bytes + 4 ≤ N }
