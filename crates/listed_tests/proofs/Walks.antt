@@ -42,16 +42,6 @@ module _ {K J P : Type 0} where
   lists_as : (post : P → (Bor (List Edge) × Unit {0}) → Bool → Type 0) (v w : Walking K J P) (Said : (List Edge → Type 0) → Type 0) → w ≡ record v { last = w.last } → Said (Lists post w) → Said (Lists post v)
   lists_as post v w Said e h = subst (λ x. Said (Lists post x)) e h
 
-  -- it has the closures that it had
-  pub record SameClosures (v w : Walking K J P) : Type 0 where
-    pub keep : w.keep ≡ v.keep
-    pub fit : w.fit ≡ v.fit
-    pub take : w.take ≡ v.take
-
-  -- it has them where it only went on
-  pub same_closures : (v w : Walking K J P) → w ≡ record v { last = w.last } → SameClosures v w
-  same_closures v w e = record { keep = ap (λ w. w.keep) e; fit = ap (λ w. w.fit) e; take = ap (λ w. w.take) e }
-
   -- it went on
   pub went_on : (v w x : Walking K J P) (u : List Edge) → w ≡ record v { last = w.last } → x ≡ record w { last = Some u } → x ≡ record v { last = x.last }
   went_on v w x u e f =

@@ -1,15 +1,12 @@
 -- That `next_made` gives the next cycle of a walk that has a test.
 use Rattle.listed_tests.proofs.PassingOver.{passes_none, passes_one, passes_to, passes_all}
-use Rattle.listed_tests.proofs.Walks.{same_closures}
 use Rattle.listed_tests.proofs.listing.next_made.Goals as goal
 
 pub loop-cycle-init : goal.loop-cycle-init
 loop-cycle-init g c = passes_none g.P.Fn.post g.A.Arch.puts c.args.mode c.args.walk.now
 
 pub next-requires : goal.next-requires
-next-requires g c =
-    let same = same_closures c.args.walk.now c.loop-cycle.walk c.loop-cycle.invariant.walk in
-    record { knows = rw (same.keep, same.fit, same.take) c.requires.knows }
+next-requires g c = record { knows = rw c.loop-cycle.invariant.walk c.requires.knows }
 
 pub returns-then-make_test-clause-next : goal.returns-then-make_test-clause-next
 returns-then-make_test-clause-next g c =

@@ -5,7 +5,7 @@ use Rattle.walk_laws.specs.Listing.{IsAnswer}
 use Rattle.cycle_enum.specs.Walking.{Lists}
 use Rattle.listed_tests.specs.Plans.{HaveTests, folder_of, named_text}
 use Rattle.listed_tests.proofs.Going.{goes_first, goes_on, goes_stop, goes_end}
-use Rattle.listed_tests.proofs.Walks.{same_closures, tested_as, went_on, went_further}
+use Rattle.listed_tests.proofs.Walks.{tested_as, went_on, went_further}
 use Rattle.listed_tests.proofs.listing.put_tests.Goals as goal
 
 pub loop-cycle-init : goal.loop-cycle-init
@@ -16,9 +16,7 @@ loop-cycle-init g c = record {
 }
 
 pub next_made-requires : goal.next_made-requires
-next_made-requires g c =
-    let same = same_closures c.args.walk.now c.loop-cycle.walk c.loop-cycle.invariant.walk in
-    record { knows = rw (same.keep, same.fit, same.take) c.requires.knows }
+next_made-requires g c = record { knows = rw c.loop-cycle.invariant.walk c.requires.knows }
 
 pub returns-in_err-file-clause-failed : goal.returns-in_err-file-clause-failed
 returns-in_err-file-clause-failed g c =

@@ -8,7 +8,7 @@ use Rattle.listed_tests.specs.Plans.{HaveTests}
 use Rattle.listed_tests.specs.Putting.{Filling}
 use Rattle.listed_tests.proofs.Going.{naming_none, naming_first, naming_written, naming_more, naming_done, naming_stop}
 use Rattle.listed_tests.proofs.Shelves.{filling_begun, filling_more, filling_part, closed_ok, closed_err, ok_so, err_so}
-use Rattle.listed_tests.proofs.Walks.{same_closures, least_again, tested_as, went_on}
+use Rattle.listed_tests.proofs.Walks.{least_again, tested_as, went_on}
 use Rattle.listed_tests.proofs.names.append_after.Goals as goal
 use Rattle.listed_tests.proofs.names.append_after.Goals.{then-remaining_capacity-lt-MAX_LINE+in_ok-append, else-remaining_capacity-lt-MAX_LINE}
 
@@ -25,9 +25,7 @@ loop-cycle-init g c = record {
 }
 
 pub next_accepted-requires : goal.next_accepted-requires
-next_accepted-requires g c =
-    let same = same_closures c.args.walk.now c.loop-cycle.walk c.loop-cycle.invariant.walk in
-    record { knows = rw (same.keep, same.fit, same.take) c.requires.knows }
+next_accepted-requires g c = record { knows = rw c.loop-cycle.invariant.walk c.requires.knows }
 
 pub returns-in_err-append-clause-failed : goal.returns-in_err-append-clause-failed
 returns-in_err-append-clause-failed g c =
