@@ -159,17 +159,26 @@ did_store mark code r u g h p n mask data_mask ran w made control loads reads = 
   places = w.places;
 }
 
--- a link without code changes nothing
-pub did_nothing : (r : Run) → DidLink [] r [] r.state.control
-did_nothing r = record {
-  after = r;
-  ran = refl;
+-- a run with other flags, and with branches that depend on other loads
+abbrev pub with_control : Run → Bool → ℕ → ℕ → Run
+with_control r flag flag_mask control = record r { state = record r.state { flag = flag; flag_mask = flag_mask; control = control } }
+
+-- code that changes no more than these does what a link without items does
+pub did_control : (code : List Micro) (r : Run) (flag : Bool) (flag_mask control : ℕ) → exec code (At r) ≡ At (with_control r flag flag_mask control) →
+    DidLink code r [] control
+did_control code r flag flag_mask control ran = record {
+  after = with_control r flag flag_mask control;
+  ran = ran;
   made_is = sym (append-nil r.made);
   control_is = refl;
   loads_is = refl;
   reads_is = refl;
   regs_is = refl;
 }
+
+-- a link without code changes nothing
+pub did_nothing : (r : Run) → DidLink [] r [] r.state.control
+did_nothing r = did_control [] r r.state.flag r.state.flag_mask r.state.control refl
 
 -- a barrier after the code of a link
 pub did_barrier : (code : List Micro) (kind : Barrier) (r : Run) (c : ℕ) → DidLink code r [] c →

@@ -149,7 +149,7 @@ store_op_runs Release fits v a p n mask data_mask r e holds = run_store_release 
 store_op_runs Acquire fits v a p n mask data_mask r e holds = cc
 
 -- once the address is in a register, the others are as they were
-pub but_address : (d p mask : ℕ) (r : Run) → IsBut d r (holding r d (address_held p mask))
+but_address : (d p mask : ℕ) (r : Run) → IsBut d r (holding r d (address_held p mask))
 but_address d p mask r = record {
   regs = λ s e. written_other r.state.regs d s (address_held p mask) e;
   made = refl;
@@ -158,20 +158,53 @@ but_address d p mask r = record {
   reads = refl;
 }
 
--- the same at an address that depends on a register
+-- an address that is made in a register, and a load there
+pub loads_there : (makes : Micro) (mark : Mark) → mark_fits dirs.R mark ≡ true → (d v p n mask : ℕ) (vs : List ℕ) (r : Run) →
+    go makes (At r) ≡ At (holding r d (address_held p mask)) → r.reads ≡ n ∷ vs → LoadsBy mark (makes ∷ load_op mark v d ∷ []) r d v p n mask vs
+loads_there makes mark fits d v p n mask vs r made reads =
+    let u = holding r d (address_held p mask) in
+    record {
+      before = u;
+      ran =
+          ap (λ x. go (load_op mark v d) x) made ∙
+          load_op_runs mark fits v d p n mask vs u (written_same r.state.regs d (address_held p mask)) reads;
+      same = but_address d p mask r;
+    }
+
+-- without a number to read, the load there wants one
+pub wants_there : (makes : Micro) (mark : Mark) (d v p mask : ℕ) (r : Run) → go makes (At r) ≡ At (holding r d (address_held p mask)) → r.reads ≡ [] →
+    IsWanting (exec (makes ∷ load_op mark v d ∷ []) (At r))
+wants_there makes mark d v p mask r made reads =
+    let u = holding r d (address_held p mask) in
+    record {
+      run = u;
+      is =
+          ap (λ x. go (load_op mark v d) x) made ∙
+          load_op_wants mark v d p mask u (written_same r.state.regs d (address_held p mask)) reads;
+    }
+
+-- an address that is made in a register, and a store there of another register
+pub stores_there : (makes : Micro) (mark : Mark) → mark_fits dirs.W mark ≡ true → (d v p n mask : ℕ) (r : Run) →
+    go makes (At r) ≡ At (holding r d (address_held p mask)) → r.state.regs v ≡ num n 0 → (v == d) ≡ false →
+    StoresBy mark (makes ∷ store_op mark v d ∷ []) r d p n mask
+stores_there makes mark fits d v p n mask r made holds apart =
+    let u = holding r d (address_held p mask) in
+    record {
+      before = u;
+      ran =
+          ap (λ x. go (store_op mark v d) x) made ∙
+          store_op_runs mark fits v d p n mask 0 u (written_same r.state.regs d (address_held p mask))
+          (written_other r.state.regs d v (address_held p mask) apart ∙ holds);
+      same = but_address d p mask r;
+    }
+
+-- a load of a mark at an address that depends on a register makes its access
 pub load_through_runs : (own : Instructions) → KeepsInstructions own → (mark : Mark) → mark_fits dirs.R mark ≡ true →
     (d v a p n mask : ℕ) (vs : List ℕ) (r : Run) → r.state.regs a ≡ held_at_place p →
     r.state.regs d ≡ num 0 mask → r.reads ≡ n ∷ vs → LoadsBy mark (load_through own mark d v a) r d v p n mask vs
 load_through_runs own keeps Plain fits d v a p n mask vs r e g reads = keeps.accesses.load_runs d v a p n mask vs r e g reads
 load_through_runs own keeps Acquire fits d v a p n mask vs r e g reads =
-    let u = holding r d (address_held p mask) in
-    record {
-      before = u;
-      ran =
-          ap (λ x. go (ops.LoadAcq v d) x) (run_add_to_address d a d p mask r e g) ∙
-          run_load_acquire v d p n mask vs u (written_same r.state.regs d (address_held p mask)) reads;
-      same = but_address d p mask r;
-    }
+    loads_there (ops.Add d a d) Acquire fits d v p n mask vs r (run_add_to_address d a d p mask r e g) reads
 load_through_runs own keeps Release fits d v a p n mask vs r e g reads = cc
 
 -- without a number to read, a load of a mark at an address that depends on a register wants one
@@ -181,13 +214,7 @@ pub load_through_wants : (own : Instructions) → KeepsInstructions own → (mar
 load_through_wants own keeps Plain d v a p mask r e g reads = keeps.accesses.load_wants d v a p mask r e g reads
 load_through_wants own keeps Release d v a p mask r e g reads = keeps.accesses.load_wants d v a p mask r e g reads
 load_through_wants own keeps Acquire d v a p mask r e g reads =
-    let u = holding r d (address_held p mask) in
-    record {
-      run = u;
-      is =
-          ap (λ x. go (ops.LoadAcq v d) x) (run_add_to_address d a d p mask r e g) ∙
-          run_load_acquire_wants v d p mask u (written_same r.state.regs d (address_held p mask)) reads;
-    }
+    wants_there (ops.Add d a d) Acquire d v p mask r (run_add_to_address d a d p mask r e g) reads
 
 -- a store of a mark at an address that depends on a register makes its access
 pub store_through_runs : (own : Instructions) → KeepsInstructions own → (mark : Mark) → mark_fits dirs.W mark ≡ true →
@@ -196,15 +223,7 @@ pub store_through_runs : (own : Instructions) → KeepsInstructions own → (mar
 store_through_runs own keeps Plain fits d v a p n mask r e g holds apart =
     keeps.accesses.store_runs d v a p n mask r e g holds apart
 store_through_runs own keeps Release fits d v a p n mask r e g holds apart =
-    let u = holding r d (address_held p mask) in
-    record {
-      before = u;
-      ran =
-          ap (λ x. go (ops.StoreRel v d) x) (run_add_to_address d a d p mask r e g) ∙
-          run_store_release v d p n mask 0 u (written_same r.state.regs d (address_held p mask))
-          (written_other r.state.regs d v (address_held p mask) apart ∙ holds);
-      same = but_address d p mask r;
-    }
+    stores_there (ops.Add d a d) Release fits d v p n mask r (run_add_to_address d a d p mask r e g) holds apart
 store_through_runs own keeps Acquire fits d v a p n mask r e g holds apart = cc
 
 -- the code of a load at an address that depends on a register is short

@@ -13,7 +13,6 @@ use Rattle.relax_edges.specs.declared.kinds.Dir.TheVariants as dirs
 use Rattle.relax_edges.specs.declared.kinds.ArchName.{ArchName}
 use Rattle.micro_ops.specs.Machine.{bit}
 use Rattle.arch_trait.specs.declared.link.Link.{Link}
-use Rattle.arch_trait.specs.declared.link.Link.TheVariants as links
 use Rattle.arch_trait.specs.declared.step.Step.{Step}
 use Rattle.arch_laws.proofs.Accesses.{branch_depends}
 use Rattle.arch_trait.specs.Links.{branches, link_control, link_items}

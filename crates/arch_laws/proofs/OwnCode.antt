@@ -2,20 +2,21 @@
 -- accesses at an address that depends on a register, and what joins a dependency to a number. What each sort of them keeps is
 -- proved here once; an architecture says of which sort its own are, and that its table has them.
 -- Source: own.
-use Rattle.std.proofs.Common.{ℕ, ◌+◌, ◌<◌, ◌≤◌, ◌^◌, ◌≡◌, refl, Bool, true, bit_or, List, [], ◌∷◌, ◌++◌, length, Some, None, ◌∙◌, sym, ap, append-nil, arith}
+use Rattle.std.proofs.Common.{ℕ, ◌+◌, ◌<◌, ◌≤◌, ◌^◌, ◌≡◌, refl, Bool, true, bit_or, List, [], ◌∷◌, ◌++◌, length, Some, None, ◌∙◌, ap, arith}
 use Rattle.std.specs.List.{list_all}
 use Rattle.std.proofs.lemmas.Bool.{and_from, or_left, eq-eqb}
+use Rattle.relax_edges.specs.declared.kinds.Mark.TheVariants.{Plain}
 use Rattle.micro_ops.specs.declared.held.Held.{Held}
 use Rattle.micro_ops.specs.declared.operation.Micro.{Micro}
 use Rattle.micro_ops.specs.declared.operation.Micro.TheVariants as ops
-use Rattle.micro_ops.specs.Machine.{num, address_held, bit}
-use Rattle.micro_ops.specs.Running.{Run, At, go, exec, labels_of, lands}
+use Rattle.micro_ops.specs.Machine.{num, bit}
+use Rattle.micro_ops.specs.Running.{Run, At, labels_of, lands}
 use Rattle.arch_trait.specs.Cells.{access_count}
 use Rattle.arch_trait.specs.Laws.{DidLink, is_at_place}
 use Rattle.arch_laws.proofs.Masks.{zero_or}
-use Rattle.arch_laws.proofs.Rules.{holding, after_cmp, after_branch, run_add_imm, run_or_imm, run_add_address, run_load, run_load_wants, run_load_index, run_load_index_wants, run_store, run_store_index, run_cmp_branch, run_branch_nz}
-use Rattle.arch_laws.proofs.Accesses.{written_same, written_other}
-use Rattle.arch_laws.proofs.AddressedInstructions.{IsBranch, AreDependent, IsJoining, same_run, but_address}
+use Rattle.arch_laws.proofs.Rules.{holding, after_cmp, after_branch, run_add_imm, run_or_imm, run_add_address, run_load_index, run_load_index_wants, run_store_index, run_cmp_branch, run_branch_nz}
+use Rattle.arch_laws.proofs.Accesses.{did_control}
+use Rattle.arch_laws.proofs.AddressedInstructions.{IsBranch, AreDependent, IsJoining, same_run, loads_there, wants_there, stores_there}
 
 -- what a link's laws ask of code, but for its run
 record Asked : Type 0 where
@@ -30,19 +31,6 @@ asked code = record {
   jumps = lands code;
   no_place = λ p. list_all (is_at_place p) code;
   accesses = access_count code;
-}
-
--- what changes the flags alone, and then branches depending on the loads of a mask, does what a link of this mask does
-branched : (code : List Micro) (r : Run) (equal : Bool) (flag_mask mask : ℕ) → exec code (At r) ≡ At (after_branch (after_cmp r equal flag_mask) mask) →
-    DidLink code r [] (bit_or r.state.control mask)
-branched code r equal flag_mask mask ran = record {
-  after = after_branch (after_cmp r equal flag_mask) mask;
-  ran = ran;
-  made_is = sym (append-nil r.made);
-  control_is = refl;
-  loads_is = refl;
-  reads_is = refl;
-  regs_is = refl;
 }
 
 -- short code of which the laws ask no more than of one branch to the label after it depends on a register, if its runs do
@@ -62,13 +50,13 @@ is_branch branch room same runs = record {
 -- a comparison of a register with itself and a branch where the two are equal depend on the register
 pub compares : IsBranch (λ s n. ops.Cmp s s ∷ ops.BranchEq n ∷ [])
 compares = is_branch _ (λ s n. omega arith) (λ s n rest. refl)
-    (λ s n v k r e. branched _ r true (bit k) (bit k)
+    (λ s n v k r e. did_control _ r true (bit k) (bit_or r.state.control (bit k))
     (run_cmp_branch s n r ∙ ap (λ m. At (after_branch (after_cmp r true m) m)) (ap (λ (h : Held). h.mask) e)))
 
 -- a branch where a register isn't 0 depends on the register
 pub tests : IsBranch (λ s n. ops.BranchNz s n ∷ [])
 tests = is_branch _ (λ s n. omega arith) (λ s n rest. refl)
-    (λ s n v k r e. branched _ r r.state.flag r.state.flag_mask (bit k) (run_branch_nz s n v (bit k) r e))
+    (λ s n v k r e. did_control _ r r.state.flag r.state.flag_mask (bit_or r.state.control (bit k)) (run_branch_nz s n v (bit k) r e))
 
 -- accesses with an index register depend on it
 pub indexed : AreDependent (λ d v a. ops.Load v a (Some d) ∷ []) (λ d v a. ops.Store v a (Some d) ∷ [])
@@ -97,34 +85,12 @@ indexed = record {
 pub added : AreDependent (λ d v a. ops.Add d d a ∷ ops.Load v d None ∷ []) (λ d v a. ops.Add d d a ∷ ops.Store v d None ∷ [])
 added = record {
   load_runs = λ d v a p n mask vs r e g reads.
-      let u = holding r d (address_held p mask) in
-      record {
-        before = u;
-        ran =
-            ap (λ x. go (ops.Load v d None) x) (run_add_address d d a p mask r g e) ∙
-            run_load v d p n mask vs u (written_same r.state.regs d (address_held p mask)) reads;
-        same = but_address d p mask r;
-      };
-  load_wants = λ d v a p mask r e g reads.
-      let u = holding r d (address_held p mask) in
-      record {
-        run = u;
-        is =
-            ap (λ x. go (ops.Load v d None) x) (run_add_address d d a p mask r g e) ∙
-            run_load_wants v d p mask u (written_same r.state.regs d (address_held p mask)) reads;
-      };
+      loads_there (ops.Add d d a) Plain refl d v p n mask vs r (run_add_address d d a p mask r g e) reads;
+  load_wants = λ d v a p mask r e g reads. wants_there (ops.Add d d a) Plain d v p mask r (run_add_address d d a p mask r g e) reads;
   load_short = λ d v a. record { room = omega arith; labels = refl; lands = refl; no_place = λ p. refl };
   load_once = λ d v a. refl;
   store_runs = λ d v a p n mask r e g holds apart.
-      let u = holding r d (address_held p mask) in
-      record {
-        before = u;
-        ran =
-            ap (λ x. go (ops.Store v d None) x) (run_add_address d d a p mask r g e) ∙
-            run_store v d p n mask 0 u (written_same r.state.regs d (address_held p mask))
-            (written_other r.state.regs d v (address_held p mask) apart ∙ holds);
-        same = but_address d p mask r;
-      };
+      stores_there (ops.Add d d a) Plain refl d v p n mask r (run_add_address d d a p mask r g e) holds apart;
   store_short = λ d v a. record { room = omega arith; labels = refl; lands = refl; no_place = λ p. refl };
   store_once = λ d v a. refl;
 }

@@ -1,12 +1,18 @@
 -- Laws of the parts of an instruction's text, which read back or are plain.
-use Rattle.std.proofs.Common.{ℕ, ◌^◌, ◌<◌, ◌≡◌, true, List, ◌≤◌, Some}
+use Rattle.std.proofs.Common.{ℕ, ◌^◌, ◌<◌, ◌≡◌, Bool, true, false, List, ◌≤◌, Some}
 use Rattle.std.specs.Fmt.{decimal}
 use Rattle.std.specs.List.{list_all}
 use Rattle.arch_trait.specs.WordBytes.{is_instruction_byte}
-use Rattle.text_laws.specs.Names.{is_place_name}
-use Rattle.arch_trait.specs.Writing.{immediate_number, label, label_name, label_word, label_raw}
+use Rattle.text_laws.specs.Names.{is_place_name, is_place_byte}
+use Rattle.arch_trait.specs.Writing.{OperandTexts, listed, immediate_number, label, label_name, label_word, label_raw}
 use Rattle.micro_ops.specs.declared.operation.Micro.TheVariants as ops
+use Rattle.text_laws.proofs.RunLaws.{stops}
 use Rattle.arch_trait.proofs.PlainTexts as proved
+use Rattle.arch_trait.proofs.Spelling as spelling
+
+-- a byte of a place's name is neither a blank nor a comma
+pub place_word_byte : (byte : ℕ) → is_place_byte byte ≡ true → is_instruction_byte byte ≡ true
+place_word_byte byte h = proved.place_word_byte byte h
 
 -- a number in decimal has neither blanks nor commas
 pub decimal_plain : (n : ℕ) → n < 2 ^ 32 → list_all is_instruction_byte (decimal n) ≡ true
@@ -23,3 +29,7 @@ immediate_back n h = proved.immediate_back n h
 -- a label is read from its name and the colon
 pub label_back : (n : ℕ) → label_raw (label_word n) ≡ Some (record { op = ops.Label 0; name = label (label_name n) })
 label_back n = proved.label_back n
+
+-- the text of operands begins with no byte of a class without the space
+pub listed_stops : (passes : ℕ → Bool) (o : OperandTexts) → passes 32 ≡ false → stops passes (listed o) ≡ true
+listed_stops passes o e = spelling.listed_stops passes o e

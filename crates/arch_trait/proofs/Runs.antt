@@ -41,6 +41,10 @@ pub record DidAccess (a : Puts) (g : Taken) (from : Option ℕ) (s : Step) (d : 
   pub places : HoldsPlaces after (put_of a g from s d).regs
   pub filled : HoldsRead after (filled_by a g from s d) (first_number vs) r.state.loads
 
+-- a link before a load is no data dependency
+load_no_data : (link : Link) → (is_data link ≡ true → dirs.R ≡ dirs.W) → is_data link ≡ false
+load_no_data link w = by_test (is_data link) (λ t. let e = w t in cc) (λ t. t)
+
 access_runs : (a : Puts) → IsArch a → (g : Taken) (from : Option ℕ) (s : Step) (d : Dir)
     (after_load : Bool) (r : Run) (k : ℕ) (vs more : List ℕ) → FitStep a.name after_load s →
     (is_data s.link ≡ true → d ≡ dirs.W) → mark_fits d s.mark ≡ true →
@@ -50,7 +54,7 @@ access_runs a laws g from s dirs.R b r k vs more fit w m ready first reads =
     let e : r.reads ≡ first_number vs ∷ (left_after dirs.R vs ++ more) =
     reads ∙ ap (λ x. x ++ more) (first refl) in
     let l = laws.loads.runs g s.link s.mark from s.place r k (first_number vs) (left_after dirs.R vs ++ more)
-    fit.of_arch (by_test (is_data s.link) (λ t. absurd (not_both (w t))) (λ t. t))
+    fit.of_arch (load_no_data s.link w)
     (record { fits = m; of_arch = fit.mark_of_arch }) ready e in
     record {
       after = l.did.after;
@@ -64,9 +68,6 @@ access_runs a laws g from s dirs.R b r k vs more fit w m ready first reads =
       places = l.did.places;
       filled = l.got;
     }
-  where
-    not_both : dirs.R ≡ dirs.W → ⊥
-    not_both e = cc
 access_runs a laws g from s dirs.W b r k vs more fit w m ready first reads =
     let l = laws.stores.runs g s.link s.mark from s.place s.value r k fit.value fit.of_arch
     (record { fits = m; of_arch = fit.mark_of_arch }) ready in
@@ -385,11 +386,8 @@ access_wants : (a : Puts) → IsArch a → (g : Taken) (from : Option ℕ) (s : 
     IsWanting (exec (put_of a g from s d).code (At r))
 access_wants a laws g from s dirs.R b r k fit w m ready e reads =
     laws.loads.wants g s.link s.mark from s.place r k fit.of_arch
-    (by_test (is_data s.link) (λ t. absurd (not_both (w t))) (λ t. t))
+    (load_no_data s.link w)
     (record { fits = m; of_arch = fit.mark_of_arch }) ready reads
-  where
-    not_both : dirs.R ≡ dirs.W → ⊥
-    not_both f = cc
 access_wants a laws g from s dirs.W b r k fit w m ready e reads = cc
 
 step_wants : (a : Puts) → IsArch a → (w : Way) (s : Step) (after_load : Bool) (r : Run) →
