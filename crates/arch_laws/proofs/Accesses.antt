@@ -1,6 +1,7 @@
 -- What an architecture shows of its accesses: they write registers that were taken for them, and none
 -- that holds an address.
 use Rattle.std.proofs.Common.{ℕ, ◌+◌, ◌<◌, ◌≤◌, ◌≡◌, ◌==◌, refl, Bool, true, false, cond, not, ◌||◌, List, [], ◌∷◌, ◌++◌, Option, Some, None, ◌∙◌, sym, ap, subst, eq-eqb, ne_eqb, append-nil, arith}
+use Rattle.std.specs.List.{list_all}
 use Rattle.std.proofs.lemmas.Bool.{or_left, or_right}
 use Rattle.list_laws.proofs.Cases.{by_test, by_option}
 use Rattle.relax_edges.specs.declared.kinds.Dir.TheVariants as dirs
@@ -11,16 +12,33 @@ use Rattle.micro_ops.specs.declared.operation.Micro.TheVariants as ops
 use Rattle.micro_ops.specs.declared.operation.Item.TheVariants as items
 use Rattle.micro_ops.specs.declared.operation.Barrier.{Barrier}
 use Rattle.micro_ops.specs.Machine.{num, held_at_place, bit, written, address_held}
-use Rattle.micro_ops.specs.Running.{Run, At, go, exec}
+use Rattle.micro_ops.specs.Running.{Run, At, go, exec, labels_of, lands}
 use Rattle.arch_laws.proofs.Rules.{holding, after_load, after_store, after_barrier, run_xor, run_add_address, run_load}
 use Rattle.micro_ops.specs.RunLaws.{exec_append}
 use Rattle.arch_trait.specs.declared.link.Link.{Link}
 use Rattle.arch_trait.specs.declared.link.Link.TheVariants as links
+use Rattle.arch_trait.specs.Cells.{access_count}
 use Rattle.arch_trait.specs.Links.{branches, depends_on_load, is_addr, is_data}
 use Rattle.arch_trait.specs.Taking.{Taken, address_in, has_address, address_of, with_address}
-use Rattle.arch_trait.specs.Laws.{IsTaken, HoldsPlaces, HasSource, Did, DidLoad, DidLink, access_room}
+use Rattle.arch_trait.specs.Laws.{IsTaken, HoldsPlaces, HasSource, Did, DidLoad, DidLink, access_room, is_at_place}
 use Rattle.arch_laws.proofs.TakingLaws.{address_bounds, address_kept, address_added}
 use Rattle.relax_edges.specs.declared.kinds.Mark.TheVariants.{Plain}
+
+-- what laws ask of code, but for its run
+pub record Asked : Type 0 where
+  pub labels : List ℕ
+  pub jumps : Bool
+  pub at_place : ℕ → Bool
+  pub accesses : ℕ
+
+-- what they find in this code: its labels, whether its jumps land, whether it names no other place than one, and how many accesses it has
+abbrev pub asked : List Micro → Asked
+asked code = record {
+  labels = labels_of code;
+  jumps = lands code;
+  at_place = λ p. list_all (is_at_place p) code;
+  accesses = access_count code;
+}
 
 -- registers u come from r by writes of registers that were taken between g and h, and the address
 -- registers of h hold their places

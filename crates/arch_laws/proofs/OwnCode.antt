@@ -2,36 +2,19 @@
 -- accesses at an address that depends on a register, and what joins a dependency to a number. What each sort of them keeps is
 -- proved here once; an architecture says of which sort its own are, and that its table has them.
 -- Source: own.
-use Rattle.std.proofs.Common.{ℕ, ◌+◌, ◌<◌, ◌≤◌, ◌^◌, ◌≡◌, refl, Bool, true, bit_or, List, [], ◌∷◌, ◌++◌, length, Some, None, ◌∙◌, ap, arith}
-use Rattle.std.specs.List.{list_all}
+use Rattle.std.proofs.Common.{ℕ, ◌+◌, ◌<◌, ◌≤◌, ◌^◌, ◌≡◌, refl, true, bit_or, List, [], ◌∷◌, ◌++◌, length, Some, None, ◌∙◌, ap, arith}
 use Rattle.std.proofs.lemmas.Bool.{and_from, or_left, eq-eqb}
 use Rattle.relax_edges.specs.declared.kinds.Mark.TheVariants.{Plain}
 use Rattle.micro_ops.specs.declared.held.Held.{Held}
 use Rattle.micro_ops.specs.declared.operation.Micro.{Micro}
 use Rattle.micro_ops.specs.declared.operation.Micro.TheVariants as ops
 use Rattle.micro_ops.specs.Machine.{num, bit}
-use Rattle.micro_ops.specs.Running.{Run, At, labels_of, lands}
-use Rattle.arch_trait.specs.Cells.{access_count}
-use Rattle.arch_trait.specs.Laws.{DidLink, is_at_place}
+use Rattle.micro_ops.specs.Running.{Run, At}
+use Rattle.arch_trait.specs.Laws.{DidLink}
 use Rattle.arch_laws.proofs.Masks.{zero_or}
 use Rattle.arch_laws.proofs.Rules.{holding, after_cmp, after_branch, run_add_imm, run_or_imm, run_add_address, run_load_index, run_load_index_wants, run_store_index, run_cmp_branch, run_branch_nz}
-use Rattle.arch_laws.proofs.Accesses.{did_control}
+use Rattle.arch_laws.proofs.Accesses.{Asked, asked, did_control}
 use Rattle.arch_laws.proofs.AddressedInstructions.{IsBranch, AreDependent, IsJoining, same_run, loads_there, wants_there, stores_there}
-
--- what a link's laws ask of code, but for its run
-record Asked : Type 0 where
-  labels : List ℕ
-  jumps : Bool
-  no_place : ℕ → Bool
-  accesses : ℕ
-
-abbrev asked : List Micro → Asked
-asked code = record {
-  labels = labels_of code;
-  jumps = lands code;
-  no_place = λ p. list_all (is_at_place p) code;
-  accesses = access_count code;
-}
 
 -- short code of which the laws ask no more than of one branch to the label after it depends on a register, if its runs do
 is_branch : (branch : ℕ → ℕ → List Micro) → ((s n : ℕ) → length (branch s n) ≤ 2) →
@@ -43,7 +26,7 @@ is_branch branch room same runs = record {
   room = room;
   label = λ s n rest. ap (λ (a : Asked). a.labels) (same s n rest);
   jumps = λ s n rest h. ap (λ (a : Asked). a.jumps) (same s n rest) ∙ and_from _ _ (or_left _ _ (eq-eqb n n refl)) h;
-  no_place = λ s n p rest h. ap (λ (a : Asked). a.no_place p) (same s n rest) ∙ h;
+  no_place = λ s n p rest h. ap (λ (a : Asked). a.at_place p) (same s n rest) ∙ h;
   no_access = λ s n rest. ap (λ (a : Asked). a.accesses) (same s n rest);
 }
 

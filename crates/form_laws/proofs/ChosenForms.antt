@@ -7,6 +7,7 @@ use Rattle.std.proofs.lemmas.Bool.{and_parts, not-true}
 use Rattle.std.proofs.lemmas.Slice.Eq.{bytes_eq-Decides}
 use Rattle.list_laws.proofs.Cases.{by_test}
 use Rattle.micro_ops.specs.declared.operation.Micro.{Micro}
+use Rattle.arch_trait.specs.declared.arch.TheConstants.{MAX_TEXT}
 use Rattle.arch_trait.specs.Writing.{RawInstr}
 use Rattle.form_laws.specs.declared.kind.Operand.{Operand}
 use Rattle.form_laws.specs.Kinds.{operands_of, raw_with}
@@ -22,17 +23,20 @@ pub record GoodForm (f : FormText) : Type 0 where
   pub unending : list_any (bytes_eq f.word) ending_words ≡ false
   pub pieces : list_all is_piece_good f.pieces ≡ true
   pub few : nat_le (length f.pieces) 4 ≡ true
-  pub short : nat_le (length f.word + most_of f.pieces) 40 ≡ true
+  pub short : nat_le (length f.word + most_of f.pieces) MAX_TEXT ≡ true
 
 -- a form that passes its test has those parts
 pub form_is_good : (f : FormText) → is_form_good f ≡ true → GoodForm f
 unfolding is_form_good
 form_is_good f h =
-    let a = and_parts (nat_le 1 (length f.word) && list_all is_first_byte f.word) (not (list_any (bytes_eq f.word) ending_words) && (list_all is_piece_good f.pieces && (nat_le (length f.pieces) 4 && nat_le (length f.word + most_of f.pieces) 40))) h in
+    let short = nat_le (length f.word + most_of f.pieces) MAX_TEXT in
+    let rest = list_all is_piece_good f.pieces && (nat_le (length f.pieces) 4 && short) in
+    let unending = not (list_any (bytes_eq f.word) ending_words) in
+    let a = and_parts (nat_le 1 (length f.word) && list_all is_first_byte f.word) (unending && rest) h in
     let b = and_parts (nat_le 1 (length f.word)) (list_all is_first_byte f.word) a.0 in
-    let c = and_parts (not (list_any (bytes_eq f.word) ending_words)) (list_all is_piece_good f.pieces && (nat_le (length f.pieces) 4 && nat_le (length f.word + most_of f.pieces) 40)) a.1 in
-    let d = and_parts (list_all is_piece_good f.pieces) (nat_le (length f.pieces) 4 && nat_le (length f.word + most_of f.pieces) 40) c.1 in
-    let e = and_parts (nat_le (length f.pieces) 4) (nat_le (length f.word + most_of f.pieces) 40) d.1 in
+    let c = and_parts unending rest a.1 in
+    let d = and_parts (list_all is_piece_good f.pieces) (nat_le (length f.pieces) 4 && short) c.1 in
+    let e = and_parts (nat_le (length f.pieces) 4) short d.1 in
     record { some = b.0; word = b.1; unending = not-true (list_any (bytes_eq f.word) ending_words) c.0; pieces = d.0; few = e.0; short = e.1 }
 
 -- a form that does an operation has its operands, and they fit

@@ -1,10 +1,11 @@
 -- An architecture whose links are program order and fences, and whose accesses name their place and have no mark: it keeps the
 -- laws of architectures where its table has its operations.
 -- Source: own.
-use Rattle.std.proofs.Common.{ℕ, ◌<◌, ◌≤◌, ◌≡◌, ◌==◌, inl, refl, Bool, true, false, Option, List, [], ◌∷◌, length, sym, ap, ◌∙◌, subst, arith}
+use Rattle.std.proofs.Common.{ℕ, ◌+◌, ◌<◌, ◌≤◌, ◌≡◌, ◌==◌, inl, refl, Bool, true, false, Option, List, [], ◌∷◌, length, sym, ap, ◌∙◌, subst, arith}
 use Rattle.std.specs.List.{list_all}
 use Rattle.std.proofs.lemmas.Bool.{and_from, eq-eqb}
 use Rattle.relax_edges.specs.EdgeTable.{fence_is_of, mark_is_of}
+use Rattle.relax_edges.specs.declared.kinds.Dir.{Dir}
 use Rattle.relax_edges.specs.declared.kinds.Dir.TheVariants as dirs
 use Rattle.relax_edges.specs.declared.kinds.ArchName.{ArchName}
 use Rattle.relax_edges.specs.declared.kinds.FenceKind.{FenceKind}
@@ -22,8 +23,8 @@ use Rattle.arch_trait.specs.Cells.{access_count, MakesOneAccess}
 use Rattle.arch_trait.specs.Links.{link_is_of, depends_on_load, link_control, link_items, is_addr, is_data}
 use Rattle.arch_trait.specs.Taking.{Taken, take_next}
 use Rattle.arch_trait.specs.Threads.{Put, Puts}
-use Rattle.arch_trait.specs.Laws.{DidLink, MakesLinks, MakesAccess, MakesLoads, MakesStores, IsArch, link_room, link_labels, is_at_place}
-use Rattle.arch_laws.proofs.Accesses.{writes_none, spare_plain, did_load, did_store, did_nothing, did_barrier, two_fit}
+use Rattle.arch_trait.specs.Laws.{DidLink, Takes, shape_grown, MakesLinks, MakesAccess, MakesLoads, MakesStores, IsArch, link_room, link_labels, is_at_place}
+use Rattle.arch_laws.proofs.Accesses.{Asked, asked, writes_none, spare_plain, did_load, did_store, did_nothing, did_barrier, two_fit}
 
 -- the code of a link: its fence, if it is one
 abbrev pub fence_code : Link → List Micro
@@ -141,17 +142,27 @@ makes_links a f = record {
   has = λ link from n h usable. link_has a f link h.of_arch;
 }
 
-load_access : (a : Puts) → IsFenced a → MakesAccess (base a) dirs.R (base a).load
-load_access a f = record {
+-- an access of one operation, of which the laws ask no more than of a load from the place, and which takes no address register
+one_access : (a : Puts) (d : Dir) (op : Taken → ℕ → Micro) (regs : Taken → Taken) →
+    ((g : Taken) (p : ℕ) → asked (op g p ∷ []) ≡ asked (ops.LoadAt 0 p ∷ [])) → ((g : Taken) (p : ℕ) → Takes g (regs g) p) →
+    ((g : Taken) (link : Link) (is_new : Bool) (h : Shape) → (regs g).next + h.loads ≡ g.next + (shape_grown h d link is_new).loads) →
+    ((g : Taken) (p : ℕ) → (regs g).next ≤ a.registers → a.has (op g p) ≡ true) →
+    MakesAccess (base a) d (λ g link mark from p. record { code = op g p ∷ []; regs = regs g })
+one_access a d op regs same takes need has = record {
   room = λ g link mark from p. omega (arith, two_fit link);
-  takes = λ g link mark from p. record { count = refl; more = omega arith; links = inl refl };
+  takes = λ g link mark from p. takes g p;
   addressed = λ g link mark from p e. cc;
-  need = λ g link mark from p is_new h given fresh. omega arith;
-  no_label = λ g link mark from p. refl;
-  no_jump = λ g link mark from p. refl;
-  at_place = λ g link mark from p. and_from (p == p) true (eq-eqb p p refl) refl;
-  has = λ g link mark from p given marked usable taken left. and_from _ true (f.load_has g.next p (omega arith)) refl;
+  need = λ g link mark from p is_new h given fresh. need g link is_new h;
+  no_label = λ g link mark from p. ap (λ (x : Asked). x.labels) (same g p);
+  no_jump = λ g link mark from p. ap (λ (x : Asked). x.jumps) (same g p);
+  at_place = λ g link mark from p. ap (λ (x : Asked). x.at_place p) (same g p) ∙ and_from (p == p) true (eq-eqb p p refl) refl;
+  has = λ g link mark from p given marked usable taken left. and_from _ true (has g p left) refl;
 }
+
+load_access : (a : Puts) → IsFenced a → MakesAccess (base a) dirs.R (base a).load
+load_access a f = one_access a dirs.R (λ g p. ops.LoadAt g.next p) take_next (λ g p. refl)
+    (λ g p. record { count = refl; more = omega arith; links = inl refl })
+    (λ g link is_new h. omega arith) (λ g p left. f.load_has g.next p (omega arith))
 
 makes_loads : (a : Puts) → IsFenced a → MakesLoads (base a)
 makes_loads a f = record {
@@ -169,16 +180,9 @@ makes_loads a f = record {
 
 store_access : (a : Puts) → IsFenced a → (v : ℕ) → v < 256 →
     MakesAccess (base a) dirs.W (λ g link mark from p. (base a).store g link mark from p v)
-store_access a f v h = record {
-  room = λ g link mark from p. omega (arith, two_fit link);
-  takes = λ g link mark from p. record { count = refl; more = omega arith; links = inl refl };
-  addressed = λ g link mark from p e. cc;
-  need = λ g link mark from p is_new i given fresh. omega arith;
-  no_label = λ g link mark from p. refl;
-  no_jump = λ g link mark from p. refl;
-  at_place = λ g link mark from p. and_from (p == p) true (eq-eqb p p refl) refl;
-  has = λ g link mark from p given marked usable taken left. and_from _ true (f.store_has p v h) refl;
-}
+store_access a f v h = one_access a dirs.W (λ g p. ops.StoreAt p v) (λ g. g) (λ g p. refl)
+    (λ g p. record { count = refl; more = omega arith; links = inl refl })
+    (λ g link is_new i. omega arith) (λ g p left. f.store_has p v h)
 
 makes_stores : (a : Puts) → IsFenced a → MakesStores (base a)
 makes_stores a f = record {

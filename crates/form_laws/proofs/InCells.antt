@@ -1,37 +1,35 @@
 -- What a clear table writes fits into the cells of a table.
-use Rattle.std.proofs.Common.{ℕ, ◌+◌, ◌<◌, ◌≤◌, ◌≡◌, ◌==◌, refl, true, false, not, ◌&&◌, nat_le, List, [], ◌∷◌, ◌++◌, length, ◌∙◌, ap, length-append, arith}
+use Rattle.std.proofs.Common.{ℕ, ◌+◌, ◌≤◌, ◌≡◌, ◌==◌, refl, true, false, not, ◌&&◌, nat_le, List, [], ◌∷◌, ◌++◌, length, ◌∙◌, ap, length-append, arith}
 use Rattle.std.specs.List.{list_all, list_any}
 use Rattle.std.specs.Str.{bytes_eq}
-use Rattle.std.proofs.lemmas.Bool.{and_parts, and_from, leb-true, ltb-true}
+use Rattle.std.proofs.lemmas.Bool.{and_parts, and_from, leb-true}
 use Rattle.std.proofs.lemmas.Bool.Decides.{nat_tests}
-use Rattle.std.proofs.lemmas.Fmt.{length-decimal-le}
 use Rattle.list_laws.proofs.Elements.{list_all-weaker}
 use Rattle.text_laws.specs.Names.{is_place_name}
 use Rattle.text_laws.specs.Words.{is_argument_byte}
-use Rattle.text_laws.specs.Blanks.{is_blank, unblanked}
+use Rattle.text_laws.specs.Blanks.{is_blank}
 use Rattle.text_laws.specs.LeadingRuns.{leading_run, after_run}
 use Rattle.text_laws.proofs.NameLaws.{place_name_short}
+use Rattle.text_laws.proofs.RunLaws.{after_halts, whole_run}
 use Rattle.micro_ops.specs.declared.operation.Micro.{Micro}
 use Rattle.micro_ops.specs.declared.operation.Micro.TheVariants as ops
 use Rattle.arch_trait.specs.Cells.{is_cell_byte, first_word, ends_rows, is_label_op, WritesCells}
 use Rattle.arch_trait.specs.InstructionReading.{few}
+use Rattle.arch_trait.specs.declared.arch.TheConstants.{MAX_TEXT}
 use Rattle.arch_trait.specs.Threads.{Puts}
-use Rattle.arch_trait.specs.Writing.{OperandTexts, none, one, two, three, four, more, listed, written_text, op_name, is_well_named}
+use Rattle.arch_trait.specs.Writing.{OperandTexts, listed, written_text, op_name, is_well_named}
 use Rattle.text_laws.proofs.CutLaws.{all_both}
 use Rattle.arch_laws.proofs.CellTexts.{place_cell, decimal_cell}
 use Rattle.arch_laws.proofs.FormBacks.{label_cell}
-use Rattle.list_laws.proofs.Digits.{three_digits}
-use Rattle.form_laws.specs.declared.form.Hole.{Hole}
-use Rattle.form_laws.specs.declared.form.Hole.TheVariants as holes
+use Rattle.arch_laws.proofs.SpellingLaws.{listed_stops}
 use Rattle.form_laws.specs.declared.kind.Operand.{Operand}
-use Rattle.form_laws.specs.declared.kind.Operand.TheVariants as operands
 use Rattle.form_laws.specs.Kinds.{operands_of}
 use Rattle.form_laws.specs.Tables.{PieceText, TableText, fits_first, after_hole, operands_fit, does, table_has, hole_filled, piece_texts, given_operands, form_written, first_written, table_written, table_writing, piece_text}
-use Rattle.form_laws.specs.ClearTables.{is_fixed_byte, is_first_byte, is_hole_good, is_piece_good, ending_words, most_in, most_of, is_clear}
+use Rattle.form_laws.specs.ClearTables.{is_fixed_byte, is_first_byte, is_piece_good, ending_words, most_in, most_of, is_clear}
 use Rattle.form_laws.proofs.PieceBacks.{piece_is_good, length-piece_texts}
 use Rattle.form_laws.proofs.OperationBacks.{is_named_operand, operands_named}
 use Rattle.form_laws.proofs.ChosenForms.{form_is_good, done, op_texts, chosen}
-use Rattle.form_laws.proofs.PlainForms.{left_named, first_word_fixed, filled_all}
+use Rattle.form_laws.proofs.PlainForms.{left_named, first_word_fixed, filled_all, filled_short}
 
 -- fixed texts fit into cells
 fixed_cell_byte : (b : ℕ) → is_fixed_byte b ≡ true → is_cell_byte b ≡ true
@@ -39,21 +37,6 @@ fixed_cell_byte b h = (and_parts (is_cell_byte b) (not (is_blank b) && not (b ==
 
 fixed_cell : (t : List ℕ) → list_all is_fixed_byte t ≡ true → list_all is_cell_byte t ≡ true
 fixed_cell t h = list_all-weaker is_fixed_byte is_cell_byte fixed_cell_byte t h
-
--- what is in a hole has at most so many bytes
-filled_short : (names : ℕ → List ℕ) (h : Hole) (vs : List Operand) → is_hole_good h ≡ true → fits_first h vs ≡ true →
-    list_all (is_named_operand names) vs ≡ true → length (hole_filled names h vs) ≤ most_in h
-filled_short names holes.Empty vs good fit named = omega arith
-filled_short names (holes.Register first count) (operands.Register r ∷ vs) good fit named =
-    let small : first + count ≤ 256 = leb-true (first + count) 256 good in
-    let below : r < count = ltb-true r count fit in
-    three_digits (first + r) (omega arith)
-filled_short names holes.Number (operands.Number n ∷ vs) good fit named =
-    let small : n ≤ 2047 = leb-true n 2047 fit in length-decimal-le 4 n (omega arith) (omega arith) (omega arith)
-filled_short names holes.Place (operands.Place p ∷ vs) good fit named =
-    place_name_short (names p) (and_parts (is_place_name (names p)) (list_all (is_named_operand names) vs) named).0
-filled_short names holes.Label (operands.Label l ∷ vs) good fit named = omega arith
-filled_short names h vs good fit named = cc
 
 -- how long texts are, each with one byte before it
 abbrev total : List (List ℕ) → ℕ
@@ -74,7 +57,8 @@ pieces_cell names (p ∷ ps) vs good fit named =
     let f = and_parts (fits_first p.hole vs) (operands_fit ps (after_hole p.hole vs)) fit in
     let q = piece_is_good p g.0 in
     let rest = pieces_cell names ps (after_hole p.hole vs) g.1 f.1 (left_named names p.hole vs named) in
-    let small : length (hole_filled names p.hole vs) ≤ most_in p.hole = filled_short names p.hole vs q.hole f.0 named in
+    let small : length (hole_filled names p.hole vs) ≤ most_in p.hole = filled_short names p.hole vs q.hole f.0
+    (λ n us e. place_name_short (names n) (and_parts (is_place_name (names n)) (list_all (is_named_operand names) us) (rw e at named)).0) in
     let tail : total (piece_texts names ps (after_hole p.hole vs)) ≤ most_of ps = rest.short in
     record {
       cells = and_from (list_all is_cell_byte (piece_text names p vs)) (list_all (list_all is_cell_byte) (piece_texts names ps (after_hole p.hole vs)))
@@ -125,27 +109,13 @@ first_inked b h = grind (arith, nat_tests, h)
 first_in_word : (b : ℕ) → is_first_byte b ≡ true → is_argument_byte b ≡ true
 first_in_word b h = grind (arith, nat_tests, h)
 
-word_run : (word : List ℕ) (o : OperandTexts) → list_all is_first_byte word ≡ true → leading_run is_argument_byte (word ++ listed o) ≡ word
-unfolding leading_run
-word_run [] none h = refl
-word_run [] (one a) h = refl
-word_run [] (two a b) h = refl
-word_run [] (three a b c) h = refl
-word_run [] (four a b c d) h = refl
-word_run [] more h = refl
-word_run (b ∷ word) o h =
-    let p = and_parts (is_first_byte b) (list_all is_first_byte word) h in
-    rw (first_in_word b p.0) (ap (λ (t : List ℕ). b ∷ t) (word_run word o p.1))
-
 word_first : (word : List ℕ) (o : OperandTexts) → nat_le 1 (length word) ≡ true → list_all is_first_byte word ≡ true → first_word (word ++ listed o) ≡ word
-unfolding after_run
 word_first [] o some h = cc
 word_first (b ∷ word) o some h =
     let p = and_parts (is_first_byte b) (list_all is_first_byte word) h in
-    ap (leading_run is_argument_byte) (unblanked_is b (word ++ listed o) (first_inked b p.0)) ∙ word_run (b ∷ word) o h
-  where
-    unblanked_is : (b : ℕ) (t : List ℕ) → is_blank b ≡ false → unblanked (b ∷ t) ≡ b ∷ t
-    unblanked_is b t e = rw e refl
+    ap (leading_run is_argument_byte) (after_halts is_blank b (word ++ listed o) (first_inked b p.0)) ∙
+    (whole_run is_argument_byte (b ∷ word) (listed o) (list_all-weaker is_first_byte is_argument_byte first_in_word (b ∷ word) h)
+    (listed_stops is_argument_byte o refl)).run
 
 -- an operation that isn't a label is done by a form of the table
 by_form : (t : TableText) (op : Micro) → is_label_op op ≡ false → table_has t op ≡ true → list_any (does op) t.forms ≡ true
@@ -160,7 +130,7 @@ written_by t names op e = refl
 record FitsCells (text : List ℕ) : Type 0 where
   pub cells : list_all is_cell_byte text ≡ true
   pub rows : ends_rows text ≡ false
-  pub short : length text ≤ 40
+  pub short : length text ≤ MAX_TEXT
 
 fits_cells : (t : TableText) (names : ℕ → List ℕ) (op : Micro) → is_clear t.forms ≡ true → table_has t op ≡ true →
     is_well_named (op_name names op) ≡ true → is_label_op op ≡ false → FitsCells (written_text (table_written t names op))
@@ -179,7 +149,7 @@ fits_cells t names op clear has named other =
           (listed_cell (op_texts names op c.form) few_are i.cells);
       rows = ap (λ (w : List ℕ). list_any (bytes_eq w) ending_words) (word_first c.form.word (few (op_texts names op c.form)) g.some g.word) ∙ g.unending;
       short =
-          let k = leb-true (length c.form.word + most_of c.form.pieces) 40 g.short in
+          let k = leb-true (length c.form.word + most_of c.form.pieces) MAX_TEXT g.short in
           omega (arith, k, i.short, length-listed (op_texts names op c.form), length-append c.form.word (listed (few (op_texts names op c.form))));
     })
 
@@ -187,7 +157,7 @@ label_rows : (t : TableText) (names : ℕ → List ℕ) (l : ℕ) → ends_rows 
 unfolding ends_rows leading_run after_run
 label_rows t names l = refl
 
-label_short : (t : TableText) (names : ℕ → List ℕ) (l : ℕ) → length (written_text (table_written t names (ops.Label l))) ≤ 40
+label_short : (t : TableText) (names : ℕ → List ℕ) (l : ℕ) → length (written_text (table_written t names (ops.Label l))) ≤ MAX_TEXT
 label_short t names l = omega arith
 
 rows : (t : TableText) (names : ℕ → List ℕ) (op : Micro) → is_clear t.forms ≡ true → table_has t op ≡ true →
@@ -196,7 +166,7 @@ rows t names (ops.Label l) clear has named = label_rows t names l
 rows t names op clear has named = (fits_cells t names op clear has named refl).rows
 
 short : (t : TableText) (names : ℕ → List ℕ) (op : Micro) → is_clear t.forms ≡ true → table_has t op ≡ true →
-    is_well_named (op_name names op) ≡ true → length (written_text (table_written t names op)) ≤ 40
+    is_well_named (op_name names op) ≡ true → length (written_text (table_written t names op)) ≤ MAX_TEXT
 short t names (ops.Label l) clear has named = label_short t names l
 short t names op clear has named = (fits_cells t names op clear has named refl).short
 

@@ -4,12 +4,13 @@ use Rattle.std.specs.Fmt.{decimal}
 use Rattle.std.specs.List.{list_all}
 use Rattle.std.specs.Str.{bytes_eq}
 use Rattle.std.proofs.lemmas.Bool.{and_parts, and_from, and_right, leb-true, ltb-true}
+use Rattle.std.proofs.lemmas.Fmt.{length-decimal-le}
 use Rattle.std.proofs.lemmas.List.Folds.{list_all-append}
 use Rattle.std.proofs.lemmas.Slice.Eq.{bytes_eq-Decides}
 use Rattle.list_laws.proofs.Elements.{list_all-weaker}
 use Rattle.list_laws.proofs.Cases.{by_test}
 use Rattle.text_laws.specs.Names.{is_place_name}
-use Rattle.list_laws.proofs.Digits.{digits_of}
+use Rattle.list_laws.proofs.Digits.{three_digits, digits_of}
 use Rattle.arch_trait.specs.Cells.{is_cell_byte}
 use Rattle.arch_trait.specs.InstructionReading.{few}
 use Rattle.arch_trait.specs.Writing.{is_plain, all_plain_texts, is_label_name, label_name, label_word}
@@ -22,7 +23,7 @@ use Rattle.form_laws.specs.declared.form.Hole.TheVariants as holes
 use Rattle.form_laws.specs.declared.kind.Operand.{Operand}
 use Rattle.form_laws.specs.declared.kind.Operand.TheVariants as operands
 use Rattle.form_laws.specs.Tables.{PieceText, fits_first, after_hole, operands_fit, hole_filled, piece_texts, texts_in, piece_text}
-use Rattle.form_laws.specs.ClearTables.{is_hole_good, is_filled, is_fixed_byte, is_first_byte, is_piece_good}
+use Rattle.form_laws.specs.ClearTables.{is_hole_good, most_in, is_filled, is_fixed_byte, is_first_byte, is_piece_good}
 use Rattle.form_laws.proofs.PieceBacks.{piece_is_good}
 use Rattle.form_laws.proofs.OperationBacks.{is_named_operand}
 
@@ -50,11 +51,7 @@ first_word_fixed t h = list_all-weaker is_first_byte is_fixed_byte first_fixed t
 pub word_plain : (t : List ℕ) → nat_le 1 (length t) ≡ true → list_all is_first_byte t ≡ true → is_plain t ≡ true
 word_plain t some h = some_plain t (leb-true 1 (length t) some) (fixed_word t (first_word_fixed t h))
 
--- a plain name has plain bytes, and the name of a place has a byte
-plain_bytes : (t : List ℕ) → is_plain t ≡ true → list_all is_instruction_byte t ≡ true
-plain_bytes [] h = refl
-plain_bytes (b ∷ t) h = h
-
+-- the name of a place has a byte
 place_some : (name : List ℕ) → is_place_name name ≡ true → 1 ≤ length name
 unfolding is_place_name
 place_some [] h = cc
@@ -77,6 +74,20 @@ filled_all p number place label names holes.Place (operands.Place q ∷ vs) good
 filled_all p number place label names holes.Label (operands.Label l ∷ vs) good fit named =
     label l (and_parts (is_label_name (label_name l)) (list_all (is_named_operand names) vs) named).0
 filled_all p number place label names h vs good fit named = cc
+
+-- what is in a hole has at most so many bytes, where the name of a place has at most 16
+pub filled_short : (names : ℕ → List ℕ) (h : Hole) (vs : List Operand) → is_hole_good h ≡ true → fits_first h vs ≡ true →
+    ((p : ℕ) (us : List Operand) → vs ≡ operands.Place p ∷ us → length (names p) ≤ 16) → length (hole_filled names h vs) ≤ most_in h
+filled_short names holes.Empty vs good fit short = omega arith
+filled_short names (holes.Register first count) (operands.Register r ∷ vs) good fit short =
+    let small : first + count ≤ 256 = leb-true (first + count) 256 good in
+    let below : r < count = ltb-true r count fit in
+    three_digits (first + r) (omega arith)
+filled_short names holes.Number (operands.Number n ∷ vs) good fit short =
+    let small : n ≤ 2047 = leb-true n 2047 fit in length-decimal-le 4 n (omega arith) (omega arith) (omega arith)
+filled_short names holes.Place (operands.Place p ∷ vs) good fit short = short p vs refl
+filled_short names holes.Label (operands.Label l ∷ vs) good fit short = omega arith
+filled_short names h vs good fit short = cc
 
 -- an operand without a hole has a byte, and so has what is in a hole
 filled_some : (names : ℕ → List ℕ) (h : Hole) (vs : List Operand) (fixed : List ℕ) → is_hole_good h ≡ true → is_filled h fixed ≡ true →
@@ -104,20 +115,28 @@ piece_plain names p vs good fit named =
     some_plain (piece_text names p vs)
     (omega (arith, length-append p.before p.after, length-append p.before (hole_filled names p.hole vs ++ p.after), length-append (hole_filled names p.hole vs) p.after))
     (all_both is_instruction_byte p.before (hole_filled names p.hole vs ++ p.after) (fixed_word p.before g.before)
-    (all_both is_instruction_byte (hole_filled names p.hole vs) p.after (filled_all is_instruction_byte decimal_plain place_name_plain (λ l h. plain_bytes (label_name l) (label_plain l h)) names p.hole vs g.hole fit named) (fixed_word p.after g.after)))
+    (all_both is_instruction_byte (hole_filled names p.hole vs) p.after
+    (filled_all is_instruction_byte decimal_plain place_name_plain label_plain names p.hole vs g.hole fit named) (fixed_word p.after g.after)))
+
+-- what holds of operands, and then of those after the first, holds of those that are left after a hole
+pub after_keeps : (P : List Operand → Type 0) → ((v : Operand) (vs : List Operand) → P (v ∷ vs) → P vs) →
+    (h : Hole) (vs : List Operand) → P vs → P (after_hole h vs)
+after_keeps P tail holes.Empty vs k = k
+after_keeps P tail (holes.Register first count) [] k = k
+after_keeps P tail (holes.Register first count) (v ∷ vs) k = tail v vs k
+after_keeps P tail holes.Number [] k = k
+after_keeps P tail holes.Number (v ∷ vs) k = tail v vs k
+after_keeps P tail holes.Place [] k = k
+after_keeps P tail holes.Place (v ∷ vs) k = tail v vs k
+after_keeps P tail holes.Label [] k = k
+after_keeps P tail holes.Label (v ∷ vs) k = tail v vs k
 
 -- what is left after a hole is named too
 pub left_named : (names : ℕ → List ℕ) (h : Hole) (vs : List Operand) → list_all (is_named_operand names) vs ≡ true →
     list_all (is_named_operand names) (after_hole h vs) ≡ true
-left_named names holes.Empty vs named = named
-left_named names (holes.Register first count) [] named = refl
-left_named names (holes.Register first count) (v ∷ vs) named = (and_parts (is_named_operand names v) (list_all (is_named_operand names) vs) named).1
-left_named names holes.Number [] named = refl
-left_named names holes.Number (v ∷ vs) named = (and_parts (is_named_operand names v) (list_all (is_named_operand names) vs) named).1
-left_named names holes.Place [] named = refl
-left_named names holes.Place (v ∷ vs) named = (and_parts (is_named_operand names v) (list_all (is_named_operand names) vs) named).1
-left_named names holes.Label [] named = refl
-left_named names holes.Label (v ∷ vs) named = (and_parts (is_named_operand names v) (list_all (is_named_operand names) vs) named).1
+left_named names h vs named =
+    after_keeps (λ us. list_all (is_named_operand names) us ≡ true)
+    (λ v us k. (and_parts (is_named_operand names v) (list_all (is_named_operand names) us) k).1) h vs named
 
 -- the operands of one form are plain
 pub pieces_plain : (names : ℕ → List ℕ) (ps : List PieceText) (vs : List Operand) → list_all is_piece_good ps ≡ true → operands_fit ps vs ≡ true →

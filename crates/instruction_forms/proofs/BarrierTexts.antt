@@ -1,13 +1,13 @@
 -- The text of a barrier is sought from the first text on.
 use Rattle.std.proofs.Common.{ℕ, ◌≤◌, ◌≡◌, ◌-◌, true, cond, List, [], ◌∷◌, Option, Some, get_or, take, drop, length, sym, ap, ◌∙◌, subst, arith}
 use Rattle.std.specs.List.{list_all}
-use Rattle.std.proofs.Math.Seq.{take-length}
 use Rattle.std.proofs.lemmas.Bool.{and_parts, leb-true, eq-eqb, ne_eqb}
 use Rattle.micro_ops.specs.declared.operation.Barrier.{Barrier}
 use Rattle.arch_trait.specs.declared.arch.TheConstants.{MAX_TEXT}
 use Rattle.form_laws.specs.Kinds.{barrier_number}
 use Rattle.instruction_forms.specs.declared.fixed.BarrierText.{BarrierText}
 use Rattle.instruction_forms.specs.FixedTexts.{barrier_text, is_short}
+use Rattle.instruction_forms.proofs.Rests.{rest_is}
 
 -- the first text is the barrier's
 pub first_text : (ts : List BarrierText) (d : BarrierText) (b : Barrier) → 1 ≤ length ts →
@@ -15,19 +15,13 @@ pub first_text : (ts : List BarrierText) (d : BarrierText) (b : Barrier) → 1 �
 first_text [] d b l h = absurd (omega (arith, l))
 first_text (t ∷ ts) d b l h = ap (λ x. cond {A = Option (List ℕ)} x (Some t.text.now) (barrier_text ts b)) (eq-eqb (barrier_number t.barrier) (barrier_number b) h)
 
--- the texts after the first
-rest_is : (t : BarrierText) (ts : List BarrierText) → ts ≡ take (length (t ∷ ts) - 1) ts
-rest_is t ts =
-    let e : length (t ∷ ts) - 1 ≡ length ts = omega arith in
-    sym (ap (λ n. take n ts) e ∙ take-length ts)
-
 -- the first text isn't the barrier's
 pub later_text : (ts : List BarrierText) (d : BarrierText) (b : Barrier) → 1 ≤ length ts →
     (barrier_number (get_or ts 0 d).barrier ≡ barrier_number b → ⊥) → barrier_text (take (length ts - 1) (drop 1 ts)) b ≡ barrier_text ts b
 later_text [] d b l h = absurd (omega (arith, l))
 later_text (t ∷ ts) d b l h =
     let other = ap (λ x. cond {A = Option (List ℕ)} x (Some t.text.now) (barrier_text ts b)) (ne_eqb (barrier_number t.barrier) (barrier_number b) h) in
-    sym (other ∙ ap (λ us. barrier_text us b) (rest_is t ts))
+    ap (λ us. barrier_text us b) (rest_is t ts) ∙ sym other
 
 -- the first text has room
 pub first_short : (ts : List BarrierText) (d : BarrierText) → 1 ≤ length ts → list_all is_short ts ≡ true → length (get_or ts 0 d).text.now ≤ MAX_TEXT
@@ -37,4 +31,4 @@ first_short (t ∷ ts) d l h = leb-true (length t.text.now) MAX_TEXT (and_parts 
 -- the later texts have room
 pub later_short : (ts : List BarrierText) → 1 ≤ length ts → list_all is_short ts ≡ true → list_all is_short (take (length ts - 1) (drop 1 ts)) ≡ true
 later_short [] l h = absurd (omega (arith, l))
-later_short (t ∷ ts) l h = subst (λ us. list_all is_short us ≡ true) (rest_is t ts) (and_parts (is_short t) (list_all is_short ts) h).1
+later_short (t ∷ ts) l h = subst (λ us. list_all is_short us ≡ true) (sym (rest_is t ts)) (and_parts (is_short t) (list_all is_short ts) h).1

@@ -3,13 +3,15 @@ use Rattle.std.proofs.Common.{ℕ, ◌+◌, ◌-◌, ◌<◌, ◌≤◌, ◌≡�
 use Rattle.std.specs.List.{list_all}
 use Rattle.std.proofs.lemmas.Bool.{and_parts}
 use Rattle.std.proofs.lemmas.Bool.Decides.{nat_tests}
+use Rattle.arch_trait.specs.declared.arch.TheConstants.{MAX_TEXT}
 use Rattle.form_laws.specs.declared.form.Piece.{Piece}
-use Rattle.std.proofs.Math.Seq.{take-length}
 use Rattle.form_laws.specs.declared.kind.Operand.{Operand}
 use Rattle.form_laws.specs.Tables.{piece_seen, fits_first, after_hole, operands_fit, hole_filled, piece_text}
 use Rattle.form_laws.specs.ClearTables.{is_piece_good, most_in, most_of}
+use Rattle.form_laws.proofs.PieceBacks.{piece_is_good}
 use Rattle.instruction_forms.specs.Printing.{byte_before, joined_texts, ReadyToPrint, ReadyPiece}
-use Rattle.instruction_forms.proofs.Room.{filled_short, hole_good, short_after, after_of, byte_one}
+use Rattle.instruction_forms.proofs.Rests.{rest_is}
+use Rattle.instruction_forms.proofs.Room.{hole_short, short_after, after_of, byte_one}
 
 -- operands are printed as far as those that are left, to a text that is whole, if they fit
 pub record Going (names : ℕ → List ℕ) (whole : List ℕ) (all : Bool) (out : List ℕ) (left : List Piece) (vs : List Operand) : Type 0 where
@@ -37,7 +39,7 @@ going_stops names whole all out (p ∷ ps) vs d l g h =
     sym g.fit ∙ ap (λ b. b && operands_fit (map piece_seen ps) (after_hole p.hole vs)) h
 
 record First (names : ℕ → List ℕ) (whole : List ℕ) (all : Bool) (out : List ℕ) (ps : List Piece) (vs : List Operand) : Type 0 where
-  comma : length (out ++ byte_before 44 (map piece_seen ps)) ≤ 40
+  comma : length (out ++ byte_before 44 (map piece_seen ps)) ≤ MAX_TEXT
   going : Going names whole all (out ++ byte_before 44 (map piece_seen ps)) ps vs
 
 first_done : (names : ℕ → List ℕ) (whole : List ℕ) (all : Bool) (out : List ℕ) (p : Piece) (ps : List Piece) (vs : List Operand) →
@@ -46,7 +48,7 @@ first_done : (names : ℕ → List ℕ) (whole : List ℕ) (all : Bool) (out : L
 unfolding most_of operands_fit
 first_done names whole all out p ps vs g f =
     let good = and_parts (is_piece_good (piece_seen p)) (list_all is_piece_good (map piece_seen ps)) g.ready.good in
-    let here = filled_short names p.hole vs g.ready.short (hole_good (piece_seen p) good.0) f in
+    let here = hole_short names p.hole vs g.ready.short (piece_is_good (piece_seen p) good.0).hole f in
     let text = piece_text names (piece_seen p) vs in
     let comma = byte_before 44 (map piece_seen ps) in
     let long : length text ≤ length p.before.now + (most_in p.hole + length p.after.now) =
@@ -67,13 +69,12 @@ first_done names whole all out p ps vs g f =
 -- after an operand there is room for the comma before the next
 pub going_comma : (names : ℕ → List ℕ) (whole : List ℕ) (all : Bool) (out : List ℕ) (left : List Piece) (vs : List Operand) (d : Piece) (more : List ℕ) → 1 ≤ length left →
     Going names whole all out left vs → fits_first (get_or left 0 d).hole vs ≡ true → more ≡ out ++ piece_text names (piece_seen (get_or left 0 d)) vs →
-    length (more ++ byte_before 44 (map piece_seen (take (length left - 1) (drop 1 left)))) ≤ 40
+    length (more ++ byte_before 44 (map piece_seen (take (length left - 1) (drop 1 left)))) ≤ MAX_TEXT
 going_comma names whole all out [] vs d more l g f e = absurd (omega (arith, l))
 going_comma names whole all out (p ∷ ps) vs d more l g f e =
-    let n : length (p ∷ ps) - 1 ≡ length ps = omega arith in
-    let P : List Piece → Type 0 = (λ remainder. length (more ++ byte_before 44 (map piece_seen remainder)) ≤ 40) in
-    let Q : List ℕ → Type 0 = (λ text. length (text ++ byte_before 44 (map piece_seen ps)) ≤ 40) in
-    subst P (sym (ap (λ n. take n ps) n ∙ take-length ps)) (subst Q (sym e) (first_done names whole all out p ps vs g f).comma)
+    let P : List Piece → Type 0 = (λ remainder. length (more ++ byte_before 44 (map piece_seen remainder)) ≤ MAX_TEXT) in
+    let Q : List ℕ → Type 0 = (λ text. length (text ++ byte_before 44 (map piece_seen ps)) ≤ MAX_TEXT) in
+    subst P (sym (rest_is p ps)) (subst Q (sym e) (first_done names whole all out p ps vs g f).comma)
 
 -- after an operand and its comma the printing goes on with the others
 pub going_on : (names : ℕ → List ℕ) (whole : List ℕ) (all : Bool) (out : List ℕ) (left : List Piece) (vs : List Operand) (d : Piece) (more next : List ℕ) (rest : List Operand) →
@@ -83,8 +84,7 @@ pub going_on : (names : ℕ → List ℕ) (whole : List ℕ) (all : Bool) (out :
     rest ≡ after_hole (get_or left 0 d).hole vs → Going names whole all next (take (length left - 1) (drop 1 left)) rest
 going_on names whole all out [] vs d more next rest l g f e k m = absurd (omega (arith, l))
 going_on names whole all out (p ∷ ps) vs d more next rest l g f e k m =
-    let n : length (p ∷ ps) - 1 ≡ length ps = omega arith in
-    let b : take (length (p ∷ ps) - 1) ps ≡ ps = ap (λ n. take n ps) n ∙ take-length ps in
+    let b = rest_is p ps in
     let t : next ≡ (out ++ piece_text names (piece_seen p) vs) ++ byte_before 44 (map piece_seen ps) =
     k ∙ (ap (λ remainder. more ++ byte_before 44 (map piece_seen remainder)) b ∙ ap (λ text. text ++ byte_before 44 (map piece_seen ps)) e) in
     let P : List Piece → Type 0 = (λ remainder. Going names whole all next remainder rest) in

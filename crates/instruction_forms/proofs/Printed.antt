@@ -10,9 +10,10 @@ use Rattle.form_laws.specs.declared.kind.Operand.{Operand}
 use Rattle.form_laws.specs.Kinds.{operands_of}
 use Rattle.form_laws.specs.declared.form.Form.{Form}
 use Rattle.form_laws.specs.Tables.{PieceText, FormText, TableText, piece_seen, form_seen, table_has, does, given_operands, piece_texts, form_written, first_written}
-use Rattle.form_laws.specs.ClearTables.{is_clear, forms_apart, is_piece_good, is_form_good}
-use Rattle.std.proofs.Math.Seq.{take-length}
+use Rattle.form_laws.specs.ClearTables.{is_clear, forms_apart, is_form_good}
+use Rattle.form_laws.proofs.ChosenForms.{form_is_good}
 use Rattle.instruction_forms.specs.Printing.{byte_before, joined_texts, form_text}
+use Rattle.instruction_forms.proofs.Rests.{rest_is}
 
 -- at most four operands come after a blank and commas
 commas_are : (names : ℕ → List ℕ) (ps : List PieceText) (vs : List Operand) → nat_le (length ps) 4 ≡ true →
@@ -25,10 +26,6 @@ commas_are names (p ∷ q ∷ r ∷ []) vs h = simp append-nil
 commas_are names (p ∷ q ∷ r ∷ s ∷ []) vs h = simp append-nil
 commas_are names (p ∷ q ∷ r ∷ s ∷ t ∷ ps) vs h = absurd (omega (arith, leb-true (length (p ∷ q ∷ r ∷ s ∷ t ∷ ps)) 4 h))
 
-few_pieces : (f : FormText) → is_form_good f ≡ true → nat_le (length f.pieces) 4 ≡ true
-unfolding is_form_good
-few_pieces f good = (and_parts _ _ (and_parts (list_all is_piece_good f.pieces) _ (and_parts _ _ (and_parts _ _ good).1).1).1).0
-
 -- the first form of a clear table is good
 pub good_here : (f : FormText) (fs : List FormText) → is_clear (f ∷ fs) ≡ true → is_form_good f ≡ true
 unfolding is_clear
@@ -40,7 +37,7 @@ pub first_here : (names : ℕ → List ℕ) (op : Micro) (f : FormText) (fs : Li
 unfolding first_written is_clear
 first_here names op f fs h c =
     ap (λ b. written_text (cond b (form_written names op f) (first_written names op fs))) h ∙
-    ap (λ t. f.word ++ t) (commas_are names f.pieces (given_operands (operands_of f.kind op)) (few_pieces f (good_here f fs c)))
+    ap (λ t. f.word ++ t) (commas_are names f.pieces (given_operands (operands_of f.kind op)) (form_is_good f (good_here f fs c)).few)
 
 -- where the first form doesn't do the operation, the others write it
 pub first_after : (names : ℕ → List ℕ) (op : Micro) (f : FormText) (fs : List FormText) → does op f ≡ false →
@@ -75,9 +72,8 @@ pub walk_on : (names : ℕ → List ℕ) (op : Micro) (whole left : List Form) (
     does op (form_seen (get_or left 0 d)) ≡ false → Walk names op whole (take (length left - 1) (drop 1 left))
 walk_on names op whole [] d l w h = absurd (omega (arith, l))
 walk_on names op whole (f ∷ fs) d l w h =
-    let e : length (f ∷ fs) - 1 ≡ length fs = omega arith in
     let P : List Form → Type 0 = Walk names op whole in
-    subst P (sym (ap (λ n. take n fs) e ∙ take-length fs)) (record {
+    subst P (sym (rest_is f fs)) (record {
       clear = clear_after (form_seen f) (map form_seen fs) w.clear;
       has = has_after op (form_seen f) (map form_seen fs) h w.has;
       same = sym (first_after names op (form_seen f) (map form_seen fs) h) ∙ w.same;
