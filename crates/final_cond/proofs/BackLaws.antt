@@ -17,7 +17,7 @@ use Rattle.final_cond.specs.Conditions.{LeftSeen, InRegister, AtPlace, TermSeen,
 use Rattle.final_cond.specs.CondText.{quantifier_word, left_text, term_text, terms_text, cond_text}
 use Rattle.text_laws.specs.LeadingRuns.{leading_run, after_run}
 use Rattle.text_laws.specs.Blanks.{is_blank, unblanked}
-use Rattle.final_cond.specs.FormLaws.{Named, named, place_bytes}
+use Rattle.final_cond.specs.FormLaws.{FormNamed, form_named, place_bytes}
 use Rattle.final_cond.specs.ConditionReadBack.{IsFormedTerm, IsFormedCondition}
 use Rattle.final_cond.specs.ConditionReading.{sign_read, opening_read, left_at_start, register_at_start, has_form, left_read, value_read, right_read, term_read, follow_read, terms_read, parts_read, cond_read}
 use Rattle.text_laws.proofs.NumberLaws.{number_of-decimal}
@@ -46,12 +46,12 @@ register_text digits name rest = simp append_assoc
 pub left_unblanked : (left : LeftSeen) (rest : List ℕ) → has_form left ≡ true → unblanked (left_text left ++ rest) ≡ left_text left ++ rest
 unfolding left_text after_run
 left_unblanked (InRegister thread name) rest h =
-    let t : thread < 64 = (named thread name h).few in
+    let t : thread < 64 = (form_named thread name h).few in
     let d : Digits thread = digits_of thread (omega arith) in
     rw register_text (digits_unblanked (decimal thread) (58 ∷ (name ++ rest)) d.all d.some)
 left_unblanked (AtPlace name) rest h = refl
 
-register_back : (thread : ℕ) (name rest : List ℕ) → Named thread name → stops is_ascii_alphanumeric rest ≡ true → left_at_start (decimal thread ++ (58 ∷ (name ++ rest))) ≡ Some (InRegister thread name, rest)
+register_back : (thread : ℕ) (name rest : List ℕ) → FormNamed thread name → stops is_ascii_alphanumeric rest ≡ true → left_at_start (decimal thread ++ (58 ∷ (name ++ rest))) ≡ Some (InRegister thread name, rest)
 register_back thread name rest n s =
     let t : thread < 64 = n.few in
     let d : Digits thread = digits_of thread (omega arith) in
@@ -72,7 +72,7 @@ place_back name rest h =
 -- a left side reads back
 pub left_back : (known : LeftSeen → Bool) (left : LeftSeen) (rest : List ℕ) → has_form left ≡ true → known left ≡ true → stops is_ascii_alphanumeric rest ≡ true → left_read known (left_text left ++ rest) ≡ Ok (left, rest)
 unfolding left_read left_text
-left_back known (InRegister thread name) rest h k s = rw register_text (rw (register_back thread name rest (named thread name h) s, k) refl)
+left_back known (InRegister thread name) rest h k s = rw register_text (rw (register_back thread name rest (form_named thread name h) s, k) refl)
 left_back known (AtPlace name) rest h k s = rw place_text (rw (place_back name rest (place_bytes name h), k) refl)
 
 value_back : (n : ℕ) (rest : List ℕ) → n < 2 ^ 32 → stops is_ascii_digit rest ≡ true → value_read (decimal n ++ rest) ≡ Ok (n, rest)

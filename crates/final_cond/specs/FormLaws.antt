@@ -10,13 +10,13 @@ use Rattle.final_cond.specs.Conditions.{InRegister, AtPlace}
 use Rattle.final_cond.specs.ConditionReading.{has_form}
 
 -- what the form of a register says
-pub record Named (thread : ℕ) (name : List ℕ) : Type 0 where
+pub record FormNamed (thread : ℕ) (name : List ℕ) : Type 0 where
   pub few : thread < 64
   pub bytes : list_all is_ascii_alphanumeric name ≡ true
 
 -- a register of a form has a thread below 64 and a name of a register's form
-pub named : (thread : ℕ) (name : List ℕ) → has_form (InRegister thread name) ≡ true → Named thread name
-named thread name h =
+pub form_named : (thread : ℕ) (name : List ℕ) → has_form (InRegister thread name) ≡ true → FormNamed thread name
+form_named thread name h =
     let p : (nat_lt thread 64 ≡ true) × (is_register_name name ≡ true) = and_parts (nat_lt thread 64) (is_register_name name) h in
     record {
       few = ltb-true thread 64 p.0;

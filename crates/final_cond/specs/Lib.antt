@@ -5,3 +5,4 @@ pub mod ConditionAnswers
 pub mod States
 pub mod ConditionReadBack
 pub mod FormLaws
+pub mod CondTextLaws

@@ -16,7 +16,7 @@ use Rattle.final_cond.specs.Conditions.{LeftSeen, InRegister, AtPlace, TermSeen,
 use Rattle.final_cond.specs.CondText.{quantifier_word, left_text, term_text, further_term_text, terms_text, cond_text}
 use Rattle.final_cond.specs.ConditionReading.{opening_read, left_read, right_read, has_form}
 use Rattle.final_cond.specs.ConditionReadBack.{IsFormedTerm}
-use Rattle.final_cond.specs.FormLaws.{named, place_bytes}
+use Rattle.final_cond.specs.FormLaws.{form_named, place_bytes}
 use Rattle.text_laws.proofs.RunLaws.{stops}
 use Rattle.final_cond.proofs.BackLaws.{left_unblanked, left_back, right_back, term_parts, closing, joining, opening_back}
 use Rattle.list_laws.proofs.Digits.{digits_of}
@@ -166,7 +166,7 @@ place_on_line b h = grind (arith, nat_tests)
 left_bytes : (left : LeftSeen) → has_form left ≡ true → list_all is_line_byte (left_text left) ≡ true
 unfolding left_text
 left_bytes (InRegister thread name) h =
-    let parts = named thread name h in
+    let parts = form_named thread name h in
     let small = parts.few in
     let digits = digits_of thread (omega arith) in
     all_both is_line_byte (decimal thread ++ codes ":") name

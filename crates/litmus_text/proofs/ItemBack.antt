@@ -18,7 +18,7 @@ use Rattle.text_laws.specs.LeadingRuns.{after_run}
 use Rattle.final_cond.specs.Conditions.{LeftSeen, InRegister}
 use Rattle.final_cond.specs.CondText.{left_text}
 use Rattle.final_cond.specs.ConditionReading.{Fault, found, only_known, left_at_start, left_read, has_form}
-use Rattle.final_cond.specs.FormLaws.{named}
+use Rattle.final_cond.specs.FormLaws.{form_named}
 use Rattle.text_laws.proofs.NameLaws.{place_name_bytes}
 use Rattle.final_cond.proofs.BackLaws.{left_back}
 use Rattle.list_laws.proofs.Digits.{digits_of}
@@ -133,7 +133,7 @@ side_bytes : (a : Puts) (w : Writing) (link : Link) → WritesBack a w → link.
 unfolding side_text left_text
 side_bytes a w link laws small h =
     let digits = digits_of link.0 (omega arith) in
-    let parts = named link.0 (name_in w.registers link.1.0) (side_formed a w link laws small h) in
+    let parts = form_named link.0 (name_in w.registers link.1.0) (side_formed a w link laws small h) in
     all_both is_item_byte (decimal link.0 ++ codes ":") (name_in w.registers link.1.0)
     (all_both is_item_byte (decimal link.0) (codes ":") (list_all-weaker is_ascii_digit is_item_byte digit_in_item (decimal link.0) digits.all) refl)
     (list_all-weaker is_ascii_alphanumeric is_item_byte letter_in_item (name_in w.registers link.1.0) parts.bytes)
@@ -151,7 +151,7 @@ side_equal : (a : Puts) (w : Writing) (link : Link) → WritesBack a w → link.
 unfolding side_text left_text
 side_equal a w link laws small h =
     let digits = digits_of link.0 (omega arith) in
-    let parts = named link.0 (name_in w.registers link.1.0) (side_formed a w link laws small h) in
+    let parts = form_named link.0 (name_in w.registers link.1.0) (side_formed a w link laws small h) in
     all_both (λ b. not (b == 61)) (decimal link.0 ++ codes ":") (name_in w.registers link.1.0)
     (all_both (λ b. not (b == 61)) (decimal link.0) (codes ":") (without_class is_ascii_digit 61 (decimal link.0) refl digits.all) refl)
     (without_class is_ascii_alphanumeric 61 (name_in w.registers link.1.0) refl parts.bytes)
