@@ -10,10 +10,9 @@ use Rattle.std.proofs.lemmas.Bool.Decides.{nat_tests}
 use Rattle.std.proofs.lemmas.Fmt.{digits_decimal}
 use Rattle.std.proofs.lemmas.Slice.Eq.{bytes_eq-Decides}
 use Rattle.list_laws.proofs.Digits.{digits_of}
-use Rattle.list_laws.proofs.Elements.{list_all-weaker}
 use Rattle.list_laws.proofs.Cases.{by_test}
 use Rattle.text_laws.specs.Names.{begins_place, is_place_byte, is_place_name}
-use Rattle.text_laws.proofs.NameLaws.{place_name_bytes}
+use Rattle.text_laws.proofs.NameLaws.{place_passes, decimal_passes}
 use Rattle.text_laws.proofs.NumberLaws.{number_of-decimal}
 use Rattle.text_laws.specs.Cuts.{cut_at}
 use Rattle.text_laws.specs.Words.{is_nil}
@@ -33,9 +32,6 @@ pub record IsWord (word : List ℕ) : Type 0 where
   pub some : is_nil word ≡ false
   pub bytes : list_all is_graphic word ≡ true
 
-digit_graphic : (byte : ℕ) → is_ascii_digit byte ≡ true → is_graphic byte ≡ true
-digit_graphic byte h = grind (arith, nat_tests)
-
 place_graphic : (byte : ℕ) → is_place_byte byte ≡ true → is_graphic byte ≡ true
 place_graphic byte h = grind (arith, nat_tests)
 
@@ -45,7 +41,7 @@ some_text [] remainder byte = refl
 some_text (b ∷ prefix) remainder byte = refl
 
 digits_graphic : (n : ℕ) → n < 2 ^ 32 → list_all is_graphic (decimal n) ≡ true
-digits_graphic n h = list_all-weaker is_ascii_digit is_graphic digit_graphic (decimal n) (digits_of n h).all
+digits_graphic n h = decimal_passes is_graphic place_graphic n h
 
 -- a number below a bound
 number_back : (bound n : ℕ) → n < bound → n < 2 ^ 32 → number_below bound (decimal n) ≡ Some n
@@ -119,5 +115,5 @@ thread_is_word thread h = record {
 pub place_is_word : (place : List ℕ) → is_place_name place ≡ true → IsWord (place_head place)
 place_is_word place h = record {
   some = some_text place [] 58;
-  bytes = all_both is_graphic place (codes ":") (list_all-weaker is_place_byte is_graphic place_graphic place (place_name_bytes place h)) refl;
+  bytes = all_both is_graphic place (codes ":") (place_passes is_graphic place_graphic place h) refl;
 }

@@ -1,11 +1,10 @@
 -- The printed condition is read back.
 use Rattle.std.proofs.Common.{◌≡◌, ◌<◌, ◌≤◌, ℕ, zero, suc, List, [], ◌∷◌, ◌++◌, None, Ok, true, length, refl, ap, ◌∙◌, arith, append_assoc, append-nil}
 use Rattle.std.specs.Prelude.{codes}
-use Rattle.std.specs.Char.{is_ascii_digit, is_ascii_alphanumeric}
+use Rattle.std.specs.Char.{is_ascii_digit}
 use Rattle.std.specs.Fmt.{decimal}
-use Rattle.std.specs.List.{list_all, flat_map, AllByRecursion}
+use Rattle.std.specs.List.{list_all, AllByRecursion}
 use Rattle.std.proofs.lemmas.Bool.Decides.{nat_tests}
-use Rattle.list_laws.proofs.Elements.{list_all-weaker}
 use Rattle.final_cond.specs.declared.cond.TheConstants.{MAX_TERMS}
 use Rattle.final_cond.specs.declared.cond.Quantifier.{Quantifier}
 use Rattle.final_cond.specs.declared.cond.Quantifier.TheVariants.{Exists, NotExists, Forall}
@@ -13,13 +12,12 @@ use Rattle.text_laws.specs.Names.{is_place_byte}
 use Rattle.text_laws.specs.Blanks.{unblanked}
 use Rattle.text_laws.specs.LeadingRuns.{leading_run, after_run}
 use Rattle.final_cond.specs.Conditions.{LeftSeen, InRegister, AtPlace, TermSeen, CondSeen}
-use Rattle.final_cond.specs.CondText.{quantifier_word, left_text, term_text, further_term_text, terms_text, cond_text}
+use Rattle.final_cond.specs.CondText.{quantifier_word, left_text, term_text, terms_text, cond_text}
 use Rattle.final_cond.specs.ConditionReading.{opening_read, left_read, right_read, has_form}
 use Rattle.final_cond.specs.ConditionReadBack.{IsFormedTerm}
-use Rattle.final_cond.specs.FormLaws.{form_named, place_bytes}
+use Rattle.final_cond.specs.CondTextLaws.{PassTerms, terms_pass}
 use Rattle.text_laws.proofs.RunLaws.{stops}
 use Rattle.final_cond.proofs.BackLaws.{left_unblanked, left_back, right_back, term_parts, closing, joining, opening_back}
-use Rattle.list_laws.proofs.Digits.{digits_of}
 use Rattle.arch_trait.specs.Writing.{Writing}
 use Rattle.arch_trait.specs.Cells.{ends_rows, is_line_byte}
 use Rattle.litmus_text.specs.TextLines.{Lines, ends, line}
@@ -29,6 +27,7 @@ use Rattle.litmus_text.specs.TestTable.{after_locations}
 use Rattle.litmus_text.specs.Condition.{Setting, Mentioned, TermRead, at_begin, place_put, left_put, line_of_rest, term_here, terms_here, cond_here, condition_read}
 use Rattle.litmus_text.specs.ReadTerms.{left_mention, terms_mention, is_known, TermFits}
 use Rattle.text_laws.proofs.CutLaws.{all_both}
+use Rattle.litmus_text.proofs.ElementLaws.{all_weaker}
 use Rattle.litmus_text.proofs.LineBack.{IsLine}
 use Rattle.litmus_text.proofs.HeadBack.{line_is}
 use Rattle.litmus_text.proofs.RowBack.{added_within}
@@ -154,41 +153,11 @@ no_locations condition n rest = of condition.quantifier
     of NotExists = refl
     of Forall = refl
 
-digit_on_line : (b : ℕ) → is_ascii_digit b ≡ true → is_line_byte b ≡ true
-digit_on_line b h = grind (arith, nat_tests)
-
-letter_on_line : (b : ℕ) → is_ascii_alphanumeric b ≡ true → is_line_byte b ≡ true
-letter_on_line b h = grind (arith, nat_tests)
-
 place_on_line : (b : ℕ) → is_place_byte b ≡ true → is_line_byte b ≡ true
 place_on_line b h = grind (arith, nat_tests)
 
-left_bytes : (left : LeftSeen) → has_form left ≡ true → list_all is_line_byte (left_text left) ≡ true
-unfolding left_text
-left_bytes (InRegister thread name) h =
-    let parts = form_named thread name h in
-    let small = parts.few in
-    let digits = digits_of thread (omega arith) in
-    all_both is_line_byte (decimal thread ++ codes ":") name
-    (all_both is_line_byte (decimal thread) (codes ":") (list_all-weaker is_ascii_digit is_line_byte digit_on_line (decimal thread) digits.all) refl)
-    (list_all-weaker is_ascii_alphanumeric is_line_byte letter_on_line name parts.bytes)
-left_bytes (AtPlace name) h = all_both is_line_byte (codes "[" ++ name) (codes "]") (list_all-weaker is_place_byte is_line_byte place_on_line name (place_bytes name h)) refl
-
-term_bytes : (term : TermSeen) → IsFormedTerm term → list_all is_line_byte (term_text term) ≡ true
-unfolding term_text
-term_bytes term h =
-    let digits = digits_of term.value h.value in
-    all_both is_line_byte (left_text term.left ++ codes "=") (decimal term.value)
-    (all_both is_line_byte (left_text term.left) (codes "=") (left_bytes term.left h.form) refl)
-    (list_all-weaker is_ascii_digit is_line_byte digit_on_line (decimal term.value) digits.all)
-
-further_bytes : (w : Writing) (threads : ℕ) (table : List (List ℕ)) (terms : List TermSeen) → AllByRecursion (TermFits w threads table) terms → list_all is_line_byte (flat_map further_term_text terms) ≡ true
-further_bytes w threads table [] h = refl
-further_bytes w threads table (term ∷ terms) h = all_both is_line_byte (term_text term) (flat_map further_term_text terms) (term_bytes term h.0.formed) (further_bytes w threads table terms h.1)
-
-terms_bytes : (w : Writing) (threads : ℕ) (table : List (List ℕ)) (terms : List TermSeen) → AllByRecursion (TermFits w threads table) terms → list_all is_line_byte (terms_text terms) ≡ true
-terms_bytes w threads table [] h = refl
-terms_bytes w threads table (term ∷ terms) h = all_both is_line_byte (term_text term) (flat_map further_term_text terms) (term_bytes term h.0.formed) (further_bytes w threads table terms h.1)
+terms_on_line : PassTerms is_line_byte
+terms_on_line = record { left = record { names = place_on_line; colon = refl; opening = refl; closing = refl }; equals = refl; between = refl }
 
 -- a printed condition is a line that isn't passed over
 pub cond_line_is : (w : Writing) (threads : ℕ) (table : List (List ℕ)) (condition : CondSeen) → AllByRecursion (TermFits w threads table) condition.terms → IsLine (cond_text condition)
@@ -196,7 +165,9 @@ unfolding cond_text
 cond_line_is w threads table condition h = of condition.quantifier
   where
     bytes : list_all is_line_byte (terms_text condition.terms ++ codes ")") ≡ true
-    bytes = all_both is_line_byte (terms_text condition.terms) (codes ")") (terms_bytes w threads table condition.terms h) refl
+    bytes =
+        let formed = all_weaker (TermFits w threads table) IsFormedTerm (λ term fits. fits.formed) condition.terms h in
+        all_both is_line_byte (terms_text condition.terms) (codes ")") (terms_pass is_line_byte terms_on_line condition.terms formed) refl
 
     of : (q : Quantifier) → IsLine (((quantifier_word q ++ codes " (") ++ terms_text condition.terms) ++ codes ")")
     of Exists = line_is (codes "exists (" ++ (terms_text condition.terms ++ codes ")")) bytes refl

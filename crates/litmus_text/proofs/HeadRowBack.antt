@@ -1,7 +1,6 @@
 -- The printed header of the table is read back.
 use Rattle.std.proofs.Common.{◌≡◌, ◌<◌, ◌≤◌, ◌+◌, ◌-◌, ◌^◌, ℕ, List, [], ◌∷◌, ◌++◌, Ok, true, length, map, refl, sym, ap, ◌∙◌, arith, append_assoc, add-zero, zero-add}
 use Rattle.std.specs.Prelude.{not, nat_lt}
-use Rattle.std.specs.Char.{is_ascii_digit}
 use Rattle.std.specs.Fmt.{decimal}
 use Rattle.std.specs.List.{list_all, AllByRecursion, enumerate_from}
 use Rattle.std.specs.Str.{bytes_eq}
@@ -9,10 +8,9 @@ use Rattle.std.proofs.Math.ListN.{replicate}
 use Rattle.std.proofs.lemmas.Bool.{lt-ltb, and_from}
 use Rattle.std.proofs.lemmas.Bool.Decides.{nat_tests}
 use Rattle.std.proofs.lemmas.List.{replicate_more}
-use Rattle.list_laws.proofs.Elements.{list_all-weaker}
+use Rattle.text_laws.specs.Names.{is_place_byte}
 use Rattle.text_laws.specs.Blanks.{is_blank, trim_blanks}
 use Rattle.text_laws.specs.LeadingRuns.{after_run}
-use Rattle.list_laws.proofs.Digits.{digits_of}
 use Rattle.arch_trait.specs.Threads.{ThreadCode}
 use Rattle.arch_trait.specs.Writing.{Writing}
 use Rattle.litmus_text.specs.TextLines.{Lines, line}
@@ -20,6 +18,7 @@ use Rattle.litmus_text.specs.InitialState.{Begun}
 use Rattle.litmus_text.specs.TestTable.{Cells, is_head, heads_read, head_read}
 use Rattle.litmus_text.specs.TestText.{column_of, columns_of, width_of, cell_text, row_line}
 use Rattle.litmus_text.specs.Printable.{is_row_byte}
+use Rattle.text_laws.proofs.NameLaws.{decimal_passes}
 use Rattle.text_laws.proofs.OrderLaws.{bytes_same}
 use Rattle.text_laws.proofs.CutLaws.{all_both}
 use Rattle.text_laws.proofs.BlankLaws.{before_padded, inked_ends, spaces_class}
@@ -27,11 +26,11 @@ use Rattle.litmus_text.proofs.CellBack.{padded}
 use Rattle.litmus_text.proofs.LineBack.{IsLine}
 use Rattle.litmus_text.proofs.TableBack.{spaced, row_cells, cells_without, row_line_is}
 
-digit_on_row : (b : ℕ) → is_ascii_digit b ≡ true → is_row_byte b ≡ true
-digit_on_row b h = grind (arith, nat_tests)
+place_on_row : (b : ℕ) → is_place_byte b ≡ true → is_row_byte b ≡ true
+place_on_row b h = grind (arith, nat_tests)
 
-digit_inked : (b : ℕ) → is_ascii_digit b ≡ true → not (is_blank b) ≡ true
-digit_inked b h = grind (arith, nat_tests)
+place_inked : (b : ℕ) → is_place_byte b ≡ true → not (is_blank b) ≡ true
+place_inked b h = grind (arith, nat_tests)
 
 head_text : ℕ → List ℕ
 head_text n = 80 ∷ decimal n
@@ -39,8 +38,8 @@ head_text n = 80 ∷ decimal n
 head_trimmed : (n k : ℕ) → n < 2 ^ 32 → trim_blanks (padded k (80 ∷ decimal n)) ≡ 80 ∷ decimal n
 unfolding after_run
 head_trimmed n k h =
-    let digits = digits_of n h in
-    before_padded (80 ∷ decimal n) k ∙ inked_ends (80 ∷ decimal n) (and_from true (list_all (λ b. not (is_blank b)) (decimal n)) refl (list_all-weaker is_ascii_digit (λ b. not (is_blank b)) digit_inked (decimal n) digits.all))
+    before_padded (80 ∷ decimal n) k
+    ∙ inked_ends (80 ∷ decimal n) (and_from true (list_all (λ b. not (is_blank b)) (decimal n)) refl (decimal_passes (λ b. not (is_blank b)) place_inked n h))
 
 head_cell : (w : Writing) (places : List (List ℕ)) (n : ℕ) (t : ThreadCode) → n < 2 ^ 32 → is_head n (spaced (cell_text 0) (column_of w places (n, t))) ≡ true
 unfolding cell_text column_of
@@ -64,13 +63,12 @@ head_bytes : (w : Writing) (places : List (List ℕ)) (n : ℕ) (threads : List 
     → AllByRecursion (λ c. list_all is_row_byte (cell_text 0 c) ≡ true) (map (column_of w places) (enumerate_from n threads))
 unfolding cell_text column_of
 head_bytes w places n [] h = tt
-head_bytes w places n (t ∷ threads) h =
-    let digits = digits_of n (omega arith) in (
-      all_both is_row_byte (80 ∷ decimal n) (replicate (width_of (column_of w places (n, t)) - length (80 ∷ decimal n)) 32)
-          (and_from true (list_all is_row_byte (decimal n)) refl (list_all-weaker is_ascii_digit is_row_byte digit_on_row (decimal n) digits.all))
-          (spaces_class is_row_byte (width_of (column_of w places (n, t)) - length (80 ∷ decimal n)) refl),
-      head_bytes w places (n + 1) threads (omega arith),
-    )
+head_bytes w places n (t ∷ threads) h = (
+  all_both is_row_byte (80 ∷ decimal n) (replicate (width_of (column_of w places (n, t)) - length (80 ∷ decimal n)) 32)
+      (and_from true (list_all is_row_byte (decimal n)) refl (decimal_passes is_row_byte place_on_row n (omega arith)))
+      (spaces_class is_row_byte (width_of (column_of w places (n, t)) - length (80 ∷ decimal n)) refl),
+  head_bytes w places (n + 1) threads (omega arith),
+)
 
 -- the printed header of a table is read as the number of its threads
 pub head_back : (w : Writing) (places : List (List ℕ)) (n : ℕ) (t : ThreadCode) (threads : List ThreadCode) (begun : Begun) (rest : Lines) → length (t ∷ threads) ≤ 64

@@ -1,7 +1,7 @@
 -- The printed items of the initial state are read back.
 use Rattle.std.proofs.Common.{◌≡◌, ◌<◌, ◌≤◌, ◌+◌, ◌==◌, ℕ, zero, suc, List, [], ◌∷◌, ◌++◌, Some, None, Ok, true, false, length, map, get_or, refl, sym, ap, ◌∙◌, arith, append_assoc, append-nil, add-zero, zero-add}
 use Rattle.std.specs.Prelude.{Bool, not, ◌&&◌, ◌||◌, Option, Result, nat_lt, nat_le, codes}
-use Rattle.std.specs.Char.{is_ascii_digit, is_ascii_alphanumeric}
+use Rattle.std.specs.Char.{is_ascii_digit}
 use Rattle.std.specs.Fmt.{decimal}
 use Rattle.std.specs.List.{list_all, list_any, flat_map, position_from, IsDistinct, AllByRecursion}
 use Rattle.std.specs.Str.{bytes_eq}
@@ -18,10 +18,9 @@ use Rattle.text_laws.specs.LeadingRuns.{after_run}
 use Rattle.final_cond.specs.Conditions.{LeftSeen, InRegister}
 use Rattle.final_cond.specs.CondText.{left_text}
 use Rattle.final_cond.specs.ConditionReading.{Fault, found, only_known, left_at_start, left_read, has_form}
-use Rattle.final_cond.specs.FormLaws.{form_named}
-use Rattle.text_laws.proofs.NameLaws.{place_name_bytes}
+use Rattle.final_cond.specs.CondTextLaws.{PassLeft, left_passes}
+use Rattle.text_laws.proofs.NameLaws.{place_passes}
 use Rattle.final_cond.proofs.BackLaws.{left_back}
-use Rattle.list_laws.proofs.Digits.{digits_of}
 use Rattle.text_laws.proofs.NumberLaws.{not_digits}
 use Rattle.arch_trait.specs.Threads.{Puts}
 use Rattle.arch_trait.specs.PlaceNames.{number_in, names_added}
@@ -45,14 +44,11 @@ use Rattle.text_laws.proofs.BlankLaws.{inked_ends}
 abbrev pub is_item_byte : ℕ → Bool
 is_item_byte b = is_line_byte b && (not (is_blank b) && not (b == 59 || b == 125))
 
-digit_in_item : (b : ℕ) → is_ascii_digit b ≡ true → is_item_byte b ≡ true
-digit_in_item b h = grind (arith, nat_tests)
-
-letter_in_item : (b : ℕ) → is_ascii_alphanumeric b ≡ true → is_item_byte b ≡ true
-letter_in_item b h = grind (arith, nat_tests)
-
 place_in_item : (b : ℕ) → is_place_byte b ≡ true → is_item_byte b ≡ true
 place_in_item b h = grind (arith, nat_tests)
+
+place_no_equals : (b : ℕ) → is_place_byte b ≡ true → not (b == 61) ≡ true
+place_no_equals b h = grind (arith, nat_tests)
 
 item_inked : (b : ℕ) → is_item_byte b ≡ true → not (is_blank b) ≡ true
 item_inked b h = (and_parts (not (is_blank b)) (not (b == 59 || b == 125)) (and_parts (is_line_byte b) (not (is_blank b) && not (b == 59 || b == 125)) h).1).0
@@ -129,17 +125,16 @@ side_back a w link laws small h =
     let read = left_back (λ l. true) left [] (side_formed a w link laws small h) refl refl in
     ap left_at_start (sym (append-nil (left_text left))) ∙ read_found (left_text left ++ []) (left_at_start (left_text left ++ [])) (left, []) read
 
+-- a side passes a test that the bytes of a left side pass
+side_passes : (test : ℕ → Bool) → PassLeft test → (a : Puts) (w : Writing) (link : Link) → WritesBack a w → link.0 < 64 → link.1.0 < length w.registers → list_all test (side_text w link) ≡ true
+unfolding side_text
+side_passes test each a w link laws small h = left_passes test each (InRegister link.0 (name_in w.registers link.1.0)) (side_formed a w link laws small h)
+
 side_bytes : (a : Puts) (w : Writing) (link : Link) → WritesBack a w → link.0 < 64 → link.1.0 < length w.registers → list_all is_item_byte (side_text w link) ≡ true
-unfolding side_text left_text
-side_bytes a w link laws small h =
-    let digits = digits_of link.0 (omega arith) in
-    let parts = form_named link.0 (name_in w.registers link.1.0) (side_formed a w link laws small h) in
-    all_both is_item_byte (decimal link.0 ++ codes ":") (name_in w.registers link.1.0)
-    (all_both is_item_byte (decimal link.0) (codes ":") (list_all-weaker is_ascii_digit is_item_byte digit_in_item (decimal link.0) digits.all) refl)
-    (list_all-weaker is_ascii_alphanumeric is_item_byte letter_in_item (name_in w.registers link.1.0) parts.bytes)
+side_bytes a w link laws small h = side_passes is_item_byte (record { names = place_in_item; colon = refl; opening = refl; closing = refl }) a w link laws small h
 
 name_bytes : (name : List ℕ) → is_place_name name ≡ true → list_all is_item_byte name ≡ true
-name_bytes name h = list_all-weaker is_place_byte is_item_byte place_in_item name (place_name_bytes name h)
+name_bytes name h = place_passes is_item_byte place_in_item name h
 
 -- the bytes of an item without its semicolon are those of an item
 pub core_bytes : (a : Puts) (w : Writing) (table : List (List ℕ)) (names : ℕ → List ℕ) (link : Link) → WritesBack a w → LinkFits w table names link → list_all is_item_byte (core w names link) ≡ true
@@ -148,13 +143,7 @@ core_bytes a w table names link laws fits =
     (and_from true (list_all is_item_byte (names link.1.1)) refl (name_bytes (names link.1.1) fits.formed))
 
 side_equal : (a : Puts) (w : Writing) (link : Link) → WritesBack a w → link.0 < 64 → link.1.0 < length w.registers → is_without 61 (side_text w link) ≡ true
-unfolding side_text left_text
-side_equal a w link laws small h =
-    let digits = digits_of link.0 (omega arith) in
-    let parts = form_named link.0 (name_in w.registers link.1.0) (side_formed a w link laws small h) in
-    all_both (λ b. not (b == 61)) (decimal link.0 ++ codes ":") (name_in w.registers link.1.0)
-    (all_both (λ b. not (b == 61)) (decimal link.0) (codes ":") (without_class is_ascii_digit 61 (decimal link.0) refl digits.all) refl)
-    (without_class is_ascii_alphanumeric 61 (name_in w.registers link.1.0) refl parts.bytes)
+side_equal a w link laws small h = side_passes (λ b. not (b == 61)) (record { names = place_no_equals; colon = refl; opening = refl; closing = refl }) a w link laws small h
 
 begins_no_digit : (b : ℕ) → begins_place b ≡ true → is_ascii_digit b ≡ false
 begins_no_digit b h = grind (arith, nat_tests)

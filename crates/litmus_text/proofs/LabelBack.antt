@@ -6,10 +6,10 @@ use Rattle.std.proofs.lemmas.List.Sums.{sum_by-cons}
 use Rattle.std.proofs.lemmas.Bool.{and_parts}
 use Rattle.micro_ops.specs.declared.operation.Micro.{Micro}
 use Rattle.micro_ops.specs.declared.operation.Micro.TheVariants as ops
-use Rattle.litmus_text.specs.TestTable.{is_label_of, is_label_row, lands_once, is_landing, labels_judged, all_labels_judged}
+use Rattle.litmus_text.specs.TestTable.{is_label_of, is_label_row, comes_once, lands_among, labels_judged, all_labels_judged}
 use Rattle.litmus_text.specs.Placing.{op_renumbered}
 use Rattle.litmus_text.specs.TablePlan.{placed_from, column_so_far}
-use Rattle.litmus_text.specs.Progress.{occurs_once, op_lands, code_lands}
+use Rattle.litmus_text.specs.Progress.{code_lands}
 
 label_kept : (label : ℕ) (table : List (List ℕ)) (names : ℕ → List ℕ) (op : Micro) → is_label_of label (op_renumbered table names op) ≡ is_label_of label op
 label_kept label table names (ops.LoadAt dst place) = refl
@@ -24,11 +24,11 @@ count_kept label table names n (op ∷ code) =
     ∙ sym (sum_by-cons (λ op. cond (is_label_of label op) 1 0) op code)
 
 once_kept : (label : ℕ) (table : List (List ℕ)) (names : ℕ → List ℕ) (n m : ℕ) (all remainder : List Micro)
-    → lands_once label (placed_from table names n all) (placed_from table names m remainder) ≡ occurs_once label all remainder
+    → comes_once (is_label_row label) (placed_from table names n all) (placed_from table names m remainder) ≡ comes_once (is_label_of label) all remainder
 once_kept label table names n m all remainder = rw (count_kept label table names n all, count_kept label table names m remainder) refl
 
 landing_kept : (op : Micro) (table : List (List ℕ)) (names : ℕ → List ℕ) (n m : ℕ) (all remainder : List Micro)
-    → is_landing (op_renumbered table names op) (placed_from table names n all) (placed_from table names m remainder) ≡ op_lands op all remainder
+    → lands_among is_label_row (op_renumbered table names op) (placed_from table names n all) (placed_from table names m remainder) ≡ lands_among is_label_of op all remainder
 landing_kept (ops.BranchEq label) table names n m all remainder = once_kept label table names n m all remainder
 landing_kept (ops.BranchNz a label) table names n m all remainder = once_kept label table names n m all remainder
 landing_kept op table names n m all remainder = refl
@@ -38,7 +38,7 @@ judged_back : (table : List (List ℕ)) (names : ℕ → List ℕ) (n m : ℕ) (
 unfolding labels_judged
 judged_back table names n m all [] h = refl
 judged_back table names n m all (op ∷ code) h =
-    let parts = and_parts (op_lands op all code) (code_lands all code) h in
+    let parts = and_parts (lands_among is_label_of op all code) (code_lands all code) h in
     rw (landing_kept op table names n (m + 1) all code, parts.0) (judged_back table names n (m + 1) all code parts.1)
 
 -- the labels of printed threads are judged to be right

@@ -1,14 +1,15 @@
 -- The rows of a printed table are read back.
 use Rattle.std.proofs.Common.{◌≡◌, ◌<◌, ◌≤◌, ◌+◌, ◌==◌, ℕ, List, [], ◌∷◌, ◌++◌, Some, None, Ok, true, false, cond, length, map, length-append, refl, sym, ap, ◌∙◌, subst, arith, add-zero, zero-add}
 use Rattle.std.specs.Prelude.{not, ◌&&◌, ◌||◌, Option, nat_lt, nat_le, is_some, count_by}
-use Rattle.std.specs.List.{list_all, AllByRecursion, range_with_len}
+use Rattle.std.specs.List.{list_all, AllByRecursion}
 use Rattle.std.proofs.lemmas.Bool.{lt-ltb, ltb-true, not-true, and_parts}
-use Rattle.std.proofs.lemmas.List.Sums.{sum_by-append, sum_by-cons, AllPass-from_list_all}
-use Rattle.std.proofs.lemmas.List.FromFn.{get_or-range_with_len}
+use Rattle.std.proofs.lemmas.Bool.Decides.{nat_tests}
+use Rattle.std.proofs.lemmas.List.Sums.{sum_by-append, sum_by-cons}
 use Rattle.std.proofs.lemmas.Simd.{map-map}
 use Rattle.list_laws.proofs.Cases.{by_test}
 use Rattle.text_laws.specs.Blanks.{is_blank}
-use Rattle.text_laws.specs.Names.{is_place_name}
+use Rattle.text_laws.specs.Names.{is_place_byte, is_place_name}
+use Rattle.text_laws.proofs.NameLaws.{register_passes}
 use Rattle.micro_ops.specs.declared.operation.Micro.{Micro}
 use Rattle.micro_ops.specs.declared.operation.Micro.TheVariants as ops
 use Rattle.arch_trait.specs.Threads.{Puts}
@@ -146,14 +147,12 @@ abbrev pub next_text : Writing → (ℕ → List ℕ) → List Micro → List �
 next_text w names [] = []
 next_text w names (op ∷ left) = op_text w names op
 
-all_label_bytes : list_all (λ i. list_all is_cell_byte (label_name i)) (range_with_len 0 64) ≡ true
-all_label_bytes = refl
+place_in_cell : (b : ℕ) → is_place_byte b ≡ true → is_cell_byte b ≡ true
+place_in_cell b h = grind (arith, nat_tests)
 
 -- the name of a label below 64 has only bytes of a cell
 pub label_bytes : (label : ℕ) → label < 64 → list_all is_cell_byte (label_name label) ≡ true
-label_bytes label h =
-    let row = AllPass-from_list_all (λ i. list_all is_cell_byte (label_name i)) (range_with_len 0 64) all_label_bytes label 0 h in
-    ap (λ n. list_all is_cell_byte (label_name n)) (sym (get_or-range_with_len 0 64 label 0 h ∙ zero-add label)) ∙ row
+label_bytes label h = register_passes is_cell_byte place_in_cell (label_name label) (label_formed label h)
 
 labelled : (op : Micro) (a : Puts) (w : Writing) (names : ℕ → List ℕ) (count n k : ℕ) (s t : Among Column) → is_label_op op ≡ true → WritesCells a w → a.has op ≡ true
     → is_next count op ≡ true → Begins (op_text w names op) → instr_put n s.value (instr_read w (op_text w names op) s.names s.value.labels) ≡ Ok t

@@ -29,7 +29,7 @@ use Rattle.text_laws.specs.Words.{is_nil}
 use Rattle.text_laws.specs.Cuts.{cut_at}
 use Rattle.litmus_text.specs.TextLines.{Lines, ends, line, bad}
 use Rattle.text_laws.specs.ReadingSteps.{◌>>=◌}
-use Rattle.litmus_text.specs.TestTable.{Column, no_column, no_columns, Among, among, fits_in_column, instr_put, instr_in, instr_or_nothing, cell_if, cell_read, row_read, rows_read, cells_of, is_label_of, is_label_row, lands_once, is_landing, labels_judged, all_labels_judged}
+use Rattle.litmus_text.specs.TestTable.{Column, no_column, no_columns, Among, among, fits_in_column, instr_put, instr_in, instr_or_nothing, cell_if, cell_read, row_read, rows_read, cells_of, is_label_of, is_label_row, comes_once, lands_among, labels_judged, all_labels_judged}
 use Rattle.litmus_text.specs.Runnable.{IsRunnable, NamesRegisters, AllNameRegisters, ops_in, AllRunnable}
 use Rattle.litmus_text.specs.TestReading.{values_of_thread}
 use Rattle.litmus_text.specs.declared.reading.table.Column.{Column as ThreadColumn}
@@ -175,13 +175,13 @@ occurs_counted l (p ∷ placed) h = by_test (is_label_of l p.op)
     (λ e. or_right (run.is_label l p.op) (occurs l (map (λ (q : Placed). q.op) placed))
     (occurs_counted l placed (let c : ◌≡◌ {A = ℕ} (cond (is_label_row l p) 1 0) 0 = ap (λ b. cond b 1 0) e in omega (arith, h, c, sum_by-cons (λ (q : Placed). cond (is_label_row l q) 1 0) p placed))))
 
-once_occurs : (l : ℕ) (all placed : List Placed) → lands_once l all placed ≡ true → occurs l (map (λ (p : Placed). p.op) placed) ≡ true
+once_occurs : (l : ℕ) (all placed : List Placed) → comes_once (is_label_row l) all placed ≡ true → occurs l (map (λ (p : Placed). p.op) placed) ≡ true
 once_occurs l all placed h =
     let a = and_parts (count_by (is_label_row l) all == 1) (count_by (is_label_row l) placed == 1) h in
     let e = eqb-true (count_by (is_label_row l) placed) 1 a.1 in
     occurs_counted l placed (omega (arith, e))
 
-landing_occurs : (op : Micro) (all placed : List Placed) → is_landing op all placed ≡ true → occurs_if (target op) (map (λ (p : Placed). p.op) placed) ≡ true
+landing_occurs : (op : Micro) (all placed : List Placed) → lands_among is_label_row op all placed ≡ true → occurs_if (target op) (map (λ (p : Placed). p.op) placed) ≡ true
 landing_occurs (ops.BranchEq l) all placed h = once_occurs l all placed h
 landing_occurs (ops.BranchNz a l) all placed h = once_occurs l all placed h
 landing_occurs op all placed h = refl
@@ -189,7 +189,7 @@ landing_occurs op all placed h = refl
 judged_lands : (all placed : List Placed) → labels_judged all placed ≡ Ok tt → lands (map (λ (p : Placed). p.op) placed) ≡ true
 unfolding labels_judged
 judged_lands all [] h = refl
-judged_lands all (p ∷ placed) h = by_test (is_landing p.op all placed)
+judged_lands all (p ∷ placed) h = by_test (lands_among is_label_row p.op all placed)
     (λ e. and_from (occurs_if (target p.op) (map (λ (q : Placed). q.op) placed)) (lands (map (λ (q : Placed). q.op) placed))
     (landing_occurs p.op all placed e) (judged_lands all placed (sym (rw e refl) ∙ h)))
     (λ e. let f : bad {A = Unit {0}} BadLabel p.at_line ≡ Ok tt = sym (rw e refl) ∙ h in cc)

@@ -64,6 +64,17 @@ more_parts w test part next after old mid new piece left less so_far text put sh
   short = omega (arith, length-append so_far.piece piece, so_far.short);
 }
 
+-- parts that were appended one after another are put as one, where fewer parts are left after them
+parts_put : (w : Writing) (test : TestSeen) (part next : TextPart) (old new : List ℕ) (left : ℕ) → PutsParts w test part old new left next
+    → parts_left w test (Some next) < parts_left w test (Some part) → PutsPart w test part old new (Some next)
+parts_put w test part next old new left so_far fewer = record {
+  piece = so_far.piece;
+  text = so_far.text;
+  page = so_far.page;
+  short = omega (arith, so_far.short);
+  fewer = fewer;
+}
+
 -- the items of a thread
 items_text : (w : Writing) (test : TestSeen) (i : ℕ) (t : ℕ × ThreadCode) → i < length test.threads → get_or (enumerate_from 0 test.threads) i t ≡ t
     → text_from w test (Some (Items i)) ≡ printed_items w test.places t ++ text_from w test (Some (Items (i + 1)))
@@ -93,13 +104,8 @@ items_more w test threads first i code old mid new left less same so_far h is pu
 pub items_put : (w : Writing) (test : TestSeen) (threads : List Code) (first i : ℕ) (old new : List ℕ) (left : ℕ) → test.threads ≡ map thread_code_of threads
     → PutsParts w test (Items first) old new left (Items i) → first < i → i ≤ length threads → PutsPart w test (Items first) old new (Some (Items i))
 unfolding parts_left
-items_put w test threads first i old new left same so_far later h = record {
-  piece = so_far.piece;
-  text = so_far.text;
-  page = so_far.page;
-  short = omega (arith, so_far.short);
-  fewer = omega (arith, ap length same, length-map threads thread_code_of);
-}
+items_put w test threads first i old new left same so_far later h =
+    parts_put w test (Items first) (Items i) old new left so_far (omega (arith, ap length same, length-map threads thread_code_of))
 
 -- after the items of the last thread, the closing brace
 pub closing_put : (w : Writing) (test : TestSeen) (threads : List Code) (first i : ℕ) (old mid new : List ℕ) (left : ℕ) → test.threads ≡ map thread_code_of threads
@@ -113,13 +119,7 @@ closing_put w test threads first i old mid new left same so_far room h put =
     let closed : PutsParts w test (Items first) old new (left - 2) (Row 0) =
     more_parts w test (Items first) (Items i) (Row 0) old mid new (codes "}\n") left (left - 2) so_far
     (ap (λ left. flat_map with_line_feed (flat_map lines left ++ codes "}" ∷ rows_from w test 0)) none) put (omega arith) in
-    record {
-      piece = closed.piece;
-      text = closed.text;
-      page = closed.page;
-      short = omega (arith, closed.short);
-      fewer = omega arith;
-    }
+    parts_put w test (Items first) (Row 0) old new (left - 2) closed (omega arith)
 
 -- a row
 row_text : (w : Writing) (test : TestSeen) (row : ℕ) → row < row_count (columns_of w test.places test.threads)
@@ -150,13 +150,7 @@ rows_more w test rows first row old mid new left less same so_far h put short =
 pub rows_put : (w : Writing) (test : TestSeen) (rows first row : ℕ) (old new : List ℕ) (left : ℕ) → rows ≡ row_count (columns_of w test.places test.threads)
     → PutsParts w test (Row first) old new left (Row row) → first < row → row ≤ rows → PutsPart w test (Row first) old new (Some (Row row))
 unfolding parts_left
-rows_put w test rows first row old new left same so_far later h = record {
-  piece = so_far.piece;
-  text = so_far.text;
-  page = so_far.page;
-  short = omega (arith, so_far.short);
-  fewer = omega (arith, same);
-}
+rows_put w test rows first row old new left same so_far later h = parts_put w test (Row first) (Row row) old new left so_far (omega (arith, same))
 
 -- the part after the last row is the line of the condition
 pub condition_put : (w : Writing) (test : TestSeen) (rows row : ℕ) (old new : List ℕ) → rows ≡ row_count (columns_of w test.places test.threads) → rows ≤ row

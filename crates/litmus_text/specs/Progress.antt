@@ -1,6 +1,6 @@
 -- How far the rows of a printed table were read: for each thread the operations that were read and those that are left.
 -- Source: own.
-use Rattle.std.specs.Prelude.{◌≡◌, ℕ, ◌+◌, ◌==◌, Bool, true, not, ◌&&◌, ◌||◌, nat_lt, is_some, cond, List, [], ◌∷◌, ◌++◌, count_by}
+use Rattle.std.specs.Prelude.{◌≡◌, ℕ, ◌+◌, Bool, true, not, ◌&&◌, ◌||◌, nat_lt, is_some, cond, List, [], ◌∷◌, ◌++◌}
 use Rattle.text_laws.specs.Names.{is_place_name}
 use Rattle.micro_ops.specs.declared.operation.Micro.{Micro}
 use Rattle.micro_ops.specs.declared.operation.Micro.TheVariants as ops
@@ -8,7 +8,7 @@ use Rattle.arch_trait.specs.Threads.{Puts}
 use Rattle.arch_trait.specs.PlaceNames.{number_in}
 use Rattle.arch_trait.specs.Cells.{is_access}
 use Rattle.arch_trait.specs.LabelOrder.{is_next, labels_after}
-use Rattle.litmus_text.specs.TestTable.{Column, is_label_of}
+use Rattle.litmus_text.specs.TestTable.{Column, is_label_of, lands_among}
 use Rattle.litmus_text.specs.Placing.{mentioned}
 use Rattle.litmus_text.specs.TablePlan.{column_so_far}
 
@@ -64,17 +64,7 @@ CodeFits a table names labels accesses [] = Unit {0}
 CodeFits a table names labels accesses (op ∷ code) =
     OpFits a table names labels accesses op × CodeFits a table names (labels_after labels op) (accesses + cond (is_access op) 1 0) code
 
--- a label is in a thread once, after the branch
-abbrev pub occurs_once : ℕ → List Micro → List Micro → Bool
-occurs_once label all remainder = (count_by (is_label_of label) all == 1) && (count_by (is_label_of label) remainder == 1)
-
--- where an operation is a branch, its label comes once in the thread, after the branch
-abbrev pub op_lands : Micro → List Micro → List Micro → Bool
-op_lands (ops.BranchEq label) all remainder = occurs_once label all remainder
-op_lands (ops.BranchNz a label) all remainder = occurs_once label all remainder
-op_lands op all remainder = true
-
 -- the label of each branch of a thread, from an operation on, comes once in the thread, after the branch
 abbrev pub code_lands : List Micro → List Micro → Bool
 code_lands all [] = true
-code_lands all (op ∷ remainder) = op_lands op all remainder && code_lands all remainder
+code_lands all (op ∷ remainder) = lands_among is_label_of op all remainder && code_lands all remainder

@@ -153,20 +153,21 @@ is_label_of label op = false
 abbrev pub is_label_row : ℕ → Placed → Bool
 is_label_row label placed = is_label_of label placed.op
 
--- a label is in a thread once, after the branch
-abbrev pub lands_once : ℕ → List Placed → List Placed → Bool
-lands_once label all remainder = (count_by (is_label_row label) all == 1) && (count_by (is_label_row label) remainder == 1)
+-- a test is passed once in a list, and once in a later part of it
+abbrev pub comes_once : {X : Type 0} → (X → Bool) → List X → List X → Bool
+comes_once test all remainder = (count_by test all == 1) && (count_by test remainder == 1)
 
--- an operation with the operations of its thread and those after it: where it is a branch, its label comes once, after it
-abbrev pub is_landing : Micro → List Placed → List Placed → Bool
-is_landing (ops.BranchEq label) all remainder = lands_once label all remainder
-is_landing (ops.BranchNz a label) all remainder = lands_once label all remainder
-is_landing _ all remainder = true
+-- an operation with all elements of its thread and those after it, where a test tells which element is a label:
+-- where the operation is a branch, its label comes once in the thread, after the branch
+abbrev pub lands_among : {X : Type 0} → (ℕ → X → Bool) → Micro → List X → List X → Bool
+lands_among is_label (ops.BranchEq label) all remainder = comes_once (is_label label) all remainder
+lands_among is_label (ops.BranchNz a label) all remainder = comes_once (is_label label) all remainder
+lands_among is_label _ all remainder = true
 
 -- the labels of the branches from an operation of a thread on are judged
 unfoldable pub labels_judged : List Placed → List Placed → Result (Unit {0}) TextError
 labels_judged all [] = Ok tt
-labels_judged all (placed ∷ remainder) = cond (is_landing placed.op all remainder) (labels_judged all remainder) (bad BadLabel placed.at_line)
+labels_judged all (placed ∷ remainder) = cond (lands_among is_label_row placed.op all remainder) (labels_judged all remainder) (bad BadLabel placed.at_line)
 
 -- the labels of all threads are judged
 unfoldable pub all_labels_judged : List Column → Result (Unit {0}) TextError

@@ -17,8 +17,8 @@ use Rattle.arch_trait.specs.Laws.{InOrder}
 use Rattle.arch_trait.specs.PlaceNames.{number_in}
 use Rattle.arch_trait.specs.Threads.{Puts, ThreadCode, visits}
 use Rattle.arch_trait.specs.Writing.{Writing}
-use Rattle.litmus_text.specs.TestTable.{is_label_of}
-use Rattle.litmus_text.specs.Progress.{is_placed, CodeFits, occurs_once, code_lands}
+use Rattle.litmus_text.specs.TestTable.{is_label_of, comes_once}
+use Rattle.litmus_text.specs.Progress.{is_placed, CodeFits, code_lands}
 use Rattle.litmus_text.specs.Items.{Link, links_of, links_once, LinkFits}
 use Rattle.arch_laws.proofs.TakingLaws.{in_order_le}
 
@@ -92,7 +92,7 @@ occurs_some label (op ∷ code) h =
     rest op h e = h
 
 -- a label after a branch, in code whose labels come at most once each, comes once in all
-occurs_exactly : (label : ℕ) (prefix remainder : List Micro) → count_by (is_label_of label) (prefix ++ remainder) ≤ 1 → occurs label remainder ≡ true → occurs_once label (prefix ++ remainder) remainder ≡ true
+occurs_exactly : (label : ℕ) (prefix remainder : List Micro) → count_by (is_label_of label) (prefix ++ remainder) ≤ 1 → occurs label remainder ≡ true → comes_once (is_label_of label) (prefix ++ remainder) remainder ≡ true
 occurs_exactly label prefix remainder few h =
     let some = occurs_some label remainder h in
     let split : count_by (is_label_of label) (prefix ++ remainder) ≡ count_by (is_label_of label) prefix + count_by (is_label_of label) remainder = sum_by-append (λ op. cond (is_label_of label op) 1 0) prefix remainder in
@@ -103,20 +103,20 @@ shifted : (prefix : List Micro) (op : Micro) (code : List Micro) → (prefix ++ 
 shifted prefix op code = append_assoc prefix (op ∷ []) code
 
 once : (prefix : List Micro) (op : Micro) (label : ℕ) (code : List Micro) → ((l : ℕ) → count_by (is_label_of l) (prefix ++ op ∷ code) ≤ 1) → occurs label code ≡ true
-    → occurs_once label (prefix ++ op ∷ code) code ≡ true
+    → comes_once (is_label_of label) (prefix ++ op ∷ code) code ≡ true
 once prefix op label code few h =
-    subst (λ all. occurs_once label all code ≡ true) (shifted prefix op code)
+    subst (λ all. comes_once (is_label_of label) all code ≡ true) (shifted prefix op code)
     (occurs_exactly label (prefix ++ op ∷ []) code (subst (λ all. count_by (is_label_of label) all ≤ 1) (sym (shifted prefix op code)) (few label)) h)
 
 lands_prefix : (prefix code : List Micro) → ((label : ℕ) → count_by (is_label_of label) (prefix ++ code) ≤ 1) → lands code ≡ true → code_lands (prefix ++ code) code ≡ true
 lands_prefix prefix [] few h = refl
 lands_prefix prefix (ops.BranchEq label ∷ code) few h =
     let parts = and_parts (occurs label code) (lands code) h in
-    and_from (occurs_once label (prefix ++ ops.BranchEq label ∷ code) code) (code_lands (prefix ++ ops.BranchEq label ∷ code) code)
+    and_from (comes_once (is_label_of label) (prefix ++ ops.BranchEq label ∷ code) code) (code_lands (prefix ++ ops.BranchEq label ∷ code) code)
     (once prefix (ops.BranchEq label) label code few parts.0) (subst (λ all. code_lands all code ≡ true) (shifted prefix (ops.BranchEq label) code) (lands_prefix (prefix ++ ops.BranchEq label ∷ []) code (λ l. subst (λ all. count_by (is_label_of l) all ≤ 1) (sym (shifted prefix (ops.BranchEq label) code)) (few l)) parts.1))
 lands_prefix prefix (ops.BranchNz a label ∷ code) few h =
     let parts = and_parts (occurs label code) (lands code) h in
-    and_from (occurs_once label (prefix ++ ops.BranchNz a label ∷ code) code) (code_lands (prefix ++ ops.BranchNz a label ∷ code) code)
+    and_from (comes_once (is_label_of label) (prefix ++ ops.BranchNz a label ∷ code) code) (code_lands (prefix ++ ops.BranchNz a label ∷ code) code)
     (once prefix (ops.BranchNz a label) label code few parts.0) (subst (λ all. code_lands all code ≡ true) (shifted prefix (ops.BranchNz a label) code) (lands_prefix (prefix ++ ops.BranchNz a label ∷ []) code (λ l. subst (λ all. count_by (is_label_of l) all ≤ 1) (sym (shifted prefix (ops.BranchNz a label) code)) (few l)) parts.1))
 lands_prefix prefix (op ∷ code) few h = subst (λ all. code_lands all code ≡ true) (shifted prefix op code) (lands_prefix (prefix ++ op ∷ []) code (λ l. subst (λ all. count_by (is_label_of l) all ≤ 1) (sym (shifted prefix op code)) (few l)) h)
 
