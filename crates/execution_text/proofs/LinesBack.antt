@@ -1,15 +1,13 @@
 -- A line that is written has the words of which it is made, and gives what these name; the lines of a text that is written are
 -- those of which it is made.
-use Rattle.std.proofs.Common.{◌≡◌, ◌≤◌, ℕ, List, [], ◌∷◌, ◌++◌, map, length, get_or, true, false, refl, ap, ◌∙◌, arith, append_assoc, length-append}
-use Rattle.std.specs.Prelude.{Bool, not, ◌&&◌, nat_le, nat_lt, codes, Option, Some, Ok}
-use Rattle.std.specs.List.{All, AllByRecursion, list_all, filter, flat_map, slice_split}
+use Rattle.std.proofs.Common.{◌≡◌, ◌≤◌, ℕ, List, [], ◌∷◌, ◌++◌, map, length, true, refl, ap, ◌∙◌, arith, append_assoc, length-append}
+use Rattle.std.specs.Prelude.{Bool, ◌&&◌, nat_le, nat_lt, codes, Option, Some, Ok}
+use Rattle.std.specs.List.{AllByRecursion, list_all, flat_map}
 use Rattle.std.proofs.lemmas.Bool.Decides.{nat_tests}
 use Rattle.std.proofs.lemmas.List.{append-nil}
-use Rattle.std.proofs.lemmas.List.Splits.{slice_split_at, slice_split_none}
-use Rattle.std.proofs.lemmas.List.Sums.{AllPass-from_list_all}
 use Rattle.list_laws.proofs.Elements.{list_all-weaker}
 use Rattle.text_laws.specs.Blanks.{is_inked}
-use Rattle.text_laws.specs.Words.{is_nil, words}
+use Rattle.text_laws.specs.Words.{words}
 use Rattle.text_laws.specs.Lines.{lines_of}
 use Rattle.litmus_text.specs.TestText.{with_line_feed}
 use Rattle.text_laws.specs.Cuts.{CutParts}

@@ -139,10 +139,11 @@ pub record ThreadsRead (threads : ℕ) (places lines : List (List ℕ)) (x : Exe
   pub many : length reads ≡ threads
   pub x_is : record { reads = reads; orders = empty_lists (length places) } ≡ x
 
--- lines of threads that lead to an execution are read without a fault
-pub threads_read : (threads : ℕ) (places lines : List (List ℕ)) (x : Execution) (left : List (List ℕ)) → lines_added with_read (nothing_kept threads (length places)) 0 (thread_lines_read threads lines) ≡ Ok (x, left) → ThreadsRead threads places lines x left
-threads_read threads places lines x left h =
-    let t = are_read with_read (nothing_kept threads (length places)) x 0 (thread_lines_read threads lines) left h in
+-- lines of threads that lead from nothing to an execution are read without a fault
+pub threads_read : (threads : ℕ) (places lines : List (List ℕ)) (begun x : Execution) (left : List (List ℕ)) → begun ≡ nothing_kept threads (length places)
+    → lines_added with_read begun 0 (thread_lines_read threads lines) ≡ Ok (x, left) → ThreadsRead threads places lines x left
+threads_read threads places lines begun x left begins h =
+    let t = are_read with_read (nothing_kept threads (length places)) x 0 (thread_lines_read threads lines) left (rw begins at h) in
     let many : length t.lists ≡ threads = read_length (line_read BadThread BadRead (read_named threads)) 1 (map thread_head (range_with_len 0 threads)) lines t.lists left t.is ∙ length-map-range_with_len thread_head 0 threads in
     record { reads = t.lists; is = t.is; many = many; x_is = sym (reads_are threads (length places) t.lists many) ∙ t.grown }
 
@@ -190,7 +191,8 @@ all_read threads places lines x y left last t h =
 pub both_read : (threads : ℕ) (places lines : List (List ℕ)) (begun x y : Execution) (left last : List (List ℕ)) → begun ≡ nothing_kept threads (length places)
     → lines_added with_read begun 0 (thread_lines_read threads lines) ≡ Ok (x, left) → lines_added with_write x 0 (place_lines_read threads places left) ≡ Ok (y, last)
     → AllRead threads places lines y last
-both_read threads places lines begun x y left last begins h k = all_read threads places lines x y left last (threads_read threads places lines x left (rw begins at h)) k
+both_read threads places lines begun x y left last begins h k =
+    all_read threads places lines x y left last (threads_read threads places lines begun x left begins h) k
 
 -- where no line is left, the lines give this execution
 pub ended_read : (threads : ℕ) (places lines : List (List ℕ)) (y : Execution) (left : List (List ℕ)) → AllRead threads places lines y left → left ≡ [] → reads_and_writes_read threads places lines ≡ Ok y

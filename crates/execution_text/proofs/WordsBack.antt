@@ -7,11 +7,10 @@ use Rattle.std.specs.List.{list_all}
 use Rattle.std.specs.Str.{bytes_eq}
 use Rattle.std.proofs.lemmas.Bool.{lt-ltb}
 use Rattle.std.proofs.lemmas.Bool.Decides.{nat_tests}
-use Rattle.std.proofs.lemmas.Fmt.{digits_decimal}
 use Rattle.std.proofs.lemmas.Slice.Eq.{bytes_eq-Decides}
 use Rattle.list_laws.proofs.Digits.{digits_of}
 use Rattle.list_laws.proofs.Cases.{by_test}
-use Rattle.text_laws.specs.Names.{begins_place, is_place_byte, is_place_name}
+use Rattle.text_laws.specs.Names.{is_place_byte, is_place_name}
 use Rattle.text_laws.proofs.NameLaws.{place_passes, decimal_passes}
 use Rattle.text_laws.proofs.NumberLaws.{number_of-decimal}
 use Rattle.text_laws.specs.Cuts.{cut_at}

@@ -131,7 +131,8 @@ unfolding side_text
 side_passes test each a w link laws small h = left_passes test each (InRegister link.0 (name_in w.registers link.1.0)) (side_formed a w link laws small h)
 
 side_bytes : (a : Puts) (w : Writing) (link : Link) → WritesBack a w → link.0 < 64 → link.1.0 < length w.registers → list_all is_item_byte (side_text w link) ≡ true
-side_bytes a w link laws small h = side_passes is_item_byte (record { names = place_in_item; colon = refl; opening = refl; closing = refl }) a w link laws small h
+side_bytes a w link laws small h =
+    side_passes is_item_byte (record { names = place_in_item; colon = refl; opening = refl; closing = refl }) a w link laws small h
 
 name_bytes : (name : List ℕ) → is_place_name name ≡ true → list_all is_item_byte name ≡ true
 name_bytes name h = place_passes is_item_byte place_in_item name h
@@ -143,7 +144,8 @@ core_bytes a w table names link laws fits =
     (and_from true (list_all is_item_byte (names link.1.1)) refl (name_bytes (names link.1.1) fits.formed))
 
 side_equal : (a : Puts) (w : Writing) (link : Link) → WritesBack a w → link.0 < 64 → link.1.0 < length w.registers → is_without 61 (side_text w link) ≡ true
-side_equal a w link laws small h = side_passes (λ b. not (b == 61)) (record { names = place_no_equals; colon = refl; opening = refl; closing = refl }) a w link laws small h
+side_equal a w link laws small h =
+    side_passes (λ b. not (b == 61)) (record { names = place_no_equals; colon = refl; opening = refl; closing = refl }) a w link laws small h
 
 begins_no_digit : (b : ℕ) → begins_place b ≡ true → is_ascii_digit b ≡ false
 begins_no_digit b h = grind (arith, nat_tests)

@@ -19,19 +19,21 @@ read_places-requires c =
     let n = c.args.threads in
     let places = c.args.places.now in
     let lines = lines_of c.args.text.now in
-    let begins : c.in-Ok.exec ≡ nothing_kept n (length places) = c.in-Ok.ensures ∙ ap (nothing_kept n) c.len.ensures in
-    let t = threads_read n places lines c.read_threads.new.exec (lines_of c.in-Ok-read_threads.rest.now) (rw begins at c.in-Ok-read_threads.ensures) in
-    orders_many n places lines c.read_threads.new.exec (lines_of c.in-Ok-read_threads.rest.now) t
+    let left = lines_of c.in-Ok-read_threads.rest.now in
+    orders_many n places lines c.read_threads.new.exec left
+    (threads_read n places lines c.in-Ok.exec c.read_threads.new.exec left (c.in-Ok.ensures ∙ ap (nothing_kept n) c.len.ensures) c.in-Ok-read_threads.ensures)
 
 pub returns-in-Err-read_places-clause-read : goal.returns-in-Err-read_places-clause-read
 returns-in-Err-read_places-clause-read c =
     let n = c.args.threads in
     let places = c.args.places.now in
     let lines = lines_of c.args.text.now in
-    let begins : c.in-Ok.exec ≡ nothing_kept n (length places) = c.in-Ok.ensures ∙ ap (nothing_kept n) c.len.ensures in
+    let left = lines_of c.in-Ok-read_threads.rest.now in
     let short = short_read n places c.args.text.now (omega (arith, c.if-text-gt-MAX_TEXT.false)) in
-    let t = threads_read n places lines c.read_threads.new.exec (lines_of c.in-Ok-read_threads.rest.now) (rw begins at c.in-Ok-read_threads.ensures) in
-    wrong_text c.in-Err-read_places.error c.read_places.new.exec _ _ c.in-Err-read_places.ensures (λ fault h. short ∙ places_wrong n places lines c.read_threads.new.exec (lines_of c.in-Ok-read_threads.rest.now) fault t h)
+    let x = c.read_threads.new.exec in
+    let t = threads_read n places lines c.in-Ok.exec x left (c.in-Ok.ensures ∙ ap (nothing_kept n) c.len.ensures) c.in-Ok-read_threads.ensures in
+    wrong_text c.in-Err-read_places.error c.read_places.new.exec _ _ c.in-Err-read_places.ensures
+    (λ fault h. short ∙ places_wrong n places lines x left fault t h)
 
 pub returns-in-None-clause-read : goal.returns-in-None-clause-read
 returns-in-None-clause-read c =
