@@ -13,13 +13,11 @@ use Rattle.list_laws.proofs.Cases.{by_test}
 use Rattle.text_laws.specs.Names.{is_register_name}
 use Rattle.text_laws.proofs.NameLaws.{digit_alphanumeric, register_passes}
 use Rattle.arch_trait.specs.declared.numbered.Numbered.{Numbered}
-use Rattle.arch_trait.specs.Cells.{is_cell_byte}
 use Rattle.arch_trait.specs.Forms.{register_name, register_names}
 use Rattle.arch_trait.specs.Writing.{name_in, is_plain, is_label_name, label_name, label_word}
 use Rattle.arch_trait.specs.WordBytes.{is_instruction_byte}
 use Rattle.list_laws.proofs.Digits.{three_digits, digits_of}
-use Rattle.arch_laws.proofs.CellTexts.{place_in_cell}
-use Rattle.arch_laws.proofs.SpellingLaws.{place_word_byte}
+use Rattle.arch_laws.proofs.CellTexts.{place_in_word}
 
 -- numbered registers: a letter, and numbers of at most three digits
 pub record IsNumbered (n : Numbered) : Type 0 where
@@ -28,17 +26,13 @@ pub record IsNumbered (n : Numbered) : Type 0 where
 
 -- the name of a label that has its form is plain
 pub label_plain : (l : ℕ) → is_label_name (label_name l) ≡ true → is_plain (label_name l) ≡ true
-label_plain l h = register_passes is_instruction_byte place_word_byte (label_name l) h
+label_plain l h = register_passes is_instruction_byte place_in_word (label_name l) h
 
 -- so is the word that sets the label
 pub label_word_plain : (l : ℕ) → is_label_name (label_name l) ≡ true → is_plain (label_word l) ≡ true
 label_word_plain l h =
     list_all-append is_instruction_byte (label_name l) (58 ∷ []) ∙
     and_from (list_all is_instruction_byte (label_name l)) true (label_plain l h) refl
-
--- the name of a label that has its form fits in a cell
-pub label_cell : (l : ℕ) → is_label_name (label_name l) ≡ true → list_all is_cell_byte (label_name l) ≡ true
-label_cell l h = register_passes is_cell_byte place_in_cell (label_name l) h
 
 -- the names of numbered registers: as many as they are, each at its number, of their form, and each once
 pub names_count : (n : Numbered) → length (register_names n) ≡ n.count

@@ -10,18 +10,6 @@ use Rattle.text_laws.proofs.RunLaws.{stops}
 use Rattle.arch_trait.proofs.PlainTexts as proved
 use Rattle.arch_trait.proofs.Spelling as spelling
 
--- a byte of a place's name is neither a blank nor a comma
-pub place_word_byte : (byte : ℕ) → is_place_byte byte ≡ true → is_instruction_byte byte ≡ true
-place_word_byte byte h = proved.place_word_byte byte h
-
--- a number in decimal has neither blanks nor commas
-pub decimal_plain : (n : ℕ) → n < 2 ^ 32 → list_all is_instruction_byte (decimal n) ≡ true
-decimal_plain n h = proved.decimal_plain n h
-
--- the name of a place has neither blanks nor commas
-pub place_name_plain : (name : List ℕ) → is_place_name name ≡ true → list_all is_instruction_byte name ≡ true
-place_name_plain name h = proved.place_name_plain name h
-
 -- an immediate is read from its decimal
 pub immediate_back : (n : ℕ) → n ≤ 2047 → immediate_number (decimal n) ≡ Some n
 immediate_back n h = proved.immediate_back n h

@@ -8,6 +8,6 @@ pub two_digits : (n : ℕ) → 10 ≤ n → n < 100 → decimal n ≡ (48 + n / 
 two_digits n l h =
     decimal_step n l (omega arith) ∙ ap (λ ds. ds ++ (48 + n % 10) ∷ []) (decimal_digit (n / 10) (omega arith))
 
--- after a text, such a number takes two bytes
-pub length-two_digits : (n : ℕ) (text : List ℕ) → 10 ≤ n → n < 100 → length (text ++ decimal n) ≡ length text + 2
-length-two_digits n text l h = omega (arith, ap length (two_digits n l h), length-append text (decimal n))
+-- where such a number fits after a text, two bytes do
+pub two_digits_fit : (n room : ℕ) (text : List ℕ) → 10 ≤ n → n < 100 → length (text ++ decimal n) ≤ room → length text + 2 ≤ room
+two_digits_fit n room text l h fits = omega (arith, fits, ap length (two_digits n l h), length-append text (decimal n))

@@ -19,8 +19,7 @@ use Rattle.arch_trait.specs.declared.arch.TheConstants.{MAX_TEXT}
 use Rattle.arch_trait.specs.Threads.{Puts}
 use Rattle.arch_trait.specs.Writing.{OperandTexts, listed, written_text, op_name, is_well_named}
 use Rattle.text_laws.proofs.CutLaws.{all_both}
-use Rattle.arch_laws.proofs.CellTexts.{place_cell, decimal_cell}
-use Rattle.arch_laws.proofs.FormBacks.{label_cell}
+use Rattle.arch_laws.proofs.CellTexts.{place_in_cell}
 use Rattle.arch_laws.proofs.SpellingLaws.{listed_stops}
 use Rattle.form_laws.specs.declared.kind.Operand.{Operand}
 use Rattle.form_laws.specs.Kinds.{operands_of}
@@ -63,7 +62,7 @@ pieces_cell names (p ∷ ps) vs good fit named =
     record {
       cells = and_from (list_all is_cell_byte (piece_text names p vs)) (list_all (list_all is_cell_byte) (piece_texts names ps (after_hole p.hole vs)))
           (all_both is_cell_byte p.before (hole_filled names p.hole vs ++ p.after) (fixed_cell p.before q.before)
-          (all_both is_cell_byte (hole_filled names p.hole vs) p.after (filled_all is_cell_byte decimal_cell place_cell label_cell names p.hole vs q.hole f.0 named) (fixed_cell p.after q.after)))
+          (all_both is_cell_byte (hole_filled names p.hole vs) p.after (filled_all is_cell_byte place_in_cell names p.hole vs q.hole f.0 named) (fixed_cell p.after q.after)))
           rest.cells;
       short = omega (arith, length-append p.before (hole_filled names p.hole vs ++ p.after), length-append (hole_filled names p.hole vs) p.after);
     }

@@ -9,14 +9,14 @@ use Rattle.std.proofs.lemmas.List.Folds.{list_all-append}
 use Rattle.std.proofs.lemmas.Slice.Eq.{bytes_eq-Decides}
 use Rattle.list_laws.proofs.Elements.{list_all-weaker}
 use Rattle.list_laws.proofs.Cases.{by_test}
-use Rattle.text_laws.specs.Names.{is_place_name}
+use Rattle.text_laws.specs.Names.{is_place_name, is_place_byte}
+use Rattle.text_laws.proofs.NameLaws.{place_passes, register_passes, decimal_passes}
 use Rattle.list_laws.proofs.Digits.{three_digits, digits_of}
 use Rattle.arch_trait.specs.Cells.{is_cell_byte}
 use Rattle.arch_trait.specs.InstructionReading.{few}
 use Rattle.arch_trait.specs.Writing.{is_plain, all_plain_texts, is_label_name, label_name, label_word}
 use Rattle.text_laws.proofs.CutLaws.{all_both}
-use Rattle.arch_laws.proofs.FormBacks.{label_plain}
-use Rattle.arch_laws.proofs.SpellingLaws.{decimal_plain, place_name_plain}
+use Rattle.arch_laws.proofs.CellTexts.{place_in_word}
 use Rattle.arch_trait.specs.WordBytes.{is_instruction_byte}
 use Rattle.form_laws.specs.declared.form.Hole.{Hole}
 use Rattle.form_laws.specs.declared.form.Hole.TheVariants as holes
@@ -57,23 +57,22 @@ unfolding is_place_name
 place_some [] h = cc
 place_some (b ∷ name) h = omega arith
 
--- what is in a hole has bytes of a class, where numbers, names of places and labels have
-pub filled_all : (p : ℕ → Bool) → ((n : ℕ) → n < 2 ^ 32 → list_all p (decimal n) ≡ true) → ((name : List ℕ) → is_place_name name ≡ true → list_all p name ≡ true)
-    → ((l : ℕ) → is_label_name (label_name l) ≡ true → list_all p (label_name l) ≡ true)
+-- what is in a hole passes a test that each byte of places' names passes
+pub filled_all : (p : ℕ → Bool) → ((byte : ℕ) → is_place_byte byte ≡ true → p byte ≡ true)
     → (names : ℕ → List ℕ) (h : Hole) (vs : List Operand) → is_hole_good h ≡ true → fits_first h vs ≡ true →
     list_all (is_named_operand names) vs ≡ true → list_all p (hole_filled names h vs) ≡ true
-filled_all p number place label names holes.Empty vs good fit named = refl
-filled_all p number place label names (holes.Register first count) (operands.Register r ∷ vs) good fit named =
+filled_all p each names holes.Empty vs good fit named = refl
+filled_all p each names (holes.Register first count) (operands.Register r ∷ vs) good fit named =
     let small : first + count ≤ 256 = leb-true (first + count) 256 good in
     let below : r < count = ltb-true r count fit in
-    number (first + r) (omega arith)
-filled_all p number place label names holes.Number (operands.Number n ∷ vs) good fit named =
-    let small : n ≤ 2047 = leb-true n 2047 fit in number n (omega arith)
-filled_all p number place label names holes.Place (operands.Place q ∷ vs) good fit named =
-    place (names q) (and_parts (is_place_name (names q)) (list_all (is_named_operand names) vs) named).0
-filled_all p number place label names holes.Label (operands.Label l ∷ vs) good fit named =
-    label l (and_parts (is_label_name (label_name l)) (list_all (is_named_operand names) vs) named).0
-filled_all p number place label names h vs good fit named = cc
+    decimal_passes p each (first + r) (omega arith)
+filled_all p each names holes.Number (operands.Number n ∷ vs) good fit named =
+    let small : n ≤ 2047 = leb-true n 2047 fit in decimal_passes p each n (omega arith)
+filled_all p each names holes.Place (operands.Place q ∷ vs) good fit named =
+    place_passes p each (names q) (and_parts (is_place_name (names q)) (list_all (is_named_operand names) vs) named).0
+filled_all p each names holes.Label (operands.Label l ∷ vs) good fit named =
+    register_passes p each (label_name l) (and_parts (is_label_name (label_name l)) (list_all (is_named_operand names) vs) named).0
+filled_all p each names h vs good fit named = cc
 
 -- what is in a hole has at most so many bytes, where the name of a place has at most 16
 pub filled_short : (names : ℕ → List ℕ) (h : Hole) (vs : List Operand) → is_hole_good h ≡ true → fits_first h vs ≡ true →
@@ -116,7 +115,7 @@ piece_plain names p vs good fit named =
     (omega (arith, length-append p.before p.after, length-append p.before (hole_filled names p.hole vs ++ p.after), length-append (hole_filled names p.hole vs) p.after))
     (all_both is_instruction_byte p.before (hole_filled names p.hole vs ++ p.after) (fixed_word p.before g.before)
     (all_both is_instruction_byte (hole_filled names p.hole vs) p.after
-    (filled_all is_instruction_byte decimal_plain place_name_plain label_plain names p.hole vs g.hole fit named) (fixed_word p.after g.after)))
+    (filled_all is_instruction_byte place_in_word names p.hole vs g.hole fit named) (fixed_word p.after g.after)))
 
 -- what holds of operands, and then of those after the first, holds of those that are left after a hole
 pub after_keeps : (P : List Operand → Type 0) → ((v : Operand) (vs : List Operand) → P (v ∷ vs) → P vs) →

@@ -2,7 +2,7 @@
 use Rattle.std.proofs.Common.{ℕ, ◌+◌, ◌/◌, ◌%◌, List, [], ◌∷◌, ◌++◌, length, length-append, append_assoc, ◌∙◌, ap, sym, arith, rules}
 use Rattle.std.specs.Fmt.{decimal}
 use Rattle.std.proofs.lemmas.Fmt.{decimal_digit}
-use Rattle.arch_trait.proofs.Digits.{two_digits, length-two_digits}
+use Rattle.arch_trait.proofs.Digits.{two_digits, two_digits_fit}
 use Rattle.arch_trait.proofs.push.push_number.Goals as goal
 
 pub push_digit-requires : goal.push_digit-requires
@@ -24,11 +24,7 @@ push_digit-requires-then-n-lt100 g c = (
   search rules,
   (
     omega arith,
-    omega (
-      arith,
-      length-two_digits c.args.n c.args.out.now.bytes c.if-n-lt10.false c.if-n-lt100.true,
-      c.requires.room,
-    ),
+    omega (arith, two_digits_fit c.args.n _ c.args.out.now.bytes c.if-n-lt10.false c.if-n-lt100.true c.requires.room),
   ),
 )
 
@@ -39,8 +35,7 @@ push_digit-requires-then-n-lt100-2 g c = (
     omega arith,
     omega (
       arith,
-      length-two_digits c.args.n c.args.out.now.bytes c.if-n-lt10.false c.if-n-lt100.true,
-      c.requires.room,
+      two_digits_fit c.args.n _ c.args.out.now.bytes c.if-n-lt10.false c.if-n-lt100.true c.requires.room,
       ap length c.push_digit-then-n-lt100.ensures,
       length-append c.args.out.now.bytes ((48 + c.args.n / 10) ∷ []),
     ),
