@@ -21,7 +21,7 @@ use Rattle.arch_trait.specs.Laws.{InOrder, IsArch}
 use Rattle.arch_trait.specs.Links.{branches}
 use Rattle.arch_trait.specs.Threads.{Puts, branches_in, compiled, shape_of, visits}
 use Rattle.arch_trait.specs.Writing.{label_below, place_below}
-use Rattle.arch_trait.proofs.Whole.{is_formed}
+use Rattle.arch_laws.proofs.CodeLaws.{is_formed}
 use Rattle.litmus_text.specs.Tests.{IsPrintable}
 use Rattle.test_laws.specs.CycleSteps.{cycle_steps}
 use Rattle.test_laws.specs.TestOf.{plain}
