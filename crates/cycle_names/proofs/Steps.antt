@@ -9,6 +9,7 @@ use Rattle.std.specs.Str.{bytes_eq}
 use Rattle.std.specs.Cmp.Lexicographic.{bytes_decides}
 use Rattle.std.proofs.lemmas.Option.{same_Some}
 use Rattle.list_laws.proofs.Cases.{by_test, by_option, by_less}
+use Rattle.list_laws.proofs.Elements.{rest-cons}
 use Rattle.relax_edges.specs.declared.TheConstants.{MAX_EDGES}
 use Rattle.relax_edges.specs.declared.order.TheConstants.{EDGES}
 use Rattle.relax_edges.specs.declared.kinds.Dir.{Dir}
@@ -31,17 +32,14 @@ use Rattle.cycle_laws.proofs.Joining.{same_dir_is}
 abbrev pub rest_of : {A : Type 0} → List A → List A
 rest_of xs = take (length xs - 1) (drop 1 xs)
 
-rest_is : {A : Type 0} (x : A) (xs : List A) → rest_of (x ∷ xs) ≡ xs
-rest_is x xs = take_all (length (x ∷ xs) - 1) xs (omega arith)
-
 -- a list that has elements is the first and the others, as slice patterns give them
 pub first_and_rest : {A : Type 0} (xs : List A) (d : A) → 1 ≤ length xs → xs ≡ get_or xs 0 d ∷ rest_of xs
 first_and_rest [] d h = absurd (omega arith)
-first_and_rest (x ∷ xs) d h = ap (λ w. x ∷ w) (sym (rest_is x xs))
+first_and_rest (x ∷ xs) d h = ap (λ w. x ∷ w) (sym (rest-cons x xs))
 
 rest_drop : {A : Type 0} (xs : List A) → 1 ≤ length xs → rest_of xs ≡ drop 1 xs
 rest_drop [] h = absurd (omega arith)
-rest_drop (x ∷ xs) h = rest_is x xs
+rest_drop (x ∷ xs) h = rest-cons x xs
 
 -- the parts of a text after its first one
 abbrev parts_after : List ℕ → List (List ℕ)
@@ -67,7 +65,7 @@ spelled_parts text word remainder n i w b =
 
 parts_more : (remainder : List ℕ) → 1 ≤ length remainder → parts_after remainder ≡ slice_split is_dash (rest_of remainder)
 parts_more [] h = absurd (omega arith)
-parts_more (b ∷ remainder) h = ap (slice_split is_dash) (sym (rest_is b remainder))
+parts_more (b ∷ remainder) h = ap (slice_split is_dash) (sym (rest-cons b remainder))
 
 parts_last : (remainder : List ℕ) → length remainder < 1 → parts_after remainder ≡ []
 parts_last [] h = refl
@@ -114,7 +112,7 @@ module _ {E : Type 0} where
   fill_link (s ∷ slots) links word remainder d e old pushed new result h t w b o k a =
       adds_same (filled_each (s ∷ slots) links) (before_edges (link_with s word) (filled_each (rest_of (s ∷ slots)) remainder)) old new result
       (cond-true (is_diff s) (before_edges (link_with s (first_name_word links)) (filled_each slots (after_word links))) (before_edges (Some s) (filled_each slots links)) t
-      ∙ rw (w, b, rest_is s slots) refl)
+      ∙ rw (w, b, rest-cons s slots) refl)
       (adds_before (link_with s word) (filled_each (rest_of (s ∷ slots)) remainder) e old pushed new result (sym o) k a)
 
   -- one slot more, of no link
@@ -124,7 +122,7 @@ module _ {E : Type 0} where
   fill_plain (s ∷ slots) links d old pushed new result h t k a =
       adds_same (filled_each (s ∷ slots) links) (before_edges (Some s) (filled_each (rest_of (s ∷ slots)) links)) old new result
       (cond-false (is_diff s) (before_edges (link_with s (first_name_word links)) (filled_each slots (after_word links))) (before_edges (Some s) (filled_each slots links)) t
-      ∙ ap (λ u. before_edges (Some s) (filled_each u links)) (sym (rest_is s slots)))
+      ∙ ap (λ u. before_edges (Some s) (filled_each u links)) (sym (rest-cons s slots)))
       (adds_before (Some s) (filled_each (rest_of (s ∷ slots)) links) s old pushed new result refl k a)
 
   -- one edge more, with its marks
@@ -134,7 +132,7 @@ module _ {E : Type 0} where
   mark_more from to mark [] d e old pushed new result h m o k a = absurd (omega arith)
   mark_more from to mark (x ∷ unmarked) d e old pushed new result h m o k a =
       adds_same (marked_along from (x ∷ unmarked) to) (before_edges (marked_between from x mark) (marked_along (target_mark x) (rest_of (x ∷ unmarked)) to)) old new result
-      (rw (m, rest_is x unmarked) refl)
+      (rw (m, rest-cons x unmarked) refl)
       (adds_before (marked_between from x mark) (marked_along (target_mark x) (rest_of (x ∷ unmarked)) to) e old pushed new result (sym o) k a)
 
   -- one word more

@@ -3,6 +3,7 @@ use Rattle.std.proofs.Common.{◌≡◌, ◌≤◌, ◌<◌, ℕ, ◌-◌, List,
 use Rattle.std.specs.Prelude.{codes, Result}
 use Rattle.std.specs.Fmt.{decimal}
 use Rattle.std.proofs.lemmas.List.{take_all}
+use Rattle.list_laws.proofs.Elements.{rest-cons}
 use Rattle.diy_io.specs.declared.errors.Failed.{Failed}
 use Rattle.diy_io.specs.Page.{Sends}
 use Rattle.diy_io.specs.PageLaws.{sends_then, sent_nothing}
@@ -36,8 +37,6 @@ pub lines_sent : (a b c : SinkSeen) (held mid kept : List ℕ) (families : List 
 lines_sent a b c held mid kept [] tallies f t u result h k first rest = absurd (omega arith)
 lines_sent a b c held mid kept (g ∷ families) [] f t u result h k first rest = absurd (omega arith)
 lines_sent a b c held mid kept (g ∷ families) (s ∷ tallies) f t u result h k first rest =
-    let left : take (length (g ∷ families) - 1) families ≡ families = take_all (length (g ∷ families) - 1) families (omega arith) in
-    let others : take (length (s ∷ tallies) - 1) tallies ≡ tallies = take_all (length (s ∷ tallies) - 1) tallies (omega arith) in
     sends_then a b c held mid kept (family_line g s) (family_lines families tallies) u result first
-    (subst (λ ts. Sends b mid c kept (family_lines families ts) result) others
-    (subst (λ fs. Sends b mid c kept (family_lines fs (take (length (s ∷ tallies) - 1) tallies)) result) left rest))
+    (subst (λ ts. Sends b mid c kept (family_lines families ts) result) (rest-cons s tallies)
+    (subst (λ fs. Sends b mid c kept (family_lines fs (take (length (s ∷ tallies) - 1) tallies)) result) (rest-cons g families) rest))

@@ -14,7 +14,7 @@ use Rattle.edge_lists.specs.declared.list.EdgeList.{EdgeList}
 use Rattle.edge_lists.specs.Spelled.{separates, edges_spelled}
 use Rattle.edge_lists.specs.KeptEdges.{pushed, edges_added}
 use Rattle.edge_lists.specs.Leading.{BeginsWith, ReadsFirst}
-use Rattle.text_laws.proofs.CutLaws.{rest_whole}
+use Rattle.list_laws.proofs.Elements.{rest-cons}
 
 -- a text has no separator
 abbrev is_whole : Separators → List ℕ → Bool
@@ -86,4 +86,4 @@ pub begins_before : (s : Separators) (text word rest : List ℕ) → text ≡ wo
     → BeginsWith s text word (take (length rest - 1) (drop 1 rest))
 begins_before s text word [] same some cuts = absurd (omega arith)
 begins_before s text word (byte ∷ rest) same some cuts =
-    subst (λ remainder. BeginsWith s text word remainder) (sym (rest_whole (byte ∷ rest) 1)) (begins_cut s text word rest byte cuts same)
+    subst (λ remainder. BeginsWith s text word remainder) (sym (rest-cons byte rest)) (begins_cut s text word rest byte cuts same)

@@ -5,7 +5,7 @@ use Rattle.std.specs.Char.{is_ascii_digit}
 use Rattle.std.proofs.lemmas.Bool.{eq-eqb, ne_eqb}
 use Rattle.std.proofs.lemmas.Bool.Decides.{nat_tests}
 use Rattle.final_cond.specs.ConditionReading.{left_at_start, bracketed_at_start, register_at_start, place_at_start}
-use Rattle.text_laws.proofs.NameLaws.{rest_is}
+use Rattle.list_laws.proofs.Elements.{rest-cons}
 
 -- an empty text begins with no left side
 pub left_of_nothing : (text : List ℕ) → length text < 1 → left_at_start text ≡ None
@@ -17,7 +17,7 @@ left_of_nothing (byte ∷ text) h = absurd (omega arith)
 pub left_of_bracket : (text : List ℕ) → 1 ≤ length text → get_or text 0 0 ≡ 91 → left_at_start text ≡ bracketed_at_start (take (length text - 1) (drop 1 text))
 unfolding left_at_start
 left_of_bracket [] h e = absurd (omega arith)
-left_of_bracket (byte ∷ text) h e = rw rest_is (rw (eq-eqb byte 91 e) refl)
+left_of_bracket (byte ∷ text) h e = rw rest-cons (rw (eq-eqb byte 91 e) refl)
 
 -- a digit begins a register
 pub left_of_digit : (text : List ℕ) → 1 ≤ length text → 48 ≤ get_or text 0 0 → get_or text 0 0 ≤ 57 → left_at_start text ≡ register_at_start text

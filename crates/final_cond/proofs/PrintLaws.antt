@@ -10,6 +10,7 @@ use Rattle.diy_io.specs.Page.{page_after}
 use Rattle.diy_io.specs.PageLaws.{page_nothing, page_fits, page_more}
 use Rattle.diy_io.specs.SinkLaws.{flat_map_more}
 use Rattle.diy_io.specs.Wrote.{SinkSeen, Wrote}
+use Rattle.list_laws.proofs.Elements.{rest-cons}
 use Rattle.final_cond.specs.declared.cond.Term.{Term}
 use Rattle.final_cond.specs.declared.print.TheConstants.{TERM_ROOM}
 use Rattle.final_cond.specs.Conditions.{term_view}
@@ -65,8 +66,7 @@ pub first_and_further : (terms : List Term) (first : Term) → 1 ≤ length term
     → terms_text (map term_view terms) ≡ term_text (term_view first) ++ further (take (length terms - 1) (drop 1 terms))
 first_and_further [] first h is = absurd (omega arith)
 first_and_further (term ∷ terms) first h is =
-    let e : take (length (term ∷ terms) - 1) (drop 1 (term ∷ terms)) ≡ terms = ap (λ n. take n terms) (omega arith) ∙ take-length terms in
-    rw (e, is) refl
+    rw (rest-cons term terms, is) refl
 
 -- a text that an empty page took whole is written once the page is handed on
 pub put_wrote : (a b : SinkSeen) (page held text : List ℕ) (result : Result (Unit {0}) Failed)

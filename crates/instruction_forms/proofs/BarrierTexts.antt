@@ -7,7 +7,7 @@ use Rattle.arch_trait.specs.declared.arch.TheConstants.{MAX_TEXT}
 use Rattle.form_laws.specs.Kinds.{barrier_number}
 use Rattle.instruction_forms.specs.declared.fixed.BarrierText.{BarrierText}
 use Rattle.instruction_forms.specs.FixedTexts.{barrier_text, is_short}
-use Rattle.instruction_forms.proofs.Rests.{rest_is}
+use Rattle.list_laws.proofs.Elements.{rest-cons}
 
 -- the first text is the barrier's
 pub first_text : (ts : List BarrierText) (d : BarrierText) (b : Barrier) → 1 ≤ length ts →
@@ -21,7 +21,7 @@ pub later_text : (ts : List BarrierText) (d : BarrierText) (b : Barrier) → 1 �
 later_text [] d b l h = absurd (omega (arith, l))
 later_text (t ∷ ts) d b l h =
     let other = ap (λ x. cond {A = Option (List ℕ)} x (Some t.text.now) (barrier_text ts b)) (ne_eqb (barrier_number t.barrier) (barrier_number b) h) in
-    ap (λ us. barrier_text us b) (rest_is t ts) ∙ sym other
+    ap (λ us. barrier_text us b) (rest-cons t ts) ∙ sym other
 
 -- the first text has room
 pub first_short : (ts : List BarrierText) (d : BarrierText) → 1 ≤ length ts → list_all is_short ts ≡ true → length (get_or ts 0 d).text.now ≤ MAX_TEXT
@@ -31,4 +31,4 @@ first_short (t ∷ ts) d l h = leb-true (length t.text.now) MAX_TEXT (and_parts 
 -- the later texts have room
 pub later_short : (ts : List BarrierText) → 1 ≤ length ts → list_all is_short ts ≡ true → list_all is_short (take (length ts - 1) (drop 1 ts)) ≡ true
 later_short [] l h = absurd (omega (arith, l))
-later_short (t ∷ ts) l h = subst (λ us. list_all is_short us ≡ true) (sym (rest_is t ts)) (and_parts (is_short t) (list_all is_short ts) h).1
+later_short (t ∷ ts) l h = subst (λ us. list_all is_short us ≡ true) (sym (rest-cons t ts)) (and_parts (is_short t) (list_all is_short ts) h).1

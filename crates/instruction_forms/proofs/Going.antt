@@ -10,7 +10,7 @@ use Rattle.form_laws.specs.Tables.{piece_seen, fits_first, after_hole, operands_
 use Rattle.form_laws.specs.ClearTables.{is_piece_good, most_in, most_of}
 use Rattle.form_laws.proofs.PieceBacks.{piece_is_good}
 use Rattle.instruction_forms.specs.Printing.{byte_before, joined_texts, ReadyToPrint, ReadyPiece}
-use Rattle.instruction_forms.proofs.Rests.{rest_is}
+use Rattle.list_laws.proofs.Elements.{rest-cons}
 use Rattle.instruction_forms.proofs.Room.{hole_short, short_after, after_of, byte_one}
 
 -- operands are printed as far as those that are left, to a text that is whole, if they fit
@@ -74,7 +74,7 @@ going_comma names whole all out [] vs d more l g f e = absurd (omega (arith, l))
 going_comma names whole all out (p ∷ ps) vs d more l g f e =
     let P : List Piece → Type 0 = (λ remainder. length (more ++ byte_before 44 (map piece_seen remainder)) ≤ MAX_TEXT) in
     let Q : List ℕ → Type 0 = (λ text. length (text ++ byte_before 44 (map piece_seen ps)) ≤ MAX_TEXT) in
-    subst P (sym (rest_is p ps)) (subst Q (sym e) (first_done names whole all out p ps vs g f).comma)
+    subst P (sym (rest-cons p ps)) (subst Q (sym e) (first_done names whole all out p ps vs g f).comma)
 
 -- after an operand and its comma the printing goes on with the others
 pub going_on : (names : ℕ → List ℕ) (whole : List ℕ) (all : Bool) (out : List ℕ) (left : List Piece) (vs : List Operand) (d : Piece) (more next : List ℕ) (rest : List Operand) →
@@ -84,7 +84,7 @@ pub going_on : (names : ℕ → List ℕ) (whole : List ℕ) (all : Bool) (out :
     rest ≡ after_hole (get_or left 0 d).hole vs → Going names whole all next (take (length left - 1) (drop 1 left)) rest
 going_on names whole all out [] vs d more next rest l g f e k m = absurd (omega (arith, l))
 going_on names whole all out (p ∷ ps) vs d more next rest l g f e k m =
-    let b = rest_is p ps in
+    let b = rest-cons p ps in
     let t : next ≡ (out ++ piece_text names (piece_seen p) vs) ++ byte_before 44 (map piece_seen ps) =
     k ∙ (ap (λ remainder. more ++ byte_before 44 (map piece_seen remainder)) b ∙ ap (λ text. text ++ byte_before 44 (map piece_seen ps)) e) in
     let P : List Piece → Type 0 = (λ remainder. Going names whole all next remainder rest) in

@@ -13,7 +13,7 @@ use Rattle.form_laws.specs.Tables.{PieceText, FormText, TableText, piece_seen, f
 use Rattle.form_laws.specs.ClearTables.{is_clear, forms_apart, is_form_good}
 use Rattle.form_laws.proofs.ChosenForms.{form_is_good}
 use Rattle.instruction_forms.specs.Printing.{byte_before, joined_texts, form_text}
-use Rattle.instruction_forms.proofs.Rests.{rest_is}
+use Rattle.list_laws.proofs.Elements.{rest-cons}
 
 -- at most four operands come after a blank and commas
 commas_are : (names : ℕ → List ℕ) (ps : List PieceText) (vs : List Operand) → nat_le (length ps) 4 ≡ true →
@@ -73,7 +73,7 @@ pub walk_on : (names : ℕ → List ℕ) (op : Micro) (whole left : List Form) (
 walk_on names op whole [] d l w h = absurd (omega (arith, l))
 walk_on names op whole (f ∷ fs) d l w h =
     let P : List Form → Type 0 = Walk names op whole in
-    subst P (sym (rest_is f fs)) (record {
+    subst P (sym (rest-cons f fs)) (record {
       clear = clear_after (form_seen f) (map form_seen fs) w.clear;
       has = has_after op (form_seen f) (map form_seen fs) h w.has;
       same = sym (first_after names op (form_seen f) (map form_seen fs) h) ∙ w.same;

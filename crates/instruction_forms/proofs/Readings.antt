@@ -14,7 +14,7 @@ use Rattle.form_laws.specs.declared.kind.Kind.{Kind}
 use Rattle.form_laws.specs.Kinds.{FoundOperand, raw_with}
 use Rattle.form_laws.specs.Tables.{FormText, piece_seen, form_seen, joined_operands, pieces_found, form_found, after_prefix, before_suffix, raw_or, first_form_read, label_read, texts_in, raw_if}
 use Rattle.instruction_forms.specs.Founds.{texts_seen, form_raw, forms_raw}
-use Rattle.instruction_forms.proofs.Rests.{rest_is}
+use Rattle.list_laws.proofs.Elements.{rest-cons}
 
 -- no operands, joined to others, change nothing
 pub join_nothing : (o : Option (List FoundOperand)) → joined_operands (Some []) o ≡ o
@@ -78,7 +78,7 @@ pub first_not : (left : List Form) (d : Form) (labels : Labels) (word : List ℕ
     forms_raw (map form_seen (take (length left - 1) (drop 1 left))) labels word texts ≡ forms_raw (map form_seen left) labels word texts
 first_not [] d labels word texts l h = absurd (omega (arith, l))
 first_not (f ∷ fs) d labels word texts l h =
-    ap (λ xs. forms_raw (map form_seen xs) labels word texts) (rest_is f fs) ∙
+    ap (λ xs. forms_raw (map form_seen xs) labels word texts) (rest-cons f fs) ∙
     sym (form_not (form_seen f) (map form_seen fs) labels word texts (sym h))
 
 -- where no form is left, a label alone is
@@ -124,8 +124,8 @@ unfolding after_prefix
 prefix_on [] rest l h e = absurd (omega (arith, l))
 prefix_on (b ∷ left) [] l h e = absurd (omega (arith, h))
 prefix_on (b ∷ left) (c ∷ rest) l h e =
-    ap (λ xs. after_prefix xs (take (length (c ∷ rest) - 1) (drop 1 (c ∷ rest)))) (rest_is b left) ∙
-    (ap (λ xs. after_prefix left xs) (rest_is c rest) ∙
+    ap (λ xs. after_prefix xs (take (length (c ∷ rest) - 1) (drop 1 (c ∷ rest)))) (rest-cons b left) ∙
+    (ap (λ xs. after_prefix left xs) (rest-cons c rest) ∙
     sym (ap (λ t. cond t (after_prefix left rest) None) (eq-eqb b c e)))
 
 -- nothing is at the end of each text

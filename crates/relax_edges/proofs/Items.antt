@@ -3,10 +3,10 @@ use Rattle.std.specs.Prelude.{ℕ, ◌≡◌, ◌<◌, ◌≤◌, ◌+◌, ◌-�
 use Rattle.std.specs.List.{list_any}
 use Rattle.std.proofs.Common.{zero, suc, refl, arith, ap, subst, sym, ◌∙◌}
 use Rattle.std.proofs.Math.ListN.{drop_of_length-le}
-use Rattle.std.proofs.lemmas.List.{drop-drop, length-drop}
-use Rattle.std.proofs.Math.Seq.{take-length}
+use Rattle.std.proofs.lemmas.List.{drop-drop}
 use Rattle.std.proofs.lemmas.Bool.{lt-ltb, le-ltb}
 use Rattle.list_laws.proofs.Cases.{by_test}
+use Rattle.list_laws.proofs.Elements.{rest_from}
 use Rattle.relax_edges.specs.declared.edge.Edge.{Edge}
 use Rattle.relax_edges.specs.declared.relax_error.RelaxKind.{RelaxKind}
 use Rattle.relax_edges.specs.declared.relax_error.RelaxKind.TheVariants.{UnknownEdge, RelaxTooLong, DoesNotJoin}
@@ -153,17 +153,13 @@ kept_items_refused kept kind place (byte ∷ remainder) err =
     ap (λ items. kept_items kept (items ++ items_from (place + 1) (bytes_after byte remainder) remainder)) one
     ∙ refused_one kept kind item (items_from (place + 1) (bytes_after byte remainder) remainder) (sym (item_at_start kept byte remainder n) ∙ err))
 
--- the same of what is left of a text after some bytes
-rest_of : (text : List ℕ) (place : ℕ) → take (length text - place) (drop place text) ≡ drop place text
-rest_of text place = ap (λ n. take n (drop place text)) (sym (length-drop place text)) ∙ take-length (drop place text)
-
 -- once the item at a place is kept, what is left is to keep the items after it
 pub items_step : (kept more : List (List Edge)) (text : List ℕ) (place len : ℕ)
     → kept_prefix kept (take (length text - place) (drop place text)) ≡ Ok more → len ≡ first_word_len (take (length text - place) (drop place text))
     → kept_items more (items_from (place + len) 0 (drop (place + len) text)) ≡ kept_items kept (items_from place 0 (drop place text))
 items_step kept more text place len ok is =
-    let ok_rest : kept_prefix kept (drop place text) ≡ Ok more = subst (λ t. kept_prefix kept t ≡ Ok more) (rest_of text place) ok in
-    let is_rest : len ≡ first_word_len (drop place text) = is ∙ ap first_word_len (rest_of text place) in
+    let ok_rest : kept_prefix kept (drop place text) ≡ Ok more = subst (λ t. kept_prefix kept t ≡ Ok more) (rest_from text place) ok in
+    let is_rest : len ≡ first_word_len (drop place text) = is ∙ ap first_word_len (rest_from text place) in
     let e : drop (place + len) text ≡ drop len (drop place text) = sym (drop-drop len place text) in
     rw (e, is_rest) (sym (kept_items_prefix kept more place (drop place text) ok_rest))
 
@@ -172,7 +168,7 @@ pub items_refused : (kept : List (List Edge)) (kind : RelaxKind) (text : List �
     → kept_prefix kept (take (length text - place) (drop place text)) ≡ Err kind
     → kept_items kept (items_from place 0 (drop place text)) ≡ Err (record { at = place; kind = kind })
 items_refused kept kind text place err =
-    kept_items_refused kept kind place (drop place text) (subst (λ t. kept_prefix kept t ≡ Err kind) (rest_of text place) err)
+    kept_items_refused kept kind place (drop place text) (subst (λ t. kept_prefix kept t ≡ Err kind) (rest_from text place) err)
 
 -- at the end of a text nothing more is kept
 pub items_end : (kept : List (List Edge)) (text : List ℕ) (place : ℕ) → length text ≤ place → kept_items kept (items_from place 0 (drop place text)) ≡ Ok kept

@@ -1,10 +1,11 @@
 -- A cut at the first place of a byte.
-use Rattle.std.proofs.Common.{◌≡◌, ◌==◌, ◌+◌, ◌-◌, ◌<◌, ◌≤◌, ℕ, zero, suc, List, [], ◌∷◌, ◌++◌, Some, None, true, get_or, take, drop, length, length-drop, length-append, refl, sym, ap, ◌∙◌, arith, add-one, false}
+use Rattle.std.proofs.Common.{◌≡◌, ◌==◌, ◌+◌, ◌-◌, ◌<◌, ◌≤◌, ℕ, zero, suc, List, [], ◌∷◌, ◌++◌, Some, None, true, get_or, take, drop, length, length-append, refl, sym, ap, ◌∙◌, arith, add-one, false}
 use Rattle.std.specs.Prelude.{not, Bool, Option}
 use Rattle.std.proofs.lemmas.Bool.{eqb-true, eq-eqb, and_parts, not-true, and_from}
 use Rattle.std.proofs.lemmas.List.{take-append-drop}
 use Rattle.std.proofs.Math.Seq.{drop-cons, take-length}
 use Rattle.list_laws.proofs.Cases.{by_test}
+use Rattle.list_laws.proofs.Elements.{rest_from}
 use Rattle.text_laws.specs.Cuts.{before_cut, cut_at, is_without, CutParts}
 use Rattle.std.specs.List.{list_all}
 use Rattle.std.proofs.lemmas.List.Folds.{list_all-append}
@@ -45,14 +46,10 @@ cut_there sign text k inside is =
     let d : drop k text ≡ sign ∷ drop (k + 1) text = rw add-one (drop-cons text k 0 inside ∙ ap (λ b. b ∷ drop (suc k) text) e) in
     sym (take-append-drop k text) ∙ ap (λ t. take k text ++ t) d
 
--- the text after a place
-pub rest_whole : (text : List ℕ) (k : ℕ) → take (length text - k) (drop k text) ≡ drop k text
-rest_whole text k = ap (λ n. take n (drop k text)) (sym (length-drop k text)) ∙ take-length (drop k text)
-
 -- the texts before and after the first place of a sign are the parts of its cut
 pub cut_found : (sign : ℕ) (text : List ℕ) (k : ℕ) → k < length text → ((j : ℕ) → 0 ≤ j → j < k → get_or text j 0 == sign ≡ true → ⊥) → get_or text k 0 == sign ≡ true
     → CutParts sign text (take k text) (take (length text - (k + 1)) (drop (k + 1) text))
-cut_found sign text k inside before is = rw (rest_whole text (k + 1)) (record {
+cut_found sign text k inside before is = rw (rest_from text (k + 1)) (record {
   parts = cut_there sign text k inside is;
   first = without_take sign text k (λ j low within there. before j (omega arith) low there);
 })

@@ -1,37 +1,32 @@
 -- Names of places and registers: how code tests their form, which bytes they have, and that they are short and ASCII. What each letter, digit
 -- and `_` passes, names and numbers pass.
-use Rattle.std.proofs.Common.{◌≡◌, ℕ, ◌-◌, ◌≤◌, ◌<◌, ◌^◌, List, [], ◌∷◌, length, get_or, take, drop, refl, ap, ◌∙◌, arith}
+use Rattle.std.proofs.Common.{◌≡◌, ℕ, ◌-◌, ◌≤◌, ◌<◌, ◌^◌, List, [], ◌∷◌, length, get_or, take, drop, refl, arith}
 use Rattle.std.specs.Prelude.{Bool, true, ◌&&◌, nat_le}
 use Rattle.std.specs.Char.{is_ascii, is_ascii_alphabetic, is_ascii_alphanumeric, is_ascii_digit}
 use Rattle.std.specs.Fmt.{decimal}
 use Rattle.std.specs.List.{list_all}
 use Rattle.std.specs.Str.{IsAscii, IsUtf8}
-use Rattle.std.proofs.Math.Seq.{take-length}
 use Rattle.std.proofs.lemmas.Bool.{and_parts, and_from, leb-true, ltb-true}
 use Rattle.std.proofs.lemmas.Bool.Decides.{nat_tests}
 use Rattle.std.proofs.lemmas.Str.{IsUtf8-from_ascii}
 use Rattle.std.proofs.lemmas.Str.Ascii.{IsAscii-nil, IsAscii-cons}
 use Rattle.list_laws.proofs.Digits.{digits_of}
-use Rattle.list_laws.proofs.Elements.{list_all-weaker}
+use Rattle.list_laws.proofs.Elements.{list_all-weaker, rest-cons}
 use Rattle.text_laws.specs.Names.{begins_place, is_place_byte, is_place_name, is_register_name}
-
--- without its first byte a text is the others
-pub rest_is : (byte : ℕ) (bytes : List ℕ) → take (length (byte ∷ bytes) - 1) (drop 1 (byte ∷ bytes)) ≡ bytes
-rest_is byte bytes = ap (λ n. take n bytes) (omega arith) ∙ take-length bytes
 
 -- whether a text names a place is seen from its first byte and the others
 pub is_place_name_parts : (name : List ℕ) → 1 ≤ length name → is_place_name name
     ≡ (begins_place (get_or name 0 0) && list_all is_place_byte (take (length name - 1) (drop 1 name)) && nat_le (length name) 16)
 unfolding is_place_name
 is_place_name_parts [] h = absurd (omega arith)
-is_place_name_parts (byte ∷ bytes) h = rw rest_is refl
+is_place_name_parts (byte ∷ bytes) h = rw rest-cons refl
 
 -- whether a text names a register is seen from its first byte and the others
 pub is_register_name_parts : (name : List ℕ) → 1 ≤ length name → is_register_name name
     ≡ (is_ascii_alphabetic (get_or name 0 0) && list_all is_ascii_alphanumeric (take (length name - 1) (drop 1 name)) && nat_le (length name) 16)
 unfolding is_register_name
 is_register_name_parts [] h = absurd (omega arith)
-is_register_name_parts (byte ∷ bytes) h = rw rest_is refl
+is_register_name_parts (byte ∷ bytes) h = rw rest-cons refl
 
 all_ascii : (bytes : List ℕ) → list_all is_ascii bytes ≡ true → IsAscii bytes
 all_ascii [] h = IsAscii-nil
