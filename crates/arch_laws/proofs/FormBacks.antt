@@ -17,7 +17,7 @@ use Rattle.arch_trait.specs.Forms.{register_name, register_names}
 use Rattle.arch_trait.specs.Writing.{name_in, is_plain, is_label_name, label_name, label_word}
 use Rattle.arch_trait.specs.WordBytes.{is_instruction_byte}
 use Rattle.list_laws.proofs.Digits.{three_digits, digits_of}
-use Rattle.arch_laws.proofs.CellTexts.{place_in_word}
+use Rattle.arch_trait.specs.ByteLaws.{place_in_word}
 
 -- numbered registers: a letter, and numbers of at most three digits
 pub record IsNumbered (n : Numbered) : Type 0 where

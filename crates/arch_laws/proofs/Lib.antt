@@ -1,6 +1,5 @@
 pub mod Items
 pub mod Renumbered
-pub mod CellTexts
 pub mod Ordered
 pub mod AddressedInstructions
 pub mod Addressed

@@ -16,3 +16,4 @@ pub mod Addressed
 pub mod Forms
 pub mod SeenTests
 pub mod WordBytes
+pub mod ByteLaws

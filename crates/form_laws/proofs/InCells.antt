@@ -19,7 +19,7 @@ use Rattle.arch_trait.specs.declared.arch.TheConstants.{MAX_TEXT}
 use Rattle.arch_trait.specs.Threads.{Puts}
 use Rattle.arch_trait.specs.Writing.{OperandTexts, listed, written_text, op_name, is_well_named}
 use Rattle.text_laws.proofs.CutLaws.{all_both}
-use Rattle.arch_laws.proofs.CellTexts.{place_in_cell}
+use Rattle.arch_trait.specs.ByteLaws.{place_in_cell}
 use Rattle.arch_laws.proofs.SpellingLaws.{listed_stops}
 use Rattle.form_laws.specs.declared.kind.Operand.{Operand}
 use Rattle.form_laws.specs.Kinds.{operands_of}

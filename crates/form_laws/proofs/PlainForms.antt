@@ -16,7 +16,7 @@ use Rattle.arch_trait.specs.Cells.{is_cell_byte}
 use Rattle.arch_trait.specs.InstructionReading.{few}
 use Rattle.arch_trait.specs.Writing.{is_plain, all_plain_texts, is_label_name, label_name, label_word}
 use Rattle.text_laws.proofs.CutLaws.{all_both}
-use Rattle.arch_laws.proofs.CellTexts.{place_in_word}
+use Rattle.arch_trait.specs.ByteLaws.{place_in_word}
 use Rattle.arch_trait.specs.WordBytes.{is_instruction_byte}
 use Rattle.form_laws.specs.declared.form.Hole.{Hole}
 use Rattle.form_laws.specs.declared.form.Hole.TheVariants as holes

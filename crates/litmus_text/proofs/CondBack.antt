@@ -4,11 +4,9 @@ use Rattle.std.specs.Prelude.{codes}
 use Rattle.std.specs.Char.{is_ascii_digit}
 use Rattle.std.specs.Fmt.{decimal}
 use Rattle.std.specs.List.{list_all, AllByRecursion}
-use Rattle.std.proofs.lemmas.Bool.Decides.{nat_tests}
 use Rattle.final_cond.specs.declared.cond.TheConstants.{MAX_TERMS}
 use Rattle.final_cond.specs.declared.cond.Quantifier.{Quantifier}
 use Rattle.final_cond.specs.declared.cond.Quantifier.TheVariants.{Exists, NotExists, Forall}
-use Rattle.text_laws.specs.Names.{is_place_byte}
 use Rattle.text_laws.specs.Blanks.{unblanked}
 use Rattle.text_laws.specs.LeadingRuns.{leading_run, after_run}
 use Rattle.final_cond.specs.Conditions.{LeftSeen, InRegister, AtPlace, TermSeen, CondSeen}
@@ -19,6 +17,7 @@ use Rattle.final_cond.specs.CondTextLaws.{PassTerms, terms_pass}
 use Rattle.text_laws.proofs.RunLaws.{stops}
 use Rattle.final_cond.proofs.BackLaws.{left_unblanked, left_back, right_back, term_parts, closing, joining, opening_back}
 use Rattle.arch_trait.specs.Writing.{Writing}
+use Rattle.arch_trait.specs.ByteLaws.{place_on_line}
 use Rattle.arch_trait.specs.Cells.{ends_rows, is_line_byte}
 use Rattle.litmus_text.specs.TextLines.{Lines, ends, line}
 use Rattle.text_laws.specs.ReadingSteps.{◌>>=◌}
@@ -152,9 +151,6 @@ no_locations condition n rest = of condition.quantifier
     of Exists = refl
     of NotExists = refl
     of Forall = refl
-
-place_on_line : (b : ℕ) → is_place_byte b ≡ true → is_line_byte b ≡ true
-place_on_line b h = grind (arith, nat_tests)
 
 terms_on_line : PassTerms is_line_byte
 terms_on_line = record { left = record { names = place_on_line; colon = refl; opening = refl; closing = refl }; equals = refl; between = refl }

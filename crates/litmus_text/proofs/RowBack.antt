@@ -3,12 +3,11 @@ use Rattle.std.proofs.Common.{◌≡◌, ◌<◌, ◌≤◌, ◌+◌, ◌==◌, 
 use Rattle.std.specs.Prelude.{not, ◌&&◌, ◌||◌, Option, nat_lt, nat_le, is_some, count_by}
 use Rattle.std.specs.List.{list_all, AllByRecursion}
 use Rattle.std.proofs.lemmas.Bool.{lt-ltb, ltb-true, not-true, and_parts}
-use Rattle.std.proofs.lemmas.Bool.Decides.{nat_tests}
 use Rattle.std.proofs.lemmas.List.Sums.{sum_by-append, sum_by-cons}
 use Rattle.std.proofs.lemmas.Simd.{map-map}
 use Rattle.list_laws.proofs.Cases.{by_test}
 use Rattle.text_laws.specs.Blanks.{is_blank}
-use Rattle.text_laws.specs.Names.{is_place_byte, is_place_name}
+use Rattle.text_laws.specs.Names.{is_place_name}
 use Rattle.text_laws.proofs.NameLaws.{register_passes}
 use Rattle.micro_ops.specs.declared.operation.Micro.{Micro}
 use Rattle.micro_ops.specs.declared.operation.Micro.TheVariants as ops
@@ -17,6 +16,7 @@ use Rattle.arch_trait.specs.PlaceNames.{number_in, names_added, with_name}
 use Rattle.arch_trait.specs.InstructionReading.{instr_read}
 use Rattle.arch_trait.specs.Writing.{Writing, WritesBack, op_text, op_name, is_well_named, label_name, listed}
 use Rattle.arch_trait.proofs.Spelling.{instr_back, word_is}
+use Rattle.arch_trait.specs.ByteLaws.{place_in_cell}
 use Rattle.arch_trait.specs.Cells.{WritesCells, access_count, ends_rows, is_access, is_cell_byte, is_label_op}
 use Rattle.arch_trait.specs.LabelOrder.{is_next, labels_after, labels_in}
 use Rattle.litmus_text.specs.TextLines.{Lines, line}
@@ -146,9 +146,6 @@ op_put a w table final s names first n done op laws fits few at_line among_table
 abbrev pub next_text : Writing → (ℕ → List ℕ) → List Micro → List ℕ
 next_text w names [] = []
 next_text w names (op ∷ left) = op_text w names op
-
-place_in_cell : (b : ℕ) → is_place_byte b ≡ true → is_cell_byte b ≡ true
-place_in_cell b h = grind (arith, nat_tests)
 
 -- the name of a label below 64 has only bytes of a cell
 pub label_bytes : (label : ℕ) → label < 64 → list_all is_cell_byte (label_name label) ≡ true

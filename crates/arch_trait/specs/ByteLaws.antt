@@ -1,9 +1,15 @@
--- The bytes of names fit in cells and in words of instructions, and so do names and numbers (`place_passes` and the laws beside it).
+-- The bytes of places' names may be in lines, cells and words of a printed test, and so may all of names and numbers (`place_passes` of
+-- `text_laws` and the laws beside it).
+-- Source: own.
 use Rattle.std.proofs.Common.{◌≡◌, ℕ, true, arith}
 use Rattle.std.proofs.lemmas.Bool.Decides.{nat_tests}
 use Rattle.text_laws.specs.Names.{is_place_byte}
-use Rattle.arch_trait.specs.Cells.{is_cell_byte}
+use Rattle.arch_trait.specs.Cells.{is_line_byte, is_cell_byte}
 use Rattle.arch_trait.specs.WordBytes.{is_instruction_byte}
+
+-- a byte of a place's name may be in a line
+pub place_on_line : (byte : ℕ) → is_place_byte byte ≡ true → is_line_byte byte ≡ true
+place_on_line byte h = grind (arith, nat_tests)
 
 -- a byte of a place's name may be in a cell
 pub place_in_cell : (byte : ℕ) → is_place_byte byte ≡ true → is_cell_byte byte ≡ true
