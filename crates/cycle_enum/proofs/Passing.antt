@@ -59,11 +59,13 @@ module _ (relaxes : List (List Edge)) (prefix : List Edge) (from : ℕ) (dir : D
       ])
       r c
 
+  -- so the first such letter from a rank on, if there is one, is the next edge with which the list goes on
   pub next_follows : (next : Option (Bor Letter)) → IsLetterFrom (OccursAndLeaves relaxes dir mark) from (option_map (λ letter. letter.now) next)
       → IsNextEdge (IsListCandidate relaxes) prefix from (option_map (λ letter. letter.now.edge) next)
   next_follows None none = none_follows EDGES none
   next_follows (Some letter) next = (next.at_least, none_follows (rank_of letter.now.edge) next.none_less)
 
+  -- and the list joins it
   pub next_joined : (next : Option (Bor Letter)) → IsLetterFrom (OccursAndLeaves relaxes dir mark) from (option_map (λ letter. letter.now) next)
       → IfSome next (λ letter. last_joins prefix (letter.now.edge ∷ []) ≡ true)
   next_joined None none = tt
