@@ -1,4 +1,4 @@
-ghost use Rattle.std.specs.Prelude.{◌≡◌, ◌+◌, ◌<◌, ◌≤◌, ◌++◌, [], length, take, OnOk};
+ghost use Rattle.std.specs.Prelude.{◌≡◌, ◌+◌, ◌<◌, ◌≤◌, ◌++◌, [], length, take, OnOk, OnErr};
 ghost use Rattle.diy_io.specs.Page.{Sends, page_after};
 ghost use Rattle.diy_io.specs.Pieces.{joined_text};
 ghost use Rattle.diy_io.specs.Wrote.{Wrote};
@@ -101,10 +101,11 @@ impl Page {
         self.put_first(text, N);
     }
 
-    /// Hands what it holds to a sink, in one call, or in none where it holds nothing.
+    /// Hands what it holds to a sink, in one call, or in none where it holds nothing. Where that fails it still holds it.
     pub fn flush<O: Sink>(&mut self, out: &mut O) -> Result<(), Failed>
         ensures wrote { Wrote (O.seen out.old) (O.seen out.new) self.old result }
         ensures empty { OnOk result (self.new ≡ []) }
+        ensures held { OnErr result (self.new ≡ self.old) }
     {
         if self.len == 0 {
             return Ok(());
