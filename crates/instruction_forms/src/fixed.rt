@@ -1,4 +1,4 @@
-ghost use Rattle.std.specs.Prelude.{◌≡◌, ◌<◌, ◌≤◌, ◌+◌, ◌++◌, ◌∷◌, Some, true, length};
+ghost use Rattle.std.specs.Prelude.{◌≡◌, ◌<◌, ◌≤◌, ◌+◌, ◌++◌, ◌∷◌, Some, None, true, cond, length};
 ghost use Rattle.std.specs.List.{list_all};
 ghost use Rattle.instruction_forms.specs.FixedTexts.{text_around, barrier_text, fixed_text, has_room, is_short, have_room};
 
@@ -56,7 +56,7 @@ macro_rules! barrier_text {
 #[inline(always)]
 pub(crate) fn print_short(texts: &FixedTexts, op: &Micro, out: &mut Text) -> bool
     requires room { have_room texts.now ≡ true }
-    ensures { result ≡ true → fixed_text texts.now op.now ≡ Some out.new.bytes }
+    ensures { cond result (Some out.new.bytes) None ≡ fixed_text texts.now op.now }
 {
     let first = u32::from(texts.first);
     match *op {
@@ -90,7 +90,7 @@ pub(crate) fn print_short(texts: &FixedTexts, op: &Micro, out: &mut Text) -> boo
 #[inline(always)]
 fn print_around(texts: &TextsAround, first: u32, second: u32, out: &mut Text) -> bool
     requires room { has_room texts.now ≡ true }
-    ensures { result ≡ true → text_around texts.now first second ≡ Some out.new.bytes }
+    ensures { cond result (Some out.new.bytes) None ≡ text_around texts.now first second }
 {
     if first < 10 && second < 10 {
         print_two(texts, first, second, out);
@@ -119,7 +119,7 @@ fn print_two(texts: &TextsAround, first: u32, second: u32, out: &mut Text)
 #[inline(always)]
 fn print_barrier(texts: &[BarrierText], barrier: Barrier, out: &mut Text) -> bool
     requires room { list_all is_short texts.now ≡ true }
-    ensures { result ≡ true → barrier_text texts.now barrier ≡ Some out.new.bytes }
+    ensures { cond result (Some out.new.bytes) None ≡ barrier_text texts.now barrier }
 {
     let number = barrier_number(barrier);
     let mut left = texts;

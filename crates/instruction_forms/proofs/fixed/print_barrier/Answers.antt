@@ -12,7 +12,7 @@ print_unrolled-requires c = record { room = first_short c.loop-left.left.now _ c
 pub returns-then-barrier_number-number : goal.returns-then-barrier_number-number
 returns-then-barrier_number-number c =
     let same = sym c.barrier_number.ensures ∙ (c.if-barrier_number-number.true ∙ c.barrier_number-number.ensures) in
-    λ _. sym c.loop-left.invariant.same ∙ (first_text c.loop-left.left.now _ _ c.in-len1-up.len_at_least same ∙ ap Some (sym c.print_unrolled.ensures))
+    ap Some c.print_unrolled.ensures ∙ (sym (first_text c.loop-left.left.now _ _ c.in-len1-up.len_at_least same) ∙ c.loop-left.invariant.same)
 
 pub loop-left-preserved : goal.loop-left-preserved
 loop-left-preserved c =
