@@ -14,6 +14,10 @@ IsAtLeast u [] = ⊤
 IsAtLeast [] (_ ∷ _) = ⊥
 IsAtLeast (x ∷ u) (y ∷ v) = (rank_of x < rank_of y) ⊎ ((x ≡ y) × IsAtLeast u v)
 
+-- no suffix of a list is less than the list
+abbrev pub NoneLess : List Edge → Type 0
+NoneLess u = (prefix suffix : List Edge) → u ≡ prefix ++ suffix → IsAtLeast u suffix
+
 -- n edges at the end of u, and not all of u, are the first ones again; no suffix of u is less than u, and each longer suffix, but the
 -- whole, is above u
 pub record RepeatsFirst (u : List Edge) (n : ℕ) : Type 0 where
@@ -24,7 +28,7 @@ pub record RepeatsFirst (u : List Edge) (n : ℕ) : Type 0 where
   pub begins : u ≡ end ++ rest
   pub long : length end ≡ n
   pub room : 0 < length rest
-  pub least : (prefix suffix : List Edge) → u ≡ prefix ++ suffix → IsAtLeast u suffix
+  pub least : NoneLess u
   pub above : (prefix more : List Edge) → before ≡ prefix ++ more → 0 < length prefix → 0 < length more → Above u (more ++ end)
 
 -- what is kept of how the end of a list repeats its beginning

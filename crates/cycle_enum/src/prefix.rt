@@ -6,7 +6,7 @@ ghost use Rattle.cycle_laws.specs.Composable.{last_joins};
 ghost use Rattle.cycle_laws.specs.CycleOrder.{IsNormal};
 ghost use Rattle.walk_laws.specs.Search.{LeadsNowhere};
 ghost use Rattle.cycle_enum.specs.Letters.{IsLetter};
-ghost use Rattle.cycle_enum.specs.Repeats.{IsRepeat};
+ghost use Rattle.cycle_enum.specs.Repeats.{NoneLess, IsRepeat};
 ghost use Rattle.cycle_enum.specs.declared.prefix.Repeat.TheVariants.{First, Less};
 
 use crate::letter::Letter;
@@ -161,9 +161,11 @@ impl Prefix {
         }
     }
 
-    /// Whether a normal form may begin with its edges: none does where the answer is no.
+    /// Whether a normal form may begin with its edges: none does where the answer is no, and no suffix of them is less than they
+    /// are where it is yes.
     pub(crate) fn may_begin(&self) -> bool
-        ensures { IsFalse result → LeadsNowhere IsNormal self.now }
+        ensures may { IsTrue result → NoneLess self.now }
+        ensures refused { IsFalse result → LeadsNowhere IsNormal self.now }
     {
         match self.last_repeat() {
             None => true,

@@ -226,11 +226,12 @@ impl<K: Fn(&[Edge]) -> bool, J: Fn(&[Edge]) -> bool, P: Fn(&Cycle) -> bool> Spac
         self.put_first_refused(edges, list);
     }
 
-    /// Whether no pruner says no on a prefix of a list.
+    /// Whether no pruner says no on a prefix of a list. Where one does, no listed cycle begins with the list.
     fn keeps_all(&self, edges: &[Edge]) -> bool
         requires knows { KnowsOf K.pre K.Fn.post J.pre J.Fn.post P.pre P.Fn.post self.now.keep self.now.fit self.now.take }
         requires few { length edges.now ≤ MAX_EDGES }
-        ensures { IsTrue result → KeptWhole (KeepsList K.Fn.post J.Fn.post self.now) edges.now }
+        ensures kept { IsTrue result → KeptWhole (KeepsList K.Fn.post J.Fn.post self.now) edges.now }
+        ensures refused { IsFalse result → LeadsNowhere (Lists P.Fn.post self.now) edges.now }
     {
         for len in 1..=edges.len() {
             if !self.is_kept(&edges[..len]) {

@@ -6,7 +6,7 @@ use Rattle.walk_laws.proofs.Nowhere.{unmade_nowhere}
 use Rattle.cycle_enum.proofs.walk.Space.leads_on.Goals as goal
 
 pub returns-then-not-may_begin-clause-refused : goal.returns-then-not-may_begin-clause-refused
-returns-then-not-may_begin-clause-refused g c _ = λ r l. c.may_begin.ensures c.if-not-may_begin.true r l.normal
+returns-then-not-may_begin-clause-refused g c _ = λ r l. c.may_begin.ensures.refused c.if-not-may_begin.true r l.normal
 
 pub returns-clause-refused : goal.returns-clause-refused
 returns-clause-refused g c fails =

@@ -17,7 +17,7 @@ pub returns-then-keeps_all : goal.returns-then-keeps_all
 returns-then-keeps_all g c =
     let some : 0 < length c.args.list.now = search rules in
     let yes : IsTrue c.keeps_all.result = search rules in
-    let kept : KeptWhole (KeepsList g.K.Fn.post g.J.Fn.post c.args.self.now) c.args.last.now = rw c.edges-edges.ensures.value at (c.keeps_all.ensures yes) in
+    let kept : KeptWhole (KeepsList g.K.Fn.post g.J.Fn.post c.args.self.now) c.args.last.now = rw c.edges-edges.ensures.value at (c.keeps_all.ensures.kept yes) in
     rw (at_last c.args.list.now c.args.last.now c.requires.at some)
     (cut_whole (Lists g.P.Fn.post c.args.self.now) (KeepsList g.K.Fn.post g.J.Fn.post c.args.self.now) c.args.last.now c.args.last.now [] (sym (append-nil c.args.last.now)) refl kept)
 
