@@ -34,6 +34,9 @@ bytes_force a arch w name es mode laws back t r = record {
   test = test;
   reads = r.read;
   asks = refl;
+  no_interleaving = λ values line h.
+      interleaving_ends w test values line h (not_in_order w test es t.code.resolved stands (λ x candidate. subst (WritesInside x) program_is (test_writes_within a (name_in w.registers) es mode renumbered number laws t same_test x (subst (λ (p : Program). IsCandidate p x) (sym program_is) candidate))));
+  not_sequential = not_in_order w test es t.code.resolved stands (λ x candidate. subst (WritesInside x) program_is (test_writes_within a (name_in w.registers) es mode renumbered number laws t same_test x (subst (λ (p : Program). IsCandidate p x) (sym program_is) candidate)));
   stand = λ x asked. subst (λ (p : Program). AllStand es p x) program_is (forced.stand x (asked_for x asked));
   only = λ x asked. forced.only x (asked_for x asked) ∙ same;
   exists = subst (ReadingAsks w test) same (asks (intended es mode number) forced.exists);
