@@ -2,15 +2,12 @@
 -- rises, and so do values.
 use Rattle.std.proofs.Common.{◌≡◌, ℕ, ◌+◌, ◌-◌, ◌<◌, ◌≤◌, true, List, length, refl, sym, ◌∙◌, ap, arith}
 use Rattle.std.specs.Prelude.{if◌then◌else◌, nat_lt}
-use Rattle.std.proofs.lemmas.Bool.{cond-true, cond-false, lt-ltb, ltb-false, le-ltb}
-use Rattle.relax_edges.specs.declared.kinds.Dir.{Dir}
-use Rattle.relax_edges.specs.declared.kinds.Dir.TheVariants as dirs
-use Rattle.relax_edges.specs.declared.kinds.Sd.{Sd}
-use Rattle.relax_edges.specs.declared.kinds.Sd.TheVariants.{Same, Diff}
+use Rattle.std.proofs.lemmas.Bool.{cond-true, cond-false, lt-ltb, le-ltb}
+use Rattle.relax_edges.specs.declared.kinds.Sd.TheVariants.{Diff}
 use Rattle.relax_edges.specs.declared.edge.Edge.{Edge}
-use Rattle.relax_edges.specs.EdgeTable.{source_of, sd_of, is_diff, same_dir}
+use Rattle.relax_edges.specs.EdgeTable.{sd_of, is_diff}
 use Rattle.list_laws.proofs.Cases.{by_less, by_same}
-use Rattle.resolution_laws.specs.Resolution.{IsResolved, edge_at, event_after, location_of, moves_before, move_count}
+use Rattle.resolution_laws.specs.Resolution.{IsResolved, edge_at, event_after, location_of, moves_before}
 use Rattle.resolution_laws.proofs.Around.{by_after}
 use Rattle.resolution_laws.proofs.Locations.{moves_on, moves_up, moves_most}
 use Rattle.value_laws.specs.Values.{value_of, way_place, is_write}

@@ -1,7 +1,6 @@
 -- In the intended execution, without the pairs across one link, each step leads further from the target of that link, where a read
 -- of an observer comes right after the write that it reads.
 use Rattle.std.proofs.Common.{◌≡◌, ℕ, ◌+◌, ◌<◌, ◌≤◌, true, List, [], ◌∷◌, length, Option, Some, None, slice_get, refl, sym, ◌∙◌, ap, subst, arith}
-use Rattle.relax_edges.specs.declared.kinds.Dir.{Dir}
 use Rattle.relax_edges.specs.declared.kinds.Dir.TheVariants as dirs
 use Rattle.relax_edges.specs.declared.kinds.ObsMode.{ObsMode}
 use Rattle.relax_edges.specs.declared.edge.Edge.{Edge}
@@ -10,24 +9,24 @@ use Rattle.list_laws.proofs.Cases.{by_same}
 use Rattle.list_laws.proofs.Ranks.{unrank_upto}
 use Rattle.resolution_laws.specs.Resolution.{IsResolved, edge_at, thread_of, slot_of, location_of, external_count, move_count}
 use Rattle.resolution_laws.proofs.EdgeCounts.{counted_up}
-use Rattle.value_laws.specs.Values.{value_of, write_at, write_count, is_write, is_observed}
+use Rattle.value_laws.specs.Values.{value_of, write_at, is_write, is_observed}
 use Rattle.program_meaning.specs.declared.WriteAt.{WriteAt}
 use Rattle.program_meaning.specs.Accesses.{Access, read, write, at_name}
-use Rattle.program_meaning.specs.Executions.{Execution, CanRead, IsExecutionOf}
-use Rattle.program_meaning.specs.Coherence.{order_place, order_at, source_at, coherence_place}
+use Rattle.program_meaning.specs.Executions.{CanRead}
+use Rattle.program_meaning.specs.Coherence.{order_place, order_at, source_at}
 use Rattle.program_meaning.specs.Standing.{event_name}
-use Rattle.program_meaning.specs.Intended.{IsNumbering, cycle_accesses, event_access, intended, observed_locations}
+use Rattle.program_meaning.specs.Intended.{IsNumbering, cycle_accesses, intended, observed_locations}
 use Rattle.communication_laws.proofs.Accesses.{EventAt, LoadAt, by_origin}
 use Rattle.communication_laws.proofs.Bridge.{resolves}
 use Rattle.communication_laws.proofs.IntendedExists.{intended_is_execution}
 use Rattle.communication_laws.proofs.IntendedOrders.{place_is_value, same_event}
-use Rattle.communication_laws.proofs.Resolves.{Resolves, IsWrite, later_slot}
-use Rattle.communication_laws.proofs.WriteEvents.{WriteEvent, write_event}
+use Rattle.communication_laws.proofs.Resolves.{Resolves, later_slot}
+use Rattle.communication_laws.proofs.WriteEvents.{write_event}
 use Rattle.coherence_laws.specs.Laws.{WritesWithin}
-use Rattle.coherence_laws.specs.Relations.{IsWriteTo, IsReadOf, ReadsFrom, CoherenceOrder, IsBefore, FromRead}
-use Rattle.coherence_laws.specs.Sequential.{Precedes, StepBy, ByPo, ByRf, ByCo, ByFr, IsPathBy, HasNoCycle}
+use Rattle.coherence_laws.specs.Relations.{IsWriteTo, ReadsFrom, CoherenceOrder, IsBefore, FromRead}
+use Rattle.coherence_laws.specs.Sequential.{StepBy, ByPo, ByRf, ByCo, ByFr, IsPathBy}
 use Rattle.coherence_laws.proofs.Places.{Held, held, place_in}
-use Rattle.link_laws.specs.Laws.{IsLink, EachLinkCloses}
+use Rattle.link_laws.specs.Laws.{EachLinkCloses}
 use Rattle.link_laws.specs.Links.{PrecedesBut}
 use Rattle.link_laws.proofs.Distances.{distance, distance_beside, moves_test, further_by_value, further_than_write}
 
