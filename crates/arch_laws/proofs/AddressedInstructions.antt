@@ -278,6 +278,7 @@ release_acquire archs.X86 e = e
 release_acquire archs.PPC e = e
 release_acquire archs.AArch64 e = e
 release_acquire archs.RISCV e = e
+release_acquire archs.ARM e = e
 
 -- the architecture has the load of each of its marks at the address in a register
 pub load_op_has : (own : Instructions) → KeepsInstructions own → (mark : Mark) → mark_is_of mark own.name ≡ true →

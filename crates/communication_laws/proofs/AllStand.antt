@@ -26,7 +26,7 @@ use Rattle.communication_laws.proofs.EdgesJoin.{edges_join}
 use Rattle.communication_laws.proofs.Resolves.{Resolves, EntersLast}
 
 -- a visit at a name gives the access at that name
-access_of_visit : (visits : List (List Visit)) (name : WriteAt) (visit : Visit) → at_name visits name ≡ Some visit → at_name (map accesses_of visits) name ≡ Some visit.access
+pub access_of_visit : (visits : List (List Visit)) (name : WriteAt) (visit : Visit) → at_name visits name ≡ Some visit → at_name (map accesses_of visits) name ≡ Some visit.access
 access_of_visit visits name visit h =
     let g = got_from_list (slice_get visits name.thread) name.access visit h in
     ap (λ o. got_from o name.access) (got_map accesses_of visits name.thread g.list g.list_is) ∙ got_map (λ v. v.access) g.list name.access visit g.got

@@ -134,15 +134,16 @@ letters_place Plain Release = 8
 
 -- the place of a fence's word without letters among the words of links
 abbrev pub fence_place : FenceKind → ℕ
-fence_place fences.DmbLd = 54
-fence_place fences.DmbSt = 63
-fence_place fences.DmbSy = 72
-fence_place fences.Eieio = 81
-fence_place (fences.Fence pred succ) = 90 + 3 * pick_rank pred + pick_rank succ
-fence_place fences.ISync = 99
-fence_place fences.LwSync = 108
-fence_place fences.MFence = 117
-fence_place fences.Sync = 135
+fence_place fences.Dmb = 54
+fence_place fences.DmbLd = 63
+fence_place fences.DmbSt = 72
+fence_place fences.DmbSy = 81
+fence_place fences.Eieio = 90
+fence_place (fences.Fence pred succ) = 99 + 3 * pick_rank pred + pick_rank succ
+fence_place fences.ISync = 108
+fence_place fences.LwSync = 117
+fence_place fences.MFence = 126
+fence_place fences.Sync = 144
 
 -- the place of a dependency's word with the letters of this place; `ctrlpa` and `ctrlpl` come after `ctrlisync`
 abbrev pub dependency_place : DepKind → ℕ → ℕ

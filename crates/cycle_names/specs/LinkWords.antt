@@ -33,6 +33,7 @@ fence_link fences.ISync = codes "isync"
 fence_link fences.DmbSy = codes "dmb.sy"
 fence_link fences.DmbLd = codes "dmb.ld"
 fence_link fences.DmbSt = codes "dmb.st"
+fence_link fences.Dmb = codes "dmb"
 fence_link (fences.Fence pred succ) = codes "fence." ++ pick_word pred ++ codes "." ++ pick_word succ
 
 -- the word of a dependency in a name

@@ -12,7 +12,7 @@ use relax_edges::{DepKind, Edge, FenceKind, Kind, Mark, Pick, Sd};
 pub(crate) const DATA_PLACE: u8 = 45;
 
 /// The place of `po`, the word of a link that is plain program order, among the words of links.
-pub(crate) const PO_PLACE: u8 = 126;
+pub(crate) const PO_PLACE: u8 = 135;
 
 fn pick_rank(pick: Pick) -> u8
     ensures { result ≡ pick_rank pick }
@@ -29,15 +29,16 @@ pub(crate) fn fence_place(fence: FenceKind) -> u8
     ensures { result ≡ fence_place fence }
 {
     match fence {
-        FenceKind::DmbLd => 54,
-        FenceKind::DmbSt => 63,
-        FenceKind::DmbSy => 72,
-        FenceKind::Eieio => 81,
-        FenceKind::Fence { pred, succ } => 90 + 3 * pick_rank(pred) + pick_rank(succ),
-        FenceKind::ISync => 99,
-        FenceKind::LwSync => 108,
-        FenceKind::MFence => 117,
-        FenceKind::Sync => 135,
+        FenceKind::Dmb => 54,
+        FenceKind::DmbLd => 63,
+        FenceKind::DmbSt => 72,
+        FenceKind::DmbSy => 81,
+        FenceKind::Eieio => 90,
+        FenceKind::Fence { pred, succ } => 99 + 3 * pick_rank(pred) + pick_rank(succ),
+        FenceKind::ISync => 108,
+        FenceKind::LwSync => 117,
+        FenceKind::MFence => 126,
+        FenceKind::Sync => 144,
     }
 }
 
@@ -106,6 +107,7 @@ fn fence_word(fence: FenceKind) -> &'static str
         FenceKind::DmbSy => "dmb.sy",
         FenceKind::DmbLd => "dmb.ld",
         FenceKind::DmbSt => "dmb.st",
+        FenceKind::Dmb => "dmb",
         FenceKind::Fence { pred, succ } => riscv_fence_word(pred, succ),
     }
 }

@@ -8,7 +8,7 @@ use Rattle.std.proofs.lemmas.List.Elements.{filter-append, filter_more}
 use Rattle.std.proofs.lemmas.List.Filters.{length-filter_more}
 use Rattle.std.proofs.lemmas.Option.{get_or_from_slice_get}
 use Rattle.relax_edges.specs.declared.kinds.ArchName.{ArchName}
-use Rattle.relax_edges.specs.declared.kinds.ArchName.TheVariants.{X86, PPC, AArch64, RISCV}
+use Rattle.relax_edges.specs.declared.kinds.ArchName.TheVariants.{X86, PPC, AArch64, RISCV, ARM}
 use Rattle.relax_edges.specs.declared.kinds.Dir.{Dir}
 use Rattle.relax_edges.specs.declared.kinds.Dir.TheVariants as dirs
 use Rattle.relax_edges.specs.declared.order.TheConstants.{EDGES}
@@ -38,6 +38,10 @@ one_to_16 RISCV dirs.R dirs.R = refl
 one_to_16 RISCV dirs.R dirs.W = refl
 one_to_16 RISCV dirs.W dirs.R = refl
 one_to_16 RISCV dirs.W dirs.W = refl
+one_to_16 ARM dirs.R dirs.R = refl
+one_to_16 ARM dirs.R dirs.W = refl
+one_to_16 ARM dirs.W dirs.R = refl
+one_to_16 ARM dirs.W dirs.W = refl
 
 -- there is at least one choice for each link
 pub some_choices : (arch : ArchName) (from to : Dir) → 0 < length (choices_of arch from to)

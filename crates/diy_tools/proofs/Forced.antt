@@ -31,6 +31,9 @@ use Rattle.arch_aarch64.specs.ReadsBack as aarch64_back
 use Rattle.arch_riscv.specs.InCells as riscv_cells
 use Rattle.arch_riscv.specs.Laws as riscv_laws
 use Rattle.arch_riscv.specs.ReadsBack as riscv_back
+use Rattle.arch_arm.specs.InCells as arm_cells
+use Rattle.arch_arm.specs.Laws as arm_laws
+use Rattle.arch_arm.specs.ReadsBack as arm_back
 use Rattle.litmus_text.specs.Printable.{IsTestName}
 use Rattle.diy_words.specs.declared.usage.Usage.{Usage}
 use Rattle.diy_words.specs.TestNames.{is_name}
@@ -94,6 +97,12 @@ keeps_laws archs.RISCV = record {
   back = riscv_back.reads_back;
   cells = riscv_cells.writes_cells;
   one = riscv_cells.makes_one_access;
+}
+keeps_laws archs.ARM = record {
+  laws = arm_laws.laws;
+  back = arm_back.reads_back;
+  cells = arm_cells.writes_cells;
+  one = arm_cells.makes_one_access;
 }
 
 -- edges that aren't refused make a cycle that isn't refused

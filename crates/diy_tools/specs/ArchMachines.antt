@@ -12,6 +12,8 @@ use Rattle.arch_aarch64.specs.Puts as aarch64
 use Rattle.arch_aarch64.specs.Table as aarch64_table
 use Rattle.arch_riscv.specs.Puts as riscv
 use Rattle.arch_riscv.specs.Table as riscv_table
+use Rattle.arch_arm.specs.Puts as arm
+use Rattle.arch_arm.specs.Table as arm_table
 
 -- an architecture: the code of its accesses, and how that is written
 pub record Machine : Type 0 where
@@ -28,3 +30,4 @@ machine_of archs.X86 = machine x86.puts x86_table.writing
 machine_of archs.PPC = machine power.puts power_table.writing
 machine_of archs.AArch64 = machine aarch64.puts aarch64_table.writing
 machine_of archs.RISCV = machine riscv.puts riscv_table.writing
+machine_of archs.ARM = machine arm.puts arm_table.writing

@@ -6,6 +6,7 @@ ghost use Rattle.diy_tools.specs.Report.{StatusNamesLocation};
 
 use crate::status::{Device, Status, TextKind};
 use arch_aarch64::A64;
+use arch_arm::Arm;
 use arch_power::Power;
 use arch_riscv::Riscv;
 use arch_x86::X86;
@@ -58,6 +59,7 @@ fn check_on<H: Shelf, O: Sink>(
         ArchName::PPC => check_files::<Power, H, O>(alloc, words, test, execution, shelf, out),
         ArchName::AArch64 => check_files::<A64, H, O>(alloc, words, test, execution, shelf, out),
         ArchName::RISCV => check_files::<Riscv, H, O>(alloc, words, test, execution, shelf, out),
+        ArchName::ARM => check_files::<Arm, H, O>(alloc, words, test, execution, shelf, out),
     }
 }
 

@@ -10,6 +10,7 @@ ghost use Rattle.diy_tools.specs.Report.{StatusNamesLocation};
 use crate::listing::listing_status;
 use crate::status::Status;
 use arch_aarch64::A64;
+use arch_arm::Arm;
 use arch_power::Power;
 use arch_riscv::Riscv;
 use arch_trait::Arch;
@@ -62,6 +63,7 @@ fn cross_places<H: Shelf, O: Sink>(
         ArchName::PPC => cross_on::<Power, H, O>(alloc, mode, folder, places, shelf, out),
         ArchName::AArch64 => cross_on::<A64, H, O>(alloc, mode, folder, places, shelf, out),
         ArchName::RISCV => cross_on::<Riscv, H, O>(alloc, mode, folder, places, shelf, out),
+        ArchName::ARM => cross_on::<Arm, H, O>(alloc, mode, folder, places, shelf, out),
     }
 }
 

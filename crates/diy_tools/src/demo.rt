@@ -8,6 +8,7 @@ ghost use Rattle.diy_tools.specs.Report.{StatusNamesLocation};
 
 use crate::status::{Device, Status};
 use arch_aarch64::A64;
+use arch_arm::Arm;
 use arch_power::Power;
 use arch_riscv::Riscv;
 use arch_x86::X86;
@@ -30,6 +31,7 @@ pub(crate) fn demo<O: Sink>(request: &Demo, out: &mut O) -> Status
         ArchName::PPC => count_tests::<Power, O>(request.count, out),
         ArchName::AArch64 => count_tests::<A64, O>(request.count, out),
         ArchName::RISCV => count_tests::<Riscv, O>(request.count, out),
+        ArchName::ARM => count_tests::<Arm, O>(request.count, out),
     };
     match printed {
         Ok(()) => Status::Done,

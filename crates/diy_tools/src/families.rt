@@ -14,6 +14,7 @@ ghost use Rattle.diy_tools.specs.Statuses.{classify_status};
 use crate::naming::lines_status;
 use crate::status::{Device, Status, TextKind};
 use arch_aarch64::A64;
+use arch_arm::Arm;
 use arch_power::Power;
 use arch_riscv::Riscv;
 use arch_x86::X86;
@@ -111,6 +112,7 @@ fn classify_on<H: Shelf, O: Sink>(
         ArchName::PPC => classify_files::<Power, H, O>(alloc, words, files, shelf, out),
         ArchName::AArch64 => classify_files::<A64, H, O>(alloc, words, files, shelf, out),
         ArchName::RISCV => classify_files::<Riscv, H, O>(alloc, words, files, shelf, out),
+        ArchName::ARM => classify_files::<Arm, H, O>(alloc, words, files, shelf, out),
     }
 }
 

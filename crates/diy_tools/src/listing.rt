@@ -12,6 +12,7 @@ ghost use Rattle.diy_tools.specs.Statuses.{listing_status};
 
 use crate::status::{Device, Status};
 use arch_aarch64::A64;
+use arch_arm::Arm;
 use arch_power::Power;
 use arch_riscv::Riscv;
 use arch_x86::X86;
@@ -69,6 +70,7 @@ fn list_on<H: Shelf, O: Sink>(
         ArchName::PPC => list_tests::<Power, H, O>(listing, shelf, out),
         ArchName::AArch64 => list_tests::<A64, H, O>(listing, shelf, out),
         ArchName::RISCV => list_tests::<Riscv, H, O>(listing, shelf, out),
+        ArchName::ARM => list_tests::<Arm, H, O>(listing, shelf, out),
     }
 }
 

@@ -10,6 +10,7 @@ ghost use Rattle.diy_tools.specs.Report.{StatusNamesLocation, RefusesLocation};
 use crate::edges::cycle_of_edges;
 use crate::status::{Device, Refusal, Status};
 use arch_aarch64::A64;
+use arch_arm::Arm;
 use arch_power::Power;
 use arch_riscv::Riscv;
 use arch_trait::{Arch, Places, ThreadCodes};
@@ -35,6 +36,7 @@ pub(crate) fn diyone<O: Sink>(request: &DiyOne, out: &mut O) -> Status
         ArchName::PPC => diyone_on::<Power, O>(request, out),
         ArchName::AArch64 => diyone_on::<A64, O>(request, out),
         ArchName::RISCV => diyone_on::<Riscv, O>(request, out),
+        ArchName::ARM => diyone_on::<Arm, O>(request, out),
     }
 }
 

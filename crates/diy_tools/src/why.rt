@@ -15,6 +15,7 @@ ghost use Rattle.diy_tools.specs.WhyAnswers.{why_line};
 use crate::edges::cycle_of_edges;
 use crate::status::{Device, Refusal, Status};
 use arch_aarch64::A64;
+use arch_arm::Arm;
 use arch_power::Power;
 use arch_riscv::Riscv;
 use arch_trait::Arch;
@@ -47,6 +48,7 @@ pub(crate) fn why<H: Shelf, O: Sink>(
         ArchName::PPC => why_on::<Power, H, O>(alloc, request, shelf, out),
         ArchName::AArch64 => why_on::<A64, H, O>(alloc, request, shelf, out),
         ArchName::RISCV => why_on::<Riscv, H, O>(alloc, request, shelf, out),
+        ArchName::ARM => why_on::<Arm, H, O>(alloc, request, shelf, out),
     }
 }
 

@@ -69,6 +69,7 @@ fn leading_fence(text: &[u8]) -> Option<(FenceKind, &[u8])>
         [b'D', b'M', b'B', b'.', b'S', b'Y', rest @ ..] => Some((FenceKind::DmbSy, rest)),
         [b'D', b'M', b'B', b'.', b'L', b'D', rest @ ..] => Some((FenceKind::DmbLd, rest)),
         [b'D', b'M', b'B', b'.', b'S', b'T', rest @ ..] => Some((FenceKind::DmbSt, rest)),
+        [b'D', b'M', b'B', rest @ ..] => Some((FenceKind::Dmb, rest)),
         _ => None,
     }
 }

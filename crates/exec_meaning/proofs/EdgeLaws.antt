@@ -68,6 +68,7 @@ fence_decides fences.ISync fences.ISync = (λ h. refl, λ h. refl)
 fence_decides fences.DmbSy fences.DmbSy = (λ h. refl, λ h. refl)
 fence_decides fences.DmbLd fences.DmbLd = (λ h. refl, λ h. refl)
 fence_decides fences.DmbSt fences.DmbSt = (λ h. refl, λ h. refl)
+fence_decides fences.Dmb fences.Dmb = (λ h. refl, λ h. refl)
 fence_decides (fences.Fence p s) (fences.Fence q t) = (
   λ h. let a = and_parts (same_pick p q) (same_pick s t) h in
       let e : p ≡ q = (pick_decides p q).0 a.0 in let f : s ≡ t = (pick_decides s t).0 a.1 in cc,

@@ -64,6 +64,7 @@ same_fence fences.ISync fences.ISync = true
 same_fence fences.DmbSy fences.DmbSy = true
 same_fence fences.DmbLd fences.DmbLd = true
 same_fence fences.DmbSt fences.DmbSt = true
+same_fence fences.Dmb fences.Dmb = true
 same_fence (fences.Fence pred succ) (fences.Fence pred' succ') = same_pick pred pred' && same_pick succ succ'
 same_fence _ _ = false
 

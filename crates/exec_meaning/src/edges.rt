@@ -32,7 +32,8 @@ fn same_fence(a: FenceKind, b: FenceKind) -> bool
         | (FenceKind::ISync, FenceKind::ISync)
         | (FenceKind::DmbSy, FenceKind::DmbSy)
         | (FenceKind::DmbLd, FenceKind::DmbLd)
-        | (FenceKind::DmbSt, FenceKind::DmbSt) => true,
+        | (FenceKind::DmbSt, FenceKind::DmbSt)
+        | (FenceKind::Dmb, FenceKind::Dmb) => true,
         (
             FenceKind::Fence { pred, succ },
             FenceKind::Fence {

@@ -34,10 +34,12 @@ writes_to_means place a h =
     let d = write_dir a.dir a.place place h in
     λ i. record { dir = d.0 i; place = d.1 i; value = a.value }
 
-writes_to_from : (place v : ℕ) → writes_to place (write place v) ≡ true
+-- a write to a place passes
+pub writes_to_from : (place v : ℕ) → writes_to place (write place v) ≡ true
 writes_to_from place v = eq-eqb place place refl
 
-writes_there_means : (place : ℕ) (o : Option Access) → writes_there place o ≡ true → (v : ℕ) × (o ≡ Some (write place v))
+-- what passes as a write to a place is one
+pub writes_there_means : (place : ℕ) (o : Option Access) → writes_there place o ≡ true → (v : ℕ) × (o ≡ Some (write place v))
 writes_there_means place None h = cc h
 writes_there_means place (Some a) h = (a.value, ap Some (writes_to_means place a h))
 

@@ -10,6 +10,7 @@ use Rattle.program_meaning.specs.declared.WriteAt.{WriteAt}
 use Rattle.program_meaning.specs.Accesses.{Access, is_read, at_name}
 use Rattle.program_meaning.specs.Executions.{Execution, same_write}
 use Rattle.program_meaning.specs.Coherence.{coherence_place}
+pub use Rattle.program_meaning.specs.Interleavings.{writes_by, writes_to, writes_there}
 use Rattle.program_meaning.specs.Programs.{Program, runs_of, accesses_in}
 
 -- each element passes with its number, counted from this one
@@ -20,20 +21,6 @@ every p n (x ∷ xs) = p n x && every p (n + 1) xs
 -- the name of an access
 abbrev pub name : ℕ → ℕ → WriteAt
 name thread access = record { thread = thread; access = access }
-
--- an access of this direction and place writes to a place
-abbrev pub writes_by : Dir → ℕ → ℕ → Bool
-writes_by dirs.R written place = false
-writes_by dirs.W written place = written == place
-
--- an access writes to a place
-abbrev pub writes_to : ℕ → Access → Bool
-writes_to place access = writes_by access.dir access.place place
-
--- there is an access, and it writes to a place
-abbrev pub writes_there : ℕ → Option Access → Bool
-writes_there place None = false
-writes_there place (Some access) = writes_to place access
 
 -- there is an access, and it writes a value to a place
 abbrev pub writes_value : ℕ → ℕ → Option Access → Bool

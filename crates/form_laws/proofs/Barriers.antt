@@ -28,7 +28,7 @@ abbrev pub all_barriers : List Barrier
 all_barriers =
     barriers.Isb ∷ barriers.Fence fences.MFence ∷ barriers.Fence fences.Sync ∷ barriers.Fence fences.LwSync ∷
     barriers.Fence fences.Eieio ∷ barriers.Fence fences.ISync ∷ barriers.Fence fences.DmbSy ∷ barriers.Fence fences.DmbLd ∷
-    barriers.Fence fences.DmbSt ∷ picked []
+    barriers.Fence fences.DmbSt ∷ picked (barriers.Fence fences.Dmb ∷ [])
 
 found : {X : Type 0} (p : X → Bool) (xs : List X) (i : ℕ) (x : X) → list_all p xs ≡ true → slice_get xs i ≡ Some x → p x ≡ true
 found p [] i x h e = cc
@@ -55,6 +55,7 @@ each_barrier p h (barriers.Fence (fences.Fence picks.W picks.RW)) = found p all_
 each_barrier p h (barriers.Fence (fences.Fence picks.RW picks.R)) = found p all_barriers 15 (barriers.Fence (fences.Fence picks.RW picks.R)) h refl
 each_barrier p h (barriers.Fence (fences.Fence picks.RW picks.W)) = found p all_barriers 16 (barriers.Fence (fences.Fence picks.RW picks.W)) h refl
 each_barrier p h (barriers.Fence (fences.Fence picks.RW picks.RW)) = found p all_barriers 17 (barriers.Fence (fences.Fence picks.RW picks.RW)) h refl
+each_barrier p h (barriers.Fence fences.Dmb) = found p all_barriers 18 (barriers.Fence fences.Dmb) h refl
 
 -- a test of fences as a test of barriers
 abbrev pub on_fence : (FenceKind → Bool) → Barrier → Bool

@@ -25,7 +25,8 @@ barrier_of n = get_or (barriers.Fence fences.MFence ∷ barriers.Fence fences.Sy
     barriers.Fence fences.ISync ∷ barriers.Fence fences.DmbSy ∷ barriers.Fence fences.DmbLd ∷ barriers.Fence fences.DmbSt ∷ barriers.Isb ∷
     barriers.Fence (fences.Fence picks.R picks.R) ∷ barriers.Fence (fences.Fence picks.R picks.W) ∷ barriers.Fence (fences.Fence picks.R picks.RW) ∷
     barriers.Fence (fences.Fence picks.W picks.R) ∷ barriers.Fence (fences.Fence picks.W picks.W) ∷ barriers.Fence (fences.Fence picks.W picks.RW) ∷
-    barriers.Fence (fences.Fence picks.RW picks.R) ∷ barriers.Fence (fences.Fence picks.RW picks.W) ∷ barriers.Fence (fences.Fence picks.RW picks.RW) ∷ []) n barriers.Isb
+    barriers.Fence (fences.Fence picks.RW picks.R) ∷ barriers.Fence (fences.Fence picks.RW picks.W) ∷ barriers.Fence (fences.Fence picks.RW picks.RW) ∷
+    barriers.Fence fences.Dmb ∷ []) n barriers.Isb
 
 barrier_back : (b : Barrier) → barrier_of (barrier_number b) ≡ b
 barrier_back (barriers.Fence fences.MFence) = refl
@@ -46,6 +47,7 @@ barrier_back (barriers.Fence (fences.Fence picks.W picks.RW)) = refl
 barrier_back (barriers.Fence (fences.Fence picks.RW picks.R)) = refl
 barrier_back (barriers.Fence (fences.Fence picks.RW picks.W)) = refl
 barrier_back (barriers.Fence (fences.Fence picks.RW picks.RW)) = refl
+barrier_back (barriers.Fence fences.Dmb) = refl
 
 -- barriers of one number are one barrier
 pub barrier_is : (a b : Barrier) → same_barrier a b ≡ true → a ≡ b

@@ -41,6 +41,7 @@ barrier_number barriers.Isb = 8
 barrier_number (barriers.Fence (fences.Fence picks.R s)) = 9 + pick_number s
 barrier_number (barriers.Fence (fences.Fence picks.W s)) = 12 + pick_number s
 barrier_number (barriers.Fence (fences.Fence picks.RW s)) = 15 + pick_number s
+barrier_number (barriers.Fence fences.Dmb) = 18
 
 -- two barriers are one, by their numbers
 abbrev pub same_barrier : Barrier → Barrier → Bool

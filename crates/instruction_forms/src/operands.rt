@@ -149,6 +149,7 @@ fn fence_number(fence: FenceKind) -> u8
         FenceKind::DmbSy => 5,
         FenceKind::DmbLd => 6,
         FenceKind::DmbSt => 7,
+        FenceKind::Dmb => 18,
         FenceKind::Fence { pred, succ } => 9 + 3 * pick_number(pred) + pick_number(succ),
     }
 }

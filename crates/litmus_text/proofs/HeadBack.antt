@@ -8,7 +8,7 @@ use Rattle.std.proofs.lemmas.Bool.Decides.{nat_tests}
 use Rattle.list_laws.proofs.Elements.{list_all-weaker}
 use Rattle.list_laws.proofs.Cases.{by_test}
 use Rattle.relax_edges.specs.declared.kinds.ArchName.{ArchName}
-use Rattle.relax_edges.specs.declared.kinds.ArchName.TheVariants.{X86, PPC, AArch64, RISCV}
+use Rattle.relax_edges.specs.declared.kinds.ArchName.TheVariants.{X86, PPC, AArch64, RISCV, ARM}
 use Rattle.relax_edges.specs.declared.edge.Edge.{Edge}
 use Rattle.relax_edges.specs.Architectures.{arch_word}
 use Rattle.relax_edges.specs.WordParts.{word_of}
@@ -54,6 +54,7 @@ arch_two X86 b name h = two_back 88 (codes "86") b name refl h
 arch_two PPC b name h = two_back 80 (codes "PC") b name refl h
 arch_two AArch64 b name h = two_back 65 (codes "Arch64") b name refl h
 arch_two RISCV b name h = two_back 82 (codes "ISCV") b name refl h
+arch_two ARM b name h = two_back 65 (codes "RM") b name refl h
 
 -- the printed header is read as the name of the test
 pub header_back : (arch : ArchName) (name : List ℕ) (n : ℕ) (rest : Lines) → IsTestName name → header_read arch (line n (header_line arch name) rest) ≡ Ok (name, rest)
@@ -123,6 +124,7 @@ arch_on_line X86 rest h = line_is _ h refl
 arch_on_line PPC rest h = line_is _ h refl
 arch_on_line AArch64 rest h = line_is _ h refl
 arch_on_line RISCV rest h = line_is _ h refl
+arch_on_line ARM rest h = line_is _ h refl
 
 -- a printed header is a line that isn't passed over
 pub header_line_is : (arch : ArchName) (name : List ℕ) → IsTestName name → IsLine (header_line arch name)

@@ -69,6 +69,7 @@ arch_short archs.X86 = omega arith
 arch_short archs.PPC = omega arith
 arch_short archs.AArch64 = omega arith
 arch_short archs.RISCV = omega arith
+arch_short archs.ARM = omega arith
 
 header_short : (arch : ArchName) (name : List ℕ) → length name ≤ 800 → length (with_line_feed (header_line arch name)) ≤ 809
 unfolding header_line

@@ -7,6 +7,10 @@ use Rattle.list_laws.proofs.Elements.{option_or-none}
 use Rattle.relax_edges.specs.declared.kinds.FenceKind.TheVariants as fences
 use Rattle.relax_edges.specs.WordReading.{fence_named, riscv_fence_named}
 
+-- three bytes name no fence but `DMB`
+pub fence_of_three : (a b d : ℕ) → fence_named (a ∷ b ∷ d ∷ []) ≡ cond (bytes_eq (a ∷ b ∷ d ∷ []) (codes "DMB")) (Some fences.Dmb) None
+fence_of_three a b d = simp (and-false, option_or-none)
+
 -- four bytes name no fence but `Sync`
 pub fence_of_four : (a b d e : ℕ) → fence_named (a ∷ b ∷ d ∷ e ∷ []) ≡ cond (bytes_eq (a ∷ b ∷ d ∷ e ∷ []) (codes "Sync")) (Some fences.Sync) None
 fence_of_four a b d e = simp (and-false, option_or-none)
@@ -27,12 +31,11 @@ pub fence_of_six : (a b d e f g : ℕ) → fence_named (a ∷ b ∷ d ∷ e ∷ 
 fence_of_six a b d e f g = simp (and-false, option_or-none)
 
 -- fewer bytes name no fence but one of RISC-V
-pub short_fence : (text : List ℕ) → length text < 4 → fence_named text ≡ riscv_fence_named text
+pub short_fence : (text : List ℕ) → length text < 3 → fence_named text ≡ riscv_fence_named text
 short_fence [] short = refl
 short_fence (a ∷ []) short = simp and-false
 short_fence (a ∷ b ∷ []) short = simp and-false
-short_fence (a ∷ b ∷ d ∷ []) short = simp and-false
-short_fence (a ∷ b ∷ d ∷ e ∷ text) short = absurd (omega arith)
+short_fence (a ∷ b ∷ d ∷ text) short = absurd (omega arith)
 
 -- and more bytes name none but one of RISC-V
 pub long_fence : (text : List ℕ) → 6 < length text → fence_named text ≡ riscv_fence_named text

@@ -10,10 +10,11 @@ use Rattle.list_laws.proofs.Elements.{rest_from}
 use Rattle.relax_edges.specs.declared.edge.Edge.{Edge}
 use Rattle.relax_edges.specs.declared.relax_error.RelaxKind.{RelaxKind}
 use Rattle.relax_edges.specs.declared.relax_error.RelaxKind.TheVariants.{UnknownEdge, RelaxTooLong, DoesNotJoin}
-use Rattle.relax_edges.specs.RelaxText.{is_separator, is_empty, RelaxItem, words_from, item_from, bytes_after, items_from, items_of}
+use Rattle.relax_edges.specs.RelaxText.{is_separator, is_empty, RelaxItem, words_from, items_of}
 use Rattle.relax_edges.specs.Relaxations.{word_edges, paths_of, keep_all, at_most_64, kept_paths, kept_words, kept_item, kept_items, relaxes_of}
 use Rattle.relax_edges.specs.RelaxSearch.{paths_after, KeepsPaths}
-use Rattle.relax_edges.specs.RelaxPrefix.{first_word_len, kept_prefix}
+use Rattle.relax_edges.specs.RelaxPrefix.{bytes_after, first_word_len, kept_prefix}
+use Rattle.relax_edges.proofs.ItemScan.{item_from, items_from, kept_one, refused_one}
 use Rattle.relax_edges.proofs.Paths.{paths_after-nil, at_most_64-ok}
 
 abbrev Answer : Type 0
@@ -98,15 +99,6 @@ items_after place byte remainder n =
     let more : n + 1 ≡ suc n = omega arith in
     rw (more, ← more) (items_passed (place + 1) n remainder ∙ ap (λ p. items_from p 0 (drop n remainder)) e)
 
-kept_one : (kept more : List (List Edge)) (item : RelaxItem) (items : List RelaxItem) → kept_item kept item.words ≡ Ok more → kept_items kept (item ∷ items) ≡ kept_items more items
-unfolding kept_items
-kept_one kept more item items ok = rw (ok, kept_items) refl
-
-refused_one : (kept : List (List Edge)) (kind : RelaxKind) (item : RelaxItem) (items : List RelaxItem) → kept_item kept item.words ≡ Err kind
-    → kept_items kept (item ∷ items) ≡ Err (record { at = item.start; kind = kind })
-unfolding kept_items
-refused_one kept kind item items err = rw (err, kept_items) refl
-
 separator_at_start : (kept : List (List Edge)) (byte : ℕ) (remainder : List ℕ) → is_separator byte ≡ true → kept_prefix kept (byte ∷ remainder) ≡ Ok kept
 unfolding kept_prefix
 separator_at_start kept byte remainder s = rw s refl
@@ -176,6 +168,6 @@ unfolding kept_items
 items_end kept text place past = rw (drop_of_length-le text {i = place} past) refl
 
 -- the relaxations of a text are what its items add to an empty list
-pub relaxes_of_text : (text : List ℕ) (kept : List (List Edge)) → kept ≡ [] → relaxes_of text ≡ kept_items kept (items_from 0 0 text)
-unfolding relaxes_of items_of
-relaxes_of_text text kept none = ap (λ k. kept_items k (items_from 0 0 text)) (sym none)
+pub relaxes_of_text : (text : List ℕ) (kept : List (List Edge)) → kept ≡ [] → relaxes_of text ≡ kept_items kept (items_of text)
+unfolding relaxes_of
+relaxes_of_text text kept none = ap (λ k. kept_items k (items_of text)) (sym none)

@@ -11,6 +11,7 @@ pub mod KindRanks
 pub mod KindSpellings
 pub mod FenceWords
 pub mod Search
+pub mod ItemScan
 pub mod Items
 pub mod Prefixes
 pub mod WordTable

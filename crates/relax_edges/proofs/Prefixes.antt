@@ -7,11 +7,11 @@ use Rattle.std.proofs.lemmas.List.{length-take}
 use Rattle.std.proofs.lemmas.List.Folds.{length-prefix_len}
 use Rattle.std.proofs.Math.ListN.{get_or-eq_default}
 use Rattle.list_laws.proofs.Cases.{by_test}
-use Rattle.relax_edges.specs.RelaxText.{is_separator, is_bracket, ends_word, words_of, inside, has_closed_bracket, some_words, bracket_words, words_from, bytes_after}
+use Rattle.relax_edges.specs.RelaxText.{is_separator, is_bracket, ends_word, words_of, inside, has_closed_bracket, some_words, bracket_words, words_from}
 use Rattle.relax_edges.specs.declared.edge.Edge.{Edge}
 use Rattle.relax_edges.specs.declared.relax_error.RelaxKind.TheVariants.{BadBracket}
 use Rattle.relax_edges.specs.Relaxations.{kept_words, kept_item}
-use Rattle.relax_edges.specs.RelaxPrefix.{kept_prefix, first_words, first_word_len, ends_here, IsInside, IsFirstWord}
+use Rattle.relax_edges.specs.RelaxPrefix.{bytes_after, kept_prefix, first_words, first_word_len, ends_here, IsInside, IsFirstWord}
 use Rattle.relax_edges.proofs.RelaxWords.{words_of_run}
 use Rattle.list_laws.proofs.Places.{before_first-no}
 

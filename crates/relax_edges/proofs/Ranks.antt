@@ -76,6 +76,7 @@ placed_fence fences.ISync = eight _ refl refl refl refl refl refl refl refl
 placed_fence fences.DmbSy = eight _ refl refl refl refl refl refl refl refl
 placed_fence fences.DmbLd = eight _ refl refl refl refl refl refl refl refl
 placed_fence fences.DmbSt = eight _ refl refl refl refl refl refl refl refl
+placed_fence fences.Dmb = eight _ refl refl refl refl refl refl refl refl
 placed_fence (fences.Fence picks.R picks.R) = eight _ refl refl refl refl refl refl refl refl
 placed_fence (fences.Fence picks.R picks.W) = eight _ refl refl refl refl refl refl refl refl
 placed_fence (fences.Fence picks.R picks.RW) = eight _ refl refl refl refl refl refl refl refl

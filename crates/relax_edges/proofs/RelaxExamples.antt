@@ -6,7 +6,7 @@ use Rattle.relax_edges.specs.declared.kinds.Sd.TheVariants.{Diff}
 use Rattle.relax_edges.specs.declared.kinds.DepKind.TheVariants as deps
 use Rattle.relax_edges.specs.declared.edge.Edge.TheVariants as edges
 use Rattle.relax_edges.specs.declared.relax_error.RelaxKind.TheVariants.{UnknownEdge, BadBracket, RelaxTooLong, DoesNotJoin}
-use Rattle.relax_edges.specs.NamedEdges.{fre, rfe}
+use Rattle.relax_edges.specs.NamedEdges.{fre, rfe, wse}
 use Rattle.relax_edges.specs.Order.{rank_of}
 use Rattle.relax_edges.specs.AllEdges.{edges_in_order}
 use Rattle.relax_edges.specs.Spelling.{edge_of}
@@ -28,6 +28,10 @@ bracket = refl
 bracket_and_word : relaxes_of (codes "[Rfe DpAddrdR] , Fre Fre") ≡ Ok ((rfe ∷ edges.Dep deps.Addr Diff dirs.R ∷ []) ∷ (fre ∷ []) ∷ [])
 unfolding rank_of edges_in_order edge_of word_edges kept_words kept_item kept_items items_of relaxes_of
 bracket_and_word = refl
+
+side_by_side : relaxes_of (codes "Fre[Rfe]Wse") ≡ Ok ((fre ∷ []) ∷ (rfe ∷ []) ∷ (wse ∷ []) ∷ [])
+unfolding rank_of edges_in_order edge_of word_edges kept_words kept_item kept_items items_of relaxes_of
+side_by_side = refl
 
 joined_choices : relaxes_of (codes "[Pod** Rfe]") ≡ Ok ((edges.Po Diff dirs.R dirs.W ∷ rfe ∷ []) ∷ (edges.Po Diff dirs.W dirs.W ∷ rfe ∷ []) ∷ [])
 unfolding rank_of edges_in_order edge_of word_edges kept_words kept_item kept_items items_of relaxes_of

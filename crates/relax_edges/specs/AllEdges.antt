@@ -67,7 +67,7 @@ with_dependency dep = flat_map with_marks (four_choices (markables.Dep dep))
 -- the edges whose words begin with `D`
 abbrev pub edges_of_letter_d : List Edge
 edges_of_letter_d =
-    with_barrier Ld ++ with_barrier St ++ with_barrier Sy
+    with_barrier Ld ++ with_barrier St ++ with_barrier Sy ++ with_fence fences.Dmb
     ++ with_dependency Addr ++ with_dependency CtrlIsb ++ four_choices (edges.Dep deps.CtrlIsync) ++ with_dependency Ctrl
     ++ with_marks (markables.Data Diff) ++ with_marks (markables.Data Same)
 

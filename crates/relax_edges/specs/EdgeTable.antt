@@ -9,7 +9,7 @@ use Rattle.relax_edges.specs.declared.kinds.Sd.TheVariants.{Same, Diff}
 use Rattle.relax_edges.specs.declared.kinds.Reach.{Reach}
 use Rattle.relax_edges.specs.declared.kinds.Reach.TheVariants.{Internal, External}
 use Rattle.relax_edges.specs.declared.kinds.ArchName.{ArchName}
-use Rattle.relax_edges.specs.declared.kinds.ArchName.TheVariants.{X86, PPC, AArch64, RISCV}
+use Rattle.relax_edges.specs.declared.kinds.ArchName.TheVariants.{X86, PPC, AArch64, RISCV, ARM}
 use Rattle.relax_edges.specs.declared.kinds.Com.{Com}
 use Rattle.relax_edges.specs.declared.kinds.Com.TheVariants as coms
 use Rattle.relax_edges.specs.declared.kinds.FenceKind.{FenceKind}
@@ -114,7 +114,7 @@ kind_place (kinds.Data sd) = sd
 abbrev pub sd_of : Edge → Sd
 sd_of edge = kind_place (kind_of edge)
 
--- a fence is of an architecture: each fence is of exactly one
+-- a fence is of an architecture: `DMB.ST` of two, each other fence of exactly one
 abbrev pub fence_is_of : FenceKind → ArchName → Bool
 fence_is_of fences.MFence X86 = true
 fence_is_of fences.Sync PPC = true
@@ -124,19 +124,24 @@ fence_is_of fences.ISync PPC = true
 fence_is_of fences.DmbSy AArch64 = true
 fence_is_of fences.DmbLd AArch64 = true
 fence_is_of fences.DmbSt AArch64 = true
+fence_is_of fences.DmbSt ARM = true
+fence_is_of fences.Dmb ARM = true
 fence_is_of (fences.Fence _ _) RISCV = true
 fence_is_of _ _ = false
 
--- a dependency is of an architecture: one with a barrier is of just one, any other of all but X86
+-- a dependency is of an architecture: one with `isync` of PPC, one with `ISB` of AArch64 and ARM, any other of all but X86
 abbrev pub dependency_is_of : DepKind → ArchName → Bool
 dependency_is_of deps.Addr PPC = true
 dependency_is_of deps.Addr AArch64 = true
 dependency_is_of deps.Addr RISCV = true
+dependency_is_of deps.Addr ARM = true
 dependency_is_of deps.Ctrl PPC = true
 dependency_is_of deps.Ctrl AArch64 = true
 dependency_is_of deps.Ctrl RISCV = true
+dependency_is_of deps.Ctrl ARM = true
 dependency_is_of deps.CtrlIsync PPC = true
 dependency_is_of deps.CtrlIsb AArch64 = true
+dependency_is_of deps.CtrlIsb ARM = true
 dependency_is_of _ _ = false
 
 -- an architecture has data dependencies: all but X86

@@ -46,21 +46,22 @@ pick_rank picks.W = 2
 
 -- the rank of the first word of a communication
 abbrev pub com_rank : Com → ℕ
-com_rank coms.Fr = 236
-com_rank coms.Rf = 300
-com_rank coms.Ws = 316
+com_rank coms.Fr = 244
+com_rank coms.Rf = 308
+com_rank coms.Ws = 324
 
 -- the rank of the first word of a fence
 abbrev pub fence_rank : FenceKind → ℕ
 fence_rank fences.DmbLd = 0
 fence_rank fences.DmbSt = 32
 fence_rank fences.DmbSy = 64
-fence_rank fences.Eieio = 156
-fence_rank (fences.Fence pred succ) = 164 + 8 * (3 * pick_rank pred + pick_rank succ)
-fence_rank fences.ISync = 244
-fence_rank fences.LwSync = 252
-fence_rank fences.MFence = 260
-fence_rank fences.Sync = 308
+fence_rank fences.Dmb = 96
+fence_rank fences.Eieio = 164
+fence_rank (fences.Fence pred succ) = 172 + 8 * (3 * pick_rank pred + pick_rank succ)
+fence_rank fences.ISync = 252
+fence_rank fences.LwSync = 260
+fence_rank fences.MFence = 268
+fence_rank fences.Sync = 316
 
 -- how many words a fence has for one choice of place and directions: with marks four
 abbrev pub fence_words : FenceKind → ℕ
@@ -71,10 +72,10 @@ fence_words _ = 1
 
 -- the rank of the first word of a dependency
 abbrev pub dependency_rank : DepKind → ℕ
-dependency_rank deps.Addr = 96
-dependency_rank deps.CtrlIsb = 112
-dependency_rank deps.CtrlIsync = 128
-dependency_rank deps.Ctrl = 132
+dependency_rank deps.Addr = 104
+dependency_rank deps.CtrlIsb = 120
+dependency_rank deps.CtrlIsync = 136
+dependency_rank deps.Ctrl = 140
 
 -- how many words a dependency has for one choice of place and direction: with marks four
 abbrev pub dependency_words : DepKind → ℕ
@@ -84,10 +85,10 @@ dependency_words _ = 4
 -- the rank of the edge of a kind that marks no access; those with marks follow it
 abbrev pub kind_rank : Kind → ℕ
 kind_rank (kinds.Com kind reach) = com_rank kind + 4 * reach_rank reach
-kind_rank (kinds.Po sd from to) = 268 + 4 * (4 * sd_rank sd + 2 * dir_rank from + dir_rank to)
+kind_rank (kinds.Po sd from to) = 276 + 4 * (4 * sd_rank sd + 2 * dir_rank from + dir_rank to)
 kind_rank (kinds.Fenced kind sd from to) = fence_rank kind + fence_words kind * (4 * sd_rank sd + 2 * dir_rank from + dir_rank to)
 kind_rank (kinds.Dep kind sd to) = dependency_rank kind + dependency_words kind * (2 * sd_rank sd + dir_rank to)
-kind_rank (kinds.Data sd) = 148 + 4 * sd_rank sd
+kind_rank (kinds.Data sd) = 156 + 4 * sd_rank sd
 
 -- how far an edge with marks comes after that without: both ends, the source, the target
 abbrev pub ends_rank : MarkedEnds → ℕ

@@ -1,14 +1,20 @@
--- The item that a text begins with.
-use Rattle.std.specs.Prelude.{ℕ, ◌≡◌, ◌<◌, ◌≤◌, ◌+◌, Bool, true, cond, Option, Some, None, Result, Ok, List, [], ◌∷◌, length}
+-- The item that a text begins with, for the clauses of private functions: `RelaxText` says which items a text has.
+use Rattle.std.specs.Prelude.{ℕ, ◌≡◌, ◌<◌, ◌≤◌, ◌+◌, ◌==◌, ◌||◌, Bool, true, cond, Option, Some, None, Result, Ok, List, [], ◌∷◌, length}
+use Rattle.std.specs.List.{before_first}
 use Rattle.relax_edges.specs.declared.edge.Edge.{Edge}
 use Rattle.relax_edges.specs.declared.relax_error.RelaxKind.{RelaxKind}
-use Rattle.relax_edges.specs.RelaxText.{is_separator, ends_word, words_of, inside, bracket_words, words_from, bytes_after}
+use Rattle.relax_edges.specs.RelaxText.{is_separator, ends_word, words_of, inside, bracket_words, words_from}
 use Rattle.relax_edges.specs.Relaxations.{kept_item}
 
 -- the words of the item that a text begins with, or none where its bracket is bad
 unfoldable pub first_words : List ℕ → Option (List (List ℕ))
 first_words [] = None
 first_words (byte ∷ remainder) = words_from byte remainder
+
+-- how many bytes of an item follow its first one
+abbrev pub bytes_after : ℕ → List ℕ → ℕ
+bytes_after byte remainder =
+    cond (is_separator byte || byte == 93) 0 (cond (byte == 91) (length (inside remainder) + 1) (length (before_first ends_word remainder)))
 
 -- the length of the item or separator that a text begins with
 unfoldable pub first_word_len : List ℕ → ℕ

@@ -1,8 +1,8 @@
 -- The items of a relaxation list: words and brackets of words, each with the byte where it begins.
 -- Source: the diy part of the herdtools manual, option `-relax`.
-use Rattle.std.specs.Prelude.{ℕ, ◌+◌, ◌==◌, ◌||◌, Bool, true, false, not, cond, Option, Some, None, List, [], ◌∷◌, ◌++◌, length, filter}
+use Rattle.std.specs.Prelude.{ℕ, ◌==◌, ◌||◌, ◌&&◌, Bool, true, false, not, cond, Option, Some, None, List, [], ◌∷◌, ◌++◌, length, filter}
 use Rattle.std.specs.List.{before_first, slice_split}
-use Rattle.std.proofs.Common.{zero, suc, get_or}
+use Rattle.std.proofs.Common.{get_or}
 
 -- a byte separates words: it is a comma, a space or a tab
 abbrev pub is_separator : ℕ → Bool
@@ -51,21 +51,29 @@ pub record RelaxItem : Type 0 where
 abbrev pub words_from : ℕ → List ℕ → Option (List (List ℕ))
 words_from byte remainder = cond (byte == 91) (bracket_words remainder) (cond (byte == 93) None (Some ((byte ∷ before_first ends_word remainder) ∷ [])))
 
--- the item that begins with a byte, or none at a separator
-abbrev pub item_from : ℕ → ℕ → List ℕ → List RelaxItem
-item_from start byte remainder = cond (is_separator byte) [] (record { start = start; words = words_from byte remainder } ∷ [])
+-- the last of some bytes, or the given byte where there are none
+abbrev pub last_byte : ℕ → List ℕ → ℕ
+last_byte byte [] = byte
+last_byte _ (byte ∷ bytes) = last_byte byte bytes
 
--- how many bytes of an item follow its first one
-abbrev pub bytes_after : ℕ → List ℕ → ℕ
-bytes_after byte remainder =
-    cond (is_separator byte || byte == 93) 0 (cond (byte == 91) (length (inside remainder) + 1) (length (before_first ends_word remainder)))
+-- whether a bracket is open after some bytes: the last bracket among them is a `[`
+abbrev pub is_open : List ℕ → Bool
+is_open before = last_byte 93 (filter is_bracket before) == 91
 
--- the items of a text whose first byte has this place, after that many bytes are passed over
-abbrev pub items_from : ℕ → ℕ → List ℕ → List RelaxItem
-items_from place passed [] = []
-items_from place (suc passed) (byte ∷ remainder) = items_from (place + 1) passed remainder
-items_from place zero (byte ∷ remainder) = item_from place byte remainder ++ items_from (place + 1) (bytes_after byte remainder) remainder
+-- whether a word cannot go on after some bytes: there are none, or the last of them ends a word
+abbrev pub stands_apart : List ℕ → Bool
+stands_apart before = ends_word (last_byte 32 before)
+
+-- whether an item begins with the byte after some bytes: it separates nothing, no bracket is open there, and it is a bracket or the first byte of a word
+abbrev pub begins_item : List ℕ → ℕ → Bool
+begins_item before byte = not (is_separator byte) && not (is_open before) && (is_bracket byte || stands_apart before)
+
+-- the items that begin in a text after some bytes: one with each byte that begins one
+abbrev pub items_after : List ℕ → List ℕ → List RelaxItem
+items_after before [] = []
+items_after before (byte ∷ remainder) =
+    cond (begins_item before byte) (record { start = length before; words = words_from byte remainder } ∷ []) [] ++ items_after (before ++ byte ∷ []) remainder
 
 -- the items of a text
 unfoldable pub items_of : List ℕ → List RelaxItem
-items_of text = items_from 0 0 text
+items_of text = items_after [] text

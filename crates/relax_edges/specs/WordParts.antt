@@ -62,6 +62,7 @@ fence_word fences.ISync = codes "ISync"
 fence_word fences.DmbSy = codes "DMB.SY"
 fence_word fences.DmbLd = codes "DMB.LD"
 fence_word fences.DmbSt = codes "DMB.ST"
+fence_word fences.Dmb = codes "DMB"
 fence_word (fences.Fence pred succ) = codes "Fence." ++ pick_word pred ++ codes "." ++ pick_word succ
 
 -- the word of a dependency

@@ -84,7 +84,7 @@ riscv_fence_named = kind_named_by fence_word riscv_fences_read
 -- the fences of the other architectures
 abbrev pub plain_fences_read : List FenceKind
 plain_fences_read =
-    fences.MFence ∷ fences.Sync ∷ fences.LwSync ∷ fences.Eieio ∷ fences.ISync ∷ fences.DmbSy ∷ fences.DmbLd ∷ fences.DmbSt ∷ []
+    fences.MFence ∷ fences.Sync ∷ fences.LwSync ∷ fences.Eieio ∷ fences.ISync ∷ fences.DmbSy ∷ fences.DmbLd ∷ fences.DmbSt ∷ fences.Dmb ∷ []
 
 -- the fence of another architecture that a text names
 abbrev pub plain_fence_named : List ℕ → Option FenceKind

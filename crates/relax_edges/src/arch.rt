@@ -4,7 +4,7 @@ ghost use Rattle.relax_edges.specs.Architectures.{arch_word, arch_of};
 use crate::kinds::ArchName;
 
 impl ArchName {
-    /// The text that names the architecture: `X86`, `PPC`, `AArch64` or `RISCV`.
+    /// The text that names the architecture: `X86`, `PPC`, `AArch64`, `RISCV` or `ARM`.
     pub fn name(self) -> &'static str
         ensures { result.now ≡ arch_word self }
     {
@@ -13,6 +13,7 @@ impl ArchName {
             ArchName::PPC => "PPC",
             ArchName::AArch64 => "AArch64",
             ArchName::RISCV => "RISCV",
+            ArchName::ARM => "ARM",
         }
     }
 }
@@ -27,6 +28,7 @@ pub fn read_arch(text: &str) -> Option<ArchName>
         "PPC" => Some(ArchName::PPC),
         "AArch64" => Some(ArchName::AArch64),
         "RISCV" => Some(ArchName::RISCV),
+        "ARM" => Some(ArchName::ARM),
         _ => None,
     }
 }

@@ -80,9 +80,9 @@ impl FenceKind {
             FenceKind::Sync | FenceKind::LwSync | FenceKind::Eieio | FenceKind::ISync => {
                 matches!(arch, ArchName::PPC)
             }
-            FenceKind::DmbSy | FenceKind::DmbLd | FenceKind::DmbSt => {
-                matches!(arch, ArchName::AArch64)
-            }
+            FenceKind::DmbSy | FenceKind::DmbLd => matches!(arch, ArchName::AArch64),
+            FenceKind::DmbSt => matches!(arch, ArchName::AArch64 | ArchName::ARM),
+            FenceKind::Dmb => matches!(arch, ArchName::ARM),
             FenceKind::Fence { .. } => matches!(arch, ArchName::RISCV),
         }
     }
@@ -95,7 +95,7 @@ impl DepKind {
         match self {
             DepKind::Addr | DepKind::Ctrl => !matches!(arch, ArchName::X86),
             DepKind::CtrlIsync => matches!(arch, ArchName::PPC),
-            DepKind::CtrlIsb => matches!(arch, ArchName::AArch64),
+            DepKind::CtrlIsb => matches!(arch, ArchName::AArch64 | ArchName::ARM),
         }
     }
 }

@@ -30,6 +30,8 @@ pub enum ArchName {
     PPC,
     AArch64,
     RISCV,
+    /// ARM version 7.
+    ARM,
 }
 
 /// The communications between accesses to one location: reads-from, from-read, and write
@@ -51,7 +53,7 @@ pub enum Pick {
     RW,
 }
 
-/// The fences of the four architectures.
+/// The fences of the architectures. `DmbSt` is of AArch64 and of ARM, each other of one.
 #[derive(Clone, Copy, Debug, Default, PartialEq, Eq)]
 pub enum FenceKind {
     #[default]
@@ -63,6 +65,7 @@ pub enum FenceKind {
     DmbSy,
     DmbLd,
     DmbSt,
+    Dmb,
     Fence { pred: Pick, succ: Pick },
 }
 

@@ -14,7 +14,7 @@ use crate::marked::{Dmb, MarkableDep, MarkableKind, MarkedEdge, MarkedEnds};
 use std::cmp::Ordering;
 
 /// The number of edges.
-pub const EDGES: u16 = 324;
+pub const EDGES: u16 = 332;
 
 impl Dir {
     fn rank(self) -> u16
@@ -102,9 +102,9 @@ impl Com {
         ensures { result ≡ com_rank self }
     {
         match self {
-            Com::Fr => 236,
-            Com::Rf => 300,
-            Com::Ws => 316,
+            Com::Fr => 244,
+            Com::Rf => 308,
+            Com::Ws => 324,
         }
     }
 }
@@ -119,12 +119,13 @@ impl FenceKind {
             FenceKind::DmbLd => 4 * choice,
             FenceKind::DmbSt => 32 + 4 * choice,
             FenceKind::DmbSy => 64 + 4 * choice,
-            FenceKind::Eieio => 156 + choice,
-            FenceKind::Fence { pred, succ } => 164 + 8 * (3 * pred.rank() + succ.rank()) + choice,
-            FenceKind::ISync => 244 + choice,
-            FenceKind::LwSync => 252 + choice,
-            FenceKind::MFence => 260 + choice,
-            FenceKind::Sync => 308 + choice,
+            FenceKind::Dmb => 96 + choice,
+            FenceKind::Eieio => 164 + choice,
+            FenceKind::Fence { pred, succ } => 172 + 8 * (3 * pred.rank() + succ.rank()) + choice,
+            FenceKind::ISync => 252 + choice,
+            FenceKind::LwSync => 260 + choice,
+            FenceKind::MFence => 268 + choice,
+            FenceKind::Sync => 316 + choice,
         }
     }
 }
@@ -137,10 +138,10 @@ impl DepKind {
         ensures { result ≡ dependency_rank self + dependency_words self * choice }
     {
         match self {
-            DepKind::Addr => 96 + 4 * choice,
-            DepKind::CtrlIsb => 112 + 4 * choice,
-            DepKind::CtrlIsync => 128 + choice,
-            DepKind::Ctrl => 132 + 4 * choice,
+            DepKind::Addr => 104 + 4 * choice,
+            DepKind::CtrlIsb => 120 + 4 * choice,
+            DepKind::CtrlIsync => 136 + choice,
+            DepKind::Ctrl => 140 + 4 * choice,
         }
     }
 }
@@ -156,11 +157,11 @@ fn choice_rank(sd: Sd, from: Dir, to: Dir) -> u16
 impl MarkableKind {
     fn rank(self) -> u16
         ensures value { result ≡ kind_rank (markable_kind self) }
-        ensures below { result ≤ 320 }
+        ensures below { result ≤ 328 }
     {
         match self {
             MarkableKind::Com { com, reach } => com.rank() + 4 * reach.rank(),
-            MarkableKind::Po { sd, from, to } => 268 + 4 * choice_rank(sd, from, to),
+            MarkableKind::Po { sd, from, to } => 276 + 4 * choice_rank(sd, from, to),
             MarkableKind::Fenced {
                 fence,
                 sd,
@@ -168,7 +169,7 @@ impl MarkableKind {
                 to,
             } => fence.rank() + 4 * choice_rank(sd, from, to),
             MarkableKind::Dep { dep, sd, to } => dep.rank() + 4 * (2 * sd.rank() + to.rank()),
-            MarkableKind::Data { sd } => 148 + 4 * sd.rank(),
+            MarkableKind::Data { sd } => 156 + 4 * sd.rank(),
         }
     }
 }
@@ -192,9 +193,9 @@ impl MarkableDep {
         ensures words { dependency_words (markable_dependency self) ≡ 4 }
     {
         match self {
-            MarkableDep::Addr => 96,
-            MarkableDep::CtrlIsb => 112,
-            MarkableDep::Ctrl => 132,
+            MarkableDep::Addr => 104,
+            MarkableDep::CtrlIsb => 120,
+            MarkableDep::Ctrl => 140,
         }
     }
 }
@@ -262,7 +263,7 @@ impl Com {
 
 fn program_order_at(k: u16) -> Edge
     requires { k < 32 }
-    ensures { rank_of result ≡ 268 + k }
+    ensures { rank_of result ≡ 276 + k }
 {
     let (sd, from, to) = choices_at(k / 4);
     edge_at(MarkableKind::Po { sd, from, to }, k % 4)
@@ -300,7 +301,7 @@ impl MarkableDep {
 
 fn data_at(k: u16) -> Edge
     requires { k < 8 }
-    ensures { rank_of result ≡ 148 + k }
+    ensures { rank_of result ≡ 156 + k }
 {
     let kind = MarkableKind::Data {
         sd: Sd::at_rank(k / 4),
@@ -328,7 +329,7 @@ impl FenceKind {
 #[tactic(auto, unfolding(crate::specs::Order::rank_of))]
 fn power_dependency_at(k: u16) -> Edge
     requires { k < 4 }
-    ensures { rank_of result ≡ 128 + k }
+    ensures { rank_of result ≡ 136 + k }
 {
     Edge::Dep {
         dep: DepKind::CtrlIsync,
@@ -339,7 +340,7 @@ fn power_dependency_at(k: u16) -> Edge
 
 fn riscv_fence_at(k: u16) -> Edge
     requires { k < 72 }
-    ensures { rank_of result ≡ 164 + k }
+    ensures { rank_of result ≡ 172 + k }
 {
     let fence = FenceKind::Fence {
         pred: Pick::at_rank(k / 24),
@@ -357,7 +358,7 @@ impl Edge {
     {
         match self {
             Edge::Com { com, reach } => com.rank() + 4 * reach.rank(),
-            Edge::Po { sd, from, to } => 268 + 4 * choice_rank(sd, from, to),
+            Edge::Po { sd, from, to } => 276 + 4 * choice_rank(sd, from, to),
             Edge::Fenced {
                 fence,
                 sd,
@@ -365,7 +366,7 @@ impl Edge {
                 to,
             } => fence.rank(choice_rank(sd, from, to)),
             Edge::Dep { dep, sd, to } => dep.rank(2 * sd.rank() + to.rank()),
-            Edge::Data { sd } => 148 + 4 * sd.rank(),
+            Edge::Data { sd } => 156 + 4 * sd.rank(),
             Edge::Marked(marked) => marked.rank(),
         }
     }
@@ -380,21 +381,22 @@ impl Edge {
             0..=31 => Dmb::Ld.edge_at(k),
             32..=63 => Dmb::St.edge_at(k - 32),
             64..=95 => Dmb::Sy.edge_at(k - 64),
-            96..=111 => MarkableDep::Addr.edge_at(k - 96),
-            112..=127 => MarkableDep::CtrlIsb.edge_at(k - 112),
-            128..=131 => power_dependency_at(k - 128),
-            132..=147 => MarkableDep::Ctrl.edge_at(k - 132),
-            148..=155 => data_at(k - 148),
-            156..=163 => FenceKind::Eieio.edge_at(k - 156),
-            164..=235 => riscv_fence_at(k - 164),
-            236..=243 => Com::Fr.edge_at(k - 236),
-            244..=251 => FenceKind::ISync.edge_at(k - 244),
-            252..=259 => FenceKind::LwSync.edge_at(k - 252),
-            260..=267 => FenceKind::MFence.edge_at(k - 260),
-            268..=299 => program_order_at(k - 268),
-            300..=307 => Com::Rf.edge_at(k - 300),
-            308..=315 => FenceKind::Sync.edge_at(k - 308),
-            _ => Com::Ws.edge_at(k - 316),
+            96..=103 => FenceKind::Dmb.edge_at(k - 96),
+            104..=119 => MarkableDep::Addr.edge_at(k - 104),
+            120..=135 => MarkableDep::CtrlIsb.edge_at(k - 120),
+            136..=139 => power_dependency_at(k - 136),
+            140..=155 => MarkableDep::Ctrl.edge_at(k - 140),
+            156..=163 => data_at(k - 156),
+            164..=171 => FenceKind::Eieio.edge_at(k - 164),
+            172..=243 => riscv_fence_at(k - 172),
+            244..=251 => Com::Fr.edge_at(k - 244),
+            252..=259 => FenceKind::ISync.edge_at(k - 252),
+            260..=267 => FenceKind::LwSync.edge_at(k - 260),
+            268..=275 => FenceKind::MFence.edge_at(k - 268),
+            276..=307 => program_order_at(k - 276),
+            308..=315 => Com::Rf.edge_at(k - 308),
+            316..=323 => FenceKind::Sync.edge_at(k - 316),
+            _ => Com::Ws.edge_at(k - 324),
         }
     }
 }

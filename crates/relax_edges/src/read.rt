@@ -123,6 +123,16 @@ fn riscv_fence(text: &[u8]) -> Option<FenceKind>
     Some(FenceKind::Fence { pred, succ })
 }
 
+#[tactic(auto, using(crate::proofs::FenceWords::fence_of_three))]
+fn fence_of_three(first: u8, second: u8, third: u8) -> Option<FenceKind>
+    ensures { result ≡ fence_named (first ∷ second ∷ third ∷ []) }
+{
+    match (first, second, third) {
+        (b'D', b'M', b'B') => Some(FenceKind::Dmb),
+        _ => None,
+    }
+}
+
 #[tactic(auto, using(crate::proofs::FenceWords::fence_of_four))]
 fn fence_of_four(first: u8, second: u8, third: u8, fourth: u8) -> Option<FenceKind>
     ensures { result ≡ fence_named (first ∷ second ∷ third ∷ fourth ∷ []) }
@@ -172,6 +182,7 @@ impl FenceKind {
         ensures { result ≡ fence_named text.now }
     {
         match text {
+            [first, second, third] => fence_of_three(*first, *second, *third),
             [first, second, third, fourth] => fence_of_four(*first, *second, *third, *fourth),
             [first, second, third, fourth, fifth] => {
                 fence_of_five(*first, *second, *third, *fourth, *fifth)

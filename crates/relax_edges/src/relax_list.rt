@@ -1,5 +1,5 @@
 ghost use Rattle.std.specs.Prelude.{◌≡◌, ◌≤◌, [], length, Ok, Err, OnErr, MatchResult};
-ghost use Rattle.relax_edges.specs.RelaxText.{items_from};
+ghost use Rattle.relax_edges.specs.RelaxText.{items_of};
 ghost use Rattle.relax_edges.specs.RelaxSearch.{KeepsRelaxations};
 ghost use Rattle.relax_edges.specs.Relaxations.{kept_items, relaxes_of};
 
@@ -10,7 +10,7 @@ use crate::relax_items::keep_item;
 /// Keeps the relaxations of each item of a text.
 fn keep_items(text: &[u8], kept: &mut Relaxes) -> Result<(), RelaxError>
     requires { length kept.old ≤ 64 }
-    ensures { KeepsRelaxations (kept_items kept.old (items_from 0 0 text.now)) kept.new result }
+    ensures { KeepsRelaxations (kept_items kept.old (items_of text.now)) kept.new result }
 {
     let mut at = 0;
     while at < text.len() {

@@ -7,7 +7,7 @@ use crate::edge::Edge;
 use arrayvec::ArrayString;
 
 /// The words of all edges, in byte order, so that the place of each is the rank of its edge.
-const WORDS: [&str; 324] = [
+const WORDS: [&str; 332] = [
     "DMB.LDdRR",
     "DMB.LDdRRAA",
     "DMB.LDdRRAP",
@@ -104,6 +104,14 @@ const WORDS: [&str; 324] = [
     "DMB.SYsWWLL",
     "DMB.SYsWWLP",
     "DMB.SYsWWPL",
+    "DMBdRR",
+    "DMBdRW",
+    "DMBdWR",
+    "DMBdWW",
+    "DMBsRR",
+    "DMBsRW",
+    "DMBsWR",
+    "DMBsWW",
     "DpAddrdR",
     "DpAddrdRAA",
     "DpAddrdRAP",

@@ -5,6 +5,7 @@ use crate::call::add_wanted_status;
 use crate::errors::TableError;
 use crate::part::{Part, add_part};
 use arch_aarch64::A64;
+use arch_arm::Arm;
 use arch_power::Power;
 use arch_riscv::Riscv;
 use arch_trait::Arch;
@@ -45,6 +46,7 @@ fn arch_named(word: &str, text: &[u8]) -> Result<Result<ArchName, TextError>, Ta
         "PPC" => Ok(Ok(ArchName::PPC)),
         "AArch64" => Ok(Ok(ArchName::AArch64)),
         "RISCV" => Ok(Ok(ArchName::RISCV)),
+        "ARM" => Ok(Ok(ArchName::ARM)),
         _ => Err(TableError::BadRow),
     }
 }
@@ -62,6 +64,7 @@ fn read_as(
         ArchName::PPC => add_reading::<Power>(alloc, row, text, parts),
         ArchName::AArch64 => add_reading::<A64>(alloc, row, text, parts),
         ArchName::RISCV => add_reading::<Riscv>(alloc, row, text, parts),
+        ArchName::ARM => add_reading::<Arm>(alloc, row, text, parts),
     }
 }
 

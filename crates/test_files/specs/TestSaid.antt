@@ -24,6 +24,7 @@ is_arch archs.X86 archs.X86 = true
 is_arch archs.PPC archs.PPC = true
 is_arch archs.AArch64 archs.AArch64 = true
 is_arch archs.RISCV archs.RISCV = true
+is_arch archs.ARM archs.ARM = true
 is_arch _ _ = false
 
 -- the test that was read, or the fault of a text that is none

@@ -27,6 +27,8 @@ fn arch_named(word: &[u8]) -> Option<ArchName>
         Some(ArchName::AArch64)
     } else if word == b"RISCV".as_slice() {
         Some(ArchName::RISCV)
+    } else if word == b"ARM".as_slice() {
+        Some(ArchName::ARM)
     } else {
         None
     }

@@ -22,3 +22,8 @@ pub returns-in-RISCV : goal.returns-in-RISCV
 returns-in-RISCV g c =
     ends_on g.O.Sink.seen c.args.arch archs.RISCV c.args.listing c.list_tests-in-RISCV.result (g.H.Shelf.seen c.args.shelf.now) (g.H.Shelf.seen c.list_tests-in-RISCV.new.shelf)
     c.args.out.now c.list_tests-in-RISCV.new.out c.in-RISCV.is c.list_tests-in-RISCV.ensures
+
+pub returns-in-ARM : goal.returns-in-ARM
+returns-in-ARM g c =
+    ends_on g.O.Sink.seen c.args.arch archs.ARM c.args.listing c.list_tests-in-ARM.result (g.H.Shelf.seen c.args.shelf.now) (g.H.Shelf.seen c.list_tests-in-ARM.new.shelf)
+    c.args.out.now c.list_tests-in-ARM.new.out c.in-ARM.is c.list_tests-in-ARM.ensures

@@ -23,3 +23,8 @@ pub returns-in-RISCV-clause-answers : goal.returns-in-RISCV-clause-answers
 returns-in-RISCV-clause-answers g c =
     answered_on c.args.request.now.arch archs.RISCV c.args.request.now.mode c.args.request.now.edges
     (name_kept c.args.request.now.name) c.diyone_on-in-RISCV.result (g.O.Sink.seen c.args.out.now) (g.O.Sink.seen c.diyone_on-in-RISCV.new.out) c.in-RISCV.is c.diyone_on-in-RISCV.ensures.answers
+
+pub returns-in-ARM-clause-answers : goal.returns-in-ARM-clause-answers
+returns-in-ARM-clause-answers g c =
+    answered_on c.args.request.now.arch archs.ARM c.args.request.now.mode c.args.request.now.edges
+    (name_kept c.args.request.now.name) c.diyone_on-in-ARM.result (g.O.Sink.seen c.args.out.now) (g.O.Sink.seen c.diyone_on-in-ARM.new.out) c.in-ARM.is c.diyone_on-in-ARM.ensures.answers

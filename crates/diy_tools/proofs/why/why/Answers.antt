@@ -22,3 +22,8 @@ pub returns-in-RISCV-clause-answers : goal.returns-in-RISCV-clause-answers
 returns-in-RISCV-clause-answers g c =
     runs_on c.args.request.now.arch archs.RISCV c.args.request.now c.why_on-in-RISCV.result (g.H.Shelf.seen c.args.shelf.now) (g.H.Shelf.seen c.why_on-in-RISCV.new.shelf)
     (g.O.Sink.seen c.args.out.now) (g.O.Sink.seen c.why_on-in-RISCV.new.out) c.in-RISCV.is c.why_on-in-RISCV.ensures.answers
+
+pub returns-in-ARM-clause-answers : goal.returns-in-ARM-clause-answers
+returns-in-ARM-clause-answers g c =
+    runs_on c.args.request.now.arch archs.ARM c.args.request.now c.why_on-in-ARM.result (g.H.Shelf.seen c.args.shelf.now) (g.H.Shelf.seen c.why_on-in-ARM.new.shelf)
+    (g.O.Sink.seen c.args.out.now) (g.O.Sink.seen c.why_on-in-ARM.new.out) c.in-ARM.is c.why_on-in-ARM.ensures.answers

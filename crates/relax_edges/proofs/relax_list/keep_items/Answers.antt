@@ -1,7 +1,11 @@
 -- The items of a text are kept one after another, up to the first that is refused.
 use Rattle.std.proofs.Common.{◌∙◌, sym, rules}
 use Rattle.relax_edges.proofs.Items.{items_step, items_end, items_refused}
+use Rattle.relax_edges.proofs.ItemScan.{items_scanned}
 use Rattle.relax_edges.proofs.relax_list.keep_items.Goals as goal
+
+pub loop-at-init : goal.loop-at-init
+loop-at-init c = record { same = items_scanned c.args.kept.now c.args.text.now; within = search rules; few = c.requires }
 
 pub loop-at-preserved : goal.loop-at-preserved
 loop-at-preserved c = record {

@@ -1,12 +1,13 @@
 -- What is left of the text adds to the list kept so far what the whole text adds to the list at the start.
 use Rattle.std.proofs.Common.{◌≡◌, ◌≤◌, ◌-◌, length, drop}
-use Rattle.relax_edges.specs.RelaxText.{items_from}
+use Rattle.relax_edges.specs.RelaxText.{items_of}
+use Rattle.relax_edges.proofs.ItemScan.{items_from}
 use Rattle.relax_edges.specs.Relaxations.{kept_items}
 use Rattle.relax_edges.proofs.relax_list.keep_items.Given as goal
 
 abbrev pub invariant-loop-at : goal.invariant-loop-at
 invariant-loop-at l = record {
-  same : kept_items l.kept (items_from l.at 0 (drop l.at l.text)) ≡ kept_items l.fn.kept (items_from 0 0 l.text);
+  same : kept_items l.kept (items_from l.at 0 (drop l.at l.text)) ≡ kept_items l.fn.kept (items_of l.text);
   within : l.at ≤ length l.text;
   few : length l.kept ≤ 64;
 }

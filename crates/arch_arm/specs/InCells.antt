@@ -1,0 +1,17 @@
+-- ARM's instructions fit in the cells of a table, and each of its loads and stores is one of them.
+use Rattle.arch_trait.specs.Cells.{WritesCells, MakesOneAccess}
+use Rattle.arch_trait.specs.Forms.{register_names}
+use Rattle.form_laws.proofs.InCells as tables
+use Rattle.arch_laws.proofs.AddressedOnce.{accesses_once}
+use Rattle.arch_arm.specs.Puts.{puts, instructions}
+use Rattle.arch_arm.specs.Table.{table, numbered, writing}
+use Rattle.arch_arm.specs.Clear.{is_clear_table}
+use Rattle.arch_arm.specs.Laws.{own_code}
+
+-- the instructions of ARM fit in the cells of a table
+pub writes_cells : WritesCells puts writing
+writes_cells = tables.writes_cells puts table (register_names numbered) is_clear_table (λ op h. h)
+
+-- the code of each access of ARM makes one access
+pub makes_one_access : MakesOneAccess puts
+makes_one_access = accesses_once instructions own_code

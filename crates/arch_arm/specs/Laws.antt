@@ -1,0 +1,39 @@
+-- ARM obeys the laws of architectures.
+use Rattle.std.proofs.Common.{refl, arith}
+use Rattle.std.proofs.lemmas.Bool.Decides.{nat_tests}
+use Rattle.std.proofs.lemmas.Bool.{and_from}
+use Rattle.relax_edges.specs.declared.kinds.ArchName.TheVariants as archs
+use Rattle.arch_trait.specs.Laws.{IsArch}
+use Rattle.arch_laws.proofs.AddressedInstructions.{KeepsInstructions}
+use Rattle.arch_laws.proofs.Addressed.{keeps_laws}
+use Rattle.arch_laws.proofs.OwnCode.{compares, indexed, sums}
+use Rattle.form_laws.specs.Tables.{operands_fit}
+use Rattle.form_laws.proofs.Barriers.{fences_had}
+use Rattle.arch_arm.specs.Table.{forms, table}
+use Rattle.arch_arm.specs.Puts.{puts, instructions}
+
+-- ARM's own instructions are of the sorts that the laws ask for
+pub own_code : KeepsInstructions instructions
+unfolding forms operands_fit
+own_code = record {
+  few = omega arith;
+  branch = compares;
+  accesses = indexed;
+  joining = sums;
+  branch_has = λ s n rest h k. and_from _ _ (grind (arith, nat_tests)) k;
+  fence_has = fences_had archs.ARM table refl;
+  isync_has = λ e. cc;
+  isb_has = λ e. refl;
+  load_has = λ d v a h k l. grind (arith, nat_tests);
+  store_has = λ d v a h k l. grind (arith, nat_tests);
+  joins_has = λ d n h small. grind (arith, nat_tests);
+  xor_has = λ d s h k. grind (arith, nat_tests);
+  imm_has = λ d n h small. grind (arith, nat_tests);
+  plain_load_has = λ v a h k. grind (arith, nat_tests);
+  plain_store_has = λ v a h k. grind (arith, nat_tests);
+  marked_has = λ e. cc;
+}
+
+-- ARM obeys the laws of architectures
+pub laws : IsArch puts
+laws = keeps_laws instructions own_code

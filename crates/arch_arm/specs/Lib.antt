@@ -1,0 +1,6 @@
+pub mod Table
+pub mod Clear
+pub mod Puts
+pub mod Laws
+pub mod ReadsBack
+pub mod InCells

@@ -1,0 +1,18 @@
+-- ARM's instructions read back from their text.
+use Rattle.std.proofs.Common.{refl, arith}
+use Rattle.arch_trait.specs.Forms.{register_names}
+use Rattle.arch_trait.specs.InstructionReading.{ReadsOwn}
+use Rattle.arch_trait.specs.Writing.{WritesBack}
+use Rattle.form_laws.proofs.Ranges as ranges
+use Rattle.form_laws.proofs.ReadsBack.{numbered_back}
+use Rattle.arch_arm.specs.Puts.{puts}
+use Rattle.arch_arm.specs.Table.{table, numbered, writing}
+use Rattle.arch_arm.specs.Clear.{is_clear_table, few_registers}
+
+-- the instructions of ARM read back from their text
+pub reads_back : WritesBack puts writing
+reads_back = numbered_back puts table numbered is_clear_table (λ op h. h) (record { letter = refl; small = omega arith }) refl
+
+-- what is read is one of its instructions
+pub reads_own : ReadsOwn puts writing
+reads_own = ranges.reads_own puts table (register_names numbered) few_registers (λ op. refl)

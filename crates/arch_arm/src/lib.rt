@@ -1,0 +1,88 @@
+//! ARM version 7: accesses by address registers, dependencies by `EOR`, branches by `CMP` and `BEQ`.
+#![tactic(auto)]
+
+ghost use Rattle.std.specs.Prelude.{refl};
+ghost use Rattle.relax_edges.specs.declared.kinds.ArchName.TheVariants as archs;
+ghost use Rattle.arch_arm.specs.Puts.{puts as arm};
+ghost use Rattle.arch_arm.specs.Laws.{laws as arm_laws};
+ghost use Rattle.arch_arm.specs.ReadsBack.{reads_back as arm_reads_back, reads_own as arm_reads_own};
+ghost use Rattle.arch_arm.specs.InCells.{writes_cells as arm_writes_cells, makes_one_access as arm_makes_one_access};
+ghost use Rattle.arch_arm.specs.Table.{writing as arm_writing};
+
+mod own;
+mod table;
+
+use crate::table::{NAMES, fixed_texts, table};
+use addressed_code::{put_link, put_load, put_store, registers_needed};
+use arch_trait::{Arch, AskedAccess, Instrs, Link, MAX_TEXT, Operands, Places, Raw, Regs, Shape};
+use arrayvec::ArrayString;
+use final_cond::RegName;
+use instruction_forms::{has_by, print_with, read_by};
+use micro_ops::Micro;
+use relax_edges::ArchName;
+
+/// The architecture ARM, version 7.
+pub struct Arm;
+
+impl Arch for Arm {
+    ghost puts = { arm };
+
+    ghost writing = { arm_writing };
+
+    ghost NAME = { archs.ARM };
+
+    ghost REGISTERS = { 13 };
+
+    const NAME: ArchName = ArchName::ARM;
+
+    const REGISTERS: u8 = 13;
+
+    fn has(op: &Micro) -> bool {
+        has_by(table(), op)
+    }
+
+    fn need(shape: &Shape) -> u32 {
+        registers_needed(shape)
+    }
+
+    fn put_link(link: Link, from: Option<u8>, label: u8, out: &mut Instrs) {
+        put_link::<Arm>(link, from, label, out);
+    }
+
+    fn put_load(regs: &mut Regs, access: AskedAccess, out: &mut Instrs) -> u8 {
+        put_load::<Arm>(regs, access, out)
+    }
+
+    fn put_store(regs: &mut Regs, access: AskedAccess, value: u8, out: &mut Instrs) {
+        put_store::<Arm>(regs, access, value, out);
+    }
+
+    #[tactic(auto, using(crate::specs::Clear::is_clear_table))]
+    fn print(op: &Micro, places: &Places, out: &mut ArrayString<MAX_TEXT>) {
+        print_with(table(), fixed_texts(), op, places, out);
+    }
+
+    fn read_raw<'a>(word: &'a [u8], operands: Operands<'a>) -> Option<Raw<'a>> {
+        read_by(table(), word, operands)
+    }
+
+    #[tactic(auto, using(arch_laws::proofs::FormBacks::name_at))]
+    fn register_name(r: u8, out: &mut RegName) {
+        out.clear();
+        NAMES.push(r, out);
+    }
+
+    ghost same_name = { refl };
+
+    ghost same_registers = { refl };
+
+    ghost laws = { arm_laws };
+
+    ghost reads_back = { arm_reads_back };
+
+    ghost writes_cells = { arm_writes_cells };
+
+    ghost makes_one_access = { arm_makes_one_access };
+
+    ghost reads_own = { arm_reads_own };
+}
