@@ -5,6 +5,7 @@ use crate::edges::cycle_of_edges;
 use crate::status::{Refusal, Status};
 use crate::testing::print_named;
 use arch_aarch64::A64;
+use arch_arm::Arm;
 use arch_power::Power;
 use arch_riscv::Riscv;
 use arch_trait::{Arch, Places, ThreadCodes};
@@ -25,6 +26,7 @@ pub(crate) fn coherence<O: Sink>(request: &Coherence, out: &mut O) -> Status {
         ArchName::PPC => coherence_on::<Power, O>(request, out),
         ArchName::AArch64 => coherence_on::<A64, O>(request, out),
         ArchName::RISCV => coherence_on::<Riscv, O>(request, out),
+        ArchName::ARM => coherence_on::<Arm, O>(request, out),
     }
 }
 

@@ -13,4 +13,3 @@ pub use acceptance::accepted;
 pub use law::resolved_edges;
 pub use maker::{first_foreign, first_unsupported, make, make_into, make_unobserved};
 pub use refusal::MakeRefusal;
-pub use threads::put_thread;

@@ -43,9 +43,8 @@ pub fn put_threads<A: Arch>(
     Ok(())
 }
 
-/// Makes the code of the next thread and appends what its loads read to the condition, or refuses the
-/// thread for its registers.
-pub fn put_thread<A: Arch>(
+/// Makes the code of the next thread.
+fn put_thread<A: Arch>(
     thread: u8,
     steps: &[Step],
     threads: &mut ThreadCodes,
