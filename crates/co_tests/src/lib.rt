@@ -1,11 +1,11 @@
 //! Coherence tests: the tests of edges at one location, which no coherent execution meets.
 #![tactic(auto)]
 
-mod cut;
+mod condition;
 mod maker;
-mod refusal;
+mod shape;
+mod steps;
 mod threads;
-mod values;
 
+pub use co_tests_laws::CoRefusal;
 pub use maker::{co_test, co_test_into};
-pub use refusal::CoRefusal;

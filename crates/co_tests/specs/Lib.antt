@@ -1,0 +1,5 @@
+pub mod Made
+pub mod Shape
+pub mod Arc
+pub mod Terms
+pub mod Threads
