@@ -1,3 +1,4 @@
+pub mod Cycles
 pub mod ChoiceLaws
 pub mod FilledLaws
 pub mod FamilyCycleLaws

@@ -24,7 +24,7 @@ use Rattle.litmus_text.specs.declared.limits.TheConstants.{MAX_TEXT}
 use Rattle.diy_io.specs.Sink.{Tally, line_feed_count}
 use Rattle.test_maker.specs.CycleText.{cycle_text}
 use Rattle.test_maker.specs.Refusals.{refusal_of}
-use Rattle.printed_test_laws.proofs.Cycles.{cycle_text_short}
+use Rattle.demo_tests.proofs.Cycles.{cycle_text_short}
 use Rattle.demo_tests.specs.declared.tally.TestTally.{TestTally}
 use Rattle.demo_tests.specs.TestCounting.{nothing_counted, test_counted, text_tally, Fits}
 use Rattle.family_laws.specs.Filled.{MakesAll}

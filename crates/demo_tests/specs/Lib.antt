@@ -3,3 +3,4 @@ pub mod FilledLinks
 pub mod TestCounting
 pub mod Tallies
 pub mod DemoText
+pub mod CycleTexts

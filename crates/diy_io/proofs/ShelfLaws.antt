@@ -57,6 +57,7 @@ pub misses : (old new : MemShelfState) (name : List ℕ) → file_place name old
     → NotThere (mem_shelf_seen old) (mem_shelf_seen new) name
 misses old new name e idle held mode faults taken opened = record {
   absent = bytes_not_there name old.held.files e;
+  no_fault = faults;
   never_falls = omega arith;
   mode = mode ∙ idle;
   files = ap (λ h. Some (files_named h.files)) held;

@@ -85,9 +85,10 @@ pub record Opened (old new : ShelfSeen) (name : List ℕ) : Type 0 where
   pub taken : new.taken ≡ 0
   pub opened : new.opened ≡ next_count old.opened
 
--- a file isn't there; where the files aren't shown, that is a fault
+-- a file isn't there; that is a fault where the files aren't shown, and none where they are
 pub record NotThere (old new : ShelfSeen) (name : List ℕ) : Type 0 where
   pub absent : MatchOption old.files (Rose old.faults new.faults) (λ files. files name ≡ None)
+  pub no_fault : IfSome old.files (λ files. new.faults ≡ old.faults)
   pub never_falls : old.faults ≤ new.faults
   pub mode : new.mode ≡ Idle
   pub files : new.files ≡ old.files

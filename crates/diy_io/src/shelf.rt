@@ -24,8 +24,8 @@ pub trait Shelf {
 
     /// Opens a file, to be read from its first byte.
     ///
-    /// Where the shelf shows its files, it is `Missing` exactly where none has the name; else that,
-    /// too, counts as a fault.
+    /// Where the shelf shows its files, it is `Missing` exactly where none has the name, which is no
+    /// fault; else that, too, counts as a fault.
     fn open_file(&mut self, name: &str) -> Result<(), OpenError>
         requires { (seen self.old).mode ≡ Idle }
         ensures ok { OnOk result (Opened (seen self.old) (seen self.new) name.now) }

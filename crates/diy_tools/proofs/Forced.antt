@@ -43,7 +43,8 @@ use Rattle.diy_words.proofs.RequestForm.{asked_form}
 use Rattle.test_maker.specs.declared.refusal.MakeRefusal.{MakeRefusal}
 use Rattle.test_maker.specs.Refusals.{refusal_of}
 use Rattle.printed_test_laws.specs.PrintedHeadline.{BytesForce}
-use Rattle.printed_test_laws.proofs.Cycles.{accepted_has_test, cycle_named}
+use Rattle.test_maker.proofs.HavingTests.{accepted_has_test}
+use Rattle.demo_tests.proofs.Cycles.{cycle_named}
 use Rattle.printed_test_laws.proofs.Printed.{printed_force}
 use Rattle.diy_tools.specs.declared.status.Refusal.{Refusal}
 use Rattle.diy_tools.specs.declared.status.Refusal.TheVariants as refusals

@@ -6,6 +6,5 @@ pub mod Lengths
 pub mod SomeTerm
 pub mod Readable
 pub mod Printed
-pub mod Cycles
 pub mod FormedFits
 pub mod BackLaws

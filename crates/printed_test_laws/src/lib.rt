@@ -1,7 +1,6 @@
 //! The printed text of the test of a cycle, and what its bytes mean: they are read as a test that forces the cycle.
 #![tactic(auto)]
 
-ghost use Rattle.printed_test_laws.specs.CycleTexts.{CycleTextsShort};
 ghost use Rattle.printed_test_laws.specs.PrintedHeadline.{TestsReadable, PrintedForce};
 
 use arch_trait::Arch;
@@ -10,12 +9,6 @@ use arch_trait::Arch;
 /// the limits of the format, so that its printed text reads back.
 pub fn tests_readable<A: Arch>()
     ensures { TestsReadable A.puts A.NAME A.writing }
-{}
-
-/// On every architecture, the printed text of the test of each cycle that isn't refused is, under the
-/// name of the cycle, no longer than a text may be.
-pub fn cycle_texts_short<A: Arch>()
-    ensures { CycleTextsShort A.puts A.writing }
 {}
 
 /// On every architecture, the printed text of the test of each cycle that has one forces the cycle:

@@ -3,12 +3,14 @@ ghost use Rattle.arch_trait.specs.Threads.{FitSteps};
 ghost use Rattle.arch_trait.specs.Writing.{place_below, label_below};
 
 mod aarch64;
+mod arm;
 mod power;
 mod riscv;
 mod steps;
 mod x86;
 
 use arch_aarch64::A64;
+use arch_arm::Arm;
 use arch_power::Power;
 use arch_riscv::Riscv;
 use arch_trait::{
@@ -145,6 +147,8 @@ fn no_more_registers_than_there_are(rt: HostRuntime) {
     has_registers::<A64>(&rt, &[steps::WRITE_X; 28], false);
     has_registers::<Riscv>(&rt, &steps::FOURTEEN_READS, false);
     has_registers::<Riscv>(&rt, &[steps::WRITE_X; 26], true);
+    has_registers::<Arm>(&rt, &[steps::WRITE_X; 12], true);
+    has_registers::<Arm>(&rt, &[steps::WRITE_X; 13], false);
 }
 
 #[test]
@@ -153,6 +157,7 @@ fn texts_of_instructions_are_read(rt: HostRuntime) {
     reads::<Power>(&rt, &power::TEXTS);
     reads::<A64>(&rt, &aarch64::TEXTS);
     reads::<Riscv>(&rt, &riscv::TEXTS);
+    reads::<Arm>(&rt, &arm::TEXTS);
 }
 
 #[test]
@@ -166,6 +171,7 @@ fn registers_have_their_names(rt: HostRuntime) {
     names::<Power>(&rt, &[(27, "r28"), (0, "r1")], &["r0", "r29"]);
     names::<A64>(&rt, &[(27, "X27"), (0, "X0")], &["W0", "X28"]);
     names::<Riscv>(&rt, &[(26, "x31"), (0, "x5")], &["x4", "x0"]);
+    names::<Arm>(&rt, &[(12, "R12"), (0, "R0")], &["R13", "r0"]);
 }
 
 #[test]
@@ -180,4 +186,5 @@ fn architectures_have_their_edges(rt: HostRuntime) {
     supports::<A64>(&rt, release, steps::CTRL_ISYNC);
     supports::<Power>(&rt, steps::DATA, release);
     supports::<Riscv>(&rt, steps::DATA, steps::CTRL_ISYNC);
+    supports::<Arm>(&rt, steps::CTRL_ISB, release);
 }

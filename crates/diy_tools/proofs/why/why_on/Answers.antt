@@ -5,7 +5,7 @@ use Rattle.arrayvec.specs.ArrayString.{ArrayString}
 use Rattle.std.specs.Prelude.{Option}
 use Rattle.diy_words.specs.TestNames.{is_name}
 use Rattle.litmus_text.specs.Printable.{IsTestName}
-use Rattle.printed_test_laws.proofs.Cycles.{cycle_named}
+use Rattle.demo_tests.proofs.Cycles.{cycle_named}
 use Rattle.diy_tools.proofs.TestNames.{words_name}
 use Rattle.diy_tools.proofs.why.why_on.Goals as goal
 

@@ -6,7 +6,7 @@ use Rattle.litmus_text.specs.Tests.{test_seen}
 use Rattle.litmus_text.specs.TestText.{test_text}
 use Rattle.test_maker.specs.CycleText.{cycle_text}
 use Rattle.test_maker.specs.CycleTextLaws.{made_text}
-use Rattle.printed_test_laws.proofs.Cycles.{cycle_text_short}
+use Rattle.demo_tests.proofs.Cycles.{cycle_text_short}
 use Rattle.demo_tests.proofs.Texts.{tallied}
 use Rattle.demo_tests.proofs.measure.Desk.measure.Goals as goal
 

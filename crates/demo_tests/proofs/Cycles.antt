@@ -15,8 +15,7 @@ use Rattle.litmus_text.specs.declared.limits.TheConstants.{MAX_TEXT}
 use Rattle.litmus_text.specs.Printable.{IsTestName}
 use Rattle.test_maker.specs.CycleText.{cycle_text}
 use Rattle.test_maker.specs.Refusals.{refusal_of}
-use Rattle.test_laws.specs.TestHeadline.{HasTest}
-use Rattle.test_maker.proofs.HavingTests as having
+use Rattle.test_maker.proofs.HavingTests.{accepted_has_test}
 use Rattle.printed_test_laws.proofs.Readable.{readable}
 
 -- the name of a cycle is one of a test
@@ -24,10 +23,6 @@ pub cycle_named : (cycle : List Edge) → IsCycle cycle → IsTestName (name_of 
 cycle_named cycle whole =
     let name = names_of_cycles cycle whole in
     record { some = grind (arith, nat_tests, name.some); short = grind (arith, nat_tests, name.short); bytes = name.bytes }
-
--- a cycle that isn't refused has a test, once it is turned
-pub accepted_has_test : (a : Puts) (cycle : List Edge) (mode : ObsMode) → IsCycle cycle → refusal_of a cycle mode ≡ None → HasTest a (turned cycle) mode
-accepted_has_test a cycle mode whole accepted = having.accepted_has_test a cycle mode whole accepted
 
 -- the text of the test of a cycle that isn't refused is short
 pub cycle_text_short : (a : Puts) (w : Writing) (mode : ObsMode) (cycle : List Edge) → IsArch a → WritesBack a w → WritesCells a w → MakesOneAccess a → IsCycle cycle → refusal_of a cycle mode ≡ None

@@ -1,6 +1,6 @@
 -- That the text of the test of a cycle, under the cycle's name, is short.
-use Rattle.printed_test_laws.proofs.Cycles.{cycle_text_short}
-use Rattle.printed_test_laws.proofs.cycle_texts_short.Goals as goal
+use Rattle.demo_tests.proofs.Cycles.{cycle_text_short}
+use Rattle.demo_tests.proofs.laws.cycle_texts_short.Goals as goal
 
 pub returns : goal.returns
 returns g c = λ mode cycle whole accepted.
