@@ -1,0 +1,4 @@
+pub mod OnePlace
+pub mod Turning
+pub mod Opened
+pub mod Values

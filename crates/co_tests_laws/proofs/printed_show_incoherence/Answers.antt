@@ -1,0 +1,9 @@
+-- The law `printed_show_incoherence` holds.
+use Rattle.co_tests_laws.proofs.OnePlace as one_place
+use Rattle.co_tests_laws.proofs.Values as values
+use Rattle.co_tests_laws.proofs.Opened as opened
+use Rattle.co_tests_laws.proofs.Turning as turning
+use Rattle.co_tests_laws.proofs.printed_show_incoherence.Goals as goal
+
+pub returns : goal.returns
+returns g c = ?
