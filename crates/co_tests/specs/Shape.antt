@@ -5,17 +5,14 @@ use Rattle.relax_edges.specs.declared.edge.Edge.{Edge}
 use Rattle.relax_edges.specs.EdgeTable.{is_diff}
 use Rattle.cycle_laws.specs.Composable.{IsCycle}
 use Rattle.resolution_laws.specs.Resolution.{ends_outside, external_count}
-use Rattle.arch_trait.specs.Threads.{Puts}
-use Rattle.test_maker.specs.Made.{AreOfArch}
 use Rattle.co_tests_laws.specs.CutResolution.{is_ordering}
 use Rattle.co_tests_laws.specs.CoherenceTests.{writes_in}
 
--- a turned cycle has a coherence test on an architecture, unless a thread needs too many registers
-pub record HasShape (a : Puts) (es : List Edge) : Type 0 where
+-- a turned cycle is over one location and has a cut and at most two writes
+pub record HasShape (es : List Edge) : Type 0 where
   pub composes : IsCycle es
   pub outside : ends_outside es ≡ true
   pub threads : 2 ≤ external_count es
-  pub of_arch : AreOfArch a es
   pub one_location : list_any is_diff es ≡ false
   pub has_cut : list_any is_ordering es ≡ true
   pub few_writes : writes_in es ≤ 2

@@ -8,7 +8,7 @@ ghost use Rattle.co_tests.specs.Made.{MakesCoherenceTest, MakesSeen, MakesOfArch
 ghost use Rattle.co_tests.specs.Shape.{HasShape};
 
 use crate::condition::put_last_term;
-use crate::shape::{cut_of, external_count, leads_elsewhere, turn, write_count};
+use crate::shape::{cut_of, external_count, has_cut, leads_elsewhere, turn, write_count};
 use crate::threads::put_threads;
 use arch_trait::Arch;
 use arrayvec::ArrayVec;
@@ -54,7 +54,7 @@ fn make_of_arch<A: Arch>(cycle: &Cycle, test: &mut Test) -> Result<(), CoRefusal
     if external_count(edges) < 2 {
         return Err(CoRefusal::TooFewThreads);
     }
-    if leads_elsewhere(edges) || cut_of(edges).is_none() {
+    if leads_elsewhere(edges) || !has_cut(edges) {
         return Err(CoRefusal::NotCoherence);
     }
     if write_count(edges) > 2 {
@@ -66,7 +66,8 @@ fn make_of_arch<A: Arch>(cycle: &Cycle, test: &mut Test) -> Result<(), CoRefusal
 /// Makes `test` the coherence test of a cycle that is turned, or names the first thread that needs too
 /// many registers.
 fn make_turned<A: Arch>(edges: &[Edge], test: &mut Test) -> Result<(), CoRefusal>
-    requires { HasShape A.puts edges.now }
+    requires shape { HasShape edges.now }
+    requires of_arch { AreOfArch A.puts edges.now }
     ensures made { MakesTurned A.puts (name_in A.writing.registers) edges.now (test_seen test.new) result }
     ensures printable { OnOk result (CanPrint A.puts A.REGISTERS test.new) }
 {

@@ -13,27 +13,16 @@ pub fn external_count(edges: &[Edge]) -> u8
     requires { length edges.now ≤ MAX_EDGES }
     ensures { result ≡ external_count edges.now }
 {
-    let mut count = 0;
-    for edge in edges {
-        if edge.is_external() {
-            count += 1;
-        }
-    }
-    count
+    edges.iter().filter(|edge| edge.is_external()).count() as u8
 }
 
 /// How many edges leave a write.
 pub fn write_count(edges: &[Edge]) -> u8
     requires { length edges.now ≤ MAX_EDGES }
-    ensures { result ≡ writes_in edges.now }
+    ensures count { result ≡ writes_in edges.now }
+    ensures most { result ≤ length edges.now }
 {
-    let mut count = 0;
-    for edge in edges {
-        if edge.source() == Dir::W {
-            count += 1;
-        }
-    }
-    count
+    edges.iter().filter(|edge| edge.source() == Dir::W).count() as u8
 }
 
 /// Whether an edge leads to another location.
@@ -41,6 +30,13 @@ pub fn leads_elsewhere(edges: &[Edge]) -> bool
     ensures { result ≡ list_any is_diff edges.now }
 {
     edges.iter().any(|edge| edge.is_diff())
+}
+
+/// Whether an edge is inside a thread and no communication, so that the cycle has a cut.
+pub fn has_cut(edges: &[Edge]) -> bool
+    ensures { result ≡ list_any is_ordering edges.now }
+{
+    edges.iter().any(|edge| is_ordering(*edge))
 }
 
 /// The place of the cut: the first edge inside a thread that is no communication.

@@ -3,6 +3,7 @@ ghost use Rattle.arrayvec.specs.ArrayVec.{array_vec_len};
 ghost use Rattle.arch_trait.specs.Threads.{FitSteps};
 ghost use Rattle.arch_trait.specs.Writing.{name_in};
 ghost use Rattle.test_laws.specs.CycleSteps.{numbers_read};
+ghost use Rattle.test_maker.specs.Made.{AreOfArch};
 ghost use Rattle.co_tests_laws.specs.CutResolution.{cut_of};
 ghost use Rattle.co_tests.specs.Shape.{HasShape};
 ghost use Rattle.co_tests.specs.Threads.{PutsThread, PutsThreads};
@@ -23,7 +24,8 @@ pub fn put_threads<A: Arch>(
     threads: &mut ThreadCodes,
     cond: &mut Cond,
 ) -> Result<(), CoRefusal>
-    requires shape { HasShape A.puts edges.now }
+    requires shape { HasShape edges.now }
+    requires of_arch { AreOfArch A.puts edges.now }
     requires cut { cut_of edges.now ≡ Some cut }
     requires room { array_vec_len cond.old.terms ≤ 1 }
     ensures { PutsThreads A.puts (name_in A.writing.registers) edges.now threads.new cond.old cond.new result }

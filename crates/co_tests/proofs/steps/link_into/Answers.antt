@@ -4,7 +4,7 @@ use Rattle.resolution_laws.specs.Resolution.{slot_of}
 use Rattle.resolution_laws.proofs.Threads.{slot-zero, slot_in, slot_out}
 use Rattle.test_laws.proofs.StepsFit.{link_first}
 use Rattle.co_tests_laws.proofs.Opened.{opened_link}
-use Rattle.co_tests.proofs.Cut.{link_inside}
+use Rattle.co_tests.proofs.Cuts.{link_inside}
 use Rattle.co_tests.proofs.steps.link_into.Goals as goal
 use Rattle.co_tests.proofs.steps.link_into.Goals.{then-i-eq0-via-then-i-eq0, then-i-eq0-via-else-i-eq0+then-is_external}
 
