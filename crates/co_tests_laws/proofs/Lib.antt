@@ -2,3 +2,7 @@ pub mod OnePlace
 pub mod Turning
 pub mod Opened
 pub mod Values
+pub mod Events
+pub mod Fits
+pub mod Asked
+pub mod Stands
