@@ -15,7 +15,7 @@ abbrev spot : Execution → ℕ → Option WriteAt → ℕ
 spot x place o = order_place (order_at x place) o
 
 -- of two writes to a place, the one of lesser coherence place comes before the other
-writes_ordered : (threads : List (List Access)) (x : Execution) (place : ℕ) (w v : WriteAt) → Held threads x → IsWriteTo threads place w → IsWriteTo threads place v → spot x place (Some w) < spot x place (Some v) → CoherenceOrder x place w v
+pub writes_ordered : (threads : List (List Access)) (x : Execution) (place : ℕ) (w v : WriteAt) → Held threads x → IsWriteTo threads place w → IsWriteTo threads place v → spot x place (Some w) < spot x place (Some v) → CoherenceOrder x place w v
 writes_ordered threads x place w v held p q l =
     let j = held.each place w p in
     let k = held.each place v q in
@@ -28,7 +28,7 @@ writes_ordered threads x place w v held p q l =
     }
 
 -- no two writes to a place have the same coherence place
-writes_same : (threads : List (List Access)) (x : Execution) (place : ℕ) (w v : WriteAt) → Held threads x → IsWriteTo threads place w → IsWriteTo threads place v → spot x place (Some w) ≡ spot x place (Some v) → w ≡ v
+pub writes_same : (threads : List (List Access)) (x : Execution) (place : ℕ) (w v : WriteAt) → Held threads x → IsWriteTo threads place w → IsWriteTo threads place v → spot x place (Some w) ≡ spot x place (Some v) → w ≡ v
 writes_same threads x place w v held p q e =
     let j = held.each place w p in
     let k = held.each place v q in
@@ -37,7 +37,7 @@ writes_same threads x place w v held p q e =
     cc t
 
 -- what a read reads of lesser coherence place comes before a write
-read_before : (threads : List (List Access)) (x : Execution) (place value : ℕ) (o : Option WriteAt) (w : WriteAt) → Held threads x → CanRead threads (read place value) o → IsWriteTo threads place w → spot x place o < spot x place (Some w) → IsBefore threads x place o w
+pub read_before : (threads : List (List Access)) (x : Execution) (place value : ℕ) (o : Option WriteAt) (w : WriteAt) → Held threads x → CanRead threads (read place value) o → IsWriteTo threads place w → spot x place o < spot x place (Some w) → IsBefore threads x place o w
 read_before threads x place value None w held can q l = q
 read_before threads x place value (Some v) w held can q l = writes_ordered threads x place v w held (value, can) q l
 

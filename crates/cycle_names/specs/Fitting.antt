@@ -135,15 +135,15 @@ letters_place Plain Release = 8
 -- the place of a fence's word without letters among the words of links
 abbrev pub fence_place : FenceKind → ℕ
 fence_place fences.Dmb = 54
-fence_place fences.DmbLd = 63
-fence_place fences.DmbSt = 72
-fence_place fences.DmbSy = 81
-fence_place fences.Eieio = 90
-fence_place (fences.Fence pred succ) = 99 + 3 * pick_rank pred + pick_rank succ
-fence_place fences.ISync = 108
-fence_place fences.LwSync = 117
-fence_place fences.MFence = 126
-fence_place fences.Sync = 144
+fence_place fences.DmbLd = 55
+fence_place fences.DmbSt = 64
+fence_place fences.DmbSy = 73
+fence_place fences.Eieio = 82
+fence_place (fences.Fence pred succ) = 91 + 3 * pick_rank pred + pick_rank succ
+fence_place fences.ISync = 100
+fence_place fences.LwSync = 109
+fence_place fences.MFence = 118
+fence_place fences.Sync = 136
 
 -- the place of a dependency's word with the letters of this place; `ctrlpa` and `ctrlpl` come after `ctrlisync`
 abbrev pub dependency_place : DepKind → ℕ → ℕ

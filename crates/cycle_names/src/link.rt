@@ -12,7 +12,7 @@ use relax_edges::{DepKind, Edge, FenceKind, Kind, Mark, Pick, Sd};
 pub(crate) const DATA_PLACE: u8 = 45;
 
 /// The place of `po`, the word of a link that is plain program order, among the words of links.
-pub(crate) const PO_PLACE: u8 = 135;
+pub(crate) const PO_PLACE: u8 = 127;
 
 fn pick_rank(pick: Pick) -> u8
     ensures { result ≡ pick_rank pick }
@@ -30,15 +30,15 @@ pub(crate) fn fence_place(fence: FenceKind) -> u8
 {
     match fence {
         FenceKind::Dmb => 54,
-        FenceKind::DmbLd => 63,
-        FenceKind::DmbSt => 72,
-        FenceKind::DmbSy => 81,
-        FenceKind::Eieio => 90,
-        FenceKind::Fence { pred, succ } => 99 + 3 * pick_rank(pred) + pick_rank(succ),
-        FenceKind::ISync => 108,
-        FenceKind::LwSync => 117,
-        FenceKind::MFence => 126,
-        FenceKind::Sync => 144,
+        FenceKind::DmbLd => 55,
+        FenceKind::DmbSt => 64,
+        FenceKind::DmbSy => 73,
+        FenceKind::Eieio => 82,
+        FenceKind::Fence { pred, succ } => 91 + 3 * pick_rank(pred) + pick_rank(succ),
+        FenceKind::ISync => 100,
+        FenceKind::LwSync => 109,
+        FenceKind::MFence => 118,
+        FenceKind::Sync => 136,
     }
 }
 

@@ -3,7 +3,7 @@ ghost use Rattle.list_laws.specs.Numbers.{upto};
 ghost use Rattle.cycle_names.specs.Fitting.{place_text};
 
 /// The number of places that words of links have.
-const PLACES: usize = 153;
+const PLACES: usize = 145;
 
 /// The most bytes that a link adds to a name: a `+` and its word.
 pub(crate) const MAX_LINK: usize = 12;
@@ -66,14 +66,6 @@ const LINK_TEXTS: [&str; PLACES] = [
     "",
     "+datapl",
     "+dmb",
-    "",
-    "",
-    "",
-    "",
-    "",
-    "",
-    "",
-    "",
     "+dmb.ld",
     "+dmb.ldaa",
     "+dmb.ldal",

@@ -18,13 +18,14 @@ use Rattle.program_meaning.specs.Intended.{intended}
 use Rattle.program_meaning.specs.Programs.{Program, IsCandidate, IsCoherentIn}
 use Rattle.program_meaning.specs.Standing.{AllStand}
 use Rattle.test_laws.specs.FinalStates.{final_state, IsAskedFor}
-use Rattle.test_laws.specs.TestHeadline.{HasTest, Forces}
+use Rattle.test_laws.specs.TestHeadline.{HasTest, IsRenumbered, Forces}
 use Rattle.test_laws.specs.TestPrograms.{test_program}
 use Rattle.test_laws.specs.TestOf.{test_of}
 use Rattle.test_laws.proofs.Headline.{renumbered_force_law}
 use Rattle.test_laws.proofs.RegisterNames.{registers_found}
 use Rattle.printed_test_laws.specs.PrintedHeadline.{BytesForce}
 use Rattle.printed_test_laws.specs.Readings.{program_read, place_in_test, ReadingAsks}
+use Rattle.printed_test_laws.proofs.NoInterleaving.{WritesInside, NotInOrder, test_writes_within, not_in_order, interleaving_ends}
 use Rattle.printed_test_laws.proofs.Rereading.{by_table, reread_test, reread_renumbered, threads_numbered, number_of_location, intended_same}
 
 -- the bytes of a test that reads back force the cycle
@@ -34,7 +35,9 @@ bytes_force a arch w name es mode laws back t r = record {
   test = test;
   reads = r.read;
   asks = refl;
-  stand = λ x asked. subst (λ (p : Program). AllStand es p x) program_is (forced.stand x (asked_for x asked));
+  no_interleaving = λ values line h. interleaving_ends w test values line h refl none;
+  not_sequential = none;
+  stand = stands;
   only = λ x asked. forced.only x (asked_for x asked) ∙ same;
   exists = subst (ReadingAsks w test) same (asks (intended es mode number) forced.exists);
 }
@@ -45,9 +48,11 @@ bytes_force a arch w name es mode laws back t r = record {
     number : ℕ → ℕ
     number = by_table r.table (letters (move_count es))
 
+    renumbered : IsRenumbered (test_of a (name_in w.registers) es mode) (reread_test r.table (test_of a (name_in w.registers) es mode)) number
+    renumbered = reread_renumbered a (name_in w.registers) es mode r.table laws t.code (record { once = r.once; inside = r.among }) r.codes r.links
+
     forced : Forces (reread_test r.table (test_of a (name_in w.registers) es mode)) (number_in w.registers) es mode number
-    forced = renumbered_force_law a (name_in w.registers) (number_in w.registers) es mode (reread_test r.table (test_of a (name_in w.registers) es mode)) number laws (registers_found a w back) t
-        (reread_renumbered a (name_in w.registers) es mode r.table laws t.code (record { once = r.once; inside = r.among }) r.codes r.links)
+    forced = renumbered_force_law a (name_in w.registers) (number_in w.registers) es mode (reread_test r.table (test_of a (name_in w.registers) es mode)) number laws (registers_found a w back) t renumbered
 
     same : intended es mode number ≡ intended es mode (place_in_test test)
     same = intended_same es mode number (place_in_test test) (λ l h. number_of_location r.table (move_count es) l h)
@@ -68,3 +73,9 @@ bytes_force a arch w name es mode laws back t r = record {
       coherent = subst (λ (p : Program). IsCoherentIn p x) program_is asked.coherent;
       meets = subst (λ (p : Program). Meets (final_state p r.table (number_in w.registers) x) test.cond) program_is asked.meets;
     }
+
+    stands : (x : Execution) → ReadingAsks w test x → AllStand es (program_read test) x
+    stands x asked = subst (λ (p : Program). AllStand es p x) program_is (forced.stand x (asked_for x asked))
+
+    none : NotInOrder w test
+    none = not_in_order w test es t.code.resolved (λ x. subst (WritesInside x) program_is (test_writes_within a (name_in w.registers) es mode (reread_test r.table (test_of a (name_in w.registers) es mode)) number laws t renumbered x)) stands

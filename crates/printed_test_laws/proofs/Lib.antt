@@ -1,5 +1,6 @@
 pub mod Mentioning
 pub mod Rereading
+pub mod NoInterleaving
 pub mod Forcing
 pub mod Fits
 pub mod Lengths

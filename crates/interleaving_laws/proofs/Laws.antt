@@ -1,0 +1,26 @@
+-- The laws of this crate.
+use Rattle.std.proofs.Common.{◌<◌, List, length, arith}
+use Rattle.std.proofs.lemmas.List.Sums.{count_by-le-length}
+use Rattle.relax_edges.specs.declared.edge.Edge.{Edge}
+use Rattle.relax_edges.specs.EdgeTable.{is_external}
+use Rattle.resolution_laws.specs.Resolution.{IsResolved}
+use Rattle.program_meaning.specs.Programs.{accesses_in}
+use Rattle.coherence_laws.proofs.Places.{held}
+use Rattle.coherence_laws.proofs.Laws.{candidates_are_sc_per_location}
+use Rattle.coherence_laws.proofs.Sequential.{sequential_per_location}
+use Rattle.interleaving_laws.specs.Laws.{SequentialIsCoherent, StandingIsNotSequential}
+use Rattle.interleaving_laws.proofs.Around.{all_stand_cycle}
+
+-- a sequentially consistent candidate is coherent per location
+pub sequential_is_coherent : SequentialIsCoherent
+sequential_is_coherent p x candidate within sequential =
+    (candidates_are_sc_per_location p x candidate within).1 (sequential_per_location (accesses_in p x) x sequential)
+
+-- a resolved cycle has an edge
+some_edge : (es : List Edge) → IsResolved es → 0 < length es
+some_edge es r = omega (arith, r.threads, count_by-le-length is_external es)
+
+-- a candidate in which all edges of a cycle stand isn't sequentially consistent
+pub standing_is_not_sequential : StandingIsNotSequential
+standing_is_not_sequential es p x resolved candidate within all sequential =
+    all_stand_cycle es p x (some_edge es resolved) (held (accesses_in p x) p.places x candidate.execution within) all sequential
