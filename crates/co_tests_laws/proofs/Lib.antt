@@ -6,3 +6,4 @@ pub mod Events
 pub mod Fits
 pub mod Asked
 pub mod Stands
+pub mod Showing
