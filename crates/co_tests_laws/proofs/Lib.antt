@@ -7,3 +7,4 @@ pub mod Fits
 pub mod Asked
 pub mod Stands
 pub mod Showing
+pub mod Readable

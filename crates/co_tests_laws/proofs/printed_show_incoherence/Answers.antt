@@ -1,5 +1,6 @@
 -- The law `printed_show_incoherence` holds.
 use Rattle.co_tests_laws.proofs.OnePlace as one_place
+use Rattle.co_tests_laws.proofs.Readable as readable
 use Rattle.co_tests_laws.proofs.Showing as showing
 use Rattle.co_tests_laws.proofs.Stands as stands
 use Rattle.co_tests_laws.proofs.Asked as asked
