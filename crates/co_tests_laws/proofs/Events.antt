@@ -212,7 +212,7 @@ com_not_cut es i k reach c e q =
     cc
 
 -- along a communication the value grows by one into a write, and stays into a read
-value_through : (es : List Edge) (i : ℕ) (k : Com) (reach : Reach) → IsLoop es → i < length es → kind_of (edge_at es i) ≡ kinds.Com k reach → value_of (cut_open es) (event_after es i) ≡ value_of (cut_open es) i + writes_one (target_of (edge_at es i))
+pub value_through : (es : List Edge) (i : ℕ) (k : Com) (reach : Reach) → IsLoop es → i < length es → kind_of (edge_at es i) ≡ kinds.Com k reach → value_of (cut_open es) (event_after es i) ≡ value_of (cut_open es) i + writes_one (target_of (edge_at es i))
 value_through es i k reach r h e =
     value_along es i r.is_cut h (com_not_cut es i k reach r.is_cut e)
     ∙ ap (λ d. value_of (cut_open es) i + writes_one d) (source_after es i r.composes h)
@@ -338,7 +338,7 @@ some_write es r =
     omega (arith, next_written es w.0 w.1, ap writes_one w.2, written_up es (w.0 + 1) (length es) (omega (arith, w.1)) (omega arith), written-all es)
 
 -- the cut stays in its thread
-ordering_inside : (e : Edge) (k : Kind) → kind_of e ≡ k → orders_by k ≡ true → is_external e ≡ false
+pub ordering_inside : (e : Edge) (k : Kind) → kind_of e ≡ k → orders_by k ≡ true → is_external e ≡ false
 ordering_inside e (kinds.Com kind reach) q h = cc
 ordering_inside e (kinds.Po sd from to) q h = rw q refl
 ordering_inside e (kinds.Fenced kind sd from to) q h = rw q refl

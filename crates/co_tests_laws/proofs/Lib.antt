@@ -8,3 +8,6 @@ pub mod Asked
 pub mod Stands
 pub mod Showing
 pub mod Readable
+pub mod Printed
+pub mod Accepted
+mod Tries

@@ -229,7 +229,7 @@ loads_and_stores (s ∷ ss) =
 
 sum_both : (threads : List (List Step)) → sum_by loads_in threads + sum_by stores_in threads ≡ sum_by length threads
 sum_both [] = refl
-sum_both (ss ∷ threads) = omega (arith, sum_both threads, loads_and_stores ss, sum_by-cons loads_in ss threads, sum_by-cons stores_in ss threads, sum_by-cons {A = List Step} length ss threads)
+sum_both (ss ∷ threads) = omega (arith, sum_both threads, loads_and_stores ss, sum_by-cons loads_in ss threads, sum_by-cons stores_in ss threads, sum_by-cons (λ (x : List Step). length x) ss threads)
 
 sum_map : {X Y : Type 0} (f : Y → ℕ) (g : X → Y) (xs : List X) → sum_by f (map g xs) ≡ sum_by (λ x. f (g x)) xs
 sum_map f g [] = refl
@@ -270,11 +270,12 @@ counted_one p xs k x g e =
     omega (arith, one, term_most (λ y. cond {A = ℕ} (p y) 1 0) xs k x g)
 
 -- an event by its thread and its slot
-record IsStep (es : List Edge) (i : ℕ) : Type 0 where
-  steps_at : slice_get (coherence_steps es) (thread_of (cut_open es) i) ≡ Some (thread_steps (cut_open es) plain (thread_of (cut_open es) i))
-  step_at : slice_get (thread_steps (cut_open es) plain (thread_of (cut_open es) i)) (slot_of (cut_open es) i) ≡ Some (event_step (cut_open es) plain i)
+pub record IsStep (es : List Edge) (i : ℕ) : Type 0 where
+  pub steps_at : slice_get (coherence_steps es) (thread_of (cut_open es) i) ≡ Some (thread_steps (cut_open es) plain (thread_of (cut_open es) i))
+  pub step_at : slice_get (thread_steps (cut_open es) plain (thread_of (cut_open es) i)) (slot_of (cut_open es) i) ≡ Some (event_step (cut_open es) plain i)
 
-is_step : (es : List Edge) (i : ℕ) → IsLoop es → i < length es → IsStep es i
+-- each event is so
+pub is_step : (es : List Edge) (i : ℕ) → IsLoop es → i < length es → IsStep es i
 is_step es i r h = record {
   steps_at = thread_steps_at (cut_open es) Avoid plain (thread_of (cut_open es) i) (omega (arith, thread_under es i r h, opened_thread es i, opened-threads es));
   step_at = got_map (event_step (cut_open es) plain) (events_in (cut_open es) (thread_of (cut_open es) i)) (slot_of (cut_open es) i) i (event_in_slot (cut_open es) i (omega (arith, h, opened-length es)));

@@ -72,7 +72,7 @@ cut_there (e ∷ es) h =
     (λ f. later_cut e es f (cut_there es (sym (ap (λ b. b || list_any is_ordering es) f) ∙ h)))
 
 -- where no edge of a cycle leads to another location
-none_diff : (es : List Edge) (i : ℕ) → list_any is_diff es ≡ false → i < length es → is_diff (edge_at es i) ≡ false
+pub none_diff : (es : List Edge) (i : ℕ) → list_any is_diff es ≡ false → i < length es → is_diff (edge_at es i) ≡ false
 none_diff [] i h l = absurd (omega (arith, l))
 none_diff (e ∷ es) i h l =
     by_test (is_diff e)
