@@ -1,6 +1,5 @@
 -- The law `accepted_have_tests` holds.
 use Rattle.co_tests_laws.proofs.Accepted.{accepted_has_test}
-use Rattle.co_tests_laws.proofs.Tries as tries
 use Rattle.co_tests_laws.proofs.accepted_have_tests.Goals as goal
 
 pub returns : goal.returns
