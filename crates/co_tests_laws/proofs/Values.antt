@@ -72,7 +72,7 @@ cut_there (e ∷ es) h =
     (λ f. later_cut e es f (cut_there es (sym (ap (λ b. b || list_any is_ordering es) f) ∙ h)))
 
 -- where no edge of a cycle leads to another location
-none_diff : (es : List Edge) (i : ℕ) → list_any is_diff es ≡ false → i < length es → is_diff (edge_at es i) ≡ false
+pub none_diff : (es : List Edge) (i : ℕ) → list_any is_diff es ≡ false → i < length es → is_diff (edge_at es i) ≡ false
 none_diff [] i h l = absurd (omega (arith, l))
 none_diff (e ∷ es) i h l =
     by_test (is_diff e)
@@ -103,6 +103,7 @@ moves_late es c i h l =
     (λ m a b. ap is_diff (c.cut.others m (λ e. omega (arith, e, a))) ∙ c.same m (omega (arith, b, l))) in
     omega (arith, on, rest, moves_early es c c.cut.at (omega arith))
 
+-- one edge leads to another location once the cycle is cut open
 pub one_move : (es : List Edge) → IsCut es → move_count (cut_open es) ≡ 1
 one_move es c =
     sym (moves_end (cut_open es))
@@ -138,14 +139,17 @@ written_more es i h =
     (λ t. rw t (rw add-one at (counted_on leaves_write es i h t)))
     (λ f. rw f (omega (arith, rw add-one at (counted_kept leaves_write es i h f))))
 
-written_up : (es : List Edge) (i j : ℕ) → i ≤ j → j ≤ length es → written es i ≤ written es j
+-- more edges leave more writes
+pub written_up : (es : List Edge) (i j : ℕ) → i ≤ j → j ≤ length es → written es i ≤ written es j
 unfolding written
 written_up es i j h l = counted_up leaves_write es i j h l
 
+-- before the first edge there is no write
 pub written-zero : (es : List Edge) → written es 0 ≡ 0
 unfolding written
 written-zero es = refl
 
+-- all edges leave all writes
 pub written-all : (es : List Edge) → written es (length es) ≡ writes_in es
 unfolding written
 written-all es = ap (count_by leaves_write) (take_all (length es) es (omega arith))
@@ -295,7 +299,8 @@ one_for : (d : Dir) → cond {A = ℕ} (same_dir d dirs.W) 1 0 ≡ writes_one d
 one_for dirs.R = refl
 one_for dirs.W = refl
 
-next_written : (es : List Edge) (i : ℕ) → i < length es → written es (i + 1) ≡ written es i + writes_one (source_of (edge_at es i))
+-- one more edge
+pub next_written : (es : List Edge) (i : ℕ) → i < length es → written es (i + 1) ≡ written es i + writes_one (source_of (edge_at es i))
 next_written es i h = rw (← add-one i) at (written_more es i h) ∙ ap (λ n. written es i + n) (one_for (source_of (edge_at es i)))
 
 -- along each edge but the cut the value grows by one into a write, and stays into a read
