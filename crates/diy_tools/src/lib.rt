@@ -2,6 +2,7 @@
 #![tactic(auto)]
 
 mod checking;
+mod coherence;
 mod crossing;
 mod demo;
 mod edges;

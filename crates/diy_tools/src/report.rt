@@ -249,6 +249,8 @@ fn send_refusal<E: Sink>(refusal: Refusal, page: &mut Page, err: &mut E) -> Resu
         Refusal::NeedsObserver { location, event } => refuse_unobserved(location, event, page, err),
         Refusal::TooManyRegisters { thread } => refuse_at(b"TooManyRegisters ", thread, page, err),
         Refusal::NothingToShow => refuse(b"NothingToShow", page, err),
+        Refusal::NotCoherence => refuse(b"NotCoherence", page, err),
+        Refusal::ManyWrites => refuse(b"ManyWrites", page, err),
     }
 }
 

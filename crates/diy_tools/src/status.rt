@@ -1,7 +1,8 @@
 ghost use Rattle.std.specs.Prelude.{◌≡◌};
 ghost use Rattle.diy_tools.specs.Report.{exit_of};
-ghost use Rattle.diy_tools.specs.Refused.{composing_refusal, making_refusal, showing_refusal};
+ghost use Rattle.diy_tools.specs.Refused.{composing_refusal, making_refusal, showing_refusal, coherence_refusal};
 
+use co_tests::CoRefusal;
 use cycle_lines::LineKind;
 use diy_words::UsageKind;
 use edge_algebra::CycleError;
@@ -98,6 +99,11 @@ pub enum Refusal {
     TooManyRegisters { thread: u8 },
     /// No write needs an observer, so that there is nothing to show.
     NothingToShow,
+    /// A coherence test is asked for, and an edge leads to another location, or every internal edge is
+    /// a communication.
+    NotCoherence,
+    /// A coherence test is asked for, and there are more than two writes.
+    ManyWrites,
 }
 
 impl Status {
@@ -158,6 +164,20 @@ impl From<WhyRefusal> for Refusal {
             WhyRefusal::CoherenceOnly => Refusal::CoherenceOnly,
             WhyRefusal::NothingToShow => Refusal::NothingToShow,
             WhyRefusal::TooManyRegisters { thread } => Refusal::TooManyRegisters { thread },
+        }
+    }
+}
+
+impl From<CoRefusal> for Refusal {
+    fn from(refusal: CoRefusal) -> Refusal
+        ensures { result ≡ coherence_refusal refusal }
+    {
+        match refusal {
+            CoRefusal::NotOfArch { at } => Refusal::NotOfArch { at },
+            CoRefusal::TooFewThreads => Refusal::TooFewThreads,
+            CoRefusal::NotCoherence => Refusal::NotCoherence,
+            CoRefusal::ManyWrites => Refusal::ManyWrites,
+            CoRefusal::TooManyRegisters { thread } => Refusal::TooManyRegisters { thread },
         }
     }
 }

@@ -89,8 +89,8 @@ fn make_test<A: Arch>(cycle: &Cycle, mode: ObsMode, test: &mut Test) -> Result<(
     }
 }
 
-/// Prints the test of a cycle under the name that is given, or else under that of the cycle.
-fn print_named<A: Arch, O: Sink>(
+/// Prints a test of a cycle under the name that is given, or else under that of the cycle.
+pub(crate) fn print_named<A: Arch, O: Sink>(
     test: &Test,
     cycle: &Cycle,
     name: &Option<TestName>,

@@ -9,6 +9,7 @@ ghost use Rattle.diy_tools.specs.Memory.{NeverWantsMemory};
 ghost use Rattle.diy_tools.specs.Report.{TakesLine, status_line, StatusNamesLocation};
 
 use crate::checking::check;
+use crate::coherence::coherence;
 use crate::crossing::cross;
 use crate::demo::demo;
 use crate::families::families;
@@ -23,8 +24,8 @@ use diy_io::{Shelf, Sink, Source, Words};
 use diy_words::{Request, read_request};
 use std::alloc::Global;
 
-/// Does what the words ask for: it prints the test of a cycle to `out`, or the names of cycles, or
-/// the sum of logs, or how long some tests are, or what is so of an execution of a test, or writes
+/// Does what the words ask for: it prints the test of a cycle to `out`, or its coherence test, or the
+/// names of cycles, or the sum of logs, or how long some tests are, or what is so of an execution of a test, or writes
 /// the tests of a listing, or of choices, to the shelf, or two executions of a test that show why an
 /// observer is needed.
 ///
@@ -82,6 +83,7 @@ fn answer<I: Source, O: Sink, H: Shelf>(
         },
         Ok(Request::Test(request)) => diyone(&request, out),
         Ok(Request::Why(request)) => why(alloc, &request, shelf, out),
+        Ok(Request::Coherence(request)) => coherence(&request, out),
         Ok(Request::Name(request)) => norm(&request, input, out),
         Ok(Request::List(request)) => list(request, shelf, out),
         Ok(Request::Families(arch)) => families(alloc, words, arch, input, shelf, out),

@@ -8,7 +8,7 @@ use Rattle.diy_words.specs.Parts.{parts_of, tool_named}
 use Rattle.diy_words.specs.Sayings.{Saying}
 use Rattle.diy_words.specs.Gathered.{Gathered, gathered_of, all_given}
 use Rattle.diy_words.specs.SaidInOrder.{sayings, said_all}
-use Rattle.diy_words.specs.Requests.{Task, AsksTest, AsksWhy, AsksName, AsksList, AsksFamilies, AsksSum, AsksCross, AsksDemo, AsksCheck, asks, families_with, demo_with, check_with, why_asked, test_asked, diyone_asked, diy_asked, norm_asked, cross_asked, tool_asked, said_asked, asked_for, asked_of}
+use Rattle.diy_words.specs.Requests.{Task, AsksTest, AsksWhy, AsksCoherence, AsksName, AsksList, AsksFamilies, AsksSum, AsksCross, AsksDemo, AsksCheck, asks, families_with, demo_with, check_with, why_asked, coherence_asked, test_asked, one_asked, diyone_asked, diy_asked, norm_asked, cross_asked, tool_asked, said_asked, asked_for, asked_of}
 use Rattle.diy_words.specs.Notes.{no_notes, said_noted}
 use Rattle.diy_words.proofs.NotedLaws.{said_so}
 use Rattle.diy_words.proofs.OperandLaws.{AreFaultless, given_from, all_said}
@@ -17,6 +17,7 @@ use Rattle.diy_words.proofs.OperandLaws.{AreFaultless, given_from, all_said}
 abbrev pub tool_of : Task → Tool
 tool_of (AsksTest _) = tools.DiyOne
 tool_of (AsksWhy _) = tools.DiyOne
+tool_of (AsksCoherence _) = tools.DiyOne
 tool_of (AsksName _) = tools.Norm
 tool_of (AsksList _) = tools.Diy
 tool_of (AsksFamilies _) = tools.Classify
@@ -30,11 +31,15 @@ asks_tool tool request (Ok x) task of_tool e = let same : request x ≡ task = c
 asks_tool tool request (Err usage) task of_tool e = cc e
 
 diyone_tool : (count : ℕ) (given : Gathered) (task : Task) → diyone_asked count given ≡ Ok task → tool_of task ≡ tools.DiyOne
-diyone_tool count given task e = of_test given.why e
+diyone_tool count given task e = of_why given.why e
   where
-    of_test : (b : Bool) → (if b then asks AsksWhy (why_asked count given) else asks AsksTest (test_asked count given)) ≡ Ok task → tool_of task ≡ tools.DiyOne
-    of_test true e = asks_tool tools.DiyOne AsksWhy (why_asked count given) task (λ x. refl) e
-    of_test false e = asks_tool tools.DiyOne AsksTest (test_asked count given) task (λ x. refl) e
+    of_co : (b : Bool) → (if b then asks AsksCoherence (coherence_asked count given) else asks AsksTest (test_asked count given)) ≡ Ok task → tool_of task ≡ tools.DiyOne
+    of_co true e = asks_tool tools.DiyOne AsksCoherence (coherence_asked count given) task (λ x. refl) e
+    of_co false e = asks_tool tools.DiyOne AsksTest (test_asked count given) task (λ x. refl) e
+
+    of_why : (b : Bool) → (if b then asks AsksWhy (why_asked count given) else one_asked count given) ≡ Ok task → tool_of task ≡ tools.DiyOne
+    of_why true e = asks_tool tools.DiyOne AsksWhy (why_asked count given) task (λ x. refl) e
+    of_why false e = of_co given.co e
 
 -- a tool is asked only for something of its own
 asked_tool : (tool : Tool) (count : ℕ) (given : Gathered) (task : Task) → tool_asked tool count given ≡ Ok task → tool_of task ≡ tool

@@ -10,8 +10,8 @@ use Rattle.diy_words.specs.declared.options.Tool.{Tool}
 use Rattle.diy_words.specs.declared.request.TheConstants.{MAX_CHOICES}
 use Rattle.diy_words.specs.declared.usage.Usage.{Usage}
 use Rattle.diy_words.specs.Parts.{Part}
-use Rattle.diy_words.specs.Sayings.{Saying, SaysArch, SaysName, SaysMode, SaysFrom, SaysEdges, SaysRelaxes, SaysSize, SaysExact, SaysWhy, SaysThreads, SaysAccesses, SaysAfter, SaysFolder, SaysTest, SaysExecution, SaysPlace, SaysCount, said_by}
-use Rattle.diy_words.specs.Gathered.{arch_of_saying, name_of_saying, mode_of_saying, from_of_saying, operand_of_saying, relaxes_of_saying, size_of_saying, is_exact, threads_of_saying, accesses_of_saying, after_of_saying, folder_of_saying, is_why, count_of_saying, test_of_saying, execution_of_saying, edges_of_saying, places_of_word, files_of_saying, last_given, first_given, all_given, gathered_of}
+use Rattle.diy_words.specs.Sayings.{Saying, SaysArch, SaysName, SaysMode, SaysFrom, SaysEdges, SaysRelaxes, SaysSize, SaysExact, SaysWhy, SaysCo, SaysThreads, SaysAccesses, SaysAfter, SaysFolder, SaysTest, SaysExecution, SaysPlace, SaysCount, said_by}
+use Rattle.diy_words.specs.Gathered.{arch_of_saying, name_of_saying, mode_of_saying, from_of_saying, operand_of_saying, relaxes_of_saying, size_of_saying, is_exact, is_co, threads_of_saying, accesses_of_saying, after_of_saying, folder_of_saying, is_why, count_of_saying, test_of_saying, execution_of_saying, edges_of_saying, places_of_word, files_of_saying, last_given, first_given, all_given, gathered_of}
 use Rattle.diy_words.specs.SaidInOrder.{is_limited, before_of, said_in, sayings}
 use Rattle.diy_words.specs.Requests.{choice_count}
 use Rattle.diy_words.specs.Notes.{Notes, no_notes, with_saying, with_next, notes_with, notes_of, before_noted, said_noted, gathered_noted}
@@ -130,11 +130,18 @@ why_step : (notes : Notes) (saying : Saying) → (with_saying notes saying).give
 why_step notes SaysWhy = refl
 why_step notes saying = refl
 
+co_step : (notes : Notes) (saying : Saying) → (with_saying notes saying).given.co ≡ (is_co saying || notes.given.co)
+co_step notes SaysCo = refl
+co_step notes saying = refl
+
 mode_noted : (said : List Saying) → (notes_of said).given.mode ≡ last_given mode_of_saying said
 mode_noted said = last_noted (λ n. n.given.mode) mode_of_saying refl mode_step said
 
 why_noted : (said : List Saying) → (notes_of said).given.why ≡ list_any is_why said
 why_noted said = any_noted (λ n. n.given.why) is_why refl why_step said
+
+co_noted : (said : List Saying) → (notes_of said).given.co ≡ list_any is_co said
+co_noted said = any_noted (λ n. n.given.co) is_co refl co_step said
 
 -- the place of the first operand of edges is noted
 operand_noted : (said : List Saying) → (notes_of said).given.operand ≡ first_given operand_of_saying said
@@ -207,11 +214,12 @@ all_noted said =
       last_noted (λ n. n.given.test) test_of_saying refl test_step said,
       last_noted (λ n. n.given.execution) execution_of_saying refl execution_step said,
       why_noted said,
+      co_noted said,
     ) refl
 
 -- and what bears on the fault of the next word
 before_all : (said : List Saying) → before_noted (notes_of said) ≡ before_of said
-before_all said = rw (taken_noted said, mode_noted said, why_noted said) refl
+before_all said = rw (taken_noted said, mode_noted said, why_noted said, co_noted said) refl
 
 notes_more : (notes : Notes) (xs ys : List Saying) → notes_with notes (xs ++ ys) ≡ notes_with (notes_with notes xs) ys
 notes_more notes [] ys = refl

@@ -39,7 +39,7 @@ AreFaultless tool words at = AllByRecursion IsOk (said_from tool words at)
 abbrev pub given_from : {X : Type 0} → Tool → (Saying → List X) → List (List ℕ) → ℕ → List X
 given_from tool gives words at = given_among gives (said_from tool words at)
 
--- the words after one that isn't `-why` say what they say alone
+-- the words after one that is neither `-why` nor `-co` say what they say alone
 said_after : (tool : Tool) → IsUncounted tool → (said : Result Saying Usage) (words : List (List ℕ)) (at : ℕ) → IsSilent said
     → sayings_from tool (with_next no_notes said) words at ≡ said_from tool words at
 said_after tool same said words at silent =
@@ -52,7 +52,7 @@ alone_then tool same words at text got plain silent =
     alone_first tool no_notes words at text got plain ∙
     ap (λ rest. said_by tool (before_of []) (Alone at text) ∷ rest) (said_after tool same (said_by tool (before_of []) (Alone at text)) words (at + 1) silent)
 
--- something said that gives nothing and isn't `-why`
+-- something said that gives nothing and is neither `-why` nor `-co`
 pub record IsOther {X : Type 0} (gives : Saying → List X) (said : Result Saying Usage) : Type 0 where
   pub none : given_by gives said ≡ []
   pub silent : IsSilent said

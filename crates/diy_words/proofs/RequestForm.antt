@@ -1,6 +1,6 @@
 -- What a request has of its own form: the name of a test, the size of a listing, a folder, and the files of mcheck7.
 use Rattle.std.proofs.Common.{◌≡◌, ◌≤◌, ◌<◌, ◌+◌, ℕ, ap, arith, lit≤, nat_lt, nat_le, Bool, true, false, List, [], ◌∷◌, ◌++◌, Option, Some, None, Result, Ok, Err, refl, sym, subst, length}
-use Rattle.std.specs.Prelude.{if◌then◌else◌, IfOk, IfSome, ◌&&◌, ◌==◌, codes}
+use Rattle.std.specs.Prelude.{if◌then◌else◌, IfOk, IfSome, ◌&&◌, ◌||◌, ◌==◌, codes}
 use Rattle.std.specs.Str.{bytes_eq}
 use Rattle.std.specs.Str.Parse.{digits_value}
 use Rattle.std.proofs.lemmas.Bool.Decides.{nat_tests}
@@ -33,10 +33,10 @@ use Rattle.diy_words.specs.TestNames.{is_name}
 use Rattle.edge_lists.specs.Spelled.{text_edges}
 use Rattle.relax_edges.specs.Architectures.{arch_of}
 use Rattle.diy_words.specs.Parts.{Part, Alone, Valued, Unvalued, waiting_at, alone_before, parts_from, parts_of, option_named, tool_named, mode_named}
-use Rattle.diy_words.specs.Sayings.{Saying, SaysName, SaysRelaxes, SaysPlace, SaysSize, SaysExact, SaysWhy, SaysThreads, SaysAccesses, SaysFolder, SaysCount, SaysTest, SaysExecution, Before, usage_fault, dashed_said, operand_said, relaxes_said, number_said, after_said, cycle_word_said, said_by, arch_said, mode_said, edges_said, begins_option}
+use Rattle.diy_words.specs.Sayings.{Saying, SaysName, SaysRelaxes, SaysPlace, SaysSize, SaysExact, SaysWhy, SaysCo, SaysThreads, SaysAccesses, SaysFolder, SaysCount, SaysTest, SaysExecution, Before, usage_fault, why_said, co_said, dashed_said, operand_said, relaxes_said, number_said, after_said, cycle_word_said, said_by, arch_said, mode_said, edges_said, begins_option}
 use Rattle.diy_words.specs.Gathered.{Gathered, gathered_of, last_given, name_of_saying, size_of_saying, folder_of_saying, count_of_saying, test_of_saying, execution_of_saying}
 use Rattle.diy_words.specs.SaidInOrder.{before_of, said_in, sayings, said_first, said_all}
-use Rattle.diy_words.specs.Requests.{Task, AsksTest, AsksWhy, AsksName, AsksList, AsksFamilies, AsksCross, AsksDemo, AsksCheck, NameTask, ListTask, FamiliesTask, list_with, families_with, cross_with, demo_with, check_with, choice_count, mode_or_accept, asks, test_with, why_with, why_asked, test_asked, diyone_asked, asked_for, norm_asked, tool_asked, said_asked, asked_of}
+use Rattle.diy_words.specs.Requests.{Task, AsksTest, AsksWhy, AsksCoherence, AsksName, AsksList, AsksFamilies, AsksCross, AsksDemo, AsksCheck, NameTask, ListTask, FamiliesTask, list_with, families_with, cross_with, demo_with, check_with, choice_count, mode_or_accept, asks, test_with, why_with, coherence_with, why_asked, coherence_asked, test_asked, one_asked, diyone_asked, asked_for, norm_asked, tool_asked, said_asked, asked_of}
 use Rattle.arrayvec.specs.ArrayString.{ArrayString}
 use Rattle.diy_words.specs.Given.{GivesTask, HasForm, WithinWords, list_kept}
 use Rattle.diy_words.specs.NumberWords.{is_number, number_to}
@@ -72,13 +72,22 @@ dashed_form : (count at : ℕ) (b : Bool) → SaysForm count (if b then Ok SaysE
 dashed_form count at true = tt
 dashed_form count at false = tt
 
-why_form : (count at : ℕ) (b c : Bool) → SaysForm count (if b then if c then usage_fault at ExcludedOption else Ok SaysWhy else usage_fault at UnknownOption)
-why_form count at true true = tt
-why_form count at true false = tt
-why_form count at false c = tt
+why_form : (count at : ℕ) (b : Bool) → SaysForm count (if b then usage_fault at ExcludedOption else Ok SaysWhy)
+why_form count at true = tt
+why_form count at false = tt
+
+co_form : (count at : ℕ) (b : Bool) → SaysForm count (if b then usage_fault at ExcludedOption else Ok SaysCo)
+co_form count at true = tt
+co_form count at false = tt
+
+special_form : (count : ℕ) (before : Before) (at : ℕ) (why co : Bool)
+    → SaysForm count (if why then why_said before at else if co then co_said before at else usage_fault at UnknownOption)
+special_form count before at true co = why_form count at (before.obs || before.co)
+special_form count before at false true = co_form count at (before.obs || before.why)
+special_form count before at false false = tt
 
 alone_dashed : (count : ℕ) (tool : Tool) (before : Before) (at : ℕ) (text : List ℕ) → SaysForm count (dashed_said tool before at text)
-alone_dashed count tools.DiyOne before at text = why_form count at (bytes_eq text (codes "-why")) before.obs
+alone_dashed count tools.DiyOne before at text = special_form count before at (bytes_eq text (codes "-why")) (bytes_eq text (codes "-co"))
 alone_dashed count tools.Diy before at text = dashed_form count at (bytes_eq text (codes "-exact"))
 alone_dashed count tools.Norm before at text = tt
 alone_dashed count tools.Classify before at text = tt
@@ -178,7 +187,7 @@ said_form : (count : ℕ) (tool : Tool) (before : Before) (part : Part) → IsAm
 said_form count tool before (Alone at text) h = alone_form count tool before at text (begins_option text) h
 said_form count tool before (Valued opts.Arch at value) h = arch_form count _ (arch_of value)
 said_form count tool before (Valued opts.Name at value) h = name_form count _ value (is_name value) refl
-said_form count tool before (Valued opts.Obs at value) h = obs_form count at (mode_named value) before.why
+said_form count tool before (Valued opts.Obs at value) h = obs_form count at (mode_named value) (before.why || before.co)
 said_form count tool before (Valued opts.From at value) h = tt
 said_form count tool before (Valued opts.Edges at value) h = relaxes_form count SaysRelaxes _ (relaxes_of value) (λ x. tt)
 said_form count tool before (Valued opts.Size at value) h = said_number_form count SaysSize _ MAX_EDGES value (λ n h. h.1)
@@ -265,6 +274,7 @@ gathered_fit count said h = (
 abbrev pub IsNamedSo : ℕ → Task → Type 0
 IsNamedSo count (AsksTest asked) = IfSome asked.name (λ name. is_name name ≡ true)
 IsNamedSo count (AsksWhy asked) = IfSome asked.name (λ name. is_name name ≡ true) × IfSome asked.folder (λ folder. length folder ≤ MAX_FOLDER)
+IsNamedSo count (AsksCoherence asked) = IfSome asked.name (λ name. is_name name ≡ true)
 IsNamedSo count (AsksList asked) = (asked.size ≤ MAX_EDGES) × IfSome asked.folder (λ folder. length folder ≤ MAX_FOLDER)
 IsNamedSo count (AsksCross asked) = IfSome asked.folder (λ folder. length folder ≤ MAX_FOLDER)
 IsNamedSo count (AsksDemo asked) = (1 ≤ asked.count) × (asked.count ≤ MAX_TESTS)
@@ -285,6 +295,12 @@ explained_form : (count : ℕ) (arch : Option ArchName) (name : Option (List ℕ
     → IfSome folder (λ folder. length folder ≤ MAX_FOLDER) → IsTaskSo count (asks AsksWhy (why_with count arch name edges folder))
 explained_form count None name edges folder h k = tt
 explained_form count (Some arch) name edges folder h k = (h, k)
+
+coherence_form : (count : ℕ) (arch : Option ArchName) (name : Option (List ℕ)) (edges : List Edge) (folder : Option (List ℕ)) → IfSome name (λ name. is_name name ≡ true)
+    → IsTaskSo count (asks AsksCoherence (coherence_with count arch name edges folder))
+coherence_form count None name edges folder h = tt
+coherence_form count (Some arch) name edges (Some folder) h = tt
+coherence_form count (Some arch) name edges None h = h
 
 norm_form : (count : ℕ) (asked : Result NameTask Usage) → IsTaskSo count (asks AsksName asked)
 norm_form count (Ok asked) = tt
@@ -322,11 +338,15 @@ check_form count (Some arch) (Some test) None h k = tt
 check_form count (Some arch) None execution h k = tt
 
 diyone_form : (count : ℕ) (given : Gathered) → AreFit count given → IsTaskSo count (diyone_asked count given)
-diyone_form count given f = of_test given.why
+diyone_form count given f = of_why given.why
   where
-    of_test : (b : Bool) → IsTaskSo count (if b then asks AsksWhy (why_asked count given) else asks AsksTest (test_asked count given))
-    of_test true = explained_form count given.arch given.name given.edges given.folder f.0 f.2
-    of_test false = test_form count given.arch given.name (mode_or_accept given.mode) given.edges given.folder f.0
+    of_co : (b : Bool) → IsTaskSo count (if b then asks AsksCoherence (coherence_asked count given) else asks AsksTest (test_asked count given))
+    of_co true = coherence_form count given.arch given.name given.edges given.folder f.0
+    of_co false = test_form count given.arch given.name (mode_or_accept given.mode) given.edges given.folder f.0
+
+    of_why : (b : Bool) → IsTaskSo count (if b then asks AsksWhy (why_asked count given) else one_asked count given)
+    of_why true = explained_form count given.arch given.name given.edges given.folder f.0 f.2
+    of_why false = of_co given.co
 
 tool_form : (tool : Tool) (count : ℕ) (given : Gathered) → AreFit count given
     → IsTaskSo count (tool_asked tool count given)
@@ -382,6 +402,7 @@ request_form words result h = of_asked result (asked_of words) (words_form words
       named_so request.name (subst (λ (name : Option (List ℕ)). IfSome name (λ name. is_name name ≡ true)) (sym h.1) e.0),
       folder_so request.folder (subst (λ (f : Option (List ℕ)). IfSome f (λ folder. length folder ≤ MAX_FOLDER)) (sym h.3) e.1),
     )
+    of_asked (Ok (requests.Coherence request)) (Ok (AsksCoherence asked)) e h = named_so request.name (subst (λ (name : Option (List ℕ)). IfSome name (λ name. is_name name ≡ true)) (sym h.1) e)
     of_asked (Ok (requests.List request)) (Ok (AsksList asked)) e h = listed_so request asked h e
     of_asked (Ok (requests.Cross request)) (Ok (AsksCross asked)) e h = folder_so request.folder (subst (λ (f : Option (List ℕ)). IfSome f (λ folder. length folder ≤ MAX_FOLDER)) (sym h.2) e)
     of_asked (Ok (requests.Demo request)) (Ok (AsksDemo asked)) e h = subst (λ (d : Demo). (1 ≤ d.count) × (d.count ≤ MAX_TESTS)) (sym h) e
@@ -391,6 +412,7 @@ request_form words result h = of_asked result (asked_of words) (words_form words
     of_asked (Ok (requests.Check request)) asked e h = tt
     of_asked (Ok (requests.Test request)) asked e h = absurd h
     of_asked (Ok (requests.Why request)) asked e h = absurd h
+    of_asked (Ok (requests.Coherence request)) asked e h = absurd h
     of_asked (Ok (requests.List request)) asked e h = absurd h
     of_asked (Ok (requests.Cross request)) asked e h = absurd h
     of_asked (Ok (requests.Demo request)) asked e h = absurd h

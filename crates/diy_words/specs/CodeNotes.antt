@@ -43,6 +43,7 @@ code_notes notes = record {
     test = notes.test;
     execution = notes.execution;
     why = notes.why;
+    co = notes.co;
   };
   edges = notes.edges;
   choices = notes.choices;

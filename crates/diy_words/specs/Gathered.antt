@@ -5,7 +5,7 @@ use Rattle.std.specs.Option.{option_or, unwrap_or}
 use Rattle.relax_edges.specs.declared.kinds.ArchName.{ArchName}
 use Rattle.relax_edges.specs.declared.kinds.ObsMode.{ObsMode}
 use Rattle.relax_edges.specs.declared.edge.Edge.{Edge}
-use Rattle.diy_words.specs.Sayings.{Saying, SaysArch, SaysName, SaysMode, SaysFrom, SaysEdges, SaysRelaxes, SaysSize, SaysExact, SaysWhy, SaysThreads, SaysAccesses, SaysAfter, SaysFolder, SaysFile, SaysTest, SaysExecution, SaysPlace, SaysCount}
+use Rattle.diy_words.specs.Sayings.{Saying, SaysArch, SaysName, SaysMode, SaysFrom, SaysEdges, SaysRelaxes, SaysSize, SaysExact, SaysWhy, SaysCo, SaysThreads, SaysAccesses, SaysAfter, SaysFolder, SaysFile, SaysTest, SaysExecution, SaysPlace, SaysCount}
 
 -- the architecture that is given
 abbrev pub arch_of_saying : Saying → Option ArchName
@@ -71,6 +71,11 @@ folder_of_saying _ = None
 abbrev pub is_why : Saying → Bool
 is_why SaysWhy = true
 is_why _ = false
+
+-- that `-co` is given
+abbrev pub is_co : Saying → Bool
+is_co SaysCo = true
+is_co _ = false
 
 -- how many tests demo makes
 abbrev pub count_of_saying : Saying → Option ℕ
@@ -138,6 +143,7 @@ pub record Gathered : Type 0 where
   pub test : Option ℕ
   pub execution : Option ℕ
   pub why : Bool
+  pub co : Bool
 
 -- what is gathered of all that words say: the last that was given, but of the operands of edges the place of the first, and of
 -- edges, places and files all; a cycle of a listing has at most 6 edges and 4 threads unless words say otherwise
@@ -162,4 +168,5 @@ gathered_of said = record {
   test = last_given test_of_saying said;
   execution = last_given execution_of_saying said;
   why = list_any is_why said;
+  co = list_any is_co said;
 }

@@ -11,7 +11,7 @@ use Rattle.diy_words.specs.declared.request.Sought.{Sought}
 use Rattle.diy_words.specs.declared.request.Sought.TheVariants as sought
 use Rattle.diy_words.specs.declared.usage.Usage.{Usage}
 use Rattle.diy_words.specs.TestNames.{is_name}
-use Rattle.diy_words.specs.Requests.{Task, AsksTest, AsksWhy, AsksName, AsksList, AsksFamilies, AsksSum, AsksCross, AsksDemo, AsksCheck, ListTask, OfEdges, OfName, OfLines}
+use Rattle.diy_words.specs.Requests.{Task, AsksTest, AsksWhy, AsksCoherence, AsksName, AsksList, AsksFamilies, AsksSum, AsksCross, AsksDemo, AsksCheck, ListTask, OfEdges, OfName, OfLines}
 use Rattle.diy_words.specs.Requests as req
 
 -- the request holds the cycle that is sought
@@ -42,6 +42,8 @@ HoldsTask (requests.Test request) (AsksTest asked) =
 HoldsTask (requests.Why request) (AsksWhy asked) =
     (request.arch ≡ asked.arch) × (option_map (λ name. name.bytes) request.name ≡ asked.name) × (request.edges ≡ kept_edges asked.edges)
     × (option_map (λ folder. folder.now) request.folder ≡ asked.folder)
+HoldsTask (requests.Coherence request) (AsksCoherence asked) =
+    (request.arch ≡ asked.arch) × (option_map (λ name. name.bytes) request.name ≡ asked.name) × (request.edges ≡ kept_edges asked.edges)
 HoldsTask (requests.Name request) (AsksName asked) = (request.arch ≡ asked.arch) × IsSought request.cycle asked.cycle
 HoldsTask (requests.List request) (AsksList asked) = list_kept request ≡ asked
 HoldsTask (requests.Families arch) (AsksFamilies asked) = arch ≡ asked.arch
@@ -66,6 +68,7 @@ abbrev pub HasForm : Request → Type 0
 HasForm (requests.Test request) = IfSome request.name (λ name. is_name name.bytes ≡ true)
 HasForm (requests.Why request) =
     IfSome request.name (λ name. is_name name.bytes ≡ true) × ForSome request.folder (λ folder. length folder.now ≤ MAX_FOLDER)
+HasForm (requests.Coherence request) = IfSome request.name (λ name. is_name name.bytes ≡ true)
 HasForm (requests.List request) = (request.limits.size ≤ MAX_EDGES) × ForSome request.folder (λ folder. length folder.now ≤ MAX_FOLDER)
 HasForm (requests.Cross request) = ForSome request.folder (λ folder. length folder.now ≤ MAX_FOLDER)
 HasForm (requests.Demo request) = (1 ≤ request.count) × (request.count ≤ MAX_TESTS)

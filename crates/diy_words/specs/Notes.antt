@@ -9,7 +9,7 @@ use Rattle.diy_words.specs.declared.options.Tool.{Tool}
 use Rattle.diy_words.specs.declared.request.TheConstants.{MAX_CHOICES}
 use Rattle.diy_words.specs.declared.usage.Usage.{Usage}
 use Rattle.diy_words.specs.Parts.{Part}
-use Rattle.diy_words.specs.Sayings.{Saying, SaysArch, SaysName, SaysMode, SaysFrom, SaysEdges, SaysRelaxes, SaysSize, SaysExact, SaysWhy, SaysThreads, SaysAccesses, SaysAfter, SaysFolder, SaysLog, SaysFile, SaysTest, SaysExecution, SaysPlace, SaysCount, Before, said_by}
+use Rattle.diy_words.specs.Sayings.{Saying, SaysArch, SaysName, SaysMode, SaysFrom, SaysEdges, SaysRelaxes, SaysSize, SaysExact, SaysWhy, SaysCo, SaysThreads, SaysAccesses, SaysAfter, SaysFolder, SaysLog, SaysFile, SaysTest, SaysExecution, SaysPlace, SaysCount, Before, said_by}
 use Rattle.diy_words.specs.Gathered.{Gathered, gathered_of}
 
 -- what is gathered so far, but for edges, places and files, of which nothing is gathered here; the edges, as many as a list holds; in
@@ -42,6 +42,7 @@ with_saying notes (SaysRelaxes relaxes) = record notes { given = record notes.gi
 with_saying notes (SaysSize size) = record notes { given = record notes.given { size = size } }
 with_saying notes SaysExact = record notes { given = record notes.given { exact = true } }
 with_saying notes SaysWhy = record notes { given = record notes.given { why = true } }
+with_saying notes SaysCo = record notes { given = record notes.given { co = true } }
 with_saying notes (SaysThreads threads) = record notes { given = record notes.given { threads = threads } }
 with_saying notes (SaysAccesses accesses) = record notes { given = record notes.given { accesses = Some accesses } }
 with_saying notes (SaysAfter cycle) = record notes { given = record notes.given { after = Some cycle } }
@@ -69,7 +70,7 @@ notes_of = notes_with no_notes
 
 -- what the notes hold of what bears on the fault of the next word
 abbrev pub before_noted : Notes → Before
-before_noted notes = record { taken = notes.taken; obs = is_some notes.given.mode; why = notes.given.why }
+before_noted notes = record { taken = notes.taken; obs = is_some notes.given.mode; why = notes.given.why; co = notes.given.co }
 
 -- what the parts of the words say, one after another, after words of which so much is noted
 abbrev pub said_noted : Tool → Notes → List Part → List (Result Saying Usage)

@@ -18,7 +18,7 @@ use Rattle.diy_words.specs.Sayings.{Saying}
 use Rattle.diy_words.specs.Gathered.{Gathered, gathered_of}
 use Rattle.diy_words.specs.SaidInOrder.{sayings, said_all}
 
--- what diyone7 is asked for without `-why`: a test, under a name that is given or that of its cycle
+-- what diyone7 is asked for without `-why` and `-co`: a test, under a name that is given or that of its cycle
 pub record TestTask : Type 0 where
   pub arch : ArchName
   pub name : Option (List ℕ)
@@ -32,6 +32,12 @@ pub record WhyTask : Type 0 where
   pub name : Option (List ℕ)
   pub edges : List Edge
   pub folder : Option (List ℕ)
+
+-- what diyone7 is asked for with `-co`: the coherence test of a cycle, under a name that is given or that of the cycle
+pub record CoherenceTask : Type 0 where
+  pub arch : ArchName
+  pub name : Option (List ℕ)
+  pub edges : List Edge
 
 -- of which cycles norm7 is asked for the names: of the one that edges make, of the one that has a name, the word at a place,
 -- or of those that the lines of the input hold
@@ -72,13 +78,14 @@ pub record FamiliesTask : Type 0 where
   pub arch : ArchName
   pub files : List ℕ
 
--- what words ask for: a test; why a cycle needs an observer; the names of cycles; the tests of a listing; the names of cycles by
--- their families; the sum of the logs that the words after the first name, or of the input where there is none; the tests of the
--- choices of relaxations; some number of tests; what is so of an execution of a test. What demo and mcheck7 are asked for is
--- as the request holds it
+-- what words ask for: a test; why a cycle needs an observer; a coherence test; the names of cycles; the tests of a listing; the
+-- names of cycles by their families; the sum of the logs that the words after the first name, or of the input where there is none;
+-- the tests of the choices of relaxations; some number of tests; what is so of an execution of a test. What demo and mcheck7 are
+-- asked for is as the request holds it
 pub data Task : Type 0 where
   AsksTest : TestTask → Task
   AsksWhy : WhyTask → Task
+  AsksCoherence : CoherenceTask → Task
   AsksName : NameTask → Task
   AsksList : ListTask → Task
   AsksFamilies : FamiliesTask → Task
@@ -96,7 +103,7 @@ choice_count (place ∷ places) = length place * choice_count places
 abbrev pub mode_or_accept : Option ObsMode → ObsMode
 mode_or_accept mode = unwrap_or mode Accept
 
--- the request of diyone7 without `-why` from what was given: a folder is a fault; `count` is the number of words
+-- the request of diyone7 without `-why` and `-co` from what was given: a folder is a fault; `count` is the number of words
 abbrev pub test_with : ℕ → Option ArchName → Option (List ℕ) → ObsMode → List Edge → Option (List ℕ) → Result TestTask Usage
 test_with count None name mode edges folder = Err (record { word = count; kind = MissingArch })
 test_with count (Some arch) name mode edges (Some folder) = Err (record { word = count; kind = MissingWhy })
@@ -106,6 +113,12 @@ test_with count (Some arch) name mode edges None = Ok (record { arch = arch; nam
 abbrev pub why_with : ℕ → Option ArchName → Option (List ℕ) → List Edge → Option (List ℕ) → Result WhyTask Usage
 why_with count None name edges folder = Err (record { word = count; kind = MissingArch })
 why_with count (Some arch) name edges folder = Ok (record { arch = arch; name = name; edges = edges; folder = folder })
+
+-- the request of diyone7 with `-co` from what was given: a folder is a fault here too
+abbrev pub coherence_with : ℕ → Option ArchName → Option (List ℕ) → List Edge → Option (List ℕ) → Result CoherenceTask Usage
+coherence_with count None name edges folder = Err (record { word = count; kind = MissingArch })
+coherence_with count (Some arch) name edges (Some folder) = Err (record { word = count; kind = MissingWhy })
+coherence_with count (Some arch) name edges None = Ok (record { arch = arch; name = name; edges = edges })
 
 -- the request of norm7 from what was given: `-from` or operands, and not both, or else the lines of the input
 abbrev pub named_with : ℕ → Option ArchName → Option (ℕ × List ℕ) → Option ℕ → List Edge → Result NameTask Usage
@@ -152,7 +165,7 @@ abbrev pub asks : {X : Type 0} → (X → Task) → Result X Usage → Result Ta
 asks request (Ok asked) = Ok (request asked)
 asks request (Err usage) = Err usage
 
--- what diyone7 is asked for without `-why`, from all that is gathered
+-- what diyone7 is asked for without `-why` and `-co`, from all that is gathered
 abbrev pub test_asked : ℕ → Gathered → Result TestTask Usage
 test_asked count given = test_with count given.arch given.name (mode_or_accept given.mode) given.edges given.folder
 
@@ -160,9 +173,17 @@ test_asked count given = test_with count given.arch given.name (mode_or_accept g
 abbrev pub why_asked : ℕ → Gathered → Result WhyTask Usage
 why_asked count given = why_with count given.arch given.name given.edges given.folder
 
+-- and with `-co`
+abbrev pub coherence_asked : ℕ → Gathered → Result CoherenceTask Usage
+coherence_asked count given = coherence_with count given.arch given.name given.edges given.folder
+
+-- the request of diyone7 where `-why` isn't given
+abbrev pub one_asked : ℕ → Gathered → Result Task Usage
+one_asked count given = if given.co then asks AsksCoherence (coherence_asked count given) else asks AsksTest (test_asked count given)
+
 -- the request of diyone7
 abbrev pub diyone_asked : ℕ → Gathered → Result Task Usage
-diyone_asked count given = if given.why then asks AsksWhy (why_asked count given) else asks AsksTest (test_asked count given)
+diyone_asked count given = if given.why then asks AsksWhy (why_asked count given) else one_asked count given
 
 -- the request of norm7
 abbrev pub norm_asked : ℕ → Gathered → Result NameTask Usage

@@ -1,6 +1,6 @@
 -- What each word says, an option with its value, or what is wrong with it, by what the words before it said. Source: own, after
 -- the command lines of the diy tools.
-use Rattle.std.specs.Prelude.{ℕ, ◌+◌, ◌==◌, ◌&&◌, Bool, false, nat_lt, nat_le, if◌then◌else◌, List, [], ◌∷◌, length, Option, Some, None, Result, Ok, Err, codes}
+use Rattle.std.specs.Prelude.{ℕ, ◌+◌, ◌==◌, ◌&&◌, ◌||◌, Bool, false, nat_lt, nat_le, if◌then◌else◌, List, [], ◌∷◌, length, Option, Some, None, Result, Ok, Err, codes}
 use Rattle.std.specs.Str.{bytes_eq}
 use Rattle.relax_edges.specs.declared.TheConstants.{MAX_EDGES}
 use Rattle.relax_edges.specs.declared.relax_error.RelaxKind.{RelaxKind}
@@ -40,6 +40,7 @@ pub data Saying : Type 0 where
   SaysSize : ℕ → Saying
   SaysExact : Saying
   SaysWhy : Saying
+  SaysCo : Saying
   SaysThreads : ℕ → Saying
   SaysAccesses : ℕ → Saying
   SaysAfter : List Edge → Saying
@@ -52,11 +53,12 @@ pub data Saying : Type 0 where
   SaysCount : ℕ → Saying
 
 -- what the words before a word said that bears on its fault: how many operands were taken, of those whose number is limited, and
--- whether `-obs` and whether `-why` were among them
+-- whether `-obs`, whether `-why` and whether `-co` were among them
 pub record Before : Type 0 where
   pub taken : ℕ
   pub obs : Bool
   pub why : Bool
+  pub co : Bool
 
 -- a fault at a word
 abbrev pub usage_fault : ℕ → UsageKind → Result Saying Usage
@@ -76,13 +78,17 @@ abbrev pub mode_said : ℕ → Option ObsMode → Result Saying Usage
 mode_said at (Some mode) = Ok (SaysMode mode)
 mode_said at None = usage_fault at BadMode
 
--- `-obs` at its place with its value: after `-why` it is excluded, whatever its value
+-- `-obs` at its place with its value: after `-why` or `-co` it is excluded, whatever its value
 abbrev pub obs_said : Before → ℕ → List ℕ → Result Saying Usage
-obs_said before at value = if before.why then usage_fault at ExcludedOption else mode_said (at + 1) (mode_named value)
+obs_said before at value = if before.why || before.co then usage_fault at ExcludedOption else mode_said (at + 1) (mode_named value)
 
--- `-why` at its place: after `-obs` it is excluded
+-- `-why` at its place: after `-obs` or `-co` it is excluded
 abbrev pub why_said : Before → ℕ → Result Saying Usage
-why_said before at = if before.obs then usage_fault at ExcludedOption else Ok SaysWhy
+why_said before at = if before.obs || before.co then usage_fault at ExcludedOption else Ok SaysWhy
+
+-- `-co` at its place: after `-obs` or `-why` it is excluded
+abbrev pub co_said : Before → ℕ → Result Saying Usage
+co_said before at = if before.obs || before.why then usage_fault at ExcludedOption else Ok SaysCo
 
 -- the edges of an operand, at its place
 abbrev pub edges_said : ℕ → Option (List Edge) → Result Saying Usage
@@ -129,7 +135,8 @@ begins_option (byte ∷ _) = byte == 45
 
 -- a word that begins with `-` and takes no value, at its place
 abbrev pub dashed_said : Tool → Before → ℕ → List ℕ → Result Saying Usage
-dashed_said tools.DiyOne before at text = if bytes_eq text (codes "-why") then why_said before at else usage_fault at UnknownOption
+dashed_said tools.DiyOne before at text =
+    if bytes_eq text (codes "-why") then why_said before at else if bytes_eq text (codes "-co") then co_said before at else usage_fault at UnknownOption
 dashed_said tools.Diy before at text = if bytes_eq text (codes "-exact") then Ok SaysExact else usage_fault at UnknownOption
 dashed_said _ before at text = usage_fault at UnknownOption
 

@@ -12,7 +12,7 @@ ghost use Rattle.diy_words.specs.declared.options.Tool.TheVariants as tools;
 ghost use Rattle.diy_words.specs.declared.usage.UsageKind.TheVariants.{ExcludedOption};
 ghost use Rattle.diy_words.specs.Parts.{Unvalued, mode_named};
 ghost use Rattle.diy_words.specs.Notes.{before_noted, more_choices};
-ghost use Rattle.diy_words.specs.Sayings.{Before, SaysRelaxes, SaysPlace, SaysSize, SaysThreads, SaysAccesses, said_by, arch_said, name_said, mode_said, obs_said, why_said, edges_said, relaxes_said, relax_usage, number_said, after_said, folder_said, checked_said, operand_said, begins_option};
+ghost use Rattle.diy_words.specs.Sayings.{Before, SaysRelaxes, SaysPlace, SaysSize, SaysThreads, SaysAccesses, said_by, arch_said, name_said, mode_said, obs_said, why_said, co_said, edges_said, relaxes_said, relax_usage, number_said, after_said, folder_said, checked_said, operand_said, begins_option};
 
 use crate::name::name_of;
 use crate::number::number_to;
@@ -57,6 +57,8 @@ pub struct Notes<'a> {
     pub taken: u8,
     /// Whether `-why` was given.
     pub why: bool,
+    /// Whether `-co` was given.
+    pub co: bool,
 }
 
 impl<'a> Notes<'a> {
@@ -88,6 +90,7 @@ impl<'a> Notes<'a> {
             execution: None,
             taken: 0,
             why: false,
+            co: false,
         }
     }
 
@@ -153,12 +156,12 @@ impl<'a> Notes<'a> {
         }
     }
 
-    /// Takes in `-obs` at place `at` with its value, unless `-why` comes before it.
+    /// Takes in `-obs` at place `at` with its value, unless `-why` or `-co` comes before it.
     fn take_obs(&mut self, at: usize, value: &str) -> Result<(), Usage>
         requires { at + 1 < 2 ^ 64 }
         ensures { notes_left result (code_notes self.new) ≡ notes_after (code_notes self.old) (obs_said (before_noted (code_notes self.old)) at value.now) }
     {
-        if self.why {
+        if self.why || self.co {
             return Err(excluded_option(at));
         }
         self.take_mode(at + 1, value)
@@ -292,6 +295,7 @@ impl<'a> Notes<'a> {
     {
         match tool {
             Tool::DiyOne if text == "-why" => self.take_why(at),
+            Tool::DiyOne if text == "-co" => self.take_co(at),
             Tool::Diy if text == "-exact" => {
                 self.limits.exact = true;
                 Ok(())
@@ -303,14 +307,25 @@ impl<'a> Notes<'a> {
         }
     }
 
-    /// Takes in `-why`, unless `-obs` comes before it.
+    /// Takes in `-why`, unless `-obs` or `-co` comes before it.
     fn take_why(&mut self, at: usize) -> Result<(), Usage>
         ensures { notes_left result (code_notes self.new) ≡ notes_after (code_notes self.old) (why_said (before_noted (code_notes self.old)) at) }
     {
-        if self.mode.is_some() {
+        if self.mode.is_some() || self.co {
             return Err(excluded_option(at));
         }
         self.why = true;
+        Ok(())
+    }
+
+    /// Takes in `-co`, unless `-obs` or `-why` comes before it.
+    fn take_co(&mut self, at: usize) -> Result<(), Usage>
+        ensures { notes_left result (code_notes self.new) ≡ notes_after (code_notes self.old) (co_said (before_noted (code_notes self.old)) at) }
+    {
+        if self.mode.is_some() || self.why {
+            return Err(excluded_option(at));
+        }
+        self.co = true;
         Ok(())
     }
 

@@ -1,12 +1,14 @@
 ghost use Rattle.std.specs.Prelude.{◌≡◌, ◌<◌, ◌+◌, ◌^◌, ℕ, List, Some, length, drop, IfOk};
 ghost use Rattle.diy_words.specs.declared.usage.UsageKind.TheVariants.{MissingArch};
-ghost use Rattle.diy_words.specs.Requests.{asked_of, asked_for, asks, AsksTest, AsksWhy, AsksName, AsksList, AsksFamilies, AsksCross, AsksDemo, AsksCheck, test_asked, why_asked, diyone_asked, norm_asked, diy_asked, cross_asked, families_with, demo_with, check_with};
+ghost use Rattle.diy_words.specs.Requests.{asked_of, asked_for, asks, AsksTest, AsksWhy, AsksCoherence, AsksName, AsksList, AsksFamilies, AsksCross, AsksDemo, AsksCheck, test_asked, why_asked, coherence_asked, one_asked, diyone_asked, norm_asked, diy_asked, cross_asked, families_with, demo_with, check_with};
 ghost use Rattle.diy_words.specs.Given.{GivesTask, HasForm, WithinWords};
 ghost use Rattle.diy_words.specs.CodeNotes.{Steps, GivesAtEnd, GivesFrom, IsPlain, IsOption, code_notes};
 
 use crate::notes::{Notes, missing_value};
 use crate::options::{OptionName, Tool, option_named, tool_named};
-use crate::request::{Check, Cross, Demo, Diy, DiyOne, MAX_CHOICES, Norm, Request, Sought, Why};
+use crate::request::{
+    Check, Coherence, Cross, Demo, Diy, DiyOne, MAX_CHOICES, Norm, Request, Sought, Why,
+};
 use crate::usage::{Usage, UsageKind};
 use diy_io::Words;
 use relax_edges::ObsMode;
@@ -122,8 +124,37 @@ fn finish_diyone(count: usize, notes: Notes<'_>) -> Result<Request<'_>, Usage>
     if notes.why {
         finish_why(count, notes)
     } else {
+        finish_one(count, notes)
+    }
+}
+
+fn finish_one(count: usize, notes: Notes<'_>) -> Result<Request<'_>, Usage>
+    ensures { GivesFrom (λ given. one_asked count given) (code_notes notes.entry) result }
+{
+    if notes.co {
+        finish_coherence(count, notes)
+    } else {
         finish_test(count, notes)
     }
+}
+
+fn finish_coherence(count: usize, notes: Notes<'_>) -> Result<Request<'_>, Usage>
+    ensures { GivesFrom (λ given. asks AsksCoherence (coherence_asked count given)) (code_notes notes.entry) result }
+{
+    let Some(arch) = notes.arch else {
+        return Err(missing_arch(count));
+    };
+    if notes.folder.is_some() {
+        return Err(Usage {
+            word: count,
+            kind: UsageKind::MissingWhy,
+        });
+    }
+    Ok(Request::Coherence(Coherence {
+        arch,
+        name: notes.name,
+        edges: notes.edges,
+    }))
 }
 
 fn finish_why(count: usize, notes: Notes<'_>) -> Result<Request<'_>, Usage>
@@ -182,6 +213,7 @@ fn finish_list(count: usize, notes: Notes<'_>) -> Result<Request<'_>, Usage>
         execution: _,
         taken: _,
         why: _,
+        co: _,
     } = notes;
     let Some(arch) = arch else {
         return Err(missing_arch(count));

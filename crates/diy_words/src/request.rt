@@ -22,10 +22,12 @@ pub type TestName = ArrayString<MAX_NAME>;
 /// What words ask for.
 #[derive(Drop)]
 pub enum Request<'a> {
-    /// A test, of diyone7 without `-why`.
+    /// A test, of diyone7 without `-why` and `-co`.
     Test(DiyOne),
     /// Why a cycle needs an observer, of diyone7 with `-why`.
     Why(Why<'a>),
+    /// A test that no coherent execution meets, of diyone7 with `-co`.
+    Coherence(Coherence),
     /// The names of cycles, of norm7.
     Name(Norm<'a>),
     /// The tests of a listing, of diy7.
@@ -74,7 +76,7 @@ pub struct Source<'a> {
     pub name: &'a str,
 }
 
-/// What diyone7 is asked for without `-why`.
+/// What diyone7 is asked for without `-why` and `-co`.
 #[derive(Drop)]
 pub struct DiyOne {
     /// The architecture of the test.
@@ -99,6 +101,18 @@ pub struct Why<'a> {
     pub edges: EdgeList,
     /// The folder of the files, if one is given.
     pub folder: Option<&'a str>,
+}
+
+/// What diyone7 is asked for with `-co`: a test of edges at one location that no coherent execution
+/// meets.
+#[derive(Drop)]
+pub struct Coherence {
+    /// The architecture of the test.
+    pub arch: ArchName,
+    /// Its name, where one is given; else it has that of its cycle.
+    pub name: Option<TestName>,
+    /// The edges of its cycle, as given.
+    pub edges: EdgeList,
 }
 
 /// What diy7 is asked for.

@@ -41,7 +41,7 @@ pub enum UsageKind {
     BadAfter,
     /// An operand comes where the tool takes none, or no other, or beside `-from`.
     StrayWord,
-    /// One of `-obs` and `-why` comes after the other.
+    /// One of `-obs`, `-why` and `-co` comes after another of them.
     ExcludedOption,
     /// The tool needs `-arch`, and it isn't there.
     MissingArch,

@@ -5,4 +5,4 @@ pub returns-then-notes : goal.returns-then-notes
 returns-then-notes c = λ edges places files e f. rw c.if-notes.true (c.finish_why.ensures edges places files e f)
 
 pub returns-else-notes : goal.returns-else-notes
-returns-else-notes c = λ edges places files e f. rw c.if-notes.false (c.finish_test.ensures edges places files e f)
+returns-else-notes c = λ edges places files e f. rw c.if-notes.false (c.finish_one.ensures edges places files e f)

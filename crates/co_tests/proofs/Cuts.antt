@@ -1,0 +1,164 @@
+-- The cut of a cycle at one location by its place, and the accesses of the cut resolution.
+use Rattle.std.proofs.Common.{◌≡◌, ℕ, zero, suc, ◌+◌, ◌-◌, ◌<◌, ◌≤◌, Bool, true, false, cond, List, [], ◌∷◌, length, take, Option, Some, None, refl, sym, ◌∙◌, ap, arith, add-one}
+use Rattle.std.specs.Prelude.{◌==◌, ◌||◌, if◌then◌else◌}
+use Rattle.std.specs.List.{list_any, position_from}
+use Rattle.std.proofs.lemmas.Bool.{ne_eqb}
+use Rattle.list_laws.proofs.Cases.{by_test, by_less}
+use Rattle.relax_edges.specs.declared.kinds.Dir.{Dir}
+use Rattle.relax_edges.specs.declared.kinds.Mark.{Mark}
+use Rattle.relax_edges.specs.declared.kinds.Kind.{Kind}
+use Rattle.relax_edges.specs.declared.kinds.Kind.TheVariants as kinds
+use Rattle.relax_edges.specs.declared.edge.Edge.{Edge}
+use Rattle.relax_edges.specs.EdgeTable.{kind_of, source_of, source_mark, is_diff, is_external}
+use Rattle.resolution_laws.specs.Resolution.{edge_at, slot_of}
+use Rattle.resolution_laws.proofs.Threads.{slot_in}
+use Rattle.resolution_laws.proofs.Locations.{ends_with}
+use Rattle.value_laws.specs.Values.{value_of}
+use Rattle.arch_trait.specs.declared.link.Link.{Link}
+use Rattle.arch_trait.specs.declared.link.Link.TheVariants.{Plain}
+use Rattle.arch_trait.specs.declared.step.Step.{Step}
+use Rattle.arch_trait.specs.Links.{edge_link}
+use Rattle.test_laws.specs.CycleSteps.{event_link, event_step}
+use Rattle.test_laws.specs.TestOf.{plain}
+use Rattle.co_tests_laws.specs.CutResolution.{cut_of, cut_open, elsewhere, is_ordering, orders_by}
+use Rattle.co_tests_laws.specs.CoherenceTests.{writes_in}
+use Rattle.co_tests_laws.proofs.Opened.{same_at, source_same, source_mark_same}
+use Rattle.co_tests_laws.proofs.Values.{Cut, IsCut, one_location, written, written-all, value_early, value_late}
+use Rattle.co_tests_laws.proofs.Events.{IsLoop}
+use Rattle.co_tests.specs.Shape.{HasShape}
+
+later_cut : (e : Edge) (es : List Edge) → is_ordering e ≡ false → Cut es → Cut (e ∷ es)
+later_cut e es f c = record {
+  at = suc c.at;
+  below = omega (arith, c.below);
+  ordering = c.ordering;
+  opened = ap (λ l. edge_at l (suc c.at)) open_is ∙ c.opened;
+  others = λ i d. ap (λ l. edge_at l i) open_is ∙ other i d;
+}
+  where
+    open_is : cut_open (e ∷ es) ≡ e ∷ cut_open es
+    open_is = ap (λ b. if b then elsewhere e ∷ es else e ∷ cut_open es) f
+
+    other : (i : ℕ) → (i ≡ suc c.at → ⊥) → edge_at (e ∷ cut_open es) i ≡ edge_at (e ∷ es) i
+    other zero d = refl
+    other (suc i) d = c.others i (λ q. d (ap suc q))
+
+first_cut : (e : Edge) (es : List Edge) → is_ordering e ≡ true → Cut (e ∷ es)
+first_cut e es t = record {
+  at = 0;
+  below = omega arith;
+  ordering = t;
+  opened = ap (λ l. edge_at l 0) open_is;
+  others = λ i d. ap (λ l. edge_at l i) open_is ∙ other i d;
+}
+  where
+    open_is : cut_open (e ∷ es) ≡ elsewhere e ∷ es
+    open_is = ap (λ b. if b then elsewhere e ∷ es else e ∷ cut_open es) t
+
+    other : (i : ℕ) → (i ≡ 0 → ⊥) → edge_at (elsewhere e ∷ es) i ≡ edge_at (e ∷ es) i
+    other zero d = absurd (d refl)
+    other (suc i) d = refl
+
+-- the cut of edges of which the first has a number is at this place
+record FoundCut (es : List Edge) (first cut : ℕ) : Type 0 where
+  found : Cut es
+  place : first + found.at ≡ cut
+
+find_cut : (es : List Edge) (first cut : ℕ) → position_from is_ordering first es ≡ Some cut → FoundCut es first cut
+unfolding first_cut later_cut
+find_cut [] first cut h = cc
+find_cut (e ∷ es) first cut h =
+    by_test (is_ordering e)
+    (λ t. let same : Some first ≡ Some cut = sym (ap (λ b. cond b (Some first) (position_from is_ordering (first + 1) es)) t) ∙ h in
+    let p : first ≡ cut = cc in
+    let z : (first_cut e es t).at ≡ 0 = refl in record { found = first_cut e es t; place = omega (arith, p, z) })
+    (λ f. let r = find_cut es (first + 1) cut (sym (ap (λ b. cond b (Some first) (position_from is_ordering (first + 1) es)) f) ∙ h) in
+    let z : (later_cut e es f r.found).at ≡ suc r.found.at = refl in record { found = later_cut e es f r.found; place = omega (arith, r.place, z) })
+
+-- neither of two tests passes
+neither : (a b : Bool) → (a || b) ≡ false → (a ≡ false) × (b ≡ false)
+neither true b h = cc
+neither false b h = (refl, h)
+
+none_at : (es : List Edge) (i : ℕ) → list_any is_diff es ≡ false → i < length es → is_diff (edge_at es i) ≡ false
+none_at [] i h l = absurd (omega (arith, l))
+none_at (e ∷ es) zero h l = (neither (is_diff e) (list_any is_diff es) h).0
+none_at (e ∷ es) (suc i) h l = none_at es i (neither (is_diff e) (list_any is_diff es) h).1 (omega (arith, l))
+
+inside_by_kind : (k : Kind) (e : Edge) → kind_of e ≡ k → orders_by k ≡ true → is_external e ≡ false
+inside_by_kind (kinds.Com c r) e q h = cc
+inside_by_kind (kinds.Po s f t) e q h = rw q refl
+inside_by_kind (kinds.Fenced k s f t) e q h = rw q refl
+inside_by_kind (kinds.Dep k s t) e q h = rw q refl
+inside_by_kind (kinds.Data s) e q h = rw q refl
+
+-- a cycle at one location that is cut at this place
+pub record LoopAt (es : List Edge) (cut : ℕ) : Type 0 where
+  pub loop : IsLoop es
+  pub place : loop.is_cut.cut.at ≡ cut
+
+pub loop_at : (es : List Edge) (cut : ℕ) → HasShape es → cut_of es ≡ Some cut → LoopAt es cut
+loop_at es cut s h = record {
+  loop = record {
+    composes = s.composes;
+    outside = s.outside;
+    threads = s.threads;
+    is_cut = record {
+      cut = c;
+      same = λ i l. none_at es i s.one_location l;
+      within = by_less (c.at + 1) (length es) (λ l. l)
+          (λ g. let e : length es ≡ c.at + 1 = omega (arith, g, c.below) in
+          let out : is_external (edge_at es c.at) ≡ true = sym (ends_with es c.at e) ∙ s.outside in
+          let f : true ≡ false = sym out ∙ inside_by_kind (kind_of (edge_at es c.at)) (edge_at es c.at) refl c.ordering in cc);
+    };
+  };
+  place = omega (arith, (find_cut es 0 cut h).place);
+}
+  where
+    c : Cut es
+    c = (find_cut es 0 cut h).found
+
+-- the cut is one of the edges
+pub cut_below : (es : List Edge) (cut : ℕ) → LoopAt es cut → cut < length es
+cut_below es cut l = omega (arith, l.place, l.loop.is_cut.within)
+
+-- the link of an event that an edge inside its thread enters
+pub link_inside : (es : List Edge) (i : ℕ) → 0 < i → i < length es → is_external (edge_at es (i - 1)) ≡ false → event_link es i ≡ edge_link (edge_at es (i - 1))
+link_inside es zero p h f = absurd (omega (arith, p))
+link_inside es (suc i) p h f =
+    let same : suc i - 1 ≡ i = omega arith in
+    let e : is_external (edge_at es i) ≡ false = ap (λ j. is_external (edge_at es j)) (sym same) ∙ f in
+    let later : slot_of es (suc i) ≡ slot_of es i + 1 = ap (slot_of es) (sym (add-one i)) ∙ slot_in es i (omega (arith, h)) e in
+    let test : (slot_of es (suc i) == 0) ≡ false = ne_eqb (slot_of es (suc i)) 0 (λ z. omega (arith, z, later)) in
+    ap (λ b. if b then Plain else edge_link (edge_at es i)) test ∙ ap (λ j. edge_link (edge_at es j)) (sym same)
+
+-- how many writes the first edges leave
+pub written_is : (es : List Edge) (k : ℕ) → writes_in (take k es) ≡ written es k
+unfolding written
+written_is es k = refl
+
+-- the value of an event by how many writes the edges leave up to the cut, up to the event, and in all
+pub value_after_cut : (es : List Edge) (cut i before with : ℕ) → LoopAt es cut → i < length es → cut < i → before ≡ writes_in (take (cut + 1) es) → with ≡ writes_in (take (i + 1) es)
+    → value_of (cut_open es) i + before ≡ with
+value_after_cut es cut i before with l h g b w =
+    let v = value_late es i l.loop.is_cut (omega (arith, g, l.place)) h in
+    let same = ap (λ k. written es (k + 1)) l.place in
+    omega (arith, v, same, b, w, written_is es (cut + 1), written_is es (i + 1))
+
+pub value_before_cut : (es : List Edge) (cut i before with all : ℕ) → LoopAt es cut → i ≤ cut → before ≡ writes_in (take (cut + 1) es) → with ≡ writes_in (take (i + 1) es) → all ≡ writes_in es
+    → value_of (cut_open es) i + before ≡ all + with
+value_before_cut es cut i before with all l g b w a =
+    let v = value_early es i l.loop.is_cut (omega (arith, g, l.place)) in
+    let same = ap (λ k. written es (k + 1)) l.place in
+    omega (arith, v, same, b, w, a, written_is es (cut + 1), written_is es (i + 1))
+
+same_step : (d e : Dir) (m n : Mark) (p q : ℕ) (v w : ℕ) (k l : Link) → d ≡ e → m ≡ n → p ≡ q → v ≡ w → k ≡ l
+    → ◌≡◌ {A = Step} (record { dir = d; mark = m; place = p; value = v; link = k }) (record { dir = e; mark = n; place = q; value = w; link = l })
+same_step d e m n p q v w k l a b c f g = cc
+
+-- an access that is that of an event
+pub step_is : (es : List Edge) (i : ℕ) (d : Dir) (m : Mark) (v : ℕ) (k : Link) → IsCut es → d ≡ source_of (edge_at es i) → m ≡ source_mark (edge_at es i) → v ≡ value_of (cut_open es) i
+    → k ≡ event_link (cut_open es) i → ◌≡◌ {A = Step} (record { dir = d; mark = m; place = 0; value = v; link = k }) (event_step (cut_open es) plain i)
+step_is es i d m v k c a b f g =
+    same_step d (source_of (edge_at (cut_open es) i)) m (source_mark (edge_at (cut_open es) i)) 0 _ v (value_of (cut_open es) i) k (event_link (cut_open es) i)
+    (a ∙ sym (same_at source_of source_same es i)) (b ∙ sym (same_at source_mark source_mark_same es i)) (sym (one_location es i c)) f g

@@ -1,0 +1,65 @@
+-- How a test grows thread by thread.
+use Rattle.std.proofs.Common.{◌≡◌, ℕ, zero, suc, ◌+◌, ◌<◌, ◌≤◌, cond, true, false, List, [], ◌∷◌, ◌++◌, length, take, drop, map, Option, Some, None, refl, sym, ◌∙◌, ap, arith, slice_get, append_assoc, append-nil}
+use Rattle.std.specs.List.{position_from}
+use Rattle.std.proofs.lemmas.Option.{get_or_from_slice_get, slice_get_within}
+use Rattle.std.proofs.lemmas.List.{drop_all, map-append, take_all, take_more}
+use Rattle.list_laws.proofs.Elements.{drop_given}
+use Rattle.final_cond.specs.Conditions.{TermSeen}
+use Rattle.arch_trait.specs.declared.step.Step.{Step}
+use Rattle.arch_trait.specs.Threads.{Puts, ThreadCode, compiled}
+use Rattle.test_laws.specs.TestOf.{load_terms, thread_terms}
+use Rattle.test_laws.proofs.Terms.{load_terms_more}
+use Rattle.test_maker.specs.Refusals.{is_crowded}
+
+-- a test of which the first k threads are made
+pub record Grown (a : Puts) (name : ℕ → List ℕ) (all : List (List Step)) (k : ℕ) (codes : List ThreadCode) (terms terms' : List TermSeen) : Type 0 where
+  pub fitting : position_from (is_crowded a) k (drop k all) ≡ position_from (is_crowded a) 0 all
+  pub codes_are : codes ≡ map (compiled a) (take k all)
+  pub terms_are : terms' ≡ terms ++ load_terms a name 0 (take k all)
+
+-- no thread is made so far
+pub grown_none : (a : Puts) (name : ℕ → List ℕ) (all : List (List Step)) (codes : List ThreadCode) (terms : List TermSeen) → codes ≡ [] → Grown a name all 0 codes terms terms
+grown_none a name all codes terms none = record { fitting = refl; codes_are = none; terms_are = sym (append-nil terms) }
+
+-- one more thread
+pub grown_more : (a : Puts) (name : ℕ → List ℕ) (all : List (List Step)) (k : ℕ) (steps : List Step) (codes codes' : List ThreadCode) (terms terms' terms'' : List TermSeen)
+    → Grown a name all k codes terms terms' → slice_get all k ≡ Some steps → is_crowded a steps ≡ false
+    → codes' ≡ codes ++ compiled a steps ∷ [] → terms'' ≡ terms' ++ thread_terms a name k steps → Grown a name all (k + 1) codes' terms terms''
+grown_more a name all k steps codes codes' terms terms' terms'' g got room more more_terms = record {
+  fitting =
+      sym (ap (λ b. cond b (Some k) (position_from (is_crowded a) (k + 1) (drop (k + 1) all))) room) ∙
+      sym (ap (position_from (is_crowded a) k) (drop_given all k steps got)) ∙ g.fitting;
+  codes_are =
+      more ∙ ap (λ codes. codes ++ compiled a steps ∷ []) g.codes_are ∙ sym (map-append (compiled a) (take k all) (steps ∷ [])) ∙
+      ap (map (compiled a)) (sym taken);
+  terms_are =
+      more_terms ∙ ap (λ ts. ts ++ thread_terms a name k steps) g.terms_are ∙ append_assoc terms (load_terms a name 0 (take k all)) (thread_terms a name k steps) ∙
+      ap (λ ts. terms ++ ts) (sym (load_terms_more a name all k steps below ∙ ap (λ s. load_terms a name 0 (take k all) ++ thread_terms a name k s) (get_or_from_slice_get all k steps steps got)));
+}
+  where
+    below : k < length all
+    below = slice_get_within all k steps got
+
+    taken : take (k + 1) all ≡ take k all ++ steps ∷ []
+    taken = take_more all k steps below ∙ ap (λ y. take k all ++ y ∷ []) (get_or_from_slice_get all k steps steps got)
+
+-- a thread that needs too many registers is the first such
+pub grown_refused : (a : Puts) (name : ℕ → List ℕ) (all : List (List Step)) (k : ℕ) (steps : List Step) (codes : List ThreadCode) (terms terms' : List TermSeen)
+    → Grown a name all k codes terms terms' → slice_get all k ≡ Some steps → is_crowded a steps ≡ true → position_from (is_crowded a) 0 all ≡ Some k
+grown_refused a name all k steps codes terms terms' g got crowded =
+    sym g.fitting ∙ ap (position_from (is_crowded a) k) (drop_given all k steps got) ∙
+    ap (λ b. cond b (Some k) (position_from (is_crowded a) (k + 1) (drop (k + 1) all))) crowded
+
+-- all threads are made
+pub record GrownAll (a : Puts) (name : ℕ → List ℕ) (all : List (List Step)) (codes : List ThreadCode) (terms terms' : List TermSeen) : Type 0 where
+  pub fitting : position_from (is_crowded a) 0 all ≡ None
+  pub codes_are : codes ≡ map (compiled a) all
+  pub terms_are : terms' ≡ terms ++ load_terms a name 0 all
+
+pub grown_all : (a : Puts) (name : ℕ → List ℕ) (all : List (List Step)) (k : ℕ) (codes : List ThreadCode) (terms terms' : List TermSeen)
+    → Grown a name all k codes terms terms' → length all ≤ k → GrownAll a name all codes terms terms'
+grown_all a name all k codes terms terms' g h = record {
+  fitting = sym g.fitting ∙ ap (position_from (is_crowded a) k) (drop_all k all h);
+  codes_are = g.codes_are ∙ ap (map (compiled a)) (take_all k all h);
+  terms_are = g.terms_are ∙ ap (λ steps. terms ++ load_terms a name 0 steps) (take_all k all h);
+}

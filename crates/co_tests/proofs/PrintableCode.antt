@@ -1,0 +1,97 @@
+-- Code that is well formed can be printed.
+use Rattle.std.proofs.Common.{◌≡◌, ℕ, zero, suc, ◌+◌, ◌<◌, ◌≤◌, ◌==◌, Bool, true, false, ◌||◌, List, [], ◌∷◌, length, Some, refl, sym, ap, ◌∙◌, arith, nat_lt, slice_get, subst}
+use Rattle.std.specs.List.{list_all, range_with_len}
+use Rattle.std.proofs.lemmas.Bool.{and_parts, and_from, lt-ltb, eqb-true}
+use Rattle.list_laws.proofs.Cases.{by_test}
+use Rattle.micro_ops.specs.declared.operation.Micro.{Micro}
+use Rattle.micro_ops.specs.declared.operation.Micro.TheVariants as ops
+use Rattle.micro_ops.specs.Running.{labels_of, lands, occurs}
+use Rattle.arch_trait.specs.declared.code.Code.{Code}
+use Rattle.arch_trait.specs.declared.step.Step.{Step}
+use Rattle.arch_trait.specs.Codes.{IsFormedCode, is_within, thread_code_of}
+use Rattle.arch_trait.specs.Laws.{InOrder}
+use Rattle.arch_trait.specs.Threads.{Puts, branches_in, visits}
+use Rattle.arch_trait.specs.Writing.{label_below, place_below}
+use Rattle.arch_laws.proofs.TakingLaws.{in_order_le}
+use Rattle.litmus_text.specs.Tests.{IsPrintable}
+
+-- the accesses are at places below a number
+abbrev pub ArePlaced : ℕ → List Step → Type 0
+ArePlaced n ss = (j : ℕ) (s : Step) → slice_get ss j ≡ Some s → s.place < n
+
+visited_below : (n : ℕ) (ss : List Step) (q : ℕ) → ArePlaced n ss → visits q ss ≡ true → nat_lt q n ≡ true
+visited_below n [] q placed v = cc v
+visited_below n (s ∷ ss) q placed v =
+    by_test (s.place == q)
+    (λ e. subst (λ p. nat_lt p n ≡ true) (eqb-true s.place q e) (lt-ltb s.place n (placed 0 s refl)))
+    (λ e. visited_below n ss q (λ j t g. placed (suc j) t g) (sym (ap (λ b. b || visits q ss) e) ∙ v))
+
+-- an operation at a visited place is at one below the number
+op_placed : (n : ℕ) (ss : List Step) (op : Micro) → ArePlaced n ss → is_within ss op ≡ true → place_below n op ≡ true
+op_placed n ss (ops.LoadAt _ q) placed h = visited_below n ss q placed h
+op_placed n ss (ops.StoreAt q _) placed h = visited_below n ss q placed h
+op_placed n ss op placed h = refl
+
+ops_placed : (n : ℕ) (ss : List Step) (code : List Micro) → ArePlaced n ss → list_all (is_within ss) code ≡ true → list_all (place_below n) code ≡ true
+ops_placed n ss [] placed h = refl
+ops_placed n ss (op ∷ code) placed h =
+    let parts = and_parts (is_within ss op) (list_all (is_within ss) code) h in
+    and_from (place_below n op) (list_all (place_below n) code) (op_placed n ss op placed parts.0) (ops_placed n ss code placed parts.1)
+
+links_placed : (n : ℕ) (ss : List Step) (links : List (ℕ × ℕ)) → ArePlaced n ss → list_all (λ (link : ℕ × ℕ). visits link.1 ss) links ≡ true → list_all (λ (link : ℕ × ℕ). nat_lt link.1 n) links ≡ true
+links_placed n ss [] placed h = refl
+links_placed n ss (link ∷ links) placed h =
+    let parts = and_parts (visits link.1 ss) (list_all (λ (l : ℕ × ℕ). visits l.1 ss) links) h in
+    and_from (nat_lt link.1 n) (list_all (λ (l : ℕ × ℕ). nat_lt l.1 n) links) (visited_below n ss link.1 placed parts.0) (links_placed n ss links placed parts.1)
+
+registers_below : (low : ℕ) (links : List (ℕ × ℕ)) (high : ℕ) → InOrder low links high → list_all (λ (link : ℕ × ℕ). nat_lt link.0 high) links ≡ true
+registers_below low [] high h = refl
+registers_below low (link ∷ links) high h =
+    let rest = in_order_le (link.0 + 1) links high h.1 in
+    and_from (nat_lt link.0 high) (list_all (λ (l : ℕ × ℕ). nat_lt l.0 high) links) (lt-ltb link.0 high (omega (arith, rest))) (registers_below (link.0 + 1) links high h.1)
+
+-- labels below a number
+abbrev pub labels_below : ℕ → List Micro → Bool
+labels_below n code = list_all (λ l. nat_lt l n) (labels_of code)
+
+-- a label that occurs in code is below the number
+occurs_below : (n label : ℕ) (code : List Micro) → labels_below n code ≡ true → occurs label code ≡ true → nat_lt label n ≡ true
+occurs_below n label [] h s = cc
+occurs_below n label (ops.Label k ∷ code) h s =
+    let parts = and_parts (nat_lt k n) (labels_below n code) h in
+    by_test (k == label)
+    (λ e. subst (λ l. nat_lt l n ≡ true) (eqb-true k label e) parts.0)
+    (λ e. occurs_below n label code parts.1 (sym (ap (λ b. b || occurs label code) e) ∙ s))
+occurs_below n label (op ∷ code) h s = occurs_below n label code h s
+
+-- code whose branches land names none but labels below the number
+lands_below : (n : ℕ) (code : List Micro) → labels_below n code ≡ true → lands code ≡ true → list_all (label_below n) code ≡ true
+lands_below n [] h l = refl
+lands_below n (ops.Label k ∷ code) h l =
+    let parts = and_parts (nat_lt k n) (labels_below n code) h in
+    and_from (nat_lt k n) (list_all (label_below n) code) parts.0 (lands_below n code parts.1 l)
+lands_below n (ops.BranchEq k ∷ code) h l =
+    let parts = and_parts (occurs k code) (lands code) l in
+    and_from (nat_lt k n) (list_all (label_below n) code) (occurs_below n k code h parts.0) (lands_below n code h parts.1)
+lands_below n (ops.BranchNz _ k ∷ code) h l =
+    let parts = and_parts (occurs k code) (lands code) l in
+    and_from (nat_lt k n) (list_all (label_below n) code) (occurs_below n k code h parts.0) (lands_below n code h parts.1)
+lands_below n (op ∷ code) h l = lands_below n code h l
+
+range_below : (low count high : ℕ) → low + count ≤ high → list_all (λ l. nat_lt l high) (range_with_len low count) ≡ true
+range_below low zero high h = refl
+range_below low (suc count) high h =
+    and_from (nat_lt low high) (list_all (λ l. nat_lt l high) (range_with_len (low + 1) count)) (lt-ltb low high (omega (arith, h))) (range_below (low + 1) count high (omega (arith, h)))
+
+-- the code of a thread that is well formed, has few branches and visits places below a number can be printed
+pub formed_printable : (a : Puts) (n : ℕ) (ss : List Step) (code : Code) → IsFormedCode a ss (thread_code_of code) → branches_in ss ≤ 64 → ArePlaced n ss → IsPrintable a.has a.registers n code
+formed_printable a n ss code formed few placed =
+    let labels : labels_below 64 code.instrs.items ≡ true =
+    ap (list_all (λ l. nat_lt l 64)) formed.labels ∙ range_below 0 (branches_in ss) 64 (omega (arith, few)) in
+    record {
+      has = formed.has;
+      op_places = ops_placed n ss code.instrs.items placed formed.places;
+      op_labels = lands_below 64 code.instrs.items labels formed.jumps;
+      link_registers = registers_below 0 code.links.items a.registers formed.links;
+      link_places = links_placed n ss code.links.items placed formed.addresses;
+    }

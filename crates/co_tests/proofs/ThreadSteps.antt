@@ -1,0 +1,84 @@
+-- The threads of a coherence test, and the accesses of one of them so far.
+use Rattle.std.proofs.Common.{◌≡◌, ℕ, zero, suc, ◌+◌, ◌<◌, ◌≤◌, ◌==◌, Bool, true, false, List, [], ◌∷◌, ◌++◌, length, map, Some, sym, ◌∙◌, ap, arith, slice_get, eq-eqb, ne_eqb, refl}
+use Rattle.std.proofs.lemmas.List.{length-map, map-append}
+use Rattle.std.specs.List.{filter}
+use Rattle.list_laws.specs.Numbers.{upto}
+use Rattle.list_laws.proofs.Cases.{by_less}
+use Rattle.list_laws.proofs.Counts.{count_upto-le}
+use Rattle.list_laws.proofs.Ranks.{filter_no, filter_yes, filter_upto_no, length-filter-upto}
+use Rattle.relax_edges.specs.declared.kinds.ObsMode.TheVariants.{Avoid}
+use Rattle.relax_edges.specs.declared.edge.Edge.{Edge}
+use Rattle.relax_edges.specs.EdgeTable.{is_external}
+use Rattle.resolution_laws.specs.Resolution.{edge_at, events_in, external_count, thread_of}
+use Rattle.resolution_laws.proofs.Threads.{thread_end, thread_out, thread_up}
+use Rattle.arch_trait.specs.declared.step.Step.{Step}
+use Rattle.test_laws.specs.CycleSteps.{event_step, thread_steps}
+use Rattle.test_laws.specs.TestOf.{plain}
+use Rattle.test_laws.proofs.StepsAt.{steps-count, thread_steps_at}
+use Rattle.co_tests_laws.specs.CutResolution.{cut_open}
+use Rattle.co_tests_laws.specs.CoherenceTests.{coherence_steps}
+use Rattle.co_tests_laws.proofs.Opened.{opened-threads, opened_events}
+use Rattle.co_tests_laws.proofs.Events.{none_observed}
+
+-- the accesses of a thread among the first events
+abbrev pub steps_so_far : List Edge → ℕ → ℕ → List Step
+steps_so_far es thread i = map (event_step (cut_open es) plain) (filter (λ j. thread_of es j == thread) (upto i))
+
+-- with one event more, which is in the thread
+pub one_more : (es : List Edge) (thread i : ℕ) (steps : List Step) → steps ≡ steps_so_far es thread i → thread ≡ thread_of es i
+    → steps ++ event_step (cut_open es) plain i ∷ [] ≡ steps_so_far es thread (i + 1)
+one_more es thread i steps e h =
+    let f = event_step (cut_open es) plain in
+    let p : ℕ → Bool = λ j. thread_of es j == thread in
+    ap (λ ys. ys ++ f i ∷ []) e ∙ sym (map-append f (filter p (upto i)) (i ∷ [])) ∙
+    ap (map f) (sym (filter_yes p i (eq-eqb (thread_of es i) thread (sym h))))
+
+-- no number below k passes
+filter_none : (p : ℕ → Bool) (k : ℕ) → ((j : ℕ) → j < k → p j ≡ false) → filter p (upto k) ≡ []
+filter_none p zero h = refl
+filter_none p (suc k) h = filter_upto_no p k (h k (omega arith)) ∙ filter_none p k (λ j l. h j (omega (arith, l)))
+
+-- no number from m on passes
+filter_until : (p : ℕ → Bool) (m n : ℕ) → m ≤ n → ((j : ℕ) → m ≤ j → j < n → p j ≡ false) → filter p (upto n) ≡ filter p (upto m)
+filter_until p m zero h after = let e : zero ≡ m = omega (arith, h) in ap (λ x. filter p (upto x)) e
+filter_until p m (suc n) h after =
+    by_less m (suc n)
+    (λ l. filter_upto_no p n (after n (omega (arith, l)) (omega arith)) ∙ filter_until p m n (omega (arith, l)) (λ j g b. after j g (omega (arith, b))))
+    (λ g. let e : suc n ≡ m = omega (arith, g, h) in ap (λ x. filter p (upto x)) e)
+
+-- of the next thread there is none yet
+pub none_yet : (es : List Edge) (i : ℕ) → i < length es → is_external (edge_at es i) ≡ true → [] ≡ steps_so_far es (thread_of es i + 1) (i + 1)
+none_yet es i h e =
+    let p : ℕ → Bool = λ j. thread_of es j == (thread_of es i + 1) in
+    ap (map (event_step (cut_open es) plain))
+    (sym (filter_none p (i + 1) (λ j l. ne_eqb (thread_of es j) (thread_of es i + 1) (λ q. omega (arith, q, thread_up es j i (omega (arith, l)) (omega (arith, h)))))))
+
+-- an external edge ends the thread: its accesses are all
+pub thread_whole : (es : List Edge) (thread i : ℕ) (steps : List Step) → i < length es → is_external (edge_at es i) ≡ true → thread ≡ thread_of es i
+    → steps ≡ steps_so_far es thread (i + 1) → thread < external_count es → slice_get (coherence_steps es) thread ≡ Some steps
+unfolding events_in
+thread_whole es thread i steps h e t s l =
+    thread_steps_at (cut_open es) Avoid plain thread (omega (arith, l, opened-threads es)) ∙ ap Some (sym whole)
+  where
+    f : ℕ → Step
+    f = event_step (cut_open es) plain
+
+    whole : steps ≡ thread_steps (cut_open es) plain thread
+    whole =
+        s ∙ ap (map f) (sym (filter_until (λ j. thread_of es j == thread) (i + 1) (length es) (omega (arith, h))
+        (λ j g b. ne_eqb (thread_of es j) thread (λ q. omega (arith, q, t, thread_out es i h e, thread_up es (i + 1) j g (omega (arith, b)))))))
+        ∙ ap (map f) (sym (opened_events es thread))
+
+-- a thread of an event before an external edge
+pub thread_within : (es : List Edge) (i : ℕ) → i < length es → is_external (edge_at es i) ≡ true → thread_of es i < external_count es
+thread_within es i h e = omega (arith, thread_out es i h e, thread_up es (i + 1) (length es) (omega (arith, h)) (omega arith), thread_end es)
+
+-- there are as many threads as external edges
+pub threads_count : (es : List Edge) → length (coherence_steps es) ≡ external_count es
+threads_count es = omega (arith, steps-count (cut_open es) Avoid plain, opened-threads es, ap length (none_observed (cut_open es)))
+
+-- the accesses so far are no more than the events so far
+pub steps_most : (es : List Edge) (thread i : ℕ) (steps : List Step) → steps ≡ steps_so_far es thread i → length steps ≤ i
+steps_most es thread i steps e =
+    let p : ℕ → Bool = λ j. thread_of es j == thread in
+    omega (arith, ap length e, length-map (filter p (upto i)) (event_step (cut_open es) plain), length-filter-upto p i, count_upto-le p i)

@@ -1,0 +1,20 @@
+-- The loop of `put_load_terms`: the terms so far and those that are left, and that there is room for them.
+use Rattle.std.proofs.Common.{◌≡◌, ◌+◌, ◌≤◌, ◌++◌, length, map, drop}
+use Rattle.std.specs.List.{zip}
+use Rattle.arrayvec.specs.ArrayVec.{array_vec_len}
+use Rattle.final_cond.specs.Conditions.{term_view}
+use Rattle.arch_trait.specs.Writing.{name_in}
+use Rattle.arch_trait.specs.Codes.{AllBelow}
+use Rattle.test_laws.specs.CycleSteps.{numbers_read}
+use Rattle.test_laws.specs.TestOf.{load_term}
+use Rattle.co_tests.proofs.condition.put_load_terms.Given as goal
+
+abbrev pub invariant-loop-step : goal.invariant-loop-step
+invariant-loop-step g l = record {
+  terms :
+      map term_view l.terms.items ++ map (load_term (name_in g.A.Arch.writing.registers) l.thread) (zip l.left (numbers_read (drop l.step-index l.steps))) ≡
+      map term_view l.fn.terms.items ++ map (load_term (name_in g.A.Arch.writing.registers) l.thread) (zip l.fn.loads (numbers_read l.steps));
+  loads : length l.left ≡ length (numbers_read (drop l.step-index l.steps));
+  registers : AllBelow g.A.Arch.puts.registers l.left;
+  room : array_vec_len l.terms + length l.left ≤ 128;
+}

@@ -1,0 +1,27 @@
+-- That `link_into` gives the link of the cut resolution.
+use Rattle.std.proofs.Common.{◌≡◌, ◌+◌, ◌-◌, ℕ, arith, sym, ap, ◌∙◌, length}
+use Rattle.resolution_laws.specs.Resolution.{slot_of}
+use Rattle.resolution_laws.proofs.Threads.{slot-zero, slot_in, slot_out}
+use Rattle.test_laws.proofs.StepsFit.{link_first}
+use Rattle.co_tests_laws.proofs.Opened.{opened_link}
+use Rattle.co_tests.proofs.Cuts.{link_inside}
+use Rattle.co_tests.proofs.steps.link_into.Goals as goal
+use Rattle.co_tests.proofs.steps.link_into.Goals.{then-i-eq0-via-then-i-eq0, then-i-eq0-via-else-i-eq0+then-is_external}
+
+pub returns-then-i-eq0 : goal.returns-then-i-eq0
+returns-then-i-eq0 c =
+    let es = c.args.edges.now in
+    elim c.then-i-eq0.branch [
+      | then-i-eq0-via-then-i-eq0 w ↦
+          let zero_is : 0 ≡ c.args.i = omega (arith, w.if-i-eq0.true) in
+          sym (opened_link es c.args.i ∙ link_first es c.args.i (sym (ap (slot_of es) zero_is) ∙ slot-zero es))
+      | then-i-eq0-via-else-i-eq0+then-is_external w ↦
+          let next : c.args.i - 1 + 1 ≡ c.args.i = omega (arith, w.if-i-eq0.false) in
+          sym (opened_link es c.args.i ∙ link_first es c.args.i (sym (ap (slot_of es) next)
+          ∙ slot_out es (c.args.i - 1) (omega (arith, w.if-i-eq0.false)) (sym w.is_external.ensures ∙ w.if-is_external.true)))
+    ]
+
+pub returns : goal.returns
+returns c =
+    let es = c.args.edges.now in
+    c.link_of.ensures ∙ sym (opened_link es c.args.i ∙ link_inside es c.args.i (omega (arith, c.if-i-eq0.false)) c.requires (sym c.is_external.ensures ∙ c.if-is_external.false))

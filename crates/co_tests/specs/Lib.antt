@@ -1,0 +1,4 @@
+pub mod Made
+pub mod Shape
+pub mod Terms
+pub mod Threads

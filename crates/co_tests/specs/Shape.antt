@@ -1,0 +1,18 @@
+-- Of which cycles the code makes coherence tests: for clauses of private functions.
+use Rattle.std.specs.Prelude.{ℕ, ◌≡◌, ◌≤◌, true, false, List}
+use Rattle.std.specs.List.{list_any}
+use Rattle.relax_edges.specs.declared.edge.Edge.{Edge}
+use Rattle.relax_edges.specs.EdgeTable.{is_diff}
+use Rattle.cycle_laws.specs.Composable.{IsCycle}
+use Rattle.resolution_laws.specs.Resolution.{ends_outside, external_count}
+use Rattle.co_tests_laws.specs.CutResolution.{is_ordering}
+use Rattle.co_tests_laws.specs.CoherenceTests.{writes_in}
+
+-- a turned cycle is over one location and has a cut and at most two writes
+pub record HasShape (es : List Edge) : Type 0 where
+  pub composes : IsCycle es
+  pub outside : ends_outside es ≡ true
+  pub threads : 2 ≤ external_count es
+  pub one_location : list_any is_diff es ≡ false
+  pub has_cut : list_any is_ordering es ≡ true
+  pub few_writes : writes_in es ≤ 2

@@ -1,0 +1,33 @@
+-- How a coherence test grows thread by thread: for clauses of private functions.
+use Rattle.std.specs.Prelude.{ℕ, ◌≡◌, true, false, List, [], ◌∷◌, ◌++◌, map, Some, None, Result, Ok, Err}
+use Rattle.arrayvec.specs.ArrayVec.{ArrayVec}
+use Rattle.relax_edges.specs.declared.edge.Edge.{Edge}
+use Rattle.final_cond.specs.declared.cond.Cond.{Cond}
+use Rattle.final_cond.specs.Conditions.{term_view}
+use Rattle.arch_trait.specs.declared.code.Code.{Code}
+use Rattle.arch_trait.specs.declared.step.Step.{Step}
+use Rattle.arch_trait.specs.Codes.{thread_code_of}
+use Rattle.arch_trait.specs.Threads.{Puts, compiled}
+use Rattle.test_laws.specs.TestOf.{load_terms, thread_terms}
+use Rattle.test_maker.specs.Refusals.{is_crowded}
+use Rattle.co_tests_laws.specs.declared.refusal.CoRefusal.{CoRefusal}
+use Rattle.co_tests_laws.specs.declared.refusal.CoRefusal.TheVariants.{TooManyRegisters}
+use Rattle.co_tests_laws.specs.CoherenceTests.{coherence_steps}
+use Rattle.co_tests_laws.specs.CoRefusals.{crowded_thread}
+
+-- a call makes the code of a thread after those before it and appends the terms of its loads, or refuses the thread for its registers
+abbrev pub PutsThread : Puts → (ℕ → List ℕ) → ℕ → List Step → ArrayVec Code → ArrayVec Code → Cond → Cond → Result (Unit {0}) CoRefusal → Type 0
+PutsThread a register_name thread steps threads threads' cond cond' (Ok _) =
+    (is_crowded a steps ≡ false) ×
+    (map thread_code_of threads'.items ≡ map thread_code_of threads.items ++ compiled a steps ∷ []) ×
+    (cond'.quantifier ≡ cond.quantifier) × (map term_view cond'.terms.items ≡ map term_view cond.terms.items ++ thread_terms a register_name thread steps)
+PutsThread a register_name thread steps threads threads' cond cond' (Err refusal) =
+    (is_crowded a steps ≡ true) × (refusal ≡ TooManyRegisters thread)
+
+-- a call makes the code of all threads and appends the terms of their loads, or refuses the first for its registers
+abbrev pub PutsThreads : Puts → (ℕ → List ℕ) → List Edge → ArrayVec Code → Cond → Cond → Result (Unit {0}) CoRefusal → Type 0
+PutsThreads a register_name es threads cond cond' (Ok _) =
+    (crowded_thread a es ≡ None) × (map thread_code_of threads.items ≡ map (compiled a) (coherence_steps es)) ×
+    (cond'.quantifier ≡ cond.quantifier) ×
+    (map term_view cond'.terms.items ≡ map term_view cond.terms.items ++ load_terms a register_name 0 (coherence_steps es))
+PutsThreads a register_name es threads cond cond' (Err refusal) = crowded_thread a es ≡ Some refusal

@@ -1,0 +1,11 @@
+//! Coherence tests: the tests of edges at one location, which no coherent execution meets.
+#![tactic(auto)]
+
+mod condition;
+mod maker;
+mod shape;
+mod steps;
+mod threads;
+
+pub use co_tests_laws::CoRefusal;
+pub use maker::{co_test, co_test_into};

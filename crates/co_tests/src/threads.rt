@@ -1,0 +1,70 @@
+ghost use Rattle.std.specs.Prelude.{◌≡◌, ◌<◌, ◌≤◌, ◌+◌, false, length, map, Some};
+ghost use Rattle.arrayvec.specs.ArrayVec.{array_vec_len};
+ghost use Rattle.arch_trait.specs.Threads.{FitSteps};
+ghost use Rattle.arch_trait.specs.Writing.{name_in};
+ghost use Rattle.test_laws.specs.CycleSteps.{numbers_read};
+ghost use Rattle.test_maker.specs.Made.{AreOfArch};
+ghost use Rattle.co_tests_laws.specs.CutResolution.{cut_of};
+ghost use Rattle.co_tests.specs.Shape.{HasShape};
+ghost use Rattle.co_tests.specs.Threads.{PutsThread, PutsThreads};
+
+use crate::condition::put_load_terms;
+use crate::steps::step_of;
+use arch_trait::{Arch, MAX_STEPS, Step, ThreadCodes};
+use arrayvec::ArrayVec;
+use co_tests_laws::CoRefusal;
+use final_cond::{Cond, MAX_TERMS};
+use relax_edges::{Edge, MAX_EDGES};
+
+/// Makes `threads` the code of the threads of a cycle at one location that is cut at an edge, and
+/// appends what their loads read to the condition. The threads that were there don't count.
+pub fn put_threads<A: Arch>(
+    edges: &[Edge],
+    cut: usize,
+    threads: &mut ThreadCodes,
+    cond: &mut Cond,
+) -> Result<(), CoRefusal>
+    requires shape { HasShape edges.now }
+    requires of_arch { AreOfArch A.puts edges.now }
+    requires cut { cut_of edges.now ≡ Some cut }
+    requires room { array_vec_len cond.old.terms ≤ 1 }
+    ensures { PutsThreads A.puts (name_in A.writing.registers) edges.now threads.new cond.old cond.new result }
+{
+    let mut steps: ArrayVec<Step, MAX_EDGES> = ArrayVec::new();
+    let mut thread = 0;
+    threads.clear();
+    for (i, edge) in edges.iter().enumerate() {
+        steps.push(step_of(edges, cut, i));
+        if edge.is_external() {
+            match put_thread::<A>(thread, steps.as_slice(), threads, cond) {
+                Ok(()) => {}
+                Err(refusal) => return Err(refusal),
+            }
+            thread += 1;
+            steps.clear();
+        }
+    }
+    Ok(())
+}
+
+/// Makes the code of the next thread.
+fn put_thread<A: Arch>(
+    thread: u8,
+    steps: &[Step],
+    threads: &mut ThreadCodes,
+    cond: &mut Cond,
+) -> Result<(), CoRefusal>
+    requires fit { FitSteps A.puts.name false steps.now }
+    requires few { length steps.now ≤ MAX_STEPS }
+    requires room { array_vec_len threads.old < MAX_EDGES }
+    requires terms_room { array_vec_len cond.old.terms + length (numbers_read steps.now) ≤ MAX_TERMS }
+    ensures { PutsThread A.puts (name_in A.writing.registers) thread steps.now threads.old threads.new cond.old cond.new result }
+{
+    match threads.compile_next::<A>(steps) {
+        Ok(()) => {
+            put_load_terms::<A>(thread, steps, threads.last_loads(), &mut cond.terms);
+            Ok(())
+        }
+        Err(_) => Err(CoRefusal::TooManyRegisters { thread }),
+    }
+}

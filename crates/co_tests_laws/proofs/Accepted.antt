@@ -1,0 +1,102 @@
+-- A cycle that isn't refused has a coherence test, once it is turned so that its last edge leads to another thread.
+use Rattle.std.proofs.Common.{◌≡◌, ℕ, ◌+◌, ◌≤◌, Bool, true, false, not, cond, List, ◌++◌, drop, take, Option, Some, None, refl, sym, ◌∙◌, ap, subst, arith}
+use Rattle.std.specs.Prelude.{◌||◌, nat_lt, count_by}
+use Rattle.std.specs.List.{list_all, list_any, position_from}
+use Rattle.std.specs.Option.{option_map, option_or}
+use Rattle.std.proofs.Math.Bool.{and_comm}
+use Rattle.std.proofs.lemmas.Bool.{ltb-false}
+use Rattle.std.proofs.lemmas.List.{take-append-drop}
+use Rattle.std.proofs.lemmas.List.Folds.{list_all-append, list_any-append}
+use Rattle.std.proofs.lemmas.List.Sums.{sum_by-append}
+use Rattle.list_laws.proofs.Places.{none_foreign}
+use Rattle.relax_edges.specs.declared.edge.Edge.{Edge}
+use Rattle.relax_edges.specs.EdgeTable.{is_diff, is_of_arch}
+use Rattle.cycle_laws.specs.Composable.{IsCycle}
+use Rattle.cycle_laws.specs.Rotation.{rotated}
+use Rattle.cycle_laws.proofs.Composing.{rotated_cycle}
+use Rattle.resolution_laws.specs.Resolution.{external_count, turned}
+use Rattle.resolution_laws.proofs.Turning.{turn_of, external_count-rotated}
+use Rattle.arch_trait.specs.Threads.{Puts}
+use Rattle.test_maker.specs.Refusals.{is_crowded}
+use Rattle.test_laws.proofs.Headline.{room_left}
+use Rattle.co_tests_laws.specs.declared.refusal.CoRefusal.{CoRefusal}
+use Rattle.co_tests_laws.specs.declared.refusal.CoRefusal.TheVariants.{NotOfArch, TooFewThreads, NotCoherence, ManyWrites, TooManyRegisters}
+use Rattle.co_tests_laws.specs.CutResolution.{is_ordering}
+use Rattle.co_tests_laws.specs.CoherenceTests.{HasCoherenceTest, writes_in, coherence_steps}
+use Rattle.co_tests_laws.specs.CoRefusals.{foreign_edge, reason_if, is_no_coherence, crowded_thread, coherence_refusal_of}
+use Rattle.co_tests_laws.specs.Incoherence.{AcceptedHaveTests}
+use Rattle.co_tests_laws.proofs.Values.{leaves_write}
+
+-- where neither of two reasons holds
+neither : (a b : Option CoRefusal) → option_or a b ≡ None → (a ≡ None) × (b ≡ None)
+neither None b h = (refl, h)
+neither (Some reason) b h = cc
+
+no_reason : (b : Bool) (reason : CoRefusal) → reason_if b reason ≡ None → b ≡ false
+no_reason true reason h = cc
+no_reason false reason h = refl
+
+none_found : (f : ℕ → CoRefusal) (found : Option ℕ) → option_map f found ≡ None → found ≡ None
+none_found f None e = refl
+none_found f (Some at) e = cc
+
+neither_true : (a b : Bool) → (a || b) ≡ false → (a ≡ false) × (b ≡ false)
+neither_true true b h = cc
+neither_true false b h = (refl, h)
+
+is_true : (b : Bool) → not b ≡ false → b ≡ true
+is_true true h = refl
+is_true false h = cc
+
+either_way : (a b : Bool) → (a || b) ≡ (b || a)
+either_way true true = refl
+either_way true false = refl
+either_way false true = refl
+either_way false false = refl
+
+-- a rotation has the edges of the list
+any_rotated : (p : Edge → Bool) (k : ℕ) (es : List Edge) → list_any p (rotated k es) ≡ list_any p es
+any_rotated p k es =
+    list_any-append p (drop k es) (take k es)
+    ∙ either_way (list_any p (drop k es)) (list_any p (take k es))
+    ∙ sym (list_any-append p (take k es) (drop k es))
+    ∙ ap (list_any p) (take-append-drop k es)
+
+all_rotated : (p : Edge → Bool) (k : ℕ) (es : List Edge) → list_all p (rotated k es) ≡ list_all p es
+all_rotated p k es =
+    list_all-append p (drop k es) (take k es)
+    ∙ and_comm (list_all p (drop k es)) (list_all p (take k es))
+    ∙ sym (list_all-append p (take k es) (drop k es))
+    ∙ ap (list_all p) (take-append-drop k es)
+
+writes_rotated : (k : ℕ) (es : List Edge) → writes_in (rotated k es) ≡ writes_in es
+writes_rotated k es =
+    let one : Edge → ℕ = λ e. cond {A = ℕ} (leaves_write e) 1 0 in
+    let a = sum_by-append one (drop k es) (take k es) in
+    let b = sum_by-append one (take k es) (drop k es) in
+    let c : writes_in (take k es ++ drop k es) ≡ writes_in es = ap writes_in (take-append-drop k es) in
+    omega (arith, a, b, c)
+
+-- a cycle that isn't refused has a coherence test, once it is turned
+pub accepted_has_test : (a : Puts) → AcceptedHaveTests a
+accepted_has_test a cycle whole h =
+    let first = neither (foreign_edge a.name cycle) (option_or (reason_if (nat_lt (external_count cycle) 2) TooFewThreads) (option_or (reason_if (is_no_coherence cycle) NotCoherence) (option_or (reason_if (nat_lt 2 (writes_in cycle)) ManyWrites) (crowded_thread a (turned cycle))))) h in
+    let second = neither (reason_if (nat_lt (external_count cycle) 2) TooFewThreads) (option_or (reason_if (is_no_coherence cycle) NotCoherence) (option_or (reason_if (nat_lt 2 (writes_in cycle)) ManyWrites) (crowded_thread a (turned cycle)))) first.1 in
+    let third = neither (reason_if (is_no_coherence cycle) NotCoherence) (option_or (reason_if (nat_lt 2 (writes_in cycle)) ManyWrites) (crowded_thread a (turned cycle))) second.1 in
+    let fourth = neither (reason_if (nat_lt 2 (writes_in cycle)) ManyWrites) (crowded_thread a (turned cycle)) third.1 in
+    let threads : 2 ≤ external_count cycle = ltb-false (external_count cycle) 2 (no_reason (nat_lt (external_count cycle) 2) TooFewThreads second.0) in
+    let coherence = neither_true (list_any is_diff cycle) (not (list_any is_ordering cycle)) (no_reason (is_no_coherence cycle) NotCoherence third.0) in
+    let few : writes_in cycle ≤ 2 = ltb-false 2 (writes_in cycle) (no_reason (nat_lt 2 (writes_in cycle)) ManyWrites fourth.0) in
+    let t = turn_of cycle (omega (arith, threads)) in
+    let turn : turned cycle ≡ rotated t.0 cycle = t.2.turn in
+    let of_arch : list_all (λ e. is_of_arch e a.name) cycle ≡ true = none_foreign (λ e. is_of_arch e a.name) cycle 0 (none_found (λ at. NotOfArch at) (position_from (λ e. not (is_of_arch e a.name)) 0 cycle) first.0) in
+    record {
+      composes = subst IsCycle (sym turn) (rotated_cycle t.0 cycle whole);
+      outside = t.2.outside;
+      threads = subst (λ fs. 2 ≤ external_count fs) (sym turn) (subst (λ n. 2 ≤ n) (sym (external_count-rotated t.0 cycle)) threads);
+      of_arch = ap (list_all (λ e. is_of_arch e a.name)) turn ∙ all_rotated (λ e. is_of_arch e a.name) t.0 cycle ∙ of_arch;
+      one_location = ap (list_any is_diff) turn ∙ any_rotated is_diff t.0 cycle ∙ coherence.0;
+      has_cut = ap (list_any is_ordering) turn ∙ any_rotated is_ordering t.0 cycle ∙ is_true (list_any is_ordering cycle) coherence.1;
+      few_writes = subst (λ n. n ≤ 2) (sym (ap writes_in turn ∙ writes_rotated t.0 cycle)) few;
+      room = λ thread steps got. room_left a (coherence_steps (turned cycle)) thread steps (none_found (λ k. TooManyRegisters k) (position_from (is_crowded a) 0 (coherence_steps (turned cycle))) fourth.1) got;
+    }

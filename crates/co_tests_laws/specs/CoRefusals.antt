@@ -1,0 +1,51 @@
+-- Why a cycle has no coherence test: the first reason that holds; and the text of the test of one that has.
+-- Source: own, after the refusals of diy.
+use Rattle.std.specs.Prelude.{ℕ, Bool, not, ◌||◌, nat_lt, List, Option, Some, None, if◌then◌else◌}
+use Rattle.std.specs.List.{list_any, position_from}
+use Rattle.std.specs.Option.{option_map, option_or}
+use Rattle.relax_edges.specs.declared.kinds.ArchName.{ArchName}
+use Rattle.relax_edges.specs.declared.edge.Edge.{Edge}
+use Rattle.relax_edges.specs.EdgeTable.{is_diff, is_of_arch}
+use Rattle.resolution_laws.specs.Resolution.{external_count, turned}
+use Rattle.arch_trait.specs.Threads.{Puts}
+use Rattle.arch_trait.specs.Writing.{Writing, name_in}
+use Rattle.arch_trait.specs.SeenTests.{TestSeen}
+use Rattle.litmus_text.specs.TestText.{test_text}
+use Rattle.test_maker.specs.Refusals.{is_crowded}
+use Rattle.co_tests_laws.specs.declared.refusal.CoRefusal.{CoRefusal}
+use Rattle.co_tests_laws.specs.declared.refusal.CoRefusal.TheVariants.{NotOfArch, TooFewThreads, NotCoherence, ManyWrites, TooManyRegisters}
+use Rattle.co_tests_laws.specs.CutResolution.{is_ordering}
+use Rattle.co_tests_laws.specs.CoherenceTests.{writes_in, coherence_steps, coherence_test_of}
+
+-- an edge isn't of the architecture: the first such, in the list as given
+abbrev pub foreign_edge : ArchName → List Edge → Option CoRefusal
+foreign_edge arch cycle = option_map (λ at. NotOfArch at) (position_from (λ edge. not (is_of_arch edge arch)) 0 cycle)
+
+-- a reason that is there where a test passes
+abbrev pub reason_if : Bool → CoRefusal → Option CoRefusal
+reason_if b reason = if b then Some reason else None
+
+-- an edge leads to another location, or all edges in a thread are communications
+abbrev pub is_no_coherence : List Edge → Bool
+is_no_coherence cycle = list_any is_diff cycle || not (list_any is_ordering cycle)
+
+-- the first thread that needs more registers than the architecture has
+abbrev pub crowded_thread : Puts → List Edge → Option CoRefusal
+crowded_thread a es = option_map (λ thread. TooManyRegisters thread) (position_from (is_crowded a) 0 (coherence_steps es))
+
+-- the first reason why a cycle has no coherence test on the architecture
+abbrev pub coherence_refusal_of : Puts → List Edge → Option CoRefusal
+coherence_refusal_of a cycle =
+    option_or (foreign_edge a.name cycle)
+    (option_or (reason_if (nat_lt (external_count cycle) 2) TooFewThreads)
+    (option_or (reason_if (is_no_coherence cycle) NotCoherence)
+    (option_or (reason_if (nat_lt 2 (writes_in cycle)) ManyWrites)
+    (crowded_thread a (turned cycle)))))
+
+-- the coherence test of a cycle on an architecture
+abbrev pub coherence_test : Puts → Writing → List Edge → TestSeen
+coherence_test a w cycle = coherence_test_of a (name_in w.registers) (turned cycle)
+
+-- the text of the coherence test of a cycle under a name
+unfoldable pub coherence_text : Puts → Writing → List ℕ → List Edge → List ℕ
+coherence_text a w name cycle = test_text a.name w name (coherence_test a w cycle)

@@ -1,0 +1,62 @@
+-- What the bytes of a printed coherence test say: they ask for an execution that no coherent machine shows.
+-- Source: own; that coherence forbids a cycle in program order at one place, reads-from, coherence order and from-read is
+-- SC per location ('uniproc') of Alglave, Maranget and Tautschnig, 'Herding Cats', 2014.
+use Rattle.std.specs.Prelude.{◌≡◌, ℕ, List, None, Ok}
+use Rattle.relax_edges.specs.declared.kinds.ArchName.{ArchName}
+use Rattle.relax_edges.specs.declared.edge.Edge.{Edge}
+use Rattle.final_cond.specs.declared.cond.Quantifier.TheVariants.{Exists}
+use Rattle.final_cond.specs.States.{Meets}
+use Rattle.cycle_laws.specs.Composable.{IsCycle}
+use Rattle.resolution_laws.specs.Resolution.{turned}
+use Rattle.arch_trait.specs.PlaceNames.{number_in}
+use Rattle.arch_trait.specs.Threads.{Puts}
+use Rattle.arch_trait.specs.Writing.{Writing, name_in}
+use Rattle.litmus_text.specs.Printable.{IsTestName}
+use Rattle.litmus_text.specs.TestReading.{TestRead, test_read}
+use Rattle.litmus_text.specs.TestText.{test_text}
+use Rattle.program_meaning.specs.declared.WriteAt.{WriteAt}
+use Rattle.program_meaning.specs.Accesses.{Access}
+use Rattle.program_meaning.specs.Executions.{Execution}
+use Rattle.program_meaning.specs.Programs.{IsCandidate, IsCoherentIn, accesses_in}
+use Rattle.program_meaning.specs.Standing.{AllStand}
+use Rattle.coherence_laws.specs.Relations.{IsPathOfSteps}
+use Rattle.test_laws.specs.FinalStates.{final_state}
+use Rattle.printed_test_laws.specs.Readings.{program_read}
+use Rattle.co_tests_laws.specs.CoherenceTests.{HasCoherenceTest, coherence_test_of, incoherent_execution}
+use Rattle.co_tests_laws.specs.CoRefusals.{coherence_refusal_of}
+
+-- a candidate execution of a reading's program whose final state meets the condition, coherent or not
+pub record MeetsReading (w : Writing) (test : TestRead) (x : Execution) : Type 0 where
+  pub candidate : IsCandidate (program_read test) x
+  pub meets : Meets (final_state (program_read test) test.places (number_in w.registers) x) test.cond
+
+-- an access has a path back to itself of program order at one place, reads-from, coherence order and from-read
+pub record HasCycle (threads : List (List Access)) (x : Execution) : Type 0 where
+  pub access : WriteAt
+  pub between : List WriteAt
+  pub path : IsPathOfSteps threads x access between access
+
+-- Bytes show incoherence: they are read as a test, and its condition asks whether there is an execution of a kind. A
+-- candidate execution meets the condition, and no other does; all edges of the cycle stand, in order, in each that meets
+-- it; each has a cycle in program order at one place, reads-from, coherence order and from-read; and none is coherent per
+-- location.
+pub record BytesShowIncoherence (arch : ArchName) (w : Writing) (bytes : List ℕ) (es : List Edge) : Type 0 where
+  pub test : TestRead
+  pub reads : test_read arch w bytes ≡ Ok test
+  pub asks : test.cond.quantifier ≡ Exists
+  pub exists : MeetsReading w test (incoherent_execution es)
+  pub only : (x : Execution) → MeetsReading w test x → x ≡ incoherent_execution es
+  pub stand : (x : Execution) → MeetsReading w test x → AllStand es (program_read test) x
+  pub cyclic : (x : Execution) → MeetsReading w test x → HasCycle (accesses_in (program_read test) x) x
+  pub incoherent : (x : Execution) → MeetsReading w test x → IsCoherentIn (program_read test) x → ⊥
+
+-- the printed text of each coherence test, under a name of its form, shows incoherence
+abbrev pub PrintedShowIncoherence : Puts → ArchName → Writing → Type 0
+PrintedShowIncoherence a arch w =
+    (name : List ℕ) (es : List Edge) →
+    IsTestName name → HasCoherenceTest a es → BytesShowIncoherence arch w (test_text arch w name (coherence_test_of a (name_in w.registers) es)) es
+
+-- a cycle that isn't refused has a coherence test, once it is turned so that its last edge leads to another thread
+abbrev pub AcceptedHaveTests : Puts → Type 0
+AcceptedHaveTests a =
+    (cycle : List Edge) → IsCycle cycle → coherence_refusal_of a cycle ≡ None → HasCoherenceTest a (turned cycle)

@@ -1,0 +1,4 @@
+pub mod CutResolution
+pub mod CoherenceTests
+pub mod CoRefusals
+pub mod Incoherence

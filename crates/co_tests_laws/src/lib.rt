@@ -1,0 +1,23 @@
+//! Coherence tests as definitions, and what they mean: each asks for the one execution of its program in which the
+//! edges of a cycle over one location stand, and that execution isn't coherent.
+#![tactic(auto)]
+
+mod refusal;
+
+ghost use Rattle.co_tests_laws.specs.Incoherence.{AcceptedHaveTests, PrintedShowIncoherence};
+
+use arch_trait::Arch;
+pub use refusal::CoRefusal;
+
+/// A cycle that isn't refused has a coherence test, once it is turned so that its last edge leads to
+/// another thread.
+pub fn accepted_have_tests<A: Arch>()
+    ensures { AcceptedHaveTests A.puts }
+{}
+
+/// On every architecture, the printed text of each coherence test is read as a test whose condition
+/// one candidate execution alone meets: in it all edges of the cycle stand, program order at one
+/// place, reads-from, coherence order and from-read have a cycle, and it isn't coherent.
+pub fn printed_show_incoherence<A: Arch>()
+    ensures { PrintedShowIncoherence A.puts A.NAME A.writing }
+{}

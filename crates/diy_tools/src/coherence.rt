@@ -1,0 +1,56 @@
+ghost use Rattle.std.specs.Prelude.{OnOk};
+ghost use Rattle.diy_tools.specs.ArchMachines.{machine, machine_of};
+
+use crate::edges::cycle_of_edges;
+use crate::status::{Refusal, Status};
+use crate::testing::print_named;
+use arch_aarch64::A64;
+use arch_arm::Arm;
+use arch_power::Power;
+use arch_riscv::Riscv;
+use arch_trait::{Arch, Places, ThreadCodes};
+use arch_x86::X86;
+use arrayvec::ArrayVec;
+use co_tests::co_test_into;
+use diy_io::Sink;
+use diy_words::{Coherence, TestName};
+use edge_algebra::Cycle;
+use final_cond::Cond;
+use litmus_text::Test;
+use relax_edges::ArchName;
+
+/// Prints the coherence test that is asked for.
+pub(crate) fn coherence<O: Sink>(request: &Coherence, out: &mut O) -> Status {
+    match request.arch {
+        ArchName::X86 => coherence_on::<X86, O>(request, out),
+        ArchName::PPC => coherence_on::<Power, O>(request, out),
+        ArchName::AArch64 => coherence_on::<A64, O>(request, out),
+        ArchName::RISCV => coherence_on::<Riscv, O>(request, out),
+        ArchName::ARM => coherence_on::<Arm, O>(request, out),
+    }
+}
+
+/// Prints the coherence test that is asked for, on an architecture.
+#[inline(never)]
+fn coherence_on<A: Arch, O: Sink>(request: &Coherence, out: &mut O) -> Status {
+    match cycle_of_edges(&request.edges, A::NAME) {
+        Err(refusal) => Status::Refused(refusal),
+        Ok(cycle) => answer_cycle::<A, O>(&cycle, &request.name, out),
+    }
+}
+
+/// Prints the coherence test of a cycle.
+fn answer_cycle<A: Arch, O: Sink>(cycle: &Cycle, name: &Option<TestName>, out: &mut O) -> Status {
+    // It is written out here, and not made by a call of `Test::new`: so the program clears it once where it
+    // is, and copies nothing of its 125 KB.
+    let mut test = Test {
+        edges: ArrayVec::new(),
+        places: Places::new(),
+        threads: ThreadCodes::new(),
+        cond: Cond::default(),
+    };
+    match co_test_into::<A>(cycle, &mut test) {
+        Err(refusal) => Status::Refused(Refusal::from(refusal)),
+        Ok(()) => print_named::<A, O>(&test, cycle, name, out),
+    }
+}
