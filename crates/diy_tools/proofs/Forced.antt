@@ -37,7 +37,7 @@ use Rattle.arch_arm.specs.ReadsBack as arm_back
 use Rattle.litmus_text.specs.Printable.{IsTestName}
 use Rattle.diy_words.specs.declared.usage.Usage.{Usage}
 use Rattle.diy_words.specs.TestNames.{is_name}
-use Rattle.diy_words.specs.Requests.{Task, TestTask, ListTask, AsksTest, AsksWhy, WhyTask, AsksName, AsksList, AsksFamilies, AsksSum, AsksCross, AsksDemo, AsksCheck, CrossTask, asked_of}
+use Rattle.diy_words.specs.Requests.{Task, TestTask, ListTask, AsksTest, AsksWhy, WhyTask, AsksCoherence, CoherenceTask, AsksName, AsksList, AsksFamilies, AsksSum, AsksCross, AsksDemo, AsksCheck, CrossTask, asked_of}
 use Rattle.cycle_names.specs.CycleNames.{name_of}
 use Rattle.diy_words.proofs.RequestForm.{asked_form}
 use Rattle.test_maker.specs.declared.refusal.MakeRefusal.{MakeRefusal}
@@ -52,8 +52,14 @@ use Rattle.diy_tools.specs.declared.status.Status.{Status}
 use Rattle.diy_tools.specs.declared.status.Status.TheVariants.{NoMemory}
 use Rattle.diy_tools.specs.WhyAnswers.{AnswersRuns, AnswersWhy, WritesRuns}
 use Rattle.diy_tools.specs.ArchMachines.{Machine, machine_of}
-use Rattle.diy_tools.specs.Refused.{refused_list, refused_of, refused_of_arch, refused_composing, refused_making}
+use Rattle.diy_tools.specs.Refused.{refused_list, refused_of, refused_of_arch, refused_composing, refused_making, refused_coherence}
 use Rattle.diy_tools.specs.PrintAnswers.{AnswersEdges}
+use Rattle.diy_tools.specs.CoherenceAnswers.{AnswersCoherence, incoherence_refused, coherence_refused, incoherent_text}
+use Rattle.co_tests_laws.specs.declared.refusal.CoRefusal.{CoRefusal}
+use Rattle.co_tests_laws.specs.CoRefusals.{coherence_refusal_of, coherence_text}
+use Rattle.co_tests_laws.specs.Incoherence.{BytesShowIncoherence}
+use Rattle.co_tests_laws.proofs.Accepted.{accepted_has_test as accepted_has_loop}
+use Rattle.co_tests_laws.proofs.Printed.{printed_show}
 use Rattle.diy_tools.specs.TestAnswers.{asked_text, test_name}
 use Rattle.crossed_cycles.specs.Laws.{IsCrossed}
 use Rattle.crossed_cycles.proofs.Crossing.{crosses_all}
@@ -153,6 +159,29 @@ text_forces arch mode name es named whole unrefused =
     printed_force m.puts m.puts.name m.writing name (turned es) mode keeps.laws keeps.back keeps.cells keeps.one named
     (accepted_has_test m.puts es mode whole unrefused)
 
+-- edges whose coherence test isn't refused make a cycle that isn't refused
+record IsLoop (a : Puts) (es : List Edge) : Type 0 where
+  is_cycle : IsCycle es
+  unrefused : coherence_refusal_of a es ≡ None
+
+is_loop : (a : Puts) (es : List Edge) → incoherence_refused a es ≡ None → IsLoop a es
+is_loop a es h =
+    let both = either_none (refused_list a.name es) (refused_coherence (coherence_refusal_of a es)) h in
+    record { is_cycle = makes_cycle a.name es both.0; unrefused = none_made (coherence_refusal_of a es) both.1 }
+  where
+    none_made : (reason : Option CoRefusal) → refused_coherence reason ≡ None → reason ≡ None
+    none_made None h = refl
+    none_made (Some reason) h = cc h
+
+-- the text of the coherence test of edges that aren't refused, under a name of its form, shows incoherence
+text_shows : (arch : ArchName) (name : List ℕ) (es : List Edge) → IsTestName name → IsCycle es → coherence_refusal_of (machine_of arch).puts es ≡ None
+    → BytesShowIncoherence (machine_of arch).puts.name (machine_of arch).writing (coherence_text (machine_of arch).puts (machine_of arch).writing name es) (turned es)
+unfolding coherence_text
+text_shows arch name es named whole unrefused =
+    let m = machine_of arch in
+    let keeps = keeps_laws arch in
+    printed_show m.puts m.puts.name m.writing keeps.laws keeps.back keeps.cells keeps.one name (turned es) named (accepted_has_loop m.puts es whole unrefused)
+
 -- what is answered says that the tests that are printed and listed force their cycles
 asked_force : (words : List (List ℕ)) (status : Status) (old new : Devices) → AnswersAsked words (asked_of words) status old new → HeadlineAsked (asked_of words) status old new
 asked_force words status old new h = of_asked (asked_of words) refl h
@@ -167,6 +196,17 @@ asked_force words status old new h = of_asked (asked_of words) refl h
           forces =
               text_forces asked.arch asked.mode (test_name asked.name asked.edges) asked.edges
               (test_named_so asked.name asked.edges whole.is_cycle (asked_form words (AsksTest asked) e)) whole.is_cycle whole.unrefused;
+        }
+
+    of_coherence : (asked : CoherenceTask) → asked_of words ≡ Ok (AsksCoherence asked) → AnswersCoherence asked status old.out new.out
+        → HeadlineAsked (Ok (AsksCoherence asked)) status old new
+    of_coherence asked e h none =
+        let whole = is_loop (machine_of asked.arch).puts asked.edges none in
+        record {
+          prints = subst (λ (refused : Option Refusal). AnswersEdges refused (incoherent_text asked) status old.out new.out) none h;
+          shows =
+              text_shows asked.arch (test_name asked.name asked.edges) asked.edges
+              (test_named_so asked.name asked.edges whole.is_cycle (asked_form words (AsksCoherence asked) e)) whole.is_cycle whole.unrefused;
         }
 
     of_list : (asked : ListTask) → AnswersList asked status old.shelf new.shelf old.out new.out → HeadlineAsked (Ok (AsksList asked)) status old new
@@ -205,6 +245,7 @@ asked_force words status old new h = of_asked (asked_of words) refl h
     of_asked (Ok AsksSum) e h = tt
     of_asked (Ok (AsksCheck asked)) e h = tt
     of_asked (Ok (AsksTest asked)) e h = of_test asked e h.out
+    of_asked (Ok (AsksCoherence asked)) e h = of_coherence asked e h.out
 
 -- what is so of each tool's answer is so of the headline
 pub answers_force : (words : List (List ℕ)) (status : Status) (old new : DevicesSeen) → Answers words status old new → Headline words status old new

@@ -1,5 +1,6 @@
 pub mod Reported
 pub mod Running
+pub mod Coherent
 pub mod Shows
 pub mod TestNames
 pub mod Forced

@@ -25,7 +25,7 @@ use Rattle.diy_io.specs.Taken.{SourceSeen}
 use Rattle.diy_io.specs.Wrote.{SinkSeen}
 use Rattle.diy_words.specs.declared.usage.Usage.{Usage}
 use Rattle.diy_words.specs.Requests.{Task, ListTask, Sought, asked_of}
-use Rattle.diy_words.specs.Requests.{AsksTest, AsksWhy, WhyTask, AsksName, AsksList, AsksFamilies, AsksSum, AsksCross, AsksDemo, AsksCheck, CrossTask, OfEdges, OfName, OfLines}
+use Rattle.diy_words.specs.Requests.{AsksTest, AsksWhy, AsksCoherence, WhyTask, AsksName, AsksList, AsksFamilies, AsksSum, AsksCross, AsksDemo, AsksCheck, CrossTask, OfEdges, OfName, OfLines}
 use Rattle.diy_words.specs.declared.request.Check.{Check}
 use Rattle.listed_tests.specs.declared.ending.ListingEnd.{ListingEnd}
 use Rattle.listed_tests.specs.declared.ending.ListingEnd.TheVariants as listings
@@ -214,6 +214,8 @@ module _ (old new : Devices) (much : TookTooMuch old new) where
       absurd (neither (same_input old.input new.input (ap (λ (d : Devices). d.input) h.1))
       (same_shelf old.shelf new.shelf (ap (λ (d : Devices). d.shelf.opened) h.1)))
   asked_limit words (Ok (AsksTest asked)) status h =
+      absurd (neither (same_input old.input new.input h.input) (same_shelf old.shelf new.shelf (ap (λ (s : ShelfSeen). s.opened) h.shelf)))
+  asked_limit words (Ok (AsksCoherence asked)) status h =
       absurd (neither (same_input old.input new.input h.input) (same_shelf old.shelf new.shelf (ap (λ (s : ShelfSeen). s.opened) h.shelf)))
   asked_limit words (Ok (AsksWhy asked)) status h =
       absurd (neither (same_input old.input new.input h.input)

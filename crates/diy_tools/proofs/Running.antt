@@ -67,11 +67,12 @@ abbrev Answer : Type 0
 Answer = Result (Unit {0}) Failed
 
 -- edges as they are kept are refused as those that were given, and a list of them that is kept whole is theirs
-record IsKeptSo (list : EdgeList) (es : List Edge) : Type 0 where
-  refused : (arch : ArchName) → refused_edges arch list ≡ refused_list arch es
-  same : (list ≡ TooLong → ⊥) → edges_kept list ≡ es
+pub record IsKeptSo (list : EdgeList) (es : List Edge) : Type 0 where
+  pub refused : (arch : ArchName) → refused_edges arch list ≡ refused_list arch es
+  pub same : (list ≡ TooLong → ⊥) → edges_kept list ≡ es
 
-kept_so : (es : List Edge) → IsKeptSo (kept_edges es) es
+-- so is each list of edges kept
+pub kept_so : (es : List Edge) → IsKeptSo (kept_edges es) es
 kept_so [] = record { refused = λ arch. refl; same = λ h. refl }
 kept_so (e ∷ es) =
     by_test (nat_le (length (e ∷ es)) MAX_EDGES)
@@ -93,7 +94,7 @@ kept_so (e ∷ es) =
         (long (length (e ∷ es)) f)
 
 -- what is answered of edges that are kept is answered of those that were given
-edges_answered : (list : EdgeList) (es : List Edge) (last : List Edge → Option Refusal) (text : List Edge → List ℕ) (arch : ArchName) (status : Status) (old new : SinkSeen)
+pub edges_answered : (list : EdgeList) (es : List Edge) (last : List Edge → Option Refusal) (text : List Edge → List ℕ) (arch : ArchName) (status : Status) (old new : SinkSeen)
     → IsKeptSo list es
     → AnswersEdges (option_or (refused_edges arch list) (last (edges_kept list))) (text (edges_kept list)) status old new
     → AnswersEdges (option_or (refused_list arch es) (last es)) (text es) status old new

@@ -37,12 +37,13 @@ use Rattle.diy_tools.specs.FamilyAnswers.{EndsNamed, files_status}
 use Rattle.diy_tools.specs.ArchMachines.{Machine, machine, machine_of}
 use Rattle.diy_tools.specs.NameAnswers.{AnswersLines, AnswersName}
 use Rattle.diy_tools.specs.PrintAnswers.{AnswersEdges}
-use Rattle.diy_tools.specs.Refused.{refused_list, refused_making, refused_showing}
+use Rattle.diy_tools.specs.Refused.{refused_list, refused_making, refused_showing, refused_coherence}
 use Rattle.diy_tools.specs.TestAnswers.{test_name}
 use Rattle.diy_tools.specs.WhyAnswers.{WritesFiles, AnswersRuns, why_files, why_line}
 use Rattle.diy_words.specs.declared.request.Check.{Check}
 use Rattle.diy_words.specs.declared.request.Cross.{Cross}
 use Rattle.diy_words.specs.declared.request.DiyOne.{DiyOne}
+use Rattle.diy_words.specs.declared.request.Coherence.{Coherence}
 use Rattle.diy_words.specs.declared.request.Why.{Why}
 use Rattle.arch_trait.specs.Threads.{Puts}
 use Rattle.arch_trait.specs.Writing.{Writing}
@@ -51,6 +52,7 @@ use Rattle.diy_tools.specs.Devices.{DevicesSeen, devices}
 use Rattle.execution_text.specs.Written.{text_of_execution}
 use Rattle.two_runs.specs.declared.shown.TwoRuns.{TwoRuns}
 use Rattle.two_runs.specs.Shown.{why_refused}
+use Rattle.co_tests_laws.specs.CoRefusals.{coherence_refusal_of, coherence_test, coherence_text}
 use Rattle.diy_tools.specs.declared.status.Status.TheVariants as statuses
 use Rattle.diy_tools.specs.SumAnswers.{sum_status, AnswersSum}
 
@@ -155,6 +157,27 @@ abbrev pub MakesTestOf : Machine → ObsMode → List Edge → Test → Result (
 MakesTestOf m mode cycle test (Ok _) =
     (refused_making (refusal_of m.puts cycle mode) ≡ None) × (test_seen test ≡ cycle_test m.puts m.writing mode cycle)
 MakesTestOf m mode cycle test (Err refusal) = refused_making (refusal_of m.puts cycle mode) ≡ Some refusal
+
+-- what is refused of edges as they are kept, where they are to make a coherence test
+abbrev pub refused_incoherent : Machine → EdgeList → Option Refusal
+refused_incoherent m list = option_or (refused_edges m.puts.name list) (refused_coherence (coherence_refusal_of m.puts (edges_kept list)))
+
+-- the edges of a request for a coherence test, as they are kept, are refused; or the test is printed
+abbrev pub AnswersIncoherence : Machine → Coherence → Status → SinkSeen → SinkSeen → Type 0
+AnswersIncoherence m request =
+    AnswersEdges (refused_incoherent m request.edges)
+    (coherence_text m.puts m.writing (chosen_name request.name (edges_kept request.edges)) (edges_kept request.edges))
+
+-- a cycle has no coherence test, and that is the refusal; or the test is printed
+abbrev pub AnswersLoop : Machine → Option ArrayString → List Edge → Status → SinkSeen → SinkSeen → Type 0
+AnswersLoop m name cycle =
+    AnswersEdges (refused_coherence (coherence_refusal_of m.puts cycle)) (coherence_text m.puts m.writing (chosen_name name cycle) cycle)
+
+-- a call gives the coherence test of a cycle, or the first reason why it has none
+abbrev pub MakesLoopTest : Machine → List Edge → Test → Result (Unit {0}) Refusal → Type 0
+MakesLoopTest m cycle test (Ok _) =
+    (refused_coherence (coherence_refusal_of m.puts cycle) ≡ None) × (test_seen test ≡ coherence_test m.puts m.writing cycle)
+MakesLoopTest m cycle test (Err refusal) = refused_coherence (coherence_refusal_of m.puts cycle) ≡ Some refusal
 
 -- what is answered of words that ask for the tests of choices
 abbrev pub AnswersCrossing : Result Task Usage → Status → ShelfSeen → ShelfSeen → SinkSeen → SinkSeen → Type 0

@@ -13,6 +13,7 @@ pub mod CrossAnswers
 pub mod DemoAnswers
 pub mod CheckAnswers
 pub mod WhyAnswers
+pub mod CoherenceAnswers
 pub mod Answers
 pub mod KeptRequests
 pub mod Memory

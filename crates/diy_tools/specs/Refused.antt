@@ -17,6 +17,8 @@ use Rattle.test_maker.specs.declared.refusal.MakeRefusal.TheVariants as making
 use Rattle.test_maker.specs.Refusals.{refusal_of}
 use Rattle.two_runs.specs.declared.errors.WhyRefusal.{WhyRefusal}
 use Rattle.two_runs.specs.declared.errors.WhyRefusal.TheVariants as showing
+use Rattle.co_tests_laws.specs.declared.refusal.CoRefusal.{CoRefusal}
+use Rattle.co_tests_laws.specs.declared.refusal.CoRefusal.TheVariants as coherent
 use Rattle.diy_tools.specs.declared.status.Refusal.{Refusal}
 use Rattle.diy_tools.specs.declared.status.Refusal.TheVariants as refusals
 
@@ -51,6 +53,19 @@ showing_refusal (showing.TooManyRegisters thread) = refusals.TooManyRegisters th
 abbrev pub refused_showing : Option WhyRefusal → Option Refusal
 refused_showing (Some reason) = Some (showing_refusal reason)
 refused_showing None = None
+
+-- what making its coherence test refuses
+abbrev pub coherence_refusal : CoRefusal → Refusal
+coherence_refusal (coherent.NotOfArch at) = refusals.NotOfArch at
+coherence_refusal coherent.TooFewThreads = refusals.TooFewThreads
+coherence_refusal coherent.NotCoherence = refusals.NotCoherence
+coherence_refusal coherent.ManyWrites = refusals.ManyWrites
+coherence_refusal (coherent.TooManyRegisters thread) = refusals.TooManyRegisters thread
+
+-- the same of a cycle, if anything is refused
+abbrev pub refused_coherence : Option CoRefusal → Option Refusal
+refused_coherence (Some reason) = Some (coherence_refusal reason)
+refused_coherence None = None
 
 -- what composing refuses, if anything
 abbrev pub refused_composing : Result (List Edge) CycleError → Option Refusal

@@ -1,15 +1,13 @@
-ghost use Rattle.std.specs.Prelude.{OnOk};
+ghost use Rattle.std.specs.Prelude.{OnOk, IfErr};
+ghost use Rattle.test_maker.specs.Made.{CanPrint};
+ghost use Rattle.diy_tools.specs.KeptRequests.{AnswersIncoherence, AnswersLoop, MakesLoopTest};
 ghost use Rattle.diy_tools.specs.ArchMachines.{machine, machine_of};
+ghost use Rattle.diy_tools.specs.Report.{StatusNamesLocation, RefusesLocation};
 
-use crate::edges::cycle_of_edges;
+use crate::machines::on_machine;
 use crate::status::{Refusal, Status};
-use crate::testing::print_named;
-use arch_aarch64::A64;
-use arch_arm::Arm;
-use arch_power::Power;
-use arch_riscv::Riscv;
+use crate::testing::{cycle_on, print_named};
 use arch_trait::{Arch, Places, ThreadCodes};
-use arch_x86::X86;
 use arrayvec::ArrayVec;
 use co_tests::co_test_into;
 use diy_io::Sink;
@@ -20,37 +18,53 @@ use litmus_text::Test;
 use relax_edges::ArchName;
 
 /// Prints the coherence test that is asked for.
-pub(crate) fn coherence<O: Sink>(request: &Coherence, out: &mut O) -> Status {
-    match request.arch {
-        ArchName::X86 => coherence_on::<X86, O>(request, out),
-        ArchName::PPC => coherence_on::<Power, O>(request, out),
-        ArchName::AArch64 => coherence_on::<A64, O>(request, out),
-        ArchName::RISCV => coherence_on::<Riscv, O>(request, out),
-        ArchName::ARM => coherence_on::<Arm, O>(request, out),
-    }
+#[tactic(auto, using(crate::proofs::Coherent::incoherent_on))]
+pub(crate) fn coherence<O: Sink>(request: &Coherence, out: &mut O) -> Status
+    ensures answers { AnswersIncoherence (machine_of request.now.arch) request.now result (O.seen out.old) (O.seen out.new) }
+    ensures location { StatusNamesLocation result }
+{
+    on_machine!(request.arch, coherence_on[O](request, out))
 }
 
 /// Prints the coherence test that is asked for, on an architecture.
 #[inline(never)]
-fn coherence_on<A: Arch, O: Sink>(request: &Coherence, out: &mut O) -> Status {
-    match cycle_of_edges(&request.edges, A::NAME) {
+fn coherence_on<A: Arch, O: Sink>(request: &Coherence, out: &mut O) -> Status
+    ensures answers { AnswersIncoherence (machine A.puts A.writing) request.now result (O.seen out.old) (O.seen out.new) }
+    ensures location { StatusNamesLocation result }
+{
+    match cycle_on::<A>(&request.edges) {
         Err(refusal) => Status::Refused(refusal),
-        Ok(cycle) => answer_cycle::<A, O>(&cycle, &request.name, out),
+        Ok(cycle) => answer_loop::<A, O>(&cycle, &request.name, out),
     }
 }
 
 /// Prints the coherence test of a cycle.
-fn answer_cycle<A: Arch, O: Sink>(cycle: &Cycle, name: &Option<TestName>, out: &mut O) -> Status {
-    // It is written out here, and not made by a call of `Test::new`: so the program clears it once where it
-    // is, and copies nothing of its 125 KB.
+#[tactic(auto, unfolding(co_tests_laws::specs::CoRefusals::coherence_text))]
+fn answer_loop<A: Arch, O: Sink>(cycle: &Cycle, name: &Option<TestName>, out: &mut O) -> Status
+    ensures answers { AnswersLoop (machine A.puts A.writing) name.now cycle.now result (O.seen out.old) (O.seen out.new) }
+    ensures location { StatusNamesLocation result }
+{
+    // It is written out here, as in the printing of a test.
     let mut test = Test {
         edges: ArrayVec::new(),
         places: Places::new(),
         threads: ThreadCodes::new(),
         cond: Cond::default(),
     };
-    match co_test_into::<A>(cycle, &mut test) {
-        Err(refusal) => Status::Refused(Refusal::from(refusal)),
+    match make_loop_test::<A>(cycle, &mut test) {
+        Err(refusal) => Status::Refused(refusal),
         Ok(()) => print_named::<A, O>(&test, cycle, name, out),
+    }
+}
+
+/// Makes `test` the coherence test of a cycle, or says why it has none.
+fn make_loop_test<A: Arch>(cycle: &Cycle, test: &mut Test) -> Result<(), Refusal>
+    ensures made { MakesLoopTest (machine A.puts A.writing) cycle.now test.new result }
+    ensures printable { OnOk result (CanPrint A.puts A.REGISTERS test.new) }
+    ensures location { IfErr result RefusesLocation }
+{
+    match co_test_into::<A>(cycle, test) {
+        Ok(()) => Ok(()),
+        Err(refusal) => Err(Refusal::from(refusal)),
     }
 }

@@ -1,0 +1,33 @@
+-- What diyone7 answers with the option -co.
+-- Source: own.
+use Rattle.std.specs.Prelude.{ℕ, List, Option}
+use Rattle.std.specs.Option.{option_or}
+use Rattle.relax_edges.specs.declared.edge.Edge.{Edge}
+use Rattle.diy_io.specs.Wrote.{SinkSeen}
+use Rattle.diy_words.specs.Requests.{CoherenceTask}
+use Rattle.arch_trait.specs.Threads.{Puts}
+use Rattle.co_tests_laws.specs.CoRefusals.{coherence_refusal_of, coherence_text}
+use Rattle.diy_tools.specs.declared.status.Status.{Status}
+use Rattle.diy_tools.specs.declared.status.Refusal.{Refusal}
+use Rattle.diy_tools.specs.ArchMachines.{Machine, machine_of}
+use Rattle.diy_tools.specs.PrintAnswers.{AnswersEdges}
+use Rattle.diy_tools.specs.Refused.{refused_list, refused_coherence}
+use Rattle.diy_tools.specs.TestAnswers.{test_name}
+
+-- the first reason why a list of edges has no coherence test on an architecture
+abbrev pub incoherence_refused : Puts → List Edge → Option Refusal
+incoherence_refused a edges = option_or (refused_list a.name edges) (refused_coherence (coherence_refusal_of a edges))
+
+-- the text of the coherence test that words ask for
+abbrev pub incoherent_text : CoherenceTask → List ℕ
+incoherent_text asked =
+    let m = machine_of asked.arch in
+    coherence_text m.puts m.writing (test_name asked.name asked.edges) asked.edges
+
+-- the first reason why the edges of that test are refused
+abbrev pub coherence_refused : CoherenceTask → Option Refusal
+coherence_refused asked = incoherence_refused (machine_of asked.arch).puts asked.edges
+
+-- the edges are refused, and nothing is written; or the text of their coherence test is printed
+abbrev pub AnswersCoherence : CoherenceTask → Status → SinkSeen → SinkSeen → Type 0
+AnswersCoherence asked status old new = AnswersEdges (coherence_refused asked) (incoherent_text asked) status old new
