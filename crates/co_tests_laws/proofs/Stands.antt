@@ -208,12 +208,14 @@ event_made arch codes es number x i r h =
     let d = made arch codes es number x k r (opened_under es i r.loop_of.loop h) in
     let below = slice_get_within steps (slot_of (cut_open es) i) (event_step (cut_open es) number i) (step_there es number i h) in
     let g = got_below (thread_visits steps 0 0 d.reads) (slot_of (cut_open es) i) (omega (arith, below, visits-count steps 0 0 d.reads)) in
-    let there = visit_at steps 0 0 d.reads (slot_of (cut_open es) i) (event_step (cut_open es) number i) g.element (step_there es number i h) g.got in
-    (record { name = event_name es i; visit = g.element }, record {
-      name_is = refl;
-      visit_is = ap (at_name (visits_in (loop_program codes es) x)) (sym (opened_name es i)) ∙ ap (λ o. got_from o (slot_of (cut_open es) i)) d.visits_are ∙ g.got;
-      direction = ap (λ (y : Visit). y.access.dir) there.is ∙ same_at source_of source_same es i;
-    })
+    let there = visit_at steps 0 0 d.reads (slot_of (cut_open es) i) (event_step (cut_open es) number i) g.element (step_there es number i h) g.got in (
+      record { name = event_name es i; visit = g.element },
+      record {
+        name_is = refl;
+        visit_is = ap (at_name (visits_in (loop_program codes es) x)) (sym (opened_name es i)) ∙ ap (λ o. got_from o (slot_of (cut_open es) i)) d.visits_are ∙ g.got;
+        direction = ap (λ (y : Visit). y.access.dir) there.is ∙ same_at source_of source_same es i;
+      },
+    )
 
 -- the program has the events of the cycle
 has_events : (arch : ArchName) (codes : List ThreadCode) (es : List Edge) (number : ℕ → ℕ) (x : Execution) → IsRun arch codes es number x → HasEvents es (loop_program codes es) x
