@@ -1,6 +1,6 @@
 -- A cycle that isn't refused has a coherence test, once it is turned so that its last edge leads to another thread.
-use Rattle.std.proofs.Common.{◌≡◌, ℕ, ◌+◌, ◌≤◌, Bool, true, false, not, cond, List, ◌++◌, drop, take, Option, Some, None, refl, sym, ◌∙◌, ap, subst, arith}
-use Rattle.std.specs.Prelude.{◌||◌, nat_lt, count_by}
+use Rattle.std.proofs.Common.{◌≡◌, ℕ, ◌≤◌, Bool, true, false, not, cond, List, ◌++◌, drop, take, Option, Some, None, refl, sym, ◌∙◌, ap, subst, arith}
+use Rattle.std.specs.Prelude.{◌||◌, nat_lt}
 use Rattle.std.specs.List.{list_all, list_any, position_from}
 use Rattle.std.specs.Option.{option_map, option_or}
 use Rattle.std.proofs.Math.Bool.{and_comm}
@@ -22,8 +22,8 @@ use Rattle.test_laws.proofs.Headline.{room_left}
 use Rattle.co_tests_laws.specs.declared.refusal.CoRefusal.{CoRefusal}
 use Rattle.co_tests_laws.specs.declared.refusal.CoRefusal.TheVariants.{NotOfArch, TooFewThreads, NotCoherence, ManyWrites, TooManyRegisters}
 use Rattle.co_tests_laws.specs.CutResolution.{is_ordering}
-use Rattle.co_tests_laws.specs.CoherenceTests.{HasCoherenceTest, writes_in, coherence_steps}
-use Rattle.co_tests_laws.specs.CoRefusals.{foreign_edge, reason_if, is_no_coherence, crowded_thread, coherence_refusal_of}
+use Rattle.co_tests_laws.specs.CoherenceTests.{writes_in, coherence_steps}
+use Rattle.co_tests_laws.specs.CoRefusals.{foreign_edge, reason_if, is_no_coherence, crowded_thread}
 use Rattle.co_tests_laws.specs.Incoherence.{AcceptedHaveTests}
 use Rattle.co_tests_laws.proofs.Values.{leaves_write}
 

@@ -17,7 +17,7 @@ use Rattle.relax_edges.specs.declared.edge.Edge.TheVariants as edges
 use Rattle.relax_edges.specs.EdgeTable.{source_of, same_dir}
 use Rattle.cycle_laws.specs.Rotation.{rotated}
 use Rattle.resolution_laws.specs.Resolution.{edge_at, location_of, move_count, moves_before}
-use Rattle.value_laws.specs.Values.{is_after_moves, way, arc, arc_of, value_of, writes_counted}
+use Rattle.value_laws.specs.Values.{is_after_moves, way, arc, arc_of, writes_counted}
 use Rattle.value_laws.proofs.Arcs.{value_on_arc}
 use Rattle.communication_laws.proofs.Lists.{filter_all}
 use Rattle.test_laws.proofs.Everywhere.{position_first}
@@ -105,4 +105,5 @@ values_count_along_arc a es cut i k t h g =
     let at : arc_of (cut_open es) i ≡ arc_behind es cut = arc_is es i c ∙ ap (arc_behind es) (cut_is es c.cut cut h) in
     value_on_arc (cut_open es) i k (ap (λ events. slice_get events k) at ∙ g)
     ∙ ap (λ events. writes_counted (cut_open es) events k) at
-    ∙ (λ z. count_by (λ j. same_at (λ e. same_dir (source_of e) dirs.W) (λ e. ap (λ d. same_dir d dirs.W) (source_same e)) es j z) (take (k + 1) (arc_behind es cut)))
+    ∙ (λ z. count_by (λ j. same_at (λ e. same_dir (source_of e) dirs.W) (λ e. ap (λ d. same_dir d dirs.W) (source_same e)) es j z)
+    (take (k + 1) (arc_behind es cut)))

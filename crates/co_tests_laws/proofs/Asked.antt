@@ -1,6 +1,6 @@
 -- The condition of a coherence test is met by a candidate execution exactly where each load reads the number that is asked for
 -- and the place, where there are two writes, ends with the last value.
-use Rattle.std.proofs.Common.{◌≡◌, ℕ, ◌≤◌, Bool, true, not, cond, List, [], ◌∷◌, length, map, Option, Some, slice_get, refl, sym, ◌∙◌, ap, subst, arith}
+use Rattle.std.proofs.Common.{◌≡◌, ℕ, ◌≤◌, Bool, true, not, cond, List, [], ◌∷◌, length, map, Option, Some, slice_get, sym, ◌∙◌, ap, subst, arith}
 use Rattle.std.specs.Prelude.{nat_le}
 use Rattle.std.specs.List.{AllByRecursion, filter}
 use Rattle.std.specs.Option.{option_map, option_and_then}
@@ -31,7 +31,7 @@ use Rattle.program_meaning.specs.Coherence.{final_value}
 use Rattle.program_meaning.specs.Programs.{IsCandidate, accesses_in, held_at_last, register_in}
 use Rattle.program_meaning.specs.Intended.{cycle_accesses}
 use Rattle.communication_laws.specs.Joining.{ReadsAsAsked, values_read}
-use Rattle.communication_laws.proofs.Lists.{got_below, got_map, image_of}
+use Rattle.communication_laws.proofs.Lists.{got_below, got_map}
 use Rattle.test_laws.specs.CycleSteps.{cycle_steps, numbers_read}
 use Rattle.test_laws.specs.TestOf.{plain, is_named_location, last_term, last_terms, thread_terms, load_terms}
 use Rattle.test_laws.specs.FinalStates.{final_state}
@@ -58,8 +58,8 @@ abbrev pub loop_codes : Puts → List Edge → (ℕ → ℕ) → List ThreadCode
 loop_codes a es number = cycle_codes a (cut_open es) Avoid number
 
 -- the code makes the accesses
-pub are_codes : (a : Puts) (es : List Edge) (number : ℕ → ℕ) → IsArch a → IsLoopOf a.name es → AreCodesOf (loop_codes a es number)
-    (cycle_steps (cut_open es) Avoid number)
+pub are_codes : (a : Puts) (es : List Edge) (number : ℕ → ℕ) → IsArch a → IsLoopOf a.name es
+    → AreCodesOf (loop_codes a es number) (cycle_steps (cut_open es) Avoid number)
 are_codes a es number laws r = record {
   count =
       length-map (map (compiled a) (coherence_steps es)) (renumbered number)
@@ -120,11 +120,12 @@ ran a es number x k steps reads laws t c g h =
     }
 
 -- where the terms of all loads are met, the values read are those asked for
-pub reads_asked : (a : Puts) (es : List Edge) (number : ℕ → ℕ) (names : List (List ℕ)) (register_name : ℕ → List ℕ) (register_number : List ℕ
-    → Option ℕ) (x : Execution) → IsArch a → HasLoopCode a es
-    → FindsRegisters a register_name register_number → IsCandidate (cycle_program a (cut_open es) Avoid number) x
+pub reads_asked : (a : Puts) (es : List Edge) (number : ℕ → ℕ) (names : List (List ℕ)) (register_name : ℕ → List ℕ)
+    (register_number : List ℕ → Option ℕ) (x : Execution)
+    → IsArch a → HasLoopCode a es → FindsRegisters a register_name register_number → IsCandidate (cycle_program a (cut_open es) Avoid number) x
     → AllByRecursion (IsMet (final_state (cycle_program a (cut_open es) Avoid number) names register_number x))
-    (load_terms a register_name 0 (coherence_steps es)) → ReadsAsAsked (cut_open es) Avoid number x
+    (load_terms a register_name 0 (coherence_steps es))
+    → ReadsAsAsked (cut_open es) Avoid number x
 reads_asked a es number names register_name register_number x laws t finds c met k planned reads g h =
     let s = got_below (cycle_steps (cut_open es) Avoid number) k
     (omega (arith, slice_get_within (cycle_accesses (cut_open es) Avoid number) k planned g, planned-count (cut_open es) Avoid number)) in
@@ -140,9 +141,10 @@ reads_asked a es number names register_name register_number x laws t finds c met
     ∙ ap (λ l. map (λ (access : Access). access.value) (filter is_read l)) q
 
 -- and back
-pub asked_met : (a : Puts) (es : List Edge) (number : ℕ → ℕ) (names : List (List ℕ)) (register_name : ℕ → List ℕ) (register_number : List ℕ
-    → Option ℕ) (x : Execution) → IsArch a → HasLoopCode a es
-    → FindsRegisters a register_name register_number → IsCandidate (cycle_program a (cut_open es) Avoid number) x → ReadsAsAsked (cut_open es) Avoid number x
+pub asked_met : (a : Puts) (es : List Edge) (number : ℕ → ℕ) (names : List (List ℕ)) (register_name : ℕ → List ℕ)
+    (register_number : List ℕ → Option ℕ) (x : Execution)
+    → IsArch a → HasLoopCode a es → FindsRegisters a register_name register_number → IsCandidate (cycle_program a (cut_open es) Avoid number) x
+    → ReadsAsAsked (cut_open es) Avoid number x
     → AllByRecursion (IsMet (final_state (cycle_program a (cut_open es) Avoid number) names register_number x))
     (load_terms a register_name 0 (coherence_steps es))
 asked_met a es number names register_name register_number x laws t finds c asked =
@@ -178,14 +180,14 @@ asked_met a es number names register_name register_number x laws t finds c asked
 -- the place shows its final value
 place_shows : (a : Puts) (es : List Edge) (number : ℕ → ℕ) (names : List (List ℕ)) (register_number : List ℕ → Option ℕ) (x : Execution)
     → number_in names (location_name 0) ≡ Some 0
-    → final_state (cycle_program a (cut_open es) Avoid number) names register_number x (AtPlace (location_name 0)) ≡ Some
-    (Num (final_value (accesses_in (cycle_program a (cut_open es) Avoid number) x) x 0))
+    → final_state (cycle_program a (cut_open es) Avoid number) names register_number x (AtPlace (location_name 0))
+    ≡ Some (Num (final_value (accesses_in (cycle_program a (cut_open es) Avoid number) x) x 0))
 place_shows a es number names register_number x named =
     ap (option_map (λ place. Num (final_value (accesses_in (cycle_program a (cut_open es) Avoid number) x) x place))) named
 
 -- the term of the place is there where it has two writes
-ends_terms : (es : List Edge) → IsCut es → last_terms (cut_open es) Avoid ≡ map (last_term (cut_open es))
-    (cond (is_named_location (cut_open es) Avoid 0) (0 ∷ []) [])
+ends_terms : (es : List Edge) → IsCut es
+    → last_terms (cut_open es) Avoid ≡ map (last_term (cut_open es)) (cond (is_named_location (cut_open es) Avoid 0) (0 ∷ []) [])
 ends_terms es c = ap (λ n. map (last_term (cut_open es)) (filter (is_named_location (cut_open es) Avoid) (upto n))) (one_move es c)
 
 -- where it is met, the place ends with the last value

@@ -80,8 +80,8 @@ pub opened_name : (es : List Edge) (i : ℕ) → event_name (cut_open es) i ≡ 
 opened_name es i = λ t. record { thread = opened_thread es i t; access = opened_slot es i t }
 
 -- each event is at its name
-pub event_there : (es : List Edge) (number : ℕ → ℕ) (i : ℕ) → IsLoop es → i < length es → at_name (loop_accesses es number)
-    (event_name (cut_open es) i) ≡ Some (event_access (cut_open es) number i)
+pub event_there : (es : List Edge) (number : ℕ → ℕ) (i : ℕ) → IsLoop es → i < length es
+    → at_name (loop_accesses es number) (event_name (cut_open es) i) ≡ Some (event_access (cut_open es) number i)
 event_there es number i r h =
     ap (λ o. got_from o (slot_of (cut_open es) i)) (thread_accesses (cut_open es) Avoid number (thread_of (cut_open es) i) (opened_under es i r h))
     ∙ got_map (event_access (cut_open es) number) (events_in (cut_open es) (thread_of (cut_open es) i)) (slot_of (cut_open es) i) i
@@ -145,8 +145,8 @@ named_write es i k c h w v =
     }))
 
 -- the accesses of the test are numbered by their values
-pub numbered : (es : List Edge) (number : ℕ → ℕ) → IsLoop es → IsNumbering (cut_open es) number → Numbered (loop_accesses es number) (loop_write es)
-    (writes_in es)
+pub numbered : (es : List Edge) (number : ℕ → ℕ) → IsLoop es → IsNumbering (cut_open es) number
+    → Numbered (loop_accesses es number) (loop_write es) (writes_in es)
 numbered es number r n = record {
   gives = λ k h.
       let w = value_written es k c h in
@@ -191,8 +191,9 @@ write_is es zero = refl
 write_is es (suc k) = refl
 
 -- what a thread reads in the stated execution
-thread_reads : (es : List Edge) (number : ℕ → ℕ) (k : ℕ) → IsCut es → map (event_read (cut_open es)) (reads_in (cut_open es) k) ≡ reads_by_source
-    (source_in (loop_write es)) (filter is_read (map (event_access (cut_open es) number) (events_in (cut_open es) k)))
+thread_reads : (es : List Edge) (number : ℕ → ℕ) (k : ℕ) → IsCut es
+    → map (event_read (cut_open es)) (reads_in (cut_open es) k)
+    ≡ reads_by_source (source_in (loop_write es)) (filter is_read (map (event_access (cut_open es) number) (events_in (cut_open es) k)))
 thread_reads es number k c =
     map_same (event_read (cut_open es)) (λ i. (value_of (cut_open es) i, by_value (loop_write es) (value_of (cut_open es) i))) (reads_in (cut_open es) k)
     (λ i t. (
@@ -204,8 +205,8 @@ thread_reads es number k c =
     ∙ ap (reads_by_source (source_in (loop_write es))) (sym (filter-map is_read (event_access (cut_open es) number) (events_in (cut_open es) k)))
 
 -- the stated execution is the one by values
-pub stated_is : (es : List Edge) (number : ℕ → ℕ) → IsCut es → IsNumbering (cut_open es) number → intended (cut_open es) Avoid number ≡ by_values
-    (loop_accesses es number) (loop_write es) (writes_in es)
+pub stated_is : (es : List Edge) (number : ℕ → ℕ) → IsCut es → IsNumbering (cut_open es) number
+    → intended (cut_open es) Avoid number ≡ by_values (loop_accesses es number) (loop_write es) (writes_in es)
 unfolding intended cycle_accesses location_order
 stated_is es number c n =
     let threads = upto (external_count (cut_open es)) in
@@ -244,8 +245,8 @@ value_through es i k reach r h e =
     ∙ ap (λ d. value_of (cut_open es) i + writes_one d) (source_after es i r.composes h)
 
 -- the write of a write event's value is the event
-own_write : (es : List Edge) (i : ℕ) → IsLoop es → i < length es → source_of (edge_at es i) ≡ dirs.W → by_value (loop_write es)
-    (value_of (cut_open es) i) ≡ Some (event_name (cut_open es) i)
+own_write : (es : List Edge) (i : ℕ) → IsLoop es → i < length es → source_of (edge_at es i) ≡ dirs.W
+    → by_value (loop_write es) (value_of (cut_open es) i) ≡ Some (event_name (cut_open es) i)
 own_write es i r h w =
     let some : 0 < value_of (cut_open es) i = value_positive es i r.is_cut h w in
     let q : value_of (cut_open es) i ≡ suc (value_of (cut_open es) i - 1) = omega (arith, some) in
@@ -389,8 +390,8 @@ falls dirs.R u v h e = omega (arith, h, e)
 falls dirs.W u v h e = omega (arith, h, e)
 
 -- the stated execution has a cycle
-pub loop_cycle : (es : List Edge) (number : ℕ → ℕ) → IsLoop es → IsNumbering (cut_open es) number → HasCycle (loop_accesses es number)
-    (loop_execution es number)
+pub loop_cycle : (es : List Edge) (number : ℕ → ℕ) → IsLoop es → IsNumbering (cut_open es) number
+    → HasCycle (loop_accesses es number) (loop_execution es number)
 loop_cycle es number r n =
     let c = r.is_cut in
     let i = c.cut.at in

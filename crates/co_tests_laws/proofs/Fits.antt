@@ -177,8 +177,7 @@ loop_thread es number arch k steps r g =
       few = omega (
         arith,
         length-map (events_in (cut_open es) k) (event_step (cut_open es) number),
-        thread_size_most
-            (cut_open es) k,
+        thread_size_most (cut_open es) k,
         opened-length es,
         r.loop.composes.few,
       );

@@ -1,7 +1,7 @@
 -- Threads whose accesses are all at one place and whose writes write 1, 2, .., each once: with at most two writes one
 -- execution alone ends with the last value, in which each read reads the write of its value and the writes come in the order
 -- of their values.
-use Rattle.std.proofs.Common.{◌≡◌, ℕ, zero, suc, ◌+◌, ◌-◌, ◌<◌, ◌≤◌, true, List, [], ◌∷◌, length, map, Option, Some, None, slice_get, refl, sym, ◌∙◌, ap, subst, arith, add-one}
+use Rattle.std.proofs.Common.{◌≡◌, ℕ, zero, suc, ◌-◌, ◌<◌, ◌≤◌, true, List, [], ◌∷◌, length, map, Option, Some, None, slice_get, refl, sym, ◌∙◌, ap, subst, arith, add-one}
 use Rattle.std.specs.List.{filter, filter_map}
 use Rattle.std.specs.Option.{option_and_then}
 use Rattle.std.proofs.lemmas.List.{length-map}
@@ -13,8 +13,8 @@ use Rattle.program_meaning.specs.declared.WriteAt.{WriteAt}
 use Rattle.program_meaning.specs.Accesses.{Access, write, is_read, got_from, at_name}
 use Rattle.program_meaning.specs.Executions.{Execution, CanRead, AreReadsOf, IsOrderOf, IsExecutionOf}
 use Rattle.program_meaning.specs.Coherence.{order_place, order_at, source_at, placed_by, coherence_place, last_write, value_of_access, final_value}
-use Rattle.execution_laws.proofs.Names.{GotFrom, got_from_list}
-use Rattle.communication_laws.proofs.Lists.{got_below, got_map, kept, same_below, image_of, length-filter_map-upto, slice_get-filter_map-upto}
+use Rattle.execution_laws.proofs.Names.{got_from_list}
+use Rattle.communication_laws.proofs.Lists.{got_below, got_map, kept, same_below, length-filter_map-upto, slice_get-filter_map-upto}
 use Rattle.communication_laws.proofs.Orders.{Holds, Gives, place_held, order_by_steps, order_given, place_given}
 use Rattle.communication_laws.proofs.ReadLists.{reads_by_source, reads_given, reads_fixed, source_given}
 use Rattle.communication_laws.proofs.IntendedOrders.{order_got}

@@ -148,8 +148,7 @@ take_same p h (e ∷ es) (suc i) = by_case (is_ordering e) (take_same p h es i)
       arith,
       rest,
       sum_by-cons (λ x. cond {A = ℕ} (p x) 1 0) e (take i (cut_open es)),
-      sum_by-cons (λ x. cond {A = ℕ} (p x) 1 0) e
-          (take i es),
+      sum_by-cons (λ x. cond {A = ℕ} (p x) 1 0) e (take i es),
     )
 
 -- it has as many edges

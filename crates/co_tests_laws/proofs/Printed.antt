@@ -21,20 +21,18 @@ use Rattle.arch_laws.proofs.NameLaws.{length-letters}
 use Rattle.litmus_text.specs.Items.{links_of}
 use Rattle.litmus_text.specs.Mentioned.{TestReadsBack, is_in, op_is_in}
 use Rattle.litmus_text.specs.Placing.{place_in, or_zero}
-use Rattle.litmus_text.specs.Printable.{IsTestName}
 use Rattle.litmus_text.specs.Reread.{reread}
 use Rattle.litmus_text.specs.TestReading.{TestRead}
 use Rattle.litmus_text.specs.TestText.{test_text}
 use Rattle.litmus_text.proofs.NamesBack.{IsAmong, none_among, push_among, few_names}
 use Rattle.program_meaning.specs.Executions.{Execution}
-use Rattle.program_meaning.specs.Intended.{IsNumbering, intended}
+use Rattle.program_meaning.specs.Intended.{IsNumbering}
 use Rattle.program_meaning.specs.Programs.{Program, IsCandidate, IsCoherentIn, accesses_in}
 use Rattle.program_meaning.specs.Standing.{AllStand}
 use Rattle.communication_laws.proofs.Lists.{got_map}
 use Rattle.test_laws.specs.CycleSteps.{event_step, thread_steps}
 use Rattle.test_laws.specs.FinalStates.{final_state}
 use Rattle.test_laws.specs.TestHeadline.{IsRenumbered}
-use Rattle.test_laws.specs.TestPrograms.{test_program}
 use Rattle.test_laws.specs.TestOf.{plain, test_of}
 use Rattle.test_laws.proofs.Everywhere.{all_gets}
 use Rattle.test_laws.proofs.Headline.{renumbered_program}
@@ -138,8 +136,8 @@ read_renumbered a register_name es table c t = record {
 
 -- the bytes of a coherence test that reads back show incoherence
 pub bytes_show : (a : Puts) (arch : ArchName) (w : Writing) (name : List ℕ) (es : List Edge) → IsArch a → WritesBack a w → HasLoopCode a es
-    → TestReadsBack arch w name (coherence_test_of a (name_in w.registers) es) → BytesShowIncoherence arch w
-    (test_text arch w name (coherence_test_of a (name_in w.registers) es)) es
+    → TestReadsBack arch w name (coherence_test_of a (name_in w.registers) es)
+    → BytesShowIncoherence arch w (test_text arch w name (coherence_test_of a (name_in w.registers) es)) es
 bytes_show a arch w name es laws back t r = record {
   test = test;
   reads = r.read;

@@ -11,7 +11,7 @@ use Rattle.std.proofs.lemmas.Slice.Eq.{bytes_eq-Decides}
 use Rattle.list_laws.specs.Numbers.{upto}
 use Rattle.list_laws.proofs.Cases.{by_test}
 use Rattle.list_laws.proofs.Elements.{all_append}
-use Rattle.list_laws.proofs.Totals.{sum_upto_same, sum_upto-add, classes_total}
+use Rattle.list_laws.proofs.Totals.{sum_upto_same, classes_total}
 use Rattle.relax_edges.specs.declared.TheConstants.{MAX_EDGES}
 use Rattle.relax_edges.specs.declared.kinds.Dir.{Dir}
 use Rattle.relax_edges.specs.declared.kinds.Dir.TheVariants as dirs
@@ -53,7 +53,7 @@ use Rattle.litmus_text.proofs.RowBack.{named_op}
 use Rattle.communication_laws.proofs.Lists.{got_map, image_of}
 use Rattle.test_laws.specs.CycleSteps.{event_step, thread_steps, observer_steps, cycle_steps, numbers_read}
 use Rattle.test_laws.specs.TestOf.{plain, is_named_location, last_term, last_terms, load_term, thread_terms, load_terms}
-use Rattle.test_laws.proofs.Everywhere.{all_from, position_first}
+use Rattle.test_laws.proofs.Everywhere.{position_first}
 use Rattle.test_laws.proofs.PlaceNames.{letter_at}
 use Rattle.test_laws.proofs.RegisterNames.{registers_found}
 use Rattle.test_laws.proofs.StepsAt.{thread_steps_at, by_steps, steps-count, steps_few}
@@ -198,12 +198,12 @@ load_terms_fit a w table threads thread (ss ∷ all) back h few each =
     (load_terms_fit a w table threads (thread + 1) all back (omega arith) few (λ k u g. each (suc k) u g))
 
 -- the term of the place is there where it has two writes
-last_terms_are : (es : List Edge) → IsCut es → last_terms (cut_open es) Avoid ≡ map (last_term (cut_open es))
-    (cond (is_named_location (cut_open es) Avoid 0) (0 ∷ []) [])
+last_terms_are : (es : List Edge) → IsCut es
+    → last_terms (cut_open es) Avoid ≡ map (last_term (cut_open es)) (cond (is_named_location (cut_open es) Avoid 0) (0 ∷ []) [])
 last_terms_are es c = ap (λ n. map (last_term (cut_open es)) (filter (is_named_location (cut_open es) Avoid) (upto n))) (one_move es c)
 
-last_terms_fit : (w : Writing) (es : List Edge) (threads : ℕ) → IsCut es → writes_in es ≤ 2 → AllByRecursion (TermFits w threads (place_names es))
-    (last_terms (cut_open es) Avoid)
+last_terms_fit : (w : Writing) (es : List Edge) (threads : ℕ) → IsCut es → writes_in es ≤ 2
+    → AllByRecursion (TermFits w threads (place_names es)) (last_terms (cut_open es) Avoid)
 last_terms_fit w es threads c few = subst (AllByRecursion (TermFits w threads (place_names es))) (sym (last_terms_are es c))
     (by_case (is_named_location (cut_open es) Avoid 0))
   where
@@ -253,8 +253,7 @@ sum_both (ss ∷ threads) = omega (
   loads_and_stores ss,
   sum_by-cons loads_in ss threads,
   sum_by-cons stores_in ss threads,
-  sum_by-cons
-      (λ (x : List Step). length x) ss threads,
+  sum_by-cons (λ (x : List Step). length x) ss threads,
 )
 
 sum_map : {X Y : Type 0} (f : Y → ℕ) (g : X → Y) (xs : List X) → sum_by f (map g xs) ≡ sum_by (λ x. f (g x)) xs
@@ -269,8 +268,8 @@ threads_are es =
     (none_observed (cut_open es))
     ∙ append-nil (map (thread_steps (cut_open es) plain) (upto (external_count (cut_open es))))
 
-thread_size : (es : List Edge) (k : ℕ) → length (thread_steps (cut_open es) plain k) ≡ count_by (λ i. thread_of (cut_open es) i == k)
-    (upto (length (cut_open es)))
+thread_size : (es : List Edge) (k : ℕ)
+    → length (thread_steps (cut_open es) plain k) ≡ count_by (λ i. thread_of (cut_open es) i == k) (upto (length (cut_open es)))
 unfolding events_in
 thread_size es k =
     length-map (filter (λ i. thread_of (cut_open es) i == k) (upto (length (cut_open es)))) (event_step (cut_open es) plain)

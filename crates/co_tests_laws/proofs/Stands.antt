@@ -1,6 +1,6 @@
 -- All edges of a cycle over one location stand in each execution of its coherence test that has the stated values: the code
 -- marks the accesses and ties them as the edges say, and there is nothing else.
-use Rattle.std.proofs.Common.{◌≡◌, ℕ, suc, ◌+◌, ◌-◌, ◌<◌, ◌≤◌, true, false, List, [], length, map, take, Some, slice_get, refl, sym, ◌∙◌, ap, subst, arith, add-one}
+use Rattle.std.proofs.Common.{◌≡◌, ℕ, suc, ◌+◌, ◌-◌, ◌<◌, true, false, List, [], length, map, take, Some, slice_get, refl, sym, ◌∙◌, ap, subst, arith, add-one}
 use Rattle.std.proofs.lemmas.List.{length-map}
 use Rattle.std.proofs.lemmas.Option.{slice_get_within}
 use Rattle.list_laws.proofs.Cases.{by_test}
@@ -10,8 +10,7 @@ use Rattle.relax_edges.specs.declared.kinds.ObsMode.TheVariants.{Avoid}
 use Rattle.relax_edges.specs.declared.kinds.Kind.{Kind}
 use Rattle.relax_edges.specs.declared.kinds.Kind.TheVariants as kinds
 use Rattle.relax_edges.specs.declared.edge.Edge.{Edge}
-use Rattle.relax_edges.specs.EdgeTable.{kind_of, source_of, source_mark, target_mark, is_external}
-use Rattle.micro_ops.specs.declared.operation.Item.{Item}
+use Rattle.relax_edges.specs.EdgeTable.{kind_of, source_of, source_mark, is_external}
 use Rattle.resolution_laws.specs.Resolution.{edge_at, external_count, move_count, thread_of as event_thread, slot_of, events_in, event_after}
 use Rattle.resolution_laws.proofs.Threads.{event_in_slot, slot_of_event}
 use Rattle.resolution_laws.proofs.Around.{after_below, mark_after}
@@ -116,8 +115,8 @@ event_visit es visits i e k j thread v t s g =
     ∙ v.visit_is
 
 -- the step of an event
-step_there : (es : List Edge) (number : ℕ → ℕ) (i : ℕ) → i < length es → slice_get (thread_steps (cut_open es) number (event_thread (cut_open es) i))
-    (slot_of (cut_open es) i) ≡ Some (event_step (cut_open es) number i)
+step_there : (es : List Edge) (number : ℕ → ℕ) (i : ℕ) → i < length es
+    → slice_get (thread_steps (cut_open es) number (event_thread (cut_open es) i)) (slot_of (cut_open es) i) ≡ Some (event_step (cut_open es) number i)
 step_there es number i h =
     got_map (event_step (cut_open es) number) (events_in (cut_open es) (event_thread (cut_open es) i)) (slot_of (cut_open es) i) i
     (event_in_slot (cut_open es) i (omega (arith, h, opened-length es)))
@@ -219,10 +218,9 @@ event_is codes es number x i e r m h v =
     λ t. record { name = w.name_is t; access = sym c t }
 
 -- the visits of a thread are those of its steps
-visits_same : (arch : ArchName) (codes : List ThreadCode) (es : List Edge) (number : ℕ → ℕ) (x : Execution) (k : ℕ) (visits : List Visit)
-    (d : Made codes es number x k) → slice_get (visits_in (loop_program codes es) x) k ≡ Some visits → thread_visits
-    (thread_steps (cut_open es) number k) 0 0 d.reads ≡ visits
-visits_same arch codes es number x k visits d g =
+visits_same : (codes : List ThreadCode) (es : List Edge) (number : ℕ → ℕ) (x : Execution) (k : ℕ) (visits : List Visit) (d : Made codes es number x k)
+    → slice_get (visits_in (loop_program codes es) x) k ≡ Some visits → thread_visits (thread_steps (cut_open es) number k) 0 0 d.reads ≡ visits
+visits_same codes es number x k visits d g =
     let s : Some (thread_visits (thread_steps (cut_open es) number k) 0 0 d.reads) ≡ Some visits = sym d.visits_are ∙ g in
     cc
 
@@ -259,7 +257,7 @@ has_events arch codes es number x r = record {
   threads = omega (arith, length-map codes thread_from, codes-count arch codes es number x r);
   counts = λ k visits h g.
       let d = made arch codes es number x k r h in
-      sym (ap length (visits_same arch codes es number x k visits d g))
+      sym (ap length (visits_same codes es number x k visits d g))
       ∙ visits-count (thread_steps (cut_open es) number k) 0 0 d.reads
       ∙ length-map (events_in (cut_open es) k) (event_step (cut_open es) number)
       ∙ ap length (opened_events es k);
@@ -271,7 +269,7 @@ has_events arch codes es number x r = record {
         visits_below codes (move_count (cut_open es)) x k visits g,
         codes-count arch codes es number x r,
       )) in
-      subst StartsFree (visits_same arch codes es number x k visits d g)
+      subst StartsFree (visits_same codes es number x k visits d g)
       (starts_free (thread_steps (cut_open es) number k) d.reads (λ s q. first_plain es number k s q));
   ends = λ k items g.
       let d = made arch codes es number x k r (omega (arith, items_below codes (move_count (cut_open es)) x k items g, codes-count arch codes es number x r)) in

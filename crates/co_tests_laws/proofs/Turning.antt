@@ -123,8 +123,7 @@ read_write threads g n k v e f r pair h q less =
         Po (follows threads e f (read 0 (suc k)) (write 0 v) pair h q refl refl),
         (
           Co 0 (ordered threads g n j.rank k f w.name r (omega (arith, less, j.value_is, apart)) (omega arith) j.named w.named),
-          Rf
-              (from_write threads g n k e w.name h w.named),
+          Rf (from_write threads g n k e w.name h w.named),
         ),
       );
     })
@@ -143,8 +142,7 @@ read_read threads g n k v e f r pair h q less =
         Po (follows threads e f (read 0 (suc k)) (read 0 v) pair h q refl refl),
         (
           Fr (from_before threads g n v k f w.name r q (omega (arith, less)) (omega arith) w.named (suc k, w.there)),
-          Rf
-              (from_write threads g n k e w.name h w.named),
+          Rf (from_write threads g n k e w.name h w.named),
         ),
       );
     }

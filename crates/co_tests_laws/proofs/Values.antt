@@ -165,8 +165,8 @@ unfolding written
 written-all es = ap (count_by leaves_write) (take_all (length es) es (omega arith))
 
 -- the writes among the first edges up to a bound: one more place
-written_bounded : (es : List Edge) (m k : ℕ) → m < length es → written es (min (suc m) (k + 1)) ≡ written es (min m (k + 1)) + cond
-    (leaves_write (edge_at es m) && nat_le m k) 1 0
+written_bounded : (es : List Edge) (m k : ℕ) → m < length es
+    → written es (min (suc m) (k + 1)) ≡ written es (min m (k + 1)) + cond (leaves_write (edge_at es m) && nat_le m k) 1 0
 written_bounded es m k h =
     by_less k m
     (λ l. let a : min (suc m) (k + 1) ≡ k + 1 = omega arith in
@@ -277,8 +277,8 @@ value_counts es i c =
     ∙ ap (λ n. count_by (on_arc es (way_place (cut_open es)) i) (upto n)) (opened-length es)
 
 -- behind the cut: the writes since the cut
-pub value_late : (es : List Edge) (i : ℕ) (c : IsCut es) → c.cut.at < i → i < length es → value_of (cut_open es) i + written es (c.cut.at + 1) ≡ written es
-    (i + 1)
+pub value_late : (es : List Edge) (i : ℕ) (c : IsCut es) → c.cut.at < i → i < length es
+    → value_of (cut_open es) i + written es (c.cut.at + 1) ≡ written es (i + 1)
 value_late es i c h l =
     let a : min (length es) (c.cut.at + 1) ≡ c.cut.at + 1 = omega (arith, c.within) in
     let b : min (length es) (i + 1) ≡ i + 1 = omega arith in
@@ -291,8 +291,8 @@ value_late es i c h l =
     )
 
 -- before it, and at it: those behind the cut, and then those from event 0 on
-pub value_early : (es : List Edge) (i : ℕ) (c : IsCut es) → i ≤ c.cut.at → value_of (cut_open es) i + written es (c.cut.at + 1) ≡ writes_in es + written es
-    (i + 1)
+pub value_early : (es : List Edge) (i : ℕ) (c : IsCut es) → i ≤ c.cut.at
+    → value_of (cut_open es) i + written es (c.cut.at + 1) ≡ writes_in es + written es (i + 1)
 value_early es i c h =
     let a : min (length es) (c.cut.at + 1) ≡ c.cut.at + 1 = omega (arith, c.within) in
     let b : min (length es) (i + 1) ≡ i + 1 = omega (arith, h, c.within) in
@@ -320,8 +320,7 @@ write_count_is es c =
       arith,
       counted_all m (omega (arith, h)),
       count_upto-suc (λ j. leaves_write (edge_at es j)) m,
-      written_more es m
-          (omega (arith, h)),
+      written_more es m (omega (arith, h)),
     )
 
 -- one for a write, none for a read
@@ -338,8 +337,8 @@ pub next_written : (es : List Edge) (i : ℕ) → i < length es → written es (
 next_written es i h = rw (← add-one i) at (written_more es i h) ∙ ap (λ n. written es i + n) (one_for (source_of (edge_at es i)))
 
 -- along each edge but the cut the value grows by one into a write, and stays into a read
-pub value_along : (es : List Edge) (i : ℕ) (c : IsCut es) → i < length es → (i ≡ c.cut.at → ⊥) → value_of (cut_open es) (event_after es i) ≡ value_of
-    (cut_open es) i + writes_one (source_of (edge_at es (event_after es i)))
+pub value_along : (es : List Edge) (i : ℕ) (c : IsCut es) → i < length es → (i ≡ c.cut.at → ⊥)
+    → value_of (cut_open es) (event_after es i) ≡ value_of (cut_open es) i + writes_one (source_of (edge_at es (event_after es i)))
 value_along es i c h d =
     by_after es i h
     (λ l e. rw e
@@ -377,8 +376,7 @@ value_positive es i c h w =
       value_early es i c g,
       next_written es i h,
       one,
-      written_up es (c.cut.at + 1) (length es) (omega (arith, c.within))
-          (omega arith),
+      written_up es (c.cut.at + 1) (length es) (omega (arith, c.within)) (omega arith),
       written-all es,
     ))
 
