@@ -1,6 +1,6 @@
 -- A cycle that isn't refused has a coherence test, once it is turned so that its last edge leads to another thread.
-use Rattle.std.proofs.Common.{◌≡◌, ℕ, ◌+◌, ◌≤◌, Bool, true, false, not, cond, List, ◌++◌, drop, take, Option, Some, None, refl, sym, ◌∙◌, ap, subst, arith}
-use Rattle.std.specs.Prelude.{◌||◌, nat_lt, count_by}
+use Rattle.std.proofs.Common.{◌≡◌, ℕ, ◌≤◌, Bool, true, false, not, cond, List, ◌++◌, drop, take, Option, Some, None, refl, sym, ◌∙◌, ap, subst, arith}
+use Rattle.std.specs.Prelude.{◌||◌, nat_lt}
 use Rattle.std.specs.List.{list_all, list_any, position_from}
 use Rattle.std.specs.Option.{option_map, option_or}
 use Rattle.std.proofs.Math.Bool.{and_comm}
@@ -22,8 +22,8 @@ use Rattle.test_laws.proofs.Headline.{room_left}
 use Rattle.co_tests_laws.specs.declared.refusal.CoRefusal.{CoRefusal}
 use Rattle.co_tests_laws.specs.declared.refusal.CoRefusal.TheVariants.{NotOfArch, TooFewThreads, NotCoherence, ManyWrites, TooManyRegisters}
 use Rattle.co_tests_laws.specs.CutResolution.{is_ordering}
-use Rattle.co_tests_laws.specs.CoherenceTests.{HasCoherenceTest, writes_in, coherence_steps}
-use Rattle.co_tests_laws.specs.CoRefusals.{foreign_edge, reason_if, is_no_coherence, crowded_thread, coherence_refusal_of}
+use Rattle.co_tests_laws.specs.CoherenceTests.{writes_in, coherence_steps}
+use Rattle.co_tests_laws.specs.CoRefusals.{foreign_edge, reason_if, is_no_coherence, crowded_thread}
 use Rattle.co_tests_laws.specs.Incoherence.{AcceptedHaveTests}
 use Rattle.co_tests_laws.proofs.Values.{leaves_write}
 
@@ -80,16 +80,21 @@ writes_rotated k es =
 -- a cycle that isn't refused has a coherence test, once it is turned
 pub accepted_has_test : (a : Puts) → AcceptedHaveTests a
 accepted_has_test a cycle whole h =
-    let first = neither (foreign_edge a.name cycle) (option_or (reason_if (nat_lt (external_count cycle) 2) TooFewThreads) (option_or (reason_if (is_no_coherence cycle) NotCoherence) (option_or (reason_if (nat_lt 2 (writes_in cycle)) ManyWrites) (crowded_thread a (turned cycle))))) h in
-    let second = neither (reason_if (nat_lt (external_count cycle) 2) TooFewThreads) (option_or (reason_if (is_no_coherence cycle) NotCoherence) (option_or (reason_if (nat_lt 2 (writes_in cycle)) ManyWrites) (crowded_thread a (turned cycle)))) first.1 in
-    let third = neither (reason_if (is_no_coherence cycle) NotCoherence) (option_or (reason_if (nat_lt 2 (writes_in cycle)) ManyWrites) (crowded_thread a (turned cycle))) second.1 in
+    let first = neither (foreign_edge a.name cycle) (option_or (reason_if (nat_lt (external_count cycle) 2) TooFewThreads)
+    (option_or (reason_if (is_no_coherence cycle) NotCoherence) (option_or (reason_if (nat_lt 2 (writes_in cycle)) ManyWrites)
+    (crowded_thread a (turned cycle))))) h in
+    let second = neither (reason_if (nat_lt (external_count cycle) 2) TooFewThreads) (option_or (reason_if (is_no_coherence cycle) NotCoherence)
+    (option_or (reason_if (nat_lt 2 (writes_in cycle)) ManyWrites) (crowded_thread a (turned cycle)))) first.1 in
+    let third = neither (reason_if (is_no_coherence cycle) NotCoherence) (option_or (reason_if (nat_lt 2 (writes_in cycle)) ManyWrites)
+    (crowded_thread a (turned cycle))) second.1 in
     let fourth = neither (reason_if (nat_lt 2 (writes_in cycle)) ManyWrites) (crowded_thread a (turned cycle)) third.1 in
     let threads : 2 ≤ external_count cycle = ltb-false (external_count cycle) 2 (no_reason (nat_lt (external_count cycle) 2) TooFewThreads second.0) in
     let coherence = neither_true (list_any is_diff cycle) (not (list_any is_ordering cycle)) (no_reason (is_no_coherence cycle) NotCoherence third.0) in
     let few : writes_in cycle ≤ 2 = ltb-false 2 (writes_in cycle) (no_reason (nat_lt 2 (writes_in cycle)) ManyWrites fourth.0) in
     let t = turn_of cycle (omega (arith, threads)) in
     let turn : turned cycle ≡ rotated t.0 cycle = t.2.turn in
-    let of_arch : list_all (λ e. is_of_arch e a.name) cycle ≡ true = none_foreign (λ e. is_of_arch e a.name) cycle 0 (none_found (λ at. NotOfArch at) (position_from (λ e. not (is_of_arch e a.name)) 0 cycle) first.0) in
+    let of_arch : list_all (λ e. is_of_arch e a.name) cycle ≡ true = none_foreign (λ e. is_of_arch e a.name) cycle 0
+    (none_found (λ at. NotOfArch at) (position_from (λ e. not (is_of_arch e a.name)) 0 cycle) first.0) in
     record {
       composes = subst IsCycle (sym turn) (rotated_cycle t.0 cycle whole);
       outside = t.2.outside;
@@ -98,5 +103,6 @@ accepted_has_test a cycle whole h =
       one_location = ap (list_any is_diff) turn ∙ any_rotated is_diff t.0 cycle ∙ coherence.0;
       has_cut = ap (list_any is_ordering) turn ∙ any_rotated is_ordering t.0 cycle ∙ is_true (list_any is_ordering cycle) coherence.1;
       few_writes = subst (λ n. n ≤ 2) (sym (ap writes_in turn ∙ writes_rotated t.0 cycle)) few;
-      room = λ thread steps got. room_left a (coherence_steps (turned cycle)) thread steps (none_found (λ k. TooManyRegisters k) (position_from (is_crowded a) 0 (coherence_steps (turned cycle))) fourth.1) got;
+      room = λ thread steps got. room_left a (coherence_steps (turned cycle)) thread steps (none_found (λ k. TooManyRegisters k)
+          (position_from (is_crowded a) 0 (coherence_steps (turned cycle))) fourth.1) got;
     }

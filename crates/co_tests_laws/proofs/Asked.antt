@@ -1,6 +1,6 @@
 -- The condition of a coherence test is met by a candidate execution exactly where each load reads the number that is asked for
 -- and the place, where there are two writes, ends with the last value.
-use Rattle.std.proofs.Common.{◌≡◌, ℕ, ◌≤◌, Bool, true, not, cond, List, [], ◌∷◌, length, map, Option, Some, slice_get, refl, sym, ◌∙◌, ap, subst, arith}
+use Rattle.std.proofs.Common.{◌≡◌, ℕ, ◌≤◌, Bool, true, not, cond, List, [], ◌∷◌, length, map, Option, Some, slice_get, sym, ◌∙◌, ap, subst, arith}
 use Rattle.std.specs.Prelude.{nat_le}
 use Rattle.std.specs.List.{AllByRecursion, filter}
 use Rattle.std.specs.Option.{option_map, option_and_then}
@@ -31,7 +31,7 @@ use Rattle.program_meaning.specs.Coherence.{final_value}
 use Rattle.program_meaning.specs.Programs.{IsCandidate, accesses_in, held_at_last, register_in}
 use Rattle.program_meaning.specs.Intended.{cycle_accesses}
 use Rattle.communication_laws.specs.Joining.{ReadsAsAsked, values_read}
-use Rattle.communication_laws.proofs.Lists.{got_below, got_map, image_of}
+use Rattle.communication_laws.proofs.Lists.{got_below, got_map}
 use Rattle.test_laws.specs.CycleSteps.{cycle_steps, numbers_read}
 use Rattle.test_laws.specs.TestOf.{plain, is_named_location, last_term, last_terms, thread_terms, load_terms}
 use Rattle.test_laws.specs.FinalStates.{final_state}
@@ -58,7 +58,8 @@ abbrev pub loop_codes : Puts → List Edge → (ℕ → ℕ) → List ThreadCode
 loop_codes a es number = cycle_codes a (cut_open es) Avoid number
 
 -- the code makes the accesses
-pub are_codes : (a : Puts) (es : List Edge) (number : ℕ → ℕ) → IsArch a → IsLoopOf a.name es → AreCodesOf (loop_codes a es number) (cycle_steps (cut_open es) Avoid number)
+pub are_codes : (a : Puts) (es : List Edge) (number : ℕ → ℕ) → IsArch a → IsLoopOf a.name es
+    → AreCodesOf (loop_codes a es number) (cycle_steps (cut_open es) Avoid number)
 are_codes a es number laws r = record {
   count =
       length-map (map (compiled a) (coherence_steps es)) (renumbered number)
@@ -71,16 +72,19 @@ are_codes a es number laws r = record {
         code = renumbered number (compiled a p.plain_steps);
         code_at = p.code_at;
         makes = subst (λ (l : List Step). MakesSteps l (renumbered number (compiled a p.plain_steps))) p.steps_are
-            (renumbered_makes number p.plain_steps (compiled a p.plain_steps) (makes_steps a laws p.plain_steps (loop_thread es plain a.name k p.plain_steps r p.plain_at).fit));
+            (renumbered_makes number p.plain_steps (compiled a p.plain_steps) (makes_steps a laws p.plain_steps
+            (loop_thread es plain a.name k p.plain_steps r p.plain_at).fit));
       };
 }
 
 -- the registers of a thread's loads are the architecture's
-loads_below : (a : Puts) (es : List Edge) (k : ℕ) (steps : List Step) → IsArch a → HasLoopCode a es → slice_get (coherence_steps es) k ≡ Some steps → AllBelow a.registers (compiled a steps).loads
+loads_below : (a : Puts) (es : List Edge) (k : ℕ) (steps : List Step) → IsArch a → HasLoopCode a es → slice_get (coherence_steps es) k ≡ Some steps
+    → AllBelow a.registers (compiled a steps).loads
 loads_below a es k steps laws t g = (is_formed a laws steps (loop_thread es plain a.name k steps t.loop_of g).fit (t.room k steps g)).loads
 
 -- the final state shows what each register of a thread holds at the end of its run
-shows : (a : Puts) (es : List Edge) (number : ℕ → ℕ) (names : List (List ℕ)) (register_name : ℕ → List ℕ) (register_number : List ℕ → Option ℕ) (x : Execution) (k : ℕ) (steps : List Step) (reads : List (ℕ × Option WriteAt))
+shows : (a : Puts) (es : List Edge) (number : ℕ → ℕ) (names : List (List ℕ)) (register_name : ℕ → List ℕ) (register_number : List ℕ
+    → Option ℕ) (x : Execution) (k : ℕ) (steps : List Step) (reads : List (ℕ × Option WriteAt))
     → FindsRegisters a register_name register_number → (d : DidThread (loop_codes a es number) (move_count (cut_open es)) x k steps reads)
     → ShowsRegisters (final_state (cycle_program a (cut_open es) Avoid number) names register_number x) register_name k a.registers d.regs
 shows a es number names register_name register_number x k steps reads finds d q h =
@@ -95,7 +99,8 @@ record Ran (a : Puts) (es : List Edge) (number : ℕ → ℕ) (x : Execution) (k
   numbers : numbers_read origin.plain_steps ≡ numbers_read steps
   count : length (values_read reads) ≡ length (numbers_read origin.plain_steps)
 
-ran : (a : Puts) (es : List Edge) (number : ℕ → ℕ) (x : Execution) (k : ℕ) (steps : List Step) (reads : List (ℕ × Option WriteAt)) → IsArch a → HasLoopCode a es → IsCandidate (cycle_program a (cut_open es) Avoid number) x
+ran : (a : Puts) (es : List Edge) (number : ℕ → ℕ) (x : Execution) (k : ℕ) (steps : List Step) (reads : List (ℕ × Option WriteAt)) → IsArch a
+    → HasLoopCode a es → IsCandidate (cycle_program a (cut_open es) Avoid number) x
     → slice_get (cycle_steps (cut_open es) Avoid number) k ≡ Some steps → slice_get x.reads k ≡ Some reads → Ran a es number x k steps reads
 ran a es number x k steps reads laws t c g h =
     let m = are_codes a es number laws t.loop_of in
@@ -115,11 +120,15 @@ ran a es number x k steps reads laws t c g h =
     }
 
 -- where the terms of all loads are met, the values read are those asked for
-pub reads_asked : (a : Puts) (es : List Edge) (number : ℕ → ℕ) (names : List (List ℕ)) (register_name : ℕ → List ℕ) (register_number : List ℕ → Option ℕ) (x : Execution) → IsArch a → HasLoopCode a es
-    → FindsRegisters a register_name register_number → IsCandidate (cycle_program a (cut_open es) Avoid number) x
-    → AllByRecursion (IsMet (final_state (cycle_program a (cut_open es) Avoid number) names register_number x)) (load_terms a register_name 0 (coherence_steps es)) → ReadsAsAsked (cut_open es) Avoid number x
+pub reads_asked : (a : Puts) (es : List Edge) (number : ℕ → ℕ) (names : List (List ℕ)) (register_name : ℕ → List ℕ)
+    (register_number : List ℕ → Option ℕ) (x : Execution)
+    → IsArch a → HasLoopCode a es → FindsRegisters a register_name register_number → IsCandidate (cycle_program a (cut_open es) Avoid number) x
+    → AllByRecursion (IsMet (final_state (cycle_program a (cut_open es) Avoid number) names register_number x))
+    (load_terms a register_name 0 (coherence_steps es))
+    → ReadsAsAsked (cut_open es) Avoid number x
 reads_asked a es number names register_name register_number x laws t finds c met k planned reads g h =
-    let s = got_below (cycle_steps (cut_open es) Avoid number) k (omega (arith, slice_get_within (cycle_accesses (cut_open es) Avoid number) k planned g, planned-count (cut_open es) Avoid number)) in
+    let s = got_below (cycle_steps (cut_open es) Avoid number) k
+    (omega (arith, slice_get_within (cycle_accesses (cut_open es) Avoid number) k planned g, planned-count (cut_open es) Avoid number)) in
     let f : Some (map step_access s.element) ≡ Some planned = sym (planned_at (cut_open es) Avoid number k s.element s.got) ∙ g in
     let q : map step_access s.element ≡ planned = cc in
     let r = ran a es number x k s.element reads laws t c s.got h in
@@ -132,60 +141,84 @@ reads_asked a es number names register_name register_number x laws t finds c met
     ∙ ap (λ l. map (λ (access : Access). access.value) (filter is_read l)) q
 
 -- and back
-pub asked_met : (a : Puts) (es : List Edge) (number : ℕ → ℕ) (names : List (List ℕ)) (register_name : ℕ → List ℕ) (register_number : List ℕ → Option ℕ) (x : Execution) → IsArch a → HasLoopCode a es
-    → FindsRegisters a register_name register_number → IsCandidate (cycle_program a (cut_open es) Avoid number) x → ReadsAsAsked (cut_open es) Avoid number x
-    → AllByRecursion (IsMet (final_state (cycle_program a (cut_open es) Avoid number) names register_number x)) (load_terms a register_name 0 (coherence_steps es))
+pub asked_met : (a : Puts) (es : List Edge) (number : ℕ → ℕ) (names : List (List ℕ)) (register_name : ℕ → List ℕ)
+    (register_number : List ℕ → Option ℕ) (x : Execution)
+    → IsArch a → HasLoopCode a es → FindsRegisters a register_name register_number → IsCandidate (cycle_program a (cut_open es) Avoid number) x
+    → ReadsAsAsked (cut_open es) Avoid number x
+    → AllByRecursion (IsMet (final_state (cycle_program a (cut_open es) Avoid number) names register_number x))
+    (load_terms a register_name 0 (coherence_steps es))
 asked_met a es number names register_name register_number x laws t finds c asked =
-    terms_from_threads (IsMet final) a register_name 0 (coherence_steps es) (λ k m steps e g. subst (λ i. AllByRecursion (IsMet final) (thread_terms a register_name i steps)) (let z : k ≡ m = omega (arith, e) in z) (thread_met k steps g))
+    terms_from_threads (IsMet final) a register_name 0 (coherence_steps es)
+    (λ k m steps e g. subst (λ i. AllByRecursion (IsMet final) (thread_terms a register_name i steps)) (let z : k ≡ m = omega (arith, e) in z)
+    (thread_met k steps g))
   where
     final : LeftSeen → Option Value
     final = final_state (cycle_program a (cut_open es) Avoid number) names register_number x
 
-    thread_met : (k : ℕ) (steps : List Step) → slice_get (coherence_steps es) k ≡ Some steps → AllByRecursion (IsMet final) (thread_terms a register_name k steps)
+    thread_met : (k : ℕ) (steps : List Step) → slice_get (coherence_steps es) k ≡ Some steps → AllByRecursion (IsMet final)
+        (thread_terms a register_name k steps)
     thread_met k steps g =
         let made : slice_get (cycle_steps (cut_open es) Avoid number) k ≡ Some (map (step_at number) steps) =
         ap (λ l. slice_get l k) (sym (steps_numbered (cut_open es) Avoid number)) ∙ got_map (map (step_at number)) (coherence_steps es) k steps g in
-        let reads = got_below x.reads k (omega (arith, candidate_lists (loop_codes a es number) (cut_open es) Avoid number x (are_codes a es number laws t.loop_of) c, slice_get_within (cycle_steps (cut_open es) Avoid number) k (map (step_at number) steps) made)) in
+        let reads = got_below x.reads k (omega (
+          arith,
+          candidate_lists (loop_codes a es number) (cut_open es) Avoid number x
+              (are_codes a es number laws t.loop_of) c,
+          slice_get_within (cycle_steps (cut_open es) Avoid number) k (map (step_at number) steps) made,
+        )) in
         let r = ran a es number x k (map (step_at number) steps) reads.element laws t c made reads.got in
         let s : Some r.origin.plain_steps ≡ Some steps = sym r.origin.plain_at ∙ g in
         let q : r.origin.plain_steps ≡ steps = cc in
         subst (λ l. AllByRecursion (IsMet final) (thread_terms a register_name k l)) q
         (read_terms a final register_name k r.origin.plain_steps r.did.regs (values_read reads.element)
         (shows a es number names register_name register_number x k (map (step_at number) steps) reads.element finds r.did) r.below r.loaded
-        (asked k (map step_access (map (step_at number) steps)) reads.element (planned_at (cut_open es) Avoid number k (map (step_at number) steps) made) reads.got
+        (asked k (map step_access (map (step_at number) steps)) reads.element (planned_at (cut_open es) Avoid number k
+        (map (step_at number) steps) made) reads.got
         ∙ planned_reads (map (step_at number) steps)
         ∙ sym r.numbers))
 
 -- the place shows its final value
-place_shows : (a : Puts) (es : List Edge) (number : ℕ → ℕ) (names : List (List ℕ)) (register_number : List ℕ → Option ℕ) (x : Execution) → number_in names (location_name 0) ≡ Some 0
-    → final_state (cycle_program a (cut_open es) Avoid number) names register_number x (AtPlace (location_name 0)) ≡ Some (Num (final_value (accesses_in (cycle_program a (cut_open es) Avoid number) x) x 0))
+place_shows : (a : Puts) (es : List Edge) (number : ℕ → ℕ) (names : List (List ℕ)) (register_number : List ℕ → Option ℕ) (x : Execution)
+    → number_in names (location_name 0) ≡ Some 0
+    → final_state (cycle_program a (cut_open es) Avoid number) names register_number x (AtPlace (location_name 0))
+    ≡ Some (Num (final_value (accesses_in (cycle_program a (cut_open es) Avoid number) x) x 0))
 place_shows a es number names register_number x named =
     ap (option_map (λ place. Num (final_value (accesses_in (cycle_program a (cut_open es) Avoid number) x) x place))) named
 
 -- the term of the place is there where it has two writes
-ends_terms : (es : List Edge) → IsCut es → last_terms (cut_open es) Avoid ≡ map (last_term (cut_open es)) (cond (is_named_location (cut_open es) Avoid 0) (0 ∷ []) [])
+ends_terms : (es : List Edge) → IsCut es
+    → last_terms (cut_open es) Avoid ≡ map (last_term (cut_open es)) (cond (is_named_location (cut_open es) Avoid 0) (0 ∷ []) [])
 ends_terms es c = ap (λ n. map (last_term (cut_open es)) (filter (is_named_location (cut_open es) Avoid) (upto n))) (one_move es c)
 
 -- where it is met, the place ends with the last value
-pub ends_asked : (a : Puts) (es : List Edge) (number : ℕ → ℕ) (names : List (List ℕ)) (register_number : List ℕ → Option ℕ) (x : Execution) → IsCut es → number_in names (location_name 0) ≡ Some 0
+pub ends_asked : (a : Puts) (es : List Edge) (number : ℕ → ℕ) (names : List (List ℕ)) (register_number : List ℕ → Option ℕ) (x : Execution) → IsCut es
+    → number_in names (location_name 0) ≡ Some 0
     → AllByRecursion (IsMet (final_state (cycle_program a (cut_open es) Avoid number) names register_number x)) (last_terms (cut_open es) Avoid)
     → 2 ≤ writes_in es → final_value (accesses_in (cycle_program a (cut_open es) Avoid number) x) x 0 ≡ writes_in es
 ends_asked a es number names register_number x c named met two =
-    let t : is_named_location (cut_open es) Avoid 0 ≡ true = and_from (nat_le 2 (write_count (cut_open es) 0)) (not (is_observed (cut_open es) Avoid 0)) (le-leb 2 (write_count (cut_open es) 0) (omega (arith, two, write_count_is es c))) (ap not (unobserved (cut_open es) 0)) in
-    let m = subst (AllByRecursion (IsMet (final_state (cycle_program a (cut_open es) Avoid number) names register_number x))) (ends_terms es c ∙ ap (λ b. map (last_term (cut_open es)) (cond b (0 ∷ []) [])) t) met in
-    let e : Some (Num (final_value (accesses_in (cycle_program a (cut_open es) Avoid number) x) x 0)) ≡ Some (Num (write_count (cut_open es) 0)) = sym (place_shows a es number names register_number x named) ∙ m.0 in
+    let t : is_named_location (cut_open es) Avoid 0 ≡ true = and_from (nat_le 2 (write_count (cut_open es) 0)) (not (is_observed (cut_open es) Avoid 0))
+    (le-leb 2 (write_count (cut_open es) 0) (omega (arith, two, write_count_is es c))) (ap not (unobserved (cut_open es) 0)) in
+    let m = subst (AllByRecursion (IsMet (final_state (cycle_program a (cut_open es) Avoid number) names register_number x))) (ends_terms es c
+    ∙ ap (λ b. map (last_term (cut_open es)) (cond b (0 ∷ []) [])) t) met in
+    let e : Some (Num (final_value (accesses_in (cycle_program a (cut_open es) Avoid number) x) x 0)) ≡ Some (Num (write_count (cut_open es) 0)) =
+    sym (place_shows a es number names register_number x named) ∙ m.0 in
     let f : final_value (accesses_in (cycle_program a (cut_open es) Avoid number) x) x 0 ≡ write_count (cut_open es) 0 = cc in
     f ∙ write_count_is es c
 
 -- and back
-pub asked_ends : (a : Puts) (es : List Edge) (number : ℕ → ℕ) (names : List (List ℕ)) (register_number : List ℕ → Option ℕ) (x : Execution) → IsCut es → number_in names (location_name 0) ≡ Some 0
+pub asked_ends : (a : Puts) (es : List Edge) (number : ℕ → ℕ) (names : List (List ℕ)) (register_number : List ℕ → Option ℕ) (x : Execution) → IsCut es
+    → number_in names (location_name 0) ≡ Some 0
     → (2 ≤ writes_in es → final_value (accesses_in (cycle_program a (cut_open es) Avoid number) x) x 0 ≡ writes_in es)
     → AllByRecursion (IsMet (final_state (cycle_program a (cut_open es) Avoid number) names register_number x)) (last_terms (cut_open es) Avoid)
 asked_ends a es number names register_number x c named asked =
     by_test (is_named_location (cut_open es) Avoid 0)
-    (λ t. let two = leb-true 2 (write_count (cut_open es) 0) (and_parts (nat_le 2 (write_count (cut_open es) 0)) (not (is_observed (cut_open es) Avoid 0)) t).0 in
-    subst met (sym (ends_terms es c ∙ ap terms t))
-    (place_shows a es number names register_number x named ∙ ap (λ v. Some (Num v)) (asked (omega (arith, two, write_count_is es c)) ∙ sym (write_count_is es c)), tt))
+    (λ t. let two = leb-true 2 (write_count (cut_open es) 0) (and_parts (nat_le 2 (write_count (cut_open es) 0))
+    (not (is_observed (cut_open es) Avoid 0)) t).0 in
+    subst met (sym (ends_terms es c ∙ ap terms t)) (
+      place_shows a es number names register_number x named ∙ ap (λ v. Some (Num v)) (asked (omega (arith, two, write_count_is es c))
+          ∙ sym (write_count_is es c)),
+      tt,
+    ))
     (λ f. subst met (sym (ends_terms es c ∙ ap terms f)) tt)
   where
     met : List TermSeen → Type 0

@@ -80,10 +80,12 @@ pub opened_name : (es : List Edge) (i : ℕ) → event_name (cut_open es) i ≡ 
 opened_name es i = λ t. record { thread = opened_thread es i t; access = opened_slot es i t }
 
 -- each event is at its name
-pub event_there : (es : List Edge) (number : ℕ → ℕ) (i : ℕ) → IsLoop es → i < length es → at_name (loop_accesses es number) (event_name (cut_open es) i) ≡ Some (event_access (cut_open es) number i)
+pub event_there : (es : List Edge) (number : ℕ → ℕ) (i : ℕ) → IsLoop es → i < length es
+    → at_name (loop_accesses es number) (event_name (cut_open es) i) ≡ Some (event_access (cut_open es) number i)
 event_there es number i r h =
     ap (λ o. got_from o (slot_of (cut_open es) i)) (thread_accesses (cut_open es) Avoid number (thread_of (cut_open es) i) (opened_under es i r h))
-    ∙ got_map (event_access (cut_open es) number) (events_in (cut_open es) (thread_of (cut_open es) i)) (slot_of (cut_open es) i) i (event_in_slot (cut_open es) i (omega (arith, h, opened-length es)))
+    ∙ got_map (event_access (cut_open es) number) (events_in (cut_open es) (thread_of (cut_open es) i)) (slot_of (cut_open es) i) i
+    (event_in_slot (cut_open es) i (omega (arith, h, opened-length es)))
 
 none_kept : (xs : List ℕ) → filter (λ _. false) xs ≡ []
 none_kept [] = refl
@@ -103,11 +105,13 @@ no_observer : (es : List Edge) (number : ℕ → ℕ) (o : ℕ) → slice_get (m
 no_observer es number o = ap (λ l. slice_get (map (observer_accesses es number) l) o) (none_observed es)
 
 -- each access is an event
-pub event_from : (es : List Edge) (number : ℕ → ℕ) (name : WriteAt) (access : Access) → at_name (loop_accesses es number) name ≡ Some access → EventAt (cut_open es) number name access
+pub event_from : (es : List Edge) (number : ℕ → ℕ) (name : WriteAt) (access : Access) → at_name (loop_accesses es number) name ≡ Some access
+    → EventAt (cut_open es) number name access
 event_from es number name access h =
     by_less name.thread (external_count (cut_open es)) as_event
     (λ l. let e : name.thread ≡ external_count (cut_open es) + (name.thread - external_count (cut_open es)) = omega (arith, l) in
-    let n : None ≡ Some g.list = sym (no_observer (cut_open es) number (name.thread - external_count (cut_open es))) ∙ sym (observer_thread (cut_open es) Avoid number name.thread (name.thread - external_count (cut_open es)) e) ∙ g.list_is in
+    let n : None ≡ Some g.list = sym (no_observer (cut_open es) number (name.thread - external_count (cut_open es)))
+    ∙ sym (observer_thread (cut_open es) Avoid number name.thread (name.thread - external_count (cut_open es)) e) ∙ g.list_is in
     cc)
   where
     g : GotFrom (slice_get (loop_accesses es number) name.thread) name.access access
@@ -115,7 +119,8 @@ event_from es number name access h =
 
     as_event : name.thread < external_count (cut_open es) → EventAt (cut_open es) number name access
     as_event l =
-        let s : Some g.list ≡ Some (map (event_access (cut_open es) number) (events_in (cut_open es) name.thread)) = sym g.list_is ∙ thread_accesses (cut_open es) Avoid number name.thread l in
+        let s : Some g.list ≡ Some (map (event_access (cut_open es) number) (events_in (cut_open es) name.thread)) = sym g.list_is
+        ∙ thread_accesses (cut_open es) Avoid number name.thread l in
         let e : g.list ≡ map (event_access (cut_open es) number) (events_in (cut_open es) name.thread) = cc in
         let i = image_of (event_access (cut_open es) number) (events_in (cut_open es) name.thread) name.access access (rw e at g.got) in
         let w = slot_of_event (cut_open es) name.thread name.access i.element i.got in
@@ -129,7 +134,8 @@ place_zero : (es : List Edge) (number : ℕ → ℕ) (i : ℕ) → IsCut es → 
 place_zero es number i c n = ap number (one_location es i c) ∙ number_zero es number c n
 
 -- a write event is the write of its number
-pub named_write : (es : List Edge) (i k : ℕ) → IsCut es → i < length es → source_of (edge_at es i) ≡ dirs.W → value_of (cut_open es) i ≡ suc k → loop_write es k ≡ Some (event_name (cut_open es) i)
+pub named_write : (es : List Edge) (i k : ℕ) → IsCut es → i < length es → source_of (edge_at es i) ≡ dirs.W → value_of (cut_open es) i ≡ suc k
+    → loop_write es k ≡ Some (event_name (cut_open es) i)
 named_write es i k c h w v =
     ap (option_map (event_name (cut_open es)))
     (is_write_number (cut_open es) 0 k i (record {
@@ -139,7 +145,8 @@ named_write es i k c h w v =
     }))
 
 -- the accesses of the test are numbered by their values
-pub numbered : (es : List Edge) (number : ℕ → ℕ) → IsLoop es → IsNumbering (cut_open es) number → Numbered (loop_accesses es number) (loop_write es) (writes_in es)
+pub numbered : (es : List Edge) (number : ℕ → ℕ) → IsLoop es → IsNumbering (cut_open es) number
+    → Numbered (loop_accesses es number) (loop_write es) (writes_in es)
 numbered es number r n = record {
   gives = λ k h.
       let w = value_written es k c h in
@@ -147,7 +154,11 @@ numbered es number r n = record {
         name = event_name (cut_open es) w.event;
         named = named_write es w.event k c w.below w.writes w.value;
         there = event_there es number w.event r w.below
-            ∙ ap Some (λ t. record { dir = (same_at source_of source_same es w.event ∙ w.writes) t; place = place_zero es number w.event c n t; value = w.value t });
+            ∙ ap Some (λ t. record {
+              dir = (same_at source_of source_same es w.event ∙ w.writes) t;
+              place = place_zero es number w.event c n t;
+              value = w.value t;
+            });
       };
   writes = λ w place value h.
       let e = event_from es number w (write place value) h in
@@ -161,7 +172,8 @@ numbered es number r n = record {
         below = omega (arith, some, value_within es e.event c below);
         place_is = sym (ap (λ (a : Access). a.place) e.access_is) ∙ place_zero es number e.event c n;
         value_is = sym v ∙ q;
-        named = named_write es e.event (value_of (cut_open es) e.event - 1) c below d q ∙ ap Some (λ t. record { thread = sym e.thread t; access = sym e.slot t });
+        named = named_write es e.event (value_of (cut_open es) e.event - 1) c below d q
+            ∙ ap Some (λ t. record { thread = sym e.thread t; access = sym e.slot t });
       };
   place = λ name access h. let e = event_from es number name access h in sym (ap (λ (a : Access). a.place) e.access_is) ∙ place_zero es number e.event c n;
   within = λ name access h.
@@ -179,28 +191,42 @@ write_is es zero = refl
 write_is es (suc k) = refl
 
 -- what a thread reads in the stated execution
-thread_reads : (es : List Edge) (number : ℕ → ℕ) (k : ℕ) → IsCut es → map (event_read (cut_open es)) (reads_in (cut_open es) k) ≡ reads_by_source (source_in (loop_write es)) (filter is_read (map (event_access (cut_open es) number) (events_in (cut_open es) k)))
+thread_reads : (es : List Edge) (number : ℕ → ℕ) (k : ℕ) → IsCut es
+    → map (event_read (cut_open es)) (reads_in (cut_open es) k)
+    ≡ reads_by_source (source_in (loop_write es)) (filter is_read (map (event_access (cut_open es) number) (events_in (cut_open es) k)))
 thread_reads es number k c =
     map_same (event_read (cut_open es)) (λ i. (value_of (cut_open es) i, by_value (loop_write es) (value_of (cut_open es) i))) (reads_in (cut_open es) k)
-    (λ i t. (value_of (cut_open es) i, (ap (λ l. write_of (cut_open es) l (value_of (cut_open es) i)) (one_location es i c) ∙ write_is es (value_of (cut_open es) i)) t))
+    (λ i t. (
+      value_of (cut_open es) i,
+      (ap (λ l. write_of (cut_open es) l (value_of (cut_open es) i)) (one_location es i c)
+          ∙ write_is es (value_of (cut_open es) i)) t,
+    ))
     ∙ sym (map-map (event_access (cut_open es) number) (λ access. (access.value, source_in (loop_write es) access)) (reads_in (cut_open es) k))
     ∙ ap (reads_by_source (source_in (loop_write es))) (sym (filter-map is_read (event_access (cut_open es) number) (events_in (cut_open es) k)))
 
 -- the stated execution is the one by values
-pub stated_is : (es : List Edge) (number : ℕ → ℕ) → IsCut es → IsNumbering (cut_open es) number → intended (cut_open es) Avoid number ≡ by_values (loop_accesses es number) (loop_write es) (writes_in es)
+pub stated_is : (es : List Edge) (number : ℕ → ℕ) → IsCut es → IsNumbering (cut_open es) number
+    → intended (cut_open es) Avoid number ≡ by_values (loop_accesses es number) (loop_write es) (writes_in es)
 unfolding intended cycle_accesses location_order
 stated_is es number c n =
     let threads = upto (external_count (cut_open es)) in
     let f : List Access → List (ℕ × Option WriteAt) = λ accesses. reads_by_source (source_in (loop_write es)) (filter is_read accesses) in
     let events : ℕ → List Access = λ k. map (event_access (cut_open es) number) (events_in (cut_open es) k) in
-    let reads : map (λ k. map (event_read (cut_open es)) (reads_in (cut_open es) k)) threads ++ map (observer_reads (cut_open es)) (observed_locations (cut_open es) Avoid) ≡ map f (map events threads ++ map (observer_accesses (cut_open es) number) (observed_locations (cut_open es) Avoid)) =
+    let reads : map (λ k. map (event_read (cut_open es)) (reads_in (cut_open es) k)) threads ++ map (observer_reads (cut_open es))
+    (observed_locations (cut_open es) Avoid) ≡ map f (map events threads ++ map (observer_accesses (cut_open es) number)
+    (observed_locations (cut_open es) Avoid)) =
     ap (λ l. map (λ k. map (event_read (cut_open es)) (reads_in (cut_open es) k)) threads ++ map (observer_reads (cut_open es)) l) (none_observed (cut_open es))
-    ∙ ap (λ l. l ++ []) (map_same (λ k. map (event_read (cut_open es)) (reads_in (cut_open es) k)) (λ k. f (events k)) threads (λ k. thread_reads es number k c) ∙ sym (map-map events f threads))
+    ∙ ap (λ l. l ++ []) (map_same (λ k. map (event_read (cut_open es)) (reads_in (cut_open es) k)) (λ k. f (events k)) threads
+    (λ k. thread_reads es number k c) ∙ sym (map-map events f threads))
     ∙ ap (λ l. map f (map events threads) ++ map f (map (observer_accesses (cut_open es) number) l)) (sym (none_observed (cut_open es)))
     ∙ sym (map-append f (map events threads) (map (observer_accesses (cut_open es) number) (observed_locations (cut_open es) Avoid))) in
-    let at : location_numbered (cut_open es) number 0 ≡ 0 = ap (location_numbered (cut_open es) number) (sym (number_zero es number c n)) ∙ location_of_number (cut_open es) number 0 n (omega (arith, one_move es c)) in
-    let orders : map (λ place. filter_map (ordered_write (cut_open es) (location_numbered (cut_open es) number place)) (upto (write_count (cut_open es) (location_numbered (cut_open es) number place)))) (upto (move_count (cut_open es))) ≡ filter_map (loop_write es) (upto (writes_in es)) ∷ [] =
-    ap (λ m. map (λ place. filter_map (ordered_write (cut_open es) (location_numbered (cut_open es) number place)) (upto (write_count (cut_open es) (location_numbered (cut_open es) number place)))) (upto m)) (one_move es c)
+    let at : location_numbered (cut_open es) number 0 ≡ 0 = ap (location_numbered (cut_open es) number) (sym (number_zero es number c n))
+    ∙ location_of_number (cut_open es) number 0 n (omega (arith, one_move es c)) in
+    let orders : map (λ place. filter_map (ordered_write (cut_open es) (location_numbered (cut_open es) number place))
+    (upto (write_count (cut_open es) (location_numbered (cut_open es) number place)))) (upto (move_count (cut_open es))) ≡ filter_map (loop_write es)
+    (upto (writes_in es)) ∷ [] =
+    ap (λ m. map (λ place. filter_map (ordered_write (cut_open es) (location_numbered (cut_open es) number place))
+    (upto (write_count (cut_open es) (location_numbered (cut_open es) number place)))) (upto m)) (one_move es c)
     ∙ ap (λ l. filter_map (ordered_write (cut_open es) l) (upto (write_count (cut_open es) l)) ∷ []) at
     ∙ ap (λ m. filter_map (loop_write es) (upto m) ∷ []) (write_count_is es c) in
     λ t. record { reads = reads t; orders = orders t }
@@ -212,13 +238,15 @@ com_not_cut es i k reach c e q =
     cc
 
 -- along a communication the value grows by one into a write, and stays into a read
-pub value_through : (es : List Edge) (i : ℕ) (k : Com) (reach : Reach) → IsLoop es → i < length es → kind_of (edge_at es i) ≡ kinds.Com k reach → value_of (cut_open es) (event_after es i) ≡ value_of (cut_open es) i + writes_one (target_of (edge_at es i))
+pub value_through : (es : List Edge) (i : ℕ) (k : Com) (reach : Reach) → IsLoop es → i < length es → kind_of (edge_at es i) ≡ kinds.Com k reach
+    → value_of (cut_open es) (event_after es i) ≡ value_of (cut_open es) i + writes_one (target_of (edge_at es i))
 value_through es i k reach r h e =
     value_along es i r.is_cut h (com_not_cut es i k reach r.is_cut e)
     ∙ ap (λ d. value_of (cut_open es) i + writes_one d) (source_after es i r.composes h)
 
 -- the write of a write event's value is the event
-own_write : (es : List Edge) (i : ℕ) → IsLoop es → i < length es → source_of (edge_at es i) ≡ dirs.W → by_value (loop_write es) (value_of (cut_open es) i) ≡ Some (event_name (cut_open es) i)
+own_write : (es : List Edge) (i : ℕ) → IsLoop es → i < length es → source_of (edge_at es i) ≡ dirs.W
+    → by_value (loop_write es) (value_of (cut_open es) i) ≡ Some (event_name (cut_open es) i)
 own_write es i r h w =
     let some : 0 < value_of (cut_open es) i = value_positive es i r.is_cut h w in
     let q : value_of (cut_open es) i ≡ suc (value_of (cut_open es) i - 1) = omega (arith, some) in
@@ -233,14 +261,18 @@ reads_from : (es : List Edge) (number : ℕ → ℕ) (i : ℕ) (reach : Reach) �
     → source_at (loop_accesses es number) (loop_execution es number) (event_name (cut_open es) (event_after es i)) ≡ Some (event_name (cut_open es) i)
 reads_from es number i reach r h e =
     let after = after_below es i h in
-    let d : source_of (edge_at (cut_open es) (event_after es i)) ≡ dirs.R = same_at source_of source_same es (event_after es i) ∙ source_after es i r.composes h ∙ ap kind_target e in
-    let v : value_of (cut_open es) (event_after es i) ≡ value_of (cut_open es) i = omega (arith, value_through es i coms.Rf reach r h e, ap writes_one (ap kind_target e)) in
-    by_values_source (loop_accesses es number) (loop_write es) (writes_in es) (event_name (cut_open es) (event_after es i)) (event_access (cut_open es) number (event_after es i)) (event_there es number (event_after es i) r after) (ap reads_by d)
+    let d : source_of (edge_at (cut_open es) (event_after es i)) ≡ dirs.R = same_at source_of source_same es (event_after es i)
+    ∙ source_after es i r.composes h ∙ ap kind_target e in
+    let v : value_of (cut_open es) (event_after es i) ≡ value_of (cut_open es) i =
+    omega (arith, value_through es i coms.Rf reach r h e, ap writes_one (ap kind_target e)) in
+    by_values_source (loop_accesses es number) (loop_write es) (writes_in es) (event_name (cut_open es) (event_after es i))
+    (event_access (cut_open es) number (event_after es i)) (event_there es number (event_after es i) r after) (ap reads_by d)
     ∙ ap (by_value (loop_write es)) v
     ∙ own_write es i r h (ap kind_source e)
 
 -- along a communication into a write the coherence place grows
-comes_before : (es : List Edge) (number : ℕ → ℕ) (i : ℕ) (k : Com) (reach : Reach) → IsLoop es → IsNumbering (cut_open es) number → i < length es → kind_of (edge_at es i) ≡ kinds.Com k reach → kind_target (kinds.Com k reach) ≡ dirs.W
+comes_before : (es : List Edge) (number : ℕ → ℕ) (i : ℕ) (k : Com) (reach : Reach) → IsLoop es → IsNumbering (cut_open es) number → i < length es
+    → kind_of (edge_at es i) ≡ kinds.Com k reach → kind_target (kinds.Com k reach) ≡ dirs.W
     → ComesBefore (loop_accesses es number) (loop_execution es number) (event_at (cut_open es) number i) (event_at (cut_open es) number (event_after es i))
 comes_before es number i k reach r n h e d =
     let f = numbered es number r n in
@@ -250,11 +282,14 @@ comes_before es number i k reach r n h e d =
       arith,
       value_through es i k reach r h e,
       one,
-      by_values_place (loop_accesses es number) (loop_write es) (writes_in es) (event_name (cut_open es) i) (event_access (cut_open es) number i) f (event_there es number i r h),
-      by_values_place (loop_accesses es number) (loop_write es) (writes_in es) (event_name (cut_open es) (event_after es i)) (event_access (cut_open es) number (event_after es i)) f (event_there es number (event_after es i) r after),
+      by_values_place (loop_accesses es number) (loop_write es) (writes_in es) (event_name (cut_open es) i) (event_access (cut_open es) number i) f
+          (event_there es number i r h),
+      by_values_place (loop_accesses es number) (loop_write es) (writes_in es) (event_name (cut_open es) (event_after es i))
+          (event_access (cut_open es) number (event_after es i)) f (event_there es number (event_after es i) r after),
     )
 
-communicates : (es : List Edge) (number : ℕ → ℕ) (i : ℕ) → IsLoop es → IsNumbering (cut_open es) number → i < length es → (k : Kind) → kind_of (edge_at es i) ≡ k
+communicates : (es : List Edge) (number : ℕ → ℕ) (i : ℕ) → IsLoop es → IsNumbering (cut_open es) number → i < length es → (k : Kind)
+    → kind_of (edge_at es i) ≡ k
     → CommunicatesBy k (loop_accesses es number) (loop_execution es number) (event_at (cut_open es) number i) (event_at (cut_open es) number (event_after es i))
 communicates es number i r n h (kinds.Com coms.Rf reach) e = reads_from es number i reach r h e
 communicates es number i r n h (kinds.Com coms.Fr reach) e = comes_before es number i coms.Fr reach r n h e refl
@@ -289,7 +324,8 @@ internal_follows es i r h f =
     (λ l e. let a : true ≡ false = sym (last_outside es i r l) ∙ f in cc)
 
 -- an external edge leads to another thread
-external_leads : (es : List Edge) (i : ℕ) → IsLoop es → i < length es → is_external (edge_at es i) ≡ true → thread_of (cut_open es) i ≢ thread_of (cut_open es) (event_after es i)
+external_leads : (es : List Edge) (i : ℕ) → IsLoop es → i < length es → is_external (edge_at es i) ≡ true
+    → thread_of (cut_open es) i ≢ thread_of (cut_open es) (event_after es i)
 external_leads es i r h t same =
     let s : thread_of es i ≡ thread_of es (event_after es i) = sym (opened_thread es i) ∙ same ∙ opened_thread es (event_after es i) in
     let out = thread_out es i h t in
@@ -300,7 +336,8 @@ external_leads es i r h t same =
 
 -- each edge joins its accesses in the stated execution
 pub loop_joins : (es : List Edge) (number : ℕ → ℕ) (i : ℕ) → IsLoop es → IsNumbering (cut_open es) number → i < length es
-    → Joins (loop_accesses es number) (loop_execution es number) (edge_at es i) (event_at (cut_open es) number i) (event_at (cut_open es) number (event_after es i))
+    → Joins (loop_accesses es number) (loop_execution es number) (edge_at es i) (event_at (cut_open es) number i)
+    (event_at (cut_open es) number (event_after es i))
 loop_joins es number i r n h = record {
   leaves = same_at source_of source_same es i;
   enters = same_at source_of source_same es (event_after es i) ∙ source_after es i r.composes h;
@@ -320,7 +357,8 @@ loop_joins es number i r n h = record {
     by_reach External p = external_leads es i r h (goes_outside (edge_at es i) p)
 
 -- an edge to another thread leaves or enters a write
-outside_write : (es : List Edge) (i : ℕ) → IsCycle es → i < length es → (k : Kind) → kind_of (edge_at es i) ≡ k → is_external (edge_at es i) ≡ true → (j : ℕ) × (j < length es) × (source_of (edge_at es j) ≡ dirs.W)
+outside_write : (es : List Edge) (i : ℕ) → IsCycle es → i < length es → (k : Kind) → kind_of (edge_at es i) ≡ k → is_external (edge_at es i) ≡ true
+    → (j : ℕ) × (j < length es) × (source_of (edge_at es j) ≡ dirs.W)
 outside_write es i r h (kinds.Com coms.Rf reach) e t = (i, h, ap kind_source e)
 outside_write es i r h (kinds.Com coms.Ws reach) e t = (i, h, ap kind_source e)
 outside_write es i r h (kinds.Com coms.Fr reach) e t = (event_after es i, after_below es i h, source_after es i r h ∙ ap kind_target e)
@@ -334,7 +372,8 @@ pub some_write : (es : List Edge) → IsLoop es → 0 < writes_in es
 some_write es r =
     let long : 0 < length es = omega (arith, r.is_cut.within) in
     let e : length es ≡ (length es - 1) + 1 = omega (arith, long) in
-    let w = outside_write es (length es - 1) r.composes (omega (arith, long)) (kind_of (edge_at es (length es - 1))) refl (last_outside es (length es - 1) r e) in
+    let w = outside_write es (length es - 1) r.composes (omega (arith, long)) (kind_of (edge_at es (length es - 1))) refl
+    (last_outside es (length es - 1) r e) in
     omega (arith, next_written es w.0 w.1, ap writes_one w.2, written_up es (w.0 + 1) (length es) (omega (arith, w.1)) (omega arith), written-all es)
 
 -- the cut stays in its thread
@@ -351,13 +390,16 @@ falls dirs.R u v h e = omega (arith, h, e)
 falls dirs.W u v h e = omega (arith, h, e)
 
 -- the stated execution has a cycle
-pub loop_cycle : (es : List Edge) (number : ℕ → ℕ) → IsLoop es → IsNumbering (cut_open es) number → HasCycle (loop_accesses es number) (loop_execution es number)
+pub loop_cycle : (es : List Edge) (number : ℕ → ℕ) → IsLoop es → IsNumbering (cut_open es) number
+    → HasCycle (loop_accesses es number) (loop_execution es number)
 loop_cycle es number r n =
     let c = r.is_cut in
     let i = c.cut.at in
     let f = internal_follows es i r c.cut.below (ordering_inside (edge_at es i) (kind_of (edge_at es i)) refl c.cut.ordering) in
-    has_cycle (loop_accesses es number) (loop_write es) (writes_in es) (event_name (cut_open es) i) (event_name (cut_open es) (i + 1)) (event_access (cut_open es) number i) (event_access (cut_open es) number (i + 1)) (numbered es number r n)
+    has_cycle (loop_accesses es number) (loop_write es) (writes_in es) (event_name (cut_open es) i) (event_name (cut_open es) (i + 1))
+    (event_access (cut_open es) number i) (event_access (cut_open es) number (i + 1)) (numbered es number r n)
     (sym f.thread) (omega (arith, f.slot)) (event_there es number i r c.cut.below) (event_there es number (i + 1) r c.within)
     (omega (arith, value_ends es c, some_write es r))
     (subst (λ d. Falls d (value_of (cut_open es) i) (value_of (cut_open es) (i + 1))) (sym (same_at source_of source_same es (i + 1)))
-    (falls (source_of (edge_at es (i + 1))) (value_of (cut_open es) i) (value_of (cut_open es) (i + 1)) (omega (arith, value_ends es c, some_write es r)) (value_begins es c)))
+    (falls (source_of (edge_at es (i + 1))) (value_of (cut_open es) i) (value_of (cut_open es) (i + 1)) (omega (arith, value_ends es c, some_write es r))
+    (value_begins es c)))

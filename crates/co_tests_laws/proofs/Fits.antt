@@ -42,7 +42,8 @@ pub record IsLoopOf (arch : ArchName) (es : List Edge) : Type 0 where
   pub few_writes : writes_in es ≤ 2
 
 -- accesses can follow one another where the first can begin and each can follow the one before it
-fit_from : (arch : ArchName) (b : Bool) (ss : List Step) → ((s : Step) → slice_get ss 0 ≡ Some s → FitStep arch b s) → ((k : ℕ) (s t : Step) → slice_get ss k ≡ Some s → slice_get ss (suc k) ≡ Some t → FitStep arch (is_load_dir s.dir) t) → FitSteps arch b ss
+fit_from : (arch : ArchName) (b : Bool) (ss : List Step) → ((s : Step) → slice_get ss 0 ≡ Some s → FitStep arch b s)
+    → ((k : ℕ) (s t : Step) → slice_get ss k ≡ Some s → slice_get ss (suc k) ≡ Some t → FitStep arch (is_load_dir s.dir) t) → FitSteps arch b ss
 fit_from arch b [] first next = tt
 fit_from arch b (s ∷ ss) first next =
     (first s refl, fit_from arch (is_load_dir s.dir) ss (λ t g. next 0 s t refl g) (λ k t u g h. next (suc k) t u g h))
@@ -72,7 +73,8 @@ record IsMarked (arch : ArchName) (s : Step) : Type 0 where
   of_arch : mark_is_of s.mark arch ≡ true
   small : s.value < 256
 
-event_marked : (es : List Edge) (arch : ArchName) (number : ℕ → ℕ) (i : ℕ) → IsLoopOf arch es → i < length es → IsMarked arch (event_step (cut_open es) number i)
+event_marked : (es : List Edge) (arch : ArchName) (number : ℕ → ℕ) (i : ℕ) → IsLoopOf arch es → i < length es
+    → IsMarked arch (event_step (cut_open es) number i)
 event_marked es arch number i r h = record {
   fits = source_mark_fits (edge_at (cut_open es) i);
   of_arch = ap (λ m. mark_is_of m arch) (same_at source_mark source_mark_same es i)
@@ -96,7 +98,8 @@ pub before_event : (es : List Edge) (i : ℕ) → IsLoop es → i < length es �
 before_event es zero r h l = absurd (omega (arith, slot-zero (cut_open es), l))
 before_event es (suc j) r h l =
     by_test (is_external (edge_at es j))
-    (λ t. let z : slot_of (cut_open es) (suc j) ≡ 0 = rw (add-one j) at (slot_out (cut_open es) j (omega (arith, h, opened-length es)) (same_at is_external external_same es j ∙ t)) in absurd (omega (arith, z, l)))
+    (λ t. let z : slot_of (cut_open es) (suc j) ≡ 0 = rw (add-one j) at (slot_out (cut_open es) j (omega (arith, h, opened-length es))
+    (same_at is_external external_same es j ∙ t)) in absurd (omega (arith, z, l)))
     (λ f. let w = internal_follows es j r (omega (arith, h)) f in
     let e : j + 1 ≡ suc j = omega arith in
     record {
@@ -110,7 +113,8 @@ before_event es (suc j) r h l =
     })
 
 -- an access after another in its thread fits
-pub event_fits : (es : List Edge) (arch : ArchName) (number : ℕ → ℕ) (i : ℕ) → IsLoopOf arch es → i < length es → (b : Before (cut_open es) i) → FitStep arch (is_load_dir (source_of (edge_at (cut_open es) b.event))) (event_step (cut_open es) number i)
+pub event_fits : (es : List Edge) (arch : ArchName) (number : ℕ → ℕ) (i : ℕ) → IsLoopOf arch es → i < length es → (b : Before (cut_open es) i)
+    → FitStep arch (is_load_dir (source_of (edge_at (cut_open es) b.event))) (event_step (cut_open es) number i)
 event_fits es arch number i r h b = record {
   of_arch =
       ap (λ l. link_is_of l arch) link
@@ -135,7 +139,8 @@ event_fits es arch number i r h b = record {
     link = link_between (cut_open es) i b ∙ same_at edge_link link_same es b.event
 
 -- the accesses of a thread of the test
-pub thread_fits : (es : List Edge) (arch : ArchName) (number : ℕ → ℕ) (thread : ℕ) → IsLoopOf arch es → FitSteps arch false (thread_steps (cut_open es) number thread)
+pub thread_fits : (es : List Edge) (arch : ArchName) (number : ℕ → ℕ) (thread : ℕ) → IsLoopOf arch es
+    → FitSteps arch false (thread_steps (cut_open es) number thread)
 thread_fits es arch number thread r = fit_from arch false (thread_steps (cut_open es) number thread) first next
   where
     first : (s : Step) → slice_get (thread_steps (cut_open es) number thread) 0 ≡ Some s → FitStep arch false s
@@ -143,9 +148,11 @@ thread_fits es arch number thread r = fit_from arch false (thread_steps (cut_ope
         let i = image_of (event_step (cut_open es) number) (events_in (cut_open es) thread) 0 s g in
         let w = slot_of_event (cut_open es) thread 0 i.element i.got in
         subst (λ (x : Step). FitStep arch false x) i.image
-        (untied_fits arch false (event_step (cut_open es) number i.element) (link_first (cut_open es) i.element w.slot) (event_marked es arch number i.element r (omega (arith, w.below, opened-length es))))
+        (untied_fits arch false (event_step (cut_open es) number i.element) (link_first (cut_open es) i.element w.slot)
+        (event_marked es arch number i.element r (omega (arith, w.below, opened-length es))))
 
-    next : (k : ℕ) (s t : Step) → slice_get (thread_steps (cut_open es) number thread) k ≡ Some s → slice_get (thread_steps (cut_open es) number thread) (suc k) ≡ Some t → FitStep arch (is_load_dir s.dir) t
+    next : (k : ℕ) (s t : Step) → slice_get (thread_steps (cut_open es) number thread) k ≡ Some s → slice_get (thread_steps (cut_open es) number thread)
+        (suc k) ≡ Some t → FitStep arch (is_load_dir s.dir) t
     next k s t g h =
         let i = image_of (event_step (cut_open es) number) (events_in (cut_open es) thread) k s g in
         let j = image_of (event_step (cut_open es) number) (events_in (cut_open es) thread) (suc k) t h in
@@ -153,18 +160,26 @@ thread_fits es arch number thread r = fit_from arch false (thread_steps (cut_ope
         let w = slot_of_event (cut_open es) thread (suc k) j.element j.got in
         let below : j.element < length es = omega (arith, w.below, opened-length es) in
         let b = before_event es j.element r.loop below (omega (arith, w.slot)) in
-        let same : b.event ≡ i.element = only_in_slot (cut_open es) b.event i.element b.below u.below (b.thread ∙ w.thread ∙ sym u.thread) (omega (arith, b.slot, w.slot, u.slot)) in
+        let same : b.event ≡ i.element = only_in_slot (cut_open es) b.event i.element b.below u.below (b.thread ∙ w.thread
+        ∙ sym u.thread) (omega (arith, b.slot, w.slot, u.slot)) in
         let dir : source_of (edge_at (cut_open es) b.event) ≡ s.dir = ap (λ m. source_of (edge_at (cut_open es) m)) same ∙ ap (λ (x : Step). x.dir) i.image in
         subst (λ (x : Dir × Step). FitStep arch (is_load_dir x.0) x.1) (λ z. (dir z, j.image z))
         (event_fits es arch number j.element r below b)
 
 -- each thread of the test is one of the architecture
-pub loop_thread : (es : List Edge) (number : ℕ → ℕ) (arch : ArchName) (k : ℕ) (steps : List Step) → IsLoopOf arch es → slice_get (cycle_steps (cut_open es) Avoid number) k ≡ Some steps → IsThread arch steps
+pub loop_thread : (es : List Edge) (number : ℕ → ℕ) (arch : ArchName) (k : ℕ) (steps : List Step) → IsLoopOf arch es
+    → slice_get (cycle_steps (cut_open es) Avoid number) k ≡ Some steps → IsThread arch steps
 loop_thread es number arch k steps r g =
     by_steps (cut_open es) Avoid number k steps g
     (λ l e. subst (λ (x : List Step). IsThread arch x) e (record {
       fit = thread_fits es arch number k r;
       some = omega (arith, length-map (events_in (cut_open es) k) (event_step (cut_open es) number), thread_has_events (cut_open es) k l);
-      few = omega (arith, length-map (events_in (cut_open es) k) (event_step (cut_open es) number), thread_size_most (cut_open es) k, opened-length es, r.loop.composes.few);
+      few = omega (
+        arith,
+        length-map (events_in (cut_open es) k) (event_step (cut_open es) number),
+        thread_size_most (cut_open es) k,
+        opened-length es,
+        r.loop.composes.few,
+      );
     }))
     (λ o. let f : false ≡ true = sym (unobserved (cut_open es) o.spot) ∙ o.observed in cc)

@@ -10,4 +10,5 @@ pub mod Showing
 pub mod Readable
 pub mod Printed
 pub mod Accepted
+pub mod Arc
 mod Tries

@@ -1,7 +1,7 @@
 -- Threads whose accesses are all at one place and whose writes write 1, 2, .., each once: with at most two writes one
 -- execution alone ends with the last value, in which each read reads the write of its value and the writes come in the order
 -- of their values.
-use Rattle.std.proofs.Common.{◌≡◌, ℕ, zero, suc, ◌+◌, ◌-◌, ◌<◌, ◌≤◌, true, List, [], ◌∷◌, length, map, Option, Some, None, slice_get, refl, sym, ◌∙◌, ap, subst, arith, add-one}
+use Rattle.std.proofs.Common.{◌≡◌, ℕ, zero, suc, ◌-◌, ◌<◌, ◌≤◌, true, List, [], ◌∷◌, length, map, Option, Some, None, slice_get, refl, sym, ◌∙◌, ap, subst, arith, add-one}
 use Rattle.std.specs.List.{filter, filter_map}
 use Rattle.std.specs.Option.{option_and_then}
 use Rattle.std.proofs.lemmas.List.{length-map}
@@ -13,8 +13,8 @@ use Rattle.program_meaning.specs.declared.WriteAt.{WriteAt}
 use Rattle.program_meaning.specs.Accesses.{Access, write, is_read, got_from, at_name}
 use Rattle.program_meaning.specs.Executions.{Execution, CanRead, AreReadsOf, IsOrderOf, IsExecutionOf}
 use Rattle.program_meaning.specs.Coherence.{order_place, order_at, source_at, placed_by, coherence_place, last_write, value_of_access, final_value}
-use Rattle.execution_laws.proofs.Names.{GotFrom, got_from_list}
-use Rattle.communication_laws.proofs.Lists.{got_below, got_map, kept, same_below, image_of, length-filter_map-upto, slice_get-filter_map-upto}
+use Rattle.execution_laws.proofs.Names.{got_from_list}
+use Rattle.communication_laws.proofs.Lists.{got_below, got_map, kept, same_below, length-filter_map-upto, slice_get-filter_map-upto}
 use Rattle.communication_laws.proofs.Orders.{Holds, Gives, place_held, order_by_steps, order_given, place_given}
 use Rattle.communication_laws.proofs.ReadLists.{reads_by_source, reads_given, reads_fixed, source_given}
 use Rattle.communication_laws.proofs.IntendedOrders.{order_got}
@@ -57,21 +57,24 @@ by_values threads g n = record {
 }
 
 -- what can be read is the write of the value
-fixed : (threads : List (List Access)) (g : ℕ → Option WriteAt) (n : ℕ) (access : Access) (o : Option WriteAt) → Numbered threads g n → CanRead threads access o → o ≡ source_in g access
+fixed : (threads : List (List Access)) (g : ℕ → Option WriteAt) (n : ℕ) (access : Access) (o : Option WriteAt) → Numbered threads g n
+    → CanRead threads access o → o ≡ source_in g access
 fixed threads g n access None r c = ap (by_value g) (sym c)
 fixed threads g n access (Some w) r c =
     let k = r.writes w access.place access.value c in
     sym k.named ∙ ap (by_value g) (sym k.value_is)
 
 -- the write of a value can be read
-can_value : (threads : List (List Access)) (g : ℕ → Option WriteAt) (n : ℕ) (access : Access) (v : ℕ) → Numbered threads g n → access.place ≡ 0 → v ≡ access.value → v ≤ n → CanRead threads access (by_value g v)
+can_value : (threads : List (List Access)) (g : ℕ → Option WriteAt) (n : ℕ) (access : Access) (v : ℕ) → Numbered threads g n → access.place ≡ 0
+    → v ≡ access.value → v ≤ n → CanRead threads access (by_value g v)
 can_value threads g n access zero r p e h = sym e
 can_value threads g n access (suc k) r p e h =
     let w = r.gives k (omega arith) in
     subst (CanRead threads access) (sym w.named)
     (w.there ∙ ap Some (λ t. record { dir = dirs.W; place = sym p t; value = e t }))
 
-can_source : (threads : List (List Access)) (g : ℕ → Option WriteAt) (n : ℕ) (name : WriteAt) (access : Access) → Numbered threads g n → at_name threads name ≡ Some access → CanRead threads access (source_in g access)
+can_source : (threads : List (List Access)) (g : ℕ → Option WriteAt) (n : ℕ) (name : WriteAt) (access : Access) → Numbered threads g n
+    → at_name threads name ≡ Some access → CanRead threads access (source_in g access)
 can_source threads g n name access r h = can_value threads g n access access.value r (r.place name access h) refl (r.within name access h)
 
 -- no write is named twice
@@ -89,11 +92,13 @@ gives_once threads g n r = record {
 }
 
 -- a name in a thread
-stands_at : (threads : List (List Access)) (k s : ℕ) (accesses : List Access) (access : Access) → slice_get threads k ≡ Some accesses → slice_get accesses s ≡ Some access → at_name threads (record { thread = k; access = s }) ≡ Some access
+stands_at : (threads : List (List Access)) (k s : ℕ) (accesses : List Access) (access : Access) → slice_get threads k ≡ Some accesses
+    → slice_get accesses s ≡ Some access → at_name threads (record { thread = k; access = s }) ≡ Some access
 stands_at threads k s accesses access t a = ap (λ o. got_from o s) t ∙ a
 
 -- the order of the place holds the writes
-holds : (threads : List (List Access)) (g : ℕ → Option WriteAt) (n : ℕ) (order : List WriteAt) → Numbered threads g n → IsOrderOf threads 0 order → Holds order g n
+holds : (threads : List (List Access)) (g : ℕ → Option WriteAt) (n : ℕ) (order : List WriteAt) → Numbered threads g n → IsOrderOf threads 0 order
+    → Holds order g n
 holds threads g n order r o = record {
   some = (gives_once threads g n r).some;
   each = λ k w h e.
@@ -109,7 +114,8 @@ holds threads g n order r o = record {
 }
 
 -- the write of an order's last place has the value that the place ends with
-ends_with : (threads : List (List Access)) (g : ℕ → Option WriteAt) (n k : ℕ) (x : Execution) → Numbered threads g n → Holds (order_at x 0) g n → 0 < length (order_at x 0) → final_value threads x 0 ≡ suc k
+ends_with : (threads : List (List Access)) (g : ℕ → Option WriteAt) (n k : ℕ) (x : Execution) → Numbered threads g n → Holds (order_at x 0) g n
+    → 0 < length (order_at x 0) → final_value threads x 0 ≡ suc k
     → slice_get (order_at x 0) (length (order_at x 0) - 1) ≡ g k
 ends_with threads g n k x r q some v =
     let e = got_below (order_at x 0) (length (order_at x 0) - 1) (omega arith) in
@@ -122,7 +128,8 @@ ends_with threads g n k x r q some v =
     e.got ∙ sym j.2 ∙ ap g d
 
 -- where the place ends with the last value, the last write but one comes before the last
-last_step : (threads : List (List Access)) (g : ℕ → Option WriteAt) (n k : ℕ) (x : Execution) → Numbered threads g n → Holds (order_at x 0) g n → n ≡ suc (suc k) → final_value threads x 0 ≡ n
+last_step : (threads : List (List Access)) (g : ℕ → Option WriteAt) (n k : ℕ) (x : Execution) → Numbered threads g n → Holds (order_at x 0) g n
+    → n ≡ suc (suc k) → final_value threads x 0 ≡ n
     → order_place (order_at x 0) (g k) < order_place (order_at x 0) (g (suc k))
 last_step threads g n k x r q m v =
     let a = r.gives k (omega (arith, m)) in
@@ -140,7 +147,8 @@ last_step threads g n k x r q m v =
     omega (arith, first, second, below, d, apart)
 
 -- the order of the place is that of the values, where there are at most two
-order_is : (threads : List (List Access)) (g : ℕ → Option WriteAt) (n : ℕ) (x : Execution) → Numbered threads g n → n ≤ 2 → (2 ≤ n → final_value threads x 0 ≡ n) → IsOrderOf threads 0 (order_at x 0)
+order_is : (threads : List (List Access)) (g : ℕ → Option WriteAt) (n : ℕ) (x : Execution) → Numbered threads g n → n ≤ 2
+    → (2 ≤ n → final_value threads x 0 ≡ n) → IsOrderOf threads 0 (order_at x 0)
     → order_at x 0 ≡ filter_map g (upto n)
 order_is threads g n x r few ends o =
     let q = holds threads g n (order_at x 0) r o in
@@ -148,9 +156,11 @@ order_is threads g n x r few ends o =
     (λ k h. rw add-one (last_step threads g n k x r q (omega (arith, few, h)) (ends (omega (arith, h)))))
 
 -- each thread reads what its values name
-reads_are : (threads : List (List Access)) (g : ℕ → Option WriteAt) (n places : ℕ) (x : Execution) → Numbered threads g n → IsExecutionOf threads places x → x.reads ≡ (by_values threads g n).reads
+reads_are : (threads : List (List Access)) (g : ℕ → Option WriteAt) (n places : ℕ) (x : Execution) → Numbered threads g n → IsExecutionOf threads places x
+    → x.reads ≡ (by_values threads g n).reads
 reads_are threads g n places x r c =
-    same_below x.reads (by_values threads g n).reads (length threads) c.read_lists (length-map threads (λ accesses. reads_by_source (source_in g) (filter is_read accesses))) here
+    same_below x.reads (by_values threads g n).reads (length threads) c.read_lists (length-map threads
+    (λ accesses. reads_by_source (source_in g) (filter is_read accesses))) here
   where
     here : (k : ℕ) → k < length threads → slice_get x.reads k ≡ slice_get (by_values threads g n).reads k
     here k h =
@@ -167,7 +177,8 @@ one_order (o ∷ []) order h g = let e : o ≡ order = cc in ap (λ l. l ∷ [])
 one_order (o ∷ p ∷ orders) order h g = absurd (omega (arith, h))
 
 -- one execution alone ends with the last value
-pub only_by_values : (threads : List (List Access)) (g : ℕ → Option WriteAt) (n : ℕ) (x : Execution) → Numbered threads g n → n ≤ 2 → IsExecutionOf threads 1 x → (2 ≤ n → final_value threads x 0 ≡ n)
+pub only_by_values : (threads : List (List Access)) (g : ℕ → Option WriteAt) (n : ℕ) (x : Execution) → Numbered threads g n → n ≤ 2
+    → IsExecutionOf threads 1 x → (2 ≤ n → final_value threads x 0 ≡ n)
     → x ≡ by_values threads g n
 only_by_values threads g n x r few c ends =
     let got = order_got threads 1 0 x c (omega arith) in
@@ -193,12 +204,14 @@ is_order threads g n r = record {
     q = order_given g n (gives_once threads g n r)
 
 -- it is an execution
-pub by_values_execution : (threads : List (List Access)) (g : ℕ → Option WriteAt) (n : ℕ) → Numbered threads g n → IsExecutionOf threads 1 (by_values threads g n)
+pub by_values_execution : (threads : List (List Access)) (g : ℕ → Option WriteAt) (n : ℕ) → Numbered threads g n
+    → IsExecutionOf threads 1 (by_values threads g n)
 by_values_execution threads g n r = record {
   read_lists = length-map threads (λ accesses. reads_by_source (source_in g) (filter is_read accesses));
   write_lists = refl;
   reads = λ k accesses reads t h.
-      let s : Some (reads_by_source (source_in g) (filter is_read accesses)) ≡ Some reads = sym (got_map (λ accesses. reads_by_source (source_in g) (filter is_read accesses)) threads k accesses t) ∙ h in
+      let s : Some (reads_by_source (source_in g) (filter is_read accesses)) ≡ Some reads =
+      sym (got_map (λ accesses. reads_by_source (source_in g) (filter is_read accesses)) threads k accesses t) ∙ h in
       let e : reads_by_source (source_in g) (filter is_read accesses) ≡ reads = cc in
       subst (AreReadsOf threads (filter is_read accesses)) e
       (reads_given threads (source_in g) (filter is_read accesses)
@@ -212,7 +225,8 @@ by_values_execution threads g n r = record {
     at_place (suc place) order h = cc
 
 -- it ends with the last value
-pub by_values_ends : (threads : List (List Access)) (g : ℕ → Option WriteAt) (n k : ℕ) → Numbered threads g n → n ≡ suc k → final_value threads (by_values threads g n) 0 ≡ suc k
+pub by_values_ends : (threads : List (List Access)) (g : ℕ → Option WriteAt) (n k : ℕ) → Numbered threads g n → n ≡ suc k
+    → final_value threads (by_values threads g n) 0 ≡ suc k
 by_values_ends threads g n k r e =
     let w = r.gives k (omega (arith, e)) in
     let some = (gives_once threads g n r).some in
@@ -222,19 +236,22 @@ by_values_ends threads g n k r e =
     ap (λ o. value_of_access (option_and_then (at_name threads) o)) last ∙ ap value_of_access w.there
 
 -- in it a read reads the write of its value
-pub by_values_source : (threads : List (List Access)) (g : ℕ → Option WriteAt) (n : ℕ) (name : WriteAt) (access : Access) → at_name threads name ≡ Some access → is_read access ≡ true
+pub by_values_source : (threads : List (List Access)) (g : ℕ → Option WriteAt) (n : ℕ) (name : WriteAt) (access : Access) → at_name threads name ≡ Some access
+    → is_read access ≡ true
     → source_at threads (by_values threads g n) name ≡ source_in g access
 by_values_source threads g n name access h p =
     let l = got_from_list (slice_get threads name.thread) name.access access h in
     source_given threads (by_values threads g n) (source_in g) name l.list access l.list_is l.got p
     (got_map (λ accesses. reads_by_source (source_in g) (filter is_read accesses)) threads name.thread l.list l.list_is)
 
-place_of_value : (threads : List (List Access)) (g : ℕ → Option WriteAt) (n v : ℕ) → Numbered threads g n → v ≤ n → order_place (filter_map g (upto n)) (by_value g v) ≡ v
+place_of_value : (threads : List (List Access)) (g : ℕ → Option WriteAt) (n v : ℕ) → Numbered threads g n → v ≤ n
+    → order_place (filter_map g (upto n)) (by_value g v) ≡ v
 place_of_value threads g n zero r h = refl
 place_of_value threads g n (suc k) r h = place_given g n k (gives_once threads g n r) (omega arith) ∙ add-one k
 
 -- in it the coherence place of an access is its value
-pub by_values_place : (threads : List (List Access)) (g : ℕ → Option WriteAt) (n : ℕ) (name : WriteAt) (access : Access) → Numbered threads g n → at_name threads name ≡ Some access
+pub by_values_place : (threads : List (List Access)) (g : ℕ → Option WriteAt) (n : ℕ) (name : WriteAt) (access : Access) → Numbered threads g n
+    → at_name threads name ≡ Some access
     → coherence_place threads (by_values threads g n) name access ≡ access.value
 by_values_place threads g n name access r h =
     let at : access.place ≡ 0 = r.place name access h in

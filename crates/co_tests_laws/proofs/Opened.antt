@@ -75,7 +75,8 @@ external_same (edges.Dep _ _ _) = refl
 external_same (edges.Data _) = refl
 external_same (edges.Marked m) = of_kind m.kind
   where
-    of_kind : (k : MarkableKind) → is_external (edges.Marked (record { kind = markable_elsewhere k; ends = m.ends })) ≡ is_external (edges.Marked (record { kind = k; ends = m.ends }))
+    of_kind : (k : MarkableKind) → is_external (edges.Marked (record { kind = markable_elsewhere k; ends = m.ends })) ≡ is_external
+        (edges.Marked (record { kind = k; ends = m.ends }))
     of_kind (markables.Com _ _) = refl
     of_kind (markables.Po _ _ _) = refl
     of_kind (markables.Fenced _ _ _ _) = refl
@@ -102,7 +103,8 @@ elsewhere_moves (edges.Dep _ _ _) h = refl
 elsewhere_moves (edges.Data _) h = refl
 elsewhere_moves (edges.Marked m) h = of_kind m.kind h
   where
-    of_kind : (k : MarkableKind) → is_ordering (edges.Marked (record { kind = k; ends = m.ends })) ≡ true → is_diff (edges.Marked (record { kind = markable_elsewhere k; ends = m.ends })) ≡ true
+    of_kind : (k : MarkableKind) → is_ordering (edges.Marked (record { kind = k; ends = m.ends })) ≡ true
+        → is_diff (edges.Marked (record { kind = markable_elsewhere k; ends = m.ends })) ≡ true
     of_kind (markables.Com _ _) h = cc
     of_kind (markables.Po _ _ _) h = refl
     of_kind (markables.Fenced _ _ _ _) h = refl
@@ -114,7 +116,8 @@ pub same_at : {X : Type 0} (f : Edge → X) → ((e : Edge) → f (elsewhere e) 
 same_at f h [] i = refl
 same_at f h (e ∷ es) i = by_case (is_ordering e) i (λ j. same_at f h es j)
   where
-    by_case : (b : Bool) (i : ℕ) → ((j : ℕ) → f (edge_at (cut_open es) j) ≡ f (edge_at es j)) → f (edge_at (if b then elsewhere e ∷ es else e ∷ cut_open es) i) ≡ f (edge_at (e ∷ es) i)
+    by_case : (b : Bool) (i : ℕ) → ((j : ℕ) → f (edge_at (cut_open es) j) ≡ f (edge_at es j))
+        → f (edge_at (if b then elsewhere e ∷ es else e ∷ cut_open es) i) ≡ f (edge_at (e ∷ es) i)
     by_case true zero rest = h e
     by_case true (suc i) rest = refl
     by_case false zero rest = refl
@@ -136,11 +139,17 @@ take_same p h es zero = refl
 take_same p h [] (suc i) = refl
 take_same p h (e ∷ es) (suc i) = by_case (is_ordering e) (take_same p h es i)
   where
-    by_case : (b : Bool) → count_by p (take i (cut_open es)) ≡ count_by p (take i es) → count_by p (take (suc i) (if b then elsewhere e ∷ es else e ∷ cut_open es)) ≡ count_by p (take (suc i) (e ∷ es))
+    by_case : (b : Bool) → count_by p (take i (cut_open es)) ≡ count_by p (take i es)
+        → count_by p (take (suc i) (if b then elsewhere e ∷ es else e ∷ cut_open es)) ≡ count_by p (take (suc i) (e ∷ es))
     by_case true rest =
         let one : ◌≡◌ {A = ℕ} (cond (p (elsewhere e)) 1 0) (cond (p e) 1 0) = ap (λ b. cond {A = ℕ} b 1 0) (h e) in
         omega (arith, one, sum_by-cons (λ x. cond {A = ℕ} (p x) 1 0) (elsewhere e) (take i es), sum_by-cons (λ x. cond {A = ℕ} (p x) 1 0) e (take i es))
-    by_case false rest = omega (arith, rest, sum_by-cons (λ x. cond {A = ℕ} (p x) 1 0) e (take i (cut_open es)), sum_by-cons (λ x. cond {A = ℕ} (p x) 1 0) e (take i es))
+    by_case false rest = omega (
+      arith,
+      rest,
+      sum_by-cons (λ x. cond {A = ℕ} (p x) 1 0) e (take i (cut_open es)),
+      sum_by-cons (λ x. cond {A = ℕ} (p x) 1 0) e (take i es),
+    )
 
 -- it has as many edges
 pub opened-length : (es : List Edge) → length (cut_open es) ≡ length es

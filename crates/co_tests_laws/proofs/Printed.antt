@@ -21,20 +21,18 @@ use Rattle.arch_laws.proofs.NameLaws.{length-letters}
 use Rattle.litmus_text.specs.Items.{links_of}
 use Rattle.litmus_text.specs.Mentioned.{TestReadsBack, is_in, op_is_in}
 use Rattle.litmus_text.specs.Placing.{place_in, or_zero}
-use Rattle.litmus_text.specs.Printable.{IsTestName}
 use Rattle.litmus_text.specs.Reread.{reread}
 use Rattle.litmus_text.specs.TestReading.{TestRead}
 use Rattle.litmus_text.specs.TestText.{test_text}
 use Rattle.litmus_text.proofs.NamesBack.{IsAmong, none_among, push_among, few_names}
 use Rattle.program_meaning.specs.Executions.{Execution}
-use Rattle.program_meaning.specs.Intended.{IsNumbering, intended}
+use Rattle.program_meaning.specs.Intended.{IsNumbering}
 use Rattle.program_meaning.specs.Programs.{Program, IsCandidate, IsCoherentIn, accesses_in}
 use Rattle.program_meaning.specs.Standing.{AllStand}
 use Rattle.communication_laws.proofs.Lists.{got_map}
 use Rattle.test_laws.specs.CycleSteps.{event_step, thread_steps}
 use Rattle.test_laws.specs.FinalStates.{final_state}
 use Rattle.test_laws.specs.TestHeadline.{IsRenumbered}
-use Rattle.test_laws.specs.TestPrograms.{test_program}
 use Rattle.test_laws.specs.TestOf.{plain, test_of}
 use Rattle.test_laws.proofs.Everywhere.{all_gets}
 use Rattle.test_laws.proofs.Headline.{renumbered_program}
@@ -54,19 +52,22 @@ use Rattle.co_tests_laws.proofs.Showing.{IsSetUp, IsMetBy, loop_program, stated_
 use Rattle.co_tests_laws.proofs.Readable.{place_names, place_name, first_found, is_step, readable}
 
 -- address registers thread by thread
-links_apart : (P : ℕ → Type 0) (n : ℕ) (threads : List ThreadCode) → AllByRecursion (λ link. P link.1.1) (links_of n threads) → AllByRecursion (λ (t : ThreadCode). AllByRecursion (λ (link : ℕ × ℕ). P link.1) t.links) threads
+links_apart : (P : ℕ → Type 0) (n : ℕ) (threads : List ThreadCode) → AllByRecursion (λ link. P link.1.1) (links_of n threads)
+    → AllByRecursion (λ (t : ThreadCode). AllByRecursion (λ (link : ℕ × ℕ). P link.1) t.links) threads
 links_apart P n [] h = tt
 links_apart P n (t ∷ threads) h =
     let parts = all_parts (λ (link : ℕ × (ℕ × ℕ)). P link.1.1) (map (λ link. (n, link)) t.links) (links_of (n + 1) threads) h in
     (own t.links parts.0, links_apart P (n + 1) threads parts.1)
   where
-    own : (links : List (ℕ × ℕ)) → AllByRecursion (λ (link : ℕ × (ℕ × ℕ)). P link.1.1) (map (λ link. (n, link)) links) → AllByRecursion (λ (link : ℕ × ℕ). P link.1) links
+    own : (links : List (ℕ × ℕ)) → AllByRecursion (λ (link : ℕ × (ℕ × ℕ)). P link.1.1) (map (λ link. (n, link)) links)
+        → AllByRecursion (λ (link : ℕ × ℕ). P link.1) links
     own [] h = tt
     own (link ∷ links) h = (h.0, own links h.1)
 
 -- the name of the place is in the table
 name_is_in : (a : Puts) (es : List Edge) (table : List (List ℕ)) → IsArch a → HasLoopCode a es
-    → AllByRecursion (λ (t : ThreadCode). AllByRecursion (λ op. op_is_in table (name_in (place_names es)) op ≡ true) t.instrs) (map (compiled a) (coherence_steps es))
+    → AllByRecursion (λ (t : ThreadCode). AllByRecursion (λ op. op_is_in table (name_in (place_names es)) op ≡ true) t.instrs)
+    (map (compiled a) (coherence_steps es))
     → AllByRecursion (λ link. is_in table (name_in (place_names es) link.1.1) ≡ true) (links_of 0 (map (compiled a) (coherence_steps es)))
     → is_in table (location_name 0) ≡ true
 name_is_in a es table laws t inside linked =
@@ -81,7 +82,8 @@ name_is_in a es table laws t inside linked =
     let ins = all_gets (λ (code : ThreadCode). AllByRecursion (λ op. op_is_in table names op ≡ true) code.instrs) threads k (compiled a steps) inside code_at in
     let outs = all_gets (λ (code : ThreadCode). AllByRecursion (λ (link : ℕ × ℕ). is_in table (names link.1) ≡ true) code.links) threads k (compiled a steps)
     (links_apart (λ place. is_in table (names place) ≡ true) 0 threads linked) code_at in
-    let stands = place_is_in table names steps (compiled a steps) (slot_of (cut_open es) 0) (event_step (cut_open es) plain 0) (makes_steps a laws steps fit) ins outs s.step_at in
+    let stands = place_is_in table names steps (compiled a steps) (slot_of (cut_open es) 0) (event_step (cut_open es) plain 0)
+    (makes_steps a laws steps fit) ins outs s.step_at in
     subst (λ name. is_in table name ≡ true) (ap names (one_location es 0 c) ∙ got_is (place_names es) 0 (location_name 0) (place_name es c)) stands
 
 -- a table with the name of the place, of names of the place alone, has it once, at its beginning
@@ -110,7 +112,8 @@ table_zero es table c t = ap (place_in table) (got_is (place_names es) 0 (locati
 
 table_numbering : (es : List Edge) (table : List (List ℕ)) → IsCut es → IsTable es table → IsNumbering (cut_open es) (by_table table (place_names es))
 table_numbering es table c t = record {
-  below = λ l h. let z : l ≡ 0 = omega (arith, h, one_move es c) in omega (arith, ap (by_table table (place_names es)) z, table_zero es table c t, one_move es c);
+  below = λ l h. let z : l ≡ 0 = omega (arith, h, one_move es c) in
+      omega (arith, ap (by_table table (place_names es)) z, table_zero es table c t, one_move es c);
   injective = λ l m h k e. omega (arith, h, k, one_move es c);
 }
 
@@ -133,16 +136,21 @@ read_renumbered a register_name es table c t = record {
 
 -- the bytes of a coherence test that reads back show incoherence
 pub bytes_show : (a : Puts) (arch : ArchName) (w : Writing) (name : List ℕ) (es : List Edge) → IsArch a → WritesBack a w → HasLoopCode a es
-    → TestReadsBack arch w name (coherence_test_of a (name_in w.registers) es) → BytesShowIncoherence arch w (test_text arch w name (coherence_test_of a (name_in w.registers) es)) es
+    → TestReadsBack arch w name (coherence_test_of a (name_in w.registers) es)
+    → BytesShowIncoherence arch w (test_text arch w name (coherence_test_of a (name_in w.registers) es)) es
 bytes_show a arch w name es laws back t r = record {
   test = test;
   reads = r.read;
   asks = refl;
-  exists = subst (MeetsReading w test) stated (meets (loop_execution es number) (stated_meets a (name_in w.registers) (number_in w.registers) es number r.table set_up));
+  exists = subst (MeetsReading w test) stated (meets (loop_execution es number) (stated_meets a (name_in w.registers)
+      (number_in w.registers) es number r.table set_up));
   only = λ x m. only_stated a (name_in w.registers) (number_in w.registers) es number r.table x set_up (met x m) ∙ stated;
-  stand = λ x m. subst (λ (p : Program). AllStand es p x) program_is (met_stand a (name_in w.registers) (number_in w.registers) es number r.table x set_up (met x m));
-  cyclic = λ x m. subst (λ (p : Program). HasCycle (accesses_in p x) x) program_is (met_cyclic a (name_in w.registers) (number_in w.registers) es number r.table x set_up (met x m));
-  incoherent = λ x m coherent. met_incoherent a (name_in w.registers) (number_in w.registers) es number r.table x set_up (met x m) (subst (λ (p : Program). IsCoherentIn p x) (sym program_is) coherent);
+  stand = λ x m. subst (λ (p : Program). AllStand es p x) program_is (met_stand a (name_in w.registers) (number_in w.registers) es number r.table x set_up
+      (met x m));
+  cyclic = λ x m. subst (λ (p : Program). HasCycle (accesses_in p x) x) program_is (met_cyclic a (name_in w.registers)
+      (number_in w.registers) es number r.table x set_up (met x m));
+  incoherent = λ x m coherent. met_incoherent a (name_in w.registers) (number_in w.registers) es number r.table x set_up (met x m)
+      (subst (λ (p : Program). IsCoherentIn p x) (sym program_is) coherent);
 }
   where
     test : TestRead
@@ -168,12 +176,18 @@ bytes_show a arch w name es laws back t r = record {
 
     stated : loop_execution es number ≡ incoherent_execution es
     stated = sym (stated_is es number c (table_numbering es r.table c table))
-        ∙ intended_same (cut_open es) Avoid number plain (λ l h. let z : l ≡ 0 = omega (arith, h, one_move es c) in omega (arith, ap number z, table_zero es r.table c table, z))
+        ∙ intended_same (cut_open es) Avoid number plain (λ l h. let z : l ≡ 0 = omega (arith, h, one_move es c) in
+        omega (arith, ap number z, table_zero es r.table c table, z))
 
     program_is : loop_program a es number ≡ program_read test
     program_is =
-        renumbered_program a (name_in w.registers) (cut_open es) Avoid (reread_test r.table (coherence_test_of a (name_in w.registers) es)) number (read_renumbered a (name_in w.registers) es r.table c table)
-        ∙ (λ i. record { places = length r.table; threads = threads_numbered r.table (place_names es) (coherence_test_of a (name_in w.registers) es).threads i })
+        renumbered_program a (name_in w.registers) (cut_open es) Avoid (reread_test r.table (coherence_test_of a (name_in w.registers) es)) number
+        (read_renumbered a (name_in w.registers) es r.table c table)
+        ∙ (λ i. record {
+          places = length r.table;
+          threads = threads_numbered r.table (place_names es)
+              (coherence_test_of a (name_in w.registers) es).threads i;
+        })
 
     met : (x : Execution) → MeetsReading w test x → IsMetBy a (name_in w.registers) (number_in w.registers) es number r.table x
     met x m = record {

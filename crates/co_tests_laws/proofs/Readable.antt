@@ -11,7 +11,7 @@ use Rattle.std.proofs.lemmas.Slice.Eq.{bytes_eq-Decides}
 use Rattle.list_laws.specs.Numbers.{upto}
 use Rattle.list_laws.proofs.Cases.{by_test}
 use Rattle.list_laws.proofs.Elements.{all_append}
-use Rattle.list_laws.proofs.Totals.{sum_upto_same, sum_upto-add, classes_total}
+use Rattle.list_laws.proofs.Totals.{sum_upto_same, classes_total}
 use Rattle.relax_edges.specs.declared.TheConstants.{MAX_EDGES}
 use Rattle.relax_edges.specs.declared.kinds.Dir.{Dir}
 use Rattle.relax_edges.specs.declared.kinds.Dir.TheVariants as dirs
@@ -53,7 +53,7 @@ use Rattle.litmus_text.proofs.RowBack.{named_op}
 use Rattle.communication_laws.proofs.Lists.{got_map, image_of}
 use Rattle.test_laws.specs.CycleSteps.{event_step, thread_steps, observer_steps, cycle_steps, numbers_read}
 use Rattle.test_laws.specs.TestOf.{plain, is_named_location, last_term, last_terms, load_term, thread_terms, load_terms}
-use Rattle.test_laws.proofs.Everywhere.{all_from, position_first}
+use Rattle.test_laws.proofs.Everywhere.{position_first}
 use Rattle.test_laws.proofs.PlaceNames.{letter_at}
 use Rattle.test_laws.proofs.RegisterNames.{registers_found}
 use Rattle.test_laws.proofs.StepsAt.{thread_steps_at, by_steps, steps-count, steps_few}
@@ -81,7 +81,8 @@ place_name es c = letter_at (move_count (cut_open es)) 0 (omega (arith, one_move
 
 -- which is found in each table that begins with it
 pub first_found : (names : List (List ℕ)) (name : List ℕ) → slice_get names 0 ≡ Some name → number_in names name ≡ Some 0
-first_found names name g = position_first (λ x. bytes_eq x name) 0 names 0 name g ((bytes_eq-Decides name name).1 refl) (λ j y less. absurd (omega (arith, less)))
+first_found names name g = position_first (λ x. bytes_eq x name) 0 names 0 name g ((bytes_eq-Decides name name).1 refl)
+    (λ j y less. absurd (omega (arith, less)))
 
 -- each access is at the one place
 placed : (es : List Edge) (k j : ℕ) (ss : List Step) (s : Step) → IsCut es → slice_get (coherence_steps es) k ≡ Some ss → slice_get ss j ≡ Some s → s.place ≡ 0
@@ -98,12 +99,15 @@ visited_zero (s ∷ ss) place at v =
     (λ e. let same : s.place ≡ place = eqb-true s.place place e in sym same ∙ at 0 s refl)
     (λ e. visited_zero ss place (λ j t g. at (suc j) t g) (sym (ap (λ b. b || visits place ss) e) ∙ v))
 
-has_places : (es : List Edge) (k : ℕ) (ss : List Step) → IsCut es → slice_get (coherence_steps es) k ≡ Some ss → HasPlaces (place_names es) (name_in (place_names es)) ss
+has_places : (es : List Edge) (k : ℕ) (ss : List Step) → IsCut es → slice_get (coherence_steps es) k ≡ Some ss
+    → HasPlaces (place_names es) (name_in (place_names es)) ss
 has_places es k ss c g place v =
     let z : place ≡ 0 = visited_zero ss place (λ j s h. placed es k j ss s c g h) v in
-    let name : name_in (place_names es) place ≡ location_name 0 = ap (name_in (place_names es)) z ∙ got_is (place_names es) 0 (location_name 0) (place_name es c) in
+    let name : name_in (place_names es) place ≡ location_name 0 = ap (name_in (place_names es)) z ∙ got_is (place_names es) 0 (location_name 0)
+    (place_name es c) in
     subst (λ x. (is_place_name x && is_some (number_in (place_names es) x)) ≡ true) (sym name)
-    (and_from (is_place_name (location_name 0)) (is_some (number_in (place_names es) (location_name 0))) (location_new 0 (omega arith)).formed (ap is_some (first_found (place_names es) (location_name 0) (place_name es c))))
+    (and_from (is_place_name (location_name 0)) (is_some (number_in (place_names es) (location_name 0))) (location_new 0 (omega arith)).formed
+    (ap is_some (first_found (place_names es) (location_name 0) (place_name es c))))
 
 -- the code of a thread of the test is that of a thread of the architecture
 thread_is : (a : Puts) (es : List Edge) (k : ℕ) (ss : List Step) → IsArch a → HasLoopCode a es → slice_get (coherence_steps es) k ≡ Some ss → IsThreadCode a ss
@@ -111,25 +115,30 @@ thread_is a es k ss laws t g =
     let thread = loop_thread es plain a.name k ss t.loop_of g in
     record { thread = thread; formed = is_formed a laws ss thread.fit (t.room k ss g) }
 
-code_short : (a : Puts) (es : List Edge) (k : ℕ) (ss : List Step) → IsArch a → HasLoopCode a es → slice_get (coherence_steps es) k ≡ Some ss → length (compiled a ss).instrs ≤ MAX_INSTRS
+code_short : (a : Puts) (es : List Edge) (k : ℕ) (ss : List Step) → IsArch a → HasLoopCode a es → slice_get (coherence_steps es) k ≡ Some ss
+    → length (compiled a ss).instrs ≤ MAX_INSTRS
 code_short a es k ss laws t g =
     let thread = (thread_is a es k ss laws t g).thread in
     omega (arith, thread_short a laws false (setting_out a.registers) ss thread.fit, thread.few)
 
-thread_code_fits : (a : Puts) (es : List Edge) (k : ℕ) (ss : List Step) → IsArch a → MakesOneAccess a → HasLoopCode a es → slice_get (coherence_steps es) k ≡ Some ss → CodeFits a (place_names es) (name_in (place_names es)) 0 0 (compiled a ss).instrs
+thread_code_fits : (a : Puts) (es : List Edge) (k : ℕ) (ss : List Step) → IsArch a → MakesOneAccess a → HasLoopCode a es
+    → slice_get (coherence_steps es) k ≡ Some ss → CodeFits a (place_names es) (name_in (place_names es)) 0 0 (compiled a ss).instrs
 thread_code_fits a es k ss laws one t g =
     let c = thread_is a es k ss laws t g in
     let most = count_by-le-length (λ (s : Step). branches s.link) ss in
-    code_fits a (place_names es) (name_in (place_names es)) ss 0 0 (compiled a ss).instrs (has_places es k ss t.loop_of.loop.is_cut g) c.formed.has c.formed.places
+    code_fits a (place_names es) (name_in (place_names es)) ss 0 0 (compiled a ss).instrs
+    (has_places es k ss t.loop_of.loop.is_cut g) c.formed.has c.formed.places
     (compiled_ordered a laws ss c.thread.fit (omega (arith, most, c.thread.few))) (omega (arith, compiled_accesses a one ss, c.thread.few))
 
-thread_lands : (a : Puts) (es : List Edge) (k : ℕ) (ss : List Step) → IsArch a → HasLoopCode a es → slice_get (coherence_steps es) k ≡ Some ss → code_lands (compiled a ss).instrs (compiled a ss).instrs ≡ true
+thread_lands : (a : Puts) (es : List Edge) (k : ℕ) (ss : List Step) → IsArch a → HasLoopCode a es → slice_get (coherence_steps es) k ≡ Some ss
+    → code_lands (compiled a ss).instrs (compiled a ss).instrs ≡ true
 thread_lands a es k ss laws t g =
     let c = thread_is a es k ss laws t g in
     lands_once (compiled a ss).instrs (count_by (λ (s : Step). branches s.link) ss) c.formed.jumps c.formed.labels
 
 -- the address registers of all threads, from those of each
-all_links : (P : Link → Type 0) (n : ℕ) (threads : List ThreadCode) → ((k : ℕ) (t : ThreadCode) → slice_get threads k ≡ Some t → AllByRecursion P (map (λ link. (n + k, link)) t.links)) → AllByRecursion P (links_of n threads)
+all_links : (P : Link → Type 0) (n : ℕ) (threads : List ThreadCode) → ((k : ℕ) (t : ThreadCode) → slice_get threads k ≡ Some t
+    → AllByRecursion P (map (λ link. (n + k, link)) t.links)) → AllByRecursion P (links_of n threads)
 all_links P n [] h = tt
 all_links P n (t ∷ threads) h =
     all_append P (map (λ link. (n, link)) t.links) (links_of (n + 1) threads)
@@ -144,7 +153,8 @@ all_links_fit a w es laws back t few =
     let c = thread_is a es k i.element laws t i.got in
     let within = slice_get_within (coherence_steps es) k i.element i.got in
     subst (λ (code : ThreadCode). AllByRecursion (LinkFits w (place_names es) (name_in (place_names es))) (map (λ link. (0 + k, link)) code.links)) i.image
-    (links_fit w (place_names es) (name_in (place_names es)) i.element (0 + k) 0 (compiled a i.element).links (has_places es k i.element t.loop_of.loop.is_cut i.got) (omega (arith, within, few))
+    (links_fit w (place_names es) (name_in (place_names es)) i.element (0 + k) 0 (compiled a i.element).links
+    (has_places es k i.element t.loop_of.loop.is_cut i.got) (omega (arith, within, few))
     (subst (λ n. InOrder 0 (compiled a i.element).links n) (sym back.count) c.formed.links) c.formed.addresses))
 
 -- the numbers that loads are to read are bytes
@@ -152,27 +162,32 @@ numbers_small : (arch : ArchName) (b : Bool) (ss : List Step) → FitSteps arch 
 numbers_small arch b [] fit = tt
 numbers_small arch b (s ∷ ss) fit = of_dir s.dir (numbers_small arch (is_load_dir s.dir) ss fit.1)
   where
-    of_dir : (d : Dir) → AllByRecursion (λ v. v < 256) (numbers_read ss) → AllByRecursion (λ v. v < 256) (map (λ (t : Step). t.value) (cond (is_load_dir d) (s ∷ filter (λ t. is_load_dir t.dir) ss) (filter (λ t. is_load_dir t.dir) ss)))
+    of_dir : (d : Dir) → AllByRecursion (λ v. v < 256) (numbers_read ss) → AllByRecursion (λ v. v < 256)
+        (map (λ (t : Step). t.value) (cond (is_load_dir d) (s ∷ filter (λ t. is_load_dir t.dir) ss) (filter (λ t. is_load_dir t.dir) ss)))
     of_dir dirs.R h = (fit.0.value, h)
     of_dir dirs.W h = h
 
 -- the terms of a thread's loads
-thread_terms_fit : (a : Puts) (w : Writing) (table : List (List ℕ)) (threads thread : ℕ) (qs vs : List ℕ) → WritesBack a w → thread < threads → threads ≤ 64 → AllBelow a.registers qs → AllByRecursion (λ v. v < 256) vs
+thread_terms_fit : (a : Puts) (w : Writing) (table : List (List ℕ)) (threads thread : ℕ) (qs vs : List ℕ) → WritesBack a w → thread < threads → threads ≤ 64
+    → AllBelow a.registers qs → AllByRecursion (λ v. v < 256) vs
     → AllByRecursion (TermFits w threads table) (map (load_term (name_in w.registers) thread) (zip qs vs))
 thread_terms_fit a w table threads thread [] vs back h few below small = tt
 thread_terms_fit a w table threads thread (q ∷ qs) [] back h few below small = tt
 thread_terms_fit a w table threads thread (q ∷ qs) (v ∷ vs) back h few below small = (
   record {
     formed = record {
-      form = and_from (nat_lt thread 64) (is_register_name (name_in w.registers q)) (lt-ltb thread 64 (omega arith)) (all_at is_register_name w.registers q [] back.formed (omega (arith, below.0, back.count)));
+      form = and_from (nat_lt thread 64) (is_register_name (name_in w.registers q)) (lt-ltb thread 64 (omega arith))
+          (all_at is_register_name w.registers q [] back.formed (omega (arith, below.0, back.count)));
       value = omega (arith, small.0);
     };
-    known = and_from (nat_lt thread threads) (is_some (number_in w.registers (name_in w.registers q))) (lt-ltb thread threads h) (ap is_some (registers_found a w back q below.0));
+    known = and_from (nat_lt thread threads) (is_some (number_in w.registers (name_in w.registers q))) (lt-ltb thread threads h)
+        (ap is_some (registers_found a w back q below.0));
   },
   thread_terms_fit a w table threads thread qs vs back h few below.1 small.1,
 )
 
-load_terms_fit : (a : Puts) (w : Writing) (table : List (List ℕ)) (threads thread : ℕ) (all : List (List Step)) → WritesBack a w → thread + length all ≤ threads → threads ≤ 64
+load_terms_fit : (a : Puts) (w : Writing) (table : List (List ℕ)) (threads thread : ℕ) (all : List (List Step)) → WritesBack a w
+    → thread + length all ≤ threads → threads ≤ 64
     → ((k : ℕ) (ss : List Step) → slice_get all k ≡ Some ss → AllBelow a.registers (compiled a ss).loads × AllByRecursion (λ v. v < 256) (numbers_read ss))
     → AllByRecursion (TermFits w threads table) (load_terms a (name_in w.registers) thread all)
 load_terms_fit a w table threads thread [] back h few each = tt
@@ -183,11 +198,14 @@ load_terms_fit a w table threads thread (ss ∷ all) back h few each =
     (load_terms_fit a w table threads (thread + 1) all back (omega arith) few (λ k u g. each (suc k) u g))
 
 -- the term of the place is there where it has two writes
-last_terms_are : (es : List Edge) → IsCut es → last_terms (cut_open es) Avoid ≡ map (last_term (cut_open es)) (cond (is_named_location (cut_open es) Avoid 0) (0 ∷ []) [])
+last_terms_are : (es : List Edge) → IsCut es
+    → last_terms (cut_open es) Avoid ≡ map (last_term (cut_open es)) (cond (is_named_location (cut_open es) Avoid 0) (0 ∷ []) [])
 last_terms_are es c = ap (λ n. map (last_term (cut_open es)) (filter (is_named_location (cut_open es) Avoid) (upto n))) (one_move es c)
 
-last_terms_fit : (w : Writing) (es : List Edge) (threads : ℕ) → IsCut es → writes_in es ≤ 2 → AllByRecursion (TermFits w threads (place_names es)) (last_terms (cut_open es) Avoid)
-last_terms_fit w es threads c few = subst (AllByRecursion (TermFits w threads (place_names es))) (sym (last_terms_are es c)) (by_case (is_named_location (cut_open es) Avoid 0))
+last_terms_fit : (w : Writing) (es : List Edge) (threads : ℕ) → IsCut es → writes_in es ≤ 2
+    → AllByRecursion (TermFits w threads (place_names es)) (last_terms (cut_open es) Avoid)
+last_terms_fit w es threads c few = subst (AllByRecursion (TermFits w threads (place_names es))) (sym (last_terms_are es c))
+    (by_case (is_named_location (cut_open es) Avoid 0))
   where
     by_case : (b : Bool) → AllByRecursion (TermFits w threads (place_names es)) (map (last_term (cut_open es)) (cond b (0 ∷ []) []))
     by_case false = tt
@@ -229,7 +247,14 @@ loads_and_stores (s ∷ ss) =
 
 sum_both : (threads : List (List Step)) → sum_by loads_in threads + sum_by stores_in threads ≡ sum_by length threads
 sum_both [] = refl
-sum_both (ss ∷ threads) = omega (arith, sum_both threads, loads_and_stores ss, sum_by-cons loads_in ss threads, sum_by-cons stores_in ss threads, sum_by-cons (λ (x : List Step). length x) ss threads)
+sum_both (ss ∷ threads) = omega (
+  arith,
+  sum_both threads,
+  loads_and_stores ss,
+  sum_by-cons loads_in ss threads,
+  sum_by-cons stores_in ss threads,
+  sum_by-cons (λ (x : List Step). length x) ss threads,
+)
 
 sum_map : {X Y : Type 0} (f : Y → ℕ) (g : X → Y) (xs : List X) → sum_by f (map g xs) ≡ sum_by (λ x. f (g x)) xs
 sum_map f g [] = refl
@@ -239,10 +264,12 @@ sum_map f g (x ∷ xs) = omega (arith, sum_by-cons f (g x) (map g xs), sum_map f
 threads_are : (es : List Edge) → coherence_steps es ≡ map (thread_steps (cut_open es) plain) (upto (external_count (cut_open es)))
 unfolding cycle_steps
 threads_are es =
-    ap (λ l. map (thread_steps (cut_open es) plain) (upto (external_count (cut_open es))) ++ map (observer_steps (cut_open es) plain) l) (none_observed (cut_open es))
+    ap (λ l. map (thread_steps (cut_open es) plain) (upto (external_count (cut_open es))) ++ map (observer_steps (cut_open es) plain) l)
+    (none_observed (cut_open es))
     ∙ append-nil (map (thread_steps (cut_open es) plain) (upto (external_count (cut_open es))))
 
-thread_size : (es : List Edge) (k : ℕ) → length (thread_steps (cut_open es) plain k) ≡ count_by (λ i. thread_of (cut_open es) i == k) (upto (length (cut_open es)))
+thread_size : (es : List Edge) (k : ℕ)
+    → length (thread_steps (cut_open es) plain k) ≡ count_by (λ i. thread_of (cut_open es) i == k) (upto (length (cut_open es)))
 unfolding events_in
 thread_size es k =
     length-map (filter (λ i. thread_of (cut_open es) i == k) (upto (length (cut_open es)))) (event_step (cut_open es) plain)
@@ -253,8 +280,10 @@ sum_sizes : (es : List Edge) → IsLoop es → sum_by length (coherence_steps es
 sum_sizes es r =
     ap (sum_by length) (threads_are es)
     ∙ sum_map length (thread_steps (cut_open es) plain) (upto (external_count (cut_open es)))
-    ∙ sum_upto_same (λ k. length (thread_steps (cut_open es) plain k)) (λ k. count_by (λ i. thread_of (cut_open es) i == k) (upto (length (cut_open es)))) (external_count (cut_open es)) (λ k h. thread_size es k)
-    ∙ classes_total (thread_of (cut_open es)) (external_count (cut_open es)) (length (cut_open es)) (λ i h. omega (arith, thread_under es i r (omega (arith, h, opened-length es)), opened_thread es i, opened-threads es))
+    ∙ sum_upto_same (λ k. length (thread_steps (cut_open es) plain k)) (λ k. count_by (λ i. thread_of (cut_open es) i == k) (upto (length (cut_open es))))
+    (external_count (cut_open es)) (λ k h. thread_size es k)
+    ∙ classes_total (thread_of (cut_open es)) (external_count (cut_open es)) (length (cut_open es)) (λ i h. omega
+    (arith, thread_under es i r (omega (arith, h, opened-length es)), opened_thread es i, opened-threads es))
     ∙ opened-length es
 
 -- a term of a sum is at most the sum
@@ -277,15 +306,18 @@ pub record IsStep (es : List Edge) (i : ℕ) : Type 0 where
 -- each event is so
 pub is_step : (es : List Edge) (i : ℕ) → IsLoop es → i < length es → IsStep es i
 is_step es i r h = record {
-  steps_at = thread_steps_at (cut_open es) Avoid plain (thread_of (cut_open es) i) (omega (arith, thread_under es i r h, opened_thread es i, opened-threads es));
-  step_at = got_map (event_step (cut_open es) plain) (events_in (cut_open es) (thread_of (cut_open es) i)) (slot_of (cut_open es) i) i (event_in_slot (cut_open es) i (omega (arith, h, opened-length es)));
+  steps_at = thread_steps_at (cut_open es) Avoid plain (thread_of (cut_open es) i)
+      (omega (arith, thread_under es i r h, opened_thread es i, opened-threads es));
+  step_at = got_map (event_step (cut_open es) plain) (events_in (cut_open es) (thread_of (cut_open es) i)) (slot_of (cut_open es) i) i
+      (event_in_slot (cut_open es) i (omega (arith, h, opened-length es)));
 }
 
 -- an event that reads is a load, one that writes a store
 event_loads : (es : List Edge) (i : ℕ) → IsLoop es → i < length es → source_of (edge_at es i) ≡ dirs.R → 1 ≤ sum_by loads_in (coherence_steps es)
 event_loads es i r h d =
     let s = is_step es i r h in
-    let one = counted_one (λ (t : Step). is_load_dir t.dir) (thread_steps (cut_open es) plain (thread_of (cut_open es) i)) (slot_of (cut_open es) i) (event_step (cut_open es) plain i) s.step_at (ap is_load_dir (same_at source_of source_same es i ∙ d)) in
+    let one = counted_one (λ (t : Step). is_load_dir t.dir) (thread_steps (cut_open es) plain (thread_of (cut_open es) i)) (slot_of (cut_open es) i)
+    (event_step (cut_open es) plain i) s.step_at (ap is_load_dir (same_at source_of source_same es i ∙ d)) in
     let all = term_most loads_in (coherence_steps es) (thread_of (cut_open es) i) (thread_steps (cut_open es) plain (thread_of (cut_open es) i)) s.steps_at in
     omega (arith, one, all)
 
@@ -293,8 +325,10 @@ event_stores : (es : List Edge) (i : ℕ) → IsLoop es → i < length es → so
 unfolding stores_in
 event_stores es i r h d =
     let s = is_step es i r h in
-    let one = counted_one (λ (t : Step). is_store_dir t.dir) (thread_steps (cut_open es) plain (thread_of (cut_open es) i)) (slot_of (cut_open es) i) (event_step (cut_open es) plain i) s.step_at (ap is_store_dir (same_at source_of source_same es i ∙ d)) in
-    let all = term_most (λ (ss : List Step). count_by (λ (t : Step). is_store_dir t.dir) ss) (coherence_steps es) (thread_of (cut_open es) i) (thread_steps (cut_open es) plain (thread_of (cut_open es) i)) s.steps_at in
+    let one = counted_one (λ (t : Step). is_store_dir t.dir) (thread_steps (cut_open es) plain (thread_of (cut_open es) i)) (slot_of (cut_open es) i)
+    (event_step (cut_open es) plain i) s.step_at (ap is_store_dir (same_at source_of source_same es i ∙ d)) in
+    let all = term_most (λ (ss : List Step). count_by (λ (t : Step). is_store_dir t.dir) ss) (coherence_steps es) (thread_of (cut_open es) i)
+    (thread_steps (cut_open es) plain (thread_of (cut_open es) i)) s.steps_at in
     omega (arith, one, all)
 
 -- the terms of the condition
@@ -318,12 +352,14 @@ terms_few a name es r =
 -- with two writes the last value is a term
 last_term_there : (es : List Edge) → IsCut es → 2 ≤ writes_in es → 1 ≤ length (last_terms (cut_open es) Avoid)
 last_term_there es c two =
-    let t : is_named_location (cut_open es) Avoid 0 ≡ true = and_from (nat_le 2 (write_count (cut_open es) 0)) (not (is_observed (cut_open es) Avoid 0)) (le-leb 2 (write_count (cut_open es) 0) (omega (arith, two, write_count_is es c))) (ap not (unobserved (cut_open es) 0)) in
+    let t : is_named_location (cut_open es) Avoid 0 ≡ true = and_from (nat_le 2 (write_count (cut_open es) 0)) (not (is_observed (cut_open es) Avoid 0))
+    (le-leb 2 (write_count (cut_open es) 0) (omega (arith, two, write_count_is es c))) (ap not (unobserved (cut_open es) 0)) in
     let one : length (last_terms (cut_open es) Avoid) ≡ 1 = ap length (last_terms_are es c ∙ ap (λ b. map (last_term (cut_open es)) (cond b (0 ∷ []) [])) t) in
     omega (arith, one)
 
 -- there is a term: the last edge leaves or enters a read, or it joins two writes
-term_there : (a : Puts) (name : ℕ → List ℕ) (es : List Edge) (i : ℕ) → IsLoop es → i < length es → (k : Kind) → kind_of (edge_at es i) ≡ k → is_external (edge_at es i) ≡ true → 0 < length (loop_terms a name es)
+term_there : (a : Puts) (name : ℕ → List ℕ) (es : List Edge) (i : ℕ) → IsLoop es → i < length es → (k : Kind) → kind_of (edge_at es i) ≡ k
+    → is_external (edge_at es i) ≡ true → 0 < length (loop_terms a name es)
 term_there a name es i r h (kinds.Com coms.Rf reach) e t =
     omega (
       arith,
@@ -367,7 +403,8 @@ names_short : (es : List Edge) → IsCut es → AreShort (place_names es)
 names_short es c =
     subst (λ n. AreShort (letters n)) (sym (one_move es c)) (place_name_short (location_name 0) (location_new 0 (omega arith)).formed, tt)
 
-texts_short : (a : Puts) (w : Writing) (table : List (List ℕ)) (names : ℕ → List ℕ) (labels accesses : ℕ) (code : List Micro) → WritesCells a w → CodeFits a table names labels accesses code
+texts_short : (a : Puts) (w : Writing) (table : List (List ℕ)) (names : ℕ → List ℕ) (labels accesses : ℕ) (code : List Micro) → WritesCells a w
+    → CodeFits a table names labels accesses code
     → AllByRecursion (λ op. length (op_text w names op) ≤ 40) code
 texts_short a w table names labels accesses [] cells fits = tt
 texts_short a w table names labels accesses (op ∷ code) cells fits = (
@@ -380,25 +417,31 @@ ordered_few : (low : ℕ) (links : List (ℕ × ℕ)) (high : ℕ) → InOrder l
 ordered_few low [] high h = omega (arith, h)
 ordered_few low (link ∷ links) high h = let rest = ordered_few (link.0 + 1) links high h.1 in omega (arith, h.0, rest)
 
-formed_terms : (w : Writing) (threads : ℕ) (table : List (List ℕ)) (terms : List TermSeen) → AllByRecursion (TermFits w threads table) terms → AllByRecursion IsFormedTerm terms
+formed_terms : (w : Writing) (threads : ℕ) (table : List (List ℕ)) (terms : List TermSeen) → AllByRecursion (TermFits w threads table) terms
+    → AllByRecursion IsFormedTerm terms
 formed_terms w threads table [] fit = tt
 formed_terms w threads table (term ∷ terms) fit = (fit.0.formed, formed_terms w threads table terms fit.1)
 
 -- the coherence test of a cycle, under a name of a test's form, is within the limits of the format
-pub readable : (a : Puts) (arch : ArchName) (w : Writing) (name : List ℕ) (es : List Edge) → IsArch a → WritesBack a w → WritesCells a w → MakesOneAccess a → IsTestName name → HasLoopCode a es
+pub readable : (a : Puts) (arch : ArchName) (w : Writing) (name : List ℕ) (es : List Edge) → IsArch a → WritesBack a w → WritesCells a w → MakesOneAccess a
+    → IsTestName name → HasLoopCode a es
     → IsReadable a arch w name (coherence_test_of a (name_in w.registers) es)
 readable a arch w name es laws back cells one named t = record {
   named = named;
-  short = text_short arch w name (coherence_test_of a (name_in w.registers) es) (leb-true (length name) 800 named.short) loop.composes.few (omega (arith, threads, steps, loop.composes.few)) (registers_short w.registers back.formed)
-      (names_short es c) small (formed_terms w (length (map (compiled a) (coherence_steps es))) (place_names es) (loop_terms a (name_in w.registers) es) terms) terms_number;
+  short = text_short arch w name (coherence_test_of a (name_in w.registers) es) (leb-true (length name) 800 named.short) loop.composes.few
+      (omega (arith, threads, steps, loop.composes.few)) (registers_short w.registers back.formed)
+      (names_short es c) small (formed_terms w (length (map (compiled a) (coherence_steps es))) (place_names es)
+      (loop_terms a (name_in w.registers) es) terms) terms_number;
   threads_some = omega (arith, threads, steps-count (cut_open es) Avoid plain, opened-threads es, loop.threads);
   threads_few = omega (arith, threads, steps, loop.composes.few);
   places_few = omega (arith, length-letters (move_count (cut_open es)), one_move es c);
   rows_few = each_code a (cut_open es) Avoid (λ code. length code.instrs ≤ 1024) (λ k ss g. omega (arith, code_short a es k ss laws t g));
-  codes = each_code a (cut_open es) Avoid (λ code. CodeFits a (place_names es) (name_in (place_names es)) 0 0 code.instrs) (λ k ss g. thread_code_fits a es k ss laws one t g);
+  codes = each_code a (cut_open es) Avoid (λ code. CodeFits a (place_names es) (name_in (place_names es)) 0 0 code.instrs)
+      (λ k ss g. thread_code_fits a es k ss laws one t g);
   lands = each_code a (cut_open es) Avoid (λ code. code_lands code.instrs code.instrs ≡ true) (λ k ss g. thread_lands a es k ss laws t g);
   links = all_links_fit a w es laws back t (omega (arith, steps, loop.composes.few));
-  links_single = links_single a.registers (map (compiled a) (coherence_steps es)) (each_code a (cut_open es) Avoid (λ code. InOrder 0 code.links a.registers) (λ k ss g. (thread_is a es k ss laws t g).formed.links));
+  links_single = links_single a.registers (map (compiled a) (coherence_steps es)) (each_code a (cut_open es) Avoid (λ code. InOrder 0 code.links a.registers)
+      (λ k ss g. (thread_is a es k ss laws t g).formed.links));
   terms_some = some_term a (name_in w.registers) es loop;
   terms_few = omega (arith, terms_number);
   terms = terms;
@@ -428,7 +471,9 @@ readable a arch w name es laws back cells one named t = record {
 
     terms : AllByRecursion (TermFits w (length (map (compiled a) (coherence_steps es))) (place_names es)) (loop_terms a (name_in w.registers) es)
     terms =
-        all_append (TermFits w (length (map (compiled a) (coherence_steps es))) (place_names es)) (last_terms (cut_open es) Avoid) (load_terms a (name_in w.registers) 0 (coherence_steps es))
+        all_append (TermFits w (length (map (compiled a) (coherence_steps es))) (place_names es)) (last_terms (cut_open es) Avoid)
+        (load_terms a (name_in w.registers) 0 (coherence_steps es))
         (last_terms_fit w es (length (map (compiled a) (coherence_steps es))) c t.loop_of.few_writes)
-        (load_terms_fit a w (place_names es) (length (map (compiled a) (coherence_steps es))) 0 (coherence_steps es) back (omega (arith, threads)) (omega (arith, threads, steps, loop.composes.few)) (λ k ss g.
+        (load_terms_fit a w (place_names es) (length (map (compiled a) (coherence_steps es))) 0 (coherence_steps es) back (omega (arith, threads))
+        (omega (arith, threads, steps, loop.composes.few)) (λ k ss g.
         let d = thread_is a es k ss laws t g in (d.formed.loads, numbers_small a.name false ss d.thread.fit)))

@@ -43,7 +43,8 @@ use Rattle.co_tests_laws.proofs.Asked.{HasLoopCode, loop_codes, are_codes, reads
 use Rattle.co_tests_laws.proofs.Stands.{all_stand}
 
 -- a coherence test whose place has a number and a name, on an architecture whose registers are found by their names
-pub record IsSetUp (a : Puts) (register_name : ℕ → List ℕ) (register_number : List ℕ → Option ℕ) (es : List Edge) (number : ℕ → ℕ) (names : List (List ℕ)) : Type 0 where
+pub record IsSetUp (a : Puts) (register_name : ℕ → List ℕ) (register_number : List ℕ → Option ℕ) (es : List Edge) (number : ℕ
+    → ℕ) (names : List (List ℕ)) : Type 0 where
   pub laws : IsArch a
   pub finds : FindsRegisters a register_name register_number
   pub code : HasLoopCode a es
@@ -55,7 +56,8 @@ abbrev pub loop_program : Puts → List Edge → (ℕ → ℕ) → Program
 loop_program a es number = cycle_program a (cut_open es) Avoid number
 
 -- a candidate execution that meets its condition
-pub record IsMetBy (a : Puts) (register_name : ℕ → List ℕ) (register_number : List ℕ → Option ℕ) (es : List Edge) (number : ℕ → ℕ) (names : List (List ℕ)) (x : Execution) : Type 0 where
+pub record IsMetBy (a : Puts) (register_name : ℕ → List ℕ) (register_number : List ℕ → Option ℕ) (es : List Edge) (number : ℕ
+    → ℕ) (names : List (List ℕ)) (x : Execution) : Type 0 where
   pub candidate : IsCandidate (loop_program a es number) x
   pub meets : Meets (final_state (loop_program a es number) names register_number x) (coherence_test_of a register_name es).cond
 
@@ -64,15 +66,20 @@ record IsStated (a : Puts) (es : List Edge) (number : ℕ → ℕ) (x : Executio
   accesses : accesses_in (loop_program a es number) x ≡ loop_accesses es number
   is : x ≡ loop_execution es number
 
-stated : (a : Puts) (register_name : ℕ → List ℕ) (register_number : List ℕ → Option ℕ) (es : List Edge) (number : ℕ → ℕ) (names : List (List ℕ)) (x : Execution) → IsSetUp a register_name register_number es number names → IsMetBy a register_name register_number es number names x → IsStated a es number x
+stated : (a : Puts) (register_name : ℕ → List ℕ) (register_number : List ℕ → Option ℕ) (es : List Edge) (number : ℕ
+    → ℕ) (names : List (List ℕ)) (x : Execution) → IsSetUp a register_name register_number es number names
+    → IsMetBy a register_name register_number es number names x → IsStated a es number x
 stated a register_name register_number es number names x s w =
     let loop = s.code.loop_of.loop in
-    let m = all_parts (IsMet (final_state (loop_program a es number) names register_number x)) (last_terms (cut_open es) Avoid) (load_terms a register_name 0 (coherence_steps es)) w.meets in
+    let m = all_parts (IsMet (final_state (loop_program a es number) names register_number x)) (last_terms (cut_open es) Avoid)
+    (load_terms a register_name 0 (coherence_steps es)) w.meets in
     let asked = reads_asked a es number names register_name register_number x s.laws s.code s.finds w.candidate m.1 in
     let made = makes (loop_codes a es number) (cut_open es) Avoid number x (are_codes a es number s.laws s.code.loop_of) w.candidate in
     let same : accesses_in (loop_program a es number) x ≡ loop_accesses es number =
-    makes_planned (cut_open es) Avoid number (loop_program a es number) x made asked (w.candidate.execution.read_lists ∙ accesses-count (loop_program a es number) x) in
-    let runs : IsExecutionOf (loop_accesses es number) 1 x = subst (λ (t : List (List Access) × ℕ). IsExecutionOf t.0 t.1 x) (λ i. (same i, one_move es loop.is_cut i)) w.candidate.execution in
+    makes_planned (cut_open es) Avoid number (loop_program a es number) x made asked (w.candidate.execution.read_lists
+    ∙ accesses-count (loop_program a es number) x) in
+    let runs : IsExecutionOf (loop_accesses es number) 1 x = subst (λ (t : List (List Access) × ℕ). IsExecutionOf t.0 t.1 x)
+    (λ i. (same i, one_move es loop.is_cut i)) w.candidate.execution in
     let ends : (2 ≤ writes_in es → final_value (loop_accesses es number) x 0 ≡ writes_in es) = λ h.
     subst (λ (t : List (List Access)). final_value t x 0 ≡ writes_in es) same (ends_asked a es number names register_number x loop.is_cut s.named m.0 h) in
     record {
@@ -83,9 +90,11 @@ stated a register_name register_number es number names x s w =
 -- the execution by values reads what is asked for
 reads_stated : (es : List Edge) (number : ℕ → ℕ) → ReadsAsAsked (cut_open es) Avoid number (loop_execution es number)
 reads_stated es number k planned reads t g =
-    let s : Some (reads_by_source (source_in (loop_write es)) (filter is_read planned)) ≡ Some reads = sym (got_map (λ accesses. reads_by_source (source_in (loop_write es)) (filter is_read accesses)) (loop_accesses es number) k planned t) ∙ g in
+    let s : Some (reads_by_source (source_in (loop_write es)) (filter is_read planned)) ≡ Some reads =
+    sym (got_map (λ accesses. reads_by_source (source_in (loop_write es)) (filter is_read accesses)) (loop_accesses es number) k planned t) ∙ g in
     let e : reads_by_source (source_in (loop_write es)) (filter is_read planned) ≡ reads = cc in
-    ap values_read (sym e) ∙ map-map (λ (access : Access). (access.value, source_in (loop_write es) access)) (λ (r : ℕ × Option WriteAt). r.0) (filter is_read planned)
+    ap values_read (sym e) ∙ map-map (λ (access : Access). (access.value, source_in (loop_write es) access)) (λ (r : ℕ × Option WriteAt). r.0)
+    (filter is_read planned)
 
 -- what is known of it
 record Runs (a : Puts) (es : List Edge) (number : ℕ → ℕ) : Type 0 where
@@ -97,60 +106,76 @@ runs a es number laws t n =
     let loop = t.loop_of.loop in
     let m = are_codes a es number laws t.loop_of in
     let enough = asked_enough (cut_open es) Avoid number (loop_execution es number) (reads_stated es number) in
-    let lists : length (loop_execution es number).reads ≡ length (loop_accesses es number) = length-map (loop_accesses es number) (λ accesses. reads_by_source (source_in (loop_write es)) (filter is_read accesses)) in
+    let lists : length (loop_execution es number).reads ≡ length (loop_accesses es number) = length-map (loop_accesses es number)
+    (λ accesses. reads_by_source (source_in (loop_write es)) (filter is_read accesses)) in
     let made = makes_enough (loop_codes a es number) (cut_open es) Avoid number (loop_execution es number) m enough in
     let same : accesses_in (loop_program a es number) (loop_execution es number) ≡ loop_accesses es number =
     makes_planned (cut_open es) Avoid number (loop_program a es number) (loop_execution es number) made (reads_stated es number) (lists ∙ sym made.threads) in
     record {
       candidate = record {
-        ended = all_end (loop_codes a es number) (cycle_steps (cut_open es) Avoid number) (move_count (cut_open es)) (loop_execution es number) m (lists ∙ planned-count (cut_open es) Avoid number) enough;
-        execution = subst (λ (t : List (List Access) × ℕ). IsExecutionOf t.0 t.1 (loop_execution es number)) (λ i. (sym same i, sym (one_move es loop.is_cut) i))
+        ended = all_end (loop_codes a es number) (cycle_steps (cut_open es) Avoid number) (move_count (cut_open es)) (loop_execution es number) m (lists
+            ∙ planned-count (cut_open es) Avoid number) enough;
+        execution = subst (λ (t : List (List Access) × ℕ). IsExecutionOf t.0 t.1 (loop_execution es number))
+            (λ i. (sym same i, sym (one_move es loop.is_cut) i))
             (by_values_execution (loop_accesses es number) (loop_write es) (writes_in es) (numbered es number loop n));
       };
       accesses = same;
     }
 
 -- the place ends with the last value in it
-ends_stated : (es : List Edge) (number : ℕ → ℕ) → IsLoop es → IsNumbering (cut_open es) number → 2 ≤ writes_in es → final_value (loop_accesses es number) (loop_execution es number) 0 ≡ writes_in es
+ends_stated : (es : List Edge) (number : ℕ → ℕ) → IsLoop es → IsNumbering (cut_open es) number → 2 ≤ writes_in es
+    → final_value (loop_accesses es number) (loop_execution es number) 0 ≡ writes_in es
 ends_stated es number loop n h =
     let e : writes_in es ≡ suc (writes_in es - 1) = omega (arith, h) in
     by_values_ends (loop_accesses es number) (loop_write es) (writes_in es) (writes_in es - 1) (numbered es number loop n) e ∙ sym e
 
 -- it meets the condition
-pub stated_meets : (a : Puts) (register_name : ℕ → List ℕ) (register_number : List ℕ → Option ℕ) (es : List Edge) (number : ℕ → ℕ) (names : List (List ℕ)) → IsSetUp a register_name register_number es number names
+pub stated_meets : (a : Puts) (register_name : ℕ → List ℕ) (register_number : List ℕ → Option ℕ) (es : List Edge) (number : ℕ → ℕ) (names : List (List ℕ))
+    → IsSetUp a register_name register_number es number names
     → IsMetBy a register_name register_number es number names (loop_execution es number)
 stated_meets a register_name register_number es number names s =
     let loop = s.code.loop_of.loop in
     let r = runs a es number s.laws s.code s.numbering in
     record {
       candidate = r.candidate;
-      meets = all_append (IsMet (final_state (loop_program a es number) names register_number (loop_execution es number))) (last_terms (cut_open es) Avoid) (load_terms a register_name 0 (coherence_steps es))
+      meets = all_append (IsMet (final_state (loop_program a es number) names register_number (loop_execution es number))) (last_terms (cut_open es) Avoid)
+          (load_terms a register_name 0 (coherence_steps es))
           (asked_ends a es number names register_number (loop_execution es number) loop.is_cut s.named
-          (λ h. subst (λ (t : List (List Access)). final_value t (loop_execution es number) 0 ≡ writes_in es) (sym r.accesses) (ends_stated es number loop s.numbering h)))
+          (λ h. subst (λ (t : List (List Access)). final_value t (loop_execution es number) 0 ≡ writes_in es) (sym r.accesses)
+          (ends_stated es number loop s.numbering h)))
           (asked_met a es number names register_name register_number (loop_execution es number) s.laws s.code s.finds r.candidate (reads_stated es number));
     }
 
 -- no other execution does
-pub only_stated : (a : Puts) (register_name : ℕ → List ℕ) (register_number : List ℕ → Option ℕ) (es : List Edge) (number : ℕ → ℕ) (names : List (List ℕ)) (x : Execution) → IsSetUp a register_name register_number es number names
+pub only_stated : (a : Puts) (register_name : ℕ → List ℕ) (register_number : List ℕ → Option ℕ) (es : List Edge) (number : ℕ
+    → ℕ) (names : List (List ℕ)) (x : Execution) → IsSetUp a register_name register_number es number names
     → IsMetBy a register_name register_number es number names x → x ≡ loop_execution es number
 only_stated a register_name register_number es number names x s w = (stated a register_name register_number es number names x s w).is
 
 -- all edges stand in it
-pub met_stand : (a : Puts) (register_name : ℕ → List ℕ) (register_number : List ℕ → Option ℕ) (es : List Edge) (number : ℕ → ℕ) (names : List (List ℕ)) (x : Execution) → IsSetUp a register_name register_number es number names
+pub met_stand : (a : Puts) (register_name : ℕ → List ℕ) (register_number : List ℕ → Option ℕ) (es : List Edge) (number : ℕ
+    → ℕ) (names : List (List ℕ)) (x : Execution) → IsSetUp a register_name register_number es number names
     → IsMetBy a register_name register_number es number names x → AllStand es (loop_program a es number) x
 met_stand a register_name register_number es number names x s w =
     let t = stated a register_name register_number es number names x s w in
-    all_stand a.name (loop_codes a es number) es number x (record { loop_of = s.code.loop_of; codes_of = are_codes a es number s.laws s.code.loop_of; candidate = w.candidate }) s.numbering t.accesses t.is
+    all_stand a.name (loop_codes a es number) es number x (record {
+      loop_of = s.code.loop_of;
+      codes_of = are_codes a es number s.laws s.code.loop_of;
+      candidate = w.candidate;
+    }) s.numbering t.accesses t.is
 
 -- it has a cycle of the four relations
-pub met_cyclic : (a : Puts) (register_name : ℕ → List ℕ) (register_number : List ℕ → Option ℕ) (es : List Edge) (number : ℕ → ℕ) (names : List (List ℕ)) (x : Execution) → IsSetUp a register_name register_number es number names
+pub met_cyclic : (a : Puts) (register_name : ℕ → List ℕ) (register_number : List ℕ → Option ℕ) (es : List Edge) (number : ℕ
+    → ℕ) (names : List (List ℕ)) (x : Execution) → IsSetUp a register_name register_number es number names
     → IsMetBy a register_name register_number es number names x → HasCycle (accesses_in (loop_program a es number) x) x
 met_cyclic a register_name register_number es number names x s w =
     let t = stated a register_name register_number es number names x s w in
-    subst (λ (z : List (List Access) × Execution). HasCycle z.0 z.1) (λ i. (sym t.accesses i, sym t.is i)) (loop_cycle es number s.code.loop_of.loop s.numbering)
+    subst (λ (z : List (List Access) × Execution). HasCycle z.0 z.1) (λ i. (sym t.accesses i, sym t.is i))
+    (loop_cycle es number s.code.loop_of.loop s.numbering)
 
 -- and so it isn't coherent
-pub met_incoherent : (a : Puts) (register_name : ℕ → List ℕ) (register_number : List ℕ → Option ℕ) (es : List Edge) (number : ℕ → ℕ) (names : List (List ℕ)) (x : Execution) → IsSetUp a register_name register_number es number names
+pub met_incoherent : (a : Puts) (register_name : ℕ → List ℕ) (register_number : List ℕ → Option ℕ) (es : List Edge) (number : ℕ
+    → ℕ) (names : List (List ℕ)) (x : Execution) → IsSetUp a register_name register_number es number names
     → IsMetBy a register_name register_number es number names x → IsCoherentIn (loop_program a es number) x → ⊥
 met_incoherent a register_name register_number es number names x s w coherent =
     let cycle = met_cyclic a register_name register_number es number names x s w in

@@ -1,6 +1,6 @@
 -- All edges of a cycle over one location stand in each execution of its coherence test that has the stated values: the code
 -- marks the accesses and ties them as the edges say, and there is nothing else.
-use Rattle.std.proofs.Common.{◌≡◌, ℕ, suc, ◌+◌, ◌-◌, ◌<◌, ◌≤◌, true, false, List, [], length, map, take, Some, slice_get, refl, sym, ◌∙◌, ap, subst, arith, add-one}
+use Rattle.std.proofs.Common.{◌≡◌, ℕ, suc, ◌+◌, ◌-◌, ◌<◌, true, false, List, [], length, map, take, Some, slice_get, refl, sym, ◌∙◌, ap, subst, arith, add-one}
 use Rattle.std.proofs.lemmas.List.{length-map}
 use Rattle.std.proofs.lemmas.Option.{slice_get_within}
 use Rattle.list_laws.proofs.Cases.{by_test}
@@ -10,8 +10,7 @@ use Rattle.relax_edges.specs.declared.kinds.ObsMode.TheVariants.{Avoid}
 use Rattle.relax_edges.specs.declared.kinds.Kind.{Kind}
 use Rattle.relax_edges.specs.declared.kinds.Kind.TheVariants as kinds
 use Rattle.relax_edges.specs.declared.edge.Edge.{Edge}
-use Rattle.relax_edges.specs.EdgeTable.{kind_of, source_of, source_mark, target_mark, is_external}
-use Rattle.micro_ops.specs.declared.operation.Item.{Item}
+use Rattle.relax_edges.specs.EdgeTable.{kind_of, source_of, source_mark, is_external}
 use Rattle.resolution_laws.specs.Resolution.{edge_at, external_count, move_count, thread_of as event_thread, slot_of, events_in, event_after}
 use Rattle.resolution_laws.proofs.Threads.{event_in_slot, slot_of_event}
 use Rattle.resolution_laws.proofs.Around.{after_below, mark_after}
@@ -45,7 +44,8 @@ use Rattle.co_tests_laws.proofs.Events.{IsLoop, loop_accesses, loop_execution, t
 use Rattle.co_tests_laws.proofs.Fits.{IsLoopOf, before_event, event_fits, thread_fits}
 
 -- an edge to another thread ties nothing
-external_ties : (kind : Kind) (edge : Edge) (threads : List (List Access)) (e f : NamedAccess) → kind_of edge ≡ kind → is_external edge ≡ true → TiesBy kind threads e f
+external_ties : (kind : Kind) (edge : Edge) (threads : List (List Access)) (e f : NamedAccess) → kind_of edge ≡ kind → is_external edge ≡ true
+    → TiesBy kind threads e f
 external_ties (kinds.Com which Internal) edge threads e f q h = let a = rw q at h in cc
 external_ties (kinds.Com which External) edge threads e f q h = tt
 external_ties (kinds.Po sd from to) edge threads e f q h = let a = rw q at h in cc
@@ -64,7 +64,8 @@ pub record IsRun (arch : ArchName) (codes : List ThreadCode) (es : List Edge) (n
   pub candidate : IsCandidate (loop_program codes es) x
 
 -- what the run of a thread made
-thread_did : (arch : ArchName) (codes : List ThreadCode) (es : List Edge) (number : ℕ → ℕ) (x : Execution) (k : ℕ) → IsRun arch codes es number x → (t : ThreadOf (cycle_steps (cut_open es) Avoid number) x k) → DidThread codes (move_count (cut_open es)) x k t.steps t.reads
+thread_did : (arch : ArchName) (codes : List ThreadCode) (es : List Edge) (number : ℕ → ℕ) (x : Execution) (k : ℕ) → IsRun arch codes es number x
+    → (t : ThreadOf (cycle_steps (cut_open es) Avoid number) x k) → DidThread codes (move_count (cut_open es)) x k t.steps t.reads
 thread_did arch codes es number x k r t =
     did_thread codes (cycle_steps (cut_open es) Avoid number) (move_count (cut_open es)) x k t.steps t.reads r.codes_of t.steps_at t.reads_at
     (candidate_enough codes (cut_open es) Avoid number x r.codes_of r.candidate k t.steps t.reads t.steps_at t.reads_at)
@@ -75,15 +76,24 @@ record Made (codes : List ThreadCode) (es : List Edge) (number : ℕ → ℕ) (x
   visits_are : slice_get (visits_in (loop_program codes es) x) k ≡ Some (thread_visits (thread_steps (cut_open es) number k) 0 0 reads)
   items_are : slice_get (items_in (loop_program codes es) x) k ≡ Some (thread_items (thread_steps (cut_open es) number k) 0 0 reads)
 
-made : (arch : ArchName) (codes : List ThreadCode) (es : List Edge) (number : ℕ → ℕ) (x : Execution) (k : ℕ) → IsRun arch codes es number x → k < external_count es → Made codes es number x k
+made : (arch : ArchName) (codes : List ThreadCode) (es : List Edge) (number : ℕ → ℕ) (x : Execution) (k : ℕ) → IsRun arch codes es number x
+    → k < external_count es → Made codes es number x k
 made arch codes es number x k r h =
     let stands = thread_steps_at (cut_open es) Avoid number k (omega (arith, h, opened-threads es)) in
-    let t = thread_of (cycle_steps (cut_open es) Avoid number) x k (candidate_lists codes (cut_open es) Avoid number x r.codes_of r.candidate) (slice_get_within (cycle_steps (cut_open es) Avoid number) k (thread_steps (cut_open es) number k) stands) in
-    let d = thread_did arch codes es number x k r (record { steps = thread_steps (cut_open es) number k; reads = t.reads; steps_at = stands; reads_at = t.reads_at }) in
+    let t = thread_of (cycle_steps (cut_open es) Avoid number) x k (candidate_lists codes (cut_open es) Avoid number x r.codes_of r.candidate)
+    (slice_get_within (cycle_steps (cut_open es) Avoid number) k (thread_steps (cut_open es) number k) stands) in
+    let d = thread_did arch codes es number x k r (record {
+      steps = thread_steps (cut_open es) number k;
+      reads = t.reads;
+      steps_at = stands;
+      reads_at =
+          t.reads_at;
+    }) in
     record { reads = values_read t.reads; visits_are = d.visits_are; items_are = d.items_are }
 
 -- the test has the cycle's threads alone
-codes-count : (arch : ArchName) (codes : List ThreadCode) (es : List Edge) (number : ℕ → ℕ) (x : Execution) → IsRun arch codes es number x → length codes ≡ external_count es
+codes-count : (arch : ArchName) (codes : List ThreadCode) (es : List Edge) (number : ℕ → ℕ) (x : Execution) → IsRun arch codes es number x
+    → length codes ≡ external_count es
 codes-count arch codes es number x r =
     omega (arith, r.codes_of.count, steps-count (cut_open es) Avoid number, ap length (none_observed (cut_open es)), opened-threads es)
 
@@ -96,7 +106,8 @@ opened_event es visits i e v = record {
 }
 
 -- an event is at its slot among the visits of its thread
-event_visit : (es : List Edge) (visits : List (List Visit)) (i : ℕ) (e : NamedAccess) (k j : ℕ) (thread : List Visit) → IsEvent (cut_open es) visits i e → event_thread (cut_open es) i ≡ k → slot_of (cut_open es) i ≡ j → slice_get visits k ≡ Some thread → slice_get thread j ≡ Some e.visit
+event_visit : (es : List Edge) (visits : List (List Visit)) (i : ℕ) (e : NamedAccess) (k j : ℕ) (thread : List Visit) → IsEvent (cut_open es) visits i e
+    → event_thread (cut_open es) i ≡ k → slot_of (cut_open es) i ≡ j → slice_get visits k ≡ Some thread → slice_get thread j ≡ Some e.visit
 event_visit es visits i e k j thread v t s g =
     ap (λ o. got_from o j) (sym g)
     ∙ ap (λ (n : WriteAt). at_name visits n) (λ z. record { thread = sym t z; access = sym s z })
@@ -104,20 +115,25 @@ event_visit es visits i e k j thread v t s g =
     ∙ v.visit_is
 
 -- the step of an event
-step_there : (es : List Edge) (number : ℕ → ℕ) (i : ℕ) → i < length es → slice_get (thread_steps (cut_open es) number (event_thread (cut_open es) i)) (slot_of (cut_open es) i) ≡ Some (event_step (cut_open es) number i)
+step_there : (es : List Edge) (number : ℕ → ℕ) (i : ℕ) → i < length es
+    → slice_get (thread_steps (cut_open es) number (event_thread (cut_open es) i)) (slot_of (cut_open es) i) ≡ Some (event_step (cut_open es) number i)
 step_there es number i h =
-    got_map (event_step (cut_open es) number) (events_in (cut_open es) (event_thread (cut_open es) i)) (slot_of (cut_open es) i) i (event_in_slot (cut_open es) i (omega (arith, h, opened-length es)))
+    got_map (event_step (cut_open es) number) (events_in (cut_open es) (event_thread (cut_open es) i)) (slot_of (cut_open es) i) i
+    (event_in_slot (cut_open es) i (omega (arith, h, opened-length es)))
 
 opened_under : (es : List Edge) (i : ℕ) → IsLoop es → i < length es → event_thread (cut_open es) i < external_count es
 opened_under es i r h = omega (arith, thread_under es i r h, opened_thread es i)
 
 -- an event has the mark of what its edge leaves
-event_mark : (arch : ArchName) (codes : List ThreadCode) (es : List Edge) (number : ℕ → ℕ) (x : Execution) (i : ℕ) (e : NamedAccess) → IsRun arch codes es number x → i < length es → IsEvent es (visits_in (loop_program codes es) x) i e → e.visit.mark ≡ source_mark (edge_at es i)
+event_mark : (arch : ArchName) (codes : List ThreadCode) (es : List Edge) (number : ℕ → ℕ) (x : Execution) (i : ℕ) (e : NamedAccess)
+    → IsRun arch codes es number x → i < length es → IsEvent es (visits_in (loop_program codes es) x) i e → e.visit.mark ≡ source_mark (edge_at es i)
 event_mark arch codes es number x i e r h u =
     let k = event_thread (cut_open es) i in
     let d = made arch codes es number x k r (opened_under es i r.loop_of.loop h) in
-    let visit = event_visit es (visits_in (loop_program codes es) x) i e k (slot_of (cut_open es) i) (thread_visits (thread_steps (cut_open es) number k) 0 0 d.reads) (opened_event es (visits_in (loop_program codes es) x) i e u) refl refl d.visits_are in
-    let there = visit_at (thread_steps (cut_open es) number k) 0 0 d.reads (slot_of (cut_open es) i) (event_step (cut_open es) number i) e.visit (step_there es number i h) visit in
+    let visit = event_visit es (visits_in (loop_program codes es) x) i e k (slot_of (cut_open es) i) (thread_visits
+    (thread_steps (cut_open es) number k) 0 0 d.reads) (opened_event es (visits_in (loop_program codes es) x) i e u) refl refl d.visits_are in
+    let there = visit_at (thread_steps (cut_open es) number k) 0 0 d.reads (slot_of (cut_open es) i) (event_step (cut_open es) number i) e.visit
+    (step_there es number i h) visit in
     ap (λ (y : Visit). y.mark) there.is ∙ same_at source_mark source_mark_same es i
 
 -- the event that an internal edge enters, by its slot
@@ -126,13 +142,15 @@ record IsNext (es : List Edge) (number : ℕ → ℕ) (i : ℕ) : Type 0 where
   edge : before.event ≡ i
   thread : event_thread (cut_open es) (event_after es i) ≡ event_thread (cut_open es) i
   slot : slot_of (cut_open es) (event_after es i) ≡ suc (slot_of (cut_open es) i)
-  step : slice_get (thread_steps (cut_open es) number (event_thread (cut_open es) i)) (suc (slot_of (cut_open es) i)) ≡ Some (event_step (cut_open es) number (event_after es i))
+  step : slice_get (thread_steps (cut_open es) number (event_thread (cut_open es) i)) (suc (slot_of (cut_open es) i)) ≡ Some
+      (event_step (cut_open es) number (event_after es i))
 
 is_next : (es : List Edge) (number : ℕ → ℕ) (i : ℕ) → IsLoop es → i < length es → is_external (edge_at es i) ≡ false → IsNext es number i
 is_next es number i r h inside =
     let w = internal_follows es i r h inside in
     let same : event_thread (cut_open es) (event_after es i) ≡ event_thread (cut_open es) i = ap (event_thread (cut_open es)) w.next ∙ w.thread in
-    let slot : slot_of (cut_open es) (event_after es i) ≡ suc (slot_of (cut_open es) i) = ap (slot_of (cut_open es)) w.next ∙ w.slot ∙ add-one (slot_of (cut_open es) i) in
+    let slot : slot_of (cut_open es) (event_after es i) ≡ suc (slot_of (cut_open es) i) = ap (slot_of (cut_open es)) w.next ∙ w.slot
+    ∙ add-one (slot_of (cut_open es) i) in
     let after = after_below es i h in
     let b = before_event es (event_after es i) r after (omega (arith, slot)) in
     record {
@@ -140,21 +158,28 @@ is_next es number i r h inside =
       edge = only_in_slot (cut_open es) b.event i b.below (omega (arith, h, opened-length es)) (b.thread ∙ same) (omega (arith, b.slot, slot));
       thread = same;
       slot = slot;
-      step = ap (λ (q : ℕ × ℕ). slice_get (thread_steps (cut_open es) number q.0) q.1) (λ z. (sym same z, sym slot z)) ∙ step_there es number (event_after es i) after;
+      step = ap (λ (q : ℕ × ℕ). slice_get (thread_steps (cut_open es) number q.0) q.1) (λ z. (sym same z, sym slot z))
+          ∙ step_there es number (event_after es i) after;
     }
 
 -- an internal edge ties its events
-inner_ties : (arch : ArchName) (codes : List ThreadCode) (es : List Edge) (number : ℕ → ℕ) (x : Execution) (i : ℕ) (e f : NamedAccess) → IsRun arch codes es number x → i < length es → is_external (edge_at es i) ≡ false
-    → IsEvent es (visits_in (loop_program codes es) x) i e → IsEvent es (visits_in (loop_program codes es) x) (event_after es i) f → TiesBy (kind_of (edge_at es i)) (accesses_in (loop_program codes es) x) e f
+inner_ties : (arch : ArchName) (codes : List ThreadCode) (es : List Edge) (number : ℕ → ℕ) (x : Execution) (i : ℕ) (e f : NamedAccess)
+    → IsRun arch codes es number x → i < length es → is_external (edge_at es i) ≡ false
+    → IsEvent es (visits_in (loop_program codes es) x) i e → IsEvent es (visits_in (loop_program codes es) x) (event_after es i) f
+    → TiesBy (kind_of (edge_at es i)) (accesses_in (loop_program codes es) x) e f
 inner_ties arch codes es number x i e f r h inside u v =
-    ties (kind_of (edge_at es i)) (accesses_in (loop_program codes es) x) e f (0 + loads_in (take (suc (slot_of (cut_open es) i)) steps) - 1) (control_after (take (suc (slot_of (cut_open es) i)) steps) 0 0)
-    (next_follows arch (kind_of (edge_at es i)) (accesses_in (loop_program codes es) x) e f steps d.reads (slot_of (cut_open es) i) (event_step (cut_open es) number i) (event_step (cut_open es) number (event_after es i))
+    ties (kind_of (edge_at es i)) (accesses_in (loop_program codes es) x) e f (0 + loads_in (take (suc (slot_of (cut_open es) i)) steps) - 1)
+    (control_after (take (suc (slot_of (cut_open es) i)) steps) 0 0)
+    (next_follows arch (kind_of (edge_at es i)) (accesses_in (loop_program codes es) x) e f steps d.reads (slot_of (cut_open es) i)
+    (event_step (cut_open es) number i) (event_step (cut_open es) number (event_after es i))
     (thread_fits es arch number k r.loop_of)
     (step_there es number i h) n.step (same_at source_of source_same es i) link
     (event_fits es arch number (event_after es i) r.loop_of (after_below es i h) n.before).to_store u.direction
     (ap (reads_before (accesses_in (loop_program codes es) x)) (opened_event es (visits_in (loop_program codes es) x) i e u).name_is
-    ∙ ap (λ o. reads_among o (slot_of (cut_open es) i)) (got_map accesses_of (visits_in (loop_program codes es) x) k (thread_visits steps 0 0 d.reads) d.visits_are))
-    (event_visit es (visits_in (loop_program codes es) x) (event_after es i) f k (suc (slot_of (cut_open es) i)) (thread_visits steps 0 0 d.reads) (opened_event es (visits_in (loop_program codes es) x) (event_after es i) f v) n.thread n.slot d.visits_are))
+    ∙ ap (λ o. reads_among o (slot_of (cut_open es) i)) (got_map accesses_of (visits_in (loop_program codes es) x) k
+    (thread_visits steps 0 0 d.reads) d.visits_are))
+    (event_visit es (visits_in (loop_program codes es) x) (event_after es i) f k (suc (slot_of (cut_open es) i)) (thread_visits steps 0 0 d.reads)
+    (opened_event es (visits_in (loop_program codes es) x) (event_after es i) f v) n.thread n.slot d.visits_are))
   where
     k : ℕ
     k = event_thread (cut_open es) i
@@ -172,24 +197,30 @@ inner_ties arch codes es number x i e f r h inside u v =
     link = link_between (cut_open es) (event_after es i) n.before ∙ same_at edge_link link_same es n.before.event ∙ ap (λ j. edge_link (edge_at es j)) n.edge
 
 -- a visit at a name gives the access at that name
-access_of_visit : (visits : List (List Visit)) (name : WriteAt) (visit : Visit) → at_name visits name ≡ Some visit → at_name (map accesses_of visits) name ≡ Some visit.access
+access_of_visit : (visits : List (List Visit)) (name : WriteAt) (visit : Visit) → at_name visits name ≡ Some visit
+    → at_name (map accesses_of visits) name ≡ Some visit.access
 access_of_visit visits name visit h =
     let g = got_from_list (slice_get visits name.thread) name.access visit h in
     ap (λ o. got_from o name.access) (got_map accesses_of visits name.thread g.list g.list_is) ∙ got_map (λ v. v.access) g.list name.access visit g.got
 
 -- an event is the test's access
-event_is : (codes : List ThreadCode) (es : List Edge) (number : ℕ → ℕ) (x : Execution) (i : ℕ) (e : NamedAccess) → IsLoop es → accesses_in (loop_program codes es) x ≡ loop_accesses es number → i < length es → IsEvent es (visits_in (loop_program codes es) x) i e → access_at e ≡ event_at (cut_open es) number i
+event_is : (codes : List ThreadCode) (es : List Edge) (number : ℕ → ℕ) (x : Execution) (i : ℕ) (e : NamedAccess) → IsLoop es
+    → accesses_in (loop_program codes es) x ≡ loop_accesses es number → i < length es → IsEvent es (visits_in (loop_program codes es) x) i e
+    → access_at e ≡ event_at (cut_open es) number i
 event_is codes es number x i e r m h v =
     let w = opened_event es (visits_in (loop_program codes es) x) i e v in
-    let a : at_name (accesses_in (loop_program codes es) x) e.name ≡ Some e.visit.access = access_of_visit (visits_in (loop_program codes es) x) e.name e.visit v.visit_is in
+    let a : at_name (accesses_in (loop_program codes es) x) e.name ≡ Some e.visit.access = access_of_visit
+    (visits_in (loop_program codes es) x) e.name e.visit v.visit_is in
     let b : Some (event_access (cut_open es) number i) ≡ Some e.visit.access =
-    sym (event_there es number i r h) ∙ ap (at_name (loop_accesses es number)) (sym w.name_is) ∙ ap (λ (t : List (List Access)). at_name t e.name) (sym m) ∙ a in
+    sym (event_there es number i r h) ∙ ap (at_name (loop_accesses es number)) (sym w.name_is) ∙ ap (λ (t : List (List Access)). at_name t e.name) (sym m)
+    ∙ a in
     let c : event_access (cut_open es) number i ≡ e.visit.access = cc in
     λ t. record { name = w.name_is t; access = sym c t }
 
 -- the visits of a thread are those of its steps
-visits_same : (arch : ArchName) (codes : List ThreadCode) (es : List Edge) (number : ℕ → ℕ) (x : Execution) (k : ℕ) (visits : List Visit) (d : Made codes es number x k) → slice_get (visits_in (loop_program codes es) x) k ≡ Some visits → thread_visits (thread_steps (cut_open es) number k) 0 0 d.reads ≡ visits
-visits_same arch codes es number x k visits d g =
+visits_same : (codes : List ThreadCode) (es : List Edge) (number : ℕ → ℕ) (x : Execution) (k : ℕ) (visits : List Visit) (d : Made codes es number x k)
+    → slice_get (visits_in (loop_program codes es) x) k ≡ Some visits → thread_visits (thread_steps (cut_open es) number k) 0 0 d.reads ≡ visits
+visits_same codes es number x k visits d g =
     let s : Some (thread_visits (thread_steps (cut_open es) number k) 0 0 d.reads) ≡ Some visits = sym d.visits_are ∙ g in
     cc
 
@@ -201,7 +232,8 @@ first_plain es number k s h =
     sym (ap (λ (y : Step). y.link) i.image) ∙ link_first (cut_open es) i.element w.slot
 
 -- the access of an event in an execution
-event_made : (arch : ArchName) (codes : List ThreadCode) (es : List Edge) (number : ℕ → ℕ) (x : Execution) (i : ℕ) → IsRun arch codes es number x → i < length es → (e : NamedAccess) × IsEvent es (visits_in (loop_program codes es) x) i e
+event_made : (arch : ArchName) (codes : List ThreadCode) (es : List Edge) (number : ℕ → ℕ) (x : Execution) (i : ℕ) → IsRun arch codes es number x
+    → i < length es → (e : NamedAccess) × IsEvent es (visits_in (loop_program codes es) x) i e
 event_made arch codes es number x i r h =
     let k = event_thread (cut_open es) i in
     let steps = thread_steps (cut_open es) number k in
@@ -212,26 +244,32 @@ event_made arch codes es number x i r h =
       record { name = event_name es i; visit = g.element },
       record {
         name_is = refl;
-        visit_is = ap (at_name (visits_in (loop_program codes es) x)) (sym (opened_name es i)) ∙ ap (λ o. got_from o (slot_of (cut_open es) i)) d.visits_are ∙ g.got;
+        visit_is = ap (at_name (visits_in (loop_program codes es) x)) (sym (opened_name es i)) ∙ ap (λ o. got_from o (slot_of (cut_open es) i)) d.visits_are
+            ∙ g.got;
         direction = ap (λ (y : Visit). y.access.dir) there.is ∙ same_at source_of source_same es i;
       },
     )
 
 -- the program has the events of the cycle
-has_events : (arch : ArchName) (codes : List ThreadCode) (es : List Edge) (number : ℕ → ℕ) (x : Execution) → IsRun arch codes es number x → HasEvents es (loop_program codes es) x
+has_events : (arch : ArchName) (codes : List ThreadCode) (es : List Edge) (number : ℕ → ℕ) (x : Execution) → IsRun arch codes es number x
+    → HasEvents es (loop_program codes es) x
 has_events arch codes es number x r = record {
   threads = omega (arith, length-map codes thread_from, codes-count arch codes es number x r);
   counts = λ k visits h g.
       let d = made arch codes es number x k r h in
-      sym (ap length (visits_same arch codes es number x k visits d g))
+      sym (ap length (visits_same codes es number x k visits d g))
       ∙ visits-count (thread_steps (cut_open es) number k) 0 0 d.reads
       ∙ length-map (events_in (cut_open es) k) (event_step (cut_open es) number)
       ∙ ap length (opened_events es k);
   events = λ i h. event_made arch codes es number x i r h;
   observers = λ k visits h g. absurd (omega (arith, h, visits_below codes (move_count (cut_open es)) x k visits g, codes-count arch codes es number x r));
   starts = λ k visits g.
-      let d = made arch codes es number x k r (omega (arith, visits_below codes (move_count (cut_open es)) x k visits g, codes-count arch codes es number x r)) in
-      subst StartsFree (visits_same arch codes es number x k visits d g)
+      let d = made arch codes es number x k r (omega (
+        arith,
+        visits_below codes (move_count (cut_open es)) x k visits g,
+        codes-count arch codes es number x r,
+      )) in
+      subst StartsFree (visits_same codes es number x k visits d g)
       (starts_free (thread_steps (cut_open es) number k) d.reads (λ s q. first_plain es number k s q));
   ends = λ k items g.
       let d = made arch codes es number x k r (omega (arith, items_below codes (move_count (cut_open es)) x k items g, codes-count arch codes es number x r)) in
@@ -241,13 +279,20 @@ has_events arch codes es number x r = record {
 }
 
 -- all edges stand in the stated execution
-pub all_stand : (arch : ArchName) (codes : List ThreadCode) (es : List Edge) (number : ℕ → ℕ) (x : Execution) → IsRun arch codes es number x → IsNumbering (cut_open es) number → accesses_in (loop_program codes es) x ≡ loop_accesses es number → x ≡ loop_execution es number
+pub all_stand : (arch : ArchName) (codes : List ThreadCode) (es : List Edge) (number : ℕ → ℕ) (x : Execution) → IsRun arch codes es number x
+    → IsNumbering (cut_open es) number → accesses_in (loop_program codes es) x ≡ loop_accesses es number → x ≡ loop_execution es number
     → AllStand es (loop_program codes es) x
 all_stand arch codes es number x r n m is = record {
   events = has_events arch codes es number x r;
   stand = λ i e f h u v. record {
     joins = subst (λ (z : AccessAt × AccessAt × List (List Access) × Execution). Joins z.2 z.3 (edge_at es i) z.0 z.1)
-        (λ t. (sym (event_is codes es number x i e r.loop_of.loop m h u) t, sym (event_is codes es number x (event_after es i) f r.loop_of.loop m (after_below es i h) v) t, sym m t, sym is t))
+        (λ t. (
+          sym (event_is codes es number x i e r.loop_of.loop m h u) t,
+          sym (event_is codes es number x (event_after es i) f r.loop_of.loop m
+              (after_below es i h) v) t,
+          sym m t,
+          sym is t,
+        ))
         (loop_joins es number i r.loop_of.loop n h);
     leaves_mark = event_mark arch codes es number x i e r h u;
     enters_mark = event_mark arch codes es number x (event_after es i) f r (after_below es i h) v ∙ mark_after es i r.loop_of.loop.composes h;

@@ -56,7 +56,8 @@ three_writes : writes_in (edges.Po Same dirs.W dirs.W ∷ edges.Com coms.Ws Exte
 three_writes = refl
 
 -- PodWR Fre PodWR Fre has edges to another location, Rfe Fre has communications alone
-two_locations : is_no_coherence (edges.Po Diff dirs.W dirs.R ∷ edges.Com coms.Fr External ∷ edges.Po Diff dirs.W dirs.R ∷ edges.Com coms.Fr External ∷ []) ≡ true
+two_locations : is_no_coherence (edges.Po Diff dirs.W dirs.R ∷ edges.Com coms.Fr External ∷ edges.Po Diff dirs.W dirs.R ∷ edges.Com coms.Fr External ∷ [])
+    ≡ true
 two_locations = refl
 
 no_cut : is_no_coherence (edges.Com coms.Rf External ∷ edges.Com coms.Fr External ∷ []) ≡ true

@@ -13,11 +13,13 @@ use Rattle.co_tests_laws.specs.Incoherence.{HasCycle}
 use Rattle.co_tests_laws.proofs.OnePlace.{Numbered, by_value, by_values, gives_once, by_values_source}
 
 -- write number k is at place k of the order
-in_order : (threads : List (List Access)) (g : ℕ → Option WriteAt) (n k : ℕ) (w : WriteAt) → Numbered threads g n → k < n → g k ≡ Some w → slice_get (order_at (by_values threads g n) 0) k ≡ Some w
+in_order : (threads : List (List Access)) (g : ℕ → Option WriteAt) (n k : ℕ) (w : WriteAt) → Numbered threads g n → k < n → g k ≡ Some w
+    → slice_get (order_at (by_values threads g n) 0) k ≡ Some w
 in_order threads g n k w r h e = slice_get-filter_map-upto g n k (gives_once threads g n r).some h ∙ e
 
 -- of two writes the one of the lower number comes before the other
-ordered : (threads : List (List Access)) (g : ℕ → Option WriteAt) (n j k : ℕ) (v w : WriteAt) → Numbered threads g n → j < k → k < n → g j ≡ Some v → g k ≡ Some w → CoherenceOrder (by_values threads g n) 0 v w
+ordered : (threads : List (List Access)) (g : ℕ → Option WriteAt) (n j k : ℕ) (v w : WriteAt) → Numbered threads g n → j < k → k < n → g j ≡ Some v
+    → g k ≡ Some w → CoherenceOrder (by_values threads g n) 0 v w
 ordered threads g n j k v w r less h e f = record {
   earlier = j;
   later = k;
@@ -27,23 +29,27 @@ ordered threads g n j k v w r less h e f = record {
 }
 
 -- a write of a value comes after what a lower value names
-before : (threads : List (List Access)) (g : ℕ → Option WriteAt) (n v k : ℕ) (w : WriteAt) → Numbered threads g n → v ≤ k → k < n → g k ≡ Some w → IsWriteTo threads 0 w → IsBefore threads (by_values threads g n) 0 (by_value g v) w
+before : (threads : List (List Access)) (g : ℕ → Option WriteAt) (n v k : ℕ) (w : WriteAt) → Numbered threads g n → v ≤ k → k < n → g k ≡ Some w
+    → IsWriteTo threads 0 w → IsBefore threads (by_values threads g n) 0 (by_value g v) w
 before threads g n zero k w r less h e is = is
 before threads g n (suc j) k w r less h e is =
     let v = r.gives j (omega arith) in
     subst (λ o. IsBefore threads (by_values threads g n) 0 o w) (sym v.named) (ordered threads g n j k v.name w r less h v.named e)
 
 -- a read reads from before a write of a higher value
-from_before : (threads : List (List Access)) (g : ℕ → Option WriteAt) (n v k : ℕ) (f w : WriteAt) → Numbered threads g n → at_name threads f ≡ Some (read 0 v) → v ≤ k → k < n → g k ≡ Some w → IsWriteTo threads 0 w
+from_before : (threads : List (List Access)) (g : ℕ → Option WriteAt) (n v k : ℕ) (f w : WriteAt) → Numbered threads g n → at_name threads f ≡ Some (read 0 v)
+    → v ≤ k → k < n → g k ≡ Some w → IsWriteTo threads 0 w
     → FromRead threads (by_values threads g n) f w
 from_before threads g n v k f w r h less l e is = record {
   place = 0;
   reads = (v, h);
-  before = subst (λ o. IsBefore threads (by_values threads g n) 0 o w) (sym (by_values_source threads g n f (read 0 v) h refl)) (before threads g n v k w r less l e is);
+  before = subst (λ o. IsBefore threads (by_values threads g n) 0 o w) (sym (by_values_source threads g n f (read 0 v) h refl))
+      (before threads g n v k w r less l e is);
 }
 
 -- a read reads the write of its value
-from_write : (threads : List (List Access)) (g : ℕ → Option WriteAt) (n k : ℕ) (e w : WriteAt) → at_name threads e ≡ Some (read 0 (suc k)) → g k ≡ Some w → ReadsFrom threads (by_values threads g n) w e
+from_write : (threads : List (List Access)) (g : ℕ → Option WriteAt) (n k : ℕ) (e w : WriteAt) → at_name threads e ≡ Some (read 0 (suc k)) → g k ≡ Some w
+    → ReadsFrom threads (by_values threads g n) w e
 from_write threads g n k e w h named = record {
   place = 0;
   reads = (suc k, h);
@@ -55,11 +61,13 @@ record IsPair (threads : List (List Access)) (e f : WriteAt) : Type 0 where
   thread : e.thread ≡ f.thread
   earlier : e.access < f.access
 
-follows : (threads : List (List Access)) (e f : WriteAt) (a b : Access) → IsPair threads e f → at_name threads e ≡ Some a → at_name threads f ≡ Some b → a.place ≡ 0 → b.place ≡ 0 → ProgramOrder threads e f
+follows : (threads : List (List Access)) (e f : WriteAt) (a b : Access) → IsPair threads e f → at_name threads e ≡ Some a → at_name threads f ≡ Some b
+    → a.place ≡ 0 → b.place ≡ 0 → ProgramOrder threads e f
 follows threads e f a b pair h k p q = record { place = 0; first = (a, h, p); second = (b, k, q); thread = pair.thread; earlier = pair.earlier }
 
 -- CoWW: the write of a thread's later access comes before that of its earlier one
-after_write : (threads : List (List Access)) (g : ℕ → Option WriteAt) (n u v : ℕ) (e f : WriteAt) → Numbered threads g n → IsPair threads e f → at_name threads e ≡ Some (write 0 u) → at_name threads f ≡ Some (write 0 v) → v ≤ u
+after_write : (threads : List (List Access)) (g : ℕ → Option WriteAt) (n u v : ℕ) (e f : WriteAt) → Numbered threads g n → IsPair threads e f
+    → at_name threads e ≡ Some (write 0 u) → at_name threads f ≡ Some (write 0 v) → v ≤ u
     → HasCycle threads (by_values threads g n)
 after_write threads g n u v e f r pair h k less =
     let i = r.writes e 0 u h in
@@ -71,22 +79,32 @@ after_write threads g n u v e f r pair h k less =
     (λ apart. record {
       access = e;
       between = f ∷ [];
-      path = (Po (follows threads e f (write 0 u) (write 0 v) pair h k refl refl), Co 0 (ordered threads g n j.rank i.rank f e r (omega (arith, less, i.value_is, j.value_is, apart)) i.below j.named i.named));
+      path = (
+        Po (follows threads e f (write 0 u) (write 0 v) pair h k refl refl),
+        Co 0 (ordered threads g n j.rank i.rank f e r
+            (omega (arith, less, i.value_is, j.value_is, apart)) i.below j.named i.named),
+      );
     })
 
 -- CoWR: a read after a write of its thread reads from before it
-after_read : (threads : List (List Access)) (g : ℕ → Option WriteAt) (n u v : ℕ) (e f : WriteAt) → Numbered threads g n → IsPair threads e f → at_name threads e ≡ Some (write 0 u) → at_name threads f ≡ Some (read 0 v) → v < u
+after_read : (threads : List (List Access)) (g : ℕ → Option WriteAt) (n u v : ℕ) (e f : WriteAt) → Numbered threads g n → IsPair threads e f
+    → at_name threads e ≡ Some (write 0 u) → at_name threads f ≡ Some (read 0 v) → v < u
     → HasCycle threads (by_values threads g n)
 after_read threads g n u v e f r pair h k less =
     let i = r.writes e 0 u h in
     record {
       access = e;
       between = f ∷ [];
-      path = (Po (follows threads e f (write 0 u) (read 0 v) pair h k refl refl), Fr (from_before threads g n v i.rank f e r k (omega (arith, less, i.value_is)) i.below i.named (u, h)));
+      path = (
+        Po (follows threads e f (write 0 u) (read 0 v) pair h k refl refl),
+        Fr (from_before threads g n v i.rank f e r k
+            (omega (arith, less, i.value_is)) i.below i.named (u, h)),
+      );
     }
 
 -- CoRW1 and CoRW2: a read reads a write after it in its thread, or one that comes after such a write
-read_write : (threads : List (List Access)) (g : ℕ → Option WriteAt) (n k v : ℕ) (e f : WriteAt) → Numbered threads g n → IsPair threads e f → at_name threads e ≡ Some (read 0 (suc k)) → at_name threads f ≡ Some (write 0 v) → v ≤ suc k
+read_write : (threads : List (List Access)) (g : ℕ → Option WriteAt) (n k v : ℕ) (e f : WriteAt) → Numbered threads g n → IsPair threads e f
+    → at_name threads e ≡ Some (read 0 (suc k)) → at_name threads f ≡ Some (write 0 v) → v ≤ suc k
     → HasCycle threads (by_values threads g n)
 read_write threads g n k v e f r pair h q less =
     let within : suc k ≤ n = r.within e (read 0 (suc k)) h in
@@ -103,12 +121,16 @@ read_write threads g n k v e f r pair h q less =
       between = f ∷ w.name ∷ [];
       path = (
         Po (follows threads e f (read 0 (suc k)) (write 0 v) pair h q refl refl),
-        (Co 0 (ordered threads g n j.rank k f w.name r (omega (arith, less, j.value_is, apart)) (omega arith) j.named w.named), Rf (from_write threads g n k e w.name h w.named)),
+        (
+          Co 0 (ordered threads g n j.rank k f w.name r (omega (arith, less, j.value_is, apart)) (omega arith) j.named w.named),
+          Rf (from_write threads g n k e w.name h w.named),
+        ),
       );
     })
 
 -- CoRR: the second of two reads of a thread reads from before what the first reads
-read_read : (threads : List (List Access)) (g : ℕ → Option WriteAt) (n k v : ℕ) (e f : WriteAt) → Numbered threads g n → IsPair threads e f → at_name threads e ≡ Some (read 0 (suc k)) → at_name threads f ≡ Some (read 0 v) → v < suc k
+read_read : (threads : List (List Access)) (g : ℕ → Option WriteAt) (n k v : ℕ) (e f : WriteAt) → Numbered threads g n → IsPair threads e f
+    → at_name threads e ≡ Some (read 0 (suc k)) → at_name threads f ≡ Some (read 0 v) → v < suc k
     → HasCycle threads (by_values threads g n)
 read_read threads g n k v e f r pair h q less =
     let within : suc k ≤ n = r.within e (read 0 (suc k)) h in
@@ -118,7 +140,10 @@ read_read threads g n k v e f r pair h q less =
       between = f ∷ w.name ∷ [];
       path = (
         Po (follows threads e f (read 0 (suc k)) (read 0 v) pair h q refl refl),
-        (Fr (from_before threads g n v k f w.name r q (omega (arith, less)) (omega arith) w.named (suc k, w.there)), Rf (from_write threads g n k e w.name h w.named)),
+        (
+          Fr (from_before threads g n v k f w.name r q (omega (arith, less)) (omega arith) w.named (suc k, w.there)),
+          Rf (from_write threads g n k e w.name h w.named),
+        ),
       );
     }
 
@@ -128,7 +153,8 @@ Falls dirs.R before after = after < before
 Falls dirs.W before after = after ≤ before
 
 falling : (threads : List (List Access)) (g : ℕ → Option WriteAt) (n u v : ℕ) (c d : Dir) (e f : WriteAt) → Numbered threads g n → IsPair threads e f
-    → at_name threads e ≡ Some (record { dir = c; place = 0; value = u }) → at_name threads f ≡ Some (record { dir = d; place = 0; value = v }) → 0 < u → Falls d u v → HasCycle threads (by_values threads g n)
+    → at_name threads e ≡ Some (record { dir = c; place = 0; value = u }) → at_name threads f ≡ Some (record { dir = d; place = 0; value = v }) → 0 < u
+    → Falls d u v → HasCycle threads (by_values threads g n)
 falling threads g n u v dirs.W dirs.W e f r pair h k some less = after_write threads g n u v e f r pair h k less
 falling threads g n u v dirs.W dirs.R e f r pair h k some less = after_read threads g n u v e f r pair h k less
 falling threads g n zero v dirs.R d e f r pair h k some less = absurd (omega (arith, some))
@@ -136,7 +162,8 @@ falling threads g n (suc u) v dirs.R dirs.W e f r pair h k some less = read_writ
 falling threads g n (suc u) v dirs.R dirs.R e f r pair h k some less = read_read threads g n u v e f r pair h k less
 
 -- where the values of two accesses of a thread fall, from a value that isn't 0, there is a cycle
-pub has_cycle : (threads : List (List Access)) (g : ℕ → Option WriteAt) (n : ℕ) (e f : WriteAt) (a b : Access) → Numbered threads g n → e.thread ≡ f.thread → e.access < f.access
+pub has_cycle : (threads : List (List Access)) (g : ℕ → Option WriteAt) (n : ℕ) (e f : WriteAt) (a b : Access) → Numbered threads g n → e.thread ≡ f.thread
+    → e.access < f.access
     → at_name threads e ≡ Some a → at_name threads f ≡ Some b → 0 < a.value → Falls b.dir a.value b.value → HasCycle threads (by_values threads g n)
 has_cycle threads g n e f a b r thread earlier h k some less =
     falling threads g n a.value b.value a.dir b.dir e f r (record { thread = thread; earlier = earlier })

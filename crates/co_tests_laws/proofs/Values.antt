@@ -30,6 +30,7 @@ pub record Cut (es : List Edge) : Type 0 where
   pub ordering : is_ordering (edge_at es at) ≡ true
   pub opened : edge_at (cut_open es) at ≡ elsewhere (edge_at es at)
   pub others : (i : ℕ) → (i ≡ at → ⊥) → edge_at (cut_open es) i ≡ edge_at es i
+  pub first : (i : ℕ) → i < at → is_ordering (edge_at es i) ≡ false
 
 later_cut : (e : Edge) (es : List Edge) → is_ordering e ≡ false → Cut es → Cut (e ∷ es)
 later_cut e es f c = record {
@@ -38,10 +39,15 @@ later_cut e es f c = record {
   ordering = c.ordering;
   opened = ap (λ l. edge_at l (suc c.at)) open_is ∙ c.opened;
   others = λ i d. ap (λ l. edge_at l i) open_is ∙ other i d;
+  first = earlier;
 }
   where
     open_is : cut_open (e ∷ es) ≡ e ∷ cut_open es
     open_is = ap (λ b. if b then elsewhere e ∷ es else e ∷ cut_open es) f
+
+    earlier : (i : ℕ) → i < suc c.at → is_ordering (edge_at (e ∷ es) i) ≡ false
+    earlier zero l = f
+    earlier (suc i) l = c.first i (omega (arith, l))
 
     other : (i : ℕ) → (i ≡ suc c.at → ⊥) → edge_at (e ∷ cut_open es) i ≡ edge_at (e ∷ es) i
     other zero d = refl
@@ -54,6 +60,7 @@ first_cut e es t = record {
   ordering = t;
   opened = ap (λ l. edge_at l 0) open_is;
   others = λ i d. ap (λ l. edge_at l i) open_is ∙ other i d;
+  first = λ i l. absurd (omega (arith, l));
 }
   where
     open_is : cut_open (e ∷ es) ≡ elsewhere e ∷ es
@@ -79,7 +86,8 @@ none_diff (e ∷ es) i h l =
     (λ t. let f : true ≡ false = sym (ap (λ b. b || list_any is_diff es) t) ∙ h in cc)
     (λ f. by_place i l f (λ j k. none_diff es j (sym (ap (λ b. b || list_any is_diff es) f) ∙ h) k))
   where
-    by_place : (i : ℕ) → i < length (e ∷ es) → is_diff e ≡ false → ((j : ℕ) → j < length es → is_diff (edge_at es j) ≡ false) → is_diff (edge_at (e ∷ es) i) ≡ false
+    by_place : (i : ℕ) → i < length (e ∷ es) → is_diff e ≡ false → ((j : ℕ) → j < length es → is_diff (edge_at es j) ≡ false)
+        → is_diff (edge_at (e ∷ es) i) ≡ false
     by_place zero l f rest = f
     by_place (suc i) l f rest = rest i (omega (arith, l))
 
@@ -89,16 +97,18 @@ pub record IsCut (es : List Edge) : Type 0 where
   pub same : (i : ℕ) → i < length es → is_diff (edge_at es i) ≡ false
   pub within : cut.at + 1 < length es
 
--- once it is cut open, one edge leads to another location
-moves_early : (es : List Edge) (c : IsCut es) (i : ℕ) → i ≤ c.cut.at → moves_before (cut_open es) i ≡ 0
+-- once it is cut open, no edge before the cut leads to another location
+pub moves_early : (es : List Edge) (c : IsCut es) (i : ℕ) → i ≤ c.cut.at → moves_before (cut_open es) i ≡ 0
 moves_early es c i h =
     sym (same_moves (cut_open es) 0 i (omega arith) (omega (arith, opened-length es, c.within))
     (λ m a b. ap is_diff (c.cut.others m (λ e. omega (arith, e, h, b))) ∙ c.same m (omega (arith, h, b, c.within))))
     ∙ moves-zero (cut_open es)
 
-moves_late : (es : List Edge) (c : IsCut es) (i : ℕ) → c.cut.at < i → i ≤ length es → moves_before (cut_open es) i ≡ 1
+-- behind the cut, one has
+pub moves_late : (es : List Edge) (c : IsCut es) (i : ℕ) → c.cut.at < i → i ≤ length es → moves_before (cut_open es) i ≡ 1
 moves_late es c i h l =
-    let on = moves_on (cut_open es) c.cut.at (omega (arith, opened-length es, c.within)) (ap is_diff c.cut.opened ∙ elsewhere_moves (edge_at es c.cut.at) c.cut.ordering) in
+    let on = moves_on (cut_open es) c.cut.at (omega (arith, opened-length es, c.within)) (ap is_diff c.cut.opened
+    ∙ elsewhere_moves (edge_at es c.cut.at) c.cut.ordering) in
     let rest = same_moves (cut_open es) (c.cut.at + 1) i (omega (arith, h)) (omega (arith, opened-length es, l))
     (λ m a b. ap is_diff (c.cut.others m (λ e. omega (arith, e, a))) ∙ c.same m (omega (arith, b, l))) in
     omega (arith, on, rest, moves_early es c c.cut.at (omega arith))
@@ -155,7 +165,8 @@ unfolding written
 written-all es = ap (count_by leaves_write) (take_all (length es) es (omega arith))
 
 -- the writes among the first edges up to a bound: one more place
-written_bounded : (es : List Edge) (m k : ℕ) → m < length es → written es (min (suc m) (k + 1)) ≡ written es (min m (k + 1)) + cond (leaves_write (edge_at es m) && nat_le m k) 1 0
+written_bounded : (es : List Edge) (m k : ℕ) → m < length es
+    → written es (min (suc m) (k + 1)) ≡ written es (min m (k + 1)) + cond (leaves_write (edge_at es m) && nat_le m k) 1 0
 written_bounded es m k h =
     by_less k m
     (λ l. let a : min (suc m) (k + 1) ≡ k + 1 = omega arith in
@@ -259,23 +270,40 @@ write_at_same es l j c e =
 value_counts : (es : List Edge) (i : ℕ) → IsCut es → value_of (cut_open es) i ≡ count_by (on_arc es (way_place (cut_open es)) i) (upto (length es))
 unfolding value_of
 value_counts es i c =
-    count_upto_same (λ j. is_write_at (cut_open es) (location_of (cut_open es) i) j && nat_le (way_place (cut_open es) j) (way_place (cut_open es) i)) (on_arc es (way_place (cut_open es)) i) (length (cut_open es))
-    (λ j h. ap (λ b. b && nat_le (way_place (cut_open es) j) (way_place (cut_open es) i)) (write_at_same es (location_of (cut_open es) i) j c (one_location es i c)))
+    count_upto_same (λ j. is_write_at (cut_open es) (location_of (cut_open es) i) j && nat_le (way_place (cut_open es) j) (way_place (cut_open es) i))
+    (on_arc es (way_place (cut_open es)) i) (length (cut_open es))
+    (λ j h. ap (λ b. b && nat_le (way_place (cut_open es) j) (way_place (cut_open es) i)) (write_at_same es (location_of (cut_open es) i) j c
+    (one_location es i c)))
     ∙ ap (λ n. count_by (on_arc es (way_place (cut_open es)) i) (upto n)) (opened-length es)
 
 -- behind the cut: the writes since the cut
-pub value_late : (es : List Edge) (i : ℕ) (c : IsCut es) → c.cut.at < i → i < length es → value_of (cut_open es) i + written es (c.cut.at + 1) ≡ written es (i + 1)
+pub value_late : (es : List Edge) (i : ℕ) (c : IsCut es) → c.cut.at < i → i < length es
+    → value_of (cut_open es) i + written es (c.cut.at + 1) ≡ written es (i + 1)
 value_late es i c h l =
     let a : min (length es) (c.cut.at + 1) ≡ c.cut.at + 1 = omega (arith, c.within) in
     let b : min (length es) (i + 1) ≡ i + 1 = omega arith in
-    omega (arith, value_counts es i c, counted_late es c.cut.at (way_place (cut_open es)) i (length es) (places es c) h l (omega arith), ap (written es) a, ap (written es) b)
+    omega (
+      arith,
+      value_counts es i c,
+      counted_late es c.cut.at (way_place (cut_open es)) i (length es) (places es c) h l (omega arith),
+      ap (written es) a,
+      ap (written es) b,
+    )
 
 -- before it, and at it: those behind the cut, and then those from event 0 on
-pub value_early : (es : List Edge) (i : ℕ) (c : IsCut es) → i ≤ c.cut.at → value_of (cut_open es) i + written es (c.cut.at + 1) ≡ writes_in es + written es (i + 1)
+pub value_early : (es : List Edge) (i : ℕ) (c : IsCut es) → i ≤ c.cut.at
+    → value_of (cut_open es) i + written es (c.cut.at + 1) ≡ writes_in es + written es (i + 1)
 value_early es i c h =
     let a : min (length es) (c.cut.at + 1) ≡ c.cut.at + 1 = omega (arith, c.within) in
     let b : min (length es) (i + 1) ≡ i + 1 = omega (arith, h, c.within) in
-    omega (arith, value_counts es i c, counted_early es c.cut.at (way_place (cut_open es)) i (length es) (places es c) h (omega arith), ap (written es) a, ap (written es) b, written-all es)
+    omega (
+      arith,
+      value_counts es i c,
+      counted_early es c.cut.at (way_place (cut_open es)) i (length es) (places es c) h (omega arith),
+      ap (written es) a,
+      ap (written es) b,
+      written-all es,
+    )
 
 -- the location has all writes
 pub write_count_is : (es : List Edge) → IsCut es → write_count (cut_open es) 0 ≡ writes_in es
@@ -288,7 +316,12 @@ write_count_is es c =
   where
     counted_all : (m : ℕ) → m ≤ length es → count_by (λ j. leaves_write (edge_at es j)) (upto m) ≡ written es m
     counted_all zero h = count_upto_none (λ j. leaves_write (edge_at es j)) 0 (λ j g. absurd (omega (arith, g)))
-    counted_all (suc m) h = omega (arith, counted_all m (omega (arith, h)), count_upto-suc (λ j. leaves_write (edge_at es j)) m, written_more es m (omega (arith, h)))
+    counted_all (suc m) h = omega (
+      arith,
+      counted_all m (omega (arith, h)),
+      count_upto-suc (λ j. leaves_write (edge_at es j)) m,
+      written_more es m (omega (arith, h)),
+    )
 
 -- one for a write, none for a read
 abbrev pub writes_one : Dir → ℕ
@@ -304,7 +337,8 @@ pub next_written : (es : List Edge) (i : ℕ) → i < length es → written es (
 next_written es i h = rw (← add-one i) at (written_more es i h) ∙ ap (λ n. written es i + n) (one_for (source_of (edge_at es i)))
 
 -- along each edge but the cut the value grows by one into a write, and stays into a read
-pub value_along : (es : List Edge) (i : ℕ) (c : IsCut es) → i < length es → (i ≡ c.cut.at → ⊥) → value_of (cut_open es) (event_after es i) ≡ value_of (cut_open es) i + writes_one (source_of (edge_at es (event_after es i)))
+pub value_along : (es : List Edge) (i : ℕ) (c : IsCut es) → i < length es → (i ≡ c.cut.at → ⊥)
+    → value_of (cut_open es) (event_after es i) ≡ value_of (cut_open es) i + writes_one (source_of (edge_at es (event_after es i)))
 value_along es i c h d =
     by_after es i h
     (λ l e. rw e
@@ -337,7 +371,14 @@ value_positive es i c h w =
     let one : writes_one (source_of (edge_at es i)) ≡ 1 = ap writes_one w in
     by_less c.cut.at i
     (λ g. omega (arith, value_late es i c g h, next_written es i h, one, written_up es (c.cut.at + 1) i (omega (arith, g)) (omega (arith, h))))
-    (λ g. omega (arith, value_early es i c g, next_written es i h, one, written_up es (c.cut.at + 1) (length es) (omega (arith, c.within)) (omega arith), written-all es))
+    (λ g. omega (
+      arith,
+      value_early es i c g,
+      next_written es i h,
+      one,
+      written_up es (c.cut.at + 1) (length es) (omega (arith, c.within)) (omega arith),
+      written-all es,
+    ))
 
 -- a write with a value
 pub record Writes (es : List Edge) (k : ℕ) : Type 0 where
@@ -363,7 +404,8 @@ value_written es k c h =
     by_less c.cut.at w.event
     (λ g. record { event = w.event; below = w.below; writes = d; value = omega (arith, value_late es w.event c g w.below, more, one, before) })
     (λ g. absurd (omega (arith, more, one, before, written_up es (w.event + 1) (c.cut.at + 1) (omega (arith, g)) (omega (arith, c.within))))))
-    (λ l. let w = passing leaves_write es (k + written es (c.cut.at + 1) - writes_in es) (omega (arith, l, h, written_up es (c.cut.at + 1) (length es) (omega (arith, c.within)) (omega arith), written-all es)) in
+    (λ l. let w = passing leaves_write es (k + written es (c.cut.at + 1) - writes_in es)
+    (omega (arith, l, h, written_up es (c.cut.at + 1) (length es) (omega (arith, c.within)) (omega arith), written-all es)) in
     let d : source_of (edge_at es w.event) ≡ dirs.W = is_writing (source_of (edge_at es w.event)) w.passes in
     let one : writes_one (source_of (edge_at es w.event)) ≡ 1 = ap writes_one d in
     let before : written es w.event ≡ k + written es (c.cut.at + 1) - writes_in es = w.counted in

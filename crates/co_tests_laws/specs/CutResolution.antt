@@ -3,7 +3,7 @@
 -- there is one location, and its arc begins behind the cut and goes once round. `es` is the list of edges in which the
 -- threads are counted.
 -- Source: own; that a thread's accesses to one location keep their order is the coherence of the literature.
-use Rattle.std.specs.Prelude.{ℕ, Bool, true, false, if◌then◌else◌, List, [], ◌∷◌, Option, Some, None}
+use Rattle.std.specs.Prelude.{ℕ, Bool, true, false, if◌then◌else◌, List, [], ◌∷◌, Option}
 use Rattle.std.specs.List.{position_from}
 use Rattle.relax_edges.specs.declared.kinds.Sd.TheVariants.{Diff}
 use Rattle.relax_edges.specs.declared.kinds.Kind.{Kind}

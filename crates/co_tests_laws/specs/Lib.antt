@@ -1,4 +1,5 @@
 pub mod CutResolution
 pub mod CoherenceTests
+pub mod Arc
 pub mod CoRefusals
 pub mod Incoherence

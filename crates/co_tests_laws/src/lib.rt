@@ -4,10 +4,17 @@
 
 mod refusal;
 
+ghost use Rattle.co_tests_laws.specs.Arc.{ValuesCountAlongArc};
 ghost use Rattle.co_tests_laws.specs.Incoherence.{AcceptedHaveTests, PrintedShowIncoherence};
 
 use arch_trait::Arch;
 pub use refusal::CoRefusal;
+
+/// The value of an event in the test of a cycle over one location is the number of writes on the
+/// arc up to it and with it. The arc begins with the event that the cut enters and goes once round.
+pub fn values_count_along_arc()
+    ensures { ValuesCountAlongArc }
+{}
 
 /// A cycle that isn't refused has a coherence test, once it is turned so that its last edge leads to
 /// another thread.

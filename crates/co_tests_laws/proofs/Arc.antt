@@ -1,0 +1,109 @@
+-- The arc of a cut cycle begins behind the cut, and the values count the writes along it.
+use Rattle.std.proofs.Common.{◌≡◌, ℕ, zero, suc, ◌+◌, ◌<◌, ◌≤◌, Bool, true, false, not, List, [], ◌∷◌, ◌++◌, length, drop, take, Some, slice_get, refl, sym, ◌∙◌, ap, arith, add-one, eq-eqb}
+use Rattle.std.specs.Prelude.{◌==◌}
+use Rattle.std.specs.List.{count_by, filter}
+use Rattle.std.proofs.lemmas.Bool.{ne_eqb}
+use Rattle.std.proofs.lemmas.List.{take-append-le, drop-append-le, take_all, drop_all}
+use Rattle.std.proofs.lemmas.Option.{slice_get-get_or}
+use Rattle.list_laws.specs.Numbers.{upto}
+use Rattle.list_laws.proofs.Cases.{by_less}
+use Rattle.list_laws.proofs.Numbers.{length-upto}
+use Rattle.list_laws.proofs.Ranks.{filter_upto_yes, filter_upto_no}
+use Rattle.relax_edges.specs.declared.kinds.Dir.TheVariants as dirs
+use Rattle.relax_edges.specs.declared.kinds.Reach.TheVariants.{Internal}
+use Rattle.relax_edges.specs.declared.kinds.Com.TheVariants.{Rf}
+use Rattle.relax_edges.specs.declared.edge.Edge.{Edge}
+use Rattle.relax_edges.specs.declared.edge.Edge.TheVariants as edges
+use Rattle.relax_edges.specs.EdgeTable.{source_of, same_dir}
+use Rattle.cycle_laws.specs.Rotation.{rotated}
+use Rattle.resolution_laws.specs.Resolution.{edge_at, location_of, move_count, moves_before}
+use Rattle.value_laws.specs.Values.{is_after_moves, way, arc, arc_of, writes_counted}
+use Rattle.value_laws.proofs.Arcs.{value_on_arc}
+use Rattle.communication_laws.proofs.Lists.{filter_all}
+use Rattle.test_laws.proofs.Everywhere.{position_first}
+use Rattle.co_tests_laws.specs.CutResolution.{is_ordering, cut_of, cut_open}
+use Rattle.co_tests_laws.specs.Arc.{arc_behind, ValuesCountAlongArc}
+use Rattle.co_tests_laws.proofs.Opened.{source_same, same_at, opened-length}
+use Rattle.co_tests_laws.proofs.Values.{Cut, IsCut, one_move, one_location, moves_early, moves_late}
+use Rattle.co_tests_laws.proofs.Printed.{has_code}
+
+-- a test that the numbers above c pass, and no other
+record Above (c m : ℕ) (p : ℕ → Bool) : Type 0 where
+  late : (i : ℕ) → c < i → i < m → p i ≡ true
+  early : (i : ℕ) → i ≤ c → p i ≡ false
+
+fewer : (c m : ℕ) (p : ℕ → Bool) → Above c (suc m) p → Above c m p
+fewer c m p r = record { late = λ i h l. r.late i h (omega (arith, l)); early = r.early }
+
+-- the numbers above c
+those_above : (c m : ℕ) (p : ℕ → Bool) → Above c m p → filter p (upto m) ≡ drop (suc c) (upto m)
+those_above c zero p r = refl
+those_above c (suc m) p r =
+    by_less c m
+    (λ l. filter_upto_yes p m (r.late m l (omega arith))
+    ∙ ap (λ xs. xs ++ m ∷ []) (those_above c m p (fewer c m p r))
+    ∙ sym (drop-append-le (suc c) (upto m) (m ∷ []) (omega (arith, l, length-upto m))))
+    (λ g. filter_upto_no p m (r.early m g)
+    ∙ those_above c m p (fewer c m p r)
+    ∙ drop_all (suc c) (upto m) (omega (arith, g, length-upto m))
+    ∙ sym (drop_all (suc c) (upto (suc m)) (omega (arith, g, length-upto (suc m)))))
+
+-- the numbers up to c
+those_within : (c m : ℕ) (p : ℕ → Bool) → Above c m p → filter (λ i. not (p i)) (upto m) ≡ take (suc c) (upto m)
+those_within c zero p r = refl
+those_within c (suc m) p r =
+    by_less c m
+    (λ l. filter_upto_no (λ i. not (p i)) m (ap not (r.late m l (omega arith)))
+    ∙ those_within c m p (fewer c m p r)
+    ∙ sym (take-append-le (suc c) (upto m) (m ∷ []) (omega (arith, l, length-upto m))))
+    (λ g. filter_upto_yes (λ i. not (p i)) m (ap not (r.early m g))
+    ∙ ap (λ xs. xs ++ m ∷ []) (those_within c m p (fewer c m p r) ∙ take_all (suc c) (upto m) (omega (arith, g, length-upto m)))
+    ∙ sym (take_all (suc c) (upto (suc m)) (omega (arith, g, length-upto (suc m)))))
+
+-- behind the cut comes what is after the edge to another location
+above_cut : (es : List Edge) (c : IsCut es) → Above c.cut.at (length es) (is_after_moves (cut_open es))
+above_cut es c = record {
+  late = λ i h l. eq-eqb (moves_before (cut_open es) i) (move_count (cut_open es)) (moves_late es c i h (omega (arith, l)) ∙ sym (one_move es c));
+  early = λ i h. ne_eqb (moves_before (cut_open es) i) (move_count (cut_open es)) (λ e. omega (arith, e, moves_early es c i h, one_move es c));
+}
+
+-- the way round the cut cycle
+way_is : (es : List Edge) (c : IsCut es) → way (cut_open es) ≡ arc_behind es c.cut.at
+unfolding way
+way_is es c =
+    ap (λ n. filter (is_after_moves (cut_open es)) (upto n) ++ filter (λ i. not (is_after_moves (cut_open es) i)) (upto n)) (opened-length es)
+    ∙ (λ t. those_above c.cut.at (length es) (is_after_moves (cut_open es)) (above_cut es c) t
+    ++ those_within c.cut.at (length es) (is_after_moves (cut_open es)) (above_cut es c) t)
+    ∙ ap (λ k. rotated k (upto (length es))) (sym (add-one c.cut.at))
+
+-- the arc of each event is that way
+arc_is : (es : List Edge) (i : ℕ) (c : IsCut es) → arc_of (cut_open es) i ≡ arc_behind es c.cut.at
+unfolding arc
+arc_is es i c =
+    ap (λ l. filter (λ j. location_of (cut_open es) j == l) (way (cut_open es))) (one_location es i c)
+    ∙ filter_all (λ j. location_of (cut_open es) j == 0) (way (cut_open es)) (λ j. eq-eqb (location_of (cut_open es) j) 0 (one_location es j c))
+    ∙ way_is es c
+
+-- the cut is the first edge in a thread that is no communication
+cut_is : (es : List Edge) (c : Cut es) (k : ℕ) → cut_of es ≡ Some k → c.at ≡ k
+cut_is es c k h =
+    let found = position_first is_ordering 0 es c.at (edge_at es c.at) (slice_get-get_or es c.at (edges.Com Rf Internal) c.below) c.ordering
+    (λ j e less g. ap is_ordering (edge_there es j e g) ∙ c.first j less) in
+    let s : Some (0 + c.at) ≡ Some k = sym found ∙ h in
+    let t : 0 + c.at ≡ k = cc in
+    omega (arith, t)
+  where
+    edge_there : (es : List Edge) (j : ℕ) (e : Edge) → slice_get es j ≡ Some e → e ≡ edge_at es j
+    edge_there [] j e g = cc
+    edge_there (f ∷ es) zero e g = cc
+    edge_there (f ∷ es) (suc j) e g = edge_there es j e g
+
+-- the value of an event is the number of writes on the arc up to it and with it
+pub values_count_along_arc : ValuesCountAlongArc
+values_count_along_arc a es cut i k t h g =
+    let c = (has_code a es t).loop_of.loop.is_cut in
+    let at : arc_of (cut_open es) i ≡ arc_behind es cut = arc_is es i c ∙ ap (arc_behind es) (cut_is es c.cut cut h) in
+    value_on_arc (cut_open es) i k (ap (λ events. slice_get events k) at ∙ g)
+    ∙ ap (λ events. writes_counted (cut_open es) events k) at
+    ∙ (λ z. count_by (λ j. same_at (λ e. same_dir (source_of e) dirs.W) (λ e. ap (λ d. same_dir d dirs.W) (source_same e)) es j z)
+    (take (k + 1) (arc_behind es cut)))
