@@ -22,8 +22,8 @@ use Rattle.diy_io.specs.Taken.{SourceSeen}
 use Rattle.diy_io.specs.Wrote.{SinkSeen, WroteAll, WrotePart}
 use Rattle.diy_words.specs.declared.usage.Usage.{Usage}
 use Rattle.diy_words.specs.declared.usage.UsageKind.TheVariants.{UnknownName}
-use Rattle.diy_words.specs.Requests.{Task, TestTask, WhyTask, ListTask, Sought, asked_of}
-use Rattle.diy_words.specs.Requests.{AsksTest, AsksWhy, AsksName, AsksList, AsksFamilies, AsksSum, AsksCross, AsksDemo, AsksCheck, OfEdges, OfName, OfLines, CrossTask}
+use Rattle.diy_words.specs.Requests.{Task, TestTask, CoherenceTask, WhyTask, ListTask, Sought, asked_of}
+use Rattle.diy_words.specs.Requests.{AsksTest, AsksWhy, AsksCoherence, AsksName, AsksList, AsksFamilies, AsksSum, AsksCross, AsksDemo, AsksCheck, OfEdges, OfName, OfLines, CrossTask}
 use Rattle.diy_words.specs.declared.request.Demo.{Demo}
 use Rattle.diy_words.specs.declared.request.Check.{Check}
 use Rattle.listed_tests.specs.declared.ending.ListingEnd.{ListingEnd}
@@ -45,6 +45,7 @@ use Rattle.diy_tools.specs.PrintAnswers.{AnswersEdges, Prints}
 use Rattle.diy_tools.specs.TestAnswers.{asked_text, test_name, test_refused}
 use Rattle.diy_tools.specs.ArchMachines.{machine_of}
 use Rattle.diy_tools.specs.WhyAnswers.{AnswersRuns, WritesRuns, why_unshown}
+use Rattle.diy_tools.specs.CoherenceAnswers.{coherence_asked_text, coherence_refused}
 use Rattle.diy_tools.specs.NameAnswers.{AnswersName, AnswersSought}
 use Rattle.diy_tools.specs.FamilyAnswers.{AnswersClassify, EndsFamilies, files_status}
 use Rattle.diy_tools.specs.ListAnswers.{EndsAsked, plan_asked}
@@ -111,6 +112,16 @@ module _ (old new : Devices) where
       of_status words (Ok (AsksTest asked)) status (statuses.Refused refusal) h.0 (e, same_devices old new input h.1 shelf)
   test_caused words asked None status e input shelf h =
       by_print (λ s. CausesAsked words (Ok (AsksTest asked)) s old new) (asked_text asked) status old.out new.out h
+      (λ wrote. (e, record { input = input; shelf = shelf; out = wrote }))
+      (λ wrote. (wrote.fault, (e, record { input = input; shelf = shelf; out = wrote })))
+
+  coherence_caused : (words : List (List ℕ)) (asked : CoherenceTask) (refused : Option Refusal) (status : Status) → coherence_refused asked ≡ refused
+      → new.input ≡ old.input → new.shelf ≡ old.shelf
+      → AnswersEdges refused (coherence_asked_text asked) status old.out new.out → CausesAsked words (Ok (AsksCoherence asked)) status old new
+  coherence_caused words asked (Some refusal) status e input shelf h =
+      of_status words (Ok (AsksCoherence asked)) status (statuses.Refused refusal) h.0 (e, same_devices old new input h.1 shelf)
+  coherence_caused words asked None status e input shelf h =
+      by_print (λ s. CausesAsked words (Ok (AsksCoherence asked)) s old new) (coherence_asked_text asked) status old.out new.out h
       (λ wrote. (e, record { input = input; shelf = shelf; out = wrote }))
       (λ wrote. (wrote.fault, (e, record { input = input; shelf = shelf; out = wrote })))
 
@@ -324,6 +335,7 @@ module _ (old new : Devices) where
   asked_caused words (Err usage) status h = of_status words (Err usage) status (statuses.Usage usage.word usage.kind) h.0 ((refl, refl), h.1)
   asked_caused words (Ok (AsksTest asked)) status h = test_caused words asked (test_refused asked) status refl h.input h.shelf h.out
   asked_caused words (Ok (AsksWhy asked)) status h = why_caused words asked (why_unshown asked) status refl h.input h.both
+  asked_caused words (Ok (AsksCoherence asked)) status h = coherence_caused words asked (coherence_refused asked) status refl h.input h.shelf h.out
   asked_caused words (Ok (AsksName asked)) status h = sought_caused words asked.arch asked.cycle status h.shelf h.both
   asked_caused words (Ok (AsksList asked)) status h = list_caused words asked h.both.end status h.input h.both.status_is h.both.ends
   asked_caused words (Ok (AsksCross asked)) status h = cross_caused words asked status h.input h.both

@@ -37,7 +37,7 @@ use Rattle.diy_io.specs.Taken.{SourceSeen}
 use Rattle.diy_io.specs.Wrote.{SinkSeen}
 use Rattle.diy_words.specs.declared.usage.Usage.{Usage}
 use Rattle.diy_words.specs.Requests.{Task, ListTask, Sought, asked_of}
-use Rattle.diy_words.specs.Requests.{AsksTest, AsksWhy, WhyTask, AsksName, AsksList, AsksFamilies, AsksSum, AsksCross, AsksDemo, AsksCheck, OfEdges, OfName, OfLines, CrossTask}
+use Rattle.diy_words.specs.Requests.{AsksTest, AsksWhy, WhyTask, AsksCoherence, AsksName, AsksList, AsksFamilies, AsksSum, AsksCross, AsksDemo, AsksCheck, OfEdges, OfName, OfLines, CrossTask}
 use Rattle.diy_words.specs.declared.request.Demo.{Demo}
 use Rattle.diy_words.specs.declared.request.Check.{Check}
 use Rattle.listed_tests.specs.declared.ending.ListingEnd.{ListingEnd}
@@ -61,6 +61,7 @@ use Rattle.diy_tools.specs.TestAnswers.{asked_text, test_name, test_refused}
 use Rattle.diy_tools.specs.declared.status.Status.TheVariants as statuses
 use Rattle.diy_tools.specs.declared.status.Device.TheVariants.{Out, Shelf}
 use Rattle.diy_tools.specs.WhyAnswers.{AnswersRuns, WritesRuns, why_unshown}
+use Rattle.diy_tools.specs.CoherenceAnswers.{coherence_asked_text, coherence_refused}
 use Rattle.diy_tools.specs.FamilyAnswers.{AnswersClassify, files_status, read_on}
 use Rattle.diy_tools.specs.NameAnswers.{AnswersName, AnswersSought}
 use Rattle.diy_tools.specs.ListAnswers.{EndsAsked}
@@ -406,6 +407,8 @@ asked_done words (Err usage) status old new h can none = absurd can
 asked_done words (Ok (AsksWhy asked)) status old new h can none = why_done asked (why_unshown asked) status old new none can h.both
 asked_done words (Ok (AsksTest asked)) status old new h can none =
     edges_done (Ok (AsksTest asked)) (test_refused asked) (asked_text asked) status old.out new.out none.out can h.out
+asked_done words (Ok (AsksCoherence asked)) status old new h can none =
+    edges_done (Ok (AsksCoherence asked)) (coherence_refused asked) (coherence_asked_text asked) status old.out new.out none.out can h.out
 asked_done words (Ok (AsksName asked)) status old new h can none =
     sought_done (Ok (AsksName asked)) asked.arch asked.cycle status old new none can h.both
 asked_done words (Ok (AsksList asked)) status old new h can none = list_done asked h.both.end status old new none h.both.status_is h.both.ends

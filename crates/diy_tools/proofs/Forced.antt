@@ -37,7 +37,7 @@ use Rattle.arch_arm.specs.ReadsBack as arm_back
 use Rattle.litmus_text.specs.Printable.{IsTestName}
 use Rattle.diy_words.specs.declared.usage.Usage.{Usage}
 use Rattle.diy_words.specs.TestNames.{is_name}
-use Rattle.diy_words.specs.Requests.{Task, TestTask, ListTask, AsksTest, AsksWhy, WhyTask, AsksName, AsksList, AsksFamilies, AsksSum, AsksCross, AsksDemo, AsksCheck, CrossTask, asked_of}
+use Rattle.diy_words.specs.Requests.{Task, TestTask, ListTask, AsksTest, AsksWhy, WhyTask, AsksCoherence, CoherenceTask, AsksName, AsksList, AsksFamilies, AsksSum, AsksCross, AsksDemo, AsksCheck, CrossTask, asked_of}
 use Rattle.cycle_names.specs.CycleNames.{name_of}
 use Rattle.diy_words.proofs.RequestForm.{asked_form}
 use Rattle.test_maker.specs.declared.refusal.MakeRefusal.{MakeRefusal}
@@ -46,13 +46,19 @@ use Rattle.printed_test_laws.specs.PrintedHeadline.{BytesForce}
 use Rattle.test_maker.proofs.HavingTests.{accepted_has_test}
 use Rattle.demo_tests.proofs.Cycles.{cycle_named}
 use Rattle.printed_test_laws.proofs.Printed.{printed_force}
+use Rattle.co_tests_laws.specs.declared.refusal.CoRefusal.{CoRefusal}
+use Rattle.co_tests_laws.specs.CoRefusals.{coherence_refusal_of, coherence_text}
+use Rattle.co_tests_laws.specs.Incoherence.{BytesShowIncoherence}
+use Rattle.co_tests_laws.proofs.Accepted.{accepted_has_test as coherence_accepted}
+use Rattle.co_tests_laws.proofs.Printed.{printed_show}
 use Rattle.diy_tools.specs.declared.status.Refusal.{Refusal}
 use Rattle.diy_tools.specs.declared.status.Refusal.TheVariants as refusals
 use Rattle.diy_tools.specs.declared.status.Status.{Status}
 use Rattle.diy_tools.specs.declared.status.Status.TheVariants.{NoMemory}
 use Rattle.diy_tools.specs.WhyAnswers.{AnswersRuns, AnswersWhy, WritesRuns}
+use Rattle.diy_tools.specs.CoherenceAnswers.{AnswersCoherence, coherence_asked_text}
 use Rattle.diy_tools.specs.ArchMachines.{Machine, machine_of}
-use Rattle.diy_tools.specs.Refused.{refused_list, refused_of, refused_of_arch, refused_composing, refused_making}
+use Rattle.diy_tools.specs.Refused.{refused_coherence, refused_list, refused_of, refused_of_arch, refused_composing, refused_making}
 use Rattle.diy_tools.specs.PrintAnswers.{AnswersEdges}
 use Rattle.diy_tools.specs.TestAnswers.{asked_text, test_name}
 use Rattle.crossed_cycles.specs.Laws.{IsCrossed}
@@ -153,6 +159,19 @@ text_forces arch mode name es named whole unrefused =
     printed_force m.puts m.puts.name m.writing name (turned es) mode keeps.laws keeps.back keeps.cells keeps.one named
     (accepted_has_test m.puts es mode whole unrefused)
 
+-- the text of the coherence test of a cycle that has one, under a name of its form, shows incoherence
+text_shows : (arch : ArchName) (name : List ℕ) (es : List Edge) → IsTestName name → IsCycle es → coherence_refusal_of (machine_of arch).puts es ≡ None
+    → BytesShowIncoherence (machine_of arch).puts.name (machine_of arch).writing (coherence_text (machine_of arch).puts (machine_of arch).writing name es) (turned es)
+unfolding coherence_text
+text_shows arch name es named whole unrefused =
+    let m = machine_of arch in
+    let keeps = keeps_laws arch in
+    printed_show m.puts m.puts.name m.writing keeps.laws keeps.back keeps.cells keeps.one name (turned es) named (coherence_accepted m.puts es whole unrefused)
+
+none_coherence : (reason : Option CoRefusal) → refused_coherence reason ≡ None → reason ≡ None
+none_coherence None h = refl
+none_coherence (Some reason) h = cc h
+
 -- what is answered says that the tests that are printed and listed force their cycles
 asked_force : (words : List (List ℕ)) (status : Status) (old new : Devices) → AnswersAsked words (asked_of words) status old new → HeadlineAsked (asked_of words) status old new
 asked_force words status old new h = of_asked (asked_of words) refl h
@@ -185,6 +204,19 @@ asked_force words status old new h = of_asked (asked_of words) refl h
           text_forces asked.arch asked.mode (name_of cycle) cycle (cycle_named cycle has.cycle) has.cycle has.has_test;
     }
 
+    of_coherence : (asked : CoherenceTask) → asked_of words ≡ Ok (AsksCoherence asked) → AnswersCoherence asked status old.out new.out
+        → HeadlineAsked (Ok (AsksCoherence asked)) status old new
+    of_coherence asked e h none =
+        let a = (machine_of asked.arch).puts in
+        let both = either_none (refused_list a.name asked.edges) (refused_coherence (coherence_refusal_of a asked.edges)) none in
+        let whole = makes_cycle a.name asked.edges both.0 in
+        record {
+          prints = subst (λ (refused : Option Refusal). AnswersEdges refused (coherence_asked_text asked) status old.out new.out) none h;
+          shows =
+              text_shows asked.arch (test_name asked.name asked.edges) asked.edges
+              (test_named_so asked.name asked.edges whole (asked_form words (AsksCoherence asked) e)) whole (none_coherence (coherence_refusal_of a asked.edges) both.1);
+        }
+
     of_why : (asked : WhyTask) → AnswersWhy asked status old.shelf new.shelf old.out new.out → HeadlineAsked (Ok (AsksWhy asked)) status old new
     of_why asked h none = unrefused
         (subst (λ (refused : Option Refusal). AnswersRuns (machine_of asked.arch) asked.folder (test_name asked.name asked.edges) refused asked.edges status old.shelf new.shelf old.out new.out) none h)
@@ -197,6 +229,7 @@ asked_force words status old new h = of_asked (asked_of words) refl h
     of_asked : (asked : Result Task Usage) → asked_of words ≡ asked → AnswersAsked words asked status old new → HeadlineAsked asked status old new
     of_asked (Err usage) e h = tt
     of_asked (Ok (AsksWhy asked)) e h = of_why asked h.both
+    of_asked (Ok (AsksCoherence asked)) e h = of_coherence asked e h.out
     of_asked (Ok (AsksName asked)) e h = tt
     of_asked (Ok (AsksList asked)) e h = of_list asked h.both
     of_asked (Ok (AsksCross asked)) e h = of_cross asked h.both

@@ -25,7 +25,7 @@ use Rattle.diy_io.specs.Taken.{SourceSeen}
 use Rattle.diy_io.specs.Wrote.{SinkSeen}
 use Rattle.diy_words.specs.declared.usage.Usage.{Usage}
 use Rattle.diy_words.specs.Requests.{Task, ListTask, Sought, asked_of}
-use Rattle.diy_words.specs.Requests.{AsksTest, AsksWhy, WhyTask, AsksName, AsksList, AsksFamilies, AsksSum, AsksCross, AsksDemo, AsksCheck, CrossTask, OfEdges, OfName, OfLines}
+use Rattle.diy_words.specs.Requests.{AsksTest, AsksWhy, WhyTask, AsksCoherence, AsksName, AsksList, AsksFamilies, AsksSum, AsksCross, AsksDemo, AsksCheck, CrossTask, OfEdges, OfName, OfLines}
 use Rattle.diy_words.specs.declared.request.Check.{Check}
 use Rattle.listed_tests.specs.declared.ending.ListingEnd.{ListingEnd}
 use Rattle.listed_tests.specs.declared.ending.ListingEnd.TheVariants as listings
@@ -219,6 +219,8 @@ module _ (old new : Devices) (much : TookTooMuch old new) where
       absurd (neither (same_input old.input new.input h.input)
       (same_shelf old.shelf new.shelf
       (why_opens (machine_of asked.arch) asked.folder (test_name asked.name asked.edges) (why_unshown asked) asked.edges status old.shelf new.shelf old.out new.out h.both)))
+  asked_limit words (Ok (AsksCoherence asked)) status h =
+      absurd (neither (same_input old.input new.input h.input) (same_shelf old.shelf new.shelf (ap (λ (s : ShelfSeen). s.opened) h.shelf)))
   asked_limit words (Ok (AsksName asked)) status h =
       sought_limit (Ok (AsksName asked)) asked.arch asked.cycle status (same_shelf old.shelf new.shelf (ap (λ (s : ShelfSeen). s.opened) h.shelf)) h.both
   asked_limit words (Ok (AsksList asked)) status h =

@@ -25,10 +25,13 @@ use Rattle.diy_words.specs.declared.request.Diy.{Diy}
 use Rattle.crossed_cycles.specs.ComposedLaws.{composed_same}
 use Rattle.diy_tools.specs.Devices.{DevicesSeen, devices}
 use Rattle.diy_tools.specs.SumAnswers.{AnswersSum}
+use Rattle.co_tests_laws.specs.declared.refusal.CoRefusal.{CoRefusal}
+use Rattle.co_tests_laws.specs.declared.refusal.CoRefusal.TheVariants as coherence
+use Rattle.co_tests_laws.specs.CoRefusals.{coherence_refusal_of, coherence_text}
 use Rattle.test_maker.specs.CycleText.{cycle_text}
 use Rattle.diy_words.specs.declared.request.Sought.{Sought}
 use Rattle.diy_words.specs.declared.request.Sought.TheVariants as sought
-use Rattle.diy_words.specs.Requests.{Task, ListTask, AsksTest, AsksWhy, WhyTask, AsksName, AsksList, AsksSum, AsksCross, AsksDemo, AsksCheck, OfEdges, OfName, OfLines, asked_of}
+use Rattle.diy_words.specs.Requests.{Task, ListTask, AsksTest, AsksWhy, WhyTask, AsksCoherence, CoherenceTask, AsksName, AsksList, AsksSum, AsksCross, AsksDemo, AsksCheck, OfEdges, OfName, OfLines, asked_of}
 use Rattle.diy_words.specs.Requests as words
 use Rattle.diy_words.specs.Given.{IsSought, GivesTask, list_kept}
 use Rattle.diy_words.specs.declared.usage.Usage.{Usage}
@@ -36,6 +39,7 @@ use Rattle.demo_tests.specs.DemoText.{demo_text}
 use Rattle.diy_tools.specs.KeptRequests.{AnswersCrossing, ChecksFiles}
 use Rattle.diy_tools.specs.CheckAnswers.{AnswersCheck}
 use Rattle.diy_words.specs.declared.request.Check.{Check}
+use Rattle.diy_words.specs.declared.request.Coherence.{Coherence}
 use Rattle.diy_words.specs.declared.request.Demo.{Demo}
 use Rattle.diy_words.specs.declared.request.DiyOne.{DiyOne}
 use Rattle.diy_words.specs.declared.request.Norm.{Norm}
@@ -49,14 +53,14 @@ use Rattle.diy_tools.specs.declared.status.Refusal.{Refusal}
 use Rattle.diy_tools.specs.declared.status.Refusal.TheVariants as refusals
 use Rattle.test_maker.specs.Made as made
 use Rattle.diy_tools.specs.ArchMachines.{Machine, machine_of}
-use Rattle.diy_tools.specs.Refused.{refused_list, refused_of, refused_of_arch, refused_composing, refused_making, refused_showing, making_refusal, composing_refusal, showing_refusal}
+use Rattle.diy_tools.specs.Refused.{refused_list, refused_of, refused_of_arch, refused_composing, refused_making, refused_showing, refused_coherence, refused_coherence_of, making_refusal, composing_refusal, showing_refusal, coherence_refusal}
 use Rattle.diy_tools.specs.Report.{RefusesLocation}
 use Rattle.diy_tools.specs.PrintAnswers.{AnswersEdges, Prints}
 use Rattle.diy_tools.specs.TestAnswers.{test_name}
 use Rattle.diy_tools.specs.NameAnswers.{AnswersName, AnswersSought}
 use Rattle.diy_tools.specs.ListAnswers.{AnswersList}
 use Rattle.diy_tools.specs.Answers.{Answers, AnswersAsked}
-use Rattle.diy_tools.specs.KeptRequests.{AnswersKept, refused_kept, refused_edges, refused_why, edges_kept, folder_kept, name_kept, named_kept, MakesCycle}
+use Rattle.diy_tools.specs.KeptRequests.{AnswersCoherenceFor, AnswersKept, refused_coherence_kept, refused_kept, refused_edges, refused_why, edges_kept, folder_kept, name_kept, named_kept, MakesCycle}
 use Rattle.diy_tools.specs.WhyAnswers.{AnswersRuns, AnswersWhy}
 use Rattle.diy_words.specs.declared.request.Why.{Why}
 use Rattle.two_runs.specs.declared.errors.WhyRefusal.{WhyRefusal}
@@ -180,6 +184,40 @@ test_answered words request status input shelf old new given h = of_asked (asked
         record { input = refl; shelf = refl; out = test_asked request.arch asked.arch request.mode asked.mode (name_kept request.name) asked.name request.edges asked.edges status old new g.0 g.1 g.2 g.3 h }
     of_asked asked g = absurd g
 
+-- what is answered on an architecture of a request for a coherence test is answered on the one with its name
+pub coherence_answered_on : (arch a : ArchName) (request : Coherence) (status : Status) (old new : SinkSeen) → arch ≡ a
+    → AnswersCoherenceFor (machine_of a) request status old new → AnswersCoherenceFor (machine_of arch) request status old new
+coherence_answered_on arch a request status old new same h = subst (λ (n : ArchName). AnswersCoherenceFor (machine_of n) request status old new) (sym same) h
+
+-- what is answered of such a request is answered of the words that make it
+coherence_asked : (m : Machine) (name : Option (List ℕ)) (es : List Edge) (status : Status) (old new : SinkSeen)
+    → AnswersEdges (refused_coherence_kept m (kept_edges es)) (coherence_text m.puts m.writing (test_name name (edges_kept (kept_edges es))) (edges_kept (kept_edges es))) status old new
+    → AnswersEdges (refused_coherence_of m.puts es) (coherence_text m.puts m.writing (test_name name es) es) status old new
+coherence_asked m name es status old new h =
+    edges_answered (kept_edges es) es (λ us. refused_coherence (coherence_refusal_of m.puts us)) (λ us. coherence_text m.puts m.writing (test_name name us) us) m.puts.name status old new (kept_so es) h
+
+pub coherence_answered : (words : List (List ℕ)) (request : Coherence) (status : Status) (input : SourceSeen) (shelf : ShelfSeen) (old new : SinkSeen)
+    → GivesTask (Ok (requests.Coherence request)) (asked_of words) → AnswersCoherenceFor (machine_of request.arch) request status old new
+    → Answers words status (input, old, shelf) (input, new, shelf)
+coherence_answered words request status input shelf old new given h = of_asked (asked_of words) given
+  where
+    answers : ArchName → Option (List ℕ) → EdgeList → Type 0
+    answers arch name list =
+        AnswersEdges (refused_coherence_kept (machine_of arch) list)
+        (coherence_text (machine_of arch).puts (machine_of arch).writing (test_name name (edges_kept list)) (edges_kept list)) status old new
+
+    of_parts : (asked : CoherenceTask) → request.arch ≡ asked.arch → name_kept request.name ≡ asked.name → request.edges ≡ kept_edges asked.edges
+        → AnswersEdges (refused_coherence_of (machine_of asked.arch).puts asked.edges) (coherence_text (machine_of asked.arch).puts (machine_of asked.arch).writing (test_name asked.name asked.edges) asked.edges) status old new
+    of_parts asked p q k =
+        coherence_asked (machine_of asked.arch) asked.name asked.edges status old new
+        (subst (λ list. answers asked.arch asked.name list) k
+        (subst (λ name. answers asked.arch name request.edges) q
+        (subst (λ (arch : ArchName). answers arch (name_kept request.name) request.edges) p h)))
+
+    of_asked : (asked : Result Task Usage) → GivesTask (Ok (requests.Coherence request)) asked → AnswersAsked words asked status (devices (input, old, shelf)) (devices (input, new, shelf))
+    of_asked (Ok (AsksCoherence asked)) g = record { input = refl; shelf = refl; out = of_parts asked g.0 g.1 g.2 }
+    of_asked asked g = absurd g
+
 -- what is answered of a request for names
 pub name_answered : (words : List (List ℕ)) (request : Norm) (status : Status) (shelf : ShelfSeen) (old new : SourceSeen) (before after : SinkSeen)
     → GivesTask (Ok (requests.Name request)) (asked_of words)
@@ -300,3 +338,11 @@ showing_located showing.TooFewThreads = tt
 showing_located showing.CoherenceOnly = tt
 showing_located showing.NothingToShow = tt
 showing_located (showing.TooManyRegisters thread) = tt
+
+-- nor does one to make a coherence test
+pub coherence_located : (refusal : CoRefusal) → RefusesLocation (coherence_refusal refusal)
+coherence_located (coherence.NotOfArch at) = tt
+coherence_located coherence.TooFewThreads = tt
+coherence_located coherence.NotCoherence = tt
+coherence_located coherence.ManyWrites = tt
+coherence_located (coherence.TooManyRegisters thread) = tt

@@ -2,7 +2,7 @@
 -- Source: own.
 use Rattle.std.specs.Prelude.{ℕ, ◌≡◌, List, Result, Ok, Err}
 use Rattle.diy_words.specs.declared.usage.Usage.{Usage}
-use Rattle.diy_words.specs.Requests.{Task, AsksTest, AsksWhy, AsksName, AsksList, AsksFamilies, AsksSum, AsksCross, AsksDemo, AsksCheck, asked_of}
+use Rattle.diy_words.specs.Requests.{Task, AsksTest, AsksWhy, AsksCoherence, AsksName, AsksList, AsksFamilies, AsksSum, AsksCross, AsksDemo, AsksCheck, asked_of}
 use Rattle.diy_tools.specs.declared.status.Status.{Status}
 use Rattle.diy_tools.specs.declared.status.Status.TheVariants as statuses
 use Rattle.diy_tools.specs.Devices.{Devices, OutAlone, InputAndOut, ShelfAndOut, DevicesSeen, devices}
@@ -16,6 +16,7 @@ use Rattle.diy_tools.specs.CheckAnswers.{AnswersCheck}
 use Rattle.diy_tools.specs.PrintAnswers.{Prints}
 use Rattle.diy_tools.specs.SumAnswers.{AnswersSum}
 use Rattle.diy_tools.specs.WhyAnswers.{AnswersWhy}
+use Rattle.diy_tools.specs.CoherenceAnswers.{AnswersCoherence}
 
 -- words make no request, and no device changes; or each tool answers what it is asked for, and the devices that it doesn't
 -- use stay as they were
@@ -23,6 +24,7 @@ abbrev pub AnswersAsked : List (List ℕ) → Result Task Usage → Status → D
 AnswersAsked words (Err usage) status old new = (status ≡ statuses.Usage usage.word usage.kind) × (new ≡ old)
 AnswersAsked words (Ok (AsksTest asked)) status old new = OutAlone (AnswersTest asked status) old new
 AnswersAsked words (Ok (AsksWhy asked)) status old new = ShelfAndOut (AnswersWhy asked status) old new
+AnswersAsked words (Ok (AsksCoherence asked)) status old new = OutAlone (AnswersCoherence asked status) old new
 AnswersAsked words (Ok (AsksName asked)) status old new = InputAndOut (AnswersSought asked.arch asked.cycle status) old new
 AnswersAsked words (Ok (AsksList asked)) status old new = ShelfAndOut (AnswersList asked status) old new
 AnswersAsked words (Ok (AsksCross asked)) status old new = ShelfAndOut (AnswersCross asked status) old new

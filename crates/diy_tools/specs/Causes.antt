@@ -21,7 +21,7 @@ use Rattle.diy_io.specs.Wrote.{SinkSeen, WroteAll, WrotePart}
 use Rattle.diy_words.specs.declared.usage.Usage.{Usage}
 use Rattle.diy_words.specs.declared.usage.UsageKind.{UsageKind}
 use Rattle.diy_words.specs.declared.usage.UsageKind.TheVariants.{UnknownName}
-use Rattle.diy_words.specs.Requests.{Task, Sought, WhyTask, AsksTest, AsksWhy, AsksName, AsksList, AsksFamilies, AsksSum, AsksCross, AsksDemo, AsksCheck, OfEdges, OfName, OfLines, asked_of}
+use Rattle.diy_words.specs.Requests.{Task, Sought, WhyTask, AsksTest, AsksWhy, AsksCoherence, AsksName, AsksList, AsksFamilies, AsksSum, AsksCross, AsksDemo, AsksCheck, OfEdges, OfName, OfLines, asked_of}
 use Rattle.listed_tests.specs.declared.ending.ListingEnd.TheVariants as listings
 use Rattle.summed_files.specs.declared.sum_end.SumEnd.{SumEnd}
 use Rattle.summed_files.specs.declared.sum_end.SumEnd.TheVariants as sums
@@ -44,6 +44,7 @@ use Rattle.diy_tools.specs.SumAnswers.{EndsSum}
 use Rattle.diy_tools.specs.TestAnswers.{asked_text, test_name, test_refused}
 use Rattle.diy_tools.specs.ArchMachines.{machine_of}
 use Rattle.diy_tools.specs.WhyAnswers.{WritesRuns, why_unshown}
+use Rattle.diy_tools.specs.CoherenceAnswers.{coherence_asked_text, coherence_refused}
 
 -- standard output is as it was, and no file changed
 pub record NothingWritten (old new : Devices) : Type 0 where
@@ -74,6 +75,7 @@ sought_refused arch _ = None
 abbrev pub asked_refused : Result Task Usage → Option Refusal
 asked_refused (Ok (AsksTest asked)) = test_refused asked
 asked_refused (Ok (AsksWhy asked)) = why_unshown asked
+asked_refused (Ok (AsksCoherence asked)) = coherence_refused asked
 asked_refused (Ok (AsksName asked)) = sought_refused asked.arch asked.cycle
 asked_refused _ = None
 
@@ -157,6 +159,8 @@ Finishes words (Err usage) old new = ⊥
 Finishes words (Ok (AsksTest asked)) old new =
     (test_refused asked ≡ None) × OutAlone (λ out out'. WroteAll out out' (asked_text asked)) old new
 Finishes words (Ok (AsksWhy asked)) old new = WhyStops asked statuses.Done old new
+Finishes words (Ok (AsksCoherence asked)) old new =
+    (coherence_refused asked ≡ None) × OutAlone (λ out out'. WroteAll out out' (coherence_asked_text asked)) old new
 Finishes words (Ok (AsksName asked)) old new = InputAndOut (NamesAllSought asked.arch asked.cycle) old new
 Finishes words (Ok (AsksList asked)) old new = ShelfAndOut (EndsAsked asked listings.Done) old new
 Finishes words (Ok (AsksCross asked)) old new = ShelfAndOut (EndsCrossed asked listings.Done) old new
@@ -178,6 +182,8 @@ OutStops words (Err usage) old new = ⊥
 OutStops words (Ok (AsksTest asked)) old new =
     (test_refused asked ≡ None) × OutAlone (λ out out'. WrotePart out out' (asked_text asked)) old new
 OutStops words (Ok (AsksWhy asked)) old new = WhyStops asked (statuses.WriteFault Out) old new
+OutStops words (Ok (AsksCoherence asked)) old new =
+    (coherence_refused asked ≡ None) × OutAlone (λ out out'. WrotePart out out' (coherence_asked_text asked)) old new
 OutStops words (Ok (AsksName asked)) old new = InputAndOut (NamesPart asked.arch asked.cycle) old new
 OutStops words (Ok (AsksList asked)) old new = ShelfAndOut (EndsAsked asked listings.OutFault) old new
 OutStops words (Ok (AsksCross asked)) old new = ShelfAndOut (EndsCrossed asked listings.OutFault) old new

@@ -12,7 +12,7 @@ use Rattle.diy_io.specs.declared.source.TheConstants.{MAX_INPUT}
 use Rattle.diy_io.specs.Count.{Rose}
 use Rattle.diy_io.specs.Shelf.{Files}
 use Rattle.diy_words.specs.declared.usage.Usage.{Usage}
-use Rattle.diy_words.specs.Requests.{Task, Sought, AsksTest, AsksWhy, AsksName, AsksList, AsksFamilies, AsksSum, AsksCross, AsksDemo, AsksCheck, OfEdges, OfName, OfLines, asked_of}
+use Rattle.diy_words.specs.Requests.{Task, Sought, AsksTest, AsksWhy, AsksCoherence, AsksName, AsksList, AsksFamilies, AsksSum, AsksCross, AsksDemo, AsksCheck, OfEdges, OfName, OfLines, asked_of}
 use Rattle.diy_words.specs.declared.request.Check.{Check}
 use Rattle.summed_files.specs.Logs.{IsText, IsShort, AreWholeLogs}
 use Rattle.summed_files.specs.SumEnds.{AreLogs}
@@ -25,6 +25,7 @@ use Rattle.diy_tools.specs.Memory.{MayWantMemory}
 use Rattle.diy_tools.specs.Refused.{refused_list}
 use Rattle.diy_tools.specs.TestAnswers.{test_refused}
 use Rattle.diy_tools.specs.WhyAnswers.{why_unshown}
+use Rattle.diy_tools.specs.CoherenceAnswers.{coherence_refused}
 
 -- a text has at most 2^40 bytes, and none of its lines of cycles has a fault
 pub record IsSoundText (arch : ArchName) (text : List ℕ) : Type 0 where
@@ -84,6 +85,7 @@ abbrev pub CanBeDone : List (List ℕ) → Result Task Usage → Devices → Typ
 CanBeDone words (Err usage) old = ⊥
 CanBeDone words (Ok (AsksTest asked)) old = test_refused asked ≡ None
 CanBeDone words (Ok (AsksWhy asked)) old = why_unshown asked ≡ None
+CanBeDone words (Ok (AsksCoherence asked)) old = coherence_refused asked ≡ None
 CanBeDone words (Ok (AsksName asked)) old = CanName asked.arch asked.cycle old
 CanBeDone words (Ok (AsksList asked)) old = ⊤
 CanBeDone words (Ok (AsksCross asked)) old = ⊤

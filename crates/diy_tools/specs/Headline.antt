@@ -1,5 +1,5 @@
 -- The claim of the tools: for every accepted cycle the test that is printed forces the cycle, and a listing writes such
--- tests of exactly the listed cycles, each once, in order.
+-- tests of exactly the listed cycles, each once, in order; and the coherence test that is printed shows incoherence.
 -- Source: own.
 use Rattle.std.specs.Prelude.{◌≡◌, ◌⊎◌, ℕ, List, Result, Ok, None}
 use Rattle.relax_edges.specs.declared.edge.Edge.{Edge}
@@ -7,8 +7,9 @@ use Rattle.relax_edges.specs.declared.kinds.ObsMode.{ObsMode}
 use Rattle.resolution_laws.specs.Resolution.{turned}
 use Rattle.diy_io.specs.Shelf.{ShelfSeen}
 use Rattle.diy_io.specs.Wrote.{SinkSeen}
+use Rattle.co_tests_laws.specs.Incoherence.{BytesShowIncoherence}
 use Rattle.diy_words.specs.declared.usage.Usage.{Usage}
-use Rattle.diy_words.specs.Requests.{Task, ListTask, AsksTest, AsksWhy, AsksList, CrossTask, AsksCross, asked_of}
+use Rattle.diy_words.specs.Requests.{Task, ListTask, AsksTest, AsksWhy, AsksCoherence, AsksList, CrossTask, AsksCross, asked_of}
 use Rattle.listed_tests.specs.Plans.{IsPlanned, planned_text}
 use Rattle.printed_test_laws.specs.PrintedHeadline.{BytesForce}
 use Rattle.diy_tools.specs.declared.status.Status.{Status}
@@ -19,6 +20,7 @@ use Rattle.diy_tools.specs.Refused.{refused_of}
 use Rattle.diy_tools.specs.PrintAnswers.{Prints}
 use Rattle.diy_tools.specs.TestAnswers.{asked_text, test_name}
 use Rattle.diy_tools.specs.WhyAnswers.{WritesRuns, why_unshown}
+use Rattle.diy_tools.specs.CoherenceAnswers.{coherence_asked_text, coherence_refused}
 use Rattle.walk_laws.specs.Listing.{IsOneOf}
 use Rattle.diy_tools.specs.CrossAnswers.{AnswersCross, cycles_asked, crossed_text}
 use Rattle.diy_tools.specs.ListAnswers.{AnswersList, plan_asked}
@@ -27,6 +29,11 @@ use Rattle.diy_tools.specs.ListAnswers.{AnswersList, plan_asked}
 pub record PrintsForcing (m : Machine) (text : List ℕ) (cycle : List Edge) (mode : ObsMode) (status : Status) (old new : SinkSeen) : Type 0 where
   pub prints : Prints text status old new
   pub forces : BytesForce m.puts.name m.writing text (turned cycle) mode
+
+-- a text is printed, and its bytes ask for an execution in which all edges of a cycle stand and which isn't coherent
+pub record PrintsIncoherence (m : Machine) (text : List ℕ) (cycle : List Edge) (status : Status) (old new : SinkSeen) : Type 0 where
+  pub prints : Prints text status old new
+  pub shows : BytesShowIncoherence m.puts.name m.writing text (turned cycle)
 
 -- a listing is written as it is asked for, and the bytes of the text of each listed cycle force that cycle
 pub record ListsForcing (asked : ListTask) (status : Status) (old new : ShelfSeen) (before after : SinkSeen) : Type 0 where
@@ -43,7 +50,8 @@ pub record CrossesForcing (asked : CrossTask) (status : Status) (old new : Shelf
 -- where the words ask for the test of edges that nothing refuses, it is printed and forces the cycle that they make; where
 -- they ask for a listing, or for the tests of choices, it is written and each of its tests forces its cycle; where they ask why
 -- the mode avoid refuses edges, and it does because a write needs an observer, there is no memory, or two executions of the test
--- without observers are written that no condition tells apart, though all edges stand in the first and one doesn't in the second
+-- without observers are written that no condition tells apart, though all edges stand in the first and one doesn't in the second; where
+-- they ask for the coherence test of edges that nothing refuses, it is printed and shows incoherence
 abbrev pub HeadlineAsked : Result Task Usage → Status → Devices → Devices → Type 0
 HeadlineAsked (Ok (AsksTest asked)) status old new =
     refused_of (machine_of asked.arch).puts asked.mode asked.edges ≡ None →
@@ -52,6 +60,8 @@ HeadlineAsked (Ok (AsksWhy asked)) status old new =
     why_unshown asked ≡ None →
     (status ≡ NoMemory)
     ⊎ WritesRuns (machine_of asked.arch) asked.folder (test_name asked.name asked.edges) asked.edges status old.shelf new.shelf old.out new.out
+HeadlineAsked (Ok (AsksCoherence asked)) status old new =
+    coherence_refused asked ≡ None → PrintsIncoherence (machine_of asked.arch) (coherence_asked_text asked) asked.edges status old.out new.out
 HeadlineAsked (Ok (AsksList asked)) status old new = ListsForcing asked status old.shelf new.shelf old.out new.out
 HeadlineAsked (Ok (AsksCross asked)) status old new = CrossesForcing asked status old.shelf new.shelf old.out new.out
 HeadlineAsked _ status old new = Unit {0}

@@ -22,6 +22,7 @@ use Rattle.litmus_text.specs.declared.test.Test.{Test}
 use Rattle.litmus_text.specs.Tests.{test_seen}
 use Rattle.summed_files.specs.declared.sum_end.SumEnd.{SumEnd}
 use Rattle.summed_files.specs.SumEnds.{InputSummed, FilesSummed}
+use Rattle.co_tests_laws.specs.CoRefusals.{coherence_refusal_of, coherence_test, coherence_text}
 use Rattle.test_maker.specs.CycleText.{cycle_test, cycle_text}
 use Rattle.test_maker.specs.Refusals.{refusal_of}
 use Rattle.diy_tools.specs.declared.status.Status.{Status}
@@ -37,10 +38,11 @@ use Rattle.diy_tools.specs.FamilyAnswers.{EndsNamed, files_status}
 use Rattle.diy_tools.specs.ArchMachines.{Machine, machine, machine_of}
 use Rattle.diy_tools.specs.NameAnswers.{AnswersLines, AnswersName}
 use Rattle.diy_tools.specs.PrintAnswers.{AnswersEdges}
-use Rattle.diy_tools.specs.Refused.{refused_list, refused_making, refused_showing}
+use Rattle.diy_tools.specs.Refused.{refused_coherence, refused_list, refused_making, refused_showing}
 use Rattle.diy_tools.specs.TestAnswers.{test_name}
 use Rattle.diy_tools.specs.WhyAnswers.{WritesFiles, AnswersRuns, why_files, why_line}
 use Rattle.diy_words.specs.declared.request.Check.{Check}
+use Rattle.diy_words.specs.declared.request.Coherence.{Coherence}
 use Rattle.diy_words.specs.declared.request.Cross.{Cross}
 use Rattle.diy_words.specs.declared.request.DiyOne.{DiyOne}
 use Rattle.diy_words.specs.declared.request.Why.{Why}
@@ -95,6 +97,27 @@ abbrev pub AnswersOne : Machine → DiyOne → Status → SinkSeen → SinkSeen 
 AnswersOne m request =
     AnswersEdges (refused_kept m request.mode request.edges)
     (cycle_text m.puts m.writing request.mode (chosen_name request.name (edges_kept request.edges)) (edges_kept request.edges))
+
+-- what is refused of edges as they are kept, where they are to make a coherence test
+abbrev pub refused_coherence_kept : Machine → EdgeList → Option Refusal
+refused_coherence_kept m list = option_or (refused_edges m.puts.name list) (refused_coherence (coherence_refusal_of m.puts (edges_kept list)))
+
+-- a cycle has no coherence test, and that is the refusal; or its coherence test is printed
+abbrev pub AnswersCoherenceOf : Machine → Option ArrayString → List Edge → Status → SinkSeen → SinkSeen → Type 0
+AnswersCoherenceOf m name cycle =
+    AnswersEdges (refused_coherence (coherence_refusal_of m.puts cycle)) (coherence_text m.puts m.writing (chosen_name name cycle) cycle)
+
+-- the edges of a request are refused; or the coherence test of their cycle is printed
+abbrev pub AnswersCoherenceFor : Machine → Coherence → Status → SinkSeen → SinkSeen → Type 0
+AnswersCoherenceFor m request =
+    AnswersEdges (refused_coherence_kept m request.edges)
+    (coherence_text m.puts m.writing (chosen_name request.name (edges_kept request.edges)) (edges_kept request.edges))
+
+-- a call gives the coherence test of a cycle, or the first reason why it has none
+abbrev pub MakesCoherenceOf : Machine → List Edge → Test → Result (Unit {0}) Refusal → Type 0
+MakesCoherenceOf m cycle test (Ok _) =
+    (refused_coherence (coherence_refusal_of m.puts cycle) ≡ None) × (test_seen test ≡ coherence_test m.puts m.writing cycle)
+MakesCoherenceOf m cycle test (Err refusal) = refused_coherence (coherence_refusal_of m.puts cycle) ≡ Some refusal
 
 -- a folder that is lent, where one is given
 abbrev pub folder_lent : Option (Bor (List ℕ)) → Option (List ℕ)

@@ -5,6 +5,7 @@ pub mod Report
 pub mod Statuses
 pub mod PrintAnswers
 pub mod TestAnswers
+pub mod CoherenceAnswers
 pub mod NameAnswers
 pub mod FamilyAnswers
 pub mod ListAnswers

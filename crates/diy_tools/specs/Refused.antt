@@ -15,6 +15,9 @@ use Rattle.arch_trait.specs.Threads.{Puts}
 use Rattle.test_maker.specs.declared.refusal.MakeRefusal.{MakeRefusal}
 use Rattle.test_maker.specs.declared.refusal.MakeRefusal.TheVariants as making
 use Rattle.test_maker.specs.Refusals.{refusal_of}
+use Rattle.co_tests_laws.specs.declared.refusal.CoRefusal.{CoRefusal}
+use Rattle.co_tests_laws.specs.declared.refusal.CoRefusal.TheVariants as coherence
+use Rattle.co_tests_laws.specs.CoRefusals.{coherence_refusal_of}
 use Rattle.two_runs.specs.declared.errors.WhyRefusal.{WhyRefusal}
 use Rattle.two_runs.specs.declared.errors.WhyRefusal.TheVariants as showing
 use Rattle.diy_tools.specs.declared.status.Refusal.{Refusal}
@@ -52,6 +55,19 @@ abbrev pub refused_showing : Option WhyRefusal → Option Refusal
 refused_showing (Some reason) = Some (showing_refusal reason)
 refused_showing None = None
 
+-- what making a coherence test of a cycle refuses
+abbrev pub coherence_refusal : CoRefusal → Refusal
+coherence_refusal (coherence.NotOfArch at) = refusals.NotOfArch at
+coherence_refusal coherence.TooFewThreads = refusals.TooFewThreads
+coherence_refusal coherence.NotCoherence = refusals.NotCoherence
+coherence_refusal coherence.ManyWrites = refusals.ManyWrites
+coherence_refusal (coherence.TooManyRegisters thread) = refusals.TooManyRegisters thread
+
+-- the same of a cycle, if anything is refused
+abbrev pub refused_coherence : Option CoRefusal → Option Refusal
+refused_coherence (Some reason) = Some (coherence_refusal reason)
+refused_coherence None = None
+
 -- what composing refuses, if anything
 abbrev pub refused_composing : Result (List Edge) CycleError → Option Refusal
 refused_composing (Err error) = Some (composing_refusal error)
@@ -73,3 +89,7 @@ refused_list arch (edge ∷ edges) =
 -- the first reason why a list of edges is refused, on an architecture in a mode
 abbrev pub refused_of : Puts → ObsMode → List Edge → Option Refusal
 refused_of a mode edges = option_or (refused_list a.name edges) (refused_making (refusal_of a edges mode))
+
+-- the same, where a coherence test is to be made of them
+abbrev pub refused_coherence_of : Puts → List Edge → Option Refusal
+refused_coherence_of a edges = option_or (refused_list a.name edges) (refused_coherence (coherence_refusal_of a edges))

@@ -47,6 +47,8 @@ refusal_text (refusals.NeedsObserver location event) =
     codes "NeedsObserver " ++ location_name location ++ codes " " ++ decimal event
 refusal_text (refusals.TooManyRegisters thread) = codes "TooManyRegisters " ++ decimal thread
 refusal_text refusals.NothingToShow = codes "NothingToShow"
+refusal_text refusals.NotCoherence = codes "NotCoherence"
+refusal_text refusals.ManyWrites = codes "ManyWrites"
 
 -- the name of what is wrong with words
 abbrev pub usage_text : UsageKind → List ℕ

@@ -54,7 +54,7 @@ fn diyone_on<A: Arch, O: Sink>(request: &DiyOne, out: &mut O) -> Status
 
 /// The cycle of an architecture that edges make, or why they make none.
 #[tactic(auto, using(crate::proofs::Running::named_refused))]
-fn cycle_on<A: Arch>(list: &EdgeList) -> Result<Cycle, Refusal>
+pub(crate) fn cycle_on<A: Arch>(list: &EdgeList) -> Result<Cycle, Refusal>
     ensures made { MakesCycle (refused_edges A.puts.name list.now) (edges_kept list.now) result }
     ensures location { IfErr result RefusesLocation }
 {

@@ -1,0 +1,26 @@
+-- What diyone7 answers with the option -co.
+-- Source: own.
+use Rattle.std.specs.Prelude.{ℕ, List, Option}
+use Rattle.co_tests_laws.specs.CoRefusals.{coherence_text}
+use Rattle.diy_io.specs.Wrote.{SinkSeen}
+use Rattle.diy_words.specs.Requests.{CoherenceTask}
+use Rattle.diy_tools.specs.declared.status.Status.{Status}
+use Rattle.diy_tools.specs.declared.status.Refusal.{Refusal}
+use Rattle.diy_tools.specs.ArchMachines.{machine_of}
+use Rattle.diy_tools.specs.PrintAnswers.{AnswersEdges}
+use Rattle.diy_tools.specs.Refused.{refused_coherence_of}
+use Rattle.diy_tools.specs.TestAnswers.{test_name}
+
+-- the text of the coherence test that words ask for
+abbrev pub coherence_asked_text : CoherenceTask → List ℕ
+coherence_asked_text asked =
+    let m = machine_of asked.arch in
+    coherence_text m.puts m.writing (test_name asked.name asked.edges) asked.edges
+
+-- the first reason why the edges of that test are refused
+abbrev pub coherence_refused : CoherenceTask → Option Refusal
+coherence_refused asked = refused_coherence_of (machine_of asked.arch).puts asked.edges
+
+-- the edges are refused, and nothing is written; or the text of their coherence test is printed
+abbrev pub AnswersCoherence : CoherenceTask → Status → SinkSeen → SinkSeen → Type 0
+AnswersCoherence asked status old new = AnswersEdges (coherence_refused asked) (coherence_asked_text asked) status old new
