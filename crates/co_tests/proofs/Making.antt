@@ -202,9 +202,8 @@ made_printable a registers count laws es places threads name cond0 cond1 (Ok _) 
 made_printable a registers count laws es places threads name cond0 cond1 (Err refusal) l p put = tt
 
 -- no edge leads to another location, and one is no communication
-pub no_reason : (es : List Edge) {moves cut : Bool} → moves ≡ list_any is_diff es → moves ≡ false → cut ≡ list_any is_ordering es → not cut ≡ false → is_no_coherence es ≡ false
-no_reason es {moves} {true} m f c t = rw (sym m, f, sym c) refl
-no_reason es {moves} {false} m f c t = cc t
+pub no_reason : (es : List Edge) (moves cut : Bool) → moves ≡ list_any is_diff es → moves ≡ false → cut ≡ list_any is_ordering es → cut ≡ true → is_no_coherence es ≡ false
+no_reason es moves cut m f c t = rw (sym m ∙ f, sym c ∙ t) refl
 
 and_comm : (a b : Bool) → (a && b) ≡ (b && a)
 and_comm true true = refl
