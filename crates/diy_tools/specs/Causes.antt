@@ -215,8 +215,8 @@ CausesAsked words asked (statuses.BadText file line texts.NoCycle) old new = Fil
 CausesAsked words asked (statuses.BadText file line (texts.Exec kind)) old new = CheckedStops words asked file line (checked.Exec kind) old new
 -- a text of norm7, classify7 or msum7 has more than 2^40 bytes
 CausesAsked words asked (statuses.BadText file line texts.TooMuch) old new = PassesLimit words asked file line old new
--- msum7 is to sum, or classify7 or mcheck7 to read, a file that isn't there; where the shelf doesn't show its files, its count of
--- faults rose
+-- msum7 is to sum, or classify7 or mcheck7 to read, a file that isn't there, and the shelf's count of faults is what it was; where
+-- the shelf doesn't show its files, that count rose
 CausesAsked words asked (statuses.NoFile word) old new =
     (LogFileMissing old.shelf new.shelf words 1 word × SumStops words asked (sums.NoFile word) old new)
     ⊎ (FilesStop words asked (classing.NoFile word) old new ⊎ CheckStops words asked (checking.NoFile word) old new)

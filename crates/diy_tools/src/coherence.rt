@@ -4,14 +4,10 @@ ghost use Rattle.diy_tools.specs.ArchMachines.{machine, machine_of};
 ghost use Rattle.diy_tools.specs.KeptRequests.{AnswersCoherenceFor, AnswersCoherenceOf, MakesCoherenceOf};
 ghost use Rattle.diy_tools.specs.Report.{StatusNamesLocation, RefusesLocation};
 
+use crate::machines::on_machine;
 use crate::status::{Refusal, Status};
 use crate::testing::{cycle_on, print_named};
-use arch_aarch64::A64;
-use arch_arm::Arm;
-use arch_power::Power;
-use arch_riscv::Riscv;
 use arch_trait::{Arch, Places, ThreadCodes};
-use arch_x86::X86;
 use arrayvec::ArrayVec;
 use co_tests::co_test_into;
 use diy_io::Sink;
@@ -22,17 +18,12 @@ use litmus_text::Test;
 use relax_edges::ArchName;
 
 /// Prints the coherence test that is asked for.
+#[tactic(auto, using(crate::proofs::Running::coherence_answered_on))]
 pub(crate) fn coherence<O: Sink>(request: &Coherence, out: &mut O) -> Status
     ensures answers { AnswersCoherenceFor (machine_of request.now.arch) request.now result (O.seen out.old) (O.seen out.new) }
     ensures location { StatusNamesLocation result }
 {
-    match request.arch {
-        ArchName::X86 => coherence_on::<X86, O>(request, out),
-        ArchName::PPC => coherence_on::<Power, O>(request, out),
-        ArchName::AArch64 => coherence_on::<A64, O>(request, out),
-        ArchName::RISCV => coherence_on::<Riscv, O>(request, out),
-        ArchName::ARM => coherence_on::<Arm, O>(request, out),
-    }
+    on_machine!(request.arch, coherence_on[O](request, out))
 }
 
 /// Prints the coherence test that is asked for, on an architecture.

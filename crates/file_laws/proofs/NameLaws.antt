@@ -1,6 +1,6 @@
 -- Files that words name, and what stays true of them where no file changed.
 use Rattle.std.proofs.Common.{◌≡◌, ℕ, List, [], Some, None, sym, subst}
-use Rattle.std.specs.Prelude.{MatchOption, slice_get}
+use Rattle.std.specs.Prelude.{IfSome, MatchOption, slice_get}
 use Rattle.std.proofs.lemmas.Option.{get_or_from_slice_get}
 use Rattle.diy_io.specs.Count.{Rose}
 use Rattle.diy_io.specs.Shelf.{ShelfSeen}
@@ -21,3 +21,9 @@ pub absent_before : (old mid new : ShelfSeen) (name : List ℕ) → mid.files �
 absent_before old mid new name files faults h =
     subst (λ o. MatchOption o (Rose old.faults new.faults) (λ there. there name ≡ None)) files
     (subst (λ n. MatchOption mid.files (Rose n new.faults) (λ there. there name ≡ None)) faults h)
+
+-- where files are shown and no fault came before or after, none came
+pub quiet_before : (old mid new : ShelfSeen) → mid.files ≡ old.files → mid.faults ≡ old.faults
+    → IfSome mid.files (λ there. new.faults ≡ mid.faults) → IfSome old.files (λ there. new.faults ≡ old.faults)
+quiet_before old mid new files faults h =
+    subst (λ o. IfSome o (λ there. new.faults ≡ old.faults)) files (subst (λ n. IfSome mid.files (λ there. new.faults ≡ n)) faults h)

@@ -22,7 +22,8 @@ pub record TookFiles (old new : ShelfSeen) (taken : List (List ℕ)) : Type 0 wh
   pub opened : count_of new.opened ≡ count_of (old.opened + length taken)
   pub last : count_of new.taken ≡ count_of (last_taken old.taken taken)
 
--- a file isn't there; where the files aren't shown, that is a fault
+-- a file isn't there, and no fault came; where the files aren't shown, that it isn't there is a fault
 pub record FileAbsent (old new : ShelfSeen) (name : List ℕ) : Type 0 where
   pub absent : MatchOption old.files (Rose old.faults new.faults) (λ there. there name ≡ None)
+  pub no_fault : IfSome old.files (λ there. new.faults ≡ old.faults)
   pub took : TookFiles old new []

@@ -1,5 +1,5 @@
 -- The printed condition is read back.
-use Rattle.std.proofs.Common.{◌≡◌, ◌<◌, ◌≤◌, ℕ, zero, suc, List, [], ◌∷◌, ◌++◌, None, Ok, true, length, refl, ap, ◌∙◌, arith, append_assoc, append-nil}
+use Rattle.std.proofs.Common.{◌≡◌, ◌<◌, ◌≤◌, ℕ, zero, suc, List, [], ◌∷◌, ◌++◌, None, Ok, true, length, refl, ap, sym, ◌∙◌, arith, append_assoc, append-nil}
 use Rattle.std.specs.Prelude.{codes}
 use Rattle.std.specs.Char.{is_ascii_digit}
 use Rattle.std.specs.Fmt.{decimal}
@@ -23,7 +23,9 @@ use Rattle.litmus_text.specs.TextLines.{Lines, ends, line}
 use Rattle.text_laws.specs.ReadingSteps.{◌>>=◌}
 use Rattle.litmus_text.specs.Joined.{no_text, with_text, all_joined}
 use Rattle.litmus_text.specs.TestTable.{after_locations}
-use Rattle.litmus_text.specs.Condition.{Setting, Mentioned, TermRead, at_begin, place_put, left_put, line_of_rest, term_here, terms_here, cond_here, condition_read}
+use Rattle.litmus_text.specs.Condition.{Setting, at_begin, line_of_rest, condition_read}
+use Rattle.litmus_text.specs.ConditionScan.{Mentioned, TermRead, place_put, left_put, term_here, terms_here, cond_scanned}
+use Rattle.litmus_text.proofs.ConditionScanned.{scanned_is}
 use Rattle.litmus_text.specs.ReadTerms.{left_mention, terms_mention, is_known, TermFits}
 use Rattle.text_laws.proofs.CutLaws.{all_both}
 use Rattle.litmus_text.proofs.ElementLaws.{all_weaker}
@@ -102,8 +104,8 @@ terms_back w here table s (suc room) term (next ∷ terms) rest few fits among_t
 -- the whole condition
 here_back : (w : Writing) (here : Setting) (table s : List (List ℕ)) (condition : CondSeen) → here.text.bytes ≡ cond_text condition → 0 < length condition.terms → length condition.terms ≤ MAX_TERMS
     → AllByRecursion (TermFits w here.threads table) condition.terms → IsAmong s table → length table ≤ 64
-    → cond_here w here s ≡ Ok (record { cond = condition; names = terms_mention s condition.terms })
-unfolding cond_here cond_text state after_run
+    → cond_scanned w here s ≡ Ok (record { cond = condition; names = terms_mention s condition.terms })
+unfolding cond_scanned cond_text state after_run
 here_back w here table s condition bytes some few fits among_table short =
     let opening : List ℕ = quantifier_word condition.quantifier ++ codes " (" in
     let shape : here.text.bytes ≡ opening ++ (terms_text condition.terms ++ 41 ∷ []) = bytes ∙ append_assoc opening (terms_text condition.terms) (41 ∷ []) in
@@ -130,7 +132,8 @@ pub condition_back : (w : Writing) (threads : ℕ) (table s : List (List ℕ)) (
     → condition_read w threads s (line n (cond_text condition) (ends m)) ≡ Ok (record { cond = condition; names = terms_mention s condition.terms })
 unfolding condition_read all_joined
 condition_back w threads table s condition n m some few fits among_table short =
-    here_back w (record { threads = threads; begins = n; text = with_text no_text n (cond_text condition) }) table s condition refl some few fits among_table short
+    let here : Setting = record { threads = threads; begins = n; text = with_text no_text n (cond_text condition) } in
+    sym (scanned_is w here s) ∙ here_back w here table s condition refl some few fits among_table short
 
 -- the line of the condition ends the rows
 pub cond_ends : (condition : CondSeen) → ends_rows (cond_text condition) ≡ true

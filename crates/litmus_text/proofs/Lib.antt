@@ -18,6 +18,7 @@ pub mod LabelBack
 pub mod HeadRowBack
 pub mod ItemBack
 pub mod InitBack
+pub mod ConditionScanned
 pub mod CondBack
 pub mod WholeBack
 pub mod MentionedBack

@@ -9,7 +9,8 @@ use Rattle.litmus_text.specs.declared.errors.TextError.{TextError}
 use Rattle.litmus_text.specs.declared.errors.TestKind.TheVariants.{BadCondition, TooLarge}
 use Rattle.litmus_text.specs.TextLines.{bad}
 use Rattle.text_laws.specs.ReadingSteps.{◌>>=◌}
-use Rattle.litmus_text.specs.Condition.{Setting, Mentioned, TermRead, TermsRead, before_read, term_here, terms_here}
+use Rattle.litmus_text.specs.Condition.{Setting}
+use Rattle.litmus_text.specs.ConditionScan.{Mentioned, TermRead, TermsRead, before_read, term_here, terms_here}
 
 -- the terms that were read before others
 abbrev pub remainder : List TermSeen → Result TermsRead TextError → Result TermsRead TextError

@@ -1,7 +1,10 @@
 -- The condition of a test, at the end of its text.
 -- Source: the litmus format of the herdtools manual; what is a fault, and where, is own.
-use Rattle.std.specs.Prelude.{ℕ, zero, suc, ◌-◌, ◌==◌, cond, ◌&&◌, nat_lt, List, [], ◌∷◌, Option, Some, None, Result, Ok, Err, length, is_some}
+use Rattle.std.specs.Prelude.{ℕ, zero, suc, ◌-◌, ◌==◌, Bool, true, cond, ◌&&◌, nat_lt, List, [], ◌∷◌, ◌++◌, Option, Some, None, Result, Ok, Err}
+use Rattle.std.specs.Prelude.{length, is_some}
+use Rattle.std.specs.List.{list_any}
 use Rattle.final_cond.specs.declared.cond.TheConstants.{MAX_TERMS}
+use Rattle.final_cond.specs.declared.cond.Quantifier.{Quantifier}
 use Rattle.final_cond.specs.declared.read.Follow.{Follow}
 use Rattle.final_cond.specs.declared.read.Follow.TheVariants as follows
 use Rattle.text_laws.specs.Blanks.{unblanked}
@@ -9,6 +12,7 @@ use Rattle.final_cond.specs.Conditions.{LeftSeen, InRegister, AtPlace, TermSeen,
 use Rattle.final_cond.specs.ConditionReading.{Fault, opening_read, left_read, right_read, follow_read, end_at_start, has_form}
 use Rattle.arch_trait.specs.PlaceNames.{number_in, number_added, names_added}
 use Rattle.arch_trait.specs.Writing.{Writing}
+use Rattle.litmus_text.specs.declared.errors.TestKind.{TestKind}
 use Rattle.litmus_text.specs.declared.errors.TestKind.TheVariants.{BadCondition, TooLarge, EndMissing}
 use Rattle.litmus_text.specs.declared.errors.TextError.{TextError}
 use Rattle.litmus_text.specs.TextLines.{Lines, ends, line, bad}
@@ -21,106 +25,119 @@ pub record Setting : Type 0 where
   pub begins : ℕ
   pub text : Joined
 
--- the names of places, and the line of the first place that was one too many, after the line where the condition begins
-pub record Mentioned : Type 0 where
-  pub names : List (List ℕ)
-  pub over : Option ℕ
-
 -- what a part of the condition gives, or the fault at the line where the condition begins
 abbrev pub at_begin : {A : Type 0} → ℕ → Result A Fault → Result A TextError
 at_begin n (Ok x) = Ok x
 at_begin n (Err fault) = bad BadCondition n
 
--- the first of two lines, where there may be none before the second
-abbrev pub or_line : Option ℕ → ℕ → Option ℕ
-or_line (Some n) m = Some n
-or_line None m = Some m
-
--- a place that is one too many, at a line: a fault at once where the condition begins
-abbrev pub over_at : ℕ → ℕ → Mentioned → Result Mentioned TextError
-over_at begins n s = cond (n == begins) (bad TooLarge n) (Ok (record s { over = or_line s.over n }))
-
--- a place that is named, at a line: it gets its number, or is one too many
-abbrev pub place_put : ℕ → ℕ → Mentioned → List ℕ → Option ℕ → Result Mentioned TextError
-place_put begins n s name (Some place) = Ok (record s { names = names_added s.names name })
-place_put begins n s name None = over_at begins n s
-
--- a place of a name, at a line, among those that are named so far
-abbrev pub name_mentioned : ℕ → ℕ → Mentioned → List ℕ → Result Mentioned TextError
-name_mentioned begins n s name = place_put begins n s name (number_added s.names name)
-
--- a left side at a line: a register of a thread of the table, or a place
-abbrev pub left_put : Writing → Setting → ℕ → Mentioned → LeftSeen → Result Mentioned TextError
-left_put w here n s (InRegister thread name) =
-    cond (nat_lt thread here.threads && is_some (number_in w.registers name)) (Ok s) (bad BadCondition here.begins)
-left_put w here n s (AtPlace name) = name_mentioned here.begins n s name
-
 -- the line of the first byte of what is left of the text
 abbrev pub line_of_rest : Setting → List ℕ → ℕ
 line_of_rest here rest = line_at here.text (length here.text.bytes - length rest)
 
--- a term, what it says of places, and what is left of the text
-pub record TermRead : Type 0 where
-  pub term : TermSeen
-  pub state : Mentioned
-  pub rest : List ℕ
+-- a left side may stand in the condition: a place, or a register of a thread of the table
+abbrev pub may_stand : Writing → ℕ → LeftSeen → Bool
+may_stand w threads (InRegister thread name) = nat_lt thread threads && is_some (number_in w.registers name)
+may_stand w threads (AtPlace name) = true
 
--- a term at the beginning of what is left
-unfoldable pub term_here : Writing → Setting → Mentioned → List ℕ → Result TermRead TextError
-term_here w here s text = do
-  left ← at_begin here.begins (left_read has_form (unblanked text))
-  next ← left_put w here (line_of_rest here (unblanked text)) s left.0
-  right ← at_begin here.begins (right_read left.1)
-  Ok (record { term = record { left = left.0; value = right.0 }; state = next; rest = right.1 })
+-- a place is named in a line
+pub record Naming : Type 0 where
+  pub at_line : ℕ
+  pub place : List ℕ
 
--- the terms, what they say of places, and what is left of the text
-pub record TermsRead : Type 0 where
+-- the place that a left side in a line names, if it names one
+abbrev pub named_in : ℕ → LeftSeen → List Naming
+named_in n (InRegister thread name) = []
+named_in n (AtPlace name) = record { at_line = n; place = name } ∷ []
+
+-- the terms of a text up to the first fault of their form: the terms, the places that they name, and that fault, if there is one
+pub record TermsFormed : Type 0 where
   pub terms : List TermSeen
-  pub state : Mentioned
-  pub rest : List ℕ
+  pub named : List Naming
+  pub fault : Option TestKind
+
+-- no term, for a fault
+abbrev pub faulty_with : TestKind → TermsFormed
+faulty_with kind = record { terms = []; named = []; fault = Some kind }
 
 -- a term before others
-abbrev pub before_read : TermSeen → TermsRead → TermsRead
-before_read term others = record others { terms = term ∷ others.terms }
+abbrev pub term_before : TermSeen → TermsFormed → TermsFormed
+term_before term others = record others { terms = term ∷ others.terms }
 
--- a term, and the further terms where the text goes on with them
-abbrev pub and_more : TermRead → (Mentioned → List ℕ → Result TermsRead TextError) → Follow → List ℕ → Result TermsRead TextError
-and_more read further follows.End rest = Ok (record { terms = read.term ∷ []; state = read.state; rest = rest })
-and_more read further follows.Term rest = do
-  others ← further read.state rest
-  Ok (before_read read.term others)
+-- a term, by its left side, its value and what follows from it and from the text after it
+abbrev pub with_value : LeftSeen → (TermSeen → List ℕ → TermsFormed) → Result (ℕ × List ℕ) Fault → TermsFormed
+with_value left further (Err fault) = faulty_with BadCondition
+with_value left further (Ok right) = further (record { left = left; value = right.0 }) right.1
 
--- at most so many terms, up to the `)` after the last; a term too many is too large
-unfoldable pub terms_here : Writing → Setting → ℕ → Mentioned → List ℕ → Result TermsRead TextError
-terms_here w here zero s text = do
-  read ← term_here w here s text
-  bad TooLarge here.begins
-terms_here w here (suc room) s text = do
-  read ← term_here w here s text
-  follow ← at_begin here.begins (follow_read read.rest)
-  and_more read (terms_here w here room) follow.0 follow.1
-
--- the names of places, where no place is one too many
-abbrev pub none_over : Mentioned → Result (List (List ℕ)) TextError
-none_over s = none_over_if s.over s.names
+-- a term, by its left side, which names its place whatever comes after it
+abbrev pub with_left : Writing → Setting → ℕ → (TermSeen → List ℕ → TermsFormed) → Result (LeftSeen × List ℕ) Fault → TermsFormed
+with_left w here n further (Err fault) = faulty_with BadCondition
+with_left w here n further (Ok left) =
+    cond (may_stand w here.threads left.0) (named_before (named_in n left.0) (with_value left.0 further (right_read left.1))) (faulty_with BadCondition)
   where
-    none_over_if : Option ℕ → List (List ℕ) → Result (List (List ℕ)) TextError
-    none_over_if None names = Ok names
-    none_over_if (Some n) names = bad TooLarge n
+    named_before : List Naming → TermsFormed → TermsFormed
+    named_before named others = record others { named = named ++ others.named }
+
+-- a term at the beginning of what is left, and what follows from it
+abbrev pub term_formed : Writing → Setting → (TermSeen → List ℕ → TermsFormed) → List ℕ → TermsFormed
+term_formed w here further text = with_left w here (line_of_rest here (unblanked text)) further (left_read has_form (unblanked text))
+
+-- the last term, where nothing but blanks comes after it
+abbrev pub last_term : TermSeen → Result (List ℕ) Fault → TermsFormed
+last_term term (Err fault) = faulty_with BadCondition
+last_term term (Ok rest) = record { terms = term ∷ []; named = []; fault = None }
+
+-- a term, by what follows it: `)` and the end of the text, or further terms
+abbrev pub followed_by : TermSeen → (List ℕ → TermsFormed) → Result (Follow × List ℕ) Fault → TermsFormed
+followed_by term further (Err fault) = faulty_with BadCondition
+followed_by term further (Ok (follows.End, rest)) = last_term term (end_at_start (unblanked rest))
+followed_by term further (Ok (follows.Term, rest)) = term_before term (further rest)
+
+-- at most so many terms, and the end of the text; a term too many is too large
+unfoldable pub terms_formed : Writing → Setting → ℕ → List ℕ → TermsFormed
+terms_formed w here zero text = term_formed w here (λ term rest. faulty_with TooLarge) text
+terms_formed w here (suc room) text = term_formed w here (λ term rest. followed_by term (terms_formed w here room) (follow_read rest)) text
+
+-- the lines of the places that are one too many, where places get their numbers in the order in which they are named
+abbrev pub lines_over : List (List ℕ) → List Naming → List ℕ
+lines_over names [] = []
+lines_over names (naming ∷ named) = over_before (number_added names naming.place) (lines_over (names_added names naming.place) named)
+  where
+    over_before : Option ℕ → List ℕ → List ℕ
+    over_before (Some place) lines = lines
+    over_before None lines = naming.at_line ∷ lines
+
+-- the table of names after places were named
+abbrev pub names_with : List (List ℕ) → List Naming → List (List ℕ)
+names_with names [] = names
+names_with names (naming ∷ named) = names_with (names_added names naming.place) named
 
 -- a condition, and the names of places
 pub record CondRead : Type 0 where
   pub cond : CondSeen
   pub names : List (List ℕ)
 
+-- a condition with no place too many, or the line of the first place that is one too many
+abbrev pub with_room : CondRead → List ℕ → Result CondRead TextError
+with_room read [] = Ok read
+with_room read (n ∷ lines) = bad TooLarge n
+
+-- a condition, unless its form has a fault, or one of these lines of places too many comes first
+abbrev pub unless_faulty : ℕ → Quantifier → List (List ℕ) → TermsFormed → Option TestKind → List ℕ → Result CondRead TextError
+unless_faulty begins quantifier names formed (Some kind) lines = bad kind begins
+unless_faulty begins quantifier names formed None lines =
+    with_room (record { cond = record { quantifier = quantifier; terms = formed.terms }; names = names_with names formed.named }) lines
+
+-- a condition, or its fault: a place too many in the line where it begins, then a fault of its form, then the first other place too many
+abbrev pub condition_of : ℕ → Quantifier → List (List ℕ) → TermsFormed → Result CondRead TextError
+condition_of begins quantifier names formed =
+    cond (list_any (λ n. n == begins) (lines_over names formed.named)) (bad TooLarge begins)
+    (unless_faulty begins quantifier names formed formed.fault (lines_over names formed.named))
+
 -- the condition that a whole text is
 unfoldable pub cond_here : Writing → Setting → List (List ℕ) → Result CondRead TextError
 cond_here w here names = do
   opening ← at_begin here.begins (opening_read here.text.bytes)
-  read ← terms_here w here MAX_TERMS (record { names = names; over = None }) opening.1
-  end ← at_begin here.begins (end_at_start (unblanked read.rest))
-  kept ← none_over read.state
-  Ok (record { cond = record { quantifier = opening.0; terms = read.terms }; names = kept })
+  condition_of here.begins opening.0 names (terms_formed w here MAX_TERMS opening.1)
 
 -- the condition that the lines which are left are
 unfoldable pub condition_read : Writing → ℕ → List (List ℕ) → Lines → Result CondRead TextError

@@ -11,6 +11,7 @@ pub mod InitialState
 pub mod TestTable
 pub mod Runnable
 pub mod Condition
+pub mod ConditionScan
 pub mod TestReading
 pub mod ReadPrograms
 pub mod Printable

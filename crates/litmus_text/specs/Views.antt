@@ -33,7 +33,8 @@ use Rattle.litmus_text.specs.ReadingAnswers.{GivesTest}
 use Rattle.litmus_text.specs.Joined.{Joined}
 use Rattle.litmus_text.specs.InitialState.{Worth, a_number, a_place, InitialItem, empty, gives, zero_at, Begun, items_read, initial_read, Braced, closed, open_to}
 use Rattle.litmus_text.specs.TestTable.{Cells, Column, Among, among, no_columns, row_read, rows_read, head_read, all_labels_judged, after_locations}
-use Rattle.litmus_text.specs.Condition.{Setting, Mentioned, TermRead, TermsRead, CondRead, terms_here, condition_read}
+use Rattle.litmus_text.specs.Condition.{Setting, CondRead, condition_read}
+use Rattle.litmus_text.specs.ConditionScan.{Mentioned, TermRead, TermsRead, terms_here}
 use Rattle.litmus_text.specs.TestReading.{TestRead, threads_of}
 
 -- what the code sees of the two texts of a cut

@@ -19,3 +19,4 @@ pub mod PlaceLaws
 pub mod RepresentingLaws
 pub mod PieceLaws
 pub mod LineLaws
+pub mod Grammar

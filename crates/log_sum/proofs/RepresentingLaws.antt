@@ -1,10 +1,10 @@
 -- Laws of a summer that was fed in pieces, for those who use it.
-use Rattle.std.proofs.Common.{◌≡◌, ℕ, List, [], ◌∷◌, ◌++◌, Ok, Err, sym, ap, ◌∙◌}
+use Rattle.std.proofs.Common.{◌≡◌, ℕ, List, [], ◌∷◌, ◌++◌, Ok, Err, true, refl, sym, ap, ◌∙◌}
 use Rattle.std.specs.Prelude.{Result}
 use Rattle.log_sum.specs.declared.errors.LogError.{LogError}
 use Rattle.log_sum.specs.LogReading.{LogSeen, nothing_seen, files_judged, input_judged}
 use Rattle.text_laws.specs.ReadingSteps.{◌>>=◌}
-use Rattle.log_sum.specs.Representing.{Kept, Represents, kept_text, logs_text}
+use Rattle.log_sum.specs.Representing.{Kept, Represents, IsBetweenLogs, kept_text, logs_text}
 use Rattle.log_sum.specs.SumText.{sum_text}
 use Rattle.log_sum.proofs.PrintLaws.{sum_is}
 use Rattle.log_sum.proofs.StayLaws.{files_fault, file_more, nothing_more}
@@ -28,3 +28,7 @@ pub end_fault_stays : (files more : List (List ℕ)) (bytes : List ℕ) (error :
 unfolding logs_text
 end_fault_stays files more bytes error e =
     ap (λ (r : Result LogSeen LogError). r >>= λ seen. Ok (sum_text seen.entries)) (file_more files more bytes error e)
+
+-- between two logs the states of each test are in byte order
+pub between_in_order : (kept : Kept) → IsBetweenLogs kept → kept.in_order ≡ true
+between_in_order kept between = between.represents.in_order refl

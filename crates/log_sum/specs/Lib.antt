@@ -16,3 +16,4 @@ pub mod StateEntries
 pub mod SummingSteps
 pub mod SumText
 pub mod SumPieces
+pub mod LogGrammar

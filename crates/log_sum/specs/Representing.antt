@@ -62,6 +62,11 @@ pub record Represents (kept : Kept) (files : List (List ℕ)) (bytes : List ℕ)
   pub going : kept.refusal ≡ None
   pub in_order : bytes ≡ [] → kept.in_order ≡ true
 
+-- a summer that isn't spent is between two logs: what it keeps represents whole logs, and nothing was fed since
+pub record IsBetweenLogs (kept : Kept) : Type 0 where
+  pub files : List (List ℕ)
+  pub represents : Represents kept files []
+
 -- the number of the line that goes on after the bytes of a log so far; it stops at the last value of a count
 abbrev pub running_line : List ℕ → ℕ
 running_line bytes = count_of (line_feed_count bytes + 1)

@@ -1,3 +1,4 @@
+ghost use Rattle.log_sum.specs.LogGrammar.{LogsByBlocks};
 ghost use Rattle.log_sum.specs.SumPieces.{SameAnswers};
 
 /// A law: the same bytes give the same answers and the same sum, in whatever pieces they come.
@@ -8,4 +9,14 @@ ghost use Rattle.log_sum.specs.SumPieces.{SameAnswers};
 #[tactic(auto, using(crate::proofs::PieceLaws::one_answer_in_pieces))]
 pub fn same_answers()
     ensures { SameAnswers }
+{}
+
+/// A law: the sum of whole logs, or their first fault, is what their blocks say.
+///
+/// A log is read line by line, by the place of the running line in its block. What comes of that is
+/// what the grammar of logs gives: lines that are passed over, and blocks, each from `Test` to
+/// `Observation`.
+#[tactic(auto, using(crate::proofs::Grammar::logs_by_blocks))]
+pub fn sum_by_blocks()
+    ensures { LogsByBlocks }
 {}

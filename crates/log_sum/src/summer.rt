@@ -2,7 +2,7 @@ ghost use Rattle.std.specs.Prelude.{◌≡◌, ℕ, List, [], ◌++◌, true, So
 ghost use Rattle.diy_io.specs.Page.{Sends};
 ghost use Rattle.diy_io.specs.Wrote.{Wrote};
 ghost use Rattle.log_sum.specs.LogReading.{LogSeen, line_judged, rest_judged};
-ghost use Rattle.log_sum.specs.Representing.{Kept, Represents, FedTo, EndedTo, IsKeptRefusal, GivenAgain, kept_text, running_line};
+ghost use Rattle.log_sum.specs.Representing.{Kept, Represents, IsBetweenLogs, FedTo, EndedTo, IsKeptRefusal, GivenAgain, kept_text, running_line};
 ghost use Rattle.log_sum.specs.Feeding.{FollowsSeen, JudgedTo, PieceTo, EndTo, sum_refusal};
 
 use crate::errors::{Fault, LogError, LogKind, SumError};
@@ -92,9 +92,10 @@ impl Summer {
     /// Appends the sum of what is kept. Where the sink fails, it has taken a prefix of it.
     ///
     /// It is asked for between two logs: before the first, or after an `end_file` that answered Ok, with nothing
-    /// fed since.
+    /// fed since. A spent summer is not asked.
+    #[tactic(auto, using(crate::proofs::RepresentingLaws::between_in_order))]
     pub fn write_sum<O: Sink>(&self, out: &mut O) -> Result<(), Failed>
-        requires { self.now.in_order ≡ true }
+        requires { IsBetweenLogs self.now }
         ensures { Wrote (O.seen out.old) (O.seen out.new) (kept_text self.now) result }
     {
         let mut page = Page::new();

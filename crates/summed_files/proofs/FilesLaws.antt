@@ -16,7 +16,7 @@ use Rattle.summed_files.specs.declared.files.FileFault.TheVariants.{Missing, Rea
 use Rattle.summed_files.specs.Logs.{IsShort}
 use Rattle.summed_files.specs.FileFeeding.{ReadsLogs, IsFaulty, LogSummed, ClosedTo}
 use Rattle.file_laws.specs.Opened.{IsFile}
-use Rattle.file_laws.proofs.NameLaws.{absent_before, file_before}
+use Rattle.file_laws.proofs.NameLaws.{absent_before, quiet_before, file_before}
 use Rattle.file_laws.proofs.OpenedLaws.{opened_text, opened_took, took_nothing, took_one_more, took_no_more}
 use Rattle.summed_files.specs.SumEnds.{AreLogs, IsBegun, IsAtWord, FileStopped, LogFilesSaid, FilesSummed}
 use Rattle.summed_files.specs.LogFiles.{log_seen, FileSummed, LogFileFaulty, LogFileTo, FilesSoFar, log_file_end}
@@ -68,7 +68,7 @@ opened_refused old mid new feeding before name Device opened s same =
 -- a file that isn't there
 pub open_absent : (old new : ShelfSeen) (feeding : Feeding) (before : List (List ℕ)) (name : List ℕ) → NotThere old new name
     → LogFileTo old new feeding before name (Err Missing)
-open_absent old new feeding before name there = record { absent = there.absent; took = took_nothing old new there.counts }
+open_absent old new feeding before name there = record { absent = there.absent; no_fault = there.no_fault; took = took_nothing old new there.counts }
 
 -- a file at which the shelf failed
 pub open_failed : (old new : ShelfSeen) (feeding : Feeding) (before : List (List ℕ)) (name : List ℕ) → Stopped old new
@@ -157,6 +157,7 @@ files_refused old mid new a feeding after words first place name Missing s files
     place_is = at_word old mid feeding words first place name s word;
     right_before = are_right feeding s.logs s.reads;
     absent = absent_before old mid new name files s.no_fault f.absent;
+    no_fault = quiet_before old mid new files s.no_fault f.no_fault;
     took = took_no_more old mid new s.logs s.took f.took;
   },
   refl,

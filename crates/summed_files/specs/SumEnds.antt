@@ -1,6 +1,6 @@
 -- How a call that sums logs ended, and what it did to its devices.
 -- Source: own.
-use Rattle.std.specs.Prelude.{◌≡◌, ◌⊎◌, ◌+◌, ℕ, List, [], ◌∷◌, ◌++◌, length, slice_get, Option, None, Some, MatchOption, All, Ok}
+use Rattle.std.specs.Prelude.{◌≡◌, ◌⊎◌, ◌+◌, ℕ, List, [], ◌∷◌, ◌++◌, length, slice_get, Option, None, Some, IfSome, MatchOption, All, Ok}
 use Rattle.std.specs.Io.KnownBytes.{IsAtEnd}
 use Rattle.diy_io.specs.Count.{Rose}
 use Rattle.diy_io.specs.Shelf.{Files, ShelfSeen}
@@ -110,13 +110,15 @@ LogFileWrong old new words first place error = FileStopped old new words first p
 abbrev pub FileTooMuch : ShelfSeen → ShelfSeen → List (List ℕ) → ℕ → ℕ → ℕ → Type 0
 FileTooMuch old new words first place line = FileStopped old new words first place (λ before log bytes. IsTooMuch before log bytes line)
 
--- the word at a place names no file, where the files are known; the logs before it have no fault, and no more was opened
+-- the word at a place names no file, where the files are known, and then no fault came; the logs before it have no fault, and no
+-- more was opened
 pub record LogFileMissing (old new : ShelfSeen) (words : List (List ℕ)) (first place : ℕ) : Type 0 where
   pub before : List (List ℕ)
   pub name : List ℕ
   pub place_is : IsAtWord old.files words first place before name
   pub right_before : AreWholeLogs before
   pub absent : MatchOption old.files (Rose old.faults new.faults) (λ there. there name ≡ None)
+  pub no_fault : IfSome old.files (λ there. new.faults ≡ old.faults)
   pub took : TookFiles old new before
 
 -- these are the first bytes of the log of a name, at most 2^40, and show no fault after other logs

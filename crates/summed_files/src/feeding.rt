@@ -1,4 +1,5 @@
 ghost use Rattle.std.specs.Prelude.{true, ◌≡◌, ◌+◌, ◌≤◌, ◌^◌, ◌++◌, ℕ, List, [], length, OnOk, IfOk};
+ghost use Rattle.log_sum.specs.Representing.{IsBetweenLogs};
 ghost use Rattle.summed_files.specs.FileFaults.{sum_fault, sum_end_at};
 ghost use Rattle.summed_files.specs.declared.feeding.ReadFault.TheVariants.{Log, Device};
 
@@ -117,7 +118,7 @@ impl Feeding {
 
     /// Writes the sum of the logs that were ended.
     pub(crate) fn write_sum<O: Sink>(&self, out: &mut O) -> Result<(), Failed>
-        requires { self.now.summer.in_order ≡ true }
+        requires { IsBetweenLogs self.now.summer }
         ensures { (logs : List (List ℕ)) → ReadsLogs self.now logs [] → SumWrote logs (O.seen out.old) (O.seen out.new) result }
     {
         self.summer.write_sum(out)

@@ -1,7 +1,8 @@
 ghost use Rattle.std.specs.Prelude.{◌≡◌};
 ghost use Rattle.final_cond.specs.Conditions.{cond_view};
 ghost use Rattle.litmus_text.specs.ReadingAnswers.{GivesTest, GivesInMemory};
-ghost use Rattle.litmus_text.specs.Condition.{cond_here, condition_read};
+ghost use Rattle.litmus_text.specs.Condition.{condition_read};
+ghost use Rattle.litmus_text.specs.ConditionScan.{cond_scanned};
 ghost use Rattle.litmus_text.specs.Views.{text_left, setting_seen, cond_read_seen};
 
 use crate::errors::{ReadError, TestKind, TextError, error_at_line};
@@ -16,9 +17,9 @@ use std::alloc::Global;
 use text_parts::without_blanks;
 
 /// Reads the whole text of a condition.
-#[tactic(auto, unfolding(crate::specs::Condition::cond_here))]
+#[tactic(auto, unfolding(crate::specs::ConditionScan::cond_scanned))]
 fn read_cond_here<A: Arch>(here: &Setting, names: Places) -> Result<(Cond, Places), TextError>
-    ensures { GivesTest cond_read_seen result (cond_here A.writing (setting_seen here.now) names) }
+    ensures { GivesTest cond_read_seen result (cond_scanned A.writing (setting_seen here.now) names) }
 {
     let (quantifier, inside) = match read_opening(here.text.bytes.as_slice()) {
         Ok(opening) => opening,
@@ -37,7 +38,7 @@ fn read_cond_here<A: Arch>(here: &Setting, names: Places) -> Result<(Cond, Place
 }
 
 /// Reads the condition: the rest of the text.
-#[tactic(auto, unfolding(crate::specs::Condition::condition_read))]
+#[tactic(auto, using(crate::proofs::ConditionScanned::scanned_is), unfolding(crate::specs::Condition::condition_read))]
 pub(crate) fn read_condition<A: Arch>(
     alloc: Global,
     threads: usize,

@@ -2,7 +2,8 @@ ghost use Rattle.std.specs.Prelude.{◌≡◌, [], true};
 ghost use Rattle.final_cond.specs.Conditions.{AtPlace, left_view};
 ghost use Rattle.final_cond.specs.ConditionReading.{has_form};
 ghost use Rattle.litmus_text.specs.ReadingAnswers.{GivesTest};
-ghost use Rattle.litmus_text.specs.Condition.{name_mentioned, left_put, line_of_rest, term_here};
+ghost use Rattle.litmus_text.specs.Condition.{line_of_rest};
+ghost use Rattle.litmus_text.specs.ConditionScan.{name_mentioned, left_put, term_here};
 ghost use Rattle.litmus_text.specs.Views.{setting_seen, mentioned_seen, term_read_seen, all_terms_seen, terms_from, GivesMentioned};
 
 use crate::errors::{TestKind, TextError, error_at_line};
@@ -88,7 +89,7 @@ fn put_left<A: Arch>(
 }
 
 /// Reads the term at the beginning of what is left.
-#[tactic(auto, unfolding(crate::specs::Condition::term_here))]
+#[tactic(auto, unfolding(crate::specs::ConditionScan::term_here))]
 fn read_term<'a, A: Arch>(
     here: &Setting,
     text: &'a [u8],

@@ -28,6 +28,9 @@ loop-word-preserved g c = record {
   files = c.sum_file.ensures.files ∙ c.loop-word.invariant.files;
 }
 
+pub write_sum-requires : goal.write_sum-requires
+write_sum-requires g c = record { files = c.loop-word.invariant.so_far.logs; represents = c.loop-word.invariant.so_far.reads.represents }
+
 pub returns-in-Ok-write_sum-clause-summed : goal.returns-in-Ok-write_sum-clause-summed
 returns-in-Ok-write_sum-clause-summed g c =
     let w = c.in-Ok-write_sum.ensures _ c.loop-word.invariant.so_far.reads in

@@ -1,5 +1,5 @@
 -- `sum_input` sums the input and writes its sum.
-use Rattle.std.proofs.Common.{[], Err, sym, ap, subst, ◌∙◌}
+use Rattle.std.proofs.Common.{[], ◌∷◌, Err, sym, ap, subst, ◌∙◌}
 use Rattle.diy_io.specs.Taken.{SourceSeen}
 use Rattle.diy_io.specs.Wrote.{SinkSeen}
 use Rattle.summed_files.specs.declared.sum_end.SumEnd.{SumEnd}
@@ -7,6 +7,10 @@ use Rattle.summed_files.specs.SumEnds.{InputSummed}
 use Rattle.summed_files.proofs.LogLaws.{summed_refused}
 use Rattle.summed_files.proofs.EndLaws.{input_said, input_faulty}
 use Rattle.summed_files.proofs.input.sum_input.Goals as goal
+
+pub write_sum-requires : goal.write_sum-requires
+write_sum-requires g c =
+    let summed = c.in-Ok-sum_source.ensures [] c.in-Ok.ensures in record { files = summed.log ∷ []; represents = summed.reads.represents }
 
 pub returns-in-Ok-write_sum : goal.returns-in-Ok-write_sum
 returns-in-Ok-write_sum g c =

@@ -5,7 +5,7 @@ use Rattle.std.proofs.lemmas.List.{map_push}
 use Rattle.final_cond.specs.declared.cond.TheConstants.{MAX_TERMS}
 use Rattle.final_cond.specs.Conditions.{term_view}
 use Rattle.final_cond.specs.ConditionAnswers.{fault_view}
-use Rattle.litmus_text.specs.Condition.{terms_here}
+use Rattle.litmus_text.specs.ConditionScan.{terms_here}
 use Rattle.litmus_text.specs.Views.{setting_seen, mentioned_seen, term_read_seen}
 use Rattle.litmus_text.proofs.TermLoops.{stops_at_term, stops_at_full, stops_at_follow, ends_at_follow, goes_on}
 use Rattle.litmus_text.proofs.reading.terms.read_terms.Goals as goal
