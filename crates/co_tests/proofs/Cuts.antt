@@ -1,5 +1,5 @@
 -- The cut of a cycle at one location by its place, and the accesses of the cut resolution.
-use Rattle.std.proofs.Common.{◌≡◌, ℕ, zero, suc, ◌+◌, ◌-◌, ◌<◌, ◌≤◌, Bool, true, false, cond, List, [], ◌∷◌, length, take, Option, Some, None, refl, sym, ◌∙◌, ap, arith, add-one}
+use Rattle.std.proofs.Common.{◌≡◌, ℕ, zero, suc, ◌+◌, ◌-◌, ◌<◌, ◌≤◌, Bool, true, false, cond, List, [], ◌∷◌, length, take, Some, refl, sym, ◌∙◌, ap, arith, add-one}
 use Rattle.std.specs.Prelude.{◌==◌, ◌||◌, if◌then◌else◌}
 use Rattle.std.specs.List.{list_any, position_from}
 use Rattle.std.proofs.lemmas.Bool.{ne_eqb}
@@ -23,7 +23,7 @@ use Rattle.test_laws.specs.TestOf.{plain}
 use Rattle.co_tests_laws.specs.CutResolution.{cut_of, cut_open, elsewhere, is_ordering, orders_by}
 use Rattle.co_tests_laws.specs.CoherenceTests.{writes_in}
 use Rattle.co_tests_laws.proofs.Opened.{same_at, source_same, source_mark_same}
-use Rattle.co_tests_laws.proofs.Values.{Cut, IsCut, one_location, written, written-all, value_early, value_late}
+use Rattle.co_tests_laws.proofs.Values.{Cut, IsCut, one_location, written, value_early, value_late}
 use Rattle.co_tests_laws.proofs.Events.{IsLoop}
 use Rattle.co_tests.specs.Shape.{HasShape}
 

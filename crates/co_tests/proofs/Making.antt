@@ -1,6 +1,6 @@
 -- That a coherence test has the parts of its definition, and can be printed.
-use Rattle.std.proofs.Common.{◌≡◌, ℕ, zero, suc, ◌+◌, ◌<◌, ◌≤◌, ◌==◌, Bool, true, false, not, cond, nat_lt, List, [], ◌∷◌, ◌++◌, length, get_or, take, drop, map, Option, Some, None, Result, Ok, Err, refl, sym, ◌∙◌, ap, subst, arith, slice_get}
-use Rattle.std.specs.Prelude.{◌||◌, ◌&&◌, nat_le, if◌then◌else◌, OnOk}
+use Rattle.std.proofs.Common.{◌≡◌, ℕ, ◌+◌, ◌<◌, ◌≤◌, Bool, true, false, not, cond, nat_lt, List, [], ◌∷◌, ◌++◌, length, get_or, take, drop, map, Option, Some, None, Result, Ok, Err, refl, sym, ◌∙◌, ap, subst, arith, slice_get}
+use Rattle.std.specs.Prelude.{◌||◌, ◌&&◌, nat_le, OnOk}
 use Rattle.std.specs.List.{All, list_all, list_any, filter, position_from}
 use Rattle.std.specs.Option.{option_map, option_or}
 use Rattle.std.proofs.lemmas.Bool.{ltb-false, leb-false, leb-true, ne_eqb}
@@ -16,9 +16,9 @@ use Rattle.relax_edges.specs.EdgeTable.{is_diff, is_of_arch}
 use Rattle.cycle_laws.specs.Composable.{IsCycle}
 use Rattle.cycle_laws.specs.Rotation.{rotated}
 use Rattle.cycle_laws.proofs.Composing.{rotated_cycle}
-use Rattle.resolution_laws.specs.Resolution.{external_count, events_in, location_of, move_count, turned}
+use Rattle.resolution_laws.specs.Resolution.{external_count, events_in, move_count, turned}
 use Rattle.resolution_laws.proofs.Turning.{turn_of, external_count-rotated}
-use Rattle.value_laws.specs.Values.{is_observed, write_count}
+use Rattle.value_laws.specs.Values.{write_count}
 use Rattle.communication_laws.proofs.Lists.{image_of}
 use Rattle.arrayvec.specs.ArrayVec.{ArrayVec}
 use Rattle.final_cond.specs.declared.cond.Cond.{Cond}
@@ -30,12 +30,12 @@ use Rattle.arch_trait.specs.declared.step.Step.{Step}
 use Rattle.arch_trait.specs.Codes.{IsFormedCode, thread_code_of}
 use Rattle.arch_trait.specs.Laws.{IsArch}
 use Rattle.arch_trait.specs.Links.{branches}
-use Rattle.arch_trait.specs.PlaceNames.{letters, location_name}
+use Rattle.arch_trait.specs.PlaceNames.{letters}
 use Rattle.arch_trait.specs.SeenTests.{TestSeen}
 use Rattle.arch_trait.specs.Threads.{Puts, ThreadCode, compiled, shape_of}
 use Rattle.arch_laws.proofs.CodeLaws.{is_formed}
 use Rattle.litmus_text.specs.Tests.{IsPrintable}
-use Rattle.test_laws.specs.CycleSteps.{event_step, thread_steps}
+use Rattle.test_laws.specs.CycleSteps.{event_step}
 use Rattle.test_laws.specs.TestOf.{plain, is_named_location, last_term, last_terms, load_terms}
 use Rattle.test_laws.proofs.Headline.{room_left}
 use Rattle.test_laws.proofs.StepsAt.{by_steps}
@@ -45,7 +45,7 @@ use Rattle.co_tests_laws.specs.declared.refusal.CoRefusal.{CoRefusal}
 use Rattle.co_tests_laws.specs.declared.refusal.CoRefusal.TheVariants.{NotOfArch, TooFewThreads, NotCoherence, ManyWrites, TooManyRegisters}
 use Rattle.co_tests_laws.specs.CutResolution.{cut_open, is_ordering}
 use Rattle.co_tests_laws.specs.CoherenceTests.{HasCoherenceTest, coherence_steps, coherence_test_of, writes_in}
-use Rattle.co_tests_laws.specs.CoRefusals.{crowded_thread, is_no_coherence, reason_if}
+use Rattle.co_tests_laws.specs.CoRefusals.{crowded_thread, is_no_coherence}
 use Rattle.co_tests_laws.proofs.Values.{IsCut, leaves_write, one_location, one_move, write_count_is}
 use Rattle.co_tests_laws.proofs.Events.{unobserved}
 use Rattle.co_tests_laws.proofs.Fits.{IsLoopOf, loop_thread}

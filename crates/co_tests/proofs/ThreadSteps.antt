@@ -5,7 +5,7 @@ use Rattle.std.specs.List.{filter}
 use Rattle.list_laws.specs.Numbers.{upto}
 use Rattle.list_laws.proofs.Cases.{by_less}
 use Rattle.list_laws.proofs.Counts.{count_upto-le}
-use Rattle.list_laws.proofs.Ranks.{filter_no, filter_yes, filter_upto_no, length-filter-upto}
+use Rattle.list_laws.proofs.Ranks.{filter_yes, filter_upto_no, length-filter-upto}
 use Rattle.relax_edges.specs.declared.kinds.ObsMode.TheVariants.{Avoid}
 use Rattle.relax_edges.specs.declared.edge.Edge.{Edge}
 use Rattle.relax_edges.specs.EdgeTable.{is_external}

@@ -1,5 +1,5 @@
 -- Of which cycles the code makes coherence tests: for clauses of private functions.
-use Rattle.std.specs.Prelude.{ℕ, ◌≡◌, ◌≤◌, true, false, List}
+use Rattle.std.specs.Prelude.{◌≡◌, ◌≤◌, true, false, List}
 use Rattle.std.specs.List.{list_any}
 use Rattle.relax_edges.specs.declared.edge.Edge.{Edge}
 use Rattle.relax_edges.specs.EdgeTable.{is_diff}

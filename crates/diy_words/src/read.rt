@@ -1,5 +1,5 @@
 ghost use Rattle.std.specs.Prelude.{◌≡◌, ◌<◌, ◌+◌, ◌^◌, ℕ, List, Some, length, drop, IfOk};
-ghost use Rattle.diy_words.specs.declared.usage.UsageKind.TheVariants.{MissingArch};
+ghost use Rattle.diy_words.specs.declared.usage.UsageKind.TheVariants.{MissingArch, MissingWhy};
 ghost use Rattle.diy_words.specs.Requests.{asked_of, asked_for, asks, AsksTest, AsksWhy, AsksCoherence, AsksName, AsksList, AsksFamilies, AsksCross, AsksDemo, AsksCheck, test_asked, why_asked, coherence_asked, one_asked, diyone_asked, norm_asked, diy_asked, cross_asked, families_with, demo_with, check_with};
 ghost use Rattle.diy_words.specs.Given.{GivesTask, HasForm, WithinWords};
 ghost use Rattle.diy_words.specs.CodeNotes.{Steps, GivesAtEnd, GivesFrom, IsPlain, IsOption, code_notes};
@@ -144,17 +144,14 @@ fn finish_coherence(count: usize, notes: Notes<'_>) -> Result<Request<'_>, Usage
     let Some(arch) = notes.arch else {
         return Err(missing_arch(count));
     };
-    if notes.folder.is_some() {
-        return Err(Usage {
-            word: count,
-            kind: UsageKind::MissingWhy,
-        });
+    match notes.folder {
+        Some(_) => Err(missing_why(count)),
+        None => Ok(Request::Coherence(Coherence {
+            arch,
+            name: notes.name,
+            edges: notes.edges,
+        })),
     }
-    Ok(Request::Coherence(Coherence {
-        arch,
-        name: notes.name,
-        edges: notes.edges,
-    }))
 }
 
 fn finish_why(count: usize, notes: Notes<'_>) -> Result<Request<'_>, Usage>
@@ -178,10 +175,7 @@ fn finish_test(count: usize, notes: Notes<'_>) -> Result<Request<'_>, Usage>
         return Err(missing_arch(count));
     };
     if notes.folder.is_some() {
-        return Err(Usage {
-            word: count,
-            kind: UsageKind::MissingWhy,
-        });
+        return Err(missing_why(count));
     }
     Ok(Request::Test(DiyOne {
         arch,
@@ -324,5 +318,15 @@ fn missing_arch(count: usize) -> Usage
     Usage {
         word: count,
         kind: UsageKind::MissingArch,
+    }
+}
+
+/// What is wrong where a folder is given and no option that writes files.
+fn missing_why(count: usize) -> Usage
+    ensures { result ≡ record { word = count; kind = MissingWhy } }
+{
+    Usage {
+        word: count,
+        kind: UsageKind::MissingWhy,
     }
 }

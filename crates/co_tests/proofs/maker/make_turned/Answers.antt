@@ -1,5 +1,5 @@
 -- That `make_turned` makes the coherence test of a turned cycle.
-use Rattle.std.proofs.Common.{◌≡◌, ◌∙◌, sym, ap, true, false}
+use Rattle.std.proofs.Common.{◌≡◌, ◌∙◌, sym, true, false}
 use Rattle.co_tests_laws.specs.CutResolution.{is_ordering}
 use Rattle.co_tests.proofs.Cuts.{loop_at}
 use Rattle.co_tests.proofs.Making.{made_printable, made_turned, none_found}

@@ -1,7 +1,5 @@
 -- That `value_of` counts the writes along the arc.
-use Rattle.std.proofs.Common.{◌≡◌, ◌<◌, ◌≤◌, ◌+◌, arith, length, length-take, take}
-use Rattle.value_laws.specs.Values.{value_of}
-use Rattle.co_tests_laws.specs.CutResolution.{cut_open}
+use Rattle.std.proofs.Common.{◌+◌, arith, length-take}
 use Rattle.co_tests.proofs.Cuts.{cut_below, loop_at, value_after_cut, value_before_cut}
 use Rattle.co_tests.proofs.steps.value_of.Goals as goal
 

@@ -1,6 +1,5 @@
 -- That `put_threads` makes the code of all threads, or refuses the first that needs too many registers.
-use Rattle.std.proofs.Common.{◌≡◌, ◌<◌, ◌≤◌, ◌+◌, ◌++◌, ◌∷◌, [], arith, sym, ◌∙◌, ap, subst, length, map, Some, None, slice_get, length-take, length-append, take, true, false, refl}
-use Rattle.std.specs.List.{position_from}
+use Rattle.std.proofs.Common.{◌≡◌, ◌<◌, ◌+◌, ◌++◌, ◌∷◌, [], arith, sym, ◌∙◌, ap, length, map, Some, length-take, length-append, take, true, false, refl}
 use Rattle.std.specs.Option.{option_map}
 use Rattle.std.proofs.lemmas.List.{length-map}
 use Rattle.std.proofs.lemmas.List.Sums.{count_by-le-length}
@@ -10,14 +9,13 @@ use Rattle.resolution_laws.proofs.Threads.{thread-zero, thread_end, thread_in, t
 use Rattle.final_cond.specs.Conditions.{term_view}
 use Rattle.arch_trait.specs.declared.step.Step.{Step}
 use Rattle.arch_trait.specs.Codes.{thread_code_of}
-use Rattle.arch_trait.specs.Threads.{Puts, is_load_dir, compiled}
+use Rattle.arch_trait.specs.Threads.{is_load_dir, compiled}
 use Rattle.arch_trait.specs.Writing.{name_in}
 use Rattle.test_laws.specs.TestOf.{plain, thread_terms}
 use Rattle.test_laws.proofs.Terms.{reads-count, thread_terms-count}
-use Rattle.test_maker.specs.Refusals.{is_crowded}
 use Rattle.co_tests_laws.specs.declared.refusal.CoRefusal.TheVariants.{TooManyRegisters}
 use Rattle.co_tests_laws.specs.CoherenceTests.{coherence_steps}
-use Rattle.co_tests_laws.proofs.Fits.{IsLoopOf, loop_thread}
+use Rattle.co_tests_laws.proofs.Fits.{loop_thread}
 use Rattle.co_tests.proofs.Cuts.{loop_at}
 use Rattle.co_tests.proofs.Growing.{grown_none, grown_more, grown_refused, grown_all}
 use Rattle.co_tests.proofs.ThreadSteps.{none_yet, one_more, steps_most, thread_whole, thread_within, threads_count}
