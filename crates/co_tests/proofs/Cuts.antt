@@ -34,10 +34,15 @@ later_cut e es f c = record {
   ordering = c.ordering;
   opened = ap (λ l. edge_at l (suc c.at)) open_is ∙ c.opened;
   others = λ i d. ap (λ l. edge_at l i) open_is ∙ other i d;
+  first = earlier;
 }
   where
     open_is : cut_open (e ∷ es) ≡ e ∷ cut_open es
     open_is = ap (λ b. if b then elsewhere e ∷ es else e ∷ cut_open es) f
+
+    earlier : (i : ℕ) → i < suc c.at → is_ordering (edge_at (e ∷ es) i) ≡ false
+    earlier zero l = f
+    earlier (suc i) l = c.first i (omega (arith, l))
 
     other : (i : ℕ) → (i ≡ suc c.at → ⊥) → edge_at (e ∷ cut_open es) i ≡ edge_at (e ∷ es) i
     other zero d = refl
@@ -50,6 +55,7 @@ first_cut e es t = record {
   ordering = t;
   opened = ap (λ l. edge_at l 0) open_is;
   others = λ i d. ap (λ l. edge_at l i) open_is ∙ other i d;
+  first = λ i l. absurd (omega (arith, l));
 }
   where
     open_is : cut_open (e ∷ es) ≡ elsewhere e ∷ es
