@@ -38,7 +38,9 @@ pub record Leads (threads : List (List Access)) (x : Execution) (e f : WriteAt) 
   pub between : List WriteAt
   pub path : IsPathBy (Precedes threads) threads x e between f
 
-joined : (threads : List (List Access)) (x : Execution) (e : WriteAt) (between : List WriteAt) (f : WriteAt) (more : List WriteAt) (g : WriteAt) → IsPathBy (Precedes threads) threads x e between f → IsPathBy (Precedes threads) threads x f more g → IsPathBy (Precedes threads) threads x e (between ++ f ∷ more) g
+joined : (threads : List (List Access)) (x : Execution) (e : WriteAt) (between : List WriteAt) (f : WriteAt) (more : List WriteAt) (g : WriteAt)
+    → IsPathBy (Precedes threads) threads x e between f → IsPathBy (Precedes threads) threads x f more g
+    → IsPathBy (Precedes threads) threads x e (between ++ f ∷ more) g
 joined threads x e [] f more g p q = (p, q)
 joined threads x e (h ∷ between) f more g p q = (p.0, joined threads x h between f more g p.1 q)
 
@@ -52,20 +54,29 @@ record Source (threads : List (List Access)) (x : Execution) (place : ℕ) (f : 
   writes : IsWriteTo threads place write
   same : order_place (order_at x place) (Some write) ≡ order_place (order_at x place) (source_at threads x f)
 
-source_of_read : (threads : List (List Access)) (x : Execution) (place : ℕ) (f : WriteAt) → Held threads x → IsReadOf threads place f → 0 < order_place (order_at x place) (source_at threads x f) → Source threads x place f
+source_of_read : (threads : List (List Access)) (x : Execution) (place : ℕ) (f : WriteAt) → Held threads x → IsReadOf threads place f
+    → 0 < order_place (order_at x place) (source_at threads x f) → Source threads x place f
 source_of_read threads x place f held h l = by_source (source_at threads x f) refl (held.reads place h.0 f h.1)
   where
     by_source : (o : Option WriteAt) → source_at threads x f ≡ o → CanRead threads (read place h.0) o → Source threads x place f
-    by_source None e c = let z : order_place (order_at x place) (source_at threads x f) ≡ 0 = ap (order_place (order_at x place)) e in absurd (omega (arith, l, z))
+    by_source None e c = let z : order_place (order_at x place) (source_at threads x f) ≡ 0 = ap (order_place (order_at x place)) e in absurd
+        (omega (arith, l, z))
     by_source (Some w) e c = record { write = w; source = e; writes = (h.0, c); same = ap (order_place (order_at x place)) (sym e) }
 
 -- the cases of what has to come first at one place
 by_dirs : (threads : List (List Access)) (x : Execution) (place : ℕ) (e f : WriteAt) (c d : Dir) (u v : ℕ) → Held threads x
     → at_name threads e ≡ Some (record { dir = c; place = place; value = u }) → at_name threads f ≡ Some (record { dir = d; place = place; value = v })
     → key threads x e (record { dir = c; place = place; value = u }) < key threads x f (record { dir = d; place = place; value = v }) → Leads threads x e f
-by_dirs threads x place e f dirs.W dirs.W u v held a b l = one_step threads x e f (ByCo place (writes_ordered threads x place e f held (u, a) (v, b) (omega (arith, l))))
+by_dirs threads x place e f dirs.W dirs.W u v held a b l = one_step threads x e f
+    (ByCo place (writes_ordered threads x place e f held (u, a) (v, b) (omega (arith, l))))
 by_dirs threads x place e f dirs.R dirs.W u v held a b l =
-    one_step threads x e f (ByFr (record { place = place; reads = (u, a); before = read_before threads x place u (source_at threads x e) f held (held.reads place u e a) (v, b) (omega (arith, l)) }))
+    one_step threads x e f
+    (ByFr (record {
+      place = place;
+      reads = (u, a);
+      before = read_before threads x place u (source_at threads x e) f held (held.reads place u e a) (v, b)
+          (omega (arith, l));
+    }))
 by_dirs threads x place e f dirs.W dirs.R u v held a b l =
     let k = held.each place e (u, a) in
     let s = source_of_read threads x place f held (v, b) (omega (arith, l, place_in threads x place k.0 e held k.1)) in
@@ -79,17 +90,24 @@ by_dirs threads x place e f dirs.R dirs.R u v held a b l =
     record {
       between = s.write ∷ [];
       path = (
-        ByFr (record { place = place; reads = (u, a); before = read_before threads x place u (source_at threads x e) s.write held (held.reads place u e a) s.writes (omega (arith, l, s.same)) }),
+        ByFr (record {
+          place = place;
+          reads = (u, a);
+          before = read_before threads x place u (source_at threads x e) s.write held
+              (held.reads place u e a) s.writes (omega (arith, l, s.same));
+        }),
         ByRf (record { place = place; reads = (v, b); source = s.source }),
       );
     }
 
 -- what has to come before another leads to it
-comes_leads : (threads : List (List Access)) (x : Execution) (e f : WriteAt) (a b : Access) → Held threads x → at_name threads e ≡ Some a → at_name threads f ≡ Some b → comes_first threads x e a f b ≡ true → Leads threads x e f
+comes_leads : (threads : List (List Access)) (x : Execution) (e f : WriteAt) (a b : Access) → Held threads x → at_name threads e ≡ Some a
+    → at_name threads f ≡ Some b → comes_first threads x e a f b ≡ true → Leads threads x e f
 comes_leads threads x e f a b held p q t =
     by_test ((e.thread == f.thread) && nat_lt e.access f.access)
     (λ y. let r = and_parts (e.thread == f.thread) (nat_lt e.access f.access) y in
-    one_step threads x e f (ByPo (record { first = (a, p); second = (b, q); thread = eqb-true e.thread f.thread r.0; earlier = ltb-true e.access f.access r.1 })))
+    one_step threads x e f
+    (ByPo (record { first = (a, p); second = (b, q); thread = eqb-true e.thread f.thread r.0; earlier = ltb-true e.access f.access r.1 })))
     (λ n. let r = and_parts (a.place == b.place) (nat_lt (key threads x e a) (key threads x f b)) (second n) in
     let same : a.place ≡ b.place = eqb-true a.place b.place r.0 in
     let l : key threads x e a < key threads x f b = ltb-true (key threads x e a) (key threads x f b) r.1 in
@@ -124,15 +142,18 @@ or_right true b h = refl
 or_right false b h = h
 
 -- an earlier access of a thread comes before a later one
-pub earlier_comes : (threads : List (List Access)) (x : Execution) (e f : WriteAt) (a b : Access) → at_name threads e ≡ Some a → at_name threads f ≡ Some b → e.thread ≡ f.thread → e.access < f.access → comes threads x e f ≡ true
+pub earlier_comes : (threads : List (List Access)) (x : Execution) (e f : WriteAt) (a b : Access) → at_name threads e ≡ Some a → at_name threads f ≡ Some b
+    → e.thread ≡ f.thread → e.access < f.access → comes threads x e f ≡ true
 earlier_comes threads x e f a b p q t l =
     (λ i. comes_by threads x e (p i) f (q i))
     ∙ or_left ((e.thread == f.thread) && nat_lt e.access f.access) ((a.place == b.place) && nat_lt (key threads x e a) (key threads x f b))
     (and_from (e.thread == f.thread) (nat_lt e.access f.access) (eq-eqb e.thread f.thread t) (lt-ltb e.access f.access l))
 
 -- and at one place that of the lesser key
-pub lesser_comes : (threads : List (List Access)) (x : Execution) (e f : WriteAt) (a b : Access) → at_name threads e ≡ Some a → at_name threads f ≡ Some b → a.place ≡ b.place → key threads x e a < key threads x f b → comes threads x e f ≡ true
+pub lesser_comes : (threads : List (List Access)) (x : Execution) (e f : WriteAt) (a b : Access) → at_name threads e ≡ Some a → at_name threads f ≡ Some b
+    → a.place ≡ b.place → key threads x e a < key threads x f b → comes threads x e f ≡ true
 lesser_comes threads x e f a b p q s l =
     (λ i. comes_by threads x e (p i) f (q i))
     ∙ or_right ((e.thread == f.thread) && nat_lt e.access f.access) ((a.place == b.place) && nat_lt (key threads x e a) (key threads x f b))
-    (and_from (a.place == b.place) (nat_lt (key threads x e a) (key threads x f b)) (eq-eqb a.place b.place s) (lt-ltb (key threads x e a) (key threads x f b) l))
+    (and_from (a.place == b.place) (nat_lt (key threads x e a) (key threads x f b)) (eq-eqb a.place b.place s)
+    (lt-ltb (key threads x e a) (key threads x f b) l))

@@ -55,7 +55,8 @@ in_turn-interleaves = record {
 }
 
 -- no access has a place but x
-at_x : (k place value : ℕ) (e : WriteAt) → slice_get in_turn k ≡ Some e → at_name made e ≡ Some (read place value) → value ≡ value_after made place (take k in_turn)
+at_x : (k place value : ℕ) (e : WriteAt) → slice_get in_turn k ≡ Some e → at_name made e ≡ Some (read place value)
+    → value ≡ value_after made place (take k in_turn)
 at_x zero place value e h a =
     let s : name 0 0 ≡ e = cc h in
     let t : Some (write 0 1) ≡ Some (read place value) = ap (at_name made) s ∙ a in

@@ -13,7 +13,8 @@ use Rattle.sequential_laws.proofs.Back.{along_sequential}
 use Rattle.sequential_laws.proofs.Line.{line_of, line_interleaves, line_gives, line_along}
 
 -- the runs of threads in an execution are those on the values that are read
-runs_same : (threads : List Thread) (reads : List (List (ℕ × Option WriteAt))) → runs_on threads (map (λ reads. map (λ r. r.0) reads) reads) ≡ runs_of threads reads
+runs_same : (threads : List Thread) (reads : List (List (ℕ × Option WriteAt)))
+    → runs_on threads (map (λ reads. map (λ r. r.0) reads) reads) ≡ runs_of threads reads
 runs_same [] reads = refl
 runs_same (thread ∷ threads) [] = ap (λ l. run_of thread [] ∷ l) (runs_same threads [])
 runs_same (thread ∷ threads) (first ∷ reads) = ap (λ l. run_of thread first ∷ l) (runs_same threads reads)
@@ -30,7 +31,8 @@ sequential_goes_along p x candidate within sequential =
       record {
         interleaving = record {
           ended = λ k run g. candidate.ended k run (ap (λ (l : List Outcome). slice_get l k) (sym (runs_same p.threads x.reads)) ∙ g);
-          interleaves = subst (λ threads. IsInterleaving threads (line_of (accesses_in p x) x)) (accesses_same p x) (line_interleaves (accesses_in p x) x facts sequential);
+          interleaves = subst (λ threads. IsInterleaving threads (line_of (accesses_in p x) x)) (accesses_same p x)
+              (line_interleaves (accesses_in p x) x facts sequential);
           gives = subst (λ threads. GivesValues threads (line_of (accesses_in p x) x)) (accesses_same p x) (line_gives (accesses_in p x) x facts sequential);
         };
         along = line_along (accesses_in p x) p.places x facts sequential;
@@ -40,4 +42,5 @@ sequential_goes_along p x candidate within sequential =
 -- and each that goes along one is sequentially consistent
 pub along_is_sequential : AlongIsSequential
 along_is_sequential p x line candidate h =
-    along_sequential (accesses_in p x) p.places x line (subst (λ threads. IsInterleaving threads line) (sym (accesses_same p x)) h.interleaving.interleaves) h.along candidate.execution.write_lists
+    along_sequential (accesses_in p x) p.places x line
+    (subst (λ threads. IsInterleaving threads line) (sym (accesses_same p x)) h.interleaving.interleaves) h.along candidate.execution.write_lists

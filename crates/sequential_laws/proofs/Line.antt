@@ -27,19 +27,26 @@ abbrev pub line_of : List (List Access) → Execution → List WriteAt
 line_of threads x = sorted (comes threads x) (length (all_names threads)) (all_names threads)
 
 -- what has to come before stands before
-line_keeps : (threads : List (List Access)) (x : Execution) (j k : ℕ) (e f : WriteAt) → Held threads x → IsSequential threads x → slice_get (line_of threads x) j ≡ Some e → slice_get (line_of threads x) k ≡ Some f → comes threads x e f ≡ true → j < k
+line_keeps : (threads : List (List Access)) (x : Execution) (j k : ℕ) (e f : WriteAt) → Held threads x → IsSequential threads x
+    → slice_get (line_of threads x) j ≡ Some e → slice_get (line_of threads x) k ≡ Some f → comes threads x e f ≡ true → j < k
 line_keeps threads x j k e f held s a b t =
-    stands_before (comes threads x) (Leads threads x) (line_of threads x) j k e f (acyclic threads x held s) (is_sorted (comes threads x) (length (all_names threads)) (all_names threads)) a b t
+    stands_before (comes threads x) (Leads threads x) (line_of threads x) j k e f (acyclic threads x held s)
+    (is_sorted (comes threads x) (length (all_names threads)) (all_names threads)) a b t
 
-line_names : (threads : List (List Access)) (x : Execution) (k : ℕ) (e : WriteAt) → slice_get (line_of threads x) k ≡ Some e → (a : Access) × (at_name threads e ≡ Some a)
-line_names threads x k e h = named threads e (sorted_was_in (comes threads x) (length (all_names threads)) (all_names threads) e (got_in e (line_of threads x) k h))
+line_names : (threads : List (List Access)) (x : Execution) (k : ℕ) (e : WriteAt) → slice_get (line_of threads x) k ≡ Some e
+    → (a : Access) × (at_name threads e ≡ Some a)
+line_names threads x k e h = named threads e
+    (sorted_was_in (comes threads x) (length (all_names threads)) (all_names threads) e (got_in e (line_of threads x) k h))
 
 -- it is an interleaving
 pub line_interleaves : (threads : List (List Access)) (x : Execution) → Held threads x → IsSequential threads x → IsInterleaving threads (line_of threads x)
 line_interleaves threads x held s = record {
   names = λ k e h. line_names threads x k e h;
-  each = λ e a h. in_got e (line_of threads x) (sorted_in (comes threads x) (Leads threads x) (length (all_names threads)) (all_names threads) e (acyclic threads x held s) (omega arith) (listed threads e a h));
-  once = λ j k e a b. stands_once (comes threads x) (line_of threads x) j k e (is_sorted (comes threads x) (length (all_names threads)) (all_names threads)) a b;
+  each = λ e a h. in_got e (line_of threads x)
+      (sorted_in (comes threads x) (Leads threads x) (length (all_names threads)) (all_names threads) e (acyclic threads x held s) (omega arith)
+      (listed threads e a h));
+  once = λ j k e a b. stands_once (comes threads x) (line_of threads x) j k e
+      (is_sorted (comes threads x) (length (all_names threads)) (all_names threads)) a b;
   in_order = λ j k e f a b t l.
       let c = line_names threads x j e a in
       let d = line_names threads x k f b in
@@ -47,12 +54,15 @@ line_interleaves threads x held s = record {
 }
 
 -- of two accesses of a place the one of lesser coherence place comes first
-write_stands : (threads : List (List Access)) (x : Execution) (place i j k : ℕ) (w v : WriteAt) → Held threads x → IsSequential threads x → slice_get (order_at x place) i ≡ Some w → slice_get (order_at x place) (i + 1) ≡ Some v → slice_get (line_of threads x) j ≡ Some w → slice_get (line_of threads x) k ≡ Some v → j < k
+write_stands : (threads : List (List Access)) (x : Execution) (place i j k : ℕ) (w v : WriteAt) → Held threads x → IsSequential threads x
+    → slice_get (order_at x place) i ≡ Some w → slice_get (order_at x place) (i + 1) ≡ Some v → slice_get (line_of threads x) j ≡ Some w
+    → slice_get (line_of threads x) k ≡ Some v → j < k
 write_stands threads x place i j k w v held s a b p q =
     let c = held.writes place i w a in
     let d = held.writes place (i + 1) v b in
     line_keeps threads x j k w v held s p q
-    (lesser_comes threads x w v (write place c.0) (write place d.0) c.1 d.1 refl (omega (arith, place_in threads x place i w held a, place_in threads x place (i + 1) v held b)))
+    (lesser_comes threads x w v (write place c.0) (write place d.0) c.1 d.1 refl
+    (omega (arith, place_in threads x place i w held a, place_in threads x place (i + 1) v held b)))
 
 -- a list is what its elements are
 as_listed : (order : List WriteAt) → order ≡ filter_map (slice_get order) (upto (length order))
@@ -64,7 +74,8 @@ as_listed order =
     some k l = let g = got_below order k l in (g.element, g.got)
 
 -- the writes of a place come in its order
-pub line_order : (threads : List (List Access)) (x : Execution) (place : ℕ) → Held threads x → IsSequential threads x → order_at x place ≡ writes_in threads place (line_of threads x)
+pub line_order : (threads : List (List Access)) (x : Execution) (place : ℕ) → Held threads x → IsSequential threads x
+    → order_at x place ≡ writes_in threads place (line_of threads x)
 line_order threads x place held s =
     as_listed order ∙ sym (order_by_steps (writes_in threads place line) (slice_get order) (length order) holds steps)
   where
@@ -84,7 +95,8 @@ line_order threads x place held s =
         let e : a.index ≡ b.index = h.once a.index b.index w a.got b.got in
         sym a.rank ∙ ap (λ n. count_by (to_place threads place) (take n line)) e ∙ b.rank
 
-    spot : (k : ℕ) (w : WriteAt) → slice_get order k ≡ Some w → (n : ℕ) × (slice_get line n ≡ Some w) × (slice_get (writes_in threads place line) (count_by (to_place threads place) (take n line)) ≡ Some w)
+    spot : (k : ℕ) (w : WriteAt) → slice_get order k ≡ Some w
+        → (n : ℕ) × (slice_get line n ≡ Some w) × (slice_get (writes_in threads place line) (count_by (to_place threads place) (take n line)) ≡ Some w)
     spot k w e =
         let a = held.writes place k w e in
         let n = h.each w (write place a.0) a.1 in
@@ -101,7 +113,8 @@ line_order threads x place held s =
       once = once;
     }
 
-    steps : (k : ℕ) → k + 1 < length order → order_place (writes_in threads place line) (slice_get order k) < order_place (writes_in threads place line) (slice_get order (k + 1))
+    steps : (k : ℕ) → k + 1 < length order
+        → order_place (writes_in threads place line) (slice_get order k) < order_place (writes_in threads place line) (slice_get order (k + 1))
     steps k l =
         let a = got_below order k (omega (arith, l)) in
         let b = got_below order (k + 1) l in
@@ -109,8 +122,10 @@ line_order threads x place held s =
         let n = spot (k + 1) b.element b.got in
         let c = write_stands threads x place k m.0 n.0 a.element b.element held s a.got b.got m.1 n.1 in
         let w = held.writes place k a.element a.got in
-        let p = order_place_at (writes_in threads place line) (count_by (to_place threads place) (take m.0 line)) a.element m.2 (λ i e. once i (count_by (to_place threads place) (take m.0 line)) a.element e m.2) in
-        let q = order_place_at (writes_in threads place line) (count_by (to_place threads place) (take n.0 line)) b.element n.2 (λ i e. once i (count_by (to_place threads place) (take n.0 line)) b.element e n.2) in
+        let p = order_place_at (writes_in threads place line) (count_by (to_place threads place) (take m.0 line)) a.element m.2
+        (λ i e. once i (count_by (to_place threads place) (take m.0 line)) a.element e m.2) in
+        let q = order_place_at (writes_in threads place line) (count_by (to_place threads place) (take n.0 line)) b.element n.2
+        (λ i e. once i (count_by (to_place threads place) (take n.0 line)) b.element e n.2) in
         omega (
           arith,
           ap (order_place (writes_in threads place line)) a.got,
@@ -126,10 +141,12 @@ count_within : (p : WriteAt → Bool) (line : List WriteAt) (k : ℕ) → count_
 count_within p [] zero = omega arith
 count_within p [] (suc k) = omega arith
 count_within p (e ∷ line) zero = omega arith
-count_within p (e ∷ line) (suc k) = omega (arith, sum_by-cons (λ x. cond (p x) 1 0) e (take k line), sum_by-cons (λ x. cond (p x) 1 0) e line, count_within p line k)
+count_within p (e ∷ line) (suc k) = omega
+    (arith, sum_by-cons (λ x. cond (p x) 1 0) e (take k line), sum_by-cons (λ x. cond (p x) 1 0) e line, count_within p line k)
 
 -- as many writes come before a read as its coherence place says
-count_before : (threads : List (List Access)) (x : Execution) (place value k : ℕ) (r : WriteAt) → Held threads x → IsSequential threads x → slice_get (line_of threads x) k ≡ Some r → at_name threads r ≡ Some (read place value)
+count_before : (threads : List (List Access)) (x : Execution) (place value k : ℕ) (r : WriteAt) → Held threads x → IsSequential threads x
+    → slice_get (line_of threads x) k ≡ Some r → at_name threads r ≡ Some (read place value)
     → count_by (to_place threads place) (take k (line_of threads x)) ≡ order_place (order_at x place) (source_at threads x r)
 count_before threads x place value k r held s g a =
     by_less c v
@@ -170,8 +187,15 @@ count_before threads x place value k r held s g a =
         let n = at c w.element w.got in
         let p = held.writes place c w.element w.got in
         let z = line_keeps threads x n.0 k w.element r held s n.1 g
-        (lesser_comes threads x w.element r (write place p.0) (read place value) p.1 a refl (omega (arith, place_in threads x place c w.element held w.got, l))) in
-        omega (arith, n.2, count_one (to_place threads place) line n.0 w.element n.1 (passes threads place w.element p), count_rises (to_place threads place) line (n.0 + 1) k (omega (arith, z)))
+        (lesser_comes threads x w.element r (write place p.0) (read place value) p.1 a refl
+        (omega (arith, place_in threads x place c w.element held w.got, l))) in
+        omega (
+          arith,
+          n.2,
+          count_one (to_place threads place) line n.0 w.element n.1 (passes threads place w.element p),
+          count_rises
+              (to_place threads place) line (n.0 + 1) k (omega (arith, z)),
+        )
 
     too_many : v < c → ⊥
     too_many l =
@@ -185,7 +209,8 @@ count_before threads x place value k r held s g a =
         omega (arith, n.2, l, count_rises (to_place threads place) line k n.0 (omega (arith, z)))
 
 -- each read reads the last write before it
-pub line_reads : (threads : List (List Access)) (x : Execution) (place value k : ℕ) (r : WriteAt) → Held threads x → IsSequential threads x → slice_get (line_of threads x) k ≡ Some r → at_name threads r ≡ Some (read place value)
+pub line_reads : (threads : List (List Access)) (x : Execution) (place value k : ℕ) (r : WriteAt) → Held threads x → IsSequential threads x
+    → slice_get (line_of threads x) k ≡ Some r → at_name threads r ≡ Some (read place value)
     → source_at threads x r ≡ latest threads place (take k (line_of threads x))
 line_reads threads x place value k r held s g a = by_source (source_at threads x r) refl (held.reads place value r a)
   where
@@ -202,16 +227,19 @@ line_reads threads x place value k r held s g a = by_source (source_at threads x
         (λ w m. let l = latest_at threads line place k w m in absurd (omega (arith, l.rank, counted, ap (order_place (order_at x place)) e)))
     by_source (Some w) e q =
         let i = held.each place w (value, q) in
-        let p : count_by (to_place threads place) (take k line) ≡ i.0 + 1 = counted ∙ ap (order_place (order_at x place)) e ∙ place_in threads x place i.0 w held i.1 in
+        let p : count_by (to_place threads place) (take k line) ≡ i.0 + 1 = counted ∙ ap (order_place (order_at x place)) e
+        ∙ place_in threads x place i.0 w held i.1 in
         by_option (latest threads place (take k line))
         (λ n. absurd (omega (arith, p, none_before threads line place k n)))
         (λ v m. let l = latest_at threads line place k v m in
         let j : count_by (to_place threads place) (take l.index line) ≡ i.0 = omega (arith, l.rank, p) in
-        let b : slice_get (writes_in threads place line) i.0 ≡ Some v = ap (slice_get (writes_in threads place line)) (sym j) ∙ rank_filter (to_place threads place) line l.index v l.got l.passes in
+        let b : slice_get (writes_in threads place line) i.0 ≡ Some v = ap (slice_get (writes_in threads place line)) (sym j) ∙ rank_filter
+        (to_place threads place) line l.index v l.got l.passes in
         sym i.1 ∙ ap (λ l. slice_get l i.0) (line_order threads x place held s) ∙ b ∙ sym m)
 
 -- the execution goes along it
-pub line_along : (threads : List (List Access)) (places : ℕ) (x : Execution) → Held threads x → IsSequential threads x → IsAlong threads places x (line_of threads x)
+pub line_along : (threads : List (List Access)) (places : ℕ) (x : Execution) → Held threads x → IsSequential threads x
+    → IsAlong threads places x (line_of threads x)
 line_along threads places x held s = record {
   reads = λ k place value r g a. line_reads threads x place value k r held s g a;
   orders = λ place b. line_order threads x place held s;
@@ -221,7 +249,8 @@ line_along threads places x held s = record {
 pub line_gives : (threads : List (List Access)) (x : Execution) → Held threads x → IsSequential threads x → GivesValues threads (line_of threads x)
 line_gives threads x held s k place value r g a = by_source (source_at threads x r) refl (held.reads place value r a)
   where
-    by_source : (o : Option WriteAt) → source_at threads x r ≡ o → CanRead threads (read place value) o → value ≡ value_after threads place (take k (line_of threads x))
+    by_source : (o : Option WriteAt) → source_at threads x r ≡ o → CanRead threads (read place value) o
+        → value ≡ value_after threads place (take k (line_of threads x))
     by_source None e q =
         q ∙ ap (λ o. value_of_access (option_and_then (at_name threads) o)) (sym e ∙ line_reads threads x place value k r held s g a)
     by_source (Some w) e q =

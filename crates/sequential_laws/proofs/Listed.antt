@@ -39,14 +39,16 @@ in_either e (f ∷ fs) gs (inr h) = further (in_either e fs gs h)
     further (inl i) = inl (inr i)
     further (inr i) = inr i
 
-in_thread : (thread slot i : ℕ) (accesses : List Access) (a : Access) → slice_get accesses i ≡ Some a → In (name thread (slot + i)) (thread_names thread slot accesses)
+in_thread : (thread slot i : ℕ) (accesses : List Access) (a : Access) → slice_get accesses i ≡ Some a
+    → In (name thread (slot + i)) (thread_names thread slot accesses)
 in_thread thread slot i [] a h = cc h
 in_thread thread slot zero (b ∷ accesses) a h = let s : slot + 0 ≡ slot = omega arith in inl (ap (name thread) s)
 in_thread thread slot (suc i) (b ∷ accesses) a h =
     let s : slot + 1 + i ≡ slot + suc i = omega arith in
     inr (subst (λ n. In (name thread n) (thread_names thread (slot + 1) accesses)) s (in_thread thread (slot + 1) i accesses a h))
 
-in_threads : (n k : ℕ) (threads : List (List Access)) (accesses : List Access) (e : WriteAt) → slice_get threads k ≡ Some accesses → In e (thread_names (n + k) 0 accesses) → In e (names_from n threads)
+in_threads : (n k : ℕ) (threads : List (List Access)) (accesses : List Access) (e : WriteAt) → slice_get threads k ≡ Some accesses
+    → In e (thread_names (n + k) 0 accesses) → In e (names_from n threads)
 in_threads n k [] accesses e h i = cc h
 in_threads n zero (first ∷ threads) accesses e h i =
     let s : n + 0 ≡ n = omega arith in
@@ -54,7 +56,8 @@ in_threads n zero (first ∷ threads) accesses e h i =
     in_first e (thread_names n 0 first) (names_from (n + 1) threads) (subst (In e) (λ j. thread_names (s j) 0 (t j)) i)
 in_threads n (suc k) (first ∷ threads) accesses e h i =
     let s : n + suc k ≡ n + 1 + k = omega arith in
-    in_second e (thread_names n 0 first) (names_from (n + 1) threads) (in_threads (n + 1) k threads accesses e h (subst (In e) (λ j. thread_names (s j) 0 accesses) i))
+    in_second e (thread_names n 0 first) (names_from (n + 1) threads)
+    (in_threads (n + 1) k threads accesses e h (subst (In e) (λ j. thread_names (s j) 0 accesses) i))
 
 -- each access is listed
 pub listed : (threads : List (List Access)) (e : WriteAt) (a : Access) → at_name threads e ≡ Some a → In e (all_names threads)
@@ -92,8 +95,15 @@ of_threads : (n : ℕ) (threads : List (List Access)) (e : WriteAt) → In e (na
 of_threads n [] e h = absurd h
 of_threads n (first ∷ threads) e h = by_part (in_either e (thread_names n 0 first) (names_from (n + 1) threads) h) (of_threads (n + 1) threads e)
   where
-    by_part : In e (thread_names n 0 first) ⊎ In e (names_from (n + 1) threads) → (In e (names_from (n + 1) threads) → OfThreads (n + 1) threads e) → OfThreads n (first ∷ threads) e
-    by_part (inl i) later = let s : n ≡ n + 0 = omega arith in record { index = 0; accesses = first; got = refl; within = subst (λ m. OfThread m 0 first e) s (of_thread n 0 first e i) }
+    by_part : In e (thread_names n 0 first) ⊎ In e (names_from (n + 1) threads) → (In e (names_from (n + 1) threads) → OfThreads (n + 1) threads e)
+        → OfThreads n (first ∷ threads) e
+    by_part (inl i) later = let s : n ≡ n + 0 = omega arith in record {
+      index = 0;
+      accesses = first;
+      got = refl;
+      within = subst (λ m. OfThread m 0 first e) s
+          (of_thread n 0 first e i);
+    }
     by_part (inr i) later =
         let r = later i in
         let s : n + 1 + r.index ≡ n + suc r.index = omega arith in
@@ -104,5 +114,8 @@ pub named : (threads : List (List Access)) (e : WriteAt) → In e (all_names thr
 named threads e h =
     let r = of_threads 0 threads e h in
     let s : 0 + r.index ≡ r.index = omega arith in
-    let t : 0 + r.within.index ≡ r.within.index = omega arith in
-    (r.within.access, ap (at_name threads) (r.within.name_is ∙ (λ j. name (s j) (t j))) ∙ at_name_of threads r.index r.within.index r.accesses r.within.access r.got r.within.got)
+    let t : 0 + r.within.index ≡ r.within.index = omega arith in (
+      r.within.access,
+      ap (at_name threads) (r.within.name_is ∙ (λ j. name (s j) (t j)))
+          ∙ at_name_of threads r.index r.within.index r.accesses r.within.access r.got r.within.got,
+    )

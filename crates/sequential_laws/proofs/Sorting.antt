@@ -109,7 +109,8 @@ some_least comes Reaches f [] h none = none f (inl refl) (λ e i r. alone e i r)
     alone e (inr s) r = s
 some_least comes Reaches f (g ∷ fs) h none =
     some_least comes Reaches g fs h (λ m i least.
-    let unreached : Reaches f m → ⊥ = λ r. none f (inl refl) (λ e j q. by_first e j (λ s. h.never_back f (subst (λ d. Reaches d f) s q)) (λ k. least e k (h.goes_on e f m q r))) in
+    let unreached : Reaches f m → ⊥ = λ r. none f (inl refl)
+    (λ e j q. by_first e j (λ s. h.never_back f (subst (λ d. Reaches d f) s q)) (λ k. least e k (h.goes_on e f m q r))) in
     none m (inr i) (λ e j q. by_first e j (λ s. unreached (subst (λ d. Reaches d m) s q)) (λ k. least e k q)))
   where
     by_first : (e : WriteAt) → (e ≡ f) ⊎ In e (g ∷ fs) → (e ≡ f → ⊥) → (In e (g ∷ fs) → ⊥) → ⊥
@@ -149,12 +150,14 @@ not_from : (b : Bool) → (b ≡ true → ⊥) → not b ≡ true
 not_from true h = absurd (h refl)
 not_from false h = refl
 
-first_of : (comes : WriteAt → WriteAt → Bool) (Reaches : WriteAt → WriteAt → Type 0) (e : WriteAt) (fs : List WriteAt) → IsAcyclic comes Reaches → In e fs → First comes fs
+first_of : (comes : WriteAt → WriteAt → Bool) (Reaches : WriteAt → WriteAt → Type 0) (e : WriteAt) (fs : List WriteAt) → IsAcyclic comes Reaches → In e fs
+    → First comes fs
 first_of comes Reaches e [] h i = absurd i
 first_of comes Reaches e (f ∷ fs) h i =
     by_option (find (is_first comes (f ∷ fs)) (f ∷ fs))
     (λ n. absurd (some_least comes Reaches f fs h (λ m j least.
-    find_none (is_first comes (f ∷ fs)) (f ∷ fs) m n j (all_from (λ e. not (comes e m)) (f ∷ fs) (λ e k. not_from (comes e m) (λ t. least e k (h.reaches e m t)))))))
+    find_none (is_first comes (f ∷ fs)) (f ∷ fs) m n j
+    (all_from (λ e. not (comes e m)) (f ∷ fs) (λ e k. not_from (comes e m) (λ t. least e k (h.reaches e m t)))))))
     (λ m s. let r = find_means (is_first comes (f ∷ fs)) (f ∷ fs) m s in
     record { name = m; found = s; within = r.0; first = λ e j t. not_true (comes e m) (all_means (λ e. not (comes e m)) (f ∷ fs) e r.1 j) t })
 
@@ -163,7 +166,8 @@ abbrev pub IsSorted : (WriteAt → WriteAt → Bool) → List WriteAt → Type 0
 IsSorted comes [] = Unit {0}
 IsSorted comes (m ∷ fs) = ((e : WriteAt) → In e fs → (comes e m ≡ true → ⊥) × (e ≡ m → ⊥)) × IsSorted comes fs
 
-sorted_step : (comes : WriteAt → WriteAt → Bool) (n : ℕ) (fs : List WriteAt) (m : WriteAt) → find (is_first comes fs) fs ≡ Some m → sorted comes (suc n) fs ≡ m ∷ sorted comes n (without m fs)
+sorted_step : (comes : WriteAt → WriteAt → Bool) (n : ℕ) (fs : List WriteAt) (m : WriteAt) → find (is_first comes fs) fs ≡ Some m
+    → sorted comes (suc n) fs ≡ m ∷ sorted comes n (without m fs)
 sorted_step comes n fs m h = ap (begun_with (λ m. sorted comes n (without m fs))) h
 
 -- what is sorted is in the list
@@ -172,7 +176,8 @@ sorted_was_in comes zero fs e h = absurd h
 sorted_was_in comes (suc n) fs e h =
     by_option (find (is_first comes fs) fs)
     (λ z. absurd (subst (In e) (ap (begun_with (λ m. sorted comes n (without m fs))) z) h))
-    (λ m s. by_first m (find_means (is_first comes fs) fs m s).0 (λ i. (was_in (λ e. not (same_write m e)) e fs (sorted_was_in comes n (without m fs) e i)).0) (subst (In e) (sorted_step comes n fs m s) h))
+    (λ m s. by_first m (find_means (is_first comes fs) fs m s).0 (λ i. (was_in (λ e. not (same_write m e)) e fs (sorted_was_in comes n (without m fs) e i)).0)
+    (subst (In e) (sorted_step comes n fs m s) h))
   where
     by_first : (m : WriteAt) → In m fs → (In e (sorted comes n (without m fs)) → In e fs) → (e ≡ m) ⊎ In e (sorted comes n (without m fs)) → In e fs
     by_first m i later (inl s) = subst (λ d. In d fs) (sym s) i
@@ -182,7 +187,8 @@ not_same : (m e : WriteAt) → (e ≡ m → ⊥) → not (same_write m e) ≡ tr
 not_same m e h = not_from (same_write m e) (λ t. h (sym (same_write-true m e t)))
 
 -- what is in the list is sorted, where the number is that of the names or more
-pub sorted_in : (comes : WriteAt → WriteAt → Bool) (Reaches : WriteAt → WriteAt → Type 0) (n : ℕ) (fs : List WriteAt) (e : WriteAt) → IsAcyclic comes Reaches → length fs ≤ n → In e fs → In e (sorted comes n fs)
+pub sorted_in : (comes : WriteAt → WriteAt → Bool) (Reaches : WriteAt → WriteAt → Type 0) (n : ℕ) (fs : List WriteAt) (e : WriteAt) → IsAcyclic comes Reaches
+    → length fs ≤ n → In e fs → In e (sorted comes n fs)
 sorted_in comes Reaches zero fs e h l i = none fs l i
   where
     none : (fs : List WriteAt) → length fs ≤ 0 → In e fs → ⊥
@@ -213,7 +219,8 @@ is_sorted comes (suc n) fs =
     ))
 
 -- so one that has to come before another stands before it
-pub stands_before : (comes : WriteAt → WriteAt → Bool) (Reaches : WriteAt → WriteAt → Type 0) (fs : List WriteAt) (j k : ℕ) (e f : WriteAt) → IsAcyclic comes Reaches → IsSorted comes fs → slice_get fs j ≡ Some e → slice_get fs k ≡ Some f → comes e f ≡ true → j < k
+pub stands_before : (comes : WriteAt → WriteAt → Bool) (Reaches : WriteAt → WriteAt → Type 0) (fs : List WriteAt) (j k : ℕ) (e f : WriteAt)
+    → IsAcyclic comes Reaches → IsSorted comes fs → slice_get fs j ≡ Some e → slice_get fs k ≡ Some f → comes e f ≡ true → j < k
 stands_before comes Reaches [] j k e f h s a b t = cc a
 stands_before comes Reaches (m ∷ fs) zero zero e f h s a b t =
     let p : m ≡ e = cc a in
@@ -226,7 +233,8 @@ stands_before comes Reaches (m ∷ fs) (suc j) zero e f h s a b t =
 stands_before comes Reaches (m ∷ fs) (suc j) (suc k) e f h s a b t = let r = stands_before comes Reaches fs j k e f h s.1 a b t in omega (arith, r)
 
 -- and each stands once
-pub stands_once : (comes : WriteAt → WriteAt → Bool) (fs : List WriteAt) (j k : ℕ) (e : WriteAt) → IsSorted comes fs → slice_get fs j ≡ Some e → slice_get fs k ≡ Some e → j ≡ k
+pub stands_once : (comes : WriteAt → WriteAt → Bool) (fs : List WriteAt) (j k : ℕ) (e : WriteAt) → IsSorted comes fs → slice_get fs j ≡ Some e
+    → slice_get fs k ≡ Some e → j ≡ k
 stands_once comes [] j k e s a b = cc a
 stands_once comes (m ∷ fs) zero zero e s a b = refl
 stands_once comes (m ∷ fs) zero (suc k) e s a b = let p : m ≡ e = cc a in absurd ((s.0 e (got_in e fs k b)).1 (sym p))

@@ -14,5 +14,6 @@ values_in x = map (λ reads. map (λ r. r.0) reads) x.reads
 -- an execution goes along an interleaving: each read reads the last write to its place before it, and the writes of each place
 -- come in its order
 pub record IsAlong (threads : List (List Access)) (places : ℕ) (x : Execution) (line : List WriteAt) : Type 0 where
-  pub reads : (k place value : ℕ) (r : WriteAt) → slice_get line k ≡ Some r → at_name threads r ≡ Some (read place value) → source_at threads x r ≡ latest threads place (take k line)
+  pub reads : (k place value : ℕ) (r : WriteAt) → slice_get line k ≡ Some r → at_name threads r ≡ Some (read place value)
+      → source_at threads x r ≡ latest threads place (take k line)
   pub orders : (place : ℕ) → place < places → order_at x place ≡ writes_in threads place line
