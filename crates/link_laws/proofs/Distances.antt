@@ -57,7 +57,8 @@ pub moves_test : (edge : Edge) → sd_of edge ≡ Diff → is_diff edge ≡ true
 moves_test edge h = rw h refl
 
 -- at one location, what comes later on the way is further from the target of an edge to another location
-pub further : (es : List Edge) (i j k : ℕ) → IsResolved es → i < length es → is_diff (edge_at es i) ≡ true → j < length es → k < length es → location_of es j ≡ location_of es k → way_place es j < way_place es k → distance es i j < distance es i k
+pub further : (es : List Edge) (i j k : ℕ) → IsResolved es → i < length es → is_diff (edge_at es i) ≡ true → j < length es → k < length es
+    → location_of es j ≡ location_of es k → way_place es j < way_place es k → distance es i j < distance es i k
 further es i j k r b t h l same w =
     let on = moves_on es i b t in
     let most = moves_most es (i + 1) (omega (arith, b)) in
@@ -78,13 +79,15 @@ further es i j k r b t h l same w =
     (λ p q. omega (arith, up j i p (omega (arith, b)), up (i + 1) k (omega (arith, q)) (omega (arith, l)), on, same, bj, bk))))
 
 -- so is an event of a greater value
-pub further_by_value : (es : List Edge) (i j k : ℕ) → IsResolved es → i < length es → is_diff (edge_at es i) ≡ true → j < length es → k < length es → location_of es j ≡ location_of es k → value_of es j < value_of es k → distance es i j < distance es i k
+pub further_by_value : (es : List Edge) (i j k : ℕ) → IsResolved es → i < length es → is_diff (edge_at es i) ≡ true → j < length es → k < length es
+    → location_of es j ≡ location_of es k → value_of es j < value_of es k → distance es i j < distance es i k
 further_by_value es i j k r b t h l same v =
     further es i j k r b t h l same
     (by_less (way_place es j) (way_place es k) (λ w. w) (λ g. absurd (omega (arith, values_up es k j (sym same) g, v))))
 
 -- and any other event of the value of a write
-pub further_than_write : (es : List Edge) (i j k : ℕ) → IsResolved es → i < length es → is_diff (edge_at es i) ≡ true → j < length es → k < length es → location_of es j ≡ location_of es k → value_of es j ≡ value_of es k → is_write es j ≡ true → (j ≡ k → ⊥) → distance es i j < distance es i k
+pub further_than_write : (es : List Edge) (i j k : ℕ) → IsResolved es → i < length es → is_diff (edge_at es i) ≡ true → j < length es → k < length es
+    → location_of es j ≡ location_of es k → value_of es j ≡ value_of es k → is_write es j ≡ true → (j ≡ k → ⊥) → distance es i j < distance es i k
 further_than_write es i j k r b t h l same v writes apart =
     further es i j k r b t h l same
     (by_less (way_place es j) (way_place es k)

@@ -33,7 +33,8 @@ use Rattle.link_laws.proofs.Distances.{distance, distance_beside, moves_test, fu
 -- the rank of an access: twice the distance of its event, or one more than that of the write that an observer's read reads
 data Ranked (es : List Edge) (mode : ObsMode) (i : ℕ) (e : WriteAt) (rank : ℕ) : Type 0 where
   Event : (j : ℕ) → j < length es → e ≡ event_name es j → rank ≡ distance es i j + distance es i j → Ranked es mode i e rank
-  Load : (o l s w : ℕ) → slice_get (observed_locations es mode) o ≡ Some l → e.thread ≡ external_count es + o → e.access ≡ s → write_at es l s ≡ Some w → rank ≡ distance es i w + distance es i w + 1 → Ranked es mode i e rank
+  Load : (o l s w : ℕ) → slice_get (observed_locations es mode) o ≡ Some l → e.thread ≡ external_count es + o → e.access ≡ s → write_at es l s ≡ Some w
+      → rank ≡ distance es i w + distance es i w + 1 → Ranked es mode i e rank
 
 -- an access has one rank
 one_rank : (es : List Edge) (mode : ObsMode) (i : ℕ) (e : WriteAt) (m n : ℕ) → Resolves es → Ranked es mode i e m → Ranked es mode i e n → m ≡ n
@@ -85,7 +86,8 @@ record Written (es : List Edge) (number : ℕ → ℕ) (w : WriteAt) (place valu
   place_is : number (location_of es event) ≡ place
   value_is : value_of es event ≡ value
 
-written : (es : List Edge) (mode : ObsMode) (number : ℕ → ℕ) (w : WriteAt) (place value : ℕ) → Resolves es → at_name (cycle_accesses es mode number) w ≡ Some (write place value) → Written es number w place value
+written : (es : List Edge) (mode : ObsMode) (number : ℕ → ℕ) (w : WriteAt) (place value : ℕ) → Resolves es
+    → at_name (cycle_accesses es mode number) w ≡ Some (write place value) → Written es number w place value
 written es mode number w place value r h =
     let e = write_event es mode number w place value r h in
     record {
@@ -102,11 +104,14 @@ observed_below : (es : List Edge) (mode : ObsMode) (o l : ℕ) → slice_get (ob
 observed_below es mode o l h = (unrank_upto (is_observed es mode) (move_count es) o l h).below
 
 -- from a write to a read of its value at its place
-to_read : (es : List Edge) (mode : ObsMode) (number : ℕ → ℕ) (i : ℕ) (w f : WriteAt) (place value : ℕ) → Facts es mode number i → Written es number w place value → at_name (cycle_accesses es mode number) f ≡ Some (read place value) → Goes es mode i w f
+to_read : (es : List Edge) (mode : ObsMode) (number : ℕ → ℕ) (i : ℕ) (w f : WriteAt)
+    (place value : ℕ) → Facts es mode number i → Written es number w place value
+    → at_name (cycle_accesses es mode number) f ≡ Some (read place value) → Goes es mode i w f
 to_read es mode number i w f place value facts a h =
     by_origin es mode number f (read place value) facts.r h
     (λ (e : EventAt es number f (read place value)).
-    let l : location_of es a.event ≡ location_of es e.event = facts.numbering.injective (location_of es a.event) (location_of es e.event) (facts.r.location a.event) (facts.r.location e.event) (a.place_is ∙ sym (ap (λ b. b.place) e.access_is)) in
+    let l : location_of es a.event ≡ location_of es e.event = facts.numbering.injective (location_of es a.event) (location_of es e.event)
+    (facts.r.location a.event) (facts.r.location e.event) (a.place_is ∙ sym (ap (λ b. b.place) e.access_is)) in
     let v : value_of es a.event ≡ value_of es e.event = a.value_is ∙ sym (ap (λ b. b.value) e.access_is) in
     let d = further_than_write es i a.event e.event facts.resolved facts.below facts.moves a.below e.below l v (writes_test es a.event a.writes)
     (λ s. let x : dirs.W ≡ dirs.R = sym a.writes ∙ ap (λ j. source_of (edge_at es j)) s ∙ ap (λ b. b.dir) e.access_is in cc x) in
@@ -118,23 +123,28 @@ to_read es mode number i w f place value facts a h =
       rises = omega (arith, d);
     })
     (λ (e : LoadAt es mode number f (read place value)).
-    let spot : location_of es a.event ≡ e.spot = facts.numbering.injective (location_of es a.event) e.spot (facts.r.location a.event) (observed_below es mode e.observer e.spot e.observes) (a.place_is ∙ sym (ap (λ b. b.place) e.access_is)) in
+    let spot : location_of es a.event ≡ e.spot = facts.numbering.injective (location_of es a.event) e.spot (facts.r.location a.event)
+    (observed_below es mode e.observer e.spot e.observes) (a.place_is ∙ sym (ap (λ b. b.place) e.access_is)) in
     let v : value_of es a.event ≡ f.access + 1 = a.value_is ∙ sym (ap (λ b. b.value) e.access_is) in
     record {
       from = distance es i a.event + distance es i a.event;
       to = distance es i a.event + distance es i a.event + 1;
       first = Event a.event a.below a.name refl;
-      second = Load e.observer e.spot f.access a.event e.observes e.thread refl (facts.r.found e.spot f.access a.event (record { below = a.below; writes = a.writes; location = spot; value = omega (arith, v) })) refl;
+      second = Load e.observer e.spot f.access a.event e.observes e.thread refl
+          (facts.r.found e.spot f.access a.event (record { below = a.below; writes = a.writes; location = spot; value = omega (arith, v) })) refl;
       rises = omega arith;
     })
 
 -- from an access to a write of a greater value at its place
-to_write : (es : List Edge) (mode : ObsMode) (number : ℕ → ℕ) (i : ℕ) (e w : WriteAt) (a : Access) (value : ℕ) → Facts es mode number i → at_name (cycle_accesses es mode number) e ≡ Some a → Written es number w a.place value → a.value < value → Goes es mode i e w
+to_write : (es : List Edge) (mode : ObsMode) (number : ℕ → ℕ) (i : ℕ) (e w : WriteAt) (a : Access) (value : ℕ) → Facts es mode number i
+    → at_name (cycle_accesses es mode number) e ≡ Some a → Written es number w a.place value → a.value < value → Goes es mode i e w
 to_write es mode number i e w a value facts h b less =
     by_origin es mode number e a facts.r h
     (λ (o : EventAt es number e a).
-    let l : location_of es o.event ≡ location_of es b.event = facts.numbering.injective (location_of es o.event) (location_of es b.event) (facts.r.location o.event) (facts.r.location b.event) (ap (λ c. c.place) o.access_is ∙ sym b.place_is) in
-    let d = further_by_value es i o.event b.event facts.resolved facts.below facts.moves o.below b.below l (omega (arith, less, ap (λ c. c.value) o.access_is, b.value_is)) in
+    let l : location_of es o.event ≡ location_of es b.event = facts.numbering.injective (location_of es o.event) (location_of es b.event)
+    (facts.r.location o.event) (facts.r.location b.event) (ap (λ c. c.place) o.access_is ∙ sym b.place_is) in
+    let d = further_by_value es i o.event b.event facts.resolved facts.below facts.moves o.below b.below l
+    (omega (arith, less, ap (λ c. c.value) o.access_is, b.value_is)) in
     record {
       from = distance es i o.event + distance es i o.event;
       to = distance es i b.event + distance es i b.event;
@@ -145,8 +155,10 @@ to_write es mode number i e w a value facts h b less =
     (λ (o : LoadAt es mode number e a).
     let n = facts.r.written o.spot e.access o.below in
     let q = facts.r.writes o.spot e.access n.0 n.1 in
-    let l : location_of es n.0 ≡ location_of es b.event = q.location ∙ facts.numbering.injective o.spot (location_of es b.event) (observed_below es mode o.observer o.spot o.observes) (facts.r.location b.event) (ap (λ c. c.place) o.access_is ∙ sym b.place_is) in
-    let d = further_by_value es i n.0 b.event facts.resolved facts.below facts.moves q.below b.below l (omega (arith, less, ap (λ c. c.value) o.access_is, b.value_is, q.value)) in
+    let l : location_of es n.0 ≡ location_of es b.event = q.location ∙ facts.numbering.injective o.spot (location_of es b.event)
+    (observed_below es mode o.observer o.spot o.observes) (facts.r.location b.event) (ap (λ c. c.place) o.access_is ∙ sym b.place_is) in
+    let d = further_by_value es i n.0 b.event facts.resolved facts.below facts.moves q.below b.below l
+    (omega (arith, less, ap (λ c. c.value) o.access_is, b.value_is, q.value)) in
     record {
       from = distance es i n.0 + distance es i n.0 + 1;
       to = distance es i b.event + distance es i b.event;
@@ -155,25 +167,30 @@ to_write es mode number i e w a value facts h b less =
       rises = omega (arith, d);
     })
 
-rf_goes : (es : List Edge) (mode : ObsMode) (number : ℕ → ℕ) (i : ℕ) (w f : WriteAt) → Facts es mode number i → ReadsFrom (cycle_accesses es mode number) (intended es mode number) w f → Goes es mode i w f
+rf_goes : (es : List Edge) (mode : ObsMode) (number : ℕ → ℕ) (i : ℕ) (w f : WriteAt) → Facts es mode number i
+    → ReadsFrom (cycle_accesses es mode number) (intended es mode number) w f → Goes es mode i w f
 rf_goes es mode number i w f facts h =
     let c : at_name (cycle_accesses es mode number) w ≡ Some (write h.place h.reads.0) =
     subst (λ o. CanRead (cycle_accesses es mode number) (read h.place h.reads.0) o) h.source (facts.held.reads h.place h.reads.0 f h.reads.1) in
     to_read es mode number i w f h.place h.reads.0 facts (written es mode number w h.place h.reads.0 facts.r c) h.reads.1
 
 -- the value of a write is its coherence place
-value_place : (es : List Edge) (mode : ObsMode) (number : ℕ → ℕ) (i place k : ℕ) (w : WriteAt) (h : IsWriteTo (cycle_accesses es mode number) place w) → Facts es mode number i → slice_get (order_at (intended es mode number) place) k ≡ Some w → h.0 ≡ k + 1
+value_place : (es : List Edge) (mode : ObsMode) (number : ℕ → ℕ) (i place k : ℕ) (w : WriteAt) (h : IsWriteTo (cycle_accesses es mode number) place w)
+    → Facts es mode number i → slice_get (order_at (intended es mode number) place) k ≡ Some w → h.0 ≡ k + 1
 value_place es mode number i place k w h facts g =
-    sym (place_is_value es mode number w (write place h.0) facts.r facts.numbering h.1) ∙ place_in (cycle_accesses es mode number) (intended es mode number) place k w facts.held g
+    sym (place_is_value es mode number w (write place h.0) facts.r facts.numbering h.1) ∙ place_in (cycle_accesses es mode number)
+    (intended es mode number) place k w facts.held g
 
-co_goes : (es : List Edge) (mode : ObsMode) (number : ℕ → ℕ) (i place : ℕ) (w v : WriteAt) → Facts es mode number i → CoherenceOrder (intended es mode number) place w v → Goes es mode i w v
+co_goes : (es : List Edge) (mode : ObsMode) (number : ℕ → ℕ) (i place : ℕ) (w v : WriteAt) → Facts es mode number i
+    → CoherenceOrder (intended es mode number) place w v → Goes es mode i w v
 co_goes es mode number i place w v facts h =
     let a = facts.held.writes place h.earlier w h.first in
     let b = facts.held.writes place h.later v h.second in
     to_write es mode number i w v (write place a.0) b.0 facts a.1 (written es mode number v place b.0 facts.r b.1)
     (omega (arith, value_place es mode number i place h.earlier w a facts h.first, value_place es mode number i place h.later v b facts h.second, h.before))
 
-fr_goes : (es : List Edge) (mode : ObsMode) (number : ℕ → ℕ) (i : ℕ) (f w : WriteAt) → Facts es mode number i → FromRead (cycle_accesses es mode number) (intended es mode number) f w → Goes es mode i f w
+fr_goes : (es : List Edge) (mode : ObsMode) (number : ℕ → ℕ) (i : ℕ) (f w : WriteAt) → Facts es mode number i
+    → FromRead (cycle_accesses es mode number) (intended es mode number) f w → Goes es mode i f w
 fr_goes es mode number i f w facts h = by_source (source_at (cycle_accesses es mode number) (intended es mode number) f) refl h.before
   where
     value : h.reads.0 ≡ order_place (order_at (intended es mode number) h.place) (source_at (cycle_accesses es mode number) (intended es mode number) f)
@@ -182,14 +199,16 @@ fr_goes es mode number i f w facts h = by_source (source_at (cycle_accesses es m
     goes : (b : IsWriteTo (cycle_accesses es mode number) h.place w) → h.reads.0 < b.0 → Goes es mode i f w
     goes b less = to_write es mode number i f w (read h.place h.reads.0) b.0 facts h.reads.1 (written es mode number w h.place b.0 facts.r b.1) less
 
-    by_source : (o : Option WriteAt) → source_at (cycle_accesses es mode number) (intended es mode number) f ≡ o → IsBefore (cycle_accesses es mode number) (intended es mode number) h.place o w → Goes es mode i f w
+    by_source : (o : Option WriteAt) → source_at (cycle_accesses es mode number) (intended es mode number) f ≡ o
+        → IsBefore (cycle_accesses es mode number) (intended es mode number) h.place o w → Goes es mode i f w
     by_source None e b =
         let k = facts.held.each h.place w b in
         let z : h.reads.0 ≡ 0 = value ∙ ap (order_place (order_at (intended es mode number) h.place)) e in
         goes b (omega (arith, z, value_place es mode number i h.place k.0 w b facts k.1))
     by_source (Some v) e b =
         let c = facts.held.writes h.place b.later w b.second in
-        let z : h.reads.0 ≡ b.earlier + 1 = value ∙ ap (order_place (order_at (intended es mode number) h.place)) e ∙ place_in (cycle_accesses es mode number) (intended es mode number) h.place b.earlier v facts.held b.first in
+        let z : h.reads.0 ≡ b.earlier + 1 = value ∙ ap (order_place (order_at (intended es mode number) h.place)) e ∙ place_in (cycle_accesses es mode number)
+        (intended es mode number) h.place b.earlier v facts.held b.first in
         goes c (omega (arith, z, value_place es mode number i h.place b.later w c facts b.second, b.before))
 
 -- threads are counted along the events
@@ -197,7 +216,8 @@ threads_up : (es : List Edge) (j k : ℕ) → j ≤ k → k ≤ length es → th
 unfolding thread_of
 threads_up es j k h l = counted_up is_external es j k h l
 
-po_goes : (es : List Edge) (mode : ObsMode) (number : ℕ → ℕ) (i : ℕ) (e f : WriteAt) → Facts es mode number i → PrecedesBut (cycle_accesses es mode number) (event_name es i) e f → Goes es mode i e f
+po_goes : (es : List Edge) (mode : ObsMode) (number : ℕ → ℕ) (i : ℕ) (e f : WriteAt) → Facts es mode number i
+    → PrecedesBut (cycle_accesses es mode number) (event_name es i) e f → Goes es mode i e f
 po_goes es mode number i e f facts h =
     by_origin es mode number e h.order.first.0 facts.r h.order.first.1
     (λ (a : EventAt es number e h.order.first.0).
@@ -223,9 +243,12 @@ po_goes es mode number i e f facts h =
           rises = omega (arith, d);
         }
       where
-        across : (a : EventAt es number e h.order.first.0) (b : EventAt es number f h.order.second.0) → thread_of es a.event ≡ thread_of es b.event → a.event ≤ i → i < b.event → ⊥
+        across : (a : EventAt es number e h.order.first.0)
+            (b : EventAt es number f h.order.second.0) → thread_of es a.event ≡ thread_of es b.event → a.event ≤ i
+            → i < b.event → ⊥
         across a b t p q =
-            let s : thread_of es a.event ≡ thread_of es i = omega (arith, t, threads_up es a.event i p (omega (arith, facts.below)), threads_up es i b.event (omega (arith, q)) (omega (arith, b.below))) in
+            let s : thread_of es a.event ≡ thread_of es i = omega
+            (arith, t, threads_up es a.event i p (omega (arith, facts.below)), threads_up es i b.event (omega (arith, q)) (omega (arith, b.below))) in
             let u : slot_of es a.event ≤ slot_of es i =
             by_same a.event i
             (λ z. omega (arith, ap (slot_of es) z))
@@ -242,7 +265,8 @@ po_goes es mode number i e f facts h =
         let n = facts.r.written b.spot f.access b.below in
         let p = facts.r.writes a.spot e.access m.0 m.1 in
         let q = facts.r.writes b.spot f.access n.0 n.1 in
-        let d = further_by_value es i m.0 n.0 facts.resolved facts.below facts.moves p.below q.below (p.location ∙ z ∙ sym q.location) (omega (arith, p.value, q.value, h.order.earlier)) in
+        let d = further_by_value es i m.0 n.0 facts.resolved facts.below facts.moves p.below q.below (p.location ∙ z ∙ sym q.location)
+        (omega (arith, p.value, q.value, h.order.earlier)) in
         record {
           from = distance es i m.0 + distance es i m.0 + 1;
           to = distance es i n.0 + distance es i n.0 + 1;
@@ -251,21 +275,32 @@ po_goes es mode number i e f facts h =
           rises = omega (arith, d);
         }
 
-step_goes : (es : List Edge) (mode : ObsMode) (number : ℕ → ℕ) (i : ℕ) (e f : WriteAt) → Facts es mode number i → StepBy (PrecedesBut (cycle_accesses es mode number) (event_name es i)) (cycle_accesses es mode number) (intended es mode number) e f → Goes es mode i e f
+step_goes : (es : List Edge) (mode : ObsMode) (number : ℕ → ℕ) (i : ℕ) (e f : WriteAt) → Facts es mode number i
+    → StepBy (PrecedesBut (cycle_accesses es mode number) (event_name es i)) (cycle_accesses es mode number) (intended es mode number) e f → Goes es mode i e f
 step_goes es mode number i e f facts (ByPo h) = po_goes es mode number i e f facts h
 step_goes es mode number i e f facts (ByRf h) = rf_goes es mode number i e f facts h
 step_goes es mode number i e f facts (ByCo place h) = co_goes es mode number i place e f facts h
 step_goes es mode number i e f facts (ByFr h) = fr_goes es mode number i e f facts h
 
-path_goes : (es : List Edge) (mode : ObsMode) (number : ℕ → ℕ) (i : ℕ) (e : WriteAt) (between : List WriteAt) (f : WriteAt) → Facts es mode number i → IsPathBy (PrecedesBut (cycle_accesses es mode number) (event_name es i)) (cycle_accesses es mode number) (intended es mode number) e between f → Goes es mode i e f
+path_goes : (es : List Edge) (mode : ObsMode) (number : ℕ → ℕ) (i : ℕ) (e : WriteAt) (between : List WriteAt) (f : WriteAt) → Facts es mode number i
+    → IsPathBy (PrecedesBut (cycle_accesses es mode number) (event_name es i)) (cycle_accesses es mode number) (intended es mode number) e between f
+    → Goes es mode i e f
 path_goes es mode number i e [] f facts h = step_goes es mode number i e f facts h
 path_goes es mode number i e (g ∷ between) f facts h =
     let a = step_goes es mode number i e g facts h.0 in
     let b = path_goes es mode number i g between f facts h.1 in
-    record { from = a.from; to = b.to; first = a.first; second = b.second; rises = omega (arith, a.rises, b.rises, one_rank es mode i g a.to b.from facts.r a.second b.first) }
+    record {
+      from = a.from;
+      to = b.to;
+      first = a.first;
+      second = b.second;
+      rises = omega
+          (arith, a.rises, b.rises, one_rank es mode i g a.to b.from facts.r a.second b.first);
+    }
 
 -- the writes of a cycle's test are to its places
-writes_within : (es : List Edge) (mode : ObsMode) (number : ℕ → ℕ) → Resolves es → IsNumbering es number → WritesWithin (cycle_accesses es mode number) (move_count es)
+writes_within : (es : List Edge) (mode : ObsMode) (number : ℕ → ℕ) → Resolves es → IsNumbering es number
+    → WritesWithin (cycle_accesses es mode number) (move_count es)
 writes_within es mode number r n place w h =
     let e = written es mode number w place h.0 r h.1 in
     omega (arith, n.below (location_of es e.event) (r.location e.event), e.place_is)
@@ -280,7 +315,8 @@ each_link_closes es mode number i resolved numbering link e between path =
       numbering = numbering;
       below = link.below;
       moves = moves_test (edge_at es i) link.moves;
-      held = held (cycle_accesses es mode number) (move_count es) (intended es mode number) (intended_is_execution es mode number r numbering) (writes_within es mode number r numbering);
+      held = held (cycle_accesses es mode number) (move_count es) (intended es mode number) (intended_is_execution es mode number r numbering)
+          (writes_within es mode number r numbering);
     } in
     let g = path_goes es mode number i e between e facts path in
     omega (arith, g.rises, one_rank es mode i e g.from g.to r g.first g.second)

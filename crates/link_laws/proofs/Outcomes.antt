@@ -67,7 +67,8 @@ filled-count [] values = refl
 filled-count (a ∷ planned) values = ap suc (filled-count planned (values_left a.dir values))
 
 -- the values read are those of the read accesses
-values_are : (threads : List (List Access)) (accesses : List Access) (reads : List (ℕ × Option WriteAt)) → AreReadsOf threads accesses reads → values_read reads ≡ map (λ access. access.value) accesses
+values_are : (threads : List (List Access)) (accesses : List Access) (reads : List (ℕ × Option WriteAt)) → AreReadsOf threads accesses reads
+    → values_read reads ≡ map (λ access. access.value) accesses
 values_are threads [] [] h = refl
 values_are threads [] (r ∷ reads) h = absurd h
 values_are threads (a ∷ accesses) [] h = absurd h
@@ -90,7 +91,8 @@ record ThreadMade (es : List Edge) (mode : ObsMode) (number : ℕ → ℕ) (p : 
   got_reads : slice_get x.reads k ≡ Some reads
   got : slice_get (accesses_in p x) k ≡ Some (accesses_filled (map (event_access es number) (events_in es k)) (values_read reads))
 
-thread_made : (es : List Edge) (mode : ObsMode) (number : ℕ → ℕ) (p : Program) (x : Execution) (k : ℕ) → Given es mode number p x → k < external_count es → ThreadMade es mode number p x k
+thread_made : (es : List Edge) (mode : ObsMode) (number : ℕ → ℕ) (p : Program) (x : Execution) (k : ℕ) → Given es mode number p x → k < external_count es
+    → ThreadMade es mode number p x k
 thread_made es mode number p x k g h =
     let t = thread_accesses es mode number k h in
     let b = slice_get_within (cycle_accesses es mode number) k (map (event_access es number) (events_in es k)) t in
@@ -98,12 +100,14 @@ thread_made es mode number p x k g h =
     record { reads = r.element; got_reads = r.got; got = g.makes.accesses k (map (event_access es number) (events_in es k)) r.element t r.got }
 
 -- an event of the program is as planned, but for the value that a read reads
-event_made : (es : List Edge) (mode : ObsMode) (number : ℕ → ℕ) (p : Program) (x : Execution) (i : ℕ) → Given es mode number p x → i < length es → Made es number (accesses_in p x) i
+event_made : (es : List Edge) (mode : ObsMode) (number : ℕ → ℕ) (p : Program) (x : Execution) (i : ℕ) → Given es mode number p x → i < length es
+    → Made es number (accesses_in p x) i
 event_made es mode number p x i g h =
     let m = thread_made es mode number p x (thread_of es i) g (g.r.thread i h) in
     let planned = map (event_access es number) (events_in es (thread_of es i)) in
     let q = got_map (event_access es number) (events_in es (thread_of es i)) (slot_of es i) i (g.r.stands i h) in
-    let a = got_below (accesses_filled planned (values_read m.reads)) (slot_of es i) (omega (arith, filled-count planned (values_read m.reads), slice_get_within planned (slot_of es i) (event_access es number i) q)) in
+    let a = got_below (accesses_filled planned (values_read m.reads)) (slot_of es i)
+    (omega (arith, filled-count planned (values_read m.reads), slice_get_within planned (slot_of es i) (event_access es number i) q)) in
     let f = filled_from planned (values_read m.reads) (slot_of es i) a.element a.got in
     let e : Some f.plan ≡ Some (event_access es number i) = sym f.got ∙ q in
     let s : f.plan ≡ event_access es number i = cc e in
@@ -116,14 +120,17 @@ event_made es mode number p x i g h =
     }
 
 -- no thread observes
-no_observer : (es : List Edge) (mode : ObsMode) (number : ℕ → ℕ) (k : ℕ) (planned : List Access) → observed_locations es mode ≡ [] → slice_get (cycle_accesses es mode number) k ≡ Some planned → k < external_count es
+no_observer : (es : List Edge) (mode : ObsMode) (number : ℕ → ℕ) (k : ℕ) (planned : List Access) → observed_locations es mode ≡ []
+    → slice_get (cycle_accesses es mode number) k ≡ Some planned → k < external_count es
 no_observer es mode number k planned none h =
     by_less k (external_count es)
     (λ l. l)
-    (λ l. let e : None ≡ Some planned = ap (λ (locations : List ℕ). slice_get (map (observer_accesses es number) locations) (k - external_count es)) (sym none) ∙ sym (observer_thread es mode number k (k - external_count es) (omega (arith, l))) ∙ h in cc e)
+    (λ l. let e : None ≡ Some planned = ap (λ (locations : List ℕ). slice_get (map (observer_accesses es number) locations) (k - external_count es))
+    (sym none) ∙ sym (observer_thread es mode number k (k - external_count es) (omega (arith, l))) ∙ h in cc e)
 
 -- a write of the program is an event
-write_made : (es : List Edge) (mode : ObsMode) (number : ℕ → ℕ) (p : Program) (x : Execution) (w : WriteAt) (a : Access) → Given es mode number p x → at_name (accesses_in p x) w ≡ Some a → (i : ℕ) × (i < length es) × (w ≡ event_name es i)
+write_made : (es : List Edge) (mode : ObsMode) (number : ℕ → ℕ) (p : Program) (x : Execution) (w : WriteAt) (a : Access) → Given es mode number p x
+    → at_name (accesses_in p x) w ≡ Some a → (i : ℕ) × (i < length es) × (w ≡ event_name es i)
 write_made es mode number p x w a g h =
     let t = got_from_list (slice_get (accesses_in p x) w.thread) w.access a h in
     let b = slice_get_within (accesses_in p x) w.thread t.list t.list_is in
@@ -150,11 +157,14 @@ standing es mode number p x g = record {
   joins = λ i a b h at bt.
       let e = g.all.events.events i h in
       let f = g.all.events.events (event_after es i) (after_below es i h) in
-      let m : Some e.0.visit.access ≡ Some a = sym (access_of_visit (visits_in p x) e.0.name e.0.visit e.1.visit_is) ∙ ap (at_name (accesses_in p x)) e.1.name_is ∙ at in
-      let n : Some f.0.visit.access ≡ Some b = sym (access_of_visit (visits_in p x) f.0.name f.0.visit f.1.visit_is) ∙ ap (at_name (accesses_in p x)) f.1.name_is ∙ bt in
+      let m : Some e.0.visit.access ≡ Some a = sym (access_of_visit (visits_in p x) e.0.name e.0.visit e.1.visit_is) ∙ ap
+      (at_name (accesses_in p x)) e.1.name_is ∙ at in
+      let n : Some f.0.visit.access ≡ Some b = sym (access_of_visit (visits_in p x) f.0.name f.0.visit f.1.visit_is) ∙ ap
+      (at_name (accesses_in p x)) f.1.name_is ∙ bt in
       let s : e.0.visit.access ≡ a = cc m in
       let t : f.0.visit.access ≡ b = cc n in
-      subst (λ (z : WriteAt × Access × WriteAt × Access). Joins (accesses_in p x) x (edge_at es i) (record { name = z.0; access = z.1 }) (record { name = z.2; access = z.3 }))
+      subst (λ (z : WriteAt × Access × WriteAt × Access). Joins (accesses_in p x) x (edge_at es i) (record { name = z.0; access = z.1 })
+      (record { name = z.2; access = z.3 }))
       (λ j. (e.1.name_is j, s j, f.1.name_is j, t j)) (g.all.stand i e.0 f.0 h e.1 f.1).joins;
 }
 
@@ -163,7 +173,8 @@ same_access : (a b : Access) → a.dir ≡ b.dir → a.place ≡ b.place → a.v
 same_access a b d p v = λ t. record { dir = d t; place = p t; value = v t }
 
 -- each thread makes the accesses that were planned
-as_planned : (es : List Edge) (mode : ObsMode) (number : ℕ → ℕ) (p : Program) (x : Execution) (k : ℕ) (g : Given es mode number p x) → (h : k < external_count es) → slice_get (accesses_in p x) k ≡ Some (map (event_access es number) (events_in es k))
+as_planned : (es : List Edge) (mode : ObsMode) (number : ℕ → ℕ) (p : Program) (x : Execution) (k : ℕ) (g : Given es mode number p x)
+    → (h : k < external_count es) → slice_get (accesses_in p x) k ≡ Some (map (event_access es number) (events_in es k))
 as_planned es mode number p x k g h = m.got ∙ ap Some (same_by_gets (accesses_filled planned (values_read m.reads)) planned each)
   where
     m : ThreadMade es mode number p x k
@@ -190,14 +201,16 @@ as_planned es mode number p x k g h = m.got ∙ ap Some (same_by_gets (accesses_
     each : (j : ℕ) → slice_get (accesses_filled planned (values_read m.reads)) j ≡ slice_get planned j
     each j =
         by_less j (length planned) (λ l. there j l)
-        (λ l. slice_get_past (accesses_filled planned (values_read m.reads)) j (omega (arith, l, filled-count planned (values_read m.reads))) ∙ sym (slice_get_past planned j l))
+        (λ l. slice_get_past (accesses_filled planned (values_read m.reads)) j (omega (arith, l, filled-count planned (values_read m.reads))) ∙ sym
+        (slice_get_past planned j l))
 
 reads_asked : (es : List Edge) (mode : ObsMode) (number : ℕ → ℕ) (p : Program) (x : Execution) → Given es mode number p x → ReadsAsAsked es mode number x
 reads_asked es mode number p x g k planned reads h q =
     let l = no_observer es mode number k planned g.unobserved h in
     let s : Some (map (event_access es number) (events_in es k)) ≡ Some planned = sym (thread_accesses es mode number k l) ∙ h in
     let e : map (event_access es number) (events_in es k) ≡ planned = cc s in
-    values_are (accesses_in p x) (filter is_read planned) reads (g.candidate.execution.reads k planned reads (as_planned es mode number p x k g l ∙ ap Some e) q)
+    values_are (accesses_in p x) (filter is_read planned) reads
+    (g.candidate.execution.reads k planned reads (as_planned es mode number p x k g l ∙ ap Some e) q)
 
 ends_asked : (es : List Edge) (mode : ObsMode) (number : ℕ → ℕ) (p : Program) (x : Execution) → Given es mode number p x → EndsAsAsked es mode number p x
 ends_asked es mode number p x g l b u two = by_count (write_count es l) refl two
@@ -207,7 +220,8 @@ ends_asked es mode number p x g l b u two = by_count (write_count es l) refl two
     by_count (suc k) e h =
         let s = standing es mode number p x g in
         let a = nth_write es l k g.r (omega (arith, e)) in
-        let w : last_write (order_at x (number l)) ≡ Some (event_name es a.event) = ap last_write (order_is es number (accesses_in p x) x l s b) ∙ last_of_order es l k g.r e ∙ a.name_is in
+        let w : last_write (order_at x (number l)) ≡ Some (event_name es a.event) = ap last_write (order_is es number (accesses_in p x) x l s b)
+        ∙ last_of_order es l k g.r e ∙ a.name_is in
         ap (λ o. value_of_access (option_and_then (at_name (accesses_in p x)) o)) w
         ∙ ap value_of_access (event_writes es number (accesses_in p x) x a.event s a.is_write.below a.is_write.writes)
         ∙ a.is_write.value ∙ sym e

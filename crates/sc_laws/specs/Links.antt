@@ -45,6 +45,7 @@ EachLinkMayBreak a arch w =
 -- doesn't meet it, didn't have the cycle
 abbrev pub ConditionDecides : Puts → ArchName → Writing → Type 0
 ConditionDecides a arch w =
-    (name : List ℕ) (es : List Edge) (mode : ObsMode) (test : TestRead) (x : Execution) → IsPrintedTest a arch w name es mode test → observed_locations es mode ≡ [] →
+    (name : List ℕ) (es : List Edge) (mode : ObsMode) (test : TestRead) (x : Execution) →
+    IsPrintedTest a arch w name es mode test → observed_locations es mode ≡ [] →
     IsCandidate (program_read test) x → IsCoherentIn (program_read test) x →
     Meets (final_state (program_read test) test.places (number_in w.registers) x) test.cond ↔ AllStand es (program_read test) x

@@ -1,0 +1,46 @@
+-- The laws of this crate, from its two directions.
+use Rattle.std.proofs.Common.{◌≡◌, ℕ, List, [], ◌∷◌, map, Option, slice_get, refl, sym, ◌∙◌, ap, subst}
+use Rattle.micro_ops.specs.Running.{Outcome}
+use Rattle.program_meaning.specs.declared.WriteAt.{WriteAt}
+use Rattle.program_meaning.specs.Accesses.{visits_of, accesses_of}
+use Rattle.program_meaning.specs.Executions.{Execution}
+use Rattle.program_meaning.specs.Programs.{Program, Thread, made_in, runs_of, run_of, accesses_in}
+use Rattle.program_meaning.specs.Interleavings.{IsInterleaving, GivesValues, runs_on, accesses_on}
+use Rattle.coherence_laws.proofs.Places.{Held, held}
+use Rattle.sequential_laws.specs.Along.{values_in}
+use Rattle.sequential_laws.specs.Laws.{SequentialGoesAlong, AlongIsSequential}
+use Rattle.sequential_laws.proofs.Back.{along_sequential}
+use Rattle.sequential_laws.proofs.Line.{line_of, line_interleaves, line_gives, line_along}
+
+-- the runs of threads in an execution are those on the values that are read
+runs_same : (threads : List Thread) (reads : List (List (ℕ × Option WriteAt)))
+    → runs_on threads (map (λ reads. map (λ r. r.0) reads) reads) ≡ runs_of threads reads
+runs_same [] reads = refl
+runs_same (thread ∷ threads) [] = ap (λ l. run_of thread [] ∷ l) (runs_same threads [])
+runs_same (thread ∷ threads) (first ∷ reads) = ap (λ l. run_of thread first ∷ l) (runs_same threads reads)
+
+-- so are the accesses
+accesses_same : (p : Program) (x : Execution) → accesses_in p x ≡ accesses_on p (values_in x)
+accesses_same p x = ap (λ (l : List Outcome). map accesses_of (map visits_of (map made_in l))) (sym (runs_same p.threads x.reads))
+
+-- each sequentially consistent candidate goes along an interleaving
+pub sequential_goes_along : SequentialGoesAlong
+sequential_goes_along p x candidate within sequential =
+    let facts : Held (accesses_in p x) x = held (accesses_in p x) p.places x candidate.execution within in (
+      line_of (accesses_in p x) x,
+      record {
+        interleaving = record {
+          ended = λ k run g. candidate.ended k run (ap (λ (l : List Outcome). slice_get l k) (sym (runs_same p.threads x.reads)) ∙ g);
+          interleaves = subst (λ threads. IsInterleaving threads (line_of (accesses_in p x) x)) (accesses_same p x)
+              (line_interleaves (accesses_in p x) x facts sequential);
+          gives = subst (λ threads. GivesValues threads (line_of (accesses_in p x) x)) (accesses_same p x) (line_gives (accesses_in p x) x facts sequential);
+        };
+        along = line_along (accesses_in p x) p.places x facts sequential;
+      },
+    )
+
+-- and each that goes along one is sequentially consistent
+pub along_is_sequential : AlongIsSequential
+along_is_sequential p x line candidate h =
+    along_sequential (accesses_in p x) p.places x line
+    (subst (λ threads. IsInterleaving threads line) (sym (accesses_same p x)) h.interleaving.interleaves) h.along candidate.execution.write_lists
