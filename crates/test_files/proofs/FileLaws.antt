@@ -71,7 +71,7 @@ file_opened old mid new name bytes (Err NoMemory) opened o = tt
 
 -- a file that couldn't be opened
 pub file_absent : (old new : ShelfSeen) (name bytes : List ℕ) → NotThere old new name → FileTo old new name bytes (Err Missing)
-file_absent old new name bytes there = record { absent = there.absent; took = took_nothing old new there.counts }
+file_absent old new name bytes there = record { absent = there.absent; no_fault = there.no_fault; took = took_nothing old new there.counts }
 
 pub file_unopened : (old new : ShelfSeen) (name bytes : List ℕ) → Stopped old new → FileTo old new name bytes (Err faults.Failed)
 file_unopened old new name bytes stopped = record { fault = stopped.faulted.fault; took = inl (took_nothing old new stopped.counts) }
