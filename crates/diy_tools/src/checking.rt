@@ -4,12 +4,8 @@ ghost use Rattle.diy_tools.specs.CheckAnswers.{check_status, checked_kind};
 ghost use Rattle.diy_tools.specs.KeptRequests.{CheckEndsFor, ChecksFor};
 ghost use Rattle.diy_tools.specs.Report.{StatusNamesLocation};
 
+use crate::machines::on_machine;
 use crate::status::{Device, Status, TextKind};
-use arch_aarch64::A64;
-use arch_arm::Arm;
-use arch_power::Power;
-use arch_riscv::Riscv;
-use arch_x86::X86;
 use checked_files::{CheckEnd, CheckedKind, check_files};
 use diy_io::{Shelf, Sink, Words};
 use diy_words::Check;
@@ -54,13 +50,7 @@ fn check_on<H: Shelf, O: Sink>(
         test,
         execution,
     } = request;
-    match arch {
-        ArchName::X86 => check_files::<X86, H, O>(alloc, words, test, execution, shelf, out),
-        ArchName::PPC => check_files::<Power, H, O>(alloc, words, test, execution, shelf, out),
-        ArchName::AArch64 => check_files::<A64, H, O>(alloc, words, test, execution, shelf, out),
-        ArchName::RISCV => check_files::<Riscv, H, O>(alloc, words, test, execution, shelf, out),
-        ArchName::ARM => check_files::<Arm, H, O>(alloc, words, test, execution, shelf, out),
-    }
+    on_machine!(arch, check_files[H, O](alloc, words, test, execution, shelf, out))
 }
 
 fn check_end(end: CheckEnd) -> Status

@@ -8,13 +8,9 @@ ghost use Rattle.diy_tools.specs.KeptRequests.{AnswersCrossing, CrossesFor, Cros
 ghost use Rattle.diy_tools.specs.Report.{StatusNamesLocation};
 
 use crate::listing::listing_status;
+use crate::machines::on_machine;
 use crate::status::Status;
-use arch_aarch64::A64;
-use arch_arm::Arm;
-use arch_power::Power;
-use arch_riscv::Riscv;
 use arch_trait::Arch;
-use arch_x86::X86;
 use crossed_cycles::crossed_cycles;
 use diy_io::{NoMemory, Shelf, Sink, Words};
 use diy_words::{Cross, read_places};
@@ -58,13 +54,7 @@ fn cross_places<H: Shelf, O: Sink>(
     ensures location { StatusNamesLocation result }
 {
     let Cross { arch, mode, folder } = request;
-    match arch {
-        ArchName::X86 => cross_on::<X86, H, O>(alloc, mode, folder, places, shelf, out),
-        ArchName::PPC => cross_on::<Power, H, O>(alloc, mode, folder, places, shelf, out),
-        ArchName::AArch64 => cross_on::<A64, H, O>(alloc, mode, folder, places, shelf, out),
-        ArchName::RISCV => cross_on::<Riscv, H, O>(alloc, mode, folder, places, shelf, out),
-        ArchName::ARM => cross_on::<Arm, H, O>(alloc, mode, folder, places, shelf, out),
-    }
+    on_machine!(arch, cross_on[H, O](alloc, mode, folder, places, shelf, out))
 }
 
 /// Writes the tests of the choices from lists, on an architecture.

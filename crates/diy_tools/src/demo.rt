@@ -6,12 +6,8 @@ ghost use Rattle.diy_tools.specs.ArchMachines.{machine_of};
 ghost use Rattle.diy_tools.specs.PrintAnswers.{Prints};
 ghost use Rattle.diy_tools.specs.Report.{StatusNamesLocation};
 
+use crate::machines::on_machine;
 use crate::status::{Device, Status};
-use arch_aarch64::A64;
-use arch_arm::Arm;
-use arch_power::Power;
-use arch_riscv::Riscv;
-use arch_x86::X86;
 use demo_tests::demo as count_tests;
 use diy_io::{Failed, Sink};
 use diy_words::Demo;
@@ -26,13 +22,7 @@ pub(crate) fn demo<O: Sink>(request: &Demo, out: &mut O) -> Status
     ensures location { StatusNamesLocation result }
 {
     families_have_tests();
-    let printed = match request.arch {
-        ArchName::X86 => count_tests::<X86, O>(request.count, out),
-        ArchName::PPC => count_tests::<Power, O>(request.count, out),
-        ArchName::AArch64 => count_tests::<A64, O>(request.count, out),
-        ArchName::RISCV => count_tests::<Riscv, O>(request.count, out),
-        ArchName::ARM => count_tests::<Arm, O>(request.count, out),
-    };
+    let printed = on_machine!(request.arch, count_tests[O](request.count, out));
     match printed {
         Ok(()) => Status::Done,
         Err(Failed) => Status::WriteFault { of: Device::Out },

@@ -11,13 +11,9 @@ ghost use Rattle.diy_tools.specs.KeptRequests.{ClassifiesNamedFiles};
 ghost use Rattle.diy_tools.specs.Report.{StatusNamesLocation};
 ghost use Rattle.diy_tools.specs.Statuses.{classify_status};
 
+use crate::machines::on_machine;
 use crate::naming::lines_status;
 use crate::status::{Device, Status, TextKind};
-use arch_aarch64::A64;
-use arch_arm::Arm;
-use arch_power::Power;
-use arch_riscv::Riscv;
-use arch_x86::X86;
 use classified_files::{FileKind, FilesEnd, classify_files};
 use cycle_lines::{ClassifyError, classify_lines};
 use diy_io::{NoMemory, Shelf, Sink, Source, Words};
@@ -107,13 +103,7 @@ fn classify_on<H: Shelf, O: Sink>(
     ensures idle { (H.seen shelf.new).mode ≡ Idle }
     ensures stay { (H.seen shelf.new).files ≡ (H.seen shelf.old).files }
 {
-    match arch {
-        ArchName::X86 => classify_files::<X86, H, O>(alloc, words, files, shelf, out),
-        ArchName::PPC => classify_files::<Power, H, O>(alloc, words, files, shelf, out),
-        ArchName::AArch64 => classify_files::<A64, H, O>(alloc, words, files, shelf, out),
-        ArchName::RISCV => classify_files::<Riscv, H, O>(alloc, words, files, shelf, out),
-        ArchName::ARM => classify_files::<Arm, H, O>(alloc, words, files, shelf, out),
-    }
+    on_machine!(arch, classify_files[H, O](alloc, words, files, shelf, out))
 }
 
 fn files_end(end: FilesEnd) -> Status

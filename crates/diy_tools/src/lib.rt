@@ -7,6 +7,7 @@ mod demo;
 mod edges;
 mod families;
 mod listing;
+mod machines;
 mod naming;
 mod report;
 mod status;

@@ -10,12 +10,8 @@ ghost use Rattle.diy_tools.specs.ArchMachines.{machine_of};
 ghost use Rattle.diy_tools.specs.Report.{StatusNamesLocation};
 ghost use Rattle.diy_tools.specs.Statuses.{listing_status};
 
+use crate::machines::on_machine;
 use crate::status::{Device, Status};
-use arch_aarch64::A64;
-use arch_arm::Arm;
-use arch_power::Power;
-use arch_riscv::Riscv;
-use arch_x86::X86;
 use diy_io::{Shelf, Sink};
 use diy_words::Diy;
 use listed_tests::{Listing, ListingEnd, MAX_FOLDER, list_tests};
@@ -53,6 +49,7 @@ pub(crate) fn list<H: Shelf, O: Sink>(request: Diy, shelf: &mut H, out: &mut O) 
 }
 
 /// Writes the tests of a listing on an architecture, each in a file.
+#[tactic(auto, using(crate::proofs::Listed::ends_on))]
 #[inline(never)]
 fn list_on<H: Shelf, O: Sink>(
     arch: ArchName,
@@ -65,13 +62,7 @@ fn list_on<H: Shelf, O: Sink>(
     requires folder { ForSome listing.folder (λ folder. length folder.now ≤ MAX_FOLDER) }
     ensures { EndsOn (machine_of arch) listing.entry result (H.seen shelf.old) (H.seen shelf.new) (O.seen out.old) (O.seen out.new) }
 {
-    match arch {
-        ArchName::X86 => list_tests::<X86, H, O>(listing, shelf, out),
-        ArchName::PPC => list_tests::<Power, H, O>(listing, shelf, out),
-        ArchName::AArch64 => list_tests::<A64, H, O>(listing, shelf, out),
-        ArchName::RISCV => list_tests::<Riscv, H, O>(listing, shelf, out),
-        ArchName::ARM => list_tests::<Arm, H, O>(listing, shelf, out),
-    }
+    on_machine!(arch, list_tests[H, O](listing, shelf, out))
 }
 
 pub(crate) fn listing_status(end: ListingEnd) -> Status

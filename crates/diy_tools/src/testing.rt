@@ -8,13 +8,9 @@ ghost use Rattle.diy_tools.specs.ArchMachines.{machine, machine_of};
 ghost use Rattle.diy_tools.specs.Report.{StatusNamesLocation, RefusesLocation};
 
 use crate::edges::cycle_of_edges;
+use crate::machines::on_machine;
 use crate::status::{Device, Refusal, Status};
-use arch_aarch64::A64;
-use arch_arm::Arm;
-use arch_power::Power;
-use arch_riscv::Riscv;
 use arch_trait::{Arch, Places, ThreadCodes};
-use arch_x86::X86;
 use arrayvec::ArrayVec;
 use cycle_names::name_of;
 use diy_io::{Failed, Sink};
@@ -27,17 +23,12 @@ use relax_edges::{ArchName, ObsMode};
 use test_maker::make_into;
 
 /// Prints the test that is asked for.
+#[tactic(auto, using(crate::proofs::Running::answered_on))]
 pub(crate) fn diyone<O: Sink>(request: &DiyOne, out: &mut O) -> Status
     ensures answers { AnswersOne (machine_of request.now.arch) request.now result (O.seen out.old) (O.seen out.new) }
     ensures location { StatusNamesLocation result }
 {
-    match request.arch {
-        ArchName::X86 => diyone_on::<X86, O>(request, out),
-        ArchName::PPC => diyone_on::<Power, O>(request, out),
-        ArchName::AArch64 => diyone_on::<A64, O>(request, out),
-        ArchName::RISCV => diyone_on::<Riscv, O>(request, out),
-        ArchName::ARM => diyone_on::<Arm, O>(request, out),
-    }
+    on_machine!(request.arch, diyone_on[O](request, out))
 }
 
 /// Prints the test that is asked for, on an architecture.

@@ -13,13 +13,9 @@ ghost use Rattle.diy_tools.specs.Report.{StatusNamesLocation};
 ghost use Rattle.diy_tools.specs.WhyAnswers.{why_line};
 
 use crate::edges::cycle_of_edges;
+use crate::machines::on_machine;
 use crate::status::{Device, Refusal, Status};
-use arch_aarch64::A64;
-use arch_arm::Arm;
-use arch_power::Power;
-use arch_riscv::Riscv;
 use arch_trait::Arch;
-use arch_x86::X86;
 use cycle_names::name_of;
 use diy_io::{Failed, NoMemory, Page, Shelf, Sink};
 use diy_words::{TestName, Why};
@@ -32,6 +28,7 @@ use two_runs::{TwoRuns, WhyError, two_runs};
 
 /// Writes the test of a cycle without observers, and two executions of it that no condition on the final
 /// state tells apart.
+#[tactic(auto, using(crate::proofs::Running::runs_on))]
 pub(crate) fn why<H: Shelf, O: Sink>(
     alloc: Global,
     request: &Why,
@@ -43,13 +40,7 @@ pub(crate) fn why<H: Shelf, O: Sink>(
     ensures answers { AnswersShowing (machine_of request.now.arch) request.now result (H.seen shelf.old) (H.seen shelf.new) (O.seen out.old) (O.seen out.new) }
     ensures location { StatusNamesLocation result }
 {
-    match request.arch {
-        ArchName::X86 => why_on::<X86, H, O>(alloc, request, shelf, out),
-        ArchName::PPC => why_on::<Power, H, O>(alloc, request, shelf, out),
-        ArchName::AArch64 => why_on::<A64, H, O>(alloc, request, shelf, out),
-        ArchName::RISCV => why_on::<Riscv, H, O>(alloc, request, shelf, out),
-        ArchName::ARM => why_on::<Arm, H, O>(alloc, request, shelf, out),
-    }
+    on_machine!(request.arch, why_on[H, O](alloc, request, shelf, out))
 }
 
 /// The same on an architecture.

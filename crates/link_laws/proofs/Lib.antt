@@ -1,2 +1,4 @@
 pub mod Distances
 pub mod OneLink
+pub mod Levels
+pub mod Outcomes

@@ -1,7 +1,8 @@
-//! In each candidate execution of a cycle's test, made or printed, coherence per location is SC per location.
+//! What printed tests of cycles mean: coherence per location is SC per location, each link may alone be the culprit, and what it means that the outcome never comes.
 #![tactic(auto)]
 
 ghost use Rattle.sc_laws.specs.Laws.{PrintedAreScPerLocation, TestsAreScPerLocation};
+ghost use Rattle.sc_laws.specs.Links.{ConditionDecides, EachLinkMayBreak};
 
 use arch_trait::Arch;
 
@@ -16,4 +17,17 @@ pub fn tests_are_sc_per_location()
 /// a cycle is coherent per location exactly where it is SC per location.
 pub fn printed_are_sc_per_location<A: Arch>()
     ensures { PrintedAreScPerLocation A.puts A.NAME A.writing }
+{}
+
+/// On every architecture, each internal edge of a cycle to another location may alone be the culprit
+/// where the outcome of its printed test is seen: in the intended execution, program order without the
+/// pairs across this edge, with reads-from, coherence order and from-read, has no cycle.
+pub fn each_link_may_break<A: Arch>()
+    ensures { EachLinkMayBreak A.puts A.NAME A.writing }
+{}
+
+/// On every architecture, a coherent candidate execution of a printed test without observers meets its
+/// condition exactly where all edges of the cycle stand.
+pub fn condition_decides<A: Arch>()
+    ensures { ConditionDecides A.puts A.NAME A.writing }
 {}
