@@ -5,7 +5,7 @@ use Rattle.diy_io.specs.Count.{Rose}
 use Rattle.diy_io.specs.Shelf.{ShelfSeen}
 use Rattle.diy_io.specs.Wrote.{SinkSeen}
 use Rattle.file_laws.specs.Opened.{name_at}
-use Rattle.file_laws.proofs.NameLaws.{absent_before, file_before}
+use Rattle.file_laws.proofs.NameLaws.{absent_before, quiet_before, file_before}
 use Rattle.file_laws.proofs.OpenedLaws.{took_no_more, took_one_more}
 use Rattle.relax_edges.specs.declared.kinds.ArchName.{ArchName}
 use Rattle.arch_trait.specs.Writing.{Writing}
@@ -26,7 +26,7 @@ use Rattle.checked_files.specs.CheckingSteps.{TestFileTo, ExecFileTo, check_end}
 -- the file of the test isn't what is wanted
 pub test_refused : (arch : ArchName) (w : Writing) (old new : ShelfSeen) (words : List (List ℕ)) (test exec : ℕ) (a : SinkSeen) (fault : CheckFault)
     → TestFileTo arch w old new (name_at words test) (Err fault) → FilesChecked arch w old new words test exec a a (check_end test fault)
-test_refused arch w old new words test exec a faults.Missing h = (inl (record { place_is = refl; absent = h.absent; took = h.took }), refl)
+test_refused arch w old new words test exec a faults.Missing h = (inl (record { place_is = refl; absent = h.absent; no_fault = h.no_fault; took = h.took }), refl)
 test_refused arch w old new words test exec a faults.Device h = (record { fault = h.fault; unread = inl h.took }, refl)
 test_refused arch w old new words test exec a (faults.Wrong line (kinds.Test kind)) h = (record { place_is = refl; faulty = h }, refl)
 test_refused arch w old new words test exec a (faults.Wrong line kinds.WrongArch) h = (record { place_is = refl; faulty = h }, refl)
@@ -60,6 +60,7 @@ exec_refused arch w old mid new words test exec a read faults.Missing f same h =
     read = read;
     test_is = test_is arch w old mid (name_at words test) read f;
     absent = absent_before old mid new (name_at words exec) same f.no_fault h.absent;
+    no_fault = quiet_before old mid new same f.no_fault h.no_fault;
     took = took_no_more old mid new (f.text ∷ []) f.took h.took;
   }),
   refl,

@@ -1,6 +1,7 @@
 -- What only private functions cite: what each of the two files gives.
 -- Source: own.
-use Rattle.std.specs.Prelude.{⊤, ℕ, List, Result, Ok, Err}
+use Rattle.std.specs.Prelude.{◌≡◌, ⊤, ℕ, List, Result, Ok, Err, IsErr}
+use Rattle.diy_io.specs.declared.errors.Failed.{Failed}
 use Rattle.diy_io.specs.Shelf.{ShelfSeen}
 use Rattle.relax_edges.specs.declared.kinds.ArchName.{ArchName}
 use Rattle.arch_trait.specs.PlaceNames.{number_in}
@@ -10,7 +11,7 @@ use Rattle.program_meaning.specs.Executions.{Execution}
 use Rattle.exec_check.specs.declared.errors.CheckError.{CheckError}
 use Rattle.exec_check.specs.declared.errors.CheckError.TheVariants as checks
 use Rattle.exec_check.specs.declared.verdict.Verdict.{Verdict}
-use Rattle.exec_check.specs.Verdicts.{IsVerdict}
+use Rattle.exec_check.specs.Verdicts.{IsVerdict, Checks}
 use Rattle.test_files.specs.declared.errors.FileFault.{FileFault}
 use Rattle.test_files.specs.declared.errors.FileFault.TheVariants as reads
 use Rattle.test_files.specs.declared.errors.NoTest.{NoTest}
@@ -56,6 +57,23 @@ check_end word faults.Device = ends.ShelfFault
 check_end word (faults.Wrong line kind) = ends.Wrong word line kind
 check_end word faults.NoMemory = ends.NoMemory
 
+-- the text of a file is a test, and the closing of the file failed
+pub record IsTestUnclosed (arch : ArchName) (w : Writing) (text : List ℕ) (closed : Result (Unit {0}) Failed) : Type 0 where
+  pub test : TestRead
+  pub is : test_said arch w text ≡ Ok test
+  pub failed : IsErr closed
+
+-- an answer to the file of a test with this text, where this is the answer to its closing: that the device failed only where the text
+-- has no fault
+abbrev pub TestClosedTo : ArchName → Writing → List ℕ → Result (Unit {0}) Failed → Result TestRead CheckFault → Type 0
+TestClosedTo arch w text closed (Ok test) = (test_said arch w text ≡ Ok test) × (closed ≡ Ok tt)
+TestClosedTo arch w text closed (Err faults.Missing) = ⊥
+TestClosedTo arch w text closed (Err faults.Device) = IsTestUnclosed arch w text closed
+TestClosedTo arch w text closed (Err (faults.Wrong line (kinds.Test kind))) = test_said arch w text ≡ Err (record { line = line; kind = tests.Test kind })
+TestClosedTo arch w text closed (Err (faults.Wrong line kinds.WrongArch)) = test_said arch w text ≡ Err (record { line = line; kind = tests.WrongArch })
+TestClosedTo arch w text closed (Err (faults.Wrong line (kinds.Exec kind))) = ⊥
+TestClosedTo arch w text closed (Err faults.NoMemory) = ⊤
+
 -- an answer to the file of a test
 abbrev pub TestFileTo : ArchName → Writing → ShelfSeen → ShelfSeen → List ℕ → Result TestRead CheckFault → Type 0
 TestFileTo arch w old new name (Ok test) = FileIs (test_said arch w) old new name test
@@ -71,6 +89,21 @@ pub record FileVerdict (arch : ArchName) (w : Writing) (test : TestRead) (old ne
   pub x : Execution
   pub file : FileIs (exec_said test) old new name x
   pub is : IsVerdict arch (number_in w.registers) test x v
+
+-- there is a verdict on the text of a file, and the closing of the file failed
+pub record IsExecUnclosed (arch : ArchName) (w : Writing) (test : TestRead) (text : List ℕ) (closed : Result (Unit {0}) Failed) : Type 0 where
+  pub verdict : Verdict
+  pub is : Checks arch (number_in w.registers) test text (Ok verdict)
+  pub failed : IsErr closed
+
+-- an answer to the file of an execution with this text, in the same way
+abbrev pub ExecClosedTo : ArchName → Writing → TestRead → List ℕ → Result (Unit {0}) Failed → Result Verdict CheckFault → Type 0
+ExecClosedTo arch w test text closed (Ok v) = Checks arch (number_in w.registers) test text (Ok v) × (closed ≡ Ok tt)
+ExecClosedTo arch w test text closed (Err faults.Missing) = ⊥
+ExecClosedTo arch w test text closed (Err faults.Device) = IsExecUnclosed arch w test text closed
+ExecClosedTo arch w test text closed (Err (faults.Wrong line (kinds.Exec kind))) = Checks arch (number_in w.registers) test text (Err (checks.Exec line kind))
+ExecClosedTo arch w test text closed (Err (faults.Wrong line kind)) = ⊥
+ExecClosedTo arch w test text closed (Err faults.NoMemory) = ⊤
 
 -- an answer to the file of an execution of a test
 abbrev pub ExecFileTo : ArchName → Writing → TestRead → ShelfSeen → ShelfSeen → List ℕ → Result Verdict CheckFault → Type 0

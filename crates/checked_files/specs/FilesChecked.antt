@@ -1,6 +1,6 @@
 -- How a call ended that checks an execution of a test, both in files, and what it did to its devices.
 -- Source: own.
-use Rattle.std.specs.Prelude.{◌≡◌, ◌⊎◌, ◌+◌, ℕ, List, [], ◌∷◌, length, take, Option, Some, None, MatchOption, Result, Ok, Err}
+use Rattle.std.specs.Prelude.{◌≡◌, ◌⊎◌, ◌+◌, ℕ, List, [], ◌∷◌, length, take, Option, Some, None, IfSome, MatchOption, Result, Ok, Err}
 use Rattle.diy_io.specs.Count.{Rose}
 use Rattle.diy_io.specs.Shelf.{Files, ShelfSeen}
 use Rattle.diy_io.specs.Wrote.{SinkSeen, WroteAll, WrotePart}
@@ -91,19 +91,21 @@ IsWrongFile arch w old new words test exec file line (kinds.Test kind) = TestWro
 IsWrongFile arch w old new words test exec file line kinds.WrongArch = TestWrong arch w old new words test file (record { line = line; kind = tests.WrongArch })
 IsWrongFile arch w old new words test exec file line (kinds.Exec kind) = ExecWrong arch w old new words test exec file (record { line = line; kind = kind })
 
--- the word of the test names no file, where the files are shown, and none was opened
+-- the word of the test names no file, where the files are shown, and then no fault came; none was opened
 pub record TestAbsent (old new : ShelfSeen) (words : List (List ℕ)) (test word : ℕ) : Type 0 where
   pub place_is : word ≡ test
   pub absent : MatchOption old.files (Rose old.faults new.faults) (λ there. there (name_at words test) ≡ None)
+  pub no_fault : IfSome old.files (λ there. new.faults ≡ old.faults)
   pub took : TookFiles old new []
 
--- that of the execution names none; the file of the test is a test and was read to its end, and no other was opened
+-- that of the execution names none, in the same way; the file of the test is a test and was read to its end, and no other was opened
 pub record ExecAbsent (arch : ArchName) (w : Writing) (old new : ShelfSeen) (words : List (List ℕ)) (test exec word : ℕ) : Type 0 where
   pub place_is : word ≡ exec
   pub text : List ℕ
   pub read : TestRead
   pub test_is : IsTest arch w old.files (name_at words test) text read
   pub absent : MatchOption old.files (Rose old.faults new.faults) (λ there. there (name_at words exec) ≡ None)
+  pub no_fault : IfSome old.files (λ there. new.faults ≡ old.faults)
   pub took : TookFiles old new (text ∷ [])
 
 -- the word of the test or that of the execution names no file

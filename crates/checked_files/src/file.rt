@@ -1,18 +1,18 @@
 ghost use Rattle.std.specs.Prelude.{◌≡◌, ◌<◌, length};
 ghost use Rattle.diy_io.specs.Shelf.{Idle};
 ghost use Rattle.file_laws.specs.Opened.{name_at};
-ghost use Rattle.checked_files.specs.CheckingSteps.{TestFileTo, ExecFileTo};
+ghost use Rattle.checked_files.specs.CheckingSteps.{TestFileTo, TestClosedTo, ExecFileTo, ExecClosedTo};
 
 use crate::errors::CheckFault;
 use arch_trait::Arch;
-use diy_io::{Shelf, Words};
+use diy_io::{Failed, Shelf, Words};
 use exec_check::{Verdict, check};
 use litmus_text::ReadTest;
 use std::alloc::Global;
 use test_files::{read_named_file, test_of_text};
 
 /// The test in the file that the word at a place names. The file is read into `text`, in pieces as long as
-/// `piece`. A fault of its text is the answer also where the closing fails.
+/// `piece`.
 pub(crate) fn test_in_file<A: Arch, H: Shelf>(
     alloc: Global,
     shelf: &mut H,
@@ -29,7 +29,19 @@ pub(crate) fn test_in_file<A: Arch, H: Shelf>(
     ensures file { TestFileTo A.NAME A.writing (H.seen shelf.old) (H.seen shelf.new) (name_at words.now place) result }
 {
     let closed = read_named_file(shelf, words, place, piece, text)?;
-    let test = test_of_text::<A>(alloc, text.as_slice())?;
+    closed_test::<A>(alloc, text.as_slice(), closed)
+}
+
+/// The test that a file's text is, where this is the answer to the closing of the file. A fault of the text is the
+/// answer also where the closing failed.
+fn closed_test<A: Arch>(
+    alloc: Global,
+    text: &[u8],
+    closed: Result<(), Failed>,
+) -> Result<ReadTest<A>, CheckFault>
+    ensures { TestClosedTo A.NAME A.writing text.now closed result }
+{
+    let test = test_of_text::<A>(alloc, text)?;
     closed?;
     Ok(test)
 }
@@ -52,7 +64,19 @@ pub(crate) fn verdict_in_file<A: Arch, H: Shelf>(
     ensures file { ExecFileTo A.NAME A.writing test.now (H.seen shelf.old) (H.seen shelf.new) (name_at words.now place) result }
 {
     let closed = read_named_file(shelf, words, place, piece, text)?;
-    let verdict = check::<A>(alloc, test, text.as_slice())?;
+    closed_verdict::<A>(alloc, test, text.as_slice(), closed)
+}
+
+/// The verdict on the execution that a file's text says, in the same way.
+fn closed_verdict<A: Arch>(
+    alloc: Global,
+    test: &ReadTest<A>,
+    text: &[u8],
+    closed: Result<(), Failed>,
+) -> Result<Verdict, CheckFault>
+    ensures { ExecClosedTo A.NAME A.writing test.now text.now closed result }
+{
+    let verdict = check::<A>(alloc, test, text)?;
     closed?;
     Ok(verdict)
 }

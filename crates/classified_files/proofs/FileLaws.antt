@@ -1,6 +1,7 @@
 -- What one file gives, by what was read of it.
-use Rattle.std.proofs.Common.{◌≡◌, ℕ, List}
-use Rattle.std.specs.Prelude.{Result, Ok, Err, IsErrAnd}
+use Rattle.std.proofs.Common.{◌≡◌, ℕ, List, refl, sym, subst}
+use Rattle.std.specs.Prelude.{Result, Ok, Err, IsErr, IsErrAnd}
+use Rattle.std.proofs.lemmas.Bool.{false≢true}
 use Rattle.diy_io.specs.Shelf.{ShelfSeen}
 use Rattle.diy_io.specs.declared.errors.Failed.{Failed}
 use Rattle.relax_edges.specs.declared.edge.Edge.{Edge}
@@ -8,34 +9,37 @@ use Rattle.test_files.specs.FilesRead.{FileRead}
 use Rattle.file_laws.proofs.FaultLaws.{is_fault}
 use Rattle.test_files.specs.FirstBytes.{file_is, file_unclosed, file_faulty}
 use Rattle.classified_files.specs.declared.errors.CycleFault.{CycleFault}
-use Rattle.classified_files.specs.declared.errors.CycleFault.TheVariants.{Device, Text}
+use Rattle.classified_files.specs.declared.errors.CycleFault.TheVariants.{Missing, Device, Text}
 use Rattle.classified_files.specs.declared.errors.TextFault.{TextFault}
 use Rattle.classified_files.specs.declared.errors.TextFault.TheVariants.{Wrong, NoMemory}
 use Rattle.classified_files.specs.FilesEnds.{Asked, said_on}
-use Rattle.classified_files.specs.Read.{SaysCycleInMemory, CycleTo}
+use Rattle.classified_files.specs.Read.{SaysCycleInMemory, ClosedTo, CycleTo}
 use Rattle.classified_files.proofs.SaidLaws.{said_by_first}
 
--- a file was read, its text says a cycle, and it was closed
-pub file_said : (asked : Asked) (old new : ShelfSeen) (name text judged : List ℕ) (closed : Result (Unit {0}) Failed) (u : Unit {0}) (cycle : List Edge)
-    → FileRead old new name text closed → closed ≡ Ok u → judged ≡ text → SaysCycleInMemory (Ok cycle) (said_on asked judged) → CycleTo asked old new name (Ok cycle)
-file_said asked old new name text judged closed u cycle r shut same says =
-    file_is (said_on asked) (said_by_first asked) old new name text judged closed u cycle r shut same says
+-- a file was read, and this is the answer to its text and to its closing
+pub file_closed : (asked : Asked) (old new : ShelfSeen) (name text judged : List ℕ) (closed : Result (Unit {0}) Failed) (answer : Result (List Edge) CycleFault)
+    → FileRead old new name text closed → judged ≡ text → ClosedTo asked judged closed answer → CycleTo asked old new name answer
+file_closed asked old new name text judged closed (Ok cycle) r same h =
+    file_is (said_on asked) (said_by_first asked) old new name text judged closed tt cycle r h.1 same h.0
+file_closed asked old new name text judged closed (Err Missing) r same h = absurd h
+file_closed asked old new name text judged (Ok u) (Err Device) r same h = absurd (false≢true h.failed)
+file_closed asked old new name text judged (Err f) (Err Device) r same h =
+    file_unclosed (said_on asked) (said_by_first asked) old new name text judged (Err f) f h.cycle r refl same h.says
+file_closed asked old new name text judged closed (Err (Text (Wrong error))) r same h =
+    file_faulty (said_on asked) (said_by_first asked) old new name text judged closed error r same h
+file_closed asked old new name text judged closed (Err (Text NoMemory)) r same h = tt
 
--- its closing failed
-pub file_unshut : (asked : Asked) (old new : ShelfSeen) (name text judged : List ℕ) (closed : Result (Unit {0}) Failed) (f : Failed) (cycle : List Edge)
-    (answer : Result (List Edge) CycleFault) → FileRead old new name text closed → closed ≡ Err f → judged ≡ text
-    → SaysCycleInMemory (Ok cycle) (said_on asked judged) → IsErrAnd answer (λ e. e ≡ Device) → CycleTo asked old new name answer
-file_unshut asked old new name text judged closed f cycle answer r shut same says fails =
-    is_fault (CycleTo asked old new name) answer Device fails
-    (file_unclosed (said_on asked) (said_by_first asked) old new name text judged closed f cycle r shut same says)
-
--- its text says none, whether or not its closing failed
-pub file_wrong : (asked : Asked) (old new : ShelfSeen) (name text judged : List ℕ) (closed : Result (Unit {0}) Failed) (fault : TextFault)
-    (answer : Result (List Edge) CycleFault) → FileRead old new name text closed → judged ≡ text → SaysCycleInMemory (Err fault) (said_on asked judged)
-    → IsErrAnd answer (λ e. e ≡ Text fault) → CycleTo asked old new name answer
-file_wrong asked old new name text judged closed fault answer r same says fails =
-    is_fault (CycleTo asked old new name) answer (Text fault) fails (of_fault fault says)
+-- a text that says no cycle, whatever the closing gave
+pub text_faulty : (asked : Asked) (text : List ℕ) (closed : Result (Unit {0}) Failed) (fault : TextFault) (answer : Result (List Edge) CycleFault)
+    → SaysCycleInMemory (Err fault) (said_on asked text) → IsErrAnd answer (λ e. e ≡ Text fault) → ClosedTo asked text closed answer
+text_faulty asked text closed fault answer says fails = is_fault (ClosedTo asked text closed) answer (Text fault) fails (of_fault fault says)
   where
-    of_fault : (fault : TextFault) → SaysCycleInMemory (Err fault) (said_on asked judged) → CycleTo asked old new name (Err (Text fault))
-    of_fault (Wrong error) says = file_faulty (said_on asked) (said_by_first asked) old new name text judged closed error r same says
+    of_fault : (fault : TextFault) → SaysCycleInMemory (Err fault) (said_on asked text) → ClosedTo asked text closed (Err (Text fault))
+    of_fault (Wrong error) says = says
     of_fault NoMemory says = tt
+
+-- a text that says a cycle, where the closing failed
+pub text_unclosed : (asked : Asked) (text : List ℕ) (closed : Result (Unit {0}) Failed) (f : Failed) (cycle : List Edge) (answer : Result (List Edge) CycleFault)
+    → SaysCycleInMemory (Ok cycle) (said_on asked text) → closed ≡ Err f → IsErrAnd answer (λ e. e ≡ Device) → ClosedTo asked text closed answer
+text_unclosed asked text closed f cycle answer says failed fails =
+    is_fault (ClosedTo asked text closed) answer Device fails (record { cycle = cycle; says = says; failed = subst (λ (r : Result (Unit {0}) Failed). IsErr r) (sym failed) refl })

@@ -6,7 +6,7 @@ use Rattle.diy_io.specs.Count.{Rose}
 use Rattle.diy_io.specs.Shelf.{Files, ShelfSeen}
 use Rattle.diy_io.specs.Wrote.{SinkSeen}
 use Rattle.file_laws.specs.Opened.{IsFile, TookFiles, name_at}
-use Rattle.file_laws.proofs.NameLaws.{absent_before, file_before}
+use Rattle.file_laws.proofs.NameLaws.{absent_before, quiet_before, file_before}
 use Rattle.file_laws.proofs.OpenedLaws.{took_no_more, took_one_more}
 use Rattle.relax_edges.specs.declared.edge.Edge.{Edge}
 use Rattle.litmus_text.specs.declared.limits.TheConstants.{MAX_TEXT}
@@ -109,6 +109,7 @@ files_refused asked old mid new a words places i place families Missing within i
     texts = s.texts;
     place_is = at_place asked old mid words places i place families within is s;
     absent = absent_before old mid new (name_at words place) files s.no_fault f.absent;
+    no_fault = quiet_before old mid new files s.no_fault f.no_fault;
     took = took_no_more old mid new s.texts s.took f.took;
   },
   refl,

@@ -1,6 +1,6 @@
 -- How a call that classifies files ended, and what it did to its devices.
 -- Source: own.
-use Rattle.std.specs.Prelude.{◌≡◌, ◌⊎◌, ◌+◌, ⊤, ℕ, List, [], ◌∷◌, ◌++◌, take, map, Option, None, MatchOption, Result, Ok, Err}
+use Rattle.std.specs.Prelude.{◌≡◌, ◌⊎◌, ◌+◌, ⊤, ℕ, List, [], ◌∷◌, ◌++◌, take, map, Option, None, IfSome, MatchOption, Result, Ok, Err}
 use Rattle.diy_io.specs.Count.{Rose}
 use Rattle.diy_io.specs.Shelf.{Files, ShelfSeen}
 use Rattle.diy_io.specs.Wrote.{SinkSeen, WroteAll, WrotePart}
@@ -72,11 +72,13 @@ pub record FileWrong (asked : Asked) (old new : ShelfSeen) (words : List (List �
   pub fault : said_on asked text ≡ Err error
   pub took : TookFiles old new (texts ++ take (MAX_TEXT + 1) text ∷ [])
 
--- the word at a place names no file, where the files are shown; those before it have no fault, and no more was opened
+-- the word at a place names no file, where the files are shown, and then no fault came; those before it have no fault, and no more
+-- was opened
 pub record FileMissing (asked : Asked) (old new : ShelfSeen) (words : List (List ℕ)) (places : List ℕ) (place : ℕ) : Type 0 where
   pub texts : List (List ℕ)
   pub place_is : IsAtPlace asked old.files words places place texts
   pub absent : MatchOption old.files (Rose old.faults new.faults) (λ there. there (name_at words place) ≡ None)
+  pub no_fault : IfSome old.files (λ there. new.faults ≡ old.faults)
   pub took : TookFiles old new texts
 
 -- the shelf failed at the file of a place, after files with no fault: it wasn't opened, or so many bytes were taken of it as a test

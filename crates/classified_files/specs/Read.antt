@@ -1,5 +1,6 @@
 -- What only private functions cite: what one file gives.
-use Rattle.std.specs.Prelude.{◌≡◌, ⊤, ℕ, List, Result, Ok, Err}
+use Rattle.std.specs.Prelude.{◌≡◌, ⊤, ℕ, List, Result, Ok, Err, IsErr}
+use Rattle.diy_io.specs.declared.errors.Failed.{Failed}
 use Rattle.diy_io.specs.Shelf.{ShelfSeen}
 use Rattle.relax_edges.specs.declared.edge.Edge.{Edge}
 use Rattle.test_files.specs.declared.errors.FileFault.{FileFault}
@@ -20,6 +21,20 @@ abbrev pub SaysCycleInMemory : Result (List Edge) TextFault → Result (List Edg
 SaysCycleInMemory (Ok cycle) said = said ≡ Ok cycle
 SaysCycleInMemory (Err (Wrong error)) said = said ≡ Err error
 SaysCycleInMemory (Err NoMemory) said = ⊤
+
+-- the text of a file says a cycle, and the closing of the file failed
+pub record IsUnclosed (asked : Asked) (text : List ℕ) (closed : Result (Unit {0}) Failed) : Type 0 where
+  pub cycle : List Edge
+  pub says : said_on asked text ≡ Ok cycle
+  pub failed : IsErr closed
+
+-- an answer to a file with this text, where this is the answer to its closing: that the device failed only where the text has no fault
+abbrev pub ClosedTo : Asked → List ℕ → Result (Unit {0}) Failed → Result (List Edge) CycleFault → Type 0
+ClosedTo asked text closed (Ok cycle) = (said_on asked text ≡ Ok cycle) × (closed ≡ Ok tt)
+ClosedTo asked text closed (Err Missing) = ⊥
+ClosedTo asked text closed (Err Device) = IsUnclosed asked text closed
+ClosedTo asked text closed (Err (Text (Wrong error))) = said_on asked text ≡ Err error
+ClosedTo asked text closed (Err (Text NoMemory)) = ⊤
 
 -- an answer to a file
 abbrev pub CycleTo : Asked → ShelfSeen → ShelfSeen → List ℕ → Result (List Edge) CycleFault → Type 0

@@ -1,18 +1,18 @@
 ghost use Rattle.std.specs.Prelude.{◌≡◌, ◌<◌, length};
 ghost use Rattle.diy_io.specs.Shelf.{Idle};
 ghost use Rattle.file_laws.specs.Opened.{name_at};
-ghost use Rattle.classified_files.specs.Read.{CycleTo};
+ghost use Rattle.classified_files.specs.Read.{CycleTo, ClosedTo};
 
 use crate::errors::CycleFault;
 use crate::said::cycle_of_text;
 use arch_trait::Arch;
-use diy_io::{Shelf, Words};
+use diy_io::{Failed, Shelf, Words};
 use edge_algebra::Cycle;
 use std::alloc::Global;
 use test_files::read_named_file;
 
 /// The cycle that is quoted by the test in the file that the word at a place names. The file is read into `text`, in
-/// pieces as long as `piece`. A fault of its text is the answer also where the closing fails.
+/// pieces as long as `piece`.
 pub(crate) fn cycle_of_file<A: Arch, H: Shelf>(
     alloc: Global,
     shelf: &mut H,
@@ -29,7 +29,19 @@ pub(crate) fn cycle_of_file<A: Arch, H: Shelf>(
     ensures file { CycleTo (record { arch = A.NAME; writing = A.writing }) (H.seen shelf.old) (H.seen shelf.new) (name_at words.now place) result }
 {
     let closed = read_named_file(shelf, words, place, piece, text)?;
-    let cycle = cycle_of_text::<A>(alloc, text.as_slice())?;
+    closed_cycle::<A>(alloc, text.as_slice(), closed)
+}
+
+/// The cycle that is quoted by the test that a file's text is, where this is the answer to the closing of the file. A
+/// fault of the text is the answer also where the closing failed.
+fn closed_cycle<A: Arch>(
+    alloc: Global,
+    text: &[u8],
+    closed: Result<(), Failed>,
+) -> Result<Cycle, CycleFault>
+    ensures { ClosedTo (record { arch = A.NAME; writing = A.writing }) text.now closed result }
+{
+    let cycle = cycle_of_text::<A>(alloc, text)?;
     closed?;
     Ok(cycle)
 }
