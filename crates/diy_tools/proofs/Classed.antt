@@ -1,6 +1,7 @@
 -- What is answered of families, by where their cycles are.
 use Rattle.std.proofs.Common.{◌≡◌, ℕ, List, [], ◌∷◌, length, Ok, Err, refl, sym, ap, ◌∙◌, subst, arith}
-use Rattle.std.specs.Prelude.{Result, IsTrue, ◌↔◌, ◌==◌, true, false}
+use Rattle.std.specs.Prelude.{Result, ◌==◌, true, false}
+use Rattle.std.proofs.lemmas.Bool.{eqb-true}
 use Rattle.relax_edges.specs.declared.kinds.ArchName.{ArchName}
 use Rattle.classified_files.specs.declared.errors.FilesEnd.TheVariants as ends
 use Rattle.diy_io.specs.Shelf.{ShelfSeen}
@@ -51,9 +52,9 @@ of_unread words arch [] d some = absurd (some refl)
 of_unread words arch (file ∷ files) d some =
     record { end = ends.NoMemory; ends = record { input = refl; both = record { classified = refl; stay = refl } }; status_is = refl }
 
-is_none : (files : List ℕ) → IsTrue true ↔ (length files ≡ 0) → files ≡ []
-is_none [] h = refl
-is_none (file ∷ files) h = absurd (let none : length (file ∷ files) ≡ 0 = h.0 refl in omega (arith, none))
+is_none : (files : List ℕ) (n : ℕ) → length files ≡ n → true ≡ (n == 0) → files ≡ []
+is_none [] n count none = refl
+is_none (file ∷ files) n count none = absurd (let zero : n ≡ 0 = eqb-true n 0 (sym none) in omega (arith, count, zero))
 
 is_some : (files : List ℕ) (n : ℕ) → length files ≡ n → false ≡ (n == 0) → files ≡ [] → ⊥
 is_some files n count some none =
@@ -61,12 +62,12 @@ is_some files n count some none =
     let both : false ≡ true = some ∙ ap (λ (k : ℕ). k == 0) zero in cc both
 
 -- what is answered of the input's lines
-pub lines_asked : (words : List (List ℕ)) (arch : ArchName) (files : List ℕ) (status : Status) (shelf : ShelfSeen) (old new : SourceSeen) (before after : SinkSeen)
-    → GivesTask (Ok (requests.Families arch)) (asked_of words) → files ≡ files_of (asked_of words) → IsTrue true ↔ (length files ≡ 0)
+pub lines_asked : (words : List (List ℕ)) (arch : ArchName) (files : List ℕ) (count : ℕ) (status : Status) (shelf : ShelfSeen) (old new : SourceSeen) (before after : SinkSeen)
+    → GivesTask (Ok (requests.Families arch)) (asked_of words) → files ≡ files_of (asked_of words) → length files ≡ count → true ≡ (count == 0)
     → AnswersFamilies arch status old new before after → Answers words status (old, before, shelf) (new, after, shelf)
-lines_asked words arch files status shelf old new before after given same none h =
+lines_asked words arch files count status shelf old new before after given same all none h =
     classify_asked words arch files status (old, before, shelf) (new, after, shelf) given same
-    (of_none words arch files status shelf old new before after (is_none files none) h)
+    (of_none words arch files status shelf old new before after (is_none files count all none) h)
 
 -- what is answered of files
 pub files_asked : (words : List (List ℕ)) (arch : ArchName) (files : List ℕ) (count : ℕ) (status : Status) (input : SourceSeen) (old new : ShelfSeen) (before after : SinkSeen)

@@ -1,9 +1,7 @@
 -- What is answered of a request for a coherence test.
 use Rattle.std.proofs.Common.{◌≡◌, ℕ, List, Option, refl, sym, subst, Ok}
 use Rattle.std.specs.Prelude.{Result}
-use Rattle.std.specs.Option.{option_or}
 use Rattle.relax_edges.specs.declared.kinds.ArchName.{ArchName}
-use Rattle.relax_edges.specs.declared.edge.Edge.{Edge}
 use Rattle.edge_lists.specs.declared.list.EdgeList.{EdgeList}
 use Rattle.edge_lists.specs.KeptEdges.{kept_edges}
 use Rattle.diy_io.specs.Shelf.{ShelfSeen}

@@ -9,7 +9,7 @@ use Rattle.arch_trait.specs.Threads.{Puts}
 use Rattle.co_tests_laws.specs.CoRefusals.{coherence_refusal_of, coherence_text}
 use Rattle.diy_tools.specs.declared.status.Status.{Status}
 use Rattle.diy_tools.specs.declared.status.Refusal.{Refusal}
-use Rattle.diy_tools.specs.ArchMachines.{Machine, machine_of}
+use Rattle.diy_tools.specs.ArchMachines.{machine_of}
 use Rattle.diy_tools.specs.PrintAnswers.{AnswersEdges}
 use Rattle.diy_tools.specs.Refused.{refused_list, refused_coherence}
 use Rattle.diy_tools.specs.TestAnswers.{test_name}

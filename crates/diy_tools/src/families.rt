@@ -23,7 +23,7 @@ use std::alloc::Global;
 
 /// Prints the names of cycles by their families: of those that are quoted in the files that operands name, or of
 /// those of the input's lines where there is no operand.
-#[tactic(auto, using(crate::proofs::Classed::asks_families, crate::proofs::Classed::lines_asked))]
+#[tactic(auto, using(crate::proofs::Classed::asks_families))]
 pub(crate) fn families<I: Source, O: Sink, H: Shelf>(
     alloc: Global,
     words: &Words,

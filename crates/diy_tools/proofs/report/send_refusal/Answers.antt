@@ -6,3 +6,6 @@ returns-in-DoesNotCompose g c = rw c.in-DoesNotCompose.is c.refuse_at-in-DoesNot
 
 pub returns-in-TooFewThreads : goal.returns-in-TooFewThreads
 returns-in-TooFewThreads g c = rw c.in-TooFewThreads.is c.refuse-in-TooFewThreads.ensures
+
+pub returns-in-NotCoherence : goal.returns-in-NotCoherence
+returns-in-NotCoherence g c = rw c.in-NotCoherence.is c.refuse-in-NotCoherence.ensures

@@ -1,10 +1,11 @@
--- That `answer` answers as norm7 and mcheck7 do, and that the shelf is at nothing after diyone7 with -why.
+-- That `answer` answers as norm7, mcheck7 and diyone7 with -co do, and that the shelf is at nothing after diyone7 with -why.
 use Rattle.std.proofs.Common.{subst, Ok}
 use Rattle.diy_words.specs.declared.request.Request.{Request}
 use Rattle.diy_words.specs.Given.{GivesTask}
 use Rattle.diy_words.specs.Requests.{asked_of}
 use Rattle.diy_tools.specs.KeptRequests.{edges_kept, folder_kept, named_kept, refused_why}
 use Rattle.diy_tools.specs.ArchMachines.{machine_of}
+use Rattle.diy_tools.proofs.Coherent.{coherence_answered}
 use Rattle.diy_tools.proofs.Running.{check_answered, name_answered, why_answered}
 use Rattle.diy_tools.proofs.Shows.{runs_idle}
 use Rattle.diy_tools.proofs.tools.answer.Goals as goal
@@ -16,6 +17,12 @@ returns-in-Ok-Name-clause-answers g c =
     (g.I.Source.seen c.norm.new.input)
     (g.O.Sink.seen c.args.out.now) (g.O.Sink.seen c.norm.new.out)
     (subst (λ (r : Request). GivesTask (Ok r) (asked_of c.args.words.now)) c.in-Ok-Name.field-0-is c.in-Ok-Name.ensures.given) c.norm.ensures.answers
+
+pub returns-in-Ok-Coherence-clause-answers : goal.returns-in-Ok-Coherence-clause-answers
+returns-in-Ok-Coherence-clause-answers g c =
+    coherence_answered c.args.words.now c.in-Ok-Coherence.request c.coherence.result
+    (g.I.Source.seen c.args.input.now) (g.H.Shelf.seen c.args.shelf.now) (g.O.Sink.seen c.args.out.now) (g.O.Sink.seen c.coherence.new.out)
+    (subst (λ (r : Request). GivesTask (Ok r) (asked_of c.args.words.now)) c.in-Ok-Coherence.field-0-is c.in-Ok-Coherence.ensures.given) c.coherence.ensures.answers
 
 pub returns-in-Ok-Check-clause-answers : goal.returns-in-Ok-Check-clause-answers
 returns-in-Ok-Check-clause-answers g c =
