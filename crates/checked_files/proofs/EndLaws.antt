@@ -26,7 +26,8 @@ use Rattle.checked_files.specs.CheckingSteps.{TestFileTo, ExecFileTo, check_end}
 -- the file of the test isn't what is wanted
 pub test_refused : (arch : ArchName) (w : Writing) (old new : ShelfSeen) (words : List (List ℕ)) (test exec : ℕ) (a : SinkSeen) (fault : CheckFault)
     → TestFileTo arch w old new (name_at words test) (Err fault) → FilesChecked arch w old new words test exec a a (check_end test fault)
-test_refused arch w old new words test exec a faults.Missing h = (inl (record { place_is = refl; absent = h.absent; no_fault = h.no_fault; took = h.took }), refl)
+test_refused arch w old new words test exec a faults.Missing h =
+    (inl (record { place_is = refl; absent = h.absent; no_fault = h.no_fault; took = h.took }), refl)
 test_refused arch w old new words test exec a faults.Device h = (record { fault = h.fault; unread = inl h.took }, refl)
 test_refused arch w old new words test exec a (faults.Wrong line (kinds.Test kind)) h = (record { place_is = refl; faulty = h }, refl)
 test_refused arch w old new words test exec a (faults.Wrong line kinds.WrongArch) h = (record { place_is = refl; faulty = h }, refl)

@@ -69,7 +69,8 @@ pub test_unclosed : (arch : ArchName) (w : Writing) (text : List ℕ) (closed : 
     (answer : Result TestRead CheckFault) → SaysTestInMemory (Ok test) (test_said arch w text) → closed ≡ Err f → IsErrAnd answer (λ e. e ≡ faults.Device)
     → TestClosedTo arch w text closed answer
 test_unclosed arch w text closed f test answer is failed fails =
-    is_fault (TestClosedTo arch w text closed) answer faults.Device fails (record { test = test; is = is; failed = subst (λ (r : Result (Unit {0}) Failed). IsErr r) (sym failed) refl })
+    is_fault (TestClosedTo arch w text closed) answer faults.Device fails
+    (record { test = test; is = is; failed = subst (λ (r : Result (Unit {0}) Failed). IsErr r) (sym failed) refl })
 
 -- the file of an execution was read, and this is the answer to its text and to its closing
 pub exec_closed : (arch : ArchName) (w : Writing) (test : TestRead) (old new : ShelfSeen) (name text judged : List ℕ) (closed : Result (Unit {0}) Failed)
@@ -110,4 +111,5 @@ pub exec_unclosed : (arch : ArchName) (w : Writing) (test : TestRead) (text : Li
     (answer : Result Verdict CheckFault) → Checks arch (number_in w.registers) test text (Ok v) → closed ≡ Err f → IsErrAnd answer (λ e. e ≡ faults.Device)
     → ExecClosedTo arch w test text closed answer
 exec_unclosed arch w test text closed f v answer is failed fails =
-    is_fault (ExecClosedTo arch w test text closed) answer faults.Device fails (record { verdict = v; is = is; failed = subst (λ (r : Result (Unit {0}) Failed). IsErr r) (sym failed) refl })
+    is_fault (ExecClosedTo arch w test text closed) answer faults.Device fails
+    (record { verdict = v; is = is; failed = subst (λ (r : Result (Unit {0}) Failed). IsErr r) (sym failed) refl })

@@ -39,7 +39,9 @@ text_faulty asked text closed fault answer says fails = is_fault (ClosedTo asked
     of_fault NoMemory says = tt
 
 -- a text that says a cycle, where the closing failed
-pub text_unclosed : (asked : Asked) (text : List ℕ) (closed : Result (Unit {0}) Failed) (f : Failed) (cycle : List Edge) (answer : Result (List Edge) CycleFault)
+pub text_unclosed : (asked : Asked) (text : List ℕ) (closed : Result (Unit {0}) Failed) (f : Failed) (cycle : List Edge)
+    (answer : Result (List Edge) CycleFault)
     → SaysCycleInMemory (Ok cycle) (said_on asked text) → closed ≡ Err f → IsErrAnd answer (λ e. e ≡ Device) → ClosedTo asked text closed answer
 text_unclosed asked text closed f cycle answer says failed fails =
-    is_fault (ClosedTo asked text closed) answer Device fails (record { cycle = cycle; says = says; failed = subst (λ (r : Result (Unit {0}) Failed). IsErr r) (sym failed) refl })
+    is_fault (ClosedTo asked text closed) answer Device fails
+    (record { cycle = cycle; says = says; failed = subst (λ (r : Result (Unit {0}) Failed). IsErr r) (sym failed) refl })
