@@ -1,4 +1,3 @@
 pub mod Spelled
 pub mod KeptEdges
-pub mod Leading
 pub mod KeptLaws

@@ -1,7 +1,6 @@
 //! The edges that a text spells, and a list of them that says when it has too many.
 #![tactic(auto)]
 
-mod leading;
 mod list;
 mod read;
 

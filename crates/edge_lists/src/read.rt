@@ -2,10 +2,8 @@ ghost use Rattle.std.specs.Prelude.{◌≡◌, ℕ, List, [], ◌∷◌, ◌++�
 ghost use Rattle.std.specs.Option.{option_map};
 ghost use Rattle.std.specs.List.{position};
 ghost use Rattle.edge_lists.specs.Spelled.{separates, edges_spelled, edges_of, CutsAtSeparator, IsOneWord};
-ghost use Rattle.edge_lists.specs.Leading.{BeginsWith, ReadsFirst};
 ghost use Rattle.edge_lists.specs.KeptEdges.{edges_added};
 
-use crate::leading::leading_edge;
 use crate::list::EdgeList;
 use relax_edges::{UnknownEdge, read_edge_bytes};
 use text_parts::Class;
@@ -30,59 +28,13 @@ pub fn read_edges(
 {
     let mut rest = text;
     'words: loop {
-        if let Some(remainder) = read_leading(rest, separators, edges) {
-            rest = remainder;
-        } else {
-            match cut_at_separator(separators, rest) {
-                Some((word, remainder)) => {
-                    read_word(word, edges)?;
-                    rest = remainder;
-                }
-                None => return read_word(rest, edges),
+        match cut_at_separator(separators, rest) {
+            Some((word, remainder)) => {
+                read_word(word, edges)?;
+                rest = remainder;
             }
+            None => return read_word(rest, edges),
         }
-    }
-}
-
-/// Appends the edge with whose word a text begins, and gives the text after that word and a separator,
-/// if there is one there, or the word ends the text. Else the list stays as it was, and the first word
-/// has to be sought.
-fn read_leading<'a>(
-    text: &'a [u8],
-    separators: Separators,
-    edges: &mut EdgeList,
-) -> Option<&'a [u8]>
-    ensures { MatchOption result (edges.new ≡ edges.old) (λ remainder. ReadsFirst separators edges.old edges.new text.now remainder.now) }
-{
-    let (edge, rest) = leading_edge(text)?;
-    let remainder = after_separator(separators, rest)?;
-    edges.push(edge);
-    Some(remainder)
-}
-
-/// The text after the separator with which a text begins, or the text where it is empty: what comes
-/// after a word, if nothing but a separator ends it.
-fn after_separator(separators: Separators, text: &[u8]) -> Option<&[u8]>
-    ensures { IfSome result (λ remainder. (word : List ℕ) → BeginsWith separators (word ++ text.now) word remainder.now) }
-{
-    match text {
-        [] => Some(text),
-        [byte, remainder @ ..] => {
-            if separates(separators, *byte) {
-                Some(remainder)
-            } else {
-                None
-            }
-        }
-    }
-}
-
-fn separates(separators: Separators, byte: u8) -> bool
-    ensures { result ≡ separates separators byte }
-{
-    match separators {
-        Separators::Blanks => Class::Blank.has(byte),
-        Separators::BlanksAndCommas => Class::Blank.has(byte) || byte == b',',
     }
 }
 

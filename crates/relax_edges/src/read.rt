@@ -12,7 +12,7 @@ use thiserror::Error;
 impl Dir {
     /// The direction that a letter spells: `R` or `W`.
     #[inline]
-    pub fn from_byte(byte: u8) -> Option<Dir>
+    fn from_byte(byte: u8) -> Option<Dir>
         ensures { result ≡ dir_named (byte ∷ []) }
     {
         match byte {
@@ -26,7 +26,7 @@ impl Dir {
 impl Sd {
     /// The place that a letter spells: `s` for the same location, `d` for another.
     #[inline]
-    pub fn from_byte(byte: u8) -> Option<Sd>
+    fn from_byte(byte: u8) -> Option<Sd>
         ensures { result ≡ sd_named (byte ∷ []) }
     {
         match byte {
@@ -40,7 +40,7 @@ impl Sd {
 impl Reach {
     /// The reach that a letter spells: `i` for internal, `e` for external.
     #[inline]
-    pub fn from_byte(byte: u8) -> Option<Reach>
+    fn from_byte(byte: u8) -> Option<Reach>
         ensures { result ≡ reach_named (byte ∷ []) }
     {
         match byte {
