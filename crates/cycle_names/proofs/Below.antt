@@ -1,12 +1,6 @@
 -- The order of lists of edges by numbers of the edges: strict, and total on lists of one length.
-use Rattle.std.specs.Prelude.{◌≡◌, ◌<◌, ℕ, Bool, true, false, not, ◌&&◌, nat_lt, nat_eq, Some, List, [], ◌∷◌, length}
-use Rattle.std.specs.List.{list_any}
-use Rattle.std.proofs.Common.{refl, sym, ◌∙◌, inl, inr, arith}
-use Rattle.std.proofs.lemmas.Bool.{cases_order, or_cases, and_parts, or_left, or_right, ltb-true, lt-ltb, eqb-true, eq-eqb}
-use Rattle.list_laws.proofs.Cases.{by_test}
-use Rattle.cycle_laws.specs.CycleOrder.{ranks_below}
-use Rattle.cycle_names.specs.Rotations.{least_of}
-use Rattle.cycle_names.proofs.Members.{Member, any_of_member, any_none, found_passes, found_among, find_only}
+use Rattle.cycle_names.proofs.Vocabulary.{◌≡◌, ◌<◌, ℕ, Bool, true, false, not, ◌&&◌, nat_lt, nat_eq, Some, List, [], ◌∷◌, length, list_any, refl, sym, ◌∙◌, inl, inr, arith, cases_order, or_cases, and_parts, or_left, or_right, ltb-true, lt-ltb, eqb-true, eq-eqb, by_test, ranks_below, least_of}
+use Rattle.cycle_names.proofs.Members.{Member, any_of_member, any_none, find_only}
 
 -- the ranks of two lists, at the first place where they differ
 pub data Below (x y : ℕ) (u v : List ℕ) : Type 0 where
@@ -15,11 +9,7 @@ pub data Below (x y : ℕ) (u v : List ℕ) : Type 0 where
 
 -- one list is below another at their first ranks, or at a later place
 pub below_parts : (x y : ℕ) (u v : List ℕ) → ranks_below (x ∷ u) (y ∷ v) ≡ true → Below x y u v
-below_parts x y u v h =
-    elim (or_cases (nat_lt x y) (nat_eq x y && ranks_below u v) h) [
-      | inl l ↦ less (ltb-true x y l)
-      | inr s ↦ let both = and_parts (nat_eq x y) (ranks_below u v) s in same (eqb-true x y both.0) both.1
-    ]
+below_parts x y u v h = grind (arith, or_cases, ltb-true, and_parts, eqb-true)
 
 below_less : (x y : ℕ) (u v : List ℕ) → x < y → ranks_below (x ∷ u) (y ∷ v) ≡ true
 below_less x y u v l = or_left (nat_lt x y) (nat_eq x y && ranks_below u v) (lt-ltb x y l)
@@ -74,17 +64,9 @@ module _ {A : Type 0} (below : A → A → Bool) where
   first_stays : (xs : List A) (v : A) → ((w : A) → Member w xs → below w v ≡ true → ⊥) → not (list_any (λ w. below w v) xs) ≡ true
   first_stays xs v none = let e : list_any (λ w. below w v) xs ≡ false = any_none (λ w. below w v) xs none in rw e refl
 
-  pub least_is_first : (xs : List A) (v : A) → least_of below xs ≡ Some v → IsFirst xs v
-  least_is_first xs v h = record {
-    member = found_among (λ v. not (list_any (λ w. below w v) xs)) xs v h;
-    none = stays_first xs v (found_passes (λ v. not (list_any (λ w. below w v) xs)) xs v h);
-  }
-
   -- where there is one such member, it is the one taken
   pub first_is_least : (xs : List A) (v : A) → IsFirst xs v → ((w : A) → IsFirst xs w → w ≡ v) → least_of below xs ≡ Some v
-  first_is_least xs v h only =
-      find_only (λ v. not (list_any (λ w. below w v) xs)) xs v h.member (first_stays xs v h.none)
-      (λ w m t. only w (record { member = m; none = stays_first xs w t }))
+  first_is_least xs v h only = grind (arith, find_only, first_stays, stays_first)
 
   -- a list has a member that is first
   pub record HasFirst (xs : List A) : Type 0 where

@@ -1,25 +1,5 @@
 -- The rotation that a cycle is named from: there is one, and it is the same for all rotations of the cycle.
-use Rattle.std.specs.Prelude.{◌≡◌, ◌<◌, ℕ, Bool, true, Some, None, List, [], ◌∷◌, length, map, filter, unwrap_or}
-use Rattle.std.specs.Cmp.{both_ways}
-use Rattle.std.proofs.Common.{refl, sym, ◌∙◌, ap, subst, arith}
-use Rattle.std.proofs.lemmas.List.{length-map}
-use Rattle.std.proofs.lemmas.Option.{same_Some}
-use Rattle.list_laws.proofs.Cases.{by_option}
-use Rattle.relax_edges.specs.declared.edge.Edge.{Edge}
-use Rattle.relax_edges.specs.Order.{rank_of}
-use Rattle.cycle_laws.proofs.RankLaws.{rank_injective}
-use Rattle.cycle_laws.specs.Composable.{IsCycle}
-use Rattle.cycle_laws.specs.Rotation.{IsRotation, rotated}
-use Rattle.cycle_laws.specs.CycleOrder.{ranks_below, IsLeast}
-use Rattle.cycle_laws.proofs.Laws.{cycle_of_rotation}
-use Rattle.cycle_laws.proofs.Rotating.{rotation_same, rotation_back, rotation_on, rotation_length, place_of_rotation, rotation_of_place}
-use Rattle.cycle_laws.proofs.Ordering.{above_of_ranks}
-use Rattle.cycle_names.specs.declared.family.Family.{Family}
-use Rattle.cycle_names.specs.Families.{family_edges, all_families}
-use Rattle.cycle_names.specs.LinkWords.{edge_of_slot, outline}
-use Rattle.cycle_names.specs.Fitting.{word_place}
-use Rattle.cycle_names.specs.NameReading.{marked_around}
-use Rattle.cycle_names.specs.Rotations.{rotations, fits_family, is_of_family, found_family, words_below, edges_below, rotation_in, named_rotation}
+use Rattle.cycle_names.proofs.Vocabulary.{◌≡◌, ◌<◌, ℕ, Bool, true, Some, None, List, [], ◌∷◌, length, map, filter, unwrap_or, refl, sym, ◌∙◌, ap, subst, arith, length-map, same_Some, by_option, Edge, rank_of, rank_injective, IsCycle, IsRotation, rotated, ranks_below, IsLeast, cycle_of_rotation, rotation_same, rotation_back, rotation_on, rotation_length, place_of_rotation, rotation_of_place, above_of_ranks, Family, family_edges, edge_of_slot, outline, word_place, marked_around, rotations, fits_family, is_of_family, found_family, words_below, edges_below, rotation_in, named_rotation}
 use Rattle.cycle_names.proofs.Members.{Member, any_of_member, member_of_any, member_upto, upto_member, find_same, filter_among, filter_passes, filter_member, same_head, same_tail}
 use Rattle.cycle_names.proofs.Below.{below_irreflexive, below_transitive, neither_below, IsFirst, HasFirst, has_first, first_is_least}
 use Rattle.cycle_names.proofs.Marks.{said_of, around_back}
@@ -28,10 +8,7 @@ use Rattle.cycle_names.proofs.Families.{fitting, found_is_of, fits_either}
 
 -- the members of the list of rotations are the rotations
 pub rotation_of_member : (u v : List Edge) → Member v (rotations u) → IsRotation u v
-rotation_of_member u v m =
-    let n = upto_member (λ k. rotated k u) (length u) v m in
-    let P : List Edge → Type 0 = λ w. IsRotation u w in
-    subst P (sym n.is) (rotation_of_place n.number u)
+rotation_of_member u v m = grind (arith, upto_member, rotation_of_place)
 
 pub member_of_rotation : (u v : List Edge) → 0 < length u → IsRotation u v → Member v (rotations u)
 member_of_rotation u v some r =
@@ -95,8 +72,7 @@ named_in_family f u v c h k =
 -- of lists compared by numbers of their edges, some member is first
 some_first : (number : Edge → ℕ) (xs : List (List Edge)) (x : List Edge) → Member x xs → HasFirst (λ u v. ranks_below (map number u) (map number v)) xs
 some_first number [] x m = absurd m
-some_first number (y ∷ ys) x m =
-    has_first (λ u v. ranks_below (map number u) (map number v)) (λ u. below_irreflexive (map number u)) (λ u v w. below_transitive (map number u) (map number v) (map number w)) y ys
+some_first number (y ∷ ys) x m = grind (arith, has_first, below_irreflexive, below_transitive)
 
 pub has_named_in_family : (f : Family) (u : List Edge) → found_family u ≡ Some f → HasFirst words_below (candidates f u)
 has_named_in_family f u h =
@@ -117,10 +93,7 @@ ranks_same (x ∷ u) (y ∷ v) e =
     rw (one, rest) refl
 
 only_normal : (u v w : List Edge) → IsFirst edges_below (rotations u) v → IsFirst edges_below (rotations u) w → w ≡ v
-only_normal u v w h k =
-    let long : length (map rank_of w) ≡ length (map rank_of v) =
-    omega (arith, length-map w rank_of, length-map v rank_of, rotation_length u w (rotation_of_member u w k.member), rotation_length u v (rotation_of_member u v h.member)) in
-    ranks_same w v (neither_below (map rank_of w) (map rank_of v) long (h.none w k.member) (k.none v h.member))
+only_normal u v w h k = grind (arith, length-map, rotation_length, rotation_of_member, ranks_same, neither_below)
 
 -- the rotation that another cycle is named from
 pub named_in_none : (u v : List Edge) → found_family u ≡ None → IsFirst edges_below (rotations u) v → named_rotation u ≡ v
@@ -149,10 +122,7 @@ is_of_turned u v f some r h =
 -- rotations of one cycle are of one family
 pub family_turned : (u v : List Edge) → 0 < length u → IsRotation u v → found_family u ≡ found_family v
 unfolding found_family
-family_turned u v some r =
-    find_same (is_of_family u) (is_of_family v) all_families
-    (λ f. both_ways (is_of_family u f) (is_of_family v f) (is_of_turned u v f some r)
-    (is_of_turned v u f (rotation_some u v some r) (rotation_back u v r)))
+family_turned u v some r = grind (arith, find_same, is_of_turned, rotation_some, rotation_back)
 
 -- a member before which none comes, in a list with the same members
 same_first : (below : List Edge → List Edge → Bool) (xs ys : List (List Edge)) (v : List Edge) →

@@ -1,56 +1,14 @@
 -- What is read is the cycle of the name, and what is refused is no name.
-use Rattle.std.specs.Prelude.{◌≡◌, ◌≤◌, ℕ, suc, true, false, Option, Some, None, nat_lt, unwrap_or, Result, Ok, Err, IsOk, List, [], ◌∷◌, ◌++◌, length, drop, codes}
-use Rattle.std.specs.Str.{bytes_eq}
-use Rattle.std.specs.Cmp.Lexicographic.{bytes_decides}
-use Rattle.std.proofs.Common.{refl, sym, ◌∙◌, ap, arith}
-use Rattle.std.proofs.lemmas.Bool.{and_parts, cond-true, cond-false, false≢true}
-use Rattle.list_laws.proofs.Cases.{by_test, by_option}
-use Rattle.relax_edges.specs.declared.TheConstants.{MAX_EDGES}
-use Rattle.relax_edges.specs.declared.kinds.ArchName.{ArchName}
-use Rattle.relax_edges.specs.declared.kinds.Mark.{Mark}
-use Rattle.relax_edges.specs.declared.kinds.Mark.TheVariants.{Plain}
-use Rattle.relax_edges.specs.declared.edge.Edge.{Edge}
-use Rattle.relax_edges.specs.EdgeTable.{target_mark}
-use Rattle.relax_edges.specs.WordParts.{word_of}
-use Rattle.std.specs.List.{join_by}
-use Rattle.std.proofs.lemmas.Option.{same_Some}
-use Rattle.cycle_laws.specs.Composable.{IsCycle, first_break}
-use Rattle.cycle_laws.specs.CycleOrder.{IsLeast}
-use Rattle.cycle_laws.specs.Rotation.{rotated}
-use Rattle.cycle_laws.proofs.Rotating.{rotation_length}
-use Rattle.edge_algebra.specs.declared.errors.CycleError.{CycleError}
-use Rattle.edge_algebra.specs.declared.errors.CycleError.TheVariants.{TooLong}
-use Rattle.edge_algebra.specs.Compose.{composed, unbroken}
-use Rattle.edge_algebra.specs.ComposingLaws.{composes_exactly}
-use Rattle.cycle_names.specs.declared.name.TheConstants.{MAX_NAME}
-use Rattle.cycle_names.specs.declared.family.Family.{Family}
-use Rattle.cycle_names.specs.declared.family.Family.TheVariants as families
-use Rattle.cycle_names.specs.Families.{family_word, family_edges, all_families}
-use Rattle.cycle_names.specs.LinkWords.{link_words}
-use Rattle.cycle_names.specs.Rotations.{family_of, found_family, named_rotation}
-use Rattle.cycle_names.specs.CycleNames.{links_text, name_from, name_of}
-use Rattle.cycle_names.specs.Fitting.{IsNamedAt}
-use Rattle.cycle_names.specs.NameReading.{begins_with_word, named_family, marked_between, first_mark, last_mark, marked_along, marked_around, marked_if, slots_filled, words_read, read_by_family, edges_read, AddsEdges}
-use Rattle.cycle_names.specs.Laws.{are_of_arch, IsNamed, NamesNone}
+use Rattle.cycle_names.proofs.Vocabulary.{◌≡◌, ◌≤◌, ℕ, suc, true, false, Option, Some, None, nat_lt, Result, Ok, Err, IsOk, List, [], ◌∷◌, ◌++◌, length, drop, codes, bytes_eq, bytes_decides, sym, ◌∙◌, ap, arith, and_parts, cond-true, cond-false, false≢true, by_test, by_option, MAX_EDGES, ArchName, Mark, Plain, Edge, target_mark, word_of, join_by, same_Some, IsCycle, first_break, IsLeast, rotated, rotation_length, CycleError, TooLong, composed, unbroken, composes_exactly, MAX_NAME, Family, family_word, family_edges, all_families, link_words, found_family, named_rotation, links_text, name_from, name_of, IsNamedAt, begins_with_word, named_family, marked_between, first_mark, last_mark, marked_along, marked_around, marked_if, slots_filled, words_read, edges_read, AddsEdges, are_of_arch, IsNamed, NamesNone, before_edges}
 use Rattle.cycle_names.proofs.Members.{found_passes}
 use Rattle.cycle_names.proofs.Chosen.{named_rotates, least_named}
 use Rattle.cycle_names.proofs.ReadBack.{name_back}
 use Rattle.cycle_names.proofs.NameLaws.{named, arch_turned, names_of_cycles}
-use Rattle.relax_edges.specs.ReadEdges.{before_edges}
 
 -- the name that a cycle of a family gets
 pub name_in_family : (u : List Edge) (f : Family) (place : ℕ) → IsNamedAt u f place → name_of u ≡ family_word f ++ links_text (link_words (rotated place u))
 unfolding name_of name_from
-name_in_family u f place h =
-    ap (λ o. name_from o (named_rotation u)) h.found ∙ ap (λ v. family_word f ++ links_text (link_words v)) h.named
-
--- the family that is found is that of the cycle
-pub family_of_found : (u : List Edge) (f : Family) → found_family u ≡ Some f → f ≡ family_of u
-family_of_found u f h = ap (λ found. unwrap_or found families.Other) (sym h)
-
--- where none is found, the cycle is of no family of the table
-pub family_of_none : (u : List Edge) → found_family u ≡ None → families.Other ≡ family_of u
-family_of_none u h = ap (λ found. unwrap_or found families.Other) (sym h)
+name_in_family u f place h = grind arith
 
 -- the name that any other cycle gets
 pub name_in_none : (u v : List Edge) → IsCycle u → found_family u ≡ None → IsLeast u v → name_of u ≡ codes "C+" ++ join_by word_of (codes "-") v
@@ -71,11 +29,6 @@ own_words u edges place least start new c h l e p s n = rw (n, s, p, e) (ap (joi
 -- a name has few bytes
 pub name_short : (u : List Edge) (name : List ℕ) → IsCycle u → name ≡ name_of u → length name ≤ MAX_NAME
 name_short u name c e = omega (arith, ap length e, (names_of_cycles u c).short)
-
--- a name, a colon and a blank, and the words of the rotation that the cycle is named from
-pub name_and_words_of : (u : List Edge) (name words between line : List ℕ) → name ≡ name_of u → between ≡ name ++ codes ": " → words ≡ join_by word_of (codes " ") (named_rotation u) → line ≡ between ++ words →
-    line ≡ (name_of u ++ codes ": ") ++ join_by word_of (codes " ") (named_rotation u)
-name_and_words_of u name words between line n b w l = rw (l, b, n, w) refl
 
 -- what is read of a name
 pub record ReadAs (u edges : List Edge) (E : Type 0) (result : Result (Unit {0}) E) : Type 0 where
@@ -149,9 +102,7 @@ record HasRest (p : Option (List Edge)) (v : List Edge) : Type 0 where
   long : length v ≡ suc (length rest)
 
 before_long : (o : Option Edge) (p : Option (List Edge)) (v : List Edge) → before_edges o p ≡ Some v → HasRest p v
-before_long (Some e) (Some w) v h = record { rest = w; is = refl; long = ap length (same_Some v (e ∷ w) (sym h)) }
-before_long (Some e) None v h = cc
-before_long None p v h = cc
+before_long o p v h = grind (arith, same_Some)
 
 along_long : (from : Mark) (u : List Edge) (to : Mark) (v : List Edge) → marked_along from u to ≡ Some v → length v ≡ length u
 along_long from [] to v h = ap length (same_Some v [] (sym h))
@@ -163,8 +114,7 @@ along_long from (e ∷ u) to v h =
 read_same : (families : List Family) (text word remainder : List ℕ) (f : Family) (slots : List Edge) → families ≡ all_families → Some f ≡ named_family families text
     → word ≡ family_word f → slots ≡ family_edges f → remainder ≡ drop (length word) text → edges_read text ≡ marked_if (slots_filled slots remainder)
 unfolding edges_read
-read_same families text word remainder f slots e h w s b =
-    ap (λ fs. read_by_family (named_family fs text) text) (sym e) ∙ ap (λ o. read_by_family o text) (sym h) ∙ ap (λ x. marked_if (slots_filled (family_edges f) (drop (length x) text))) (sym w) ∙ ap (λ x. marked_if (slots_filled (family_edges f) x)) (sym b) ∙ ap (λ u. marked_if (slots_filled u remainder)) (sym s)
+read_same families text word remainder f slots e h w s b = grind arith
 
 -- what is read of a text with a family's name, if it is read as these edges: they are the filled slots, with marks
 record HasRaw (slots edges : List Edge) (remainder : List ℕ) : Type 0 where
@@ -205,9 +155,7 @@ module _ (families : List Family) (text word remainder : List ℕ) (f : Family) 
 pub read_none : {E : Type 0} (families : List Family) (text : List ℕ) (old new : List Edge) (result : Result (Unit {0}) E) → families ≡ all_families → None ≡ named_family families text
     → AddsEdges (words_read text) old new result → AddsEdges (edges_read text) old new result
 unfolding edges_read
-read_none families text old new result e h a edges found fits =
-    let same : edges_read text ≡ words_read text = ap (λ fs. read_by_family (named_family fs text) text) (sym e) ∙ ap (λ o. read_by_family o text) (sym h) in
-    a edges (sym same ∙ found) fits
+read_none families text old new result e h a edges found fits = grind arith
 
 -- the edges of the cycle that is made are those given
 pub made_of : (u v : List Edge) → Ok v ≡ composed u → v ≡ u

@@ -1,29 +1,6 @@
--- The table of families: no rotation of one is another, each has two links or more and at most six edges, no name begins another, and the
--- digits of a family's cycle say what its edges join.
-use Rattle.std.specs.Prelude.{◌≡◌, ◌<◌, ◌≤◌, ◌==◌, ◌&&◌, ◌||◌, ℕ, Bool, true, not, Some, None, List, [], ◌∷◌, ◌++◌, length, map, filter, nat_le, slice_get, codes}
-use Rattle.std.specs.List.{list_any, list_all}
-use Rattle.std.specs.Cmp.{booleans_Decides}
-use Rattle.std.proofs.Math.Bool.{beq}
-use Rattle.std.proofs.Common.{refl, sym, ◌∙◌, ap, subst, arith, inl, inr}
-use Rattle.std.proofs.lemmas.Bool.{eqb-true, eq-eqb, leb-true, and_parts, or_cases}
-use Rattle.std.proofs.lemmas.List.{length-map}
-use Rattle.list_laws.proofs.Cases.{implied}
-use Rattle.relax_edges.specs.declared.edge.Edge.{Edge}
-use Rattle.relax_edges.specs.EdgeTable.{is_diff}
-use Rattle.relax_edges.specs.Order.{rank_of}
-use Rattle.relax_edges.specs.Relaxations.{is_same}
-use Rattle.relax_edges.specs.AllEdges.{edges_in_order}
-use Rattle.cycle_laws.proofs.RankLaws.{each_edge}
-use Rattle.cycle_laws.specs.Rotation.{IsRotation, rotated}
-use Rattle.cycle_laws.proofs.Rotating.{rotation_back, rotation_on, rotation_length, place_of_rotation, rotation_of_place}
-use Rattle.cycle_names.specs.declared.family.Family.{Family}
+-- The table of families: no rotation of one is another, each has two links or more and at most six edges, and no name begins another.
+use Rattle.cycle_names.proofs.Vocabulary.{◌≡◌, ◌<◌, ◌≤◌, ◌==◌, ◌&&◌, ◌||◌, ℕ, Bool, true, not, Some, None, List, [], ◌∷◌, ◌++◌, length, filter, nat_le, slice_get, codes, list_any, list_all, refl, ◌∙◌, ap, subst, arith, eqb-true, leb-true, and_parts, or_cases, length-map, implied, Edge, is_diff, rank_of, is_same, IsRotation, rotated, rotation_back, rotation_on, rotation_length, place_of_rotation, rotation_of_place, Family, family_edges, family_word, all_families, edge_of_slot, outline, rotations, fits_family, is_of_family, found_family, is_name_byte, named_family}
 use Rattle.cycle_names.specs.declared.family.Family.TheVariants as families
-use Rattle.cycle_names.specs.Families.{family_edges, family_word, all_families}
-use Rattle.cycle_names.specs.LinkWords.{edge_of_slot, outline}
-use Rattle.cycle_names.specs.Rotations.{rotations, fits_family, is_of_family, found_family}
-use Rattle.cycle_names.specs.Fitting.{edges_counted, slot_digit}
-use Rattle.text_laws.specs.Names.{is_name_byte}
-use Rattle.cycle_names.specs.NameReading.{named_family}
 use Rattle.cycle_names.proofs.Members.{Member, member_at, member_either, all_of_member, any_of_member, member_of_any, member_upto, upto_member, find_none, find_only, found_passes, map_rotated}
 use Rattle.cycle_names.proofs.Tables.{slot_is_diff, slot_is_external}
 use Rattle.cycle_names.proofs.Marks.{is_either}
@@ -53,21 +30,7 @@ every_family = all_families ++ families.Other ∷ []
 
 family_placed : (f : Family) → slice_get every_family (family_place f) ≡ Some f
 unfolding family_place
-family_placed families.SB = refl
-family_placed families.MP = refl
-family_placed families.LB = refl
-family_placed families.R = refl
-family_placed families.S = refl
-family_placed families.W2 = refl
-family_placed families.WRC = refl
-family_placed families.RWC = refl
-family_placed families.ISA2 = refl
-family_placed families.IRIW = refl
-family_placed families.WRWC = refl
-family_placed families.SB3 = refl
-family_placed families.LB3 = refl
-family_placed families.W3 = refl
-family_placed families.Other = refl
+family_placed f = grind arith
 
 family_same : (f g : Family) → family_place f ≡ family_place g → f ≡ g
 family_same f g e = cc (family_placed f, family_placed g, ap (slice_get every_family) e)
@@ -82,11 +45,7 @@ each_family test all f = all_of_member test every_family all f (families_all f)
 
 -- each but the last is a member of the table
 pub listed : (f : Family) → (f ≡ families.Other → ⊥) → Member f all_families
-listed f n =
-    elim (member_either f all_families (families.Other ∷ []) (families_all f)) [
-      | inl m ↦ m
-      | inr last ↦ elim last [ inl e ↦ absurd (n e) | inr none ↦ absurd none ]
-    ]
+listed f n = grind (arith, member_either, families_all)
 
 -- a relation that holds only of families of one place, as computed for each two, holds only of a family and itself
 holds_of_one : (relates : Family → Family → Bool) → list_all (λ f. list_all (λ g. not (relates f g) || (family_place f == family_place g)) every_family) every_family ≡ true →
@@ -193,8 +152,7 @@ either_slots (e ∷ v) = rw (slot_is_diff e, slot_is_external e, either_slots v)
 
 -- each edge of a rotation that fits a family is a link or external
 pub fits_either : (f : Family) (v : List Edge) → fits_family f v ≡ true → list_all is_either v ≡ true
-fits_either f v h =
-    sym (either_slots v) ∙ ap (list_all is_either) (outline_of_fits f v h) ∙ each_family (λ f. list_all is_either (family_edges f)) all_either f
+fits_either f v h = grind (arith, either_slots, is_either, outline_of_fits, each_family, all_either)
 
 -- a family's cycle has two links or more
 has_links : Family → Bool
@@ -207,11 +165,7 @@ all_have_links = refl
 -- each family's cycle but that of `Other` has at least two links
 pub family_links : (f : Family) → (f ≡ families.Other → ⊥) → 2 ≤ length (filter is_diff (family_edges f))
 unfolding has_links
-family_links f n =
-    elim (or_cases (family_place f == family_place families.Other) (nat_le 2 (length (filter is_diff (family_edges f)))) (each_family has_links all_have_links f)) [
-      | inl e ↦ absurd (n (family_same f families.Other (eqb-true (family_place f) (family_place families.Other) e)))
-      | inr l ↦ leb-true 2 (length (filter is_diff (family_edges f))) l
-    ]
+family_links f n = grind (arith, or_cases, family_place, each_family, has_links, all_have_links, family_same, eqb-true, leb-true)
 
 -- the family's word has at most five bytes, all of them bytes of names
 is_word : Family → Bool
@@ -238,79 +192,4 @@ family_word_bytes f = (and_parts _ _ (and_parts _ _ (each_family is_word all_wor
 
 -- the name of a family is read as that family, alone and with `+` and a text after it
 pub words_named : (f : Family) (text : List ℕ) → (f ≡ families.Other → ⊥) → (named_family all_families (family_word f ++ []) ≡ Some f) × (named_family all_families (family_word f ++ (codes "+" ++ text)) ≡ Some f)
-words_named families.SB text n = (refl, refl)
-words_named families.MP text n = (refl, refl)
-words_named families.LB text n = (refl, refl)
-words_named families.R text n = (refl, refl)
-words_named families.S text n = (refl, refl)
-words_named families.W2 text n = (refl, refl)
-words_named families.WRC text n = (refl, refl)
-words_named families.RWC text n = (refl, refl)
-words_named families.ISA2 text n = (refl, refl)
-words_named families.IRIW text n = (refl, refl)
-words_named families.WRWC text n = (refl, refl)
-words_named families.SB3 text n = (refl, refl)
-words_named families.LB3 text n = (refl, refl)
-words_named families.W3 text n = (refl, refl)
-words_named families.Other text n = absurd (n refl)
-
--- two families have as many links and external edges of each communication
-counts_alike : Family → Family → Bool
-counts_alike f g = edges_counted (family_edges f) == edges_counted (family_edges g)
-
-none_alike : list_all (λ f. list_all (λ g. not (counts_alike f g) || (family_place f == family_place g)) every_family) every_family ≡ true
-unfolding counts_alike family_place
-none_alike = refl
-
--- families whose cycles have the same counts are the same
-pub counts_differ : (f g : Family) → edges_counted (family_edges f) ≡ edges_counted (family_edges g) → f ≡ g
-unfolding counts_alike
-counts_differ f g e = holds_of_one counts_alike none_alike f g (eq-eqb _ _ e)
-
--- the digits of the edges of a family's cycle say what edges join
-digit_tells : Edge → Edge → Bool
-digit_tells slot e = beq (rank_of (edge_of_slot e) == rank_of slot) (slot_digit e == slot_digit slot)
-
-digits_tell : Edge → Bool
-digits_tell slot = list_all (digit_tells slot) edges_in_order
-
-all_digits_tell : list_all (λ f. list_all digits_tell (family_edges f)) every_family ≡ true
-unfolding digits_tell digit_tells rank_of edges_in_order
-all_digits_tell = refl
-
-family_digits : (f : Family) → list_all digits_tell (family_edges f) ≡ true
-family_digits = each_family (λ f. list_all digits_tell (family_edges f)) all_digits_tell
-
-digit_told : (slot e : Edge) → digits_tell slot ≡ true → (rank_of (edge_of_slot e) == rank_of slot) ≡ (slot_digit e == slot_digit slot)
-unfolding digits_tell digit_tells
-digit_told slot e t = (booleans_Decides _ _).0 (each_edge (digit_tells slot) t e)
-
-digits_said : (v slots : List Edge) → list_all digits_tell slots ≡ true → is_same (outline v) slots ≡ true → map slot_digit v ≡ map slot_digit slots
-digits_said [] [] t h = refl
-digits_said [] (s ∷ slots) t h = cc
-digits_said (e ∷ v) [] t h = cc
-digits_said (e ∷ v) (s ∷ slots) t h =
-    let all = and_parts (digits_tell s) (list_all digits_tell slots) t in
-    let both = and_parts (rank_of (edge_of_slot e) == rank_of s) (is_same (outline v) slots) h in
-    let one : slot_digit e ≡ slot_digit s = eqb-true _ _ (sym (digit_told s e all.0) ∙ both.0) in
-    let rest : map slot_digit v ≡ map slot_digit slots = digits_said v slots all.1 both.1 in
-    rw (one, rest) refl
-
-said_digits : (v slots : List Edge) → list_all digits_tell slots ≡ true → map slot_digit v ≡ map slot_digit slots → is_same (outline v) slots ≡ true
-said_digits [] [] t h = refl
-said_digits [] (s ∷ slots) t h = cc
-said_digits (e ∷ v) [] t h = cc
-said_digits (e ∷ v) (s ∷ slots) t h =
-    let all = and_parts (digits_tell s) (list_all digits_tell slots) t in
-    let one : slot_digit e ≡ slot_digit s = cc in
-    let rest : map slot_digit v ≡ map slot_digit slots = cc in
-    let here : (rank_of (edge_of_slot e) == rank_of s) ≡ true = digit_told s e all.0 ∙ eq-eqb _ _ one in
-    ap (λ b. b && is_same (outline v) slots) here ∙ said_digits v slots all.1 rest
-
--- edges that join what those of a family's cycle do have their digits
-pub joins_by_digits : (f : Family) (v : List Edge) → is_same (outline v) (family_edges f) ≡ true → map slot_digit v ≡ map slot_digit (family_edges f)
-joins_by_digits f v h = digits_said v (family_edges f) (family_digits f) h
-
--- edges whose digits are those of a family's cycle join what its edges do
-pub digits_join : (f : Family) (v : List Edge) → map slot_digit v ≡ map slot_digit (family_edges f) → is_same (outline v) (family_edges f) ≡ true
-digits_join f v h = said_digits v (family_edges f) (family_digits f) h
+words_named f text n = grind arith

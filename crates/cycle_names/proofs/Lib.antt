@@ -1,4 +1,5 @@
 mod NameExamples
+pub mod Vocabulary
 pub mod Tables
 pub mod Members
 pub mod Below
@@ -10,9 +11,6 @@ pub mod Chosen
 pub mod ReadBack
 pub mod NameLaws
 pub mod Texts
-pub mod Alike
-pub mod Numbers
 pub mod Places
 pub mod Steps
 pub mod CycleOf
-pub mod LinkTexts

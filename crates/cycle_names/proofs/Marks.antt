@@ -1,23 +1,6 @@
 -- The marks of the external edges of a cycle of a family follow from the edges beside them.
-use Rattle.std.specs.Prelude.{◌≡◌, ◌&&◌, ◌||◌, Bool, true, false, not, cond, Option, Some, List, [], ◌∷◌, ◌++◌, map}
-use Rattle.std.specs.List.{list_all}
-use Rattle.std.proofs.Common.{refl, sym, ◌∙◌, ap}
-use Rattle.std.proofs.lemmas.Bool.{and_parts, cond-true, cond-false}
-use Rattle.list_laws.proofs.Cases.{by_test}
-use Rattle.relax_edges.specs.declared.kinds.Kind.{Kind}
-use Rattle.relax_edges.specs.declared.kinds.Mark.{Mark}
-use Rattle.relax_edges.specs.declared.kinds.Mark.TheVariants.{Plain}
-use Rattle.relax_edges.specs.declared.edge.Edge.{Edge}
-use Rattle.relax_edges.specs.EdgeTable.{kind_of, source_mark, target_mark, same_mark, joins_to, is_external, is_diff, unmarked, marked_edge}
-use Rattle.relax_edges.specs.JoinedEdges.{is_joined}
-use Rattle.cycle_laws.specs.Composable.{is_closed}
-use Rattle.cycle_laws.proofs.Joining.{same_mark_is, joined_marks}
-use Rattle.cycle_laws.proofs.Marks.{marked_edge_of, marked_edge_is}
-use Rattle.cycle_names.specs.LinkWords.{edge_of_slot}
-use Rattle.cycle_names.specs.Rotations.{is_plain_before, all_unmarked, is_plain_outside}
-use Rattle.cycle_names.specs.NameReading.{last_mark, marked_between, marked_along, marked_around}
+use Rattle.cycle_names.proofs.Vocabulary.{arith, ◌≡◌, ◌||◌, Bool, true, false, cond, Option, Some, List, [], ◌∷◌, ◌++◌, map, list_all, refl, sym, ◌∙◌, ap, and_parts, cond-true, cond-false, Kind, Mark, Plain, Edge, kind_of, source_mark, target_mark, joins_to, is_external, is_diff, unmarked, marked_edge, is_joined, is_closed, same_mark_is, joined_marks, marked_edge_of, marked_edge_is, edge_of_slot, is_plain_before, all_unmarked, is_plain_outside, last_mark, marked_between, marked_along, marked_around, before_edges}
 use Rattle.cycle_names.proofs.Tables.{slot_is_external, external_same}
-use Rattle.relax_edges.specs.ReadEdges.{before_edges}
 
 -- what a name says of an edge: a link with its marks, another edge without
 abbrev pub said_of : Edge → Edge
@@ -47,54 +30,24 @@ external_either : (e : Edge) → is_either e ≡ true → is_diff e ≡ false �
 external_either e h f = sym (ap (λ b. b || is_external e) f) ∙ h
 
 internal_either : (e : Edge) → is_either e ≡ true → is_external e ≡ false → is_diff e ≡ true
-internal_either e h f = second (is_diff e) (is_external e) h f
-  where
-    second : (b c : Bool) → (b || c) ≡ true → c ≡ false → b ≡ true
-    second true c h f = refl
-    second false true h f = cc
-    second false false h f = cc
+internal_either e h f = grind arith
 
 -- the access between two external edges is plain
 plain_mark : (e n : Edge) → is_plain_before e (n ∷ []) ≡ true → is_external e ≡ true → is_external n ≡ true → target_mark e ≡ Plain
-plain_mark e n p s t = sym (same_mark_is (target_mark e) Plain (only (same_mark (target_mark e) Plain) (is_external e) (is_external n) p s t))
-  where
-    only : (a b c : Bool) → (a || not (b && c)) ≡ true → b ≡ true → c ≡ true → a ≡ true
-    only true b c h s t = refl
-    only false true true h s t = cc
-    only false true false h s t = cc
-    only false false c h s t = cc
+plain_mark e n p s t = grind (arith, same_mark_is)
 
 -- an external edge takes the mark of the edge after it
 mark_after : (e n : Edge) → joins_to e n ≡ true → is_plain_before e (n ∷ []) ≡ true → is_either n ≡ true → is_external e ≡ true → source_mark (said_of n) ≡ target_mark e
-mark_after e n j p h t =
-    by_test (is_diff n)
-    (λ d. ap source_mark (said_link n d) ∙ joined_marks e n j)
-    (λ d. ap source_mark (said_plain n d) ∙ (unmarked_parts (kind_of n)).1 ∙ sym (plain_mark e n p t (external_either n h d)))
+mark_after e n j p h t = grind (arith, said_link, joined_marks, said_plain, unmarked_parts, plain_mark, external_either)
 
 -- and that of the edge before it
 mark_before : (e n : Edge) → joins_to e n ≡ true → is_plain_before e (n ∷ []) ≡ true → is_either e ≡ true → is_external n ≡ true → source_mark n ≡ target_mark (said_of e)
-mark_before e n j p h t =
-    joined_marks e n j
-    ∙ by_test (is_diff e)
-    (λ d. ap target_mark (sym (said_link e d)))
-    (λ d. plain_mark e n p (external_either e h d) t ∙ sym (ap target_mark (said_plain e d) ∙ (unmarked_parts (kind_of e)).2))
+mark_before e n j p h t = grind (arith, joined_marks, said_link, plain_mark, external_either, said_plain, unmarked_parts)
 
 -- so it is the edge
 one_back : (from to : Mark) (e : Edge) → is_either e ≡ true → (is_external e ≡ true → source_mark e ≡ from) → (is_external e ≡ true → to ≡ target_mark e) → marked_between from (said_of e) to ≡ Some e
 one_back from to e h s t =
-    by_test (is_external e)
-    (λ x.
-    let f : is_diff e ≡ false = external_same e x in
-    let k : kind_of (said_of e) ≡ kind_of e = ap kind_of (said_plain e f) ∙ (unmarked_parts (kind_of e)).0 in
-    cond-true (is_external (said_of e)) (marked_edge (kind_of (said_of e)) from to) (Some (said_of e)) (ap is_external (said_slot e f) ∙ slot_is_external e ∙ x)
-    ∙ ap (λ kind. marked_edge kind from to) k
-    ∙ ap (λ m. marked_edge (kind_of e) m to) (sym (s x))
-    ∙ ap (marked_edge (kind_of e) (source_mark e)) (t x)
-    ∙ marked_edge_of e)
-    (λ x.
-    let d : is_diff e ≡ true = internal_either e h x in
-    cond-false (is_external (said_of e)) (marked_edge (kind_of (said_of e)) from to) (Some (said_of e)) (ap is_external (said_link e d) ∙ x)
-    ∙ ap Some (said_link e d))
+    grind (arith, external_same, said_plain, unmarked_parts, cond-true, said_slot, slot_is_external, marked_edge_of, internal_either, cond-false, said_link)
 
 -- an edge and others that are there are there together
 pub both_there : (o : Option Edge) (p : Option (List Edge)) (e : Edge) (v : List Edge) → o ≡ Some e → p ≡ Some v → before_edges o p ≡ Some (e ∷ v)
@@ -103,12 +56,7 @@ both_there o p e v a b = rw (a, b) refl
 along_back : (from : Mark) (e : Edge) (v : List Edge) (last : Edge) → is_joined ((e ∷ v) ++ last ∷ []) ≡ true → all_unmarked ((e ∷ v) ++ last ∷ []) ≡ true →
     list_all is_either (e ∷ v) ≡ true → is_either last ≡ true → (is_external e ≡ true → source_mark e ≡ from) →
     marked_along from (map said_of (e ∷ v)) (source_mark (said_of last)) ≡ Some (e ∷ v)
-along_back from e [] last j p h l s =
-    let js = and_parts (joins_to e last) true j in
-    let ps = and_parts (is_plain_before e (last ∷ [])) true p in
-    both_there (marked_between from (said_of e) (source_mark (said_of last))) (Some []) e []
-    (one_back from (source_mark (said_of last)) e (and_parts (is_either e) true h).0 s (mark_after e last js.0 ps.0 l))
-    refl
+along_back from e [] last j p h l s = grind (arith, and_parts, both_there, one_back, mark_after)
 along_back from e (n ∷ v) last j p h l s =
     let js = and_parts (joins_to e n) (is_joined ((n ∷ v) ++ last ∷ [])) j in
     let ps = and_parts (is_plain_before e ((n ∷ v) ++ last ∷ [])) (all_unmarked ((n ∷ v) ++ last ∷ [])) p in
@@ -121,8 +69,7 @@ along_back from e (n ∷ v) last j p h l s =
 -- the edge after a list takes the mark of the last one
 last_back : (mark : Mark) (e : Edge) (v : List Edge) (last : Edge) → is_joined ((e ∷ v) ++ last ∷ []) ≡ true → all_unmarked ((e ∷ v) ++ last ∷ []) ≡ true →
     list_all is_either (e ∷ v) ≡ true → is_external last ≡ true → source_mark last ≡ last_mark mark (map said_of (e ∷ v))
-last_back mark e [] last j p h t =
-    mark_before e last (and_parts (joins_to e last) true j).0 (and_parts (is_plain_before e (last ∷ [])) true p).0 (and_parts (is_either e) true h).0 t
+last_back mark e [] last j p h t = grind (arith, mark_before, and_parts)
 last_back mark e (n ∷ v) last j p h t =
     last_back (target_mark (said_of e)) n v last (and_parts (joins_to e n) (is_joined ((n ∷ v) ++ last ∷ [])) j).1
     (and_parts (is_plain_before e ((n ∷ v) ++ last ∷ [])) (all_unmarked ((n ∷ v) ++ last ∷ [])) p).1 (and_parts (is_either e) (list_all is_either (n ∷ v)) h).1 t

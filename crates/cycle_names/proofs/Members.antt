@@ -1,13 +1,5 @@
 -- Members of lists, those that pass a test, and the one before which none comes.
-use Rattle.std.specs.Prelude.{◌≡◌, ◌<◌, ◌⊎◌, ℕ, zero, suc, Bool, true, false, Some, None, List, [], ◌∷◌, ◌++◌, map, filter, take, drop, slice_get}
-use Rattle.std.specs.List.{find, list_any, list_all}
-use Rattle.std.proofs.Common.{refl, sym, ◌∙◌, ap, inl, inr, arith}
-use Rattle.std.proofs.lemmas.Bool.{and_parts, cond-true, cond-false}
-use Rattle.std.proofs.lemmas.Option.{same_Some}
-use Rattle.std.proofs.lemmas.List.{map_push, map-append, drop-map, take-map}
-use Rattle.list_laws.specs.Numbers.{upto}
-use Rattle.list_laws.proofs.Cases.{by_test, by_option, by_less}
-use Rattle.cycle_laws.specs.Rotation.{rotated}
+use Rattle.cycle_names.proofs.Vocabulary.{◌≡◌, ◌<◌, ◌⊎◌, ℕ, zero, suc, Bool, true, false, Some, None, List, [], ◌∷◌, ◌++◌, map, filter, take, drop, slice_get, find, list_any, list_all, refl, sym, ◌∙◌, ap, inl, inr, arith, and_parts, cond-true, cond-false, same_Some, map_push, map-append, drop-map, take-map, upto, by_test, by_less, rotated}
 
 module _ {A : Type 0} where
   -- x is a member of a list
@@ -79,17 +71,11 @@ module _ {A : Type 0} where
 
   -- one of the two holds of what is found
   pub found_in : (p : A → Bool) (y : A) (ys : List A) (x : A) → find p (y ∷ ys) ≡ Some x → FoundIn p y ys x
-  found_in p y ys x h =
-      by_test (p y)
-      (λ t. found_first t (same_Some y x (sym (cond-true (p y) (Some y) (find p ys) t) ∙ h)))
-      (λ f. found_later f (sym (cond-false (p y) (Some y) (find p ys) f) ∙ h))
+  found_in p y ys x h = grind (arith, same_Some, cond-true, cond-false)
 
   -- where nothing is found, the first element doesn't pass, and nothing is found among the others
   pub found_nowhere : (p : A → Bool) (y : A) (ys : List A) → find p (y ∷ ys) ≡ None → (p y ≡ false) × (find p ys ≡ None)
-  found_nowhere p y ys h =
-      by_test (p y)
-      (λ t. let z : Some y ≡ None = sym (cond-true (p y) (Some y) (find p ys) t) ∙ h in cc)
-      (λ f. (f, sym (cond-false (p y) (Some y) (find p ys) f) ∙ h))
+  found_nowhere p y ys h = grind (arith, cond-true, cond-false)
 
   -- what is found is a member that passes
   pub found_passes : (p : A → Bool) (xs : List A) (x : A) → find p xs ≡ Some x → p x ≡ true
@@ -110,15 +96,11 @@ module _ {A : Type 0} where
 
   -- where no member passes, nothing is found
   pub find_none : (p : A → Bool) (xs : List A) → ((x : A) → Member x xs → p x ≡ true → ⊥) → find p xs ≡ None
-  find_none p xs none =
-      by_option (find p xs) (λ e. e) (λ x e. absurd (none x (found_among p xs x e) (found_passes p xs x e)))
+  find_none p xs none = grind (arith, found_among, found_passes)
 
   -- the only member that passes is found
   pub find_only : (p : A → Bool) (xs : List A) (x : A) → Member x xs → p x ≡ true → ((y : A) → Member y xs → p y ≡ true → y ≡ x) → find p xs ≡ Some x
-  find_only p xs x m t only =
-      by_option (find p xs)
-      (λ e. absurd (found_none p xs x e m t))
-      (λ y e. e ∙ ap Some (only y (found_among p xs y e) (found_passes p xs y e)))
+  find_only p xs x m t only = grind (arith, found_none, found_among, found_passes)
 
   -- tests that agree find the same
   pub find_same : (p q : A → Bool) (xs : List A) → ((x : A) → p x ≡ q x) → find p xs ≡ find q xs

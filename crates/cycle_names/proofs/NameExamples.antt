@@ -1,22 +1,9 @@
 -- Names of cycles, computed from the definition.
-use Rattle.std.proofs.Common.{◌≡◌, ℕ, List, [], ◌∷◌, Option, Some, refl}
-use Rattle.std.specs.List.{slice_split}
-use Rattle.std.specs.Option.{option_map}
-use Rattle.std.specs.Prelude.{codes}
-use Rattle.relax_edges.specs.declared.kinds.Dir.TheVariants.{R, W}
-use Rattle.relax_edges.specs.declared.kinds.Sd.TheVariants.{Diff}
-use Rattle.relax_edges.specs.declared.kinds.Reach.TheVariants.{Internal}
+use Rattle.cycle_names.proofs.Vocabulary.{◌≡◌, ℕ, List, [], ◌∷◌, Option, Some, refl, slice_split, option_map, codes, R, W, Diff, Internal, rank_of, edges_in_order, edge_of, pod, rfe, fre, wse, found_family, named_rotation, links_text, name_from, name_of, is_dash, edges_of_words}
 use Rattle.relax_edges.specs.declared.kinds.FenceKind.TheVariants as fences
 use Rattle.relax_edges.specs.declared.kinds.DepKind.TheVariants as deps
 use Rattle.relax_edges.specs.declared.kinds.Com.TheVariants as coms
 use Rattle.relax_edges.specs.declared.edge.Edge.TheVariants as edges
-use Rattle.relax_edges.specs.Order.{rank_of}
-use Rattle.relax_edges.specs.AllEdges.{edges_in_order}
-use Rattle.relax_edges.specs.Spelling.{edge_of}
-use Rattle.relax_edges.specs.NamedEdges.{pod, rfe, fre, wse}
-use Rattle.cycle_names.specs.Rotations.{found_family, named_rotation}
-use Rattle.cycle_names.specs.CycleNames.{links_text, name_from, name_of}
-use Rattle.cycle_names.specs.NameReading.{is_dash, edges_of_words}
 
 -- `LwSyncdWW Rfe DpAddrdR Fre`, and its rotation by one
 mp_lwsync_addr : name_of (edges.Fenced fences.LwSync Diff W W ∷ rfe ∷ edges.Dep deps.Addr Diff R ∷ fre ∷ []) ≡ codes "MP+lwsync+addr"

@@ -1,31 +1,5 @@
 -- The laws of names, each from its lemmas.
-use Rattle.std.specs.Prelude.{◌≡◌, ◌≤◌, ◌+◌, ◌*◌, ℕ, Bool, true, Option, Some, None, List, [], ◌∷◌, ◌++◌, length, codes, nat_le}
-use Rattle.std.specs.List.{list_all, flat_map, join_by}
-use Rattle.std.specs.Str.{bytes_eq}
-use Rattle.std.proofs.Common.{refl, sym, ◌∙◌, ap, subst, arith, length-append}
-use Rattle.std.proofs.lemmas.Bool.{and_parts, cond_both, leb-true, le-leb}
-use Rattle.std.proofs.lemmas.List.Folds.{list_all-append}
-use Rattle.std.proofs.Math.Bool.{and_comm}
-use Rattle.std.proofs.lemmas.Option.{same_Some}
-use Rattle.list_laws.proofs.Cases.{by_test}
-use Rattle.relax_edges.specs.declared.TheConstants.{MAX_EDGES}
-use Rattle.relax_edges.specs.declared.kinds.ArchName.{ArchName}
-use Rattle.relax_edges.specs.declared.edge.Edge.{Edge}
-use Rattle.relax_edges.specs.EdgeTable.{is_diff, is_of_arch}
-use Rattle.relax_edges.specs.WordParts.{word_of}
-use Rattle.cycle_laws.proofs.SpellingLaws.{word_short}
-use Rattle.cycle_laws.specs.Composable.{IsCycle}
-use Rattle.cycle_laws.specs.Rotation.{IsRotation}
-use Rattle.cycle_laws.proofs.Laws.{cycle_of_rotation}
-use Rattle.cycle_laws.proofs.Rotating.{rotation_back, rotation_on, rotation_length}
-use Rattle.cycle_names.specs.declared.family.Family.{Family}
-use Rattle.cycle_names.specs.Families.{family_word}
-use Rattle.cycle_names.specs.LinkWords.{link_word, link_words}
-use Rattle.cycle_names.specs.Rotations.{found_family, named_rotation}
-use Rattle.text_laws.specs.Names.{is_name_byte}
-use Rattle.cycle_names.specs.CycleNames.{after_plus, all_equal, plural, links_text, name_from, name_of}
-use Rattle.cycle_names.specs.NameReading.{edges_read}
-use Rattle.cycle_names.specs.Laws.{are_of_arch, NamesDecide, NamesReadBack, FamiliesApart, IsName, NamesAreNames}
+use Rattle.cycle_names.proofs.Vocabulary.{◌≡◌, ◌≤◌, ◌+◌, ◌*◌, ℕ, Bool, true, Option, Some, None, List, [], ◌∷◌, ◌++◌, length, codes, nat_le, list_all, flat_map, join_by, bytes_eq, refl, sym, ◌∙◌, ap, subst, arith, length-append, and_parts, cond_both, leb-true, le-leb, list_all-append, and_comm, same_Some, MAX_EDGES, ArchName, Edge, word_of, word_short, IsCycle, IsRotation, cycle_of_rotation, rotation_back, rotation_on, rotation_length, Family, link_words, found_family, named_rotation, is_name_byte, after_plus, all_equal, plural, links_text, name_from, name_of, edges_read, are_of_arch, NamesDecide, NamesReadBack, FamiliesApart, IsName, NamesAreNames}
 use Rattle.cycle_names.proofs.Tables.{link_word_short, link_word_bytes, word_bytes}
 use Rattle.cycle_names.proofs.Outlines.{words_of_link, words_of_plain, each_word}
 use Rattle.cycle_names.proofs.Families.{one_family, family_word_short, family_word_some, family_word_bytes}
@@ -39,8 +13,7 @@ one_rotation u v c d e = same_Some _ _ (sym (name_back u c) ∙ ap edges_read e 
 -- rotations of a cycle have one name
 pub one_name : (u v : List Edge) → IsCycle u → IsRotation u v → name_of u ≡ name_of v
 unfolding name_of
-one_name u v c r =
-    ap (λ o. name_from o (named_rotation u)) (family_turned u v c.some r) ∙ ap (name_from (found_family v)) (named_turned u v c r)
+one_name u v c r = grind (arith, family_turned, named_turned)
 
 -- two cycles have one name exactly where they are the same cycle
 pub decide_names : NamesDecide
@@ -52,13 +25,7 @@ decide_names u v c d =
 
 -- the edges of a rotation are those of the cycle
 pub arch_turned : (arch : ArchName) (u v : List Edge) → IsRotation u v → are_of_arch arch u ≡ are_of_arch arch v
-arch_turned arch u v r =
-    let p : Edge → Bool = λ edge. is_of_arch edge arch in
-    ap (list_all p) r.from
-    ∙ list_all-append p r.prefix r.back
-    ∙ and_comm (list_all p r.prefix) (list_all p r.back)
-    ∙ sym (list_all-append p r.back r.prefix)
-    ∙ sym (ap (list_all p) r.to)
+arch_turned arch u v r = grind (arith, list_all-append, and_comm)
 
 -- the rotation that a cycle is named from
 pub record Named (u : List Edge) : Type 0 where
@@ -92,10 +59,7 @@ keep_families_apart = one_family
 
 few_words : (v : List Edge) → length (link_words v) ≤ length v
 few_words [] = omega arith
-few_words (e ∷ v) =
-    by_test (is_diff e)
-    (λ t. omega (arith, ap length (words_of_link e v t), few_words v))
-    (λ f. omega (arith, ap length (words_of_plain e v f), few_words v))
+few_words (e ∷ v) = grind (arith, words_of_link, words_of_plain, (few_words v))
 
 abbrev short_word : List ℕ → Bool
 short_word word = nat_le (length word) 11
@@ -108,17 +72,11 @@ words_long (word ∷ words) h =
 
 plural_long : (words : List (List ℕ)) → list_all short_word words ≡ true → length (plural words) ≤ 13
 plural_long [] h = omega arith
-plural_long (word ∷ words) h =
-    let both = and_parts (short_word word) (list_all short_word words) h in
-    omega (arith, leb-true (length word) 11 both.0, length-append word (codes "s"))
+plural_long (word ∷ words) h = grind (arith, and_parts, leb-true, length-append)
 
 pub links_long : (v : List Edge) → length (links_text (link_words v)) ≤ 13 + 12 * length v
 unfolding links_text
-links_long v =
-    let short : list_all short_word (link_words v) ≡ true = each_word short_word (λ e. le-leb (length (link_word e)) 11 (link_word_short e)) v in
-    let fits : List ℕ → Type 0 = λ text. length text ≤ 13 + 12 * length v in
-    cond_both (list_all (bytes_eq (codes "po")) (link_words v)) [] _ fits (λ _. omega arith)
-    (λ _. cond_both (all_equal (link_words v)) _ _ fits (λ _. omega (arith, plural_long (link_words v) short)) (λ _. omega (arith, words_long (link_words v) short, few_words v)))
+links_long v = grind (arith, each_word, le-leb, link_word_short, cond_both, plural_long, words_long, few_words)
 
 dashed_long : (v : List Edge) → length (flat_map (λ e. codes "-" ++ word_of e) v) ≤ 15 * length v
 dashed_long [] = omega arith
@@ -162,16 +120,8 @@ joined_bytes (e ∷ v) = bytes_both (word_of e) (flat_map (λ e. codes "-" ++ wo
 
 name_from_is : (o : Option Family) (v : List Edge) → length v ≤ MAX_EDGES → IsName (name_from o v)
 unfolding name_from
-name_from_is None v few = record {
-  some = omega arith;
-  short = omega (arith, joined_long v);
-  bytes = joined_bytes v;
-}
-name_from_is (Some f) v few = record {
-  some = omega (arith, family_word_some f, length-append (family_word f) (links_text (link_words v)));
-  short = omega (arith, family_word_short f, links_long v, length-append (family_word f) (links_text (link_words v)));
-  bytes = bytes_both (family_word f) (links_text (link_words v)) (family_word_bytes f) (links_bytes v);
-}
+name_from_is None v few = grind (arith, joined_long, joined_bytes)
+name_from_is (Some f) v few = grind (arith, family_word_some, length-append, family_word_short, links_long, bytes_both, family_word_bytes, links_bytes)
 
 -- the name of a cycle has 1 to 800 bytes, all of them bytes of names
 pub names_of_cycles : NamesAreNames

@@ -1,27 +1,5 @@
 -- Rotations that fit: their slots, and that a name says what their edges join and the words of their links.
-use Rattle.std.specs.Prelude.{◌≡◌, ◌==◌, ◌&&◌, ℕ, Bool, true, false, cond, List, [], ◌∷◌, length, map, nat_eq, nat_lt, ◌||◌}
-use Rattle.std.specs.declared.cmp.Ordering.{Ordering}
-use Rattle.std.specs.declared.cmp.Ordering.TheVariants.{Less, Equal, Greater}
-use Rattle.std.specs.List.{list_all}
-use Rattle.std.specs.Ordering.{nat_cmp, is_lt, ordering_then}
-use Rattle.std.specs.Cmp.Lexicographic.{slice_cmp, bytes_decides}
-use Rattle.std.proofs.Common.{refl, sym, ◌∙◌, ap, arith}
-use Rattle.std.proofs.lemmas.Bool.{eqb-true, eq-eqb, and_parts, ltb-true}
-use Rattle.std.proofs.lemmas.List.{length-map}
-use Rattle.std.proofs.lemmas.Option.{same_Some}
-use Rattle.list_laws.proofs.Cases.{by_test}
-use Rattle.relax_edges.specs.declared.edge.Edge.{Edge}
-use Rattle.relax_edges.specs.EdgeTable.{is_diff}
-use Rattle.relax_edges.specs.Order.{rank_of}
-use Rattle.relax_edges.specs.Relaxations.{is_same}
-use Rattle.cycle_laws.proofs.RankLaws.{rank_injective}
-use Rattle.cycle_laws.specs.CycleOrder.{ranks_below}
-use Rattle.cycle_names.specs.declared.family.Family.{Family}
-use Rattle.cycle_names.specs.Families.{family_edges}
-use Rattle.cycle_names.specs.LinkWords.{edge_of_slot, outline, link_word, link_words}
-use Rattle.cycle_names.specs.Rotations.{joins_as, is_plain_outside, fits_family, words_below}
-use Rattle.cycle_names.specs.Fitting.{word_place}
-use Rattle.cycle_names.specs.NameReading.{link_with}
+use Rattle.cycle_names.proofs.Vocabulary.{◌≡◌, ◌==◌, ◌&&◌, ℕ, Bool, true, false, cond, List, [], ◌∷◌, length, map, nat_eq, nat_lt, ◌||◌, Ordering, Less, Equal, Greater, list_all, nat_cmp, is_lt, ordering_then, slice_cmp, bytes_decides, refl, sym, ◌∙◌, ap, arith, eqb-true, eq-eqb, and_parts, ltb-true, length-map, same_Some, by_test, Edge, is_diff, rank_of, is_same, rank_injective, ranks_below, Family, family_edges, edge_of_slot, outline, link_word, link_words, joins_as, is_plain_outside, fits_family, words_below, word_place, link_with}
 use Rattle.cycle_names.proofs.Members.{same_head, same_tail}
 use Rattle.cycle_names.proofs.Tables.{link_words_order, link_words_equal, link_back, slot_is_diff, no_place}
 use Rattle.cycle_names.proofs.Marks.{said_of, said_link, said_slot}
@@ -91,16 +69,11 @@ same_lists (x ∷ u) (y ∷ v) e r =
 
 -- the order by words, on one more link
 one_more : (l q b : Bool) (o : Ordering) → is_lt o ≡ b → is_lt (ordering_then (cond l Less (cond q Equal Greater)) o) ≡ (l || q && b)
-one_more true q b o e = refl
-one_more false true b o e = e
-one_more false false b o e = refl
+one_more l q b o e = grind arith
 
 -- equal numbers leave the rest to decide
 equal_first : (a b : ℕ) (c : Bool) → a ≡ b → (nat_lt a b || nat_eq a b && c) ≡ c
-equal_first a b c e = rw (e, not_below b, eq-eqb b b refl) refl
-  where
-    not_below : (b : ℕ) → nat_lt b b ≡ false
-    not_below b = by_test (nat_lt b b) (λ t. absurd (omega (arith, ltb-true b b t))) (λ f. f)
+equal_first a b c e = grind (arith, eq-eqb, ltb-true)
 
 -- the words of a list by its first edge
 pub words_of_link : (x : Edge) (u : List Edge) → is_diff x ≡ true → link_words (x ∷ u) ≡ link_word x ∷ link_words u
@@ -113,10 +86,7 @@ words_of_plain x u f = rw f refl
 -- what is true of each word of a link is true of the words of the links of a cycle
 pub each_word : (p : List ℕ → Bool) → ((e : Edge) → p (link_word e) ≡ true) → (v : List Edge) → list_all p (link_words v) ≡ true
 each_word p h [] = refl
-each_word p h (e ∷ v) =
-    by_test (is_diff e)
-    (λ t. ap (list_all p) (words_of_link e v t) ∙ rw (h e) (each_word p h v))
-    (λ f. ap (list_all p) (words_of_plain e v f) ∙ each_word p h v)
+each_word p h (e ∷ v) = grind (arith, words_of_link, words_of_plain, (each_word p h v))
 
 -- the order of lists of words
 abbrev words_before : List (List ℕ) → List (List ℕ) → Bool

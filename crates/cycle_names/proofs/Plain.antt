@@ -1,11 +1,5 @@
 -- Events between external edges: whether they are plain is the same for all rotations of a cycle.
-use Rattle.std.specs.Prelude.{◌≡◌, ℕ, List, [], ◌∷◌, ◌++◌, take, drop}
-use Rattle.std.proofs.Common.{refl, ◌∙◌, ap}
-use Rattle.std.proofs.lemmas.List.{take-append-drop}
-use Rattle.relax_edges.specs.declared.edge.Edge.{Edge}
-use Rattle.cycle_laws.specs.Rotation.{rotated}
-use Rattle.cycle_laws.proofs.Turning.{IsStepwise, stepwise_turned}
-use Rattle.cycle_names.specs.Rotations.{is_plain_before, all_unmarked, is_plain_outside}
+use Rattle.cycle_names.proofs.Vocabulary.{arith, ◌≡◌, ℕ, List, [], ◌∷◌, ◌++◌, refl, take-append-drop, Edge, rotated, IsStepwise, stepwise_turned, is_plain_before, all_unmarked, is_plain_outside}
 
 plain_prefix : (e m : Edge) (a b : List Edge) → is_plain_before e (a ++ m ∷ b) ≡ is_plain_before e (a ++ m ∷ [])
 plain_prefix e m [] b = refl
@@ -17,5 +11,4 @@ plain_stepwise = record { looks = plain_prefix; alone = λ e. refl; step = λ e 
 
 -- whether a cycle is plain between external edges is the same for all its rotations
 pub plain_rotated : (k : ℕ) (u : List Edge) → is_plain_outside (rotated k u) ≡ is_plain_outside u
-plain_rotated k u =
-    stepwise_turned is_plain_before all_unmarked is_plain_outside plain_stepwise (drop k u) (take k u) ∙ ap is_plain_outside (take-append-drop k u)
+plain_rotated k u = grind (arith, stepwise_turned, plain_stepwise, take-append-drop)

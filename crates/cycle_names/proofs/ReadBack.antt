@@ -1,32 +1,6 @@
 -- Reading a name gives the edges of the rotation that it was made from.
-use Rattle.std.specs.Prelude.{◌≡◌, ◌<◌, ◌≤◌, ◌-◌, ◌||◌, ℕ, suc, Bool, true, false, not, cond, Some, None, List, [], ◌∷◌, ◌++◌, length, map, filter, drop, codes}
-use Rattle.std.specs.List.{list_any, list_all, flat_map, join_by, before_first, slice_split}
-use Rattle.std.specs.Str.{bytes_eq}
-use Rattle.std.specs.Cmp.Lexicographic.{bytes_decides}
-use Rattle.std.proofs.Common.{refl, sym, ◌∙◌, ap, arith, length-append}
-use Rattle.std.proofs.Math.Seq.{drop-append_seam}
-use Rattle.std.proofs.lemmas.Bool.{and_parts, or_right, cond-true, cond-false, cond_both, not-true}
-use Rattle.std.proofs.lemmas.List.Folds.{list_any-append}
-use Rattle.std.proofs.lemmas.List.{append-nil, take_at}
-use Rattle.list_laws.proofs.Cases.{by_test, by_option, implied}
-use Rattle.relax_edges.specs.declared.edge.Edge.{Edge}
-use Rattle.relax_edges.specs.EdgeTable.{is_diff}
-use Rattle.relax_edges.specs.WordParts.{word_of}
-use Rattle.relax_edges.specs.Spelling.{edge_of}
-use Rattle.relax_edges.specs.ReadEdges.{before_edges}
-use Rattle.cycle_laws.proofs.SpellingLaws.{edge_of-word_of}
-use Rattle.list_laws.proofs.Places.{before_first-no}
-use Rattle.text_laws.proofs.PieceLaws.{split_whole, split_off}
-use Rattle.cycle_laws.specs.Composable.{IsCycle}
-use Rattle.cycle_laws.proofs.Laws.{cycle_of_rotation}
-use Rattle.cycle_laws.proofs.Rotating.{rotation_length}
-use Rattle.cycle_names.specs.declared.family.Family.{Family}
+use Rattle.cycle_names.proofs.Vocabulary.{◌≡◌, ◌<◌, ◌≤◌, ◌-◌, ◌||◌, ℕ, Bool, true, false, not, Some, None, List, [], ◌∷◌, ◌++◌, length, map, filter, codes, list_any, list_all, flat_map, join_by, before_first, slice_split, bytes_eq, bytes_decides, refl, sym, ◌∙◌, ap, arith, length-append, drop-append_seam, and_parts, or_right, cond-true, cond-false, cond_both, not-true, list_any-append, append-nil, take_at, by_test, by_option, implied, Edge, is_diff, word_of, edge_of, before_edges, edge_of-word_of, before_first-no, split_whole, split_off, IsCycle, cycle_of_rotation, rotation_length, Family, family_word, all_families, edge_of_slot, outline, link_word, link_words, fits_family, found_family, named_rotation, after_plus, all_equal, plural, links_text, name_from, name_of, is_plus, is_dash, named_family, link_with, slot_with, filled_alike, first_name_word, after_word, filled_each, without_last_byte, slots_filled, edges_of_words, edges_read}
 use Rattle.cycle_names.specs.declared.family.Family.TheVariants as families
-use Rattle.cycle_names.specs.Families.{family_word, family_edges, all_families}
-use Rattle.cycle_names.specs.LinkWords.{edge_of_slot, outline, link_word, link_words}
-use Rattle.cycle_names.specs.Rotations.{fits_family, found_family, named_rotation}
-use Rattle.cycle_names.specs.CycleNames.{after_plus, all_equal, plural, links_text, name_from, name_of}
-use Rattle.cycle_names.specs.NameReading.{is_plus, is_dash, named_family, link_with, slot_with, filled_alike, first_name_word, after_word, filled_each, without_last_byte, slots_filled, marked_if, edges_of_words, read_by_family, edges_read}
 use Rattle.cycle_names.proofs.Tables.{slot_is_diff, link_back, link_word_whole, word_whole}
 use Rattle.cycle_names.proofs.Marks.{said_of, said_link, said_slot, both_there}
 use Rattle.cycle_names.proofs.Outlines.{outline_of_fits, words_of_link, words_of_plain, each_word}
@@ -43,10 +17,7 @@ until p (b ∷ word) rest h t =
 
 -- the edge of a slot, with the word of the edge
 slot_back : (e : Edge) (word : List ℕ) → (is_diff e ≡ true → word ≡ link_word e) → slot_with (edge_of_slot e) word ≡ Some (said_of e)
-slot_back e word h =
-    by_test (is_diff e)
-    (λ t. cond-true (is_diff (edge_of_slot e)) (link_with (edge_of_slot e) word) (Some (edge_of_slot e)) (slot_is_diff e ∙ t) ∙ ap (link_with (edge_of_slot e)) (h t) ∙ link_back e t ∙ ap Some (sym (said_link e t)))
-    (λ f. cond-false (is_diff (edge_of_slot e)) (link_with (edge_of_slot e) word) (Some (edge_of_slot e)) (slot_is_diff e ∙ f) ∙ ap Some (sym (said_slot e f)))
+slot_back e word h = grind (arith, cond-true, slot_is_diff, link_back, said_link, cond-false, said_slot)
 
 -- where all links have one word
 alike_back : (v : List Edge) (word : List ℕ) → list_all (bytes_eq word) (link_words v) ≡ true → filled_alike (outline v) word ≡ Some (map said_of v)
@@ -63,8 +34,7 @@ first_word_is word [] h = until is_plus word [] h refl
 first_word_is word (next ∷ words) h = until is_plus word (flat_map after_plus (next ∷ words)) h refl
 
 after_word_is : (word : List ℕ) (words : List (List ℕ)) → list_all (λ b. not (is_plus b)) word ≡ true → after_word (flat_map after_plus (word ∷ words)) ≡ flat_map after_plus words
-after_word_is word words h =
-    ap (λ w. drop (length w) (word ++ flat_map after_plus words)) (first_word_is word words h) ∙ drop-append_seam word (flat_map after_plus words)
+after_word_is word words h = grind (arith, first_word_is, drop-append_seam)
 
 each_back : (v : List Edge) → filled_each (outline v) (flat_map after_plus (link_words v)) ≡ Some (map said_of v)
 each_back [] = refl
@@ -118,16 +88,7 @@ words_back v (word ∷ next ∷ words) e l =
 
 links_back : (v : List Edge) → 2 ≤ length (link_words v) → slots_filled (outline v) (links_text (link_words v)) ≡ Some (map said_of v)
 unfolding links_text
-links_back v l =
-    let words : List (List ℕ) = link_words v in
-    let rest : List ℕ = cond (all_equal words) (plural words) (flat_map after_plus words) in
-    by_test (list_all (bytes_eq (codes "po")) words)
-    (λ t. ap (slots_filled (outline v)) (cond-true (list_all (bytes_eq (codes "po")) words) [] rest t) ∙ alike_back v (codes "po") t)
-    (λ f.
-    ap (slots_filled (outline v)) (cond-false (list_all (bytes_eq (codes "po")) words) [] rest f)
-    ∙ by_test (all_equal words)
-    (λ t. ap (slots_filled (outline v)) (cond-true (all_equal words) (plural words) (flat_map after_plus words) t) ∙ plural_back v words refl (omega (arith, l)) t)
-    (λ f. ap (slots_filled (outline v)) (cond-false (all_equal words) (plural words) (flat_map after_plus words) f) ∙ words_back v words refl l))
+links_back v l = grind (arith, cond-true, alike_back, cond-false, plural_back, words_back)
 
 -- an empty text, or one that begins with `+`
 data StartsPlus (text : List ℕ) : Type 0 where
@@ -149,42 +110,17 @@ links_start words =
     (λ _. cond_both (all_equal words) _ _ StartsPlus (λ _. plural_starts words) (λ _. words_start words))
 
 family_named : (f : Family) (text : List ℕ) → (f ≡ families.Other → ⊥) → StartsPlus text → named_family all_families (family_word f ++ text) ≡ Some f
-family_named f text n s =
-    elim s [
-      | ends_here e ↦ ap (λ t. named_family all_families (family_word f ++ t)) e ∙ (words_named f [] n).0
-      | goes_on rest e ↦ ap (λ t. named_family all_families (family_word f ++ t)) e ∙ (words_named f rest n).1
-    ]
+family_named f text n s = grind (arith, words_named)
 
 -- as many words as there are links among the slots
 count_links : (v : List Edge) → length (link_words v) ≡ length (filter is_diff (outline v))
 count_links [] = refl
-count_links (e ∷ v) =
-    by_test (is_diff e)
-    (λ t.
-    let a : length (link_words (e ∷ v)) ≡ suc (length (link_words v)) = ap length (words_of_link e v t) in
-    let b : length (filter is_diff (outline (e ∷ v))) ≡ suc (length (filter is_diff (outline v))) = one_more (edge_of_slot e) (outline v) (slot_is_diff e ∙ t) in
-    omega (arith, a, b, count_links v))
-    (λ f. ap length (words_of_plain e v f) ∙ count_links v ∙ sym (no_more (edge_of_slot e) (outline v) (slot_is_diff e ∙ f)))
-  where
-    one_more : (s : Edge) (u : List Edge) → is_diff s ≡ true → length (filter is_diff (s ∷ u)) ≡ suc (length (filter is_diff u))
-    one_more s u t = rw t refl
-
-    no_more : (s : Edge) (u : List Edge) → is_diff s ≡ false → length (filter is_diff (s ∷ u)) ≡ length (filter is_diff u)
-    no_more s u f = rw f refl
+count_links (e ∷ v) = grind (arith, words_of_link, slot_is_diff, words_of_plain, (count_links v))
 
 -- the name of a cycle of a family
 family_back : (f : Family) (v : List Edge) → (f ≡ families.Other → ⊥) → IsCycle v → fits_family f v ≡ true → edges_read (name_from (Some f) v) ≡ Some v
 unfolding edges_read name_from
-family_back f v n c h =
-    let e : outline v ≡ family_edges f = outline_of_fits f v h in
-    let words : List (List ℕ) = link_words v in
-    let text : List ℕ = family_word f ++ links_text words in
-    let many : 2 ≤ length words = omega (arith, count_links v, ap (λ u. length (filter is_diff u)) e, family_links f n) in
-    ap (λ o. read_by_family o text) (family_named f (links_text words) n (links_start words))
-    ∙ ap (λ t. marked_if (slots_filled (family_edges f) t)) (drop-append_seam (family_word f) (links_text words))
-    ∙ ap (λ u. marked_if (slots_filled u (links_text words))) (sym e)
-    ∙ ap marked_if (links_back v many)
-    ∙ fit_back f v c h
+family_back f v n c h = grind (arith, outline_of_fits, count_links, family_links, family_named, links_start, drop-append_seam, links_back, fit_back)
 
 -- the words of a cycle joined by dashes, cut at the dashes
 split_words : (e : Edge) (v : List Edge) → slice_split is_dash (join_by word_of (codes "-") (e ∷ v)) ≡ word_of e ∷ map word_of v

@@ -1,32 +1,7 @@
 -- Steps of reading a name and of looking at its links: what one edge more means.
-use Rattle.std.specs.Prelude.{◌≡◌, ◌<◌, ◌≤◌, ◌+◌, ◌-◌, ◌&&◌, ℕ, suc, true, false, Option, Some, None, Result, IsOk, List, [], ◌∷◌, ◌++◌, length, take, drop}
-use Rattle.std.specs.List.{slice_split, position_or_len, onto_first}
-use Rattle.std.proofs.Common.{refl, sym, ◌∙◌, ap, arith, get_or, append_assoc, length-append}
-use Rattle.std.proofs.lemmas.Bool.{and_parts, cond-true, cond-false}
-use Rattle.std.proofs.lemmas.List.{take_all, append-nil}
-use Rattle.std.proofs.Math.ListN.{drop_of_length-le}
-use Rattle.std.specs.Str.{bytes_eq}
-use Rattle.std.specs.Cmp.Lexicographic.{bytes_decides}
-use Rattle.std.proofs.lemmas.Option.{same_Some}
-use Rattle.list_laws.proofs.Cases.{by_test, by_option, by_less}
-use Rattle.list_laws.proofs.Elements.{rest-cons}
-use Rattle.relax_edges.specs.declared.TheConstants.{MAX_EDGES}
-use Rattle.relax_edges.specs.declared.order.TheConstants.{EDGES}
-use Rattle.relax_edges.specs.declared.kinds.Dir.{Dir}
-use Rattle.relax_edges.specs.declared.kinds.Mark.{Mark}
-use Rattle.relax_edges.specs.declared.edge.Edge.{Edge}
-use Rattle.relax_edges.specs.EdgeTable.{source_of, target_of, target_mark, is_diff, same_dir}
-use Rattle.relax_edges.specs.Order.{rank_of}
-use Rattle.relax_edges.specs.Spelling.{edge_of}
-use Rattle.relax_edges.specs.ReadEdges.{before_edges}
-use Rattle.relax_edges.specs.AllEdges.{edges_in_order}
-use Rattle.cycle_laws.proofs.RankLaws.{rank_injective, rank_below}
-use Rattle.list_laws.proofs.Places.{position_or_len-no}
-use Rattle.cycle_names.specs.LinkWords.{link_word}
-use Rattle.cycle_names.specs.NameReading.{is_dash, is_link, link_between, link_with, first_mark, marked_between, marked_along, first_name_word, after_word, filled_each, edges_of_words, AddsEdges}
+use Rattle.cycle_names.proofs.Vocabulary.{◌≡◌, ◌<◌, ◌≤◌, ◌+◌, ◌-◌, ◌&&◌, ℕ, true, false, Option, Some, None, Result, IsOk, List, [], ◌∷◌, ◌++◌, length, take, drop, slice_split, position_or_len, onto_first, refl, sym, ◌∙◌, ap, arith, get_or, append_assoc, length-append, and_parts, cond-true, cond-false, append-nil, bytes_eq, bytes_decides, same_Some, common_steps, by_test, by_less, rest-cons, MAX_EDGES, EDGES, Dir, Edge, source_of, target_of, is_diff, same_dir, rank_of, edge_of, before_edges, edges_in_order, rank_injective, rank_below, position_or_len-no, link_word, is_dash, is_link, link_between, link_with, first_name_word, after_word, filled_each, edges_of_words, AddsEdges, same_dir_is}
 use Rattle.cycle_names.proofs.Tables.{link_found_back}
 use Rattle.cycle_names.proofs.Members.{find_none}
-use Rattle.cycle_laws.proofs.Joining.{same_dir_is}
 
 -- a list without its first element, as slice patterns give it
 abbrev pub rest_of : {A : Type 0} → List A → List A
@@ -36,10 +11,6 @@ rest_of xs = take (length xs - 1) (drop 1 xs)
 pub first_and_rest : {A : Type 0} (xs : List A) (d : A) → 1 ≤ length xs → xs ≡ get_or xs 0 d ∷ rest_of xs
 first_and_rest [] d h = absurd (omega arith)
 first_and_rest (x ∷ xs) d h = ap (λ w. x ∷ w) (sym (rest-cons x xs))
-
-rest_drop : {A : Type 0} (xs : List A) → 1 ≤ length xs → rest_of xs ≡ drop 1 xs
-rest_drop [] h = absurd (omega arith)
-rest_drop (x ∷ xs) h = rest-cons x xs
 
 -- the parts of a text after its first one
 abbrev parts_after : List ℕ → List (List ℕ)
@@ -58,10 +29,7 @@ split_is (b ∷ text) =
 
 spelled_parts : (text word remainder : List ℕ) (n : ℕ) → n ≡ position_or_len is_dash text → word ≡ take n text → remainder ≡ drop n text →
     edges_of_words (slice_split is_dash text) ≡ before_edges (edge_of word) (edges_of_words (parts_after remainder))
-spelled_parts text word remainder n i w b =
-    ap edges_of_words (split_is text) ∙ ap (λ n. before_edges (edge_of (take n text)) (edges_of_words (parts_after (drop n text)))) (sym i)
-    ∙ ap (λ x. before_edges (edge_of x) (edges_of_words (parts_after (drop n text)))) (sym w)
-    ∙ ap (λ x. before_edges (edge_of word) (edges_of_words (parts_after x))) (sym b)
+spelled_parts text word remainder n i w b = grind (arith, split_is)
 
 parts_more : (remainder : List ℕ) → 1 ≤ length remainder → parts_after remainder ≡ slice_split is_dash (rest_of remainder)
 parts_more [] h = absurd (omega arith)
@@ -75,15 +43,7 @@ module _ {E : Type 0} where
   -- an edge has been added before others
   pub adds_before : (o : Option Edge) (p : Option (List Edge)) (e : Edge) (old pushed new : List Edge) (result : Result (Unit {0}) E) →
       o ≡ Some e → pushed ≡ old ++ e ∷ [] → AddsEdges p pushed new result → AddsEdges (before_edges o p) old new result
-  adds_before o p e old pushed new result h k a edges found fits =
-      by_option p
-      (λ n. let z : None ≡ Some edges = sym (rw (h, n) refl) ∙ found in cc)
-      (λ rest s.
-      let z : Some (e ∷ rest) ≡ Some edges = sym (rw (h, s) refl) ∙ found in
-      let same : e ∷ rest ≡ edges = same_Some (e ∷ rest) edges z in
-      let long : suc (length rest) ≡ length edges = ap length same in
-      let r = a rest s (omega (arith, ap length k, length-append old (e ∷ []), long)) in
-      (r.0, r.1 ∙ ap (λ w. w ++ rest) k ∙ append_assoc old (e ∷ []) rest ∙ ap (λ w. old ++ w) same))
+  adds_before o p e old pushed new result h k a edges found fits = grind (arith, same_Some, length-append, append_assoc)
 
   -- nothing is read where an edge isn't there
   pub adds_none : (o : Option Edge) (p : Option (List Edge)) (old new : List Edge) (result : Result (Unit {0}) E) → o ≡ None → AddsEdges (before_edges o p) old new result
@@ -91,15 +51,7 @@ module _ {E : Type 0} where
 
   -- no edge more fits where all are there
   pub adds_full : (o : Option Edge) (p : Option (List Edge)) (old new : List Edge) (result : Result (Unit {0}) E) → MAX_EDGES ≤ length old → AddsEdges (before_edges o p) old new result
-  adds_full None p old new result h edges found fits = cc
-  adds_full (Some e) p old new result h edges found fits =
-      by_option p
-      (λ n. let z : None ≡ Some edges = sym (rw n refl) ∙ found in cc)
-      (λ rest s.
-      let z : Some (e ∷ rest) ≡ Some edges = sym (rw s refl) ∙ found in
-      let same : e ∷ rest ≡ edges = same_Some (e ∷ rest) edges z in
-      let long : suc (length rest) ≡ length edges = ap length same in
-      absurd (omega (arith, long)))
+  adds_full o p old new result h edges found fits = grind (arith, same_Some)
 
   adds_same : (p q : Option (List Edge)) (old new : List Edge) (result : Result (Unit {0}) E) → p ≡ q → AddsEdges q old new result → AddsEdges p old new result
   adds_same p q old new result e a edges found fits = a edges (sym e ∙ found) fits
@@ -125,49 +77,26 @@ module _ {E : Type 0} where
       ∙ ap (λ u. before_edges (Some s) (filled_each u links)) (sym (rest-cons s slots)))
       (adds_before (Some s) (filled_each (rest_of (s ∷ slots)) links) s old pushed new result refl k a)
 
-  -- one edge more, with its marks
-  pub mark_more : (from to mark : Mark) (unmarked : List Edge) (d e : Edge) (old pushed new : List Edge) (result : Result (Unit {0}) E) →
-      1 ≤ length unmarked → mark ≡ first_mark (rest_of unmarked) to → Some e ≡ marked_between from (get_or unmarked 0 d) mark → pushed ≡ old ++ e ∷ [] →
-      AddsEdges (marked_along (target_mark (get_or unmarked 0 d)) (rest_of unmarked) to) pushed new result → AddsEdges (marked_along from unmarked to) old new result
-  mark_more from to mark [] d e old pushed new result h m o k a = absurd (omega arith)
-  mark_more from to mark (x ∷ unmarked) d e old pushed new result h m o k a =
-      adds_same (marked_along from (x ∷ unmarked) to) (before_edges (marked_between from x mark) (marked_along (target_mark x) (rest_of (x ∷ unmarked)) to)) old new result
-      (rw (m, rest-cons x unmarked) refl)
-      (adds_before (marked_between from x mark) (marked_along (target_mark x) (rest_of (x ∷ unmarked)) to) e old pushed new result (sym o) k a)
-
   -- one word more
   pub spell_more : (text word remainder : List ℕ) (n : ℕ) (e : Edge) (old pushed new : List Edge) (result : Result (Unit {0}) E) →
       n ≡ position_or_len is_dash text → word ≡ take n text → remainder ≡ drop n text → 1 ≤ length remainder → Some e ≡ edge_of word → pushed ≡ old ++ e ∷ [] →
       AddsEdges (edges_of_words (slice_split is_dash (rest_of remainder))) pushed new result → AddsEdges (edges_of_words (slice_split is_dash text)) old new result
-  spell_more text word remainder n e old pushed new result i w b h o k a =
-      adds_same (edges_of_words (slice_split is_dash text)) (before_edges (edge_of word) (edges_of_words (slice_split is_dash (rest_of remainder)))) old new result
-      (spelled_parts text word remainder n i w b ∙ ap (λ parts. before_edges (edge_of word) (edges_of_words parts)) (parts_more remainder h))
-      (adds_before (edge_of word) (edges_of_words (slice_split is_dash (rest_of remainder))) e old pushed new result (sym o) k a)
+  spell_more text word remainder n e old pushed new result i w b h o k a = grind (arith, common_steps, adds_same, spelled_parts, parts_more, adds_before)
 
   -- the last word
   pub spell_last : (text word remainder : List ℕ) (n : ℕ) (e : Edge) (old pushed : List Edge) (result : Result (Unit {0}) E) →
       n ≡ position_or_len is_dash text → word ≡ take n text → remainder ≡ drop n text → length remainder < 1 → Some e ≡ edge_of word → pushed ≡ old ++ e ∷ [] →
       IsOk result → AddsEdges (edges_of_words (slice_split is_dash text)) old pushed result
-  spell_last text word remainder n e old pushed result i w b h o k a =
-      adds_same (edges_of_words (slice_split is_dash text)) (before_edges (edge_of word) (Some [])) old pushed result
-      (spelled_parts text word remainder n i w b ∙ ap (λ parts. before_edges (edge_of word) (edges_of_words parts)) (parts_last remainder h))
-      (adds_before (edge_of word) (Some []) e old pushed pushed result (sym o) k (λ edges found fits. let z : [] ≡ edges = same_Some [] edges found in (a, sym (append-nil pushed) ∙ ap (λ w. pushed ++ w) z)))
+  spell_last text word remainder n e old pushed result i w b h o k a = grind (arith, adds_same, spelled_parts, parts_last, adds_before, same_Some, append-nil)
 
   -- no word
   pub spell_none : (text word : List ℕ) (n : ℕ) (old new : List Edge) (result : Result (Unit {0}) E) →
       n ≡ position_or_len is_dash text → word ≡ take n text → None ≡ edge_of word → AddsEdges (edges_of_words (slice_split is_dash text)) old new result
-  spell_none text word n old new result i w o =
-      adds_same (edges_of_words (slice_split is_dash text)) (before_edges (edge_of word) (edges_of_words (parts_after (drop n text)))) old new result
-      (spelled_parts text word (drop n text) n i w refl)
-      (adds_none (edge_of word) (edges_of_words (parts_after (drop n text))) old new result (sym o))
+  spell_none text word n old new result i w o = grind (arith, adds_same, spelled_parts, adds_none)
 
   -- where there is no room, nothing has to be added
   pub spell_full : (text : List ℕ) (old new : List Edge) (result : Result (Unit {0}) E) → MAX_EDGES ≤ length old → AddsEdges (edges_of_words (slice_split is_dash text)) old new result
-  spell_full text old new result h =
-      let n : ℕ = position_or_len is_dash text in
-      adds_same (edges_of_words (slice_split is_dash text)) (before_edges (edge_of (take n text)) (edges_of_words (parts_after (drop n text)))) old new result
-      (spelled_parts text (take n text) (drop n text) n refl refl refl)
-      (adds_full (edge_of (take n text)) (edges_of_words (parts_after (drop n text))) old new result h)
+  spell_full text old new result h = grind (arith, adds_same, spelled_parts, adds_full)
 
 -- an edge that joins the accesses with this word is the link between them
 pub link_found : (from to : Dir) (e : Edge) (word : List ℕ) → is_link from to word e ≡ true → link_between from to word ≡ Some e
@@ -191,10 +120,6 @@ link_at from to e word k r f before d l =
     by_less (rank_of d) k
     (λ less. before d less)
     (λ more. let same : d ≡ e = rank_injective d e (omega arith) in ap (is_link from to word) same ∙ f)
-
--- once nothing is left to add, all is added
-pub pushed_all : {A : Type 0} (a b rest : List A) (i : ℕ) → a ++ drop i rest ≡ b → length rest ≤ i → a ≡ b
-pushed_all a b rest i e h = sym (append-nil a) ∙ ap (λ w. a ++ w) (sym (drop_of_length-le rest h)) ∙ e
 
 -- what the code looks for, by what the slot joins
 pub link_seen : (slot : Edge) (from to : Dir) (word : List ℕ) (e : Edge) → from ≡ source_of slot → to ≡ target_of slot → is_link from to word e ≡ is_link (source_of slot) (target_of slot) word e

@@ -1,29 +1,5 @@
 -- Facts about all edges, each computed once over the list of all.
-use Rattle.std.specs.Prelude.{◌≡◌, ◌≤◌, ◌<◌, ◌+◌, ◌==◌, ◌||◌, ℕ, Bool, true, false, not, Option, Some, None, List, [], ◌++◌, length, nat_le, nat_lt}
-use Rattle.std.specs.Ordering.{nat_cmp, ordering_index}
-use Rattle.std.specs.Cmp.{booleans_Decides}
-use Rattle.std.specs.Cmp.Lexicographic.{slice_cmp}
-use Rattle.std.specs.List.{list_all}
-use Rattle.std.specs.Str.{bytes_eq}
-use Rattle.std.proofs.Common.{refl, sym, ◌∙◌, ap, arith, length-append}
-use Rattle.std.proofs.Math.Bool.{beq}
-use Rattle.std.proofs.lemmas.Bool.{eqb-true, eq-eqb, leb-true, ltb-true, not-true}
-use Rattle.std.proofs.lemmas.List.{append-nil}
-use Rattle.relax_edges.specs.declared.kinds.Sd.TheVariants.{Same, Diff}
-use Rattle.relax_edges.specs.declared.kinds.Kind.{Kind}
-use Rattle.relax_edges.specs.declared.kinds.Kind.TheVariants as kinds
-use Rattle.relax_edges.specs.declared.edge.Edge.{Edge}
-use Rattle.relax_edges.specs.EdgeTable.{kind_of, source_of, target_of, source_mark, target_mark, is_external, is_diff, unmarked}
-use Rattle.relax_edges.specs.Order.{rank_of}
-use Rattle.relax_edges.specs.WordParts.{word_of}
-use Rattle.relax_edges.specs.AllEdges.{edges_in_order}
-use Rattle.cycle_laws.proofs.RankLaws.{each_edge, rank_injective}
-use Rattle.cycle_names.specs.declared.slot.TheConstants.{SLOT_BASE, WORD_BASE}
-use Rattle.cycle_names.specs.LinkWords.{edge_of_slot, fence_link, dependency_link, mark_letters, kind_link_text, link_word}
-use Rattle.cycle_names.specs.Fitting.{slot_digit, edge_count, word_place}
-use Rattle.text_laws.specs.Names.{is_name_byte}
-use Rattle.cycle_names.specs.NameReading.{is_plus, is_dash, link_between, link_with}
-use Rattle.list_laws.proofs.Cases.{same_index, implied}
+use Rattle.cycle_names.proofs.Vocabulary.{arith, ◌≡◌, ◌≤◌, ◌==◌, ◌||◌, ℕ, Bool, true, false, not, Option, Some, None, List, length, nat_le, nat_cmp, ordering_index, booleans_Decides, slice_cmp, list_all, bytes_eq, refl, sym, ◌∙◌, ap, beq, eqb-true, leb-true, not-true, Edge, source_of, target_of, is_external, is_diff, rank_of, word_of, edges_in_order, each_edge, rank_injective, Slot, edge_of_slot, link_word, slot_edge, edge_slot, word_place, is_name_byte, is_plus, is_dash, link_between, link_with, same_index, implied}
 
 -- a test of two edges that passes for all that are listed passes for each two
 each_pair : (test : Edge → Edge → Bool) → list_all (λ a. list_all (test a) edges_in_order) edges_in_order ≡ true → (a b : Edge) → test a b ≡ true
@@ -36,10 +12,6 @@ each_agrees p q all e = (booleans_Decides (p e) (q e)).0 (each_edge (λ e. beq (
 -- a test that implies another for all edges that are listed implies it for each
 each_implies : (p q : Edge → Bool) → list_all (λ e. not (p e) || q e) edges_in_order ≡ true → (e : Edge) → p e ≡ true → q e ≡ true
 each_implies p q all e = implied (p e) (q e) (each_edge (λ e. not (p e) || q e) all e)
-
--- a number that is below a bound for all edges that are listed is below it for each
-pub each_below : (number : Edge → ℕ) (bound : ℕ) → list_all (λ e. nat_lt (number e) bound) edges_in_order ≡ true → (e : Edge) → number e < bound
-each_below number bound all e = ltb-true (number e) bound (each_edge (λ e. nat_lt (number e) bound) all e)
 
 -- a test of the bytes of texts that passes for all edges that are listed passes for each
 each_text : (text : Edge → List ℕ) (test : ℕ → Bool) → list_all (λ e. list_all test (text e)) edges_in_order ≡ true → (e : Edge) → list_all test (text e) ≡ true
@@ -89,30 +61,26 @@ pub no_place : (e : Edge) → is_diff e ≡ false → word_place e ≡ 0
 unfolding edges_in_order
 no_place e f = eqb-true _ _ (each_implies (λ e. not (is_diff e)) (λ e. word_place e == 0) refl e (rw f refl))
 
--- the word of a link has a place
-pub some_place : (e : Edge) → is_diff e ≡ true → (word_place e == 0) ≡ false
-unfolding edges_in_order
-some_place e t = not-true (word_place e == 0) (each_implies is_diff (λ e. not (word_place e == 0)) refl e t)
+slot_told : Edge → Option Slot → Bool
+slot_told e None = not (is_diff e || is_external e)
+slot_told e (Some slot) = rank_of (slot_edge slot) == rank_of (edge_of_slot e)
 
--- an edge counts what its slot does
-pub edge_counts : (e : Edge) → edge_count (edge_of_slot e) ≡ edge_count e
-unfolding edges_in_order
-edge_counts e = eqb-true _ _ (each_edge (λ e. edge_count (edge_of_slot e) == edge_count e) refl e)
+all_slots_told : list_all (λ e. slot_told e (edge_slot e)) edges_in_order ≡ true
+unfolding slot_told rank_of edges_in_order
+all_slots_told = refl
 
--- an edge that has no digit is neither a link nor external
-pub no_digit : (e : Edge) → slot_digit e ≡ 0 → (is_diff e || is_external e) ≡ false
-unfolding edges_in_order
-no_digit e h = not-true (is_diff e || is_external e) (each_implies (λ e. slot_digit e == 0) (λ e. not (is_diff e || is_external e)) refl e (eq-eqb _ _ h))
+told : (e : Edge) (slot : Option Slot) → edge_slot e ≡ slot → slot_told e slot ≡ true
+told e slot h = ap (slot_told e) (sym h) ∙ each_edge (λ e. slot_told e (edge_slot e)) all_slots_told e
 
--- the digit of what an edge joins is one in its base
-pub slot_digit_small : (e : Edge) → slot_digit e < SLOT_BASE
-unfolding edges_in_order
-slot_digit_small = each_below slot_digit SLOT_BASE refl
+-- an edge without a slot is neither a link nor external
+pub no_slot : (e : Edge) → edge_slot e ≡ None → (is_diff e || is_external e) ≡ false
+unfolding slot_told
+no_slot e h = not-true (is_diff e || is_external e) (told e None h)
 
--- the place of a word is a digit in its base
-pub word_place_small : (e : Edge) → word_place e < WORD_BASE
-unfolding edges_in_order
-word_place_small = each_below word_place WORD_BASE refl
+-- the slot of an edge represents what the edge joins
+pub slot_joins : (e : Edge) (slot : Slot) → edge_slot e ≡ Some slot → slot_edge slot ≡ edge_of_slot e
+unfolding slot_told
+slot_joins e slot h = rank_injective _ _ (eqb-true _ _ (told e (Some slot) h))
 
 -- a link is the one that joins what it joins, with its word
 is_the : Edge → Option Edge → Bool
@@ -144,42 +112,12 @@ slot_target e t = rw t refl
 
 -- the link of its slot with its word is the link itself
 pub link_back : (e : Edge) → is_diff e ≡ true → link_with (edge_of_slot e) (link_word e) ≡ Some e
-link_back e t =
-    ap (λ d. link_between d (target_of (edge_of_slot e)) (link_word e)) (slot_source e t)
-    ∙ ap (λ d. link_between (source_of e) d (link_word e)) (slot_target e t)
-    ∙ link_found_back e t
+link_back e t = grind (arith, slot_source, slot_target, link_found_back)
 
 -- a link's word has at most 11 bytes
 pub link_word_short : (e : Edge) → length (link_word e) ≤ 11
 unfolding edges_in_order
 link_word_short e = leb-true (length (link_word e)) 11 (each_edge (λ e. nat_le (length (link_word e)) 11) refl e)
-
--- it is the word of the link without letters, and the letters
-kind_letters : (kind : Kind) (letters : List ℕ) → is_diff (unmarked kind) ≡ true → kind_link_text kind letters ≡ kind_link_text kind [] ++ letters
-kind_letters (kinds.Com _ _) letters h = cc
-kind_letters (kinds.Po Diff _ _) letters h = refl
-kind_letters (kinds.Po Same _ _) letters h = cc
-kind_letters (kinds.Fenced kind Diff _ _) letters h = ap (λ w. w ++ letters) (sym (append-nil (fence_link kind)))
-kind_letters (kinds.Fenced kind Same _ _) letters h = cc
-kind_letters (kinds.Dep kind Diff _) letters h = ap (λ w. w ++ letters) (sym (append-nil (dependency_link kind)))
-kind_letters (kinds.Dep kind Same _) letters h = cc
-kind_letters (kinds.Data Diff) letters h = refl
-kind_letters (kinds.Data Same) letters h = cc
-
-kind_diff : (e : Edge) → is_diff e ≡ true → is_diff (unmarked (kind_of e)) ≡ true
-unfolding edges_in_order
-kind_diff = each_implies is_diff (λ e. is_diff (unmarked (kind_of e))) refl
-
--- the word of a link is the text of its kind and the letters of its marks, and short
-pub record WordParts (e : Edge) : Type 0 where
-  pub joined : link_word e ≡ kind_link_text (kind_of e) [] ++ mark_letters (source_mark e) (target_mark e)
-  pub short : length (kind_link_text (kind_of e) []) + length (mark_letters (source_mark e) (target_mark e)) ≤ 11
-
-pub word_parts : (e : Edge) → is_diff e ≡ true → WordParts e
-word_parts e t =
-    let letters : List ℕ = mark_letters (source_mark e) (target_mark e) in
-    let j : link_word e ≡ kind_link_text (kind_of e) [] ++ letters = kind_letters (kind_of e) letters (kind_diff e t) in
-    record { joined = j; short = omega (arith, ap length j, link_word_short e, length-append (kind_link_text (kind_of e) []) letters) }
 
 -- a link's word has bytes of names only
 pub link_word_bytes : (e : Edge) → list_all is_name_byte (link_word e) ≡ true

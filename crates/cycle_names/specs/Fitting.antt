@@ -1,7 +1,6 @@
 -- How the code finds the family of a cycle and the rotation that it is named from.
 -- Source: own.
-use Rattle.std.specs.Prelude.{◌≡◌, ◌<◌, ◌≤◌, ℕ, ◌+◌, ◌*◌, ◌^◌, ◌==◌, ◌||◌, nat_lt, cond, Bool, true, false, sum, Option, Some, None, List, [], ◌∷◌, length, map, codes}
-use Rattle.std.specs.List.{find}
+use Rattle.std.specs.Prelude.{◌≡◌, ◌<◌, ◌≤◌, ℕ, ◌+◌, ◌*◌, ◌==◌, ◌||◌, not, nat_lt, cond, Bool, true, false, Option, Some, None, List, [], ◌∷◌, length, map, codes}
 use Rattle.relax_edges.specs.declared.kinds.Dir.{Dir}
 use Rattle.relax_edges.specs.declared.kinds.Dir.TheVariants.{R, W}
 use Rattle.relax_edges.specs.declared.kinds.Sd.TheVariants.{Diff}
@@ -17,93 +16,73 @@ use Rattle.relax_edges.specs.declared.kinds.Kind.TheVariants as kinds
 use Rattle.relax_edges.specs.declared.kinds.Mark.{Mark}
 use Rattle.relax_edges.specs.declared.kinds.Mark.TheVariants.{Plain, Acquire, Release}
 use Rattle.relax_edges.specs.declared.edge.Edge.{Edge}
-use Rattle.relax_edges.specs.declared.edge.Edge.TheVariants as edges
 use Rattle.relax_edges.specs.EdgeTable.{kind_of, source_mark, target_mark, is_diff}
-use Rattle.relax_edges.specs.AllEdges.{edges_in_order}
+use Rattle.relax_edges.specs.NamedEdges.{pod, rfe, fre, wse}
 use Rattle.relax_edges.specs.Order.{pick_rank}
 use Rattle.relax_edges.specs.Relaxations.{is_same}
 use Rattle.cycle_laws.specs.Rotation.{rotated}
+use Rattle.cycle_laws.specs.CycleOrder.{ranks_below}
 use Rattle.cycle_names.specs.declared.link.TheConstants.{DATA_PLACE, PO_PLACE}
-use Rattle.cycle_names.specs.declared.links.Links.{Links}
-use Rattle.cycle_names.specs.declared.links.Links.TheVariants.{Absent, Alike, Different}
 use Rattle.cycle_names.specs.declared.slot.Slot.{Slot}
 use Rattle.cycle_names.specs.declared.slot.Slot.TheVariants as slots
-use Rattle.cycle_names.specs.declared.slot.Digits.{Digits}
-use Rattle.cycle_names.specs.declared.slot.TheConstants.{LINK, SLOT_BASE, WORD_BASE}
+use Rattle.cycle_names.specs.declared.family.TheConstants.{LONGEST}
 use Rattle.cycle_names.specs.declared.fit.Fit.{Fit}
-use Rattle.cycle_names.specs.declared.fit.Outline.{Outline}
 use Rattle.cycle_names.specs.declared.words.Separator.{Separator}
 use Rattle.cycle_names.specs.declared.words.Separator.TheVariants.{Dash, Blank}
 use Rattle.cycle_names.specs.declared.family.Family.{Family}
-use Rattle.cycle_names.specs.Families.{family_edges, all_families}
+use Rattle.cycle_names.specs.Families.{family_edges}
 use Rattle.cycle_names.specs.LinkWords.{outline, link_word}
 use Rattle.cycle_names.specs.Rotations.{found_family, named_rotation}
 use Rattle.cycle_names.specs.CycleNames.{after_plus}
 
 -- the edge of a family's cycle that a slot represents
 abbrev pub slot_edge : Slot → Edge
-slot_edge (slots.External kind) = edges.Com kind External
-slot_edge (slots.Link from to) = edges.Po Diff from to
+slot_edge slots.Rfe = rfe
+slot_edge slots.Fre = fre
+slot_edge slots.Wse = wse
+slot_edge slots.RR = pod R R
+slot_edge slots.RW = pod R W
+slot_edge slots.WR = pod W R
+slot_edge slots.WW = pod W W
 
--- the digit of an external edge of a communication
-abbrev pub com_digit : Com → ℕ
-com_digit coms.Rf = 1
-com_digit coms.Fr = 2
-com_digit coms.Ws = 3
+-- the slot of an external edge of a communication
+abbrev pub com_slot : Com → Slot
+com_slot coms.Rf = slots.Rfe
+com_slot coms.Fr = slots.Fre
+com_slot coms.Ws = slots.Wse
 
--- the digit of a link from an access to another
-abbrev pub link_digit : Dir → Dir → ℕ
-link_digit R R = 4
-link_digit R W = 5
-link_digit W R = 6
-link_digit W W = 7
+-- the slot of a link from an access to another
+abbrev pub link_slot : Dir → Dir → Slot
+link_slot R R = slots.RR
+link_slot R W = slots.RW
+link_slot W R = slots.WR
+link_slot W W = slots.WW
 
--- the digit of an edge of a kind, 0 where it is neither a link nor external
-abbrev pub kind_digit : Kind → ℕ
-kind_digit (kinds.Com kind External) = com_digit kind
-kind_digit (kinds.Po Diff from to) = link_digit from to
-kind_digit (kinds.Fenced _ Diff from to) = link_digit from to
-kind_digit (kinds.Dep _ Diff to) = link_digit R to
-kind_digit (kinds.Data Diff) = link_digit R W
-kind_digit _ = 0
+-- the slot of an edge of a kind, if it is a link or external
+abbrev pub kind_slot : Kind → Option Slot
+kind_slot (kinds.Com kind External) = Some (com_slot kind)
+kind_slot (kinds.Po Diff from to) = Some (link_slot from to)
+kind_slot (kinds.Fenced _ Diff from to) = Some (link_slot from to)
+kind_slot (kinds.Dep _ Diff to) = Some (link_slot R to)
+kind_slot (kinds.Data Diff) = Some slots.RW
+kind_slot _ = None
 
--- the digit of an edge by what it joins, whatever its marks
-abbrev pub slot_digit : Edge → ℕ
-slot_digit edge = kind_digit (kind_of edge)
-
--- what an edge with a digit adds to a count, whose digits in base 8 are the links and the external edges of each communication: nothing
--- where it is neither
-abbrev pub digit_count : ℕ → ℕ
-digit_count digit = cond (digit == 0) 0 (cond (digit == 1) 1 (cond (digit == 2) 8 (cond (digit == 3) 64 LINK)))
-
--- what an edge adds to a count
-abbrev pub edge_count : Edge → ℕ
-edge_count edge = digit_count (slot_digit edge)
-
--- how many links and external edges of each communication a cycle has, the same for all its rotations
-abbrev pub edges_counted : List Edge → ℕ
-edges_counted u = sum (map edge_count u)
-
--- the family whose cycle has this count, if there is one
-unfoldable pub family_of_counts : ℕ → Option Family
-family_of_counts count = find (λ family. edges_counted (family_edges family) == count) all_families
-
--- digits in a base as one number, the first digit the highest
-abbrev pub digits_number : ℕ → List ℕ → ℕ
-digits_number base [] = 0
-digits_number base (digit ∷ digits) = digit * base ^ length digits + digits_number base digits
-
--- what the edges of a list join, as one number
-abbrev pub slots_number : List Edge → ℕ
-slots_number u = digits_number SLOT_BASE (map slot_digit u)
+-- the slot of an edge by what it joins, whatever its marks
+abbrev pub edge_slot : Edge → Option Slot
+edge_slot edge = kind_slot (kind_of edge)
 
 -- the rotation from place k joins what the family's cycle does
 abbrev pub joins_at : List Edge → Family → ℕ → Bool
 joins_at u family k = is_same (outline (rotated k u)) (family_edges family)
 
--- no rotation joins what the family's cycle does
-abbrev pub JoinsNone : List Edge → Family → Type 0
-JoinsNone u family = (k : ℕ) → k < length u → joins_at u family k ≡ false
+-- no rotation from a place below n joins what the family's cycle does
+abbrev pub JoinsNone : List Edge → Family → ℕ → Type 0
+JoinsNone u family n = (k : ℕ) → k < n → joins_at u family k ≡ false
+
+-- no rotation joins what the cycle of one of the families does
+abbrev pub JoinNone : List Edge → List Family → Type 0
+JoinNone u [] = Unit
+JoinNone u (family ∷ families) = (JoinsNone u family (length u)) × (JoinNone u families)
 
 -- a cycle is of this family, and named from the rotation from this place
 pub record IsNamedAt (u : List Edge) (family : Family) (place : ℕ) : Type 0 where
@@ -164,58 +143,27 @@ kind_word_place _ _ = 0
 abbrev pub word_place : Edge → ℕ
 word_place edge = kind_word_place (kind_of edge) (letters_place (source_mark edge) (target_mark edge))
 
--- the places of the words of the links of a list of edges, as one number
-abbrev pub words_number : List Edge → ℕ
-words_number u = digits_number WORD_BASE (map word_place u)
+-- the words of one list of edges come before those of another, by their places
+abbrev pub places_below : List Edge → List Edge → Bool
+places_below v w = ranks_below (map word_place v) (map word_place w)
 
--- the digits of an edge with this digit, whose word has this place
-pub record AreDigits (digit place : ℕ) (digits : Digits) : Type 0 where
-  pub slot : digits.slot ≡ digit
-  pub small : digits.slot < SLOT_BASE
-  pub word : digits.word ≡ place
-  pub count : digits.count ≡ digit_count digit
-  pub few : digits.count ≤ LINK
+-- the words of the rotation from a place come before those of the rotation from another, if there is another
+abbrev pub comes_before : List Edge → ℕ → Option ℕ → Bool
+comes_before u place None = true
+comes_before u place (Some other) = places_below (rotated place u) (rotated other u)
 
--- the rotation from a place joins what the family's cycle does, and no other that does has words that come before
-pub record JoinsLeast (u : List Edge) (family : Family) (place : ℕ) : Type 0 where
-  pub within : place < length u
+-- of the rotations from places below n the one from this place joins what the family's cycle does, and no other that does has words that
+-- come before
+pub record JoinsLeast (u : List Edge) (family : Family) (n place : ℕ) : Type 0 where
+  pub within : place < n
   pub joins : joins_at u family place ≡ true
-  pub least : (k : ℕ) → k < length u → joins_at u family k ≡ true → words_number (rotated place u) ≤ words_number (rotated k u)
+  pub least : (k : ℕ) → k < n → joins_at u family k ≡ true → places_below (rotated k u) (rotated place u) ≡ false
 
 -- an edge is no link, or its word has this place
 abbrev pub has_word_place : ℕ → Edge → Bool
-has_word_place place edge = (word_place edge == 0) || (word_place edge == place)
+has_word_place place edge = not (is_diff edge) || (place == word_place edge)
 
--- what one edge more says of the words of links, by the place of its word
-abbrev pub links_with_place : Links → ℕ → Links
-links_with_place Absent place = cond (place == 0) Absent (Alike place)
-links_with_place (Alike other) place = cond ((place == 0) || (place == other)) (Alike other) Different
-links_with_place Different place = Different
-
--- what the words of links are like with those of these edges
-abbrev pub links_after : Links → List Edge → Links
-links_after links [] = links
-links_after links (edge ∷ u) = links_after (links_with_place links (word_place edge)) u
-
--- what is found out of a list of edges, and the places of the words of its links
-pub record IsOutlineOf (u : List Edge) (outline : Outline) (listed : List ℕ) : Type 0 where
-  pub count : outline.count ≡ edges_counted u
-  pub links : outline.links ≡ links_after Absent u
-  pub slots : outline.numbers.slots ≡ slots_number u
-  pub words : outline.numbers.words ≡ words_number u
-  pub places : listed ≡ map word_place u
-
--- a cycle is of a family and named from a rotation that fits it, and what its links are like is told, with the places of their words
-pub record IsFitOf (u : List Edge) (fit : Fit) (listed : List ℕ) : Type 0 where
+-- a cycle is of a family and named from a rotation that fits it, and has few edges
+pub record IsFitOf (u : List Edge) (fit : Fit) : Type 0 where
   pub named : IsNamedAt u fit.family fit.place
-  pub links : fit.links ≡ links_after Absent u
-  pub places : listed ≡ map word_place u
-
--- what the first link adds to a name, if there is one
-abbrev pub first_link_text : Option Edge → List ℕ
-first_link_text None = []
-first_link_text (Some edge) = link_text edge
-
--- what a link adds to a name whose word has this place, nothing where no link has it
-unfoldable pub place_text : ℕ → List ℕ
-place_text place = first_link_text (find (λ edge. word_place edge == place) edges_in_order)
+  pub few : length u ≤ LONGEST

@@ -2,36 +2,23 @@ ghost use Rattle.std.specs.Prelude.{◌≡◌, map};
 ghost use Rattle.std.specs.List.{find};
 ghost use Rattle.std.specs.Str.{bytes_eq};
 ghost use Rattle.cycle_names.specs.Families.{family_word, family_edges, all_families};
-ghost use Rattle.cycle_names.specs.Fitting.{slot_edge, slots_number};
+ghost use Rattle.cycle_names.specs.Fitting.{slot_edge};
 
 use crate::slot::Slot;
-use relax_edges::{Com, Dir};
 
-const RR: Slot = Slot::Link {
-    from: Dir::R,
-    to: Dir::R,
-};
+const RR: Slot = Slot::RR;
 
-const RW: Slot = Slot::Link {
-    from: Dir::R,
-    to: Dir::W,
-};
+const RW: Slot = Slot::RW;
 
-const WR: Slot = Slot::Link {
-    from: Dir::W,
-    to: Dir::R,
-};
+const WR: Slot = Slot::WR;
 
-const WW: Slot = Slot::Link {
-    from: Dir::W,
-    to: Dir::W,
-};
+const WW: Slot = Slot::WW;
 
-const RFE: Slot = Slot::External(Com::Rf);
+const RFE: Slot = Slot::Rfe;
 
-const FRE: Slot = Slot::External(Com::Fr);
+const FRE: Slot = Slot::Fre;
 
-const WSE: Slot = Slot::External(Com::Ws);
+const WSE: Slot = Slot::Wse;
 
 const SB: [Slot; 4] = [WR, FRE, WR, FRE];
 
@@ -136,30 +123,6 @@ impl Family {
             Family::LB3 => "3.LB",
             Family::W3 => "3.2W",
             Family::Other => "OTHER",
-        }
-    }
-
-    /// What the edges of the family's cycle join, as a number in base 8 with a digit for each: 1 to 3
-    /// for the external edges Rf, Fr and Ws, and 4 to 7 for the links RR, RW, WR and WW.
-    pub(crate) fn outline(self) -> u32
-        ensures { result ≡ slots_number (family_edges self) }
-    {
-        match self {
-            Family::SB => 0o6262,
-            Family::MP => 0o7142,
-            Family::LB => 0o5151,
-            Family::R => 0o7362,
-            Family::S => 0o7153,
-            Family::W2 => 0o7373,
-            Family::WRC => 0o15142,
-            Family::RWC => 0o14262,
-            Family::ISA2 => 0o715142,
-            Family::IRIW => 0o142142,
-            Family::WRWC => 0o714262,
-            Family::SB3 => 0o626262,
-            Family::LB3 => 0o515151,
-            Family::W3 => 0o737373,
-            Family::Other => 0,
         }
     }
 

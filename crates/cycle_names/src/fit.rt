@@ -1,216 +1,197 @@
-ghost use Rattle.std.specs.Prelude.{[], ◌≡◌, ◌==◌, ◌<◌, ◌+◌, ◌-◌, ◌*◌, ◌/◌, ◌%◌, ◌^◌, ◌≤◌, ◌++◌, ◌∷◌, ◌||◌, ◌&&◌, not, nat_lt, length, None, MatchOption};
+ghost use Rattle.std.specs.Prelude.{[], ◌≡◌, ◌==◌, ◌+◌, ◌≤◌, ◌++◌, ◌∷◌, ◌||◌, ◌&&◌, not, cond, length, map, None, MatchOption};
 ghost use Rattle.relax_edges.specs.declared.kinds.Mark.TheVariants.{Plain};
 ghost use Rattle.relax_edges.specs.EdgeTable.{target_mark, same_mark, is_external};
+ghost use Rattle.relax_edges.specs.Order.{rank_of};
+ghost use Rattle.relax_edges.specs.Relaxations.{is_same};
 ghost use Rattle.cycle_laws.specs.Composable.{IsCycle};
+ghost use Rattle.cycle_laws.specs.Rotation.{rotated};
+ghost use Rattle.cycle_laws.specs.CycleOrder.{ranks_below};
+ghost use Rattle.cycle_names.specs.LinkWords.{outline};
 ghost use Rattle.cycle_names.specs.Rotations.{all_unmarked, is_plain_outside, found_family};
-ghost use Rattle.cycle_names.specs.Fitting.{slots_number, words_number, links_with_place, family_of_counts, JoinsNone, JoinsLeast, IsOutlineOf, IsFitOf};
+ghost use Rattle.cycle_names.specs.Fitting.{slot_edge, word_place, joins_at, JoinsNone, JoinNone, JoinsLeast, IsFitOf, comes_before};
 
-use crate::family::{Family, LONGEST};
-use crate::links::Links;
-use crate::slot::{Digits, LINK, SLOT_BASE, WORD_BASE, edge_digits};
+use crate::family::{FAMILIES, Family, LONGEST};
+use crate::link::word_place;
+use crate::slot::{Slot, slot_of};
 use arrayvec::ArrayVec;
 use relax_edges::{Edge, Mark};
 
-/// The places of the words of the links of a cycle's edges, and 0 for each edge that is no link.
-pub(crate) type Places = ArrayVec<u8, LONGEST>;
+/// The edges of a cycle of a family.
+pub(crate) type Few = ArrayVec<Edge, LONGEST>;
 
-/// A family, the place of a list of edges from which a rotation of it fits the family, and what the
-/// words of its links are like.
+/// What the edges of a list join.
+type Slots = ArrayVec<Slot, LONGEST>;
+
+/// A family, and the place of a list of edges from which a rotation of it fits the family.
 #[derive(Clone, Copy)]
 pub(crate) struct Fit {
     pub(crate) family: Family,
     pub(crate) place: usize,
-    pub(crate) links: Links,
 }
 
-/// A list of edges as two numbers with a digit for each edge, the highest for the first: what the
-/// edges join, in the base `SLOT_BASE`, and the places of the words of its links, in the base `WORD_BASE`.
-#[derive(Clone, Copy)]
-struct Numbers {
-    slots: u32,
-    words: u64,
-}
-
-/// What is counted in a list of edges, what the words of its links are like, and its numbers.
-#[derive(Clone, Copy)]
-struct Outline {
-    count: u16,
-    links: Links,
-    numbers: Numbers,
-}
-
-/// The rotation whose words come first of those that fit: the number of its words, and its place.
-#[derive(Clone, Copy)]
-struct Best {
-    words: u64,
-    place: Option<usize>,
-}
-
-/// The family of a cycle, the place from which the rotation begins that it is named from, and what
-/// the words of its links are like, whose places are put into `places`.
-pub(crate) fn named_fit(edges: &[Edge], places: &mut Places) -> Option<Fit>
-    requires cycle { IsCycle edges.now }
-    requires empty { places.old.items ≡ [] }
-    ensures { MatchOption result (found_family edges.now ≡ None) (λ fit. IsFitOf edges.now fit places.new.items) }
+/// The family of a cycle, and the place from which the rotation begins that it is named from.
+#[tactic(auto, using(crate::proofs::Families::too_long, crate::proofs::Places::fits_none, crate::proofs::Places::marked_outside, crate::proofs::Places::named_at))]
+pub(crate) fn named_fit(edges: &[Edge]) -> Option<Fit>
+    requires { IsCycle edges.now }
+    ensures { MatchOption result (found_family edges.now ≡ None) (IsFitOf edges.now) }
 {
     if edges.len() > LONGEST {
         return None;
     }
-    let outline = outline_of(edges, places)?;
-    let family = family_of_counts(outline.count)?;
-    let place = named_place(edges, family, outline)?;
-    if !is_plain_outside(edges) {
+    let mut slots = Slots::new();
+    if !push_slots(edges, &mut slots) {
         return None;
     }
-    Some(Fit {
-        family,
-        place,
-        links: outline.links,
-    })
-}
-
-/// The family of a cycle.
-pub(crate) fn found_family(edges: &[Edge]) -> Option<Family>
-    requires { IsCycle edges.now }
-    ensures { result ≡ found_family edges.now }
-{
-    let mut places = ArrayVec::new();
-    match named_fit(edges, &mut places) {
-        Some(fit) => Some(fit.family),
-        None => None,
+    let fit = first_fit(FAMILIES.as_slice(), slots.as_slice(), edges)?;
+    if is_plain_outside(edges) {
+        Some(fit)
+    } else {
+        None
     }
 }
 
-/// How many links and external edges of each communication a cycle has, what the words of its links
-/// are like, and its numbers, if it has no other edges: with others it is of no family. The places of
-/// these words are put into `places`.
-fn outline_of(edges: &[Edge], places: &mut Places) -> Option<Outline>
+/// Adds what the edges of a list join, if each is a link or external.
+fn push_slots(edges: &[Edge], slots: &mut Slots) -> bool
     requires few { length edges.now ≤ LONGEST }
-    requires empty { places.old.items ≡ [] }
-    ensures { MatchOption result (found_family edges.now ≡ None) (λ outline. IsOutlineOf edges.now outline places.new.items) }
+    requires empty { slots.old.items ≡ [] }
+    ensures { cond result (map slot_edge slots.new.items ≡ outline edges.now) (found_family edges.now ≡ None) }
 {
-    let mut outline = Outline {
-        count: 0,
-        links: Links::Absent,
-        numbers: Numbers { slots: 0, words: 0 },
-    };
     for edge in edges {
-        let digits = edge_digits(*edge)?;
-        places.push(digits.word);
-        outline = with_digits(outline, digits);
+        let Some(slot) = slot_of(*edge) else {
+            return false;
+        };
+        slots.push(slot);
     }
-    Some(outline)
+    true
 }
 
-/// The outline of a list of at most five edges and one more, which has these digits.
-fn with_digits(outline: Outline, digits: Digits) -> Outline
-    requires count { outline.count ≤ (LONGEST - 1) * LINK }
-    requires slots { outline.numbers.slots < SLOT_BASE ^ (LONGEST - 1) }
-    requires words { outline.numbers.words < WORD_BASE ^ (LONGEST - 1) }
-    requires few { digits.count ≤ LINK }
-    requires small { digits.slot < SLOT_BASE }
-    ensures count { result.count ≡ outline.count + digits.count }
-    ensures links { result.links ≡ links_with_place outline.links digits.word }
-    ensures slots { result.numbers.slots ≡ outline.numbers.slots * SLOT_BASE + digits.slot }
-    ensures words { result.numbers.words ≡ outline.numbers.words * WORD_BASE + digits.word }
+/// The first of some families whose cycle some rotation joins, and the place from which the rotation
+/// begins whose words come first of those that do.
+fn first_fit(families: &[Family], slots: &[Slot], edges: &[Edge]) -> Option<Fit>
+    requires few { length edges.now ≤ LONGEST }
+    requires slots { map slot_edge slots.now ≡ outline edges.now }
+    ensures { MatchOption result (JoinNone edges.now families.now) (λ fit. JoinsLeast edges.now fit.family (length edges.now) fit.place) }
 {
-    Outline {
-        count: outline.count + digits.count,
-        links: outline.links.with_place(digits.word),
-        numbers: Numbers {
-            slots: outline.numbers.slots * SLOT_BASE + u32::from(digits.slot),
-            words: outline.numbers.words * WORD_BASE + u64::from(digits.word),
+    match families {
+        [] => None,
+        [family, rest @ ..] => match least_place(slots, *family, edges) {
+            Some(place) => Some(Fit {
+                family: *family,
+                place,
+            }),
+            None => first_fit(rest, slots, edges),
+        },
+    }
+}
+/// The place from which the rotation begins whose words come first, of those that join what the
+/// family's cycle does.
+#[tactic(auto, using(crate::proofs::Places::slots_join, crate::proofs::Places::still_kept, crate::proofs::Places::newly_kept))]
+fn least_place(slots: &[Slot], family: Family, edges: &[Edge]) -> Option<usize>
+    requires few { length edges.now ≤ LONGEST }
+    requires slots { map slot_edge slots.now ≡ outline edges.now }
+    ensures { MatchOption result (JoinsNone edges.now family (length edges.now)) (JoinsLeast edges.now family (length edges.now)) }
+{
+    let wanted = family.slots();
+    if wanted.len() != slots.len() {
+        return None;
+    }
+    let mut least = None;
+    for place in 0..slots.len() {
+        if !joins_at(slots, place, wanted) {
+            continue;
+        }
+        if comes_before(edges, place, least) {
+            least = Some(place);
+        }
+    }
+    least
+}
+
+/// Whether the rotation of a list from a place joins what is wanted.
+fn joins_at(slots: &[Slot], place: usize, wanted: &[Slot]) -> bool
+    requires place { place ≤ length slots.now }
+    requires long { length wanted.now ≡ length slots.now }
+    ensures { result ≡ is_same (map slot_edge (rotated place slots.now)) (map slot_edge wanted.now) }
+{
+    let (prefix, back) = slots.split_at(place);
+    let (first, second) = wanted.split_at(back.len());
+    are_same(back, first) && are_same(prefix, second)
+}
+
+/// Whether two lists join the same.
+fn are_same(slots: &[Slot], others: &[Slot]) -> bool
+    ensures { result ≡ is_same (map slot_edge slots.now) (map slot_edge others.now) }
+{
+    match slots {
+        [] => others.is_empty(),
+        [slot, rest @ ..] => match others {
+            [] => false,
+            [other, others_left @ ..] => joins_same(*slot, *other) && are_same(rest, others_left),
         },
     }
 }
 
-/// The family whose cycle has as many. The digits in base 8 are its links and its external edges Ws,
-/// Fr and Rf: `0o2020` is two links and two Fr.
-#[tactic(auto, unfolding(crate::specs::Fitting::family_of_counts))]
-fn family_of_counts(count: u16) -> Option<Family>
-    ensures { result ≡ family_of_counts count }
+#[tactic(auto, unfolding(relax_edges::specs::Order::rank_of))]
+fn joins_same(slot: Slot, other: Slot) -> bool
+    ensures { result ≡ (rank_of (slot_edge slot) == rank_of (slot_edge other)) }
 {
-    match count {
-        0o2020 => Some(Family::SB),
-        0o2011 => Some(Family::MP),
-        0o2002 => Some(Family::LB),
-        0o2110 => Some(Family::R),
-        0o2101 => Some(Family::S),
-        0o2200 => Some(Family::W2),
-        0o2012 => Some(Family::WRC),
-        0o2021 => Some(Family::RWC),
-        0o3012 => Some(Family::ISA2),
-        0o2022 => Some(Family::IRIW),
-        0o3021 => Some(Family::WRWC),
-        0o3030 => Some(Family::SB3),
-        0o3003 => Some(Family::LB3),
-        0o3300 => Some(Family::W3),
-        _ => None,
-    }
+    slot == other
 }
 
-/// The place from which the rotation begins whose words come first, of those that join what the
-/// family's cycle does.
-fn named_place(edges: &[Edge], family: Family, outline: Outline) -> Option<usize>
+/// Whether the words of the rotation from a place come before those of the rotation from another, if
+/// there is another.
+fn comes_before(edges: &[Edge], place: usize, other: Option<usize>) -> bool
     requires few { length edges.now ≤ LONGEST }
-    requires slots { outline.numbers.slots ≡ slots_number edges.now }
-    requires words { outline.numbers.words ≡ words_number edges.now }
-    ensures { MatchOption result (JoinsNone edges.now family) (JoinsLeast edges.now family) }
+    requires place { place ≤ length edges.now }
+    requires other { MatchOption other Unit (λ k. k ≤ length edges.now) }
+    ensures { result ≡ comes_before edges.now place other }
 {
-    if family.slots().len() != edges.len() {
-        return None;
-    }
-    let wanted = family.outline();
-    let worth = worth_before(edges.len());
-    let mut numbers = outline.numbers;
-    let mut best = Best {
-        words: u64::MAX,
-        place: None,
-    };
-    for place in (0..edges.len()).rev() {
-        numbers = turn(numbers, worth);
-        if is_better(numbers, wanted, best) {
-            best = Best {
-                words: numbers.words,
-                place: Some(place),
-            };
-        }
-    }
-    best.place
-}
-
-/// The worth of the place before so many digits. The bases are 2 to the power of 3 and of 8.
-fn worth_before(len: usize) -> Numbers
-    requires { len ≤ LONGEST }
-    ensures slots { result.slots ≡ SLOT_BASE ^ len }
-    ensures words { result.words ≡ WORD_BASE ^ len }
-{
-    Numbers {
-        slots: 1 << (3 * len),
-        words: 1 << (8 * len),
+    match other {
+        None => true,
+        Some(other) => are_below(
+            rotation_of(edges, place).as_slice(),
+            rotation_of(edges, other).as_slice(),
+        ),
     }
 }
 
-/// The numbers of a rotation with its last edge put before the others.
-fn turn(numbers: Numbers, worth: Numbers) -> Numbers
-    requires slots { numbers.slots < worth.slots }
-    requires words { numbers.words < worth.words }
-    requires slots_worth { worth.slots ≤ SLOT_BASE ^ LONGEST }
-    requires words_worth { worth.words ≤ WORD_BASE ^ LONGEST }
-    ensures slots { result.slots ≡ (numbers.slots + numbers.slots % SLOT_BASE * worth.slots) / SLOT_BASE }
-    ensures words { result.words ≡ (numbers.words + numbers.words % WORD_BASE * worth.words) / WORD_BASE }
+/// Whether the words of the links of a list come before those of another.
+fn are_below(edges: &[Edge], others: &[Edge]) -> bool
+    ensures { result ≡ ranks_below (map word_place edges.now) (map word_place others.now) }
 {
-    Numbers {
-        slots: (numbers.slots + numbers.slots % SLOT_BASE * worth.slots) / SLOT_BASE,
-        words: (numbers.words + numbers.words % WORD_BASE * worth.words) / WORD_BASE,
+    match edges {
+        [] => false,
+        [edge, rest @ ..] => match others {
+            [] => false,
+            [other, others_left @ ..] => {
+                let own = word_place(*edge);
+                let its = word_place(*other);
+                own < its || own == its && are_below(rest, others_left)
+            }
+        },
     }
 }
 
-/// Whether a rotation joins what is wanted, with words that come before the best ones.
-fn is_better(numbers: Numbers, wanted: u32, best: Best) -> bool
-    ensures { result ≡ ((numbers.slots == wanted) && nat_lt numbers.words best.words) }
+/// The rotation of a list that begins at a place.
+pub(crate) fn rotation_of(edges: &[Edge], place: usize) -> Few
+    requires few { length edges.now ≤ LONGEST }
+    requires place { place ≤ length edges.now }
+    ensures { result.items ≡ rotated place edges.now }
 {
-    numbers.slots == wanted && numbers.words < best.words
+    let (prefix, back) = edges.split_at(place);
+    let mut turned = Few::new();
+    push_edges(back, &mut turned);
+    push_edges(prefix, &mut turned);
+    turned
+}
+
+fn push_edges(edges: &[Edge], list: &mut Few)
+    requires { length list.old.items + length edges.now ≤ LONGEST }
+    ensures { list.new.items ≡ list.old.items ++ edges.now }
+{
+    for edge in edges {
+        list.push(*edge);
+    }
 }
 
 /// Whether each event of a cycle between two external edges is plain.

@@ -5,8 +5,6 @@ mod family;
 mod fit;
 mod laws;
 mod link;
-mod link_texts;
-mod links;
 mod name;
 mod read;
 mod slot;

@@ -1,18 +1,21 @@
-ghost use Rattle.std.specs.Prelude.{◌≡◌, ◌≤◌, [], true};
+ghost use Rattle.std.specs.Prelude.{◌≡◌, ◌≤◌, ◌+◌, ◌++◌, [], true, length};
 ghost use Rattle.std.specs.Str.{bytes_eq};
 ghost use Rattle.relax_edges.specs.EdgeTable.{is_diff};
 ghost use Rattle.relax_edges.specs.Order.{pick_rank};
 ghost use Rattle.cycle_names.specs.LinkWords.{link_word, fence_link, dependency_link, mark_letters, kind_link_text};
-ghost use Rattle.cycle_names.specs.Fitting.{letters_place, fence_place, dependency_place};
+ghost use Rattle.cycle_names.specs.Fitting.{letters_place, fence_place, dependency_place, kind_word_place, word_place, link_text};
 
 use arrayvec::ArrayString;
 use relax_edges::{DepKind, Edge, FenceKind, Kind, Mark, Pick, Sd};
 
 /// The place of `data` among the words of links, in byte order.
-pub(crate) const DATA_PLACE: u8 = 45;
+const DATA_PLACE: u8 = 45;
 
 /// The place of `po`, the word of a link that is plain program order, among the words of links.
 pub(crate) const PO_PLACE: u8 = 127;
+
+/// The most bytes that a link adds to a name: a `+` and its word.
+pub(crate) const MAX_LINK: usize = 12;
 
 fn pick_rank(pick: Pick) -> u8
     ensures { result ≡ pick_rank pick }
@@ -25,7 +28,7 @@ fn pick_rank(pick: Pick) -> u8
 }
 
 /// The place of a fence's word without letters among the words of links, in byte order.
-pub(crate) fn fence_place(fence: FenceKind) -> u8
+fn fence_place(fence: FenceKind) -> u8
     ensures { result ≡ fence_place fence }
 {
     match fence {
@@ -43,7 +46,7 @@ pub(crate) fn fence_place(fence: FenceKind) -> u8
 }
 
 /// The place of a dependency's word with the letters of this place.
-pub(crate) fn dependency_place(dep: DepKind, letters: u8) -> u8
+fn dependency_place(dep: DepKind, letters: u8) -> u8
     requires { letters ≤ 8 }
     ensures { result ≡ dependency_place dep letters }
 {
@@ -62,7 +65,7 @@ pub(crate) fn dependency_place(dep: DepKind, letters: u8) -> u8
 }
 
 /// The place of the letters of two marks in byte order, 0 for none.
-pub(crate) fn letters_place(from: Mark, to: Mark) -> u8
+fn letters_place(from: Mark, to: Mark) -> u8
     ensures value { result ≡ letters_place from to }
     ensures small { result ≤ 8 }
 {
@@ -77,6 +80,40 @@ pub(crate) fn letters_place(from: Mark, to: Mark) -> u8
         (Mark::Plain, Mark::Acquire) => 7,
         (Mark::Plain, Mark::Release) => 8,
     }
+}
+
+/// The place of the word of a link of a kind with the letters of this place, and 0 for a kind that is
+/// no link.
+fn kind_word_place(kind: Kind, letters: u8) -> u8
+    requires { letters ≤ 8 }
+    ensures { result ≡ kind_word_place kind letters }
+{
+    match kind {
+        Kind::Po { sd: Sd::Diff, .. } => PO_PLACE + letters,
+        Kind::Fenced {
+            fence,
+            sd: Sd::Diff,
+            ..
+        } => fence_place(fence) + letters,
+        Kind::Dep {
+            dep,
+            sd: Sd::Diff,
+            ..
+        } => dependency_place(dep, letters),
+        Kind::Data { sd: Sd::Diff } => DATA_PLACE + letters,
+        _ => 0,
+    }
+}
+
+/// The place of a link's word among the words of links, in byte order, and 0 for an edge that is no
+/// link.
+pub(crate) fn word_place(edge: Edge) -> u8
+    ensures { result ≡ word_place edge }
+{
+    kind_word_place(
+        edge.kind(),
+        letters_place(edge.source_mark(), edge.target_mark()),
+    )
 }
 
 fn riscv_fence_word(pred: Pick, succ: Pick) -> &'static str
@@ -170,4 +207,17 @@ pub(crate) fn is_spelled(edge: Edge, text: &[u8]) -> bool
     word.push_str(kind_link(edge.kind()));
     word.push_str(mark_letters(edge.source_mark(), edge.target_mark()));
     word.as_str().as_bytes() == text
+}
+
+/// Adds a `+` and the word of a link to a name, and nothing for another edge.
+pub(crate) fn push_link<const N: usize>(edge: Edge, name: &mut ArrayString<N>)
+    requires { length name.old.bytes + MAX_LINK ≤ N }
+    ensures text { name.new.bytes ≡ name.old.bytes ++ link_text edge }
+    ensures short { length name.new.bytes ≤ length name.old.bytes + MAX_LINK }
+{
+    if edge.is_diff() {
+        name.push_str("+");
+        name.push_str(kind_link(edge.kind()));
+        name.push_str(mark_letters(edge.source_mark(), edge.target_mark()));
+    }
 }

@@ -7,11 +7,12 @@ ghost use Rattle.cycle_names.specs.CycleNames.{name_of};
 ghost use Rattle.cycle_names.specs.Fitting.{IsFitOf};
 ghost use Rattle.cycle_names.specs.Laws.{IsName};
 
-use crate::family::{Family, LONGEST};
-use crate::fit::{Fit, found_family, named_fit};
-use crate::words::{Separator, push_links, push_rotation, push_rotation_twice};
-use arrayvec::{ArrayString, ArrayVec};
+use crate::family::Family;
+use crate::fit::{Fit, named_fit, rotation_of};
+use crate::words::{Separator, push_links, push_rotation};
+use arrayvec::ArrayString;
 use edge_algebra::Cycle;
+use relax_edges::Edge;
 
 /// The most bytes of a name.
 pub const MAX_NAME: usize = 800;
@@ -26,7 +27,10 @@ pub const MAX_NAME_LINE: usize = 2 * MAX_NAME + 3;
 pub fn family_of(cycle: &Cycle) -> Family
     ensures { result ≡ family_of cycle.now }
 {
-    found_family(cycle.edges()).unwrap_or(Family::Other)
+    match named_fit(cycle.edges()) {
+        Some(fit) => fit.family,
+        None => Family::Other,
+    }
 }
 
 /// Makes `out` the name of a cycle, whatever it held: two cycles have one name exactly where they
@@ -51,10 +55,9 @@ pub fn name_and_family(cycle: &Cycle, out: &mut ArrayString<MAX_NAME>) -> Family
     ensures family { result ≡ family_of cycle.now }
 {
     out.clear();
-    let mut places = ArrayVec::new();
-    match named_fit(cycle.edges(), &mut places) {
+    match named_fit(cycle.edges()) {
         Some(fit) => {
-            push_family_name(places.as_slice(), fit, out);
+            push_family_name(cycle.edges(), fit, out);
             fit.family
         }
         None => {
@@ -67,6 +70,7 @@ pub fn name_and_family(cycle: &Cycle, out: &mut ArrayString<MAX_NAME>) -> Family
 /// Makes `line` the name of a cycle, a colon and a blank, and the words of the edges of the rotation
 /// that it is named from, joined by blanks, whatever it held. There is room for a line feed after that.
 /// `words` is room for the words: what it held doesn't count.
+#[tactic(auto, using(crate::proofs::CycleOf::name_short))]
 pub fn name_and_words(
     cycle: &Cycle,
     words: &mut ArrayString<MAX_NAME>,
@@ -76,10 +80,9 @@ pub fn name_and_words(
     ensures room { length line.new.bytes < MAX_NAME_LINE }
 {
     line.clear();
-    let mut places = ArrayVec::new();
-    match named_fit(cycle.edges(), &mut places) {
+    match named_fit(cycle.edges()) {
         Some(fit) => {
-            push_family_name(places.as_slice(), fit, line);
+            push_family_name(cycle.edges(), fit, line);
             line.push_str(": ");
             push_rotation(cycle.edges(), fit.place, Separator::Blank, line);
         }
@@ -92,16 +95,16 @@ pub fn name_and_words(
     }
 }
 
-/// Adds the name of a cycle of a family to an empty text, by the places of the words of its links.
-fn push_family_name<const N: usize>(places: &[u8], fit: Fit, name: &mut ArrayString<N>)
-    requires few { length places.now ≤ LONGEST }
+/// Adds the name of a cycle of a family to an empty text.
+#[tactic(auto, using(crate::proofs::CycleOf::name_in_family))]
+fn push_family_name<const N: usize>(edges: &[Edge], fit: Fit, name: &mut ArrayString<N>)
+    requires fit { IsFitOf edges.now fit }
     requires empty { name.old.bytes ≡ [] }
     requires room { MAX_NAME ≤ N }
-    requires place { fit.place ≤ length places.now }
-    ensures { (u : List Edge) → IsFitOf u fit places.now → name.new.bytes ≡ name_of u }
+    ensures { name.new.bytes ≡ name_of edges.now }
 {
     name.push_str(fit.family.word());
-    push_links(places, fit, name);
+    push_links(rotation_of(edges, fit.place).as_slice(), name);
 }
 
 /// Adds the name of a cycle of no family to an empty text.
@@ -133,5 +136,7 @@ fn push_own_words(
     ensures words { words.new.bytes ≡ join_by word_of (codes " ") (named_rotation cycle.now) }
 {
     name.push_str("C+");
-    push_rotation_twice(cycle.edges(), usize::from(cycle.least_place()), name, words);
+    let least = usize::from(cycle.least_place());
+    push_rotation(cycle.edges(), least, Separator::Dash, name);
+    push_rotation(cycle.edges(), least, Separator::Blank, words);
 }

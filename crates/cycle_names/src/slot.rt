@@ -1,25 +1,20 @@
-ghost use Rattle.std.specs.Prelude.{◌≡◌, ◌<◌, ◌≤◌, MatchOption};
-ghost use Rattle.cycle_names.specs.Fitting.{slot_edge, com_digit, link_digit, kind_digit, slot_digit, digit_count, kind_word_place, word_place, AreDigits};
+ghost use Rattle.std.specs.Prelude.{◌≡◌};
+ghost use Rattle.cycle_names.specs.Fitting.{slot_edge, com_slot, link_slot, kind_slot, edge_slot};
 
-use crate::link::{DATA_PLACE, PO_PLACE, dependency_place, fence_place, letters_place};
 use relax_edges::{Com, Dir, Edge, Kind, Reach, Sd};
 
-/// What a link adds to a count.
-pub(crate) const LINK: u16 = 0o1000;
-
-/// The base of the number of what edges join, whose digits are those of `Digits::slot`.
-pub(crate) const SLOT_BASE: u32 = 8;
-
-/// The base of the number of the words of links, whose digits are the places of the words.
-pub(crate) const WORD_BASE: u64 = 256;
-
-/// What an edge of a family's cycle joins.
-#[derive(Clone, Copy)]
+/// What an edge of a family's cycle joins: two threads, as these external edges do, or two accesses
+/// of a thread to two locations, as a link from the one to the other.
+#[derive(Clone, Copy, Default, PartialEq, Eq)]
 pub(crate) enum Slot {
-    /// An external edge of this communication.
-    External(Com),
-    /// A link from one access to another.
-    Link { from: Dir, to: Dir },
+    #[default]
+    Rfe,
+    Fre,
+    Wse,
+    RR,
+    RW,
+    WR,
+    WW,
 }
 
 impl Slot {
@@ -28,115 +23,91 @@ impl Slot {
         ensures { result ≡ slot_edge self }
     {
         match self {
-            Slot::External(com) => Edge::Com {
-                com,
-                reach: Reach::External,
-            },
-            Slot::Link { from, to } => Edge::Po {
-                sd: Sd::Diff,
-                from,
-                to,
-            },
+            Slot::Rfe => external(Com::Rf),
+            Slot::Fre => external(Com::Fr),
+            Slot::Wse => external(Com::Ws),
+            Slot::RR => link(Dir::R, Dir::R),
+            Slot::RW => link(Dir::R, Dir::W),
+            Slot::WR => link(Dir::W, Dir::R),
+            Slot::WW => link(Dir::W, Dir::W),
         }
     }
 }
 
-fn link_digit(from: Dir, to: Dir) -> u8
-    ensures value { result ≡ link_digit from to }
-    ensures small { result < SLOT_BASE }
-    ensures count { digit_count result ≡ LINK }
+fn external(kind: Com) -> Edge
+    ensures { result ≡ Edge.Com kind Reach.External }
 {
-    match (from, to) {
-        (Dir::R, Dir::R) => 4,
-        (Dir::R, Dir::W) => 5,
-        (Dir::W, Dir::R) => 6,
-        (Dir::W, Dir::W) => 7,
+    Edge::Com {
+        com: kind,
+        reach: Reach::External,
     }
 }
 
-/// The digits of an external edge.
-fn com_digits(kind: Com) -> Digits
-    ensures { AreDigits (com_digit kind) 0 result }
+fn link(from: Dir, to: Dir) -> Edge
+    ensures { result ≡ Edge.Po Sd.Diff from to }
+{
+    Edge::Po {
+        sd: Sd::Diff,
+        from,
+        to,
+    }
+}
+
+fn com_slot(kind: Com) -> Slot
+    ensures { result ≡ com_slot kind }
 {
     match kind {
-        Com::Rf => Digits {
-            slot: 1,
-            word: 0,
-            count: 0o1,
-        },
-        Com::Fr => Digits {
-            slot: 2,
-            word: 0,
-            count: 0o10,
-        },
-        Com::Ws => Digits {
-            slot: 3,
-            word: 0,
-            count: 0o100,
-        },
+        Com::Rf => Slot::Rfe,
+        Com::Fr => Slot::Fre,
+        Com::Ws => Slot::Wse,
     }
 }
 
-/// The digits of a link from an access to another, whose word has this place.
-fn link_digits(from: Dir, to: Dir, word: u8) -> Digits
-    ensures { AreDigits (link_digit from to) word result }
+fn link_slot(from: Dir, to: Dir) -> Slot
+    ensures { result ≡ link_slot from to }
 {
-    Digits {
-        slot: link_digit(from, to),
-        word,
-        count: LINK,
+    match (from, to) {
+        (Dir::R, Dir::R) => Slot::RR,
+        (Dir::R, Dir::W) => Slot::RW,
+        (Dir::W, Dir::R) => Slot::WR,
+        (Dir::W, Dir::W) => Slot::WW,
     }
 }
 
-/// The digits of an edge.
-#[derive(Clone, Copy)]
-pub(crate) struct Digits {
-    /// By what the edge joins, whatever its marks: 1 to 3 for the external edges Rf, Fr and Ws, and 4 to
-    /// 7 for the links RR, RW, WR and WW.
-    pub(crate) slot: u8,
-    /// The place of a link's word among the words of links, in byte order, and 0 for an external edge.
-    pub(crate) word: u8,
-    /// What the edge adds to a count, whose digits in base 8 are the links and the external edges Ws, Fr
-    /// and Rf.
-    pub(crate) count: u16,
-}
-
-/// The digits of an edge, if it is a link or external: a cycle of a family has no other.
-pub(crate) fn edge_digits(edge: Edge) -> Option<Digits>
-    ensures { MatchOption result (slot_digit edge ≡ 0) (λ digits. AreDigits (slot_digit edge) (word_place edge) digits) }
+/// What an edge joins, whatever its marks, if it is a link or external: a cycle of a family has no
+/// other.
+pub(crate) fn slot_of(edge: Edge) -> Option<Slot>
+    ensures { result ≡ edge_slot edge }
 {
-    let letters = letters_place(edge.source_mark(), edge.target_mark());
-    kind_digits(edge.kind(), letters)
+    kind_slot(edge.kind())
 }
 
-/// The digits of an edge of a kind, whose marks have the letters of this place, if it is a link or
-/// external.
-fn kind_digits(kind: Kind, letters: u8) -> Option<Digits>
-    requires { letters ≤ 8 }
-    ensures { MatchOption result (kind_digit kind ≡ 0) (λ digits. AreDigits (kind_digit kind) (kind_word_place kind letters) digits) }
+/// What an edge of a kind joins, if it is a link or external.
+fn kind_slot(kind: Kind) -> Option<Slot>
+    ensures { result ≡ kind_slot kind }
 {
     match kind {
         Kind::Com {
             com,
             reach: Reach::External,
-        } => Some(com_digits(com)),
+        } => Some(com_slot(com)),
         Kind::Po {
             sd: Sd::Diff,
             from,
             to,
-        } => Some(link_digits(from, to, PO_PLACE + letters)),
-        Kind::Fenced {
-            fence,
+        }
+        | Kind::Fenced {
             sd: Sd::Diff,
             from,
             to,
-        } => Some(link_digits(from, to, fence_place(fence) + letters)),
+            ..
+        } => Some(link_slot(from, to)),
         Kind::Dep {
-            dep,
             sd: Sd::Diff,
             to,
-        } => Some(link_digits(Dir::R, to, dependency_place(dep, letters))),
-        Kind::Data { sd: Sd::Diff } => Some(link_digits(Dir::R, Dir::W, DATA_PLACE + letters)),
+            ..
+        } => Some(link_slot(Dir::R, to)),
+        Kind::Data { sd: Sd::Diff } => Some(Slot::RW),
         _ => None,
     }
 }

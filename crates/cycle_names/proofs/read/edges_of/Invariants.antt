@@ -1,7 +1,5 @@
 -- The edges of the slots passed are added, and there is room for the others.
-use Rattle.std.proofs.Common.{◌≡◌, ◌++◌, length, map, drop}
-use Rattle.cycle_names.specs.Families.{family_edges}
-use Rattle.cycle_names.specs.Fitting.{slot_edge}
+use Rattle.cycle_names.proofs.Vocabulary.{◌≡◌, ◌++◌, length, map, drop, family_edges, slot_edge}
 use Rattle.cycle_names.proofs.read.edges_of.Given as goal
 
 abbrev pub invariant-loop-slot : goal.invariant-loop-slot

@@ -4,8 +4,7 @@ use Rattle.cycle_names.proofs.Steps.{link_found, link_at, link_missing, link_see
 use Rattle.cycle_names.proofs.read.link_with.Goals as goal
 
 pub returns-then-is_link : goal.returns-then-is_link
-returns-then-is_link c =
-    sym (link_found _ _ c.at_rank-edge.result c.args.word.now (sym (link_seen c.args.slot _ _ c.args.word.now c.at_rank-edge.result c.source-from.ensures c.target-to.ensures) ∙ sym c.is_link.ensures ∙ c.if-is_link.true))
+returns-then-is_link c = grind (arith, link_found, link_seen)
 
 pub loop-rank-preserved : goal.loop-rank-preserved
 loop-rank-preserved c =

@@ -1,9 +1,5 @@
 -- The words of the edges passed are added, and there is room for the others.
-use Rattle.std.proofs.Common.{◌≡◌, ◌≤◌, ◌+◌, ◌*◌, ◌++◌, length, drop}
-use Rattle.std.specs.List.{flat_map}
-use Rattle.relax_edges.specs.WordParts.{word_of}
-use Rattle.cycle_names.specs.Fitting.{separator_text}
-use Rattle.cycle_names.specs.declared.words.TheConstants.{MAX_SEPARATED}
+use Rattle.cycle_names.proofs.Vocabulary.{◌≡◌, ◌≤◌, ◌+◌, ◌*◌, ◌++◌, length, drop, flat_map, word_of, separator_text, MAX_SEPARATED}
 use Rattle.cycle_names.proofs.words.push_separated.Given as goal
 
 abbrev pub invariant-loop-edge : goal.invariant-loop-edge
