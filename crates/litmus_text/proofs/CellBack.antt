@@ -1,18 +1,18 @@
 -- A printed cell is read back, whatever blanks fill it.
-use Rattle.std.proofs.Common.{◌≡◌, ℕ, zero, suc, List, [], ◌∷◌, ◌++◌, Some, None, Ok, true, false, refl, sym, ap, ◌∙◌, append_assoc, append-nil}
+use Rattle.std.proofs.Common.{◌≡◌, ℕ, List, [], ◌∷◌, ◌++◌, Ok, true, false, refl, ap, append_assoc, append-nil, arith}
 use Rattle.std.specs.Prelude.{Bool}
 use Rattle.std.specs.List.{list_all}
 use Rattle.std.proofs.Math.ListN.{replicate}
 use Rattle.std.proofs.lemmas.Bool.{and_from}
 use Rattle.list_laws.proofs.Cases.{by_test}
-use Rattle.text_laws.specs.Blanks.{is_blank, unblanked, before_blanks, trim_blanks, is_inked}
+use Rattle.text_laws.specs.Blanks.{is_blank, before_blanks, trim_blanks, is_inked}
 use Rattle.text_laws.specs.LeadingRuns.{leading_run, after_run}
-use Rattle.arch_trait.specs.InstructionReading.{operands_in, operands_if, written_in, instr_read, number_raw}
-use Rattle.arch_trait.specs.Writing.{Writing, Written}
+use Rattle.arch_trait.specs.InstructionReading.{operands_in, operands_if, written_in, instr_read}
+use Rattle.arch_trait.specs.Writing.{Writing}
 use Rattle.arch_trait.specs.Cells.{is_cell_byte}
-use Rattle.text_laws.specs.Cuts.{cut_at}
 use Rattle.text_laws.specs.Words.{is_nil}
-use Rattle.litmus_text.specs.TestTable.{Column, Among, instr_put, instr_in, instr_or_nothing, cell_read}
+use Rattle.litmus_text.specs.TestTable.{Column, Among}
+use Rattle.litmus_text.specs.TableScan.{instr_put, instr_in, instr_or_nothing, cell_read}
 use Rattle.text_laws.proofs.BlankLaws.{kept_inked, spaces_class, trimmed_padded}
 use Rattle.text_laws.proofs.CutLaws.{cut_back, cut_none, all_both, without_class}
 
@@ -22,13 +22,11 @@ blanks k = replicate k 32
 
 inked_stop : (k : ℕ) → after_run is_inked (blanks k) ≡ blanks k
 unfolding after_run
-inked_stop zero = refl
-inked_stop (suc k) = refl
+inked_stop k = grind arith
 
 inked_none : (k : ℕ) → leading_run is_inked (blanks k) ≡ []
 unfolding leading_run
-inked_none zero = refl
-inked_none (suc k) = refl
+inked_none k = grind arith
 
 after_padded : (text : List ℕ) (k : ℕ) → after_run is_inked (text ++ blanks k) ≡ after_run is_inked text ++ blanks k
 unfolding after_run
@@ -44,9 +42,6 @@ run_padded (b ∷ text) k = by_test (is_inked b) (λ e. rw e (ap (λ rest. b ∷
 abbrev pub padded : ℕ → List ℕ → List ℕ
 padded k text = 32 ∷ (text ++ blanks k)
 
-made : List ℕ → List ℕ → Written
-made word rest = record { word = word; operands = operands_in rest }
-
 operands_padded : (text : List ℕ) (k : ℕ) → operands_in (text ++ blanks k) ≡ operands_in text
 unfolding operands_in
 operands_padded text k = ap operands_if (trimmed_padded text k)
@@ -54,15 +49,7 @@ operands_padded text k = ap operands_if (trimmed_padded text k)
 -- an instruction is the same with blanks around it
 written_padded : (b : ℕ) (text : List ℕ) (k : ℕ) → is_blank b ≡ false → written_in (padded k (b ∷ text)) ≡ written_in (b ∷ text)
 unfolding after_run
-written_padded b text k e =
-    let prefix : unblanked ((b ∷ text) ++ blanks k) ≡ (b ∷ text) ++ blanks k = rw e refl in
-    let alone : unblanked (b ∷ text) ≡ b ∷ text = rw e refl in
-    let word = run_padded (b ∷ text) k in
-    let rest = ap operands_in (after_padded (b ∷ text) k) ∙ operands_padded (after_run is_inked (b ∷ text)) k in
-    ap (λ t. record { word = leading_run is_inked t; operands = operands_in (after_run is_inked t) }) prefix
-    ∙ ap (λ x. record { word = x; operands = operands_in (after_run is_inked ((b ∷ text) ++ blanks k)) }) word
-    ∙ ap (λ o. record { word = leading_run is_inked (b ∷ text); operands = o }) rest
-    ∙ sym (ap (λ t. record { word = leading_run is_inked t; operands = operands_in (after_run is_inked t) }) alone)
+written_padded b text k e = cc ((run_padded (b ∷ text) k), (after_padded (b ∷ text) k), (operands_padded (after_run is_inked (b ∷ text)) k))
 
 -- a text begins with a byte that is no blank
 pub record Begins (text : List ℕ) : Type 0 where
@@ -72,10 +59,7 @@ pub record Begins (text : List ℕ) : Type 0 where
   pub inked : is_blank first ≡ false
 
 instr_padded : (w : Writing) (text : List ℕ) (k : ℕ) (places labels : List (List ℕ)) → Begins text → instr_read w (padded k text) places labels ≡ instr_read w text places labels
-instr_padded w text k places labels h =
-    ap (λ t. instr_read w (padded k t) places labels) h.is
-    ∙ ap (λ x. number_raw (w.raw x) places labels) (written_padded h.first h.rest k h.inked)
-    ∙ ap (λ t. instr_read w t places labels) (sym h.is)
+instr_padded w text k places labels h = grind (arith, written_padded)
 
 nothing_left : (k : ℕ) → trim_blanks (blanks k) ≡ []
 unfolding before_blanks after_run
@@ -92,9 +76,7 @@ padded_class p k text h t = and_from (p 32) (list_all p (text ++ blanks k)) h (a
 -- an empty cell is read as nothing
 pub empty_back : (w : Writing) (n k : ℕ) (s : Among Column) → cell_read w n (padded k []) s ≡ Ok s
 unfolding cell_read after_run instr_in
-empty_back w n k s =
-    let whole : cut_at 58 (padded k []) ≡ None = cut_none 58 (padded k []) (without_class is_cell_byte 58 (padded k []) refl (padded_class is_cell_byte k [] refl refl)) in
-    rw whole (nothing_back w n k s)
+empty_back w n k s = search (arith, cut_none, padded_class, nothing_back)
 
 begins_inked : (b : ℕ) (text : List ℕ) (k : ℕ) → is_blank b ≡ false → is_nil (trim_blanks (padded k (b ∷ text))) ≡ false
 unfolding after_run before_blanks
@@ -104,21 +86,17 @@ begins_inked b text k e = rw e (ap is_nil (kept_inked b (before_blanks (text ++ 
 pub plain_back : (w : Writing) (n k : ℕ) (text : List ℕ) (s : Among Column) → Begins text → list_all is_cell_byte text ≡ true
     → cell_read w n (padded k text) s ≡ instr_put n s.value (instr_read w text s.names s.value.labels)
 unfolding cell_read instr_in
-plain_back w n k text s h bytes =
-    let whole : cut_at 58 (padded k text) ≡ None = cut_none 58 (padded k text) (without_class is_cell_byte 58 (padded k text) refl (padded_class is_cell_byte k text refl bytes)) in
-    let some : is_nil (trim_blanks (padded k text)) ≡ false = ap (λ t. is_nil (trim_blanks (padded k t))) h.is ∙ begins_inked h.first h.rest k h.inked in
-    rw (whole, some) (ap (instr_put n s.value) (instr_padded w text k s.names s.value.labels h))
+plain_back w n k text s h bytes = grind (arith, cut_none, without_class, padded_class, begins_inked, instr_padded)
 
 -- a cell with a label is read as the label
 pub label_back : (w : Writing) (n k : ℕ) (name text : List ℕ) (s t : Among Column) → text ≡ name ++ 58 ∷ [] → Begins text → list_all is_cell_byte name ≡ true
     → instr_put n s.value (instr_read w text s.names s.value.labels) ≡ Ok t → cell_read w n (padded k text) s ≡ Ok t
 unfolding cell_read instr_in
 label_back w n k name text s t is h bytes put =
-    let parts : cut_at 58 (padded k text) ≡ Some (32 ∷ name, blanks k) =
-    ap (λ x. cut_at 58 (32 ∷ (x ++ blanks k))) is ∙ ap (λ x. cut_at 58 (32 ∷ x)) (append_assoc name (58 ∷ []) (blanks k))
-    ∙ cut_back 58 (32 ∷ name) (blanks k) (without_class is_cell_byte 58 (32 ∷ name) refl (and_from (is_cell_byte 32) (list_all is_cell_byte name) refl bytes)) in
-    let whole : (32 ∷ name) ++ 58 ∷ [] ≡ padded 0 text = ap (λ x. 32 ∷ x) (sym is ∙ sym (append-nil text)) in
-    let read : instr_put n s.value (instr_read w ((32 ∷ name) ++ 58 ∷ []) s.names s.value.labels) ≡ Ok t =
-    ap (λ x. instr_put n s.value (instr_read w x s.names s.value.labels)) whole
-    ∙ ap (instr_put n s.value) (instr_padded w text 0 s.names s.value.labels h) ∙ put in
-    rw (parts, read) (nothing_back w n k t)
+    cc (
+      (append_assoc name (58 ∷ []) (blanks k)),
+      (cut_back 58 (32 ∷ name) (blanks k) (without_class is_cell_byte 58 (32 ∷ name) refl (and_from (is_cell_byte 32) (list_all is_cell_byte name) refl bytes))),
+      (append-nil text),
+      (instr_padded w text 0 s.names s.value.labels h),
+      (nothing_back w n k t),
+    )

@@ -1,6 +1,6 @@
 -- A cell that is kept padded, and the part of it that a row has.
-use Rattle.std.proofs.Common.{◌≡◌, ◌≤◌, ◌≢◌, ◌+◌, ◌-◌, ℕ, List, ◌++◌, zero, suc, length, take, drop}
-use Rattle.std.proofs.Common.{refl, sym, ap, ◌∙◌, subst, arith, length-append}
+use Rattle.std.proofs.Common.{◌≡◌, ◌≤◌, ◌≢◌, ◌+◌, ◌-◌, ℕ, List, ◌++◌, length, take, drop}
+use Rattle.std.proofs.Common.{sym, ap, ◌∙◌, subst, arith, length-append}
 use Rattle.std.specs.Prelude.{codes}
 use Rattle.std.proofs.Math.ListN.{replicate}
 use Rattle.std.proofs.lemmas.List.{drop-replicate, take-replicate, length-replicate}
@@ -8,10 +8,9 @@ use Rattle.std.proofs.Math.Seq.{take-append_seam}
 use Rattle.list_laws.proofs.Parts.{take-append-add}
 use Rattle.arch_trait.specs.declared.arch.TheConstants.{MAX_TEXT}
 use Rattle.diy_io.specs.Page.{page_after}
-use Rattle.litmus_text.specs.Separators.{separator_at, padded}
+use Rattle.litmus_text.specs.Separators.{padded}
 use Rattle.litmus_text.specs.declared.cell.TheConstants.{CELL_ROOM}
 use Rattle.litmus_text.specs.PaddedCells.{padded_at, PutsCell}
-use Rattle.litmus_text.proofs.JoinLaws.{separator_short}
 
 -- a text that was copied between ` | ` and blanks is the text of that cell
 pub copied_text : (text copy rest : List ℕ) → copy ≡ text → take (length text) (copy ++ rest) ≡ text
@@ -27,11 +26,6 @@ copied_whole text copy k e long =
     ∙ ap (λ n. codes " | " ++ (text ++ replicate (40 - n) blank)) long
     ∙ ap padded (sym (copied_text text copy (drop k (replicate 40 blank)) e))
 
-take_later : (width : ℕ) (xs : List ℕ) → take (3 + width) (codes " | " ++ xs) ≡ codes " | " ++ take width xs
-take_later width xs =
-    let e : 3 + width ≡ suc (suc (suc width)) = omega arith in
-    rw e refl
-
 text_and_blanks : (text : List ℕ) (width : ℕ) → length text ≤ width → width ≤ MAX_TEXT
     → take width (text ++ replicate (MAX_TEXT - length text) 32) ≡ text ++ replicate (width - length text) 32
 text_and_blanks text width within short =
@@ -42,32 +36,17 @@ text_and_blanks text width within short =
     ∙ ap (λ rest. text ++ rest) (take-replicate {X = ℕ} more (40 - length text) 32 (omega arith))
 
 part_short : (i : ℕ) (text : List ℕ) (width : ℕ) → length text ≤ width → width ≤ MAX_TEXT → length (padded_at i text width) ≤ CELL_ROOM
-part_short i text width within short =
-    let blanks : List ℕ = replicate (width - length text) 32 in
-    omega (arith, separator_short (codes " | ") i, length-append (separator_at (codes " | ") i) (text ++ blanks), length-append text blanks, length-replicate {A = ℕ} (width - length text) 32)
+part_short i text width within short = grind (arith, length-append, length-replicate)
 
 -- the first cell of a row is put without ` | `
 pub first_put : (i : ℕ) (bytes text : List ℕ) (width n : ℕ) (page new : List ℕ) → i ≡ 0 → bytes ≡ padded text → length text ≤ width → width ≤ MAX_TEXT → n ≡ width
     → new ≡ page_after page (take n (drop 3 bytes)) → PutsCell i text width page new
-first_put zero bytes text width n page new h e within short whole put = record {
-  put =
-      put ∙ ap (λ n. page_after page (take n (drop 3 bytes))) whole ∙ ap (λ b. page_after page (take width (drop 3 b))) e
-      ∙ ap (page_after page) (text_and_blanks text width within short);
-  short = part_short zero text width within short;
-}
-first_put (suc i) bytes text width n page new h e within short whole put = absurd (omega arith)
+first_put i bytes text width n page new h e within short whole put = grind (arith, text_and_blanks, part_short)
 
 -- a later cell is put with ` | `
 pub later_put : (i : ℕ) (bytes text : List ℕ) (width : ℕ) (page new : List ℕ) → i ≢ 0 → bytes ≡ padded text → length text ≤ width → width ≤ MAX_TEXT
     → new ≡ page_after page (take (3 + width) bytes) → PutsCell i text width page new
-later_put zero bytes text width page new h e within short put = absurd (h refl)
-later_put (suc i) bytes text width page new h e within short put = record {
-  put =
-      put ∙ ap (λ b. page_after page (take (3 + width) b)) e
-      ∙ ap (page_after page) (take_later width (text ++ replicate (MAX_TEXT - length text) 32))
-      ∙ ap (λ t. page_after page (codes " | " ++ t)) (text_and_blanks text width within short);
-  short = part_short (suc i) text width within short;
-}
+later_put i bytes text width page new h e within short put = grind (arith, text_and_blanks, part_short)
 
 -- the text of a cell by another name
 pub same_cell : (i : ℕ) (text cell : List ℕ) (width : ℕ) (page new : List ℕ) → text ≡ cell → PutsCell i text width page new → PutsCell i cell width page new

@@ -1,5 +1,5 @@
 -- Facts about one element of a list.
-use Rattle.std.proofs.Common.{◌≡◌, ◌≤◌, ◌∷◌, ◌++◌, [], ◌<◌, ℕ, true, List, length, map, get_or, zero, suc, subst, sym, arith, zero-add}
+use Rattle.std.proofs.Common.{◌≡◌, ◌≤◌, ◌∷◌, ◌++◌, [], ◌<◌, ℕ, true, List, length, map, get_or, subst, sym, arith}
 use Rattle.std.specs.Prelude.{Bool, nat_lt}
 use Rattle.std.specs.List.{list_all, enumerate_from, All, AllByRecursion}
 use Rattle.std.proofs.lemmas.List.{get_or-map, length-map}
@@ -18,13 +18,10 @@ below_at f n xs i d all h = ltb-true (f (get_or xs i d)) n (passes_at (λ x. nat
 
 -- an element of a numbered list has its number
 pub numbered_at : {X Y : Type 0} (f : X → Y) (xs : List X) (i : ℕ) (d : X) (e : ℕ × Y) → i < length xs → get_or (enumerate_from 0 (map f xs)) i e ≡ (i, f (get_or xs i d))
-numbered_at f xs i d e h =
-    let n : length (map f xs) ≡ length xs = length-map xs f in
-    rw (get_or-enumerate_from 0 (map f xs) i e (omega arith), get_or-map f xs i d e.1 h, zero-add i)
+numbered_at f xs i d e h = grind (arith, length-map, get_or-enumerate_from, get_or-map)
 
 one_short : (n x : ℕ) → x ≤ n → All (λ y. y ≤ n) (x ∷ [])
-one_short n x h zero d k = h
-one_short n x h (suc i) d k = absurd (omega arith)
+one_short n x h y d k = grind arith
 
 -- numbers within a bound and one more within it are all within it
 pub short_more : (n : ℕ) (old new : List ℕ) (x : ℕ) → new ≡ old ++ x ∷ [] → All (λ y. y ≤ n) old → x ≤ n → All (λ y. y ≤ n) new

@@ -1,8 +1,7 @@
 -- What a part answers where a part of it fails.
-use Rattle.std.proofs.Common.{◌≡◌, Result, Err}
+use Rattle.std.proofs.Common.{◌≡◌, Result, Err, arith}
 use Rattle.litmus_text.specs.declared.errors.TextError.{TextError}
 use Rattle.litmus_text.specs.declared.errors.ReadError.{ReadError}
-use Rattle.litmus_text.specs.declared.errors.ReadError.TheVariants.{Text, NoMemory}
 use Rattle.litmus_text.specs.ReadingAnswers.{GivesInMemory}
 
 -- an error is what a definition gives, or there is no memory
@@ -11,5 +10,4 @@ Fails e read = GivesInMemory (λ y. y) (Err e) read
 
 -- a part that fails as a part of it does gives the same error
 pub fails_map : {Y Z : Type 0} (e : ReadError) (a : Result Y TextError) (b : Result Z TextError) → ((f : TextError) → a ≡ Err f → b ≡ Err f) → Fails e a → Fails e b
-fails_map (Text f) a b h k = h f k
-fails_map NoMemory a b h k = tt
+fails_map e a b h k = grind arith

@@ -1,10 +1,9 @@
 -- The printed header and the printed edges are read back.
-use Rattle.std.proofs.Common.{◌≡◌, ◌==◌, ℕ, List, [], ◌∷◌, ◌++◌, Some, Ok, true, false, take, refl, sym, ap, ◌∙◌, arith}
+use Rattle.std.proofs.Common.{◌≡◌, ◌==◌, ℕ, List, [], ◌∷◌, ◌++◌, Some, Ok, true, false, take, refl, ap, arith}
 use Rattle.std.specs.Prelude.{Bool, not, ◌&&◌, codes}
 use Rattle.std.specs.List.{list_all, flat_map, join_by}
 use Rattle.std.specs.Str.{bytes_eq}
-use Rattle.std.proofs.lemmas.Bool.{eqb-true, and_parts}
-use Rattle.std.proofs.lemmas.Bool.Decides.{nat_tests}
+use Rattle.std.proofs.lemmas.Bool.{and_parts}
 use Rattle.list_laws.proofs.Elements.{list_all-weaker}
 use Rattle.list_laws.proofs.Cases.{by_test}
 use Rattle.relax_edges.specs.declared.kinds.ArchName.{ArchName}
@@ -14,12 +13,12 @@ use Rattle.relax_edges.specs.Architectures.{arch_word}
 use Rattle.relax_edges.specs.WordParts.{word_of}
 use Rattle.relax_edges.specs.AllEdges.{edges_in_order}
 use Rattle.cycle_laws.proofs.RankLaws.{each_edge}
-use Rattle.text_laws.specs.Blanks.{is_blank, trim_blanks}
+use Rattle.text_laws.specs.Blanks.{is_blank}
 use Rattle.text_laws.specs.LeadingRuns.{leading_run}
 use Rattle.arch_trait.specs.Cells.{is_line_byte}
 use Rattle.litmus_text.specs.TextLines.{Lines, line, is_passed}
 use Rattle.text_laws.specs.Words.{words}
-use Rattle.litmus_text.specs.Header.{header_read, quote_read, is_setting, after_settings, name_in_header, two_words, quote_cut}
+use Rattle.litmus_text.specs.Header.{header_read, quote_read, is_setting, after_settings, quote_cut}
 use Rattle.text_laws.specs.Names.{is_name_byte}
 use Rattle.litmus_text.specs.Printable.{IsTestName}
 use Rattle.litmus_text.specs.TestText.{header_line, edges_line}
@@ -31,10 +30,10 @@ use Rattle.litmus_text.proofs.LineBack.{IsLine}
 
 -- a name byte is one of a line, and no blank
 name_on_line : (b : ℕ) → is_name_byte b ≡ true → is_line_byte b ≡ true
-name_on_line b h = grind (arith, nat_tests)
+name_on_line b h = grind arith
 
 name_inked : (b : ℕ) → is_name_byte b ≡ true → not (is_blank b) ≡ true
-name_inked b h = grind (arith, nat_tests)
+name_inked b h = grind arith
 
 -- a word without blanks
 abbrev pub is_inked_word : List ℕ → Bool
@@ -43,10 +42,7 @@ is_inked_word text = list_all (λ b. not (is_blank b)) text
 -- two words with a blank between are read as two words
 pub two_back : (a : ℕ) (prefix : List ℕ) (b : ℕ) (remainder : List ℕ) → is_inked_word (a ∷ prefix) ≡ true → is_inked_word (b ∷ remainder) ≡ true
     → words ((a ∷ prefix) ++ 32 ∷ b ∷ remainder) ≡ (a ∷ prefix) ∷ (b ∷ remainder) ∷ []
-two_back a prefix b remainder h k =
-    words_both (a ∷ prefix) (b ∷ remainder)
-    ∙ ap (λ ws. ws ++ words (b ∷ remainder)) (one_word (a ∷ prefix) h refl)
-    ∙ ap (λ ws. (a ∷ prefix) ∷ ws) (one_word (b ∷ remainder) k refl)
+two_back a prefix b remainder h k = search (arith, words_both, one_word)
 
 arch_two : (arch : ArchName) (b : ℕ) (name : List ℕ) → is_inked_word (b ∷ name) ≡ true
     → words (arch_word arch ++ 32 ∷ b ∷ name) ≡ arch_word arch ∷ (b ∷ name) ∷ []
@@ -60,9 +56,7 @@ arch_two ARM b name h = two_back 65 (codes "RM") b name refl h
 pub header_back : (arch : ArchName) (name : List ℕ) (n : ℕ) (rest : Lines) → IsTestName name → header_read arch (line n (header_line arch name) rest) ≡ Ok (name, rest)
 unfolding header_read header_line
 header_back arch [] n rest h = let clash : false ≡ true = h.some in absurd (cc)
-header_back arch (b ∷ name) n rest h =
-    ap (λ ws. name_in_header arch n rest (two_words ws)) (arch_two arch b name (list_all-weaker is_name_byte (λ b. not (is_blank b)) name_inked (b ∷ name) h.bytes))
-    ∙ rw (bytes_same (arch_word arch), h.short) refl
+header_back arch (b ∷ name) n rest h = grind (arith, (arch_two arch), (list_all-weaker is_name_byte), name_inked, (bytes_same (arch_word arch)))
 
 -- the bytes of edges: those of a line, and no double quote
 abbrev is_quoted_byte : ℕ → Bool
@@ -96,23 +90,12 @@ settings_back n text rest = refl
 
 -- a line without `*` is no comment
 no_comment : (text : List ℕ) → list_all is_line_byte text ≡ true → bytes_eq (take 2 text) (codes "(*") ≡ false
-no_comment [] h = refl
-no_comment (a ∷ []) h = by_test (a == 40) (λ e. rw e refl) (λ e. rw e refl)
-no_comment (a ∷ b ∷ text) h =
-    by_test (b == 42)
-    (λ e. let same : b ≡ 42 = eqb-true b 42 e in
-    let parts = and_parts (is_line_byte a) (list_all is_line_byte (b ∷ text)) h in
-    let second = and_parts (is_line_byte b) (list_all is_line_byte text) parts.1 in
-    let clash : true ≡ false = sym second.0 ∙ ap is_line_byte same in absurd (cc))
-    (λ e. by_test (a == 40) (λ f. rw (f, e) refl) (λ f. rw f refl))
+no_comment text h = grind arith
 
 -- a printed line with a byte that is no blank isn't passed over
 pub line_is : (text : List ℕ) → list_all is_line_byte text ≡ true → list_all is_blank text ≡ false → IsLine text
 unfolding is_passed
-line_is text h k = record {
-  bytes = h;
-  stays = rw (k, no_comment (trim_blanks text) (trimmed_class is_line_byte text h)) refl;
-}
+line_is text h k = grind (arith, no_comment, trimmed_class)
 
 -- a text with a byte that is no blank isn't blank
 pub not_all_blank : (prefix : List ℕ) (b : ℕ) (remainder : List ℕ) → is_blank b ≡ false → list_all is_blank (prefix ++ b ∷ remainder) ≡ false

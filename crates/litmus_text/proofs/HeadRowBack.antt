@@ -1,12 +1,9 @@
 -- The printed header of the table is read back.
-use Rattle.std.proofs.Common.{◌≡◌, ◌<◌, ◌≤◌, ◌+◌, ◌-◌, ◌^◌, ℕ, List, [], ◌∷◌, ◌++◌, Ok, true, length, map, refl, sym, ap, ◌∙◌, arith, append_assoc, add-zero, zero-add}
+use Rattle.std.proofs.Common.{◌≡◌, ◌<◌, ◌≤◌, ◌+◌, ◌^◌, ℕ, List, [], ◌∷◌, Ok, true, length, map, refl, sym, ap, ◌∙◌, arith, append_assoc, add-zero, zero-add}
 use Rattle.std.specs.Prelude.{not, nat_lt}
 use Rattle.std.specs.Fmt.{decimal}
 use Rattle.std.specs.List.{list_all, AllByRecursion, enumerate_from}
-use Rattle.std.specs.Str.{bytes_eq}
-use Rattle.std.proofs.Math.ListN.{replicate}
-use Rattle.std.proofs.lemmas.Bool.{lt-ltb, and_from}
-use Rattle.std.proofs.lemmas.Bool.Decides.{nat_tests}
+use Rattle.std.proofs.lemmas.Bool.{and_from}
 use Rattle.std.proofs.lemmas.List.{replicate_more}
 use Rattle.text_laws.specs.Names.{is_place_byte}
 use Rattle.text_laws.specs.Blanks.{is_blank, trim_blanks}
@@ -16,7 +13,7 @@ use Rattle.arch_trait.specs.Writing.{Writing}
 use Rattle.litmus_text.specs.TextLines.{Lines, line}
 use Rattle.litmus_text.specs.InitialState.{Begun}
 use Rattle.litmus_text.specs.TestTable.{Cells, is_head, heads_read, head_read}
-use Rattle.litmus_text.specs.TestText.{column_of, columns_of, width_of, cell_text, row_line}
+use Rattle.litmus_text.specs.TestText.{column_of, columns_of, cell_text, row_line}
 use Rattle.litmus_text.specs.Printable.{is_row_byte}
 use Rattle.text_laws.proofs.NameLaws.{decimal_passes}
 use Rattle.text_laws.proofs.OrderLaws.{bytes_same}
@@ -27,13 +24,10 @@ use Rattle.litmus_text.proofs.LineBack.{IsLine}
 use Rattle.litmus_text.proofs.TableBack.{spaced, row_cells, cells_without, row_line_is}
 
 place_on_row : (b : ℕ) → is_place_byte b ≡ true → is_row_byte b ≡ true
-place_on_row b h = grind (arith, nat_tests)
+place_on_row b h = grind arith
 
 place_inked : (b : ℕ) → is_place_byte b ≡ true → not (is_blank b) ≡ true
-place_inked b h = grind (arith, nat_tests)
-
-head_text : ℕ → List ℕ
-head_text n = 80 ∷ decimal n
+place_inked b h = grind arith
 
 head_trimmed : (n k : ℕ) → n < 2 ^ 32 → trim_blanks (padded k (80 ∷ decimal n)) ≡ 80 ∷ decimal n
 unfolding after_run
@@ -43,32 +37,19 @@ head_trimmed n k h =
 
 head_cell : (w : Writing) (places : List (List ℕ)) (n : ℕ) (t : ThreadCode) → n < 2 ^ 32 → is_head n (spaced (cell_text 0) (column_of w places (n, t))) ≡ true
 unfolding cell_text column_of
-head_cell w places n t h =
-    let left = width_of (column_of w places (n, t)) - length (80 ∷ decimal n) in
-    let shape : spaced (cell_text 0) (column_of w places (n, t)) ≡ padded (left + 1) (80 ∷ decimal n) =
-    ap (λ x. 32 ∷ x) (append_assoc (80 ∷ decimal n) (replicate left 32) (32 ∷ []) ∙ ap (λ x. (80 ∷ decimal n) ++ x) (replicate_more left 32)) in
-    ap (λ x. bytes_eq (trim_blanks x) (80 ∷ decimal n)) shape ∙ ap (λ x. bytes_eq x (80 ∷ decimal n)) (head_trimmed n (left + 1) h) ∙ bytes_same (80 ∷ decimal n)
+head_cell w places n t h = grind (arith, append_assoc, replicate_more, head_trimmed, bytes_same)
 
 heads_back : (w : Writing) (places : List (List ℕ)) (line_number n : ℕ) (threads : List ThreadCode) → n + length threads ≤ 64
     → heads_read line_number true n (map (spaced (cell_text 0)) (map (column_of w places) (enumerate_from n threads))) ≡ Ok (n + length threads)
 unfolding heads_read
 heads_back w places m n [] h = ap Ok (sym (add-zero n))
-heads_back w places m n (t ∷ threads) h =
-    let here = head_cell w places n t (omega arith) in
-    let room : nat_lt n 64 ≡ true = lt-ltb n 64 (omega arith) in
-    let count : (n + 1) + length threads ≡ n + length (t ∷ threads) = omega arith in
-    rw (here, room) (heads_back w places m (n + 1) threads (omega arith) ∙ ap Ok count)
+heads_back w places m n (t ∷ threads) h = grind (arith, (heads_back w places m (n + 1) threads (omega arith)), head_cell)
 
 head_bytes : (w : Writing) (places : List (List ℕ)) (n : ℕ) (threads : List ThreadCode) → n + length threads ≤ 64
     → AllByRecursion (λ c. list_all is_row_byte (cell_text 0 c) ≡ true) (map (column_of w places) (enumerate_from n threads))
 unfolding cell_text column_of
 head_bytes w places n [] h = tt
-head_bytes w places n (t ∷ threads) h = (
-  all_both is_row_byte (80 ∷ decimal n) (replicate (width_of (column_of w places (n, t)) - length (80 ∷ decimal n)) 32)
-      (and_from true (list_all is_row_byte (decimal n)) refl (decimal_passes is_row_byte place_on_row n (omega arith)))
-      (spaces_class is_row_byte (width_of (column_of w places (n, t)) - length (80 ∷ decimal n)) refl),
-  head_bytes w places (n + 1) threads (omega arith),
-)
+head_bytes w places n (t ∷ threads) h = grind (arith, (head_bytes w places (n + 1) threads (omega arith)), all_both, decimal_passes, place_on_row, spaces_class)
 
 -- the printed header of a table is read as the number of its threads
 pub head_back : (w : Writing) (places : List (List ℕ)) (n : ℕ) (t : ThreadCode) (threads : List ThreadCode) (begun : Begun) (rest : Lines) → length (t ∷ threads) ≤ 64

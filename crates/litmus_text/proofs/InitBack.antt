@@ -3,7 +3,6 @@ use Rattle.std.proofs.Common.{◌≡◌, ◌≤◌, ◌+◌, ◌==◌, ℕ, List
 use Rattle.std.specs.Prelude.{Bool, not, ◌&&◌, nat_lt, codes}
 use Rattle.std.specs.List.{list_all, flat_map, join_by, AllByRecursion, enumerate_from}
 use Rattle.std.proofs.lemmas.Bool.{lt-ltb, and_parts, and_from}
-use Rattle.std.proofs.lemmas.Bool.Decides.{nat_tests}
 use Rattle.relax_edges.specs.declared.kinds.Value.TheVariants as values
 use Rattle.arch_trait.specs.Cells.{is_line_byte}
 use Rattle.litmus_text.specs.Placing.{place_in}
@@ -16,7 +15,7 @@ use Rattle.arch_trait.specs.Writing.{Writing, WritesBack, name_in}
 use Rattle.litmus_text.specs.TextLines.{Lines, ends, line}
 use Rattle.text_laws.specs.ReadingSteps.{◌>>=◌}
 use Rattle.litmus_text.specs.Joined.{Joined, no_text, with_text}
-use Rattle.litmus_text.specs.InitialState.{closed, braced_if, braced, brace_ends, braced_read, initial_read}
+use Rattle.litmus_text.specs.InitialState.{closed, braced, brace_ends, braced_read, initial_read}
 use Rattle.litmus_text.specs.TestText.{item_text, items_lines, initial_lines}
 use Rattle.litmus_text.specs.Items.{Link, links_of, links_mention, link_values, links_once, LinkFits}
 use Rattle.text_laws.specs.Cuts.{is_without}
@@ -37,8 +36,7 @@ pub record Gathered (joined : Joined) (n : ℕ) (text : List ℕ) (m : ℕ) (lin
 no_brace : (joined : Joined) (n : ℕ) (text : List ℕ) (m : ℕ) (next : List ℕ) (rest : Lines) → is_without 125 text ≡ true
     → braced joined n text (line m next rest) ≡ braced (with_text (with_text joined n text) m (32 ∷ [])) m next rest
 unfolding braced
-no_brace joined n text m next rest h =
-    ap (λ o. braced_if joined n (line m next rest) o (braced (with_text (with_text joined n text) m (32 ∷ [])) m next rest)) (cut_none 125 text h)
+no_brace joined n text m next rest h = grind (arith, cut_none)
 
 at_brace : (joined : Joined) (n : ℕ) (rest : Lines) → braced joined n (125 ∷ []) rest ≡ closed (with_text joined n []) n [] rest
 unfolding braced
@@ -49,13 +47,13 @@ at_brace joined n (line m next rest) = rw (cut_back 125 [] [] refl) refl
 pub gathered : (joined : Joined) (n : ℕ) (text : List ℕ) (m : ℕ) (lines : List (List ℕ)) (after : ℕ → Lines) → is_without 125 text ≡ true → AllByRecursion (λ l. is_without 125 l ≡ true) lines
     → Gathered joined n text m lines after
 gathered joined n text m [] after h all =
-    let next = with_text (with_text joined n text) m (32 ∷ []) in
-    record {
-      whole = with_text next m [];
-      at_line = m;
-      is = no_brace joined n text m (125 ∷ []) (after (m + 1)) h ∙ at_brace next m (after (m + 1));
-      bytes = append-nil ((joined.bytes ++ text) ++ 32 ∷ []) ∙ append_assoc joined.bytes text (32 ∷ []);
-    }
+    grind (
+      arith,
+      (no_brace joined n text m (125 ∷ []) (after (m + 1)) h),
+      at_brace,
+      (append-nil ((joined.bytes ++ text) ++ 32 ∷ [])),
+      (append_assoc joined.bytes text (32 ∷ [])),
+    )
 gathered joined n text m (l ∷ lines) after h all =
     let next = with_text (with_text joined n text) m (32 ∷ []) in
     let further = gathered next m l (m + 1) lines after all.0 all.1 in
@@ -64,7 +62,7 @@ gathered joined n text m (l ∷ lines) after h all =
     record {
       whole = further.whole;
       at_line = further.at_line;
-      is = no_brace joined n text m l (before (m + 1) (lines ++ (125 ∷ []) ∷ []) after) h ∙ further.is ∙ ap (λ k. closed further.whole further.at_line [] (after k)) count;
+      is = grind (arith, no_brace);
       bytes =
           further.bytes ∙ append_assoc (joined.bytes ++ text) (32 ∷ []) (l ++ more) ∙ append_assoc joined.bytes text (32 ∷ (l ++ more))
           ∙ ap (λ t. joined.bytes ++ (text ++ t)) (sym (append_assoc (32 ∷ l) (flat_map (λ l. 32 ∷ l) lines) (32 ∷ [])));
@@ -73,9 +71,6 @@ gathered joined n text m (l ∷ lines) after h all =
 -- the lines of items of all threads
 abbrev pub item_lines : Writing → List (List ℕ) → ℕ → List ThreadCode → List (List ℕ)
 item_lines w places n threads = flat_map (λ t. items_lines w places t.0 t.1.links) (enumerate_from n threads)
-
-core_text : Writing → List (List ℕ) → Link → List ℕ
-core_text w places link = 32 ∷ (core w (name_in places) link ++ 59 ∷ [])
 
 items_joined : (w : Writing) (places : List (List ℕ)) (n : ℕ) (links : List (ℕ × ℕ))
     → flat_map (λ l. 32 ∷ l) (items_lines w places n links) ≡ flat_map (λ link. 32 ∷ (core w (name_in places) link ++ 59 ∷ [])) (map (λ link. (n, link)) links)
@@ -96,11 +91,7 @@ items_joined w places n (link ∷ links) =
 all_joined_items : (w : Writing) (places : List (List ℕ)) (n : ℕ) (threads : List ThreadCode)
     → flat_map (λ l. 32 ∷ l) (item_lines w places n threads) ≡ flat_map (λ link. 32 ∷ (core w (name_in places) link ++ 59 ∷ [])) (links_of n threads)
 all_joined_items w places n [] = refl
-all_joined_items w places n (t ∷ threads) =
-    flat_map-append (λ l. 32 ∷ l) (items_lines w places n t.links) (item_lines w places (n + 1) threads)
-    ∙ ap (λ x. x ++ flat_map (λ l. 32 ∷ l) (item_lines w places (n + 1) threads)) (items_joined w places n t.links)
-    ∙ ap (λ x. flat_map (λ link. 32 ∷ (core w (name_in places) link ++ 59 ∷ [])) (map (λ link. (n, link)) t.links) ++ x) (all_joined_items w places (n + 1) threads)
-    ∙ sym (flat_map-append (λ link. 32 ∷ (core w (name_in places) link ++ 59 ∷ [])) (map (λ link. (n, link)) t.links) (links_of (n + 1) threads))
+all_joined_items w places n (t ∷ threads) = grind (arith, (all_joined_items w places (n + 1) threads), flat_map-append, items_joined)
 
 -- a byte of a line of items
 is_items_byte : ℕ → Bool
@@ -108,7 +99,7 @@ is_items_byte b = is_line_byte b && not (b == 125)
 
 item_in_line : (b : ℕ) → is_item_byte b ≡ true → is_items_byte b ≡ true
 unfolding is_items_byte
-item_in_line b h = grind (arith, nat_tests)
+item_in_line b h = grind arith
 
 items_on_line : (b : ℕ) → is_items_byte b ≡ true → is_line_byte b ≡ true
 unfolding is_items_byte
@@ -136,22 +127,26 @@ item_line_is : (a : Puts) (w : Writing) (table places : List (List ℕ)) (n : �
     → AllByRecursion ItemLine (items_lines w places n links)
 item_line_is a w table places n [] laws fits = tt
 item_line_is a w table places n (link ∷ links) laws fits =
-    let more = flat_map (λ y. codes " " ++ item_text w places n y) links in (
-      record {
-        bytes = all_both is_items_byte (item_text w places n link) more (item_bytes a w table places (n, link) laws fits.0) (further_bytes a w table places n links laws fits.1);
-        inked = ap (λ t. list_all is_blank (t ++ more)) (core_is w places (n, link)) ∙ ap (list_all is_blank) (append_assoc (core w (name_in places) (n, link)) (59 ∷ []) more)
-            ∙ not_all_blank (core w (name_in places) (n, link)) 59 more refl;
-      },
-      tt,
+    grind (
+      arith,
+      (all_both is_items_byte (item_text w places n link)),
+      (item_bytes a w table places (n, link) laws fits.0),
+      (further_bytes a w table places n links laws fits.1),
+      (core_is w places (n, link)),
+      (append_assoc (core w (name_in places) (n, link)) (59 ∷ [])),
+      (not_all_blank (core w (name_in places) (n, link)) 59),
     )
 
 item_lines_are : (a : Puts) (w : Writing) (table places : List (List ℕ)) (n : ℕ) (threads : List ThreadCode) → WritesBack a w → AllByRecursion (LinkFits w table (name_in places)) (links_of n threads)
     → AllByRecursion ItemLine (item_lines w places n threads)
 item_lines_are a w table places n [] laws fits = tt
 item_lines_are a w table places n (t ∷ threads) laws fits =
-    let parts = all_parts (LinkFits w table (name_in places)) (map (λ link. (n, link)) t.links) (links_of (n + 1) threads) fits in
-    all_append ItemLine (items_lines w places n t.links) (item_lines w places (n + 1) threads)
-    (item_line_is a w table places n t.links laws parts.0) (item_lines_are a w table places (n + 1) threads laws parts.1)
+    grind (
+      arith,
+      (item_lines_are a w table places (n + 1) threads laws),
+      (all_parts (LinkFits w table (name_in places))),
+      (item_line_is a w table places n t.links laws),
+    )
 
 no_brace_in : (text : List ℕ) → ItemLine text → is_without 125 text ≡ true
 unfolding is_items_byte

@@ -1,8 +1,6 @@
 -- The printed items of the initial state are read back.
-use Rattle.std.proofs.Common.{◌≡◌, ◌<◌, ◌≤◌, ◌+◌, ◌==◌, ℕ, zero, suc, List, [], ◌∷◌, ◌++◌, Some, None, Ok, true, false, length, map, get_or, refl, sym, ap, ◌∙◌, arith, append_assoc, append-nil, add-zero, zero-add}
-use Rattle.std.specs.Prelude.{Bool, not, ◌&&◌, ◌||◌, Option, Result, nat_lt, nat_le, codes}
-use Rattle.std.specs.Char.{is_ascii_digit}
-use Rattle.std.specs.Fmt.{decimal}
+use Rattle.std.proofs.Common.{◌≡◌, ◌<◌, ◌≤◌, ◌+◌, ◌==◌, ℕ, suc, List, [], ◌∷◌, ◌++◌, Some, None, Ok, true, false, length, map, get_or, refl, sym, ap, ◌∙◌, arith, append_assoc, append-nil, zero-add}
+use Rattle.std.specs.Prelude.{Bool, not, ◌&&◌, ◌||◌, Option, nat_lt}
 use Rattle.std.specs.List.{list_all, list_any, flat_map, position_from, IsDistinct, AllByRecursion}
 use Rattle.std.specs.Str.{bytes_eq}
 use Rattle.std.proofs.lemmas.Bool.{lt-ltb, not-true, and_parts, and_from}
@@ -11,13 +9,13 @@ use Rattle.std.proofs.lemmas.List.Sums.{AllPass-from_list_all}
 use Rattle.list_laws.proofs.Elements.{list_all-weaker}
 use Rattle.relax_edges.specs.declared.kinds.Value.TheVariants as values
 use Rattle.final_cond.specs.declared.errors.CondKind.TheVariants.{BadTerm}
-use Rattle.text_laws.specs.Names.{is_place_name, is_register_name, is_place_byte, begins_place}
+use Rattle.text_laws.specs.Names.{is_place_name, is_register_name, is_place_byte}
 use Rattle.text_laws.specs.NumberTexts.{number_of}
 use Rattle.text_laws.specs.Blanks.{is_blank, unblanked, before_blanks, trim_blanks}
 use Rattle.text_laws.specs.LeadingRuns.{after_run}
 use Rattle.final_cond.specs.Conditions.{LeftSeen, InRegister}
 use Rattle.final_cond.specs.CondText.{left_text}
-use Rattle.final_cond.specs.ConditionReading.{Fault, found, only_known, left_at_start, left_read, has_form}
+use Rattle.final_cond.specs.ConditionReading.{found, only_known, left_at_start, left_read, has_form}
 use Rattle.final_cond.specs.CondTextLaws.{PassLeft, left_passes}
 use Rattle.text_laws.proofs.NameLaws.{place_passes}
 use Rattle.final_cond.proofs.BackLaws.{left_back}
@@ -29,9 +27,9 @@ use Rattle.arch_trait.specs.Cells.{is_line_byte}
 use Rattle.text_laws.specs.Cuts.{cut_at, is_without}
 use Rattle.litmus_text.specs.TextCuts.{pieces}
 use Rattle.litmus_text.specs.Joined.{Joined}
-use Rattle.litmus_text.specs.InitialState.{gives, a_place, worth_of, worth_if, item_with, item_if, item_parts, whole_left, some_item, item_of, Begun, nothing_begun, is_given, item_read, items_read}
+use Rattle.litmus_text.specs.InitialState.{gives, a_place, worth_of, worth_if, item_parts, some_item, item_of, Begun, nothing_begun, is_given, item_read, items_read}
 use Rattle.litmus_text.specs.TestText.{item_text}
-use Rattle.litmus_text.specs.Placing.{or_zero, place_in}
+use Rattle.litmus_text.specs.Placing.{place_in}
 use Rattle.litmus_text.specs.Items.{Link, links_mention, link_values, links_once, LinkFits}
 use Rattle.litmus_text.proofs.CutBack.{piece_back, piece_last}
 use Rattle.text_laws.proofs.OrderLaws.{bytes_same}
@@ -48,14 +46,10 @@ place_in_item : (b : ℕ) → is_place_byte b ≡ true → is_item_byte b ≡ tr
 place_in_item b h = grind (arith, nat_tests)
 
 place_no_equals : (b : ℕ) → is_place_byte b ≡ true → not (b == 61) ≡ true
-place_no_equals b h = grind (arith, nat_tests)
+place_no_equals b h = grind arith
 
 item_inked : (b : ℕ) → is_item_byte b ≡ true → not (is_blank b) ≡ true
 item_inked b h = (and_parts (not (is_blank b)) (not (b == 59 || b == 125)) (and_parts (is_line_byte b) (not (is_blank b) && not (b == 59 || b == 125)) h).1).0
-
--- a byte of an item is one of a line
-pub item_on_line : (b : ℕ) → is_item_byte b ≡ true → is_line_byte b ≡ true
-item_on_line b h = (and_parts (is_line_byte b) (not (is_blank b) && not (b == 59 || b == 125)) h).0
 
 -- a text of item bytes is its own trimming, a blank before it or not
 inked_start : (text : List ℕ) → list_all is_item_byte text ≡ true → unblanked text ≡ text
@@ -81,24 +75,20 @@ core w names link = side_text w link ++ 61 ∷ names link.1.1
 -- an item is its text without the semicolon, and a semicolon
 pub core_is : (w : Writing) (places : List (List ℕ)) (link : Link) → item_text w places link.0 link.1 ≡ core w (name_in places) link ++ 59 ∷ []
 unfolding item_text side_text left_text
-core_is w places link =
-    let side = (decimal link.0 ++ codes ":") ++ name_in w.registers link.1.0 in
-    ap (λ x. x ++ 59 ∷ []) (append_assoc side (61 ∷ []) (name_in places link.1.1))
+core_is w places link = grind (arith, append_assoc)
 
 -- the registers of an architecture have names of their own
 distinct_number : (names : List (List ℕ)) (k i : ℕ) → IsDistinct bytes_eq names → i < length names → position_from (λ x. bytes_eq x (get_or names i [])) k names ≡ Some (k + i)
 unfolding IsDistinct
-distinct_number [] k i d h = absurd (omega arith)
-distinct_number (x ∷ names) k zero d h = rw (bytes_same x, add-zero k) refl
 distinct_number (x ∷ names) k (suc i) d h =
     let apart : bytes_eq x (get_or names i []) ≡ false = later names i d.0 (omega arith) in
     let count : (k + 1) + i ≡ k + suc i = omega arith in
     rw apart (distinct_number names (k + 1) i d.1 (omega arith) ∙ ap Some count)
   where
     later : (names : List (List ℕ)) (i : ℕ) → AllByRecursion (λ y. bytes_eq x y ≡ false) names → i < length names → bytes_eq x (get_or names i []) ≡ false
-    later [] i all h = absurd (omega arith)
-    later (y ∷ names) zero all h = all.0
     later (y ∷ names) (suc i) all h = later names i all.1 (omega arith)
+    later names i all h = grind arith
+distinct_number names k i d h = grind (arith, bytes_same)
 
 register_number : (a : Puts) (w : Writing) (r : ℕ) → WritesBack a w → r < length w.registers → number_in w.registers (name_in w.registers r) ≡ Some r
 register_number a w r laws h = distinct_number w.registers 0 r laws.once h ∙ ap Some (zero-add r)
@@ -110,12 +100,8 @@ register_formed a w r laws h = AllPass-from_list_all is_register_name w.register
 side_formed : (a : Puts) (w : Writing) (link : Link) → WritesBack a w → link.0 < 64 → link.1.0 < length w.registers → has_form (InRegister link.0 (name_in w.registers link.1.0)) ≡ true
 side_formed a w link laws small h = and_from (nat_lt link.0 64) (is_register_name (name_in w.registers link.1.0)) (lt-ltb link.0 64 small) (register_formed a w link.1.0 laws h)
 
-ok_same : (l x : LeftSeen × List ℕ) → (◌≡◌ {A = Result (LeftSeen × List ℕ) Fault} (Ok l) (Ok x)) → l ≡ x
-ok_same l x e = cc
-
 read_found : (text : List ℕ) (o : Option (LeftSeen × List ℕ)) (x : LeftSeen × List ℕ) → found BadTerm text (only_known (λ l. true) o) ≡ Ok x → o ≡ Some x
-read_found text None x e = absurd (cc)
-read_found text (Some l) x e = ap Some (ok_same l x e)
+read_found text o x e = grind arith
 
 side_back : (a : Puts) (w : Writing) (link : Link) → WritesBack a w → link.0 < 64 → link.1.0 < length w.registers
     → left_at_start (side_text w link) ≡ Some (InRegister link.0 (name_in w.registers link.1.0), [])
@@ -131,33 +117,22 @@ unfolding side_text
 side_passes test each a w link laws small h = left_passes test each (InRegister link.0 (name_in w.registers link.1.0)) (side_formed a w link laws small h)
 
 side_bytes : (a : Puts) (w : Writing) (link : Link) → WritesBack a w → link.0 < 64 → link.1.0 < length w.registers → list_all is_item_byte (side_text w link) ≡ true
-side_bytes a w link laws small h =
-    side_passes is_item_byte (record { names = place_in_item; colon = refl; opening = refl; closing = refl }) a w link laws small h
+side_bytes a w link laws small h = search (arith, side_passes, place_in_item)
 
 name_bytes : (name : List ℕ) → is_place_name name ≡ true → list_all is_item_byte name ≡ true
 name_bytes name h = place_passes is_item_byte place_in_item name h
 
 -- the bytes of an item without its semicolon are those of an item
 pub core_bytes : (a : Puts) (w : Writing) (table : List (List ℕ)) (names : ℕ → List ℕ) (link : Link) → WritesBack a w → LinkFits w table names link → list_all is_item_byte (core w names link) ≡ true
-core_bytes a w table names link laws fits =
-    all_both is_item_byte (side_text w link) (61 ∷ names link.1.1) (side_bytes a w link laws fits.thread fits.register)
-    (and_from true (list_all is_item_byte (names link.1.1)) refl (name_bytes (names link.1.1) fits.formed))
+core_bytes a w table names link laws fits = search (arith, all_both, side_bytes, name_bytes)
 
 side_equal : (a : Puts) (w : Writing) (link : Link) → WritesBack a w → link.0 < 64 → link.1.0 < length w.registers → is_without 61 (side_text w link) ≡ true
-side_equal a w link laws small h =
-    side_passes (λ b. not (b == 61)) (record { names = place_no_equals; colon = refl; opening = refl; closing = refl }) a w link laws small h
-
-begins_no_digit : (b : ℕ) → begins_place b ≡ true → is_ascii_digit b ≡ false
-begins_no_digit b h = grind (arith, nat_tests)
+side_equal a w link laws small h = search (arith, side_passes, place_no_equals)
 
 -- the name of a place is no number
 name_no_number : (name : List ℕ) → is_place_name name ≡ true → number_of name ≡ None
 unfolding is_place_name
-name_no_number [] h = absurd (cc)
-name_no_number (b ∷ name) h =
-    let prefix = and_parts (begins_place b && list_all is_place_byte name) (nat_le (length (b ∷ name)) 16) h in
-    let first = and_parts (begins_place b) (list_all is_place_byte name) prefix.0 in
-    not_digits (b ∷ name) (rw (begins_no_digit b first.0) refl)
+name_no_number name h = grind (arith, not_digits)
 
 worth_back : (name : List ℕ) → is_place_name name ≡ true → worth_of name ≡ Some (a_place name)
 worth_back name h = ap (worth_if name) (name_no_number name h) ∙ rw h refl
@@ -171,19 +146,19 @@ pub item_back : (a : Puts) (w : Writing) (table : List (List ℕ)) (names : ℕ 
     → item_of w (32 ∷ core w names link) ≡ Some (gives link.0 link.1.0 (a_place (names link.1.1)))
 unfolding item_of
 item_back a w table names link laws fits =
-    let side = side_text w link in
-    let name = names link.1.1 in
-    let cut = cut_back 61 side name (side_equal a w link laws fits.thread fits.register) in
-    let side_trimmed = trimmed_item side (side_bytes a w link laws fits.thread fits.register) in
-    let name_trimmed = trimmed_item name (name_bytes name fits.formed) in
-    let left : whole_left (left_at_start (trim_blanks side)) ≡ Some (InRegister link.0 (name_in w.registers link.1.0)) =
-    ap (λ t. whole_left (left_at_start t)) side_trimmed ∙ ap whole_left (side_back a w link laws fits.thread fits.register) in
-    let small : nat_lt link.0 64 ≡ true = lt-ltb link.0 64 fits.thread in
-    ap (some_item w) (after_blank (core w names link) (core_bytes a w table names link laws fits))
-    ∙ core_some w side name ∙ ap (item_parts w) cut
-    ∙ ap (λ o. item_if w o (trim_blanks name)) left
-    ∙ ap (λ t. item_with w (InRegister link.0 (name_in w.registers link.1.0)) t) name_trimmed
-    ∙ rw (small, register_number a w link.1.0 laws fits.register, worth_back name fits.formed) refl
+    grind (
+      arith,
+      (cut_back 61),
+      (side_equal a w link laws fits.thread fits.register),
+      trimmed_item,
+      (side_bytes a w link laws fits.thread fits.register),
+      name_bytes,
+      (side_back a w link laws fits.thread fits.register),
+      (after_blank (core w names link) (core_bytes a w table names link laws fits)),
+      (core_some w),
+      (register_number a w link.1.0 laws fits.register),
+      worth_back,
+    )
 
 begun_at : List (List ℕ) → List (List ℕ) → (ℕ → List ℕ) → List Link → Begun
 begun_at s final names done = record { names = s; values = link_values final names done }
@@ -205,12 +180,14 @@ item_step : (a : Puts) (w : Writing) (table final s : List (List ℕ)) (names : 
     → item_read w joined place (32 ∷ core w names link) (begun_at s final names done) ≡ Ok (begun_at (names_added s (names link.1.1)) final names (done ++ link ∷ []))
 unfolding item_read begun_at
 item_step a w table final s names done link joined place laws fits among_table short within once =
-    let added = place_added s table (names link.1.1) among_table short fits.inside in
-    let last : place_in final (names link.1.1) ≡ added.number = ap or_zero (within_number (names_added s (names link.1.1)) final (names link.1.1) added.number within added.after) in
-    let new = given_done final names link.0 link.1.0 done ∙ once in
-    rw (item_back a w table names link laws fits, new, added.added)
-    (ap (λ i. Ok (record { names = names_added s (names link.1.1); values = link_values final names done ++ (link.0, (link.1.0, values.Place i)) ∷ [] })) (sym last)
-    ∙ ap (λ v. Ok (record { names = names_added s (names link.1.1); values = v })) (values_more final names done link))
+    grind (
+      arith,
+      (place_added s table (names link.1.1) among_table short fits.inside),
+      (within_number (names_added s (names link.1.1)) final (names link.1.1)),
+      (given_done final names link.0 link.1.0 done),
+      (item_back a w table names link laws fits),
+      (values_more final names done link),
+    )
 
 -- the items add names of places and take none away
 pub links_within : (names : ℕ → List ℕ) (s : List (List ℕ)) (links : List Link) → Within s (links_mention names s links)
@@ -236,30 +213,24 @@ items_back : (a : Puts) (w : Writing) (table final s : List (List ℕ)) (names :
     → items_read w joined place (map (λ link. 32 ∷ core w names link) links ++ (32 ∷ []) ∷ []) (begun_at s final names done)
     ≡ Ok (begun_at (links_mention names s links) final names (done ++ links))
 unfolding items_read
-items_back a w table final s names done [] joined place laws fits among_table short within once =
-    rw (nothing_item w joined place (begun_at s final names done)) (ap (λ d. Ok (begun_at s final names d)) (sym (append-nil done)))
+items_back a w table final s names done [] joined place laws fits among_table short within once = grind (arith, nothing_item, append-nil)
 items_back a w table final s names done (link ∷ links) joined place laws fits among_table short within once =
-    let parts = and_parts (not (list_any (λ d. (d.0 == link.0) && (d.1.0 == link.1.0)) done)) (links_once (done ++ link ∷ []) links) once in
-    let added = place_added s table (names link.1.1) among_table short fits.0.inside in
-    let further = links_within names (names_added s (names link.1.1)) links in
-    let step = item_step a w table final s names done link joined place laws fits.0 among_table short
-    (within_trans (names_added s (names link.1.1)) (links_mention names s (link ∷ links)) final further within) (not-true (list_any (λ d. (d.0 == link.0) && (d.1.0 == link.1.0)) done) parts.0) in
-    rw step
-    (items_back a w table final (names_added s (names link.1.1)) names (done ++ link ∷ []) links joined (place + (length (32 ∷ core w names link) + 1)) laws fits.1 added.among short within parts.1
-    ∙ ap (λ d. Ok (begun_at (links_mention names s (link ∷ links)) final names d)) (append_assoc done (link ∷ []) links))
+    grind (
+      arith,
+      (items_back a w table final (names_added s (names link.1.1)) names (done ++ link ∷ []) links joined (place + (length (32 ∷ core w names link) + 1)) laws fits.1),
+      (place_added s table (names link.1.1) among_table short fits.0.inside),
+      (links_within names (names_added s (names link.1.1)) links),
+      (item_step a w table final s names done link joined place laws fits.0 among_table short),
+      (within_trans (names_added s (names link.1.1)) (links_mention names s (link ∷ links)) final),
+      (append_assoc done (link ∷ []) links),
+    )
 
 -- the pieces of the items' text
 item_pieces : (a : Puts) (w : Writing) (table : List (List ℕ)) (names : ℕ → List ℕ) (links : List Link) → WritesBack a w → AllByRecursion (LinkFits w table names) links
     → pieces 59 (flat_map (λ link. 32 ∷ (core w names link ++ 59 ∷ [])) links ++ 32 ∷ []) ≡ map (λ link. 32 ∷ core w names link) links ++ (32 ∷ []) ∷ []
 item_pieces a w table names [] laws fits = piece_last 59 (32 ∷ []) refl
 item_pieces a w table names (link ∷ links) laws fits =
-    let text = core w names link in
-    let rest = flat_map (λ link. 32 ∷ (core w names link ++ 59 ∷ [])) links ++ 32 ∷ [] in
-    let shape : (32 ∷ (text ++ 59 ∷ []) ++ flat_map (λ link. 32 ∷ (core w names link ++ 59 ∷ [])) links) ++ 32 ∷ [] ≡ (32 ∷ text) ++ 59 ∷ rest =
-    append_assoc (32 ∷ (text ++ 59 ∷ [])) (flat_map (λ link. 32 ∷ (core w names link ++ 59 ∷ [])) links) (32 ∷ []) ∙ append_assoc (32 ∷ text) (59 ∷ []) rest in
-    ap (pieces 59) shape
-    ∙ piece_back 59 (32 ∷ text) rest (and_from true (is_without 59 text) refl (without_class is_item_byte 59 text refl (core_bytes a w table names link laws fits.0)))
-    ∙ ap (λ ps. (32 ∷ text) ∷ ps) (item_pieces a w table names links laws fits.1)
+    grind (arith, (item_pieces a w table names links laws fits.1), append_assoc, (piece_back 59), (without_class is_item_byte 59), (core_bytes a w table names))
 
 -- the text of all items is read as the values of the address registers
 pub all_items_back : (a : Puts) (w : Writing) (table final : List (List ℕ)) (names : ℕ → List ℕ) (links : List Link) (joined : Joined)
@@ -268,5 +239,4 @@ pub all_items_back : (a : Puts) (w : Writing) (table final : List (List ℕ)) (n
     → items_read w joined 0 (pieces 59 joined.bytes) nothing_begun ≡ Ok (record { names = links_mention names [] links; values = link_values final names links })
 unfolding begun_at
 all_items_back a w table final names links joined laws fits among_table short within once bytes =
-    ap (λ ps. items_read w joined 0 ps nothing_begun) (ap (pieces 59) bytes ∙ item_pieces a w table names links laws fits)
-    ∙ items_back a w table final [] names [] links joined 0 laws fits among_table short within once
+    cc ((item_pieces a w table names links laws fits), (items_back a w table final [] names [] links joined 0 laws fits among_table short within once))

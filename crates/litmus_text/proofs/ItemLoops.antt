@@ -1,6 +1,5 @@
 -- Reading the initial state as loops do.
-use Rattle.std.proofs.Common.{◌≡◌, ◌==◌, ◌+◌, ℕ, List, [], ◌∷◌, Some, None, Result, Ok, Err, true, length, refl, sym, ap, ◌∙◌, append_assoc}
-use Rattle.std.proofs.Math.ListN.{replicate}
+use Rattle.std.proofs.Common.{◌≡◌, ◌==◌, ◌+◌, ℕ, List, [], ◌∷◌, Some, None, Result, Ok, Err, true, length, refl, sym, ap, ◌∙◌, append_assoc, arith}
 use Rattle.litmus_text.specs.declared.errors.TextError.{TextError}
 use Rattle.arch_trait.specs.Writing.{Writing}
 use Rattle.text_laws.specs.Cuts.{cut_at, CutParts, is_without}
@@ -16,10 +15,7 @@ use Rattle.litmus_text.proofs.CutLaws.{pieces_cut}
 
 -- a blank and a line after a text
 pub blank_before : (j : Joined) (n : ℕ) (text : List ℕ) → with_text (with_text j n (32 ∷ [])) n text ≡ with_text j n (32 ∷ text)
-blank_before j n text =
-    let b = append_assoc j.bytes (32 ∷ []) text in
-    let l = append_assoc j.lines (n ∷ []) (replicate (length text) n) in
-    rw (b, l) refl
+blank_before j n text = grind (arith, append_assoc)
 
 -- where no line is left, the text is complete
 pub joined_ends : (j : Joined) (ls : Lines) (n : ℕ) → ends n ≡ ls → j ≡ all_joined j ls
@@ -32,8 +28,7 @@ unfolding all_joined
 joined_more j j1 j2 ls rest n text e f g = rw (sym e, g, f) (ap (λ k. all_joined k rest) (blank_before j n text))
 
 then_ok : {A : Type 0} (r : Result A TextError) → (r >>= λ x. Ok x) ≡ r
-then_ok (Ok x) = refl
-then_ok (Err e) = refl
+then_ok (y) = grind arith
 
 -- the last piece is read as its item
 pub item_last : (w : Writing) (j : Joined) (i : ℕ) (rest : List ℕ) (b : Begun) → is_without 59 rest ≡ true → items_read w j i (pieces 59 rest) b ≡ item_read w j i rest b

@@ -1,5 +1,5 @@
 -- The item of a register and a place: how long it is, and when it is written in one piece.
-use Rattle.std.proofs.Common.{◌≡◌, ◌≤◌, ◌<◌, ◌+◌, ◌^◌, ℕ, List, [], ◌∷◌, ◌++◌, length, get_or, sym, ap, ◌∙◌, arith, length-append}
+use Rattle.std.proofs.Common.{◌≡◌, ◌≤◌, ◌<◌, ◌+◌, ◌^◌, ℕ, List, [], ◌∷◌, ◌++◌, length, get_or, arith, length-append}
 use Rattle.std.specs.Prelude.{codes}
 use Rattle.std.specs.Fmt.{decimal}
 use Rattle.std.proofs.lemmas.Fmt.{decimal_digit, length-decimal-le}
@@ -19,8 +19,7 @@ short_link thread (a ∷ []) place page new h i j put = absurd (omega arith)
 short_link thread (a ∷ b ∷ c ∷ register) place page new h i j put = absurd (omega arith)
 short_link thread (a ∷ b ∷ []) [] page new h i j put = absurd (omega arith)
 short_link thread (a ∷ b ∷ []) (c ∷ d ∷ place) page new h i j put = absurd (omega arith)
-short_link thread (a ∷ b ∷ []) (c ∷ []) page new h i j put =
-    put ∙ ap (λ digits. page_after page (digits ++ codes ":" ++ (a ∷ b ∷ []) ++ codes "=" ++ (c ∷ []) ++ codes ";")) (sym (decimal_digit thread h))
+short_link thread (a ∷ b ∷ []) (c ∷ []) page new h i j put = cc (decimal_digit thread h)
 
 -- an item has room, with a blank before it
 pub item_short : (w : Writing) (places : List (List ℕ)) (i thread : ℕ) (link : ℕ × ℕ) → thread < 2 ^ 64

@@ -1,9 +1,7 @@
 -- Texts that are appended to a page with a separator between.
-use Rattle.std.proofs.Common.{◌≡◌, ◌≤◌, ◌<◌, ◌≢◌, ◌+◌, ◌*◌, ℕ, List, [], ◌∷◌, ◌++◌, zero, suc, length, take, get_or}
-use Rattle.std.proofs.Common.{refl, sym, ap, ◌∙◌, subst, arith, append_assoc, append-nil, length-append}
-use Rattle.std.specs.List.{flat_map, join_by}
-use Rattle.std.proofs.Math.Nat.{mul-suc}
-use Rattle.std.proofs.Common.{add-one}
+use Rattle.std.proofs.Common.{◌≡◌, ◌≤◌, ◌<◌, ◌≢◌, ◌+◌, ◌*◌, ℕ, List, [], ◌∷◌, ◌++◌, length, take, get_or}
+use Rattle.std.proofs.Common.{refl, sym, ap, ◌∙◌, arith, append_assoc, append-nil, length-append}
+use Rattle.std.specs.List.{join_by}
 use Rattle.std.proofs.lemmas.List.{take_more, length-take-le, take_all}
 use Rattle.std.proofs.lemmas.List.Concat.{flat_map-append}
 use Rattle.diy_io.specs.Page.{page_after}
@@ -12,32 +10,23 @@ use Rattle.litmus_text.specs.Separators.{separator_at}
 
 -- before the first element there is no separator
 pub separator_first : (separator : List ℕ) (i : ℕ) → i ≡ 0 → [] ≡ separator_at separator i
-separator_first separator zero h = refl
-separator_first separator (suc i) h = absurd (omega arith)
+separator_first separator i h = grind arith
 
 -- before each later element there is the separator
 pub separator_later : (separator : List ℕ) (i : ℕ) → i ≢ 0 → separator ≡ separator_at separator i
-separator_later separator zero h = absurd (h refl)
-separator_later separator (suc i) h = refl
+separator_later separator i h = grind arith
 
 -- what comes before an element is no longer than the separator
 pub separator_short : (separator : List ℕ) (i : ℕ) → length (separator_at separator i) ≤ length separator
-separator_short separator zero = omega arith
-separator_short separator (suc i) = omega arith
+separator_short separator i = grind arith
 
 join_more : {X : Type 0} (f : X → List ℕ) (separator : List ℕ) (xs : List X) (y : X)
     → join_by f separator (xs ++ y ∷ []) ≡ join_by f separator xs ++ (separator_at separator (length xs) ++ f y)
-join_more f separator [] y = append-nil (f y)
-join_more f separator (x ∷ xs) y =
-    ap (λ rest. f x ++ rest) (flat_map-append (λ z. separator ++ f z) xs (y ∷ []))
-    ∙ ap (λ last. f x ++ (flat_map (λ z. separator ++ f z) xs ++ last)) (append-nil (separator ++ f y))
-    ∙ sym (append_assoc (f x) (flat_map (λ z. separator ++ f z) xs) (separator ++ f y))
+join_more f separator xs y = grind (arith, append-nil, flat_map-append, append_assoc)
 
 join_take : {X : Type 0} (f : X → List ℕ) (separator : List ℕ) (xs : List X) (i : ℕ) (d : X) → i < length xs
     → join_by f separator (take (i + 1) xs) ≡ join_by f separator (take i xs) ++ (separator_at separator i ++ f (get_or xs i d))
-join_take f separator xs i d h =
-    ap (join_by f separator) (take_more xs i d h) ∙ join_more f separator (take i xs) (get_or xs i d)
-    ∙ ap (λ n. join_by f separator (take i xs) ++ (separator_at separator n ++ f (get_or xs i d))) (length-take-le i xs (omega arith))
+join_take f separator xs i d h = cc ((take_more xs i d h), (join_more f separator (take i xs) (get_or xs i d)), (length-take-le i xs (omega arith)))
 
 -- two texts that are appended one after the other are appended as one text
 pub two_put : (page mid new x y text : List ℕ) → mid ≡ page_after page x → new ≡ page_after mid y → x ++ y ≡ text → new ≡ page_after page text
@@ -65,28 +54,13 @@ none_put f separator room page xs = record { text = sym (page_nothing page); sho
 pub one_put : {X : Type 0} (f : X → List ℕ) (separator : List ℕ) (room : ℕ) (old page new : List ℕ) (xs : List X) (i : ℕ) (d : X) → i < length xs
     → Put f separator room old page xs i → new ≡ page_after page (separator_at separator i ++ f (get_or xs i d))
     → length (separator_at separator i ++ f (get_or xs i d)) ≤ room → Put f separator room old new xs (i + 1)
-one_put f separator room old page new xs i d h so_far put short =
-    let more = join_take f separator xs i d h in
-    let text = separator_at separator i ++ f (get_or xs i d) in
-    record {
-      text =
-          put ∙ ap (λ p. page_after p text) so_far.text ∙ page_more old (join_by f separator (take i xs)) text
-          ∙ ap (page_after old) (sym more);
-      short =
-          let parts : length (join_by f separator (take (i + 1) xs)) ≡ length (join_by f separator (take i xs)) + length text =
-          ap length more ∙ length-append (join_by f separator (take i xs)) text in
-          let before : length (join_by f separator (take i xs)) ≤ room * i = so_far.short in
-          let count : room * (i + 1) ≡ room * i + room = ap (λ n. room * n) (add-one i) ∙ mul-suc room i in
-          omega arith;
-    }
+one_put f separator room old page new xs i d h so_far put short = grind (arith, join_take, page_more, length-append)
 
 -- one more element is appended, where its text has another name
 pub one_text_put : {X : Type 0} (f : X → List ℕ) (separator : List ℕ) (room : ℕ) (old page new : List ℕ) (xs : List X) (i : ℕ) (d : X) (text : List ℕ)
     → i < length xs → Put f separator room old page xs i → text ≡ f (get_or xs i d) → new ≡ page_after page (separator_at separator i ++ text)
     → length (separator_at separator i ++ text) ≤ room → Put f separator room old new xs (i + 1)
-one_text_put f separator room old page new xs i d text h so_far is put short =
-    one_put f separator room old page new xs i d h so_far (subst (λ t. new ≡ page_after page (separator_at separator i ++ t)) is put)
-    (subst (λ t. length (separator_at separator i ++ t) ≤ room) is short)
+one_text_put f separator room old page new xs i d text h so_far is put short = grind (arith, (one_put f separator room old page new xs i d h so_far))
 
 -- where all elements are appended, the page has the whole text
 pub all_put : {X : Type 0} (f : X → List ℕ) (separator : List ℕ) (room : ℕ) (old new : List ℕ) (xs : List X) (i : ℕ) → length xs ≤ i
@@ -96,8 +70,4 @@ all_put f separator room old new xs i h put = put.text ∙ ap (λ ys. page_after
 -- where all elements are appended, their text is no longer than there is room for
 pub all_short : {X : Type 0} (f : X → List ℕ) (separator : List ℕ) (room : ℕ) (old new : List ℕ) (xs : List X) (i n : ℕ) → length xs ≤ i → i ≡ n
     → Put f separator room old new xs i → length (join_by f separator xs) ≤ room * n
-all_short f separator room old new xs i n h same put =
-    let whole : length (join_by f separator (take i xs)) ≡ length (join_by f separator xs) = ap (λ ys. length (join_by f separator ys)) (take_all i xs h) in
-    let count : room * i ≡ room * n = ap (λ m. room * m) same in
-    let bound : length (join_by f separator (take i xs)) ≤ room * i = put.short in
-    omega arith
+all_short f separator room old new xs i n h same put = grind (arith, take_all)

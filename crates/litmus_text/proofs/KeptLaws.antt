@@ -1,6 +1,6 @@
 -- Cells that are kept are those of the columns, one column after the other.
-use Rattle.std.proofs.Common.{◌≡◌, ◌<◌, ◌≤◌, ◌+◌, ℕ, zero, suc, List, [], ◌∷◌, ◌++◌, length, map, take, get_or, max}
-use Rattle.std.proofs.Common.{set, refl, sym, ap, ◌∙◌, arith, append_assoc, append-nil}
+use Rattle.std.proofs.Common.{◌≡◌, ◌<◌, ◌≤◌, ◌+◌, ℕ, suc, List, [], ◌∷◌, ◌++◌, length, map, take, get_or, max}
+use Rattle.std.proofs.Common.{set, sym, ap, ◌∙◌, arith, append_assoc, append-nil}
 use Rattle.std.proofs.lemmas.List.{get_or-take, take_more_set, map-set, get_or_append_left, get_or-append-add, length-append, length-map, take-append-le, take_more, take_all}
 use Rattle.arch_trait.specs.declared.code.Code.{Code}
 use Rattle.arch_trait.specs.Writing.{Writing}
@@ -10,28 +10,21 @@ use Rattle.litmus_text.specs.KeptCells.{all_texts, HoldsColumn}
 use Rattle.litmus_text.proofs.TableLaws.{column_at, length_columns, length-column_of, widest, widest_more}
 
 length_take : (n : ℕ) (xs : List (List ℕ)) → length (take n xs) ≤ n
-length_take zero xs = omega arith
-length_take (suc n) [] = omega arith
 length_take (suc n) (x ∷ xs) = let rest = length_take n xs in omega arith
+length_take n xs = grind arith
 
 take_again : (n : ℕ) (a b : List (List ℕ)) → take n (take n a ++ b) ≡ take n (a ++ b)
-take_again zero a b = refl
-take_again (suc n) [] b = refl
 take_again (suc n) (x ∷ a) b = ap (λ rest. x ∷ rest) (take_again n a b)
+take_again n a b = grind arith
 
 -- where there is room, one more text is kept in its place
 pub text_kept : {A : Type 0} (f : A → List ℕ) (n count : ℕ) (cells : List A) (cell : A) (old : List (List ℕ)) (text : List ℕ) → length cells ≡ n → count < n
     → take count (map f cells) ≡ old → f cell ≡ text → take (count + 1) (map f (set cells count cell)) ≡ take n (old ++ text ∷ [])
-text_kept f n count cells cell old text long room view is =
-    let texts = map f cells in
-    let inside : count < length texts = omega (arith, long, length-map cells f) in
-    let all : length (take count texts ++ text ∷ []) ≤ n = omega (arith, length-append (take count texts) (text ∷ []), length_take count texts) in
-    ap (take (count + 1)) (map-set f cells count cell) ∙ take_more_set texts count (f cell) inside ∙ ap (λ last. take count texts ++ last ∷ []) is
-    ∙ sym (take_all n (take count texts ++ text ∷ []) all) ∙ ap (λ old. take n (old ++ text ∷ [])) view
+text_kept f n count cells cell old text long room view is = grind (arith, length-map, length_take, map-set, take_more_set, take_all)
 
 -- where there is no room, one more text isn't kept
 pub text_lost : (n : ℕ) (old : List (List ℕ)) (text : List ℕ) → n ≡ length old → old ≡ take n (old ++ text ∷ [])
-text_lost n old text full = sym (take_all n old (omega (arith, full))) ∙ sym (take-append-le n old (text ∷ []) (omega (arith, full)))
+text_lost n old text full = sym (take_all n old (omega arith)) ∙ sym (take-append-le n old (text ∷ []) (omega arith))
 
 -- before the first text of a list what is kept is as it was
 pub kept_none : (n : ℕ) (start : List (List ℕ)) → length start ≤ n → start ≡ take n (start ++ [])
@@ -40,15 +33,12 @@ kept_none n start h = sym (ap (take n) (append-nil start) ∙ take_all n start h
 -- of a list one more text is kept
 pub kept_more : (n : ℕ) (start texts old new : List (List ℕ)) (i : ℕ) (text : List ℕ) → i < length texts → text ≡ get_or texts i []
     → old ≡ take n (start ++ take i texts) → new ≡ take n (old ++ text ∷ []) → new ≡ take n (start ++ take (i + 1) texts)
-kept_more n start texts old new i text h is old_is new_is =
-    new_is ∙ ap (λ old. take n (old ++ text ∷ [])) old_is ∙ take_again n (start ++ take i texts) (text ∷ [])
-    ∙ ap (take n) (append_assoc start (take i texts) (text ∷ []) ∙ ap (λ more. start ++ (take i texts ++ more ∷ [])) is ∙ ap (λ all. start ++ all) (sym (take_more texts i [] h)))
+kept_more n start texts old new i text h is old_is new_is = grind (arith, take_again, append_assoc, take_more)
 
 -- with the text of one more row the width is the greater of its length and the width so far
 pub wider : (column : List (List ℕ)) (row width new : ℕ) (text : List ℕ) → row < length column → text ≡ get_or column row []
     → width ≡ widest (take row column) → new ≡ max width (length text) → new ≡ widest (take (row + 1) column)
-wider column row width new text h is e f =
-    f ∙ ap (λ width. max width (length text)) e ∙ ap (λ text. max (widest (take row column)) (length text)) is ∙ sym (widest_more column row h)
+wider column row width new text h is e f = grind (arith, widest_more)
 
 -- of a list that is at its end all texts are kept, as far as there is room
 pub kept_whole : (n : ℕ) (start texts kept : List (List ℕ)) (i : ℕ) → length texts ≤ i → kept ≡ take n (start ++ take i texts) → kept ≡ take n (start ++ texts)
@@ -69,48 +59,35 @@ kept_few n kept texts e = omega (arith, ap length e, length_take n texts)
 pub column_more : (n : ℕ) (w : Writing) (places : List (List ℕ)) (threads : List Code) (i : ℕ) (code : Code) (old new : List (List ℕ)) → i < length threads → code ≡ get_or threads i code
     → old ≡ take n (all_texts (take i (columns_of w places (map thread_code_of threads)))) → new ≡ take n (old ++ column_of w places (i, thread_code_of code))
     → new ≡ take n (all_texts (take (i + 1) (columns_of w places (map thread_code_of threads))))
-column_more n w places threads i code old new h is old_is new_is =
-    let columns = columns_of w places (map thread_code_of threads) in
-    let long : i < length columns = omega (arith, length_columns w places threads) in
-    new_is ∙ ap (λ old. take n (old ++ column_of w places (i, thread_code_of code))) old_is ∙ take_again n (all_texts (take i columns)) (column_of w places (i, thread_code_of code))
-    ∙ ap (λ column. take n (all_texts (take i columns) ++ column)) (sym (column_at w places threads i code h is)) ∙ ap (take n) (sym (texts_more columns i long))
+column_more n w places threads i code old new h is old_is new_is = grind (arith, length_columns, take_again, column_at, texts_more)
 
 -- where no column is left, all columns are kept, as far as there is room
 pub columns_whole : (n : ℕ) (w : Writing) (places : List (List ℕ)) (threads : List Code) (i : ℕ) (kept : List (List ℕ)) → length threads ≤ i
     → kept ≡ take n (all_texts (take i (columns_of w places (map thread_code_of threads)))) → kept ≡ take n (all_texts (columns_of w places (map thread_code_of threads)))
-columns_whole n w places threads i kept h e =
-    e ∙ ap (λ columns. take n (all_texts columns)) (take_all i (columns_of w places (map thread_code_of threads)) (omega (arith, length_columns w places threads)))
+columns_whole n w places threads i kept h e = grind (arith, take_all, length_columns)
 
 -- the next column begins after the texts of this one
 pub first_more : (w : Writing) (places : List (List ℕ)) (threads : List Code) (i : ℕ) (code : Code) (old new : ℕ) → i < length threads → code ≡ get_or threads i code
     → old ≡ length (all_texts (take i (columns_of w places (map thread_code_of threads)))) → new ≡ old + (length code.instrs.items + 1)
     → new ≡ length (all_texts (take (i + 1) (columns_of w places (map thread_code_of threads))))
 first_more w places threads i code old new h is old_is new_is =
-    let columns = columns_of w places (map thread_code_of threads) in
-    let long : i < length columns = omega (arith, length_columns w places threads) in
-    let more = ap length (texts_more columns i long ∙ ap (λ column. all_texts (take i columns) ++ column) (column_at w places threads i code h is)) in
-    omega (arith, more, old_is, new_is, length-append (all_texts (take i columns)) (column_of w places (i, thread_code_of code)), length-column_of w places (i, thread_code_of code))
+    grind (
+      arith,
+      (length_columns w places threads),
+      texts_more,
+      (column_at w places threads i code h is),
+      length-append,
+      (length-column_of w places (i, thread_code_of code)),
+    )
 
 in_column : (columns : List (List (List ℕ))) (i row : ℕ) → i < length columns → row < length (get_or columns i [])
     → get_or (all_texts columns) (length (all_texts (take i columns)) + row) [] ≡ get_or (get_or columns i []) row []
-in_column [] i row h g = absurd (omega arith)
-in_column (c ∷ cs) zero row h g =
-    let e : 0 + row ≡ row = omega arith in
-    rw e (get_or_append_left c (all_texts cs) [] row g)
-in_column (c ∷ cs) (suc i) row h g =
-    let e : length (c ++ all_texts (take i cs)) + row ≡ length c + (length (all_texts (take i cs)) + row) = omega (arith, length-append c (all_texts (take i cs))) in
-    rw e (get_or-append-add c (all_texts cs) (length (all_texts (take i cs)) + row) [] ∙ in_column cs i row (omega arith) g)
+in_column (c ∷ cs) (suc i) row h g = grind (arith, (in_column cs i row (omega arith) g), length-append, get_or-append-add)
+in_column columns i row h g = grind (arith, get_or_append_left)
 
 -- the texts of a thread's column that are kept are at its places
 pub holds_column : (n : ℕ) (w : Writing) (places : List (List ℕ)) (threads : List Code) (i first : ℕ) (code : Code) (kept : List (List ℕ)) → i < length threads → code ≡ get_or threads i code
     → kept ≡ take n (all_texts (columns_of w places (map thread_code_of threads))) → first ≡ length (all_texts (take i (columns_of w places (map thread_code_of threads))))
     → HoldsColumn kept first (column_of w places (i, thread_code_of code))
 holds_column n w places threads i first code kept h is kept_is first_is row inside within =
-    let columns = columns_of w places (map thread_code_of threads) in
-    let whole = all_texts columns in
-    let long : i < length columns = omega (arith, length_columns w places threads) in
-    let column = column_at w places threads i code h is in
-    let near : first + row < n = omega (arith, within, ap length kept_is, length_take n whole) in
-    let inner : row < length (get_or columns i []) = rw column inside in
-    ap (λ kept. get_or kept (first + row) []) kept_is ∙ get_or-take n whole (first + row) [] near
-    ∙ ap (λ first. get_or whole (first + row) []) first_is ∙ in_column columns i row long inner ∙ ap (λ column. get_or column row []) column
+    grind (arith, length_columns, column_at, length_take, get_or-take, in_column)

@@ -1,9 +1,8 @@
 -- The labels of printed threads are judged to be right: each is in its thread once, after the branch.
-use Rattle.std.proofs.Common.{◌≡◌, ◌+◌, ℕ, List, [], ◌∷◌, Ok, true, cond, map, refl, sym, ap, ◌∙◌}
+use Rattle.std.proofs.Common.{◌≡◌, ◌+◌, ℕ, List, [], ◌∷◌, Ok, true, map, refl, arith}
 use Rattle.std.specs.Prelude.{count_by}
 use Rattle.std.specs.List.{AllByRecursion}
 use Rattle.std.proofs.lemmas.List.Sums.{sum_by-cons}
-use Rattle.std.proofs.lemmas.Bool.{and_parts}
 use Rattle.micro_ops.specs.declared.operation.Micro.{Micro}
 use Rattle.micro_ops.specs.declared.operation.Micro.TheVariants as ops
 use Rattle.litmus_text.specs.TestTable.{is_label_of, is_label_row, comes_once, lands_among, labels_judged, all_labels_judged}
@@ -12,16 +11,11 @@ use Rattle.litmus_text.specs.TablePlan.{placed_from, column_so_far}
 use Rattle.litmus_text.specs.Progress.{code_lands}
 
 label_kept : (label : ℕ) (table : List (List ℕ)) (names : ℕ → List ℕ) (op : Micro) → is_label_of label (op_renumbered table names op) ≡ is_label_of label op
-label_kept label table names (ops.LoadAt dst place) = refl
-label_kept label table names op = refl
+label_kept label table names op = grind arith
 
 count_kept : (label : ℕ) (table : List (List ℕ)) (names : ℕ → List ℕ) (n : ℕ) (code : List Micro) → count_by (is_label_row label) (placed_from table names n code) ≡ count_by (is_label_of label) code
 count_kept label table names n [] = refl
-count_kept label table names n (op ∷ code) =
-    sum_by-cons (λ placed. cond (is_label_row label placed) 1 0) (record { op = op_renumbered table names op; at_line = n }) (placed_from table names (n + 1) code)
-    ∙ ap (λ b. cond b 1 0 + count_by (is_label_row label) (placed_from table names (n + 1) code)) (label_kept label table names op)
-    ∙ ap (λ m. cond (is_label_of label op) 1 0 + m) (count_kept label table names (n + 1) code)
-    ∙ sym (sum_by-cons (λ op. cond (is_label_of label op) 1 0) op code)
+count_kept label table names n (op ∷ code) = search (arith, (count_kept label table names (n + 1) code), sum_by-cons, label_kept)
 
 once_kept : (label : ℕ) (table : List (List ℕ)) (names : ℕ → List ℕ) (n m : ℕ) (all remainder : List Micro)
     → comes_once (is_label_row label) (placed_from table names n all) (placed_from table names m remainder) ≡ comes_once (is_label_of label) all remainder
@@ -37,9 +31,7 @@ judged_back : (table : List (List ℕ)) (names : ℕ → List ℕ) (n m : ℕ) (
     → labels_judged (placed_from table names n all) (placed_from table names m code) ≡ Ok tt
 unfolding labels_judged
 judged_back table names n m all [] h = refl
-judged_back table names n m all (op ∷ code) h =
-    let parts = and_parts (lands_among is_label_of op all code) (code_lands all code) h in
-    rw (landing_kept op table names n (m + 1) all code, parts.0) (judged_back table names n (m + 1) all code parts.1)
+judged_back table names n m all (op ∷ code) h = grind (arith, (judged_back table names n (m + 1) all code), landing_kept)
 
 -- the labels of printed threads are judged to be right
 pub labels_back : (table : List (List ℕ)) (names : ℕ → List ℕ) (n : ℕ) (codes : List (List Micro)) → AllByRecursion (λ code. code_lands code code ≡ true) codes

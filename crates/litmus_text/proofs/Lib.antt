@@ -19,6 +19,7 @@ pub mod HeadRowBack
 pub mod ItemBack
 pub mod InitBack
 pub mod ConditionScanned
+pub mod RowsScanned
 pub mod CondBack
 pub mod WholeBack
 pub mod MentionedBack

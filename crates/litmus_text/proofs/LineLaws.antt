@@ -1,7 +1,7 @@
 -- The first line of what is left of a text.
-use Rattle.std.proofs.Common.{◌≡◌, ◌==◌, ◌+◌, ◌<◌, ℕ, suc, List, [], ◌∷◌, true, false, length, refl, sym, ap, ◌∙◌, arith}
+use Rattle.std.proofs.Common.{◌≡◌, ◌==◌, ◌+◌, ◌<◌, ℕ, suc, List, [], ◌∷◌, true, length, refl, sym, ap, arith}
 use Rattle.std.proofs.lemmas.Bool.{eqb-true}
-use Rattle.litmus_text.specs.TextLines.{Lines, ends, line, line_kept, is_passed, lines_in, lines_from}
+use Rattle.litmus_text.specs.TextLines.{ends, line_kept, lines_in, lines_from}
 use Rattle.text_laws.specs.Lines.{without_return, is_line_feed}
 use Rattle.text_laws.specs.Cuts.{CutParts, is_without}
 use Rattle.litmus_text.proofs.CutBack.{piece_last}
@@ -16,24 +16,13 @@ no_lines n = refl
 -- the lines of a text that is cut at its first line feed are that line and those of the rest
 pub line_cut : (n : ℕ) (text prefix remainder : List ℕ) → CutParts 10 text prefix remainder → lines_from n text ≡ line_kept n (without_return prefix) (lines_from (n + 1) remainder)
 unfolding lines_from lines_in
-line_cut n text prefix remainder p =
-    let first = first_piece is_line_feed remainder in
-    ap (lines_in n) (pieces_cut 10 text prefix remainder p ∙ ap (λ ps. prefix ∷ ps) first.is)
-    ∙ ap (λ ps. line_kept n (without_return prefix) (lines_in (n + 1) ps)) (sym first.is)
+line_cut n text prefix remainder p = grind (arith, (first_piece is_line_feed remainder), (pieces_cut 10 text prefix remainder p))
 
 -- a text without a line feed is one line
 pub line_last : (n : ℕ) (text : List ℕ) → 0 < length text → is_without 10 text ≡ true → lines_from n text ≡ line_kept n text (lines_from (n + 1) [])
 unfolding lines_from lines_in
 line_last n [] h w = absurd (omega arith)
 line_last n (b ∷ text) h w = ap (lines_in n) (piece_last 10 (b ∷ text) w)
-
--- a line that isn't passed over is the first of those that are left
-pub line_stays : (a rest : Lines) (n : ℕ) (t : List ℕ) → a ≡ line_kept n t rest → is_passed t ≡ false → line n t rest ≡ a
-line_stays a rest n t e h = sym (e ∙ rw h refl)
-
--- after a line that is passed over the lines are those of the rest
-pub line_passed : (a rest : Lines) (n : ℕ) (t : List ℕ) → a ≡ line_kept n t rest → is_passed t ≡ true → rest ≡ a
-line_passed a rest n t e h = sym (e ∙ rw h refl)
 
 -- a text that is found to be at its end has no lines
 pub lines_end : (n : ℕ) (text : List ℕ) → length text == 0 ≡ true → ends n ≡ lines_from n text

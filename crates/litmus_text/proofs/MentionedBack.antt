@@ -1,6 +1,6 @@
 -- All names that a test uses are in the table of its reading.
-use Rattle.std.proofs.Common.{◌≡◌, ◌≤◌, ◌+◌, ℕ, suc, List, [], ◌∷◌, Some, true, length, map, refl, sym, ap, ◌∙◌, subst, arith}
-use Rattle.std.specs.Prelude.{Option, is_some}
+use Rattle.std.proofs.Common.{◌≡◌, ◌≤◌, ◌+◌, ℕ, suc, List, [], ◌∷◌, true, length, map, refl, sym, ap, subst, arith}
+use Rattle.std.specs.Prelude.{is_some}
 use Rattle.std.specs.List.{AllByRecursion, range_with_len}
 use Rattle.std.proofs.lemmas.List.{length-map}
 use Rattle.std.proofs.lemmas.List.FromFn.{length-range_with_len}
@@ -8,7 +8,7 @@ use Rattle.std.proofs.lemmas.Bool.{and_parts}
 use Rattle.relax_edges.specs.declared.kinds.ArchName.{ArchName}
 use Rattle.micro_ops.specs.declared.operation.Micro.{Micro}
 use Rattle.micro_ops.specs.declared.operation.Micro.TheVariants as ops
-use Rattle.final_cond.specs.Conditions.{LeftSeen, InRegister, AtPlace, TermSeen}
+use Rattle.final_cond.specs.Conditions.{TermSeen}
 use Rattle.arch_trait.specs.Threads.{Puts, ThreadCode}
 use Rattle.arch_trait.specs.PlaceNames.{number_in, names_added}
 use Rattle.arch_trait.specs.Writing.{Writing, WritesBack, name_in}
@@ -17,9 +17,9 @@ use Rattle.arch_trait.specs.LabelOrder.{labels_in}
 use Rattle.arch_trait.specs.SeenTests.{TestSeen}
 use Rattle.litmus_text.specs.TestText.{columns_of, row_line}
 use Rattle.litmus_text.specs.Placing.{mentioned}
-use Rattle.litmus_text.specs.Progress.{RowProgress, moved, advanced, mentioned_first, row_mentions, is_placed, CodeFits}
+use Rattle.litmus_text.specs.Progress.{RowProgress, advanced, mentioned_first, row_mentions, is_placed, CodeFits}
 use Rattle.litmus_text.specs.Items.{Link, links_of, links_mention, LinkFits}
-use Rattle.litmus_text.specs.ReadTerms.{left_mention, terms_mention, is_known, TermFits}
+use Rattle.litmus_text.specs.ReadTerms.{left_mention, terms_mention, TermFits}
 use Rattle.litmus_text.specs.Reread.{IsReadable}
 use Rattle.litmus_text.specs.Mentioned.{is_in, op_is_in, left_is_in, TestReadsBack}
 use Rattle.litmus_text.proofs.NamesBack.{Within, within_self, within_trans, within_number, numbered_in, IsAmong, place_added, none_among}
@@ -28,9 +28,6 @@ use Rattle.litmus_text.proofs.RowBack.{IsReady, row_within, rows_mention, rows_w
 use Rattle.litmus_text.proofs.TableBack.{at_row}
 use Rattle.litmus_text.proofs.CondBack.{terms_within, term_among}
 use Rattle.litmus_text.proofs.WholeBack.{longest, covers, start_ready, drop_none, mentions, whole_back}
-
-some_of : {o : Option ℕ} {i : ℕ} → o ≡ Some i → is_some o ≡ true
-some_of e = ap is_some e
 
 -- a name of a table is in a larger one
 in_larger : (s S : List (List ℕ)) (name : List ℕ) → Within s S → is_in s name ≡ true → is_in S name ≡ true
@@ -68,29 +65,22 @@ first_among a table s names labels accesses (op ∷ left) fits h few = mention_a
 row_in : (a : Puts) (table s final : List (List ℕ)) (names : ℕ → List ℕ) (first n : ℕ) (ps : List RowProgress) → AllByRecursion (IsReady a table names first n) ps → IsAmong s table → length table ≤ 64
     → Within (row_mentions names s ps) final → AllByRecursion (λ p. FirstIn final names p.left) ps
 row_in a table s final names first n [] ready h few within = tt
-row_in a table s final names first n (p ∷ ps) ready h few within = (
-  first_in a table s final names (labels_in 0 p.done) (access_count p.done) p.left ready.0.code h few
-      (within_trans (mentioned_first names s p.left) (row_mentions names s (p ∷ ps)) final (row_within names (mentioned_first names s p.left) ps) within),
-  row_in a table (mentioned_first names s p.left) final names first n ps ready.1 (first_among a table s names (labels_in 0 p.done) (access_count p.done) p.left ready.0.code h few) few within,
-)
+row_in a table s final names first n (p ∷ ps) ready h few within =
+    grind (
+      arith,
+      (row_in a table (mentioned_first names s p.left) final names first n ps ready.1 (first_among a table s names (labels_in 0 p.done) (access_count p.done) p.left ready.0.code h few) few within),
+      (first_in a table s final names (labels_in 0 p.done) (access_count p.done) p.left ready.0.code h few (within_trans (mentioned_first names s p.left) (row_mentions names s (p ∷ ps)) final (row_within names (mentioned_first names s p.left) ps) within)),
+    )
 
 -- the first operation and then the others
 then_others : (table : List (List ℕ)) (names : ℕ → List ℕ) (ps : List RowProgress) → AllByRecursion (λ p. FirstIn table names p.left) ps → AllByRecursion (λ p. OpsIn table names p.left) (map advanced ps)
     → AllByRecursion (λ p. OpsIn table names p.left) ps
 then_others table names [] h k = tt
-then_others table names (p ∷ ps) h k = (one p.done p.left h.0 k.0, then_others table names ps h.1 k.1)
-  where
-    one : (done left : List Micro) → FirstIn table names left → OpsIn table names (moved done left).left → OpsIn table names left
-    one done [] h k = tt
-    one done (op ∷ left) h k = (h, k)
+then_others table names (p ∷ ps) h k = grind (arith, (then_others table names ps))
 
 shorter : (m : ℕ) (ps : List RowProgress) → AllByRecursion (λ p. length p.left ≤ suc m) ps → AllByRecursion (λ p. length p.left ≤ m) (map advanced ps)
 shorter m [] h = tt
-shorter m (p ∷ ps) h = (one p.done p.left h.0, shorter m ps h.1)
-  where
-    one : (done left : List Micro) → length left ≤ suc m → length (moved done left).left ≤ m
-    one done [] h = omega arith
-    one done (op ∷ left) h = omega arith
+shorter m (p ∷ ps) h = grind (arith, (shorter m ps))
 
 -- after all rows all operations are in the table
 rows_in : (a : Puts) (table s final : List (List ℕ)) (names : ℕ → List ℕ) (first n : ℕ) (texts : List (List ℕ)) (ps : List RowProgress) → AllByRecursion (IsReady a table names first n) ps
@@ -105,33 +95,35 @@ rows_in a table s final names first n [] ps ready short h few within = none ps s
     none [] h = tt
     none (p ∷ ps) h = (nothing p.left h.0, none ps h.1)
 rows_in a table s final names first n (text ∷ texts) ps ready short h few within =
-    then_others final names ps
-    (row_in a table s final names first n ps ready h few
-    (within_trans (row_mentions names s ps) (rows_mention names s (text ∷ texts) ps) final (rows_within names (row_mentions names s ps) texts (map advanced ps)) within))
-    (rows_in a table (row_mentions names s ps) final names first (n + 1) texts (map advanced ps) (all_advance a table names first n ps ready) (shorter (length texts) ps short)
-    (row_among a table names first n ps s ready h few) few within)
+    grind (
+      arith,
+      (then_others final names ps (row_in a table s final names first n ps ready h few (within_trans (row_mentions names s ps) (rows_mention names s (text ∷ texts) ps) final (rows_within names (row_mentions names s ps) texts (map advanced ps)) within)) (rows_in a table (row_mentions names s ps) final names first (n + 1) texts (map advanced ps) (all_advance a table names first n ps ready) (shorter (length texts) ps short) (row_among a table names first n ps s ready h few) few within)),
+    )
 
 links_in : (w : Writing) (table s final : List (List ℕ)) (names : ℕ → List ℕ) (links : List Link) → AllByRecursion (LinkFits w table names) links → IsAmong s table → length table ≤ 64
     → Within (links_mention names s links) final → AllByRecursion (λ link. is_in final (names link.1.1) ≡ true) links
 links_in w table s final names [] fits h few within = tt
 links_in w table s final names (link ∷ links) fits h few within =
-    let added = place_added s table (names link.1.1) h few fits.0.inside in
-    let further = links_within names (names_added s (names link.1.1)) links in (
-      in_larger (names_added s (names link.1.1)) final (names link.1.1) (within_trans (names_added s (names link.1.1)) (links_mention names s (link ∷ links)) final further within) (ap is_some added.after),
-      links_in w table (names_added s (names link.1.1)) final names links fits.1 added.among few within,
+    grind (
+      arith,
+      (links_in w table (names_added s (names link.1.1)) final names links fits.1),
+      (place_added s table (names link.1.1) h few fits.0.inside),
+      (links_within names (names_added s (names link.1.1)) links),
+      (in_larger (names_added s (names link.1.1)) final (names link.1.1)),
+      (within_trans (names_added s (names link.1.1)) (links_mention names s (link ∷ links)) final),
     )
 
 terms_in : (w : Writing) (threads : ℕ) (table s final : List (List ℕ)) (terms : List TermSeen) → AllByRecursion (TermFits w threads table) terms → IsAmong s table → length table ≤ 64
     → Within (terms_mention s terms) final → AllByRecursion (λ term. left_is_in final term.left ≡ true) terms
 terms_in w threads table s final [] fits h few within = tt
-terms_in w threads table s final (term ∷ terms) fits h few within = (
-  one term.left fits.0.known (within_trans (left_mention s term.left) (terms_mention s (term ∷ terms)) final (terms_within (left_mention s term.left) terms) within),
-  terms_in w threads table (left_mention s term.left) final terms fits.1 (term_among w threads table s term.left fits.0.known h few) few within,
-)
-  where
-    one : (left : LeftSeen) → is_known w threads table left ≡ true → Within (left_mention s left) final → left_is_in final left ≡ true
-    one (InRegister thread name) known within = refl
-    one (AtPlace name) known within = in_larger (names_added s name) final name within (ap is_some (place_added s table name h few known).after)
+terms_in w threads table s final (term ∷ terms) fits h few within =
+    grind (
+      arith,
+      (terms_in w threads table (left_mention s term.left) final terms fits.1 (term_among w threads table s term.left fits.0.known h few) few),
+      (within_trans (left_mention s term.left) (terms_mention s (term ∷ terms)) final (terms_within (left_mention s term.left) terms)),
+      in_larger,
+      (place_added s table),
+    )
 
 all_terms_among : (w : Writing) (threads : ℕ) (table s : List (List ℕ)) (terms : List TermSeen) → AllByRecursion (TermFits w threads table) terms → IsAmong s table → length table ≤ 64 → IsAmong (terms_mention s terms) table
 all_terms_among w threads table s [] fits h few = h
@@ -164,7 +156,7 @@ reads_back a arch w name test laws cells h =
     let among2 = all_terms_among w (length test.threads) test.places m1 test.cond.terms h.terms among1 h.places_few in
     let after_rows = terms_within m1 test.cond.terms in
     let after_links = within_trans m0 m1 m2 (rows_within names m0 rows ps) after_rows in
-    let size : length rows ≡ k = length-map (range_with_len 1 k) (row_line (columns_of w test.places test.threads)) ∙ length-range_with_len 1 k in
+    let size : length rows ≡ k = grind (arith, length-map, length-range_with_len) in
     record {
       table = m2;
       read = whole_back a arch w name test.edges test.places test.threads test.cond laws cells h;
@@ -173,5 +165,5 @@ reads_back a arch w name test laws cells h =
       codes = start_in m2 names test.threads
           (rows_in a test.places m0 m2 names 0 0 rows ps ready (start_short (length rows) test.threads (covers 0 (length rows) test.threads (omega arith))) among0 h.places_few after_rows);
       links = links_in w test.places [] m2 names links h.links (none_among test.places) h.places_few after_links;
-      terms = terms_in w (length test.threads) test.places m1 m2 test.cond.terms h.terms among1 h.places_few (within_self m2);
+      terms = grind (arith, terms_in, within_self);
     }

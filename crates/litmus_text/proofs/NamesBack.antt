@@ -1,16 +1,14 @@
 -- Tables of names that grow by names of a larger table.
-use Rattle.std.proofs.Common.{◌≡◌, ◌<◌, ◌≤◌, ◌+◌, ◌-◌, ℕ, suc, List, [], ◌∷◌, ◌++◌, Some, None, true, false, cond, length, map, get_or, length-append, refl, sym, ap, ◌∙◌, subst, arith, append_assoc, append-nil, add-zero, zero-add}
-use Rattle.std.specs.Prelude.{Bool, ◌||◌, Option, nat_lt, is_some}
+use Rattle.std.proofs.Common.{◌≡◌, ◌<◌, ◌≤◌, ◌+◌, ◌-◌, ℕ, List, [], ◌∷◌, ◌++◌, Some, None, true, false, length, map, get_or, length-append, refl, sym, ap, ◌∙◌, subst, arith, append_assoc, append-nil, add-zero}
+use Rattle.std.specs.Prelude.{Bool, Option, nat_lt, is_some}
 use Rattle.std.specs.List.{list_any, position_from, IsDistinct, AllByRecursion}
 use Rattle.std.specs.Str.{bytes_eq}
 use Rattle.std.proofs.Math.Dec.{eqb}
-use Rattle.std.proofs.lemmas.Bool.{eqb-true, lt-ltb}
 use Rattle.std.proofs.lemmas.List.{length-map}
 use Rattle.std.proofs.lemmas.Map.Steps.{length-le_from_distinct_below}
 use Rattle.std.proofs.lemmas.Slice.Eq.{bytes_eq-Decides}
-use Rattle.list_laws.proofs.Cases.{by_test}
 use Rattle.arch_trait.specs.PlaceNames.{number_in, number_added, names_added, number_or_next, with_name}
-use Rattle.litmus_text.specs.Placing.{or_zero, place_in}
+use Rattle.litmus_text.specs.Placing.{place_in}
 use Rattle.text_laws.proofs.OrderLaws.{bytes_same}
 use Rattle.list_laws.proofs.Places.{none_passes}
 use Rattle.list_laws.proofs.Distinct.{distinct_push}
@@ -19,48 +17,26 @@ use Rattle.list_laws.proofs.Elements.{all_append}
 none_some : {i : ℕ} {G : Type 0} → None ≡ Some i → G
 none_some e = cc
 
-some_none : {i : ℕ} {G : Type 0} → Some i ≡ None → G
-some_none e = cc
-
 -- the place at which a test passes first
 pub record Found (t : List ℕ → Bool) (k : ℕ) (xs : List (List ℕ)) (i : ℕ) : Type 0 where
   pub low : k ≤ i
   pub high : i < k + length xs
   pub passes : t (get_or xs (i - k) []) ≡ true
 
-found_here : (t : List ℕ → Bool) (k : ℕ) (x : List ℕ) (xs : List (List ℕ)) (i : ℕ) → t x ≡ true → k ≡ i → Found t k (x ∷ xs) i
-found_here t k x xs i h e =
-    let none_left : i - k ≡ 0 = omega arith in
-    record { low = omega arith; high = omega arith; passes = rw none_left h }
-
 -- where a position is found, the test passes at it
 pub found : (t : List ℕ → Bool) (k : ℕ) (xs : List (List ℕ)) (i : ℕ) → position_from t k xs ≡ Some i → Found t k xs i
 found t k [] i e = none_some e
-found t k (x ∷ xs) i e =
-    by_test (t x)
-    (λ h. let here : Some k ≡ Some i = sym (ap (λ b. cond b (Some k) (position_from t (k + 1) xs)) h) ∙ e in
-    let same : k ≡ i = cc in found_here t k x xs i h same)
-    (λ h. let later = found t (k + 1) xs i (sym (ap (λ b. cond b (Some k) (position_from t (k + 1) xs)) h) ∙ e) in
-    let low = later.low in let high = later.high in
-    let step : i - k ≡ suc (i - (k + 1)) = omega arith in
-    record { low = omega arith; high = omega arith; passes = rw step later.passes })
+found t k (x ∷ xs) i e = grind (arith, (found t (k + 1) xs i))
 
 -- a position in a list is the same in a longer one
 pub pos_more : (t : List ℕ → Bool) (k : ℕ) (xs ys : List (List ℕ)) (i : ℕ) → position_from t k xs ≡ Some i → position_from t k (xs ++ ys) ≡ Some i
 pos_more t k [] ys i e = none_some e
-pos_more t k (x ∷ xs) ys i e =
-    by_test (t x)
-    (λ h. rw h (sym (ap (λ b. cond b (Some k) (position_from t (k + 1) xs)) h) ∙ e))
-    (λ h. rw h (pos_more t (k + 1) xs ys i (sym (ap (λ b. cond b (Some k) (position_from t (k + 1) xs)) h) ∙ e)))
+pos_more t k (x ∷ xs) ys i e = grind (arith, (pos_more t (k + 1) xs ys i))
 
 -- the position of an element that is added last, where no earlier one passes the test
 pub pos_last : (t : List ℕ → Bool) (k : ℕ) (xs : List (List ℕ)) (y : List ℕ) → position_from t k xs ≡ None → t y ≡ true → position_from t k (xs ++ y ∷ []) ≡ Some (k + length xs)
 pos_last t k [] y e h = rw (h, add-zero k) refl
-pos_last t k (x ∷ xs) y e h =
-    by_test (t x)
-    (λ f. some_none (sym (ap (λ b. cond b (Some k) (position_from t (k + 1) xs)) f) ∙ e))
-    (λ f. let count : (k + 1) + length xs ≡ k + length (x ∷ xs) = omega arith in
-    rw f (pos_last t (k + 1) xs y (sym (ap (λ b. cond b (Some k) (position_from t (k + 1) xs)) f) ∙ e) h ∙ ap Some count))
+pos_last t k (x ∷ xs) y e h = grind (arith, (pos_last t (k + 1) xs y))
 
 -- a table goes on to a larger one
 pub record Within (s S : List (List ℕ)) : Type 0 where
@@ -114,21 +90,13 @@ numbered_in table name h = of_some (number_in table name) refl h
           number = i;
           is = e;
           below = omega arith;
-          names = (bytes_eq-Decides (get_or table i []) name).0 (ap (λ j. bytes_eq (get_or table j []) name) none_left ∙ f.passes);
+          names = grind (arith, bytes_eq-Decides);
         }
 
 -- equal numbers are those of one name
 apart : (table : List (List ℕ)) (a b : List ℕ) → is_some (number_in table a) ≡ true → is_some (number_in table b) ≡ true
     → bytes_eq a b ≡ false → eqb (place_in table a) (place_in table b) ≡ false
-apart table a b h k e =
-    let m = numbered_in table a h in
-    let n = numbered_in table b k in
-    by_test (eqb (place_in table a) (place_in table b))
-    (λ f. let same : place_in table a ≡ place_in table b = eqb-true (place_in table a) (place_in table b) f in
-    let numbers : m.number ≡ n.number = sym (ap or_zero m.is) ∙ same ∙ ap or_zero n.is in
-    let names : a ≡ b = sym m.names ∙ ap (λ i. get_or table i []) numbers ∙ n.names in
-    let clash : false ≡ true = sym e ∙ ap (λ x. bytes_eq a x) (sym names) ∙ bytes_same a in absurd (cc))
-    (λ f. f)
+apart table a b h k e = grind (arith, (numbered_in table a h), (numbered_in table b k), (bytes_same a))
 
 all_apart : (table : List (List ℕ)) (a : List ℕ) (names : List (List ℕ)) → is_some (number_in table a) ≡ true → AreIn table names
     → AllByRecursion (λ y. bytes_eq a y ≡ false) names → AllByRecursion (λ y. eqb (place_in table a) y ≡ false) (map (place_in table) names)
@@ -142,27 +110,20 @@ numbers_once table (a ∷ names) h k = (all_apart table a names k.0 k.1 h.0, num
 
 numbers_below : (table names : List (List ℕ)) → AreIn table names → (q : ℕ) → list_any (eqb q) (map (place_in table) names) ≡ true → q < length table
 numbers_below table [] k q e = absurd (cc)
-numbers_below table (a ∷ names) k q e =
-    by_test (eqb q (place_in table a))
-    (λ f. let n = numbered_in table a k.0 in
-    let same : q ≡ place_in table a = eqb-true q (place_in table a) f in
-    let number : place_in table a ≡ n.number = ap or_zero n.is in
-    let below = n.below in omega arith)
-    (λ f. numbers_below table names k.1 q (sym (ap (λ b. b || list_any (eqb q) (map (place_in table) names)) f) ∙ e))
+numbers_below table (a ∷ names) k q e = grind (arith, (numbers_below table names k.1 q), (numbered_in table a k.0))
 
 -- a table whose names are all in another table is no longer
 pub few_names : (s table : List (List ℕ)) → IsAmong s table → length s ≤ length table
 few_names s table h =
-    let short : length (map (place_in table) s) ≤ length table =
-    length-le_from_distinct_below (map (place_in table) s) (length table) (numbers_once table s h.once h.inside) (numbers_below table s h.inside) in
-    omega (arith, length-map s (place_in table))
+    grind (
+      arith,
+      (length-le_from_distinct_below (map (place_in table) s) (length table) (numbers_once table s h.once h.inside) (numbers_below table s h.inside)),
+      (length-map s (place_in table)),
+    )
 
 -- a table among another one stays so when a new name of that one is added
 pub push_among : (s table : List (List ℕ)) (name : List ℕ) → IsAmong s table → number_in s name ≡ None → is_some (number_in table name) ≡ true → IsAmong (s ++ name ∷ []) table
-push_among s table name h new inside = record {
-  once = distinct_push bytes_eq s name h.once (none_passes (λ x. bytes_eq x name) 0 s new);
-  inside = all_append (λ x. is_some (number_in table x) ≡ true) s (name ∷ []) h.inside (inside, tt);
-}
+push_among s table name h new inside = grind (arith, distinct_push, none_passes, all_append)
 
 -- a name gets its number in a table that stays among another one
 pub record Added (s table : List (List ℕ)) (name : List ℕ) : Type 0 where
@@ -181,18 +142,18 @@ place_added s table name h few inside = of_number (number_in s name) refl
       number = i;
       added = rw e refl;
       after = ap (λ o. number_in (with_name o s name) name) e ∙ e;
-      within = subst (Within s) (sym (ap (λ o. with_name o s name) e)) (within_self s);
-      among = subst (λ x. IsAmong x table) (sym (ap (λ o. with_name o s name) e)) h;
+      within = grind (arith, within_self);
+      among = grind arith;
     }
     of_number None e =
         let more = push_among s table name h e inside in
         let short = few_names (s ++ name ∷ []) table more in
-        let room : nat_lt (length s) 64 ≡ true = lt-ltb (length s) 64 (omega (arith, length-append s (name ∷ []))) in
+        let room : nat_lt (length s) 64 ≡ true = grind (arith, length-append) in
         let is : names_added s name ≡ s ++ name ∷ [] = ap (λ o. with_name o s name) e ∙ rw room refl in
         record {
           number = length s;
           added = ap (λ o. number_or_next o (length s)) e ∙ rw room refl;
-          after = ap (λ x. number_in x name) is ∙ pos_last (λ x. bytes_eq x name) 0 s name e (bytes_same name) ∙ ap Some (zero-add (length s));
+          after = grind (arith, pos_last, bytes_same);
           within = record { more = name ∷ []; is = is };
           among = subst (λ x. IsAmong x table) (sym is) more;
         }

@@ -1,11 +1,9 @@
 -- The name of an operation gets the number that the plan of the columns has for it.
-use Rattle.std.proofs.Common.{◌≡◌, ◌<◌, ◌≤◌, ◌+◌, ◌==◌, ℕ, zero, suc, List, Some, None, Ok, true, cond, length, map, max, get_or, refl, sym, ap, ◌∙◌, arith, zero-add, inl, inr}
+use Rattle.std.proofs.Common.{◌≡◌, ◌<◌, ◌≤◌, ◌+◌, ◌==◌, ℕ, zero, suc, List, Some, None, Ok, true, cond, length, map, max, refl, sym, ap, ◌∙◌, arith, zero-add, inl, inr}
 use Rattle.std.specs.Prelude.{◌&&◌, nat_lt, nat_le, is_some, Err}
 use Rattle.std.specs.List.{list_all, position_from, range_with_len}
-use Rattle.std.specs.Cmp.{booleans_Decides}
 use Rattle.std.specs.Str.{bytes_eq}
-use Rattle.std.proofs.Math.Bool.{beq}
-use Rattle.std.proofs.lemmas.Bool.{eqb-true, eqb-false, lt-ltb, cases_lt, leb-true, ltb-true, and_parts}
+use Rattle.std.proofs.lemmas.Bool.{eqb-false, lt-ltb, cases_lt, leb-true, ltb-true, and_parts}
 use Rattle.std.proofs.lemmas.List.Sums.{AllPass-from_list_all}
 use Rattle.std.proofs.lemmas.List.FromFn.{get_or-range_with_len, map-range_with_len_more, length-map-range_with_len}
 use Rattle.list_laws.proofs.Cases.{by_test}
@@ -17,24 +15,13 @@ use Rattle.arch_trait.specs.PlaceNames.{number_in, number_added, names_added, nu
 use Rattle.arch_trait.specs.InstructionReading.{read_numbered, with_place, with_label}
 use Rattle.arch_trait.specs.Writing.{op_name, with_number, label_name}
 use Rattle.arch_trait.specs.LabelOrder.{is_next, labels_after}
-use Rattle.litmus_text.specs.Placing.{or_zero, place_in, op_renumbered, mentioned}
+use Rattle.litmus_text.specs.Placing.{place_in, op_renumbered, mentioned}
 use Rattle.litmus_text.specs.Progress.{is_placed}
 use Rattle.litmus_text.specs.TablePlan.{label_table}
 use Rattle.litmus_text.proofs.NamesBack.{Within, within_number, IsAmong, place_added}
 
--- labels below 64 have names of their own
-all_apart : list_all (λ i. list_all (λ j. beq (bytes_eq (label_name i) (label_name j)) (i == j)) (range_with_len 0 64)) (range_with_len 0 64) ≡ true
-all_apart = refl
-
 label_same : (i j : ℕ) → i < 64 → j < 64 → bytes_eq (label_name i) (label_name j) ≡ (i == j)
-label_same i j h k =
-    let row = AllPass-from_list_all (λ i. list_all (λ j. beq (bytes_eq (label_name i) (label_name j)) (i == j)) (range_with_len 0 64)) (range_with_len 0 64) all_apart i 0 h in
-    let at_i : get_or (range_with_len 0 64) i 0 ≡ i = get_or-range_with_len 0 64 i 0 h ∙ zero-add i in
-    let at_j : get_or (range_with_len 0 64) j 0 ≡ j = get_or-range_with_len 0 64 j 0 k ∙ zero-add j in
-    let row_i : list_all (λ j. beq (bytes_eq (label_name i) (label_name j)) (i == j)) (range_with_len 0 64) ≡ true =
-    ap (λ n. list_all (λ j. beq (bytes_eq (label_name n) (label_name j)) (n == j)) (range_with_len 0 64)) (sym at_i) ∙ row in
-    let cell = AllPass-from_list_all (λ j. beq (bytes_eq (label_name i) (label_name j)) (i == j)) (range_with_len 0 64) row_i j 0 k in
-    (booleans_Decides (bytes_eq (label_name i) (label_name j)) (i == j)).0 (ap (λ n. beq (bytes_eq (label_name i) (label_name n)) (i == n)) (sym at_j) ∙ cell)
+label_same i j h k = grind arith
 
 -- the names of labels below 64 have the form of labels
 all_formed : list_all (λ i. is_register_name (label_name i)) (range_with_len 0 64) ≡ true
@@ -53,7 +40,7 @@ occurs : (a count label : ℕ) → a ≤ label → label < a + count → a + cou
 occurs a zero label low high few = absurd (omega arith)
 occurs a (suc count) label low high few =
     by_test (a == label)
-    (λ e. let same : a ≡ label = eqb-true a label e in rw (label_same a label (omega arith) (omega arith), e) (ap Some same))
+    (λ e. grind arith)
     (λ e. let apart = eqb-false a label e in
     rw (label_same a label (omega arith) (omega arith), e) (occurs (a + 1) count label (omega arith) (omega arith) (omega arith)))
 
@@ -62,8 +49,8 @@ absent : (a count label : ℕ) → a + count ≤ label → label < 64
 absent a zero label high few = refl
 absent a (suc count) label high few =
     by_test (a == label)
-    (λ e. let same : a ≡ label = eqb-true a label e in absurd (omega arith))
-    (λ e. rw (label_same a label (omega arith) few, e) (absent (a + 1) count label (omega arith) few))
+    (λ e. grind arith)
+    (λ e. grind (arith, (absent (a + 1) count label (omega arith) few)))
 
 -- a label gets its number in the table
 pub record LabelAdded (count label : ℕ) : Type 0 where
@@ -76,7 +63,7 @@ known_label count label h small =
     let kept : max count (label + 1) ≡ count = omega arith in
     record {
       number = ap (λ o. number_or_next o (length (label_table count))) is;
-      after = ap (λ o. with_name o (label_table count) (label_name label)) is ∙ sym (ap label_table kept);
+      after = grind arith;
     }
 
 next_label : (count label : ℕ) → label ≡ count → label < 64 → LabelAdded count label
@@ -87,7 +74,7 @@ next_label count label e few =
     let grown : max count (label + 1) ≡ count + 1 = omega arith in
     let number : length (label_table count) ≡ label = size ∙ sym e in
     record {
-      number = ap (λ o. number_or_next o (length (label_table count))) is ∙ rw room (ap Some number);
+      number = grind arith;
       after =
           ap (λ o. with_name o (label_table count) (label_name label)) is ∙ rw room refl
           ∙ sym (ap label_table grown ∙ map-range_with_len_more label_name 0 count label (omega arith));
@@ -104,7 +91,7 @@ place_step : (op : Micro) (s table final labels : List (List ℕ)) (name : List 
     ≡ Ok (record { op = with_number op (place_in final name); places = names_added s name; labels = labels })
 place_step op s table final labels name among few formed inside within =
     let added = place_added s table name among few inside in
-    let last : place_in final name ≡ added.number = ap or_zero (within_number (names_added s name) final name added.number within added.after) in
+    let last : place_in final name ≡ added.number = grind (arith, within_number) in
     rw (formed, added.added) (ap (λ i. Ok (record { op = with_number op i; places = names_added s name; labels = labels })) (sym last))
 
 label_step : (op : Micro) (s : List (List ℕ)) (count label : ℕ) → (nat_le label count && nat_lt label 64) ≡ true → count ≤ 64

@@ -15,8 +15,10 @@ use Rattle.litmus_text.specs.declared.reading.table.Column.{Column as ThreadColu
 use Rattle.litmus_text.specs.Views.{column_seen, rest_read, table_read, body_read}
 use Rattle.litmus_text.specs.TextLines.{Lines, ends, line}
 use Rattle.litmus_text.specs.InitialState.{Begun}
-use Rattle.litmus_text.specs.TestTable.{Column, among, rows_read, no_columns, all_labels_judged}
+use Rattle.litmus_text.specs.TestTable.{Column, among, no_columns, all_labels_judged}
+use Rattle.litmus_text.specs.TableScan.{rows_scanned}
 use Rattle.litmus_text.specs.TestReading.{ThreadRead, values_of_thread, threads_of, lines_read}
+use Rattle.litmus_text.proofs.RowsScanned.{rows_same}
 
 -- a line of settings is passed over
 pub settings_more : (n : ℕ) (text : List ℕ) (rest ls : Lines) → line n text rest ≡ ls → is_setting text ≡ true → after_settings rest ≡ after_settings ls
@@ -36,19 +38,10 @@ settings_end n ls e = rw (sym e) refl
 filter_push : {A : Type 0} (p : A → Bool) (xs : List A) (x : A) → filter p (xs ++ x ∷ []) ≡ filter p xs ++ filter p (x ∷ [])
 filter_push p xs x = filter-append p xs (x ∷ [])
 
--- a value of the thread is added to those of the thread
-pub value_more : (thread : ℕ) (values : List (ℕ × (ℕ × Value))) (i : ℕ) (d : ℕ × (ℕ × Value)) → i < length values → (get_or values i d).0 == thread ≡ true
-    → values_of_thread thread (take (i + 1) values) ≡ values_of_thread thread (take i values) ++ (get_or values i d).1 ∷ []
-value_more thread values i d inside h =
-    let p = λ (v : ℕ × (ℕ × Value)). v.0 == thread in
-    ap (values_of_thread thread) (take_more values i d inside) ∙ ap (map (λ v. v.1)) (filter_push p (take i values) (get_or values i d)) ∙ rw h (map_push (λ v. v.1) (filter p (take i values)) (get_or values i d))
-
 -- a value of another thread isn't added
 pub value_other : (thread : ℕ) (values : List (ℕ × (ℕ × Value))) (i : ℕ) (d : ℕ × (ℕ × Value)) → i < length values → (get_or values i d).0 == thread ≡ false
     → values_of_thread thread (take (i + 1) values) ≡ values_of_thread thread (take i values)
-value_other thread values i d inside h =
-    let p = λ (v : ℕ × (ℕ × Value)). v.0 == thread in
-    ap (values_of_thread thread) (take_more values i d inside) ∙ ap (map (λ v. v.1)) (filter_push p (take i values) (get_or values i d)) ∙ rw h (ap (map (λ v. v.1)) (append-nil (filter p (take i values))))
+value_other thread values i d inside h = grind (arith, (take_more values i d inside), filter_push, append-nil)
 
 numbered_push : {A : Type 0} (n : ℕ) (xs : List A) (x : A) → enumerate_from n (xs ++ x ∷ []) ≡ enumerate_from n xs ++ (n + length xs, x) ∷ []
 numbered_push n [] x = ap (λ k. (k, x) ∷ []) (sym (add-zero n))
@@ -58,10 +51,7 @@ numbered_push n (y ∷ xs) x = let e : (n + 1) + length xs ≡ n + suc (length x
 pub thread_more : (begun : Begun) (columns : List Column) (i : ℕ) (d : Column) → i < length columns
     → threads_of begun (take (i + 1) columns) ≡ threads_of begun (take i columns) ++ (record { init = values_of_thread i begun.values; code = map (λ placed. placed.op) (get_or columns i d).ops }) ∷ []
 thread_more begun columns i d inside =
-    let f : ℕ × Column → ThreadRead = λ c. record { init = values_of_thread c.0 begun.values; code = map (λ placed. placed.op) c.1.ops } in
-    let n : 0 + length (take i columns) ≡ i = omega (arith, length-take i columns) in
-    ap (threads_of begun) (take_more columns i d inside) ∙ ap (map f) (numbered_push 0 (take i columns) (get_or columns i d) ∙ ap (λ k. enumerate_from 0 (take i columns) ++ (k, get_or columns i d) ∷ []) n)
-    ∙ map_push f (enumerate_from 0 (take i columns)) (i, get_or columns i d)
+    grind (arith, (length-take i columns), (take_more columns i d inside), (numbered_push 0 (take i columns) (get_or columns i d)), map_push)
 
 -- one more column of the code gives one more thread
 pub thread_step : (begun : Begun) (xs : List ThreadColumn) (i : ℕ) (d : ThreadColumn) (threads : List ThreadRead) (t : ThreadRead) → i < length xs → d ≡ get_or xs i d
@@ -75,32 +65,24 @@ thread_step begun xs i d threads t inside is e so_far =
 
 -- the test of a table that was read is that of the columns of the code
 pub table_is : (w : Writing) (l4 l5 : Lines) (name : List ℕ) (quoted : Option (List ℕ)) (begun : Begun) (threads count : ℕ) (c0 c r j t : List ThreadColumn) (names : List (List ℕ))
-    → map column_seen c0 ≡ no_columns threads → c ≡ c0 → rows_read w 0 (among begun.names (map column_seen c)) l4 ≡ Ok (among names (map column_seen r), l5) → j ≡ r → all_labels_judged (map column_seen j) ≡ Ok tt
+    → map column_seen c0 ≡ no_columns threads → c ≡ c0 → rows_scanned w 0 (among begun.names (map column_seen c)) l4 ≡ Ok (among names (map column_seen r), l5) → j ≡ r → all_labels_judged (map column_seen j) ≡ Ok tt
     → t ≡ r → count ≡ threads → (values : List (ℕ × (ℕ × Value))) → values ≡ begun.values
     → table_read w name quoted begun threads l4 ≡ rest_read w name quoted (record { names = []; values = values }) (map column_seen t) count names l5
 unfolding table_read rest_read
-table_is w l4 l5 name quoted begun threads count c0 c r j t names n m e p f q k values u =
-    let a : rows_read w 0 (among begun.names (no_columns threads)) l4 ≡ Ok (among names (map column_seen r), l5) = ap (λ z. rows_read w 0 (among begun.names z) l4) (sym (ap (map column_seen) m ∙ n)) ∙ e in
-    let b : all_labels_judged (map column_seen r) ≡ Ok tt = ap (λ z. all_labels_judged (map column_seen z)) (sym p) ∙ f in
-    rw (a, b, q, k, u) refl
+table_is w l4 l5 name quoted begun threads count c0 c r j t names n m e p f q k values u = grind (arith, rows_same)
 
 -- a fault of the rows is a fault of the test
 pub table_rows_bad : (w : Writing) (l4 : Lines) (name : List ℕ) (quoted : Option (List ℕ)) (begun : Begun) (threads : ℕ) (c0 c : List ThreadColumn) (x : TextError)
-    → map column_seen c0 ≡ no_columns threads → c ≡ c0 → rows_read w 0 (among begun.names (map column_seen c)) l4 ≡ Err x → table_read w name quoted begun threads l4 ≡ Err x
+    → map column_seen c0 ≡ no_columns threads → c ≡ c0 → rows_scanned w 0 (among begun.names (map column_seen c)) l4 ≡ Err x → table_read w name quoted begun threads l4 ≡ Err x
 unfolding table_read
-table_rows_bad w l4 name quoted begun threads c0 c x n m e =
-    let a : rows_read w 0 (among begun.names (no_columns threads)) l4 ≡ Err x = ap (λ z. rows_read w 0 (among begun.names z) l4) (sym (ap (map column_seen) m ∙ n)) ∙ e in
-    rw a refl
+table_rows_bad w l4 name quoted begun threads c0 c x n m e = grind (arith, rows_same)
 
 -- a fault of the labels is a fault of the test
 pub table_labels_bad : (w : Writing) (l4 l5 : Lines) (name : List ℕ) (quoted : Option (List ℕ)) (begun : Begun) (threads : ℕ) (c0 c r j : List ThreadColumn) (names : List (List ℕ)) (x : TextError)
-    → map column_seen c0 ≡ no_columns threads → c ≡ c0 → rows_read w 0 (among begun.names (map column_seen c)) l4 ≡ Ok (among names (map column_seen r), l5) → j ≡ r → all_labels_judged (map column_seen j) ≡ Err x
+    → map column_seen c0 ≡ no_columns threads → c ≡ c0 → rows_scanned w 0 (among begun.names (map column_seen c)) l4 ≡ Ok (among names (map column_seen r), l5) → j ≡ r → all_labels_judged (map column_seen j) ≡ Err x
     → table_read w name quoted begun threads l4 ≡ Err x
 unfolding table_read
-table_labels_bad w l4 l5 name quoted begun threads c0 c r j names x n m e p f =
-    let a : rows_read w 0 (among begun.names (no_columns threads)) l4 ≡ Ok (among names (map column_seen r), l5) = ap (λ z. rows_read w 0 (among begun.names z) l4) (sym (ap (map column_seen) m ∙ n)) ∙ e in
-    let b : all_labels_judged (map column_seen r) ≡ Err x = ap (λ z. all_labels_judged (map column_seen z)) (sym p) ∙ f in
-    rw (a, b) refl
+table_labels_bad w l4 l5 name quoted begun threads c0 c r j names x n m e p f = grind (arith, rows_same)
 
 -- a test is its header, its quoted text and what is read after the settings
 pub lines_body : (arch : ArchName) (w : Writing) (ls l1 l2 l2' : Lines) (name : List ℕ) (quoted : Option (List ℕ)) → header_read arch ls ≡ Ok (name, l1) → quote_read l1 ≡ Ok (quoted, l2) → l2' ≡ after_settings l2

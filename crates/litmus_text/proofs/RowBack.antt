@@ -1,27 +1,27 @@
 -- The rows of a printed table are read back.
-use Rattle.std.proofs.Common.{◌≡◌, ◌<◌, ◌≤◌, ◌+◌, ◌==◌, ℕ, List, [], ◌∷◌, ◌++◌, Some, None, Ok, true, false, cond, length, map, length-append, refl, sym, ap, ◌∙◌, subst, arith, add-zero, zero-add}
-use Rattle.std.specs.Prelude.{not, ◌&&◌, ◌||◌, Option, nat_lt, nat_le, is_some, count_by}
+use Rattle.std.proofs.Common.{◌≡◌, ◌<◌, ◌≤◌, ◌+◌, ℕ, List, [], ◌∷◌, ◌++◌, Ok, true, false, cond, length, map, length-append, refl, sym, ap, ◌∙◌, arith, add-zero, zero-add}
+use Rattle.std.specs.Prelude.{Option, nat_lt, nat_le, is_some, count_by}
 use Rattle.std.specs.List.{list_all, AllByRecursion}
-use Rattle.std.proofs.lemmas.Bool.{lt-ltb, ltb-true, not-true, and_parts}
+use Rattle.std.proofs.lemmas.Bool.{lt-ltb, ltb-true, and_parts}
 use Rattle.std.proofs.lemmas.List.Sums.{sum_by-append, sum_by-cons}
 use Rattle.std.proofs.lemmas.Simd.{map-map}
 use Rattle.list_laws.proofs.Cases.{by_test}
-use Rattle.text_laws.specs.Blanks.{is_blank}
 use Rattle.text_laws.specs.Names.{is_place_name}
 use Rattle.text_laws.proofs.NameLaws.{register_passes}
 use Rattle.micro_ops.specs.declared.operation.Micro.{Micro}
 use Rattle.micro_ops.specs.declared.operation.Micro.TheVariants as ops
 use Rattle.arch_trait.specs.Threads.{Puts}
-use Rattle.arch_trait.specs.PlaceNames.{number_in, names_added, with_name}
+use Rattle.arch_trait.specs.PlaceNames.{number_in, names_added}
 use Rattle.arch_trait.specs.InstructionReading.{instr_read}
-use Rattle.arch_trait.specs.Writing.{Writing, WritesBack, op_text, op_name, is_well_named, label_name, listed}
-use Rattle.arch_trait.proofs.Spelling.{instr_back, word_is}
+use Rattle.arch_trait.specs.Writing.{Writing, WritesBack, op_text, op_name, is_well_named, label_name}
+use Rattle.arch_trait.proofs.Spelling.{instr_back}
 use Rattle.arch_trait.specs.ByteLaws.{place_in_cell}
 use Rattle.arch_trait.specs.Cells.{WritesCells, access_count, ends_rows, is_access, is_cell_byte, is_label_op}
 use Rattle.arch_trait.specs.LabelOrder.{is_next, labels_after, labels_in}
 use Rattle.litmus_text.specs.TextLines.{Lines, line}
 use Rattle.text_laws.specs.ReadingSteps.{◌>>=◌}
-use Rattle.litmus_text.specs.TestTable.{Column, Among, among, fits_in_column, instr_put, cell_read, row_read, before_columns, rows_read, cells_of}
+use Rattle.litmus_text.specs.TestTable.{Column, Among, among, fits_in_column, cells_of}
+use Rattle.litmus_text.specs.TableScan.{instr_put, cell_read, row_read, before_columns, rows_scanned}
 use Rattle.litmus_text.specs.Placing.{op_renumbered, mentioned}
 use Rattle.litmus_text.specs.TablePlan.{placed_from, label_table, column_so_far}
 use Rattle.litmus_text.specs.Progress.{RowProgress, progress, moved, advanced, column_at, mentioned_first, row_mentions, is_placed, OpFits, CodeFits}
@@ -39,23 +39,12 @@ named_op (ops.BranchNz a label) table names count placed next = label_formed lab
 named_op (ops.Label label) table names count placed next = label_formed label (ltb-true label 64 (and_parts (nat_le label count) (nat_lt label 64) next).1)
 named_op op table names count placed next = refl
 
--- after an operation at most 64 labels have numbers
-pub few_labels : (op : Micro) (count : ℕ) → is_next count op ≡ true → count ≤ 64 → labels_after count op ≤ 64
-few_labels (ops.BranchEq label) count next h = let small = ltb-true label 64 (and_parts (nat_le label count) (nat_lt label 64) next).1 in omega arith
-few_labels (ops.BranchNz a label) count next h = let small = ltb-true label 64 (and_parts (nat_le label count) (nat_lt label 64) next).1 in omega arith
-few_labels (ops.Label label) count next h = let small = ltb-true label 64 (and_parts (nat_le label count) (nat_lt label 64) next).1 in omega arith
-few_labels op count next h = h
-
 -- a table goes on to the one to which a name is added
 pub added_within : (s : List (List ℕ)) (name : List ℕ) → Within s (names_added s name)
 added_within s name = of (number_in s name) refl
   where
     of : (o : Option ℕ) → number_in s name ≡ o → Within s (names_added s name)
-    of (Some i) e = subst (Within s) (sym (ap (λ o. with_name o s name) e)) (within_self s)
-    of None e =
-        by_test (nat_lt (length s) 64)
-        (λ f. subst (Within s) (sym (ap (λ o. with_name o s name) e ∙ rw f refl)) (record { more = name ∷ []; is = refl }))
-        (λ f. subst (Within s) (sym (ap (λ o. with_name o s name) e ∙ rw f refl)) (within_self s))
+    of o e = grind (arith, within_self)
 
 -- a table goes on to the one after an operation was mentioned
 pub mention_within : (names : ℕ → List ℕ) (s : List (List ℕ)) (op : Micro) → Within s (mentioned names s op)
@@ -71,8 +60,7 @@ mention_among table names s (ops.StoreAt place n) h few placed = (place_added s 
 mention_among table names s op h few placed = h
 
 access_same : (table : List (List ℕ)) (names : ℕ → List ℕ) (op : Micro) → is_access (op_renumbered table names op) ≡ is_access op
-access_same table names (ops.LoadAt dst place) = refl
-access_same table names op = refl
+access_same table names op = grind arith
 
 first_within : (names : ℕ → List ℕ) (s : List (List ℕ)) (left : List Micro) → Within s (mentioned_first names s left)
 first_within names s [] = within_self s
@@ -105,18 +93,9 @@ labels_more : (count : ℕ) (code : List Micro) (op : Micro) → labels_in count
 labels_more count [] op = refl
 labels_more count (x ∷ code) op = labels_more (labels_after count x) code op
 
-word_begins : (b : ℕ) (rest remainder word : List ℕ) → word ≡ b ∷ rest → list_all (λ x. not (is_blank x) && not (x == 44)) word ≡ true → Begins (word ++ remainder)
-word_begins b rest remainder word e h =
-    let all : list_all (λ x. not (is_blank x) && not (x == 44)) (b ∷ rest) ≡ true = ap (list_all (λ x. not (is_blank x) && not (x == 44))) (sym e) ∙ h in
-    let first = and_parts (not (is_blank b) && not (b == 44)) (list_all (λ x. not (is_blank x) && not (x == 44)) rest) all in
-    let inked = and_parts (not (is_blank b)) (not (b == 44)) first.0 in
-    record { first = b; rest = rest ++ remainder; is = ap (λ x. x ++ remainder) e; inked = not-true (is_blank b) inked.0 }
-
 -- the text of an operation begins with no blank
 pub text_begins : (a : Puts) (w : Writing) (names : ℕ → List ℕ) (op : Micro) → WritesBack a w → a.has op ≡ true → is_well_named (op_name names op) ≡ true → Begins (op_text w names op)
-text_begins a w names op laws has named =
-    let word = word_is (w.written names op).word (laws.word names op has named) in
-    word_begins word.first word.rest (listed (w.written names op).operands) (w.written names op).word word.is word.bytes
+text_begins a w names op laws has named = grind arith
 
 -- a thread whose rows were read up to a line: what is left of it fits
 pub record IsReady (a : Puts) (table : List (List ℕ)) (names : ℕ → List ℕ) (first n : ℕ) (p : RowProgress) : Type 0 where
@@ -135,8 +114,7 @@ op_put a w table final s names first n done op laws fits few at_line among_table
     let read = instr_back a w laws names op s (label_table (labels_in 0 done)) fits.has named
     ∙ numbers_back op names s table final (labels_in 0 done) among_table short fits.placed fits.next few within in
     let room : fits_in_column (column_so_far final names first done) (op_renumbered final names op) ≡ true =
-    ap (λ b. not b || nat_lt (count_by (λ placed. is_access placed.op) (placed_from final names first done)) 64) (access_same final names op)
-    ∙ ap (λ m. not (is_access op) || nat_lt m 64) (accesses_placed final names first done) ∙ fits.room in
+    grind (arith, accesses_placed) in
     ap (instr_put n (column_so_far final names first done)) read
     ∙ rw room refl
     ∙ ap (λ placed. Ok (among (mentioned names s op) (record { ops = placed; labels = label_table (labels_after (labels_in 0 done) op) }))) (placed_more final names first n done op at_line)
@@ -164,8 +142,8 @@ op_cell : (a : Puts) (w : Writing) (names : ℕ → List ℕ) (op : Micro) (coun
     → cell_read w n (padded k (op_text w names op)) s ≡ Ok t
 op_cell a w names op count n k s t cells has named next begins put =
     by_test (is_label_op op)
-    (λ e. labelled op a w names count n k s t e cells has next begins put)
-    (λ e. plain_back w n k (op_text w names op) s begins (cells.cells names op has named e) ∙ put)
+    (λ e. grind (arith, labelled))
+    (λ e. grind (arith, plain_back))
 
 -- the cell of a thread is read as its next operation, or as nothing
 pub thread_back : (a : Puts) (w : Writing) (table final s : List (List ℕ)) (names : ℕ → List ℕ) (first n k : ℕ) (p : RowProgress)
@@ -180,10 +158,12 @@ thread_back a w table final s names first n k p laws cells ready among_table sho
         ≡ Ok (among (mentioned_first names s left) (column_at final names first (moved done left)))
     go done [] fits few at_line within = empty_back w n k (among s (column_at final names first (progress done [])))
     go done (op ∷ left) fits few at_line within =
-        let named = named_op op table names (labels_in 0 done) fits.0.placed fits.0.next in
-        op_cell a w names op (labels_in 0 done) n k (among s (column_so_far final names first done)) (among (mentioned names s op) (column_so_far final names first (done ++ op ∷ [])))
-        cells fits.0.has named fits.0.next (text_begins a w names op laws fits.0.has named)
-        (op_put a w table final s names first n done op laws fits.0 few (at_line (omega arith)) among_table short within)
+        grind (
+          arith,
+          (named_op op table names (labels_in 0 done) fits.0.placed fits.0.next),
+          (op_cell a w names op (labels_in 0 done) n k (among s (column_so_far final names first done)) (among (mentioned names s op) (column_so_far final names first (done ++ op ∷ []))) cells fits.0.has),
+          (op_put a w table final s names first n done op laws fits.0 few (at_line (omega arith)) among_table short within),
+        )
 
 -- the cells of a row are those of the threads, with blanks
 abbrev pub AreCells : Writing → (ℕ → List ℕ) → List (List ℕ) → List RowProgress → Type 0
@@ -203,8 +183,7 @@ row_back a w table final names first n (cell ∷ cells) [] s laws spoken are rea
 row_back a w table final names first n (cell ∷ cells) (p ∷ ps) s laws spoken are ready among_table short within =
     let here = row_within names (mentioned_first names s p.left) ps in
     let read : cell_read w n cell (among s (column_at final names first p)) ≡ Ok (among (mentioned_first names s p.left) (column_at final names first (advanced p))) =
-    ap (λ x. cell_read w n x (among s (column_at final names first p))) are.0.1
-    ∙ thread_back a w table final s names first n are.0.0 p laws spoken ready.0 among_table short (within_trans (mentioned_first names s p.left) (row_mentions names s (p ∷ ps)) final here within) in
+    grind (arith, thread_back, within_trans) in
     let others = row_back a w table final names first n cells ps (mentioned_first names s p.left) laws spoken are.1 ready.1 (first_among table names s p.left (labels_in 0 p.done) (access_count p.done) (ready.0.code) among_table short) short within in
     rw read (ap (λ o. o >>= λ others. Ok (before_columns (column_at final names first (advanced p)) others)) others)
   where
@@ -219,16 +198,7 @@ advance_ready a table names first n p ready = go p.done p.left ready.code ready.
   where
     go : (done left : List Micro) → CodeFits a table names (labels_in 0 done) (access_count done) left → labels_in 0 done ≤ 64 → (0 < length left → first + length done ≡ n)
         → IsReady a table names first (n + 1) (moved done left)
-    go done [] fits few at_line = record { code = tt; few = few; line = λ h. absurd (omega arith) }
-    go done (op ∷ left) fits few at_line =
-        let here = at_line (omega arith) in
-        let longer : length (done ++ op ∷ []) ≡ length done + 1 = length-append done (op ∷ []) in
-        record {
-          code = subst (λ labels. CodeFits a table names labels (access_count (done ++ op ∷ [])) left) (sym (labels_more 0 done op))
-              (subst (λ accesses. CodeFits a table names (labels_after (labels_in 0 done) op) accesses left) (sym (accesses_more done op)) fits.1);
-          few = subst (λ labels. labels ≤ 64) (sym (labels_more 0 done op)) (few_labels op (labels_in 0 done) fits.0.next few);
-          line = λ h. omega arith;
-        }
+    go done left fits few at_line = grind (arith, length-append, labels_more, accesses_more)
 
 -- the threads after a row are ready for the next
 pub all_advance : (a : Puts) (table : List (List ℕ)) (names : ℕ → List ℕ) (first n : ℕ) (ps : List RowProgress) → AllByRecursion (IsReady a table names first n) ps
@@ -286,9 +256,9 @@ pub rows_back : (a : Puts) (w : Writing) (table final : List (List ℕ)) (names 
     (m : ℕ) (last : List ℕ) (remainder : Lines) → rest (n + length texts) ≡ line m last remainder → ends_rows last ≡ true
     → WritesBack a w → WritesCells a w → AreRows w names texts ps → AllByRecursion (IsReady a table names first n) ps → IsAmong s table → length table ≤ 64
     → Within (rows_mention names s texts ps) final → k + length texts ≤ 1024
-    → rows_read w k (among s (map (column_at final names first) ps)) (before n texts rest)
+    → rows_scanned w k (among s (map (column_at final names first) ps)) (before n texts rest)
     ≡ Ok (among (rows_mention names s texts ps) (map (column_at final names first) (after_rows texts ps)), line m last remainder)
-unfolding rows_read
+unfolding rows_scanned
 rows_back a w table final names first n k [] ps s rest m last remainder at_rest ends laws spoken are ready among_table short within few =
     let here : rest n ≡ line m last remainder = ap rest (sym (add-zero n)) ∙ at_rest in
     rw (here, ends) refl
@@ -302,6 +272,6 @@ rows_back a w table final names first n k (text ∷ texts) ps s rest m last rema
     let next = rows_back a w table final names first (n + 1) (k + 1) texts (map advanced ps) (row_mentions names s ps) rest m last remainder rest_at ends laws spoken are.1
     (all_advance a table names first n ps ready) (row_among a table names first n ps s ready among_table short) short within (omega arith) in
     rw (are.0.row, room, are.0.whole)
-    (ap (λ r. r >>= λ next. rows_read w (k + 1) next (before (n + 1) texts rest)) row
-    ∙ ap (λ columns. rows_read w (k + 1) (among (row_mentions names s ps) columns) (before (n + 1) texts rest)) (sym (map-map (column_at final names first) advanced ps))
+    (ap (λ r. r >>= λ next. rows_scanned w (k + 1) next (before (n + 1) texts rest)) row
+    ∙ ap (λ columns. rows_scanned w (k + 1) (among (row_mentions names s ps) columns) (before (n + 1) texts rest)) (sym (map-map (column_at final names first) advanced ps))
     ∙ next)

@@ -1,21 +1,17 @@
 -- The printed rows are the rows of the threads.
 use Rattle.std.proofs.Common.{◌≡◌, ◌+◌, ◌-◌, ◌==◌, ℕ, zero, suc, List, [], ◌∷◌, ◌++◌, Some, true, false, cond, length, map, take, drop, get_or, refl, sym, ap, ◌∙◌, subst, arith, append_assoc, append-nil, add-zero, add-one, ◌⊎◌, inl, inr}
-use Rattle.std.specs.Prelude.{Bool, not, ◌||◌, nat_lt, nat_le, codes}
-use Rattle.std.specs.List.{list_all, list_any, flat_map, join_by, AllByRecursion, enumerate_from, range_with_len}
-use Rattle.std.specs.Str.{bytes_eq}
+use Rattle.std.specs.Prelude.{Bool, not, ◌||◌, codes}
+use Rattle.std.specs.List.{list_all, flat_map, join_by, AllByRecursion, enumerate_from, range_with_len}
 use Rattle.std.proofs.Math.ListN.{replicate}
 use Rattle.std.proofs.lemmas.List.{replicate_more}
-use Rattle.std.proofs.lemmas.Bool.{ltb-true, and_parts, and_from}
-use Rattle.std.proofs.lemmas.Bool.Decides.{nat_tests}
+use Rattle.std.proofs.lemmas.Bool.{and_parts, and_from}
 use Rattle.list_laws.proofs.Elements.{list_all-weaker}
 use Rattle.list_laws.proofs.Cases.{by_test}
-use Rattle.text_laws.specs.Blanks.{is_blank, unblanked}
+use Rattle.text_laws.specs.Blanks.{is_blank}
 use Rattle.text_laws.specs.LeadingRuns.{leading_run, after_run}
-use Rattle.text_laws.specs.Words.{is_argument_byte}
 use Rattle.micro_ops.specs.declared.operation.Micro.{Micro}
-use Rattle.micro_ops.specs.declared.operation.Micro.TheVariants as ops
 use Rattle.arch_trait.specs.Threads.{Puts, ThreadCode}
-use Rattle.arch_trait.specs.Writing.{Writing, WritesBack, op_text, name_in, label_name}
+use Rattle.arch_trait.specs.Writing.{Writing, WritesBack, op_text, name_in}
 use Rattle.arch_trait.specs.Cells.{WritesCells, ends_rows, first_word, is_access, is_cell_byte, is_label_op, is_line_byte}
 use Rattle.arch_trait.specs.LabelOrder.{is_next, labels_after}
 use Rattle.text_laws.specs.Cuts.{cut_at, is_without}
@@ -31,14 +27,11 @@ use Rattle.litmus_text.proofs.CutBack.{piece_back, piece_last}
 use Rattle.text_laws.proofs.CutLaws.{cut_back, all_both, without_class}
 use Rattle.text_laws.proofs.BlankLaws.{spaces_class, unblanked_spaces}
 use Rattle.litmus_text.proofs.CellBack.{padded, Begins}
-use Rattle.litmus_text.proofs.RowBack.{next_text, AreCells, IsRow, AreRows, after_rows, named_op, text_begins, label_bytes}
+use Rattle.litmus_text.proofs.RowBack.{next_text, AreCells, IsRow, AreRows, after_rows, named_op, text_begins}
 
 -- the cells of a row, with a blank on both sides
 abbrev pub spaced : (List (List ℕ) → List ℕ) → List (List ℕ) → List ℕ
 spaced f column = 32 ∷ (f column ++ 32 ∷ [])
-
-after_bar : (List (List ℕ) → List ℕ) → List (List ℕ) → List ℕ
-after_bar f column = codes " | " ++ f column
 
 -- each cell of some columns is without a sign
 abbrev pub AreWithout : ℕ → (List (List ℕ) → List ℕ) → List (List (List ℕ)) → Type 0
@@ -53,9 +46,7 @@ bars f x (y ∷ ys) h =
     let more = flat_map (λ y. codes " | " ++ f y) ys in
     let rest : List ℕ = 32 ∷ ((f y ++ more) ++ 32 ∷ []) in
     let shape : 32 ∷ ((f x ++ ((codes " | " ++ f y) ++ more)) ++ 32 ∷ []) ≡ spaced f x ++ 124 ∷ rest =
-    ap (λ t. 32 ∷ t)
-    (append_assoc (f x) ((codes " | " ++ f y) ++ more) (32 ∷ [])
-    ∙ sym (append_assoc (f x) (32 ∷ []) (124 ∷ rest))) in
+    grind (arith, append_assoc) in
     ap (pieces 124) shape
     ∙ piece_back 124 (spaced f x) rest (and_from true (is_without 124 (f x ++ 32 ∷ [])) refl (all_both (λ b. not (b == 124)) (f x) (32 ∷ []) h.0 refl))
     ∙ ap (λ t. spaced f x ∷ t) (bars f y ys h.1)
@@ -71,10 +62,10 @@ unfolding cells_of
 row_cells f x xs no_bar no_end =
     let cells = f x ++ flat_map (λ y. codes " | " ++ f y) xs in
     let prefix : List ℕ = 32 ∷ (cells ++ 32 ∷ []) in
-    let shape : 32 ∷ (cells ++ codes " ;") ≡ prefix ++ 59 ∷ [] = ap (λ t. 32 ∷ t) (sym (append_assoc cells (32 ∷ []) (59 ∷ []))) in
-    let clear : is_without 59 cells ≡ true = all_both (λ b. not (b == 59)) (f x) (flat_map (λ y. codes " | " ++ f y) xs) no_end.0 (each_without f xs no_end.1) in
+    let shape : 32 ∷ (cells ++ codes " ;") ≡ prefix ++ 59 ∷ [] = grind (arith, append_assoc) in
+    let clear : is_without 59 cells ≡ true = grind (arith, all_both, each_without) in
     let cut : cut_at 59 (32 ∷ (cells ++ codes " ;")) ≡ Some (prefix, []) =
-    ap (cut_at 59) shape ∙ cut_back 59 prefix [] (and_from true (is_without 59 (cells ++ 32 ∷ [])) refl (all_both (λ b. not (b == 59)) cells (32 ∷ []) clear refl)) in
+    grind (arith, (cut_back 59 prefix []), all_both) in
     ap (cells_if (32 ∷ (cells ++ codes " ;"))) cut ∙ ap (λ texts. record { texts = texts; whole = true }) (bars f x xs no_bar)
 
 -- the threads before a row of operations
@@ -88,8 +79,7 @@ next_at w names (op ∷ code) zero = refl
 next_at w names (op ∷ code) (suc i) = next_at w names code i
 
 moved_cons : (op : Micro) (done left : List Micro) → moved (op ∷ done) left ≡ progress (op ∷ (moved done left).done) (moved done left).left
-moved_cons op done [] = refl
-moved_cons op done (x ∷ left) = refl
+moved_cons op done left = grind arith
 
 -- a thread after one more row has one more operation read
 pub advance_at : (code : List Micro) (i : ℕ) → moved (take i code) (drop i code) ≡ progress (take (suc i) code) (drop (suc i) code)
@@ -123,27 +113,15 @@ pub record OpText (w : Writing) (names : ℕ → List ℕ) (op : Micro) : Type 0
   pub row : ends_rows (op_text w names op) ≡ false
 
 cell_on_row : (b : ℕ) → is_cell_byte b ≡ true → is_row_byte b ≡ true
-cell_on_row b h = grind (arith, nat_tests)
+cell_on_row b h = grind arith
 
 label_text : (op : Micro) (a : Puts) (w : Writing) (names : ℕ → List ℕ) (count : ℕ) → is_label_op op ≡ true → WritesCells a w → a.has op ≡ true → is_next count op ≡ true
     → list_all is_row_byte (op_text w names op) ≡ true
-label_text (ops.Label label) a w names count e cells has next =
-    let small = ltb-true label 64 (and_parts (nat_le label count) (nat_lt label 64) next).1 in
-    ap (list_all is_row_byte) (cells.labels names label has)
-    ∙ all_both is_row_byte (label_name label) (58 ∷ []) (list_all-weaker is_cell_byte is_row_byte cell_on_row (label_name label) (label_bytes label small)) refl
-label_text op a w names count e cells has next = absurd (cc)
+label_text op a w names count e cells has next = grind arith
 
 op_text_is : (a : Puts) (w : Writing) (table : List (List ℕ)) (names : ℕ → List ℕ) (count accesses : ℕ) (op : Micro) → WritesBack a w → WritesCells a w
     → OpFits a table names count accesses op → OpText w names op
-op_text_is a w table names count accesses op laws cells fits =
-    let named = named_op op table names count fits.placed fits.next in
-    record {
-      bytes = by_test (is_label_op op)
-          (λ e. label_text op a w names count e cells fits.has fits.next)
-          (λ e. list_all-weaker is_cell_byte is_row_byte cell_on_row (op_text w names op) (cells.cells names op fits.has named e));
-      begins = text_begins a w names op laws fits.has named;
-      row = cells.rows names op fits.has named;
-    }
+op_text_is a w table names count accesses op laws cells fits = grind (arith, named_op, label_text, list_all-weaker, cell_on_row, text_begins)
 
 -- the operations of a thread that fits may be in rows
 pub code_texts : (a : Puts) (w : Writing) (table : List (List ℕ)) (names : ℕ → List ℕ) (count accesses : ℕ) (code : List Micro) → WritesBack a w → WritesCells a w
@@ -174,10 +152,6 @@ tail_of : (f : List (List ℕ) → List ℕ) (xs : List (List (List ℕ))) → T
 tail_of f [] = record { sign = 59; more = []; is = refl; which = inr refl }
 tail_of f (y ∷ ys) = record { sign = 124; more = 32 ∷ ((f y ++ flat_map (λ y. codes " | " ++ f y) ys) ++ codes " ;"); is = refl; which = inl refl }
 
-blank_first : (k : ℕ) (text : List ℕ) → (rest : List ℕ) × (replicate k 32 ++ 32 ∷ text ≡ 32 ∷ rest)
-blank_first zero text = (text, refl)
-blank_first (suc k) text = (replicate k 32 ++ 32 ∷ text, refl)
-
 run_stops : (p : ℕ → Bool) (text : List ℕ) (c : ℕ) (rest : List ℕ) → p c ≡ false → leading_run p (text ++ c ∷ rest) ≡ leading_run p text
 unfolding leading_run
 run_stops p [] c rest h = rw h refl
@@ -186,33 +160,21 @@ run_stops p (b ∷ text) c rest h = by_test (p b) (λ e. rw e (ap (λ t. b ∷ t
 -- a sign begins no word that ends rows
 sign_stays : (sign : ℕ) (more : List ℕ) → (sign ≡ 124) ⊎ (sign ≡ 59) → ends_rows (32 ∷ 32 ∷ sign ∷ more) ≡ false
 unfolding ends_rows leading_run after_run
-sign_stays sign more (inl e) = rw e refl
-sign_stays sign more (inr e) = rw e refl
+sign_stays sign more (x) = grind arith
 
 word_same : (text : List ℕ) (k : ℕ) (tail rest : List ℕ) → Begins text → replicate k 32 ++ tail ≡ 32 ∷ rest → first_word (32 ∷ ((text ++ replicate k 32) ++ tail)) ≡ first_word text
 unfolding after_run
-word_same text k tail rest begins at_tail =
-    let shape : (text ++ replicate k 32) ++ tail ≡ text ++ 32 ∷ rest = append_assoc text (replicate k 32) tail ∙ ap (λ t. text ++ t) at_tail in
-    let alone : unblanked text ≡ text = ap unblanked begins.is ∙ rw begins.inked (sym begins.is) in
-    let prefix : unblanked (text ++ 32 ∷ rest) ≡ text ++ 32 ∷ rest =
-    ap (λ t. unblanked (t ++ 32 ∷ rest)) begins.is ∙ rw begins.inked (ap (λ t. t ++ 32 ∷ rest) (sym begins.is)) in
-    ap (λ t. leading_run is_argument_byte (unblanked t)) shape ∙ ap (leading_run is_argument_byte) prefix ∙ run_stops is_argument_byte text 32 rest refl
-    ∙ ap (leading_run is_argument_byte) (sym alone)
+word_same text k tail rest begins at_tail = grind (arith, append_assoc, run_stops)
 
 keeps_row : (text : List ℕ) (k : ℕ) (tail : List ℕ) → CellText text → Tail tail → ends_rows (32 ∷ ((text ++ replicate k 32) ++ tail)) ≡ false
 unfolding ends_rows after_run
-keeps_row text k tail cell remainder = elim cell.kind [
-  | inl e ↦
-      ap (λ t. ends_rows (32 ∷ ((t ++ replicate k 32) ++ tail))) e ∙ ap (λ t. ends_rows (32 ∷ (replicate k 32 ++ t))) remainder.is
-      ∙ ap (λ t. list_any (bytes_eq (leading_run is_argument_byte t)) keywords) (unblanked_spaces k (32 ∷ remainder.sign ∷ remainder.more))
-      ∙ sign_stays remainder.sign remainder.more remainder.which
-  | inr h ↦
-      (let first = blank_first k (remainder.sign ∷ remainder.more) in
-      ap (λ word. list_any (bytes_eq word) keywords) (word_same text k tail first.0 h.0 (ap (λ t. replicate k 32 ++ t) remainder.is ∙ first.1)) ∙ h.1)
-]
+keeps_row text k tail cell remainder = by cell.kind
   where
     keywords : List (List ℕ)
     keywords = codes "exists" ∷ codes "~exists" ∷ codes "forall" ∷ codes "locations" ∷ []
+
+    by : (text ≡ []) ⊎ (Begins text × (ends_rows text ≡ false)) → ends_rows (32 ∷ ((text ++ replicate k 32) ++ tail)) ≡ false
+    by (x) = grind (arith, unblanked_spaces, sign_stays, word_same)
 
 -- the operations of each thread may be in rows
 abbrev pub AreTexts : Writing → (ℕ → List ℕ) → List ThreadCode → Type 0
@@ -225,10 +187,7 @@ cell_of w places t i h = subst CellText (next_at w (name_in places) t.1.instrs i
 cell_bytes : (w : Writing) (places : List (List ℕ)) (t : ℕ × ThreadCode) (i : ℕ) → AllByRecursion (OpText w (name_in places)) t.1.instrs
     → list_all is_row_byte (cell_text (suc i) (column_of w places t)) ≡ true
 unfolding cell_text
-cell_bytes w places t i h =
-    let text = get_or (column_of w places t) (suc i) [] in
-    all_both is_row_byte text (replicate (width_of (column_of w places t) - length text) 32) (cell_of w places t i h).bytes
-    (spaces_class is_row_byte (width_of (column_of w places t) - length text) refl)
+cell_bytes w places t i h = grind (arith, all_both, cell_of, spaces_class)
 
 all_cells : (w : Writing) (places : List (List ℕ)) (i n : ℕ) (threads : List ThreadCode) → AreTexts w (name_in places) threads
     → AllByRecursion (λ c. list_all is_row_byte (cell_text (suc i) c) ≡ true) (map (column_of w places) (enumerate_from n threads))
@@ -245,8 +204,7 @@ row_on_line b h = (and_parts (is_line_byte b) (not (b == 124 || b == 59)) h).0
 
 more_on_line : (f : List (List ℕ) → List ℕ) (xs : List (List (List ℕ))) → AllByRecursion (λ c. list_all is_row_byte (f c) ≡ true) xs → list_all is_line_byte (flat_map (λ y. codes " | " ++ f y) xs) ≡ true
 more_on_line f [] h = refl
-more_on_line f (y ∷ ys) h =
-    all_both is_line_byte (f y) (flat_map (λ y. codes " | " ++ f y) ys) (list_all-weaker is_row_byte is_line_byte row_on_line (f y) h.0) (more_on_line f ys h.1)
+more_on_line f (y ∷ ys) h = grind (arith, (more_on_line f ys h.1), all_both, list_all-weaker)
 
 -- a row of such cells is a line that isn't passed over
 pub row_line_is : (row : ℕ) (x : List (List ℕ)) (xs : List (List (List ℕ))) → AllByRecursion (λ c. list_all is_row_byte (cell_text row c) ≡ true) (x ∷ xs) → IsLine (row_line (x ∷ xs) row)
@@ -262,10 +220,7 @@ row_line_is row x xs h =
 first_cell : (w : Writing) (places : List (List ℕ)) (i : ℕ) (t : ThreadCode) (more : List ℕ) → CellText (get_or (column_of w places (0, t)) (suc i) []) → Tail (more ++ codes " ;")
     → ends_rows (32 ∷ ((cell_text (suc i) (column_of w places (0, t)) ++ more) ++ codes " ;")) ≡ false
 unfolding cell_text
-first_cell w places i t more cell tail =
-    let text = get_or (column_of w places (0, t)) (suc i) [] in
-    let k = width_of (column_of w places (0, t)) - length text in
-    ap (λ x. ends_rows (32 ∷ x)) (append_assoc (text ++ replicate k 32) more (codes " ;")) ∙ keeps_row text k (more ++ codes " ;") cell tail
+first_cell w places i t more cell tail = grind (arith, append_assoc, keeps_row)
 
 -- a printed row is the row of the threads
 pub row_is_read : (w : Writing) (places : List (List ℕ)) (i : ℕ) (t : ThreadCode) (threads : List ThreadCode) → AreTexts w (name_in places) (t ∷ threads)
@@ -279,8 +234,8 @@ row_is_read w places i t threads h =
     let cells = row_cells f x xs (cells_without 124 f (x ∷ xs) refl bytes) (cells_without 59 f (x ∷ xs) refl bytes) in
     record {
       whole = ap (λ c. c.whole) cells;
-      cells = subst (λ c. AreCells w (name_in places) c.texts (map (at_row i) (t ∷ threads))) (sym cells) (are_cells w places i 0 (t ∷ threads));
-      row = first_cell w places i t (flat_map (λ y. codes " | " ++ f y) xs) (cell_of w places (0, t) i h.0) (tail_of f xs);
+      cells = grind (arith, (are_cells w places i 0 (t ∷ threads)));
+      row = grind (arith, (first_cell w places i t), (cell_of w places (0, t) i h.0), (tail_of f xs));
     }
 
 all_advance_at : (i : ℕ) (threads : List ThreadCode) → map advanced (map (at_row i) threads) ≡ map (at_row (suc i)) threads
@@ -291,25 +246,20 @@ all_advance_at i (t ∷ threads) = rw (advance_at t.instrs i, all_advance_at i t
 pub rows_are_read : (w : Writing) (places : List (List ℕ)) (i count : ℕ) (t : ThreadCode) (threads : List ThreadCode) → AreTexts w (name_in places) (t ∷ threads)
     → AreRows w (name_in places) (map (row_line (columns_of w places (t ∷ threads))) (range_with_len (suc i) count)) (map (at_row i) (t ∷ threads))
 rows_are_read w places i zero t threads h = tt
-rows_are_read w places i (suc count) t threads h = (
-  row_is_read w places i t threads h,
-  subst (λ k. AreRows w (name_in places) (map (row_line (columns_of w places (t ∷ threads))) (range_with_len k count)) (map advanced (map (at_row i) (t ∷ threads)))) (sym (add-one (suc i)))
-      (subst (AreRows w (name_in places) (map (row_line (columns_of w places (t ∷ threads))) (range_with_len (suc (suc i)) count))) (sym (all_advance_at i (t ∷ threads)))
-      (rows_are_read w places (suc i) count t threads h)),
-)
+rows_are_read w places i (suc count) t threads h = search (arith, (rows_are_read w places (suc i) count t threads h), row_is_read, add-one, all_advance_at)
 
 -- the printed rows, from one on, are lines that aren't passed over
 pub rows_are_lines : (w : Writing) (places : List (List ℕ)) (i count : ℕ) (t : ThreadCode) (threads : List ThreadCode) → AreTexts w (name_in places) (t ∷ threads)
     → AllByRecursion IsLine (map (row_line (columns_of w places (t ∷ threads))) (range_with_len (suc i) count))
 rows_are_lines w places i zero t threads h = tt
-rows_are_lines w places i (suc count) t threads h = (
-  row_line_is (suc i) (column_of w places (0, t)) (map (column_of w places) (enumerate_from (0 + 1) threads)) (all_cells w places i 0 (t ∷ threads) h),
-  subst (λ k. AllByRecursion IsLine (map (row_line (columns_of w places (t ∷ threads))) (range_with_len k count))) (sym (add-one (suc i))) (rows_are_lines w places (suc i) count t threads h),
-)
+rows_are_lines w places i (suc count) t threads h =
+    grind (
+      arith,
+      (rows_are_lines w places (suc i) count t threads h),
+      (row_line_is (suc i) (column_of w places (0, t)) (map (column_of w places) (enumerate_from (0 + 1) threads)) (all_cells w places i 0 (t ∷ threads) h)),
+    )
 
 -- after as many rows as the longest thread has operations all of them are read
 pub rows_end : (texts : List (List ℕ)) (i : ℕ) (threads : List ThreadCode) → after_rows texts (map (at_row i) threads) ≡ map (at_row (i + length texts)) threads
 rows_end [] i threads = ap (λ k. map (at_row k) threads) (sym (add-zero i))
-rows_end (text ∷ texts) i threads =
-    let count : suc i + length texts ≡ i + length (text ∷ texts) = omega arith in
-    ap (after_rows texts) (all_advance_at i threads) ∙ rows_end texts (suc i) threads ∙ ap (λ k. map (at_row k) threads) count
+rows_end (text ∷ texts) i threads = grind (arith, (rows_end texts (suc i) threads), all_advance_at)

@@ -22,9 +22,7 @@ use Rattle.litmus_text.proofs.ElementLaws.{numbered_at}
 pub header_cell : (w : Writing) (places : List (List ℕ)) (t : ℕ × ThreadCode) (row : ℕ) (start a b number : List ℕ) → row ≡ 0
     → start ≡ [] → a ≡ start ++ codes "P" → b ≡ a ++ number → number ≡ decimal t.0 → b ≡ get_or (column_of w places t) row []
 unfolding column_of
-header_cell w places t zero start a b number h start_is a_is b_is number_is =
-    b_is ∙ ap (λ x. x ++ number) (a_is ∙ ap (λ x. x ++ codes "P") start_is) ∙ ap (λ x. codes "P" ++ x) number_is
-header_cell w places t (suc row) start a b number h start_is a_is b_is number_is = absurd (omega arith)
+header_cell w places t row start a b number h start_is a_is b_is number_is = grind arith
 
 -- the next cell of a column is an instruction
 pub op_cell : (w : Writing) (places : List (List ℕ)) (t : ℕ × ThreadCode) (row i : ℕ) (op : Micro) (read : List Micro) (text : List ℕ) → row ≡ i + 1 → read ≡ t.1.instrs
@@ -39,7 +37,10 @@ pub no_cell : (w : Writing) (places : List (List ℕ)) (t : ℕ × ThreadCode) (
     → length read ≤ i → text ≡ [] → text ≡ get_or (column_of w places t) row []
 unfolding column_of
 no_cell w places t row i read text e same h text_is =
-    text_is ∙ rw (e, add-one i, ← same) (sym (get_or_past (map (op_text w (name_in places)) read) i [] (omega (arith, length-map read (op_text w (name_in places))))))
+    text_is ∙ rw (e, add-one i, ← same) (sym (get_or_past (map (op_text w (name_in places)) read) i [] (omega (
+      arith,
+      length-map read (op_text w (name_in places)),
+    ))))
 
 -- a column has one text more than the thread has operations
 pub length-column_of : (w : Writing) (places : List (List ℕ)) (t : ℕ × ThreadCode) → length (column_of w places t) ≡ length t.1.instrs + 1
@@ -76,12 +77,16 @@ within_width column i =
 
 -- a cell that is one of a column's texts is no wider than the column
 pub cell_within : (column : List (List ℕ)) (row : ℕ) (cell : List ℕ) (width : ℕ) → cell ≡ get_or column row [] → width ≡ width_of column → length cell ≤ width
-cell_within column row cell width e f = omega (arith, within_width column row, ap length e, f)
+cell_within column row cell width e f = omega (arith, within_width column row, ap length e)
 
 -- the column of a thread is the one at its number
 pub column_at : (w : Writing) (places : List (List ℕ)) (codes : List Code) (i : ℕ) (code : Code) → i < length codes → code ≡ get_or codes i code → get_or (columns_of w places (map thread_code_of codes)) i [] ≡ column_of w places (i, thread_code_of code)
 column_at w places codes i code h is =
-    get_or-map (column_of w places) (enumerate_from 0 (map thread_code_of codes)) i (i, thread_code_of code) [] (omega (arith, length-enumerate_from 0 (map thread_code_of codes), length-map codes thread_code_of))
+    get_or-map (column_of w places) (enumerate_from 0 (map thread_code_of codes)) i (i, thread_code_of code) [] (omega (
+      arith,
+      length-enumerate_from 0 (map thread_code_of codes),
+      length-map codes thread_code_of,
+    ))
     ∙ ap (column_of w places) (numbered_at thread_code_of codes i code (i, thread_code_of code) h ∙ ap (λ c. (i, thread_code_of c)) (sym is))
 
 longest : (w : Writing) (places : List (List ℕ)) (n count : ℕ) (threads : List Code)
@@ -105,7 +110,12 @@ whole_width w places t row width h e =
 -- there are as many columns as threads
 pub length_columns : (w : Writing) (places : List (List ℕ)) (threads : List Code) → length (columns_of w places (map thread_code_of threads)) ≡ length threads
 length_columns w places threads =
-    omega (arith, length-map (enumerate_from 0 (map thread_code_of threads)) (column_of w places), length-enumerate_from 0 (map thread_code_of threads), length-map threads thread_code_of)
+    omega (
+      arith,
+      length-map (enumerate_from 0 (map thread_code_of threads)) (column_of w places),
+      length-enumerate_from 0 (map thread_code_of threads),
+      length-map threads thread_code_of,
+    )
 
 -- one more column has one more width
 pub widths_more : (w : Writing) (places : List (List ℕ)) (threads : List Code) (i : ℕ) (code : Code) (width : ℕ) (old new : List ℕ) → i < length threads → code ≡ get_or threads i code

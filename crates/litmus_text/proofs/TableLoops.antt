@@ -15,7 +15,8 @@ use Rattle.litmus_text.specs.declared.errors.TestKind.TheVariants.{BadTable, Too
 use Rattle.litmus_text.specs.declared.limits.TheConstants.{MAX_THREADS, MAX_ROWS}
 use Rattle.litmus_text.specs.TextLines.{Lines, ends, line, bad}
 use Rattle.text_laws.specs.ReadingSteps.{◌>>=◌}
-use Rattle.litmus_text.specs.TestTable.{Cells, cells_of, is_head, heads_read, Column, Among, among, cell_read, instr_in, instr_or_nothing, before_columns, row_read, rows_read}
+use Rattle.litmus_text.specs.TestTable.{Cells, cells_of, is_head, heads_read, Column, Among, among}
+use Rattle.litmus_text.specs.TableScan.{cell_read, instr_in, instr_or_nothing, before_columns, row_read, rows_scanned}
 
 -- where no cell of the header is left, the threads are counted
 pub heads_end : (n k : ℕ) (whole : Bool) (ps : List (List ℕ)) → ps ≡ [] → heads_read n whole k ps ≡ cond whole (Ok k) (bad BadTable n)
@@ -44,34 +45,21 @@ abbrev pub carried : List Column → Result (Among (List Column)) TextError → 
 carried prefix (Ok s) = Ok (among s.names (prefix ++ s.value))
 carried prefix (Err e) = Err e
 
--- where no column was read before, what is read is as it was
-pub carried_nothing : (r : Result (Among (List Column)) TextError) → carried [] r ≡ r
-carried_nothing (Ok s) = refl
-carried_nothing (Err e) = refl
-
 carried_more : (prefix : List Column) (column : Column) (r : Result (Among (List Column)) TextError) → carried (prefix ++ column ∷ []) r ≡ carried prefix (r >>= λ s. Ok (before_columns column s))
-carried_more prefix column (Ok s) = ap (λ cs. Ok (among s.names cs)) (append_assoc prefix (column ∷ []) s.value)
-carried_more prefix column (Err e) = refl
+carried_more prefix column (x) = grind (arith, append_assoc)
 
 -- after a cell of a row the next cells are read
 pub row_more : (w : Writing) (n : ℕ) (whole : Bool) (ps rest : List (List ℕ)) (cell : List ℕ) (names names' : List (List ℕ)) (cs : List Column) (i : ℕ) (d c' : Column) → i < length cs → ps ≡ cell ∷ rest
     → cell_read w n cell (among names (get_or cs i d)) ≡ Ok (among names' c')
     → carried (take (i + 1) (set cs i c')) (row_read w n whole rest names' (drop (i + 1) (set cs i c'))) ≡ carried (take i cs) (row_read w n whole ps names (drop i cs))
 unfolding row_read
-row_more w n whole ps rest cell names names' cs i d c' inside e h =
-    let t : take (i + 1) (set cs i c') ≡ take i cs ++ c' ∷ [] = take_more_set cs i c' inside in
-    let r : drop (i + 1) (set cs i c') ≡ drop (i + 1) cs = drop-set-lt (i + 1) cs i c' (omega arith) in
-    let s : drop i cs ≡ get_or cs i d ∷ drop (i + 1) cs = rw add-one (drop-cons cs i d inside) in
-    let m = carried_more (take i cs) c' (row_read w n whole rest names' (drop (i + 1) cs)) in
-    rw (t, r, s, e, h) m
+row_more w n whole ps rest cell names names' cs i d c' inside e h = grind (arith, take_more_set, drop-set-lt, drop-cons, carried_more)
 
 -- where a cell of a row is faulty, the row is
 pub row_fails : (w : Writing) (n : ℕ) (whole : Bool) (ps rest : List (List ℕ)) (cell : List ℕ) (names : List (List ℕ)) (cs prefix : List Column) (i : ℕ) (d : Column) (f : TextError) → i < length cs → ps ≡ cell ∷ rest
     → cell_read w n cell (among names (get_or cs i d)) ≡ Err f → carried prefix (row_read w n whole ps names (drop i cs)) ≡ Err f
 unfolding row_read
-row_fails w n whole ps rest cell names cs prefix i d f inside e h =
-    let s : drop i cs ≡ get_or cs i d ∷ drop (i + 1) cs = rw add-one (drop-cons cs i d inside) in
-    rw (s, e, h) refl
+row_fails w n whole ps rest cell names cs prefix i d f inside e h = grind (arith, drop-cons)
 
 -- where a cell of a row is missing, the row is faulty
 pub row_short : (w : Writing) (n : ℕ) (whole : Bool) (ps : List (List ℕ)) (names : List (List ℕ)) (cs prefix : List Column) (i : ℕ) (d : Column) → i < length cs → ps ≡ []
@@ -84,10 +72,7 @@ row_short w n whole ps names cs prefix i d inside e =
 -- where no column is left and the row ends, the columns are read
 pub row_ends : (w : Writing) (n : ℕ) (whole : Bool) (ps : List (List ℕ)) (names : List (List ℕ)) (cs : List Column) (i : ℕ) → i ≡ length cs → row_read w n whole ps names [] ≡ Ok (among names [])
     → carried (take i cs) (row_read w n whole ps names (drop i cs)) ≡ Ok (among names cs)
-row_ends w n whole ps names cs i end e =
-    let s : drop i cs ≡ [] = ap (λ k. drop k cs) end ∙ drop-length cs in
-    let t : take i cs ++ [] ≡ cs = append-nil (take i cs) ∙ (ap (λ k. take k cs) end ∙ take-length cs) in
-    rw (s, e) (ap (λ k. Ok (among names k)) t)
+row_ends w n whole ps names cs i end e = grind (arith, drop-length, append-nil, take-length)
 
 -- where no column is left and the row doesn't end, the row is faulty
 pub row_ends_bad : (w : Writing) (n : ℕ) (whole : Bool) (ps : List (List ℕ)) (names : List (List ℕ)) (cs prefix : List Column) (i : ℕ) (f : TextError) → i ≡ length cs → row_read w n whole ps names [] ≡ Err f
@@ -115,30 +100,30 @@ row_stops w n whole ps rest cell names xs prefix i d f inside e h =
     row_fails w n whole ps rest cell names (map column_seen xs) prefix i (column_seen d) f k e h'
 
 -- where no line is left, the end of the rows is missing
-pub rows_missing : (w : Writing) (k n : ℕ) (s : Among (List Column)) (ls : Lines) → ends n ≡ ls → rows_read w k s ls ≡ bad EndMissing n
-unfolding rows_read
+pub rows_missing : (w : Writing) (k n : ℕ) (s : Among (List Column)) (ls : Lines) → ends n ≡ ls → rows_scanned w k s ls ≡ bad EndMissing n
+unfolding rows_scanned
 rows_missing w k n s ls e = rw (sym e) refl
 
 -- a line that ends the rows ends them
-pub rows_stop : (w : Writing) (k n : ℕ) (s : Among (List Column)) (ls rest : Lines) (text : List ℕ) → line n text rest ≡ ls → ends_rows text ≡ true → rows_read w k s ls ≡ Ok (s, ls)
-unfolding rows_read
+pub rows_stop : (w : Writing) (k n : ℕ) (s : Among (List Column)) (ls rest : Lines) (text : List ℕ) → line n text rest ≡ ls → ends_rows text ≡ true → rows_scanned w k s ls ≡ Ok (s, ls)
+unfolding rows_scanned
 rows_stop w k n s ls rest text e h = rw (sym e, h) refl
 
 -- one row too many is too large
-pub rows_full : (w : Writing) (k n : ℕ) (s : Among (List Column)) (ls rest : Lines) (text : List ℕ) → line n text rest ≡ ls → ends_rows text ≡ false → nat_lt k MAX_ROWS ≡ false → rows_read w k s ls ≡ bad TooLarge n
-unfolding rows_read
+pub rows_full : (w : Writing) (k n : ℕ) (s : Among (List Column)) (ls rest : Lines) (text : List ℕ) → line n text rest ≡ ls → ends_rows text ≡ false → nat_lt k MAX_ROWS ≡ false → rows_scanned w k s ls ≡ bad TooLarge n
+unfolding rows_scanned
 rows_full w k n s ls rest text e h f = rw (sym e, h, f) refl
 
 -- where a row is faulty, the rows are
 pub rows_fail : (w : Writing) (k n : ℕ) (s : Among (List Column)) (ls rest : Lines) (text : List ℕ) (cells : Cells) (f : TextError) → line n text rest ≡ ls → ends_rows text ≡ false → nat_lt k MAX_ROWS ≡ true → cells ≡ cells_of text
-    → row_read w n cells.whole cells.texts s.names s.value ≡ Err f → rows_read w k s ls ≡ Err f
-unfolding rows_read
+    → row_read w n cells.whole cells.texts s.names s.value ≡ Err f → rows_scanned w k s ls ≡ Err f
+unfolding rows_scanned
 rows_fail w k n s ls rest text cells f e h g same r = rw (sym e, h, g, sym same, r) refl
 
 -- after a row the next rows are read
 pub rows_more : (w : Writing) (k n : ℕ) (s s' : Among (List Column)) (ls rest : Lines) (text : List ℕ) (cells : Cells) → line n text rest ≡ ls → ends_rows text ≡ false → nat_lt k MAX_ROWS ≡ true → cells ≡ cells_of text
-    → row_read w n cells.whole cells.texts s.names s.value ≡ Ok s' → rows_read w (k + 1) s' rest ≡ rows_read w k s ls
-unfolding rows_read
+    → row_read w n cells.whole cells.texts s.names s.value ≡ Ok s' → rows_scanned w (k + 1) s' rest ≡ rows_scanned w k s ls
+unfolding rows_scanned
 rows_more w k n s s' ls rest text cells e h g same r = rw (sym e, h, g, sym same, r) refl
 
 -- a number below another passes the test
@@ -157,6 +142,4 @@ label_prefix text prefix remainder p = ap (take (length prefix + 1)) p.parts ∙
 pub cell_labelled : (w : Writing) (n : ℕ) (text prefix remainder : List ℕ) (s s' : Among Column) → Some (prefix, remainder) ≡ cut_at 58 text → CutParts 58 text prefix remainder
     → instr_in w n (take (length prefix + 1) text) s ≡ Ok s' → cell_read w n text s ≡ instr_or_nothing w n remainder s'
 unfolding cell_read
-cell_labelled w n text prefix remainder s s' e p h =
-    let k : instr_in w n (prefix ++ codes ":") s ≡ Ok s' = ap (λ t. instr_in w n t s) (sym (label_prefix text prefix remainder p)) ∙ h in
-    rw (sym e, k) refl
+cell_labelled w n text prefix remainder s s' e p h = grind (arith, label_prefix)

@@ -1,5 +1,5 @@
 -- Reading the terms of a condition as a loop does.
-use Rattle.std.proofs.Common.{◌≡◌, ◌+◌, ◌<◌, ℕ, zero, suc, List, [], ◌∷◌, ◌++◌, Result, Ok, Err, refl, sym, ap, ◌∙◌, arith, append_assoc}
+use Rattle.std.proofs.Common.{◌≡◌, ◌+◌, ◌<◌, ℕ, zero, suc, List, [], ◌∷◌, ◌++◌, Result, Ok, Err, arith, append_assoc}
 use Rattle.final_cond.specs.declared.read.Follow.{Follow}
 use Rattle.final_cond.specs.declared.read.Follow.TheVariants as follows
 use Rattle.final_cond.specs.Conditions.{TermSeen}
@@ -19,41 +19,35 @@ remainder prefix (Err e) = Err e
 
 -- where no term was read before, what is read is as it was
 pub nothing_after : (r : Result TermsRead TextError) → remainder [] r ≡ r
-nothing_after (Ok r) = refl
-nothing_after (Err e) = refl
+nothing_after (x) = grind arith
 
 after_more : (prefix : List TermSeen) (t : TermSeen) (r : Result TermsRead TextError) → remainder (prefix ++ t ∷ []) r ≡ remainder prefix (r >>= λ others. Ok (before_read t others))
-after_more prefix t (Ok r) = ap (λ ts. Ok (record r { terms = ts })) (append_assoc prefix (t ∷ []) r.terms)
-after_more prefix t (Err e) = refl
+after_more prefix t (x) = grind (arith, append_assoc)
 
 -- where a term is faulty, the condition is
 pub stops_at_term : (w : Writing) (here : Setting) (room : ℕ) (s : Mentioned) (text : List ℕ) (prefix : List TermSeen) (e : TextError) (whole : Result TermsRead TextError)
     → term_here w here s text ≡ Err e → remainder prefix (terms_here w here room s text) ≡ whole → whole ≡ Err e
 unfolding terms_here
-stops_at_term w here zero s text prefix e whole h k = sym k ∙ rw h refl
-stops_at_term w here (suc room) s text prefix e whole h k = sym k ∙ rw h refl
+stops_at_term w here room s text prefix e whole h k = grind arith
 
 -- a term too many is too large
 pub stops_at_full : (w : Writing) (here : Setting) (room : ℕ) (s : Mentioned) (text : List ℕ) (prefix : List TermSeen) (t : TermRead) (whole : Result TermsRead TextError)
     → room ≡ 0 → term_here w here s text ≡ Ok t → remainder prefix (terms_here w here room s text) ≡ whole → whole ≡ bad TooLarge here.begins
 unfolding terms_here
-stops_at_full w here zero s text prefix t whole full h k = sym k ∙ rw h refl
-stops_at_full w here (suc room) s text prefix t whole full h k = absurd (omega arith)
+stops_at_full w here room s text prefix t whole full h k = grind arith
 
 -- where what follows a term is faulty, the condition is
 pub stops_at_follow : (w : Writing) (here : Setting) (room : ℕ) (s : Mentioned) (text : List ℕ) (prefix : List TermSeen) (t : TermRead) (f : Fault) (whole : Result TermsRead TextError)
     → 0 < room → term_here w here s text ≡ Ok t → follow_read t.rest ≡ Err f → remainder prefix (terms_here w here room s text) ≡ whole → whole ≡ bad BadCondition here.begins
 unfolding terms_here
-stops_at_follow w here zero s text prefix t f whole more h g k = absurd (omega arith)
-stops_at_follow w here (suc room) s text prefix t f whole more h g k = sym k ∙ rw (h, g) refl
+stops_at_follow w here room s text prefix t f whole more h g k = grind arith
 
 -- where the terms end after one, they are read
 pub ends_at_follow : (w : Writing) (here : Setting) (room : ℕ) (s : Mentioned) (text : List ℕ) (prefix prefix' : List TermSeen) (t : TermRead) (step : Follow) (rest : List ℕ) (whole : Result TermsRead TextError)
     → 0 < room → prefix' ≡ prefix ++ t.term ∷ [] → term_here w here s text ≡ Ok t → follow_read t.rest ≡ Ok (step, rest) → step ≡ follows.End
     → remainder prefix (terms_here w here room s text) ≡ whole → whole ≡ Ok (record { terms = prefix'; state = t.state; rest = rest })
 unfolding terms_here
-ends_at_follow w here zero s text prefix prefix' t step rest whole more f h g d k = absurd (omega arith)
-ends_at_follow w here (suc room) s text prefix prefix' t step rest whole more f h g d k = sym k ∙ rw (h, g, d, f) refl
+ends_at_follow w here room s text prefix prefix' t step rest whole more f h g d k = grind arith
 
 -- where the terms go on after one, the others are read
 pub goes_on : (w : Writing) (here : Setting) (room room' : ℕ) (s : Mentioned) (text : List ℕ) (prefix prefix' : List TermSeen) (t : TermRead) (step : Follow) (rest : List ℕ) (whole : Result TermsRead TextError)
@@ -61,7 +55,4 @@ pub goes_on : (w : Writing) (here : Setting) (room room' : ℕ) (s : Mentioned) 
     → remainder prefix (terms_here w here room s text) ≡ whole → remainder prefix' (terms_here w here room' t.state rest) ≡ whole
 unfolding terms_here
 goes_on w here zero room' s text prefix prefix' t step rest whole more f h g d k = absurd (omega arith)
-goes_on w here (suc room) room' s text prefix prefix' t step rest whole more f h g d k =
-    let n : room' ≡ room = omega arith in
-    let e : remainder prefix (terms_here w here (suc room) s text) ≡ remainder prefix (terms_here w here room t.state rest >>= λ others. Ok (before_read t.term others)) = rw (h, g, d) refl in
-    rw (n, f) (after_more prefix t.term (terms_here w here room t.state rest) ∙ sym e ∙ k)
+goes_on w here (suc room) room' s text prefix prefix' t step rest whole more f h g d k = grind (arith, after_more)

@@ -1,9 +1,8 @@
 -- What a part of a text is that is appended to a page.
-use Rattle.std.proofs.Common.{◌≡◌, ◌≤◌, ◌<◌, ◌+◌, ◌-◌, ℕ, List, [], ◌∷◌, ◌++◌, length, length-append, drop, get_or, map, refl, sym, ap, ◌∙◌, arith, append_assoc, zero-add}
+use Rattle.std.proofs.Common.{◌≡◌, ◌≤◌, ◌<◌, ◌+◌, ◌-◌, ℕ, List, [], ◌∷◌, ◌++◌, length, length-append, drop, get_or, map, refl, sym, ap, arith, append_assoc}
 use Rattle.std.specs.Prelude.{codes, Some, None}
 use Rattle.std.specs.List.{flat_map, enumerate_from, range_with_len}
 use Rattle.std.proofs.lemmas.List.{length-map, get_or-map, drop_more, drop_all}
-use Rattle.std.proofs.lemmas.List.Concat.{flat_map-append}
 use Rattle.std.proofs.lemmas.List.FromFn.{length-enumerate_from, length-range_with_len, get_or-range_with_len}
 use Rattle.diy_io.specs.declared.page.TheConstants.{LINE_ROOM}
 use Rattle.diy_io.specs.Page.{page_after}
@@ -24,24 +23,13 @@ use Rattle.litmus_text.proofs.InitialLaws.{printed_items}
 -- the edges and the opening brace
 edges_text : (w : Writing) (test : TestSeen) → text_from w test (Some Edges) ≡ (with_line_feed (edges_line test.edges) ++ codes "{\n") ++ text_from w test (Some (Items 0))
 unfolding part_lines initial_lines
-edges_text w test =
-    let items = flat_map (λ t. items_lines w test.places t.0 t.1.links) (enumerate_from 0 test.threads) in
-    let rows = rows_from w test 0 in
-    let rest : flat_map with_line_feed ((items ++ codes "}" ∷ []) ++ rows) ≡ flat_map with_line_feed (items ++ codes "}" ∷ rows) = ap (flat_map with_line_feed) (append_assoc items (codes "}" ∷ []) rows) in
-    ap (λ rest. with_line_feed (edges_line test.edges) ++ (codes "{\n" ++ rest)) rest
-    ∙ sym (append_assoc (with_line_feed (edges_line test.edges)) (codes "{\n") (flat_map with_line_feed (items ++ codes "}" ∷ rows)))
+edges_text w test = grind (arith, append_assoc)
 
 -- the part of the edges is their line and the opening brace
 pub edges_put : (w : Writing) (test : TestSeen) (old new piece : List ℕ) → with_line_feed (edges_line test.edges) ++ codes "{\n" ≡ piece → new ≡ page_after old piece → length piece ≤ LINE_ROOM
     → PutsPart w test Edges old new (Some (Items 0))
 unfolding parts_left
-edges_put w test old new piece same put short = record {
-  piece = piece;
-  text = edges_text w test ∙ ap (λ t. t ++ text_from w test (Some (Items 0))) same;
-  page = put;
-  short = short;
-  fewer = omega arith;
-}
+edges_put w test old new piece same put short = grind (arith, edges_text)
 
 -- the text of a test from a part up to another one was appended to a page, with so many bytes left of the room for a line
 pub record PutsParts (w : Writing) (test : TestSeen) (part : TextPart) (old new : List ℕ) (left : ℕ) (next : TextPart) : Type 0 where
@@ -57,36 +45,18 @@ no_parts w test part page left h = record { piece = []; text = refl; page = sym 
 -- one more part was appended
 more_parts : (w : Writing) (test : TestSeen) (part next after : TextPart) (old mid new piece : List ℕ) (left less : ℕ) → PutsParts w test part old mid left next
     → text_from w test (Some next) ≡ piece ++ text_from w test (Some after) → new ≡ page_after mid piece → length piece + less ≤ left → PutsParts w test part old new less after
-more_parts w test part next after old mid new piece left less so_far text put short = record {
-  piece = so_far.piece ++ piece;
-  text = so_far.text ∙ ap (λ t. so_far.piece ++ t) text ∙ sym (append_assoc so_far.piece piece (text_from w test (Some after)));
-  page = put ∙ ap (λ p. page_after p piece) so_far.page ∙ page_more old so_far.piece piece;
-  short = omega (arith, length-append so_far.piece piece, so_far.short);
-}
+more_parts w test part next after old mid new piece left less so_far text put short = grind (arith, append_assoc, page_more, length-append)
 
 -- parts that were appended one after another are put as one, where fewer parts are left after them
 parts_put : (w : Writing) (test : TestSeen) (part next : TextPart) (old new : List ℕ) (left : ℕ) → PutsParts w test part old new left next
     → parts_left w test (Some next) < parts_left w test (Some part) → PutsPart w test part old new (Some next)
-parts_put w test part next old new left so_far fewer = record {
-  piece = so_far.piece;
-  text = so_far.text;
-  page = so_far.page;
-  short = omega (arith, so_far.short);
-  fewer = fewer;
-}
+parts_put w test part next old new left so_far fewer = grind arith
 
 -- the items of a thread
 items_text : (w : Writing) (test : TestSeen) (i : ℕ) (t : ℕ × ThreadCode) → i < length test.threads → get_or (enumerate_from 0 test.threads) i t ≡ t
     → text_from w test (Some (Items i)) ≡ printed_items w test.places t ++ text_from w test (Some (Items (i + 1)))
 unfolding part_lines
-items_text w test i t h is =
-    let lines = λ (t : ℕ × ThreadCode). items_lines w test.places t.0 t.1.links in
-    let all = enumerate_from 0 test.threads in
-    let rest = codes "}" ∷ rows_from w test 0 in
-    let more : drop i all ≡ t ∷ drop (i + 1) all = drop_more all i t (omega (arith, length-enumerate_from 0 test.threads)) ∙ ap (λ t. t ∷ drop (i + 1) all) is in
-    ap (λ left. flat_map with_line_feed (flat_map lines left ++ rest)) more
-    ∙ ap (flat_map with_line_feed) (append_assoc (lines t) (flat_map lines (drop (i + 1) all)) rest)
-    ∙ flat_map-append with_line_feed (lines t) (flat_map lines (drop (i + 1) all) ++ rest)
+items_text w test i t h is = grind (arith, drop_more, length-enumerate_from, append_assoc)
 
 -- the items of one more thread were appended
 pub items_more : (w : Writing) (test : TestSeen) (threads : List Code) (first i : ℕ) (code : Code) (old mid new : List ℕ) (left less : ℕ) → test.threads ≡ map thread_code_of threads
@@ -94,18 +64,19 @@ pub items_more : (w : Writing) (test : TestSeen) (threads : List Code) (first i 
     → new ≡ page_after mid (printed_items w test.places (i, thread_code_of code)) → length (printed_items w test.places (i, thread_code_of code)) + less ≤ left
     → PutsParts w test (Items first) old new less (Items (i + 1))
 items_more w test threads first i code old mid new left less same so_far h is put short =
-    let inside : i < length test.threads = omega (arith, ap length same, length-map threads thread_code_of) in
-    let here : get_or (enumerate_from 0 test.threads) i (i, thread_code_of code) ≡ (i, thread_code_of code) =
-    ap (λ ts. get_or (enumerate_from 0 ts) i (i, thread_code_of code)) same ∙ numbered_at thread_code_of threads i code (i, thread_code_of code) h ∙ ap (λ c. (i, thread_code_of c)) (sym is) in
-    more_parts w test (Items first) (Items i) (Items (i + 1)) old mid new (printed_items w test.places (i, thread_code_of code)) left less so_far
-    (items_text w test i (i, thread_code_of code) inside here) put short
+    grind (
+      arith,
+      (length-map threads thread_code_of),
+      (numbered_at thread_code_of threads i code (i, thread_code_of code) h),
+      (more_parts w test (Items first) (Items i) (Items (i + 1)) old mid new (printed_items w test.places (i, thread_code_of code)) left less so_far),
+      (items_text w test i (i, thread_code_of code)),
+    )
 
 -- the text goes on from the items of a later thread
 pub items_put : (w : Writing) (test : TestSeen) (threads : List Code) (first i : ℕ) (old new : List ℕ) (left : ℕ) → test.threads ≡ map thread_code_of threads
     → PutsParts w test (Items first) old new left (Items i) → first < i → i ≤ length threads → PutsPart w test (Items first) old new (Some (Items i))
 unfolding parts_left
-items_put w test threads first i old new left same so_far later h =
-    parts_put w test (Items first) (Items i) old new left so_far (omega (arith, ap length same, length-map threads thread_code_of))
+items_put w test threads first i old new left same so_far later h = grind (arith, length-map)
 
 -- after the items of the last thread, the closing brace
 pub closing_put : (w : Writing) (test : TestSeen) (threads : List Code) (first i : ℕ) (old mid new : List ℕ) (left : ℕ) → test.threads ≡ map thread_code_of threads
@@ -115,10 +86,9 @@ unfolding parts_left part_lines
 closing_put w test threads first i old mid new left same so_far room h put =
     let lines = λ (t : ℕ × ThreadCode). items_lines w test.places t.0 t.1.links in
     let none : drop i (enumerate_from 0 test.threads) ≡ [] =
-    drop_all i (enumerate_from 0 test.threads) (omega (arith, length-enumerate_from 0 test.threads, ap length same, length-map threads thread_code_of)) in
+    grind (arith, drop_all, length-enumerate_from, length-map) in
     let closed : PutsParts w test (Items first) old new (left - 2) (Row 0) =
-    more_parts w test (Items first) (Items i) (Row 0) old mid new (codes "}\n") left (left - 2) so_far
-    (ap (λ left. flat_map with_line_feed (flat_map lines left ++ codes "}" ∷ rows_from w test 0)) none) put (omega arith) in
+    grind (arith, (more_parts w test (Items first) (Items i) (Row 0) old mid new (codes "}\n"))) in
     parts_put w test (Items first) (Row 0) old new (left - 2) closed (omega arith)
 
 -- a row
@@ -131,10 +101,9 @@ row_text w test row h =
     let rest = cond_text test.cond ∷ [] in
     let inside : row < length numbers = omega (arith, length-range_with_len 0 (row_count columns)) in
     let here : get_or (map (row_line columns) numbers) row [] ≡ row_line columns row =
-    get_or-map (row_line columns) numbers row 0 [] inside ∙ ap (row_line columns) (get_or-range_with_len 0 (row_count columns) row 0 h ∙ zero-add row) in
+    grind (arith, (get_or-map (row_line columns) numbers row 0 [] inside), (get_or-range_with_len 0 (row_count columns) row 0 h)) in
     let more : drop row (map (row_line columns) numbers) ≡ row_line columns row ∷ drop (row + 1) (map (row_line columns) numbers) =
-    drop_more (map (row_line columns) numbers) row [] (omega (arith, inside, length-map numbers (row_line columns)))
-    ∙ ap (λ line. line ∷ drop (row + 1) (map (row_line columns) numbers)) here in
+    grind (arith, drop_more, length-map) in
     ap (λ left. flat_map with_line_feed (left ++ rest)) more
 
 -- one more row was appended
@@ -142,30 +111,17 @@ pub rows_more : (w : Writing) (test : TestSeen) (rows first row : ℕ) (old mid 
     → PutsParts w test (Row first) old mid left (Row row) → row < rows
     → new ≡ page_after mid (with_line_feed (row_line (columns_of w test.places test.threads) row)) → length (with_line_feed (row_line (columns_of w test.places test.threads) row)) + less ≤ left
     → PutsParts w test (Row first) old new less (Row (row + 1))
-rows_more w test rows first row old mid new left less same so_far h put short =
-    more_parts w test (Row first) (Row row) (Row (row + 1)) old mid new (with_line_feed (row_line (columns_of w test.places test.threads) row)) left less so_far
-    (row_text w test row (omega (arith, same))) put short
+rows_more w test rows first row old mid new left less same so_far h put short = grind (arith, more_parts, row_text)
 
 -- the text goes on from a later row
 pub rows_put : (w : Writing) (test : TestSeen) (rows first row : ℕ) (old new : List ℕ) (left : ℕ) → rows ≡ row_count (columns_of w test.places test.threads)
     → PutsParts w test (Row first) old new left (Row row) → first < row → row ≤ rows → PutsPart w test (Row first) old new (Some (Row row))
 unfolding parts_left
-rows_put w test rows first row old new left same so_far later h = parts_put w test (Row first) (Row row) old new left so_far (omega (arith, same))
+rows_put w test rows first row old new left same so_far later h = parts_put w test (Row first) (Row row) old new left so_far (omega arith)
 
 -- the part after the last row is the line of the condition
 pub condition_put : (w : Writing) (test : TestSeen) (rows row : ℕ) (old new : List ℕ) → rows ≡ row_count (columns_of w test.places test.threads) → rows ≤ row
     → new ≡ page_after old (with_line_feed (cond_text test.cond)) → length (with_line_feed (cond_text test.cond)) ≤ LINE_ROOM
     → PutsPart w test (Row row) old new None
 unfolding parts_left part_lines rows_from table_lines
-condition_put w test rows row old new same h put short =
-    let columns = columns_of w test.places test.threads in
-    let lines = map (row_line columns) (range_with_len 0 (row_count columns)) in
-    let none : drop row lines ≡ [] =
-    drop_all row lines (omega (arith, same, length-map (range_with_len 0 (row_count columns)) (row_line columns), length-range_with_len 0 (row_count columns))) in
-    record {
-      piece = with_line_feed (cond_text test.cond);
-      text = ap (λ left. flat_map with_line_feed (left ++ cond_text test.cond ∷ [])) none;
-      page = put;
-      short = short;
-      fewer = omega arith;
-    }
+condition_put w test rows row old new same h put short = grind (arith, drop_all, length-map, length-range_with_len)

@@ -1,12 +1,10 @@
 -- A printed test reads back.
-use Rattle.std.proofs.Common.{◌≡◌, ◌<◌, ◌≤◌, ◌+◌, ◌==◌, ℕ, suc, List, [], ◌∷◌, ◌++◌, Some, Ok, true, false, length, map, max, take, drop, fold, refl, sym, ap, ◌∙◌, subst, arith, append-nil, add-zero, zero-add}
+use Rattle.std.proofs.Common.{◌≡◌, ◌<◌, ◌≤◌, ◌+◌, ◌==◌, ℕ, suc, List, [], ◌∷◌, ◌++◌, Some, Ok, true, false, length, map, max, drop, fold, refl, ap, ◌∙◌, arith, append-nil}
 use Rattle.std.specs.Prelude.{Option, codes}
-use Rattle.std.specs.List.{flat_map, join_by, AllByRecursion, enumerate_from, range_with_len}
-use Rattle.std.proofs.lemmas.Bool.{eqb-true, eq-eqb, ne_eqb, le-ltb}
+use Rattle.std.specs.List.{join_by, AllByRecursion, enumerate_from, range_with_len}
 use Rattle.std.proofs.lemmas.List.{length-map, take_all}
 use Rattle.std.proofs.lemmas.List.FromFn.{length-range_with_len}
 use Rattle.list_laws.proofs.Elements.{all_append}
-use Rattle.list_laws.proofs.Cases.{by_test}
 use Rattle.relax_edges.specs.declared.kinds.ArchName.{ArchName}
 use Rattle.relax_edges.specs.declared.kinds.Value.{Value}
 use Rattle.relax_edges.specs.declared.kinds.Value.TheVariants as values
@@ -19,17 +17,17 @@ use Rattle.arch_trait.specs.Threads.{Puts, ThreadCode}
 use Rattle.arch_trait.specs.Writing.{Writing, WritesBack, op_text, name_in}
 use Rattle.arch_trait.specs.Cells.{WritesCells}
 use Rattle.arch_trait.specs.SeenTests.{TestSeen}
-use Rattle.litmus_text.specs.declared.limits.TheConstants.{MAX_TEXT}
 use Rattle.litmus_text.specs.TextLines.{Lines, ends, line}
 use Rattle.litmus_text.specs.Header.{header_read, quote_read, after_settings}
 use Rattle.litmus_text.specs.InitialState.{Begun, initial_read}
-use Rattle.litmus_text.specs.TestTable.{Column, among, head_read, rows_read, all_labels_judged, no_columns, after_locations}
+use Rattle.litmus_text.specs.TestTable.{Column, among, head_read, all_labels_judged, no_columns, after_locations}
+use Rattle.litmus_text.specs.TableScan.{rows_scanned}
 use Rattle.litmus_text.specs.Condition.{condition_read}
 use Rattle.litmus_text.specs.TestReading.{ThreadRead, values_of_thread, threads_of, lines_read, test_read}
-use Rattle.litmus_text.specs.TestText.{items_lines, initial_lines, column_of, columns_of, row_line, row_count, table_lines, with_line_feed, test_lines, test_text}
+use Rattle.litmus_text.specs.TestText.{initial_lines, column_of, columns_of, row_line, row_count, table_lines, test_lines, test_text}
 use Rattle.litmus_text.specs.Placing.{place_in, op_renumbered}
 use Rattle.litmus_text.specs.TablePlan.{placed_from, column_so_far}
-use Rattle.litmus_text.specs.Progress.{progress, CodeFits, code_lands, column_at}
+use Rattle.litmus_text.specs.Progress.{CodeFits, code_lands, column_at}
 use Rattle.litmus_text.specs.Items.{Link, links_of, links_mention, link_values}
 use Rattle.litmus_text.specs.ReadTerms.{terms_mention}
 use Rattle.litmus_text.specs.Reread.{thread_reread, reread, IsReadable}
@@ -39,6 +37,7 @@ use Rattle.litmus_text.proofs.NamesBack.{within_trans, none_among}
 use Rattle.litmus_text.proofs.InitBack.{initial_back, initial_lines_are, links_there}
 use Rattle.litmus_text.proofs.ItemBack.{links_among}
 use Rattle.litmus_text.proofs.HeadRowBack.{head_back, head_line_is}
+use Rattle.litmus_text.proofs.RowsScanned.{rows_same}
 use Rattle.litmus_text.proofs.RowBack.{IsReady, after_rows, rows_mention, rows_within, rows_among, rows_back}
 use Rattle.litmus_text.proofs.TableBack.{AreTexts, code_texts, at_row, rows_are_read, rows_are_lines, rows_end}
 use Rattle.litmus_text.proofs.LabelBack.{labels_back}
@@ -57,16 +56,16 @@ count_is : (w : Writing) (places : List (List ℕ)) (n count : ℕ) (threads : L
 unfolding longest column_of
 count_is w places n count [] = refl
 count_is w places n count (t ∷ threads) =
-    let size : max (suc count) (length (column_of w places (n, t))) ≡ suc (max count (length t.instrs)) = omega (arith, length-map t.instrs (op_text w (name_in places))) in
+    let size : max (suc count) (length (column_of w places (n, t))) ≡ suc (max count (length t.instrs)) = omega (
+      arith,
+      length-map t.instrs (op_text w (name_in places)),
+    ) in
     ap (λ m. fold (λ count column. max count (length column)) m (map (column_of w places) (enumerate_from (n + 1) threads))) size
     ∙ count_is w places (n + 1) (max count (length t.instrs)) threads
 
 rows_count : (w : Writing) (places : List (List ℕ)) (t : ThreadCode) (threads : List ThreadCode) → row_count (columns_of w places (t ∷ threads)) ≡ suc (longest 0 (t ∷ threads))
 unfolding row_count longest column_of
-rows_count w places t threads =
-    let size : max 0 (length (column_of w places (0, t))) ≡ suc (max 0 (length t.instrs)) = omega (arith, length-map t.instrs (op_text w (name_in places))) in
-    ap (λ m. fold (λ count column. max count (length column)) m (map (column_of w places) (enumerate_from (0 + 1) threads))) size
-    ∙ count_is w places (0 + 1) (max 0 (length t.instrs)) threads
+rows_count w places t threads = grind (arith, length-map, count_is)
 
 -- the table: its header, and the rows of operations
 table_is : (w : Writing) (places : List (List ℕ)) (t : ThreadCode) (threads : List ThreadCode)
@@ -92,38 +91,23 @@ covers count k (t ∷ threads) h = (let more = longest_grows (max count (length 
 
 -- code of which nothing is left out is as it was
 pub drop_none : (code : List Micro) → drop 0 code ≡ code
-drop_none [] = refl
-drop_none (op ∷ code) = refl
-
-take_none : (code : List Micro) → take 0 code ≡ []
-take_none [] = refl
-take_none (op ∷ code) = refl
+drop_none code = grind arith
 
 -- before the first row nothing was read, and the threads are ready for it
 pub start_ready : (a : Puts) (table : List (List ℕ)) (names : ℕ → List ℕ) (n : ℕ) (threads : List ThreadCode) → AllByRecursion (λ t. CodeFits a table names 0 0 t.instrs) threads
     → AllByRecursion (IsReady a table names n n) (map (at_row 0) threads)
 start_ready a table names n [] h = tt
-start_ready a table names n (t ∷ threads) h = (one t h.0, start_ready a table names n threads h.1)
-  where
-    one : (t : ThreadCode) → CodeFits a table names 0 0 t.instrs → IsReady a table names n n (at_row 0 t)
-    one t fits =
-        subst (IsReady a table names n n) (ap (λ d. progress d (drop 0 t.instrs)) (sym (take_none t.instrs)))
-        (subst (λ l. IsReady a table names n n (progress [] l)) (sym (drop_none t.instrs))
-        (record { code = fits; few = omega arith; line = λ h. add-zero n }))
+start_ready a table names n (t ∷ threads) h = grind (arith, (start_ready a table names n threads))
 
 start_columns : (table : List (List ℕ)) (names : ℕ → List ℕ) (n : ℕ) (threads : List ThreadCode) → no_columns (length threads) ≡ map (column_at table names n) (map (at_row 0) threads)
 start_columns table names n [] = refl
-start_columns table names n (t ∷ threads) =
-    ap (λ column. column ∷ no_columns (length threads)) (ap (λ d. column_so_far table names n d) (sym (take_none t.instrs)))
-    ∙ ap (λ rest. column_so_far table names n (take 0 t.instrs) ∷ rest) (start_columns table names n threads)
+start_columns table names n (t ∷ threads) = grind (arith, (start_columns table names n threads))
 
 -- after the last row all was read
 end_columns : (table : List (List ℕ)) (names : ℕ → List ℕ) (n k : ℕ) (threads : List ThreadCode) → AllByRecursion (λ t. length t.instrs ≤ k) threads
     → map (column_at table names n) (map (at_row k) threads) ≡ map (column_so_far table names n) (map (λ t. t.instrs) threads)
 end_columns table names n k [] h = refl
-end_columns table names n k (t ∷ threads) h =
-    ap (λ d. column_so_far table names n d ∷ map (column_at table names n) (map (at_row k) threads)) (take_all k t.instrs h.0)
-    ∙ ap (λ rest. column_so_far table names n t.instrs ∷ rest) (end_columns table names n k threads h.1)
+end_columns table names n k (t ∷ threads) h = grind (arith, (end_columns table names n k threads h.1), take_all)
 
 all_codes : (P : List Micro → Type 0) (threads : List ThreadCode) → AllByRecursion (λ t. P t.instrs) threads → AllByRecursion P (map (λ t. t.instrs) threads)
 all_codes P [] h = tt
@@ -143,8 +127,7 @@ ops_of table names n (op ∷ code) = ap (λ rest. op_renumbered table names op �
 own_values : (table : List (List ℕ)) (names : ℕ → List ℕ) (n : ℕ) (links : List (ℕ × ℕ)) (rest : List Link)
     → values_of_thread n (link_values table names (map (λ link. (n, link)) links ++ rest)) ≡ map (λ link. (link.0, values.Place (place_in table (names link.1)))) links ++ values_of_thread n (link_values table names rest)
 own_values table names n [] rest = refl
-own_values table names n (link ∷ links) rest =
-    rw (eq-eqb n n refl) (ap (λ more. (link.0, values.Place (place_in table (names link.1))) ∷ more) (own_values table names n links rest))
+own_values table names n (link ∷ links) rest = grind (arith, (own_values table names n links rest))
 
 others_values : (table : List (List ℕ)) (names : ℕ → List ℕ) (n m : ℕ) (links : List (ℕ × ℕ)) (rest : List Link) → (m == n) ≡ false
     → values_of_thread n (link_values table names (map (λ link. (m, link)) links ++ rest)) ≡ values_of_thread n (link_values table names rest)
@@ -154,9 +137,7 @@ others_values table names n m (link ∷ links) rest h = rw h (others_values tabl
 later_values : (table : List (List ℕ)) (names : ℕ → List ℕ) (n m : ℕ) (threads : List ThreadCode) → n < m → values_of_thread n (link_values table names (links_of m threads)) ≡ []
 later_values table names n m [] h = refl
 later_values table names n m (t ∷ threads) h =
-    by_test (m == n)
-    (λ e. let same : m ≡ n = eqb-true m n e in absurd (omega arith))
-    (λ e. others_values table names n m t.links (links_of (m + 1) threads) e ∙ later_values table names n (m + 1) threads (omega arith))
+    grind (arith, (later_values table names n (m + 1) threads (omega arith)), (others_values table names n m t.links (links_of (m + 1) threads)))
 
 abbrev made : List (ℕ × Value) → List Micro → ThreadRead
 made init code = record { init = init; code = code }
@@ -168,11 +149,9 @@ values_read : (table : List (List ℕ)) (names : ℕ → List ℕ) (line_number 
 values_read table names m n [] all h = refl
 values_read table names m n (t ∷ threads) all h =
     let own : values_of_thread n all ≡ map (λ link. (link.0, values.Place (place_in table (names link.1)))) t.links =
-    h n (omega arith) ∙ own_values table names n t.links (links_of (n + 1) threads)
-    ∙ ap (λ rest. map (λ link. (link.0, values.Place (place_in table (names link.1)))) t.links ++ rest) (later_values table names n (n + 1) threads (omega arith))
-    ∙ append-nil (map (λ link. (link.0, values.Place (place_in table (names link.1)))) t.links) in
+    grind (arith, (own_values table names n t.links (links_of (n + 1) threads)), (later_values table names n (n + 1) threads (omega arith)), append-nil) in
     let rest = values_read table names m (n + 1) threads all
-    (λ k low. h k (omega arith) ∙ others_values table names k n t.links (links_of (n + 1) threads) (ne_eqb n k (λ e. omega (arith, e)))) in
+    (λ k low. grind (arith, (others_values table names k n t.links (links_of (n + 1) threads)))) in
     ap (λ init. made init (map (λ placed. placed.op) (placed_from table names m t.instrs)) ∷ map (λ c. made (values_of_thread c.0 all) (map (λ placed. placed.op) c.1.ops)) (enumerate_from (n + 1) (map (column_so_far table names m) (map (λ t. t.instrs) threads)))) own
     ∙ ap (λ code. made (map (λ link. (link.0, values.Place (place_in table (names link.1)))) t.links) code ∷ map (λ c. made (values_of_thread c.0 all) (map (λ placed. placed.op) c.1.ops)) (enumerate_from (n + 1) (map (column_so_far table names m) (map (λ t. t.instrs) threads)))) (ops_of table names m t.instrs)
     ∙ ap (λ more. thread_reread table names t ∷ more) rest
@@ -186,11 +165,11 @@ mentions w test =
 -- the parts of a text, one after another
 chain : (arch : ArchName) (w : Writing) (l0 l1 l2 l3 l4 l5 : Lines) (name : List ℕ) (quoted : Option (List ℕ)) (begun : Begun) (count : ℕ) (names table : List (List ℕ)) (columns : List Column) (condition : CondSeen)
     → header_read arch l0 ≡ Ok (name, l1) → quote_read l1 ≡ Ok (quoted, l2) → initial_read w (after_settings l2) ≡ Ok (begun, l3) → head_read begun l3 ≡ Ok (count, l4)
-    → rows_read w 0 (among begun.names (no_columns count)) l4 ≡ Ok (among names columns, l5) → all_labels_judged columns ≡ Ok tt
+    → rows_scanned w 0 (among begun.names (no_columns count)) l4 ≡ Ok (among names columns, l5) → all_labels_judged columns ≡ Ok tt
     → condition_read w count names (after_locations l5) ≡ Ok (record { cond = condition; names = table })
     → lines_read arch w l0 ≡ Ok (record { name = name; quoted = quoted; places = table; threads = threads_of begun columns; cond = condition })
 unfolding lines_read
-chain arch w l0 l1 l2 l3 l4 l5 name quoted begun count names table columns condition e1 e2 e3 e4 e5 e6 e7 = rw (e1, e2, e3, e4, e5, e6, e7) refl
+chain arch w l0 l1 l2 l3 l4 l5 name quoted begun count names table columns condition e1 e2 e3 e4 e5 e6 e7 = rw (e1, e2, e3, e4, rows_same w begun.names count l4 ∙ e5, e6, e7) refl
 
 -- a test by its parts
 abbrev pub seen : List Edge → List (List ℕ) → List ThreadCode → CondSeen → TestSeen
@@ -201,25 +180,22 @@ lines_are : (a : Puts) (arch : ArchName) (w : Writing) (name : List ℕ) (edges 
     → IsReadable a arch w name (seen edges places (t ∷ threads) condition) → AllByRecursion IsLine (test_lines arch w name (seen edges places (t ∷ threads) condition))
 unfolding test_lines
 lines_are a arch w name edges places t threads condition laws cells h =
-    let rows = map (row_line (columns_of w places (t ∷ threads))) (range_with_len 1 (longest 0 (t ∷ threads))) in
-    let texts = all_texts a w places (name_in places) (t ∷ threads) laws cells h.codes in (
-      header_line_is arch name h.named,
-      (
-        edges_line_is edges,
-        all_append IsLine (initial_lines w places (t ∷ threads)) (table_lines (columns_of w places (t ∷ threads)) ++ cond_text condition ∷ [])
-            (initial_lines_are a w places places (t ∷ threads) laws h.links)
-            (subst (λ table. AllByRecursion IsLine (table ++ cond_text condition ∷ [])) (sym (table_is w places t threads)) (
-              head_line_is w places t threads h.threads_few,
-              all_append IsLine rows (cond_text condition ∷ []) (rows_are_lines w places 0 (longest 0 (t ∷ threads)) t threads texts)
-                  (cond_line_is w (length (t ∷ threads)) places condition h.terms, tt),
-            )),
-      ),
+    grind (
+      arith,
+      (all_texts a w places (name_in places) (t ∷ threads) laws cells h.codes),
+      (header_line_is arch name h.named),
+      (edges_line_is edges),
+      (all_append IsLine),
+      (initial_lines_are a w places places (t ∷ threads) laws h.links),
+      (table_is w places t threads),
+      (head_line_is w places t threads h.threads_few),
+      (rows_are_lines w places 0 (longest 0 (t ∷ threads)) t threads),
+      (cond_line_is w (length (t ∷ threads)) places condition h.terms),
     )
 
 settled : (w : Writing) (places : List (List ℕ)) (threads : List ThreadCode) (n : ℕ) (after : ℕ → Lines) → after_settings (before n (initial_lines w places threads) after) ≡ before n (initial_lines w places threads) after
 unfolding initial_lines
-settled w places threads n after =
-    settings_back n [] (before (n + 1) (flat_map (λ t. items_lines w places t.0 t.1.links) (enumerate_from 0 threads) ++ (125 ∷ []) ∷ []) after)
+settled w places threads n after = grind (arith, settings_back)
 
 parts_back : (a : Puts) (arch : ArchName) (w : Writing) (name : List ℕ) (edges : List Edge) (places : List (List ℕ)) (t : ThreadCode) (threads : List ThreadCode) (condition : CondSeen) → WritesBack a w → WritesCells a w
     → IsReadable a arch w name (seen edges places (t ∷ threads) condition)
@@ -246,32 +222,39 @@ parts_back a arch w name edges places t threads condition laws cells h =
     let links_final = within_trans m0 m1 m2 rows_in terms_in in
     let among0 = links_among w places [] names links h.links (none_among places) h.places_few in
     let among1 = rows_among a places names (n + 1) (n + 1) rows ps m0 ready among0 h.places_few in
-    let size : length rows ≡ k = length-map (range_with_len 1 k) (row_line columns) ∙ length-range_with_len 1 k in
+    let size : length rows ≡ k = grind (arith, length-map, length-range_with_len) in
     let few : k ≤ 1024 = longest_bound 0 1024 all (omega arith) h.rows_few in
     let rest : List (List ℕ) = cond_text condition ∷ [] in
     let e3 : initial_read w (after_settings (before 3 (lines ++ (table_lines columns ++ rest)) ends)) ≡ Ok (record { names = m0; values = link_values m2 names links }, before n (table_lines columns ++ rest) ends) =
-    ap (λ l. initial_read w (after_settings l)) (before_append 3 lines (table_lines columns ++ rest) ends)
-    ∙ ap (initial_read w) (settled w places all 3 (λ k. before k (table_lines columns ++ rest) ends))
-    ∙ initial_back a w places m2 places all 3 (λ k. before k (table_lines columns ++ rest) ends) laws h.links (none_among places) h.places_few links_final h.links_single in
+    grind (
+      arith,
+      (before_append 3 lines (table_lines columns ++ rest) ends),
+      (settled w places all 3),
+      (initial_back a w places m2 places all 3),
+      (none_among places),
+    ) in
     let e4 : head_read (record { names = m0; values = link_values m2 names links }) (before n (table_lines columns ++ rest) ends) ≡ Ok (length all, before (n + 1) (rows ++ rest) ends) =
-    ap (λ table. head_read (record { names = m0; values = link_values m2 names links }) (before n (table ++ rest) ends)) (table_is w places t threads)
-    ∙ head_back w places n t threads (record { names = m0; values = link_values m2 names links }) (before (n + 1) (rows ++ rest) ends) h.threads_few
-    (links_there m2 names 0 (length all) all (omega arith)) in
-    let e5 : rows_read w 0 (among m0 (no_columns (length all))) (before (n + 1) (rows ++ rest) ends)
+    grind (
+      arith,
+      (table_is w places t threads),
+      (head_back w places n t threads (record { names = m0; values = link_values m2 names links }) (before (n + 1) (rows ++ rest) ends) h.threads_few (links_there m2 names 0 (length all) all (omega arith))),
+    ) in
+    let e5 : rows_scanned w 0 (among m0 (no_columns (length all))) (before (n + 1) (rows ++ rest) ends)
     ≡ Ok (among m1 (map (column_at m2 names (n + 1)) (after_rows rows ps)), line ((n + 1) + length rows) (cond_text condition) (ends (((n + 1) + length rows) + 1))) =
-    ap (λ c. rows_read w 0 (among m0 c) (before (n + 1) (rows ++ rest) ends)) (start_columns m2 names (n + 1) all)
-    ∙ ap (rows_read w 0 (among m0 (map (column_at m2 names (n + 1)) ps))) (before_append (n + 1) rows rest ends)
-    ∙ rows_back a w places m2 names (n + 1) (n + 1) 0 rows ps m0 (λ k. before k rest ends) ((n + 1) + length rows) (cond_text condition) (ends (((n + 1) + length rows) + 1)) refl (cond_ends condition)
-    laws cells (rows_are_read w places 0 k t threads texts) ready among0 h.places_few rows_final (omega arith) in
+    grind (
+      arith,
+      (start_columns m2 names (n + 1) all),
+      (before_append (n + 1) rows rest ends),
+      (rows_back a w places m2 names (n + 1) (n + 1) 0 rows ps m0),
+      (cond_ends condition),
+      (rows_are_read w places 0),
+    ) in
     let done : map (column_at m2 names (n + 1)) (after_rows rows ps) ≡ map (column_so_far m2 names (n + 1)) (map (λ t. t.instrs) all) =
-    ap (map (column_at m2 names (n + 1))) (rows_end rows 0 all)
-    ∙ ap (λ i. map (column_at m2 names (n + 1)) (map (at_row i) all)) (zero-add (length rows) ∙ size)
-    ∙ end_columns m2 names (n + 1) k all (covers 0 k all (omega arith)) in
+    grind (arith, (rows_end rows 0 all), (end_columns m2 names (n + 1) k all (covers 0 k all (omega arith)))) in
     let e6 : all_labels_judged (map (column_at m2 names (n + 1)) (after_rows rows ps)) ≡ Ok tt =
     ap all_labels_judged done ∙ labels_back m2 names (n + 1) (map (λ t. t.instrs) all) (all_codes (λ code. code_lands code code ≡ true) all h.lands) in
     let e7 : condition_read w (length all) m1 (after_locations (line ((n + 1) + length rows) (cond_text condition) (ends (((n + 1) + length rows) + 1)))) ≡ Ok (record { cond = condition; names = m2 }) =
-    ap (condition_read w (length all) m1) (no_locations condition ((n + 1) + length rows) (ends (((n + 1) + length rows) + 1)))
-    ∙ condition_back w (length all) places m1 condition ((n + 1) + length rows) (((n + 1) + length rows) + 1) h.terms_some h.terms_few h.terms among1 h.places_few in
+    grind (arith, no_locations, condition_back) in
     let values = values_read m2 names (n + 1) 0 all (link_values m2 names links) (λ k low. refl) in
     chain arch w _ _ _ _ _ _ name (Some (join_by word_of (codes " ") edges)) (record { names = m0; values = link_values m2 names links }) (length all) m1 m2 (map (column_at m2 names (n + 1)) (after_rows rows ps)) condition
     (header_back arch name 1 _ h.named) (quote_back edges 2 _) e3 e4 e5 e6 e7
@@ -284,7 +267,4 @@ pub whole_back : (a : Puts) (arch : ArchName) (w : Writing) (name : List ℕ) (e
     → test_read arch w (test_text arch w name (seen edges places threads condition)) ≡ Ok (reread (mentions w (seen edges places threads condition)) name (seen edges places threads condition))
 unfolding test_read test_text
 whole_back a arch w name edges places [] condition laws cells h = let none = h.threads_some in absurd (omega arith)
-whole_back a arch w name edges places (t ∷ threads) condition laws cells h =
-    let lines = test_lines arch w name (seen edges places (t ∷ threads) condition) in
-    rw (le-ltb MAX_TEXT (length (flat_map with_line_feed lines)) h.short)
-    (ap (lines_read arch w) (lines_back 1 lines (lines_are a arch w name edges places t threads condition laws cells h)) ∙ parts_back a arch w name edges places t threads condition laws cells h)
+whole_back a arch w name edges places (t ∷ threads) condition laws cells h = grind (arith, lines_back, lines_are, parts_back)

@@ -9,6 +9,7 @@ pub mod Header
 pub mod Joined
 pub mod InitialState
 pub mod TestTable
+pub mod TableScan
 pub mod Runnable
 pub mod Condition
 pub mod ConditionScan

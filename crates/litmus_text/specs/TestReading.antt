@@ -14,7 +14,7 @@ use Rattle.litmus_text.specs.TextLines.{Lines, lines_from, bad}
 use Rattle.text_laws.specs.ReadingSteps.{◌>>=◌}
 use Rattle.litmus_text.specs.Header.{header_read, quote_read, after_settings, arch_read}
 use Rattle.litmus_text.specs.InitialState.{Begun, initial_read}
-use Rattle.litmus_text.specs.TestTable.{Column, head_read, rows_read, all_labels_judged, no_columns, among, after_locations}
+use Rattle.litmus_text.specs.TestTable.{Column, head_read, rows_read, all_labels_judged, after_locations}
 use Rattle.litmus_text.specs.Condition.{condition_read}
 
 -- a thread: its initial values in order, and its operations
@@ -46,7 +46,7 @@ lines_read arch w lines = do
   quote ← quote_read header.1
   initial ← initial_read w (after_settings quote.1)
   head ← head_read initial.0 initial.1
-  rows ← rows_read w 0 (among initial.0.names (no_columns head.0)) head.1
+  rows ← rows_read w initial.0.names head.0 head.1
   judged ← all_labels_judged rows.0.value
   condition ← condition_read w head.0 rows.0.names (after_locations rows.1)
   Ok (record {

@@ -32,7 +32,8 @@ use Rattle.litmus_text.specs.declared.errors.TextError.{TextError}
 use Rattle.litmus_text.specs.ReadingAnswers.{GivesTest}
 use Rattle.litmus_text.specs.Joined.{Joined}
 use Rattle.litmus_text.specs.InitialState.{Worth, a_number, a_place, InitialItem, empty, gives, zero_at, Begun, items_read, initial_read, Braced, closed, open_to}
-use Rattle.litmus_text.specs.TestTable.{Cells, Column, Among, among, no_columns, row_read, rows_read, head_read, all_labels_judged, after_locations}
+use Rattle.litmus_text.specs.TestTable.{Cells, Column, Among, among, rows_read, head_read, all_labels_judged, after_locations}
+use Rattle.litmus_text.specs.TableScan.{row_read}
 use Rattle.litmus_text.specs.Condition.{Setting, CondRead, condition_read}
 use Rattle.litmus_text.specs.ConditionScan.{Mentioned, TermRead, TermsRead, terms_here}
 use Rattle.litmus_text.specs.TestReading.{TestRead, threads_of}
@@ -199,7 +200,7 @@ rest_read w name quoted begun columns threads names ls = do
 -- a test, from the rows of its table on
 unfoldable pub table_read : Writing → List ℕ → Option (List ℕ) → Begun → ℕ → Lines → Result TestRead TextError
 table_read w name quoted begun threads ls = do
-  rows ← rows_read w 0 (among begun.names (no_columns threads)) ls
+  rows ← rows_read w begun.names threads ls
   judged ← all_labels_judged rows.0.value
   rest_read w name quoted begun rows.0.value threads rows.0.names rows.1
 

@@ -1,7 +1,8 @@
 ghost use Rattle.std.specs.Prelude.{◌≡◌, map, length, count_by, IfOk};
 ghost use Rattle.arch_trait.specs.Cells.{is_access, ends_rows};
 ghost use Rattle.litmus_text.specs.ReadingAnswers.{GivesInMemory};
-ghost use Rattle.litmus_text.specs.TestTable.{no_columns, fits_in_column, instr_in, instr_or_nothing, cell_read, rows_read, after_locations};
+ghost use Rattle.litmus_text.specs.TestTable.{no_columns, fits_in_column, after_locations};
+ghost use Rattle.litmus_text.specs.TableScan.{instr_in, instr_or_nothing, cell_read, rows_scanned};
 ghost use Rattle.litmus_text.specs.Views.{text_left, pieces_left, cells_read, column_among, columns_among, columns_before, column_seen, EndsRow};
 
 use crate::errors::{ReadError, TestKind, TextError, error_at_line};
@@ -58,7 +59,7 @@ fn fits_in_column(column: &Column, op: &Micro) -> bool
 }
 
 /// Reads an instruction in a line.
-#[tactic(auto, unfolding(crate::specs::TestTable::instr_in))]
+#[tactic(auto, unfolding(crate::specs::TableScan::instr_in))]
 fn read_instr<A: Arch>(
     number: u64,
     text: &[u8],
@@ -103,7 +104,7 @@ fn read_instr_or_nothing<A: Arch>(
 }
 
 /// Reads a cell: nothing, an instruction, `L:`, or `L:` and an instruction.
-#[tactic(auto, unfolding(crate::specs::TestTable::cell_read))]
+#[tactic(auto, unfolding(crate::specs::TableScan::cell_read))]
 fn read_one_cell<A: Arch>(
     number: u64,
     text: &[u8],
@@ -122,7 +123,7 @@ fn read_one_cell<A: Arch>(
 }
 
 /// Judges the end of a row after its last column: no cell is left, and the row is whole.
-#[tactic(auto, unfolding(crate::specs::TestTable::row_read))]
+#[tactic(auto, unfolding(crate::specs::TableScan::row_read))]
 fn judge_end(number: u64, pieces: Pieces<'_>, is_whole: bool) -> Result<(), TextError>
     ensures { EndsRow number is_whole (pieces_left pieces.entry) result }
 {
@@ -175,7 +176,7 @@ pub(crate) fn read_rows<'a, A: Arch>(
     names: &mut Places,
     columns: &mut [Column],
 ) -> Result<Text<'a>, ReadError>
-    ensures { GivesInMemory (columns_before names.new columns.new) result (rows_read A.writing 0 (columns_among names.old columns.old) (text_left text.entry)) }
+    ensures { GivesInMemory (columns_before names.new columns.new) result (rows_scanned A.writing 0 (columns_among names.old columns.old) (text_left text.entry)) }
 {
     let mut left = text;
     let mut rows = 0;

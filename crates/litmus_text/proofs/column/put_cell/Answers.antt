@@ -23,5 +23,8 @@ returns-in-Some g c =
 pub returns-then-row-len : goal.returns-then-row-len
 returns-then-row-len g c =
     let column = column_of g.A.Arch.writing c.args.places.now (c.args.thread, thread_code_of c.args.code.now) in
-    let none = get_or_past column c.args.row [] (omega (arith, length-column_of g.A.Arch.writing c.args.places.now (c.args.thread, thread_code_of c.args.code.now))) in
+    let none = get_or_past column c.args.row [] (omega (
+      arith,
+      length-column_of g.A.Arch.writing c.args.places.now (c.args.thread, thread_code_of c.args.code.now),
+    )) in
     same_cell _ _ _ _ _ _ (c.default.ensures ∙ sym none) c.put.ensures

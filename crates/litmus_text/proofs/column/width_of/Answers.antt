@@ -20,7 +20,10 @@ returns-clause-kept g c =
 pub loop-row-preserved : goal.loop-row-preserved
 loop-row-preserved g c =
     let w = g.A.Arch.writing in
-    let inside : c.loop-row.row < length (column_of w c.args.places.now (c.args.thread, thread_code_of c.args.code.now)) = omega (arith, length-column_of w c.args.places.now (c.args.thread, thread_code_of c.args.code.now)) in
+    let inside : c.loop-row.row < length (column_of w c.args.places.now (c.args.thread, thread_code_of c.args.code.now)) = omega (
+      arith,
+      length-column_of w c.args.places.now (c.args.thread, thread_code_of c.args.code.now),
+    ) in
     record {
       widest = wider (column_of w c.args.places.now (c.args.thread, thread_code_of c.args.code.now)) c.loop-row.row c.loop-row.width _ _ inside c.set_cell.ensures c.loop-row.invariant.widest c.widen-width.ensures.value;
       short = c.widen-width.ensures.short c.loop-row.invariant.short;

@@ -22,7 +22,10 @@ loop-thread-preserved g c =
     record {
       put =
           one_text_put _ _ _ _ _ _ (columns_of g.A.Arch.writing c.args.places.now (map thread_code_of c.args.threads.now)) i [] _
-          (omega (arith, length_columns w c.args.places.now c.args.threads.now)) c.loop-thread.invariant.put text c.put_cell.ensures.put c.put_cell.ensures.short;
+          (omega (
+            arith,
+            length_columns w c.args.places.now c.args.threads.now,
+          )) c.loop-thread.invariant.put text c.put_cell.ensures.put c.put_cell.ensures.short;
       first = first_more w c.args.places.now c.args.threads.now i code c.loop-thread.first _ (omega arith) c.index-threads-thread.is c.loop-thread.invariant.first (omega arith);
       near = omega (arith, c.loop-thread.invariant.near);
     }
