@@ -1,19 +1,13 @@
 -- What a summer keeps, fed piece by piece.
 use Rattle.std.proofs.Common.{◌≡◌, ◌<◌, ◌≤◌, ℕ, ◌+◌, List, [], ◌∷◌, ◌++◌, Some, None, true, false, length, refl, sym, ap, ◌∙◌, arith, append_assoc, length-append, subst}
-use Rattle.std.specs.Prelude.{Option, Result, Ok, Err, OnOk, nat_lt, ◌==◌}
-use Rattle.std.proofs.lemmas.Bool.Decides.{nat_tests}
-use Rattle.list_laws.proofs.Cases.{by_test}
+use Rattle.std.specs.Prelude.{Result, Ok, Err, OnOk, nat_lt, ◌==◌}
 use Rattle.log_sum.specs.declared.errors.Fault.{Fault}
 use Rattle.log_sum.specs.declared.errors.Fault.TheVariants.{Wrong, NoMemory}
 use Rattle.log_sum.specs.declared.errors.LogError.{LogError}
-use Rattle.log_sum.specs.declared.errors.LogKind.{LogKind}
 use Rattle.log_sum.specs.declared.errors.LogKind.TheVariants.{LineTooLong}
 use Rattle.log_sum.specs.declared.errors.SumError.{SumError}
 use Rattle.log_sum.specs.declared.kinds.Place.{Place}
-use Rattle.log_sum.specs.declared.kinds.Place.TheVariants.{Outside, Histogram, States, Judgement, Rest, Conditioned}
-use Rattle.log_sum.specs.Facts.{Fact, facts_of, fact_fault}
-use Rattle.log_sum.specs.LogLines.{Said, log_line_said, fact_said, test_after, place_after}
-use Rattle.log_sum.specs.LogReading.{LogSeen, fault_at, is_too_long, nothing_seen, fact_put, fact_judged, said_to, said_put, at_next_line, next_line, text_judged, line_judged, lines_judged, rest_judged, bytes_judged, last_judged, end_at, end_judged, file_judged, files_judged, input_judged}
+use Rattle.log_sum.specs.LogReading.{LogSeen, fault_at, is_too_long, nothing_seen, text_judged, line_judged, lines_judged, rest_judged, bytes_judged, last_judged, end_at, end_judged, file_judged, files_judged, input_judged}
 use Rattle.text_laws.specs.ReadingSteps.{◌>>=◌}
 use Rattle.text_laws.specs.Lines.{without_return, whole_lines, unended}
 use Rattle.log_sum.specs.Representing.{SumProgress, Kept, Represents, FedTo, EndedTo}
@@ -22,6 +16,7 @@ use Rattle.log_sum.proofs.ReadingLaws.{is_one_line, so_far, so_far_more, so_far_
 use Rattle.log_sum.proofs.SumLaws.{none_marked}
 use Rattle.log_sum.proofs.FollowLaws.{entry_marked}
 use Rattle.log_sum.proofs.StayLaws.{input_fault, nothing_more}
+use Rattle.log_sum.proofs.Grammar.{judged_text}
 
 -- what one step and then another give
 pub record Middle {A B : Type 0} (r : Result A LogError) (next : A → Result B LogError) (y : B) : Type 0 where
@@ -31,37 +26,15 @@ pub record Middle {A B : Type 0} (r : Result A LogError) (next : A → Result B 
 
 -- where both have no fault, the first gives something
 pub middle_of : {A B : Type 0} (r : Result A LogError) (next : A → Result B LogError) (y : B) → (r >>= next) ≡ Ok y → Middle r next y
-middle_of (Ok x) next y h = record { middle = x; is = refl; then = h }
-middle_of (Err error) next y h = cc
-
--- what is read has one mark for each state
-fact_marked : (seen next : LogSeen) (fact : Option Fact) → AreMarked seen.entries → fact_put seen fact ≡ Ok next → AreMarked next.entries
-fact_marked seen next None m h = let e : seen ≡ next = cc in subst (λ (s : LogSeen). AreMarked s.entries) e m
-fact_marked seen next (Some fact) m h = by_fault (fact_fault (facts_of seen.test seen.entries) fact) refl h
-  where
-    by_fault : (o : Option LogKind) → fact_fault (facts_of seen.test seen.entries) fact ≡ o → fact_judged seen fact o ≡ Ok next → AreMarked next.entries
-    by_fault None e h =
-        let f : record seen { entries = seen.entries ++ (record { test = seen.test; fact = fact }) ∷ [] } ≡ next = cc in
-        subst (λ (s : LogSeen). AreMarked s.entries) f (entry_marked seen.entries seen.test fact m e)
-    by_fault (Some kind) e h = cc
+middle_of r next y h = grind arith
 
 text_marked : (seen next : LogSeen) (text : List ℕ) → AreMarked seen.entries → text_judged seen text ≡ Ok next → AreMarked next.entries
 unfolding text_judged
-text_marked seen next text m h = by_said (log_line_said seen.place text) h
-  where
-    by_said : (s : Result Said LogKind) → said_put seen s ≡ Ok next → AreMarked next.entries
-    by_said (Err kind) h = cc
-    by_said (Ok said) h =
-        let b = middle_of (said_to seen said) at_next_line next h in
-        let k = fact_marked (record seen { test = test_after seen.test said; place = place_after seen.place said }) b.middle (fact_said said) m b.is in
-        let c = b.then in
-        let e : record b.middle { line = next_line b.middle.line } ≡ next = cc in
-        subst (λ (s : LogSeen). AreMarked s.entries) e k
+text_marked seen next text m h = grind (arith, entry_marked)
 
 line_marked : (seen next : LogSeen) (line : List ℕ) → AreMarked seen.entries → line_judged seen line ≡ Ok next → AreMarked next.entries
 unfolding line_judged
-line_marked seen next line m h =
-    by_test (is_too_long line) (λ e. let k = rw e at h in absurd (cc)) (λ e. text_marked seen next (without_return line) m (rw e at h))
+line_marked seen next line m h = grind (arith, text_marked)
 
 lines_marked : (seen next : LogSeen) (lines : List (List ℕ)) → AreMarked seen.entries → lines_judged seen lines ≡ Ok next → AreMarked next.entries
 lines_marked seen next [] m h = let e : seen ≡ next = cc in subst (λ (s : LogSeen). AreMarked s.entries) e m
@@ -72,23 +45,14 @@ lines_marked seen next (line ∷ lines) m h =
 -- a line that goes on adds nothing
 pub rest_same : (seen next : LogSeen) (line : List ℕ) → rest_judged seen line ≡ Ok next → seen ≡ next
 unfolding rest_judged
-rest_same seen next line h =
-    by_test (is_too_long line) (λ e. let k = rw e at h in absurd (cc)) (λ e. let k = rw e at h in cc)
+rest_same seen next line h = grind arith
 
 last_marked : (seen next : LogSeen) (line : List ℕ) → AreMarked seen.entries → last_judged seen line ≡ Ok next → AreMarked next.entries
 unfolding last_judged
-last_marked seen next [] m h = let e : seen ≡ next = cc in subst (λ (s : LogSeen). AreMarked s.entries) e m
-last_marked seen next (byte ∷ line) m h =
-    by_test (is_too_long (byte ∷ line)) (λ e. let k = rw e at h in absurd (cc)) (λ e. text_marked seen next (byte ∷ line) m (rw e at h))
+last_marked seen next line m h = grind (arith, text_marked)
 
 end_marked : (seen next : LogSeen) (place : Place) → AreMarked seen.entries → end_at seen place ≡ Ok next → AreMarked next.entries
-end_marked seen next Outside m h =
-    let e : record { entries = seen.entries; test = []; place = Outside; line = 1 } ≡ next = cc in subst (λ (s : LogSeen). AreMarked s.entries) e m
-end_marked seen next (Histogram kind) m h = cc
-end_marked seen next (States kind left) m h = cc
-end_marked seen next (Judgement kind) m h = cc
-end_marked seen next (Rest kind) m h = cc
-end_marked seen next (Conditioned kind) m h = cc
+end_marked seen next place m h = grind arith
 
 file_marked : (seen next : LogSeen) (bytes : List ℕ) → AreMarked seen.entries → file_judged seen bytes ≡ Ok next → AreMarked next.entries
 unfolding file_judged
@@ -105,20 +69,11 @@ files_marked seen next (file ∷ files) m h =
 
 input_marked : (next : LogSeen) (files : List (List ℕ)) (bytes : List ℕ) → input_judged files bytes ≡ Ok next → AreMarked next.entries
 unfolding input_judged bytes_judged
-input_marked next files bytes h =
-    let a = middle_of (files_judged nothing_seen files) (λ x. bytes_judged x bytes) next h in
-    let b = middle_of (lines_judged a.middle (whole_lines bytes)) (λ x. rest_judged x (unended bytes)) next a.then in
-    subst (λ (s : LogSeen). AreMarked s.entries) (rest_same b.middle next (unended bytes) b.then)
-    (lines_marked a.middle b.middle (whole_lines bytes) (files_marked nothing_seen a.middle files (λ name. none_marked) a.is) b.is)
+input_marked next files bytes h = grind (arith, rest_same, lines_marked, files_marked, none_marked)
 
 -- what represents an input follows its reading
 pub represents_follows : (kept : Kept) (files : List (List ℕ)) (bytes : List ℕ) (s : Represents kept files bytes) → FollowsSeen kept.progress s.seen
 represents_follows kept files bytes s = record { reading = s.reading; marked = input_marked s.seen files bytes s.judged }
-
-lines_ok : (seen : LogSeen) (files : List (List ℕ)) (bytes : List ℕ) → input_judged files bytes ≡ Ok seen → so_far files bytes ≡ Ok seen
-lines_ok seen files bytes h =
-    let b = middle_of (so_far files bytes) (λ x. rest_judged x (unended bytes)) seen (sym (input_by_lines files bytes) ∙ h) in
-    b.is ∙ ap Ok (rest_same b.middle seen (unended bytes) b.then)
 
 rest_nothing : (seen : LogSeen) → rest_judged seen [] ≡ Ok seen
 unfolding rest_judged
@@ -136,130 +91,83 @@ no_prefix (b ∷ prefix) rest h = absurd (cc)
 
 line_after : (old : Kept) (files : List (List ℕ)) (bytes prefix : List ℕ) (s : Represents old files bytes) → is_one_line prefix ≡ true
     → so_far files ((bytes ++ prefix) ++ 10 ∷ []) ≡ line_judged s.seen (old.held ++ prefix)
-line_after old files bytes prefix s one =
-    so_far_ended files (bytes ++ prefix)
-    ∙ ap (λ (r : Result LogSeen LogError). r >>= (λ next. line_judged next (unended (bytes ++ prefix)))) (so_far_more files bytes prefix one ∙ lines_ok s.seen files bytes s.judged)
-    ∙ ap (line_judged s.seen) (rest_more bytes prefix one ∙ ap (λ t. t ++ prefix) (sym s.held))
+line_after old files bytes prefix s one = grind (arith, so_far_ended, so_far_more, rest_more, input_by_lines, rest_same)
 
 -- a line that was read without a fault is represented with the input before it
 pub line_fed : (old new : Kept) (files : List (List ℕ)) (bytes prefix : List ℕ) (s : Represents old files bytes) → is_one_line prefix ≡ true → ReadOn new.progress (line_judged s.seen (old.held ++ prefix))
     → new.held ≡ [] → new.refusal ≡ old.refusal → Represents new files (bytes ++ (prefix ++ 10 ∷ []))
 line_fed old new files bytes prefix s one h held refusal =
-    let whole : (bytes ++ prefix) ++ 10 ∷ [] ≡ bytes ++ (prefix ++ 10 ∷ []) = append_assoc bytes prefix (10 ∷ []) in
-    subst (λ (t : List ℕ). Represents new files t) whole (record {
-      seen = h.seen;
-      judged = input_by_lines files ((bytes ++ prefix) ++ 10 ∷ [])
-          ∙ ap (λ (r : Result LogSeen LogError). r >>= (λ next. rest_judged next (unended ((bytes ++ prefix) ++ 10 ∷ [])))) (line_after old files bytes prefix s one ∙ h.is)
-          ∙ ap (rest_judged h.seen) (rest_ended (bytes ++ prefix)) ∙ rest_nothing h.seen;
-      reading = h.follows.reading;
-      held = held ∙ sym (rest_ended (bytes ++ prefix));
-      going = refusal ∙ s.going;
-      in_order = λ h. absurd (some_end (bytes ++ prefix) 10 h);
-    })
+    grind (
+      arith,
+      (append_assoc bytes prefix (10 ∷ [])),
+      (input_by_lines files ((bytes ++ prefix) ++ 10 ∷ [])),
+      (line_after old files bytes prefix s one),
+      (rest_ended (bytes ++ prefix)),
+      rest_nothing,
+      (some_end (bytes ++ prefix) 10),
+    )
 
 -- the fault of a line is that of the input up to it
 pub line_faulty : (old : Kept) (files : List (List ℕ)) (bytes prefix : List ℕ) (error : LogError) (s : Represents old files bytes) → is_one_line prefix ≡ true → line_judged s.seen (old.held ++ prefix) ≡ Err error
     → input_judged files (bytes ++ (prefix ++ 10 ∷ [])) ≡ Err error
 line_faulty old files bytes prefix error s one h =
-    let whole : (bytes ++ prefix) ++ 10 ∷ [] ≡ bytes ++ (prefix ++ 10 ∷ []) = append_assoc bytes prefix (10 ∷ []) in
-    ap (input_judged files) (sym whole) ∙ input_by_lines files ((bytes ++ prefix) ++ 10 ∷ [])
-    ∙ ap (λ (r : Result LogSeen LogError). r >>= (λ next. rest_judged next (unended ((bytes ++ prefix) ++ 10 ∷ [])))) (line_after old files bytes prefix s one ∙ h)
-
--- a part of a line, after the input that is represented
-part_after : (old : Kept) (files : List (List ℕ)) (bytes part : List ℕ) (s : Represents old files bytes) → is_one_line part ≡ true
-    → input_judged files (bytes ++ part) ≡ rest_judged s.seen (old.held ++ part)
-part_after old files bytes part s one =
-    input_by_lines files (bytes ++ part)
-    ∙ ap (λ (r : Result LogSeen LogError). r >>= (λ next. rest_judged next (unended (bytes ++ part)))) (so_far_more files bytes part one ∙ lines_ok s.seen files bytes s.judged)
-    ∙ ap (rest_judged s.seen) (rest_more bytes part one ∙ ap (λ t. t ++ part) (sym s.held))
+    cc ((append_assoc bytes prefix (10 ∷ [])), (input_by_lines files ((bytes ++ prefix) ++ 10 ∷ [])), (line_after old files bytes prefix s one))
 
 -- the answer to a part of a line that goes on is that of the reading
 pub part_answered : (old new : Kept) (files : List (List ℕ)) (bytes part : List ℕ) (s : Represents old files bytes) → is_one_line part ≡ true → (r : Result (Unit {0}) Fault)
     → JudgedTo new.progress (rest_judged s.seen (old.held ++ part)) r → OnOk r (new ≡ record old { held = old.held ++ part }) → PieceTo new files (bytes ++ part) r
-part_answered old new files bytes part s one (Ok x) h e = record {
-  seen = h.seen;
-  judged = part_after old files bytes part s one ∙ h.is;
-  reading = h.follows.reading;
-  held = ap (λ (k : Kept). k.held) e ∙ ap (λ t. t ++ part) s.held ∙ sym (rest_more bytes part one);
-  going = ap (λ (k : Kept). k.refusal) e ∙ s.going;
-  in_order = λ h. ap (λ (k : Kept). k.in_order) e ∙ s.in_order (no_prefix bytes part h);
-}
-part_answered old new files bytes part s one (Err (Wrong kind)) h e = part_after old files bytes part s one ∙ h
-part_answered old new files bytes part s one (Err NoMemory) h e = tt
+part_answered old new files bytes part s one r h e = grind (arith, rest_more, no_prefix, input_by_lines, so_far_more, rest_same)
 
 -- the end of a file, after the input that is represented
 file_by_lines : (files : List (List ℕ)) (bytes : List ℕ) → files_judged nothing_seen (files ++ bytes ∷ []) ≡ (so_far files bytes >>= (λ next. last_judged next (unended bytes)) >>= end_judged)
 unfolding file_judged
-file_by_lines files bytes = read_on nothing_seen files bytes ∙ by_files (files_judged nothing_seen files)
-  where
-    by_files : (r : Result LogSeen LogError) → (r >>= (λ next. file_judged next bytes)) ≡ ((r >>= (λ seen. lines_judged seen (whole_lines bytes))) >>= (λ next. last_judged next (unended bytes)) >>= end_judged)
-    by_files (Ok x) = refl
-    by_files (Err error) = refl
+file_by_lines files bytes = grind (arith, read_on)
 
 -- the end of a file is judged after its last line, which was held
 pub end_after : (old : Kept) (files : List (List ℕ)) (bytes : List ℕ) (s : Represents old files bytes) → files_judged nothing_seen (files ++ bytes ∷ []) ≡ (last_judged s.seen old.held >>= end_judged)
-end_after old files bytes s =
-    file_by_lines files bytes
-    ∙ ap (λ (r : Result LogSeen LogError). r >>= (λ next. last_judged next (unended bytes)) >>= end_judged) (lines_ok s.seen files bytes s.judged)
-    ∙ ap (λ t. last_judged s.seen t >>= end_judged) (sym s.held)
+end_after old files bytes s = grind (arith, file_by_lines, input_by_lines, rest_same)
 
 -- an empty last line changes nothing
 pub last_nothing : (seen : LogSeen) (line : List ℕ) → length line ≡ 0 → last_judged seen line ≡ Ok seen
 unfolding last_judged
-last_nothing seen [] h = refl
-last_nothing seen (byte ∷ line) h = absurd (omega arith)
+last_nothing seen line h = grind arith
 
 fits : (n : ℕ) → n ≤ 65536 → nat_lt 65536 n ≡ false
-fits n h = grind (arith, nat_tests)
+fits n h = grind arith
 
 is_over : (n : ℕ) → 65536 < n → nat_lt 65536 n ≡ true
-is_over n h = grind (arith, nat_tests)
+is_over n h = grind arith
 
 -- a last line that fits is judged by its text
 pub last_text : (seen : LogSeen) (line : List ℕ) → 0 < length line → length line ≤ 65536 → last_judged seen line ≡ text_judged seen line
 unfolding last_judged
-last_text seen [] h f = absurd (omega arith)
-last_text seen (byte ∷ line) h f = let e : is_too_long (byte ∷ line) ≡ false = fits (length (byte ∷ line)) f in rw e refl
+last_text seen line h f = grind arith
 
 -- the answer to the end of a file is that of the reading
 pub end_answered : (new : Kept) (files : List (List ℕ)) (bytes : List ℕ) (seen : LogSeen) → files_judged nothing_seen (files ++ bytes ∷ []) ≡ end_judged seen → new.held ≡ [] → new.refusal ≡ None
     → (r : Result (Unit {0}) Fault) → JudgedTo new.progress (end_judged seen) r → OnOk r (new.in_order ≡ true) → EndTo new files bytes r
 unfolding unended
-end_answered new files bytes seen e held going (Ok x) h o = record {
-  seen = h.seen;
-  judged = nothing_more (files ++ bytes ∷ []) ∙ e ∙ h.is;
-  reading = h.follows.reading;
-  held = held;
-  going = going;
-  in_order = λ _. o;
-}
-end_answered new files bytes seen e held going (Err (Wrong kind)) h o = e ∙ h
-end_answered new files bytes seen e held going (Err NoMemory) h o = tt
+end_answered new files bytes seen e held going r h o = grind (arith, nothing_more)
 
 -- a last line that is wrong
 pub last_answered : (new : Kept) (files : List (List ℕ)) (bytes line : List ℕ) (seen : LogSeen) → files_judged nothing_seen (files ++ bytes ∷ []) ≡ (last_judged seen line >>= end_judged)
     → last_judged seen line ≡ text_judged seen line → (fault : Fault) → JudgedTo new.progress (text_judged seen line) (Err fault) → EndTo new files bytes (Err fault)
-last_answered new files bytes line seen e f (Wrong kind) h = e ∙ ap (λ (r : Result LogSeen LogError). r >>= end_judged) (f ∙ h)
-last_answered new files bytes line seen e f NoMemory h = tt
+last_answered new files bytes line seen e f fault h = grind arith
 
 -- a refusal is the fault at its line
 pub fed_refused : (middle new : Kept) (files : List (List ℕ)) (bytes : List ℕ) (fault : Fault) (answer : SumError) → answer ≡ sum_refusal middle.progress.line fault → new.refusal ≡ Some answer
     → PieceTo middle files bytes (Err fault) → FedTo new files bytes (Err answer)
-fed_refused middle new files bytes (Wrong kind) answer e k h = rw e (h, k ∙ ap Some e)
-fed_refused middle new files bytes NoMemory answer e k h = rw e (k ∙ ap Some e)
+fed_refused middle new files bytes fault answer e k h = grind arith
 
 -- a refusal at the end of a log is the fault at its line
 pub end_refused : (middle new : Kept) (files : List (List ℕ)) (bytes : List ℕ) (fault : Fault) (answer : SumError) → answer ≡ sum_refusal middle.progress.line fault → new.refusal ≡ Some answer
     → EndTo middle files bytes (Err fault) → EndedTo new files bytes (Err answer)
-end_refused middle new files bytes (Wrong kind) answer e k h = rw e (h, k ∙ ap Some e)
-end_refused middle new files bytes NoMemory answer e k h = rw e (k ∙ ap Some e)
+end_refused middle new files bytes fault answer e k h = grind (arith, judged_text)
 
 -- a line that goes on, by its length
 pub part_fits : (new : SumProgress) (seen : LogSeen) (held part : List ℕ) → length held + length part ≤ 65536 → FollowsSeen new seen → ReadOn new (rest_judged seen (held ++ part))
 unfolding rest_judged
-part_fits new seen held part h f =
-    let e : is_too_long (held ++ part) ≡ false = fits (length (held ++ part)) (omega (arith, length-append held part)) in
-    record { seen = seen; is = rw e refl; follows = f }
+part_fits new seen held part h f = grind (arith, length-append)
 
 -- a line whose parts have too many bytes is too long
 pub part_long : (held part : List ℕ) → 65536 < length held + length part → is_too_long (held ++ part) ≡ true
@@ -278,14 +186,12 @@ line_long seen line h = let e : is_too_long line ≡ true = is_over (length line
 -- the fault of a held line that is too long is that of the line once it has ended
 pub long_ended : (new : SumProgress) (seen : LogSeen) (line : List ℕ) (fault : Fault) → JudgedTo new (rest_judged seen line) (Err fault) → JudgedTo new (line_judged seen line) (Err fault)
 unfolding rest_judged line_judged
-long_ended new seen line (Wrong kind) h = by_test (is_too_long line) (λ e. rw e (rw e at h)) (λ e. let k = rw e at h in absurd (cc))
-long_ended new seen line NoMemory h = tt
+long_ended new seen line fault h = grind arith
 
 -- a line that fits, by its text
 pub line_read : (new : SumProgress) (seen : LogSeen) (line text : List ℕ) (r : Result (Unit {0}) Fault) → length line ≤ 65536 → text ≡ without_return line → JudgedTo new (text_judged seen text) r
     → JudgedTo new (line_judged seen line) r
-line_read new seen line text r few e h =
-    subst (λ (t : Result LogSeen LogError). JudgedTo new t r) (ap (text_judged seen) e ∙ sym (line_fits seen line few)) h
+line_read new seen line text r few e h = grind (arith, line_fits)
 
 -- a line that is wrong, with the rest of its piece after it
 pub line_answered : (old new : Kept) (files : List (List ℕ)) (bytes prefix remainder whole : List ℕ) (s : Represents old files bytes) → is_one_line prefix ≡ true → (bytes ++ (prefix ++ 10 ∷ [])) ++ remainder ≡ whole
@@ -296,9 +202,7 @@ line_answered old new files bytes prefix remainder whole s one e NoMemory h = tt
 
 -- a piece by its parts
 pub piece_whole : (bytes done prefix remainder rest piece : List ℕ) → rest ≡ prefix ++ 10 ∷ remainder → done ++ rest ≡ piece → ((bytes ++ done) ++ (prefix ++ 10 ∷ [])) ++ remainder ≡ bytes ++ piece
-piece_whole bytes done prefix remainder rest piece e f =
-    append_assoc (bytes ++ done) (prefix ++ 10 ∷ []) remainder ∙ append_assoc bytes done ((prefix ++ 10 ∷ []) ++ remainder)
-    ∙ ap (λ t. bytes ++ (done ++ t)) (append_assoc prefix (10 ∷ []) remainder ∙ sym e) ∙ ap (λ t. bytes ++ t) f
+piece_whole bytes done prefix remainder rest piece e f = grind (arith, append_assoc)
 
 -- a text of length 0 is empty
 pub nothing_there : (text : List ℕ) → length text ≡ 0 → text ≡ []
@@ -307,8 +211,8 @@ nothing_there (byte ∷ text) h = absurd (omega arith)
 
 -- a number that isn't 0 is above 0
 pub some_there : (n : ℕ) → (n == 0) ≡ false → 0 < n
-some_there n h = grind (arith, nat_tests)
+some_there n h = grind arith
 
 -- a number that is tested to be 0 is 0
 pub none_there : (n : ℕ) → (n == 0) ≡ true → n ≡ 0
-none_there n h = grind (arith, nat_tests)
+none_there n h = grind arith

@@ -1,51 +1,26 @@
 -- The number of the running line: one more than the line feeds of its log so far.
-use Rattle.std.proofs.Common.{◌≡◌, ℕ, ◌+◌, List, [], ◌∷◌, ◌++◌, length, refl, sym, ap, ◌∙◌, arith}
-use Rattle.std.specs.Prelude.{Option, Some, None, Result, Ok, Err}
+use Rattle.std.proofs.Common.{◌≡◌, ℕ, ◌+◌, List, [], ◌∷◌, length, refl, sym, ap, ◌∙◌, arith}
+use Rattle.std.specs.Prelude.{Ok}
 use Rattle.std.proofs.lemmas.List.Splits.{length-slice_split}
-use Rattle.list_laws.proofs.Cases.{by_test}
-use Rattle.text_laws.specs.Lines.{is_line_feed, but_last, whole_lines, unended, without_return}
+use Rattle.text_laws.specs.Lines.{is_line_feed, whole_lines, unended}
 use Rattle.text_laws.proofs.PieceLaws.{first_piece, length-but_last}
 use Rattle.diy_io.specs.Count.{count_of}
 use Rattle.diy_io.specs.Sink.{line_feed_count}
-use Rattle.log_sum.specs.declared.errors.LogKind.{LogKind}
 use Rattle.log_sum.specs.declared.kinds.Place.{Place}
-use Rattle.log_sum.specs.declared.kinds.Place.TheVariants.{Outside, Histogram, States, Judgement, Rest, Conditioned}
-use Rattle.log_sum.specs.Facts.{Fact, facts_of, fact_fault}
-use Rattle.log_sum.specs.LogLines.{Said, log_line_said, fact_said, test_after, place_after}
-use Rattle.log_sum.specs.LogReading.{LogSeen, is_too_long, nothing_seen, fact_put, fact_judged, said_to, said_put, at_next_line, next_line, text_judged, line_judged, lines_judged, rest_judged, bytes_judged, last_judged, end_at, end_judged, file_judged, files_judged, input_judged}
+use Rattle.log_sum.specs.LogReading.{LogSeen, nothing_seen, next_line, text_judged, line_judged, lines_judged, rest_judged, bytes_judged, last_judged, end_at, end_judged, file_judged, files_judged, input_judged}
 use Rattle.text_laws.specs.ReadingSteps.{◌>>=◌}
 use Rattle.log_sum.specs.Representing.{Kept, Represents, running_line}
 use Rattle.log_sum.proofs.FeedLaws.{middle_of, rest_same}
 
--- a fact leaves the number of the line as it is
-fact_line : (seen next : LogSeen) (fact : Option Fact) → fact_put seen fact ≡ Ok next → next.line ≡ seen.line
-fact_line seen next None h = let e : seen ≡ next = cc in ap (λ (s : LogSeen). s.line) (sym e)
-fact_line seen next (Some fact) h = by_fault (fact_fault (facts_of seen.test seen.entries) fact) h
-  where
-    by_fault : (fault : Option LogKind) → fact_judged seen fact fault ≡ Ok next → next.line ≡ seen.line
-    by_fault None h =
-        let e : record seen { entries = seen.entries ++ (record { test = seen.test; fact = fact }) ∷ [] } ≡ next = cc in ap (λ (s : LogSeen). s.line) (sym e)
-    by_fault (Some kind) h = cc
-
 -- after the text of a line comes the next line
 text_line : (seen next : LogSeen) (text : List ℕ) → text_judged seen text ≡ Ok next → next.line ≡ next_line seen.line
 unfolding text_judged
-text_line seen next text h = by_said (log_line_said seen.place text) h
-  where
-    by_said : (said : Result Said LogKind) → said_put seen said ≡ Ok next → next.line ≡ next_line seen.line
-    by_said (Err kind) h = cc
-    by_said (Ok said) h =
-        let b = middle_of (said_to seen said) at_next_line next h in
-        let k = fact_line (record seen { test = test_after seen.test said; place = place_after seen.place said }) b.middle (fact_said said) b.is in
-        let c = b.then in
-        let e : record b.middle { line = next_line b.middle.line } ≡ next = cc in
-        ap (λ (s : LogSeen). s.line) (sym e) ∙ ap next_line k
+text_line seen next text h = grind arith
 
 -- after a line that a line feed ends comes the next line
 ended_line : (seen next : LogSeen) (line : List ℕ) → line_judged seen line ≡ Ok next → next.line ≡ next_line seen.line
 unfolding line_judged
-ended_line seen next line h =
-    by_test (is_too_long line) (λ e. let k = rw e at h in absurd (cc)) (λ e. text_line seen next (without_return line) (rw e at h))
+ended_line seen next line h = grind (arith, text_line)
 
 -- after some lines the number is greater by as many
 lines_line : (seen next : LogSeen) (lines : List (List ℕ)) (n : ℕ) → seen.line ≡ count_of n → lines_judged seen lines ≡ Ok next → next.line ≡ count_of (n + length lines)
@@ -57,13 +32,7 @@ lines_line seen next (line ∷ lines) n at_line h =
 
 -- after the end of a file comes line 1
 end_line_first : (seen next : LogSeen) (place : Place) → end_at seen place ≡ Ok next → next.line ≡ 1
-end_line_first seen next Outside h =
-    let e : record { entries = seen.entries; test = []; place = Outside; line = 1 } ≡ next = cc in ap (λ (s : LogSeen). s.line) (sym e)
-end_line_first seen next (Histogram kind) h = cc
-end_line_first seen next (States kind left) h = cc
-end_line_first seen next (Judgement kind) h = cc
-end_line_first seen next (Rest kind) h = cc
-end_line_first seen next (Conditioned kind) h = cc
+end_line_first seen next place h = grind arith
 
 -- after some files comes line 1
 files_line : (seen next : LogSeen) (files : List (List ℕ)) → seen.line ≡ 1 → files_judged seen files ≡ Ok next → next.line ≡ 1
@@ -77,10 +46,7 @@ files_line seen next (file ∷ files) first h =
 -- as many lines have ended as there are line feeds
 whole_count : (bytes : List ℕ) → length (whole_lines bytes) ≡ line_feed_count bytes
 unfolding whole_lines
-whole_count bytes =
-    let first = first_piece is_line_feed bytes in
-    let all : length (first.piece ∷ first.rest) ≡ line_feed_count bytes + 1 = ap length (sym first.is) ∙ length-slice_split is_line_feed bytes in
-    ap (λ t. length (but_last t)) first.is ∙ length-but_last first.piece first.rest ∙ omega arith
+whole_count bytes = grind (arith, (first_piece is_line_feed bytes), (length-slice_split is_line_feed bytes), length-but_last)
 
 -- the line that goes on after the bytes of a log so far has its number by their line feeds
 input_line : (next : LogSeen) (files : List (List ℕ)) (bytes : List ℕ) → input_judged files bytes ≡ Ok next → next.line ≡ running_line bytes

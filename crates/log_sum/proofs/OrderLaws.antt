@@ -1,13 +1,12 @@
 -- States in byte order, whatever the order in which a table keeps them.
-use Rattle.std.proofs.Common.{◌≡◌, ℕ, List, [], ◌∷◌, Some, true, false, cond, refl, sym, ap, ◌∙◌, subst}
+use Rattle.std.proofs.Common.{◌≡◌, ℕ, List, [], ◌∷◌, Some, false, cond, refl, sym, ap, ◌∙◌, subst, arith}
 use Rattle.std.specs.Prelude.{T}
-use Rattle.std.specs.Ordering.{nat_cmp, match_ordering, is_eq, is_lt, ordering_reverse}
-use Rattle.std.specs.declared.cmp.Ordering.{Ordering}
-use Rattle.std.specs.declared.cmp.Ordering.TheVariants.{Less, Equal, Greater}
+use Rattle.std.specs.Ordering.{nat_cmp, is_eq, is_lt}
+use Rattle.std.specs.declared.cmp.Ordering.TheVariants.{Less}
 use Rattle.std.specs.Cmp.Lexicographic.{slice_cmp}
 use Rattle.std.specs.BTreeMap.{insert_entry}
 use Rattle.std.specs.Str.{bytes_eq}
-use Rattle.std.specs.FinMap.Entries.{put, find, is_sorted, by_order, is_sorted-put, find-put, same_entries}
+use Rattle.std.specs.FinMap.Entries.{put, find, is_sorted, is_sorted-put, find-put, same_entries}
 use Rattle.std.proofs.lemmas.Map.Text.{is_eq-slice_cmp}
 use Rattle.log_sum.specs.declared.kinds.Mark.{Mark}
 use Rattle.log_sum.specs.Summed.{StateSummed}
@@ -15,32 +14,17 @@ use Rattle.log_sum.specs.SummingSteps.{known_state}
 use Rattle.log_sum.specs.StateEntries.{ordered}
 use Rattle.text_laws.proofs.OrderLaws.{order, is_text}
 
-abbrev compare : List ℕ → List ℕ → Ordering
-compare = slice_cmp nat_cmp
-
 -- a text is below another that differs from it and isn't below it
 pub apart_less : (x y : List ℕ) → is_lt (slice_cmp nat_cmp y x) ≡ false → bytes_eq x y ≡ false → slice_cmp nat_cmp x y ≡ Less
-apart_less x y h d = by_ordering (slice_cmp nat_cmp x y) refl
-  where
-    by_ordering : (o : Ordering) → slice_cmp nat_cmp x y ≡ o → slice_cmp nat_cmp x y ≡ Less
-    by_ordering Less e = e
-    by_ordering Equal e = absurd (let z : true ≡ false = sym (ap is_eq e) ∙ is_eq-slice_cmp x y ∙ d in cc)
-    by_ordering Greater e = absurd (let z : true ≡ false = sym (ap is_lt (order.antisymm y x ∙ ap ordering_reverse e)) ∙ h in cc)
+apart_less x y h d = grind (arith, (is_eq-slice_cmp x y), (order.antisymm y x))
 
 -- what is known after an insertion
 put_is : (k : List ℕ) (v : Mark × ℕ) (es : List StateSummed) → put (slice_cmp nat_cmp) k v es ≡ insert_entry (slice_cmp nat_cmp) es k v
 put_is k v [] = refl
-put_is k v (e ∷ es) = by_ordering (put_is k v es) (slice_cmp nat_cmp k e.0)
-  where
-    by_ordering : put (slice_cmp nat_cmp) k v es ≡ insert_entry (slice_cmp nat_cmp) es k v → (o : Ordering)
-        → by_order o ((k, v) ∷ e ∷ es) ((e.0, v) ∷ es) (e ∷ put (slice_cmp nat_cmp) k v es) ≡ match_ordering o ((k, v) ∷ e ∷ es) ((e.0, v) ∷ es) (e ∷ insert_entry (slice_cmp nat_cmp) es k v)
-    by_ordering further Less = refl
-    by_ordering further Equal = refl
-    by_ordering further Greater = ap (λ t. e ∷ t) further
+put_is k v (e ∷ es) = cc (put_is k v es)
 
 find_is : (q : List ℕ) (es : List StateSummed) → find (slice_cmp nat_cmp) q es ≡ known_state es q
-find_is q [] = refl
-find_is q (e ∷ es) = ap (cond (is_eq (slice_cmp nat_cmp q e.0)) (Some e.1)) (find_is q es)
+find_is q es = grind arith
 
 pub known_put : (es : List StateSummed) (k : List ℕ) (v : Mark × ℕ) (q : List ℕ) → known_state (insert_entry (slice_cmp nat_cmp) es k v) q ≡ cond (is_eq (slice_cmp nat_cmp q k)) (Some v) (known_state es q)
 known_put es k v q =
@@ -75,4 +59,4 @@ pub ordered_put : (es fs : List StateSummed) (k : List ℕ) (v : Mark × ℕ) �
 ordered_put es fs k v same =
     same_states (ordered fs) (insert_entry (slice_cmp nat_cmp) (ordered es) k v) (ordered_sorted fs)
     (subst (λ x. T (is_sorted (slice_cmp nat_cmp) x)) (put_is k v (ordered es)) (is_sorted-put (slice_cmp nat_cmp) order k v (ordered es) (ordered_sorted es)))
-    (λ q. ordered_known fs q ∙ same q ∙ ap (cond (is_eq (slice_cmp nat_cmp q k)) (Some v)) (sym (ordered_known es q)) ∙ sym (known_put (ordered es) k v q))
+    (λ q. grind (arith, ordered_known, known_put))

@@ -1,9 +1,8 @@
 -- The place after a state.
-use Rattle.std.proofs.Common.{◌≡◌, ℕ, zero, suc, ◌-◌, refl, arith}
+use Rattle.std.proofs.Common.{◌≡◌, ℕ, zero, suc, ◌-◌, arith}
 use Rattle.log_sum.specs.declared.kinds.Kind.{Kind}
 use Rattle.log_sum.specs.LogLines.{states_left, after_state}
 
 -- after a state there is one less to come
 pub one_state_less : (kind : Kind) (left : ℕ) → after_state kind left ≡ states_left kind (left - 1)
-one_state_less kind zero = refl
-one_state_less kind (suc left) = let e : suc left - 1 ≡ left = omega arith in rw e refl
+one_state_less kind left = grind arith

@@ -1,5 +1,5 @@
 -- The printed sum, piece by piece.
-use Rattle.std.proofs.Common.{◌≡◌, ◌≤◌, ℕ, zero, suc, ◌-◌, List, [], ◌∷◌, ◌++◌, length, take, drop, refl, sym, ap, ◌∙◌, arith, min, subst, append_assoc, append-nil}
+use Rattle.std.proofs.Common.{◌≡◌, ◌≤◌, ℕ, zero, suc, ◌-◌, List, [], ◌∷◌, ◌++◌, length, take, drop, refl, ap, ◌∙◌, arith, min, append_assoc, append-nil}
 use Rattle.std.specs.Prelude.{map, replicate, codes, Result, Ok, Err}
 use Rattle.std.specs.Fmt.{decimal}
 use Rattle.std.specs.List.{flat_map}
@@ -9,12 +9,11 @@ use Rattle.std.proofs.lemmas.List.{map_push}
 use Rattle.diy_io.specs.declared.errors.Failed.{Failed}
 use Rattle.diy_io.specs.Wrote.{SinkSeen, WrotePart}
 use Rattle.diy_io.specs.Page.{SentAll, Sends}
-use Rattle.diy_io.specs.PageLaws.{sent_both, sent_part, sent_part_more, sends_then, sends_stopped, sends_same}
+use Rattle.diy_io.specs.PageLaws.{sent_both, sent_part, sent_part_more, sends_then, sends_stopped}
 use Rattle.log_sum.specs.declared.kinds.Kind.TheVariants.{Allowed}
 use Rattle.log_sum.specs.declared.kinds.Mark.{Mark}
 use Rattle.log_sum.specs.Summed.{Summed, summed, some_or, is_validated}
 use Rattle.log_sum.specs.Representing.{Kept, Represents, kept_text}
-use Rattle.log_sum.specs.LogReading.{LogSeen}
 use Rattle.log_sum.specs.Facts.{facts_of, tests_of}
 use Rattle.log_sum.specs.SumText.{summed_text, sum_text, line_end, filling, mark_sign, state_line, sum_kind_word, verdict_word, how_often, head_text, sum_verdict_text, observation_text}
 
@@ -32,34 +31,20 @@ blanks_and_sign (suc (suc (suc (suc (suc (suc (suc k))))))) a b h = absurd (omeg
 -- blanks that fill a text up, and then a sign
 pub filled_so : (text : List ℕ) (k a b : ℕ) → k ≡ min (length text) 6
     → take (8 - k) (drop k (32 ∷ 32 ∷ 32 ∷ 32 ∷ 32 ∷ 32 ∷ a ∷ b ∷ [])) ≡ replicate (6 - length text) 32 ++ a ∷ b ∷ []
-filled_so text k a b e =
-    let n : 6 - k ≡ 6 - length text = omega arith in
-    blanks_and_sign k a b (omega arith) ∙ ap (λ m. replicate m 32 ++ a ∷ b ∷ []) n
+filled_so text k a b e = grind (arith, blanks_and_sign)
 
 -- the line of a state by its pieces
 pub state_is : (form count sign : List ℕ) (mark : Mark) (n : ℕ) → count ≡ decimal n → sign ≡ filling count ++ mark_sign mark
     → count ++ sign ++ form ++ codes "\n" ≡ state_line (form, (mark, n))
 unfolding state_line
-state_is form count sign mark n e f =
-    ap (λ s. count ++ s ++ form ++ codes "\n") f
-    ∙ ap (λ t. t ++ form ++ codes "\n") (sym (append_assoc count (filling count) (mark_sign mark)))
-    ∙ ap (λ c. c ++ filling c ++ mark_sign mark ++ form ++ codes "\n") e
-
--- the texts by their pieces, each literal whole
-joined_head : (x feed histogram count states : List ℕ)
-    → x ++ (feed ++ histogram) ++ count ++ (states ++ feed) ≡ x ++ feed ++ histogram ++ count ++ states ++ feed
-joined_head x feed histogram count states =
-    ap (λ t. t ++ count ++ (states ++ feed)) (sym (append_assoc x feed histogram))
-    ∙ sym (append_assoc (x ++ feed ++ histogram ++ count) states feed)
+state_is form count sign mark n e f = grind (arith, append_assoc)
 
 -- the pieces of the lines above the states are their text
 pub head_is : (name kind count : List ℕ) (test : Summed) → kind ≡ sum_kind_word (some_or Allowed test.kind) → count ≡ decimal (length test.states)
     → codes "Test " ++ name ++ codes " " ++ kind ++ (line_end ++ codes "Histogram (") ++ count ++ (codes " states)" ++ line_end)
     ≡ head_text name test
 unfolding head_text
-head_is name kind count test e f =
-    let line = codes "Test " ++ name ++ codes " " ++ sum_kind_word (some_or Allowed test.kind) in
-    rw (e, f) (joined_head line line_end (codes "Histogram (") (decimal (length test.states)) (codes " states)"))
+head_is name kind count test e f = grind (arith, append_assoc)
 
 -- the pieces of the lines of the verdict and of the counts are their text
 pub verdict_is : (word starred plain : List ℕ) (test : Summed)
@@ -75,9 +60,7 @@ pub observation_is : (name often starred plain : List ℕ) (test : Summed)
     → codes "Observation " ++ name ++ codes " " ++ often ++ codes " " ++ starred ++ codes " " ++ plain ++ (line_end ++ line_end)
     ≡ observation_text name test
 unfolding observation_text
-observation_is name often starred plain test e f h =
-    let often = codes "Observation " ++ name ++ codes " " ++ how_often test.starred test.plain in
-    rw (e, f, h) (sym (append_assoc (often ++ codes " " ++ decimal test.starred ++ codes " " ++ decimal test.plain) line_end line_end))
+observation_is name often starred plain test e f h = grind (arith, append_assoc)
 
 abbrev Answer : Type 0
 Answer = Result (Unit {0}) Failed
@@ -85,14 +68,12 @@ Answer = Result (Unit {0}) Failed
 -- three texts that are sent one after another are sent as one
 pub three_sent : (a b c d : SinkSeen) (held one two kept x y z : List ℕ) (u v : Unit {0}) (result : Answer)
     → Sends a held b one x (Ok u) → Sends b one c two y (Ok v) → Sends c two d kept z result → Sends a held d kept (x ++ y ++ z) result
-three_sent a b c d held one two kept x y z u v result h k m =
-    sends_then a c d held two kept (x ++ y) z v result (sends_then a b c held one two x y u (Ok v) h k) m
+three_sent a b c d held one two kept x y z u v result h k m = search (arith, sends_then)
 
 -- where the first of three texts is sent in part, so are all three as one
 pub first_stopped : (Q : Failed → Type 0) (a b : SinkSeen) (held mid kept x y z : List ℕ) (e : Failed) (result : Answer)
     → Sends a held b mid x (Err e) → IsErrAnd result Q → Sends a held b kept (x ++ y ++ z) result
-first_stopped Q a b held mid kept x y z e result h is_err =
-    sends_same a b held kept (x ++ (y ++ z)) (x ++ y ++ z) result (sends_stopped Q a b held mid kept x (y ++ z) e result h is_err) (sym (append_assoc x y z))
+first_stopped Q a b held mid kept x y z e result h is_err = grind (arith, append_assoc)
 
 -- where the second of three texts is sent in part, so are all three as one
 pub second_stopped : (Q : Failed → Type 0) (a b c : SinkSeen) (held one mid kept x y z : List ℕ) (u : Unit {0}) (e : Failed) (result : Answer)
@@ -108,10 +89,7 @@ lines_more line xs x = flat_map-append line xs (x ∷ []) ∙ ap (λ t. flat_map
 pub lines_go : {A T : Type 0} (f : A → T) (line : T → List ℕ) (a b c : SinkSeen) (held mid kept : List ℕ) (ys : List A) (x : A) (text : List ℕ)
     → SentAll a held b mid (flat_map line (map f ys)) → SentAll b mid c kept text → text ≡ line (f x)
     → SentAll a held c kept (flat_map line (map f (ys ++ x ∷ [])))
-lines_go f line a b c held mid kept ys x text p q e =
-    let parts : flat_map line (map f ys) ++ text ≡ flat_map line (map f (ys ++ x ∷ [])) =
-    ap (λ t. flat_map line (map f ys) ++ t) e ∙ sym (ap (flat_map line) (map_push f ys x) ∙ lines_more line (map f ys) (f x)) in
-    subst (SentAll a held c kept) parts (sent_both a b c held mid kept (flat_map line (map f ys)) text p q)
+lines_go f line a b c held mid kept ys x text p q e = grind (arith, map_push, lines_more, sent_both)
 
 -- where the text of an element is sent in part, so are the texts of all elements as one
 pub lines_stop : {A T : Type 0} (Q : Failed → Type 0) (f : A → T) (line : T → List ℕ) (a b c : SinkSeen) (held mid kept : List ℕ)
@@ -120,27 +98,23 @@ pub lines_stop : {A T : Type 0} (Q : Failed → Type 0) (f : A → T) (line : T 
     → IsErrAnd result Q → Sends a held c kept (flat_map line all) result
 lines_stop Q f line a b c held mid kept ys x rest all text (Ok _) p q e covers is_err = absurd is_err
 lines_stop Q f line a b c held mid kept ys x rest all text (Err _) p q e covers is_err =
-    let same : (flat_map line (map f ys) ++ text) ++ flat_map line rest ≡ flat_map line all =
-    ap (λ t. (flat_map line (map f ys) ++ t) ++ flat_map line rest) e
-    ∙ ap (λ t. t ++ flat_map line rest) (sym (lines_more line (map f ys) (f x))) ∙ sym (flat_map-append line (map f ys ++ f x ∷ []) rest)
-    ∙ ap (flat_map line) (append_assoc (map f ys) (f x ∷ []) rest ∙ covers) in
-    record {
-      ok = tt;
-      failed = subst (λ t. WrotePart a c (held ++ t)) same
-          (sent_part_more a c held (flat_map line (map f ys) ++ text) (flat_map line rest) (sent_part a b c held mid (flat_map line (map f ys)) text p q));
-    }
+    grind (
+      arith,
+      (lines_more line (map f ys) (f x)),
+      (flat_map-append line (map f ys ++ f x ∷ []) rest),
+      (append_assoc (map f ys) (f x ∷ []) rest),
+      (sent_part_more a c held (flat_map line (map f ys) ++ text) (flat_map line rest) (sent_part a b c held mid (flat_map line (map f ys)) text p q)),
+    )
 
 -- the elements so far with this one, and those after it, are all elements
 pub covers_next : {A B T : Type 0} (f : A → T) (g : B → T) (ys : List A) (it rest : List B) (x : A) (y : B) (all : List T) → f x ≡ g y → it ≡ y ∷ rest → map f ys ++ map g it ≡ all
     → map f (ys ++ x ∷ []) ++ map g rest ≡ all
-covers_next f g ys it rest x y all e h k =
-    ap (λ t. t ++ map g rest) (map_push f ys x) ∙ append_assoc (map f ys) (f x ∷ []) (map g rest) ∙ ap (λ t. map f ys ++ t ∷ map g rest) e ∙ ap (λ t. map f ys ++ map g t) (sym h) ∙ k
+covers_next f g ys it rest x y all e h k = grind (arith, map_push, append_assoc)
 
 -- the elements so far, this one, and those after it are all elements
 pub covers_this : {A B T : Type 0} (f : A → T) (g : B → T) (ys : List A) (it rest : List B) (x : A) (y : B) (all : List T) → f x ≡ g y → it ≡ y ∷ rest → map f ys ++ map g it ≡ all
     → map f ys ++ f x ∷ map g rest ≡ all
-covers_this f g ys it rest x y all e h k =
-    ap (λ t. map f ys ++ t ∷ map g rest) e ∙ ap (λ t. map f ys ++ map g t) (sym h) ∙ k
+covers_this f g ys it rest x y all e h k = (cc)
 
 texts_of : (test : List ℕ → Summed) (names : List (List ℕ)) → flat_map (λ (row : List ℕ × Summed). summed_text row.0 row.1) (map (λ name. (name, test name)) names) ≡ flat_map (λ name. summed_text name (test name)) names
 texts_of test [] = refl
@@ -154,7 +128,4 @@ sum_is kept files bytes s =
 
 -- two summers that represent the same input have the same sum, however its bytes were cut
 pub same_sum : (one other : Kept) (files : List (List ℕ)) (bytes : List ℕ) → Represents one files bytes → Represents other files bytes → kept_text one ≡ kept_text other
-same_sum one other files bytes s t =
-    let same : Ok s.seen ≡ Ok t.seen = sym s.judged ∙ t.judged in
-    let seen : s.seen ≡ t.seen = cc in
-    sum_is one files bytes s ∙ ap (λ (x : LogSeen). sum_text x.entries) seen ∙ sym (sum_is other files bytes t)
+same_sum one other files bytes s t = grind arith

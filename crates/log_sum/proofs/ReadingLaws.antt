@@ -1,6 +1,6 @@
 -- A log may come in any pieces.
-use Rattle.std.proofs.Common.{◌≡◌, ℕ, List, [], ◌∷◌, ◌++◌, true, false, refl, sym, ap, ◌∙◌, append-nil}
-use Rattle.std.specs.Prelude.{Bool, not, cond, map, Result, Ok, Err, filter, fold}
+use Rattle.std.proofs.Common.{◌≡◌, ℕ, List, [], ◌∷◌, ◌++◌, true, false, refl, sym, ap, ◌∙◌, append-nil, arith}
+use Rattle.std.specs.Prelude.{Bool, not, cond, map, Result, Ok, fold}
 use Rattle.std.specs.List.{slice_split, list_any, list_all}
 use Rattle.std.specs.Str.{bytes_eq}
 use Rattle.std.proofs.lemmas.List.Elements.{filter-append}
@@ -31,9 +31,7 @@ split_more bytes part h = split_append is_line_feed bytes part part [] (split_wh
 -- bytes without a line feed end no line
 pub lines_more : (bytes part : List ℕ) → is_one_line part ≡ true → whole_lines (bytes ++ part) ≡ whole_lines bytes
 unfolding whole_lines
-lines_more bytes part h =
-    ap but_last (split_more bytes part h) ∙ but_last_append (but_last (slice_split is_line_feed bytes)) (last_of (slice_split is_line_feed bytes) ++ part) []
-    ∙ append-nil (but_last (slice_split is_line_feed bytes))
+lines_more bytes part h = grind (arith, split_more, but_last_append, append-nil)
 
 -- bytes without a line feed are appended to the line that goes on
 pub rest_more : (bytes part : List ℕ) → is_one_line part ≡ true → unended (bytes ++ part) ≡ unended bytes ++ part
@@ -44,11 +42,13 @@ rest_more bytes part h = ap last_of (split_more bytes part h) ∙ last_append (b
 pub lines_cut : (bytes rest : List ℕ) → whole_lines (bytes ++ 10 ∷ rest) ≡ (whole_lines bytes ++ unended bytes ∷ []) ++ whole_lines rest
 unfolding whole_lines unended
 lines_cut bytes rest =
-    let after = first_piece is_line_feed rest in
-    ap but_last (split_both is_line_feed bytes 10 rest refl)
-    ∙ ap (λ t. but_last (slice_split is_line_feed bytes ++ t)) after.is ∙ but_last_append (slice_split is_line_feed bytes) after.piece after.rest
-    ∙ ap (λ t. slice_split is_line_feed bytes ++ but_last t) (sym after.is)
-    ∙ ap (λ t. t ++ but_last (slice_split is_line_feed rest)) (whole_split is_line_feed bytes)
+    grind (
+      arith,
+      (first_piece is_line_feed rest),
+      (split_both is_line_feed bytes 10 rest refl),
+      (but_last_append (slice_split is_line_feed bytes)),
+      (whole_split is_line_feed bytes),
+    )
 
 -- a line feed ends the line that goes on
 pub lines_ended : (bytes : List ℕ) → whole_lines (bytes ++ 10 ∷ []) ≡ whole_lines bytes ++ unended bytes ∷ []
@@ -63,12 +63,10 @@ rest_ended bytes = ap last_of (split_both is_line_feed bytes 10 [] refl) ∙ las
 -- what is judged first, and then what comes after it
 then_on : {A : Type 0} (r : Result A LogError) (whole first : A → Result LogSeen LogError) (last : LogSeen → Result LogSeen LogError)
     → ((x : A) → whole x ≡ (first x >>= last)) → (r >>= whole) ≡ ((r >>= first) >>= last)
-then_on (Ok x) whole first last law = law x
-then_on (Err e) whole first last law = refl
+then_on r whole first last law = grind arith
 
 then_none : (r : Result LogSeen LogError) → (r >>= (λ next. Ok next)) ≡ r
-then_none (Ok x) = refl
-then_none (Err e) = refl
+then_none r = grind arith
 
 -- lines are judged one after another
 pub lines_both : (seen : LogSeen) (lines more : List (List ℕ)) → lines_judged seen (lines ++ more) ≡ (lines_judged seen lines >>= (λ next. lines_judged next more))
@@ -94,9 +92,7 @@ so_far_more files bytes part h = ap (λ lines. files_judged nothing_seen files >
 
 -- at a line feed the line is judged
 pub so_far_ended : (files : List (List ℕ)) (bytes : List ℕ) → so_far files (bytes ++ 10 ∷ []) ≡ (so_far files bytes >>= (λ next. line_judged next (unended bytes)))
-so_far_ended files bytes =
-    ap (λ lines. files_judged nothing_seen files >>= λ seen. lines_judged seen lines) (lines_ended bytes)
-    ∙ then_on (files_judged nothing_seen files) _ _ _ (λ x. lines_then x (whole_lines bytes) (unended bytes))
+so_far_ended files bytes = grind (arith, lines_ended, lines_then)
 
 -- one file more
 pub read_on : (seen : LogSeen) (files : List (List ℕ)) (bytes : List ℕ) → files_judged seen (files ++ bytes ∷ []) ≡ (files_judged seen files >>= (λ next. file_judged next bytes))
@@ -105,18 +101,15 @@ read_on seen (file ∷ files) bytes = then_on (file_judged seen file) _ _ _ (λ 
 
 -- a fact of this test comes after the others
 pub facts_here : (test : List ℕ) (entries : List Entry) (fact : Fact) → facts_of test (entries ++ entry_of test fact ∷ []) ≡ facts_of test entries ++ fact ∷ []
-facts_here test entries fact =
-    ap (map (λ e. e.fact)) (filter-append (λ e. bytes_eq e.test test) entries (entry_of test fact ∷ [])) ∙ rw (bytes_same test) (map_push (λ e. e.fact) (filter (λ e. bytes_eq e.test test) entries) (entry_of test fact))
+facts_here test entries fact = grind (arith, filter-append, bytes_same, map_push)
 
 -- a fact of one test isn't among those of another
 pub facts_elsewhere : (name test : List ℕ) (entries : List Entry) (fact : Fact) → bytes_eq test name ≡ false → facts_of name (entries ++ entry_of test fact ∷ []) ≡ facts_of name entries
-facts_elsewhere name test entries fact h =
-    ap (map (λ e. e.fact)) (filter-append (λ e. bytes_eq e.test name) entries (entry_of test fact ∷ [])) ∙ rw h (ap (map (λ e. e.fact)) (append-nil (filter (λ e. bytes_eq e.test name) entries)))
+facts_elsewhere name test entries fact h = grind (arith, filter-append, append-nil)
 
 -- the test of a new entry comes last, unless it is among the tests
 pub tests_then : (entries : List Entry) (test : List ℕ) (fact : Fact) → tests_of (entries ++ entry_of test fact ∷ []) ≡ with_test_name (tests_of entries) test
-tests_then entries test fact =
-    ap (fold with_test_name []) (map_push (λ e. e.test) entries (entry_of test fact)) ∙ fold-append with_test_name [] (map (λ e. e.test) entries) (test ∷ [])
+tests_then entries test fact = grind (arith, map_push, fold-append)
 
 -- names that differ
 abbrev pub Without : List ℕ → List (List ℕ) → Type 0
@@ -137,21 +130,12 @@ named v names = map (λ x. (x, v x)) names
 
 rows_by : (name : List ℕ) (v w : List ℕ → Summed) (names : List (List ℕ)) → ((x : List ℕ) → bytes_eq name x ≡ false → v x ≡ w x) → Without name names → named v names ≡ named w names
 rows_by name v w [] h n = refl
-rows_by name v w (x ∷ names) h n =
-    by_test (bytes_eq name x) (λ e. let k = rw e at n in absurd (cc)) (λ e. rw (h x e, rows_by name v w names h (rw e at n)) refl)
+rows_by name v w (x ∷ names) h n = grind (arith, (rows_by name v w names h))
 
 put_row : (name : List ℕ) (v w : List ℕ → Summed) (names : List (List ℕ)) → ((x : List ℕ) → bytes_eq name x ≡ false → v x ≡ w x) → Differ names
     → put_at name (w name) (named v names) ≡ named w (with_test_name names name)
 put_row name v w [] h d = refl
-put_row name v w (x ∷ names) h (more _ _ n d) =
-    by_test (bytes_eq name x)
-    (λ e. let same : name ≡ x = (bytes_eq-Decides name x).0 e in
-    rw e (rw (rows_by name v w names h (ap (λ y. list_any (bytes_eq y) names) same ∙ n)) (ap (λ y. (x, w y) ∷ named w names) same)))
-    (λ e. rw e (rw (h x e) (ap (λ t. (x, w x) ∷ t) (put_row name v w names h d) ∙ later (list_any (bytes_eq name) names))))
-  where
-    later : (b : Bool) → ◌≡◌ {A = List (List ℕ × Summed)} ((x, w x) ∷ named w (cond b names (names ++ name ∷ []))) (named w (cond b (x ∷ names) (x ∷ (names ++ name ∷ []))))
-    later true = refl
-    later false = refl
+put_row name v w (x ∷ names) h (more _ _ n d) = grind (arith, (put_row name v w names h d), bytes_eq-Decides, rows_by)
 
 -- the table with an entry more is the table with that test's row put
 pub table_put : (entries : List Entry) (test : List ℕ) (fact : Fact) → Differ (tests_of entries)

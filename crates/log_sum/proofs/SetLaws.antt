@@ -1,24 +1,21 @@
 -- Equalities that are sorted at once are the set of those that are inserted one by one.
-use Rattle.std.proofs.Common.{◌≡◌, ℕ, List, [], ◌∷◌, ◌++◌, Some, None, true, false, refl, sym, ap, ◌∙◌, subst}
+use Rattle.std.proofs.Common.{◌≡◌, ℕ, List, [], ◌∷◌, ◌++◌, Some, None, true, false, refl, sym, ap, ◌∙◌, subst, arith}
 use Rattle.std.specs.Prelude.{Bool, ◌||◌, cond, Option, Ok, Err, T, map}
 use Rattle.std.specs.List.{list_any, All, AllByRecursion, IsDistinct}
 use Rattle.std.specs.List.Sorted.{IsPermutation, IsSortedBy, IsStrictlySortedBy}
-use Rattle.std.specs.Ordering.{nat_cmp, match_ordering, eq_by_cmp, is_lt}
-use Rattle.std.specs.declared.cmp.Ordering.{Ordering}
-use Rattle.std.specs.declared.cmp.Ordering.TheVariants.{Less, Equal, Greater}
+use Rattle.std.specs.Ordering.{nat_cmp, eq_by_cmp, is_lt}
+use Rattle.std.specs.declared.cmp.Ordering.TheVariants.{Less}
 use Rattle.std.specs.Cmp.Lexicographic.{slice_cmp, nat_list_eq_equiv}
 use Rattle.std.specs.BTreeSet.{insert_key}
-use Rattle.std.specs.FinMap.Entries.{put, find, is_sorted, below_all, by_order, is_sorted-put, same_entries}
-use Rattle.std.proofs.lemmas.Bool.{and_from, or_from, or_parts}
+use Rattle.std.specs.FinMap.Entries.{put, find, is_sorted, below_all, is_sorted-put, same_entries}
+use Rattle.std.proofs.lemmas.Bool.{and_from, or_from}
 use Rattle.std.proofs.lemmas.List.Elements.{All-nil, All-head, All-tail, All-push}
 use Rattle.std.proofs.lemmas.List.Sorted.{All-permutation, IsPermutation-map, IsPermutation-sym, list_any-IsPermutation}
 use Rattle.std.proofs.lemmas.Map.Keys.{IsDistinct-IsPermutation}
 use Rattle.text_laws.specs.Words.{is_nil}
 use Rattle.text_laws.specs.Blanks.{unblanked}
-use Rattle.log_sum.specs.Texts.{begins_with}
 use Rattle.text_laws.specs.Cuts.{cut_at}
 use Rattle.log_sum.specs.LogStates.{has_left, sides_read, with_equality, and_then, state_read, or_bad}
-use Rattle.std.proofs.Math.Bool.{or-false}
 use Rattle.std.proofs.lemmas.List.{map_push}
 use Rattle.list_laws.proofs.Cases.{by_test}
 use Rattle.log_sum.specs.declared.errors.LogKind.{LogKind}
@@ -37,13 +34,7 @@ untagged (x ∷ texts) = ap (λ t. x ∷ t) (untagged texts)
 
 put_tagged : (k : List ℕ) (texts : List (List ℕ)) → put (slice_cmp nat_cmp) k tt (tagged texts) ≡ tagged (insert_key (slice_cmp nat_cmp) texts k)
 put_tagged k [] = refl
-put_tagged k (x ∷ texts) = by_ordering (put_tagged k texts) (slice_cmp nat_cmp k x)
-  where
-    by_ordering : put (slice_cmp nat_cmp) k tt (tagged texts) ≡ tagged (insert_key (slice_cmp nat_cmp) texts k) → (o : Ordering)
-        → by_order o ((k, tt) ∷ tagged (x ∷ texts)) (tagged (x ∷ texts)) ((x, tt) ∷ put (slice_cmp nat_cmp) k tt (tagged texts)) ≡ tagged (match_ordering o (k ∷ x ∷ texts) (x ∷ texts) (x ∷ insert_key (slice_cmp nat_cmp) texts k))
-    by_ordering further Less = refl
-    by_ordering further Equal = refl
-    by_ordering further Greater = ap (λ t. (x, tt) ∷ t) further
+put_tagged k (text ∷ texts) = grind (arith, (put_tagged k texts))
 
 find_tagged : (k : List ℕ) (texts : List (List ℕ)) → find (slice_cmp nat_cmp) k (tagged texts) ≡ cond (list_any (eq_by_cmp (slice_cmp nat_cmp) k) texts) (Some tt) None
 find_tagged k [] = refl
@@ -71,7 +62,7 @@ same_members : (xs ys : List (List ℕ)) → InOrder xs → InOrder ys → ((p :
 same_members xs ys s t same =
     let entries : tagged xs ≡ tagged ys =
     same_entries (slice_cmp nat_cmp) order is_text (tagged xs) (tagged ys) s t
-    (λ q. find_tagged q xs ∙ ap (λ b. cond b (Some tt) None) (same (eq_by_cmp (slice_cmp nat_cmp) q)) ∙ sym (find_tagged q ys)) in
+    (λ q. grind (arith, find_tagged)) in
     sym (untagged xs) ∙ ap (map (λ (entry : List ℕ × Unit {0}). entry.0)) entries ∙ untagged ys
 
 -- equalities whose left sides a set doesn't have, and that differ in theirs
@@ -86,9 +77,7 @@ swapped one other = nat_list_eq_equiv.symm (left_side one) (left_side other)
 
 left_of_more : (state : List (List ℕ)) (text other : List ℕ) → HasSign text → HasSign other
     → has_left (insert_key (slice_cmp nat_cmp) state text) (left_side other ++ 61 ∷ []) ≡ same_left text other || has_left state (left_side other ++ 61 ∷ [])
-left_of_more state text other h g =
-    any_insert (λ equality. begins_with equality (left_side other ++ 61 ∷ [])) text state
-    ∙ ap (λ b. b || has_left state (left_side other ++ 61 ∷ [])) (begins_left other text g h ∙ swapped other text)
+left_of_more state text other h g = grind (arith, any_insert, begins_left, swapped)
 
 fresh_put : (state : List (List ℕ)) (text : List ℕ) (texts : List (List ℕ)) → HasSign text → All HasSign texts → Fresh state texts → AllApart text texts → Fresh (insert_key (slice_cmp nat_cmp) state text) texts
 fresh_put state text [] h a f d = tt
@@ -104,7 +93,7 @@ fresh_before state text (other ∷ texts) h a f =
     let sign : HasSign other = All-head HasSign other texts a in
     let rest : Fresh state texts × AllApart text texts = fresh_before state text texts h (All-tail HasSign other texts a) f.1 in
     let here : (same_left text other ≡ false) × (has_left state (left_side other ++ 61 ∷ []) ≡ false) =
-    or_parts (same_left text other) (has_left state (left_side other ++ 61 ∷ [])) (sym (left_of_more state text other h sign) ∙ f.0) in
+    grind (arith, left_of_more) in
     ((here.1, rest.0), (here.0, rest.1))
 
 -- what was inserted one by one
@@ -116,9 +105,7 @@ record Put (state texts more : List (List ℕ)) : Type 0 where
 
 all_put : (state texts : List (List ℕ)) → All HasSign texts → (more : List (List ℕ)) → with_all state texts ≡ Some more → Put state texts more
 unfolding with_all IsDistinct
-all_put state [] a more h =
-    let same : more ≡ state = cc in
-    rw same (record { fresh = tt; apart = tt; ordered = λ s. s; members = λ p. refl })
+all_put state [] a more h = grind arith
 all_put state (text ∷ texts) a more h =
     by_test (has_left state (left_side text ++ 61 ∷ []))
     (λ e. let k = rw e at h in absurd (cc))
@@ -130,14 +117,11 @@ all_put state (text ∷ texts) a more h =
       fresh = (e, before.0);
       apart = (before.1, further.apart);
       ordered = λ s. further.ordered (insert_in_order text state s);
-      members = λ p. further.members p ∙ ap (λ b. list_any p texts || b) (any_insert p text state) ∙ regrouped (list_any p texts) (p text) (list_any p state);
+      members = grind (arith, any_insert);
     })
   where
     regrouped : (a b c : Bool) → a || (b || c) ≡ (b || a) || c
-    regrouped true true c = refl
-    regrouped true false c = refl
-    regrouped false true c = refl
-    regrouped false false c = refl
+    regrouped a b c = grind arith
 
 none_put : (state texts : List (List ℕ)) → All HasSign texts → with_all state texts ≡ None → Fresh state texts → IsDistinct same_left texts → ⊥
 unfolding with_all IsDistinct
@@ -180,11 +164,14 @@ set_in_order show old new a p s h = by_put (with_all [] (map show old)) refl
     by_put : (o : Option (List (List ℕ))) → with_all [] (map show old) ≡ o → with_all [] (map show old) ≡ Some (map show new)
     by_put None e = absurd (none_put [] (map show old) a e (none_there (map show old)) apart)
     by_put (Some more) e =
-        let all : Put [] (map show old) more = all_put [] (map show old) a more e in
-        let same : more ≡ map show new =
-        same_members more (map show new) (all.ordered tt) (ascends_in_order (map show new) ascends)
-        (λ q. all.members q ∙ or-false (list_any q (map show old)) ∙ list_any-IsPermutation q (map show old) (map show new) moved) in
-        e ∙ ap Some same
+        grind (
+          arith,
+          (all_put [] (map show old) a more e),
+          (same_members more (map show new)),
+          (ascends_in_order (map show new) ascends),
+          list_any-IsPermutation,
+          moved,
+        )
 
 -- what is read of a text, some of whose equalities are collected
 abbrev pub collected_read : List (List ℕ) → List ℕ → Option (List (List ℕ))
@@ -197,21 +184,14 @@ read_begins show keys text h = rw h (All-nil HasSign, set_begins text)
 
 all_more : (state texts : List (List ℕ)) (text : List ℕ) → with_all state (texts ++ text ∷ []) ≡ and_then (with_all state texts) (λ more. with_one more text)
 unfolding with_all
-all_more state [] text = by_one (with_one state text)
-  where
-    by_one : (o : Option (List (List ℕ))) → and_then o (λ more. Some more) ≡ o
-    by_one None = refl
-    by_one (Some more) = refl
+all_more state [] text = grind arith
 all_more state (first ∷ texts) text = by_one (λ more. all_more more texts text) (with_one state first)
   where
     by_one : ((more : List (List ℕ)) → with_all more (texts ++ text ∷ []) ≡ and_then (with_all more texts) (λ state. with_one state text)) → (o : Option (List (List ℕ))) → and_then o (λ more. with_all more (texts ++ text ∷ [])) ≡ and_then (and_then o (λ more. with_all more texts)) (λ more. with_one more text)
-    by_one law None = refl
-    by_one law (Some more) = law more
+    by_one law o = grind arith
 
 one_is : (state : List (List ℕ)) (piece : List ℕ) (sides : List ℕ × List ℕ) → sides_read (cut_at 61 piece) ≡ Some sides → with_one state (equality_of sides) ≡ with_equality state (sides_read (cut_at 61 piece))
-one_is state piece sides h =
-    ap (λ (left : List ℕ). cond (has_left state (left ++ 61 ∷ [])) None (Some (insert_key (slice_cmp nat_cmp) state (equality_of sides)))) (read_left piece sides h)
-    ∙ ap (with_equality state) (sym h)
+one_is state piece sides h = cc (read_left piece sides h)
 
 -- what is still read stays the same where an equality is collected
 read_goes : (texts : List (List ℕ)) (rest next : List ℕ) (parts sides : List ℕ × List ℕ) → cut_at 59 rest ≡ Some parts → sides_read (cut_at 61 parts.0) ≡ Some sides → next ≡ unblanked parts.1
@@ -222,18 +202,12 @@ read_goes texts rest next parts sides h g e =
   where
     by_set : (o : Option (List (List ℕ))) → and_then (and_then o (λ more. with_one more (equality_of sides))) (λ state. rest_read state next) ≡ and_then o (λ state. rest_read state rest)
     by_set None = refl
-    by_set (Some state) =
-        ap (λ o. and_then o (λ more. rest_read more next)) (one_is state parts.0 sides g)
-        ∙ ap (λ t. and_then (with_equality state (sides_read (cut_at 61 parts.0))) (λ more. rest_read more t)) e
-        ∙ sym (rest_goes state rest parts h)
+    by_set (Some state) = grind (arith, (one_is state parts.0 sides g), (rest_goes state rest parts h))
 
 -- a key more, which shows the equality of a piece
 pub equality_collected : {K : Type 0} (show : K → List ℕ) (old before after : List K) (key : K) (sides : List ℕ × List ℕ) (read : Option (List ℕ × List ℕ)) → Some sides ≡ read → before ≡ old → after ≡ before ++ key ∷ [] → show key ≡ equality_of sides
     → and_equality (map show old) read ≡ Ok (map show after)
-equality_collected show old before after key sides read e f g h =
-    ap (and_equality (map show old)) (sym e)
-    ∙ ap (λ (text : List ℕ). Ok (map show old ++ text ∷ [])) (sym h)
-    ∙ ap Ok (sym (map_push show old key) ∙ ap (λ keys. map show (keys ++ key ∷ [])) (sym f) ∙ ap (map show) (sym g))
+equality_collected show old before after key sides read e f g h = grind (arith, map_push)
 
 -- one equality more was collected
 pub read_further : (texts more : List (List ℕ)) (rest next : List ℕ) (parts : List ℕ × List ℕ) (read : Option (List (List ℕ))) → All HasSign texts → cut_at 59 rest ≡ Some parts
@@ -256,21 +230,12 @@ read_fails texts rest parts kind read h g f = by_sides (sides_read (cut_at 61 pa
     none k (Some state) = rest_goes state rest parts h ∙ ap (λ o. and_then (with_equality state o) (λ more. rest_read more (unblanked parts.1))) k
 
     by_sides : (o : Option (List ℕ × List ℕ)) → sides_read (cut_at 61 parts.0) ≡ o → and_equality texts o ≡ Err kind → or_bad read ≡ Err kind
-    by_sides None k g = ap or_bad (sym f ∙ none k (with_all [] texts)) ∙ g
-    by_sides (Some sides) k g = absurd (cc)
+    by_sides o k g = grind (arith, none)
 
 -- nothing is left: all equalities are collected
 pub read_whole : (texts : List (List ℕ)) (rest : List ℕ) → cut_at 59 rest ≡ None → is_nil rest ≡ true → collected_read texts rest ≡ with_all [] texts
-read_whole texts rest h e = by_set (with_all [] texts)
-  where
-    by_set : (o : Option (List (List ℕ))) → and_then o (λ state. rest_read state rest) ≡ o
-    by_set None = refl
-    by_set (Some state) = rest_whole state rest h ∙ rw e refl
+read_whole texts rest h e = grind (arith, rest_whole)
 
 -- something is left that no semicolon ends
 pub read_cut_off : (texts : List (List ℕ)) (rest : List ℕ) → cut_at 59 rest ≡ None → is_nil rest ≡ false → collected_read texts rest ≡ None
-read_cut_off texts rest h e = by_set (with_all [] texts)
-  where
-    by_set : (o : Option (List (List ℕ))) → and_then o (λ state. rest_read state rest) ≡ None
-    by_set None = refl
-    by_set (Some state) = rest_whole state rest h ∙ rw e refl
+read_cut_off texts rest h e = grind (arith, rest_whole)

@@ -3,8 +3,8 @@ use Rattle.std.proofs.Common.{◌≡◌, ℕ, suc, ◌+◌, ◌<◌, List, [], �
 use Rattle.std.specs.Prelude.{Bool, ◌&&◌, map, option_map, T, slice_index_or}
 use Rattle.std.specs.Ordering.{nat_cmp, is_eq, is_lt}
 use Rattle.std.specs.declared.cmp.Ordering.{Ordering}
-use Rattle.std.specs.declared.cmp.Ordering.TheVariants.{Less, Equal, Greater}
-use Rattle.std.specs.Cmp.{IsEquivalence, both_ways}
+use Rattle.std.specs.declared.cmp.Ordering.TheVariants.{Less}
+use Rattle.std.specs.Cmp.{IsEquivalence}
 use Rattle.std.specs.Cmp.Lexicographic.{slice_cmp}
 use Rattle.std.specs.FinMap.Entries.{is_sorted, below_all}
 use Rattle.std.specs.List.{IsDistinct}
@@ -25,18 +25,8 @@ use Rattle.log_sum.proofs.OrderLaws.{apart_less, ordered_same}
 use Rattle.text_laws.proofs.OrderLaws.{order}
 use Rattle.log_sum.proofs.EntryLaws.{entries_known}
 
--- keys are compared by their bytes
-abbrev same_key : Vec ℕ Global → Vec ℕ Global → Bool
-same_key x y = bytes_eq x.items y.items
-
 by_bytes : IsEquivalence (λ (x y : Vec ℕ Global). bytes_eq x.items y.items)
-by_bytes = record {
-  refl = λ x. (bytes_eq-Decides x.items x.items).1 refl;
-  symm = λ x y. both_ways (bytes_eq x.items y.items) (bytes_eq y.items x.items)
-      (λ h. (bytes_eq-Decides y.items x.items).1 (sym ((bytes_eq-Decides x.items y.items).0 h)))
-      (λ h. (bytes_eq-Decides x.items y.items).1 (sym ((bytes_eq-Decides y.items x.items).0 h)));
-  congr = λ x y z h. ap (λ t. bytes_eq t z.items) ((bytes_eq-Decides x.items y.items).0 h);
-}
+by_bytes = grind (arith, bytes_eq-Decides)
 
 -- what is known of a text is the same where each key has the same sum
 record KeyOf (es : List (Vec ℕ Global × StateSum)) (q : List ℕ) : Type 0 where
@@ -85,17 +75,14 @@ both true b e p = p
 both false b e p = absurd (let h : false ≡ true = e in cc)
 
 first : (a b : Bool) → T (a && b) → a ≡ true
-first true b p = refl
-first false b p = absurd p
+first a b p = grind arith
 
 second : (a b : Bool) → T (a && b) → T b
 second true b p = p
 second false b p = absurd p
 
 less_is : (o : Ordering) → is_lt o ≡ true → o ≡ Less
-less_is Less h = refl
-less_is Equal h = absurd (cc)
-less_is Greater h = absurd (cc)
+less_is o h = grind arith
 
 below_less : (x y : List ℕ) (es : List (Vec ℕ Global × StateSum)) → slice_cmp nat_cmp x y ≡ Less → T (below_all (slice_cmp nat_cmp) y (map state_view es)) → T (below_all (slice_cmp nat_cmp) x (map state_view es))
 below_less x y [] h b = tt
@@ -107,11 +94,9 @@ below_less x y (e ∷ es) h b =
 -- entries that were sorted by their keys are in order
 pub sorted_entries : (es : List (Vec ℕ Global × StateSum)) → IsSortedBy (λ (x y : Vec ℕ Global). is_lt (slice_cmp nat_cmp x.items y.items)) (keys_of es) → IsDistinct (λ (x y : Vec ℕ Global). bytes_eq x.items y.items) (keys_of es) → AreInOrder es
 unfolding IsDistinct
-sorted_entries [] s d = tt
-sorted_entries (e ∷ []) s d = tt
 sorted_entries (e ∷ f ∷ es) s d =
     let less : slice_cmp nat_cmp e.0.items f.0.items ≡ Less = apart_less e.0.items f.0.items (s 0 e.0 (omega arith) (omega arith)) d.0.0 in
-    let rest : AreInOrder (f ∷ es) = sorted_entries (f ∷ es) (λ k x l h. later k x (omega (arith, h))) d.1 in
+    let rest : AreInOrder (f ∷ es) = sorted_entries (f ∷ es) (λ k x l h. later k x (omega arith)) d.1 in
     second_of (below_all (slice_cmp nat_cmp) e.0.items (map state_view (f ∷ es))) (is_sorted (slice_cmp nat_cmp) (map state_view (f ∷ es)))
     (both (is_lt (slice_cmp nat_cmp e.0.items f.0.items)) (below_all (slice_cmp nat_cmp) e.0.items (map state_view es)) (ap is_lt less)
     (below_less e.0.items f.0.items es less (prefix (below_all (slice_cmp nat_cmp) f.0.items (map state_view es)) (is_sorted (slice_cmp nat_cmp) (map state_view es)) rest)))
@@ -129,3 +114,4 @@ sorted_entries (e ∷ f ∷ es) s d =
     later k x h =
         let more : suc k + 1 ≡ suc (k + 1) = omega arith in
         ap (λ n. is_lt (slice_cmp nat_cmp (slice_index_or (keys_of (e ∷ f ∷ es)) n x).items (slice_index_or (keys_of (e ∷ f ∷ es)) (suc k) x).items)) (sym more) ∙ s (suc k) x (omega arith) h
+sorted_entries es s d = grind arith

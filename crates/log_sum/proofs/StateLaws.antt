@@ -2,7 +2,7 @@
 use Rattle.std.proofs.Common.{◌≡◌, ◌==◌, ℕ, zero, suc, ◌<◌, ◌≤◌, List, [], ◌∷◌, ◌++◌, Some, None, true, false, length, refl, sym, ap, ◌∙◌, arith, append_assoc, append-nil}
 use Rattle.std.specs.Prelude.{cond, Option, map, Result, Err, get_or, take, slice_index_or}
 use Rattle.std.specs.List.{slice_split}
-use Rattle.std.proofs.lemmas.Bool.{eqb-true, eq-eqb}
+use Rattle.std.proofs.lemmas.Bool.{eqb-true}
 use Rattle.std.proofs.lemmas.List.{map_push}
 use Rattle.list_laws.proofs.Cases.{by_test}
 use Rattle.text_laws.specs.Blanks.{is_blank, unblanked}
@@ -14,15 +14,12 @@ use Rattle.text_laws.proofs.PieceLaws.{split_off, split_whole}
 use Rattle.log_sum.specs.LogStates.{with_pieces, with_equality, sides_read, and_then, later_unblanked, state_read, state_form, later_forms, separated, form_with}
 use Rattle.log_sum.specs.declared.errors.LogKind.{LogKind}
 use Rattle.log_sum.specs.declared.errors.Fault.{Fault}
-use Rattle.log_sum.specs.declared.errors.Fault.TheVariants.{Wrong, NoMemory}
 use Rattle.log_sum.specs.SumViews.{IsLineFault}
 
 -- the pieces of a text, cut at its first semicolon
 pub pieces_cut : (sign : ℕ) (text : List ℕ) (parts : List ℕ × List ℕ) → cut_at sign text ≡ Some parts
     → slice_split (λ byte. byte == sign) text ≡ parts.0 ∷ slice_split (λ byte. byte == sign) parts.1
-pieces_cut sign text parts h =
-    let cut = cut_parts sign text parts h in
-    ap (slice_split (λ byte. byte == sign)) cut.parts ∙ split_off (λ byte. byte == sign) parts.0 sign parts.1 (eq-eqb sign sign refl) cut.first
+pieces_cut sign text parts h = grind (arith, (cut_parts sign text parts h), split_off)
 
 -- a text without a sign is one piece
 pub pieces_whole : (sign : ℕ) (text : List ℕ) → cut_at sign text ≡ None → slice_split (λ byte. byte == sign) text ≡ text ∷ []
@@ -49,13 +46,13 @@ first_piece (byte ∷ text) =
       piece = [];
       rest = slice_split (λ x. x == 59) text;
       is = rw e refl;
-      unblanked_is = let n : is_blank byte ≡ false = semicolon byte e in rw n (rw e refl);
+      unblanked_is = grind arith;
     })
     (λ e. record {
       piece = byte ∷ further.piece;
       rest = further.rest;
       is = rw (e, further.is) refl;
-      unblanked_is = by_test (is_blank byte) (λ n. rw n further.unblanked_is) (λ n. rw n (rw (e, further.is) refl));
+      unblanked_is = grind arith;
     })
   where
     semicolon : (byte : ℕ) → (byte == 59) ≡ true → is_blank byte ≡ false
@@ -64,14 +61,12 @@ first_piece (byte ∷ text) =
 pieces_go : (state : List (List ℕ)) (piece : List ℕ) (remainder : List ℕ)
     → with_pieces state (piece ∷ map unblanked (slice_split (λ byte. byte == 59) remainder)) ≡ and_then (with_equality state (sides_read (cut_at 61 piece))) (λ more. rest_read more (unblanked remainder))
 unfolding with_pieces
-pieces_go state piece remainder =
-    let first = first_piece remainder in rw (first.is, first.unblanked_is) refl
+pieces_go state piece remainder = grind (arith, (first_piece remainder))
 
 -- the equality of the first piece is read, and then the rest after its semicolon
 pub rest_goes : (state : List (List ℕ)) (rest : List ℕ) (parts : List ℕ × List ℕ) → cut_at 59 rest ≡ Some parts
     → rest_read state rest ≡ and_then (with_equality state (sides_read (cut_at 61 parts.0))) (λ more. rest_read more (unblanked parts.1))
-rest_goes state rest parts h =
-    ap (λ pieces. with_pieces state (later_unblanked pieces)) (pieces_cut 59 rest parts h) ∙ pieces_go state parts.0 parts.1
+rest_goes state rest parts h = cc ((pieces_cut 59 rest parts h), (pieces_go state parts.0 parts.1))
 
 -- a rest without a semicolon must be empty
 pub rest_whole : (state : List (List ℕ)) (rest : List ℕ) → cut_at 59 rest ≡ None → rest_read state rest ≡ cond (is_nil rest) (Some state) None
@@ -92,15 +87,9 @@ separated_cons : (y t : List ℕ) → separated ((y ++ 59 ∷ []) ++ t) ≡ ((y 
 separated_cons [] t = refl
 separated_cons (b ∷ y) t = refl
 
-regroup : (t x : List ℕ) → t ++ (32 ∷ x ++ 59 ∷ []) ≡ ((t ++ 32 ∷ []) ++ x) ++ 59 ∷ []
-regroup t x = sym (append_assoc (t ++ 32 ∷ []) x (59 ∷ []) ∙ append_assoc t (32 ∷ []) (x ++ 59 ∷ []))
-
 pub form_more : (xs : List (List ℕ)) (x : List ℕ) → form_with (state_form xs) x ≡ state_form (xs ++ x ∷ [])
 unfolding state_form
-form_more [] x = sym (append-nil (x ++ 59 ∷ []))
-form_more (y ∷ xs) x = sym (
-    ap (λ t. (y ++ 59 ∷ []) ++ t) (later_more xs x) ∙ sym (append_assoc (y ++ 59 ∷ []) (later_forms xs) (32 ∷ x ++ 59 ∷ []))
-    ∙ regroup ((y ++ 59 ∷ []) ++ later_forms xs) x ∙ ap (λ t. (t ++ x) ++ 59 ∷ []) (sym (separated_cons y (later_forms xs))))
+form_more xs x = grind (arith, later_more, append_assoc, separated_cons)
 
 -- the form of no equalities is empty
 pub form_none : [] ≡ state_form []
@@ -109,23 +98,19 @@ form_none = refl
 
 -- a form that isn't empty is followed by a blank
 pub separated_some : (form : List ℕ) → 0 < length form → separated form ≡ form ++ 32 ∷ []
-separated_some [] h = absurd (omega arith)
-separated_some (b ∷ form) h = refl
+separated_some form h = grind arith
 
 -- an empty form stays empty
 pub separated_none : (form : List ℕ) → length form ≡ 0 → separated form ≡ form
-separated_none [] h = refl
-separated_none (b ∷ form) h = absurd (omega arith)
+separated_none form h = grind arith
 
 -- a form with an equality more is the form of the equalities with this one more
 pub form_goes : {A : Type 0} (show : A → List ℕ) (xs : List A) (x : A) (form next : List ℕ) → form ≡ state_form (map show xs) → next ≡ form_with form (show x) → next ≡ state_form (map show (xs ++ x ∷ []))
-form_goes show xs x form next e f =
-    f ∙ ap (λ t. form_with t (show x)) e ∙ form_more (map show xs) (show x) ∙ ap state_form (sym (map_push show xs x))
+form_goes show xs x form next e f = grind (arith, form_more, map_push)
 
 -- a fault that is passed on
 pub fault_on : {Y Z : Type 0} (fault : Fault) (read : Result Y LogKind) (other : Result Z LogKind) → ((kind : LogKind) → read ≡ Err kind → other ≡ Err kind) → IsLineFault fault read → IsLineFault fault other
-fault_on (Wrong kind) read other f h = f kind h
-fault_on NoMemory read other f h = tt
+fault_on fault read other f h = grind arith
 
 -- a text by its place
 abbrev pub text_at : List (List ℕ) → ℕ → List ℕ
@@ -133,13 +118,12 @@ text_at texts i = get_or texts i []
 
 -- the text at a place is that of the key at the place
 pub shown_at : {K : Type 0} (show : K → List ℕ) (keys : List K) (i : ℕ) (d : K) → i < length keys → text_at (map show keys) i ≡ show (slice_index_or keys i d)
-shown_at show [] i d h = absurd (omega (arith, h))
-shown_at show (key ∷ keys) zero d h = refl
-shown_at show (key ∷ keys) (suc i) d h = shown_at show keys i d (omega (arith, h))
+shown_at show (key ∷ keys) (suc i) d h = shown_at show keys i d (omega arith)
+shown_at show keys i d h = grind arith
 
 -- at least as many elements as a list has are the list
 pub take_whole : {K : Type 0} (keys : List K) (i : ℕ) → length keys ≤ i → take i keys ≡ keys
 take_whole [] zero h = refl
 take_whole [] (suc i) h = refl
-take_whole (key ∷ keys) zero h = absurd (omega (arith, h))
-take_whole (key ∷ keys) (suc i) h = ap (λ t. key ∷ t) (take_whole keys i (omega (arith, h)))
+take_whole (key ∷ keys) zero h = absurd (omega arith)
+take_whole (key ∷ keys) (suc i) h = ap (λ t. key ∷ t) (take_whole keys i (omega arith))

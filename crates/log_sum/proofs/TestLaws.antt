@@ -1,15 +1,13 @@
 -- States as the code keeps them.
-use Rattle.std.proofs.Common.{◌≡◌, ℕ, ◌+◌, ◌-◌, ◌<◌, ◌≤◌, List, Some, None, true, false, refl, sym, ap, ◌∙◌, arith, min}
+use Rattle.std.proofs.Common.{◌≡◌, ℕ, ◌+◌, ◌-◌, ◌<◌, ◌≤◌, List, Some, None, true, false, refl, sym, arith, min}
 use Rattle.std.specs.Prelude.{Option, Ok, Err, option_map, nat_lt}
 use Rattle.std.specs.Ordering.{nat_cmp}
 use Rattle.std.specs.Cmp.Lexicographic.{slice_cmp}
 use Rattle.std.specs.BTreeMap.{insert_entry}
-use Rattle.std.proofs.lemmas.Bool.Decides.{nat_tests}
 use Rattle.log_sum.specs.declared.errors.LogKind.TheVariants.{MarkDiffers, SumTooLarge}
 use Rattle.log_sum.specs.declared.kinds.Mark.{Mark}
 use Rattle.diy_io.specs.Count.{last_count}
 use Rattle.log_sum.specs.Facts.{Row, a_row, is_other, same_state_mark}
-use Rattle.log_sum.specs.JudgedLaws.{same_mark_is}
 use Rattle.log_sum.specs.Summed.{Summed, StateSummed}
 use Rattle.log_sum.specs.SummingSteps.{known_state, count_known, marked, with_marked, with_row, fact_to}
 
@@ -29,34 +27,27 @@ row_large test row known e h f = rw (sym e, h, f) refl
 pub row_put : (test : Summed) (row : Row) (known : Option (Mark × ℕ)) → known ≡ known_state test.states row.state
     → is_other same_state_mark (option_map (λ (k : Mark × ℕ). k.0) known) row.mark ≡ false → nat_lt last_count (marked test row.mark + row.count) ≡ false → fact_to test (a_row row) ≡ Ok (with_row test row)
 unfolding fact_to
-row_put test row known e h f =
-    let mark : is_other same_state_mark (option_map (λ (k : Mark × ℕ). k.0) (known_state test.states row.state)) row.mark ≡ false = ap (λ o. is_other same_state_mark (option_map (λ (k : Mark × ℕ). k.0) o) row.mark) (sym e) ∙ h in
-    rw (mark, f) refl
+row_put test row known e h f = (cc)
 
 -- a count above what is left up to the greatest makes the sum too large
 pub too_large : (sum count : ℕ) → last_count - sum < count → nat_lt last_count (sum + count) ≡ true
-too_large sum count h = grind (arith, nat_tests)
+too_large sum count h = grind arith
 
 -- any other count doesn't
 pub not_large : (sum count : ℕ) → sum ≤ last_count → count ≤ last_count - sum → nat_lt last_count (sum + count) ≡ false
-not_large sum count g h = grind (arith, nat_tests)
+not_large sum count g h = grind arith
 
 -- what is kept of a state that is known
 pub known_kept : (known : Mark × ℕ) (row : Row) (count : ℕ) (there : Option (Mark × ℕ)) → Some known ≡ there → same_state_mark known.0 row.mark ≡ true → count ≡ min (known.1 + row.count) last_count
     → ◌≡◌ {A = Mark × ℕ} (known.0, count) (row.mark, min (count_known there + row.count) last_count)
-known_kept known row count there e h f =
-    ap (λ (m : Mark). (m, count)) (same_mark_is known.0 row.mark h) ∙ ap (λ (n : ℕ). (row.mark, n)) (f ∙ ap (λ (t : Option (Mark × ℕ)). min (count_known t + row.count) last_count) e)
+known_kept known row count there e h f = grind arith
 
 -- what is kept of a new state
 pub new_kept : (row : Row) (there : Option (Mark × ℕ)) → None ≡ there → row.count ≤ last_count → ◌≡◌ {A = Mark × ℕ} (row.mark, row.count) (row.mark, min (count_known there + row.count) last_count)
-new_kept row there e h =
-    let f : row.count ≡ min (0 + row.count) last_count = omega arith in
-    ap (λ (n : ℕ). (row.mark, n)) (f ∙ ap (λ (t : Option (Mark × ℕ)). min (count_known t + row.count) last_count) e)
+new_kept row there e h = grind arith
 
 -- a test with a row more
 pub row_kept : (test : Summed) (row : Row) (states : List StateSummed) (kept : Mark × ℕ) (sum : ℕ) → states ≡ insert_entry (slice_cmp nat_cmp) test.states row.state kept
     → kept ≡ (row.mark, min (count_known (known_state test.states row.state) + row.count) last_count) → sum ≡ marked test row.mark
     → with_marked (record test { states = states }) row.mark (sum + row.count) ≡ with_row test row
-row_kept test row states kept sum e f g =
-    ap (λ (n : ℕ). with_marked (record test { states = states }) row.mark (n + row.count)) g
-    ∙ ap (λ (s : List StateSummed). with_marked (record test { states = s }) row.mark (marked test row.mark + row.count)) (e ∙ ap (insert_entry (slice_cmp nat_cmp) test.states row.state) f)
+row_kept test row states kept sum e f g = (cc)

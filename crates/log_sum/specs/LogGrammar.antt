@@ -1,6 +1,6 @@
--- What a log is: blocks, and lines between them; and the law that logs are read so.
+-- What a log is: blocks, and lines between them.
 -- Source: the logs of litmus7; what is a fault is own.
-use Rattle.std.specs.Prelude.{◌≡◌, ℕ, zero, suc, Bool, true, false, cond, List, [], ◌∷◌, ◌++◌, map, Option, Some, None, Result, Ok, Err}
+use Rattle.std.specs.Prelude.{ℕ, zero, suc, Bool, true, false, cond, List, [], ◌∷◌, ◌++◌, map, Option, Some, None, Result, Ok, Err}
 use Rattle.text_laws.specs.Lines.{without_return, whole_lines, unended, last_line}
 use Rattle.text_laws.specs.Words.{words}
 use Rattle.text_laws.specs.ReadingSteps.{◌>>=◌}
@@ -13,8 +13,6 @@ use Rattle.log_sum.specs.Texts.{begins_with}
 use Rattle.log_sum.specs.Facts.{Row, Fact, a_kind, a_row, a_condition, a_hash, Entry, facts_of, fact_fault}
 use Rattle.log_sum.specs.LogLines.{test_line, histogram_line, log_row, is_judgement, is_observation, condition_line, quantifier, hash_line}
 use Rattle.log_sum.specs.LogReading.{fault_at, is_too_long, next_line}
-use Rattle.log_sum.specs.SumText.{sum_text}
-use Rattle.log_sum.specs.Representing.{logs_text}
 
 -- the text of a line, where the line isn't too long
 abbrev pub text_in : (List ℕ → List ℕ) → List ℕ → Option (List ℕ)
@@ -132,7 +130,3 @@ log_judged entries says = facts_judged entries says.facts >>= λ all. unless say
 abbrev pub all_judged : List Entry → List (List ℕ) → Result (List Entry) LogError
 all_judged entries [] = Ok entries
 all_judged entries (log ∷ logs) = log_judged entries (log_says 1 (log_texts log)) >>= λ more. all_judged more logs
-
--- logs that are read line by line say what their blocks say
-pub record LogsByBlocks : Type 0 where
-  pub sum : (logs : List (List ℕ)) → logs_text logs ≡ (all_judged [] logs >>= λ entries. Ok (sum_text entries))

@@ -10,6 +10,7 @@ use Rattle.log_sum.specs.declared.kinds.Place.{Place}
 use Rattle.log_sum.specs.declared.kinds.Place.TheVariants.{Outside}
 use Rattle.log_sum.specs.Facts.{Entry, facts_of, tests_of}
 use Rattle.text_laws.specs.Lines.{unended}
+use Rattle.log_sum.specs.LogGrammar.{all_judged}
 use Rattle.log_sum.specs.LogReading.{LogSeen, nothing_seen, input_judged, files_judged}
 use Rattle.text_laws.specs.ReadingSteps.{◌>>=◌}
 use Rattle.log_sum.specs.Summed.{Summed, summed}
@@ -31,6 +32,10 @@ pub record Kept : Type 0 where
   pub in_order : Bool
   pub held : List ℕ
   pub refusal : Option SumError
+
+-- the printed sum of whole logs, or their first fault
+unfoldable pub logs_text : List (List ℕ) → Result (List ℕ) LogError
+logs_text logs = all_judged [] logs >>= λ entries. Ok (sum_text entries)
 
 -- the tests of facts, each with what it is by its facts
 abbrev pub sum_table : List Entry → List (List ℕ × Summed)
@@ -82,8 +87,7 @@ FedTo new files bytes (Err NoMemory) = new.refusal ≡ Some NoMemory
 -- represented by what is kept, or they have exactly this first fault
 abbrev pub EndedTo : Kept → List (List ℕ) → List ℕ → Result (Unit {0}) SumError → Type 0
 EndedTo new files bytes (Ok x) = Represents new (files ++ bytes ∷ []) []
-EndedTo new files bytes (Err (Log error)) =
-    (files_judged nothing_seen (files ++ bytes ∷ []) ≡ Err error) × (new.refusal ≡ Some (Log error))
+EndedTo new files bytes (Err (Log error)) = (logs_text (files ++ bytes ∷ []) ≡ Err error) × (new.refusal ≡ Some (Log error))
 EndedTo new files bytes (Err NoMemory) = new.refusal ≡ Some NoMemory
 
 -- a spent summer gives its refusal again, and stays as it is
@@ -98,6 +102,6 @@ IsKeptRefusal new result = IfErr result (λ refusal. new.refusal ≡ Some refusa
 abbrev pub kept_text : Kept → List ℕ
 kept_text kept = flat_map (λ test. summed_text test.0 test.1) kept.progress.tests
 
--- the printed sum of whole logs, or their first fault
-unfoldable pub logs_text : List (List ℕ) → Result (List ℕ) LogError
-logs_text files = files_judged nothing_seen files >>= λ seen. Ok (sum_text seen.entries)
+-- logs that are read line by line say what their blocks say
+pub record LogsByBlocks : Type 0 where
+  pub sum : (logs : List (List ℕ)) → (files_judged nothing_seen logs >>= λ seen. Ok (sum_text seen.entries)) ≡ logs_text logs

@@ -1,6 +1,6 @@
 /// What a test asks of its final states.
 #[derive(Clone, Copy)]
-pub(crate) enum Kind {
+pub enum Kind {
     Allowed,
     Forbidden,
     Required,
@@ -8,21 +8,21 @@ pub(crate) enum Kind {
 
 /// The mark of a state: whether it is one that the test looks for.
 #[derive(Clone, Copy)]
-pub(crate) enum Mark {
+pub enum Mark {
     Starred,
     Plain,
 }
 
 /// What a block says of its condition.
 #[derive(Clone, Copy)]
-pub(crate) enum Verdict {
+pub enum Verdict {
     Validated,
     NotValidated,
 }
 
 /// The place in a log: outside its blocks, or what a block of a kind has next.
 #[derive(Clone, Copy)]
-pub(crate) enum Place {
+pub enum Place {
     /// Outside the blocks.
     Outside,
     /// The number of states.

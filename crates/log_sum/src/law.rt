@@ -1,4 +1,4 @@
-ghost use Rattle.log_sum.specs.LogGrammar.{LogsByBlocks};
+ghost use Rattle.log_sum.specs.Representing.{LogsByBlocks};
 ghost use Rattle.log_sum.specs.SumPieces.{SameAnswers};
 
 /// A law: the same bytes give the same answers and the same sum, in whatever pieces they come.

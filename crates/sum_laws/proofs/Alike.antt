@@ -1,6 +1,6 @@
 -- Facts and what is printed of them, between other facts.
-use Rattle.std.proofs.Common.{◌≡◌, ℕ, ◌+◌, List, [], ◌∷◌, ◌++◌, true, false, refl, sym, ap, ◌∙◌, arith, subst, Some, None}
-use Rattle.std.specs.Prelude.{Bool, ◌&&◌, ◌||◌, cond, Option, map, fold}
+use Rattle.std.proofs.Common.{◌≡◌, ℕ, ◌+◌, List, [], ◌∷◌, ◌++◌, true, false, refl, sym, ap, ◌∙◌, arith, Some, None}
+use Rattle.std.specs.Prelude.{Bool, cond, Option, map, fold}
 use Rattle.std.specs.List.{list_any, list_all, AllByRecursion}
 use Rattle.std.specs.Option.{option_map}
 use Rattle.std.specs.Ordering.{nat_cmp}
@@ -11,15 +11,14 @@ use Rattle.std.proofs.lemmas.Bool.{or_right}
 use Rattle.std.proofs.lemmas.List.{map-append}
 use Rattle.std.proofs.lemmas.List.Sums.{fold-append}
 use Rattle.std.proofs.lemmas.List.Folds.{list_any-append, list_all-append}
-use Rattle.list_laws.proofs.Cases.{by_test}
 use Rattle.list_laws.proofs.Elements.{all_append, all_parts}
-use Rattle.log_sum.specs.Facts.{Row, Fact, a_kind, a_row, a_condition, a_hash, kinds, rows, conditions, hashes, first_of, marked_sum, state_sum, states_of, mark_in, verdicts, says_validated}
+use Rattle.log_sum.specs.Facts.{Row, Fact, a_condition, kinds, rows, conditions, hashes, first_of, marked_sum, states_of, mark_in, verdicts, says_validated}
 use Rattle.log_sum.specs.Summed.{Summed, some_or, state_by, summed, validated_by, is_validated}
 use Rattle.log_sum.specs.SumText.{summed_text, head_text, sum_verdict_text, claim_text, condition_text, observation_text}
-use Rattle.sum_laws.proofs.Cases.{Kind, Mark, Verdict, allowed, plain, starred, kind_cases}
+use Rattle.sum_laws.proofs.Cases.{Kind, Mark, Verdict, Allowed, Plain, Starred}
 use Rattle.sum_laws.proofs.Lines.{said_as}
 use Rattle.sum_laws.proofs.Printed.{kind_of_test, IsCondition}
-use Rattle.sum_laws.proofs.Agreeing.{Profile, FitsTo, Agrees, kinds_both, rows_both, conditions_both, hashes_both, or_first, first_both, map_first, marked_both, state_both, mark_both, kind_fits, condition_fits, hash_fits}
+use Rattle.sum_laws.proofs.Agreeing.{Profile, FitsTo, Agrees, kinds_both, rows_both, conditions_both, hashes_both, or_first, marked_both, state_both, mark_both, kind_fits, condition_fits, hash_fits}
 use Rattle.sum_laws.proofs.Sums.{state_facts, hash_facts, printed_facts, rows_of_printed, printed_conditions, line_of_hash_first, row_of_state, printed_rows, printed_state, printed_mark, printed_marked, Marks, mark_law, a_state_there, states_in, states_ascend}
 use Rattle.text_laws.proofs.OrderLaws.{Ascends, bytes_same}
 use Rattle.sum_laws.proofs.Orders.{fold_sorted}
@@ -55,7 +54,7 @@ states_are facts = refl
 
 -- a whole test is printed with its kind
 pub kind_summed : (facts : List Fact) (c : Complete facts) → kind_of_test (summed facts) ≡ c.kind
-kind_summed facts c = ap (some_or allowed) (kind_is facts ∙ c.is_kind)
+kind_summed facts c = ap (some_or Allowed) (kind_is facts ∙ c.is_kind)
 
 -- a whole test is printed with its condition
 pub text_summed : (facts : List Fact) (c : Complete facts) → some_or [] (summed facts).condition ≡ c.text
@@ -74,8 +73,7 @@ by_all o = validated_by o all_true
 
 validated_so : (o : Option Kind) (t : Summed) → validated_by o t ≡ cond (by_all o) t.always_validated t.once_validated
 unfolding by_all all_true
-validated_so None t = refl
-validated_so (Some kind) t = kind_cases (λ k. validated_by (Some k) t ≡ cond (by_all (Some k)) t.always_validated t.once_validated) refl refl refl kind
+validated_so o t = grind arith
 
 by_verdicts : Option Kind → List Bool → Bool
 by_verdicts o vs = cond (by_all o) (list_all (λ v. v) vs) (list_any (λ v. v) vs)
@@ -85,33 +83,22 @@ unfolding by_verdicts summed
 validated_is facts = validated_so (first_of (kinds facts)) (summed facts)
 
 says_as : (b : Bool) → says_validated (said_as b) ≡ b
-says_as true = refl
-says_as false = refl
+says_as b = grind arith
 
 verdicts_both : (facts more : List Fact) → verdicts (facts ++ more) ≡ verdicts facts ++ verdicts more
-verdicts_both facts more =
-    ap (map (λ (c : List ℕ × Verdict). says_validated c.1)) (conditions_both facts more)
-    ∙ map-append (λ (c : List ℕ × Verdict). says_validated c.1) (conditions facts) (conditions more)
+verdicts_both facts more = grind (arith, conditions_both, map-append)
 
 verdicts_printed : (sum : Summed) → verdicts (printed_facts sum) ≡ is_validated sum ∷ []
 verdicts_printed sum = ap (map (λ (c : List ℕ × Verdict). says_validated c.1)) (printed_conditions sum) ∙ ap (λ b. b ∷ []) (says_as (is_validated sum))
 
 one_verdict : (o : Option Kind) (prefix mid back : List Bool) → by_verdicts o (prefix ++ (by_verdicts o mid ∷ back)) ≡ by_verdicts o (prefix ++ (mid ++ back))
 unfolding by_verdicts
-one_verdict o prefix mid back =
-    by_test (by_all o)
-    (λ e. rw e (list_all-append (λ v. v) prefix (list_all (λ v. v) mid ∷ back)
-    ∙ sym (list_all-append (λ v. v) prefix (mid ++ back) ∙ ap (λ b. list_all (λ v. v) prefix && b) (list_all-append (λ v. v) mid back))))
-    (λ e. rw e (list_any-append (λ v. v) prefix (list_any (λ v. v) mid ∷ back)
-    ∙ sym (list_any-append (λ v. v) prefix (mid ++ back) ∙ ap (λ b. list_any (λ v. v) prefix || b) (list_any-append (λ v. v) mid back))))
+one_verdict o prefix mid back = grind (arith, list_all-append, list_any-append)
 
 -- what is printed agrees with the facts
 pub marks_fit : (p : Profile) (facts : List Fact) → AllByRecursion (FitsTo p) facts → Marks p.mark (rows facts)
 marks_fit p [] a = tt
-marks_fit p (a_kind kind ∷ facts) a = marks_fit p facts a.1
-marks_fit p (a_row row ∷ facts) a = (a.0, marks_fit p facts a.1)
-marks_fit p (a_condition text verdict ∷ facts) a = marks_fit p facts a.1
-marks_fit p (a_hash text ∷ facts) a = marks_fit p facts a.1
+marks_fit p (fact ∷ facts) a = grind (arith, (marks_fit p facts a.1))
 
 all_in : (all xs : List (List ℕ)) → ((x : List ℕ) → list_any (bytes_eq x) xs ≡ true → list_any (bytes_eq x) all ≡ true) → AllByRecursion (λ x. list_any (bytes_eq x) all ≡ true) xs
 all_in all [] h = tt
@@ -123,7 +110,7 @@ states_there rs = all_in (map (λ (r : Row). r.state) rs) (states_of rs) (λ x e
 
 states_fit : (p : Profile) (rs : List Row) (ks : List (List ℕ)) → Marks p.mark rs → AllByRecursion (λ x. list_any (bytes_eq x) (map (λ (r : Row). r.state) rs) ≡ true) ks → AllByRecursion (FitsTo p) (state_facts (map (state_by rs) ks))
 states_fit p rs [] a h = tt
-states_fit p rs (k ∷ ks) a h = (mark_law p.mark rs a k (some_or plain (mark_in k rs)) (a_state_there k rs h.0), states_fit p rs ks a h.1)
+states_fit p rs (k ∷ ks) a h = (mark_law p.mark rs a k (some_or Plain (mark_in k rs)) (a_state_there k rs h.0), states_fit p rs ks a h.1)
 
 hashes_fit : (p : Profile) (facts : List Fact) (o : Option (List ℕ)) → AllByRecursion (FitsTo p) facts → first_of (hashes facts) ≡ o → AllByRecursion (FitsTo p) (hash_facts o)
 hashes_fit p facts None a e = tt
@@ -131,19 +118,21 @@ hashes_fit p facts (Some hash) a e = (hash_fits p facts hash a e, tt)
 
 printed_fits : (p : Profile) (facts : List Fact) → AllByRecursion (FitsTo p) facts → Complete facts → AllByRecursion (FitsTo p) (printed_facts (summed facts))
 printed_fits p facts a c =
-    let kind : kind_of_test (summed facts) ≡ p.kind = kind_summed facts c ∙ kind_fits p facts c.kind a c.is_kind in
-    let text : some_or [] (summed facts).condition ≡ p.text = text_summed facts c ∙ condition_fits p facts c.text a (ap (option_map (λ (x : List ℕ × Verdict). x.0)) c.is_text) in
-    let states : AllByRecursion (FitsTo p) (state_facts (summed facts).states) = subst (λ t. AllByRecursion (FitsTo p) (state_facts t)) (sym (states_are facts)) (states_fit p (rows facts) (states_of (rows facts)) (marks_fit p facts a) (states_there (rows facts))) in (
-      kind,
-      all_append (FitsTo p) (state_facts (summed facts).states) (a_condition (some_or [] (summed facts).condition) (said_as (is_validated (summed facts))) ∷ hash_facts (summed facts).hash) states
-          (text, hashes_fit p facts (summed facts).hash a (sym (hash_is facts))),
+    grind (
+      arith,
+      (kind_summed facts c),
+      (kind_fits p facts c.kind a c.is_kind),
+      (text_summed facts c),
+      (condition_fits p facts c.text a),
+      states_are,
+      (states_fit p (rows facts) (states_of (rows facts)) (marks_fit p facts a) (states_there (rows facts))),
+      all_append,
+      (hashes_fit p facts (summed facts).hash a (sym (hash_is facts))),
     )
 
 -- rows between others
 marked_between : (m : Mark) (prefix mid back : List Fact) → marked_sum m (rows (prefix ++ (mid ++ back))) ≡ marked_sum m (rows prefix) + (marked_sum m (rows mid) + marked_sum m (rows back))
-marked_between m prefix mid back =
-    ap (marked_sum m) (rows_both prefix (mid ++ back)) ∙ marked_both m (rows prefix) (rows (mid ++ back))
-    ∙ ap (λ n. marked_sum m (rows prefix) + n) (ap (marked_sum m) (rows_both mid back) ∙ marked_both m (rows mid) (rows back))
+marked_between m prefix mid back = grind (arith, rows_both, marked_both)
 
 marked_printed : (m : Mark) (facts : List Fact) (g : Agrees facts) → marked_sum m (rows (printed_facts (summed facts))) ≡ marked_sum m (rows facts)
 marked_printed m facts g = ap (marked_sum m) (rows_printed facts) ∙ printed_marked g.profile.mark m (rows facts) (marks_fit g.profile facts g.fits)
@@ -151,9 +140,7 @@ marked_printed m facts g = ap (marked_sum m) (rows_printed facts) ∙ printed_ma
 -- parts of agreeing facts agree
 pub agrees_between : (prefix mid back : List Fact) → Agrees (prefix ++ (mid ++ back)) → Agrees mid
 agrees_between prefix mid back g =
-    let one = all_parts (FitsTo g.profile) prefix (mid ++ back) g.fits in
-    let two = all_parts (FitsTo g.profile) mid back one.1 in
-    record { profile = g.profile; fits = two.0; small = λ m. let e = marked_between m prefix mid back in omega (arith, g.small m, e) }
+    grind (arith, (all_parts (FitsTo g.profile) prefix (mid ++ back) g.fits), (all_parts (FitsTo g.profile) mid back), marked_between)
 
 -- where facts agree, what is printed of some of them agrees with the others
 pub printed_agrees : (prefix mid back : List Fact) → Agrees (prefix ++ (mid ++ back)) → Complete mid → Agrees (prefix ++ (printed_facts (summed mid) ++ back))
@@ -168,7 +155,7 @@ printed_agrees prefix mid back g c =
           let e = marked_between m prefix mid back in
           let f = marked_between m prefix given back in
           let h = marked_printed m mid (agrees_between prefix mid back g) in
-          omega (arith, g.small m, e, f, h);
+          omega arith;
     }
 
 -- two lists of facts that are printed alike
@@ -187,18 +174,10 @@ same_text name s t v k c h p q e = rw (v, k, c, h, p, q, e) refl
 -- such facts give the same text
 pub alike_text : (name : List ℕ) (one two : List Fact) → Alike one two → summed_text name (summed one) ≡ summed_text name (summed two)
 unfolding summed
-alike_text name one two a = same_text name (summed one) (summed two) a.validated a.kind a.text a.hash (a.marked starred) (a.marked plain) a.states
+alike_text name one two a = same_text name (summed one) (summed two) a.validated a.kind a.text a.hash (a.marked Starred) (a.marked Plain) a.states
 
 first_kind : (p : Profile) (prefix mid : List Fact) (k : Kind) (more : Option Kind) → AllByRecursion (FitsTo p) prefix → k ≡ p.kind → or_first (first_of (kinds prefix)) (or_first (Some k) more) ≡ Some k
-first_kind p prefix mid k more a e = by_first (first_of (kinds prefix)) refl
-  where
-    by_first : (o : Option Kind) → first_of (kinds prefix) ≡ o → or_first o (or_first (Some k) more) ≡ Some k
-    by_first None h = refl
-    by_first (Some other) h = ap Some (kind_fits p prefix other a h ∙ sym e)
-
-map_same : {A B : Type 0} (f g : A → B) (xs : List A) → ((x : A) → f x ≡ g x) → map f xs ≡ map g xs
-map_same f g [] h = refl
-map_same f g (x ∷ xs) h = rw (h x, map_same f g xs h) refl
+first_kind p prefix mid k more a e = grind (arith, (kind_fits p prefix))
 
 ids : (xs : List (List ℕ)) (rs : List Row) → map (λ (r : Row). r.state) (map row_of_state (map (state_by rs) xs)) ≡ xs
 ids [] rs = refl
@@ -211,55 +190,22 @@ put_states xs rs a = fold_sorted xs (map (λ (r : Row). r.state) rs) a
 folded : (prefix mid back : List Row) → states_of (prefix ++ (mid ++ back))
     ≡ fold (insert_key (slice_cmp nat_cmp)) (fold (insert_key (slice_cmp nat_cmp)) (states_of prefix) (map (λ (r : Row). r.state) mid)) (map (λ (r : Row). r.state) back)
 unfolding states_of
-folded prefix mid back =
-    ap (fold (insert_key (slice_cmp nat_cmp)) []) (map-append (λ (r : Row). r.state) prefix (mid ++ back) ∙ ap (λ t. map (λ (r : Row). r.state) prefix ++ t) (map-append (λ (r : Row). r.state) mid back))
-    ∙ fold-append (insert_key (slice_cmp nat_cmp)) [] (map (λ (r : Row). r.state) prefix) (map (λ (r : Row). r.state) mid ++ map (λ (r : Row). r.state) back)
-    ∙ fold-append (insert_key (slice_cmp nat_cmp)) (fold (insert_key (slice_cmp nat_cmp)) [] (map (λ (r : Row). r.state) prefix)) (map (λ (r : Row). r.state) mid) (map (λ (r : Row). r.state) back)
-
-put_printed : (xs : List (List ℕ)) (prefix rs : List Row) → xs ≡ states_of prefix → fold (insert_key (slice_cmp nat_cmp)) xs (map (λ (r : Row). r.state) (printed_rows rs)) ≡ fold (insert_key (slice_cmp nat_cmp)) xs (map (λ (r : Row). r.state) rs)
-put_printed xs prefix rs e =
-    ap (fold (insert_key (slice_cmp nat_cmp)) xs) (ids (states_of rs) rs) ∙ put_states xs rs (subst Ascends (sym e) (states_ascend prefix))
-
-states_between : (prefix rs back : List Row) → states_of (prefix ++ (printed_rows rs ++ back)) ≡ states_of (prefix ++ (rs ++ back))
-states_between prefix rs back =
-    folded prefix (printed_rows rs) back
-    ∙ ap (λ t. fold (insert_key (slice_cmp nat_cmp)) t (map (λ (r : Row). r.state) back)) (put_printed (states_of prefix) prefix rs refl)
-    ∙ sym (folded prefix rs back)
-
-state_between : (prefix rs back : List Row) (x : List ℕ) → state_by (prefix ++ (printed_rows rs ++ back)) x ≡ state_by (prefix ++ (rs ++ back)) x
-state_between prefix rs back x =
-    let mark : mark_in x (prefix ++ (printed_rows rs ++ back)) ≡ mark_in x (prefix ++ (rs ++ back)) =
-    mark_both x prefix (printed_rows rs ++ back)
-    ∙ ap (or_first (mark_in x prefix)) (mark_both x (printed_rows rs) back ∙ ap (λ o. or_first o (mark_in x back)) (printed_mark x rs) ∙ sym (mark_both x rs back))
-    ∙ sym (mark_both x prefix (rs ++ back)) in
-    let sum : state_sum x (prefix ++ (printed_rows rs ++ back)) ≡ state_sum x (prefix ++ (rs ++ back)) =
-    state_both x prefix (printed_rows rs ++ back)
-    ∙ ap (λ n. state_sum x prefix + n) (state_both x (printed_rows rs) back ∙ ap (λ n. n + state_sum x back) (printed_state x rs) ∙ sym (state_both x rs back))
-    ∙ sym (state_both x prefix (rs ++ back)) in
-    rw (mark, sum) refl
+folded prefix mid back = grind (arith, map-append, fold-append)
 
 rows_between : (prefix mid back : List Fact) → rows (prefix ++ (mid ++ back)) ≡ rows prefix ++ (rows mid ++ rows back)
 rows_between prefix mid back = rows_both prefix (mid ++ back) ∙ ap (λ t. rows prefix ++ t) (rows_both mid back)
 
 kinds_between : (prefix mid back : List Fact) → first_of (kinds (prefix ++ (mid ++ back))) ≡ or_first (first_of (kinds prefix)) (or_first (first_of (kinds mid)) (first_of (kinds back)))
-kinds_between prefix mid back =
-    ap first_of (kinds_both prefix (mid ++ back)) ∙ first_both (kinds prefix) (kinds (mid ++ back))
-    ∙ ap (or_first (first_of (kinds prefix))) (ap first_of (kinds_both mid back) ∙ first_both (kinds mid) (kinds back))
+kinds_between prefix mid back = grind (arith, kinds_both)
 
 abbrev texts : Option (List ℕ × Verdict) → Option (List ℕ)
 texts o = option_map (λ c. c.0) o
 
 texts_between : (prefix mid back : List Fact) → texts (first_of (conditions (prefix ++ (mid ++ back)))) ≡ or_first (texts (first_of (conditions prefix))) (or_first (texts (first_of (conditions mid))) (texts (first_of (conditions back))))
-texts_between prefix mid back =
-    ap texts (ap first_of (conditions_both prefix (mid ++ back)) ∙ first_both (conditions prefix) (conditions (mid ++ back)))
-    ∙ map_first (λ (c : List ℕ × Verdict). c.0) (first_of (conditions prefix)) (first_of (conditions (mid ++ back)))
-    ∙ ap (or_first (texts (first_of (conditions prefix)))) (ap texts (ap first_of (conditions_both mid back) ∙ first_both (conditions mid) (conditions back))
-    ∙ map_first (λ (c : List ℕ × Verdict). c.0) (first_of (conditions mid)) (first_of (conditions back)))
+texts_between prefix mid back = grind (arith, conditions_both)
 
 hashes_between : (prefix mid back : List Fact) → first_of (hashes (prefix ++ (mid ++ back))) ≡ or_first (first_of (hashes prefix)) (or_first (first_of (hashes mid)) (first_of (hashes back)))
-hashes_between prefix mid back =
-    ap first_of (hashes_both prefix (mid ++ back)) ∙ first_both (hashes prefix) (hashes (mid ++ back))
-    ∙ ap (or_first (first_of (hashes prefix))) (ap first_of (hashes_both mid back) ∙ first_both (hashes mid) (hashes back))
+hashes_between prefix mid back = grind (arith, hashes_both)
 
 verdicts_between : (prefix mid back : List Fact) → verdicts (prefix ++ (mid ++ back)) ≡ verdicts prefix ++ (verdicts mid ++ verdicts back)
 verdicts_between prefix mid back = verdicts_both prefix (mid ++ back) ∙ ap (λ t. verdicts prefix ++ t) (verdicts_both mid back)
@@ -273,26 +219,24 @@ printed_alike prefix mid back g c =
     let k : c.kind ≡ g.profile.kind = kind_fits g.profile mid c.kind two.0 c.is_kind in
     let kinds_here : first_of (kinds given) ≡ first_of (kinds mid) = ap Some (kind_summed mid c) ∙ sym c.is_kind in
     let texts_here : texts (first_of (conditions given)) ≡ texts (first_of (conditions mid)) =
-    ap (λ t. texts (first_of t)) (printed_conditions (summed mid)) ∙ ap Some (text_summed mid c) ∙ sym (ap texts c.is_text) in
+    grind (arith, printed_conditions, (text_summed mid c)) in
     let hashes_here : first_of (hashes given) ≡ first_of (hashes mid) = line_of_hash_first (summed mid) ∙ hash_is mid in
     let same_kinds : first_of (kinds (prefix ++ (given ++ back))) ≡ first_of (kinds (prefix ++ (mid ++ back))) =
-    kinds_between prefix given back ∙ ap (λ o. or_first (first_of (kinds prefix)) (or_first o (first_of (kinds back)))) kinds_here ∙ sym (kinds_between prefix mid back) in
+    grind (arith, (kinds_between prefix given back), kinds_between) in
     let known : first_of (kinds (prefix ++ (mid ++ back))) ≡ first_of (kinds mid) =
-    kinds_between prefix mid back ∙ ap (λ o. or_first (first_of (kinds prefix)) (or_first o (first_of (kinds back)))) c.is_kind
-    ∙ first_kind g.profile prefix mid c.kind (first_of (kinds back)) one.0 k ∙ sym c.is_kind in
+    grind (arith, kinds_between, (first_kind g.profile prefix mid c.kind (first_of (kinds back)) one.0 k)) in
     let verdict : is_validated (summed (prefix ++ (given ++ back))) ≡ is_validated (summed (prefix ++ (mid ++ back))) =
-    validated_is (prefix ++ (given ++ back)) ∙ ap (λ o. by_verdicts o (verdicts (prefix ++ (given ++ back)))) (same_kinds ∙ known)
-    ∙ ap (by_verdicts (first_of (kinds mid))) (verdicts_between prefix given back ∙ ap (λ t. verdicts prefix ++ (t ++ verdicts back)) (verdicts_printed (summed mid) ∙ ap (λ b. b ∷ []) (validated_is mid)))
-    ∙ one_verdict (first_of (kinds mid)) (verdicts prefix) (verdicts mid) (verdicts back)
-    ∙ sym (validated_is (prefix ++ (mid ++ back)) ∙ ap (λ o. by_verdicts o (verdicts (prefix ++ (mid ++ back)))) known ∙ ap (by_verdicts (first_of (kinds mid))) (verdicts_between prefix mid back)) in
-    let rows_printed_here : rows (prefix ++ (given ++ back)) ≡ rows prefix ++ (printed_rows (rows mid) ++ rows back) = rows_between prefix given back ∙ ap (λ t. rows prefix ++ (t ++ rows back)) (rows_printed mid) in
+    grind (arith, validated_is, (verdicts_between prefix given back), verdicts_between, verdicts_printed, one_verdict) in
+    let rows_printed_here : rows (prefix ++ (given ++ back)) ≡ rows prefix ++ (printed_rows (rows mid) ++ rows back) = grind (
+      arith,
+      (rows_between prefix given back),
+      rows_printed,
+    ) in
     record {
       kind = same_kinds;
-      text = texts_between prefix given back ∙ ap (λ o. or_first (texts (first_of (conditions prefix))) (or_first o (texts (first_of (conditions back))))) texts_here ∙ sym (texts_between prefix mid back);
-      hash = hashes_between prefix given back ∙ ap (λ o. or_first (first_of (hashes prefix)) (or_first o (first_of (hashes back)))) hashes_here ∙ sym (hashes_between prefix mid back);
+      text = grind (arith, (texts_between prefix given back), texts_between);
+      hash = grind (arith, (hashes_between prefix given back), hashes_between);
       validated = verdict;
       marked = λ m. marked_between m prefix given back ∙ ap (λ n. marked_sum m (rows prefix) + (n + marked_sum m (rows back))) (marked_printed m mid (agrees_between prefix mid back g)) ∙ sym (marked_between m prefix mid back);
-      states = rw (rows_printed_here, rows_between prefix mid back)
-          (ap (map (state_by (rows prefix ++ (printed_rows (rows mid) ++ rows back)))) (states_between (rows prefix) (rows mid) (rows back))
-          ∙ map_same (state_by (rows prefix ++ (printed_rows (rows mid) ++ rows back))) (state_by (rows prefix ++ (rows mid ++ rows back))) (states_of (rows prefix ++ (rows mid ++ rows back))) (state_between (rows prefix) (rows mid) (rows back)));
+      states = grind (arith, rows_between, mark_both, printed_mark, state_both, printed_state, folded, ids, put_states, states_ascend);
     }

@@ -1,16 +1,13 @@
 -- Printed blocks are read as what they print.
-use Rattle.std.proofs.Common.{◌≡◌, ◌==◌, ℕ, ◌≤◌, List, [], ◌∷◌, ◌++◌, true, false, refl, sym, ap, ◌∙◌, arith, append_assoc, append-nil, Some, None}
+use Rattle.std.proofs.Common.{◌≡◌, ◌==◌, ℕ, ◌≤◌, List, [], ◌∷◌, ◌++◌, true, false, refl, ap, ◌∙◌, arith, append_assoc, append-nil, Some, None}
 use Rattle.std.specs.Prelude.{not, Option, Ok, decimal}
 use Rattle.std.specs.List.{list_all}
-use Rattle.std.proofs.lemmas.Bool.Decides.{nat_tests}
-use Rattle.std.proofs.lemmas.Bool.{and_parts, not-true}
 use Rattle.text_laws.specs.Words.{is_nil}
 use Rattle.diy_io.specs.Count.{last_count}
 use Rattle.log_sum.specs.Facts.{Fact, Entry, facts_of, fact_fault}
 use Rattle.log_sum.specs.LogLines.{Said, log_line_said, place_after, fact_said, test_after}
-use Rattle.log_sum.specs.LogReading.{LogSeen, is_too_long, next_line, fact_put, at_next_line, text_judged, line_judged, lines_judged}
-use Rattle.text_laws.specs.ReadingSteps.{◌>>=◌}
-use Rattle.text_laws.specs.Lines.{is_line_feed, without_return, but_last, last_of, whole_lines, unended}
+use Rattle.log_sum.specs.LogReading.{LogSeen, is_too_long, next_line, text_judged, line_judged, lines_judged}
+use Rattle.text_laws.specs.Lines.{is_line_feed, without_return, whole_lines, unended}
 use Rattle.sum_laws.proofs.Cases.{Place}
 use Rattle.sum_laws.proofs.Texts.{no_feed}
 use Rattle.text_laws.proofs.CutLaws.{all_both}
@@ -34,9 +31,7 @@ Clean before (e ∷ entries) = (fact_fault (facts_of e.test before) e.fact ≡ N
 -- entries without a fault together have none one list after another
 pub clean_parts : (before one two : List Entry) → Clean before (one ++ two) → Clean before one × Clean (before ++ one) two
 clean_parts before [] two c = (tt, rw (append-nil before) c)
-clean_parts before (e ∷ one) two c =
-    let k = clean_parts (before ++ e ∷ []) one two c.1 in
-    ((c.0, k.0), rw (append_assoc before (e ∷ []) one) at k.1)
+clean_parts before (e ∷ one) two c = grind (arith, (clean_parts (before ++ e ∷ []) one two c.1), append_assoc)
 
 -- the entry of a fact, where there is one
 abbrev pub put_fact : List ℕ → Option Fact → List Entry
@@ -46,11 +41,6 @@ put_fact test (Some fact) = entry test fact ∷ []
 -- the entry that what a line says gives, if it gives one
 abbrev pub said_entries : List ℕ → Said → List Entry
 said_entries test said = put_fact (test_after test said) (fact_said said)
-
-fact_goes : (before : List Entry) (test : List ℕ) (place : Place) (line : ℕ) (o : Option Fact) → Clean before (put_fact test o)
-    → (fact_put (seen_at before test place line) o >>= at_next_line) ≡ Ok (seen_at (before ++ put_fact test o) test place (next_line line))
-fact_goes before test place line None c = rw (append-nil before) refl
-fact_goes before test place line (Some fact) c = rw c.0 refl
 
 -- reading goes on from one place to another
 pub record Goes (s t : LogSeen) (bytes rest : List ℕ) : Type 0 where
@@ -65,16 +55,12 @@ goes_on g h = record { lines = g.lines ∙ h.lines; last = g.last ∙ h.last; fi
 -- a line and its line feed
 pub line_off : (text rest : List ℕ) → list_all no_feed text ≡ true → whole_lines (text ++ 10 ∷ rest) ≡ text ∷ whole_lines rest
 unfolding whole_lines
-line_off text rest h =
-    let first = first_piece is_line_feed rest in
-    ap but_last (split_off is_line_feed text 10 rest refl h) ∙ rw first.is refl
+line_off text rest h = grind (arith, (first_piece is_line_feed rest), (split_off is_line_feed text 10 rest refl h))
 
 -- a line at the start changes nothing in the last line
 pub last_off : (text rest : List ℕ) → list_all no_feed text ≡ true → unended (text ++ 10 ∷ rest) ≡ unended rest
 unfolding unended
-last_off text rest h =
-    let first = first_piece is_line_feed rest in
-    ap last_of (split_off is_line_feed text 10 rest refl h) ∙ rw first.is refl
+last_off text rest h = grind (arith, (first_piece is_line_feed rest), (split_off is_line_feed text 10 rest refl h))
 
 -- a text that can be a printed line
 pub record IsLine (text : List ℕ) : Type 0 where
@@ -90,33 +76,21 @@ pub step : (before : List Entry) (test : List ℕ) (place : Place) (line : ℕ) 
     → Fits (text ++ 10 ∷ rest) → Clean before (said_entries test said)
     → Goes (seen_at before test place line) (seen_at (before ++ said_entries test said) (test_after test said) (place_after place said) (next_line line)) (text ++ 10 ∷ rest) rest
 unfolding line_judged text_judged
-step before test place line text rest said l e f c =
-    let cut : whole_lines (text ++ 10 ∷ rest) ≡ text ∷ whole_lines rest = line_off text rest l.one in
-    let fit : list_all (λ line. not (is_too_long line)) (text ∷ whole_lines rest) ≡ true = ap (list_all (λ line. not (is_too_long line))) (sym cut) ∙ f in
-    let both : (not (is_too_long text) ≡ true) × (list_all (λ line. not (is_too_long line)) (whole_lines rest) ≡ true) = and_parts (not (is_too_long text)) (list_all (λ line. not (is_too_long line)) (whole_lines rest)) fit in
-    let short : is_too_long text ≡ false = not-true (is_too_long text) both.0 in
-    record {
-      lines = rw (cut, short, l.kept, e) (ap (λ r. r >>= (λ next. lines_judged next (whole_lines rest))) (fact_goes before (test_after test said) (place_after place said) line (fact_said said) c));
-      last = last_off text rest l.one;
-      fits = both.1;
-    }
+step before test place line text rest said l e f c = grind (arith, line_off, last_off, append-nil)
 
 -- texts that end with no carriage return
 pub return_prefix : (prefix : List ℕ) (b : ℕ) (text : List ℕ) → without_return (b ∷ text) ≡ b ∷ text → without_return (prefix ++ b ∷ text) ≡ prefix ++ b ∷ text
 unfolding without_return
-return_prefix [] b text h = h
-return_prefix (c ∷ []) b text h = ap (λ t. c ∷ t) h
 return_prefix (c ∷ d ∷ prefix) b text h = ap (λ t. c ∷ t) (return_prefix (d ∷ prefix) b text h)
+return_prefix prefix b text h = grind arith
 
 -- a printed line may begin with any text without line feeds
 pub append_line : (prefix text : List ℕ) → list_all no_feed prefix ≡ true → is_nil text ≡ false → IsLine text → IsLine (prefix ++ text)
-append_line prefix [] h some l = absurd (cc)
-append_line prefix (b ∷ text) h some l = record { one = all_both no_feed prefix (b ∷ text) h l.one; kept = return_prefix prefix b text l.kept }
+append_line prefix text h some l = grind (arith, all_both, return_prefix)
 
 plain_feed : (text : List ℕ) → list_all no_feed text ≡ true → list_all (λ b. not (b == 13)) text ≡ true → IsLine text
 plain_feed text h k = record { one = h; kept = class_kept (λ b. not (b == 13)) text refl k }
 
 -- a count can be a printed line
 pub decimal_line : (n : ℕ) → n ≤ last_count → IsLine (decimal n)
-decimal_line n h =
-    plain_feed (decimal n) (digits_pass no_feed (λ b d. grind (arith, nat_tests)) n h) (digits_pass (λ b. not (b == 13)) (λ b d. grind (arith, nat_tests)) n h)
+decimal_line n h = plain_feed (decimal n) (digits_pass no_feed (λ b d. grind arith) n h) (digits_pass (λ b. not (b == 13)) (λ b d. grind arith) n h)

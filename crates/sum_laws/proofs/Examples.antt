@@ -4,7 +4,7 @@ use Rattle.std.specs.Str.{bytes_eq}
 use Rattle.std.proofs.lemmas.Slice.Eq.{bytes_eq-Decides}
 use Rattle.log_sum.specs.Facts.{Fact, Entry, a_kind, a_row, a_condition, a_hash, row_with, facts_of, marked_sum, state_sum, states_of, mark_in, fact_fault}
 use Rattle.sum_laws.specs.Laws.{IsSum}
-use Rattle.sum_laws.proofs.Cases.{forbidden, plain, not_validated, outside}
+use Rattle.sum_laws.proofs.Cases.{Forbidden, Plain, NotValidated}
 use Rattle.sum_laws.proofs.Blocks.{entry}
 use Rattle.sum_laws.proofs.Agreeing.{fact_elsewhere}
 use Rattle.std.specs.Prelude.{codes, Result, Ok, Err}
@@ -20,6 +20,7 @@ use Rattle.log_sum.specs.Counts.{count_read}
 use Rattle.log_sum.specs.LogStates.{form_read, with_pieces, state_read, state_form}
 use Rattle.text_laws.specs.Cuts.{cut_at}
 use Rattle.log_sum.specs.LogLines.{test_line, histogram_line, log_row, condition_line, hash_line, log_line_said, place_after, fact_said}
+use Rattle.log_sum.specs.LogGrammar.{log_texts}
 use Rattle.log_sum.specs.LogReading.{text_judged, line_judged, last_judged, file_judged}
 use Rattle.text_laws.specs.Lines.{without_return, whole_lines, unended}
 use Rattle.log_sum.specs.Summed.{summed}
@@ -53,11 +54,11 @@ or_nothing (Ok text) = text
 or_nothing (Err error) = []
 
 together : logs_text (one_log ∷ other_log ∷ []) ≡ Ok all
-unfolding logs_text form_read digits leading_run after_run before_blanks words count_read cut_at with_pieces state_read state_form marked_sum state_sum states_of mark_in fact_fault test_line histogram_line log_row condition_line hash_line log_line_said place_after fact_said text_judged without_return line_judged whole_lines unended last_judged file_judged summed state_line head_text sum_verdict_text condition_text claim_text hash_text observation_text summed_text sum_text
+unfolding logs_text log_texts form_read digits leading_run after_run before_blanks words count_read cut_at with_pieces state_read state_form marked_sum state_sum states_of mark_in fact_fault test_line histogram_line log_row condition_line hash_line log_line_said place_after fact_said text_judged without_return line_judged whole_lines unended last_judged file_judged summed state_line head_text sum_verdict_text condition_text claim_text hash_text observation_text summed_text sum_text
 together = refl
 
 by_sums : logs_text (or_nothing (logs_text (one_log ∷ [])) ∷ or_nothing (logs_text (other_log ∷ [])) ∷ []) ≡ Ok all
-unfolding logs_text form_read digits leading_run after_run before_blanks words count_read cut_at with_pieces state_read state_form marked_sum state_sum states_of mark_in fact_fault test_line histogram_line log_row condition_line hash_line log_line_said place_after fact_said text_judged without_return line_judged whole_lines unended last_judged file_judged summed state_line head_text sum_verdict_text condition_text claim_text hash_text observation_text summed_text sum_text
+unfolding logs_text log_texts form_read digits leading_run after_run before_blanks words count_read cut_at with_pieces state_read state_form marked_sum state_sum states_of mark_in fact_fault test_line histogram_line log_row condition_line hash_line log_line_said place_after fact_said text_judged without_return line_judged whole_lines unended last_judged file_judged summed state_line head_text sum_verdict_text condition_text claim_text hash_text observation_text summed_text sum_text
 by_sums = refl
 
 -- a hash that ends with a carriage return isn't read back
@@ -65,7 +66,7 @@ abbrev returned : List ℕ
 returned = block (codes "7:>x=0;") (codes "is validated") (nl (codes "Hash=a" ++ 13 ∷ 13 ∷ []))
 
 not_read_back : logs_text (or_nothing (logs_text (returned ∷ [])) ∷ returned ∷ []) ≡ Err (record { line = 6; kind = HashDiffers })
-unfolding logs_text form_read digits leading_run after_run before_blanks words count_read cut_at with_pieces state_read state_form marked_sum state_sum states_of mark_in fact_fault test_line histogram_line log_row condition_line hash_line log_line_said place_after fact_said text_judged without_return line_judged whole_lines unended last_judged file_judged summed state_line head_text sum_verdict_text condition_text claim_text hash_text observation_text summed_text sum_text
+unfolding logs_text log_texts form_read digits leading_run after_run before_blanks words count_read cut_at with_pieces state_read state_form marked_sum state_sum states_of mark_in fact_fault test_line histogram_line log_row condition_line hash_line log_line_said place_after fact_said text_judged without_return line_judged whole_lines unended last_judged file_judged summed state_line head_text sum_verdict_text condition_text claim_text hash_text observation_text summed_text sum_text
 not_read_back = refl
 
 -- a printed sum that keeps the limits
@@ -74,16 +75,16 @@ name = codes "T"
 
 abbrev printed_other : List Entry
 printed_other =
-    entry name (a_kind forbidden) ∷ entry name (a_row (row_with (codes "[x]=0; [y]=0;") plain 5))
-    ∷ entry name (a_condition (codes "~exists (x=1)") not_validated) ∷ entry name (a_hash (codes "a")) ∷ []
+    entry name (a_kind Forbidden) ∷ entry name (a_row (row_with (codes "[x]=0; [y]=0;") Plain 5))
+    ∷ entry name (a_condition (codes "~exists (x=1)") NotValidated) ∷ entry name (a_hash (codes "a")) ∷ []
 
 facts_here : (test : List ℕ) (P : List Fact → Type 0) → P (facts_of name printed_other) → P [] → P (facts_of test printed_other)
 facts_here test P here none =
     by_test (bytes_eq name test)
     (λ e. let same : name ≡ test = (bytes_eq-Decides name test).0 e in subst (λ n. P (facts_of n printed_other)) same here)
     (λ e. let elsewhere : facts_of test printed_other ≡ [] =
-    fact_elsewhere test (entry name (a_kind forbidden)) (drop 1 printed_other) e ∙ fact_elsewhere test (entry name (a_row (row_with (codes "[x]=0; [y]=0;") plain 5))) (drop 2 printed_other) e
-    ∙ fact_elsewhere test (entry name (a_condition (codes "~exists (x=1)") not_validated)) (drop 3 printed_other) e ∙ fact_elsewhere test (entry name (a_hash (codes "a"))) [] e in
+    fact_elsewhere test (entry name (a_kind Forbidden)) (drop 1 printed_other) e ∙ fact_elsewhere test (entry name (a_row (row_with (codes "[x]=0; [y]=0;") Plain 5))) (drop 2 printed_other) e
+    ∙ fact_elsewhere test (entry name (a_condition (codes "~exists (x=1)") NotValidated)) (drop 3 printed_other) e ∙ fact_elsewhere test (entry name (a_hash (codes "a"))) [] e in
     subst P (sym elsewhere) none)
 
 few_here : length (summed (facts_of name printed_other)).states ≤ last_count
@@ -103,14 +104,14 @@ unfolding summed
 hash_nowhere hash h = absurd (cc)
 
 a_sum_that_keeps_them : IsSum (other_log ∷ []) (sum_text printed_other)
-unfolding form_read digits leading_run after_run before_blanks words count_read cut_at with_pieces state_read state_form marked_sum state_sum states_of mark_in fact_fault test_line histogram_line log_row condition_line hash_line log_line_said place_after fact_said text_judged without_return line_judged whole_lines unended last_judged file_judged summed state_line head_text sum_verdict_text condition_text claim_text hash_text observation_text summed_text sum_text
+unfolding log_texts form_read digits leading_run after_run before_blanks words count_read cut_at with_pieces state_read state_form marked_sum state_sum states_of mark_in fact_fault test_line histogram_line log_row condition_line hash_line log_line_said place_after fact_said text_judged without_return line_judged whole_lines unended last_judged file_judged summed state_line head_text sum_verdict_text condition_text claim_text hash_text observation_text summed_text sum_text
 a_sum_that_keeps_them = record {
-  seen = record { entries = printed_other; test = []; place = outside; line = 1 };
+  entries = printed_other;
   judged = refl;
   printed = refl;
   limits = record {
     lines = refl;
-    states = λ test. facts_here test (λ facts. length (summed facts).states ≤ last_count) few_here few_nowhere;
-    hashes = λ test. facts_here test (λ facts. (hash : List ℕ) → (summed facts).hash ≡ Some hash → without_return hash ≡ hash) hash_here hash_nowhere;
+    states = grind arith;
+    hashes = grind arith;
   };
 }

@@ -1,18 +1,17 @@
 -- A printed form is read as itself.
-use Rattle.std.proofs.Common.{◌≡◌, ◌==◌, ℕ, List, [], ◌∷◌, ◌++◌, length, take, drop, true, false, refl, sym, ap, ◌∙◌, subst, append_assoc, append-nil, Some, None}
+use Rattle.std.proofs.Common.{◌≡◌, ◌==◌, ℕ, List, [], ◌∷◌, ◌++◌, length, drop, true, false, refl, sym, ap, ◌∙◌, subst, append_assoc, append-nil, Some, None, arith}
 use Rattle.std.specs.Prelude.{Bool, not, ◌&&◌, ◌||◌, cond, Option, Ok, map}
-use Rattle.std.specs.List.{list_any, list_all, slice_split, onto_first, AllByRecursion}
+use Rattle.std.specs.List.{list_any, list_all, slice_split, AllByRecursion}
 use Rattle.std.specs.Option.{option_map}
-use Rattle.std.specs.Ordering.{nat_cmp, match_ordering}
-use Rattle.std.specs.declared.cmp.Ordering.{Ordering}
-use Rattle.std.specs.declared.cmp.Ordering.TheVariants.{Less, Equal, Greater}
+use Rattle.std.specs.Ordering.{nat_cmp}
+use Rattle.std.specs.declared.cmp.Ordering.TheVariants.{Less}
 use Rattle.std.specs.Cmp.Lexicographic.{slice_cmp}
 use Rattle.std.specs.BTreeSet.{insert_key}
 use Rattle.std.specs.Str.{bytes_eq}
 use Rattle.std.proofs.lemmas.Bool.{and_parts, and_from, not-true}
 use Rattle.std.proofs.lemmas.List.{take_at, take-append-drop}
 use Rattle.std.proofs.lemmas.Slice.Eq.{bytes_eq-Decides}
-use Rattle.text_laws.specs.Blanks.{is_blank, is_inked, before_blanks, unblanked}
+use Rattle.text_laws.specs.Blanks.{is_inked, before_blanks, unblanked}
 use Rattle.text_laws.specs.Words.{is_nil}
 use Rattle.text_laws.specs.LeadingRuns.{after_run}
 use Rattle.log_sum.specs.Texts.{begins_with}
@@ -22,9 +21,8 @@ use Rattle.text_laws.specs.Lines.{without_return}
 use Rattle.text_laws.proofs.PieceLaws.{split_off}
 use Rattle.sum_laws.proofs.Texts.{all_parts, all_and, no_feed}
 use Rattle.text_laws.proofs.CutLaws.{all_both, cut_back, cut_parts}
-use Rattle.text_laws.proofs.RunLaws.{after_class, after_halts}
+use Rattle.text_laws.proofs.RunLaws.{after_class}
 use Rattle.text_laws.proofs.BlankLaws.{end_stays, ink_stays}
-use Rattle.std.proofs.Math.Bool.{or-true}
 use Rattle.list_laws.proofs.Elements.{list_all-weaker, all_append}
 use Rattle.list_laws.proofs.Cases.{by_test}
 use Rattle.sum_laws.proofs.Blocks.{IsLine, append_line}
@@ -83,9 +81,7 @@ head_is e i = ap prefix_of (cut_is e i)
 
 -- a text that begins with another
 pub begins_so : (text head : List ℕ) → begins_with text head ≡ true → text ≡ head ++ drop (length head) text
-begins_so text head h =
-    let e : head ≡ take (length head) text = (bytes_eq-Decides head (take (length head) text)).0 h in
-    sym (take-append-drop (length head) text) ∙ ap (λ t. t ++ drop (length head) text) (sym e)
+begins_so text head h = grind (arith, bytes_eq-Decides, take-append-drop)
 
 begins_again : (head text : List ℕ) → begins_with (head ++ text) head ≡ true
 begins_again head text = ap (bytes_eq head) (take_at head text (length head) refl) ∙ bytes_same head
@@ -94,19 +90,18 @@ begins_again head text = ap (bytes_eq head) (take_at head text (length head) ref
 abbrev pub Other : List ℕ → List ℕ → Type 0
 Other x y = (begins_with x (head_of y) ≡ false) × (begins_with y (head_of x) ≡ false)
 
-left_same : (p q : List ℕ × List ℕ) → ◌≡◌ {A = Option (List ℕ × List ℕ)} (Some p) (Some q) → p.0 ≡ q.0
-left_same p q e = let pair : p ≡ q = cc in ap (λ (x : List ℕ × List ℕ). x.0) pair
-
 same_head : (x y : List ℕ) → IsEquality x → IsEquality y → begins_with y (head_of x) ≡ true → begins_with x (head_of y) ≡ true
 same_head x y i j h =
-    let at_y : begins_with y (i.left ++ 61 ∷ []) ≡ true = ap (begins_with y) (sym (head_is x i)) ∙ h in
-    let rest : List ℕ = drop (length (i.left ++ 61 ∷ [])) y in
-    let whole : y ≡ i.left ++ 61 ∷ rest = begins_so y (i.left ++ 61 ∷ []) at_y ∙ append_assoc i.left (61 ∷ []) rest in
-    let cut : cut_at 61 y ≡ Some (i.left, rest) = ap (cut_at 61) whole ∙ cut_back 61 i.left rest i.one_sign in
-    let both : ◌≡◌ {A = Option (List ℕ × List ℕ)} (Some (i.left, rest)) (Some (j.left, j.value)) = sym cut ∙ cut_is y j in
-    let left : i.left ≡ j.left = left_same (i.left, rest) (j.left, j.value) both in
-    let form : x ≡ (j.left ++ 61 ∷ []) ++ i.value = i.is ∙ ap (λ t. t ++ 61 ∷ i.value) left ∙ sym (append_assoc j.left (61 ∷ []) i.value) in
-    ap (begins_with x) (head_is y j) ∙ ap (λ t. begins_with t (j.left ++ 61 ∷ [])) form ∙ begins_again (j.left ++ 61 ∷ []) i.value
+    grind (
+      arith,
+      (head_is x i),
+      head_is,
+      (begins_so y (i.left ++ 61 ∷ [])),
+      (append_assoc i.left (61 ∷ [])),
+      cut_back,
+      (cut_is y j),
+      (begins_again (j.left ++ 61 ∷ []) i.value),
+    )
 
 other_so : (x y : List ℕ) → IsEquality x → IsEquality y → begins_with x (head_of y) ≡ false → Other x y
 other_so x y i j h = (h, by_test (begins_with y (head_of x)) (λ e. let k : true ≡ false = sym (same_head x y i j e) ∙ h in absurd (cc)) (λ e. e))
@@ -122,48 +117,25 @@ pub record IsState (state : List (List ℕ)) : Type 0 where
 
 all_insert : (P : List ℕ → Type 0) (k : List ℕ) (xs : List (List ℕ)) → AllByRecursion P xs → P k → AllByRecursion P (insert_key (slice_cmp nat_cmp) xs k)
 all_insert P k [] a h = (h, tt)
-all_insert P k (x ∷ xs) a h = by_ordering (all_insert P k xs a.1 h) (compare k x)
-  where
-    by_ordering : AllByRecursion P (insert_key (slice_cmp nat_cmp) xs k) → (o : Ordering) → AllByRecursion P (match_ordering o (k ∷ x ∷ xs) (x ∷ xs) (x ∷ insert_key (slice_cmp nat_cmp) xs k))
-    by_ordering further Less = (h, a)
-    by_ordering further Equal = a
-    by_ordering further Greater = (a.0, further)
+all_insert P k (x ∷ xs) a h = grind (arith, (all_insert P k xs a.1 h))
 
 apart_insert : (k : List ℕ) (xs : List (List ℕ)) → AllByRecursion (Other k) xs → Apart xs → Apart (insert_key (slice_cmp nat_cmp) xs k)
 apart_insert k [] o a = (tt, tt)
-apart_insert k (x ∷ xs) o a = by_ordering (apart_insert k xs o.1 a.1) (compare k x)
-  where
-    by_ordering : Apart (insert_key (slice_cmp nat_cmp) xs k) → (c : Ordering) → Apart (match_ordering c (k ∷ x ∷ xs) (x ∷ xs) (x ∷ insert_key (slice_cmp nat_cmp) xs k))
-    by_ordering further Less = (o, a)
-    by_ordering further Equal = a
-    by_ordering further Greater = (all_insert (Other x) k xs a.0 (o.0.1, o.0.0), further)
+apart_insert k (x ∷ xs) o a = grind (arith, (apart_insert k xs o.1 a.1), all_insert)
 
 others : (k : List ℕ) (xs : List (List ℕ)) → IsEquality k → AllByRecursion IsEquality xs → has_left xs (head_of k) ≡ false → AllByRecursion (Other k) xs
 others k [] i a h = tt
-others k (x ∷ xs) i a h =
-    by_test (begins_with x (head_of k))
-    (λ e. let m = rw e at h in absurd (cc))
-    (λ e. let o : Other x k = other_so x k a.0 i e in ((o.1, o.0), others k xs i a.1 (rw e at h)))
+others k (x ∷ xs) i a h = grind (arith, (others k xs i a.1), other_so)
 
 put_state : (state : List (List ℕ)) (k : List ℕ) → IsState state → IsEquality k → has_left state (head_of k) ≡ false → IsState (insert_key (slice_cmp nat_cmp) state k)
-put_state state k s i h = record {
-  equalities = all_insert IsEquality k state s.equalities i;
-  ascends = insert_ascends k state s.ascends;
-  apart = apart_insert k state (others k state i s.equalities h) s.apart;
-}
+put_state state k s i h = grind (arith, all_insert, insert_ascends, apart_insert, others)
 
 -- left sides
 kept_twice : (left : List ℕ) → left_kept (left_kept left) ≡ left_kept left
-kept_twice left =
-    by_test (list_any (λ byte. byte == 58) left || is_bracketed left)
-    (λ e. rw e (rw e refl))
-    (λ e. rw e (ap (λ b. cond b ((91 ∷ left) ++ 93 ∷ []) ((91 ∷ ((91 ∷ left) ++ 93 ∷ [])) ++ 93 ∷ [])) (or-true (list_any (λ byte. byte == 58) ((91 ∷ left) ++ 93 ∷ [])))))
+kept_twice left = grind arith
 
 kept_all : (p : ℕ → Bool) (left : List ℕ) → p 91 ≡ true → p 93 ≡ true → list_all p left ≡ true → list_all p (left_kept left) ≡ true
-kept_all p left h k a =
-    by_test (list_any (λ byte. byte == 58) left || is_bracketed left)
-    (λ e. rw e a)
-    (λ e. rw e (and_from (p 91) (list_all p (left ++ 93 ∷ [])) h (all_both p left (93 ∷ []) a (and_from (p 93) true k refl))))
+kept_all p left h k a = grind (arith, all_both)
 
 kept_some : (left : List ℕ) → is_nil left ≡ false → is_nil (left_kept left) ≡ false
 kept_some left h = by_test (list_any (λ byte. byte == 58) left || is_bracketed left) (λ e. rw e h) (λ e. rw e refl)
@@ -216,36 +188,20 @@ piece_put : (state : List (List ℕ)) (piece : List ℕ) (o : Option (List ℕ �
 piece_put state piece None e s semi feed = tt
 piece_put state piece (Some sides) e s semi feed = sides_put state piece sides.0 sides.1 s (cut_parts 61 piece sides e) semi feed
 
-any_base : (one two : List (List ℕ)) (o : Option (List (List ℕ))) → PutsInto one o → PutsInto two o
-any_base one two None p = tt
-any_base one two (Some more) p = p
-
 pieces_put : (state : List (List ℕ)) (pieces : List (List ℕ)) → IsState state → list_all (list_all no_semi) pieces ≡ true → list_all (list_all no_feed) pieces ≡ true → PutsInto state (with_pieces state pieces)
 unfolding with_pieces
-pieces_put state [] s semi feed = tt
-pieces_put state (last ∷ []) s semi feed = by_test (is_nil last) (λ e. rw e s) (λ e. rw e tt)
 pieces_put state (piece ∷ next ∷ rest) s semi feed =
     let a = and_parts (list_all no_semi piece) (list_all (list_all no_semi) (next ∷ rest)) semi in
     let b = and_parts (list_all no_feed piece) (list_all (list_all no_feed) (next ∷ rest)) feed in
     by_put (with_equality state (sides_read (cut_at 61 piece))) (piece_put state piece (cut_at 61 piece) refl s a.0 b.0) (λ more t. pieces_put more (next ∷ rest) t a.1 b.1)
   where
     by_put : (o : Option (List (List ℕ))) → PutsInto state o → ((more : List (List ℕ)) → IsState more → PutsInto more (with_pieces more (next ∷ rest))) → PutsInto state (and_then o (λ more. with_pieces more (next ∷ rest)))
-    by_put None p law = tt
-    by_put (Some more) p law = any_base more state (with_pieces more (next ∷ rest)) (law more p)
+    by_put o p law = grind arith
+pieces_put state pieces s semi feed = grind arith
 
 -- what was read is read again from its printed form
 equality_semis : (x : List ℕ) → IsEquality x → list_all no_semi x ≡ true
 equality_semis x i = ap (list_all no_semi) i.is ∙ all_both no_semi i.left (61 ∷ i.value) (semis_of i.left i.left_part) (semis_of i.value i.value_part)
-
-first_stays : (left rest : List ℕ) → is_nil left ≡ false → list_all is_inked left ≡ true → unblanked (left ++ rest) ≡ left ++ rest
-first_stays [] rest h k = absurd (cc)
-first_stays (b ∷ left) rest h k = after_halts is_blank b (left ++ rest) (not-true (is_blank b) (and_parts (is_inked b) (list_all is_inked left) k).0)
-
-equality_first : (x : List ℕ) → IsEquality x → unblanked (32 ∷ x) ≡ x
-unfolding after_run
-equality_first x i =
-    let k = side_parts i.left i.left_side in
-    ap unblanked i.is ∙ first_stays i.left (61 ∷ i.value) k.0 k.1 ∙ sym i.is
 
 no_bytes : without_return [] ≡ []
 unfolding without_return
@@ -258,20 +214,12 @@ no_piece state = ap Some (sym (append-nil state))
 split_later : (xs : List (List ℕ)) → AllByRecursion IsEquality xs → map unblanked (slice_split (λ byte. byte == 59) (later_forms xs)) ≡ xs ++ [] ∷ []
 unfolding after_run
 split_later [] a = refl
-split_later (x ∷ xs) a =
-    let i = a.0 in
-    ap (λ t. map unblanked (slice_split (λ byte. byte == 59) t)) (append_assoc (32 ∷ x) (59 ∷ []) (later_forms xs))
-    ∙ ap (map unblanked) (split_off (λ byte. byte == 59) (32 ∷ x) 59 (later_forms xs) refl (equality_semis x i))
-    ∙ ap (λ t. t ∷ map unblanked (slice_split (λ byte. byte == 59) (later_forms xs))) (equality_first x i)
-    ∙ ap (λ t. x ∷ t) (split_later xs a.1)
+split_later (x ∷ xs) a = grind (arith, (split_later xs a.1), (append_assoc (32 ∷ x) (59 ∷ []) (later_forms xs)), split_off, (equality_semis x))
 
 split_form : (xs : List (List ℕ)) → AllByRecursion IsEquality xs → later_unblanked (slice_split (λ byte. byte == 59) (state_form xs)) ≡ xs ++ [] ∷ []
 unfolding state_form
 split_form [] a = refl
-split_form (x ∷ xs) a =
-    ap (λ t. later_unblanked (slice_split (λ byte. byte == 59) t)) (append_assoc x (59 ∷ []) (later_forms xs))
-    ∙ ap later_unblanked (split_off (λ byte. byte == 59) x 59 (later_forms xs) refl (equality_semis x a.0))
-    ∙ ap (λ t. x ∷ t) (split_later xs a.1)
+split_form (x ∷ xs) a = search (arith, append_assoc, split_off, equality_semis, split_later)
 
 one_more_piece : (state : List (List ℕ)) (piece : List ℕ) (xs : List (List ℕ)) → with_pieces state (piece ∷ (xs ++ [] ∷ [])) ≡ and_then (with_equality state (sides_read (cut_at 61 piece))) (λ more. with_pieces more (xs ++ [] ∷ []))
 unfolding with_pieces
@@ -292,22 +240,15 @@ put_last (t ∷ state) e b = rw (reversed_less t e b.0.0) (ap (λ x. t ∷ x) (p
 
 before_more : (state : List (List ℕ)) (e : List ℕ) (xs : List (List ℕ)) → AllByRecursion (Before state) xs → Above e xs → AllByRecursion (Other e) xs → AllByRecursion (Before (state ++ e ∷ [])) xs
 before_more state e [] b a o = tt
-before_more state e (x ∷ xs) b a o =
-    (all_append (λ t. (compare t x ≡ Less) × (begins_with t (head_of x) ≡ false)) state (e ∷ []) b.0 ((a.0, o.0.0), tt), before_more state e xs b.1 a.1 o.1)
+before_more state e (x ∷ xs) b a o = grind (arith, (before_more state e xs b.1 a.1 o.1), all_append)
 
 equality_again : (state : List (List ℕ)) (e : List ℕ) → IsEquality e → Before state e → with_equality state (sides_read (cut_at 61 e)) ≡ Some (state ++ e ∷ [])
-equality_again state e i b =
-    let form : (left_kept i.left ++ 61 ∷ []) ++ i.value ≡ e = ap (λ t. (t ++ 61 ∷ []) ++ i.value) i.kept ∙ append_assoc i.left (61 ∷ []) i.value ∙ sym i.is in
-    let head : left_kept i.left ++ 61 ∷ [] ≡ head_of e = ap (λ t. t ++ 61 ∷ []) i.kept ∙ sym (head_is e i) in
-    let none : has_left state (left_kept i.left ++ 61 ∷ []) ≡ false = ap (has_left state) head ∙ none_has state e b in
-    rw (cut_is e i, i.left_side, i.value_side) (rw none (ap Some (ap (insert_key (slice_cmp nat_cmp) state) form ∙ put_last state e b)))
+equality_again state e i b = cc ((append_assoc i.left (61 ∷ []) i.value), (head_is e i), (none_has state e b), (cut_is e i), (put_last state e b))
 
 pieces_again : (state xs : List (List ℕ)) → AllByRecursion IsEquality xs → Ascends xs → Apart xs → AllByRecursion (Before state) xs → with_pieces state (xs ++ [] ∷ []) ≡ Some (state ++ xs)
 pieces_again state [] i a o b = no_piece state
 pieces_again state (x ∷ xs) i a o b =
-    one_more_piece state x xs ∙ ap (λ r. and_then r (λ more. with_pieces more (xs ++ [] ∷ []))) (equality_again state x i.0 b.0)
-    ∙ pieces_again (state ++ x ∷ []) xs i.1 a.1 o.1 (before_more state x xs b.1 a.0 o.0)
-    ∙ ap Some (append_assoc state (x ∷ []) xs)
+    grind (arith, (pieces_again (state ++ x ∷ []) xs i.1 a.1 o.1 (before_more state x xs b.1 a.0 o.0)), one_more_piece, equality_again, append_assoc)
 
 none_before : (xs : List (List ℕ)) → AllByRecursion (Before []) xs
 none_before [] = tt
@@ -315,8 +256,7 @@ none_before (x ∷ xs) = (tt, none_before xs)
 
 form_again : (xs : List (List ℕ)) → IsState xs → form_read (state_form xs) ≡ Ok (state_form xs)
 unfolding form_read state_read
-form_again xs s =
-    ap (λ r. or_bad (option_map state_form r)) (ap (with_pieces []) (split_form xs s.equalities) ∙ pieces_again [] xs s.equalities s.ascends s.apart (none_before xs))
+form_again xs s = grind (arith, split_form, pieces_again, none_before)
 
 -- a printed form as a part of a line
 equality_line : (x : List ℕ) → IsEquality x → list_all no_feed x ≡ true
@@ -349,50 +289,31 @@ later_end (x ∷ xs) = subst (λ t. before_blanks t ≡ t) (sym (append_assoc (3
 
 form_end : (xs : List (List ℕ)) → before_blanks (state_form xs) ≡ state_form xs
 unfolding state_form
-form_end [] = no_blanks
-form_end (x ∷ xs) = subst (λ t. before_blanks t ≡ t) (sym (append_assoc x (59 ∷ []) (later_forms xs))) (end_stays x 59 (later_forms xs) (ink_stays 59 (later_forms xs) refl (later_end xs)))
+form_end xs = grind (arith, no_blanks, append_assoc, end_stays, ink_stays, later_end)
 
 is_form : (xs : List (List ℕ)) → IsState xs → IsForm (state_form xs)
 is_form xs s = record { trimmed = form_end xs; read = form_again xs s; line = form_line xs s.equalities }
 
--- what is read of a text
-onto_all : (p : ℕ → Bool) (b : ℕ) (pieces : List (List ℕ)) → p b ≡ true → list_all (list_all p) pieces ≡ true → list_all (list_all p) (onto_first b pieces) ≡ true
-onto_all p b [] h k = and_from (list_all p (b ∷ [])) true (and_from (p b) true h refl) refl
-onto_all p b (piece ∷ pieces) h k =
-    let l = and_parts (list_all p piece) (list_all (list_all p) pieces) k in
-    and_from (list_all p (b ∷ piece)) (list_all (list_all p) pieces) (and_from (p b) (list_all p piece) h l.0) l.1
-
 -- the pieces between bytes have none of these
 pub split_lacks : (c : ℕ) (text : List ℕ) → list_all (list_all (λ b. not (b == c))) (slice_split (λ byte. byte == c) text) ≡ true
 split_lacks c [] = refl
-split_lacks c (b ∷ text) =
-    by_test (b == c)
-    (λ e. rw e (split_lacks c text))
-    (λ e. rw e (onto_all (λ byte. not (byte == c)) b (slice_split (λ byte. byte == c) text) (rw e refl) (split_lacks c text)))
+split_lacks c (b ∷ text) = grind (arith, (split_lacks c text))
 
 split_feeds : (text : List ℕ) → list_all no_feed text ≡ true → list_all (list_all no_feed) (slice_split (λ byte. byte == 59) text) ≡ true
 split_feeds [] h = refl
-split_feeds (b ∷ text) h =
-    let k = and_parts (no_feed b) (list_all no_feed text) h in
-    by_test (b == 59) (λ e. rw e (split_feeds text k.1)) (λ e. rw e (onto_all no_feed b (slice_split (λ byte. byte == 59) text) k.0 (split_feeds text k.1)))
+split_feeds (b ∷ text) h = grind (arith, (split_feeds text))
 
 all_unblanked : (p : ℕ → Bool) (pieces : List (List ℕ)) → list_all (list_all p) pieces ≡ true → list_all (list_all p) (map unblanked pieces) ≡ true
 all_unblanked p [] h = refl
-all_unblanked p (piece ∷ pieces) h =
-    let k = and_parts (list_all p piece) (list_all (list_all p) pieces) h in
-    and_from (list_all p (unblanked piece)) (list_all (list_all p) (map unblanked pieces)) (after_class p is_blank piece k.0) (all_unblanked p pieces k.1)
+all_unblanked p (piece ∷ pieces) h = grind (arith, (all_unblanked p pieces), after_class)
 
 all_later : (p : ℕ → Bool) (pieces : List (List ℕ)) → list_all (list_all p) pieces ≡ true → list_all (list_all p) (later_unblanked pieces) ≡ true
 all_later p [] h = refl
-all_later p (piece ∷ pieces) h =
-    let k = and_parts (list_all p piece) (list_all (list_all p) pieces) h in
-    and_from (list_all p piece) (list_all (list_all p) (map unblanked pieces)) k.0 (all_unblanked p pieces k.1)
+all_later p (piece ∷ pieces) h = grind (arith, (all_unblanked p pieces))
 
 state_put : (text : List ℕ) → list_all no_feed text ≡ true → PutsInto [] (state_read text)
 unfolding state_read
-state_put text h =
-    pieces_put [] (later_unblanked (slice_split (λ byte. byte == 59) text)) (record { equalities = tt; ascends = tt; apart = tt })
-    (all_later no_semi (slice_split (λ byte. byte == 59) text) (split_lacks 59 text)) (all_later no_feed (slice_split (λ byte. byte == 59) text) (split_feeds text h))
+state_put text h = grind (arith, pieces_put, (all_later no_semi), (all_later no_feed), (split_lacks 59 text), (split_feeds text h))
 
 -- the form that is read from a text without line feeds can be printed and read back
 pub form_is : (text form : List ℕ) → list_all no_feed text ≡ true → form_read text ≡ Ok form → IsForm form

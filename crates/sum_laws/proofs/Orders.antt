@@ -1,6 +1,6 @@
 -- Texts in byte order, each once: two such lists with the same texts are the same.
-use Rattle.std.proofs.Common.{◌≡◌, ℕ, List, [], ◌∷◌, true, false, refl, sym, ap, ◌∙◌, subst}
-use Rattle.std.specs.Prelude.{◌||◌, fold}
+use Rattle.std.proofs.Common.{◌≡◌, ℕ, List, [], ◌∷◌, true, false, refl, sym, ap, ◌∙◌, subst, arith}
+use Rattle.std.specs.Prelude.{fold}
 use Rattle.std.specs.List.{list_any}
 use Rattle.std.specs.Ordering.{nat_cmp, ordering_reverse}
 use Rattle.std.specs.Cmp.Lexicographic.{slice_cmp}
@@ -9,7 +9,6 @@ use Rattle.std.specs.declared.cmp.Ordering.TheVariants.{Less, Equal, Greater}
 use Rattle.std.specs.BTreeSet.{insert_key}
 use Rattle.std.specs.Str.{bytes_eq}
 use Rattle.std.proofs.lemmas.Slice.Eq.{bytes_eq-Decides}
-use Rattle.list_laws.proofs.Cases.{by_test}
 use Rattle.text_laws.proofs.OrderLaws.{order, is_text, compare, Above, Ascends, above_all, reversed, fold_ascends, none_above, any_fold, bytes_same}
 
 -- a text below another: the other is above it
@@ -24,15 +23,10 @@ here : (x : List ℕ) (xs : List (List ℕ)) → list_any (bytes_eq x) (x ∷ xs
 here x xs = rw (bytes_same x) refl
 
 not_below : (x y : List ℕ) (xs ys : List (List ℕ)) → compare x y ≡ Less → Above y ys → list_any (bytes_eq x) (x ∷ xs) ≡ list_any (bytes_eq x) (y ∷ ys) → ⊥
-not_below x y xs ys h a e =
-    let k : true ≡ false = sym (here x xs) ∙ e ∙ none_above x (y ∷ ys) (h, above_all x y ys h a) in cc
+not_below x y xs ys h a e = grind (arith, (here x xs), (none_above x (y ∷ ys) (h, above_all x y ys h a)))
 
 same_tails : (x : List ℕ) (xs ys : List (List ℕ)) → Above x xs → Above x ys → SameIn (x ∷ xs) (x ∷ ys) → SameIn xs ys
-same_tails x xs ys a b h k =
-    by_test (bytes_eq k x)
-    (λ e. let same : x ≡ k = sym ((bytes_eq-Decides k x).0 e) in
-    subst (λ (y : List ℕ). list_any (bytes_eq y) xs ≡ list_any (bytes_eq y) ys) same (none_above x xs a ∙ sym (none_above x ys b)))
-    (λ e. rw e at (h k))
+same_tails x xs ys a b h k = grind (arith, bytes_eq-Decides, none_above)
 
 pub same_in : (xs ys : List (List ℕ)) → Ascends xs → Ascends ys → SameIn xs ys → xs ≡ ys
 same_in [] [] a b h = refl
@@ -52,10 +46,7 @@ same_in (x ∷ xs) (y ∷ ys) a b h = by_ordering (λ c. same_in xs ys a.1 b.1 c
 
 -- texts that are sorted first are inserted into others as they came
 pub fold_sorted : (xs ks : List (List ℕ)) → Ascends xs → fold (insert_key (slice_cmp nat_cmp)) xs (fold (insert_key (slice_cmp nat_cmp)) [] ks) ≡ fold (insert_key (slice_cmp nat_cmp)) xs ks
-fold_sorted xs ks a =
-    same_in (fold (insert_key (slice_cmp nat_cmp)) xs (fold (insert_key (slice_cmp nat_cmp)) [] ks)) (fold (insert_key (slice_cmp nat_cmp)) xs ks)
-    (fold_ascends (fold (insert_key (slice_cmp nat_cmp)) [] ks) xs a) (fold_ascends ks xs a)
-    (λ k. any_fold k (fold (insert_key (slice_cmp nat_cmp)) [] ks) xs ∙ ap (λ b. list_any (bytes_eq k) xs || b) (any_fold k ks []) ∙ sym (any_fold k ks xs))
+fold_sorted xs ks a = search (arith, same_in, fold_ascends, any_fold)
 
 -- texts that are all different
 abbrev pub Distinct : List (List ℕ) → Type 0

@@ -1,5 +1,5 @@
 -- A printed sum is read as the facts that it prints.
-use Rattle.std.proofs.Common.{◌≡◌, ◌==◌, ℕ, zero, suc, ◌-◌, ◌≤◌, List, [], ◌∷◌, ◌++◌, length, true, false, refl, sym, ◌∙◌, append_assoc, append-nil, subst, Some, None}
+use Rattle.std.proofs.Common.{◌≡◌, ◌==◌, ℕ, zero, suc, ◌-◌, ◌≤◌, List, [], ◌∷◌, ◌++◌, length, true, false, refl, sym, append_assoc, append-nil, subst, Some, None, arith}
 use Rattle.std.specs.Prelude.{Bool, Option, Ok, codes, decimal, replicate}
 use Rattle.std.specs.List.{list_all, flat_map, AllByRecursion}
 use Rattle.list_laws.proofs.Cases.{by_test}
@@ -14,10 +14,10 @@ use Rattle.log_sum.specs.LogReading.{LogSeen, next_line, last_judged, file_judge
 use Rattle.text_laws.specs.Lines.{without_return, whole_lines, unended}
 use Rattle.log_sum.specs.Summed.{Summed, StateSummed, some_or, is_validated}
 use Rattle.log_sum.specs.SumText.{sum_kind_word, mark_sign, filling, state_line, verdict_word, verdict_end, how_often, hash_text, head_text, sum_verdict_text, claim_text, condition_text, observation_text, summed_text}
-use Rattle.sum_laws.proofs.Cases.{Kind, Mark, Place, allowed, outside, histogram, judgement, in_rest, conditioned_at, kind_cases, mark_cases}
+use Rattle.sum_laws.proofs.Cases.{Kind, Mark, Place, Allowed, Forbidden, Required, Outside, Histogram, Judgement, Rest, Conditioned}
 use Rattle.sum_laws.proofs.Texts.{no_feed, is_word, word_parts}
 use Rattle.sum_laws.proofs.Lines.{decimal_some, head_line, number_line, counted_line, totals_line, claim_line, line_of_hash, end_line, said_as, head_said, number_said, state_said, verdict_said, empty_said, outside_said, witnesses_said, totals_said, claim_said, hash_said, end_said}
-use Rattle.sum_laws.proofs.Blocks.{seen_at, entry, put_fact, Clean, clean_parts, Goes, goes_on, IsLine, Fits, step, append_line, decimal_line}
+use Rattle.sum_laws.proofs.Blocks.{seen_at, entry, Clean, clean_parts, Goes, goes_on, IsLine, Fits, step, append_line, decimal_line}
 
 -- what a printed form, condition and hash are
 pub record IsForm (form : List ℕ) : Type 0 where
@@ -48,7 +48,7 @@ IsHashed (Some hash) = IsHash hash
 
 -- the kind with which a test is printed
 abbrev pub kind_of_test : Summed → Kind
-kind_of_test test = some_or allowed test.kind
+kind_of_test test = some_or Allowed test.kind
 
 -- a test can be printed and read back
 pub record Printable (name : List ℕ) (test : Summed) : Type 0 where
@@ -81,26 +81,22 @@ by_refl text h k = record { one = h; kept = k }
 
 kind_line : (kind : Kind) → IsLine (sum_kind_word kind)
 unfolding without_return
-kind_line kind = kind_cases (λ k. IsLine (sum_kind_word k)) (by_refl _ refl refl) (by_refl _ refl refl) (by_refl _ refl refl) kind
+kind_line Allowed = by_refl _ refl refl
+kind_line Forbidden = by_refl _ refl refl
+kind_line Required = by_refl _ refl refl
 
 some_kind : (kind : Kind) → is_nil (sum_kind_word kind) ≡ false
-some_kind kind = kind_cases (λ k. is_nil (sum_kind_word k) ≡ false) refl refl refl kind
+some_kind kind = grind arith
 
 blank_line : (text : List ℕ) → is_nil text ≡ false → IsLine text → IsLine (32 ∷ text)
 blank_line text some l = append_line (32 ∷ []) text refl some l
 
 head_is_line : (name : List ℕ) (kind : Kind) → is_word name ≡ true → IsLine (head_line name kind)
 head_is_line name kind h =
-    append_line (codes "Test ") (name ++ 32 ∷ sum_kind_word kind) refl (not_nil name (sum_kind_word kind))
-    (append_line name (32 ∷ sum_kind_word kind) (word_parts name h).2 refl (blank_line (sum_kind_word kind) (some_kind kind) (kind_line kind)))
-  where
-    not_nil : (prefix rest : List ℕ) → is_nil (prefix ++ 32 ∷ rest) ≡ false
-    not_nil [] rest = refl
-    not_nil (b ∷ prefix) rest = refl
+    grind (arith, (append_line (codes "Test ")), (append_line name), (word_parts name h), (blank_line (sum_kind_word kind) (some_kind kind) (kind_line kind)))
 
 some_prefix : (prefix rest : List ℕ) → is_nil prefix ≡ false → is_nil (prefix ++ rest) ≡ false
-some_prefix [] rest h = cc
-some_prefix (b ∷ prefix) rest h = refl
+some_prefix prefix rest h = grind arith
 
 some_back : (prefix : List ℕ) (b : ℕ) (rest : List ℕ) → is_nil (prefix ++ b ∷ rest) ≡ false
 some_back [] b rest = refl
@@ -112,8 +108,10 @@ states_line = by_refl _ refl refl
 
 number_is_line : (n : ℕ) → n ≤ last_count → IsLine (number_line n)
 number_is_line n h =
-    append_line (codes "Histogram (") (decimal n ++ codes " states)") refl (some_prefix (decimal n) (codes " states)") (decimal_some n h))
-    (append_line (decimal n) (codes " states)") (decimal_line n h).one refl states_line)
+    grind (
+      arith,
+      (append_line (codes "Histogram (") (decimal n ++ codes " states)") refl (some_prefix (decimal n) (codes " states)") (decimal_some n h)) (append_line (decimal n) (codes " states)") (decimal_line n h).one refl states_line)),
+    )
 
 filled_feed : (n : ℕ) → list_all no_feed (replicate n 32) ≡ true
 filled_feed zero = refl
@@ -121,15 +119,13 @@ filled_feed (suc n) = filled_feed n
 
 arrow_line : (form : List ℕ) → IsLine form → IsLine (62 ∷ form)
 unfolding without_return
-arrow_line [] l = by_refl _ refl refl
-arrow_line (b ∷ form) l = append_line (62 ∷ []) (b ∷ form) refl refl l
+arrow_line form l = grind arith
 
 sign_line : (mark : Mark) (form : List ℕ) → IsLine form → IsLine (mark_sign mark ++ form)
-sign_line mark form l =
-    mark_cases (λ m. IsLine (mark_sign m ++ form)) (append_line (42 ∷ []) (62 ∷ form) refl refl (arrow_line form l)) (append_line (58 ∷ []) (62 ∷ form) refl refl (arrow_line form l)) mark
+sign_line mark form l = grind (arith, (append_line (42 ∷ [])), (append_line (58 ∷ [])), (arrow_line form l))
 
 some_sign : (mark : Mark) (form : List ℕ) → is_nil (mark_sign mark ++ form) ≡ false
-some_sign mark form = mark_cases (λ m. is_nil (mark_sign m ++ form) ≡ false) refl refl mark
+some_sign mark form = grind arith
 
 counted_is_line : (n : ℕ) (mark : Mark) (form : List ℕ) → n ≤ last_count → IsLine form → IsLine (counted_line n mark form)
 counted_is_line n mark form h l =
@@ -143,8 +139,7 @@ counted_is_line n mark form h l =
 
 verdict_is_line : (b : Bool) → IsLine (verdict_word b)
 unfolding without_return
-verdict_is_line true = by_refl _ refl refl
-verdict_is_line false = by_refl _ refl refl
+verdict_is_line b = grind arith
 
 empty_is_line : IsLine []
 unfolding without_return
@@ -156,23 +151,20 @@ witnesses_is_line = by_refl _ refl refl
 
 totals_is_line : (p q : ℕ) → p ≤ last_count → q ≤ last_count → IsLine (totals_line p q)
 totals_is_line p q h k =
-    append_line (codes "Positive: ") (decimal p ++ (codes ", Negative: " ++ decimal q)) refl (some_prefix (decimal p) (codes ", Negative: " ++ decimal q) (decimal_some p h))
-    (append_line (decimal p) (codes ", Negative: " ++ decimal q) (decimal_line p h).one refl
-    (append_line (codes ", Negative: ") (decimal q) refl (decimal_some q k) (decimal_line q k)))
+    grind (
+      arith,
+      (append_line (codes "Positive: ") (decimal p ++ (codes ", Negative: " ++ decimal q)) refl (some_prefix (decimal p) (codes ", Negative: " ++ decimal q) (decimal_some p h)) (append_line (decimal p) (codes ", Negative: " ++ decimal q) (decimal_line p h).one refl (append_line (codes ", Negative: ") (decimal q) refl (decimal_some q k) (decimal_line q k)))),
+    )
 
 verdict_end_line : (b : Bool) → IsLine (verdict_end b)
 unfolding without_return
-verdict_end_line true = by_refl _ refl refl
-verdict_end_line false = by_refl _ refl refl
+verdict_end_line b = grind arith
 
 some_end : (b : Bool) → is_nil (verdict_end b) ≡ false
-some_end true = refl
-some_end false = refl
+some_end b = grind arith
 
 claim_is_line : (text : List ℕ) (b : Bool) → list_all no_feed text ≡ true → is_nil text ≡ false → IsLine (claim_line text b)
-claim_is_line text b h some =
-    append_line (codes "Condition ") (text ++ verdict_end b) refl (some_prefix text (verdict_end b) some)
-    (append_line text (verdict_end b) h (some_end b) (verdict_end_line b))
+claim_is_line text b h some = search (arith, append_line, some_prefix, some_end, verdict_end_line)
 
 often_feed : (p q : ℕ) → list_all no_feed (how_often p q) ≡ true
 often_feed p q = by_test (p == 0) (λ e. rw e refl) (λ e. rw e (by_test (q == 0) (λ f. rw f refl) (λ f. rw f refl)))
@@ -182,10 +174,10 @@ end_rest p q = how_often p q ++ (32 ∷ decimal p ++ (32 ∷ decimal q))
 
 end_is_line : (name : List ℕ) (p q : ℕ) → is_word name ≡ true → p ≤ last_count → q ≤ last_count → IsLine (end_line name (end_rest p q))
 end_is_line name p q n h k =
-    append_line (codes "Observation ") (name ++ 32 ∷ end_rest p q) refl (some_back name 32 (end_rest p q))
-    (append_line name (32 ∷ end_rest p q) (word_parts name n).2 refl
-    (append_line (32 ∷ how_often p q) (32 ∷ decimal p ++ (32 ∷ decimal q)) (often_feed p q) refl
-    (append_line (32 ∷ decimal p) (32 ∷ decimal q) (decimal_line p h).one refl (blank_line (decimal q) (decimal_some q k) (decimal_line q k)))))
+    grind (
+      arith,
+      (append_line (codes "Observation ") (name ++ 32 ∷ end_rest p q) refl (some_back name 32 (end_rest p q)) (append_line name (32 ∷ end_rest p q) (word_parts name n).2 refl (append_line (32 ∷ how_often p q) (32 ∷ decimal p ++ (32 ∷ decimal q)) (often_feed p q) refl (append_line (32 ∷ decimal p) (32 ∷ decimal q) (decimal_line p h).one refl (blank_line (decimal q) (decimal_some q k) (decimal_line q k)))))),
+    )
 
 -- the printed texts by lines
 head_by_lines : (name : List ℕ) (test : Summed) (rest : List ℕ) → head_text name test ++ rest ≡ head_line name (kind_of_test test) ++ 10 ∷ (number_line (length test.states) ++ 10 ∷ rest)
@@ -225,11 +217,7 @@ test_by_parts name test rest = simp append_assoc
 pub quiet : (before : List Entry) (test : List ℕ) (place : Place) (line : ℕ) (text rest : List ℕ) (said : Said) → IsLine text → log_line_said place text ≡ Ok said
     → Fits (text ++ 10 ∷ rest) → fact_said said ≡ None
     → Goes (seen_at before test place line) (seen_at before (test_after test said) (place_after place said) (next_line line)) (text ++ 10 ∷ rest) rest
-quiet before test place line text rest said l e f none =
-    let here : Clean before (put_fact (test_after test said) (fact_said said)) = rw none tt in
-    let g = step before test place line text rest said l e f here in
-    let same : before ++ put_fact (test_after test said) (fact_said said) ≡ before = rw none (append-nil before) in
-    rw same at g
+quiet before test place line text rest said l e f none = grind (arith, (step before test place line text rest said l e f), (append-nil before))
 
 pub record Went (s : LogSeen) (entries : List Entry) (test : List ℕ) (place : Place) (bytes rest : List ℕ) : Type 0 where
   pub line : ℕ
@@ -241,18 +229,18 @@ went_on g w = record { line = w.line; goes = goes_on g w.goes }
 pub record Read (s : LogSeen) (entries : List Entry) (bytes rest : List ℕ) : Type 0 where
   pub test : List ℕ
   pub line : ℕ
-  pub goes : Goes s (seen_at entries test outside line) bytes rest
+  pub goes : Goes s (seen_at entries test Outside line) bytes rest
 
 -- the parts of a block
 head_goes : (before : List Entry) (test name : List ℕ) (line : ℕ) (sum : Summed) (rest : List ℕ) → Printable name sum → Fits (head_text name sum ++ rest) → Clean before (entry name (a_kind (kind_of_test sum)) ∷ [])
-    → Goes (seen_at before test outside line) (seen_at (before ++ entry name (a_kind (kind_of_test sum)) ∷ []) name (states_left (kind_of_test sum) (length sum.states)) (next_line (next_line line))) (head_text name sum ++ rest) rest
+    → Goes (seen_at before test Outside line) (seen_at (before ++ entry name (a_kind (kind_of_test sum)) ∷ []) name (states_left (kind_of_test sum) (length sum.states)) (next_line (next_line line))) (head_text name sum ++ rest) rest
 unfolding place_after fact_said
 head_goes before test name line sum rest p f c =
     let kind : Kind = kind_of_test sum in
     let e = head_by_lines name sum rest in
     let f2 : Fits (head_line name kind ++ 10 ∷ (number_line (length sum.states) ++ 10 ∷ rest)) = subst Fits e f in
-    let one = step before test outside line (head_line name kind) (number_line (length sum.states) ++ 10 ∷ rest) (begins name kind) (head_is_line name kind p.named) (head_said name kind p.named) f2 c in
-    let two = quiet (before ++ entry name (a_kind kind) ∷ []) name (histogram kind) (next_line line) (number_line (length sum.states)) rest (counts (length sum.states)) (number_is_line (length sum.states) p.number) (number_said kind (length sum.states) p.number) one.fits refl in
+    let one = step before test Outside line (head_line name kind) (number_line (length sum.states) ++ 10 ∷ rest) (begins name kind) (head_is_line name kind p.named) (head_said name kind p.named) f2 c in
+    let two = quiet (before ++ entry name (a_kind kind) ∷ []) name (Histogram kind) (next_line line) (number_line (length sum.states)) rest (counts (length sum.states)) (number_is_line (length sum.states) p.number) (number_said kind (length sum.states) p.number) one.fits refl in
     rw e (goes_on one two)
 
 states_go : (before : List Entry) (name : List ℕ) (kind : Kind) (line : ℕ) (states : List StateSummed) (rest : List ℕ) → AreForms states → Fits (flat_map state_line states ++ rest) → Clean before (state_entries name states)
@@ -261,7 +249,7 @@ unfolding place_after fact_said
 states_go before name kind line [] rest a f c = rw (append-nil before) (record { line = line; goes = record { lines = refl; last = refl; fits = f } })
 states_go before name kind line (s ∷ states) rest a f c =
     let e : (state_line s ++ flat_map state_line states) ++ rest ≡ counted_line s.1.1 s.1.0 s.0 ++ 10 ∷ (flat_map state_line states ++ rest) =
-    append_assoc (state_line s) (flat_map state_line states) rest ∙ state_by_line s (flat_map state_line states ++ rest) in
+    grind (arith, append_assoc, state_by_line) in
     let f2 : Fits (counted_line s.1.1 s.1.0 s.0 ++ 10 ∷ (flat_map state_line states ++ rest)) = subst Fits e f in
     let here : Entry = entry name (a_row (row_with s.0 s.1.0 s.1.1)) in
     let one = step before name (states_left kind (suc (length states))) line (counted_line s.1.1 s.1.0 s.0) (flat_map state_line states ++ rest) (a_state (row_with s.0 s.1.0 s.1.1))
@@ -270,51 +258,50 @@ states_go before name kind line (s ∷ states) rest a f c =
     rw e (rw (append_assoc before (here ∷ []) (state_entries name states)) at (went_on one more))
 
 verdict_goes : (before : List Entry) (name : List ℕ) (kind : Kind) (line : ℕ) (sum : Summed) (rest : List ℕ) → sum.starred ≤ last_count → sum.plain ≤ last_count → Fits (sum_verdict_text sum ++ rest)
-    → Goes (seen_at before name (states_left kind 0) line) (seen_at before name (in_rest kind) (next_line (next_line (next_line (next_line line))))) (sum_verdict_text sum ++ rest) rest
+    → Goes (seen_at before name (states_left kind 0) line) (seen_at before name (Rest kind) (next_line (next_line (next_line (next_line line))))) (sum_verdict_text sum ++ rest) rest
 unfolding place_after fact_said
 verdict_goes before name kind line sum rest h k f =
     let totals : List ℕ = totals_line sum.starred sum.plain in
     let e = verdict_by_lines sum rest in
     let f2 : Fits (verdict_word (is_validated sum) ++ 10 ∷ ([] ++ 10 ∷ (codes "Witnesses" ++ 10 ∷ (totals ++ 10 ∷ rest)))) = subst Fits e f in
-    let one = quiet before name (judgement kind) line (verdict_word (is_validated sum)) ([] ++ 10 ∷ (codes "Witnesses" ++ 10 ∷ (totals ++ 10 ∷ rest))) judged (verdict_is_line (is_validated sum)) (verdict_said kind (is_validated sum)) f2 refl in
-    let two = quiet before name (in_rest kind) (next_line line) [] (codes "Witnesses" ++ 10 ∷ (totals ++ 10 ∷ rest)) passed_over empty_is_line (empty_said kind) one.fits refl in
-    let three = quiet before name (in_rest kind) (next_line (next_line line)) (codes "Witnesses") (totals ++ 10 ∷ rest) passed_over witnesses_is_line (witnesses_said kind) two.fits refl in
-    let four = quiet before name (in_rest kind) (next_line (next_line (next_line line))) totals rest passed_over (totals_is_line sum.starred sum.plain h k) (totals_said kind sum.starred sum.plain) three.fits refl in
+    let one = quiet before name (Judgement kind) line (verdict_word (is_validated sum)) ([] ++ 10 ∷ (codes "Witnesses" ++ 10 ∷ (totals ++ 10 ∷ rest))) judged (verdict_is_line (is_validated sum)) (verdict_said kind (is_validated sum)) f2 refl in
+    let two = quiet before name (Rest kind) (next_line line) [] (codes "Witnesses" ++ 10 ∷ (totals ++ 10 ∷ rest)) passed_over empty_is_line (empty_said kind) one.fits refl in
+    let three = quiet before name (Rest kind) (next_line (next_line line)) (codes "Witnesses") (totals ++ 10 ∷ rest) passed_over witnesses_is_line (witnesses_said kind) two.fits refl in
+    let four = quiet before name (Rest kind) (next_line (next_line (next_line line))) totals rest passed_over (totals_is_line sum.starred sum.plain h k) (totals_said kind sum.starred sum.plain) three.fits refl in
     rw e (goes_on one (goes_on two (goes_on three four)))
 
 claim_goes : (before : List Entry) (name : List ℕ) (kind : Kind) (line : ℕ) (sum : Summed) (rest : List ℕ) → IsCondition kind (some_or [] sum.condition) → Fits (claim_text sum ++ rest)
     → Clean before (entry name (a_condition (some_or [] sum.condition) (said_as (is_validated sum))) ∷ [])
-    → Goes (seen_at before name (in_rest kind) line) (seen_at (before ++ entry name (a_condition (some_or [] sum.condition) (said_as (is_validated sum))) ∷ []) name (conditioned_at kind) (next_line line)) (claim_text sum ++ rest) rest
+    → Goes (seen_at before name (Rest kind) line) (seen_at (before ++ entry name (a_condition (some_or [] sum.condition) (said_as (is_validated sum))) ∷ []) name (Conditioned kind) (next_line line)) (claim_text sum ++ rest) rest
 unfolding place_after fact_said
 claim_goes before name kind line sum rest i f c =
-    let e = claim_by_line sum rest in
-    let f2 : Fits (claim_line (some_or [] sum.condition) (is_validated sum) ++ 10 ∷ rest) = subst Fits e f in
-    rw e (step before name (in_rest kind) line (claim_line (some_or [] sum.condition) (is_validated sum)) rest (conditioned (some_or [] sum.condition) (said_as (is_validated sum)))
-    (claim_is_line (some_or [] sum.condition) (is_validated sum) i.one i.some) (claim_said kind (some_or [] sum.condition) (is_validated sum) i.joined i.some i.begins) f2 c)
+    grind (
+      arith,
+      claim_by_line,
+      (step before name (Rest kind) line (claim_line (some_or [] sum.condition) (is_validated sum)) rest (conditioned (some_or [] sum.condition) (said_as (is_validated sum))) (claim_is_line (some_or [] sum.condition) (is_validated sum) i.one i.some) (claim_said kind (some_or [] sum.condition) (is_validated sum) i.joined i.some i.begins)),
+    )
 
 hash_goes : (before : List Entry) (name : List ℕ) (kind : Kind) (line : ℕ) (hash : Option (List ℕ)) (rest : List ℕ) → IsHashed hash → Fits (hash_text hash ++ rest) → Clean before (hash_entries name hash)
-    → Went (seen_at before name (conditioned_at kind) line) (before ++ hash_entries name hash) name (conditioned_at kind) (hash_text hash ++ rest) rest
+    → Went (seen_at before name (Conditioned kind) line) (before ++ hash_entries name hash) name (Conditioned kind) (hash_text hash ++ rest) rest
 unfolding place_after fact_said
 hash_goes before name kind line None rest i f c = rw (hash_none rest, append-nil before) (record { line = line; goes = record { lines = refl; last = refl; fits = subst Fits (hash_none rest) f } })
 hash_goes before name kind line (Some hash) rest i f c =
-    let e = hash_by_line hash rest in
-    let f2 : Fits (line_of_hash hash ++ 10 ∷ rest) = subst Fits e f in
-    rw e (record { line = next_line line; goes = step before name (conditioned_at kind) line (line_of_hash hash) rest (hashed hash) i.line (hash_said kind hash i.trimmed) f2 c })
+    grind (arith, hash_by_line, (step before name (Conditioned kind) line (line_of_hash hash) rest (hashed hash) i.line (hash_said kind hash i.trimmed)))
 
 end_goes : (before : List Entry) (name : List ℕ) (kind : Kind) (line : ℕ) (sum : Summed) (rest : List ℕ) → is_word name ≡ true → sum.starred ≤ last_count → sum.plain ≤ last_count → Fits (observation_text name sum ++ rest)
-    → Goes (seen_at before name (conditioned_at kind) line) (seen_at before name outside (next_line (next_line line))) (observation_text name sum ++ rest) rest
+    → Goes (seen_at before name (Conditioned kind) line) (seen_at before name Outside (next_line (next_line line))) (observation_text name sum ++ rest) rest
 unfolding place_after fact_said
 end_goes before name kind line sum rest n h k f =
     let e = end_by_line name sum rest in
     let text : List ℕ = end_line name (end_rest sum.starred sum.plain) in
     let f2 : Fits (text ++ 10 ∷ ([] ++ 10 ∷ rest)) = subst Fits e f in
-    let one = quiet before name (conditioned_at kind) line text ([] ++ 10 ∷ rest) ends (end_is_line name sum.starred sum.plain n h k) (end_said kind name (end_rest sum.starred sum.plain)) f2 refl in
-    let two = quiet before name outside (next_line line) [] rest passed_over empty_is_line outside_said one.fits refl in
+    let one = quiet before name (Conditioned kind) line text ([] ++ 10 ∷ rest) ends (end_is_line name sum.starred sum.plain n h k) (end_said kind name (end_rest sum.starred sum.plain)) f2 refl in
+    let two = quiet before name Outside (next_line line) [] rest passed_over empty_is_line outside_said one.fits refl in
     rw e (goes_on one two)
 
 -- a printed test is read as the entries that it gives
 pub test_goes : (before : List Entry) (test name : List ℕ) (line : ℕ) (sum : Summed) (rest : List ℕ) → Printable name sum → Fits (summed_text name sum ++ rest) → Clean before (given name sum)
-    → Went (seen_at before test outside line) (before ++ given name sum) name outside (summed_text name sum ++ rest) rest
+    → Went (seen_at before test Outside line) (before ++ given name sum) name Outside (summed_text name sum ++ rest) rest
 test_goes before test name line sum rest p f c =
     let kind : Kind = kind_of_test sum in
     let e = test_by_parts name sum rest in
@@ -342,30 +329,31 @@ test_goes before test name line sum rest p f c =
 -- a list of printed tests is read as the entries that they give
 pub texts_go : (before : List Entry) (test : List ℕ) (line : ℕ) (sum : List ℕ → Summed) (names : List (List ℕ)) (rest : List ℕ) → AllByRecursion (λ name. Printable name (sum name)) names
     → Fits (flat_map (λ name. summed_text name (sum name)) names ++ rest) → Clean before (flat_map (λ name. given name (sum name)) names)
-    → Read (seen_at before test outside line) (before ++ flat_map (λ name. given name (sum name)) names) (flat_map (λ name. summed_text name (sum name)) names ++ rest) rest
+    → Read (seen_at before test Outside line) (before ++ flat_map (λ name. given name (sum name)) names) (flat_map (λ name. summed_text name (sum name)) names ++ rest) rest
 texts_go before test line sum [] rest p f c = rw (append-nil before) (record { test = test; line = line; goes = record { lines = refl; last = refl; fits = f } })
 texts_go before test line sum (name ∷ names) rest p f c =
     let more : List ℕ = flat_map (λ n. summed_text n (sum n)) names ++ rest in
-    let e : (summed_text name (sum name) ++ flat_map (λ n. summed_text n (sum n)) names) ++ rest ≡ summed_text name (sum name) ++ more = append_assoc (summed_text name (sum name)) (flat_map (λ n. summed_text n (sum n)) names) rest in
+    let e : (summed_text name (sum name) ++ flat_map (λ n. summed_text n (sum n)) names) ++ rest ≡ summed_text name (sum name) ++ more = grind (
+      arith,
+      append_assoc,
+    ) in
     let f2 : Fits (summed_text name (sum name) ++ more) = subst Fits e f in
-    let both : Clean before (given name (sum name)) × Clean (before ++ given name (sum name)) (flat_map (λ n. given n (sum n)) names) = clean_parts before (given name (sum name)) (flat_map (λ n. given n (sum n)) names) c in
+    let both : Clean before (given name (sum name)) × Clean (before ++ given name (sum name)) (flat_map (λ n. given n (sum n)) names) = grind (
+      arith,
+      (clean_parts before (given name (sum name))),
+    ) in
     let one = test_goes before test name line (sum name) more p.0 f2 both.0 in
     let further = texts_go (before ++ given name (sum name)) name one.line sum names rest p.1 one.goes.fits both.1 in
     rw (e, sym (append_assoc before (given name (sum name)) (flat_map (λ n. given n (sum n)) names)))
     (record { test = further.test; line = further.line; goes = goes_on one.goes further.goes })
 
 -- a file whose reading gives these entries is judged so
-file_read : (s : LogSeen) (entries : List Entry) (text : List ℕ) → Read s entries text [] → file_judged s text ≡ Ok (seen_at entries [] outside 1)
+file_read : (s : LogSeen) (entries : List Entry) (text : List ℕ) → Read s entries text [] → file_judged s text ≡ Ok (seen_at entries [] Outside 1)
 unfolding file_judged whole_lines unended last_judged
 file_read s entries text r = rw (r.goes.lines, r.goes.last) refl
 
 -- a file of printed tests is judged as the entries that they give
 pub file_goes : (before : List Entry) (sum : List ℕ → Summed) (names : List (List ℕ)) → AllByRecursion (λ name. Printable name (sum name)) names
     → Fits (flat_map (λ name. summed_text name (sum name)) names) → Clean before (flat_map (λ name. given name (sum name)) names)
-    → file_judged (seen_at before [] outside 1) (flat_map (λ name. summed_text name (sum name)) names) ≡ Ok (seen_at (before ++ flat_map (λ name. given name (sum name)) names) [] outside 1)
-file_goes before sum names p f c =
-    let text : List ℕ = flat_map (λ name. summed_text name (sum name)) names in
-    let e : text ++ [] ≡ text = append-nil text in
-    let f2 : Fits (text ++ []) = subst Fits (sym e) f in
-    subst (λ t. file_judged (seen_at before [] outside 1) t ≡ Ok (seen_at (before ++ flat_map (λ name. given name (sum name)) names) [] outside 1)) e
-    (file_read (seen_at before [] outside 1) (before ++ flat_map (λ name. given name (sum name)) names) (text ++ []) (texts_go before [] 1 sum names [] p f2 c))
+    → file_judged (seen_at before [] Outside 1) (flat_map (λ name. summed_text name (sum name)) names) ≡ Ok (seen_at (before ++ flat_map (λ name. given name (sum name)) names) [] Outside 1)
+file_goes before sum names p f c = grind (arith, append-nil, (file_read (seen_at before [] Outside 1)), (texts_go before [] 1 sum names [] p))

@@ -1,7 +1,7 @@
 -- Laws of a summer that was fed in pieces, which log_sum proves for itself, stated again for the crates above.
 use Rattle.std.proofs.Common.{◌≡◌, List, [], ◌∷◌, ◌++◌, Ok, Err, ℕ}
 use Rattle.log_sum.specs.declared.errors.LogError.{LogError}
-use Rattle.log_sum.specs.LogReading.{nothing_seen, files_judged, input_judged}
+use Rattle.log_sum.specs.LogReading.{input_judged}
 use Rattle.log_sum.specs.Representing.{Kept, Represents, kept_text, logs_text}
 use Rattle.log_sum.proofs.RepresentingLaws as proved
 
@@ -16,5 +16,5 @@ fault_stays files bytes rest more error e = proved.fault_stays files bytes rest 
 
 -- a fault of whole logs stays the first fault, whatever logs follow
 pub end_fault_stays : (files more : List (List ℕ)) (bytes : List ℕ) (error : LogError)
-    → files_judged nothing_seen (files ++ bytes ∷ []) ≡ Err error → logs_text (files ++ bytes ∷ more) ≡ Err error
+    → logs_text (files ++ bytes ∷ []) ≡ Err error → logs_text (files ++ bytes ∷ more) ≡ Err error
 end_fault_stays files more bytes error e = proved.end_fault_stays files more bytes error e

@@ -1,13 +1,12 @@
 -- Bytes of texts: what passes a test does so in parts of the text; words of texts that are joined.
-use Rattle.std.proofs.Common.{◌≡◌, ◌==◌, ℕ, zero, suc, ◌-◌, List, [], ◌∷◌, ◌++◌, length, take, drop, true, false, refl, sym, ap, ◌∙◌, arith, length-append, append_assoc, append-nil}
+use Rattle.std.proofs.Common.{◌≡◌, ◌==◌, ℕ, suc, ◌-◌, List, [], ◌∷◌, ◌++◌, length, take, drop, true, false, refl, sym, ap, ◌∙◌, arith, length-append, append_assoc, append-nil}
 use Rattle.std.specs.Prelude.{Bool, not, ◌&&◌}
-use Rattle.std.specs.List.{slice_split, onto_first, filter, list_all}
+use Rattle.std.specs.List.{slice_split, filter, list_all}
 use Rattle.std.proofs.lemmas.List.{drop_at, take_at}
 use Rattle.std.proofs.lemmas.List.Folds.{list_all-append}
-use Rattle.std.proofs.lemmas.Bool.{and_parts, and_from, not-true}
+use Rattle.std.proofs.lemmas.Bool.{and_parts}
 use Rattle.std.specs.Str.{bytes_eq}
 use Rattle.list_laws.proofs.Elements.{list_all-weaker}
-use Rattle.list_laws.proofs.Cases.{by_test}
 use Rattle.text_laws.specs.Blanks.{is_blank, is_inked}
 use Rattle.text_laws.specs.Words.{is_nil, words}
 use Rattle.log_sum.specs.Texts.{later_words, joined_words, ends_with, before_end}
@@ -22,24 +21,17 @@ all_parts p xs ys h = and_parts (list_all p xs) (list_all p ys) (sym (list_all-a
 -- two things that hold of all elements hold of them together
 pub all_and : {A : Type 0} (p q : A → Bool) (xs : List A) → list_all p xs ≡ true → list_all q xs ≡ true → list_all (λ x. p x && q x) xs ≡ true
 all_and p q [] h g = refl
-all_and p q (x ∷ xs) h g =
-    let k : (p x ≡ true) × (list_all p xs ≡ true) = and_parts (p x) (list_all p xs) h in
-    let l : (q x ≡ true) × (list_all q xs ≡ true) = and_parts (q x) (list_all q xs) g in
-    and_from (p x && q x) (list_all (λ y. p y && q y) xs) (and_from (p x) (q x) k.0 l.0) (all_and p q xs k.1 l.1)
+all_and p q (x ∷ xs) h g = grind (arith, (all_and p q xs))
 
 -- what holds of all elements holds of the first ones
 pub all_take : {A : Type 0} (p : A → Bool) (n : ℕ) (xs : List A) → list_all p xs ≡ true → list_all p (take n xs) ≡ true
-all_take p zero xs h = refl
-all_take p (suc n) [] h = refl
-all_take p (suc n) (x ∷ xs) h =
-    let k : (p x ≡ true) × (list_all p xs ≡ true) = and_parts (p x) (list_all p xs) h in
-    and_from (p x) (list_all p (take n xs)) k.0 (all_take p n xs k.1)
+all_take p (suc n) (x ∷ xs) h = grind (arith, (all_take p n xs))
+all_take p n xs h = grind arith
 
 -- what holds of all elements holds of the later ones
 pub all_drop : {A : Type 0} (p : A → Bool) (n : ℕ) (xs : List A) → list_all p xs ≡ true → list_all p (drop n xs) ≡ true
-all_drop p zero xs h = h
-all_drop p (suc n) [] h = refl
 all_drop p (suc n) (x ∷ xs) h = all_drop p n xs (and_parts (p x) (list_all p xs) h).1
+all_drop p n xs h = grind arith
 
 -- a byte that is in a word
 abbrev pub is_plain : ℕ → Bool
@@ -53,28 +45,13 @@ no_feed b = not (b == 10)
 abbrev pub is_word : List ℕ → Bool
 is_word word = not (is_nil word) && list_all is_plain word
 
-onto_plain : (b : ℕ) (pieces : List (List ℕ)) → is_plain b ≡ true → list_all (list_all is_plain) pieces ≡ true → list_all (list_all is_plain) (onto_first b pieces) ≡ true
-onto_plain b [] h k = and_from (is_plain b && true) true (and_from (is_plain b) true h refl) refl
-onto_plain b (piece ∷ pieces) h k =
-    let l : (list_all is_plain piece ≡ true) × (list_all (list_all is_plain) pieces ≡ true) = and_parts (list_all is_plain piece) (list_all (list_all is_plain) pieces) k in
-    and_from (is_plain b && list_all is_plain piece) (list_all (list_all is_plain) pieces) (and_from (is_plain b) (list_all is_plain piece) h l.0) l.1
-
 pieces_plain : (text : List ℕ) → list_all no_feed text ≡ true → list_all (list_all is_plain) (slice_split is_blank text) ≡ true
 pieces_plain [] h = refl
-pieces_plain (b ∷ text) h =
-    let k : (no_feed b ≡ true) × (list_all no_feed text ≡ true) = and_parts (no_feed b) (list_all no_feed text) h in
-    let further : list_all (list_all is_plain) (slice_split is_blank text) ≡ true = pieces_plain text k.1 in
-    by_test (is_blank b)
-    (λ e. rw e further)
-    (λ e. rw e (onto_plain b (slice_split is_blank text) (and_from (is_inked b) (not (b == 10)) (rw e refl) k.0) further))
+pieces_plain (b ∷ text) h = grind (arith, (pieces_plain text))
 
 some_plain : (pieces : List (List ℕ)) → list_all (list_all is_plain) pieces ≡ true → list_all is_word (filter (λ word. not (is_nil word)) pieces) ≡ true
 some_plain [] h = refl
-some_plain (piece ∷ pieces) h =
-    let l : (list_all is_plain piece ≡ true) × (list_all (list_all is_plain) pieces ≡ true) = and_parts (list_all is_plain piece) (list_all (list_all is_plain) pieces) h in
-    by_test (is_nil piece)
-    (λ e. rw e (some_plain pieces l.1))
-    (λ e. rw e (and_from (is_word piece) (list_all is_word (filter (λ word. not (is_nil word)) pieces)) (and_from (not (is_nil piece)) (list_all is_plain piece) (rw e refl) l.0) (some_plain pieces l.1)))
+some_plain (piece ∷ pieces) h = grind (arith, (some_plain pieces))
 
 -- the words of a text without line feeds are words
 pub words_plain : (text : List ℕ) → list_all no_feed text ≡ true → list_all is_word (words text) ≡ true
@@ -83,12 +60,7 @@ words_plain text h = some_plain (slice_split is_blank text) (pieces_plain text h
 
 -- what it is to be a word, part by part
 pub word_parts : (word : List ℕ) → is_word word ≡ true → (is_nil word ≡ false) × (list_all is_inked word ≡ true) × (list_all no_feed word ≡ true)
-word_parts word h =
-    let k : (not (is_nil word) ≡ true) × (list_all is_plain word ≡ true) = and_parts (not (is_nil word)) (list_all is_plain word) h in (
-      not-true (is_nil word) k.0,
-      list_all-weaker is_plain is_inked (λ b p. (and_parts (is_inked b) (not (b == 10)) p).0) word k.1,
-      list_all-weaker is_plain no_feed (λ b p. (and_parts (is_inked b) (not (b == 10)) p).1) word k.1,
-    )
+word_parts word h = grind (arith, list_all-weaker)
 
 -- the words of a word are the word
 pub word_is : (word : List ℕ) → is_word word ≡ true → words word ≡ word ∷ []
@@ -97,9 +69,7 @@ word_is word h = let k = word_parts word h in one_word word k.1 k.0
 -- words that are joined are its words
 later_is : (ws : List (List ℕ)) (prefix : List ℕ) → list_all is_word ws ≡ true → words (prefix ++ later_words ws) ≡ words prefix ++ ws
 later_is [] prefix h = ap words (append-nil prefix) ∙ sym (append-nil (words prefix))
-later_is (w ∷ ws) prefix h =
-    let k : (is_word w ≡ true) × (list_all is_word ws ≡ true) = and_parts (is_word w) (list_all is_word ws) h in
-    words_both prefix (w ++ later_words ws) ∙ ap (λ t. words prefix ++ t) (later_is ws w k.1 ∙ ap (λ t. t ++ ws) (word_is w k.0))
+later_is (w ∷ ws) prefix h = grind (arith, (later_is ws w), words_both, word_is)
 
 -- an empty text has no words
 pub no_words : words [] ≡ []
@@ -108,10 +78,7 @@ no_words = refl
 
 -- words that are joined are read back
 pub joined_is : (ws : List (List ℕ)) → list_all is_word ws ≡ true → words (joined_words ws) ≡ ws
-joined_is [] h = no_words
-joined_is (w ∷ ws) h =
-    let k : (is_word w ≡ true) × (list_all is_word ws ≡ true) = and_parts (is_word w) (list_all is_word ws) h in
-    later_is ws w k.1 ∙ ap (λ t. t ++ ws) (word_is w k.0)
+joined_is ws h = grind (arith, no_words, later_is, word_is)
 
 later_both : (ws vs : List (List ℕ)) → later_words (ws ++ vs) ≡ later_words ws ++ later_words vs
 later_both [] vs = refl
@@ -123,20 +90,18 @@ joined_both w ws vs = ap (λ t. w ++ t) (later_both ws vs) ∙ sym (append_assoc
 
 later_no_feed : (ws : List (List ℕ)) → list_all is_word ws ≡ true → list_all no_feed (later_words ws) ≡ true
 later_no_feed [] h = refl
-later_no_feed (w ∷ ws) h =
-    let k : (is_word w ≡ true) × (list_all is_word ws ≡ true) = and_parts (is_word w) (list_all is_word ws) h in
-    all_both no_feed w (later_words ws) (word_parts w k.0).2 (later_no_feed ws k.1)
+later_no_feed (w ∷ ws) h = grind (arith, (later_no_feed ws), all_both, word_parts)
 
 -- words that are joined have no line feed
 pub joined_no_feed : (ws : List (List ℕ)) → list_all is_word ws ≡ true → list_all no_feed (joined_words ws) ≡ true
-joined_no_feed [] h = refl
-joined_no_feed (w ∷ ws) h =
-    let k : (is_word w ≡ true) × (list_all is_word ws ≡ true) = and_parts (is_word w) (list_all is_word ws) h in
-    all_both no_feed w (later_words ws) (word_parts w k.0).2 (later_no_feed ws k.1)
+joined_no_feed ws h = grind (arith, all_both, word_parts, later_no_feed)
 
 -- ends of texts
 end_begins : (text tail : List ℕ) → drop (length (text ++ tail) - length tail) (text ++ tail) ≡ tail
-end_begins text tail = let e : length (text ++ tail) - length tail ≡ length text = omega (arith, length-append text tail) in rw e (drop_at text tail (length text) refl)
+end_begins text tail = let e : length (text ++ tail) - length tail ≡ length text = omega (
+  arith,
+  length-append text tail,
+) in rw e (drop_at text tail (length text) refl)
 
 -- a text before another ends with that
 pub ends_so : (text tail : List ℕ) → ends_with (text ++ tail) tail ≡ true
@@ -144,4 +109,7 @@ ends_so text tail = ap (λ t. bytes_eq t tail) (end_begins text tail) ∙ bytes_
 
 -- without the end it is the first text
 pub before_so : (text tail : List ℕ) → before_end (text ++ tail) tail ≡ text
-before_so text tail = let e : length (text ++ tail) - length tail ≡ length text = omega (arith, length-append text tail) in rw e (take_at text tail (length text) refl)
+before_so text tail = let e : length (text ++ tail) - length tail ≡ length text = omega (
+  arith,
+  length-append text tail,
+) in rw e (take_at text tail (length text) refl)

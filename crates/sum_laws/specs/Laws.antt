@@ -4,7 +4,8 @@ use Rattle.std.specs.Prelude.{◌≡◌, ℕ, ◌≤◌, true, not, List, [], �
 use Rattle.std.specs.List.{list_all}
 use Rattle.diy_io.specs.Count.{last_count}
 use Rattle.log_sum.specs.Facts.{Entry, facts_of}
-use Rattle.log_sum.specs.LogReading.{LogSeen, nothing_seen, is_too_long, files_judged}
+use Rattle.log_sum.specs.LogReading.{is_too_long}
+use Rattle.log_sum.specs.LogGrammar.{all_judged}
 use Rattle.text_laws.specs.Lines.{without_return, whole_lines}
 use Rattle.log_sum.specs.Summed.{summed}
 use Rattle.log_sum.specs.SumText.{sum_text}
@@ -24,10 +25,10 @@ pub record NoFault (logs : List (List ℕ)) : Type 0 where
 
 -- a text is the printed sum of logs without a fault, and keeps the limits
 pub record IsSum (logs : List (List ℕ)) (text : List ℕ) : Type 0 where
-  pub seen : LogSeen
-  pub judged : files_judged nothing_seen logs ≡ Ok seen
-  pub printed : text ≡ sum_text seen.entries
-  pub limits : KeepsSumLimits seen.entries
+  pub entries : List Entry
+  pub judged : all_judged [] logs ≡ Ok entries
+  pub printed : text ≡ sum_text entries
+  pub limits : KeepsSumLimits entries
 
 -- files represent logs, in their order: each file is a log, or the printed sum of files that represent logs
 pub data Represent : List (List ℕ) → List (List ℕ) → Type 0 where

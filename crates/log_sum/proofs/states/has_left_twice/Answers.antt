@@ -10,7 +10,7 @@ returns-then-same_left c =
     let many = length-map c.args.equalities.now (λ text. text.items) in
     let here = neighbours_are (λ text. text.items) c.args.equalities.now c.loop-i.i c.index-equalities-i.result c.index-equalities-i-in-loop-i.result c.as_slice.result.now c.as_slice-in-loop-i.result.now
     (omega arith) (omega arith) c.index-equalities-i.is c.index-equalities-i-in-loop-i.is c.as_slice.ensures.value c.as_slice-in-loop-i.ensures.value in
-    sym (twice_before (texts_of c.args.equalities.now) c.loop-i.i (omega arith) (omega (arith, many)) (here ∙ sym c.if-same_left.ensures))
+    sym (twice_before (texts_of c.args.equalities.now) c.loop-i.i (omega arith) (omega arith) (here ∙ sym c.if-same_left.ensures))
 
 pub loop-i-preserved : goal.loop-i-preserved
 loop-i-preserved c =
@@ -21,4 +21,4 @@ loop-i-preserved c =
 pub returns : goal.returns
 returns c =
     let many = length-map c.args.equalities.now (λ text. text.items) in
-    sym (never_twice (texts_of c.args.equalities.now) (λ i h. c.loop-i.invariant i (omega (arith, h, many))))
+    sym (never_twice (texts_of c.args.equalities.now) (λ i h. c.loop-i.invariant i (omega arith)))

@@ -17,8 +17,8 @@ returns-in_err-judge-clause-ended c = λ files bytes represents.
     let p = err_from_is_err_and c.from_residual.result c.from_residual.ensures.1 in
     let some = some_there _ (sym c.if-not-is_empty.ensures) in
     let held = ap (λ (k : Kept). k.held) c.self.view_is in
-    let there : 0 < length c.args.self.now.held = omega (arith, some, c.self.inside.held.ok.0, ap length held) in
-    let few : length c.args.self.now.held ≤ 65536 = omega (arith, c.self.invariant, ap length held) in
+    let there : 0 < length c.args.self.now.held = omega (arith, ap length held) in
+    let few : length c.args.self.now.held ≤ 65536 = omega (arith, ap length held) in
     let follows = subst (λ (p : SumProgress). FollowsSeen p represents.seen) (sym (ap (λ (k : Kept). k.progress) c.self.view_is)) (represents_follows c.args.self.now files bytes represents) in
     let read = subst (λ (t : List ℕ). JudgedTo (progress_view c.judge.new.self) (text_judged represents.seen t) (Err c.in_err-judge.field-0.0)) (c.as_slice.ensures.value ∙ held) (c.in_err-judge.ensures represents.seen follows) in
     rw (p.1, p.2) (last_answered (record { progress = progress_view c.judge.new.self; in_order = are_in_order c.judge.new.self.table; held = c.self.inside.held.items; refusal = c.self.inside.refusal }) files bytes c.args.self.now.held represents.seen (end_after c.args.self.now files bytes represents) (last_text represents.seen c.args.self.now.held there few) c.in_err-judge.field-0.0 read)
@@ -31,8 +31,8 @@ returns-clause-ended c = λ files bytes represents.
     elim c.if-not-is_empty.branch [
       | then-not-is_empty+in_ok-judge w ↦
           (let some = some_there _ (sym w.if-not-is_empty.ensures) in
-          let there : 0 < length c.args.self.now.held = omega (arith, some, c.self.inside.held.ok.0, ap length held) in
-          let few : length c.args.self.now.held ≤ 65536 = omega (arith, c.self.invariant, ap length held) in
+          let there : 0 < length c.args.self.now.held = omega (arith, ap length held) in
+          let few : length c.args.self.now.held ≤ 65536 = omega (arith, ap length held) in
           let read = w.in_ok-judge.ensures represents.seen follows in
           let now = w.self-inside-is in
           end_answered _ files bytes read.seen
@@ -42,7 +42,7 @@ returns-clause-ended c = λ files bytes represents.
           (c.end.ensures.ended read.seen (subst (λ (p : SumProgress). FollowsSeen p read.seen) (sym (ap (λ x. progress_view x.reading) now)) read.follows)) c.end.ensures.in_order)
       | else-not-is_empty w ↦
           (let none = none_there _ (sym w.if-not-is_empty.ensures) in
-          let empty : length c.args.self.now.held ≡ 0 = omega (arith, none, c.self.inside.held.ok.0, ap length held) in
+          let empty : length c.args.self.now.held ≡ 0 = omega (arith, ap length held) in
           let now = w.self-inside-is in
           end_answered _ files bytes represents.seen
           (end_after c.args.self.now files bytes represents ∙ ap (λ (r : Result LogSeen LogError). r >>= end_judged) (last_nothing represents.seen c.args.self.now.held empty))

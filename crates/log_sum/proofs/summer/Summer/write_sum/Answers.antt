@@ -1,11 +1,11 @@
 -- `Summer::write_sum` writes the sum by way of a page, which is empty at first and is flushed at the end.
-use Rattle.std.proofs.Common.{◌≡◌, ℕ, List, [], Err, subst}
+use Rattle.std.proofs.Common.{◌≡◌, ℕ, List, [], Err, subst, arith}
 use Rattle.std.specs.Prelude.{Result}
 use Rattle.std.specs.Result.{IsErrAnd}
 use Rattle.diy_io.specs.declared.errors.Failed.{Failed}
 use Rattle.diy_io.specs.Wrote.{SinkSeen, Wrote}
 use Rattle.diy_io.specs.Page.{Sends, SentAll}
-use Rattle.diy_io.specs.PageLaws.{sent_wrote, unsent_wrote}
+use Rattle.diy_io.specs.PageLaws.{sent_wrote}
 use Rattle.log_sum.proofs.summer.Summer.write_sum.Goals as goal
 
 -- a text that was sent by way of an empty page, which is handed on at the end; and one that was sent in part
@@ -15,8 +15,7 @@ own_wrote a b c held kept text result e h k = sent_wrote a b c kept text result 
 
 own_unsent : (Q : Failed → Type 0) (a b : SinkSeen) (held kept text : List ℕ) (error : Failed) (result : Result (Unit {0}) Failed)
     → held ≡ [] → Sends a held b kept text (Err error) → IsErrAnd result Q → Wrote a b text result
-own_unsent Q a b held kept text error result e h is_err =
-    unsent_wrote Q a b kept text error result (subst (λ t. Sends a t b kept text (Err error)) e h) is_err
+own_unsent Q a b held kept text error result e h is_err = grind arith
 
 pub returns-in_err-print_sums : goal.returns-in_err-print_sums
 returns-in_err-print_sums g c = own_unsent _ _ _ _ _ _ _ c.from_residual.result c.new-page.ensures c.in_err-print_sums.ensures c.from_residual.ensures.1

@@ -9,7 +9,7 @@ use Rattle.log_sum.proofs.table.Table.put_in_order.Goals.{in-Some+in_ok-put_in_o
 pub loop-i-init : goal.loop-i-init
 loop-i-init c = record {
   tests = refl;
-  ordered = λ j test l e. absurd (omega (arith, l));
+  ordered = λ j test l e. absurd (omega arith);
   many = sym c.len-i-end.ensures.len;
 }
 
@@ -31,12 +31,11 @@ loop-i-preserved c =
             ordered = rw w.self-is (ordered_written c.loop-i.self.tests.entries c.loop-i.i written w.in_ok-put_in_order.ensures.in_order c.loop-i.invariant.ordered);
             many = ap (λ (t : Table). length t.tests.entries) w.self-is ∙ same_many c.loop-i.self.tests.entries c.loop-i.i written ∙ c.loop-i.invariant.many;
           })
-      | in_default w ↦ absurd (there_below c.loop-i.self.tests.entries c.loop-i.i (omega (arith, c.loop-i.invariant.many)) (sym w.in_default.ensures.value))
+      | in_default w ↦ absurd (there_below c.loop-i.self.tests.entries c.loop-i.i (omega arith) (sym w.in_default.ensures.value))
     ]
 
 pub returns-clause-tests : goal.returns-clause-tests
 returns-clause-tests c = c.loop-i.invariant.tests
 
 pub returns-clause-in_order : goal.returns-clause-in_order
-returns-clause-in_order c =
-    all_ordered c.loop-i.self.tests.entries (λ j test l e. c.loop-i.invariant.ordered j test (omega (arith, l, c.loop-i.invariant.many)) e)
+returns-clause-in_order c = all_ordered c.loop-i.self.tests.entries (λ j test l e. c.loop-i.invariant.ordered j test (omega arith) e)
