@@ -20,4 +20,3 @@ pub mod Exchanged
 pub mod Needs
 pub mod Laws
 pub mod Tries
-pub mod Executions

@@ -143,7 +143,7 @@ const POWER: [Case; 9] = [
 ];
 
 /// On AArch64, each with one thing wrong or right.
-const AARCH64: [Case; 2] = [
+const AARCH64: [Case; 3] = [
     // Message passing with a store-release and a load-acquire.
     Case {
         edges: "PodWWPL RfeLA PodRRAP Fre",
@@ -157,6 +157,13 @@ const AARCH64: [Case; 2] = [
         text: "AArch64 A\n{\n0:X1=x; 0:X3=y;\n1:X1=y; 1:X3=x;\n}\n P0 | P1 ;\n MOV W0,#1 | LDR W0,[X1] ;\n STR W0,[X1] | LDR W2,[X3] ;\n MOV W2,#1 | ;\n STLR W2,[X3] | ;\nexists (1:X0=1)\n",
         execution: FLAG_READ,
         stand: &[true, false, false, true],
+    },
+    // Nor is a load-acquire a plain load.
+    Case {
+        edges: "PodWR Fre PodWR Fre",
+        text: "AArch64 A\n{\n0:X1=x; 0:X3=y;\n1:X1=y; 1:X3=x;\n}\n P0 | P1 ;\n MOV W0,#1 | MOV W0,#1 ;\n STR W0,[X1] | STR W0,[X1] ;\n LDAR W2,[X3] | LDR W2,[X3] ;\nexists (0:X2=0)\n",
+        execution: "P0: 0@init\nP1: 0@init\nx: 0.0\ny: 1.0\n",
+        stand: &[false, false, true, true],
     },
 ];
 

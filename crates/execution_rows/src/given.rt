@@ -10,37 +10,89 @@ use std::test::Fail;
 const STORE_BUFFERING: &str =
     "X86 SB\n\"PodWR Fre PodWR Fre\"\n{\n}\n P0          | P1          ;\n MOV [x],$1  | MOV [y],$1  ;\n MOV EAX,[y] | MOV EAX,[x] ;\nexists (0:EAX=0 /\\ 1:EAX=0)\n";
 
-/// The most bytes of a verdict on it.
+/// Two writes of each of two places, as it is printed.
+const TWO_WRITES: &str =
+    "X86 2+2W\n\"PodWW Wse PodWW Wse\"\n{\n}\n P0         | P1         ;\n MOV [x],$2 | MOV [y],$2 ;\n MOV [y],$1 | MOV [x],$1 ;\nexists (x=2 /\\ y=2)\n";
+
+/// The same with the term of x alone.
+const TERM_OF_X: &str =
+    "X86 2+2W\n\"PodWW Wse PodWW Wse\"\n{\n}\n P0         | P1         ;\n MOV [x],$2 | MOV [y],$2 ;\n MOV [y],$1 | MOV [x],$1 ;\nexists (x=2)\n";
+
+/// The threads of a cycle with three writes of y, without its observer. The condition has all that an execution ends with.
+const UNOBSERVED: &str =
+    "X86 W3\n\"PodWW Wse Wse PodWR Fre\"\n{\n}\n P0         | P1         | P2          ;\n MOV [x],$1 | MOV [y],$2 | MOV [y],$3  ;\n MOV [y],$1 |            | MOV EAX,[x] ;\nexists (x=1 /\\ y=3 /\\ 2:EAX=0)\n";
+
+/// The most bytes of a verdict.
 const VERDICT_ROOM: usize = 200;
 
-/// An execution of store buffering as a text, and the text of the verdict on it.
+/// A test and an execution of it, both as texts, and the text of the verdict.
 struct Row {
+    test: &'static str,
     execution: &'static str,
     verdict: &'static str,
 }
 
-const ROWS: [Row; 3] = [
+const ROWS: [Row; 9] = [
     // The outcome that the condition names: both reads read the initial value.
     Row {
+        test: STORE_BUFFERING,
         execution: "P0: 0@init\nP1: 0@init\nx: 0.0\ny: 1.0\n",
         verdict: "candidate yes\ncoherent yes\ncondition yes\nedge 0 PodWR yes\nedge 1 Fre yes\nedge 2 PodWR yes\nedge 3 Fre yes\n",
     },
     // Thread 0 reads the write of thread 1: its Fre doesn't stand.
     Row {
+        test: STORE_BUFFERING,
         execution: "P0: 1@1.0\nP1: 0@init\nx: 0.0\ny: 1.0\n",
         verdict: "candidate yes\ncoherent yes\ncondition no\nedge 0 PodWR yes\nedge 1 Fre no\nedge 2 PodWR yes\nedge 3 Fre yes\n",
     },
     // No read of the value 1 reads the initial value.
     Row {
+        test: STORE_BUFFERING,
         execution: "P0: 1@init\nP1: 0@init\nx: 0.0\ny: 1.0\n",
         verdict: "candidate no\n",
     },
+    // The writes of both places come in the order of their values.
+    Row {
+        test: TWO_WRITES,
+        execution: "P0:\nP1:\nx: 1.1 0.0\ny: 0.1 1.0\n",
+        verdict: "candidate yes\ncoherent yes\ncondition yes\nedge 0 PodWW yes\nedge 1 Wse yes\nedge 2 PodWW yes\nedge 3 Wse yes\n",
+    },
+    // The writes of x come the other way round: the term of x fails, and the edge between them doesn't stand.
+    Row {
+        test: TWO_WRITES,
+        execution: "P0:\nP1:\nx: 0.0 1.1\ny: 0.1 1.0\n",
+        verdict: "candidate yes\ncoherent yes\ncondition no\nedge 0 PodWW yes\nedge 1 Wse yes\nedge 2 PodWW yes\nedge 3 Wse no\n",
+    },
+    // So it is with those of y.
+    Row {
+        test: TWO_WRITES,
+        execution: "P0:\nP1:\nx: 1.1 0.0\ny: 1.0 0.1\n",
+        verdict: "candidate yes\ncoherent yes\ncondition no\nedge 0 PodWW yes\nedge 1 Wse no\nedge 2 PodWW yes\nedge 3 Wse yes\n",
+    },
+    // Under the term of x alone, the test asks for this execution too.
+    Row {
+        test: TERM_OF_X,
+        execution: "P0:\nP1:\nx: 1.1 0.0\ny: 1.0 0.1\n",
+        verdict: "candidate yes\ncoherent yes\ncondition yes\nedge 0 PodWW yes\nedge 1 Wse no\nedge 2 PodWW yes\nedge 3 Wse yes\n",
+    },
+    // The writes of y come in the order of their values.
+    Row {
+        test: UNOBSERVED,
+        execution: "P0:\nP1:\nP2: 0@init\nx: 0.0\ny: 0.1 1.0 2.0\n",
+        verdict: "candidate yes\ncoherent yes\ncondition yes\nedge 0 PodWW yes\nedge 1 Wse yes\nedge 2 Wse yes\nedge 3 PodWR yes\nedge 4 Fre yes\n",
+    },
+    // The first two come the other way round, and all ends alike.
+    Row {
+        test: UNOBSERVED,
+        execution: "P0:\nP1:\nP2: 0@init\nx: 0.0\ny: 1.0 0.1 2.0\n",
+        verdict: "candidate yes\ncoherent yes\ncondition yes\nedge 0 PodWW yes\nedge 1 Wse no\nedge 2 Wse yes\nedge 3 PodWR yes\nedge 4 Fre yes\n",
+    },
 ];
 
-/// The verdict on an execution of store buffering, as it is written.
-fn verdict_on(alloc: Global, execution: &str) -> Option<MemSink> {
-    let test = read_test::<X86>(alloc, STORE_BUFFERING.as_bytes()).ok()?;
-    let verdict = check(alloc, &test, execution.as_bytes()).ok()?;
+/// The verdict on an execution of a test, as it is written.
+fn verdict_on(alloc: Global, row: &Row) -> Option<MemSink> {
+    let test = read_test::<X86>(alloc, row.test.as_bytes()).ok()?;
+    let verdict = check(alloc, &test, row.execution.as_bytes()).ok()?;
     let mut out = MemSink::new(alloc, VERDICT_ROOM).ok()?;
     write_verdict(&verdict, &mut out).ok()?;
     Some(out)
@@ -48,7 +100,7 @@ fn verdict_on(alloc: Global, execution: &str) -> Option<MemSink> {
 
 /// Whether the verdict is the one that is wanted.
 fn is_so(alloc: Global, row: &Row) -> bool {
-    match verdict_on(alloc, row.execution) {
+    match verdict_on(alloc, row) {
         Some(out) => out.bytes() == row.verdict.as_bytes(),
         None => false,
     }
@@ -61,7 +113,7 @@ fn error_on(alloc: Global, text: &str) -> Option<CheckError> {
 }
 
 #[test]
-fn verdicts_on_store_buffering(rt: HostRuntime) -> Result<(), Fail> {
+fn verdicts(rt: HostRuntime) -> Result<(), Fail> {
     for (number, row) in ROWS.iter().enumerate() {
         assert!(rt; is_so(rt.alloc(), row), "row {number}");
     }

@@ -15,5 +15,4 @@ pub mod RegisterNames
 pub mod Meeting
 pub mod Asking
 pub mod Headline
-mod Tries
 pub mod EdgeMarks
