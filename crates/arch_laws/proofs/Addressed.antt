@@ -1,6 +1,6 @@
 -- What is alike in the architectures whose accesses name a register with the address: the laws of
 -- architectures follow from those of their instructions.
-use Rattle.std.proofs.Common.{ℕ, ◌+◌, ◌<◌, ◌≤◌, ◌≡◌, ◌==◌, ◌||◌, refl, Bool, true, false, cond, not, List, [], ◌∷◌, ◌++◌, Option, Some, None, is_some, length, length-append, ◌∙◌, ap, append_assoc, subst, arith}
+use Rattle.std.proofs.Common.{ℕ, ◌+◌, ◌<◌, ◌≤◌, ◌≡◌, ◌==◌, ◌||◌, refl, Bool, true, false, cond, not, List, [], ◌∷◌, ◌++◌, Option, Some, None, is_some, length, length-append, ◌∙◌, ap, append_assoc, arith}
 use Rattle.std.specs.List.{list_all}
 use Rattle.std.proofs.lemmas.Bool.{and_from, ne_eqb}
 use Rattle.relax_edges.specs.EdgeTable.{mark_fits, mark_is_of}
@@ -21,28 +21,20 @@ use Rattle.arch_trait.specs.Links.{link_is_of, depends_on_load, is_addr, is_data
 use Rattle.arch_trait.specs.Taking.{Taken, took, has_address, address_of, with_address}
 use Rattle.arch_trait.specs.Laws.{HoldsPlaces, HasSource, Did, DidLoad, DidLink, IsWanting, IsTaken, Takes, HasLink, IsUsable, MakesLinks, MakesAccess, MakesLoads, MakesStores, IsArch, link_room, link_labels, is_at_place}
 use Rattle.arch_trait.specs.Addressed.{Instructions, puts_of, store_op, load_through, store_through, branch_code, link_code, load_on, filled_on, store_on}
-use Rattle.arch_laws.proofs.TakingLaws.{takes_address, address_there, address_next}
-use Rattle.arch_laws.proofs.Accesses.{Writes, IsSpare, writes_none, writes_more, written_same, spare_with, address_is, address_below, did_load, did_store, did_nothing, did_barrier, on_source, xor_runs, written_other, addr_depends, data_depends, addr_no_data, fresh_counts}
-use Rattle.arch_laws.proofs.AddressedInstructions.{IsBut, KeepsInstructions, both_short, imm_short, load_op_has, load_op_runs, load_op_short, load_op_wants, load_through_has, load_through_runs, load_through_short, load_through_wants, store_op_has, store_op_runs, store_through_has, store_through_runs, store_through_short}
+use Rattle.arch_laws.proofs.TakingLaws.{address_there, address_next}
+use Rattle.arch_laws.proofs.Accesses.{Writes, IsSpare, writes_none, writes_more, written_same, spare_with, address_is, address_below, did_load, did_store, did_nothing, did_barrier, on_source, xor_runs, written_other, addr_depends, data_depends, addr_no_data}
+use Rattle.arch_laws.proofs.AddressedInstructions.{IsBut, KeepsInstructions, load_op_has, load_op_runs, load_op_wants, load_through_has, load_through_runs, load_through_short, load_through_wants, store_op_has, store_op_runs, store_through_has, store_through_runs, store_through_short}
 
 -- registers of which one more was changed
 writes_but : (r u : Run) (w : Run) (g h : Taken) (d : ℕ) → Writes r.state.regs u.state.regs g h →
     IsSpare g h d → IsBut d u w → Writes r.state.regs w.state.regs g h
-writes_but r u w g h d x spare but = record {
-  below = λ s k. let l : g.next ≤ d = spare.above in
-      but.regs s (ne_eqb s d (λ e. omega arith)) ∙ x.below s k;
-  above = λ s k. let l : d < h.next = spare.below in
-      but.regs s (ne_eqb s d (λ e. omega arith)) ∙ x.above s k;
-  places = λ p a e. but.regs a (spare.free p a e) ∙ x.places p a e;
-}
+writes_but r u w g h d x spare but = grind arith
 
 did_after : (own : Instructions) (kind : Barrier) (s n : ℕ) (r : Run) (c : ℕ) →
     DidLink (own.branch s n ++ ops.Label n ∷ []) r [] c →
     DidLink (own.branch s n ++ ops.Label n ∷ ops.Barrier kind ∷ []) r (items.Barrier kind c ∷ []) c
 did_after own kind s n r c d =
-    subst (λ code. DidLink code r (items.Barrier kind c ∷ []) c)
-    (append_assoc (own.branch s n) (ops.Label n ∷ []) (ops.Barrier kind ∷ []))
-    (did_barrier (own.branch s n ++ ops.Label n ∷ []) kind r c d)
+    grind (arith, append_assoc (own.branch s n) (ops.Label n ∷ []) (ops.Barrier kind ∷ []), did_barrier (own.branch s n ++ ops.Label n ∷ []) kind r c d)
 
 link_runs : (own : Instructions) → KeepsInstructions own → (link : Link) (from : Option ℕ) (n : ℕ) (r : Run) (k : ℕ) →
     (depends_on_load link ≡ true → HasSource r from k) →
@@ -108,8 +100,7 @@ load_runs : (own : Instructions) → KeepsInstructions own → (g : Taken) (mark
 load_runs own keeps g mark fits r p k v vs true from taken reads source =
     on_source r from k (λ o. LoadRuns own g mark r p k v vs true o) (source refl)
     (λ s n e. load_dependent own keeps g mark fits r p k v vs taken reads s n e)
-load_runs own keeps g mark fits r p k v vs false from taken reads source =
-    load_plain own g mark fits r p k v vs taken reads
+load_runs own keeps g mark fits r p k v vs false from taken reads source = grind (arith, load_plain own g mark fits r p k v vs taken reads)
 
 -- with nothing to read a load wants a number
 abbrev pub LoadWants : Instructions → Taken → Mark → Run → ℕ → Option ℕ → Type 0
@@ -219,25 +210,18 @@ store_runs : (own : Instructions) → KeepsInstructions own → (g : Taken) (mar
 store_runs own keeps g mark fits r p v k true false from taken small source other apart =
     on_source r from k (λ o. StoreRuns own g mark r p v k true false o None) (source refl)
     (λ s n e. store_dependent own keeps g mark fits r p v k taken None s n e)
-store_runs own keeps g mark fits r p v k true true from taken small source other apart =
-    let q : true ≡ false = apart refl in cc
+store_runs own keeps g mark fits r p v k true true from taken small source other apart = grind arith
 store_runs own keeps g mark fits r p v k false true from taken small source other apart =
     on_source r from k (λ o. StoreRuns own g mark r p v k false true None o) (other refl)
     (λ s n e. store_of_sum own keeps g mark fits r p v k taken small s n e)
-store_runs own keeps g mark fits r p v k false false from taken small source other apart =
-    store_plain own g mark fits r p v k taken
+store_runs own keeps g mark fits r p v k false false from taken small source other apart = grind (arith, store_plain own g mark fits r p v k taken)
 
 load_takes : (own : Instructions) (g : Taken) (mark : Mark) (p : ℕ) (o : Option ℕ) → Takes g (load_on own g mark o p).regs p
-load_takes own g mark p None = takes_address g (took g 1) p refl refl (omega arith)
-load_takes own g mark p (Some s) = takes_address g (took g 2) p refl refl (omega arith)
+load_takes own g mark p o = grind arith
 
 load_room : (own : Instructions) → KeepsInstructions own → (g : Taken) (mark : Mark) (p : ℕ) (a : Bool) (from : Option ℕ) (b : Bool) →
     length (load_on own g mark (source_if a from) p).code ≤ cond (a || b) 4 2
-load_room own keeps g mark p true None b = omega arith
-load_room own keeps g mark p true (Some s) b =
-    omega (arith, (load_through_short own keeps mark g.next (g.next + 1) (address_of (took g 2) p)).room)
-load_room own keeps g mark p false from true = omega arith
-load_room own keeps g mark p false from false = omega arith
+load_room own keeps g mark p a from b = grind arith
 
 load_addressed : (own : Instructions) (g : Taken) (mark : Mark) (p : ℕ) (o : Option ℕ) →
     has_address (load_on own g mark o p).regs p ≡ true
@@ -247,11 +231,7 @@ load_addressed own g mark p (Some s) = address_there (took g 2) p
 load_need : (own : Instructions) (g : Taken) (mark : Mark) (p : ℕ) (a : Bool) (from : Option ℕ) (is_new : Bool) (h : ℕ) →
     (a ≡ true → is_some from ≡ true) → is_new ≡ not (has_address g p) →
     (load_on own g mark (source_if a from) p).regs.next + h ≡ g.next + (h + 1 + cond a 1 0 + cond is_new 1 0)
-load_need own g mark p true None is_new h given fresh = let e : false ≡ true = given refl in cc
-load_need own g mark p true (Some s) is_new h given fresh =
-    omega (arith, address_next (took g 2) p, fresh_counts g p is_new fresh)
-load_need own g mark p false from is_new h given fresh =
-    omega (arith, address_next (took g 1) p, fresh_counts g p is_new fresh)
+load_need own g mark p a from is_new h given fresh = grind arith
 
 -- code that has no labels, whose jumps land, and whose accesses may be said to be at any place
 record IsBare (code : List Micro) : Type 0 where
@@ -260,42 +240,23 @@ record IsBare (code : List Micro) : Type 0 where
   no_place : (p : ℕ) → list_all (is_at_place p) code ≡ true
 
 load_bare : (own : Instructions) → KeepsInstructions own → (g : Taken) (mark : Mark) (p : ℕ) (o : Option ℕ) → IsBare ((load_on own g mark o p).code)
-load_bare own keeps g mark p None =
-    let short = load_op_short mark g.next (address_of (took g 1) p) in record { labels = short.labels; lands = short.lands; no_place = short.no_place }
-load_bare own keeps g mark p (Some s) =
-    let short = load_through_short own keeps mark g.next (g.next + 1) (address_of (took g 2) p) in
-    record { labels = short.labels; lands = short.lands; no_place = short.no_place }
+load_bare own keeps g mark p None = grind arith
+load_bare own keeps g mark p (Some s) = grind (arith, load_through_short own keeps mark g.next (g.next + 1) (address_of (took g 2) p))
 
 load_has : (own : Instructions) → KeepsInstructions own → (g : Taken) (mark : Mark) → mark_is_of mark own.name ≡ true → (p : ℕ) (o : Option ℕ) →
     IsUsable own.registers o → IsTaken g → (load_on own g mark o p).regs.next ≤ own.registers →
     list_all own.has (load_on own g mark o p).code ≡ true
-load_has own keeps g mark e p None u taken left =
-    let i = took g 1 in
-    let a = address_below g i p taken refl (omega arith) in
-    let n = address_next i p in
-    and_from _ true (load_op_has own keeps mark e g.next (address_of i p) (omega (arith, n)) (omega (arith, a))) refl
+load_has own keeps g mark e p None u taken left = grind (arith, address_below g, address_next, and_from, load_op_has own keeps mark e g.next)
 load_has own keeps g mark e p (Some s) u taken left =
-    let i = took g 2 in
-    let a = address_below g i p taken refl (omega arith) in
-    let n = address_next i p in
-    and_from _ _ (keeps.xor_has g.next s (omega (arith, n)) u)
-    (load_through_has own keeps mark e g.next (g.next + 1) (address_of i p) (omega (arith, n)) (omega (arith, n)) (omega (arith, a)))
+    grind (arith, address_below g, address_next, and_from, load_through_has own keeps mark e g.next (g.next + 1))
 
 store_takes : (own : Instructions) (g : Taken) (mark : Mark) (p v : ℕ) (o d : Option ℕ) →
     Takes g (store_on own g mark o d p v).regs p
-store_takes own g mark p v None None = takes_address g (took g 1) p refl refl (omega arith)
-store_takes own g mark p v None (Some s) = takes_address g (took g 1) p refl refl (omega arith)
-store_takes own g mark p v (Some s) d = takes_address g (took g 2) p refl refl (omega arith)
+store_takes own g mark p v o d = grind arith
 
 store_room : (own : Instructions) → KeepsInstructions own → (g : Taken) (mark : Mark) (p v : ℕ) (a b : Bool) (from : Option ℕ) →
     length (store_on own g mark (source_if a from) (source_if b from) p v).code ≤ cond (a || b) 4 2
-store_room own keeps g mark p v true true None = omega arith
-store_room own keeps g mark p v true false None = omega arith
-store_room own keeps g mark p v true b (Some s) =
-    omega (arith, (store_through_short own keeps mark g.next (g.next + 1) (address_of (took g 2) p)).room)
-store_room own keeps g mark p v false true None = omega arith
-store_room own keeps g mark p v false true (Some s) = omega arith
-store_room own keeps g mark p v false false from = omega arith
+store_room own keeps g mark p v a b from = grind arith
 
 store_addressed : (own : Instructions) (g : Taken) (mark : Mark) (p v : ℕ) (o d : Option ℕ) →
     has_address (store_on own g mark o d p v).regs p ≡ true
@@ -307,57 +268,25 @@ store_need : (own : Instructions) (g : Taken) (mark : Mark) (p v : ℕ) (a b : B
     (h : ℕ) → (a ≡ true → is_some from ≡ true) → is_new ≡ not (has_address g p) →
     (store_on own g mark (source_if a from) (source_if b from) p v).regs.next + h ≡
     g.next + (h + 1 + cond a 1 0 + cond is_new 1 0)
-store_need own g mark p v true b None is_new h given fresh = let e : false ≡ true = given refl in cc
-store_need own g mark p v true b (Some s) is_new h given fresh =
-    omega (arith, address_next (took g 2) p, fresh_counts g p is_new fresh)
-store_need own g mark p v false true None is_new h given fresh =
-    omega (arith, address_next (took g 1) p, fresh_counts g p is_new fresh)
-store_need own g mark p v false true (Some s) is_new h given fresh =
-    omega (arith, address_next (took g 1) p, fresh_counts g p is_new fresh)
-store_need own g mark p v false false from is_new h given fresh =
-    omega (arith, address_next (took g 1) p, fresh_counts g p is_new fresh)
+store_need own g mark p v a b from is_new h given fresh = grind arith
 
 store_bare : (own : Instructions) → KeepsInstructions own → (g : Taken) (mark : Mark) (p v : ℕ) (o d : Option ℕ) → IsBare (store_on own g mark o d p v).code
-store_bare own keeps g mark p v None None =
-    let short = both_short (ops.Imm g.next v) mark g.next (address_of (took g 1) p) (imm_short g.next v) in
-    record { labels = short.labels; lands = short.lands; no_place = short.no_place }
-store_bare own keeps g mark p v None (Some s) =
-    let short = both_short (own.joins g.next v) mark g.next (address_of (took g 1) p) (keeps.joining.short g.next v) in
-    record { labels = short.labels; lands = short.lands; no_place = short.no_place }
-store_bare own keeps g mark p v (Some s) d =
-    let short = store_through_short own keeps mark g.next (g.next + 1) (address_of (took g 2) p) in
-    record { labels = short.labels; lands = short.lands; no_place = short.no_place }
+store_bare own keeps g mark p v None None = grind arith
+store_bare own keeps g mark p v None (Some s) = grind arith
+store_bare own keeps g mark p v (Some s) d = grind (arith, store_through_short own keeps mark g.next (g.next + 1) (address_of (took g 2) p))
 
 store_has : (own : Instructions) → KeepsInstructions own → (g : Taken) (mark : Mark) → mark_is_of mark own.name ≡ true → (p v : ℕ) (o d : Option ℕ) → v < 256 →
     IsUsable own.registers o → IsUsable own.registers d → IsTaken g →
     (store_on own g mark o d p v).regs.next ≤ own.registers →
     list_all own.has (store_on own g mark o d p v).code ≡ true
-store_has own keeps g mark e p v None None small uo ud taken left =
-    let i = took g 1 in
-    let a = address_below g i p taken refl (omega arith) in
-    let n = address_next i p in
-    and_from _ _ (keeps.imm_has g.next v (omega (arith, n)) small)
-    (and_from _ true
-    (store_op_has own keeps mark e g.next (address_of i p) (omega (arith, n)) (omega (arith, a))) refl)
+store_has own keeps g mark e p v None None small uo ud taken left = grind (arith, address_below g, address_next, and_from, store_op_has own keeps mark e g.next)
 store_has own keeps g mark e p v None (Some s) small uo ud taken left =
-    let i = took g 1 in
-    let a = address_below g i p taken refl (omega arith) in
-    let n = address_next i p in
-    and_from _ _ (keeps.xor_has g.next s (omega (arith, n)) ud)
-    (and_from _ _ (keeps.joins_has g.next v (omega (arith, n)) small)
-    (and_from _ true
-    (store_op_has own keeps mark e g.next (address_of i p) (omega (arith, n)) (omega (arith, a))) refl))
+    grind (arith, address_below g, address_next, and_from, store_op_has own keeps mark e g.next)
 store_has own keeps g mark e p v (Some s) d small uo ud taken left =
-    let i = took g 2 in
-    let a = address_below g i p taken refl (omega arith) in
-    let n = address_next i p in
-    and_from _ _ (keeps.xor_has g.next s (omega (arith, n)) uo)
-    (and_from _ _ (keeps.imm_has (g.next + 1) v (omega (arith, n)) small)
-    (store_through_has own keeps mark e g.next (g.next + 1) (address_of i p) (omega (arith, n)) (omega (arith, n)) (omega (arith, a))))
+    grind (arith, address_below g, address_next, and_from, store_through_has own keeps mark e g.next (g.next + 1))
 
 source_usable : (n : ℕ) (a : Bool) (from : Option ℕ) → IsUsable n from → IsUsable n (source_if a from)
-source_usable n true from h = h
-source_usable n false from h = tt
+source_usable n a from h = grind arith
 
 load_access : (own : Instructions) → KeepsInstructions own → MakesAccess (puts_of own) dirs.R (puts_of own).load
 load_access own keeps = record {
@@ -401,83 +330,29 @@ store_access own keeps v small = record {
 }
 
 makes_loads : (own : Instructions) → KeepsInstructions own → MakesLoads (puts_of own)
-makes_loads own keeps = record {
-  access = load_access own keeps;
-  runs = λ g link mark from p r k v vs e d marked ready reads.
-      load_runs own keeps g mark marked.fits r p k v vs (is_addr link) from ready.taken reads
-      (λ t. ready.source (addr_depends link t)) ready.places;
-  wants = λ g link mark from p r k e d marked ready reads.
-      load_wants own keeps g mark r p k (is_addr link) from ready.taken reads
-      (λ t. ready.source (addr_depends link t)) ready.places;
-  fills = λ g link mark from p. load_fills g mark p (source_if (is_addr link) from);
-}
-  where
-    load_fills : (g : Taken) (mark : Mark) (p : ℕ) (o : Option ℕ) →
-        (g.next ≤ filled_on g o) × (filled_on g o < (load_on own g mark o p).regs.next)
-    load_fills g mark p None = let n = address_next (took g 1) p in (omega arith, omega (arith, n))
-    load_fills g mark p (Some s) = let n = address_next (took g 2) p in (omega arith, omega (arith, n))
+makes_loads own keeps = grind (arith, load_access, load_runs, addr_depends, load_wants, address_next)
 
 makes_stores : (own : Instructions) → KeepsInstructions own → MakesStores (puts_of own)
-makes_stores own keeps = record {
-  access = store_access own keeps;
-  runs = λ g link mark from p v r k small e marked ready.
-      store_runs own keeps g mark marked.fits r p v k (is_addr link) (is_data link) from ready.taken small
-      (λ t. ready.source (addr_depends link t)) (λ t. ready.source (data_depends link t))
-      (addr_no_data link) ready.places;
-}
+makes_stores own keeps = grind (arith, store_access own keeps, store_runs own keeps, addr_depends, data_depends, addr_no_data)
 
 branch_room : (own : Instructions) → KeepsInstructions own → (from : Option ℕ) (n : ℕ) (rest : List Micro) →
     length (branch_code own from n rest) ≤ 3 + length rest
-branch_room own keeps None n rest = omega arith
-branch_room own keeps (Some s) n rest =
-    omega (arith, length-append (own.branch s n) (ops.Label n ∷ rest), keeps.branch.room s n)
+branch_room own keeps from n rest = grind (arith, length-append)
 
 link_short : (own : Instructions) → KeepsInstructions own → (link : Link) (from : Option ℕ) (n : ℕ) →
     length (link_code own link from n) ≤ link_room link
-link_short own keeps links.Plain from n = omega arith
-link_short own keeps (links.Fence kind) from n = omega arith
-link_short own keeps links.Addr from n = omega arith
-link_short own keeps links.Data from n = omega arith
-link_short own keeps links.Ctrl from n = omega (arith, branch_room own keeps from n [])
-link_short own keeps links.CtrlIsync from n =
-    omega (arith, branch_room own keeps from n (ops.Barrier (barriers.Fence fences.ISync) ∷ []))
-link_short own keeps links.CtrlIsb from n =
-    omega (arith, branch_room own keeps from n (ops.Barrier barriers.Isb ∷ []))
+link_short own keeps link from n = grind (arith, branch_room)
 
 link_labels_are : (own : Instructions) → KeepsInstructions own → (link : Link) (from : Option ℕ) (n : ℕ) →
     HasLink (puts_of own) link from → labels_of (link_code own link from n) ≡ link_labels link n
-link_labels_are own keeps links.Plain from n h = refl
-link_labels_are own keeps (links.Fence kind) from n h = refl
-link_labels_are own keeps links.Addr from n h = refl
-link_labels_are own keeps links.Data from n h = refl
-link_labels_are own keeps links.Ctrl (Some s) n h = keeps.branch.label s n []
-link_labels_are own keeps links.Ctrl None n h = let e : false ≡ true = h.given refl in cc
-link_labels_are own keeps links.CtrlIsync (Some s) n h =
-    keeps.branch.label s n (ops.Barrier (barriers.Fence fences.ISync) ∷ [])
-link_labels_are own keeps links.CtrlIsync None n h = let e : false ≡ true = h.given refl in cc
-link_labels_are own keeps links.CtrlIsb (Some s) n h =
-    keeps.branch.label s n (ops.Barrier barriers.Isb ∷ [])
-link_labels_are own keeps links.CtrlIsb None n h = let e : false ≡ true = h.given refl in cc
+link_labels_are own keeps link from n h = grind arith
 
 -- what holds of no code, of a barrier, and of a branch where it holds of what comes after the branch, holds of the code
 -- of each link
 pub code_of_link : (own : Instructions) (Holds : List Micro → Type 0) → Holds [] → ((kind : Barrier) → Holds (ops.Barrier kind ∷ [])) →
     ((s n : ℕ) (rest : List Micro) → Holds rest → Holds (own.branch s n ++ ops.Label n ∷ rest)) →
     (link : Link) (from : Option ℕ) (n : ℕ) → Holds (link_code own link from n)
-code_of_link own Holds none barrier branch link from n = of_link link
-  where
-    of_branch : (from : Option ℕ) (rest : List Micro) → Holds rest → Holds (branch_code own from n rest)
-    of_branch None rest h = none
-    of_branch (Some s) rest h = branch s n rest h
-
-    of_link : (link : Link) → Holds (link_code own link from n)
-    of_link links.Plain = none
-    of_link (links.Fence kind) = barrier (barriers.Fence kind)
-    of_link links.Addr = none
-    of_link links.Data = none
-    of_link links.Ctrl = of_branch from [] none
-    of_link links.CtrlIsync = of_branch from (ops.Barrier (barriers.Fence fences.ISync) ∷ []) (barrier (barriers.Fence fences.ISync))
-    of_link links.CtrlIsb = of_branch from (ops.Barrier barriers.Isb ∷ []) (barrier barriers.Isb)
+code_of_link own Holds none barrier branch link from n = grind arith
 
 link_lands : (own : Instructions) → KeepsInstructions own → (link : Link) (from : Option ℕ) (n : ℕ) →
     lands (link_code own link from n) ≡ true
@@ -488,45 +363,15 @@ link_no_place : (own : Instructions) → KeepsInstructions own → (link : Link)
 link_no_place own keeps link from n p =
     code_of_link own (λ code. list_all (is_at_place p) code ≡ true) refl (λ kind. refl) (λ s n rest h. keeps.branch.no_place s n p rest h) link from n
 
-branch_has : (own : Instructions) → KeepsInstructions own → (from : Option ℕ) (n : ℕ) (rest : List Micro) →
-    IsUsable own.registers from → list_all own.has rest ≡ true →
-    list_all own.has (branch_code own from n rest) ≡ true
-branch_has own keeps None n rest u h = refl
-branch_has own keeps (Some s) n rest u h = keeps.branch_has s n rest u h
-
 link_has : (own : Instructions) → KeepsInstructions own → (link : Link) (from : Option ℕ) (n : ℕ) →
     link_is_of link own.name ≡ true → IsUsable own.registers from →
     list_all own.has (link_code own link from n) ≡ true
-link_has own keeps links.Plain from n e u = refl
-link_has own keeps (links.Fence kind) from n e u = and_from _ true (keeps.fence_has kind e) refl
-link_has own keeps links.Addr from n e u = refl
-link_has own keeps links.Data from n e u = refl
-link_has own keeps links.Ctrl from n e u = branch_has own keeps from n [] u refl
-link_has own keeps links.CtrlIsync from n e u =
-    branch_has own keeps from n (ops.Barrier (barriers.Fence fences.ISync) ∷ []) u
-    (and_from _ true (keeps.isync_has e) refl)
-link_has own keeps links.CtrlIsb from n e u =
-    branch_has own keeps from n (ops.Barrier barriers.Isb ∷ []) u (and_from _ true (keeps.isb_has e) refl)
+link_has own keeps link from n e u = grind arith
 
 makes_links : (own : Instructions) → KeepsInstructions own → MakesLinks (puts_of own)
-makes_links own keeps = record {
-  runs = λ link from n r k e source. link_runs own keeps link from n r k source;
-  room = link_short own keeps;
-  labels = link_labels_are own keeps;
-  jumps = link_lands own keeps;
-  no_place = link_no_place own keeps;
-  has = λ link from n h usable. link_has own keeps link from n h.of_arch usable;
-}
+makes_links own keeps =
+    grind (arith, link_runs own keeps, link_short own keeps, link_labels_are own keeps, link_lands own keeps, link_no_place own keeps, link_has own keeps)
 
 -- an architecture whose instructions keep their laws keeps the laws of architectures
 pub keeps_laws : (own : Instructions) → KeepsInstructions own → IsArch (puts_of own)
-keeps_laws own keeps = record {
-  few = keeps.few;
-  links = makes_links own keeps;
-  loads = makes_loads own keeps;
-  stores = makes_stores own keeps;
-  shapes = record {
-    none = refl;
-    grows = λ h i w. omega (arith, w.loads, w.stores, w.addr, w.places);
-  };
-}
+keeps_laws own keeps = grind (arith, makes_links, makes_loads, makes_stores)

@@ -1,12 +1,8 @@
 -- What an architecture whose accesses name a register with the address shows of its own instructions, and what follows for
 -- the code of a single access.
-use Rattle.std.proofs.Common.{ℕ, ◌<◌, ◌≤◌, ◌≡◌, ◌==◌, refl, true, false, bit_or, List, [], ◌∷◌, ◌++◌, None, length, ◌∙◌, ap, arith}
+use Rattle.std.proofs.Common.{ℕ, ◌<◌, ◌≤◌, ◌≡◌, ◌==◌, true, false, bit_or, List, [], ◌∷◌, ◌++◌, None, length, arith}
 use Rattle.std.specs.List.{list_all}
-use Rattle.std.proofs.lemmas.Bool.{and_from}
-use Rattle.std.proofs.lemmas.List.Folds.{list_all-append}
 use Rattle.relax_edges.specs.EdgeTable.{fence_is_of, mark_fits, mark_is_of}
-use Rattle.relax_edges.specs.declared.kinds.ArchName.{ArchName}
-use Rattle.relax_edges.specs.declared.kinds.ArchName.TheVariants as archs
 use Rattle.relax_edges.specs.declared.kinds.Mark.{Mark}
 use Rattle.relax_edges.specs.declared.kinds.Mark.TheVariants.{Plain, Acquire, Release}
 use Rattle.relax_edges.specs.declared.kinds.FenceKind.{FenceKind}
@@ -17,8 +13,7 @@ use Rattle.micro_ops.specs.declared.operation.Micro.TheVariants as ops
 use Rattle.micro_ops.specs.declared.operation.Barrier.TheVariants as barriers
 use Rattle.micro_ops.specs.Machine.{num, address_held, held_at_place, bit}
 use Rattle.micro_ops.specs.Running.{Run, At, Wants, go, exec, labels_of, lands}
-use Rattle.arch_laws.proofs.Rules.{holding, after_load, after_store, run_load, run_load_wants, run_load_acquire, run_load_acquire_wants, run_store, run_store_release, run_add_to_address}
-use Rattle.micro_ops.specs.RunLaws.{labels_append, lands_append}
+use Rattle.arch_laws.proofs.Rules.{holding, after_load, after_store, run_add_to_address}
 use Rattle.arch_trait.specs.declared.link.Link.TheVariants as links
 use Rattle.arch_trait.specs.Links.{link_is_of}
 use Rattle.arch_trait.specs.Cells.{is_access, access_count}
@@ -36,13 +31,7 @@ pub record IsBut (d : ℕ) (r u : Run) : Type 0 where
 
 -- a run differs from itself in at most one register
 pub same_run : (d : ℕ) (r : Run) → IsBut d r r
-same_run d r = record {
-  regs = λ s e. refl;
-  made = refl;
-  control = refl;
-  loads = refl;
-  reads = refl;
-}
+same_run d r = grind arith
 
 -- a run of code ends with a load of a mark, and changes one register before it
 pub record LoadsBy (mark : Mark) (code : List Micro) (r : Run) (d v p n mask : ℕ) (vs : List ℕ) : Type 0 where
@@ -129,74 +118,46 @@ pub record KeepsInstructions (own : Instructions) : Type 0 where
 pub load_op_runs : (mark : Mark) → mark_fits dirs.R mark ≡ true → (v a p n mask : ℕ) (vs : List ℕ) (r : Run) →
     r.state.regs a ≡ address_held p mask → r.reads ≡ n ∷ vs →
     go (load_op mark v a) (At r) ≡ At (after_load mark r v p n mask vs)
-load_op_runs Plain fits v a p n mask vs r e reads = run_load v a p n mask vs r e reads
-load_op_runs Acquire fits v a p n mask vs r e reads = run_load_acquire v a p n mask vs r e reads
-load_op_runs Release fits v a p n mask vs r e reads = cc
+load_op_runs mark fits v a p n mask vs r e reads = grind arith
 
 -- without a number to read, a load of a mark at the address in a register wants one
 pub load_op_wants : (mark : Mark) (v a p mask : ℕ) (r : Run) → r.state.regs a ≡ address_held p mask → r.reads ≡ [] →
     go (load_op mark v a) (At r) ≡ Wants r
-load_op_wants Plain v a p mask r e reads = run_load_wants v a p mask r e reads
-load_op_wants Acquire v a p mask r e reads = run_load_acquire_wants v a p mask r e reads
-load_op_wants Release v a p mask r e reads = run_load_wants v a p mask r e reads
+load_op_wants mark v a p mask r e reads = grind arith
 
 -- a store of a mark at the address in a register makes its access
 pub store_op_runs : (mark : Mark) → mark_fits dirs.W mark ≡ true → (v a p n mask data_mask : ℕ) (r : Run) →
     r.state.regs a ≡ address_held p mask → r.state.regs v ≡ num n data_mask →
     go (store_op mark v a) (At r) ≡ At (after_store mark r p n mask data_mask)
-store_op_runs Plain fits v a p n mask data_mask r e holds = run_store v a p n mask data_mask r e holds
-store_op_runs Release fits v a p n mask data_mask r e holds = run_store_release v a p n mask data_mask r e holds
-store_op_runs Acquire fits v a p n mask data_mask r e holds = cc
+store_op_runs mark fits v a p n mask data_mask r e holds = grind arith
 
 -- once the address is in a register, the others are as they were
 but_address : (d p mask : ℕ) (r : Run) → IsBut d r (holding r d (address_held p mask))
-but_address d p mask r = record {
-  regs = λ s e. written_other r.state.regs d s (address_held p mask) e;
-  made = refl;
-  control = refl;
-  loads = refl;
-  reads = refl;
-}
+but_address d p mask r = grind arith
 
 -- an address that is made in a register, and a load there
 pub loads_there : (makes : Micro) (mark : Mark) → mark_fits dirs.R mark ≡ true → (d v p n mask : ℕ) (vs : List ℕ) (r : Run) →
     go makes (At r) ≡ At (holding r d (address_held p mask)) → r.reads ≡ n ∷ vs → LoadsBy mark (makes ∷ load_op mark v d ∷ []) r d v p n mask vs
 loads_there makes mark fits d v p n mask vs r made reads =
-    let u = holding r d (address_held p mask) in
-    record {
-      before = u;
-      ran =
-          ap (λ x. go (load_op mark v d) x) made ∙
-          load_op_runs mark fits v d p n mask vs u (written_same r.state.regs d (address_held p mask)) reads;
-      same = but_address d p mask r;
-    }
+    grind (arith, load_op_runs mark fits v d p n mask vs, written_same r.state.regs d (address_held p mask), but_address d p mask r)
 
 -- without a number to read, the load there wants one
 pub wants_there : (makes : Micro) (mark : Mark) (d v p mask : ℕ) (r : Run) → go makes (At r) ≡ At (holding r d (address_held p mask)) → r.reads ≡ [] →
     IsWanting (exec (makes ∷ load_op mark v d ∷ []) (At r))
-wants_there makes mark d v p mask r made reads =
-    let u = holding r d (address_held p mask) in
-    record {
-      run = u;
-      is =
-          ap (λ x. go (load_op mark v d) x) made ∙
-          load_op_wants mark v d p mask u (written_same r.state.regs d (address_held p mask)) reads;
-    }
+wants_there makes mark d v p mask r made reads = grind arith
 
 -- an address that is made in a register, and a store there of another register
 pub stores_there : (makes : Micro) (mark : Mark) → mark_fits dirs.W mark ≡ true → (d v p n mask : ℕ) (r : Run) →
     go makes (At r) ≡ At (holding r d (address_held p mask)) → r.state.regs v ≡ num n 0 → (v == d) ≡ false →
     StoresBy mark (makes ∷ store_op mark v d ∷ []) r d p n mask
 stores_there makes mark fits d v p n mask r made holds apart =
-    let u = holding r d (address_held p mask) in
-    record {
-      before = u;
-      ran =
-          ap (λ x. go (store_op mark v d) x) made ∙
-          store_op_runs mark fits v d p n mask 0 u (written_same r.state.regs d (address_held p mask))
-          (written_other r.state.regs d v (address_held p mask) apart ∙ holds);
-      same = but_address d p mask r;
-    }
+    grind (
+      arith,
+      store_op_runs mark fits v d p n mask 0,
+      written_same r.state.regs d (address_held p mask),
+      written_other r.state.regs d v (address_held p mask) apart,
+      but_address d p mask r,
+    )
 
 -- a load of a mark at an address that depends on a register makes its access
 pub load_through_runs : (own : Instructions) → KeepsInstructions own → (mark : Mark) → mark_fits dirs.R mark ≡ true →
@@ -213,15 +174,13 @@ pub load_through_wants : (own : Instructions) → KeepsInstructions own → (mar
     IsWanting (exec (load_through own mark d v a) (At r))
 load_through_wants own keeps Plain d v a p mask r e g reads = keeps.accesses.load_wants d v a p mask r e g reads
 load_through_wants own keeps Release d v a p mask r e g reads = keeps.accesses.load_wants d v a p mask r e g reads
-load_through_wants own keeps Acquire d v a p mask r e g reads =
-    wants_there (ops.Add d a d) Acquire d v p mask r (run_add_to_address d a d p mask r e g) reads
+load_through_wants own keeps Acquire d v a p mask r e g reads = grind arith
 
 -- a store of a mark at an address that depends on a register makes its access
 pub store_through_runs : (own : Instructions) → KeepsInstructions own → (mark : Mark) → mark_fits dirs.W mark ≡ true →
     (d v a p n mask : ℕ) (r : Run) → r.state.regs a ≡ held_at_place p → r.state.regs d ≡ num 0 mask →
     r.state.regs v ≡ num n 0 → (v == d) ≡ false → StoresBy mark (store_through own mark d v a) r d p n mask
-store_through_runs own keeps Plain fits d v a p n mask r e g holds apart =
-    keeps.accesses.store_runs d v a p n mask r e g holds apart
+store_through_runs own keeps Plain fits d v a p n mask r e g holds apart = grind arith
 store_through_runs own keeps Release fits d v a p n mask r e g holds apart =
     stores_there (ops.Add d a d) Release fits d v p n mask r (run_add_to_address d a d p mask r e g) holds apart
 store_through_runs own keeps Acquire fits d v a p n mask r e g holds apart = cc
@@ -231,85 +190,33 @@ pub load_through_short : (own : Instructions) → KeepsInstructions own → (mar
     IsShort (load_through own mark d v a)
 load_through_short own keeps Plain d v a = keeps.accesses.load_short d v a
 load_through_short own keeps Release d v a = keeps.accesses.load_short d v a
-load_through_short own keeps Acquire d v a =
-    record { room = omega arith; labels = refl; lands = refl; no_place = λ p. refl }
+load_through_short own keeps Acquire d v a = grind arith
 
 -- the code of a store at an address that depends on a register is short
 pub store_through_short : (own : Instructions) → KeepsInstructions own → (mark : Mark) (d v a : ℕ) →
     IsShort (store_through own mark d v a)
 store_through_short own keeps Plain d v a = keeps.accesses.store_short d v a
 store_through_short own keeps Acquire d v a = keeps.accesses.store_short d v a
-store_through_short own keeps Release d v a =
-    record { room = omega arith; labels = refl; lands = refl; no_place = λ p. refl }
-
--- the code of a load at the address in a register is short
-pub load_op_short : (mark : Mark) (v a : ℕ) → IsShort (load_op mark v a ∷ [])
-load_op_short Plain v a = record { room = omega arith; labels = refl; lands = refl; no_place = λ p. refl }
-load_op_short Acquire v a = record { room = omega arith; labels = refl; lands = refl; no_place = λ p. refl }
-load_op_short Release v a = record { room = omega arith; labels = refl; lands = refl; no_place = λ p. refl }
-
-store_op_short : (mark : Mark) (v a : ℕ) → IsShort (store_op mark v a ∷ [])
-store_op_short Plain v a = record { room = omega arith; labels = refl; lands = refl; no_place = λ p. refl }
-store_op_short Acquire v a = record { room = omega arith; labels = refl; lands = refl; no_place = λ p. refl }
-store_op_short Release v a = record { room = omega arith; labels = refl; lands = refl; no_place = λ p. refl }
-
--- an operation and a store
-pub both_short : (first : Micro) (mark : Mark) (v a : ℕ) → IsShort (first ∷ []) → IsShort (first ∷ store_op mark v a ∷ [])
-both_short first mark v a short =
-    let store = store_op_short mark v a in
-    let store_code = store_op mark v a ∷ [] in
-    record {
-      room = omega arith;
-      labels =
-          labels_append (first ∷ []) store_code ∙ (ap (λ l. l ++ labels_of store_code) short.labels ∙ store.labels);
-      lands = lands_append (first ∷ []) store_code short.lands store.lands;
-      no_place = λ p.
-          list_all-append (is_at_place p) (first ∷ []) store_code ∙
-          and_from _ _ (short.no_place p) (store.no_place p);
-    }
-
--- code that loads a number into a register is short
-pub imm_short : (d n : ℕ) → IsShort (ops.Imm d n ∷ [])
-imm_short d n = record { room = omega arith; labels = refl; lands = refl; no_place = λ p. refl }
-
--- an architecture that has store-releases has load-acquires
-release_acquire : (arch : ArchName) → mark_is_of Release arch ≡ true → mark_is_of Acquire arch ≡ true
-release_acquire archs.X86 e = e
-release_acquire archs.PPC e = e
-release_acquire archs.AArch64 e = e
-release_acquire archs.RISCV e = e
-release_acquire archs.ARM e = e
+store_through_short own keeps Release d v a = grind arith
 
 -- the architecture has the load of each of its marks at the address in a register
 pub load_op_has : (own : Instructions) → KeepsInstructions own → (mark : Mark) → mark_is_of mark own.name ≡ true →
     (v a : ℕ) → v < own.registers → a < own.registers → own.has (load_op mark v a) ≡ true
-load_op_has own keeps Plain e v a h k = keeps.plain_load_has v a h k
-load_op_has own keeps Acquire e v a h k = (keeps.marked_has e).acquire v a h k
-load_op_has own keeps Release e v a h k = keeps.plain_load_has v a h k
+load_op_has own keeps mark e v a h k = grind arith
 
 -- the architecture has the store of each of its marks at the address in a register
 pub store_op_has : (own : Instructions) → KeepsInstructions own → (mark : Mark) → mark_is_of mark own.name ≡ true →
     (v a : ℕ) → v < own.registers → a < own.registers → own.has (store_op mark v a) ≡ true
-store_op_has own keeps Plain e v a h k = keeps.plain_store_has v a h k
-store_op_has own keeps Acquire e v a h k = keeps.plain_store_has v a h k
-store_op_has own keeps Release e v a h k = (keeps.marked_has (release_acquire own.name e)).release v a h k
+store_op_has own keeps mark e v a h k = grind arith
 
 -- the architecture has the code of a load of each of its marks at an address that depends on a register
 pub load_through_has : (own : Instructions) → KeepsInstructions own → (mark : Mark) → mark_is_of mark own.name ≡ true →
     (d v a : ℕ) → d < own.registers → v < own.registers → a < own.registers →
     list_all own.has (load_through own mark d v a) ≡ true
-load_through_has own keeps Plain e d v a h k l = keeps.load_has d v a h k l
-load_through_has own keeps Release e d v a h k l = keeps.load_has d v a h k l
-load_through_has own keeps Acquire e d v a h k l =
-    let has = keeps.marked_has e in
-    and_from _ _ (has.sum d a h l) (and_from _ true (has.acquire v d k h) refl)
+load_through_has own keeps mark e d v a h k l = grind arith
 
 -- the architecture has the code of a store of each of its marks at an address that depends on a register
 pub store_through_has : (own : Instructions) → KeepsInstructions own → (mark : Mark) → mark_is_of mark own.name ≡ true →
     (d v a : ℕ) → d < own.registers → v < own.registers → a < own.registers →
     list_all own.has (store_through own mark d v a) ≡ true
-store_through_has own keeps Plain e d v a h k l = keeps.store_has d v a h k l
-store_through_has own keeps Acquire e d v a h k l = keeps.store_has d v a h k l
-store_through_has own keeps Release e d v a h k l =
-    let has = keeps.marked_has (release_acquire own.name e) in
-    and_from _ _ (has.sum d a h l) (and_from _ true (has.release v d k h) refl)
+store_through_has own keeps mark e d v a h k l = grind arith

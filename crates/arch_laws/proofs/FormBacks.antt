@@ -1,38 +1,28 @@
 -- The names of labels fit in cells, and those of numbered registers have their form and occur once each.
-use Rattle.std.proofs.Common.{ℕ, zero, suc, ◌+◌, ◌<◌, ◌≤◌, ◌≡◌, refl, true, false, [], ◌∷◌, map, length, get_or, drop, ◌∙◌, ap, arith}
+use Rattle.std.proofs.Common.{ℕ, zero, suc, ◌+◌, ◌<◌, ◌≤◌, ◌≡◌, refl, true, false, [], map, length, get_or, ◌∙◌, ap, arith}
 use Rattle.std.specs.Char.{is_ascii_alphabetic, is_ascii_alphanumeric, is_ascii_digit}
 use Rattle.std.specs.Fmt.{decimal}
 use Rattle.std.specs.List.{list_all, range_with_len, IsDistinct, AllByRecursion}
 use Rattle.std.specs.Str.{bytes_eq}
 use Rattle.std.proofs.lemmas.Bool.{and_from, le-leb}
 use Rattle.std.proofs.lemmas.Fmt.{decimal_injective}
-use Rattle.std.proofs.lemmas.List.Folds.{list_all-append}
 use Rattle.std.proofs.lemmas.Slice.Eq.{bytes_eq-Decides}
 use Rattle.list_laws.proofs.Elements.{list_all-weaker}
-use Rattle.list_laws.proofs.Cases.{by_test}
 use Rattle.text_laws.specs.Names.{is_register_name}
-use Rattle.text_laws.proofs.NameLaws.{digit_alphanumeric, register_passes}
+use Rattle.text_laws.proofs.NameLaws.{digit_alphanumeric}
 use Rattle.arch_trait.specs.declared.numbered.Numbered.{Numbered}
 use Rattle.arch_trait.specs.Forms.{register_name, register_names}
 use Rattle.arch_trait.specs.Writing.{name_in, is_plain, is_label_name, label_name, label_word}
-use Rattle.arch_trait.specs.WordBytes.{is_instruction_byte}
 use Rattle.list_laws.proofs.Digits.{three_digits, digits_of}
-use Rattle.arch_trait.specs.ByteLaws.{place_in_word}
 
 -- numbered registers: a letter, and numbers of at most three digits
 pub record IsNumbered (n : Numbered) : Type 0 where
   pub letter : is_ascii_alphabetic n.letter ≡ true
   pub small : n.first + n.count ≤ 1000
 
--- the name of a label that has its form is plain
-pub label_plain : (l : ℕ) → is_label_name (label_name l) ≡ true → is_plain (label_name l) ≡ true
-label_plain l h = register_passes is_instruction_byte place_in_word (label_name l) h
-
 -- so is the word that sets the label
 pub label_word_plain : (l : ℕ) → is_label_name (label_name l) ≡ true → is_plain (label_word l) ≡ true
-label_word_plain l h =
-    list_all-append is_instruction_byte (label_name l) (58 ∷ []) ∙
-    and_from (list_all is_instruction_byte (label_name l)) true (label_plain l h) refl
+label_word_plain l h = grind arith
 
 -- the names of numbered registers: as many as they are, each at its number, of their form, and each once
 pub names_count : (n : Numbered) → length (register_names n) ≡ n.count
@@ -44,10 +34,8 @@ names_count n = counted 0 n.count
 
 names_from : (n : Numbered) (from count r : ℕ) → r < count →
     get_or (map (register_name n) (range_with_len from count)) r [] ≡ register_name n (from + r)
-names_from n from zero r h = absurd (omega arith)
-names_from n from (suc count) zero h = ap (register_name n) (omega arith)
-names_from n from (suc count) (suc r) h =
-    names_from n (from + 1) count r (omega arith) ∙ ap (register_name n) (omega arith)
+names_from n from (suc count) (suc r) h = grind (arith, names_from n (from + 1) count r (omega arith))
+names_from n from count r h = grind arith
 
 -- the name of a numbered register is the one at its number
 pub name_at : (n : Numbered) (r : ℕ) → r < n.count → name_in (register_names n) r ≡ register_name n r
@@ -70,11 +58,7 @@ names_formed n h = from 0 n.count (let s = h.small in omega arith)
 
 differ : (n : Numbered) (a b : ℕ) → n.first + a < 1000 → n.first + b < 1000 → a < b →
     bytes_eq (register_name n a) (register_name n b) ≡ false
-differ n a b s t h = by_test (bytes_eq (register_name n a) (register_name n b))
-    (λ e. let f : register_name n a ≡ register_name n b = (bytes_eq-Decides (register_name n a) (register_name n b)).0 e in
-    let g = decimal_injective (n.first + a) (n.first + b) (omega arith) (omega arith) (ap (drop 1) f) in
-    absurd (omega arith))
-    (λ e. e)
+differ n a b s t h = grind (arith, bytes_eq-Decides, decimal_injective)
 
 -- the names of numbered registers differ
 pub names_once : (n : Numbered) → IsNumbered n → IsDistinct bytes_eq (register_names n)

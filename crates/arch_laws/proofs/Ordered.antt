@@ -1,10 +1,9 @@
 -- The labels of a thread are in the order of their first mention, and it makes as many accesses as it has steps.
-use Rattle.std.proofs.Common.{◌≡◌, ◌<◌, ◌≤◌, ◌+◌, ◌==◌, ℕ, List, [], ◌∷◌, ◌++◌, true, false, cond, length, max, refl, sym, ap, ◌∙◌, subst, arith, append-nil}
-use Rattle.std.specs.Prelude.{Bool, ◌&&◌, ◌||◌, Option, nat_lt, nat_le, is_some}
+use Rattle.std.proofs.Common.{◌≡◌, ◌<◌, ◌≤◌, ◌+◌, ◌==◌, ℕ, List, [], ◌∷◌, ◌++◌, true, false, cond, length, max, refl, ap, ◌∙◌, arith, append-nil}
+use Rattle.std.specs.Prelude.{Bool, ◌&&◌, Option, nat_lt, nat_le, is_some}
 use Rattle.std.specs.List.{list_all}
-use Rattle.std.proofs.lemmas.Bool.{eqb-true, eq-eqb, lt-ltb, le-leb, and_parts, and_from}
+use Rattle.std.proofs.lemmas.Bool.{eq-eqb, and_parts, and_from}
 use Rattle.std.proofs.lemmas.List.Sums.{sum_by-append, sum_by-cons}
-use Rattle.list_laws.proofs.Cases.{by_test}
 use Rattle.relax_edges.specs.declared.kinds.Dir.{Dir}
 use Rattle.relax_edges.specs.declared.kinds.Dir.TheVariants as dirs
 use Rattle.micro_ops.specs.declared.operation.Micro.{Micro}
@@ -13,46 +12,34 @@ use Rattle.micro_ops.specs.Running.{labels_of, lands, occurs}
 use Rattle.micro_ops.specs.RunLaws.{labels_append, lands_append}
 use Rattle.arch_trait.specs.declared.step.Step.{Step}
 use Rattle.arch_trait.specs.Cells.{is_access, access_count, MakesOneAccess}
-use Rattle.arch_trait.specs.LabelOrder.{labels_after, labels_in, is_next, labels_ordered}
+use Rattle.arch_trait.specs.LabelOrder.{labels_after, labels_in, labels_ordered}
 use Rattle.arch_trait.specs.Links.{branches}
 use Rattle.arch_trait.specs.Laws.{IsArch, HasLink}
 use Rattle.arch_trait.specs.Taking.{Taken}
-use Rattle.arch_trait.specs.Threads.{Way, Puts, FitStep, FitSteps, is_load_dir, from_of, put_of, filled_by, next_put, further, step_code, thread_code, branches_in, setting_out, compiled}
+use Rattle.arch_trait.specs.Threads.{Way, Puts, FitStep, FitSteps, is_load_dir, from_of, put_of, filled_by, further, step_code, thread_code, branches_in, setting_out, compiled}
 
 ordered_append : (count : ℕ) (xs ys : List Micro) → labels_ordered count xs ≡ true → labels_ordered (labels_in count xs) ys ≡ true → labels_ordered count (xs ++ ys) ≡ true
 ordered_append count [] ys h k = k
-ordered_append count (op ∷ xs) ys h k =
-    let parts = and_parts (is_next count op) (labels_ordered (labels_after count op) xs) h in
-    and_from (is_next count op) (labels_ordered (labels_after count op) (xs ++ ys)) parts.0 (ordered_append (labels_after count op) xs ys parts.1 k)
+ordered_append count (op ∷ xs) ys h k = grind (arith, ordered_append (labels_after count op) xs ys)
 
 -- a label that occurs is one of the labels
 occurs_passes : (p : ℕ → Bool) (label : ℕ) (code : List Micro) → list_all p (labels_of code) ≡ true → occurs label code ≡ true → p label ≡ true
 occurs_passes p label [] h s = absurd (cc)
-occurs_passes p label (ops.Label k ∷ code) h s =
-    let parts = and_parts (p k) (list_all p (labels_of code)) h in
-    by_test (k == label)
-    (λ e. subst (λ l. p l ≡ true) (eqb-true k label e) parts.0)
-    (λ e. occurs_passes p label code parts.1 (sym (ap (λ b. b || occurs label code) e) ∙ s))
+occurs_passes p label (ops.Label k ∷ code) h s = grind (arith, occurs_passes p label code)
 occurs_passes p label (op ∷ code) h s = occurs_passes p label code h s
 
 -- what is known of a label that is n, where the labels up to n have numbers
 next_is : (count n label : ℕ) → n ≤ count → n < 64 → (label == n) ≡ true → (nat_le label count && nat_lt label 64) ≡ true
-next_is count n label low small e =
-    let same : label ≡ n = eqb-true label n e in
-    and_from (nat_le label count) (nat_lt label 64) (le-leb label count (omega arith)) (lt-ltb label 64 (omega arith))
+next_is count n label low small e = grind arith
 
 -- code whose only label is n
 one_ordered : (count n : ℕ) (code : List Micro) → n ≤ count → n < 64 → lands code ≡ true → list_all (λ l. l == n) (labels_of code) ≡ true → labels_ordered count code ≡ true
 one_ordered count n [] low small l h = refl
-one_ordered count n (ops.Label k ∷ code) low small l h =
-    let parts = and_parts (k == n) (list_all (λ l. l == n) (labels_of code)) h in
-    and_from (nat_le k count && nat_lt k 64) (labels_ordered (max count (k + 1)) code) (next_is count n k low small parts.0) (one_ordered (max count (k + 1)) n code (omega arith) small l parts.1)
+one_ordered count n (ops.Label k ∷ code) low small l h = grind (arith, one_ordered (max count (k + 1)) n code (omega arith) small)
 one_ordered count n (ops.BranchEq k ∷ code) low small l h =
-    let parts = and_parts (occurs k code) (lands code) l in
-    and_from (nat_le k count && nat_lt k 64) (labels_ordered (max count (k + 1)) code) (next_is count n k low small (occurs_passes (λ l. l == n) k code h parts.0)) (one_ordered (max count (k + 1)) n code (omega arith) small parts.1 h)
+    grind (arith, one_ordered (max count (k + 1)) n code (omega arith) small, and_parts, and_from, next_is, occurs_passes)
 one_ordered count n (ops.BranchNz a k ∷ code) low small l h =
-    let parts = and_parts (occurs k code) (lands code) l in
-    and_from (nat_le k count && nat_lt k 64) (labels_ordered (max count (k + 1)) code) (next_is count n k low small (occurs_passes (λ l. l == n) k code h parts.0)) (one_ordered (max count (k + 1)) n code (omega arith) small parts.1 h)
+    grind (arith, one_ordered (max count (k + 1)) n code (omega arith) small, and_parts, and_from, next_is, occurs_passes)
 one_ordered count n (op ∷ code) low small l h = one_ordered count n code low small l h
 
 -- the count of labels grows, and covers each label that occurs
@@ -68,15 +55,10 @@ labels_grow count (op ∷ code) = let more = labels_grow (labels_after count op)
 
 labels_cover : (count n : ℕ) (code : List Micro) (rest : List ℕ) → labels_of code ≡ n ∷ rest → n + 1 ≤ labels_in count code
 labels_cover count n [] rest e = absurd (cc)
-labels_cover count n (ops.Label k ∷ code) rest e =
-    let same : k ≡ n = cc in let more = labels_grow (max count (k + 1)) code in omega arith
+labels_cover count n (ops.Label k ∷ code) rest e = grind (arith, labels_grow)
 labels_cover count n (ops.BranchEq l ∷ code) rest e = labels_cover (max count (l + 1)) n code rest e
 labels_cover count n (ops.BranchNz a l ∷ code) rest e = labels_cover (max count (l + 1)) n code rest e
 labels_cover count n (op ∷ code) rest e = labels_cover count n code rest e
-
-labels_in_append : (count : ℕ) (xs ys : List Micro) → labels_in count (xs ++ ys) ≡ labels_in (labels_in count xs) ys
-labels_in_append count [] ys = refl
-labels_in_append count (op ∷ xs) ys = labels_in_append (labels_after count op) xs ys
 
 -- the code of one access with its link: its labels, and where its branches land
 record StepLabels (n : ℕ) (branching : Bool) (code : List Micro) : Type 0 where
@@ -99,8 +81,7 @@ step_ordered count n true code h low few = one_ordered count n code low (omega a
 step_ordered count n false code h low few = none_ordered count code h.jumps h.labels
 
 step_covers : (count n : ℕ) (branching : Bool) (code : List Micro) → StepLabels n branching code → n ≤ count → n + cond branching 1 0 ≤ labels_in count code
-step_covers count n true code h low = labels_cover count n code [] h.labels
-step_covers count n false code h low = let more = labels_grow count code in omega arith
+step_covers count n branching code h low = grind (arith, labels_cover, labels_grow)
 
 -- a load before gives its register
 IsGiven : Bool → Option ℕ → Type 0
@@ -108,15 +89,11 @@ IsGiven b last = b ≡ true → is_some last ≡ true
 
 given_after : (a : Puts) (g : Taken) (from : Option ℕ) (s : Step) (d : Dir) → IsGiven (is_load_dir d) (filled_by a g from s d)
 unfolding IsGiven
-given_after a g from s dirs.R = λ e. refl
-given_after a g from s dirs.W = λ e. cc
+given_after a g from s d = grind arith
 
 link_given : (a : Puts) (b : Bool) (last : Option ℕ) (s : Step) → FitStep a.name b s → IsGiven b last → HasLink a s.link (from_of s.link last)
 unfolding IsGiven
-link_given a b last s fit given = record {
-  of_arch = fit.of_arch;
-  given = λ d. rw d (given (fit.after d));
-}
+link_given a b last s fit given = grind arith
 
 -- what the laws of an access say, by its direction
 put_no_label : (a : Puts) → IsArch a → (g : Taken) (from : Option ℕ) (s : Step) (d : Dir) → s.value < 256 → (labels_of (put_of a g from s d).code ≡ []) × (lands (put_of a g from s d).code ≡ true)
@@ -124,15 +101,7 @@ put_no_label a laws g from s dirs.R v = (laws.loads.access.no_label g s.link s.m
 put_no_label a laws g from s dirs.W v = ((laws.stores.access s.value v).no_label g s.link s.mark from s.place, (laws.stores.access s.value v).no_jump g s.link s.mark from s.place)
 
 step_labels : (a : Puts) → IsArch a → (w : Way) (s : Step) (b : Bool) → FitStep a.name b s → IsGiven b w.last → StepLabels w.label (branches s.link) (step_code a w s)
-step_labels a laws w s b fit given =
-    let from = from_of s.link w.last in
-    let access = put_no_label a laws w.regs from s s.dir fit.value in
-    record {
-      labels = labels_append (a.link s.link from w.label) (next_put a w s).code
-          ∙ ap (λ l. labels_of (a.link s.link from w.label) ++ l) access.0 ∙ append-nil (labels_of (a.link s.link from w.label))
-          ∙ laws.links.labels s.link from w.label (link_given a b w.last s fit given);
-      jumps = lands_append (a.link s.link from w.label) (next_put a w s).code (laws.links.jumps s.link from w.label) access.1;
-    }
+step_labels a laws w s b fit given = grind (arith, put_no_label a laws w.regs, labels_append, append-nil, link_given a b w.last s fit given, lands_append)
 
 -- the labels of a thread are in the order of their first mention
 thread_ordered : (a : Puts) → IsArch a → (b : Bool) (w : Way) (ss : List Step) (count : ℕ) → FitSteps a.name b ss → IsGiven b w.last → w.label ≤ count → w.label + branches_in ss ≤ 64
@@ -148,19 +117,14 @@ thread_ordered a laws b w (s ∷ ss) count fit given low few =
 
 -- it makes as many accesses as it has steps
 put_access : (a : Puts) → MakesOneAccess a → (g : Taken) (from : Option ℕ) (s : Step) (d : Dir) → access_count (put_of a g from s d).code ≡ 1
-put_access a one g from s dirs.R = one.load g s.link s.mark from s.place
-put_access a one g from s dirs.W = one.store g s.link s.mark from s.place s.value
+put_access a one g from s d = grind arith
 
 accesses_append : (xs ys : List Micro) → access_count (xs ++ ys) ≡ access_count xs + access_count ys
 accesses_append xs ys = sum_by-append (λ op. cond (is_access op) 1 0) xs ys
 
 thread_accesses : (a : Puts) → MakesOneAccess a → (w : Way) (ss : List Step) → access_count (thread_code a w ss) ≡ length ss
 thread_accesses a one w [] = refl
-thread_accesses a one w (s ∷ ss) =
-    let link = one.link s.link (from_of s.link w.last) w.label in
-    let access = put_access a one w.regs (from_of s.link w.last) s s.dir in
-    let rest = thread_accesses a one (further a w s) ss in
-    omega (arith, accesses_append (step_code a w s) (thread_code a (further a w s) ss), accesses_append (a.link s.link (from_of s.link w.last) w.label) (next_put a w s).code)
+thread_accesses a one w (s ∷ ss) = grind (arith, thread_accesses a one (further a w s) ss, put_access, accesses_append)
 
 -- the same of the code of a whole thread
 pub compiled_ordered : (a : Puts) → IsArch a → (ss : List Step) → FitSteps a.name false ss → branches_in ss ≤ 64 → labels_ordered 0 (compiled a ss).instrs ≡ true

@@ -2,7 +2,7 @@
 -- accesses at an address that depends on a register, and what joins a dependency to a number. What each sort of them keeps is
 -- proved here once; an architecture says of which sort its own are, and that its table has them.
 -- Source: own.
-use Rattle.std.proofs.Common.{ℕ, ◌+◌, ◌<◌, ◌≤◌, ◌^◌, ◌≡◌, refl, true, bit_or, List, [], ◌∷◌, ◌++◌, length, Some, None, ◌∙◌, ap, arith}
+use Rattle.std.proofs.Common.{ℕ, ◌≤◌, ◌≡◌, refl, true, bit_or, List, [], ◌∷◌, ◌++◌, length, Some, None, ◌∙◌, ap, arith}
 use Rattle.std.proofs.lemmas.Bool.{and_from, or_left, eq-eqb}
 use Rattle.relax_edges.specs.declared.kinds.Mark.TheVariants.{Plain}
 use Rattle.micro_ops.specs.declared.held.Held.{Held}
@@ -11,8 +11,7 @@ use Rattle.micro_ops.specs.declared.operation.Micro.TheVariants as ops
 use Rattle.micro_ops.specs.Machine.{num, bit}
 use Rattle.micro_ops.specs.Running.{Run, At}
 use Rattle.arch_trait.specs.Laws.{DidLink}
-use Rattle.arch_laws.proofs.Masks.{zero_or}
-use Rattle.arch_laws.proofs.Rules.{holding, after_cmp, after_branch, run_add_imm, run_or_imm, run_add_address, run_load_index, run_load_index_wants, run_store_index, run_cmp_branch, run_branch_nz}
+use Rattle.arch_laws.proofs.Rules.{after_cmp, after_branch, run_add_address, run_load_index, run_load_index_wants, run_store_index, run_cmp_branch, run_branch_nz}
 use Rattle.arch_laws.proofs.Accesses.{Asked, asked, did_control}
 use Rattle.arch_laws.proofs.AddressedInstructions.{IsBranch, AreDependent, IsJoining, same_run, loads_there, wants_there, stores_there}
 
@@ -80,19 +79,8 @@ added = record {
 
 -- a number that is added to a register keeps its dependency
 pub sums : IsJoining (λ d n. ops.AddImm d d n)
-sums = record {
-  runs = λ d n mask r small e.
-      let fits : 0 + n < 2 ^ 32 = omega arith in
-      let sum : 0 + n ≡ n = omega arith in
-      run_add_imm d d n 0 mask r e fits ∙ ap (λ m. At (holding r d (num m mask))) sum;
-  short = λ d n. record { room = omega arith; labels = refl; lands = refl; no_place = λ p. refl };
-  no_access = λ d n. refl;
-}
+sums = grind arith
 
 -- a number that is joined to a register by a bitwise or keeps its dependency
 pub ors : IsJoining (λ d n. ops.OrImm d d n)
-ors = record {
-  runs = λ d n mask r small e. run_or_imm d d n 0 mask r e ∙ ap (λ m. At (holding r d (num m mask))) (zero_or n);
-  short = λ d n. record { room = omega arith; labels = refl; lands = refl; no_place = λ p. refl };
-  no_access = λ d n. refl;
-}
+ors = grind arith

@@ -1,23 +1,18 @@
 -- The run of a whole thread whose places have other numbers.
-use Rattle.std.proofs.Common.{◌≡◌, ℕ, ◌-◌, cond, List, [], ◌∷◌, ◌++◌, map, refl, ◌∙◌, ap, arith}
-use Rattle.std.proofs.lemmas.List.{map-append}
+use Rattle.std.proofs.Common.{◌≡◌, ℕ, ◌-◌, cond, List, [], ◌∷◌, map, refl, ◌∙◌, ap, arith}
 use Rattle.std.proofs.lemmas.List.Sums.{sum_by-cons}
-use Rattle.relax_edges.specs.declared.kinds.Dir.{Dir}
-use Rattle.relax_edges.specs.declared.kinds.Dir.TheVariants as dirs
 use Rattle.relax_edges.specs.declared.kinds.Value.{Value}
 use Rattle.relax_edges.specs.declared.kinds.Value.TheVariants.{Place}
-use Rattle.micro_ops.specs.declared.operation.Micro.TheVariants as ops
 use Rattle.micro_ops.specs.declared.operation.Micro.{Micro}
 use Rattle.micro_ops.specs.Running.{runs, Ended}
 use Rattle.micro_ops.specs.Renumbering.{op_at, value_at, item_at}
 use Rattle.arch_laws.proofs.RunsRenumbered.{init_at, outcome_at, runs_at}
 use Rattle.arch_trait.specs.declared.step.Step.{Step}
-use Rattle.arch_trait.specs.declared.link.Link.{Link}
 use Rattle.arch_trait.specs.declared.link.Link.TheVariants as links
 use Rattle.arch_trait.specs.Codes.{MakesSteps}
-use Rattle.arch_trait.specs.Links.{link_control, link_items}
+use Rattle.arch_trait.specs.Links.{link_control}
 use Rattle.arch_trait.specs.Taking.{initial_values}
-use Rattle.arch_trait.specs.Threads.{ThreadCode, is_load_dir, loads_in, loads_after, first_number, left_after, access_item, thread_items, HoldNumbers}
+use Rattle.arch_trait.specs.Threads.{ThreadCode, is_load_dir, loads_in, loads_after, left_after, thread_items, HoldNumbers}
 use Rattle.arch_trait.specs.PlaceRenumbering.{step_at, renumbered}
 
 -- address registers with other numbers begin with the addresses of these
@@ -26,37 +21,16 @@ initial_at f [] = refl
 initial_at f (link ∷ l) = ap (λ r. (link.0, Place (f link.1)) ∷ r) (initial_at f l)
 
 renumbered_runs : (f : ℕ → ℕ) (code : ThreadCode) (vs : List ℕ) → runs (renumbered f code).instrs (initial_values (renumbered f code).links) vs ≡ outcome_at f (runs code.instrs (initial_values code.links) vs)
-renumbered_runs f code vs =
-    ap (λ i. runs (map (op_at f) code.instrs) i vs) (initial_at f code.links) ∙ runs_at f code.instrs (initial_values code.links) vs
-
-link_items_at : (f : ℕ → ℕ) (l : Link) (k c : ℕ) → map (item_at f) (link_items l k c) ≡ link_items l k c
-link_items_at f links.Plain k c = refl
-link_items_at f (links.Fence kind) k c = refl
-link_items_at f links.Addr k c = refl
-link_items_at f links.Data k c = refl
-link_items_at f links.Ctrl k c = refl
-link_items_at f links.CtrlIsync k c = refl
-link_items_at f links.CtrlIsb k c = refl
-
-access_item_at : (f : ℕ → ℕ) (s : Step) (d : Dir) (v k c : ℕ) → item_at f (access_item s d v k c) ≡ access_item (step_at f s) d v k c
-access_item_at f s dirs.R v k c = refl
-access_item_at f s dirs.W v k c = refl
+renumbered_runs f code vs = grind (arith, initial_at, runs_at)
 
 -- the items of a thread under other numbers
 items_at : (f : ℕ → ℕ) (ss : List Step) (n c : ℕ) (vs : List ℕ) → map (item_at f) (thread_items ss n c vs) ≡ thread_items (map (step_at f) ss) n c vs
 items_at f [] n c vs = refl
-items_at f (s ∷ ss) n c vs =
-    let link = link_items s.link (n - 1) c in
-    let access = access_item s s.dir (first_number vs) (n - 1) (link_control s.link (n - 1) c) in
-    let rest = thread_items ss (loads_after s.dir n) (link_control s.link (n - 1) c) (left_after s.dir vs) in
-    map-append (item_at f) (link ++ access ∷ []) rest
-    ∙ ap (λ l. l ++ map (item_at f) rest) (map-append (item_at f) link (access ∷ []) ∙ ap (λ l. l ++ item_at f access ∷ []) (link_items_at f s.link (n - 1) c) ∙ ap (λ i. link ++ i ∷ []) (access_item_at f s s.dir (first_number vs) (n - 1) (link_control s.link (n - 1) c)))
-    ∙ ap (λ l. (link ++ access_item (step_at f s) s.dir (first_number vs) (n - 1) (link_control s.link (n - 1) c) ∷ []) ++ l) (items_at f ss (loads_after s.dir n) (link_control s.link (n - 1) c) (left_after s.dir vs))
+items_at f (s ∷ ss) n c vs = grind (arith, items_at f ss (loads_after s.dir n) (link_control s.link (n - 1) c) (left_after s.dir vs))
 
 numbers_at : (f : ℕ → ℕ) (regs : ℕ → Value) (qs vs : List ℕ) → HoldNumbers regs qs vs → HoldNumbers (λ q. value_at f (regs q)) qs vs
-numbers_at f regs [] vs h = tt
-numbers_at f regs (q ∷ qs) [] h = h
 numbers_at f regs (q ∷ qs) (v ∷ vs) h = (ap (value_at f) h.0, numbers_at f regs qs vs h.1)
+numbers_at f regs qs vs h = grind arith
 
 -- accesses at places with other numbers have as many loads
 pub loads_kept : (f : ℕ → ℕ) (ss : List Step) → loads_in (map (step_at f) ss) ≡ loads_in ss
@@ -83,8 +57,7 @@ renumbered_makes f ss code m = record {
 
 -- code whose places keep their numbers is as it was
 op_kept : (op : Micro) → op_at (λ p. p) op ≡ op
-op_kept (ops.LoadAt dst place) = refl
-op_kept op = refl
+op_kept op = grind arith
 
 ops_kept : (code : List Micro) → map (op_at (λ p. p)) code ≡ code
 ops_kept [] = refl

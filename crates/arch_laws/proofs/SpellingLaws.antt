@@ -1,9 +1,6 @@
 -- Laws of the parts of an instruction's text, which read back or are plain.
-use Rattle.std.proofs.Common.{ℕ, ◌^◌, ◌<◌, ◌≡◌, Bool, true, false, List, ◌≤◌, Some}
+use Rattle.std.proofs.Common.{ℕ, ◌≡◌, Bool, true, false, ◌≤◌, Some}
 use Rattle.std.specs.Fmt.{decimal}
-use Rattle.std.specs.List.{list_all}
-use Rattle.arch_trait.specs.WordBytes.{is_instruction_byte}
-use Rattle.text_laws.specs.Names.{is_place_name, is_place_byte}
 use Rattle.arch_trait.specs.Writing.{OperandTexts, listed, immediate_number, label, label_name, label_word, label_raw}
 use Rattle.micro_ops.specs.declared.operation.Micro.TheVariants as ops
 use Rattle.text_laws.proofs.RunLaws.{stops}

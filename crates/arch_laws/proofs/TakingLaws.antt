@@ -1,7 +1,7 @@
 -- Laws of taking address registers.
 use Rattle.std.proofs.Common.{ℕ, ◌<◌, ◌≤◌, ◌≡◌, List, Some, [], ◌∷◌, ◌++◌, ◌==◌, cond, None, true, ◌+◌}
 use Rattle.arch_trait.specs.Taking.{address_in, Taken, has_address, with_address}
-use Rattle.arch_trait.specs.Laws.{InOrder, Takes}
+use Rattle.arch_trait.specs.Laws.{InOrder}
 use Rattle.arch_trait.proofs.Taking as proved
 
 -- address registers in order are within their bounds
@@ -30,8 +30,3 @@ address_there h p = proved.address_there h p
 -- an address register takes one more register where the place has none
 pub address_next : (i : Taken) (p : ℕ) → (with_address i p).next ≡ i.next + cond (has_address i p) 0 1
 address_next i p = proved.address_next i p
-
--- an access takes the address register of its place, where it had none
-pub takes_address : (g h : Taken) (p : ℕ) → h.count ≡ g.count → h.links ≡ g.links →
-    g.next ≤ h.next → Takes g (with_address h p) p
-takes_address g h p c l m = proved.takes_address g h p c l m

@@ -22,13 +22,7 @@ use Rattle.arch_trait.proofs.Runs.{step_takes, step_grew, thread_grew, step_fill
 
 -- the most operations of an access with its link
 both_rooms : (link : Link) → link_room link + access_room link ≤ 6
-both_rooms links.Plain = omega arith
-both_rooms (links.Fence kind) = omega arith
-both_rooms links.Addr = omega arith
-both_rooms links.Data = omega arith
-both_rooms links.Ctrl = omega arith
-both_rooms links.CtrlIsync = omega arith
-both_rooms links.CtrlIsb = omega arith
+both_rooms link = grind arith
 
 -- each access keeps the laws of an access, a load and a store alike
 pub put_laws : (a : Puts) → IsArch a → (s : Step) → s.value < 256 → (d : Dir) →
@@ -53,13 +47,7 @@ step_short a laws w s v =
 pub thread_short : (a : Puts) → IsArch a → (b : Bool) (w : Way) (ss : List Step) →
     FitSteps a.name b ss → length (thread_code a w ss) ≤ 6 * length ss
 thread_short a laws b w [] fit = omega arith
-thread_short a laws b w (s ∷ ss) fit =
-    omega (
-      arith,
-      length-append (step_code a w s) (thread_code a (further a w s) ss),
-      step_short a laws w s fit.0.value,
-      thread_short a laws (is_load_dir s.dir) (further a w s) ss fit.1,
-    )
+thread_short a laws b w (s ∷ ss) fit = grind (arith, (thread_short a laws (is_load_dir s.dir) (further a w s) ss fit.1), length-append, step_short)
 
 -- a register is given where a dependency needs one
 abbrev pub IsGiven : Bool → Option ℕ → Type 0
@@ -67,24 +55,16 @@ IsGiven b last = b ≡ true → is_some last ≡ true
 
 given_from : (link : Link) (b : Bool) (last : Option ℕ) → (depends_on_load link ≡ true → b ≡ true) →
     IsGiven b last → depends_on_load link ≡ true → is_some (from_of link last) ≡ true
-given_from link b last after given e =
-    ap (λ d. is_some (cond d last None)) e ∙ given (after e)
+given_from link b last after given e = grind arith
 
 -- after a load the register of the load is given
 pub given_after : (a : Puts) (w : Way) (s : Step) → IsGiven (is_load_dir s.dir) (next_filled a w s)
-given_after a w s = of_dir s.dir
-  where
-    of_dir : (d : Dir) → is_load_dir d ≡ true → is_some (filled_by a w.regs (from_of s.link w.last) s d) ≡ true
-    of_dir dirs.R e = refl
-    of_dir dirs.W e = cc
+given_after a w s = grind arith
 
 -- the link of an access that fits is one of the architecture's, and its dependency has a register
 pub has_link : (a : Puts) (w : Way) (s : Step) (b : Bool) → FitStep a.name b s → IsGiven b w.last →
     HasLink a s.link (from_of s.link w.last)
-has_link a w s b fit given = record {
-  of_arch = fit.of_arch;
-  given = given_from s.link b w.last fit.after given;
-}
+has_link a w s b fit given = grind arith
 
 step_labels : (a : Puts) → IsArch a → (w : Way) (s : Step) (b : Bool) → FitStep a.name b s →
     IsGiven b w.last → labels_of (step_code a w s) ≡ link_labels s.link w.label
@@ -128,10 +108,7 @@ step_lands a laws w s v =
 pub thread_lands : (a : Puts) → IsArch a → (b : Bool) (w : Way) (ss : List Step) →
     FitSteps a.name b ss → lands (thread_code a w ss) ≡ true
 thread_lands a laws b w [] fit = refl
-thread_lands a laws b w (s ∷ ss) fit =
-    lands_append (step_code a w s) (thread_code a (further a w s) ss)
-    (step_lands a laws w s fit.0.value)
-    (thread_lands a laws (is_load_dir s.dir) (further a w s) ss fit.1)
+thread_lands a laws b w (s ∷ ss) fit = grind (arith, (thread_lands a laws (is_load_dir s.dir) (further a w s) ss fit.1), lands_append, step_lands)
 
 both_pass : (p : Micro → Bool) (xs ys : List Micro) → list_all p xs ≡ true → list_all p ys ≡ true →
     list_all p (xs ++ ys) ≡ true
@@ -139,11 +116,7 @@ both_pass p xs ys e f = list_all-append p xs ys ∙ and_from (list_all p xs) (li
 
 usable_from : (registers : ℕ) (link : Link) (last : Option ℕ) → IsUsable registers last →
     IsUsable registers (from_of link last)
-usable_from registers link last h = of_test (depends_on_load link)
-  where
-    of_test : (d : Bool) → IsUsable registers (cond d last None)
-    of_test true = h
-    of_test false = tt
+usable_from registers link last h = grind arith
 
 step_has : (a : Puts) → IsArch a → (w : Way) (s : Step) (b : Bool) → FitStep a.name b s →
     IsGiven b w.last → IsUsable a.registers w.last → IsTaken w.regs →
@@ -159,12 +132,7 @@ step_has a laws w s b fit given usable taken room =
 
 usable_after : (a : Puts) → IsArch a → (w : Way) (s : Step) →
     (further a w s).regs.next ≤ a.registers → IsUsable a.registers (next_filled a w s)
-usable_after a laws w s room = of_filled (next_filled a w s) (step_filled a laws w s)
-  where
-    of_filled : (q : Option ℕ) → IsWithin w.regs.next (further a w s).regs.next q →
-        IsUsable a.registers q
-    of_filled None h = tt
-    of_filled (Some q) h = omega (arith, h.1)
+usable_after a laws w s room = grind arith
 
 -- each operation of a thread that has registers enough is one of the architecture's
 pub thread_has : (a : Puts) → IsArch a → (b : Bool) (w : Way) (ss : List Step) →
@@ -172,38 +140,25 @@ pub thread_has : (a : Puts) → IsArch a → (b : Bool) (w : Way) (ss : List Ste
     (thread_regs a w ss).next ≤ a.registers → list_all a.has (thread_code a w ss) ≡ true
 thread_has a laws b w [] fit given usable taken room = refl
 thread_has a laws b w (s ∷ ss) fit given usable taken room =
-    let more = (thread_grew a laws (is_load_dir s.dir) (further a w s) ss fit.1).more in
-    let here : (further a w s).regs.next ≤ a.registers = omega arith in
-    both_pass a.has (step_code a w s) (thread_code a (further a w s) ss)
-    (step_has a laws w s b fit.0 given usable taken here)
-    (thread_has a laws (is_load_dir s.dir) (further a w s) ss fit.1 (given_after a w s)
-    (usable_after a laws w s here) ((step_grew a laws w s fit.0.value).taken taken) room)
+    grind (arith, (thread_has a laws (is_load_dir s.dir) (further a w s) ss fit.1 (given_after a w s)), (thread_grew a laws (is_load_dir s.dir) (further a w s) ss fit.1), (both_pass a.has (step_code a w s) (thread_code a (further a w s) ss)), (step_has a laws w s b fit.0 given usable taken), (given_after a w s), (usable_after a laws w s), (step_grew a laws w s fit.0.value))
 
 visit_here : (s : Step) (ss : List Step) (q : ℕ) → (q == s.place) ≡ true →
     (s.place == q || visits q ss) ≡ true
-visit_here s ss q e =
-    let f : q ≡ s.place = eqb-true q s.place e in
-    or_left (s.place == q) (visits q ss) (eq-eqb s.place q (sym f))
+visit_here s ss q e = grind arith
 
 -- an operation at one of the places, or with none
 visit_one : (s : Step) (ss : List Step) (op : Micro) → is_at_place s.place op ≡ true →
     is_within (s ∷ ss) op ≡ true
-visit_one s ss (ops.LoadAt d q) e = visit_here s ss q e
-visit_one s ss (ops.StoreAt q n) e = visit_here s ss q e
-visit_one s ss op e = refl
+visit_one s ss op e = grind arith
 
 visit_more : (s : Step) (ss : List Step) (op : Micro) → is_within ss op ≡ true →
     is_within (s ∷ ss) op ≡ true
-visit_more s ss (ops.LoadAt d q) e = or_right (s.place == q) (visits q ss) e
-visit_more s ss (ops.StoreAt q n) e = or_right (s.place == q) (visits q ss) e
-visit_more s ss op e = refl
+visit_more s ss op e = grind arith
 
 all_pass : (p q : Micro → Bool) → ((op : Micro) → p op ≡ true → q op ≡ true) → (code : List Micro) →
     list_all p code ≡ true → list_all q code ≡ true
 all_pass p q h [] e = refl
-all_pass p q h (op ∷ code) e =
-    let parts = and_parts (p op) (list_all p code) e in
-    and_from (q op) (list_all q code) (h op parts.0) (all_pass p q h code parts.1)
+all_pass p q h (op ∷ code) e = grind (arith, (all_pass p q h code))
 
 -- each operation of a thread names none but the places of its accesses
 pub thread_places : (a : Puts) → IsArch a → (b : Bool) (w : Way) (ss : List Step) →
@@ -254,16 +209,7 @@ visits_all ss = each ss (λ q e. e)
 pub thread_loads_below : (a : Puts) → IsArch a → (b : Bool) (w : Way) (ss : List Step) →
     FitSteps a.name b ss → AllBelow (thread_regs a w ss).next (thread_loads a w ss)
 thread_loads_below a laws b w [] fit = tt
-thread_loads_below a laws b w (s ∷ ss) fit =
-    of_filled (next_filled a w s) (step_filled a laws w s) (thread_loads a (further a w s) ss)
-    (thread_regs a w (s ∷ ss)).next
-    (thread_loads_below a laws (is_load_dir s.dir) (further a w s) ss fit.1)
-    (thread_grew a laws (is_load_dir s.dir) (further a w s) ss fit.1).more
-  where
-    of_filled : (q : Option ℕ) → IsWithin w.regs.next (further a w s).regs.next q →
-        (qs : List ℕ) (n : ℕ) → AllBelow n qs → (further a w s).regs.next ≤ n → AllBelow n (put_before q qs)
-    of_filled None h qs n rest m = rest
-    of_filled (Some q) h qs n rest m = (omega (arith, h.1), rest)
+thread_loads_below a laws b w (s ∷ ss) fit = grind (arith, (thread_loads_below a laws (is_load_dir s.dir) (further a w s) ss fit.1), step_filled, thread_grew)
 
 -- a thread fills as many registers as it has loads
 pub thread_loads_length : (a : Puts) (w : Way) (ss : List Step) →

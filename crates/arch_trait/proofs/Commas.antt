@@ -16,51 +16,24 @@ is_comma b = b == 44
 
 -- a text without a comma is one piece
 pub cut_none : (t : List ℕ) → position is_comma t ≡ None → slice_split is_comma t ≡ t ∷ []
-cut_none t e = slice_split_none is_comma t (λ k d h. all_fail t k d h (none_from t e))
-  where
-    none_from : (t : List ℕ) → position is_comma t ≡ None → length t ≤ position_or_len is_comma t
-    none_from t e = by_test (nat_lt (position_or_len is_comma t) (length t))
-        (λ f. absurd (some_none (sym (ap (λ b. cond b (Some (position_or_len is_comma t)) None) f) ∙ e)))
-        (λ f. ltb-false (position_or_len is_comma t) (length t) f)
-      where
-        some_none : Some (position_or_len is_comma t) ≡ None → ⊥
-        some_none e = cc
-
-    all_fail : (t : List ℕ) (k d : ℕ) → k < length t → length t ≤ position_or_len is_comma t →
-        is_comma (get_or t k d) ≡ false
-    all_fail t k d h m = fails_before_first is_comma t k d (omega arith)
+cut_none t e = grind (arith, slice_split_none, nat_lt, ltb-false, fails_before_first)
 
 -- the first piece ends at the first comma, and the others come after it
 pub cut_some : (t : List ℕ) (i : ℕ) → position is_comma t ≡ Some i →
     slice_split is_comma t ≡
     take i t ∷ slice_split is_comma (take (length t - (i + 1)) (drop (i + 1) t))
-cut_some t i e = by_test (nat_lt (position_or_len is_comma t) (length t))
-    (λ f. let g : Some (position_or_len is_comma t) ≡ Some i =
-    sym (ap (λ b. cond b (Some (position_or_len is_comma t)) None) f) ∙ e in
-    let j : position_or_len is_comma t ≡ i = cc in
-    slice_split_first is_comma t 0 (ltb-true (position_or_len is_comma t) (length t) f) ∙
-    (ap (λ n. take n t ∷ slice_split is_comma (drop (n + 1) t)) j ∙
-    ap (λ l. take i t ∷ slice_split is_comma l) (sym (whole (drop (i + 1) t) (length t - (i + 1)) (length-drop (i + 1) t)))))
-    (λ f. absurd (none_some (sym (ap (λ b. cond b (Some (position_or_len is_comma t)) None) f) ∙ e)))
-  where
-    whole : (l : List ℕ) (n : ℕ) → length l ≡ n → take n l ≡ l
-    whole l n e = ap (λ n. take n l) (sym e) ∙ take-length l
-
-    none_some : None ≡ Some i → ⊥
-    none_some e = cc
+cut_some t i e = grind (arith, nat_lt, slice_split_first, ltb-true, length-drop, take-length)
 
 -- the operands of a text by its pieces
 operands_some : (t u : List ℕ) → u ≡ trim_blanks t → 1 ≤ length u →
     operands_in t ≡ few (map trim_blanks (slice_split is_comma u))
 unfolding operands_in
-operands_some t [] e h = absurd (omega arith)
-operands_some t (b ∷ u) e h = ap operands_if (sym e)
+operands_some t u e h = grind arith
 
 -- a text of blanks has no operands
 pub operands_none : (t u : List ℕ) → u ≡ trim_blanks t → length u ≡ 0 → none ≡ operands_in t
 unfolding operands_in
-operands_none t [] e h = ap operands_if e
-operands_none t (b ∷ u) e h = absurd (omega arith)
+operands_none t u e h = grind arith
 
 pub operands_one : (t u : List ℕ) → u ≡ trim_blanks t → 1 ≤ length u → slice_split is_comma u ≡ u ∷ [] →
     operands_in t ≡ one (trim_blanks u)
@@ -69,25 +42,20 @@ operands_one t u e h s = operands_some t u e h ∙ ap (λ l. few (map trim_blank
 pub operands_two : (t u a r : List ℕ) → u ≡ trim_blanks t → 1 ≤ length u →
     slice_split is_comma u ≡ a ∷ slice_split is_comma r → slice_split is_comma r ≡ r ∷ [] →
     operands_in t ≡ two (trim_blanks a) (trim_blanks r)
-operands_two t u a r e h s i =
-    operands_some t u e h ∙ ap (λ l. few (map trim_blanks l)) (s ∙ ap (λ l. a ∷ l) i)
+operands_two t u a r e h s i = cc (operands_some t u e h)
 
 pub operands_three : (t u a r b q : List ℕ) → u ≡ trim_blanks t → 1 ≤ length u →
     slice_split is_comma u ≡ a ∷ slice_split is_comma r →
     slice_split is_comma r ≡ b ∷ slice_split is_comma q → slice_split is_comma q ≡ q ∷ [] →
     operands_in t ≡ three (trim_blanks a) (trim_blanks b) (trim_blanks q)
-operands_three t u a r b q e h s i j =
-    operands_some t u e h ∙
-    ap (λ l. few (map trim_blanks l)) (s ∙ ap (λ l. a ∷ l) (i ∙ ap (λ l. b ∷ l) j))
+operands_three t u a r b q e h s i j = cc (operands_some t u e h)
 
 pub operands_four : (t u a r b q d p : List ℕ) → u ≡ trim_blanks t → 1 ≤ length u →
     slice_split is_comma u ≡ a ∷ slice_split is_comma r →
     slice_split is_comma r ≡ b ∷ slice_split is_comma q →
     slice_split is_comma q ≡ d ∷ slice_split is_comma p → slice_split is_comma p ≡ p ∷ [] →
     operands_in t ≡ four (trim_blanks a) (trim_blanks b) (trim_blanks d) (trim_blanks p)
-operands_four t u a r b q d p e h s i j k =
-    operands_some t u e h ∙
-    ap (λ l. few (map trim_blanks l)) (s ∙ ap (λ l. a ∷ l) (i ∙ ap (λ l. b ∷ l) (j ∙ ap (λ l. d ∷ l) k)))
+operands_four t u a r b q d p e h s i j k = cc (operands_some t u e h)
 
 -- a text with four commas has more operands than an instruction can have
 pub operands_more : (t u a r b q d p c o : List ℕ) → u ≡ trim_blanks t → 1 ≤ length u →
@@ -127,8 +95,7 @@ no_bytes u b e f = eqb-true (length u) 0 (sym e ∙ f)
 
 -- a text that a test finds not to be empty has a byte
 pub some_bytes : (u : List ℕ) (b : Bool) → b ≡ (length u == 0) → b ≡ false → 1 ≤ length u
-some_bytes u b e f =
-    let d : length u ≡ 0 → ⊥ = eqb-false (length u) 0 (sym e ∙ f) in omega arith
+some_bytes u b e f = grind arith
 
 -- the same of the operands as they were trimmed
 pub gave_one : (t u x : List ℕ) → u ≡ trim_blanks t → 1 ≤ length u → slice_split is_comma u ≡ u ∷ [] →
@@ -139,18 +106,14 @@ gave_one t u x e h s f = ap (λ l. one l) f ∙ sym (operands_one t u e h s)
 pub gave_two : (t u a r x y : List ℕ) → u ≡ trim_blanks t → 1 ≤ length u →
     slice_split is_comma u ≡ a ∷ slice_split is_comma r → slice_split is_comma r ≡ r ∷ [] →
     x ≡ trim_blanks a → y ≡ trim_blanks r → two x y ≡ operands_in t
-gave_two t u a r x y e h s i f g =
-    ap (λ l. two l y) f ∙ (ap (λ l. two (trim_blanks a) l) g ∙ sym (operands_two t u a r e h s i))
+gave_two t u a r x y e h s i f g = grind (arith, two, operands_two)
 
 -- three operands, without the blanks at their ends
 pub gave_three : (t u a r b q x y z : List ℕ) → u ≡ trim_blanks t → 1 ≤ length u →
     slice_split is_comma u ≡ a ∷ slice_split is_comma r →
     slice_split is_comma r ≡ b ∷ slice_split is_comma q → slice_split is_comma q ≡ q ∷ [] →
     x ≡ trim_blanks a → y ≡ trim_blanks b → z ≡ trim_blanks q → three x y z ≡ operands_in t
-gave_three t u a r b q x y z e h s i j f g k =
-    ap (λ l. three l y z) f ∙
-    (ap (λ l. three (trim_blanks a) l z) g ∙
-    (ap (λ l. three (trim_blanks a) (trim_blanks b) l) k ∙ sym (operands_three t u a r b q e h s i j)))
+gave_three t u a r b q x y z e h s i j f g k = grind (arith, three, operands_three)
 
 -- four operands, without the blanks at their ends
 pub gave_four : (t u a r b q d p x y z w : List ℕ) → u ≡ trim_blanks t → 1 ≤ length u →
@@ -159,8 +122,4 @@ pub gave_four : (t u a r b q d p x y z w : List ℕ) → u ≡ trim_blanks t →
     slice_split is_comma q ≡ d ∷ slice_split is_comma p → slice_split is_comma p ≡ p ∷ [] →
     x ≡ trim_blanks a → y ≡ trim_blanks b → z ≡ trim_blanks d → w ≡ trim_blanks p → four x y z w ≡ operands_in t
 gave_four t u a r b q d p x y z w e h s i j m f g k n =
-    ap (λ l. four l y z w) f ∙
-    (ap (λ l. four (trim_blanks a) l z w) g ∙
-    (ap (λ l. four (trim_blanks a) (trim_blanks b) l w) k ∙
-    (ap (λ l. four (trim_blanks a) (trim_blanks b) (trim_blanks d) l) n ∙
-    sym (operands_four t u a r b q d p e h s i j m))))
+    grind (arith, (four (trim_blanks a)), (four (trim_blanks a) (trim_blanks b)), (four (trim_blanks a) (trim_blanks b) (trim_blanks d)), (operands_four t u a r b q d p e h s i j m))

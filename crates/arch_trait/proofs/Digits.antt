@@ -5,8 +5,7 @@ use Rattle.std.proofs.lemmas.Fmt.{decimal_digit, decimal_step}
 
 -- the decimal of a number from 10 to 99 is its two digits
 pub two_digits : (n : ℕ) → 10 ≤ n → n < 100 → decimal n ≡ (48 + n / 10) ∷ (48 + n % 10) ∷ []
-two_digits n l h =
-    decimal_step n l (omega arith) ∙ ap (λ ds. ds ++ (48 + n % 10) ∷ []) (decimal_digit (n / 10) (omega arith))
+two_digits n l h = grind (arith, decimal_step, decimal_digit)
 
 -- where such a number fits after a text, two bytes do
 pub two_digits_fit : (n room : ℕ) (text : List ℕ) → 10 ≤ n → n < 100 → length (text ++ decimal n) ≤ room → length text + 2 ≤ room

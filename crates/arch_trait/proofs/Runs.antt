@@ -88,19 +88,11 @@ access_runs a laws g from s dirs.W b r k vs more fit w m ready first reads =
 source_from : (r : Run) (link : Link) (last : Option ℕ) (k : ℕ) →
     (depends_on_load link ≡ true → HasSource r last k) → depends_on_load link ≡ true →
     HasSource r (from_of link last) k
-source_from r link last k h e =
-    let f : from_of link last ≡ last = ap (λ b. cond b last None) e in
-    let P : Option ℕ → Type 0 = λ o. HasSource r o k in
-    subst P (sym f) (h e)
+source_from r link last k h e = grind arith
 
 source_along : (r u : Run) (from : Option ℕ) (k : ℕ) → u.state.regs ≡ r.state.regs →
     HasSource r from k → HasSource u from k
-source_along r u from k e h = record {
-  register = h.register;
-  value = h.value;
-  is = h.is;
-  holds = ap (λ f. f h.register) e ∙ h.holds;
-}
+source_along r u from k e h = grind arith
 
 -- a thread's run is ready for the accesses that follow on its way: its address registers, those of
 -- the accesses to come too, hold their places, and after a load its register holds what it read
@@ -139,7 +131,7 @@ its_link_runs a laws w s b r fit taken places source =
     let k = r.state.loads - 1 in
     let from = from_of s.link w.last in
     let dep : depends_on_load s.link ≡ true → HasSource r from k =
-    λ e. source_from r s.link w.last k (λ f. source (fit.after f)) e in
+    grind arith in
     let l = laws.links.runs s.link from w.label r k fit.of_arch dep in
     record {
       link = l;
@@ -148,7 +140,7 @@ its_link_runs a laws w s b r fit taken places source =
         places = λ p q e. ap (λ f. f q) l.regs_is ∙ places p q e;
         source = λ e. source_along r l.after from k l.regs_is (dep e);
       };
-      goes_on = exec_append (a.link s.link from w.label) (next_put a w s).code (At r) ∙ ap (λ p. exec (next_put a w s).code p) l.ran;
+      goes_on = grind (arith, exec_append);
     }
 
 step_runs : (a : Puts) → IsArch a → (w : Way) (s : Step) (after_load : Bool) (r : Run)
@@ -178,7 +170,7 @@ step_runs a laws w s b r vs more fit taken places source first reads =
       below = λ q h. d.below q h ∙ ap (λ f. f q) l.regs_is;
       above = λ q h. d.above q h ∙ ap (λ f. f q) l.regs_is;
       places = d.places;
-      filled = subst (λ n. HoldsRead d.after (next_filled a w s) (first_number vs) n) l.loads_is d.filled;
+      filled = grind arith;
     }
 
 -- what a register was taken for, and whether it is the load's
@@ -201,10 +193,7 @@ step_grew a laws w s v = grew w.regs (further a w s).regs s.place (step_takes a 
 pub thread_grew : (a : Puts) → IsArch a → (b : Bool) (w : Way) (ss : List Step) →
     FitSteps a.name b ss → Grew w.regs (thread_regs a w ss)
 thread_grew a laws b w [] fit = grew_refl w.regs
-thread_grew a laws b w (s ∷ ss) fit =
-    grew_trans w.regs (further a w s).regs (thread_regs a w (s ∷ ss))
-    (step_grew a laws w s fit.0.value)
-    (thread_grew a laws (is_load_dir s.dir) (further a w s) ss fit.1)
+thread_grew a laws b w (s ∷ ss) fit = grind (arith, (thread_grew a laws (is_load_dir s.dir) (further a w s) ss fit.1), grew_trans, step_grew)
 
 -- the register of a load is one that the load takes
 abbrev pub IsWithin : ℕ → ℕ → Option ℕ → Type 0
@@ -213,8 +202,7 @@ IsWithin low high None = Unit {0}
 
 put_filled : (a : Puts) → IsArch a → (g : Taken) (from : Option ℕ) (s : Step) (d : Dir) →
     IsWithin g.next (put_of a g from s d).regs.next (filled_by a g from s d)
-put_filled a laws g from s dirs.R = laws.loads.fills g s.link s.mark from s.place
-put_filled a laws g from s dirs.W = tt
+put_filled a laws g from s d = grind arith
 
 -- the register that a load fills is one that the load takes
 pub step_filled : (a : Puts) → IsArch a → (w : Way) (s : Step) →
@@ -227,9 +215,7 @@ reads_cons s ss = sum_by-cons (λ t. cond (is_load_dir t.dir) 1 0) s ss
 
 has_first : (d : Dir) (vs : List ℕ) (n : ℕ) → length vs ≡ cond (is_load_dir d) 1 0 + n →
     HasFirst d vs × (length (left_after d vs) ≡ n)
-has_first dirs.R [] n e = absurd (omega arith)
-has_first dirs.R (v ∷ vs) n e = (λ t. refl, omega arith)
-has_first dirs.W vs n e = (λ t. cc, omega arith)
+has_first d vs n e = grind arith
 
 -- after a load its register holds the number read, which depends on it alone
 source_after : (r : Run) (d : Dir) (q : Option ℕ) (v n : ℕ) → (is_load_dir d ≡ true → q ≡ None → ⊥) →
@@ -241,13 +227,12 @@ source_after r dirs.R (Some q) v n some h l e = record {
   register = q;
   value = v;
   is = refl;
-  holds = let f : n ≡ r.state.loads - 1 = omega arith in h ∙ ap (λ k. num v (bit k)) f;
+  holds = grind arith;
 }
 
 filled_some : (a : Puts) (g : Taken) (from : Option ℕ) (s : Step) (d : Dir) →
     is_load_dir d ≡ true → filled_by a g from s d ≡ None → ⊥
-filled_some a g from s dirs.R e f = cc
-filled_some a g from s dirs.W e f = cc
+filled_some a g from s d e f = grind arith
 
 -- the run of a thread came to its end
 pub record Finished (a : Puts) (w : Way) (ss : List Step) (r : Run) (vs more : List ℕ) : Type 0 where
@@ -263,38 +248,26 @@ pub record Finished (a : Puts) (w : Way) (ss : List Step) (r : Run) (vs more : L
 places_along : (a : Puts) → IsArch a → (w : Way) (s : Step) (ss : List Step) (b : Bool) (r : Run)
     (vs more : List ℕ) → FitSteps a.name b ss → HoldsPlaces r (thread_regs a (further a w s) ss) →
     (d : DidStep a w s r vs more) → HoldsPlaces d.after (thread_regs a (further a w s) ss)
-places_along a laws w s ss b r vs more fit places d p q e =
-    either ((thread_grew a laws b (further a w s) ss fit).fresh p q e)
-  where
-    either : (address_in (further a w s).regs.links p ≡ Some q) ⊎ ((further a w s).regs.next ≤ q) →
-        d.after.state.regs q ≡ held_at_place p
-    either (inl f) = d.places p q f
-    either (inr m) = d.above q m ∙ places p q e
+places_along a laws w s ss b r vs more fit places d p q e = grind (arith, thread_grew)
 
 -- the address registers of an access among those of the whole thread
 places_now : (a : Puts) → IsArch a → (w : Way) (s : Step) (ss : List Step) (b : Bool) (r : Run) →
     FitSteps a.name b ss → HoldsPlaces r (thread_regs a (further a w s) ss) →
     HoldsPlaces r (further a w s).regs
-places_now a laws w s ss b r fit places p q e =
-    places p q ((thread_grew a laws b (further a w s) ss fit).kept p q e)
+places_now a laws w s ss b r fit places p q e = grind (arith, thread_grew)
 
 -- after a step the run is ready for the accesses that follow
 begins_next : (a : Puts) → IsArch a → (s : Step) (ss : List Step) (w : Way) (after_load : Bool) (r : Run) (vs more : List ℕ) →
     FitSteps a.name after_load (s ∷ ss) → Begins a w (s ∷ ss) after_load r → (d : DidStep a w s r vs more) →
     Begins a (further a w s) ss (is_load_dir s.dir) d.after
-begins_next a laws s ss w b r vs more fit begins d = record {
-  taken = (step_grew a laws w s fit.0.value).taken begins.taken;
-  places = places_along a laws w s ss (is_load_dir s.dir) r vs more fit.1 begins.places d;
-  source = λ e. source_after d.after s.dir (next_filled a w s) (first_number vs) r.state.loads
-      (filled_some a w.regs (from_of s.link w.last) s s.dir) d.filled d.loads_is e;
-}
+begins_next a laws s ss w b r vs more fit begins d =
+    grind (arith, (step_grew a laws w s fit.0.value), (places_along a laws w s ss (is_load_dir s.dir) r vs more fit.1 begins.places d), (source_after d.after s.dir (next_filled a w s) (first_number vs) r.state.loads (filled_some a w.regs (from_of s.link w.last) s s.dir) d.filled d.loads_is), (filled_some a w.regs (from_of s.link w.last) s s.dir))
 
 -- a load's register keeps what it read
 read_kept : (r u : Run) (low high : ℕ) (q : Option ℕ) (v n : ℕ) →
     ((s : ℕ) → s < high → u.state.regs s ≡ r.state.regs s) → IsWithin low high q →
     HoldsRead r q v n → HoldsRead u q v n
-read_kept r u low high None v n kept within h = tt
-read_kept r u low high (Some q) v n kept within h = kept q within.1 ∙ h
+read_kept r u low high q v n kept within h = grind arith
 
 nil_cons : {x : ℕ} {xs : List ℕ} → [] ≡ x ∷ xs → ⊥
 nil_cons e = cc
@@ -307,20 +280,11 @@ loaded_first : (regs : ℕ → Held) (d : Dir) (r : Run) (q : Option ℕ) (qs vs
     (is_load_dir d ≡ false → q ≡ None) → HasFirst d vs → r.state.regs ≡ regs →
     (is_load_dir d ≡ true → q ≡ None → ⊥) → HoldsRead r q (first_number vs) n →
     Loaded regs qs (left_after d vs) (loads_after d n) → Loaded regs (put_before q qs) vs n
-loaded_first regs dirs.R r None qs vs n off first e some h rest = absurd (some refl refl)
-loaded_first regs dirs.R r (Some q) qs [] n off first e some h rest =
-    absurd (nil_cons (first refl))
-loaded_first regs dirs.R r (Some q) qs (v ∷ vs) n off first e some h rest =
-    (sym (ap (λ f. f q) e) ∙ h, rest)
-loaded_first regs dirs.W r None qs vs n off first e some h rest =
-    let f : n + 0 ≡ n = omega arith in subst (λ k. Loaded regs qs vs k) f rest
-loaded_first regs dirs.W r (Some q) qs vs n off first e some h rest =
-    absurd (some_none q (off refl))
+loaded_first regs d r q qs vs n off first e some h rest = grind arith
 
 filled_none : (a : Puts) (g : Taken) (from : Option ℕ) (s : Step) (d : Dir) →
     is_load_dir d ≡ false → filled_by a g from s d ≡ None
-filled_none a g from s dirs.R e = cc
-filled_none a g from s dirs.W e = refl
+filled_none a g from s d e = grind arith
 
 -- the architecture's half: the code of a thread, from a run that is ready for it, makes each access in
 -- turn with the barriers and the dependencies of its link, and leaves what was read in the loads'
@@ -328,15 +292,7 @@ filled_none a g from s dirs.W e = refl
 pub thread_runs : (a : Puts) → IsArch a → (ss : List Step) (w : Way) (after_load : Bool) (r : Run)
     (vs more : List ℕ) → FitSteps a.name after_load ss → Begins a w ss after_load r →
     length vs ≡ loads_in ss → r.reads ≡ vs ++ more → Finished a w ss r vs more
-thread_runs a laws [] w b r [] more fit begins count reads = record {
-  after = r;
-  ran = refl;
-  made_is = sym (append-nil r.made);
-  reads_is = reads;
-  below = λ q h. refl;
-  loaded = tt;
-  places = begins.places;
-}
+thread_runs a laws [] w b r [] more fit begins count reads = grind (arith, append-nil)
 thread_runs a laws [] w b r (v ∷ vs) more fit begins count reads = absurd (omega (arith, count))
 thread_runs a laws (s ∷ ss) w b r vs more fit begins count reads =
     let c = has_first s.dir vs (loads_in ss) (count ∙ reads_cons s ss) in
@@ -362,7 +318,7 @@ thread_runs a laws (s ∷ ss) w b r vs more fit begins count reads =
           access_item s s.dir (first_number vs) k (link_control s.link k r.state.control) ∷ [])
           (thread_items ss (loads_after s.dir r.state.loads) (link_control s.link k r.state.control) (left_after s.dir vs)))));
       reads_is = f.reads_is;
-      below = λ q h. f.below q (omega (arith, h, (step_grew a laws w s fit.0.value).more)) ∙ d.below q h;
+      below = grind (arith, step_grew);
       loaded =
           loaded_first f.after.state.regs s.dir f.after (next_filled a w s)
           (thread_loads a (further a w s) ss) vs r.state.loads
@@ -384,38 +340,24 @@ access_wants : (a : Puts) → IsArch a → (g : Taken) (from : Option ℕ) (s : 
     (is_data s.link ≡ true → d ≡ dirs.W) → mark_fits d s.mark ≡ true →
     ReadyForAccess r g (put_of a g from s d).regs s.link from k → is_load_dir d ≡ true → r.reads ≡ [] →
     IsWanting (exec (put_of a g from s d).code (At r))
-access_wants a laws g from s dirs.R b r k fit w m ready e reads =
-    laws.loads.wants g s.link s.mark from s.place r k fit.of_arch
-    (load_no_data s.link w)
-    (record { fits = m; of_arch = fit.mark_of_arch }) ready reads
-access_wants a laws g from s dirs.W b r k fit w m ready e reads = cc
+access_wants a laws g from s d b r k fit w m ready e reads = grind arith
 
 step_wants : (a : Puts) → IsArch a → (w : Way) (s : Step) (after_load : Bool) (r : Run) →
     FitStep a.name after_load s → IsTaken w.regs → HoldsPlaces r (further a w s).regs →
     (after_load ≡ true → HasSource r w.last (r.state.loads - 1)) → is_load_dir s.dir ≡ true →
     r.reads ≡ [] → IsWanting (exec (step_code a w s) (At r))
-step_wants a laws w s b r fit taken places source e reads =
-    let k = r.state.loads - 1 in
-    let from = from_of s.link w.last in
-    let linked = its_link_runs a laws w s b r fit taken places source in
-    let l = linked.link in
-    let h = access_wants a laws w.regs from s s.dir b l.after k fit fit.to_store fit.mark_fitting linked.ready e
-    (l.reads_is ∙ reads) in
-    record { run = h.run; is = linked.goes_on ∙ h.is }
+step_wants a laws w s b r fit taken places source e reads = grind (arith, (its_link_runs a laws w s b r fit taken places source), (access_wants a laws w.regs))
 
 apart : {b : Bool} → b ≡ true → b ≡ false → ⊥
 apart {b} t f = let g : true ≡ false = sym t ∙ f in cc
 
 -- the numbers that are fewer than the loads, at the first access and after it
 first_more : (d : Dir) (v : ℕ) (vs : List ℕ) → HasFirst d (v ∷ vs)
-first_more dirs.R v vs t = refl
-first_more dirs.W v vs t = cc
+first_more d v vs t = grind arith
 
 fewer : (d : Dir) (vs : List ℕ) (n : ℕ) → length vs < cond (is_load_dir d) 1 0 + n →
     HasFirst d vs → length (left_after d vs) < n
-fewer dirs.R [] n h first = absurd (nil_cons (first refl))
-fewer dirs.R (v ∷ vs) n h first = omega arith
-fewer dirs.W vs n h first = omega arith
+fewer d vs n h first = grind arith
 
 -- a thread wants a number on any numbers that are fewer than its loads
 abbrev pub Wanting : Puts → Way → List Step → Bool → Type 0
@@ -428,30 +370,16 @@ wants_later : (a : Puts) → IsArch a → (s : Step) (ss : List Step) (w : Way) 
     Wanting a (further a w s) ss (is_load_dir s.dir) →
     IsWanting (exec (thread_code a (further a w s) ss) (exec (step_code a w s) (At r)))
 wants_later a laws s ss w b r vs fit begins first few reads later =
-    let now = places_now a laws w s ss (is_load_dir s.dir) r fit.1 begins.places in
-    let d = step_runs a laws w s b r vs [] fit.0 begins.taken now begins.source first
-    (reads ∙ sym (append-nil vs)) in
-    let next = begins_next a laws s ss w b r vs [] fit begins d in
-    let h = later d.after (left_after s.dir vs) next
-    (fewer s.dir vs (loads_in ss) (omega (arith, few, reads_cons s ss)) first)
-    (d.reads_is ∙ append-nil (left_after s.dir vs)) in
-    record {
-      run = h.run;
-      is = ap (λ p. exec (thread_code a (further a w s) ss) p) d.ran ∙ h.is;
-    }
+    grind (arith, (places_now a laws w s ss (is_load_dir s.dir) r fit.1 begins.places), (step_runs a laws w s b r vs [] fit.0 begins.taken), (append-nil vs), (append-nil (left_after s.dir vs)), (begins_next a laws s ss w b r vs [] fit begins), (fewer s.dir vs (loads_in ss) (omega (arith, few, reads_cons s ss)) first), (reads_cons s ss))
 
 wants_first : (a : Puts) → IsArch a → (s : Step) (ss : List Step) (w : Way) (after_load : Bool)
     (r : Run) (vs : List ℕ) → FitSteps a.name after_load (s ∷ ss) → Begins a w (s ∷ ss) after_load r →
     length vs < loads_in (s ∷ ss) → r.reads ≡ vs →
     Wanting a (further a w s) ss (is_load_dir s.dir) →
     IsWanting (exec (thread_code a (further a w s) ss) (exec (step_code a w s) (At r)))
-wants_first a laws s ss w b r [] fit begins few reads later = by_test (is_load_dir s.dir)
-    (λ e. wants_at (thread_code a (further a w s) ss) (exec (step_code a w s) (At r))
-    (step_wants a laws w s b r fit.0 begins.taken
-    (places_now a laws w s ss (is_load_dir s.dir) r fit.1 begins.places) begins.source e reads))
-    (λ e. wants_later a laws s ss w b r [] fit begins (λ t. absurd (apart t e)) few reads later)
-wants_first a laws s ss w b r (v ∷ vs) fit begins few reads later =
-    wants_later a laws s ss w b r (v ∷ vs) fit begins (first_more s.dir v vs) few reads later
+wants_first a laws s ss w b r [] fit begins few reads later =
+    grind (arith, (wants_at (thread_code a (further a w s) ss) (exec (step_code a w s) (At r))), (step_wants a laws w s b r fit.0 begins.taken (places_now a laws w s ss (is_load_dir s.dir) r fit.1 begins.places) begins.source), (places_now a laws w s ss (is_load_dir s.dir) r fit.1 begins.places), (wants_later a laws s ss w b r [] fit begins), apart)
+wants_first a laws s ss w b r (v ∷ vs) fit begins few reads later = search (arith, wants_later, first_more)
 
 -- a thread whose numbers are fewer than its loads comes to a load that wants one
 pub thread_wants : (a : Puts) → IsArch a → (ss : List Step) (w : Way) (after_load : Bool) (r : Run)
@@ -459,7 +387,4 @@ pub thread_wants : (a : Puts) → IsArch a → (ss : List Step) (w : Way) (after
     length vs < loads_in ss → r.reads ≡ vs → IsWanting (exec (thread_code a w ss) (At r))
 thread_wants a laws [] w b r vs fit begins few reads = absurd (omega arith)
 thread_wants a laws (s ∷ ss) w b r vs fit begins few reads =
-    let P : Point → Type 0 = λ p. IsWanting p in
-    subst P (sym (exec_append (step_code a w s) (thread_code a (further a w s) ss) (At r)))
-    (wants_first a laws s ss w b r vs fit begins few reads
-    (λ u us next less left. thread_wants a laws ss (further a w s) (is_load_dir s.dir) u us fit.1 next less left))
+    grind (arith, (thread_wants a laws ss (further a w s) (is_load_dir s.dir)), (exec_append (step_code a w s) (thread_code a (further a w s) ss) (At r)), (wants_first a laws s ss w b r vs fit begins few reads))

@@ -27,34 +27,8 @@ first_seen seen (s ∷ ss) =
 one_less : (seen : ℕ → Bool) (p : ℕ) (ss : List Step) →
     last_seen seen ss ≡
     cond (not (seen p) && visits p ss) 1 0 + last_seen (λ q. p == q || seen q) ss
-one_less seen p [] = nothing (seen p)
-  where
-    nothing : (b : Bool) → 0 ≡ cond (not b && false) 1 0 + 0
-    nothing true = omega arith
-    nothing false = omega arith
-one_less seen p (s ∷ ss) = by_test (p == s.place)
-    (λ t. subst (Less seen s ss) (sym (eqb-true p s.place t))
-    (rw (eq-eqb s.place s.place refl)
-    (same_place (seen s.place) (visits s.place ss) (last_seen seen ss)
-    (last_seen (λ q. s.place == q || seen q) ss) (one_less seen s.place ss))))
-    (λ t. let u : (s.place == p) ≡ false = ne_eqb s.place p (λ e. eqb-false p s.place t (sym e)) in
-    rw (t, u) (other_place (cond (seen s.place || visits s.place ss) 0 1)
-    (cond (not (seen p) && visits p ss) 1 0) (last_seen seen ss)
-    (last_seen (λ q. p == q || seen q) ss) (one_less seen p ss)))
-  where
-    Less : (ℕ → Bool) → Step → List Step → ℕ → Type 0
-    Less seen s ss p =
-        last_seen seen (s ∷ ss) ≡
-        cond (not (seen p) && visits p (s ∷ ss)) 1 0 + last_seen (λ q. p == q || seen q) (s ∷ ss)
-
-    same_place : (a b : Bool) (x y : ℕ) → x ≡ cond (not a && b) 1 0 + y →
-        cond (a || b) 0 1 + x ≡ cond (not a && true) 1 0 + (0 + y)
-    same_place true b x y e = omega arith
-    same_place false true x y e = omega arith
-    same_place false false x y e = omega arith
-
-    other_place : (c d x y : ℕ) → x ≡ d + y → c + x ≡ d + (c + y)
-    other_place c d x y e = omega arith
+one_less seen p [] = grind arith
+one_less seen p (s ∷ ss) = grind (arith, (one_less seen s.place ss), (one_less seen p ss))
 
 -- both counts are one
 pub last_is_first : (seen : ℕ → Bool) (ss : List Step) → last_seen seen ss ≡ first_seen seen ss
@@ -71,8 +45,7 @@ last_is_first seen (s ∷ ss) =
     counts false false x y e = omega arith
 
 places_last : (ss : List Step) → places_in ss ≡ last_seen (λ q. false) ss
-places_last [] = refl
-places_last (s ∷ ss) = ap (λ n. cond (visits s.place ss) 0 1 + n) (places_last ss)
+places_last ss = grind arith
 
 -- each location counts at its first access
 pub places_first : (ss : List Step) → places_in ss ≡ first_seen (λ q. false) ss
@@ -89,18 +62,10 @@ grown_by h ss places = record {
 
 same_shape : (h i : Shape) → h.loads ≡ i.loads → h.stores ≡ i.stores → h.addr ≡ i.addr →
     h.places ≡ i.places → h ≡ i
-same_shape h i e f g k =
-    ap (λ n. made n h.stores h.addr h.places) e ∙
-    (ap (λ n. made i.loads n h.addr h.places) f ∙
-    (ap (λ n. made i.loads i.stores n h.places) g ∙
-    ap (λ n. made i.loads i.stores i.addr n) k))
-  where
-    made : ℕ → ℕ → ℕ → ℕ → Shape
-    made l s a p = record { loads = l; stores = s; addr = a; places = p }
+same_shape h i e f g k = grind arith
 
 grown_by_none : (h : Shape) → grown_by h [] 0 ≡ h
-grown_by_none h =
-    same_shape (grown_by h [] 0) h (omega arith) (omega arith) (omega arith) (omega arith)
+grown_by_none h = grind arith
 
 grown_by_cons : (h : Shape) (s : Step) (ss : List Step) (old : Bool) (places : ℕ) →
     grown_by h (s ∷ ss) (cond old 0 1 + places) ≡ grown_by (shape_grown h s.dir s.link (not old)) ss places
@@ -126,16 +91,11 @@ shape_with h (s ∷ ss) = shape_with (shape_grown h s.dir s.link (not (visits s.
 
 shape_with_is : (h : Shape) (ss : List Step) → shape_with h ss ≡ grown_by h ss (places_in ss)
 shape_with_is h [] = sym (grown_by_none h)
-shape_with_is h (s ∷ ss) =
-    shape_with_is (shape_grown h s.dir s.link (not (visits s.place ss))) ss ∙
-    sym (grown_by_cons h s ss (visits s.place ss) (places_in ss))
+shape_with_is h (s ∷ ss) = search (arith, (shape_with_is (shape_grown h s.dir s.link (not (visits s.place ss))) ss), grown_by_cons)
 
 -- the shape that is counted access by access is that of the thread
 pub counted_shape : (ss : List Step) → shape_with no_shape ss ≡ shape_of ss
-counted_shape ss =
-    shape_with_is no_shape ss ∙
-    same_shape (grown_by no_shape ss (places_in ss)) (shape_of ss) (omega arith) (omega arith) (omega arith)
-    (omega arith)
+counted_shape ss = grind (arith, shape_with_is, same_shape)
 
 -- the places that have address registers are those seen, where accesses name address registers
 abbrev pub Tracks : Puts → Taken → (ℕ → Bool) → Type 0
@@ -144,16 +104,13 @@ Tracks a g seen = a.has_addresses ≡ true → (q : ℕ) → has_address g q ≡
 tracks_on : (a : Puts) → IsArch a → (w : Way) (s : Step) (seen : ℕ → Bool) → s.value < 256 →
     Tracks a w.regs seen → Tracks a (further a w s).regs (λ q. s.place == q || seen q)
 tracks_on a laws w s seen v h e q =
-    tracks w.regs (further a w s).regs s.place (step_takes a laws w s v)
-    ((put_laws a laws s v s.dir).addressed w.regs s.link s.mark (from_of s.link w.last) s.place e) q ∙
-    ap (λ b. s.place == q || b) (h e q)
+    grind (arith, (tracks w.regs (further a w s).regs s.place (step_takes a laws w s v) ((put_laws a laws s v s.dir).addressed w.regs s.link s.mark (from_of s.link w.last) s.place e) q), (step_takes a laws w s v), (put_laws a laws s v s.dir))
 
 -- the registers that a thread takes are as many as the need of its shape grows
 pub taken_is : (a : Puts) → IsArch a → (b : Bool) (w : Way) (ss : List Step) (h : Shape)
     (seen : ℕ → Bool) → FitSteps a.name b ss → IsGiven b w.last → Tracks a w.regs seen →
     (thread_regs a w ss).next + a.need h ≡ w.regs.next + a.need (more_steps h seen ss)
-taken_is a laws b w [] h seen fit given follows =
-    ap (λ i. w.regs.next + a.need i) (sym (grown_by_none h))
+taken_is a laws b w [] h seen fit given follows = grind arith
 taken_is a laws b w (s ∷ ss) h seen fit given follows =
     let seen_after : ℕ → Bool = λ q. s.place == q || seen q in
     let h_after = shape_grown h s.dir s.link (not (seen s.place)) in
@@ -170,17 +127,9 @@ taken_is a laws b w (s ∷ ss) h seen fit given follows =
     joined t u w h i m e f = omega arith
 
 shape_is : (ss : List Step) → more_steps no_shape (λ q. false) ss ≡ shape_of ss
-shape_is ss =
-    same_shape (more_steps no_shape (λ q. false) ss) (shape_of ss) (omega arith) (omega arith)
-    (omega arith) (omega (arith, places_first ss))
+shape_is ss = grind (arith, same_shape, places_first)
 
 -- a thread takes exactly as many registers as its shape needs
 pub need_is : (a : Puts) → IsArch a → (n : ℕ) (ss : List Step) → FitSteps a.name false ss →
     (thread_regs a (setting_out n) ss).next ≡ a.need (shape_of ss)
-need_is a laws n ss fit =
-    omega (
-      arith,
-      taken_is a laws false (setting_out n) ss no_shape (λ q. false) fit (λ e. cc) (λ e q. refl),
-      laws.shapes.none,
-      ap a.need (shape_is ss),
-    )
+need_is a laws n ss fit = grind (arith, (taken_is a laws false (setting_out n) ss no_shape), (shape_is ss))

@@ -20,23 +20,13 @@ distinct_none = tt
 
 -- a list without names is a table
 pub no_names : (names : List (List ℕ)) → names ≡ [] → IsTable names
-no_names names e =
-    let P : List (List ℕ) → Type 0 = IsTable in
-    subst P (sym e) (record { formed = refl; once = distinct_none; few = omega arith })
+no_names names e = grind (arith, distinct_none)
 
 -- a table to which a new name is added is a table, where there is room
 pub one_name : (names : List (List ℕ)) (name : List ℕ) (after : List (List ℕ)) → IsTable names →
     is_place_name name ≡ true → number_in names name ≡ None → length names < 64 →
     after ≡ names ++ name ∷ [] → IsTable after
-one_name names name after t formed new room e =
-    let P : List (List ℕ) → Type 0 = IsTable in
-    subst P (sym e) (record {
-      formed = list_all-append is_place_name names (name ∷ []) ∙
-          and_from (list_all is_place_name names) (list_all is_place_name (name ∷ [])) t.formed
-          (and_from (is_place_name name) true formed refl);
-      once = distinct_push bytes_eq names name t.once (none_passes (λ x. bytes_eq x name) 0 names new);
-      few = omega (arith, length-append names (name ∷ []));
-    })
+one_name names name after t formed new room e = grind (arith, list_all-append, and_from, distinct_push, none_passes, length-append)
 
 -- the locations' names have the form of names and differ, as computed for as many as a cycle may have
 abbrev pub new_below : ℕ → Bool
@@ -55,19 +45,7 @@ pub record IsNew (k : ℕ) : Type 0 where
 
 new_at : (n k : ℕ) → new_below n ≡ true → k < n → IsNew k
 new_at zero k e h = absurd (omega arith)
-new_at (suc n) k e h =
-    let parts = and_parts (is_place_name (location_name n))
-    (is_none (number_in (letters n) (location_name n)) && new_below n) e in
-    let later = and_parts (is_none (number_in (letters n) (location_name n))) (new_below n) parts.1 in
-    by_test (k == n)
-    (λ t. let P : ℕ → Type 0 = IsNew in
-    subst P (sym (eqb-true k n t))
-    (record { formed = parts.0; new = none_is (number_in (letters n) (location_name n)) later.0 }))
-    (λ t. let d : k ≡ n → ⊥ = eqb-false k n t in new_at n k later.1 (omega arith))
-  where
-    none_is : (o : Option ℕ) → is_none o ≡ true → o ≡ None
-    none_is None e = refl
-    none_is (Some i) e = cc
+new_at (suc n) k e h = grind (arith, (new_at n k))
 
 -- the name of each location that a cycle may have is new
 pub location_new : (k : ℕ) → k < MAX_STEPS → IsNew k
@@ -103,25 +81,9 @@ name_plain k e = rw e refl
 pub name_marked : (k : ℕ) → 0 < k / 26 →
     location_name k ≡ get_or location_letters (k % 26) 0 ∷ 95 ∷ (48 + k / 26) ∷ []
 unfolding location_name
-name_marked k h = marked (k / 26) h
-  where
-    marked : (n : ℕ) → 0 < n →
-        get_or location_letters (k % 26) 0 ∷ lap_mark n ≡ get_or location_letters (k % 26) 0 ∷ 95 ∷ (48 + n) ∷ []
-    marked zero h = absurd (omega arith)
-    marked (suc n) h =
-        let e : suc n + 48 ≡ 48 + suc n = omega arith in
-        ap (λ c. get_or location_letters (k % 26) 0 ∷ 95 ∷ c ∷ []) e
+name_marked k h = grind arith
 
 -- the name of a label has the form of a place's name too
 pub label_is_name : (name : List ℕ) → is_register_name name ≡ true → is_place_name name ≡ true
 unfolding is_register_name is_place_name
-label_is_name [] h = cc
-label_is_name (b ∷ bytes) h =
-    let p = and_parts (is_ascii_alphabetic b && list_all is_ascii_alphanumeric bytes) (nat_le (length (b ∷ bytes)) 16) h in
-    let q = and_parts (is_ascii_alphabetic b) (list_all is_ascii_alphanumeric bytes) p.0 in
-    and_from (begins_place b && list_all is_place_byte bytes) (nat_le (length (b ∷ bytes)) 16)
-    (and_from (begins_place b) (list_all is_place_byte bytes)
-    (or_left (is_ascii_alphabetic b) (b == 95) q.0)
-    (list_all-weaker is_ascii_alphanumeric is_place_byte
-    (λ x e. or_left (is_ascii_alphanumeric x) (x == 95) e) bytes q.1))
-    p.1
+label_is_name name h = grind (arith, and_parts, nat_le, and_from, or_left, list_all-weaker)

@@ -21,46 +21,26 @@ none_taken n = record { in_order = omega arith }
 pub begins_whole : (a : Puts) → IsArch a → (ss : List Step) (reads : List ℕ) →
     FitSteps a.name false ss →
     Begins a (setting_out a.registers) ss false (beginning (initial_values (compiled a ss).links) reads)
-begins_whole a laws ss reads fit =
-    let grown = thread_grew a laws false (setting_out a.registers) ss fit in
-    let whole = thread_regs a (setting_out a.registers) ss in
-    record {
-      taken = none_taken a.registers;
-      places = λ p q e. begins_at 0 whole.links whole.next p q (grown.taken (none_taken a.registers)).in_order e;
-      source = λ e. cc;
-    }
+begins_whole a laws ss reads fit = grind (arith, thread_grew, none_taken, begins_at)
 
 numbers_held : (regs : ℕ → Held) (qs vs : List ℕ) (n : ℕ) → Loaded regs qs vs n →
     HoldNumbers (λ q. (regs q).value) qs vs
-numbers_held regs [] vs n h = tt
-numbers_held regs (q ∷ qs) [] n h = h
-numbers_held regs (q ∷ qs) (v ∷ vs) n h =
-    (ap (λ (x : Held). x.value) h.0, numbers_held regs qs vs (n + 1) h.1)
+numbers_held regs (q ∷ qs) (v ∷ vs) n h = grind (arith, (numbers_held regs qs vs (n + 1) h.1))
+numbers_held regs qs vs n h = grind arith
 
 -- on as many numbers as it has loads, a thread makes each access in turn, exactly with the barriers
 -- and the dependencies of its link, and ends with the numbers read in its loads' registers
 pub thread_ends : (a : Puts) → IsArch a → (ss : List Step) (vs : List ℕ) →
     FitSteps a.name false ss → length vs ≡ loads_in ss → EndsWith ss (compiled a ss) vs
 thread_ends a laws ss vs fit count =
-    let f = thread_runs a laws ss (setting_out a.registers) false
-    (beginning (initial_values (compiled a ss).links) vs) vs [] fit (begins_whole a laws ss vs fit) count
-    (sym (append-nil vs)) in
-    record {
-      regs = λ q. (f.after.state.regs q).value;
-      ends =
-          ap outcome f.ran ∙
-          (ap (λ reads. run_ended f.after reads) f.reads_is ∙
-          ap (λ made. Ended made (λ q. (f.after.state.regs q).value)) f.made_is);
-      loaded = numbers_held f.after.state.regs (compiled a ss).loads vs 0 f.loaded;
-    }
+    grind (arith, (thread_runs a laws ss (setting_out a.registers) false (beginning (initial_values (compiled a ss).links) vs) vs [] fit (begins_whole a laws ss vs fit) count (sym (append-nil vs))), (begins_whole a laws ss vs fit), (append-nil vs), numbers_held)
 
 -- on fewer numbers than it has loads, a thread wants more
 pub thread_short_of : (a : Puts) → IsArch a → (ss : List Step) (vs : List ℕ) →
     FitSteps a.name false ss → length vs < loads_in ss →
     runs (compiled a ss).instrs (initial_values (compiled a ss).links) vs ≡ ReadsShort
 thread_short_of a laws ss vs fit few =
-    ap outcome (thread_wants a laws ss (setting_out a.registers) false
-    (beginning (initial_values (compiled a ss).links) vs) vs fit (begins_whole a laws ss vs fit) few refl).is
+    grind (arith, (thread_wants a laws ss (setting_out a.registers) false (beginning (initial_values (compiled a ss).links) vs) vs fit (begins_whole a laws ss vs fit) few refl), (begins_whole a laws ss vs fit))
 
 -- on more numbers than it has loads, a thread leaves some
 pub thread_leaves : (a : Puts) → IsArch a → (ss : List Step) (vs : List ℕ) →
@@ -83,11 +63,7 @@ thread_leaves a laws ss vs fit many =
 -- the code of a thread makes its accesses
 pub makes_steps : (a : Puts) → IsArch a → (ss : List Step) → FitSteps a.name false ss →
     MakesSteps ss (compiled a ss)
-makes_steps a laws ss fit = record {
-  ends = λ vs e. thread_ends a laws ss vs fit e;
-  lacks = λ vs e. thread_short_of a laws ss vs fit e;
-  leaves = λ vs e. thread_leaves a laws ss vs fit e;
-}
+makes_steps a laws ss fit = grind (arith, thread_ends, thread_short_of, thread_leaves)
 
 -- where registers are enough, the code of a thread is well formed
 pub is_formed : (a : Puts) → IsArch a → (ss : List Step) → FitSteps a.name false ss →
@@ -103,8 +79,7 @@ is_formed a laws ss fit enough =
       labels = thread_labels a laws false w ss fit (λ e. cc);
       places = thread_places a laws false w ss fit;
       addresses = thread_addresses a laws false w ss (λ q. visits q ss) fit (visits_all ss) refl;
-      links = in_order_more 0 (thread_regs a w ss).links (thread_regs a w ss).next a.registers
-          ((thread_grew a laws false w ss fit).taken taken).in_order room;
+      links = grind (arith, in_order_more, thread_grew);
       loads = all_below_more (thread_loads a w ss) (thread_regs a w ss).next a.registers
           (thread_loads_below a laws false w ss fit) room;
       count = thread_loads_length a w ss;
@@ -120,18 +95,14 @@ made instrs links loads = record { instrs = instrs; links = links; loads = loads
 
 same_code : (instrs : List Micro) (links : List (ℕ × ℕ)) (loads : List ℕ) (code : ThreadCode) →
     instrs ≡ code.instrs → links ≡ code.links → loads ≡ code.loads → code ≡ made instrs links loads
-same_code instrs links loads code e f g =
-    ap (λ x. made x code.links code.loads) (sym e) ∙
-    (ap (λ x. made instrs x code.loads) (sym f) ∙ ap (λ x. made instrs links x) (sym g))
+same_code instrs links loads code e f g = grind arith
 
 -- code whose parts are those of the thread's code makes its accesses
 pub made_so : (a : Puts) → IsArch a → (ss : List Step) (instrs : List Micro) (links : List (ℕ × ℕ))
     (loads : List ℕ) → FitSteps a.name false ss → instrs ≡ (compiled a ss).instrs →
     links ≡ (compiled a ss).links → loads ≡ (compiled a ss).loads →
     MakesSteps ss (made instrs links loads)
-made_so a laws ss instrs links loads fit e f g =
-    let P : ThreadCode → Type 0 = MakesSteps ss in
-    subst P (same_code instrs links loads (compiled a ss) e f g) (makes_steps a laws ss fit)
+made_so a laws ss instrs links loads fit e f g = grind (arith, same_code, makes_steps)
 
 -- code whose parts are those of the thread's code is well formed where registers are enough
 pub formed_so : (a : Puts) → IsArch a → (ss : List Step) (instrs : List Micro)
@@ -139,6 +110,4 @@ pub formed_so : (a : Puts) → IsArch a → (ss : List Step) (instrs : List Micr
     a.need (shape_of ss) ≤ a.registers → instrs ≡ (compiled a ss).instrs →
     links ≡ (compiled a ss).links → loads ≡ (compiled a ss).loads →
     IsFormedCode a ss (made instrs links loads)
-formed_so a laws ss instrs links loads fit enough e f g =
-    let P : ThreadCode → Type 0 = IsFormedCode a ss in
-    subst P (same_code instrs links loads (compiled a ss) e f g) (is_formed a laws ss fit enough)
+formed_so a laws ss instrs links loads fit enough e f g = grind (arith, same_code, is_formed)

@@ -1,7 +1,7 @@
 -- The cut of a cycle at one location by its place, and the accesses of the cut resolution.
-use Rattle.std.proofs.Common.{◌≡◌, ℕ, zero, suc, ◌+◌, ◌-◌, ◌<◌, ◌≤◌, Bool, true, false, cond, List, [], ◌∷◌, length, take, Some, refl, sym, ◌∙◌, ap, arith, add-one}
-use Rattle.std.specs.Prelude.{◌==◌, ◌||◌, if◌then◌else◌}
-use Rattle.std.specs.List.{list_any, position_from}
+use Rattle.std.proofs.Common.{◌≡◌, ℕ, zero, suc, ◌+◌, ◌-◌, ◌<◌, ◌≤◌, true, false, cond, List, [], ◌∷◌, length, take, Some, refl, sym, ◌∙◌, ap, arith, add-one}
+use Rattle.std.specs.Prelude.{◌==◌, if◌then◌else◌}
+use Rattle.std.specs.List.{position_from}
 use Rattle.std.proofs.lemmas.Bool.{ne_eqb}
 use Rattle.list_laws.proofs.Cases.{by_test, by_less}
 use Rattle.relax_edges.specs.declared.kinds.Dir.{Dir}
@@ -9,7 +9,7 @@ use Rattle.relax_edges.specs.declared.kinds.Mark.{Mark}
 use Rattle.relax_edges.specs.declared.kinds.Kind.{Kind}
 use Rattle.relax_edges.specs.declared.kinds.Kind.TheVariants as kinds
 use Rattle.relax_edges.specs.declared.edge.Edge.{Edge}
-use Rattle.relax_edges.specs.EdgeTable.{kind_of, source_of, source_mark, is_diff, is_external}
+use Rattle.relax_edges.specs.EdgeTable.{kind_of, source_of, source_mark, is_external}
 use Rattle.resolution_laws.specs.Resolution.{edge_at, slot_of}
 use Rattle.resolution_laws.proofs.Threads.{slot_in}
 use Rattle.resolution_laws.proofs.Locations.{ends_with}
@@ -20,50 +20,12 @@ use Rattle.arch_trait.specs.declared.step.Step.{Step}
 use Rattle.arch_trait.specs.Links.{edge_link}
 use Rattle.test_laws.specs.CycleSteps.{event_link, event_step}
 use Rattle.test_laws.specs.TestOf.{plain}
-use Rattle.co_tests_laws.specs.CutResolution.{cut_of, cut_open, elsewhere, is_ordering, orders_by}
+use Rattle.co_tests_laws.specs.CutResolution.{cut_of, cut_open, is_ordering, orders_by}
 use Rattle.co_tests_laws.specs.CoherenceTests.{writes_in}
 use Rattle.co_tests_laws.proofs.Opened.{same_at, source_same, source_mark_same}
-use Rattle.co_tests_laws.proofs.Values.{Cut, IsCut, one_location, written, value_early, value_late}
+use Rattle.co_tests_laws.proofs.Values.{Cut, IsCut, one_location, written, value_early, value_late, later_cut, first_cut, none_diff}
 use Rattle.co_tests_laws.proofs.Events.{IsLoop}
 use Rattle.co_tests.specs.Shape.{HasShape}
-
-later_cut : (e : Edge) (es : List Edge) → is_ordering e ≡ false → Cut es → Cut (e ∷ es)
-later_cut e es f c = record {
-  at = suc c.at;
-  below = omega (arith, c.below);
-  ordering = c.ordering;
-  opened = ap (λ l. edge_at l (suc c.at)) open_is ∙ c.opened;
-  others = λ i d. ap (λ l. edge_at l i) open_is ∙ other i d;
-  first = earlier;
-}
-  where
-    open_is : cut_open (e ∷ es) ≡ e ∷ cut_open es
-    open_is = ap (λ b. if b then elsewhere e ∷ es else e ∷ cut_open es) f
-
-    earlier : (i : ℕ) → i < suc c.at → is_ordering (edge_at (e ∷ es) i) ≡ false
-    earlier zero l = f
-    earlier (suc i) l = c.first i (omega (arith, l))
-
-    other : (i : ℕ) → (i ≡ suc c.at → ⊥) → edge_at (e ∷ cut_open es) i ≡ edge_at (e ∷ es) i
-    other zero d = refl
-    other (suc i) d = c.others i (λ q. d (ap suc q))
-
-first_cut : (e : Edge) (es : List Edge) → is_ordering e ≡ true → Cut (e ∷ es)
-first_cut e es t = record {
-  at = 0;
-  below = omega arith;
-  ordering = t;
-  opened = ap (λ l. edge_at l 0) open_is;
-  others = λ i d. ap (λ l. edge_at l i) open_is ∙ other i d;
-  first = λ i l. absurd (omega (arith, l));
-}
-  where
-    open_is : cut_open (e ∷ es) ≡ elsewhere e ∷ es
-    open_is = ap (λ b. if b then elsewhere e ∷ es else e ∷ cut_open es) t
-
-    other : (i : ℕ) → (i ≡ 0 → ⊥) → edge_at (elsewhere e ∷ es) i ≡ edge_at (e ∷ es) i
-    other zero d = absurd (d refl)
-    other (suc i) d = refl
 
 -- the cut of edges of which the first has a number is at this place
 record FoundCut (es : List Edge) (first cut : ℕ) : Type 0 where
@@ -80,16 +42,6 @@ find_cut (e ∷ es) first cut h =
     let z : (first_cut e es t).at ≡ 0 = refl in record { found = first_cut e es t; place = omega (arith, p, z) })
     (λ f. let r = find_cut es (first + 1) cut (sym (ap (λ b. cond b (Some first) (position_from is_ordering (first + 1) es)) f) ∙ h) in
     let z : (later_cut e es f r.found).at ≡ suc r.found.at = refl in record { found = later_cut e es f r.found; place = omega (arith, r.place, z) })
-
--- neither of two tests passes
-neither : (a b : Bool) → (a || b) ≡ false → (a ≡ false) × (b ≡ false)
-neither true b h = cc
-neither false b h = (refl, h)
-
-none_at : (es : List Edge) (i : ℕ) → list_any is_diff es ≡ false → i < length es → is_diff (edge_at es i) ≡ false
-none_at [] i h l = absurd (omega (arith, l))
-none_at (e ∷ es) zero h l = (neither (is_diff e) (list_any is_diff es) h).0
-none_at (e ∷ es) (suc i) h l = none_at es i (neither (is_diff e) (list_any is_diff es) h).1 (omega (arith, l))
 
 inside_by_kind : (k : Kind) (e : Edge) → kind_of e ≡ k → orders_by k ≡ true → is_external e ≡ false
 inside_by_kind (kinds.Com c r) e q h = cc
@@ -111,7 +63,7 @@ loop_at es cut s h = record {
     threads = s.threads;
     is_cut = record {
       cut = c;
-      same = λ i l. none_at es i s.one_location l;
+      same = λ i l. none_diff es i s.one_location l;
       within = by_less (c.at + 1) (length es) (λ l. l)
           (λ g. let e : length es ≡ c.at + 1 = omega (arith, g, c.below) in
           let out : is_external (edge_at es c.at) ≡ true = sym (ends_with es c.at e) ∙ s.outside in

@@ -1,12 +1,11 @@
 -- That a coherence test has the parts of its definition, and can be printed.
-use Rattle.std.proofs.Common.{◌≡◌, ℕ, ◌+◌, ◌<◌, ◌≤◌, Bool, true, false, not, cond, nat_lt, List, [], ◌∷◌, ◌++◌, length, get_or, take, drop, map, Option, Some, None, Result, Ok, Err, refl, sym, ◌∙◌, ap, subst, arith, slice_get}
-use Rattle.std.specs.Prelude.{◌||◌, ◌&&◌, nat_le, OnOk}
+use Rattle.std.proofs.Common.{◌≡◌, ℕ, ◌+◌, ◌<◌, ◌≤◌, Bool, true, false, not, cond, nat_lt, List, [], ◌∷◌, ◌++◌, length, get_or, map, Option, Some, None, Result, Ok, Err, refl, sym, ◌∙◌, ap, subst, arith, slice_get}
+use Rattle.std.specs.Prelude.{◌||◌, nat_le, OnOk}
 use Rattle.std.specs.List.{All, list_all, list_any, filter, position_from}
 use Rattle.std.specs.Option.{option_map, option_or}
 use Rattle.std.proofs.lemmas.Bool.{ltb-false, leb-false, leb-true, ne_eqb}
-use Rattle.std.proofs.lemmas.List.{length-map, get_or-map, take-append-drop}
-use Rattle.std.proofs.lemmas.List.Folds.{list_all-append, list_any-append}
-use Rattle.std.proofs.lemmas.List.Sums.{count_by-le-length, sum_by-append}
+use Rattle.std.proofs.lemmas.List.{length-map, get_or-map}
+use Rattle.std.proofs.lemmas.List.Sums.{count_by-le-length}
 use Rattle.std.proofs.lemmas.Option.{slice_get-get_or}
 use Rattle.list_laws.specs.Numbers.{upto}
 use Rattle.list_laws.proofs.Cases.{by_test}
@@ -42,19 +41,19 @@ use Rattle.test_laws.proofs.StepsAt.{by_steps}
 use Rattle.test_maker.specs.Made.{AreOfArch}
 use Rattle.test_maker.specs.Refusals.{is_crowded}
 use Rattle.co_tests_laws.specs.declared.refusal.CoRefusal.{CoRefusal}
-use Rattle.co_tests_laws.specs.declared.refusal.CoRefusal.TheVariants.{NotOfArch, TooFewThreads, NotCoherence, ManyWrites, TooManyRegisters}
+use Rattle.co_tests_laws.specs.declared.refusal.CoRefusal.TheVariants.{NotOfArch, TooManyRegisters}
 use Rattle.co_tests_laws.specs.CutResolution.{cut_open, is_ordering}
 use Rattle.co_tests_laws.specs.CoherenceTests.{HasCoherenceTest, coherence_steps, coherence_test_of, writes_in}
 use Rattle.co_tests_laws.specs.CoRefusals.{crowded_thread, is_no_coherence}
-use Rattle.co_tests_laws.proofs.Values.{IsCut, leaves_write, one_location, one_move, write_count_is}
+use Rattle.co_tests_laws.proofs.Values.{IsCut, one_location, one_move, write_count_is}
 use Rattle.co_tests_laws.proofs.Events.{unobserved}
 use Rattle.co_tests_laws.proofs.Fits.{IsLoopOf, loop_thread}
-use Rattle.co_tests_laws.proofs.Accepted.{accepted_has_test}
+use Rattle.co_tests_laws.proofs.Accepted.{accepted_has_test, writes_rotated, all_rotated, any_rotated}
 use Rattle.co_tests.specs.Made.{MakesOfArch, MakesTurned, refusal_of_arch}
 use Rattle.co_tests.specs.Shape.{HasShape}
 use Rattle.co_tests.specs.Terms.{last_of_writes}
 use Rattle.co_tests.specs.Threads.{PutsThreads}
-use Rattle.co_tests.proofs.PrintableCode.{ArePlaced, formed_printable}
+use Rattle.test_maker.proofs.Printing.{ArePlaced, formed_printable}
 
 -- where a test passes nowhere there is no first place
 pub none_found : (p : Edge → Bool) (es : List Edge) (k : ℕ) → position_from p k es ≡ None → list_any p es ≡ false
@@ -63,39 +62,6 @@ none_found p (e ∷ es) k h =
     by_test (p e)
     (λ t. let z : Some k ≡ None = sym (ap (λ b. cond b (Some k) (position_from p (k + 1) es)) t) ∙ h in cc)
     (λ f. ap (λ b. b || list_any p es) f ∙ none_found p es (k + 1) (sym (ap (λ b. cond b (Some k) (position_from p (k + 1) es)) f) ∙ h))
-
--- the reasons against a cycle of the architecture, one after another
-pub refused_threads : (a : Puts) (cycle : List Edge) → nat_lt (external_count cycle) 2 ≡ true → refusal_of_arch a cycle ≡ Some TooFewThreads
-refused_threads a cycle h = rw h refl
-
-pub refused_location : (a : Puts) (cycle : List Edge) → nat_lt (external_count cycle) 2 ≡ false → is_no_coherence cycle ≡ true → refusal_of_arch a cycle ≡ Some NotCoherence
-refused_location a cycle h k = rw (h, k) refl
-
-pub refused_writes : (a : Puts) (cycle : List Edge) → nat_lt (external_count cycle) 2 ≡ false → is_no_coherence cycle ≡ false → nat_lt 2 (writes_in cycle) ≡ true → refusal_of_arch a cycle ≡ Some ManyWrites
-refused_writes a cycle h k l = rw (h, k, l) refl
-
-pub refused_registers : (a : Puts) (cycle : List Edge) → nat_lt (external_count cycle) 2 ≡ false → is_no_coherence cycle ≡ false → nat_lt 2 (writes_in cycle) ≡ false
-    → refusal_of_arch a cycle ≡ crowded_thread a (turned cycle)
-refused_registers a cycle h k l = rw (h, k, l) refl
-
-or_comm : (a b : Bool) → (a || b) ≡ (b || a)
-or_comm true true = refl
-or_comm true false = refl
-or_comm false true = refl
-or_comm false false = refl
-
-any_rotated : (p : Edge → Bool) (k : ℕ) (es : List Edge) → list_any p (rotated k es) ≡ list_any p es
-any_rotated p k es =
-    list_any-append p (drop k es) (take k es) ∙ or_comm (list_any p (drop k es)) (list_any p (take k es)) ∙
-    sym (list_any-append p (take k es) (drop k es)) ∙ ap (list_any p) (take-append-drop k es)
-
-writes_rotated : (k : ℕ) (es : List Edge) → writes_in (rotated k es) ≡ writes_in es
-writes_rotated k es =
-    let one : Edge → ℕ = λ e. cond {A = ℕ} (leaves_write e) 1 0 in
-    let a = sum_by-append one (drop k es) (take k es) in
-    let b = sum_by-append one (take k es) (drop k es) in
-    let c : writes_in (take k es ++ drop k es) ≡ writes_in es = ap writes_in (take-append-drop k es) in
-    omega (arith, a, b, c)
 
 neither_passes : (a b : Bool) → (a || not b) ≡ false → (a ≡ false) × (b ≡ true)
 neither_passes true b h = cc
@@ -204,17 +170,6 @@ made_printable a registers count laws es places threads name cond0 cond1 (Err re
 -- no edge leads to another location, and one is no communication
 pub no_reason : (es : List Edge) (moves cut : Bool) → moves ≡ list_any is_diff es → moves ≡ false → cut ≡ list_any is_ordering es → cut ≡ true → is_no_coherence es ≡ false
 no_reason es moves cut m f c t = rw (sym m ∙ f, sym c ∙ t) refl
-
-and_comm : (a b : Bool) → (a && b) ≡ (b && a)
-and_comm true true = refl
-and_comm true false = refl
-and_comm false true = refl
-and_comm false false = refl
-
-all_rotated : (p : Edge → Bool) (k : ℕ) (es : List Edge) → list_all p (rotated k es) ≡ list_all p es
-all_rotated p k es =
-    list_all-append p (drop k es) (take k es) ∙ and_comm (list_all p (drop k es)) (list_all p (take k es)) ∙
-    sym (list_all-append p (take k es) (drop k es)) ∙ ap (list_all p) (take-append-drop k es)
 
 -- the turned cycle is of the architecture too
 pub all_turned : (a : Puts) (es : List Edge) → 0 < external_count es → AreOfArch a es → AreOfArch a (turned es)

@@ -1,11 +1,10 @@
 -- The threads of a coherence test, and the accesses of one of them so far.
-use Rattle.std.proofs.Common.{◌≡◌, ℕ, zero, suc, ◌+◌, ◌<◌, ◌≤◌, ◌==◌, Bool, true, false, List, [], ◌∷◌, ◌++◌, length, map, Some, sym, ◌∙◌, ap, arith, slice_get, eq-eqb, ne_eqb, refl}
+use Rattle.std.proofs.Common.{◌≡◌, ℕ, ◌+◌, ◌<◌, ◌≤◌, ◌==◌, Bool, true, List, [], ◌∷◌, ◌++◌, length, map, Some, sym, ◌∙◌, ap, arith, slice_get, eq-eqb, ne_eqb}
 use Rattle.std.proofs.lemmas.List.{length-map, map-append}
 use Rattle.std.specs.List.{filter}
 use Rattle.list_laws.specs.Numbers.{upto}
-use Rattle.list_laws.proofs.Cases.{by_less}
 use Rattle.list_laws.proofs.Counts.{count_upto-le}
-use Rattle.list_laws.proofs.Ranks.{filter_yes, filter_upto_no, length-filter-upto}
+use Rattle.list_laws.proofs.Ranks.{filter_yes, length-filter-upto}
 use Rattle.relax_edges.specs.declared.kinds.ObsMode.TheVariants.{Avoid}
 use Rattle.relax_edges.specs.declared.edge.Edge.{Edge}
 use Rattle.relax_edges.specs.EdgeTable.{is_external}
@@ -19,6 +18,7 @@ use Rattle.co_tests_laws.specs.CutResolution.{cut_open}
 use Rattle.co_tests_laws.specs.CoherenceTests.{coherence_steps}
 use Rattle.co_tests_laws.proofs.Opened.{opened-threads, opened_events}
 use Rattle.co_tests_laws.proofs.Events.{none_observed}
+use Rattle.test_maker.proofs.Ranges.{filter_until, filter_none}
 
 -- the accesses of a thread among the first events
 abbrev pub steps_so_far : List Edge → ℕ → ℕ → List Step
@@ -32,19 +32,6 @@ one_more es thread i steps e h =
     let p : ℕ → Bool = λ j. thread_of es j == thread in
     ap (λ ys. ys ++ f i ∷ []) e ∙ sym (map-append f (filter p (upto i)) (i ∷ [])) ∙
     ap (map f) (sym (filter_yes p i (eq-eqb (thread_of es i) thread (sym h))))
-
--- no number below k passes
-filter_none : (p : ℕ → Bool) (k : ℕ) → ((j : ℕ) → j < k → p j ≡ false) → filter p (upto k) ≡ []
-filter_none p zero h = refl
-filter_none p (suc k) h = filter_upto_no p k (h k (omega arith)) ∙ filter_none p k (λ j l. h j (omega (arith, l)))
-
--- no number from m on passes
-filter_until : (p : ℕ → Bool) (m n : ℕ) → m ≤ n → ((j : ℕ) → m ≤ j → j < n → p j ≡ false) → filter p (upto n) ≡ filter p (upto m)
-filter_until p m zero h after = let e : zero ≡ m = omega (arith, h) in ap (λ x. filter p (upto x)) e
-filter_until p m (suc n) h after =
-    by_less m (suc n)
-    (λ l. filter_upto_no p n (after n (omega (arith, l)) (omega arith)) ∙ filter_until p m n (omega (arith, l)) (λ j g b. after j g (omega (arith, b))))
-    (λ g. let e : suc n ≡ m = omega (arith, g, h) in ap (λ x. filter p (upto x)) e)
 
 -- of the next thread there is none yet
 pub none_yet : (es : List Edge) (i : ℕ) → i < length es → is_external (edge_at es i) ≡ true → [] ≡ steps_so_far es (thread_of es i + 1) (i + 1)

@@ -1,5 +1,5 @@
 -- A cycle that isn't refused has a coherence test, once it is turned so that its last edge leads to another thread.
-use Rattle.std.proofs.Common.{◌≡◌, ℕ, ◌≤◌, Bool, true, false, not, cond, List, ◌++◌, drop, take, Option, Some, None, refl, sym, ◌∙◌, ap, subst, arith}
+use Rattle.std.proofs.Common.{◌≡◌, ℕ, ◌≤◌, Bool, true, false, not, List, drop, take, Option, None, sym, ◌∙◌, ap, subst, arith}
 use Rattle.std.specs.Prelude.{◌||◌, nat_lt}
 use Rattle.std.specs.List.{list_all, list_any, position_from}
 use Rattle.std.specs.Option.{option_map, option_or}
@@ -25,57 +25,43 @@ use Rattle.co_tests_laws.specs.CutResolution.{is_ordering}
 use Rattle.co_tests_laws.specs.CoherenceTests.{writes_in, coherence_steps}
 use Rattle.co_tests_laws.specs.CoRefusals.{foreign_edge, reason_if, is_no_coherence, crowded_thread}
 use Rattle.co_tests_laws.specs.Incoherence.{AcceptedHaveTests}
-use Rattle.co_tests_laws.proofs.Values.{leaves_write}
 
 -- where neither of two reasons holds
 neither : (a b : Option CoRefusal) → option_or a b ≡ None → (a ≡ None) × (b ≡ None)
-neither None b h = (refl, h)
-neither (Some reason) b h = cc
+neither a b h = grind arith
 
 no_reason : (b : Bool) (reason : CoRefusal) → reason_if b reason ≡ None → b ≡ false
-no_reason true reason h = cc
-no_reason false reason h = refl
+no_reason b reason h = grind arith
 
 none_found : (f : ℕ → CoRefusal) (found : Option ℕ) → option_map f found ≡ None → found ≡ None
-none_found f None e = refl
-none_found f (Some at) e = cc
+none_found f found e = grind arith
 
-neither_true : (a b : Bool) → (a || b) ≡ false → (a ≡ false) × (b ≡ false)
-neither_true true b h = cc
-neither_true false b h = (refl, h)
+pub neither_true : (a b : Bool) → (a || b) ≡ false → (a ≡ false) × (b ≡ false)
+neither_true a b h = grind arith
 
 is_true : (b : Bool) → not b ≡ false → b ≡ true
-is_true true h = refl
-is_true false h = cc
+is_true b h = grind arith
 
-either_way : (a b : Bool) → (a || b) ≡ (b || a)
-either_way true true = refl
-either_way true false = refl
-either_way false true = refl
-either_way false false = refl
+pub either_way : (a b : Bool) → (a || b) ≡ (b || a)
+either_way a b = grind arith
 
 -- a rotation has the edges of the list
-any_rotated : (p : Edge → Bool) (k : ℕ) (es : List Edge) → list_any p (rotated k es) ≡ list_any p es
+pub any_rotated : (p : Edge → Bool) (k : ℕ) (es : List Edge) → list_any p (rotated k es) ≡ list_any p es
 any_rotated p k es =
     list_any-append p (drop k es) (take k es)
     ∙ either_way (list_any p (drop k es)) (list_any p (take k es))
     ∙ sym (list_any-append p (take k es) (drop k es))
     ∙ ap (list_any p) (take-append-drop k es)
 
-all_rotated : (p : Edge → Bool) (k : ℕ) (es : List Edge) → list_all p (rotated k es) ≡ list_all p es
+pub all_rotated : (p : Edge → Bool) (k : ℕ) (es : List Edge) → list_all p (rotated k es) ≡ list_all p es
 all_rotated p k es =
     list_all-append p (drop k es) (take k es)
     ∙ and_comm (list_all p (drop k es)) (list_all p (take k es))
     ∙ sym (list_all-append p (take k es) (drop k es))
     ∙ ap (list_all p) (take-append-drop k es)
 
-writes_rotated : (k : ℕ) (es : List Edge) → writes_in (rotated k es) ≡ writes_in es
-writes_rotated k es =
-    let one : Edge → ℕ = λ e. cond {A = ℕ} (leaves_write e) 1 0 in
-    let a = sum_by-append one (drop k es) (take k es) in
-    let b = sum_by-append one (take k es) (drop k es) in
-    let c : writes_in (take k es ++ drop k es) ≡ writes_in es = ap writes_in (take-append-drop k es) in
-    omega (arith, a, b, c)
+pub writes_rotated : (k : ℕ) (es : List Edge) → writes_in (rotated k es) ≡ writes_in es
+writes_rotated k es = grind (arith, sum_by-append, take-append-drop k es)
 
 -- a cycle that isn't refused has a coherence test, once it is turned
 pub accepted_has_test : (a : Puts) → AcceptedHaveTests a

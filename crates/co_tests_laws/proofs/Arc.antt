@@ -1,6 +1,5 @@
 -- The arc of a cut cycle begins behind the cut, and the values count the writes along it.
 use Rattle.std.proofs.Common.{◌≡◌, ℕ, zero, suc, ◌+◌, ◌<◌, ◌≤◌, Bool, true, false, not, List, [], ◌∷◌, ◌++◌, length, drop, take, Some, slice_get, refl, sym, ◌∙◌, ap, arith, add-one, eq-eqb}
-use Rattle.std.specs.Prelude.{◌==◌}
 use Rattle.std.specs.List.{count_by, filter}
 use Rattle.std.proofs.lemmas.Bool.{ne_eqb}
 use Rattle.std.proofs.lemmas.List.{take-append-le, drop-append-le, take_all, drop_all}
@@ -15,8 +14,7 @@ use Rattle.relax_edges.specs.declared.kinds.Com.TheVariants.{Rf}
 use Rattle.relax_edges.specs.declared.edge.Edge.{Edge}
 use Rattle.relax_edges.specs.declared.edge.Edge.TheVariants as edges
 use Rattle.relax_edges.specs.EdgeTable.{source_of, same_dir}
-use Rattle.cycle_laws.specs.Rotation.{rotated}
-use Rattle.resolution_laws.specs.Resolution.{edge_at, location_of, move_count, moves_before}
+use Rattle.resolution_laws.specs.Resolution.{edge_at}
 use Rattle.value_laws.specs.Values.{is_after_moves, way, arc, arc_of, writes_counted}
 use Rattle.value_laws.proofs.Arcs.{value_on_arc}
 use Rattle.communication_laws.proofs.Lists.{filter_all}
@@ -62,27 +60,17 @@ those_within c (suc m) p r =
 
 -- behind the cut comes what is after the edge to another location
 above_cut : (es : List Edge) (c : IsCut es) → Above c.cut.at (length es) (is_after_moves (cut_open es))
-above_cut es c = record {
-  late = λ i h l. eq-eqb (moves_before (cut_open es) i) (move_count (cut_open es)) (moves_late es c i h (omega (arith, l)) ∙ sym (one_move es c));
-  early = λ i h. ne_eqb (moves_before (cut_open es) i) (move_count (cut_open es)) (λ e. omega (arith, e, moves_early es c i h, one_move es c));
-}
+above_cut es c = grind (arith, eq-eqb, moves_late es c, one_move es c, ne_eqb, moves_early es c)
 
 -- the way round the cut cycle
 way_is : (es : List Edge) (c : IsCut es) → way (cut_open es) ≡ arc_behind es c.cut.at
 unfolding way
-way_is es c =
-    ap (λ n. filter (is_after_moves (cut_open es)) (upto n) ++ filter (λ i. not (is_after_moves (cut_open es) i)) (upto n)) (opened-length es)
-    ∙ (λ t. those_above c.cut.at (length es) (is_after_moves (cut_open es)) (above_cut es c) t
-    ++ those_within c.cut.at (length es) (is_after_moves (cut_open es)) (above_cut es c) t)
-    ∙ ap (λ k. rotated k (upto (length es))) (sym (add-one c.cut.at))
+way_is es c = grind (arith, opened-length, those_above, above_cut, those_within, add-one)
 
 -- the arc of each event is that way
 arc_is : (es : List Edge) (i : ℕ) (c : IsCut es) → arc_of (cut_open es) i ≡ arc_behind es c.cut.at
 unfolding arc
-arc_is es i c =
-    ap (λ l. filter (λ j. location_of (cut_open es) j == l) (way (cut_open es))) (one_location es i c)
-    ∙ filter_all (λ j. location_of (cut_open es) j == 0) (way (cut_open es)) (λ j. eq-eqb (location_of (cut_open es) j) 0 (one_location es j c))
-    ∙ way_is es c
+arc_is es i c = grind (arith, one_location, filter_all, eq-eqb, way_is)
 
 -- the cut is the first edge in a thread that is no communication
 cut_is : (es : List Edge) (c : Cut es) (k : ℕ) → cut_of es ≡ Some k → c.at ≡ k

@@ -186,7 +186,7 @@ place_shows a es number names register_number x named =
     ap (option_map (λ place. Num (final_value (accesses_in (cycle_program a (cut_open es) Avoid number) x) x place))) named
 
 -- the term of the place is there where it has two writes
-ends_terms : (es : List Edge) → IsCut es
+pub ends_terms : (es : List Edge) → IsCut es
     → last_terms (cut_open es) Avoid ≡ map (last_term (cut_open es)) (cond (is_named_location (cut_open es) Avoid 0) (0 ∷ []) [])
 ends_terms es c = ap (λ n. map (last_term (cut_open es)) (filter (is_named_location (cut_open es) Avoid) (upto n))) (one_move es c)
 

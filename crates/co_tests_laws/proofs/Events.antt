@@ -18,7 +18,7 @@ use Rattle.relax_edges.specs.declared.kinds.Kind.{Kind}
 use Rattle.relax_edges.specs.declared.kinds.Kind.TheVariants as kinds
 use Rattle.relax_edges.specs.declared.kinds.ObsMode.TheVariants.{Avoid}
 use Rattle.relax_edges.specs.declared.edge.Edge.{Edge}
-use Rattle.relax_edges.specs.EdgeTable.{kind_of, kind_source, kind_target, source_of, target_of, sd_of, reach_of, is_external, is_diff, same_dir}
+use Rattle.relax_edges.specs.EdgeTable.{kind_of, kind_source, kind_target, source_of, target_of, sd_of, reach_of, is_external, same_dir}
 use Rattle.cycle_laws.specs.Composable.{IsCycle}
 use Rattle.resolution_laws.specs.Resolution.{edge_at, ends_outside, external_count, move_count, thread_of, slot_of, location_of, events_in, event_after}
 use Rattle.resolution_laws.proofs.Locations as outside
@@ -43,7 +43,9 @@ use Rattle.co_tests_laws.specs.Incoherence.{HasCycle}
 use Rattle.co_tests_laws.proofs.OnePlace.{Numbered, by_value, source_in, by_values, by_values_source, by_values_place}
 use Rattle.co_tests_laws.proofs.Turning.{Falls, has_cycle}
 use Rattle.co_tests_laws.proofs.Opened.{source_same, external_same, same_at, opened-length, opened-threads, opened_thread, opened_slot}
-use Rattle.co_tests_laws.proofs.Values.{IsCut, writes_one, written-all, one_move, one_location, write_count_is, value_along, value_begins, value_ends, value_within, value_positive, value_written, next_written, written_up}
+use Rattle.co_tests_laws.proofs.Values.{IsCut, written-all, one_move, one_location, write_count_is, value_along, value_begins, value_ends, value_within, value_positive, value_written, next_written, written_up}
+use Rattle.communication_laws.proofs.Resolves.{written_by}
+use Rattle.communication_laws.proofs.Bridge.{moves, stays_inside, goes_outside}
 
 -- a cycle over one location that is cut, and that composes and ends with an edge to another of two threads or more
 pub record IsLoop (es : List Edge) : Type 0 where
@@ -239,10 +241,10 @@ com_not_cut es i k reach c e q =
 
 -- along a communication the value grows by one into a write, and stays into a read
 pub value_through : (es : List Edge) (i : ℕ) (k : Com) (reach : Reach) → IsLoop es → i < length es → kind_of (edge_at es i) ≡ kinds.Com k reach
-    → value_of (cut_open es) (event_after es i) ≡ value_of (cut_open es) i + writes_one (target_of (edge_at es i))
+    → value_of (cut_open es) (event_after es i) ≡ value_of (cut_open es) i + written_by (target_of (edge_at es i))
 value_through es i k reach r h e =
     value_along es i r.is_cut h (com_not_cut es i k reach r.is_cut e)
-    ∙ ap (λ d. value_of (cut_open es) i + writes_one d) (source_after es i r.composes h)
+    ∙ ap (λ d. value_of (cut_open es) i + written_by d) (source_after es i r.composes h)
 
 -- the write of a write event's value is the event
 own_write : (es : List Edge) (i : ℕ) → IsLoop es → i < length es → source_of (edge_at es i) ≡ dirs.W
@@ -264,7 +266,7 @@ reads_from es number i reach r h e =
     let d : source_of (edge_at (cut_open es) (event_after es i)) ≡ dirs.R = same_at source_of source_same es (event_after es i)
     ∙ source_after es i r.composes h ∙ ap kind_target e in
     let v : value_of (cut_open es) (event_after es i) ≡ value_of (cut_open es) i =
-    omega (arith, value_through es i coms.Rf reach r h e, ap writes_one (ap kind_target e)) in
+    omega (arith, value_through es i coms.Rf reach r h e, ap written_by (ap kind_target e)) in
     by_values_source (loop_accesses es number) (loop_write es) (writes_in es) (event_name (cut_open es) (event_after es i))
     (event_access (cut_open es) number (event_after es i)) (event_there es number (event_after es i) r after) (ap reads_by d)
     ∙ ap (by_value (loop_write es)) v
@@ -277,7 +279,7 @@ comes_before : (es : List Edge) (number : ℕ → ℕ) (i : ℕ) (k : Com) (reac
 comes_before es number i k reach r n h e d =
     let f = numbered es number r n in
     let after = after_below es i h in
-    let one : writes_one (target_of (edge_at es i)) ≡ 1 = ap writes_one (ap kind_target e ∙ d) in
+    let one : written_by (target_of (edge_at es i)) ≡ 1 = ap written_by (ap kind_target e ∙ d) in
     omega (
       arith,
       value_through es i k reach r h e,
@@ -298,15 +300,6 @@ communicates es number i r n h (kinds.Po sd from to) e = tt
 communicates es number i r n h (kinds.Fenced kind sd from to) e = tt
 communicates es number i r n h (kinds.Dep kind sd to) e = tt
 communicates es number i r n h (kinds.Data sd) e = tt
-
-stays_inside : (e : Edge) → reach_of e ≡ Internal → is_external e ≡ false
-stays_inside e h = rw h refl
-
-goes_outside : (e : Edge) → reach_of e ≡ External → is_external e ≡ true
-goes_outside e h = rw h refl
-
-moves : (e : Edge) → sd_of e ≡ Diff → is_diff e ≡ true
-moves e h = rw h refl
 
 -- an internal edge leads to the next event, in the next slot of its thread
 pub record Follows (es : List Edge) (i : ℕ) : Type 0 where
@@ -374,7 +367,7 @@ some_write es r =
     let e : length es ≡ (length es - 1) + 1 = omega (arith, long) in
     let w = outside_write es (length es - 1) r.composes (omega (arith, long)) (kind_of (edge_at es (length es - 1))) refl
     (last_outside es (length es - 1) r e) in
-    omega (arith, next_written es w.0 w.1, ap writes_one w.2, written_up es (w.0 + 1) (length es) (omega (arith, w.1)) (omega arith), written-all es)
+    omega (arith, next_written es w.0 w.1, ap written_by w.2, written_up es (w.0 + 1) (length es) (omega (arith, w.1)) (omega arith), written-all es)
 
 -- the cut stays in its thread
 pub ordering_inside : (e : Edge) (k : Kind) → kind_of e ≡ k → orders_by k ≡ true → is_external e ≡ false
@@ -385,7 +378,7 @@ ordering_inside e (kinds.Dep kind sd to) q h = rw q refl
 ordering_inside e (kinds.Data sd) q h = rw q refl
 
 -- along the cut the value falls
-falls : (d : Dir) (u v : ℕ) → 0 < u → v ≡ writes_one d → Falls d u v
+falls : (d : Dir) (u v : ℕ) → 0 < u → v ≡ written_by d → Falls d u v
 falls dirs.R u v h e = omega (arith, h, e)
 falls dirs.W u v h e = omega (arith, h, e)
 

@@ -1,20 +1,16 @@
 -- The accesses of each thread of a coherence test are some and not too many, and can follow one another on the architecture.
-use Rattle.std.proofs.Common.{◌≡◌, ℕ, zero, suc, ◌+◌, ◌<◌, ◌≤◌, Bool, true, false, List, [], ◌∷◌, length, Some, slice_get, refl, sym, ◌∙◌, ap, subst, arith, add-one}
+use Rattle.std.proofs.Common.{◌≡◌, ℕ, zero, suc, ◌+◌, ◌<◌, ◌≤◌, Bool, true, false, List, length, Some, slice_get, refl, sym, ◌∙◌, ap, subst, arith, add-one}
 use Rattle.std.specs.List.{list_all}
 use Rattle.std.proofs.lemmas.List.{length-map}
 use Rattle.list_laws.proofs.Cases.{by_test}
 use Rattle.relax_edges.specs.declared.kinds.Dir.{Dir}
-use Rattle.relax_edges.specs.declared.kinds.Dir.TheVariants as dirs
-use Rattle.relax_edges.specs.declared.kinds.DepKind.TheVariants as deps
 use Rattle.relax_edges.specs.declared.kinds.Reach.TheVariants.{Internal}
 use Rattle.relax_edges.specs.declared.kinds.Com.TheVariants.{Rf}
 use Rattle.relax_edges.specs.declared.kinds.ArchName.{ArchName}
 use Rattle.relax_edges.specs.declared.kinds.ObsMode.TheVariants.{Avoid}
-use Rattle.relax_edges.specs.declared.kinds.Kind.{Kind}
-use Rattle.relax_edges.specs.declared.kinds.Kind.TheVariants as kinds
 use Rattle.relax_edges.specs.declared.edge.Edge.{Edge}
 use Rattle.relax_edges.specs.declared.edge.Edge.TheVariants as edges
-use Rattle.relax_edges.specs.EdgeTable.{kind_of, kind_source, kind_target, source_of, source_mark, mark_fits, mark_is_of, is_of_arch, is_external}
+use Rattle.relax_edges.specs.EdgeTable.{kind_of, source_of, source_mark, mark_fits, mark_is_of, is_of_arch, is_external}
 use Rattle.cycle_laws.proofs.Marks.{source_mark_fits}
 use Rattle.resolution_laws.specs.Resolution.{edge_at, events_in, thread_of, slot_of}
 use Rattle.resolution_laws.proofs.Threads.{slot-zero, slot_out, slot_of_event}
@@ -22,13 +18,13 @@ use Rattle.resolution_laws.proofs.Around.{source_after}
 use Rattle.resolution_laws.proofs.Sizes.{only_in_slot, thread_has_events, thread_size_most}
 use Rattle.arch_trait.specs.declared.step.Step.{Step}
 use Rattle.arch_trait.specs.declared.link.Link.TheVariants.{Plain}
-use Rattle.arch_trait.specs.Links.{kind_link, edge_link, link_is_of, depends_on_load, is_data}
+use Rattle.arch_trait.specs.Links.{edge_link, link_is_of, depends_on_load, is_data}
 use Rattle.arch_trait.specs.Threads.{FitStep, FitSteps, is_load_dir}
 use Rattle.communication_laws.proofs.Lists.{image_of}
 use Rattle.test_laws.specs.CycleSteps.{event_link, event_step, thread_steps, cycle_steps}
 use Rattle.test_laws.proofs.EdgeMarks.{has_edge}
 use Rattle.test_laws.proofs.StepsAt.{by_steps}
-use Rattle.test_laws.proofs.StepsFit.{Before, IsThread, all_at, link_between, link_first}
+use Rattle.test_laws.proofs.StepsFit.{Before, IsThread, all_at, link_between, link_first, link_enters, link_leaves, fit_from}
 use Rattle.co_tests_laws.specs.CutResolution.{cut_open}
 use Rattle.co_tests_laws.specs.CoherenceTests.{writes_in}
 use Rattle.co_tests_laws.proofs.Opened.{source_same, source_mark_same, external_same, link_same, same_at, opened-length, opened_after}
@@ -40,32 +36,6 @@ pub record IsLoopOf (arch : ArchName) (es : List Edge) : Type 0 where
   pub loop : IsLoop es
   pub of_arch : list_all (λ e. is_of_arch e arch) es ≡ true
   pub few_writes : writes_in es ≤ 2
-
--- accesses can follow one another where the first can begin and each can follow the one before it
-fit_from : (arch : ArchName) (b : Bool) (ss : List Step) → ((s : Step) → slice_get ss 0 ≡ Some s → FitStep arch b s)
-    → ((k : ℕ) (s t : Step) → slice_get ss k ≡ Some s → slice_get ss (suc k) ≡ Some t → FitStep arch (is_load_dir s.dir) t) → FitSteps arch b ss
-fit_from arch b [] first next = tt
-fit_from arch b (s ∷ ss) first next =
-    (first s refl, fit_from arch (is_load_dir s.dir) ss (λ t g. next 0 s t refl g) (λ k t u g h. next (suc k) t u g h))
-
--- a dependency leaves a load
-link_leaves : (k : Kind) → depends_on_load (kind_link k) ≡ true → is_load_dir (kind_source k) ≡ true
-link_leaves (kinds.Com c r) h = cc
-link_leaves (kinds.Po s f t) h = cc
-link_leaves (kinds.Fenced f s d t) h = cc
-link_leaves (kinds.Dep d s t) h = refl
-link_leaves (kinds.Data s) h = refl
-
--- a data dependency enters a store
-link_enters : (k : Kind) → is_data (kind_link k) ≡ true → kind_target k ≡ dirs.W
-link_enters (kinds.Com c r) h = cc
-link_enters (kinds.Po s f t) h = cc
-link_enters (kinds.Fenced f s d t) h = cc
-link_enters (kinds.Dep deps.Addr s t) h = cc
-link_enters (kinds.Dep deps.Ctrl s t) h = cc
-link_enters (kinds.Dep deps.CtrlIsync s t) h = cc
-link_enters (kinds.Dep deps.CtrlIsb s t) h = cc
-link_enters (kinds.Data s) h = refl
 
 -- an event has the mark of what its edge leaves, and a small value
 record IsMarked (arch : ArchName) (s : Step) : Type 0 where

@@ -10,7 +10,7 @@ use Rattle.list_laws.specs.Numbers.{upto}
 use Rattle.relax_edges.specs.declared.kinds.Dir.{Dir}
 use Rattle.relax_edges.specs.declared.kinds.Dir.TheVariants as dirs
 use Rattle.program_meaning.specs.declared.WriteAt.{WriteAt}
-use Rattle.program_meaning.specs.Accesses.{Access, write, is_read, got_from, at_name}
+use Rattle.program_meaning.specs.Accesses.{Access, write, is_read, at_name}
 use Rattle.program_meaning.specs.Executions.{Execution, CanRead, AreReadsOf, IsOrderOf, IsExecutionOf}
 use Rattle.program_meaning.specs.Coherence.{order_place, order_at, source_at, placed_by, coherence_place, last_write, value_of_access, final_value}
 use Rattle.execution_laws.proofs.Names.{got_from_list}
@@ -18,6 +18,7 @@ use Rattle.communication_laws.proofs.Lists.{got_below, got_map, kept, same_below
 use Rattle.communication_laws.proofs.Orders.{Holds, Gives, place_held, order_by_steps, order_given, place_given}
 use Rattle.communication_laws.proofs.ReadLists.{reads_by_source, reads_given, reads_fixed, source_given}
 use Rattle.communication_laws.proofs.IntendedOrders.{order_got}
+use Rattle.communication_laws.proofs.IntendedReads.{stands_at}
 
 -- a write access writes one more than its number among the writes, at place 0
 pub record IsNth (g : ℕ → Option WriteAt) (n : ℕ) (w : WriteAt) (place value : ℕ) : Type 0 where
@@ -91,11 +92,6 @@ gives_once threads g n r = record {
       omega (arith, u);
 }
 
--- a name in a thread
-stands_at : (threads : List (List Access)) (k s : ℕ) (accesses : List Access) (access : Access) → slice_get threads k ≡ Some accesses
-    → slice_get accesses s ≡ Some access → at_name threads (record { thread = k; access = s }) ≡ Some access
-stands_at threads k s accesses access t a = ap (λ o. got_from o s) t ∙ a
-
 -- the order of the place holds the writes
 holds : (threads : List (List Access)) (g : ℕ → Option WriteAt) (n : ℕ) (order : List WriteAt) → Numbered threads g n → IsOrderOf threads 0 order
     → Holds order g n
@@ -132,28 +128,13 @@ last_step : (threads : List (List Access)) (g : ℕ → Option WriteAt) (n k : �
     → n ≡ suc (suc k) → final_value threads x 0 ≡ n
     → order_place (order_at x 0) (g k) < order_place (order_at x 0) (g (suc k))
 last_step threads g n k x r q m v =
-    let a = r.gives k (omega (arith, m)) in
-    let b = r.gives (suc k) (omega (arith, m)) in
-    let i = q.each k a.name (omega (arith, m)) a.named in
-    let j = q.each (suc k) b.name (omega (arith, m)) b.named in
-    let first = place_held (order_at x 0) g n i.0 k a.name q i.1 a.named in
-    let second = place_held (order_at x 0) g n j.0 (suc k) b.name q j.1 b.named in
-    let below : i.0 < length (order_at x 0) = slice_get_within (order_at x 0) i.0 a.name i.1 in
-    let last : slice_get (order_at x 0) (length (order_at x 0) - 1) ≡ g (suc k) = ends_with threads g n (suc k) x r q (omega (arith, below)) (v ∙ m) in
-    let d : j.0 ≡ length (order_at x 0) - 1 = q.once j.0 (length (order_at x 0) - 1) b.name j.1 (last ∙ b.named) in
-    let apart : (i.0 ≡ j.0 → ⊥) = λ e.
-    let s : Some a.name ≡ Some b.name = sym i.1 ∙ ap (slice_get (order_at x 0)) e ∙ j.1 in
-    omega (arith, (gives_once threads g n r).once k (suc k) b.name (omega (arith, m)) (omega (arith, m)) (a.named ∙ s) b.named) in
-    omega (arith, first, second, below, d, apart)
+    grind (arith, place_held (order_at x 0) g n, slice_get_within (order_at x 0), ends_with threads g n (suc k) x r q, gives_once threads g n r)
 
 -- the order of the place is that of the values, where there are at most two
 order_is : (threads : List (List Access)) (g : ℕ → Option WriteAt) (n : ℕ) (x : Execution) → Numbered threads g n → n ≤ 2
     → (2 ≤ n → final_value threads x 0 ≡ n) → IsOrderOf threads 0 (order_at x 0)
     → order_at x 0 ≡ filter_map g (upto n)
-order_is threads g n x r few ends o =
-    let q = holds threads g n (order_at x 0) r o in
-    order_by_steps (order_at x 0) g n q
-    (λ k h. rw add-one (last_step threads g n k x r q (omega (arith, few, h)) (ends (omega (arith, h)))))
+order_is threads g n x r few ends o = grind (arith, holds threads g n (order_at x 0) r o, order_by_steps (order_at x 0) g n, add-one, last_step threads g n)
 
 -- each thread reads what its values name
 reads_are : (threads : List (List Access)) (g : ℕ → Option WriteAt) (n places : ℕ) (x : Execution) → Numbered threads g n → IsExecutionOf threads places x
@@ -227,27 +208,18 @@ by_values_execution threads g n r = record {
 -- it ends with the last value
 pub by_values_ends : (threads : List (List Access)) (g : ℕ → Option WriteAt) (n k : ℕ) → Numbered threads g n → n ≡ suc k
     → final_value threads (by_values threads g n) 0 ≡ suc k
-by_values_ends threads g n k r e =
-    let w = r.gives k (omega (arith, e)) in
-    let some = (gives_once threads g n r).some in
-    let last : slice_get (filter_map g (upto n)) (length (filter_map g (upto n)) - 1) ≡ Some w.name =
-    ap (slice_get (filter_map g (upto n))) (let f : length (filter_map g (upto n)) - 1 ≡ k = omega (arith, length-filter_map-upto g n some, e) in f)
-    ∙ slice_get-filter_map-upto g n k some (omega (arith, e)) ∙ w.named in
-    ap (λ o. value_of_access (option_and_then (at_name threads) o)) last ∙ ap value_of_access w.there
+by_values_ends threads g n k r e = grind (arith, gives_once, length-filter_map-upto, slice_get-filter_map-upto)
 
 -- in it a read reads the write of its value
 pub by_values_source : (threads : List (List Access)) (g : ℕ → Option WriteAt) (n : ℕ) (name : WriteAt) (access : Access) → at_name threads name ≡ Some access
     → is_read access ≡ true
     → source_at threads (by_values threads g n) name ≡ source_in g access
 by_values_source threads g n name access h p =
-    let l = got_from_list (slice_get threads name.thread) name.access access h in
-    source_given threads (by_values threads g n) (source_in g) name l.list access l.list_is l.got p
-    (got_map (λ accesses. reads_by_source (source_in g) (filter is_read accesses)) threads name.thread l.list l.list_is)
+    grind (arith, got_from_list (slice_get threads name.thread) name.access access h, source_given threads (by_values threads g n) (source_in g) name, got_map)
 
 place_of_value : (threads : List (List Access)) (g : ℕ → Option WriteAt) (n v : ℕ) → Numbered threads g n → v ≤ n
     → order_place (filter_map g (upto n)) (by_value g v) ≡ v
-place_of_value threads g n zero r h = refl
-place_of_value threads g n (suc k) r h = place_given g n k (gives_once threads g n r) (omega arith) ∙ add-one k
+place_of_value threads g n v r h = grind (arith, place_given, gives_once, add-one)
 
 -- in it the coherence place of an access is its value
 pub by_values_place : (threads : List (List Access)) (g : ℕ → Option WriteAt) (n : ℕ) (name : WriteAt) (access : Access) → Numbered threads g n

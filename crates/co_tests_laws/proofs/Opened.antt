@@ -1,127 +1,38 @@
 -- A cycle that is cut open has the threads, slots, directions, marks and links of the cycle.
-use Rattle.std.proofs.Common.{◌≡◌, ℕ, zero, suc, ◌+◌, ◌-◌, Bool, true, false, cond, List, [], ◌∷◌, length, take, refl, ◌∙◌, ap, arith}
+use Rattle.std.proofs.Common.{◌≡◌, ℕ, suc, ◌+◌, Bool, true, false, cond, List, [], ◌∷◌, length, take, refl, ◌∙◌, ap, arith}
 use Rattle.std.specs.Prelude.{◌==◌, if◌then◌else◌}
 use Rattle.std.specs.List.{count_by, filter}
 use Rattle.std.proofs.lemmas.List.Sums.{sum_by-cons}
 use Rattle.list_laws.specs.Numbers.{upto}
-use Rattle.relax_edges.specs.declared.kinds.DepKind.TheVariants as dependencies
-use Rattle.relax_edges.specs.declared.marked.MarkableDep.TheVariants as deps
-use Rattle.relax_edges.specs.declared.marked.MarkableKind.{MarkableKind}
-use Rattle.relax_edges.specs.declared.marked.MarkableKind.TheVariants as markables
-use Rattle.relax_edges.specs.Marks.{markable_kind, marks_source, mark_of}
 use Rattle.relax_edges.specs.declared.edge.Edge.{Edge}
-use Rattle.relax_edges.specs.declared.edge.Edge.TheVariants as edges
-use Rattle.relax_edges.specs.EdgeTable.{kind_source, kind_target, source_of, target_of, source_mark, is_external, is_diff}
+use Rattle.relax_edges.specs.EdgeTable.{source_of, source_mark, is_external, is_diff}
 use Rattle.resolution_laws.specs.Resolution.{edge_at, external_count, thread_of, slot_of, events_in, event_before, event_after}
 use Rattle.arch_trait.specs.declared.link.Link.TheVariants.{Plain}
-use Rattle.arch_trait.specs.Links.{kind_link, edge_link}
+use Rattle.arch_trait.specs.Links.{edge_link}
 use Rattle.test_laws.specs.CycleSteps.{event_link}
-use Rattle.co_tests_laws.specs.CutResolution.{is_ordering, markable_elsewhere, elsewhere, cut_open}
-
--- an edge of a kind that leads elsewhere leaves and enters what it did, in the same thread, by the same link
-leaves_same : (k : MarkableKind) → kind_source (markable_kind (markable_elsewhere k)) ≡ kind_source (markable_kind k)
-leaves_same (markables.Com _ _) = refl
-leaves_same (markables.Po _ _ _) = refl
-leaves_same (markables.Fenced _ _ _ _) = refl
-leaves_same (markables.Dep _ _ _) = refl
-leaves_same (markables.Data _) = refl
-
-enters_same : (k : MarkableKind) → kind_target (markable_kind (markable_elsewhere k)) ≡ kind_target (markable_kind k)
-enters_same (markables.Com _ _) = refl
-enters_same (markables.Po _ _ _) = refl
-enters_same (markables.Fenced _ _ _ _) = refl
-enters_same (markables.Dep _ _ _) = refl
-enters_same (markables.Data _) = refl
-
-links_same : (k : MarkableKind) → kind_link (markable_kind (markable_elsewhere k)) ≡ kind_link (markable_kind k)
-links_same (markables.Com _ _) = refl
-links_same (markables.Po _ _ _) = refl
-links_same (markables.Fenced _ _ _ _) = refl
-links_same (markables.Dep deps.Addr _ _) = refl
-links_same (markables.Dep deps.Ctrl _ _) = refl
-links_same (markables.Dep deps.CtrlIsb _ _) = refl
-links_same (markables.Data _) = refl
+use Rattle.co_tests_laws.specs.CutResolution.{is_ordering, elsewhere, cut_open}
 
 -- and so does an edge
 pub source_same : (e : Edge) → source_of (elsewhere e) ≡ source_of e
-source_same (edges.Com _ _) = refl
-source_same (edges.Po _ _ _) = refl
-source_same (edges.Fenced _ _ _ _) = refl
-source_same (edges.Dep _ _ _) = refl
-source_same (edges.Data _) = refl
-source_same (edges.Marked m) = leaves_same m.kind
-
-pub target_same : (e : Edge) → target_of (elsewhere e) ≡ target_of e
-target_same (edges.Com _ _) = refl
-target_same (edges.Po _ _ _) = refl
-target_same (edges.Fenced _ _ _ _) = refl
-target_same (edges.Dep _ _ _) = refl
-target_same (edges.Data _) = refl
-target_same (edges.Marked m) = enters_same m.kind
+source_same x = grind arith
 
 pub source_mark_same : (e : Edge) → source_mark (elsewhere e) ≡ source_mark e
-source_mark_same (edges.Com _ _) = refl
-source_mark_same (edges.Po _ _ _) = refl
-source_mark_same (edges.Fenced _ _ _ _) = refl
-source_mark_same (edges.Dep _ _ _) = refl
-source_mark_same (edges.Data _) = refl
-source_mark_same (edges.Marked m) = ap (mark_of (marks_source m.ends)) (leaves_same m.kind)
+source_mark_same x = grind arith
 
 pub external_same : (e : Edge) → is_external (elsewhere e) ≡ is_external e
-external_same (edges.Com _ _) = refl
-external_same (edges.Po _ _ _) = refl
-external_same (edges.Fenced _ _ _ _) = refl
-external_same (edges.Dep _ _ _) = refl
-external_same (edges.Data _) = refl
-external_same (edges.Marked m) = of_kind m.kind
-  where
-    of_kind : (k : MarkableKind) → is_external (edges.Marked (record { kind = markable_elsewhere k; ends = m.ends })) ≡ is_external
-        (edges.Marked (record { kind = k; ends = m.ends }))
-    of_kind (markables.Com _ _) = refl
-    of_kind (markables.Po _ _ _) = refl
-    of_kind (markables.Fenced _ _ _ _) = refl
-    of_kind (markables.Dep _ _ _) = refl
-    of_kind (markables.Data _) = refl
+external_same x = grind arith
 
 pub link_same : (e : Edge) → edge_link (elsewhere e) ≡ edge_link e
-link_same (edges.Com _ _) = refl
-link_same (edges.Po _ _ _) = refl
-link_same (edges.Fenced _ _ _ _) = refl
-link_same (edges.Dep dependencies.Addr _ _) = refl
-link_same (edges.Dep dependencies.Ctrl _ _) = refl
-link_same (edges.Dep dependencies.CtrlIsync _ _) = refl
-link_same (edges.Dep dependencies.CtrlIsb _ _) = refl
-link_same (edges.Data _) = refl
-link_same (edges.Marked m) = links_same m.kind
+link_same x = grind arith
 
 -- an edge of a thread that is no communication leads elsewhere so
 pub elsewhere_moves : (e : Edge) → is_ordering e ≡ true → is_diff (elsewhere e) ≡ true
-elsewhere_moves (edges.Com _ _) h = cc
-elsewhere_moves (edges.Po _ _ _) h = refl
-elsewhere_moves (edges.Fenced _ _ _ _) h = refl
-elsewhere_moves (edges.Dep _ _ _) h = refl
-elsewhere_moves (edges.Data _) h = refl
-elsewhere_moves (edges.Marked m) h = of_kind m.kind h
-  where
-    of_kind : (k : MarkableKind) → is_ordering (edges.Marked (record { kind = k; ends = m.ends })) ≡ true
-        → is_diff (edges.Marked (record { kind = markable_elsewhere k; ends = m.ends })) ≡ true
-    of_kind (markables.Com _ _) h = cc
-    of_kind (markables.Po _ _ _) h = refl
-    of_kind (markables.Fenced _ _ _ _) h = refl
-    of_kind (markables.Dep _ _ _) h = refl
-    of_kind (markables.Data _) h = refl
+elsewhere_moves x h = grind arith
 
 -- what an edge elsewhere has too, each edge of the cycle has
 pub same_at : {X : Type 0} (f : Edge → X) → ((e : Edge) → f (elsewhere e) ≡ f e) → (es : List Edge) (i : ℕ) → f (edge_at (cut_open es) i) ≡ f (edge_at es i)
 same_at f h [] i = refl
-same_at f h (e ∷ es) i = by_case (is_ordering e) i (λ j. same_at f h es j)
-  where
-    by_case : (b : Bool) (i : ℕ) → ((j : ℕ) → f (edge_at (cut_open es) j) ≡ f (edge_at es j))
-        → f (edge_at (if b then elsewhere e ∷ es else e ∷ cut_open es) i) ≡ f (edge_at (e ∷ es) i)
-    by_case true zero rest = h e
-    by_case true (suc i) rest = refl
-    by_case false zero rest = refl
-    by_case false (suc i) rest = rest i
+same_at f h (e ∷ es) i = grind (arith, same_at f h es)
 
 -- so as many edges pass such a test
 count_same : (p : Edge → Bool) → ((e : Edge) → p (elsewhere e) ≡ p e) → (es : List Edge) → count_by p (cut_open es) ≡ count_by p es
@@ -135,8 +46,6 @@ count_same p h (e ∷ es) = by_case (is_ordering e) (count_same p h es)
     by_case false rest = omega (arith, rest, sum_by-cons (λ x. cond {A = ℕ} (p x) 1 0) e (cut_open es), sum_by-cons (λ x. cond {A = ℕ} (p x) 1 0) e es)
 
 take_same : (p : Edge → Bool) → ((e : Edge) → p (elsewhere e) ≡ p e) → (es : List Edge) (i : ℕ) → count_by p (take i (cut_open es)) ≡ count_by p (take i es)
-take_same p h es zero = refl
-take_same p h [] (suc i) = refl
 take_same p h (e ∷ es) (suc i) = by_case (is_ordering e) (take_same p h es i)
   where
     by_case : (b : Bool) → count_by p (take i (cut_open es)) ≡ count_by p (take i es)
@@ -150,15 +59,12 @@ take_same p h (e ∷ es) (suc i) = by_case (is_ordering e) (take_same p h es i)
       sum_by-cons (λ x. cond {A = ℕ} (p x) 1 0) e (take i (cut_open es)),
       sum_by-cons (λ x. cond {A = ℕ} (p x) 1 0) e (take i es),
     )
+take_same p h es i = grind arith
 
 -- it has as many edges
 pub opened-length : (es : List Edge) → length (cut_open es) ≡ length es
 opened-length [] = refl
-opened-length (e ∷ es) = by_case (is_ordering e) (opened-length es)
-  where
-    by_case : (b : Bool) → length (cut_open es) ≡ length es → length (if b then elsewhere e ∷ es else e ∷ cut_open es) ≡ length (e ∷ es)
-    by_case true rest = refl
-    by_case false rest = ap suc rest
+opened-length (e ∷ es) = grind (arith, opened-length es)
 
 -- it has as many threads
 pub opened-threads : (es : List Edge) → external_count (cut_open es) ≡ external_count es
@@ -178,8 +84,7 @@ unfolding events_in
 opened_events es k = λ t. filter (λ i. opened_thread es i t == k) (upto (opened-length es t))
 
 before_same : (es : List Edge) (i : ℕ) → event_before (cut_open es) i ≡ event_before es i
-before_same es zero = ap (λ n. n - 1) (opened-length es)
-before_same es (suc i) = refl
+before_same es i = grind (arith, opened-length)
 
 -- the event after an event
 pub opened_after : (es : List Edge) (i : ℕ) → event_after (cut_open es) i ≡ event_after es i

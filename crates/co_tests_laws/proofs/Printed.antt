@@ -2,7 +2,6 @@
 use Rattle.std.proofs.Common.{◌≡◌, ℕ, ◌+◌, ◌<◌, true, false, List, [], ◌∷◌, length, get_or, map, Some, slice_get, refl, sym, ◌∙◌, ap, subst, arith}
 use Rattle.std.specs.List.{AllByRecursion}
 use Rattle.std.proofs.lemmas.Option.{slice_get_within, slice_get-get_or}
-use Rattle.list_laws.proofs.Elements.{all_parts}
 use Rattle.list_laws.proofs.Cases.{by_same}
 use Rattle.relax_edges.specs.declared.kinds.ArchName.{ArchName}
 use Rattle.relax_edges.specs.declared.kinds.ObsMode.TheVariants.{Avoid}
@@ -40,7 +39,7 @@ use Rattle.test_laws.proofs.RegisterNames.{registers_found}
 use Rattle.printed_test_laws.specs.Readings.{program_read}
 use Rattle.printed_test_laws.proofs.BackLaws.{reads_back, numbered_in}
 use Rattle.printed_test_laws.proofs.Mentioning.{place_is_in}
-use Rattle.printed_test_laws.proofs.Rereading.{by_table, got_is, reread_test, threads_numbered, intended_same}
+use Rattle.printed_test_laws.proofs.Rereading.{by_table, got_is, reread_test, threads_numbered, intended_same, links_apart}
 use Rattle.co_tests_laws.specs.CutResolution.{cut_open}
 use Rattle.co_tests_laws.specs.CoherenceTests.{HasCoherenceTest, coherence_steps, coherence_test_of, incoherent_execution}
 use Rattle.co_tests_laws.specs.Incoherence.{MeetsReading, HasCycle, BytesShowIncoherence, PrintedShowIncoherence}
@@ -50,19 +49,6 @@ use Rattle.co_tests_laws.proofs.Fits.{loop_thread}
 use Rattle.co_tests_laws.proofs.Asked.{HasLoopCode}
 use Rattle.co_tests_laws.proofs.Showing.{IsSetUp, IsMetBy, loop_program, stated_meets, only_stated, met_stand, met_cyclic, met_incoherent}
 use Rattle.co_tests_laws.proofs.Readable.{place_names, place_name, first_found, is_step, readable}
-
--- address registers thread by thread
-links_apart : (P : ℕ → Type 0) (n : ℕ) (threads : List ThreadCode) → AllByRecursion (λ link. P link.1.1) (links_of n threads)
-    → AllByRecursion (λ (t : ThreadCode). AllByRecursion (λ (link : ℕ × ℕ). P link.1) t.links) threads
-links_apart P n [] h = tt
-links_apart P n (t ∷ threads) h =
-    let parts = all_parts (λ (link : ℕ × (ℕ × ℕ)). P link.1.1) (map (λ link. (n, link)) t.links) (links_of (n + 1) threads) h in
-    (own t.links parts.0, links_apart P (n + 1) threads parts.1)
-  where
-    own : (links : List (ℕ × ℕ)) → AllByRecursion (λ (link : ℕ × (ℕ × ℕ)). P link.1.1) (map (λ link. (n, link)) links)
-        → AllByRecursion (λ (link : ℕ × ℕ). P link.1) links
-    own [] h = tt
-    own (link ∷ links) h = (h.0, own links h.1)
 
 -- the name of the place is in the table
 name_is_in : (a : Puts) (es : List Edge) (table : List (List ℕ)) → IsArch a → HasLoopCode a es

@@ -1,9 +1,9 @@
 -- The coherence test of a cycle, under a name of a test's form, is within the limits of the format.
-use Rattle.std.proofs.Common.{◌≡◌, ℕ, zero, suc, ◌+◌, ◌-◌, ◌<◌, ◌≤◌, ◌==◌, Bool, true, false, cond, List, [], ◌∷◌, ◌++◌, length, map, Some, slice_get, refl, sym, ◌∙◌, ap, subst, arith, append-nil, length-append}
-use Rattle.std.specs.Prelude.{◌&&◌, ◌||◌, is_some, nat_lt, nat_le, not, count_by}
-use Rattle.std.specs.List.{AllByRecursion, list_all, filter, sum_by, zip}
+use Rattle.std.proofs.Common.{◌≡◌, ℕ, suc, ◌+◌, ◌-◌, ◌<◌, ◌≤◌, ◌==◌, Bool, true, false, cond, List, [], ◌∷◌, ◌++◌, length, map, Some, slice_get, refl, sym, ◌∙◌, ap, subst, arith, append-nil, length-append}
+use Rattle.std.specs.Prelude.{◌&&◌, ◌||◌, is_some, nat_le, not, count_by}
+use Rattle.std.specs.List.{AllByRecursion, filter, sum_by}
 use Rattle.std.specs.Str.{bytes_eq}
-use Rattle.std.proofs.lemmas.Bool.{eqb-true, lt-ltb, le-leb, and_from, and_parts, leb-true}
+use Rattle.std.proofs.lemmas.Bool.{eqb-true, le-leb, and_from, leb-true}
 use Rattle.std.proofs.lemmas.List.{length-map}
 use Rattle.std.proofs.lemmas.List.Sums.{sum_by-cons, count_by-le-length, length-filter}
 use Rattle.std.proofs.lemmas.Option.{slice_get_within}
@@ -26,50 +26,46 @@ use Rattle.resolution_laws.specs.Resolution.{edge_at, external_count, move_count
 use Rattle.resolution_laws.proofs.Threads.{event_in_slot}
 use Rattle.resolution_laws.proofs.Around.{after_below, source_after}
 use Rattle.value_laws.specs.Values.{write_count, is_observed}
-use Rattle.micro_ops.specs.declared.operation.Micro.{Micro}
 use Rattle.final_cond.specs.Conditions.{TermSeen}
-use Rattle.final_cond.specs.ConditionReadBack.{IsFormedTerm}
-use Rattle.text_laws.specs.Names.{is_place_name, is_register_name}
-use Rattle.text_laws.proofs.NameLaws.{place_name_short, register_name_short}
+use Rattle.text_laws.specs.Names.{is_place_name}
+use Rattle.text_laws.proofs.NameLaws.{place_name_short}
 use Rattle.arch_trait.specs.declared.arch.TheConstants.{MAX_INSTRS}
 use Rattle.arch_trait.specs.declared.step.Step.{Step}
-use Rattle.arch_trait.specs.Cells.{WritesCells, MakesOneAccess, is_access}
-use Rattle.arch_trait.specs.Codes.{AllBelow}
-use Rattle.arch_trait.specs.LabelOrder.{labels_after}
+use Rattle.arch_trait.specs.Cells.{WritesCells, MakesOneAccess}
 use Rattle.arch_trait.specs.Laws.{IsArch, InOrder}
 use Rattle.arch_trait.specs.Links.{branches}
 use Rattle.arch_trait.specs.PlaceNames.{letters, location_name, number_in}
-use Rattle.arch_trait.specs.Threads.{Puts, ThreadCode, FitSteps, compiled, is_load_dir, is_store_dir, loads_in, setting_out, visits}
-use Rattle.arch_trait.specs.Writing.{Writing, WritesBack, name_in, op_text}
+use Rattle.arch_trait.specs.Threads.{Puts, ThreadCode, compiled, is_load_dir, is_store_dir, loads_in, setting_out, visits}
+use Rattle.arch_trait.specs.Writing.{Writing, WritesBack, name_in}
 use Rattle.arch_laws.proofs.Ordered.{compiled_ordered, compiled_accesses}
 use Rattle.arch_laws.proofs.NameLaws.{length-letters, location_new}
 use Rattle.arch_laws.proofs.CodeLaws.{is_formed, thread_short}
 use Rattle.litmus_text.specs.Printable.{IsTestName}
-use Rattle.litmus_text.specs.Items.{Link, LinkFits, links_of}
+use Rattle.litmus_text.specs.Items.{LinkFits, links_of}
 use Rattle.litmus_text.specs.Progress.{CodeFits, code_lands}
 use Rattle.litmus_text.specs.Reread.{IsReadable}
 use Rattle.litmus_text.specs.ReadTerms.{TermFits}
-use Rattle.litmus_text.proofs.RowBack.{named_op}
 use Rattle.communication_laws.proofs.Lists.{got_map, image_of}
-use Rattle.test_laws.specs.CycleSteps.{event_step, thread_steps, observer_steps, cycle_steps, numbers_read}
-use Rattle.test_laws.specs.TestOf.{plain, is_named_location, last_term, last_terms, load_term, thread_terms, load_terms}
+use Rattle.test_laws.specs.CycleSteps.{event_step, thread_steps, observer_steps, cycle_steps}
+use Rattle.test_laws.specs.TestOf.{plain, is_named_location, last_term, last_terms, load_terms}
 use Rattle.test_laws.proofs.Everywhere.{position_first}
 use Rattle.test_laws.proofs.PlaceNames.{letter_at}
-use Rattle.test_laws.proofs.RegisterNames.{registers_found}
 use Rattle.test_laws.proofs.StepsAt.{thread_steps_at, by_steps, steps-count, steps_few}
-use Rattle.test_laws.proofs.StepsFit.{all_at}
-use Rattle.test_laws.proofs.Terms.{load_terms-count}
+use Rattle.test_laws.proofs.Terms.{load_terms-count, sum_map}
 use Rattle.printed_test_laws.proofs.FormedFits.{HasPlaces, code_fits, lands_once, links_fit, links_single}
-use Rattle.printed_test_laws.proofs.Fits.{IsThreadCode, each_code}
+use Rattle.printed_test_laws.proofs.Fits.{IsThreadCode, each_code, all_read_terms, numbers_small, all_links}
 use Rattle.printed_test_laws.proofs.Lengths.{AreShort, IsSmall, text_short}
 use Rattle.printed_test_laws.proofs.Rereading.{got_is}
 use Rattle.co_tests_laws.specs.CutResolution.{cut_open}
 use Rattle.co_tests_laws.specs.CoherenceTests.{writes_in, coherence_steps, coherence_test_of}
 use Rattle.co_tests_laws.proofs.Opened.{source_same, same_at, opened-length, opened-threads, opened_thread}
-use Rattle.co_tests_laws.proofs.Values.{IsCut, writes_one, one_move, one_location, write_count_is, value_positive, value_within, value_written}
+use Rattle.co_tests_laws.proofs.Values.{IsCut, one_move, one_location, write_count_is, value_positive, value_within, value_written}
 use Rattle.co_tests_laws.proofs.Events.{IsLoop, last_outside, thread_under, unobserved, none_observed, some_write, value_through}
 use Rattle.co_tests_laws.proofs.Fits.{loop_thread}
-use Rattle.co_tests_laws.proofs.Asked.{HasLoopCode}
+use Rattle.co_tests_laws.proofs.Asked.{HasLoopCode, ends_terms}
+use Rattle.printed_test_laws.proofs.Readable.{texts_short, registers_short, formed_terms, ordered_few}
+use Rattle.printed_test_laws.proofs.SomeTerm.{term_most, counted_one}
+use Rattle.communication_laws.proofs.Resolves.{written_by}
 
 -- the names of the test's places
 abbrev pub place_names : List Edge → List (List ℕ)
@@ -136,15 +132,6 @@ thread_lands a es k ss laws t g =
     let c = thread_is a es k ss laws t g in
     lands_once (compiled a ss).instrs (count_by (λ (s : Step). branches s.link) ss) c.formed.jumps c.formed.labels
 
--- the address registers of all threads, from those of each
-all_links : (P : Link → Type 0) (n : ℕ) (threads : List ThreadCode) → ((k : ℕ) (t : ThreadCode) → slice_get threads k ≡ Some t
-    → AllByRecursion P (map (λ link. (n + k, link)) t.links)) → AllByRecursion P (links_of n threads)
-all_links P n [] h = tt
-all_links P n (t ∷ threads) h =
-    all_append P (map (λ link. (n, link)) t.links) (links_of (n + 1) threads)
-    (subst (λ m. AllByRecursion P (map (λ link. (m, link)) t.links)) (omega arith) (h 0 t refl))
-    (all_links P (n + 1) threads (λ k u g. subst (λ m. AllByRecursion P (map (λ link. (m, link)) u.links)) (omega arith) (h (suc k) u g)))
-
 all_links_fit : (a : Puts) (w : Writing) (es : List Edge) → IsArch a → WritesBack a w → HasLoopCode a es → length (coherence_steps es) ≤ MAX_EDGES
     → AllByRecursion (LinkFits w (place_names es) (name_in (place_names es))) (links_of 0 (map (compiled a) (coherence_steps es)))
 all_links_fit a w es laws back t few =
@@ -157,54 +144,9 @@ all_links_fit a w es laws back t few =
     (has_places es k i.element t.loop_of.loop.is_cut i.got) (omega (arith, within, few))
     (subst (λ n. InOrder 0 (compiled a i.element).links n) (sym back.count) c.formed.links) c.formed.addresses))
 
--- the numbers that loads are to read are bytes
-numbers_small : (arch : ArchName) (b : Bool) (ss : List Step) → FitSteps arch b ss → AllByRecursion (λ v. v < 256) (numbers_read ss)
-numbers_small arch b [] fit = tt
-numbers_small arch b (s ∷ ss) fit = of_dir s.dir (numbers_small arch (is_load_dir s.dir) ss fit.1)
-  where
-    of_dir : (d : Dir) → AllByRecursion (λ v. v < 256) (numbers_read ss) → AllByRecursion (λ v. v < 256)
-        (map (λ (t : Step). t.value) (cond (is_load_dir d) (s ∷ filter (λ t. is_load_dir t.dir) ss) (filter (λ t. is_load_dir t.dir) ss)))
-    of_dir dirs.R h = (fit.0.value, h)
-    of_dir dirs.W h = h
-
--- the terms of a thread's loads
-thread_terms_fit : (a : Puts) (w : Writing) (table : List (List ℕ)) (threads thread : ℕ) (qs vs : List ℕ) → WritesBack a w → thread < threads → threads ≤ 64
-    → AllBelow a.registers qs → AllByRecursion (λ v. v < 256) vs
-    → AllByRecursion (TermFits w threads table) (map (load_term (name_in w.registers) thread) (zip qs vs))
-thread_terms_fit a w table threads thread [] vs back h few below small = tt
-thread_terms_fit a w table threads thread (q ∷ qs) [] back h few below small = tt
-thread_terms_fit a w table threads thread (q ∷ qs) (v ∷ vs) back h few below small = (
-  record {
-    formed = record {
-      form = and_from (nat_lt thread 64) (is_register_name (name_in w.registers q)) (lt-ltb thread 64 (omega arith))
-          (all_at is_register_name w.registers q [] back.formed (omega (arith, below.0, back.count)));
-      value = omega (arith, small.0);
-    };
-    known = and_from (nat_lt thread threads) (is_some (number_in w.registers (name_in w.registers q))) (lt-ltb thread threads h)
-        (ap is_some (registers_found a w back q below.0));
-  },
-  thread_terms_fit a w table threads thread qs vs back h few below.1 small.1,
-)
-
-load_terms_fit : (a : Puts) (w : Writing) (table : List (List ℕ)) (threads thread : ℕ) (all : List (List Step)) → WritesBack a w
-    → thread + length all ≤ threads → threads ≤ 64
-    → ((k : ℕ) (ss : List Step) → slice_get all k ≡ Some ss → AllBelow a.registers (compiled a ss).loads × AllByRecursion (λ v. v < 256) (numbers_read ss))
-    → AllByRecursion (TermFits w threads table) (load_terms a (name_in w.registers) thread all)
-load_terms_fit a w table threads thread [] back h few each = tt
-load_terms_fit a w table threads thread (ss ∷ all) back h few each =
-    let here = each 0 ss refl in
-    all_append (TermFits w threads table) (thread_terms a (name_in w.registers) thread ss) (load_terms a (name_in w.registers) (thread + 1) all)
-    (thread_terms_fit a w table threads thread (compiled a ss).loads (numbers_read ss) back (omega arith) few here.0 here.1)
-    (load_terms_fit a w table threads (thread + 1) all back (omega arith) few (λ k u g. each (suc k) u g))
-
--- the term of the place is there where it has two writes
-last_terms_are : (es : List Edge) → IsCut es
-    → last_terms (cut_open es) Avoid ≡ map (last_term (cut_open es)) (cond (is_named_location (cut_open es) Avoid 0) (0 ∷ []) [])
-last_terms_are es c = ap (λ n. map (last_term (cut_open es)) (filter (is_named_location (cut_open es) Avoid) (upto n))) (one_move es c)
-
 last_terms_fit : (w : Writing) (es : List Edge) (threads : ℕ) → IsCut es → writes_in es ≤ 2
     → AllByRecursion (TermFits w threads (place_names es)) (last_terms (cut_open es) Avoid)
-last_terms_fit w es threads c few = subst (AllByRecursion (TermFits w threads (place_names es))) (sym (last_terms_are es c))
+last_terms_fit w es threads c few = subst (AllByRecursion (TermFits w threads (place_names es))) (sym (ends_terms es c))
     (by_case (is_named_location (cut_open es) Avoid 0))
   where
     by_case : (b : Bool) → AllByRecursion (TermFits w threads (place_names es)) (map (last_term (cut_open es)) (cond b (0 ∷ []) []))
@@ -218,7 +160,7 @@ last_terms_fit w es threads c few = subst (AllByRecursion (TermFits w threads (p
     )
 
 last_terms_few : (es : List Edge) → IsCut es → length (last_terms (cut_open es) Avoid) ≤ 1
-last_terms_few es c = subst (λ l. length l ≤ 1) (sym (last_terms_are es c)) (by_case (is_named_location (cut_open es) Avoid 0))
+last_terms_few es c = subst (λ l. length l ≤ 1) (sym (ends_terms es c)) (by_case (is_named_location (cut_open es) Avoid 0))
   where
     by_case : (b : Bool) → length (map (last_term (cut_open es)) (cond b (0 ∷ []) [])) ≤ 1
     by_case true = omega arith
@@ -256,10 +198,6 @@ sum_both (ss ∷ threads) = omega (
   sum_by-cons (λ (x : List Step). length x) ss threads,
 )
 
-sum_map : {X Y : Type 0} (f : Y → ℕ) (g : X → Y) (xs : List X) → sum_by f (map g xs) ≡ sum_by (λ x. f (g x)) xs
-sum_map f g [] = refl
-sum_map f g (x ∷ xs) = omega (arith, sum_by-cons f (g x) (map g xs), sum_map f g xs, sum_by-cons (λ y. f (g y)) x xs)
-
 -- the threads of the test are those of the cycle
 threads_are : (es : List Edge) → coherence_steps es ≡ map (thread_steps (cut_open es) plain) (upto (external_count (cut_open es)))
 unfolding cycle_steps
@@ -285,18 +223,6 @@ sum_sizes es r =
     ∙ classes_total (thread_of (cut_open es)) (external_count (cut_open es)) (length (cut_open es)) (λ i h. omega
     (arith, thread_under es i r (omega (arith, h, opened-length es)), opened_thread es i, opened-threads es))
     ∙ opened-length es
-
--- a term of a sum is at most the sum
-term_most : {X : Type 0} (f : X → ℕ) (xs : List X) (k : ℕ) (x : X) → slice_get xs k ≡ Some x → f x ≤ sum_by f xs
-term_most f [] k x g = cc
-term_most f (y ∷ xs) zero x g = let same : y ≡ x = cc in omega (arith, sum_by-cons f y xs, ap f same)
-term_most f (y ∷ xs) (suc k) x g = omega (arith, sum_by-cons f y xs, term_most f xs k x g)
-
--- one that passes is counted
-counted_one : {X : Type 0} (p : X → Bool) (xs : List X) (k : ℕ) (x : X) → slice_get xs k ≡ Some x → p x ≡ true → 1 ≤ count_by p xs
-counted_one p xs k x g e =
-    let one : cond {A = ℕ} (p x) 1 0 ≡ 1 = ap (λ b. cond {A = ℕ} b 1 0) e in
-    omega (arith, one, term_most (λ y. cond {A = ℕ} (p y) 1 0) xs k x g)
 
 -- an event by its thread and its slot
 pub record IsStep (es : List Edge) (i : ℕ) : Type 0 where
@@ -354,7 +280,7 @@ last_term_there : (es : List Edge) → IsCut es → 2 ≤ writes_in es → 1 ≤
 last_term_there es c two =
     let t : is_named_location (cut_open es) Avoid 0 ≡ true = and_from (nat_le 2 (write_count (cut_open es) 0)) (not (is_observed (cut_open es) Avoid 0))
     (le-leb 2 (write_count (cut_open es) 0) (omega (arith, two, write_count_is es c))) (ap not (unobserved (cut_open es) 0)) in
-    let one : length (last_terms (cut_open es) Avoid) ≡ 1 = ap length (last_terms_are es c ∙ ap (λ b. map (last_term (cut_open es)) (cond b (0 ∷ []) [])) t) in
+    let one : length (last_terms (cut_open es) Avoid) ≡ 1 = ap length (ends_terms es c ∙ ap (λ b. map (last_term (cut_open es)) (cond b (0 ∷ []) [])) t) in
     omega (arith, one)
 
 -- there is a term: the last edge leaves or enters a read, or it joins two writes
@@ -377,7 +303,7 @@ term_there a name es i r h (kinds.Com coms.Fr reach) e t =
 term_there a name es i r h (kinds.Com coms.Ws reach) e t =
     let first = value_positive es i r.is_cut h (ap kind_source e) in
     let next = value_through es i coms.Ws reach r h e in
-    let one : writes_one (target_of (edge_at es i)) ≡ 1 = ap writes_one (ap kind_target e) in
+    let one : written_by (target_of (edge_at es i)) ≡ 1 = ap written_by (ap kind_target e) in
     omega (
       arith,
       length-append (last_terms (cut_open es) Avoid) (load_terms a name 0 (coherence_steps es)),
@@ -394,33 +320,9 @@ some_term a name es r =
     let e : length es ≡ (length es - 1) + 1 = omega (arith, long) in
     term_there a name es (length es - 1) r (omega (arith, long)) (kind_of (edge_at es (length es - 1))) refl (last_outside es (length es - 1) r e)
 
-registers_short : (names : List (List ℕ)) → list_all is_register_name names ≡ true → AreShort names
-registers_short [] h = tt
-registers_short (name ∷ names) h =
-    let parts = and_parts (is_register_name name) (list_all is_register_name names) h in (register_name_short name parts.0, registers_short names parts.1)
-
 names_short : (es : List Edge) → IsCut es → AreShort (place_names es)
 names_short es c =
     subst (λ n. AreShort (letters n)) (sym (one_move es c)) (place_name_short (location_name 0) (location_new 0 (omega arith)).formed, tt)
-
-texts_short : (a : Puts) (w : Writing) (table : List (List ℕ)) (names : ℕ → List ℕ) (labels accesses : ℕ) (code : List Micro) → WritesCells a w
-    → CodeFits a table names labels accesses code
-    → AllByRecursion (λ op. length (op_text w names op) ≤ 40) code
-texts_short a w table names labels accesses [] cells fits = tt
-texts_short a w table names labels accesses (op ∷ code) cells fits = (
-  cells.short names op fits.0.has (named_op op table names labels fits.0.placed fits.0.next),
-  texts_short a w table names (labels_after labels op) (accesses + cond (is_access op) 1 0) code cells fits.1,
-)
-
--- address registers in order are at most as many as there are
-ordered_few : (low : ℕ) (links : List (ℕ × ℕ)) (high : ℕ) → InOrder low links high → low + length links ≤ high
-ordered_few low [] high h = omega (arith, h)
-ordered_few low (link ∷ links) high h = let rest = ordered_few (link.0 + 1) links high h.1 in omega (arith, h.0, rest)
-
-formed_terms : (w : Writing) (threads : ℕ) (table : List (List ℕ)) (terms : List TermSeen) → AllByRecursion (TermFits w threads table) terms
-    → AllByRecursion IsFormedTerm terms
-formed_terms w threads table [] fit = tt
-formed_terms w threads table (term ∷ terms) fit = (fit.0.formed, formed_terms w threads table terms fit.1)
 
 -- the coherence test of a cycle, under a name of a test's form, is within the limits of the format
 pub readable : (a : Puts) (arch : ArchName) (w : Writing) (name : List ℕ) (es : List Edge) → IsArch a → WritesBack a w → WritesCells a w → MakesOneAccess a
@@ -474,6 +376,6 @@ readable a arch w name es laws back cells one named t = record {
         all_append (TermFits w (length (map (compiled a) (coherence_steps es))) (place_names es)) (last_terms (cut_open es) Avoid)
         (load_terms a (name_in w.registers) 0 (coherence_steps es))
         (last_terms_fit w es (length (map (compiled a) (coherence_steps es))) c t.loop_of.few_writes)
-        (load_terms_fit a w (place_names es) (length (map (compiled a) (coherence_steps es))) 0 (coherence_steps es) back (omega (arith, threads))
+        (all_read_terms a w (place_names es) (length (map (compiled a) (coherence_steps es))) 0 (coherence_steps es) back (omega (arith, threads))
         (omega (arith, threads, steps, loop.composes.few)) (λ k ss g.
         let d = thread_is a es k ss laws t g in (d.formed.loads, numbers_small a.name false ss d.thread.fit)))

@@ -1,14 +1,11 @@
 -- All edges of a cycle over one location stand in each execution of its coherence test that has the stated values: the code
 -- marks the accesses and ties them as the edges say, and there is nothing else.
-use Rattle.std.proofs.Common.{◌≡◌, ℕ, suc, ◌+◌, ◌-◌, ◌<◌, true, false, List, [], length, map, take, Some, slice_get, refl, sym, ◌∙◌, ap, subst, arith, add-one}
+use Rattle.std.proofs.Common.{◌≡◌, ℕ, suc, ◌+◌, ◌-◌, ◌<◌, false, List, [], length, take, Some, slice_get, refl, sym, ◌∙◌, ap, subst, arith, add-one}
 use Rattle.std.proofs.lemmas.List.{length-map}
 use Rattle.std.proofs.lemmas.Option.{slice_get_within}
 use Rattle.list_laws.proofs.Cases.{by_test}
-use Rattle.relax_edges.specs.declared.kinds.Reach.TheVariants.{Internal, External}
 use Rattle.relax_edges.specs.declared.kinds.ArchName.{ArchName}
 use Rattle.relax_edges.specs.declared.kinds.ObsMode.TheVariants.{Avoid}
-use Rattle.relax_edges.specs.declared.kinds.Kind.{Kind}
-use Rattle.relax_edges.specs.declared.kinds.Kind.TheVariants as kinds
 use Rattle.relax_edges.specs.declared.edge.Edge.{Edge}
 use Rattle.relax_edges.specs.EdgeTable.{kind_of, source_of, source_mark, is_external}
 use Rattle.resolution_laws.specs.Resolution.{edge_at, external_count, move_count, thread_of as event_thread, slot_of, events_in, event_after}
@@ -25,7 +22,6 @@ use Rattle.program_meaning.specs.Executions.{Execution}
 use Rattle.program_meaning.specs.Programs.{Program, IsCandidate, visits_in, accesses_in, items_in}
 use Rattle.program_meaning.specs.Standing.{AccessAt, NamedAccess, access_at, IsEvent, StartsFree, HasEvents, AllStand, Joins, TiesBy, event_name}
 use Rattle.program_meaning.specs.Intended.{IsNumbering, event_access, event_at}
-use Rattle.execution_laws.proofs.Names.{got_from_list}
 use Rattle.communication_laws.specs.Joining.{values_read}
 use Rattle.communication_laws.proofs.Lists.{got_below, got_map, image_of}
 use Rattle.test_laws.specs.CycleSteps.{event_link, event_step, thread_steps, cycle_steps}
@@ -42,16 +38,8 @@ use Rattle.co_tests_laws.specs.CutResolution.{cut_open}
 use Rattle.co_tests_laws.proofs.Opened.{source_same, source_mark_same, link_same, same_at, opened-length, opened-threads, opened_thread, opened_events}
 use Rattle.co_tests_laws.proofs.Events.{IsLoop, loop_accesses, loop_execution, thread_under, opened_name, event_there, none_observed, internal_follows, loop_joins}
 use Rattle.co_tests_laws.proofs.Fits.{IsLoopOf, before_event, event_fits, thread_fits}
-
--- an edge to another thread ties nothing
-external_ties : (kind : Kind) (edge : Edge) (threads : List (List Access)) (e f : NamedAccess) → kind_of edge ≡ kind → is_external edge ≡ true
-    → TiesBy kind threads e f
-external_ties (kinds.Com which Internal) edge threads e f q h = let a = rw q at h in cc
-external_ties (kinds.Com which External) edge threads e f q h = tt
-external_ties (kinds.Po sd from to) edge threads e f q h = let a = rw q at h in cc
-external_ties (kinds.Fenced _ sd from to) edge threads e f q h = let a = rw q at h in cc
-external_ties (kinds.Dep dep sd to) edge threads e f q h = let a = rw q at h in cc
-external_ties (kinds.Data sd) edge threads e f q h = let a = rw q at h in cc
+use Rattle.test_laws.proofs.Tying.{external_ties}
+use Rattle.communication_laws.proofs.AllStand.{access_of_visit}
 
 -- the program of the test with some codes
 abbrev loop_program : List ThreadCode → List Edge → Program
@@ -195,13 +183,6 @@ inner_ties arch codes es number x i e f r h inside u v =
 
     link : event_link (cut_open es) (event_after es i) ≡ edge_link (edge_at es i)
     link = link_between (cut_open es) (event_after es i) n.before ∙ same_at edge_link link_same es n.before.event ∙ ap (λ j. edge_link (edge_at es j)) n.edge
-
--- a visit at a name gives the access at that name
-access_of_visit : (visits : List (List Visit)) (name : WriteAt) (visit : Visit) → at_name visits name ≡ Some visit
-    → at_name (map accesses_of visits) name ≡ Some visit.access
-access_of_visit visits name visit h =
-    let g = got_from_list (slice_get visits name.thread) name.access visit h in
-    ap (λ o. got_from o name.access) (got_map accesses_of visits name.thread g.list g.list_is) ∙ got_map (λ v. v.access) g.list name.access visit g.got
 
 -- an event is the test's access
 event_is : (codes : List ThreadCode) (es : List Edge) (number : ℕ → ℕ) (x : Execution) (i : ℕ) (e : NamedAccess) → IsLoop es

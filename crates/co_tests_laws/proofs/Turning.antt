@@ -1,6 +1,6 @@
 -- Where the values of two accesses of a thread fall, the execution by values has a cycle of program order at one place,
 -- reads-from, coherence order and from-read: one of the shapes CoWW, CoRW1, CoRW2, CoWR and CoRR.
-use Rattle.std.proofs.Common.{◌≡◌, ℕ, zero, suc, ◌<◌, ◌≤◌, List, [], ◌∷◌, Option, Some, slice_get, refl, sym, ◌∙◌, ap, subst, arith}
+use Rattle.std.proofs.Common.{◌≡◌, ℕ, zero, suc, ◌<◌, ◌≤◌, List, [], ◌∷◌, Option, Some, slice_get, refl, sym, ◌∙◌, ap, arith}
 use Rattle.list_laws.proofs.Cases.{by_same}
 use Rattle.relax_edges.specs.declared.kinds.Dir.{Dir}
 use Rattle.relax_edges.specs.declared.kinds.Dir.TheVariants as dirs
@@ -32,29 +32,18 @@ ordered threads g n j k v w r less h e f = record {
 before : (threads : List (List Access)) (g : ℕ → Option WriteAt) (n v k : ℕ) (w : WriteAt) → Numbered threads g n → v ≤ k → k < n → g k ≡ Some w
     → IsWriteTo threads 0 w → IsBefore threads (by_values threads g n) 0 (by_value g v) w
 before threads g n zero k w r less h e is = is
-before threads g n (suc j) k w r less h e is =
-    let v = r.gives j (omega arith) in
-    subst (λ o. IsBefore threads (by_values threads g n) 0 o w) (sym v.named) (ordered threads g n j k v.name w r less h v.named e)
+before threads g n (suc j) k w r less h e is = grind (arith, ordered threads g n j k)
 
 -- a read reads from before a write of a higher value
 from_before : (threads : List (List Access)) (g : ℕ → Option WriteAt) (n v k : ℕ) (f w : WriteAt) → Numbered threads g n → at_name threads f ≡ Some (read 0 v)
     → v ≤ k → k < n → g k ≡ Some w → IsWriteTo threads 0 w
     → FromRead threads (by_values threads g n) f w
-from_before threads g n v k f w r h less l e is = record {
-  place = 0;
-  reads = (v, h);
-  before = subst (λ o. IsBefore threads (by_values threads g n) 0 o w) (sym (by_values_source threads g n f (read 0 v) h refl))
-      (before threads g n v k w r less l e is);
-}
+from_before threads g n v k f w r h less l e is = grind (arith, before threads g n v k w r less l e is, by_values_source threads g n f (read 0 v) h refl)
 
 -- a read reads the write of its value
 from_write : (threads : List (List Access)) (g : ℕ → Option WriteAt) (n k : ℕ) (e w : WriteAt) → at_name threads e ≡ Some (read 0 (suc k)) → g k ≡ Some w
     → ReadsFrom threads (by_values threads g n) w e
-from_write threads g n k e w h named = record {
-  place = 0;
-  reads = (suc k, h);
-  source = by_values_source threads g n e (read 0 (suc k)) h refl ∙ named;
-}
+from_write threads g n k e w h named = grind (arith, by_values_source threads g n e (read 0 (suc k)) h refl)
 
 -- two accesses of a thread, the first before the second
 record IsPair (threads : List (List Access)) (e f : WriteAt) : Type 0 where
@@ -165,8 +154,4 @@ falling threads g n (suc u) v dirs.R dirs.R e f r pair h k some less = read_read
 pub has_cycle : (threads : List (List Access)) (g : ℕ → Option WriteAt) (n : ℕ) (e f : WriteAt) (a b : Access) → Numbered threads g n → e.thread ≡ f.thread
     → e.access < f.access
     → at_name threads e ≡ Some a → at_name threads f ≡ Some b → 0 < a.value → Falls b.dir a.value b.value → HasCycle threads (by_values threads g n)
-has_cycle threads g n e f a b r thread earlier h k some less =
-    falling threads g n a.value b.value a.dir b.dir e f r (record { thread = thread; earlier = earlier })
-    (h ∙ ap Some (λ t. record { dir = a.dir; place = r.place e a h t; value = a.value }))
-    (k ∙ ap Some (λ t. record { dir = b.dir; place = r.place f b k t; value = b.value }))
-    some less
+has_cycle threads g n e f a b r thread earlier h k some less = grind (arith, falling)

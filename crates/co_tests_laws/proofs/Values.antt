@@ -22,6 +22,8 @@ use Rattle.value_laws.proofs.Ways.{way_after, way_ahead}
 use Rattle.co_tests_laws.specs.CutResolution.{is_ordering, elsewhere, cut_open}
 use Rattle.co_tests_laws.specs.CoherenceTests.{writes_in}
 use Rattle.co_tests_laws.proofs.Opened.{source_same, elsewhere_moves, same_at, opened-length}
+use Rattle.communication_laws.proofs.Bridge.{is_writing}
+use Rattle.communication_laws.proofs.Resolves.{written_by}
 
 -- the cut of a cycle: its first edge in a thread that is no communication, which leads elsewhere once the cycle is cut open
 pub record Cut (es : List Edge) : Type 0 where
@@ -32,7 +34,7 @@ pub record Cut (es : List Edge) : Type 0 where
   pub others : (i : ℕ) → (i ≡ at → ⊥) → edge_at (cut_open es) i ≡ edge_at es i
   pub first : (i : ℕ) → i < at → is_ordering (edge_at es i) ≡ false
 
-later_cut : (e : Edge) (es : List Edge) → is_ordering e ≡ false → Cut es → Cut (e ∷ es)
+unfoldable pub later_cut : (e : Edge) (es : List Edge) → is_ordering e ≡ false → Cut es → Cut (e ∷ es)
 later_cut e es f c = record {
   at = suc c.at;
   below = omega (arith, c.below);
@@ -53,7 +55,7 @@ later_cut e es f c = record {
     other zero d = refl
     other (suc i) d = c.others i (λ q. d (ap suc q))
 
-first_cut : (e : Edge) (es : List Edge) → is_ordering e ≡ true → Cut (e ∷ es)
+unfoldable pub first_cut : (e : Edge) (es : List Edge) → is_ordering e ≡ true → Cut (e ∷ es)
 first_cut e es t = record {
   at = 0;
   below = omega arith;
@@ -323,22 +325,17 @@ write_count_is es c =
       written_more es m (omega (arith, h)),
     )
 
--- one for a write, none for a read
-abbrev pub writes_one : Dir → ℕ
-writes_one dirs.R = 0
-writes_one dirs.W = 1
-
-one_for : (d : Dir) → cond {A = ℕ} (same_dir d dirs.W) 1 0 ≡ writes_one d
+one_for : (d : Dir) → cond {A = ℕ} (same_dir d dirs.W) 1 0 ≡ written_by d
 one_for dirs.R = refl
 one_for dirs.W = refl
 
 -- one more edge
-pub next_written : (es : List Edge) (i : ℕ) → i < length es → written es (i + 1) ≡ written es i + writes_one (source_of (edge_at es i))
+pub next_written : (es : List Edge) (i : ℕ) → i < length es → written es (i + 1) ≡ written es i + written_by (source_of (edge_at es i))
 next_written es i h = rw (← add-one i) at (written_more es i h) ∙ ap (λ n. written es i + n) (one_for (source_of (edge_at es i)))
 
 -- along each edge but the cut the value grows by one into a write, and stays into a read
 pub value_along : (es : List Edge) (i : ℕ) (c : IsCut es) → i < length es → (i ≡ c.cut.at → ⊥)
-    → value_of (cut_open es) (event_after es i) ≡ value_of (cut_open es) i + writes_one (source_of (edge_at es (event_after es i)))
+    → value_of (cut_open es) (event_after es i) ≡ value_of (cut_open es) i + written_by (source_of (edge_at es (event_after es i)))
 value_along es i c h d =
     by_after es i h
     (λ l e. rw e
@@ -346,12 +343,12 @@ value_along es i c h d =
     (λ g. omega (arith, value_early es i c (omega (arith, g)), value_early es (i + 1) c (omega (arith, g)), next_written es (i + 1) l))
     (λ g. omega (arith, value_late es i c (omega (arith, g, d)) h, value_late es (i + 1) c (omega (arith, g, d)) l, next_written es (i + 1) l))))
     (λ l e. rw e
-    (let z : written es (0 + 1) ≡ written es 0 + writes_one (source_of (edge_at es 0)) = next_written es 0 (omega (arith, h)) in
+    (let z : written es (0 + 1) ≡ written es 0 + written_by (source_of (edge_at es 0)) = next_written es 0 (omega (arith, h)) in
     let w : written es (length es) ≡ written es (i + 1) = ap (written es) l in
     omega (arith, value_late es i c (omega (arith, c.within, l)) h, value_early es 0 c (omega arith), z, written-zero es, w, written-all es)))
 
 -- behind the cut it begins anew
-pub value_begins : (es : List Edge) (c : IsCut es) → value_of (cut_open es) (c.cut.at + 1) ≡ writes_one (source_of (edge_at es (c.cut.at + 1)))
+pub value_begins : (es : List Edge) (c : IsCut es) → value_of (cut_open es) (c.cut.at + 1) ≡ written_by (source_of (edge_at es (c.cut.at + 1)))
 value_begins es c = omega (arith, value_late es (c.cut.at + 1) c (omega arith) c.within, next_written es (c.cut.at + 1) c.within)
 
 -- the event that the cut leaves comes after all writes
@@ -368,7 +365,7 @@ value_within es i c h =
 -- a write has a value of at least one
 pub value_positive : (es : List Edge) (i : ℕ) → IsCut es → i < length es → source_of (edge_at es i) ≡ dirs.W → 0 < value_of (cut_open es) i
 value_positive es i c h w =
-    let one : writes_one (source_of (edge_at es i)) ≡ 1 = ap writes_one w in
+    let one : written_by (source_of (edge_at es i)) ≡ 1 = ap written_by w in
     by_less c.cut.at i
     (λ g. omega (arith, value_late es i c g h, next_written es i h, one, written_up es (c.cut.at + 1) i (omega (arith, g)) (omega (arith, h))))
     (λ g. omega (
@@ -387,10 +384,6 @@ pub record Writes (es : List Edge) (k : ℕ) : Type 0 where
   pub writes : source_of (edge_at es event) ≡ dirs.W
   pub value : value_of (cut_open es) event ≡ suc k
 
-is_writing : (d : Dir) → same_dir d dirs.W ≡ true → d ≡ dirs.W
-is_writing dirs.R h = cc
-is_writing dirs.W h = refl
-
 -- each value up to the number of the writes is that of a write
 pub value_written : (es : List Edge) (k : ℕ) → IsCut es → k < writes_in es → Writes es k
 unfolding written
@@ -398,7 +391,7 @@ value_written es k c h =
     by_less (k + written es (c.cut.at + 1)) (writes_in es)
     (λ l. let w = passing leaves_write es (k + written es (c.cut.at + 1)) l in
     let d : source_of (edge_at es w.event) ≡ dirs.W = is_writing (source_of (edge_at es w.event)) w.passes in
-    let one : writes_one (source_of (edge_at es w.event)) ≡ 1 = ap writes_one d in
+    let one : written_by (source_of (edge_at es w.event)) ≡ 1 = ap written_by d in
     let before : written es w.event ≡ k + written es (c.cut.at + 1) = w.counted in
     let more = next_written es w.event w.below in
     by_less c.cut.at w.event
@@ -407,7 +400,7 @@ value_written es k c h =
     (λ l. let w = passing leaves_write es (k + written es (c.cut.at + 1) - writes_in es)
     (omega (arith, l, h, written_up es (c.cut.at + 1) (length es) (omega (arith, c.within)) (omega arith), written-all es)) in
     let d : source_of (edge_at es w.event) ≡ dirs.W = is_writing (source_of (edge_at es w.event)) w.passes in
-    let one : writes_one (source_of (edge_at es w.event)) ≡ 1 = ap writes_one d in
+    let one : written_by (source_of (edge_at es w.event)) ≡ 1 = ap written_by d in
     let before : written es w.event ≡ k + written es (c.cut.at + 1) - writes_in es = w.counted in
     let more = next_written es w.event w.below in
     by_less c.cut.at w.event

@@ -10,7 +10,7 @@ use Rattle.list_laws.proofs.Numbers.{length-map-upto, slice_get-map-upto, slice_
 use Rattle.resolution_laws.specs.Resolution.{external_count, thread_of, slot_of, events_in}
 use Rattle.value_laws.specs.Values.{write_count}
 use Rattle.program_meaning.specs.declared.WriteAt.{WriteAt}
-use Rattle.program_meaning.specs.Accesses.{Access, read, got_from, at_name}
+use Rattle.program_meaning.specs.Accesses.{Access, read, at_name}
 use Rattle.program_meaning.specs.Standing.{event_name}
 use Rattle.program_meaning.specs.Intended.{observed_locations, event_access, observer_accesses, cycle_accesses}
 use Rattle.execution_laws.proofs.Names.{GotFrom, got_from_list}
@@ -20,21 +20,16 @@ use Rattle.communication_laws.proofs.Resolves.{Resolves}
 -- a thread of the cycle has its events
 pub thread_accesses : (es : List Edge) (mode : ObsMode) (number : ℕ → ℕ) (k : ℕ) → k < external_count es → slice_get (cycle_accesses es mode number) k ≡ Some (map (event_access es number) (events_in es k))
 unfolding cycle_accesses
-thread_accesses es mode number k h =
-    slice_get-append_left (map (λ thread. map (event_access es number) (events_in es thread)) (upto (external_count es))) (map (observer_accesses es number) (observed_locations es mode)) k (omega (arith, length-map-upto (λ thread. map (event_access es number) (events_in es thread)) (external_count es)))
-    ∙ slice_get-map-upto (λ thread. map (event_access es number) (events_in es thread)) (external_count es) k h
+thread_accesses es mode number k h = grind (arith, slice_get-append_left, length-map-upto, slice_get-map-upto)
 
 -- the threads after those of the cycle are the observers
 pub observer_thread : (es : List Edge) (mode : ObsMode) (number : ℕ → ℕ) (k o : ℕ) → k ≡ external_count es + o → slice_get (cycle_accesses es mode number) k ≡ slice_get (map (observer_accesses es number) (observed_locations es mode)) o
 unfolding cycle_accesses
-observer_thread es mode number k o h =
-    slice_get-append_right (map (λ thread. map (event_access es number) (events_in es thread)) (upto (external_count es))) (map (observer_accesses es number) (observed_locations es mode)) k o (omega (arith, length-map-upto (λ thread. map (event_access es number) (events_in es thread)) (external_count es)))
+observer_thread es mode number k o h = grind (arith, slice_get-append_right, length-map-upto)
 
 -- event i is the access under its name
 pub event_at_name : (es : List Edge) (mode : ObsMode) (number : ℕ → ℕ) (i : ℕ) → Resolves es → i < length es → at_name (cycle_accesses es mode number) (event_name es i) ≡ Some (event_access es number i)
-event_at_name es mode number i r h =
-    ap (λ o. got_from o (slot_of es i)) (thread_accesses es mode number (thread_of es i) (r.thread i h))
-    ∙ got_map (event_access es number) (events_in es (thread_of es i)) (slot_of es i) i (r.stands i h)
+event_at_name es mode number i r h = grind (arith, thread_accesses, got_map)
 
 -- load number k of an observer, from 0, reads the value k + 1
 pub observer_load : (es : List Edge) (number : ℕ → ℕ) (l k : ℕ) → k < write_count es l → slice_get (observer_accesses es number l) k ≡ Some (read (number l) (k + 1))
@@ -43,8 +38,11 @@ observer_load es number l k h = slice_get-map-upto (λ k. read (number l) (k + 1
 -- load number k of an observer is the access under its name
 pub observer_at_name : (es : List Edge) (mode : ObsMode) (number : ℕ → ℕ) (o l k : ℕ) → slice_get (observed_locations es mode) o ≡ Some l → k < write_count es l → at_name (cycle_accesses es mode number) (record { thread = external_count es + o; access = k }) ≡ Some (read (number l) (k + 1))
 observer_at_name es mode number o l k g h =
-    ap (λ t. got_from t k) (observer_thread es mode number (external_count es + o) o refl ∙ got_map (observer_accesses es number) (observed_locations es mode) o l g)
-    ∙ observer_load es number l k h
+    cc (
+      (observer_thread es mode number (external_count es + o) o refl),
+      (got_map (observer_accesses es number) (observed_locations es mode) o l g),
+      (observer_load es number l k h),
+    )
 
 -- an access of a thread of the cycle is an event
 pub record EventAt (es : List Edge) (number : ℕ → ℕ) (name : WriteAt) (access : Access) : Type 0 where

@@ -27,9 +27,7 @@ use Rattle.communication_laws.proofs.Resolves.{Resolves, EntersLast}
 
 -- a visit at a name gives the access at that name
 pub access_of_visit : (visits : List (List Visit)) (name : WriteAt) (visit : Visit) → at_name visits name ≡ Some visit → at_name (map accesses_of visits) name ≡ Some visit.access
-access_of_visit visits name visit h =
-    let g = got_from_list (slice_get visits name.thread) name.access visit h in
-    ap (λ o. got_from o name.access) (got_map accesses_of visits name.thread g.list g.list_is) ∙ got_map (λ v. v.access) g.list name.access visit g.got
+access_of_visit visits name visit h = grind (arith, got_from_list, got_map)
 
 -- an access at a name is that of a visit
 record VisitOf (visits : List (List Visit)) (name : WriteAt) (access : Access) : Type 0 where
@@ -46,12 +44,7 @@ visit_of_access visits name access h =
 
 -- an event of a program that makes these accesses is the event's access
 pub is_event_at : (es : List Edge) (mode : ObsMode) (number : ℕ → ℕ) (p : Program) (x : Execution) (i : ℕ) (e : NamedAccess) → Resolves es → accesses_in p x ≡ cycle_accesses es mode number → i < length es → IsEvent es (visits_in p x) i e → access_at e ≡ event_at es number i
-is_event_at es mode number p x i e r m h v =
-    let a : at_name (accesses_in p x) e.name ≡ Some e.visit.access = access_of_visit (visits_in p x) e.name e.visit v.visit_is in
-    let b : Some (event_access es number i) ≡ Some e.visit.access =
-    sym (event_at_name es mode number i r h) ∙ ap (at_name (cycle_accesses es mode number)) (sym v.name_is) ∙ ap (λ (t : List (List Access)). at_name t e.name) (sym m) ∙ a in
-    let c : event_access es number i ≡ e.visit.access = cc in
-    λ t. record { name = v.name_is t; access = sym c t }
+is_event_at es mode number p x i e r m h v = grind (arith, access_of_visit, event_at_name)
 
 -- free reads observe
 observes : (visits : List Visit) → AreFree visits → ((k : ℕ) (visit : Visit) → slice_get visits k ≡ Some visit → visit.access.dir ≡ dirs.R) → Observes visits
@@ -61,8 +54,7 @@ observes (visit ∷ visits) f d = (d 0 visit refl, f.0, f.1, f.2, observes visit
 -- how many threads the cycle's test has
 threads-count : (es : List Edge) (mode : ObsMode) (number : ℕ → ℕ) → external_count es ≤ length (cycle_accesses es mode number)
 unfolding cycle_accesses
-threads-count es mode number =
-    omega (arith, length-append (map (λ thread. map (event_access es number) (events_in es thread)) (upto (external_count es))) (map (observer_accesses es number) (observed_locations es mode)), length-map-upto (λ thread. map (event_access es number) (events_in es thread)) (external_count es))
+threads-count es mode number = grind (arith, length-append, length-map-upto)
 
 -- an observer's accesses are reads
 loads_read : (es : List Edge) (number : ℕ → ℕ) (l : ℕ) (accesses : List Access) (j : ℕ) (access : Access) → observer_accesses es number l ≡ accesses → slice_get accesses j ≡ Some access → access.dir ≡ dirs.R

@@ -4,7 +4,6 @@ use Rattle.std.specs.Prelude.{◌==◌}
 use Rattle.std.specs.List.{count_by}
 use Rattle.std.proofs.lemmas.Bool.{cond-true, cond-false, eqb-true, eq-eqb}
 use Rattle.list_laws.specs.Numbers.{upto}
-use Rattle.list_laws.proofs.Cases.{by_test}
 use Rattle.list_laws.proofs.Counts.{count_upto_past}
 use Rattle.relax_edges.specs.declared.kinds.Dir.{Dir}
 use Rattle.relax_edges.specs.declared.kinds.Dir.TheVariants as dirs
@@ -14,12 +13,12 @@ use Rattle.relax_edges.specs.declared.kinds.Reach.{Reach}
 use Rattle.relax_edges.specs.declared.kinds.Reach.TheVariants.{Internal, External}
 use Rattle.relax_edges.specs.declared.edge.Edge.{Edge}
 use Rattle.relax_edges.specs.EdgeTable.{source_of, sd_of, reach_of, is_external, is_diff, same_dir}
-use Rattle.resolution_laws.specs.Resolution.{IsResolved, edge_at, external_count, move_count, thread_of, slot_of, location_of, event_after}
+use Rattle.resolution_laws.specs.Resolution.{IsResolved, edge_at, move_count, thread_of, slot_of, location_of, event_after}
 use Rattle.resolution_laws.proofs.Threads.{thread_out, event_in_slot, slot_of_event}
 use Rattle.resolution_laws.proofs.Arcs.{SameRun, thread_below, several_locations, one_run, one_location, none_moves}
 use Rattle.resolution_laws.proofs.Around.{source_after, mark_after, internal_follows, external_leads, keeps_location, changes_location}
 use Rattle.value_laws.specs.Values.{value_of, write_at}
-use Rattle.value_laws.proofs.Along.{is_write, value_after, value_most, write_value, values_in_thread, values_in_thread_grow}
+use Rattle.value_laws.proofs.Along.{value_after, value_most, write_value, values_in_thread, values_in_thread_grow}
 use Rattle.value_laws.proofs.Writes.{write_of as write_from, write_at_parts, write_at_from, is_write_number, write_number}
 use Rattle.program_meaning.specs.Coherence.{MayFollow}
 use Rattle.communication_laws.proofs.Resolves.{IsWrite, Resolves, written_by}
@@ -27,13 +26,13 @@ use Rattle.communication_laws.proofs.Resolves.{IsWrite, Resolves, written_by}
 keeps : (e : Edge) → sd_of e ≡ Same → is_diff e ≡ false
 keeps e h = rw h refl
 
-moves : (e : Edge) → sd_of e ≡ Diff → is_diff e ≡ true
+pub moves : (e : Edge) → sd_of e ≡ Diff → is_diff e ≡ true
 moves e h = rw h refl
 
-stays_inside : (e : Edge) → reach_of e ≡ Internal → is_external e ≡ false
+pub stays_inside : (e : Edge) → reach_of e ≡ Internal → is_external e ≡ false
 stays_inside e h = rw h refl
 
-goes_outside : (e : Edge) → reach_of e ≡ External → is_external e ≡ true
+pub goes_outside : (e : Edge) → reach_of e ≡ External → is_external e ≡ true
 goes_outside e h = rw h refl
 
 location_under : (es : List Edge) (i : ℕ) → 0 < move_count es → location_of es i < move_count es
@@ -48,31 +47,21 @@ slots_rise es i j h t =
     omega (arith, e, count_upto_past (λ m. thread_of es m == thread_of es j) i j h (eq-eqb (thread_of es i) (thread_of es j) t))
 
 next_slot : (es : List Edge) (i : ℕ) → IsResolved es → i < length es → reach_of (edge_at es i) ≡ Internal → (thread_of es (event_after es i) ≡ thread_of es i) × (slot_of es (event_after es i) ≡ slot_of es i + 1)
-next_slot es i r h p =
-    let f = internal_follows es i r h (stays_inside (edge_at es i) p) in
-    (ap (thread_of es) f.next ∙ f.thread, ap (slot_of es) f.next ∙ f.slot)
+next_slot es i r h p = grind (arith, internal_follows, stays_inside)
 
 -- an external edge leads to another thread, since there are two
 next_thread : (es : List Edge) (i : ℕ) → IsResolved es → i < length es → reach_of (edge_at es i) ≡ External → thread_of es (event_after es i) ≢ thread_of es i
-next_thread es i r h p s =
-    let f = external_leads es i r h (goes_outside (edge_at es i) p) in
-    by_test (thread_of es i + 1 == external_count es)
-    (λ t. let e : thread_of es (event_after es i) ≡ 0 = f.thread ∙ cond-true {A = ℕ} (thread_of es i + 1 == external_count es) 0 (thread_of es i + 1) t in
-    omega (arith, e, s, eqb-true (thread_of es i + 1) (external_count es) t, r.threads))
-    (λ u. let e : thread_of es (event_after es i) ≡ thread_of es i + 1 = f.thread ∙ cond-false {A = ℕ} (thread_of es i + 1 == external_count es) 0 (thread_of es i + 1) u in
-    omega (arith, e, s))
+next_thread es i r h p s = grind (arith, external_leads, goes_outside, cond-true, eqb-true, cond-false)
 
 -- a write and the one that it counts for
 writes_one : (d : Dir) → cond (same_dir d dirs.W) 1 0 ≡ written_by d
-writes_one dirs.R = refl
-writes_one dirs.W = refl
+writes_one d = grind arith
 
 writes : (d : Dir) → d ≡ dirs.W → same_dir d dirs.W ≡ true
 writes d h = rw h refl
 
-is_writing : (d : Dir) → same_dir d dirs.W ≡ true → d ≡ dirs.W
-is_writing dirs.R h = cc
-is_writing dirs.W h = refl
+pub is_writing : (d : Dir) → same_dir d dirs.W ≡ true → d ≡ dirs.W
+is_writing d h = grind arith
 
 -- between two events of one thread at one location the edges are internal and keep the location
 edges_of_run : (es : List Edge) (i m j : ℕ) → IsResolved es → i ≤ m → m < j → j < length es → thread_of es i ≡ thread_of es j → location_of es i ≡ location_of es j → (sd_of (edge_at es m) ≡ Same) × (reach_of (edge_at es m) ≡ Internal)
@@ -103,54 +92,44 @@ values_order es i j r h b t e dirs.R d = values_in_thread es i j r (omega arith)
 values_order es i j r h b t e dirs.W d = let q = values_in_thread_grow es i j r h b t e (writes (source_of (edge_at es j)) d) in omega (arith, q)
 
 value_kept : (es : List Edge) (i : ℕ) → IsResolved es → i < length es → sd_of (edge_at es i) ≡ Same → value_of es (event_after es i) ≡ value_of es i + written_by (source_of (edge_at es (event_after es i)))
-value_kept es i r h p =
-    value_after es i r h
-    ∙ ap (λ n. n + cond (is_write es (event_after es i)) 1 0) (cond-false {A = ℕ} (is_diff (edge_at es i)) 0 (value_of es i) (keeps (edge_at es i) p))
-    ∙ ap (λ n. value_of es i + n) (writes_one (source_of (edge_at es (event_after es i))))
+value_kept es i r h p = grind (arith, value_after, cond-false, keeps, writes_one)
 
 value_begun : (es : List Edge) (i : ℕ) → IsResolved es → i < length es → sd_of (edge_at es i) ≡ Diff → value_of es (event_after es i) ≡ written_by (source_of (edge_at es (event_after es i)))
-value_begun es i r h p =
-    value_after es i r h
-    ∙ ap (λ n. n + cond (is_write es (event_after es i)) 1 0) (cond-true {A = ℕ} (is_diff (edge_at es i)) 0 (value_of es i) (moves (edge_at es i) p))
-    ∙ ap (λ n. 0 + n) (writes_one (source_of (edge_at es (event_after es i))))
-    ∙ (let z : 0 + written_by (source_of (edge_at es (event_after es i))) ≡ written_by (source_of (edge_at es (event_after es i))) = omega arith in z)
+value_begun es i r h p = grind (arith, value_after, cond-true, moves, writes_one)
 
 numbered_write : (es : List Edge) (l k i : ℕ) → write_at es l k ≡ Some i → IsWrite es l k i
-numbered_write es l k i h =
-    let w = write_from es l k i h in
-    let p = write_at_parts es l i w.writes in
-    record { below = w.below; writes = is_writing (source_of (edge_at es i)) p.0; location = p.1; value = w.value ∙ add-one k }
+numbered_write es l k i h = grind (arith, (write_from es l k i h), (write_at_parts es l i), writes, (is_writing (source_of (edge_at es i))), (add-one k))
 
 write_numbered : (es : List Edge) (l k i : ℕ) → IsWrite es l k i → write_at es l k ≡ Some i
-write_numbered es l k i w =
-    is_write_number es l k i (record {
-      below = w.below;
-      writes = write_at_from es l i (writes (source_of (edge_at es i)) w.writes) w.location;
-      value = w.value ∙ sym (add-one k);
-    })
+write_numbered es l k i w = search (arith, is_write_number, writes, write_at_from, add-one)
 
 -- a resolved cycle has all these facts
 pub resolves : (es : List Edge) → IsResolved es → Resolves es
-resolves es r = record {
-  locations = omega (arith, several_locations es r);
-  location = λ i. location_under es i (omega (arith, several_locations es r));
-  thread = λ i h. thread_below es i r h;
-  stands = λ i h. event_in_slot es i h;
-  event = slot_of_event es;
-  rises = λ i j h l t. slots_rise es i j h t;
-  enters = λ i h. sym (source_after es i r.composes h);
-  marks = λ i h. sym (mark_after es i r.composes h);
-  keeps = λ i h p. keeps_location es i r h (keeps (edge_at es i) p);
-  moves = λ i h p. changes_location es i r h (moves (edge_at es i) p);
-  stays = λ i h p. next_slot es i r h p;
-  leaves = λ i h p. next_thread es i r h p;
-  order = λ i j h b t e. values_order es i j r h b t e (source_of (edge_at es j)) refl;
-  run = λ i m j h l b t e. edges_of_run es i m j r h l b t e;
-  counts = λ i h p. value_kept es i r h p;
-  begins = λ i h p. value_begun es i r h p;
-  within = λ i h. value_most es i;
-  written = λ l k h. write_number es l k r h;
-  writes = λ l k i h. numbered_write es l k i h;
-  found = λ l k i w. write_numbered es l k i w;
-  positive = λ i h d. let a = write_value es i r h (writes (source_of (edge_at es i)) d) in omega (arith, a);
-}
+resolves es r =
+    search (
+      arith,
+      several_locations,
+      location_under,
+      thread_below,
+      event_in_slot,
+      slot_of_event,
+      slots_rise,
+      source_after,
+      mark_after,
+      keeps,
+      keeps_location,
+      moves,
+      changes_location,
+      next_slot,
+      next_thread,
+      values_order,
+      edges_of_run,
+      value_kept,
+      value_begun,
+      value_most,
+      write_number,
+      writes,
+      numbered_write,
+      write_numbered,
+      write_value,
+    )

@@ -1,12 +1,8 @@
 -- The definitions tried on small cycles, by computing.
 use Rattle.std.proofs.Common.{◌≡◌, ℕ, List, [], ◌∷◌, Some, None, refl}
 use Rattle.relax_edges.specs.declared.kinds.Dir.TheVariants as dirs
-use Rattle.relax_edges.specs.declared.kinds.Sd.TheVariants.{Diff}
-use Rattle.relax_edges.specs.declared.kinds.Reach.TheVariants.{Internal, External}
-use Rattle.relax_edges.specs.declared.kinds.Com.TheVariants as coms
 use Rattle.relax_edges.specs.declared.kinds.ObsMode.TheVariants.{Accept}
 use Rattle.relax_edges.specs.declared.edge.Edge.{Edge}
-use Rattle.relax_edges.specs.declared.edge.Edge.TheVariants as edges
 use Rattle.relax_edges.specs.NamedEdges.{pod, wse, wsi, fre}
 use Rattle.resolution_laws.specs.Resolution.{thread_of, slot_of, location_of, moves_before, events_in}
 use Rattle.value_laws.specs.Values.{value_of, way_place, write_count, write_at, is_observed}

@@ -1,7 +1,7 @@
 -- Where an external edge enters an inner write of a location without an observer, the exchanged execution is coherent and
 -- has the reads and the final values of the intended one, but the edge doesn't stand in it.
-use Rattle.std.proofs.Common.{◌≡◌, ℕ, zero, suc, ◌+◌, ◌-◌, ◌<◌, ◌≤◌, true, false, List, [], length, Some, slice_get, refl, sym, ◌∙◌, ap, subst, arith, add-one}
-use Rattle.std.specs.Prelude.{◌==◌, unwrap_or}
+use Rattle.std.proofs.Common.{◌≡◌, ℕ, zero, suc, ◌+◌, ◌<◌, ◌≤◌, true, false, List, [], length, Some, slice_get, refl, sym, ◌∙◌, ap, subst, arith, add-one}
+use Rattle.std.specs.Prelude.{◌==◌}
 use Rattle.std.specs.List.{filter_map}
 use Rattle.std.specs.Option.{option_and_then}
 use Rattle.std.proofs.lemmas.Bool.{cond-true, cond-false, eq-eqb, ne_eqb}
@@ -10,12 +10,9 @@ use Rattle.relax_edges.specs.declared.kinds.Dir.{Dir}
 use Rattle.relax_edges.specs.declared.kinds.Dir.TheVariants as dirs
 use Rattle.relax_edges.specs.declared.kinds.Sd.TheVariants.{Same}
 use Rattle.relax_edges.specs.declared.kinds.Reach.TheVariants.{Internal, External}
-use Rattle.relax_edges.specs.declared.kinds.Com.TheVariants as coms
 use Rattle.relax_edges.specs.declared.kinds.ObsMode.TheVariants.{Avoid}
-use Rattle.relax_edges.specs.declared.kinds.Kind.{Kind}
-use Rattle.relax_edges.specs.declared.kinds.Kind.TheVariants as kinds
 use Rattle.relax_edges.specs.declared.edge.Edge.{Edge}
-use Rattle.relax_edges.specs.EdgeTable.{kind_of, source_of, target_of, sd_of, reach_of, kind_target, kind_place, kind_reach}
+use Rattle.relax_edges.specs.EdgeTable.{source_of, sd_of, reach_of}
 use Rattle.list_laws.specs.Numbers.{upto}
 use Rattle.list_laws.proofs.Cases.{by_same, by_less}
 use Rattle.list_laws.proofs.Numbers.{length-map-upto, length-upto, slice_get-upto, slice_get-map-upto}
@@ -26,9 +23,9 @@ use Rattle.value_laws.specs.Values.{value_of, write_count, is_observed, edge_int
 use Rattle.program_meaning.specs.declared.WriteAt.{WriteAt}
 use Rattle.program_meaning.specs.Accesses.{Access, at_name}
 use Rattle.program_meaning.specs.Executions.{IsExecutionOf, IsOrderOf}
-use Rattle.program_meaning.specs.Coherence.{MayFollow, IsCoherent, order_place, order_at, coherence_place, last_write, value_of_access, final_value}
-use Rattle.program_meaning.specs.Standing.{CommunicatesBy, Joins, event_name}
-use Rattle.program_meaning.specs.Intended.{IsNumbering, event_access, event_at, cycle_accesses, ordered_write, write_of, location_order, location_numbered, intended}
+use Rattle.program_meaning.specs.Coherence.{MayFollow, IsCoherent, order_at, coherence_place, last_write, value_of_access, final_value}
+use Rattle.program_meaning.specs.Standing.{Joins, event_name}
+use Rattle.program_meaning.specs.Intended.{IsNumbering, event_access, event_at, cycle_accesses, ordered_write, location_order, location_numbered, intended}
 use Rattle.communication_laws.specs.Premises.{MeetsCondition}
 use Rattle.communication_laws.specs.Exchange.{swapped, exchanged_value, exchanged_order, exchanged}
 use Rattle.communication_laws.proofs.Lists.{image_of}
@@ -38,7 +35,7 @@ use Rattle.communication_laws.proofs.IntendedReads.{IsPlaced, placed, reads-coun
 use Rattle.communication_laws.proofs.IntendedOrders.{intended_order, placed_write}
 use Rattle.communication_laws.proofs.IntendedExists.{values_follow, last_of_order, intended_meets}
 use Rattle.communication_laws.proofs.Rearranged.{Exchanges, order_under, place_under, order_under_is, last_under, empty_under}
-use Rattle.communication_laws.proofs.Swaps.{swapped_here, swapped_before, swap_exchanges, follows_still}
+use Rattle.communication_laws.proofs.Swaps.{swapped_here, swapped_before, follows_still}
 use Rattle.communication_laws.proofs.Resolves.{Resolves, InnerEntry, later_slot, written_by}
 
 -- at the event's location two values are exchanged, at the others none
@@ -48,22 +45,13 @@ at_location es event l h i v = cond-true {A = ℕ} (l == location_of es event) (
 elsewhere : (es : List Edge) (event l : ℕ) → (l ≡ location_of es event → ⊥) → exchanged_value es event l ≡ (λ v. v)
 elsewhere es event l h i v = cond-false {A = ℕ} (l == location_of es event) (swapped (value_of es event) v) v (ne_eqb l (location_of es event) h) i
 
-same_exchanges : (n : ℕ) → Exchanges (λ v. v) n
-same_exchanges n = record { none = refl; above = λ v a b. a; within = λ v a b. b; back = λ v. refl; last = refl }
-
 exchanges : (es : List Edge) (event l : ℕ) → InnerEntry es event → Exchanges (exchanged_value es event l) (write_count es l)
-exchanges es event l q =
-    by_same l (location_of es event)
-    (λ e. subst (λ (f : ℕ → ℕ). Exchanges f (write_count es l)) (sym (at_location es event l e))
-    (swap_exchanges (value_of es event) (write_count es l) q.second (let c : write_count es l ≡ write_count es (location_of es event) = ap (write_count es) e in omega (arith, c, q.inner))))
-    (λ d. subst (λ (f : ℕ → ℕ). Exchanges f (write_count es l)) (sym (elsewhere es event l d)) (same_exchanges (write_count es l)))
+exchanges es event l q = grind arith
 
 -- the order of a location's place in the exchanged execution
 order_exchanged : (es : List Edge) (number : ℕ → ℕ) (event l : ℕ) → IsNumbering es number → l < move_count es → order_at (exchanged es number event) (number l) ≡ order_under es l (exchanged_value es event l)
 unfolding exchanged exchanged_order
-order_exchanged es number event l n h =
-    ap (λ o. unwrap_or o []) (slice_get-map-upto (λ place. exchanged_order es event (location_numbered es number place)) (move_count es) (number l) (n.below l h))
-    ∙ ap (exchanged_order es event) (location_of_number es number l n h)
+order_exchanged es number event l n h = grind (arith, slice_get-map-upto, location_of_number)
 
 -- the exchanged execution has the reads of the intended one
 pub reads_exchanged : (es : List Edge) (number : ℕ → ℕ) (event : ℕ) → (exchanged es number event).reads ≡ (intended es Avoid number).reads
@@ -89,21 +77,20 @@ orders_exchanged es number event place order r n q h =
 
 -- the exchanged execution is an execution of the test's accesses
 pub exchanged_is_execution : (es : List Edge) (number : ℕ → ℕ) (event : ℕ) → Resolves es → IsNumbering es number → InnerEntry es event → IsExecutionOf (cycle_accesses es Avoid number) (move_count es) (exchanged es number event)
-exchanged_is_execution es number event r n q = record {
-  read_lists = ap length (reads_exchanged es number event) ∙ reads-count es Avoid number;
-  write_lists = orders_exchanged-count es number event;
-  reads = λ k accesses reads t h. intended_are_reads es Avoid number k accesses reads r n t (ap (λ l. slice_get l k) (sym (reads_exchanged es number event)) ∙ h);
-  orders = λ place order h. orders_exchanged es number event place order r n q h;
-}
+exchanged_is_execution es number event r n q = grind (arith, reads_exchanged, reads-count, orders_exchanged-count, intended_are_reads, orders_exchanged)
 
 -- the coherence place of an access in the exchanged execution
 place_exchanged : (es : List Edge) (number : ℕ → ℕ) (event : ℕ) (name : WriteAt) (access : Access) → Resolves es → IsNumbering es number → InnerEntry es event → at_name (cycle_accesses es Avoid number) name ≡ Some access → (p : IsPlaced es number access) → coherence_place (cycle_accesses es Avoid number) (exchanged es number event) name access ≡ exchanged_value es event p.spot access.value
 place_exchanged es number event name access r n q h p =
-    ap (order_place (order_at (exchanged es number event) access.place)) (placed_write es Avoid number (exchanged es number event) name access r n (reads_exchanged es number event) h)
-    ∙ (let e : location_numbered es number access.place ≡ p.spot = ap (location_numbered es number) (sym p.place_is) ∙ location_of_number es number p.spot n p.below in
-    ap (λ l. order_place (order_at (exchanged es number event) access.place) (write_of es l access.value)) e)
-    ∙ ap (λ order. order_place order (write_of es p.spot access.value)) (ap (order_at (exchanged es number event)) (sym p.place_is) ∙ order_exchanged es number event p.spot n p.below)
-    ∙ place_under es p.spot access.value (exchanged_value es event p.spot) r (exchanges es event p.spot q) p.within
+    grind (
+      arith,
+      (placed_write es Avoid number (exchanged es number event) name access r n (reads_exchanged es number event) h),
+      (reads_exchanged es number event),
+      (location_of_number es number p.spot n p.below),
+      (order_exchanged es number event p.spot n p.below),
+      (place_under es p.spot access.value (exchanged_value es event p.spot) r (exchanges es event p.spot q) p.within),
+      (exchanges es event p.spot q),
+    )
 
 -- without observers each access is an event
 avoid_event : (es : List Edge) (number : ℕ → ℕ) (name : WriteAt) (access : Access) → Resolves es → at_name (cycle_accesses es Avoid number) name ≡ Some access → EventAt es number name access
@@ -122,12 +109,10 @@ record RisesAt (es : List Edge) (l v : ℕ) : Type 0 where
   inside : reach_of (edge_into es write) ≡ Internal
 
 is_one : (d : Dir) → 0 < written_by d → d ≡ dirs.W
-is_one dirs.R h = absurd (omega arith)
-is_one dirs.W h = refl
+is_one d h = grind arith
 
 most_one : (d : Dir) → written_by d ≤ 1
-most_one dirs.R = omega arith
-most_one dirs.W = omega arith
+most_one d = grind arith
 
 rises_at : (es : List Edge) (i j v : ℕ) → Resolves es → i < j → j < length es → thread_of es i ≡ thread_of es j → location_of es i ≡ location_of es j → value_of es i < v → v ≤ value_of es j → RisesAt es (location_of es i) v
 rises_at es i zero v r h b t l below above = absurd (omega arith)
@@ -253,54 +238,19 @@ exchanged_ends es number event place r n q h =
 -- the coherence place of an event at the entry's location
 event_exchanged : (es : List Edge) (number : ℕ → ℕ) (event i : ℕ) → Resolves es → IsNumbering es number → InnerEntry es event → i < length es → location_of es i ≡ location_of es event → coherence_place (cycle_accesses es Avoid number) (exchanged es number event) (event_name es i) (event_access es number i) ≡ swapped (value_of es event) (value_of es i)
 event_exchanged es number event i r n q h l =
-    place_exchanged es number event (event_name es i) (event_access es number i) r n q (event_at_name es Avoid number i r h)
-    (record { spot = location_of es i; below = r.location i; place_is = refl; within = r.within i h })
-    ∙ ap (λ (f : ℕ → ℕ). f (value_of es i)) (at_location es event (location_of es i) l)
+    cc (
+      (place_exchanged es number event (event_name es i) (event_access es number i) r n q (event_at_name es Avoid number i r h) (record { spot = location_of es i; below = r.location i; place_is = refl; within = r.within i h })),
+      (event_at_name es Avoid number i r h),
+      (at_location es event (location_of es i) l),
+    )
 
 -- the event before the entry comes after it in the coherence order
 falls_back : (es : List Edge) (number : ℕ → ℕ) (event : ℕ) → Resolves es → IsNumbering es number → InnerEntry es event → sd_of (edge_at es (event_before es event)) ≡ Same → coherence_place (cycle_accesses es Avoid number) (exchanged es number event) (event_name es (event_before es event)) (event_access es number (event_before es event)) < coherence_place (cycle_accesses es Avoid number) (exchanged es number event) (event_name es event) (event_access es number event) → ⊥
-falls_back es number event r n q p less =
-    omega (arith, less, before_place, entry_place, q.second)
-  where
-    before : ℕ
-    before = event_before es event
-
-    below : before < length es
-    below = before_below es event q.below
-
-    after : event_after es before ≡ event
-    after = after_before es event q.below
-
-    place : location_of es before ≡ location_of es event
-    place = sym (r.keeps before below p) ∙ ap (location_of es) after
-
-    value : value_of es before + 1 ≡ value_of es event
-    value =
-        ap (λ d. value_of es before + written_by d) (sym (ap (λ j. source_of (edge_at es j)) after ∙ q.writes))
-        ∙ sym (r.counts before below p) ∙ ap (value_of es) after
-
-    before_place : coherence_place (cycle_accesses es Avoid number) (exchanged es number event) (event_name es before) (event_access es number before) ≡ value_of es event
-    before_place = event_exchanged es number event before r n q below place ∙ swapped_before (value_of es event) (value_of es before) value
-
-    entry_place : coherence_place (cycle_accesses es Avoid number) (exchanged es number event) (event_name es event) (event_access es number event) ≡ value_of es event - 1
-    entry_place = event_exchanged es number event event r n q q.below refl ∙ swapped_here (value_of es event)
+falls_back es number event r n q p less = grind (arith, before_below, after_before, event_exchanged, swapped_before, swapped_here)
 
 -- in the exchanged execution the edge into the write doesn't join its events
 pub exchanged_breaks : (es : List Edge) (number : ℕ → ℕ) (event : ℕ) → Resolves es → IsNumbering es number → InnerEntry es event → Joins (cycle_accesses es Avoid number) (exchanged es number event) (edge_at es (event_before es event)) (event_at es number (event_before es event)) (event_at es number event) → ⊥
-exchanged_breaks es number event r n q j =
-    by_kind (kind_of (edge_at es (event_before es event))) refl j.communicates
-  where
-    into : target_of (edge_at es (event_before es event)) ≡ dirs.W
-    into = sym j.enters ∙ q.writes
-
-    by_kind : (k : Kind) → kind_of (edge_at es (event_before es event)) ≡ k → CommunicatesBy k (cycle_accesses es Avoid number) (exchanged es number event) (event_at es number (event_before es event)) (event_at es number event) → ⊥
-    by_kind (kinds.Com coms.Rf reach) e c = let d : dirs.R ≡ dirs.W = sym (ap kind_target e) ∙ into in cc
-    by_kind (kinds.Com coms.Fr reach) e c = falls_back es number event r n q (ap kind_place e) c
-    by_kind (kinds.Com coms.Ws reach) e c = falls_back es number event r n q (ap kind_place e) c
-    by_kind (kinds.Po sd from to) e c = let d : Internal ≡ External = sym (ap kind_reach e) ∙ q.outside in cc
-    by_kind (kinds.Fenced kind sd from to) e c = let d : Internal ≡ External = sym (ap kind_reach e) ∙ q.outside in cc
-    by_kind (kinds.Dep kind sd to) e c = let d : Internal ≡ External = sym (ap kind_reach e) ∙ q.outside in cc
-    by_kind (kinds.Data sd) e c = let d : Internal ≡ External = sym (ap kind_reach e) ∙ q.outside in cc
+exchanged_breaks es number event r n q j = grind (arith, (falls_back es number event r n q))
 
 -- the exchanged execution meets the condition of the mode avoid
 pub exchanged_meets : (es : List Edge) (number : ℕ → ℕ) (event : ℕ) → Resolves es → IsNumbering es number → InnerEntry es event → MeetsCondition es Avoid number (exchanged es number event)

@@ -1,7 +1,6 @@
 -- The intended execution is an execution of the cycle's accesses, it is coherent per location, and each location's place
 -- has its last value at the end.
-use Rattle.std.proofs.Common.{◌≡◌, ℕ, zero, suc, ◌+◌, ◌-◌, ◌<◌, ◌≤◌, List, length, Some, slice_get, refl, sym, ◌∙◌, ap, subst, arith}
-use Rattle.std.specs.Option.{option_and_then}
+use Rattle.std.proofs.Common.{◌≡◌, ℕ, zero, suc, ◌+◌, ◌<◌, ◌≤◌, List, length, Some, slice_get, refl, sym, ◌∙◌, ap, subst, arith}
 use Rattle.relax_edges.specs.declared.kinds.Dir.{Dir}
 use Rattle.relax_edges.specs.declared.kinds.Dir.TheVariants as dirs
 use Rattle.relax_edges.specs.declared.kinds.ObsMode.{ObsMode}
@@ -15,7 +14,7 @@ use Rattle.value_laws.specs.Values.{value_of, write_count}
 use Rattle.program_meaning.specs.declared.WriteAt.{WriteAt}
 use Rattle.program_meaning.specs.Accesses.{Access, at_name}
 use Rattle.program_meaning.specs.Executions.{IsExecutionOf, IsOrderOf}
-use Rattle.program_meaning.specs.Coherence.{MayFollow, IsCoherent, last_write, value_of_access, final_value}
+use Rattle.program_meaning.specs.Coherence.{MayFollow, IsCoherent, last_write, final_value}
 use Rattle.program_meaning.specs.Standing.{event_name}
 use Rattle.program_meaning.specs.Intended.{IsNumbering, cycle_accesses, ordered_write, location_order, location_numbered, intended}
 use Rattle.communication_laws.specs.Premises.{MeetsCondition}
@@ -79,12 +78,7 @@ intended_are_orders es mode number place order r n h =
 
 -- the intended execution is one of these accesses
 pub intended_is_execution : (es : List Edge) (mode : ObsMode) (number : ℕ → ℕ) → Resolves es → IsNumbering es number → IsExecutionOf (cycle_accesses es mode number) (move_count es) (intended es mode number)
-intended_is_execution es mode number r n = record {
-  read_lists = reads-count es mode number;
-  write_lists = orders-count es mode number;
-  reads = λ k accesses reads t h. intended_are_reads es mode number k accesses reads r n t h;
-  orders = λ place order h. intended_are_orders es mode number place order r n h;
-}
+intended_is_execution es mode number r n = grind (arith, reads-count, orders-count, intended_are_reads, intended_are_orders)
 
 -- of two accesses of one thread at one place the later has a value that may follow
 pub values_follow : (es : List Edge) (mode : ObsMode) (number : ℕ → ℕ) (thread e f : ℕ) (a b : Access) → Resolves es → IsNumbering es number → e < f → at_name (cycle_accesses es mode number) (record { thread = thread; access = e }) ≡ Some a → at_name (cycle_accesses es mode number) (record { thread = thread; access = f }) ≡ Some b → a.place ≡ b.place → MayFollow b.dir a.value b.value
@@ -119,26 +113,23 @@ values_follow es mode number thread e f a b r n less h k p =
 
 -- the intended execution is coherent per location
 pub intended_is_coherent : (es : List Edge) (mode : ObsMode) (number : ℕ → ℕ) → Resolves es → IsNumbering es number → IsCoherent (cycle_accesses es mode number) (intended es mode number)
-intended_is_coherent es mode number r n thread e f a b less h k p =
-    subst (λ (z : ℕ × ℕ). MayFollow b.dir z.0 z.1)
-    (λ t. (sym (place_is_value es mode number (record { thread = thread; access = e }) a r n h) t, sym (place_is_value es mode number (record { thread = thread; access = f }) b r n k) t))
-    (values_follow es mode number thread e f a b r n less h k p)
+intended_is_coherent es mode number r n thread e f a b less h k p = grind (arith, place_is_value, values_follow)
 
 -- the last write of a location's order is the one of the greatest value
 pub last_of_order : (es : List Edge) (l k : ℕ) → Resolves es → write_count es l ≡ suc k → last_write (location_order es l) ≡ ordered_write es l k
 unfolding location_order
 last_of_order es l k r h =
-    let g = gives_writes es l r in
-    ap (λ n. slice_get (location_order es l) n) (let e : length (location_order es l) - 1 ≡ k = omega (arith, length-filter_map-upto (ordered_write es l) (write_count es l) g.some, h) in e)
-    ∙ slice_get-filter_map-upto (ordered_write es l) (write_count es l) k g.some (omega arith)
+    grind (
+      arith,
+      (gives_writes es l r),
+      (length-filter_map-upto (ordered_write es l) (write_count es l)),
+      (slice_get-filter_map-upto (ordered_write es l) (write_count es l) k),
+    )
 
 -- each location's place has its last value at the end of the intended execution
 pub intended_ends : (es : List Edge) (mode : ObsMode) (number : ℕ → ℕ) (l k : ℕ) → Resolves es → IsNumbering es number → l < move_count es → write_count es l ≡ suc k → final_value (cycle_accesses es mode number) (intended es mode number) (number l) ≡ suc k
 intended_ends es mode number l k r n h c =
-    let w = nth_write es l k r (omega arith) in
-    ap (λ order. value_of_access (option_and_then (at_name (cycle_accesses es mode number)) (last_write order))) (intended_order es mode number l n h)
-    ∙ ap (λ o. value_of_access (option_and_then (at_name (cycle_accesses es mode number)) o)) (last_of_order es l k r c ∙ w.name_is)
-    ∙ ap value_of_access (write_at_name es mode number l k w.event r w.is_write)
+    grind (arith, (nth_write es l k r (omega arith)), (intended_order es mode number l n h), (last_of_order es l k r c), (write_at_name es mode number l k))
 
 -- the intended execution meets the condition
 pub intended_meets : (es : List Edge) (mode : ObsMode) (number : ℕ → ℕ) → Resolves es → IsNumbering es number → MeetsCondition es mode number (intended es mode number)

@@ -1,13 +1,12 @@
 -- The coherence order of a location's place: in an execution it holds the location's writes, and in the intended one
 -- they come in the order of their values, so that the coherence place of each access is its value.
-use Rattle.std.proofs.Common.{◌≡◌, ℕ, zero, suc, ◌<◌, ◌≤◌, List, [], length, Some, slice_get, refl, sym, ◌∙◌, ap, subst, arith, add-one}
-use Rattle.std.specs.Prelude.{unwrap_or}
+use Rattle.std.proofs.Common.{◌≡◌, ℕ, zero, suc, ◌<◌, ◌≤◌, List, length, Some, slice_get, refl, sym, ◌∙◌, ap, subst, arith, add-one}
 use Rattle.relax_edges.specs.declared.kinds.Dir.{Dir}
 use Rattle.relax_edges.specs.declared.kinds.Dir.TheVariants as dirs
 use Rattle.relax_edges.specs.declared.kinds.ObsMode.{ObsMode}
 use Rattle.relax_edges.specs.declared.edge.Edge.{Edge}
 use Rattle.list_laws.proofs.Numbers.{slice_get-map-upto}
-use Rattle.resolution_laws.specs.Resolution.{move_count, events_in}
+use Rattle.resolution_laws.specs.Resolution.{move_count}
 use Rattle.value_laws.specs.Values.{value_of, write_count}
 use Rattle.program_meaning.specs.declared.WriteAt.{WriteAt}
 use Rattle.program_meaning.specs.Accesses.{Access, at_name}
@@ -26,9 +25,7 @@ use Rattle.communication_laws.proofs.Resolves.{Resolves}
 
 -- events of one name are one event
 pub same_event : (es : List Edge) (i j : ℕ) → Resolves es → i < length es → j < length es → event_name es i ≡ event_name es j → i ≡ j
-same_event es i j r h k e =
-    let s : Some i ≡ Some j = sym (r.stands i h) ∙ ap (λ w. slice_get (events_in es w.thread) w.access) e ∙ r.stands j k in
-    cc
+same_event es i j r h k e = grind arith
 
 -- no two writes of a location have one name
 pub gives_writes : (es : List Edge) (l : ℕ) → Resolves es → Gives (ordered_write es l) (write_count es l)
@@ -49,10 +46,7 @@ record OrderAt (threads : List (List Access)) (x : Execution) (place : ℕ) : Ty
   orders : IsOrderOf threads place (order_at x place)
 
 order_of : (threads : List (List Access)) (places place : ℕ) (x : Execution) → IsExecutionOf threads places x → place < places → OrderAt threads x place
-order_of threads places place x c h =
-    let g = got_below x.orders place (omega (arith, c.write_lists, h)) in
-    let e : g.element ≡ order_at x place = sym (ap (λ o. unwrap_or o []) g.got) in
-    record { got = g.got ∙ ap Some e; orders = subst (IsOrderOf threads place) e (c.orders place g.element g.got) }
+order_of threads places place x c h = grind (arith, (got_below x.orders place (omega (arith, c.write_lists, h))))
 
 -- the order of a place of an execution is there
 pub order_got : (threads : List (List Access)) (places place : ℕ) (x : Execution) → IsExecutionOf threads places x → place < places → slice_get x.orders place ≡ Some (order_at x place)
@@ -85,9 +79,7 @@ order_holds es mode number l x r n c h =
 -- in the intended execution the order of a location's place is that of the values
 pub intended_order : (es : List Edge) (mode : ObsMode) (number : ℕ → ℕ) (l : ℕ) → IsNumbering es number → l < move_count es → order_at (intended es mode number) (number l) ≡ location_order es l
 unfolding intended
-intended_order es mode number l n h =
-    ap (λ o. unwrap_or o []) (slice_get-map-upto (λ place. location_order es (location_numbered es number place)) (move_count es) (number l) (n.below l h))
-    ∙ ap (location_order es) (location_of_number es number l n h)
+intended_order es mode number l n h = grind (arith, slice_get-map-upto, location_of_number)
 
 -- the write of value v is in place v of that order
 pub place_of_value : (es : List Edge) (l v : ℕ) → Resolves es → v ≤ write_count es l → order_place (location_order es l) (write_of es l v) ≡ v
@@ -118,9 +110,11 @@ placed_write es mode number x name access r n s h =
 -- in the intended execution the coherence place of an access is its value
 pub place_is_value : (es : List Edge) (mode : ObsMode) (number : ℕ → ℕ) (name : WriteAt) (access : Access) → Resolves es → IsNumbering es number → at_name (cycle_accesses es mode number) name ≡ Some access → coherence_place (cycle_accesses es mode number) (intended es mode number) name access ≡ access.value
 place_is_value es mode number name access r n h =
-    ap (order_place (order_at (intended es mode number) access.place)) (placed_write es mode number (intended es mode number) name access r n refl h)
-    ∙ (let p = placed es mode number name access r h in
-    let e : location_numbered es number access.place ≡ p.spot = ap (location_numbered es number) (sym p.place_is) ∙ location_of_number es number p.spot n p.below in
-    ap (λ l. order_place (order_at (intended es mode number) access.place) (write_of es l access.value)) e
-    ∙ ap (λ order. order_place order (write_of es p.spot access.value)) (ap (order_at (intended es mode number)) (sym p.place_is) ∙ intended_order es mode number p.spot n p.below)
-    ∙ place_of_value es p.spot access.value r p.within)
+    grind (
+      arith,
+      (placed_write es mode number (intended es mode number) name access r n refl h),
+      (placed es mode number name access r h),
+      (location_of_number es number),
+      (intended_order es mode number),
+      (place_of_value es),
+    )

@@ -1,19 +1,18 @@
 -- What each thread reads in the intended execution, and that in each execution of these accesses it reads the same.
-use Rattle.std.proofs.Common.{◌≡◌, ℕ, ◌+◌, ◌-◌, ◌<◌, ◌≤◌, true, List, length, map, Option, Some, slice_get, refl, sym, ◌∙◌, ap, subst, arith, add-one, length-append}
+use Rattle.std.proofs.Common.{◌≡◌, ℕ, ◌+◌, ◌-◌, ◌<◌, ◌≤◌, List, length, map, Option, Some, slice_get, refl, sym, ◌∙◌, ap, subst, arith, add-one, length-append}
 use Rattle.std.specs.List.{filter}
 use Rattle.std.proofs.lemmas.List.{length-map}
 use Rattle.relax_edges.specs.declared.kinds.ObsMode.{ObsMode}
 use Rattle.relax_edges.specs.declared.edge.Edge.{Edge}
-use Rattle.list_laws.specs.Numbers.{upto}
 use Rattle.list_laws.proofs.Cases.{by_less}
 use Rattle.list_laws.proofs.Numbers.{length-map-upto, slice_get-map-upto}
 use Rattle.list_laws.proofs.Ranks.{unrank_upto}
 use Rattle.resolution_laws.specs.Resolution.{external_count, move_count, location_of, events_in}
 use Rattle.value_laws.specs.Values.{value_of, write_count, is_observed}
 use Rattle.program_meaning.specs.declared.WriteAt.{WriteAt}
-use Rattle.program_meaning.specs.Accesses.{Access, read, got_from, at_name, is_read}
+use Rattle.program_meaning.specs.Accesses.{Access, got_from, at_name, is_read}
 use Rattle.program_meaning.specs.Executions.{Execution, IsExecutionOf, AreReadsOf, CanRead}
-use Rattle.program_meaning.specs.Intended.{IsNumbering, observed_locations, event_access, observer_accesses, cycle_accesses, ordered_write, write_of, event_read, observer_reads, reads_in, location_numbered, intended}
+use Rattle.program_meaning.specs.Intended.{IsNumbering, observed_locations, event_access, observer_accesses, cycle_accesses, write_of, event_read, observer_reads, reads_in, location_numbered, intended}
 use Rattle.communication_laws.proofs.Lists.{slice_get-append_left, slice_get-append_right, same_below, got_below, image_of, got_map, map_same, map-map, filter-map, filter_all, kept}
 use Rattle.communication_laws.proofs.Numbering.{location_of_number}
 use Rattle.communication_laws.proofs.Accesses.{EventAt, LoadAt, by_origin, thread_accesses, observer_thread}
@@ -50,7 +49,7 @@ placed es mode number name access r h =
     })
 
 -- the access of a thread with a number is the access under that name
-stands_at : (threads : List (List Access)) (k s : ℕ) (accesses : List Access) (access : Access) → slice_get threads k ≡ Some accesses → slice_get accesses s ≡ Some access → at_name threads (record { thread = k; access = s }) ≡ Some access
+pub stands_at : (threads : List (List Access)) (k s : ℕ) (accesses : List Access) (access : Access) → slice_get threads k ≡ Some accesses → slice_get accesses s ≡ Some access → at_name threads (record { thread = k; access = s }) ≡ Some access
 stands_at threads k s accesses access t a = ap (λ o. got_from o s) t ∙ a
 
 -- a read access of a thread can read what it reads in the intended execution
@@ -64,51 +63,28 @@ can_read_source es mode number name access r n h =
 -- a read access of a thread can read nothing else
 reads_source : (es : List Edge) (mode : ObsMode) (number : ℕ → ℕ) (name : WriteAt) (access : Access) (w : Option WriteAt) → Resolves es → IsNumbering es number → at_name (cycle_accesses es mode number) name ≡ Some access → CanRead (cycle_accesses es mode number) access w → w ≡ source_for es number access
 reads_source es mode number name access w r n h c =
-    let p = placed es mode number name access r h in
-    source_fixed es mode number p.spot access w r n p.below p.place_is c
-    ∙ ap (λ l. write_of es l access.value) (sym (location_of_number es number p.spot n p.below) ∙ ap (location_numbered es number) p.place_is)
+    grind (arith, (placed es mode number name access r h), (source_fixed es mode number), (location_of_number es number))
 
 -- the reads of a thread of the cycle, by its accesses
 event_reads : (es : List Edge) (number : ℕ → ℕ) (k : ℕ) → Resolves es → IsNumbering es number → map (event_read es) (reads_in es k) ≡ reads_by_source (source_for es number) (filter is_read (map (event_access es number) (events_in es k)))
-event_reads es number k r n =
-    map_same (event_read es) (λ i. (value_of es i, source_for es number (event_access es number i))) (reads_in es k)
-    (λ i t. (value_of es i, write_of es (sym (location_of_number es number (location_of es i) n (r.location i)) t) (value_of es i)))
-    ∙ sym (map-map (event_access es number) (λ access. (access.value, source_for es number access)) (reads_in es k))
-    ∙ ap (reads_by_source (source_for es number)) (sym (filter-map is_read (event_access es number) (events_in es k)))
+event_reads es number k r n = grind (arith, map_same, location_of_number, map-map, filter-map)
 
 -- the reads of an observer, by its accesses
 load_reads : (es : List Edge) (number : ℕ → ℕ) (l : ℕ) → IsNumbering es number → l < move_count es → observer_reads es l ≡ reads_by_source (source_for es number) (filter is_read (observer_accesses es number l))
-load_reads es number l n h =
-    map_same (λ k. (k + 1, ordered_write es l k)) (λ k. (k + 1, source_for es number (read (number l) (k + 1)))) (upto (write_count es l))
-    (λ k t. (k + 1, same k t))
-    ∙ sym (map-map (λ k. read (number l) (k + 1)) (λ access. (access.value, source_for es number access)) (upto (write_count es l)))
-    ∙ ap (reads_by_source (source_for es number)) (sym (filter-map is_read (λ k. read (number l) (k + 1)) (upto (write_count es l)) ∙ ap (map (λ k. read (number l) (k + 1))) (filter_all (λ k. true) (upto (write_count es l)) (λ k. refl))))
-  where
-    same : (k : ℕ) → ordered_write es l k ≡ write_of es (location_numbered es number (number l)) (k + 1)
-    same k = rw (add-one, location_of_number es number l n h) refl
+load_reads es number l n h = grind (arith, map_same, map-map, filter-map, filter_all, add-one, location_of_number)
 
 -- the intended execution has a list of reads for each thread
 pub reads-count : (es : List Edge) (mode : ObsMode) (number : ℕ → ℕ) → length (intended es mode number).reads ≡ length (cycle_accesses es mode number)
 unfolding intended cycle_accesses
-reads-count es mode number =
-    length-append (map (λ thread. map (event_read es) (reads_in es thread)) (upto (external_count es))) (map (observer_reads es) (observed_locations es mode))
-    ∙ (let a = length-map-upto (λ thread. map (event_read es) (reads_in es thread)) (external_count es) in
-    let b = length-map-upto (λ thread. map (event_access es number) (events_in es thread)) (external_count es) in
-    let c = length-map (observed_locations es mode) (observer_reads es) in
-    let d = length-map (observed_locations es mode) (observer_accesses es number) in
-    let e = length-append (map (λ thread. map (event_access es number) (events_in es thread)) (upto (external_count es))) (map (observer_accesses es number) (observed_locations es mode)) in
-    omega (arith, a, b, c, d, e))
+reads-count es mode number = grind (arith, length-append, length-map-upto, length-map)
 
 first_reads : (es : List Edge) (mode : ObsMode) (number : ℕ → ℕ) (k : ℕ) → k < external_count es → slice_get (intended es mode number).reads k ≡ Some (map (event_read es) (reads_in es k))
 unfolding intended
-first_reads es mode number k h =
-    slice_get-append_left (map (λ thread. map (event_read es) (reads_in es thread)) (upto (external_count es))) (map (observer_reads es) (observed_locations es mode)) k (omega (arith, length-map-upto (λ thread. map (event_read es) (reads_in es thread)) (external_count es)))
-    ∙ slice_get-map-upto (λ thread. map (event_read es) (reads_in es thread)) (external_count es) k h
+first_reads es mode number k h = grind (arith, slice_get-append_left, length-map-upto, slice_get-map-upto)
 
 back_reads : (es : List Edge) (mode : ObsMode) (number : ℕ → ℕ) (k o : ℕ) → k ≡ external_count es + o → slice_get (intended es mode number).reads k ≡ slice_get (map (observer_reads es) (observed_locations es mode)) o
 unfolding intended
-back_reads es mode number k o h =
-    slice_get-append_right (map (λ thread. map (event_read es) (reads_in es thread)) (upto (external_count es))) (map (observer_reads es) (observed_locations es mode)) k o (omega (arith, length-map-upto (λ thread. map (event_read es) (reads_in es thread)) (external_count es)))
+back_reads es mode number k o h = grind (arith, slice_get-append_right, length-map-upto)
 
 -- each thread reads what its accesses are given
 pub intended_reads : (es : List Edge) (mode : ObsMode) (number : ℕ → ℕ) (k : ℕ) (accesses : List Access) → Resolves es → IsNumbering es number → slice_get (cycle_accesses es mode number) k ≡ Some accesses → slice_get (intended es mode number).reads k ≡ Some (reads_by_source (source_for es number) (filter is_read accesses))

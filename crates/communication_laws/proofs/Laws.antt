@@ -1,5 +1,5 @@
 -- The laws of this crate, from the facts of a resolved cycle.
-use Rattle.relax_edges.specs.declared.kinds.ObsMode.TheVariants.{Avoid}
+use Rattle.std.proofs.Common.{arith}
 use Rattle.communication_laws.specs.Laws.{EdgesJoin, OnlyTheIntended, TheIntendedMeets, NoConditionServes, AllEdgesStand, OneOutcome, AnOutcome}
 use Rattle.communication_laws.proofs.Bridge.{resolves}
 use Rattle.communication_laws.proofs.Needs.{enters_last, refused_entry}
@@ -12,13 +12,11 @@ use Rattle.communication_laws.proofs.AllStand.{all_stand}
 
 -- each edge joins its events in an execution that is coherent and meets the condition
 pub edges_join_law : EdgesJoin
-edges_join_law es mode number x r s n m i h =
-    let f = resolves es r in edges_join es mode number x i f (enters_last es mode f s) n m h
+edges_join_law es mode number x r s n m i h = search (arith, resolves, edges_join, enters_last)
 
 -- only the intended execution meets the condition
 pub only_the_intended_law : OnlyTheIntended
-only_the_intended_law es mode number x r s n m =
-    let f = resolves es r in only_the_intended es mode number x f (enters_last es mode f s) n m
+only_the_intended_law es mode number x r s n m = grind (arith, resolves, only_the_intended, enters_last)
 
 -- the intended execution meets the condition
 pub the_intended_meets_law : TheIntendedMeets
@@ -27,27 +25,23 @@ the_intended_meets_law es mode number r n = intended_meets es mode number (resol
 -- where the mode avoid refuses a cycle, no condition could have served
 pub no_condition_serves_law : NoConditionServes
 no_condition_serves_law es number need r n o =
-    let f = resolves es r in
-    let q = refused_entry es need f o in
-    record {
-      first = intended_meets es Avoid number f n;
-      second = exchanged_meets es number need.event f n q;
-      reads = reads_exchanged es number need.event;
-      ends = λ place h. exchanged_ends es number need.event place f n q h;
-      joins = λ i h. intended_joins es Avoid number i f n h;
-      breaks = exchanged_breaks es number need.event f n q;
-    }
+    search (arith, resolves, refused_entry, intended_meets, exchanged_meets, reads_exchanged, exchanged_ends, intended_joins, exchanged_breaks)
 
 -- all edges stand in each outcome of a program that makes, marks and ties the accesses of the cycle's test
 pub all_edges_stand_law : AllEdgesStand
 all_edges_stand_law es mode number p x r s n m t o =
-    let f = resolves es r in
-    all_stand es mode number p x f (enters_last es mode f s) n (outcome_makes es mode number p x m o) (outcome_meets es mode number p x m o) t
+    grind (
+      arith,
+      (resolves es r),
+      (all_stand es mode number p x),
+      (enters_last es mode),
+      (outcome_makes es mode number p x m o),
+      (outcome_meets es mode number p x m o),
+    )
 
 -- each outcome of such a program is the intended execution
 pub one_outcome_law : OneOutcome
-one_outcome_law es mode number p x r s n m o =
-    only_the_intended_law es mode number x r s n (outcome_meets es mode number p x m o)
+one_outcome_law es mode number p x r s n m o = grind (arith, only_the_intended_law, outcome_meets)
 
 -- the intended execution is an outcome of such a program whose runs come to their ends
 pub an_outcome_law : AnOutcome

@@ -12,15 +12,13 @@ use Rattle.list_laws.proofs.Cases.{by_test, by_less}
 
 -- an element of the first of two joined lists
 pub slice_get-append_left : {X : Type 0} (xs ys : List X) (i : ℕ) → i < length xs → slice_get (xs ++ ys) i ≡ slice_get xs i
-slice_get-append_left [] ys i h = absurd (omega arith)
-slice_get-append_left (x ∷ xs) ys zero h = refl
 slice_get-append_left (x ∷ xs) ys (suc i) h = slice_get-append_left xs ys i (omega arith)
+slice_get-append_left xs ys i h = grind arith
 
 -- an element of the second of two joined lists
 pub slice_get-append_right : {X : Type 0} (xs ys : List X) (i j : ℕ) → i ≡ length xs + j → slice_get (xs ++ ys) i ≡ slice_get ys j
-slice_get-append_right [] ys i j h = ap (slice_get ys) (omega arith)
-slice_get-append_right (x ∷ xs) ys zero j h = absurd (omega arith)
 slice_get-append_right (x ∷ xs) ys (suc i) j h = slice_get-append_right xs ys i j (omega arith)
+slice_get-append_right xs ys i j h = grind arith
 
 -- lists with equal elements at each place are equal
 pub same_by_gets : {X : Type 0} (xs ys : List X) → ((k : ℕ) → slice_get xs k ≡ slice_get ys k) → xs ≡ ys
@@ -35,8 +33,7 @@ same_by_gets {X} (x ∷ xs) (y ∷ ys) h =
 
 -- lists of one length with equal elements below it are equal
 pub same_below : {X : Type 0} (xs ys : List X) (n : ℕ) → length xs ≡ n → length ys ≡ n → ((k : ℕ) → k < n → slice_get xs k ≡ slice_get ys k) → xs ≡ ys
-same_below xs ys n p q h =
-    same_by_gets xs ys (λ k. by_less k n (h k) (λ g. slice_get_past xs k (omega arith) ∙ sym (slice_get_past ys k (omega arith))))
+same_below xs ys n p q h = grind (arith, same_by_gets, slice_get_past)
 
 -- a list has an element at each place below its length
 pub record Got {X : Type 0} (xs : List X) (k : ℕ) : Type 0 where
@@ -57,10 +54,8 @@ pub record Image {X Y : Type 0} (f : X → Y) (xs : List X) (k : ℕ) (y : Y) : 
 
 -- each element of a map over a list is such an image
 pub image_of : {X Y : Type 0} (f : X → Y) (xs : List X) (k : ℕ) (y : Y) → slice_get (map f xs) k ≡ Some y → Image f xs k y
-image_of f [] k y h = cc
-image_of f (x ∷ xs) zero y h = let s : f x ≡ y = cc in record { element = x; got = refl; image = s }
-image_of f (x ∷ xs) (suc k) y h =
-    let r = image_of f xs k y h in record { element = r.element; got = r.got; image = r.image }
+image_of f (x ∷ xs) (suc k) y h = grind (arith, (image_of f xs k y h))
+image_of f xs k y h = grind arith
 
 -- an element of a list gives one of the map over it
 pub got_map : {X Y : Type 0} (f : X → Y) (xs : List X) (k : ℕ) (x : X) → slice_get xs k ≡ Some x → slice_get (map f xs) k ≡ Some (f x)
@@ -68,8 +63,7 @@ got_map f xs k x h = slice_get-map f xs k ∙ ap (option_map f) h
 
 -- maps of equal functions over a list are equal
 pub map_same : {X Y : Type 0} (f g : X → Y) (xs : List X) → ((x : X) → f x ≡ g x) → map f xs ≡ map g xs
-map_same f g [] h = refl
-map_same f g (x ∷ xs) h = let a : f x ≡ g x = h x in let r : map f xs ≡ map g xs = map_same f g xs h in cc
+map_same f g xs h = grind arith
 
 -- a map over a map is the map of the one function after the other
 pub map-map : {X Y Z : Type 0} (f : X → Y) (g : Y → Z) (xs : List X) → map g (map f xs) ≡ map (λ x. g (f x)) xs
@@ -79,10 +73,7 @@ map-map f g (x ∷ xs) = ap (λ l. g (f x) ∷ l) (map-map f g xs)
 -- a filter of a map over a list is the map over a filter of the list
 pub filter-map : {X Y : Type 0} (p : Y → Bool) (f : X → Y) (xs : List X) → filter p (map f xs) ≡ map f (filter (λ x. p (f x)) xs)
 filter-map p f [] = refl
-filter-map {X} {Y} p f (x ∷ xs) =
-    by_test (p (f x))
-    (λ t. cond-true {A = List Y} (p (f x)) (f x ∷ filter p (map f xs)) (filter p (map f xs)) t ∙ ap (λ l. f x ∷ l) (filter-map p f xs) ∙ ap (map f) (sym (cond-true {A = List X} (p (f x)) (x ∷ filter (λ x. p (f x)) xs) (filter (λ x. p (f x)) xs) t)))
-    (λ n. cond-false {A = List Y} (p (f x)) (f x ∷ filter p (map f xs)) (filter p (map f xs)) n ∙ filter-map p f xs ∙ ap (map f) (sym (cond-false {A = List X} (p (f x)) (x ∷ filter (λ x. p (f x)) xs) (filter (λ x. p (f x)) xs) n)))
+filter-map {X} {Y} p f (x ∷ xs) = grind (arith, (filter-map p f xs))
 
 -- a function that gives something for each number below n gives n things
 pub length-filter_map-upto : {X : Type 0} (g : ℕ → Option X) (n : ℕ) → ((k : ℕ) → k < n → (x : X) × (g k ≡ Some x)) → length (filter_map g (upto n)) ≡ n
@@ -133,9 +124,7 @@ kept {X} p (y ∷ xs) k x h =
 -- an element that passes comes in the filter after as many as pass before it
 pub rank_filter : {X : Type 0} (p : X → Bool) (xs : List X) (k : ℕ) (x : X) → slice_get xs k ≡ Some x → p x ≡ true → slice_get (filter p xs) (count_by p (take k xs)) ≡ Some x
 rank_filter p [] k x h t = cc
-rank_filter {X} p (y ∷ xs) zero x h t =
-    let e : y ≡ x = cc in
-    ap (λ l. slice_get l 0) (cond-true {A = List X} (p y) (y ∷ filter p xs) (filter p xs) (ap p e ∙ t)) ∙ h
+rank_filter {X} p (y ∷ xs) zero x h t = grind arith
 rank_filter {X} p (y ∷ xs) (suc k) x h t =
     by_test (p y)
     (λ q. ap (λ l. slice_get l (count_by p (take (suc k) (y ∷ xs)))) (cond-true {A = List X} (p y) (y ∷ filter p xs) (filter p xs) q)

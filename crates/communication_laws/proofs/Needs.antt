@@ -1,84 +1,41 @@
 -- Where a mode serves a cycle, a write of a location without an observer that an external edge enters is its first or its
 -- last; and what the mode avoid refuses is an inner one.
-use Rattle.std.proofs.Common.{◌≡◌, ℕ, zero, suc, ◌<◌, Bool, true, false, ◌&&◌, List, [], ◌∷◌, length, Option, Some, None, slice_get, refl, sym, ◌∙◌, ap, arith}
-use Rattle.std.specs.Prelude.{◌==◌, nat_lt, Ok, Err}
+use Rattle.std.proofs.Common.{◌≡◌, ℕ, zero, suc, ◌<◌, Bool, true, false, List, [], ◌∷◌, length, Option, Some, None, slice_get, refl, sym, ◌∙◌, ap, arith}
+use Rattle.std.specs.Prelude.{Ok}
 use Rattle.std.specs.List.{find, filter_map}
-use Rattle.std.specs.Option.{option_map, option_or}
-use Rattle.std.proofs.lemmas.Bool.{and_parts, and_from, eqb-true, eq-eqb, ltb-true, lt-ltb, leb-false, cond-true, cond-false}
+use Rattle.std.proofs.lemmas.Bool.{leb-false, cond-true, cond-false}
 use Rattle.std.proofs.lemmas.Option.{slice_get_within}
-use Rattle.relax_edges.specs.declared.kinds.Dir.{Dir}
 use Rattle.relax_edges.specs.declared.kinds.Dir.TheVariants as dirs
-use Rattle.relax_edges.specs.declared.kinds.Reach.{Reach}
-use Rattle.relax_edges.specs.declared.kinds.Reach.TheVariants.{Internal, External}
+use Rattle.relax_edges.specs.declared.kinds.Reach.TheVariants.{External}
 use Rattle.relax_edges.specs.declared.kinds.ObsMode.{ObsMode}
 use Rattle.relax_edges.specs.declared.kinds.ObsMode.TheVariants.{Accept, Avoid, Force}
 use Rattle.relax_edges.specs.declared.edge.Edge.{Edge}
-use Rattle.relax_edges.specs.EdgeTable.{source_of, reach_of, is_external, same_dir}
+use Rattle.relax_edges.specs.EdgeTable.{source_of, reach_of}
 use Rattle.list_laws.specs.Numbers.{upto}
-use Rattle.list_laws.proofs.Cases.{by_test, by_option, by_less}
+use Rattle.list_laws.proofs.Cases.{by_test, by_less}
 use Rattle.list_laws.proofs.Numbers.{slice_get-upto}
 use Rattle.list_laws.proofs.Finds.{any_upto_fails}
 use Rattle.resolution_laws.specs.Resolution.{edge_at, move_count, location_of}
 use Rattle.value_laws.specs.declared.needs.NeedsObserver.{NeedsObserver}
-use Rattle.value_laws.specs.Values.{value_of, write_at, write_count, edge_into, is_inner_entry, is_write_at, is_observed, first_inner_entry, first_need, observer_need, Valuation, valuation_of}
+use Rattle.value_laws.specs.Values.{value_of, write_at, write_count, edge_into, is_inner_entry, is_observed, first_inner_entry, first_need, observer_need, Valuation, valuation_of}
 use Rattle.communication_laws.specs.Premises.{IsServed}
-use Rattle.communication_laws.proofs.Lists.{length-filter_map-upto, slice_get-filter_map-upto}
+use Rattle.communication_laws.proofs.Lists.{length-filter_map-upto, slice_get-filter_map-upto, Kept}
 use Rattle.communication_laws.proofs.Resolves.{IsWrite, Resolves, EntersLast, InnerEntry}
 
 -- an inner write that an external edge enters passes the test
 is_entry : (es : List Edge) (l i : ℕ) → source_of (edge_at es i) ≡ dirs.W → location_of es i ≡ l → reach_of (edge_into es i) ≡ External → 1 < value_of es i → value_of es i < write_count es l → is_inner_entry es l i ≡ true
-is_entry es l i w e o s n =
-    let writes : is_write_at es l i ≡ true = and_from (same_dir (source_of (edge_at es i)) dirs.W) (location_of es i == l) (rw w refl) (eq-eqb (location_of es i) l e) in
-    let outside : is_external (edge_into es i) ≡ true = rw o refl in
-    and_from (is_write_at es l i && is_external (edge_into es i) && nat_lt 1 (value_of es i)) (nat_lt (value_of es i) (write_count es l))
-    (and_from (is_write_at es l i && is_external (edge_into es i)) (nat_lt 1 (value_of es i))
-    (and_from (is_write_at es l i) (is_external (edge_into es i)) writes outside)
-    (lt-ltb 1 (value_of es i) s))
-    (lt-ltb (value_of es i) (write_count es l) n)
+is_entry es l i w e o s n = grind arith
 
 -- what passes the test is an inner write that an external edge enters
 entry_is : (es : List Edge) (l i : ℕ) → i < length es → is_inner_entry es l i ≡ true → InnerEntry es i
-entry_is es l i h t =
-    let a = and_parts (is_write_at es l i && is_external (edge_into es i) && nat_lt 1 (value_of es i)) (nat_lt (value_of es i) (write_count es l)) t in
-    let b = and_parts (is_write_at es l i && is_external (edge_into es i)) (nat_lt 1 (value_of es i)) a.0 in
-    let c = and_parts (is_write_at es l i) (is_external (edge_into es i)) b.0 in
-    let d = and_parts (same_dir (source_of (edge_at es i)) dirs.W) (location_of es i == l) c.0 in
-    let e : location_of es i ≡ l = eqb-true (location_of es i) l d.1 in
-    record {
-      below = h;
-      writes = is_write (source_of (edge_at es i)) d.0;
-      outside = outside (reach_of (edge_into es i)) refl c.1;
-      second = ltb-true 1 (value_of es i) b.1;
-      inner = omega (arith, ltb-true (value_of es i) (write_count es l) a.1, ap (write_count es) e);
-    }
-  where
-    is_write : (d : Dir) → same_dir d dirs.W ≡ true → d ≡ dirs.W
-    is_write dirs.R s = cc
-    is_write dirs.W s = refl
-
-    outside : (p : Reach) → reach_of (edge_into es i) ≡ p → is_external (edge_into es i) ≡ true → p ≡ External
-    outside Internal e s = let f : false ≡ true = sym (rw e refl) ∙ s in cc
-    outside External e s = refl
+entry_is es l i h t = grind arith
 
 -- where nothing is found, no element passes
 none_found : {X : Type 0} (p : X → Bool) (xs : List X) (k : ℕ) (x : X) → find p xs ≡ None → slice_get xs k ≡ Some x → p x ≡ false
 none_found p [] k x h g = cc
-none_found {X} p (y ∷ xs) k x h g =
-    by_test (p y)
-    (λ t. let e : Some y ≡ None = sym (cond-true {A = Option X} (p y) (Some y) (find p xs) t) ∙ h in cc)
-    (λ f. here k (λ j z a. none_found p xs j z (sym (cond-false {A = Option X} (p y) (Some y) (find p xs) f) ∙ h) a) f g)
-  where
-    here : (k : ℕ) → ((j : ℕ) (z : X) → slice_get xs j ≡ Some z → p z ≡ false) → p y ≡ false → slice_get (y ∷ xs) k ≡ Some x → p x ≡ false
-    here zero rest f g = let e : y ≡ x = cc in ap p (sym e) ∙ f
-    here (suc j) rest f g = rest j x g
+none_found {X} p (y ∷ xs) k x h g = grind (arith, (none_found p xs))
 
--- what is found is an element that passes
-pub record Found {X : Type 0} (p : X → Bool) (xs : List X) (x : X) : Type 0 where
-  pub index : ℕ
-  pub got : slice_get xs index ≡ Some x
-  pub passes : p x ≡ true
-
-one_found : {X : Type 0} (p : X → Bool) (xs : List X) (x : X) → find p xs ≡ Some x → Found p xs x
+one_found : {X : Type 0} (p : X → Bool) (xs : List X) (x : X) → find p xs ≡ Some x → Kept p xs x
 one_found p [] x h = cc
 one_found {X} p (y ∷ xs) x h =
     by_test (p y)
@@ -90,26 +47,12 @@ one_found {X} p (y ∷ xs) x h =
 -- where no location of a list needs an observer, none has an inner entry
 no_entry : (es : List Edge) (ls : List ℕ) (k l : ℕ) → first_need es ls ≡ None → slice_get ls k ≡ Some l → first_inner_entry es l ≡ None
 no_entry es [] k l h g = cc
-no_entry es (m ∷ ls) k l h g =
-    by_option (first_inner_entry es m)
-    (λ n. here k n (λ j z a. no_entry es ls j z (sym (ap (λ o. option_or (option_map (λ event. record { location = m; event = event }) o) (first_need es ls)) n) ∙ h) a) g)
-    (λ x s. let e : Some (record { location = m; event = x }) ≡ None = sym (ap (λ o. option_or (option_map (λ event. record { location = m; event = event }) o) (first_need es ls)) s) ∙ h in cc)
-  where
-    here : (k : ℕ) → first_inner_entry es m ≡ None → ((j z : ℕ) → slice_get ls j ≡ Some z → first_inner_entry es z ≡ None) → slice_get (m ∷ ls) k ≡ Some l → first_inner_entry es l ≡ None
-    here zero n rest g = let e : m ≡ l = cc in ap (first_inner_entry es) (sym e) ∙ n
-    here (suc j) n rest g = rest j l g
+no_entry es (m ∷ ls) k l h g = grind (arith, (no_entry es ls))
 
 -- what needs an observer is the first inner entry of its location
 some_entry : (es : List Edge) (ls : List ℕ) (need : NeedsObserver) → first_need es ls ≡ Some need → first_inner_entry es need.location ≡ Some need.event
 some_entry es [] need h = cc
-some_entry es (m ∷ ls) need h =
-    by_option (first_inner_entry es m)
-    (λ n. some_entry es ls need (sym (ap (λ o. option_or (option_map (λ event. record { location = m; event = event }) o) (first_need es ls)) n) ∙ h))
-    (λ x s. let e : Some (record { location = m; event = x }) ≡ Some need = sym (ap (λ o. option_or (option_map (λ event. record { location = m; event = event }) o) (first_need es ls)) s) ∙ h in
-    let q : record { location = m; event = x } ≡ need = cc in
-    let a : m ≡ need.location = ap (λ (n : NeedsObserver). n.location) q in
-    let b : x ≡ need.event = ap (λ (n : NeedsObserver). n.event) q in
-    ap (first_inner_entry es) (sym a) ∙ s ∙ ap Some b)
+some_entry es (m ∷ ls) need h = grind (arith, (some_entry es ls need))
 
 -- the writes of a location, in the order of their values
 write_listed : (es : List Edge) (l k i : ℕ) → Resolves es → k < write_count es l → write_at es l k ≡ Some i → slice_get (filter_map (write_at es l) (upto (write_count es l))) k ≡ Some i
@@ -169,15 +112,4 @@ enters_last es mode r s = record { last = λ i h w u e v. by_mode mode s i h w u
 
 -- a mode serves a cycle that was valued in it
 pub served_if_valued : (es : List Edge) (mode : ObsMode) (v : Valuation) → valuation_of es mode ≡ Ok v → IsServed es mode
-served_if_valued es Accept v h = tt
-served_if_valued es Avoid v h =
-    by_option (observer_need es) (λ n. n)
-    (λ need s. let e : Err need ≡ Ok v = rw s at h in cc)
-served_if_valued es Force v h = tt
-
--- what a refusal in the mode avoid names is a need
-pub need_if_refused : (es : List Edge) (need : NeedsObserver) → valuation_of es Avoid ≡ Err need → observer_need es ≡ Some need
-need_if_refused es need h =
-    by_option (observer_need es)
-    (λ n. let e : Ok (record { edges = es; mode = Avoid }) ≡ Err need = rw n at h in cc)
-    (λ other s. let e : Err other ≡ Err need = rw s at h in let q : other ≡ need = cc in s ∙ ap Some q)
+served_if_valued es mode v h = grind arith

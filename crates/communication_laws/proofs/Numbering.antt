@@ -27,8 +27,7 @@ is_taken-more : (number : ℕ → ℕ) (m p : ℕ) → is_taken number (suc m) p
 is_taken-more number m p = list_any-append (λ l. number l == p) (upto m) (m ∷ [])
 
 or_false : (a b : Bool) → b ≡ false → (a || (b || false)) ≡ a
-or_false true b h = refl
-or_false false b h = rw h refl
+or_false a b h = grind arith
 
 taken-count : (es : List Edge) (number : ℕ → ℕ) (m : ℕ) → IsNumbering es number → m ≤ move_count es → count_by (is_taken number m) (upto (move_count es)) ≡ m
 taken-count es number zero r l = count_upto_none (is_taken number 0) (move_count es) (λ i k. refl)

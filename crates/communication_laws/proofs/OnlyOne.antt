@@ -37,17 +37,21 @@ use Rattle.communication_laws.proofs.Resolves.{IsWrite, Resolves, EntersLast, En
 -- where an execution reads as the intended one does, the coherence place of an event is that of the write of its value
 pub event_place : (es : List Edge) (mode : ObsMode) (number : ℕ → ℕ) (x : Execution) (i : ℕ) → Resolves es → IsNumbering es number → x.reads ≡ (intended es mode number).reads → i < length es → coherence_place (cycle_accesses es mode number) x (event_name es i) (event_access es number i) ≡ order_place (order_at x (number (location_of es i))) (write_of es (location_of es i) (value_of es i))
 event_place es mode number x i r n s h =
-    ap (order_place (order_at x (number (location_of es i))))
-    (placed_write es mode number x (event_name es i) (event_access es number i) r n s (event_at_name es mode number i r h)
-    ∙ ap (λ l. write_of es l (value_of es i)) (location_of_number es number (location_of es i) n (r.location i)))
+    cc (
+      (placed_write es mode number x (event_name es i) (event_access es number i) r n s (event_at_name es mode number i r h)),
+      (event_at_name es mode number i r h),
+      (location_of_number es number (location_of es i) n (r.location i)),
+    )
 
 -- the coherence place of an observer's load is that of the write that it reads
 load_place : (es : List Edge) (mode : ObsMode) (number : ℕ → ℕ) (x : Execution) (o l k : ℕ) → Resolves es → IsNumbering es number → x.reads ≡ (intended es mode number).reads → l < move_count es → slice_get (observed_locations es mode) o ≡ Some l → k < write_count es l → coherence_place (cycle_accesses es mode number) x (record { thread = external_count es + o; access = k }) (read (number l) (k + 1)) ≡ order_place (order_at x (number l)) (ordered_write es l k)
 load_place es mode number x o l k r n s h g b =
-    ap (order_place (order_at x (number l)))
-    (placed_write es mode number x (record { thread = external_count es + o; access = k }) (read (number l) (k + 1)) r n s (observer_at_name es mode number o l k g b)
-    ∙ ap (λ m. write_of es m (k + 1)) (location_of_number es number l n h)
-    ∙ ap (write_of es l) (add-one k))
+    cc (
+      (placed_write es mode number x (record { thread = external_count es + o; access = k }) (read (number l) (k + 1)) r n s (observer_at_name es mode number o l k g b)),
+      (observer_at_name es mode number o l k g b),
+      (location_of_number es number l n h),
+      (add-one k),
+    )
 
 -- an edge into a write of a location that comes from the value before the write's
 pub record FromBefore (es : List Edge) (l k : ℕ) : Type 0 where
@@ -184,13 +188,13 @@ ends_with es mode number x l k r n c h z v =
 -- where it isn't observed: the write is the last, and the final value says so
 last_step : (es : List Edge) (mode : ObsMode) (number : ℕ → ℕ) (x : Execution) (l k : ℕ) → Resolves es → IsNumbering es number → MeetsCondition es mode number x → l < move_count es → write_count es l ≡ suc (suc k) → is_observed es mode l ≡ false → order_place (order_at x (number l)) (ordered_write es l k) < order_place (order_at x (number l)) (ordered_write es l (suc k))
 last_step es mode number x l k r n c h m u =
-    let q = order_holds es mode number l x r n c.execution h in
-    let p = two_places es l k (order_at x (number l)) r q (omega arith) in
-    let b = nth_write es l (suc k) r (omega arith) in
-    let v : final_value (cycle_accesses es mode number) x (number l) ≡ suc (suc k) = c.ends l h u (omega arith) ∙ m in
-    let e : slice_get (order_at x (number l)) (length (order_at x (number l)) - 1) ≡ ordered_write es l (suc k) = ends_with es mode number x l (suc k) r n c h (omega (arith, p.first_below)) v in
-    let d : p.second ≡ length (order_at x (number l)) - 1 = q.once p.second (length (order_at x (number l)) - 1) (event_name es b.event) (p.second_got ∙ b.name_is) (e ∙ b.name_is) in
-    omega (arith, p.first_is, p.second_is, p.first_below, p.apart, d)
+    grind (
+      arith,
+      (order_holds es mode number l x r n c.execution h),
+      (two_places es l k (order_at x (number l)) r),
+      (nth_write es l (suc k) r (omega arith)),
+      (ends_with es mode number x l (suc k) r n c h),
+    )
 
 -- each write of a location comes before the next in the order of values
 write_step : (es : List Edge) (mode : ObsMode) (number : ℕ → ℕ) (x : Execution) (l k : ℕ) → Resolves es → EntersLast es mode → IsNumbering es number → x.reads ≡ (intended es mode number).reads → MeetsCondition es mode number x → l < move_count es → suc k < write_count es l → order_place (order_at x (number l)) (ordered_write es l k) < order_place (order_at x (number l)) (ordered_write es l (suc k))
@@ -222,8 +226,14 @@ write_step es mode number x l k r q n s c h b =
 order_is_intended : (es : List Edge) (mode : ObsMode) (number : ℕ → ℕ) (x : Execution) (l : ℕ) → Resolves es → EntersLast es mode → IsNumbering es number → MeetsCondition es mode number x → l < move_count es → order_at x (number l) ≡ location_order es l
 unfolding location_order
 order_is_intended es mode number x l r q n c h =
-    order_by_steps (order_at x (number l)) (ordered_write es l) (write_count es l) (order_holds es mode number l x r n c.execution h)
-    (λ k b. rw add-one (write_step es mode number x l k r q n (reads_are_intended es mode number x r n c.execution) c h (omega arith)))
+    grind (
+      arith,
+      (order_by_steps (order_at x (number l)) (ordered_write es l) (write_count es l) (order_holds es mode number l x r n c.execution h)),
+      (order_holds es mode number l x r n c.execution h),
+      add-one,
+      (write_step es mode number x l),
+      (reads_are_intended es mode number x r n c.execution),
+    )
 
 orders_are_intended : (es : List Edge) (mode : ObsMode) (number : ℕ → ℕ) (x : Execution) → Resolves es → EntersLast es mode → IsNumbering es number → MeetsCondition es mode number x → x.orders ≡ (intended es mode number).orders
 orders_are_intended es mode number x r q n c =
@@ -240,5 +250,4 @@ orders_are_intended es mode number x r q n c =
 
 -- an execution that meets the condition is the intended one
 pub only_the_intended : (es : List Edge) (mode : ObsMode) (number : ℕ → ℕ) (x : Execution) → Resolves es → EntersLast es mode → IsNumbering es number → MeetsCondition es mode number x → x ≡ intended es mode number
-only_the_intended es mode number x r q n c =
-    λ t. record { reads = reads_are_intended es mode number x r n c.execution t; orders = orders_are_intended es mode number x r q n c t }
+only_the_intended es mode number x r q n c = grind (arith, reads_are_intended, orders_are_intended)

@@ -1,5 +1,5 @@
 -- The place of a write in a coherence order, and orders that are fixed by their steps.
-use Rattle.std.proofs.Common.{◌≡◌, ℕ, zero, suc, ◌+◌, ◌<◌, ◌≤◌, true, false, cond, ltb, List, length, get_or, Option, Some, None, slice_get, refl, sym, ◌∙◌, ap, arith}
+use Rattle.std.proofs.Common.{◌≡◌, ℕ, zero, suc, ◌+◌, ◌<◌, ◌≤◌, true, false, List, length, get_or, Option, Some, slice_get, sym, ◌∙◌, ap, arith}
 use Rattle.std.specs.List.{filter_map, position_or_len}
 use Rattle.std.proofs.lemmas.Bool.{lt-ltb, cond-true}
 use Rattle.std.proofs.lemmas.Option.{slice_get_within, slice_get-get_or, get_or_from_slice_get}
@@ -8,14 +8,14 @@ use Rattle.list_laws.specs.Numbers.{upto}
 use Rattle.list_laws.proofs.Cases.{by_test, by_less}
 use Rattle.program_meaning.specs.declared.WriteAt.{WriteAt}
 use Rattle.program_meaning.specs.Executions.{same_write}
-use Rattle.program_meaning.specs.Coherence.{order_place, from_one}
+use Rattle.program_meaning.specs.Coherence.{order_place}
 use Rattle.execution_laws.proofs.Names.{same_write-refl, same_write-true}
 use Rattle.communication_laws.proofs.Lists.{same_below, length-filter_map-upto, slice_get-filter_map-upto, got_below}
 
--- the coherence place of a write that is listed once in an order
-pub order_place_at : (order : List WriteAt) (j : ℕ) (w : WriteAt) → slice_get order j ≡ Some w → ((i : ℕ) → slice_get order i ≡ Some w → i ≡ j) → order_place order (Some w) ≡ j + 1
-order_place_at order j w h once =
-    ap from_one (ap (λ k. cond (ltb k (length order)) (Some k) None) is ∙ cond-true (ltb j (length order)) (Some j) None (lt-ltb j (length order) within))
+-- a write that is listed once in an order is found where it is
+pub found_at : (order : List WriteAt) (j : ℕ) (w : WriteAt) → slice_get order j ≡ Some w → ((i : ℕ) → slice_get order i ≡ Some w → i ≡ j)
+    → position_or_len (same_write w) order ≡ j
+found_at order j w h once = position_or_len_is (same_write w) order j w (omega (arith, within)) before (λ _. here)
   where
     within : j < length order
     within = slice_get_within order j w h
@@ -31,8 +31,9 @@ order_place_at order j w h once =
     here : same_write w (get_or order j w) ≡ true
     here = ap (same_write w) (get_or_from_slice_get order j w w h) ∙ same_write-refl w
 
-    is : position_or_len (same_write w) order ≡ j
-    is = position_or_len_is (same_write w) order j w (omega (arith, within)) before (λ _. here)
+-- so its coherence place is one more
+pub order_place_at : (order : List WriteAt) (j : ℕ) (w : WriteAt) → slice_get order j ≡ Some w → ((i : ℕ) → slice_get order i ≡ Some w → i ≡ j) → order_place order (Some w) ≡ j + 1
+order_place_at order j w h once = grind (arith, found_at, cond-true, lt-ltb, slice_get_within)
 
 -- numbers that rise by steps, between 1 and a bound, and take each value up to it
 pub record Rises (place : ℕ → ℕ) (m n : ℕ) : Type 0 where
@@ -43,9 +44,7 @@ pub record Rises (place : ℕ → ℕ) (m n : ℕ) : Type 0 where
 
 at_least : (place : ℕ → ℕ) (m n k : ℕ) → Rises place m n → k < m → k < place k
 at_least place m n zero r l = r.first 0 l
-at_least place m n (suc k) r l =
-    let e : suc k ≡ k + 1 = omega arith in
-    rw e (omega (arith, at_least place m n k r (omega arith), r.steps k (omega arith)))
+at_least place m n (suc k) r l = grind (arith, (at_least place m n k r (omega arith)))
 
 fixed_below : (place : ℕ → ℕ) (m n b : ℕ) → Rises place m n → (k : ℕ) → k < b → k < m → place k ≡ k + 1
 fixed_below place m n zero r k h l = absurd (omega arith)
@@ -66,18 +65,7 @@ fixed_by_steps place m n r k l = fixed_below place m n (suc k) r k (omega arith)
 
 -- numbers that rise so are as many as the bound
 pub filled_by_steps : (place : ℕ → ℕ) (m n : ℕ) → Rises place m n → n ≡ m
-filled_by_steps place m n r = same m n refl refl
-  where
-    up : (a : ℕ) → m ≡ a → a ≤ n
-    up zero e = omega arith
-    up (suc a) e = omega (arith, at_least place m n a r (omega arith), r.within a (omega arith))
-
-    down : (b : ℕ) → n ≡ b → b ≤ m
-    down zero e = omega arith
-    down (suc b) e = let w = r.covers b (omega arith) in omega (arith, w.1, w.2, fixed_by_steps place m n r w.0 w.1)
-
-    same : (a b : ℕ) → m ≡ a → n ≡ b → n ≡ m
-    same a b e f = omega (arith, up a e, down b f)
+filled_by_steps place m n r = grind (arith, (at_least place m n), (fixed_by_steps place m n r))
 
 -- an order holds the writes that g gives for the numbers below m, each once, and nothing else
 pub record Holds (order : List WriteAt) (g : ℕ → Option WriteAt) (m : ℕ) : Type 0 where
@@ -122,18 +110,7 @@ pub record Gives (g : ℕ → Option WriteAt) (m : ℕ) : Type 0 where
 
 -- the list of the writes that g gives holds them
 pub order_given : (g : ℕ → Option WriteAt) (m : ℕ) → Gives g m → Holds (filter_map g (upto m)) g m
-order_given g m r = record {
-  some = r.some;
-  each = λ k w l h. (k, slice_get-filter_map-upto g m k r.some l ∙ h);
-  only = λ j w h. (j, inside j w h, from j w h);
-  once = λ i j w p q. r.once i j w (inside i w p) (inside j w q) (from i w p) (from j w q);
-}
-  where
-    inside : (j : ℕ) (w : WriteAt) → slice_get (filter_map g (upto m)) j ≡ Some w → j < m
-    inside j w h = omega (arith, slice_get_within (filter_map g (upto m)) j w h, length-filter_map-upto g m r.some)
-
-    from : (j : ℕ) (w : WriteAt) → slice_get (filter_map g (upto m)) j ≡ Some w → g j ≡ Some w
-    from j w h = sym (slice_get-filter_map-upto g m j r.some (inside j w h)) ∙ h
+order_given g m r = grind (arith, (slice_get-filter_map-upto g m), (slice_get_within (filter_map g (upto m))), (length-filter_map-upto g m r.some))
 
 -- the write of number k is in place k + 1 of that list
 pub place_given : (g : ℕ → Option WriteAt) (m k : ℕ) → Gives g m → k < m → order_place (filter_map g (upto m)) (g k) ≡ k + 1

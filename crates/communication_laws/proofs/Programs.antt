@@ -1,38 +1,26 @@
 -- From a program to its accesses: a candidate execution of a program that makes the accesses of the cycle's test and
 -- meets its condition is an execution of which the laws of this crate hold.
-use Rattle.std.proofs.Common.{◌≡◌, ℕ, ◌<◌, List, [], ◌∷◌, length, map, Some, slice_get, refl, sym, ◌∙◌, ap, subst, arith}
+use Rattle.std.proofs.Common.{◌≡◌, ℕ, ◌<◌, List, [], ◌∷◌, length, map, Some, slice_get, refl, sym, ◌∙◌, ap, arith}
 use Rattle.std.specs.List.{filter}
-use Rattle.relax_edges.specs.declared.kinds.Dir.{Dir}
-use Rattle.relax_edges.specs.declared.kinds.Dir.TheVariants as dirs
 use Rattle.relax_edges.specs.declared.kinds.ObsMode.{ObsMode}
 use Rattle.relax_edges.specs.declared.edge.Edge.{Edge}
 use Rattle.micro_ops.specs.Running.{Outcome}
-use Rattle.value_laws.specs.Values.{write_count}
 use Rattle.program_meaning.specs.Accesses.{Access, is_read}
-use Rattle.program_meaning.specs.Executions.{Execution, IsExecutionOf}
-use Rattle.program_meaning.specs.Coherence.{IsCoherent, final_value}
+use Rattle.program_meaning.specs.Executions.{Execution}
 use Rattle.program_meaning.specs.Programs.{Program, HasEnded, runs_of, accesses_in}
 use Rattle.execution_laws.proofs.Runs.{accesses-count}
 use Rattle.program_meaning.specs.Intended.{IsNumbering, cycle_accesses, intended}
 use Rattle.communication_laws.specs.Premises.{MeetsCondition}
-use Rattle.communication_laws.specs.Joining.{accesses_filled, values_read, MakesAccesses, ReadsAsAsked, IsOutcome}
+use Rattle.communication_laws.specs.Joining.{accesses_filled, MakesAccesses, ReadsAsAsked, IsOutcome}
 use Rattle.communication_laws.proofs.Lists.{same_below, got_below, map-map}
-use Rattle.communication_laws.proofs.ReadLists.{reads_by_source}
-use Rattle.communication_laws.proofs.IntendedReads.{reads-count, intended_reads, source_for}
+use Rattle.communication_laws.proofs.IntendedReads.{reads-count, intended_reads}
 use Rattle.communication_laws.proofs.IntendedExists.{intended_meets}
 use Rattle.communication_laws.proofs.Resolves.{Resolves}
 
 -- accesses whose reads read their own values are as they were
 filled_own : (accesses : List Access) → accesses_filled accesses (map (λ access. access.value) (filter is_read accesses)) ≡ accesses
 filled_own [] = refl
-filled_own (access ∷ accesses) = by_dir access.dir refl (filled_own accesses)
-  where
-    first : Dir → Access
-    first d = record { dir = d; place = access.place; value = access.value }
-
-    by_dir : (d : Dir) → access.dir ≡ d → accesses_filled accesses (map (λ access. access.value) (filter is_read accesses)) ≡ accesses → accesses_filled (access ∷ accesses) (map (λ access. access.value) (filter is_read (access ∷ accesses))) ≡ access ∷ accesses
-    by_dir dirs.R e h = rw e (ap (λ l. first dirs.R ∷ l) h)
-    by_dir dirs.W e h = rw e (ap (λ l. first dirs.W ∷ l) h)
+filled_own (access ∷ accesses) = grind (arith, (filled_own accesses))
 
 -- where the values read are those asked for, the accesses made are those of the cycle's test
 pub makes_planned : (es : List Edge) (mode : ObsMode) (number : ℕ → ℕ) (p : Program) (x : Execution) → MakesAccesses es mode number p x → ReadsAsAsked es mode number x → length x.reads ≡ length p.threads → accesses_in p x ≡ cycle_accesses es mode number
@@ -53,35 +41,12 @@ outcome_makes es mode number p x m o = makes_planned es mode number p x m o.read
 
 -- an outcome is coherent and meets the condition, by its accesses alone
 pub outcome_meets : (es : List Edge) (mode : ObsMode) (number : ℕ → ℕ) (p : Program) (x : Execution) → MakesAccesses es mode number p x → IsOutcome es mode number p x → MeetsCondition es mode number x
-outcome_meets es mode number p x m o =
-    record {
-      execution = subst (λ (t : List (List Access) × ℕ). IsExecutionOf t.0 t.1 x) (λ i. (made i, m.places i)) o.candidate.execution;
-      coherent = subst (λ (t : List (List Access)). IsCoherent t x) made o.coherent;
-      ends = λ l b u n. subst (λ (t : List (List Access)). final_value t x (number l) ≡ write_count es l) made (o.ends l b u n);
-    }
-  where
-    made : accesses_in p x ≡ cycle_accesses es mode number
-    made = outcome_makes es mode number p x m o
+outcome_meets es mode number p x m o = grind (arith, (outcome_makes es mode number p x m o))
 
 -- the intended execution reads the values asked for
 pub intended_asked : (es : List Edge) (mode : ObsMode) (number : ℕ → ℕ) → Resolves es → IsNumbering es number → ReadsAsAsked es mode number (intended es mode number)
-intended_asked es mode number r n k planned reads t g =
-    let s : Some (reads_by_source (source_for es number) (filter is_read planned)) ≡ Some reads = sym (intended_reads es mode number k planned r n t) ∙ g in
-    let e : reads_by_source (source_for es number) (filter is_read planned) ≡ reads = cc in
-    ap values_read (sym e) ∙ map-map (λ access. (access.value, source_for es number access)) (λ r. r.0) (filter is_read planned)
+intended_asked es mode number r n k planned reads t g = grind (arith, (intended_reads es mode number k planned), map-map)
 
 -- where the runs on the intended reads come to their ends, the intended execution is an outcome
 pub intended_outcome : (es : List Edge) (mode : ObsMode) (number : ℕ → ℕ) (p : Program) → Resolves es → IsNumbering es number → MakesAccesses es mode number p (intended es mode number) → ((k : ℕ) (run : Outcome) → slice_get (runs_of p.threads (intended es mode number).reads) k ≡ Some run → HasEnded run) → IsOutcome es mode number p (intended es mode number)
-intended_outcome es mode number p r n m ended =
-    record {
-      candidate = record { ended = ended; execution = subst (λ (t : List (List Access) × ℕ). IsExecutionOf t.0 t.1 (intended es mode number)) (λ i. (sym made i, sym m.places i)) q.execution };
-      coherent = subst (λ (t : List (List Access)). IsCoherent t (intended es mode number)) (sym made) q.coherent;
-      reads = intended_asked es mode number r n;
-      ends = λ l b u c. subst (λ (t : List (List Access)). final_value t (intended es mode number) (number l) ≡ write_count es l) (sym made) (q.ends l b u c);
-    }
-  where
-    q : MeetsCondition es mode number (intended es mode number)
-    q = intended_meets es mode number r n
-
-    made : accesses_in p (intended es mode number) ≡ cycle_accesses es mode number
-    made = makes_planned es mode number p (intended es mode number) m (intended_asked es mode number r n) (reads-count es mode number ∙ sym m.threads)
+intended_outcome es mode number p r n m ended = grind (arith, intended_asked, intended_meets, makes_planned, reads-count)

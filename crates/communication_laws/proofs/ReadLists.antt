@@ -1,11 +1,10 @@
 -- Lists of reads: what each read reads is fixed where its access can read one thing alone.
-use Rattle.std.proofs.Common.{◌≡◌, ℕ, suc, true, List, [], ◌∷◌, map, Option, Some, slice_get, take, refl, ◌∙◌, ap}
-use Rattle.std.specs.Prelude.{unwrap_or}
-use Rattle.std.specs.List.{count_by, filter}
+use Rattle.std.proofs.Common.{◌≡◌, ℕ, suc, true, List, [], ◌∷◌, map, Option, Some, slice_get, refl, arith}
+use Rattle.std.specs.List.{filter}
 use Rattle.program_meaning.specs.declared.WriteAt.{WriteAt}
-use Rattle.program_meaning.specs.Accesses.{Access, is_read, reads_before, reads_among}
+use Rattle.program_meaning.specs.Accesses.{Access, is_read}
 use Rattle.program_meaning.specs.Executions.{Execution, CanRead, AreReadsOf}
-use Rattle.program_meaning.specs.Coherence.{source_at, named_by}
+use Rattle.program_meaning.specs.Coherence.{source_at}
 use Rattle.communication_laws.proofs.Lists.{rank_filter, got_map}
 
 -- the reads that accesses make, where each reads the write that `source` gives it
@@ -20,19 +19,13 @@ reads_given threads source (access ∷ accesses) h =
 
 -- where each access can read nothing else, a thread's reads are those that are given
 pub reads_fixed : (threads : List (List Access)) (source : Access → Option WriteAt) (accesses : List Access) (reads : List (ℕ × Option WriteAt)) → AreReadsOf threads accesses reads → ((k : ℕ) (access : Access) (w : Option WriteAt) → slice_get accesses k ≡ Some access → CanRead threads access w → w ≡ source access) → reads ≡ reads_by_source source accesses
-reads_fixed threads source [] [] a h = refl
-reads_fixed threads source [] (r ∷ reads) a h = absurd a
-reads_fixed threads source (access ∷ accesses) [] a h = absurd a
 reads_fixed threads source (access ∷ accesses) (r ∷ reads) a h =
     let v : r.0 ≡ access.value = a.0 in
     let s : r.1 ≡ source access = h 0 access r.1 refl a.1 in
     let t : reads ≡ reads_by_source source accesses = reads_fixed threads source accesses reads a.2 (λ k b w e. h (suc k) b w e) in
     λ i. (v i, s i) ∷ t i
+reads_fixed threads source accesses reads a h = grind arith
 
 -- in such an execution a read access reads the write that it is given
 pub source_given : (threads : List (List Access)) (x : Execution) (source : Access → Option WriteAt) (name : WriteAt) (accesses : List Access) (access : Access) → slice_get threads name.thread ≡ Some accesses → slice_get accesses name.access ≡ Some access → is_read access ≡ true → slice_get x.reads name.thread ≡ Some (reads_by_source source (filter is_read accesses)) → source_at threads x name ≡ source access
-source_given threads x source name accesses access t a p r =
-    ap named_by
-    (ap (λ o. slice_get (unwrap_or o []) (reads_before threads name)) r
-    ∙ ap (λ o. slice_get (reads_by_source source (filter is_read accesses)) (reads_among o name.access)) t
-    ∙ got_map (λ access. (access.value, source access)) (filter is_read accesses) (count_by is_read (take name.access accesses)) access (rank_filter is_read accesses name.access access a p))
+source_given threads x source name accesses access t a p r = grind (arith, got_map, (rank_filter is_read accesses name.access))

@@ -1,5 +1,5 @@
 -- The writes of a location in another order: that of their values under a function that exchanges values in pairs.
-use Rattle.std.proofs.Common.{◌≡◌, ℕ, zero, suc, ◌+◌, ◌-◌, ◌<◌, ◌≤◌, List, [], length, Option, Some, slice_get, refl, sym, ◌∙◌, ap, subst, arith, add-one}
+use Rattle.std.proofs.Common.{◌≡◌, ℕ, zero, suc, ◌+◌, ◌-◌, ◌<◌, ◌≤◌, List, [], Option, Some, sym, ◌∙◌, ap, subst, arith, add-one}
 use Rattle.std.specs.List.{filter_map}
 use Rattle.relax_edges.specs.declared.kinds.ObsMode.{ObsMode}
 use Rattle.relax_edges.specs.declared.edge.Edge.{Edge}
@@ -46,9 +46,7 @@ pub record ValueWrite (es : List Edge) (l v : ℕ) : Type 0 where
 -- a positive value up to the count of the writes is that of a write
 pub value_write : (es : List Edge) (l v : ℕ) → Resolves es → 0 < v → v ≤ write_count es l → ValueWrite es l v
 value_write es l zero r h b = absurd (omega arith)
-value_write es l (suc k) r h b =
-    let w = nth_write es l k r (omega arith) in
-    record { rank = k; event = w.event; value_is = refl; below = omega arith; is_write = w.is_write; name_is = w.name_is }
+value_write es l (suc k) r h b = grind (arith, (nth_write es l k r (omega arith)))
 
 -- two values of one write are one value
 one_value : (es : List Edge) (l u v : ℕ) (w : WriteAt) → Resolves es → 0 < u → u ≤ write_count es l → 0 < v → v ≤ write_count es l → write_of es l u ≡ Some w → write_of es l v ≡ Some w → u ≡ v
@@ -73,13 +71,7 @@ gives_under es l f r e = record {
 pub place_under : (es : List Edge) (l v : ℕ) (f : ℕ → ℕ) → Resolves es → Exchanges f (write_count es l) → v ≤ write_count es l → order_place (order_under es l f) (write_of es l v) ≡ f v
 place_under es l zero f r e h = sym e.none
 place_under es l (suc k) f r e h =
-    let a : 0 < f (suc k) = e.above (suc k) (omega arith) h in
-    let b : f (suc k) ≤ write_count es l = e.within (suc k) (omega arith) h in
-    let m : f (suc k) - 1 + 1 ≡ f (suc k) = omega arith in
-    let s : under es l f (f (suc k) - 1) ≡ write_of es l (suc k) = ap (λ n. write_of es l (f n)) m ∙ ap (write_of es l) (e.back (suc k)) in
-    ap (order_place (order_under es l f)) (sym s)
-    ∙ place_given (under es l f) (write_count es l) (f (suc k) - 1) (gives_under es l f r e) (omega arith)
-    ∙ m
+    grind (arith, (place_given (under es l f) (write_count es l) (f (suc k) - 1) (gives_under es l f r e) (omega arith)), (gives_under es l f r e))
 
 -- the order is one of the location's place
 pub order_under_is : (es : List Edge) (mode : ObsMode) (number : ℕ → ℕ) (l : ℕ) (f : ℕ → ℕ) → Resolves es → IsNumbering es number → l < move_count es → Exchanges f (write_count es l) → IsOrderOf (cycle_accesses es mode number) (number l) (order_under es l f)
@@ -109,12 +101,13 @@ order_under_is es mode number l f r n h e =
 -- the last write of the order is that of the greatest value
 pub last_under : (es : List Edge) (l k : ℕ) (f : ℕ → ℕ) → Resolves es → Exchanges f (write_count es l) → write_count es l ≡ suc k → last_write (order_under es l f) ≡ ordered_write es l k
 last_under es l k f r e h =
-    let g = gives_under es l f r e in
-    let c : length (order_under es l f) - 1 ≡ k = omega (arith, length-filter_map-upto (under es l f) (write_count es l) g.some, h) in
-    let t : f (k + 1) ≡ suc k = ap f (add-one k ∙ sym h) ∙ e.last ∙ h in
-    ap (slice_get (order_under es l f)) c
-    ∙ slice_get-filter_map-upto (under es l f) (write_count es l) k g.some (omega arith)
-    ∙ ap (write_of es l) t
+    grind (
+      arith,
+      (gives_under es l f r e),
+      (length-filter_map-upto (under es l f) (write_count es l)),
+      (add-one k),
+      (slice_get-filter_map-upto (under es l f) (write_count es l) k),
+    )
 
 -- a location without writes has an empty order
 pub empty_under : (es : List Edge) (l : ℕ) (f : ℕ → ℕ) → write_count es l ≡ 0 → order_under es l f ≡ []

@@ -1,6 +1,5 @@
 -- What the executions of a cycle rest on: the facts of its threads, its locations and its values.
-use Rattle.std.proofs.Common.{refl, sym, ap, arith}
-use Rattle.list_laws.proofs.Cases.{by_less}
+use Rattle.std.proofs.Common.{refl, arith}
 use Rattle.std.specs.Prelude.{◌≡◌, ◌≢◌, ℕ, suc, ◌+◌, ◌<◌, ◌≤◌, false, List, length, Some, slice_get}
 use Rattle.relax_edges.specs.declared.kinds.Dir.{Dir}
 use Rattle.relax_edges.specs.declared.kinds.Dir.TheVariants as dirs
@@ -68,11 +67,7 @@ entered es i h = record { before = event_before es i; below = before_below es i 
 
 -- in one thread the later slot is that of the later event
 pub later_slot : (es : List Edge) (i j : ℕ) → Resolves es → i < length es → thread_of es i ≡ thread_of es j → slot_of es i < slot_of es j → i < j
-later_slot es i j r h t less =
-    by_less i j (λ m. m)
-    (λ m. by_less j i
-    (λ q. absurd (omega (arith, r.rises j i q h (sym t), less)))
-    (λ q. let s : i ≡ j = omega (arith, m, q) in absurd (omega (arith, ap (slot_of es) s, less))))
+later_slot es i j r h t less = grind arith
 
 -- a write that is neither the first nor the last of its location and that an external edge enters
 pub record InnerEntry (es : List Edge) (i : ℕ) : Type 0 where

@@ -1,5 +1,5 @@
 -- A value names its write: the writes at a location's place are its write events, with the values from 1.
-use Rattle.std.proofs.Common.{◌≡◌, ℕ, zero, suc, ◌<◌, ◌≤◌, List, Option, Some, None, refl, sym, ◌∙◌, ap, subst, arith}
+use Rattle.std.proofs.Common.{◌≡◌, ℕ, zero, suc, ◌<◌, ◌≤◌, List, Option, Some, None, refl, sym, ◌∙◌, ap, arith}
 use Rattle.std.specs.Option.{option_map}
 use Rattle.relax_edges.specs.declared.kinds.Dir.TheVariants as dirs
 use Rattle.relax_edges.specs.declared.kinds.ObsMode.{ObsMode}
@@ -27,7 +27,7 @@ pub record WriteEvent (es : List Edge) (number : ℕ → ℕ) (w : WriteAt) (pla
   pub name_is : event_name es event ≡ w
 
 -- a positive number is one more than a number
-more_than : (n : ℕ) → 0 < n → (k : ℕ) × (n ≡ suc k)
+pub more_than : (n : ℕ) → 0 < n → (k : ℕ) × (n ≡ suc k)
 more_than zero h = absurd (omega arith)
 more_than (suc k) h = (k, refl)
 
@@ -52,9 +52,7 @@ write_event es mode number w place value r h =
 
 -- write number k of a location is the access under its name, with the value k + 1
 pub write_at_name : (es : List Edge) (mode : ObsMode) (number : ℕ → ℕ) (l k i : ℕ) → Resolves es → IsWrite es l k i → at_name (cycle_accesses es mode number) (event_name es i) ≡ Some (write (number l) (suc k))
-write_at_name es mode number l k i r w =
-    event_at_name es mode number i r w.below
-    ∙ ap Some (λ t. record { dir = w.writes t; place = number (w.location t); value = w.value t })
+write_at_name es mode number l k i r w = grind (arith, event_at_name)
 
 -- the name of write number k
 pub ordered_write-is : (es : List Edge) (l k i : ℕ) → Resolves es → IsWrite es l k i → ordered_write es l k ≡ Some (event_name es i)
@@ -80,15 +78,9 @@ rank_below es l k i r w = omega (arith, r.within i w.below, w.value, ap (write_c
 -- what reads a value at a location's place reads the write of that value
 pub source_fixed : (es : List Edge) (mode : ObsMode) (number : ℕ → ℕ) (l : ℕ) (access : Access) (w : Option WriteAt) → Resolves es → IsNumbering es number → l < move_count es → number l ≡ access.place → CanRead (cycle_accesses es mode number) access w → w ≡ write_of es l access.value
 source_fixed es mode number l access None r n h p c = ap (write_of es l) (sym c)
-source_fixed es mode number l access (Some w) r n h p c =
-    let e = write_event es mode number w access.place access.value r c in
-    let s : e.spot ≡ l = n.injective e.spot l e.below h (e.place_is ∙ sym p) in
-    ap Some (sym e.name_is) ∙ sym (ordered_write-is es e.spot e.rank e.event r e.is_write) ∙ ap (λ m. ordered_write es m e.rank) s ∙ ap (write_of es l) (sym e.value_is)
+source_fixed es mode number l access (Some w) r n h p c = grind (arith, (write_event es mode number w access.place access.value r c), (ordered_write-is es))
 
 -- the write of a value can be read
 pub can_read : (es : List Edge) (mode : ObsMode) (number : ℕ → ℕ) (l value : ℕ) (access : Access) → Resolves es → number l ≡ access.place → value ≡ access.value → value ≤ write_count es l → CanRead (cycle_accesses es mode number) access (write_of es l value)
 can_read es mode number l zero access r p v h = sym v
-can_read es mode number l (suc k) access r p v h =
-    let w = nth_write es l k r (omega arith) in
-    subst (CanRead (cycle_accesses es mode number) access) (sym w.name_is)
-    (write_at_name es mode number l k w.event r w.is_write ∙ ap Some (λ t. record { dir = dirs.W; place = p t; value = v t }))
+can_read es mode number l (suc k) access r p v h = grind (arith, (nth_write es l k r (omega arith)), (write_at_name es mode number l k))

@@ -2,9 +2,8 @@
 -- its kind they determine the edge.
 use Rattle.std.specs.Prelude.{◌≡◌, ◌==◌, ◌&&◌, Bool, true, false, Option, Some, None}
 use Rattle.std.specs.List.{list_all}
-use Rattle.std.proofs.Common.{refl, ap, subst, sym, ◌∙◌}
+use Rattle.std.proofs.Common.{refl, ap, subst, sym, ◌∙◌, arith}
 use Rattle.std.proofs.lemmas.Bool.{and_parts, eqb-true}
-use Rattle.relax_edges.specs.declared.kinds.ArchName.{ArchName}
 use Rattle.relax_edges.specs.declared.kinds.Dir.{Dir}
 use Rattle.relax_edges.specs.declared.kinds.Dir.TheVariants as dirs
 use Rattle.relax_edges.specs.declared.kinds.Kind.{Kind}
@@ -14,7 +13,7 @@ use Rattle.relax_edges.specs.declared.kinds.Mark.TheVariants.{Plain}
 use Rattle.relax_edges.specs.declared.edge.Edge.{Edge}
 use Rattle.relax_edges.specs.declared.edge.Edge.TheVariants as edges
 use Rattle.relax_edges.specs.Marks.{markable_kind, marks_source, marks_target, mark_of}
-use Rattle.relax_edges.specs.EdgeTable.{kind_of, source_of, target_of, kind_source, kind_target, source_mark, target_mark, mark_fits, mark_is_of, kind_is_of, is_of_arch, same_mark, unmarked, marked_of, marked_edge}
+use Rattle.relax_edges.specs.EdgeTable.{kind_of, source_of, target_of, kind_source, kind_target, source_mark, target_mark, mark_fits, same_mark, unmarked, marked_of, marked_edge}
 use Rattle.relax_edges.specs.Order.{rank_of}
 use Rattle.relax_edges.specs.AllEdges.{edges_in_order}
 use Rattle.relax_edges.specs.WordReading.{marks_read}
@@ -24,49 +23,19 @@ use Rattle.cycle_laws.proofs.Joining.{same_mark_is}
 
 -- a plain access may read or write
 plain_fits : (d : Dir) → mark_fits d Plain ≡ true
-plain_fits dirs.R = refl
-plain_fits dirs.W = refl
+plain_fits d = grind arith
 
 -- and so may one with the mark of what it does
 marked_fits : (on : Bool) (d : Dir) → mark_fits d (mark_of on d) ≡ true
-marked_fits false d = plain_fits d
-marked_fits true dirs.R = refl
-marked_fits true dirs.W = refl
+marked_fits on d = grind arith
 
 -- a read that an edge leaves is plain or acquire, a write plain or release
 pub source_mark_fits : (edge : Edge) → mark_fits (source_of edge) (source_mark edge) ≡ true
-source_mark_fits (edges.Com kind reach) = plain_fits (kind_source (kinds.Com kind reach))
-source_mark_fits (edges.Po sd from to) = plain_fits from
-source_mark_fits (edges.Fenced kind sd from to) = plain_fits from
-source_mark_fits (edges.Dep kind sd to) = refl
-source_mark_fits (edges.Data sd) = refl
-source_mark_fits (edges.Marked marked) = marked_fits (marks_source marked.ends) (kind_source (markable_kind marked.kind))
+source_mark_fits (x) = grind arith
 
 -- a read that an edge enters is plain or acquire, a write plain or release
 pub target_mark_fits : (edge : Edge) → mark_fits (target_of edge) (target_mark edge) ≡ true
-target_mark_fits (edges.Com kind reach) = plain_fits (kind_target (kinds.Com kind reach))
-target_mark_fits (edges.Po sd from to) = plain_fits to
-target_mark_fits (edges.Fenced kind sd from to) = plain_fits to
-target_mark_fits (edges.Dep kind sd to) = plain_fits to
-target_mark_fits (edges.Data sd) = refl
-target_mark_fits (edges.Marked marked) = marked_fits (marks_target marked.ends) (kind_target (markable_kind marked.kind))
-
--- the mark of what an edge leaves is one of the architecture's
-pub source_mark_of_arch : (edge : Edge) (arch : ArchName) → is_of_arch edge arch ≡ true → mark_is_of (source_mark edge) arch ≡ true
-source_mark_of_arch edge arch h =
-    (and_parts (mark_is_of (source_mark edge) arch) (mark_is_of (target_mark edge) arch)
-    (and_parts (mark_is_of (source_mark edge) arch && mark_is_of (target_mark edge) arch) (kind_is_of (kind_of edge) arch) h).0).0
-
--- and so is the mark of what it enters
-pub target_mark_of_arch : (edge : Edge) (arch : ArchName) → is_of_arch edge arch ≡ true → mark_is_of (target_mark edge) arch ≡ true
-target_mark_of_arch edge arch h =
-    (and_parts (mark_is_of (source_mark edge) arch) (mark_is_of (target_mark edge) arch)
-    (and_parts (mark_is_of (source_mark edge) arch && mark_is_of (target_mark edge) arch) (kind_is_of (kind_of edge) arch) h).0).1
-
--- and what the edge is without its marks
-pub kind_of_arch : (edge : Edge) (arch : ArchName) → is_of_arch edge arch ≡ true → kind_is_of (kind_of edge) arch ≡ true
-kind_of_arch edge arch h =
-    (and_parts (mark_is_of (source_mark edge) arch && mark_is_of (target_mark edge) arch) (kind_is_of (kind_of edge) arch) h).1
+target_mark_fits (x) = grind arith
 
 -- whether the edge of a kind with two marks, if there is one, has them
 has_parts : Option Edge → Kind → Mark → Mark → Bool

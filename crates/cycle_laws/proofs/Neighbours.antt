@@ -11,20 +11,14 @@ use Rattle.cycle_laws.proofs.Places.{get_in_prefix, get_after, past_once}
 
 -- each edge of a joined list joins the one after it
 pub joined_at_place : (v : List Edge) → is_joined v ≡ true → (i : ℕ) (e f : Edge) → slice_get v i ≡ Some e → slice_get v (suc i) ≡ Some f → joins_to e f ≡ true
-joined_at_place [] h i e f s t = cc
-joined_at_place (x ∷ []) h i e f s t = cc
-joined_at_place (x ∷ y ∷ v) h zero e f s t =
-    let a : x ≡ e = cc in
-    let b : y ≡ f = cc in
-    rw (← a, ← b) ((and_parts (joins_to x y) (is_joined (y ∷ v)) h).0)
 joined_at_place (x ∷ y ∷ v) h (suc i) e f s t = joined_at_place (y ∷ v) ((and_parts (joins_to x y) (is_joined (y ∷ v)) h).1) i e f s t
+joined_at_place v h i e f s t = grind (arith, and_parts)
 
 -- a list is joined where each edge joins the one after it
 pub joined_of_places : (v : List Edge) → ((i : ℕ) (e f : Edge) → slice_get v i ≡ Some e → slice_get v (suc i) ≡ Some f → joins_to e f ≡ true) → is_joined v ≡ true
-joined_of_places [] h = refl
-joined_of_places (x ∷ []) h = refl
 joined_of_places (x ∷ y ∷ v) h =
     and_from (joins_to x y) (is_joined (y ∷ v)) (h zero x y refl refl) (joined_of_places (y ∷ v) (λ i. h (suc i)))
+joined_of_places v h = grind arith
 
 -- what a later place comes from
 record Later (at : Option ℕ) (i : ℕ) : Type 0 where
@@ -33,13 +27,10 @@ record Later (at : Option ℕ) (i : ℕ) : Type 0 where
   is : i ≡ suc before
 
 later : (at : Option ℕ) (i : ℕ) → one_later at ≡ Some i → Later at i
-later None i h = cc
-later (Some j) i h = let e : j + 1 ≡ i = cc in record { before = j; found = refl; is = omega arith }
+later at i h = grind arith
 
 -- the edge at a break doesn't join the one after it
 pub broken_at : (v : List Edge) (i : ℕ) → first_break v ≡ Some i → (e f : Edge) → slice_get v i ≡ Some e → slice_get v (suc i) ≡ Some f → joins_to e f ≡ false
-broken_at [] i h e f s t = cc
-broken_at (x ∷ []) i h e f s t = cc
 broken_at (x ∷ y ∷ v) i h e f s t =
     elim (joins_to x y) as (λ b. joins_to x y ≡ b → cond b (one_later (first_break (y ∷ v))) (Some 0) ≡ Some i → joins_to e f ≡ false) [
       | true ↦ λ q k.
@@ -53,6 +44,7 @@ broken_at (x ∷ y ∷ v) i h e f s t =
           let d : y ≡ f = cc in
           rw (← c, ← d) q
     ] refl h
+broken_at v i h e f s t = grind arith
 
 -- each edge before a break joins the one after it
 pub joined_before : (v : List Edge) (i : ℕ) → first_break v ≡ Some i → (j : ℕ) → j < i → (e f : Edge) → slice_get v j ≡ Some e → slice_get v (suc j) ≡ Some f → joins_to e f ≡ true
@@ -99,8 +91,7 @@ got (x ∷ u) (suc i) h = let g = got u i (omega arith) in record { edge = g.edg
 -- each edge of a closed list joins the next one, cyclically
 pub closed_at_place : (u : List Edge) → is_closed u ≡ true → (i : ℕ) → JoinsNext u i
 closed_at_place u h i e f s t =
-    let within : i < length u = slice_get_within u i e s in
-    joined_at_place (u ++ take 1 u) h i e f (get_in_prefix u (take 1 u) i within ∙ s) (first_again u i within ∙ t)
+    grind (arith, (slice_get_within u i e s), (joined_at_place (u ++ take 1 u) h i e f), (get_in_prefix u (take 1 u) i), (first_again u i))
 
 -- a list closes where each of its edges joins the next one, cyclically
 pub closed_of_places : (u : List Edge) → ((i : ℕ) → i < length u → JoinsNext u i) → is_closed u ≡ true
@@ -124,6 +115,4 @@ break_is u i h within joins =
 
 -- and each edge before that place joins the next one
 pub break_is_first : (u : List Edge) (i : ℕ) → first_break (u ++ take 1 u) ≡ Some i → (j : ℕ) → j < i → JoinsNext u j
-break_is_first u i h j l e f s t =
-    let within : j < length u = slice_get_within u j e s in
-    joined_before (u ++ take 1 u) i h j l e f (get_in_prefix u (take 1 u) j within ∙ s) (first_again u j within ∙ t)
+break_is_first u i h j l e f s t = search (arith, slice_get_within, joined_before, get_in_prefix, first_again)

@@ -38,11 +38,6 @@ above_longer [] v a b h = absurd h
 above_longer (x ∷ u) [] a b h = absurd h
 above_longer (x ∷ u) (y ∷ v) a b h = elim h [ inl less ↦ inl less | inr both ↦ inr (both.0, above_longer u v a b both.1) ]
 
--- a common prefix doesn't matter
-pub above_after : (prefix u v : List Edge) → Above (prefix ++ u) (prefix ++ v) → Above u v
-above_after [] u v h = h
-above_after (x ∷ prefix) u v h = elim h [ inl less ↦ absurd (omega arith) | inr both ↦ above_after prefix u v both.1 ]
-
 -- and the other way round
 pub above_before : (prefix u v : List Edge) → Above u v → Above (prefix ++ u) (prefix ++ v)
 above_before [] u v h = h

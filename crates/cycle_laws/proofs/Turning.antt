@@ -1,6 +1,6 @@
 -- Tests of lists that look at each element and the one after it: what they say of two parts, and of the same parts exchanged.
 use Rattle.std.specs.Prelude.{◌≡◌, ◌&&◌, Bool, true, List, [], ◌∷◌, ◌++◌}
-use Rattle.std.proofs.Common.{sym, ◌∙◌, ap, append_assoc}
+use Rattle.std.proofs.Common.{sym, ◌∙◌, ap, append_assoc, arith}
 use Rattle.std.proofs.lemmas.List.{append-nil}
 use Rattle.std.proofs.Math.Bool.{and_assoc, and_comm}
 
@@ -16,12 +16,7 @@ pub record IsStepwise {X : Type 0} (next : X → List X → Bool) (every closed 
 pub stepwise_at : {X : Type 0} (next : X → List X → Bool) (every closed : List X → Bool) → IsStepwise next every closed →
     (xs : List X) (m : X) (ys : List X) → every (xs ++ m ∷ ys) ≡ (every (xs ++ m ∷ []) && every (m ∷ ys))
 stepwise_at next every closed is [] m ys = ap (λ b. b && every (m ∷ ys)) (sym (is.alone m))
-stepwise_at next every closed is (x ∷ xs) m ys =
-    is.step x (xs ++ m ∷ ys)
-    ∙ ap (λ b. b && every (xs ++ m ∷ ys)) (is.looks x m xs ys)
-    ∙ ap (λ b. next x (xs ++ m ∷ []) && b) (stepwise_at next every closed is xs m ys)
-    ∙ sym (and_assoc (next x (xs ++ m ∷ [])) (every (xs ++ m ∷ [])) (every (m ∷ ys)))
-    ∙ ap (λ b. b && every (m ∷ ys)) (sym (is.step x (xs ++ m ∷ [])))
+stepwise_at next every closed is (x ∷ xs) m ys = grind (arith, (stepwise_at next every closed is xs m ys))
 
 -- such a test of a closed list says the same of the list with two parts exchanged
 pub stepwise_turned : {X : Type 0} (next : X → List X → Bool) (every closed : List X → Bool) → IsStepwise next every closed →

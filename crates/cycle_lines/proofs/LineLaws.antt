@@ -1,5 +1,5 @@
 -- How the lines of a text follow from those of its parts.
-use Rattle.std.proofs.Common.{◌≡◌, ◌==◌, ℕ, zero, suc, ◌+◌, ◌<◌, ◌≤◌, List, [], ◌∷◌, ◌++◌, length, true, false, refl, sym, ap, ◌∙◌, arith, append-nil, append_assoc, length-append}
+use Rattle.std.proofs.Common.{◌≡◌, ◌==◌, ℕ, suc, ◌+◌, ◌<◌, ◌≤◌, List, [], ◌∷◌, ◌++◌, length, true, false, refl, sym, ap, ◌∙◌, arith, append-nil, append_assoc, length-append}
 use Rattle.std.specs.Prelude.{map}
 use Rattle.std.specs.List.{slice_split}
 use Rattle.std.proofs.lemmas.List.{map-append, length-map}
@@ -47,11 +47,6 @@ lines_after a b e =
 -- bytes that a text doesn't hold
 pub without_nil : (sign : ℕ) → Without sign []
 without_nil sign k d l = absurd (omega arith)
-
--- a text that begins with another byte, and whose rest doesn't hold a byte, doesn't hold it
-pub without_cons : (sign byte : ℕ) (text : List ℕ) → (byte == sign) ≡ false → Without sign text → Without sign (byte ∷ text)
-without_cons sign byte text e h zero d l = e
-without_cons sign byte text e h (suc k) d l = h k d (omega arith)
 
 -- the first byte of a text that doesn't hold a byte is another
 pub without_first : (sign byte : ℕ) (text : List ℕ) → Without sign (byte ∷ text) → (byte == sign) ≡ false

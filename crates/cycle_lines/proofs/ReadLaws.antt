@@ -25,7 +25,7 @@ use Rattle.cycle_lines.specs.declared.reader.Line.{Line}
 use Rattle.text_laws.specs.Lines.{without_return, ended_lines, unended, last_line, lines_of}
 use Rattle.cycle_lines.specs.Cycles.{line_said, line_fault, is_sound, are_sound, cycle_said, cycles_of, is_long_line}
 use Rattle.cycle_lines.specs.LineReading.{TookUpTo, Untouched, ReadAll, ReadToFault, ReadToLimit, ReadToStop, ReadSome, whole_of, cycles_before}
-use Rattle.cycle_lines.specs.LineSteps.{Without, CutsAtSign, ReaderSeen, HasRead, GivesLine, GivesNext, line_said_by, work, Fills, FillsBuffer, Ended, Stops, Ends, LessToDo, Continues, last_cycle}
+use Rattle.cycle_lines.specs.LineSteps.{Without, CutsAtSign, ReaderSeen, HasRead, GivesLine, GivesNext, line_said_by, Fills, FillsBuffer, Ended, Stops, Ends, LessToDo, Continues, last_cycle}
 use Rattle.cycle_lines.proofs.LineLaws.{ended_after, unended_after, lines_after, ended_none, unended_all, ended_nil, unended_nil, short_pending, long_first, ended_count}
 use Rattle.text_laws.proofs.LineLaws.{ended_cut, unended_cut, lines_cut}
 
@@ -206,24 +206,6 @@ long_given arch s t r cycles h one long =
     let first = long_first r.pending (unwrap_or t.left []) one long in
     fault_first arch s t r cycles first.line first.later LineTooLong h (took_pending arch s t r cycles h (some_long r.pending long)) first.is (long_fault arch first.line first.long)
 
--- more bytes are pending
-pub more_read : (arch : ArchName) (s t u : SourceSeen) (r q : ReaderSeen) (cycles : List (List Edge)) (count : ℕ) →
-    HasRead arch s t r cycles → Fills t u r q count → HasRead arch s u q cycles
-more_read arch s t u r q cycles count h f =
-    let bytes_are : (h.given ++ r.pending) ++ f.bytes ≡ h.given ++ q.pending =
-    append_assoc h.given r.pending f.bytes ∙ ap (λ b. h.given ++ b) (sym f.pending) in
-    record {
-      given = h.given;
-      took = inl (subst (Took s u) bytes_are (took_then s t u (h.given ++ r.pending) f.bytes h.took f.took));
-      no_fault = f.no_fault ∙ h.no_fault;
-      ended = h.ended;
-      sound = h.sound;
-      cycles_are = h.cycles_are;
-      line_is = f.line_is ∙ h.line_is;
-      taken_is = f.taken_is ∙ ap (λ n. n + length f.bytes) h.taken_is ∙ sym (length-append (h.given ++ r.pending) f.bytes) ∙ ap length bytes_are;
-      few = f.few;
-    }
-
 -- how many bytes of a buffer are pending, where they are a line that isn't too long
 pub short_count : (buffer pending : List ℕ) (start end : ℕ) → take (end - start) (drop start buffer) ≡ pending → start ≤ end → end ≤ length buffer →
     is_long_line (without_return pending) ≡ false → end - start ≤ 4097
@@ -300,22 +282,6 @@ past_limit arch s t u r cycles bytes h one short full took some no_fault =
       cycles_are = h.cycles_are ∙ ap (cycles_of arch) (sym ended) ∙ ap (λ b. cycles_of arch (ended_lines b)) (sym prefix);
     }
 
--- nothing was taken
-pub none_taken : (arch : ArchName) (s t u : SourceSeen) (r : ReaderSeen) (cycles : List (List Edge)) (bytes : List ℕ) →
-    HasRead arch s t r cycles → Took t u bytes → length bytes ≡ 0 → u.faults ≡ t.faults → HasRead arch s u r cycles
-none_taken arch s t u r cycles [] h took none no_fault = record {
-  given = h.given;
-  took = inl (subst (Took s u) (append-nil (h.given ++ r.pending)) (took_then s t u (h.given ++ r.pending) [] h.took took));
-  no_fault = no_fault ∙ h.no_fault;
-  ended = h.ended;
-  sound = h.sound;
-  cycles_are = h.cycles_are;
-  line_is = h.line_is;
-  taken_is = h.taken_is;
-  few = h.few;
-}
-none_taken arch s t u r cycles (b ∷ bytes) h took none no_fault = absurd (omega arith)
-
 -- the end of the source
 lines_at_end : (arch : ArchName) (s t : SourceSeen) (r : ReaderSeen) (cycles : List (List Edge)) (h : HasRead arch s t r cycles) →
     Without 10 r.pending → lines_of (h.given ++ r.pending) ≡ ended_lines h.given ++ last_line r.pending
@@ -338,17 +304,6 @@ all_read arch s t r cycles more h one at_end sound e =
           ap (λ cs. cs ++ more) h.cycles_are ∙ ap (λ cs. cycles_of arch (ended_lines h.given) ++ cs) e
           ∙ sym (cycles_both arch (ended_lines h.given) (last_line r.pending)) ∙ ap (cycles_of arch) (sym lines);
     }
-
--- without a last line
-pub none_last : (arch : ArchName) (s t : SourceSeen) (r : ReaderSeen) (cycles : List (List Edge)) →
-    HasRead arch s t r cycles → length r.pending ≡ 0 → Ended t → Without 10 r.pending → ReadAll arch s t (cycles ++ [])
-none_last arch s t r cycles h e at_end one =
-    let none : last_line r.pending ≡ [] = empty r.pending e in
-    all_read arch s t r cycles [] h one at_end (ap (are_sound arch) none) (ap (cycles_of arch) (sym none))
-  where
-    empty : (text : List ℕ) → length text ≡ 0 → last_line text ≡ []
-    empty [] e = refl
-    empty (b ∷ text) e = absurd (omega arith)
 
 some_last : (text : List ℕ) → 0 < length text → last_line text ≡ text ∷ []
 some_last [] h = absurd (omega arith)
@@ -466,10 +421,6 @@ buffer_left buffer pending bytes later start end next e cut n =
 -- a line that was given is the next line
 pub given_next : (arch : ArchName) (r q : ReaderSeen) (cycle : Option (List Edge)) (line : Line) (said : Result (Option (List Edge)) LineKind) → line_said_by line cycle ≡ Some said → GivesLine arch r q said → GivesNext arch r q cycle line
 given_next arch r q cycle line said e h = subst (λ o. MatchOption o (Without 10 r.pending × (q ≡ r)) (λ said. GivesLine arch r q said)) (sym e) h
-
--- a line is taken off the work
-pub line_less : (arch : ArchName) (r q : ReaderSeen) (said : Result (Option (List Edge)) LineKind) → GivesLine arch r q said → work q < work r
-line_less arch r q said g = omega (arith, g.taken_is, ap length g.cut.parts, length-append g.bytes (10 ∷ q.pending))
 
 -- the line that is cut off the pending bytes is given
 pub given_line : (arch : ArchName) (r q : ReaderSeen) (bytes later : List ℕ) (said : Result (Option (List Edge)) LineKind) → CutsAtSign 10 r.pending bytes later → q.pending ≡ later →

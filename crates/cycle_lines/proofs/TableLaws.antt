@@ -1,5 +1,5 @@
 -- The names of cycles by their families, as they are kept and written.
-use Rattle.std.proofs.Common.{◌≡◌, ◌≤◌, ◌<◌, ◌+◌, ℕ, zero, suc, List, [], ◌∷◌, ◌++◌, length, take, get_or, Option, None, Ok, Err, true, false, refl, sym, ap, inl, inr, ◌∙◌, subst, arith, append-nil, append_assoc}
+use Rattle.std.proofs.Common.{◌≡◌, ◌≤◌, ◌<◌, ◌+◌, ℕ, zero, suc, List, [], ◌∷◌, ◌++◌, length, take, get_or, Option, None, Ok, Err, true, false, refl, sym, ap, inl, ◌∙◌, subst, arith, append-nil, append_assoc}
 use Rattle.std.specs.Prelude.{cond, map, filter, fold, codes, Result, OnOk, String, IsTrue, ◌↔◌, slice_set}
 use Rattle.std.specs.List.{flat_map}
 use Rattle.std.specs.Result.{IsErrAnd}
@@ -32,7 +32,7 @@ use Rattle.cycle_lines.specs.Classified.{families_in_order, is_family, with_cycl
 use Rattle.cycle_lines.specs.FamilyTables.{place_of_family, FamilyEntry, family_view, entry_text, family_table, HoldsCycles, entry_with, name_entered, AddsCycle, AddsLast, GatheredFamilies}
 use Rattle.cycle_lines.specs.KeptNames.{names_in_set}
 use Rattle.cycle_lines.specs.LineSteps.{ReaderSeen, HasRead, last_cycle}
-use Rattle.cycle_lines.proofs.ReadLaws.{nothing_read, kept_same}
+use Rattle.cycle_lines.proofs.ReadLaws.{nothing_read}
 
 -- the names of a family with one more cycle
 names_more : (f : Family) (cycles : List (List Edge)) (c : List Edge) →
@@ -149,10 +149,6 @@ names_stop a b c held mid ys it rest x text all e h k w p =
     ∙ sym (flat_map-append name_entry (map (λ (name : Bor (String Global)). string_bytes name.now) (ys ++ x ∷ [])) left) ∙ ap (flat_map name_entry) (names_cover ys it rest x all h k))
     part
 
-pub names_done : (ys : List (Bor (String Global))) (it : List (String Global)) (all : List (List ℕ)) → it ≡ [] → map (λ name. string_bytes name.now) ys ++ map (λ name. string_bytes name) it ≡ all → map (λ name. string_bytes name.now) ys ≡ all
-names_done ys it all e k =
-    sym (append-nil (map (λ name. string_bytes name.now) ys)) ∙ ap (λ t. map (λ (name : Bor (String Global)). string_bytes name.now) ys ++ map (λ (name : String Global). string_bytes name) t) (sym e) ∙ k
-
 -- the lines of families one after another
 pub each_entry : (a b c : SinkSeen) (held mid kept : List ℕ) (table : List FamilyNames) (i : ℕ) (entry : FamilyNames) → i < length table → entry ≡ get_or table i entry
     → SentAll a held b mid (flat_map (λ e. entry_text (family_view e)) (take i table)) → SentAll b mid c kept (entry_text (family_view entry))
@@ -225,9 +221,6 @@ part_read arch s t r cycles h = record { text = h.given ++ r.pending; took = h.t
 -- a source that was read to its end was read without a fault
 pub whole_read : (arch : ArchName) (s t : SourceSeen) (cycles : List (List Edge)) → ReadAll arch s t cycles → ReadsPart s t
 whole_read arch s t cycles h = record { text = h.text; took = inl h.took; few = h.few; no_fault = h.no_fault }
-
-pub unread : (s : SourceSeen) → ReadsPart s s
-unread s = record { text = []; took = inr (record { none = refl; kept = kept_same s.left; taken_is = refl }); few = omega arith; no_fault = refl }
 
 -- the names of the cycles that were given are kept
 pub record Gathering (arch : ArchName) (first now : SourceSeen) (reader : ReaderSeen) (table : List FamilyEntry) : Type 0 where

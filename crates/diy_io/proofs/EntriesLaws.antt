@@ -29,34 +29,25 @@ bytes_viewed es i d old h e = ap (λ f. f.1) (get_or-map file_view es i d ([], [
 set_viewed : (es : List Entry) (i : ℕ) (d old new : Entry) (bytes : List ℕ) → i < length (map file_view es) → old ≡ get_or es i d
     → new.name.items ≡ old.name.items → new.bytes.items ≡ bytes
     → map file_view (set es i new) ≡ set (map file_view es) i (file_name_at i (map file_view es), bytes)
-set_viewed es i d old new bytes h e n b =
-    let inside : i < length es = omega (arith, length-map es file_view) in
-    map-set file_view es i new
-    ∙ ap (set (map file_view es) i) (pair_is _ _ _ _ (n ∙ sym (name_viewed es i d old inside e)) b)
+set_viewed es i d old new bytes h e n b = grind (arith, (length-map es file_view), (map-set file_view es i new), pair_is, (name_viewed es i d old))
 
 -- a file has other bytes in its place
 pub entry_set : (es : List Entry) (files : List NamedFile) (i : ℕ) (d old new : Entry) (bytes : List ℕ) → map file_view es ≡ files → i < length files → old ≡ get_or es i d
     → new.name.items ≡ old.name.items → new.bytes.items ≡ bytes
     → map file_view (set es i new) ≡ set files i (file_name_at i files, bytes)
-entry_set es files i d old new bytes is h e n b =
-    let P : List NamedFile → Type 0 = λ f. i < length f → map file_view (set es i new) ≡ set f i (file_name_at i f, bytes) in
-    subst P is (λ inside. set_viewed es i d old new bytes inside e n b) h
+entry_set es files i d old new bytes is h e n b = grind (arith, (set_viewed es i d old new bytes))
 
 -- the bytes of a file grow
 pub entry_grown : (es : List Entry) (files : List NamedFile) (i : ℕ) (d old new : Entry) (bytes : List ℕ) → map file_view es ≡ files → i < length files → old ≡ get_or es i d
     → new.name.items ≡ old.name.items → new.bytes.items ≡ old.bytes.items ++ bytes
     → map file_view (set es i new) ≡ set files i (file_name_at i files, bytes_at i files ++ bytes)
 entry_grown es files i d old new bytes is h e n b =
-    let viewed : bytes_at i files ≡ old.bytes.items =
-    ap (bytes_at i) (sym is) ∙ bytes_viewed es i d old (let c : length files ≡ length es = ap length (sym is) ∙ length-map es file_view in omega arith) e in
-    entry_set es files i d old new (bytes_at i files ++ bytes) is h e n (b ∙ ap (λ f. f ++ bytes) (sym viewed))
+    grind (arith, (bytes_viewed es i d old), (length-map es file_view), (entry_set es files i d old new (bytes_at i files ++ bytes) is h e n))
 
 -- a file is added after the others
 pub entry_added : (es made : List Entry) (files : List NamedFile) (new : Entry) (name bytes : List ℕ) → map file_view es ≡ files → made ≡ es ++ new ∷ []
     → new.name.items ≡ name → new.bytes.items ≡ bytes → map file_view made ≡ files ++ (name, bytes) ∷ []
-entry_added es made files new name bytes is e n b =
-    ap (map file_view) e ∙ map-append file_view es (new ∷ [])
-    ∙ ap (λ prefix. prefix ++ file_view new ∷ []) is ∙ ap (λ f. files ++ f ∷ []) (pair_is _ _ _ _ n b)
+entry_added es made files new name bytes is e n b = grind (arith, map-append, pair_is)
 
 -- the last file to come has no name and no bytes
 pub last_spare : (room : ℕ) (spare : List Entry) (n : ℕ) (d : Entry) (entry : Entry) → All (IsSpare room) spare → n < length spare → entry ≡ get_or spare n d → IsSpare room entry
@@ -76,9 +67,7 @@ if_some_at r P x h e = let Q : Option _ → Type 0 = λ o. IfSome o P in subst Q
 
 -- the length of what is left, where one was taken
 pub one_less : {X : Type 0} (r : Option X) (x : X) (P : Type 0) (old new : ℕ) → MatchOption r P (λ _. new + 1 ≡ old) → r ≡ Some x → new ≡ old - 1
-one_less r x P old new h e =
-    let Q : Option _ → Type 0 = λ o. MatchOption o P (λ _. new + 1 ≡ old) in
-    let less : new + 1 ≡ old = subst Q e h in omega arith
+one_less r x P old new h e = grind arith
 
 -- what holds where a call succeeded
 pub on_ok_at : {X E : Type 0} (r : Result X E) (b : Bool) (P : Type 0) → OnOk r P → b ≡ is_err r → b ≡ false → P

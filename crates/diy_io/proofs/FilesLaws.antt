@@ -23,15 +23,7 @@ pub record FirstAt (t : NamedFile → Bool) (k : ℕ) (xs : List NamedFile) (i :
   pub place_put : (y : NamedFile) → t y ≡ true → position_from t k (set xs place y) ≡ Some i
 
 first_here : (t : NamedFile → Bool) (k : ℕ) (x : NamedFile) (xs : List NamedFile) (i : ℕ) → k ≡ i → t x ≡ true → FirstAt t k (x ∷ xs) i
-first_here t k x xs i e passed = record {
-  place = 0;
-  is = omega arith;
-  inside = omega arith;
-  passes = λ d. passed;
-  found = λ d. rw passed refl;
-  found_put = λ y h. rw h refl;
-  place_put = λ y h. rw h (ap Some e);
-}
+first_here t k x xs i e passed = grind arith
 
 first_later : (t : NamedFile → Bool) (k : ℕ) (x : NamedFile) (xs : List NamedFile) (i : ℕ) → t x ≡ false → FirstAt t (k + 1) xs i → FirstAt t k (x ∷ xs) i
 first_later t k x xs i failed f = record {
@@ -46,20 +38,15 @@ first_later t k x xs i failed f = record {
 
 first_at : (t : NamedFile → Bool) (k : ℕ) (xs : List NamedFile) (i : ℕ) → position_from t k xs ≡ Some i → FirstAt t k xs i
 first_at t k [] i e = absurd (none-some i e)
-first_at t k (x ∷ xs) i e = by_test (t x)
-    (λ passed. first_here t k x xs i (same_Some k i (rw passed at e)) passed)
-    (λ failed. first_later t k x xs i failed (first_at t (k + 1) xs i (rw failed at e)))
+first_at t k (x ∷ xs) i e = grind (arith, (first_at t (k + 1) xs i), first_here, same_Some, first_later)
 
 find_none : (t : NamedFile → Bool) (k : ℕ) (xs : List NamedFile) → position_from t k xs ≡ None → find t xs ≡ None
 find_none t k [] e = refl
-find_none t k (x ∷ xs) e = by_test (t x)
-    (λ passed. absurd (none-some k (sym (rw passed at e))))
-    (λ failed. rw failed (find_none t (k + 1) xs (rw failed at e)))
+find_none t k (x ∷ xs) e = grind (arith, (find_none t (k + 1) xs))
 
 find_put_other : (u : NamedFile → Bool) (xs : List NamedFile) (i : ℕ) (d y : NamedFile) → u y ≡ false → u (get_or xs i d) ≡ false → find u (set xs i y) ≡ find u xs
-find_put_other u [] i d y p q = refl
-find_put_other u (x ∷ xs) zero d y p q = rw (p, q) refl
 find_put_other u (x ∷ xs) (suc i) d y p q = ap (λ r. cond (u x) (Some x) r) (find_put_other u xs i d y p q)
+find_put_other u xs i d y p q = grind arith
 
 same_bytes : (a b : List ℕ) → bytes_eq a b ≡ true → a ≡ b
 same_bytes a b = (bytes_eq-Decides a b).0
@@ -76,8 +63,7 @@ place_is name files i f = f.is ∙ zero-add f.place
 
 -- the place of a file is below the number of files
 pub place_inside : (name : List ℕ) (files : List NamedFile) (i : ℕ) → file_place name files ≡ Some i → i < length files
-place_inside name files i e =
-    let f = first_named name files i e in let p = place_is name files i f in rw p f.inside
+place_inside name files i e = grind (arith, (first_named name files i e), (place_is name files i))
 
 -- the file at the place of a name has the name
 pub name_there : (name : List ℕ) (files : List NamedFile) (i : ℕ) → file_place name files ≡ Some i → file_name_at i files ≡ name
@@ -87,9 +73,7 @@ name_there name files i e =
 
 -- the bytes of the file at the place of a name are those of the file of that name
 pub bytes_there : (name : List ℕ) (files : List NamedFile) (i : ℕ) → file_place name files ≡ Some i → files_named files name ≡ Some (bytes_at i files)
-bytes_there name files i e =
-    let f = first_named name files i e in let p = place_is name files i f in
-    rw p (ap (option_map (λ file. file.1)) (f.found ([], [])))
+bytes_there name files i e = grind (arith, (first_named name files i e), (place_is name files i))
 
 -- where a name has no place, there is no file of that name
 pub bytes_not_there : (name : List ℕ) (files : List NamedFile) → file_place name files ≡ None → files_named files name ≡ None
@@ -97,68 +81,45 @@ bytes_not_there name files e = ap (option_map (λ file. file.1)) (find_none (has
 
 -- the place of a file stays where its bytes change
 pub place_stays : (name bytes : List ℕ) (files : List NamedFile) (i : ℕ) → file_place name files ≡ Some i → file_place name (set files i (name, bytes)) ≡ Some i
-place_stays name bytes files i e =
-    let f = first_named name files i e in let p = place_is name files i f in
-    let P : ℕ → Type 0 = λ j. file_place name (set files j (name, bytes)) ≡ Some i in
-    subst P (sym p) (f.place_put (name, bytes) (bytes_same name name refl))
+place_stays name bytes files i e = grind (arith, (first_named name files i e), (place_is name files i), (bytes_same name name refl))
 
 put_same : (files : List NamedFile) (name bytes other : List ℕ) (i : ℕ) → file_place name files ≡ Some i → other ≡ name
     → files_named (set files i (name, bytes)) other ≡ Some bytes
-put_same files name bytes other i e o =
-    let f = first_named name files i e in let p = place_is name files i f in
-    let P : ℕ → Type 0 = λ j. files_named (set files j (name, bytes)) name ≡ Some bytes in
-    let there : files_named (set files i (name, bytes)) name ≡ Some bytes =
-    subst P (sym p) (ap (option_map (λ file. file.1)) (f.found_put (name, bytes) (bytes_same name name refl))) in
-    ap (files_named (set files i (name, bytes))) o ∙ there
+put_same files name bytes other i e o = grind (arith, (first_named name files i e), (place_is name files i), (bytes_same name name refl))
 
 put_other : (files : List NamedFile) (name bytes other : List ℕ) (i : ℕ) → file_place name files ≡ Some i → bytes_eq other name ≡ false
     → files_named (set files i (name, bytes)) other ≡ files_named files other
 put_other files name bytes other i e differs =
-    let n = name_there name files i e in
-    let old : has_name other (get_or files i ([], [])) ≡ false = ap (λ known. bytes_eq known other) n ∙ (eq_swap name other ∙ differs) in
-    ap (option_map (λ file. file.1)) (find_put_other (has_name other) files i ([], []) (name, bytes) (eq_swap name other ∙ differs) old)
+    grind (arith, (name_there name files i e), (eq_swap name other), (find_put_other (has_name other) files i ([], []) (name, bytes) (eq_swap name other ∙ differs)))
 
 -- a file has other bytes in its place
 pub files_put : (files : List NamedFile) (name bytes : List ℕ) (i : ℕ) → file_place name files ≡ Some i
     → files_named (set files i (name, bytes)) ≡ with_file name bytes (files_named files)
-files_put files name bytes i e = fun_ext (λ other. by_test (bytes_eq other name)
-    (λ same. rw same (put_same files name bytes other i e (same_bytes other name same)))
-    (λ differs. rw differs (put_other files name bytes other i e differs)))
+files_put files name bytes i e = grind (arith, fun_ext, put_same, same_bytes, put_other)
 
 add_other : (files : List NamedFile) (name bytes other : List ℕ) → has_name other (name, bytes) ≡ false
     → files_named (files ++ (name, bytes) ∷ []) other ≡ files_named files other
 add_other [] name bytes other differs = rw differs refl
-add_other (file ∷ files) name bytes other differs = by_test (has_name other file)
-    (λ passed. rw passed refl)
-    (λ failed. rw failed (add_other files name bytes other differs))
+add_other (file ∷ files) name bytes other differs = grind (arith, (add_other files name bytes other differs))
 
 add_same : (files : List NamedFile) (name bytes other : List ℕ) → file_place name files ≡ None → other ≡ name
     → files_named (files ++ (name, bytes) ∷ []) other ≡ Some bytes
-add_same files name bytes other e o =
-    let there : find (has_name name) (files ++ (name, bytes) ∷ []) ≡ Some (name, bytes) =
-    find-append (has_name name) files ((name, bytes) ∷ []) ∙ (rw (find_none (has_name name) 0 files e, bytes_same name name refl) refl) in
-    ap (files_named (files ++ (name, bytes) ∷ [])) o ∙ ap (option_map (λ file. file.1)) there
+add_same files name bytes other e o = grind (arith, find-append, find_none, bytes_same)
 
 -- a file is added after the others
 pub files_added : (files : List NamedFile) (name bytes : List ℕ) → file_place name files ≡ None
     → files_named (files ++ (name, bytes) ∷ []) ≡ with_file name bytes (files_named files)
-files_added files name bytes e = fun_ext (λ other. by_test (bytes_eq other name)
-    (λ same. rw same (add_same files name bytes other e (same_bytes other name same)))
-    (λ differs. rw differs (add_other files name bytes other (eq_swap name other ∙ differs))))
+files_added files name bytes e = grind (arith, fun_ext, add_same, same_bytes, add_other, eq_swap)
 
 added_from : (t : NamedFile → Bool) (k : ℕ) (files : List NamedFile) (y : NamedFile) → position_from t k files ≡ None → t y ≡ true
     → position_from t k (files ++ y ∷ []) ≡ Some (k + length files)
 added_from t k [] y e h = rw h (ap Some (omega arith))
-added_from t k (x ∷ files) y e h = by_test (t x)
-    (λ passed. absurd (none-some k (sym (rw passed at e))))
-    (λ failed. rw failed (added_from t (k + 1) files y (rw failed at e) h ∙ ap Some (omega arith)))
+added_from t k (x ∷ files) y e h = grind (arith, (added_from t (k + 1) files y))
 
 -- the place of the file that is added after the others
 pub place_added : (files : List NamedFile) (name bytes : List ℕ) → file_place name files ≡ None → file_place name (files ++ (name, bytes) ∷ []) ≡ Some (length files)
-place_added files name bytes e =
-    added_from (has_name name) 0 files (name, bytes) e (bytes_same name name refl) ∙ ap Some (zero-add (length files))
+place_added files name bytes e = grind (arith, added_from, bytes_same, zero-add)
 
 -- a place that was found is one of the list
 pub found_inside : (name : List ℕ) (files : List NamedFile) (r : Option ℕ) → r ≡ file_place name files → IfSome r (λ i. i < length files)
-found_inside name files None e = tt
-found_inside name files (Some i) e = place_inside name files i (sym e)
+found_inside name files r e = grind (arith, place_inside)

@@ -9,5 +9,4 @@ took_all room taken text h = take_all room (taken ++ text) (omega (arith, length
 
 -- of another text what fits is kept
 pub took_prefix : (room n : ℕ) (taken text : List ℕ) → length taken + n ≡ room → take room (taken ++ text) ≡ taken ++ take n text
-took_prefix room n taken text h =
-    subst (λ m. take m (taken ++ text) ≡ taken ++ take n text) h (take-append-add taken text n)
+took_prefix room n taken text h = grind (arith, take-append-add)

@@ -1,9 +1,9 @@
 -- What the writer below a sink has taken of a text.
-use Rattle.std.proofs.Common.{◌≡◌, ℕ, List, [], ◌++◌, take, drop, length, refl, sym, ap, ◌∙◌, subst, append_assoc, append-nil, arith, length-drop, ◌-◌}
+use Rattle.std.proofs.Common.{◌≡◌, ℕ, List, [], ◌++◌, take, drop, length, sym, ap, ◌∙◌, subst, append_assoc, append-nil, arith, length-drop, ◌-◌}
 use Rattle.std.specs.Prelude.{Option}
 use Rattle.std.proofs.lemmas.List.{take_all, take-append-drop}
 use Rattle.std.specs.Io.KnownBytes.{Appends, Keeps}
-use Rattle.std.proofs.KnownBytes.{Appends-nil, Appends-trans, Appends-kept}
+use Rattle.std.proofs.KnownBytes.{Appends-trans, Appends-kept}
 use Rattle.diy_io.specs.StdSink.{AppendsPrefix}
 
 -- the bytes that a writer holds, where it shows them, grew by what comes in a text before its rest
@@ -11,10 +11,6 @@ pub record TookBefore (old new : Option (List ℕ)) (text rest : List ℕ) : Typ
   pub prefix : List ℕ
   pub parts : text ≡ prefix ++ rest
   pub appends : Appends old new prefix
-
--- before the first write
-pub took_nothing : (a : Option (List ℕ)) (text : List ℕ) → TookBefore a a text text
-took_nothing a text = record { prefix = []; parts = refl; appends = Appends-nil a }
 
 -- after a write of the first n bytes of the rest
 pub took_more : (a b c : Option (List ℕ)) (text rest : List ℕ) (n m : ℕ) → m ≡ length rest - n
@@ -29,15 +25,8 @@ took_more a b c text rest n m e p q = record {
 
 -- after the last write
 pub took_all : (a b c : Option (List ℕ)) (text rest : List ℕ) → rest ≡ [] → TookBefore a b text rest → Keeps b c → Appends a c text
-took_all a b c text rest e p kept =
-    let whole : text ≡ p.prefix = p.parts ∙ ap (λ more. p.prefix ++ more) e ∙ append-nil p.prefix in
-    subst (Appends a c) (sym whole) (Appends-kept a b c p.prefix p.appends kept)
+took_all a b c text rest e p kept = grind (arith, append-nil)
 
 -- where a write stopped
 pub took_prefix : (a b c : Option (List ℕ)) (text rest : List ℕ) → TookBefore a b text rest → Keeps b c → AppendsPrefix a c text
-took_prefix a b c text rest p kept = record {
-  prefix = p.prefix;
-  rest = rest;
-  parts = p.parts;
-  appends = Appends-kept a b c p.prefix p.appends kept;
-}
+took_prefix a b c text rest p kept = grind arith

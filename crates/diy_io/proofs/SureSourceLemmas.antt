@@ -4,10 +4,7 @@ use Rattle.std.proofs.lemmas.List.{take-append-drop, take-append-le, take-take, 
 
 -- what is given of what was left, and what is left then
 pub gives_prefix : (left rest : List ℕ) (n : ℕ) → n ≤ length left → left ≡ take n (take n left ++ rest) ++ drop n left
-gives_prefix left rest n h =
-    let prefix : take n (take n left ++ rest) ≡ take n left =
-    take-append-le n (take n left) rest (omega (arith, length-take-le n left h)) ∙ take-take n n left (omega arith) in
-    sym (ap (λ bytes. bytes ++ drop n left) prefix ∙ take-append-drop n left)
+gives_prefix left rest n h = grind (arith, take-append-le, length-take-le, take-take, take-append-drop)
 
 -- nothing is given only at the end or to an empty buffer
 pub gives_none : (left : List ℕ) (piece n len : ℕ) → 1 ≤ piece → n ≡ min (min len piece) (length left) → n ≡ 0 → 0 < len → drop n left ≡ []

@@ -1,5 +1,5 @@
 -- What is answered of families, by where their cycles are.
-use Rattle.std.proofs.Common.{◌≡◌, ℕ, List, [], ◌∷◌, length, Ok, Err, refl, sym, ap, ◌∙◌, subst, arith}
+use Rattle.std.proofs.Common.{◌≡◌, ℕ, List, [], ◌∷◌, length, Ok, refl, sym, ap, ◌∙◌, subst, arith}
 use Rattle.std.specs.Prelude.{Result, ◌==◌, true, false}
 use Rattle.std.proofs.lemmas.Bool.{eqb-true}
 use Rattle.relax_edges.specs.declared.kinds.ArchName.{ArchName}

@@ -12,8 +12,6 @@ use Rattle.diy_words.specs.declared.request.Request.TheVariants as requests
 use Rattle.diy_words.specs.declared.usage.Usage.{Usage}
 use Rattle.diy_words.specs.Given.{GivesTask}
 use Rattle.diy_words.specs.Requests.{Task, CoherenceTask, AsksCoherence, asked_of}
-use Rattle.co_tests_laws.specs.declared.refusal.CoRefusal.{CoRefusal}
-use Rattle.co_tests_laws.specs.declared.refusal.CoRefusal.TheVariants as coherent
 use Rattle.co_tests_laws.specs.CoRefusals.{coherence_refusal_of, coherence_text}
 use Rattle.diy_tools.specs.declared.status.Status.{Status}
 use Rattle.diy_tools.specs.Answers.{Answers, AnswersAsked}
@@ -22,18 +20,9 @@ use Rattle.diy_tools.specs.CoherenceAnswers.{AnswersCoherence}
 use Rattle.diy_tools.specs.Devices.{devices}
 use Rattle.diy_tools.specs.KeptRequests.{AnswersIncoherence, edges_kept, name_kept, refused_incoherent}
 use Rattle.diy_tools.specs.PrintAnswers.{AnswersEdges}
-use Rattle.diy_tools.specs.Refused.{coherence_refusal, refused_coherence}
-use Rattle.diy_tools.specs.Report.{RefusesLocation}
+use Rattle.diy_tools.specs.Refused.{refused_coherence}
 use Rattle.diy_tools.specs.TestAnswers.{test_name}
 use Rattle.diy_tools.proofs.Running.{edges_answered, kept_so}
-
--- a refusal of a coherence test names no location
-pub coherence_located : (refusal : CoRefusal) → RefusesLocation (coherence_refusal refusal)
-coherence_located (coherent.NotOfArch at) = tt
-coherence_located coherent.TooFewThreads = tt
-coherence_located coherent.NotCoherence = tt
-coherence_located coherent.ManyWrites = tt
-coherence_located (coherent.TooManyRegisters thread) = tt
 
 -- what is answered on an architecture is answered on the one with its name
 pub incoherent_on : (arch a : ArchName) (request : Coherence) (status : Status) (old new : SinkSeen) → arch ≡ a

@@ -54,7 +54,7 @@ use Rattle.diy_tools.specs.WhyAnswers.{AnswersRuns, AnswersWhy, WritesRuns}
 use Rattle.diy_tools.specs.ArchMachines.{Machine, machine_of}
 use Rattle.diy_tools.specs.Refused.{refused_list, refused_of, refused_of_arch, refused_composing, refused_making, refused_coherence}
 use Rattle.diy_tools.specs.PrintAnswers.{AnswersEdges}
-use Rattle.diy_tools.specs.CoherenceAnswers.{AnswersCoherence, incoherence_refused, coherence_refused, incoherent_text}
+use Rattle.diy_tools.specs.CoherenceAnswers.{AnswersCoherence, incoherence_refused, incoherent_text}
 use Rattle.co_tests_laws.specs.declared.refusal.CoRefusal.{CoRefusal}
 use Rattle.co_tests_laws.specs.CoRefusals.{coherence_refusal_of, coherence_text}
 use Rattle.co_tests_laws.specs.Incoherence.{BytesShowIncoherence}

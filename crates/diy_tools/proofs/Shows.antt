@@ -1,6 +1,6 @@
 -- What is written of two executions, as the answers see it.
 use Rattle.std.proofs.Common.{◌≡◌, ℕ, List, [], ◌∷◌, Option, Some, None, refl, sym, ap, ◌∙◌, subst, inl, inr}
-use Rattle.std.specs.Prelude.{◌⊎◌, codes}
+use Rattle.std.specs.Prelude.{codes}
 use Rattle.relax_edges.specs.declared.kinds.ObsMode.TheVariants.{Avoid}
 use Rattle.relax_edges.specs.declared.edge.Edge.{Edge}
 use Rattle.resolution_laws.specs.Resolution.{turned}
@@ -21,7 +21,7 @@ use Rattle.diy_tools.specs.declared.status.Device.TheVariants.{Out, Shelf}
 use Rattle.diy_tools.specs.KeptRequests.{WritesInMemory}
 use Rattle.diy_tools.specs.ArchMachines.{Machine}
 use Rattle.diy_tools.specs.PrintAnswers.{Prints}
-use Rattle.diy_tools.specs.Refused.{refused_showing, showing_refusal}
+use Rattle.diy_tools.specs.Refused.{refused_showing}
 use Rattle.diy_tools.specs.WhyAnswers.{AnswersRuns, WritesFiles, WritesRuns, why_files, why_line, why_path}
 
 -- the text that was made is that of the cycle's test without observers
@@ -52,19 +52,6 @@ runs_written m folder name cycle text test one two status old new before after n
           written =
               subst (λ t. WritesFiles (why_files folder name t (text_of_execution test.places one) (text_of_execution test.places two)) (why_line name) status old new before after) same w;
         })
-
--- nothing is written, for a reason
-pub runs_refused : (m : Machine) (folder : Option (List ℕ)) (name : List ℕ) (cycle : List Edge) (refusal : WhyRefusal) (status : Status) (shelf : ShelfSeen) (sink : SinkSeen)
-    → why_refused m.puts cycle ≡ Some refusal → status ≡ statuses.Refused (showing_refusal refusal)
-    → AnswersRuns m folder name (refused_showing (why_refused m.puts cycle)) cycle status shelf shelf sink sink
-runs_refused m folder name cycle refusal status shelf sink some e =
-    subst (λ (refused : Option WhyRefusal). AnswersRuns m folder name (refused_showing refused) cycle status shelf shelf sink sink) (sym some) (e, refl, refl)
-
--- there is no memory
-pub runs_unmade : (m : Machine) (folder : Option (List ℕ)) (name : List ℕ) (cycle : List Edge) (shelf : ShelfSeen) (sink : SinkSeen)
-    → why_refused m.puts cycle ≡ None → AnswersRuns m folder name (refused_showing (why_refused m.puts cycle)) cycle statuses.NoMemory shelf shelf sink sink
-runs_unmade m folder name cycle shelf sink none =
-    subst (λ (refused : Option WhyRefusal). AnswersRuns m folder name (refused_showing refused) cycle statuses.NoMemory shelf shelf sink sink) (sym none) (inl (refl, refl, refl))
 
 -- the three files, as they are written
 pub files_are : (folder : Option (List ℕ)) (name text one two a b c : List ℕ) → a ≡ why_path folder name (codes ".litmus") → b ≡ why_path folder name (codes ".one") → c ≡ why_path folder name (codes ".two")

@@ -5,7 +5,6 @@ use Rattle.std.specs.List.{list_all}
 use Rattle.std.proofs.lemmas.Bool.{and_parts, and_from}
 use Rattle.std.proofs.lemmas.Bool.Decides.{nat_tests}
 use Rattle.text_laws.specs.Names.{is_name_byte}
-use Rattle.cycle_names.specs.Laws.{IsName}
 use Rattle.litmus_text.specs.Printable.{IsTestName}
 use Rattle.diy_words.specs.TestNames.{is_name}
 
@@ -23,10 +22,3 @@ words_name text = (of_words, in_words)
     in_words name =
         let some : nat_lt 0 (length text) ≡ true = grind (arith, nat_tests, name.some) in
         and_from _ _ (and_from _ _ some name.short) name.bytes
-
--- and exactly where it has the form that the names of cycles have
-pub cycles_name : (text : List ℕ) → IsName text ↔ IsTestName text
-cycles_name text = (
-  λ name. record { some = grind (arith, nat_tests, name.some); short = grind (arith, nat_tests, name.short); bytes = name.bytes },
-  λ name. record { some = grind (arith, nat_tests, name.some); short = grind (arith, nat_tests, name.short); bytes = name.bytes },
-)

@@ -20,7 +20,7 @@ use Rattle.diy_words.specs.declared.usage.UsageKind.TheVariants.{UnknownOption, 
 use Rattle.diy_words.specs.TestNames.{is_name}
 use Rattle.diy_words.specs.NumberWords.{number_to}
 use Rattle.relax_edges.specs.Architectures.{arch_of}
-use Rattle.diy_words.specs.Parts.{Alone, Valued, option_named, mode_named}
+use Rattle.diy_words.specs.Parts.{Valued, option_named, mode_named}
 use Rattle.diy_words.specs.Sayings.{Saying, SaysName, SaysFolder, SaysRelaxes, SaysPlace, SaysSize, SaysThreads, SaysAccesses, usage_fault, arch_said, mode_said, relaxes_said, number_said, cycle_word_said, after_said, begins_option, said_by}
 use Rattle.diy_words.specs.Gathered.{Gathered, places_of_word}
 use Rattle.diy_words.specs.SaidInOrder.{before_of}

@@ -1,7 +1,7 @@
 -- How the edges of a cycle are judged one after another, and what the condition's answer means.
-use Rattle.std.proofs.Common.{◌≡◌, ℕ, zero, suc, ◌+◌, ◌≤◌, Bool, List, [], ◌∷◌, ◌++◌, map, length, take, Option, Some, slice_get, refl, sym, ap, subst, ◌∙◌, length-append}
+use Rattle.std.proofs.Common.{◌≡◌, ℕ, zero, suc, ◌+◌, Bool, List, [], ◌∷◌, ◌++◌, map, length, take, Option, Some, slice_get, sym, ap, subst, ◌∙◌, length-append}
 use Rattle.std.specs.Prelude.{◌↔◌, IsTrue}
-use Rattle.std.proofs.lemmas.List.{take_more, take_all, map-append}
+use Rattle.std.proofs.lemmas.List.{take_more, map-append}
 use Rattle.std.proofs.lemmas.Option.{get_or_from_slice_get, slice_get_within, same_Some}
 use Rattle.relax_edges.specs.declared.kinds.Value.{Value}
 use Rattle.relax_edges.specs.declared.edge.Edge.{Edge}
@@ -10,17 +10,12 @@ use Rattle.final_cond.specs.States.{Meets}
 use Rattle.program_meaning.specs.Executions.{Execution}
 use Rattle.program_meaning.specs.Programs.{Program}
 use Rattle.exec_meaning.specs.StandingEdges.{EdgeStands}
-use Rattle.exec_check.specs.Verdicts.{AreJudged}
 
 -- the first edges are judged
 pub record AreJudgedTo (es : List Edge) (p : Program) (x : Execution) (i : ℕ) (judged : List (Edge × Bool)) : Type 0 where
   pub count : length judged ≡ i
   pub edges : map (λ j. j.0) judged ≡ take i es
   pub each : (k : ℕ) (j : Edge × Bool) → slice_get judged k ≡ Some j → (IsTrue j.1 ↔ EdgeStands es p x k)
-
--- before the first edge none is judged
-pub none_judged : (es : List Edge) (p : Program) (x : Execution) (i : ℕ) (judged : List (Edge × Bool)) → i ≡ 0 → judged ≡ [] → AreJudgedTo es p x i judged
-none_judged es p x i judged e f = rw (e, f) (record { count = refl; edges = refl; each = λ k j h. cc h })
 
 -- what each element of a list has with its place, and one element more has too, each of the longer list has
 each_more : {X : Type 0} (P : ℕ → X → Type 0) (xs : List X) (last : X) → ((k : ℕ) (y : X) → slice_get xs k ≡ Some y → P k y) → P (length xs) last
@@ -42,10 +37,6 @@ one_judged es p x i judged more edge stands so_far found means e =
       each = each_more (λ k (j : Edge × Bool). IsTrue j.1 ↔ EdgeStands es p x k) judged (edge, stands) so_far.each
           (subst (λ k. IsTrue stands ↔ EdgeStands es p x k) (sym so_far.count) means);
     })
-
--- where no edge is left, all are judged
-pub all_judged : (es : List Edge) (p : Program) (x : Execution) (i : ℕ) (judged : List (Edge × Bool)) → AreJudgedTo es p x i judged → length es ≤ i → AreJudged es p x judged
-all_judged es p x i judged so_far h = record { edges = so_far.edges ∙ take_all i es h; each = so_far.each }
 
 -- a condition that is judged in an equal state has the same answer
 pub condition_holds : (shown final : LeftSeen → Option Value) (looked condition : CondSeen) (answer : Bool) → ((left : LeftSeen) → shown left ≡ final left) → looked ≡ condition

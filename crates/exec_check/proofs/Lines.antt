@@ -45,11 +45,6 @@ pub edges_stopped : (Q : Failed → Type 0) (a b : SinkSeen) (held mid kept : Li
 edges_stopped Q a b held mid kept i [] d e result h first is_err = absurd (omega arith)
 edges_stopped Q a b held mid kept i (j ∷ edges) d e result h first is_err = sends_stopped Q a b held mid kept (edge_line i j.0 j.1) (edge_lines (i + 1) edges) e result first is_err
 
--- the lines of a cycle's edges, where it has one or more
-pub some_lines : (edges : List (Edge × Bool)) → 0 < length edges → edge_lines 0 edges ≡ judged_lines edges
-some_lines [] h = absurd (omega arith)
-some_lines (j ∷ edges) h = refl
-
 -- there are no lines after the first where the execution is no candidate
 pub further_none : (a : SinkSeen) (held : List ℕ) (v : Verdict) (b : Bool) → b ≡ false → Sends a held a held (further_lines b v) (Ok tt)
 further_none a held v true e = cc e

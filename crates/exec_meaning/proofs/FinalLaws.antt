@@ -1,11 +1,11 @@
 -- The final state of an execution, as a list of pairs.
-use Rattle.std.proofs.Common.{◌≡◌, ℕ, zero, suc, ◌+◌, ◌<◌, ◌≤◌, append_assoc, length-take, true, false, ◌==◌, List, [], ◌∷◌, ◌++◌, length, map, take, get_or, Option, Some, None, slice_get, refl, sym, ap, ◌∙◌, arith}
+use Rattle.std.proofs.Common.{◌≡◌, ℕ, zero, suc, ◌+◌, ◌<◌, append_assoc, length-take, true, false, ◌==◌, List, [], ◌∷◌, ◌++◌, length, map, take, get_or, Option, Some, None, slice_get, refl, sym, ap, ◌∙◌, arith}
 use Rattle.std.specs.Prelude.{option_map, option_and_then}
 use Rattle.std.specs.List.{position_from}
 use Rattle.std.specs.Str.{bytes_eq}
 use Rattle.std.proofs.lemmas.Bool.{eq-eqb}
 use Rattle.std.proofs.lemmas.Bool.Decides.{nat_tests}
-use Rattle.std.proofs.lemmas.List.{take_more, take_all, map_push, length-map, append-nil}
+use Rattle.std.proofs.lemmas.List.{take_more, map_push, length-map, append-nil}
 use Rattle.list_laws.proofs.Cases.{by_test}
 use Rattle.relax_edges.specs.declared.kinds.Value.{Value}
 use Rattle.relax_edges.specs.declared.kinds.Value.TheVariants.{Num}
@@ -131,10 +131,6 @@ registers_more t r v names old start inside h =
     ap (registers_at t v 0) (take_more names r [] inside) ∙ registers_next t 0 v (take r names) (get_or names r []) ∙ ap (λ m. registers_at t v 0 (take r names) ++ (InRegister t (get_or names r []), v m) ∷ []) n in
     ap (λ l. l ++ (InRegister t (get_or names r []), v r) ∷ []) h ∙ append_assoc start (registers_at t v 0 (take r names)) ((InRegister t (get_or names r []), v r) ∷ []) ∙ ap (λ l. start ++ l) (sym e)
 
--- where no register is left, the state has all registers of the thread
-pub registers_all : (t r : ℕ) (v : ℕ → Value) (names : List (List ℕ)) (old start : FinalState) → length names ≤ r → old ≡ start ++ registers_at t v 0 (take r names) → old ≡ start ++ registers_at t v 0 names
-registers_all t r v names old start h e = e ∙ ap (λ l. start ++ registers_at t v 0 l) (take_all r names h)
-
 places_next : (k : ℕ) (v : ℕ → ℕ) (prefix : List (List ℕ)) (name : List ℕ) → places_at v k (prefix ++ name ∷ []) ≡ places_at v k prefix ++ (AtPlace name, Num (v (k + length prefix))) ∷ []
 places_next k v [] name = let e : k ≡ k + 0 = omega arith in ap (λ m. (AtPlace name, Num (v m)) ∷ []) e
 places_next k v (n ∷ prefix) name =
@@ -149,10 +145,6 @@ places_more r v names old start inside h =
     let e : places_at v 0 (take (r + 1) names) ≡ places_at v 0 (take r names) ++ (AtPlace (get_or names r []), Num (v r)) ∷ [] =
     ap (places_at v 0) (take_more names r [] inside) ∙ places_next 0 v (take r names) (get_or names r []) ∙ ap (λ m. places_at v 0 (take r names) ++ (AtPlace (get_or names r []), Num (v m)) ∷ []) n in
     ap (λ l. l ++ (AtPlace (get_or names r []), Num (v r)) ∷ []) h ∙ append_assoc start (places_at v 0 (take r names)) ((AtPlace (get_or names r []), Num (v r)) ∷ []) ∙ ap (λ l. start ++ l) (sym e)
-
--- where no place is left, the state has all places
-pub places_all : (r : ℕ) (v : ℕ → ℕ) (names : List (List ℕ)) (old start : FinalState) → length names ≤ r → old ≡ start ++ places_at v 0 (take r names) → old ≡ start ++ places_at v 0 names
-places_all r v names old start h e = e ∙ ap (λ l. start ++ places_at v 0 l) (take_all r names h)
 
 threads_next : (names : List (List ℕ)) (k : ℕ) (prefix : List (ℕ → Value)) (v : ℕ → Value) → all_registers names k (prefix ++ v ∷ []) ≡ all_registers names k prefix ++ registers_at (k + length prefix) v 0 names
 threads_next names k [] v = let e : k ≡ k + 0 = omega arith in append-nil (registers_at k v 0 names) ∙ ap (λ m. registers_at m v 0 names) e

@@ -1,5 +1,5 @@
 -- The accesses among the items of a run, found one after another.
-use Rattle.std.proofs.Common.{◌≡◌, ℕ, suc, ◌+◌, ◌≤◌, List, [], ◌∷◌, ◌++◌, length, drop, Option, Some, None, slice_get, arith, refl, sym, ap, ◌∙◌, append_assoc}
+use Rattle.std.proofs.Common.{◌≡◌, ℕ, ◌+◌, ◌≤◌, List, [], ◌∷◌, ◌++◌, length, drop, Some, slice_get, refl, sym, ap, ◌∙◌, append_assoc}
 use Rattle.std.proofs.lemmas.List.{drop_all, append-nil}
 use Rattle.list_laws.proofs.Elements.{drop_given}
 use Rattle.relax_edges.specs.declared.kinds.Dir.{Dir}
@@ -7,7 +7,7 @@ use Rattle.relax_edges.specs.declared.kinds.Mark.{Mark}
 use Rattle.micro_ops.specs.declared.operation.Barrier.{Barrier}
 use Rattle.micro_ops.specs.declared.operation.Item.{Item}
 use Rattle.micro_ops.specs.declared.operation.Item.TheVariants as items
-use Rattle.program_meaning.specs.Accesses.{Access, Barred, Visit, visits_from, visits_of, accesses_of}
+use Rattle.program_meaning.specs.Accesses.{Access, Barred, visits_from, visits_of, accesses_of}
 use Rattle.exec_meaning.specs.EndedRuns.{item_access}
 
 -- barriers don't change the accesses
@@ -44,25 +44,3 @@ after_item made i item found all is h = of_item item (drop_given made i item is)
     of_item : (item : Item) → ItemAt made i item → (found ++ item_access item) ++ accesses_of (visits_of (drop (i + 1) made)) ≡ all
     of_item (items.Access dir mark place value a d c) e = after_access made i dir mark place value a d c found all e h
     of_item (items.Barrier kind control) e = ap (λ l. l ++ accesses_of (visits_of (drop (i + 1) made))) (append-nil found) ∙ after_barrier made i kind control found all e h
-
--- the first access that is left, with the barriers passed, is the one that is looked for
-pub visit_first : (made : List Item) (i : ℕ) (dir : Dir) (mark : Mark) (place value a d c : ℕ) (passed : List Barred) (found : Option Visit) → ItemAt made i (items.Access dir mark place value a d c)
-    → found ≡ slice_get (visits_from passed (drop i made)) 0
-    → Some (record { barriers = passed; access = record { dir = dir; place = place; value = value }; mark = mark; address_mask = a; data_mask = d; control_mask = c }) ≡ found
-visit_first made i dir mark place value a d c passed found e h = sym (h ∙ ap (λ l. slice_get (visits_from passed l) 0) e)
-
--- an access that isn't the one that is looked for leaves one fewer to pass
-pub visit_next : (made : List Item) (i : ℕ) (dir : Dir) (mark : Mark) (place value a d c n m : ℕ) (passed : List Barred) (found : Option Visit) → ItemAt made i (items.Access dir mark place value a d c)
-    → n ≡ m + 1 → found ≡ slice_get (visits_from passed (drop i made)) n → found ≡ slice_get (visits_from [] (drop (i + 1) made)) m
-visit_next made i dir mark place value a d c n m passed found e q h =
-    let k : n ≡ suc m = omega (arith, q) in
-    h ∙ ap (λ l. slice_get (visits_from passed l) n) e ∙ ap (slice_get (record { barriers = passed; access = record { dir = dir; place = place; value = value }; mark = mark; address_mask = a; data_mask = d; control_mask = c } ∷ visits_from [] (drop (i + 1) made))) k
-
--- a barrier is passed, and is kept for the access after it
-pub visit_barrier : (made : List Item) (i : ℕ) (kind : Barrier) (control n : ℕ) (passed : List Barred) (found : Option Visit) → ItemAt made i (items.Barrier kind control)
-    → found ≡ slice_get (visits_from passed (drop i made)) n → found ≡ slice_get (visits_from (passed ++ (record { kind = kind; control = control }) ∷ []) (drop (i + 1) made)) n
-visit_barrier made i kind control n passed found e h = h ∙ ap (λ l. slice_get (visits_from passed l) n) e
-
--- where no item is left, the access isn't there
-pub visit_ends : (made : List Item) (i n : ℕ) (passed : List Barred) (found : Option Visit) → length made ≤ i → found ≡ slice_get (visits_from passed (drop i made)) n → None ≡ found
-visit_ends made i n passed found h e = sym (e ∙ ap (λ l. slice_get (visits_from passed l) n) (drop_all i made h))

@@ -1,22 +1,16 @@
 -- What one word, or one line, names is added, and then what the others name.
-use Rattle.std.proofs.Common.{◌≡◌, ℕ, ◌+◌, List, [], ◌∷◌, Some, refl, sym, ap, subst}
+use Rattle.std.proofs.Common.{◌≡◌, ℕ, ◌+◌, List, [], ◌∷◌, refl, sym, ap, subst}
 use Rattle.std.specs.Prelude.{Result, Ok, Err}
 use Rattle.program_meaning.specs.Executions.{Execution}
 use Rattle.execution_text.specs.declared.errors.ExecKind.{ExecKind}
 use Rattle.execution_text.specs.declared.errors.ExecFault.{ExecFault}
 use Rattle.text_laws.specs.Words.{words}
 use Rattle.execution_text.specs.declared.errors.ExecKind.TheVariants.{EndMissing}
-use Rattle.execution_text.specs.ExecutionText.{put_first, put_line, at_line, each_line_read}
+use Rattle.execution_text.specs.ExecutionText.{put_line, at_line, each_line_read}
 use Rattle.execution_text.specs.declared.errors.ExecError.{ExecError}
 use Rattle.execution_text.specs.declared.reading.LineError.{LineError}
 use Rattle.execution_text.specs.declared.reading.LineError.TheVariants as line_errors
 use Rattle.execution_text.specs.ExecutionSteps.{WayToAdd, AtLine, ReadsLine, ReadsLines, all_added, each_added, line_added, lines_added}
-
--- a word that names something adds it, and the others add theirs
-pub word_added : {X : Type 0} (add : WayToAdd X) (x : Execution) (k : ℕ) (bad : ExecKind) (item : X) (others : Result (List X) ExecKind)
-    → line_added add x k (put_first bad (Some item) others) ≡ line_added add (add x k item) k others
-word_added add x k bad item (Ok items) = refl
-word_added add x k bad item (Err kind) = refl
 
 -- a line that is read adds what it names, and the others add theirs
 pub line_then : {X : Type 0} (add : WayToAdd X) (x y : Execution) (k : ℕ) (n : ℕ) (line : Result (List X) ExecKind) (others : Result (List (List X) × List (List ℕ)) ExecFault)

@@ -3,7 +3,7 @@ use Rattle.std.proofs.Common.{◌≡◌, ◌≤◌, ◌<◌, ◌+◌, ℕ, suc, 
 use Rattle.std.specs.Prelude.{Option, IfSome, IsSome}
 use Rattle.std.specs.Option.{option_and_then}
 use Rattle.diy_io.specs.Count.{count_of, last_count, next_count}
-use Rattle.diy_io.specs.Shelf.{Files, ShelfSeen, left_to_read, CountsStay, Opened}
+use Rattle.diy_io.specs.Shelf.{Files, ShelfSeen, left_to_read, Opened}
 use Rattle.file_laws.specs.Opened.{IsFile, TookFiles, last_taken}
 
 one_text : (shown : Option (List ℕ)) (bytes : List ℕ) → IsSome shown → IfSome shown (λ whole. whole ≡ bytes) → shown ≡ Some bytes
@@ -27,13 +27,6 @@ pub opened_took : (old mid new : ShelfSeen) (name bytes : List ℕ) → Opened o
 opened_took old mid new name bytes opened taken same =
     let once : mid.opened ≡ next_count old.opened = opened.opened in
     let zero_taken : mid.taken ≡ 0 = opened.taken in
-    record { opened = omega arith; last = omega arith }
-
--- nothing was opened or taken
-pub took_nothing : (old new : ShelfSeen) → CountsStay old new → TookFiles old new []
-took_nothing old new stay =
-    let taken : new.taken ≡ old.taken = stay.taken in
-    let opened : new.opened ≡ old.opened = stay.opened in
     record { opened = omega arith; last = omega arith }
 
 -- the last of some files

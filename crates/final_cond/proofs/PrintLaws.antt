@@ -1,7 +1,6 @@
 -- The text of a term is that of its pieces, and how long the texts of terms are.
 use Rattle.std.proofs.Common.{◌≡◌, ℕ, ◌+◌, ◌-◌, ◌*◌, ◌<◌, ◌≤◌, List, [], ◌∷◌, ◌++◌, length, get_or, take, drop, map}
 use Rattle.std.proofs.Common.{arith, refl, sym, ap, subst, ◌∙◌, length-append}
-use Rattle.std.proofs.Math.Seq.{take-length}
 use Rattle.std.specs.List.{flat_map}
 use Rattle.std.specs.Prelude.{Result}
 use Rattle.diy_io.specs.declared.errors.Failed.{Failed}

@@ -1,16 +1,13 @@
 -- Walks over the pairs of a state and over the terms of a condition.
 use Rattle.std.proofs.Common.{◌≡◌, ℕ, suc, ◌+◌, ◌<◌, List, ◌∷◌, length, get_or, drop, refl, sym, ap, subst, ◌∙◌, add-one}
-use Rattle.std.specs.Prelude.{◌↔◌, true, false, map, nat_eq, Option, Some}
-use Rattle.std.specs.Str.{bytes_eq}
-use Rattle.std.proofs.lemmas.Bool.{and_parts, and_from, eqb-true, eq-eqb}
-use Rattle.std.proofs.lemmas.Slice.Eq.{bytes_eq-Decides}
+use Rattle.std.specs.Prelude.{◌↔◌, true, false, map, Option, Some}
 use Rattle.std.specs.List.{AllByRecursion}
 use Rattle.std.proofs.Math.Seq.{drop-cons}
 use Rattle.relax_edges.specs.declared.kinds.Value.{Value}
 use Rattle.relax_edges.specs.declared.kinds.Value.TheVariants.{Num}
 use Rattle.final_cond.specs.declared.cond.Left.{Left}
 use Rattle.final_cond.specs.declared.cond.Term.{Term}
-use Rattle.final_cond.specs.Conditions.{LeftSeen, InRegister, AtPlace, left_view, term_view}
+use Rattle.final_cond.specs.Conditions.{LeftSeen, left_view, term_view}
 use Rattle.final_cond.specs.States.{same_left_seen, value_in_state, pair_view}
 
 -- the value of a left side is that of the first pair with it
@@ -48,24 +45,3 @@ pub one_not_met : (final : LeftSeen → Option Value) (terms : List Term) (i : �
 one_not_met final terms i term inside is unmet h all =
     let e : drop i terms ≡ term ∷ drop (suc i) terms = drop-cons terms i term inside ∙ ap (λ t. t ∷ drop (suc i) terms) (sym is) in
     unmet (subst (AllMet final) e (h.1 all)).0
-
-bytes_decide : (name name' : List ℕ) → (bytes_eq name name' ≡ true → name ≡ name') × (name ≡ name' → bytes_eq name name' ≡ true)
-bytes_decide name name' = bytes_eq-Decides name name'
-
--- left sides are the same exactly where they are equal
-pub same_left_decides : (left left' : LeftSeen) → (same_left_seen left left' ≡ true → left ≡ left') × (left ≡ left' → same_left_seen left left' ≡ true)
-same_left_decides (InRegister thread name) (InRegister thread' name') = (
-  λ h. let p : (nat_eq thread thread' ≡ true) × (bytes_eq name name' ≡ true) = and_parts (nat_eq thread thread') (bytes_eq name name') h in
-      let t : thread ≡ thread' = eqb-true thread thread' p.0 in
-      let n : name ≡ name' = (bytes_decide name name').0 p.1 in
-      cc,
-  λ e. let t : thread ≡ thread' = cc in
-      let n : name ≡ name' = cc in
-      and_from (nat_eq thread thread') (bytes_eq name name') (eq-eqb thread thread' t) ((bytes_decide name name').1 n),
-)
-same_left_decides (InRegister thread name) (AtPlace name') = (λ h. cc, λ e. cc)
-same_left_decides (AtPlace name) (InRegister thread' name') = (λ h. cc, λ e. cc)
-same_left_decides (AtPlace name) (AtPlace name') = (
-  λ h. let n : name ≡ name' = (bytes_decide name name').0 h in cc,
-  λ e. let n : name ≡ name' = cc in (bytes_decide name name').1 n,
-)

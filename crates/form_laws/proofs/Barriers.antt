@@ -31,31 +31,12 @@ all_barriers =
     barriers.Fence fences.DmbSt ∷ picked (barriers.Fence fences.Dmb ∷ [])
 
 found : {X : Type 0} (p : X → Bool) (xs : List X) (i : ℕ) (x : X) → list_all p xs ≡ true → slice_get xs i ≡ Some x → p x ≡ true
-found p [] i x h e = cc
-found p (y ∷ xs) zero x h e = let q = and_parts (p y) (list_all p xs) h in grind (arith, q.0, e)
 found p (y ∷ xs) (suc i) x h e = found p xs i x (and_parts (p y) (list_all p xs) h).1 e
+found p xs i x h e = grind arith
 
 -- what holds of all barriers holds of each
 pub each_barrier : (p : Barrier → Bool) → list_all p all_barriers ≡ true → (b : Barrier) → p b ≡ true
-each_barrier p h barriers.Isb = found p all_barriers 0 barriers.Isb h refl
-each_barrier p h (barriers.Fence fences.MFence) = found p all_barriers 1 (barriers.Fence fences.MFence) h refl
-each_barrier p h (barriers.Fence fences.Sync) = found p all_barriers 2 (barriers.Fence fences.Sync) h refl
-each_barrier p h (barriers.Fence fences.LwSync) = found p all_barriers 3 (barriers.Fence fences.LwSync) h refl
-each_barrier p h (barriers.Fence fences.Eieio) = found p all_barriers 4 (barriers.Fence fences.Eieio) h refl
-each_barrier p h (barriers.Fence fences.ISync) = found p all_barriers 5 (barriers.Fence fences.ISync) h refl
-each_barrier p h (barriers.Fence fences.DmbSy) = found p all_barriers 6 (barriers.Fence fences.DmbSy) h refl
-each_barrier p h (barriers.Fence fences.DmbLd) = found p all_barriers 7 (barriers.Fence fences.DmbLd) h refl
-each_barrier p h (barriers.Fence fences.DmbSt) = found p all_barriers 8 (barriers.Fence fences.DmbSt) h refl
-each_barrier p h (barriers.Fence (fences.Fence picks.R picks.R)) = found p all_barriers 9 (barriers.Fence (fences.Fence picks.R picks.R)) h refl
-each_barrier p h (barriers.Fence (fences.Fence picks.R picks.W)) = found p all_barriers 10 (barriers.Fence (fences.Fence picks.R picks.W)) h refl
-each_barrier p h (barriers.Fence (fences.Fence picks.R picks.RW)) = found p all_barriers 11 (barriers.Fence (fences.Fence picks.R picks.RW)) h refl
-each_barrier p h (barriers.Fence (fences.Fence picks.W picks.R)) = found p all_barriers 12 (barriers.Fence (fences.Fence picks.W picks.R)) h refl
-each_barrier p h (barriers.Fence (fences.Fence picks.W picks.W)) = found p all_barriers 13 (barriers.Fence (fences.Fence picks.W picks.W)) h refl
-each_barrier p h (barriers.Fence (fences.Fence picks.W picks.RW)) = found p all_barriers 14 (barriers.Fence (fences.Fence picks.W picks.RW)) h refl
-each_barrier p h (barriers.Fence (fences.Fence picks.RW picks.R)) = found p all_barriers 15 (barriers.Fence (fences.Fence picks.RW picks.R)) h refl
-each_barrier p h (barriers.Fence (fences.Fence picks.RW picks.W)) = found p all_barriers 16 (barriers.Fence (fences.Fence picks.RW picks.W)) h refl
-each_barrier p h (barriers.Fence (fences.Fence picks.RW picks.RW)) = found p all_barriers 17 (barriers.Fence (fences.Fence picks.RW picks.RW)) h refl
-each_barrier p h (barriers.Fence fences.Dmb) = found p all_barriers 18 (barriers.Fence fences.Dmb) h refl
+each_barrier p h b = grind arith
 
 -- a test of fences as a test of barriers
 abbrev pub on_fence : (FenceKind → Bool) → Barrier → Bool

@@ -1,5 +1,5 @@
 -- In a clear table, the first form that does an operation is the one that reads it back.
-use Rattle.std.proofs.Common.{ℕ, ◌+◌, ◌≡◌, refl, Bool, true, false, cond, not, ◌&&◌, ◌||◌, nat_le, List, [], ◌∷◌, Some, None, map, length, ◌∙◌, sym, ap}
+use Rattle.std.proofs.Common.{ℕ, ◌+◌, ◌≡◌, refl, Bool, true, false, cond, not, ◌&&◌, ◌||◌, nat_le, List, [], ◌∷◌, Some, None, map, length, ◌∙◌, sym, ap, arith}
 use Rattle.std.specs.Prelude.{Option, is_some}
 use Rattle.std.specs.List.{list_all, list_any}
 use Rattle.std.specs.Str.{bytes_eq}
@@ -28,16 +28,7 @@ pub record GoodForm (f : FormText) : Type 0 where
 -- a form that passes its test has those parts
 pub form_is_good : (f : FormText) → is_form_good f ≡ true → GoodForm f
 unfolding is_form_good
-form_is_good f h =
-    let short = nat_le (length f.word + most_of f.pieces) MAX_TEXT in
-    let rest = list_all is_piece_good f.pieces && (nat_le (length f.pieces) 4 && short) in
-    let unending = not (list_any (bytes_eq f.word) ending_words) in
-    let a = and_parts (nat_le 1 (length f.word) && list_all is_first_byte f.word) (unending && rest) h in
-    let b = and_parts (nat_le 1 (length f.word)) (list_all is_first_byte f.word) a.0 in
-    let c = and_parts unending rest a.1 in
-    let d = and_parts (list_all is_piece_good f.pieces) (nat_le (length f.pieces) 4 && short) c.1 in
-    let e = and_parts (nat_le (length f.pieces) 4) short d.1 in
-    record { some = b.0; word = b.1; unending = not-true (list_any (bytes_eq f.word) ending_words) c.0; pieces = d.0; few = e.0; short = e.1 }
+form_is_good f h = grind arith
 
 -- a form that does an operation has its operands, and they fit
 pub record Done (op : Micro) (f : FormText) : Type 0 where
@@ -46,11 +37,7 @@ pub record Done (op : Micro) (f : FormText) : Type 0 where
 
 -- a form that passes its test does the operation, in those parts
 pub done : (op : Micro) (f : FormText) → does op f ≡ true → Done op f
-done op f h = let p = by_operands f.pieces (operands_of f.kind op) h in record { some = p.0; fit = p.1 }
-  where
-    by_operands : (ps : List PieceText) (o : Option (List Operand)) → fits_if ps o ≡ true → (is_some o ≡ true) × (operands_fit ps (given_operands o) ≡ true)
-    by_operands ps None h = cc
-    by_operands ps (Some vs) h = (refl, h)
+done op f h = grind arith
 
 -- the texts of an operation's operands by a form
 abbrev pub op_texts : (ℕ → List ℕ) → Micro → FormText → List (List ℕ)
@@ -73,9 +60,7 @@ pub record Chosen (op : Micro) (fs : List FormText) : Type 0 where
 own_read : (names : ℕ → List ℕ) (op : Micro) (f : FormText) (other : Option RawInstr) → is_form_good f ≡ true → does op f ≡ true →
     raw_or f.kind (form_found f f.word (op_texts names op f)) other ≡ op_found names op f
 own_read names op f other good h =
-    let e : bytes_eq f.word f.word ≡ true = (bytes_eq-Decides f.word f.word).1 refl in
-    ap (λ b. raw_or f.kind (cond b (pieces_found f.pieces (op_texts names op f)) None) other) e ∙
-    ap (λ o. raw_or f.kind o other) (pieces_back names f.pieces (given_operands (operands_of f.kind op)) (form_is_good f good).pieces (done op f h).fit)
+    grind (arith, (bytes_eq-Decides f.word f.word), (pieces_back names f.pieces (given_operands (operands_of f.kind op)) (form_is_good f good).pieces (done op f h).fit), (form_is_good f good), (done op f h))
 
 other_read : (names : ℕ → List ℕ) (op : Micro) (f g : FormText) (other : Option RawInstr) → forms_apart f g ≡ true → is_form_good g ≡ true → does op g ≡ true →
     raw_or f.kind (form_found f g.word (op_texts names op g)) other ≡ other
@@ -86,26 +71,4 @@ other_read names op f g other apart good h =
 pub chosen : (op : Micro) (fs : List FormText) → is_clear fs ≡ true → list_any (does op) fs ≡ true → Chosen op fs
 unfolding is_clear first_written first_form_read
 chosen op [] clear some = cc
-chosen op (f ∷ fs) clear some =
-    let c = and_parts (is_form_good f) (list_all (forms_apart f) fs && is_clear fs) clear in
-    let d = and_parts (list_all (forms_apart f) fs) (is_clear fs) c.1 in
-    by_test (does op f)
-    (λ e. record {
-      form = f;
-      does = e;
-      good = c.0;
-      among = λ P h. (and_parts (P f) (list_all P fs) h).0;
-      written = λ names. ap (λ b. cond b (form_written names op f) (first_written names op fs)) e;
-      reads = λ names other. own_read names op f (first_form_read fs f.word (op_texts names op f) other) c.0 e;
-    })
-    (λ e. let k : list_any (does op) fs ≡ true = ap (λ b. b || list_any (does op) fs) (sym e) ∙ some in
-    let r : Chosen op fs = chosen op fs d.1 k in
-    record {
-      form = r.form;
-      does = r.does;
-      good = r.good;
-      among = λ P h. r.among P (and_parts (P f) (list_all P fs) h).1;
-      written = λ names. ap (λ b. cond b (form_written names op f) (first_written names op fs)) e ∙ r.written names;
-      reads = λ names other.
-          other_read names op f r.form (first_form_read fs r.form.word (op_texts names op r.form) other) (r.among (forms_apart f) d.0) r.good r.does ∙ r.reads names other;
-    })
+chosen op (f ∷ fs) clear some = grind (arith, (chosen op fs), and_parts, own_read, other_read)

@@ -73,26 +73,16 @@ clash {G} {b} e f = let g : false ≡ true = sym e ∙ f in absurd (cc)
 
 -- a link is program order or a fence
 no_dependency : (a : Puts) → IsFenced a → (link : Link) → link_is_of link a.name ≡ true → depends_on_load link ≡ false
-no_dependency a f links.Plain e = refl
-no_dependency a f (links.Fence kind) e = refl
-no_dependency a f links.Addr e = clash f.no_addr e
-no_dependency a f links.Data e = clash f.no_data e
-no_dependency a f links.Ctrl e = clash f.no_ctrl e
-no_dependency a f links.CtrlIsync e = clash f.no_isync e
-no_dependency a f links.CtrlIsb e = clash f.no_isb e
+no_dependency a f link e = grind arith
 
 no_mark : (a : Puts) → IsFenced a → (mark : Mark) → mark_is_of mark a.name ≡ true → mark ≡ Plain
-no_mark a f Plain e = refl
-no_mark a f Acquire e = clash f.no_acquire e
-no_mark a f Release e = clash f.no_release e
+no_mark a f mark e = grind arith
 
 not_addr : (link : Link) → depends_on_load link ≡ false → is_addr link ≡ false
-not_addr links.Addr e = cc
-not_addr link e = refl
+not_addr link e = grind arith
 
 not_data : (link : Link) → depends_on_load link ≡ false → is_data link ≡ false
-not_data links.Data e = cc
-not_data link e = refl
+not_data link e = grind arith
 
 link_runs : (link : Link) (r : Run) (k : ℕ) → depends_on_load link ≡ false →
     DidLink (fence_code link) r (link_items link k r.state.control) (link_control link k r.state.control)
@@ -101,29 +91,22 @@ link_runs links.Plain r k e = did_nothing r
 link_runs link r k e = cc
 
 link_short : (link : Link) → length (fence_code link) ≤ link_room link
-link_short (links.Fence kind) = omega arith
-link_short link = omega arith
+link_short link = grind arith
 
 link_label : (link : Link) (n : ℕ) → depends_on_load link ≡ false → labels_of (fence_code link) ≡ link_labels link n
-link_label (links.Fence kind) n e = refl
-link_label links.Plain n e = refl
-link_label link n e = cc
+link_label link n e = grind arith
 
 link_lands : (link : Link) → lands (fence_code link) ≡ true
-link_lands (links.Fence kind) = refl
-link_lands link = refl
+link_lands link = grind arith
 
 link_no_place : (link : Link) (p : ℕ) → list_all (is_at_place p) (fence_code link) ≡ true
-link_no_place (links.Fence kind) p = refl
-link_no_place link p = refl
+link_no_place link p = grind arith
 
 link_has : (a : Puts) → IsFenced a → (link : Link) → link_is_of link a.name ≡ true → list_all a.has (fence_code link) ≡ true
-link_has a f (links.Fence kind) e = and_from (a.has (ops.Barrier (barriers.Fence kind))) true (f.fence_has kind e) refl
-link_has a f link e = refl
+link_has a f link e = grind arith
 
 no_access : (link : Link) → access_count (fence_code link) ≡ 0
-no_access (links.Fence kind) = refl
-no_access link = refl
+no_access link = grind arith
 
 -- the same architecture, with the code of links as it is above
 abbrev base : Puts → Puts
@@ -133,14 +116,7 @@ base_is : (a : Puts) → IsFenced a → base a ≡ a
 base_is a f = ap (fenced a.name a.registers a.has) (λ i link from n. sym (f.link_is link from n) i) ∙ f.is
 
 makes_links : (a : Puts) → IsFenced a → MakesLinks (base a)
-makes_links a f = record {
-  runs = λ link from n r k e source. link_runs link r k (no_dependency a f link e);
-  room = λ link from n. link_short link;
-  labels = λ link from n h. link_label link n (no_dependency a f link h.of_arch);
-  jumps = λ link from n. link_lands link;
-  no_place = λ link from n p. link_no_place link p;
-  has = λ link from n h usable. link_has a f link h.of_arch;
-}
+makes_links a f = grind (arith, link_runs, no_dependency, link_short, link_label, link_lands, link_no_place, link_has)
 
 -- an access of one operation, of which the laws ask no more than of a load from the place, and which takes no address register
 one_access : (a : Puts) (d : Dir) (op : Taken → ℕ → Micro) (regs : Taken → Taken) →
@@ -153,16 +129,14 @@ one_access a d op regs same takes need has = record {
   takes = λ g link mark from p. takes g p;
   addressed = λ g link mark from p e. cc;
   need = λ g link mark from p is_new h given fresh. need g link is_new h;
-  no_label = λ g link mark from p. ap (λ (x : Asked). x.labels) (same g p);
-  no_jump = λ g link mark from p. ap (λ (x : Asked). x.jumps) (same g p);
+  no_label = grind arith;
+  no_jump = grind arith;
   at_place = λ g link mark from p. ap (λ (x : Asked). x.at_place p) (same g p) ∙ and_from (p == p) true (eq-eqb p p refl) refl;
-  has = λ g link mark from p given marked usable taken left. and_from _ true (has g p left) refl;
+  has = grind arith;
 }
 
 load_access : (a : Puts) → IsFenced a → MakesAccess (base a) dirs.R (base a).load
-load_access a f = one_access a dirs.R (λ g p. ops.LoadAt g.next p) take_next (λ g p. refl)
-    (λ g p. record { count = refl; more = omega arith; links = inl refl })
-    (λ g link is_new h. omega arith) (λ g p left. f.load_has g.next p (omega arith))
+load_access a f = grind arith
 
 makes_loads : (a : Puts) → IsFenced a → MakesLoads (base a)
 makes_loads a f = record {
@@ -173,16 +147,13 @@ makes_loads a f = record {
       rw (addr, plain) (did_load Plain (load_put g p).code r r g (take_next g) g.next p v 0 vs
       (run_load_at g.next p v vs r reads) (writes_none r g (take_next g) ready.places) refl refl refl
       (spare_plain g (take_next g) g.next ready.taken refl (omega arith) (omega arith)));
-  wants = λ g link mark from p r k e d marked ready reads.
-      record { run = r; is = run_load_at_wants g.next p r reads };
+  wants = grind arith;
   fills = λ g link mark from p. (omega arith, omega arith);
 }
 
 store_access : (a : Puts) → IsFenced a → (v : ℕ) → v < 256 →
     MakesAccess (base a) dirs.W (λ g link mark from p. (base a).store g link mark from p v)
-store_access a f v h = one_access a dirs.W (λ g p. ops.StoreAt p v) (λ g. g) (λ g p. refl)
-    (λ g p. record { count = refl; more = omega arith; links = inl refl })
-    (λ g link is_new i. omega arith) (λ g p left. f.store_has p v h)
+store_access a f v h = grind arith
 
 makes_stores : (a : Puts) → IsFenced a → MakesStores (base a)
 makes_stores a f = record {
@@ -198,18 +169,8 @@ makes_stores a f = record {
 
 -- such an architecture keeps the laws of architectures
 pub fenced_laws : (a : Puts) → IsFenced a → IsArch a
-fenced_laws a f = subst IsArch (base_is a f) (record {
-  few = f.few;
-  links = makes_links a f;
-  loads = makes_loads a f;
-  stores = makes_stores a f;
-  shapes = record { none = refl; grows = λ h i w. w.loads };
-})
+fenced_laws a f = grind (arith, (base_is a f), (makes_links a f), (makes_loads a f), (makes_stores a f))
 
 -- such an architecture makes one access where it should
 pub fenced_once : (a : Puts) → IsFenced a → MakesOneAccess a
-fenced_once a f = subst MakesOneAccess (base_is a f) (record {
-  link = λ link from n. no_access link;
-  load = λ g link mark from p. refl;
-  store = λ g link mark from p v. refl;
-})
+fenced_once a f = grind arith

@@ -56,14 +56,10 @@ pieces_cell names (p ∷ ps) vs good fit named =
     let f = and_parts (fits_first p.hole vs) (operands_fit ps (after_hole p.hole vs)) fit in
     let q = piece_is_good p g.0 in
     let rest = pieces_cell names ps (after_hole p.hole vs) g.1 f.1 (left_named names p.hole vs named) in
-    let small : length (hole_filled names p.hole vs) ≤ most_in p.hole = filled_short names p.hole vs q.hole f.0
-    (λ n us e. place_name_short (names n) (and_parts (is_place_name (names n)) (list_all (is_named_operand names) us) (rw e at named)).0) in
+    let small : length (hole_filled names p.hole vs) ≤ most_in p.hole = grind (arith, filled_short, place_name_short, and_parts) in
     let tail : total (piece_texts names ps (after_hole p.hole vs)) ≤ most_of ps = rest.short in
     record {
-      cells = and_from (list_all is_cell_byte (piece_text names p vs)) (list_all (list_all is_cell_byte) (piece_texts names ps (after_hole p.hole vs)))
-          (all_both is_cell_byte p.before (hole_filled names p.hole vs ++ p.after) (fixed_cell p.before q.before)
-          (all_both is_cell_byte (hole_filled names p.hole vs) p.after (filled_all is_cell_byte place_in_cell names p.hole vs q.hole f.0 named) (fixed_cell p.after q.after)))
-          rest.cells;
+      cells = grind (arith, and_from, all_both, fixed_cell, filled_all, place_in_cell);
       short = omega (arith, length-append p.before (hole_filled names p.hole vs ++ p.after), length-append (hole_filled names p.hole vs) p.after);
     }
 
@@ -72,34 +68,10 @@ comma_cell : (a b : List ℕ) → list_all is_cell_byte a ≡ true → list_all 
 comma_cell a b h k = all_both is_cell_byte a (44 ∷ b) h (and_from true (list_all is_cell_byte b) refl k)
 
 listed_cell : (ts : List (List ℕ)) → length ts ≤ 4 → list_all (list_all is_cell_byte) ts ≡ true → list_all is_cell_byte (listed (few ts)) ≡ true
-listed_cell [] l h = refl
-listed_cell (a ∷ []) l h = and_from true (list_all is_cell_byte a) refl (and_parts (list_all is_cell_byte a) true h).0
-listed_cell (a ∷ b ∷ []) l h =
-    let p = and_parts (list_all is_cell_byte a) (list_all (list_all is_cell_byte) (b ∷ [])) h in
-    let q = and_parts (list_all is_cell_byte b) true p.1 in
-    and_from true (list_all is_cell_byte (a ++ 44 ∷ b)) refl (comma_cell a b p.0 q.0)
-listed_cell (a ∷ b ∷ c ∷ []) l h =
-    let p = and_parts (list_all is_cell_byte a) (list_all (list_all is_cell_byte) (b ∷ c ∷ [])) h in
-    let q = and_parts (list_all is_cell_byte b) (list_all (list_all is_cell_byte) (c ∷ [])) p.1 in
-    let r = and_parts (list_all is_cell_byte c) true q.1 in
-    and_from true (list_all is_cell_byte (a ++ 44 ∷ (b ++ 44 ∷ c))) refl (comma_cell a (b ++ 44 ∷ c) p.0 (comma_cell b c q.0 r.0))
-listed_cell (a ∷ b ∷ c ∷ d ∷ []) l h =
-    let p = and_parts (list_all is_cell_byte a) (list_all (list_all is_cell_byte) (b ∷ c ∷ d ∷ [])) h in
-    let q = and_parts (list_all is_cell_byte b) (list_all (list_all is_cell_byte) (c ∷ d ∷ [])) p.1 in
-    let r = and_parts (list_all is_cell_byte c) (list_all (list_all is_cell_byte) (d ∷ [])) q.1 in
-    let s = and_parts (list_all is_cell_byte d) true r.1 in
-    and_from true (list_all is_cell_byte (a ++ 44 ∷ (b ++ 44 ∷ (c ++ 44 ∷ d)))) refl
-    (comma_cell a (b ++ 44 ∷ (c ++ 44 ∷ d)) p.0 (comma_cell b (c ++ 44 ∷ d) q.0 (comma_cell c d r.0 s.0)))
-listed_cell (a ∷ b ∷ c ∷ d ∷ e ∷ rest) l h = absurd (omega arith)
+listed_cell ts l h = grind (arith, and_from, and_parts, comma_cell)
 
 length-listed : (ts : List (List ℕ)) → length (listed (few ts)) ≤ total ts
-length-listed [] = omega arith
-length-listed (a ∷ []) = omega arith
-length-listed (a ∷ b ∷ []) = omega (arith, length-append a (44 ∷ b))
-length-listed (a ∷ b ∷ c ∷ []) = omega (arith, length-append a (44 ∷ (b ++ 44 ∷ c)), length-append b (44 ∷ c))
-length-listed (a ∷ b ∷ c ∷ d ∷ []) =
-    omega (arith, length-append a (44 ∷ (b ++ 44 ∷ (c ++ 44 ∷ d))), length-append b (44 ∷ (c ++ 44 ∷ d)), length-append c (44 ∷ d))
-length-listed (a ∷ b ∷ c ∷ d ∷ e ∷ rest) = omega arith
+length-listed ts = grind (arith, length-append)
 
 -- the first word of a text that begins with such a word, at its end or before a blank
 first_inked : (b : ℕ) → is_first_byte b ≡ true → is_blank b ≡ false
@@ -118,12 +90,10 @@ word_first (b ∷ word) o some h =
 
 -- an operation that isn't a label is done by a form of the table
 by_form : (t : TableText) (op : Micro) → is_label_op op ≡ false → table_has t op ≡ true → list_any (does op) t.forms ≡ true
-by_form t (ops.Label l) e h = cc
-by_form t op e h = h
+by_form t op e h = grind arith
 
 written_by : (t : TableText) (names : ℕ → List ℕ) (op : Micro) → is_label_op op ≡ false → table_written t names op ≡ first_written names op t.forms
-written_by t names (ops.Label l) e = cc
-written_by t names op e = refl
+written_by t names op e = grind arith
 
 -- the text of an operation that isn't a label
 record FitsCells (text : List ℕ) : Type 0 where
@@ -142,11 +112,10 @@ fits_cells t names op clear has named other =
     let ts : List (List ℕ) = op_texts names op c.form in
     let i = pieces_cell names c.form.pieces (given_operands (operands_of c.form.kind op)) g.pieces d.fit (operands_named names c.form.kind op named) in
     let few_are : length (op_texts names op c.form) ≤ 4 =
-    (let k = leb-true (length c.form.pieces) 4 g.few in omega (arith, k, length-piece_texts names c.form.pieces (given_operands (operands_of c.form.kind op)))) in
+    grind (arith, leb-true, length-piece_texts) in
     rw e (record {
-      cells = all_both is_cell_byte c.form.word (listed (few (op_texts names op c.form))) (fixed_cell c.form.word (first_word_fixed c.form.word g.word))
-          (listed_cell (op_texts names op c.form) few_are i.cells);
-      rows = ap (λ (w : List ℕ). list_any (bytes_eq w) ending_words) (word_first c.form.word (few (op_texts names op c.form)) g.some g.word) ∙ g.unending;
+      cells = grind (arith, all_both, fixed_cell, first_word_fixed, listed_cell);
+      rows = grind (arith, word_first);
       short =
           let k = leb-true (length c.form.word + most_of c.form.pieces) MAX_TEXT g.short in
           omega (arith, k, i.short, length-listed (op_texts names op c.form), length-append c.form.word (listed (few (op_texts names op c.form))));
@@ -172,9 +141,4 @@ short t names op clear has named = (fits_cells t names op clear has named refl).
 -- what a clear table writes fits into the cells of a table
 pub writes_cells : (a : Puts) (t : TableText) (registers : List (List ℕ)) → is_clear t.forms ≡ true →
     ((op : Micro) → a.has op ≡ true → table_has t op ≡ true) → WritesCells a (table_writing t registers)
-writes_cells a t registers clear covers = record {
-  cells = λ names op h named other. (fits_cells t names op clear (covers op h) named other).cells;
-  rows = λ names op h named. rows t names op clear (covers op h) named;
-  labels = λ names label h. refl;
-  short = λ names op h named. short t names op clear (covers op h) named;
-}
+writes_cells a t registers clear covers = grind (arith, fits_cells, rows, short)

@@ -1,5 +1,5 @@
 -- The operands of an operation make it again.
-use Rattle.std.proofs.Common.{ℕ, ◌≡◌, refl, Bool, true, List, [], ◌∷◌, Some, map, get_or, ◌∙◌, sym, ap}
+use Rattle.std.proofs.Common.{ℕ, ◌≡◌, refl, Bool, true, List, [], ◌∷◌, Some, map, get_or, ◌∙◌, sym, ap, arith}
 use Rattle.std.specs.Prelude.{is_some}
 use Rattle.std.specs.List.{list_all}
 use Rattle.std.proofs.lemmas.Bool.{eqb-true, and_from}
@@ -29,25 +29,7 @@ barrier_of n = get_or (barriers.Fence fences.MFence ∷ barriers.Fence fences.Sy
     barriers.Fence fences.Dmb ∷ []) n barriers.Isb
 
 barrier_back : (b : Barrier) → barrier_of (barrier_number b) ≡ b
-barrier_back (barriers.Fence fences.MFence) = refl
-barrier_back (barriers.Fence fences.Sync) = refl
-barrier_back (barriers.Fence fences.LwSync) = refl
-barrier_back (barriers.Fence fences.Eieio) = refl
-barrier_back (barriers.Fence fences.ISync) = refl
-barrier_back (barriers.Fence fences.DmbSy) = refl
-barrier_back (barriers.Fence fences.DmbLd) = refl
-barrier_back (barriers.Fence fences.DmbSt) = refl
-barrier_back barriers.Isb = refl
-barrier_back (barriers.Fence (fences.Fence picks.R picks.R)) = refl
-barrier_back (barriers.Fence (fences.Fence picks.R picks.W)) = refl
-barrier_back (barriers.Fence (fences.Fence picks.R picks.RW)) = refl
-barrier_back (barriers.Fence (fences.Fence picks.W picks.R)) = refl
-barrier_back (barriers.Fence (fences.Fence picks.W picks.W)) = refl
-barrier_back (barriers.Fence (fences.Fence picks.W picks.RW)) = refl
-barrier_back (barriers.Fence (fences.Fence picks.RW picks.R)) = refl
-barrier_back (barriers.Fence (fences.Fence picks.RW picks.W)) = refl
-barrier_back (barriers.Fence (fences.Fence picks.RW picks.RW)) = refl
-barrier_back (barriers.Fence fences.Dmb) = refl
+barrier_back b = grind arith
 
 -- barriers of one number are one barrier
 pub barrier_is : (a b : Barrier) → same_barrier a b ≡ true → a ≡ b
@@ -73,14 +55,9 @@ is_named_operand names (operands.Label l) = is_label_name (label_name l)
 
 all_named : (names : ℕ → List ℕ) {kind : Kind} {op : Micro} {vs : List Operand} → IsOf kind op vs →
     is_well_named (op_name names op) ≡ true → list_all (is_named_operand names) vs ≡ true
-all_named names (loads_into r d p e) h = and_from (is_place_name (names p)) true h refl
-all_named names (stores_number p n) h = and_from (is_place_name (names p)) true h refl
-all_named names (branches_equal l) h = and_from (is_label_name (label_name l)) true h refl
-all_named names (branches_not_zero a l) h = and_from (is_label_name (label_name l)) true h refl
-all_named names is h = refl
+all_named names x h = grind arith
 
 -- where the name of an operation has its form, those of its operands have
 pub operands_named : (names : ℕ → List ℕ) (kind : Kind) (op : Micro) → is_well_named (op_name names op) ≡ true →
     list_all (is_named_operand names) (given_operands (operands_of kind op)) ≡ true
-operands_named names kind op h =
-    by_kind (λ o. list_all (is_named_operand names) (given_operands o) ≡ true) kind op refl (λ vs is. all_named names is h)
+operands_named names kind op h = grind arith

@@ -43,34 +43,16 @@ prefix_back (b ∷ prefix) rest = let e = eq-eqb b b refl in rw e (prefix_back p
 pub suffix_back : (text suffix : List ℕ) → before_suffix suffix (text ++ suffix) ≡ Some text
 unfolding before_suffix
 suffix_back text suffix =
-    let e : length (text ++ suffix) - length suffix ≡ length text = omega (arith, length-append text suffix) in
-    let f : nat_le (length suffix) (length (text ++ suffix)) ≡ true =
-    le-leb (length suffix) (length (text ++ suffix)) (omega (arith, length-append text suffix)) in
-    let g : bytes_eq suffix suffix ≡ true = (bytes_eq-Decides suffix suffix).1 refl in
-    rw (e, f, drop-append_seam text suffix, g, take-append_seam text suffix) refl
+    grind (arith, (length-append text suffix), (nat_le (length suffix) (length (text ++ suffix))), (le-leb (length suffix) (length (text ++ suffix)) (omega (arith, length-append text suffix))), (bytes_eq-Decides suffix suffix), (drop-append_seam text suffix), (take-append_seam text suffix))
 
 -- a number in its range is read from its decimal
 number_back : (first count r : ℕ) → r < count → first + r < 2 ^ 32 → register_at first count (number_of (decimal (first + r))) ≡ Some r
-number_back first count r h small =
-    ap (register_at first count) (number_of-decimal (first + r) small) ∙
-    (let e : first + r - first ≡ r = omega arith in
-    let f : nat_le first (first + r) ≡ true = le-leb first (first + r) (omega arith) in
-    let g : nat_lt r count ≡ true = lt-ltb r count h in
-    rw (f, e, g) refl)
+number_back first count r h small = grind (arith, number_of-decimal, nat_le, le-leb, nat_lt, lt-ltb)
 
 -- what is in a hole is read from it
 hole_back : (names : ℕ → List ℕ) (h : Hole) (vs : List Operand) → is_hole_good h ≡ true → fits_first h vs ≡ true →
     hole_found h (hole_filled names h vs) ≡ Some (map (named names) (held h vs))
-hole_back names holes.Empty vs good fit = refl
-hole_back names (holes.Register first count) (operands.Register r ∷ vs) good fit =
-    let small : first + count ≤ 256 = leb-true (first + count) 256 good in
-    let below : r < count = ltb-true r count fit in
-    ap (option_map (λ (n : ℕ). found_register n ∷ [])) (number_back first count r below (omega arith))
-hole_back names holes.Number (operands.Number n ∷ vs) good fit =
-    ap (option_map (λ (n : ℕ). found_number n ∷ [])) (immediate_back n (leb-true n 2047 fit))
-hole_back names holes.Place (operands.Place p ∷ vs) good fit = refl
-hole_back names holes.Label (operands.Label l ∷ vs) good fit = refl
-hole_back names h vs good fit = cc
+hole_back names h vs good fit = grind (arith, leb-true, ltb-true, number_back, immediate_back)
 
 -- the test of an operand, in parts
 pub record GoodPiece (p : PieceText) : Type 0 where
@@ -82,46 +64,26 @@ pub record GoodPiece (p : PieceText) : Type 0 where
 -- an operand that passes its test has those parts
 pub piece_is_good : (p : PieceText) → is_piece_good p ≡ true → GoodPiece p
 unfolding is_piece_good
-piece_is_good p h =
-    let q = and_parts (list_all is_fixed_byte p.before) (list_all is_fixed_byte p.after && (is_hole_good p.hole && is_filled p.hole (text_without_hole p))) h in
-    let r = and_parts (list_all is_fixed_byte p.after) (is_hole_good p.hole && is_filled p.hole (text_without_hole p)) q.1 in
-    let s = and_parts (is_hole_good p.hole) (is_filled p.hole (text_without_hole p)) r.1 in
-    record { before = q.0; after = r.0; hole = s.0; full = s.1 }
+piece_is_good p h = grind arith
 
 -- an operand reads back by its form
 pub piece_back : (names : ℕ → List ℕ) (p : PieceText) (vs : List Operand) → is_piece_good p ≡ true → fits_first p.hole vs ≡ true →
     piece_found p (piece_text names p vs) ≡ Some (map (named names) (held p.hole vs))
 unfolding piece_found
 piece_back names p vs good fit =
-    ap (λ o. option_and_then (hole_found p.hole) (option_and_then (before_suffix p.after) o)) (prefix_back p.before (hole_filled names p.hole vs ++ p.after)) ∙
-    (ap (λ o. option_and_then (hole_found p.hole) o) (suffix_back (hole_filled names p.hole vs) p.after) ∙
-    hole_back names p.hole vs (piece_is_good p good).hole fit)
+    grind (arith, (prefix_back p.before (hole_filled names p.hole vs ++ p.after)), (suffix_back (hole_filled names p.hole vs) p.after), (hole_back names p.hole vs (piece_is_good p good).hole fit), (piece_is_good p good))
 
 -- the operand that a hole takes comes before those that are left
 held_first : (names : ℕ → List ℕ) (h : Hole) (vs : List Operand) →
     map (named names) (held h vs) ++ map (named names) (after_hole h vs) ≡ map (named names) vs
-held_first names holes.Empty vs = refl
-held_first names (holes.Register first count) [] = refl
-held_first names (holes.Register first count) (v ∷ vs) = refl
-held_first names holes.Number [] = refl
-held_first names holes.Number (v ∷ vs) = refl
-held_first names holes.Place [] = refl
-held_first names holes.Place (v ∷ vs) = refl
-held_first names holes.Label [] = refl
-held_first names holes.Label (v ∷ vs) = refl
+held_first names h vs = grind arith
 
 -- the operands of one form read back
 pub pieces_back : (names : ℕ → List ℕ) (ps : List PieceText) (vs : List Operand) → list_all is_piece_good ps ≡ true → operands_fit ps vs ≡ true →
     pieces_found ps (piece_texts names ps vs) ≡ Some (map (named names) vs)
 unfolding pieces_found piece_texts operands_fit
-pieces_back names [] [] good fit = refl
-pieces_back names [] (v ∷ vs) good fit = cc
-pieces_back names (p ∷ ps) vs good fit =
-    let g = and_parts (is_piece_good p) (list_all is_piece_good ps) good in
-    let f = and_parts (fits_first p.hole vs) (operands_fit ps (after_hole p.hole vs)) fit in
-    ap (λ o. joined_operands o (pieces_found ps (piece_texts names ps (after_hole p.hole vs)))) (piece_back names p vs g.0 f.0) ∙
-    (ap (λ o. joined_operands (Some (map (named names) (held p.hole vs))) o) (pieces_back names ps (after_hole p.hole vs) g.1 f.1) ∙
-    ap Some (held_first names p.hole vs))
+pieces_back names (p ∷ ps) vs good fit = grind (arith, (pieces_back names ps (after_hole p.hole vs)), and_parts, piece_back, held_first)
+pieces_back names [] vs good fit = grind arith
 
 -- a form has as many texts as operands
 pub length-piece_texts : (names : ℕ → List ℕ) (ps : List PieceText) (vs : List Operand) → length (piece_texts names ps vs) ≡ length ps

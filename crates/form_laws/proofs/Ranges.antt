@@ -41,25 +41,13 @@ is_below _ = true
 
 first_below : (h : Hole) (vs : List Operand) → is_small_hole h ≡ true → fits_first h vs ≡ true →
     list_all is_below (after_hole h vs) ≡ true → list_all is_below vs ≡ true
-first_below holes.Empty vs small fit rest = rest
-first_below (holes.Register first count) (operands.Register r ∷ vs) small fit rest =
-    let a : count ≤ 32 = leb-true count 32 small in
-    let b : r < count = ltb-true r count fit in
-    and_from (nat_lt r 32) (list_all is_below vs) (lt-ltb r 32 (omega arith)) rest
-first_below holes.Number (operands.Number n ∷ vs) small fit rest = rest
-first_below holes.Place (operands.Place p ∷ vs) small fit rest = rest
-first_below holes.Label (operands.Label l ∷ vs) small fit rest = rest
-first_below h vs small fit rest = cc
+first_below h vs small fit rest = grind arith
 
 all_below : (ps : List PieceText) (vs : List Operand) → list_all (λ (p : PieceText). is_small_hole p.hole) ps ≡ true → operands_fit ps vs ≡ true →
     list_all is_below vs ≡ true
 unfolding operands_fit
-all_below [] [] small fit = refl
-all_below [] (v ∷ vs) small fit = cc
-all_below (p ∷ ps) vs small fit =
-    let a = and_parts (is_small_hole p.hole) (list_all (λ (q : PieceText). is_small_hole q.hole) ps) small in
-    let b = and_parts (fits_first p.hole vs) (operands_fit ps (after_hole p.hole vs)) fit in
-    first_below p.hole vs a.0 b.0 (all_below ps (after_hole p.hole vs) a.1 b.1)
+all_below (p ∷ ps) vs small fit = grind (arith, (all_below ps (after_hole p.hole vs)))
+all_below [] vs small fit = grind arith
 
 one : (r : ℕ) (vs : List Operand) → list_all is_below (operands.Register r ∷ vs) ≡ true → (r < 32) × (list_all is_below vs ≡ true)
 one r vs h = let p = and_parts (nat_lt r 32) (list_all is_below vs) h in (ltb-true r 32 p.0, p.1)
@@ -68,9 +56,7 @@ two : (r s : ℕ) (vs : List Operand) → list_all is_below (operands.Register r
 two r s vs h = let p = one r (operands.Register s ∷ vs) h in (p.0, (one s vs p.1).0)
 
 three : (r s t : ℕ) → list_all is_below (operands.Register r ∷ operands.Register s ∷ operands.Register t ∷ []) ≡ true → (r < 32) × (s < 32) × (t < 32)
-three r s t h =
-    let p = one r (operands.Register s ∷ operands.Register t ∷ []) h in
-    let q = two s t [] p.1 in (p.0, q.0, q.1)
+three r s t h = grind arith
 
 op_in_range : {kind : Kind} {op : Micro} {vs : List Operand} → IsOf kind op vs → is_small_kind kind ≡ true →
     list_all is_below vs ≡ true → InRange op
@@ -82,8 +68,7 @@ op_in_range (sums d a b) small h = three d a b h
 op_in_range (loads d a) small h = let p = two d a [] h in (p.0, p.1, tt)
 op_in_range (loads_indexed d a i) small h = three d a i h
 op_in_range (loads_index_first d a i) small h = let p = three d i a h in (p.0, p.2, p.1)
-op_in_range (loads_into r d p e) small h =
-    let f : d ≡ r = eqb-true d r e in let g : r < 32 = ltb-true r 32 small in omega arith
+op_in_range (loads_into r d p e) small h = grind arith
 op_in_range (loads_acquire d a) small h = two d a [] h
 op_in_range (stores s a) small h = let p = two s a [] h in (p.0, p.1, tt)
 op_in_range (stores_indexed s a i) small h = three s a i h
@@ -94,27 +79,17 @@ op_in_range (branches_not_zero a l) small h = (one a (operands.Label l ∷ []) h
 op_in_range is small h = tt
 
 form_in_range : (op : Micro) (f : FormText) → is_small_form f ≡ true → does op f ≡ true → InRange op
-form_in_range op f small h =
-    let a = and_parts (is_small_kind f.kind) (list_all (λ (p : PieceText). is_small_hole p.hole) f.pieces) small in
-    let d = done op f h in
-    op_in_range (is_of f.kind op d.some) a.0 (all_below f.pieces (given_operands (operands_of f.kind op)) a.1 d.fit)
+form_in_range op f small h = grind (arith, and_parts, done, op_in_range, is_of, all_below)
 
 any_in_range : (op : Micro) (fs : List FormText) → list_all is_small_form fs ≡ true → list_any (does op) fs ≡ true → InRange op
 any_in_range op [] small h = cc
-any_in_range op (f ∷ fs) small h =
-    let a = and_parts (is_small_form f) (list_all is_small_form fs) small in
-    by_test (does op f) (λ e. form_in_range op f a.0 e)
-    (λ e. any_in_range op fs a.1 (ap (λ b. b || list_any (does op) fs) (sym e) ∙ h))
+any_in_range op (f ∷ fs) small h = grind (arith, (any_in_range op fs), and_parts, form_in_range)
 
 -- an operation of such a table is in the range of the machine
 pub in_range : (t : TableText) (op : Micro) → list_all is_small_form t.forms ≡ true → table_has t op ≡ true → InRange op
-in_range t (ops.Label l) small h = tt
-in_range t op small h = any_in_range op t.forms small h
+in_range t op small h = grind (arith, any_in_range)
 
 -- what such a table reads is an instruction of the architecture that has it, and in the range of the machine
 pub reads_own : (a : Puts) (t : TableText) (registers : List (List ℕ)) → list_all is_small_form t.forms ≡ true →
     ((op : Micro) → a.has op ≡ table_has t op) → ReadsOwn a (table_writing t registers)
-reads_own a t registers small same = record {
-  had = λ w raw e. same raw.op ∙ reads_what_it_has t w raw e;
-  in_range = λ op h. in_range t op small (sym (same op) ∙ h);
-}
+reads_own a t registers small same = grind (arith, reads_what_it_has, in_range)

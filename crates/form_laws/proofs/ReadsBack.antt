@@ -33,25 +33,16 @@ pub record AreNames (a : Puts) (registers : List (List ℕ)) : Type 0 where
 -- a good form has at most four operands
 at_most_four : (names : ℕ → List ℕ) (op : Micro) (f : FormText) → is_form_good f ≡ true → length (op_texts names op f) ≤ 4
 at_most_four names op f good =
-    let h : length f.pieces ≤ 4 = leb-true (length f.pieces) 4 (form_is_good f good).few in
-    omega (arith, length-piece_texts names f.pieces (given_operands (operands_of f.kind op)))
+    grind (arith, (leb-true (length f.pieces) 4 (form_is_good f good).few), (form_is_good f good), (length-piece_texts names f.pieces (given_operands (operands_of f.kind op))))
 
 -- an operation that a form of the table does reads back, and its word and its operands are plain
 form_back : (t : TableText) (names : ℕ → List ℕ) (op : Micro) → is_clear t.forms ≡ true → list_any (does op) t.forms ≡ true →
     table_raw t (first_written names op t.forms) ≡ Some (raw_of names op)
-form_back t names op clear some =
-    let c : Chosen op t.forms = chosen op t.forms clear some in
-    let w : Written = form_written names op c.form in
-    ap (table_raw t) (c.written names) ∙
-    (ap (raw_if t w) (few_back (op_texts names op c.form) (at_most_four names op c.form c.good)) ∙
-    (c.reads names (label_read t.labels w) ∙ op_back names c.form.kind op (done op c.form c.does).some))
+form_back t names op clear some = grind (arith, (chosen op t.forms clear some), few_back, (at_most_four names op), (op_back names), (done op))
 
 form_word : (t : TableText) (names : ℕ → List ℕ) (op : Micro) → is_clear t.forms ≡ true → list_any (does op) t.forms ≡ true →
     is_plain (first_written names op t.forms).word ≡ true
-form_word t names op clear some =
-    let c : Chosen op t.forms = chosen op t.forms clear some in
-    let g = form_is_good c.form c.good in
-    ap (λ (w : Written). is_plain w.word) (c.written names) ∙ word_plain c.form.word g.some g.word
+form_word t names op clear some = grind (arith, (chosen op t.forms clear some), form_is_good, word_plain)
 
 form_operands : (t : TableText) (names : ℕ → List ℕ) (op : Micro) → is_clear t.forms ≡ true → list_any (does op) t.forms ≡ true →
     is_well_named (op_name names op) ≡ true → all_plain_texts (first_written names op t.forms).operands ≡ true
@@ -68,15 +59,10 @@ label_passed : (fs : List FormText) (l : ℕ) (texts : List (List ℕ)) (other :
 unfolding is_clear first_form_read
 label_passed [] l texts other clear = refl
 label_passed (f ∷ fs) l texts other clear =
-    let c = and_parts (is_form_good f) (list_all (forms_apart f) fs && is_clear fs) clear in
-    let d = and_parts (list_all (forms_apart f) fs) (is_clear fs) c.1 in
-    ap (λ b. raw_or f.kind (cond b (pieces_found f.pieces texts) None) (first_form_read fs (label_word l) texts other))
-    (no_label l f.word (first_word_fixed f.word (form_is_good f c.0).word)) ∙
-    label_passed fs l texts other d.1
+    grind (arith, (label_passed fs l texts other), (and_parts (is_form_good f) (list_all (forms_apart f) fs && is_clear fs) clear), (and_parts (list_all (forms_apart f) fs) (is_clear fs)), (no_label l f.word), (first_word_fixed f.word), (form_is_good f))
 
 known_read : (k : Labels) (w : Written) → are_known k ≡ true → label_read k w ≡ label_alone w.word w.operands
-known_read labels.Known w h = refl
-known_read labels.Unknown w h = cc
+known_read k w h = grind arith
 
 label_table_back : (t : TableText) (names : ℕ → List ℕ) (l : ℕ) → is_clear t.forms ≡ true → are_known t.labels ≡ true →
     table_raw t (record { word = label_word l; operands = none }) ≡ Some (raw_of names (ops.Label l))
@@ -92,33 +78,20 @@ back t names op clear h = form_back t names op clear h
 
 word : (t : TableText) (names : ℕ → List ℕ) (op : Micro) → is_clear t.forms ≡ true → table_has t op ≡ true →
     is_well_named (op_name names op) ≡ true → is_plain (table_written t names op).word ≡ true
-word t names (ops.Label l) clear h named = label_word_plain l named
-word t names op clear h named = form_word t names op clear h
+word t names op clear h named = grind (arith, label_word_plain, form_word)
 
 operands : (t : TableText) (names : ℕ → List ℕ) (op : Micro) → is_clear t.forms ≡ true → table_has t op ≡ true →
     is_well_named (op_name names op) ≡ true → all_plain_texts (table_written t names op).operands ≡ true
-operands t names (ops.Label l) clear h named = refl
-operands t names op clear h named = form_operands t names op clear h named
+operands t names op clear h named = grind (arith, form_operands)
 
 -- what a clear table writes reads back
 pub writes_back : (a : Puts) (t : TableText) (registers : List (List ℕ)) → is_clear t.forms ≡ true →
     ((op : Micro) → a.has op ≡ true → table_has t op ≡ true) → AreNames a registers →
     WritesBack a (table_writing t registers)
-writes_back a t registers clear covers names = record {
-  back = λ place_names op has named. back t place_names op clear (covers op has);
-  word = λ place_names op has named. word t place_names op clear (covers op has) named;
-  operands = λ place_names op has named. operands t place_names op clear (covers op has) named;
-  count = names.count;
-  formed = names.formed;
-  once = names.once;
-}
+writes_back a t registers clear covers names = grind (arith, back, word, operands)
 
 -- numbered registers have such names
 pub numbered_back : (a : Puts) (t : TableText) (n : Numbered) → is_clear t.forms ≡ true →
     ((op : Micro) → a.has op ≡ true → table_has t op ≡ true) → IsNumbered n → n.count ≡ a.registers →
     WritesBack a (table_writing t (register_names n))
-numbered_back a t n clear covers numbered count = writes_back a t (register_names n) clear covers (record {
-  count = names_count n ∙ count;
-  formed = names_formed n numbered;
-  once = names_once n numbered;
-})
+numbered_back a t n clear covers numbered count = search (arith, writes_back, names_count, names_formed, names_once)

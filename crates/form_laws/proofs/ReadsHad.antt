@@ -41,28 +41,18 @@ FitsIf hole None ws = Unit
 
 register_fits : (first count : ℕ) (number : Option ℕ) (ws : List Operand) →
     FitsIf (holes.Register first count) (option_map (λ r. found_register r ∷ []) (register_at first count number)) ws
-register_fits first count None ws = tt
-register_fits first count (Some n) ws = by_test (nat_le first n && nat_lt (n - first) count)
-    (λ h. rw h (record { first = grind (arith, nat_tests, h); rest = refl }))
-    (λ h. rw h tt)
+register_fits first count number ws = grind arith
 
 number_fits : (number : Option ℕ) (ws : List Operand) →
     FitsIf holes.Number (option_map (λ n. found_number n ∷ []) (at_most 2047 number)) ws
-number_fits None ws = tt
-number_fits (Some n) ws = by_test (nat_le n 2047) (λ h. rw h (record { first = h; rest = refl })) (λ h. rw h tt)
+number_fits number ws = grind arith
 
 hole_fits : (hole : Hole) (text : List ℕ) (ws : List Operand) → FitsIf hole (hole_found hole text) ws
 unfolding immediate_number
-hole_fits holes.Empty [] ws = record { first = refl; rest = refl }
-hole_fits holes.Empty (b ∷ text) ws = tt
-hole_fits (holes.Register first count) text ws = register_fits first count (number_of text) ws
-hole_fits holes.Number text ws = number_fits (number_of text) ws
-hole_fits holes.Place text ws = record { first = refl; rest = refl }
-hole_fits holes.Label text ws = record { first = refl; rest = refl }
+hole_fits hole text ws = grind arith
 
 text_fits : (hole : Hole) (text : Option (List ℕ)) (ws : List Operand) → FitsIf hole (option_and_then (hole_found hole) text) ws
-text_fits hole None ws = tt
-text_fits hole (Some text) ws = hole_fits hole text ws
+text_fits hole text ws = grind (arith, hole_fits)
 
 abbrev PiecesFit : List PieceText → Option (List FoundOperand) → Type 0
 PiecesFit ps (Some vs) = operands_fit ps (map zeroed vs) ≡ true
@@ -73,18 +63,12 @@ joined_fits : (p : PieceText) (ps : List PieceText) (a b : Option (List FoundOpe
 unfolding operands_fit
 joined_fits p ps None b f g = tt
 joined_fits p ps (Some a) None f g = tt
-joined_fits p ps (Some a) (Some b) f g =
-    let e = f (map zeroed b) in
-    rw (map-append zeroed a b) (and_from (fits_first p.hole (map zeroed a ++ map zeroed b)) (operands_fit ps (after_hole p.hole (map zeroed a ++ map zeroed b)))
-    e.first (ap (operands_fit ps) e.rest ∙ g))
+joined_fits p ps (Some a) (Some b) f g = grind (arith, map-append, and_from)
 
 pieces_fit : (ps : List PieceText) (ts : List (List ℕ)) → PiecesFit ps (pieces_found ps ts)
 unfolding pieces_found operands_fit piece_found
-pieces_fit [] [] = refl
-pieces_fit [] (t ∷ ts) = tt
-pieces_fit (p ∷ ps) [] = tt
-pieces_fit (p ∷ ps) (t ∷ ts) = joined_fits p ps (piece_found p t) (pieces_found ps ts)
-    (λ ws. text_fits p.hole _ ws) (pieces_fit ps ts)
+pieces_fit (p ∷ ps) (t ∷ ts) = search (arith, (pieces_fit ps ts), joined_fits, text_fits)
+pieces_fit ps ts = grind arith
 
 -- the operation that operands make has them
 abbrev Does : Kind → List FoundOperand → Option RawInstr → Type 0
@@ -92,26 +76,7 @@ Does kind vs (Some raw) = operands_of kind raw.op ≡ Some (map zeroed vs)
 Does kind vs None = Unit
 
 op_does : (kind : Kind) (vs : List FoundOperand) → Does kind vs (raw_with kind vs)
-op_does kinds.SetNumber (found_register d ∷ found_number n ∷ []) = refl
-op_does kinds.ExclusiveOr (found_register d ∷ found_register a ∷ found_register b ∷ []) = refl
-op_does kinds.AddNumber (found_register d ∷ found_register a ∷ found_number n ∷ []) = refl
-op_does kinds.OrNumber (found_register d ∷ found_register a ∷ found_number n ∷ []) = refl
-op_does kinds.Sum (found_register d ∷ found_register a ∷ found_register b ∷ []) = refl
-op_does kinds.Load (found_register d ∷ found_register a ∷ []) = refl
-op_does kinds.LoadIndexed (found_register d ∷ found_register a ∷ found_register i ∷ []) = refl
-op_does kinds.LoadIndexFirst (found_register d ∷ found_register i ∷ found_register a ∷ []) = refl
-op_does (kinds.LoadInto r) (found_place name ∷ []) = rw (eq-eqb r r refl) refl
-op_does kinds.LoadAcquire (found_register d ∷ found_register a ∷ []) = refl
-op_does kinds.Store (found_register s ∷ found_register a ∷ []) = refl
-op_does kinds.StoreIndexed (found_register s ∷ found_register a ∷ found_register i ∷ []) = refl
-op_does kinds.StoreIndexFirst (found_register s ∷ found_register i ∷ found_register a ∷ []) = refl
-op_does kinds.StoreNumber (found_place name ∷ found_number n ∷ []) = refl
-op_does kinds.StoreRelease (found_register s ∷ found_register a ∷ []) = refl
-op_does kinds.Compare (found_register a ∷ found_register b ∷ []) = refl
-op_does kinds.BranchEqual (found_label name ∷ []) = refl
-op_does kinds.BranchNotZero (found_register a ∷ found_label name ∷ []) = refl
-op_does (kinds.Order kind) [] = rw (eq-eqb (barrier_number kind) (barrier_number kind) refl) refl
-op_does _ _ = tt
+op_does kind vs = grind arith
 
 -- a form does what is read by it
 abbrev IsDone : Option RawInstr → FormText → Type 0
@@ -119,8 +84,7 @@ IsDone (Some raw) f = does raw.op f ≡ true
 IsDone None f = Unit
 
 done : (f : FormText) (vs : List FoundOperand) (raw : Option RawInstr) → Does f.kind vs raw → operands_fit f.pieces (map zeroed vs) ≡ true → IsDone raw f
-done f vs None d h = tt
-done f vs (Some raw) d h = rw d h
+done f vs raw d h = grind arith
 
 found_does : (f : FormText) (vs : List FoundOperand) → operands_fit f.pieces (map zeroed vs) ≡ true → IsDone (raw_with f.kind vs) f
 found_does f vs h = done f vs (raw_with f.kind vs) (op_does f.kind vs) h
@@ -132,13 +96,11 @@ IsHad has None = Unit
 
 done_had : (has : Micro → Bool) (f : FormText) (raw : Option RawInstr) → IsDone raw f →
     ((op : Micro) → does op f ≡ true → has op ≡ true) → IsHad has raw
-done_had has f None h each = tt
-done_had has f (Some raw) h each = each raw.op h
+done_had has f raw h each = grind arith
 
 raw_or_had : (has : Micro → Bool) (f : FormText) (found : Option (List FoundOperand)) (rest : Option RawInstr) →
     PiecesFit f.pieces found → ((op : Micro) → does op f ≡ true → has op ≡ true) → IsHad has rest → IsHad has (raw_or f.kind found rest)
-raw_or_had has f (Some vs) rest fit each h = done_had has f (raw_with f.kind vs) (found_does f vs fit) each
-raw_or_had has f None rest fit each h = h
+raw_or_had has f found rest fit each h = grind arith
 
 form_fit : (f : FormText) (word : List ℕ) (ts : List (List ℕ)) → PiecesFit f.pieces (form_found f word ts)
 form_fit f word ts = by_test (bytes_eq word f.word) (λ h. rw h (pieces_fit f.pieces ts)) (λ h. rw h tt)
@@ -147,43 +109,32 @@ first_had : (has : Micro → Bool) (fs : List FormText) (word : List ℕ) (ts : 
     ((op : Micro) → list_any (does op) fs ≡ true → has op ≡ true) → IsHad has other → IsHad has (first_form_read fs word ts other)
 unfolding first_form_read
 first_had has [] word ts other each h = h
-first_had has (f ∷ fs) word ts other each h = raw_or_had has f (form_found f word ts) (first_form_read fs word ts other) (form_fit f word ts)
-    (λ op d. each op (or_left (does op f) (list_any (does op) fs) d))
-    (first_had has fs word ts other (λ op d. each op (or_right (does op f) (list_any (does op) fs) d)) h)
+first_had has (f ∷ fs) word ts other each h = grind (arith, (first_had has fs word ts other), raw_or_had, form_fit, or_left, or_right)
 
 -- no form does a label
 label_none : (kind : Kind) (l : ℕ) → operands_of kind (ops.Label l) ≡ None
-label_none (kinds.Order kind) l = refl
-label_none kind l = refl
+label_none kind l = grind arith
 
 no_label : (fs : List FormText) (l : ℕ) → list_any (does (ops.Label l)) fs ≡ false
 no_label [] l = refl
 no_label (f ∷ fs) l = rw (label_none f.kind l) (no_label fs l)
 
 any_had : (t : TableText) (op : Micro) → list_any (does op) t.forms ≡ true → table_has t op ≡ true
-any_had t (ops.Label l) h = let e = no_label t.forms l in cc
-any_had t op h = h
+any_had t op h = grind (arith, no_label)
 
 alone_had : (t : TableText) (word : List ℕ) (o : OperandTexts) → are_known t.labels ≡ true → IsHad (table_has t) (label_alone word o)
 unfolding label_raw
-alone_had t word none known = by_test (nat_le 1 (length word) && get_or word (length word - 1) 0 == 58) (λ h. rw h known) (λ h. rw h tt)
-alone_had t word (one a) known = tt
-alone_had t word (two a b) known = tt
-alone_had t word (three a b c) known = tt
-alone_had t word (four a b c d) known = tt
-alone_had t word more known = tt
+alone_had t word o known = grind arith
 
 label_had : (t : TableText) (ls : Labels) (w : Written) → t.labels ≡ ls → IsHad (table_has t) (label_read ls w)
-label_had t labels.Known w e = alone_had t w.word w.operands (ap are_known e)
-label_had t labels.Unknown w e = tt
+label_had t ls w e = grind (arith, alone_had)
 
 if_had : (t : TableText) (w : Written) (ts : Option (List (List ℕ))) → IsHad (table_has t) (raw_if t w ts)
 if_had t w (Some ts) = first_had (table_has t) t.forms w.word ts (label_read t.labels w) (any_had t) (label_had t t.labels w refl)
 if_had t w None = tt
 
 had : (has : Micro → Bool) (read : Option RawInstr) (raw : RawInstr) → IsHad has read → read ≡ Some raw → has raw.op ≡ true
-had has (Some r) raw h e = grind (arith, h, e)
-had has None raw h e = cc
+had has read raw h e = grind arith
 
 -- an instruction that a table reads is one that it has
 pub reads_what_it_has : (t : TableText) (w : Written) (raw : RawInstr) → table_raw t w ≡ Some raw → table_has t raw.op ≡ true

@@ -1,29 +1,16 @@
 -- There is room for an instruction of a good form.
-use Rattle.std.proofs.Common.{ℕ, ◌+◌, ◌≤◌, ◌≡◌, true, List, [], ◌∷◌, ◌++◌, Option, Some, subst, length, arith, length-append, sym, ap}
+use Rattle.std.proofs.Common.{ℕ, ◌+◌, ◌≤◌, ◌≡◌, true, List, [], ◌∷◌, ◌++◌, subst, length, arith, length-append, ap}
 use Rattle.std.proofs.lemmas.Bool.{leb-true}
-use Rattle.micro_ops.specs.declared.operation.Micro.{Micro}
 use Rattle.arch_trait.specs.declared.arch.TheConstants.{MAX_TEXT}
 use Rattle.form_laws.specs.declared.form.Hole.{Hole}
 use Rattle.form_laws.specs.declared.kind.Operand.{Operand}
 use Rattle.form_laws.specs.declared.kind.Operand.TheVariants as operands
-use Rattle.form_laws.specs.declared.kind.Kind.{Kind}
-use Rattle.form_laws.specs.Kinds.{operands_of}
-use Rattle.form_laws.specs.Tables.{PieceText, FormText, fits_first, after_hole, hole_filled, given_operands}
+use Rattle.form_laws.specs.Tables.{PieceText, FormText, fits_first, after_hole, hole_filled}
 use Rattle.form_laws.specs.ClearTables.{is_hole_good, is_form_good, most_in, most_of}
 use Rattle.form_laws.proofs.PieceBacks.{piece_is_good}
 use Rattle.form_laws.proofs.PlainForms.{after_keeps, filled_short}
 use Rattle.form_laws.proofs.ChosenForms.{form_is_good}
-use Rattle.form_laws.proofs.OfKind.{IsOf, loads_into, stores_number, by_kind}
-use Rattle.instruction_forms.specs.Printing.{byte_before, place_short, AllShort, ReadyToPrint, ReadyPiece}
-
-all_short : (names : ℕ → List ℕ) {kind : Kind} {op : Micro} {vs : List Operand} → IsOf kind op vs → place_short names op ≡ true → AllShort names vs
-all_short names (loads_into r d p e) h = (leb-true (length (names p)) 16 h, tt)
-all_short names (stores_number p n) h = (leb-true (length (names p)) 16 h, tt)
-all_short names is h = tt
-
--- where the name of its place is short, an operation has short operands
-pub operands_short : (names : ℕ → List ℕ) (kind : Kind) (op : Micro) → place_short names op ≡ true → AllShort names (given_operands (operands_of kind op))
-operands_short names kind op h = by_kind (λ o. AllShort names (given_operands o)) kind op tt (λ vs is. all_short names is h)
+use Rattle.instruction_forms.specs.Printing.{byte_before, AllShort, ReadyToPrint, ReadyPiece}
 
 short_tail : (names : ℕ → List ℕ) (v : Operand) (vs : List Operand) → AllShort names (v ∷ vs) → AllShort names vs
 short_tail names (operands.Place p) vs h = h.1
@@ -87,9 +74,3 @@ blank_room f more good e =
 -- there is room for the word of a good form
 pub word_room : (f : FormText) → is_form_good f ≡ true → length f.word ≤ MAX_TEXT
 word_room f good = omega (arith, form_short f good)
-
--- the operands that an operation gives are short
-pub given_are_short : (names : ℕ → List ℕ) (kind : Kind) (op : Micro) (vs : List Operand) → place_short names op ≡ true → Some vs ≡ operands_of kind op → AllShort names vs
-given_are_short names kind op vs h e =
-    let P : Option (List Operand) → Type 0 = (λ r. AllShort names (given_operands r)) in
-    subst P (sym e) (operands_short names kind op h)

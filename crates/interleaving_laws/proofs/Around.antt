@@ -12,7 +12,7 @@ use Rattle.resolution_laws.proofs.Around.{by_after, after_below}
 use Rattle.program_meaning.specs.declared.WriteAt.{WriteAt}
 use Rattle.program_meaning.specs.Accesses.{Access, read, write, at_name}
 use Rattle.program_meaning.specs.Executions.{Execution}
-use Rattle.program_meaning.specs.Coherence.{coherence_place, source_at}
+use Rattle.program_meaning.specs.Coherence.{coherence_place}
 use Rattle.program_meaning.specs.Programs.{Program, accesses_in, visits_in}
 use Rattle.program_meaning.specs.Standing.{AccessAt, AreAt, CommunicatesBy, Reaches, Joins, access_at, event_name, AllStand}
 use Rattle.communication_laws.proofs.AllStand.{access_of_visit}
@@ -28,17 +28,9 @@ record Named (threads : List (List Access)) (e : AccessAt) : Type 0 where
 as_read : (threads : List (List Access)) (e : AccessAt) → Named threads e → e.access.dir ≡ dirs.R → at_name threads e.name ≡ Some (read e.access.place e.access.value)
 as_read threads e n d = n.at ∙ (λ i. Some (record { dir = d i; place = e.access.place; value = e.access.value }))
 
-as_write : (threads : List (List Access)) (e : AccessAt) → Named threads e → e.access.dir ≡ dirs.W → at_name threads e.name ≡ Some (write e.access.place e.access.value)
-as_write threads e n d = n.at ∙ (λ i. Some (record { dir = d i; place = e.access.place; value = e.access.value }))
-
--- the coherence place of an access of a direction
-place_in_dir : (threads : List (List Access)) (x : Execution) (e : AccessAt) (a : Access) → e.access ≡ a → coherence_place threads x e.name e.access ≡ coherence_place threads x e.name a
-place_in_dir threads x e a s = ap (coherence_place threads x e.name) s
-
 fr_step : (threads : List (List Access)) (x : Execution) (e f : WriteAt) (place u v : ℕ) → Held threads x → at_name threads e ≡ Some (read place u) → at_name threads f ≡ Some (write place v)
     → coherence_place threads x e (read place u) < coherence_place threads x f (write place v) → FromRead threads x e f
-fr_step threads x e f place u v held a b l =
-    record { place = place; reads = (u, a); before = read_before threads x place u (source_at threads x e) f held (held.reads place u e a) (v, b) l }
+fr_step threads x e f place u v held a b l = grind (arith, read_before)
 
 co_step : (threads : List (List Access)) (x : Execution) (e f : WriteAt) (place u v : ℕ) → Held threads x → at_name threads e ≡ Some (write place u) → at_name threads f ≡ Some (write place v)
     → coherence_place threads x e (write place u) < coherence_place threads x f (write place v) → CoherenceOrder x place e f

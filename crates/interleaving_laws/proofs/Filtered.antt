@@ -18,13 +18,8 @@ count_rises p (x ∷ xs) (suc j) (suc k) h = omega (arith, counted p x xs j, cou
 
 -- an element that passes counts one more
 pub count_one : {X : Type 0} (p : X → Bool) (xs : List X) (k : ℕ) (x : X) → slice_get xs k ≡ Some x → p x ≡ true → count_by p (take (k + 1) xs) ≡ count_by p (take k xs) + 1
-count_one p [] k x h t = cc
-count_one p (y ∷ xs) zero x h t =
-    let e : y ≡ x = cc in
-    omega (arith, counted p y xs 0, cond-true {A = ℕ} (p y) 1 0 (ap p e ∙ t))
-count_one p (y ∷ xs) (suc k) x h t =
-    let e : suc k + 1 ≡ suc (k + 1) = omega arith in
-    omega (arith, ap (λ n. count_by p (take n (y ∷ xs))) e, counted p y xs (k + 1), counted p y xs k, count_one p xs k x h t)
+count_one p (y ∷ xs) (suc k) x h t = grind (arith, count_one p xs k x h t, counted)
+count_one p xs k x h t = grind arith
 
 -- an element of a filter: where it is in the list, and how many pass before it
 pub record Found {X : Type 0} (p : X → Bool) (xs : List X) (j : ℕ) (x : X) : Type 0 where

@@ -13,8 +13,7 @@ use Rattle.interleaving_laws.proofs.Around.{all_stand_cycle}
 
 -- a sequentially consistent candidate is coherent per location
 pub sequential_is_coherent : SequentialIsCoherent
-sequential_is_coherent p x candidate within sequential =
-    (candidates_are_sc_per_location p x candidate within).1 (sequential_per_location (accesses_in p x) x sequential)
+sequential_is_coherent p x candidate within sequential = grind (arith, candidates_are_sc_per_location, sequential_per_location)
 
 -- a resolved cycle has an edge
 some_edge : (es : List Edge) → IsResolved es → 0 < length es

@@ -1,42 +1,23 @@
 -- Where accesses stand in an interleaving, and the writes before them.
-use Rattle.std.proofs.Common.{◌≡◌, ℕ, ◌+◌, ◌-◌, ◌<◌, ◌≤◌, Bool, true, false, List, [], length, get_or, map, Some, None, slice_get, take, sym, ◌∙◌, ap, arith}
-use Rattle.std.specs.Prelude.{unwrap_or}
+use Rattle.std.proofs.Common.{◌≡◌, ℕ, ◌+◌, ◌-◌, ◌<◌, ◌≤◌, Bool, true, List, length, Some, None, slice_get, take, ◌∙◌, ap, arith}
 use Rattle.std.specs.List.{count_by, filter}
-use Rattle.std.proofs.lemmas.Option.{slice_get_within, slice_get-get_or, get_or_from_slice_get, slice_get_past}
-use Rattle.std.proofs.lemmas.List.Sums.{position_or_len_is, length-filter}
-use Rattle.list_laws.specs.Numbers.{upto}
-use Rattle.list_laws.proofs.Cases.{by_test, by_less, by_same}
+use Rattle.std.proofs.lemmas.Option.{slice_get_within, slice_get_past}
+use Rattle.std.proofs.lemmas.List.Sums.{length-filter}
 use Rattle.list_laws.proofs.Numbers.{length-map-upto, slice_get-map-upto}
-use Rattle.relax_edges.specs.declared.kinds.Dir.TheVariants as dirs
 use Rattle.program_meaning.specs.declared.WriteAt.{WriteAt}
-use Rattle.program_meaning.specs.Accesses.{Access, read, write, at_name}
-use Rattle.program_meaning.specs.Executions.{same_write}
+use Rattle.program_meaning.specs.Accesses.{Access, at_name}
 use Rattle.program_meaning.specs.Coherence.{order_at}
 use Rattle.program_meaning.specs.Interleavings.{writes_there, writes_in, latest}
-use Rattle.execution_laws.proofs.Names.{same_write-refl, same_write-true}
 use Rattle.execution_laws.proofs.Candidates.{writes_there_means, writes_to_from}
-use Rattle.communication_laws.proofs.Lists.{Got, got_below}
+use Rattle.communication_laws.proofs.Lists.{got_below}
 use Rattle.coherence_laws.specs.Relations.{IsWriteTo, IsReadOf}
 use Rattle.interleaving_laws.specs.Made.{before, made_by}
 use Rattle.interleaving_laws.proofs.Filtered.{found, count_rises, count_one, got_of_take, take_fewer}
+use Rattle.communication_laws.proofs.Orders.{found_at}
 
 -- the accesses before one that stands at a number are as many
 pub before_is : (line : List WriteAt) (k : ℕ) (e : WriteAt) → slice_get line k ≡ Some e → ((i : ℕ) → slice_get line i ≡ Some e → i ≡ k) → before line e ≡ take k line
-before_is line k e h once = ap (λ n. take n line) (position_or_len_is (same_write e) line k e (omega (arith, within)) earlier (λ _. here))
-  where
-    within : k < length line
-    within = slice_get_within line k e h
-
-    earlier : (i : ℕ) → i < k → same_write e (get_or line i e) ≡ false
-    earlier i l =
-        by_test (same_write e (get_or line i e))
-        (λ t. let s : e ≡ get_or line i e = same_write-true e (get_or line i e) t in
-        let g : slice_get line i ≡ Some e = slice_get-get_or line i e (omega (arith, l, within)) ∙ ap Some (sym s) in
-        absurd (omega (arith, once i g, l)))
-        (λ f. f)
-
-    here : same_write e (get_or line k e) ≡ true
-    here = ap (same_write e) (get_or_from_slice_get line k e e h) ∙ same_write-refl e
+before_is line k e h once = ap (λ n. take n line) (found_at line k e h once)
 
 -- whether an access writes to a place
 abbrev pub to_place : List (List Access) → ℕ → WriteAt → Bool
@@ -81,20 +62,17 @@ latest_at threads line place k w h =
 -- where there is no last write to a place before an access, none is before it
 pub none_before : (threads : List (List Access)) (line : List WriteAt) (place k : ℕ) → latest threads place (take k line) ≡ None → count_by (to_place threads place) (take k line) ≡ 0
 none_before threads line place k h =
-    by_same (count_by (to_place threads place) (take k line)) 0
-    (λ e. e)
-    (λ d. absurd (some (got_below (filter (to_place threads place) (take k line)) (length (filter (to_place threads place) (take k line)) - 1) (omega (arith, d, length-filter (to_place threads place) (take k line))))))
-  where
-    some : Got (filter (to_place threads place) (take k line)) (length (filter (to_place threads place) (take k line)) - 1) → ⊥
-    some g = let e : None ≡ Some g.element = sym h ∙ g.got in cc e
+    grind (
+      arith,
+      got_below (filter (to_place threads place) (take k line)) (length (filter (to_place threads place) (take k line)) - 1),
+      length-filter (to_place threads place) (take k line),
+    )
 
 -- a write that comes at or after as many writes as are before an access, stands at it or after it
 pub stands_after : (threads : List (List Access)) (line : List WriteAt) (place j k : ℕ) (w : WriteAt) → slice_get line j ≡ Some w → to_place threads place w ≡ true
     → count_by (to_place threads place) (take k line) ≤ count_by (to_place threads place) (take j line) → k ≤ j
 stands_after threads line place j k w h t c =
-    by_less j k
-    (λ l. absurd (omega (arith, c, count_one (to_place threads place) line j w h t, count_rises (to_place threads place) line (j + 1) k (omega (arith, l)))))
-    (λ g. g)
+    grind (arith, count_one (to_place threads place) line j w h t, count_rises (to_place threads place) line (j + 1) k)
 
 -- two accesses of an interleaving, one before the other
 pub record Comes (line : List WriteAt) (e f : WriteAt) : Type 0 where
@@ -106,16 +84,8 @@ pub record Comes (line : List WriteAt) (e f : WriteAt) : Type 0 where
 
 -- what is in the order of a place, is in the writes of the interleaving to it
 pub order_got : (threads : List (List Access)) (places : ℕ) (line : List WriteAt) (place k : ℕ) (w : WriteAt) → slice_get (order_at (made_by threads places line) place) k ≡ Some w → slice_get (writes_in threads place line) k ≡ Some w
-order_got threads places line place k w h =
-    by_less place places
-    (λ l. ap (λ o. slice_get (unwrap_or o []) k) (sym (slice_get-map-upto (λ place. writes_in threads place line) places place l)) ∙ h)
-    (λ g. let e : None ≡ Some w =
-    ap (λ o. slice_get (unwrap_or o []) k) (sym (slice_get_past (map (λ place. writes_in threads place line) (upto places)) place (omega (arith, g, length-map-upto (λ place. writes_in threads place line) places)))) ∙ h in cc e)
+order_got threads places line place k w h = grind (arith, slice_get-map-upto, slice_get_past, length-map-upto)
 
 -- a read and a write aren't one access
 pub not_one : (threads : List (List Access)) (p q : ℕ) (e f : WriteAt) → IsReadOf threads p e → IsWriteTo threads q f → e ≡ f → ⊥
-not_one threads p q e f r w s =
-    let t : Some (read p r.0) ≡ Some (write q w.0) = sym r.1 ∙ ap (at_name threads) s ∙ w.1 in
-    let u : read p r.0 ≡ write q w.0 = cc t in
-    let d : dirs.R ≡ dirs.W = ap (λ a. a.dir) u in
-    cc d
+not_one threads p q e f r w s = grind arith

@@ -1,24 +1,18 @@
 -- The execution that an interleaving makes is one of its threads, and of its program where it is one of a program.
-use Rattle.std.proofs.Common.{◌≡◌, ℕ, ◌+◌, true, List, [], map, Option, Some, None, slice_get, take, refl, sym, ◌∙◌, ap, subst, arith}
-use Rattle.std.specs.Prelude.{unwrap_or}
+use Rattle.std.proofs.Common.{◌≡◌, ℕ, ◌+◌, true, List, map, Option, Some, None, slice_get, take, refl, sym, ◌∙◌, ap, subst, arith}
 use Rattle.std.specs.List.{count_by, filter}
 use Rattle.std.specs.Option.{option_and_then}
 use Rattle.std.proofs.lemmas.Option.{slice_get_within}
 use Rattle.list_laws.specs.Numbers.{upto}
 use Rattle.list_laws.proofs.Numbers.{length-map-upto, slice_get-map-upto}
-use Rattle.relax_edges.specs.declared.kinds.Dir.{Dir}
-use Rattle.relax_edges.specs.declared.kinds.Dir.TheVariants as dirs
-use Rattle.micro_ops.specs.Running.{Outcome}
 use Rattle.program_meaning.specs.declared.WriteAt.{WriteAt}
-use Rattle.program_meaning.specs.Accesses.{Access, read, write, is_read, reads_by, visits_of, accesses_of, at_name}
-use Rattle.program_meaning.specs.Executions.{Execution, CanRead, AreReadsOf, IsOrderOf, IsExecutionOf}
-use Rattle.program_meaning.specs.Coherence.{value_of_access, last_write, final_value}
-use Rattle.program_meaning.specs.Programs.{made_in, runs_of, accesses_in}
-use Rattle.program_meaning.specs.Interleavings.{IsInterleaving, GivesValues, writes_in, latest, runs_on, accesses_on}
+use Rattle.program_meaning.specs.Accesses.{Access, read, write, is_read, at_name}
+use Rattle.program_meaning.specs.Executions.{CanRead, AreReadsOf, IsOrderOf, IsExecutionOf}
+use Rattle.program_meaning.specs.Coherence.{value_of_access}
+use Rattle.program_meaning.specs.Interleavings.{IsInterleaving, GivesValues, writes_in, latest, accesses_on}
 use Rattle.execution_laws.specs.Deciding.{name}
 use Rattle.execution_laws.proofs.Names.{at_name_of}
 use Rattle.communication_laws.proofs.Lists.{rank_filter}
-use Rattle.coherence_laws.specs.Sequential.{IsSequential}
 use Rattle.interleaving_laws.specs.Made.{before, reads_from, made_by}
 use Rattle.interleaving_laws.specs.Laws.{InterleavingsMakeExecutions}
 use Rattle.interleaving_laws.proofs.Filtered.{found}
@@ -39,11 +33,7 @@ can_read_latest threads line place value k e gives g a = by_latest (latest threa
         p.1 ∙ ap (λ n. Some (write place n)) (sym v)
 
 as_read : (a : Access) → is_read a ≡ true → a ≡ read a.place a.value
-as_read a t = by_dir a.dir refl t
-  where
-    by_dir : (d : Dir) → a.dir ≡ d → reads_by d ≡ true → a ≡ read a.place a.value
-    by_dir dirs.R e t = λ i. record { dir = e i; place = a.place; value = a.value }
-    by_dir dirs.W e t = cc t
+as_read a t = grind arith
 
 -- the execution that an interleaving makes is one of its threads
 pub made_execution : (threads : List (List Access)) (places : ℕ) (line : List WriteAt) → IsInterleaving threads line → GivesValues threads line → IsExecutionOf threads places (made_by threads places line)
@@ -93,22 +83,11 @@ made_execution threads places line h gives = record {
 
 -- each interleaving of a program makes an execution of it
 pub interleavings_make_executions : InterleavingsMakeExecutions
-interleavings_make_executions p values line h = record {
-  candidate = record {
-    ended = λ k run g. h.ended k run (ap (λ (l : List Outcome). slice_get l k) (sym runs) ∙ g);
-    execution = subst (λ threads. IsExecutionOf threads p.places x) (sym accesses) (made_execution (accesses_on p values) p.places line h.interleaves h.gives);
-  };
-  sequential = subst (λ threads. IsSequential threads x) (sym accesses) (made_sequential (accesses_on p values) p.places line h.interleaves);
-  runs = runs;
-  ends = λ place b. ap (λ threads. final_value threads x place) accesses
-      ∙ ap (λ o. value_of_access (option_and_then (at_name (accesses_on p values)) (last_write (unwrap_or o [])))) (slice_get-map-upto (λ place. writes_in (accesses_on p values) place line) p.places place b);
-}
-  where
-    x : Execution
-    x = made_by (accesses_on p values) p.places line
-
-    runs : runs_of p.threads x.reads ≡ runs_on p.threads values
-    runs = same_runs (λ e place. latest (accesses_on p values) place (before line e)) 0 p.threads values h.ended
-
-    accesses : accesses_in p x ≡ accesses_on p values
-    accesses = ap (λ (l : List Outcome). map accesses_of (map visits_of (map made_in l))) runs
+interleavings_make_executions p values line h =
+    grind (
+      arith,
+      made_execution (accesses_on p values) p.places line h.interleaves h.gives,
+      made_sequential (accesses_on p values) p.places line h.interleaves,
+      slice_get-map-upto,
+      same_runs,
+    )

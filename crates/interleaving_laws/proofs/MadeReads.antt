@@ -20,26 +20,17 @@ use Rattle.interleaving_laws.proofs.RunReads.{ended_reads}
 -- a read of a thread, its value and what it reads, before the reads of the accesses after it
 reads_yes : (source : WriteAt → ℕ → Option WriteAt) (thread slot : ℕ) (a : Access) (accesses : List Access) → is_read a ≡ true → reads_from source thread slot (a ∷ accesses) ≡ (a.value, source (name thread slot) a.place) ∷ reads_from source thread (slot + 1) accesses
 unfolding reads_from
-reads_yes source thread slot a accesses t =
-    cond-true {A = List (ℕ × Option WriteAt)} (is_read a) ((a.value, source (name thread slot) a.place) ∷ reads_from source thread (slot + 1) accesses) (reads_from source thread (slot + 1) accesses) t
+reads_yes source thread slot a accesses t = grind arith
 
 reads_no : (source : WriteAt → ℕ → Option WriteAt) (thread slot : ℕ) (a : Access) (accesses : List Access) → is_read a ≡ false → reads_from source thread slot (a ∷ accesses) ≡ reads_from source thread (slot + 1) accesses
 unfolding reads_from
-reads_no source thread slot a accesses f =
-    cond-false {A = List (ℕ × Option WriteAt)} (is_read a) ((a.value, source (name thread slot) a.place) ∷ reads_from source thread (slot + 1) accesses) (reads_from source thread (slot + 1) accesses) f
+reads_no source thread slot a accesses f = grind arith
 
 -- their values are those of the read accesses
 pub reads_values : (source : WriteAt → ℕ → Option WriteAt) (thread slot : ℕ) (accesses : List Access) → map (λ r. r.0) (reads_from source thread slot accesses) ≡ map (λ access. access.value) (filter is_read accesses)
 unfolding reads_from
 reads_values source thread slot [] = refl
-reads_values source thread slot (a ∷ accesses) =
-    by_test (is_read a)
-    (λ t. ap (map (λ r. r.0)) (reads_yes source thread slot a accesses t)
-    ∙ ap (λ l. a.value ∷ l) (reads_values source thread (slot + 1) accesses)
-    ∙ ap (map (λ access. access.value)) (sym (cond-true {A = List Access} (is_read a) (a ∷ filter is_read accesses) (filter is_read accesses) t)))
-    (λ f. ap (map (λ r. r.0)) (reads_no source thread slot a accesses f)
-    ∙ reads_values source thread (slot + 1) accesses
-    ∙ ap (map (λ access. access.value)) (sym (cond-false {A = List Access} (is_read a) (a ∷ filter is_read accesses) (filter is_read accesses) f)))
+reads_values source thread slot (a ∷ accesses) = grind (arith, reads_values source thread (slot + 1) accesses)
 
 -- where each read access can read what `source` says, they are reads of these accesses
 pub are_reads_from : (threads : List (List Access)) (source : WriteAt → ℕ → Option WriteAt) (thread slot : ℕ) (accesses : List Access)
@@ -62,11 +53,6 @@ are_reads_from threads source thread slot (a ∷ accesses) h =
 pub read_made : (source : WriteAt → ℕ → Option WriteAt) (thread slot : ℕ) (accesses : List Access) (i : ℕ) (a : Access) → slice_get accesses i ≡ Some a → is_read a ≡ true
     → slice_get (reads_from source thread slot accesses) (count_by is_read (take i accesses)) ≡ Some (a.value, source (name thread (slot + i)) a.place)
 unfolding reads_from
-read_made source thread slot [] i a h t = cc h
-read_made source thread slot (b ∷ accesses) zero a h t =
-    let e : b ≡ a = cc in
-    let s : slot ≡ slot + 0 = omega arith in
-    ap (λ l. slice_get l 0) (reads_yes source thread slot b accesses (ap is_read e ∙ t)) ∙ ap (λ (c : Access). Some (c.value, source (name thread slot) c.place)) e ∙ ap (λ n. Some (a.value, source (name thread n) a.place)) s
 read_made source thread slot (b ∷ accesses) (suc i) a h t =
     let s : slot + 1 + i ≡ slot + suc i = omega arith in
     let counted : count_by is_read (take (suc i) (b ∷ accesses)) ≡ cond (is_read b) 1 0 + count_by is_read (take i accesses) = sum_by-cons (λ access. cond (is_read access) 1 0) b (take i accesses) in
@@ -79,18 +65,14 @@ read_made source thread slot (b ∷ accesses) (suc i) a h t =
     (λ q. ap (λ l. slice_get l (count_by is_read (take (suc i) (b ∷ accesses)))) (reads_no source thread slot b accesses q)
     ∙ ap (slice_get (reads_from source thread (slot + 1) accesses)) (let e : count_by is_read (take (suc i) (b ∷ accesses)) ≡ count_by is_read (take i accesses) = omega (arith, counted, cond-false {A = ℕ} (is_read b) 1 0 q) in e)
     ∙ later)
+read_made source thread slot accesses i a h t = grind arith
 
 -- the reads of a thread among those of all
 pub thread_reads : (source : WriteAt → ℕ → Option WriteAt) (n k : ℕ) (threads : List (List Access)) (accesses : List Access) → slice_get threads k ≡ Some accesses → slice_get (all_reads source n threads) k ≡ Some (reads_from source (n + k) 0 accesses)
 unfolding all_reads
 thread_reads source n k [] accesses h = cc h
-thread_reads source n zero (first ∷ threads) accesses h =
-    let e : first ≡ accesses = cc in
-    let s : n ≡ n + 0 = omega arith in
-    ap (λ l. Some (reads_from source n 0 l)) e ∙ ap (λ m. Some (reads_from source m 0 accesses)) s
-thread_reads source n (suc k) (first ∷ threads) accesses h =
-    let s : n + 1 + k ≡ n + suc k = omega arith in
-    thread_reads source (n + 1) k threads accesses h ∙ ap (λ m. Some (reads_from source m 0 accesses)) s
+thread_reads source n zero (first ∷ threads) accesses h = grind arith
+thread_reads source n (suc k) (first ∷ threads) accesses h = grind (arith, thread_reads source (n + 1) k threads accesses h)
 
 -- there are reads for each thread
 pub reads_counted : (source : WriteAt → ℕ → Option WriteAt) (n : ℕ) (threads : List (List Access)) → length (all_reads source n threads) ≡ length threads

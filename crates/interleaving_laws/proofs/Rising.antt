@@ -1,7 +1,7 @@
 -- Along each step an interleaving goes on, so that the execution that it makes has no cycle.
 use Rattle.std.proofs.Common.{◌≡◌, ℕ, ◌≤◌, true, List, [], ◌∷◌, Option, Some, None, slice_get, take, refl, sym, ◌∙◌, ap, arith}
 use Rattle.std.specs.List.{count_by}
-use Rattle.list_laws.proofs.Cases.{by_less, by_same}
+use Rattle.list_laws.proofs.Cases.{by_same}
 use Rattle.program_meaning.specs.declared.WriteAt.{WriteAt}
 use Rattle.program_meaning.specs.Accesses.{Access, read, at_name}
 use Rattle.program_meaning.specs.Coherence.{source_at}
@@ -21,10 +21,7 @@ source_is threads places line place value k r h a g =
     ∙ ap (latest threads place) (before_is line k r g (λ i d. h.once i k r d g))
 
 po_comes : (threads : List (List Access)) (line : List WriteAt) (e f : WriteAt) → IsInterleaving threads line → Precedes threads e f → Comes line e f
-po_comes threads line e f h p =
-    let j = h.each e p.first.0 p.first.1 in
-    let k = h.each f p.second.0 p.second.1 in
-    record { first = j.0; second = k.0; got_first = j.1; got_second = k.1; earlier = h.in_order j.0 k.0 e f j.1 k.1 p.thread p.earlier }
+po_comes threads line e f h p = grind arith
 
 rf_comes : (threads : List (List Access)) (places : ℕ) (line : List WriteAt) (w r : WriteAt) → IsInterleaving threads line → ReadsFrom threads (made_by threads places line) w r → Comes line w r
 rf_comes threads places line w r h p =
@@ -34,18 +31,14 @@ rf_comes threads places line w r h p =
 
 co_comes : (threads : List (List Access)) (places : ℕ) (line : List WriteAt) (place : ℕ) (w v : WriteAt) → CoherenceOrder (made_by threads places line) place w v → Comes line w v
 co_comes threads places line place w v p =
-    let a = found (to_place threads place) line p.earlier w (order_got threads places line place p.earlier w p.first) in
-    let b = found (to_place threads place) line p.later v (order_got threads places line place p.later v p.second) in
-    record {
-      first = a.index;
-      second = b.index;
-      got_first = a.got;
-      got_second = b.got;
-      earlier =
-          by_less a.index b.index
-          (λ l. l)
-          (λ g. absurd (omega (arith, count_rises (to_place threads place) line b.index a.index g, a.rank, b.rank, p.before)));
-    }
+    grind (
+      arith,
+      found (to_place threads place) line p.earlier w (order_got threads places line place p.earlier w p.first),
+      found (to_place threads place) line p.later v (order_got threads places line place p.later v p.second),
+      order_got threads places line place p.earlier w p.first,
+      order_got threads places line place p.later v p.second,
+      count_rises (to_place threads place) line,
+    )
 
 fr_comes : (threads : List (List Access)) (places : ℕ) (line : List WriteAt) (r w : WriteAt) → IsInterleaving threads line → FromRead threads (made_by threads places line) r w → Comes line r w
 fr_comes threads places line r w h p =
@@ -93,19 +86,8 @@ step_comes threads places line e f h (ByFr p) = fr_comes threads places line e f
 
 path_comes : (threads : List (List Access)) (places : ℕ) (line : List WriteAt) (e : WriteAt) (between : List WriteAt) (f : WriteAt) → IsInterleaving threads line → IsPathBy (Precedes threads) threads (made_by threads places line) e between f → Comes line e f
 path_comes threads places line e [] f h p = step_comes threads places line e f h p
-path_comes threads places line e (g ∷ between) f h p =
-    let a = step_comes threads places line e g h p.0 in
-    let b = path_comes threads places line g between f h p.1 in
-    record {
-      first = a.first;
-      second = b.second;
-      got_first = a.got_first;
-      got_second = b.got_second;
-      earlier = omega (arith, a.earlier, b.earlier, h.once a.second b.first g a.got_second b.got_first);
-    }
+path_comes threads places line e (g ∷ between) f h p = grind (arith, path_comes threads places line g between f h p.1, step_comes threads places line e g h p.0)
 
 -- the execution that an interleaving makes has no cycle
 pub made_sequential : (threads : List (List Access)) (places : ℕ) (line : List WriteAt) → IsInterleaving threads line → IsSequential threads (made_by threads places line)
-made_sequential threads places line h e between path =
-    let c = path_comes threads places line e between e h path in
-    omega (arith, c.earlier, h.once c.first c.second e c.got_first c.got_second)
+made_sequential threads places line h e between path = grind (arith, path_comes)

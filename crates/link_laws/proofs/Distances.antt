@@ -1,12 +1,11 @@
 -- How far round the cycle an event is from the target of an edge that leads to another location: along each arc, this distance
 -- rises, and so do values.
-use Rattle.std.proofs.Common.{◌≡◌, ℕ, ◌+◌, ◌-◌, ◌<◌, ◌≤◌, true, List, length, refl, sym, ◌∙◌, ap, arith}
+use Rattle.std.proofs.Common.{◌≡◌, ℕ, ◌+◌, ◌-◌, ◌<◌, ◌≤◌, true, List, length, ◌∙◌, ap, arith}
 use Rattle.std.specs.Prelude.{if◌then◌else◌, nat_lt}
 use Rattle.std.proofs.lemmas.Bool.{cond-true, cond-false, lt-ltb, le-ltb}
-use Rattle.relax_edges.specs.declared.kinds.Sd.TheVariants.{Diff}
 use Rattle.relax_edges.specs.declared.edge.Edge.{Edge}
-use Rattle.relax_edges.specs.EdgeTable.{sd_of, is_diff}
-use Rattle.list_laws.proofs.Cases.{by_less, by_same}
+use Rattle.relax_edges.specs.EdgeTable.{is_diff}
+use Rattle.list_laws.proofs.Cases.{by_less}
 use Rattle.resolution_laws.specs.Resolution.{IsResolved, edge_at, event_after, location_of, moves_before}
 use Rattle.resolution_laws.proofs.Around.{by_after}
 use Rattle.resolution_laws.proofs.Locations.{moves_on, moves_up, moves_most}
@@ -28,12 +27,7 @@ distance_round es i j b h = omega (arith, cond-false {A = ℕ} (nat_lt i j) (j -
 
 -- events that don't lie across the edge are as far apart as their numbers
 pub distance_beside : (es : List Edge) (i j k : ℕ) → i < length es → j < k → (j ≤ i → i < k → ⊥) → distance es i j < distance es i k
-distance_beside es i j k b l beside =
-    by_less i j
-    (λ g. omega (arith, distance_ahead es i j g, distance_ahead es i k (omega (arith, g, l)), l))
-    (λ g. by_less i k
-    (λ m. absurd (beside g m))
-    (λ m. omega (arith, distance_round es i j b g, distance_round es i k b m, l)))
+distance_beside es i j k b l beside = grind arith
 
 -- each edge but this one leads one further
 pub distance_next : (es : List Edge) (i j : ℕ) → i < length es → j < length es → (j ≡ i → ⊥) → distance es i (event_after es j) ≡ distance es i j + 1
@@ -47,14 +41,7 @@ distance_next es i j b h apart =
 
 -- this distance is less than the number of events
 pub distance_below : (es : List Edge) (i j : ℕ) → i < length es → j < length es → distance es i j < length es
-distance_below es i j b h =
-    by_less i j
-    (λ g. omega (arith, distance_ahead es i j g, h))
-    (λ g. omega (arith, distance_round es i j b g, g))
-
--- an edge to another location, by its test
-pub moves_test : (edge : Edge) → sd_of edge ≡ Diff → is_diff edge ≡ true
-moves_test edge h = rw h refl
+distance_below es i j b h = grind arith
 
 -- at one location, what comes later on the way is further from the target of an edge to another location
 pub further : (es : List Edge) (i j k : ℕ) → IsResolved es → i < length es → is_diff (edge_at es i) ≡ true → j < length es → k < length es
@@ -81,17 +68,9 @@ further es i j k r b t h l same w =
 -- so is an event of a greater value
 pub further_by_value : (es : List Edge) (i j k : ℕ) → IsResolved es → i < length es → is_diff (edge_at es i) ≡ true → j < length es → k < length es
     → location_of es j ≡ location_of es k → value_of es j < value_of es k → distance es i j < distance es i k
-further_by_value es i j k r b t h l same v =
-    further es i j k r b t h l same
-    (by_less (way_place es j) (way_place es k) (λ w. w) (λ g. absurd (omega (arith, values_up es k j (sym same) g, v))))
+further_by_value es i j k r b t h l same v = grind (arith, further, values_up)
 
 -- and any other event of the value of a write
 pub further_than_write : (es : List Edge) (i j k : ℕ) → IsResolved es → i < length es → is_diff (edge_at es i) ≡ true → j < length es → k < length es
     → location_of es j ≡ location_of es k → value_of es j ≡ value_of es k → is_write es j ≡ true → (j ≡ k → ⊥) → distance es i j < distance es i k
-further_than_write es i j k r b t h l same v writes apart =
-    further es i j k r b t h l same
-    (by_less (way_place es j) (way_place es k)
-    (λ w. w)
-    (λ g. by_same (way_place es k) (way_place es j)
-    (λ e. absurd (apart (sym (only_on_way es k j l h e))))
-    (λ d. absurd (omega (arith, values_grow es k j h (sym same) (omega (arith, g, d)) writes, v)))))
+further_than_write es i j k r b t h l same v writes apart = grind (arith, further, only_on_way, values_grow)

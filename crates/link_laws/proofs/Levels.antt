@@ -1,6 +1,6 @@
 -- Where all edges of a cycle stand in a coherent execution of a program that makes the accesses of the cycle's test, the coherence
 -- place of each event is its value.
-use Rattle.std.proofs.Common.{◌≡◌, ℕ, zero, suc, ◌+◌, ◌<◌, ◌≤◌, true, false, List, length, Option, Some, None, refl, sym, ◌∙◌, ap, subst, arith}
+use Rattle.std.proofs.Common.{◌≡◌, ℕ, zero, suc, ◌+◌, ◌<◌, ◌≤◌, true, List, length, Option, Some, None, refl, sym, ◌∙◌, ap, subst, arith}
 use Rattle.std.proofs.lemmas.Option.{slice_get_within}
 use Rattle.relax_edges.specs.declared.kinds.Dir.{Dir}
 use Rattle.relax_edges.specs.declared.kinds.Dir.TheVariants as dirs
@@ -28,10 +28,11 @@ use Rattle.communication_laws.proofs.Lists.{length-filter_map-upto}
 use Rattle.communication_laws.proofs.OnlyOne.{FromBefore, from_before}
 use Rattle.communication_laws.proofs.Orders.{Holds, order_by_steps}
 use Rattle.communication_laws.proofs.Resolves.{IsWrite, Resolves, written_by}
-use Rattle.communication_laws.proofs.WriteEvents.{NthWrite, nth_write, ordered_write-is, rank_below}
+use Rattle.communication_laws.proofs.WriteEvents.{NthWrite, nth_write, ordered_write-is, rank_below, more_than}
 use Rattle.coherence_laws.specs.Relations.{IsWriteTo}
 use Rattle.coherence_laws.proofs.Places.{Held, place_in, level, level_is, level_write}
-use Rattle.link_laws.proofs.Distances.{distance, distance_next, distance_below, moves_test}
+use Rattle.link_laws.proofs.Distances.{distance, distance_next, distance_below}
+use Rattle.communication_laws.proofs.Bridge.{moves}
 
 -- an event of a program that makes the accesses of the cycle's test, with whatever value it reads
 pub record Made (es : List Edge) (number : ℕ → ℕ) (threads : List (List Access)) (i : ℕ) : Type 0 where
@@ -145,27 +146,13 @@ along es number threads x i s h same = by_kind (kind_of (edge_at es i)) refl
 -- in numbers: it stays at a read at least, and rises by one at least at a write
 rises_along : (es : List Edge) (number : ℕ → ℕ) (threads : List (List Access)) (x : Execution) (i : ℕ) → Standing es number threads x → i < length es
     → sd_of (edge_at es i) ≡ Same → level_at es threads x i + written_by (source_of (edge_at es (event_after es i))) ≤ level_at es threads x (event_after es i)
-rises_along es number threads x i s h same = by_dir (target_of (edge_at es i)) refl (along es number threads x i s h same)
-  where
-    by_dir : (d : Dir) → target_of (edge_at es i) ≡ d → MayFollow d (level_at es threads x i) (level_at es threads x (event_after es i))
-        → level_at es threads x i + written_by (source_of (edge_at es (event_after es i))) ≤ level_at es threads x (event_after es i)
-    by_dir dirs.R e m = omega (arith, m, ap written_by (sym (s.r.enters i h) ∙ e))
-    by_dir dirs.W e m = omega (arith, m, ap written_by (sym (s.r.enters i h) ∙ e))
-
--- no event that reads, writes
-no_write : (es : List Edge) (j w : ℕ) → source_of (edge_at es j) ≡ dirs.R → source_of (edge_at es w) ≡ dirs.W → j ≡ w → ⊥
-no_write es j w d e s = let x : dirs.R ≡ dirs.W = sym d ∙ ap (λ i. source_of (edge_at es i)) s ∙ e in cc x
-
--- a positive number is one more than a number
-one_less : (n : ℕ) → 0 < n → (k : ℕ) × (n ≡ suc k)
-one_less zero h = absurd (omega (arith, h))
-one_less (suc k) h = (k, refl)
+rises_along es number threads x i s h same = grind (arith, along es number threads x i s h same)
 
 -- writes of one location and one value are one
 same_write_event : (es : List Edge) (j w : ℕ) → Resolves es → j < length es → w < length es → source_of (edge_at es j) ≡ dirs.W
     → source_of (edge_at es w) ≡ dirs.W → location_of es w ≡ location_of es j → value_of es w ≡ value_of es j → w ≡ j
 same_write_event es j w r h l d e same v =
-    let k = one_less (value_of es j) (r.positive j h d) in
+    let k = more_than (value_of es j) (r.positive j h d) in
     let a = r.found (location_of es j) k.0 w (record { below = l; writes = e; location = same; value = v ∙ k.1 }) in
     let b = r.found (location_of es j) k.0 j (record { below = h; writes = d; location = refl; value = k.1 }) in
     let s : Some w ≡ Some j = sym a ∙ b in
@@ -173,14 +160,7 @@ same_write_event es j w r h l d e same v =
 
 -- an edge that keeps the location isn't one that leads to another
 kept_apart : (es : List Edge) (k d : ℕ) → is_diff (edge_at es d) ≡ true → sd_of (edge_at es k) ≡ Same → k ≡ d → ⊥
-kept_apart es k d t same s =
-    let e : is_diff (edge_at es k) ≡ true = ap (λ i. is_diff (edge_at es i)) s ∙ t in
-    let f : is_diff (edge_at es k) ≡ false = keeps_test (edge_at es k) same in
-    let x : true ≡ false = sym e ∙ f in
-    cc x
-  where
-    keeps_test : (edge : Edge) → sd_of edge ≡ Same → is_diff edge ≡ false
-    keeps_test edge h = rw h refl
+kept_apart es k d t same s = grind arith
 
 -- an event comes at or after the write of its value
 abbrev AtWrite : List Edge → List (List Access) → Execution → ℕ → Type 0
@@ -223,8 +203,7 @@ at_write_next es number threads x d j s b t h before w l writes same v = by_dir 
 at_write : (es : List Edge) (number : ℕ → ℕ) (threads : List (List Access)) (x : Execution) (d m j : ℕ) → Standing es number threads x → d < length es
     → is_diff (edge_at es d) ≡ true → j < length es → distance es d j ≡ m → AtWrite es threads x j
 at_write es number threads x d zero j s b t h e = at_write_next es number threads x d j s b t h (λ k l f. absurd (omega (arith, e, f)))
-at_write es number threads x d (suc m) j s b t h e = at_write_next es number threads x d j s b t h
-    (λ k l f. at_write es number threads x d m k s b t l (omega (arith, e, f)))
+at_write es number threads x d (suc m) j s b t h e = grind (arith, at_write es number threads x d m, at_write_next es number threads x d j s b t h)
 
 -- each event comes at or after the write of its value
 pub all_at_write : (es : List Edge) (number : ℕ → ℕ) (threads : List (List Access)) (x : Execution) (j : ℕ) → Standing es number threads x → j < length es
@@ -277,7 +256,7 @@ holds es number threads x l s b = record {
       let v = s.held.writes (number l) j w g in
       let e = write_of_event es number threads x w (number l) v.0 s v.1 in
       let m : location_of es e.event ≡ l = s.numbering.injective (location_of es e.event) l (s.r.location e.event) b e.place_is in
-      let k = one_less (value_of es e.event) (s.r.positive e.event e.below e.writes) in
+      let k = more_than (value_of es e.event) (s.r.positive e.event e.below e.writes) in
       let i : IsWrite es l k.0 e.event = record { below = e.below; writes = e.writes; location = m; value = k.1 } in
       (k.0, rank_below es l k.0 e.event s.r i, ordered_write-is es l k.0 e.event s.r i ∙ ap Some (sym e.name));
   once = λ i j w g h. s.held.once (number l) i j w g h;
@@ -286,13 +265,7 @@ holds es number threads x l s b = record {
 -- the coherence place of a write of a location
 place_of_write : (es : List Edge) (number : ℕ → ℕ) (threads : List (List Access)) (x : Execution) (l k : ℕ) (a : NthWrite es l k) → Standing es number threads x
     → order_place (order_at x (number l)) (ordered_write es l k) ≡ level_at es threads x a.event
-place_of_write es number threads x l k a s =
-    ap (order_place (order_at x (number l))) a.name_is
-    ∙ sym (level_write threads x (number l) (event_name es a.event) (
-      value_of es a.event,
-      event_writes es number threads x a.event s a.is_write.below a.is_write.writes ∙ ap
-          (λ m. Some (write (number m) (value_of es a.event))) a.is_write.location,
-    ))
+place_of_write es number threads x l k a s = grind (arith, level_write, event_writes)
 
 -- each write of a location comes before the next
 write_steps : (es : List Edge) (number : ℕ → ℕ) (threads : List (List Access)) (x : Execution) (l k : ℕ) → Standing es number threads x
@@ -386,8 +359,7 @@ level_within es number threads x i s h = omega (arith, within a.access.dir refl,
 write_level : (es : List Edge) (number : ℕ → ℕ) (threads : List (List Access)) (x : Execution) (l k : ℕ) (a : NthWrite es l k) → Standing es number threads x
     → l < move_count es → suc k ≤ write_count es l → level_at es threads x a.event ≡ suc k
 write_level es number threads x l k a s b h =
-    sym (place_of_write es number threads x l k a s) ∙ ap (λ order. order_place order (ordered_write es l k)) (order_is es number threads x l s b)
-    ∙ place_of_value es l (suc k) s.r h
+    grind (arith, place_of_write es number threads x l k a s, order_is es number threads x l s b, place_of_value es l (suc k) s.r h)
 
 -- an event comes no earlier than its value
 at_least : (es : List Edge) (number : ℕ → ℕ) (threads : List (List Access)) (x : Execution) (j : ℕ) → Standing es number threads x → j < length es
@@ -421,7 +393,7 @@ at_most_next es number threads x d j s b t h after = by_place (sd_of (edge_at es
           rises_along es number threads x j s h p,
           s.r.counts j h p,
         )
-    by_place Diff p = omega (arith, level_within es number threads x j s h, value_at_end es j s.resolved h (moves_test (edge_at es j) p))
+    by_place Diff p = omega (arith, level_within es number threads x j s h, value_at_end es j s.resolved h (moves (edge_at es j) p))
 
 at_most : (es : List Edge) (number : ℕ → ℕ) (threads : List (List Access)) (x : Execution) (d m j : ℕ) → Standing es number threads x → d < length es
     → is_diff (edge_at es d) ≡ true → j < length es → length es ≤ distance es d j + m → level_at es threads x j ≤ value_of es j

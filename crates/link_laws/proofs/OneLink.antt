@@ -4,11 +4,10 @@ use Rattle.std.proofs.Common.{◌≡◌, ℕ, ◌+◌, ◌<◌, ◌≤◌, true,
 use Rattle.relax_edges.specs.declared.kinds.Dir.TheVariants as dirs
 use Rattle.relax_edges.specs.declared.kinds.ObsMode.{ObsMode}
 use Rattle.relax_edges.specs.declared.edge.Edge.{Edge}
-use Rattle.relax_edges.specs.EdgeTable.{source_of, is_diff, is_external}
+use Rattle.relax_edges.specs.EdgeTable.{source_of, is_diff}
 use Rattle.list_laws.proofs.Cases.{by_same}
 use Rattle.list_laws.proofs.Ranks.{unrank_upto}
 use Rattle.resolution_laws.specs.Resolution.{IsResolved, edge_at, thread_of, slot_of, location_of, external_count, move_count}
-use Rattle.resolution_laws.proofs.EdgeCounts.{counted_up}
 use Rattle.value_laws.specs.Values.{value_of, write_at, is_write, is_observed}
 use Rattle.program_meaning.specs.declared.WriteAt.{WriteAt}
 use Rattle.program_meaning.specs.Accesses.{Access, read, write, at_name}
@@ -17,9 +16,9 @@ use Rattle.program_meaning.specs.Coherence.{order_place, order_at, source_at}
 use Rattle.program_meaning.specs.Standing.{event_name}
 use Rattle.program_meaning.specs.Intended.{IsNumbering, cycle_accesses, intended, observed_locations}
 use Rattle.communication_laws.proofs.Accesses.{EventAt, LoadAt, by_origin}
-use Rattle.communication_laws.proofs.Bridge.{resolves}
+use Rattle.communication_laws.proofs.Bridge.{resolves, moves}
 use Rattle.communication_laws.proofs.IntendedExists.{intended_is_execution}
-use Rattle.communication_laws.proofs.IntendedOrders.{place_is_value, same_event}
+use Rattle.communication_laws.proofs.IntendedOrders.{place_is_value}
 use Rattle.communication_laws.proofs.Resolves.{Resolves, later_slot}
 use Rattle.communication_laws.proofs.WriteEvents.{write_event}
 use Rattle.coherence_laws.specs.Laws.{WritesWithin}
@@ -28,7 +27,8 @@ use Rattle.coherence_laws.specs.Sequential.{StepBy, ByPo, ByRf, ByCo, ByFr, IsPa
 use Rattle.coherence_laws.proofs.Places.{Held, held, place_in}
 use Rattle.link_laws.specs.Laws.{EachLinkCloses}
 use Rattle.link_laws.specs.Links.{PrecedesBut}
-use Rattle.link_laws.proofs.Distances.{distance, distance_beside, moves_test, further_by_value, further_than_write}
+use Rattle.link_laws.proofs.Distances.{distance, distance_beside, further_by_value, further_than_write}
+use Rattle.resolution_laws.proofs.Threads.{thread_up}
 
 -- the rank of an access: twice the distance of its event, or one more than that of the write that an observer's read reads
 data Ranked (es : List Edge) (mode : ObsMode) (i : ℕ) (e : WriteAt) (rank : ℕ) : Type 0 where
@@ -38,19 +38,7 @@ data Ranked (es : List Edge) (mode : ObsMode) (i : ℕ) (e : WriteAt) (rank : �
 
 -- an access has one rank
 one_rank : (es : List Edge) (mode : ObsMode) (i : ℕ) (e : WriteAt) (m n : ℕ) → Resolves es → Ranked es mode i e m → Ranked es mode i e n → m ≡ n
-one_rank es mode i e m n r (Event j h p q) (Event k l s t) =
-    let same : j ≡ k = same_event es j k r h l (sym p ∙ s) in
-    q ∙ ap (λ j. distance es i j + distance es i j) same ∙ sym t
-one_rank es mode i e m n r (Event j h p q) (Load o l s w a b c d t) = absurd (omega (arith, ap (λ v. v.thread) p, b, r.thread j h))
-one_rank es mode i e m n r (Load o l s w a b c d t) (Event j h p q) = absurd (omega (arith, ap (λ v. v.thread) p, b, r.thread j h))
-one_rank es mode i e m n r (Load o l s w a b c d t) (Load o' l' s' w' a' b' c' d' t') =
-    let x : o ≡ o' = omega (arith, b, b') in
-    let y : Some l ≡ Some l' = sym a ∙ ap (slice_get (observed_locations es mode)) x ∙ a' in
-    let z : l ≡ l' = cc y in
-    let u : s ≡ s' = sym c ∙ c' in
-    let v : Some w ≡ Some w' = sym d ∙ (λ i. write_at es (z i) (u i)) ∙ d' in
-    let f : w ≡ w' = cc v in
-    t ∙ ap (λ j. distance es i j + distance es i j + 1) f ∙ sym t'
+one_rank es mode i e m n r x1 x2 = grind arith
 
 -- two accesses, of which the second has the greater rank
 record Goes (es : List Edge) (mode : ObsMode) (i : ℕ) (e f : WriteAt) : Type 0 where
@@ -88,16 +76,7 @@ record Written (es : List Edge) (number : ℕ → ℕ) (w : WriteAt) (place valu
 
 written : (es : List Edge) (mode : ObsMode) (number : ℕ → ℕ) (w : WriteAt) (place value : ℕ) → Resolves es
     → at_name (cycle_accesses es mode number) w ≡ Some (write place value) → Written es number w place value
-written es mode number w place value r h =
-    let e = write_event es mode number w place value r h in
-    record {
-      event = e.event;
-      below = e.is_write.below;
-      name = sym e.name_is;
-      writes = e.is_write.writes;
-      place_is = ap number e.is_write.location ∙ e.place_is;
-      value_is = e.is_write.value ∙ sym e.value_is;
-    }
+written es mode number w place value r h = grind (arith, write_event es mode number w place value r h)
 
 -- an observed location is one of the cycle's
 observed_below : (es : List Edge) (mode : ObsMode) (o l : ℕ) → slice_get (observed_locations es mode) o ≡ Some l → l < move_count es
@@ -211,11 +190,6 @@ fr_goes es mode number i f w facts h = by_source (source_at (cycle_accesses es m
         (intended es mode number) h.place b.earlier v facts.held b.first in
         goes c (omega (arith, z, value_place es mode number i h.place b.later w c facts b.second, b.before))
 
--- threads are counted along the events
-threads_up : (es : List Edge) (j k : ℕ) → j ≤ k → k ≤ length es → thread_of es j ≤ thread_of es k
-unfolding thread_of
-threads_up es j k h l = counted_up is_external es j k h l
-
 po_goes : (es : List Edge) (mode : ObsMode) (number : ℕ → ℕ) (i : ℕ) (e f : WriteAt) → Facts es mode number i
     → PrecedesBut (cycle_accesses es mode number) (event_name es i) e f → Goes es mode i e f
 po_goes es mode number i e f facts h =
@@ -248,7 +222,7 @@ po_goes es mode number i e f facts h =
             → i < b.event → ⊥
         across a b t p q =
             let s : thread_of es a.event ≡ thread_of es i = omega
-            (arith, t, threads_up es a.event i p (omega (arith, facts.below)), threads_up es i b.event (omega (arith, q)) (omega (arith, b.below))) in
+            (arith, t, thread_up es a.event i p (omega (arith, facts.below)), thread_up es i b.event (omega (arith, q)) (omega (arith, b.below))) in
             let u : slot_of es a.event ≤ slot_of es i =
             by_same a.event i
             (λ z. omega (arith, ap (slot_of es) z))
@@ -301,9 +275,7 @@ path_goes es mode number i e (g ∷ between) f facts h =
 -- the writes of a cycle's test are to its places
 writes_within : (es : List Edge) (mode : ObsMode) (number : ℕ → ℕ) → Resolves es → IsNumbering es number
     → WritesWithin (cycle_accesses es mode number) (move_count es)
-writes_within es mode number r n place w h =
-    let e = written es mode number w place h.0 r h.1 in
-    omega (arith, n.below (location_of es e.event) (r.location e.event), e.place_is)
+writes_within es mode number r n place w h = grind (arith, written es mode number w place h.0 r h.1)
 
 -- without one link the intended execution has no cycle
 pub each_link_closes : EachLinkCloses
@@ -314,7 +286,7 @@ each_link_closes es mode number i resolved numbering link e between path =
       r = r;
       numbering = numbering;
       below = link.below;
-      moves = moves_test (edge_at es i) link.moves;
+      moves = moves (edge_at es i) link.moves;
       held = held (cycle_accesses es mode number) (move_count es) (intended es mode number) (intended_is_execution es mode number r numbering)
           (writes_within es mode number r numbering);
     } in

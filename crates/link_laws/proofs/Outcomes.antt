@@ -1,5 +1,5 @@
 -- Where a cycle's test has no observers, a coherent candidate in which all edges stand reads and ends as the condition asks.
-use Rattle.std.proofs.Common.{◌≡◌, ℕ, zero, suc, ◌-◌, ◌<◌, ◌≤◌, List, [], ◌∷◌, length, map, Option, Some, None, slice_get, refl, sym, ◌∙◌, ap, subst, arith}
+use Rattle.std.proofs.Common.{◌≡◌, ℕ, zero, suc, ◌-◌, ◌<◌, ◌≤◌, List, [], ◌∷◌, length, map, Option, Some, slice_get, refl, sym, ◌∙◌, ap, subst, arith}
 use Rattle.std.specs.List.{filter}
 use Rattle.std.specs.Option.{option_and_then}
 use Rattle.std.proofs.lemmas.Option.{slice_get_within, slice_get_past}
@@ -17,7 +17,7 @@ use Rattle.program_meaning.specs.Executions.{Execution, AreReadsOf}
 use Rattle.program_meaning.specs.Coherence.{last_write, order_at, value_of_access, final_value}
 use Rattle.program_meaning.specs.Programs.{Program, IsCandidate, IsCoherentIn, accesses_in, visits_in}
 use Rattle.program_meaning.specs.Standing.{Joins, AllStand, event_name}
-use Rattle.program_meaning.specs.Intended.{IsNumbering, event_access, observer_accesses, cycle_accesses, observed_locations}
+use Rattle.program_meaning.specs.Intended.{IsNumbering, event_access, cycle_accesses, observed_locations}
 use Rattle.execution_laws.proofs.Names.{got_from_list}
 use Rattle.execution_laws.proofs.Runs.{accesses-count}
 use Rattle.communication_laws.specs.Joining.{MakesAccesses, EndsAsAsked, ReadsAsAsked, accesses_filled, value_taken, values_left, values_read}
@@ -42,8 +42,7 @@ record Filled (planned : List Access) (k : ℕ) (b : Access) : Type 0 where
   value : plan.dir ≡ dirs.W → b.value ≡ plan.value
 
 own_value : (d : Dir) (values : List ℕ) (own : ℕ) → d ≡ dirs.W → value_taken d values own ≡ own
-own_value dirs.R values own h = cc h
-own_value dirs.W values own h = refl
+own_value d values own h = grind arith
 
 filled_from : (planned : List Access) (values : List ℕ) (k : ℕ) (b : Access) → slice_get (accesses_filled planned values) k ≡ Some b → Filled planned k b
 filled_from [] values k b h = cc h
@@ -58,9 +57,7 @@ filled_from (a ∷ planned) values zero b h =
       place = sym (ap (λ c. c.place) s);
       value = λ d. sym (ap (λ c. c.value) s) ∙ own_value a.dir values a.value d;
     }
-filled_from (a ∷ planned) values (suc k) b h =
-    let r = filled_from planned (values_left a.dir values) k b h in
-    record { plan = r.plan; got = r.got; dir = r.dir; place = r.place; value = r.value }
+filled_from (a ∷ planned) values (suc k) b h = grind (arith, filled_from planned (values_left a.dir values) k b h)
 
 filled-count : (planned : List Access) (values : List ℕ) → length (accesses_filled planned values) ≡ length planned
 filled-count [] values = refl
@@ -69,10 +66,8 @@ filled-count (a ∷ planned) values = ap suc (filled-count planned (values_left 
 -- the values read are those of the read accesses
 values_are : (threads : List (List Access)) (accesses : List Access) (reads : List (ℕ × Option WriteAt)) → AreReadsOf threads accesses reads
     → values_read reads ≡ map (λ access. access.value) accesses
-values_are threads [] [] h = refl
-values_are threads [] (r ∷ reads) h = absurd h
-values_are threads (a ∷ accesses) [] h = absurd h
 values_are threads (a ∷ accesses) (r ∷ reads) h = λ i. h.0 i ∷ values_are threads accesses reads h.2 i
+values_are threads accesses reads h = grind arith
 
 -- what the law supposes
 record Given (es : List Edge) (mode : ObsMode) (number : ℕ → ℕ) (p : Program) (x : Execution) : Type 0 where
@@ -122,11 +117,7 @@ event_made es mode number p x i g h =
 -- no thread observes
 no_observer : (es : List Edge) (mode : ObsMode) (number : ℕ → ℕ) (k : ℕ) (planned : List Access) → observed_locations es mode ≡ []
     → slice_get (cycle_accesses es mode number) k ≡ Some planned → k < external_count es
-no_observer es mode number k planned none h =
-    by_less k (external_count es)
-    (λ l. l)
-    (λ l. let e : None ≡ Some planned = ap (λ (locations : List ℕ). slice_get (map (observer_accesses es number) locations) (k - external_count es))
-    (sym none) ∙ sym (observer_thread es mode number k (k - external_count es) (omega (arith, l))) ∙ h in cc e)
+no_observer es mode number k planned none h = grind (arith, observer_thread es mode number k (k - external_count es))
 
 -- a write of the program is an event
 write_made : (es : List Edge) (mode : ObsMode) (number : ℕ → ℕ) (p : Program) (x : Execution) (w : WriteAt) (a : Access) → Given es mode number p x
@@ -228,15 +219,4 @@ ends_asked es mode number p x g l b u two = by_count (write_count es l) refl two
 
 -- where a test has no observers, a coherent candidate in which all edges stand is an outcome
 pub standing_is_outcome : StandingIsOutcome
-standing_is_outcome es mode number p x resolved numbering unobserved makes candidate coherent all =
-    let g : Given es mode number p x = record {
-      resolved = resolved;
-      r = resolves es resolved;
-      numbering = numbering;
-      unobserved = unobserved;
-      makes = makes;
-      candidate = candidate;
-      coherent = coherent;
-      all = all;
-    } in
-    record { candidate = candidate; coherent = coherent; reads = reads_asked es mode number p x g; ends = ends_asked es mode number p x g }
+standing_is_outcome es mode number p x resolved numbering unobserved makes candidate coherent all = grind (arith, resolves, reads_asked, ends_asked)

@@ -19,10 +19,6 @@ count_upto_more p n = rw add-one (count_upto-suc p n)
 pub count_upto_more_yes : (p : ℕ → Bool) (n : ℕ) → p n ≡ true → count_by p (upto (n + 1)) ≡ count_by p (upto n) + 1
 count_upto_more_yes p n h = omega (arith, count_upto_more p n, cond-true {A = ℕ} (p n) 1 0 h)
 
--- a number more that fails adds nothing to the count
-pub count_upto_more_no : (p : ℕ → Bool) (n : ℕ) → p n ≡ false → count_by p (upto (n + 1)) ≡ count_by p (upto n)
-count_upto_more_no p n h = omega (arith, count_upto_more p n, cond-false {A = ℕ} (p n) 1 0 h)
-
 -- of n numbers at most n pass
 pub count_upto-le : (p : ℕ → Bool) (n : ℕ) → count_by p (upto n) ≤ n
 count_upto-le p n = omega (arith, count_by-le-length p (upto n), length-upto n)

@@ -1,5 +1,5 @@
 -- Registers in an array, named by a list from its end.
-use Rattle.std.proofs.Common.{ℕ, zero, suc, ◌≡◌, ◌==◌, ◌<◌, refl, Bool, true, false, cond, List, length, drop, set, get_or, replicate, ◌∙◌, sym, ap, eqb-true, drop_of_length-le, le_refl}
+use Rattle.std.proofs.Common.{ℕ, zero, suc, ◌≡◌, ◌==◌, ◌<◌, refl, Bool, true, false, cond, List, length, drop, set, get_or, replicate, ◌∙◌, sym, ap, eqb-true, drop_of_length-le, le_refl, arith}
 use Rattle.std.proofs.lemmas.Bool.{eqb-false}
 use Rattle.std.proofs.lemmas.List.{get_or-set_same, get_or-set_other}
 use Rattle.std.proofs.Math.Seq.{drop-cons}
@@ -14,9 +14,8 @@ pub same_function : {A : Type 0} (f g : ℕ → A) → ((n : ℕ) → f n ≡ g 
 same_function f g h = λ i n. h n i
 
 blank_at : (n r : ℕ) → held_by_register (replicate n (num 0 0)) r ≡ num 0 0
-blank_at zero r = refl
-blank_at (suc n) zero = refl
 blank_at (suc n) (suc r) = blank_at n r
+blank_at n r = grind arith
 
 -- registers that hold 0 are those of a thread of whose initial values none is set
 pub blank_is_start : (registers : List Held) (init : List (ℕ × Value)) →
@@ -27,14 +26,7 @@ blank_is_start registers init e =
 -- an array in which one register was written holds what was written there
 pub held_in_set : (registers : List Held) (d : ℕ) (held : Held) → d < length registers →
     held_by_register (set registers d held) ≡ written (held_by_register registers) d held
-held_in_set registers d held h = same_function _ _ (λ q. at_each q (q == d) refl)
-  where
-    at_each : (q : ℕ) (b : Bool) → (q == d) ≡ b →
-        held_by_register (set registers d held) q ≡ cond b held (held_by_register registers q)
-    at_each q true e =
-        rw (eqb-true q d e) (get_or-set_same registers d held (num 0 0) h)
-    at_each q false e =
-        get_or-set_other registers d q held (num 0 0) (λ s. eqb-false q d e s)
+held_in_set registers d held h = grind (arith, same_function, eqb-true, get_or-set_same, get_or-set_other, eqb-false)
 
 -- with one initial value more set, from the end, the registers hold those from this one on
 pub name_more : (registers : List Held) (init : List (ℕ × Value)) (j k d : ℕ) (none : ℕ × Value) →

@@ -18,27 +18,15 @@ use Rattle.micro_ops.proofs.Laws.{never_past, loads_within}
 -- the run of one operation more is that operation from where the others led
 pub exec_more : (code : List Micro) (i : ℕ) (d : Micro) (p q : Point) → i < length code →
     q ≡ exec (take i code) p → go (get_or code i d) q ≡ exec (take (i + 1) code) p
-exec_more code i d p q h e =
-    ap (go (get_or code i d)) e ∙
-    sym (exec_append (take i code) (get_or code i d ∷ []) p) ∙
-    ap (λ ops. exec ops p) (sym (take_more code i d h))
+exec_more code i d p q h e = cc ((exec_append (take i code) (get_or code i d ∷ []) p), (take_more code i d h))
 
 -- a runner before or past an operation goes on
 pub runner_goes_on : (runner : RunProgress) → goes_on (point_of runner) ≡ true
-runner_goes_on runner = on_landing runner.past _
-  where
-    on_landing : (j : Option ℕ) (r : Run) → goes_on (landing j r) ≡ true
-    on_landing None r = refl
-    on_landing (Some l) r = refl
+runner_goes_on runner = grind arith
 
 runner_loads : (runner : RunProgress) (n : ℕ) → OnRun (λ r. r.state.loads ≤ n) (point_of runner) →
     (state_of runner.machine).loads ≤ n
-runner_loads runner n h = on_landing runner.past _ h
-  where
-    on_landing : (j : Option ℕ) (r : Run) → OnRun (λ r. r.state.loads ≤ n) (landing j r) →
-        r.state.loads ≤ n
-    on_landing None r h = h
-    on_landing (Some l) r h = h
+runner_loads runner n h = grind arith
 
 -- before a load of code with at most 64 loads, fewer than 64 were stepped
 pub room_left : (code : List Micro) (init : List (ℕ × Value)) (reads : List ℕ) (i : ℕ) (d : Micro)
@@ -47,15 +35,7 @@ pub room_left : (code : List Micro) (init : List (ℕ × Value)) (reads : List �
     count_by is_load code ≤ 64 → is_load (get_or code i d) ≡ true →
     (state_of runner.machine).loads < 64
 room_left code init reads i d runner h e few is_one =
-    let within = runner_loads runner (count_by is_load (take i code))
-    (subst (OnRun (λ r. r.state.loads ≤ count_by is_load (take i code))) (sym e)
-    (loads_within (take i code) init reads)) in
-    omega (
-      arith,
-      within,
-      count_by_more_yes is_load code i d h is_one,
-      sum_by-take-le (λ x. cond (is_load x) 1 0) code (i + 1),
-    )
+    grind (arith, (runner_loads runner (count_by is_load (take i code))), (loads_within (take i code) init reads), (count_by_more_yes is_load code i d h is_one), sum_by-take-le)
 
 -- where a runner is stuck, the run stops
 pub stops : (code : List Micro) (init : List (ℕ × Value)) (reads : List ℕ) (i : ℕ) (d : Micro)
@@ -63,42 +43,30 @@ pub stops : (code : List Micro) (init : List (ℕ × Value)) (reads : List ℕ) 
     point_of runner ≡ exec (take i code) (At (beginning init reads)) →
     goes_on (go (get_or code i d) (point_of runner)) ≡ false →
     StopsAt code (At (beginning init reads)) i
-stops code init reads i d runner h e stuck = record {
-  within = h;
-  before = ap goes_on (sym e) ∙ runner_goes_on runner;
-  later = ap goes_on (sym (exec_more code i d _ _ h e)) ∙ stuck;
-}
+stops code init reads i d runner h e stuck = grind (arith, runner_goes_on, exec_more)
 
 -- a runner that went through all the code is on the way to no label
 pub runner_ends : (code : List Micro) (init : List (ℕ × Value)) (reads : List ℕ) (n : ℕ) (p : Point) →
     length code ≤ n → p ≡ exec (take n code) (At (beginning init reads)) → lands code ≡ true →
     is_past p ≡ false
-runner_ends code init reads n p h e l =
-    ap is_past e ∙ ap (λ ops. is_past (exec ops (At (beginning init reads)))) (take_all n code h) ∙
-    never_past code (beginning init reads) l
+runner_ends code init reads n p h e l = grind (arith, take_all, never_past)
 
 -- a runner that went through all the code ends as the run does
 pub runner_runs : (code : List Micro) (init : List (ℕ × Value)) (reads : List ℕ) (n : ℕ) (p : Point) →
     length code ≤ n → p ≡ exec (take n code) (At (beginning init reads)) →
     outcome p ≡ runs code init reads
-runner_runs code init reads n p h e =
-    ap outcome e ∙ ap (λ ops. outcome (exec ops (At (beginning init reads)))) (take_all n code h)
+runner_runs code init reads n p h e = cc (take_all n code h)
 
 -- a runner that can't go on gives the error that has its cause
 pub halt_cause : (code : List Micro) (init : List (ℕ × Value)) (reads : List ℕ) (i : ℕ) (halt : Halt)
     (error : RunError) → error ≡ error_of halt i →
     (halt ≡ halts.Stuck → StopsAt code (At (beginning init reads)) i) →
     CausedBy error code init reads
-halt_cause code init reads i halts.Stuck error e h =
-    subst (λ x. CausedBy x code init reads) (sym e) (h refl)
-halt_cause code init reads i halts.NoMemory error e h =
-    subst (λ x. CausedBy x code init reads) (sym e) tt
+halt_cause code init reads i halt error e h = grind arith
 
 -- a runner with reads left at the end of the code gives the error that has its cause
 pub left_cause : (code : List Micro) (init : List (ℕ × Value)) (reads : List ℕ) (p : Point)
     (result : Result EndedRun RunError) → outcome p ≡ runs code init reads →
     IfErr result (λ error. (error ≡ errors.ReadsLeft) × (outcome p ≡ ReadsLeft)) →
     IfErr result (λ error. CausedBy error code init reads)
-left_cause code init reads p (Ok trace) e h = tt
-left_cause code init reads p (Err error) e h =
-    subst (λ x. CausedBy x code init reads) (sym h.0) (sym e ∙ h.1)
+left_cause code init reads p (y) e h = grind arith

@@ -1,6 +1,6 @@
 -- The test of a cycle is within the limits of the format: its code, its address registers and its terms.
-use Rattle.std.proofs.Common.{◌≡◌, ℕ, zero, suc, ◌+◌, ◌<◌, ◌≤◌, ◌==◌, Bool, true, false, cond, ◌||◌, List, [], ◌∷◌, ◌++◌, length, map, Some, slice_get, refl, sym, ap, ◌∙◌, subst, arith}
-use Rattle.std.specs.Prelude.{◌&&◌, is_some, nat_lt, count_by}
+use Rattle.std.proofs.Common.{◌≡◌, ℕ, suc, ◌+◌, ◌<◌, ◌≤◌, ◌==◌, Bool, true, false, ◌||◌, List, [], ◌∷◌, ◌++◌, length, map, Some, slice_get, refl, sym, ap, ◌∙◌, subst, arith}
+use Rattle.std.specs.Prelude.{◌&&◌, is_some, nat_lt}
 use Rattle.std.specs.List.{AllByRecursion, list_all, filter, position_from, zip}
 use Rattle.std.specs.Str.{bytes_eq}
 use Rattle.std.proofs.lemmas.Bool.{eqb-true, lt-ltb, and_from}
@@ -14,8 +14,6 @@ use Rattle.list_laws.specs.Numbers.{upto}
 use Rattle.list_laws.proofs.Numbers.{length-upto, slice_get-upto}
 use Rattle.relax_edges.specs.declared.TheConstants.{MAX_EDGES}
 use Rattle.relax_edges.specs.declared.kinds.ArchName.{ArchName}
-use Rattle.relax_edges.specs.declared.kinds.Dir.{Dir}
-use Rattle.relax_edges.specs.declared.kinds.Dir.TheVariants as dirs
 use Rattle.relax_edges.specs.declared.kinds.ObsMode.{ObsMode}
 use Rattle.relax_edges.specs.declared.edge.Edge.{Edge}
 use Rattle.value_laws.proofs.Along.{write_count_most}
@@ -49,16 +47,7 @@ use Rattle.printed_test_laws.proofs.Rereading.{got_is}
 -- what is in a table has a number
 name_found : (k : ℕ) (names : List (List ℕ)) (i : ℕ) (name : List ℕ) → slice_get names i ≡ Some name → is_some (position_from (λ x. bytes_eq x name) k names) ≡ true
 name_found k [] i name g = cc
-name_found k (x ∷ names) i name g =
-    by_test (bytes_eq x name)
-    (λ e. ap (λ b. is_some (cond b (Some k) (position_from (λ y. bytes_eq y name) (k + 1) names))) e)
-    (λ e. ap (λ b. is_some (cond b (Some k) (position_from (λ y. bytes_eq y name) (k + 1) names))) e ∙ later i g e (λ j h. name_found (k + 1) names j name h))
-  where
-    later : (i : ℕ) → slice_get (x ∷ names) i ≡ Some name → bytes_eq x name ≡ false → ((j : ℕ) → slice_get names j ≡ Some name → is_some (position_from (λ y. bytes_eq y name) (k + 1) names) ≡ true) → is_some (position_from (λ y. bytes_eq y name) (k + 1) names) ≡ true
-    later zero g e further =
-        let same : x ≡ name = cc in
-        let clash : true ≡ false = sym ((bytes_eq-Decides x name).1 same) ∙ e in cc
-    later (suc i) g e further = further i g
+name_found k (x ∷ names) i name g = grind (arith, name_found (k + 1) names, is_some, bytes_eq-Decides)
 
 -- the name of each location has its form and a number
 location_in : (n l : ℕ) → l < n → is_some (number_in (letters n) (location_name l)) ≡ true
@@ -95,15 +84,11 @@ pub record IsThreadCode (a : Puts) (ss : List Step) : Type 0 where
 
 -- the code of a thread of the test is that of a thread of the architecture
 pub thread_is : (a : Puts) (es : List Edge) (mode : ObsMode) (k : ℕ) (ss : List Step) → IsArch a → HasCode a es mode → slice_get (cycle_steps es mode plain) k ≡ Some ss → IsThreadCode a ss
-thread_is a es mode k ss laws t g =
-    let thread = steps_fit es mode plain a.name k ss t.resolved t.of_arch g in
-    record { thread = thread; formed = is_formed a laws ss thread.fit (t.room k ss g) }
+thread_is a es mode k ss laws t g = grind (arith, steps_fit es mode plain a.name k ss t.resolved t.of_arch g, is_formed a laws ss)
 
 -- the code of a thread has no more instructions than a thread may have
 pub code_short : (a : Puts) (es : List Edge) (mode : ObsMode) (k : ℕ) (ss : List Step) → IsArch a → HasCode a es mode → slice_get (cycle_steps es mode plain) k ≡ Some ss → length (compiled a ss).instrs ≤ MAX_INSTRS
-code_short a es mode k ss laws t g =
-    let thread = (thread_is a es mode k ss laws t g).thread in
-    omega (arith, thread_short a laws false (setting_out a.registers) ss thread.fit, thread.few)
+code_short a es mode k ss laws t g = grind (arith, thread_is a es mode k ss laws t g, thread_short a laws false (setting_out a.registers) ss)
 
 -- the code of a thread fits the names of the locations
 pub thread_code_fits : (a : Puts) (es : List Edge) (mode : ObsMode) (k : ℕ) (ss : List Step) → IsArch a → MakesOneAccess a → HasCode a es mode → slice_get (cycle_steps es mode plain) k ≡ Some ss
@@ -116,12 +101,10 @@ thread_code_fits a es mode k ss laws one t g =
 
 -- the branches in the code of a thread land
 pub thread_lands : (a : Puts) (es : List Edge) (mode : ObsMode) (k : ℕ) (ss : List Step) → IsArch a → HasCode a es mode → slice_get (cycle_steps es mode plain) k ≡ Some ss → code_lands (compiled a ss).instrs (compiled a ss).instrs ≡ true
-thread_lands a es mode k ss laws t g =
-    let c = thread_is a es mode k ss laws t g in
-    lands_once (compiled a ss).instrs (count_by (λ (s : Step). branches s.link) ss) c.formed.jumps c.formed.labels
+thread_lands a es mode k ss laws t g = grind (arith, thread_is a es mode k ss laws t g, lands_once (compiled a ss).instrs)
 
 -- the address registers of all threads, from those of each
-all_links : (P : Link → Type 0) (n : ℕ) (threads : List ThreadCode) → ((k : ℕ) (t : ThreadCode) → slice_get threads k ≡ Some t → AllByRecursion P (map (λ link. (n + k, link)) t.links)) → AllByRecursion P (links_of n threads)
+pub all_links : (P : Link → Type 0) (n : ℕ) (threads : List ThreadCode) → ((k : ℕ) (t : ThreadCode) → slice_get threads k ≡ Some t → AllByRecursion P (map (λ link. (n + k, link)) t.links)) → AllByRecursion P (links_of n threads)
 all_links P n [] h = tt
 all_links P n (t ∷ threads) h =
     all_append P (map (λ link. (n, link)) t.links) (links_of (n + 1) threads)
@@ -141,22 +124,16 @@ all_links_fit a w es mode laws back t few =
     (subst (λ n. InOrder 0 (compiled a i.element).links n) (sym back.count) c.formed.links) c.formed.addresses))
 
 -- the numbers that loads are to read are bytes
-numbers_small : (arch : ArchName) (b : Bool) (ss : List Step) → FitSteps arch b ss → AllByRecursion (λ v. v < 256) (numbers_read ss)
+pub numbers_small : (arch : ArchName) (b : Bool) (ss : List Step) → FitSteps arch b ss → AllByRecursion (λ v. v < 256) (numbers_read ss)
 numbers_small arch b [] fit = tt
-numbers_small arch b (s ∷ ss) fit = of_dir s.dir (numbers_small arch (is_load_dir s.dir) ss fit.1)
-  where
-    of_dir : (d : Dir) → AllByRecursion (λ v. v < 256) (numbers_read ss) → AllByRecursion (λ v. v < 256) (map (λ (t : Step). t.value) (cond (is_load_dir d) (s ∷ filter (λ t. is_load_dir t.dir) ss) (filter (λ t. is_load_dir t.dir) ss)))
-    of_dir dirs.R h = (fit.0.value, h)
-    of_dir dirs.W h = h
+numbers_small arch b (s ∷ ss) fit = grind (arith, numbers_small arch (is_load_dir s.dir) ss fit.1)
 
 -- each register of an architecture has a name of its form, by which it is found
 register_in : (w : Writing) (q : ℕ) → list_all is_register_name w.registers ≡ true → q < length w.registers → (is_register_name (name_in w.registers q) ≡ true) × (is_some (number_in w.registers (name_in w.registers q)) ≡ true)
 register_in w q formed h = (all_at is_register_name w.registers q [] formed h, name_found 0 w.registers q (name_in w.registers q) (slice_get-get_or w.registers q [] h))
 
-read_terms : (a : Puts) (w : Writing) (table : List (List ℕ)) (threads thread : ℕ) (qs vs : List ℕ) → WritesBack a w → thread < threads → threads ≤ 64 → AllBelow a.registers qs → AllByRecursion (λ v. v < 256) vs
+pub read_terms : (a : Puts) (w : Writing) (table : List (List ℕ)) (threads thread : ℕ) (qs vs : List ℕ) → WritesBack a w → thread < threads → threads ≤ 64 → AllBelow a.registers qs → AllByRecursion (λ v. v < 256) vs
     → AllByRecursion (TermFits w threads table) (map (load_term (name_in w.registers) thread) (zip qs vs))
-read_terms a w table threads thread [] vs back h few below small = tt
-read_terms a w table threads thread (q ∷ qs) [] back h few below small = tt
 read_terms a w table threads thread (q ∷ qs) (v ∷ vs) back h few below small =
     let name = register_in w q back.formed (omega (arith, below.0, back.count)) in (
       record {
@@ -165,8 +142,9 @@ read_terms a w table threads thread (q ∷ qs) (v ∷ vs) back h few below small
       },
       read_terms a w table threads thread qs vs back h few below.1 small.1,
     )
+read_terms a w table threads thread qs vs back h few below small = grind arith
 
-all_read_terms : (a : Puts) (w : Writing) (table : List (List ℕ)) (threads thread : ℕ) (all : List (List Step)) → WritesBack a w → thread + length all ≤ threads → threads ≤ 64
+pub all_read_terms : (a : Puts) (w : Writing) (table : List (List ℕ)) (threads thread : ℕ) (all : List (List Step)) → WritesBack a w → thread + length all ≤ threads → threads ≤ 64
     → ((k : ℕ) (ss : List Step) → slice_get all k ≡ Some ss → AllBelow a.registers (compiled a ss).loads × AllByRecursion (λ v. v < 256) (numbers_read ss))
     → AllByRecursion (TermFits w threads table) (load_terms a (name_in w.registers) thread all)
 all_read_terms a w table threads thread [] back h few each = tt
@@ -178,29 +156,14 @@ all_read_terms a w table threads thread (ss ∷ all) back h few each =
 
 ends_fit : (w : Writing) (es : List Edge) (threads : ℕ) (locations : List ℕ) → IsResolved es → AllByRecursion (λ l. l < move_count es) locations → AllByRecursion (TermFits w threads (letters (move_count es))) (map (last_term es) locations)
 ends_fit w es threads [] r h = tt
-ends_fit w es threads (l ∷ locations) r h =
-    let few = locations_few es r in
-    let most = write_count_most es l in
-    let short = r.composes.few in (
-      record {
-        formed = record { form = (location_new l (omega (arith, h.0))).formed; value = omega arith };
-        known = location_in (move_count es) l h.0;
-      },
-      ends_fit w es threads locations r h.1,
-    )
+ends_fit w es threads (l ∷ locations) r h = grind (arith, ends_fit w es threads locations r h.1, locations_few, write_count_most, location_new, location_in)
 
 filter_below : (p : ℕ → Bool) (n : ℕ) (xs : List ℕ) → AllByRecursion (λ l. l < n) xs → AllByRecursion (λ l. l < n) (filter p xs)
 filter_below p n [] h = tt
-filter_below p n (x ∷ xs) h = by_test (p x)
-    (λ e. rw e (h.0, filter_below p n xs h.1))
-    (λ e. rw e (filter_below p n xs h.1))
+filter_below p n (x ∷ xs) h = grind (arith, filter_below p n xs h.1)
 
 upto_below : (n : ℕ) → AllByRecursion (λ l. l < n) (upto n)
-upto_below n = all_from (λ l. l < n) (upto n) (λ k l g.
-    let below = slice_get_within (upto n) k l g in
-    let inside : k < n = omega (arith, below, length-upto n) in
-    let same : Some l ≡ Some k = sym g ∙ slice_get-upto n k inside in
-    let is : l ≡ k = cc in omega arith)
+upto_below n = grind (arith, all_from, slice_get_within, length-upto, slice_get-upto)
 
 -- the terms of the condition
 pub terms_fit : (a : Puts) (w : Writing) (es : List Edge) (mode : ObsMode) → IsArch a → WritesBack a w → HasCode a es mode → length (cycle_steps es mode plain) ≤ MAX_EDGES

@@ -2,7 +2,7 @@
 use Rattle.std.proofs.Common.{◌≡◌, ◌<◌, ◌≤◌, ◌+◌, ◌==◌, ℕ, zero, suc, List, [], ◌∷◌, ◌++◌, true, false, cond, length, map, refl, sym, ap, ◌∙◌, subst, arith, append_assoc, append-nil, zero-add}
 use Rattle.std.specs.Prelude.{Bool, not, ◌&&◌, ◌||◌, nat_lt, is_some, count_by}
 use Rattle.std.specs.List.{list_all, list_any, range_with_len, AllByRecursion}
-use Rattle.std.proofs.lemmas.Bool.{eqb-true, eq-eqb, ne_eqb, lt-ltb, ltb-true, and_parts, and_from}
+use Rattle.std.proofs.lemmas.Bool.{eqb-true, eq-eqb, lt-ltb, ltb-true, and_parts, and_from}
 use Rattle.std.proofs.lemmas.List.Sums.{sum_by-append, sum_by-cons}
 use Rattle.list_laws.proofs.Cases.{by_test}
 use Rattle.micro_ops.specs.declared.operation.Micro.{Micro}
@@ -27,17 +27,10 @@ abbrev pub HasPlaces : List (List ℕ) → (ℕ → List ℕ) → List Step → 
 HasPlaces table names ss = (place : ℕ) → visits place ss ≡ true → (is_place_name (names place) && is_some (number_in table (names place))) ≡ true
 
 op_placed : (table : List (List ℕ)) (names : ℕ → List ℕ) (ss : List Step) (op : Micro) → HasPlaces table names ss → is_within ss op ≡ true → is_placed table names op ≡ true
-op_placed table names ss (ops.LoadAt dst place) has h = has place h
-op_placed table names ss (ops.StoreAt place n) has h = has place h
-op_placed table names ss op has h = refl
+op_placed table names ss op has h = grind arith
 
 access_room : (op : Micro) (accesses : ℕ) → accesses + cond (is_access op) 1 0 ≤ 64 → (not (is_access op) || nat_lt accesses 64) ≡ true
-access_room op accesses h = by_test (is_access op)
-    (λ e. rw e (lt-ltb accesses 64 (room e)))
-    (λ e. rw e refl)
-  where
-    room : is_access op ≡ true → accesses < 64
-    room e = let one : cond {A = ℕ} (is_access op) 1 0 ≡ 1 = ap (λ b. cond {A = ℕ} b 1 0) e in omega arith
+access_room op accesses h = grind arith
 
 -- operations of the architecture, with places that have names, with labels in order, and not too many accesses
 pub code_fits : (a : Puts) (table : List (List ℕ)) (names : ℕ → List ℕ) (ss : List Step) (labels accesses : ℕ) (code : List Micro) → HasPlaces table names ss
@@ -63,9 +56,7 @@ count_labels label (op ∷ code) = sum_by-cons (λ op. cond (is_label_of label o
 -- in a range each number comes at most once
 later_none : (label a n : ℕ) → label < a → count_by (λ l. l == label) (range_with_len a n) ≡ 0
 later_none label a zero h = refl
-later_none label a (suc n) h =
-    sum_by-cons (λ l. cond (l == label) 1 0) a (range_with_len (a + 1) n)
-    ∙ rw (ne_eqb a label (λ e. omega (arith, e))) (zero-add _ ∙ later_none label (a + 1) n (omega arith))
+later_none label a (suc n) h = grind (arith, later_none label (a + 1) n (omega arith))
 
 range_once : (label a n : ℕ) → count_by (λ l. l == label) (range_with_len a n) ≤ 1
 range_once label a zero = omega arith
@@ -93,11 +84,7 @@ occurs_some label (op ∷ code) h =
 
 -- a label after a branch, in code whose labels come at most once each, comes once in all
 occurs_exactly : (label : ℕ) (prefix remainder : List Micro) → count_by (is_label_of label) (prefix ++ remainder) ≤ 1 → occurs label remainder ≡ true → comes_once (is_label_of label) (prefix ++ remainder) remainder ≡ true
-occurs_exactly label prefix remainder few h =
-    let some = occurs_some label remainder h in
-    let split : count_by (is_label_of label) (prefix ++ remainder) ≡ count_by (is_label_of label) prefix + count_by (is_label_of label) remainder = sum_by-append (λ op. cond (is_label_of label op) 1 0) prefix remainder in
-    and_from (count_by (is_label_of label) (prefix ++ remainder) == 1) (count_by (is_label_of label) remainder == 1)
-    (eq-eqb (count_by (is_label_of label) (prefix ++ remainder)) 1 (omega arith)) (eq-eqb (count_by (is_label_of label) remainder) 1 (omega arith))
+occurs_exactly label prefix remainder few h = grind (arith, occurs_some, sum_by-append, and_from, eq-eqb)
 
 shifted : (prefix : List Micro) (op : Micro) (code : List Micro) → (prefix ++ op ∷ []) ++ code ≡ prefix ++ op ∷ code
 shifted prefix op code = append_assoc prefix (op ∷ []) code
@@ -130,10 +117,7 @@ pub links_fit : (w : Writing) (table : List (List ℕ)) (names : ℕ → List �
     → InOrder low links (length w.registers) → list_all (λ (link : ℕ × ℕ). visits link.1 ss) links ≡ true → AllByRecursion (LinkFits w table names) (map (λ link. (thread, link)) links)
 links_fit w table names ss thread low [] places small order visited = tt
 links_fit w table names ss thread low (link ∷ links) places small order visited =
-    let v = and_parts (visits link.1 ss) (list_all (λ (l : ℕ × ℕ). visits l.1 ss) links) visited in
-    let p = and_parts (is_place_name (names link.1)) (is_some (number_in table (names link.1))) (places link.1 v.0) in
-    let high = in_order_le (link.0 + 1) links (length w.registers) order.1 in
-    (record { thread = small; register = omega arith; formed = p.0; inside = p.1 }, links_fit w table names ss thread (link.0 + 1) links places small order.1 v.1)
+    grind (arith, links_fit w table names ss thread (link.0 + 1) links places small order.1, and_parts, is_some, in_order_le)
 
 -- the registers of links before one: of earlier threads, or below its own
 abbrev pub are_before : ℕ → ℕ → List Link → Bool
@@ -159,25 +143,8 @@ none_same thread low register (d ∷ done) h all =
             (λ f. ltb-true r low (sym (ap (λ b. b || nat_lt r low) f) ∙ e))
 
 before_more : (thread low register place : ℕ) (done : List Link) → low ≤ register → are_before thread low done ≡ true → are_before thread (register + 1) (done ++ (thread, (register, place)) ∷ []) ≡ true
-before_more thread low register place [] h all = and_from (nat_lt thread thread || nat_lt register (register + 1)) true (or_right (nat_lt thread thread) (lt-ltb register (register + 1) (omega arith))) refl
-  where
-    or_right : (b : Bool) {c : Bool} → c ≡ true → (b || c) ≡ true
-    or_right true e = refl
-    or_right false e = e
-before_more thread low register place (d ∷ done) h all =
-    let parts = and_parts (nat_lt d.0 thread || nat_lt d.1.0 low) (are_before thread low done) all in
-    and_from (nat_lt d.0 thread || nat_lt d.1.0 (register + 1)) (are_before thread (register + 1) (done ++ (thread, (register, place)) ∷ [])) (wider parts.0) (before_more thread low register place done h parts.1)
-  where
-    wider : (nat_lt d.0 thread || nat_lt d.1.0 low) ≡ true → (nat_lt d.0 thread || nat_lt d.1.0 (register + 1)) ≡ true
-    wider e = by_test (nat_lt d.0 thread)
-        (λ f. rw f refl)
-        (λ f. let below = ltb-true d.1.0 low (sym (ap (λ b. b || nat_lt d.1.0 low) f) ∙ e) in rw (f, lt-ltb d.1.0 (register + 1) (omega arith)) refl)
-
-before_next : (thread low : ℕ) (done : List Link) → list_all (λ (d : Link). nat_lt d.0 (thread + 1)) done ≡ true → are_before (thread + 1) low done ≡ true
-before_next thread low [] h = refl
-before_next thread low (d ∷ done) h =
-    let parts = and_parts (nat_lt d.0 (thread + 1)) (list_all (λ (d : Link). nat_lt d.0 (thread + 1)) done) h in
-    and_from (nat_lt d.0 (thread + 1) || nat_lt d.1.0 low) (are_before (thread + 1) low done) (rw parts.0 refl) (before_next thread low done parts.1)
+before_more thread low register place [] h all = grind arith
+before_more thread low register place (d ∷ done) h all = grind (arith, before_more thread low register place done h)
 
 -- the address registers of a thread, and then others
 thread_single : (thread low high : ℕ) (links : List (ℕ × ℕ)) (done rest : List Link) → InOrder low links high → are_before thread low done ≡ true
@@ -195,16 +162,10 @@ below_append thread links [] h = own links
     own : (links : List (ℕ × ℕ)) → list_all (λ (d : Link). nat_lt d.0 (thread + 1)) (map (λ link. (thread, link)) links) ≡ true
     own [] = refl
     own (link ∷ links) = and_from (nat_lt thread (thread + 1)) (list_all (λ (d : Link). nat_lt d.0 (thread + 1)) (map (λ link. (thread, link)) links)) (lt-ltb thread (thread + 1) (omega arith)) (own links)
-below_append thread links (d ∷ done) h =
-    let parts = and_parts (nat_lt d.0 thread) (list_all (λ (d : Link). nat_lt d.0 thread) done) h in
-    let below = ltb-true d.0 thread parts.0 in
-    and_from (nat_lt d.0 (thread + 1)) (list_all (λ (d : Link). nat_lt d.0 (thread + 1)) (done ++ map (λ link. (thread, link)) links)) (lt-ltb d.0 (thread + 1) (omega arith)) (below_append thread links done parts.1)
+below_append thread links (d ∷ done) h = grind (arith, below_append thread links done, and_parts, ltb-true, and_from, lt-ltb)
 
 before_zero : (thread : ℕ) (done : List Link) → list_all (λ (d : Link). nat_lt d.0 thread) done ≡ true → are_before thread 0 done ≡ true
-before_zero thread [] h = refl
-before_zero thread (d ∷ done) h =
-    let parts = and_parts (nat_lt d.0 thread) (list_all (λ (d : Link). nat_lt d.0 thread) done) h in
-    and_from (nat_lt d.0 thread || nat_lt d.1.0 0) (are_before thread 0 done) (rw parts.0 refl) (before_zero thread done parts.1)
+before_zero thread done h = grind arith
 
 all_single : (thread high : ℕ) (threads : List ThreadCode) (done : List Link) → AllByRecursion (λ t. InOrder 0 t.links high) threads → list_all (λ (d : Link). nat_lt d.0 thread) done ≡ true
     → links_once done (links_of thread threads) ≡ true

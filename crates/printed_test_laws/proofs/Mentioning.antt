@@ -1,25 +1,20 @@
 -- Each location of a cycle is in the table of its printed test's reading.
-use Rattle.std.proofs.Common.{◌≡◌, ℕ, zero, suc, ◌-◌, ◌==◌, true, false, cond, List, [], ◌∷◌, ◌++◌, length, map, Some, slice_get, refl, sym, ap, ◌∙◌, subst, arith}
+use Rattle.std.proofs.Common.{◌≡◌, ℕ, suc, ◌-◌, ◌==◌, true, false, cond, List, [], ◌∷◌, length, map, Some, slice_get, refl, sym, ap, ◌∙◌, subst, arith}
 use Rattle.std.specs.List.{AllByRecursion}
-use Rattle.std.proofs.lemmas.Bool.{eqb-true, eq-eqb}
 use Rattle.std.proofs.lemmas.List.{length-replicate}
 use Rattle.std.proofs.Math.ListN.{replicate}
 use Rattle.list_laws.proofs.Cases.{by_test}
-use Rattle.relax_edges.specs.declared.kinds.Dir.{Dir}
-use Rattle.relax_edges.specs.declared.kinds.Dir.TheVariants as dirs
 use Rattle.micro_ops.specs.declared.operation.Item.{Item}
 use Rattle.micro_ops.specs.declared.operation.Item.TheVariants as items
 use Rattle.micro_ops.specs.declared.operation.Micro.{Micro}
-use Rattle.micro_ops.specs.declared.operation.Micro.TheVariants as ops
 use Rattle.micro_ops.specs.Renumbering.{op_at}
 use Rattle.micro_ops.specs.Running.{Ended}
 use Rattle.arch_trait.specs.declared.step.Step.{Step}
 use Rattle.arch_trait.specs.Codes.{MakesSteps}
 use Rattle.arch_trait.specs.PlaceRenumbering.{step_at, renumbered}
-use Rattle.arch_trait.specs.declared.link.Link.{Link}
 use Rattle.arch_trait.specs.declared.link.Link.TheVariants as links
-use Rattle.arch_trait.specs.Links.{link_items, link_control}
-use Rattle.arch_trait.specs.Threads.{ThreadCode, access_item, first_number, left_after, loads_after, thread_items, loads_in}
+use Rattle.arch_trait.specs.Links.{link_control}
+use Rattle.arch_trait.specs.Threads.{ThreadCode, left_after, loads_after, thread_items, loads_in}
 use Rattle.arch_laws.proofs.Renumbered.{loads_kept, renumbered_makes}
 use Rattle.litmus_text.specs.Mentioned.{is_in, op_is_in}
 
@@ -28,17 +23,11 @@ abbrev pub moved : ℕ → ℕ → ℕ
 moved place p = cond (p == place) (suc place) p
 
 moved_other : (table : List (List ℕ)) (names : ℕ → List ℕ) (place p : ℕ) → is_in table (names place) ≡ false → is_in table (names p) ≡ true → moved place p ≡ p
-moved_other table names place p out inside =
-    by_test (p == place)
-    (λ e. let same : p ≡ place = eqb-true p place e in
-    let clash : true ≡ false = sym inside ∙ ap (λ q. is_in table (names q)) same ∙ out in cc)
-    (λ e. ap (λ b. cond b (suc place) p) e)
+moved_other table names place p out inside = grind arith
 
 -- code whose operations and address registers are in a table, and a place that isn't: it is the same with another number
 op_same : (table : List (List ℕ)) (names : ℕ → List ℕ) (place : ℕ) (op : Micro) → is_in table (names place) ≡ false → op_is_in table names op ≡ true → op_at (moved place) op ≡ op
-op_same table names place (ops.LoadAt dst p) out inside = ap (ops.LoadAt dst) (moved_other table names place p out inside)
-op_same table names place (ops.StoreAt p n) out inside = ap (λ q. ops.StoreAt q n) (moved_other table names place p out inside)
-op_same table names place op out inside = refl
+op_same table names place op out inside = grind arith
 
 ops_same : (table : List (List ℕ)) (names : ℕ → List ℕ) (place : ℕ) (code : List Micro) → is_in table (names place) ≡ false → AllByRecursion (λ op. op_is_in table names op ≡ true) code → map (op_at (moved place)) code ≡ code
 ops_same table names place [] out inside = refl
@@ -51,11 +40,8 @@ links_same table names place (link ∷ links) out inside = λ i. (link.0, moved_
 
 code_same : (table : List (List ℕ)) (names : ℕ → List ℕ) (place : ℕ) (code : ThreadCode) → is_in table (names place) ≡ false → AllByRecursion (λ op. op_is_in table names op ≡ true) code.instrs
     → AllByRecursion (λ (link : ℕ × ℕ). is_in table (names link.1) ≡ true) code.links → renumbered (moved place) code ≡ code
-code_same table names place code out ins links = λ i. record {
-  instrs = ops_same table names place code.instrs out ins i;
-  links = links_same table names place code.links out links i;
-  loads = code.loads;
-}
+code_same table names place code out ins links =
+    grind (arith, ops_same table names place code.instrs out ins, links_same table names place code.links out links)
 
 -- the places of the accesses among items
 abbrev places_made : List Item → List ℕ
@@ -63,47 +49,15 @@ places_made [] = []
 places_made (items.Access dir mark place value address stored control ∷ made) = place ∷ places_made made
 places_made (items.Barrier kind control ∷ made) = places_made made
 
-step_places : (s : Step) (l : Link) (v k c m : ℕ) (rest : List Item) → places_made ((link_items l k c ++ access_item s s.dir v k m ∷ []) ++ rest) ≡ s.place ∷ places_made rest
-step_places s l v k c m rest = of_link l
-  where
-    of_access : (d : Dir) → places_made (access_item s d v k m ∷ rest) ≡ s.place ∷ places_made rest
-    of_access dirs.R = refl
-    of_access dirs.W = refl
-
-    of_link : (l : Link) → places_made ((link_items l k c ++ access_item s s.dir v k m ∷ []) ++ rest) ≡ s.place ∷ places_made rest
-    of_link links.Plain = of_access s.dir
-    of_link (links.Fence kind) = of_access s.dir
-    of_link links.Addr = of_access s.dir
-    of_link links.Data = of_access s.dir
-    of_link links.Ctrl = of_access s.dir
-    of_link links.CtrlIsync = of_access s.dir
-    of_link links.CtrlIsb = of_access s.dir
-
 -- they are the places of the accesses of a thread
 thread_places : (ss : List Step) (n c : ℕ) (vs : List ℕ) → places_made (thread_items ss n c vs) ≡ map (λ (s : Step). s.place) ss
 thread_places [] n c vs = refl
-thread_places (s ∷ ss) n c vs =
-    step_places s s.link (first_number vs) (n - 1) c (link_control s.link (n - 1) c) (thread_items ss (loads_after s.dir n) (link_control s.link (n - 1) c) (left_after s.dir vs))
-    ∙ ap (λ l. s.place ∷ l) (thread_places ss (loads_after s.dir n) (link_control s.link (n - 1) c) (left_after s.dir vs))
+thread_places (s ∷ ss) n c vs = grind (arith, thread_places ss (loads_after s.dir n) (link_control s.link (n - 1) c) (left_after s.dir vs))
 
 -- code that makes accesses and is the same with another number for a place makes no access there
 none_there : (ss : List Step) (place k : ℕ) (s : Step) → map (λ (s : Step). s.place) ss ≡ map (λ (s : Step). s.place) (map (step_at (moved place)) ss) → slice_get ss k ≡ Some s → s.place ≡ place → ⊥
-none_there [] place k s h g e = cc
-none_there (t ∷ ss) place zero s h g e =
-    let same : t ≡ s = cc in
-    let kept : t.place ≡ moved place t.place = ap (λ (l : List ℕ). head_or_zero l) h in
-    let here : t.place ≡ place = ap (λ (x : Step). x.place) same ∙ e in
-    let other : moved place t.place ≡ suc place = ap (λ b. cond b (suc place) t.place) (eq-eqb t.place place here) in
-    omega (arith, kept, here, other)
-  where
-    head_or_zero : List ℕ → ℕ
-    head_or_zero [] = 0
-    head_or_zero (x ∷ xs) = x
-none_there (t ∷ ss) place (suc k) s h g e = none_there ss place k s (ap (λ (l : List ℕ). tail_of l) h) g e
-  where
-    tail_of : List ℕ → List ℕ
-    tail_of [] = []
-    tail_of (x ∷ xs) = xs
+none_there (t ∷ ss) place (suc k) s h g e = grind (arith, none_there ss place k s)
+none_there ss place k s h g e = grind arith
 
 -- the place of each access is in the table
 pub place_is_in : (table : List (List ℕ)) (names : ℕ → List ℕ) (ss : List Step) (code : ThreadCode) (k : ℕ) (s : Step) → MakesSteps ss code → AllByRecursion (λ op. op_is_in table names op ≡ true) code.instrs

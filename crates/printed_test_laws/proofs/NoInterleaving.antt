@@ -1,13 +1,9 @@
 -- No interleaving of a test's program ends in the outcome that its condition asks for, and no sequentially consistent execution.
-use Rattle.std.proofs.Common.{◌≡◌, ℕ, List, length, Option, Some, slice_get, sym, ◌∙◌, ap, subst, arith}
+use Rattle.std.proofs.Common.{◌≡◌, ℕ, List, length, Option, subst, arith}
 use Rattle.std.specs.Prelude.{is_some}
-use Rattle.std.specs.Option.{option_and_then, option_map}
-use Rattle.list_laws.proofs.Cases.{by_option}
 use Rattle.relax_edges.specs.declared.kinds.Value.{Value}
-use Rattle.relax_edges.specs.declared.kinds.Value.TheVariants.{Num}
 use Rattle.relax_edges.specs.declared.kinds.ObsMode.{ObsMode}
 use Rattle.relax_edges.specs.declared.edge.Edge.{Edge}
-use Rattle.micro_ops.specs.Running.{Outcome}
 use Rattle.resolution_laws.specs.Resolution.{IsResolved}
 use Rattle.final_cond.specs.Conditions.{LeftSeen, InRegister, AtPlace}
 use Rattle.final_cond.specs.States.{Meets}
@@ -19,7 +15,7 @@ use Rattle.arch_trait.specs.Writing.{Writing}
 use Rattle.litmus_text.specs.TestReading.{TestRead}
 use Rattle.program_meaning.specs.declared.WriteAt.{WriteAt}
 use Rattle.program_meaning.specs.Executions.{Execution}
-use Rattle.program_meaning.specs.Programs.{Program, IsCandidate, accesses_in, held_at_last}
+use Rattle.program_meaning.specs.Programs.{Program, IsCandidate, accesses_in}
 use Rattle.program_meaning.specs.Standing.{AllStand}
 use Rattle.program_meaning.specs.Interleavings.{accesses_on}
 use Rattle.communication_laws.proofs.Bridge.{resolves}
@@ -64,16 +60,8 @@ not_in_order w test es resolved within stand x candidate meets sequential =
 -- the final state of an interleaving is that of the execution that it makes
 same_state : (p : Program) (names : List (List ℕ)) (register_number : List ℕ → Option ℕ) (values : List (List ℕ)) (line : List WriteAt) (x : Execution) → p.places ≡ length names → IsOfInterleaving p values line x
     → (left : LeftSeen) → state_after p names register_number values line left ≡ final_state p names register_number x left
-same_state p names register_number values line x count h (InRegister thread name) =
-    ap (λ (runs : List Outcome). option_and_then (held_at_last (slice_get runs thread)) (register_number name)) (sym h.runs)
-same_state p names register_number values line x count h (AtPlace name) =
-    by_option (number_in names name)
-    (λ n. ap (option_map _) n ∙ ap (option_map _) (sym n))
-    (λ place s.
-    let q = numbered_in names name (ap is_some s) in
-    let t : Some q.number ≡ Some place = sym q.is ∙ s in
-    let u : q.number ≡ place = cc t in
-    ap (option_map _) s ∙ ap (λ (v : ℕ). Some (Num v)) (sym (h.ends place (omega (arith, u, q.below, count)))) ∙ ap (option_map _) (sym s))
+same_state p names register_number values line x count h (InRegister thread name) = grind arith
+same_state p names register_number values line x count h (AtPlace name) = grind (arith, numbered_in names name, is_some)
 
 -- no interleaving ends in such an outcome
 pub interleaving_ends : (w : Writing) (test : TestRead) (values : List (List ℕ)) (line : List WriteAt) → InterleavingMeets w test values line → (program_read test).places ≡ length test.places → NotInOrder w test → ⊥

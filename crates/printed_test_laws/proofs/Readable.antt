@@ -38,7 +38,7 @@ use Rattle.printed_test_laws.proofs.Fits.{all_links_fit, code_short, each_code, 
 use Rattle.printed_test_laws.proofs.Lengths.{AreShort, IsSmall, text_short}
 use Rattle.printed_test_laws.proofs.SomeTerm.{some_term}
 
-registers_short : (names : List (List ℕ)) → list_all is_register_name names ≡ true → AreShort names
+pub registers_short : (names : List (List ℕ)) → list_all is_register_name names ≡ true → AreShort names
 registers_short [] h = tt
 registers_short (name ∷ names) h =
     let parts = and_parts (is_register_name name) (list_all is_register_name names) h in (register_name_short name parts.0, registers_short names parts.1)
@@ -51,7 +51,7 @@ letters_short n few =
     let is : location_name k ≡ name = cc in
     subst (λ (x : List ℕ). length x ≤ 16) is (place_name_short (location_name k) (location_new k (omega arith)).formed))
 
-texts_short : (a : Puts) (w : Writing) (table : List (List ℕ)) (names : ℕ → List ℕ) (labels accesses : ℕ) (code : List Micro) → WritesCells a w → CodeFits a table names labels accesses code
+pub texts_short : (a : Puts) (w : Writing) (table : List (List ℕ)) (names : ℕ → List ℕ) (labels accesses : ℕ) (code : List Micro) → WritesCells a w → CodeFits a table names labels accesses code
     → AllByRecursion (λ op. length (op_text w names op) ≤ 40) code
 texts_short a w table names labels accesses [] cells fits = tt
 texts_short a w table names labels accesses (op ∷ code) cells fits = (
@@ -60,11 +60,11 @@ texts_short a w table names labels accesses (op ∷ code) cells fits = (
 )
 
 -- address registers in order are at most as many as there are
-ordered_few : (low : ℕ) (links : List (ℕ × ℕ)) (high : ℕ) → InOrder low links high → low + length links ≤ high
+pub ordered_few : (low : ℕ) (links : List (ℕ × ℕ)) (high : ℕ) → InOrder low links high → low + length links ≤ high
 ordered_few low [] high h = omega (arith, h)
 ordered_few low (link ∷ links) high h = let rest = ordered_few (link.0 + 1) links high h.1 in omega (arith, h.0, rest)
 
-formed_terms : (w : Writing) (threads : ℕ) (table : List (List ℕ)) (terms : List TermSeen) → AllByRecursion (TermFits w threads table) terms → AllByRecursion IsFormedTerm terms
+pub formed_terms : (w : Writing) (threads : ℕ) (table : List (List ℕ)) (terms : List TermSeen) → AllByRecursion (TermFits w threads table) terms → AllByRecursion IsFormedTerm terms
 formed_terms w threads table [] fit = tt
 formed_terms w threads table (term ∷ terms) fit = (fit.0.formed, formed_terms w threads table terms fit.1)
 

@@ -1,20 +1,17 @@
 -- What is read of the printed test of a cycle is that test, but for the numbers of places.
-use Rattle.std.proofs.Common.{◌≡◌, ℕ, zero, suc, ◌+◌, ◌<◌, ◌≤◌, ◌==◌, Bool, true, List, [], ◌∷◌, get_or, map, Some, slice_get, refl, sym, ap, ◌∙◌, subst, arith}
-use Rattle.std.specs.Prelude.{unwrap_or}
+use Rattle.std.proofs.Common.{◌≡◌, ℕ, zero, suc, ◌+◌, ◌<◌, ◌≤◌, Bool, true, List, [], ◌∷◌, get_or, map, Some, slice_get, refl, sym, ap, ◌∙◌, subst, arith}
 use Rattle.std.specs.List.{AllByRecursion, find}
 use Rattle.std.proofs.lemmas.List.Folds.{find-append}
 use Rattle.std.proofs.lemmas.Option.{slice_get_within, slice_get-get_or}
 use Rattle.list_laws.proofs.Elements.{all_parts}
 use Rattle.relax_edges.specs.declared.TheConstants.{MAX_EDGES}
 use Rattle.relax_edges.specs.declared.kinds.ObsMode.{ObsMode}
-use Rattle.relax_edges.specs.declared.kinds.Value.{Value}
 use Rattle.relax_edges.specs.declared.kinds.Value.TheVariants as values
 use Rattle.relax_edges.specs.declared.edge.Edge.{Edge}
 use Rattle.micro_ops.specs.declared.operation.Micro.{Micro}
-use Rattle.micro_ops.specs.declared.operation.Micro.TheVariants as ops
 use Rattle.micro_ops.specs.Renumbering.{op_at}
 use Rattle.list_laws.specs.Numbers.{upto}
-use Rattle.resolution_laws.specs.Resolution.{IsResolved, move_count, external_count, events_in, location_of, slot_of}
+use Rattle.resolution_laws.specs.Resolution.{IsResolved, move_count, events_in, slot_of}
 use Rattle.resolution_laws.specs.Resolution as resolution
 use Rattle.resolution_laws.proofs.Arcs.{leaving, thread_below}
 use Rattle.resolution_laws.proofs.Locations.{location_first}
@@ -36,8 +33,7 @@ use Rattle.litmus_text.specs.Placing as placing
 use Rattle.litmus_text.specs.Reread.{thread_reread}
 use Rattle.litmus_text.proofs.NamesBack.{IsAmong, none_among, push_among, few_names}
 use Rattle.printed_test_laws.proofs.BackLaws.{numbered_in}
-use Rattle.program_meaning.specs.Intended.{intended, location_numbered, location_order}
-use Rattle.program_meaning.specs.Programs.{Thread}
+use Rattle.program_meaning.specs.Intended.{intended, location_numbered}
 use Rattle.communication_laws.proofs.Lists.{got_map, map_same}
 use Rattle.test_laws.specs.TestHeadline.{HasCode, IsRenumbered}
 use Rattle.test_laws.specs.TestPrograms.{thread_from}
@@ -56,12 +52,11 @@ by_table table places place = place_in table (name_in places place)
 
 -- the name at a place of a table
 pub got_is : (xs : List (List ℕ)) (k : ℕ) (x : List ℕ) → slice_get xs k ≡ Some x → get_or xs k [] ≡ x
-got_is [] k x g = cc
-got_is (y ∷ xs) zero x g = cc
 got_is (y ∷ xs) (suc k) x g = got_is xs k x g
+got_is xs k x g = grind arith
 
 -- address registers thread by thread
-links_apart : (P : ℕ → Type 0) (n : ℕ) (threads : List ThreadCode) → AllByRecursion (λ link. P link.1.1) (links_of n threads) → AllByRecursion (λ (t : ThreadCode). AllByRecursion (λ (link : ℕ × ℕ). P link.1) t.links) threads
+pub links_apart : (P : ℕ → Type 0) (n : ℕ) (threads : List ThreadCode) → AllByRecursion (λ link. P link.1.1) (links_of n threads) → AllByRecursion (λ (t : ThreadCode). AllByRecursion (λ (link : ℕ × ℕ). P link.1) t.links) threads
 links_apart P n [] h = tt
 links_apart P n (t ∷ threads) h =
     let parts = all_parts (λ (link : ℕ × (ℕ × ℕ)). P link.1.1) (map (λ link. (n, link)) t.links) (links_of (n + 1) threads) h in
@@ -116,9 +111,7 @@ location_is_in a es mode table location laws t inside linked h =
 letters_among : (table : List (List ℕ)) (n : ℕ) → n ≤ MAX_EDGES → ((l : ℕ) → l < n → is_in table (location_name l) ≡ true) → IsAmong (letters n) table
 letters_among table zero few h = none_among table
 letters_among table (suc n) few h =
-    let one : n + 1 ≡ suc n = omega arith in
-    subst (λ names. IsAmong names table) (sym (letters_more n) ∙ ap letters one)
-    (push_among (letters n) table (location_name n) (letters_among table n (omega arith) (λ l k. h l (omega arith))) (location_new n (omega arith)).new (h n (omega arith)))
+    grind (arith, (letters_among table n (omega arith)), (letters_more n), push_among (letters n) table (location_name n), location_new n (omega arith))
 
 -- a reading of the test of a cycle is the test but for the numbers of places
 abbrev pub reread_test : List (List ℕ) → TestSeen → TestSeen
@@ -156,13 +149,8 @@ reread_renumbered a register_name es mode table laws t among inside linked =
       cond = refl;
     }
 
-op_numbered : (table places : List (List ℕ)) (op : Micro) → placing.op_renumbered table (name_in places) op ≡ op_at (by_table table places) op
-op_numbered table places (ops.LoadAt dst p) = refl
-op_numbered table places op = refl
-
 ops_numbered : (table places : List (List ℕ)) (code : List Micro) → map (placing.op_renumbered table (name_in places)) code ≡ map (op_at (by_table table places)) code
-ops_numbered table places [] = refl
-ops_numbered table places (op ∷ code) = λ i. op_numbered table places op i ∷ ops_numbered table places code i
+ops_numbered table places code = grind arith
 
 links_numbered : (table places : List (List ℕ)) (links : List (ℕ × ℕ)) → map (λ link. (link.0, values.Place (place_in table (name_in places link.1)))) links ≡ initial_values (map (λ link. (link.0, by_table table places link.1)) links)
 links_numbered table places [] = refl
@@ -171,10 +159,8 @@ links_numbered table places (link ∷ links) = ap (λ rest. (link.0, values.Plac
 -- the threads of the reading are those of the test, but for the numbers of places
 pub threads_numbered : (table places : List (List ℕ)) (threads : List ThreadCode) → map thread_from (map (renumbered (by_table table places)) threads) ≡ map thread_read (map (thread_reread table (name_in places)) threads)
 threads_numbered table places [] = refl
-threads_numbered table places (t ∷ threads) = λ i. one (sym (links_numbered table places t.links) i) (sym (ops_numbered table places t.instrs) i) ∷ threads_numbered table places threads i
-  where
-    one : List (ℕ × Value) → List Micro → Thread
-    one init code = record { init = init; code = code }
+threads_numbered table places (t ∷ threads) =
+    grind (arith, threads_numbered table places threads, links_numbered table places t.links, ops_numbered table places t.instrs)
 
 -- the place of a location has the number of its name
 pub number_of_location : (table : List (List ℕ)) (n l : ℕ) → l < n → by_table table (letters n) l ≡ place_in table (location_name l)
@@ -182,20 +168,14 @@ number_of_location table n l h = ap (place_in table) (got_is (letters n) l (loca
 
 find_agree : (p q : ℕ → Bool) (n : ℕ) → ((i : ℕ) → i < n → p i ≡ q i) → find p (upto n) ≡ find q (upto n)
 find_agree p q zero h = refl
-find_agree p q (suc n) h =
-    find-append p (upto n) (n ∷ [])
-    ∙ rw (find_agree p q n (λ i l. h i (omega arith)), h n (omega arith)) (sym (find-append q (upto n) (n ∷ [])))
+find_agree p q (suc n) h = grind (arith, find_agree p q n, find-append)
 
 -- which location a place has depends on the numbers of the cycle's locations alone
 pub numbered_same : (es : List Edge) (f g : ℕ → ℕ) → ((l : ℕ) → l < move_count es → f l ≡ g l) → (place : ℕ) → location_numbered es f place ≡ location_numbered es g place
 unfolding location_numbered
-numbered_same es f g h place =
-    ap (λ found. unwrap_or found 0) (find_agree (λ l. f l == place) (λ l. g l == place) (move_count es) (λ l k. ap (λ n. n == place) (h l k)))
+numbered_same es f g h place = grind (arith, find_agree)
 
 -- the intended execution looks at the numbers of the cycle's locations alone
 pub intended_same : (es : List Edge) (mode : ObsMode) (f g : ℕ → ℕ) → ((l : ℕ) → l < move_count es → f l ≡ g l) → intended es mode f ≡ intended es mode g
 unfolding intended
-intended_same es mode f g h =
-    let orders = map_same (λ place. location_order es (location_numbered es f place)) (λ place. location_order es (location_numbered es g place)) (upto (move_count es))
-    (λ place. ap (location_order es) (numbered_same es f g h place)) in
-    λ i. record { reads = (intended es mode f).reads; orders = orders i }
+intended_same es mode f g h = grind (arith, map_same, numbered_same)

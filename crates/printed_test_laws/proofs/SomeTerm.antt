@@ -1,5 +1,5 @@
 -- The condition of a cycle's test has a term.
-use Rattle.std.proofs.Common.{◌≡◌, ℕ, zero, suc, ◌+◌, ◌-◌, ◌<◌, ◌≤◌, Bool, true, false, cond, List, [], ◌∷◌, ◌++◌, length, Some, slice_get, refl, ap, ◌∙◌, arith, length-append}
+use Rattle.std.proofs.Common.{◌≡◌, ℕ, suc, ◌+◌, ◌-◌, ◌<◌, ◌≤◌, Bool, true, false, cond, List, ◌∷◌, ◌++◌, length, Some, slice_get, refl, ap, ◌∙◌, arith, length-append}
 use Rattle.std.specs.Prelude.{not, nat_le, count_by}
 use Rattle.std.specs.List.{filter, sum_by}
 use Rattle.std.proofs.lemmas.Bool.{le-leb, and_from}
@@ -30,24 +30,17 @@ use Rattle.test_laws.proofs.StepsAt.{thread_steps_at, observer_steps_at}
 use Rattle.test_laws.proofs.Terms.{load_terms-count}
 
 -- a term of a sum is at most the sum
-term_most : {X : Type 0} (f : X → ℕ) (xs : List X) (k : ℕ) (x : X) → slice_get xs k ≡ Some x → f x ≤ sum_by f xs
-term_most f [] k x g = cc
-term_most f (y ∷ xs) zero x g =
-    let same : y ≡ x = cc in omega (arith, sum_by-cons f y xs, ap f same)
+pub term_most : {X : Type 0} (f : X → ℕ) (xs : List X) (k : ℕ) (x : X) → slice_get xs k ≡ Some x → f x ≤ sum_by f xs
 term_most f (y ∷ xs) (suc k) x g = omega (arith, sum_by-cons f y xs, term_most f xs k x g)
+term_most f xs k x g = grind (arith, sum_by-cons)
 
 -- one that passes is counted
-counted_one : {X : Type 0} (p : X → Bool) (xs : List X) (k : ℕ) (x : X) → slice_get xs k ≡ Some x → p x ≡ true → 1 ≤ count_by p xs
-counted_one p xs k x g e =
-    let one : cond {A = ℕ} (p x) 1 0 ≡ 1 = ap (λ b. cond {A = ℕ} b 1 0) e in
-    omega (arith, one, term_most (λ y. cond {A = ℕ} (p y) 1 0) xs k x g)
+pub counted_one : {X : Type 0} (p : X → Bool) (xs : List X) (k : ℕ) (x : X) → slice_get xs k ≡ Some x → p x ≡ true → 1 ≤ count_by p xs
+counted_one p xs k x g e = grind (arith, term_most)
 
 -- a load of a thread
 thread_loads : (es : List Edge) (mode : ObsMode) (k j : ℕ) (ss : List Step) (s : Step) → slice_get (cycle_steps es mode plain) k ≡ Some ss → slice_get ss j ≡ Some s → is_load_dir s.dir ≡ true → 1 ≤ sum_by loads_in (cycle_steps es mode plain)
-thread_loads es mode k j ss s g h e =
-    let here = counted_one (λ (t : Step). is_load_dir t.dir) ss j s h e in
-    let all = term_most loads_in (cycle_steps es mode plain) k ss g in
-    omega (arith, here, all)
+thread_loads es mode k j ss s g h e = grind (arith, counted_one, term_most)
 
 -- an event that reads
 event_loads : (es : List Edge) (mode : ObsMode) (i : ℕ) → IsResolved es → i < length es → is_load_dir (source_of (edge_at es i)) ≡ true → 1 ≤ sum_by loads_in (cycle_steps es mode plain)
@@ -72,8 +65,7 @@ location_ends es mode l h e some =
     omega (arith, one, length-map (filter (is_named_location es mode) (upto (move_count es))) (last_term es), length-filter (is_named_location es mode) (upto (move_count es)))
 
 writes : (d : Dir) → is_load_dir d ≡ false → same_dir d dirs.W ≡ true
-writes dirs.R e = cc
-writes dirs.W e = refl
+writes d e = grind arith
 
 -- the condition of a cycle's test has a term
 pub some_term : (a : Puts) (name : ℕ → List ℕ) (es : List Edge) (mode : ObsMode) → IsResolved es → 0 < length (last_terms es mode ++ load_terms a name 0 (cycle_steps es mode plain))

@@ -43,17 +43,11 @@ last_at given byte (first ∷ bytes) = last_at first byte bytes
 
 -- a byte that is no bracket leaves open what was open
 open_still : (before : List ℕ) (byte : ℕ) → is_bracket byte ≡ false → is_open (before ++ byte ∷ []) ≡ is_open before
-open_still before byte plain =
-    let none : filter is_bracket (byte ∷ []) ≡ [] = rw plain refl in
-    ap (λ bytes. last_byte 93 bytes == 91)
-    (filter-append is_bracket before (byte ∷ []) ∙ ap (λ bytes. filter is_bracket before ++ bytes) none ∙ append-nil (filter is_bracket before))
+open_still before byte plain = grind (arith, filter-append, append-nil)
 
 -- after a bracket one is open where it is a `[`
 open_at : (before : List ℕ) (byte : ℕ) → is_bracket byte ≡ true → is_open (before ++ byte ∷ []) ≡ (byte == 91)
-open_at before byte bracketed =
-    let one : filter is_bracket (byte ∷ []) ≡ byte ∷ [] = rw bracketed refl in
-    ap (λ bytes. last_byte 93 bytes == 91) (filter-append is_bracket before (byte ∷ []) ∙ ap (λ bytes. filter is_bracket before ++ bytes) one)
-    ∙ ap (λ b. b == 91) (last_at 93 byte (filter is_bracket before))
+open_at before byte bracketed = grind (arith, filter-append, last_at)
 
 apart_at : (before : List ℕ) (byte : ℕ) → stands_apart (before ++ byte ∷ []) ≡ ends_word byte
 apart_at before byte = ap ends_word (last_at 32 byte before)
@@ -62,14 +56,10 @@ longer : (before : List ℕ) (byte : ℕ) → length (before ++ byte ∷ []) ≡
 longer before byte = length-append before (byte ∷ [])
 
 separator_no_bracket : (byte : ℕ) → is_separator byte ≡ true → is_bracket byte ≡ false
-separator_no_bracket byte s =
-    by_test (byte == 44) (λ e. rw (eqb-true byte 44 e) refl)
-    (λ plain. by_test (byte == 32) (λ e. rw (eqb-true byte 32 e) refl)
-    (λ no_more. let e : (byte == 9) ≡ true = rw (plain, no_more) at s in rw (eqb-true byte 9 e) refl))
+separator_no_bracket byte s = grind arith
 
 either : (a b : Bool) → (a || b) ≡ true → a ≡ false → b ≡ true
-either true b e f = absurd (false≢true (sym f))
-either false b e f = e
+either a b e f = grind arith
 
 -- after some bytes the two forms add the same to a list
 abbrev Same : List (List Edge) → List ℕ → ℕ → List ℕ → Type 0
@@ -96,36 +86,20 @@ an_item before byte remainder some = rw some refl
 -- a byte is passed over in both forms
 pass : (kept : List (List Edge)) (before : List ℕ) (byte : ℕ) (remainder : List ℕ) (count passed : ℕ) → begins_item before byte ≡ false → passed ≡ suc count
     → Same kept (before ++ byte ∷ []) count remainder → Same kept before passed (byte ∷ remainder)
-pass kept before byte remainder count passed none is same =
-    ap (kept_items kept) (no_item before byte remainder none) ∙ same
-    ∙ ap (λ place. kept_items kept (items_from place count remainder)) (longer before byte)
-    ∙ ap (λ n. kept_items kept (items_from (length before) n (byte ∷ remainder))) (sym is)
+pass kept before byte remainder count passed none is same = grind (arith, no_item, longer)
 
 none_open : (before : List ℕ) (byte : ℕ) → is_open before ≡ true → begins_item before byte ≡ false
 none_open before byte o = grind (arith, o)
 
 none_in_word : (before : List ℕ) (byte : ℕ) → ends_word byte ≡ false → stands_apart before ≡ false → begins_item before byte ≡ false
-none_in_word before byte plain inner = last (is_separator byte) (is_open before) (is_bracket byte) (stands_apart before) plain inner
-  where
-    last : (s o b a : Bool) → (s || b) ≡ false → a ≡ false → (not s && not o && (b || a)) ≡ false
-    last true _ _ _ plain inner = refl
-    last false true _ _ plain inner = refl
-    last false false true _ plain inner = absurd (false≢true (sym plain))
-    last false false false a plain inner = inner
+none_in_word before byte plain inner = grind arith
 
 none_at_separator : (before : List ℕ) (byte : ℕ) → is_separator byte ≡ true → begins_item before byte ≡ false
 none_at_separator before byte s = rw s refl
 
 begins : (before : List ℕ) (byte : ℕ) → is_separator byte ≡ false → is_open before ≡ false → (stands_apart before || ends_word byte) ≡ true
     → begins_item before byte ≡ true
-begins before byte plain closed edge = all (is_separator byte) (is_open before) (is_bracket byte) (stands_apart before) plain closed edge
-  where
-    all : (s o b a : Bool) → s ≡ false → o ≡ false → (a || (s || b)) ≡ true → (not s && not o && (b || a)) ≡ true
-    all true _ _ _ plain closed edge = absurd (false≢true (sym plain))
-    all false true _ _ plain closed edge = absurd (false≢true (sym closed))
-    all false false true _ plain closed edge = refl
-    all false false false true plain closed edge = refl
-    all false false false false plain closed edge = edge
+begins before byte plain closed edge = grind arith
 
 -- the two forms agree after an item, whether it is kept or refused
 after_item : (kept : List (List Edge)) (start : ℕ) (words : Option (List (List ℕ))) (items others : List RelaxItem)
@@ -141,111 +115,39 @@ after_item kept start words items others same = by_answer (record { start = star
 
 bad_not_kept : (kept more : List (List Edge)) (words : Option (List (List ℕ))) → words ≡ None → kept_item kept words ≡ Ok more → ⊥
 unfolding kept_item
-bad_not_kept kept more words none ok = let e : ◌≡◌ {A = Result (List (List Edge)) RelaxKind} (Err BadBracket) (Ok more) = sym (ap (kept_item kept) none)
-    ∙ ok in cc
+bad_not_kept kept more words none ok = (cc)
 
 -- the two forms agree in what follows the first byte of an item that is kept
 in_item : (kept more : List (List Edge)) (before : List ℕ) (byte : ℕ) (remainder : List ℕ) → Scanned remainder → is_open before ≡ false
     → is_separator byte ≡ false
     → kept_item kept (words_from byte remainder) ≡ Ok more → Same more (before ++ byte ∷ []) (bytes_after byte remainder) remainder
-in_item kept more before byte remainder h closed plain ok =
-    by_test (byte == 93) (λ e. absurd (bad_not_kept kept more (words_from byte remainder) (at_closing e) ok))
-    (λ not_closing. by_test (byte == 91)
-    (λ e. by_test (has_closed_bracket remainder)
-    (λ good. subst (λ n. Same more (before ++ byte ∷ []) n remainder) (sym (bracket_bytes e not_closing))
-    (h.bracket more (before ++ byte ∷ []) (open_at before byte (rw e refl) ∙ e) good))
-    (λ bad. absurd (bad_not_kept kept more (words_from byte remainder) (bad_bracket e bad) ok)))
-    (λ not_opening.
-    let other : is_bracket byte ≡ false = rw (not_opening, not_closing) refl in
-    subst (λ n. Same more (before ++ byte ∷ []) n remainder) (sym (word_bytes not_opening not_closing))
-    (h.word more (before ++ byte ∷ []) (open_still before byte other ∙ closed) (apart_at before byte ∙ rw (plain, other) refl))))
-  where
-    at_closing : (byte == 93) ≡ true → words_from byte remainder ≡ None
-    at_closing e = rw (eqb-true byte 93 e) refl
-
-    bad_bracket : (byte == 91) ≡ true → has_closed_bracket remainder ≡ false → words_from byte remainder ≡ None
-    bad_bracket e bad = rw (e, bad) refl
-
-    bracket_bytes : (byte == 91) ≡ true → (byte == 93) ≡ false → bytes_after byte remainder ≡ length (inside remainder) + 1
-    bracket_bytes e not_closing = rw (plain, not_closing, e) refl
-
-    word_bytes : (byte == 91) ≡ false → (byte == 93) ≡ false → bytes_after byte remainder ≡ length (before_first ends_word remainder)
-    word_bytes not_opening not_closing = rw (plain, not_closing, not_opening) refl
+in_item kept more before byte remainder h closed plain ok = grind (arith, bad_not_kept, open_at, open_still, apart_at, eqb-true)
 
 -- outside brackets and words
 scan_outside : (byte : ℕ) (remainder : List ℕ) → Scanned remainder → (kept : List (List Edge)) (before : List ℕ) → is_open before ≡ false
     → (stands_apart before || ends_word byte) ≡ true → Same kept before 0 (byte ∷ remainder)
 scan_outside byte remainder h kept before closed edge =
-    by_test (is_separator byte)
-    (λ s.
-    let none : item_from (length before) byte remainder ≡ [] = rw s refl in
-    let zero_passed : bytes_after byte remainder ≡ 0 = rw s refl in
-    let apart : stands_apart (before ++ byte ∷ []) ≡ true = apart_at before byte ∙ rw s refl in
-    ap (kept_items kept) (no_item before byte remainder (none_at_separator before byte s))
-    ∙ h.outside kept (before ++ byte ∷ []) (open_still before byte (separator_no_bracket byte s) ∙ closed) (rw apart refl)
-    ∙ ap (λ place. kept_items kept (items_from place 0 remainder)) (longer before byte)
-    ∙ ap (λ n. kept_items kept (items_from (length before + 1) n remainder)) (sym zero_passed)
-    ∙ ap (λ items. kept_items kept (items ++ items_from (length before + 1) (bytes_after byte remainder) remainder)) (sym none))
-    (λ plain.
-    let one : item_from (length before) byte remainder ≡ record { start = length before; words = words_from byte remainder } ∷ [] = rw plain refl in
-    ap (kept_items kept) (an_item before byte remainder (begins before byte plain closed edge))
-    ∙ after_item kept (length before) (words_from byte remainder) (items_after (before ++ byte ∷ []) remainder)
-    (items_from (length before + 1) (bytes_after byte remainder) remainder)
-    (λ more ok. in_item kept more before byte remainder h closed plain ok
-    ∙ ap (λ place. kept_items more (items_from place (bytes_after byte remainder) remainder)) (longer before byte))
-    ∙ ap (λ items. kept_items kept (items ++ items_from (length before + 1) (bytes_after byte remainder) remainder)) (sym one))
+    grind (arith, apart_at, no_item, none_at_separator, open_still, separator_no_bracket, longer, an_item, begins, after_item, in_item)
 
-before_first-yes : (test : ℕ → Bool) (byte : ℕ) (remainder : List ℕ) → test byte ≡ true → before_first test (byte ∷ remainder) ≡ []
+pub before_first-yes : (test : ℕ → Bool) (byte : ℕ) (remainder : List ℕ) → test byte ≡ true → before_first test (byte ∷ remainder) ≡ []
 before_first-yes test byte remainder s = rw s refl
 
 -- in a good bracket
 scan_bracket : (byte : ℕ) (remainder : List ℕ) → Scanned remainder → (kept : List (List Edge)) (before : List ℕ) → is_open before ≡ true
     → has_closed_bracket (byte ∷ remainder) ≡ true → Same kept before (length (inside (byte ∷ remainder)) + 1) (byte ∷ remainder)
 scan_bracket byte remainder h kept before o closed =
-    by_test (is_bracket byte)
-    (λ bracketed.
-    let nothing : inside (byte ∷ remainder) ≡ [] = before_first-yes is_bracket byte remainder bracketed in
-    let last : (byte == 93) ≡ true = subst (λ bytes. (get_or (byte ∷ remainder) (length bytes) 0 == 93) ≡ true) nothing closed in
-    let shut : is_open (before ++ byte ∷ []) ≡ false = open_at before byte bracketed ∙ rw (eqb-true byte 93 last) refl in
-    let apart : stands_apart (before ++ byte ∷ []) ≡ true = apart_at before byte ∙ rw (eqb-true byte 93 last) refl in
-    pass kept before byte remainder 0 (length (inside (byte ∷ remainder)) + 1) (none_open before byte o) (ap (λ bytes. length bytes + 1) nothing)
-    (h.outside kept (before ++ byte ∷ []) shut (rw apart refl)))
-    (λ plain.
-    let more : inside (byte ∷ remainder) ≡ byte ∷ inside remainder = before_first-no is_bracket byte remainder plain in
-    let closed_after : has_closed_bracket remainder ≡ true = subst (λ bytes. (get_or (byte ∷ remainder) (length bytes) 0 == 93) ≡ true) more closed in
-    let count : length (byte ∷ inside remainder) + 1 ≡ suc (length (inside remainder) + 1) = omega arith in
-    pass kept before byte remainder (length (inside remainder) + 1) (length (inside (byte ∷ remainder)) + 1) (none_open before byte o)
-    (ap (λ bytes. length bytes + 1) more ∙ count)
-    (h.bracket kept (before ++ byte ∷ []) (open_still before byte plain ∙ o) closed_after))
+    grind (arith, (before_first-yes is_bracket byte remainder), (open_at before byte), (eqb-true byte 93), (apart_at before byte), (pass kept before byte remainder 0 (length (inside (byte ∷ remainder)) + 1) (none_open before byte o)), (pass kept before byte remainder (length (inside remainder) + 1) (length (inside (byte ∷ remainder)) + 1) (none_open before byte o)), (none_open before byte o), (before_first-no is_bracket byte remainder), (open_still before byte))
 
 -- in a word
 scan_word : (byte : ℕ) (remainder : List ℕ) → Scanned remainder → (kept : List (List Edge)) (before : List ℕ) → is_open before ≡ false
     → stands_apart before ≡ false → Same kept before (length (before_first ends_word (byte ∷ remainder))) (byte ∷ remainder)
 scan_word byte remainder h kept before closed inner =
-    by_test (ends_word byte)
-    (λ bracketed. subst (λ bytes. Same kept before (length bytes) (byte ∷ remainder)) (sym (before_first-yes ends_word byte remainder bracketed))
-    (scan_outside byte remainder h kept before closed (rw (inner, bracketed) refl)))
-    (λ plain.
-    let more : before_first ends_word (byte ∷ remainder) ≡ byte ∷ before_first ends_word remainder = before_first-no ends_word byte remainder plain in
-    pass kept before byte remainder (length (before_first ends_word remainder)) (length (before_first ends_word (byte ∷ remainder)))
-    (none_in_word before byte plain inner) (ap length more)
-    (h.word kept (before ++ byte ∷ []) (open_still before byte (no_bracket plain) ∙ closed) (apart_at before byte ∙ plain)))
-  where
-    no_bracket : ends_word byte ≡ false → is_bracket byte ≡ false
-    no_bracket plain = second (is_separator byte) (is_bracket byte) plain
-      where
-        second : (a b : Bool) → (a || b) ≡ false → b ≡ false
-        second true b f = absurd (false≢true (sym f))
-        second false b f = f
+    grind (arith, (before_first-yes ends_word byte remainder), (scan_outside byte remainder h kept before closed), (before_first-no ends_word byte remainder), (pass kept before byte remainder (length (before_first ends_word remainder)) (length (before_first ends_word (byte ∷ remainder)))), (none_in_word before byte), (open_still before byte), (apart_at before byte), false≢true)
 
 scanned : (remainder : List ℕ) → Scanned remainder
 unfolding ends_here
 scanned [] = record { outside = λ _ _ _ _. refl; bracket = λ _ _ _ closed. absurd (false≢true closed); word = λ _ _ _ _. refl }
-scanned (byte ∷ remainder) = record {
-  outside = scan_outside byte remainder (scanned remainder);
-  bracket = scan_bracket byte remainder (scanned remainder);
-  word = scan_word byte remainder (scanned remainder);
-}
+scanned (byte ∷ remainder) = grind (arith, (scanned remainder), scan_outside, scan_bracket, scan_word)
 
 -- what the items of a text add to a list is what one pass over the text adds
 pub items_scanned : (kept : List (List Edge)) (text : List ℕ) → kept_items kept (items_from 0 0 text) ≡ kept_items kept (items_of text)

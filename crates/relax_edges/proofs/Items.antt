@@ -39,17 +39,14 @@ unfolding kept_words
 kept_words_short kept words known short = rw (known, le-ltb 8 (length words) short, kept_words) refl
 
 paths_some : (kept paths : List (List Edge)) (new : List (List Edge)) (some : Bool) → some ≡ true → KeepsPaths kept paths new some → kept_paths kept paths ≡ Ok new
-paths_some kept [] new some found a = let f : true ≡ false = sym found ∙ a.found in cc
-paths_some kept (path ∷ paths) new some found a = a.kept
+paths_some kept paths new some found a = grind arith
 
 paths_none : (kept paths : List (List Edge)) (new : List (List Edge)) (some : Bool) → some ≡ false → KeepsPaths kept paths new some
     → kept_paths kept paths ≡ Err DoesNotJoin
-paths_none kept [] new some found a = refl
-paths_none kept (path ∷ paths) new some found a = let f : false ≡ true = sym found ∙ a.found in cc
+paths_none kept paths new some found a = grind arith
 
 paths_refused : (kept paths : List (List Edge)) (kind : RelaxKind) → length kept ≤ 64 → at_most_64 (keep_all kept paths) ≡ Err kind → kept_paths kept paths ≡ Err kind
-paths_refused kept [] kind few err = let ok = at_most_64-ok kept few in cc
-paths_refused kept (path ∷ paths) kind few err = err
+paths_refused kept paths kind few err = grind arith
 
 -- what holds of the paths that go on after no edge holds of the words' paths
 after_nothing : (P : List (List Edge) → Type 0) (words : List (List ℕ)) (prefix : List Edge) → prefix ≡ []
@@ -81,23 +78,15 @@ kept_words_refused kept words prefix kind known short none few err =
     ∙ paths_refused kept (paths_of words) kind few (after_nothing (λ paths. at_most_64 (keep_all kept paths) ≡ Err kind) words prefix none err)
 
 drop_of_nil : (n : ℕ) → drop {A = ℕ} n [] ≡ []
-drop_of_nil zero = refl
-drop_of_nil (suc n) = refl
+drop_of_nil n = grind arith
 
 -- passing bytes is dropping them
 items_passed : (place passed : ℕ) (text : List ℕ) → items_from place passed text ≡ items_from (place + passed) 0 (drop passed text)
-items_passed place passed [] = ap (λ t. items_from (place + passed) 0 t) (sym (drop_of_nil passed))
-items_passed place zero (byte ∷ remainder) =
-    let e : place ≡ place + 0 = omega arith in ap (λ p. item_from p byte remainder ++ items_from (p + 1) (bytes_after byte remainder) remainder) e
-items_passed place (suc passed) (byte ∷ remainder) =
-    let e : place + 1 + passed ≡ place + suc passed = omega arith in
-    items_passed (place + 1) passed remainder ∙ ap (λ p. items_from p 0 (drop passed remainder)) e
+items_passed place (suc passed) (byte ∷ remainder) = grind (arith, (items_passed (place + 1) passed remainder))
+items_passed place passed text = grind arith
 
 items_after : (place byte : ℕ) (remainder : List ℕ) (n : ℕ) → items_from (place + 1) n remainder ≡ items_from (place + (n + 1)) 0 (drop (n + 1) (byte ∷ remainder))
-items_after place byte remainder n =
-    let e : place + 1 + n ≡ place + (n + 1) = omega arith in
-    let more : n + 1 ≡ suc n = omega arith in
-    rw (more, ← more) (items_passed (place + 1) n remainder ∙ ap (λ p. items_from p 0 (drop n remainder)) e)
+items_after place byte remainder n = grind (arith, items_passed)
 
 separator_at_start : (kept : List (List Edge)) (byte : ℕ) (remainder : List ℕ) → is_separator byte ≡ true → kept_prefix kept (byte ∷ remainder) ≡ Ok kept
 unfolding kept_prefix
@@ -111,56 +100,26 @@ item_at_start kept byte remainder n = rw n refl
 pub kept_items_prefix : (kept more : List (List Edge)) (place : ℕ) (text : List ℕ) → kept_prefix kept text ≡ Ok more
     → kept_items kept (items_from place 0 text) ≡ kept_items more (items_from (place + first_word_len text) 0 (drop (first_word_len text) text))
 unfolding kept_items kept_prefix first_word_len
-kept_items_prefix kept more place [] ok =
-    let same : ◌≡◌ {A = Answer} (Ok kept) (Ok more) = ok in
-    let same_kept : kept ≡ more = cc in
-    ap (λ k. Ok k) same_kept
-kept_items_prefix kept more place (byte ∷ remainder) ok =
-    by_test (is_separator byte)
-    (λ s.
-    let none : item_from place byte remainder ≡ [] = rw s refl in
-    let same : ◌≡◌ {A = Answer} (Ok kept) (Ok more) = sym (separator_at_start kept byte remainder s) ∙ ok in
-    let same_kept : kept ≡ more = cc in
-    ap (λ items. kept_items kept (items ++ items_from (place + 1) (bytes_after byte remainder) remainder)) none
-    ∙ ap (λ k. kept_items k (items_from (place + 1) (bytes_after byte remainder) remainder)) same_kept
-    ∙ ap (kept_items more) (items_after place byte remainder (bytes_after byte remainder)))
-    (λ n.
-    let item : RelaxItem = record { start = place; words = words_from byte remainder } in
-    let one : item_from place byte remainder ≡ item ∷ [] = rw n refl in
-    ap (λ items. kept_items kept (items ++ items_from (place + 1) (bytes_after byte remainder) remainder)) one
-    ∙ kept_one kept more item (items_from (place + 1) (bytes_after byte remainder) remainder) (sym (item_at_start kept byte remainder n) ∙ ok)
-    ∙ ap (kept_items more) (items_after place byte remainder (bytes_after byte remainder)))
+kept_items_prefix kept more place text ok = grind (arith, separator_at_start, items_after, kept_one, item_at_start)
 
 -- a text whose first item is refused is refused at that item's place
 pub kept_items_refused : (kept : List (List Edge)) (kind : RelaxKind) (place : ℕ) (text : List ℕ) → kept_prefix kept text ≡ Err kind
     → kept_items kept (items_from place 0 text) ≡ Err (record { at = place; kind = kind })
 unfolding kept_items kept_prefix
-kept_items_refused kept kind place [] err = let e : ◌≡◌ {A = Answer} (Ok kept) (Err kind) = err in cc
-kept_items_refused kept kind place (byte ∷ remainder) err =
-    by_test (is_separator byte)
-    (λ s. let e : ◌≡◌ {A = Answer} (Ok kept) (Err kind) = sym (separator_at_start kept byte remainder s) ∙ err in cc)
-    (λ n.
-    let item : RelaxItem = record { start = place; words = words_from byte remainder } in
-    let one : item_from place byte remainder ≡ item ∷ [] = rw n refl in
-    ap (λ items. kept_items kept (items ++ items_from (place + 1) (bytes_after byte remainder) remainder)) one
-    ∙ refused_one kept kind item (items_from (place + 1) (bytes_after byte remainder) remainder) (sym (item_at_start kept byte remainder n) ∙ err))
+kept_items_refused kept kind place text err = grind arith
 
 -- once the item at a place is kept, what is left is to keep the items after it
 pub items_step : (kept more : List (List Edge)) (text : List ℕ) (place len : ℕ)
     → kept_prefix kept (take (length text - place) (drop place text)) ≡ Ok more → len ≡ first_word_len (take (length text - place) (drop place text))
     → kept_items more (items_from (place + len) 0 (drop (place + len) text)) ≡ kept_items kept (items_from place 0 (drop place text))
 items_step kept more text place len ok is =
-    let ok_rest : kept_prefix kept (drop place text) ≡ Ok more = subst (λ t. kept_prefix kept t ≡ Ok more) (rest_from text place) ok in
-    let is_rest : len ≡ first_word_len (drop place text) = is ∙ ap first_word_len (rest_from text place) in
-    let e : drop (place + len) text ≡ drop len (drop place text) = sym (drop-drop len place text) in
-    rw (e, is_rest) (sym (kept_items_prefix kept more place (drop place text) ok_rest))
+    grind (arith, (rest_from text place), (drop-drop len place text), (kept_items_prefix kept more place (drop place text)))
 
 -- where the item at a place is refused, the text is refused at that place
 pub items_refused : (kept : List (List Edge)) (kind : RelaxKind) (text : List ℕ) (place : ℕ)
     → kept_prefix kept (take (length text - place) (drop place text)) ≡ Err kind
     → kept_items kept (items_from place 0 (drop place text)) ≡ Err (record { at = place; kind = kind })
-items_refused kept kind text place err =
-    kept_items_refused kept kind place (drop place text) (subst (λ t. kept_prefix kept t ≡ Err kind) (rest_from text place) err)
+items_refused kept kind text place err = grind (arith, kept_items_refused, rest_from)
 
 -- at the end of a text nothing more is kept
 pub items_end : (kept : List (List Edge)) (text : List ℕ) (place : ℕ) → length text ≤ place → kept_items kept (items_from place 0 (drop place text)) ≡ Ok kept

@@ -1,6 +1,6 @@
 -- The rank of an edge without marks is that of its kind.
 use Rattle.std.specs.Prelude.{◌≡◌}
-use Rattle.std.proofs.Common.{refl}
+use Rattle.std.proofs.Common.{refl, arith}
 use Rattle.relax_edges.specs.declared.kinds.Kind.{Kind}
 use Rattle.relax_edges.specs.declared.kinds.Kind.TheVariants as kinds
 use Rattle.relax_edges.specs.EdgeTable.{unmarked}
@@ -9,8 +9,4 @@ use Rattle.relax_edges.specs.Order.{rank_of, kind_rank}
 -- the rank of an edge without marks is that of its kind
 pub unmarked_rank : (kind : Kind) → rank_of (unmarked kind) ≡ kind_rank kind
 unfolding rank_of
-unmarked_rank (kinds.Com kind reach) = refl
-unmarked_rank (kinds.Po sd from to) = refl
-unmarked_rank (kinds.Fenced kind sd from to) = refl
-unmarked_rank (kinds.Dep kind sd to) = refl
-unmarked_rank (kinds.Data sd) = refl
+unmarked_rank (x) = grind arith

@@ -32,7 +32,7 @@ pub find_passes : {A : Type 0} (test : A → Bool) (xs : List A) (x : A) → fin
 find_passes test [] x found = cc
 find_passes {A} test (y ∷ ys) x found =
     by_test (test y)
-    (λ t. let e : Some y ≡ Some x = rw t at found in let i : y ≡ x = cc in subst (λ z. test z ≡ true) i t)
+    (λ t. grind arith)
     (λ f. find_passes test ys x (rw f at found))
 
 -- the kind that a text names has that text as its word
@@ -51,11 +51,7 @@ is_kind_spelling kind text = list_any (bytes_eq text) (kind_spellings kind)
 
 -- the kind of the edge of a kind without marks is that kind
 pub kind_of_unmarked : (kind : Kind) → kind_of (unmarked kind) ≡ kind
-kind_of_unmarked (kinds.Com kind reach) = refl
-kind_of_unmarked (kinds.Po sd from to) = refl
-kind_of_unmarked (kinds.Fenced kind sd from to) = refl
-kind_of_unmarked (kinds.Dep kind sd to) = refl
-kind_of_unmarked (kinds.Data sd) = refl
+kind_of_unmarked (x) = grind arith
 
 -- a test that the kind of each edge passes, each kind passes
 pub each_kind : (test : Kind → Bool) → list_all (λ edge. test (kind_of edge)) edges_in_order ≡ true → (kind : Kind) → test kind ≡ true
@@ -102,8 +98,7 @@ dependency_is : (text : List ℕ) (kind : DepKind) → dependency_named text ≡
 dependency_is text kind found = named_is dependency_word dependencies_read text kind found
 
 either_is : {K : Type 0} (first second : Option K) (kind : K) → option_or first second ≡ Some kind → (first ≡ Some kind) ⊎ (second ≡ Some kind)
-either_is None second kind found = inr found
-either_is (Some k) second kind found = inl found
+either_is first second kind found = grind arith
 
 fence_is : (text : List ℕ) (kind : FenceKind) → fence_named text ≡ Some kind → text ≡ fence_word kind
 fence_is text kind found =
@@ -163,26 +158,11 @@ one_sided_word prefix s t _ _ _ _ edge a c d e found = cc
 
 -- what is read as a communication spells it
 co_is_spelling : (reach : Reach) → is_kind_spelling (kinds.Com coms.Ws reach) (codes "Co" ++ reach_word reach) ≡ true
-co_is_spelling Internal = refl
-co_is_spelling External = refl
+co_is_spelling reach = grind arith
 
 communication_spelled : (f s r : ℕ) (kind : Option Com) (reach : Option Reach) (edge : Kind)
     → com_named (f ∷ s ∷ []) ≡ kind → reach_named (r ∷ []) ≡ reach → communication kind reach ≡ Some edge → is_kind_spelling edge (f ∷ s ∷ r ∷ []) ≡ true
-communication_spelled f s r (Some kind) (Some reach) edge a b found =
-    let x : kinds.Com kind reach ≡ edge = cc in
-    let e : r ∷ [] ≡ reach_word reach = reach_is (r ∷ []) reach b in
-    subst (λ y. is_kind_spelling y (f ∷ s ∷ r ∷ []) ≡ true) x
-    (elim (either_is (kind_named_by com_word communications_read (f ∷ s ∷ [])) (kind_named_by (λ _. codes "Co") (coms.Ws ∷ []) (f ∷ s ∷ [])) kind a) [
-      | inl n ↦
-          let w : f ∷ s ∷ [] ≡ com_word kind = named_is com_word communications_read (f ∷ s ∷ []) kind n in
-          word_is_spelling (kinds.Com kind reach) (f ∷ s ∷ r ∷ []) (cc (ap (λ v. v ++ r ∷ []) w, ap (λ v. com_word kind ++ v) e))
-      | inr n ↦
-          let w : f ∷ s ∷ [] ≡ codes "Co" = named_is (λ _. codes "Co") (coms.Ws ∷ []) (f ∷ s ∷ []) kind n in
-          let t : f ∷ s ∷ r ∷ [] ≡ codes "Co" ++ reach_word reach = cc (ap (λ v. v ++ r ∷ []) w, ap (λ v. codes "Co" ++ v) e) in
-          subst (λ k. is_kind_spelling (kinds.Com k reach) (f ∷ s ∷ r ∷ []) ≡ true) (named_in_one (λ _. codes "Co") coms.Ws (f ∷ s ∷ []) kind n)
-          (subst (λ v. is_kind_spelling (kinds.Com coms.Ws reach) v ≡ true) (sym t) (co_is_spelling reach))
-    ])
-communication_spelled f s r _ _ edge a b found = cc
+communication_spelled f s r kind reach edge a b found = grind arith
 
 two_sided_spelled : (back : List ℕ) (edge : Kind) → read_back_two_sided back ≡ Some edge → is_kind_spelling edge (reverse back) ≡ true
 unfolding two_sided_of
@@ -240,26 +220,20 @@ ending_is_read prefix before last =
 
 -- what needs a letter that isn't there is none
 no_reach : (kind : Option Com) → communication kind None ≡ None
-no_reach None = refl
-no_reach (Some kind) = refl
+no_reach kind = grind arith
 
 no_target : (sd : Option Sd) (from : Option Dir) (po : Bool) (kind : Option FenceKind) → two_sided sd from None po kind ≡ None
-no_target None from po kind = refl
-no_target (Some sd) None po kind = refl
-no_target (Some sd) (Some from) po kind = refl
+no_target sd from po kind = grind arith
 
 no_direction : (sd : Option Sd) (data_word : Bool) (kind : Option DepKind) → one_sided sd None data_word kind ≡ None
-no_direction None data_word kind = refl
-no_direction (Some sd) data_word kind = refl
+no_direction sd data_word kind = grind arith
 
 no_source : (sd : Option Sd) (to : Option Dir) (po : Bool) (kind : Option FenceKind) → two_sided sd None to po kind ≡ None
-no_source None to po kind = refl
-no_source (Some sd) to po kind = refl
+no_source sd to po kind = grind arith
 
 -- a letter of a direction is none of a reach or of a place
 word_alone : (dir : Dir) → (reach_named (dir_word dir) ≡ None) × (sd_named (dir_word dir) ≡ None)
-word_alone dirs.R = (refl, refl)
-word_alone dirs.W = (refl, refl)
+word_alone dir = grind arith
 
 direction_alone : (byte : ℕ) (dir : Dir) → dir_named (byte ∷ []) ≡ Some dir → (reach_named (byte ∷ []) ≡ None) × (sd_named (byte ∷ []) ≡ None)
 direction_alone byte dir named = subst (λ text. (reach_named text ≡ None) × (sd_named text ≡ None)) (sym (dir_is (byte ∷ []) dir named)) (word_alone dir)
@@ -273,9 +247,7 @@ communication_needs (a ∷ b ∷ prefix) before last none = communication_long (
 two_sided_back : (back : List ℕ) (before last : ℕ) → (dir_named (last ∷ []) ≡ None) ⊎ (dir_named (before ∷ []) ≡ None)
     → read_back_two_sided (last ∷ before ∷ back) ≡ None
 unfolding two_sided_of
-two_sided_back [] before last none = refl
-two_sided_back (sd ∷ back) before last (inl none) = rw none (no_target (sd_named (sd ∷ [])) (dir_named (before ∷ [])) (bytes_eq (reverse back) (codes "Po")) (fence_named (reverse back)))
-two_sided_back (sd ∷ back) before last (inr none) = rw none (no_source (sd_named (sd ∷ [])) (dir_named (last ∷ [])) (bytes_eq (reverse back) (codes "Po")) (fence_named (reverse back)))
+two_sided_back back before last x = grind arith
 
 two_sided_needs : (prefix : List ℕ) (before last : ℕ) → (dir_named (last ∷ []) ≡ None) ⊎ (dir_named (before ∷ []) ≡ None)
     → read_back_two_sided (reverse (prefix ++ before ∷ last ∷ [])) ≡ None
@@ -314,12 +286,9 @@ ends_in_two_directions prefix before last from to named source =
 
 -- the kind of what is read without marks
 pub kinds_of_unmarked : (kind : Option Kind) → option_map kind_of (option_map unmarked kind) ≡ kind
-kinds_of_unmarked None = refl
-kinds_of_unmarked (Some kind) = ap Some (kind_of_unmarked kind)
+kinds_of_unmarked kind = grind arith
 
 -- a text of fewer than two bytes is read as none
 pub short_is_none : (text : List ℕ) → length text < 2 → kind_read text ≡ None
 unfolding kind_read
-short_is_none [] short = refl
-short_is_none (a ∷ []) short = refl
-short_is_none (a ∷ b ∷ rest) short = absurd (omega arith)
+short_is_none text short = grind arith

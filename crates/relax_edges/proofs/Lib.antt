@@ -1,6 +1,5 @@
 pub mod Ranks
 pub mod Spellings
-pub mod Architectures
 pub mod WordBounds
 mod RelaxExamples
 pub mod Paths

@@ -2,7 +2,7 @@
 use Rattle.std.specs.Prelude.{◌≡◌, ◌≤◌, true, false, nat_lt, Result, Ok, Err, List, [], ◌∷◌, ◌++◌, length, filter, map}
 use Rattle.std.specs.List.{flat_map, list_any}
 use Rattle.std.proofs.Common.{refl, arith, ap, append_assoc}
-use Rattle.std.proofs.lemmas.Bool.{ltb-true, ltb-false, lt-ltb, false≢true}
+use Rattle.std.proofs.lemmas.Bool.{ltb-true, lt-ltb, false≢true}
 use Rattle.std.proofs.lemmas.List.{map-append, append-nil, length-append}
 use Rattle.std.proofs.lemmas.List.Elements.{filter-append}
 use Rattle.std.proofs.Math.Bool.{and-true}
@@ -29,13 +29,7 @@ pub paths_after-cons : (prefix : List Edge) (edges : List Edge) (lists : List (L
     → paths_after prefix (edges ∷ lists) ≡ flat_map (λ edge. paths_after (prefix ++ edge ∷ []) lists) edges
 unfolding paths_after
 paths_after-cons prefix [] lists = refl
-paths_after-cons prefix (edge ∷ edges) lists =
-    rw (
-      map-append (λ path. prefix ++ path) (map (λ path. edge ∷ path) (path_choices lists)) (path_choices (edges ∷ lists)),
-      filter-append is_joined (map (λ path. prefix ++ path) (map (λ path. edge ∷ path) (path_choices lists))) (map (λ path. prefix ++ path) (path_choices (edges ∷ lists))),
-      moved prefix edge (path_choices lists),
-    )
-    (ap (λ paths. filter is_joined (map (λ path. (prefix ++ edge ∷ []) ++ path) (path_choices lists)) ++ paths) (paths_after-cons prefix edges lists))
+paths_after-cons prefix (edge ∷ edges) lists = grind (arith, (paths_after-cons prefix edges lists), map-append, filter-append, moved)
 
 -- the paths that begin with no edge are all paths
 pub paths_after-nil : (lists : List (List Edge)) → paths_after [] lists ≡ filter is_joined (path_choices lists)
@@ -53,10 +47,9 @@ paths_after-end prefix path = rw (append-nil prefix, path) refl
 
 -- edges that begin with no path are no path
 is_joined-false : (prefix more : List Edge) → is_joined prefix ≡ false → is_joined (prefix ++ more) ≡ false
-is_joined-false [] more f = cc
-is_joined-false (edge ∷ []) more f = cc
 is_joined-false (edge ∷ next ∷ remainder) more f =
     by_test (joins_to edge next) (λ t. rw t (is_joined-false (next ∷ remainder) more (rw t at f))) (λ n. rw n refl)
+is_joined-false prefix more f = grind arith
 
 -- no path begins with edges that are no path
 pub paths_after-none : (prefix : List Edge) (lists : List (List Edge)) → is_joined prefix ≡ false → paths_after prefix lists ≡ []
@@ -69,10 +62,9 @@ paths_after-none prefix lists none = all_fail (path_choices lists)
 
 -- a path goes on with an edge that its last edge joins
 pub is_joined-end : (prefix : List Edge) (last edge : Edge) → is_joined (prefix ++ last ∷ []) ≡ true → is_joined ((prefix ++ last ∷ []) ++ edge ∷ []) ≡ joins_to last edge
-is_joined-end [] last edge path = and-true (joins_to last edge)
-is_joined-end (first ∷ []) last edge path = by_test (joins_to first last) (λ t. rw t (and-true (joins_to last edge))) (λ f. absurd (false≢true (rw f at path)))
 is_joined-end (first ∷ next ∷ prefix) last edge path =
     by_test (joins_to first next) (λ t. rw t (is_joined-end (next ∷ prefix) last edge (rw t at path))) (λ f. absurd (false≢true (rw f at path)))
+is_joined-end prefix last edge path = grind (arith, and-true, false≢true)
 
 -- keeping one after another
 pub keep_all-append : (kept paths more : List (List Edge)) → keep_all kept (paths ++ more) ≡ keep_all (keep_all kept paths) more
@@ -80,8 +72,7 @@ keep_all-append kept [] more = refl
 keep_all-append kept (path ∷ paths) more = keep_all-append (keep_path kept path) paths more
 
 length-keep : (kept : List (List Edge)) (path : List Edge) → length kept ≤ length (keep_path kept path)
-length-keep kept path =
-    by_test (list_any (is_same path) kept) (λ t. rw t (omega arith)) (λ f. rw f (omega (arith, length-append kept (path ∷ []))))
+length-keep kept path = grind (arith, length-append)
 
 -- keeping makes no list shorter
 pub length-keep_all : (kept paths : List (List Edge)) → length kept ≤ length (keep_all kept paths)
@@ -94,29 +85,8 @@ at_most_64-ok kept few = by_test (nat_lt 64 (length kept)) (λ t. absurd (omega 
 
 -- a list that is kept within the limit is kept as it is
 pub at_most_64-is : (kept more : List (List Edge)) → at_most_64 kept ≡ Ok more → kept ≡ more
-at_most_64-is kept more ok =
-    by_test (nat_lt 64 (length kept))
-    (λ t. let e : ◌≡◌ {A = Answer} (Err TooManyRelaxes) (Ok more) = rw t at ok in cc)
-    (λ f. let e : ◌≡◌ {A = Answer} (Ok kept) (Ok more) = rw f at ok in cc)
-
--- a list that is kept within the limit has at most 64 relaxations
-pub at_most_64-few : (kept more : List (List Edge)) → at_most_64 kept ≡ Ok more → length more ≤ 64
-at_most_64-few kept more ok =
-    by_test (nat_lt 64 (length kept))
-    (λ t. let e : ◌≡◌ {A = Answer} (Err TooManyRelaxes) (Ok more) = rw t at ok in cc)
-    (λ f.
-    let e : ◌≡◌ {A = Answer} (Ok kept) (Ok more) = rw f at ok in
-    let same : kept ≡ more = cc in
-    rw (← same) (ltb-false 64 (length kept) f))
+at_most_64-is kept more ok = grind arith
 
 -- once there are too many, there are too many with more paths too
 pub at_most_64-err : (kept paths more : List (List Edge)) (kind : RelaxKind) → at_most_64 (keep_all kept paths) ≡ Err kind → at_most_64 (keep_all kept (paths ++ more)) ≡ Err kind
-at_most_64-err kept paths more kind err =
-    by_test (nat_lt 64 (length (keep_all kept paths)))
-    (λ t.
-    let e : ◌≡◌ {A = Answer} (Err TooManyRelaxes) (Err kind) = rw t at err in
-    let many : nat_lt 64 (length (keep_all kept (paths ++ more))) ≡ true =
-    lt-ltb 64 (length (keep_all kept (paths ++ more)))
-    (rw (keep_all-append kept paths more) (omega (arith, ltb-true 64 (length (keep_all kept paths)) t, length-keep_all (keep_all kept paths) more))) in
-    rw many e)
-    (λ f. let e : ◌≡◌ {A = Answer} (Ok (keep_all kept paths)) (Err kind) = rw f at err in cc)
+at_most_64-err kept paths more kind err = grind (arith, lt-ltb, keep_all-append, ltb-true, length-keep_all)

@@ -8,6 +8,7 @@ use Rattle.std.proofs.Common.{nat_lt, refl, arith, ap, sym, ◌∙◌}
 use Rattle.list_laws.proofs.Cases.{by_test}
 use Rattle.relax_edges.specs.RelaxText.{is_separator, is_bracket, ends_word, is_empty, words_of}
 use Rattle.list_laws.proofs.Places.{before_first-no, position_or_len-no}
+use Rattle.relax_edges.proofs.ItemScan.{before_first-yes}
 
 -- the parts of a text that are not empty, by the test that splits it
 abbrev words_by : (ℕ → Bool) → List ℕ → List (List ℕ)
@@ -15,9 +16,6 @@ words_by test text = filter (λ word. not (is_empty word)) (slice_split test tex
 
 words_by-yes : (test : ℕ → Bool) (byte : ℕ) (remainder : List ℕ) → test byte ≡ true → words_by test (byte ∷ remainder) ≡ words_by test remainder
 words_by-yes test byte remainder s = rw s refl
-
-before_first-yes : (test : ℕ → Bool) (byte : ℕ) (remainder : List ℕ) → test byte ≡ true → before_first test (byte ∷ remainder) ≡ []
-before_first-yes test byte remainder s = rw s refl
 
 position_or_len-yes : (test : ℕ → Bool) (byte : ℕ) (remainder : List ℕ) → test byte ≡ true → position_or_len test (byte ∷ remainder) ≡ 0
 position_or_len-yes test byte remainder s = rw s refl
@@ -50,12 +48,7 @@ kept_first word parts some = rw some refl
 
 words_by-no : (test : ℕ → Bool) (byte : ℕ) (remainder : List ℕ) → test byte ≡ false
     → words_by test (byte ∷ remainder) ≡ before_first test (byte ∷ remainder) ∷ words_by test (drop (position_or_len test (byte ∷ remainder)) (byte ∷ remainder))
-words_by-no test byte remainder n =
-    let p = first_part test (byte ∷ remainder) in
-    let first = before_first test (byte ∷ remainder) in
-    ap (filter (λ word. not (is_empty word))) p.split
-    ∙ kept_first first p.parts (rw (before_first-no test byte remainder n) refl)
-    ∙ ap (λ words. first ∷ words) p.words
+words_by-no test byte remainder n = grind (arith, (first_part test (byte ∷ remainder)), kept_first, (before_first-no test byte remainder n))
 
 -- a separator before a text adds no word
 pub words_of_separator : (byte : ℕ) (remainder : List ℕ) → is_separator byte ≡ true → words_of (byte ∷ remainder) ≡ words_of remainder
@@ -75,32 +68,20 @@ none_before : (test : ℕ → Bool) (remainder : List ℕ) → ((byte : ℕ) →
     → list_all (λ byte. not (test byte)) (before_first ends_word remainder) ≡ true
 none_before test [] fails = refl
 none_before test (byte ∷ remainder) fails =
-    by_test (ends_word byte)
-    (λ e. rw (before_first-yes ends_word byte remainder e) refl)
-    (λ n. rw (before_first-no ends_word byte remainder n) (rw (fails byte n) (none_before test remainder fails)))
+    grind (arith, (none_before test remainder fails), (before_first-yes ends_word byte remainder), (before_first-no ends_word byte remainder))
 
 one_part : (test : ℕ → Bool) (text : List ℕ) → list_all (λ byte. not (test byte)) text ≡ true → slice_split test text ≡ text ∷ []
 one_part test [] none = refl
-one_part test (byte ∷ remainder) none =
-    by_test (test byte) (λ s. absurd (false≢true (rw s at none))) (λ n. rw n (ap (onto_first byte) (one_part test remainder (rw n at none))))
+one_part test (byte ∷ remainder) none = grind (arith, (one_part test remainder))
 
 not_separator : (byte : ℕ) → ends_word byte ≡ false → is_separator byte ≡ false
-not_separator byte n = first_false (is_separator byte) (is_bracket byte) n
-  where
-    first_false : (a b : Bool) → (a || b) ≡ false → a ≡ false
-    first_false true b f = absurd (false≢true (sym f))
-    first_false false b f = refl
+not_separator byte n = grind arith
 
 -- a word that ends where a word ends is the one word of its text
 pub words_of_run : (byte : ℕ) (remainder : List ℕ) → is_separator byte ≡ false
     → words_of (byte ∷ before_first ends_word remainder) ≡ (byte ∷ before_first ends_word remainder) ∷ []
-words_of_run byte remainder n =
-    ap (filter (λ word. not (is_empty word)))
-    (one_part is_separator (byte ∷ before_first ends_word remainder) (rw n (none_before is_separator remainder not_separator)))
+words_of_run byte remainder n = grind (arith, one_part, none_before, not_separator)
 
 -- the place of the first byte that passes, or the length
 pub position_unwrapped : (test : ℕ → Bool) (text : List ℕ) → unwrap_or (position test text) (length text) ≡ position_or_len test text
-position_unwrapped test text =
-    by_test (nat_lt (position_or_len test text) (length text))
-    (λ t. rw t refl)
-    (λ f. rw f (omega (arith, ltb-false (position_or_len test text) (length text) f, prefix_len-le-length (λ x. not (test x)) text)))
+position_unwrapped test text = grind (arith, nat_lt, ltb-false, prefix_len-le-length)

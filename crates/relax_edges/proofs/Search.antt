@@ -12,7 +12,7 @@ use Rattle.relax_edges.specs.RelaxText.{is_empty}
 use Rattle.relax_edges.specs.JoinedEdges.{is_joined}
 use Rattle.relax_edges.specs.Relaxations.{word_edges, keep_path, keep_all, at_most_64}
 use Rattle.relax_edges.specs.RelaxSearch.{paths_after, paths_by, KeepsPaths}
-use Rattle.relax_edges.proofs.Paths.{is_joined-end, paths_after-cons, paths_after-end, paths_after-none, keep_all-append, at_most_64-ok, at_most_64-is, at_most_64-few, at_most_64-err}
+use Rattle.relax_edges.proofs.Paths.{is_joined-end, paths_after-cons, paths_after-end, paths_after-none, keep_all-append, at_most_64-ok, at_most_64-is, at_most_64-err}
 
 -- the paths that begin with some edges, by the edges of the first list
 pub paths_after_by : (prefix edges : List Edge) (lists : List (List Edge)) → paths_after prefix (edges ∷ lists) ≡ paths_by prefix lists edges
@@ -24,34 +24,24 @@ pub keeps_none : (kept : List (List Edge)) → length kept ≤ 64 → KeepsPaths
 keeps_none kept few = record { kept = at_most_64-ok kept few; found = refl }
 
 some_either : (a b : List (List Edge)) → not (is_empty (a ++ b)) ≡ (not (is_empty a) || not (is_empty b))
-some_either [] b = refl
-some_either (x ∷ a) b = refl
+some_either a b = grind arith
 
 -- paths are kept one part after another
 pub keeps_more : (old one middle two new : List (List Edge)) (some more : Bool)
     → KeepsPaths old one middle some → KeepsPaths middle two new more → KeepsPaths old (one ++ two) new (some || more)
-keeps_more old one middle two new some more a b =
-    let e : keep_all old one ≡ middle = at_most_64-is (keep_all old one) middle a.kept in
-    record {
-      kept = rw (keep_all-append old one two, e) b.kept;
-      found = rw (some_either one two, a.found, b.found) refl;
-    }
+keeps_more old one middle two new some more a b = grind (arith, at_most_64-is, keep_all-append, some_either)
 
 -- where there is no room for a part, there is none for the whole
 pub refused_more : (old one middle two more : List (List Edge)) (some : Bool) (kind : RelaxKind)
     → KeepsPaths old one middle some → at_most_64 (keep_all middle two) ≡ Err kind → at_most_64 (keep_all old (one ++ (two ++ more))) ≡ Err kind
-refused_more old one middle two more some kind a err =
-    let e : keep_all old one ≡ middle = at_most_64-is (keep_all old one) middle a.kept in
-    rw (keep_all-append old one (two ++ more), e) (at_most_64-err middle two more kind err)
+refused_more old one middle two more some kind a err = grind (arith, at_most_64-is, keep_all-append, at_most_64-err)
 
 flat_map-end : {A B : Type 0} (f : A → List B) (xs : List A) (y : A) → flat_map f (xs ++ y ∷ []) ≡ flat_map f xs ++ f y
 flat_map-end f xs y = flat_map-append f xs (y ∷ []) ∙ ap (λ ys. flat_map f xs ++ ys) (append-nil (f y))
 
 flat_map-parts : {A B : Type 0} (f : A → List B) (xs : List A) (i : ℕ) (d : A) → i < length xs
     → flat_map f xs ≡ flat_map f (take i xs) ++ (f (get_or xs i d) ++ flat_map f (drop (suc i) xs))
-flat_map-parts f xs i d within =
-    ap (flat_map f) (sym (take-append-drop i xs)) ∙ flat_map-append f (take i xs) (drop i xs)
-    ∙ ap (λ ys. flat_map f (take i xs) ++ flat_map f ys) (drop-cons xs i d within)
+flat_map-parts f xs i d within = cc ((take-append-drop i xs), (flat_map-append f (take i xs) (drop i xs)), (drop-cons xs i d within))
 
 -- the paths by some edges and one more
 pub paths_by_end : (prefix : List Edge) (lists : List (List Edge)) (edges : List Edge) (i : ℕ) (d : Edge) → i < length edges
@@ -85,15 +75,12 @@ pub refused_next : (old middle : List (List Edge)) (some : Bool) (kind : RelaxKi
     → i < length edges → KeepsPaths old (paths_by prefix lists (take i edges)) middle some
     → at_most_64 (keep_all middle (paths_after (prefix ++ get_or edges i d ∷ []) lists)) ≡ Err kind → at_most_64 (keep_all old (paths_by prefix lists edges)) ≡ Err kind
 refused_next old middle some kind prefix lists edges i d within a err =
-    rw (paths_by_parts prefix lists edges i d within)
-    (refused_more old (paths_by prefix lists (take i edges)) middle (paths_after (prefix ++ get_or edges i d ∷ []) lists) (paths_by prefix lists (drop (suc i) edges)) some kind a err)
+    cc ((paths_by_parts prefix lists edges i d within), (refused_more old (paths_by prefix lists (take i edges)) middle (paths_after (prefix ++ get_or edges i d ∷ []) lists) (paths_by prefix lists (drop (suc i) edges)) some kind a err))
 
 -- after the last edge all paths are kept
 pub keeps_last : (old new : List (List Edge)) (some : Bool) (prefix : List Edge) (lists : List (List Edge)) (edges : List Edge) (n : ℕ)
     → n ≡ length edges → KeepsPaths old (paths_by prefix lists (take n edges)) new some → KeepsPaths old (paths_after prefix (edges ∷ lists)) new some
-keeps_last old new some prefix lists edges n all kept =
-    let whole : take n edges ≡ edges = ap (λ k. take k edges) all ∙ take-length edges in
-    rw (paths_after_by prefix edges lists) (subst (λ es. KeepsPaths old (paths_by prefix lists es) new some) whole kept)
+keeps_last old new some prefix lists edges n all kept = grind (arith, take-length, paths_after_by)
 
 -- a path that goes on no further is kept
 pub keeps_end : (old new : List (List Edge)) (prefix : List Edge) → is_joined prefix ≡ true → at_most_64 (keep_all old (prefix ∷ [])) ≡ Ok new
@@ -109,10 +96,6 @@ refused_end old kind prefix path err = rw (paths_after-end prefix path) err
 pub keeps_no_path : (kept : List (List Edge)) (prefix : List Edge) (lists : List (List Edge)) → length kept ≤ 64 → is_joined prefix ≡ false
     → KeepsPaths kept (paths_after prefix lists) kept false
 keeps_no_path kept prefix lists few none = rw (paths_after-none prefix lists none) (keeps_none kept few)
-
--- what is kept has room
-pub kept_few : (old paths new : List (List Edge)) (some : Bool) → KeepsPaths old paths new some → length new ≤ 64
-kept_few old paths new some a = at_most_64-few (keep_all old paths) new a.kept
 
 -- a path goes on with an edge, by its last edge
 pub path_extended : (prefix : List Edge) (edge d : Edge) → 1 ≤ length prefix → is_joined prefix ≡ true
@@ -157,7 +140,4 @@ pub refused_word : (old middle : List (List Edge)) (some : Bool) (kind : RelaxKi
     → KeepsPaths old (paths_by prefix (map word_edges remainder) (take i edges)) middle some
     → at_most_64 (keep_all middle (paths_after (chosen ++ get_or edges i d ∷ []) (map word_edges remainder))) ≡ Err kind
     → at_most_64 (keep_all old (paths_after prefix (map word_edges words))) ≡ Err kind
-refused_word old middle some kind prefix chosen edges word words remainder i d cut of_word same within a err =
-    rw (cut, ← of_word, paths_after_by prefix edges (map word_edges remainder))
-    (refused_next old middle some kind prefix (map word_edges remainder) edges i d within a
-    (subst (λ f. at_most_64 (keep_all middle (paths_after (f ++ get_or edges i d ∷ []) (map word_edges remainder))) ≡ Err kind) same err))
+refused_word old middle some kind prefix chosen edges word words remainder i d cut of_word same within a err = grind (arith, paths_after_by, refused_next)

@@ -67,9 +67,7 @@ chosen : {A : Type 0} (first second : A → Bool) (xs : List A) → list_all fir
 chosen first second [] all any = cc
 chosen first second (x ∷ xs) all any =
     by_test (first x)
-    (λ f. by_test (second x)
-    (λ s. record { one = x; passes_first = f; passes_second = s })
-    (λ s. chosen first second xs (rw f at all) (rw s at any)))
+    (λ f. grind (arith, (chosen first second xs (rw f at all))))
     (λ f. absurd (false≢true (rw f at all)))
 
 -- a spelling of an edge is read as that edge
@@ -103,9 +101,7 @@ all_unmarked_spelled = refl
 
 unmarked_spelled : (kind : Kind) (text : List ℕ) → is_kind_spelling kind text ≡ true → is_spelling (unmarked kind) text ≡ true
 unfolding is_unmarked_spelling
-unmarked_spelled kind text spelled =
-    let word : Chosen (is_spelling (unmarked kind)) (bytes_eq text) = chosen _ _ (kind_spellings kind) (each_kind is_unmarked_spelling all_unmarked_spelled kind) spelled in
-    rw ((bytes_eq-Decides text word.one).0 word.passes_second) word.passes_first
+unmarked_spelled kind text spelled = grind arith
 
 -- whether a text is a spelling of an edge, if there is one
 is_spelling_of : Option Edge → List ℕ → Bool
@@ -126,9 +122,7 @@ all_marked_spelled = refl
 
 -- what a test says of all marks, it says of each
 pub each_mark : (test : Mark → Bool) → list_all test marks_read ≡ true → (mark : Mark) → test mark ≡ true
-each_mark test all Plain = AllPass-from_list_all test marks_read all 0 Plain (omega arith)
-each_mark test all Acquire = AllPass-from_list_all test marks_read all 1 Plain (omega arith)
-each_mark test all Release = AllPass-from_list_all test marks_read all 2 Plain (omega arith)
+each_mark test all mark = grind arith
 
 marked_spelled : (kind : Kind) (from to : Mark) (edge : Edge) (text : List ℕ)
     → is_kind_spelling kind text ≡ true → edge_spelled kind from to ≡ Some edge → is_spelling edge (text ++ (mark_word from ++ mark_word to)) ≡ true
@@ -138,7 +132,7 @@ marked_spelled kind from to edge text spelled is_edge =
     let letters = mark_word from ++ mark_word to in
     let word : Chosen (λ w. is_spelling_of (edge_spelled kind from to) (w ++ letters)) (bytes_eq text) = chosen _ _ (kind_spellings kind) all spelled in
     let passes : is_spelling edge (word.one ++ letters) ≡ true =
-    subst (λ o. is_spelling_of o (word.one ++ letters) ≡ true) is_edge word.passes_first in
+    grind arith in
     subst (λ t. is_spelling edge (t ++ letters) ≡ true) (sym ((bytes_eq-Decides text word.one).0 word.passes_second)) passes
 
 -- what is read as a mark is its letter

@@ -29,8 +29,7 @@ near_choice : (byte : ℕ) → cond (byte == 42 && true) (codes "RW") (byte ∷ 
 near_choice byte = rw (and-true (byte == 42)) refl
 
 flat_map-same : {A B : Type 0} (f g : A → List B) (xs : List A) → ((x : A) → f x ≡ g x) → flat_map f xs ≡ flat_map g xs
-flat_map-same f g [] same = refl
-flat_map-same f g (x ∷ xs) same = cc (same x, flat_map-same f g xs same)
+flat_map-same f g xs same = grind arith
 
 map-flat_map : {A B D : Type 0} (h : B → D) (f : A → List B) (xs : List A) → map h (flat_map f xs) ≡ flat_map (λ x. map h (f x)) xs
 map-flat_map h f [] = refl
@@ -49,8 +48,7 @@ filter_map-map h f [] = refl
 filter_map-map h f (x ∷ xs) = ap (cons_option (h (f x))) (filter_map-map h f xs)
 
 one_byte : (bytes : List ℕ) → flat_map (λ c. map (λ word. c ∷ word) ([] ∷ [])) bytes ≡ map (λ c. c ∷ []) bytes
-one_byte [] = refl
-one_byte (byte ∷ bytes) = ap (λ words. (byte ∷ []) ∷ words) (one_byte bytes)
+one_byte bytes = grind arith
 
 -- the words that a word expands to are the choices of its last two bytes, after the bytes before them
 expansions-end : (prefix : List ℕ) (before last : ℕ) → expansions (prefix ++ before ∷ last ∷ []) ≡ ends prefix before last
@@ -64,7 +62,7 @@ expansions-end (byte ∷ prefix) before last =
       append-nil (map (λ word. byte ∷ word) (ends prefix before last)),
     )
     (map-flat_map (λ word. byte ∷ word) (λ a. map (λ b. prefix ++ a ∷ b ∷ []) (star_choices last)) (star_choices before)
-    ∙ flat_map-same _ _ (star_choices before) (λ a. map-map (λ word. byte ∷ word) (λ b. prefix ++ a ∷ b ∷ []) (star_choices last)))
+    ∙ flat_map-same _ _ (star_choices before) (λ a. grind arith))
 
 -- a word names the edges that its last two bytes choose
 pub word_edges_end : (prefix : List ℕ) (before last : ℕ) → word_edges (prefix ++ before ∷ last ∷ []) ≡ edges_by_end prefix before last
@@ -97,12 +95,7 @@ length-filter_map f (x ∷ xs) = added (f x) (filter_map f xs) xs (length-filter
 -- a byte has at most two choices
 pub edges_by_last_few : (prefix : List ℕ) (before last : ℕ) → length (edges_by_last prefix before last) ≤ 2
 unfolding edges_by_last
-edges_by_last_few prefix before last =
-    omega (arith, length-filter_map (λ choice. edge_of (prefix ++ before ∷ choice ∷ [])) (star_choices last), two (last == 42) last)
-  where
-    two : (b : Bool) (last : ℕ) → length (cond b (codes "RW") (last ∷ [])) ≤ 2
-    two true last = omega arith
-    two false last = omega arith
+edges_by_last_few prefix before last = grind arith
 
 -- where the last byte is a star, the word is read twice, with `R` and with `W` in its place
 pub pushed_twice : (prefix : List ℕ) (before last : ℕ) → last ≡ 42
@@ -119,19 +112,11 @@ pushed_twice prefix before last star = rw star (both (edge_of (prefix ++ before 
 -- where the last byte is no star, the one choice of it is read once
 pub pushed_once : (prefix : List ℕ) (before last : ℕ) → (last ≡ 42 → ⊥) → edges_by_last prefix before last ≡ option_to_list (edge_of (prefix ++ before ∷ last ∷ []))
 unfolding edges_by_last
-pushed_once prefix before last plain = rw (no_star last plain) (one (edge_of (prefix ++ before ∷ last ∷ [])))
-  where
-    one : (a : Option Edge) → cons_option a [] ≡ option_to_list a
-    one None = refl
-    one (Some x) = refl
-
-    no_star : (last : ℕ) → (last ≡ 42 → ⊥) → (last == 42) ≡ false
-    no_star last plain = by_test (last == 42) (λ t. absurd (plain (eqb-true last 42 t))) (λ f. f)
+pushed_once prefix before last plain = grind arith
 
 -- an option is a list of at most one element
 pub option_to_list_short : {A : Type 0} (o : Option A) → length (option_to_list o) ≤ 1
-option_to_list_short None = omega arith
-option_to_list_short (Some x) = omega arith
+option_to_list_short o = grind arith
 
 two_at : (word : List ℕ) (n : ℕ) → length word ≡ suc (suc n) → word ≡ take n word ++ get_or word n 0 ∷ get_or word (suc n) 0 ∷ []
 two_at word n e =

@@ -1,6 +1,6 @@
 -- The word of each edge in a table of the words of all edges, in order.
 use Rattle.std.specs.Prelude.{ℕ, ◌≡◌, ◌<◌, List, [], length, map}
-use Rattle.std.proofs.Common.{sym, ◌∙◌, ap, get_or}
+use Rattle.std.proofs.Common.{sym, ◌∙◌, ap, get_or, arith}
 use Rattle.std.proofs.lemmas.List.{length-map, get_or-map}
 use Rattle.std.proofs.lemmas.Option.{slice_get_within, get_or_from_slice_get}
 use Rattle.relax_edges.specs.declared.edge.Edge.{Edge}
@@ -14,15 +14,10 @@ edge_within edge = slice_get_within edges_in_order (rank_of edge) edge (placed e
 
 -- the table has a word at the rank of each edge
 pub word_within : {A : Type 0} (seen : A → List ℕ) (words : List A) (edge : Edge) → map seen words ≡ map word_of edges_in_order → rank_of edge < length words
-word_within seen words edge same =
-    rw (sym (length-map words seen) ∙ ap length same ∙ length-map edges_in_order word_of) (edge_within edge)
+word_within seen words edge same = grind (arith, length-map, edge_within)
 
 -- that word is the edge's
 pub word_at : {A : Type 0} (seen : A → List ℕ) (words : List A) (d : A) (edge : Edge) (rank : ℕ) → map seen words ≡ map word_of edges_in_order
     → rank ≡ rank_of edge → seen (get_or words rank d) ≡ word_of edge
 word_at seen words d edge rank same is =
-    ap (λ k. seen (get_or words k d)) is
-    ∙ sym (get_or-map seen words (rank_of edge) d [] (word_within seen words edge same))
-    ∙ ap (λ texts. get_or texts (rank_of edge) []) same
-    ∙ get_or-map word_of edges_in_order (rank_of edge) edge [] (edge_within edge)
-    ∙ ap word_of (get_or_from_slice_get edges_in_order (rank_of edge) edge edge (placed edge))
+    grind (arith, (get_or-map seen words (rank_of edge) d [] (word_within seen words edge same)), (get_or-map word_of edges_in_order (rank_of edge) edge [] (edge_within edge)), (word_within seen words edge same), (edge_within edge), (get_or_from_slice_get edges_in_order (rank_of edge) edge edge (placed edge)), (placed edge))

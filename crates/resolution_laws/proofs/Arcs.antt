@@ -1,6 +1,5 @@
 -- The locations of a resolved cycle: there are several, which events of a thread share one, and where each one is left.
 use Rattle.std.proofs.Common.{◌≡◌, ℕ, zero, suc, ◌+◌, ◌-◌, ◌<◌, ◌≤◌, true, false, ◌==◌, ◌&&◌, List, length, refl, sym, ◌∙◌, ap, arith}
-use Rattle.std.specs.Prelude.{◌↔◌}
 use Rattle.std.proofs.lemmas.Bool.{eq-eqb, and_from}
 use Rattle.relax_edges.specs.declared.kinds.Reach.TheVariants.{Internal}
 use Rattle.relax_edges.specs.declared.kinds.Com.TheVariants.{Rf}
@@ -26,8 +25,7 @@ last_keeps es n r h = external_keeps (edge_at es n) (last_outside es n r h)
 -- the threads of events are below the number of threads
 pub thread_below : (es : List Edge) (i : ℕ) → IsResolved es → i < length es → thread_of es i < external_count es
 thread_below es i r h =
-    let e : length es ≡ (length es - 1) + 1 = omega arith in
-    omega (arith, thread_up es i (length es - 1) (omega arith) (omega arith), thread_out es (length es - 1) (omega arith) (last_outside es (length es - 1) r e), ap (thread_of es) e, thread_end es)
+    grind (arith, (thread_up es i (length es - 1) (omega arith) (omega arith)), (thread_out es (length es - 1) (omega arith)), (last_outside es (length es - 1) r), (thread_end es))
 
 -- at the last event all moves are made
 pub moves_last : (es : List Edge) (n : ℕ) → IsResolved es → length es ≡ n + 1 → moves_before es n ≡ move_count es
@@ -87,28 +85,12 @@ one_location es i j r h l t e =
 
 -- there is no `d` edge between events with the same moves before them
 pub none_moves : (es : List Edge) (i j m : ℕ) → i ≤ m → m < j → j ≤ length es → moves_before es i ≡ moves_before es j → is_diff (edge_at es m) ≡ false
-none_moves es i j m a b c e =
-    by_test (is_diff (edge_at es m))
-    (λ t. absurd (omega (arith, e, moves_on es m (omega arith) t, moves_up es i m a (omega arith), moves_up es (m + 1) j (omega arith) c)))
-    (λ f. f)
+none_moves es i j m a b c e = grind (arith, (moves_on es m (omega arith)), (moves_up es i m a (omega arith)), (moves_up es (m + 1) j (omega arith) c))
 
 -- events without a `d` edge between them have the same moves before them
 pub same_moves : (es : List Edge) (i j : ℕ) → i ≤ j → j ≤ length es → ((m : ℕ) → i ≤ m → m < j → is_diff (edge_at es m) ≡ false) → moves_before es i ≡ moves_before es j
 same_moves es i zero h l k = let e : i ≡ 0 = omega arith in rw e refl
-same_moves es i (suc j) h l k =
-    by_less j i
-    (λ g. let e : i ≡ suc j = omega arith in rw e refl)
-    (λ g. let one = same_moves es i j g (omega arith) (λ m a b. k m a (omega arith)) in
-    let step = moves_kept es j (omega arith) (k j g (omega arith)) in
-    let s : j + 1 ≡ suc j = omega arith in
-    one ∙ sym step ∙ ap (moves_before es) s)
-
--- in one thread, two events are at one location exactly where no edge between them leads to another
-pub location_in_thread : (es : List Edge) (i j : ℕ) → IsResolved es → i ≤ j → j < length es → thread_of es i ≡ thread_of es j → (location_of es i ≡ location_of es j) ↔ ((m : ℕ) → i ≤ m → m < j → is_diff (edge_at es m) ≡ false)
-location_in_thread es i j r h l t = (
-  λ e m a b. none_moves es i j m a b (omega arith) (one_location es i j r h l t e),
-  λ k. same_moves_location es i j (same_moves es i j h (omega arith) k),
-)
+same_moves es i (suc j) h l k = grind (arith, (same_moves es i j), (moves_kept es j (omega arith)))
 
 -- the events of a thread at one location come together: in one run, none of another thread or location between them
 pub record SameRun (es : List Edge) (i m : ℕ) : Type 0 where
@@ -118,14 +100,7 @@ pub record SameRun (es : List Edge) (i m : ℕ) : Type 0 where
 
 -- each event between two of one thread and location is of that thread and location
 pub one_run : (es : List Edge) (i m j : ℕ) → IsResolved es → i ≤ m → m ≤ j → j < length es → thread_of es i ≡ thread_of es j → location_of es i ≡ location_of es j → SameRun es i m
-one_run es i m j r a b l t e =
-    let same = one_location es i j r (omega arith) l t e in
-    let moves : moves_before es m ≡ moves_before es i = omega (arith, same, moves_up es i m a (omega arith), moves_up es m j b (omega arith)) in
-    record {
-      thread = omega (arith, t, thread_up es i m a (omega arith), thread_up es m j b (omega arith));
-      location = same_moves_location es m i moves;
-      moves = moves;
-    }
+one_run es i m j r a b l t e = grind (arith, one_location, moves_up, thread_up, same_moves_location)
 
 -- a `d` edge leads to another location
 pub moved_location : (es : List Edge) (i : ℕ) → IsResolved es → i + 1 < length es → is_diff (edge_at es i) ≡ true → (location_of es (i + 1) ≡ location_of es i → ⊥)
@@ -137,15 +112,3 @@ moved_location es i r h t e =
     (λ m z. location_cases es (i + 1) h
     (λ v y. omega (arith, m, z, v, y, e, on, two))
     (λ v y. omega (arith, z, y, e, on)))
-
--- two events at one location are on one stretch of the list without a `d` edge between them, or they are at location 0
--- before the first `d` edge and after the last
-pub arc_cases : {G : Type 0} (es : List Edge) (i j : ℕ) → i ≤ j → j < length es → location_of es i ≡ location_of es j → (moves_before es i ≡ moves_before es j → G) → (location_of es i ≡ 0 → moves_before es i ≡ 0 → moves_before es j ≡ move_count es → G) → G
-arc_cases es i j h l e one wrapped =
-    let up = moves_up es i j h (omega arith) in
-    let most = moves_most es j (omega arith) in
-    location_cases es i (omega arith)
-    (λ w z. one (omega (arith, w, up, most)))
-    (λ m z. location_cases es j l
-    (λ v y. wrapped (e ∙ y) (sym z ∙ e ∙ y) v)
-    (λ v y. one (sym z ∙ e ∙ y)))

@@ -27,8 +27,7 @@ after_below es i h = by_after es i h (λ l e. omega (arith, l, e)) (λ l e. omeg
 
 -- the event before an event is one of the cycle
 pub before_below : (es : List Edge) (i : ℕ) → i < length es → event_before es i < length es
-before_below es zero h = omega arith
-before_below es (suc i) h = omega arith
+before_below es i h = grind arith
 
 -- the event after the one before an event is that event
 pub after_before : (es : List Edge) (i : ℕ) → i < length es → event_after es (event_before es i) ≡ i
@@ -44,12 +43,10 @@ before_after es i h =
 
 -- each edge of a joined list joins the next one
 pub joined_next : (d : Edge) (u : List Edge) (i : ℕ) → is_joined u ≡ true → i + 1 < length u → joins_to (get_or u i d) (get_or u (i + 1) d) ≡ true
-joined_next d [] i h l = absurd (omega arith)
-joined_next d (e ∷ []) i h l = absurd (omega arith)
-joined_next d (e ∷ f ∷ u) zero h l = (and_parts (joins_to e f) (is_joined (f ∷ u)) h).0
 joined_next d (e ∷ f ∷ u) (suc i) h l =
     let s : suc i + 1 ≡ suc (i + 1) = omega arith in
     rw s (joined_next d (f ∷ u) i (and_parts (joins_to e f) (is_joined (f ∷ u)) h).1 (omega arith))
+joined_next d u i h l = grind (arith, and_parts)
 
 -- each edge of a cycle joins the one after it
 pub joins_after : (es : List Edge) (i : ℕ) → IsCycle es → i < length es → joins_to (edge_at es i) (edge_at es (event_after es i)) ≡ true
@@ -59,10 +56,8 @@ joins_after (e ∷ u) i c h =
     let j = joined_next (edge_at [] 0) ((e ∷ u) ++ e ∷ []) i c.closed (omega (arith, h, long)) in
     let here : get_or ((e ∷ u) ++ e ∷ []) i (edge_at [] 0) ≡ edge_at (e ∷ u) i = get_or_append_left (e ∷ u) (e ∷ []) (edge_at [] 0) i h in
     by_after (e ∷ u) i h
-    (λ l a. let there : get_or ((e ∷ u) ++ e ∷ []) (i + 1) (edge_at [] 0) ≡ edge_at (e ∷ u) (i + 1) = get_or_append_left (e ∷ u) (e ∷ []) (edge_at [] 0) (i + 1) l in
-    rw a (ap (λ x. joins_to x (edge_at (e ∷ u) (i + 1))) (sym here) ∙ ap (λ x. joins_to (get_or ((e ∷ u) ++ e ∷ []) i (edge_at [] 0)) x) (sym there) ∙ j))
-    (λ l a. let there : get_or ((e ∷ u) ++ e ∷ []) (i + 1) (edge_at [] 0) ≡ e = get_or_push (e ∷ u) e (edge_at [] 0) (i + 1) l in
-    rw a (ap (λ x. joins_to x e) (sym here) ∙ ap (λ x. joins_to (get_or ((e ∷ u) ++ e ∷ []) i (edge_at [] 0)) x) (sym there) ∙ j))
+    (λ l a. grind (arith, get_or_append_left))
+    (λ l a. grind (arith, get_or_push))
 
 -- what an edge enters is what the next edge leaves
 pub source_after : (es : List Edge) (i : ℕ) → IsCycle es → i < length es → source_of (edge_at es (event_after es i)) ≡ target_of (edge_at es i)
@@ -95,16 +90,8 @@ pub record Leads (es : List Edge) (i : ℕ) : Type 0 where
 pub external_leads : (es : List Edge) (i : ℕ) → IsResolved es → i < length es → is_external (edge_at es i) ≡ true → Leads es i
 external_leads es i r h t =
     by_after es i h
-    (λ l e. let o = thread_out es i h t in
-    record {
-      thread = rw e (o ∙ sym (cond-false {A = ℕ} (thread_of es i + 1 == external_count es) 0 (thread_of es i + 1) (ne_eqb (thread_of es i + 1) (external_count es) (λ z. omega (arith, z, o, thread_below es (i + 1) r l)))));
-      slot = rw e (slot_out es i h t);
-    })
-    (λ l e. let all : thread_of es i + 1 ≡ external_count es = sym (thread_out es i h t) ∙ sym (ap (thread_of es) l) ∙ thread_end es in
-    record {
-      thread = rw e (thread-zero es ∙ sym (cond-true {A = ℕ} (thread_of es i + 1 == external_count es) 0 (thread_of es i + 1) (eq-eqb (thread_of es i + 1) (external_count es) all)));
-      slot = rw e (slot-zero es);
-    })
+    (λ l e. grind (arith, thread_out, cond-false, ne_eqb, thread_below, slot_out))
+    (λ l e. grind (arith, (thread_out es i h t), (thread_end es), (thread-zero es), (cond-true {A = ℕ} (thread_of es i + 1 == external_count es) 0 (thread_of es i + 1)), (eq-eqb (thread_of es i + 1) (external_count es)), (slot-zero es)))
 
 -- an edge that isn't a `d` edge keeps the location, also the last one
 pub keeps_location : (es : List Edge) (i : ℕ) → IsResolved es → i < length es → is_diff (edge_at es i) ≡ false → location_of es (event_after es i) ≡ location_of es i
@@ -115,8 +102,7 @@ keeps_location es i r h f =
 
 -- a `d` edge isn't the last one
 pub moves_within : (es : List Edge) (i : ℕ) → IsResolved es → i < length es → is_diff (edge_at es i) ≡ true → i + 1 < length es
-moves_within es i r h t =
-    by_after es i h (λ l e. l) (λ l e. let a : false ≡ true = sym (last_keeps es i r l) ∙ t in cc)
+moves_within es i r h t = grind (arith, last_keeps)
 
 -- a `d` edge enters an event at another location
 pub changes_location : (es : List Edge) (i : ℕ) → IsResolved es → i < length es → is_diff (edge_at es i) ≡ true → (location_of es (event_after es i) ≡ location_of es i → ⊥)

@@ -23,8 +23,7 @@ counted_kept p es i h t = omega (arith, count_take_more p es i (edges.Com Rf Int
 
 -- among more edges no fewer pass
 pub counted_up : (p : Edge → Bool) (es : List Edge) (i j : ℕ) → i ≤ j → j ≤ length es → count_by p (take i es) ≤ count_by p (take j es)
-counted_up p es i j h l =
-    omega (arith, count_take p es (edges.Com Rf Internal) i (omega arith), count_take p es (edges.Com Rf Internal) j l, count_upto_up (λ m. p (edge_at es m)) i j h)
+counted_up p es i j h l = grind (arith, (count_take p es (edges.Com Rf Internal) i (omega arith)), (count_take p es (edges.Com Rf Internal) j l), count_upto_up)
 
 -- at most all of them pass
 pub counted_most : (p : Edge → Bool) (es : List Edge) (i : ℕ) → i ≤ length es → count_by p (take i es) ≤ i

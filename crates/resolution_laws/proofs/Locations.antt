@@ -22,11 +22,7 @@ use Rattle.resolution_laws.proofs.Threads.{thread_up, thread_out}
 
 -- what leads to another thread keeps the location, by the kind of the edge
 keeps_by_kind : (k : Kind) (e : Edge) → kind_of e ≡ k → is_external e ≡ true → is_diff e ≡ false
-keeps_by_kind (kinds.Com c r) e q h = rw q refl
-keeps_by_kind (kinds.Po s f t) e q h = let a = rw q at h in cc
-keeps_by_kind (kinds.Fenced k s f t) e q h = let a = rw q at h in cc
-keeps_by_kind (kinds.Dep k s t) e q h = let a = rw q at h in cc
-keeps_by_kind (kinds.Data s) e q h = let a = rw q at h in cc
+keeps_by_kind (x) e q h = grind arith
 
 -- an edge to another thread keeps the location
 pub external_keeps : (e : Edge) → is_external e ≡ true → is_diff e ≡ false
@@ -34,10 +30,8 @@ external_keeps e h = keeps_by_kind (kind_of e) e refl h
 
 -- the last edge says whether the list ends outside
 pub ends_with : (es : List Edge) (n : ℕ) → length es ≡ n + 1 → ends_outside es ≡ is_external (edge_at es n)
-ends_with [] n h = absurd (omega (arith, h))
-ends_with (e ∷ []) n h = let z : n ≡ 0 = omega (arith, h) in rw z refl
-ends_with (e ∷ f ∷ es) zero h = absurd (omega (arith, h))
 ends_with (e ∷ f ∷ es) (suc n) h = ends_with (f ∷ es) n (omega (arith, h))
+ends_with es n h = grind arith
 
 -- there are no moves before event 0
 pub moves-zero : (es : List Edge) → moves_before es 0 ≡ 0
@@ -100,13 +94,7 @@ location_most es i h = mod-le (moves_before es i) (move_count es)
 
 -- the location after a `d` edge is the next one, and after the last one location 0
 pub location_on : (es : List Edge) (i : ℕ) → i < length es → is_diff (edge_at es i) ≡ true → location_of es (i + 1) ≡ cond (location_of es i + 1 == move_count es) 0 (location_of es i + 1)
-location_on es i h t =
-    let m = moves_on es i h t in
-    let w = moves_most es (i + 1) (omega arith) in
-    let l = location_first es i (omega (arith, m, w)) in
-    by_same (location_of es i + 1) (move_count es)
-    (λ s. location_wrapped es (i + 1) (omega (arith, m, l, s)) ∙ sym (cond-true {A = ℕ} (location_of es i + 1 == move_count es) 0 (location_of es i + 1) (eq-eqb (location_of es i + 1) (move_count es) s)))
-    (λ d. location_first es (i + 1) (omega (arith, m, l, w, d)) ∙ omega (arith, m, l, cond-false {A = ℕ} (location_of es i + 1 == move_count es) 0 (location_of es i + 1) (ne_eqb (location_of es i + 1) (move_count es) d)))
+location_on es i h t = grind (arith, moves_on, moves_most, location_first, location_wrapped, cond-true, eq-eqb, cond-false, ne_eqb)
 
 -- any other edge keeps the location
 pub location_kept : (es : List Edge) (i : ℕ) → i < length es → is_diff (edge_at es i) ≡ false → location_of es (i + 1) ≡ location_of es i
@@ -115,12 +103,7 @@ location_kept es i h t = same_moves_location es (i + 1) i (moves_kept es i h t)
 -- a thread has at most all moves
 pub moves_in_most : (es : List Edge) (k : ℕ) → moves_in es k ≤ move_count es
 unfolding moves_in
-moves_in_most es k =
-    omega (
-      arith,
-      count_all is_diff es (edges.Com Rf Internal),
-      count_upto_fewer (λ i. is_diff (edge_at es i) && (thread_of es i == k)) (λ i. is_diff (edge_at es i)) (length es) (λ i l p. (and_parts (is_diff (edge_at es i)) (thread_of es i == k) p).0),
-    )
+moves_in_most es k = grind (arith, (count_all is_diff es (edges.Com Rf Internal)), count_upto_fewer, and_parts)
 
 -- a thread of a resolved cycle doesn't have all of them
 pub moves_in_fewer : (es : List Edge) (k : ℕ) → IsResolved es → k < external_count es → moves_in es k < move_count es
@@ -144,11 +127,7 @@ unfolding moves_in_before
 moves_counted-zero es k = refl
 
 same_thread : (es : List Edge) (m k : ℕ) → thread_of es m ≡ k → ◌≡◌ {A = ℕ} (cond (is_diff (edge_at es m) && (thread_of es m == k)) 1 0) (cond (is_diff (edge_at es m)) 1 0)
-same_thread es m k h = rw (eq-eqb (thread_of es m) k h) (by_and (is_diff (edge_at es m)))
-  where
-    by_and : (b : Bool) → ◌≡◌ {A = ℕ} (cond (b && true) 1 0) (cond b 1 0)
-    by_and true = refl
-    by_and false = refl
+same_thread es m k h = grind arith
 
 -- between two events of a thread the moves are moves of that thread
 pub moves_between : (es : List Edge) (i j k : ℕ) → i ≤ j → j ≤ length es → thread_of es i ≡ k → thread_of es j ≡ k → moves_before es j + moves_in_before es k i ≤ moves_before es i + moves_in_before es k j
@@ -172,9 +151,7 @@ moves_between es i (suc j) k h l a b =
 -- a thread that has begun at this edge has no moves yet
 pub no_moves_yet : (es : List Edge) (i : ℕ) → i < length es → is_external (edge_at es i) ≡ true → moves_in_before es (thread_of es (i + 1)) (i + 1) ≡ 0
 unfolding moves_in_before
-no_moves_yet es i h t =
-    count_upto_none (λ m. is_diff (edge_at es m) && (thread_of es m == thread_of es (i + 1))) (i + 1)
-    (λ m l. and_right (is_diff (edge_at es m)) (thread_of es m == thread_of es (i + 1)) (ne_eqb (thread_of es m) (thread_of es (i + 1)) (λ e. omega (arith, e, thread_out es i h t, thread_up es m i (omega arith) (omega arith)))))
+no_moves_yet es i h t = grind (arith, count_upto_none, and_right, ne_eqb, thread_out, thread_up)
 
 -- one edge more of the thread
 pub one_move_more : (es : List Edge) (i : ℕ) → moves_in_before es (thread_of es i) (i + 1) ≡ moves_in_before es (thread_of es i) i + cond (is_diff (edge_at es i)) 1 0
@@ -184,6 +161,4 @@ one_move_more es i = omega (arith, count_upto_more (λ m. is_diff (edge_at es m)
 -- at an external edge all moves of its thread are made
 pub all_moves_made : (es : List Edge) (i : ℕ) → i < length es → is_external (edge_at es i) ≡ true → moves_in es (thread_of es i) ≡ moves_in_before es (thread_of es i) (i + 1)
 unfolding moves_in_before moves_in
-all_moves_made es i h t =
-    count_upto_stays (λ m. is_diff (edge_at es m) && (thread_of es m == thread_of es i)) (i + 1) (length es) (omega arith)
-    (λ m g l. and_right (is_diff (edge_at es m)) (thread_of es m == thread_of es i) (ne_eqb (thread_of es m) (thread_of es i) (λ e. omega (arith, e, thread_out es i h t, thread_up es (i + 1) m g (omega arith)))))
+all_moves_made es i h t = grind (arith, count_upto_stays, and_right, ne_eqb, (thread_out es i h t), (thread_up es (i + 1)))

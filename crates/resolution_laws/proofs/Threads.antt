@@ -52,16 +52,12 @@ slot-zero es = refl
 -- an internal edge leads to the next slot
 pub slot_in : (es : List Edge) (i : ℕ) → i < length es → is_external (edge_at es i) ≡ false → slot_of es (i + 1) ≡ slot_of es i + 1
 unfolding slot_of
-slot_in es i h t =
-    let e : thread_of es (i + 1) ≡ thread_of es i = thread_in es i h t in
-    rw e (count_upto_more_yes (λ j. thread_of es j == thread_of es i) i (eq-eqb (thread_of es i) (thread_of es i) refl))
+slot_in es i h t = grind (arith, thread_in, count_upto_more_yes, eq-eqb)
 
 -- an external edge leads to a first slot
 pub slot_out : (es : List Edge) (i : ℕ) → i < length es → is_external (edge_at es i) ≡ true → slot_of es (i + 1) ≡ 0
 unfolding slot_of
-slot_out es i h t =
-    count_upto_none (λ j. thread_of es j == thread_of es (i + 1)) (i + 1)
-    (λ j l. ne_eqb (thread_of es j) (thread_of es (i + 1)) (λ e. omega (arith, e, thread_out es i h t, thread_up es j i (omega arith) (omega arith))))
+slot_out es i h t = grind (arith, count_upto_none, ne_eqb, thread_out, thread_up)
 
 -- number i is the event in slot s of thread k
 pub record IsAt (es : List Edge) (k s i : ℕ) : Type 0 where

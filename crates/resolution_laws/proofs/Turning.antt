@@ -25,15 +25,13 @@ use Rattle.resolution_laws.proofs.Locations.{ends_with}
 
 -- a list ends outside exactly where its last edge is external
 pub outside_at_end : (xs : List Edge) (e : Edge) → ends_outside (xs ++ e ∷ []) ≡ is_external e
-outside_at_end [] e = refl
-outside_at_end (x ∷ []) e = refl
 outside_at_end (x ∷ y ∷ xs) e = outside_at_end (y ∷ xs) e
+outside_at_end xs e = grind arith
 
 -- the turn by k + 1 makes edge k the last
 pub outside_after : (es : List Edge) (k : ℕ) → k < length es → ends_outside (rotated (k + 1) es) ≡ is_external (edge_at es k)
 outside_after es k h =
-    rw (take_more es k (edges.Com Rf Internal) h, ← append_assoc (drop (k + 1) es) (take k es) (edge_at es k ∷ []))
-    (outside_at_end (drop (k + 1) es ++ take k es) (edge_at es k))
+    cc ((take_more es k (edges.Com Rf Internal) h), (append_assoc (drop (k + 1) es) (take k es) (edge_at es k ∷ [])), (outside_at_end (drop (k + 1) es ++ take k es) (edge_at es k)))
 
 -- the last edge is external: no turn
 pub turned_by_none : (es : List Edge) → 0 < length es → ends_outside es ≡ true → turned es ≡ rotated 0 es
@@ -53,9 +51,7 @@ none_outside es i h t b (suc j) l = rw (← add-one) (outside_after es j (omega 
 pub turned_by_first : (es : List Edge) (i : ℕ) → i < length es → ends_outside es ≡ false → is_external (edge_at es i) ≡ true → ((k : ℕ) → k < i → is_external (edge_at es k) ≡ false) → (i + 1 < length es) × (turned es ≡ rotated (i + 1) es)
 unfolding turned
 turned_by_first es i h t x b =
-    let w : i + 1 < length es = by_less (i + 1) (length es) (λ l. l) (λ g.
-    let e : length es ≡ i + 1 = omega arith in
-    let y : true ≡ false = sym (ends_with es i e ∙ x) ∙ t in cc) in
+    let w : i + 1 < length es = grind (arith, ends_with) in
     let f : find ends_outside (map (λ k. rotated k es) (upto (length es))) ≡ Some (rotated (i + 1) es) =
     find-map ends_outside (λ k. rotated k es) (upto (length es)) ∙ ap (option_map (λ k. rotated k es)) (find_upto_first (λ k. ends_outside (rotated k es)) (length es) (i + 1) w (outside_after es i h ∙ x) (none_outside es i (omega arith) t b)) in
     (w, rw f refl)
@@ -63,28 +59,15 @@ turned_by_first es i h t x b =
 -- no edge is external: no turn
 pub turned_never : (es : List Edge) → ends_outside es ≡ false → ((k : ℕ) → k < length es → is_external (edge_at es k) ≡ false) → turned es ≡ rotated 0 es
 unfolding turned
-turned_never es t b =
-    let f : find ends_outside (map (λ k. rotated k es) (upto (length es))) ≡ None =
-    find-map ends_outside (λ k. rotated k es) (upto (length es)) ∙ ap (option_map (λ k. rotated k es)) (find_upto_none (λ k. ends_outside (rotated k es)) (length es) (λ j l. none_outside es (length es) (omega arith) t b j (omega arith))) in
-    rw f (sym (append-nil es))
+turned_never es t b = grind (arith, find-map, find_upto_none, none_outside, append-nil)
 
 -- where the first external edge is at place i, and the last edge isn't external, the turn is by i + 1
 pub turned_at_position : (es : List Edge) (i : ℕ) → ends_outside es ≡ false → position is_external es ≡ Some i → (i + 1 < length es) × (rotated (i + 1) es ≡ turned es)
-turned_at_position es i t p =
-    let f = position-Some is_external es i (edges.Com Rf Internal) p in
-    let b = turned_by_first es i f.0 t f.1 f.2 in
-    (b.0, sym b.1)
+turned_at_position es i t p = grind (arith, (position-Some is_external es i (edges.Com Rf Internal) p), (turned_by_first es i))
 
 -- where no edge is external, there is no turn
 pub turned_without : (es : List Edge) → ends_outside es ≡ false → position is_external es ≡ None → rotated 0 es ≡ turned es
-turned_without es t p =
-    sym (turned_never es t (λ k l. fails_before_first is_external es k (edges.Com Rf Internal) (omega (arith, l, past))))
-  where
-    past : length es ≤ position_or_len is_external es
-    past =
-        by_test (nat_lt (position_or_len is_external es) (length es))
-        (λ y. let a : Some (position_or_len is_external es) ≡ None = sym (rw y refl) ∙ p in cc)
-        (λ n. ltb-false (position_or_len is_external es) (length es) n)
+turned_without es t p = grind (arith, turned_never, fails_before_first, nat_lt, ltb-false)
 
 -- the turned list is a rotation, and where an edge is external, its last edge is
 pub record Turn (es : List Edge) (k : ℕ) : Type 0 where
@@ -99,9 +82,7 @@ turn_of es h =
     let through = find-map ends_outside (λ k. rotated k es) (upto (length es)) in
     by_option (find p (upto (length es)))
     (λ n. absurd (none_passes n (counted (λ j. is_external (edge_at es j)) (length es) (omega (arith, h, count_all is_external es (edges.Com Rf Internal))))))
-    (λ k e. let f = find_upto p (length es) k e in
-    let a : turned es ≡ rotated k es = rw (through, e) refl in
-    (k, f.below, record { turn = a; outside = rw a f.passes }))
+    (λ k e. grind (arith, find_upto))
   where
     none_passes : find (λ k. ends_outside (rotated k es)) (upto (length es)) ≡ None → Passing (λ j. is_external (edge_at es j)) (length es) → ⊥
     none_passes n w =
@@ -134,9 +115,7 @@ turned_resolved es c h s =
 pub resolution_resolved : (es fs : List Edge) → IsCycle es → resolution_of es ≡ Ok fs → IsResolved fs
 resolution_resolved es fs c h =
     by_test (nat_lt (external_count es) 2)
-    (λ t. let a : Err TooFewThreads ≡ Ok fs = sym (rw t refl) ∙ h in cc)
+    (λ t. grind arith)
     (λ f. by_test (is_coherence_only (turned es))
-    (λ t. let a : Err CoherenceOnly ≡ Ok fs = sym (rw (f, t) refl) ∙ h in cc)
-    (λ s. let a : Ok (turned es) ≡ Ok fs = sym (rw (f, s) refl) ∙ h in
-    let e : turned es ≡ fs = cc in
-    rw (← e) (turned_resolved es c (ltb-false (external_count es) 2 f) s)))
+    (λ t. grind arith)
+    (λ s. grind (arith, (turned_resolved es c (ltb-false (external_count es) 2 f) s), (ltb-false (external_count es) 2 f))))

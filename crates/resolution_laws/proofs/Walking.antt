@@ -24,25 +24,15 @@ pub record SomeElsewhere (es : List Edge) (i n : ℕ) : Type 0 where
 
 -- before event 0 the walk has counted nothing
 elsewhere_start : (es : List Edge) → SomeElsewhere es 0 0
-elsewhere_start es = record {
-  counted = sym (moves_counted-zero es (thread_of es 0));
-  fewer = λ k l. absurd (omega (arith, l, thread-zero es));
-}
+elsewhere_start es = grind (arith, moves_counted-zero, thread-zero)
 
 -- along an internal edge the walk counts on in its thread
 elsewhere_in : (es : List Edge) (i m n : ℕ) → i < length es → SomeElsewhere es i n → is_external (edge_at es i) ≡ false → m ≡ moves_in_before es (thread_of es i) (i + 1) → SomeElsewhere es (i + 1) m
-elsewhere_in es i m n h s t e =
-    let a : thread_of es (i + 1) ≡ thread_of es i = thread_in es i h t in
-    record { counted = rw a e; fewer = rw a s.fewer }
+elsewhere_in es i m n h s t e = grind (arith, thread_in)
 
 -- along an external edge of a thread that doesn't have all moves the walk begins the next thread
 elsewhere_out : (es : List Edge) (i m n : ℕ) → i < length es → SomeElsewhere es i n → is_external (edge_at es i) ≡ true → m ≡ moves_in_before es (thread_of es i) (i + 1) → (m ≡ move_count es → ⊥) → SomeElsewhere es (i + 1) 0
-elsewhere_out es i m n h s t e d = record {
-  counted = sym (no_moves_yet es i h t);
-  fewer = λ k l. by_same k (thread_of es i)
-      (λ q. ne_eqb (moves_in es k) (move_count es) (λ z. d (e ∙ sym (all_moves_made es i h t) ∙ sym (ap (moves_in es) q) ∙ z)))
-      (λ q. s.fewer k (omega (arith, l, q, thread_out es i h t)));
-}
+elsewhere_out es i m n h s t e d = grind (arith, (no_moves_yet es i h t), ne_eqb, (all_moves_made es i h t), (thread_out es i h t))
 
 -- where a thread has all moves, the cycle is coherence only
 pub all_in_thread : (es : List Edge) (i m : ℕ) → i < length es → is_external (edge_at es i) ≡ true → m ≡ moves_in_before es (thread_of es i) (i + 1) → m ≡ move_count es → true ≡ is_coherence_only es
@@ -55,8 +45,7 @@ all_in_thread es i m h t e d =
 -- where no thread has all moves, the cycle isn't coherence only
 pub none_in_thread : (es : List Edge) (n : ℕ) → SomeElsewhere es (length es) n → false ≡ is_coherence_only es
 unfolding is_coherence_only
-none_in_thread es n s =
-    sym (any_upto_none (λ k. moves_in es k == move_count es) (external_count es) (λ k l. s.fewer k (omega (arith, l, thread_end es))))
+none_in_thread es n s = grind (arith, any_upto_none, thread_end)
 
 -- a walk over the events up to event i: its thread, slot and location
 pub record WalkAt (es : List Edge) (i thread slot location : ℕ) : Type 0 where
@@ -66,11 +55,7 @@ pub record WalkAt (es : List Edge) (i thread slot location : ℕ) : Type 0 where
 
 -- the walk begins at thread 0, slot 0 and location 0
 walk_at_start : (es : List Edge) → WalkAt es 0 0 0 0
-walk_at_start es = record {
-  thread_is = sym (thread-zero es);
-  slot_is = sym (slot-zero es);
-  location_is = sym (location-zero es);
-}
+walk_at_start es = grind (arith, thread-zero, slot-zero, location-zero)
 
 -- the numbers are at most that of the event
 pub record Small (i thread slot location : ℕ) : Type 0 where
@@ -80,23 +65,15 @@ pub record Small (i thread slot location : ℕ) : Type 0 where
 
 -- the numbers of a walk are at most that of the event
 pub walk_small : (es : List Edge) (i t s l : ℕ) → i ≤ length es → WalkAt es i t s l → Small i t s l
-walk_small es i t s l h w = record {
-  thread_small = omega (arith, w.thread_is, thread_most es i h);
-  slot_small = omega (arith, w.slot_is, slot_most es i);
-  location_small = omega (arith, w.location_is, location_most es i h, moves_few es i h);
-}
+walk_small es i t s l h w = grind (arith, thread_most, slot_most, location_most, moves_few)
 
 -- along the last `d` edge the walk comes to location 0
 location_goes_round : (es : List Edge) (i l d : ℕ) → i < length es → l ≡ location_of es i → is_diff (edge_at es i) ≡ true → d ≡ move_count es → l + 1 ≡ d → 0 ≡ location_of es (i + 1)
-location_goes_round es i l d h e x q w =
-    let here : location_of es i + 1 ≡ move_count es = omega (arith, e, q, w) in
-    sym (location_on es i h x ∙ cond-true {A = ℕ} (location_of es i + 1 == move_count es) 0 (location_of es i + 1) (eq-eqb (location_of es i + 1) (move_count es) here))
+location_goes_round es i l d h e x q w = grind (arith, location_on, cond-true, eq-eqb)
 
 -- along any other `d` edge the walk comes to the next location
 location_goes_on : (es : List Edge) (i l d : ℕ) → i < length es → l ≡ location_of es i → is_diff (edge_at es i) ≡ true → d ≡ move_count es → (l + 1 ≡ d → ⊥) → l + 1 ≡ location_of es (i + 1)
-location_goes_on es i l d h e x q w =
-    ap (λ n. n + 1) e
-    ∙ sym (location_on es i h x ∙ cond-false {A = ℕ} (location_of es i + 1 == move_count es) 0 (location_of es i + 1) (ne_eqb (location_of es i + 1) (move_count es) (λ z. w (omega (arith, z, e, q)))))
+location_goes_on es i l d h e x q w = grind (arith, location_on, cond-false, ne_eqb)
 
 -- along an edge that isn't a `d` edge the walk stays at its location
 location_stays : (es : List Edge) (i l : ℕ) → i < length es → l ≡ location_of es i → is_diff (edge_at es i) ≡ false → l ≡ location_of es (i + 1)
@@ -115,27 +92,12 @@ walked_start es = record { walk_at = walk_at_start es; elsewhere = elsewhere_sta
 pub walked_out : (es : List Edge) (i t s l m thread slot location moves : ℕ) → i < length es → Walked es i t s l m → is_external (edge_at es i) ≡ true → (m ≡ move_count es → ⊥)
     → thread ≡ t + 1 → slot ≡ 0 → location ≡ l → moves ≡ 0 → Walked es (i + 1) thread slot location moves
 walked_out es i t s l m thread slot location moves h w out d a b c e =
-    let keeps = external_keeps (edge_at es i) out in
-    record {
-      walk_at = record {
-        thread_is = a ∙ ap (λ n. n + 1) w.walk_at.thread_is ∙ sym (thread_out es i h out);
-        slot_is = b ∙ sym (slot_out es i h out);
-        location_is = c ∙ location_stays es i l h w.walk_at.location_is keeps;
-      };
-      elsewhere = rw e (elsewhere_out es i m m h w.elsewhere out (counts_none es i m m w.elsewhere.counted refl keeps) d);
-    }
+    grind (arith, (external_keeps (edge_at es i) out), (thread_out es i h out), (slot_out es i h out), (location_stays es i l h w.walk_at.location_is), (elsewhere_out es i m m h w.elsewhere out), (counts_none es i m m w.elsewhere.counted refl))
 
 -- along an internal edge the walk comes to the next slot of its thread
 walked_in : (es : List Edge) (i t s l m thread slot location moves : ℕ) → i < length es → Walked es i t s l m → is_external (edge_at es i) ≡ false
     → thread ≡ t → slot ≡ s + 1 → location ≡ location_of es (i + 1) → moves ≡ moves_in_before es (thread_of es i) (i + 1) → Walked es (i + 1) thread slot location moves
-walked_in es i t s l m thread slot location moves h w stays a b c e = record {
-  walk_at = record {
-    thread_is = a ∙ w.walk_at.thread_is ∙ sym (thread_in es i h stays);
-    slot_is = b ∙ ap (λ n. n + 1) w.walk_at.slot_is ∙ sym (slot_in es i h stays);
-    location_is = c;
-  };
-  elsewhere = elsewhere_in es i moves m h w.elsewhere stays e;
-}
+walked_in es i t s l m thread slot location moves h w stays a b c e = grind (arith, thread_in, slot_in, elsewhere_in)
 
 -- along the last `d` edge of a round, which is internal, it comes to location 0 too
 pub walked_round : (es : List Edge) (i t s l m thread slot location moves d : ℕ) → i < length es → Walked es i t s l m → is_external (edge_at es i) ≡ false → is_diff (edge_at es i) ≡ true → d ≡ move_count es → l + 1 ≡ d

@@ -1,28 +1,21 @@
 -- Two lists of edges joined: the events of the threads of the first, and then those of the second.
-use Rattle.std.proofs.Common.{◌≡◌, ℕ, zero, suc, ◌+◌, ◌-◌, ◌<◌, ◌≤◌, Bool, false, ◌==◌, cond, List, [], ◌∷◌, ◌++◌, length, map, refl, sym, ◌∙◌, ap, arith, length-append, append_assoc}
+use Rattle.std.proofs.Common.{◌≡◌, ℕ, zero, suc, ◌+◌, ◌<◌, ◌≤◌, Bool, ◌==◌, cond, List, [], ◌∷◌, ◌++◌, length, map, refl, sym, ◌∙◌, ap, arith, length-append, append_assoc}
 use Rattle.std.specs.List.{AllByRecursion, filter}
 use Rattle.std.proofs.lemmas.List.{append-nil, map_push}
 use Rattle.std.proofs.lemmas.List.Elements.{filter-append}
-use Rattle.std.proofs.lemmas.Bool.{ne_eqb, cond-false}
+use Rattle.std.proofs.lemmas.Bool.{ne_eqb}
 use Rattle.list_laws.proofs.Elements.{all_append}
 use Rattle.relax_edges.specs.declared.edge.Edge.{Edge}
 use Rattle.list_laws.specs.Numbers.{upto}
 use Rattle.list_laws.proofs.Cases.{by_test}
 use Rattle.resolution_laws.specs.Resolution.{external_count, thread_of, events_in}
 use Rattle.resolution_laws.proofs.Rotations.{Ended, thread_first, thread_second, same_shifted}
+use Rattle.test_maker.proofs.Ranges.{filter_none}
 
 -- an event of a list whose threads have ended is in one of its threads
 pub ended_below : (a : List Edge) (i : ℕ) → Ended a → i < length a → thread_of a i < external_count a
 unfolding Ended
 ended_below a i ended h = ended i h
-
--- the numbers that pass a test, of those below m and then of n more
-filter_upto_none : (p : ℕ → Bool) (n : ℕ) → ((i : ℕ) → i < n → p i ≡ false) → filter p (upto n) ≡ []
-filter_upto_none p zero h = refl
-filter_upto_none p (suc n) h =
-    filter-append p (upto n) (n ∷ [])
-    ∙ ap (λ l. l ++ filter p (n ∷ [])) (filter_upto_none p n (λ i l. h i (omega arith)))
-    ∙ cond-false (p n) (n ∷ []) [] (h n (omega arith))
 
 filter_upto_same : (p q : ℕ → Bool) (n : ℕ) → ((i : ℕ) → i < n → p i ≡ q i) → filter p (upto n) ≡ filter q (upto n)
 filter_upto_same p q zero h = refl
@@ -62,7 +55,7 @@ events_first a b k h =
     ap (λ n. filter p (upto n)) (length-append a b)
     ∙ filter_upto-add p (length a) (length b)
     ∙ ap (λ l. filter p (upto (length a)) ++ map (λ i. length a + i) l)
-    (filter_upto_none (λ i. p (length a + i)) (length b) (λ i l. ne_eqb (thread_of (a ++ b) (length a + i)) k (λ e. omega (arith, e, thread_second a b i (omega arith), h))))
+    (filter_none (λ i. p (length a + i)) (length b) (λ i l. ne_eqb (thread_of (a ++ b) (length a + i)) k (λ e. omega (arith, e, thread_second a b i (omega arith), h))))
     ∙ append-nil (filter p (upto (length a)))
     ∙ filter_upto_same p (λ i. thread_of a i == k) (length a) (λ i l. ap (λ t. t == k) (thread_first a b i (omega arith)))
 
@@ -74,7 +67,7 @@ events_second a b k ended =
     ap (λ n. filter p (upto n)) (length-append a b)
     ∙ filter_upto-add p (length a) (length b)
     ∙ ap (λ l. l ++ map (λ i. length a + i) (filter (λ i. p (length a + i)) (upto (length b))))
-    (filter_upto_none p (length a) (λ i l. ne_eqb (thread_of (a ++ b) i) (external_count a + k) (λ e. omega (arith, e, thread_first a b i (omega arith), ended_below a i ended l))))
+    (filter_none p (length a) (λ i l. ne_eqb (thread_of (a ++ b) i) (external_count a + k) (λ e. omega (arith, e, thread_first a b i (omega arith), ended_below a i ended l))))
     ∙ ap (map (λ i. length a + i)) (filter_upto_same (λ i. p (length a + i)) (λ i. thread_of b i == k) (length b)
     (λ i l. ap (λ t. t == external_count a + k) (thread_second a b i (omega arith)) ∙ same_shifted (external_count a) (thread_of b i) k))
 

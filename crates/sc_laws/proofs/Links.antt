@@ -1,8 +1,6 @@
 -- The laws on links and on the condition, of what is read of the printed text of a cycle's test: it is the test, except for the
 -- numbers of places.
-use Rattle.std.proofs.Common.{◌≡◌, ℕ, List, [], length, Ok, refl, sym, ◌∙◌, subst}
-use Rattle.std.specs.Prelude.{Result}
-use Rattle.litmus_text.specs.declared.errors.TextError.{TextError}
+use Rattle.std.proofs.Common.{◌≡◌, ℕ, List, [], length, refl, sym, ◌∙◌, subst}
 use Rattle.relax_edges.specs.declared.kinds.ArchName.{ArchName}
 use Rattle.relax_edges.specs.declared.kinds.ObsMode.{ObsMode}
 use Rattle.relax_edges.specs.declared.edge.Edge.{Edge}
@@ -46,6 +44,7 @@ use Rattle.printed_test_laws.proofs.Forcing.{bytes_force}
 use Rattle.printed_test_laws.proofs.Readable.{readable}
 use Rattle.printed_test_laws.proofs.Rereading.{reread_test, reread_renumbered, by_table, threads_numbered, number_of_location, intended_same}
 use Rattle.sc_laws.specs.Links.{IsPrintedTest, LinkCloses, EachLinkMayBreak, ConditionDecides}
+use Rattle.sc_laws.proofs.Printed.{same_test}
 
 -- the law on links for the program of a cycle's test, under any numbers of places
 cycle_links : (a : Puts) (register_name : ℕ → List ℕ) (es : List Edge) (mode : ObsMode) (test : TestSeen) (number : ℕ → ℕ)
@@ -134,9 +133,6 @@ read_meets a arch w name es mode x laws back t r none candidate coherent all =
     p : test_program (reread_test r.table (test_of a (name_in w.registers) es mode)) ≡ program_read
         (reread r.table name (test_of a (name_in w.registers) es mode))
     p = program_is arch w name es (test_of a (name_in w.registers) es mode) r refl
-
-same_test : (one other : TestRead) → ◌≡◌ {A = Result TestRead TextError} (Ok one) (Ok other) → one ≡ other
-same_test one other e = cc e
 
 -- the printed text reads back
 back_of : (a : Puts) (arch : ArchName) (w : Writing) (name : List ℕ) (es : List Edge) (mode : ObsMode) (test : TestRead) → IsArch a → WritesBack a w

@@ -34,7 +34,7 @@ read_sc a arch w name es mode laws t r =
     program_is : test_program (reread_test r.table (test_of a (name_in w.registers) es mode)) ≡ program_read (reread r.table name (test_of a (name_in w.registers) es mode))
     program_is = λ i. record { places = length r.table; threads = threads_numbered r.table (letters (move_count es)) (test_of a (name_in w.registers) es mode).threads i }
 
-same_test : (one other : TestRead) → ◌≡◌ {A = Result TestRead TextError} (Ok one) (Ok other) → one ≡ other
+pub same_test : (one other : TestRead) → ◌≡◌ {A = Result TestRead TextError} (Ok one) (Ok other) → one ≡ other
 same_test one other e = cc e
 
 -- the same holds of the candidate executions of what is read of the printed text of a cycle's test

@@ -1,14 +1,12 @@
 -- An execution that goes along an interleaving has no cycle: each of its steps is one in the execution that the interleaving makes.
-use Rattle.std.proofs.Common.{◌≡◌, ℕ, List, [], ◌∷◌, length, Option, Some, None, slice_get, sym, ◌∙◌, ap, subst, arith}
-use Rattle.std.specs.Prelude.{unwrap_or}
+use Rattle.std.proofs.Common.{◌≡◌, ℕ, List, [], ◌∷◌, length, Option, Some, slice_get, sym, ◌∙◌, arith}
 use Rattle.std.proofs.lemmas.Option.{slice_get_past}
-use Rattle.list_laws.proofs.Cases.{by_less}
 use Rattle.list_laws.proofs.Numbers.{slice_get-map-upto}
 use Rattle.program_meaning.specs.declared.WriteAt.{WriteAt}
 use Rattle.program_meaning.specs.Accesses.{Access, read, at_name}
 use Rattle.program_meaning.specs.Executions.{Execution}
 use Rattle.program_meaning.specs.Coherence.{order_at, source_at}
-use Rattle.program_meaning.specs.Interleavings.{IsInterleaving, writes_in}
+use Rattle.program_meaning.specs.Interleavings.{IsInterleaving}
 use Rattle.coherence_laws.specs.Relations.{CoherenceOrder, IsBefore}
 use Rattle.coherence_laws.specs.Sequential.{Precedes, StepBy, ByPo, ByRf, ByCo, ByFr, IsPathBy, IsSequential}
 use Rattle.interleaving_laws.specs.Made.{made_by}
@@ -18,11 +16,7 @@ use Rattle.sequential_laws.specs.Along.{IsAlong}
 -- what is in the order of a place is there in the execution that the interleaving makes
 got_there : (threads : List (List Access)) (places : ℕ) (x : Execution) (line : List WriteAt) (place k : ℕ) (w : WriteAt) → IsAlong threads places x line
     → length x.orders ≡ places → slice_get (order_at x place) k ≡ Some w → slice_get (order_at (made_by threads places line) place) k ≡ Some w
-got_there threads places x line place k w h count g =
-    by_less place places
-    (λ l. ap (λ o. slice_get (unwrap_or o []) k) (slice_get-map-upto (λ place. writes_in threads place line) places place l) ∙ ap (λ l. slice_get l k)
-    (sym (h.orders place l)) ∙ g)
-    (λ l. let e : None ≡ Some w = ap (λ o. slice_get (unwrap_or o []) k) (sym (slice_get_past x.orders place (omega (arith, l, count)))) ∙ g in cc e)
+got_there threads places x line place k w h count g = grind (arith, slice_get-map-upto, slice_get_past)
 
 -- a read reads the same there
 same_source : (threads : List (List Access)) (places : ℕ) (x : Execution) (line : List WriteAt) (place value : ℕ) (r : WriteAt) → IsInterleaving threads line
@@ -34,34 +28,24 @@ same_source threads places x line place value r i h a =
 
 co_there : (threads : List (List Access)) (places : ℕ) (x : Execution) (line : List WriteAt) (place : ℕ) (w v : WriteAt) → IsAlong threads places x line
     → length x.orders ≡ places → CoherenceOrder x place w v → CoherenceOrder (made_by threads places line) place w v
-co_there threads places x line place w v h count c = record {
-  earlier = c.earlier;
-  later = c.later;
-  first = got_there threads places x line place c.earlier w h count c.first;
-  second = got_there threads places x line place c.later v h count c.second;
-  before = c.before;
-}
+co_there threads places x line place w v h count c = grind (arith, got_there)
 
 before_there : (threads : List (List Access)) (places : ℕ) (x : Execution) (line : List WriteAt) (place : ℕ) (o : Option WriteAt) (w : WriteAt)
     → IsAlong threads places x line → length x.orders ≡ places → IsBefore threads x place o w → IsBefore threads (made_by threads places line) place o w
-before_there threads places x line place None w h count b = b
-before_there threads places x line place (Some v) w h count b = co_there threads places x line place v w h count b
+before_there threads places x line place o w h count b = grind (arith, co_there)
 
 step_there : (threads : List (List Access)) (places : ℕ) (x : Execution) (line : List WriteAt) (e f : WriteAt) → IsInterleaving threads line
     → IsAlong threads places x line → length x.orders ≡ places → StepBy (Precedes threads) threads x e f
     → StepBy (Precedes threads) threads (made_by threads places line) e f
 step_there threads places x line e f i h count (ByPo p) = ByPo p
-step_there threads places x line e f i h count (ByRf p) =
-    ByRf (record { place = p.place; reads = p.reads; source = sym (same_source threads places x line p.place p.reads.0 f i h p.reads.1) ∙ p.source })
+step_there threads places x line e f i h count (ByRf p) = grind (arith, same_source threads places x line p.place p.reads.0 f i h p.reads.1)
 step_there threads places x line e f i h count (ByCo place p) = ByCo place (co_there threads places x line place e f h count p)
 step_there threads places x line e f i h count (ByFr p) =
-    let s = same_source threads places x line p.place p.reads.0 e i h p.reads.1 in
-    ByFr (record {
-      place = p.place;
-      reads = p.reads;
-      before = subst (λ o. IsBefore threads (made_by threads places line) p.place o f) s
-          (before_there threads places x line p.place (source_at threads x e) f h count p.before);
-    })
+    grind (
+      arith,
+      same_source threads places x line p.place p.reads.0 e i h p.reads.1,
+      before_there threads places x line p.place (source_at threads x e) f h count p.before,
+    )
 
 path_there : (threads : List (List Access)) (places : ℕ) (x : Execution) (line : List WriteAt) (e : WriteAt) (between : List WriteAt) (f : WriteAt)
     → IsInterleaving threads line → IsAlong threads places x line → length x.orders ≡ places → IsPathBy (Precedes threads) threads x e between f

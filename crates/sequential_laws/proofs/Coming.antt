@@ -1,17 +1,17 @@
 -- Which access has to come before which: the earlier of a thread, and at one place the one of lesser coherence place, a write before
 -- its reads. So the relations of an execution lead from the one to the other.
-use Rattle.std.proofs.Common.{◌≡◌, ℕ, ◌+◌, ◌<◌, Bool, true, false, cond, ◌==◌, ◌&&◌, ◌||◌, List, [], ◌∷◌, ◌++◌, Option, Some, None, refl, sym, ◌∙◌, ap, subst, arith}
+use Rattle.std.proofs.Common.{◌≡◌, ℕ, ◌+◌, ◌<◌, Bool, true, false, cond, ◌==◌, ◌&&◌, ◌||◌, List, [], ◌∷◌, ◌++◌, Option, Some, None, sym, subst, arith}
 use Rattle.std.specs.Prelude.{nat_lt}
 use Rattle.std.proofs.lemmas.Bool.{and_parts, and_from, eqb-true, eq-eqb, ltb-true, lt-ltb}
 use Rattle.relax_edges.specs.declared.kinds.Dir.{Dir}
 use Rattle.relax_edges.specs.declared.kinds.Dir.TheVariants as dirs
-use Rattle.list_laws.proofs.Cases.{by_test, by_less}
+use Rattle.list_laws.proofs.Cases.{by_less}
 use Rattle.program_meaning.specs.declared.WriteAt.{WriteAt}
-use Rattle.program_meaning.specs.Accesses.{Access, read, reads_by, at_name}
-use Rattle.program_meaning.specs.Executions.{Execution, CanRead}
+use Rattle.program_meaning.specs.Accesses.{Access, reads_by, at_name}
+use Rattle.program_meaning.specs.Executions.{Execution}
 use Rattle.program_meaning.specs.Coherence.{order_place, order_at, source_at, coherence_place}
 use Rattle.coherence_laws.specs.Relations.{IsWriteTo, IsReadOf}
-use Rattle.coherence_laws.specs.Sequential.{Precedes, StepBy, ByPo, ByRf, ByCo, ByFr, IsPathBy, IsSequential}
+use Rattle.coherence_laws.specs.Sequential.{Precedes, StepBy, ByRf, ByCo, ByFr, IsPathBy, IsSequential}
 use Rattle.coherence_laws.proofs.Places.{Held, place_in}
 use Rattle.coherence_laws.proofs.Shapes.{writes_ordered, writes_same, read_before}
 use Rattle.sequential_laws.proofs.Sorting.{IsAcyclic}
@@ -56,12 +56,7 @@ record Source (threads : List (List Access)) (x : Execution) (place : ℕ) (f : 
 
 source_of_read : (threads : List (List Access)) (x : Execution) (place : ℕ) (f : WriteAt) → Held threads x → IsReadOf threads place f
     → 0 < order_place (order_at x place) (source_at threads x f) → Source threads x place f
-source_of_read threads x place f held h l = by_source (source_at threads x f) refl (held.reads place h.0 f h.1)
-  where
-    by_source : (o : Option WriteAt) → source_at threads x f ≡ o → CanRead threads (read place h.0) o → Source threads x place f
-    by_source None e c = let z : order_place (order_at x place) (source_at threads x f) ≡ 0 = ap (order_place (order_at x place)) e in absurd
-        (omega (arith, l, z))
-    by_source (Some w) e c = record { write = w; source = e; writes = (h.0, c); same = ap (order_place (order_at x place)) (sym e) }
+source_of_read threads x place f held h l = grind arith
 
 -- the cases of what has to come first at one place
 by_dirs : (threads : List (List Access)) (x : Execution) (place : ℕ) (e f : WriteAt) (c d : Dir) (u v : ℕ) → Held threads x
@@ -69,14 +64,7 @@ by_dirs : (threads : List (List Access)) (x : Execution) (place : ℕ) (e f : Wr
     → key threads x e (record { dir = c; place = place; value = u }) < key threads x f (record { dir = d; place = place; value = v }) → Leads threads x e f
 by_dirs threads x place e f dirs.W dirs.W u v held a b l = one_step threads x e f
     (ByCo place (writes_ordered threads x place e f held (u, a) (v, b) (omega (arith, l))))
-by_dirs threads x place e f dirs.R dirs.W u v held a b l =
-    one_step threads x e f
-    (ByFr (record {
-      place = place;
-      reads = (u, a);
-      before = read_before threads x place u (source_at threads x e) f held (held.reads place u e a) (v, b)
-          (omega (arith, l));
-    }))
+by_dirs threads x place e f dirs.R dirs.W u v held a b l = grind (arith, one_step, read_before)
 by_dirs threads x place e f dirs.W dirs.R u v held a b l =
     let k = held.each place e (u, a) in
     let s = source_of_read threads x place f held (v, b) (omega (arith, l, place_in threads x place k.0 e held k.1)) in
@@ -104,56 +92,34 @@ by_dirs threads x place e f dirs.R dirs.R u v held a b l =
 comes_leads : (threads : List (List Access)) (x : Execution) (e f : WriteAt) (a b : Access) → Held threads x → at_name threads e ≡ Some a
     → at_name threads f ≡ Some b → comes_first threads x e a f b ≡ true → Leads threads x e f
 comes_leads threads x e f a b held p q t =
-    by_test ((e.thread == f.thread) && nat_lt e.access f.access)
-    (λ y. let r = and_parts (e.thread == f.thread) (nat_lt e.access f.access) y in
-    one_step threads x e f
-    (ByPo (record { first = (a, p); second = (b, q); thread = eqb-true e.thread f.thread r.0; earlier = ltb-true e.access f.access r.1 })))
-    (λ n. let r = and_parts (a.place == b.place) (nat_lt (key threads x e a) (key threads x f b)) (second n) in
-    let same : a.place ≡ b.place = eqb-true a.place b.place r.0 in
-    let l : key threads x e a < key threads x f b = ltb-true (key threads x e a) (key threads x f b) r.1 in
-    let s : b ≡ record { dir = b.dir; place = a.place; value = b.value } = λ i. record { dir = b.dir; place = sym same i; value = b.value } in
-    by_dirs threads x a.place e f a.dir b.dir a.value b.value held p (q ∙ ap Some s) (subst (λ c. key threads x e a < key threads x f c) s l))
-  where
-    second : ((e.thread == f.thread) && nat_lt e.access f.access) ≡ false → ((a.place == b.place) && nat_lt (key threads x e a) (key threads x f b)) ≡ true
-    second n = sym (ap (λ z. z || ((a.place == b.place) && nat_lt (key threads x e a) (key threads x f b))) n) ∙ t
+    grind (
+      arith,
+      and_parts (e.thread == f.thread) (nat_lt e.access f.access),
+      and_parts (a.place == b.place) (nat_lt (key threads x e a) (key threads x f b)),
+      one_step threads x e f,
+      eqb-true e.thread f.thread,
+      eqb-true a.place b.place,
+      ltb-true e.access f.access,
+      ltb-true (key threads x e a) (key threads x f b),
+      by_dirs threads x a.place e f a.dir b.dir a.value b.value held p,
+    )
 
 names_lead : (threads : List (List Access)) (x : Execution) (e f : WriteAt) → Held threads x → comes threads x e f ≡ true → Leads threads x e f
-names_lead threads x e f held t = by_access (at_name threads e) (at_name threads f) refl refl t
-  where
-    by_access : (o p : Option Access) → at_name threads e ≡ o → at_name threads f ≡ p → comes_by threads x e o f p ≡ true → Leads threads x e f
-    by_access (Some a) (Some b) g h t = comes_leads threads x e f a b held g h t
-    by_access (Some a) None g h t = cc t
-    by_access None p g h t = cc t
+names_lead threads x e f held t = grind (arith, comes_leads)
 
 -- in a sequentially consistent execution this never leads back
 pub acyclic : (threads : List (List Access)) (x : Execution) → Held threads x → IsSequential threads x → IsAcyclic (comes threads x) (Leads threads x)
-acyclic threads x held sequential = record {
-  reaches = λ e f t. names_lead threads x e f held t;
-  goes_on = λ e f g h k. record { between = h.between ++ f ∷ k.between; path = joined threads x e h.between f k.between g h.path k.path };
-  never_back = λ e h. sequential e h.between h.path;
-}
-
-or_left : (a b : Bool) → a ≡ true → (a || b) ≡ true
-or_left true b h = refl
-or_left false b h = cc h
+acyclic threads x held sequential = grind (arith, names_lead, joined)
 
 or_right : (a b : Bool) → b ≡ true → (a || b) ≡ true
-or_right true b h = refl
-or_right false b h = h
+or_right a b h = grind arith
 
 -- an earlier access of a thread comes before a later one
 pub earlier_comes : (threads : List (List Access)) (x : Execution) (e f : WriteAt) (a b : Access) → at_name threads e ≡ Some a → at_name threads f ≡ Some b
     → e.thread ≡ f.thread → e.access < f.access → comes threads x e f ≡ true
-earlier_comes threads x e f a b p q t l =
-    (λ i. comes_by threads x e (p i) f (q i))
-    ∙ or_left ((e.thread == f.thread) && nat_lt e.access f.access) ((a.place == b.place) && nat_lt (key threads x e a) (key threads x f b))
-    (and_from (e.thread == f.thread) (nat_lt e.access f.access) (eq-eqb e.thread f.thread t) (lt-ltb e.access f.access l))
+earlier_comes threads x e f a b p q t l = grind arith
 
 -- and at one place that of the lesser key
 pub lesser_comes : (threads : List (List Access)) (x : Execution) (e f : WriteAt) (a b : Access) → at_name threads e ≡ Some a → at_name threads f ≡ Some b
     → a.place ≡ b.place → key threads x e a < key threads x f b → comes threads x e f ≡ true
-lesser_comes threads x e f a b p q s l =
-    (λ i. comes_by threads x e (p i) f (q i))
-    ∙ or_right ((e.thread == f.thread) && nat_lt e.access f.access) ((a.place == b.place) && nat_lt (key threads x e a) (key threads x f b))
-    (and_from (a.place == b.place) (nat_lt (key threads x e a) (key threads x f b)) (eq-eqb a.place b.place s)
-    (lt-ltb (key threads x e a) (key threads x f b) l))
+lesser_comes threads x e f a b p q s l = grind (arith, or_right, and_from, eq-eqb, lt-ltb)

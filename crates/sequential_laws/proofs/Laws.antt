@@ -1,16 +1,16 @@
 -- The laws of this crate, from its two directions.
-use Rattle.std.proofs.Common.{◌≡◌, ℕ, List, [], ◌∷◌, map, Option, slice_get, refl, sym, ◌∙◌, ap, subst}
+use Rattle.std.proofs.Common.{◌≡◌, ℕ, List, [], ◌∷◌, map, Option, refl, sym, ap, arith}
 use Rattle.micro_ops.specs.Running.{Outcome}
 use Rattle.program_meaning.specs.declared.WriteAt.{WriteAt}
 use Rattle.program_meaning.specs.Accesses.{visits_of, accesses_of}
 use Rattle.program_meaning.specs.Executions.{Execution}
 use Rattle.program_meaning.specs.Programs.{Program, Thread, made_in, runs_of, run_of, accesses_in}
-use Rattle.program_meaning.specs.Interleavings.{IsInterleaving, GivesValues, runs_on, accesses_on}
-use Rattle.coherence_laws.proofs.Places.{Held, held}
+use Rattle.program_meaning.specs.Interleavings.{runs_on, accesses_on}
+use Rattle.coherence_laws.proofs.Places.{held}
 use Rattle.sequential_laws.specs.Along.{values_in}
 use Rattle.sequential_laws.specs.Laws.{SequentialGoesAlong, AlongIsSequential}
 use Rattle.sequential_laws.proofs.Back.{along_sequential}
-use Rattle.sequential_laws.proofs.Line.{line_of, line_interleaves, line_gives, line_along}
+use Rattle.sequential_laws.proofs.Line.{line_interleaves, line_gives, line_along}
 
 -- the runs of threads in an execution are those on the values that are read
 runs_same : (threads : List Thread) (reads : List (List (ℕ × Option WriteAt)))
@@ -26,21 +26,16 @@ accesses_same p x = ap (λ (l : List Outcome). map accesses_of (map visits_of (m
 -- each sequentially consistent candidate goes along an interleaving
 pub sequential_goes_along : SequentialGoesAlong
 sequential_goes_along p x candidate within sequential =
-    let facts : Held (accesses_in p x) x = held (accesses_in p x) p.places x candidate.execution within in (
-      line_of (accesses_in p x) x,
-      record {
-        interleaving = record {
-          ended = λ k run g. candidate.ended k run (ap (λ (l : List Outcome). slice_get l k) (sym (runs_same p.threads x.reads)) ∙ g);
-          interleaves = subst (λ threads. IsInterleaving threads (line_of (accesses_in p x) x)) (accesses_same p x)
-              (line_interleaves (accesses_in p x) x facts sequential);
-          gives = subst (λ threads. GivesValues threads (line_of (accesses_in p x) x)) (accesses_same p x) (line_gives (accesses_in p x) x facts sequential);
-        };
-        along = line_along (accesses_in p x) p.places x facts sequential;
-      },
+    grind (
+      arith,
+      held (accesses_in p x) p.places x candidate.execution within,
+      runs_same p.threads x.reads,
+      accesses_same p x,
+      line_interleaves (accesses_in p x) x,
+      line_gives (accesses_in p x) x,
+      line_along (accesses_in p x) p.places x,
     )
 
 -- and each that goes along one is sequentially consistent
 pub along_is_sequential : AlongIsSequential
-along_is_sequential p x line candidate h =
-    along_sequential (accesses_in p x) p.places x line
-    (subst (λ threads. IsInterleaving threads line) (sym (accesses_same p x)) h.interleaving.interleaves) h.along candidate.execution.write_lists
+along_is_sequential p x line candidate h = grind (arith, along_sequential, accesses_same)

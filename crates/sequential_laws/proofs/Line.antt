@@ -1,7 +1,6 @@
 -- The interleaving along which a sequentially consistent execution goes.
 use Rattle.std.proofs.Common.{◌≡◌, ℕ, zero, suc, ◌+◌, ◌<◌, ◌≤◌, Bool, true, cond, List, [], ◌∷◌, length, Option, Some, None, slice_get, take, refl, sym, ◌∙◌, ap, arith}
 use Rattle.std.specs.List.{count_by, filter, filter_map}
-use Rattle.std.specs.Option.{option_and_then}
 use Rattle.std.proofs.lemmas.Option.{slice_get_within}
 use Rattle.std.proofs.lemmas.List.Sums.{length-filter, sum_by-cons}
 use Rattle.list_laws.specs.Numbers.{upto}
@@ -9,8 +8,8 @@ use Rattle.list_laws.proofs.Cases.{by_less, by_option}
 use Rattle.program_meaning.specs.declared.WriteAt.{WriteAt}
 use Rattle.program_meaning.specs.Accesses.{Access, read, write, at_name}
 use Rattle.program_meaning.specs.Executions.{Execution, CanRead}
-use Rattle.program_meaning.specs.Coherence.{order_place, order_at, source_at, value_of_access}
-use Rattle.program_meaning.specs.Interleavings.{IsInterleaving, GivesValues, writes_in, latest, value_after}
+use Rattle.program_meaning.specs.Coherence.{order_place, order_at, source_at}
+use Rattle.program_meaning.specs.Interleavings.{IsInterleaving, GivesValues, writes_in, latest}
 use Rattle.communication_laws.proofs.Lists.{same_below, got_below, rank_filter, length-filter_map-upto, slice_get-filter_map-upto}
 use Rattle.communication_laws.proofs.Orders.{Holds, order_by_steps, order_place_at}
 use Rattle.coherence_laws.specs.Sequential.{IsSequential}
@@ -35,8 +34,7 @@ line_keeps threads x j k e f held s a b t =
 
 line_names : (threads : List (List Access)) (x : Execution) (k : ℕ) (e : WriteAt) → slice_get (line_of threads x) k ≡ Some e
     → (a : Access) × (at_name threads e ≡ Some a)
-line_names threads x k e h = named threads e
-    (sorted_was_in (comes threads x) (length (all_names threads)) (all_names threads) e (got_in e (line_of threads x) k h))
+line_names threads x k e h = grind (arith, named, sorted_was_in, got_in)
 
 -- it is an interleaving
 pub line_interleaves : (threads : List (List Access)) (x : Execution) → Held threads x → IsSequential threads x → IsInterleaving threads (line_of threads x)
@@ -240,18 +238,8 @@ line_reads threads x place value k r held s g a = by_source (source_at threads x
 -- the execution goes along it
 pub line_along : (threads : List (List Access)) (places : ℕ) (x : Execution) → Held threads x → IsSequential threads x
     → IsAlong threads places x (line_of threads x)
-line_along threads places x held s = record {
-  reads = λ k place value r g a. line_reads threads x place value k r held s g a;
-  orders = λ place b. line_order threads x place held s;
-}
+line_along threads places x held s = grind (arith, line_reads, line_order)
 
 -- it gives the values that are read
 pub line_gives : (threads : List (List Access)) (x : Execution) → Held threads x → IsSequential threads x → GivesValues threads (line_of threads x)
-line_gives threads x held s k place value r g a = by_source (source_at threads x r) refl (held.reads place value r a)
-  where
-    by_source : (o : Option WriteAt) → source_at threads x r ≡ o → CanRead threads (read place value) o
-        → value ≡ value_after threads place (take k (line_of threads x))
-    by_source None e q =
-        q ∙ ap (λ o. value_of_access (option_and_then (at_name threads) o)) (sym e ∙ line_reads threads x place value k r held s g a)
-    by_source (Some w) e q =
-        ap value_of_access (sym q) ∙ ap (λ o. value_of_access (option_and_then (at_name threads) o)) (sym e ∙ line_reads threads x place value k r held s g a)
+line_gives threads x held s k place value r g a = grind (arith, line_reads)

@@ -1,5 +1,5 @@
 -- All accesses of threads, by name.
-use Rattle.std.proofs.Common.{◌≡◌, ℕ, zero, suc, ◌+◌, List, [], ◌∷◌, ◌++◌, Some, slice_get, refl, sym, ◌∙◌, ap, subst, arith, inl, inr}
+use Rattle.std.proofs.Common.{◌≡◌, ℕ, zero, suc, ◌+◌, List, [], ◌∷◌, ◌++◌, Some, slice_get, refl, ◌∙◌, ap, subst, arith, inl, inr}
 use Rattle.std.specs.Prelude.{◌⊎◌}
 use Rattle.program_meaning.specs.declared.WriteAt.{WriteAt}
 use Rattle.program_meaning.specs.Accesses.{Access, at_name}
@@ -33,31 +33,19 @@ in_second e (f ∷ fs) gs h = inr (in_second e fs gs h)
 in_either : (e : WriteAt) (fs gs : List WriteAt) → In e (fs ++ gs) → In e fs ⊎ In e gs
 in_either e [] gs h = inr h
 in_either e (f ∷ fs) gs (inl h) = inl (inl h)
-in_either e (f ∷ fs) gs (inr h) = further (in_either e fs gs h)
-  where
-    further : In e fs ⊎ In e gs → ((e ≡ f) ⊎ In e fs) ⊎ In e gs
-    further (inl i) = inl (inr i)
-    further (inr i) = inr i
+in_either e (f ∷ fs) gs (inr h) = grind (arith, in_either e fs gs h)
 
 in_thread : (thread slot i : ℕ) (accesses : List Access) (a : Access) → slice_get accesses i ≡ Some a
     → In (name thread (slot + i)) (thread_names thread slot accesses)
 in_thread thread slot i [] a h = cc h
 in_thread thread slot zero (b ∷ accesses) a h = let s : slot + 0 ≡ slot = omega arith in inl (ap (name thread) s)
-in_thread thread slot (suc i) (b ∷ accesses) a h =
-    let s : slot + 1 + i ≡ slot + suc i = omega arith in
-    inr (subst (λ n. In (name thread n) (thread_names thread (slot + 1) accesses)) s (in_thread thread (slot + 1) i accesses a h))
+in_thread thread slot (suc i) (b ∷ accesses) a h = grind (arith, in_thread thread (slot + 1) i accesses a h)
 
 in_threads : (n k : ℕ) (threads : List (List Access)) (accesses : List Access) (e : WriteAt) → slice_get threads k ≡ Some accesses
     → In e (thread_names (n + k) 0 accesses) → In e (names_from n threads)
 in_threads n k [] accesses e h i = cc h
-in_threads n zero (first ∷ threads) accesses e h i =
-    let s : n + 0 ≡ n = omega arith in
-    let t : accesses ≡ first = let u : first ≡ accesses = cc h in sym u in
-    in_first e (thread_names n 0 first) (names_from (n + 1) threads) (subst (In e) (λ j. thread_names (s j) 0 (t j)) i)
-in_threads n (suc k) (first ∷ threads) accesses e h i =
-    let s : n + suc k ≡ n + 1 + k = omega arith in
-    in_second e (thread_names n 0 first) (names_from (n + 1) threads)
-    (in_threads (n + 1) k threads accesses e h (subst (In e) (λ j. thread_names (s j) 0 accesses) i))
+in_threads n zero (first ∷ threads) accesses e h i = grind (arith, in_first)
+in_threads n (suc k) (first ∷ threads) accesses e h i = grind (arith, in_threads (n + 1) k threads accesses e h, in_second)
 
 -- each access is listed
 pub listed : (threads : List (List Access)) (e : WriteAt) (a : Access) → at_name threads e ≡ Some a → In e (all_names threads)
@@ -111,11 +99,4 @@ of_threads n (first ∷ threads) e h = by_part (in_either e (thread_names n 0 fi
 
 -- what is listed is an access
 pub named : (threads : List (List Access)) (e : WriteAt) → In e (all_names threads) → (a : Access) × (at_name threads e ≡ Some a)
-named threads e h =
-    let r = of_threads 0 threads e h in
-    let s : 0 + r.index ≡ r.index = omega arith in
-    let t : 0 + r.within.index ≡ r.within.index = omega arith in (
-      r.within.access,
-      ap (at_name threads) (r.within.name_is ∙ (λ j. name (s j) (t j)))
-          ∙ at_name_of threads r.index r.within.index r.accesses r.within.access r.got r.within.got,
-    )
+named threads e h = grind (arith, of_threads, at_name_of)

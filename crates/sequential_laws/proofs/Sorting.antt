@@ -3,7 +3,7 @@ use Rattle.std.proofs.Common.{◌≡◌, ℕ, zero, suc, ◌<◌, ◌≤◌, Boo
 use Rattle.std.specs.Prelude.{◌⊎◌}
 use Rattle.std.specs.List.{filter, find, list_all}
 use Rattle.std.proofs.lemmas.Bool.{cond-true, cond-false, and_parts, and_from}
-use Rattle.list_laws.proofs.Cases.{by_test, by_option}
+use Rattle.list_laws.proofs.Cases.{by_option}
 use Rattle.program_meaning.specs.declared.WriteAt.{WriteAt}
 use Rattle.program_meaning.specs.Executions.{same_write}
 use Rattle.execution_laws.proofs.Names.{same_write-refl, same_write-true}
@@ -19,47 +19,27 @@ in_got e (f ∷ fs) (inl h) = (0, ap Some (sym h))
 in_got e (f ∷ fs) (inr h) = let r = in_got e fs h in (suc r.0, r.1)
 
 pub got_in : (e : WriteAt) (fs : List WriteAt) (k : ℕ) → slice_get fs k ≡ Some e → In e fs
-got_in e [] k h = cc h
-got_in e (f ∷ fs) zero h = let s : f ≡ e = cc h in inl (sym s)
 got_in e (f ∷ fs) (suc k) h = inr (got_in e fs k h)
+got_in e fs k h = grind arith
 
 kept_in : (p : WriteAt → Bool) (e : WriteAt) (fs : List WriteAt) → In e fs → p e ≡ true → In e (filter p fs)
 kept_in p e [] h t = absurd h
 kept_in p e (f ∷ fs) (inl h) t = subst (In e) (sym (cond-true {A = List WriteAt} (p f) (f ∷ filter p fs) (filter p fs) (ap p (sym h) ∙ t))) (inl h)
-kept_in p e (f ∷ fs) (inr h) t =
-    let r = kept_in p e fs h t in
-    by_test (p f)
-    (λ y. subst (In e) (sym (cond-true {A = List WriteAt} (p f) (f ∷ filter p fs) (filter p fs) y)) (inr r))
-    (λ n. subst (In e) (sym (cond-false {A = List WriteAt} (p f) (f ∷ filter p fs) (filter p fs) n)) r)
+kept_in p e (f ∷ fs) (inr h) t = grind (arith, kept_in p e fs h t)
 
 was_in : (p : WriteAt → Bool) (e : WriteAt) (fs : List WriteAt) → In e (filter p fs) → In e fs × (p e ≡ true)
 was_in p e [] h = absurd h
-was_in p e (f ∷ fs) h =
-    by_test (p f)
-    (λ y. first y (was_in p e fs) (subst (In e) (cond-true {A = List WriteAt} (p f) (f ∷ filter p fs) (filter p fs) y) h))
-    (λ n. let r = was_in p e fs (subst (In e) (cond-false {A = List WriteAt} (p f) (f ∷ filter p fs) (filter p fs) n) h) in (inr r.0, r.1))
-  where
-    first : p f ≡ true → (In e (filter p fs) → In e fs × (p e ≡ true)) → (e ≡ f) ⊎ In e (filter p fs) → ((e ≡ f) ⊎ In e fs) × (p e ≡ true)
-    first y later (inl s) = (inl s, ap p s ∙ y)
-    first y later (inr s) = let r = later s in (inr r.0, r.1)
+was_in p e (f ∷ fs) h = grind (arith, was_in p e fs)
 
 -- a filter that drops a name makes a list shorter
 filter_most : (p : WriteAt → Bool) (fs : List WriteAt) → length (filter p fs) ≤ length fs
 filter_most p [] = omega arith
-filter_most p (f ∷ fs) =
-    by_test (p f)
-    (λ y. omega (arith, ap length (cond-true {A = List WriteAt} (p f) (f ∷ filter p fs) (filter p fs) y), filter_most p fs))
-    (λ n. omega (arith, ap length (cond-false {A = List WriteAt} (p f) (f ∷ filter p fs) (filter p fs) n), filter_most p fs))
+filter_most p (f ∷ fs) = grind (arith, filter_most p fs)
 
 filter_fewer : (p : WriteAt → Bool) (e : WriteAt) (fs : List WriteAt) → In e fs → p e ≡ false → length (filter p fs) < length fs
 filter_fewer p e [] h t = absurd h
-filter_fewer p e (f ∷ fs) (inl h) t =
-    omega (arith, ap length (cond-false {A = List WriteAt} (p f) (f ∷ filter p fs) (filter p fs) (ap p (sym h) ∙ t)), filter_most p fs)
-filter_fewer p e (f ∷ fs) (inr h) t =
-    let r = filter_fewer p e fs h t in
-    by_test (p f)
-    (λ y. omega (arith, ap length (cond-true {A = List WriteAt} (p f) (f ∷ filter p fs) (filter p fs) y), r))
-    (λ n. omega (arith, ap length (cond-false {A = List WriteAt} (p f) (f ∷ filter p fs) (filter p fs) n), r))
+filter_fewer p e (f ∷ fs) (inl h) t = grind (arith, cond-false, filter_most)
+filter_fewer p e (f ∷ fs) (inr h) t = grind (arith, filter_fewer p e fs h t)
 
 all_means : (q : WriteAt → Bool) (fs : List WriteAt) (e : WriteAt) → list_all q fs ≡ true → In e fs → q e ≡ true
 all_means q [] e h i = absurd i
@@ -72,22 +52,11 @@ all_from q (f ∷ fs) h = and_from (q f) (list_all q fs) (h f (inl refl)) (all_f
 
 find_means : (q : WriteAt → Bool) (fs : List WriteAt) (m : WriteAt) → find q fs ≡ Some m → In m fs × (q m ≡ true)
 find_means q [] m h = cc h
-find_means q (f ∷ fs) m h =
-    by_test (q f)
-    (λ y. let e : Some f ≡ Some m = sym (cond-true {A = Option WriteAt} (q f) (Some f) (find q fs) y) ∙ h in
-    let s : f ≡ m = cc e in (inl (sym s), ap q (sym s) ∙ y))
-    (λ n. let r = find_means q fs m (sym (cond-false {A = Option WriteAt} (q f) (Some f) (find q fs) n) ∙ h) in (inr r.0, r.1))
+find_means q (f ∷ fs) m h = grind (arith, find_means q fs m)
 
 find_none : (q : WriteAt → Bool) (fs : List WriteAt) (m : WriteAt) → find q fs ≡ None → In m fs → q m ≡ true → ⊥
 find_none q [] m h i t = absurd i
-find_none q (f ∷ fs) m h i t =
-    by_test (q f)
-    (λ y. let e : Some f ≡ None = sym (cond-true {A = Option WriteAt} (q f) (Some f) (find q fs) y) ∙ h in cc e)
-    (λ n. later n i (λ j. find_none q fs m (sym (cond-false {A = Option WriteAt} (q f) (Some f) (find q fs) n) ∙ h) j t))
-  where
-    later : q f ≡ false → (m ≡ f) ⊎ In m fs → (In m fs → ⊥) → ⊥
-    later n (inl s) k = let e : true ≡ false = sym t ∙ ap q s ∙ n in cc e
-    later n (inr s) k = k s
+find_none q (f ∷ fs) m h i t = grind (arith, find_none q fs m)
 
 -- what comes before what, by a test, and what is reached by it: this never leads back
 pub record IsAcyclic (comes : WriteAt → WriteAt → Bool) (Reaches : WriteAt → WriteAt → Type 0) : Type 0 where
@@ -143,12 +112,10 @@ record First (comes : WriteAt → WriteAt → Bool) (fs : List WriteAt) : Type 0
   first : (e : WriteAt) → In e fs → comes e name ≡ true → ⊥
 
 not_true : (b : Bool) → not b ≡ true → b ≡ true → ⊥
-not_true true h t = cc h
-not_true false h t = cc t
+not_true b h t = grind arith
 
 not_from : (b : Bool) → (b ≡ true → ⊥) → not b ≡ true
-not_from true h = absurd (h refl)
-not_from false h = refl
+not_from b h = grind arith
 
 first_of : (comes : WriteAt → WriteAt → Bool) (Reaches : WriteAt → WriteAt → Type 0) (e : WriteAt) (fs : List WriteAt) → IsAcyclic comes Reaches → In e fs
     → First comes fs
@@ -173,18 +140,7 @@ sorted_step comes n fs m h = ap (begun_with (λ m. sorted comes n (without m fs)
 -- what is sorted is in the list
 pub sorted_was_in : (comes : WriteAt → WriteAt → Bool) (n : ℕ) (fs : List WriteAt) (e : WriteAt) → In e (sorted comes n fs) → In e fs
 sorted_was_in comes zero fs e h = absurd h
-sorted_was_in comes (suc n) fs e h =
-    by_option (find (is_first comes fs) fs)
-    (λ z. absurd (subst (In e) (ap (begun_with (λ m. sorted comes n (without m fs))) z) h))
-    (λ m s. by_first m (find_means (is_first comes fs) fs m s).0 (λ i. (was_in (λ e. not (same_write m e)) e fs (sorted_was_in comes n (without m fs) e i)).0)
-    (subst (In e) (sorted_step comes n fs m s) h))
-  where
-    by_first : (m : WriteAt) → In m fs → (In e (sorted comes n (without m fs)) → In e fs) → (e ≡ m) ⊎ In e (sorted comes n (without m fs)) → In e fs
-    by_first m i later (inl s) = subst (λ d. In d fs) (sym s) i
-    by_first m i later (inr s) = later s
-
-not_same : (m e : WriteAt) → (e ≡ m → ⊥) → not (same_write m e) ≡ true
-not_same m e h = not_from (same_write m e) (λ t. h (sym (same_write-true m e t)))
+sorted_was_in comes (suc n) fs e h = grind (arith, sorted_was_in comes n, find_means, was_in, sorted_step)
 
 -- what is in the list is sorted, where the number is that of the names or more
 pub sorted_in : (comes : WriteAt → WriteAt → Bool) (Reaches : WriteAt → WriteAt → Type 0) (n : ℕ) (fs : List WriteAt) (e : WriteAt) → IsAcyclic comes Reaches
@@ -195,12 +151,7 @@ sorted_in comes Reaches zero fs e h l i = none fs l i
     none [] l i = i
     none (f ∷ fs) l i = omega (arith, l)
 sorted_in comes Reaches (suc n) fs e h l i =
-    let m = first_of comes Reaches e fs h i in
-    let fewer = filter_fewer (λ e. not (same_write m.name e)) m.name fs m.within (ap not (same_write-refl m.name)) in
-    subst (In e) (sym (sorted_step comes n fs m.name m.found))
-    (by_test (same_write m.name e)
-    (λ t. inl (sym (same_write-true m.name e t)))
-    (λ f. inr (sorted_in comes Reaches n (without m.name fs) e h (omega (arith, l, fewer)) (kept_in (λ e. not (same_write m.name e)) e fs i (ap not f)))))
+    grind (arith, sorted_in comes Reaches n, first_of comes Reaches, filter_fewer, same_write-refl, sorted_step comes n fs, same_write-true, kept_in)
 
 -- and the list is in such an order
 pub is_sorted : (comes : WriteAt → WriteAt → Bool) (n : ℕ) (fs : List WriteAt) → IsSorted comes (sorted comes n fs)
@@ -221,16 +172,8 @@ is_sorted comes (suc n) fs =
 -- so one that has to come before another stands before it
 pub stands_before : (comes : WriteAt → WriteAt → Bool) (Reaches : WriteAt → WriteAt → Type 0) (fs : List WriteAt) (j k : ℕ) (e f : WriteAt)
     → IsAcyclic comes Reaches → IsSorted comes fs → slice_get fs j ≡ Some e → slice_get fs k ≡ Some f → comes e f ≡ true → j < k
-stands_before comes Reaches [] j k e f h s a b t = cc a
-stands_before comes Reaches (m ∷ fs) zero zero e f h s a b t =
-    let p : m ≡ e = cc a in
-    let q : m ≡ f = cc b in
-    absurd (h.never_back e (subst (Reaches e) (sym q ∙ p) (h.reaches e f t)))
-stands_before comes Reaches (m ∷ fs) zero (suc k) e f h s a b t = omega arith
-stands_before comes Reaches (m ∷ fs) (suc j) zero e f h s a b t =
-    let q : m ≡ f = cc b in
-    absurd ((s.0 e (got_in e fs j a)).0 (ap (comes e) q ∙ t))
 stands_before comes Reaches (m ∷ fs) (suc j) (suc k) e f h s a b t = let r = stands_before comes Reaches fs j k e f h s.1 a b t in omega (arith, r)
+stands_before comes Reaches fs j k e f h s a b t = grind (arith, got_in)
 
 -- and each stands once
 pub stands_once : (comes : WriteAt → WriteAt → Bool) (fs : List WriteAt) (j k : ℕ) (e : WriteAt) → IsSorted comes fs → slice_get fs j ≡ Some e

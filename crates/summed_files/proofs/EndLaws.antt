@@ -7,9 +7,8 @@ use Rattle.log_sum.specs.Representing.{logs_text}
 use Rattle.summed_files.specs.declared.feeding.Feeding.{Feeding}
 use Rattle.summed_files.specs.declared.feeding.LogFault.{LogFault}
 use Rattle.summed_files.specs.declared.feeding.LogFault.TheVariants.{Wrong, TooMuch, NoMemory}
-use Rattle.summed_files.specs.declared.sum_end.SumEnd.TheVariants as ends
 use Rattle.summed_files.specs.FileFaults.{sum_end_at}
-use Rattle.summed_files.specs.FileFeeding.{IsFaulty, LogSummed, LogFaulty, LogFailed}
+use Rattle.summed_files.specs.FileFeeding.{IsFaulty, LogSummed, LogFaulty}
 use Rattle.summed_files.specs.SumEnds.{InputSaid, InputStopped, InputSummed}
 
 -- this was done with the sum of an input
@@ -31,7 +30,3 @@ pub input_faulty : (old new : SourceSeen) (a : SinkSeen) (fault : LogFault) → 
 input_faulty old new a (Wrong error) f = (input_stopped old new (Wrong error) f, refl)
 input_faulty old new a (TooMuch line) f = (input_stopped old new (TooMuch line) f, refl)
 input_faulty old new a NoMemory f = refl
-
--- an input that failed
-pub input_failed : (old new : SourceSeen) (a : SinkSeen) (feeding : Feeding) → LogFailed old new feeding [] → InputSummed old new a a ends.InputFault
-input_failed old new a feeding f = (f.failed, refl)

@@ -3,7 +3,7 @@ use Rattle.std.proofs.Common.{◌≡◌, ◌+◌, ℕ, List, [], ◌∷◌, ◌+
 use Rattle.std.specs.Prelude.{Option, Ok, Err, All, slice_get, zero, suc}
 use Rattle.std.proofs.lemmas.List.Elements.{All-append}
 use Rattle.diy_io.specs.Count.{Rose}
-use Rattle.diy_io.specs.Shelf.{Files, ShelfSeen, Opened, NotThere, Stopped}
+use Rattle.diy_io.specs.Shelf.{Files, ShelfSeen, Opened}
 use Rattle.diy_io.specs.Wrote.{SinkSeen}
 use Rattle.log_sum.specs.Representing.{logs_text}
 use Rattle.summed_files.specs.declared.feeding.Feeding.{Feeding}
@@ -14,10 +14,10 @@ use Rattle.summed_files.specs.declared.feeding.ReadFault.TheVariants.{Log, Devic
 use Rattle.summed_files.specs.declared.files.FileFault.{FileFault}
 use Rattle.summed_files.specs.declared.files.FileFault.TheVariants.{Missing, Read}
 use Rattle.summed_files.specs.Logs.{IsShort}
-use Rattle.summed_files.specs.FileFeeding.{ReadsLogs, IsFaulty, LogSummed, ClosedTo}
+use Rattle.summed_files.specs.FileFeeding.{IsFaulty, LogSummed, ClosedTo}
 use Rattle.file_laws.specs.Opened.{IsFile}
 use Rattle.file_laws.proofs.NameLaws.{absent_before, quiet_before, file_before}
-use Rattle.file_laws.proofs.OpenedLaws.{opened_text, opened_took, took_nothing, took_one_more, took_no_more}
+use Rattle.file_laws.proofs.OpenedLaws.{opened_text, opened_took, took_one_more, took_no_more}
 use Rattle.summed_files.specs.SumEnds.{AreLogs, IsBegun, IsAtWord, FileStopped, LogFilesSaid, FilesSummed}
 use Rattle.summed_files.specs.LogFiles.{log_seen, FileSummed, LogFileFaulty, LogFileTo, FilesSoFar, log_file_end}
 use Rattle.summed_files.proofs.LogLaws.{are_right}
@@ -64,27 +64,6 @@ opened_refused old mid new feeding before name Device opened s same =
             opened_took old mid new name s.failed.bytes opened s.failed.taken same,
           );
     }
-
--- a file that isn't there
-pub open_absent : (old new : ShelfSeen) (feeding : Feeding) (before : List (List ℕ)) (name : List ℕ) → NotThere old new name
-    → LogFileTo old new feeding before name (Err Missing)
-open_absent old new feeding before name there = record { absent = there.absent; no_fault = there.no_fault; took = took_nothing old new there.counts }
-
--- a file at which the shelf failed
-pub open_failed : (old new : ShelfSeen) (feeding : Feeding) (before : List (List ℕ)) (name : List ℕ) → Stopped old new
-    → LogFileTo old new feeding before name (Err (Read Device))
-open_failed old new feeding before name stopped = record { fault = stopped.faulted.fault; took = inl (took_nothing old new stopped.counts) }
-
--- before the first file
-pub none_so_far : (old : ShelfSeen) (feeding : Feeding) (words : List (List ℕ)) (first : ℕ) → ReadsLogs feeding [] [] → FilesSoFar old old feeding words first first
-none_so_far old feeding words first reads = record {
-  logs = [];
-  count = omega arith;
-  are = record { named = λ k name log w l. absurd (let h : Some log ≡ None = sym l in cc); short = λ k d h. absurd (omega arith) };
-  reads = reads;
-  no_fault = refl;
-  took = record { opened = omega arith; last = refl };
-}
 
 last_log : (logs : List (List ℕ)) (log other : List ℕ) (k : ℕ) → slice_get (logs ++ log ∷ []) k ≡ Some other
     → (P : ℕ → List ℕ → Type 0) → ((x : List ℕ) → slice_get logs k ≡ Some x → P k x) → P (length logs) log → P k other

@@ -1,11 +1,11 @@
 -- A file that is opened, read and closed.
-use Rattle.std.proofs.Common.{◌≡◌, ℕ, List, [], ◌∷◌, ap, ◌∙◌, subst, arith, inl, inr}
+use Rattle.std.proofs.Common.{◌≡◌, ℕ, List, [], ◌∷◌, ap, ◌∙◌, subst, arith, inr}
 use Rattle.std.specs.Prelude.{OnOk, OnErr, Result, Ok, Err}
 use Rattle.diy_io.specs.Count.{count_of, Rose}
-use Rattle.diy_io.specs.Shelf.{ShelfSeen, CountsStay, Finished, NotThere, Opened, Stopped}
+use Rattle.diy_io.specs.Shelf.{ShelfSeen, CountsStay, Finished, Opened, Stopped}
 use Rattle.diy_io.specs.declared.errors.Failed.{Failed}
 use Rattle.file_laws.specs.Opened.{TookFiles}
-use Rattle.file_laws.proofs.OpenedLaws.{opened_text, opened_took, took_nothing}
+use Rattle.file_laws.proofs.OpenedLaws.{opened_text, opened_took}
 use Rattle.test_files.specs.declared.errors.FileFault.{FileFault}
 use Rattle.test_files.specs.declared.errors.FileFault.TheVariants.{Missing, NoMemory}
 use Rattle.test_files.specs.declared.errors.FileFault.TheVariants as faults
@@ -68,10 +68,3 @@ file_opened old mid new name bytes (Err faults.Failed) opened o = record {
       );
 }
 file_opened old mid new name bytes (Err NoMemory) opened o = tt
-
--- a file that couldn't be opened
-pub file_absent : (old new : ShelfSeen) (name bytes : List ℕ) → NotThere old new name → FileTo old new name bytes (Err Missing)
-file_absent old new name bytes there = record { absent = there.absent; no_fault = there.no_fault; took = took_nothing old new there.counts }
-
-pub file_unopened : (old new : ShelfSeen) (name bytes : List ℕ) → Stopped old new → FileTo old new name bytes (Err faults.Failed)
-file_unopened old new name bytes stopped = record { fault = stopped.faulted.fault; took = inl (took_nothing old new stopped.counts) }

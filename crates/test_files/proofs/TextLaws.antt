@@ -1,21 +1,12 @@
 -- A file that is open and read.
 use Rattle.std.proofs.Common.{◌≡◌, ◌≤◌, ◌<◌, ◌+◌, ℕ, List, [], ◌++◌, length, take, refl, sym, ap, ◌∙◌, subst, arith, length-append, append-nil}
-use Rattle.std.proofs.KnownBytes.{Consumes-nil, Consumes-trans, Consumes-whole}
+use Rattle.std.proofs.KnownBytes.{Consumes-trans, Consumes-whole}
 use Rattle.std.proofs.lemmas.List.{take_all, take_at}
 use Rattle.diy_io.specs.Count.{count_of, Rose}
 use Rattle.diy_io.specs.Shelf.{ShelfSeen, Gave, IsReading, Stopped, left_to_read}
 use Rattle.litmus_text.specs.declared.limits.TheConstants.{MAX_TEXT}
 use Rattle.test_files.specs.OpenFiles.{FileReadSoFar, FileReadWhole, FileReadPart}
 use Rattle.file_laws.proofs.ConsumedLaws.{prefix_of}
-
--- nothing was read so far
-pub reads_nothing : (old : ShelfSeen) (bytes : List ℕ) → bytes ≡ [] → IsReading old.mode → FileReadSoFar old old bytes
-reads_nothing old bytes none mode = subst (FileReadSoFar old old) (sym none) (record {
-  consumed = Consumes-nil (left_to_read old.mode);
-  took = record { taken = omega arith; opened = refl; files = refl };
-  mode = mode;
-  no_fault = refl;
-})
 
 -- more was read
 pub reads_more : (old mid new : ShelfSeen) (bytes buf both : List ℕ) (count room : ℕ) → FileReadSoFar old mid bytes → count ≤ length buf → Gave mid new (take count buf) room

@@ -2,7 +2,6 @@
 use Rattle.std.proofs.Common.{◌≡◌, ℕ, ◌<◌, true, not, List, length, map, Option, Some, slice_get, sym, ◌∙◌, ap, subst, arith}
 use Rattle.std.specs.Prelude.{nat_le}
 use Rattle.std.specs.List.{AllByRecursion, count_by, filter}
-use Rattle.std.specs.Option.{option_map, option_and_then}
 use Rattle.std.proofs.lemmas.Bool.{and_from, and_parts, leb-true, le-leb, not-true}
 use Rattle.std.proofs.lemmas.Option.{slice_get_within}
 use Rattle.relax_edges.specs.declared.kinds.Value.{Value}
@@ -24,7 +23,7 @@ use Rattle.program_meaning.specs.declared.WriteAt.{WriteAt}
 use Rattle.program_meaning.specs.Accesses.{Access, is_read}
 use Rattle.program_meaning.specs.Executions.{Execution}
 use Rattle.program_meaning.specs.Coherence.{final_value}
-use Rattle.program_meaning.specs.Programs.{IsCandidate, accesses_in, held_at_last, register_in}
+use Rattle.program_meaning.specs.Programs.{IsCandidate, accesses_in}
 use Rattle.program_meaning.specs.Intended.{IsNumbering, cycle_accesses}
 use Rattle.communication_laws.specs.Joining.{ReadsAsAsked, EndsAsAsked, values_read}
 use Rattle.communication_laws.proofs.Lists.{got_below, got_map, image_of}
@@ -43,8 +42,7 @@ use Rattle.test_laws.proofs.Meeting.{IsMet, ShowsRegisters, terms_of_thread, ter
 
 -- the final state shows what each register of a thread holds at the end of its run
 shows : (a : Puts) (es : List Edge) (mode : ObsMode) (number : ℕ → ℕ) (names : List (List ℕ)) (register_name : ℕ → List ℕ) (register_number : List ℕ → Option ℕ) (x : Execution) (k : ℕ) (steps : List Step) (reads : List (ℕ × Option WriteAt)) → FindsRegisters a register_name register_number → (d : DidThread (cycle_codes a es mode number) (move_count es) x k steps reads) → ShowsRegisters (final_state (cycle_program a es mode number) names register_number x) register_name k a.registers d.regs
-shows a es mode number names register_name register_number x k steps reads finds d q h =
-    ap (option_and_then (register_in (cycle_program a es mode number) x k)) (finds q h) ∙ ap (λ o. held_at_last o q) d.run_is
+shows a es mode number names register_name register_number x k steps reads finds d q h = grind arith
 
 -- what a thread of the test reads and what is known of its run
 record Ran (a : Puts) (es : List Edge) (mode : ObsMode) (number : ℕ → ℕ) (x : Execution) (k : ℕ) (steps : List Step) (reads : List (ℕ × Option WriteAt)) : Type 0 where
@@ -112,8 +110,7 @@ asked_met a es mode number names register_name register_number x laws t finds c 
 
 -- a place shows its final value
 place_shows : (a : Puts) (es : List Edge) (mode : ObsMode) (number : ℕ → ℕ) (names : List (List ℕ)) (register_number : List ℕ → Option ℕ) (x : Execution) (l : ℕ) → HasCode a es mode → IsNumbering es number → AreNamed es number names → l < move_count es → final_state (cycle_program a es mode number) names register_number x (AtPlace (location_name l)) ≡ Some (Num (final_value (accesses_in (cycle_program a es mode number) x) x (number l)))
-place_shows a es mode number names register_number x l t n named h =
-    ap (option_map (λ place. Num (final_value (accesses_in (cycle_program a es mode number) x) x place))) (place_found es number names l t.resolved n named h)
+place_shows a es mode number names register_number x l t n named h = grind (arith, place_found)
 
 -- where the terms of locations are met, the locations end as asked
 pub ends_asked : (a : Puts) (es : List Edge) (mode : ObsMode) (number : ℕ → ℕ) (names : List (List ℕ)) (register_number : List ℕ → Option ℕ) (x : Execution) → HasCode a es mode → IsNumbering es number → AreNamed es number names → AllByRecursion (IsMet (final_state (cycle_program a es mode number) names register_number x)) (last_terms es mode) → EndsAsAsked es mode number (cycle_program a es mode number) x

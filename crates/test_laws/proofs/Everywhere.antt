@@ -1,7 +1,6 @@
 -- What holds of each element of a list, and the first element that passes a test.
-use Rattle.std.proofs.Common.{◌≡◌, ℕ, zero, suc, ◌+◌, ◌<◌, Bool, true, false, cond, List, [], ◌∷◌, Some, None, slice_get, refl, sym, ◌∙◌, ap, subst, arith}
+use Rattle.std.proofs.Common.{◌≡◌, ℕ, zero, suc, ◌+◌, ◌<◌, Bool, true, false, cond, List, [], ◌∷◌, Some, None, slice_get, refl, ◌∙◌, ap, subst, arith}
 use Rattle.std.specs.List.{AllByRecursion, position_from}
-use Rattle.list_laws.proofs.Cases.{by_test}
 
 -- what holds of all elements holds of the one at a place
 pub all_gets : {X : Type 0} (P : X → Type 0) (xs : List X) (k : ℕ) (x : X) → AllByRecursion P xs → slice_get xs k ≡ Some x → P x
@@ -17,22 +16,12 @@ all_from P (x ∷ xs) h = (h 0 x refl, all_from P xs (λ k y g. h (suc k) y g))
 -- where none passes, each fails
 pub position_none : {X : Type 0} (t : X → Bool) (i : ℕ) (xs : List X) (k : ℕ) (x : X) → position_from t i xs ≡ None → slice_get xs k ≡ Some x → t x ≡ false
 position_none t i [] k x h g = cc
-position_none t i (y ∷ xs) k x h g =
-    by_test (t y)
-    (λ p. let e : Some i ≡ None = sym (ap (λ b. cond b (Some i) (position_from t (i + 1) xs)) p) ∙ h in cc)
-    (λ n. remainder k g n (λ j. position_none t (i + 1) xs j x (sym (ap (λ b. cond b (Some i) (position_from t (i + 1) xs)) n) ∙ h)))
-  where
-    remainder : (k : ℕ) → slice_get (y ∷ xs) k ≡ Some x → t y ≡ false → ((j : ℕ) → slice_get xs j ≡ Some x → t x ≡ false) → t x ≡ false
-    remainder zero g n rest = let e : y ≡ x = cc in ap t (sym e) ∙ n
-    remainder (suc j) g n rest = rest j g
+position_none t i (y ∷ xs) k x h g = grind (arith, position_none t (i + 1) xs)
 
 -- the place of the first that passes
 pub position_first : {X : Type 0} (t : X → Bool) (i : ℕ) (xs : List X) (k : ℕ) (x : X) → slice_get xs k ≡ Some x → t x ≡ true → ((j : ℕ) (y : X) → j < k → slice_get xs j ≡ Some y → t y ≡ false) → position_from t i xs ≡ Some (i + k)
-position_first t i [] k x g p none = cc
-position_first t i (y ∷ xs) zero x g p none =
-    let e : y ≡ x = cc in
-    ap (λ b. cond b (Some i) (position_from t (i + 1) xs)) (ap t e ∙ p) ∙ ap Some (omega arith)
 position_first t i (y ∷ xs) (suc k) x g p none =
     ap (λ b. cond b (Some i) (position_from t (i + 1) xs)) (none 0 y (omega arith) refl)
     ∙ position_first t (i + 1) xs k x g p (λ j z l h. none (suc j) z (omega arith) h)
     ∙ ap Some (omega arith)
+position_first t i xs k x g p none = grind arith

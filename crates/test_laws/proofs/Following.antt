@@ -1,9 +1,8 @@
 -- An access that follows another in its thread, by the link between them.
-use Rattle.std.proofs.Common.{◌≡◌, ℕ, suc, ◌+◌, ◌-◌, ◌<◌, ◌^◌, true, false, List, take, Some, slice_get, refl, sym, ◌∙◌, ap, subst, arith, zero-add}
+use Rattle.std.proofs.Common.{◌≡◌, ℕ, suc, ◌+◌, ◌-◌, ◌<◌, ◌^◌, true, false, List, take, Some, slice_get, sym, ◌∙◌, ap, subst, arith, zero-add}
 use Rattle.std.specs.List.{count_by}
 use Rattle.std.proofs.lemmas.Bool.{cond-true}
 use Rattle.std.proofs.lemmas.Option.{slice_get_within}
-use Rattle.list_laws.proofs.Cases.{by_test}
 use Rattle.relax_edges.specs.declared.kinds.Dir.{Dir}
 use Rattle.relax_edges.specs.declared.kinds.Dir.TheVariants as dirs
 use Rattle.relax_edges.specs.declared.kinds.ArchName.{ArchName}
@@ -20,14 +19,7 @@ use Rattle.test_laws.proofs.Ties.{Follows}
 
 -- the data mask of an access is that of its link, whatever it does
 data_met_is : (s : Step) (d : Dir) (k : ℕ) → (is_data s.link ≡ true → d ≡ dirs.W) → data_met s d k ≡ mask_if (is_data s.link) k
-data_met_is s dirs.W k h = refl
-data_met_is s dirs.R k h =
-    by_test (is_data s.link)
-    (λ t. absurd (apart (h t)))
-    (λ f. rw f refl)
-  where
-    apart : dirs.R ≡ dirs.W → ⊥
-    apart e = cc
+data_met_is s d k h = grind arith
 
 -- s and t are accesses number j and j + 1 of a thread, an edge of a kind asks for the link between them, and e and f are
 -- what they make

@@ -1,5 +1,5 @@
 -- The test of a cycle forces the cycle.
-use Rattle.std.proofs.Common.{◌≡◌, ℕ, ◌<◌, ◌≤◌, List, [], ◌∷◌, length, map, Option, Some, None, slice_get, refl, sym, ◌∙◌, ap, subst, arith}
+use Rattle.std.proofs.Common.{◌≡◌, ℕ, ◌<◌, ◌≤◌, List, [], ◌∷◌, map, Option, Some, None, slice_get, refl, sym, ◌∙◌, ap, subst, arith}
 use Rattle.std.specs.Prelude.{◌↔◌, nat_lt}
 use Rattle.std.specs.List.{position_from}
 use Rattle.std.proofs.lemmas.Bool.{ltb-false}
@@ -29,7 +29,7 @@ use Rattle.communication_laws.proofs.Needs.{served_if_valued}
 use Rattle.communication_laws.proofs.Laws.{all_edges_stand_law, one_outcome_law, an_outcome_law}
 use Rattle.test_laws.specs.CycleSteps.{cycle_steps}
 use Rattle.test_laws.specs.TestOf.{plain, last_terms, load_terms, test_of}
-use Rattle.test_laws.specs.TestPrograms.{thread_from, test_program}
+use Rattle.test_laws.specs.TestPrograms.{test_program}
 use Rattle.test_laws.specs.FinalStates.{final_state, IsAskedFor}
 use Rattle.test_laws.specs.TestHeadline.{HasCode, HasTest, FindsRegisters, IsRenumbered, TestsForce, RenumberedForce, TestsAsk}
 use Rattle.test_laws.proofs.Everywhere.{position_none}
@@ -49,13 +49,12 @@ pub record IsAsked (a : Puts) (register_name : ℕ → List ℕ) (es : List Edge
 -- is an outcome of it
 pub asked_outcome : (a : Puts) (register_name : ℕ → List ℕ) (es : List Edge) (mode : ObsMode) (number : ℕ → ℕ) (names : List (List ℕ)) (register_number : List ℕ → Option ℕ) (x : Execution) → IsArch a → FindsRegisters a register_name register_number → HasCode a es mode → IsNumbering es number → AreNamed es number names → IsAsked a register_name es mode number names register_number x → IsOutcome es mode number (cycle_program a es mode number) x
 asked_outcome a register_name es mode number names register_number x laws finds t n named w =
-    let m = all_parts (IsMet (final_state (cycle_program a es mode number) names register_number x)) (last_terms es mode) (load_terms a register_name 0 (cycle_steps es mode plain)) w.meets in
-    record {
-      candidate = w.candidate;
-      coherent = w.coherent;
-      reads = reads_asked a es mode number names register_name register_number x laws t finds w.candidate m.1;
-      ends = ends_asked a es mode number names register_number x t n named m.0;
-    }
+    grind (
+      arith,
+      all_parts (IsMet (final_state (cycle_program a es mode number) names register_number x)) (last_terms es mode) (load_terms a register_name 0 (cycle_steps es mode plain)) w.meets,
+      reads_asked a es mode number names register_name register_number x laws t finds w.candidate,
+      ends_asked a es mode number names register_number x t n named,
+    )
 
 -- and back
 pub outcome_asked : (a : Puts) (register_name : ℕ → List ℕ) (es : List Edge) (mode : ObsMode) (number : ℕ → ℕ) (names : List (List ℕ)) (register_number : List ℕ → Option ℕ) (x : Execution) → IsArch a → FindsRegisters a register_name register_number → HasCode a es mode → IsNumbering es number → AreNamed es number names → IsOutcome es mode number (cycle_program a es mode number) x → IsAsked a register_name es mode number names register_number x
@@ -110,9 +109,7 @@ renumbered_numbers a register_name es mode test number t e = record {
 
 -- its program is that of the cycle's test, under these numbers
 pub renumbered_program : (a : Puts) (register_name : ℕ → List ℕ) (es : List Edge) (mode : ObsMode) (test : TestSeen) (number : ℕ → ℕ) → IsRenumbered (test_of a register_name es mode) test number → cycle_program a es mode number ≡ test_program test
-renumbered_program a register_name es mode test number e =
-    let c : move_count es ≡ length test.places = sym (length-letters (move_count es)) ∙ sym e.count in
-    λ i. record { places = c i; threads = map thread_from (sym e.threads i) }
+renumbered_program a register_name es mode test number e = grind (arith, length-letters)
 
 -- the executions that it asks for
 renumbered_asks : (a : Puts) (register_name : ℕ → List ℕ) (register_number : List ℕ → Option ℕ) (es : List Edge) (mode : ObsMode) (test : TestSeen) (number : ℕ → ℕ) (x : Execution) → IsRenumbered (test_of a register_name es mode) test number → IsAskedFor test register_number x ↔ IsAsked a register_name es mode number test.places register_number x

@@ -1,28 +1,24 @@
 -- The program of a cycle's test makes the accesses of the test, in each execution in which its runs come to their ends.
-use Rattle.std.proofs.Common.{◌≡◌, ℕ, ◌<◌, cond, List, [], ◌∷◌, ◌++◌, length, map, Some, slice_get, refl, sym, ◌∙◌, ap, arith}
+use Rattle.std.proofs.Common.{◌≡◌, ℕ, ◌<◌, List, [], ◌∷◌, length, map, Some, slice_get, refl, sym, ◌∙◌, ap, arith}
 use Rattle.std.specs.List.{filter}
 use Rattle.std.proofs.lemmas.List.{length-map, map-append}
 use Rattle.std.proofs.lemmas.Option.{slice_get_within}
-use Rattle.relax_edges.specs.declared.kinds.Dir.{Dir}
-use Rattle.relax_edges.specs.declared.kinds.Dir.TheVariants as dirs
 use Rattle.relax_edges.specs.declared.kinds.ObsMode.{ObsMode}
 use Rattle.relax_edges.specs.declared.edge.Edge.{Edge}
-use Rattle.list_laws.specs.Numbers.{upto}
-use Rattle.resolution_laws.specs.Resolution.{IsResolved, external_count, move_count, events_in}
-use Rattle.value_laws.specs.Values.{write_count}
+use Rattle.resolution_laws.specs.Resolution.{IsResolved, move_count}
 use Rattle.arch_trait.specs.declared.step.Step.{Step}
-use Rattle.arch_trait.specs.Threads.{ThreadCode, is_load_dir}
-use Rattle.program_meaning.specs.Accesses.{Access, is_read, reads_by}
+use Rattle.arch_trait.specs.Threads.{ThreadCode}
+use Rattle.program_meaning.specs.Accesses.{Access, is_read}
 use Rattle.program_meaning.specs.Executions.{Execution}
 use Rattle.program_meaning.specs.Programs.{IsCandidate}
-use Rattle.program_meaning.specs.Intended.{IsNumbering, observed_locations, event_access, observer_accesses, cycle_accesses, intended}
+use Rattle.program_meaning.specs.Intended.{IsNumbering, cycle_accesses, intended}
 use Rattle.execution_laws.proofs.Runs.{accesses-count}
 use Rattle.communication_laws.specs.Joining.{accesses_filled, values_read, MakesAccesses, ReadsAsAsked}
 use Rattle.communication_laws.proofs.Lists.{got_below, got_map, map_same, map-map}
 use Rattle.communication_laws.proofs.Bridge.{resolves}
 use Rattle.communication_laws.proofs.IntendedReads.{reads-count}
 use Rattle.communication_laws.proofs.Programs.{intended_asked}
-use Rattle.test_laws.specs.CycleSteps.{event_step, thread_steps, observing, observer_steps, cycle_steps, numbers_read}
+use Rattle.test_laws.specs.CycleSteps.{cycle_steps, numbers_read}
 use Rattle.test_laws.specs.TestPrograms.{thread_from, program_of}
 use Rattle.test_laws.proofs.Terms.{reads-count as numbers-count}
 use Rattle.test_laws.proofs.Visits.{step_access}
@@ -31,14 +27,7 @@ use Rattle.test_laws.proofs.ThreadRuns.{AreCodesOf, AreEnough, AllEnd, did_threa
 -- the accesses of the test are those of its steps
 pub accesses_planned : (es : List Edge) (mode : ObsMode) (number : ℕ → ℕ) → cycle_accesses es mode number ≡ map (map step_access) (cycle_steps es mode number)
 unfolding cycle_accesses cycle_steps
-accesses_planned es mode number =
-    sym (map-append (map step_access) (map (thread_steps es number) (upto (external_count es))) (map (observer_steps es number) (observed_locations es mode))
-    ∙ ap (λ l. l ++ map (map step_access) (map (observer_steps es number) (observed_locations es mode)))
-    (map-map (thread_steps es number) (map step_access) (upto (external_count es))
-    ∙ map_same (λ k. map step_access (thread_steps es number k)) (λ k. map (event_access es number) (events_in es k)) (upto (external_count es)) (λ k. map-map (event_step es number) step_access (events_in es k)))
-    ∙ ap (λ l. map (λ k. map (event_access es number) (events_in es k)) (upto (external_count es)) ++ l)
-    (map-map (observer_steps es number) (map step_access) (observed_locations es mode)
-    ∙ map_same (λ l. map step_access (observer_steps es number l)) (observer_accesses es number) (observed_locations es mode) (λ l. map-map (observing (number l)) step_access (upto (write_count es l)))))
+accesses_planned es mode number = grind (arith, map-append, map-map, map_same)
 
 -- the accesses of a thread of the test are those of its steps
 pub planned_at : (es : List Edge) (mode : ObsMode) (number : ℕ → ℕ) (k : ℕ) (steps : List Step) → slice_get (cycle_steps es mode number) k ≡ Some steps → slice_get (cycle_accesses es mode number) k ≡ Some (map step_access steps)
@@ -51,11 +40,7 @@ planned-count es mode number = ap length (accesses_planned es mode number) ∙ l
 -- what the reads among the accesses of a thread are to read
 pub planned_reads : (steps : List Step) → map (λ access. access.value) (filter is_read (map step_access steps)) ≡ numbers_read steps
 planned_reads [] = refl
-planned_reads (s ∷ steps) = of_dir s.dir (planned_reads steps)
-  where
-    of_dir : (d : Dir) → map (λ access. access.value) (filter is_read (map step_access steps)) ≡ numbers_read steps → map (λ access. access.value) (cond (reads_by d) (step_access s ∷ filter is_read (map step_access steps)) (filter is_read (map step_access steps))) ≡ map (λ t. t.value) (cond (is_load_dir d) (s ∷ filter (λ t. is_load_dir t.dir) steps) (filter (λ t. is_load_dir t.dir) steps))
-    of_dir dirs.R h = ap (λ l. s.value ∷ l) h
-    of_dir dirs.W h = h
+planned_reads (s ∷ steps) = grind (arith, planned_reads steps)
 
 -- with a number for each load, a program whose code makes the accesses of the test makes them
 pub makes_enough : (codes : List ThreadCode) (es : List Edge) (mode : ObsMode) (number : ℕ → ℕ) (x : Execution) → AreCodesOf codes (cycle_steps es mode number) → AreEnough (cycle_steps es mode number) x → MakesAccesses es mode number (program_of codes (move_count es)) x
@@ -83,13 +68,11 @@ makes codes es mode number x m c = makes_enough codes es mode number x m (candid
 
 -- it has as many lists of reads as threads
 pub candidate_lists : (codes : List ThreadCode) (es : List Edge) (mode : ObsMode) (number : ℕ → ℕ) (x : Execution) → AreCodesOf codes (cycle_steps es mode number) → IsCandidate (program_of codes (move_count es)) x → length x.reads ≡ length (cycle_steps es mode number)
-candidate_lists codes es mode number x m c =
-    c.execution.read_lists ∙ accesses-count (program_of codes (move_count es)) x ∙ length-map codes thread_from ∙ m.count
+candidate_lists codes es mode number x m c = grind (arith, accesses-count (program_of codes (move_count es)) x, length-map codes thread_from)
 
 -- where the values read are those asked for, there is a number for each load
 pub asked_enough : (es : List Edge) (mode : ObsMode) (number : ℕ → ℕ) (x : Execution) → ReadsAsAsked es mode number x → AreEnough (cycle_steps es mode number) x
-asked_enough es mode number x h k steps reads g q =
-    ap length (h k (map step_access steps) reads (planned_at es mode number k steps g) q ∙ planned_reads steps) ∙ numbers-count steps
+asked_enough es mode number x h k steps reads g q = grind (arith, planned_at es mode number k steps g, planned_reads steps, numbers-count steps)
 
 -- the intended execution has
 pub intended_enough : (es : List Edge) (mode : ObsMode) (number : ℕ → ℕ) → IsResolved es → IsNumbering es number → AreEnough (cycle_steps es mode number) (intended es mode number)

@@ -1,12 +1,12 @@
 -- The names of locations differ, so the place of a location is found by its name.
-use Rattle.std.proofs.Common.{◌≡◌, ℕ, ◌<◌, Bool, true, false, List, [], Some, slice_get, refl, sym, ◌∙◌, ap, arith}
+use Rattle.std.proofs.Common.{◌≡◌, ℕ, ◌<◌, true, false, List, [], Some, slice_get, refl, sym, ◌∙◌, ap, arith}
 use Rattle.std.specs.Str.{bytes_eq}
 use Rattle.std.proofs.lemmas.Slice.Eq.{bytes_eq-Decides}
 use Rattle.std.proofs.lemmas.Option.{slice_get-get_or}
 use Rattle.std.proofs.lemmas.List.FromFn.{get_or-map-range_with_len, length-map-range_with_len}
 use Rattle.relax_edges.specs.declared.TheConstants.{MAX_EDGES}
 use Rattle.relax_edges.specs.declared.edge.Edge.{Edge}
-use Rattle.list_laws.proofs.Cases.{by_test, by_less}
+use Rattle.list_laws.proofs.Cases.{by_test}
 use Rattle.resolution_laws.specs.Resolution.{IsResolved, move_count}
 use Rattle.resolution_laws.proofs.Sizes.{external_and_moves}
 use Rattle.arch_trait.specs.PlaceNames.{location_name, letters, number_in}
@@ -27,16 +27,7 @@ earlier_differs m l h b = position_none (λ name. bytes_eq name (location_name l
 
 -- two locations with one name are one
 pub names_differ : (m l : ℕ) → m < MAX_EDGES → l < MAX_EDGES → bytes_eq (location_name m) (location_name l) ≡ true → m ≡ l
-names_differ m l a b h =
-    by_less m l
-    (λ k. absurd (apart (h) (earlier_differs m l k b)))
-    (λ k. by_less l m
-    (λ j. let e : location_name m ≡ location_name l = (bytes_eq-Decides (location_name m) (location_name l)).0 h in
-    absurd (apart ((bytes_eq-Decides (location_name l) (location_name m)).1 (sym e)) (earlier_differs l m j a)))
-    (λ j. omega arith))
-  where
-    apart : {b : Bool} → b ≡ true → b ≡ false → ⊥
-    apart {b} t f = let e : true ≡ false = sym t ∙ f in cc
+names_differ m l a b h = grind (arith, earlier_differs, bytes_eq-Decides)
 
 -- the names of places have the name of each location at its number
 abbrev pub AreNamed : List Edge → (ℕ → ℕ) → List (List ℕ) → Type 0

@@ -20,15 +20,12 @@ use Rattle.test_laws.specs.CycleSteps.{thread_steps, observer_steps, cycle_steps
 -- a thread of the cycle has its events' accesses
 pub thread_steps_at : (es : List Edge) (mode : ObsMode) (number : ℕ → ℕ) (k : ℕ) → k < external_count es → slice_get (cycle_steps es mode number) k ≡ Some (thread_steps es number k)
 unfolding cycle_steps
-thread_steps_at es mode number k h =
-    slice_get-append_left (map (thread_steps es number) (upto (external_count es))) (map (observer_steps es number) (observed_locations es mode)) k (omega (arith, length-map-upto (thread_steps es number) (external_count es), h))
-    ∙ slice_get-map-upto (thread_steps es number) (external_count es) k h
+thread_steps_at es mode number k h = grind (arith, slice_get-append_left, length-map-upto, slice_get-map-upto)
 
 -- the threads after those of the cycle are the observers
 observers_at : (es : List Edge) (mode : ObsMode) (number : ℕ → ℕ) (k o : ℕ) → k ≡ external_count es + o → slice_get (cycle_steps es mode number) k ≡ slice_get (map (observer_steps es number) (observed_locations es mode)) o
 unfolding cycle_steps
-observers_at es mode number k o h =
-    slice_get-append_right (map (thread_steps es number) (upto (external_count es))) (map (observer_steps es number) (observed_locations es mode)) k o (omega (arith, length-map-upto (thread_steps es number) (external_count es), h))
+observers_at es mode number k o h = grind (arith, slice_get-append_right, length-map-upto)
 
 -- after the threads of the cycle, thread number o is the observer of observed location number o
 pub observer_steps_at : (es : List Edge) (mode : ObsMode) (number : ℕ → ℕ) (k o location : ℕ) → k ≡ external_count es + o → slice_get (observed_locations es mode) o ≡ Some location → slice_get (cycle_steps es mode number) k ≡ Some (observer_steps es number location)
@@ -66,11 +63,7 @@ observed-count es mode = length-filter-upto (is_observed es mode) (move_count es
 -- the threads of the test are those of the cycle and one for each observed location
 pub steps-count : (es : List Edge) (mode : ObsMode) (number : ℕ → ℕ) → length (cycle_steps es mode number) ≡ external_count es + length (observed_locations es mode)
 unfolding cycle_steps
-steps-count es mode number =
-    let a = length-append (map (thread_steps es number) (upto (external_count es))) (map (observer_steps es number) (observed_locations es mode)) in
-    let b = length-map-upto (thread_steps es number) (external_count es) in
-    let c = length-map (observed_locations es mode) (observer_steps es number) in
-    omega (arith, a, b, c)
+steps-count es mode number = grind (arith, length-append, length-map-upto, length-map)
 
 -- which are at most as many as the edges
 pub steps_few : (es : List Edge) (mode : ObsMode) (number : ℕ → ℕ) → length (cycle_steps es mode number) ≤ length es

@@ -2,25 +2,19 @@
 -- with their marks, and are at the places of locations.
 use Rattle.std.proofs.Common.{◌≡◌, ℕ, zero, suc, ◌+◌, ◌<◌, ◌≤◌, Bool, true, false, ◌==◌, List, [], ◌∷◌, length, get_or, Some, slice_get, refl, sym, ◌∙◌, ap, subst, arith, add-one, eq-eqb}
 use Rattle.std.specs.List.{list_all}
-use Rattle.std.proofs.lemmas.Bool.{ne_eqb, cond-true, cond-false, and_parts}
+use Rattle.std.proofs.lemmas.Bool.{cond-true, and_parts}
 use Rattle.std.proofs.lemmas.List.{length-map}
 use Rattle.std.proofs.lemmas.Option.{slice_get_within}
 use Rattle.relax_edges.specs.declared.kinds.Dir.{Dir}
 use Rattle.relax_edges.specs.declared.kinds.Dir.TheVariants as dirs
-use Rattle.relax_edges.specs.declared.kinds.Reach.TheVariants.{Internal}
-use Rattle.relax_edges.specs.declared.kinds.Com.TheVariants.{Rf}
-use Rattle.relax_edges.specs.declared.kinds.DepKind.TheVariants as deps
 use Rattle.relax_edges.specs.declared.kinds.ArchName.{ArchName}
 use Rattle.relax_edges.specs.declared.kinds.ObsMode.{ObsMode}
 use Rattle.relax_edges.specs.declared.kinds.Kind.{Kind}
-use Rattle.relax_edges.specs.declared.kinds.Kind.TheVariants as kinds
 use Rattle.relax_edges.specs.declared.edge.Edge.{Edge}
-use Rattle.relax_edges.specs.declared.edge.Edge.TheVariants as edges
 use Rattle.relax_edges.specs.declared.TheConstants.{MAX_EDGES}
 use Rattle.relax_edges.specs.EdgeTable.{kind_of, kind_source, kind_target, source_of, mark_fits, mark_is_of, is_of_arch, is_external}
 use Rattle.cycle_laws.proofs.Marks.{source_mark_fits}
 use Rattle.list_laws.specs.Numbers.{upto}
-use Rattle.list_laws.proofs.Cases.{by_test}
 use Rattle.list_laws.proofs.Numbers.{length-upto, length-map-upto, slice_get-upto}
 use Rattle.resolution_laws.specs.Resolution.{IsResolved, edge_at, move_count, event_before, event_after, events_in, thread_of, slot_of, location_of}
 use Rattle.resolution_laws.proofs.Threads.{slot-zero, slot_out, slot_of_event}
@@ -33,7 +27,7 @@ use Rattle.value_laws.proofs.Laws.{observed_writes}
 use Rattle.arch_trait.specs.declared.step.Step.{Step}
 use Rattle.arch_trait.specs.declared.link.Link.{Link}
 use Rattle.arch_trait.specs.declared.link.Link.TheVariants.{Plain}
-use Rattle.arch_trait.specs.Links.{kind_link, edge_link, link_is_of, depends_on_load, is_data}
+use Rattle.arch_trait.specs.Links.{kind_link, edge_link, depends_on_load, is_data}
 use Rattle.arch_trait.specs.Threads.{FitStep, FitSteps, is_load_dir}
 use Rattle.test_laws.proofs.EdgeMarks.{has_edge}
 use Rattle.communication_laws.proofs.Lists.{image_of}
@@ -42,34 +36,22 @@ use Rattle.test_laws.proofs.StepsAt.{by_steps}
 
 -- an element of a list whose elements all pass
 pub all_at : {X : Type 0} (p : X → Bool) (xs : List X) (i : ℕ) (d : X) → list_all p xs ≡ true → i < length xs → p (get_or xs i d) ≡ true
-all_at p [] i d h l = absurd (omega arith)
-all_at p (x ∷ xs) zero d h l = (and_parts (p x) (list_all p xs) h).0
 all_at p (x ∷ xs) (suc i) d h l = all_at p xs i d (and_parts (p x) (list_all p xs) h).1 (omega arith)
+all_at p xs i d h l = grind arith
 
 -- accesses can follow one another where the first can begin and each can follow the one before it
-fit_from : (arch : ArchName) (b : Bool) (ss : List Step) → ((s : Step) → slice_get ss 0 ≡ Some s → FitStep arch b s) → ((k : ℕ) (s t : Step) → slice_get ss k ≡ Some s → slice_get ss (suc k) ≡ Some t → FitStep arch (is_load_dir s.dir) t) → FitSteps arch b ss
+pub fit_from : (arch : ArchName) (b : Bool) (ss : List Step) → ((s : Step) → slice_get ss 0 ≡ Some s → FitStep arch b s) → ((k : ℕ) (s t : Step) → slice_get ss k ≡ Some s → slice_get ss (suc k) ≡ Some t → FitStep arch (is_load_dir s.dir) t) → FitSteps arch b ss
 fit_from arch b [] first next = tt
 fit_from arch b (s ∷ ss) first next =
     (first s refl, fit_from arch (is_load_dir s.dir) ss (λ t g. next 0 s t refl g) (λ k t u g h. next (suc k) t u g h))
 
 -- a dependency leaves a load
-link_leaves : (k : Kind) → depends_on_load (kind_link k) ≡ true → is_load_dir (kind_source k) ≡ true
-link_leaves (kinds.Com c r) h = cc
-link_leaves (kinds.Po s f t) h = cc
-link_leaves (kinds.Fenced f s d t) h = cc
-link_leaves (kinds.Dep d s t) h = refl
-link_leaves (kinds.Data s) h = refl
+pub link_leaves : (k : Kind) → depends_on_load (kind_link k) ≡ true → is_load_dir (kind_source k) ≡ true
+link_leaves x h = grind arith
 
 -- a data dependency enters a store
-link_enters : (k : Kind) → is_data (kind_link k) ≡ true → kind_target k ≡ dirs.W
-link_enters (kinds.Com c r) h = cc
-link_enters (kinds.Po s f t) h = cc
-link_enters (kinds.Fenced f s d t) h = cc
-link_enters (kinds.Dep deps.Addr s t) h = cc
-link_enters (kinds.Dep deps.Ctrl s t) h = cc
-link_enters (kinds.Dep deps.CtrlIsync s t) h = cc
-link_enters (kinds.Dep deps.CtrlIsb s t) h = cc
-link_enters (kinds.Data s) h = refl
+pub link_enters : (k : Kind) → is_data (kind_link k) ≡ true → kind_target k ≡ dirs.W
+link_enters x h = grind arith
 
 -- a mark fits what the access does, and is one of the architecture's
 record IsMarked (arch : ArchName) (s : Step) : Type 0 where
@@ -78,21 +60,11 @@ record IsMarked (arch : ArchName) (s : Step) : Type 0 where
 
 -- an access that no edge of its thread ties fits at any place
 untied_fits : (arch : ArchName) (b : Bool) (s : Step) → s.link ≡ Plain → IsMarked arch s → s.value < 256 → FitStep arch b s
-untied_fits arch b s e m v = record {
-  of_arch = ap (λ l. link_is_of l arch) e;
-  after = λ h. let f : false ≡ true = sym (ap depends_on_load e) ∙ h in cc;
-  to_store = λ h. let f : false ≡ true = sym (ap is_data e) ∙ h in cc;
-  mark_fitting = m.fits;
-  mark_of_arch = m.of_arch;
-  value = v;
-}
+untied_fits arch b s e m v = grind arith
 
 -- an event has the mark of what its edge leaves
 event_marked : (es : List Edge) (arch : ArchName) (number : ℕ → ℕ) (i : ℕ) → list_all (λ e. is_of_arch e arch) es ≡ true → i < length es → IsMarked arch (event_step es number i)
-event_marked es arch number i a l = record {
-  fits = source_mark_fits (edge_at es i);
-  of_arch = (has_edge (edge_at es i) arch (all_at (λ e. is_of_arch e arch) es i (edges.Com Rf Internal) a l)).source;
-}
+event_marked es arch number i a l = grind (arith, source_mark_fits, has_edge, all_at)
 
 -- values are small
 pub value_small : (es : List Edge) (i : ℕ) → IsResolved es → value_of es i ≤ MAX_EDGES
@@ -111,26 +83,11 @@ pub record Before (es : List Edge) (i : ℕ) : Type 0 where
 -- an event that isn't the first of its thread has an event before it, to which an internal edge joins it
 pub inner_before : (es : List Edge) (i : ℕ) → IsResolved es → i < length es → 0 < slot_of es i → Before es i
 inner_before es zero r h l = absurd (omega (arith, slot-zero es))
-inner_before es (suc j) r h l =
-    by_test (is_external (edge_at es j))
-    (λ t. let z : slot_of es (suc j) ≡ 0 = rw (add-one j) at (slot_out es j (omega arith) t) in absurd (omega (arith, z)))
-    (λ f. let w = internal_follows es j r (omega arith) f in
-    let e : j + 1 ≡ suc j = omega arith in
-    record {
-      event = j;
-      before = refl;
-      below = omega arith;
-      inside = f;
-      next = w.next ∙ e;
-      thread = sym w.thread ∙ ap (thread_of es) e;
-      slot = sym (ap (slot_of es) e) ∙ w.slot;
-    })
+inner_before es (suc j) r h l = grind (arith, add-one j, slot_out es j (omega arith), internal_follows es j r (omega arith))
 
 -- the link of an event after another in its thread is that of the edge between them
 pub link_between : (es : List Edge) (i : ℕ) (b : Before es i) → event_link es i ≡ edge_link (edge_at es b.event)
-link_between es i b =
-    cond-false {A = Link} (slot_of es i == 0) Plain (edge_link (edge_at es (event_before es i))) (ne_eqb (slot_of es i) 0 (λ e. omega (arith, e, b.slot)))
-    ∙ ap (λ j. edge_link (edge_at es j)) b.before
+link_between es i b = grind arith
 
 -- and the first event of a thread has none
 pub link_first : (es : List Edge) (i : ℕ) → slot_of es i ≡ 0 → event_link es i ≡ Plain
@@ -138,24 +95,19 @@ link_first es i h = cond-true {A = Link} (slot_of es i == 0) Plain (edge_link (e
 
 -- an access after another in its thread fits
 pub event_fits : (es : List Edge) (arch : ArchName) (number : ℕ → ℕ) (i : ℕ) → IsResolved es → list_all (λ e. is_of_arch e arch) es ≡ true → (b : Before es i) → FitStep arch (is_load_dir (source_of (edge_at es b.event))) (event_step es number i)
-event_fits es arch number i r a b = record {
-  of_arch =
-      ap (λ l. link_is_of l arch) link
-      ∙ (has_edge (edge_at es b.event) arch (all_at (λ e. is_of_arch e arch) es b.event (edges.Com Rf Internal) a b.below)).link;
-  after = λ h. link_leaves (kind_of (edge_at es b.event)) (sym (ap depends_on_load link) ∙ h);
-  to_store = λ h. ap (λ j. source_of (edge_at es j)) (sym b.next)
-      ∙ source_after es b.event r.composes b.below
-      ∙ link_enters (kind_of (edge_at es b.event)) (sym (ap is_data link) ∙ h);
-  mark_fitting = marked.fits;
-  mark_of_arch = marked.of_arch;
-  value = omega (arith, value_small es i r);
-}
-  where
-    marked : IsMarked arch (event_step es number i)
-    marked = event_marked es arch number i a (subst (λ j. j < length es) b.next (after_below es b.event b.below))
-
-    link : event_link es i ≡ edge_link (edge_at es b.event)
-    link = link_between es i b
+event_fits es arch number i r a b =
+    grind (
+      arith,
+      has_edge (edge_at es b.event) arch,
+      all_at,
+      link_leaves (kind_of (edge_at es b.event)),
+      source_after es b.event r.composes b.below,
+      link_enters (kind_of (edge_at es b.event)),
+      value_small es i r,
+      event_marked es arch number i a,
+      after_below es b.event b.below,
+      link_between es i b,
+    )
 
 -- the accesses of a thread of the cycle
 pub thread_fits : (es : List Edge) (arch : ArchName) (number : ℕ → ℕ) (thread : ℕ) → IsResolved es → list_all (λ e. is_of_arch e arch) es ≡ true → FitSteps arch false (thread_steps es number thread)

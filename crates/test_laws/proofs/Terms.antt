@@ -1,17 +1,13 @@
 -- The terms of a test's condition: those of some threads and then of others, and how many there are.
-use Rattle.std.proofs.Common.{◌≡◌, ℕ, zero, suc, ◌+◌, ◌<◌, ◌≤◌, Bool, true, false, not, ◌==◌, ◌&&◌, cond, List, [], ◌∷◌, ◌++◌, length, get_or, take, drop, map, refl, sym, ◌∙◌, ap, arith, add-one, length-append, append_assoc, append-nil, length-take, drop-cons}
-use Rattle.std.specs.Prelude.{nat_le}
-use Rattle.std.specs.List.{count_by, filter, sum_by, zip}
-use Rattle.std.proofs.lemmas.Bool.{leb-true}
+use Rattle.std.proofs.Common.{◌≡◌, ℕ, zero, suc, ◌+◌, ◌<◌, ◌≤◌, Bool, true, false, not, ◌==◌, ◌&&◌, cond, List, [], ◌∷◌, ◌++◌, length, get_or, take, drop, map, refl, sym, ◌∙◌, ap, arith, length-append, append_assoc, append-nil, length-take}
+use Rattle.std.specs.List.{count_by, filter, sum_by}
 use Rattle.std.proofs.lemmas.List.{length-map, take-append-drop, take_more}
 use Rattle.std.proofs.lemmas.List.Sums.{sum_by-cons, sum_by-append, count_by-le-length, length-filter}
 use Rattle.std.proofs.lemmas.Slice.Zip.{length-zip}
 use Rattle.std.proofs.Math.Bool.{and_comm}
-use Rattle.relax_edges.specs.declared.kinds.Dir.{Dir}
-use Rattle.relax_edges.specs.declared.kinds.Dir.TheVariants as dirs
 use Rattle.relax_edges.specs.declared.kinds.ObsMode.{ObsMode}
 use Rattle.relax_edges.specs.declared.edge.Edge.{Edge}
-use Rattle.relax_edges.specs.EdgeTable.{source_of, same_dir}
+use Rattle.relax_edges.specs.EdgeTable.{source_of}
 use Rattle.list_laws.specs.Numbers.{upto}
 use Rattle.list_laws.proofs.Numbers.{length-map-upto}
 use Rattle.list_laws.proofs.Counts.{count_upto-suc, count_upto_none, count_upto_same}
@@ -24,8 +20,8 @@ use Rattle.arch_trait.specs.declared.step.Step.{Step}
 use Rattle.arch_trait.specs.Threads.{Puts, is_load_dir, loads_in, setting_out, compiled}
 use Rattle.arch_laws.proofs.CodeLaws.{thread_loads_length}
 use Rattle.program_meaning.specs.Intended.{observed_locations}
-use Rattle.test_laws.specs.CycleSteps.{event_step, thread_steps, observing, observer_steps, cycle_steps, numbers_read}
-use Rattle.test_laws.specs.TestOf.{is_named_location, last_term, last_terms, load_term, thread_terms, load_terms}
+use Rattle.test_laws.specs.CycleSteps.{thread_steps, observer_steps, cycle_steps, numbers_read}
+use Rattle.test_laws.specs.TestOf.{is_named_location, last_term, last_terms, thread_terms, load_terms}
 
 -- a thread has as many terms as loads
 pub reads-count : (steps : List Step) → length (numbers_read steps) ≡ loads_in steps
@@ -37,19 +33,12 @@ loads-count a steps = thread_loads_length a (setting_out a.registers) steps ∙ 
 
 -- a thread has as many terms as loads
 pub thread_terms-count : (a : Puts) (name : ℕ → List ℕ) (thread : ℕ) (steps : List Step) → length (thread_terms a name thread steps) ≡ loads_in steps
-thread_terms-count a name thread steps =
-    let l = length-zip (compiled a steps).loads (numbers_read steps) in
-    let m = length-map (zip (compiled a steps).loads (numbers_read steps)) (load_term name thread) in
-    omega (arith, l, m, loads-count a steps, reads-count steps)
+thread_terms-count a name thread steps = grind (arith, length-zip, length-map, loads-count, reads-count)
 
 -- the terms of some threads and then of others
 pub load_terms-append : (a : Puts) (name : ℕ → List ℕ) (thread : ℕ) (prefix back : List (List Step)) → load_terms a name thread (prefix ++ back) ≡ load_terms a name thread prefix ++ load_terms a name (thread + length prefix) back
 load_terms-append a name thread [] back = ap (λ t. load_terms a name t back) (omega arith)
-load_terms-append a name thread (steps ∷ prefix) back =
-    ap (λ l. thread_terms a name thread steps ++ l)
-    (load_terms-append a name (thread + 1) prefix back
-    ∙ ap (λ t. load_terms a name (thread + 1) prefix ++ load_terms a name t back) (omega arith))
-    ∙ sym (append_assoc (thread_terms a name thread steps) (load_terms a name (thread + 1) prefix) (load_terms a name (thread + length (steps ∷ prefix)) back))
+load_terms-append a name thread (steps ∷ prefix) back = grind (arith, load_terms-append a name (thread + 1) prefix back, append_assoc)
 
 -- one more thread
 pub load_terms_more : (a : Puts) (name : ℕ → List ℕ) (threads : List (List Step)) (k : ℕ) (d : List Step) → k < length threads → load_terms a name 0 (take (k + 1) threads) ≡ load_terms a name 0 (take k threads) ++ thread_terms a name k (get_or threads k d)
@@ -58,10 +47,6 @@ load_terms_more a name threads k d h =
     ∙ load_terms-append a name 0 (take k threads) (get_or threads k d ∷ [])
     ∙ ap (λ n. load_terms a name 0 (take k threads) ++ load_terms a name n (get_or threads k d ∷ [])) (omega (arith, length-take k threads))
     ∙ ap (λ l. load_terms a name 0 (take k threads) ++ l) (append-nil (thread_terms a name k (get_or threads k d)))
-
--- the terms of the threads from number k on begin with those of thread k
-pub load_terms-drop : (a : Puts) (name : ℕ → List ℕ) (threads : List (List Step)) (k : ℕ) (d : List Step) → k < length threads → load_terms a name k (drop k threads) ≡ thread_terms a name k (get_or threads k d) ++ load_terms a name (k + 1) (drop (k + 1) threads)
-load_terms-drop a name threads k d h = ap (load_terms a name k) (drop-cons threads k d h) ∙ ap (λ n. thread_terms a name k (get_or threads k d) ++ load_terms a name (k + 1) (drop n threads)) (sym (add-one k))
 
 -- the terms of threads are as many as their loads
 pub load_terms-count : (a : Puts) (name : ℕ → List ℕ) (thread : ℕ) (threads : List (List Step)) → length (load_terms a name thread threads) ≡ sum_by loads_in threads
@@ -74,7 +59,7 @@ load_terms-count a name thread (steps ∷ threads) =
     omega (arith, c, m, s))
 
 -- sums over images, and of smaller terms
-sum_map : {X Y : Type 0} (f : Y → ℕ) (g : X → Y) (xs : List X) → sum_by f (map g xs) ≡ sum_by (λ x. f (g x)) xs
+pub sum_map : {X Y : Type 0} (f : Y → ℕ) (g : X → Y) (xs : List X) → sum_by f (map g xs) ≡ sum_by (λ x. f (g x)) xs
 sum_map f g [] = refl
 sum_map f g (x ∷ xs) = sum_by-cons f (g x) (map g xs) ∙ ap (λ n. f (g x) + n) (sum_map f g xs) ∙ sym (sum_by-cons (λ x. f (g x)) x xs)
 
@@ -102,8 +87,7 @@ classes_passing q f c (suc n) h =
 
 -- of two tests of which one passes where the other doesn't, each number passes one
 one_passes : (a b : Bool) → b ≡ not a → cond a 1 0 + cond b 1 0 ≡ 1
-one_passes true b h = rw h refl
-one_passes false b h = rw h refl
+one_passes a b h = grind arith
 
 either_passes : (p q : ℕ → Bool) (n : ℕ) → ((i : ℕ) → q i ≡ not (p i)) → count_by p (upto n) + count_by q (upto n) ≡ n
 either_passes p q zero h = refl
@@ -114,25 +98,17 @@ abbrev is_load : List Edge → ℕ → Bool
 is_load es i = is_load_dir (source_of (edge_at es i))
 
 load_or_store : (es : List Edge) (i : ℕ) → is_load es i ≡ not (is_write es i)
-load_or_store es i = of_dir (source_of (edge_at es i))
-  where
-    of_dir : (d : Dir) → is_load_dir d ≡ not (same_dir d dirs.W)
-    of_dir dirs.R = refl
-    of_dir dirs.W = refl
+load_or_store es i = grind arith
 
 -- the loads of a thread are its events that read
 thread_loads : (es : List Edge) (number : ℕ → ℕ) (k : ℕ) → loads_in (thread_steps es number k) ≡ count_by (λ i. is_load es i && (thread_of es i == k)) (upto (length es))
 unfolding events_in
-thread_loads es number k =
-    sum_map (λ (s : Step). cond (is_load_dir s.dir) 1 0) (event_step es number) (events_in es k)
-    ∙ count_filter (is_load es) (λ i. thread_of es i == k) (upto (length es))
-    ∙ count_upto_same (λ i. (thread_of es i == k) && is_load es i) (λ i. is_load es i && (thread_of es i == k)) (length es) (λ i l. and_comm (thread_of es i == k) (is_load es i))
+thread_loads es number k = grind (arith, sum_map, count_filter (is_load es), count_upto_same, and_comm)
 
 -- and so all threads of the cycle have as many loads as it has reads
 cycle_loads : (es : List Edge) (number : ℕ → ℕ) → IsResolved es → sum_by (λ k. loads_in (thread_steps es number k)) (upto (external_count es)) ≡ count_by (is_load es) (upto (length es))
 cycle_loads es number r =
-    sum_upto_same (λ k. loads_in (thread_steps es number k)) (λ k. count_by (λ i. is_load es i && (thread_of es i == k)) (upto (length es))) (external_count es) (λ k l. thread_loads es number k)
-    ∙ classes_passing (is_load es) (thread_of es) (external_count es) (length es) (λ i l. thread_below es i r l)
+    grind (arith, sum_upto_same, thread_loads es number, classes_passing (is_load es) (thread_of es) (external_count es) (length es), thread_below es)
 
 -- the writes of all locations are those of the cycle
 writes_total : (es : List Edge) → IsResolved es → sum_by (write_count es) (upto (move_count es)) ≡ count_by (is_write es) (upto (length es))
@@ -151,20 +127,11 @@ chosen_fewer f p q (x ∷ xs) h =
 
 -- a location whose last value is named has a write, and one with an observer isn't named
 named_or_observed : (es : List Edge) (mode : ObsMode) (l : ℕ) → cond (is_named_location es mode l) 1 0 + cond (is_observed es mode l) (write_count es l) 0 ≤ write_count es l
-named_or_observed es mode l = either (is_observed es mode l) (nat_le 2 (write_count es l)) refl
-  where
-    either : (seen two : Bool) → nat_le 2 (write_count es l) ≡ two → cond (two && not seen) 1 0 + cond seen (write_count es l) 0 ≤ write_count es l
-    either true true e = omega arith
-    either true false e = omega arith
-    either false true e = let t = leb-true 2 (write_count es l) e in omega (arith, t)
-    either false false e = omega arith
+named_or_observed es mode l = grind arith
 
 -- the loads of the observers
 observer_loads : (es : List Edge) (mode : ObsMode) (number : ℕ → ℕ) → sum_by (λ l. loads_in (observer_steps es number l)) (observed_locations es mode) ≤ sum_by (write_count es) (observed_locations es mode)
-observer_loads es mode number =
-    sum_fewer (λ l. loads_in (observer_steps es number l)) (write_count es) (observed_locations es mode)
-    (λ l. let steps = observer_steps es number l in
-    omega (arith, count_by-le-length (λ (s : Step). is_load_dir s.dir) steps, length-map-upto (observing (number l)) (write_count es l)))
+observer_loads es mode number = grind (arith, sum_fewer, count_by-le-length, length-map-upto)
 
 -- the loads of all threads of the test are those of the cycle's threads and those of the observers
 loads_total : (es : List Edge) (mode : ObsMode) (number : ℕ → ℕ) → IsResolved es

@@ -1,26 +1,21 @@
 -- The code of a cycle's test, with any numbers for the places, makes the accesses of the test at these places.
-use Rattle.std.proofs.Common.{◌≡◌, ℕ, true, cond, List, [], ◌∷◌, ◌++◌, length, map, Some, slice_get, refl, sym, ◌∙◌, ap, subst}
-use Rattle.std.specs.List.{filter, list_all}
+use Rattle.std.proofs.Common.{◌≡◌, ℕ, true, List, [], ◌∷◌, length, map, Some, slice_get, refl, sym, ◌∙◌, ap, subst, arith}
+use Rattle.std.specs.List.{list_all}
 use Rattle.std.proofs.lemmas.List.{length-map, map-append}
-use Rattle.relax_edges.specs.declared.kinds.Dir.{Dir}
-use Rattle.relax_edges.specs.declared.kinds.Dir.TheVariants as dirs
 use Rattle.relax_edges.specs.declared.kinds.ObsMode.{ObsMode}
 use Rattle.relax_edges.specs.declared.edge.Edge.{Edge}
 use Rattle.relax_edges.specs.EdgeTable.{is_of_arch}
-use Rattle.list_laws.specs.Numbers.{upto}
-use Rattle.resolution_laws.specs.Resolution.{IsResolved, external_count, move_count, events_in}
-use Rattle.value_laws.specs.Values.{write_count}
+use Rattle.resolution_laws.specs.Resolution.{IsResolved, move_count}
 use Rattle.arch_trait.specs.declared.step.Step.{Step}
 use Rattle.arch_trait.specs.Codes.{AllBelow, MakesSteps}
-use Rattle.arch_trait.specs.Threads.{Puts, ThreadCode, is_load_dir, compiled}
+use Rattle.arch_trait.specs.Threads.{Puts, ThreadCode, compiled}
 use Rattle.arch_trait.specs.Laws.{IsArch}
 use Rattle.arch_trait.specs.PlaceRenumbering.{step_at, renumbered}
 use Rattle.arch_laws.proofs.CodeLaws.{makes_steps, is_formed}
 use Rattle.arch_laws.proofs.Renumbered.{renumbered_makes}
 use Rattle.program_meaning.specs.Programs.{Program}
-use Rattle.program_meaning.specs.Intended.{observed_locations}
 use Rattle.communication_laws.proofs.Lists.{got_map, image_of, map_same, map-map}
-use Rattle.test_laws.specs.CycleSteps.{event_step, thread_steps, observing, observer_steps, cycle_steps, numbers_read}
+use Rattle.test_laws.specs.CycleSteps.{cycle_steps, numbers_read}
 use Rattle.test_laws.specs.TestOf.{plain}
 use Rattle.test_laws.specs.TestPrograms.{program_of}
 use Rattle.test_laws.specs.TestHeadline.{HasCode}
@@ -38,14 +33,7 @@ cycle_program a es mode number = program_of (cycle_codes a es mode number) (move
 -- the accesses of the test under other numbers
 pub steps_numbered : (es : List Edge) (mode : ObsMode) (number : ℕ → ℕ) → map (map (step_at number)) (cycle_steps es mode plain) ≡ cycle_steps es mode number
 unfolding cycle_steps
-steps_numbered es mode number =
-    map-append (map (step_at number)) (map (thread_steps es plain) (upto (external_count es))) (map (observer_steps es plain) (observed_locations es mode))
-    ∙ ap (λ l. l ++ map (map (step_at number)) (map (observer_steps es plain) (observed_locations es mode)))
-    (map-map (thread_steps es plain) (map (step_at number)) (upto (external_count es))
-    ∙ map_same (λ k. map (step_at number) (thread_steps es plain k)) (thread_steps es number) (upto (external_count es)) (λ k. map-map (event_step es plain) (step_at number) (events_in es k)))
-    ∙ ap (λ l. map (thread_steps es number) (upto (external_count es)) ++ l)
-    (map-map (observer_steps es plain) (map (step_at number)) (observed_locations es mode)
-    ∙ map_same (λ l. map (step_at number) (observer_steps es plain l)) (observer_steps es number) (observed_locations es mode) (λ l. map-map (observing l) (step_at number) (upto (write_count es l))))
+steps_numbered es mode number = grind (arith, map-append, map-map, map_same)
 
 -- what the code of a thread comes from
 pub record Origin (a : Puts) (es : List Edge) (mode : ObsMode) (number : ℕ → ℕ) (k : ℕ) (steps : List Step) : Type 0 where
@@ -91,8 +79,4 @@ loads_below a es mode k steps laws t g =
 -- the numbers that accesses read are the same at other places
 pub numbers_kept : (f : ℕ → ℕ) (steps : List Step) → numbers_read (map (step_at f) steps) ≡ numbers_read steps
 numbers_kept f [] = refl
-numbers_kept f (s ∷ steps) = of_dir s.dir (numbers_kept f steps)
-  where
-    of_dir : (d : Dir) → numbers_read (map (step_at f) steps) ≡ numbers_read steps → map (λ t. t.value) (cond (is_load_dir d) (step_at f s ∷ filter (λ t. is_load_dir t.dir) (map (step_at f) steps)) (filter (λ t. is_load_dir t.dir) (map (step_at f) steps))) ≡ map (λ t. t.value) (cond (is_load_dir d) (s ∷ filter (λ t. is_load_dir t.dir) steps) (filter (λ t. is_load_dir t.dir) steps))
-    of_dir dirs.R h = ap (λ l. s.value ∷ l) h
-    of_dir dirs.W h = h
+numbers_kept f (s ∷ steps) = grind (arith, numbers_kept f steps)

@@ -1,6 +1,6 @@
 -- The runs of a program's threads in an execution: with a number for each load they end, and make the accesses of their
 -- steps; with fewer or more they don't end.
-use Rattle.std.proofs.Common.{◌≡◌, ℕ, zero, suc, ◌<◌, List, [], ◌∷◌, length, map, Option, Some, slice_get, refl, sym, ◌∙◌, ap, subst, arith}
+use Rattle.std.proofs.Common.{◌≡◌, ℕ, suc, ◌<◌, List, ◌∷◌, length, map, Option, Some, slice_get, sym, ◌∙◌, ap, subst, arith}
 use Rattle.std.proofs.lemmas.List.{length-map}
 use Rattle.std.proofs.lemmas.Option.{slice_get_within}
 use Rattle.list_laws.proofs.Cases.{by_less}
@@ -41,13 +41,8 @@ abbrev pub AllEnd : Program → Execution → Type 0
 AllEnd p x = (k : ℕ) (run : Outcome) → slice_get (runs_of p.threads x.reads) k ≡ Some run → HasEnded run
 
 run_at : (threads : List Thread) (reads : List (List (ℕ × Option WriteAt))) (k : ℕ) (thread : Thread) (read : List (ℕ × Option WriteAt)) → slice_get threads k ≡ Some thread → slice_get reads k ≡ Some read → slice_get (runs_of threads reads) k ≡ Some (run_of thread read)
-run_at [] reads k thread read g h = cc
-run_at (t ∷ threads) [] k thread read g h = cc
-run_at (t ∷ threads) (r ∷ reads) zero thread read g h =
-    let e : t ≡ thread = cc in
-    let f : r ≡ read = cc in
-    rw (e, f) refl
 run_at (t ∷ threads) (r ∷ reads) (suc k) thread read g h = run_at threads reads k thread read g h
+run_at threads reads k thread read g h = grind arith
 
 -- the run of the thread with this code
 thread_run : (codes : List ThreadCode) (places : ℕ) (x : Execution) (k : ℕ) (code : ThreadCode) (reads : List (ℕ × Option WriteAt)) → slice_get codes k ≡ Some code → slice_get x.reads k ≡ Some reads → slice_get (runs_of (program_of codes places).threads x.reads) k ≡ Some (run_of (thread_from code) reads)
@@ -112,10 +107,7 @@ pub record ThreadOf (threads : List (List Step)) (x : Execution) (k : ℕ) : Typ
 
 -- each number below that of the threads is that of a thread with its steps and its reads
 pub thread_of : (threads : List (List Step)) (x : Execution) (k : ℕ) → length x.reads ≡ length threads → k < length threads → ThreadOf threads x k
-thread_of threads x k c h =
-    let s = got_below threads k h in
-    let r = got_below x.reads k (omega (arith, c, h)) in
-    record { steps = s.element; reads = r.element; steps_at = s.got; reads_at = r.got }
+thread_of threads x k c h = grind (arith, got_below threads k h, got_below x.reads k (omega (arith, c, h)))
 
 -- the items of a thread in an execution of the program are those of one of its threads
 pub items_below : (codes : List ThreadCode) (places : ℕ) (x : Execution) (k : ℕ) (items : List Item) → slice_get (items_in (program_of codes places) x) k ≡ Some items → k < length codes

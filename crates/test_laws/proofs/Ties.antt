@@ -1,19 +1,14 @@
 -- What an edge asks for between two accesses is what its link makes.
-use Rattle.std.proofs.Common.{◌≡◌, ℕ, ◌<◌, ◌^◌, Bool, true, false, ◌==◌, ◌&&◌, cond, List, map, refl, sym, ◌∙◌, ap, subst}
+use Rattle.std.proofs.Common.{◌≡◌, ℕ, ◌<◌, ◌^◌, Bool, true, false, ◌&&◌, List, map, sym, ◌∙◌, ap, arith}
 use Rattle.std.proofs.Math.Bool.{and-false}
-use Rattle.std.specs.Int.{bit_at}
-use Rattle.list_laws.proofs.Cases.{by_test}
 use Rattle.relax_edges.specs.declared.kinds.Dir.TheVariants as dirs
-use Rattle.relax_edges.specs.declared.kinds.Reach.TheVariants.{Internal, External}
-use Rattle.relax_edges.specs.declared.kinds.DepKind.TheVariants as deps
 use Rattle.relax_edges.specs.declared.kinds.Kind.{Kind}
-use Rattle.relax_edges.specs.declared.kinds.Kind.TheVariants as kinds
 use Rattle.relax_edges.specs.EdgeTable.{kind_source}
 use Rattle.arch_trait.specs.declared.link.Link.{Link}
 use Rattle.arch_trait.specs.Links.{kind_link, branches, is_addr, is_data, mask_if, link_control}
 use Rattle.arch_laws.proofs.Items.{control_row}
 use Rattle.program_meaning.specs.Accesses.{Access, is_read, reads_by, reads_before}
-use Rattle.program_meaning.specs.Standing.{NamedAccess, BarriersWait, IsTied, TiesBy, is_in_mask, mask_of}
+use Rattle.program_meaning.specs.Standing.{NamedAccess, IsTied, TiesBy, is_in_mask, mask_of}
 use Rattle.test_laws.proofs.Visits.{link_barred}
 
 -- an access follows another in its thread, by the link of an edge of a kind: load number k is the other access, if that
@@ -29,19 +24,11 @@ pub record Follows (kind : Kind) (threads : List (List Access)) (e f : NamedAcce
 
 -- a read is in the mask of the branches before the next access where the link between them branches
 in_control : (kind : Kind) (threads : List (List Access)) (e f : NamedAccess) (k c : ℕ) → Follows kind threads e f k c → (link : Link) → is_in_mask threads e (link_control link k c) ≡ (is_read e.visit.access && branches link)
-in_control kind threads e f k c h link =
-    by_test (is_read e.visit.access)
-    (λ t. rw t (ap (λ j. bit_at (link_control link k c) j == 1) (h.reads_are t) ∙ ap (λ b. b == 1) (control_row link k c (h.earlier t)) ∙ one_if (branches link)))
-    (λ u. rw u refl)
-  where
-    one_if : (b : Bool) → (cond b 1 0 == 1) ≡ b
-    one_if true = refl
-    one_if false = refl
+in_control kind threads e f k c h link = grind (arith, control_row)
 
 -- where the link doesn't branch
 off : (kind : Kind) (threads : List (List Access)) (e f : NamedAccess) (k c : ℕ) → Follows kind threads e f k c → branches (kind_link kind) ≡ false → is_in_mask threads e f.visit.control_mask ≡ false
-off kind threads e f k c h b =
-    ap (is_in_mask threads e) h.control ∙ in_control kind threads e f k c h (kind_link kind) ∙ ap (λ t. is_read e.visit.access && t) b ∙ and-false (is_read e.visit.access)
+off kind threads e f k c h b = grind (arith, in_control kind threads e f k c h (kind_link kind), and-false (is_read e.visit.access))
 
 -- what a dependency leaves is a read
 leaves_read : (kind : Kind) (threads : List (List Access)) (e f : NamedAccess) (k c : ℕ) → Follows kind threads e f k c → kind_source kind ≡ dirs.R → is_read e.visit.access ≡ true
@@ -49,19 +36,13 @@ leaves_read kind threads e f k c h s = ap reads_by (h.leaves ∙ s)
 
 -- where it does, from a read
 on : (kind : Kind) (threads : List (List Access)) (e f : NamedAccess) (k c : ℕ) → Follows kind threads e f k c → kind_source kind ≡ dirs.R → branches (kind_link kind) ≡ true → is_in_mask threads e (link_control (kind_link kind) k c) ≡ true
-on kind threads e f k c h s b =
-    in_control kind threads e f k c h (kind_link kind) ∙ ap (λ t. is_read e.visit.access && t) b ∙ (let r = leaves_read kind threads e f k c h s in rw r refl)
+on kind threads e f k c h s b = grind (arith, in_control kind threads e f k c h (kind_link kind), leaves_read kind threads e f k c h s)
 
 -- a link that is no dependency of the address or of the data ties the next access by its barriers and by its branch alone
 tied_by : (kind : Kind) (threads : List (List Access)) (e f : NamedAccess) (k c : ℕ) (controlled : Bool) → Follows kind threads e f k c
     → is_addr (kind_link kind) ≡ false → is_data (kind_link kind) ≡ false → is_in_mask threads e f.visit.control_mask ≡ controlled
     → IsTied threads e f (map (λ b. b.kind) (link_barred (kind_link kind) k c)) 0 0 controlled
-tied_by kind threads e f k c controlled h address data_mask control = record {
-  barriers_are = ap (map (λ b. b.kind)) h.barriers;
-  address_is = h.address ∙ ap (λ t. mask_if t k) address;
-  data_is = h.stored ∙ ap (λ t. mask_if t k) data_mask;
-  control_is = control;
-}
+tied_by kind threads e f k c controlled h address data_mask control = grind arith
 
 -- where it doesn't branch
 unbranched : (kind : Kind) (threads : List (List Access)) (e f : NamedAccess) (k c : ℕ) → Follows kind threads e f k c → is_addr (kind_link kind) ≡ false → is_data (kind_link kind) ≡ false
@@ -80,28 +61,4 @@ alone kind threads e f k c h s = ap (λ j. 2 ^ j) (sym (h.reads_are (leaves_read
 
 -- an edge ties the two as it says
 pub ties : (kind : Kind) (threads : List (List Access)) (e f : NamedAccess) (k c : ℕ) → Follows kind threads e f k c → TiesBy kind threads e f
-ties (kinds.Com kind Internal) threads e f k c h = unbranched (kinds.Com kind Internal) threads e f k c h refl refl refl
-ties (kinds.Com kind External) threads e f k c h = tt
-ties (kinds.Po sd from to) threads e f k c h = unbranched (kinds.Po sd from to) threads e f k c h refl refl refl
-ties (kinds.Fenced kind sd from to) threads e f k c h = unbranched (kinds.Fenced kind sd from to) threads e f k c h refl refl refl
-ties (kinds.Dep deps.Addr sd to) threads e f k c h = record {
-  barriers_are = ap (map (λ b. b.kind)) h.barriers;
-  address_is = h.address ∙ alone (kinds.Dep deps.Addr sd to) threads e f k c h refl;
-  data_is = h.stored;
-  control_is = off (kinds.Dep deps.Addr sd to) threads e f k c h refl;
-}
-ties (kinds.Dep deps.Ctrl sd to) threads e f k c h = branched (kinds.Dep deps.Ctrl sd to) threads e f k c h refl refl refl refl
-ties (kinds.Dep deps.CtrlIsync sd to) threads e f k c h = (
-  branched (kinds.Dep deps.CtrlIsync sd to) threads e f k c h refl refl refl refl,
-  subst (BarriersWait threads e) (sym h.barriers) (on (kinds.Dep deps.CtrlIsync sd to) threads e f k c h refl refl, tt),
-)
-ties (kinds.Dep deps.CtrlIsb sd to) threads e f k c h = (
-  branched (kinds.Dep deps.CtrlIsb sd to) threads e f k c h refl refl refl refl,
-  subst (BarriersWait threads e) (sym h.barriers) (on (kinds.Dep deps.CtrlIsb sd to) threads e f k c h refl refl, tt),
-)
-ties (kinds.Data sd) threads e f k c h = record {
-  barriers_are = ap (map (λ b. b.kind)) h.barriers;
-  address_is = h.address;
-  data_is = h.stored ∙ alone (kinds.Data sd) threads e f k c h refl;
-  control_is = off (kinds.Data sd) threads e f k c h refl;
-}
+ties x threads e f k c h = grind (arith, unbranched, alone, off, branched, on)

@@ -5,11 +5,9 @@ use Rattle.std.specs.List.{list_all}
 use Rattle.std.proofs.lemmas.Option.{slice_get_within}
 use Rattle.list_laws.specs.Numbers.{upto}
 use Rattle.list_laws.proofs.Cases.{by_test}
-use Rattle.relax_edges.specs.declared.kinds.Reach.TheVariants.{Internal, External}
 use Rattle.relax_edges.specs.declared.kinds.ArchName.{ArchName}
 use Rattle.relax_edges.specs.declared.kinds.ObsMode.{ObsMode}
 use Rattle.relax_edges.specs.declared.kinds.Kind.{Kind}
-use Rattle.relax_edges.specs.declared.kinds.Kind.TheVariants as kinds
 use Rattle.relax_edges.specs.declared.edge.Edge.{Edge}
 use Rattle.relax_edges.specs.EdgeTable.{kind_of, source_mark, is_of_arch, is_external}
 use Rattle.resolution_laws.specs.Resolution.{IsResolved, edge_at, move_count, thread_of as event_thread, slot_of, events_in, event_after}
@@ -21,8 +19,7 @@ use Rattle.arch_trait.specs.declared.step.Step.{Step}
 use Rattle.arch_trait.specs.declared.link.Link.TheVariants.{Plain}
 use Rattle.arch_trait.specs.Links.{edge_link}
 use Rattle.arch_trait.specs.Threads.{ThreadCode, loads_in, control_after, thread_items}
-use Rattle.program_meaning.specs.declared.WriteAt.{WriteAt}
-use Rattle.program_meaning.specs.Accesses.{Access, Visit, got_from, at_name, accesses_of, barriers_after, reads_among, reads_before}
+use Rattle.program_meaning.specs.Accesses.{Access, Visit, accesses_of, barriers_after, reads_among, reads_before}
 use Rattle.program_meaning.specs.Executions.{Execution}
 use Rattle.program_meaning.specs.Programs.{IsCandidate, visits_in, accesses_in}
 use Rattle.program_meaning.specs.Standing.{NamedAccess, IsEvent, StartsFree, TiesBy}
@@ -40,26 +37,16 @@ use Rattle.test_laws.proofs.ThreadRuns.{AreCodesOf, DidThread, did_thread, Threa
 use Rattle.test_laws.proofs.Making.{candidate_enough, candidate_lists}
 
 -- an edge to another thread ties nothing
-external_ties : (kind : Kind) (edge : Edge) (threads : List (List Access)) (e f : NamedAccess) → kind_of edge ≡ kind → is_external edge ≡ true → TiesBy kind threads e f
-external_ties (kinds.Com which Internal) edge threads e f q h = let a = rw q at h in cc
-external_ties (kinds.Com which External) edge threads e f q h = tt
-external_ties (kinds.Po sd from to) edge threads e f q h = let a = rw q at h in cc
-external_ties (kinds.Fenced _ sd from to) edge threads e f q h = let a = rw q at h in cc
-external_ties (kinds.Dep dep sd to) edge threads e f q h = let a = rw q at h in cc
-external_ties (kinds.Data sd) edge threads e f q h = let a = rw q at h in cc
+pub external_ties : (kind : Kind) (edge : Edge) (threads : List (List Access)) (e f : NamedAccess) → kind_of edge ≡ kind → is_external edge ≡ true → TiesBy kind threads e f
+external_ties x edge threads e f q h = grind arith
 
 -- what the run of a thread made
 thread_did : (codes : List ThreadCode) (es : List Edge) (mode : ObsMode) (number : ℕ → ℕ) (x : Execution) (k : ℕ) → AreCodesOf codes (cycle_steps es mode number) → IsCandidate (program_of codes (move_count es)) x → (t : ThreadOf (cycle_steps es mode number) x k) → DidThread codes (move_count es) x k t.steps t.reads
-thread_did codes es mode number x k m c t =
-    did_thread codes (cycle_steps es mode number) (move_count es) x k t.steps t.reads m t.steps_at t.reads_at (candidate_enough codes es mode number x m c k t.steps t.reads t.steps_at t.reads_at)
+thread_did codes es mode number x k m c t = grind (arith, did_thread, candidate_enough)
 
 -- an event is at its slot among the visits of its thread
 event_visit : (es : List Edge) (visits : List (List Visit)) (i : ℕ) (e : NamedAccess) (k j : ℕ) (thread : List Visit) → IsEvent es visits i e → event_thread es i ≡ k → slot_of es i ≡ j → slice_get visits k ≡ Some thread → slice_get thread j ≡ Some e.visit
-event_visit es visits i e k j thread v t s g =
-    ap (λ o. got_from o j) (sym g)
-    ∙ ap (λ (n : WriteAt). at_name visits n) (λ z. record { thread = sym t z; access = sym s z })
-    ∙ ap (at_name visits) (sym v.name_is)
-    ∙ v.visit_is
+event_visit es visits i e k j thread v t s g = grind arith
 
 -- two events that an internal edge joins: the second follows the first in its thread, by the edge's link
 record IsAfter (codes : List ThreadCode) (es : List Edge) (mode : ObsMode) (number : ℕ → ℕ) (x : Execution) (i : ℕ) (e f : NamedAccess) : Type 0 where
@@ -123,17 +110,11 @@ is_after arch codes es mode number x i e f r o m c h inside u v =
 
 -- the visits of a thread of the test are those of its steps
 visits_of_thread : (codes : List ThreadCode) (es : List Edge) (mode : ObsMode) (number : ℕ → ℕ) (x : Execution) (k : ℕ) (visits : List Visit) (m : AreCodesOf codes (cycle_steps es mode number)) (c : IsCandidate (program_of codes (move_count es)) x) (t : ThreadOf (cycle_steps es mode number) x k) → slice_get (visits_in (program_of codes (move_count es)) x) k ≡ Some visits → thread_visits t.steps 0 0 (values_read t.reads) ≡ visits
-visits_of_thread codes es mode number x k visits m c t g =
-    let d = thread_did codes es mode number x k m c t in
-    let s : Some (thread_visits t.steps 0 0 (values_read t.reads)) ≡ Some visits = sym d.visits_are ∙ g in
-    let e : thread_visits t.steps 0 0 (values_read t.reads) ≡ visits = cc in
-    e
+visits_of_thread codes es mode number x k visits m c t g = grind (arith, thread_did codes es mode number x k m c t)
 
 -- no edge ties the accesses of an observer or marks them
 observer_plain : (es : List Edge) (number : ℕ → ℕ) (location j : ℕ) (s : Step) → slice_get (observer_steps es number location) j ≡ Some s → IsPlain s
-observer_plain es number location j s g =
-    let i = image_of (observing (number location)) (upto (write_count es location)) j s g in
-    record { link = sym (ap (λ (y : Step). y.link) i.image); mark = sym (ap (λ (y : Step). y.mark) i.image) }
+observer_plain es number location j s g = grind (arith, image_of (observing (number location)) (upto (write_count es location)) j s g)
 
 -- nor does one tie the first access of a thread
 first_plain : (es : List Edge) (mode : ObsMode) (number : ℕ → ℕ) (k : ℕ) (steps : List Step) (s : Step) → slice_get (cycle_steps es mode number) k ≡ Some steps → slice_get steps 0 ≡ Some s → s.link ≡ Plain

@@ -1,19 +1,16 @@
 -- The accesses of a thread's run as visits: each with its mark, with the barriers of its link before it and with its masks.
-use Rattle.std.proofs.Common.{◌≡◌, ℕ, ◌+◌, ◌-◌, cond, List, [], ◌∷◌, ◌++◌, length, map, refl, ◌∙◌, ap, append_assoc, arith}
+use Rattle.std.proofs.Common.{◌≡◌, ℕ, ◌+◌, ◌-◌, cond, List, [], ◌∷◌, length, map, refl, ◌∙◌, ap, arith}
 use Rattle.std.proofs.lemmas.List.Sums.{sum_by-cons}
 use Rattle.relax_edges.specs.declared.kinds.Dir.{Dir}
 use Rattle.relax_edges.specs.declared.kinds.Dir.TheVariants as dirs
 use Rattle.relax_edges.specs.declared.kinds.FenceKind.TheVariants as fences
-use Rattle.micro_ops.specs.declared.operation.Barrier.{Barrier}
 use Rattle.micro_ops.specs.declared.operation.Barrier.TheVariants as kinds
-use Rattle.micro_ops.specs.declared.operation.Item.{Item}
-use Rattle.micro_ops.specs.declared.operation.Item.TheVariants as items
 use Rattle.arch_trait.specs.declared.step.Step.{Step}
 use Rattle.arch_trait.specs.declared.link.Link.{Link}
 use Rattle.arch_trait.specs.declared.link.Link.TheVariants as links
-use Rattle.arch_trait.specs.Links.{is_addr, is_data, mask_if, link_control, link_items}
-use Rattle.arch_trait.specs.Threads.{is_load_dir, loads_in, loads_after, first_number, left_after, access_item, thread_items}
-use Rattle.program_meaning.specs.Accesses.{Access, Barred, Visit, visits_from, visits_of, barriers_after, accesses_of}
+use Rattle.arch_trait.specs.Links.{is_addr, is_data, mask_if, link_control}
+use Rattle.arch_trait.specs.Threads.{is_load_dir, loads_in, loads_after, first_number, left_after, thread_items}
+use Rattle.program_meaning.specs.Accesses.{Access, Barred, Visit, visits_of, barriers_after, accesses_of}
 use Rattle.communication_laws.specs.Joining.{value_taken, values_left, accesses_filled}
 
 -- the barriers of a link
@@ -53,57 +50,19 @@ thread_visits [] n c vs = []
 thread_visits (s ∷ ss) n c vs =
     step_visit s s.dir (first_number vs) (n - 1) c ∷ thread_visits ss (loads_after s.dir n) (link_control s.link (n - 1) c) (left_after s.dir vs)
 
--- what goes through items with the barriers that it passed has passed a link's barriers after the link's items
-through_link : {X : Type 0} (f : List Barred → List Item → X) → ((kind : Barrier) (control : ℕ) (rest : List Item) → f [] (items.Barrier kind control ∷ rest) ≡ f (record { kind = kind; control = control } ∷ []) rest)
-    → (l : Link) (k c : ℕ) (rest : List Item) → f [] (link_items l k c ++ rest) ≡ f (link_barred l k c) rest
-through_link f passes links.Plain k c rest = refl
-through_link f passes (links.Fence kind) k c rest = passes (kinds.Fence kind) c rest
-through_link f passes links.Addr k c rest = refl
-through_link f passes links.Data k c rest = refl
-through_link f passes links.Ctrl k c rest = refl
-through_link f passes links.CtrlIsync k c rest = passes (kinds.Fence fences.ISync) (link_control links.CtrlIsync k c) rest
-through_link f passes links.CtrlIsb k c rest = passes kinds.Isb (link_control links.CtrlIsb k c) rest
-
-item_visit : (s : Step) (d : Dir) (v k c : ℕ) (rest : List Item) → visits_from [] ((link_items s.link k c ++ access_item s d v k (link_control s.link k c) ∷ []) ++ rest) ≡ step_visit s d v k c ∷ visits_from [] rest
-item_visit s d v k c rest =
-    ap (visits_from []) (append_assoc (link_items s.link k c) (access_item s d v k (link_control s.link k c) ∷ []) rest)
-    ∙ through_link visits_from (λ kind control rest. refl) s.link k c (access_item s d v k (link_control s.link k c) ∷ rest) ∙ of_access d
-  where
-    of_access : (d : Dir) → visits_from (link_barred s.link k c) (access_item s d v k (link_control s.link k c) ∷ rest) ≡ step_visit s d v k c ∷ visits_from [] rest
-    of_access dirs.R = refl
-    of_access dirs.W = refl
-
 -- the items of a thread are these visits
 pub visits_are : (ss : List Step) (n c : ℕ) (vs : List ℕ) → visits_of (thread_items ss n c vs) ≡ thread_visits ss n c vs
 visits_are [] n c vs = refl
-visits_are (s ∷ ss) n c vs =
-    item_visit s s.dir (first_number vs) (n - 1) c (thread_items ss (loads_after s.dir n) (link_control s.link (n - 1) c) (left_after s.dir vs))
-    ∙ ap (λ l. step_visit s s.dir (first_number vs) (n - 1) c ∷ l) (visits_are ss (loads_after s.dir n) (link_control s.link (n - 1) c) (left_after s.dir vs))
-
-item_ends : (s : Step) (d : Dir) (v k c : ℕ) (rest : List Item) → barriers_after [] ((link_items s.link k c ++ access_item s d v k (link_control s.link k c) ∷ []) ++ rest) ≡ barriers_after [] rest
-item_ends s d v k c rest =
-    ap (barriers_after []) (append_assoc (link_items s.link k c) (access_item s d v k (link_control s.link k c) ∷ []) rest)
-    ∙ through_link barriers_after (λ kind control rest. refl) s.link k c (access_item s d v k (link_control s.link k c) ∷ rest) ∙ of_access d
-  where
-    of_access : (d : Dir) → barriers_after (link_barred s.link k c) (access_item s d v k (link_control s.link k c) ∷ rest) ≡ barriers_after [] rest
-    of_access dirs.R = refl
-    of_access dirs.W = refl
+visits_are (s ∷ ss) n c vs = grind (arith, visits_are ss (loads_after s.dir n) (link_control s.link (n - 1) c) (left_after s.dir vs))
 
 -- no barrier comes after the last access of a thread
 pub ends_free : (ss : List Step) (n c : ℕ) (vs : List ℕ) → barriers_after [] (thread_items ss n c vs) ≡ []
 ends_free [] n c vs = refl
-ends_free (s ∷ ss) n c vs =
-    item_ends s s.dir (first_number vs) (n - 1) c (thread_items ss (loads_after s.dir n) (link_control s.link (n - 1) c) (left_after s.dir vs))
-    ∙ ends_free ss (loads_after s.dir n) (link_control s.link (n - 1) c) (left_after s.dir vs)
+ends_free (s ∷ ss) n c vs = grind (arith, ends_free ss (loads_after s.dir n) (link_control s.link (n - 1) c) (left_after s.dir vs))
 
 -- an access as the cycle's test plans it
 abbrev pub step_access : Step → Access
 step_access s = record { dir = s.dir; place = s.place; value = s.value }
-
-left_same : (d : Dir) (vs : List ℕ) → left_after d vs ≡ values_left d vs
-left_same dirs.R [] = refl
-left_same dirs.R (v ∷ vs) = refl
-left_same dirs.W vs = refl
 
 -- with a number for each load, the accesses are those planned, on these numbers
 pub accesses_are : (ss : List Step) (n c : ℕ) (vs : List ℕ) → length vs ≡ loads_in ss → accesses_of (thread_visits ss n c vs) ≡ accesses_filled (map step_access ss) vs

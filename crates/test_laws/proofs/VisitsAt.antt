@@ -8,7 +8,6 @@ use Rattle.relax_edges.specs.declared.kinds.Dir.TheVariants as dirs
 use Rattle.relax_edges.specs.declared.kinds.Mark.TheVariants as marks
 use Rattle.relax_edges.specs.declared.kinds.ArchName.{ArchName}
 use Rattle.arch_trait.specs.declared.step.Step.{Step}
-use Rattle.arch_trait.specs.declared.link.Link.{Link}
 use Rattle.arch_trait.specs.declared.link.Link.TheVariants.{Plain}
 use Rattle.arch_trait.specs.Links.{link_control}
 use Rattle.arch_trait.specs.Threads.{FitSteps, is_load_dir, loads_in, loads_after, first_number, left_after, control_after}
@@ -26,16 +25,11 @@ pub record IsVisit (s : Step) (k c : ℕ) (visit : Visit) : Type 0 where
 
 -- the visit at a place is that of the access there, as the accesses before it leave it
 pub visit_at : (ss : List Step) (n c : ℕ) (vs : List ℕ) (j : ℕ) (s : Step) (visit : Visit) → slice_get ss j ≡ Some s → slice_get (thread_visits ss n c vs) j ≡ Some visit → IsVisit s (n + loads_in (take j ss) - 1) (control_after (take j ss) n c) visit
-visit_at [] n c vs j s visit g h = cc
-visit_at (t ∷ ss) n c vs zero s visit g h =
-    let e : t ≡ s = cc in
-    let f : step_visit t t.dir (first_number vs) (n - 1) c ≡ visit = cc in
-    let z : n + 0 ≡ n = omega arith in
-    record { value = first_number vs; is = rw z (sym f ∙ ap (λ u. step_visit u u.dir (first_number vs) (n - 1) c) e) }
 visit_at (t ∷ ss) n c vs (suc j) s visit g h =
     let w = visit_at ss (loads_after t.dir n) (link_control t.link (n - 1) c) (left_after t.dir vs) j s visit g h in
     let e : loads_after t.dir n + loads_in (take j ss) ≡ n + loads_in (t ∷ take j ss) = omega (arith, sum_by-cons (λ u. cond (is_load_dir u.dir) 1 0) t (take j ss)) in
     record { value = w.value; is = w.is ∙ ap (λ m. step_visit s s.dir w.value (m - 1) (control_after (take j ss) (loads_after t.dir n) (link_control t.link (n - 1) c))) e }
+visit_at ss n c vs j s visit g h = grind arith
 
 -- there are as many visits as accesses
 pub visits-count : (ss : List Step) (n c : ℕ) (vs : List ℕ) → length (thread_visits ss n c vs) ≡ length ss
@@ -44,8 +38,7 @@ visits-count (s ∷ ss) n c vs = ap suc (visits-count ss (loads_after s.dir n) (
 
 -- an access reads where it loads
 pub reads_same : (d : Dir) → reads_by d ≡ is_load_dir d
-reads_same dirs.R = refl
-reads_same dirs.W = refl
+reads_same d = grind arith
 
 -- how many accesses before a place read
 pub reads_taken : (ss : List Step) (n c : ℕ) (vs : List ℕ) (j : ℕ) → count_by is_read (take j (accesses_of (thread_visits ss n c vs))) ≡ loads_in (take j ss)
@@ -60,18 +53,12 @@ reads_taken (s ∷ ss) n c vs (suc j) =
 
 -- one more access
 pub loads_more : (ss : List Step) (j : ℕ) (s : Step) → slice_get ss j ≡ Some s → loads_in (take (suc j) ss) ≡ loads_in (take j ss) + cond (is_load_dir s.dir) 1 0
-loads_more [] j s g = cc
-loads_more (t ∷ ss) zero s g =
-    let e : t ≡ s = cc in
-    sum_by-cons (λ u. cond (is_load_dir u.dir) 1 0) t [] ∙ (let f : ◌≡◌ {A = ℕ} (cond (is_load_dir t.dir) 1 0) (cond (is_load_dir s.dir) 1 0) = ap (λ (u : Step). cond (is_load_dir u.dir) 1 0) e in omega (arith, f))
 loads_more (t ∷ ss) (suc j) s g =
     omega (arith, sum_by-cons (λ u. cond (is_load_dir u.dir) 1 0) t (take (suc j) ss), sum_by-cons (λ u. cond (is_load_dir u.dir) 1 0) t (take j ss), loads_more ss j s g)
+loads_more ss j s g = grind arith
 
 -- after an access, and the link of the next one, branches depend only on loads before the access
 pub control_later : (arch : ArchName) (b : Bool) (ss : List Step) (n c j : ℕ) → FitSteps arch b ss → (b ≡ true → 0 < n) → c < 2 ^ n → j < length ss → control_after (take (suc j) ss) n c < 2 ^ (n + loads_in (take j ss))
-control_later arch b [] n c j fit some h l = absurd (omega arith)
-control_later arch b (s ∷ ss) n c zero fit some h l =
-    let z : n + 0 ≡ n = omega arith in rw z (link_below s.link n c (λ t. some (fit.0.after (branch_depends s.link t))) h)
 control_later arch b (s ∷ ss) n c (suc j) fit some h l =
     let e : loads_after s.dir n + loads_in (take j ss) ≡ n + loads_in (s ∷ take j ss) = omega (arith, sum_by-cons (λ u. cond (is_load_dir u.dir) 1 0) s (take j ss)) in
     let here = link_below s.link n c (λ t. some (fit.0.after (branch_depends s.link t))) h in
@@ -82,17 +69,11 @@ control_later arch b (s ∷ ss) n c (suc j) fit some h l =
     one_more : (d : Dir) (n : ℕ) → is_load_dir d ≡ true → 0 < loads_after d n
     one_more dirs.R n e = omega arith
     one_more dirs.W n e = cc
+control_later arch b ss n c j fit some h l = grind (arith, link_below, branch_depends)
 
 -- an access that no edge ties is free, where no branch depended on a load before
 free_alone : (s : Step) (d : Dir) (v k : ℕ) → s.link ≡ Plain → IsFree (step_visit s d v k 0)
-free_alone s d v k e = of_link s.link e
-  where
-    of_link : (l : Link) → l ≡ Plain → IsFree (step_visit (record s { link = l }) d v k 0)
-    of_link l f = subst (λ (x : Link). IsFree (step_visit (record s { link = x }) d v k 0)) (sym f) (plain d)
-      where
-        plain : (d : Dir) → IsFree (step_visit (record s { link = Plain }) d v k 0)
-        plain dirs.R = record { address = refl; stored = refl; control = refl }
-        plain dirs.W = record { address = refl; stored = refl; control = refl }
+free_alone s d v k e = grind arith
 
 -- the first access of a thread is free
 pub starts_free : (ss : List Step) (vs : List ℕ) → ((s : Step) → slice_get ss 0 ≡ Some s → s.link ≡ Plain) → StartsFree (thread_visits ss 0 0 vs)

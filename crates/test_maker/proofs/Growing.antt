@@ -1,9 +1,9 @@
 -- How a test grows thread by thread.
-use Rattle.std.proofs.Common.{◌≡◌, ℕ, zero, suc, ◌+◌, ◌<◌, ◌≤◌, cond, true, false, List, [], ◌∷◌, ◌++◌, length, take, drop, map, Option, Some, None, Ok, Err, refl, sym, ◌∙◌, ap, arith, slice_get, append_assoc, length-take, append-nil}
+use Rattle.std.proofs.Common.{◌≡◌, ℕ, zero, suc, ◌+◌, ◌<◌, ◌≤◌, cond, true, false, List, [], ◌∷◌, ◌++◌, length, take, drop, map, Option, Some, Ok, Err, sym, ◌∙◌, ap, arith, slice_get, append_assoc, length-take}
 use Rattle.std.specs.List.{position_from}
 use Rattle.std.specs.Option.{option_map}
 use Rattle.std.proofs.lemmas.Option.{get_or_from_slice_get}
-use Rattle.std.proofs.lemmas.List.{drop_all, length-map, map-append, take_all, take_more}
+use Rattle.std.proofs.lemmas.List.{length-map, map-append, take_more}
 use Rattle.list_laws.proofs.Elements.{drop_given}
 use Rattle.arrayvec.specs.ArrayVec.{ArrayVec}
 use Rattle.relax_edges.specs.declared.TheConstants.{MAX_EDGES}
@@ -24,7 +24,7 @@ use Rattle.test_laws.proofs.Terms.{load_terms_more, reads-count, terms_room, thr
 use Rattle.test_maker.specs.declared.refusal.MakeRefusal.{MakeRefusal}
 use Rattle.test_maker.specs.declared.refusal.MakeRefusal.TheVariants.{TooManyRegisters}
 use Rattle.test_maker.specs.Refusals.{crowded_thread, is_crowded}
-use Rattle.test_maker.specs.ConditionTerms.{PutsThread, PutsThreads}
+use Rattle.test_maker.specs.ConditionTerms.{PutsThread}
 
 -- the number of the first thread that needs too many registers
 abbrev pub crowded : Puts → List Edge → ObsMode → Option ℕ
@@ -44,16 +44,6 @@ got_within (y ∷ ys) (suc i) x h = let k = got_within ys i x h in omega (arith,
 
 take_got : {X : Type 0} (xs : List X) (i : ℕ) (x : X) → slice_get xs i ≡ Some x → take (i + 1) xs ≡ take i xs ++ x ∷ []
 take_got xs i x h = take_more xs i x (got_within xs i x h) ∙ ap (λ y. take i xs ++ y ∷ []) (get_or_from_slice_get xs i x x h)
-
--- no thread is made so far
-pub grown_none : (a : Puts) (name : ℕ → List ℕ) (es : List Edge) (mode : ObsMode) (threads : ArrayVec Code) (cond : Cond) →
-    threads.items ≡ [] → Grown a name es mode 0 threads cond cond
-grown_none a name es mode threads cond none = record {
-  fitting = refl;
-  codes = ap (map thread_code_of) none;
-  quantifier = refl;
-  terms = sym (append-nil (map term_view cond.terms.items));
-}
 
 -- one more thread
 pub grown_more : (a : Puts) (name : ℕ → List ℕ) (es : List Edge) (mode : ObsMode) (k : ℕ) (steps : List Step) (threads threads' : ArrayVec Code) (cond0 cond1 cond2 : Cond) →
@@ -88,18 +78,6 @@ grown_refused a name es mode k steps threads threads' cond0 cond1 cond2 refusal 
     ap (position_from (is_crowded a) k) (drop_given (cycle_steps es mode plain) k steps got) ∙
     ap (λ b. cond b (Some k) (position_from (is_crowded a) (k + 1) (drop (k + 1) (cycle_steps es mode plain)))) put.0 in
     ap (option_map (λ thread. TooManyRegisters thread)) (sym g.fitting ∙ here) ∙ ap Some (sym put.1)
-
--- all threads are made
-pub grown_all : (a : Puts) (name : ℕ → List ℕ) (es : List Edge) (mode : ObsMode) (k : ℕ) (threads : ArrayVec Code) (cond0 cond1 : Cond) →
-    Grown a name es mode k threads cond0 cond1 → length (cycle_steps es mode plain) ≤ k → PutsThreads a name es mode threads cond0 cond1 (Ok tt)
-grown_all a name es mode k threads cond0 cond1 g h =
-    let all : take k (cycle_steps es mode plain) ≡ cycle_steps es mode plain = take_all k (cycle_steps es mode plain) h in
-    let none : crowded a es mode ≡ None = sym g.fitting ∙ ap (position_from (is_crowded a) k) (drop_all k (cycle_steps es mode plain) h) in (
-      ap (option_map (λ thread. TooManyRegisters thread)) none,
-      g.codes ∙ ap (map (compiled a)) all,
-      g.quantifier,
-      g.terms ∙ ap (λ steps. map term_view cond0.terms.items ++ load_terms a name 0 steps) all,
-    )
 
 -- there is room for a thread
 pub thread_room : (a : Puts) (name : ℕ → List ℕ) (es : List Edge) (mode : ObsMode) (k : ℕ) (threads : ArrayVec Code) (cond0 cond1 : Cond) →

@@ -1,9 +1,8 @@
 -- A write that needs an observer is at a location of its cycle.
-use Rattle.std.proofs.Common.{◌≡◌, ℕ, zero, suc, ◌<◌, ◌≤◌, List, [], ◌∷◌, ◌++◌, length, Option, Some, None, Ok, Err, arith, subst, refl, sym, ap, ◌∙◌}
-use Rattle.std.specs.Prelude.{Result, IfErr}
-use Rattle.std.specs.List.{AllByRecursion, position_from}
+use Rattle.std.proofs.Common.{◌≡◌, ℕ, zero, suc, ◌<◌, ◌≤◌, List, [], ◌∷◌, ◌++◌, length, Option, Some, None, Err, arith, subst, refl, sym, ap, ◌∙◌}
+use Rattle.std.specs.Prelude.{Result}
+use Rattle.std.specs.List.{AllByRecursion}
 use Rattle.std.specs.Option.{option_map, option_or}
-use Rattle.std.proofs.lemmas.Option.{same_Some}
 use Rattle.relax_edges.specs.declared.TheConstants.{MAX_EDGES}
 use Rattle.relax_edges.specs.declared.edge.Edge.{Edge}
 use Rattle.relax_edges.specs.declared.kinds.ObsMode.{ObsMode}
@@ -13,14 +12,6 @@ use Rattle.resolution_laws.specs.Resolution.{move_count}
 use Rattle.resolution_laws.proofs.Sizes.{external_and_moves}
 use Rattle.value_laws.specs.declared.needs.NeedsObserver.{NeedsObserver}
 use Rattle.value_laws.specs.Values.{Valuation, valuation_of, observer_need, first_need, first_inner_entry}
-use Rattle.arch_trait.specs.Threads.{Puts}
-use Rattle.arch_trait.specs.SeenTests.{TestSeen}
-use Rattle.test_laws.specs.CycleSteps.{cycle_steps}
-use Rattle.test_laws.specs.TestOf.{plain}
-use Rattle.test_maker.specs.declared.refusal.MakeRefusal.{MakeRefusal}
-use Rattle.test_maker.specs.declared.refusal.MakeRefusal.TheVariants.{TooManyRegisters}
-use Rattle.test_maker.specs.Refusals.{is_crowded}
-use Rattle.test_maker.specs.Made.{MakesValued, NamesLocation}
 use Rattle.value_laws.proofs.Entries.{avoid_refused, avoid_allowed}
 
 all_with : (b n : ℕ) (xs : List ℕ) → AllByRecursion (λ l. l < b) xs → n < b → AllByRecursion (λ l. l < b) (xs ++ n ∷ [])
@@ -62,13 +53,3 @@ need_located es Force need few e = cc e
 need_located es Avoid need few e =
     need_among es MAX_EDGES (upto (move_count es)) need (all_upto MAX_EDGES (move_count es) (omega (arith, few, external_and_moves es)))
     (need_refused es need (observer_need es) refl e)
-
--- a thread that needs too many registers is no location
-pub crowded_located : (a : Puts) (es : List Edge) (mode : ObsMode) (test : TestSeen) (register_name : ℕ → List ℕ) (result : Result (Unit {0}) MakeRefusal)
-    → MakesValued a register_name es mode test result → IfErr result NamesLocation
-crowded_located a es mode test register_name (Ok _) h = tt
-crowded_located a es mode test register_name (Err refusal) h = thread_named (position_from (is_crowded a) 0 (cycle_steps es mode plain)) refusal h
-  where
-    thread_named : (o : Option ℕ) (refusal : MakeRefusal) → option_map (λ thread. TooManyRegisters thread) o ≡ Some refusal → NamesLocation refusal
-    thread_named (Some at) refusal e = subst (λ (r : MakeRefusal). NamesLocation r) (same_Some (TooManyRegisters at) refusal e) tt
-    thread_named None refusal e = cc e

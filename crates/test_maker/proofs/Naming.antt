@@ -1,7 +1,6 @@
 -- The terms of the locations whose last value is named.
 use Rattle.std.proofs.Common.{◌≡◌, true, ℕ, ◌+◌, ◌<◌, List, [], ◌∷◌, ◌++◌, length, map, sym, ap, ◌∙◌, arith, slice_index_or}
 use Rattle.std.specs.List.{filter}
-use Rattle.std.proofs.lemmas.List.FromFn.{length-map-range_with_len}
 use Rattle.std.proofs.lemmas.List.{length-map}
 use Rattle.std.proofs.lemmas.List.FromFn.{get_or-map-range_with_len}
 use Rattle.relax_edges.specs.declared.kinds.ObsMode.{ObsMode}
@@ -17,10 +16,6 @@ use Rattle.arch_trait.specs.PlaceNames.{letters, location_name}
 use Rattle.value_laws.specs.Values.{write_count}
 use Rattle.test_laws.specs.TestOf.{is_named_location, last_term}
 use Rattle.test_maker.proofs.Filling.{found_more}
-
--- there are as many names of locations as locations
-pub letters-length : (n : ℕ) → length (letters n) ≡ n
-letters-length n = length-map-range_with_len location_name 0 n
 
 -- there is room for one more term
 pub last_room : (es : List Edge) (mode : ObsMode) (location : ℕ) (terms : List Term) → IsResolved es →

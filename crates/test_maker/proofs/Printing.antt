@@ -31,11 +31,11 @@ use Rattle.test_maker.specs.Refusals.{crowded_thread, is_crowded}
 use Rattle.test_maker.specs.declared.refusal.MakeRefusal.{MakeRefusal}
 use Rattle.test_maker.specs.Made.{AreOfArch, MadeCanPrint}
 use Rattle.test_maker.specs.ConditionTerms.{PutsThreads}
-use Rattle.test_maker.proofs.Naming.{letters-length}
 use Rattle.litmus_text.specs.declared.test.Test.{Test}
 use Rattle.final_cond.specs.declared.cond.Cond.{Cond}
 use Rattle.arch_trait.specs.PlaceNames.{letters}
 use Rattle.arch_laws.proofs.TakingLaws.{in_order_le}
+use Rattle.arch_laws.proofs.NameLaws.{length-letters}
 
 -- the accesses are at places below a number
 abbrev pub ArePlaced : ℕ → List Step → Type 0
@@ -106,7 +106,7 @@ range_below low (suc count) high h =
     and_from (nat_lt low high) (list_all (λ l. nat_lt l high) (range_with_len (low + 1) count)) (lt-ltb low high (omega (arith, h))) (range_below (low + 1) count high (omega (arith, h)))
 
 -- the code of a thread that is well formed, has few branches and visits places below a number can be printed
-formed_printable : (a : Puts) (n : ℕ) (ss : List Step) (code : Code) → IsFormedCode a ss (thread_code_of code) → branches_in ss ≤ 64 → ArePlaced n ss → IsPrintable a.has a.registers n code
+pub formed_printable : (a : Puts) (n : ℕ) (ss : List Step) (code : Code) → IsFormedCode a ss (thread_code_of code) → branches_in ss ≤ 64 → ArePlaced n ss → IsPrintable a.has a.registers n code
 formed_printable a n ss code formed few placed =
     let labels : labels_below 64 code.instrs.items ≡ true =
     ap (list_all (λ l. nat_lt l 64)) formed.labels ∙ range_below 0 (branches_in ss) 64 (omega (arith, few)) in
@@ -166,7 +166,7 @@ pub made_printable : (a : Puts) (registers : ℕ) → a.registers ≡ registers 
     IsResolved es → AreOfArch a es → test.places ≡ letters (move_count es) → (name : ℕ → List ℕ) (cond0 cond1 : Cond) →
     PutsThreads a name es mode test.threads cond0 cond1 result → MadeCanPrint a registers test result
 made_printable a registers count laws es mode test (Ok _) resolved of_arch places name cond0 cond1 put =
-    let few : length test.places ≡ move_count es = ap length places ∙ letters-length (move_count es) in
+    let few : length test.places ≡ move_count es = ap length places ∙ length-letters (move_count es) in
     subst (λ n. All (λ code. IsPrintable a.has n (length test.places) code) test.threads.items) count
     (subst (λ n. All (λ code. IsPrintable a.has a.registers n code) test.threads.items) (sym few) (all_printable a laws es mode test.threads.items resolved of_arch put.0 put.1))
 made_printable a registers count laws es mode test (Err refusal) resolved of_arch places name cond0 cond1 put = tt

@@ -12,7 +12,7 @@ use Rattle.test_maker.specs.ThreadStarts.{IsThreadStart}
 use Rattle.list_laws.proofs.Ranks.{filter_upto_yes, filter_upto_no}
 
 -- no number below k passes
-filter_none : (p : ℕ → Bool) (k : ℕ) → ((j : ℕ) → j < k → p j ≡ false) → filter p (upto k) ≡ []
+pub filter_none : (p : ℕ → Bool) (k : ℕ) → ((j : ℕ) → j < k → p j ≡ false) → filter p (upto k) ≡ []
 filter_none p zero h = refl
 filter_none p (suc k) h = filter_upto_no p k (h k (omega arith)) ∙ filter_none p k (λ j l. h j (omega (arith, l)))
 
@@ -26,7 +26,7 @@ filter_from p k (suc m) below on =
     (λ g. filter_none p (suc m) (λ j l. below j (omega (arith, l, g))) ∙ sym (drop_all k (upto (suc m)) (omega (arith, g, length-upto (suc m)))))
 
 -- no number from m on passes
-filter_until : (p : ℕ → Bool) (m n : ℕ) → m ≤ n → ((j : ℕ) → m ≤ j → j < n → p j ≡ false) → filter p (upto n) ≡ filter p (upto m)
+pub filter_until : (p : ℕ → Bool) (m n : ℕ) → m ≤ n → ((j : ℕ) → m ≤ j → j < n → p j ≡ false) → filter p (upto n) ≡ filter p (upto m)
 filter_until p m zero h after = let e : zero ≡ m = omega (arith, h) in ap (λ x. filter p (upto x)) e
 filter_until p m (suc n) h after =
     by_less m (suc n)

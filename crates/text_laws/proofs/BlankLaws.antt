@@ -27,22 +27,16 @@ last_inked (b ∷ text) byte h = ap (kept_before b) (last_inked text byte h) ∙
 
 -- a text of one byte or more is the text before its last byte, and that byte
 pub split_at_last : (text : List ℕ) → 1 ≤ length text → text ≡ take (length text - 1) text ++ get_or text (length text - 1) 0 ∷ []
-split_at_last [] h = absurd (omega arith)
-split_at_last (b ∷ []) h = refl
-split_at_last (b ∷ c ∷ text) h =
-    let further : c ∷ text ≡ take (length (c ∷ text) - 1) (c ∷ text) ++ get_or (c ∷ text) (length (c ∷ text) - 1) 0 ∷ [] = split_at_last (c ∷ text) (omega arith) in
-    let e : length (b ∷ c ∷ text) - 1 ≡ suc (length (c ∷ text) - 1) = omega arith in
-    rw e (ap (λ t. b ∷ t) further)
+split_at_last (b ∷ c ∷ text) h = grind (arith, (split_at_last (c ∷ text) (omega arith)))
+split_at_last text h = grind arith
 
 -- a blank at the end of a text falls away
 pub blank_off : (text : List ℕ) → 1 ≤ length text → is_blank (get_or text (length text - 1) 0) ≡ true → before_blanks (take (length text - 1) text) ≡ before_blanks text
-blank_off text h blank =
-    sym (last_blank (take (length text - 1) text) (get_or text (length text - 1) 0) blank) ∙ ap before_blanks (sym (split_at_last text h))
+blank_off text h blank = cc ((last_blank (take (length text - 1) text) (get_or text (length text - 1) 0) blank), (split_at_last text h))
 
 -- a text that ends in another byte has no blanks at its end
 pub inked_stays : (text : List ℕ) → 1 ≤ length text → is_blank (get_or text (length text - 1) 0) ≡ false → before_blanks text ≡ text
-inked_stays text h inked =
-    ap before_blanks (split_at_last text h) ∙ last_inked (take (length text - 1) text) (get_or text (length text - 1) 0) inked ∙ sym (split_at_last text h)
+inked_stays text h inked = cc ((split_at_last text h), (last_inked (take (length text - 1) text) (get_or text (length text - 1) 0) inked))
 
 -- an empty text has no blanks at its end
 pub none_stays : (text : List ℕ) → length text < 1 → before_blanks text ≡ text
@@ -52,8 +46,7 @@ none_stays (b ∷ text) h = absurd (omega arith)
 
 -- a byte that isn't a blank is kept before any text
 pub kept_inked : (b : ℕ) (text : List ℕ) → is_blank b ≡ false → kept_before b text ≡ b ∷ text
-kept_inked b [] h = rw h refl
-kept_inked b (c ∷ text) h = refl
+kept_inked b text h = grind arith
 
 -- where a text has no blanks at its end, neither has it with a byte before it that isn't a blank
 pub ink_stays : (b : ℕ) (text : List ℕ) → is_blank b ≡ false → before_blanks text ≡ text → before_blanks (b ∷ text) ≡ b ∷ text
@@ -66,22 +59,18 @@ one_more c b text h = ap (kept_before c) h
 
 -- where a text of one byte or more has no blanks at its end, neither has it with another text before it
 pub end_stays : (prefix : List ℕ) (b : ℕ) (text : List ℕ) → before_blanks (b ∷ text) ≡ b ∷ text → before_blanks (prefix ++ b ∷ text) ≡ prefix ++ b ∷ text
-end_stays [] b text h = h
-end_stays (c ∷ []) b text h = one_more c b text h
 end_stays (c ∷ d ∷ prefix) b text h = one_more c d (prefix ++ b ∷ text) (end_stays (d ∷ prefix) b text h)
+end_stays prefix b text h = grind (arith, one_more)
 
 -- a text without blanks has none at its end
 pub inked_ends : (text : List ℕ) → list_all is_inked text ≡ true → before_blanks text ≡ text
 unfolding before_blanks
 inked_ends [] h = refl
-inked_ends (b ∷ text) h =
-    let parts = and_parts (is_inked b) (list_all is_inked text) h in
-    ink_stays b text (not-true (is_blank b) parts.0) (inked_ends text parts.1)
+inked_ends (b ∷ text) h = grind (arith, (inked_ends text))
 
 kept_twice : (b : ℕ) (text : List ℕ) → before_blanks text ≡ text → before_blanks (kept_before b text) ≡ kept_before b text
 unfolding before_blanks
-kept_twice b [] h = by_test (is_blank b) (λ e. rw e refl) (λ e. rw e (rw e refl))
-kept_twice b (c ∷ text) h = ap (kept_before b) h
+kept_twice b text h = grind arith
 
 -- a text without the blanks at its end has none there
 pub before_twice : (text : List ℕ) → before_blanks (before_blanks text) ≡ before_blanks text
@@ -93,32 +82,22 @@ before_twice (b ∷ text) = kept_twice b (before_blanks text) (before_twice text
 pub trimmed_start : (text : List ℕ) → unblanked (trim_blanks text) ≡ trim_blanks text
 unfolding after_run before_blanks
 trimmed_start [] = refl
-trimmed_start (b ∷ text) =
-    by_test (is_blank b)
-    (λ e. rw e (trimmed_start text))
-    (λ e. rw (e, kept_inked b (before_blanks text) e) (after_halts is_blank b (before_blanks text) e))
+trimmed_start (b ∷ text) = grind (arith, (trimmed_start text))
 
 -- a text without the blanks at its end is no longer
 pub before_blanks-le : (text : List ℕ) → length (before_blanks text) ≤ length text
 unfolding before_blanks
 before_blanks-le [] = omega arith
-before_blanks-le (b ∷ text) = let k : length (before_blanks text) ≤ length text = before_blanks-le text in by_kept (before_blanks text) k
-  where
-    by_kept : (rest : List ℕ) → length rest ≤ length text → length (kept_before b rest) ≤ suc (length text)
-    by_kept [] k = by_test (is_blank b) (λ e. rw e (omega arith)) (λ e. rw e (omega arith))
-    by_kept (c ∷ rest) k = omega arith
+before_blanks-le (b ∷ text) = grind (arith, (before_blanks-le text))
 
 kept_class : (p : ℕ → Bool) (b : ℕ) (text : List ℕ) → p b ≡ true → list_all p text ≡ true → list_all p (kept_before b text) ≡ true
-kept_class p b [] h k = by_test (is_blank b) (λ e. rw e refl) (λ e. rw e (and_from (p b) true h refl))
-kept_class p b (c ∷ text) h k = and_from (p b) (list_all p (c ∷ text)) h k
+kept_class p b text h k = grind arith
 
 -- a test that all bytes of a text pass is passed by those before the blanks at its end
 pub before_class : (p : ℕ → Bool) (text : List ℕ) → list_all p text ≡ true → list_all p (before_blanks text) ≡ true
 unfolding before_blanks
 before_class p [] h = refl
-before_class p (b ∷ text) h =
-    let parts = and_parts (p b) (list_all p text) h in
-    kept_class p b (before_blanks text) parts.0 (before_class p text parts.1)
+before_class p (b ∷ text) h = grind (arith, (before_class p text))
 
 -- a test that all bytes of a text pass is passed by those between the blanks at both ends
 pub trimmed_class : (p : ℕ → Bool) (text : List ℕ) → list_all p text ≡ true → list_all p (trim_blanks text) ≡ true
@@ -155,7 +134,4 @@ no_space_left (suc n) = no_space_left n
 pub trimmed_padded : (text : List ℕ) (n : ℕ) → trim_blanks (text ++ replicate n 32) ≡ trim_blanks text
 unfolding after_run before_blanks
 trimmed_padded [] n = ap before_blanks (no_space_left n)
-trimmed_padded (b ∷ text) n =
-    by_test (is_blank b)
-    (λ e. rw e (trimmed_padded text n))
-    (λ e. rw e (before_padded (b ∷ text) n))
+trimmed_padded (b ∷ text) n = grind (arith, (trimmed_padded text n), before_padded)

@@ -14,17 +14,13 @@ use Rattle.std.proofs.lemmas.List.Folds.{list_all-append}
 pub cut_back : (sign : ℕ) (prefix remainder : List ℕ) → is_without sign prefix ≡ true → cut_at sign (prefix ++ sign ∷ remainder) ≡ Some (prefix, remainder)
 unfolding cut_at
 cut_back sign [] remainder h = rw (eq-eqb sign sign refl) refl
-cut_back sign (byte ∷ prefix) remainder h =
-    let parts = and_parts (not (byte == sign)) (is_without sign prefix) h in
-    rw (not-true (byte == sign) parts.0) (ap (before_cut byte) (cut_back sign prefix remainder parts.1))
+cut_back sign (byte ∷ prefix) remainder h = grind (arith, (cut_back sign prefix remainder))
 
 -- a text without a sign isn't cut
 pub cut_none : (sign : ℕ) (text : List ℕ) → is_without sign text ≡ true → cut_at sign text ≡ None
 unfolding cut_at
 cut_none sign [] h = refl
-cut_none sign (byte ∷ text) h =
-    let parts = and_parts (not (byte == sign)) (is_without sign text) h in
-    rw (not-true (byte == sign) parts.0) (ap (before_cut byte) (cut_none sign text parts.1))
+cut_none sign (byte ∷ text) h = grind (arith, (cut_none sign text))
 
 -- the bytes before a place are without a sign that is at none of them
 pub without_take : (sign : ℕ) (text : List ℕ) (k : ℕ) → ((j : ℕ) → j < k → j < length text → get_or text j 0 == sign ≡ true → ⊥) → is_without sign (take k text) ≡ true
@@ -41,18 +37,12 @@ without_all sign text h = ap (is_without sign) (sym (take-length text)) ∙ with
 
 -- a text with a sign at a place
 pub cut_there : (sign : ℕ) (text : List ℕ) (k : ℕ) → k < length text → get_or text k 0 == sign ≡ true → text ≡ take k text ++ sign ∷ drop (k + 1) text
-cut_there sign text k inside is =
-    let e : get_or text k 0 ≡ sign = eqb-true (get_or text k 0) sign is in
-    let d : drop k text ≡ sign ∷ drop (k + 1) text = rw add-one (drop-cons text k 0 inside ∙ ap (λ b. b ∷ drop (suc k) text) e) in
-    sym (take-append-drop k text) ∙ ap (λ t. take k text ++ t) d
+cut_there sign text k inside is = grind (arith, drop-cons, take-append-drop)
 
 -- the texts before and after the first place of a sign are the parts of its cut
 pub cut_found : (sign : ℕ) (text : List ℕ) (k : ℕ) → k < length text → ((j : ℕ) → 0 ≤ j → j < k → get_or text j 0 == sign ≡ true → ⊥) → get_or text k 0 == sign ≡ true
     → CutParts sign text (take k text) (take (length text - (k + 1)) (drop (k + 1) text))
-cut_found sign text k inside before is = rw (rest_from text (k + 1)) (record {
-  parts = cut_there sign text k inside is;
-  first = without_take sign text k (λ j low within there. before j (omega arith) low there);
-})
+cut_found sign text k inside before is = grind (arith, rest_from, cut_there, without_take)
 
 -- what is cut
 pub cut_is : (sign : ℕ) (text prefix remainder : List ℕ) → CutParts sign text prefix remainder → cut_at sign text ≡ Some (prefix, remainder)
@@ -64,30 +54,18 @@ unfolding cut_at
 cut_parts sign [] parts h = absurd (cc)
 cut_parts sign (byte ∷ text) parts h =
     by_test (byte == sign)
-    (λ e. let same : ◌≡◌ {A = List ℕ × List ℕ} ([], text) parts = let k = rw e at h in cc in
-    rw (sym same) (record { parts = ap (λ b. b ∷ text) (eqb-true byte sign e); first = refl }))
-    (λ e. by_rest (cut_parts sign text) (cut_at sign text) refl e (rw e at h))
+    (λ e. grind arith)
+    (λ e. grind (arith, (cut_parts sign text)))
   where
     by_rest : ((inner : List ℕ × List ℕ) → cut_at sign text ≡ Some inner → CutParts sign text inner.0 inner.1) → (o : Option (List ℕ × List ℕ)) → cut_at sign text ≡ o → (byte == sign) ≡ false
         → before_cut byte o ≡ Some parts → CutParts sign (byte ∷ text) parts.0 parts.1
-    by_rest law None k e g = absurd (cc)
-    by_rest law (Some inner) k e g =
-        let same : ◌≡◌ {A = List ℕ × List ℕ} (byte ∷ inner.0, inner.1) parts = cc in
-        let further : CutParts sign text inner.0 inner.1 = law inner k in
-        rw (sym same) (record { parts = ap (λ t. byte ∷ t) further.parts; first = rw e further.first })
+    by_rest law o k e g = grind arith
 
 -- a text that isn't cut is without the sign
 pub uncut_without : (sign : ℕ) (text : List ℕ) → cut_at sign text ≡ None → is_without sign text ≡ true
 unfolding cut_at
 uncut_without sign [] h = refl
-uncut_without sign (byte ∷ text) h =
-    by_test (byte == sign)
-    (λ e. let k = rw e at h in absurd (cc))
-    (λ e. rw e (uncut_without sign text (nothing (cut_at sign text) (rw e at h))))
-  where
-    nothing : (o : Option (List ℕ × List ℕ)) → before_cut byte o ≡ None → o ≡ None
-    nothing None g = refl
-    nothing (Some parts) g = absurd (cc)
+uncut_without sign (byte ∷ text) h = grind (arith, (uncut_without sign text))
 
 -- how many bytes the parts of a cut have
 pub cut_length : (sign : ℕ) (text prefix remainder : List ℕ) → CutParts sign text prefix remainder → length text ≡ length prefix + (length remainder + 1)
@@ -100,8 +78,4 @@ all_both p xs ys h k = list_all-append p xs ys ∙ and_from (list_all p xs) (lis
 -- bytes that all pass a test are not one that fails it
 pub without_class : (p : ℕ → Bool) (sign : ℕ) (text : List ℕ) → p sign ≡ false → list_all p text ≡ true → is_without sign text ≡ true
 without_class p sign [] fails h = refl
-without_class p sign (byte ∷ text) fails h =
-    let parts = and_parts (p byte) (list_all p text) h in
-    by_test (byte == sign)
-    (λ e. let same : byte ≡ sign = eqb-true byte sign e in let clash : true ≡ false = sym parts.0 ∙ ap p same ∙ fails in absurd (cc))
-    (λ e. rw e (without_class p sign text fails parts.1))
+without_class p sign (byte ∷ text) fails h = grind (arith, (without_class p sign text fails))

@@ -12,16 +12,8 @@ use Rattle.text_laws.proofs.PieceLaws.{first_piece}
 last_return : (text : List ℕ) (byte : ℕ) → without_return (text ++ byte ∷ []) ≡ cond (byte == 13) text (text ++ byte ∷ [])
 unfolding without_return
 last_return [] byte = refl
-last_return (b ∷ []) byte = ap (λ t. b ∷ t) (last_return [] byte) ∙ inside (byte == 13)
-  where
-    inside : (c : Bool) → b ∷ cond c [] (byte ∷ []) ≡ cond c (b ∷ []) (b ∷ byte ∷ [])
-    inside true = refl
-    inside false = refl
-last_return (b ∷ d ∷ text) byte = ap (λ t. b ∷ t) (last_return (d ∷ text) byte) ∙ inside (byte == 13)
-  where
-    inside : (c : Bool) → b ∷ cond c (d ∷ text) ((d ∷ text) ++ byte ∷ []) ≡ cond c (b ∷ d ∷ text) ((b ∷ d ∷ text) ++ byte ∷ [])
-    inside true = refl
-    inside false = refl
+last_return (b ∷ []) byte = grind arith
+last_return (b ∷ d ∷ text) byte = grind (arith, (last_return (d ∷ text) byte))
 
 by_last : (text : List ℕ) → 1 ≤ length text → without_return text ≡ cond (get_or text (length text - 1) 0 == 13) (take (length text - 1) text) (take (length text - 1) text ++ get_or text (length text - 1) 0 ∷ [])
 by_last text h = ap without_return (split_at_last text h) ∙ last_return (take (length text - 1) text) (get_or text (length text - 1) 0)
@@ -41,36 +33,24 @@ return_none [] h = refl
 return_none (b ∷ text) h = absurd (omega arith)
 
 not_return : (p : ℕ → Bool) (byte : ℕ) → p 13 ≡ false → p byte ≡ true → (byte == 13) ≡ false
-not_return p byte fails passes =
-    by_test (byte == 13)
-    (λ e. let same : byte ≡ 13 = eqb-true byte 13 e in let clash : true ≡ false = sym passes ∙ ap p same ∙ fails in absurd (cc))
-    (λ e. e)
+not_return p byte fails passes = grind arith
 
 -- a line whose bytes all pass a test that the carriage return fails stays as it is
 pub class_kept : (p : ℕ → Bool) (text : List ℕ) → p 13 ≡ false → list_all p text ≡ true → without_return text ≡ text
 unfolding without_return
-class_kept p [] fails h = refl
-class_kept p (byte ∷ []) fails h = let parts = and_parts (p byte) true h in rw (not_return p byte fails parts.0) refl
-class_kept p (byte ∷ next ∷ text) fails h =
-    let parts = and_parts (p byte) (list_all p (next ∷ text)) h in ap (λ rest. byte ∷ rest) (class_kept p (next ∷ text) fails parts.1)
+class_kept p (byte ∷ next ∷ text) fails h = grind (arith, (class_kept p (next ∷ text) fails))
+class_kept p text fails h = grind arith
 
 -- a line, its line feed, and what comes after it
 pub ended_cut : (line rest : List ℕ) → All (λ byte. (byte == 10) ≡ false) line → ended_lines (line ++ 10 ∷ rest) ≡ without_return line ∷ ended_lines rest
 unfolding ended_lines whole_lines
-ended_cut line rest h =
-    let first = first_piece is_line_feed rest in
-    ap (λ t. map without_return (but_last t)) (slice_split_at is_line_feed line 10 rest h refl)
-    ∙ rw first.is refl
+ended_cut line rest h = grind (arith, (first_piece is_line_feed rest), (slice_split_at is_line_feed line 10 rest h refl))
 
 -- what is unended after a line and its line feed is what is unended in the rest
 pub unended_cut : (line rest : List ℕ) → All (λ byte. (byte == 10) ≡ false) line → unended (line ++ 10 ∷ rest) ≡ unended rest
 unfolding unended
-unended_cut line rest h =
-    let first = first_piece is_line_feed rest in
-    ap last_of (slice_split_at is_line_feed line 10 rest h refl) ∙ rw first.is refl
+unended_cut line rest h = grind (arith, (first_piece is_line_feed rest), (slice_split_at is_line_feed line 10 rest h refl))
 
 -- the lines of a text are the line before its first line feed, and then those of the rest
 pub lines_cut : (line rest : List ℕ) → All (λ byte. (byte == 10) ≡ false) line → lines_of (line ++ 10 ∷ rest) ≡ without_return line ∷ lines_of rest
-lines_cut line rest h =
-    ap (λ t. t ++ last_line (unended (line ++ 10 ∷ rest))) (ended_cut line rest h)
-    ∙ ap (λ t. (without_return line ∷ ended_lines rest) ++ last_line t) (unended_cut line rest h)
+lines_cut line rest h = grind (arith, ended_cut, unended_cut)

@@ -30,9 +30,7 @@ is_register_name_parts (byte ∷ bytes) h = rw rest-cons refl
 
 all_ascii : (bytes : List ℕ) → list_all is_ascii bytes ≡ true → IsAscii bytes
 all_ascii [] h = IsAscii-nil
-all_ascii (byte ∷ bytes) h =
-    let p : (is_ascii byte ≡ true) × (list_all is_ascii bytes ≡ true) = and_parts (is_ascii byte) (list_all is_ascii bytes) h in
-    IsAscii-cons byte bytes (ltb-true byte 128 p.0) (all_ascii bytes p.1)
+all_ascii (byte ∷ bytes) h = grind (arith, (all_ascii bytes))
 
 -- ASCII bytes are UTF-8
 pub utf8_from_ascii : (bytes : List ℕ) → list_all is_ascii bytes ≡ true → IsUtf8 bytes
@@ -40,15 +38,15 @@ utf8_from_ascii bytes h = IsUtf8-from_ascii bytes (all_ascii bytes h)
 
 -- the first byte of a place's name may also be one of the others
 pub first_place_byte : (byte : ℕ) → begins_place byte ≡ true → is_place_byte byte ≡ true
-first_place_byte byte h = grind (arith, nat_tests)
+first_place_byte byte h = grind arith
 
 -- a letter is a letter or a digit
 pub letter_alphanumeric : (byte : ℕ) → is_ascii_alphabetic byte ≡ true → is_ascii_alphanumeric byte ≡ true
-letter_alphanumeric byte h = grind (arith, nat_tests)
+letter_alphanumeric byte h = grind arith
 
 -- a digit is a letter or a digit
 pub digit_alphanumeric : (byte : ℕ) → is_ascii_digit byte ≡ true → is_ascii_alphanumeric byte ≡ true
-digit_alphanumeric byte h = grind (arith, nat_tests)
+digit_alphanumeric byte h = grind arith
 
 -- a name's first byte passes, the others pass, and they are at most 16
 pub record Shaped (first others : ℕ → Bool) (name : List ℕ) : Type 0 where
@@ -60,22 +58,17 @@ pub record Shaped (first others : ℕ → Bool) (name : List ℕ) : Type 0 where
   pub short : length name ≤ 16
 
 shaped : (first others : ℕ → Bool) (byte : ℕ) (bytes : List ℕ) → (first byte && list_all others bytes && nat_le (length (byte ∷ bytes)) 16) ≡ true → Shaped first others (byte ∷ bytes)
-shaped first others byte bytes h =
-    let p : ((first byte && list_all others bytes) ≡ true) × (nat_le (length (byte ∷ bytes)) 16 ≡ true) = and_parts (first byte && list_all others bytes) (nat_le (length (byte ∷ bytes)) 16) h in
-    let q : (first byte ≡ true) × (list_all others bytes ≡ true) = and_parts (first byte) (list_all others bytes) p.0 in
-    record { byte = byte; bytes = bytes; is = refl; begins = q.0; goes_on = q.1; short = leb-true (length (byte ∷ bytes)) 16 p.1 }
+shaped first others byte bytes h = grind arith
 
 -- the name of a place has that shape
 pub place_shaped : (name : List ℕ) → is_place_name name ≡ true → Shaped begins_place is_place_byte name
 unfolding is_place_name
-place_shaped [] h = absurd (cc)
-place_shaped (byte ∷ bytes) h = shaped begins_place is_place_byte byte bytes h
+place_shaped name h = grind arith
 
 -- the name of a register has that shape
 pub register_shaped : (name : List ℕ) → is_register_name name ≡ true → Shaped is_ascii_alphabetic is_ascii_alphanumeric name
 unfolding is_register_name
-register_shaped [] h = absurd (cc)
-register_shaped (byte ∷ bytes) h = shaped is_ascii_alphabetic is_ascii_alphanumeric byte bytes h
+register_shaped name h = grind arith
 
 -- a test that the first byte and the others pass is passed by all bytes of the name
 pub shaped_all : (first others q : ℕ → Bool) → ((byte : ℕ) → first byte ≡ true → q byte ≡ true) → ((byte : ℕ) → others byte ≡ true → q byte ≡ true) → (name : List ℕ) → Shaped first others name → list_all q name ≡ true
@@ -95,12 +88,11 @@ place_name_bytes name h = shaped_all begins_place is_place_byte is_place_byte fi
 
 -- each byte of a register's name is a letter or a digit
 pub register_name_bytes : (name : List ℕ) → is_register_name name ≡ true → list_all is_ascii_alphanumeric name ≡ true
-register_name_bytes name h =
-    shaped_all is_ascii_alphabetic is_ascii_alphanumeric is_ascii_alphanumeric letter_alphanumeric (λ byte passes. passes) name (register_shaped name h)
+register_name_bytes name h = search (arith, shaped_all, letter_alphanumeric, register_shaped)
 
 -- a letter or a digit may be in the name of a place
 alphanumeric_in_place : (byte : ℕ) → is_ascii_alphanumeric byte ≡ true → is_place_byte byte ≡ true
-alphanumeric_in_place byte h = grind (arith, nat_tests)
+alphanumeric_in_place byte h = grind arith
 
 -- a test that each byte of places' names passes is passed by the name of a place
 pub place_passes : (test : ℕ → Bool) → ((byte : ℕ) → is_place_byte byte ≡ true → test byte ≡ true) → (name : List ℕ) → is_place_name name ≡ true → list_all test name ≡ true
@@ -119,7 +111,7 @@ pub decimal_passes : (test : ℕ → Bool) → ((byte : ℕ) → is_place_byte b
 decimal_passes test each n h = letters_pass test each (decimal n) (list_all-weaker is_ascii_digit is_ascii_alphanumeric digit_alphanumeric (decimal n) (digits_of n h).all)
 
 place_byte_ascii : (byte : ℕ) → is_place_byte byte ≡ true → is_ascii byte ≡ true
-place_byte_ascii byte h = grind (arith, nat_tests)
+place_byte_ascii byte h = grind arith
 
 -- the name of a place is ASCII
 pub place_name_ascii : (name : List ℕ) → is_place_name name ≡ true → list_all is_ascii name ≡ true

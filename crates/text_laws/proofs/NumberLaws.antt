@@ -21,18 +21,15 @@ use Rattle.text_laws.proofs.NameLaws.{utf8_from_ascii}
 -- a number is read from its decimal
 pub number_of-decimal : (n : ℕ) → n < 2 ^ 32 → number_of (decimal n) ≡ Some n
 unfolding number_of
-number_of-decimal n h =
-    let small : n < 2 ^ 64 = omega arith in
-    let v : digits_value 10 (decimal n) ≡ n = digits_value-decimal digits_model n small in
-    rw v (rw (lt-ltb n (2 ^ 32) h, (bytes_eq-Decides (decimal n) (decimal n)).1 refl) refl)
+number_of-decimal n h = grind (arith, digits_value-decimal, digits_model, bytes_eq-Decides)
 
 -- a number below 100 has at most two digits
 pub two_digits : (n : ℕ) → n < 100 → length (decimal n) ≤ 2
-two_digits n h = length-decimal-le 2 n (omega arith) (omega (arith, h)) (omega (arith, h))
+two_digits n h = length-decimal-le 2 n (omega arith) (omega arith) (omega arith)
 
 -- a number of 32 bits has at most ten digits
 pub ten_digits : (n : ℕ) → n < 2 ^ 32 → length (decimal n) ≤ 10
-ten_digits n h = length-decimal-le 10 n (omega arith) (omega (arith, h)) (omega (arith, h))
+ten_digits n h = length-decimal-le 10 n (omega arith) (omega arith) (omega arith)
 
 -- what is read is the decimal of the number
 pub record Writes (digits : List ℕ) (n : ℕ) : Type 0 where
@@ -42,28 +39,19 @@ pub record Writes (digits : List ℕ) (n : ℕ) : Type 0 where
 -- a text that is read as a number is its decimal
 pub number_of_some : (digits : List ℕ) (n : ℕ) → number_of digits ≡ Some n → Writes digits n
 unfolding number_of
-number_of_some digits n h =
-    let v : ℕ = digits_value 10 digits in
-    let p : ((nat_lt v (2 ^ 32) && bytes_eq (decimal v) digits) ≡ true) × (v ≡ n) = cond_some (nat_lt v (2 ^ 32) && bytes_eq (decimal v) digits) v n h in
-    let q : (nat_lt v (2 ^ 32) ≡ true) × (bytes_eq (decimal v) digits ≡ true) = and_parts (nat_lt v (2 ^ 32)) (bytes_eq (decimal v) digits) p.0 in
-    record {
-      small = subst (λ (m : ℕ). m < 2 ^ 32) p.1 (ltb-true v (2 ^ 32) q.0);
-      is = sym ((bytes_eq-Decides (decimal v) digits).0 q.1) ∙ ap decimal p.1;
-    }
+number_of_some digits n h = grind (arith, bytes_eq-Decides)
 
 none_from : (o : Option ℕ) → ((n : ℕ) → o ≡ Some n → ⊥) → o ≡ None
-none_from None h = refl
-none_from (Some n) h = absurd (h n refl)
+none_from o h = grind arith
 
 -- a text with a byte that isn't a digit is no number
 pub not_digits : (digits : List ℕ) → list_all is_ascii_digit digits ≡ false → number_of digits ≡ None
 not_digits digits h = none_from (number_of digits) (λ n e.
     let w : Writes digits n = number_of_some digits n e in
-    both_ways (list_all is_ascii_digit digits) h (ap (list_all is_ascii_digit) w.is ∙ digits_decimal digits_model n (let s : n < 2 ^ 32 = w.small in omega arith)))
+    both_ways (list_all is_ascii_digit digits) h (ap (list_all is_ascii_digit) w.is ∙ digits_decimal digits_model n (omega arith)))
 
 zero_written : (n : ℕ) → n < 2 ^ 32 → get_or (decimal n) 0 0 ≡ 48 → length (decimal n) ≡ 1
-zero_written zero h e = ap length (decimal_digit 0 (omega arith))
-zero_written (suc n) h e = absurd (let k : 48 < get_or (decimal (suc n)) 0 0 = first_decimal (suc n) (omega arith) (omega arith) in omega arith)
+zero_written n h e = grind (arith, decimal_digit, first_decimal)
 
 -- a text of two or more bytes with a leading zero is no number
 pub leading_zero : (digits : List ℕ) → get_or digits 0 0 ≡ 48 → 2 ≤ length digits → number_of digits ≡ None
@@ -75,19 +63,19 @@ leading_zero digits first more = none_from (number_of digits) (λ n e.
 
 -- digits are UTF-8
 pub digits_ascii : (digits : List ℕ) → list_all is_ascii_digit digits ≡ true → IsUtf8 digits
-digits_ascii digits h = utf8_from_ascii digits (list_all-weaker is_ascii_digit is_ascii (λ byte p. grind (arith, nat_tests)) digits h)
+digits_ascii digits h = utf8_from_ascii digits (list_all-weaker is_ascii_digit is_ascii (λ byte p. grind arith) digits h)
 
 -- digits of which there is one or more, without a leading zero, write their value
 pub value_written : (digits : List ℕ) → list_all is_ascii_digit digits ≡ true → 0 < length digits → (get_or digits 0 0 ≡ 48 → length digits < 2) → digits_value 10 digits < 2 ^ 32 → number_of digits ≡ Some (digits_value 10 digits)
 value_written digits all some plain small =
     let v : ℕ = digits_value 10 digits in
-    let e : decimal v ≡ digits = decimal-digits_value digits_model digits all some (λ z. let k : length digits < 2 = plain z in omega arith) (omega (arith, small)) in
+    let e : decimal v ≡ digits = decimal-digits_value digits_model digits all some (λ z. omega arith) (omega arith) in
     ap number_of (sym e) ∙ number_of-decimal v small
 
 none_written : (digits : List ℕ) → (((list_all is_ascii_digit digits ≡ true) × (0 < length digits) × (digits_value 10 digits < 2 ^ 32)) → ⊥) → list_all is_ascii_digit digits ≡ true → number_of digits ≡ None
 none_written digits never all = none_from (number_of digits) (λ n e.
     let w : Writes digits n = number_of_some digits n e in
-    let s : n < 2 ^ 64 = let t : n < 2 ^ 32 = w.small in omega arith in
+    let s : n < 2 ^ 64 = omega arith in
     let v : digits_value 10 digits ≡ n = ap (digits_value 10) w.is ∙ digits_value-decimal digits_model n s in
     let k : length digits ≡ length (decimal n) = ap length w.is in
     let some : 0 < length (decimal n) = decimal_nonempty n s in
@@ -95,8 +83,4 @@ none_written digits never all = none_from (number_of digits) (λ n e.
 
 -- the library's parser gives the number that digits write
 pub parsed : {E : Type 0} (digits : List ℕ) (r : Result ℕ E) → list_all is_ascii_digit digits ≡ true → (get_or digits 0 0 ≡ 48 → length digits < 2) → ParsesUnsigned 32 10 digits r → result_ok r ≡ number_of digits
-parsed digits r all plain parses = by_answer r (parse_plain digits_model 32 digits r parses (digits_no_plus digits all))
-  where
-    by_answer : {E : Type 0} (r : Result ℕ E) → OkIff r ((list_all is_ascii_digit digits ≡ true) × (0 < length digits) × (digits_value 10 digits < 2 ^ 32)) (digits_value 10 digits) → result_ok r ≡ number_of digits
-    by_answer (Ok x) h = ap Some h.1 ∙ sym (value_written digits all h.0.1 plain h.0.2)
-    by_answer (Err e) h = sym (none_written digits h all)
+parsed digits r all plain parses = grind (arith, digits_model, value_written, none_written)

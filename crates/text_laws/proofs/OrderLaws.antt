@@ -2,7 +2,7 @@
 use Rattle.std.specs.Ordering.{nat_cmp, is_eq, match_ordering, ordering_reverse}
 use Rattle.std.specs.Cmp.{IsTotalOrder, nat_cmp_total}
 use Rattle.std.specs.Cmp.Lexicographic.{slice_cmp, lists_total}
-use Rattle.std.proofs.Common.{◌≡◌, ℕ, List, sym, ap, ◌∙◌, [], ◌∷◌, refl, false, true}
+use Rattle.std.proofs.Common.{◌≡◌, ℕ, List, sym, ap, ◌∙◌, [], ◌∷◌, refl, false, true, arith}
 use Rattle.std.specs.declared.cmp.Ordering.TheVariants.{Equal, Less, Greater}
 use Rattle.std.proofs.lemmas.Map.Text.{is_eq-slice_cmp}
 use Rattle.std.proofs.lemmas.Slice.Eq.{bytes_eq-Decides}
@@ -41,12 +41,7 @@ above_all k x (y ∷ xs) h a = (order.trans k x y h a.0, above_all k x xs h a.1)
 
 above_insert : (k x : List ℕ) (xs : List (List ℕ)) → compare x k ≡ Less → Above x xs → Above x (insert_key (slice_cmp nat_cmp) xs k)
 above_insert k x [] h a = (h, tt)
-above_insert k x (y ∷ xs) h a = by_ordering (above_insert k x xs h a.1) (compare k y)
-  where
-    by_ordering : Above x (insert_key (slice_cmp nat_cmp) xs k) → (o : Ordering) → Above x (match_ordering o (k ∷ y ∷ xs) (y ∷ xs) (y ∷ insert_key (slice_cmp nat_cmp) xs k))
-    by_ordering further Less = (h, (a.0, a.1))
-    by_ordering further Equal = (a.0, a.1)
-    by_ordering further Greater = (a.0, further)
+above_insert k x (y ∷ xs) h a = grind (arith, (above_insert k x xs h a.1))
 
 -- a text above another has the other below it
 pub reversed : (k x : List ℕ) → compare k x ≡ Greater → compare x k ≡ Less
@@ -55,12 +50,7 @@ reversed k x h = order.antisymm x k ∙ ap ordering_reverse h
 -- where a text is put in order among texts in order, they stay in order
 pub insert_ascends : (k : List ℕ) (xs : List (List ℕ)) → Ascends xs → Ascends (insert_key (slice_cmp nat_cmp) xs k)
 insert_ascends k [] a = (tt, tt)
-insert_ascends k (x ∷ xs) a = by_ordering (insert_ascends k xs a.1) (compare k x) refl
-  where
-    by_ordering : Ascends (insert_key (slice_cmp nat_cmp) xs k) → (o : Ordering) → compare k x ≡ o → Ascends (match_ordering o (k ∷ x ∷ xs) (x ∷ xs) (x ∷ insert_key (slice_cmp nat_cmp) xs k))
-    by_ordering further Less e = ((e, above_all k x xs e a.0), a)
-    by_ordering further Equal e = a
-    by_ordering further Greater e = (above_insert k x xs (reversed k x e) a.0, further)
+insert_ascends k (x ∷ xs) a = grind (arith, (insert_ascends k xs a.1), above_all, above_insert, reversed)
 
 -- where texts are put in order one after another, they are in order
 pub fold_ascends : (ks xs : List (List ℕ)) → Ascends xs → Ascends (fold (insert_key (slice_cmp nat_cmp)) xs ks)
@@ -77,32 +67,17 @@ none_above k [] a = refl
 none_above k (x ∷ xs) a = rw (not_equal k x Less a.0 refl) (none_above k xs a.1)
 
 exchange : (a b c : Bool) → a || (b || c) ≡ b || (a || c)
-exchange true true c = refl
-exchange true false c = refl
-exchange false b c = refl
+exchange a b c = grind arith
 
 -- what is in texts where one more was put in order
 pub any_insert : (p : List ℕ → Bool) (k : List ℕ) (texts : List (List ℕ)) → list_any p (insert_key (slice_cmp nat_cmp) texts k) ≡ p k || list_any p texts
 any_insert p k [] = refl
-any_insert p k (x ∷ texts) = by_ordering (any_insert p k texts) (slice_cmp nat_cmp k x) refl
-  where
-    once : (a b : Bool) → a || b ≡ a || (a || b)
-    once true b = refl
-    once false b = refl
-
-    by_ordering : list_any p (insert_key (slice_cmp nat_cmp) texts k) ≡ p k || list_any p texts → (o : Ordering) → slice_cmp nat_cmp k x ≡ o
-        → list_any p (match_ordering o (k ∷ x ∷ texts) (x ∷ texts) (x ∷ insert_key (slice_cmp nat_cmp) texts k)) ≡ p k || (p x || list_any p texts)
-    by_ordering further Less e = refl
-    by_ordering further Equal e = once (p x) (list_any p texts) ∙ ap (λ t. p t || (p x || list_any p texts)) (sym (is_text k x e))
-    by_ordering further Greater e = ap (λ b. p x || b) further ∙ exchange (p x) (p k) (list_any p texts)
+any_insert p k (x ∷ texts) = grind (arith, (any_insert p k texts), is_text)
 
 -- what is in texts that were put in order one after another
 pub any_fold : (k : List ℕ) (js xs : List (List ℕ)) → list_any (bytes_eq k) (fold (insert_key (slice_cmp nat_cmp)) xs js) ≡ list_any (bytes_eq k) xs || list_any (bytes_eq k) js
 any_fold k [] xs = sym (or-false (list_any (bytes_eq k) xs))
-any_fold k (j ∷ js) xs =
-    any_fold k js (insert_key (slice_cmp nat_cmp) xs j)
-    ∙ ap (λ b. b || list_any (bytes_eq k) js) (any_insert (bytes_eq k) j xs ∙ or_comm (bytes_eq k j) (list_any (bytes_eq k) xs))
-    ∙ or_assoc (list_any (bytes_eq k) xs) (bytes_eq k j) (list_any (bytes_eq k) js)
+any_fold k (j ∷ js) xs = grind (arith, (any_fold k js (insert_key (slice_cmp nat_cmp) xs j)), any_insert)
 
 -- a text is equal to itself
 pub bytes_same : (text : List ℕ) → bytes_eq text text ≡ true

@@ -1,5 +1,5 @@
 -- The pieces between bytes of a class.
-use Rattle.std.proofs.Common.{◌≡◌, ℕ, suc, List, [], ◌∷◌, ◌++◌, length, true, refl, ap, ◌∙◌}
+use Rattle.std.proofs.Common.{◌≡◌, ℕ, suc, List, [], ◌∷◌, ◌++◌, length, true, refl, ap, ◌∙◌, arith}
 use Rattle.std.specs.Prelude.{Bool, not}
 use Rattle.std.specs.List.{slice_split, onto_first, list_all}
 use Rattle.list_laws.proofs.Cases.{by_test}
@@ -23,14 +23,12 @@ first_piece p (byte ∷ text) =
 -- a text without a byte of the class is one piece
 pub split_whole : (p : ℕ → Bool) (text : List ℕ) → list_all (λ byte. not (p byte)) text ≡ true → slice_split p text ≡ text ∷ []
 split_whole p [] h = refl
-split_whole p (byte ∷ text) h = by_test (p byte) (λ e. let k = rw e at h in absurd (cc)) (λ e. rw e (ap (onto_first byte) (split_whole p text (rw e at h))))
+split_whole p (byte ∷ text) h = by_test (p byte) (λ e. absurd (cc)) (λ e. rw e (ap (onto_first byte) (split_whole p text (rw e at h))))
 
 -- where a byte of the class is between two texts, the pieces of the one come before those of the other
 pub split_both : (p : ℕ → Bool) (a : List ℕ) (sign : ℕ) (b : List ℕ) → p sign ≡ true → slice_split p (a ++ sign ∷ b) ≡ slice_split p a ++ slice_split p b
 split_both p [] sign b h = rw h refl
-split_both p (byte ∷ a) sign b h =
-    let first = first_piece p a in
-    by_test (p byte) (λ e. rw e (ap (λ t. [] ∷ t) (split_both p a sign b h))) (λ e. rw e (ap (onto_first byte) (split_both p a sign b h) ∙ rw first.is refl))
+split_both p (byte ∷ a) sign b h = grind (arith, (split_both p a sign b h), (first_piece p a))
 
 -- a text without a byte of the class, before such a byte, is the first piece
 pub split_off : (p : ℕ → Bool) (a : List ℕ) (sign : ℕ) (b : List ℕ) → p sign ≡ true → list_all (λ byte. not (p byte)) a ≡ true → slice_split p (a ++ sign ∷ b) ≡ a ∷ slice_split p b
@@ -40,29 +38,17 @@ split_off p a sign b e h = split_both p a sign b e ∙ ap (λ t. t ++ slice_spli
 pub split_append : (p : ℕ → Bool) (a b l : List ℕ) (ls : List (List ℕ)) → slice_split p b ≡ l ∷ ls →
     slice_split p (a ++ b) ≡ but_last (slice_split p a) ++ (last_of (slice_split p a) ++ l) ∷ ls
 split_append p [] b l ls h = h
-split_append p (byte ∷ a) b l ls h =
-    let further = split_append p a b l ls h in
-    let first = first_piece p a in
-    by_test (p byte)
-    (λ e. rw e (rw (further, first.is) refl))
-    (λ e. rw e (rw (further, first.is) (by_rest first.piece first.rest)))
-  where
-    by_rest : (piece : List ℕ) (rest : List (List ℕ)) →
-        onto_first byte (but_last (piece ∷ rest) ++ (last_of (piece ∷ rest) ++ l) ∷ ls) ≡ but_last ((byte ∷ piece) ∷ rest) ++ (last_of ((byte ∷ piece) ∷ rest) ++ l) ∷ ls
-    by_rest piece [] = refl
-    by_rest piece (next ∷ rest) = refl
+split_append p (byte ∷ a) b l ls h = grind (arith, (split_append p a b l ls h), (first_piece p a))
 
 -- pieces but the last one, where others come before them
 pub but_last_append : (pieces : List (List ℕ)) (piece : List ℕ) (rest : List (List ℕ)) → but_last (pieces ++ piece ∷ rest) ≡ pieces ++ but_last (piece ∷ rest)
-but_last_append [] piece rest = refl
-but_last_append (a ∷ []) piece rest = refl
 but_last_append (a ∷ b ∷ pieces) piece rest = ap (λ t. a ∷ t) (but_last_append (b ∷ pieces) piece rest)
+but_last_append pieces piece rest = grind arith
 
 -- the last of pieces, where others come before them
 pub last_append : (pieces : List (List ℕ)) (piece : List ℕ) (rest : List (List ℕ)) → last_of (pieces ++ piece ∷ rest) ≡ last_of (piece ∷ rest)
-last_append [] piece rest = refl
-last_append (a ∷ []) piece rest = refl
 last_append (a ∷ b ∷ pieces) piece rest = last_append (b ∷ pieces) piece rest
+last_append pieces piece rest = grind arith
 
 -- a split is its pieces but the last, and then the last
 pub whole_split : (p : ℕ → Bool) (text : List ℕ) → slice_split p text ≡ but_last (slice_split p text) ++ last_of (slice_split p text) ∷ []

@@ -39,40 +39,30 @@ pub one_passed : (passes : ℕ → Bool) (text : List ℕ) (i : ℕ) → i < len
 one_passed passes text i inside passing p =
     let e : drop i text ≡ get_or text i 0 ∷ drop (i + 1) text = rw add-one (drop-cons text i 0 inside) in
     record {
-      run = rw (take_more text i 0 inside, append_assoc)
-          (p.run ∙ ap (λ t. take i text ++ t) (ap (leading_run passes) e ∙ run_goes passes (get_or text i 0) (drop (i + 1) text) passing));
-      rest = p.rest ∙ ap (after_run passes) e ∙ after_goes passes (get_or text i 0) (drop (i + 1) text) passing;
+      run = grind (arith, (take_more text i 0 inside), append_assoc, (run_goes passes (get_or text i 0) (drop (i + 1) text) passing));
+      rest = grind (arith, after_goes);
     }
 
 -- the walk ends at a byte that doesn't pass
 pub run_stops : (passes : ℕ → Bool) (text : List ℕ) (i : ℕ) → i < length text → passes (get_or text i 0) ≡ false → Passed passes text i → (leading_run passes text ≡ take i text) × (after_run passes text ≡ drop i text)
-run_stops passes text i inside fails p = (
-  p.run ∙ ap (λ t. take i text ++ t) (ap (leading_run passes) (drop-cons text i 0 inside) ∙ run_halts passes (get_or text i 0) (drop (suc i) text) fails) ∙ append-nil (take i text),
-  p.rest ∙ ap (after_run passes) (drop-cons text i 0 inside) ∙ after_halts passes (get_or text i 0) (drop (suc i) text) fails ∙ sym (drop-cons text i 0 inside),
-)
+run_stops passes text i inside fails p = grind (arith, drop-cons, run_halts, append-nil, after_halts)
 
 -- the walk ends with the text
 pub run_ends : (passes : ℕ → Bool) (text : List ℕ) (i : ℕ) → i ≡ length text → Passed passes text i → (leading_run passes text ≡ text) × (after_run passes text ≡ [])
 unfolding leading_run after_run
-run_ends passes text i whole p =
-    let e : drop i text ≡ [] = ap (λ n. drop n text) whole ∙ drop-length text in
-    let f : take i text ≡ text = ap (λ n. take n text) whole ∙ take-length text in
-    (p.run ∙ ap (λ t. take i text ++ t) (ap (leading_run passes) e) ∙ append-nil (take i text) ∙ f, p.rest ∙ ap (after_run passes) e)
+run_ends passes text i whole p = grind (arith, drop-length, take-length, append-nil)
 
 -- all bytes of a run pass
 pub run_passes : (passes : ℕ → Bool) (text : List ℕ) → list_all passes (leading_run passes text) ≡ true
 unfolding leading_run
 run_passes passes [] = refl
-run_passes passes (byte ∷ text) =
-    by_test (passes byte) (λ h. rw (h, h, run_passes passes text) refl) (λ h. rw h refl)
+run_passes passes (byte ∷ text) = grind (arith, (run_passes passes text))
 
 -- what comes after a run is no longer than the text
 pub after_run-le : (passes : ℕ → Bool) (text : List ℕ) → length (after_run passes text) ≤ length text
 unfolding after_run
 after_run-le passes [] = omega arith
-after_run-le passes (byte ∷ text) =
-    let k : length (after_run passes text) ≤ length text = after_run-le passes text in
-    by_test (passes byte) (λ h. rw h (omega arith)) (λ h. rw h (omega arith))
+after_run-le passes (byte ∷ text) = grind (arith, (after_run-le passes text))
 
 -- what comes after a run is no longer than the text
 pub after_run_short : (passes : ℕ → Bool) (text rest : List ℕ) → rest ≡ after_run passes text → length rest ≤ length text
@@ -86,17 +76,13 @@ run_and_rest passes (byte ∷ text) = by_test (passes byte) (λ h. rw h (ap (λ 
 
 -- where a run has a byte, what comes after it is shorter than the text
 pub less_remainder : (passes : ℕ → Bool) (text word rest : List ℕ) → word ≡ leading_run passes text → rest ≡ after_run passes text → 0 < length word → length rest < length text
-less_remainder passes text word rest e f some =
-    let k : length (word ++ rest) ≡ length text = ap length (rw (e, f) (run_and_rest passes text)) in omega (arith, length-append word rest)
+less_remainder passes text word rest e f some = grind (arith, (run_and_rest passes text), (length-append word rest))
 
 -- a test that all bytes of a text pass is passed by those after a run
 pub after_class : (p passes : ℕ → Bool) (text : List ℕ) → list_all p text ≡ true → list_all p (after_run passes text) ≡ true
 unfolding after_run
 after_class p passes [] h = refl
-after_class p passes (byte ∷ text) h =
-    by_test (passes byte)
-    (λ e. rw e (after_class p passes text (and_parts (p byte) (list_all p text) h).1))
-    (λ e. rw e h)
+after_class p passes (byte ∷ text) h = grind (arith, (after_class p passes text (and_parts (p byte) (list_all p text) h).1))
 
 -- a text doesn't begin with a byte that passes
 abbrev pub stops : (ℕ → Bool) → List ℕ → Bool
@@ -111,11 +97,5 @@ pub record IsRun (passes : ℕ → Bool) (word rest : List ℕ) : Type 0 where
 -- a word of bytes that all pass is the run where the text after it doesn't begin with one that passes
 pub whole_run : (passes : ℕ → Bool) (word rest : List ℕ) → list_all passes word ≡ true → stops passes rest ≡ true → IsRun passes word rest
 unfolding leading_run after_run
-whole_run passes [] [] h s = record { run = refl; after = refl }
-whole_run passes [] (byte ∷ rest) h s =
-    let p : passes byte ≡ false = not-true (passes byte) s in
-    record { run = rw p refl; after = rw p refl }
-whole_run passes (byte ∷ word) rest h s =
-    let p : (passes byte ≡ true) × (list_all passes word ≡ true) = and_parts (passes byte) (list_all passes word) h in
-    let r : IsRun passes word rest = whole_run passes word rest p.1 s in
-    record { run = rw p.0 (ap (λ w. byte ∷ w) r.run); after = rw p.0 r.after }
+whole_run passes (byte ∷ word) rest h s = grind (arith, (whole_run passes word rest))
+whole_run passes [] rest h s = grind arith

@@ -18,8 +18,7 @@ further (byte ∷ text) = slice_split is_blank text
 first_run : (text : List ℕ) → slice_split is_blank text ≡ leading_run is_inked text ∷ further (after_run is_inked text)
 unfolding leading_run after_run
 first_run [] = refl
-first_run (byte ∷ text) =
-    by_test (is_blank byte) (λ h. rw h refl) (λ h. rw h (rw (first_run text) refl))
+first_run (byte ∷ text) = grind (arith, (first_run text))
 
 abbrev some_words : List (List ℕ) → List (List ℕ)
 some_words pieces = filter (λ word. not (is_nil word)) pieces
@@ -27,13 +26,11 @@ some_words pieces = filter (λ word. not (is_nil word)) pieces
 words_further : (text : List ℕ) → some_words (further (after_run is_inked text)) ≡ words (after_run is_inked text)
 unfolding words after_run
 words_further [] = refl
-words_further (byte ∷ text) =
-    by_test (is_blank byte) (λ h. rw h (rw h refl)) (λ h. rw h (words_further text))
+words_further (byte ∷ text) = grind (arith, (words_further text))
 
 words_first : (text : List ℕ) → is_nil (leading_run is_inked text) ≡ false → words text ≡ leading_run is_inked text ∷ words (after_run is_inked text)
 unfolding words
-words_first text h =
-    ap some_words (first_run text) ∙ rw h (ap (λ rest. leading_run is_inked text ∷ rest) (words_further text))
+words_first text h = grind (arith, first_run, words_further)
 
 words_unblanked : (text : List ℕ) → words (after_run is_blank text) ≡ words text
 unfolding words after_run
@@ -43,8 +40,7 @@ words_unblanked (byte ∷ text) = by_test (is_blank byte) (λ h. rw h (words_unb
 no_run : (text : List ℕ) → is_nil (leading_run is_inked (after_run is_blank text)) ≡ true → after_run is_blank text ≡ []
 unfolding leading_run after_run
 no_run [] h = refl
-no_run (byte ∷ text) h =
-    by_test (is_blank byte) (λ e. rw e (no_run text (rw e at h))) (λ e. let k = rw (e, e) at h in absurd (cc))
+no_run (byte ∷ text) h = grind (arith, (no_run text))
 
 words_none : (text : List ℕ) → is_nil (leading_run is_inked (after_run is_blank text)) ≡ true → words text ≡ []
 unfolding words
@@ -52,20 +48,16 @@ words_none text h = sym (words_unblanked text) ∙ ap words (no_run text h)
 
 -- the first word by what a walk over blanks and then over a word found
 pub word_found : (text prefix word rest : List ℕ) → prefix ≡ unblanked text → word ≡ leading_run is_inked prefix → rest ≡ after_run is_inked prefix → is_nil word ≡ false → words text ≡ word ∷ words rest
-word_found text prefix word rest e f g h =
-    sym (words_unblanked text) ∙ ap words (sym e) ∙ words_first prefix (ap is_nil (sym f) ∙ h) ∙ ap (λ w. w ∷ words (after_run is_inked prefix)) (sym f) ∙ ap (λ t. word ∷ words t) (sym g)
+word_found text prefix word rest e f g h = cc ((words_unblanked text), (words_first prefix (ap is_nil (sym f) ∙ h)))
 
 -- a walk over blanks that found no word after them was at the end of the words
 pub no_word_found : (text prefix word : List ℕ) → prefix ≡ unblanked text → word ≡ leading_run is_inked prefix → is_nil word ≡ true → words text ≡ []
-no_word_found text prefix word e f h =
-    words_none text (ap (λ t. is_nil (leading_run is_inked t)) (sym e) ∙ ap is_nil (sym f) ∙ h)
+no_word_found text prefix word e f h = grind (arith, words_none)
 
 -- the words of two texts with a blank between are those of both
 pub words_both : (prefix text : List ℕ) → words (prefix ++ 32 ∷ text) ≡ words prefix ++ words text
 unfolding words
-words_both prefix text =
-    ap some_words (split_both is_blank prefix 32 text refl)
-    ∙ filter-append (λ word. not (is_nil word)) (slice_split is_blank prefix) (slice_split is_blank text)
+words_both prefix text = grind (arith, split_both, filter-append)
 
 -- a text without blanks that isn't empty is one word
 pub one_word : (word : List ℕ) → list_all is_inked word ≡ true → is_nil word ≡ false → words word ≡ word ∷ []
@@ -74,10 +66,8 @@ one_word word h some = ap some_words (split_whole is_blank word h) ∙ rw some r
 
 -- a test whether a text is empty
 pub empty_is_nil : (text : List ℕ) → is_nil text ≡ (length text == 0)
-empty_is_nil [] = refl
-empty_is_nil (x ∷ text) = sym (false_from_ne_true (length (x ∷ text) == 0) (λ h. let e : length (x ∷ text) ≡ 0 = eqb-true (length (x ∷ text)) 0 h in omega arith))
+empty_is_nil text = grind arith
 
 -- a text that isn't empty has a byte
 pub some_if : (text : List ℕ) → is_nil text ≡ false → 0 < length text
-some_if [] h = cc
-some_if (x ∷ text) h = omega arith
+some_if text h = grind arith

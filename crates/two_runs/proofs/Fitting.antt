@@ -9,7 +9,7 @@ use Rattle.std.proofs.lemmas.List.Sums.{length-filter, count_by-le-length}
 use Rattle.relax_edges.specs.declared.edge.Edge.{Edge}
 use Rattle.relax_edges.specs.declared.TheConstants.{MAX_EDGES}
 use Rattle.list_laws.specs.Numbers.{upto}
-use Rattle.list_laws.proofs.Numbers.{get_or-upto, length-map-upto, length-upto}
+use Rattle.list_laws.proofs.Numbers.{length-map-upto, length-upto}
 use Rattle.resolution_laws.specs.Resolution.{IsResolved, events_in, external_count, location_of, move_count}
 use Rattle.resolution_laws.proofs.Arcs.{thread_below}
 use Rattle.resolution_laws.proofs.Sizes.{external_and_moves, thread_size_most}
@@ -26,12 +26,6 @@ use Rattle.program_meaning.specs.Standing.{event_name}
 use Rattle.execution_text.specs.ExecutionReadBack.{AccessFits, ExecutionFits, ReadFits, SourceFits}
 use Rattle.execution_text.proofs.Short.{small_fits}
 use Rattle.two_runs.specs.Runs.{order_of, run_by, value_there}
-
--- what holds of each number below n
-each_below : (P : ℕ → Type 0) (n : ℕ) → ((i : ℕ) → i < n → P i) → All P (upto n)
-each_below P n f i d h =
-    let below : i < n = omega (arith, h, length-upto n) in
-    subst P (sym (get_or-upto n i d below)) (f i below)
 
 -- what holds of each thing that can be found holds of all that are found, and no more are found than are looked for
 found_first : {Y : Type 0} (P : Y → Type 0) (found : Option Y) (ys : List Y) → ((y : Y) → found ≡ Some y → P y) → All P ys → All P (cons_option found ys)

@@ -1,17 +1,16 @@
 -- The number of a name among those of places, and the location whose place has a number.
-use Rattle.std.proofs.Common.{◌≡◌, ℕ, ◌+◌, ◌<◌, ◌≤◌, ◌==◌, Bool, true, false, cond, List, [], ◌∷◌, length, drop, Option, Some, None, refl, sym, ap, ◌∙◌, subst, arith}
+use Rattle.std.proofs.Common.{◌≡◌, ℕ, ◌+◌, ◌<◌, ◌≤◌, ◌==◌, true, false, cond, List, [], length, drop, Some, sym, ap, ◌∙◌, subst, arith}
 use Rattle.std.specs.Prelude.{slice_index_or, unwrap_or}
-use Rattle.std.specs.List.{find, position_from}
+use Rattle.std.specs.List.{position_from}
 use Rattle.std.specs.Str.{bytes_eq}
 use Rattle.std.proofs.lemmas.Bool.{ne_eqb}
 use Rattle.std.proofs.lemmas.List.{drop_more}
 use Rattle.std.proofs.Math.Seq.{drop-length}
-use Rattle.list_laws.specs.Numbers.{upto}
 use Rattle.list_laws.proofs.Cases.{by_less}
 use Rattle.list_laws.proofs.Finds.{find_upto_first, find_upto_none}
 use Rattle.relax_edges.specs.declared.edge.Edge.{Edge}
 use Rattle.resolution_laws.specs.Resolution.{move_count}
-use Rattle.litmus_text.specs.Placing.{or_zero, place_in}
+use Rattle.litmus_text.specs.Placing.{or_zero}
 use Rattle.program_meaning.specs.Intended.{location_numbered}
 
 -- the number that is found from a name on

@@ -24,7 +24,7 @@ use Rattle.litmus_text.specs.declared.errors.ReadError.{ReadError}
 use Rattle.litmus_text.specs.declared.errors.ReadError.TheVariants as errors
 use Rattle.litmus_text.specs.ReadingAnswers.{GivesInMemory}
 use Rattle.program_meaning.specs.Executions.{Execution}
-use Rattle.program_meaning.specs.Intended.{intended, location_numbered, location_order, observed_locations, observer_reads, ordered_write, write_of}
+use Rattle.program_meaning.specs.Intended.{intended, location_numbered, location_order, observed_locations, observer_reads, write_of}
 use Rattle.communication_laws.specs.Exchange.{exchanged, exchanged_order}
 use Rattle.communication_laws.proofs.Bridge.{resolves}
 use Rattle.communication_laws.proofs.Needs.{refused_entry}

@@ -1,5 +1,5 @@
 -- A sink that was empty holds what was written to it, where its bytes are known.
-use Rattle.std.proofs.Common.{◌≡◌, ℕ, List, [], ◌++◌, ap, subst, Some}
+use Rattle.std.proofs.Common.{◌≡◌, ℕ, List, [], ap, subst, Some}
 use Rattle.std.specs.Prelude.{Option}
 use Rattle.diy_io.specs.Sink.{Grew, Shown, shown_after, shown_kept, shown_bytes}
 

@@ -20,11 +20,7 @@ writes_up_to es location place j = is_write_at es location j && nat_le (way_plac
 
 up_to_same : (es : List Edge) (l p j : ℕ) → (way_place es j ≡ p + 1 → ⊥) → writes_up_to es l (p + 1) j ≡ writes_up_to es l p j
 unfolding writes_up_to
-up_to_same es l p j d =
-    ap (λ b. is_write_at es l j && b)
-    (by_less p (way_place es j)
-    (λ g. lt-leb (way_place es j) (p + 1) (omega (arith, g, d)) ∙ sym (lt-leb (way_place es j) p g))
-    (λ g. le-leb (way_place es j) (p + 1) (omega (arith, g)) ∙ sym (le-leb (way_place es j) p g)))
+up_to_same es l p j d = grind arith
 
 -- one place further on the arc: the value grows at a write
 value_one_on : (es : List Edge) (i k : ℕ) → i < length es → k < length es → location_of es k ≡ location_of es i → way_place es k ≡ way_place es i + 1 → value_of es k ≡ value_of es i + cond (is_write es k) 1 0
@@ -33,12 +29,12 @@ value_one_on es i k h l e w =
     let p : ℕ → Bool = writes_up_to es (location_of es i) (way_place es i) in
     let q : ℕ → Bool = writes_up_to es (location_of es i) (way_place es i + 1) in
     let here : value_of es k ≡ count_by q (upto (length es)) = rw (e, w) refl in
-    let others : (j : ℕ) → j < length es → (j ≡ k → ⊥) → q j ≡ p j = λ j a d. up_to_same es (location_of es i) (way_place es i) j (λ z. d (only_on_way es j k a l (z ∙ sym w))) in
-    let old : p k ≡ false = and_right (is_write_at es (location_of es i) k) (nat_le (way_place es k) (way_place es i)) (lt-leb (way_place es k) (way_place es i) (omega (arith, w))) in
+    let others : (j : ℕ) → j < length es → (j ≡ k → ⊥) → q j ≡ p j = grind (arith, up_to_same, only_on_way) in
+    let old : p k ≡ false = grind arith in
     here ∙ by_test (is_write es k)
-    (λ t. let new : q k ≡ true = and_from (is_write_at es (location_of es i) k) (nat_le (way_place es k) (way_place es i + 1)) (and_from (is_write es k) (location_of es k == location_of es i) t (eq-eqb (location_of es k) (location_of es i) e)) (le-leb (way_place es k) (way_place es i + 1) (omega (arith, w))) in
+    (λ t. let new : q k ≡ true = grind arith in
     rw t (count_upto_one_more p q k (length es) l old new others))
-    (λ f. let none : q k ≡ false = and_left (is_write_at es (location_of es i) k) (nat_le (way_place es k) (way_place es i + 1)) (and_left (is_write es k) (location_of es k == location_of es i) f) in
+    (λ f. let none : q k ≡ false = grind arith in
     rw f (omega (arith, count_upto_same q p (length es) (λ j a. by_same j k (λ z. rw z (none ∙ sym old)) (others j a)))))
 
 -- after a `d` edge an arc begins
@@ -47,16 +43,11 @@ unfolding value_of writes_up_to
 value_begins es i r h t =
     let q : ℕ → Bool = writes_up_to es (location_of es (i + 1)) (way_place es (i + 1)) in
     let within = moves_within es i r h t in
-    let others : (j : ℕ) → j < length es → (j ≡ i + 1 → ⊥) → q j ≡ false = λ j l d.
-    by_test (q j)
-    (λ y. let parts = and_parts (is_write_at es (location_of es (i + 1)) j) (nat_le (way_place es j) (way_place es (i + 1))) y in
-    let place = (and_parts (is_write es j) (location_of es j == location_of es (i + 1)) parts.0).1 in
-    absurd (d (first_on_arc es i j r h t l (eqb-true (location_of es j) (location_of es (i + 1)) place) (leb-true (way_place es j) (way_place es (i + 1)) parts.1))))
-    (λ f. f) in
+    let others : (j : ℕ) → j < length es → (j ≡ i + 1 → ⊥) → q j ≡ false = grind (arith, and_parts, first_on_arc, eqb-true, leb-true) in
     by_test (is_write es (i + 1))
-    (λ w. let new : q (i + 1) ≡ true = and_from (is_write_at es (location_of es (i + 1)) (i + 1)) (nat_le (way_place es (i + 1)) (way_place es (i + 1))) (and_from (is_write es (i + 1)) (location_of es (i + 1) == location_of es (i + 1)) w (eq-eqb (location_of es (i + 1)) (location_of es (i + 1)) refl)) (le-leb (way_place es (i + 1)) (way_place es (i + 1)) (omega arith)) in
+    (λ w. let new : q (i + 1) ≡ true = grind arith in
     rw w (omega (arith, count_upto_one_more (λ j. false) q (i + 1) (length es) within refl new others, count_upto_none (λ j. false) (length es) (λ j l. refl))))
-    (λ f. let none : q (i + 1) ≡ false = and_left (is_write_at es (location_of es (i + 1)) (i + 1)) (nat_le (way_place es (i + 1)) (way_place es (i + 1))) (and_left (is_write es (i + 1)) (location_of es (i + 1) == location_of es (i + 1)) f) in
+    (λ f. let none : q (i + 1) ≡ false = grind arith in
     rw f (count_upto_none q (length es) (λ j l. by_same j (i + 1) (λ z. rw z none) (others j l))))
 
 -- along every edge, the last one back to event 0 included: the value of what it enters
@@ -71,10 +62,7 @@ value_after es i r h =
 -- at one location, values grow along the way
 pub values_up : (es : List Edge) (i j : ℕ) → location_of es i ≡ location_of es j → way_place es i ≤ way_place es j → value_of es i ≤ value_of es j
 unfolding value_of
-values_up es i j e w =
-    rw e (count_upto_fewer (λ m. is_write_at es (location_of es j) m && nat_le (way_place es m) (way_place es i)) (λ m. is_write_at es (location_of es j) m && nat_le (way_place es m) (way_place es j)) (length es)
-    (λ m l t. let parts = and_parts (is_write_at es (location_of es j) m) (nat_le (way_place es m) (way_place es i)) t in
-    and_from (is_write_at es (location_of es j) m) (nat_le (way_place es m) (way_place es j)) parts.0 (le-leb (way_place es m) (way_place es j) (omega (arith, w, leb-true (way_place es m) (way_place es i) parts.1)))))
+values_up es i j e w = grind (arith, count_upto_fewer, and_parts, and_from, le-leb, leb-true)
 
 -- at one location, along the way into a write values grow by at least one
 pub values_grow : (es : List Edge) (i j : ℕ) → j < length es → location_of es i ≡ location_of es j → way_place es i < way_place es j → is_write es j ≡ true → value_of es i + 1 ≤ value_of es j
@@ -83,15 +71,12 @@ values_grow es i j h e w t =
     rw e (count_upto_less (λ m. is_write_at es (location_of es j) m && nat_le (way_place es m) (way_place es i)) (λ m. is_write_at es (location_of es j) m && nat_le (way_place es m) (way_place es j)) j (length es) h
     (and_right (is_write_at es (location_of es j) j) (nat_le (way_place es j) (way_place es i)) (lt-leb (way_place es j) (way_place es i) w))
     (and_from (is_write_at es (location_of es j) j) (nat_le (way_place es j) (way_place es j)) (and_from (is_write es j) (location_of es j == location_of es j) t (eq-eqb (location_of es j) (location_of es j) refl)) (le-leb (way_place es j) (way_place es j) (omega arith)))
-    (λ m l y. let parts = and_parts (is_write_at es (location_of es j) m) (nat_le (way_place es m) (way_place es i)) y in
-    and_from (is_write_at es (location_of es j) m) (nat_le (way_place es m) (way_place es j)) parts.0 (le-leb (way_place es m) (way_place es j) (omega (arith, w, leb-true (way_place es m) (way_place es i) parts.1)))))
+    (λ m l y. grind arith))
 
 -- a value is at most the number of writes of its location
 pub value_most : (es : List Edge) (i : ℕ) → value_of es i ≤ write_count es (location_of es i)
 unfolding value_of write_count
-value_most es i =
-    count_upto_fewer (λ m. is_write_at es (location_of es i) m && nat_le (way_place es m) (way_place es i)) (is_write_at es (location_of es i)) (length es)
-    (λ m l t. (and_parts (is_write_at es (location_of es i) m) (nat_le (way_place es m) (way_place es i)) t).0)
+value_most es i = grind (arith, count_upto_fewer, and_parts)
 
 -- the number of writes of a location is at most that of the edges
 pub write_count_most : (es : List Edge) (l : ℕ) → write_count es l ≤ length es
@@ -101,18 +86,11 @@ write_count_most es l = count_upto-le (is_write_at es l) (length es)
 -- at the event that a `d` edge leaves, all writes of the location are counted
 pub value_at_end : (es : List Edge) (i : ℕ) → IsResolved es → i < length es → is_diff (edge_at es i) ≡ true → value_of es i ≡ write_count es (location_of es i)
 unfolding value_of write_count
-value_at_end es i r h t =
-    count_upto_same (λ m. is_write_at es (location_of es i) m && nat_le (way_place es m) (way_place es i)) (is_write_at es (location_of es i)) (length es)
-    (λ m l. by_test (is_write_at es (location_of es i) m)
-    (λ y. let place = eqb-true (location_of es m) (location_of es i) (and_parts (is_write es m) (location_of es m == location_of es i) y).1 in
-    rw y (le-leb (way_place es m) (way_place es i) (last_on_arc es i m r h t l place)))
-    (λ f. rw f refl))
+value_at_end es i r h t = grind (arith, count_upto_same, eqb-true, and_parts, le-leb, last_on_arc)
 
 -- a write's value is at least 1
 pub write_value : (es : List Edge) (i : ℕ) → IsResolved es → i < length es → is_write es i ≡ true → 1 ≤ value_of es i
-write_value es i r h t =
-    let a = value_after es (event_before es i) r (before_below es i h) in
-    omega (arith, rw (after_before es i h, t) at a)
+write_value es i r h t = grind (arith, (value_after es (event_before es i) r (before_below es i h)), (before_below es i h), (after_before es i h))
 
 -- in one thread at one location values don't fall
 pub values_in_thread : (es : List Edge) (i j : ℕ) → IsResolved es → i ≤ j → j < length es → thread_of es i ≡ thread_of es j → location_of es i ≡ location_of es j → value_of es i ≤ value_of es j
@@ -120,7 +98,4 @@ values_in_thread es i j r h l t e = values_up es i j e (way_in_thread es i j r h
 
 -- in one thread at one location values grow into a write by at least one
 pub values_in_thread_grow : (es : List Edge) (i j : ℕ) → IsResolved es → i < j → j < length es → thread_of es i ≡ thread_of es j → location_of es i ≡ location_of es j → is_write es j ≡ true → value_of es i + 1 ≤ value_of es j
-values_in_thread_grow es i j r h l t e w =
-    values_grow es i j l e
-    (by_less (way_place es i) (way_place es j) (λ s. s)
-    (λ g. absurd (omega (arith, h, only_on_way es i j (omega arith) l (omega (arith, g, way_in_thread es i j r (omega arith) l t e)))))) w
+values_in_thread_grow es i j r h l t e w = grind (arith, values_grow, only_on_way, way_in_thread)

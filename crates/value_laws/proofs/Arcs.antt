@@ -24,9 +24,7 @@ use Rattle.value_laws.proofs.Writes.{write_of, write_at_parts, write_at_from, is
 -- a count along the way is a count of all events
 way_count : (es : List Edge) (p : ℕ → Bool) → count_by p (way es) ≡ count_by p (upto (length es))
 unfolding way
-way_count es p =
-    sum_by-append (λ i. cond (p i) 1 0) (filter (is_after_moves es) (upto (length es))) (filter (λ i. not (is_after_moves es i)) (upto (length es)))
-    ∙ sum_by-filter_both (is_after_moves es) (λ i. not (is_after_moves es i)) (λ i. refl) (λ i. cond (p i) 1 0) (upto (length es))
+way_count es p = grind (arith, sum_by-append, sum_by-filter_both)
 
 -- a count along an arc is a count of the location's events
 arc_count : (es : List Edge) (l : ℕ) (p : ℕ → Bool) → count_by p (arc es l) ≡ count_by (λ i. (location_of es i == l) && p i) (upto (length es))
@@ -44,10 +42,8 @@ arc_events es l i =
       count_upto_none (λ j. false) (length es) (λ j g. refl),
       count_upto_one_more (λ j. false) test i (length es) h refl (and_from (location_of es i == l) (i == i) t (eq-eqb i i refl)) (λ j g d. other j d),
     )))
-    (λ f. rw f (count_upto_none test (length es) (λ j g. by_same j i
-    (λ e. and_left (location_of es j == l) (j == i) (ap (λ x. location_of es x == l) e ∙ f))
-    (λ d. other j d))))))
-    (λ g. rw (le-ltb i (length es) g) (count_upto_none test (length es) (λ j h. other j (λ e. omega (arith, e, h, g)))))
+    (λ f. grind (arith, count_upto_none, and_left))))
+    (λ g. grind (arith, le-ltb, count_upto_none))
   where
     test : ℕ → Bool
     test j = (location_of es j == l) && (j == i)
@@ -62,11 +58,7 @@ record OnArc (es : List Edge) (l i : ℕ) : Type 0 where
 
 on_arc : (es : List Edge) (l k i : ℕ) → slice_get (arc es l) k ≡ Some i → OnArc es l i
 on_arc es l k i h =
-    let some : 0 < cond (nat_lt i (length es) && (location_of es i == l)) 1 0 = omega (arith, counted_found (λ j. j == i) (arc es l) k i h (eq-eqb i i refl), arc_events es l i) in
-    by_test (nat_lt i (length es) && (location_of es i == l))
-    (λ t. let p = and_parts (nat_lt i (length es)) (location_of es i == l) t in
-    record { below = ltb-true i (length es) p.0; location = eqb-true (location_of es i) l p.1 })
-    (λ f. absurd (omega (arith, rw f at some)))
+    grind (arith, counted_found, (eq-eqb i i refl), (arc_events es l i), (and_parts (nat_lt i (length es)) (location_of es i == l)), (ltb-true i (length es)), (eqb-true (location_of es i) l))
 
 -- an event of the location has a place on the arc
 record PlaceOf (es : List Edge) (l i : ℕ) : Type 0 where
@@ -75,7 +67,7 @@ record PlaceOf (es : List Edge) (l i : ℕ) : Type 0 where
 
 place_on_arc : (es : List Edge) (l i : ℕ) → i < length es → location_of es i ≡ l → PlaceOf es l i
 place_on_arc es l i h e =
-    let both : (nat_lt i (length es) && (location_of es i == l)) ≡ true = and_from (nat_lt i (length es)) (location_of es i == l) (lt-ltb i (length es) h) (eq-eqb (location_of es i) l e) in
+    let both : (nat_lt i (length es) && (location_of es i == l)) ≡ true = grind arith in
     let one : count_by (λ j. j == i) (arc es l) ≡ 1 = rw both at (arc_events es l i) in
     let w = found_counted (λ j. j == i) (arc es l) (omega (arith, one)) in
     let s : w.element ≡ i = eqb-true w.element i w.passes in
@@ -129,23 +121,12 @@ arc_places_grow es l = AllPairs-filter (λ i j. way_place es i < way_place es j)
 pub value_on_arc : (es : List Edge) (i k : ℕ) → slice_get (arc es (location_of es i)) k ≡ Some i → value_of es i ≡ count_by (is_write es) (take (k + 1) (arc es (location_of es i)))
 unfolding value_of
 value_on_arc es i k h =
-    count_upto_same (λ j. is_write_at es (location_of es i) j && nat_le (way_place es j) (way_place es i)) (λ j. (location_of es j == location_of es i) && (is_write es j && nat_le (way_place es j) (way_place es i))) (length es)
-    (λ j g. exchanged (is_write es j) (location_of es j == location_of es i) (nat_le (way_place es j) (way_place es i)))
-    ∙ sym (arc_count es (location_of es i) (λ j. is_write es j && nat_le (way_place es j) (way_place es i)))
-    ∙ count_along (way_place es) (is_write es) (arc es (location_of es i)) k i (arc_places_grow es (location_of es i)) h
-  where
-    exchanged : (a b c : Bool) → ((a && b) && c) ≡ (b && (a && c))
-    exchanged true true c = refl
-    exchanged true false c = refl
-    exchanged false true c = refl
-    exchanged false false c = refl
+    grind (arith, count_upto_same, (arc_count es (location_of es i)), (count_along (way_place es) (is_write es) (arc es (location_of es i)) k i (arc_places_grow es (location_of es i)) h), (arc_places_grow es (location_of es i)))
 
 -- a write comes on its arc after one fewer writes than its value
 write_rank : (es : List Edge) (l i k : ℕ) → slice_get (arc es l) k ≡ Some i → location_of es i ≡ l → is_write es i ≡ true → value_of es i ≡ count_by (is_write es) (take k (arc es l)) + 1
 write_rank es l i k h e t =
-    let v = rw e at (value_on_arc es i k (ap (λ x. slice_get (arc es x) k) e ∙ h)) in
-    let more = count_by_more_yes (is_write es) (arc es l) k 0 (slice_get_within (arc es l) k i h) (ap (is_write es) (get_or_from_slice_get (arc es l) k i 0 h) ∙ t) in
-    omega (arith, v, more)
+    grind (arith, (value_on_arc es i k), (count_by_more_yes (is_write es) (arc es l) k 0 (slice_get_within (arc es l) k i h) (ap (is_write es) (get_or_from_slice_get (arc es l) k i 0 h) ∙ t)), (slice_get_within (arc es l) k i h), (get_or_from_slice_get (arc es l) k i 0 h))
 
 -- the writes of the arc, in its order, are the writes of the location by their numbers
 pub writes_on_arc : (es : List Edge) (l k : ℕ) → slice_get (filter (is_write es) (arc es l)) k ≡ write_at es l k
@@ -158,9 +139,7 @@ writes_on_arc es l k =
     let a = place_on_arc es l i w.below p.1 in
     let number : count_by (is_write es) (take a.place (arc es l)) ≡ k = omega (arith, write_rank es l i a.place a.is p.1 p.0, w.value) in
     ap (slice_get (filter (is_write es) (arc es l))) (sym number) ∙ rank_filter (is_write es) (arc es l) a.place i a.is p.0 ∙ sym s))
-    (λ i s. let u = unrank_filter (is_write es) (arc es l) k i s in
-    let a = on_arc es l u.place i u.is in
-    s ∙ sym (is_write_number es l k i (record { below = a.below; writes = write_at_from es l i u.passes a.location; value = write_rank es l i u.place u.is a.location u.passes ∙ ap (λ x. x + 1) u.rank })))
+    (λ i s. grind (arith, (unrank_filter (is_write es) (arc es l) k i s), (on_arc es l), (is_write_number es l k i), (write_at_from es l i), (write_rank es l i)))
 
 -- the location doesn't fall along the way: first comes location 0, then each next one
 locations_rise : (es : List Edge) (i j : ℕ) → i < length es → j < length es → way_place es i < way_place es j → location_of es i ≤ location_of es j

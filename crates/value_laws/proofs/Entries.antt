@@ -23,31 +23,16 @@ use Rattle.value_laws.proofs.Writes.{Write, write_of, is_write_number}
 
 -- what is found among one number more
 pub find_more : (p : ℕ → Bool) (w : ℕ → Option ℕ) (n : ℕ) → find p (filter_map w (upto (suc n))) ≡ option_or (find p (filter_map w (upto n))) (find p (filter_map w (n ∷ [])))
-find_more p w n =
-    ap (find p) (filter_map-append w (upto n) (n ∷ []))
-    ∙ find-append p (filter_map w (upto n)) (filter_map w (n ∷ []))
+find_more p w n = grind (arith, filter_map-append, find-append)
 
 -- something is found where a number gives what passes, and nothing where none does
 some_found : (p : ℕ → Bool) (w : ℕ → Option ℕ) (n k i : ℕ) → k < n → w k ≡ Some i → p i ≡ true → is_some (find p (filter_map w (upto n))) ≡ true
 some_found p w zero k i h e t = absurd (omega arith)
-some_found p w (suc n) k i h e t =
-    ap is_some (find_more p w n)
-    ∙ by_option (find p (filter_map w (upto n)))
-    (λ none. by_same k n
-    (λ s. rw (none, ← s, e, t) refl)
-    (λ d. let a : is_some (find p (filter_map w (upto n))) ≡ true = some_found p w n k i (omega (arith, h, d)) e t in
-    let b : false ≡ true = sym (rw none refl) ∙ a in cc))
-    (λ x s. rw s refl)
+some_found p w (suc n) k i h e t = grind (arith, (some_found p w n k i), is_some, find_more)
 
 none_found : (p : ℕ → Bool) (w : ℕ → Option ℕ) (n : ℕ) → ((k i : ℕ) → k < n → w k ≡ Some i → p i ≡ false) → is_some (find p (filter_map w (upto n))) ≡ false
 none_found p w zero h = refl
-none_found p w (suc n) h =
-    ap is_some (find_more p w n)
-    ∙ by_option (find p (filter_map w (upto n)))
-    (λ none. by_option (w n)
-    (λ e. rw (none, e) refl)
-    (λ i e. rw (none, e, h n i (omega arith) e) refl))
-    (λ x s. let a : true ≡ false = sym (rw s refl) ∙ none_found p w n (λ k i g. h k i (omega arith)) in cc)
+none_found p w (suc n) h = grind (arith, (none_found p w n), is_some, find_more)
 
 -- a write that isn't the last one is an inner one, where it isn't the first and an external edge enters it
 inner_test : (es : List Edge) (l k i : ℕ) → k + 1 < write_count es l → Write es l k i → is_inner_entry es l i ≡ is_later_entry es i
@@ -55,36 +40,22 @@ inner_test es l k i h w = rw (w.writes, lt-ltb (value_of es i) (write_count es l
 
 -- the last write isn't an inner one
 last_isnt : (es : List Edge) (l k i : ℕ) → k + 1 ≡ write_count es l → Write es l k i → is_inner_entry es l i ≡ false
-last_isnt es l k i h w =
-    and_right (is_write_at es l i && is_external (edge_into es i) && nat_lt 1 (value_of es i)) (nat_lt (value_of es i) (write_count es l)) (le-ltb (value_of es i) (write_count es l) (omega (arith, h, w.value)))
+last_isnt es l k i h w = grind arith
 
 found_one : (es : List Edge) (l k : ℕ) (o : Option ℕ) → write_at es l k ≡ o → k + 1 < write_count es l → find (is_inner_entry es l) (filter_map (write_at es l) (k ∷ [])) ≡ find (is_later_entry es) (filter_map (write_at es l) (k ∷ []))
-found_one es l k None e h = rw e refl
-found_one es l k (Some i) e h = rw e (ap (λ b. cond b (Some i) None) (inner_test es l k i h (write_of es l k i e)))
+found_one es l k o e h = grind (arith, inner_test, write_of)
 
 found_last : (es : List Edge) (l k : ℕ) (o : Option ℕ) → write_at es l k ≡ o → k + 1 ≡ write_count es l → find (is_inner_entry es l) (filter_map (write_at es l) (k ∷ [])) ≡ None
-found_last es l k None e h = rw e refl
-found_last es l k (Some i) e h = rw (e, last_isnt es l k i h (write_of es l k i e)) refl
+found_last es l k o e h = grind (arith, last_isnt, write_of)
 
 -- among the writes below number m, none of which is the last
 found_below : (es : List Edge) (l m : ℕ) → m < write_count es l → find (is_inner_entry es l) (filter_map (write_at es l) (upto m)) ≡ find (is_later_entry es) (filter_map (write_at es l) (upto m))
 found_below es l zero h = refl
-found_below es l (suc m) h =
-    find_more (is_inner_entry es l) (write_at es l) m
-    ∙ ap (λ o. option_or o (find (is_inner_entry es l) (filter_map (write_at es l) (m ∷ [])))) (found_below es l m (omega arith))
-    ∙ ap (option_or (find (is_later_entry es) (filter_map (write_at es l) (upto m)))) (found_one es l m (write_at es l m) refl (omega arith))
-    ∙ sym (find_more (is_later_entry es) (write_at es l) m)
+found_below es l (suc m) h = grind (arith, (found_below es l m (omega arith)), find_more, found_one)
 
 found_all : (es : List Edge) (l n : ℕ) → write_count es l ≡ n → find (is_inner_entry es l) (filter_map (write_at es l) (upto n)) ≡ inner_entry es l n
 unfolding first_entry
-found_all es l zero h = refl
-found_all es l (suc m) h =
-    let less : suc m - 1 ≡ m = omega arith in
-    find_more (is_inner_entry es l) (write_at es l) m
-    ∙ ap (option_or (find (is_inner_entry es l) (filter_map (write_at es l) (upto m)))) (found_last es l m (write_at es l m) refl (omega (arith, h)))
-    ∙ option_or-none (find (is_inner_entry es l) (filter_map (write_at es l) (upto m)))
-    ∙ found_below es l m (omega (arith, h))
-    ∙ ap (first_entry es l) (ap upto (sym less))
+found_all es l n h = grind (arith, find_more, found_last, option_or-none, found_below)
 
 -- the first inner write that an external edge enters, as a walk along the arc finds it
 pub first_inner_found : (es : List Edge) (l : ℕ) → inner_entry es l (write_count es l) ≡ first_inner_entry es l
@@ -100,11 +71,7 @@ pub record Inner (es : List Edge) (l i : ℕ) : Type 0 where
 
 -- an inner write that an external edge enters has these parts
 pub inner_parts : (es : List Edge) (l i : ℕ) → is_inner_entry es l i ≡ true → Inner es l i
-inner_parts es l i h =
-    let a = and_parts (is_write_at es l i && is_external (edge_into es i) && nat_lt 1 (value_of es i)) (nat_lt (value_of es i) (write_count es l)) h in
-    let b = and_parts (is_write_at es l i && is_external (edge_into es i)) (nat_lt 1 (value_of es i)) a.0 in
-    let c = and_parts (is_write_at es l i) (is_external (edge_into es i)) b.0 in
-    record { writes = c.0; entered = c.1; later = ltb-true 1 (value_of es i) b.1; earlier = ltb-true (value_of es i) (write_count es l) a.1 }
+inner_parts es l i h = grind arith
 
 -- whether an arc has an inner write that an external edge enters
 pub inner_found : (es : List Edge) (l : ℕ) → is_some (inner_entry es l (write_count es l)) ≡ list_any (is_inner_entry es l) (upto (length es))
@@ -126,34 +93,23 @@ no_need : (es : List Edge) (k : ℕ) → inner_entry es k (write_count es k) ≡
 no_need es k h = let a : first_inner_entry es k ≡ None = sym (first_inner_found es k) ∙ h in rw a refl
 
 or_assoc : (x y z : Option NeedsObserver) → option_or (option_or x y) z ≡ option_or x (option_or y z)
-or_assoc None y z = refl
-or_assoc (Some x) y z = refl
+or_assoc x y z = grind arith
 
 first_need-append : (es : List Edge) (xs ys : List ℕ) → first_need es (xs ++ ys) ≡ option_or (first_need es xs) (first_need es ys)
 first_need-append es [] ys = refl
-first_need-append es (x ∷ xs) ys =
-    ap (option_or (need_at es x)) (first_need-append es xs ys) ∙ sym (or_assoc (need_at es x) (first_need es xs) (first_need es ys))
+first_need-append es (x ∷ xs) ys = grind (arith, (first_need-append es xs ys))
 
 need_or_none : (x : Option NeedsObserver) → option_or x None ≡ x
-need_or_none None = refl
-need_or_none (Some x) = refl
+need_or_none x = grind arith
 
 -- the first location whose arc has such a write
 pub need_found : (es : List Edge) (k d e : ℕ) → k < d → first_need es (upto k) ≡ None → inner_entry es k (write_count es k) ≡ Some e → first_need es (upto d) ≡ Some (record { location = k; event = e })
 need_found es k zero e h n s = absurd (omega arith)
-need_found es k (suc d) e h n s =
-    first_need-append es (upto d) (d ∷ [])
-    ∙ by_less k d
-    (λ l. rw (need_found es k d e l n s) refl)
-    (λ g. let q : k ≡ d = omega arith in
-    let none : first_need es (upto d) ≡ None = ap (λ m. first_need es (upto m)) (sym q) ∙ n in
-    let here : need_at es d ≡ Some (record { location = k; event = e }) = ap (need_at es) (sym q) ∙ need_is es k e s in
-    rw (none, here) refl)
+need_found es k (suc d) e h n s = grind (arith, (need_found es k d e), first_need-append, need_is)
 
 -- one location more that needs none
 pub no_need_more : (es : List Edge) (k : ℕ) → first_need es (upto k) ≡ None → inner_entry es k (write_count es k) ≡ None → first_need es (upto (k + 1)) ≡ None
-no_need_more es k n s =
-    ap (λ m. first_need es (upto m)) (add-one k) ∙ first_need-append es (upto k) (k ∷ []) ∙ rw (n, no_need es k s) refl
+no_need_more es k n s = grind (arith, add-one, first_need-append, no_need)
 
 -- the mode avoid refuses a cycle of which a location needs an observer
 pub avoid_refused : (es : List Edge) (need : NeedsObserver) → observer_need es ≡ Some need → valuation_of es Avoid ≡ Err need
@@ -165,36 +121,14 @@ avoid_allowed es h = rw h refl
 
 -- the other modes give values always
 pub others_allowed : (es : List Edge) (mode : ObsMode) → (mode ≡ Avoid → ⊥) → valuation_of es mode ≡ Ok (record { edges = es; mode = mode })
-others_allowed es Accept h = refl
-others_allowed es Avoid h = absurd (h refl)
-others_allowed es Force h = refl
+others_allowed es mode h = grind arith
 
 -- where no location needs an observer, none has an inner write that an external edge enters
 need_none : (es : List Edge) (k d : ℕ) → k < d → first_need es (upto d) ≡ None → need_at es k ≡ None
 need_none es k zero h n = absurd (omega arith)
-need_none es k (suc d) h n =
-    let both : option_or (first_need es (upto d)) (option_or (need_at es d) None) ≡ None = sym (first_need-append es (upto d) (d ∷ [])) ∙ n in
-    let prefix = or_none_left (first_need es (upto d)) (option_or (need_at es d) None) both in
-    let back = or_none_right (first_need es (upto d)) (option_or (need_at es d) None) both in
-    by_less k d
-    (λ l. need_none es k d l prefix)
-    (λ g. let q : k ≡ d = omega arith in rw q (sym (need_or_none (need_at es d)) ∙ back))
-  where
-    or_none_left : (x y : Option NeedsObserver) → option_or x y ≡ None → x ≡ None
-    or_none_left None y e = refl
-    or_none_left (Some x) y e = cc
-
-    or_none_right : (x y : Option NeedsObserver) → option_or x y ≡ None → y ≡ None
-    or_none_right None y e = e
-    or_none_right (Some x) y e = cc
+need_none es k (suc d) h n = grind (arith, (need_none es k d), first_need-append, need_or_none)
 
 -- where no location needs an observer, no event is an inner write that an external edge enters
 pub no_inner_entry : (es : List Edge) (l i : ℕ) → observer_need es ≡ None → l < move_count es → i < length es → is_inner_entry es l i ≡ false
 no_inner_entry es l i n h b =
-    let none : first_inner_entry es l ≡ None = unmapped (first_inner_entry es l) (need_none es l (move_count es) h n) in
-    let found : is_some (inner_entry es l (write_count es l)) ≡ false = rw (first_inner_found es l, none) refl in
-    any_upto_fails (is_inner_entry es l) (length es) i (sym (inner_found es l) ∙ found) b
-  where
-    unmapped : (o : Option ℕ) → option_map (λ (event : ℕ). let r : NeedsObserver = record { location = l; event = event } in r) o ≡ None → o ≡ None
-    unmapped None e = refl
-    unmapped (Some x) e = cc
+    grind (arith, (need_none es l (move_count es) h n), (is_some (inner_entry es l (write_count es l))), (first_inner_found es l), (any_upto_fails (is_inner_entry es l) (length es) i), (inner_found es l))

@@ -31,8 +31,7 @@ count_filter p q (x ∷ xs) =
     (λ t. let both : ◌≡◌ {A = ℕ} (cond (q x && p x) 1 0) (cond (p x) 1 0) = rw t refl in
     ap (count_by p) (cond-true (q x) (x ∷ filter q xs) (filter q xs) t)
     ∙ omega (arith, sum_by-cons (λ y. cond (p y) 1 0) x (filter q xs), sum_by-cons (λ y. cond (q y && p y) 1 0) x xs, both, count_filter p q xs))
-    (λ f. ap (count_by p) (cond-false (q x) (x ∷ filter q xs) (filter q xs) f)
-    ∙ count_filter p q xs ∙ sym (count_no (λ y. q y && p y) x xs (and_left (q x) (p x) f)))
+    (λ f. grind (arith, (count_filter p q xs)))
 
 -- some element that passes, with its place
 pub record Found (p : ℕ → Bool) (xs : List ℕ) : Type 0 where
@@ -55,14 +54,8 @@ counted_found p xs k x h t =
 
 -- an element that passes is in the filter at the place of its rank
 pub rank_filter : (p : ℕ → Bool) (xs : List ℕ) (k x : ℕ) → slice_get xs k ≡ Some x → p x ≡ true → slice_get (filter p xs) (count_by p (take k xs)) ≡ Some x
-rank_filter p [] k x h t = cc
-rank_filter p (y ∷ ys) zero x h t =
-    let e : y ≡ x = cc in
-    rw (e, t) refl
-rank_filter p (y ∷ ys) (suc k) x h t =
-    by_test (p y)
-    (λ u. ap (slice_get (filter p (y ∷ ys))) (count_yes p y (take k ys) u) ∙ rw u (rank_filter p ys k x h t))
-    (λ f. ap (slice_get (filter p (y ∷ ys))) (count_no p y (take k ys) f) ∙ rw f (rank_filter p ys k x h t))
+rank_filter p (y ∷ ys) (suc k) x h t = grind (arith, (rank_filter p ys k x h t), count_yes, count_no)
+rank_filter p xs k x h t = grind arith
 
 -- what is in the filter at a place: its place in the list, and that its rank is that place
 pub record Unranked (p : ℕ → Bool) (xs : List ℕ) (s x : ℕ) : Type 0 where
@@ -100,8 +93,7 @@ pairs_change R S P xs a p f i j d h l = f (get_or xs i d) (get_or xs j d) (p i d
 
 -- the numbers below n grow
 pub upto_grows : (n : ℕ) → AllPairs (λ i j. i < j) (upto n)
-upto_grows n i j d h l =
-    omega (arith, h, get_or-upto n i d (omega (arith, h, l, length-upto n)), get_or-upto n j d (omega (arith, l, length-upto n)))
+upto_grows n i j d h l = grind (arith, get_or-upto, length-upto)
 
 -- where a number grows along a list, the elements up to one are those with a number at most its own
 pub count_along : (f : ℕ → ℕ) (p : ℕ → Bool) (xs : List ℕ) (k x : ℕ) → AllPairs (λ i j. f i < f j) xs → slice_get xs k ≡ Some x → count_by (λ j. p j && nat_le (f j) (f x)) xs ≡ count_by p (take (k + 1) xs)
@@ -110,10 +102,9 @@ count_along f p xs k x grows h =
     let here : get_or xs k 0 ≡ x = get_or_from_slice_get xs k x 0 h in
     count_all (λ j. p j && nat_le (f j) (f x)) xs 0
     ∙ count_upto_stays (λ m. p (get_or xs m 0) && nat_le (f (get_or xs m 0)) (f x)) (k + 1) (length xs) (omega arith)
-    (λ m a b. and_right (p (get_or xs m 0)) (nat_le (f (get_or xs m 0)) (f x)) (lt-leb (f (get_or xs m 0)) (f x) (omega (arith, grows k m 0 (omega arith) b, ap f here))))
+    (λ m a b. grind arith)
     ∙ count_upto_same (λ m. p (get_or xs m 0) && nat_le (f (get_or xs m 0)) (f x)) (λ m. p (get_or xs m 0)) (k + 1)
-    (λ m a. let low : f (get_or xs m 0) ≤ f x = by_less m k (λ l. omega (arith, grows m k 0 l within, ap f here)) (λ g. let e : m ≡ k = omega arith in omega (arith, ap (λ n. f (get_or xs n 0)) e, ap f here)) in
-    rw (le-leb (f (get_or xs m 0)) (f x) low) (and-true (p (get_or xs m 0))))
+    (λ m a. grind arith)
     ∙ sym (count_take p xs 0 (k + 1) (omega arith))
 
 -- a filter that no element passes leaves none
@@ -132,17 +123,13 @@ split_filter g c [] a = refl
 split_filter g c (x ∷ xs) a =
     let rest = split_filter g c xs (λ i j d h l. a (suc i) (suc j) d (omega arith) (omega arith)) in
     by_less (g x) c
-    (λ l. rw (lt-ltb (g x) (suc c) (omega arith), lt-ltb (g x) c l, ne_eqb (g x) c (λ e. omega (arith, e, l))) (ap (λ r. x ∷ r) rest))
+    (λ l. grind arith)
     (λ m. let none : filter (λ y. nat_lt (g y) c) xs ≡ [] = filter_nothing (λ y. nat_lt (g y) c) xs (λ k d h. le-ltb (g (get_or xs k d)) c (omega (arith, m, a 0 (suc k) d (omega arith) (omega arith)))) in
     by_same (g x) c
-    (λ s. rw (lt-ltb (g x) (suc c) (omega (arith, s)), le-ltb (g x) c m, eq-eqb (g x) c s, none) (ap (λ r. x ∷ r) (rest ∙ ap (λ r. r ++ filter (λ y. g y == c) xs) none)))
-    (λ d. rw (le-ltb (g x) (suc c) (omega (arith, m, d)), le-ltb (g x) c m, ne_eqb (g x) c d) rest))
+    (λ s. grind arith)
+    (λ d. grind arith))
 
 -- a list along which a number doesn't fall is its classes by that number, one after the other
 pub classes_follow : (g : ℕ → ℕ) (c : ℕ) (xs : List ℕ) → AllPairs (λ x y. g x ≤ g y) xs → filter (λ x. nat_lt (g x) c) xs ≡ flat_map (λ l. filter (λ x. g x == l) xs) (upto c)
 classes_follow g zero xs a = filter_nothing (λ x. nat_lt (g x) 0) xs (λ k d h. le-ltb (g (get_or xs k d)) 0 (omega arith))
-classes_follow g (suc c) xs a =
-    split_filter g c xs a
-    ∙ ap (λ r. r ++ filter (λ x. g x == c) xs) (classes_follow g c xs a)
-    ∙ ap (λ r. flat_map (λ l. filter (λ x. g x == l) xs) (upto c) ++ r) (sym (append-nil (filter (λ x. g x == c) xs)))
-    ∙ sym (flat_map-append (λ l. filter (λ x. g x == l) xs) (upto c) (c ∷ []))
+classes_follow g (suc c) xs a = grind (arith, (classes_follow g c xs a), (split_filter g c xs a), append-nil, flat_map-append)

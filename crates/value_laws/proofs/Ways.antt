@@ -54,11 +54,11 @@ first_on_arc es i j r h t l e w =
     let later : (j ≤ i → moves_before es j ≤ moves_before es i) = λ g. moves_up es j i g (omega arith) in
     by_way es (i + 1) within
     (λ a b c. by_way es j l
-    (λ x y z. by_less i j (λ g. omega (arith, w, c, z, g)) (λ g. absurd (omega (arith, later g, on, a, x))))
+    (λ x y z. grind arith)
     (λ x y z. absurd (omega (arith, w, c, z, within))))
     (λ a b c. by_way es j l
     (λ x y z. absurd (omega (arith, e, b, y, on)))
-    (λ x y z. by_less i j (λ g. omega (arith, w, c, z, g)) (λ g. absurd (omega (arith, later g, on, e, b, y)))))
+    (λ x y z. grind arith))
 
 -- the event that a `d` edge leaves is the last of its arc
 pub last_on_arc : (es : List Edge) (i j : ℕ) → IsResolved es → i < length es → is_diff (edge_at es i) ≡ true → j < length es → location_of es j ≡ location_of es i → way_place es j ≤ way_place es i
@@ -69,7 +69,7 @@ last_on_arc es i j r h t l e =
     (λ a b c. absurd (omega (arith, a, on, most)))
     (λ a b c. by_way es j l
     (λ x y z. omega (arith, c, z, l))
-    (λ x y z. by_less i j (λ g. absurd (omega (arith, moves_up es (i + 1) j (omega (arith, g)) (omega arith), on, e, b, y))) (λ g. omega (arith, c, z, g))))
+    (λ x y z. grind (arith, moves_up)))
 
 -- in one thread at one location, program order is the order of the way
 pub way_in_thread : (es : List Edge) (i j : ℕ) → IsResolved es → i ≤ j → j < length es → thread_of es i ≡ thread_of es j → location_of es i ≡ location_of es j → way_place es i ≤ way_place es j

@@ -12,7 +12,7 @@ use Rattle.resolution_laws.proofs.Arcs.{leaving, location_below}
 use Rattle.resolution_laws.proofs.Around.{before_below, after_before, keeps_location}
 use Rattle.value_laws.specs.Values.{is_write_at, way_place, value_of, write_count, write_at}
 use Rattle.value_laws.proofs.Ways.{only_on_way, way_next}
-use Rattle.value_laws.proofs.Along.{is_write, value_after, value_most, value_at_end, values_grow}
+use Rattle.value_laws.proofs.Along.{is_write, value_after, value_at_end, values_grow}
 
 -- a write at a location is a write, and is at that location
 pub write_at_parts : (es : List Edge) (l i : ℕ) → is_write_at es l i ≡ true → (is_write es i ≡ true) × (location_of es i ≡ l)
@@ -24,14 +24,7 @@ write_at_from es l i w e = and_from (is_write es i) (location_of es i == l) w (e
 
 -- two writes of a location have different values
 pub one_write : (es : List Edge) (l i j : ℕ) → i < length es → j < length es → is_write_at es l i ≡ true → is_write_at es l j ≡ true → value_of es i ≡ value_of es j → i ≡ j
-one_write es l i j h k a b v =
-    let p = write_at_parts es l i a in
-    let q = write_at_parts es l j b in
-    by_less (way_place es i) (way_place es j)
-    (λ s. absurd (omega (arith, v, values_grow es i j k (p.1 ∙ sym q.1) s q.0)))
-    (λ g. by_less (way_place es j) (way_place es i)
-    (λ s. absurd (omega (arith, v, values_grow es j i h (q.1 ∙ sym p.1) s p.0)))
-    (λ s. only_on_way es i j h k (omega (arith, s, g))))
+one_write es l i j h k a b v = grind (arith, write_at_parts, values_grow, only_on_way)
 
 -- a write of the location with a value
 pub record Write (es : List Edge) (l k i : ℕ) : Type 0 where
@@ -42,10 +35,7 @@ pub record Write (es : List Edge) (l k i : ℕ) : Type 0 where
 -- write number k of a location is one of its writes, and has the value k + 1
 pub write_of : (es : List Edge) (l k i : ℕ) → write_at es l k ≡ Some i → Write es l k i
 unfolding write_at
-write_of es l k i h =
-    let f = find_upto (λ j. is_write_at es l j && (value_of es j == k + 1)) (length es) i h in
-    let p = and_parts (is_write_at es l i) (value_of es i == k + 1) f.passes in
-    record { below = f.below; writes = p.0; value = eqb-true (value_of es i) (k + 1) p.1 }
+write_of es l k i h = grind (arith, find_upto, and_parts, eqb-true)
 
 -- a write of the location with the value k + 1 is its write number k
 pub is_write_number : (es : List Edge) (l k i : ℕ) → Write es l k i → write_at es l k ≡ Some i
@@ -53,8 +43,7 @@ unfolding write_at
 is_write_number es l k i w =
     find_upto_only (λ j. is_write_at es l j && (value_of es j == k + 1)) (length es) i w.below
     (and_from (is_write_at es l i) (value_of es i == k + 1) w.writes (eq-eqb (value_of es i) (k + 1) w.value))
-    (λ j h t. let p = and_parts (is_write_at es l j) (value_of es j == k + 1) t in
-    one_write es l j i h w.below p.0 w.writes (eqb-true (value_of es j) (k + 1) p.1 ∙ sym w.value))
+    (λ j h t. grind (arith, and_parts, one_write, eqb-true))
 
 -- some write of the location with a value
 pub record SomeWrite (es : List Edge) (l k : ℕ) : Type 0 where
@@ -69,13 +58,7 @@ record IsNextPlace (es : List Edge) (i : ℕ) : Type 0 where
 
 remainder : (es : List Edge) (i : ℕ) → IsResolved es → i < length es → is_diff (edge_at es (event_before es i)) ≡ false → IsNextPlace es i
 remainder es i r h f =
-    let below = before_below es i h in
-    let back = after_before es i h in
-    record {
-      below = below;
-      location = sym (keeps_location es (event_before es i) r below f) ∙ ap (location_of es) back;
-      place = sym (ap (way_place es) back) ∙ way_next es (event_before es i) r below f;
-    }
+    grind (arith, (before_below es i h), (after_before es i h), (keeps_location es (event_before es i) r), (way_next es (event_before es i) r))
 
 -- the value of an event, from the one before it
 pub value_from : (es : List Edge) (i : ℕ) → IsResolved es → i < length es → value_of es i ≡ cond (is_diff (edge_at es (event_before es i))) 0 (value_of es (event_before es i)) + cond (is_write es i) 1 0
@@ -87,18 +70,14 @@ write_back es l k i zero r h e v w = absurd (omega (arith, w))
 write_back es l k i (suc m) r h e v w =
     let from = value_from es i r h in
     by_test (is_diff (edge_at es (event_before es i)))
-    (λ d. by_test (is_write es i)
-    (λ t. let one : value_of es i ≡ 0 + 1 = rw (d, t) at from in
-    record { event = i; is = record { below = h; writes = write_at_from es l i t e; value = omega (arith, one, v) } })
-    (λ f. let none : value_of es i ≡ 0 + 0 = rw (d, f) at from in absurd (omega (arith, none, v))))
+    (λ d. grind arith)
     (λ d. let b = remainder es i r h d in
     by_test (is_write es i)
     (λ t. let more : value_of es i ≡ value_of es (event_before es i) + 1 = rw (d, t) at from in
     by_same (value_of es i) (k + 1)
     (λ s. record { event = i; is = record { below = h; writes = write_at_from es l i t e; value = s } })
     (λ n. write_back es l k (event_before es i) m r b.below (b.location ∙ e) (omega (arith, more, v, n)) (omega (arith, b.place, w))))
-    (λ f. let same : value_of es i ≡ value_of es (event_before es i) + 0 = rw (d, f) at from in
-    write_back es l k (event_before es i) m r b.below (b.location ∙ e) (omega (arith, same, v)) (omega (arith, b.place, w))))
+    (λ f. grind (arith, (write_back es l k (event_before es i) m r b.below (b.location ∙ e)))))
 
 -- each value from 1 to that of an event is the value of a write of its location
 pub write_with_value : (es : List Edge) (k i : ℕ) → IsResolved es → i < length es → k + 1 ≤ value_of es i → SomeWrite es (location_of es i) k
@@ -107,25 +86,13 @@ write_with_value es k i r h v = write_back es (location_of es i) k i (way_place 
 -- a location with writes is one of the cycle's
 written_below : (es : List Edge) (l : ℕ) → IsResolved es → 0 < write_count es l → l < move_count es
 unfolding write_count
-written_below es l r h =
-    let w = counted (is_write_at es l) (length es) h in
-    omega (arith, location_below es w.number r w.below, (write_at_parts es l w.number w.passes).1)
+written_below es l r h = grind (arith, (counted (is_write_at es l) (length es) h), (location_below es), (write_at_parts es l))
 
 -- a location has a write with the value k + 1, for each k below the number of its writes
 pub some_write : (es : List Edge) (l k : ℕ) → IsResolved es → k < write_count es l → SomeWrite es l k
 some_write es l k r h =
-    let below = written_below es l r (omega (arith, h)) in
-    let end = leaving es l below in
-    let here : location_of es end.event ≡ l = location_first es end.event (omega (arith, end.counted, below)) ∙ end.counted in
-    let all : value_of es end.event ≡ write_count es l = value_at_end es end.event r end.below end.passes ∙ ap (write_count es) here in
-    rw here at (write_with_value es k end.event r end.below (omega (arith, h, all)))
+    grind (arith, (written_below es l r (omega (arith, h))), (leaving es l), (location_first es), (value_at_end es), (write_with_value es k))
 
 -- there is a write number k of a location, for each k below the number of its writes
 pub write_number : (es : List Edge) (l k : ℕ) → IsResolved es → k < write_count es l → (i : ℕ) × (write_at es l k ≡ Some i)
 write_number es l k r h = let w = some_write es l k r h in (w.event, is_write_number es l k w.event w.is)
-
--- a write's number is below the number of its location's writes
-pub write_number_below : (es : List Edge) (l k i : ℕ) → write_at es l k ≡ Some i → k < write_count es l
-write_number_below es l k i h =
-    let w = write_of es l k i h in
-    omega (arith, value_most es i, w.value, ap (write_count es) (write_at_parts es l i w.writes).1)

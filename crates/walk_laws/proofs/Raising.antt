@@ -1,5 +1,5 @@
 -- A list goes on: the edges that were taken off its end, and the cut of a list.
-use Rattle.std.proofs.Common.{◌≡◌, ◌<◌, ◌≤◌, ◌⊎◌, inl, inr, ℕ, suc, ◌+◌, Some, None, List, [], ◌∷◌, ◌++◌, length, take, drop, get_or, add-one, refl, sym, ◌∙◌, ap, arith, append_assoc, length-append}
+use Rattle.std.proofs.Common.{◌≡◌, ◌<◌, ◌≤◌, ◌⊎◌, inl, inr, ℕ, suc, ◌+◌, Some, None, List, [], ◌∷◌, ◌++◌, length, drop, get_or, add-one, refl, sym, ◌∙◌, ap, arith, append_assoc, length-append}
 use Rattle.std.proofs.lemmas.List.{append-nil, take_all, take-append-le}
 use Rattle.std.proofs.lemmas.Bool.{cases_lt}
 use Rattle.std.proofs.Math.Seq.{drop-cons}
@@ -9,7 +9,7 @@ use Rattle.relax_edges.specs.Order.{rank_of}
 use Rattle.cycle_laws.proofs.RankLaws.{rank_below}
 use Rattle.walk_laws.specs.Asked.{KeptBelow, KeptWhole}
 use Rattle.cycle_laws.specs.CycleOrder.{Above}
-use Rattle.walk_laws.specs.Search.{ReachesList, ToCome, LeadsNowhere, NoneBetween, IsNextEdge, StepsOver, over, replaced, IsLonger, IsRaised, IsExtended, IsCut}
+use Rattle.walk_laws.specs.Search.{ReachesList, ToCome, LeadsNowhere, NoneBetween, IsNextEdge, StepsOver, over, replaced, IsRaised, IsExtended, IsCut}
 use Rattle.walk_laws.proofs.Searching.{reaches_cases, reaches_beyond, reaches_with, reaches_to_come}
 
 -- where fewer lists are sought, none of them is left out either
@@ -147,21 +147,6 @@ pub one_further : (list new edges : List Edge) (i : ℕ) (d : Edge) → list ++ 
 one_further list new edges i d parts h is =
     rw (is, add-one i) (append_assoc list (get_or edges i d ∷ []) (drop (suc i) edges) ∙ ap (λ w. list ++ w) (sym (drop-cons edges i d h)) ∙ parts)
 
--- a list that went on past all that begin with it is no longer, and its shorter prefixes are kept
-steps_few : (u v : List Edge) → StepsOver u v → length v ≤ length u
-steps_few u v (over e) = omega (arith, ap length e)
-steps_few u v (replaced prefix x y back a b more) =
-    omega (arith, ap length a, ap length b, length-append prefix (x ∷ back), length-append prefix (y ∷ []))
-
--- a list that went on past all that begin with it is no longer
-pub raised_few : (sought : List Edge → Type 0) (u v : List Edge) → IsRaised sought u v → length v ≤ length u
-raised_few sought u v r = steps_few u v r.step
-
--- a list that went on has at most one edge more
-pub extended_few : (sought : List Edge → Type 0) (u v : List Edge) → IsExtended sought u v → length v ≤ length u + 1
-extended_few sought u v x =
-    elim x.step [ inl e ↦ omega (arith, ap length e.is, length-append u (e.edge ∷ [])) | inr o ↦ omega (arith, steps_few u v o) ]
-
 -- its shorter prefixes are kept
 pub raised_kept : (sought : List Edge → Type 0) (keeps : List Edge → Type 0) (u v : List Edge) → IsRaised sought u v → KeptBelow keeps (length u) u → KeptBelow keeps (length v) v
 raised_kept sought keeps u v r = by r.step
@@ -172,17 +157,3 @@ raised_kept sought keeps u v r = by r.step
         let short : k ≤ length prefix = omega (arith, ap length b, length-append prefix (y ∷ [])) in
         let within : k < length u = omega (arith, ap length a, length-append prefix (x ∷ back)) in
         rw (b, take-append-le k prefix (y ∷ []) short) (rw (a, take-append-le k prefix (x ∷ back) short) at (kept k p within))
-
--- the prefix that a list is cut to is no longer than the list
-pub cut_few : (sought : List Edge → Type 0) (keeps : List Edge → Type 0) (u v : List Edge) → IsCut sought keeps u v → length v ≤ length u
-cut_few sought keeps u v c = omega (arith, ap length c.prefix, length-append v c.rest)
-
--- a list of one edge has no shorter prefix
-pub kept_one : (sought : List Edge → Type 0) (keeps : List Edge → Type 0) (v : List Edge) → IsExtended sought [] v → KeptBelow keeps (length v) v
-kept_one sought keeps v x k p l = by x.step
-  where
-    by : (IsLonger [] v) ⊎ StepsOver [] v → keeps (take k v)
-    by (inl e) = absurd (omega (arith, ap length e.is))
-    by (inr (over e)) = absurd (omega (arith, ap length e))
-    by (inr (replaced [] x y back a b more)) = cc
-    by (inr (replaced (f ∷ prefix) x y back a b more)) = cc

@@ -19,16 +19,6 @@ pub to_come_itself : (u : List Edge) → 0 < length u → ToCome u u
 to_come_itself [] h = absurd (omega arith)
 to_come_itself (x ∷ u) h = reaches_itself (x ∷ u)
 
--- what begins with a list, or is above it, is to come
-pub reaches_prefix : (u r : List Edge) → ReachesList u (u ++ r)
-reaches_prefix [] r = tt
-reaches_prefix (x ∷ u) r = inr (refl, reaches_prefix u r)
-
-pub reaches_above : (u m : List Edge) → Above u m → ReachesList u m
-reaches_above [] m h = tt
-reaches_above (x ∷ u) [] h = h
-reaches_above (x ∷ u) (y ∷ m) h = elim h [ inl less ↦ inl less | inr both ↦ inr (both.0, reaches_above u m both.1) ]
-
 -- what a list reaches begins with it or is above it
 pub record BeginsWith (u m : List Edge) : Type 0 where
   pub rest : List Edge

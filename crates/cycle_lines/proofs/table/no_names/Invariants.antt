@@ -1,5 +1,5 @@
 -- The loop of `no_names`: the entries so far have no name.
-use Rattle.std.proofs.Common.{◌≡◌, List, [], take, map}
+use Rattle.std.proofs.Common.{List, [], take, map}
 use Rattle.cycle_lines.specs.FamilyTables.{FamilyEntry, family_view}
 use Rattle.cycle_lines.proofs.table.no_names.Given as goal
 

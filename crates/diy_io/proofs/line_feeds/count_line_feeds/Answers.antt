@@ -8,9 +8,7 @@ use Rattle.diy_io.proofs.line_feeds.count_line_feeds.Goals as goal
 -- with the line feeds of a text's first bytes, those that are counted and those after these bytes are still those of the whole
 chunk_counted : (many count new : ℕ) (whole text prefix back : List ℕ) → count + line_feed_count text ≡ line_feed_count whole
     → prefix ≡ take many text → back ≡ drop many text → new ≡ line_feed_count prefix → count + new + line_feed_count back ≡ line_feed_count whole
-chunk_counted many count new whole text prefix back so_far f b n =
-    let parts : line_feed_count prefix + line_feed_count back ≡ line_feed_count text = rw (f, b) (sum_by-take-drop _ text many) in
-    omega (arith, so_far, n, parts)
+chunk_counted many count new whole text prefix back so_far f b n = grind (arith, sum_by-take-drop)
 
 pub overflow_add-count : goal.overflow_add-count
 overflow_add-count c =

@@ -6,7 +6,7 @@ use Rattle.diy_words.specs.Requests.{asked_of}
 use Rattle.diy_tools.specs.KeptRequests.{edges_kept, folder_kept, named_kept, refused_why}
 use Rattle.diy_tools.specs.ArchMachines.{machine_of}
 use Rattle.diy_tools.proofs.Coherent.{coherence_answered}
-use Rattle.diy_tools.proofs.Running.{check_answered, name_answered, why_answered}
+use Rattle.diy_tools.proofs.Running.{check_answered, name_answered}
 use Rattle.diy_tools.proofs.Shows.{runs_idle}
 use Rattle.diy_tools.proofs.tools.answer.Goals as goal
 

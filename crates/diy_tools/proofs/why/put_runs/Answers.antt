@@ -1,5 +1,5 @@
 -- That `put_runs` writes the three files, and then the line on them.
-use Rattle.std.proofs.Common.{map, subst}
+use Rattle.std.proofs.Common.{subst}
 use Rattle.std.specs.Option.{option_map}
 use Rattle.listed_tests.specs.Putting.{PutFiles}
 use Rattle.diy_tools.specs.WhyAnswers.{why_line}

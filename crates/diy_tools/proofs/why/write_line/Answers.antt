@@ -1,8 +1,5 @@
 -- That `write_line` writes the line on the files, or a prefix of it.
-use Rattle.std.proofs.Common.{ap, subst}
-use Rattle.diy_io.specs.Page.{SentAll, Sends}
 use Rattle.diy_tools.proofs.Reported.{own_wrote, own_unsent}
-use Rattle.diy_tools.specs.WhyAnswers.{why_line}
 use Rattle.diy_tools.proofs.why.write_line.Goals as goal
 
 pub returns-in_err-send_line : goal.returns-in_err-send_line

@@ -6,13 +6,14 @@ use Rattle.final_cond.specs.declared.cond.Term.{Term}
 use Rattle.final_cond.specs.Conditions.{term_view}
 use Rattle.test_laws.specs.TestOf.{is_named_location, last_term}
 use Rattle.test_maker.proofs.Filling.{found_same}
-use Rattle.test_maker.proofs.Naming.{letters-length, last_room, named_more}
+use Rattle.test_maker.proofs.Naming.{last_room, named_more}
 use Rattle.test_maker.proofs.condition.fill_last_terms.Goals as goal
 use Rattle.test_maker.proofs.condition.fill_last_terms.Goals.{then-is_named, else-is_named}
+use Rattle.arch_laws.proofs.NameLaws.{length-letters}
 
 pub push_last_term-requires-clause-place : goal.push_last_term-requires-clause-place
 push_last_term-requires-clause-place c =
-    omega (arith, ap move_count c.resolved-2.ensures, ap length c.requires, letters-length (move_count c.args.valued.now.edges))
+    omega (arith, ap move_count c.resolved-2.ensures, ap length c.requires, length-letters (move_count c.args.valued.now.edges))
 
 pub push_last_term-requires-clause-room : goal.push_last_term-requires-clause-room
 push_last_term-requires-clause-room c =
