@@ -1,7 +1,7 @@
 ghost use Rattle.arch_aarch64.specs.Puts.{instructions};
 
 use crate::A64;
-use addressed_code::{OwnInstructions, add_number, indexed_load, indexed_store};
+use arch_instructions::{OwnInstructions, add_number, indexed_load, indexed_store};
 use arch_trait::Instrs;
 use micro_ops::Micro;
 

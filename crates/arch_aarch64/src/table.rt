@@ -1,11 +1,11 @@
 ghost use Rattle.std.specs.Prelude.{◌≡◌};
-ghost use Rattle.form_laws.specs.Tables.{table_seen};
-ghost use Rattle.instruction_forms.specs.FixedTexts.{AreOfTable};
+ghost use Rattle.arch_instructions_laws.specs.Tables.{table_seen};
+ghost use Rattle.arch_instructions.specs.FixedTexts.{AreOfTable};
 ghost use Rattle.arch_aarch64.specs.Table.{table};
 
 use arch_trait::Numbered;
-use form_laws::{Form, Hole, Kind, Labels, Piece, Table, form, piece};
-use instruction_forms::{BarrierText, FixedTexts, around, barrier_text};
+use arch_instructions_laws::{Form, Hole, Kind, Labels, Piece, Table, form, piece};
+use arch_instructions::{BarrierText, FixedTexts, around, barrier_text};
 use micro_ops::Barrier;
 use relax_edges::FenceKind;
 

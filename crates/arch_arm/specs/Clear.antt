@@ -2,11 +2,11 @@
 use Rattle.std.proofs.Common.{◌≡◌, refl, true}
 use Rattle.std.specs.Fmt.{digits}
 use Rattle.std.specs.List.{list_all}
-use Rattle.text_laws.specs.NumberTexts.{number_of}
+use Rattle.text_parts_laws.specs.NumberTexts.{number_of}
 use Rattle.arch_trait.specs.Writing.{immediate_number}
-use Rattle.form_laws.specs.Tables.{piece_found, after_prefix, before_suffix}
-use Rattle.form_laws.specs.ClearTables.{is_clear, differ, piece_apart, pieces_apart, forms_apart, is_piece_good, most_of, is_form_good}
-use Rattle.form_laws.proofs.Ranges.{is_small_form}
+use Rattle.arch_instructions_laws.specs.Tables.{piece_found, after_prefix, before_suffix}
+use Rattle.arch_instructions_laws.specs.ClearTables.{is_clear, differ, piece_apart, pieces_apart, forms_apart, is_piece_good, most_of, is_form_good}
+use Rattle.arch_instructions_laws.proofs.Ranges.{is_small_form}
 use Rattle.arch_arm.specs.Table.{forms}
 
 -- the table is clear: what it writes reads back

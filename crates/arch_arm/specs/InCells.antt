@@ -1,8 +1,8 @@
 -- ARM's instructions fit in the cells of a table, and each of its loads and stores is one of them.
 use Rattle.arch_trait.specs.Cells.{WritesCells, MakesOneAccess}
 use Rattle.arch_trait.specs.Forms.{register_names}
-use Rattle.form_laws.proofs.InCells as tables
-use Rattle.arch_laws.proofs.AddressedOnce.{accesses_once}
+use Rattle.arch_instructions_laws.proofs.InCells as tables
+use Rattle.arch_trait_laws.proofs.AddressedOnce.{accesses_once}
 use Rattle.arch_arm.specs.Puts.{puts, instructions}
 use Rattle.arch_arm.specs.Table.{table, numbered, writing}
 use Rattle.arch_arm.specs.Clear.{is_clear_table}

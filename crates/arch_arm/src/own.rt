@@ -1,7 +1,7 @@
 ghost use Rattle.arch_arm.specs.Puts.{instructions};
 
 use crate::Arm;
-use addressed_code::{OwnInstructions, add_number, indexed_load, indexed_store};
+use arch_instructions::{OwnInstructions, add_number, indexed_load, indexed_store};
 use arch_trait::Instrs;
 use micro_ops::Micro;
 

@@ -3,8 +3,8 @@ use Rattle.std.proofs.Common.{refl, arith}
 use Rattle.arch_trait.specs.Forms.{register_names}
 use Rattle.arch_trait.specs.InstructionReading.{ReadsOwn}
 use Rattle.arch_trait.specs.Writing.{WritesBack}
-use Rattle.form_laws.proofs.Ranges as ranges
-use Rattle.form_laws.proofs.ReadsBack.{numbered_back}
+use Rattle.arch_instructions_laws.proofs.Ranges as ranges
+use Rattle.arch_instructions_laws.proofs.ReadsBack.{numbered_back}
 use Rattle.arch_power.specs.Puts.{puts}
 use Rattle.arch_power.specs.Table.{table, numbered, writing}
 use Rattle.arch_power.specs.Clear.{is_clear_table, few_registers}

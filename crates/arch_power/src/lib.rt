@@ -13,11 +13,10 @@ mod own;
 mod table;
 
 use crate::table::{NAMES, fixed_texts, table};
-use addressed_code::{put_link, put_load, put_store, registers_needed};
+use arch_instructions::{has_by, print_with, put_link, put_load, put_store, read_by, registers_needed};
 use arch_trait::{Arch, AskedAccess, Instrs, Link, MAX_TEXT, Operands, Places, Raw, Regs, Shape};
 use arrayvec::ArrayString;
 use final_cond::RegName;
-use instruction_forms::{has_by, print_with, read_by};
 use micro_ops::Micro;
 use relax_edges::ArchName;
 
@@ -66,7 +65,7 @@ impl Arch for Power {
         read_by(table(), word, operands)
     }
 
-    #[tactic(auto, using(arch_laws::proofs::FormBacks::name_at))]
+    #[tactic(auto, using(arch_trait_laws::proofs::FormBacks::name_at))]
     fn register_name(r: u8, out: &mut RegName) {
         out.clear();
         NAMES.push(r, out);

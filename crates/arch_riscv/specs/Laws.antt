@@ -4,11 +4,11 @@ use Rattle.std.proofs.lemmas.Bool.Decides.{nat_tests}
 use Rattle.std.proofs.lemmas.Bool.{and_from}
 use Rattle.relax_edges.specs.declared.kinds.ArchName.TheVariants as archs
 use Rattle.arch_trait.specs.Laws.{IsArch}
-use Rattle.arch_laws.proofs.AddressedInstructions.{KeepsInstructions}
-use Rattle.arch_laws.proofs.Addressed.{keeps_laws}
-use Rattle.arch_laws.proofs.OwnCode.{tests, added, ors}
-use Rattle.form_laws.specs.Tables.{operands_fit}
-use Rattle.form_laws.proofs.Barriers.{fences_had}
+use Rattle.arch_trait_laws.proofs.AddressedInstructions.{KeepsInstructions}
+use Rattle.arch_trait_laws.proofs.Addressed.{keeps_laws}
+use Rattle.arch_trait_laws.proofs.OwnCode.{tests, added, ors}
+use Rattle.arch_instructions_laws.specs.Tables.{operands_fit}
+use Rattle.arch_instructions_laws.proofs.Barriers.{fences_had}
 use Rattle.arch_riscv.specs.Table.{forms, table}
 use Rattle.arch_riscv.specs.Puts.{puts, instructions}
 

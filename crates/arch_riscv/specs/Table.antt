@@ -7,10 +7,10 @@ use Rattle.micro_ops.specs.declared.operation.Barrier.TheVariants as barriers
 use Rattle.arch_trait.specs.declared.numbered.Numbered.{Numbered}
 use Rattle.arch_trait.specs.Forms.{register_names}
 use Rattle.arch_trait.specs.Writing.{Writing}
-use Rattle.form_laws.specs.declared.form.Hole.TheVariants as holes
-use Rattle.form_laws.specs.declared.form.Labels.TheVariants as labels
-use Rattle.form_laws.specs.declared.kind.Kind.TheVariants as kinds
-use Rattle.form_laws.specs.Tables.{PieceText, FormText, TableText, piece, fixed, form, table_writing}
+use Rattle.arch_instructions_laws.specs.declared.form.Hole.TheVariants as holes
+use Rattle.arch_instructions_laws.specs.declared.form.Labels.TheVariants as labels
+use Rattle.arch_instructions_laws.specs.declared.kind.Kind.TheVariants as kinds
+use Rattle.arch_instructions_laws.specs.Tables.{PieceText, FormText, TableText, piece, fixed, form, table_writing}
 
 -- a register: x5 to x31
 abbrev pub register : PieceText

@@ -3,7 +3,7 @@ ghost use Rattle.micro_ops.specs.declared.operation.Micro.TheVariants as ops;
 ghost use Rattle.arch_riscv.specs.Puts.{instructions};
 
 use crate::Riscv;
-use addressed_code::OwnInstructions;
+use arch_instructions::OwnInstructions;
 use arch_trait::Instrs;
 use micro_ops::Micro;
 

@@ -6,7 +6,7 @@ use Rattle.std.specs.List.{position, position_or_len, slice_split, onto_first}
 use Rattle.std.proofs.lemmas.List.Splits.{slice_split_first, slice_split_none}
 use Rattle.std.proofs.lemmas.List.Sums.{fails_before_first}
 use Rattle.list_laws.proofs.Cases.{by_test}
-use Rattle.text_laws.specs.Blanks.{trim_blanks}
+use Rattle.text_parts_laws.specs.Blanks.{trim_blanks}
 use Rattle.arch_trait.specs.Writing.{none, one, two, three, four, more}
 use Rattle.arch_trait.specs.InstructionReading.{few, operands_if, operands_in}
 

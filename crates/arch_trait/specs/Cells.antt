@@ -3,9 +3,9 @@
 use Rattle.std.specs.Prelude.{ℕ, ◌≤◌, ◌==◌, ◌≡◌, Bool, true, false, not, ◌&&◌, ◌||◌, nat_le, List, [], ◌∷◌, ◌++◌, codes, length, Option, count_by}
 use Rattle.std.specs.List.{list_all, list_any}
 use Rattle.std.specs.Str.{bytes_eq}
-use Rattle.text_laws.specs.LeadingRuns.{leading_run}
-use Rattle.text_laws.specs.Blanks.{unblanked}
-use Rattle.text_laws.specs.Words.{is_argument_byte}
+use Rattle.text_parts_laws.specs.LeadingRuns.{leading_run}
+use Rattle.text_parts_laws.specs.Blanks.{unblanked}
+use Rattle.text_parts_laws.specs.Words.{is_argument_byte}
 use Rattle.relax_edges.specs.declared.kinds.Mark.{Mark}
 use Rattle.micro_ops.specs.declared.operation.Micro.{Micro}
 use Rattle.micro_ops.specs.declared.operation.Micro.TheVariants as ops

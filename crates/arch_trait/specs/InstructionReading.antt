@@ -2,9 +2,9 @@
 -- Source: the litmus format of the herdtools; where blanks may be is own.
 use Rattle.std.specs.Prelude.{ℕ, ◌≡◌, ◌==◌, true, cond, List, [], ◌∷◌, Option, Some, None, Result, Ok, Err, map}
 use Rattle.std.specs.List.{slice_split}
-use Rattle.text_laws.specs.Names.{is_place_name}
-use Rattle.text_laws.specs.Blanks.{is_inked, unblanked, trim_blanks}
-use Rattle.text_laws.specs.LeadingRuns.{leading_run, after_run}
+use Rattle.text_parts_laws.specs.Names.{is_place_name}
+use Rattle.text_parts_laws.specs.Blanks.{is_inked, unblanked, trim_blanks}
+use Rattle.text_parts_laws.specs.LeadingRuns.{leading_run, after_run}
 use Rattle.micro_ops.specs.declared.operation.Micro.{Micro}
 use Rattle.micro_ops.specs.Machines.{InRange}
 use Rattle.arch_trait.specs.declared.reading.InstrError.{InstrError}

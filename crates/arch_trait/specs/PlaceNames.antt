@@ -3,7 +3,7 @@
 use Rattle.std.specs.Prelude.{ℕ, zero, suc, ◌+◌, ◌/◌, ◌%◌, ◌≤◌, ◌≡◌, true, cond, nat_lt, List, [], ◌∷◌, ◌++◌, Option, Some, None, map, length, get_or, codes}
 use Rattle.std.specs.List.{list_all, position_from, range_with_len, IsDistinct}
 use Rattle.std.specs.Str.{bytes_eq}
-use Rattle.text_laws.specs.Names.{is_place_name}
+use Rattle.text_parts_laws.specs.Names.{is_place_name}
 
 -- the letters of the first locations, in order
 abbrev pub location_letters : List ℕ

@@ -4,9 +4,9 @@ use Rattle.std.specs.Prelude.{ℕ, ◌+◌, ◌-◌, ◌/◌, ◌%◌, ◌==◌,
 use Rattle.std.specs.List.{list_all, IsDistinct}
 use Rattle.std.specs.Fmt.{decimal}
 use Rattle.std.specs.Str.{bytes_eq}
-use Rattle.text_laws.specs.Names.{is_place_name, is_register_name}
-use Rattle.text_laws.specs.NumberTexts.{number_of}
-use Rattle.text_laws.specs.Blanks.{is_blank}
+use Rattle.text_parts_laws.specs.Names.{is_place_name, is_register_name}
+use Rattle.text_parts_laws.specs.NumberTexts.{number_of}
+use Rattle.text_parts_laws.specs.Blanks.{is_blank}
 use Rattle.micro_ops.specs.declared.operation.Micro.{Micro}
 use Rattle.micro_ops.specs.declared.operation.Micro.TheVariants as ops
 use Rattle.arch_trait.specs.Threads.{Puts}

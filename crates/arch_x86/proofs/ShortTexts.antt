@@ -8,7 +8,7 @@ use Rattle.relax_edges.specs.declared.kinds.FenceKind.TheVariants as fences
 use Rattle.micro_ops.specs.declared.operation.Barrier.TheVariants as barriers
 use Rattle.micro_ops.specs.declared.operation.Micro.TheVariants as ops
 use Rattle.arch_trait.specs.Writing.{op_text}
-use Rattle.form_laws.specs.Tables.{operands_fit, piece_texts, first_written}
+use Rattle.arch_instructions_laws.specs.Tables.{operands_fit, piece_texts, first_written}
 use Rattle.arch_x86.specs.Table.{forms, writing, x86_register_names}
 
 -- a store of a number below 10

@@ -1,7 +1,7 @@
 -- X86's instructions fit in the cells of a table, and each of its loads and stores is one of them.
 use Rattle.arch_trait.specs.Cells.{WritesCells, MakesOneAccess}
-use Rattle.form_laws.proofs.InCells as tables
-use Rattle.form_laws.proofs.Fenced.{fenced_once}
+use Rattle.arch_instructions_laws.proofs.InCells as tables
+use Rattle.arch_instructions_laws.proofs.Fenced.{fenced_once}
 use Rattle.arch_x86.specs.Puts.{puts}
 use Rattle.arch_x86.specs.Table.{table, x86_register_names, writing}
 use Rattle.arch_x86.specs.Clear.{is_clear_table}

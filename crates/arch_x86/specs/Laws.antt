@@ -5,9 +5,9 @@ use Rattle.relax_edges.specs.declared.kinds.ArchName.TheVariants as archs
 use Rattle.arch_trait.specs.declared.link.Link.{Link}
 use Rattle.arch_trait.specs.declared.link.Link.TheVariants as links
 use Rattle.arch_trait.specs.Laws.{IsArch}
-use Rattle.form_laws.specs.Tables.{operands_fit}
-use Rattle.form_laws.proofs.Barriers.{fences_had}
-use Rattle.form_laws.proofs.Fenced.{fence_code, IsFenced, fenced_laws}
+use Rattle.arch_instructions_laws.specs.Tables.{operands_fit}
+use Rattle.arch_instructions_laws.proofs.Barriers.{fences_had}
+use Rattle.arch_instructions_laws.proofs.Fenced.{fence_code, IsFenced, fenced_laws}
 use Rattle.arch_x86.specs.Table.{forms, table}
 use Rattle.arch_x86.specs.Puts.{puts, x86_link_code}
 

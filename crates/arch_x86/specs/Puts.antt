@@ -11,7 +11,7 @@ use Rattle.arch_trait.specs.declared.link.Link.TheVariants as links
 use Rattle.arch_trait.specs.declared.step.Shape.{Shape}
 use Rattle.arch_trait.specs.Taking.{Taken, take_next}
 use Rattle.arch_trait.specs.Threads.{Put, Puts}
-use Rattle.form_laws.specs.Tables.{table_has}
+use Rattle.arch_instructions_laws.specs.Tables.{table_has}
 use Rattle.arch_x86.specs.Table.{table}
 
 -- the code of a link: its fence, if it is one

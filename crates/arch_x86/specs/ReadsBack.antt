@@ -2,11 +2,11 @@
 use Rattle.std.proofs.Common.{◌≡◌, refl, true, rules}
 use Rattle.std.specs.List.{list_all, IsDistinct}
 use Rattle.std.specs.Str.{bytes_eq}
-use Rattle.text_laws.specs.Names.{is_register_name}
+use Rattle.text_parts_laws.specs.Names.{is_register_name}
 use Rattle.arch_trait.specs.InstructionReading.{ReadsOwn}
 use Rattle.arch_trait.specs.Writing.{WritesBack}
-use Rattle.form_laws.proofs.Ranges as ranges
-use Rattle.form_laws.proofs.ReadsBack.{AreNames, writes_back}
+use Rattle.arch_instructions_laws.proofs.Ranges as ranges
+use Rattle.arch_instructions_laws.proofs.ReadsBack.{AreNames, writes_back}
 use Rattle.arch_x86.specs.Puts.{puts}
 use Rattle.arch_x86.specs.Table.{table, x86_register_names, writing}
 use Rattle.arch_x86.specs.Clear.{is_clear_table, few_registers}

@@ -17,7 +17,7 @@ use crate::table::table;
 use arch_trait::{Arch, AskedAccess, Instrs, Link, MAX_TEXT, Operands, Places, Raw, Regs, Shape};
 use arrayvec::ArrayString;
 use final_cond::RegName;
-use instruction_forms::{has_by, print_by, read_by};
+use arch_instructions::{has_by, print_by, read_by};
 use micro_ops::{Barrier, Micro};
 use relax_edges::ArchName;
 

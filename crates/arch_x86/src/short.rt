@@ -5,7 +5,7 @@ ghost use Rattle.arch_x86.specs.Table.{writing, x86_register_names};
 use crate::REGISTER_NAMES;
 use arch_trait::{MAX_TEXT, Places, push_digit};
 use arrayvec::ArrayString;
-use instruction_forms::{print_fixed, push_short};
+use arch_instructions::{print_fixed, push_short};
 use micro_ops::{Barrier, Micro};
 use relax_edges::FenceKind;
 

@@ -10,16 +10,16 @@ use Rattle.relax_edges.specs.declared.kinds.Kind.{Kind}
 use Rattle.relax_edges.specs.declared.kinds.Kind.TheVariants as kinds
 use Rattle.relax_edges.specs.declared.edge.Edge.{Edge}
 use Rattle.relax_edges.specs.EdgeTable.{kind_of, source_of, source_mark, is_external}
-use Rattle.resolution_laws.specs.Resolution.{edge_at, slot_of}
-use Rattle.resolution_laws.proofs.Threads.{slot_in}
-use Rattle.resolution_laws.proofs.Locations.{ends_with}
-use Rattle.value_laws.specs.Values.{value_of}
+use Rattle.cycle_events.specs.Resolution.{edge_at, slot_of}
+use Rattle.cycle_events.proofs.Threads.{slot_in}
+use Rattle.cycle_events.proofs.Locations.{ends_with}
+use Rattle.cycle_events.specs.Values.{value_of}
 use Rattle.arch_trait.specs.declared.link.Link.{Link}
 use Rattle.arch_trait.specs.declared.link.Link.TheVariants.{Plain}
 use Rattle.arch_trait.specs.declared.step.Step.{Step}
 use Rattle.arch_trait.specs.Links.{edge_link}
-use Rattle.test_laws.specs.CycleSteps.{event_link, event_step}
-use Rattle.test_laws.specs.TestOf.{plain}
+use Rattle.tests_force_cycles.specs.CycleSteps.{event_link, event_step}
+use Rattle.tests_force_cycles.specs.TestOf.{plain}
 use Rattle.co_tests_laws.specs.CutResolution.{cut_of, cut_open, is_ordering, orders_by}
 use Rattle.co_tests_laws.specs.CoherenceTests.{writes_in}
 use Rattle.co_tests_laws.proofs.Opened.{same_at, source_same, source_mark_same}

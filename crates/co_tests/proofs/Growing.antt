@@ -7,8 +7,8 @@ use Rattle.list_laws.proofs.Elements.{drop_given}
 use Rattle.final_cond.specs.Conditions.{TermSeen}
 use Rattle.arch_trait.specs.declared.step.Step.{Step}
 use Rattle.arch_trait.specs.Threads.{Puts, ThreadCode, compiled}
-use Rattle.test_laws.specs.TestOf.{load_terms, thread_terms}
-use Rattle.test_laws.proofs.Terms.{load_terms_more}
+use Rattle.tests_force_cycles.specs.TestOf.{load_terms, thread_terms}
+use Rattle.tests_force_cycles.proofs.Terms.{load_terms_more}
 use Rattle.test_maker.specs.Refusals.{is_crowded}
 
 -- a test of which the first k threads are made

@@ -12,13 +12,13 @@ use Rattle.list_laws.proofs.Cases.{by_test}
 use Rattle.relax_edges.specs.declared.kinds.ObsMode.TheVariants.{Avoid}
 use Rattle.relax_edges.specs.declared.edge.Edge.{Edge}
 use Rattle.relax_edges.specs.EdgeTable.{is_diff, is_of_arch}
-use Rattle.cycle_laws.specs.Composable.{IsCycle}
-use Rattle.cycle_laws.specs.Rotation.{rotated}
-use Rattle.cycle_laws.proofs.Composing.{rotated_cycle}
-use Rattle.resolution_laws.specs.Resolution.{external_count, events_in, move_count, turned}
-use Rattle.resolution_laws.proofs.Turning.{turn_of, external_count-rotated}
-use Rattle.value_laws.specs.Values.{write_count}
-use Rattle.communication_laws.proofs.Lists.{image_of}
+use Rattle.edge_algebra_laws.specs.Composable.{IsCycle}
+use Rattle.edge_algebra_laws.specs.Rotation.{rotated}
+use Rattle.edge_algebra_laws.proofs.Composing.{rotated_cycle}
+use Rattle.cycle_events.specs.Resolution.{external_count, events_in, move_count, turned}
+use Rattle.cycle_events.proofs.Turning.{turn_of, external_count-rotated}
+use Rattle.cycle_events.specs.Values.{write_count}
+use Rattle.accesses_force_cycles.proofs.Lists.{image_of}
 use Rattle.arrayvec.specs.ArrayVec.{ArrayVec}
 use Rattle.final_cond.specs.declared.cond.Cond.{Cond}
 use Rattle.final_cond.specs.declared.cond.Quantifier.{Quantifier}
@@ -32,12 +32,12 @@ use Rattle.arch_trait.specs.Links.{branches}
 use Rattle.arch_trait.specs.PlaceNames.{letters}
 use Rattle.arch_trait.specs.SeenTests.{TestSeen}
 use Rattle.arch_trait.specs.Threads.{Puts, ThreadCode, compiled, shape_of}
-use Rattle.arch_laws.proofs.CodeLaws.{is_formed}
+use Rattle.arch_trait_laws.proofs.CodeLaws.{is_formed}
 use Rattle.litmus_text.specs.Tests.{IsPrintable}
-use Rattle.test_laws.specs.CycleSteps.{event_step}
-use Rattle.test_laws.specs.TestOf.{plain, is_named_location, last_term, last_terms, load_terms}
-use Rattle.test_laws.proofs.Headline.{room_left}
-use Rattle.test_laws.proofs.StepsAt.{by_steps}
+use Rattle.tests_force_cycles.specs.CycleSteps.{event_step}
+use Rattle.tests_force_cycles.specs.TestOf.{plain, is_named_location, last_term, last_terms, load_terms}
+use Rattle.tests_force_cycles.proofs.Headline.{room_left}
+use Rattle.tests_force_cycles.proofs.StepsAt.{by_steps}
 use Rattle.test_maker.specs.Made.{AreOfArch}
 use Rattle.test_maker.specs.Refusals.{is_crowded}
 use Rattle.co_tests_laws.specs.declared.refusal.CoRefusal.{CoRefusal}

@@ -8,12 +8,12 @@ use Rattle.list_laws.proofs.Ranks.{filter_yes, length-filter-upto}
 use Rattle.relax_edges.specs.declared.kinds.ObsMode.TheVariants.{Avoid}
 use Rattle.relax_edges.specs.declared.edge.Edge.{Edge}
 use Rattle.relax_edges.specs.EdgeTable.{is_external}
-use Rattle.resolution_laws.specs.Resolution.{edge_at, events_in, external_count, thread_of}
-use Rattle.resolution_laws.proofs.Threads.{thread_end, thread_out, thread_up}
+use Rattle.cycle_events.specs.Resolution.{edge_at, events_in, external_count, thread_of}
+use Rattle.cycle_events.proofs.Threads.{thread_end, thread_out, thread_up}
 use Rattle.arch_trait.specs.declared.step.Step.{Step}
-use Rattle.test_laws.specs.CycleSteps.{event_step, thread_steps}
-use Rattle.test_laws.specs.TestOf.{plain}
-use Rattle.test_laws.proofs.StepsAt.{steps-count, thread_steps_at}
+use Rattle.tests_force_cycles.specs.CycleSteps.{event_step, thread_steps}
+use Rattle.tests_force_cycles.specs.TestOf.{plain}
+use Rattle.tests_force_cycles.proofs.StepsAt.{steps-count, thread_steps_at}
 use Rattle.co_tests_laws.specs.CutResolution.{cut_open}
 use Rattle.co_tests_laws.specs.CoherenceTests.{coherence_steps}
 use Rattle.co_tests_laws.proofs.Opened.{opened-threads, opened_events}

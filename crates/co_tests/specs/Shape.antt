@@ -3,8 +3,8 @@ use Rattle.std.specs.Prelude.{◌≡◌, ◌≤◌, true, false, List}
 use Rattle.std.specs.List.{list_any}
 use Rattle.relax_edges.specs.declared.edge.Edge.{Edge}
 use Rattle.relax_edges.specs.EdgeTable.{is_diff}
-use Rattle.cycle_laws.specs.Composable.{IsCycle}
-use Rattle.resolution_laws.specs.Resolution.{ends_outside, external_count}
+use Rattle.edge_algebra_laws.specs.Composable.{IsCycle}
+use Rattle.cycle_events.specs.Resolution.{ends_outside, external_count}
 use Rattle.co_tests_laws.specs.CutResolution.{is_ordering}
 use Rattle.co_tests_laws.specs.CoherenceTests.{writes_in}
 

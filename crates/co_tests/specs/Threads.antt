@@ -8,7 +8,7 @@ use Rattle.arch_trait.specs.declared.code.Code.{Code}
 use Rattle.arch_trait.specs.declared.step.Step.{Step}
 use Rattle.arch_trait.specs.Codes.{thread_code_of}
 use Rattle.arch_trait.specs.Threads.{Puts, compiled}
-use Rattle.test_laws.specs.TestOf.{load_terms, thread_terms}
+use Rattle.tests_force_cycles.specs.TestOf.{load_terms, thread_terms}
 use Rattle.test_maker.specs.Refusals.{is_crowded}
 use Rattle.co_tests_laws.specs.declared.refusal.CoRefusal.{CoRefusal}
 use Rattle.co_tests_laws.specs.declared.refusal.CoRefusal.TheVariants.{TooManyRegisters}

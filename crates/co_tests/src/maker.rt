@@ -1,5 +1,5 @@
 ghost use Rattle.std.specs.Prelude.{◌≡◌, ◌≤◌, length, IfOk, OnOk};
-ghost use Rattle.resolution_laws.specs.Resolution.{turned};
+ghost use Rattle.cycle_events.specs.Resolution.{turned};
 ghost use Rattle.arch_trait.specs.Writing.{name_in};
 ghost use Rattle.litmus_text.specs.Tests.{test_seen};
 ghost use Rattle.test_maker.specs.Made.{AreOfArch, CanPrint};

@@ -11,14 +11,14 @@ use Rattle.std.proofs.lemmas.List.Sums.{sum_by-append}
 use Rattle.list_laws.proofs.Places.{none_foreign}
 use Rattle.relax_edges.specs.declared.edge.Edge.{Edge}
 use Rattle.relax_edges.specs.EdgeTable.{is_diff, is_of_arch}
-use Rattle.cycle_laws.specs.Composable.{IsCycle}
-use Rattle.cycle_laws.specs.Rotation.{rotated}
-use Rattle.cycle_laws.proofs.Composing.{rotated_cycle}
-use Rattle.resolution_laws.specs.Resolution.{external_count, turned}
-use Rattle.resolution_laws.proofs.Turning.{turn_of, external_count-rotated}
+use Rattle.edge_algebra_laws.specs.Composable.{IsCycle}
+use Rattle.edge_algebra_laws.specs.Rotation.{rotated}
+use Rattle.edge_algebra_laws.proofs.Composing.{rotated_cycle}
+use Rattle.cycle_events.specs.Resolution.{external_count, turned}
+use Rattle.cycle_events.proofs.Turning.{turn_of, external_count-rotated}
 use Rattle.arch_trait.specs.Threads.{Puts}
 use Rattle.test_maker.specs.Refusals.{is_crowded}
-use Rattle.test_laws.proofs.Headline.{room_left}
+use Rattle.tests_force_cycles.proofs.Headline.{room_left}
 use Rattle.co_tests_laws.specs.declared.refusal.CoRefusal.{CoRefusal}
 use Rattle.co_tests_laws.specs.declared.refusal.CoRefusal.TheVariants.{NotOfArch, TooFewThreads, NotCoherence, ManyWrites, TooManyRegisters}
 use Rattle.co_tests_laws.specs.CutResolution.{is_ordering}

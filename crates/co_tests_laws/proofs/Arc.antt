@@ -14,11 +14,11 @@ use Rattle.relax_edges.specs.declared.kinds.Com.TheVariants.{Rf}
 use Rattle.relax_edges.specs.declared.edge.Edge.{Edge}
 use Rattle.relax_edges.specs.declared.edge.Edge.TheVariants as edges
 use Rattle.relax_edges.specs.EdgeTable.{source_of, same_dir}
-use Rattle.resolution_laws.specs.Resolution.{edge_at}
-use Rattle.value_laws.specs.Values.{is_after_moves, way, arc, arc_of, writes_counted}
-use Rattle.value_laws.proofs.Arcs.{value_on_arc}
-use Rattle.communication_laws.proofs.Lists.{filter_all}
-use Rattle.test_laws.proofs.Everywhere.{position_first}
+use Rattle.cycle_events.specs.Resolution.{edge_at}
+use Rattle.cycle_events.specs.Values.{is_after_moves, way, arc, arc_of, writes_counted}
+use Rattle.cycle_events.proofs.ValueArcs.{value_on_arc}
+use Rattle.accesses_force_cycles.proofs.Lists.{filter_all}
+use Rattle.tests_force_cycles.proofs.Everywhere.{position_first}
 use Rattle.co_tests_laws.specs.CutResolution.{is_ordering, cut_of, cut_open}
 use Rattle.co_tests_laws.specs.Arc.{arc_behind, ValuesCountAlongArc}
 use Rattle.co_tests_laws.proofs.Opened.{source_same, same_at, opened-length}

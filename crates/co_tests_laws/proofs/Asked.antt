@@ -13,8 +13,8 @@ use Rattle.relax_edges.specs.declared.kinds.ObsMode.TheVariants.{Avoid}
 use Rattle.relax_edges.specs.declared.edge.Edge.{Edge}
 use Rattle.list_laws.specs.Numbers.{upto}
 use Rattle.list_laws.proofs.Cases.{by_test}
-use Rattle.resolution_laws.specs.Resolution.{move_count}
-use Rattle.value_laws.specs.Values.{is_observed, write_count}
+use Rattle.cycle_events.specs.Resolution.{move_count}
+use Rattle.cycle_events.specs.Values.{is_observed, write_count}
 use Rattle.final_cond.specs.Conditions.{LeftSeen, TermSeen, AtPlace}
 use Rattle.arch_trait.specs.declared.step.Step.{Step}
 use Rattle.arch_trait.specs.Codes.{AllBelow, MakesSteps}
@@ -22,26 +22,26 @@ use Rattle.arch_trait.specs.Laws.{IsArch}
 use Rattle.arch_trait.specs.PlaceNames.{location_name, number_in}
 use Rattle.arch_trait.specs.PlaceRenumbering.{step_at, renumbered}
 use Rattle.arch_trait.specs.Threads.{Puts, ThreadCode, compiled, HoldNumbers, shape_of}
-use Rattle.arch_laws.proofs.CodeLaws.{makes_steps, is_formed}
-use Rattle.arch_laws.proofs.Renumbered.{renumbered_makes}
+use Rattle.arch_trait_laws.proofs.CodeLaws.{makes_steps, is_formed}
+use Rattle.arch_trait_laws.proofs.Renumbered.{renumbered_makes}
 use Rattle.program_meaning.specs.declared.WriteAt.{WriteAt}
 use Rattle.program_meaning.specs.Accesses.{Access, is_read}
 use Rattle.program_meaning.specs.Executions.{Execution}
 use Rattle.program_meaning.specs.Coherence.{final_value}
 use Rattle.program_meaning.specs.Programs.{IsCandidate, accesses_in, held_at_last, register_in}
 use Rattle.program_meaning.specs.Intended.{cycle_accesses}
-use Rattle.communication_laws.specs.Joining.{ReadsAsAsked, values_read}
-use Rattle.communication_laws.proofs.Lists.{got_below, got_map}
-use Rattle.test_laws.specs.CycleSteps.{cycle_steps, numbers_read}
-use Rattle.test_laws.specs.TestOf.{plain, is_named_location, last_term, last_terms, thread_terms, load_terms}
-use Rattle.test_laws.specs.FinalStates.{final_state}
-use Rattle.test_laws.specs.TestHeadline.{FindsRegisters}
-use Rattle.test_laws.proofs.Terms.{reads-count}
-use Rattle.test_laws.proofs.Visits.{step_access}
-use Rattle.test_laws.proofs.ThreadRuns.{AreCodesOf, DidThread, did_thread}
-use Rattle.test_laws.proofs.Making.{planned_at, planned-count, planned_reads, candidate_enough, candidate_lists}
-use Rattle.test_laws.proofs.TestCodes.{cycle_codes, cycle_program, steps_numbered, Origin, origin_of, numbers_kept}
-use Rattle.test_laws.proofs.Meeting.{IsMet, ShowsRegisters, terms_of_thread, terms_from_threads, terms_read, read_terms}
+use Rattle.accesses_force_cycles.specs.Joining.{ReadsAsAsked, values_read}
+use Rattle.accesses_force_cycles.proofs.Lists.{got_below, got_map}
+use Rattle.tests_force_cycles.specs.CycleSteps.{cycle_steps, numbers_read}
+use Rattle.tests_force_cycles.specs.TestOf.{plain, is_named_location, last_term, last_terms, thread_terms, load_terms}
+use Rattle.tests_force_cycles.specs.FinalStates.{final_state}
+use Rattle.tests_force_cycles.specs.TestHeadline.{FindsRegisters}
+use Rattle.tests_force_cycles.proofs.Terms.{reads-count}
+use Rattle.tests_force_cycles.proofs.Visits.{step_access}
+use Rattle.tests_force_cycles.proofs.ThreadRuns.{AreCodesOf, DidThread, did_thread}
+use Rattle.tests_force_cycles.proofs.Making.{planned_at, planned-count, planned_reads, candidate_enough, candidate_lists}
+use Rattle.tests_force_cycles.proofs.TestCodes.{cycle_codes, cycle_program, steps_numbered, Origin, origin_of, numbers_kept}
+use Rattle.tests_force_cycles.proofs.Meeting.{IsMet, ShowsRegisters, terms_of_thread, terms_from_threads, terms_read, read_terms}
 use Rattle.co_tests_laws.specs.CutResolution.{cut_open}
 use Rattle.co_tests_laws.specs.CoherenceTests.{writes_in, coherence_steps}
 use Rattle.co_tests_laws.proofs.Values.{IsCut, one_move, write_count_is}

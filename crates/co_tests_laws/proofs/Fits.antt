@@ -11,20 +11,20 @@ use Rattle.relax_edges.specs.declared.kinds.ObsMode.TheVariants.{Avoid}
 use Rattle.relax_edges.specs.declared.edge.Edge.{Edge}
 use Rattle.relax_edges.specs.declared.edge.Edge.TheVariants as edges
 use Rattle.relax_edges.specs.EdgeTable.{kind_of, source_of, source_mark, mark_fits, mark_is_of, is_of_arch, is_external}
-use Rattle.cycle_laws.proofs.Marks.{source_mark_fits}
-use Rattle.resolution_laws.specs.Resolution.{edge_at, events_in, thread_of, slot_of}
-use Rattle.resolution_laws.proofs.Threads.{slot-zero, slot_out, slot_of_event}
-use Rattle.resolution_laws.proofs.Around.{source_after}
-use Rattle.resolution_laws.proofs.Sizes.{only_in_slot, thread_has_events, thread_size_most}
+use Rattle.edge_algebra_laws.proofs.Marks.{source_mark_fits}
+use Rattle.cycle_events.specs.Resolution.{edge_at, events_in, thread_of, slot_of}
+use Rattle.cycle_events.proofs.Threads.{slot-zero, slot_out, slot_of_event}
+use Rattle.cycle_events.proofs.Around.{source_after}
+use Rattle.cycle_events.proofs.Sizes.{only_in_slot, thread_has_events, thread_size_most}
 use Rattle.arch_trait.specs.declared.step.Step.{Step}
 use Rattle.arch_trait.specs.declared.link.Link.TheVariants.{Plain}
 use Rattle.arch_trait.specs.Links.{edge_link, link_is_of, depends_on_load, is_data}
 use Rattle.arch_trait.specs.Threads.{FitStep, FitSteps, is_load_dir}
-use Rattle.communication_laws.proofs.Lists.{image_of}
-use Rattle.test_laws.specs.CycleSteps.{event_link, event_step, thread_steps, cycle_steps}
-use Rattle.test_laws.proofs.EdgeMarks.{has_edge}
-use Rattle.test_laws.proofs.StepsAt.{by_steps}
-use Rattle.test_laws.proofs.StepsFit.{Before, IsThread, all_at, link_between, link_first, link_enters, link_leaves, fit_from}
+use Rattle.accesses_force_cycles.proofs.Lists.{image_of}
+use Rattle.tests_force_cycles.specs.CycleSteps.{event_link, event_step, thread_steps, cycle_steps}
+use Rattle.tests_force_cycles.proofs.EdgeMarks.{has_edge}
+use Rattle.tests_force_cycles.proofs.StepsAt.{by_steps}
+use Rattle.tests_force_cycles.proofs.StepsFit.{Before, IsThread, all_at, link_between, link_first, link_enters, link_leaves, fit_from}
 use Rattle.co_tests_laws.specs.CutResolution.{cut_open}
 use Rattle.co_tests_laws.specs.CoherenceTests.{writes_in}
 use Rattle.co_tests_laws.proofs.Opened.{source_same, source_mark_same, external_same, link_same, same_at, opened-length, opened_after}

@@ -13,12 +13,12 @@ use Rattle.program_meaning.specs.declared.WriteAt.{WriteAt}
 use Rattle.program_meaning.specs.Accesses.{Access, write, is_read, at_name}
 use Rattle.program_meaning.specs.Executions.{Execution, CanRead, AreReadsOf, IsOrderOf, IsExecutionOf}
 use Rattle.program_meaning.specs.Coherence.{order_place, order_at, source_at, placed_by, coherence_place, last_write, value_of_access, final_value}
-use Rattle.execution_laws.proofs.Names.{got_from_list}
-use Rattle.communication_laws.proofs.Lists.{got_below, got_map, kept, same_below, length-filter_map-upto, slice_get-filter_map-upto}
-use Rattle.communication_laws.proofs.Orders.{Holds, Gives, place_held, order_by_steps, order_given, place_given}
-use Rattle.communication_laws.proofs.ReadLists.{reads_by_source, reads_given, reads_fixed, source_given}
-use Rattle.communication_laws.proofs.IntendedOrders.{order_got}
-use Rattle.communication_laws.proofs.IntendedReads.{stands_at}
+use Rattle.program_meaning.proofs.Names.{got_from_list}
+use Rattle.accesses_force_cycles.proofs.Lists.{got_below, got_map, kept, same_below, length-filter_map-upto, slice_get-filter_map-upto}
+use Rattle.accesses_force_cycles.proofs.Orders.{Holds, Gives, place_held, order_by_steps, order_given, place_given}
+use Rattle.accesses_force_cycles.proofs.ReadLists.{reads_by_source, reads_given, reads_fixed, source_given}
+use Rattle.accesses_force_cycles.proofs.IntendedOrders.{order_got}
+use Rattle.accesses_force_cycles.proofs.IntendedReads.{stands_at}
 
 -- a write access writes one more than its number among the writes, at place 0
 pub record IsNth (g : ℕ → Option WriteAt) (n : ℕ) (w : WriteAt) (place value : ℕ) : Type 0 where

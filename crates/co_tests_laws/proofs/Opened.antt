@@ -6,10 +6,10 @@ use Rattle.std.proofs.lemmas.List.Sums.{sum_by-cons}
 use Rattle.list_laws.specs.Numbers.{upto}
 use Rattle.relax_edges.specs.declared.edge.Edge.{Edge}
 use Rattle.relax_edges.specs.EdgeTable.{source_of, source_mark, is_external, is_diff}
-use Rattle.resolution_laws.specs.Resolution.{edge_at, external_count, thread_of, slot_of, events_in, event_before, event_after}
+use Rattle.cycle_events.specs.Resolution.{edge_at, external_count, thread_of, slot_of, events_in, event_before, event_after}
 use Rattle.arch_trait.specs.declared.link.Link.TheVariants.{Plain}
 use Rattle.arch_trait.specs.Links.{edge_link}
-use Rattle.test_laws.specs.CycleSteps.{event_link}
+use Rattle.tests_force_cycles.specs.CycleSteps.{event_link}
 use Rattle.co_tests_laws.specs.CutResolution.{is_ordering, elsewhere, cut_open}
 
 -- and so does an edge

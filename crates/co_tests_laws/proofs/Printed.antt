@@ -8,15 +8,15 @@ use Rattle.relax_edges.specs.declared.kinds.ObsMode.TheVariants.{Avoid}
 use Rattle.relax_edges.specs.declared.edge.Edge.{Edge}
 use Rattle.relax_edges.specs.EdgeTable.{kind_of, is_external}
 use Rattle.final_cond.specs.States.{Meets}
-use Rattle.resolution_laws.specs.Resolution.{edge_at, ends_outside, move_count, thread_of, slot_of}
-use Rattle.resolution_laws.proofs.Locations.{ends_with}
+use Rattle.cycle_events.specs.Resolution.{edge_at, ends_outside, move_count, thread_of, slot_of}
+use Rattle.cycle_events.proofs.Locations.{ends_with}
 use Rattle.arch_trait.specs.Cells.{WritesCells, MakesOneAccess}
 use Rattle.arch_trait.specs.Laws.{IsArch}
 use Rattle.arch_trait.specs.PlaceNames.{location_name, number_in}
 use Rattle.arch_trait.specs.Threads.{Puts, ThreadCode, compiled}
 use Rattle.arch_trait.specs.Writing.{Writing, WritesBack, name_in}
-use Rattle.arch_laws.proofs.CodeLaws.{makes_steps}
-use Rattle.arch_laws.proofs.NameLaws.{length-letters}
+use Rattle.arch_trait_laws.proofs.CodeLaws.{makes_steps}
+use Rattle.arch_trait_laws.proofs.NameLaws.{length-letters}
 use Rattle.litmus_text.specs.Items.{links_of}
 use Rattle.litmus_text.specs.Mentioned.{TestReadsBack, is_in, op_is_in}
 use Rattle.litmus_text.specs.Placing.{place_in, or_zero}
@@ -28,18 +28,18 @@ use Rattle.program_meaning.specs.Executions.{Execution}
 use Rattle.program_meaning.specs.Intended.{IsNumbering}
 use Rattle.program_meaning.specs.Programs.{Program, IsCandidate, IsCoherentIn, accesses_in}
 use Rattle.program_meaning.specs.Standing.{AllStand}
-use Rattle.communication_laws.proofs.Lists.{got_map}
-use Rattle.test_laws.specs.CycleSteps.{event_step, thread_steps}
-use Rattle.test_laws.specs.FinalStates.{final_state}
-use Rattle.test_laws.specs.TestHeadline.{IsRenumbered}
-use Rattle.test_laws.specs.TestOf.{plain, test_of}
-use Rattle.test_laws.proofs.Everywhere.{all_gets}
-use Rattle.test_laws.proofs.Headline.{renumbered_program}
-use Rattle.test_laws.proofs.RegisterNames.{registers_found}
-use Rattle.printed_test_laws.specs.Readings.{program_read}
-use Rattle.printed_test_laws.proofs.BackLaws.{reads_back, numbered_in}
-use Rattle.printed_test_laws.proofs.Mentioning.{place_is_in}
-use Rattle.printed_test_laws.proofs.Rereading.{by_table, got_is, reread_test, threads_numbered, intended_same, links_apart}
+use Rattle.accesses_force_cycles.proofs.Lists.{got_map}
+use Rattle.tests_force_cycles.specs.CycleSteps.{event_step, thread_steps}
+use Rattle.tests_force_cycles.specs.FinalStates.{final_state}
+use Rattle.tests_force_cycles.specs.TestHeadline.{IsRenumbered}
+use Rattle.tests_force_cycles.specs.TestOf.{plain, test_of}
+use Rattle.tests_force_cycles.proofs.Everywhere.{all_gets}
+use Rattle.tests_force_cycles.proofs.Headline.{renumbered_program}
+use Rattle.tests_force_cycles.proofs.RegisterNames.{registers_found}
+use Rattle.bytes_force_cycles.specs.Readings.{program_read}
+use Rattle.bytes_force_cycles.proofs.BackLaws.{reads_back, numbered_in}
+use Rattle.bytes_force_cycles.proofs.Mentioning.{place_is_in}
+use Rattle.bytes_force_cycles.proofs.Rereading.{by_table, got_is, reread_test, threads_numbered, intended_same, links_apart}
 use Rattle.co_tests_laws.specs.CutResolution.{cut_open}
 use Rattle.co_tests_laws.specs.CoherenceTests.{HasCoherenceTest, coherence_steps, coherence_test_of, incoherent_execution}
 use Rattle.co_tests_laws.specs.Incoherence.{MeetsReading, HasCycle, BytesShowIncoherence, PrintedShowIncoherence}

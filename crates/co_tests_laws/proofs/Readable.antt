@@ -22,13 +22,13 @@ use Rattle.relax_edges.specs.declared.kinds.Kind.TheVariants as kinds
 use Rattle.relax_edges.specs.declared.kinds.ObsMode.TheVariants.{Avoid}
 use Rattle.relax_edges.specs.declared.edge.Edge.{Edge}
 use Rattle.relax_edges.specs.EdgeTable.{kind_of, kind_source, kind_target, source_of, target_of, is_external}
-use Rattle.resolution_laws.specs.Resolution.{edge_at, external_count, move_count, thread_of, slot_of, events_in, event_after}
-use Rattle.resolution_laws.proofs.Threads.{event_in_slot}
-use Rattle.resolution_laws.proofs.Around.{after_below, source_after}
-use Rattle.value_laws.specs.Values.{write_count, is_observed}
+use Rattle.cycle_events.specs.Resolution.{edge_at, external_count, move_count, thread_of, slot_of, events_in, event_after}
+use Rattle.cycle_events.proofs.Threads.{event_in_slot}
+use Rattle.cycle_events.proofs.Around.{after_below, source_after}
+use Rattle.cycle_events.specs.Values.{write_count, is_observed}
 use Rattle.final_cond.specs.Conditions.{TermSeen}
-use Rattle.text_laws.specs.Names.{is_place_name}
-use Rattle.text_laws.proofs.NameLaws.{place_name_short}
+use Rattle.text_parts_laws.specs.Names.{is_place_name}
+use Rattle.text_parts_laws.proofs.NameLaws.{place_name_short}
 use Rattle.arch_trait.specs.declared.arch.TheConstants.{MAX_INSTRS}
 use Rattle.arch_trait.specs.declared.step.Step.{Step}
 use Rattle.arch_trait.specs.Cells.{WritesCells, MakesOneAccess}
@@ -37,25 +37,25 @@ use Rattle.arch_trait.specs.Links.{branches}
 use Rattle.arch_trait.specs.PlaceNames.{letters, location_name, number_in}
 use Rattle.arch_trait.specs.Threads.{Puts, ThreadCode, compiled, is_load_dir, is_store_dir, loads_in, setting_out, visits}
 use Rattle.arch_trait.specs.Writing.{Writing, WritesBack, name_in}
-use Rattle.arch_laws.proofs.Ordered.{compiled_ordered, compiled_accesses}
-use Rattle.arch_laws.proofs.NameLaws.{length-letters, location_new}
-use Rattle.arch_laws.proofs.CodeLaws.{is_formed, thread_short}
+use Rattle.arch_trait_laws.proofs.Ordered.{compiled_ordered, compiled_accesses}
+use Rattle.arch_trait_laws.proofs.NameLaws.{length-letters, location_new}
+use Rattle.arch_trait_laws.proofs.CodeLaws.{is_formed, thread_short}
 use Rattle.litmus_text.specs.Printable.{IsTestName}
 use Rattle.litmus_text.specs.Items.{LinkFits, links_of}
 use Rattle.litmus_text.specs.Progress.{CodeFits, code_lands}
 use Rattle.litmus_text.specs.Reread.{IsReadable}
 use Rattle.litmus_text.specs.ReadTerms.{TermFits}
-use Rattle.communication_laws.proofs.Lists.{got_map, image_of}
-use Rattle.test_laws.specs.CycleSteps.{event_step, thread_steps, observer_steps, cycle_steps}
-use Rattle.test_laws.specs.TestOf.{plain, is_named_location, last_term, last_terms, load_terms}
-use Rattle.test_laws.proofs.Everywhere.{position_first}
-use Rattle.test_laws.proofs.PlaceNames.{letter_at}
-use Rattle.test_laws.proofs.StepsAt.{thread_steps_at, by_steps, steps-count, steps_few}
-use Rattle.test_laws.proofs.Terms.{load_terms-count, sum_map}
-use Rattle.printed_test_laws.proofs.FormedFits.{HasPlaces, code_fits, lands_once, links_fit, links_single}
-use Rattle.printed_test_laws.proofs.Fits.{IsThreadCode, each_code, all_read_terms, numbers_small, all_links}
-use Rattle.printed_test_laws.proofs.Lengths.{AreShort, IsSmall, text_short}
-use Rattle.printed_test_laws.proofs.Rereading.{got_is}
+use Rattle.accesses_force_cycles.proofs.Lists.{got_map, image_of}
+use Rattle.tests_force_cycles.specs.CycleSteps.{event_step, thread_steps, observer_steps, cycle_steps}
+use Rattle.tests_force_cycles.specs.TestOf.{plain, is_named_location, last_term, last_terms, load_terms}
+use Rattle.tests_force_cycles.proofs.Everywhere.{position_first}
+use Rattle.tests_force_cycles.proofs.PlaceNames.{letter_at}
+use Rattle.tests_force_cycles.proofs.StepsAt.{thread_steps_at, by_steps, steps-count, steps_few}
+use Rattle.tests_force_cycles.proofs.Terms.{load_terms-count, sum_map}
+use Rattle.bytes_force_cycles.proofs.FormedFits.{HasPlaces, code_fits, lands_once, links_fit, links_single}
+use Rattle.bytes_force_cycles.proofs.Fits.{IsThreadCode, each_code, all_read_terms, numbers_small, all_links}
+use Rattle.bytes_force_cycles.proofs.Lengths.{AreShort, IsSmall, text_short}
+use Rattle.bytes_force_cycles.proofs.Rereading.{got_is}
 use Rattle.co_tests_laws.specs.CutResolution.{cut_open}
 use Rattle.co_tests_laws.specs.CoherenceTests.{writes_in, coherence_steps, coherence_test_of}
 use Rattle.co_tests_laws.proofs.Opened.{source_same, same_at, opened-length, opened-threads, opened_thread}
@@ -63,9 +63,9 @@ use Rattle.co_tests_laws.proofs.Values.{IsCut, one_move, one_location, write_cou
 use Rattle.co_tests_laws.proofs.Events.{IsLoop, last_outside, thread_under, unobserved, none_observed, some_write, value_through}
 use Rattle.co_tests_laws.proofs.Fits.{loop_thread}
 use Rattle.co_tests_laws.proofs.Asked.{HasLoopCode, ends_terms}
-use Rattle.printed_test_laws.proofs.Readable.{texts_short, registers_short, formed_terms, ordered_few}
-use Rattle.printed_test_laws.proofs.SomeTerm.{term_most, counted_one}
-use Rattle.communication_laws.proofs.Resolves.{written_by}
+use Rattle.bytes_force_cycles.proofs.Readable.{texts_short, registers_short, formed_terms, ordered_few}
+use Rattle.bytes_force_cycles.proofs.SomeTerm.{term_most, counted_one}
+use Rattle.accesses_force_cycles.proofs.Resolves.{written_by}
 
 -- the names of the test's places
 abbrev pub place_names : List Edge → List (List ℕ)

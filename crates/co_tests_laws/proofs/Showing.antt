@@ -6,7 +6,7 @@ use Rattle.std.proofs.lemmas.List.{length-map}
 use Rattle.list_laws.proofs.Elements.{all_append, all_parts}
 use Rattle.relax_edges.specs.declared.kinds.ObsMode.TheVariants.{Avoid}
 use Rattle.relax_edges.specs.declared.edge.Edge.{Edge}
-use Rattle.resolution_laws.specs.Resolution.{move_count}
+use Rattle.cycle_events.specs.Resolution.{move_count}
 use Rattle.final_cond.specs.States.{Meets}
 use Rattle.arch_trait.specs.Laws.{IsArch}
 use Rattle.arch_trait.specs.PlaceNames.{location_name, number_in}
@@ -18,21 +18,21 @@ use Rattle.program_meaning.specs.Coherence.{final_value}
 use Rattle.program_meaning.specs.Programs.{Program, IsCandidate, IsCoherentIn, accesses_in}
 use Rattle.program_meaning.specs.Standing.{AllStand}
 use Rattle.program_meaning.specs.Intended.{IsNumbering}
-use Rattle.execution_laws.proofs.Runs.{accesses-count}
-use Rattle.communication_laws.specs.Joining.{ReadsAsAsked, values_read}
-use Rattle.communication_laws.proofs.Lists.{got_map, map-map}
-use Rattle.communication_laws.proofs.Programs.{makes_planned}
-use Rattle.communication_laws.proofs.ReadLists.{reads_by_source}
-use Rattle.coherence_laws.specs.Laws.{WritesWithin}
-use Rattle.coherence_laws.proofs.Laws.{candidates_are_sc_per_location}
-use Rattle.test_laws.specs.CycleSteps.{cycle_steps}
-use Rattle.test_laws.specs.TestOf.{last_terms, load_terms}
-use Rattle.test_laws.specs.FinalStates.{final_state}
-use Rattle.test_laws.specs.TestHeadline.{FindsRegisters}
-use Rattle.test_laws.proofs.Meeting.{IsMet}
-use Rattle.test_laws.proofs.TestCodes.{cycle_program}
-use Rattle.test_laws.proofs.ThreadRuns.{all_end}
-use Rattle.test_laws.proofs.Making.{makes, makes_enough, asked_enough, planned-count}
+use Rattle.program_meaning.proofs.Runs.{accesses-count}
+use Rattle.accesses_force_cycles.specs.Joining.{ReadsAsAsked, values_read}
+use Rattle.accesses_force_cycles.proofs.Lists.{got_map, map-map}
+use Rattle.accesses_force_cycles.proofs.Programs.{makes_planned}
+use Rattle.accesses_force_cycles.proofs.ReadLists.{reads_by_source}
+use Rattle.sc_and_interleavings.specs.CoherenceLaws.{WritesWithin}
+use Rattle.sc_and_interleavings.proofs.CoherenceLaws.{candidates_are_sc_per_location}
+use Rattle.tests_force_cycles.specs.CycleSteps.{cycle_steps}
+use Rattle.tests_force_cycles.specs.TestOf.{last_terms, load_terms}
+use Rattle.tests_force_cycles.specs.FinalStates.{final_state}
+use Rattle.tests_force_cycles.specs.TestHeadline.{FindsRegisters}
+use Rattle.tests_force_cycles.proofs.Meeting.{IsMet}
+use Rattle.tests_force_cycles.proofs.TestCodes.{cycle_program}
+use Rattle.tests_force_cycles.proofs.ThreadRuns.{all_end}
+use Rattle.tests_force_cycles.proofs.Making.{makes, makes_enough, asked_enough, planned-count}
 use Rattle.co_tests_laws.specs.CutResolution.{cut_open}
 use Rattle.co_tests_laws.specs.CoherenceTests.{writes_in, coherence_steps, coherence_test_of}
 use Rattle.co_tests_laws.specs.Incoherence.{HasCycle}

@@ -8,10 +8,10 @@ use Rattle.relax_edges.specs.declared.kinds.ArchName.{ArchName}
 use Rattle.relax_edges.specs.declared.kinds.ObsMode.TheVariants.{Avoid}
 use Rattle.relax_edges.specs.declared.edge.Edge.{Edge}
 use Rattle.relax_edges.specs.EdgeTable.{kind_of, source_of, source_mark, is_external}
-use Rattle.resolution_laws.specs.Resolution.{edge_at, external_count, move_count, thread_of as event_thread, slot_of, events_in, event_after}
-use Rattle.resolution_laws.proofs.Threads.{event_in_slot, slot_of_event}
-use Rattle.resolution_laws.proofs.Around.{after_below, mark_after}
-use Rattle.resolution_laws.proofs.Sizes.{only_in_slot}
+use Rattle.cycle_events.specs.Resolution.{edge_at, external_count, move_count, thread_of as event_thread, slot_of, events_in, event_after}
+use Rattle.cycle_events.proofs.Threads.{event_in_slot, slot_of_event}
+use Rattle.cycle_events.proofs.Around.{after_below, mark_after}
+use Rattle.cycle_events.proofs.Sizes.{only_in_slot}
 use Rattle.arch_trait.specs.declared.step.Step.{Step}
 use Rattle.arch_trait.specs.declared.link.Link.TheVariants.{Plain}
 use Rattle.arch_trait.specs.Links.{edge_link}
@@ -22,24 +22,24 @@ use Rattle.program_meaning.specs.Executions.{Execution}
 use Rattle.program_meaning.specs.Programs.{Program, IsCandidate, visits_in, accesses_in, items_in}
 use Rattle.program_meaning.specs.Standing.{AccessAt, NamedAccess, access_at, IsEvent, StartsFree, HasEvents, AllStand, Joins, TiesBy, event_name}
 use Rattle.program_meaning.specs.Intended.{IsNumbering, event_access, event_at}
-use Rattle.communication_laws.specs.Joining.{values_read}
-use Rattle.communication_laws.proofs.Lists.{got_below, got_map, image_of}
-use Rattle.test_laws.specs.CycleSteps.{event_link, event_step, thread_steps, cycle_steps}
-use Rattle.test_laws.specs.TestPrograms.{thread_from, program_of}
-use Rattle.test_laws.proofs.StepsAt.{thread_steps_at, steps-count}
-use Rattle.test_laws.proofs.StepsFit.{Before, link_between, link_first}
-use Rattle.test_laws.proofs.Visits.{thread_visits, ends_free}
-use Rattle.test_laws.proofs.VisitsAt.{visit_at, visits-count, starts_free}
-use Rattle.test_laws.proofs.Ties.{ties}
-use Rattle.test_laws.proofs.Following.{next_follows}
-use Rattle.test_laws.proofs.ThreadRuns.{AreCodesOf, DidThread, did_thread, ThreadOf, thread_of, items_below, visits_below}
-use Rattle.test_laws.proofs.Making.{candidate_enough, candidate_lists}
+use Rattle.accesses_force_cycles.specs.Joining.{values_read}
+use Rattle.accesses_force_cycles.proofs.Lists.{got_below, got_map, image_of}
+use Rattle.tests_force_cycles.specs.CycleSteps.{event_link, event_step, thread_steps, cycle_steps}
+use Rattle.tests_force_cycles.specs.TestPrograms.{thread_from, program_of}
+use Rattle.tests_force_cycles.proofs.StepsAt.{thread_steps_at, steps-count}
+use Rattle.tests_force_cycles.proofs.StepsFit.{Before, link_between, link_first}
+use Rattle.tests_force_cycles.proofs.Visits.{thread_visits, ends_free}
+use Rattle.tests_force_cycles.proofs.VisitsAt.{visit_at, visits-count, starts_free}
+use Rattle.tests_force_cycles.proofs.Ties.{ties}
+use Rattle.tests_force_cycles.proofs.Following.{next_follows}
+use Rattle.tests_force_cycles.proofs.ThreadRuns.{AreCodesOf, DidThread, did_thread, ThreadOf, thread_of, items_below, visits_below}
+use Rattle.tests_force_cycles.proofs.Making.{candidate_enough, candidate_lists}
 use Rattle.co_tests_laws.specs.CutResolution.{cut_open}
 use Rattle.co_tests_laws.proofs.Opened.{source_same, source_mark_same, link_same, same_at, opened-length, opened-threads, opened_thread, opened_events}
 use Rattle.co_tests_laws.proofs.Events.{IsLoop, loop_accesses, loop_execution, thread_under, opened_name, event_there, none_observed, internal_follows, loop_joins}
 use Rattle.co_tests_laws.proofs.Fits.{IsLoopOf, before_event, event_fits, thread_fits}
-use Rattle.test_laws.proofs.Tying.{external_ties}
-use Rattle.communication_laws.proofs.AllStand.{access_of_visit}
+use Rattle.tests_force_cycles.proofs.Tying.{external_ties}
+use Rattle.accesses_force_cycles.proofs.AllStand.{access_of_visit}
 
 -- the program of the test with some codes
 abbrev loop_program : List ThreadCode → List Edge → Program

@@ -7,12 +7,12 @@ use Rattle.relax_edges.specs.declared.kinds.Com.TheVariants as coms
 use Rattle.relax_edges.specs.declared.kinds.ObsMode.TheVariants.{Avoid}
 use Rattle.relax_edges.specs.declared.edge.Edge.{Edge}
 use Rattle.relax_edges.specs.declared.edge.Edge.TheVariants as edges
-use Rattle.resolution_laws.specs.Resolution.{thread_of, slot_of, location_of, events_in, moves_before}
-use Rattle.value_laws.specs.Values.{way_place, value_of, write_count, is_observed}
+use Rattle.cycle_events.specs.Resolution.{thread_of, slot_of, location_of, events_in, moves_before}
+use Rattle.cycle_events.specs.Values.{way_place, value_of, write_count, is_observed}
 use Rattle.arch_trait.specs.PlaceNames.{location_name}
 use Rattle.final_cond.specs.Conditions.{AtPlace}
-use Rattle.test_laws.specs.CycleSteps.{cycle_steps}
-use Rattle.test_laws.specs.TestOf.{last_terms}
+use Rattle.tests_force_cycles.specs.CycleSteps.{cycle_steps}
+use Rattle.tests_force_cycles.specs.TestOf.{last_terms}
 use Rattle.co_tests_laws.specs.CutResolution.{cut_of, cut_open}
 use Rattle.co_tests_laws.specs.CoherenceTests.{writes_in, coherence_steps}
 use Rattle.co_tests_laws.specs.CoRefusals.{is_no_coherence}

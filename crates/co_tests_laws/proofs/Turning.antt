@@ -7,8 +7,8 @@ use Rattle.relax_edges.specs.declared.kinds.Dir.TheVariants as dirs
 use Rattle.program_meaning.specs.declared.WriteAt.{WriteAt}
 use Rattle.program_meaning.specs.Accesses.{Access, read, write, at_name}
 use Rattle.program_meaning.specs.Coherence.{order_at}
-use Rattle.communication_laws.proofs.Lists.{slice_get-filter_map-upto}
-use Rattle.coherence_laws.specs.Relations.{IsWriteTo, ProgramOrder, ReadsFrom, CoherenceOrder, FromRead, IsBefore, Po, Rf, Co, Fr}
+use Rattle.accesses_force_cycles.proofs.Lists.{slice_get-filter_map-upto}
+use Rattle.sc_and_interleavings.specs.Relations.{IsWriteTo, ProgramOrder, ReadsFrom, CoherenceOrder, FromRead, IsBefore, Po, Rf, Co, Fr}
 use Rattle.co_tests_laws.specs.Incoherence.{HasCycle}
 use Rattle.co_tests_laws.proofs.OnePlace.{Numbered, by_value, by_values, gives_once, by_values_source}
 

@@ -12,18 +12,18 @@ use Rattle.relax_edges.specs.declared.kinds.Dir.{Dir}
 use Rattle.relax_edges.specs.declared.kinds.Dir.TheVariants as dirs
 use Rattle.relax_edges.specs.declared.edge.Edge.{Edge}
 use Rattle.relax_edges.specs.EdgeTable.{source_of, is_diff, same_dir}
-use Rattle.resolution_laws.specs.Resolution.{edge_at, location_of, move_count, moves_before, event_after}
-use Rattle.resolution_laws.proofs.EdgeCounts.{counted_on, counted_kept, counted_up, passing}
-use Rattle.resolution_laws.proofs.Locations.{moves-zero, moves_on, moves_end}
-use Rattle.resolution_laws.proofs.Arcs.{same_moves}
-use Rattle.resolution_laws.proofs.Around.{by_after}
-use Rattle.value_laws.specs.Values.{is_write, is_write_at, way_place, value_of, write_count}
-use Rattle.value_laws.proofs.Ways.{way_after, way_ahead}
+use Rattle.cycle_events.specs.Resolution.{edge_at, location_of, move_count, moves_before, event_after}
+use Rattle.cycle_events.proofs.EdgeCounts.{counted_on, counted_kept, counted_up, passing}
+use Rattle.cycle_events.proofs.Locations.{moves-zero, moves_on, moves_end}
+use Rattle.cycle_events.proofs.Arcs.{same_moves}
+use Rattle.cycle_events.proofs.Around.{by_after}
+use Rattle.cycle_events.specs.Values.{is_write, is_write_at, way_place, value_of, write_count}
+use Rattle.cycle_events.proofs.Ways.{way_after, way_ahead}
 use Rattle.co_tests_laws.specs.CutResolution.{is_ordering, elsewhere, cut_open}
 use Rattle.co_tests_laws.specs.CoherenceTests.{writes_in}
 use Rattle.co_tests_laws.proofs.Opened.{source_same, elsewhere_moves, same_at, opened-length}
-use Rattle.communication_laws.proofs.Bridge.{is_writing}
-use Rattle.communication_laws.proofs.Resolves.{written_by}
+use Rattle.accesses_force_cycles.proofs.Bridge.{is_writing}
+use Rattle.accesses_force_cycles.proofs.Resolves.{written_by}
 
 -- the cut of a cycle: its first edge in a thread that is no communication, which leads elsewhere once the cycle is cut open
 pub record Cut (es : List Edge) : Type 0 where

@@ -3,8 +3,8 @@
 use Rattle.std.specs.Prelude.{◌≡◌, ℕ, ◌+◌, List, length, Some, slice_get}
 use Rattle.relax_edges.specs.declared.edge.Edge.{Edge}
 use Rattle.list_laws.specs.Numbers.{upto}
-use Rattle.cycle_laws.specs.Rotation.{rotated}
-use Rattle.value_laws.specs.Values.{value_of, writes_counted}
+use Rattle.edge_algebra_laws.specs.Rotation.{rotated}
+use Rattle.cycle_events.specs.Values.{value_of, writes_counted}
 use Rattle.arch_trait.specs.Threads.{Puts}
 use Rattle.co_tests_laws.specs.CutResolution.{cut_of, cut_open}
 use Rattle.co_tests_laws.specs.CoherenceTests.{HasCoherenceTest}

@@ -6,7 +6,7 @@ use Rattle.std.specs.Option.{option_map, option_or}
 use Rattle.relax_edges.specs.declared.kinds.ArchName.{ArchName}
 use Rattle.relax_edges.specs.declared.edge.Edge.{Edge}
 use Rattle.relax_edges.specs.EdgeTable.{is_diff, is_of_arch}
-use Rattle.resolution_laws.specs.Resolution.{external_count, turned}
+use Rattle.cycle_events.specs.Resolution.{external_count, turned}
 use Rattle.arch_trait.specs.Threads.{Puts}
 use Rattle.arch_trait.specs.Writing.{Writing, name_in}
 use Rattle.arch_trait.specs.SeenTests.{TestSeen}

@@ -8,15 +8,15 @@ use Rattle.relax_edges.specs.declared.kinds.Dir.TheVariants as dirs
 use Rattle.relax_edges.specs.declared.kinds.ObsMode.TheVariants.{Avoid}
 use Rattle.relax_edges.specs.declared.edge.Edge.{Edge}
 use Rattle.relax_edges.specs.EdgeTable.{source_of, same_dir, is_diff, is_of_arch}
-use Rattle.cycle_laws.specs.Composable.{IsCycle}
-use Rattle.resolution_laws.specs.Resolution.{ends_outside, external_count}
+use Rattle.edge_algebra_laws.specs.Composable.{IsCycle}
+use Rattle.cycle_events.specs.Resolution.{ends_outside, external_count}
 use Rattle.arch_trait.specs.declared.step.Step.{Step}
 use Rattle.arch_trait.specs.Threads.{Puts, shape_of}
 use Rattle.arch_trait.specs.SeenTests.{TestSeen}
 use Rattle.program_meaning.specs.Executions.{Execution}
 use Rattle.program_meaning.specs.Intended.{intended}
-use Rattle.test_laws.specs.CycleSteps.{cycle_steps}
-use Rattle.test_laws.specs.TestOf.{plain, test_of}
+use Rattle.tests_force_cycles.specs.CycleSteps.{cycle_steps}
+use Rattle.tests_force_cycles.specs.TestOf.{plain, test_of}
 use Rattle.co_tests_laws.specs.CutResolution.{is_ordering, cut_open}
 
 -- how many writes a cycle has

@@ -6,8 +6,8 @@ use Rattle.relax_edges.specs.declared.kinds.ArchName.{ArchName}
 use Rattle.relax_edges.specs.declared.edge.Edge.{Edge}
 use Rattle.final_cond.specs.declared.cond.Quantifier.TheVariants.{Exists}
 use Rattle.final_cond.specs.States.{Meets}
-use Rattle.cycle_laws.specs.Composable.{IsCycle}
-use Rattle.resolution_laws.specs.Resolution.{turned}
+use Rattle.edge_algebra_laws.specs.Composable.{IsCycle}
+use Rattle.cycle_events.specs.Resolution.{turned}
 use Rattle.arch_trait.specs.PlaceNames.{number_in}
 use Rattle.arch_trait.specs.Threads.{Puts}
 use Rattle.arch_trait.specs.Writing.{Writing, name_in}
@@ -19,9 +19,9 @@ use Rattle.program_meaning.specs.Accesses.{Access}
 use Rattle.program_meaning.specs.Executions.{Execution}
 use Rattle.program_meaning.specs.Programs.{IsCandidate, IsCoherentIn, accesses_in}
 use Rattle.program_meaning.specs.Standing.{AllStand}
-use Rattle.coherence_laws.specs.Relations.{IsPathOfSteps}
-use Rattle.test_laws.specs.FinalStates.{final_state}
-use Rattle.printed_test_laws.specs.Readings.{program_read}
+use Rattle.sc_and_interleavings.specs.Relations.{IsPathOfSteps}
+use Rattle.tests_force_cycles.specs.FinalStates.{final_state}
+use Rattle.bytes_force_cycles.specs.Readings.{program_read}
 use Rattle.co_tests_laws.specs.CoherenceTests.{HasCoherenceTest, coherence_test_of, incoherent_execution}
 use Rattle.co_tests_laws.specs.CoRefusals.{coherence_refusal_of}
 

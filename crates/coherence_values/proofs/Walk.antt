@@ -10,19 +10,19 @@ use Rattle.list_laws.specs.Numbers.{upto}
 use Rattle.list_laws.proofs.Cases.{by_test, by_less, by_same, by_option}
 use Rattle.list_laws.proofs.Counts.{count_upto_one_more, count_upto_same}
 use Rattle.list_laws.proofs.Numbers.{map-upto_more, length-map-upto, get_or-map-upto}
-use Rattle.resolution_laws.specs.declared.event.Event.{Event}
-use Rattle.resolution_laws.specs.Resolution.{move_count, edge_at, event_of, events_of, event_before, moves_before, location_of, slot_of, IsResolved}
-use Rattle.resolution_laws.proofs.Threads.{slot-zero, slot_in, slot_out}
-use Rattle.resolution_laws.proofs.Locations.{external_keeps, ends_with, moves-zero, moves_on, moves_kept, moves_most, moves_end, location_first, location_wrapped, location_kept}
-use Rattle.resolution_laws.proofs.Arcs.{several_locations, moved_location}
+use Rattle.cycle_events.specs.declared.event.Event.{Event}
+use Rattle.cycle_events.specs.Resolution.{move_count, edge_at, event_of, events_of, event_before, moves_before, location_of, slot_of, IsResolved}
+use Rattle.cycle_events.proofs.Threads.{slot-zero, slot_in, slot_out}
+use Rattle.cycle_events.proofs.Locations.{external_keeps, ends_with, moves-zero, moves_on, moves_kept, moves_most, moves_end, location_first, location_wrapped, location_kept}
+use Rattle.cycle_events.proofs.Arcs.{several_locations, moved_location}
 use Rattle.coherence_values.specs.declared.valued.Arc.{Arc}
-use Rattle.value_laws.specs.Values.{edge_into, is_write_at, way_place, value_of, write_count, write_at}
-use Rattle.value_laws.specs.Entries.{is_later_entry, first_entry, inner_entry, last_entry}
+use Rattle.cycle_events.specs.Values.{edge_into, is_write_at, way_place, value_of, write_count, write_at}
+use Rattle.cycle_events.specs.Entries.{is_later_entry, first_entry, inner_entry, last_entry}
 use Rattle.coherence_values.specs.Arc.{seen_of, writes_before, seen_with, LeadsOn, all_seen}
-use Rattle.value_laws.proofs.Along.{is_write, value_at_end, value_most, write_count_most}
-use Rattle.value_laws.proofs.Ways.{only_on_way}
-use Rattle.value_laws.proofs.Writes.{write_of, is_write_number, write_at_from, value_from}
-use Rattle.value_laws.proofs.Entries.{find_more}
+use Rattle.cycle_events.proofs.Along.{is_write, value_at_end, value_most, write_count_most}
+use Rattle.cycle_events.proofs.Ways.{only_on_way}
+use Rattle.cycle_events.proofs.Writes.{write_of, is_write_number, write_at_from, value_from}
+use Rattle.cycle_events.proofs.Entries.{find_more}
 
 -- an arc with one event more
 abbrev pub arc_with : Arc → ℕ → Event → Arc

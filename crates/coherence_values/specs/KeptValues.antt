@@ -1,7 +1,7 @@
 -- What a valued cycle keeps beside its edges.
 use Rattle.std.specs.Prelude.{◌≡◌, ℕ, List}
 use Rattle.relax_edges.specs.declared.edge.Edge.{Edge}
-use Rattle.resolution_laws.specs.Resolution.{IsResolved}
+use Rattle.cycle_events.specs.Resolution.{IsResolved}
 use Rattle.coherence_values.specs.declared.valued.Arc.{Arc}
 use Rattle.coherence_values.specs.Arc.{values_of, all_seen}
 

@@ -3,5 +3,5 @@
 
 mod valued;
 
-pub use value_laws::{NeedsObserver, arc_laws};
+pub use cycle_events::{NeedsObserver, arc_laws};
 pub use valued::{Valued, value, value_unobserved};

@@ -1,15 +1,15 @@
 ghost use Rattle.std.specs.Prelude.{◌≡◌, ◌+◌, ◌-◌, ◌<◌, ◌≤◌, ◌==◌, ◌&&◌, true, [], length, Some};
 ghost use Rattle.relax_edges.specs.EdgeTable.{is_diff};
 ghost use Rattle.relax_edges.specs.declared.kinds.ObsMode.TheVariants.{Avoid};
-ghost use Rattle.resolution_laws.specs.Resolution.{edge_at, move_count, moves_before, IsResolved};
-ghost use Rattle.value_laws.specs.Values.{value_of, write_count, write_at, is_write_at, is_observed, valuation_of};
+ghost use Rattle.cycle_events.specs.Resolution.{edge_at, move_count, moves_before, IsResolved};
+ghost use Rattle.cycle_events.specs.Values.{value_of, write_count, write_at, is_write_at, is_observed, valuation_of};
 ghost use Rattle.coherence_values.specs.Arc.{LeadsOn, seen_of, writes_before, values_of, all_seen};
 
 use arrayvec::ArrayVec;
 use cycle_resolve::{Event, Resolved};
 use relax_edges::{Dir, MAX_EDGES, ObsMode};
 use std::marker::Model;
-use value_laws::NeedsObserver;
+use cycle_events::NeedsObserver;
 
 /// What a walk along a location's arc has seen of its writes.
 #[derive(Clone, Copy, Default)]
@@ -59,7 +59,7 @@ pub struct Valued<'a> {
 }
 
 impl<'a> Model for Valued<'a> {
-    ghost use Rattle.value_laws.specs.Values.{Valuation};
+    ghost use Rattle.cycle_events.specs.Values.{Valuation};
     ghost use Rattle.coherence_values.specs.KeptValues.{AreKeptValues};
 
     ghost Value = { Valuation };

@@ -5,8 +5,8 @@ use Rattle.std.proofs.lemmas.Bool.{and_parts, true≢false}
 use Rattle.std.proofs.lemmas.List.{take-append-drop}
 use Rattle.std.proofs.Math.Seq.{drop-cons}
 use Rattle.relax_edges.specs.JoinedEdges.{is_joined}
-use Rattle.cycle_laws.specs.Composable.{IsCycle, last_joins}
-use Rattle.cycle_laws.proofs.Composing.{joined_parts, joined_prefix}
+use Rattle.edge_algebra_laws.specs.Composable.{IsCycle, last_joins}
+use Rattle.edge_algebra_laws.proofs.Composing.{joined_parts, joined_prefix}
 
 -- of the edges that come after a list the first decides whether the last edge of the list joins them
 last_joins_head : (v u : List Edge) (x : Edge) → last_joins v (x ∷ u) ≡ last_joins v (x ∷ [])

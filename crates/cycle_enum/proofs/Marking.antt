@@ -5,9 +5,9 @@ use Rattle.std.proofs.Math.ListN.{replicate}
 use Rattle.relax_edges.specs.declared.order.TheConstants.{EDGES}
 use Rattle.relax_edges.specs.declared.edge.Edge.{Edge}
 use Rattle.relax_edges.specs.Order.{rank_of}
-use Rattle.cycle_laws.proofs.RankLaws.{rank_below}
-use Rattle.cycle_laws.proofs.Ordering.{by_rank}
-use Rattle.walk_laws.specs.Search.{OccursIn, IsIn}
+use Rattle.edge_algebra_laws.proofs.RankLaws.{rank_below}
+use Rattle.edge_algebra_laws.proofs.Ordering.{by_rank}
+use Rattle.cycle_enum_laws.specs.Search.{OccursIn, IsIn}
 use Rattle.cycle_enum.specs.LetterMarks.{IsMarked, MarksAlso, MarksAlphabet}
 
 -- one edge is marked

@@ -9,11 +9,11 @@ use Rattle.relax_edges.specs.EdgeTable.{same_dir, same_mark, source_of, source_m
 use Rattle.relax_edges.specs.declared.order.TheConstants.{EDGES}
 use Rattle.relax_edges.specs.declared.edge.Edge.{Edge}
 use Rattle.relax_edges.specs.Order.{rank_of}
-use Rattle.cycle_laws.proofs.Ordering.{by_rank}
-use Rattle.cycle_laws.proofs.RankLaws.{rank_below}
-use Rattle.cycle_laws.specs.Composable.{last_joins}
-use Rattle.walk_laws.specs.Search.{IsListCandidate, IsNextEdge, NoneBetween, OccursIn}
-use Rattle.walk_laws.proofs.Candidates.{unused_nowhere, unjoined_next, none_smaller}
+use Rattle.edge_algebra_laws.proofs.Ordering.{by_rank}
+use Rattle.edge_algebra_laws.proofs.RankLaws.{rank_below}
+use Rattle.edge_algebra_laws.specs.Composable.{last_joins}
+use Rattle.cycle_enum_laws.specs.Search.{IsListCandidate, IsNextEdge, NoneBetween, OccursIn}
+use Rattle.cycle_enum_laws.proofs.Candidates.{unused_nowhere, unjoined_next, none_smaller}
 use Rattle.cycle_enum.specs.declared.letter.Letter.{Letter}
 use Rattle.cycle_enum.specs.Letters.{NoLetter, IsFirstLetter, IsLetterFrom, OccursAndLeaves, least_rank}
 

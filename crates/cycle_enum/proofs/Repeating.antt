@@ -5,13 +5,13 @@ use Rattle.std.proofs.Math.Seq.{get_or-append_seam}
 use Rattle.std.proofs.lemmas.Bool.{cases_lt}
 use Rattle.relax_edges.specs.declared.edge.Edge.{Edge}
 use Rattle.relax_edges.specs.Order.{rank_of}
-use Rattle.cycle_laws.specs.CycleOrder.{Above, IsNormal}
-use Rattle.walk_laws.specs.Search.{LeadsNowhere}
+use Rattle.edge_algebra_laws.specs.CycleOrder.{Above, IsNormal}
+use Rattle.cycle_enum_laws.specs.Search.{LeadsNowhere}
 use Rattle.cycle_enum.specs.declared.prefix.Repeat.{Repeat}
 use Rattle.cycle_enum.specs.declared.prefix.Repeat.TheVariants.{First, Less}
 use Rattle.cycle_enum.specs.Repeats.{IsAtLeast, RepeatsFirst, IsRepeat, HasRepeats}
-use Rattle.cycle_laws.proofs.Ordering.{above_irreflexive, above_one_way, above_longer, above_before, by_rank}
-use Rattle.cycle_laws.proofs.Rotating.{before, remainder, cuts}
+use Rattle.edge_algebra_laws.proofs.Ordering.{above_irreflexive, above_one_way, above_longer, above_before, by_rank}
+use Rattle.edge_algebra_laws.proofs.Rotating.{before, remainder, cuts}
 
 -- a list is at least itself
 at_least_same : (u : List Edge) → IsAtLeast u u

@@ -8,7 +8,7 @@ use Rattle.relax_edges.specs.declared.kinds.Dir.{Dir}
 use Rattle.relax_edges.specs.declared.kinds.Mark.{Mark}
 use Rattle.relax_edges.specs.EdgeTable.{same_dir, same_mark, source_of, source_mark}
 use Rattle.relax_edges.specs.Order.{rank_of}
-use Rattle.walk_laws.specs.Search.{OccursIn, IsSingle}
+use Rattle.cycle_enum_laws.specs.Search.{OccursIn, IsSingle}
 use Rattle.cycle_enum.specs.LetterMarks.{MarksExactly}
 use Rattle.cycle_enum.specs.declared.letter.Letter.{Letter}
 

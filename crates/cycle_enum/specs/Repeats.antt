@@ -3,8 +3,8 @@
 use Rattle.std.specs.Prelude.{◌≡◌, ◌<◌, ◌+◌, ◌⊎◌, ⊤, ℕ, List, [], ◌∷◌, ◌++◌, length, take, get_or}
 use Rattle.relax_edges.specs.declared.edge.Edge.{Edge}
 use Rattle.relax_edges.specs.Order.{rank_of}
-use Rattle.cycle_laws.specs.CycleOrder.{Above, IsNormal}
-use Rattle.walk_laws.specs.Search.{LeadsNowhere}
+use Rattle.edge_algebra_laws.specs.CycleOrder.{Above, IsNormal}
+use Rattle.cycle_enum_laws.specs.Search.{LeadsNowhere}
 use Rattle.cycle_enum.specs.declared.prefix.Repeat.{Repeat}
 use Rattle.cycle_enum.specs.declared.prefix.Repeat.TheVariants.{First, Less}
 

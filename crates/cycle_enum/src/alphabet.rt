@@ -1,9 +1,9 @@
 ghost use Rattle.std.specs.Prelude.{◌≡◌, ◌<◌, ◌≤◌, ◌↔◌, ◌∷◌, [], IsTrue, IsFalse, IfSome, length, map, option_map, true};
 ghost use Rattle.std.specs.List.{AllByRecursion};
 ghost use Rattle.relax_edges.specs.Order.{rank_of};
-ghost use Rattle.cycle_laws.specs.Composable.{IsCycle, last_joins};
-ghost use Rattle.walk_laws.specs.Listing.{IsMadeOf};
-ghost use Rattle.walk_laws.specs.Search.{IsListCandidate, IsExtended, IsNextEdge, IsRaised, IsSingle, LeadsNowhere, OccursIn};
+ghost use Rattle.edge_algebra_laws.specs.Composable.{IsCycle, last_joins};
+ghost use Rattle.cycle_enum_laws.specs.Listing.{IsMadeOf};
+ghost use Rattle.cycle_enum_laws.specs.Search.{IsListCandidate, IsExtended, IsNextEdge, IsRaised, IsSingle, LeadsNowhere, OccursIn};
 ghost use Rattle.cycle_enum.specs.Letters.{IsLetter, IsLetterFrom, OccursAndLeaves, least_rank};
 
 use crate::letter::Letter;
@@ -56,7 +56,7 @@ impl Alphabet {
 
     /// Passes over the list and all that begin with it: goes on to the first list in order after
     /// these whose last edge may follow the others. The list is empty where there is none.
-    #[tactic(auto, using(cycle_laws::proofs::RankLaws::rank_below))]
+    #[tactic(auto, using(edge_algebra_laws::proofs::RankLaws::rank_below))]
     pub(crate) fn raise(&self, list: &mut Prefix)
         ensures { IsRaised (IsListCandidate self.now) list.old list.new }
     {

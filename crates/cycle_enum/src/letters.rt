@@ -1,6 +1,6 @@
 ghost use Rattle.std.specs.Prelude.{◌≡◌, ◌<◌, ◌+◌};
 ghost use Rattle.std.specs.List.{list_all};
-ghost use Rattle.walk_laws.specs.Search.{OccursIn};
+ghost use Rattle.cycle_enum_laws.specs.Search.{OccursIn};
 ghost use Rattle.cycle_enum.specs.Letters.{HasLettersFrom, IsLetterFrom};
 ghost use Rattle.cycle_enum.specs.LetterMarks.{is_marked_at, IsMarked, MarksAlphabet, MarksAlso, MarksExactly};
 

@@ -2,9 +2,9 @@ ghost use Rattle.std.specs.Prelude.{◌≡◌, ◌<◌, ◌≤◌, ◌+◌, ◌�
 ghost use Rattle.relax_edges.specs.Order.{rank_of};
 ghost use Rattle.relax_edges.specs.JoinedEdges.{is_joined};
 ghost use Rattle.relax_edges.specs.declared.edge.Edge.{Edge as EdgeValue};
-ghost use Rattle.cycle_laws.specs.Composable.{last_joins};
-ghost use Rattle.cycle_laws.specs.CycleOrder.{IsNormal};
-ghost use Rattle.walk_laws.specs.Search.{LeadsNowhere};
+ghost use Rattle.edge_algebra_laws.specs.Composable.{last_joins};
+ghost use Rattle.edge_algebra_laws.specs.CycleOrder.{IsNormal};
+ghost use Rattle.cycle_enum_laws.specs.Search.{LeadsNowhere};
 ghost use Rattle.cycle_enum.specs.Letters.{IsLetter};
 ghost use Rattle.cycle_enum.specs.Repeats.{NoneLess, IsRepeat};
 ghost use Rattle.cycle_enum.specs.declared.prefix.Repeat.TheVariants.{First, Less};

@@ -1,12 +1,12 @@
 ghost use Rattle.std.specs.Prelude.{◌≡◌, ◌<◌, ◌≤◌, ◌⊎◌, [], Some, None, IfSome, IfNone, MatchOption, IsTrue, IsFalse, length, map, true};
-ghost use Rattle.walk_laws.specs.Asked.{KeptBelow, KeptWhole};
-ghost use Rattle.walk_laws.specs.Counting.{later};
-ghost use Rattle.walk_laws.specs.Listing.{IsAnswer, KeepsLimits};
+ghost use Rattle.cycle_enum_laws.specs.Asked.{KeptBelow, KeptWhole};
+ghost use Rattle.cycle_enum_laws.specs.Counting.{later};
+ghost use Rattle.cycle_enum_laws.specs.Listing.{IsAnswer, KeepsLimits};
 ghost use Rattle.relax_edges.specs.Order.{rank_of};
 ghost use Rattle.relax_edges.specs.JoinedEdges.{is_joined};
-ghost use Rattle.cycle_laws.specs.Composable.{IsCycle};
-ghost use Rattle.cycle_laws.specs.CycleOrder.{IsLeast, IsNormal};
-ghost use Rattle.walk_laws.specs.Search.{IsCut, IsFirst, LeadsNowhere, LongerThan, OfLength};
+ghost use Rattle.edge_algebra_laws.specs.Composable.{IsCycle};
+ghost use Rattle.edge_algebra_laws.specs.CycleOrder.{IsLeast, IsNormal};
+ghost use Rattle.cycle_enum_laws.specs.Search.{IsCut, IsFirst, LeadsNowhere, LongerThan, OfLength};
 ghost use Rattle.cycle_enum.specs.Walking.{KeepsList, KnowsOf, Lists};
 ghost use Rattle.cycle_enum.specs.WalkEnds.{IsAtLast};
 

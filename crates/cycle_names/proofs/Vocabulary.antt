@@ -17,17 +17,17 @@ pub use Rattle.std.specs.Prelude.{Bool, Err, IsOk, List, MatchOption, None, Ok, 
 pub use Rattle.std.specs.Str.{bytes_eq}
 pub use Rattle.std.specs.declared.cmp.Ordering.{Ordering}
 pub use Rattle.std.specs.declared.cmp.Ordering.TheVariants.{Equal, Greater, Less}
-pub use Rattle.cycle_laws.proofs.Joining.{joined_marks, same_dir_is, same_mark_is}
-pub use Rattle.cycle_laws.proofs.Laws.{cycle_of_rotation}
-pub use Rattle.cycle_laws.proofs.Marks.{marked_edge_is, marked_edge_of}
-pub use Rattle.cycle_laws.proofs.Ordering.{above_of_ranks}
-pub use Rattle.cycle_laws.proofs.RankLaws.{each_edge, rank_below, rank_injective}
-pub use Rattle.cycle_laws.proofs.Rotating.{place_of_rotation, rotation_back, rotation_length, rotation_of_place, rotation_on, rotation_same}
-pub use Rattle.cycle_laws.proofs.SpellingLaws.{edge_of-word_of, word_short}
-pub use Rattle.cycle_laws.proofs.Turning.{IsStepwise, stepwise_turned}
-pub use Rattle.cycle_laws.specs.Composable.{IsCycle, first_break, is_closed}
-pub use Rattle.cycle_laws.specs.CycleOrder.{IsLeast, ranks_below}
-pub use Rattle.cycle_laws.specs.Rotation.{IsRotation, rotated}
+pub use Rattle.edge_algebra_laws.proofs.Joining.{joined_marks, same_dir_is, same_mark_is}
+pub use Rattle.edge_algebra_laws.proofs.Laws.{cycle_of_rotation}
+pub use Rattle.edge_algebra_laws.proofs.Marks.{marked_edge_is, marked_edge_of}
+pub use Rattle.edge_algebra_laws.proofs.Ordering.{above_of_ranks}
+pub use Rattle.edge_algebra_laws.proofs.RankLaws.{each_edge, rank_below, rank_injective}
+pub use Rattle.edge_algebra_laws.proofs.Rotating.{place_of_rotation, rotation_back, rotation_length, rotation_of_place, rotation_on, rotation_same}
+pub use Rattle.edge_algebra_laws.proofs.SpellingLaws.{edge_of-word_of, word_short}
+pub use Rattle.edge_algebra_laws.proofs.Turning.{IsStepwise, stepwise_turned}
+pub use Rattle.edge_algebra_laws.specs.Composable.{IsCycle, first_break, is_closed}
+pub use Rattle.edge_algebra_laws.specs.CycleOrder.{IsLeast, ranks_below}
+pub use Rattle.edge_algebra_laws.specs.Rotation.{IsRotation, rotated}
 pub use Rattle.cycle_names.specs.CycleNames.{after_plus, all_equal, plural}
 unfoldable pub use Rattle.cycle_names.specs.CycleNames.{links_text, name_from, name_of}
 pub use Rattle.cycle_names.specs.Families.{all_families, family_edges, family_word}
@@ -73,5 +73,5 @@ pub use Rattle.relax_edges.specs.declared.kinds.Mark.TheVariants.{Plain}
 pub use Rattle.relax_edges.specs.declared.kinds.Reach.TheVariants.{Internal}
 pub use Rattle.relax_edges.specs.declared.kinds.Sd.TheVariants.{Diff}
 pub use Rattle.relax_edges.specs.declared.order.TheConstants.{EDGES}
-pub use Rattle.text_laws.proofs.PieceLaws.{split_off, split_whole}
-pub use Rattle.text_laws.specs.Names.{is_name_byte}
+pub use Rattle.text_parts_laws.proofs.PieceLaws.{split_off, split_whole}
+pub use Rattle.text_parts_laws.specs.Names.{is_name_byte}

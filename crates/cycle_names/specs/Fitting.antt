@@ -20,8 +20,8 @@ use Rattle.relax_edges.specs.EdgeTable.{kind_of, source_mark, target_mark, is_di
 use Rattle.relax_edges.specs.NamedEdges.{pod, rfe, fre, wse}
 use Rattle.relax_edges.specs.Order.{pick_rank}
 use Rattle.relax_edges.specs.Relaxations.{is_same}
-use Rattle.cycle_laws.specs.Rotation.{rotated}
-use Rattle.cycle_laws.specs.CycleOrder.{ranks_below}
+use Rattle.edge_algebra_laws.specs.Rotation.{rotated}
+use Rattle.edge_algebra_laws.specs.CycleOrder.{ranks_below}
 use Rattle.cycle_names.specs.declared.link.TheConstants.{DATA_PLACE, PO_PLACE}
 use Rattle.cycle_names.specs.declared.slot.Slot.{Slot}
 use Rattle.cycle_names.specs.declared.slot.Slot.TheVariants as slots

@@ -10,8 +10,8 @@ use Rattle.relax_edges.specs.EdgeTable.{target_mark, same_mark, is_external}
 use Rattle.relax_edges.specs.Order.{rank_of}
 use Rattle.relax_edges.specs.Relaxations.{is_same}
 use Rattle.list_laws.specs.Numbers.{upto}
-use Rattle.cycle_laws.specs.Rotation.{rotated}
-use Rattle.cycle_laws.specs.CycleOrder.{ranks_below}
+use Rattle.edge_algebra_laws.specs.Rotation.{rotated}
+use Rattle.edge_algebra_laws.specs.CycleOrder.{ranks_below}
 use Rattle.cycle_names.specs.declared.family.Family.{Family}
 use Rattle.cycle_names.specs.declared.family.Family.TheVariants as families
 use Rattle.cycle_names.specs.Families.{family_edges, all_families}

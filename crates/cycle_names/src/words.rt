@@ -2,7 +2,7 @@ ghost use Rattle.std.specs.Prelude.{◌≡◌, ◌+◌, ◌*◌, ◌<◌, ◌≤
 ghost use Rattle.std.specs.List.{find, list_all, flat_map, join_by};
 ghost use Rattle.relax_edges.specs.EdgeTable.{is_diff};
 ghost use Rattle.relax_edges.specs.WordParts.{word_of};
-ghost use Rattle.cycle_laws.specs.Rotation.{rotated};
+ghost use Rattle.edge_algebra_laws.specs.Rotation.{rotated};
 ghost use Rattle.cycle_names.specs.LinkWords.{link_words};
 ghost use Rattle.cycle_names.specs.CycleNames.{links_text};
 ghost use Rattle.cycle_names.specs.Fitting.{link_text, has_word_place, separator_text};

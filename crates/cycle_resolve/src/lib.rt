@@ -3,5 +3,5 @@
 
 mod resolved;
 
-pub use resolution_laws::{Event, ResolveError};
+pub use cycle_events::{Event, ResolveError};
 pub use resolved::{Resolved, resolve};

@@ -1,12 +1,12 @@
 ghost use Rattle.std.specs.Prelude.{◌≡◌, ◌≤◌, ◌<◌, false, [], length, IfOk, position};
-ghost use Rattle.cycle_laws.specs.Rotation.{rotated};
+ghost use Rattle.edge_algebra_laws.specs.Rotation.{rotated};
 ghost use Rattle.relax_edges.specs.EdgeTable.{is_external};
-ghost use Rattle.resolution_laws.specs.Resolution.{external_count, move_count, ends_outside, turned, event_of, events_of, is_coherence_only, resolution_of, IsResolved};
+ghost use Rattle.cycle_events.specs.Resolution.{external_count, move_count, ends_outside, turned, event_of, events_of, is_coherence_only, resolution_of, IsResolved};
 
 use arrayvec::ArrayVec;
 use edge_algebra::Cycle;
 use relax_edges::{Edge, MAX_EDGES};
-use resolution_laws::{Event, ResolveError};
+use cycle_events::{Event, ResolveError};
 use std::marker::Model;
 
 /// A cycle whose last edge is external, with the events of its edges.

@@ -15,8 +15,8 @@ use Rattle.relax_edges.specs.declared.order.TheConstants.{EDGES}
 use Rattle.relax_edges.specs.declared.edge.Edge.{Edge}
 use Rattle.relax_edges.specs.AllEdges.{edges_in_order}
 use Rattle.relax_edges.specs.Order.{rank_of}
-use Rattle.cycle_laws.proofs.RankLaws.{placed, edges-length}
-use Rattle.family_laws.specs.Filled.{is_choice}
+use Rattle.edge_algebra_laws.proofs.RankLaws.{placed, edges-length}
+use Rattle.demo_tests.specs.Filled.{is_choice}
 use Rattle.demo_tests.specs.FilledLinks.{choices_of}
 
 -- there are 1 to 16 choices for each link

@@ -3,10 +3,10 @@ use Rattle.std.proofs.Common.{◌≡◌, ◌≤◌, List, length, None, arith}
 use Rattle.std.proofs.lemmas.Bool.Decides.{nat_tests}
 use Rattle.relax_edges.specs.declared.kinds.ObsMode.{ObsMode}
 use Rattle.relax_edges.specs.declared.edge.Edge.{Edge}
-use Rattle.cycle_laws.specs.Composable.{IsCycle}
+use Rattle.edge_algebra_laws.specs.Composable.{IsCycle}
 use Rattle.cycle_names.specs.CycleNames.{name_of}
 use Rattle.cycle_names.proofs.NameLaws.{names_of_cycles}
-use Rattle.resolution_laws.specs.Resolution.{turned}
+use Rattle.cycle_events.specs.Resolution.{turned}
 use Rattle.arch_trait.specs.Cells.{WritesCells, MakesOneAccess}
 use Rattle.arch_trait.specs.Laws.{IsArch}
 use Rattle.arch_trait.specs.Threads.{Puts}
@@ -16,7 +16,7 @@ use Rattle.litmus_text.specs.Printable.{IsTestName}
 use Rattle.test_maker.specs.CycleText.{cycle_text}
 use Rattle.test_maker.specs.Refusals.{refusal_of}
 use Rattle.test_maker.proofs.HavingTests.{accepted_has_test}
-use Rattle.printed_test_laws.proofs.Readable.{readable}
+use Rattle.bytes_force_cycles.proofs.Readable.{readable}
 
 -- the name of a cycle is one of a test
 pub cycle_named : (cycle : List Edge) → IsCycle cycle → IsTestName (name_of cycle)

@@ -13,14 +13,14 @@ use Rattle.relax_edges.specs.declared.kinds.Mark.TheVariants.{Plain, Acquire, Re
 use Rattle.relax_edges.specs.declared.edge.Edge.{Edge}
 use Rattle.relax_edges.specs.EdgeTable.{source_of, target_of, source_mark, target_mark, same_dir, same_mark, is_external}
 use Rattle.relax_edges.specs.JoinedEdges.{is_joined}
-use Rattle.cycle_laws.specs.Composable.{IsCycle, is_closed}
+use Rattle.edge_algebra_laws.specs.Composable.{IsCycle, is_closed}
 use Rattle.cycle_names.specs.declared.family.Family.{Family}
 use Rattle.cycle_names.specs.Families.{all_families, family_edges}
 use Rattle.demo_tests.specs.Draws.{drawn, next_seed}
-use Rattle.family_laws.specs.Filled.{is_choice, IsFilled}
+use Rattle.demo_tests.specs.Filled.{is_choice, IsFilled}
 use Rattle.demo_tests.specs.FilledLinks.{IsFamilyCycle, choices_of, choice_of, edge_for, seed_past, links_filled}
 use Rattle.demo_tests.proofs.ChoiceLaws.{some_choices}
-use Rattle.cycle_laws.proofs.Joining.{same_dir_is}
+use Rattle.edge_algebra_laws.proofs.Joining.{same_dir_is}
 
 -- what is picked is a choice
 choice_is_one : (arch : ArchName) (n : ℕ) (link : Edge) → is_choice arch (source_of link) (target_of link) (choice_of arch n link) ≡ true

@@ -5,3 +5,7 @@ pub mod FamilyCycleLaws
 pub mod Texts
 pub mod LineLaws
 pub mod TallyLaws
+pub mod BareCycles
+pub mod FamilyRooms
+pub mod FamilySlots
+pub mod FamilyTests

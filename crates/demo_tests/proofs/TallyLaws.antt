@@ -27,7 +27,7 @@ use Rattle.test_maker.specs.Refusals.{refusal_of}
 use Rattle.demo_tests.proofs.Cycles.{cycle_text_short}
 use Rattle.demo_tests.specs.declared.tally.TestTally.{TestTally}
 use Rattle.demo_tests.specs.TestCounting.{nothing_counted, test_counted, text_tally, Fits}
-use Rattle.family_laws.specs.Filled.{MakesAll}
+use Rattle.demo_tests.specs.Filled.{MakesAll}
 use Rattle.demo_tests.specs.FilledLinks.{IsFamilyCycle, links_filled, seed_after}
 use Rattle.demo_tests.specs.DemoText.{demo_text, family_lines, tally_line}
 use Rattle.demo_tests.specs.Tallies.{family_tally_place, slots_of, seed_of, numbered_cycle, numbered_text, family_numbers, tally_of_tests, family_tallies}

@@ -9,7 +9,7 @@ use Rattle.relax_edges.specs.EdgeTable.{source_of, target_of, is_external}
 use Rattle.relax_edges.specs.AllEdges.{edges_in_order}
 use Rattle.cycle_names.specs.declared.family.Family.{Family}
 use Rattle.cycle_names.specs.Families.{all_families, family_edges}
-use Rattle.family_laws.specs.Filled.{is_choice}
+use Rattle.demo_tests.specs.Filled.{is_choice}
 use Rattle.demo_tests.specs.Draws.{drawn, next_seed}
 
 -- the edges of the cycle of a family of the table

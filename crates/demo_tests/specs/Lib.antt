@@ -4,3 +4,4 @@ pub mod TestCounting
 pub mod Tallies
 pub mod DemoText
 pub mod CycleTexts
+pub mod Filled

@@ -1,6 +1,6 @@
 ghost use Rattle.std.specs.Prelude.{◌≡◌, ◌<◌, ◌++◌, true, if◌then◌else◌, length, [], ◌∷◌};
 ghost use Rattle.relax_edges.specs.declared.kinds.Dir.TheVariants.{R, W};
-ghost use Rattle.family_laws.specs.Filled.{is_choice};
+ghost use Rattle.demo_tests.specs.Filled.{is_choice};
 ghost use Rattle.demo_tests.specs.FilledLinks.{choice_of, choices_of};
 
 use arrayvec::ArrayVec;
@@ -88,7 +88,7 @@ fn add_choice(arch: ArchName, from: Dir, to: Dir, edge: Edge, choices: &mut Link
 }
 
 /// Whether an edge is a choice for a link from an access to another.
-#[tactic(auto, unfolding(family_laws::specs::Filled::is_choice))]
+#[tactic(auto, unfolding(crate::specs::Filled::is_choice))]
 fn is_choice(arch: ArchName, from: Dir, to: Dir, edge: Edge) -> bool
     ensures { result ≡ is_choice arch from to edge }
 {

@@ -6,3 +6,7 @@ pub mod FilesLaws
 pub mod EntriesLaws
 pub mod ShelfLaws
 pub mod PageLemmas
+pub mod OpenedLaws
+pub mod FileNameLaws
+pub mod FileFaultLaws
+pub mod ConsumedLaws

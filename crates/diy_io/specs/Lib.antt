@@ -17,3 +17,4 @@ pub mod MemFiles
 pub mod MemEntries
 pub mod MemShelf
 pub mod DirShelf
+pub mod Opened

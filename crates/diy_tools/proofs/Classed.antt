@@ -3,7 +3,7 @@ use Rattle.std.proofs.Common.{◌≡◌, ℕ, List, [], ◌∷◌, length, Ok, r
 use Rattle.std.specs.Prelude.{Result, ◌==◌, true, false}
 use Rattle.std.proofs.lemmas.Bool.{eqb-true}
 use Rattle.relax_edges.specs.declared.kinds.ArchName.{ArchName}
-use Rattle.classified_files.specs.declared.errors.FilesEnd.TheVariants as ends
+use Rattle.tests_from_files.specs.declared.classified_errors.FilesEnd.TheVariants as ends
 use Rattle.diy_io.specs.Shelf.{ShelfSeen}
 use Rattle.diy_io.specs.Taken.{SourceSeen}
 use Rattle.diy_io.specs.Wrote.{SinkSeen}

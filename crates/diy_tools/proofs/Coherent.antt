@@ -2,8 +2,8 @@
 use Rattle.std.proofs.Common.{◌≡◌, ℕ, List, Option, refl, sym, subst, Ok}
 use Rattle.std.specs.Prelude.{Result}
 use Rattle.relax_edges.specs.declared.kinds.ArchName.{ArchName}
-use Rattle.edge_lists.specs.declared.list.EdgeList.{EdgeList}
-use Rattle.edge_lists.specs.KeptEdges.{kept_edges}
+use Rattle.edges_from_text.specs.declared.list.EdgeList.{EdgeList}
+use Rattle.edges_from_text.specs.KeptEdges.{kept_edges}
 use Rattle.diy_io.specs.Shelf.{ShelfSeen}
 use Rattle.diy_io.specs.Taken.{SourceSeen}
 use Rattle.diy_io.specs.Wrote.{SinkSeen}

@@ -9,27 +9,27 @@ use Rattle.std.proofs.lemmas.Bool.{and_parts}
 use Rattle.std.proofs.lemmas.Option.{slice_get-get_or, slice_get_within, get_or_from_slice_get, same_Some}
 use Rattle.relax_edges.specs.declared.edge.Edge.{Edge}
 use Rattle.relax_edges.specs.declared.kinds.ArchName.{ArchName}
-use Rattle.cycle_lines.specs.declared.errors.LineKind.{LineKind}
-use Rattle.cycle_lines.specs.declared.errors.LinesError.{LinesError}
-use Rattle.cycle_lines.specs.declared.errors.LinesError.TheVariants as lines
-use Rattle.cycle_lines.specs.declared.errors.NormError.{NormError}
-use Rattle.cycle_lines.specs.declared.errors.NormError.TheVariants as norms
-use Rattle.cycle_lines.specs.declared.errors.ClassifyError.{ClassifyError}
-use Rattle.cycle_lines.specs.declared.errors.ClassifyError.TheVariants as classifies
-use Rattle.cycle_lines.specs.Classified.{Classifies}
-use Rattle.cycle_lines.specs.Cycles.{is_sound, line_said}
-use Rattle.cycle_lines.specs.Normed.{Norms, name_line}
-use Rattle.cycle_lines.specs.LineReading.{ReadUpTo, ReadToFault, ReadToLimit, whole_of}
-use Rattle.classified_files.specs.declared.errors.FileError.{FileError}
-use Rattle.classified_files.specs.declared.errors.FilesEnd.{FilesEnd}
-use Rattle.classified_files.specs.declared.errors.FilesEnd.TheVariants as classing
-use Rattle.classified_files.specs.FilesEnds.{AreNamed, FileWrong, FilesClassified, IsAtPlace, SayCycles, said_on}
-use Rattle.file_laws.specs.Opened.{name_at}
-use Rattle.classified_files.specs.FilesEnds as classed
-use Rattle.checked_files.specs.declared.errors.CheckEnd.{CheckEnd}
-use Rattle.checked_files.specs.declared.errors.CheckEnd.TheVariants as checking
-use Rattle.checked_files.specs.FilesChecked.{AreTestAndExecution, FilesChecked}
-use Rattle.checked_files.specs.CheckedLaws.{right_files_done}
+use Rattle.cycles_from_lines.specs.declared.errors.LineKind.{LineKind}
+use Rattle.cycles_from_lines.specs.declared.errors.LinesError.{LinesError}
+use Rattle.cycles_from_lines.specs.declared.errors.LinesError.TheVariants as lines
+use Rattle.cycles_from_lines.specs.declared.errors.NormError.{NormError}
+use Rattle.cycles_from_lines.specs.declared.errors.NormError.TheVariants as norms
+use Rattle.cycles_from_lines.specs.declared.errors.ClassifyError.{ClassifyError}
+use Rattle.cycles_from_lines.specs.declared.errors.ClassifyError.TheVariants as classifies
+use Rattle.cycles_from_lines.specs.Classified.{Classifies}
+use Rattle.cycles_from_lines.specs.Cycles.{is_sound, line_said}
+use Rattle.cycles_from_lines.specs.Normed.{Norms, name_line}
+use Rattle.cycles_from_lines.specs.LineReading.{ReadUpTo, ReadToFault, ReadToLimit, whole_of}
+use Rattle.tests_from_files.specs.declared.classified_errors.FileError.{FileError}
+use Rattle.tests_from_files.specs.declared.classified_errors.FilesEnd.{FilesEnd}
+use Rattle.tests_from_files.specs.declared.classified_errors.FilesEnd.TheVariants as classing
+use Rattle.tests_from_files.specs.FilesEnds.{AreNamed, FileWrong, FilesClassified, IsAtPlace, SayCycles, said_on}
+use Rattle.diy_io.specs.Opened.{name_at}
+use Rattle.tests_from_files.specs.FilesEnds as classed
+use Rattle.exec_check.specs.declared.checked_errors.CheckEnd.{CheckEnd}
+use Rattle.exec_check.specs.declared.checked_errors.CheckEnd.TheVariants as checking
+use Rattle.exec_check.specs.FilesChecked.{AreTestAndExecution, FilesChecked}
+use Rattle.exec_check.specs.CheckedLaws.{right_files_done}
 use Rattle.diy_io.specs.declared.source.TheConstants.{MAX_INPUT}
 use Rattle.diy_io.specs.Count.{Rose}
 use Rattle.diy_io.specs.Shelf.{Files, ShelfSeen}
@@ -40,16 +40,16 @@ use Rattle.diy_words.specs.Requests.{Task, ListTask, Sought, asked_of}
 use Rattle.diy_words.specs.Requests.{AsksTest, AsksWhy, AsksCoherence, WhyTask, AsksName, AsksList, AsksFamilies, AsksSum, AsksCross, AsksDemo, AsksCheck, OfEdges, OfName, OfLines, CrossTask}
 use Rattle.diy_words.specs.declared.request.Demo.{Demo}
 use Rattle.diy_words.specs.declared.request.Check.{Check}
-use Rattle.listed_tests.specs.declared.ending.ListingEnd.{ListingEnd}
-use Rattle.listed_tests.specs.declared.ending.ListingEnd.TheVariants as listings
+use Rattle.tests_to_files.specs.declared.ending.ListingEnd.{ListingEnd}
+use Rattle.tests_to_files.specs.declared.ending.ListingEnd.TheVariants as listings
 use Rattle.log_sum.specs.declared.errors.LogError.{LogError}
 use Rattle.log_sum.specs.Representing.{logs_text}
-use Rattle.summed_files.specs.declared.sum_end.SumEnd.{SumEnd}
-use Rattle.summed_files.specs.declared.sum_end.SumEnd.TheVariants as sums
-use Rattle.summed_files.specs.Logs.{IsText, IsShort, IsTooMuch, AreWholeLogs}
-use Rattle.file_laws.specs.Opened.{IsFile}
-use Rattle.summed_files.specs.SumEnds.{AreLogs, IsAtWord, FilesSummed, InputWrong, FileTooMuch, LogFileMissing}
-use Rattle.summed_files.specs.SumEnds as summed
+use Rattle.msum7_files.specs.declared.sum_end.SumEnd.{SumEnd}
+use Rattle.msum7_files.specs.declared.sum_end.SumEnd.TheVariants as sums
+use Rattle.msum7_files.specs.Logs.{IsText, IsShort, IsTooMuch, AreWholeLogs}
+use Rattle.diy_io.specs.Opened.{IsFile}
+use Rattle.msum7_files.specs.SumEnds.{AreLogs, IsAtWord, FilesSummed, InputWrong, FileTooMuch, LogFileMissing}
+use Rattle.msum7_files.specs.SumEnds as summed
 use Rattle.diy_tools.specs.declared.status.Status.{Status}
 use Rattle.diy_tools.specs.declared.status.Refusal.{Refusal}
 use Rattle.diy_tools.proofs.Opened.{long_taken}

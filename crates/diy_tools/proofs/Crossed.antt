@@ -12,11 +12,11 @@ use Rattle.diy_words.specs.declared.request.Request.TheVariants as requests
 use Rattle.diy_words.specs.declared.usage.Usage.{Usage}
 use Rattle.diy_words.specs.Given.{GivesTask}
 use Rattle.diy_words.specs.Requests.{Task, AsksCross, IsCrossing, places_of}
-use Rattle.listed_tests.specs.declared.ending.ListingEnd.{ListingEnd}
-use Rattle.listed_tests.specs.declared.ending.ListingEnd.TheVariants as ends
-use Rattle.listed_tests.specs.GivenCycles.{EndsGiven}
-use Rattle.listed_tests.specs.Plans.{named_text}
-use Rattle.crossed_cycles.specs.Choices.{crossed}
+use Rattle.tests_to_files.specs.declared.ending.ListingEnd.{ListingEnd}
+use Rattle.tests_to_files.specs.declared.ending.ListingEnd.TheVariants as ends
+use Rattle.tests_to_files.specs.GivenCycles.{EndsGiven}
+use Rattle.tests_to_files.specs.Plans.{named_text}
+use Rattle.diycross7_cycles.specs.Choices.{crossed}
 use Rattle.diy_tools.specs.declared.status.Status.{Status}
 use Rattle.diy_tools.specs.declared.status.Status.TheVariants.{NoMemory}
 use Rattle.diy_tools.specs.CrossAnswers.{AnswersChoices}

@@ -10,11 +10,11 @@ use Rattle.relax_edges.specs.declared.kinds.ArchName.TheVariants as archs
 use Rattle.relax_edges.specs.declared.kinds.ObsMode.{ObsMode}
 use Rattle.relax_edges.specs.declared.edge.Edge.{Edge}
 use Rattle.relax_edges.specs.EdgeTable.{is_of_arch}
-use Rattle.cycle_laws.specs.Composable.{IsCycle, first_break}
-use Rattle.cycle_laws.proofs.Composing.{unbroken_cycle}
+use Rattle.edge_algebra_laws.specs.Composable.{IsCycle, first_break}
+use Rattle.edge_algebra_laws.proofs.Composing.{unbroken_cycle}
 use Rattle.edge_algebra.specs.declared.errors.CycleError.TheVariants as composing
 use Rattle.edge_algebra.specs.Compose.{unbroken}
-use Rattle.resolution_laws.specs.Resolution.{turned}
+use Rattle.cycle_events.specs.Resolution.{turned}
 use Rattle.arch_trait.specs.Cells.{WritesCells, MakesOneAccess}
 use Rattle.arch_trait.specs.Laws.{IsArch}
 use Rattle.arch_trait.specs.Threads.{Puts}
@@ -42,10 +42,10 @@ use Rattle.cycle_names.specs.CycleNames.{name_of}
 use Rattle.diy_words.proofs.RequestForm.{asked_form}
 use Rattle.test_maker.specs.declared.refusal.MakeRefusal.{MakeRefusal}
 use Rattle.test_maker.specs.Refusals.{refusal_of}
-use Rattle.printed_test_laws.specs.PrintedHeadline.{BytesForce}
+use Rattle.bytes_force_cycles.specs.PrintedHeadline.{BytesForce}
 use Rattle.test_maker.proofs.HavingTests.{accepted_has_test}
 use Rattle.demo_tests.proofs.Cycles.{cycle_named}
-use Rattle.printed_test_laws.proofs.Printed.{printed_force}
+use Rattle.bytes_force_cycles.proofs.Printed.{printed_force}
 use Rattle.diy_tools.specs.declared.status.Refusal.{Refusal}
 use Rattle.diy_tools.specs.declared.status.Refusal.TheVariants as refusals
 use Rattle.diy_tools.specs.declared.status.Status.{Status}
@@ -61,14 +61,14 @@ use Rattle.co_tests_laws.specs.Incoherence.{BytesShowIncoherence}
 use Rattle.co_tests_laws.proofs.Accepted.{accepted_has_test as accepted_has_loop}
 use Rattle.co_tests_laws.proofs.Printed.{printed_show}
 use Rattle.diy_tools.specs.TestAnswers.{asked_text, test_name}
-use Rattle.crossed_cycles.specs.Laws.{IsCrossed}
-use Rattle.crossed_cycles.proofs.Crossing.{crosses_all}
+use Rattle.diycross7_cycles.specs.Laws.{IsCrossed}
+use Rattle.diycross7_cycles.proofs.Crossing.{crosses_all}
 use Rattle.diy_tools.specs.CrossAnswers.{AnswersCross}
 use Rattle.diy_tools.specs.ListAnswers.{AnswersList}
 use Rattle.diy_tools.specs.Answers.{Answers, AnswersAsked}
 use Rattle.diy_tools.specs.Devices.{Devices, DevicesSeen, devices}
 use Rattle.diy_tools.specs.Headline.{Headline, HeadlineAsked}
-use Rattle.listed_tests.specs.WantedLaws.{wanted_has_test}
+use Rattle.tests_to_files.specs.WantedLaws.{wanted_has_test}
 use Rattle.test_maker.specs.CycleText.{cycle_text}
 use Rattle.diy_tools.proofs.TestNames.{words_name}
 

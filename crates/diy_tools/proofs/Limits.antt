@@ -4,20 +4,20 @@ use Rattle.std.specs.Prelude.{Result, ◌⊎◌}
 use Rattle.diy_tools.proofs.Caused.{of_files}
 use Rattle.relax_edges.specs.declared.edge.Edge.{Edge}
 use Rattle.relax_edges.specs.declared.kinds.ArchName.{ArchName}
-use Rattle.cycle_lines.specs.declared.errors.LinesError.TheVariants as lines
-use Rattle.cycle_lines.specs.declared.errors.NormError.{NormError}
-use Rattle.cycle_lines.specs.declared.errors.NormError.TheVariants as norms
-use Rattle.cycle_lines.specs.declared.errors.ClassifyError.{ClassifyError}
-use Rattle.cycle_lines.specs.declared.errors.ClassifyError.TheVariants as classifies
-use Rattle.cycle_lines.specs.Classified.{Classifies}
-use Rattle.classified_files.specs.declared.errors.FilesEnd.{FilesEnd}
-use Rattle.classified_files.specs.declared.errors.FilesEnd.TheVariants as classing
-use Rattle.classified_files.proofs.FewLaws.{classified_few}
-use Rattle.checked_files.specs.declared.errors.CheckEnd.{CheckEnd}
-use Rattle.checked_files.specs.declared.errors.CheckEnd.TheVariants as checking
-use Rattle.checked_files.specs.CheckedLaws.{checked_few}
-use Rattle.cycle_lines.specs.Normed.{Norms}
-use Rattle.cycle_lines.specs.LineReading.{TookUpTo}
+use Rattle.cycles_from_lines.specs.declared.errors.LinesError.TheVariants as lines
+use Rattle.cycles_from_lines.specs.declared.errors.NormError.{NormError}
+use Rattle.cycles_from_lines.specs.declared.errors.NormError.TheVariants as norms
+use Rattle.cycles_from_lines.specs.declared.errors.ClassifyError.{ClassifyError}
+use Rattle.cycles_from_lines.specs.declared.errors.ClassifyError.TheVariants as classifies
+use Rattle.cycles_from_lines.specs.Classified.{Classifies}
+use Rattle.tests_from_files.specs.declared.classified_errors.FilesEnd.{FilesEnd}
+use Rattle.tests_from_files.specs.declared.classified_errors.FilesEnd.TheVariants as classing
+use Rattle.tests_from_files.proofs.FewLaws.{classified_few}
+use Rattle.exec_check.specs.declared.checked_errors.CheckEnd.{CheckEnd}
+use Rattle.exec_check.specs.declared.checked_errors.CheckEnd.TheVariants as checking
+use Rattle.exec_check.specs.CheckedLaws.{checked_few}
+use Rattle.cycles_from_lines.specs.Normed.{Norms}
+use Rattle.cycles_from_lines.specs.LineReading.{TookUpTo}
 use Rattle.diy_io.specs.declared.source.TheConstants.{MAX_INPUT}
 use Rattle.diy_io.specs.Count.{count_of}
 use Rattle.diy_io.specs.Shelf.{ShelfSeen}
@@ -27,13 +27,13 @@ use Rattle.diy_words.specs.declared.usage.Usage.{Usage}
 use Rattle.diy_words.specs.Requests.{Task, ListTask, Sought, asked_of}
 use Rattle.diy_words.specs.Requests.{AsksTest, AsksWhy, AsksCoherence, AsksName, AsksList, AsksFamilies, AsksSum, AsksCross, AsksDemo, AsksCheck, CrossTask, OfEdges, OfName, OfLines}
 use Rattle.diy_words.specs.declared.request.Check.{Check}
-use Rattle.listed_tests.specs.declared.ending.ListingEnd.{ListingEnd}
-use Rattle.listed_tests.specs.declared.ending.ListingEnd.TheVariants as listings
-use Rattle.listed_tests.specs.ListingEnds.{StopsAtTest, StopsAtAll}
-use Rattle.listed_tests.specs.Plans.{IsPlanned, planned_text}
-use Rattle.summed_files.specs.declared.sum_end.SumEnd.{SumEnd}
-use Rattle.summed_files.specs.declared.sum_end.SumEnd.TheVariants as sums
-use Rattle.summed_files.specs.SumEnds.{InputSummed}
+use Rattle.tests_to_files.specs.declared.ending.ListingEnd.{ListingEnd}
+use Rattle.tests_to_files.specs.declared.ending.ListingEnd.TheVariants as listings
+use Rattle.tests_to_files.specs.ListingEnds.{StopsAtTest, StopsAtAll}
+use Rattle.tests_to_files.specs.Plans.{IsPlanned, planned_text}
+use Rattle.msum7_files.specs.declared.sum_end.SumEnd.{SumEnd}
+use Rattle.msum7_files.specs.declared.sum_end.SumEnd.TheVariants as sums
+use Rattle.msum7_files.specs.SumEnds.{InputSummed}
 use Rattle.diy_tools.specs.declared.status.Status.{Status}
 use Rattle.diy_tools.specs.declared.status.Status.TheVariants as statuses
 use Rattle.diy_tools.specs.declared.status.TextKind.{TextKind}

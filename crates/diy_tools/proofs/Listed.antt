@@ -5,11 +5,11 @@ use Rattle.relax_edges.specs.declared.kinds.ArchName.{ArchName}
 use Rattle.diy_io.specs.Shelf.{ShelfSeen}
 use Rattle.diy_io.specs.Wrote.{SinkSeen}
 use Rattle.diy_words.specs.Requests.{ListTask}
-use Rattle.listed_tests.specs.declared.ending.ListingEnd.{ListingEnd}
-use Rattle.listed_tests.specs.declared.ending.ListingEnd.TheVariants as ends
-use Rattle.listed_tests.specs.declared.listing.Listing.{Listing}
-use Rattle.listed_tests.specs.ListingEnds.{EndsAfter, EndsListing}
-use Rattle.listed_tests.specs.Plans.{Plan, plan_of}
+use Rattle.tests_to_files.specs.declared.ending.ListingEnd.{ListingEnd}
+use Rattle.tests_to_files.specs.declared.ending.ListingEnd.TheVariants as ends
+use Rattle.tests_to_files.specs.declared.listing.Listing.{Listing}
+use Rattle.tests_to_files.specs.ListingEnds.{EndsAfter, EndsListing}
+use Rattle.tests_to_files.specs.Plans.{Plan, plan_of}
 use Rattle.std.specs.Prelude.{List}
 use Rattle.diy_tools.specs.declared.status.Status.{Status}
 use Rattle.diy_tools.specs.ListAnswers.{AnswersList, plan_asked}

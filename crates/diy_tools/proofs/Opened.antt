@@ -4,10 +4,10 @@ use Rattle.std.specs.Prelude.{◌⊎◌}
 use Rattle.diy_io.specs.Count.{count_of, Rose}
 use Rattle.diy_io.specs.Shelf.{ShelfSeen}
 use Rattle.diy_io.specs.Taken.{SourceSeen}
-use Rattle.summed_files.specs.Logs.{IsShort, IsTooMuch, TookCount}
-use Rattle.file_laws.specs.Opened.{TookFiles, last_taken}
-use Rattle.file_laws.proofs.OpenedLaws.{last_of}
-use Rattle.summed_files.specs.SumEnds.{FileTooMuch, IsBegun, SumShelfFailed}
+use Rattle.msum7_files.specs.Logs.{IsShort, IsTooMuch, TookCount}
+use Rattle.diy_io.specs.Opened.{TookFiles, last_taken}
+use Rattle.diy_io.proofs.OpenedLaws.{last_of}
+use Rattle.msum7_files.specs.SumEnds.{FileTooMuch, IsBegun, SumShelfFailed}
 use Rattle.diy_tools.specs.Causes.{RoseFar}
 
 -- at most 2^40 bytes were taken of the last file that was opened since

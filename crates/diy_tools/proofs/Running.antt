@@ -12,14 +12,14 @@ use Rattle.relax_edges.specs.declared.kinds.ObsMode.{ObsMode}
 use Rattle.relax_edges.specs.EdgeTable.{is_of_arch}
 use Rattle.edge_algebra.specs.Compose.{composed}
 use Rattle.diy_io.specs.Wrote.{SinkSeen}
-use Rattle.edge_lists.specs.declared.list.EdgeList.{EdgeList}
-use Rattle.edge_lists.specs.declared.list.EdgeList.TheVariants.{Whole, TooLong}
-use Rattle.edge_lists.specs.KeptEdges.{kept_edges}
-use Rattle.cycle_lines.specs.Normed.{name_line}
+use Rattle.edges_from_text.specs.declared.list.EdgeList.{EdgeList}
+use Rattle.edges_from_text.specs.declared.list.EdgeList.TheVariants.{Whole, TooLong}
+use Rattle.edges_from_text.specs.KeptEdges.{kept_edges}
+use Rattle.cycles_from_lines.specs.Normed.{name_line}
 use Rattle.diy_io.specs.Taken.{SourceSeen}
 use Rattle.diy_io.specs.Shelf.{ShelfSeen}
 use Rattle.diy_words.specs.declared.request.Diy.{Diy}
-use Rattle.crossed_cycles.specs.ComposedLaws.{composed_same}
+use Rattle.diycross7_cycles.specs.ComposedLaws.{composed_same}
 use Rattle.diy_tools.specs.Devices.{devices}
 use Rattle.test_maker.specs.CycleText.{cycle_text}
 use Rattle.diy_words.specs.declared.request.Sought.{Sought}

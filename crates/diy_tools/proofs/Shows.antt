@@ -3,12 +3,12 @@ use Rattle.std.proofs.Common.{◌≡◌, ℕ, List, [], ◌∷◌, Option, Some,
 use Rattle.std.specs.Prelude.{codes}
 use Rattle.relax_edges.specs.declared.kinds.ObsMode.TheVariants.{Avoid}
 use Rattle.relax_edges.specs.declared.edge.Edge.{Edge}
-use Rattle.resolution_laws.specs.Resolution.{turned}
-use Rattle.value_laws.specs.Values.{observer_need}
+use Rattle.cycle_events.specs.Resolution.{turned}
+use Rattle.cycle_events.specs.Values.{observer_need}
 use Rattle.diy_io.specs.Shelf.{ShelfSeen, Idle}
 use Rattle.diy_io.specs.Wrote.{SinkSeen}
-use Rattle.execution_text.specs.Written.{text_of_execution}
-use Rattle.listed_tests.specs.Putting.{PutFiles}
+use Rattle.exec_text.specs.Written.{text_of_execution}
+use Rattle.tests_to_files.specs.Putting.{PutFiles}
 use Rattle.litmus_text.specs.TestReading.{TestRead}
 use Rattle.program_meaning.specs.Executions.{Execution}
 use Rattle.test_maker.specs.CycleText.{cycle_text}

@@ -4,7 +4,7 @@ use Rattle.std.specs.Prelude.{◌&&◌, ◌↔◌}
 use Rattle.std.specs.List.{list_all}
 use Rattle.std.proofs.lemmas.Bool.{and_parts, and_from}
 use Rattle.std.proofs.lemmas.Bool.Decides.{nat_tests}
-use Rattle.text_laws.specs.Names.{is_name_byte}
+use Rattle.text_parts_laws.specs.Names.{is_name_byte}
 use Rattle.litmus_text.specs.Printable.{IsTestName}
 use Rattle.diy_words.specs.TestNames.{is_name}
 

@@ -3,18 +3,18 @@
 use Rattle.std.specs.Prelude.{◌≡◌, ◌≤◌, ◌<◌, ◌+◌, ◌^◌, ◌⊎◌, ℕ, List, [], ◌∷◌, Option, Some, None, Result, Ok, Err}
 use Rattle.relax_edges.specs.declared.kinds.ArchName.{ArchName}
 use Rattle.cycle_names.specs.Laws.{NamesNone}
-use Rattle.cycle_lines.specs.declared.errors.LinesError.{LinesError}
-use Rattle.cycle_lines.specs.declared.errors.LinesError.TheVariants as lines
-use Rattle.cycle_lines.specs.Classified.{ClassifiedAll, ClassifiedPart, ReadsUpTo}
-use Rattle.cycle_lines.specs.Normed.{NormedAll, NormedPart, NormedUpTo, name_line}
-use Rattle.classified_files.specs.declared.errors.FilesEnd.{FilesEnd}
-use Rattle.classified_files.specs.declared.errors.FilesEnd.TheVariants as classing
-use Rattle.classified_files.specs.declared.errors.FileKind.{FileKind}
-use Rattle.classified_files.specs.declared.errors.FileKind.TheVariants as kinds
-use Rattle.checked_files.specs.declared.errors.CheckEnd.{CheckEnd}
-use Rattle.checked_files.specs.declared.errors.CheckEnd.TheVariants as checking
-use Rattle.checked_files.specs.declared.errors.CheckedKind.{CheckedKind}
-use Rattle.checked_files.specs.declared.errors.CheckedKind.TheVariants as checked
+use Rattle.cycles_from_lines.specs.declared.errors.LinesError.{LinesError}
+use Rattle.cycles_from_lines.specs.declared.errors.LinesError.TheVariants as lines
+use Rattle.cycles_from_lines.specs.Classified.{ClassifiedAll, ClassifiedPart, ReadsUpTo}
+use Rattle.cycles_from_lines.specs.Normed.{NormedAll, NormedPart, NormedUpTo, name_line}
+use Rattle.tests_from_files.specs.declared.classified_errors.FilesEnd.{FilesEnd}
+use Rattle.tests_from_files.specs.declared.classified_errors.FilesEnd.TheVariants as classing
+use Rattle.tests_from_files.specs.declared.classified_errors.FileKind.{FileKind}
+use Rattle.tests_from_files.specs.declared.classified_errors.FileKind.TheVariants as kinds
+use Rattle.exec_check.specs.declared.checked_errors.CheckEnd.{CheckEnd}
+use Rattle.exec_check.specs.declared.checked_errors.CheckEnd.TheVariants as checking
+use Rattle.exec_check.specs.declared.checked_errors.CheckedKind.{CheckedKind}
+use Rattle.exec_check.specs.declared.checked_errors.CheckedKind.TheVariants as checked
 use Rattle.diy_io.specs.Count.{Rose, count_of}
 use Rattle.diy_io.specs.Taken.{SourceSeen}
 use Rattle.diy_io.specs.Wrote.{SinkSeen, WroteAll, WrotePart}
@@ -22,10 +22,10 @@ use Rattle.diy_words.specs.declared.usage.Usage.{Usage}
 use Rattle.diy_words.specs.declared.usage.UsageKind.{UsageKind}
 use Rattle.diy_words.specs.declared.usage.UsageKind.TheVariants.{UnknownName}
 use Rattle.diy_words.specs.Requests.{Task, Sought, WhyTask, AsksTest, AsksWhy, AsksCoherence, AsksName, AsksList, AsksFamilies, AsksSum, AsksCross, AsksDemo, AsksCheck, OfEdges, OfName, OfLines, asked_of}
-use Rattle.listed_tests.specs.declared.ending.ListingEnd.TheVariants as listings
-use Rattle.summed_files.specs.declared.sum_end.SumEnd.{SumEnd}
-use Rattle.summed_files.specs.declared.sum_end.SumEnd.TheVariants as sums
-use Rattle.summed_files.specs.SumEnds.{LogFileMissing}
+use Rattle.tests_to_files.specs.declared.ending.ListingEnd.TheVariants as listings
+use Rattle.msum7_files.specs.declared.sum_end.SumEnd.{SumEnd}
+use Rattle.msum7_files.specs.declared.sum_end.SumEnd.TheVariants as sums
+use Rattle.msum7_files.specs.SumEnds.{LogFileMissing}
 use Rattle.diy_tools.specs.declared.status.Status.{Status}
 use Rattle.diy_tools.specs.declared.status.Status.TheVariants as statuses
 use Rattle.diy_tools.specs.declared.status.Refusal.{Refusal}

@@ -1,11 +1,11 @@
 -- What mcheck7 answers.
 -- Source: own.
 use Rattle.std.specs.Prelude.{◌≡◌, ℕ, List, Some}
-use Rattle.checked_files.specs.declared.errors.CheckEnd.{CheckEnd}
-use Rattle.checked_files.specs.declared.errors.CheckEnd.TheVariants as ends
-use Rattle.checked_files.specs.declared.errors.CheckedKind.{CheckedKind}
-use Rattle.checked_files.specs.declared.errors.CheckedKind.TheVariants as kinds
-use Rattle.checked_files.specs.FilesChecked.{FilesChecked}
+use Rattle.exec_check.specs.declared.checked_errors.CheckEnd.{CheckEnd}
+use Rattle.exec_check.specs.declared.checked_errors.CheckEnd.TheVariants as ends
+use Rattle.exec_check.specs.declared.checked_errors.CheckedKind.{CheckedKind}
+use Rattle.exec_check.specs.declared.checked_errors.CheckedKind.TheVariants as kinds
+use Rattle.exec_check.specs.FilesChecked.{FilesChecked}
 use Rattle.diy_io.specs.Shelf.{ShelfSeen}
 use Rattle.diy_io.specs.Wrote.{SinkSeen}
 use Rattle.diy_words.specs.declared.request.Check.{Check}

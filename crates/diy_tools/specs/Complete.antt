@@ -3,19 +3,19 @@
 use Rattle.std.specs.Prelude.{◌≡◌, ◌≤◌, ◌+◌, ◌⊎◌, ⊤, ℕ, true, List, ◌∷◌, [], length, Option, Some, None, Result, Ok, Err}
 use Rattle.relax_edges.specs.declared.edge.Edge.{Edge}
 use Rattle.relax_edges.specs.declared.kinds.ArchName.{ArchName}
-use Rattle.classified_files.specs.FilesEnds.{ReadFiles}
-use Rattle.checked_files.specs.FilesChecked.{AreTestAndExecution}
+use Rattle.tests_from_files.specs.FilesEnds.{ReadFiles}
+use Rattle.exec_check.specs.FilesChecked.{AreTestAndExecution}
 use Rattle.cycle_names.specs.Laws.{NamesNone}
-use Rattle.cycle_lines.specs.Cycles.{are_sound}
-use Rattle.text_laws.specs.Lines.{lines_of}
+use Rattle.cycles_from_lines.specs.Cycles.{are_sound}
+use Rattle.text_parts_laws.specs.Lines.{lines_of}
 use Rattle.diy_io.specs.declared.source.TheConstants.{MAX_INPUT}
 use Rattle.diy_io.specs.Count.{Rose}
 use Rattle.diy_io.specs.Shelf.{Files}
 use Rattle.diy_words.specs.declared.usage.Usage.{Usage}
 use Rattle.diy_words.specs.Requests.{Task, Sought, AsksTest, AsksWhy, AsksCoherence, AsksName, AsksList, AsksFamilies, AsksSum, AsksCross, AsksDemo, AsksCheck, OfEdges, OfName, OfLines, asked_of}
 use Rattle.diy_words.specs.declared.request.Check.{Check}
-use Rattle.summed_files.specs.Logs.{IsText, IsShort, AreWholeLogs}
-use Rattle.summed_files.specs.SumEnds.{AreLogs}
+use Rattle.msum7_files.specs.Logs.{IsText, IsShort, AreWholeLogs}
+use Rattle.msum7_files.specs.SumEnds.{AreLogs}
 use Rattle.diy_tools.specs.declared.status.Status.{Status}
 use Rattle.diy_tools.specs.declared.status.Status.TheVariants.{Done, NoMemory}
 use Rattle.diy_tools.specs.Devices.{Devices, DevicesSeen, devices}

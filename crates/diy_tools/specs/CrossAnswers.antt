@@ -3,13 +3,13 @@
 use Rattle.std.specs.Prelude.{◌≡◌, ◌⊎◌, ℕ, List, Option}
 use Rattle.relax_edges.specs.declared.edge.Edge.{Edge}
 use Rattle.relax_edges.specs.declared.kinds.ObsMode.{ObsMode}
-use Rattle.crossed_cycles.specs.Choices.{crossed}
+use Rattle.diycross7_cycles.specs.Choices.{crossed}
 use Rattle.diy_io.specs.Shelf.{ShelfSeen}
 use Rattle.diy_io.specs.Wrote.{SinkSeen}
 use Rattle.diy_words.specs.Requests.{CrossTask}
-use Rattle.listed_tests.specs.declared.ending.ListingEnd.{ListingEnd}
-use Rattle.listed_tests.specs.GivenCycles.{EndsGiven}
-use Rattle.listed_tests.specs.Plans.{named_text}
+use Rattle.tests_to_files.specs.declared.ending.ListingEnd.{ListingEnd}
+use Rattle.tests_to_files.specs.GivenCycles.{EndsGiven}
+use Rattle.tests_to_files.specs.Plans.{named_text}
 use Rattle.diy_tools.specs.declared.status.Status.{Status}
 use Rattle.diy_tools.specs.declared.status.Status.TheVariants.{NoMemory}
 use Rattle.diy_tools.specs.ArchMachines.{Machine, machine_of}

@@ -2,13 +2,13 @@
 -- Source: own.
 use Rattle.std.specs.Prelude.{◌≡◌, ℕ, List, [], ◌∷◌, Some, Result}
 use Rattle.relax_edges.specs.declared.kinds.ArchName.{ArchName}
-use Rattle.classified_files.specs.declared.errors.FilesEnd.{FilesEnd}
-use Rattle.classified_files.specs.declared.errors.FilesEnd.TheVariants as ends
-use Rattle.classified_files.specs.declared.errors.FileKind.{FileKind}
-use Rattle.classified_files.specs.declared.errors.FileKind.TheVariants as kinds
-use Rattle.classified_files.specs.FilesEnds.{Asked, FilesClassified}
-use Rattle.cycle_lines.specs.Classified.{Classifies}
-use Rattle.cycle_lines.specs.declared.errors.ClassifyError.{ClassifyError}
+use Rattle.tests_from_files.specs.declared.classified_errors.FilesEnd.{FilesEnd}
+use Rattle.tests_from_files.specs.declared.classified_errors.FilesEnd.TheVariants as ends
+use Rattle.tests_from_files.specs.declared.classified_errors.FileKind.{FileKind}
+use Rattle.tests_from_files.specs.declared.classified_errors.FileKind.TheVariants as kinds
+use Rattle.tests_from_files.specs.FilesEnds.{Asked, FilesClassified}
+use Rattle.cycles_from_lines.specs.Classified.{Classifies}
+use Rattle.cycles_from_lines.specs.declared.errors.ClassifyError.{ClassifyError}
 use Rattle.diy_io.specs.Shelf.{ShelfSeen}
 use Rattle.diy_io.specs.Taken.{SourceSeen}
 use Rattle.diy_io.specs.Wrote.{SinkSeen}

@@ -4,13 +4,13 @@
 use Rattle.std.specs.Prelude.{◌≡◌, ◌⊎◌, ℕ, List, Result, Ok, None}
 use Rattle.relax_edges.specs.declared.edge.Edge.{Edge}
 use Rattle.relax_edges.specs.declared.kinds.ObsMode.{ObsMode}
-use Rattle.resolution_laws.specs.Resolution.{turned}
+use Rattle.cycle_events.specs.Resolution.{turned}
 use Rattle.diy_io.specs.Shelf.{ShelfSeen}
 use Rattle.diy_io.specs.Wrote.{SinkSeen}
 use Rattle.diy_words.specs.declared.usage.Usage.{Usage}
 use Rattle.diy_words.specs.Requests.{Task, ListTask, AsksTest, AsksWhy, AsksCoherence, AsksList, CrossTask, AsksCross, asked_of}
-use Rattle.listed_tests.specs.Plans.{IsPlanned, planned_text}
-use Rattle.printed_test_laws.specs.PrintedHeadline.{BytesForce}
+use Rattle.tests_to_files.specs.Plans.{IsPlanned, planned_text}
+use Rattle.bytes_force_cycles.specs.PrintedHeadline.{BytesForce}
 use Rattle.co_tests_laws.specs.Incoherence.{BytesShowIncoherence}
 use Rattle.diy_tools.specs.declared.status.Status.{Status}
 use Rattle.diy_tools.specs.declared.status.Status.TheVariants.{NoMemory}
@@ -21,7 +21,7 @@ use Rattle.diy_tools.specs.PrintAnswers.{Prints}
 use Rattle.diy_tools.specs.TestAnswers.{asked_text, test_name}
 use Rattle.diy_tools.specs.WhyAnswers.{WritesRuns, why_unshown}
 use Rattle.diy_tools.specs.CoherenceAnswers.{coherence_refused, incoherent_text}
-use Rattle.walk_laws.specs.Listing.{IsOneOf}
+use Rattle.cycle_enum_laws.specs.Listing.{IsOneOf}
 use Rattle.diy_tools.specs.CrossAnswers.{AnswersCross, cycles_asked, crossed_text}
 use Rattle.diy_tools.specs.ListAnswers.{AnswersList, plan_asked}
 

@@ -6,22 +6,22 @@ use Rattle.arrayvec.specs.ArrayString.{ArrayString}
 use Rattle.relax_edges.specs.declared.edge.Edge.{Edge}
 use Rattle.relax_edges.specs.declared.kinds.ArchName.{ArchName}
 use Rattle.relax_edges.specs.declared.kinds.ObsMode.{ObsMode}
-use Rattle.edge_lists.specs.declared.list.EdgeList.{EdgeList}
-use Rattle.edge_lists.specs.declared.list.EdgeList.TheVariants.{Whole, TooLong}
-use Rattle.cycle_lines.specs.Normed.{name_line}
+use Rattle.edges_from_text.specs.declared.list.EdgeList.{EdgeList}
+use Rattle.edges_from_text.specs.declared.list.EdgeList.TheVariants.{Whole, TooLong}
+use Rattle.cycles_from_lines.specs.Normed.{name_line}
 use Rattle.diy_io.specs.Shelf.{ShelfSeen}
 use Rattle.diy_io.specs.Taken.{SourceSeen}
 use Rattle.diy_io.specs.Wrote.{SinkSeen}
 use Rattle.diy_words.specs.declared.request.Sought.{Sought}
 use Rattle.diy_words.specs.declared.request.Sought.TheVariants as sought
-use Rattle.listed_tests.specs.declared.ending.ListingEnd.{ListingEnd}
-use Rattle.listed_tests.specs.ListingEnds.{EndsListing}
-use Rattle.listed_tests.specs.Plans.{plan_of}
-use Rattle.listed_tests.specs.declared.listing.Listing.{Listing}
+use Rattle.tests_to_files.specs.declared.ending.ListingEnd.{ListingEnd}
+use Rattle.tests_to_files.specs.ListingEnds.{EndsListing}
+use Rattle.tests_to_files.specs.Plans.{plan_of}
+use Rattle.tests_to_files.specs.declared.listing.Listing.{Listing}
 use Rattle.litmus_text.specs.declared.test.Test.{Test}
 use Rattle.litmus_text.specs.Tests.{test_seen}
-use Rattle.summed_files.specs.declared.sum_end.SumEnd.{SumEnd}
-use Rattle.summed_files.specs.SumEnds.{InputSummed, FilesSummed}
+use Rattle.msum7_files.specs.declared.sum_end.SumEnd.{SumEnd}
+use Rattle.msum7_files.specs.SumEnds.{InputSummed, FilesSummed}
 use Rattle.test_maker.specs.CycleText.{cycle_test, cycle_text}
 use Rattle.test_maker.specs.Refusals.{refusal_of}
 use Rattle.diy_tools.specs.declared.status.Status.{Status}
@@ -29,8 +29,8 @@ use Rattle.diy_tools.specs.declared.status.Refusal.{Refusal}
 use Rattle.diy_tools.specs.declared.status.Refusal.TheVariants as refusals
 use Rattle.diy_words.specs.Requests.{Task, AsksCross}
 use Rattle.diy_words.specs.declared.usage.Usage.{Usage}
-use Rattle.classified_files.specs.declared.errors.FilesEnd.{FilesEnd}
-use Rattle.checked_files.specs.declared.errors.CheckEnd.{CheckEnd}
+use Rattle.tests_from_files.specs.declared.classified_errors.FilesEnd.{FilesEnd}
+use Rattle.exec_check.specs.declared.checked_errors.CheckEnd.{CheckEnd}
 use Rattle.diy_tools.specs.CheckAnswers.{EndsChecked, check_status}
 use Rattle.diy_tools.specs.CrossAnswers.{AnswersCross, AnswersChoices}
 use Rattle.diy_tools.specs.FamilyAnswers.{EndsNamed, files_status}
@@ -47,9 +47,9 @@ use Rattle.diy_words.specs.declared.request.Coherence.{Coherence}
 use Rattle.diy_words.specs.declared.request.Why.{Why}
 use Rattle.arch_trait.specs.Threads.{Puts}
 use Rattle.arch_trait.specs.Writing.{Writing}
-use Rattle.checked_files.specs.FilesChecked.{FilesChecked}
+use Rattle.exec_check.specs.FilesChecked.{FilesChecked}
 use Rattle.diy_tools.specs.Devices.{DevicesSeen, devices}
-use Rattle.execution_text.specs.Written.{text_of_execution}
+use Rattle.exec_text.specs.Written.{text_of_execution}
 use Rattle.two_runs.specs.declared.shown.TwoRuns.{TwoRuns}
 use Rattle.two_runs.specs.Shown.{why_refused}
 use Rattle.co_tests_laws.specs.CoRefusals.{coherence_refusal_of, coherence_test, coherence_text}

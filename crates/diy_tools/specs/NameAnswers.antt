@@ -4,8 +4,8 @@ use Rattle.std.specs.Prelude.{ℕ, ◌≡◌, ◌⊎◌, List, Result}
 use Rattle.relax_edges.specs.declared.edge.Edge.{Edge}
 use Rattle.relax_edges.specs.declared.kinds.ArchName.{ArchName}
 use Rattle.cycle_names.specs.Laws.{IsNamed, NamesNone}
-use Rattle.cycle_lines.specs.Normed.{Norms, name_line}
-use Rattle.cycle_lines.specs.declared.errors.NormError.{NormError}
+use Rattle.cycles_from_lines.specs.Normed.{Norms, name_line}
+use Rattle.cycles_from_lines.specs.declared.errors.NormError.{NormError}
 use Rattle.diy_io.specs.Taken.{SourceSeen}
 use Rattle.diy_io.specs.Wrote.{SinkSeen}
 use Rattle.diy_words.specs.declared.usage.UsageKind.TheVariants.{UnknownName}

@@ -5,12 +5,12 @@ use Rattle.std.specs.Fmt.{decimal}
 use Rattle.relax_edges.specs.declared.TheConstants.{MAX_EDGES}
 use Rattle.arch_trait.specs.PlaceNames.{location_name}
 use Rattle.diy_io.specs.Wrote.{SinkSeen, WroteAll, WrotePart}
-use Rattle.cycle_lines.specs.declared.errors.LineKind.{LineKind}
-use Rattle.cycle_lines.specs.declared.errors.LineKind.TheVariants as lines
+use Rattle.cycles_from_lines.specs.declared.errors.LineKind.{LineKind}
+use Rattle.cycles_from_lines.specs.declared.errors.LineKind.TheVariants as lines
 use Rattle.litmus_text.specs.declared.errors.TestKind.{TestKind}
 use Rattle.litmus_text.specs.declared.errors.TestKind.TheVariants as tests
-use Rattle.execution_text.specs.declared.errors.ExecKind.{ExecKind}
-use Rattle.execution_text.specs.declared.errors.ExecKind.TheVariants as executions
+use Rattle.exec_text.specs.declared.errors.ExecKind.{ExecKind}
+use Rattle.exec_text.specs.declared.errors.ExecKind.TheVariants as executions
 use Rattle.log_sum.specs.declared.errors.LogKind.{LogKind}
 use Rattle.log_sum.specs.declared.errors.LogKind.TheVariants as logs
 use Rattle.diy_words.specs.declared.usage.UsageKind.{UsageKind}

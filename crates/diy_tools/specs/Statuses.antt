@@ -1,14 +1,14 @@
 -- The statuses that the ends of the tools' work give.
 -- Source: own.
 use Rattle.std.specs.Prelude.{None, Result, Ok, Err}
-use Rattle.cycle_lines.specs.declared.errors.LinesError.{LinesError}
-use Rattle.cycle_lines.specs.declared.errors.LinesError.TheVariants as lines
-use Rattle.cycle_lines.specs.declared.errors.NormError.{NormError}
-use Rattle.cycle_lines.specs.declared.errors.NormError.TheVariants as norms
-use Rattle.cycle_lines.specs.declared.errors.ClassifyError.{ClassifyError}
-use Rattle.cycle_lines.specs.declared.errors.ClassifyError.TheVariants as classifies
-use Rattle.listed_tests.specs.declared.ending.ListingEnd.{ListingEnd}
-use Rattle.listed_tests.specs.declared.ending.ListingEnd.TheVariants as listings
+use Rattle.cycles_from_lines.specs.declared.errors.LinesError.{LinesError}
+use Rattle.cycles_from_lines.specs.declared.errors.LinesError.TheVariants as lines
+use Rattle.cycles_from_lines.specs.declared.errors.NormError.{NormError}
+use Rattle.cycles_from_lines.specs.declared.errors.NormError.TheVariants as norms
+use Rattle.cycles_from_lines.specs.declared.errors.ClassifyError.{ClassifyError}
+use Rattle.cycles_from_lines.specs.declared.errors.ClassifyError.TheVariants as classifies
+use Rattle.tests_to_files.specs.declared.ending.ListingEnd.{ListingEnd}
+use Rattle.tests_to_files.specs.declared.ending.ListingEnd.TheVariants as listings
 use Rattle.diy_tools.specs.declared.status.Status.{Status}
 use Rattle.diy_tools.specs.declared.status.Status.TheVariants.{Done, BadText, ReadFault, WriteFault, NoMemory}
 use Rattle.diy_tools.specs.declared.status.TextKind.TheVariants.{Line, TooMuch}

@@ -4,15 +4,15 @@ use Rattle.std.specs.Prelude.{◌≡◌, ◌⊎◌, ℕ, List, [], ◌∷◌, �
 use Rattle.std.specs.Option.{option_or}
 use Rattle.relax_edges.specs.declared.kinds.ObsMode.TheVariants.{Avoid}
 use Rattle.relax_edges.specs.declared.edge.Edge.{Edge}
-use Rattle.resolution_laws.specs.Resolution.{turned}
-use Rattle.value_laws.specs.Values.{observer_need}
+use Rattle.cycle_events.specs.Resolution.{turned}
+use Rattle.cycle_events.specs.Values.{observer_need}
 use Rattle.diy_io.specs.Shelf.{ShelfSeen}
 use Rattle.diy_io.specs.Wrote.{SinkSeen, WroteAll, WrotePart}
 use Rattle.diy_words.specs.Requests.{WhyTask}
-use Rattle.execution_text.specs.Written.{text_of_execution}
-use Rattle.listed_tests.specs.ListedFiles.{path_of, stem_named}
-use Rattle.listed_tests.specs.GivenCycles.{PutUpTo}
-use Rattle.listed_tests.specs.Putting.{PutFiles}
+use Rattle.exec_text.specs.Written.{text_of_execution}
+use Rattle.tests_to_files.specs.ListedFiles.{path_of, stem_named}
+use Rattle.tests_to_files.specs.GivenCycles.{PutUpTo}
+use Rattle.tests_to_files.specs.Putting.{PutFiles}
 use Rattle.litmus_text.specs.TestReading.{TestRead}
 use Rattle.program_meaning.specs.Executions.{Execution}
 use Rattle.test_maker.specs.CycleText.{cycle_text}

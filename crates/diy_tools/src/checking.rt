@@ -6,7 +6,7 @@ ghost use Rattle.diy_tools.specs.Report.{StatusNamesLocation};
 
 use crate::machines::on_machine;
 use crate::status::{Device, Status, TextKind};
-use checked_files::{CheckEnd, CheckedKind, check_files};
+use exec_check::{CheckEnd, CheckedKind, check_files};
 use diy_io::{Shelf, Sink, Words};
 use diy_words::Check;
 use relax_edges::ArchName;

@@ -11,10 +11,10 @@ use crate::listing::listing_status;
 use crate::machines::on_machine;
 use crate::status::Status;
 use arch_trait::Arch;
-use crossed_cycles::crossed_cycles;
+use diycross7_cycles::crossed_cycles;
 use diy_io::{NoMemory, Shelf, Sink, Words};
 use diy_words::{Cross, read_places};
-use listed_tests::{MAX_FOLDER, put_cycles};
+use tests_to_files::{MAX_FOLDER, put_cycles};
 use relax_edges::{ArchName, ObsMode, Relaxes};
 use std::alloc::Global;
 

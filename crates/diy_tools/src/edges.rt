@@ -6,7 +6,7 @@ ghost use Rattle.diy_tools.specs.Report.{RefusesLocation};
 
 use crate::status::Refusal;
 use edge_algebra::{Cycle, cycle};
-use edge_lists::EdgeList;
+use edges_from_text::EdgeList;
 use relax_edges::{ArchName, Edge, MAX_EDGES};
 use test_maker::first_foreign;
 

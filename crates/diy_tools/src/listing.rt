@@ -14,7 +14,7 @@ use crate::machines::on_machine;
 use crate::status::{Device, Status};
 use diy_io::{Shelf, Sink};
 use diy_words::Diy;
-use listed_tests::{Listing, ListingEnd, MAX_FOLDER, list_tests};
+use tests_to_files::{Listing, ListingEnd, MAX_FOLDER, list_tests};
 use relax_edges::ArchName;
 
 /// Writes the tests of a listing, each in a file.

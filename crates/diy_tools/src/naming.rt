@@ -1,5 +1,5 @@
 ghost use Rattle.std.specs.Prelude.{◌≡◌};
-ghost use Rattle.cycle_lines.specs.Normed.{Norms, name_line};
+ghost use Rattle.cycles_from_lines.specs.Normed.{Norms, name_line};
 ghost use Rattle.diy_tools.specs.PrintAnswers.{AnswersEdges, Prints};
 ghost use Rattle.diy_tools.specs.NameAnswers.{AnswersLines, AnswersName};
 ghost use Rattle.diy_tools.specs.KeptRequests.{AnswersKept, edges_kept, refused_edges};
@@ -8,12 +8,12 @@ ghost use Rattle.diy_tools.specs.Statuses.{lines_status, norm_status};
 
 use crate::edges::cycle_of_edges;
 use crate::status::{Device, Status, TextKind};
-use cycle_lines::{LinesError, NormError, norm_lines, write_name_line};
+use cycles_from_lines::{LinesError, NormError, norm_lines, write_name_line};
 use cycle_names::{NotAName, cycle_of};
 use diy_io::{Failed, Sink, Source};
 use diy_words::{Norm, Sought, Source as Named, UsageKind};
 use edge_algebra::Cycle;
-use edge_lists::EdgeList;
+use edges_from_text::EdgeList;
 use relax_edges::ArchName;
 
 /// Prints the names of the cycles that are sought, and their edges.

@@ -8,10 +8,10 @@ ghost use Rattle.diy_tools.specs.Report.{status_line, refusal_line, refusal_text
 
 use crate::status::{Device, Refusal, Status, TextKind};
 use arch_trait::Places;
-use cycle_lines::LineKind;
+use cycles_from_lines::LineKind;
 use diy_io::{Failed, Page, Sink, Words};
 use diy_words::UsageKind;
-use execution_text::ExecKind;
+use exec_text::ExecKind;
 use itoa::Buffer;
 use litmus_text::TestKind;
 use log_sum::LogKind;

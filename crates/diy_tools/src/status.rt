@@ -3,10 +3,10 @@ ghost use Rattle.diy_tools.specs.Report.{exit_of};
 ghost use Rattle.diy_tools.specs.Refused.{composing_refusal, making_refusal, showing_refusal, coherence_refusal};
 
 use co_tests::CoRefusal;
-use cycle_lines::LineKind;
+use cycles_from_lines::LineKind;
 use diy_words::UsageKind;
 use edge_algebra::CycleError;
-use execution_text::ExecKind;
+use exec_text::ExecKind;
 use litmus_text::TestKind;
 use log_sum::LogKind;
 use test_maker::MakeRefusal;

@@ -16,7 +16,7 @@ use cycle_names::name_of;
 use diy_io::{Failed, Sink};
 use diy_words::{DiyOne, TestName};
 use edge_algebra::Cycle;
-use edge_lists::EdgeList;
+use edges_from_text::EdgeList;
 use final_cond::Cond;
 use litmus_text::{Test, print_test};
 use relax_edges::{ArchName, ObsMode};

@@ -9,15 +9,15 @@ use Rattle.relax_edges.specs.declared.edge.Edge.{Edge}
 use Rattle.edge_algebra.specs.declared.errors.CycleError.{CycleError}
 use Rattle.edge_algebra.specs.declared.errors.CycleError.TheVariants as errors
 use Rattle.edge_algebra.specs.Compose.{composed}
-use Rattle.edge_lists.specs.declared.list.EdgeList.{EdgeList}
-use Rattle.edge_lists.specs.KeptEdges.{kept_edges, edges_added}
-use Rattle.edge_lists.specs.KeptLaws.{added_whole}
+use Rattle.edges_from_text.specs.declared.list.EdgeList.{EdgeList}
+use Rattle.edges_from_text.specs.KeptEdges.{kept_edges, edges_added}
+use Rattle.edges_from_text.specs.KeptLaws.{added_whole}
 use Rattle.diy_words.specs.CodeNotes.{notes_after, cycle_kept}
 use Rattle.diy_words.specs.declared.usage.Usage.{Usage}
 use Rattle.diy_words.specs.declared.usage.UsageKind.TheVariants.{BadAfter}
 use Rattle.diy_words.specs.Notes.{Notes, with_saying}
 use Rattle.diy_words.specs.Sayings.{SaysAfter, after_said, cycle_word_said}
-use Rattle.cycle_laws.specs.Composable.{first_break}
+use Rattle.edge_algebra_laws.specs.Composable.{first_break}
 use Rattle.edge_algebra.specs.Compose.{unbroken}
 
 long_none : (es : List Edge) → nat_le (length es) MAX_EDGES ≡ false → result_ok (composed es) ≡ None

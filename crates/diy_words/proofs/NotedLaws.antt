@@ -4,8 +4,8 @@ use Rattle.std.specs.Prelude.{◌||◌, if◌then◌else◌, filter}
 use Rattle.std.specs.List.{list_any}
 use Rattle.std.specs.Option.{option_or, unwrap_or}
 use Rattle.list_laws.proofs.Elements.{option_or-none}
-use Rattle.edge_lists.specs.KeptEdges.{kept_edges, edges_added}
-use Rattle.edge_lists.specs.KeptLaws.{added_more, added_whole}
+use Rattle.edges_from_text.specs.KeptEdges.{kept_edges, edges_added}
+use Rattle.edges_from_text.specs.KeptLaws.{added_more, added_whole}
 use Rattle.diy_words.specs.declared.options.Tool.{Tool}
 use Rattle.diy_words.specs.declared.request.TheConstants.{MAX_CHOICES}
 use Rattle.diy_words.specs.declared.usage.Usage.{Usage}

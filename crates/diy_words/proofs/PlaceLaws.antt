@@ -9,8 +9,8 @@ use Rattle.relax_edges.specs.declared.relax_error.RelaxError.{RelaxError}
 use Rattle.relax_edges.specs.Relaxations.{relaxes_of}
 use Rattle.edge_algebra.specs.declared.errors.CycleError.{CycleError}
 use Rattle.edge_algebra.specs.Compose.{composed}
-use Rattle.edge_lists.specs.declared.read.Separators.TheVariants.{BlanksAndCommas}
-use Rattle.edge_lists.specs.Spelled.{edges_of}
+use Rattle.edges_from_text.specs.declared.read.Separators.TheVariants.{BlanksAndCommas}
+use Rattle.edges_from_text.specs.Spelled.{edges_of}
 use Rattle.diy_words.specs.declared.options.OptionName.{OptionName}
 use Rattle.diy_words.specs.declared.options.OptionName.TheVariants as opts
 use Rattle.diy_words.specs.declared.options.Tool.TheVariants as tools

@@ -12,8 +12,8 @@ use Rattle.relax_edges.specs.declared.relax_error.RelaxError.{RelaxError}
 use Rattle.relax_edges.specs.Relaxations.{relaxes_of}
 use Rattle.edge_algebra.specs.declared.errors.CycleError.{CycleError}
 use Rattle.edge_algebra.specs.Compose.{composed}
-use Rattle.edge_lists.specs.declared.read.Separators.TheVariants.{BlanksAndCommas}
-use Rattle.edge_lists.specs.Spelled.{edges_of}
+use Rattle.edges_from_text.specs.declared.read.Separators.TheVariants.{BlanksAndCommas}
+use Rattle.edges_from_text.specs.Spelled.{edges_of}
 use Rattle.diy_words.specs.declared.request.TheConstants.{MAX_FOLDER, MAX_CHOICES, MAX_TESTS}
 use Rattle.diy_words.specs.declared.request.Check.{Check}
 use Rattle.diy_words.specs.declared.request.Demo.{Demo}
@@ -30,7 +30,7 @@ use Rattle.diy_words.specs.declared.options.Tool.TheVariants as tools
 use Rattle.diy_words.specs.declared.options.OptionName.{OptionName}
 use Rattle.diy_words.specs.declared.options.OptionName.TheVariants as opts
 use Rattle.diy_words.specs.TestNames.{is_name}
-use Rattle.edge_lists.specs.Spelled.{text_edges}
+use Rattle.edges_from_text.specs.Spelled.{text_edges}
 use Rattle.relax_edges.specs.Architectures.{arch_of}
 use Rattle.diy_words.specs.Parts.{Part, Alone, Valued, Unvalued, waiting_at, alone_before, parts_from, parts_of, option_named, tool_named, mode_named}
 use Rattle.diy_words.specs.Sayings.{Saying, SaysName, SaysRelaxes, SaysPlace, SaysSize, SaysExact, SaysWhy, SaysCo, SaysThreads, SaysAccesses, SaysFolder, SaysCount, SaysTest, SaysExecution, Before, usage_fault, why_said, co_said, dashed_said, operand_said, relaxes_said, number_said, after_said, cycle_word_said, said_by, arch_said, mode_said, edges_said, begins_option}

@@ -3,9 +3,9 @@ use Rattle.std.specs.Prelude.{ℕ, ◌≡◌, ◌<◌, nat_lt, List, [], ◌∷�
 use Rattle.std.specs.Option.{option_map}
 use Rattle.std.specs.Result.{result_ok}
 use Rattle.relax_edges.specs.declared.edge.Edge.{Edge}
-use Rattle.edge_lists.specs.declared.list.EdgeList.{EdgeList}
-use Rattle.edge_lists.specs.declared.list.EdgeList.TheVariants.{Whole, TooLong}
-use Rattle.edge_lists.specs.KeptEdges.{kept_edges}
+use Rattle.edges_from_text.specs.declared.list.EdgeList.{EdgeList}
+use Rattle.edges_from_text.specs.declared.list.EdgeList.TheVariants.{Whole, TooLong}
+use Rattle.edges_from_text.specs.KeptEdges.{kept_edges}
 use Rattle.edge_algebra.specs.Compose.{composed}
 use Rattle.diy_words.specs.declared.notes.Notes as code
 use Rattle.diy_words.specs.declared.options.OptionName.{OptionName}

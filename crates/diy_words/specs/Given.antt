@@ -2,7 +2,7 @@
 use Rattle.std.specs.Prelude.{ℕ, ◌≡◌, ◌<◌, ◌≤◌, true, IfSome, length, Result, Ok, Err}
 use Rattle.std.specs.Option.{option_map, ForSome}
 use Rattle.relax_edges.specs.declared.TheConstants.{MAX_EDGES}
-use Rattle.edge_lists.specs.KeptEdges.{kept_edges}
+use Rattle.edges_from_text.specs.KeptEdges.{kept_edges}
 use Rattle.diy_words.specs.declared.request.Diy.{Diy}
 use Rattle.diy_words.specs.declared.request.TheConstants.{MAX_FOLDER, MAX_TESTS}
 use Rattle.diy_words.specs.declared.request.Request.{Request}

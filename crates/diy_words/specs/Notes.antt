@@ -3,8 +3,8 @@
 use Rattle.std.specs.Prelude.{ℕ, ◌+◌, ◌*◌, true, min, List, [], ◌∷◌, length, Some, is_some, Result, Ok, Err}
 use Rattle.std.specs.Option.{option_or}
 use Rattle.relax_edges.specs.declared.edge.Edge.{Edge}
-use Rattle.edge_lists.specs.declared.list.EdgeList.{EdgeList}
-use Rattle.edge_lists.specs.KeptEdges.{kept_edges, edges_added}
+use Rattle.edges_from_text.specs.declared.list.EdgeList.{EdgeList}
+use Rattle.edges_from_text.specs.KeptEdges.{kept_edges, edges_added}
 use Rattle.diy_words.specs.declared.options.Tool.{Tool}
 use Rattle.diy_words.specs.declared.request.TheConstants.{MAX_CHOICES}
 use Rattle.diy_words.specs.declared.usage.Usage.{Usage}

@@ -1,7 +1,7 @@
 ghost use Rattle.std.specs.Prelude.{◌≡◌, Some, None, Option, if◌then◌else◌};
 ghost use Rattle.std.specs.Option.{option_map};
 ghost use Rattle.std.specs.List.{list_all};
-ghost use Rattle.text_laws.specs.Names.{is_name_byte};
+ghost use Rattle.text_parts_laws.specs.Names.{is_name_byte};
 ghost use Rattle.diy_words.specs.TestNames.{is_name};
 
 use crate::request::{MAX_NAME, TestName};

@@ -2,10 +2,10 @@ ghost use Rattle.std.specs.Prelude.{◌≡◌, ◌<◌, ◌≤◌, ◌+◌, ◌^
 ghost use Rattle.relax_edges.specs.Architectures.{arch_of};
 ghost use Rattle.relax_edges.specs.Relaxations.{relaxes_of};
 ghost use Rattle.relax_edges.specs.declared.TheConstants.{MAX_EDGES};
-ghost use Rattle.edge_lists.specs.declared.read.Separators.TheVariants.{BlanksAndCommas};
-ghost use Rattle.edge_lists.specs.Spelled.{edges_of};
+ghost use Rattle.edges_from_text.specs.declared.read.Separators.TheVariants.{BlanksAndCommas};
+ghost use Rattle.edges_from_text.specs.Spelled.{edges_of};
 ghost use Rattle.edge_algebra.specs.Compose.{composed};
-ghost use Rattle.edge_lists.specs.Spelled.{text_edges};
+ghost use Rattle.edges_from_text.specs.Spelled.{text_edges};
 ghost use Rattle.diy_words.specs.CodeNotes.{cycle_kept};
 ghost use Rattle.diy_words.specs.NumberWords.{number_to};
 ghost use Rattle.diy_words.specs.declared.options.Tool.TheVariants as tools;
@@ -21,7 +21,7 @@ use crate::request::{MAX_CHOICES, MAX_FOLDER, MAX_TESTS, Source, TestName};
 use crate::usage::{Usage, UsageKind};
 use cycle_enum::Limits;
 use edge_algebra::{Cycle, cycle};
-use edge_lists::{EdgeList, Separators, read_edges};
+use edges_from_text::{EdgeList, Separators, read_edges};
 use relax_edges::{
     ArchName, Edge, MAX_EDGES, ObsMode, RelaxKind, Relaxes, read_arch, read_relaxes,
 };

@@ -1,7 +1,7 @@
 use arrayvec::ArrayString;
 use cycle_enum::Limits;
 use edge_algebra::Cycle;
-use edge_lists::EdgeList;
+use edges_from_text::EdgeList;
 use relax_edges::{ArchName, ObsMode, Relaxes};
 
 /// The most bytes that the name of a test has.

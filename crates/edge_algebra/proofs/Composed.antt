@@ -3,7 +3,7 @@ use Rattle.std.proofs.Common.{◌≡◌, ◌<◌, ◌+◌, ℕ, Bool, true, fals
 use Rattle.relax_edges.specs.declared.TheConstants.{MAX_EDGES}
 use Rattle.relax_edges.specs.declared.edge.Edge.{Edge}
 use Rattle.relax_edges.specs.JoinedEdges.{joins_first}
-use Rattle.cycle_laws.specs.Composable.{one_later, last_joins}
+use Rattle.edge_algebra_laws.specs.Composable.{one_later, last_joins}
 use Rattle.edge_algebra.specs.declared.errors.JoinError.TheVariants as joins
 use Rattle.edge_algebra.specs.Compose.{counted_from, joined}
 use Rattle.edge_algebra.specs.Laws.{JoiningIsAssociative}

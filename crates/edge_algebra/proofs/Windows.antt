@@ -3,10 +3,10 @@ use Rattle.std.proofs.Common.{◌≡◌, ◌<◌, ◌≤◌, ℕ, ◌+◌, ◌-�
 use Rattle.std.proofs.lemmas.List.{append-nil, length-map, map-append, drop-map, take-map}
 use Rattle.relax_edges.specs.declared.edge.Edge.{Edge}
 use Rattle.relax_edges.specs.Order.{rank_of}
-use Rattle.cycle_laws.specs.Rotation.{rotated}
-use Rattle.cycle_laws.specs.CycleOrder.{Above, IsNormal, ranks_below}
-use Rattle.cycle_laws.proofs.Rotating.{rotation_of_place, window}
-use Rattle.cycle_laws.proofs.Ordering.{above_irreflexive, above_transitive, above_of_ranks, ranks_of_above}
+use Rattle.edge_algebra_laws.specs.Rotation.{rotated}
+use Rattle.edge_algebra_laws.specs.CycleOrder.{Above, IsNormal, ranks_below}
+use Rattle.edge_algebra_laws.proofs.Rotating.{rotation_of_place, window}
+use Rattle.edge_algebra_laws.proofs.Ordering.{above_irreflexive, above_transitive, above_of_ranks, ranks_of_above}
 
 -- the ranks of a rotation are the rotation of the ranks
 pub ranks_rotated : (k : ℕ) (u : List Edge) → map rank_of (rotated k u) ≡ rotated k (map rank_of u)

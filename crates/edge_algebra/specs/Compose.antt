@@ -8,7 +8,7 @@ use Rattle.edge_algebra.specs.declared.errors.CycleError.TheVariants.{Empty, Too
 use Rattle.edge_algebra.specs.declared.errors.JoinError.{JoinError}
 use Rattle.edge_algebra.specs.declared.errors.JoinError.TheVariants as joins
 use Rattle.edge_algebra.specs.declared.errors.NotClosed.{NotClosed}
-use Rattle.cycle_laws.specs.Composable.{first_break, last_joins}
+use Rattle.edge_algebra_laws.specs.Composable.{first_break, last_joins}
 
 -- a place, counted from this one and not from 0
 abbrev pub counted_from : ℕ → Option ℕ → Option ℕ

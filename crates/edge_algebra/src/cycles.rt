@@ -4,8 +4,8 @@ ghost use Rattle.std.specs.Cmp.Rules.{comparing};
 ghost use Rattle.std.specs.Cmp.Lexicographic.{pointwise};
 ghost use Rattle.std.specs.Ordering.{on};
 ghost use Rattle.relax_edges.specs.Order.{rank_of};
-ghost use Rattle.cycle_laws.specs.Composable.{IsCycle};
-ghost use Rattle.cycle_laws.specs.Rotation.{rotated};
+ghost use Rattle.edge_algebra_laws.specs.Composable.{IsCycle};
+ghost use Rattle.edge_algebra_laws.specs.Rotation.{rotated};
 
 use arrayvec::ArrayVec;
 use relax_edges::{Edge, MAX_EDGES};
@@ -23,7 +23,7 @@ pub struct Cycle {
 impl Model for Cycle {
     ghost use Rattle.std.specs.Prelude.{List};
     ghost use Rattle.relax_edges.specs.declared.edge.Edge.{Edge};
-    ghost use Rattle.cycle_laws.specs.Composable.{IsCycle};
+    ghost use Rattle.edge_algebra_laws.specs.Composable.{IsCycle};
 
     ghost Value = { List Edge };
 

@@ -1,3 +1,5 @@
 pub mod Judging
 pub mod OneVerdict
 pub mod Lines
+pub mod CheckedFileLaws
+pub mod CheckedEndLaws

@@ -8,7 +8,7 @@ use Rattle.litmus_text.specs.ReadPrograms.{program_read}
 use Rattle.program_meaning.specs.Executions.{Execution}
 use Rattle.program_meaning.specs.Programs.{Program, IsCandidate, IsCoherentIn}
 use Rattle.final_cond.specs.States.{Meets}
-use Rattle.test_laws.specs.FinalStates.{final_state}
+use Rattle.tests_force_cycles.specs.FinalStates.{final_state}
 use Rattle.exec_meaning.specs.StandingEdges.{EdgeStands}
 use Rattle.exec_check.specs.declared.verdict.Verdict.{Verdict}
 use Rattle.exec_check.specs.Verdicts.{JudgesEdges, JudgesFurther, IsVerdict, judged_cycle, answer_line, judged_lines, further_lines, verdict_text}

@@ -1,1 +1,4 @@
 pub mod Verdicts
+pub mod FilesChecked
+pub mod CheckedLaws
+pub mod CheckingSteps

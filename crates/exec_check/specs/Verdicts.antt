@@ -7,16 +7,16 @@ use Rattle.std.specs.Result.{result_ok}
 use Rattle.relax_edges.specs.declared.kinds.ArchName.{ArchName}
 use Rattle.relax_edges.specs.declared.edge.Edge.{Edge}
 use Rattle.relax_edges.specs.WordParts.{word_of}
-use Rattle.resolution_laws.specs.Resolution.{resolution_of}
-use Rattle.cycle_lines.specs.Cycles.{quoted_cycle}
+use Rattle.cycle_events.specs.Resolution.{resolution_of}
+use Rattle.cycles_from_lines.specs.Cycles.{quoted_cycle}
 use Rattle.final_cond.specs.States.{Meets}
 use Rattle.litmus_text.specs.TestReading.{TestRead}
 use Rattle.litmus_text.specs.ReadPrograms.{program_read}
 use Rattle.program_meaning.specs.Executions.{Execution}
 use Rattle.program_meaning.specs.Programs.{Program, IsCandidate, IsCoherentIn}
-use Rattle.test_laws.specs.FinalStates.{final_state}
+use Rattle.tests_force_cycles.specs.FinalStates.{final_state}
 use Rattle.exec_meaning.specs.StandingEdges.{EdgeStands}
-use Rattle.execution_text.specs.ExecutionText.{execution_read}
+use Rattle.exec_text.specs.ExecutionText.{execution_read}
 use Rattle.exec_check.specs.declared.errors.CheckError.{CheckError}
 use Rattle.exec_check.specs.declared.errors.CheckError.TheVariants.{Exec, NoMemory}
 use Rattle.exec_check.specs.declared.verdict.Verdict.{Verdict}

@@ -10,7 +10,7 @@ use crate::verdict::{JudgedEdges, Verdict};
 use arch_trait::Arch;
 use diy_io::NoMemory;
 use exec_meaning::{Execution, final_of, is_candidate, is_coherent};
-use execution_text::{ExecError, ExecFault, read_execution};
+use exec_text::{ExecError, ExecFault, read_execution};
 use final_cond::holds;
 use litmus_text::ReadTest;
 use std::alloc::Global;
@@ -18,7 +18,7 @@ use std::alloc::Global;
 /// The verdict on the execution of a test that a text gives: whether it is a candidate execution of the
 /// test, whether it is coherent per location, whether the terms of the condition hold in its final state,
 /// and which edges stand in it of the cycle that the test quotes. The text has the form that
-/// `execution_text::read_execution` reads. One that is no execution is answered with its first faulty line,
+/// `exec_text::read_execution` reads. One that is no execution is answered with its first faulty line,
 /// and the leftmost fault in it.
 pub fn check<A: Arch>(alloc: Global, test: &ReadTest<A>, text: &[u8]) -> Result<Verdict, CheckError>
     ensures { Checks A.NAME (number_in A.writing.registers) test.now text.now result }

@@ -5,7 +5,7 @@ ghost use Rattle.exec_check.specs.Verdicts.{AreJudged, JudgesEdges, judged_cycle
 
 use crate::verdict::JudgedEdges;
 use arch_trait::Arch;
-use cycle_lines::quoted_cycle;
+use cycles_from_lines::quoted_cycle;
 use cycle_resolve::{Resolved, resolve};
 use diy_io::NoMemory;
 use edge_algebra::Cycle;

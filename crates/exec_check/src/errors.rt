@@ -1,4 +1,4 @@
-use execution_text::ExecKind;
+use exec_text::ExecKind;
 
 /// Why there is no verdict on a text.
 #[derive(Clone, Copy, Debug, PartialEq, Eq)]

@@ -5,7 +5,7 @@ use Rattle.std.specs.Int.{bit_at}
 use Rattle.std.proofs.lemmas.Bool.Decides.{nat_tests}
 use Rattle.std.proofs.lemmas.Nat.Bits.{bit_at_above}
 use Rattle.std.proofs.Math.Pow.{pow_mono}
-use Rattle.resolution_laws.specs.Resolution.{event_after}
+use Rattle.cycle_events.specs.Resolution.{event_after}
 use Rattle.std.proofs.lemmas.Bool.{and_parts, and_from, eqb-true, eq-eqb, lt-ltb, ltb-true, ne_eqb}
 use Rattle.std.proofs.lemmas.Option.{same_Some}
 use Rattle.relax_edges.specs.declared.kinds.Dir.{Dir}
@@ -35,7 +35,7 @@ use Rattle.program_meaning.specs.Accesses.{Access, Barred}
 use Rattle.program_meaning.specs.Executions.{Execution, same_write}
 use Rattle.program_meaning.specs.Coherence.{source_at}
 use Rattle.program_meaning.specs.Standing.{AccessAt, NamedAccess, access_at, AreAt, ComesBefore, Communicates, CommunicatesBy, Reaches, Joins, mask_of, is_in_mask, IsTied, BarriersWait, DependsBy, TiesBy, Stands}
-use Rattle.execution_laws.proofs.Names.{same_write-refl, same_write-true}
+use Rattle.program_meaning.proofs.Names.{same_write-refl, same_write-true}
 use Rattle.exec_meaning.specs.StandingEdges.{same_pick, same_fence, barriers_agree, is_alone, is_none, are_at, is_source, comes_before, communicates, communicates_by, reaches, joins, same_answer, depends, barriers_wait, depends_by, ties_by, stands}
 
 both : {P Q : Type 0} (b c : Bool) → Decides b P → Decides c Q → Decides (b && c) (P × Q)

@@ -6,8 +6,8 @@ use Rattle.relax_edges.specs.declared.kinds.Reach.TheVariants.{Internal}
 use Rattle.relax_edges.specs.declared.kinds.Com.TheVariants.{Rf}
 use Rattle.relax_edges.specs.declared.edge.Edge.{Edge}
 use Rattle.relax_edges.specs.declared.edge.Edge.TheVariants as edges
-use Rattle.resolution_laws.specs.Resolution.{IsResolved, edge_at, event_after}
-use Rattle.resolution_laws.proofs.Around.{source_after}
+use Rattle.cycle_events.specs.Resolution.{IsResolved, edge_at, event_after}
+use Rattle.cycle_events.proofs.Around.{source_after}
 use Rattle.program_meaning.specs.declared.WriteAt.{WriteAt}
 use Rattle.program_meaning.specs.Accesses.{Access, Visit, at_name}
 use Rattle.program_meaning.specs.Executions.{Execution}

@@ -17,7 +17,7 @@ use Rattle.program_meaning.specs.Accesses.{Access}
 use Rattle.program_meaning.specs.Executions.{Execution}
 use Rattle.program_meaning.specs.Coherence.{final_value}
 use Rattle.program_meaning.specs.Programs.{Program, runs_of, held_at_last, accesses_in}
-use Rattle.test_laws.specs.FinalStates.{final_state}
+use Rattle.tests_force_cycles.specs.FinalStates.{final_state}
 use Rattle.exec_meaning.specs.EndedRuns.{ended_run}
 use Rattle.exec_meaning.specs.Finals.{registers_at, all_registers, places_at}
 

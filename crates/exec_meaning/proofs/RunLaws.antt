@@ -17,8 +17,8 @@ use Rattle.program_meaning.specs.declared.WriteAt.{WriteAt}
 use Rattle.program_meaning.specs.Accesses.{Access, visits_of, accesses_of}
 use Rattle.program_meaning.specs.Executions.{Execution, IsExecutionOf}
 use Rattle.program_meaning.specs.Programs.{Program, run_of, runs_of, made_in, IsCandidate, visits_in, accesses_in}
-use Rattle.execution_laws.specs.Deciding.{has_ended, all_ended}
-use Rattle.execution_laws.proofs.Runs.{runs-count, accesses-count, all_ended_means, all_ended_from}
+use Rattle.program_meaning.specs.Deciding.{has_ended, all_ended}
+use Rattle.program_meaning.proofs.Runs.{runs-count, accesses-count, all_ended_means, all_ended_from}
 use Rattle.exec_meaning.specs.EndedRuns.{ended_run, IsRun, IsRunIn}
 
 -- the run of a thread among those of all

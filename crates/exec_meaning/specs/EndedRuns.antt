@@ -6,7 +6,7 @@ use Rattle.micro_ops.specs.declared.operation.Item.TheVariants as items
 use Rattle.program_meaning.specs.Accesses.{Access}
 use Rattle.micro_ops.specs.Running.{Outcome, Ended}
 use Rattle.micro_ops.specs.RunThreads.{EndedRun, value_in_run}
-use Rattle.execution_laws.specs.Deciding.{has_ended, all_ended}
+use Rattle.program_meaning.specs.Deciding.{has_ended, all_ended}
 
 -- the outcome of a run that came to its end
 abbrev pub ended_run : EndedRun → Outcome

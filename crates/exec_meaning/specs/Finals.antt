@@ -8,7 +8,7 @@ use Rattle.final_cond.specs.States.{FinalState, value_in_state}
 use Rattle.litmus_text.specs.ReadPrograms.{program_read}
 use Rattle.litmus_text.specs.TestReading.{TestRead}
 use Rattle.program_meaning.specs.Executions.{Execution}
-use Rattle.test_laws.specs.FinalStates.{final_state}
+use Rattle.tests_force_cycles.specs.FinalStates.{final_state}
 
 -- the registers of a thread with their values, from number k on, under these names
 abbrev pub registers_at : ℕ → (ℕ → Value) → ℕ → List (List ℕ) → FinalState

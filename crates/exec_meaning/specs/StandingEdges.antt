@@ -20,7 +20,7 @@ use Rattle.relax_edges.specs.declared.edge.Edge.{Edge}
 use Rattle.relax_edges.specs.EdgeTable.{source_of, target_of, reach_of, sd_of, kind_of, source_mark, target_mark, same_dir, same_mark}
 use Rattle.micro_ops.specs.declared.operation.Barrier.{Barrier}
 use Rattle.micro_ops.specs.declared.operation.Barrier.TheVariants as barriers
-use Rattle.resolution_laws.specs.Resolution.{edge_at, event_after}
+use Rattle.cycle_events.specs.Resolution.{edge_at, event_after}
 use Rattle.exec_meaning.specs.declared.edges.Tie.{Tie}
 use Rattle.exec_meaning.specs.declared.edges.Tie.TheVariants as ties
 use Rattle.program_meaning.specs.declared.WriteAt.{WriteAt}

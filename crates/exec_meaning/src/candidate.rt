@@ -4,7 +4,7 @@ ghost use Rattle.program_meaning.specs.Accesses.{at_name};
 ghost use Rattle.program_meaning.specs.Executions.{same_write, IsExecutionOf};
 ghost use Rattle.program_meaning.specs.Programs.{IsCandidate};
 ghost use Rattle.litmus_text.specs.ReadPrograms.{program_read};
-ghost use Rattle.execution_laws.specs.Deciding.{every, name, writes_there, can_read, are_reads, are_distinct, is_covered, thread_covered, is_order, reads_fit, orders_fit, lists_fit};
+ghost use Rattle.program_meaning.specs.Deciding.{every, name, writes_there, can_read, are_reads, are_distinct, is_covered, thread_covered, is_order, reads_fit, orders_fit, lists_fit};
 
 use crate::accesses::{
     Accesses, access_at, all_accesses, has_numbers, is_read, is_same, writes_to,
@@ -32,7 +32,7 @@ fn can_read(all: &[Accesses], access: &Access, from: Option<WriteAt>) -> bool
 }
 
 /// Whether reads are those of the reading accesses of a thread, in order.
-#[tactic(auto, unfolding(execution_laws::specs::Deciding::are_reads))]
+#[tactic(auto, unfolding(program_meaning::specs::Deciding::are_reads))]
 fn are_reads(all: &[Accesses], accesses: &[Access], reads: &[Read]) -> bool
     ensures { result ≡ are_reads all.now accesses.now reads.now }
 {
@@ -154,7 +154,7 @@ fn do_lists_fit(all: &[Accesses], exec: &Execution) -> bool
     do_reads_fit(all, exec) && do_orders_fit(all, exec)
 }
 
-#[tactic(auto, using(execution_laws::proofs::Candidates::execution_means, execution_laws::proofs::Candidates::execution_from))]
+#[tactic(auto, using(program_meaning::proofs::Candidates::execution_means, program_meaning::proofs::Candidates::execution_from))]
 fn is_execution(all: &[Accesses], exec: &Execution) -> bool
     requires { length exec.now.reads ≡ length all.now }
     ensures { IsTrue result ↔ IsExecutionOf all.now (length exec.now.orders) exec.now }

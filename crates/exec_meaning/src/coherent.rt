@@ -4,7 +4,7 @@ ghost use Rattle.program_meaning.specs.Executions.{same_write};
 ghost use Rattle.program_meaning.specs.Coherence.{order_place, order_at, read_at, source_at, coherence_place, IsCoherent};
 ghost use Rattle.program_meaning.specs.Programs.{IsCandidate, IsCoherentIn};
 ghost use Rattle.litmus_text.specs.ReadPrograms.{program_read};
-ghost use Rattle.execution_laws.specs.Deciding.{name, may_follow, agrees, agrees_later, thread_coheres, coheres};
+ghost use Rattle.program_meaning.specs.Deciding.{name, may_follow, agrees, agrees_later, thread_coheres, coheres};
 
 use crate::accesses::{Accesses, all_accesses, has_numbers, is_read};
 use crate::execution::{Execution, Read};
@@ -261,7 +261,7 @@ fn threads_cohere(all: &[Accesses], exec: &Execution) -> bool
     true
 }
 
-#[tactic(auto, using(execution_laws::proofs::CoherenceLaws::coheres_means, execution_laws::proofs::CoherenceLaws::coheres_from))]
+#[tactic(auto, using(program_meaning::proofs::CoherenceLaws::coheres_means, program_meaning::proofs::CoherenceLaws::coheres_from))]
 fn coheres(all: &[Accesses], exec: &Execution) -> bool
     ensures { IsTrue result ↔ IsCoherent all.now exec.now }
 {

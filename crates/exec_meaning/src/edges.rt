@@ -1,6 +1,6 @@
 ghost use Rattle.std.specs.Prelude.{◌≡◌, ◌↔◌, ◌==◌, ◌^◌, ◌<◌, IsTrue, IfOk, length, map};
 ghost use Rattle.std.specs.Int.{bit_at};
-ghost use Rattle.resolution_laws.specs.Resolution.{event_after};
+ghost use Rattle.cycle_events.specs.Resolution.{event_after};
 ghost use Rattle.program_meaning.specs.Accesses.{at_name, visits_of};
 ghost use Rattle.program_meaning.specs.Standing.{access_at, is_in_mask, event_name};
 ghost use Rattle.program_meaning.specs.Programs.{IsCandidate};

@@ -12,16 +12,16 @@ use Rattle.final_cond.specs.declared.cond.Quantifier.TheVariants.{Exists, NotExi
 use Rattle.final_cond.specs.declared.cond.TheConstants.{MAX_TERMS}
 use Rattle.final_cond.specs.declared.errors.CondKind.TheVariants.{BadTerm}
 use Rattle.final_cond.specs.declared.read.Follow.TheVariants as follows
-use Rattle.text_laws.specs.Names.{is_place_byte}
+use Rattle.text_parts_laws.specs.Names.{is_place_byte}
 use Rattle.final_cond.specs.Conditions.{LeftSeen, InRegister, AtPlace, TermSeen, CondSeen}
 use Rattle.final_cond.specs.CondText.{quantifier_word, left_text, term_text, terms_text, cond_text}
-use Rattle.text_laws.specs.LeadingRuns.{leading_run, after_run}
-use Rattle.text_laws.specs.Blanks.{is_blank, unblanked}
+use Rattle.text_parts_laws.specs.LeadingRuns.{leading_run, after_run}
+use Rattle.text_parts_laws.specs.Blanks.{is_blank, unblanked}
 use Rattle.final_cond.specs.FormLaws.{FormNamed, form_named, place_bytes}
 use Rattle.final_cond.specs.ConditionReadBack.{IsFormedTerm, IsFormedCondition}
 use Rattle.final_cond.specs.ConditionReading.{sign_read, opening_read, left_at_start, register_at_start, has_form, left_read, value_read, right_read, term_read, follow_read, terms_read, parts_read, cond_read}
-use Rattle.text_laws.proofs.NumberLaws.{number_of-decimal}
-use Rattle.text_laws.proofs.RunLaws.{after_halts, stops, IsRun, whole_run}
+use Rattle.text_parts_laws.proofs.NumberLaws.{number_of-decimal}
+use Rattle.text_parts_laws.proofs.RunLaws.{after_halts, stops, IsRun, whole_run}
 
 -- a text that begins with a byte of a word isn't changed where blanks are passed over
 digits_unblanked : (digits rest : List ℕ) → list_all is_ascii_digit digits ≡ true → 0 < length digits → unblanked (digits ++ rest) ≡ digits ++ rest

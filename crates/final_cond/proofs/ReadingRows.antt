@@ -7,9 +7,9 @@ use Rattle.final_cond.specs.declared.cond.Quantifier.TheVariants.{Exists, NotExi
 use Rattle.final_cond.specs.declared.errors.CondKind.{CondKind}
 use Rattle.final_cond.specs.declared.errors.CondKind.TheVariants.{BadQuantifier, BadTerm, BadValue, BadEnd}
 use Rattle.final_cond.specs.declared.errors.CondError.{CondError}
-use Rattle.text_laws.specs.Names.{is_place_name, is_register_name}
-use Rattle.text_laws.specs.NumberTexts.{number_of}
-use Rattle.text_laws.specs.LeadingRuns.{leading_run, after_run}
+use Rattle.text_parts_laws.specs.Names.{is_place_name, is_register_name}
+use Rattle.text_parts_laws.specs.NumberTexts.{number_of}
+use Rattle.text_parts_laws.specs.LeadingRuns.{leading_run, after_run}
 use Rattle.final_cond.specs.Conditions.{InRegister, AtPlace, TermSeen, CondSeen}
 use Rattle.final_cond.specs.ConditionReading.{sign_read, opening_read, left_at_start, left_read, value_read, right_read, term_read, follow_read, terms_read, parts_read, cond_read}
 

@@ -5,9 +5,9 @@ use Rattle.final_cond.specs.declared.errors.CondKind.TheVariants.{BadEnd}
 use Rattle.final_cond.specs.declared.read.Follow.{Follow}
 use Rattle.final_cond.specs.declared.read.Follow.TheVariants as follows
 use Rattle.final_cond.specs.Conditions.{LeftSeen, TermSeen}
-use Rattle.text_laws.specs.Blanks.{unblanked}
+use Rattle.text_parts_laws.specs.Blanks.{unblanked}
 use Rattle.final_cond.specs.ConditionReading.{Fault, ConditionRead, cond_fault, term_read, follow_read, terms_read, before_terms}
-use Rattle.text_laws.specs.ReadingSteps.{◌>>=◌}
+use Rattle.text_parts_laws.specs.ReadingSteps.{◌>>=◌}
 
 -- terms, and those that are read after them
 abbrev pub remainder : List TermSeen → ConditionRead (List TermSeen) → ConditionRead (List TermSeen)

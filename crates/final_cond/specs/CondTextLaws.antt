@@ -3,9 +3,9 @@ use Rattle.std.proofs.Common.{◌≡◌, ℕ, ◌<◌, List, [], ◌∷◌, ◌+
 use Rattle.std.specs.Prelude.{Bool, true, codes}
 use Rattle.std.specs.Fmt.{decimal}
 use Rattle.std.specs.List.{AllByRecursion, list_all, flat_map}
-use Rattle.text_laws.specs.Names.{is_place_byte}
-use Rattle.text_laws.proofs.NameLaws.{place_passes, letters_pass, decimal_passes}
-use Rattle.text_laws.proofs.CutLaws.{all_both}
+use Rattle.text_parts_laws.specs.Names.{is_place_byte}
+use Rattle.text_parts_laws.proofs.NameLaws.{place_passes, letters_pass, decimal_passes}
+use Rattle.text_parts_laws.proofs.CutLaws.{all_both}
 use Rattle.final_cond.specs.Conditions.{LeftSeen, InRegister, AtPlace, TermSeen}
 use Rattle.final_cond.specs.CondText.{left_text, term_text, further_term_text, terms_text}
 use Rattle.final_cond.specs.ConditionReadBack.{IsFormedTerm}

@@ -12,13 +12,13 @@ use Rattle.final_cond.specs.declared.errors.CondKind.TheVariants.{BadQuantifier,
 use Rattle.final_cond.specs.declared.errors.CondError.{CondError}
 use Rattle.final_cond.specs.declared.read.Follow.{Follow}
 use Rattle.final_cond.specs.declared.read.Follow.TheVariants as follows
-use Rattle.text_laws.specs.Names.{is_place_byte, is_place_name, is_register_name}
+use Rattle.text_parts_laws.specs.Names.{is_place_byte, is_place_name, is_register_name}
 use Rattle.final_cond.specs.Conditions.{LeftSeen, InRegister, AtPlace, TermSeen, CondSeen}
-use Rattle.text_laws.specs.NumberTexts.{number_of}
-use Rattle.text_laws.specs.LeadingRuns.{leading_run, after_run}
-use Rattle.text_laws.specs.Blanks.{unblanked}
-use Rattle.text_laws.specs.Words.{is_argument_byte}
-use Rattle.text_laws.specs.ReadingSteps.{◌>>=◌}
+use Rattle.text_parts_laws.specs.NumberTexts.{number_of}
+use Rattle.text_parts_laws.specs.LeadingRuns.{leading_run, after_run}
+use Rattle.text_parts_laws.specs.Blanks.{unblanked}
+use Rattle.text_parts_laws.specs.Words.{is_argument_byte}
+use Rattle.text_parts_laws.specs.ReadingSteps.{◌>>=◌}
 
 -- what is faulty, and the text from there on
 pub record Fault : Type 0 where

@@ -4,8 +4,8 @@ use Rattle.std.specs.Prelude.{true, nat_lt}
 use Rattle.std.specs.Char.{is_ascii_alphanumeric}
 use Rattle.std.specs.List.{list_all}
 use Rattle.std.proofs.lemmas.Bool.{and_parts, ltb-true}
-use Rattle.text_laws.specs.Names.{is_place_byte, is_register_name}
-use Rattle.text_laws.proofs.NameLaws.{place_name_bytes, register_name_bytes}
+use Rattle.text_parts_laws.specs.Names.{is_place_byte, is_register_name}
+use Rattle.text_parts_laws.proofs.NameLaws.{place_name_bytes, register_name_bytes}
 use Rattle.final_cond.specs.Conditions.{InRegister, AtPlace}
 use Rattle.final_cond.specs.ConditionReading.{has_form}
 

@@ -1,7 +1,7 @@
 ghost use Rattle.std.specs.Prelude.{◌≡◌, ◌≤◌, true, length, option_map, cond, Some, None};
 ghost use Rattle.std.specs.Char.{is_ascii};
 ghost use Rattle.std.specs.List.{list_all};
-ghost use Rattle.text_laws.specs.Names.{is_place_name, is_register_name};
+ghost use Rattle.text_parts_laws.specs.Names.{is_place_name, is_register_name};
 
 use crate::cond::{PlaceName, RegName};
 use arrayvec::ArrayString;
@@ -13,7 +13,7 @@ pub const MAX_CONDITION_NAME: usize = 16;
 
 /// Whether these bytes have the form of a place's name: a letter or `_`, then letters, digits and
 /// `_`, at most `MAX_CONDITION_NAME` bytes.
-#[tactic(auto, using(text_laws::proofs::NameLaws::is_place_name_parts), unfolding(text_laws::specs::Names::is_place_name))]
+#[tactic(auto, using(text_parts_laws::proofs::NameLaws::is_place_name_parts), unfolding(text_parts_laws::specs::Names::is_place_name))]
 pub fn is_place_name(name: &[u8]) -> bool
     ensures { result ≡ is_place_name name.now }
 {
@@ -28,7 +28,7 @@ pub fn is_place_name(name: &[u8]) -> bool
 
 /// Whether these bytes have the form of a register's name: a letter, then letters and digits, at
 /// most `MAX_CONDITION_NAME` bytes.
-#[tactic(auto, using(text_laws::proofs::NameLaws::is_register_name_parts), unfolding(text_laws::specs::Names::is_register_name))]
+#[tactic(auto, using(text_parts_laws::proofs::NameLaws::is_register_name_parts), unfolding(text_parts_laws::specs::Names::is_register_name))]
 pub fn is_register_name(name: &[u8]) -> bool
     ensures { result ≡ is_register_name name.now }
 {
@@ -41,7 +41,7 @@ pub fn is_register_name(name: &[u8]) -> bool
     }
 }
 
-#[tactic(auto, using(text_laws::proofs::NameLaws::utf8_from_ascii))]
+#[tactic(auto, using(text_parts_laws::proofs::NameLaws::utf8_from_ascii))]
 fn name_of(bytes: &[u8]) -> ArrayString<MAX_CONDITION_NAME>
     requires ascii { list_all is_ascii bytes.now ≡ true }
     requires short { length bytes.now ≤ MAX_CONDITION_NAME }
@@ -56,7 +56,7 @@ fn name_of(bytes: &[u8]) -> ArrayString<MAX_CONDITION_NAME>
 }
 
 /// The name of a place, where these bytes have its form.
-#[tactic(auto, using(text_laws::proofs::NameLaws::place_name_ascii, text_laws::proofs::NameLaws::place_name_short))]
+#[tactic(auto, using(text_parts_laws::proofs::NameLaws::place_name_ascii, text_parts_laws::proofs::NameLaws::place_name_short))]
 pub fn place_name(name: &[u8]) -> Option<PlaceName>
     ensures { option_map (λ p. p.bytes) result ≡ cond (is_place_name name.now) (Some name.now) None }
 {
@@ -68,7 +68,7 @@ pub fn place_name(name: &[u8]) -> Option<PlaceName>
 }
 
 /// The name of a register, where these bytes have its form.
-#[tactic(auto, using(text_laws::proofs::NameLaws::register_name_ascii, text_laws::proofs::NameLaws::register_name_short))]
+#[tactic(auto, using(text_parts_laws::proofs::NameLaws::register_name_ascii, text_parts_laws::proofs::NameLaws::register_name_short))]
 pub fn register_name(name: &[u8]) -> Option<RegName>
     ensures { option_map (λ p. p.bytes) result ≡ cond (is_register_name name.now) (Some name.now) None }
 {

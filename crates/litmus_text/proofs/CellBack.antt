@@ -5,16 +5,16 @@ use Rattle.std.specs.List.{list_all}
 use Rattle.std.proofs.Math.ListN.{replicate}
 use Rattle.std.proofs.lemmas.Bool.{and_from}
 use Rattle.list_laws.proofs.Cases.{by_test}
-use Rattle.text_laws.specs.Blanks.{is_blank, before_blanks, trim_blanks, is_inked}
-use Rattle.text_laws.specs.LeadingRuns.{leading_run, after_run}
+use Rattle.text_parts_laws.specs.Blanks.{is_blank, before_blanks, trim_blanks, is_inked}
+use Rattle.text_parts_laws.specs.LeadingRuns.{leading_run, after_run}
 use Rattle.arch_trait.specs.InstructionReading.{operands_in, operands_if, written_in, instr_read}
 use Rattle.arch_trait.specs.Writing.{Writing}
 use Rattle.arch_trait.specs.Cells.{is_cell_byte}
-use Rattle.text_laws.specs.Words.{is_nil}
+use Rattle.text_parts_laws.specs.Words.{is_nil}
 use Rattle.litmus_text.specs.TestTable.{Column, Among}
 use Rattle.litmus_text.specs.TableScan.{instr_put, instr_in, instr_or_nothing, cell_read}
-use Rattle.text_laws.proofs.BlankLaws.{kept_inked, spaces_class, trimmed_padded}
-use Rattle.text_laws.proofs.CutLaws.{cut_back, cut_none, all_both, without_class}
+use Rattle.text_parts_laws.proofs.BlankLaws.{kept_inked, spaces_class, trimmed_padded}
+use Rattle.text_parts_laws.proofs.CutLaws.{cut_back, cut_none, all_both, without_class}
 
 -- so many blanks
 abbrev pub blanks : ℕ → List ℕ

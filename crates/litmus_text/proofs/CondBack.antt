@@ -7,11 +7,11 @@ use Rattle.std.specs.List.{list_all, AllByRecursion}
 use Rattle.final_cond.specs.declared.cond.TheConstants.{MAX_TERMS}
 use Rattle.final_cond.specs.declared.cond.Quantifier.{Quantifier}
 use Rattle.final_cond.specs.declared.cond.Quantifier.TheVariants.{Exists, NotExists, Forall}
-use Rattle.text_laws.specs.LeadingRuns.{leading_run, after_run}
+use Rattle.text_parts_laws.specs.LeadingRuns.{leading_run, after_run}
 use Rattle.final_cond.specs.Conditions.{LeftSeen, InRegister, AtPlace, TermSeen, CondSeen}
 use Rattle.final_cond.specs.CondText.{quantifier_word, left_text, term_text, terms_text, cond_text}
 use Rattle.final_cond.specs.CondTextLaws.{terms_pass}
-use Rattle.text_laws.proofs.RunLaws.{stops}
+use Rattle.text_parts_laws.proofs.RunLaws.{stops}
 use Rattle.final_cond.proofs.BackLaws.{left_unblanked, left_back, right_back, term_parts, closing, joining, opening_back}
 use Rattle.arch_trait.specs.Writing.{Writing}
 use Rattle.arch_trait.specs.Cells.{ends_rows, is_line_byte}
@@ -22,7 +22,7 @@ use Rattle.litmus_text.specs.Condition.{Setting, condition_read}
 use Rattle.litmus_text.specs.ConditionScan.{Mentioned, left_put, term_here, terms_here, cond_scanned}
 use Rattle.litmus_text.proofs.ConditionScanned.{scanned_is}
 use Rattle.litmus_text.specs.ReadTerms.{left_mention, terms_mention, is_known, TermFits}
-use Rattle.text_laws.proofs.CutLaws.{all_both}
+use Rattle.text_parts_laws.proofs.CutLaws.{all_both}
 use Rattle.litmus_text.proofs.ElementLaws.{all_weaker}
 use Rattle.litmus_text.proofs.LineBack.{IsLine}
 use Rattle.litmus_text.proofs.HeadBack.{line_is}

@@ -5,7 +5,7 @@ use Rattle.std.proofs.Common.{refl, ◌∙◌, arith}
 use Rattle.final_cond.specs.declared.cond.TheConstants.{MAX_TERMS}
 use Rattle.final_cond.specs.declared.cond.Quantifier.{Quantifier}
 use Rattle.final_cond.specs.declared.read.Follow.{Follow}
-use Rattle.text_laws.specs.Blanks.{unblanked}
+use Rattle.text_parts_laws.specs.Blanks.{unblanked}
 use Rattle.final_cond.specs.Conditions.{TermSeen}
 use Rattle.final_cond.specs.ConditionReading.{Fault, opening_read, follow_read, end_at_start}
 use Rattle.arch_trait.specs.Writing.{Writing}
@@ -13,7 +13,7 @@ use Rattle.litmus_text.specs.declared.errors.TestKind.{TestKind}
 use Rattle.litmus_text.specs.declared.errors.TestKind.TheVariants.{TooLarge}
 use Rattle.litmus_text.specs.declared.errors.TextError.{TextError}
 use Rattle.litmus_text.specs.TextLines.{bad}
-use Rattle.text_laws.specs.ReadingSteps.{◌>>=◌}
+use Rattle.text_parts_laws.specs.ReadingSteps.{◌>>=◌}
 use Rattle.litmus_text.specs.Condition.{Setting, at_begin, TermsFormed, faulty_with}
 use Rattle.litmus_text.specs.Condition.{term_formed, followed_by, terms_formed, lines_over, names_with, CondRead}
 use Rattle.litmus_text.specs.Condition.{condition_of, cond_here}

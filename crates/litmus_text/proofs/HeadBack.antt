@@ -12,20 +12,20 @@ use Rattle.relax_edges.specs.declared.edge.Edge.{Edge}
 use Rattle.relax_edges.specs.Architectures.{arch_word}
 use Rattle.relax_edges.specs.WordParts.{word_of}
 use Rattle.relax_edges.specs.AllEdges.{edges_in_order}
-use Rattle.cycle_laws.proofs.RankLaws.{each_edge}
-use Rattle.text_laws.specs.Blanks.{is_blank}
-use Rattle.text_laws.specs.LeadingRuns.{leading_run}
+use Rattle.edge_algebra_laws.proofs.RankLaws.{each_edge}
+use Rattle.text_parts_laws.specs.Blanks.{is_blank}
+use Rattle.text_parts_laws.specs.LeadingRuns.{leading_run}
 use Rattle.arch_trait.specs.Cells.{is_line_byte}
 use Rattle.litmus_text.specs.TextLines.{Lines, line, is_passed}
-use Rattle.text_laws.specs.Words.{words}
+use Rattle.text_parts_laws.specs.Words.{words}
 use Rattle.litmus_text.specs.Header.{header_read, quote_read, is_setting, after_settings, quote_cut}
-use Rattle.text_laws.specs.Names.{is_name_byte}
+use Rattle.text_parts_laws.specs.Names.{is_name_byte}
 use Rattle.litmus_text.specs.Printable.{IsTestName}
 use Rattle.litmus_text.specs.TestText.{header_line, edges_line}
-use Rattle.text_laws.proofs.BlankLaws.{trimmed_class}
-use Rattle.text_laws.proofs.WordLaws.{words_both, one_word}
-use Rattle.text_laws.proofs.OrderLaws.{bytes_same}
-use Rattle.text_laws.proofs.CutLaws.{cut_back, all_both, without_class}
+use Rattle.text_parts_laws.proofs.BlankLaws.{trimmed_class}
+use Rattle.text_parts_laws.proofs.WordLaws.{words_both, one_word}
+use Rattle.text_parts_laws.proofs.OrderLaws.{bytes_same}
+use Rattle.text_parts_laws.proofs.CutLaws.{cut_back, all_both, without_class}
 use Rattle.litmus_text.proofs.LineBack.{IsLine}
 
 -- a name byte is one of a line, and no blank

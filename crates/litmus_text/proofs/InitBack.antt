@@ -9,17 +9,17 @@ use Rattle.litmus_text.specs.Placing.{place_in}
 use Rattle.std.proofs.lemmas.List.Concat.{flat_map-append}
 use Rattle.std.proofs.lemmas.List.Folds.{list_all-append}
 use Rattle.list_laws.proofs.Elements.{list_all-weaker, all_append, all_parts}
-use Rattle.text_laws.specs.Blanks.{is_blank}
+use Rattle.text_parts_laws.specs.Blanks.{is_blank}
 use Rattle.arch_trait.specs.Threads.{Puts, ThreadCode}
 use Rattle.arch_trait.specs.Writing.{Writing, WritesBack, name_in}
 use Rattle.litmus_text.specs.TextLines.{Lines, ends, line}
-use Rattle.text_laws.specs.ReadingSteps.{◌>>=◌}
+use Rattle.text_parts_laws.specs.ReadingSteps.{◌>>=◌}
 use Rattle.litmus_text.specs.Joined.{Joined, no_text, with_text}
 use Rattle.litmus_text.specs.InitialState.{closed, braced, brace_ends, braced_read, initial_read}
 use Rattle.litmus_text.specs.TestText.{item_text, items_lines, initial_lines}
 use Rattle.litmus_text.specs.Items.{Link, links_of, links_mention, link_values, links_once, LinkFits}
-use Rattle.text_laws.specs.Cuts.{is_without}
-use Rattle.text_laws.proofs.CutLaws.{cut_back, cut_none, all_both, without_class}
+use Rattle.text_parts_laws.specs.Cuts.{is_without}
+use Rattle.text_parts_laws.proofs.CutLaws.{cut_back, cut_none, all_both, without_class}
 use Rattle.litmus_text.proofs.ElementLaws.{all_weaker}
 use Rattle.litmus_text.proofs.LineBack.{IsLine, before}
 use Rattle.litmus_text.proofs.HeadBack.{line_is, not_all_blank}

@@ -5,13 +5,13 @@ use Rattle.std.specs.List.{list_all, position_from}
 use Rattle.std.specs.Str.{bytes_eq}
 use Rattle.std.proofs.lemmas.Slice.Eq.{bytes_eq-Decides}
 use Rattle.final_cond.specs.declared.errors.CondKind.TheVariants.{BadTerm}
-use Rattle.text_laws.specs.Blanks.{unblanked, trim_blanks}
-use Rattle.text_laws.proofs.BlankLaws.{trimmed_start}
+use Rattle.text_parts_laws.specs.Blanks.{unblanked, trim_blanks}
+use Rattle.text_parts_laws.proofs.BlankLaws.{trimmed_start}
 use Rattle.final_cond.specs.Conditions.{LeftSeen}
-use Rattle.text_laws.specs.Names.{is_register_name}
+use Rattle.text_parts_laws.specs.Names.{is_register_name}
 use Rattle.final_cond.specs.ConditionReading.{Fault, found, left_at_start, left_read, only_known, has_form}
 use Rattle.arch_trait.specs.Writing.{Writing}
-use Rattle.text_laws.specs.Words.{is_nil}
+use Rattle.text_parts_laws.specs.Words.{is_nil}
 use Rattle.litmus_text.specs.InitialState.{item_with, whole_left, item_if}
 
 -- a name without the form of a register's is no register's

@@ -2,15 +2,15 @@
 use Rattle.std.proofs.Common.{◌≡◌, ◌==◌, ◌+◌, ℕ, List, [], ◌∷◌, Some, None, Result, Ok, Err, true, length, refl, sym, ap, ◌∙◌, append_assoc, arith}
 use Rattle.litmus_text.specs.declared.errors.TextError.{TextError}
 use Rattle.arch_trait.specs.Writing.{Writing}
-use Rattle.text_laws.specs.Cuts.{cut_at, CutParts, is_without}
+use Rattle.text_parts_laws.specs.Cuts.{cut_at, CutParts, is_without}
 use Rattle.litmus_text.specs.TextCuts.{pieces}
 use Rattle.litmus_text.specs.TextLines.{Lines, ends, line}
-use Rattle.text_laws.specs.ReadingSteps.{◌>>=◌}
+use Rattle.text_parts_laws.specs.ReadingSteps.{◌>>=◌}
 use Rattle.litmus_text.specs.Joined.{Joined, with_text, all_joined}
-use Rattle.text_laws.specs.Lines.{but_last}
+use Rattle.text_parts_laws.specs.Lines.{but_last}
 use Rattle.litmus_text.specs.InitialState.{Begun, item_read, items_read, closed, open_to, braced}
 use Rattle.litmus_text.proofs.CutBack.{piece_last}
-use Rattle.text_laws.proofs.PieceLaws.{first_piece}
+use Rattle.text_parts_laws.proofs.PieceLaws.{first_piece}
 use Rattle.litmus_text.proofs.CutLaws.{pieces_cut}
 
 -- a blank and a line after a text

@@ -3,12 +3,12 @@ use Rattle.std.proofs.Common.{◌≡◌, ◌+◌, ℕ, List, [], ◌∷◌, ◌+
 use Rattle.std.specs.List.{list_all, flat_map, slice_split, AllByRecursion}
 use Rattle.arch_trait.specs.Cells.{is_line_byte}
 use Rattle.litmus_text.specs.TextLines.{Lines, ends, line, is_passed, lines_in, lines_from}
-use Rattle.text_laws.specs.Lines.{is_line_feed}
+use Rattle.text_parts_laws.specs.Lines.{is_line_feed}
 use Rattle.litmus_text.specs.TestText.{with_line_feed}
 use Rattle.litmus_text.proofs.CutBack.{piece_back}
-use Rattle.text_laws.proofs.CutLaws.{without_class}
-use Rattle.text_laws.proofs.LineLaws.{class_kept}
-use Rattle.text_laws.proofs.PieceLaws.{first_piece}
+use Rattle.text_parts_laws.proofs.CutLaws.{without_class}
+use Rattle.text_parts_laws.proofs.LineLaws.{class_kept}
+use Rattle.text_parts_laws.proofs.PieceLaws.{first_piece}
 
 -- a line of printed bytes that isn't passed over
 pub record IsLine (text : List ℕ) : Type 0 where

@@ -9,7 +9,7 @@ use Rattle.std.proofs.lemmas.Map.Steps.{length-le_from_distinct_below}
 use Rattle.std.proofs.lemmas.Slice.Eq.{bytes_eq-Decides}
 use Rattle.arch_trait.specs.PlaceNames.{number_in, number_added, names_added, number_or_next, with_name}
 use Rattle.litmus_text.specs.Placing.{place_in}
-use Rattle.text_laws.proofs.OrderLaws.{bytes_same}
+use Rattle.text_parts_laws.proofs.OrderLaws.{bytes_same}
 use Rattle.list_laws.proofs.Places.{none_passes}
 use Rattle.list_laws.proofs.Distinct.{distinct_push}
 use Rattle.list_laws.proofs.Elements.{all_append}

@@ -7,7 +7,7 @@ use Rattle.std.proofs.lemmas.Bool.{eqb-false, lt-ltb, cases_lt, leb-true, ltb-tr
 use Rattle.std.proofs.lemmas.List.Sums.{AllPass-from_list_all}
 use Rattle.std.proofs.lemmas.List.FromFn.{get_or-range_with_len, map-range_with_len_more, length-map-range_with_len}
 use Rattle.list_laws.proofs.Cases.{by_test}
-use Rattle.text_laws.specs.Names.{is_place_name, is_register_name}
+use Rattle.text_parts_laws.specs.Names.{is_place_name, is_register_name}
 use Rattle.micro_ops.specs.declared.operation.Micro.{Micro}
 use Rattle.micro_ops.specs.declared.operation.Micro.TheVariants as ops
 use Rattle.arch_trait.specs.declared.reading.InstrError.TheVariants as errors

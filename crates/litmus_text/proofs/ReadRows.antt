@@ -12,21 +12,21 @@ use Rattle.micro_ops.specs.declared.operation.Micro.{Micro}
 use Rattle.micro_ops.specs.declared.operation.Micro.TheVariants as ops
 use Rattle.micro_ops.specs.declared.operation.Barrier.TheVariants.{Fence}
 use Rattle.final_cond.specs.declared.cond.Quantifier.TheVariants.{Exists, NotExists}
-use Rattle.text_laws.specs.LeadingRuns.{leading_run, after_run}
-use Rattle.text_laws.specs.Names.{is_place_name, is_register_name}
-use Rattle.text_laws.specs.NumberTexts.{number_of}
+use Rattle.text_parts_laws.specs.LeadingRuns.{leading_run, after_run}
+use Rattle.text_parts_laws.specs.Names.{is_place_name, is_register_name}
+use Rattle.text_parts_laws.specs.NumberTexts.{number_of}
 use Rattle.final_cond.specs.Conditions.{LeftSeen, InRegister, AtPlace, TermSeen}
 use Rattle.final_cond.specs.ConditionReading.{opening_read, sign_read, left_read, left_at_start, right_read, value_read, follow_read}
 use Rattle.arch_trait.specs.PlaceNames.{number_in}
-use Rattle.text_laws.specs.Blanks.{before_blanks}
+use Rattle.text_parts_laws.specs.Blanks.{before_blanks}
 use Rattle.arch_trait.specs.InstructionReading.{operands_in}
 use Rattle.arch_trait.specs.Writing.{OperandTexts, none, one, two, Written, nothing, place, label, RawInstr, Writing, inside_brackets, immediate_number}
 use Rattle.arch_trait.specs.Cells.{ends_rows}
 use Rattle.litmus_text.specs.declared.errors.TestKind.TheVariants.{BadHeader, BadQuote, BadInit, BadTable, BadInstruction, BadLabel, BadCondition, TooLarge, EndMissing}
 use Rattle.litmus_text.specs.TextLines.{lines_from, lines_in, is_passed, bad}
-use Rattle.text_laws.specs.Lines.{without_return}
-use Rattle.text_laws.specs.Cuts.{cut_at}
-use Rattle.text_laws.specs.Words.{words}
+use Rattle.text_parts_laws.specs.Lines.{without_return}
+use Rattle.text_parts_laws.specs.Cuts.{cut_at}
+use Rattle.text_parts_laws.specs.Words.{words}
 use Rattle.litmus_text.specs.Header.{header_read, arch_read, quote_read, is_setting, after_settings}
 use Rattle.litmus_text.specs.Joined.{all_joined}
 use Rattle.litmus_text.specs.InitialState.{item_of, item_read, items_read, braced, initial_read}

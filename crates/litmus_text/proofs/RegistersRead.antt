@@ -5,7 +5,7 @@ use Rattle.relax_edges.specs.declared.kinds.Value.{Value}
 use Rattle.relax_edges.specs.declared.kinds.Value.TheVariants as values
 use Rattle.final_cond.specs.Conditions.{LeftSeen}
 use Rattle.arch_trait.specs.PlaceNames.{number_added, names_added}
-use Rattle.text_laws.specs.Blanks.{trim_blanks}
+use Rattle.text_parts_laws.specs.Blanks.{trim_blanks}
 use Rattle.arch_trait.specs.Writing.{Writing}
 use Rattle.litmus_text.specs.Joined.{Joined}
 use Rattle.litmus_text.specs.TextLines.{Lines}

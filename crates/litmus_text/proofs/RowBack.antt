@@ -6,8 +6,8 @@ use Rattle.std.proofs.lemmas.Bool.{lt-ltb, ltb-true, and_parts}
 use Rattle.std.proofs.lemmas.List.Sums.{sum_by-append, sum_by-cons}
 use Rattle.std.proofs.lemmas.Simd.{map-map}
 use Rattle.list_laws.proofs.Cases.{by_test}
-use Rattle.text_laws.specs.Names.{is_place_name}
-use Rattle.text_laws.proofs.NameLaws.{register_passes}
+use Rattle.text_parts_laws.specs.Names.{is_place_name}
+use Rattle.text_parts_laws.proofs.NameLaws.{register_passes}
 use Rattle.micro_ops.specs.declared.operation.Micro.{Micro}
 use Rattle.micro_ops.specs.declared.operation.Micro.TheVariants as ops
 use Rattle.arch_trait.specs.Threads.{Puts}
@@ -19,7 +19,7 @@ use Rattle.arch_trait.specs.ByteLaws.{place_in_cell}
 use Rattle.arch_trait.specs.Cells.{WritesCells, access_count, ends_rows, is_access, is_cell_byte, is_label_op}
 use Rattle.arch_trait.specs.LabelOrder.{is_next, labels_after, labels_in}
 use Rattle.litmus_text.specs.TextLines.{Lines, line}
-use Rattle.text_laws.specs.ReadingSteps.{◌>>=◌}
+use Rattle.text_parts_laws.specs.ReadingSteps.{◌>>=◌}
 use Rattle.litmus_text.specs.TestTable.{Column, Among, among, fits_in_column, cells_of}
 use Rattle.litmus_text.specs.TableScan.{instr_put, cell_read, row_read, before_columns, rows_scanned}
 use Rattle.litmus_text.specs.Placing.{op_renumbered, mentioned}

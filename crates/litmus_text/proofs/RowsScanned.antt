@@ -9,10 +9,10 @@ use Rattle.std.proofs.lemmas.Bool.{ne_eqb}
 use Rattle.std.proofs.Math.Dec.{eqb-suc-zero, eqb-zero-suc}
 use Rattle.list_laws.proofs.Cases.{by_test}
 use Rattle.micro_ops.specs.declared.operation.Micro.{Micro}
-use Rattle.text_laws.specs.Blanks.{trim_blanks}
-use Rattle.text_laws.specs.Cuts.{cut_at}
-use Rattle.text_laws.specs.ReadingSteps.{◌>>=◌}
-use Rattle.text_laws.specs.Words.{is_nil}
+use Rattle.text_parts_laws.specs.Blanks.{trim_blanks}
+use Rattle.text_parts_laws.specs.Cuts.{cut_at}
+use Rattle.text_parts_laws.specs.ReadingSteps.{◌>>=◌}
+use Rattle.text_parts_laws.specs.Words.{is_nil}
 use Rattle.arch_trait.specs.Cells.{ends_rows}
 use Rattle.arch_trait.specs.InstructionReading.{read_numbered, number_raw, written_in}
 use Rattle.arch_trait.specs.PlaceNames.{names_added}

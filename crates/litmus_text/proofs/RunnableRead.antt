@@ -19,9 +19,9 @@ use Rattle.arch_trait.specs.InstructionReading.{ReadInstr, with_label, read_numb
 use Rattle.arch_trait.specs.Writing.{Writing, Written, RawInstr, Name}
 use Rattle.litmus_text.specs.declared.errors.TextError.{TextError}
 use Rattle.litmus_text.specs.declared.reading.table.Placed.{Placed}
-use Rattle.text_laws.specs.Cuts.{cut_at}
+use Rattle.text_parts_laws.specs.Cuts.{cut_at}
 use Rattle.litmus_text.specs.TextLines.{Lines, ends, line}
-use Rattle.text_laws.specs.ReadingSteps.{◌>>=◌}
+use Rattle.text_parts_laws.specs.ReadingSteps.{◌>>=◌}
 use Rattle.litmus_text.specs.TestTable.{Column, no_column, no_columns, Among, among, fits_in_column, cells_of, is_label_row, comes_once, lands_among, labels_judged, all_labels_judged}
 use Rattle.litmus_text.specs.TableScan.{instr_put, instr_in, instr_or_nothing, cell_if, cell_read, row_read, rows_scanned}
 use Rattle.litmus_text.specs.Runnable.{IsRunnable, NamesRegisters, AllNameRegisters, ops_in, AllRunnable}

@@ -7,14 +7,14 @@ use Rattle.std.proofs.lemmas.List.{replicate_more}
 use Rattle.std.proofs.lemmas.Bool.{and_parts, and_from}
 use Rattle.list_laws.proofs.Elements.{list_all-weaker}
 use Rattle.list_laws.proofs.Cases.{by_test}
-use Rattle.text_laws.specs.Blanks.{is_blank}
-use Rattle.text_laws.specs.LeadingRuns.{leading_run, after_run}
+use Rattle.text_parts_laws.specs.Blanks.{is_blank}
+use Rattle.text_parts_laws.specs.LeadingRuns.{leading_run, after_run}
 use Rattle.micro_ops.specs.declared.operation.Micro.{Micro}
 use Rattle.arch_trait.specs.Threads.{Puts, ThreadCode}
 use Rattle.arch_trait.specs.Writing.{Writing, WritesBack, op_text, name_in}
 use Rattle.arch_trait.specs.Cells.{WritesCells, ends_rows, first_word, is_access, is_cell_byte, is_label_op, is_line_byte}
 use Rattle.arch_trait.specs.LabelOrder.{is_next, labels_after}
-use Rattle.text_laws.specs.Cuts.{cut_at, is_without}
+use Rattle.text_parts_laws.specs.Cuts.{cut_at, is_without}
 use Rattle.litmus_text.specs.TextCuts.{pieces}
 use Rattle.litmus_text.specs.TestTable.{cells_if, cells_of}
 use Rattle.litmus_text.specs.TestText.{column_of, columns_of, width_of, cell_text, row_line}
@@ -24,8 +24,8 @@ use Rattle.litmus_text.specs.Progress.{CodeFits, OpFits}
 use Rattle.litmus_text.proofs.LineBack.{IsLine}
 use Rattle.litmus_text.proofs.HeadBack.{line_is, not_all_blank}
 use Rattle.litmus_text.proofs.CutBack.{piece_back, piece_last}
-use Rattle.text_laws.proofs.CutLaws.{cut_back, all_both, without_class}
-use Rattle.text_laws.proofs.BlankLaws.{spaces_class, unblanked_spaces}
+use Rattle.text_parts_laws.proofs.CutLaws.{cut_back, all_both, without_class}
+use Rattle.text_parts_laws.proofs.BlankLaws.{spaces_class, unblanked_spaces}
 use Rattle.litmus_text.proofs.CellBack.{padded, Begins}
 use Rattle.litmus_text.proofs.RowBack.{next_text, AreCells, IsRow, AreRows, after_rows, named_op, text_begins}
 

@@ -8,7 +8,7 @@ use Rattle.arch_trait.specs.Writing.{Writing}
 use Rattle.litmus_text.specs.declared.errors.TextError.{TextError}
 use Rattle.litmus_text.specs.declared.errors.TestKind.TheVariants.{BadCondition, TooLarge}
 use Rattle.litmus_text.specs.TextLines.{bad}
-use Rattle.text_laws.specs.ReadingSteps.{◌>>=◌}
+use Rattle.text_parts_laws.specs.ReadingSteps.{◌>>=◌}
 use Rattle.litmus_text.specs.Condition.{Setting}
 use Rattle.litmus_text.specs.ConditionScan.{Mentioned, TermRead, TermsRead, before_read, term_here, terms_here}
 

@@ -7,7 +7,7 @@ use Rattle.final_cond.specs.declared.cond.TheConstants.{MAX_TERMS}
 use Rattle.final_cond.specs.declared.cond.Quantifier.{Quantifier}
 use Rattle.final_cond.specs.declared.read.Follow.{Follow}
 use Rattle.final_cond.specs.declared.read.Follow.TheVariants as follows
-use Rattle.text_laws.specs.Blanks.{unblanked}
+use Rattle.text_parts_laws.specs.Blanks.{unblanked}
 use Rattle.final_cond.specs.Conditions.{LeftSeen, InRegister, AtPlace, TermSeen, CondSeen}
 use Rattle.final_cond.specs.ConditionReading.{Fault, opening_read, left_read, right_read, follow_read, end_at_start, has_form}
 use Rattle.arch_trait.specs.PlaceNames.{number_in, number_added, names_added}
@@ -16,7 +16,7 @@ use Rattle.litmus_text.specs.declared.errors.TestKind.{TestKind}
 use Rattle.litmus_text.specs.declared.errors.TestKind.TheVariants.{BadCondition, TooLarge, EndMissing}
 use Rattle.litmus_text.specs.declared.errors.TextError.{TextError}
 use Rattle.litmus_text.specs.TextLines.{Lines, ends, line, bad}
-use Rattle.text_laws.specs.ReadingSteps.{◌>>=◌}
+use Rattle.text_parts_laws.specs.ReadingSteps.{◌>>=◌}
 use Rattle.litmus_text.specs.Joined.{Joined, no_text, with_text, all_joined, line_at}
 
 -- the threads of the table, the line where the condition begins, and its text

@@ -5,9 +5,9 @@ use Rattle.std.specs.List.{list_any}
 use Rattle.std.specs.Str.{bytes_eq}
 use Rattle.relax_edges.specs.declared.kinds.Value.{Value}
 use Rattle.relax_edges.specs.declared.kinds.Value.TheVariants as values
-use Rattle.text_laws.specs.Names.{is_place_name}
-use Rattle.text_laws.specs.NumberTexts.{number_of}
-use Rattle.text_laws.specs.Blanks.{unblanked, trim_blanks, before_blanks}
+use Rattle.text_parts_laws.specs.Names.{is_place_name}
+use Rattle.text_parts_laws.specs.NumberTexts.{number_of}
+use Rattle.text_parts_laws.specs.Blanks.{unblanked, trim_blanks, before_blanks}
 use Rattle.final_cond.specs.Conditions.{LeftSeen, InRegister, AtPlace}
 use Rattle.final_cond.specs.ConditionReading.{left_at_start}
 use Rattle.arch_trait.specs.PlaceNames.{number_in, number_added, names_added}
@@ -16,10 +16,10 @@ use Rattle.litmus_text.specs.declared.errors.TestKind.TheVariants.{BadInit, TooL
 use Rattle.litmus_text.specs.declared.errors.TextError.{TextError}
 use Rattle.litmus_text.specs.declared.limits.TheConstants.{MAX_THREADS}
 use Rattle.litmus_text.specs.TextLines.{Lines, ends, line, TextRead, bad}
-use Rattle.text_laws.specs.ReadingSteps.{◌>>=◌}
-use Rattle.text_laws.specs.Words.{is_nil}
-use Rattle.text_laws.specs.Cuts.{cut_at}
-use Rattle.text_laws.specs.Lines.{but_last}
+use Rattle.text_parts_laws.specs.ReadingSteps.{◌>>=◌}
+use Rattle.text_parts_laws.specs.Words.{is_nil}
+use Rattle.text_parts_laws.specs.Cuts.{cut_at}
+use Rattle.text_parts_laws.specs.Lines.{but_last}
 use Rattle.litmus_text.specs.TextCuts.{pieces}
 use Rattle.litmus_text.specs.Joined.{Joined, no_text, with_text, line_at}
 

@@ -4,7 +4,7 @@ use Rattle.std.specs.Prelude.{◌≡◌, ◌<◌, ℕ, ◌==◌, Bool, true, not
 use Rattle.std.specs.List.{list_any, flat_map, enumerate_from}
 use Rattle.relax_edges.specs.declared.kinds.Value.{Value}
 use Rattle.relax_edges.specs.declared.kinds.Value.TheVariants as values
-use Rattle.text_laws.specs.Names.{is_place_name}
+use Rattle.text_parts_laws.specs.Names.{is_place_name}
 use Rattle.arch_trait.specs.Threads.{ThreadCode}
 use Rattle.arch_trait.specs.PlaceNames.{number_in, names_added}
 use Rattle.arch_trait.specs.Writing.{Writing}

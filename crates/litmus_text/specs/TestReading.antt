@@ -11,7 +11,7 @@ use Rattle.litmus_text.specs.declared.errors.TestKind.TheVariants.{TooLarge}
 use Rattle.litmus_text.specs.declared.errors.TextError.{TextError}
 use Rattle.litmus_text.specs.declared.limits.TheConstants.{MAX_TEXT}
 use Rattle.litmus_text.specs.TextLines.{Lines, lines_from, bad}
-use Rattle.text_laws.specs.ReadingSteps.{◌>>=◌}
+use Rattle.text_parts_laws.specs.ReadingSteps.{◌>>=◌}
 use Rattle.litmus_text.specs.Header.{header_read, quote_read, after_settings, arch_read}
 use Rattle.litmus_text.specs.InitialState.{Begun, initial_read}
 use Rattle.litmus_text.specs.TestTable.{Column, head_read, rows_read, all_labels_judged, after_locations}

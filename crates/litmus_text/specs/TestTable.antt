@@ -10,7 +10,7 @@ use Rattle.micro_ops.specs.declared.operation.Micro.{Micro}
 use Rattle.micro_ops.specs.declared.operation.Micro.TheVariants as ops
 use Rattle.arch_trait.specs.Cells.{ends_rows, first_word, is_access}
 use Rattle.arch_trait.specs.PlaceNames.{number_added, names_added}
-use Rattle.text_laws.specs.Blanks.{trim_blanks}
+use Rattle.text_parts_laws.specs.Blanks.{trim_blanks}
 use Rattle.arch_trait.specs.InstructionReading.{written_in}
 use Rattle.arch_trait.specs.Writing.{Writing, Name, RawInstr, is_well_named, with_number}
 use Rattle.arch_trait.specs.Writing as writing
@@ -20,9 +20,9 @@ use Rattle.litmus_text.specs.declared.errors.TextError.{TextError}
 use Rattle.litmus_text.specs.declared.limits.TheConstants.{MAX_THREADS, MAX_ROWS, MAX_ACCESSES}
 use Rattle.litmus_text.specs.declared.reading.table.Placed.{Placed}
 use Rattle.litmus_text.specs.TextLines.{Lines, ends, line, TextRead, bad}
-use Rattle.text_laws.specs.ReadingSteps.{◌>>=◌}
-use Rattle.text_laws.specs.Words.{is_nil}
-use Rattle.text_laws.specs.Cuts.{cut_at}
+use Rattle.text_parts_laws.specs.ReadingSteps.{◌>>=◌}
+use Rattle.text_parts_laws.specs.Words.{is_nil}
+use Rattle.text_parts_laws.specs.Cuts.{cut_at}
 use Rattle.litmus_text.specs.TextCuts.{pieces}
 use Rattle.litmus_text.specs.InitialState.{Begun}
 

@@ -3,8 +3,8 @@
 use Rattle.std.specs.Prelude.{ℕ, ◌+◌, ◌-◌, Bool, cond, ◌&&◌, ◌||◌, List, [], ◌∷◌, Result, Err, codes, length, take, drop}
 use Rattle.std.specs.List.{list_all, slice_split}
 use Rattle.std.specs.Str.{bytes_eq}
-use Rattle.text_laws.specs.Blanks.{is_blank, trim_blanks}
-use Rattle.text_laws.specs.Lines.{is_line_feed, without_return}
+use Rattle.text_parts_laws.specs.Blanks.{is_blank, trim_blanks}
+use Rattle.text_parts_laws.specs.Lines.{is_line_feed, without_return}
 use Rattle.litmus_text.specs.declared.errors.TestKind.{TestKind}
 use Rattle.litmus_text.specs.declared.errors.TextError.{TextError}
 

@@ -5,7 +5,7 @@ use Rattle.std.specs.Borrow.{Bor}
 use Rattle.final_cond.specs.declared.cond.Cond.{Cond}
 use Rattle.final_cond.specs.declared.cond.Term.{Term}
 use Rattle.final_cond.specs.declared.cond.TheConstants.{MAX_TERMS}
-use Rattle.text_laws.specs.Names.{is_place_name}
+use Rattle.text_parts_laws.specs.Names.{is_place_name}
 use Rattle.final_cond.specs.Conditions.{TermSeen, term_view, cond_view}
 use Rattle.litmus_text.specs.declared.reading.cuts.Pieces.{Pieces}
 use Rattle.litmus_text.specs.declared.reading.text.Text.{Text}
@@ -25,7 +25,7 @@ use Rattle.litmus_text.specs.declared.reading.terms.Setting.{Setting as Here}
 use Rattle.litmus_text.specs.declared.reading.terms.Mentioned.{Mentioned as Names}
 use Rattle.litmus_text.specs.TextCuts.{pieces}
 use Rattle.litmus_text.specs.TextLines.{Lines, ends, line, lines_from}
-use Rattle.text_laws.specs.ReadingSteps.{◌>>=◌}
+use Rattle.text_parts_laws.specs.ReadingSteps.{◌>>=◌}
 use Rattle.arch_trait.specs.Writing.{Writing}
 use Rattle.relax_edges.specs.declared.kinds.Value.{Value}
 use Rattle.litmus_text.specs.declared.errors.TextError.{TextError}

@@ -2,9 +2,9 @@
 use Rattle.std.specs.Prelude.{◌≡◌, ℕ, zero, suc, true, false, List, [], ◌∷◌, ◌++◌, map, Option, Some, None, Result, Ok, Err}
 use Rattle.std.proofs.Common.{sym, refl, ap, ◌∙◌, arith}
 use Rattle.list_laws.proofs.Cases.{by_test}
-use Rattle.text_laws.specs.Lines.{without_return, last_line}
-use Rattle.text_laws.specs.Words.{words}
-use Rattle.text_laws.specs.ReadingSteps.{◌>>=◌}
+use Rattle.text_parts_laws.specs.Lines.{without_return, last_line}
+use Rattle.text_parts_laws.specs.Words.{words}
+use Rattle.text_parts_laws.specs.ReadingSteps.{◌>>=◌}
 use Rattle.log_sum.specs.declared.errors.LogKind.{LogKind}
 use Rattle.log_sum.specs.declared.errors.LogKind.TheVariants.{LineTooLong}
 use Rattle.log_sum.specs.declared.errors.LogError.{LogError}

@@ -13,12 +13,12 @@ use Rattle.std.proofs.lemmas.Bool.Decides.{Decides-eqb}
 use Rattle.std.proofs.lemmas.List.Elements.{All-head, All-tail}
 use Rattle.std.proofs.lemmas.Slice.Eq.{bytes_eq-Decides, starts_is}
 use Rattle.log_sum.specs.Texts.{begins_with}
-use Rattle.text_laws.specs.Cuts.{cut_at, is_without, CutParts}
-use Rattle.text_laws.proofs.CutLaws.{cut_back, cut_parts, all_both}
+use Rattle.text_parts_laws.specs.Cuts.{cut_at, is_without, CutParts}
+use Rattle.text_parts_laws.proofs.CutLaws.{cut_back, cut_parts, all_both}
 use Rattle.log_sum.specs.LogStates.{left_kept, sides_read}
 use Rattle.log_sum.specs.Equalities.{equality_of, before_sign, left_side, HasSign, same_left, has_left_twice}
 use Rattle.log_sum.proofs.OrderLaws.{apart_less}
-use Rattle.text_laws.proofs.OrderLaws.{order}
+use Rattle.text_parts_laws.proofs.OrderLaws.{order}
 use Rattle.log_sum.proofs.StateLaws.{text_at, shown_at}
 
 -- a text has no sign

@@ -12,7 +12,7 @@ use Rattle.log_sum.specs.declared.kinds.Mark.{Mark}
 use Rattle.log_sum.specs.Summed.{StateSummed}
 use Rattle.log_sum.specs.SummingSteps.{known_state}
 use Rattle.log_sum.specs.StateEntries.{ordered}
-use Rattle.text_laws.proofs.OrderLaws.{order, is_text}
+use Rattle.text_parts_laws.proofs.OrderLaws.{order, is_text}
 
 -- a text is below another that differs from it and isn't below it
 pub apart_less : (x y : List ℕ) → is_lt (slice_cmp nat_cmp y x) ≡ false → bytes_eq x y ≡ false → slice_cmp nat_cmp x y ≡ Less

@@ -12,15 +12,15 @@ use Rattle.std.proofs.lemmas.Bool.{and_from, or_from}
 use Rattle.std.proofs.lemmas.List.Elements.{All-nil, All-head, All-tail, All-push}
 use Rattle.std.proofs.lemmas.List.Sorted.{All-permutation, IsPermutation-map, IsPermutation-sym, list_any-IsPermutation}
 use Rattle.std.proofs.lemmas.Map.Keys.{IsDistinct-IsPermutation}
-use Rattle.text_laws.specs.Words.{is_nil}
-use Rattle.text_laws.specs.Blanks.{unblanked}
-use Rattle.text_laws.specs.Cuts.{cut_at}
+use Rattle.text_parts_laws.specs.Words.{is_nil}
+use Rattle.text_parts_laws.specs.Blanks.{unblanked}
+use Rattle.text_parts_laws.specs.Cuts.{cut_at}
 use Rattle.log_sum.specs.LogStates.{has_left, sides_read, with_equality, and_then, state_read, or_bad}
 use Rattle.std.proofs.lemmas.List.{map_push}
 use Rattle.list_laws.proofs.Cases.{by_test}
 use Rattle.log_sum.specs.declared.errors.LogKind.{LogKind}
 use Rattle.log_sum.specs.Equalities.{equality_of, and_equality, with_piece, left_side, HasSign, same_left, has_left_twice, with_one, with_all}
-use Rattle.text_laws.proofs.OrderLaws.{order, is_text, any_insert}
+use Rattle.text_parts_laws.proofs.OrderLaws.{order, is_text, any_insert}
 use Rattle.log_sum.proofs.StateLaws.{rest_read, rest_goes, rest_whole, set_begins}
 use Rattle.log_sum.proofs.LeftLaws.{read_left, read_sign, begins_left, ascend_apart, twice_not_apart, sorted_ascends}
 

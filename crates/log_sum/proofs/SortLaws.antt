@@ -22,7 +22,7 @@ use Rattle.log_sum.specs.StateSpelling.{IsSpelled}
 use Rattle.log_sum.specs.SummingSteps.{known_state}
 use Rattle.log_sum.specs.StateEntries.{sum_view, state_view, states_view, AreInOrder, EntriesAreWritten}
 use Rattle.log_sum.proofs.OrderLaws.{apart_less, ordered_same}
-use Rattle.text_laws.proofs.OrderLaws.{order}
+use Rattle.text_parts_laws.proofs.OrderLaws.{order}
 use Rattle.log_sum.proofs.EntryLaws.{entries_known}
 
 by_bytes : IsEquivalence (λ (x y : Vec ℕ Global). bytes_eq x.items y.items)

@@ -5,12 +5,12 @@ use Rattle.std.specs.List.{slice_split}
 use Rattle.std.proofs.lemmas.Bool.{eqb-true}
 use Rattle.std.proofs.lemmas.List.{map_push}
 use Rattle.list_laws.proofs.Cases.{by_test}
-use Rattle.text_laws.specs.Blanks.{is_blank, unblanked}
-use Rattle.text_laws.specs.Words.{is_nil}
-use Rattle.text_laws.specs.LeadingRuns.{after_run}
-use Rattle.text_laws.specs.Cuts.{cut_at}
-use Rattle.text_laws.proofs.CutLaws.{cut_parts, uncut_without}
-use Rattle.text_laws.proofs.PieceLaws.{split_off, split_whole}
+use Rattle.text_parts_laws.specs.Blanks.{is_blank, unblanked}
+use Rattle.text_parts_laws.specs.Words.{is_nil}
+use Rattle.text_parts_laws.specs.LeadingRuns.{after_run}
+use Rattle.text_parts_laws.specs.Cuts.{cut_at}
+use Rattle.text_parts_laws.proofs.CutLaws.{cut_parts, uncut_without}
+use Rattle.text_parts_laws.proofs.PieceLaws.{split_off, split_whole}
 use Rattle.log_sum.specs.LogStates.{with_pieces, with_equality, sides_read, and_then, later_unblanked, state_read, state_form, later_forms, separated, form_with}
 use Rattle.log_sum.specs.declared.errors.LogKind.{LogKind}
 use Rattle.log_sum.specs.declared.errors.Fault.{Fault}

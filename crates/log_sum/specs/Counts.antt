@@ -6,7 +6,7 @@ use Rattle.std.specs.Str.Parse.{digits_value}
 use Rattle.diy_io.specs.Count.{last_count}
 use Rattle.log_sum.specs.declared.errors.LogKind.{LogKind}
 use Rattle.log_sum.specs.declared.errors.LogKind.TheVariants.{BadState, BadCount}
-use Rattle.text_laws.specs.LeadingRuns.{leading_run, after_run}
+use Rattle.text_parts_laws.specs.LeadingRuns.{leading_run, after_run}
 
 -- the count that digits write, with the text after them: there is a digit, and the count isn't too large
 abbrev pub count_of_digits : List ℕ → List ℕ → Result (ℕ × List ℕ) LogKind

@@ -1,9 +1,9 @@
 -- What a log is: blocks, and lines between them.
 -- Source: the logs of litmus7; what is a fault is own.
 use Rattle.std.specs.Prelude.{ℕ, zero, suc, Bool, true, false, cond, List, [], ◌∷◌, ◌++◌, map, Option, Some, None, Result, Ok, Err}
-use Rattle.text_laws.specs.Lines.{without_return, whole_lines, unended, last_line}
-use Rattle.text_laws.specs.Words.{words}
-use Rattle.text_laws.specs.ReadingSteps.{◌>>=◌}
+use Rattle.text_parts_laws.specs.Lines.{without_return, whole_lines, unended, last_line}
+use Rattle.text_parts_laws.specs.Words.{words}
+use Rattle.text_parts_laws.specs.ReadingSteps.{◌>>=◌}
 use Rattle.log_sum.specs.declared.errors.LogKind.{LogKind}
 use Rattle.log_sum.specs.declared.errors.LogKind.TheVariants.{Truncated, BadState, KindDiffers, LineTooLong}
 use Rattle.log_sum.specs.declared.errors.LogError.{LogError}

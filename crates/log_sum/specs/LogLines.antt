@@ -12,8 +12,8 @@ use Rattle.log_sum.specs.declared.kinds.Verdict.{Verdict}
 use Rattle.log_sum.specs.declared.kinds.Verdict.TheVariants.{Validated, NotValidated}
 use Rattle.log_sum.specs.declared.kinds.Place.{Place}
 use Rattle.log_sum.specs.declared.kinds.Place.TheVariants.{Outside, Histogram, States, Judgement, Rest, Conditioned}
-use Rattle.text_laws.specs.Words.{is_nil, words}
-use Rattle.text_laws.specs.Blanks.{trim_blanks, unblanked}
+use Rattle.text_parts_laws.specs.Words.{is_nil, words}
+use Rattle.text_parts_laws.specs.Blanks.{trim_blanks, unblanked}
 use Rattle.log_sum.specs.Texts.{joined_words, ends_with, before_end, begins_with}
 use Rattle.log_sum.specs.Counts.{count_read}
 use Rattle.log_sum.specs.LogStates.{form_read}

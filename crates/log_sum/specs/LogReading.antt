@@ -1,8 +1,8 @@
 -- The reading of logs, line by line: the facts of all logs, or the first fault.
 -- Source: own.
 use Rattle.std.specs.Prelude.{ℕ, ◌+◌, nat_lt, Bool, cond, List, [], ◌∷◌, ◌++◌, length, min, Option, Some, None, Result, Ok, Err}
-use Rattle.text_laws.specs.Lines.{without_return, whole_lines, unended}
-use Rattle.text_laws.specs.ReadingSteps.{◌>>=◌}
+use Rattle.text_parts_laws.specs.Lines.{without_return, whole_lines, unended}
+use Rattle.text_parts_laws.specs.ReadingSteps.{◌>>=◌}
 use Rattle.log_sum.specs.declared.errors.LogKind.{LogKind}
 use Rattle.log_sum.specs.declared.errors.LogKind.TheVariants.{Truncated, LineTooLong}
 use Rattle.log_sum.specs.declared.errors.LogError.{LogError}

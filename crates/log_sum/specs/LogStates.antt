@@ -7,9 +7,9 @@ use Rattle.std.specs.List.{list_any, list_all, slice_split}
 use Rattle.std.specs.Ordering.{nat_cmp}
 use Rattle.std.specs.Cmp.Lexicographic.{slice_cmp}
 use Rattle.std.specs.BTreeSet.{insert_key}
-use Rattle.text_laws.specs.Blanks.{is_inked, unblanked}
-use Rattle.text_laws.specs.Words.{is_nil}
-use Rattle.text_laws.specs.Cuts.{cut_at}
+use Rattle.text_parts_laws.specs.Blanks.{is_inked, unblanked}
+use Rattle.text_parts_laws.specs.Words.{is_nil}
+use Rattle.text_parts_laws.specs.Cuts.{cut_at}
 use Rattle.log_sum.specs.Texts.{begins_with}
 
 -- a text begins with a bracket

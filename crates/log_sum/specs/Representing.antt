@@ -9,10 +9,10 @@ use Rattle.log_sum.specs.declared.errors.SumError.TheVariants.{Log, NoMemory}
 use Rattle.log_sum.specs.declared.kinds.Place.{Place}
 use Rattle.log_sum.specs.declared.kinds.Place.TheVariants.{Outside}
 use Rattle.log_sum.specs.Facts.{Entry, facts_of, tests_of}
-use Rattle.text_laws.specs.Lines.{unended}
+use Rattle.text_parts_laws.specs.Lines.{unended}
 use Rattle.log_sum.specs.LogGrammar.{all_judged}
 use Rattle.log_sum.specs.LogReading.{LogSeen, nothing_seen, input_judged, files_judged}
-use Rattle.text_laws.specs.ReadingSteps.{◌>>=◌}
+use Rattle.text_parts_laws.specs.ReadingSteps.{◌>>=◌}
 use Rattle.log_sum.specs.Summed.{Summed, summed}
 use Rattle.log_sum.specs.SumText.{summed_text, sum_text}
 use Rattle.std.specs.List.{flat_map}

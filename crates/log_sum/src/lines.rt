@@ -2,7 +2,7 @@ ghost use Rattle.std.specs.Prelude.{◌≡◌, option_map, take, IfOk};
 ghost use Rattle.std.specs.Borrow.{Bor};
 ghost use Rattle.log_sum.specs.SumViews.{GivesParsed, ReadsBy, ReadsOr, row_code_said, said_read, condition_view};
 ghost use Rattle.log_sum.specs.LogLines.{kind_named, test_line, is_states, are_states, after_histogram, histogram_line, mark_written, mark_read, log_row, is_judgement, verdict_cut, condition_line, quantifier, hash_line, hash_said, condition_said, rest_said, is_observation, log_line_said};
-ghost use Rattle.text_laws.specs.Words.{words};
+ghost use Rattle.text_parts_laws.specs.Words.{words};
 ghost use Rattle.log_sum.specs.Texts.{joined_words};
 
 use crate::counts::read_count;
@@ -78,7 +78,7 @@ fn is_states(text: &[u8]) -> bool
 }
 
 /// Whether a count in parentheses ends so, with nothing between.
-#[tactic(auto, using(text_laws::proofs::WordLaws::empty_is_nil))]
+#[tactic(auto, using(text_parts_laws::proofs::WordLaws::empty_is_nil))]
 fn are_states(remainder: &[u8], rest: &[u8]) -> bool
     ensures { result ≡ are_states remainder.now (words rest.now) }
 {

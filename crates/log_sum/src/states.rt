@@ -2,7 +2,7 @@ ghost use Rattle.std.specs.Prelude.{◌≡◌, ◌++◌, ◌∷◌, [], option_m
 ghost use Rattle.std.specs.List.{All};
 ghost use Rattle.log_sum.specs.SumViews.{GivesOr, texts_of};
 ghost use Rattle.log_sum.specs.LogStates.{left_kept, is_side, state_read, form_read, state_form, or_bad, sides_read, separated, form_with};
-ghost use Rattle.text_laws.specs.Cuts.{cut_at};
+ghost use Rattle.text_parts_laws.specs.Cuts.{cut_at};
 ghost use Rattle.log_sum.specs.Equalities.{HasSign, has_left_twice, left_side, same_left, with_all, with_piece};
 
 use crate::errors::{Fault, LogKind};
@@ -39,7 +39,7 @@ fn put_left(text: &mut Vec<u8>, left: &[u8]) -> Result<(), NoMemory>
 }
 
 /// Whether a side of an equality has a byte and no blank.
-#[tactic(auto, using(text_laws::proofs::WordLaws::empty_is_nil))]
+#[tactic(auto, using(text_parts_laws::proofs::WordLaws::empty_is_nil))]
 fn is_side(text: &[u8]) -> bool
     ensures { result ≡ is_side text.now }
 {

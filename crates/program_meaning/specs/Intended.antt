@@ -8,8 +8,8 @@ use Rattle.relax_edges.specs.declared.kinds.ObsMode.{ObsMode}
 use Rattle.relax_edges.specs.declared.edge.Edge.{Edge}
 use Rattle.relax_edges.specs.EdgeTable.{source_of}
 use Rattle.list_laws.specs.Numbers.{upto}
-use Rattle.resolution_laws.specs.Resolution.{edge_at, external_count, move_count, location_of, events_in}
-use Rattle.value_laws.specs.Values.{is_observed, value_of, write_at, write_count}
+use Rattle.cycle_events.specs.Resolution.{edge_at, external_count, move_count, location_of, events_in}
+use Rattle.cycle_events.specs.Values.{is_observed, value_of, write_at, write_count}
 use Rattle.program_meaning.specs.declared.WriteAt.{WriteAt}
 use Rattle.program_meaning.specs.Accesses.{Access, read, is_read}
 use Rattle.program_meaning.specs.Executions.{Execution}

@@ -5,3 +5,4 @@ pub mod Programs
 pub mod Interleavings
 pub mod Standing
 pub mod Intended
+pub mod Deciding

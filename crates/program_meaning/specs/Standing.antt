@@ -20,7 +20,7 @@ use Rattle.relax_edges.specs.EdgeTable.{source_of, target_of, reach_of, sd_of, k
 use Rattle.micro_ops.specs.declared.operation.Barrier.{Barrier}
 use Rattle.micro_ops.specs.declared.operation.Barrier.TheVariants as kinds
 use Rattle.micro_ops.specs.declared.operation.Item.{Item}
-use Rattle.resolution_laws.specs.Resolution.{edge_at, external_count, thread_of, slot_of, events_in, event_after}
+use Rattle.cycle_events.specs.Resolution.{edge_at, external_count, thread_of, slot_of, events_in, event_after}
 use Rattle.program_meaning.specs.declared.WriteAt.{WriteAt}
 use Rattle.program_meaning.specs.Accesses.{Access, Barred, Visit, at_name, barriers_after, is_read, reads_before}
 use Rattle.program_meaning.specs.Executions.{Execution}

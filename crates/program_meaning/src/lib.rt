@@ -1,4 +1,5 @@
-//! What a program means: the runs of its threads, its executions, and which edges of a cycle stand in one.
+//! What a program means: the runs of its threads, its executions and interleavings, which edges of a cycle stand in an execution, and the tests
+//! that decide whether one is a candidate and coherent.
 #![tactic(auto)]
 
 use micro_ops::Barrier;

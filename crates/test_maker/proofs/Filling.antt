@@ -9,14 +9,14 @@ use Rattle.relax_edges.specs.declared.kinds.ObsMode.{ObsMode}
 use Rattle.list_laws.specs.Numbers.{upto}
 use Rattle.list_laws.proofs.Numbers.{length-map-upto}
 use Rattle.list_laws.proofs.Ranks.{length-filter-upto, rank_upto, filter_upto_yes, filter_upto_no}
-use Rattle.resolution_laws.specs.Resolution.{IsResolved, edge_at, external_count, move_count, slot_of}
-use Rattle.resolution_laws.proofs.Threads.{slot-zero}
-use Rattle.value_laws.specs.Values.{is_observed, write_count}
-use Rattle.value_laws.proofs.Along.{write_count_most}
-use Rattle.value_laws.proofs.Laws.{threads_and_observers}
+use Rattle.cycle_events.specs.Resolution.{IsResolved, edge_at, external_count, move_count, slot_of}
+use Rattle.cycle_events.proofs.Threads.{slot-zero}
+use Rattle.cycle_events.specs.Values.{is_observed, write_count}
+use Rattle.cycle_events.proofs.Along.{write_count_most}
+use Rattle.cycle_events.proofs.ValueLaws.{threads_and_observers}
 use Rattle.program_meaning.specs.Intended.{observed_locations}
 use Rattle.arch_trait.specs.Links.{edge_link}
-use Rattle.test_laws.specs.CycleSteps.{event_link}
+use Rattle.tests_force_cycles.specs.CycleSteps.{event_link}
 
 -- the edge at a place
 pub edge_got : (es : List Edge) (k : ℕ) (e : Edge) → slice_get es k ≡ Some e → e ≡ edge_at es k

@@ -9,7 +9,7 @@ use Rattle.arrayvec.specs.ArrayVec.{ArrayVec}
 use Rattle.relax_edges.specs.declared.TheConstants.{MAX_EDGES}
 use Rattle.relax_edges.specs.declared.kinds.ObsMode.{ObsMode}
 use Rattle.relax_edges.specs.declared.edge.Edge.{Edge}
-use Rattle.resolution_laws.specs.Resolution.{IsResolved}
+use Rattle.cycle_events.specs.Resolution.{IsResolved}
 use Rattle.final_cond.specs.declared.cond.Cond.{Cond}
 use Rattle.final_cond.specs.declared.cond.TheConstants.{MAX_TERMS}
 use Rattle.final_cond.specs.Conditions.{term_view}
@@ -17,10 +17,10 @@ use Rattle.arch_trait.specs.declared.code.Code.{Code}
 use Rattle.arch_trait.specs.declared.step.Step.{Step}
 use Rattle.arch_trait.specs.Codes.{thread_code_of}
 use Rattle.arch_trait.specs.Threads.{Puts, compiled}
-use Rattle.test_laws.specs.CycleSteps.{cycle_steps, numbers_read}
-use Rattle.test_laws.specs.TestOf.{plain, last_terms, load_terms, thread_terms}
-use Rattle.test_laws.proofs.StepsAt.{steps_few}
-use Rattle.test_laws.proofs.Terms.{load_terms_more, reads-count, terms_room, thread_terms-count}
+use Rattle.tests_force_cycles.specs.CycleSteps.{cycle_steps, numbers_read}
+use Rattle.tests_force_cycles.specs.TestOf.{plain, last_terms, load_terms, thread_terms}
+use Rattle.tests_force_cycles.proofs.StepsAt.{steps_few}
+use Rattle.tests_force_cycles.proofs.Terms.{load_terms_more, reads-count, terms_room, thread_terms-count}
 use Rattle.test_maker.specs.declared.refusal.MakeRefusal.{MakeRefusal}
 use Rattle.test_maker.specs.declared.refusal.MakeRefusal.TheVariants.{TooManyRegisters}
 use Rattle.test_maker.specs.Refusals.{crowded_thread, is_crowded}

@@ -3,24 +3,24 @@ use Rattle.std.proofs.Common.{◌≡◌, ℕ, not, List, Option, Some, None, Res
 use Rattle.std.specs.Prelude.{OnOk}
 use Rattle.std.specs.List.{position_from}
 use Rattle.std.specs.Option.{option_map}
-use Rattle.cycle_laws.specs.Composable.{IsCycle}
+use Rattle.edge_algebra_laws.specs.Composable.{IsCycle}
 use Rattle.relax_edges.specs.declared.kinds.ObsMode.{ObsMode}
 use Rattle.relax_edges.specs.declared.kinds.ObsMode.TheVariants as modes
 use Rattle.relax_edges.specs.declared.edge.Edge.{Edge}
 use Rattle.relax_edges.specs.EdgeTable.{is_of_arch}
-use Rattle.resolution_laws.specs.declared.errors.ResolveError.{ResolveError}
-use Rattle.resolution_laws.specs.declared.errors.ResolveError.TheVariants as resolving
-use Rattle.resolution_laws.specs.Resolution.{IsResolved, resolution_of, turned}
-use Rattle.resolution_laws.proofs.Turning.{resolution_resolved}
-use Rattle.value_laws.specs.declared.needs.NeedsObserver.{NeedsObserver}
-use Rattle.value_laws.specs.Values.{observer_need, valuation_of}
-use Rattle.value_laws.proofs.Entries.{avoid_allowed}
+use Rattle.cycle_events.specs.declared.errors.ResolveError.{ResolveError}
+use Rattle.cycle_events.specs.declared.errors.ResolveError.TheVariants as resolving
+use Rattle.cycle_events.specs.Resolution.{IsResolved, resolution_of, turned}
+use Rattle.cycle_events.proofs.Turning.{resolution_resolved}
+use Rattle.cycle_events.specs.declared.needs.NeedsObserver.{NeedsObserver}
+use Rattle.cycle_events.specs.Values.{observer_need, valuation_of}
+use Rattle.cycle_events.proofs.Entries.{avoid_allowed}
 use Rattle.arch_trait.specs.Threads.{Puts}
 use Rattle.arch_trait.specs.SeenTests.{TestSeen}
-use Rattle.test_laws.specs.TestHeadline.{HasCode, HasTest}
-use Rattle.test_laws.specs.CycleSteps.{cycle_steps}
-use Rattle.test_laws.specs.TestOf.{plain}
-use Rattle.test_laws.proofs.Headline.{room_left}
+use Rattle.tests_force_cycles.specs.TestHeadline.{HasCode, HasTest}
+use Rattle.tests_force_cycles.specs.CycleSteps.{cycle_steps}
+use Rattle.tests_force_cycles.specs.TestOf.{plain}
+use Rattle.tests_force_cycles.proofs.Headline.{room_left}
 use Rattle.test_maker.specs.declared.refusal.MakeRefusal.{MakeRefusal}
 use Rattle.test_maker.specs.declared.refusal.MakeRefusal.TheVariants as refusals
 use Rattle.test_maker.specs.Made.{AreOfArch, MakesOfArch, MakesValued}

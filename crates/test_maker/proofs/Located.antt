@@ -8,11 +8,11 @@ use Rattle.relax_edges.specs.declared.edge.Edge.{Edge}
 use Rattle.relax_edges.specs.declared.kinds.ObsMode.{ObsMode}
 use Rattle.relax_edges.specs.declared.kinds.ObsMode.TheVariants.{Accept, Avoid, Force}
 use Rattle.list_laws.specs.Numbers.{upto}
-use Rattle.resolution_laws.specs.Resolution.{move_count}
-use Rattle.resolution_laws.proofs.Sizes.{external_and_moves}
-use Rattle.value_laws.specs.declared.needs.NeedsObserver.{NeedsObserver}
-use Rattle.value_laws.specs.Values.{Valuation, valuation_of, observer_need, first_need, first_inner_entry}
-use Rattle.value_laws.proofs.Entries.{avoid_refused, avoid_allowed}
+use Rattle.cycle_events.specs.Resolution.{move_count}
+use Rattle.cycle_events.proofs.Sizes.{external_and_moves}
+use Rattle.cycle_events.specs.declared.needs.NeedsObserver.{NeedsObserver}
+use Rattle.cycle_events.specs.Values.{Valuation, valuation_of, observer_need, first_need, first_inner_entry}
+use Rattle.cycle_events.proofs.Entries.{avoid_refused, avoid_allowed}
 
 all_with : (b n : ℕ) (xs : List ℕ) → AllByRecursion (λ l. l < b) xs → n < b → AllByRecursion (λ l. l < b) (xs ++ n ∷ [])
 all_with b n [] h below = (below, tt)

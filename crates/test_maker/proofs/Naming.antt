@@ -8,13 +8,13 @@ use Rattle.relax_edges.specs.declared.edge.Edge.{Edge}
 use Rattle.list_laws.specs.Numbers.{upto}
 use Rattle.list_laws.proofs.Counts.{count_upto-le}
 use Rattle.list_laws.proofs.Ranks.{length-filter-upto}
-use Rattle.resolution_laws.specs.Resolution.{IsResolved, move_count}
-use Rattle.resolution_laws.proofs.Sizes.{external_and_moves}
+use Rattle.cycle_events.specs.Resolution.{IsResolved, move_count}
+use Rattle.cycle_events.proofs.Sizes.{external_and_moves}
 use Rattle.final_cond.specs.declared.cond.Term.{Term}
 use Rattle.final_cond.specs.Conditions.{AtPlace, term_view}
 use Rattle.arch_trait.specs.PlaceNames.{letters, location_name}
-use Rattle.value_laws.specs.Values.{write_count}
-use Rattle.test_laws.specs.TestOf.{is_named_location, last_term}
+use Rattle.cycle_events.specs.Values.{write_count}
+use Rattle.tests_force_cycles.specs.TestOf.{is_named_location, last_term}
 use Rattle.test_maker.proofs.Filling.{found_more}
 
 -- there is room for one more term

@@ -6,13 +6,13 @@ use Rattle.std.proofs.lemmas.List.{take-append-drop}
 use Rattle.std.proofs.lemmas.List.Folds.{list_all-append}
 use Rattle.std.proofs.lemmas.Bool.Decides.{nat_tests}
 use Rattle.std.proofs.Math.Bool.{and_comm}
-use Rattle.resolution_laws.specs.declared.errors.ResolveError.TheVariants.{TooFewThreads, CoherenceOnly}
-use Rattle.resolution_laws.proofs.Turning.{turn_of}
+use Rattle.cycle_events.specs.declared.errors.ResolveError.TheVariants.{TooFewThreads, CoherenceOnly}
+use Rattle.cycle_events.proofs.Turning.{turn_of}
 use Rattle.relax_edges.specs.declared.edge.Edge.{Edge}
 use Rattle.relax_edges.specs.EdgeTable.{is_of_arch}
 use Rattle.list_laws.proofs.Cases.{by_test}
-use Rattle.resolution_laws.specs.declared.errors.ResolveError.{ResolveError}
-use Rattle.resolution_laws.specs.Resolution.{external_count, is_coherence_only, resolution_of, turned}
+use Rattle.cycle_events.specs.declared.errors.ResolveError.{ResolveError}
+use Rattle.cycle_events.specs.Resolution.{external_count, is_coherence_only, resolution_of, turned}
 use Rattle.arch_trait.specs.Threads.{Puts}
 use Rattle.test_maker.specs.Made.{AreOfArch}
 

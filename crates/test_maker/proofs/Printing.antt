@@ -10,7 +10,7 @@ use Rattle.std.proofs.lemmas.Option.{slice_get-get_or}
 use Rattle.list_laws.proofs.Cases.{by_test}
 use Rattle.relax_edges.specs.declared.kinds.ObsMode.{ObsMode}
 use Rattle.relax_edges.specs.declared.edge.Edge.{Edge}
-use Rattle.resolution_laws.specs.Resolution.{IsResolved, move_count}
+use Rattle.cycle_events.specs.Resolution.{IsResolved, move_count}
 use Rattle.micro_ops.specs.declared.operation.Micro.{Micro}
 use Rattle.micro_ops.specs.declared.operation.Micro.TheVariants as ops
 use Rattle.micro_ops.specs.Running.{labels_of, lands, occurs}
@@ -21,11 +21,11 @@ use Rattle.arch_trait.specs.Laws.{InOrder, IsArch}
 use Rattle.arch_trait.specs.Links.{branches}
 use Rattle.arch_trait.specs.Threads.{Puts, branches_in, compiled, shape_of, visits}
 use Rattle.arch_trait.specs.Writing.{label_below, place_below}
-use Rattle.arch_laws.proofs.CodeLaws.{is_formed}
+use Rattle.arch_trait_laws.proofs.CodeLaws.{is_formed}
 use Rattle.litmus_text.specs.Tests.{IsPrintable}
-use Rattle.test_laws.specs.CycleSteps.{cycle_steps}
-use Rattle.test_laws.specs.TestOf.{plain}
-use Rattle.test_laws.proofs.StepsFit.{steps_fit, steps_placed}
+use Rattle.tests_force_cycles.specs.CycleSteps.{cycle_steps}
+use Rattle.tests_force_cycles.specs.TestOf.{plain}
+use Rattle.tests_force_cycles.proofs.StepsFit.{steps_fit, steps_placed}
 use Rattle.test_maker.specs.declared.refusal.MakeRefusal.TheVariants.{TooManyRegisters}
 use Rattle.test_maker.specs.Refusals.{crowded_thread, is_crowded}
 use Rattle.test_maker.specs.declared.refusal.MakeRefusal.{MakeRefusal}
@@ -34,8 +34,8 @@ use Rattle.test_maker.specs.ConditionTerms.{PutsThreads}
 use Rattle.litmus_text.specs.declared.test.Test.{Test}
 use Rattle.final_cond.specs.declared.cond.Cond.{Cond}
 use Rattle.arch_trait.specs.PlaceNames.{letters}
-use Rattle.arch_laws.proofs.TakingLaws.{in_order_le}
-use Rattle.arch_laws.proofs.NameLaws.{length-letters}
+use Rattle.arch_trait_laws.proofs.TakingLaws.{in_order_le}
+use Rattle.arch_trait_laws.proofs.NameLaws.{length-letters}
 
 -- the accesses are at places below a number
 abbrev pub ArePlaced : ℕ → List Step → Type 0

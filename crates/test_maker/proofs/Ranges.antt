@@ -6,8 +6,8 @@ use Rattle.relax_edges.specs.declared.edge.Edge.{Edge}
 use Rattle.list_laws.specs.Numbers.{upto}
 use Rattle.list_laws.proofs.Cases.{by_less}
 use Rattle.list_laws.proofs.Numbers.{length-upto, take-upto}
-use Rattle.resolution_laws.specs.Resolution.{events_in, thread_of}
-use Rattle.resolution_laws.proofs.Threads.{thread_up}
+use Rattle.cycle_events.specs.Resolution.{events_in, thread_of}
+use Rattle.cycle_events.proofs.Threads.{thread_up}
 use Rattle.test_maker.specs.ThreadStarts.{IsThreadStart}
 use Rattle.list_laws.proofs.Ranks.{filter_upto_yes, filter_upto_no}
 

@@ -10,8 +10,8 @@ use Rattle.arch_trait.specs.declared.code.Code.{Code}
 use Rattle.arch_trait.specs.declared.step.Step.{Step}
 use Rattle.arch_trait.specs.Codes.{thread_code_of}
 use Rattle.arch_trait.specs.Threads.{Puts, compiled}
-use Rattle.test_laws.specs.CycleSteps.{cycle_steps, numbers_read}
-use Rattle.test_laws.specs.TestOf.{plain, load_term, load_terms, thread_terms}
+use Rattle.tests_force_cycles.specs.CycleSteps.{cycle_steps, numbers_read}
+use Rattle.tests_force_cycles.specs.TestOf.{plain, load_term, load_terms, thread_terms}
 use Rattle.test_maker.specs.declared.refusal.MakeRefusal.{MakeRefusal}
 use Rattle.test_maker.specs.declared.refusal.MakeRefusal.TheVariants.{TooManyRegisters}
 use Rattle.test_maker.specs.Refusals.{crowded_thread, is_crowded}

@@ -3,12 +3,12 @@
 use Rattle.std.specs.Prelude.{ℕ, List}
 use Rattle.relax_edges.specs.declared.kinds.ObsMode.{ObsMode}
 use Rattle.relax_edges.specs.declared.edge.Edge.{Edge}
-use Rattle.resolution_laws.specs.Resolution.{turned}
+use Rattle.cycle_events.specs.Resolution.{turned}
 use Rattle.arch_trait.specs.Threads.{Puts}
 use Rattle.arch_trait.specs.Writing.{Writing, name_in}
 use Rattle.arch_trait.specs.SeenTests.{TestSeen}
 use Rattle.litmus_text.specs.TestText.{test_text}
-use Rattle.test_laws.specs.TestOf.{test_of}
+use Rattle.tests_force_cycles.specs.TestOf.{test_of}
 
 -- the test of a cycle on an architecture in a mode
 abbrev pub cycle_test : Puts → Writing → ObsMode → List Edge → TestSeen

@@ -8,17 +8,17 @@ use Rattle.relax_edges.specs.declared.kinds.ObsMode.{ObsMode}
 use Rattle.relax_edges.specs.declared.kinds.ObsMode.TheVariants.{Accept, Avoid, Force}
 use Rattle.relax_edges.specs.declared.edge.Edge.{Edge}
 use Rattle.relax_edges.specs.EdgeTable.{is_of_arch}
-use Rattle.resolution_laws.specs.declared.errors.ResolveError.{ResolveError}
-use Rattle.resolution_laws.specs.declared.errors.ResolveError.TheVariants as resolving
-use Rattle.resolution_laws.specs.Resolution.{resolution_of}
-use Rattle.value_laws.specs.Values.{observer_need}
+use Rattle.cycle_events.specs.declared.errors.ResolveError.{ResolveError}
+use Rattle.cycle_events.specs.declared.errors.ResolveError.TheVariants as resolving
+use Rattle.cycle_events.specs.Resolution.{resolution_of}
+use Rattle.cycle_events.specs.Values.{observer_need}
 use Rattle.arch_trait.specs.declared.step.Step.{Step}
 use Rattle.arch_trait.specs.Threads.{Puts, shape_of}
 use Rattle.test_maker.specs.declared.refusal.MakeRefusal.{MakeRefusal}
 use Rattle.test_maker.specs.declared.refusal.MakeRefusal.TheVariants.{NotOfArch, TooFewThreads, CoherenceOnly, TooManyRegisters}
 use Rattle.test_maker.specs.declared.refusal.MakeRefusal.TheVariants as refusals
-use Rattle.test_laws.specs.CycleSteps.{cycle_steps}
-use Rattle.test_laws.specs.TestOf.{plain}
+use Rattle.tests_force_cycles.specs.CycleSteps.{cycle_steps}
+use Rattle.tests_force_cycles.specs.TestOf.{plain}
 
 -- the first of two reasons
 abbrev pub or_else : Option MakeRefusal → Option MakeRefusal → Option MakeRefusal

@@ -2,10 +2,10 @@
 use Rattle.std.specs.Prelude.{ℕ, ◌<◌, ◌≤◌, List, length, map}
 use Rattle.relax_edges.specs.declared.edge.Edge.{Edge}
 use Rattle.list_laws.specs.Numbers.{upto}
-use Rattle.resolution_laws.specs.Resolution.{thread_of}
+use Rattle.cycle_events.specs.Resolution.{thread_of}
 use Rattle.arch_trait.specs.declared.step.Step.{Step}
-use Rattle.test_laws.specs.CycleSteps.{event_step}
-use Rattle.test_laws.specs.TestOf.{plain}
+use Rattle.tests_force_cycles.specs.CycleSteps.{event_step}
+use Rattle.tests_force_cycles.specs.TestOf.{plain}
 
 -- the accesses of all events, in order
 abbrev pub all_steps : List Edge → List Step

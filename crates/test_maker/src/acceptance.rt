@@ -1,5 +1,5 @@
 ghost use Rattle.std.specs.Prelude.{◌≡◌, ◌≤◌, length, Ok};
-ghost use Rattle.resolution_laws.specs.Resolution.{resolution_of};
+ghost use Rattle.cycle_events.specs.Resolution.{resolution_of};
 ghost use Rattle.test_maker.specs.Refusals.{is_crowded};
 ghost use Rattle.test_maker.specs.Made.{Accepts, AcceptsResolution, AcceptsValued};
 

@@ -2,11 +2,11 @@ ghost use Rattle.std.specs.Prelude.{◌≡◌, ◌<◌, ◌≤◌, ◌+◌, ◌+
 ghost use Rattle.arrayvec.specs.ArrayVec.{array_vec_len};
 ghost use Rattle.final_cond.specs.declared.cond.Quantifier.TheVariants.{Exists};
 ghost use Rattle.final_cond.specs.Conditions.{term_view};
-ghost use Rattle.resolution_laws.specs.Resolution.{move_count};
+ghost use Rattle.cycle_events.specs.Resolution.{move_count};
 ghost use Rattle.arch_trait.specs.PlaceNames.{letters};
 ghost use Rattle.arch_trait.specs.Writing.{name_in};
-ghost use Rattle.test_laws.specs.CycleSteps.{numbers_read};
-ghost use Rattle.test_laws.specs.TestOf.{is_named_location, last_terms, load_term};
+ghost use Rattle.tests_force_cycles.specs.CycleSteps.{numbers_read};
+ghost use Rattle.tests_force_cycles.specs.TestOf.{is_named_location, last_terms, load_term};
 ghost use Rattle.arch_trait.specs.Codes.{AllBelow};
 ghost use Rattle.test_maker.specs.ConditionTerms.{place_term, terms_of_loads};
 

@@ -1,6 +1,6 @@
 ghost use Rattle.std.specs.Prelude.{◌≡◌, List, Ok};
 ghost use Rattle.relax_edges.specs.declared.edge.Edge.{Edge};
-ghost use Rattle.resolution_laws.specs.Resolution.{resolution_of, turned};
+ghost use Rattle.cycle_events.specs.Resolution.{resolution_of, turned};
 ghost use Rattle.arch_trait.specs.Threads.{Puts};
 ghost use Rattle.test_maker.specs.Made.{AreOfArch, NoneForeign};
 

@@ -1,12 +1,12 @@
 ghost use Rattle.std.specs.Prelude.{◌≡◌, ◌≤◌, not, length, IfErr, IfOk, OnOk};
 ghost use Rattle.std.specs.List.{position_from};
 ghost use Rattle.relax_edges.specs.EdgeTable.{is_of_arch};
-ghost use Rattle.resolution_laws.specs.Resolution.{turned};
+ghost use Rattle.cycle_events.specs.Resolution.{turned};
 ghost use Rattle.arch_trait.specs.PlaceNames.{number_in};
 ghost use Rattle.arch_trait.specs.Writing.{name_in};
 ghost use Rattle.relax_edges.specs.declared.kinds.ObsMode.TheVariants.{Avoid};
 ghost use Rattle.litmus_text.specs.Tests.{test_seen};
-ghost use Rattle.test_laws.specs.TestHeadline.{HasCode, HasTest};
+ghost use Rattle.tests_force_cycles.specs.TestHeadline.{HasCode, HasTest};
 ghost use Rattle.test_maker.specs.Made.{MakesSeenTest, MakesOfArch, MakesResolved, MakesTest, MakesValued, AreOfArch, MadeCanPrint, MadeForces, TestCanPrint, TestForces, NamesLocation};
 
 use crate::condition::put_last_terms;

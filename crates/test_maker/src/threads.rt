@@ -3,8 +3,8 @@ ghost use Rattle.arrayvec.specs.ArrayVec.{array_vec_len};
 ghost use Rattle.final_cond.specs.Conditions.{term_view};
 ghost use Rattle.arch_trait.specs.Threads.{FitSteps};
 ghost use Rattle.arch_trait.specs.Writing.{name_in};
-ghost use Rattle.test_laws.specs.CycleSteps.{numbers_read};
-ghost use Rattle.test_laws.specs.TestOf.{last_terms};
+ghost use Rattle.tests_force_cycles.specs.CycleSteps.{numbers_read};
+ghost use Rattle.tests_force_cycles.specs.TestOf.{last_terms};
 ghost use Rattle.test_maker.specs.Made.{AreOfArch};
 ghost use Rattle.test_maker.specs.ConditionTerms.{PutsThread, PutsThreads};
 

@@ -5,8 +5,8 @@ use Rattle.std.proofs.lemmas.List.{map-append}
 use Rattle.list_laws.specs.Numbers.{upto}
 use Rattle.list_laws.proofs.Cases.{by_test}
 use Rattle.relax_edges.specs.declared.edge.Edge.{Edge}
-use Rattle.resolution_laws.specs.Resolution.{thread_of, events_in, location_of}
-use Rattle.value_laws.specs.Values.{value_of}
+use Rattle.cycle_events.specs.Resolution.{thread_of, events_in, location_of}
+use Rattle.cycle_events.specs.Values.{value_of}
 use Rattle.program_meaning.specs.declared.WriteAt.{WriteAt}
 use Rattle.program_meaning.specs.Accesses.{is_read}
 use Rattle.program_meaning.specs.Executions.{Execution}

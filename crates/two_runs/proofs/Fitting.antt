@@ -10,21 +10,21 @@ use Rattle.relax_edges.specs.declared.edge.Edge.{Edge}
 use Rattle.relax_edges.specs.declared.TheConstants.{MAX_EDGES}
 use Rattle.list_laws.specs.Numbers.{upto}
 use Rattle.list_laws.proofs.Numbers.{length-map-upto, length-upto}
-use Rattle.resolution_laws.specs.Resolution.{IsResolved, events_in, external_count, location_of, move_count}
-use Rattle.resolution_laws.proofs.Arcs.{thread_below}
-use Rattle.resolution_laws.proofs.Sizes.{external_and_moves, thread_size_most}
-use Rattle.resolution_laws.proofs.Threads.{slot_most}
-use Rattle.value_laws.specs.Values.{value_of, write_at, write_count}
-use Rattle.value_laws.proofs.Along.{value_most, write_count_most}
-use Rattle.value_laws.proofs.Writes.{write_of as number_written}
-use Rattle.text_laws.specs.Names.{is_place_name}
+use Rattle.cycle_events.specs.Resolution.{IsResolved, events_in, external_count, location_of, move_count}
+use Rattle.cycle_events.proofs.Arcs.{thread_below}
+use Rattle.cycle_events.proofs.Sizes.{external_and_moves, thread_size_most}
+use Rattle.cycle_events.proofs.Threads.{slot_most}
+use Rattle.cycle_events.specs.Values.{value_of, write_at, write_count}
+use Rattle.cycle_events.proofs.Along.{value_most, write_count_most}
+use Rattle.cycle_events.proofs.Writes.{write_of as number_written}
+use Rattle.text_parts_laws.specs.Names.{is_place_name}
 use Rattle.litmus_text.specs.declared.limits.TheConstants.{MAX_ACCESSES}
 use Rattle.program_meaning.specs.declared.WriteAt.{WriteAt}
 use Rattle.program_meaning.specs.Accesses.{is_read}
 use Rattle.program_meaning.specs.Intended.{event_access, event_read, location_numbered, reads_in, write_of}
 use Rattle.program_meaning.specs.Standing.{event_name}
-use Rattle.execution_text.specs.ExecutionReadBack.{AccessFits, ExecutionFits, ReadFits, SourceFits}
-use Rattle.execution_text.proofs.Short.{small_fits}
+use Rattle.exec_text.specs.ExecutionReadBack.{AccessFits, ExecutionFits, ReadFits, SourceFits}
+use Rattle.exec_text.proofs.Short.{small_fits}
 use Rattle.two_runs.specs.Runs.{order_of, run_by, value_there}
 
 -- what holds of each thing that can be found holds of all that are found, and no more are found than are looked for

@@ -6,3 +6,8 @@ pub mod Numbering
 pub mod Fitting
 pub mod ReadAgain
 pub mod ShownLaws
+pub mod States
+pub mod Carried
+pub mod Breaking
+pub mod ExchangeLaws
+pub mod ExchangePrinted

@@ -9,7 +9,7 @@ use Rattle.std.proofs.Math.Seq.{drop-length}
 use Rattle.list_laws.proofs.Cases.{by_less}
 use Rattle.list_laws.proofs.Finds.{find_upto_first, find_upto_none}
 use Rattle.relax_edges.specs.declared.edge.Edge.{Edge}
-use Rattle.resolution_laws.specs.Resolution.{move_count}
+use Rattle.cycle_events.specs.Resolution.{move_count}
 use Rattle.litmus_text.specs.Placing.{or_zero}
 use Rattle.program_meaning.specs.Intended.{location_numbered}
 

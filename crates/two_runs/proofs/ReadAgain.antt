@@ -7,36 +7,36 @@ use Rattle.relax_edges.specs.declared.TheConstants.{MAX_EDGES}
 use Rattle.relax_edges.specs.declared.kinds.ObsMode.TheVariants.{Avoid}
 use Rattle.relax_edges.specs.declared.edge.Edge.{Edge}
 use Rattle.list_laws.proofs.Numbers.{length-map-upto}
-use Rattle.resolution_laws.specs.Resolution.{external_count, move_count}
-use Rattle.text_laws.specs.Names.{is_place_name}
+use Rattle.cycle_events.specs.Resolution.{external_count, move_count}
+use Rattle.text_parts_laws.specs.Names.{is_place_name}
 use Rattle.arch_trait.specs.Cells.{WritesCells, MakesOneAccess}
 use Rattle.arch_trait.specs.Laws.{IsArch}
 use Rattle.arch_trait.specs.PlaceNames.{letters, location_name}
 use Rattle.arch_trait.specs.Threads.{Puts}
 use Rattle.arch_trait.specs.Writing.{Writing, WritesBack, name_in}
-use Rattle.arch_laws.proofs.NameLaws.{length-letters, location_new}
+use Rattle.arch_trait_laws.proofs.NameLaws.{length-letters, location_new}
 use Rattle.litmus_text.specs.declared.errors.TextError.{TextError}
 use Rattle.litmus_text.specs.Mentioned.{TestReadsBack, is_in}
 use Rattle.litmus_text.specs.Printable.{IsTestName}
 use Rattle.litmus_text.specs.Reread.{reread}
 use Rattle.litmus_text.specs.TestReading.{TestRead, test_read}
 use Rattle.litmus_text.specs.TestText.{test_text}
-use Rattle.printed_test_laws.proofs.BackLaws.{reads_back, numbered_in}
+use Rattle.bytes_force_cycles.proofs.BackLaws.{reads_back, numbered_in}
 use Rattle.program_meaning.specs.declared.WriteAt.{WriteAt}
 use Rattle.program_meaning.specs.Executions.{Execution}
 use Rattle.program_meaning.specs.Intended.{event_read, location_numbered, reads_in}
 use Rattle.program_meaning.specs.Programs.{IsCandidate}
 use Rattle.exec_meaning.proofs.RunLaws.{candidate_count}
-use Rattle.execution_text.specs.ExecutionText.{execution_read}
-use Rattle.execution_text.specs.ExecutionReadBack.{ExecutionFits}
-use Rattle.execution_text.specs.Written.{text_of_execution}
-use Rattle.execution_text.proofs.ExecutionBack.{written_reads_back}
-use Rattle.test_laws.specs.TestHeadline.{HasCode}
-use Rattle.test_laws.proofs.PlaceNames.{letter_at, locations_few}
-use Rattle.test_laws.specs.TestOf.{test_of}
-use Rattle.printed_test_laws.specs.Readings.{program_read}
-use Rattle.printed_test_laws.proofs.Readable.{readable}
-use Rattle.printed_test_laws.proofs.Rereading.{got_is}
+use Rattle.exec_text.specs.ExecutionText.{execution_read}
+use Rattle.exec_text.specs.ExecutionReadBack.{ExecutionFits}
+use Rattle.exec_text.specs.Written.{text_of_execution}
+use Rattle.exec_text.proofs.ExecutionBack.{written_reads_back}
+use Rattle.tests_force_cycles.specs.TestHeadline.{HasCode}
+use Rattle.tests_force_cycles.proofs.PlaceNames.{letter_at, locations_few}
+use Rattle.tests_force_cycles.specs.TestOf.{test_of}
+use Rattle.bytes_force_cycles.specs.Readings.{program_read}
+use Rattle.bytes_force_cycles.proofs.Readable.{readable}
+use Rattle.bytes_force_cycles.proofs.Rereading.{got_is}
 use Rattle.two_runs.specs.Runs.{order_of, run_by}
 use Rattle.two_runs.proofs.Fitting.{run_fits}
 

@@ -8,9 +8,9 @@ use Rattle.list_laws.specs.Numbers.{upto}
 use Rattle.relax_edges.specs.declared.kinds.ArchName.{ArchName}
 use Rattle.relax_edges.specs.declared.kinds.ObsMode.TheVariants.{Avoid}
 use Rattle.relax_edges.specs.declared.edge.Edge.{Edge}
-use Rattle.resolution_laws.specs.Resolution.{IsResolved, event_before, move_count}
-use Rattle.value_laws.specs.declared.needs.NeedsObserver.{NeedsObserver}
-use Rattle.value_laws.specs.Values.{is_observed, observer_need, write_count}
+use Rattle.cycle_events.specs.Resolution.{IsResolved, event_before, move_count}
+use Rattle.cycle_events.specs.declared.needs.NeedsObserver.{NeedsObserver}
+use Rattle.cycle_events.specs.Values.{is_observed, observer_need, write_count}
 use Rattle.arch_trait.specs.Cells.{WritesCells, MakesOneAccess}
 use Rattle.arch_trait.specs.Laws.{IsArch}
 use Rattle.arch_trait.specs.PlaceNames.{number_in}
@@ -25,13 +25,13 @@ use Rattle.litmus_text.specs.declared.errors.ReadError.TheVariants as errors
 use Rattle.litmus_text.specs.ReadingAnswers.{GivesInMemory}
 use Rattle.program_meaning.specs.Executions.{Execution}
 use Rattle.program_meaning.specs.Intended.{intended, location_numbered, location_order, observed_locations, observer_reads, write_of}
-use Rattle.communication_laws.specs.Exchange.{exchanged, exchanged_order}
-use Rattle.communication_laws.proofs.Bridge.{resolves}
-use Rattle.communication_laws.proofs.Needs.{refused_entry}
-use Rattle.test_laws.specs.TestHeadline.{HasCode}
-use Rattle.test_laws.specs.TestOf.{test_of}
-use Rattle.printed_test_laws.specs.Readings.{program_read, place_in_test}
-use Rattle.exchange_laws.specs.Undecided.{BytesUndecided, NoneTells, PrintedUndecided, Undecided}
+use Rattle.accesses_force_cycles.specs.Exchange.{exchanged, exchanged_order}
+use Rattle.accesses_force_cycles.proofs.Bridge.{resolves}
+use Rattle.accesses_force_cycles.proofs.Needs.{refused_entry}
+use Rattle.tests_force_cycles.specs.TestHeadline.{HasCode}
+use Rattle.tests_force_cycles.specs.TestOf.{test_of}
+use Rattle.bytes_force_cycles.specs.Readings.{program_read, place_in_test}
+use Rattle.two_runs.specs.Undecided.{BytesUndecided, NoneTells, PrintedUndecided, Undecided}
 use Rattle.two_runs.specs.Runs.{cycle_reads, numbers_by, order_of, run_by}
 use Rattle.two_runs.specs.Shown.{AreTwoRuns}
 use Rattle.two_runs.proofs.ReadAgain.{one_reading, read_again}

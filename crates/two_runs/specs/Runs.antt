@@ -4,8 +4,8 @@ use Rattle.std.specs.Prelude.{ℕ, ◌+◌, ◌==◌, ◌&&◌, Bool, List, [], 
 use Rattle.std.specs.List.{filter_map}
 use Rattle.relax_edges.specs.declared.edge.Edge.{Edge}
 use Rattle.list_laws.specs.Numbers.{upto}
-use Rattle.resolution_laws.specs.Resolution.{external_count, move_count, thread_of}
-use Rattle.value_laws.specs.Values.{write_count}
+use Rattle.cycle_events.specs.Resolution.{external_count, move_count, thread_of}
+use Rattle.cycle_events.specs.Values.{write_count}
 use Rattle.arch_trait.specs.PlaceNames.{location_name}
 use Rattle.litmus_text.specs.Placing.{place_in}
 use Rattle.diy_io.specs.Sink.{shown_bytes}
@@ -14,7 +14,7 @@ use Rattle.program_meaning.specs.declared.WriteAt.{WriteAt}
 use Rattle.program_meaning.specs.Accesses.{is_read}
 use Rattle.program_meaning.specs.Executions.{Execution}
 use Rattle.program_meaning.specs.Intended.{event_access, event_read, location_numbered, reads_in, write_of}
-use Rattle.communication_laws.specs.Exchange.{exchanged_value}
+use Rattle.accesses_force_cycles.specs.Exchange.{exchanged_value}
 use Rattle.two_runs.specs.declared.sink.TextSink.{TextSink}
 
 -- a text in memory, as a sink

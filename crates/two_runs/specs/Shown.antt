@@ -9,11 +9,11 @@ use Rattle.relax_edges.specs.declared.kinds.ArchName.{ArchName}
 use Rattle.relax_edges.specs.declared.kinds.ObsMode.TheVariants.{Avoid}
 use Rattle.relax_edges.specs.declared.edge.Edge.{Edge}
 use Rattle.relax_edges.specs.EdgeTable.{is_of_arch}
-use Rattle.resolution_laws.specs.declared.errors.ResolveError.{ResolveError}
-use Rattle.resolution_laws.specs.declared.errors.ResolveError.TheVariants as resolving
-use Rattle.resolution_laws.specs.Resolution.{event_before, resolution_of, turned}
-use Rattle.value_laws.specs.declared.needs.NeedsObserver.{NeedsObserver}
-use Rattle.value_laws.specs.Values.{observer_need}
+use Rattle.cycle_events.specs.declared.errors.ResolveError.{ResolveError}
+use Rattle.cycle_events.specs.declared.errors.ResolveError.TheVariants as resolving
+use Rattle.cycle_events.specs.Resolution.{event_before, resolution_of, turned}
+use Rattle.cycle_events.specs.declared.needs.NeedsObserver.{NeedsObserver}
+use Rattle.cycle_events.specs.Values.{observer_need}
 use Rattle.arch_trait.specs.PlaceNames.{number_in}
 use Rattle.arch_trait.specs.Threads.{Puts}
 use Rattle.arch_trait.specs.Writing.{Writing, name_in}
@@ -21,15 +21,15 @@ use Rattle.litmus_text.specs.TestReading.{TestRead, test_read}
 use Rattle.litmus_text.specs.TestText.{test_text}
 use Rattle.program_meaning.specs.Executions.{Execution}
 use Rattle.program_meaning.specs.Intended.{intended}
-use Rattle.communication_laws.specs.Exchange.{exchanged}
-use Rattle.test_laws.specs.TestHeadline.{HasCode}
-use Rattle.test_laws.specs.CycleSteps.{cycle_steps}
-use Rattle.test_laws.specs.TestOf.{plain, test_of}
+use Rattle.accesses_force_cycles.specs.Exchange.{exchanged}
+use Rattle.tests_force_cycles.specs.TestHeadline.{HasCode}
+use Rattle.tests_force_cycles.specs.CycleSteps.{cycle_steps}
+use Rattle.tests_force_cycles.specs.TestOf.{plain, test_of}
 use Rattle.test_maker.specs.Refusals.{is_crowded}
-use Rattle.execution_text.specs.ExecutionText.{execution_read}
-use Rattle.execution_text.specs.Written.{text_of_execution}
-use Rattle.printed_test_laws.specs.Readings.{program_read, place_in_test}
-use Rattle.exchange_laws.specs.Undecided.{NoneTells}
+use Rattle.exec_text.specs.ExecutionText.{execution_read}
+use Rattle.exec_text.specs.Written.{text_of_execution}
+use Rattle.bytes_force_cycles.specs.Readings.{program_read, place_in_test}
+use Rattle.two_runs.specs.Undecided.{NoneTells}
 use Rattle.two_runs.specs.declared.errors.WhyError.{WhyError}
 use Rattle.two_runs.specs.declared.errors.WhyError.TheVariants as errors
 use Rattle.two_runs.specs.declared.errors.WhyRefusal.{WhyRefusal}

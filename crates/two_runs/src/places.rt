@@ -1,5 +1,5 @@
 ghost use Rattle.std.specs.Prelude.{◌≡◌, ◌<◌};
-ghost use Rattle.resolution_laws.specs.Resolution.{move_count};
+ghost use Rattle.cycle_events.specs.Resolution.{move_count};
 ghost use Rattle.arch_trait.specs.PlaceNames.{location_name};
 ghost use Rattle.litmus_text.specs.Placing.{place_in};
 ghost use Rattle.program_meaning.specs.Intended.{location_numbered};

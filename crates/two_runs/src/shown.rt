@@ -1,7 +1,7 @@
 ghost use Rattle.std.specs.Prelude.{◌≡◌, List, Ok, Some};
 ghost use Rattle.relax_edges.specs.declared.edge.Edge.{Edge};
-ghost use Rattle.resolution_laws.specs.Resolution.{resolution_of};
-ghost use Rattle.value_laws.specs.Values.{observer_need};
+ghost use Rattle.cycle_events.specs.Resolution.{resolution_of};
+ghost use Rattle.cycle_events.specs.Values.{observer_need};
 ghost use Rattle.litmus_text.specs.Printable.{IsTestName};
 ghost use Rattle.test_maker.specs.Made.{AreOfArch};
 ghost use Rattle.two_runs.specs.Shown.{Shows, ShowsNeed, ShowsResolution, ShowsResolved};
@@ -14,7 +14,7 @@ use coherence_values::{NeedsObserver, value, value_unobserved};
 use cycle_resolve::{ResolveError, Resolved, resolve};
 use diy_io::NoMemory;
 use edge_algebra::Cycle;
-use exchange_laws::printed_undecided;
+use crate::printed_undecided;
 use exec_meaning::Execution;
 use litmus_text::{ReadError, ReadTest, read_test};
 use relax_edges::ObsMode;

@@ -1,8 +1,8 @@
 -- The checker prints each operation with digits, and each barrier, both ways.
 use Rattle.std.proofs.Common.{refl}
 use Rattle.std.specs.Fmt.{digits}
-use Rattle.form_laws.specs.Tables.{operands_fit, piece_texts, first_written}
-use Rattle.instruction_forms.specs.FixedTextLaws.{are_of_table}
+use Rattle.arch_instructions_laws.specs.Tables.{operands_fit, piece_texts, first_written}
+use Rattle.arch_instructions.specs.FixedTextLaws.{are_of_table}
 use Rattle.arch_riscv.specs.Table.{forms, table}
 use Rattle.arch_riscv.proofs.table.fixed_texts.Goals as goal
 

@@ -1,8 +1,8 @@
 -- That `link_into` gives the link of the cut resolution.
 use Rattle.std.proofs.Common.{◌≡◌, ◌+◌, ◌-◌, arith, sym, ap, ◌∙◌}
-use Rattle.resolution_laws.specs.Resolution.{slot_of}
-use Rattle.resolution_laws.proofs.Threads.{slot-zero, slot_out}
-use Rattle.test_laws.proofs.StepsFit.{link_first}
+use Rattle.cycle_events.specs.Resolution.{slot_of}
+use Rattle.cycle_events.proofs.Threads.{slot-zero, slot_out}
+use Rattle.tests_force_cycles.proofs.StepsFit.{link_first}
 use Rattle.co_tests_laws.proofs.Opened.{opened_link}
 use Rattle.co_tests.proofs.Cuts.{link_inside}
 use Rattle.co_tests.proofs.steps.link_into.Goals as goal

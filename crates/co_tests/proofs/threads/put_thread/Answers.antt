@@ -3,7 +3,7 @@ use Rattle.std.proofs.Common.{◌∙◌, ◌∷◌, [], sym, ap, subst, arith, l
 use Rattle.std.proofs.lemmas.List.{length-map}
 use Rattle.arch_trait.specs.Codes.{AllBelow, thread_code_of}
 use Rattle.arch_trait.specs.Threads.{compiled}
-use Rattle.test_laws.proofs.Terms.{reads-count}
+use Rattle.tests_force_cycles.proofs.Terms.{reads-count}
 use Rattle.co_tests.proofs.threads.put_thread.Goals as goal
 
 pub last_loads-requires : goal.last_loads-requires

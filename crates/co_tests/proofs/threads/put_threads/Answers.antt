@@ -4,15 +4,15 @@ use Rattle.std.specs.Option.{option_map}
 use Rattle.std.proofs.lemmas.List.{length-map}
 use Rattle.std.proofs.lemmas.List.Sums.{count_by-le-length}
 use Rattle.relax_edges.specs.EdgeTable.{is_external}
-use Rattle.resolution_laws.specs.Resolution.{edge_at, external_count, thread_of}
-use Rattle.resolution_laws.proofs.Threads.{thread-zero, thread_end, thread_in, thread_most, thread_out}
+use Rattle.cycle_events.specs.Resolution.{edge_at, external_count, thread_of}
+use Rattle.cycle_events.proofs.Threads.{thread-zero, thread_end, thread_in, thread_most, thread_out}
 use Rattle.final_cond.specs.Conditions.{term_view}
 use Rattle.arch_trait.specs.declared.step.Step.{Step}
 use Rattle.arch_trait.specs.Codes.{thread_code_of}
 use Rattle.arch_trait.specs.Threads.{is_load_dir, compiled}
 use Rattle.arch_trait.specs.Writing.{name_in}
-use Rattle.test_laws.specs.TestOf.{plain, thread_terms}
-use Rattle.test_laws.proofs.Terms.{reads-count, thread_terms-count}
+use Rattle.tests_force_cycles.specs.TestOf.{plain, thread_terms}
+use Rattle.tests_force_cycles.proofs.Terms.{reads-count, thread_terms-count}
 use Rattle.co_tests_laws.specs.declared.refusal.CoRefusal.TheVariants.{TooManyRegisters}
 use Rattle.co_tests_laws.specs.CoherenceTests.{coherence_steps}
 use Rattle.co_tests_laws.proofs.Fits.{loop_thread}

@@ -2,7 +2,7 @@
 use Rattle.std.proofs.Common.{◌≡◌, ◌≤◌, ◌+◌, length, map}
 use Rattle.arrayvec.specs.ArrayVec.{array_vec_len}
 use Rattle.final_cond.specs.Conditions.{term_view}
-use Rattle.resolution_laws.specs.Resolution.{thread_of}
+use Rattle.cycle_events.specs.Resolution.{thread_of}
 use Rattle.arch_trait.specs.Codes.{thread_code_of}
 use Rattle.arch_trait.specs.Writing.{name_in}
 use Rattle.co_tests_laws.specs.CoherenceTests.{coherence_steps}

@@ -1,6 +1,6 @@
 -- A list is a concatenation of relaxations exactly where it is read whole.
 use Rattle.std.proofs.Common.{◌∙◌}
-use Rattle.walk_laws.proofs.Relaxing.{read_concatenation, concatenation_read}
+use Rattle.cycle_enum_laws.proofs.Relaxing.{read_concatenation, concatenation_read}
 use Rattle.cycle_enum.proofs.relaxed.is_concatenation.Goals as goal
 
 pub returns : goal.returns

@@ -1,6 +1,6 @@
 -- A cycle none of whose rotations by a place is a concatenation is not made of relaxations.
 use Rattle.std.proofs.Common.{arith}
-use Rattle.walk_laws.proofs.Relaxing.{made_nowhere}
+use Rattle.cycle_enum_laws.proofs.Relaxing.{made_nowhere}
 use Rattle.cycle_enum.proofs.relaxed.is_made.Goals as goal
 
 pub returns : goal.returns

@@ -1,6 +1,6 @@
 -- A list that can't be part of a concatenation begins no cycle that is made of relaxations.
 use Rattle.std.proofs.Common.{◌∙◌, sym}
-use Rattle.walk_laws.proofs.Relaxing.{occurs_nowhere}
+use Rattle.cycle_enum_laws.proofs.Relaxing.{occurs_nowhere}
 use Rattle.cycle_enum.proofs.relaxed.may_occur.Goals as goal
 
 pub returns-in-len1-up : goal.returns-in-len1-up

@@ -1,6 +1,6 @@
 -- What is counted in the loop over the edges.
 use Rattle.std.proofs.Common.{◌≡◌}
-use Rattle.resolution_laws.specs.Resolution.{thread_of, moves_before}
+use Rattle.cycle_events.specs.Resolution.{thread_of, moves_before}
 use Rattle.cycle_resolve.proofs.resolved.counts_of.Given as goal
 
 abbrev pub invariant-loop-edge : goal.invariant-loop-edge

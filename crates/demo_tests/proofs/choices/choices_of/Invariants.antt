@@ -2,7 +2,7 @@
 use Rattle.std.proofs.Common.{◌≡◌, take}
 use Rattle.std.specs.Prelude.{filter}
 use Rattle.relax_edges.specs.AllEdges.{edges_in_order}
-use Rattle.family_laws.specs.Filled.{is_choice}
+use Rattle.demo_tests.specs.Filled.{is_choice}
 use Rattle.demo_tests.proofs.choices.choices_of.Given as goal
 
 -- the choices among the edges passed are found

@@ -1,7 +1,7 @@
 -- That `put_runs` writes the three files, and then the line on them.
 use Rattle.std.proofs.Common.{subst}
 use Rattle.std.specs.Option.{option_map}
-use Rattle.listed_tests.specs.Putting.{PutFiles}
+use Rattle.tests_to_files.specs.Putting.{PutFiles}
 use Rattle.diy_tools.specs.WhyAnswers.{why_line}
 use Rattle.diy_tools.proofs.Shows.{files_are, line_after}
 use Rattle.diy_tools.proofs.why.put_runs.Goals as goal

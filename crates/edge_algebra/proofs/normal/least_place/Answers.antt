@@ -1,7 +1,7 @@
 -- The place that the search ends with begins the least rotation.
 use Rattle.std.proofs.Common.{◌≡◌, ◌++◌, map, sym, ◌∙◌, arith}
 use Rattle.relax_edges.specs.Order.{rank_of}
-use Rattle.cycle_laws.proofs.Rotating.{normal_of_places, rotation_of_place}
+use Rattle.edge_algebra_laws.proofs.Rotating.{normal_of_places, rotation_of_place}
 use Rattle.edge_algebra.proofs.Windows.{compared, first, kept, replaced}
 use Rattle.edge_algebra.proofs.normal.least_place.Goals.{then-is_below, else-is_below}
 use Rattle.edge_algebra.proofs.normal.least_place.Goals as goal

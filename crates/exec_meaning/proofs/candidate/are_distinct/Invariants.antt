@@ -1,6 +1,6 @@
 -- In the loop over the writes: the answer is that for the writes that are left.
 use Rattle.std.proofs.Common.{◌≡◌, drop}
-use Rattle.execution_laws.specs.Deciding.{are_distinct}
+use Rattle.program_meaning.specs.Deciding.{are_distinct}
 use Rattle.exec_meaning.proofs.candidate.are_distinct.Given as goal
 
 abbrev pub invariant-loop-i : goal.invariant-loop-i

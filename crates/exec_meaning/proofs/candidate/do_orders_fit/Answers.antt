@@ -1,6 +1,6 @@
 -- An order that passes leaves the answer to the places after it.
 use Rattle.std.proofs.Common.{sym, ◌∙◌}
-use Rattle.execution_laws.specs.Deciding.{is_order}
+use Rattle.program_meaning.specs.Deciding.{is_order}
 use Rattle.exec_meaning.proofs.Loops.{every_step}
 use Rattle.exec_meaning.proofs.candidate.do_orders_fit.Goals as goal
 

@@ -1,6 +1,6 @@
 -- In the loop over the accesses: the answer is that for the accesses that are left.
 use Rattle.std.proofs.Common.{◌≡◌, drop}
-use Rattle.execution_laws.specs.Deciding.{every, agrees_later, thread_coheres}
+use Rattle.program_meaning.specs.Deciding.{every, agrees_later, thread_coheres}
 use Rattle.exec_meaning.proofs.coherent.thread_coheres.Given as goal
 
 abbrev pub invariant-loop-number : goal.invariant-loop-number

@@ -1,7 +1,7 @@
 -- The answer is whether the edge stands in the execution.
 use Rattle.std.proofs.Common.{map, refl, ◌∙◌, ap, sym}
-use Rattle.resolution_laws.specs.Resolution.{edge_at}
-use Rattle.resolution_laws.proofs.Around.{after_below}
+use Rattle.cycle_events.specs.Resolution.{edge_at}
+use Rattle.cycle_events.proofs.Around.{after_below}
 use Rattle.program_meaning.specs.Accesses.{at_name, visits_of}
 use Rattle.program_meaning.specs.Standing.{event_name}
 use Rattle.litmus_text.specs.ReadPrograms.{program_read}

@@ -1,15 +1,15 @@
 -- That `fill_last_terms` gives the terms of the locations whose last value is named.
 use Rattle.std.proofs.Common.{◌∙◌, ◌<◌, map, sym, ap, arith, length}
-use Rattle.resolution_laws.specs.Resolution.{move_count}
+use Rattle.cycle_events.specs.Resolution.{move_count}
 use Rattle.arrayvec.specs.ArrayVec.{ArrayVec}
 use Rattle.final_cond.specs.declared.cond.Term.{Term}
 use Rattle.final_cond.specs.Conditions.{term_view}
-use Rattle.test_laws.specs.TestOf.{is_named_location, last_term}
+use Rattle.tests_force_cycles.specs.TestOf.{is_named_location, last_term}
 use Rattle.test_maker.proofs.Filling.{found_same}
 use Rattle.test_maker.proofs.Naming.{last_room, named_more}
 use Rattle.test_maker.proofs.condition.fill_last_terms.Goals as goal
 use Rattle.test_maker.proofs.condition.fill_last_terms.Goals.{then-is_named, else-is_named}
-use Rattle.arch_laws.proofs.NameLaws.{length-letters}
+use Rattle.arch_trait_laws.proofs.NameLaws.{length-letters}
 
 pub push_last_term-requires-clause-place : goal.push_last_term-requires-clause-place
 push_last_term-requires-clause-place c =

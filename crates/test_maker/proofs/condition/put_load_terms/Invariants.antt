@@ -5,8 +5,8 @@ use Rattle.arrayvec.specs.ArrayVec.{array_vec_len}
 use Rattle.final_cond.specs.Conditions.{term_view}
 use Rattle.arch_trait.specs.Writing.{name_in}
 use Rattle.arch_trait.specs.Codes.{AllBelow}
-use Rattle.test_laws.specs.CycleSteps.{numbers_read}
-use Rattle.test_laws.specs.TestOf.{load_term}
+use Rattle.tests_force_cycles.specs.CycleSteps.{numbers_read}
+use Rattle.tests_force_cycles.specs.TestOf.{load_term}
 use Rattle.test_maker.proofs.condition.put_load_terms.Given as goal
 
 abbrev pub invariant-loop-step : goal.invariant-loop-step

@@ -1,7 +1,7 @@
 -- That the cycle has code where `make_unobserved` makes its test.
 use Rattle.std.proofs.Common.{subst}
 use Rattle.arch_trait.specs.Writing.{name_in}
-use Rattle.value_laws.specs.Values.{Valuation}
+use Rattle.cycle_events.specs.Values.{Valuation}
 use Rattle.test_maker.specs.Made.{MakesValued}
 use Rattle.test_maker.proofs.HavingTests.{made_has_code}
 use Rattle.test_maker.proofs.maker.make_unobserved.Goals as goal

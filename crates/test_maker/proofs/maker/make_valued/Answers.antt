@@ -1,6 +1,6 @@
 -- That what `make_valued` makes can be printed.
 use Rattle.std.proofs.Common.{ap, ◌∙◌, subst}
-use Rattle.resolution_laws.specs.Resolution.{IsResolved, move_count}
+use Rattle.cycle_events.specs.Resolution.{IsResolved, move_count}
 use Rattle.arch_trait.specs.PlaceNames.{letters}
 use Rattle.test_maker.proofs.Printing.{made_printable}
 use Rattle.test_maker.proofs.maker.make_valued.Goals as goal

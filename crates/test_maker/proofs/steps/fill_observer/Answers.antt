@@ -1,9 +1,9 @@
 -- That `fill_observer` gives the reads of an observer.
 use Rattle.std.proofs.Common.{◌∙◌, ◌-◌, sym, ap, arith, slice_get, Some}
-use Rattle.resolution_laws.specs.Resolution.{external_count}
+use Rattle.cycle_events.specs.Resolution.{external_count}
 use Rattle.program_meaning.specs.Intended.{observed_locations}
-use Rattle.test_laws.specs.TestOf.{plain}
-use Rattle.test_laws.proofs.StepsAt.{observer_steps_at, steps-count}
+use Rattle.tests_force_cycles.specs.TestOf.{plain}
+use Rattle.tests_force_cycles.proofs.StepsAt.{observer_steps_at, steps-count}
 use Rattle.test_maker.proofs.steps.fill_observer.Goals as goal
 
 pub observed_location-requires : goal.observed_location-requires

@@ -2,7 +2,7 @@
 use Rattle.std.proofs.Common.{◌≡◌}
 use Rattle.std.specs.List.{count_by}
 use Rattle.list_laws.specs.Numbers.{upto}
-use Rattle.value_laws.specs.Values.{is_observed}
+use Rattle.cycle_events.specs.Values.{is_observed}
 use Rattle.test_maker.proofs.steps.observer_count.Given as goal
 
 abbrev pub invariant-loop-location : goal.invariant-loop-location

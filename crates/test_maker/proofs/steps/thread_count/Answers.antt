@@ -1,8 +1,8 @@
 -- That `thread_count` counts the threads of the test.
 use Rattle.std.proofs.Common.{◌∙◌, ap, arith}
-use Rattle.resolution_laws.specs.Resolution.{external_count}
-use Rattle.test_laws.specs.TestOf.{plain}
-use Rattle.test_laws.proofs.StepsAt.{steps-count}
+use Rattle.cycle_events.specs.Resolution.{external_count}
+use Rattle.tests_force_cycles.specs.TestOf.{plain}
+use Rattle.tests_force_cycles.proofs.StepsAt.{steps-count}
 use Rattle.test_maker.proofs.Filling.{few_threads}
 use Rattle.test_maker.proofs.steps.thread_count.Goals as goal
 

@@ -1,8 +1,8 @@
 -- That `put_threads` makes the code of all threads, or refuses the first that needs too many registers.
 use Rattle.std.proofs.Common.{arith}
 use Rattle.arch_trait.specs.Writing.{name_in}
-use Rattle.test_laws.specs.TestOf.{plain}
-use Rattle.test_laws.proofs.StepsFit.{steps_fit}
+use Rattle.tests_force_cycles.specs.TestOf.{plain}
+use Rattle.tests_force_cycles.proofs.StepsFit.{steps_fit}
 use Rattle.test_maker.proofs.Growing.{grown_more, grown_refused, thread_room, load_room}
 use Rattle.test_maker.proofs.threads.put_threads.Goals as goal
 

@@ -1,6 +1,6 @@
 -- The place has all writes of its order.
 use Rattle.std.proofs.Common.{◌≡◌, sym, ◌∙◌, arith, None}
-use Rattle.value_laws.specs.Values.{write_count}
+use Rattle.cycle_events.specs.Values.{write_count}
 use Rattle.program_meaning.specs.Intended.{write_of}
 use Rattle.two_runs.proofs.CycleOrders.{place_begins, place_inside, place_more, place_same, place_whole}
 use Rattle.two_runs.proofs.orders.add_order.Goals as goal

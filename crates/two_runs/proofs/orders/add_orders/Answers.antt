@@ -1,6 +1,6 @@
 -- Each place has all writes of its order.
 use Rattle.std.proofs.Common.{◌≡◌, ◌<◌, ℕ, List, sym, ◌∙◌, ap, arith, length, subst}
-use Rattle.resolution_laws.specs.Resolution.{move_count}
+use Rattle.cycle_events.specs.Resolution.{move_count}
 use Rattle.program_meaning.specs.declared.WriteAt.{WriteAt}
 use Rattle.program_meaning.specs.Executions.{Execution}
 use Rattle.program_meaning.specs.Intended.{location_numbered}

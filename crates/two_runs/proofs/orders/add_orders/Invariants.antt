@@ -1,6 +1,6 @@
 -- What holds in the loop over the places.
 use Rattle.std.proofs.Common.{◌≡◌}
-use Rattle.resolution_laws.specs.Resolution.{move_count}
+use Rattle.cycle_events.specs.Resolution.{move_count}
 use Rattle.program_meaning.specs.Intended.{location_numbered}
 use Rattle.two_runs.specs.Runs.{numbers_by, order_of}
 use Rattle.two_runs.proofs.GrowingLists.{filled_to}

@@ -1,6 +1,6 @@
 -- Each thread has all its reads.
 use Rattle.std.proofs.Common.{◌≡◌, ◌<◌, ℕ, List, Option, sym, ◌∙◌, ap, arith, length, subst, map}
-use Rattle.resolution_laws.specs.Resolution.{external_count}
+use Rattle.cycle_events.specs.Resolution.{external_count}
 use Rattle.program_meaning.specs.declared.WriteAt.{WriteAt}
 use Rattle.program_meaning.specs.Executions.{Execution}
 use Rattle.program_meaning.specs.Intended.{event_read, reads_in}

@@ -1,6 +1,6 @@
 -- What holds in the loop over the threads.
 use Rattle.std.proofs.Common.{◌≡◌, map}
-use Rattle.resolution_laws.specs.Resolution.{external_count}
+use Rattle.cycle_events.specs.Resolution.{external_count}
 use Rattle.program_meaning.specs.Intended.{event_read, reads_in}
 use Rattle.two_runs.proofs.GrowingLists.{filled_to}
 use Rattle.two_runs.proofs.reads.add_reads.Given as goal

@@ -1,8 +1,8 @@
 -- The thread has all its reads.
 use Rattle.std.proofs.Common.{◌≡◌, sym, ◌∙◌, ap, arith, length}
-use Rattle.resolution_laws.specs.declared.event.Event.{Event}
-use Rattle.resolution_laws.specs.Resolution.{location_of}
-use Rattle.value_laws.proofs.Along.{value_most}
+use Rattle.cycle_events.specs.declared.event.Event.{Event}
+use Rattle.cycle_events.specs.Resolution.{location_of}
+use Rattle.cycle_events.proofs.Along.{value_most}
 use Rattle.program_meaning.specs.Intended.{write_of}
 use Rattle.two_runs.proofs.CycleReads.{thread_begins, thread_more, thread_same, thread_whole}
 use Rattle.two_runs.proofs.reads.add_thread.Goals as goal

@@ -1,6 +1,6 @@
 -- The write that a read reads is an event of the cycle.
 use Rattle.std.proofs.Common.{◌-◌, length, ap, arith}
-use Rattle.value_laws.proofs.Writes.{write_of}
+use Rattle.cycle_events.proofs.Writes.{write_of}
 use Rattle.two_runs.proofs.reads.write_of.Goals as goal
 
 pub event-event-requires : goal.event-event-requires

@@ -1,7 +1,7 @@
 -- The two executions that are made are those of the law.
 use Rattle.std.proofs.Common.{◌≡◌, ◌<◌, ℕ, length, None, Some, sym, ap, ◌∙◌, subst}
 use Rattle.relax_edges.specs.declared.kinds.ArchName.{ArchName}
-use Rattle.value_laws.specs.Values.{Valuation}
+use Rattle.cycle_events.specs.Values.{Valuation}
 use Rattle.litmus_text.specs.TestReading.{test_read}
 use Rattle.two_runs.specs.Runs.{numbers_by, run_by}
 use Rattle.two_runs.proofs.ShownLaws.{are_runs, gives_fault, need_below, no_fault, undecided}

@@ -4,8 +4,8 @@ use Rattle.std.specs.Prelude.{nat_le}
 use Rattle.std.specs.Option.{is_some}
 use Rattle.relax_edges.specs.declared.kinds.ObsMode.TheVariants.{Accept, Avoid, Force}
 use Rattle.coherence_values.specs.declared.valued.Arc.{Arc}
-use Rattle.value_laws.specs.Values.{Valuation, is_observed}
-use Rattle.value_laws.proofs.Entries.{inner_found}
+use Rattle.cycle_events.specs.Values.{Valuation, is_observed}
+use Rattle.cycle_events.proofs.Entries.{inner_found}
 use Rattle.coherence_values.proofs.valued.Valued.observed.Goals as goal
 
 pub returns-in-Accept : goal.returns-in-Accept

@@ -1,7 +1,7 @@
 -- The value of an event is that of its definition.
 use Rattle.std.proofs.Common.{◌≡◌, length, arith, ◌∙◌, ap}
 use Rattle.list_laws.proofs.Numbers.{place_in_map, get_or-map-upto}
-use Rattle.value_laws.specs.Values.{Valuation, value_of}
+use Rattle.cycle_events.specs.Values.{Valuation, value_of}
 use Rattle.coherence_values.specs.Arc.{values_of}
 use Rattle.coherence_values.proofs.valued.Valued.value_of.Goals as goal
 

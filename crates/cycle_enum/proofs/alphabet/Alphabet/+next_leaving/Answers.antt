@@ -1,8 +1,8 @@
 -- A letter that leaves another access is passed over, and the rank grows.
 use Rattle.std.proofs.Common.{◌<◌, ◌+◌, ◌-◌, sym, ◌∙◌, arith}
 use Rattle.relax_edges.specs.declared.order.TheConstants.{EDGES}
-use Rattle.cycle_laws.proofs.RankLaws.{rank_below}
-use Rattle.walk_laws.specs.Search.{OccursIn}
+use Rattle.edge_algebra_laws.proofs.RankLaws.{rank_below}
+use Rattle.cycle_enum_laws.specs.Search.{OccursIn}
 use Rattle.cycle_enum.specs.Letters.{IsFirstLetter}
 use Rattle.cycle_enum.proofs.Passing.{next_leaving}
 use Rattle.cycle_enum.proofs.alphabet.Alphabet.+next_leaving.Goals as goal

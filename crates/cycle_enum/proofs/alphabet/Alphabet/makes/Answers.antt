@@ -2,8 +2,8 @@
 use Rattle.std.proofs.Common.{◌↔◌}
 use Rattle.std.specs.List.{AllByRecursion}
 use Rattle.std.specs.Prelude.{IsTrue}
-use Rattle.walk_laws.specs.Search.{OccursIn}
-use Rattle.walk_laws.proofs.Candidates.{made_occurs, single_made}
+use Rattle.cycle_enum_laws.specs.Search.{OccursIn}
+use Rattle.cycle_enum_laws.proofs.Candidates.{made_occurs, single_made}
 use Rattle.cycle_enum.proofs.Lettering.{all_marked}
 use Rattle.cycle_enum.proofs.alphabet.Alphabet.makes.Goals as goal
 

@@ -2,8 +2,8 @@
 use Rattle.std.proofs.Common.{◌≡◌, ◌∷◌, [], ◌&&◌, arith}
 use Rattle.relax_edges.specs.declared.edge.Edge.{Edge}
 use Rattle.relax_edges.specs.EdgeTable.{same_dir, same_mark, source_of, source_mark}
-use Rattle.cycle_laws.specs.Composable.{last_joins}
-use Rattle.cycle_laws.proofs.Composing.{last_joins_at}
+use Rattle.edge_algebra_laws.specs.Composable.{last_joins}
+use Rattle.edge_algebra_laws.proofs.Composing.{last_joins_at}
 use Rattle.cycle_enum.proofs.Passing.{next_follows, next_joined}
 use Rattle.cycle_enum.proofs.alphabet.Alphabet.next_letter.Goals as goal
 

@@ -1,6 +1,6 @@
 -- A joined list with an edge more that its last edge joins is joined, and the rank of the edge and the repeat with it are beside it.
 use Rattle.std.proofs.Common.{[], ◌∷◌, ◌++◌, ◌∙◌, sym, ap, subst}
-use Rattle.cycle_laws.specs.Composable.{last_joins}
+use Rattle.edge_algebra_laws.specs.Composable.{last_joins}
 use Rattle.cycle_enum.specs.Repeats.{IsRepeat}
 use Rattle.cycle_enum.proofs.Composing.{joined_more}
 use Rattle.cycle_enum.proofs.Ranking.{ranks_pushed}

@@ -2,7 +2,7 @@
 use Rattle.std.proofs.Common.{◌++◌, ◌∙◌, ℕ, List, take, drop, refl, sym, subst, ap, append_assoc}
 use Rattle.std.proofs.lemmas.List.{take-append-drop}
 use Rattle.relax_edges.specs.declared.edge.Edge.{Edge}
-use Rattle.walk_laws.specs.Search.{LeadsNowhere}
+use Rattle.cycle_enum_laws.specs.Search.{LeadsNowhere}
 use Rattle.cycle_enum.specs.Walking.{Lists}
 use Rattle.cycle_enum.proofs.walk.Space.keeps_all.Goals as goal
 

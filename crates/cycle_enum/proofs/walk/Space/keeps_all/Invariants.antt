@@ -1,5 +1,5 @@
 -- The prefixes so far are kept.
-use Rattle.walk_laws.specs.Asked.{KeptBelow}
+use Rattle.cycle_enum_laws.specs.Asked.{KeptBelow}
 use Rattle.cycle_enum.specs.Walking.{KeepsList}
 use Rattle.cycle_enum.proofs.walk.Space.keeps_all.Given as goal
 

@@ -2,8 +2,8 @@
 use Rattle.std.proofs.Common.{◌≡◌, ◌<◌, ◌⊎◌, [], List, inl, inr, length, refl, sym, arith, rules, IsTrue}
 use Rattle.std.proofs.lemmas.List.{append-nil}
 use Rattle.relax_edges.specs.declared.edge.Edge.{Edge}
-use Rattle.walk_laws.specs.Asked.{KeptWhole}
-use Rattle.walk_laws.proofs.Raising.{cut_whole}
+use Rattle.cycle_enum_laws.specs.Asked.{KeptWhole}
+use Rattle.cycle_enum_laws.proofs.Raising.{cut_whole}
 use Rattle.cycle_enum.specs.Walking.{KeepsList, Lists}
 use Rattle.cycle_enum.proofs.Composing.{cycle_joined}
 use Rattle.cycle_enum.proofs.walk.Space.put_last.Goals as goal

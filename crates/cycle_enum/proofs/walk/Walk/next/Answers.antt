@@ -1,7 +1,7 @@
 -- The list that is found is the next cycle, and with it the number `later` falls.
 use Rattle.std.proofs.Common.{refl}
-use Rattle.walk_laws.specs.Listing.{IsNext}
-use Rattle.walk_laws.proofs.Counts.{later_falls}
+use Rattle.cycle_enum_laws.specs.Listing.{IsNext}
+use Rattle.cycle_enum_laws.proofs.Counts.{later_falls}
 use Rattle.cycle_enum.specs.Walking.{Lists}
 use Rattle.cycle_enum.proofs.walk.Walk.next.Goals as goal
 

@@ -1,7 +1,7 @@
 -- The numbers of an event are those of its definition.
 use Rattle.std.proofs.Common.{◌≡◌, length, arith, ◌∙◌, ap}
 use Rattle.list_laws.proofs.Numbers.{length-map-upto, get_or-map-upto}
-use Rattle.resolution_laws.specs.Resolution.{event_of, events_of}
+use Rattle.cycle_events.specs.Resolution.{event_of, events_of}
 use Rattle.cycle_resolve.proofs.resolved.Resolved.event.Goals as goal
 
 pub bounds-deref-from : goal.bounds-deref-from

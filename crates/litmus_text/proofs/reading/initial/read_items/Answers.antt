@@ -2,7 +2,7 @@
 use Rattle.std.proofs.Common.{sym, ◌∙◌, arith}
 use Rattle.std.proofs.lemmas.Result.{err_from_is_err_and}
 use Rattle.litmus_text.specs.Views.{joined_seen, begun_seen}
-use Rattle.text_laws.proofs.CutLaws.{cut_length}
+use Rattle.text_parts_laws.proofs.CutLaws.{cut_length}
 use Rattle.litmus_text.proofs.GiveLaws.{fails_map}
 use Rattle.litmus_text.proofs.ItemLoops.{item_last, item_more, item_fails}
 use Rattle.litmus_text.proofs.reading.initial.read_items.Goals as goal

@@ -3,7 +3,7 @@ use Rattle.std.proofs.Common.{ap, ◌∙◌, ◌++◌, ◌∷◌, []}
 use Rattle.std.specs.declared.vec.Vec.{Vec}
 use Rattle.std.specs.declared.alloc.Global.{Global}
 use Rattle.std.specs.Prelude.{ℕ}
-use Rattle.text_laws.specs.Cuts.{cut_at}
+use Rattle.text_parts_laws.specs.Cuts.{cut_at}
 use Rattle.log_sum.specs.LogStates.{left_kept, sides_read}
 use Rattle.log_sum.proofs.SetLaws.{equality_collected}
 use Rattle.log_sum.proofs.states.StateReader.put_equality.Goals as goal

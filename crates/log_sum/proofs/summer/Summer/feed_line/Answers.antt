@@ -5,7 +5,7 @@ use Rattle.std.proofs.lemmas.Result.{err_from_is_err_and}
 use Rattle.log_sum.specs.declared.errors.LogKind.TheVariants.{LineTooLong}
 use Rattle.log_sum.specs.SumViews.{progress_view}
 use Rattle.log_sum.specs.LogReading.{LogSeen, fault_at}
-use Rattle.text_laws.specs.Lines.{without_return}
+use Rattle.text_parts_laws.specs.Lines.{without_return}
 use Rattle.log_sum.specs.Representing.{SumProgress, Kept}
 use Rattle.log_sum.specs.Feeding.{FollowsSeen}
 use Rattle.log_sum.proofs.FeedLaws.{line_long, line_read, long_ended, nothing_there, none_there}

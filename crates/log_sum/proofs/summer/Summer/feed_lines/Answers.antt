@@ -3,7 +3,7 @@ use Rattle.std.proofs.Common.{◌++◌, ◌∷◌, [], List, ℕ, refl, sym, ap,
 use Rattle.std.proofs.lemmas.Result.{err_from_is_err_and}
 use Rattle.log_sum.specs.Representing.{Represents}
 use Rattle.log_sum.specs.Feeding.{PieceTo}
-use Rattle.text_laws.proofs.CutLaws.{cut_parts, uncut_without}
+use Rattle.text_parts_laws.proofs.CutLaws.{cut_parts, uncut_without}
 use Rattle.log_sum.proofs.FeedLaws.{represents_follows, line_fed, line_answered, part_answered, piece_whole}
 use Rattle.log_sum.proofs.summer.Summer.feed_lines.Goals as goal
 

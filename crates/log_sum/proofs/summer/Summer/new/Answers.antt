@@ -5,7 +5,7 @@ use Rattle.std.specs.declared.vec.Vec.{Vec}
 use Rattle.std.specs.declared.alloc.Global.{Global}
 use Rattle.log_sum.specs.declared.test_sum.TestSum.{TestSum}
 use Rattle.log_sum.specs.SumViews.{named_view}
-use Rattle.text_laws.specs.Lines.{whole_lines, unended}
+use Rattle.text_parts_laws.specs.Lines.{whole_lines, unended}
 use Rattle.log_sum.specs.LogReading.{nothing_seen, input_judged, bytes_judged, rest_judged}
 use Rattle.log_sum.proofs.summer.Summer.new.Goals as goal
 

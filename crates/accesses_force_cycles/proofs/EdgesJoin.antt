@@ -1,0 +1,66 @@
+-- Each edge of a cycle joins its events in the intended execution, and so in each one that meets the condition.
+use Rattle.std.proofs.Common.{◌≡◌, ℕ, ◌+◌, ◌<◌, List, length, Some, refl, sym, ◌∙◌, ap, arith}
+use Rattle.relax_edges.specs.declared.kinds.Dir.TheVariants as dirs
+use Rattle.relax_edges.specs.declared.kinds.Sd.TheVariants.{Same}
+use Rattle.relax_edges.specs.declared.kinds.ObsMode.{ObsMode}
+use Rattle.relax_edges.specs.declared.kinds.Kind.{Kind}
+use Rattle.relax_edges.specs.declared.edge.Edge.{Edge}
+use Rattle.relax_edges.specs.EdgeTable.{kind_of, source_of, target_of, sd_of}
+use Rattle.cycle_events.specs.Resolution.{edge_at, location_of, event_after}
+use Rattle.cycle_events.proofs.Around.{after_below}
+use Rattle.cycle_events.specs.Values.{value_of}
+use Rattle.program_meaning.specs.Executions.{Execution}
+use Rattle.program_meaning.specs.Coherence.{source_at}
+use Rattle.program_meaning.specs.Standing.{CommunicatesBy, ComesBefore, Joins, event_name}
+use Rattle.program_meaning.specs.Intended.{IsNumbering, event_access, event_at, cycle_accesses, write_of, intended}
+use Rattle.accesses_force_cycles.specs.Premises.{MeetsCondition}
+use Rattle.accesses_force_cycles.proofs.Numbering.{location_of_number}
+use Rattle.accesses_force_cycles.proofs.Accesses.{event_at_name}
+use Rattle.accesses_force_cycles.proofs.IntendedOrders.{placed_write, place_is_value}
+use Rattle.accesses_force_cycles.proofs.OnlyOne.{only_the_intended}
+use Rattle.accesses_force_cycles.proofs.Resolves.{Resolves, EntersLast, written_by}
+
+-- along an edge that keeps the location, the value stays at a read and grows by one at a write
+value_along : (es : List Edge) (i : ℕ) → Resolves es → i < length es → sd_of (edge_at es i) ≡ Same → value_of es (event_after es i) ≡ value_of es i + written_by (target_of (edge_at es i))
+value_along es i r h p = r.counts i h p ∙ ap (λ d. value_of es i + written_by d) (sym (r.enters i h))
+
+-- the write of a write event's value is the event
+own_write : (es : List Edge) (i : ℕ) → Resolves es → i < length es → source_of (edge_at es i) ≡ dirs.W → write_of es (location_of es i) (value_of es i) ≡ Some (event_name es i)
+own_write es i r h d = grind arith
+
+-- along a reads-from edge the read reads the write
+reads_from : (es : List Edge) (mode : ObsMode) (number : ℕ → ℕ) (i : ℕ) → Resolves es → IsNumbering es number → i < length es → source_of (edge_at es i) ≡ dirs.W → target_of (edge_at es i) ≡ dirs.R → sd_of (edge_at es i) ≡ Same → source_at (cycle_accesses es mode number) (intended es mode number) (event_name es (event_after es i)) ≡ Some (event_name es i)
+reads_from es mode number i r n h d t p =
+    grind (
+      arith,
+      (placed_write es mode number (intended es mode number) (event_name es (event_after es i)) (event_access es number (event_after es i)) r n refl (event_at_name es mode number (event_after es i) r (after_below es i h))),
+      (event_at_name es mode number (event_after es i) r (after_below es i h)),
+      (after_below es i h),
+      (location_of_number es number (location_of es (event_after es i)) n (r.location (event_after es i))),
+      (value_along es i r h p),
+      (own_write es i r h d),
+    )
+
+-- along an edge into a write at the same location the coherence place grows
+comes_before : (es : List Edge) (mode : ObsMode) (number : ℕ → ℕ) (i : ℕ) → Resolves es → IsNumbering es number → i < length es → target_of (edge_at es i) ≡ dirs.W → sd_of (edge_at es i) ≡ Same → ComesBefore (cycle_accesses es mode number) (intended es mode number) (event_at es number i) (event_at es number (event_after es i))
+comes_before es mode number i r n h t p =
+    grind (
+      arith,
+      (value_along es i r h p),
+      (place_is_value es mode number (event_name es i) (event_access es number i) r n (event_at_name es mode number i r h)),
+      (place_is_value es mode number (event_name es (event_after es i)) (event_access es number (event_after es i)) r n (event_at_name es mode number (event_after es i) r (after_below es i h))),
+      (event_at_name es mode number i r h),
+      (event_at_name es mode number (event_after es i) r (after_below es i h)),
+      (after_below es i h),
+    )
+
+communicates : (es : List Edge) (mode : ObsMode) (number : ℕ → ℕ) (i : ℕ) → Resolves es → IsNumbering es number → i < length es → (k : Kind) → kind_of (edge_at es i) ≡ k → CommunicatesBy k (cycle_accesses es mode number) (intended es mode number) (event_at es number i) (event_at es number (event_after es i))
+communicates es mode number i r n h x e = grind (arith, reads_from, comes_before)
+
+-- each edge joins its events in the intended execution
+pub intended_joins : (es : List Edge) (mode : ObsMode) (number : ℕ → ℕ) (i : ℕ) → Resolves es → IsNumbering es number → i < length es → Joins (cycle_accesses es mode number) (intended es mode number) (edge_at es i) (event_at es number i) (event_at es number (event_after es i))
+intended_joins es mode number i r n h = grind (arith, communicates)
+
+-- each edge joins its events in each execution that meets the condition
+pub edges_join : (es : List Edge) (mode : ObsMode) (number : ℕ → ℕ) (x : Execution) (i : ℕ) → Resolves es → EntersLast es mode → IsNumbering es number → MeetsCondition es mode number x → i < length es → Joins (cycle_accesses es mode number) x (edge_at es i) (event_at es number i) (event_at es number (event_after es i))
+edges_join es mode number x i r q n c h = grind (arith, (only_the_intended es mode number x r q n c), (intended_joins es mode number i r n h))

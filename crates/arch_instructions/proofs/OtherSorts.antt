@@ -1,0 +1,16 @@
+-- An operation is of a kind only where their sorts are the same.
+use Rattle.std.proofs.Common.{◌≡◌, List, refl, false}
+use Rattle.micro_ops.specs.declared.operation.Micro.{Micro}
+use Rattle.arch_instructions_laws.specs.declared.kind.Kind.{Kind}
+use Rattle.arch_instructions_laws.specs.declared.kind.Operand.{Operand}
+use Rattle.arch_instructions_laws.specs.Tables.{FormText, does, fits_if}
+use Rattle.arch_instructions_laws.proofs.OfKind.{IsOf, orders, by_kind}
+use Rattle.arch_instructions.specs.Printing.{kind_sort, op_sort}
+
+same_sort : {kind : Kind} {op : Micro} {vs : List Operand} → IsOf kind op vs → kind_sort kind ≡ op_sort op
+same_sort (orders a b e) = refl
+same_sort is = refl
+
+-- a form of another sort than the operation doesn't do it
+pub other_sort : (f : FormText) (op : Micro) → (kind_sort f.kind ≡ op_sort op → ⊥) → does op f ≡ false
+other_sort f op h = by_kind (λ o. fits_if f.pieces o ≡ false) f.kind op refl (λ vs is. absurd (h (same_sort is)))

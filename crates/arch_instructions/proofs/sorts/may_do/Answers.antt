@@ -1,0 +1,11 @@
+-- A form whose sort isn't that of the operation doesn't do it.
+use Rattle.std.proofs.Common.{◌∙◌, sym}
+use denote.Enum.Bare.{same_false}
+use Rattle.arch_instructions_laws.specs.Tables.{form_seen}
+use Rattle.arch_instructions.specs.contracts.sorts.Sort.{the_type}
+use Rattle.arch_instructions.proofs.OtherSorts.{other_sort}
+use Rattle.arch_instructions.proofs.sorts.may_do.Goals as goal
+
+pub returns : goal.returns
+returns c e = other_sort (form_seen c.args.form.now) c.args.op.now
+    (λ s. same_false the_type _ _ (sym c.eq.ensures ∙ e) (c.kind_sort.ensures ∙ (s ∙ sym c.requires.sort)))

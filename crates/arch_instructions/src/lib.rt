@@ -1,0 +1,26 @@
+//! Instructions are printed and read by a table of forms; and the code of a thread where accesses name a register that holds the address.
+#![tactic(auto)]
+
+mod fits;
+mod fixed;
+mod found;
+mod generator;
+mod has;
+mod indexed;
+mod numbers;
+mod operand_list;
+mod operands;
+mod own;
+mod print;
+mod push;
+mod read;
+mod sorts;
+
+pub use fixed::{BarrierText, FixedTexts, TextsAround, print_fixed};
+pub use generator::{put_link, put_load, put_store, registers_needed};
+pub use has::has_by;
+pub use indexed::{add_number, indexed_load, indexed_store};
+pub use own::OwnInstructions;
+pub use print::{print_by, print_with};
+pub use push::push_short;
+pub use read::read_by;

@@ -1,0 +1,14 @@
+pub mod Mentioning
+pub mod Rereading
+pub mod NoInterleaving
+pub mod Forcing
+pub mod Fits
+pub mod Lengths
+pub mod SomeTerm
+pub mod Readable
+pub mod Printed
+pub mod FormedFits
+pub mod BackLaws
+pub mod ScLaws
+pub mod PrintedSc
+pub mod Links

@@ -1,0 +1,179 @@
+-- The laws on links and on the condition, of what is read of the printed text of a cycle's test: it is the test, except for the
+-- numbers of places.
+use Rattle.std.proofs.Common.{◌≡◌, ℕ, List, [], length, refl, sym, ◌∙◌, subst}
+use Rattle.relax_edges.specs.declared.kinds.ArchName.{ArchName}
+use Rattle.relax_edges.specs.declared.kinds.ObsMode.{ObsMode}
+use Rattle.relax_edges.specs.declared.edge.Edge.{Edge}
+use Rattle.cycle_events.specs.Resolution.{move_count}
+use Rattle.final_cond.specs.States.{Meets}
+use Rattle.arch_trait.specs.Cells.{WritesCells, MakesOneAccess}
+use Rattle.arch_trait.specs.Laws.{IsArch}
+use Rattle.arch_trait.specs.PlaceNames.{letters, number_in}
+use Rattle.arch_trait.specs.SeenTests.{TestSeen}
+use Rattle.arch_trait.specs.Threads.{Puts}
+use Rattle.arch_trait.specs.Writing.{Writing, WritesBack, name_in}
+use Rattle.litmus_text.specs.Mentioned.{TestReadsBack}
+use Rattle.litmus_text.specs.Reread.{reread}
+use Rattle.litmus_text.specs.TestReading.{TestRead}
+use Rattle.litmus_text.specs.TestText.{test_text}
+use Rattle.program_meaning.specs.Executions.{Execution}
+use Rattle.program_meaning.specs.Programs.{Program, IsCandidate, IsCoherentIn, accesses_in}
+use Rattle.program_meaning.specs.Standing.{AllStand, event_name}
+use Rattle.program_meaning.specs.Intended.{IsNumbering, cycle_accesses, intended, observed_locations}
+use Rattle.accesses_force_cycles.proofs.Bridge.{resolves}
+use Rattle.accesses_force_cycles.proofs.IntendedReads.{reads-count}
+use Rattle.accesses_force_cycles.proofs.Programs as programs
+use Rattle.accesses_force_cycles.specs.Joining.{MakesAccesses}
+use Rattle.sc_and_interleavings.specs.Sequential.{HasNoCycle}
+use Rattle.sc_and_interleavings.specs.LinkLaws.{IsLink}
+use Rattle.sc_and_interleavings.specs.Links.{PrecedesBut}
+use Rattle.sc_and_interleavings.proofs.OneLink.{each_link_closes}
+use Rattle.sc_and_interleavings.proofs.Outcomes.{standing_is_outcome}
+use Rattle.tests_force_cycles.specs.FinalStates.{final_state, IsAskedFor}
+use Rattle.tests_force_cycles.specs.TestHeadline.{HasTest, IsRenumbered}
+use Rattle.tests_force_cycles.specs.TestPrograms.{test_program}
+use Rattle.tests_force_cycles.specs.TestOf.{test_of}
+use Rattle.tests_force_cycles.proofs.Headline.{renumbered_numbers, renumbered_program, tests_ask_law}
+use Rattle.tests_force_cycles.proofs.Making.{makes, makes_enough, intended_enough}
+use Rattle.tests_force_cycles.proofs.RegisterNames.{registers_found}
+use Rattle.tests_force_cycles.proofs.TestCodes.{cycle_codes, cycle_program, are_codes}
+use Rattle.bytes_force_cycles.specs.PrintedHeadline.{BytesForce}
+use Rattle.bytes_force_cycles.specs.Readings.{program_read, place_in_test, ReadingAsks}
+use Rattle.bytes_force_cycles.proofs.BackLaws.{reads_back}
+use Rattle.bytes_force_cycles.proofs.Forcing.{bytes_force}
+use Rattle.bytes_force_cycles.proofs.Readable.{readable}
+use Rattle.bytes_force_cycles.proofs.Rereading.{reread_test, reread_renumbered, by_table, threads_numbered, number_of_location, intended_same}
+use Rattle.bytes_force_cycles.specs.Links.{IsPrintedTest, LinkCloses, EachLinkMayBreak, ConditionDecides}
+use Rattle.bytes_force_cycles.proofs.PrintedSc.{same_test}
+
+-- the law on links for the program of a cycle's test, under any numbers of places
+cycle_links : (a : Puts) (register_name : ℕ → List ℕ) (es : List Edge) (mode : ObsMode) (test : TestSeen) (number : ℕ → ℕ)
+    (i : ℕ) → IsArch a → HasTest a es mode
+    → IsRenumbered (test_of a register_name es mode) test number → IsLink es i → LinkCloses es i (cycle_program a es mode number) (intended es mode number)
+cycle_links a register_name es mode test number i laws t e link =
+    subst (λ threads. HasNoCycle (PrecedesBut threads (event_name es i)) threads (intended es mode number)) (sym planned)
+    (each_link_closes es mode number i t.code.resolved n link)
+  where
+    n : IsNumbering es number
+    n = renumbered_numbers a register_name es mode test number t.code e
+
+    m : MakesAccesses es mode number (cycle_program a es mode number) (intended es mode number)
+    m = makes_enough (cycle_codes a es mode number) es mode number (intended es mode number) (are_codes a es mode number laws t.code.resolved t.code.of_arch)
+        (intended_enough es mode number t.code.resolved n)
+
+    planned : accesses_in (cycle_program a es mode number) (intended es mode number) ≡ cycle_accesses es mode number
+    planned = programs.makes_planned es mode number (cycle_program a es mode number) (intended es mode number) m
+        (programs.intended_asked es mode number (resolves es t.code.resolved) n) (reads-count es mode number ∙ sym m.threads)
+
+-- without observers, such a test asks for each coherent candidate in which all edges stand
+cycle_asks : (a : Puts) (w : Writing) (es : List Edge) (mode : ObsMode) (test : TestSeen) (number : ℕ → ℕ) (x : Execution) → IsArch a → WritesBack a w
+    → HasTest a es mode → IsRenumbered (test_of a (name_in w.registers) es mode) test number → observed_locations es mode ≡ []
+    → IsCandidate (test_program test) x → IsCoherentIn (test_program test) x → AllStand es (test_program test) x → IsAskedFor test (number_in w.registers) x
+cycle_asks a w es mode test number x laws back t e none candidate coherent all =
+    (tests_ask_law a (name_in w.registers) (number_in w.registers) es mode test number x laws (registers_found a w back) t e).1
+    (standing_is_outcome es mode number (test_program test) x t.code.resolved (renumbered_numbers a (name_in w.registers) es mode test number t.code e) none
+    (subst (λ (p : Program). MakesAccesses es mode number p x) p
+    (makes (cycle_codes a es mode number) es mode number x (are_codes a es mode number laws t.code.resolved t.code.of_arch)
+    (subst (λ (p : Program). IsCandidate p x) (sym p) candidate)))
+    candidate coherent all)
+  where
+    p : cycle_program a es mode number ≡ test_program test
+    p = renumbered_program a (name_in w.registers) es mode test number e
+
+-- the test that is read back, and how its places are numbered
+reread_of : (a : Puts) (arch : ArchName) (w : Writing) (name : List ℕ) (es : List Edge) (mode : ObsMode) → IsArch a → HasTest a es mode
+    → (r : TestReadsBack arch w name (test_of a (name_in w.registers) es mode))
+    → IsRenumbered (test_of a (name_in w.registers) es mode) (reread_test r.table (test_of a (name_in w.registers) es mode))
+    (by_table r.table (letters (move_count es)))
+reread_of a arch w name es mode laws t r = reread_renumbered a (name_in w.registers) es mode r.table laws t.code
+    (record { once = r.once; inside = r.among }) r.codes r.links
+
+-- its program is that of the reading
+program_is : (arch : ArchName) (w : Writing) (name : List ℕ) (es : List Edge) (test : TestSeen) (r : TestReadsBack arch w name test)
+    → test.places ≡ letters (move_count es) → test_program (reread_test r.table test) ≡ program_read (reread r.table name test)
+program_is arch w name es test r places = λ i. record { places = length r.table; threads = threads_numbered r.table test.places test.threads i }
+
+-- the laws for what is read back of a printed test
+read_links : (a : Puts) (arch : ArchName) (w : Writing) (name : List ℕ) (es : List Edge) (mode : ObsMode) (i : ℕ) → IsArch a → HasTest a es mode
+    → (r : TestReadsBack arch w name (test_of a (name_in w.registers) es mode)) → IsLink es i
+    → LinkCloses es i (program_read (reread r.table name (test_of a (name_in w.registers) es mode)))
+    (intended es mode (place_in_test (reread r.table name (test_of a (name_in w.registers) es mode))))
+read_links a arch w name es mode i laws t r link =
+    subst (λ (z : Program × Execution). LinkCloses es i z.0 z.1) (λ j. (p j, same j))
+    (cycle_links a (name_in w.registers) es mode (reread_test r.table (test_of a (name_in w.registers) es mode)) number i laws t e link)
+  where
+    number : ℕ → ℕ
+    number = by_table r.table (letters (move_count es))
+
+    e : IsRenumbered (test_of a (name_in w.registers) es mode) (reread_test r.table (test_of a (name_in w.registers) es mode)) number
+    e = reread_of a arch w name es mode laws t r
+
+    p : cycle_program a es mode number ≡ program_read (reread r.table name (test_of a (name_in w.registers) es mode))
+    p = renumbered_program a (name_in w.registers) es mode (reread_test r.table (test_of a (name_in w.registers) es mode)) number e
+        ∙ program_is arch w name es (test_of a (name_in w.registers) es mode) r refl
+
+    same : intended es mode number ≡ intended es mode (place_in_test (reread r.table name (test_of a (name_in w.registers) es mode)))
+    same = intended_same es mode number (place_in_test (reread r.table name (test_of a (name_in w.registers) es mode)))
+        (λ l h. number_of_location r.table (move_count es) l h)
+
+read_meets : (a : Puts) (arch : ArchName) (w : Writing) (name : List ℕ) (es : List Edge) (mode : ObsMode) (x : Execution) → IsArch a → WritesBack a w
+    → HasTest a es mode → (r : TestReadsBack arch w name (test_of a (name_in w.registers) es mode)) → observed_locations es mode ≡ []
+    → IsCandidate (program_read (reread r.table name (test_of a (name_in w.registers) es mode))) x
+    → IsCoherentIn (program_read (reread r.table name (test_of a (name_in w.registers) es mode))) x
+    → AllStand es (program_read (reread r.table name (test_of a (name_in w.registers) es mode))) x
+    → Meets (final_state (program_read (reread r.table name (test_of a (name_in w.registers) es mode))) r.table (number_in w.registers) x)
+    (test_of a (name_in w.registers) es mode).cond
+read_meets a arch w name es mode x laws back t r none candidate coherent all =
+    subst (λ (p : Program). Meets (final_state p r.table (number_in w.registers) x) (test_of a (name_in w.registers) es mode).cond) p
+    (cycle_asks a w es mode (reread_test r.table (test_of a (name_in w.registers) es mode)) (by_table r.table (letters (move_count es))) x laws back t
+    (reread_of a arch w name es mode laws t r) none
+    (subst (λ (p : Program). IsCandidate p x) (sym p) candidate) (subst (λ (p : Program). IsCoherentIn p x) (sym p) coherent)
+    (subst (λ (p : Program). AllStand es p x) (sym p) all)).meets
+  where
+    p : test_program (reread_test r.table (test_of a (name_in w.registers) es mode)) ≡ program_read
+        (reread r.table name (test_of a (name_in w.registers) es mode))
+    p = program_is arch w name es (test_of a (name_in w.registers) es mode) r refl
+
+-- the printed text reads back
+back_of : (a : Puts) (arch : ArchName) (w : Writing) (name : List ℕ) (es : List Edge) (mode : ObsMode) (test : TestRead) → IsArch a → WritesBack a w
+    → WritesCells a w → MakesOneAccess a → IsPrintedTest a arch w name es mode test → TestReadsBack arch w name (test_of a (name_in w.registers) es mode)
+back_of a arch w name es mode test laws back cells one printed =
+    reads_back a arch w name (test_of a (name_in w.registers) es mode) back cells
+    (readable a arch w name es mode laws back cells one printed.named printed.has_test.code)
+
+-- each internal edge to another location may alone be the culprit
+pub each_link_may_break : (a : Puts) (arch : ArchName)
+    (w : Writing) → IsArch a → WritesBack a w → WritesCells a w → MakesOneAccess a → EachLinkMayBreak a arch w
+each_link_may_break a arch w laws back cells one name es mode test i printed link =
+    let r = back_of a arch w name es mode test laws back cells one printed in
+    subst (λ (test : TestRead). LinkCloses es i (program_read test) (intended es mode (place_in_test test)))
+    (same_test (reread r.table name (test_of a (name_in w.registers) es mode)) test (sym r.read ∙ printed.read))
+    (read_links a arch w name es mode i laws printed.has_test r link)
+
+-- without observers, a coherent candidate meets the condition exactly where all edges stand
+pub condition_decides : (a : Puts) (arch : ArchName) (w : Writing) → IsArch a → WritesBack a w → WritesCells a w → MakesOneAccess a → ConditionDecides a arch w
+condition_decides a arch w laws back cells one name es mode test x printed none candidate coherent = (
+  λ meets. stand (record { candidate = candidate; coherent = coherent; meets = meets }),
+  λ all. met candidate coherent all,
+)
+  where
+    r : TestReadsBack arch w name (test_of a (name_in w.registers) es mode)
+    r = back_of a arch w name es mode test laws back cells one printed
+
+    same : reread r.table name (test_of a (name_in w.registers) es mode) ≡ test
+    same = same_test (reread r.table name (test_of a (name_in w.registers) es mode)) test (sym r.read ∙ printed.read)
+
+    forced : BytesForce arch w (test_text arch w name (test_of a (name_in w.registers) es mode)) es mode
+    forced = bytes_force a arch w name es mode laws back printed.has_test r
+
+    stand : ReadingAsks w test x → AllStand es (program_read test) x
+    stand asked =
+        let e : forced.test ≡ test = same_test forced.test test (sym forced.reads ∙ printed.read) in
+        subst (λ (test : TestRead). AllStand es (program_read test) x) e (forced.stand x (subst (λ (test : TestRead). ReadingAsks w test x) (sym e) asked))
+
+    met : IsCandidate (program_read test) x → IsCoherentIn (program_read test) x → AllStand es (program_read test) x
+        → Meets (final_state (program_read test) test.places (number_in w.registers) x) test.cond
+    met =
+        subst (λ (test : TestRead). IsCandidate (program_read test) x → IsCoherentIn (program_read test) x → AllStand es (program_read test) x → Meets
+        (final_state (program_read test) test.places (number_in w.registers) x) test.cond) same
+        (λ c h all. read_meets a arch w name es mode x laws back printed.has_test r none c h all)

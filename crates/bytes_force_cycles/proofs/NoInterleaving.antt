@@ -1,0 +1,73 @@
+-- No interleaving of a test's program ends in the outcome that its condition asks for, and no sequentially consistent execution.
+use Rattle.std.proofs.Common.{◌≡◌, ℕ, List, length, Option, subst, arith}
+use Rattle.std.specs.Prelude.{is_some}
+use Rattle.relax_edges.specs.declared.kinds.Value.{Value}
+use Rattle.relax_edges.specs.declared.kinds.ObsMode.{ObsMode}
+use Rattle.relax_edges.specs.declared.edge.Edge.{Edge}
+use Rattle.cycle_events.specs.Resolution.{IsResolved}
+use Rattle.final_cond.specs.Conditions.{LeftSeen, InRegister, AtPlace}
+use Rattle.final_cond.specs.States.{Meets}
+use Rattle.arch_trait.specs.Laws.{IsArch}
+use Rattle.arch_trait.specs.PlaceNames.{number_in}
+use Rattle.arch_trait.specs.SeenTests.{TestSeen}
+use Rattle.arch_trait.specs.Threads.{Puts}
+use Rattle.arch_trait.specs.Writing.{Writing}
+use Rattle.litmus_text.specs.TestReading.{TestRead}
+use Rattle.program_meaning.specs.declared.WriteAt.{WriteAt}
+use Rattle.program_meaning.specs.Executions.{Execution}
+use Rattle.program_meaning.specs.Programs.{Program, IsCandidate, accesses_in}
+use Rattle.program_meaning.specs.Standing.{AllStand}
+use Rattle.program_meaning.specs.Interleavings.{accesses_on}
+use Rattle.accesses_force_cycles.proofs.Bridge.{resolves}
+use Rattle.sc_and_interleavings.specs.CoherenceLaws.{WritesWithin}
+use Rattle.sc_and_interleavings.specs.Sequential.{IsSequential}
+use Rattle.sc_and_interleavings.proofs.SequentialMade.{writes_to_own}
+use Rattle.sc_and_interleavings.specs.Made.{made_by, IsOfInterleaving}
+use Rattle.sc_and_interleavings.proofs.Made.{interleavings_make_executions}
+use Rattle.sc_and_interleavings.proofs.InterleavingLaws.{sequential_is_coherent, standing_is_not_sequential}
+use Rattle.tests_force_cycles.specs.FinalStates.{final_state}
+use Rattle.tests_force_cycles.specs.TestHeadline.{HasTest, IsRenumbered}
+use Rattle.tests_force_cycles.specs.TestOf.{test_of}
+use Rattle.tests_force_cycles.specs.TestPrograms.{test_program}
+use Rattle.tests_force_cycles.proofs.Headline.{renumbered_numbers, renumbered_program}
+use Rattle.tests_force_cycles.proofs.Making.{makes}
+use Rattle.tests_force_cycles.proofs.TestCodes.{cycle_codes, cycle_program, are_codes}
+use Rattle.bytes_force_cycles.specs.Readings.{program_read, ReadingAsks, state_after, InterleavingMeets}
+use Rattle.bytes_force_cycles.proofs.BackLaws.{numbered_in}
+
+-- a candidate execution of a program writes to its places alone
+abbrev pub WritesInside : Execution → Program → Type 0
+WritesInside x p = IsCandidate p x → WritesWithin (accesses_in p x) p.places
+
+-- so does each of a test that is a cycle's test but for the numbers of places
+pub test_writes_within : (a : Puts) (register_name : ℕ → List ℕ) (es : List Edge) (mode : ObsMode) (test : TestSeen) (number : ℕ → ℕ) → IsArch a → HasTest a es mode → IsRenumbered (test_of a register_name es mode) test number → (x : Execution) → WritesInside x (test_program test)
+test_writes_within a register_name es mode test number laws t e x =
+    subst (WritesInside x) (renumbered_program a register_name es mode test number e)
+    (λ candidate. writes_to_own es mode number (cycle_program a es mode number) x (resolves es t.code.resolved) (renumbered_numbers a register_name es mode test number t.code e)
+    (makes (cycle_codes a es mode number) es mode number x (are_codes a es mode number laws t.code.resolved t.code.of_arch) candidate) candidate)
+
+-- no sequentially consistent candidate of a reading's program ends in an outcome in which all edges stand
+abbrev pub NotInOrder : Writing → TestRead → Type 0
+NotInOrder w test =
+    (x : Execution) → IsCandidate (program_read test) x → Meets (final_state (program_read test) test.places (number_in w.registers) x) test.cond → IsSequential (accesses_in (program_read test) x) x → ⊥
+
+pub not_in_order : (w : Writing) (test : TestRead) (es : List Edge) → IsResolved es → ((x : Execution) → WritesInside x (program_read test)) → ((x : Execution) → ReadingAsks w test x → AllStand es (program_read test) x) → NotInOrder w test
+not_in_order w test es resolved within stand x candidate meets sequential =
+    standing_is_not_sequential es (program_read test) x resolved candidate (within x candidate)
+    (stand x (record { candidate = candidate; coherent = sequential_is_coherent (program_read test) x candidate (within x candidate) sequential; meets = meets }))
+    sequential
+
+-- the final state of an interleaving is that of the execution that it makes
+same_state : (p : Program) (names : List (List ℕ)) (register_number : List ℕ → Option ℕ) (values : List (List ℕ)) (line : List WriteAt) (x : Execution) → p.places ≡ length names → IsOfInterleaving p values line x
+    → (left : LeftSeen) → state_after p names register_number values line left ≡ final_state p names register_number x left
+same_state p names register_number values line x count h (InRegister thread name) = grind arith
+same_state p names register_number values line x count h (AtPlace name) = grind (arith, numbered_in names name, is_some)
+
+-- no interleaving ends in such an outcome
+pub interleaving_ends : (w : Writing) (test : TestRead) (values : List (List ℕ)) (line : List WriteAt) → InterleavingMeets w test values line → (program_read test).places ≡ length test.places → NotInOrder w test → ⊥
+interleaving_ends w test values line h count none =
+    let x = made_by (accesses_on (program_read test) values) (program_read test).places line in
+    let i = interleavings_make_executions (program_read test) values line h.interleaving in
+    none x i.candidate
+    (subst (λ (state : LeftSeen → Option Value). Meets state test.cond) (λ j left. same_state (program_read test) test.places (number_in w.registers) values line x count i left j) h.meets)
+    i.sequential

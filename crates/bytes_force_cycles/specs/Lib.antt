@@ -1,0 +1,4 @@
+pub mod Readings
+pub mod PrintedHeadline
+pub mod ScLaws
+pub mod Links

@@ -1,0 +1,51 @@
+-- What is read of the printed text of a cycle's test: what each of its links does, and what it means that the outcome never comes.
+-- Source: own.
+use Rattle.std.specs.Prelude.{ℕ, ◌≡◌, ◌↔◌, List, [], Ok}
+use Rattle.relax_edges.specs.declared.kinds.ArchName.{ArchName}
+use Rattle.relax_edges.specs.declared.kinds.ObsMode.{ObsMode}
+use Rattle.relax_edges.specs.declared.edge.Edge.{Edge}
+use Rattle.final_cond.specs.States.{Meets}
+use Rattle.arch_trait.specs.PlaceNames.{number_in}
+use Rattle.arch_trait.specs.Threads.{Puts}
+use Rattle.arch_trait.specs.Writing.{Writing, name_in}
+use Rattle.litmus_text.specs.Printable.{IsTestName}
+use Rattle.litmus_text.specs.TestReading.{TestRead, test_read}
+use Rattle.litmus_text.specs.TestText.{test_text}
+use Rattle.program_meaning.specs.Executions.{Execution}
+use Rattle.program_meaning.specs.Programs.{Program, IsCandidate, IsCoherentIn, accesses_in}
+use Rattle.program_meaning.specs.Standing.{AllStand, event_name}
+use Rattle.program_meaning.specs.Intended.{intended, observed_locations}
+use Rattle.sc_and_interleavings.specs.Sequential.{HasNoCycle}
+use Rattle.sc_and_interleavings.specs.LinkLaws.{IsLink}
+use Rattle.sc_and_interleavings.specs.Links.{PrecedesBut}
+use Rattle.tests_force_cycles.specs.FinalStates.{final_state}
+use Rattle.tests_force_cycles.specs.TestHeadline.{HasTest}
+use Rattle.tests_force_cycles.specs.TestOf.{test_of}
+use Rattle.bytes_force_cycles.specs.Readings.{program_read, place_in_test}
+
+-- bytes are the printed text of the test of a cycle, under a name of its form, and they are read as this test
+pub record IsPrintedTest (a : Puts) (arch : ArchName) (w : Writing) (name : List ℕ) (es : List Edge) (mode : ObsMode) (test : TestRead) : Type 0 where
+  pub named : IsTestName name
+  pub has_test : HasTest a es mode
+  pub read : test_read arch w (test_text arch w name (test_of a (name_in w.registers) es mode)) ≡ Ok test
+
+-- without the pairs of program order that lie across edge i, an execution of a program has no cycle
+abbrev pub LinkCloses : List Edge → ℕ → Program → Execution → Type 0
+LinkCloses es i p x = HasNoCycle (PrecedesBut (accesses_in p x) (event_name es i)) (accesses_in p x) x
+
+-- each internal edge to another location may alone be the culprit: a machine that keeps all of program order but the pairs across
+-- this one may show the outcome. In the intended execution, what is left of program order has no cycle with reads-from, coherence
+-- order and from-read
+abbrev pub EachLinkMayBreak : Puts → ArchName → Writing → Type 0
+EachLinkMayBreak a arch w =
+    (name : List ℕ) (es : List Edge) (mode : ObsMode) (test : TestRead) (i : ℕ) → IsPrintedTest a arch w name es mode test → IsLink es i →
+    LinkCloses es i (program_read test) (intended es mode (place_in_test test))
+
+-- without observers, a coherent candidate meets the condition exactly where all edges stand: so a run of a coherent machine that
+-- doesn't meet it, didn't have the cycle
+abbrev pub ConditionDecides : Puts → ArchName → Writing → Type 0
+ConditionDecides a arch w =
+    (name : List ℕ) (es : List Edge) (mode : ObsMode) (test : TestRead) (x : Execution) →
+    IsPrintedTest a arch w name es mode test → observed_locations es mode ≡ [] →
+    IsCandidate (program_read test) x → IsCoherentIn (program_read test) x →
+    Meets (final_state (program_read test) test.places (number_in w.registers) x) test.cond ↔ AllStand es (program_read test) x

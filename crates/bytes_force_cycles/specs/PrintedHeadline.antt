@@ -1,0 +1,51 @@
+-- What the bytes of a printed test say of its cycle.
+-- Source: own.
+use Rattle.std.specs.Prelude.{◌≡◌, ℕ, List, Ok}
+use Rattle.relax_edges.specs.declared.kinds.ArchName.{ArchName}
+use Rattle.relax_edges.specs.declared.kinds.ObsMode.{ObsMode}
+use Rattle.relax_edges.specs.declared.edge.Edge.{Edge}
+use Rattle.final_cond.specs.declared.cond.Quantifier.TheVariants.{Exists}
+use Rattle.final_cond.specs.States.{Meets}
+use Rattle.arch_trait.specs.PlaceNames.{number_in}
+use Rattle.arch_trait.specs.Threads.{Puts}
+use Rattle.arch_trait.specs.Writing.{Writing, name_in}
+use Rattle.litmus_text.specs.Printable.{IsTestName}
+use Rattle.litmus_text.specs.Reread.{IsReadable}
+use Rattle.litmus_text.specs.TestReading.{TestRead, test_read}
+use Rattle.litmus_text.specs.TestText.{test_text}
+use Rattle.program_meaning.specs.declared.WriteAt.{WriteAt}
+use Rattle.program_meaning.specs.Executions.{Execution}
+use Rattle.program_meaning.specs.Programs.{IsCandidate, accesses_in}
+use Rattle.program_meaning.specs.Intended.{intended}
+use Rattle.program_meaning.specs.Standing.{AllStand}
+use Rattle.sc_and_interleavings.specs.Sequential.{IsSequential}
+use Rattle.tests_force_cycles.specs.FinalStates.{final_state}
+use Rattle.tests_force_cycles.specs.TestHeadline.{HasTest}
+use Rattle.tests_force_cycles.specs.TestOf.{test_of}
+use Rattle.bytes_force_cycles.specs.Readings.{program_read, place_in_test, ReadingAsks, InterleavingMeets}
+
+-- Bytes force a cycle: they are read as a test, and its condition asks whether there is an execution of a kind. No interleaving
+-- of the threads ends so, whatever the values are that the reads take; in each candidate execution that does, program order,
+-- reads-from, coherence order and from-read have a cycle. All edges of the cycle stand, in order, in every such execution that is
+-- coherent per location; there is none but the intended one; and that one is.
+pub record BytesForce (arch : ArchName) (w : Writing) (bytes : List ℕ) (es : List Edge) (mode : ObsMode) : Type 0 where
+  pub test : TestRead
+  pub reads : test_read arch w bytes ≡ Ok test
+  pub asks : test.cond.quantifier ≡ Exists
+  pub no_interleaving : (values : List (List ℕ)) (line : List WriteAt) → InterleavingMeets w test values line → ⊥
+  pub not_sequential : (x : Execution) → IsCandidate (program_read test) x → Meets (final_state (program_read test) test.places (number_in w.registers) x) test.cond → IsSequential (accesses_in (program_read test) x) x → ⊥
+  pub stand : (x : Execution) → ReadingAsks w test x → AllStand es (program_read test) x
+  pub only : (x : Execution) → ReadingAsks w test x → x ≡ intended es mode (place_in_test test)
+  pub exists : ReadingAsks w test (intended es mode (place_in_test test))
+
+-- the test of each cycle that has one, under a name of its form, is within the limits of the format
+abbrev pub TestsReadable : Puts → ArchName → Writing → Type 0
+TestsReadable a arch w =
+    (name : List ℕ) (es : List Edge) (mode : ObsMode) →
+    IsTestName name → HasTest a es mode → IsReadable a arch w name (test_of a (name_in w.registers) es mode)
+
+-- and its printed text forces the cycle
+abbrev pub PrintedForce : Puts → ArchName → Writing → Type 0
+PrintedForce a arch w =
+    (name : List ℕ) (es : List Edge) (mode : ObsMode) →
+    IsTestName name → HasTest a es mode → BytesForce arch w (test_text arch w name (test_of a (name_in w.registers) es mode)) es mode

@@ -1,0 +1,39 @@
+-- The laws of this crate: the candidate executions of a cycle's test, made or read of its text, with SC per location in place of
+-- coherence.
+-- Source: own.
+use Rattle.std.specs.Prelude.{ℕ, ◌≡◌, ◌↔◌, List, Ok}
+use Rattle.relax_edges.specs.declared.kinds.ArchName.{ArchName}
+use Rattle.relax_edges.specs.declared.kinds.ObsMode.{ObsMode}
+use Rattle.relax_edges.specs.declared.edge.Edge.{Edge}
+use Rattle.arch_trait.specs.Laws.{IsArch}
+use Rattle.arch_trait.specs.Threads.{Puts}
+use Rattle.arch_trait.specs.Writing.{Writing, name_in}
+use Rattle.arch_trait.specs.SeenTests.{TestSeen}
+use Rattle.litmus_text.specs.Printable.{IsTestName}
+use Rattle.litmus_text.specs.TestReading.{TestRead, test_read}
+use Rattle.litmus_text.specs.TestText.{test_text}
+use Rattle.program_meaning.specs.Executions.{Execution}
+use Rattle.program_meaning.specs.Programs.{Program, IsCandidate, IsCoherentIn, accesses_in}
+use Rattle.sc_and_interleavings.specs.Relations.{IsScPerLocation}
+use Rattle.tests_force_cycles.specs.TestHeadline.{HasTest, IsRenumbered}
+use Rattle.tests_force_cycles.specs.TestPrograms.{test_program}
+use Rattle.tests_force_cycles.specs.TestOf.{test_of}
+use Rattle.bytes_force_cycles.specs.Readings.{program_read}
+
+-- each candidate execution of a program is coherent per location exactly where it is SC per location
+abbrev pub ScDecides : Program → Type 0
+ScDecides p = (x : Execution) → IsCandidate p x → IsCoherentIn p x ↔ IsScPerLocation (accesses_in p x) x
+
+-- it is so in the program of each test that is a cycle's test except for the numbers of places
+abbrev pub TestsAreScPerLocation : Type 0
+TestsAreScPerLocation =
+    (a : Puts) (register_name : ℕ → List ℕ) (es : List Edge) (mode : ObsMode) (test : TestSeen) (number : ℕ → ℕ) →
+    IsArch a → HasTest a es mode → IsRenumbered (test_of a register_name es mode) test number →
+    ScDecides (test_program test)
+
+-- it is so in the program that is read of the printed text of a cycle's test
+abbrev pub PrintedAreScPerLocation : Puts → ArchName → Writing → Type 0
+PrintedAreScPerLocation a arch w =
+    (name : List ℕ) (es : List Edge) (mode : ObsMode) (test : TestRead) →
+    IsTestName name → HasTest a es mode → test_read arch w (test_text arch w name (test_of a (name_in w.registers) es mode)) ≡ Ok test →
+    ScDecides (program_read test)

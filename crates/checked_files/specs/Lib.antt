@@ -1,3 +1,0 @@
-pub mod FilesChecked
-pub mod CheckedLaws
-pub mod CheckingSteps

@@ -1,4 +1,0 @@
-pub mod SaidLaws
-pub mod FileLaws
-pub mod FilesLaws
-pub mod FewLaws

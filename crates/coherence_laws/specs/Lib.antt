@@ -1,3 +1,0 @@
-pub mod Relations
-pub mod Sequential
-pub mod Laws

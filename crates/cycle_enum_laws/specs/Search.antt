@@ -1,0 +1,104 @@
+-- The search for the first list of edges in order that is sought: which lists are still to come.
+-- Source: own.
+use Rattle.std.specs.Prelude.{◌≡◌, ◌<◌, ◌≤◌, ◌⊎◌, ⊤, ℕ, true, Option, Some, None, List, [], ◌∷◌, ◌++◌, length}
+use Rattle.std.specs.List.{AllByRecursion}
+use Rattle.relax_edges.specs.declared.order.TheConstants.{EDGES}
+use Rattle.relax_edges.specs.declared.edge.Edge.{Edge}
+use Rattle.relax_edges.specs.Order.{rank_of}
+use Rattle.relax_edges.specs.JoinedEdges.{is_joined}
+use Rattle.edge_algebra_laws.specs.CycleOrder.{Above, IsNormal}
+use Rattle.cycle_enum_laws.specs.Asked.{KeptBelow}
+
+-- u reaches m: m begins with u, or has the greater edge at the first place where they differ, which both have
+abbrev pub ReachesList : List Edge → List Edge → Type 0
+ReachesList [] m = ⊤
+ReachesList (_ ∷ _) [] = ⊥
+ReachesList (x ∷ u) (y ∷ m) = (rank_of x < rank_of y) ⊎ ((x ≡ y) × ReachesList u m)
+
+-- m is to come where the search is at u; at the empty list the search is over
+abbrev pub ToCome : List Edge → List Edge → Type 0
+ToCome [] m = ⊥
+ToCome (x ∷ u) m = ReachesList (x ∷ u) m
+
+-- no sought list begins with u
+abbrev pub LeadsNowhere : (List Edge → Type 0) → List Edge → Type 0
+LeadsNowhere sought u = (r : List Edge) → sought (u ++ r) → ⊥
+
+-- the sought lists of n edges
+pub record OfLength (n : ℕ) (sought : List Edge → Type 0) (u : List Edge) : Type 0 where
+  pub is : sought u
+  pub long : length u ≡ n
+
+-- the sought lists of more than n edges
+pub record LongerThan (n : ℕ) (sought : List Edge → Type 0) (u : List Edge) : Type 0 where
+  pub is : sought u
+  pub longer : n < length u
+
+-- the first sought list that is to come at u
+pub record IsFirstFrom (sought : List Edge → Type 0) (u m : List Edge) : Type 0 where
+  pub is : sought m
+  pub from : ToCome u m
+  pub first : (v : List Edge) → sought v → ToCome u v → Above v m → ⊥
+
+-- the answer is the first sought list that is to come at u, and none exactly where none is
+abbrev pub IsFirst : (List Edge → Type 0) → List Edge → Option (List Edge) → Type 0
+IsFirst sought u None = (v : List Edge) → sought v → ToCome u v → ⊥
+IsFirst sought u (Some m) = IsFirstFrom sought u m
+
+-- an edge is in a list
+abbrev pub IsIn : List Edge → Edge → Type 0
+IsIn [] e = ⊥
+IsIn (x ∷ u) e = (x ≡ e) ⊎ IsIn u e
+
+-- an edge occurs in a relaxation
+abbrev pub OccursIn : List (List Edge) → Edge → Type 0
+OccursIn [] e = ⊥
+OccursIn (r ∷ rs) e = (IsIn r e) ⊎ OccursIn rs e
+
+-- a relaxation has one edge
+abbrev pub IsSingle : List Edge → Type 0
+IsSingle r = length r ≡ 1
+
+-- what each listed cycle is: a normal form of edges that occur in relaxations, of which each joins the next
+pub record IsListCandidate (relaxes : List (List Edge)) (u : List Edge) : Type 0 where
+  pub joined : is_joined u ≡ true
+  pub occurs : AllByRecursion (OccursIn relaxes) u
+  pub normal : IsNormal u
+
+-- no sought list begins with the list and then an edge of rank `from` or more and below `to`
+abbrev pub NoneBetween : (List Edge → Type 0) → List Edge → ℕ → ℕ → Type 0
+NoneBetween sought prefix from to = (e : Edge) → from ≤ rank_of e → rank_of e < to → LeadsNowhere sought (prefix ++ e ∷ [])
+
+-- the answer is the first edge of rank `from` or more with which a sought list might go on from the list: with the edges
+-- of lower rank none does; where there is no answer, none goes on with any edge of rank `from` or more
+abbrev pub IsNextEdge : (List Edge → Type 0) → List Edge → ℕ → Option Edge → Type 0
+IsNextEdge sought prefix from None = NoneBetween sought prefix from EDGES
+IsNextEdge sought prefix from (Some e) = (from ≤ rank_of e) × NoneBetween sought prefix from (rank_of e)
+
+-- a step from a list past all that begin with it: to none, or to a prefix of it with a greater edge in the place of
+-- the next one
+pub data StepsOver (u v : List Edge) : Type 0 where
+  over : v ≡ [] → StepsOver u v
+  replaced : (prefix : List Edge) (x y : Edge) (back : List Edge) → u ≡ prefix ++ x ∷ back → v ≡ prefix ++ y ∷ [] → rank_of x < rank_of y → StepsOver u v
+
+-- a list goes on to v where all that begin with it are passed over: no sought list after these is left out
+pub record IsRaised (sought : List Edge → Type 0) (u v : List Edge) : Type 0 where
+  pub step : StepsOver u v
+  pub all : (m : List Edge) → sought m → Above u m → ToCome v m
+
+-- v is a prefix of u: the whole, or one with which no sought list begins, and its shorter prefixes are kept
+pub record IsCut (sought : List Edge → Type 0) (keeps : List Edge → Type 0) (u v : List Edge) : Type 0 where
+  pub rest : List Edge
+  pub prefix : u ≡ v ++ rest
+  pub kept : KeptBelow keeps (length v) v
+  pub whole : (rest ≡ []) ⊎ LeadsNowhere sought v
+
+-- v is u with one more edge
+pub record IsLonger (u v : List Edge) : Type 0 where
+  pub edge : Edge
+  pub is : v ≡ u ++ edge ∷ []
+
+-- a list goes on to v where the longer ones that begin with it are looked at, or passed over: no sought list is left out
+pub record IsExtended (sought : List Edge → Type 0) (u v : List Edge) : Type 0 where
+  pub step : (IsLonger u v) ⊎ StepsOver u v
+  pub all : (m : List Edge) → sought m → length u < length m → ReachesList u m → ToCome v m

@@ -1,0 +1,16 @@
+pub mod EdgeCounts
+pub mod Threads
+pub mod Locations
+pub mod Turning
+pub mod Walking
+pub mod Arcs
+pub mod Around
+pub mod Sizes
+pub mod Rotations
+pub mod Ways
+pub mod Along
+pub mod Writes
+pub mod Entries
+pub mod ValueLaws
+pub mod Lists
+pub mod ValueArcs

@@ -1,0 +1,25 @@
+-- What values say of communications, of reads, and of the locations that have no observer.
+use Rattle.std.proofs.Common.{◌≡◌, ℕ, ◌+◌, ◌≤◌, true, List, length, arith}
+use Rattle.std.specs.List.{count_by}
+use Rattle.std.proofs.lemmas.Bool.{leb-true}
+use Rattle.relax_edges.specs.declared.kinds.ObsMode.{ObsMode}
+use Rattle.relax_edges.specs.declared.kinds.ObsMode.TheVariants.{Accept, Avoid, Force}
+use Rattle.relax_edges.specs.declared.edge.Edge.{Edge}
+use Rattle.list_laws.specs.Numbers.{upto}
+use Rattle.list_laws.proofs.Counts.{count_upto-le}
+use Rattle.list_laws.proofs.Finds.{any_upto_passing}
+use Rattle.cycle_events.specs.Resolution.{external_count, move_count}
+use Rattle.cycle_events.proofs.Sizes.{external_and_moves}
+use Rattle.cycle_events.specs.Values.{write_count, is_inner_entry, is_observed}
+use Rattle.cycle_events.proofs.Entries.{inner_parts}
+
+-- an observed location has at least two writes
+pub observed_writes : (es : List Edge) (mode : ObsMode) (l : ℕ) → is_observed es mode l ≡ true → 2 ≤ write_count es l
+unfolding is_observed
+observed_writes es Accept l h = grind (arith, (any_upto_passing (is_inner_entry es l) (length es) h), (inner_parts es l))
+observed_writes es Avoid l h = cc
+observed_writes es Force l h = leb-true 2 (write_count es l) h
+
+-- threads and observers together are at most as many as edges
+pub threads_and_observers : (es : List Edge) (mode : ObsMode) → external_count es + count_by (is_observed es mode) (upto (move_count es)) ≤ length es
+threads_and_observers es mode = omega (arith, external_and_moves es, count_upto-le (is_observed es mode) (move_count es))

@@ -1,0 +1,23 @@
+-- The writes of a location that need an observer, among the first few along its arc.
+use Rattle.std.specs.Prelude.{ℕ, ◌-◌, Bool, ◌&&◌, nat_lt, List, [], ◌∷◌, Option}
+use Rattle.std.specs.List.{find, filter_map}
+use Rattle.relax_edges.specs.declared.edge.Edge.{Edge}
+use Rattle.relax_edges.specs.EdgeTable.{is_external}
+use Rattle.list_laws.specs.Numbers.{upto}
+use Rattle.cycle_events.specs.Values.{edge_into, value_of, write_at}
+
+-- event i, a write, isn't the first write of its location, and an external edge enters it
+abbrev pub is_later_entry : List Edge → ℕ → Bool
+is_later_entry es i = is_external (edge_into es i) && nat_lt 1 (value_of es i)
+
+-- the first such event among the writes of a location with these numbers
+unfoldable pub first_entry : List Edge → ℕ → List ℕ → Option ℕ
+first_entry es location numbers = find (is_later_entry es) (filter_map (write_at es location) numbers)
+
+-- the first such event among the first n writes of a location, except the last of these
+abbrev pub inner_entry : List Edge → ℕ → ℕ → Option ℕ
+inner_entry es location n = first_entry es location (upto (n - 1))
+
+-- the last of the first n writes of a location, where it is such an event
+abbrev pub last_entry : List Edge → ℕ → ℕ → Option ℕ
+last_entry es location n = first_entry es location ((n - 1) ∷ [])

@@ -1,6 +1,0 @@
--- `follow` ends: the edges get fewer.
-use Rattle.std.proofs.Common.{length}
-use Rattle.cycle_lines.proofs.edges.+follow.Given as goal
-
-abbrev pub decreases-follow : goal.decreases-follow
-decreases-follow l = length l.edges.now

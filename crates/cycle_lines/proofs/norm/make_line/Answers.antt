@@ -1,8 +1,0 @@
--- That `make_line` makes the line of a cycle.
-use Rattle.std.proofs.Common.{ap, ◌∙◌, ◌++◌}
-use Rattle.std.specs.Prelude.{codes}
-use Rattle.cycle_lines.proofs.NormLaws.{line_text}
-use Rattle.cycle_lines.proofs.norm.make_line.Goals as goal
-
-pub returns : goal.returns
-returns c = c.push_str.ensures.bytes ∙ ap (λ t. t ++ codes "\n") c.name_and_words.ensures.text ∙ line_text c.args.cycle.now

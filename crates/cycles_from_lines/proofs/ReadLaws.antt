@@ -1,0 +1,459 @@
+-- How what was read of a source goes on.
+use Rattle.std.proofs.Common.{◌≡◌, ◌==◌, ℕ, zero, suc, ◌+◌, ◌-◌, ◌<◌, ◌≤◌, List, [], ◌∷◌, ◌++◌, length, take, drop, Option, Some, None, Result, Ok, Err, true, false, refl, sym, ap, inl, inr, ◌∙◌, subst, arith, append-nil, append_assoc, length-append}
+use Rattle.std.specs.Prelude.{unwrap_or, MatchOption}
+use Rattle.std.specs.Result.{result_err}
+use Rattle.std.specs.List.{take_while}
+use Rattle.std.specs.Io.KnownBytes.{Consumes, IsAtEnd, Keeps}
+use Rattle.std.proofs.lemmas.List.{drop-drop, length-drop, length-take-le}
+use Rattle.std.proofs.lemmas.List.Folds.{list_all-append}
+use Rattle.std.proofs.lemmas.List.Sums.{take_while-cons}
+use Rattle.std.proofs.lemmas.Grind.{flat_map-append}
+use Rattle.std.proofs.Math.Seq.{take-add}
+use Rattle.list_laws.proofs.Cases.{by_test}
+use Rattle.diy_io.specs.declared.source.TheConstants.{MAX_INPUT}
+use Rattle.diy_io.specs.Count.{Rose, count_of, last_count}
+use Rattle.diy_io.specs.Sink.{line_feed_count}
+use Rattle.diy_io.specs.Taken.{SourceSeen, Took}
+use Rattle.relax_edges.specs.declared.kinds.ArchName.{ArchName}
+use Rattle.relax_edges.specs.declared.edge.Edge.{Edge}
+use Rattle.cycles_from_lines.specs.declared.errors.LineKind.{LineKind}
+use Rattle.cycles_from_lines.specs.declared.errors.LineKind.TheVariants.{LineTooLong}
+use Rattle.cycles_from_lines.specs.declared.errors.LinesError.{LinesError}
+use Rattle.cycles_from_lines.specs.declared.reader.Found.{Found}
+use Rattle.cycles_from_lines.specs.declared.reader.Found.TheVariants.{Next, Last}
+use Rattle.cycles_from_lines.specs.declared.reader.Line.{Line}
+use Rattle.text_parts_laws.specs.Lines.{without_return, ended_lines, unended, last_line, lines_of}
+use Rattle.cycles_from_lines.specs.Cycles.{line_said, line_fault, is_sound, are_sound, cycle_said, cycles_of, is_long_line}
+use Rattle.cycles_from_lines.specs.LineReading.{TookUpTo, Untouched, ReadAll, ReadToFault, ReadToLimit, ReadToStop, ReadSome, whole_of, cycles_before}
+use Rattle.cycles_from_lines.specs.LineSteps.{Without, CutsAtSign, ReaderSeen, HasRead, GivesLine, GivesNext, line_said_by, Fills, FillsBuffer, Ended, Stops, Ends, LessToDo, Continues, last_cycle}
+use Rattle.cycles_from_lines.proofs.LineLaws.{ended_after, unended_after, lines_after, ended_none, unended_all, ended_nil, unended_nil, short_pending, long_first, ended_count}
+use Rattle.text_parts_laws.proofs.LineLaws.{ended_cut, unended_cut, lines_cut}
+
+-- bytes that are taken one after another
+consumes_both : (a b c : Option (List ℕ)) (x y : List ℕ) → Consumes a b x → Consumes b c y → Consumes a c (x ++ y)
+consumes_both None b c x y h k = tt
+consumes_both (Some a) None c x y h k = absurd h
+consumes_both (Some a) (Some b) None x y h k = absurd k
+consumes_both (Some a) (Some b) (Some c) x y h k = h ∙ ap (λ t. x ++ t) k ∙ sym (append_assoc x y c)
+
+count_both : (n x y : ℕ) → count_of (count_of (n + x) + y) ≡ count_of (n + (x + y))
+count_both n x y = omega arith
+
+pub took_both : (a b c : SourceSeen) (x y : List ℕ) → Took a b x → Took b c y → Took a c (x ++ y)
+took_both a b c x y h k = record {
+  consumed = consumes_both a.left b.left c.left x y h.consumed k.consumed;
+  counted =
+      k.counted ∙ ap (λ n. count_of (n + length y)) h.counted ∙ count_both a.taken (length x) (length y)
+      ∙ ap (λ n. count_of (a.taken + n)) (sym (length-append x y));
+}
+
+kept_then : (a b c : Option (List ℕ)) (y : List ℕ) → Keeps a b → Consumes b c y → Consumes a c y
+kept_then None b c y h k = tt
+kept_then (Some a) None c y h k = absurd h
+kept_then (Some a) (Some b) None y h k = absurd k
+kept_then (Some a) (Some b) (Some c) y h k = sym h ∙ k
+
+then_kept : (a b c : Option (List ℕ)) (x : List ℕ) → Consumes a b x → Keeps b c → Consumes a c x
+then_kept None b c x h k = tt
+then_kept (Some a) None c x h k = absurd h
+then_kept (Some a) (Some b) None x h k = absurd k
+then_kept (Some a) (Some b) (Some c) x h k = h ∙ ap (λ t. x ++ t) (sym k)
+
+kept_both : (a b c : Option (List ℕ)) → Keeps a b → Keeps b c → Keeps a c
+kept_both None b c h k = tt
+kept_both (Some a) None c h k = absurd h
+kept_both (Some a) (Some b) None h k = absurd k
+kept_both (Some a) (Some b) (Some c) h k = k ∙ h
+
+-- what is left of a source is kept where nothing is read
+pub kept_same : (a : Option (List ℕ)) → Keeps a a
+kept_same None = tt
+kept_same (Some a) = refl
+
+kept_consumes : (a b : Option (List ℕ)) → Keeps a b → Consumes a b []
+kept_consumes None b h = tt
+kept_consumes (Some a) None h = absurd h
+kept_consumes (Some a) (Some b) h = sym h
+
+pub took_then : (a b c : SourceSeen) (x y : List ℕ) → TookUpTo a b x → Took b c y → Took a c (x ++ y)
+took_then a b c x y (inl h) k = took_both a b c x y h k
+took_then a b c x y (inr h) k =
+    subst (λ t. Took a c (t ++ y)) (sym h.none)
+    (record { consumed = kept_then a.left b.left c.left y h.kept k.consumed; counted = k.counted ∙ ap (λ n. count_of (n + length y)) h.taken_is })
+
+pub took_stays : (a b c : SourceSeen) (x : List ℕ) → TookUpTo a b x → Untouched b c [] → TookUpTo a c x
+took_stays a b c x (inl h) k = inl (record { consumed = then_kept a.left b.left c.left x h.consumed k.kept; counted = k.taken_is ∙ h.counted })
+took_stays a b c x (inr h) k = inr (record { none = h.none; kept = kept_both a.left b.left c.left h.kept k.kept; taken_is = k.taken_is ∙ h.taken_is })
+
+pub took_some : (a b : SourceSeen) (x : List ℕ) → TookUpTo a b x → 0 < length x → Took a b x
+took_some a b x (inl h) some = h
+took_some a b x (inr h) some = absurd (let e = ap length h.none in omega arith)
+
+pub took_counted : (a b : SourceSeen) (x : List ℕ) → TookUpTo a b x → b.taken ≤ last_count → Took a b x
+took_counted a b x (inl h) counted = h
+took_counted a b x (inr h) counted =
+    subst (Took a b) (sym h.none) (record { consumed = kept_consumes a.left b.left h.kept; counted = let e = h.taken_is in omega arith })
+
+-- a reader that has read nothing
+pub nothing_read : (arch : ArchName) (s : SourceSeen) → HasRead arch s s (record { pending = []; line = 1; taken = 0 }) []
+nothing_read arch s = record {
+  given = [];
+  took = inr (record { none = refl; kept = kept_same s.left; taken_is = refl });
+  no_fault = refl;
+  ended = unended_nil;
+  sound = ap (are_sound arch) ended_nil;
+  cycles_are = ap (cycles_of arch) (sym ended_nil);
+  line_is = ap (λ ls. length ls + 1) (sym ended_nil);
+  taken_is = refl;
+  few = omega arith;
+}
+
+-- soundness and cycles of lines one after another
+sound_both : (arch : ArchName) (xs ys : List (List ℕ)) → are_sound arch xs ≡ true → are_sound arch ys ≡ true → are_sound arch (xs ++ ys) ≡ true
+sound_both arch xs ys h k = list_all-append (is_sound arch) xs ys ∙ rw (h, k) refl
+
+cycles_both : (arch : ArchName) (xs ys : List (List ℕ)) → cycles_of arch (xs ++ ys) ≡ cycles_of arch xs ++ cycles_of arch ys
+cycles_both arch xs ys = flat_map-append (λ line. cycle_said (line_said arch line)) xs ys
+
+one_sound : (arch : ArchName) (line : List ℕ) (said : Option (List Edge)) → Ok said ≡ line_said arch line → are_sound arch (line ∷ []) ≡ true
+one_sound arch line said e = rw (sym e) refl
+
+last_said : (said : Option (List Edge)) → cycle_said (Ok said) ++ [] ≡ last_cycle said
+last_said None = refl
+last_said (Some c) = refl
+
+one_cycle : (arch : ArchName) (line : List ℕ) (said : Option (List Edge)) → Ok said ≡ line_said arch line → cycles_of arch (line ∷ []) ≡ last_cycle said
+one_cycle arch line said e = rw (sym e) (last_said said)
+
+one_fault : (arch : ArchName) (line : List ℕ) (kind : LineKind) → Err kind ≡ line_said arch line → line_fault arch line ≡ Some kind
+one_fault arch line kind e = ap result_err (sym e)
+
+-- a line that was given, without a fault
+pub line_given : (arch : ArchName) (s t : SourceSeen) (r q : ReaderSeen) (cycles : List (List Edge)) (said : Option (List Edge)) →
+    HasRead arch s t r cycles → GivesLine arch r q (Ok said) → HasRead arch s t q (cycles ++ last_cycle said)
+line_given arch s t r q cycles said h g =
+    let line = without_return g.bytes in
+    let ended_line : ended_lines (g.bytes ++ 10 ∷ []) ≡ line ∷ [] = ended_cut g.bytes [] g.cut.without ∙ ap (λ t. line ∷ t) ended_nil in
+    let ended_is : ended_lines (h.given ++ (g.bytes ++ 10 ∷ [])) ≡ ended_lines h.given ++ line ∷ [] =
+    ended_after h.given (g.bytes ++ 10 ∷ []) h.ended ∙ ap (λ t. ended_lines h.given ++ t) ended_line in
+    let bytes_are : h.given ++ r.pending ≡ (h.given ++ (g.bytes ++ 10 ∷ [])) ++ q.pending =
+    ap (λ t. h.given ++ t) (g.cut.parts ∙ sym (append_assoc g.bytes (10 ∷ []) q.pending))
+    ∙ sym (append_assoc h.given (g.bytes ++ 10 ∷ []) q.pending) in
+    record {
+      given = h.given ++ (g.bytes ++ 10 ∷ []);
+      took = subst (TookUpTo s t) bytes_are h.took;
+      no_fault = h.no_fault;
+      ended = unended_after h.given (g.bytes ++ 10 ∷ []) h.ended ∙ unended_cut g.bytes [] g.cut.without ∙ unended_nil;
+      sound = ap (are_sound arch) ended_is ∙ sound_both arch (ended_lines h.given) (line ∷ []) h.sound (one_sound arch line said g.says);
+      cycles_are =
+          ap (λ t. t ++ last_cycle said) h.cycles_are ∙ ap (λ t. cycles_of arch (ended_lines h.given) ++ t) (sym (one_cycle arch line said g.says))
+          ∙ sym (cycles_both arch (ended_lines h.given) (line ∷ [])) ∙ ap (cycles_of arch) (sym ended_is);
+      line_is = let e = ap length ended_is in let f = length-append (ended_lines h.given) (line ∷ []) in omega (arith, e, f, g.line_is, h.line_is);
+      taken_is = g.taken_is ∙ h.taken_is ∙ ap length bytes_are;
+      few = subst (λ n. n ≤ MAX_INPUT) (sym g.taken_is) h.few;
+    }
+
+took_pending : (arch : ArchName) (s t : SourceSeen) (r : ReaderSeen) (cycles : List (List Edge)) (h : HasRead arch s t r cycles) → 0 < length r.pending → Took s t (h.given ++ r.pending)
+took_pending arch s t r cycles h some = took_some s t (h.given ++ r.pending) h.took (omega (arith, some, length-append h.given r.pending))
+
+-- lines before a fault
+fault_first : (arch : ArchName) (s t : SourceSeen) (r : ReaderSeen) (cycles : List (List Edge)) (line : List ℕ) (later : List (List ℕ)) (kind : LineKind) (h : HasRead arch s t r cycles) →
+    Took s t (h.given ++ r.pending) → lines_of (r.pending ++ unwrap_or t.left []) ≡ line ∷ later → line_fault arch line ≡ Some kind → ReadToFault arch s t cycles r.line kind
+fault_first arch s t r cycles line later kind h took e f = record {
+  text = h.given ++ r.pending;
+  before = ended_lines h.given;
+  took = took;
+  few = subst (λ n. n ≤ MAX_INPUT) h.taken_is h.few;
+  no_fault = h.no_fault;
+  first = record {
+    line = line;
+    later = later;
+    parts =
+        ap lines_of (append_assoc h.given r.pending (unwrap_or t.left [])) ∙ lines_after h.given (r.pending ++ unwrap_or t.left []) h.ended
+        ∙ ap (λ ls. ended_lines h.given ++ ls) e;
+    sound = h.sound;
+    fault = f;
+    number_is = h.line_is;
+  };
+  cycles_are = h.cycles_are;
+}
+
+-- a line that was given has a fault
+pub fault_given : (arch : ArchName) (s t : SourceSeen) (r q : ReaderSeen) (cycles : List (List Edge)) (line : ℕ) (kind : LineKind) →
+    HasRead arch s t r cycles → GivesLine arch r q (Err kind) → line ≡ r.line → ReadToFault arch s t cycles line kind
+fault_given arch s t r q cycles line kind h g e =
+    let number : r.line ≡ line = sym e in
+    let some : 0 < length r.pending = omega (arith, ap length g.cut.parts, length-append g.bytes (10 ∷ q.pending)) in
+    subst (λ n. ReadToFault arch s t cycles n kind) number
+    (fault_first arch s t r cycles (without_return g.bytes) (lines_of (q.pending ++ unwrap_or t.left [])) kind h (took_pending arch s t r cycles h some)
+    (ap (λ b. lines_of (b ++ unwrap_or t.left [])) g.cut.parts ∙ ap lines_of (append_assoc g.bytes (10 ∷ q.pending) (unwrap_or t.left []))
+    ∙ lines_cut g.bytes (q.pending ++ unwrap_or t.left []) g.cut.without)
+    (one_fault arch (without_return g.bytes) kind g.says))
+
+long_fault : (arch : ArchName) (line : List ℕ) → is_long_line line ≡ true → line_fault arch line ≡ Some LineTooLong
+unfolding line_said
+long_fault arch line h = rw h refl
+
+some_long : (text : List ℕ) → is_long_line (without_return text) ≡ true → 0 < length text
+unfolding without_return
+some_long [] h = cc h
+some_long (b ∷ text) h = omega arith
+
+-- a line that goes on is too long already
+pub long_given : (arch : ArchName) (s t : SourceSeen) (r : ReaderSeen) (cycles : List (List Edge)) →
+    HasRead arch s t r cycles → Without 10 r.pending → is_long_line (without_return r.pending) ≡ true → ReadToFault arch s t cycles r.line LineTooLong
+long_given arch s t r cycles h one long =
+    let first = long_first r.pending (unwrap_or t.left []) one long in
+    fault_first arch s t r cycles first.line first.later LineTooLong h (took_pending arch s t r cycles h (some_long r.pending long)) first.is (long_fault arch first.line first.long)
+
+-- how many bytes of a buffer are pending, where they are a line that isn't too long
+pub short_count : (buffer pending : List ℕ) (start end : ℕ) → take (end - start) (drop start buffer) ≡ pending → start ≤ end → end ≤ length buffer →
+    is_long_line (without_return pending) ≡ false → end - start ≤ 4097
+short_count buffer pending start end e order inside short =
+    let size = length-take-le (end - start) (drop start buffer) (omega (arith, order, inside, length-drop start buffer)) in
+    omega (arith, size, ap length e, short_pending pending short)
+
+-- bytes that were read into a buffer come after those that were pending at its start
+pub fills_after : (s t : SourceSeen) (r q : ReaderSeen) (buffer : List ℕ) (middle room count : ℕ) →
+    FillsBuffer s t buffer middle room count → middle + room ≤ length buffer → r.taken + room ≤ MAX_INPUT →
+    take middle buffer ≡ r.pending → q.pending ≡ take (middle + count) buffer → q.line ≡ r.line → q.taken ≡ r.taken + count → Fills s t r q count
+fills_after s t r q buffer middle room count f inside limit prefix pending line taken =
+    let bytes = take count (drop middle buffer) in
+    let size : length (take count (drop middle buffer)) ≡ count = length-take-le count (drop middle buffer) (omega (arith, f.within, inside, length-drop middle buffer)) in
+    record {
+      bytes = bytes;
+      took = f.took;
+      count_is = sym size;
+      at_end = f.at_end;
+      no_fault = f.no_fault;
+      pending = pending ∙ take-add middle count buffer ∙ ap (λ b. b ++ take count (drop middle buffer)) prefix;
+      line_is = line;
+      taken_is = taken ∙ ap (λ n. r.taken + n) (sym size);
+      few = omega (arith, taken, f.within, limit);
+    }
+
+-- what has ended is what was given where no line feed is pending
+ended_given : (arch : ArchName) (s t : SourceSeen) (r : ReaderSeen) (cycles : List (List Edge)) (h : HasRead arch s t r cycles) →
+    Without 10 r.pending → ended_lines (h.given ++ r.pending) ≡ ended_lines h.given
+ended_given arch s t r cycles h one =
+    ended_after h.given r.pending h.ended ∙ ap (λ ls. ended_lines h.given ++ ls) (ended_none r.pending one) ∙ append-nil (ended_lines h.given)
+
+unended_given : (arch : ArchName) (s t : SourceSeen) (r : ReaderSeen) (cycles : List (List Edge)) (h : HasRead arch s t r cycles) →
+    Without 10 r.pending → unended (h.given ++ r.pending) ≡ r.pending
+unended_given arch s t r cycles h one = unended_after h.given r.pending h.ended ∙ unended_all r.pending one
+
+-- the source stopped
+pub stopped_there : (arch : ArchName) (s t u : SourceSeen) (r : ReaderSeen) (cycles : List (List Edge)) →
+    HasRead arch s t r cycles → Without 10 r.pending → is_long_line (without_return r.pending) ≡ false → Stops t u → ReadToStop arch s u cycles
+stopped_there arch s t u r cycles h one short stop =
+    let ended = ended_given arch s t r cycles h one in
+    record {
+      text = h.given ++ r.pending;
+      took = took_stays s t u (h.given ++ r.pending) h.took stop.took;
+      few = subst (λ n. n ≤ MAX_INPUT) h.taken_is h.few;
+      fault = subst (λ n. Rose n u.faults) h.no_fault stop.fault;
+      never_falls = subst (λ n. n ≤ u.faults) h.no_fault stop.never_falls;
+      sound = ap (are_sound arch) ended ∙ h.sound;
+      short = ap (λ b. is_long_line (without_return b)) (unended_given arch s t r cycles h one) ∙ short;
+      cycles_are = h.cycles_are ∙ ap (cycles_of arch) (sym ended);
+    }
+
+take_prefix : (xs ys : List ℕ) → take (length xs) (xs ++ ys) ≡ xs
+take_prefix [] ys = refl
+take_prefix (x ∷ xs) ys = ap (λ t. x ∷ t) (take_prefix xs ys)
+
+-- one byte more than is read
+pub past_limit : (arch : ArchName) (s t u : SourceSeen) (r : ReaderSeen) (cycles : List (List Edge)) (bytes : List ℕ) →
+    HasRead arch s t r cycles → Without 10 r.pending → is_long_line (without_return r.pending) ≡ false → r.taken ≡ MAX_INPUT →
+    Took t u bytes → 0 < length bytes → u.faults ≡ t.faults → ReadToLimit arch s u cycles r.line
+past_limit arch s t u r cycles bytes h one short full took some no_fault =
+    let text = h.given ++ r.pending in
+    let size : length text ≡ MAX_INPUT = sym h.taken_is ∙ full in
+    let prefix : take MAX_INPUT (text ++ bytes) ≡ text = ap (λ n. take n (text ++ bytes)) (sym size) ∙ take_prefix text bytes in
+    let ended = ended_given arch s t r cycles h one in
+    record {
+      text = text ++ bytes;
+      took = took_then s t u text bytes h.took took;
+      many = omega (arith, size, some, length-append text bytes);
+      no_fault = no_fault ∙ h.no_fault;
+      sound = ap (λ b. are_sound arch (ended_lines b)) prefix ∙ ap (are_sound arch) ended ∙ h.sound;
+      short = ap (λ b. is_long_line (without_return (unended b))) prefix ∙ ap (λ b. is_long_line (without_return b)) (unended_given arch s t r cycles h one) ∙ short;
+      line_is = h.line_is ∙ ap (λ ls. length ls + 1) (sym ended) ∙ ap (λ n. n + 1) (ended_count text) ∙ ap (λ b. line_feed_count b + 1) (sym prefix);
+      cycles_are = h.cycles_are ∙ ap (cycles_of arch) (sym ended) ∙ ap (λ b. cycles_of arch (ended_lines b)) (sym prefix);
+    }
+
+-- the end of the source
+lines_at_end : (arch : ArchName) (s t : SourceSeen) (r : ReaderSeen) (cycles : List (List Edge)) (h : HasRead arch s t r cycles) →
+    Without 10 r.pending → lines_of (h.given ++ r.pending) ≡ ended_lines h.given ++ last_line r.pending
+lines_at_end arch s t r cycles h one =
+    lines_after h.given r.pending h.ended ∙ ap (λ ls. ended_lines h.given ++ ls) (ap (λ ls. ls ++ last_line (unended r.pending)) (ended_none r.pending one) ∙ ap last_line (unended_all r.pending one))
+
+all_read : (arch : ArchName) (s t : SourceSeen) (r : ReaderSeen) (cycles more : List (List Edge)) →
+    HasRead arch s t r cycles → Without 10 r.pending → Ended t → are_sound arch (last_line r.pending) ≡ true → more ≡ cycles_of arch (last_line r.pending) →
+    ReadAll arch s t (cycles ++ more)
+all_read arch s t r cycles more h one at_end sound e =
+    let lines = lines_at_end arch s t r cycles h one in
+    record {
+      text = h.given ++ r.pending;
+      took = took_counted s t (h.given ++ r.pending) h.took at_end.counted;
+      at_end = at_end.at_end;
+      few = subst (λ n. n ≤ MAX_INPUT) h.taken_is h.few;
+      no_fault = h.no_fault;
+      sound = ap (are_sound arch) lines ∙ sound_both arch (ended_lines h.given) (last_line r.pending) h.sound sound;
+      cycles_are =
+          ap (λ cs. cs ++ more) h.cycles_are ∙ ap (λ cs. cycles_of arch (ended_lines h.given) ++ cs) e
+          ∙ sym (cycles_both arch (ended_lines h.given) (last_line r.pending)) ∙ ap (cycles_of arch) (sym lines);
+    }
+
+some_last : (text : List ℕ) → 0 < length text → last_line text ≡ text ∷ []
+some_last [] h = absurd (omega arith)
+some_last (b ∷ text) h = refl
+
+-- with one that says a cycle, or nothing
+pub said_last : (arch : ArchName) (s t : SourceSeen) (r : ReaderSeen) (cycles : List (List Edge)) (said : Option (List Edge)) →
+    HasRead arch s t r cycles → 0 < length r.pending → Ended t → Without 10 r.pending → Ok said ≡ line_said arch r.pending → ReadAll arch s t (cycles ++ last_cycle said)
+said_last arch s t r cycles said h some at_end one e =
+    let line = some_last r.pending some in
+    all_read arch s t r cycles (last_cycle said) h one at_end
+    (ap (are_sound arch) line ∙ one_sound arch r.pending said e)
+    (sym (ap (cycles_of arch) line ∙ one_cycle arch r.pending said e))
+
+none_left : (left : Option (List ℕ)) → IsAtEnd left → unwrap_or left [] ≡ []
+none_left None h = refl
+none_left (Some xs) h = h
+
+-- with one that has a fault
+pub fault_last : (arch : ArchName) (s t : SourceSeen) (r : ReaderSeen) (cycles : List (List Edge)) (kind : LineKind) →
+    HasRead arch s t r cycles → 0 < length r.pending → Ended t → Without 10 r.pending → Err kind ≡ line_said arch r.pending → ReadToFault arch s t cycles r.line kind
+fault_last arch s t r cycles kind h some at_end one e =
+    fault_first arch s t r cycles r.pending [] kind h
+    (took_pending arch s t r cycles h some)
+    (ap (λ b. lines_of (r.pending ++ b)) (none_left t.left at_end.at_end) ∙ ap lines_of (append-nil r.pending)
+    ∙ ap (λ ls. ls ++ last_line (unended r.pending)) (ended_none r.pending one) ∙ ap last_line (unended_all r.pending one) ∙ some_last r.pending some)
+    (one_fault arch r.pending kind e)
+
+-- sound lines come before the first line that has a fault
+sound_prefix : (arch : ArchName) (xs ys : List (List ℕ)) → are_sound arch xs ≡ true → take_while (is_sound arch) (xs ++ ys) ≡ xs ++ take_while (is_sound arch) ys
+sound_prefix arch [] ys h = refl
+sound_prefix arch (x ∷ xs) ys h =
+    by_test (is_sound arch x)
+    (λ e. take_while-cons (is_sound arch) x (xs ++ ys) ∙ rw e (ap (λ ls. x ∷ ls) (sound_prefix arch xs ys (rw e at h))))
+    (λ e. let k = rw e at h in absurd (cc))
+
+-- the cycles that were given come before the first fault
+pub record Before (arch : ArchName) (s t : SourceSeen) (cycles : List (List Edge)) : Type 0 where
+  pub text : List ℕ
+  pub read : ReadSome s t text
+  pub more : List (List Edge)
+  pub before : cycles_before arch (whole_of text t) ≡ cycles ++ more
+
+-- a list that ends with a cycle isn't empty
+pub no_cycles : (cycles : List (List Edge)) (cycle : List Edge) → cycles ++ cycle ∷ [] ≡ [] → ⊥
+no_cycles [] cycle e = cc e
+no_cycles (c ∷ cycles) cycle e = cc e
+
+-- where a cycle was given, bytes were taken
+took_cycle : (arch : ArchName) (s t : SourceSeen) (r : ReaderSeen) (cycles : List (List Edge)) (h : HasRead arch s t r cycles) → (cycles ≡ [] → ⊥) → Took s t (h.given ++ r.pending)
+took_cycle arch s t r cycles h some = by_given h.given h.cycles_are (took_some s t (h.given ++ r.pending) h.took)
+  where
+    by_given : (given : List ℕ) → cycles ≡ cycles_of arch (ended_lines given) → (0 < length (given ++ r.pending) → Took s t (h.given ++ r.pending)) → Took s t (h.given ++ r.pending)
+    by_given [] e k = absurd (some (e ∙ ap (cycles_of arch) ended_nil))
+    by_given (b ∷ given) e k = k (omega arith)
+
+-- the cycles that were given, if there are any, come before the first fault of the source
+pub given_before : (arch : ArchName) (s t : SourceSeen) (r : ReaderSeen) (cycles : List (List Edge)) → HasRead arch s t r cycles → (cycles ≡ [] → ⊥) → Before arch s t cycles
+given_before arch s t r cycles h some =
+    let later = lines_of (r.pending ++ unwrap_or t.left []) in
+    record {
+      text = h.given ++ r.pending;
+      read = record { took = took_cycle arch s t r cycles h some; few = subst (λ n. n ≤ MAX_INPUT) h.taken_is h.few; no_fault = h.no_fault };
+      more = cycles_of arch (take_while (is_sound arch) later);
+      before =
+          ap (λ b. cycles_before arch b) (append_assoc h.given r.pending (unwrap_or t.left []))
+          ∙ ap (λ ls. cycles_of arch (take_while (is_sound arch) ls)) (lines_after h.given (r.pending ++ unwrap_or t.left []) h.ended)
+          ∙ ap (cycles_of arch) (sound_prefix arch (ended_lines h.given) later h.sound)
+          ∙ cycles_both arch (ended_lines h.given) (take_while (is_sound arch) later)
+          ∙ ap (λ cs. cs ++ cycles_of arch (take_while (is_sound arch) later)) (sym h.cycles_are);
+    }
+
+-- the cycles of a source without a fault come before its first fault
+pub all_before : (arch : ArchName) (s t : SourceSeen) (cycles : List (List Edge)) → ReadAll arch s t cycles → Before arch s t cycles
+all_before arch s t cycles h = record {
+  text = h.text;
+  read = record { took = h.took; few = h.few; no_fault = h.no_fault };
+  more = [];
+  before =
+      ap (λ b. cycles_before arch (h.text ++ b)) (none_left t.left h.at_end) ∙ ap (cycles_before arch) (append-nil h.text)
+      ∙ ap (λ ls. cycles_of arch (take_while (is_sound arch) ls)) (sym (append-nil (lines_of h.text)))
+      ∙ ap (cycles_of arch) (sound_prefix arch (lines_of h.text) [] h.sound) ∙ ap (cycles_of arch) (append-nil (lines_of h.text))
+      ∙ sym h.cycles_are ∙ sym (append-nil cycles);
+}
+
+-- what is left of a buffer after a line is taken off
+drop_all_prefix : (xs ys : List ℕ) (n : ℕ) → n ≡ length xs → drop n (xs ++ ys) ≡ ys
+drop_all_prefix [] ys zero e = refl
+drop_all_prefix [] ys (suc n) e = absurd (omega arith)
+drop_all_prefix (x ∷ xs) ys zero e = absurd (omega arith)
+drop_all_prefix (x ∷ xs) ys (suc n) e = drop_all_prefix xs ys n (omega arith)
+
+take_none : (n : ℕ) → ◌≡◌ {A = List ℕ} (take n []) []
+take_none zero = refl
+take_none (suc n) = refl
+
+drop_take : (xs : List ℕ) (k m : ℕ) → drop k (take m xs) ≡ take (m - k) (drop k xs)
+drop_take xs zero m = let e : m - 0 ≡ m = omega arith in ap (λ n. take n xs) (sym e)
+drop_take [] (suc k) m = ap (drop (suc k)) (take_none m) ∙ sym (take_none (m - suc k))
+drop_take (x ∷ xs) (suc k) zero = let e : zero - suc k ≡ 0 = omega arith in rw e
+drop_take (x ∷ xs) (suc k) (suc m) = let e : suc m - suc k ≡ m - k = omega arith in rw e (drop_take xs k m)
+
+-- the bytes of a buffer after a line that was cut off and its line feed are what is pending
+pub buffer_left : (buffer pending bytes later : List ℕ) (start end next : ℕ) → pending ≡ take (end - start) (drop start buffer) → CutsAtSign 10 pending bytes later →
+    next ≡ start + (length bytes + 1) → take (end - next) (drop next buffer) ≡ later
+buffer_left buffer pending bytes later start end next e cut n =
+    let k = length bytes + 1 in
+    let after_is : drop (length bytes + 1) pending ≡ later =
+    ap (drop (length bytes + 1)) (cut.parts ∙ sym (append_assoc bytes (10 ∷ []) later)) ∙ drop_all_prefix (bytes ++ 10 ∷ []) later (length bytes + 1) (sym (length-append bytes (10 ∷ []))) in
+    let size : end - next ≡ (end - start) - (length bytes + 1) = omega arith in
+    ap (λ t. take t (drop next buffer)) size ∙ ap (λ t. take ((end - start) - (length bytes + 1)) (drop t buffer)) n
+    ∙ ap (take ((end - start) - (length bytes + 1))) (sym (drop-drop (length bytes + 1) start buffer))
+    ∙ sym (drop_take (drop start buffer) (length bytes + 1) (end - start)) ∙ ap (drop (length bytes + 1)) (sym e) ∙ after_is
+
+-- a line that was given is the next line
+pub given_next : (arch : ArchName) (r q : ReaderSeen) (cycle : Option (List Edge)) (line : Line) (said : Result (Option (List Edge)) LineKind) → line_said_by line cycle ≡ Some said → GivesLine arch r q said → GivesNext arch r q cycle line
+given_next arch r q cycle line said e h = subst (λ o. MatchOption o (Without 10 r.pending × (q ≡ r)) (λ said. GivesLine arch r q said)) (sym e) h
+
+-- the line that is cut off the pending bytes is given
+pub given_line : (arch : ArchName) (r q : ReaderSeen) (bytes later : List ℕ) (said : Result (Option (List Edge)) LineKind) → CutsAtSign 10 r.pending bytes later → q.pending ≡ later →
+    said ≡ line_said arch (without_return bytes) → q.line ≡ r.line + 1 → q.taken ≡ r.taken → GivesLine arch r q said
+given_line arch r q bytes later said cut e says line taken = record { bytes = bytes; cut = subst (CutsAtSign 10 r.pending bytes) (sym e) cut; says = says; line_is = line; taken_is = taken }
+
+-- a text that was read is not empty
+pub some_read : (buffer : List ℕ) (count : ℕ) → (count ≡ 0 → ⊥) → length buffer ≡ 1 → 0 < length (take count buffer)
+some_read buffer zero h e = absurd (h refl)
+some_read [] (suc n) h e = absurd (omega arith)
+some_read (b ∷ buffer) (suc n) h e = omega arith
+
+not_zero : (n : ℕ) → false ≡ (n == 0) → n ≡ 0 → ⊥
+not_zero n h e = let k : (n == 0) ≡ true = ap (λ m. m == 0) e in cc
+
+-- what isn't found empty has a byte
+pub some_if : (text pending : List ℕ) → text ≡ pending → false ≡ (length text == 0) → 0 < length pending
+some_if text pending e h = by_length (length pending) refl
+  where
+    by_length : (n : ℕ) → length pending ≡ n → 0 < length pending
+    by_length zero k = absurd (not_zero (length text) h (ap length e ∙ k))
+    by_length (suc n) k = omega arith
+
+-- where nothing more may follow, there is no more to do
+pub ends_less : (old new : ℕ) (result : Result Found LinesError) → Ends result → LessToDo old new result
+ends_less old new (Ok Next) h = absurd h
+ends_less old new (Ok Last) h = tt
+ends_less old new (Err error) h = tt
+
+-- what was found, by its cases
+pub found_next : (arch : ArchName) (s t : SourceSeen) (r : ReaderSeen) (cycles : List (List Edge)) (cycle : Option (List Edge)) (found : Found) → found ≡ Next → Continues arch s t r cycles cycle (Ok found) → HasRead arch s t r (cycles ++ last_cycle cycle)
+found_next arch s t r cycles cycle found e h = subst (λ f. Continues arch s t r cycles cycle (Ok f)) e h
+
+-- where the last line was found, the source was read to its end
+pub found_last : (arch : ArchName) (s t : SourceSeen) (r : ReaderSeen) (cycles : List (List Edge)) (cycle : Option (List Edge)) (found : Found) → found ≡ Last → Continues arch s t r cycles cycle (Ok found) → ReadAll arch s t (cycles ++ last_cycle cycle)
+found_last arch s t r cycles cycle found e h = subst (λ f. Continues arch s t r cycles cycle (Ok f)) e h

@@ -1,0 +1,6 @@
+-- `follow` ends: the edges get fewer.
+use Rattle.std.proofs.Common.{length}
+use Rattle.cycles_from_lines.proofs.edges.+follow.Given as goal
+
+abbrev pub decreases-follow : goal.decreases-follow
+decreases-follow l = length l.edges.now

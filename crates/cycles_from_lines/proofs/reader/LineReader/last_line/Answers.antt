@@ -1,0 +1,17 @@
+-- That `last_line` gives what the last line says, or its fault.
+use Rattle.std.proofs.Common.{ap, sym, subst, ◌∙◌}
+use Rattle.cycles_from_lines.specs.Cycles.{line_said}
+use Rattle.cycles_from_lines.specs.LineReading.{ReadToFault}
+use Rattle.cycles_from_lines.proofs.ReadLaws.{said_last, fault_last, some_if}
+use Rattle.cycles_from_lines.proofs.reader.LineReader.last_line.Goals as goal
+
+pub returns-in-Ok : goal.returns-in-Ok
+returns-in-Ok c = λ first last cycles h e.
+    said_last c.args.arch first last c.args.self.now cycles c.read_line.new.cycle h (some_if c.pending_bytes.result.now c.args.self.now.pending c.pending_bytes.ensures.pending c.if-is_empty.ensures) e c.requires
+    (c.in-Ok.ensures ∙ ap (line_said c.args.arch) c.pending_bytes-2.ensures.pending)
+
+pub returns-in-Err : goal.returns-in-Err
+returns-in-Err c = λ first last cycles h e.
+    subst (λ n. ReadToFault c.args.arch first last cycles n c.in-Err.kind) (ap (λ r. r.line) (sym c.self.view_is))
+    (fault_last c.args.arch first last c.args.self.now cycles c.in-Err.kind h (some_if c.pending_bytes.result.now c.args.self.now.pending c.pending_bytes.ensures.pending c.if-is_empty.ensures) e c.requires
+    (c.in-Err.ensures ∙ ap (line_said c.args.arch) c.pending_bytes-2.ensures.pending))

@@ -1,0 +1,12 @@
+-- The loop of `send_families`: what is sent so far.
+use Rattle.std.proofs.Common.{take}
+use Rattle.std.specs.List.{flat_map}
+use Rattle.diy_io.specs.Page.{SentAll}
+use Rattle.cycles_from_lines.specs.FamilyTables.{entry_text, family_view}
+use Rattle.cycles_from_lines.proofs.table.send_families.Given as goal
+
+-- the lines of the families so far are sent
+abbrev pub invariant-loop-entry : goal.invariant-loop-entry
+invariant-loop-entry g l =
+    SentAll (g.O.Sink.seen l.fn.out) l.fn.page (g.O.Sink.seen l.out) l.page
+    (flat_map (λ entry. entry_text (family_view entry)) (take l.entry-index l.table))

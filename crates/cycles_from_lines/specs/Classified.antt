@@ -1,0 +1,82 @@
+-- What is written of cycles by their families.
+-- Source: own; the lines are those of classify7 of the herdtools suite.
+use Rattle.std.specs.Prelude.{◌≡◌, ◌≤◌, ℕ, Bool, List, [], ◌∷◌, ◌++◌, codes, length, map, filter, fold, Result, Ok, Err}
+use Rattle.std.specs.List.{flat_map}
+use Rattle.std.specs.Ordering.{nat_cmp}
+use Rattle.std.specs.Cmp.Lexicographic.{slice_cmp}
+use Rattle.std.specs.BTreeSet.{insert_key}
+use Rattle.std.specs.Str.{bytes_eq}
+use Rattle.diy_io.specs.declared.source.TheConstants.{MAX_INPUT}
+use Rattle.diy_io.specs.Taken.{SourceSeen}
+use Rattle.diy_io.specs.Wrote.{SinkSeen, WroteAll, WrotePart}
+use Rattle.relax_edges.specs.declared.kinds.ArchName.{ArchName}
+use Rattle.relax_edges.specs.declared.edge.Edge.{Edge}
+use Rattle.cycle_names.specs.declared.family.Family.{Family}
+use Rattle.cycle_names.specs.declared.family.Family.TheVariants.{Other}
+use Rattle.cycle_names.specs.Families.{all_families, family_word}
+use Rattle.cycle_names.specs.CycleNames.{name_of}
+use Rattle.cycle_names.specs.Rotations.{family_of}
+use Rattle.cycles_from_lines.specs.declared.errors.LinesError.{LinesError}
+use Rattle.cycles_from_lines.specs.declared.errors.ClassifyError.{ClassifyError}
+use Rattle.cycles_from_lines.specs.declared.errors.ClassifyError.TheVariants.{Lines, OutFault, NoMemory}
+use Rattle.cycles_from_lines.specs.LineReading.{ReadAll, ReadUpTo, TookUpTo}
+
+-- the families of the table, and that of the cycles of none
+abbrev pub families_in_order : List Family
+families_in_order = all_families ++ Other ∷ []
+
+-- the same family
+abbrev pub is_family : Family → Family → Bool
+is_family f g = bytes_eq (family_word f) (family_word g)
+
+-- texts in byte order, each once, and one more
+abbrev pub with_cycle_name : List (List ℕ) → List ℕ → List (List ℕ)
+with_cycle_name texts text = insert_key (slice_cmp nat_cmp) texts text
+
+-- the names of the cycles that are of a family, each once, in byte order
+unfoldable pub family_names : Family → List (List Edge) → List (List ℕ)
+family_names f cycles = fold with_cycle_name [] (map name_of (filter (λ cycle. is_family (family_of cycle) f) cycles))
+
+-- the line of a name, after two blanks
+abbrev pub name_entry : List ℕ → List ℕ
+name_entry name = codes "  " ++ name ++ codes "\n"
+
+-- the lines of a family: its word and a colon, and each name; none where there is no name
+unfoldable pub family_text : Family → List (List ℕ) → List ℕ
+family_text f [] = []
+family_text f (name ∷ names) = (family_word f ++ codes ":\n") ++ flat_map name_entry (name ∷ names)
+
+-- the lines of all families that have a cycle, in the order of the table
+unfoldable pub families_text : List (List Edge) → List ℕ
+families_text cycles = flat_map (λ f. family_text f (family_names f cycles)) families_in_order
+
+-- a source was read to its end, and the families of its cycles were written
+pub record ClassifiedAll (arch : ArchName) (old new : SourceSeen) (before after : SinkSeen) : Type 0 where
+  pub cycles : List (List Edge)
+  pub read : ReadAll arch old new cycles
+  pub wrote : WroteAll before after (families_text cycles)
+
+-- a source was read to its end, and the sink failed and took a prefix of what was to be written
+pub record ClassifiedPart (arch : ArchName) (old new : SourceSeen) (before after : SinkSeen) : Type 0 where
+  pub cycles : List (List Edge)
+  pub read : ReadAll arch old new cycles
+  pub wrote : WrotePart before after (families_text cycles)
+
+-- a source wasn't read to its end
+pub record ReadsUpTo (arch : ArchName) (old new : SourceSeen) (error : LinesError) : Type 0 where
+  pub cycles : List (List Edge)
+  pub read : ReadUpTo arch old new cycles error
+
+-- a source was read up to where there was no memory
+pub record ReadsPart (old new : SourceSeen) : Type 0 where
+  pub text : List ℕ
+  pub took : TookUpTo old new text
+  pub few : length text ≤ MAX_INPUT
+  pub no_fault : new.faults ≡ old.faults
+
+-- the families of the cycles of a source are written; or nothing is, for the reason that is given; or the sink fails
+abbrev pub Classifies : ArchName → SourceSeen → SourceSeen → SinkSeen → SinkSeen → Result (Unit {0}) ClassifyError → Type 0
+Classifies arch old new before after (Ok _) = ClassifiedAll arch old new before after
+Classifies arch old new before after (Err OutFault) = ClassifiedPart arch old new before after
+Classifies arch old new before after (Err (Lines error)) = ReadsUpTo arch old new error × (after ≡ before)
+Classifies arch old new before after (Err NoMemory) = ReadsPart old new × (after ≡ before)

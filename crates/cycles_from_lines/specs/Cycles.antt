@@ -1,0 +1,97 @@
+-- What a line says: a cycle, nothing, or its fault.
+-- Source: own; the lines are those that norm7 and classify7 of the herdtools suite read.
+use Rattle.std.specs.Prelude.{◌≡◌, ℕ, ◌+◌, ◌==◌, nat_lt, Bool, true, ◌++◌, cond, List, [], ◌∷◌, length, Option, Some, None, Result, Ok, Err, is_ok, unwrap_or}
+use Rattle.std.specs.Result.{result_err}
+use Rattle.std.specs.List.{list_all, flat_map}
+use Rattle.relax_edges.specs.declared.TheConstants.{MAX_EDGES}
+use Rattle.relax_edges.specs.declared.kinds.ArchName.{ArchName}
+use Rattle.relax_edges.specs.declared.edge.Edge.{Edge}
+use Rattle.edges_from_text.specs.declared.read.Separators.TheVariants.{Blanks}
+use Rattle.edges_from_text.specs.Spelled.{separates, text_edges}
+use Rattle.edge_algebra.specs.declared.errors.CycleError.{CycleError}
+use Rattle.edge_algebra.specs.Compose.{composed}
+use Rattle.cycle_names.specs.Laws.{are_of_arch}
+use Rattle.cycles_from_lines.specs.declared.TheConstants.{MAX_LINE}
+use Rattle.cycles_from_lines.specs.declared.errors.LineKind.{LineKind}
+use Rattle.cycles_from_lines.specs.declared.errors.LineKind.TheVariants.{LineTooLong, UnknownEdge, Empty, TooLong, NotOfArch, DoesNotCompose}
+
+-- a line is too long
+abbrev pub is_long_line : List ℕ → Bool
+is_long_line line = nat_lt MAX_LINE (length line)
+
+-- what comes after the first colon, where there is one
+unfoldable pub after_colon : List ℕ → Option (List ℕ)
+after_colon [] = None
+after_colon (byte ∷ text) = cond (byte == 58) (Some text) (after_colon text)
+
+-- a line without a label: all of it, if it has no colon
+abbrev pub without_label : List ℕ → List ℕ
+without_label line = unwrap_or (after_colon line) line
+
+-- a list of edges as a cycle, or the fault that it composes to none
+abbrev pub composed_or : Result (List Edge) CycleError → Result (Option (List Edge)) LineKind
+composed_or (Ok cycle) = Ok (Some cycle)
+composed_or (Err _) = Err DoesNotCompose
+
+-- the cycle of an architecture that edges make, or the first fault that they have
+abbrev pub cycle_made : ArchName → List Edge → Result (Option (List Edge)) LineKind
+cycle_made arch [] = Err Empty
+cycle_made arch (e ∷ u) =
+    cond (nat_lt MAX_EDGES (length (e ∷ u))) (Err TooLong)
+    (cond (are_of_arch arch (e ∷ u)) (composed_or (composed (e ∷ u))) (Err NotOfArch))
+
+-- what a line says whose edges were read: the cycle that they make or their fault, or that a word in it is no edge
+abbrev pub spelled_made : ArchName → Option (List Edge) → Result (Option (List Edge)) LineKind
+spelled_made arch None = Err UnknownEdge
+spelled_made arch (Some edges) = cycle_made arch edges
+
+-- the cycle that edges make, where they have no fault
+abbrev pub cycle_if_made : Result (Option (List Edge)) LineKind → Option (List Edge)
+cycle_if_made (Ok cycle) = cycle
+cycle_if_made (Err _) = None
+
+-- the cycle of an architecture that a text spells, if it spells one
+abbrev pub cycle_spelled : ArchName → List ℕ → Option (List Edge)
+cycle_spelled arch text = cycle_if_made (spelled_made arch (text_edges text))
+
+-- the cycle of an architecture that a quoted text spells, if there is one
+abbrev pub quoted_cycle : ArchName → Option (List ℕ) → Option (List Edge)
+quoted_cycle arch None = None
+quoted_cycle arch (Some text) = cycle_spelled arch text
+
+-- what a line of cycles says: its cycle, nothing where it has no byte but blanks, or the first fault that it has
+unfoldable pub line_said : ArchName → List ℕ → Result (Option (List Edge)) LineKind
+line_said arch line =
+    cond (is_long_line line) (Err LineTooLong)
+    (cond (list_all (separates Blanks) line) (Ok None) (spelled_made arch (text_edges (without_label line))))
+
+-- the fault of a line, if it has one
+abbrev pub line_fault : ArchName → List ℕ → Option LineKind
+line_fault arch line = result_err (line_said arch line)
+
+-- a line has no fault
+abbrev pub is_sound : ArchName → List ℕ → Bool
+is_sound arch line = is_ok (line_said arch line)
+
+-- the cycle that was said, if there is one
+abbrev pub cycle_said : Result (Option (List Edge)) LineKind → List (List Edge)
+cycle_said (Ok (Some cycle)) = cycle ∷ []
+cycle_said (Ok None) = []
+cycle_said (Err _) = []
+
+-- no line has a fault
+abbrev pub are_sound : ArchName → List (List ℕ) → Bool
+are_sound arch lines = list_all (is_sound arch) lines
+
+-- the cycles of lines
+abbrev pub cycles_of : ArchName → List (List ℕ) → List (List Edge)
+cycles_of arch lines = flat_map (λ line. cycle_said (line_said arch line)) lines
+
+-- the line of a number, counted from 1, has this fault, and it is the first that has one: these are the lines before it
+pub record FirstFault (arch : ArchName) (lines before : List (List ℕ)) (number : ℕ) (kind : LineKind) : Type 0 where
+  pub line : List ℕ
+  pub later : List (List ℕ)
+  pub parts : lines ≡ before ++ line ∷ later
+  pub sound : are_sound arch before ≡ true
+  pub fault : line_fault arch line ≡ Some kind
+  pub number_is : number ≡ length before + 1

@@ -1,0 +1,81 @@
+-- The names of cycles by their families, as they are kept.
+use Rattle.std.specs.Prelude.{◌≡◌, ℕ, List, [], ◌∷◌, ◌++◌, map, slice_set, slice_index_or, Option, Result, Ok, Err}
+use Rattle.diy_io.specs.Taken.{SourceSeen}
+use Rattle.relax_edges.specs.declared.kinds.ArchName.{ArchName}
+use Rattle.relax_edges.specs.declared.edge.Edge.{Edge}
+use Rattle.cycle_names.specs.declared.family.Family.{Family}
+use Rattle.cycle_names.specs.declared.family.Family.TheVariants as families
+use Rattle.cycles_from_lines.specs.declared.errors.ClassifyError.{ClassifyError}
+use Rattle.cycles_from_lines.specs.declared.errors.ClassifyError.TheVariants.{Lines, OutFault, NoMemory}
+use Rattle.cycles_from_lines.specs.declared.names.FamilyNames.{FamilyNames}
+use Rattle.cycles_from_lines.specs.KeptNames.{names_in_set}
+use Rattle.cycles_from_lines.specs.LineReading.{ReadAll}
+use Rattle.cycles_from_lines.specs.LineSteps.{last_cycle}
+use Rattle.cycles_from_lines.specs.Classified.{families_in_order, family_names, family_text, with_cycle_name, ReadsUpTo, ReadsPart}
+
+-- the place of a family
+abbrev pub place_of_family : Family → ℕ
+place_of_family families.SB = 0
+place_of_family families.MP = 1
+place_of_family families.LB = 2
+place_of_family families.R = 3
+place_of_family families.S = 4
+place_of_family families.W2 = 5
+place_of_family families.WRC = 6
+place_of_family families.RWC = 7
+place_of_family families.ISA2 = 8
+place_of_family families.IRIW = 9
+place_of_family families.WRWC = 10
+place_of_family families.SB3 = 11
+place_of_family families.LB3 = 12
+place_of_family families.W3 = 13
+place_of_family families.Other = 14
+
+-- a family and the names that are kept of it
+abbrev pub FamilyEntry : Type 0
+FamilyEntry = Family × List (List ℕ)
+
+-- the entry that a kept family with its names represents
+abbrev pub family_view : FamilyNames → FamilyEntry
+family_view entry = (entry.family, names_in_set entry.names)
+
+-- the lines of an entry
+abbrev pub entry_text : FamilyEntry → List ℕ
+entry_text entry = family_text entry.0 entry.1
+
+-- the names of cycles by their families
+abbrev pub family_table : List (List Edge) → List FamilyEntry
+family_table cycles = map (λ f. (f, family_names f cycles)) families_in_order
+
+-- the names of these cycles are kept
+abbrev pub HoldsCycles : List FamilyEntry → List (List Edge) → Type 0
+HoldsCycles table cycles = ◌≡◌ {A = List FamilyEntry} table (family_table cycles)
+
+-- one more name at a place
+abbrev pub entry_with : List ℕ → FamilyEntry → FamilyEntry
+entry_with name entry = (entry.0, with_cycle_name entry.1 name)
+
+-- a table with one more name in the entry at a place
+abbrev pub name_entered : ℕ → List ℕ → List FamilyEntry → List FamilyEntry
+name_entered place name table = slice_set table place (entry_with name (slice_index_or table place (families.SB, [])))
+
+-- one more cycle is kept
+abbrev pub AddsCycle : List FamilyEntry → List FamilyEntry → List Edge → Type 0
+AddsCycle old new cycle = (cycles : List (List Edge)) → HoldsCycles old cycles → HoldsCycles new (cycles ++ cycle ∷ [])
+
+-- the cycle of a line is kept, if it has one
+abbrev pub AddsLast : List FamilyEntry → List FamilyEntry → Option (List Edge) → Type 0
+AddsLast old new cycle = (cycles : List (List Edge)) → HoldsCycles old cycles → HoldsCycles new (cycles ++ last_cycle cycle)
+
+-- a source was read to its end, and the names of its cycles are kept
+pub record GatheredFamilies (arch : ArchName) (old new : SourceSeen) (table : List FamilyEntry) : Type 0 where
+  pub cycles : List (List Edge)
+  pub read : ReadAll arch old new cycles
+  pub holds : HoldsCycles table cycles
+
+-- the names of the cycles of a source are kept, or there is a reason why they can't be
+abbrev pub Gathers : ArchName → SourceSeen → SourceSeen → Result (List FamilyEntry) ClassifyError → Type 0
+Gathers arch old new (Ok table) = GatheredFamilies arch old new table
+Gathers arch old new (Err (Lines error)) = ReadsUpTo arch old new error
+Gathers arch old new (Err NoMemory) = ReadsPart old new
+Gathers arch old new (Err OutFault) = ⊥

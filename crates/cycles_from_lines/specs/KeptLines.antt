@@ -1,0 +1,19 @@
+-- What is made of a line, and of its edges as they are kept.
+use Rattle.std.specs.Prelude.{List, Option, Result, Ok, Err}
+use Rattle.relax_edges.specs.declared.kinds.ArchName.{ArchName}
+use Rattle.relax_edges.specs.declared.edge.Edge.{Edge}
+use Rattle.edges_from_text.specs.declared.list.EdgeList.{EdgeList}
+use Rattle.edges_from_text.specs.declared.list.EdgeList.TheVariants.{Whole, TooLong}
+use Rattle.cycles_from_lines.specs.declared.errors.LineKind.{LineKind}
+use Rattle.cycles_from_lines.specs.declared.errors.LineKind.TheVariants as kinds
+use Rattle.cycles_from_lines.specs.Cycles.{cycle_made}
+
+-- what a line says, or its fault
+abbrev pub said_with : Result (Unit {0}) LineKind → Option (List Edge) → Result (Option (List Edge)) LineKind
+said_with (Ok _) cycle = Ok cycle
+said_with (Err kind) cycle = Err kind
+
+-- the cycle of an architecture that edges make as they are kept, or their first fault
+abbrev pub made_kept : ArchName → EdgeList → Result (Option (List Edge)) LineKind
+made_kept arch (Whole list) = cycle_made arch list.items
+made_kept arch TooLong = Err kinds.TooLong

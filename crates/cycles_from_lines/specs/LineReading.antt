@@ -1,0 +1,89 @@
+-- What was read of a source, line by line.
+use Rattle.std.specs.Prelude.{◌≡◌, ◌≤◌, ◌<◌, ◌⊎◌, ℕ, ◌+◌, true, false, List, [], ◌++◌, length, take, unwrap_or}
+use Rattle.std.specs.List.{take_while}
+use Rattle.std.specs.Io.KnownBytes.{IsAtEnd, Keeps}
+use Rattle.diy_io.specs.declared.source.TheConstants.{MAX_INPUT}
+use Rattle.diy_io.specs.Count.{Rose}
+use Rattle.diy_io.specs.Sink.{line_feed_count}
+use Rattle.diy_io.specs.Taken.{SourceSeen, Took}
+use Rattle.relax_edges.specs.declared.kinds.ArchName.{ArchName}
+use Rattle.relax_edges.specs.declared.edge.Edge.{Edge}
+use Rattle.cycles_from_lines.specs.declared.errors.LineKind.{LineKind}
+use Rattle.cycles_from_lines.specs.declared.errors.LinesError.{LinesError}
+use Rattle.cycles_from_lines.specs.declared.errors.LinesError.TheVariants.{Wrong, TooMuch, InputFault}
+use Rattle.text_parts_laws.specs.Lines.{without_return, ended_lines, unended, lines_of}
+use Rattle.cycles_from_lines.specs.Cycles.{FirstFault, are_sound, cycles_of, is_sound, is_long_line}
+
+-- what was taken of a source and, where its text is known, what is left of it: then all that it had
+abbrev pub whole_of : List ℕ → SourceSeen → List ℕ
+whole_of text seen = text ++ unwrap_or seen.left []
+
+-- nothing was taken
+pub record Untouched (old new : SourceSeen) (bytes : List ℕ) : Type 0 where
+  pub none : bytes ≡ []
+  pub kept : Keeps old.left new.left
+  pub taken_is : new.taken ≡ old.taken
+
+-- these bytes were taken, or there are none and nothing was taken
+abbrev pub TookUpTo : SourceSeen → SourceSeen → List ℕ → Type 0
+TookUpTo old new bytes = Took old new bytes ⊎ Untouched old new bytes
+
+-- a source was read to its end, no line has a fault, and these are the cycles of its lines
+pub record ReadAll (arch : ArchName) (old new : SourceSeen) (cycles : List (List Edge)) : Type 0 where
+  pub text : List ℕ
+  pub took : Took old new text
+  pub at_end : IsAtEnd new.left
+  pub few : length text ≤ MAX_INPUT
+  pub no_fault : new.faults ≡ old.faults
+  pub sound : are_sound arch (lines_of text) ≡ true
+  pub cycles_are : cycles ≡ cycles_of arch (lines_of text)
+
+-- a line has a fault, the first of what the source had, and these are the cycles of the lines before it
+pub record ReadToFault (arch : ArchName) (old new : SourceSeen) (cycles : List (List Edge)) (line : ℕ) (kind : LineKind) : Type 0 where
+  pub text : List ℕ
+  pub before : List (List ℕ)
+  pub took : Took old new text
+  pub few : length text ≤ MAX_INPUT
+  pub no_fault : new.faults ≡ old.faults
+  pub first : FirstFault arch (lines_of (whole_of text new)) before line kind
+  pub cycles_are : cycles ≡ cycles_of arch before
+
+-- a source has more bytes than are read, no line that ends among these has a fault, nor is the last of them too long
+-- already, and these are the cycles of those lines; the line is the one after the last line feed among these bytes
+pub record ReadToLimit (arch : ArchName) (old new : SourceSeen) (cycles : List (List Edge)) (line : ℕ) : Type 0 where
+  pub text : List ℕ
+  pub took : Took old new text
+  pub many : MAX_INPUT < length text
+  pub no_fault : new.faults ≡ old.faults
+  pub sound : are_sound arch (ended_lines (take MAX_INPUT text)) ≡ true
+  pub short : is_long_line (without_return (unended (take MAX_INPUT text))) ≡ false
+  pub line_is : line ≡ line_feed_count (take MAX_INPUT text) + 1
+  pub cycles_are : cycles ≡ cycles_of arch (ended_lines (take MAX_INPUT text))
+
+-- a source failed, no line that had ended has a fault, nor was the last one too long already, and these are the cycles of
+-- those lines
+pub record ReadToStop (arch : ArchName) (old new : SourceSeen) (cycles : List (List Edge)) : Type 0 where
+  pub text : List ℕ
+  pub took : TookUpTo old new text
+  pub few : length text ≤ MAX_INPUT
+  pub fault : Rose old.faults new.faults
+  pub never_falls : old.faults ≤ new.faults
+  pub sound : are_sound arch (ended_lines text) ≡ true
+  pub short : is_long_line (without_return (unended text)) ≡ false
+  pub cycles_are : cycles ≡ cycles_of arch (ended_lines text)
+
+-- a source wasn't read to its end, for the reason that is given, and these are the cycles of the lines before
+abbrev pub ReadUpTo : ArchName → SourceSeen → SourceSeen → List (List Edge) → LinesError → Type 0
+ReadUpTo arch old new cycles (Wrong line kind) = ReadToFault arch old new cycles line kind
+ReadUpTo arch old new cycles (TooMuch line) = ReadToLimit arch old new cycles line
+ReadUpTo arch old new cycles InputFault = ReadToStop arch old new cycles
+
+-- a source was read so far, without a fault of its own
+pub record ReadSome (old new : SourceSeen) (text : List ℕ) : Type 0 where
+  pub took : Took old new text
+  pub few : length text ≤ MAX_INPUT
+  pub no_fault : new.faults ≡ old.faults
+
+-- the cycles of the lines before the first that has a fault; of all lines where none has one
+abbrev pub cycles_before : ArchName → List ℕ → List (List Edge)
+cycles_before arch text = cycles_of arch (take_while (is_sound arch) (lines_of text))

@@ -1,0 +1,58 @@
+-- What is written of the names of cycles.
+-- Source: own; the lines are those of norm7 of the herdtools suite.
+use Rattle.std.specs.Prelude.{ℕ, List, [], ◌++◌, codes, Option, Some, None, Result, Ok, Err}
+use Rattle.std.specs.List.{join_by, flat_map}
+use Rattle.diy_io.specs.Taken.{SourceSeen}
+use Rattle.diy_io.specs.Wrote.{SinkSeen, WroteAll, WrotePart}
+use Rattle.relax_edges.specs.declared.kinds.ArchName.{ArchName}
+use Rattle.relax_edges.specs.declared.edge.Edge.{Edge}
+use Rattle.relax_edges.specs.WordParts.{word_of}
+use Rattle.cycle_names.specs.CycleNames.{name_of}
+use Rattle.cycle_names.specs.Rotations.{named_rotation}
+use Rattle.cycles_from_lines.specs.declared.errors.LinesError.{LinesError}
+use Rattle.cycles_from_lines.specs.declared.errors.NormError.{NormError}
+use Rattle.cycles_from_lines.specs.declared.errors.NormError.TheVariants.{Lines, OutFault}
+use Rattle.cycles_from_lines.specs.LineReading.{ReadAll, ReadUpTo, ReadSome, cycles_before, whole_of}
+
+-- the line of a cycle: its name, and its edges in the rotation that it is named from
+unfoldable pub name_line : List Edge → List ℕ
+name_line cycle = name_of cycle ++ codes ": " ++ join_by word_of (codes " ") (named_rotation cycle) ++ codes "\n"
+
+-- the lines of cycles
+abbrev pub name_lines : List (List Edge) → List ℕ
+name_lines cycles = flat_map name_line cycles
+
+-- the line of a last cycle, if there is one
+abbrev pub last_lines : Option (List Edge) → List ℕ
+last_lines (Some cycle) = name_line cycle
+last_lines None = []
+
+-- a text is written, or a prefix of it where the sink fails
+abbrev pub WritesLast : List ℕ → SinkSeen → SinkSeen → Result (Unit {0}) NormError → Type 0
+WritesLast text before after (Ok _) = WroteAll before after text
+WritesLast text before after (Err OutFault) = WrotePart before after text
+WritesLast text before after (Err (Lines _)) = ⊥
+
+-- a source was read to its end, and the lines of its cycles were written
+pub record NormedAll (arch : ArchName) (old new : SourceSeen) (before after : SinkSeen) : Type 0 where
+  pub cycles : List (List Edge)
+  pub read : ReadAll arch old new cycles
+  pub wrote : WroteAll before after (name_lines cycles)
+
+-- a source wasn't read to its end, and the lines of the cycles before were written
+pub record NormedUpTo (arch : ArchName) (old new : SourceSeen) (before after : SinkSeen) (error : LinesError) : Type 0 where
+  pub cycles : List (List Edge)
+  pub read : ReadUpTo arch old new cycles error
+  pub wrote : WroteAll before after (name_lines cycles)
+
+-- the sink failed, and took a prefix of the lines of the cycles before the first fault of what the source had
+pub record NormedPart (arch : ArchName) (old new : SourceSeen) (before after : SinkSeen) : Type 0 where
+  pub text : List ℕ
+  pub read : ReadSome old new text
+  pub wrote : WrotePart before after (name_lines (cycles_before arch (whole_of text new)))
+
+-- the lines of the cycles of a source are written, or those before the first reason why they can't be
+abbrev pub Norms : ArchName → SourceSeen → SourceSeen → SinkSeen → SinkSeen → Result (Unit {0}) NormError → Type 0
+Norms arch old new before after (Ok _) = NormedAll arch old new before after
+Norms arch old new before after (Err (Lines error)) = NormedUpTo arch old new before after error
+Norms arch old new before after (Err OutFault) = NormedPart arch old new before after

@@ -1,0 +1,158 @@
+ghost use Rattle.std.specs.Prelude.{◌≡◌, [], ◌∷◌, ◌++◌, Some, option_map};
+ghost use Rattle.relax_edges.specs.declared.edge.Edge.{Edge};
+ghost use Rattle.relax_edges.specs.EdgeTable.{source_of, target_of, source_mark, target_mark};
+ghost use Rattle.relax_edges.specs.JoinedEdges.{is_joined};
+ghost use Rattle.edge_algebra_laws.specs.Composable.{IsCycle};
+ghost use Rattle.cycle_names.specs.Laws.{are_of_arch};
+ghost use Rattle.edges_from_text.specs.Spelled.{text_edges};
+ghost use Rattle.cycles_from_lines.specs.Cycles.{spelled_made, cycle_made, cycle_spelled, quoted_cycle};
+ghost use Rattle.cycles_from_lines.specs.KeptLines.{made_kept, said_with};
+
+use crate::errors::LineKind;
+use edge_algebra::Cycle;
+use edges_from_text::{EdgeList, Separators, read_edges};
+use relax_edges::{ArchName, Com, Dir, Edge, MAX_EDGES, Mark, UnknownEdge};
+
+/// Makes `cycle` the cycle of an architecture that a text spells, whose edges blanks separate, or
+/// finds the first fault that it has. `edges` is room for the edges: what it held doesn't count.
+#[tactic(auto, using(crate::proofs::Words::read_made, crate::proofs::Words::read_none))]
+pub(crate) fn read_cycle(
+    arch: ArchName,
+    text: &[u8],
+    edges: &mut EdgeList,
+    cycle: &mut Option<Cycle>,
+) -> Result<(), LineKind>
+    ensures { said_with result cycle.new ≡ spelled_made arch (text_edges text.now) }
+{
+    edges.clear();
+    match read_edges(text, Separators::Blanks, edges) {
+        Ok(()) => make_of(arch, edges, cycle),
+        Err(UnknownEdge) => Err(LineKind::UnknownEdge),
+    }
+}
+
+/// The cycle of an architecture that a text spells, whose edges blanks separate. `None` comes where a
+/// word in it spells no edge, and where the edges make no cycle of the architecture.
+pub fn cycle_spelled(arch: ArchName, text: &[u8]) -> Option<Cycle>
+    ensures { result ≡ cycle_spelled arch text.now }
+{
+    let mut edges = EdgeList::new();
+    let mut cycle = None;
+    match read_cycle(arch, text, &mut edges, &mut cycle) {
+        Ok(()) => cycle,
+        Err(_) => None,
+    }
+}
+
+/// The cycle of an architecture that a quoted text spells, as `cycle_spelled` finds it. `None` comes too
+/// where no text is quoted.
+pub fn quoted_cycle(arch: ArchName, quoted: Option<&[u8]>) -> Option<Cycle>
+    ensures { result ≡ quoted_cycle arch (option_map (λ text. text.now) quoted.entry) }
+{
+    match quoted {
+        Some(text) => cycle_spelled(arch, text),
+        None => None,
+    }
+}
+
+/// Makes `cycle` the cycle of an architecture that the edges of a line make, or finds their first
+/// fault.
+fn make_of(arch: ArchName, edges: &EdgeList, cycle: &mut Option<Cycle>) -> Result<(), LineKind>
+    ensures { said_with result cycle.new ≡ made_kept arch edges.now }
+{
+    match edges {
+        EdgeList::Whole(list) => make_cycle(arch, list.as_slice(), cycle),
+        EdgeList::TooLong => Err(LineKind::TooLong),
+    }
+}
+
+#[tactic(auto, using(crate::proofs::Joined::joined_cycle, crate::proofs::Joined::made_of_joined, crate::proofs::Joined::made_of_unjoined))]
+fn make_cycle(arch: ArchName, edges: &[Edge], cycle: &mut Option<Cycle>) -> Result<(), LineKind>
+    ensures { said_with result cycle.new ≡ cycle_made arch edges.now }
+{
+    let Some(first) = edges.first() else {
+        return Err(LineKind::Empty);
+    };
+    if edges.len() > MAX_EDGES {
+        return Err(LineKind::TooLong);
+    }
+    if !are_of_arch(arch, edges) {
+        return Err(LineKind::NotOfArch);
+    }
+    if !are_joined(edges, first) {
+        return Err(LineKind::DoesNotCompose);
+    }
+    keep(edges, cycle);
+    Ok(())
+}
+
+fn are_of_arch(arch: ArchName, edges: &[Edge]) -> bool
+    ensures { result ≡ are_of_arch arch edges.now }
+{
+    edges.iter().all(|edge| edge.of_arch(arch))
+}
+
+/// Whether each edge joins the next one, where `next` comes after the last.
+fn are_joined(edges: &[Edge], next: &Edge) -> bool
+    ensures { result ≡ is_joined (edges.now ++ next.now ∷ []) }
+{
+    match edges {
+        [] => true,
+        [edge, rest @ ..] => follow(directions(edge).1, marks(edge).1, rest, next),
+    }
+}
+
+/// Whether edges follow an access that does this and has this mark: whether each joins the next one,
+/// where `next` comes after the last.
+fn follow(dir: Dir, mark: Mark, edges: &[Edge], next: &Edge) -> bool
+    ensures { (edge : Edge) → target_of edge ≡ dir → target_mark edge ≡ mark → result ≡ is_joined (edge ∷ (edges.now ++ next.now ∷ [])) }
+{
+    match edges {
+        [] => dir == directions(next).0 && mark == marks(next).0,
+        [edge, rest @ ..] => {
+            let (source, target) = directions(edge);
+            let (source_mark, target_mark) = marks(edge);
+            dir == source && mark == source_mark && follow(target, target_mark, rest, next)
+        }
+    }
+}
+
+/// What the accesses do that an edge leaves and enters. Edges without marks, which are met most often,
+/// are read where they are, which `Edge::source` and `Edge::target` don't do, and once for both.
+fn directions(edge: &Edge) -> (Dir, Dir)
+    ensures source { result.0 ≡ source_of edge.now }
+    ensures target { result.1 ≡ target_of edge.now }
+{
+    match *edge {
+        Edge::Com { com: Com::Rf, .. } => (Dir::W, Dir::R),
+        Edge::Com { com: Com::Fr, .. } => (Dir::R, Dir::W),
+        Edge::Com { com: Com::Ws, .. } => (Dir::W, Dir::W),
+        Edge::Po { from, to, .. } | Edge::Fenced { from, to, .. } => (from, to),
+        Edge::Dep { to, .. } => (Dir::R, to),
+        Edge::Data { .. } => (Dir::R, Dir::W),
+        Edge::Marked(_) => (edge.source(), edge.target()),
+    }
+}
+
+/// The marks of the accesses that an edge leaves and enters.
+fn marks(edge: &Edge) -> (Mark, Mark)
+    ensures source { result.0 ≡ source_mark edge.now }
+    ensures target { result.1 ≡ target_mark edge.now }
+{
+    match *edge {
+        Edge::Marked(_) => (edge.source_mark(), edge.target_mark()),
+        _ => (Mark::Plain, Mark::Plain),
+    }
+}
+
+/// Makes `cycle` the one of edges that are known to make one. It is apart so that the edges are copied
+/// straight to their place.
+fn keep(edges: &[Edge], cycle: &mut Option<Cycle>)
+    requires { IsCycle edges.now }
+    ensures { cycle.new ≡ Some edges.now }
+{
+    match cycle {
+        Some(cycle) => cycle.refill(edges),
+        None => *cycle = Some(Cycle::of(edges)),
+    }
+}

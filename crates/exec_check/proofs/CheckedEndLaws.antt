@@ -1,0 +1,117 @@
+-- How the checking of an execution ends, by what each of the two files gives.
+use Rattle.std.proofs.Common.{◌≡◌, ℕ, List, [], ◌∷◌, ◌+◌, take, refl, ◌∙◌, subst, inl, inr}
+use Rattle.std.specs.Prelude.{Ok, Err}
+use Rattle.diy_io.specs.Count.{Rose}
+use Rattle.diy_io.specs.Shelf.{ShelfSeen}
+use Rattle.diy_io.specs.Wrote.{SinkSeen}
+use Rattle.diy_io.specs.Opened.{name_at}
+use Rattle.diy_io.proofs.FileNameLaws.{absent_before, quiet_before, file_before}
+use Rattle.diy_io.proofs.OpenedLaws.{took_no_more, took_one_more}
+use Rattle.relax_edges.specs.declared.kinds.ArchName.{ArchName}
+use Rattle.arch_trait.specs.Writing.{Writing}
+use Rattle.litmus_text.specs.declared.limits.TheConstants.{MAX_TEXT}
+use Rattle.litmus_text.specs.TestReading.{TestRead}
+use Rattle.program_meaning.specs.Executions.{Execution}
+use Rattle.exec_check.specs.declared.verdict.Verdict.{Verdict}
+use Rattle.exec_check.specs.Verdicts.{verdict_text}
+use Rattle.tests_from_files.specs.FilesRead.{FileFailed, FileIs}
+use Rattle.tests_from_files.specs.TestSaid.{test_said}
+use Rattle.tests_from_files.specs.FailedFiles.{failed_after}
+use Rattle.exec_check.specs.declared.checked_errors.CheckedKind.TheVariants as kinds
+use Rattle.exec_check.specs.declared.checked_errors.CheckFault.{CheckFault}
+use Rattle.exec_check.specs.declared.checked_errors.CheckFault.TheVariants as faults
+use Rattle.exec_check.specs.FilesChecked.{exec_said, IsTest, BothRead, VerdictSaid, ExecUnread, FilesChecked}
+use Rattle.exec_check.specs.CheckingSteps.{TestFileTo, ExecFileTo, check_end}
+
+-- the file of the test isn't what is wanted
+pub test_refused : (arch : ArchName) (w : Writing) (old new : ShelfSeen) (words : List (List ℕ)) (test exec : ℕ) (a : SinkSeen) (fault : CheckFault)
+    → TestFileTo arch w old new (name_at words test) (Err fault) → FilesChecked arch w old new words test exec a a (check_end test fault)
+test_refused arch w old new words test exec a faults.Missing h =
+    (inl (record { place_is = refl; absent = h.absent; no_fault = h.no_fault; took = h.took }), refl)
+test_refused arch w old new words test exec a faults.Device h = (record { fault = h.fault; unread = inl h.took }, refl)
+test_refused arch w old new words test exec a (faults.Wrong line (kinds.Test kind)) h = (record { place_is = refl; faulty = h }, refl)
+test_refused arch w old new words test exec a (faults.Wrong line kinds.WrongArch) h = (record { place_is = refl; faulty = h }, refl)
+test_refused arch w old new words test exec a (faults.Wrong line (kinds.Exec kind)) h = absurd h
+test_refused arch w old new words test exec a faults.NoMemory h = refl
+
+-- the test that a file is, by the files as they are shown
+test_is : (arch : ArchName) (w : Writing) (old new : ShelfSeen) (name : List ℕ) (read : TestRead) (f : FileIs (test_said arch w) old new name read)
+    → IsTest arch w old.files name f.text read
+test_is arch w old new name read f = record { named = f.named; is = f.is }
+
+-- the shelf failed at the file of the execution
+exec_failed : (arch : ArchName) (w : Writing) (old mid new : ShelfSeen) (words : List (List ℕ)) (test exec : ℕ) (read : TestRead)
+    → FileIs (test_said arch w) old mid (name_at words test) read → mid.files ≡ old.files → FileFailed mid new (name_at words exec)
+    → ExecUnread arch w old new words test exec
+exec_failed arch w old mid new words test exec read f same h = record {
+  text = f.text;
+  read = read;
+  test_is = test_is arch w old mid (name_at words test) read f;
+  took = failed_after old mid new (f.text ∷ []) (name_at words exec) same f.took h;
+}
+
+-- the file of the execution isn't what is wanted, and that of the test is
+pub exec_refused : (arch : ArchName) (w : Writing) (old mid new : ShelfSeen) (words : List (List ℕ)) (test exec : ℕ) (a : SinkSeen) (read : TestRead)
+    (fault : CheckFault) → FileIs (test_said arch w) old mid (name_at words test) read → mid.files ≡ old.files
+    → ExecFileTo arch w read mid new (name_at words exec) (Err fault) → FilesChecked arch w old new words test exec a a (check_end exec fault)
+exec_refused arch w old mid new words test exec a read faults.Missing f same h = (
+  inr (record {
+    place_is = refl;
+    text = f.text;
+    read = read;
+    test_is = test_is arch w old mid (name_at words test) read f;
+    absent = absent_before old mid new (name_at words exec) same f.no_fault h.absent;
+    no_fault = quiet_before old mid new same f.no_fault h.no_fault;
+    took = took_no_more old mid new (f.text ∷ []) f.took h.took;
+  }),
+  refl,
+)
+exec_refused arch w old mid new words test exec a read faults.Device f same h = (
+  record {
+    fault = subst (λ (m : ℕ). Rose m new.faults) f.no_fault h.fault;
+    unread = inr (exec_failed arch w old mid new words test exec read f same h);
+  },
+  refl,
+)
+exec_refused arch w old mid new words test exec a read (faults.Wrong line (kinds.Exec kind)) f same h = (
+  record {
+    place_is = refl;
+    text = f.text;
+    read = read;
+    test_is = test_is arch w old mid (name_at words test) read f;
+    shown = h.text;
+    named = file_before old mid (name_at words exec) h.text same h.named;
+    fault = h.fault;
+    took = took_one_more old mid new (f.text ∷ []) (take (MAX_TEXT + 1) h.text) f.took h.took;
+  },
+  refl,
+)
+exec_refused arch w old mid new words test exec a read (faults.Wrong line (kinds.Test kind)) f same h = absurd h
+exec_refused arch w old mid new words test exec a read (faults.Wrong line kinds.WrongArch) f same h = absurd h
+exec_refused arch w old mid new words test exec a read faults.NoMemory f same h = refl
+
+-- both files are what is wanted
+both_read : (arch : ArchName) (w : Writing) (old mid new : ShelfSeen) (words : List (List ℕ)) (test exec : ℕ) (read : TestRead) (x : Execution)
+    → FileIs (test_said arch w) old mid (name_at words test) read → mid.files ≡ old.files → FileIs (exec_said read) mid new (name_at words exec) x
+    → BothRead arch w old new words test exec read x
+both_read arch w old mid new words test exec read x f same e = record {
+  text = f.text;
+  test_is = test_is arch w old mid (name_at words test) read f;
+  shown = e.text;
+  exec_is = record { named = file_before old mid (name_at words exec) e.text same e.named; says = e.is };
+  took = took_one_more old mid new (f.text ∷ []) e.text f.took e.took;
+  no_fault = e.no_fault ∙ f.no_fault;
+}
+
+-- and this is done with the text of the verdict
+pub verdict_said : (arch : ArchName) (w : Writing) (old mid new : ShelfSeen) (words : List (List ℕ)) (test exec : ℕ) (read : TestRead) (v : Verdict)
+    (done : List ℕ → Type 0) → FileIs (test_said arch w) old mid (name_at words test) read → mid.files ≡ old.files
+    → ExecFileTo arch w read mid new (name_at words exec) (Ok v) → done (verdict_text v) → VerdictSaid arch w old new words test exec done
+verdict_said arch w old mid new words test exec read v done f same h wrote = record {
+  judged = read;
+  x = h.x;
+  read = both_read arch w old mid new words test exec read h.x f same h.file;
+  v = v;
+  is = h.is;
+  wrote = wrote;
+}

@@ -1,0 +1,115 @@
+-- What only private functions cite: what each of the two files gives.
+-- Source: own.
+use Rattle.std.specs.Prelude.{◌≡◌, ⊤, ℕ, List, Result, Ok, Err, IsErr}
+use Rattle.diy_io.specs.declared.errors.Failed.{Failed}
+use Rattle.diy_io.specs.Shelf.{ShelfSeen}
+use Rattle.relax_edges.specs.declared.kinds.ArchName.{ArchName}
+use Rattle.arch_trait.specs.PlaceNames.{number_in}
+use Rattle.arch_trait.specs.Writing.{Writing}
+use Rattle.litmus_text.specs.TestReading.{TestRead}
+use Rattle.program_meaning.specs.Executions.{Execution}
+use Rattle.exec_check.specs.declared.errors.CheckError.{CheckError}
+use Rattle.exec_check.specs.declared.errors.CheckError.TheVariants as checks
+use Rattle.exec_check.specs.declared.verdict.Verdict.{Verdict}
+use Rattle.exec_check.specs.Verdicts.{IsVerdict, Checks}
+use Rattle.tests_from_files.specs.declared.errors.FileFault.{FileFault}
+use Rattle.tests_from_files.specs.declared.errors.FileFault.TheVariants as reads
+use Rattle.tests_from_files.specs.declared.errors.NoTest.{NoTest}
+use Rattle.tests_from_files.specs.declared.errors.NoTest.TheVariants as no_tests
+use Rattle.tests_from_files.specs.declared.errors.TestFileKind.{TestFileKind}
+use Rattle.tests_from_files.specs.declared.errors.TestFileKind.TheVariants as tests
+use Rattle.diy_io.specs.Opened.{FileAbsent}
+use Rattle.tests_from_files.specs.FilesRead.{FileFailed, FileIs, FileFaulty}
+use Rattle.tests_from_files.specs.TestSaid.{test_said}
+use Rattle.exec_check.specs.declared.checked_errors.CheckedKind.{CheckedKind}
+use Rattle.exec_check.specs.declared.checked_errors.CheckedKind.TheVariants as kinds
+use Rattle.exec_check.specs.declared.checked_errors.CheckFault.{CheckFault}
+use Rattle.exec_check.specs.declared.checked_errors.CheckFault.TheVariants as faults
+use Rattle.exec_check.specs.declared.checked_errors.CheckEnd.{CheckEnd}
+use Rattle.exec_check.specs.declared.checked_errors.CheckEnd.TheVariants as ends
+use Rattle.exec_check.specs.FilesChecked.{exec_said}
+
+-- why a file isn't what is wanted of it: it isn't read
+abbrev pub check_file_fault : FileFault → CheckFault
+check_file_fault reads.Missing = faults.Missing
+check_file_fault reads.Failed = faults.Device
+check_file_fault reads.NoMemory = faults.NoMemory
+
+-- it gives no test
+abbrev pub checked_test_kind : TestFileKind → CheckedKind
+checked_test_kind (tests.Test kind) = kinds.Test kind
+checked_test_kind tests.WrongArch = kinds.WrongArch
+
+-- why a text gives no test, as why a file isn't what is wanted
+abbrev pub test_fault : NoTest → CheckFault
+test_fault (no_tests.Wrong error) = faults.Wrong error.line (checked_test_kind error.kind)
+test_fault no_tests.NoMemory = faults.NoMemory
+
+-- there is no verdict on it
+abbrev pub exec_fault : CheckError → CheckFault
+exec_fault (checks.Exec line kind) = faults.Wrong line (kinds.Exec kind)
+exec_fault checks.NoMemory = faults.NoMemory
+
+-- the end where that is the file that a word names
+abbrev pub check_end : ℕ → CheckFault → CheckEnd
+check_end word faults.Missing = ends.NoFile word
+check_end word faults.Device = ends.ShelfFault
+check_end word (faults.Wrong line kind) = ends.Wrong word line kind
+check_end word faults.NoMemory = ends.NoMemory
+
+-- the text of a file is a test, and the closing of the file failed
+pub record IsTestUnclosed (arch : ArchName) (w : Writing) (text : List ℕ) (closed : Result (Unit {0}) Failed) : Type 0 where
+  pub test : TestRead
+  pub is : test_said arch w text ≡ Ok test
+  pub failed : IsErr closed
+
+-- an answer to the file of a test with this text, where this is the answer to its closing: that the device failed only where the text
+-- has no fault
+abbrev pub TestClosedTo : ArchName → Writing → List ℕ → Result (Unit {0}) Failed → Result TestRead CheckFault → Type 0
+TestClosedTo arch w text closed (Ok test) = (test_said arch w text ≡ Ok test) × (closed ≡ Ok tt)
+TestClosedTo arch w text closed (Err faults.Missing) = ⊥
+TestClosedTo arch w text closed (Err faults.Device) = IsTestUnclosed arch w text closed
+TestClosedTo arch w text closed (Err (faults.Wrong line (kinds.Test kind))) = test_said arch w text ≡ Err (record { line = line; kind = tests.Test kind })
+TestClosedTo arch w text closed (Err (faults.Wrong line kinds.WrongArch)) = test_said arch w text ≡ Err (record { line = line; kind = tests.WrongArch })
+TestClosedTo arch w text closed (Err (faults.Wrong line (kinds.Exec kind))) = ⊥
+TestClosedTo arch w text closed (Err faults.NoMemory) = ⊤
+
+-- an answer to the file of a test
+abbrev pub TestFileTo : ArchName → Writing → ShelfSeen → ShelfSeen → List ℕ → Result TestRead CheckFault → Type 0
+TestFileTo arch w old new name (Ok test) = FileIs (test_said arch w) old new name test
+TestFileTo arch w old new name (Err faults.Missing) = FileAbsent old new name
+TestFileTo arch w old new name (Err faults.Device) = FileFailed old new name
+TestFileTo arch w old new name (Err (faults.Wrong line (kinds.Test kind))) = FileFaulty (test_said arch w) old new name (record { line = line; kind = tests.Test kind })
+TestFileTo arch w old new name (Err (faults.Wrong line kinds.WrongArch)) = FileFaulty (test_said arch w) old new name (record { line = line; kind = tests.WrongArch })
+TestFileTo arch w old new name (Err (faults.Wrong line (kinds.Exec kind))) = ⊥
+TestFileTo arch w old new name (Err faults.NoMemory) = ⊤
+
+-- a file holds an execution of a test, and this is the verdict on it
+pub record FileVerdict (arch : ArchName) (w : Writing) (test : TestRead) (old new : ShelfSeen) (name : List ℕ) (v : Verdict) : Type 0 where
+  pub x : Execution
+  pub file : FileIs (exec_said test) old new name x
+  pub is : IsVerdict arch (number_in w.registers) test x v
+
+-- there is a verdict on the text of a file, and the closing of the file failed
+pub record IsExecUnclosed (arch : ArchName) (w : Writing) (test : TestRead) (text : List ℕ) (closed : Result (Unit {0}) Failed) : Type 0 where
+  pub verdict : Verdict
+  pub is : Checks arch (number_in w.registers) test text (Ok verdict)
+  pub failed : IsErr closed
+
+-- an answer to the file of an execution with this text, in the same way
+abbrev pub ExecClosedTo : ArchName → Writing → TestRead → List ℕ → Result (Unit {0}) Failed → Result Verdict CheckFault → Type 0
+ExecClosedTo arch w test text closed (Ok v) = Checks arch (number_in w.registers) test text (Ok v) × (closed ≡ Ok tt)
+ExecClosedTo arch w test text closed (Err faults.Missing) = ⊥
+ExecClosedTo arch w test text closed (Err faults.Device) = IsExecUnclosed arch w test text closed
+ExecClosedTo arch w test text closed (Err (faults.Wrong line (kinds.Exec kind))) = Checks arch (number_in w.registers) test text (Err (checks.Exec line kind))
+ExecClosedTo arch w test text closed (Err (faults.Wrong line kind)) = ⊥
+ExecClosedTo arch w test text closed (Err faults.NoMemory) = ⊤
+
+-- an answer to the file of an execution of a test
+abbrev pub ExecFileTo : ArchName → Writing → TestRead → ShelfSeen → ShelfSeen → List ℕ → Result Verdict CheckFault → Type 0
+ExecFileTo arch w test old new name (Ok v) = FileVerdict arch w test old new name v
+ExecFileTo arch w test old new name (Err faults.Missing) = FileAbsent old new name
+ExecFileTo arch w test old new name (Err faults.Device) = FileFailed old new name
+ExecFileTo arch w test old new name (Err (faults.Wrong line (kinds.Exec kind))) = FileFaulty (exec_said test) old new name (record { line = line; kind = kind })
+ExecFileTo arch w test old new name (Err (faults.Wrong line kind)) = ⊥
+ExecFileTo arch w test old new name (Err faults.NoMemory) = ⊤

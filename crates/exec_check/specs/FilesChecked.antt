@@ -1,0 +1,138 @@
+-- How a call ended that checks an execution of a test, both in files, and what it did to its devices.
+-- Source: own.
+use Rattle.std.specs.Prelude.{◌≡◌, ◌⊎◌, ◌+◌, ℕ, List, [], ◌∷◌, length, take, Option, Some, None, IfSome, MatchOption, Result, Ok, Err}
+use Rattle.diy_io.specs.Count.{Rose}
+use Rattle.diy_io.specs.Shelf.{Files, ShelfSeen}
+use Rattle.diy_io.specs.Wrote.{SinkSeen, WroteAll, WrotePart}
+use Rattle.diy_io.specs.Opened.{IsFile, TookFiles, name_at}
+use Rattle.relax_edges.specs.declared.kinds.ArchName.{ArchName}
+use Rattle.arch_trait.specs.PlaceNames.{number_in}
+use Rattle.arch_trait.specs.Writing.{Writing}
+use Rattle.litmus_text.specs.declared.limits.TheConstants.{MAX_TEXT}
+use Rattle.litmus_text.specs.TestReading.{TestRead}
+use Rattle.program_meaning.specs.Executions.{Execution}
+use Rattle.exec_text.specs.declared.errors.ExecFault.{ExecFault}
+use Rattle.exec_text.specs.ExecutionText.{execution_read}
+use Rattle.exec_check.specs.declared.verdict.Verdict.{Verdict}
+use Rattle.exec_check.specs.Verdicts.{IsVerdict, verdict_text}
+use Rattle.tests_from_files.specs.declared.errors.TestFileError.{TestFileError}
+use Rattle.tests_from_files.specs.declared.errors.TestFileKind.TheVariants as tests
+use Rattle.tests_from_files.specs.FilesRead.{Begins, FileFaulty}
+use Rattle.tests_from_files.specs.TestSaid.{test_said}
+use Rattle.exec_check.specs.declared.checked_errors.CheckedKind.{CheckedKind}
+use Rattle.exec_check.specs.declared.checked_errors.CheckedKind.TheVariants as kinds
+use Rattle.exec_check.specs.declared.checked_errors.CheckEnd.{CheckEnd}
+use Rattle.exec_check.specs.declared.checked_errors.CheckEnd.TheVariants as ends
+
+-- what a text says as an execution of a test, or its first fault
+abbrev pub exec_said : TestRead → List ℕ → Result Execution ExecFault
+exec_said test text = execution_read (length test.threads) test.places text
+
+-- a file has this text, and is this test of an architecture
+pub record IsTest (arch : ArchName) (w : Writing) (files : Option Files) (name text : List ℕ) (test : TestRead) : Type 0 where
+  pub named : IsFile files name text
+  pub is : test_said arch w text ≡ Ok test
+
+-- a file has this text, and holds this execution of a test
+pub record SaysExecution (test : TestRead) (files : Option Files) (name text : List ℕ) (x : Execution) : Type 0 where
+  pub named : IsFile files name text
+  pub says : exec_said test text ≡ Ok x
+
+-- the files that the words at two places name are a test of an architecture and an execution of it
+pub record AreTestAndExecution (files : Files) (arch : ArchName) (w : Writing) (words : List (List ℕ)) (test exec : ℕ) : Type 0 where
+  pub text : List ℕ
+  pub there : files (name_at words test) ≡ Some text
+  pub read : TestRead
+  pub is_test : test_said arch w text ≡ Ok read
+  pub shown : List ℕ
+  pub shown_there : files (name_at words exec) ≡ Some shown
+  pub x : Execution
+  pub is_execution : execution_read (length read.threads) read.places shown ≡ Ok x
+
+-- the files of the two words are this test and this execution of it, each was opened once, in this order, and read to its end, and
+-- the shelf didn't fail
+pub record BothRead (arch : ArchName) (w : Writing) (old new : ShelfSeen) (words : List (List ℕ)) (test exec : ℕ) (read : TestRead) (x : Execution) : Type 0 where
+  pub text : List ℕ
+  pub test_is : IsTest arch w old.files (name_at words test) text read
+  pub shown : List ℕ
+  pub exec_is : SaysExecution read old.files (name_at words exec) shown x
+  pub took : TookFiles old new (text ∷ shown ∷ [])
+  pub no_fault : new.faults ≡ old.faults
+
+-- both files were read, this is the verdict, and this was done with its text
+pub record VerdictSaid (arch : ArchName) (w : Writing) (old new : ShelfSeen) (words : List (List ℕ)) (test exec : ℕ) (done : List ℕ → Type 0) : Type 0 where
+  pub judged : TestRead
+  pub x : Execution
+  pub read : BothRead arch w old new words test exec judged x
+  pub v : Verdict
+  pub is : IsVerdict arch (number_in w.registers) judged x v
+  pub wrote : done (verdict_text v)
+
+-- the file of the test has this first fault, and all of it was taken, or its first bytes, one more than a test may have; no other was
+-- opened
+pub record TestWrong (arch : ArchName) (w : Writing) (old new : ShelfSeen) (words : List (List ℕ)) (test file : ℕ) (error : TestFileError) : Type 0 where
+  pub place_is : file ≡ test
+  pub faulty : FileFaulty (test_said arch w) old new (name_at words test) error
+
+-- the file of the test is a test and was read to its end; then that of the execution has this first fault, and so much was taken of it
+pub record ExecWrong (arch : ArchName) (w : Writing) (old new : ShelfSeen) (words : List (List ℕ)) (test exec file : ℕ) (error : ExecFault) : Type 0 where
+  pub place_is : file ≡ exec
+  pub text : List ℕ
+  pub read : TestRead
+  pub test_is : IsTest arch w old.files (name_at words test) text read
+  pub shown : List ℕ
+  pub named : IsFile old.files (name_at words exec) shown
+  pub fault : exec_said read shown ≡ Err error
+  pub took : TookFiles old new (text ∷ take (MAX_TEXT + 1) shown ∷ [])
+
+-- the one or the other, by the kind of the fault
+abbrev pub IsWrongFile : ArchName → Writing → ShelfSeen → ShelfSeen → List (List ℕ) → ℕ → ℕ → ℕ → ℕ → CheckedKind → Type 0
+IsWrongFile arch w old new words test exec file line (kinds.Test kind) = TestWrong arch w old new words test file (record { line = line; kind = tests.Test kind })
+IsWrongFile arch w old new words test exec file line kinds.WrongArch = TestWrong arch w old new words test file (record { line = line; kind = tests.WrongArch })
+IsWrongFile arch w old new words test exec file line (kinds.Exec kind) = ExecWrong arch w old new words test exec file (record { line = line; kind = kind })
+
+-- the word of the test names no file, where the files are shown, and then no fault came; none was opened
+pub record TestAbsent (old new : ShelfSeen) (words : List (List ℕ)) (test word : ℕ) : Type 0 where
+  pub place_is : word ≡ test
+  pub absent : MatchOption old.files (Rose old.faults new.faults) (λ there. there (name_at words test) ≡ None)
+  pub no_fault : IfSome old.files (λ there. new.faults ≡ old.faults)
+  pub took : TookFiles old new []
+
+-- that of the execution names none, in the same way; the file of the test is a test and was read to its end, and no other was opened
+pub record ExecAbsent (arch : ArchName) (w : Writing) (old new : ShelfSeen) (words : List (List ℕ)) (test exec word : ℕ) : Type 0 where
+  pub place_is : word ≡ exec
+  pub text : List ℕ
+  pub read : TestRead
+  pub test_is : IsTest arch w old.files (name_at words test) text read
+  pub absent : MatchOption old.files (Rose old.faults new.faults) (λ there. there (name_at words exec) ≡ None)
+  pub no_fault : IfSome old.files (λ there. new.faults ≡ old.faults)
+  pub took : TookFiles old new (text ∷ [])
+
+-- the word of the test or that of the execution names no file
+abbrev pub IsAbsent : ArchName → Writing → ShelfSeen → ShelfSeen → List (List ℕ) → ℕ → ℕ → ℕ → Type 0
+IsAbsent arch w old new words test exec word = TestAbsent old new words test word ⊎ ExecAbsent arch w old new words test exec word
+
+-- the file of the test wasn't opened, or so many bytes were taken of it as a test may have, at most
+abbrev pub TestUnread : ShelfSeen → ShelfSeen → List ℕ → Type 0
+TestUnread old new name = TookFiles old new [] ⊎ ((bytes : List ℕ) × Begins old.files name bytes × TookFiles old new (bytes ∷ []))
+
+-- the same of the file of the execution, after that of the test was read to its end and is a test
+pub record ExecUnread (arch : ArchName) (w : Writing) (old new : ShelfSeen) (words : List (List ℕ)) (test exec : ℕ) : Type 0 where
+  pub text : List ℕ
+  pub read : TestRead
+  pub test_is : IsTest arch w old.files (name_at words test) text read
+  pub took : TookFiles old new (text ∷ []) ⊎ ((bytes : List ℕ) × Begins old.files (name_at words exec) bytes × TookFiles old new (text ∷ bytes ∷ []))
+
+-- the shelf failed at the one or the other
+pub record CheckShelfFailed (arch : ArchName) (w : Writing) (old new : ShelfSeen) (words : List (List ℕ)) (test exec : ℕ) : Type 0 where
+  pub fault : Rose old.faults new.faults
+  pub unread : TestUnread old new (name_at words test) ⊎ ExecUnread arch w old new words test exec
+
+-- how the checking of the execution that the word at the place exec names ended, as one of the test that the word at test names
+abbrev pub FilesChecked : ArchName → Writing → ShelfSeen → ShelfSeen → List (List ℕ) → ℕ → ℕ → SinkSeen → SinkSeen → CheckEnd → Type 0
+FilesChecked arch w old new words test exec before after ends.Done = VerdictSaid arch w old new words test exec (WroteAll before after)
+FilesChecked arch w old new words test exec before after ends.OutFault = VerdictSaid arch w old new words test exec (WrotePart before after)
+FilesChecked arch w old new words test exec before after (ends.Wrong file line kind) = IsWrongFile arch w old new words test exec file line kind × (after ≡ before)
+FilesChecked arch w old new words test exec before after (ends.NoFile word) = IsAbsent arch w old new words test exec word × (after ≡ before)
+FilesChecked arch w old new words test exec before after ends.ShelfFault = CheckShelfFailed arch w old new words test exec × (after ≡ before)
+FilesChecked arch w old new words test exec before after ends.NoMemory = after ≡ before

@@ -1,0 +1,14 @@
+-- What holds in the loop over the places.
+use Rattle.std.proofs.Common.{◌≡◌, ◌+◌, map, drop, length}
+use Rattle.exec_meaning.specs.KeptExecutions.{with_write}
+use Rattle.exec_text.specs.declared.errors.ExecKind.TheVariants.{BadPlace, BadWrite}
+use Rattle.text_parts_laws.specs.Lines.{lines_of}
+use Rattle.exec_text.specs.ExecutionText.{access_named, line_read, each_line_read, place_head}
+use Rattle.exec_text.specs.ExecutionSteps.{lines_added}
+use Rattle.exec_text.proofs.reading.read_places.Given as goal
+
+abbrev pub invariant-loop-place : goal.invariant-loop-place
+invariant-loop-place l =
+    (length l.exec.orders ≡ length l.places)
+    × (lines_added with_write l.exec l.place (each_line_read (line_read BadPlace BadWrite (access_named l.threads)) (l.threads + l.place + 1) (map place_head (drop l.place l.places)) (lines_of l.left))
+    ≡ lines_added with_write l.fn.exec 0 (each_line_read (line_read BadPlace BadWrite (access_named l.fn.threads)) (l.fn.threads + 1) (map place_head l.fn.places) (lines_of l.fn.text)))

@@ -1,0 +1,15 @@
+-- What holds in the loop over the threads.
+use Rattle.std.proofs.Common.{◌≡◌, ◌+◌, ◌-◌, map, length}
+use Rattle.std.specs.List.{range_with_len}
+use Rattle.exec_meaning.specs.KeptExecutions.{with_read}
+use Rattle.exec_text.specs.declared.errors.ExecKind.TheVariants.{BadThread, BadRead}
+use Rattle.text_parts_laws.specs.Lines.{lines_of}
+use Rattle.exec_text.specs.ExecutionText.{read_named, line_read, each_line_read, thread_head}
+use Rattle.exec_text.specs.ExecutionSteps.{lines_added}
+use Rattle.exec_text.proofs.reading.read_threads.Given as goal
+
+abbrev pub invariant-loop-thread : goal.invariant-loop-thread
+invariant-loop-thread l =
+    (length l.exec.reads ≡ l.threads)
+    × (lines_added with_read l.exec l.thread (each_line_read (line_read BadThread BadRead (read_named l.threads)) (l.thread + 1) (map thread_head (range_with_len l.thread (l.threads - l.thread))) (lines_of l.left))
+    ≡ lines_added with_read l.fn.exec 0 (each_line_read (line_read BadThread BadRead (read_named l.fn.threads)) (1) (map thread_head (range_with_len 0 l.fn.threads)) (lines_of l.fn.text)))

@@ -1,4 +1,0 @@
-pub mod Bare
-pub mod Rooms
-pub mod Slots
-pub mod Tests

@@ -1,4 +1,0 @@
-pub mod OpenedLaws
-pub mod NameLaws
-pub mod FaultLaws
-pub mod ConsumedLaws

@@ -1,6 +1,0 @@
--- The forms of operands that are left grow fewer.
-use Rattle.std.proofs.Common.{length}
-use Rattle.instruction_forms.proofs.fits.+fits.Given as goal
-
-abbrev pub decreases-fits : goal.decreases-fits
-decreases-fits l = length l.pieces.now

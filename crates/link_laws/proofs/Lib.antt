@@ -1,4 +1,0 @@
-pub mod Distances
-pub mod OneLink
-pub mod Levels
-pub mod Outcomes

@@ -1,6 +1,0 @@
--- That `run_after` ends: the edges get fewer.
-use Rattle.std.proofs.Common.{length}
-use Rattle.listed_tests.proofs.runs.+run_after.Given as goal
-
-abbrev pub decreases-run_after : goal.decreases-run_after
-decreases-run_after l = length l.edges.now

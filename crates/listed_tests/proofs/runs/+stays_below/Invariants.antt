@@ -1,6 +1,0 @@
--- That `stays_below` ends: the edges get fewer.
-use Rattle.std.proofs.Common.{length}
-use Rattle.listed_tests.proofs.runs.+stays_below.Given as goal
-
-abbrev pub decreases-stays_below : goal.decreases-stays_below
-decreases-stays_below l = length l.edges.now

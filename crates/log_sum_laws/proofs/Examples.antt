@@ -1,0 +1,117 @@
+-- The laws tried on logs.
+use Rattle.std.proofs.Common.{◌≡◌, ℕ, ◌≤◌, List, [], ◌∷◌, ◌++◌, length, drop, refl, sym, ◌∙◌, arith, subst, Some}
+use Rattle.std.specs.Str.{bytes_eq}
+use Rattle.std.proofs.lemmas.Slice.Eq.{bytes_eq-Decides}
+use Rattle.log_sum.specs.Facts.{Fact, Entry, a_kind, a_row, a_condition, a_hash, row_with, facts_of, marked_sum, state_sum, states_of, mark_in, fact_fault}
+use Rattle.log_sum_laws.specs.Laws.{IsSum}
+use Rattle.log_sum_laws.proofs.Cases.{Forbidden, Plain, NotValidated}
+use Rattle.log_sum_laws.proofs.Blocks.{entry}
+use Rattle.log_sum_laws.proofs.Agreeing.{fact_elsewhere}
+use Rattle.std.specs.Prelude.{codes, Result, Ok, Err}
+use Rattle.std.specs.Fmt.{digits}
+use Rattle.list_laws.proofs.Cases.{by_test}
+use Rattle.log_sum.specs.declared.errors.LogKind.TheVariants.{HashDiffers}
+use Rattle.log_sum.specs.declared.errors.LogError.{LogError}
+use Rattle.text_parts_laws.specs.LeadingRuns.{leading_run, after_run}
+use Rattle.text_parts_laws.specs.Blanks.{before_blanks}
+use Rattle.text_parts_laws.specs.Words.{words}
+use Rattle.diy_io.specs.Count.{last_count}
+use Rattle.log_sum.specs.Counts.{count_read}
+use Rattle.log_sum.specs.LogStates.{form_read, with_pieces, state_read, state_form}
+use Rattle.text_parts_laws.specs.Cuts.{cut_at}
+use Rattle.log_sum.specs.LogLines.{test_line, histogram_line, log_row, condition_line, hash_line, log_line_said, place_after, fact_said}
+use Rattle.log_sum.specs.LogGrammar.{log_texts}
+use Rattle.log_sum.specs.LogReading.{text_judged, line_judged, last_judged, file_judged}
+use Rattle.text_parts_laws.specs.Lines.{without_return, whole_lines, unended}
+use Rattle.log_sum.specs.Summed.{summed}
+use Rattle.log_sum.specs.SumText.{state_line, head_text, sum_verdict_text, condition_text, claim_text, hash_text, observation_text, summed_text, sum_text}
+use Rattle.log_sum.specs.Representing.{logs_text}
+
+abbrev nl : List ℕ → List ℕ
+nl line = line ++ 10 ∷ []
+
+-- a block of one state, with or without a hash
+abbrev block : List ℕ → List ℕ → List ℕ → List ℕ
+block state verdict hash =
+    nl (codes "Test T Forbidden") ++ nl (codes "Histogram (1 state)") ++ nl state ++ nl (codes "Ok")
+    ++ nl (codes "Condition ~exists (x=1) " ++ verdict) ++ hash ++ nl (codes "Observation T Never 0 1")
+
+abbrev one_log : List ℕ
+one_log = block (codes "7:>y=0;x=0;") (codes "is validated") []
+
+abbrev other_log : List ℕ
+other_log = block (codes "5 :>[x]=0; y=0;") (codes "is NOT validated") (nl (codes "Hash=a"))
+
+abbrev all : List ℕ
+all =
+    nl (codes "Test T Forbidden") ++ nl (codes "Histogram (1 states)") ++ nl (codes "12    :>[x]=0; [y]=0;") ++ nl (codes "No")
+    ++ nl [] ++ nl (codes "Witnesses") ++ nl (codes "Positive: 0, Negative: 12")
+    ++ nl (codes "Condition ~exists (x=1) is NOT validated") ++ nl (codes "Hash=a")
+    ++ nl (codes "Observation T Never 0 12") ++ nl []
+
+abbrev or_nothing : Result (List ℕ) LogError → List ℕ
+or_nothing (Ok text) = text
+or_nothing (Err error) = []
+
+together : logs_text (one_log ∷ other_log ∷ []) ≡ Ok all
+unfolding logs_text log_texts form_read digits leading_run after_run before_blanks words count_read cut_at with_pieces state_read state_form marked_sum state_sum states_of mark_in fact_fault test_line histogram_line log_row condition_line hash_line log_line_said place_after fact_said text_judged without_return line_judged whole_lines unended last_judged file_judged summed state_line head_text sum_verdict_text condition_text claim_text hash_text observation_text summed_text sum_text
+together = refl
+
+by_sums : logs_text (or_nothing (logs_text (one_log ∷ [])) ∷ or_nothing (logs_text (other_log ∷ [])) ∷ []) ≡ Ok all
+unfolding logs_text log_texts form_read digits leading_run after_run before_blanks words count_read cut_at with_pieces state_read state_form marked_sum state_sum states_of mark_in fact_fault test_line histogram_line log_row condition_line hash_line log_line_said place_after fact_said text_judged without_return line_judged whole_lines unended last_judged file_judged summed state_line head_text sum_verdict_text condition_text claim_text hash_text observation_text summed_text sum_text
+by_sums = refl
+
+-- a hash that ends with a carriage return isn't read back
+abbrev returned : List ℕ
+returned = block (codes "7:>x=0;") (codes "is validated") (nl (codes "Hash=a" ++ 13 ∷ 13 ∷ []))
+
+not_read_back : logs_text (or_nothing (logs_text (returned ∷ [])) ∷ returned ∷ []) ≡ Err (record { line = 6; kind = HashDiffers })
+unfolding logs_text log_texts form_read digits leading_run after_run before_blanks words count_read cut_at with_pieces state_read state_form marked_sum state_sum states_of mark_in fact_fault test_line histogram_line log_row condition_line hash_line log_line_said place_after fact_said text_judged without_return line_judged whole_lines unended last_judged file_judged summed state_line head_text sum_verdict_text condition_text claim_text hash_text observation_text summed_text sum_text
+not_read_back = refl
+
+-- a printed sum that keeps the limits
+abbrev name : List ℕ
+name = codes "T"
+
+abbrev printed_other : List Entry
+printed_other =
+    entry name (a_kind Forbidden) ∷ entry name (a_row (row_with (codes "[x]=0; [y]=0;") Plain 5))
+    ∷ entry name (a_condition (codes "~exists (x=1)") NotValidated) ∷ entry name (a_hash (codes "a")) ∷ []
+
+facts_here : (test : List ℕ) (P : List Fact → Type 0) → P (facts_of name printed_other) → P [] → P (facts_of test printed_other)
+facts_here test P here none =
+    by_test (bytes_eq name test)
+    (λ e. let same : name ≡ test = (bytes_eq-Decides name test).0 e in subst (λ n. P (facts_of n printed_other)) same here)
+    (λ e. let elsewhere : facts_of test printed_other ≡ [] =
+    fact_elsewhere test (entry name (a_kind Forbidden)) (drop 1 printed_other) e ∙ fact_elsewhere test (entry name (a_row (row_with (codes "[x]=0; [y]=0;") Plain 5))) (drop 2 printed_other) e
+    ∙ fact_elsewhere test (entry name (a_condition (codes "~exists (x=1)") NotValidated)) (drop 3 printed_other) e ∙ fact_elsewhere test (entry name (a_hash (codes "a"))) [] e in
+    subst P (sym elsewhere) none)
+
+few_here : length (summed (facts_of name printed_other)).states ≤ last_count
+unfolding summed states_of
+few_here = omega arith
+
+few_nowhere : length (summed []).states ≤ last_count
+unfolding summed states_of
+few_nowhere = omega arith
+
+hash_here : (hash : List ℕ) → (summed (facts_of name printed_other)).hash ≡ Some hash → without_return hash ≡ hash
+unfolding summed without_return
+hash_here hash h = let same : codes "a" ≡ hash = cc in subst (λ t. without_return t ≡ t) same refl
+
+hash_nowhere : (hash : List ℕ) → (summed []).hash ≡ Some hash → without_return hash ≡ hash
+unfolding summed
+hash_nowhere hash h = absurd (cc)
+
+a_sum_that_keeps_them : IsSum (other_log ∷ []) (sum_text printed_other)
+unfolding log_texts form_read digits leading_run after_run before_blanks words count_read cut_at with_pieces state_read state_form marked_sum state_sum states_of mark_in fact_fault test_line histogram_line log_row condition_line hash_line log_line_said place_after fact_said text_judged without_return line_judged whole_lines unended last_judged file_judged summed state_line head_text sum_verdict_text condition_text claim_text hash_text observation_text summed_text sum_text
+a_sum_that_keeps_them = record {
+  entries = printed_other;
+  judged = refl;
+  printed = refl;
+  limits = record {
+    lines = refl;
+    states = grind arith;
+    hashes = grind arith;
+  };
+}

@@ -1,0 +1,52 @@
+-- The laws of sums of sums.
+-- Source: own.
+use Rattle.std.specs.Prelude.{◌≡◌, ℕ, ◌≤◌, true, not, List, [], ◌∷◌, ◌++◌, length, Some, Ok}
+use Rattle.std.specs.List.{list_all}
+use Rattle.diy_io.specs.Count.{last_count}
+use Rattle.log_sum.specs.Facts.{Entry, facts_of}
+use Rattle.log_sum.specs.LogReading.{is_too_long}
+use Rattle.log_sum.specs.LogGrammar.{all_judged}
+use Rattle.text_parts_laws.specs.Lines.{without_return, whole_lines}
+use Rattle.log_sum.specs.Summed.{summed}
+use Rattle.log_sum.specs.SumText.{sum_text}
+use Rattle.log_sum.specs.Representing.{logs_text}
+
+-- a printed sum keeps the limits of a log: none of its lines is too long, the number of the states of each test isn't above the
+-- greatest count, and no hash ends with a carriage return, which would be taken for a part of the line's end
+pub record KeepsSumLimits (entries : List Entry) : Type 0 where
+  pub lines : list_all (λ line. not (is_too_long line)) (whole_lines (sum_text entries)) ≡ true
+  pub states : (test : List ℕ) → length (summed (facts_of test entries)).states ≤ last_count
+  pub hashes : (test hash : List ℕ) → (summed (facts_of test entries)).hash ≡ Some hash → without_return hash ≡ hash
+
+-- logs have no fault
+pub record NoFault (logs : List (List ℕ)) : Type 0 where
+  pub text : List ℕ
+  pub is : logs_text logs ≡ Ok text
+
+-- a text is the printed sum of logs without a fault, and keeps the limits
+pub record IsSum (logs : List (List ℕ)) (text : List ℕ) : Type 0 where
+  pub entries : List Entry
+  pub judged : all_judged [] logs ≡ Ok entries
+  pub printed : text ≡ sum_text entries
+  pub limits : KeepsSumLimits entries
+
+-- files represent logs, in their order: each file is a log, or the printed sum of files that represent logs
+pub data Represent : List (List ℕ) → List (List ℕ) → Type 0 where
+  none : Represent [] []
+  a_log : (log : List ℕ) (files logs : List (List ℕ)) (rest : Represent files logs) → Represent (log ∷ files) (log ∷ logs)
+  a_sum : (text : List ℕ) (parts leaves files logs : List (List ℕ)) (below : Represent parts leaves) (sum : IsSum parts text) (rest : Represent files logs) → Represent (text ∷ files) (leaves ++ logs)
+
+-- a printed sum is a log without a fault, whose sum it is
+pub record SumsAreLogs : Type 0 where
+  pub same : (logs : List (List ℕ)) (text : List ℕ) → IsSum logs text → logs_text (text ∷ []) ≡ Ok text
+
+-- the sum of sums is the sum
+pub record SumOfSums : Type 0 where
+  pub two :
+      (first second : List (List ℕ)) (one other : List ℕ) → NoFault (first ++ second) → IsSum first one → IsSum second other
+      → logs_text (one ∷ other ∷ []) ≡ logs_text (first ++ second)
+  pub between :
+      (before logs after : List (List ℕ)) (text : List ℕ) → NoFault (before ++ (logs ++ after)) → IsSum logs text
+      → logs_text (before ++ text ∷ after) ≡ logs_text (before ++ (logs ++ after))
+  pub trees : (files logs : List (List ℕ)) → Represent files logs → NoFault logs → logs_text files ≡ logs_text logs
+  pub parts : (first second : List (List ℕ)) → NoFault (first ++ second) → NoFault first × NoFault second

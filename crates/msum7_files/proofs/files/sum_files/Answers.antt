@@ -1,0 +1,44 @@
+-- `sum_files` sums the files that words name, one after another, and writes their sum.
+use Rattle.std.proofs.Common.{◌∙◌, sym, subst, arith}
+use Rattle.diy_io.specs.Wrote.{SinkSeen}
+use Rattle.msum7_files.specs.declared.sum_end.SumEnd.{SumEnd}
+use Rattle.msum7_files.specs.SumEnds.{FilesSummed}
+use Rattle.msum7_files.proofs.FilesLaws.{one_more, files_refused, files_said}
+use Rattle.msum7_files.proofs.files.sum_files.Goals as goal
+
+pub returns-in-Err-clause-summed : goal.returns-in-Err-clause-summed
+returns-in-Err-clause-summed g c =
+    let out : SinkSeen = g.O.Sink.seen c.args.out.now in
+    let P : SumEnd → Type 0 = λ end.
+    FilesSummed (g.H.Shelf.seen c.args.shelf.now) (g.H.Shelf.seen c.sum_file.new.shelf) c.args.words.now c.args.first out out end in
+    subst P (sym c.end_at.ensures)
+    (files_refused (g.H.Shelf.seen c.args.shelf.now) (g.H.Shelf.seen c.loop-word.shelf) (g.H.Shelf.seen c.sum_file.new.shelf) out
+    c.loop-word.feeding c.sum_file.new.feeding c.args.words.now c.args.first c.loop-word.word c.get.result.now c.in-Err.fault
+    c.loop-word.invariant.so_far c.loop-word.invariant.files c.get.ensures
+    (c.in-Err.ensures.summed c.loop-word.invariant.so_far.logs c.loop-word.invariant.so_far.reads))
+
+pub loop-word-preserved : goal.loop-word-preserved
+loop-word-preserved g c = record {
+  so_far =
+      one_more (g.H.Shelf.seen c.args.shelf.now) (g.H.Shelf.seen c.loop-word.shelf) (g.H.Shelf.seen c.sum_file.new.shelf)
+      c.loop-word.feeding c.sum_file.new.feeding c.args.words.now c.args.first c.loop-word.word c.get.result.now
+      c.loop-word.invariant.so_far c.loop-word.invariant.files c.get.ensures
+      (c.in_default-sum_file.ensures.summed c.loop-word.invariant.so_far.logs c.loop-word.invariant.so_far.reads);
+  mode = c.sum_file.ensures.mode;
+  files = c.sum_file.ensures.files ∙ c.loop-word.invariant.files;
+}
+
+pub write_sum-requires : goal.write_sum-requires
+write_sum-requires g c = record { files = c.loop-word.invariant.so_far.logs; represents = c.loop-word.invariant.so_far.reads.represents }
+
+pub returns-in-Ok-write_sum-clause-summed : goal.returns-in-Ok-write_sum-clause-summed
+returns-in-Ok-write_sum-clause-summed g c =
+    let w = c.in-Ok-write_sum.ensures _ c.loop-word.invariant.so_far.reads in
+    files_said (g.H.Shelf.seen c.args.shelf.now) (g.H.Shelf.seen c.loop-word.shelf) _ c.loop-word.feeding c.args.words.now c.args.first c.loop-word.word
+    c.loop-word.invariant.so_far (omega arith) w.sum w.is w.wrote.ok
+
+pub returns-clause-summed : goal.returns-clause-summed
+returns-clause-summed g c =
+    let w = c.in-Err-write_sum.ensures _ c.loop-word.invariant.so_far.reads in
+    files_said (g.H.Shelf.seen c.args.shelf.now) (g.H.Shelf.seen c.loop-word.shelf) _ c.loop-word.feeding c.args.words.now c.args.first c.loop-word.word
+    c.loop-word.invariant.so_far (omega arith) w.sum w.is w.wrote.failed

@@ -1,0 +1,73 @@
+-- Logs in the files of a shelf.
+-- Source: own.
+use Rattle.std.specs.Prelude.{◌≡◌, ◌+◌, ◌⊎◌, ℕ, List, [], ◌∷◌, ◌++◌, length, Some, Result, Ok, Err}
+use Rattle.diy_io.specs.Count.{Rose}
+use Rattle.diy_io.specs.Shelf.{Mode, Idle, IsReading, ShelfSeen, left_to_read}
+use Rattle.diy_io.specs.Taken.{SourceSeen}
+use Rattle.msum7_files.specs.declared.feeding.Feeding.{Feeding}
+use Rattle.msum7_files.specs.declared.feeding.LogFault.{LogFault}
+use Rattle.msum7_files.specs.declared.files.FileFault.{FileFault}
+use Rattle.msum7_files.specs.declared.files.FileFault.TheVariants.{Missing, Read}
+use Rattle.msum7_files.specs.declared.sum_end.SumEnd.{SumEnd}
+use Rattle.msum7_files.specs.declared.sum_end.SumEnd.TheVariants as ends
+use Rattle.msum7_files.specs.FileFaults.{sum_end_at}
+use Rattle.msum7_files.specs.Logs.{IsShort}
+use Rattle.msum7_files.specs.FileFeeding.{ReadsLogs, IsFaulty}
+use Rattle.diy_io.specs.Opened.{FileAbsent, IsFile, TookFiles}
+use Rattle.msum7_files.specs.SumEnds.{AreLogs, IsBegun}
+use Rattle.msum7_files.specs.declared.feeding.ReadFault.{ReadFault}
+use Rattle.msum7_files.specs.declared.feeding.ReadFault.TheVariants.{Log, Device}
+
+-- the file that is read, as a source
+abbrev pub log_seen : ShelfSeen → SourceSeen
+log_seen shelf = record { left = left_to_read shelf.mode; taken = shelf.taken; faults = shelf.faults }
+
+-- the file is still open, unless the shelf failed
+abbrev pub ModeAfter : Mode → Result (Unit {0}) ReadFault → Type 0
+ModeAfter mode (Ok x) = IsReading mode
+ModeAfter mode (Err (Log fault)) = IsReading mode
+ModeAfter mode (Err Device) = mode ≡ Idle
+
+-- a file is summed
+pub record FileSummed (old new : ShelfSeen) (feeding : Feeding) (before : List (List ℕ)) (name : List ℕ) : Type 0 where
+  pub log : List ℕ
+  pub text : IsFile old.files name log
+  pub short : IsShort log
+  pub reads : ReadsLogs feeding (before ++ log ∷ []) []
+  pub no_fault : new.faults ≡ old.faults
+  pub took : TookFiles old new (log ∷ [])
+
+-- a file has a fault
+pub record LogFileFaulty (old new : ShelfSeen) (before : List (List ℕ)) (name : List ℕ) (fault : LogFault) : Type 0 where
+  pub log : List ℕ
+  pub text : IsFile old.files name log
+  pub bytes : List ℕ
+  pub is : IsFaulty before log bytes fault
+  pub took : TookFiles old new (bytes ∷ [])
+
+-- the shelf failed before a file was opened, or after bytes of it that show no fault
+pub record LogFileFailed (old new : ShelfSeen) (before : List (List ℕ)) (name : List ℕ) : Type 0 where
+  pub fault : Rose old.faults new.faults
+  pub took : TookFiles old new [] ⊎ ((bytes : List ℕ) × IsBegun old.files before name bytes × TookFiles old new (bytes ∷ []))
+
+-- an answer to a file
+abbrev pub LogFileTo : ShelfSeen → ShelfSeen → Feeding → List (List ℕ) → List ℕ → Result (Unit {0}) FileFault → Type 0
+LogFileTo old new feeding before name (Ok x) = FileSummed old new feeding before name
+LogFileTo old new feeding before name (Err Missing) = FileAbsent old new name
+LogFileTo old new feeding before name (Err (Read (Log fault))) = LogFileFaulty old new before name fault
+LogFileTo old new feeding before name (Err (Read Device)) = LogFileFailed old new before name
+
+-- the files that the words up to a place name were summed
+pub record FilesSoFar (old new : ShelfSeen) (feeding : Feeding) (words : List (List ℕ)) (first place : ℕ) : Type 0 where
+  pub logs : List (List ℕ)
+  pub count : place ≡ first + length logs
+  pub are : AreLogs old.files words first logs
+  pub reads : ReadsLogs feeding logs []
+  pub no_fault : new.faults ≡ old.faults
+  pub took : TookFiles old new logs
+
+-- the end where a file isn't summed
+abbrev pub log_file_end : ℕ → FileFault → SumEnd
+log_file_end word Missing = ends.NoFile word
+log_file_end word (Read (Log fault)) = sum_end_at (Some word) fault
+log_file_end word (Read Device) = ends.ShelfFault

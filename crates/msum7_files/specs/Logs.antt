@@ -1,0 +1,92 @@
+-- Logs, as they are read from a device.
+-- Source: own.
+use Rattle.std.specs.Prelude.{◌≡◌, ◌≤◌, ◌<◌, ◌⊎◌, ◌^◌, ◌+◌, ℕ, List, ◌∷◌, ◌++◌, length, Option, IfSome, Ok, Err}
+use Rattle.diy_io.specs.Count.{count_of, Rose}
+use Rattle.diy_io.specs.Taken.{SourceSeen}
+use Rattle.diy_io.specs.Sink.{line_feed_count}
+use Rattle.log_sum.specs.declared.errors.LogError.{LogError}
+use Rattle.log_sum.specs.LogReading.{LogSeen, input_judged}
+use Rattle.log_sum.specs.Representing.{logs_text}
+use Rattle.log_sum_laws.specs.Laws.{NoFault}
+
+-- a log has the text that is known, where one is known
+abbrev pub IsText : Option (List ℕ) → List ℕ → Type 0
+IsText told log = IfSome told (λ whole. whole ≡ log)
+
+-- a log has at most 2^40 bytes
+abbrev pub IsShort : List ℕ → Type 0
+IsShort log = length log ≤ 2 ^ 40
+
+-- the most bytes that are read at once
+abbrev pub max_piece : ℕ
+max_piece = 4096
+
+-- logs have no fault
+abbrev pub AreWholeLogs : List (List ℕ) → Type 0
+AreWholeLogs logs = NoFault logs
+
+-- the bytes so far of a log after these logs show no fault
+pub record ShowsNone (before : List (List ℕ)) (bytes : List ℕ) : Type 0 where
+  pub seen : LogSeen
+  pub is : input_judged before bytes ≡ Ok seen
+
+-- a prefix of a log's bytes, of at most 2^40, shows this fault after whole logs
+pub record PrefixWrong (logs : List (List ℕ)) (bytes : List ℕ) (error : LogError) : Type 0 where
+  pub prefix : List ℕ
+  pub rest : List ℕ
+  pub parts : bytes ≡ prefix ++ rest
+  pub short : IsShort prefix
+  pub wrong : input_judged logs prefix ≡ Err error
+
+-- the bytes of a log are more than 2^40, of which the first 2^40 show no fault, and this is the line after them
+pub record PrefixFull (logs : List (List ℕ)) (bytes : List ℕ) (line : ℕ) : Type 0 where
+  pub prefix : List ℕ
+  pub rest : List ℕ
+  pub parts : bytes ≡ prefix ++ rest
+  pub full : length prefix ≡ 2 ^ 40
+  pub more : 0 < length rest
+  pub seen : LogSeen
+  pub no_fault : input_judged logs prefix ≡ Ok seen
+  pub number : line ≡ line_feed_count prefix + 1
+
+-- what was taken of a log until its fault was seen: at most 2^40 bytes that show none, and then one piece at most
+pub record UpToFault (before : List (List ℕ)) (log taken : List ℕ) : Type 0 where
+  pub rest : List ℕ
+  pub parts : log ≡ taken ++ rest
+  pub earlier : List ℕ
+  pub piece : List ℕ
+  pub pieces : taken ≡ earlier ++ piece
+  pub short : IsShort earlier
+  pub no_fault : ShowsNone before earlier
+  pub one : length piece ≤ max_piece
+
+-- the first fault of logs is one of the log after these: the bytes that were taken of it show the fault, or its end does, where all
+-- its bytes were taken
+pub record IsWrongLog (before : List (List ℕ)) (log taken : List ℕ) (error : LogError) : Type 0 where
+  pub right_before : AreWholeLogs before
+  pub wrong : (more : List (List ℕ)) → logs_text (before ++ log ∷ more) ≡ Err error
+  pub up_to : UpToFault before log taken
+  pub shown : ((taken ≡ log) × IsShort log) ⊎ PrefixWrong before taken error
+
+-- more than 2^40 bytes were taken of the log after these, of which the first 2^40 show no fault, and this is the line after them
+pub record IsTooMuch (before : List (List ℕ)) (log taken : List ℕ) (line : ℕ) : Type 0 where
+  pub right_before : AreWholeLogs before
+  pub up_to : UpToFault before log taken
+  pub full : PrefixFull before taken line
+
+-- so many bytes were taken, up to the greatest count
+abbrev pub TookCount : SourceSeen → SourceSeen → ℕ → Type 0
+TookCount old new count = count_of new.taken ≡ count_of (old.taken + count)
+
+-- the device failed, where the bytes that were taken of the log after these are at most 2^40 and show no fault
+pub record ReadFailed (old new : SourceSeen) (before : List (List ℕ)) : Type 0 where
+  pub log : List ℕ
+  pub text : IsText old.left log
+  pub bytes : List ℕ
+  pub rest : List ℕ
+  pub parts : log ≡ bytes ++ rest
+  pub short : IsShort bytes
+  pub no_fault : ShowsNone before bytes
+  pub taken : TookCount old new (length bytes)
+  pub fault : Rose old.faults new.faults
+  pub never_falls : old.faults ≤ new.faults

@@ -1,6 +1,0 @@
--- The law that lists that begin alike have tests of the same text is its lemma.
-use Rattle.rotation_laws.proofs.Texts.{same_text}
-use Rattle.rotation_laws.proofs.same_text.Goals as goal
-
-pub returns : goal.returns
-returns g c = same_text g.A.Arch.puts g.A.Arch.writing

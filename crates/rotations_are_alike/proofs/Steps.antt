@@ -1,0 +1,83 @@
+-- Each thread of the test of a turned cycle has the shape of a thread of the cycle's test.
+use Rattle.std.proofs.Common.{◌≡◌, ℕ, ◌+◌, ◌<◌, true, ◌==◌, List, length, map, Some, slice_get, refl, sym, ◌∙◌, ap, subst, eq-eqb}
+use Rattle.std.specs.List.{count_by}
+use Rattle.std.specs.Prelude.{if◌then◌else◌}
+use Rattle.relax_edges.specs.declared.kinds.ObsMode.{ObsMode}
+use Rattle.relax_edges.specs.declared.edge.Edge.{Edge}
+use Rattle.relax_edges.specs.EdgeTable.{source_of}
+use Rattle.list_laws.specs.Numbers.{upto}
+use Rattle.list_laws.proofs.Ranks.{rank_upto}
+use Rattle.cycle_events.specs.Resolution.{external_count, edge_at, event_before, events_in, move_count, slot_of, IsResolved}
+use Rattle.cycle_events.specs.Values.{is_observed, write_count}
+use Rattle.arch_trait.specs.declared.link.Link.TheVariants.{Plain}
+use Rattle.arch_trait.specs.declared.step.Step.{Step}
+use Rattle.arch_trait.specs.Links.{edge_link}
+use Rattle.arch_trait.specs.Threads.{shape_of}
+use Rattle.accesses_force_cycles.proofs.Lists.{map-map}
+use Rattle.tests_force_cycles.specs.CycleSteps.{cycle_steps, event_link, event_step, observer_steps, observing, thread_steps}
+use Rattle.tests_force_cycles.specs.TestOf.{plain}
+use Rattle.tests_force_cycles.proofs.Everywhere.{all_from}
+use Rattle.tests_force_cycles.proofs.StepsAt.{by_steps, observer_steps_at, thread_steps_at}
+use Rattle.rotations_are_alike.proofs.Alike.{Alike, ThreadFrom}
+use Rattle.rotations_are_alike.proofs.Parts.{events_below}
+use Rattle.rotations_are_alike.proofs.Shapes.{StepAlike, shape_alike}
+use Rattle.rotations_are_alike.proofs.Values.{entered_alike, located_alike, observed_alike, spot_from}
+
+-- the events of the two lists make accesses alike
+link_alike : (es fs : List Edge) (to : ℕ → ℕ) (i : ℕ) → Alike es fs to → i < length es → event_link fs (to i) ≡ event_link es i
+link_alike es fs to i a h =
+    ap (λ n. if n == 0 then Plain else edge_link (edge_at fs (event_before fs (to i)))) (a.slot i h)
+    ∙ ap (λ e. if slot_of es i == 0 then Plain else edge_link e) (entered_alike es fs to i a h)
+
+steps_alike : (es fs : List Edge) (to : ℕ → ℕ) → Alike es fs to → StepAlike (λ i. i < length es) (λ i. event_step fs plain (to i)) (event_step es plain)
+steps_alike es fs to a = record {
+  dirs = λ i h. ap source_of (a.edge i h);
+  links = λ i h. link_alike es fs to i a h;
+  places = λ i j h l. located_alike es fs to i j a h l;
+}
+
+-- so do two observers
+observing_alike : (l m : ℕ) → StepAlike (λ i. Unit {0}) (observing l) (observing m)
+observing_alike l m = record {
+  dirs = λ i h. refl;
+  links = λ i h. refl;
+  places = λ i j h k. eq-eqb l l refl ∙ sym (eq-eqb m m refl);
+}
+
+-- a thread of the test of a cycle has the shape of these accesses
+pub record HasShape (es : List Edge) (mode : ObsMode) (steps : List Step) : Type 0 where
+  pub thread : ℕ
+  pub other : List Step
+  pub got : slice_get (cycle_steps es mode plain) thread ≡ Some other
+  pub shape : shape_of steps ≡ shape_of other
+
+thread_has_shape : (es fs : List Edge) (to : ℕ → ℕ) (mode : ObsMode) (k : ℕ) → Alike es fs to → ThreadFrom es fs to k → HasShape es mode (thread_steps fs plain k)
+thread_has_shape es fs to mode k a t = record {
+  thread = t.thread;
+  other = thread_steps es plain t.thread;
+  got = thread_steps_at es mode plain t.thread t.below;
+  shape =
+      ap (λ xs. shape_of (map (event_step fs plain) xs)) t.events
+      ∙ ap shape_of (map-map to (event_step fs plain) (events_in es t.thread))
+      ∙ shape_alike (λ i. i < length es) (λ i. event_step fs plain (to i)) (event_step es plain) (events_in es t.thread) (steps_alike es fs to a) (events_below es t.thread);
+}
+
+observer_has_shape : (es fs : List Edge) (to : ℕ → ℕ) (mode : ObsMode) (l : ℕ) → Alike es fs to → IsResolved es → IsResolved fs → l < move_count fs → is_observed fs mode l ≡ true → HasShape es mode (observer_steps fs plain l)
+observer_has_shape es fs to mode l a r s h t =
+    let f = spot_from es fs to l a r s h in
+    let seen = observed_alike es fs to mode l a r s f t in
+    record {
+      thread = external_count es + count_by (is_observed es mode) (upto f.spot);
+      other = observer_steps es plain f.spot;
+      got = observer_steps_at es mode plain (external_count es + count_by (is_observed es mode) (upto f.spot)) (count_by (is_observed es mode) (upto f.spot)) f.spot refl (rank_upto (is_observed es mode) (move_count es) f.spot f.below seen);
+      shape =
+          ap (λ n. shape_of (map (observing l) (upto n))) f.written
+          ∙ shape_alike (λ i. Unit {0}) (observing l) (observing f.spot) (upto (write_count es f.spot)) (observing_alike l f.spot) (all_from (λ i. Unit {0}) (upto (write_count es f.spot)) (λ k x g. tt));
+    }
+
+-- each thread of the one test has the shape of a thread of the other
+pub has_shape : (es fs : List Edge) (to : ℕ → ℕ) (mode : ObsMode) (k : ℕ) (steps : List Step) → Alike es fs to → IsResolved es → IsResolved fs → ((j : ℕ) → j < external_count fs → ThreadFrom es fs to j) → slice_get (cycle_steps fs mode plain) k ≡ Some steps → HasShape es mode steps
+has_shape es fs to mode k steps a r s threads g =
+    by_steps fs mode plain k steps g
+    (λ l e. subst (HasShape es mode) e (thread_has_shape es fs to mode k a (threads k l)))
+    (λ o. subst (HasShape es mode) o.steps_are (observer_has_shape es fs to mode o.spot a r s o.below o.observed))

@@ -1,0 +1,31 @@
+//! Rotations of a cycle: they are accepted alike, and those that begin alike have tests of the same text.
+#![tactic(auto)]
+
+ghost use Rattle.rotations_are_alike.specs.Alike.{AcceptedAlike, RefusedAlike, TurnedAlike, SameText};
+
+use arch_trait::Arch;
+
+/// On every architecture, a cycle is accepted in a mode exactly where each rotation of it is.
+pub fn accepted_alike<A: Arch>()
+    ensures { AcceptedAlike A.puts }
+{}
+
+/// On every architecture, a cycle that is refused in a mode is refused for a reason of the same kind
+/// as each rotation of it. The edge, location, event or thread that the reason names may be another.
+pub fn refused_alike<A: Arch>()
+    ensures { RefusedAlike A.puts }
+{}
+
+/// Threads are counted in the turned list, the first turn of a cycle whose last edge leads to another
+/// thread. It is the turned list of itself, of its turns that begin at an event of its last thread
+/// other than the first, and of no other list.
+#[tactic(auto, using(crate::proofs::Beginning::turned_alike))]
+pub fn turned_alike()
+    ensures { TurnedAlike }
+{}
+
+/// On every architecture, the test of a cycle has the text of the test of the turn in which its
+/// threads are counted, and so has the test of every other turn that begins alike.
+pub fn same_text<A: Arch>()
+    ensures { SameText A.puts A.writing }
+{}

@@ -1,0 +1,30 @@
+-- The laws of this crate.
+use Rattle.std.specs.Prelude.{ℕ, List}
+use Rattle.relax_edges.specs.declared.edge.Edge.{Edge}
+use Rattle.cycle_events.specs.Resolution.{IsResolved}
+use Rattle.program_meaning.specs.declared.WriteAt.{WriteAt}
+use Rattle.program_meaning.specs.Executions.{Execution}
+use Rattle.program_meaning.specs.Programs.{Program, IsCandidate, IsCoherentIn, accesses_in}
+use Rattle.program_meaning.specs.Standing.{AllStand}
+use Rattle.program_meaning.specs.Interleavings.{IsInterleavingOf, accesses_on}
+use Rattle.sc_and_interleavings.specs.CoherenceLaws.{WritesWithin}
+use Rattle.sc_and_interleavings.specs.Sequential.{IsSequential}
+use Rattle.sc_and_interleavings.specs.Made.{made_by, IsOfInterleaving}
+
+-- each interleaving of a program makes an execution of it that is sequentially consistent, with the same runs and the same ends
+abbrev pub InterleavingsMakeExecutions : Type 0
+InterleavingsMakeExecutions =
+    (p : Program) (values : List (List ℕ)) (line : List WriteAt) → IsInterleavingOf p values line →
+    IsOfInterleaving p values line (made_by (accesses_on p values) p.places line)
+
+-- a sequentially consistent candidate whose writes are to the program's places is coherent per location
+abbrev pub SequentialIsCoherent : Type 0
+SequentialIsCoherent =
+    (p : Program) (x : Execution) → IsCandidate p x → WritesWithin (accesses_in p x) p.places → IsSequential (accesses_in p x) x →
+    IsCoherentIn p x
+
+-- a candidate in which all edges of a cycle stand isn't sequentially consistent
+abbrev pub StandingIsNotSequential : Type 0
+StandingIsNotSequential =
+    (es : List Edge) (p : Program) (x : Execution) → IsResolved es → IsCandidate p x → WritesWithin (accesses_in p x) p.places → AllStand es p x →
+    IsSequential (accesses_in p x) x → ⊥

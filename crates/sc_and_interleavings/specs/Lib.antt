@@ -1,0 +1,9 @@
+pub mod Relations
+pub mod Sequential
+pub mod CoherenceLaws
+pub mod Made
+pub mod InterleavingLaws
+pub mod Along
+pub mod SequentialLaws
+pub mod Links
+pub mod LinkLaws

@@ -1,0 +1,36 @@
+-- The laws of this crate, over the accesses of a cycle's test and over programs that make them.
+use Rattle.std.specs.Prelude.{◌≡◌, ℕ, ◌<◌, List, [], length}
+use Rattle.relax_edges.specs.declared.kinds.ObsMode.{ObsMode}
+use Rattle.relax_edges.specs.declared.kinds.Reach.TheVariants.{Internal}
+use Rattle.relax_edges.specs.declared.kinds.Sd.TheVariants.{Diff}
+use Rattle.relax_edges.specs.declared.edge.Edge.{Edge}
+use Rattle.relax_edges.specs.EdgeTable.{reach_of, sd_of}
+use Rattle.cycle_events.specs.Resolution.{IsResolved, edge_at}
+use Rattle.program_meaning.specs.Executions.{Execution}
+use Rattle.program_meaning.specs.Programs.{Program, IsCandidate, IsCoherentIn}
+use Rattle.program_meaning.specs.Standing.{AllStand, event_name}
+use Rattle.program_meaning.specs.Intended.{IsNumbering, cycle_accesses, intended, observed_locations}
+use Rattle.accesses_force_cycles.specs.Joining.{IsOutcome, MakesAccesses}
+use Rattle.sc_and_interleavings.specs.Sequential.{HasNoCycle}
+use Rattle.sc_and_interleavings.specs.Links.{PrecedesBut}
+
+-- an internal edge of a cycle to another location: a link that a machine may not keep
+pub record IsLink (es : List Edge) (i : ℕ) : Type 0 where
+  pub below : i < length es
+  pub inside : reach_of (edge_at es i) ≡ Internal
+  pub moves : sd_of (edge_at es i) ≡ Diff
+
+-- without one link the intended execution has no cycle: program order without the pairs across it, with reads-from, coherence
+-- order and from-read
+abbrev pub EachLinkCloses : Type 0
+EachLinkCloses =
+    (es : List Edge) (mode : ObsMode) (number : ℕ → ℕ) (i : ℕ) → IsResolved es → IsNumbering es number → IsLink es i →
+    HasNoCycle (PrecedesBut (cycle_accesses es mode number) (event_name es i)) (cycle_accesses es mode number) (intended es mode number)
+
+-- where a test has no observers, a coherent candidate in which all edges stand is an outcome
+abbrev pub StandingIsOutcome : Type 0
+StandingIsOutcome =
+    (es : List Edge) (mode : ObsMode) (number : ℕ → ℕ) (p : Program) (x : Execution) →
+    IsResolved es → IsNumbering es number → observed_locations es mode ≡ [] → MakesAccesses es mode number p x →
+    IsCandidate p x → IsCoherentIn p x → AllStand es p x →
+    IsOutcome es mode number p x

@@ -1,6 +1,0 @@
--- The law `each_link_may_break` holds.
-use Rattle.sc_laws.proofs.Links.{each_link_may_break}
-use Rattle.sc_laws.proofs.each_link_may_break.Goals as goal
-
-pub returns : goal.returns
-returns g c = each_link_may_break g.A.Arch.puts g.A.Arch.NAME g.A.Arch.writing g.met.A.Arch.laws g.met.A.Arch.reads_back g.met.A.Arch.writes_cells g.met.A.Arch.makes_one_access

@@ -1,0 +1,179 @@
+-- The test of a cycle forces the cycle.
+use Rattle.std.proofs.Common.{◌≡◌, ℕ, ◌<◌, ◌≤◌, List, [], ◌∷◌, map, Option, Some, None, slice_get, refl, sym, ◌∙◌, ap, subst, arith}
+use Rattle.std.specs.Prelude.{◌↔◌, nat_lt}
+use Rattle.std.specs.List.{position_from}
+use Rattle.std.proofs.lemmas.Bool.{ltb-false}
+use Rattle.std.proofs.lemmas.Option.{slice_get_within}
+use Rattle.std.proofs.lemmas.Slice.Eq.{bytes_eq-Decides}
+use Rattle.list_laws.proofs.Elements.{all_append, all_parts}
+use Rattle.relax_edges.specs.declared.TheConstants.{MAX_EDGES}
+use Rattle.relax_edges.specs.declared.kinds.ObsMode.{ObsMode}
+use Rattle.relax_edges.specs.declared.edge.Edge.{Edge}
+use Rattle.cycle_events.specs.Resolution.{move_count}
+use Rattle.final_cond.specs.Conditions.{CondSeen}
+use Rattle.final_cond.specs.States.{Meets}
+use Rattle.arch_trait.specs.declared.step.Step.{Step}
+use Rattle.arch_trait.specs.Threads.{Puts, ThreadCode, shape_of}
+use Rattle.arch_trait.specs.PlaceRenumbering.{renumbered}
+use Rattle.arch_trait.specs.Laws.{IsArch}
+use Rattle.arch_trait.specs.PlaceNames.{location_name}
+use Rattle.arch_trait_laws.proofs.NameLaws.{length-letters}
+use Rattle.arch_trait.specs.SeenTests.{TestSeen}
+use Rattle.arch_trait_laws.proofs.Renumbered.{renumbered_same}
+use Rattle.program_meaning.specs.Executions.{Execution}
+use Rattle.program_meaning.specs.Programs.{Program, IsCandidate, IsCoherentIn}
+use Rattle.program_meaning.specs.Standing.{AllStand}
+use Rattle.program_meaning.specs.Intended.{IsNumbering, intended}
+use Rattle.accesses_force_cycles.specs.Joining.{IsOutcome}
+use Rattle.accesses_force_cycles.proofs.Needs.{served_if_valued}
+use Rattle.accesses_force_cycles.proofs.Laws.{all_edges_stand_law, one_outcome_law, an_outcome_law}
+use Rattle.tests_force_cycles.specs.CycleSteps.{cycle_steps}
+use Rattle.tests_force_cycles.specs.TestOf.{plain, last_terms, load_terms, test_of}
+use Rattle.tests_force_cycles.specs.TestPrograms.{test_program}
+use Rattle.tests_force_cycles.specs.FinalStates.{final_state, IsAskedFor}
+use Rattle.tests_force_cycles.specs.TestHeadline.{HasCode, HasTest, FindsRegisters, IsRenumbered, TestsForce, RenumberedForce, TestsAsk}
+use Rattle.tests_force_cycles.proofs.Everywhere.{position_none}
+use Rattle.tests_force_cycles.proofs.PlaceNames.{AreNamed, letter_at, names_differ, locations_few}
+use Rattle.tests_force_cycles.proofs.TestCodes.{cycle_codes, cycle_program, are_codes}
+use Rattle.tests_force_cycles.proofs.Making.{makes, makes_enough, intended_enough, intended_ends}
+use Rattle.tests_force_cycles.proofs.Tying.{tied_up}
+use Rattle.tests_force_cycles.proofs.Meeting.{IsMet}
+use Rattle.tests_force_cycles.proofs.Asking.{reads_asked, asked_met, ends_asked, asked_ends}
+
+-- an execution of the program of a cycle's test that the test asks for
+pub record IsAsked (a : Puts) (register_name : ℕ → List ℕ) (es : List Edge) (mode : ObsMode) (number : ℕ → ℕ) (names : List (List ℕ)) (register_number : List ℕ → Option ℕ) (x : Execution) : Type 0 where
+  pub candidate : IsCandidate (cycle_program a es mode number) x
+  pub coherent : IsCoherentIn (cycle_program a es mode number) x
+  pub meets : Meets (final_state (cycle_program a es mode number) names register_number x) (test_of a register_name es mode).cond
+
+-- is an outcome of it
+pub asked_outcome : (a : Puts) (register_name : ℕ → List ℕ) (es : List Edge) (mode : ObsMode) (number : ℕ → ℕ) (names : List (List ℕ)) (register_number : List ℕ → Option ℕ) (x : Execution) → IsArch a → FindsRegisters a register_name register_number → HasCode a es mode → IsNumbering es number → AreNamed es number names → IsAsked a register_name es mode number names register_number x → IsOutcome es mode number (cycle_program a es mode number) x
+asked_outcome a register_name es mode number names register_number x laws finds t n named w =
+    grind (
+      arith,
+      all_parts (IsMet (final_state (cycle_program a es mode number) names register_number x)) (last_terms es mode) (load_terms a register_name 0 (cycle_steps es mode plain)) w.meets,
+      reads_asked a es mode number names register_name register_number x laws t finds w.candidate,
+      ends_asked a es mode number names register_number x t n named,
+    )
+
+-- and back
+pub outcome_asked : (a : Puts) (register_name : ℕ → List ℕ) (es : List Edge) (mode : ObsMode) (number : ℕ → ℕ) (names : List (List ℕ)) (register_number : List ℕ → Option ℕ) (x : Execution) → IsArch a → FindsRegisters a register_name register_number → HasCode a es mode → IsNumbering es number → AreNamed es number names → IsOutcome es mode number (cycle_program a es mode number) x → IsAsked a register_name es mode number names register_number x
+outcome_asked a register_name es mode number names register_number x laws finds t n named o = record {
+  candidate = o.candidate;
+  coherent = o.coherent;
+  meets = all_append (IsMet (final_state (cycle_program a es mode number) names register_number x)) (last_terms es mode) (load_terms a register_name 0 (cycle_steps es mode plain))
+      (asked_ends a es mode number names register_number x t n named o.ends)
+      (asked_met a es mode number names register_name register_number x laws t finds o.candidate o.reads);
+}
+
+-- the three parts, for the program of a cycle's test under any numbers of places
+pub edges_stand : (a : Puts) (register_name : ℕ → List ℕ) (es : List Edge) (mode : ObsMode) (number : ℕ → ℕ) (names : List (List ℕ)) (register_number : List ℕ → Option ℕ) (x : Execution) → IsArch a → FindsRegisters a register_name register_number → HasTest a es mode → IsNumbering es number → AreNamed es number names → IsAsked a register_name es mode number names register_number x → AllStand es (cycle_program a es mode number) x
+edges_stand a register_name es mode number names register_number x laws finds t n named w =
+    all_edges_stand_law es mode number (cycle_program a es mode number) x t.code.resolved (served_if_valued es mode (record { edges = es; mode = mode }) t.valued) n
+    (makes (cycle_codes a es mode number) es mode number x (are_codes a es mode number laws t.code.resolved t.code.of_arch) w.candidate)
+    (tied_up a.name (cycle_codes a es mode number) es mode number x t.code.resolved t.code.of_arch (are_codes a es mode number laws t.code.resolved t.code.of_arch) w.candidate)
+    (asked_outcome a register_name es mode number names register_number x laws finds t.code n named w)
+
+pub one_asked : (a : Puts) (register_name : ℕ → List ℕ) (es : List Edge) (mode : ObsMode) (number : ℕ → ℕ) (names : List (List ℕ)) (register_number : List ℕ → Option ℕ) (x : Execution) → IsArch a → FindsRegisters a register_name register_number → HasTest a es mode → IsNumbering es number → AreNamed es number names → IsAsked a register_name es mode number names register_number x → x ≡ intended es mode number
+one_asked a register_name es mode number names register_number x laws finds t n named w =
+    one_outcome_law es mode number (cycle_program a es mode number) x t.code.resolved (served_if_valued es mode (record { edges = es; mode = mode }) t.valued) n
+    (makes (cycle_codes a es mode number) es mode number x (are_codes a es mode number laws t.code.resolved t.code.of_arch) w.candidate)
+    (asked_outcome a register_name es mode number names register_number x laws finds t.code n named w)
+
+pub intended_asked : (a : Puts) (register_name : ℕ → List ℕ) (es : List Edge) (mode : ObsMode) (number : ℕ → ℕ) (names : List (List ℕ)) (register_number : List ℕ → Option ℕ) → IsArch a → FindsRegisters a register_name register_number → HasCode a es mode → IsNumbering es number → AreNamed es number names → IsAsked a register_name es mode number names register_number (intended es mode number)
+intended_asked a register_name es mode number names register_number laws finds t n named =
+    outcome_asked a register_name es mode number names register_number (intended es mode number) laws finds t n named
+    (an_outcome_law es mode number (cycle_program a es mode number) t.resolved n
+    (makes_enough (cycle_codes a es mode number) es mode number (intended es mode number) (are_codes a es mode number laws t.resolved t.of_arch) (intended_enough es mode number t.resolved n))
+    (intended_ends (cycle_codes a es mode number) es mode number (are_codes a es mode number laws t.resolved t.of_arch) t.resolved n))
+
+-- the names of a test that is the same as a cycle's but for the numbers of places
+pub renumbered_names : (a : Puts) (register_name : ℕ → List ℕ) (es : List Edge) (mode : ObsMode) (test : TestSeen) (number : ℕ → ℕ) → IsRenumbered (test_of a register_name es mode) test number → AreNamed es number test.places
+renumbered_names a register_name es mode test number e l h = e.names l (location_name l) (letter_at (move_count es) l h)
+
+-- its numbers are a numbering
+pub renumbered_numbers : (a : Puts) (register_name : ℕ → List ℕ) (es : List Edge) (mode : ObsMode) (test : TestSeen) (number : ℕ → ℕ) → HasCode a es mode → IsRenumbered (test_of a register_name es mode) test number → IsNumbering es number
+renumbered_numbers a register_name es mode test number t e = record {
+  below = λ l h. omega (arith, slice_get_within test.places (number l) (location_name l) (named l h), e.count, length-letters (move_count es));
+  injective = λ l m h k same.
+      let s : Some (location_name l) ≡ Some (location_name m) = sym (named l h) ∙ ap (slice_get test.places) same ∙ named m k in
+      let q : location_name l ≡ location_name m = cc in
+      names_differ l m (omega (arith, few, h)) (omega (arith, few, k)) ((bytes_eq-Decides (location_name l) (location_name m)).1 q);
+}
+  where
+    named : AreNamed es number test.places
+    named = renumbered_names a register_name es mode test number e
+
+    few : move_count es < MAX_EDGES
+    few = locations_few es t.resolved
+
+-- its program is that of the cycle's test, under these numbers
+pub renumbered_program : (a : Puts) (register_name : ℕ → List ℕ) (es : List Edge) (mode : ObsMode) (test : TestSeen) (number : ℕ → ℕ) → IsRenumbered (test_of a register_name es mode) test number → cycle_program a es mode number ≡ test_program test
+renumbered_program a register_name es mode test number e = grind (arith, length-letters)
+
+-- the executions that it asks for
+renumbered_asks : (a : Puts) (register_name : ℕ → List ℕ) (register_number : List ℕ → Option ℕ) (es : List Edge) (mode : ObsMode) (test : TestSeen) (number : ℕ → ℕ) (x : Execution) → IsRenumbered (test_of a register_name es mode) test number → IsAskedFor test register_number x ↔ IsAsked a register_name es mode number test.places register_number x
+renumbered_asks a register_name register_number es mode test number x e = (
+  λ w. record {
+    candidate = subst (λ (p : Program). IsCandidate p x) (sym p) w.candidate;
+    coherent = subst (λ (p : Program). IsCoherentIn p x) (sym p) w.coherent;
+    meets = subst (λ (s : Program × CondSeen). Meets (final_state s.0 test.places register_number x) s.1) (λ i. (sym p i, e.cond i)) w.meets;
+  },
+  λ w. record {
+    candidate = subst (λ (p : Program). IsCandidate p x) p w.candidate;
+    coherent = subst (λ (p : Program). IsCoherentIn p x) p w.coherent;
+    meets = subst (λ (s : Program × CondSeen). Meets (final_state s.0 test.places register_number x) s.1) (λ i. (p i, sym e.cond i)) w.meets;
+  },
+)
+  where
+    p : cycle_program a es mode number ≡ test_program test
+    p = renumbered_program a register_name es mode test number e
+
+-- each test that is a cycle's test but for the numbers of places forces the cycle
+pub renumbered_force_law : RenumberedForce
+renumbered_force_law a register_name register_number es mode test number laws finds t e = record {
+  stand = λ x w.
+      subst (λ (p : Program). AllStand es p x) (renumbered_program a register_name es mode test number e)
+      (edges_stand a register_name es mode number test.places register_number x laws finds t n named ((renumbered_asks a register_name register_number es mode test number x e).0 w));
+  only = λ x w. one_asked a register_name es mode number test.places register_number x laws finds t n named ((renumbered_asks a register_name register_number es mode test number x e).0 w);
+  exists = (renumbered_asks a register_name register_number es mode test number (intended es mode number) e).1 (intended_asked a register_name es mode number test.places register_number laws finds t.code n named);
+}
+  where
+    named : AreNamed es number test.places
+    named = renumbered_names a register_name es mode test number e
+
+    n : IsNumbering es number
+    n = renumbered_numbers a register_name es mode test number t.code e
+
+-- the executions that such a test asks for are the outcomes of its program
+pub tests_ask_law : TestsAsk
+tests_ask_law a register_name register_number es mode test number x laws finds t e = (
+  λ w. subst (λ (p : Program). IsOutcome es mode number p x) p (asked_outcome a register_name es mode number test.places register_number x laws finds t.code n named ((renumbered_asks a register_name register_number es mode test number x e).0 w)),
+  λ o. (renumbered_asks a register_name register_number es mode test number x e).1 (outcome_asked a register_name es mode number test.places register_number x laws finds t.code n named (subst (λ (p : Program). IsOutcome es mode number p x) (sym p) o)),
+)
+  where
+    named : AreNamed es number test.places
+    named = renumbered_names a register_name es mode test number e
+
+    n : IsNumbering es number
+    n = renumbered_numbers a register_name es mode test number t.code e
+
+    p : cycle_program a es mode number ≡ test_program test
+    p = renumbered_program a register_name es mode test number e
+
+-- a test is the same as itself
+code_same : (threads : List ThreadCode) → threads ≡ map (renumbered plain) threads
+code_same [] = refl
+code_same (code ∷ threads) = λ i. sym (renumbered_same code) i ∷ code_same threads i
+
+pub numbered_plainly : (test : TestSeen) → IsRenumbered test test plain
+numbered_plainly test = record { threads = code_same test.threads; count = refl; names = λ place name h. h; cond = refl }
+
+-- the test of each cycle that has one forces the cycle
+pub tests_force_law : TestsForce
+tests_force_law a register_name register_number es mode laws finds t =
+    renumbered_force_law a register_name register_number es mode (test_of a register_name es mode) plain laws finds t (numbered_plainly (test_of a register_name es mode))
+
+-- where no thread is crowded, each has room
+pub room_left : (a : Puts) (threads : List (List Step)) (thread : ℕ) (steps : List Step) → position_from (λ s. nat_lt a.registers (a.need (shape_of s))) 0 threads ≡ None → slice_get threads thread ≡ Some steps → a.need (shape_of steps) ≤ a.registers
+room_left a threads thread steps h g = ltb-false a.registers (a.need (shape_of steps)) (position_none (λ s. nat_lt a.registers (a.need (shape_of s))) 0 threads thread steps h g)

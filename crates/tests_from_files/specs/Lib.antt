@@ -1,0 +1,9 @@
+pub mod FilesRead
+pub mod TestSaid
+pub mod FirstBytes
+pub mod FewBytes
+pub mod OpenFiles
+pub mod FailedFiles
+pub mod QuotedCycle
+pub mod FilesEnds
+pub mod Read

@@ -1,0 +1,72 @@
+-- What only private functions cite: the text of a file that is open, as it is read.
+use Rattle.std.specs.Prelude.{◌≡◌, ◌≤◌, ◌+◌, ⊤, ℕ, List, ◌++◌, length, take, IfSome, OnOk, OnErr, Result, Ok, Err}
+use Rattle.std.specs.Io.KnownBytes.{Consumes}
+use Rattle.diy_io.specs.Count.{count_of, Rose}
+use Rattle.diy_io.specs.Shelf.{Idle, IsReading, ShelfSeen, left_to_read}
+use Rattle.diy_io.specs.declared.errors.Failed.{Failed}
+use Rattle.litmus_text.specs.declared.limits.TheConstants.{MAX_TEXT}
+use Rattle.tests_from_files.specs.declared.errors.FileFault.{FileFault}
+use Rattle.tests_from_files.specs.declared.errors.FileFault.TheVariants as faults
+use Rattle.tests_from_files.specs.declared.errors.ReadFault.{ReadFault}
+use Rattle.tests_from_files.specs.declared.errors.ReadFault.TheVariants as reads
+
+-- so many bytes were taken of the file that is read, as far as they are counted, and it is the file that was opened before
+pub record TookBytes (old new : ShelfSeen) (bytes : List ℕ) : Type 0 where
+  pub taken : count_of new.taken ≡ count_of (old.taken + length bytes)
+  pub opened : new.opened ≡ old.opened
+  pub files : new.files ≡ old.files
+
+-- a file that is open was read to its end, or up to one byte more than a test may have, and this is what was taken
+pub record FileReadWhole (old new : ShelfSeen) (bytes : List ℕ) : Type 0 where
+  pub text : List ℕ
+  pub shown : IfSome (left_to_read old.mode) (λ whole. whole ≡ text)
+  pub bytes_are : bytes ≡ take (MAX_TEXT + 1) text
+  pub took : TookBytes old new bytes
+  pub mode : IsReading new.mode
+  pub no_fault : new.faults ≡ old.faults
+
+-- the shelf failed, after bytes of the file that are no more than a test may have
+pub record FileReadPart (old new : ShelfSeen) : Type 0 where
+  pub bytes : List ℕ
+  pub text : List ℕ
+  pub shown : IfSome (left_to_read old.mode) (λ whole. whole ≡ text)
+  pub rest : List ℕ
+  pub parts : text ≡ bytes ++ rest
+  pub short : length bytes ≤ MAX_TEXT
+  pub took : TookBytes old new bytes
+  pub mode : new.mode ≡ Idle
+  pub fault : Rose old.faults new.faults
+
+-- there was no memory, and the file is open still
+pub record ReadUnheld (old new : ShelfSeen) : Type 0 where
+  pub mode : IsReading new.mode
+  pub files : new.files ≡ old.files
+
+-- an answer to the reading of a file that is open
+abbrev pub FileReadTo : ShelfSeen → ShelfSeen → List ℕ → Result (Unit {0}) ReadFault → Type 0
+FileReadTo old new bytes (Ok x) = FileReadWhole old new bytes
+FileReadTo old new bytes (Err reads.Failed) = FileReadPart old new
+FileReadTo old new bytes (Err reads.NoMemory) = ReadUnheld old new
+
+-- bytes of a file that is open were read
+pub record FileReadSoFar (old new : ShelfSeen) (bytes : List ℕ) : Type 0 where
+  pub consumed : Consumes (left_to_read old.mode) (left_to_read new.mode) bytes
+  pub took : TookBytes old new bytes
+  pub mode : IsReading new.mode
+  pub no_fault : new.faults ≡ old.faults
+
+-- a file that is open was read, to its end or up to one byte more than a test may have, and then closed, or that failed
+pub record OpenRead (old new : ShelfSeen) (bytes : List ℕ) (closed : Result (Unit {0}) Failed) : Type 0 where
+  pub text : List ℕ
+  pub shown : IfSome (left_to_read old.mode) (λ whole. whole ≡ text)
+  pub bytes_are : bytes ≡ take (MAX_TEXT + 1) text
+  pub took : TookBytes old new bytes
+  pub no_fault : OnOk closed (new.faults ≡ old.faults)
+  pub fault : OnErr closed (Rose old.faults new.faults)
+
+-- an answer to a file that is open, which is read and closed
+abbrev pub OpenTo : ShelfSeen → ShelfSeen → List ℕ → Result (Result (Unit {0}) Failed) FileFault → Type 0
+OpenTo old new bytes (Ok closed) = OpenRead old new bytes closed
+OpenTo old new bytes (Err faults.Missing) = ⊥
+OpenTo old new bytes (Err faults.Failed) = FileReadPart old new
+OpenTo old new bytes (Err faults.NoMemory) = ⊤

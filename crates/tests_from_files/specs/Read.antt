@@ -1,0 +1,58 @@
+-- What only private functions cite: what one file gives.
+use Rattle.std.specs.Prelude.{◌≡◌, ⊤, ℕ, List, Result, Ok, Err, IsErr}
+use Rattle.diy_io.specs.declared.errors.Failed.{Failed}
+use Rattle.diy_io.specs.Shelf.{ShelfSeen}
+use Rattle.relax_edges.specs.declared.edge.Edge.{Edge}
+use Rattle.tests_from_files.specs.declared.errors.FileFault.{FileFault}
+use Rattle.tests_from_files.specs.declared.errors.FileFault.TheVariants as reads
+use Rattle.diy_io.specs.Opened.{FileAbsent}
+use Rattle.tests_from_files.specs.FilesRead.{FileFailed, FileIs, FileFaulty}
+use Rattle.tests_from_files.specs.declared.classified_errors.FileError.{FileError}
+use Rattle.tests_from_files.specs.declared.classified_errors.CycleFault.{CycleFault}
+use Rattle.tests_from_files.specs.declared.classified_errors.CycleFault.TheVariants.{Missing, Device, Text}
+use Rattle.tests_from_files.specs.declared.classified_errors.TextFault.{TextFault}
+use Rattle.tests_from_files.specs.declared.classified_errors.TextFault.TheVariants.{Wrong, NoMemory}
+use Rattle.tests_from_files.specs.declared.classified_errors.FilesEnd.{FilesEnd}
+use Rattle.tests_from_files.specs.declared.classified_errors.FilesEnd.TheVariants as ends
+use Rattle.tests_from_files.specs.FilesEnds.{Asked, said_on}
+
+-- an answer is what a text says, or there is no memory
+abbrev pub SaysCycleInMemory : Result (List Edge) TextFault → Result (List Edge) FileError → Type 0
+SaysCycleInMemory (Ok cycle) said = said ≡ Ok cycle
+SaysCycleInMemory (Err (Wrong error)) said = said ≡ Err error
+SaysCycleInMemory (Err NoMemory) said = ⊤
+
+-- the text of a file says a cycle, and the closing of the file failed
+pub record IsUnclosed (asked : Asked) (text : List ℕ) (closed : Result (Unit {0}) Failed) : Type 0 where
+  pub cycle : List Edge
+  pub says : said_on asked text ≡ Ok cycle
+  pub failed : IsErr closed
+
+-- an answer to a file with this text, where this is the answer to its closing: that the device failed only where the text has no fault
+abbrev pub ClosedTo : Asked → List ℕ → Result (Unit {0}) Failed → Result (List Edge) CycleFault → Type 0
+ClosedTo asked text closed (Ok cycle) = (said_on asked text ≡ Ok cycle) × (closed ≡ Ok tt)
+ClosedTo asked text closed (Err Missing) = ⊥
+ClosedTo asked text closed (Err Device) = IsUnclosed asked text closed
+ClosedTo asked text closed (Err (Text (Wrong error))) = said_on asked text ≡ Err error
+ClosedTo asked text closed (Err (Text NoMemory)) = ⊤
+
+-- an answer to a file
+abbrev pub CycleTo : Asked → ShelfSeen → ShelfSeen → List ℕ → Result (List Edge) CycleFault → Type 0
+CycleTo asked old new name (Ok cycle) = FileIs (said_on asked) old new name cycle
+CycleTo asked old new name (Err Missing) = FileAbsent old new name
+CycleTo asked old new name (Err Device) = FileFailed old new name
+CycleTo asked old new name (Err (Text (Wrong error))) = FileFaulty (said_on asked) old new name error
+CycleTo asked old new name (Err (Text NoMemory)) = ⊤
+
+-- why a file that isn't read gives no cycle
+abbrev pub file_fault : FileFault → CycleFault
+file_fault reads.Missing = Missing
+file_fault reads.Failed = Device
+file_fault reads.NoMemory = Text NoMemory
+
+-- the end where a file gives no cycle
+abbrev pub file_end : ℕ → CycleFault → FilesEnd
+file_end word Missing = ends.NoFile word
+file_end word Device = ends.ShelfFault
+file_end word (Text (Wrong error)) = ends.Wrong word error.line error.kind
+file_end word (Text NoMemory) = ends.NoMemory

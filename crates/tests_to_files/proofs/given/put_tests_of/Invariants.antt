@@ -1,0 +1,10 @@
+-- The loop of `put_tests_of`: which files are there so far.
+use Rattle.std.proofs.Common.{drop}
+use Rattle.tests_to_files.specs.Plans.{folder_of, named_text}
+use Rattle.tests_to_files.proofs.GivenLaws.{Puts}
+use Rattle.tests_to_files.proofs.given.put_tests_of.Given as goal
+
+abbrev pub invariant-loop-cycle : goal.invariant-loop-cycle
+invariant-loop-cycle g l = record {
+  puts : Puts (folder_of l.wanted) (named_text g.A.Arch.puts g.A.Arch.writing l.wanted.mode) l.cycles (drop l.cycle-index l.cycles) (g.H.Shelf.seen l.fn.shelf) (g.H.Shelf.seen l.shelf) l.number;
+}

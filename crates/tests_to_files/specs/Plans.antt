@@ -1,0 +1,135 @@
+-- What a listing asks for: which cycles have a test in it, and what their tests are.
+-- Source: own, after diy.
+use Rattle.std.specs.Prelude.{◌≡◌, ℕ, Bool, true, ◌&&◌, ◌||◌, not, nat_le, is_none, List, [], ◌∷◌, length, Option, Some, None}
+use Rattle.std.specs.List.{list_all}
+use Rattle.std.specs.Borrow.{Bor}
+use Rattle.std.specs.Option.{option_map}
+use Rattle.relax_edges.specs.declared.edge.Edge.{Edge}
+use Rattle.relax_edges.specs.declared.kinds.ArchName.{ArchName}
+use Rattle.relax_edges.specs.declared.kinds.ObsMode.{ObsMode}
+use Rattle.relax_edges.specs.EdgeTable.{is_external, is_of_arch}
+use Rattle.list_laws.specs.Numbers.{upto}
+use Rattle.cycle_enum_laws.specs.Listing.{IsListed}
+use Rattle.cycle_names.specs.CycleNames.{name_of}
+use Rattle.cycle_events.specs.Resolution.{external_count, turned, events_in}
+use Rattle.arch_trait.specs.Threads.{Puts}
+use Rattle.arch_trait.specs.Writing.{Writing}
+use Rattle.test_maker.specs.Refusals.{refusal_of}
+use Rattle.test_maker.specs.CycleText.{cycle_text}
+use Rattle.cycle_enum.specs.declared.limits.Limits.{Limits}
+use Rattle.cycle_enum.specs.Walking.{Walking}
+use Rattle.tests_to_files.specs.ListedFiles.{path_of, file_of, test_files}
+use Rattle.tests_to_files.specs.declared.listing.Listing.{Listing}
+use Rattle.tests_to_files.specs.declared.wanted.Wanted.{Wanted}
+
+-- a cycle has at most so many threads: so many of its edges lead to another one
+abbrev pub has_few_threads : ℕ → List Edge → Bool
+has_few_threads threads cycle = nat_le (external_count cycle) threads
+
+-- each of a cycle's own threads has at most so many accesses, observers not counted: so many of its events are in a thread of
+-- the cycle as it is resolved; without a limit all cycles are so
+unfoldable pub has_few_accesses : Option ℕ → List Edge → Bool
+has_few_accesses None cycle = true
+has_few_accesses (Some most) cycle = list_all (λ thread. nat_le (length (events_in (turned cycle) thread)) most) (upto (external_count cycle))
+
+-- a cycle has a test, has at most so many threads, and has at most so many accesses in each
+unfoldable pub is_wanted : Puts → ObsMode → ℕ → Option ℕ → List Edge → Bool
+is_wanted puts mode threads accesses cycle =
+    is_none (refusal_of puts cycle mode) && (has_few_threads threads cycle && has_few_accesses accesses cycle)
+
+-- the last of some edges, if there is one, is such an edge
+abbrev pub ends_in : (Edge → Bool) → List Edge → Bool
+ends_in is_such [] = true
+ends_in is_such (edge ∷ []) = is_such edge
+ends_in is_such (_ ∷ edge ∷ edges) = ends_in is_such (edge ∷ edges)
+
+-- the last of some edges is of the architecture
+abbrev pub ends_of_arch : ArchName → List Edge → Bool
+ends_of_arch arch = ends_in (λ edge. is_of_arch edge arch)
+
+-- the last of some edges stays in its thread
+abbrev pub ends_inside : List Edge → Bool
+ends_inside = ends_in (λ edge. not (is_external edge))
+
+-- such a cycle may begin with these edges if it may with those before the last: the last is of the architecture, and stays in its
+-- thread, or there are no more threads so far
+unfoldable pub may_lead : ArchName → ℕ → List Edge → Bool
+may_lead arch threads edges = ends_of_arch arch edges && (ends_inside edges || has_few_threads threads edges)
+
+-- a cycle is wanted if it has a test: it has two threads or more, but no more than are asked for, all its edges are of the
+-- architecture, and each of its threads has few accesses
+unfoldable pub is_sought : ArchName → ℕ → Option ℕ → List Edge → Bool
+is_sought arch threads accesses cycle =
+    nat_le 2 (external_count cycle)
+    && ((list_all (λ edge. is_of_arch edge arch) cycle && has_few_threads threads cycle) && has_few_accesses accesses cycle)
+
+-- those of some cycles that have a test
+abbrev pub HaveTests : Puts → ObsMode → (List Edge → Type 0) → List Edge → Type 0
+HaveTests puts mode listed cycle = (listed cycle) × (refusal_of puts cycle mode ≡ None)
+
+-- the architecture of a listing by its code and how that is written, what it wants of a cycle, and its relaxations and limits
+pub record Plan : Type 0 where
+  pub puts : Puts
+  pub writing : Writing
+  pub mode : ObsMode
+  pub threads : ℕ
+  pub accesses : Option ℕ
+  pub folder : Option (List ℕ)
+  pub relaxes : List (List Edge)
+  pub limits : Limits
+
+-- a folder, where one is given
+abbrev pub folder_in : Option (Bor (List ℕ)) → Option (List ℕ)
+folder_in folder = option_map (λ text. text.now) folder
+
+-- the folder of its files
+abbrev pub folder_of : Wanted → Option (List ℕ)
+folder_of wanted = folder_in wanted.folder
+
+-- the plan of a listing by what it wants
+abbrev pub plan_of : Puts → Writing → Wanted → List (List Edge) → Limits → Plan
+plan_of puts writing wanted relaxes limits = record {
+  puts = puts;
+  writing = writing;
+  mode = wanted.mode;
+  threads = wanted.threads;
+  accesses = wanted.accesses;
+  folder = folder_of wanted;
+  relaxes = relaxes;
+  limits = limits;
+}
+
+-- the plan of a listing by what is asked for
+abbrev pub plan_in : Puts → Writing → Listing → Plan
+plan_in puts writing listing =
+    plan_of puts writing (record { threads = listing.threads; accesses = listing.accesses; mode = listing.mode; folder = listing.folder })
+    listing.relaxes listing.limits
+
+-- the plan of a listing by what it wants and by its walk
+abbrev pub walk_plan : {K J P : Type 0} → Puts → Writing → Wanted → Walking K J P → Plan
+walk_plan puts writing wanted walk = plan_of puts writing wanted walk.relaxes walk.limits
+
+-- a listing wants a cycle if that has a test
+abbrev pub Seeks : Puts → Wanted → List Edge → Type 0
+Seeks puts wanted cycle = is_sought puts.name wanted.threads wanted.accesses cycle ≡ true
+
+-- a cycle is listed
+abbrev pub IsPlanned : Plan → List Edge → Type 0
+IsPlanned plan = IsListed (λ cycle. is_wanted plan.puts plan.mode plan.threads plan.accesses cycle ≡ true) plan.relaxes plan.limits.size plan.limits.exact
+
+-- the text of the test of a cycle, under the cycle's name
+abbrev pub named_text : Puts → Writing → ObsMode → List Edge → List ℕ
+named_text puts writing mode cycle = cycle_text puts writing mode (name_of cycle) cycle
+
+-- the same for a listing
+abbrev pub planned_text : Plan → List Edge → List ℕ
+planned_text plan = named_text plan.puts plan.writing plan.mode
+
+-- the file of the test of a cycle, by its path and its text, under the number of the test
+abbrev pub test_file_of : Puts → Writing → Wanted → ℕ → List Edge → List ℕ × List ℕ
+test_file_of puts writing wanted number cycle =
+    (path_of (folder_of wanted) (file_of number cycle), named_text puts writing wanted.mode cycle)
+
+-- the files of the tests of cycles, numbered from 0
+abbrev pub test_files_of : Puts → Writing → Wanted → List (List Edge) → List (List ℕ × List ℕ)
+test_files_of puts writing wanted cycles = test_files (folder_of wanted) (named_text puts writing wanted.mode) cycles

@@ -1,0 +1,89 @@
+ghost use Rattle.std.specs.Prelude.{◌≡◌, ◌≤◌, ◌++◌, length};
+ghost use Rattle.std.specs.Option.{ForSome, option_map};
+ghost use Rattle.tests_to_files.specs.ListedFiles.{file_named, path_of, stem_named};
+
+use arrayvec::ArrayString;
+use itoa::Buffer;
+
+/// The most bytes of a folder's name.
+pub const MAX_FOLDER: usize = 1_024;
+
+/// The most bytes of a name that a file has.
+const MAX_NAMED: usize = 200;
+
+/// The most bytes of the ending of a file's name.
+pub const MAX_ENDING: usize = 7;
+
+/// The most bytes of a file's name in its folder.
+pub(crate) const MAX_FILE: usize = 207;
+
+/// The most bytes of a file's name with its folder.
+pub const MAX_PATH: usize = 1_232;
+
+pub(crate) type FileName = ArrayString<MAX_FILE>;
+
+/// The name of a file with its folder.
+pub type Path = ArrayString<MAX_PATH>;
+
+/// The file of a test by its number and its name.
+#[tactic(auto, unfolding(crate::specs::ListedFiles::file_named))]
+pub(crate) fn file_named(number: u128, name: &str) -> FileName
+    ensures { result.bytes ≡ file_named number name.now }
+{
+    file_ending(number, name, ".litmus")
+}
+
+/// The path of a file of a test by the test's number and name, and by the file's ending.
+pub fn test_path(folder: Option<&str>, number: u128, name: &str, ending: &str) -> Path
+    requires folder { ForSome folder (λ folder. length folder.now ≤ MAX_FOLDER) }
+    requires ending { length ending.now ≤ MAX_ENDING }
+    ensures { result.bytes ≡ path_of (option_map (λ folder. folder.now) folder.entry) (stem_named number name.now ++ ending.now) }
+{
+    path_of(folder, file_ending(number, name, ending).as_str())
+}
+
+/// What a file of a test is called that has this ending.
+#[tactic(auto, unfolding(crate::specs::ListedFiles::stem_named))]
+fn file_ending(number: u128, name: &str, ending: &str) -> FileName
+    requires { length ending.now ≤ MAX_ENDING }
+    ensures { result.bytes ≡ stem_named number name.now ++ ending.now }
+{
+    let mut file = FileName::new();
+    if name.len() <= MAX_NAMED {
+        file.push_str(name);
+    } else {
+        let mut digits = Buffer::new();
+        file.push_str("long");
+        file.push_str(digits.format(number));
+    }
+    file.push_str(ending);
+    file
+}
+
+/// A file by its name in a folder, where there is one.
+pub(crate) fn path_of(folder: Option<&str>, file: &str) -> Path
+    requires folder { ForSome folder (λ folder. length folder.now ≤ MAX_FOLDER) }
+    requires file { length file.now ≤ MAX_FILE }
+    ensures { result.bytes ≡ path_of (option_map (λ folder. folder.now) folder.entry) file.now }
+{
+    let mut path = Path::new();
+    set_path(folder, file, &mut path);
+    path
+}
+
+/// Makes `path` a file by its name in a folder, where there is one.
+pub(crate) fn set_path(folder: Option<&str>, file: &str, path: &mut Path)
+    requires folder { ForSome folder (λ folder. length folder.now ≤ MAX_FOLDER) }
+    requires file { length file.now ≤ MAX_FILE }
+    ensures { path.new.bytes ≡ path_of (option_map (λ folder. folder.now) folder.entry) file.now }
+{
+    path.clear();
+    match folder {
+        Some(folder) => {
+            path.push_str(folder);
+            path.push_str("/");
+        }
+        None => {}
+    }
+    path.push_str(file);
+}

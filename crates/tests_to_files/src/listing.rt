@@ -1,0 +1,307 @@
+ghost use Rattle.std.specs.Prelude.{◌≡◌, ◌≤◌, ◌↔◌, true, Some, None, length, List, [], ◌∷◌, OnOk, OnErr, IfOk, IfSome};
+ghost use Rattle.std.specs.Option.{ForSome};
+ghost use Rattle.relax_edges.specs.declared.TheConstants.{MAX_EDGES};
+ghost use Rattle.relax_edges.specs.declared.edge.Edge.{Edge as EdgeValue};
+ghost use Rattle.edge_algebra_laws.specs.Composable.{IsCycle};
+ghost use Rattle.cycle_enum.specs.Walking.{KnowsOf, Lists, Says};
+ghost use Rattle.diy_io.specs.Shelf.{Idle};
+ghost use Rattle.diy_io.specs.Wrote.{Wrote};
+ghost use Rattle.test_maker.specs.Refusals.{refusal_of};
+ghost use Rattle.tests_to_files.specs.ListingEnds.{BeginsAfter, EndsAfter, EndsListing};
+ghost use Rattle.tests_to_files.specs.ListedFiles.{count_line, file_of};
+ghost use Rattle.tests_to_files.specs.Arrives.{ArrivesOrEnds};
+ghost use Rattle.tests_to_files.specs.Keeping.{PutsAll, StopsPutting};
+ghost use Rattle.tests_to_files.specs.Plans.{HaveTests, is_sought, Seeks, plan_in, test_file_of, walk_plan};
+ghost use Rattle.tests_to_files.specs.Putting.{PutFiles, FailsAt};
+ghost use Rattle.tests_to_files.specs.Ready.{IsReady};
+
+use crate::ending::ListingEnd;
+use crate::files::{FileName, MAX_FOLDER, Path, file_named, set_path};
+use crate::making::{Desk, make_test};
+use crate::names::{Names, put_names};
+use crate::putting::put_text;
+use crate::wanted::Wanted;
+use arch_trait::{Arch, Places, ThreadCodes};
+use arrayvec::{ArrayString, ArrayVec};
+use cycle_enum::{Limits, Walk};
+use cycle_names::name_of;
+use diy_io::{Failed, Page, Shelf, Sink};
+use edge_algebra::Cycle;
+use final_cond::Cond;
+use itoa::Buffer;
+use litmus_text::{KeptTable, Test};
+use relax_edges::{Edge, ObsMode, Relaxes};
+
+/// Room for the line on how many tests there are, whose number has at most 39 digits.
+const MAX_COUNT_LINE: usize = 80;
+
+/// A listing: which cycles have a test in it, and where the files of the tests lie.
+#[derive(Drop)]
+pub struct Listing<'a> {
+    /// Each cycle is made of these: one of its rotations is a concatenation of them.
+    pub relaxes: Relaxes,
+    /// How many edges a cycle has.
+    pub limits: Limits,
+    /// The most threads of a cycle, observers not counted.
+    pub threads: u8,
+    /// The most accesses of each of a cycle's own threads, from 1, observers not counted; `None` is no
+    /// limit.
+    pub accesses: Option<u8>,
+    /// How observers are treated.
+    pub mode: ObsMode,
+    /// The cycle after whose normal form the listing begins, where it doesn't begin with the first.
+    pub after: Option<Cycle>,
+    /// The folder of the files, of at most `MAX_FOLDER` bytes.
+    pub folder: Option<&'a str>,
+}
+
+/// Writes a file for each listed cycle, in order, then the file `@all` that names them, and then a
+/// line on their number to `out`. It takes no memory.
+///
+/// A cycle is listed where it is in normal form, keeps the limits, is made of the relaxations, has
+/// a test on the architecture in the mode, and has no more threads than are asked for, and no more
+/// accesses in each of its own threads; after a cycle, where it also follows that cycle's normal form.
+/// Its file has the text of its test under
+/// its name. The file is called by that name where it has at most 200 bytes, else by `long` and the
+/// number of the test in this listing, from 0; then `.litmus`. In a folder the file's name comes
+/// after the folder's and a slash; `@all` has the names alone, each on a line. Numbers stop at the
+/// last value of 128 bits.
+///
+/// `ShelfFault` comes only where the shelf's count of faults rose. Then the files up to one are
+/// whole, that one is as it was or has a prefix of its text, no other file changed, and nothing is
+/// written to `out`. `OutFault` comes only where the count of `out` rose. Then all files are whole,
+/// and `out` has a prefix of the line. In each case the shelf is at nothing again.
+#[inline(never)]
+pub fn list_tests<A: Arch, H: Shelf, O: Sink>(
+    listing: Listing,
+    shelf: &mut H,
+    out: &mut O,
+) -> ListingEnd
+    requires size { listing.limits.size ≤ MAX_EDGES }
+    requires folder { ForSome listing.folder (λ folder. length folder.now ≤ MAX_FOLDER) }
+    requires idle { (H.seen shelf.old).mode ≡ Idle }
+    ensures { EndsListing O.seen (plan_in A.puts A.writing listing.entry) listing.entry.after result (H.seen shelf.old) (H.seen shelf.new) out.old out.new }
+{
+    // It is written out here, and not made by a call of `Test::new`, for the reasons that `Desk` gives.
+    let mut test = Test {
+        edges: ArrayVec::new(),
+        places: Places::new(),
+        threads: ThreadCodes::new(),
+        cond: Cond::default(),
+    };
+    list_with::<A, H, O>(listing, &mut test, shelf, out)
+}
+
+/// Writes the files of a listing and the line on their number, as `list_tests` does. Each test is made in `test`.
+#[inline(never)]
+#[tactic(auto, using(crate::proofs::Wanting::refused_leads_none, crate::proofs::Wanting::long_run_leads_none))]
+fn list_with<A: Arch, H: Shelf, O: Sink>(
+    listing: Listing,
+    test: &mut Test,
+    shelf: &mut H,
+    out: &mut O,
+) -> ListingEnd
+    requires size { listing.limits.size ≤ MAX_EDGES }
+    requires folder { ForSome listing.folder (λ folder. length folder.now ≤ MAX_FOLDER) }
+    requires idle { (H.seen shelf.old).mode ≡ Idle }
+    ensures { EndsListing O.seen (plan_in A.puts A.writing listing.entry) listing.entry.after result (H.seen shelf.old) (H.seen shelf.new) out.old out.new }
+{
+    let Listing {
+        relaxes,
+        limits,
+        threads,
+        accesses,
+        mode,
+        after,
+        folder,
+    } = listing;
+    let wanted = Wanted {
+        threads,
+        accesses,
+        mode,
+        folder,
+    };
+    let keep = |edges: &[Edge]| wanted.may_lead::<A>(edges);
+    let fit = |edges: &[Edge]| wanted.may_fit(edges);
+    let take = |cycle: &Cycle| -> bool
+        ensures { result ≡ is_sought A.puts.name wanted.entry.threads wanted.entry.accesses cycle.now }
+    { wanted.seeks::<A>(cycle) };
+    let mut walk = Walk::new(relaxes, limits, keep, fit, take);
+    begin_after(&mut walk, &after);
+    list_walk::<A, H, O, _, _, _>(&wanted, &mut walk, test, shelf, out)
+}
+
+/// Lets a walk go on after a cycle, where there is one.
+fn begin_after<K: Fn(&[Edge]) -> bool, J: Fn(&[Edge]) -> bool, P: Fn(&Cycle) -> bool>(
+    walk: &mut Walk<K, J, P>,
+    after: &Option<Cycle>,
+)
+    requires { walk.old.last ≡ None }
+    ensures begins { BeginsAfter after.now walk.new.last }
+    ensures same { walk.new ≡ record walk.old { last = walk.new.last } }
+{
+    match after {
+        Some(cycle) => walk.after(cycle),
+        None => {}
+    }
+}
+
+/// Writes the files of those of a walk's cycles that have a test, from where it is, and the line on their number. Each test
+/// is made in `test`.
+#[inline(never)]
+fn list_walk<
+    A: Arch,
+    H: Shelf,
+    O: Sink,
+    K: Fn(&[Edge]) -> bool,
+    J: Fn(&[Edge]) -> bool,
+    P: Fn(&Cycle) -> bool,
+>(
+    wanted: &Wanted,
+    walk: &mut Walk<K, J, P>,
+    test: &mut Test,
+    shelf: &mut H,
+    out: &mut O,
+) -> ListingEnd
+    requires knows { KnowsOf K.pre K.Fn.post J.pre J.Fn.post P.pre P.Fn.post walk.old.keep walk.old.fit walk.old.take }
+    requires sought { (cycle : List EdgeValue) → IsCycle cycle → Says P.Fn.post walk.old.take cycle true ↔ Seeks A.puts wanted.now cycle }
+    requires folder { ForSome wanted.now.folder (λ folder. length folder.now ≤ MAX_FOLDER) }
+    requires idle { (H.seen shelf.old).mode ≡ Idle }
+    ensures { EndsAfter O.seen (walk_plan A.puts A.writing wanted.now walk.old) walk.old.last result (H.seen shelf.old) (H.seen shelf.new) out.old out.new }
+{
+    let mut names = Names::new();
+    let count = match put_tests::<A, H, K, J, P>(wanted, walk, test, &mut names, shelf) {
+        Ok(count) => count,
+        Err(Failed) => return ListingEnd::ShelfFault,
+    };
+    match put_names::<A, H, K, J, P>(&mut names, wanted.mode, wanted.folder, walk, shelf) {
+        Ok(()) => {}
+        Err(Failed) => return ListingEnd::ShelfFault,
+    }
+    match write_count(count, out) {
+        Ok(()) => ListingEnd::Done,
+        Err(Failed) => ListingEnd::OutFault,
+    }
+}
+
+/// Writes on the shelf the files of those of a walk's cycles that have a test, from where it is, keeps
+/// the lines that name them, and gives their number. Each test is made in `test`.
+fn put_tests<
+    A: Arch,
+    H: Shelf,
+    K: Fn(&[Edge]) -> bool,
+    J: Fn(&[Edge]) -> bool,
+    P: Fn(&Cycle) -> bool,
+>(
+    wanted: &Wanted,
+    walk: &mut Walk<K, J, P>,
+    test: &mut Test,
+    names: &mut Names,
+    shelf: &mut H,
+) -> Result<u128, Failed>
+    requires knows { KnowsOf K.pre K.Fn.post J.pre J.Fn.post P.pre P.Fn.post walk.old.keep walk.old.fit walk.old.take }
+    requires folder { ForSome wanted.now.folder (λ folder. length folder.now ≤ MAX_FOLDER) }
+    requires idle { (H.seen shelf.old).mode ≡ Idle }
+    requires no_lines { names.old.lines.items ≡ [] }
+    requires not_closed { names.old.closed ≡ None }
+    ensures ok { IfOk result (PutsAll A.puts A.writing wanted.now (Lists P.Fn.post walk.old) walk.old.last (H.seen shelf.old) (H.seen shelf.new) names.new) }
+    ensures failed { OnErr result (StopsPutting A.puts A.writing wanted.now (Lists P.Fn.post walk.old) walk.old.last (H.seen shelf.old) (H.seen shelf.new)) }
+    ensures walk { walk.new ≡ record walk.old { last = walk.new.last } }
+{
+    let mut desk = Desk {
+        name: ArrayString::new(),
+        path: Path::new(),
+        table: KeptTable::new(),
+        page: Page::new(),
+    };
+    let mut count: u128 = 0;
+    while let Some(cycle) = next_made::<A, K, J, P>(walk, wanted.mode, test, &mut desk.table) {
+        let file = put_made::<A, H>(wanted, &cycle, count, test, &mut desk, shelf)?;
+        count = count.saturating_add(1);
+        names.keep(&cycle, &file, count);
+    }
+    Ok(count)
+}
+
+/// The next of a walk's cycles that has a test. It is made in `test`.
+fn next_made<A: Arch, K: Fn(&[Edge]) -> bool, J: Fn(&[Edge]) -> bool, P: Fn(&Cycle) -> bool>(
+    walk: &mut Walk<K, J, P>,
+    mode: ObsMode,
+    test: &mut Test,
+    table: &mut KeptTable,
+) -> Option<Cycle>
+    requires knows { KnowsOf K.pre K.Fn.post J.pre J.Fn.post P.pre P.Fn.post walk.old.keep walk.old.fit walk.old.take }
+    ensures next { ArrivesOrEnds (HaveTests A.puts mode (Lists P.Fn.post walk.old)) walk.old walk.new result }
+    ensures ready { IfSome result (λ cycle. IsReady A.NAME A.REGISTERS A.puts A.writing mode cycle test.new table.new) }
+{
+    while let Some(cycle) = walk.next() {
+        if make_test::<A>(&cycle, mode, test, table) {
+            return Some(cycle);
+        }
+    }
+    None
+}
+
+/// Writes the file of a cycle's test on the shelf, and gives its name. The test is made in `test`, and what that was before
+/// doesn't count.
+pub(crate) fn put_test<A: Arch, H: Shelf>(
+    wanted: &Wanted,
+    cycle: &Cycle,
+    number: u128,
+    test: &mut Test,
+    desk: &mut Desk,
+    shelf: &mut H,
+) -> Result<FileName, Failed>
+    requires has_test { refusal_of A.puts cycle.now wanted.now.mode ≡ None }
+    requires folder { ForSome wanted.now.folder (λ folder. length folder.now ≤ MAX_FOLDER) }
+    requires idle { (H.seen shelf.old).mode ≡ Idle }
+    ensures file { IfOk result (λ file. file.bytes ≡ file_of number cycle.now) }
+    ensures ok { OnOk result (PutFiles (H.seen shelf.old) (H.seen shelf.new) (test_file_of A.puts A.writing wanted.now number cycle.now ∷ [])) }
+    ensures failed { OnErr result (FailsAt (H.seen shelf.old) (H.seen shelf.new) (test_file_of A.puts A.writing wanted.now number cycle.now)) }
+{
+    if !make_test::<A>(cycle, wanted.mode, test, &mut desk.table) {
+        unreachable!();
+    }
+    put_made::<A, H>(wanted, cycle, number, test, desk, shelf)
+}
+
+/// Writes the file of a cycle's test, which is made, on the shelf, and gives its name.
+fn put_made<A: Arch, H: Shelf>(
+    wanted: &Wanted,
+    cycle: &Cycle,
+    number: u128,
+    test: &Test,
+    desk: &mut Desk,
+    shelf: &mut H,
+) -> Result<FileName, Failed>
+    requires ready { IsReady A.NAME A.REGISTERS A.puts A.writing wanted.now.mode cycle.now test.now desk.old.table }
+    requires folder { ForSome wanted.now.folder (λ folder. length folder.now ≤ MAX_FOLDER) }
+    requires idle { (H.seen shelf.old).mode ≡ Idle }
+    ensures file { IfOk result (λ file. file.bytes ≡ file_of number cycle.now) }
+    ensures ok { OnOk result (PutFiles (H.seen shelf.old) (H.seen shelf.new) (test_file_of A.puts A.writing wanted.now number cycle.now ∷ [])) }
+    ensures failed { OnErr result (FailsAt (H.seen shelf.old) (H.seen shelf.new) (test_file_of A.puts A.writing wanted.now number cycle.now)) }
+{
+    name_of(cycle, &mut desk.name);
+    let file = file_named(number, desk.name.as_str());
+    set_path(wanted.folder, file.as_str(), &mut desk.path);
+    put_text::<A, H>(
+        desk.path.as_str(),
+        desk.name.as_str(),
+        test,
+        &desk.table,
+        &mut desk.page,
+        shelf,
+    )?;
+    Ok(file)
+}
+
+/// Writes the line on how many tests there are.
+pub(crate) fn write_count<O: Sink>(count: u128, out: &mut O) -> Result<(), Failed>
+    ensures { Wrote (O.seen out.old) (O.seen out.new) (count_line count) result }
+{
+    let mut line: ArrayString<MAX_COUNT_LINE> = ArrayString::new();
+    line.push_str("Generator produced ");
+    line.push_str(Buffer::new().format(count));
+    line.push_str(" tests\n");
+    out.write_all(line.as_str().as_bytes())
+}

@@ -1,0 +1,46 @@
+ghost use Rattle.std.specs.Prelude.{◌≡◌, IsTrue, IsFalse, None};
+ghost use Rattle.test_maker.specs.Refusals.{refusal_of};
+ghost use Rattle.tests_to_files.specs.Ready.{IsReady};
+
+use crate::files::Path;
+use arch_trait::Arch;
+use arrayvec::ArrayString;
+use cycle_names::MAX_NAME;
+use diy_io::Page;
+use edge_algebra::Cycle;
+use litmus_text::{KeptTable, Test};
+use relax_edges::ObsMode;
+use test_maker::make_into;
+
+/// What writing tests to their files, one after another, needs: the name of a test, the path of its file, what is kept of its
+/// table, and the page that it is printed to. What these held before doesn't count. It is written out where it is used, and not made by a
+/// call, so that the program clears its 80 KB once where they are, and copies nothing. Room as large is alone in its function: beside
+/// calls that take other large values the program would clear it once at the beginning and once more where it is made.
+#[derive(Drop)]
+pub(crate) struct Desk {
+    pub(crate) name: ArrayString<MAX_NAME>,
+    pub(crate) path: Path,
+    pub(crate) table: KeptTable,
+    pub(crate) page: Page,
+}
+
+/// Makes `test` that of a cycle, ready to be printed, and says whether the cycle has one. Where it has none, nothing is known
+/// of `test` and `table`.
+pub(crate) fn make_test<A: Arch>(
+    cycle: &Cycle,
+    mode: ObsMode,
+    test: &mut Test,
+    table: &mut KeptTable,
+) -> bool
+    ensures made { IsTrue result → refusal_of A.puts cycle.now mode ≡ None }
+    ensures ready { IsTrue result → IsReady A.NAME A.REGISTERS A.puts A.writing mode cycle.now test.new table.new }
+    ensures refused { IsFalse result → refusal_of A.puts cycle.now mode ≡ None → ⊥ }
+{
+    match make_into::<A>(cycle, mode, test) {
+        Ok(()) => {
+            table.keep::<A>(test);
+            true
+        }
+        Err(_) => false,
+    }
+}

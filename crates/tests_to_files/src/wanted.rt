@@ -1,0 +1,98 @@
+ghost use Rattle.std.specs.Prelude.{◌≡◌, ◌↔◌, IsFalse, nat_le};
+ghost use Rattle.std.specs.List.{list_all};
+ghost use Rattle.relax_edges.specs.EdgeTable.{is_of_arch};
+ghost use Rattle.cycle_events.specs.Resolution.{external_count};
+ghost use Rattle.tests_to_files.specs.Plans.{ends_inside, ends_of_arch, has_few_threads, is_sought, may_lead};
+ghost use Rattle.tests_to_files.specs.InternalRuns.{HasLongRun};
+
+use crate::runs::{has_few_accesses, stays_below};
+use arch_trait::Arch;
+use edge_algebra::Cycle;
+use relax_edges::{Edge, ObsMode};
+
+/// What is wanted of a cycle that has a file in a listing, and where the file lies.
+#[derive(Clone, Copy)]
+pub(crate) struct Wanted<'a> {
+    pub(crate) threads: u8,
+    pub(crate) accesses: Option<u8>,
+    pub(crate) mode: ObsMode,
+    pub(crate) folder: Option<&'a str>,
+}
+
+impl Wanted<'_> {
+    /// Whether a cycle that is wanted may begin with the edges, if it may with those before the last: by the
+    /// architecture of the last, and, where that leads to another thread, by how many of them do. A walk asks this
+    /// of each list as it grows, so that the edges before an internal one needn't be looked at again.
+    #[tactic(auto, unfolding(crate::specs::Plans::may_lead))]
+    pub(crate) fn may_lead<A: Arch>(&self, edges: &[Edge]) -> bool
+        ensures { result ≡ may_lead A.puts.name self.now.threads edges.now }
+    {
+        ends_of_arch::<A>(edges) && (ends_inside(edges) || has_few_threads(edges, self.threads))
+    }
+
+    /// Whether a cycle that is wanted may begin with the edges, by the accesses of its threads: the edges
+    /// don't have as many internal ones one after the other as a thread may have accesses, since these
+    /// join one more.
+    #[tactic(auto, using(crate::proofs::RunLaws::long_run_exactly))]
+    pub(crate) fn may_fit(&self, edges: &[Edge]) -> bool
+        ensures { IsFalse result ↔ HasLongRun self.now.accesses edges.now }
+    {
+        match self.accesses {
+            Some(most) => stays_below(most, 0, edges),
+            None => true,
+        }
+    }
+
+    /// Whether a cycle is wanted if it has a test: its edges lead to two threads or more, but to no more
+    /// than are asked for, each has no more accesses, and the edges are of the architecture.
+    #[tactic(auto, using(crate::proofs::Wanting::two_are_some), unfolding(crate::specs::Plans::is_sought))]
+    pub(crate) fn seeks<A: Arch>(&self, cycle: &Cycle) -> bool
+        ensures { result ≡ is_sought A.puts.name self.now.threads self.now.accesses cycle.now }
+    {
+        has_two_threads(cycle.edges())
+            && are_of_arch::<A>(cycle.edges())
+            && has_few_threads(cycle.edges(), self.threads)
+            && has_few_accesses(cycle.edges(), self.accesses)
+    }
+}
+
+/// Whether the last edge, if there is one, is of the architecture.
+fn ends_of_arch<A: Arch>(edges: &[Edge]) -> bool
+    ensures { result ≡ ends_of_arch A.puts.name edges.now }
+{
+    match edges {
+        [] => true,
+        [.., last] => A::supports(*last),
+    }
+}
+
+/// Whether the last edge, if there is one, stays in its thread.
+fn ends_inside(edges: &[Edge]) -> bool
+    ensures { result ≡ ends_inside edges.now }
+{
+    match edges {
+        [] => true,
+        [.., last] => !last.is_external(),
+    }
+}
+
+/// Whether all edges are of the architecture.
+fn are_of_arch<A: Arch>(edges: &[Edge]) -> bool
+    ensures { result ≡ list_all (λ edge. is_of_arch edge A.puts.name) edges.now }
+{
+    edges.iter().all(|edge| A::supports(*edge))
+}
+
+/// Whether at most so many edges lead to another thread.
+fn has_few_threads(edges: &[Edge], threads: u8) -> bool
+    ensures { result ≡ has_few_threads threads edges.now }
+{
+    edges.iter().filter(|edge| edge.is_external()).count() <= usize::from(threads)
+}
+
+/// Whether two edges or more lead to another thread.
+fn has_two_threads(edges: &[Edge]) -> bool
+    ensures { result ≡ nat_le 2 (external_count edges.now) }
+{
+    edges.iter().filter(|edge| edge.is_external()).count() >= 2
+}

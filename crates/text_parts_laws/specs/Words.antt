@@ -1,0 +1,23 @@
+-- The words of a text.
+-- Source: own.
+use Rattle.std.specs.Prelude.{ℕ, Bool, true, false, ◌||◌, ◌==◌, not, List, [], ◌∷◌, Option, Some, None}
+use Rattle.std.specs.List.{filter, slice_split}
+use Rattle.text_parts_laws.specs.Blanks.{is_blank}
+
+-- a text is empty
+abbrev pub is_nil : List ℕ → Bool
+is_nil [] = true
+is_nil (byte ∷ text) = false
+
+-- the words between blanks
+unfoldable pub words : List ℕ → List (List ℕ)
+words text = filter (λ word. not (is_nil word)) (slice_split is_blank text)
+
+-- the words of a text by its first word and the text after that, or none
+abbrev pub words_seen : Option (List ℕ × List ℕ) → List (List ℕ)
+words_seen None = []
+words_seen (Some parts) = parts.0 ∷ words parts.1
+
+-- a byte of a word that ends before a blank or a `(`
+abbrev pub is_argument_byte : ℕ → Bool
+is_argument_byte byte = not (is_blank byte || byte == 40)

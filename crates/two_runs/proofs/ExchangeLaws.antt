@@ -1,0 +1,75 @@
+-- The law of tests: the two executions of the accesses of a cycle's test without observers are those of its program.
+use Rattle.std.proofs.Common.{◌≡◌, ℕ, List, Option, Some, refl, sym, ◌∙◌, ap, subst}
+use Rattle.relax_edges.specs.declared.kinds.ObsMode.TheVariants.{Avoid}
+use Rattle.relax_edges.specs.declared.kinds.Value.{Value}
+use Rattle.relax_edges.specs.declared.edge.Edge.{Edge}
+use Rattle.cycle_events.specs.Resolution.{move_count}
+use Rattle.cycle_events.specs.declared.needs.NeedsObserver.{NeedsObserver}
+use Rattle.cycle_events.specs.Values.{observer_need}
+use Rattle.final_cond.specs.Conditions.{LeftSeen}
+use Rattle.arch_trait.specs.Laws.{IsArch}
+use Rattle.arch_trait.specs.Threads.{Puts}
+use Rattle.program_meaning.specs.Accesses.{Access}
+use Rattle.program_meaning.specs.Executions.{Execution}
+use Rattle.program_meaning.specs.Coherence.{final_value}
+use Rattle.program_meaning.specs.Programs.{Program}
+use Rattle.program_meaning.specs.Intended.{IsNumbering, cycle_accesses, intended}
+use Rattle.accesses_force_cycles.specs.Exchange.{exchanged}
+use Rattle.accesses_force_cycles.specs.Laws.{IsUndecided}
+use Rattle.accesses_force_cycles.proofs.AllStand.{joined_stand}
+use Rattle.accesses_force_cycles.proofs.Bridge.{resolves}
+use Rattle.accesses_force_cycles.proofs.Laws.{no_condition_serves_law}
+use Rattle.accesses_force_cycles.proofs.Needs.{refused_entry}
+use Rattle.accesses_force_cycles.proofs.Resolves.{Resolves}
+use Rattle.tests_force_cycles.specs.FinalStates.{final_state}
+use Rattle.tests_force_cycles.specs.TestHeadline.{HasCode}
+use Rattle.tests_force_cycles.proofs.Headline.{renumbered_numbers, renumbered_program}
+use Rattle.tests_force_cycles.proofs.TestCodes.{cycle_codes, cycle_program, are_codes}
+use Rattle.tests_force_cycles.proofs.Tying.{tied_up}
+use Rattle.two_runs.specs.Undecided.{NoneTells, Undecided, TestsUndecided}
+use Rattle.two_runs.proofs.Breaking.{edge_breaks}
+use Rattle.two_runs.proofs.Carried.{IsCarried, carried}
+use Rattle.two_runs.proofs.States.{end_alike, one_state}
+
+-- whatever holds of the final state of the first execution holds of that of the second
+pub none_tells : (p : Program) (names : List (List ℕ)) (register_number : List ℕ → Option ℕ) (es : List Edge) (edge : ℕ) (one two : Execution) (C : (LeftSeen → Option Value) → Type 0) → NoneTells p names register_number es edge one two → C (final_state p names register_number one) → C (final_state p names register_number two)
+none_tells p names register_number es edge one two C u h = subst C (sym u.same_state) h
+
+-- no condition decides the program of a cycle's test without observers, under any numbers of places
+cycle_undecided : (a : Puts) (es : List Edge) (need : NeedsObserver) (number : ℕ → ℕ) (names : List (List ℕ)) (register_number : List ℕ → Option ℕ) → IsArch a → HasCode a es Avoid → observer_need es ≡ Some need → IsNumbering es number → Undecided (cycle_program a es Avoid number) names register_number es number need.event
+cycle_undecided a es need number names register_number laws t o n = record {
+  first = x.candidate;
+  first_coherent = x.coherent;
+  second = y.candidate;
+  second_coherent = y.coherent;
+  same_state = state;
+  no_condition = λ condition met. ap condition state ∙ met;
+  stand = joined_stand es Avoid number (cycle_program a es Avoid number) (intended es Avoid number) r x.made u.joins
+      (tied_up a.name (cycle_codes a es Avoid number) es Avoid number (intended es Avoid number) t.resolved t.of_arch (are_codes a es Avoid number laws t.resolved t.of_arch) x.candidate);
+  breaks = edge_breaks es Avoid number (cycle_program a es Avoid number) (exchanged es number need.event) need.event r y.made (refused_entry es need r o).below u.breaks;
+}
+  where
+    r : Resolves es
+    r = resolves es t.resolved
+
+    u : IsUndecided es number need.event
+    u = no_condition_serves_law es number need t.resolved n o
+
+    x : IsCarried a es Avoid number (intended es Avoid number)
+    x = carried a es Avoid number (intended es Avoid number) laws t n refl u.first
+
+    y : IsCarried a es Avoid number (exchanged es number need.event)
+    y = carried a es Avoid number (exchanged es number need.event) laws t n u.reads u.second
+
+    state : final_state (cycle_program a es Avoid number) names register_number (exchanged es number need.event) ≡ final_state (cycle_program a es Avoid number) names register_number (intended es Avoid number)
+    state =
+        one_state (cycle_program a es Avoid number) names register_number (intended es Avoid number) (exchanged es number need.event) u.reads
+        (λ place. ap (λ (l : List (List Access)). final_value l (exchanged es number need.event) place) y.made
+        ∙ end_alike (cycle_accesses es Avoid number) (move_count es) (intended es Avoid number) (exchanged es number need.event) u.first.execution.write_lists u.second.execution.write_lists u.ends place
+        ∙ sym (ap (λ (l : List (List Access)). final_value l (intended es Avoid number) place) x.made))
+
+-- where the mode avoid refuses a cycle for a write, no condition decides the cycle's tests without observers
+pub tests_undecided_law : TestsUndecided
+tests_undecided_law a register_name register_number es need test number laws t o e =
+    subst (λ (p : Program). Undecided p test.places register_number es number need.event) (renumbered_program a register_name es Avoid test number e)
+    (cycle_undecided a es need number test.places register_number laws t o (renumbered_numbers a register_name es Avoid test number t e))

@@ -1,7 +1,0 @@
-pub mod Ways
-pub mod Along
-pub mod Writes
-pub mod Entries
-pub mod Laws
-pub mod Lists
-pub mod Arcs
