@@ -14,7 +14,7 @@ mod table;
 
 use crate::table::{NAMES, fixed_texts, table};
 use arch_instructions::{has_by, print_with, put_link, put_load, put_store, read_by, registers_needed};
-use arch_trait::{Arch, AskedAccess, Instrs, Link, MAX_TEXT, Operands, Places, Raw, Regs, Shape};
+use arch_trait::{Arch, AskedAccess, Instrs, Link, MAX_INSTRUCTION_TEXT, Operands, Places, Raw, Regs, Shape};
 use arrayvec::ArrayString;
 use final_cond::RegName;
 use micro_ops::Micro;
@@ -57,7 +57,7 @@ impl Arch for A64 {
     }
 
     #[tactic(auto, using(crate::specs::Clear::is_clear_table))]
-    fn print(op: &Micro, places: &Places, out: &mut ArrayString<MAX_TEXT>) {
+    fn print(op: &Micro, places: &Places, out: &mut ArrayString<MAX_INSTRUCTION_TEXT>) {
         print_with(table(), fixed_texts(), op, places, out);
     }
 

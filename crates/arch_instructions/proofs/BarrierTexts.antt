@@ -3,7 +3,7 @@ use Rattle.std.proofs.Common.{ℕ, ◌≤◌, ◌≡◌, ◌-◌, true, cond, Li
 use Rattle.std.specs.List.{list_all}
 use Rattle.std.proofs.lemmas.Bool.{and_parts, leb-true, eq-eqb, ne_eqb}
 use Rattle.micro_ops.specs.declared.operation.Barrier.{Barrier}
-use Rattle.arch_trait.specs.declared.arch.TheConstants.{MAX_TEXT}
+use Rattle.arch_trait.specs.declared.arch.TheConstants.{MAX_INSTRUCTION_TEXT}
 use Rattle.arch_instructions_laws.specs.Kinds.{barrier_number}
 use Rattle.arch_instructions.specs.declared.fixed.BarrierText.{BarrierText}
 use Rattle.arch_instructions.specs.FixedTexts.{barrier_text, is_short}
@@ -24,9 +24,9 @@ later_text (t ∷ ts) d b l h =
     ap (λ us. barrier_text us b) (rest-cons t ts) ∙ sym other
 
 -- the first text has room
-pub first_short : (ts : List BarrierText) (d : BarrierText) → 1 ≤ length ts → list_all is_short ts ≡ true → length (get_or ts 0 d).text.now ≤ MAX_TEXT
+pub first_short : (ts : List BarrierText) (d : BarrierText) → 1 ≤ length ts → list_all is_short ts ≡ true → length (get_or ts 0 d).text.now ≤ MAX_INSTRUCTION_TEXT
 first_short [] d l h = absurd (omega (arith, l))
-first_short (t ∷ ts) d l h = leb-true (length t.text.now) MAX_TEXT (and_parts (is_short t) (list_all is_short ts) h).0
+first_short (t ∷ ts) d l h = leb-true (length t.text.now) MAX_INSTRUCTION_TEXT (and_parts (is_short t) (list_all is_short ts) h).0
 
 -- the later texts have room
 pub later_short : (ts : List BarrierText) → 1 ≤ length ts → list_all is_short ts ≡ true → list_all is_short (take (length ts - 1) (drop 1 ts)) ≡ true

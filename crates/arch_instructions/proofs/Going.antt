@@ -3,7 +3,7 @@ use Rattle.std.proofs.Common.{ℕ, ◌+◌, ◌-◌, ◌<◌, ◌≤◌, ◌≡�
 use Rattle.std.specs.List.{list_all}
 use Rattle.std.proofs.lemmas.Bool.{and_parts}
 use Rattle.std.proofs.lemmas.Bool.Decides.{nat_tests}
-use Rattle.arch_trait.specs.declared.arch.TheConstants.{MAX_TEXT}
+use Rattle.arch_trait.specs.declared.arch.TheConstants.{MAX_INSTRUCTION_TEXT}
 use Rattle.arch_instructions_laws.specs.declared.form.Piece.{Piece}
 use Rattle.arch_instructions_laws.specs.declared.kind.Operand.{Operand}
 use Rattle.arch_instructions_laws.specs.Tables.{piece_seen, fits_first, after_hole, operands_fit, hole_filled, piece_text}
@@ -39,7 +39,7 @@ going_stops names whole all out (p ∷ ps) vs d l g h =
     sym g.fit ∙ ap (λ b. b && operands_fit (map piece_seen ps) (after_hole p.hole vs)) h
 
 record First (names : ℕ → List ℕ) (whole : List ℕ) (all : Bool) (out : List ℕ) (ps : List Piece) (vs : List Operand) : Type 0 where
-  comma : length (out ++ byte_before 44 (map piece_seen ps)) ≤ MAX_TEXT
+  comma : length (out ++ byte_before 44 (map piece_seen ps)) ≤ MAX_INSTRUCTION_TEXT
   going : Going names whole all (out ++ byte_before 44 (map piece_seen ps)) ps vs
 
 first_done : (names : ℕ → List ℕ) (whole : List ℕ) (all : Bool) (out : List ℕ) (p : Piece) (ps : List Piece) (vs : List Operand) →
@@ -69,11 +69,11 @@ first_done names whole all out p ps vs g f =
 -- after an operand there is room for the comma before the next
 pub going_comma : (names : ℕ → List ℕ) (whole : List ℕ) (all : Bool) (out : List ℕ) (left : List Piece) (vs : List Operand) (d : Piece) (more : List ℕ) → 1 ≤ length left →
     Going names whole all out left vs → fits_first (get_or left 0 d).hole vs ≡ true → more ≡ out ++ piece_text names (piece_seen (get_or left 0 d)) vs →
-    length (more ++ byte_before 44 (map piece_seen (take (length left - 1) (drop 1 left)))) ≤ MAX_TEXT
+    length (more ++ byte_before 44 (map piece_seen (take (length left - 1) (drop 1 left)))) ≤ MAX_INSTRUCTION_TEXT
 going_comma names whole all out [] vs d more l g f e = absurd (omega (arith, l))
 going_comma names whole all out (p ∷ ps) vs d more l g f e =
-    let P : List Piece → Type 0 = (λ remainder. length (more ++ byte_before 44 (map piece_seen remainder)) ≤ MAX_TEXT) in
-    let Q : List ℕ → Type 0 = (λ text. length (text ++ byte_before 44 (map piece_seen ps)) ≤ MAX_TEXT) in
+    let P : List Piece → Type 0 = (λ remainder. length (more ++ byte_before 44 (map piece_seen remainder)) ≤ MAX_INSTRUCTION_TEXT) in
+    let Q : List ℕ → Type 0 = (λ text. length (text ++ byte_before 44 (map piece_seen ps)) ≤ MAX_INSTRUCTION_TEXT) in
     subst P (sym (rest-cons p ps)) (subst Q (sym e) (first_done names whole all out p ps vs g f).comma)
 
 -- after an operand and its comma the printing goes on with the others

@@ -1,7 +1,7 @@
 -- There is room for an instruction of a good form.
 use Rattle.std.proofs.Common.{ℕ, ◌+◌, ◌≤◌, ◌≡◌, true, List, [], ◌∷◌, ◌++◌, subst, length, arith, length-append, ap}
 use Rattle.std.proofs.lemmas.Bool.{leb-true}
-use Rattle.arch_trait.specs.declared.arch.TheConstants.{MAX_TEXT}
+use Rattle.arch_trait.specs.declared.arch.TheConstants.{MAX_INSTRUCTION_TEXT}
 use Rattle.arch_instructions_laws.specs.declared.form.Hole.{Hole}
 use Rattle.arch_instructions_laws.specs.declared.kind.Operand.{Operand}
 use Rattle.arch_instructions_laws.specs.declared.kind.Operand.TheVariants as operands
@@ -28,19 +28,19 @@ pub hole_short : (names : ℕ → List ℕ) (hole : Hole) (vs : List Operand) �
 hole_short names hole vs short g f = filled_short names hole vs g f (λ p us e. (subst (AllShort names) e short).0)
 
 -- the word and the operands of a good form have together at most so many bytes
-form_short : (f : FormText) → is_form_good f ≡ true → length f.word + most_of f.pieces ≤ MAX_TEXT
-form_short f good = leb-true (length f.word + most_of f.pieces) MAX_TEXT (form_is_good f good).short
+form_short : (f : FormText) → is_form_good f ≡ true → length f.word + most_of f.pieces ≤ MAX_INSTRUCTION_TEXT
+form_short f good = leb-true (length f.word + most_of f.pieces) MAX_INSTRUCTION_TEXT (form_is_good f good).short
 
 -- there is room for what is in a hole
 pub hole_room : (names : ℕ → List ℕ) (used : ℕ) (p : PieceText) (vs : List Operand) (out : List ℕ) → ReadyPiece names used p vs → fits_first p.hole vs ≡ true →
-    length out ≡ used + length p.before → length (out ++ hole_filled names p.hole vs) ≤ MAX_TEXT
+    length out ≡ used + length p.before → length (out ++ hole_filled names p.hole vs) ≤ MAX_INSTRUCTION_TEXT
 hole_room names used p vs out h f e =
     let here = hole_short names p.hole vs h.short (piece_is_good p h.good).hole f in
     omega (arith, h.room, here, e, length-append out (hole_filled names p.hole vs))
 
 -- there is room for the fixed text after a hole
 pub after_room : (names : ℕ → List ℕ) (used : ℕ) (p : PieceText) (vs : List Operand) (out : List ℕ) → ReadyPiece names used p vs → fits_first p.hole vs ≡ true →
-    length out ≡ used + length p.before + length (hole_filled names p.hole vs) → length (out ++ p.after) ≤ MAX_TEXT
+    length out ≡ used + length p.before + length (hole_filled names p.hole vs) → length (out ++ p.after) ≤ MAX_INSTRUCTION_TEXT
 after_room names used p vs out h f e =
     let here = hole_short names p.hole vs h.short (piece_is_good p h.good).hole f in
     omega (arith, h.room, here, e, length-append out p.after)
@@ -67,10 +67,10 @@ form_ready names f vs more next good short e k =
     }
 
 -- there is room for the word of a good form and the blank after it
-pub blank_room : (f : FormText) (more : List ℕ) → is_form_good f ≡ true → more ≡ f.word → length (more ++ byte_before 32 f.pieces) ≤ MAX_TEXT
+pub blank_room : (f : FormText) (more : List ℕ) → is_form_good f ≡ true → more ≡ f.word → length (more ++ byte_before 32 f.pieces) ≤ MAX_INSTRUCTION_TEXT
 blank_room f more good e =
     omega (arith, form_short f good, after_of f.pieces 32, ap length e, length-append more (byte_before 32 f.pieces))
 
 -- there is room for the word of a good form
-pub word_room : (f : FormText) → is_form_good f ≡ true → length f.word ≤ MAX_TEXT
+pub word_room : (f : FormText) → is_form_good f ≡ true → length f.word ≤ MAX_INSTRUCTION_TEXT
 word_room f good = omega (arith, form_short f good)

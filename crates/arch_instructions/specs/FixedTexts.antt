@@ -5,7 +5,7 @@ use Rattle.std.specs.List.{list_all}
 use Rattle.micro_ops.specs.declared.operation.Micro.{Micro}
 use Rattle.micro_ops.specs.declared.operation.Micro.TheVariants as ops
 use Rattle.micro_ops.specs.declared.operation.Barrier.{Barrier}
-use Rattle.arch_trait.specs.declared.arch.TheConstants.{MAX_TEXT}
+use Rattle.arch_trait.specs.declared.arch.TheConstants.{MAX_INSTRUCTION_TEXT}
 use Rattle.arch_trait.specs.Writing.{written_text}
 use Rattle.arch_instructions_laws.specs.Kinds.{same_barrier}
 use Rattle.arch_instructions_laws.specs.Tables.{TableText, table_written}
@@ -33,11 +33,11 @@ fixed_text _ _ = None
 
 -- two digits with these texts around them have room
 abbrev pub has_room : TextsAround → Bool
-has_room t = nat_le (length t.before.now + (length t.between.now + length t.after.now) + 2) MAX_TEXT
+has_room t = nat_le (length t.before.now + (length t.between.now + length t.after.now) + 2) MAX_INSTRUCTION_TEXT
 
 -- the text of a barrier has room
 abbrev pub is_short : BarrierText → Bool
-is_short t = nat_le (length t.text.now) MAX_TEXT
+is_short t = nat_le (length t.text.now) MAX_INSTRUCTION_TEXT
 
 -- all fixed texts have room
 abbrev pub have_room : FixedTexts → Bool

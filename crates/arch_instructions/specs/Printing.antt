@@ -3,7 +3,7 @@
 use Rattle.std.specs.Prelude.{ℕ, ◌+◌, ◌≤◌, ◌≡◌, Bool, true, nat_le, List, [], ◌∷◌, ◌++◌, None, Some, take, length}
 use Rattle.micro_ops.specs.declared.operation.Micro.{Micro}
 use Rattle.micro_ops.specs.declared.operation.Micro.TheVariants as ops
-use Rattle.arch_trait.specs.declared.arch.TheConstants.{MAX_TEXT}
+use Rattle.arch_trait.specs.declared.arch.TheConstants.{MAX_INSTRUCTION_TEXT}
 use Rattle.arch_instructions_laws.specs.declared.kind.Kind.{Kind}
 use Rattle.arch_instructions_laws.specs.declared.kind.Kind.TheVariants as kinds
 use Rattle.arch_instructions_laws.specs.declared.kind.Operand.{Operand}
@@ -57,13 +57,13 @@ AllShort names (operands.Label l ∷ vs) = AllShort names vs
 pub record ReadyPiece (names : ℕ → List ℕ) (used : ℕ) (p : PieceText) (vs : List Operand) : Type 0 where
   pub good : is_piece_good p ≡ true
   pub short : AllShort names vs
-  pub room : used + (length p.before + (most_in p.hole + length p.after)) ≤ MAX_TEXT
+  pub room : used + (length p.before + (most_in p.hole + length p.after)) ≤ MAX_INSTRUCTION_TEXT
 
 -- after so many bytes there is room for operands with commas between
 pub record ReadyToPrint (names : ℕ → List ℕ) (used : ℕ) (ps : List PieceText) (vs : List Operand) : Type 0 where
   pub good : list_all is_piece_good ps ≡ true
   pub short : AllShort names vs
-  pub room : used + most_of ps ≤ MAX_TEXT + 1
+  pub room : used + most_of ps ≤ MAX_INSTRUCTION_TEXT + 1
 
 -- the name of an operation's place has at most 16 bytes, if it has a place
 abbrev pub place_short : (ℕ → List ℕ) → Micro → Bool

@@ -4,7 +4,7 @@ ghost use Rattle.arch_instructions.specs.FixedTexts.{text_around, barrier_text, 
 
 use crate::operands::barrier_number;
 use crate::push::Text;
-use arch_trait::{MAX_TEXT, push_digit};
+use arch_trait::{MAX_INSTRUCTION_TEXT, push_digit};
 use micro_ops::{Barrier, Micro};
 
 /// The texts before, between and after the two numbers of an instruction.
@@ -136,7 +136,7 @@ fn print_barrier(texts: &[BarrierText], barrier: Barrier, out: &mut Text) -> boo
 /// Makes `out` a text, one of four to six letters without a loop over its bytes.
 #[inline(always)]
 fn print_unrolled(text: &str, out: &mut Text)
-    requires room { length text.now ≤ MAX_TEXT }
+    requires room { length text.now ≤ MAX_INSTRUCTION_TEXT }
     ensures { out.new.bytes ≡ text.now }
 {
     match text.len() {
@@ -150,7 +150,7 @@ fn print_unrolled(text: &str, out: &mut Text)
 /// Makes `out` a fixed text.
 #[inline(always)]
 pub fn print_fixed(text: &str, out: &mut Text)
-    requires room { length text.now ≤ MAX_TEXT }
+    requires room { length text.now ≤ MAX_INSTRUCTION_TEXT }
     ensures { out.new.bytes ≡ text.now }
 {
     out.clear();

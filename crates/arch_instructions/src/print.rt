@@ -11,7 +11,7 @@ use crate::fixed::{FixedTexts, print_short};
 use crate::operands::operands_of;
 use crate::push::{Text, push_place, push_short, push_word};
 use crate::sorts::{Sort, may_do, op_sort};
-use arch_trait::{MAX_TEXT, Places, push_label, push_number};
+use arch_trait::{MAX_INSTRUCTION_TEXT, Places, push_label, push_number};
 use arrayvec::ArrayString;
 use arch_instructions_laws::{Form, Hole, Operand, Piece, Table};
 use micro_ops::Micro;
@@ -24,7 +24,7 @@ enum Separator {
 }
 
 /// Makes `out` the text of an operation, by the first form of the table that does it.
-pub fn print_by(table: &Table, op: &Micro, places: &Places, out: &mut ArrayString<MAX_TEXT>)
+pub fn print_by(table: &Table, op: &Micro, places: &Places, out: &mut ArrayString<MAX_INSTRUCTION_TEXT>)
     requires clear { is_clear (table_seen table.now).forms ≡ true }
     requires has { table_has (table_seen table.now) op.now ≡ true }
     requires place { place_below (length places.now) op.now ≡ true }
@@ -49,7 +49,7 @@ pub fn print_with(
     texts: &FixedTexts,
     op: &Micro,
     places: &Places,
-    out: &mut ArrayString<MAX_TEXT>,
+    out: &mut ArrayString<MAX_INSTRUCTION_TEXT>,
 )
     requires texts { AreOfTable texts.now (table_seen table.now) }
     requires clear { is_clear (table_seen table.now).forms ≡ true }
@@ -167,7 +167,7 @@ fn push_pieces(pieces: &[Piece], operands: &[Operand], places: &Places, out: &mu
 /// Appends a separator before operands, if there are any.
 #[inline]
 fn push_before(separator: Separator, pieces: &[Piece], out: &mut Text)
-    requires room { length (out.old.bytes ++ byte_before (separator_byte separator) (map piece_seen pieces.now)) ≤ MAX_TEXT }
+    requires room { length (out.old.bytes ++ byte_before (separator_byte separator) (map piece_seen pieces.now)) ≤ MAX_INSTRUCTION_TEXT }
     ensures { out.new.bytes ≡ out.old.bytes ++ byte_before (separator_byte separator) (map piece_seen pieces.now) }
 {
     match (separator, pieces) {
@@ -196,7 +196,7 @@ fn push_piece(piece: &Piece, operands: &[Operand], places: &Places, out: &mut Te
 /// Appends what is in a hole.
 #[inline]
 fn push_hole(hole: Hole, operands: &[Operand], places: &Places, out: &mut Text)
-    requires room { length (out.old.bytes ++ hole_filled (name_in places.now) hole operands.now) ≤ MAX_TEXT }
+    requires room { length (out.old.bytes ++ hole_filled (name_in places.now) hole operands.now) ≤ MAX_INSTRUCTION_TEXT }
     ensures { out.new.bytes ≡ out.old.bytes ++ hole_filled (name_in places.now) hole operands.now }
 {
     match (hole, operands) {

@@ -1,16 +1,16 @@
 ghost use Rattle.std.specs.Prelude.{◌≡◌, ◌≤◌, ◌++◌, length};
 ghost use Rattle.arch_trait.specs.Writing.{name_in};
 
-use arch_trait::{MAX_TEXT, Places};
+use arch_trait::{MAX_INSTRUCTION_TEXT, Places};
 use arrayvec::ArrayString;
 
 /// The text of an instruction.
-pub(crate) type Text = ArrayString<MAX_TEXT>;
+pub(crate) type Text = ArrayString<MAX_INSTRUCTION_TEXT>;
 
 /// Appends a text, a very short one without a loop over its bytes.
 #[inline]
 pub fn push_short(text: &str, out: &mut Text)
-    requires room { length (out.old.bytes ++ text.now) ≤ MAX_TEXT }
+    requires room { length (out.old.bytes ++ text.now) ≤ MAX_INSTRUCTION_TEXT }
     ensures { out.new.bytes ≡ out.old.bytes ++ text.now }
 {
     match text.len() {
@@ -24,7 +24,7 @@ pub fn push_short(text: &str, out: &mut Text)
 /// Appends a word, one of three letters without a loop over its bytes.
 #[inline]
 pub(crate) fn push_word(word: &str, out: &mut Text)
-    requires room { length (out.old.bytes ++ word.now) ≤ MAX_TEXT }
+    requires room { length (out.old.bytes ++ word.now) ≤ MAX_INSTRUCTION_TEXT }
     ensures { out.new.bytes ≡ out.old.bytes ++ word.now }
 {
     match word.len() {
@@ -36,7 +36,7 @@ pub(crate) fn push_word(word: &str, out: &mut Text)
 /// Appends the name of a place, where it has one.
 #[inline]
 pub(crate) fn push_place(place: u8, places: &Places, out: &mut Text)
-    requires room { length (out.old.bytes ++ name_in places.now place) ≤ MAX_TEXT }
+    requires room { length (out.old.bytes ++ name_in places.now place) ≤ MAX_INSTRUCTION_TEXT }
     ensures { out.new.bytes ≡ out.old.bytes ++ name_in places.now place }
 {
     if place < places.len() {

@@ -7,7 +7,7 @@ use Rattle.std.proofs.lemmas.Bool.{and_parts, not-true}
 use Rattle.std.proofs.lemmas.Slice.Eq.{bytes_eq-Decides}
 use Rattle.list_laws.proofs.Cases.{by_test}
 use Rattle.micro_ops.specs.declared.operation.Micro.{Micro}
-use Rattle.arch_trait.specs.declared.arch.TheConstants.{MAX_TEXT}
+use Rattle.arch_trait.specs.declared.arch.TheConstants.{MAX_INSTRUCTION_TEXT}
 use Rattle.arch_trait.specs.Writing.{RawInstr}
 use Rattle.arch_instructions_laws.specs.declared.kind.Operand.{Operand}
 use Rattle.arch_instructions_laws.specs.Kinds.{operands_of, raw_with}
@@ -23,7 +23,7 @@ pub record GoodForm (f : FormText) : Type 0 where
   pub unending : list_any (bytes_eq f.word) ending_words ≡ false
   pub pieces : list_all is_piece_good f.pieces ≡ true
   pub few : nat_le (length f.pieces) 4 ≡ true
-  pub short : nat_le (length f.word + most_of f.pieces) MAX_TEXT ≡ true
+  pub short : nat_le (length f.word + most_of f.pieces) MAX_INSTRUCTION_TEXT ≡ true
 
 -- a form that passes its test has those parts
 pub form_is_good : (f : FormText) → is_form_good f ≡ true → GoodForm f

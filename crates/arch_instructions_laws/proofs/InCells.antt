@@ -15,7 +15,7 @@ use Rattle.micro_ops.specs.declared.operation.Micro.{Micro}
 use Rattle.micro_ops.specs.declared.operation.Micro.TheVariants as ops
 use Rattle.arch_trait.specs.Cells.{is_cell_byte, first_word, ends_rows, is_label_op, WritesCells}
 use Rattle.arch_trait.specs.InstructionReading.{few}
-use Rattle.arch_trait.specs.declared.arch.TheConstants.{MAX_TEXT}
+use Rattle.arch_trait.specs.declared.arch.TheConstants.{MAX_INSTRUCTION_TEXT}
 use Rattle.arch_trait.specs.Threads.{Puts}
 use Rattle.arch_trait.specs.Writing.{OperandTexts, listed, written_text, op_name, is_well_named}
 use Rattle.text_parts_laws.proofs.CutLaws.{all_both}
@@ -99,7 +99,7 @@ written_by t names op e = grind arith
 record FitsCells (text : List ℕ) : Type 0 where
   pub cells : list_all is_cell_byte text ≡ true
   pub rows : ends_rows text ≡ false
-  pub short : length text ≤ MAX_TEXT
+  pub short : length text ≤ MAX_INSTRUCTION_TEXT
 
 fits_cells : (t : TableText) (names : ℕ → List ℕ) (op : Micro) → is_clear t.forms ≡ true → table_has t op ≡ true →
     is_well_named (op_name names op) ≡ true → is_label_op op ≡ false → FitsCells (written_text (table_written t names op))
@@ -117,7 +117,7 @@ fits_cells t names op clear has named other =
       cells = grind (arith, all_both, fixed_cell, first_word_fixed, listed_cell);
       rows = grind (arith, word_first);
       short =
-          let k = leb-true (length c.form.word + most_of c.form.pieces) MAX_TEXT g.short in
+          let k = leb-true (length c.form.word + most_of c.form.pieces) MAX_INSTRUCTION_TEXT g.short in
           omega (arith, k, i.short, length-listed (op_texts names op c.form), length-append c.form.word (listed (few (op_texts names op c.form))));
     })
 
@@ -125,7 +125,7 @@ label_rows : (t : TableText) (names : ℕ → List ℕ) (l : ℕ) → ends_rows 
 unfolding ends_rows leading_run after_run
 label_rows t names l = refl
 
-label_short : (t : TableText) (names : ℕ → List ℕ) (l : ℕ) → length (written_text (table_written t names (ops.Label l))) ≤ MAX_TEXT
+label_short : (t : TableText) (names : ℕ → List ℕ) (l : ℕ) → length (written_text (table_written t names (ops.Label l))) ≤ MAX_INSTRUCTION_TEXT
 label_short t names l = omega arith
 
 rows : (t : TableText) (names : ℕ → List ℕ) (op : Micro) → is_clear t.forms ≡ true → table_has t op ≡ true →
@@ -134,7 +134,7 @@ rows t names (ops.Label l) clear has named = label_rows t names l
 rows t names op clear has named = (fits_cells t names op clear has named refl).rows
 
 short : (t : TableText) (names : ℕ → List ℕ) (op : Micro) → is_clear t.forms ≡ true → table_has t op ≡ true →
-    is_well_named (op_name names op) ≡ true → length (written_text (table_written t names op)) ≤ MAX_TEXT
+    is_well_named (op_name names op) ≡ true → length (written_text (table_written t names op)) ≤ MAX_INSTRUCTION_TEXT
 short t names (ops.Label l) clear has named = label_short t names l
 short t names op clear has named = (fits_cells t names op clear has named refl).short
 

@@ -5,7 +5,7 @@ use Rattle.std.specs.List.{list_all, list_any}
 use Rattle.std.specs.Str.{bytes_eq}
 use Rattle.text_parts_laws.specs.Blanks.{is_blank}
 use Rattle.arch_trait.specs.Cells.{is_cell_byte}
-use Rattle.arch_trait.specs.declared.arch.TheConstants.{MAX_TEXT}
+use Rattle.arch_trait.specs.declared.arch.TheConstants.{MAX_INSTRUCTION_TEXT}
 use Rattle.arch_instructions_laws.specs.declared.form.Hole.{Hole}
 use Rattle.arch_instructions_laws.specs.declared.form.Hole.TheVariants as holes
 use Rattle.arch_instructions_laws.specs.Tables.{PieceText, FormText, piece_found}
@@ -90,7 +90,7 @@ is_first_byte b = is_fixed_byte b && not (b == 40)
 unfoldable pub is_form_good : FormText → Bool
 is_form_good f = (nat_le 1 (length f.word) && list_all is_first_byte f.word) &&
     (not (list_any (bytes_eq f.word) ending_words) &&
-    (list_all is_piece_good f.pieces && (nat_le (length f.pieces) 4 && nat_le (length f.word + most_of f.pieces) MAX_TEXT)))
+    (list_all is_piece_good f.pieces && (nat_le (length f.pieces) 4 && nat_le (length f.word + most_of f.pieces) MAX_INSTRUCTION_TEXT)))
 
 -- each form is good, and no instruction is of two forms
 unfoldable pub is_clear : List FormText → Bool

@@ -13,7 +13,7 @@ use Rattle.arch_trait.specs.declared.link.Link.{Link}
 use Rattle.arch_trait.specs.Taking.{Taken}
 use Rattle.arch_trait.specs.Threads.{Puts}
 use Rattle.arch_trait.specs.Writing.{Writing, op_text, op_name, is_well_named, label_name}
-use Rattle.arch_trait.specs.declared.arch.TheConstants.{MAX_TEXT}
+use Rattle.arch_trait.specs.declared.arch.TheConstants.{MAX_INSTRUCTION_TEXT}
 
 -- a byte of a line of a printed test: a space or a graphic character, but no `*`
 abbrev pub is_line_byte : ℕ → Bool
@@ -43,7 +43,7 @@ pub record WritesCells (a : Puts) (w : Writing) : Type 0 where
       → list_all is_cell_byte (op_text w names op) ≡ true
   pub rows : (names : ℕ → List ℕ) (op : Micro) → a.has op ≡ true → is_well_named (op_name names op) ≡ true → ends_rows (op_text w names op) ≡ false
   pub labels : (names : ℕ → List ℕ) (label : ℕ) → a.has (ops.Label label) ≡ true → op_text w names (ops.Label label) ≡ label_name label ++ codes ":"
-  pub short : (names : ℕ → List ℕ) (op : Micro) → a.has op ≡ true → is_well_named (op_name names op) ≡ true → length (op_text w names op) ≤ MAX_TEXT
+  pub short : (names : ℕ → List ℕ) (op : Micro) → a.has op ≡ true → is_well_named (op_name names op) ≡ true → length (op_text w names op) ≤ MAX_INSTRUCTION_TEXT
 
 -- an operation reads or writes a place
 abbrev pub is_access : Micro → Bool

@@ -31,7 +31,7 @@ pub const MAX_STEP_INSTRS: usize = 6;
 pub const MAX_INSTRS: usize = MAX_STEPS * MAX_STEP_INSTRS;
 
 /// The most bytes of an instruction's text.
-pub const MAX_TEXT: usize = 40;
+pub const MAX_INSTRUCTION_TEXT: usize = 40;
 
 /// The operations of a thread.
 pub type Instrs = ArrayVec<Micro, MAX_INSTRS>;
@@ -95,7 +95,7 @@ pub trait Arch {
         ensures code { out.new.items ≡ out.old.items ++ (puts.store regs.old access.link access.mark access.source access.place value).code };
 
     /// Makes `out` the text of an operation.
-    fn print(op: &Micro, places: &Places, out: &mut ArrayString<MAX_TEXT>)
+    fn print(op: &Micro, places: &Places, out: &mut ArrayString<MAX_INSTRUCTION_TEXT>)
         requires has { puts.has op.now ≡ true }
         requires place { place_below (length places.now) op.now ≡ true }
         requires label { label_below 64 op.now ≡ true }

@@ -14,7 +14,7 @@ mod table;
 
 use crate::short::print_short;
 use crate::table::table;
-use arch_trait::{Arch, AskedAccess, Instrs, Link, MAX_TEXT, Operands, Places, Raw, Regs, Shape};
+use arch_trait::{Arch, AskedAccess, Instrs, Link, MAX_INSTRUCTION_TEXT, Operands, Places, Raw, Regs, Shape};
 use arrayvec::ArrayString;
 use final_cond::RegName;
 use arch_instructions::{has_by, print_by, read_by};
@@ -72,7 +72,7 @@ impl Arch for X86 {
     }
 
     #[tactic(auto, using(crate::specs::Clear::is_clear_table))]
-    fn print(op: &Micro, places: &Places, out: &mut ArrayString<MAX_TEXT>) {
+    fn print(op: &Micro, places: &Places, out: &mut ArrayString<MAX_INSTRUCTION_TEXT>) {
         if !print_short(op, places, out) {
             print_by(table(), op, places, out);
         }

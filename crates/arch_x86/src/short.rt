@@ -3,14 +3,14 @@ ghost use Rattle.arch_trait.specs.Writing.{op_text, name_in, place_below};
 ghost use Rattle.arch_x86.specs.Table.{writing, x86_register_names};
 
 use crate::REGISTER_NAMES;
-use arch_trait::{MAX_TEXT, Places, push_digit};
+use arch_trait::{MAX_INSTRUCTION_TEXT, Places, push_digit};
 use arrayvec::ArrayString;
 use arch_instructions::{print_fixed, push_short};
 use micro_ops::{Barrier, Micro};
 use relax_edges::FenceKind;
 
 /// The text of an instruction.
-type Text = ArrayString<MAX_TEXT>;
+type Text = ArrayString<MAX_INSTRUCTION_TEXT>;
 
 /// Makes `out` the text of an operation of those that tests are full of, where its number is one digit: the text by the table, in fewer
 /// instructions. False for any other operation.

@@ -31,7 +31,7 @@ use Rattle.arch_trait.specs.declared.arch.TheConstants.{MAX_INSTRS}
 use Rattle.arch_trait.specs.Threads.{ThreadCode}
 use Rattle.arch_trait.specs.Writing.{Writing, op_text, name_in}
 use Rattle.arch_trait.specs.SeenTests.{TestSeen}
-use Rattle.litmus_text.specs.declared.limits.TheConstants.{MAX_TEXT}
+use Rattle.litmus_text.specs.declared.limits.TheConstants.{MAX_TEST_TEXT}
 use Rattle.list_laws.proofs.Elements.{flat_map-flat_map}
 use Rattle.litmus_text.specs.TestText.{header_line, edges_line, item_text, items_lines, initial_lines, column_of, width_of, cell_text, row_line, row_count, table_lines, test_lines, with_line_feed, test_text}
 
@@ -262,7 +262,7 @@ cond_short condition formed few =
 
 -- the text of a test of so many edges, such threads and terms is shorter than the format's longest
 pub text_short : (arch : ArchName) (w : Writing) (name : List ℕ) (test : TestSeen) → length name ≤ 800 → length test.edges ≤ MAX_EDGES → length test.threads ≤ MAX_EDGES → AreShort w.registers → AreShort test.places
-    → AllByRecursion (IsSmall w test.places) test.threads → AllByRecursion IsFormedTerm test.cond.terms → length test.cond.terms ≤ MAX_EDGES → length (test_text arch w name test) ≤ MAX_TEXT
+    → AllByRecursion (IsSmall w test.places) test.threads → AllByRecursion IsFormedTerm test.cond.terms → length test.cond.terms ≤ MAX_EDGES → length (test_text arch w name test) ≤ MAX_TEST_TEXT
 unfolding test_text test_lines
 text_short arch w name test short edges threads registers names small formed few =
     let head = with_line_feed (header_line arch name) in

@@ -14,7 +14,7 @@ use arch_arm::Arm;
 use arch_power::Power;
 use arch_riscv::Riscv;
 use arch_trait::{
-    Arch, InstrError, MAX_STEPS, MAX_TEXT, Places, Step, TooManyRegisters, compile_thread,
+    Arch, InstrError, MAX_STEPS, MAX_INSTRUCTION_TEXT, Places, Step, TooManyRegisters, compile_thread,
 };
 use arch_x86::X86;
 use arrayvec::ArrayString;
@@ -56,7 +56,7 @@ fn shows<A: Arch>(
     places: &mut Places,
     labels: &mut Places,
 ) {
-    let mut text: ArrayString<MAX_TEXT> = ArrayString::new();
+    let mut text: ArrayString<MAX_INSTRUCTION_TEXT> = ArrayString::new();
     assert!(rt; A::has(op) && is_printable(op, places.len()));
     A::print(op, places, &mut text);
     assert_eq!(rt; text.as_str(), expected);

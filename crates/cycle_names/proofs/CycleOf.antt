@@ -1,5 +1,5 @@
 -- What is read is the cycle of the name, and what is refused is no name.
-use Rattle.cycle_names.proofs.Vocabulary.{◌≡◌, ◌≤◌, ℕ, suc, true, false, Option, Some, None, nat_lt, Result, Ok, Err, IsOk, List, [], ◌∷◌, ◌++◌, length, drop, codes, bytes_eq, bytes_decides, sym, ◌∙◌, ap, arith, and_parts, cond-true, cond-false, false≢true, by_test, by_option, MAX_EDGES, ArchName, Mark, Plain, Edge, target_mark, word_of, join_by, same_Some, IsCycle, first_break, IsLeast, rotated, rotation_length, CycleError, TooLong, composed, unbroken, composes_exactly, MAX_NAME, Family, family_word, family_edges, all_families, link_words, found_family, named_rotation, links_text, name_from, name_of, IsNamedAt, begins_with_word, named_family, marked_between, first_mark, last_mark, marked_along, marked_around, marked_if, slots_filled, words_read, edges_read, AddsEdges, are_of_arch, IsNamed, NamesNone, before_edges}
+use Rattle.cycle_names.proofs.Vocabulary.{◌≡◌, ◌≤◌, ℕ, suc, true, false, Option, Some, None, nat_lt, Result, Ok, Err, IsOk, List, [], ◌∷◌, ◌++◌, length, drop, codes, bytes_eq, bytes_decides, sym, ◌∙◌, ap, arith, and_parts, cond-true, cond-false, false≢true, by_test, by_option, MAX_EDGES, ArchName, Mark, Plain, Edge, target_mark, word_of, join_by, same_Some, IsCycle, first_break, IsLeast, rotated, rotation_length, CycleError, TooLong, composed, unbroken, composes_exactly, MAX_CYCLE_NAME, Family, family_word, family_edges, all_families, link_words, found_family, named_rotation, links_text, name_from, name_of, IsNamedAt, begins_with_word, named_family, marked_between, first_mark, last_mark, marked_along, marked_around, marked_if, slots_filled, words_read, edges_read, AddsEdges, are_of_arch, IsNamed, NamesNone, before_edges}
 use Rattle.cycle_names.proofs.Members.{found_passes}
 use Rattle.cycle_names.proofs.Chosen.{named_rotates, least_named}
 use Rattle.cycle_names.proofs.ReadBack.{name_back}
@@ -27,7 +27,7 @@ pub own_words : (u edges : List Edge) (place least : ℕ) (start new : List ℕ)
 own_words u edges place least start new c h l e p s n = rw (n, s, p, e) (ap (join_by word_of (codes " ")) (sym (least_named u (rotated least u) c.some h l)))
 
 -- a name has few bytes
-pub name_short : (u : List Edge) (name : List ℕ) → IsCycle u → name ≡ name_of u → length name ≤ MAX_NAME
+pub name_short : (u : List Edge) (name : List ℕ) → IsCycle u → name ≡ name_of u → length name ≤ MAX_CYCLE_NAME
 name_short u name c e = omega (arith, ap length e, (names_of_cycles u c).short)
 
 -- what is read of a name

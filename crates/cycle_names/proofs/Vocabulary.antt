@@ -40,7 +40,7 @@ pub use Rattle.cycle_names.specs.Rotations.{all_unmarked, edges_below, fits_fami
 unfoldable pub use Rattle.cycle_names.specs.Rotations.{found_family, named_rotation}
 pub use Rattle.cycle_names.specs.declared.family.Family.{Family}
 pub use Rattle.cycle_names.specs.declared.link.TheConstants.{MAX_LINK, PO_PLACE}
-pub use Rattle.cycle_names.specs.declared.name.TheConstants.{MAX_NAME}
+pub use Rattle.cycle_names.specs.declared.name.TheConstants.{MAX_CYCLE_NAME}
 pub use Rattle.cycle_names.specs.declared.read.NotAName.{NotAName}
 pub use Rattle.cycle_names.specs.declared.slot.Slot.{Slot}
 pub use Rattle.cycle_names.specs.declared.words.TheConstants.{MAX_SEPARATED}

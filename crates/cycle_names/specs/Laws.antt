@@ -6,7 +6,7 @@ use Rattle.relax_edges.specs.declared.edge.Edge.{Edge}
 use Rattle.relax_edges.specs.EdgeTable.{is_of_arch}
 use Rattle.edge_algebra_laws.specs.Composable.{IsCycle}
 use Rattle.edge_algebra_laws.specs.Rotation.{IsRotation}
-use Rattle.cycle_names.specs.declared.name.TheConstants.{MAX_NAME}
+use Rattle.cycle_names.specs.declared.name.TheConstants.{MAX_CYCLE_NAME}
 use Rattle.cycle_names.specs.declared.family.Family.{Family}
 use Rattle.cycle_names.specs.Rotations.{is_of_family, named_rotation}
 use Rattle.text_parts_laws.specs.Names.{is_name_byte}
@@ -44,7 +44,7 @@ FamiliesApart = (u : List Edge) (f g : Family) → is_of_family u f ≡ true →
 -- the text of a name: 1 to 800 bytes, each an ASCII letter or digit, or one of `+`, `-`, `.` and `_`
 pub record IsName (text : List ℕ) : Type 0 where
   pub some : 0 < length text
-  pub short : length text ≤ MAX_NAME
+  pub short : length text ≤ MAX_CYCLE_NAME
   pub bytes : list_all is_name_byte text ≡ true
 
 -- the name of a cycle is the text of a name

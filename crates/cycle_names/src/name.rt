@@ -15,10 +15,10 @@ use edge_algebra::Cycle;
 use relax_edges::Edge;
 
 /// The most bytes of a name.
-pub const MAX_NAME: usize = 800;
+pub const MAX_CYCLE_NAME: usize = 800;
 
 /// The most bytes of the line of a cycle: its name, a colon and a blank, its edges and a line feed.
-pub const MAX_NAME_LINE: usize = 2 * MAX_NAME + 3;
+pub const MAX_NAME_LINE: usize = 2 * MAX_CYCLE_NAME + 3;
 
 /// The family of a cycle: that of the table of which some rotation of the cycle has the external
 /// edges at their places and, for each `PodXY`, an edge from X to Y that leads to another location
@@ -41,7 +41,7 @@ pub fn family_of(cycle: &Cycle) -> Family
 /// each. The word of a link with marks ends in their letters, as `popl`. Of the rotations that fit
 /// the family, the one counts whose list of words comes first. Every other cycle is named `C+` and
 /// the words of the edges of its normal form, joined by `-`.
-pub fn name_of(cycle: &Cycle, out: &mut ArrayString<MAX_NAME>)
+pub fn name_of(cycle: &Cycle, out: &mut ArrayString<MAX_CYCLE_NAME>)
     ensures name { out.new.bytes ≡ name_of cycle.now }
     ensures form { IsName out.new.bytes }
 {
@@ -49,7 +49,7 @@ pub fn name_of(cycle: &Cycle, out: &mut ArrayString<MAX_NAME>)
 }
 
 /// Makes `out` the name of a cycle, whatever it held, and gives the family of the cycle, as `name_of` and `family_of` do.
-pub fn name_and_family(cycle: &Cycle, out: &mut ArrayString<MAX_NAME>) -> Family
+pub fn name_and_family(cycle: &Cycle, out: &mut ArrayString<MAX_CYCLE_NAME>) -> Family
     ensures name { out.new.bytes ≡ name_of cycle.now }
     ensures form { IsName out.new.bytes }
     ensures family { result ≡ family_of cycle.now }
@@ -73,7 +73,7 @@ pub fn name_and_family(cycle: &Cycle, out: &mut ArrayString<MAX_NAME>) -> Family
 #[tactic(auto, using(crate::proofs::CycleOf::name_short))]
 pub fn name_and_words(
     cycle: &Cycle,
-    words: &mut ArrayString<MAX_NAME>,
+    words: &mut ArrayString<MAX_CYCLE_NAME>,
     line: &mut ArrayString<MAX_NAME_LINE>,
 )
     ensures text { line.new.bytes ≡ name_of cycle.now ++ codes ": " ++ join_by word_of (codes " ") (named_rotation cycle.now) }
@@ -100,7 +100,7 @@ pub fn name_and_words(
 fn push_family_name<const N: usize>(edges: &[Edge], fit: Fit, name: &mut ArrayString<N>)
     requires fit { IsFitOf edges.now fit }
     requires empty { name.old.bytes ≡ [] }
-    requires room { MAX_NAME ≤ N }
+    requires room { MAX_CYCLE_NAME ≤ N }
     ensures { name.new.bytes ≡ name_of edges.now }
 {
     name.push_str(fit.family.word());
@@ -108,7 +108,7 @@ fn push_family_name<const N: usize>(edges: &[Edge], fit: Fit, name: &mut ArraySt
 }
 
 /// Adds the name of a cycle of no family to an empty text.
-fn push_own_name(cycle: &Cycle, name: &mut ArrayString<MAX_NAME>)
+fn push_own_name(cycle: &Cycle, name: &mut ArrayString<MAX_CYCLE_NAME>)
     requires empty { name.old.bytes ≡ [] }
     requires none { found_family cycle.now ≡ None }
     ensures { name.new.bytes ≡ name_of cycle.now }
@@ -127,7 +127,7 @@ fn push_own_name(cycle: &Cycle, name: &mut ArrayString<MAX_NAME>)
 fn push_own_words(
     cycle: &Cycle,
     name: &mut ArrayString<MAX_NAME_LINE>,
-    words: &mut ArrayString<MAX_NAME>,
+    words: &mut ArrayString<MAX_CYCLE_NAME>,
 )
     requires empty { name.old.bytes ≡ [] }
     requires no_words { words.old.bytes ≡ [] }

@@ -9,7 +9,7 @@ ghost use Rattle.cycle_names.specs.Laws.{are_of_arch, IsNamed, NamesNone};
 
 use crate::family::{FAMILIES, Family};
 use crate::link::is_spelled;
-use crate::name::{MAX_NAME, name_of};
+use crate::name::{MAX_CYCLE_NAME, name_of};
 use arrayvec::{ArrayString, ArrayVec};
 use edge_algebra::{Cycle, cycle};
 use relax_edges::{ArchName, Dir, EDGES, Edge, MAX_EDGES, Mark, read_edge_bytes};
@@ -45,7 +45,7 @@ pub fn cycle_of(name: &str, arch: ArchName) -> Result<Cycle, NotAName>
 fn has_name(cycle: &Cycle, name: &str) -> bool
     ensures { result ≡ bytes_eq (name_of cycle.now) name.now }
 {
-    let mut text = ArrayString::<MAX_NAME>::new();
+    let mut text = ArrayString::<MAX_CYCLE_NAME>::new();
     name_of(cycle, &mut text);
     text.as_str() == name
 }

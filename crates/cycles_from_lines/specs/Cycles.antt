@@ -11,13 +11,13 @@ use Rattle.edges_from_text.specs.Spelled.{separates, text_edges}
 use Rattle.edge_algebra.specs.declared.errors.CycleError.{CycleError}
 use Rattle.edge_algebra.specs.Compose.{composed}
 use Rattle.cycle_names.specs.Laws.{are_of_arch}
-use Rattle.cycles_from_lines.specs.declared.TheConstants.{MAX_LINE}
+use Rattle.cycles_from_lines.specs.declared.TheConstants.{MAX_CYCLE_LINE}
 use Rattle.cycles_from_lines.specs.declared.errors.LineKind.{LineKind}
 use Rattle.cycles_from_lines.specs.declared.errors.LineKind.TheVariants.{LineTooLong, UnknownEdge, Empty, TooLong, NotOfArch, DoesNotCompose}
 
 -- a line is too long
 abbrev pub is_long_line : List ℕ → Bool
-is_long_line line = nat_lt MAX_LINE (length line)
+is_long_line line = nat_lt MAX_CYCLE_LINE (length line)
 
 -- what comes after the first colon, where there is one
 unfoldable pub after_colon : List ℕ → Option (List ℕ)

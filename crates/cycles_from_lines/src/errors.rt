@@ -3,7 +3,7 @@ use thiserror::Error;
 /// What is wrong with a line of cycles: the first of these that applies, in this order.
 #[derive(Clone, Copy, Debug, PartialEq, Eq, Error)]
 pub enum LineKind {
-    /// It has more than `MAX_LINE` bytes.
+    /// It has more than `MAX_CYCLE_LINE` bytes.
     #[error("the line has too many bytes")]
     LineTooLong,
     /// A word of it spells no edge.

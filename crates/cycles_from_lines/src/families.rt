@@ -7,7 +7,7 @@ ghost use Rattle.cycles_from_lines.specs.FamilyTables.{HoldsCycles};
 use crate::names::FamilyNames;
 use crate::table::{no_names, put_cycle, write_families};
 use arrayvec::ArrayString;
-use cycle_names::MAX_NAME;
+use cycle_names::MAX_CYCLE_NAME;
 use diy_io::{Failed, NoMemory, Sink};
 use edge_algebra::Cycle;
 use std::alloc::Global;
@@ -20,7 +20,7 @@ use std::marker::Model;
 pub struct Families {
     table: Vec<FamilyNames>,
     /// Room for a name.
-    name: ArrayString<MAX_NAME>,
+    name: ArrayString<MAX_CYCLE_NAME>,
 }
 
 impl Model for Families {

@@ -18,4 +18,4 @@ pub use families::Families;
 pub use norm::{norm_lines, write_name_line};
 
 /// The most bytes of a line, neither its line feed nor a carriage return right before that counted: 4,096.
-pub const MAX_LINE: usize = 4_096;
+pub const MAX_CYCLE_LINE: usize = 4_096;

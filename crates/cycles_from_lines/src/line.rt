@@ -4,7 +4,7 @@ ghost use Rattle.edges_from_text.specs.Spelled.{separates};
 ghost use Rattle.cycles_from_lines.specs.Cycles.{line_said, without_label};
 ghost use Rattle.cycles_from_lines.specs.KeptLines.{said_with};
 
-use crate::MAX_LINE;
+use crate::MAX_CYCLE_LINE;
 use crate::edges::read_cycle;
 use crate::errors::LineKind;
 use edge_algebra::Cycle;
@@ -26,7 +26,7 @@ pub(crate) fn read_line(
 ) -> Result<(), LineKind>
     ensures { said_with result cycle.new ≡ line_said arch line.now }
 {
-    if line.len() > MAX_LINE {
+    if line.len() > MAX_CYCLE_LINE {
         return Err(LineKind::LineTooLong);
     }
     if are_blank(line) {

@@ -6,7 +6,7 @@ ghost use Rattle.cycles_from_lines.specs.Normed.{name_line, Norms, WritesLast, l
 use crate::errors::{LinesError, NormError};
 use crate::reader::{Line, LineReader};
 use arrayvec::ArrayString;
-use cycle_names::{MAX_NAME, MAX_NAME_LINE, name_and_words};
+use cycle_names::{MAX_CYCLE_NAME, MAX_NAME_LINE, name_and_words};
 use diy_io::{Failed, Page, Sink, Source};
 use edge_algebra::Cycle;
 use edges_from_text::EdgeList;
@@ -32,7 +32,7 @@ pub fn norm_lines<I: Source, O: Sink>(
 {
     let mut reader = LineReader::new();
     let mut page = Page::new();
-    let mut words: ArrayString<MAX_NAME> = ArrayString::new();
+    let mut words: ArrayString<MAX_CYCLE_NAME> = ArrayString::new();
     let mut line: ArrayString<MAX_NAME_LINE> = ArrayString::new();
     let mut edges = EdgeList::new();
     let mut cycle = None;
@@ -104,7 +104,7 @@ fn write_last<O: Sink>(cycle: &Option<Cycle>, out: &mut O) -> Result<(), NormErr
 pub fn write_name_line<O: Sink>(cycle: &Cycle, out: &mut O) -> Result<(), Failed>
     ensures { Wrote (O.seen out.old) (O.seen out.new) (name_line cycle.now) result }
 {
-    let mut words: ArrayString<MAX_NAME> = ArrayString::new();
+    let mut words: ArrayString<MAX_CYCLE_NAME> = ArrayString::new();
     let mut line: ArrayString<MAX_NAME_LINE> = ArrayString::new();
     make_line(cycle, &mut words, &mut line);
     out.write_all(line.as_str().as_bytes())
@@ -114,7 +114,7 @@ pub fn write_name_line<O: Sink>(cycle: &Cycle, out: &mut O) -> Result<(), Failed
 /// doesn't count.
 fn send_line<O: Sink>(
     cycle: &Cycle,
-    words: &mut ArrayString<MAX_NAME>,
+    words: &mut ArrayString<MAX_CYCLE_NAME>,
     line: &mut ArrayString<MAX_NAME_LINE>,
     page: &mut Page,
     out: &mut O,
@@ -130,7 +130,7 @@ fn send_line<O: Sink>(
 /// Makes `line` the line of a cycle. What `words` and `line` held doesn't count.
 fn make_line(
     cycle: &Cycle,
-    words: &mut ArrayString<MAX_NAME>,
+    words: &mut ArrayString<MAX_CYCLE_NAME>,
     line: &mut ArrayString<MAX_NAME_LINE>,
 )
     ensures { line.new.bytes ≡ name_line cycle.now }

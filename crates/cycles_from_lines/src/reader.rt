@@ -5,7 +5,7 @@ ghost use Rattle.cycles_from_lines.specs.KeptLines.{said_with};
 ghost use Rattle.text_parts_laws.specs.Lines.{without_return};
 ghost use Rattle.cycles_from_lines.specs.LineSteps.{ReaderSeen, Without, GivesNext, line_said_by, Fills, FillsBuffer, Stops, ReadsOn, Refills, LessToDo, FindsLast, ReadsLast, Ends, work};
 
-use crate::MAX_LINE;
+use crate::MAX_CYCLE_LINE;
 use crate::errors::{LineKind, LinesError};
 use crate::line::read_line;
 use diy_io::{Failed, MAX_INPUT, Page, Source};
@@ -16,10 +16,10 @@ use std::marker::Model;
 use text_parts::{cut, without_return};
 
 /// The most bytes that are read at once: 36,864. What `norm7` writes for so many mostly fits a page.
-const PIECE: usize = 36_864;
+const INPUT_ROOM: usize = 36_864;
 
-/// Room for a piece, after a line of `MAX_LINE` bytes and its carriage return.
-const BUFFER: usize = PIECE + MAX_LINE + 1;
+/// Room for a piece, after a line of `MAX_CYCLE_LINE` bytes and its carriage return.
+const BUFFER: usize = INPUT_ROOM + MAX_CYCLE_LINE + 1;
 
 /// What is found after the lines that were given. The cycle that it says is stored where it is to be.
 #[derive(Clone, Copy)]
@@ -44,7 +44,7 @@ pub(crate) enum Line {
 /// Reads the lines of a source.
 ///
 /// It is read in pieces of up to 36,864 bytes, and read on only where no whole line is pending. Of a
-/// line that isn't whole at most `MAX_LINE` bytes and a carriage return are held then, and the next
+/// line that isn't whole at most `MAX_CYCLE_LINE` bytes and a carriage return are held then, and the next
 /// piece comes after them: a line of more bytes is too long, and nothing is read after it.
 ///
 /// Contracts see the bytes that were taken and aren't given yet, the number of the line that they
@@ -210,7 +210,7 @@ impl LineReader {
         ensures pending { IfOk result (λ count. count ≡ 0 → Without 10 self.new.pending) }
         ensures less { IfOk result (λ count. 0 < count → work self.new < work self.old) }
     {
-        if without_return(self.pending_bytes()).len() > MAX_LINE {
+        if without_return(self.pending_bytes()).len() > MAX_CYCLE_LINE {
             return Err(LinesError::Wrong {
                 line: self.line,
                 kind: LineKind::LineTooLong,
@@ -247,11 +247,11 @@ impl LineReader {
         requires few { self.old.taken < MAX_INPUT }
         ensures filled { IfOk result (λ count. Fills (I.seen input.old) (I.seen input.new) self.old self.new count) }
         ensures stopped { OnErr result (Stops (I.seen input.old) (I.seen input.new) × (self.new ≡ self.old)) }
-        ensures held { length self.new.pending ≤ length self.old.pending + PIECE }
+        ensures held { length self.new.pending ≤ length self.old.pending + INPUT_ROOM }
     {
         self.end = move_to_start(&mut self.buffer, self.start, self.end);
         self.start = 0;
-        let room = PIECE.min((MAX_INPUT - self.taken) as usize);
+        let room = INPUT_ROOM.min((MAX_INPUT - self.taken) as usize);
         let count = read_part(input, &mut self.buffer, self.end, room)?;
         self.end += count;
         self.taken += count as u64;

@@ -9,7 +9,7 @@ ghost use Rattle.cycles_from_lines.specs.FamilyTables.{place_of_family, family_v
 
 use crate::names::FamilyNames;
 use arrayvec::ArrayString;
-use cycle_names::{FAMILIES, Family, MAX_NAME, name_and_family};
+use cycle_names::{FAMILIES, Family, MAX_CYCLE_NAME, name_and_family};
 use diy_io::{Failed, NoMemory, Page, Sink};
 use edge_algebra::Cycle;
 use std::alloc::Global;
@@ -56,7 +56,7 @@ pub(crate) fn no_names(alloc: Global) -> Result<Vec<FamilyNames>, NoMemory>
 pub(crate) fn put_cycle(
     table: &mut Vec<FamilyNames>,
     cycle: &Cycle,
-    text: &mut ArrayString<MAX_NAME>,
+    text: &mut ArrayString<MAX_CYCLE_NAME>,
 ) -> Result<(), NoMemory>
     requires { length table.old.items ≡ 15 }
     ensures adds { OnOk result (AddsCycle (map family_view table.old.items) (map family_view table.new.items) cycle.now) }

@@ -11,7 +11,7 @@ use Rattle.arch_trait.specs.Cells.{WritesCells, MakesOneAccess}
 use Rattle.arch_trait.specs.Laws.{IsArch}
 use Rattle.arch_trait.specs.Threads.{Puts}
 use Rattle.arch_trait.specs.Writing.{Writing, WritesBack}
-use Rattle.litmus_text.specs.declared.limits.TheConstants.{MAX_TEXT}
+use Rattle.litmus_text.specs.declared.limits.TheConstants.{MAX_TEST_TEXT}
 use Rattle.litmus_text.specs.Printable.{IsTestName}
 use Rattle.test_maker.specs.CycleText.{cycle_text}
 use Rattle.test_maker.specs.Refusals.{refusal_of}
@@ -26,7 +26,7 @@ cycle_named cycle whole =
 
 -- the text of the test of a cycle that isn't refused is short
 pub cycle_text_short : (a : Puts) (w : Writing) (mode : ObsMode) (cycle : List Edge) → IsArch a → WritesBack a w → WritesCells a w → MakesOneAccess a → IsCycle cycle → refusal_of a cycle mode ≡ None
-    → length (cycle_text a w mode (name_of cycle) cycle) ≤ MAX_TEXT
+    → length (cycle_text a w mode (name_of cycle) cycle) ≤ MAX_TEST_TEXT
 unfolding cycle_text
 cycle_text_short a w mode cycle laws back cells one whole accepted =
     (readable a a.name w (name_of cycle) (turned cycle) mode laws back cells one (cycle_named cycle whole) (accepted_has_test a cycle mode whole accepted).code).short

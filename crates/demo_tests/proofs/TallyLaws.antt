@@ -20,7 +20,7 @@ use Rattle.arch_trait.specs.Cells.{WritesCells, MakesOneAccess}
 use Rattle.arch_trait.specs.Laws.{IsArch}
 use Rattle.arch_trait.specs.Threads.{Puts}
 use Rattle.arch_trait.specs.Writing.{Writing, WritesBack}
-use Rattle.litmus_text.specs.declared.limits.TheConstants.{MAX_TEXT}
+use Rattle.litmus_text.specs.declared.limits.TheConstants.{MAX_TEST_TEXT}
 use Rattle.diy_io.specs.Sink.{Tally, line_feed_count}
 use Rattle.test_maker.specs.CycleText.{cycle_text}
 use Rattle.test_maker.specs.Refusals.{refusal_of}
@@ -70,7 +70,7 @@ accepted puts arch all family seed cycle h same e =
     rw (e, same) (all family h (links_filled puts.name seed (family_edges family)) (is_filled puts.name seed (family_edges family)))
 
 -- the texts of tests are short
-pub texts_short : (puts : Puts) (w : Writing) → IsArch puts → WritesBack puts w → WritesCells puts w → MakesOneAccess puts → MakesAll puts → (number : ℕ) → length (numbered_text puts w number) ≤ MAX_TEXT
+pub texts_short : (puts : Puts) (w : Writing) → IsArch puts → WritesBack puts w → WritesCells puts w → MakesOneAccess puts → MakesAll puts → (number : ℕ) → length (numbered_text puts w number) ≤ MAX_TEST_TEXT
 unfolding numbered_text numbered_cycle
 texts_short puts w laws back cells one all number =
     let family = slice_index_or all_families (number % 14) Other in
@@ -79,19 +79,19 @@ texts_short puts w laws back cells one all number =
     (accepted puts puts.name all family (seed_of number) (links_filled puts.name (seed_of number) (family_edges family)) among refl refl)
 
 -- so there is room for one more
-fits_of : (T : ℕ → List ℕ) (numbers : List ℕ) (number n : ℕ) → ((k : ℕ) → length (T k) ≤ MAX_TEXT) → length numbers ≤ n → n < 4294967296 → Fits (text_tally (T number)) (tally_of_tests T numbers)
+fits_of : (T : ℕ → List ℕ) (numbers : List ℕ) (number n : ℕ) → ((k : ℕ) → length (T k) ≤ MAX_TEST_TEXT) → length numbers ≤ n → n < 4294967296 → Fits (text_tally (T number)) (tally_of_tests T numbers)
 unfolding tally_of_tests
 fits_of T numbers number n short few small =
-    let bytes : sum_by (λ k. length (T k)) numbers ≤ length numbers * MAX_TEXT = sum_by-le (λ k. length (T k)) MAX_TEXT numbers (λ k d h. short (get_or numbers k d)) in
-    let lines : sum_by (λ k. line_feed_count (T k)) numbers ≤ length numbers * MAX_TEXT =
-    sum_by-le (λ k. line_feed_count (T k)) MAX_TEXT numbers (λ k d h. omega (arith, short (get_or numbers k d), line_feeds_few (T (get_or numbers k d)))) in
+    let bytes : sum_by (λ k. length (T k)) numbers ≤ length numbers * MAX_TEST_TEXT = sum_by-le (λ k. length (T k)) MAX_TEST_TEXT numbers (λ k d h. short (get_or numbers k d)) in
+    let lines : sum_by (λ k. line_feed_count (T k)) numbers ≤ length numbers * MAX_TEST_TEXT =
+    sum_by-le (λ k. line_feed_count (T k)) MAX_TEST_TEXT numbers (λ k d h. omega (arith, short (get_or numbers k d), line_feeds_few (T (get_or numbers k d)))) in
     record {
       tests = omega arith;
       lines = omega (arith, lines, short number, line_feeds_few (T number));
       bytes = omega (arith, bytes, short number);
     }
 
-all_fits : (T : ℕ → List ℕ) (text : Tally) (all : TestTally) (number : ℕ) → ((k : ℕ) → length (T k) ≤ MAX_TEXT) → number < 4294967296 → text ≡ text_tally (T number) → all ≡ tally_of_tests T (upto number) → Fits text all
+all_fits : (T : ℕ → List ℕ) (text : Tally) (all : TestTally) (number : ℕ) → ((k : ℕ) → length (T k) ≤ MAX_TEST_TEXT) → number < 4294967296 → text ≡ text_tally (T number) → all ≡ tally_of_tests T (upto number) → Fits text all
 all_fits T text all number short small e a =
     rw (e, a) (fits_of T (upto number) number number short (omega (arith, length-upto number)) small)
 
@@ -100,7 +100,7 @@ few_numbers number place =
     let p = λ (n : ℕ). family_tally_place n == place in
     omega (arith, length-filter p (upto number), count_by-le-length p (upto number), length-upto number)
 
-families_fit : (T : ℕ → List ℕ) (text : Tally) (families : List TestTally) (number : ℕ) → ((k : ℕ) → length (T k) ≤ MAX_TEXT) → number < 4294967296 → text ≡ text_tally (T number) → families ≡ family_tallies T number
+families_fit : (T : ℕ → List ℕ) (text : Tally) (families : List TestTally) (number : ℕ) → ((k : ℕ) → length (T k) ≤ MAX_TEST_TEXT) → number < 4294967296 → text ≡ text_tally (T number) → families ≡ family_tallies T number
     → All (Fits text) families
 unfolding family_tallies
 families_fit T text families number short small e f =
@@ -113,7 +113,7 @@ pub record HasRoom (text : Tally) (families : List TestTally) (all : TestTally) 
   pub whole : Fits text all
 
 -- where the texts are short and the tests so far fewer than 2^32, there is room for one more
-pub has_room : (T : ℕ → List ℕ) (text : Tally) (families : List TestTally) (all : TestTally) (number : ℕ) → ((k : ℕ) → length (T k) ≤ MAX_TEXT) → number < 4294967296
+pub has_room : (T : ℕ → List ℕ) (text : Tally) (families : List TestTally) (all : TestTally) (number : ℕ) → ((k : ℕ) → length (T k) ≤ MAX_TEST_TEXT) → number < 4294967296
     → text ≡ text_tally (T number) → families ≡ family_tallies T number → all ≡ tally_of_tests T (upto number) → HasRoom text families all
 has_room T text families all number short small e f a = record { each = families_fit T text families number short small e f; whole = all_fits T text all number short small e a }
 

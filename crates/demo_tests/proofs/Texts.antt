@@ -4,14 +4,14 @@ use Rattle.std.specs.Prelude.{◌==◌}
 use Rattle.std.proofs.lemmas.List.Sums.{count_by-le-length}
 use Rattle.diy_io.specs.Sink.{Tally, tally_of, tally_kept, tally_after, line_feed_count, shown_kept, shown_after}
 use Rattle.diy_io.specs.Wrote.{WroteAll, tally_seen}
-use Rattle.litmus_text.specs.declared.limits.TheConstants.{MAX_TEXT}
+use Rattle.litmus_text.specs.declared.limits.TheConstants.{MAX_TEST_TEXT}
 
 -- a text has no more line feeds than bytes
 pub line_feeds_few : (text : List ℕ) → line_feed_count text ≤ length text
 line_feeds_few text = count_by-le-length (λ byte. byte == 10) text
 
 -- a short text that is written to an empty tally is tallied whole
-pub tallied : (old new : Tally) (x text : List ℕ) → old ≡ record { bytes = 0; line_feeds = 0 } → WroteAll (tally_seen old) (tally_seen new) x → x ≡ text → length text ≤ MAX_TEXT
+pub tallied : (old new : Tally) (x text : List ℕ) → old ≡ record { bytes = 0; line_feeds = 0 } → WroteAll (tally_seen old) (tally_seen new) x → x ≡ text → length text ≤ MAX_TEST_TEXT
     → new ≡ tally_of (length text) (line_feed_count text)
 unfolding shown_kept shown_after
 tallied old new x text none h is short =

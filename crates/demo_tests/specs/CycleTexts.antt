@@ -7,7 +7,7 @@ use Rattle.edge_algebra_laws.specs.Composable.{IsCycle}
 use Rattle.cycle_names.specs.CycleNames.{name_of}
 use Rattle.arch_trait.specs.Threads.{Puts}
 use Rattle.arch_trait.specs.Writing.{Writing}
-use Rattle.litmus_text.specs.declared.limits.TheConstants.{MAX_TEXT}
+use Rattle.litmus_text.specs.declared.limits.TheConstants.{MAX_TEST_TEXT}
 use Rattle.test_maker.specs.CycleText.{cycle_text}
 use Rattle.test_maker.specs.Refusals.{refusal_of}
 
@@ -15,4 +15,4 @@ use Rattle.test_maker.specs.Refusals.{refusal_of}
 abbrev pub CycleTextsShort : Puts → Writing → Type 0
 CycleTextsShort a w =
     (mode : ObsMode) (cycle : List Edge) →
-    IsCycle cycle → refusal_of a cycle mode ≡ None → length (cycle_text a w mode (name_of cycle) cycle) ≤ MAX_TEXT
+    IsCycle cycle → refusal_of a cycle mode ≡ None → length (cycle_text a w mode (name_of cycle) cycle) ≤ MAX_TEST_TEXT

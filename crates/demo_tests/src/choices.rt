@@ -7,9 +7,9 @@ use arrayvec::ArrayVec;
 use relax_edges::{ArchName, Dir, EDGES, Edge, Mark};
 
 /// The most choices for a link, on any architecture.
-const MAX_CHOICES: usize = 16;
+const MAX_SLOT_CHOICES: usize = 16;
 
-type LinkChoices = ArrayVec<Edge, MAX_CHOICES>;
+type LinkChoices = ArrayVec<Edge, MAX_SLOT_CHOICES>;
 
 /// The choices for each link of an architecture, by the accesses that it joins.
 #[derive(Drop)]

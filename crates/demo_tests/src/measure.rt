@@ -7,7 +7,7 @@ ghost use Rattle.demo_tests.specs.TestCounting.{text_tally};
 
 use arch_trait::Arch;
 use arrayvec::ArrayString;
-use cycle_names::{MAX_NAME, name_of};
+use cycle_names::{MAX_CYCLE_NAME, name_of};
 use diy_io::{Failed, Page, TallySink};
 use edge_algebra::Cycle;
 use litmus_text::{KeptTable, Test, print_test_by};
@@ -18,7 +18,7 @@ use test_maker::make_into;
 /// to. What these held before doesn't count.
 #[derive(Drop)]
 pub(crate) struct Desk {
-    name: ArrayString<MAX_NAME>,
+    name: ArrayString<MAX_CYCLE_NAME>,
     table: KeptTable,
     page: Page,
 }

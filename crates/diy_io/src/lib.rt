@@ -24,7 +24,7 @@ pub use mem_shelf::MemShelf;
 pub use mem_sink::MemSink;
 pub use mem_source::MemSource;
 pub use page::{LINE_ROOM, PAGE_ROOM, Page, SPILL};
-pub use shelf::{OpenError, Shelf};
+pub use shelf::{MAX_FOLDER, OpenError, Shelf};
 pub use sink::Sink;
 pub use source::{MAX_INPUT, Source};
 pub use std_sink::StdSink;

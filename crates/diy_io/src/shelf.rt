@@ -4,6 +4,9 @@ ghost use Rattle.diy_io.specs.Shelf.{ShelfSeen, Idle, name_written, IsReading, I
 
 use crate::errors::Failed;
 
+/// The most bytes of the name of a folder that is given.
+pub const MAX_FOLDER: usize = 1_024;
+
 /// Why a file isn't open.
 #[derive(Clone, Copy, Debug, PartialEq, Eq)]
 pub enum OpenError {

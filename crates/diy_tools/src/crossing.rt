@@ -12,9 +12,9 @@ use crate::machines::on_machine;
 use crate::status::Status;
 use arch_trait::Arch;
 use diycross7_cycles::crossed_cycles;
-use diy_io::{NoMemory, Shelf, Sink, Words};
+use diy_io::{MAX_FOLDER, NoMemory, Shelf, Sink, Words};
 use diy_words::{Cross, read_places};
-use tests_to_files::{MAX_FOLDER, put_cycles};
+use tests_to_files::put_cycles;
 use relax_edges::{ArchName, ObsMode, Relaxes};
 use std::alloc::Global;
 

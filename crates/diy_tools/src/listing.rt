@@ -12,9 +12,9 @@ ghost use Rattle.diy_tools.specs.Statuses.{listing_status};
 
 use crate::machines::on_machine;
 use crate::status::{Device, Status};
-use diy_io::{Shelf, Sink};
+use diy_io::{MAX_FOLDER, Shelf, Sink};
 use diy_words::Diy;
-use tests_to_files::{Listing, ListingEnd, MAX_FOLDER, list_tests};
+use tests_to_files::{Listing, ListingEnd, list_tests};
 use relax_edges::ArchName;
 
 /// Writes the tests of a listing, each in a file.

@@ -14,7 +14,8 @@ use Rattle.edges_from_text.specs.Spelled.{edges_of}
 use Rattle.diy_words.specs.declared.options.OptionName.{OptionName}
 use Rattle.diy_words.specs.declared.options.OptionName.TheVariants as opts
 use Rattle.diy_words.specs.declared.options.Tool.TheVariants as tools
-use Rattle.diy_words.specs.declared.request.TheConstants.{MAX_CHOICES, MAX_FOLDER}
+use Rattle.diy_words.specs.declared.request.TheConstants.{MAX_CHOICES}
+use Rattle.diy_io.specs.declared.shelf.TheConstants.{MAX_FOLDER}
 use Rattle.diy_words.specs.declared.usage.Usage.{Usage}
 use Rattle.diy_words.specs.declared.usage.UsageKind.TheVariants.{UnknownOption, BadName, BadFolder, TooManyChoices}
 use Rattle.diy_words.specs.TestNames.{is_name}

@@ -14,7 +14,8 @@ use Rattle.edge_algebra.specs.declared.errors.CycleError.{CycleError}
 use Rattle.edge_algebra.specs.Compose.{composed}
 use Rattle.edges_from_text.specs.declared.read.Separators.TheVariants.{BlanksAndCommas}
 use Rattle.edges_from_text.specs.Spelled.{edges_of}
-use Rattle.diy_words.specs.declared.request.TheConstants.{MAX_FOLDER, MAX_CHOICES, MAX_TESTS}
+use Rattle.diy_words.specs.declared.request.TheConstants.{MAX_CHOICES, MAX_TESTS}
+use Rattle.diy_io.specs.declared.shelf.TheConstants.{MAX_FOLDER}
 use Rattle.diy_words.specs.declared.request.Check.{Check}
 use Rattle.diy_words.specs.declared.request.Demo.{Demo}
 use Rattle.diy_words.specs.declared.request.Diy.{Diy}

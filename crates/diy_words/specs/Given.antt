@@ -4,7 +4,8 @@ use Rattle.std.specs.Option.{option_map, ForSome}
 use Rattle.relax_edges.specs.declared.TheConstants.{MAX_EDGES}
 use Rattle.edges_from_text.specs.KeptEdges.{kept_edges}
 use Rattle.diy_words.specs.declared.request.Diy.{Diy}
-use Rattle.diy_words.specs.declared.request.TheConstants.{MAX_FOLDER, MAX_TESTS}
+use Rattle.diy_words.specs.declared.request.TheConstants.{MAX_TESTS}
+use Rattle.diy_io.specs.declared.shelf.TheConstants.{MAX_FOLDER}
 use Rattle.diy_words.specs.declared.request.Request.{Request}
 use Rattle.diy_words.specs.declared.request.Request.TheVariants as requests
 use Rattle.diy_words.specs.declared.request.Sought.{Sought}

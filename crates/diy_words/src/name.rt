@@ -4,13 +4,13 @@ ghost use Rattle.std.specs.List.{list_all};
 ghost use Rattle.text_parts_laws.specs.Names.{is_name_byte};
 ghost use Rattle.diy_words.specs.TestNames.{is_name};
 
-use crate::request::{MAX_NAME, TestName};
+use crate::request::{MAX_GIVEN_NAME, TestName};
 
 /// Whether a text can name a test.
 fn is_name(text: &str) -> bool
     ensures { result ≡ is_name text.now }
 {
-    !text.is_empty() && text.len() <= MAX_NAME && has_name_bytes(text.as_bytes())
+    !text.is_empty() && text.len() <= MAX_GIVEN_NAME && has_name_bytes(text.as_bytes())
 }
 
 fn has_name_bytes(bytes: &[u8]) -> bool

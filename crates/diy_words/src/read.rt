@@ -10,7 +10,7 @@ use crate::request::{
     Check, Coherence, Cross, Demo, Diy, DiyOne, MAX_CHOICES, Norm, Request, Sought, Why,
 };
 use crate::usage::{Usage, UsageKind};
-use diy_io::Words;
+use diy_io::{MAX_FOLDER, Words};
 use relax_edges::ObsMode;
 
 /// The request that the words make, or the first fault among them: words are judged from left to

@@ -1,3 +1,4 @@
+use diy_io::MAX_FOLDER;
 use arrayvec::ArrayString;
 use cycle_enum::Limits;
 use edge_algebra::Cycle;
@@ -5,10 +6,7 @@ use edges_from_text::EdgeList;
 use relax_edges::{ArchName, ObsMode, Relaxes};
 
 /// The most bytes that the name of a test has.
-pub const MAX_NAME: usize = 800;
-
-/// The most bytes that the name of a folder has.
-pub const MAX_FOLDER: usize = 1024;
+pub const MAX_GIVEN_NAME: usize = 800;
 
 /// The most ways in which diycross7 chooses a relaxation for each place of a cycle.
 pub const MAX_CHOICES: u32 = 65_536;
@@ -17,7 +15,7 @@ pub const MAX_CHOICES: u32 = 65_536;
 pub const MAX_TESTS: u32 = 1_000_000;
 
 /// The name of a test.
-pub type TestName = ArrayString<MAX_NAME>;
+pub type TestName = ArrayString<MAX_GIVEN_NAME>;
 
 /// What words ask for.
 #[derive(Drop)]

@@ -9,7 +9,7 @@ use Rattle.diy_io.proofs.FileNameLaws.{absent_before, quiet_before, file_before}
 use Rattle.diy_io.proofs.OpenedLaws.{took_no_more, took_one_more}
 use Rattle.relax_edges.specs.declared.kinds.ArchName.{ArchName}
 use Rattle.arch_trait.specs.Writing.{Writing}
-use Rattle.litmus_text.specs.declared.limits.TheConstants.{MAX_TEXT}
+use Rattle.litmus_text.specs.declared.limits.TheConstants.{MAX_TEST_TEXT}
 use Rattle.litmus_text.specs.TestReading.{TestRead}
 use Rattle.program_meaning.specs.Executions.{Execution}
 use Rattle.exec_check.specs.declared.verdict.Verdict.{Verdict}
@@ -82,7 +82,7 @@ exec_refused arch w old mid new words test exec a read (faults.Wrong line (kinds
     shown = h.text;
     named = file_before old mid (name_at words exec) h.text same h.named;
     fault = h.fault;
-    took = took_one_more old mid new (f.text ∷ []) (take (MAX_TEXT + 1) h.text) f.took h.took;
+    took = took_one_more old mid new (f.text ∷ []) (take (MAX_TEST_TEXT + 1) h.text) f.took h.took;
   },
   refl,
 )

@@ -8,7 +8,7 @@ use Rattle.diy_io.specs.Wrote.{SinkSeen}
 use Rattle.diy_io.specs.Opened.{IsFile, TookFiles, name_at}
 use Rattle.relax_edges.specs.declared.kinds.ArchName.{ArchName}
 use Rattle.arch_trait.specs.Writing.{Writing}
-use Rattle.litmus_text.specs.declared.limits.TheConstants.{MAX_TEXT}
+use Rattle.litmus_text.specs.declared.limits.TheConstants.{MAX_TEST_TEXT}
 use Rattle.litmus_text.specs.TestReading.{TestRead}
 use Rattle.program_meaning.specs.Executions.{Execution}
 use Rattle.exec_text.specs.declared.errors.ExecFault.{ExecFault}
@@ -40,27 +40,27 @@ executions_by_first_bytes test =
 test_few : (arch : ArchName) (w : Writing) (files : Option Files) (name text : List ℕ) (test : TestRead) → IsTest arch w files name text test
     → AreFew (text ∷ [])
 test_few arch w files name text test is =
-    let short : length text ≤ MAX_TEXT = (tests_by_first_bytes arch w).short text test is.is in
+    let short : length text ≤ MAX_TEST_TEXT = (tests_by_first_bytes arch w).short text test is.is in
     one_few text (omega arith)
 
 read_few : (arch : ArchName) (w : Writing) (old new : ShelfSeen) (words : List (List ℕ)) (test exec : ℕ) (judged : TestRead) (x : Execution)
-    → BothRead arch w old new words test exec judged x → count_of old.opened < count_of new.opened → new.taken ≤ MAX_TEXT + 1
+    → BothRead arch w old new words test exec judged x → count_of old.opened < count_of new.opened → new.taken ≤ MAX_TEST_TEXT + 1
 read_few arch w old new words test exec judged x read more =
-    let short : length read.shown ≤ MAX_TEXT = (executions_by_first_bytes judged).short read.shown x read.exec_is.says in
+    let short : length read.shown ≤ MAX_TEST_TEXT = (executions_by_first_bytes judged).short read.shown x read.exec_is.says in
     few_taken old new (read.text ∷ read.shown ∷ []) read.took
     (both_few (read.text ∷ []) (read.shown ∷ []) (test_few arch w old.files (name_at words test) read.text judged read.test_is)
     (one_few read.shown (omega arith)))
     more
 
 test_wrong_few : (arch : ArchName) (w : Writing) (old new : ShelfSeen) (words : List (List ℕ)) (test file : ℕ) (error : TestFileError)
-    → TestWrong arch w old new words test file error → count_of old.opened < count_of new.opened → new.taken ≤ MAX_TEXT + 1
+    → TestWrong arch w old new words test file error → count_of old.opened < count_of new.opened → new.taken ≤ MAX_TEST_TEXT + 1
 test_wrong_few arch w old new words test file error h more =
-    few_taken old new (take (MAX_TEXT + 1) h.faulty.text ∷ []) h.faulty.took (prefix_few h.faulty.text) more
+    few_taken old new (take (MAX_TEST_TEXT + 1) h.faulty.text ∷ []) h.faulty.took (prefix_few h.faulty.text) more
 
 -- of the file that was opened last at most one byte more than a test may have is taken
 pub checked_few : (arch : ArchName) (w : Writing) (old new : ShelfSeen) (words : List (List ℕ)) (test exec : ℕ) (before after : SinkSeen) (end : CheckEnd)
     → FilesChecked arch w old new words test exec before after end → (end ≡ ends.NoMemory → ⊥) → count_of old.opened < count_of new.opened
-    → new.taken ≤ MAX_TEXT + 1
+    → new.taken ≤ MAX_TEST_TEXT + 1
 checked_few arch w old new words test exec before after ends.Done h some more = read_few arch w old new words test exec h.judged h.x h.read more
 checked_few arch w old new words test exec before after ends.OutFault h some more = read_few arch w old new words test exec h.judged h.x h.read more
 checked_few arch w old new words test exec before after (ends.Wrong file line (kinds.Test kind)) h some more =
@@ -68,25 +68,25 @@ checked_few arch w old new words test exec before after (ends.Wrong file line (k
 checked_few arch w old new words test exec before after (ends.Wrong file line kinds.WrongArch) h some more =
     test_wrong_few arch w old new words test file _ h.0 more
 checked_few arch w old new words test exec before after (ends.Wrong file line (kinds.Exec kind)) h some more =
-    few_taken old new (h.0.text ∷ take (MAX_TEXT + 1) h.0.shown ∷ []) h.0.took
-    (both_few (h.0.text ∷ []) (take (MAX_TEXT + 1) h.0.shown ∷ []) (test_few arch w old.files (name_at words test) h.0.text h.0.read h.0.test_is)
+    few_taken old new (h.0.text ∷ take (MAX_TEST_TEXT + 1) h.0.shown ∷ []) h.0.took
+    (both_few (h.0.text ∷ []) (take (MAX_TEST_TEXT + 1) h.0.shown ∷ []) (test_few arch w old.files (name_at words test) h.0.text h.0.read h.0.test_is)
     (prefix_few h.0.shown))
     more
 checked_few arch w old new words test exec before after (ends.NoFile word) h some more = of_absent h.0
   where
-    of_absent : IsAbsent arch w old new words test exec word → new.taken ≤ MAX_TEXT + 1
+    of_absent : IsAbsent arch w old new words test exec word → new.taken ≤ MAX_TEST_TEXT + 1
     of_absent (inl no_test) = few_taken old new [] no_test.took none_few more
     of_absent (inr no_exec) =
         few_taken old new (no_exec.text ∷ []) no_exec.took (test_few arch w old.files (name_at words test) no_exec.text no_exec.read no_exec.test_is) more
 checked_few arch w old new words test exec before after ends.ShelfFault h some more = of_unread h.0.unread
   where
-    of_test : TestUnread old new (name_at words test) → new.taken ≤ MAX_TEXT + 1
+    of_test : TestUnread old new (name_at words test) → new.taken ≤ MAX_TEST_TEXT + 1
     of_test (inl none) = few_taken old new [] none none_few more
     of_test (inr part) = few_taken old new (part.0 ∷ []) part.2 (begun_few old.files (name_at words test) part.0 part.1) more
 
     of_exec : (u : ExecUnread arch w old new words test exec)
         → (TookFiles old new (u.text ∷ []) ⊎ ((bytes : List ℕ) × Begins old.files (name_at words exec) bytes × TookFiles old new (u.text ∷ bytes ∷ [])))
-        → new.taken ≤ MAX_TEXT + 1
+        → new.taken ≤ MAX_TEST_TEXT + 1
     of_exec u (inl none) = few_taken old new (u.text ∷ []) none (test_few arch w old.files (name_at words test) u.text u.read u.test_is) more
     of_exec u (inr part) =
         few_taken old new (u.text ∷ part.0 ∷ []) part.2
@@ -94,7 +94,7 @@ checked_few arch w old new words test exec before after ends.ShelfFault h some m
         (begun_few old.files (name_at words exec) part.0 part.1))
         more
 
-    of_unread : TestUnread old new (name_at words test) ⊎ ExecUnread arch w old new words test exec → new.taken ≤ MAX_TEXT + 1
+    of_unread : TestUnread old new (name_at words test) ⊎ ExecUnread arch w old new words test exec → new.taken ≤ MAX_TEST_TEXT + 1
     of_unread (inl unread) = of_test unread
     of_unread (inr unread) = of_exec unread unread.took
 checked_few arch w old new words test exec before after ends.NoMemory h some more = absurd (some refl)

@@ -8,7 +8,7 @@ use Rattle.diy_io.specs.Opened.{IsFile, TookFiles, name_at}
 use Rattle.relax_edges.specs.declared.kinds.ArchName.{ArchName}
 use Rattle.arch_trait.specs.PlaceNames.{number_in}
 use Rattle.arch_trait.specs.Writing.{Writing}
-use Rattle.litmus_text.specs.declared.limits.TheConstants.{MAX_TEXT}
+use Rattle.litmus_text.specs.declared.limits.TheConstants.{MAX_TEST_TEXT}
 use Rattle.litmus_text.specs.TestReading.{TestRead}
 use Rattle.program_meaning.specs.Executions.{Execution}
 use Rattle.exec_text.specs.declared.errors.ExecFault.{ExecFault}
@@ -83,7 +83,7 @@ pub record ExecWrong (arch : ArchName) (w : Writing) (old new : ShelfSeen) (word
   pub shown : List ℕ
   pub named : IsFile old.files (name_at words exec) shown
   pub fault : exec_said read shown ≡ Err error
-  pub took : TookFiles old new (text ∷ take (MAX_TEXT + 1) shown ∷ [])
+  pub took : TookFiles old new (text ∷ take (MAX_TEST_TEXT + 1) shown ∷ [])
 
 -- the one or the other, by the kind of the fault
 abbrev pub IsWrongFile : ArchName → Writing → ShelfSeen → ShelfSeen → List (List ℕ) → ℕ → ℕ → ℕ → ℕ → CheckedKind → Type 0

@@ -10,7 +10,7 @@ use Rattle.list_laws.proofs.Elements.{all_append}
 use Rattle.text_parts_laws.specs.Names.{is_place_name}
 use Rattle.text_parts_laws.specs.Words.{words}
 use Rattle.litmus_text.specs.TestText.{with_line_feed}
-use Rattle.litmus_text.specs.declared.limits.TheConstants.{MAX_TEXT}
+use Rattle.litmus_text.specs.declared.limits.TheConstants.{MAX_TEST_TEXT}
 use Rattle.program_meaning.specs.declared.WriteAt.{WriteAt}
 use Rattle.program_meaning.specs.Executions.{Execution}
 use Rattle.exec_text.specs.declared.errors.ExecKind.TheVariants.{BadThread, BadRead, BadPlace, BadWrite}
@@ -31,7 +31,7 @@ each_word P word f [] h = tt
 each_word P word f (x ∷ xs) h = (f x (All-head P x xs h), each_word P word f xs (All-tail P x xs h))
 
 -- the lines of threads from number k on
-threads_back : (threads n k : ℕ) (lists : List (List (ℕ × Option WriteAt))) (rest : List (List ℕ)) → threads ≤ MAX_TEXT → k + length lists ≤ MAX_TEXT → All (All (ReadFits threads)) lists
+threads_back : (threads n k : ℕ) (lists : List (List (ℕ × Option WriteAt))) (rest : List (List ℕ)) → threads ≤ MAX_TEST_TEXT → k + length lists ≤ MAX_TEST_TEXT → All (All (ReadFits threads)) lists
     → each_line_read (line_read BadThread BadRead (read_named threads)) n (map thread_head (range_with_len k (length lists))) (map thread_line (enumerate_from k lists) ++ rest) ≡ Ok (lists, rest)
 unfolding each_line_read
 threads_back threads n k [] rest h b f = refl
@@ -43,7 +43,7 @@ threads_back threads n k (reads ∷ lists) rest h b f =
     rw (told, threads_back threads (n + 1) (k + 1) lists rest h (omega (arith, b)) (All-tail (All (ReadFits threads)) reads lists f)) refl
 
 -- the lines of places
-places_back : (threads n : ℕ) (places : List (List ℕ)) (orders : List (List WriteAt)) → threads ≤ MAX_TEXT → length orders ≡ length places → list_all is_place_name places ≡ true → All (All (AccessFits threads)) orders
+places_back : (threads n : ℕ) (places : List (List ℕ)) (orders : List (List WriteAt)) → threads ≤ MAX_TEST_TEXT → length orders ≡ length places → list_all is_place_name places ≡ true → All (All (AccessFits threads)) orders
     → each_line_read (line_read BadPlace BadWrite (access_named threads)) n (map place_head places) (map place_line (zip places orders)) ≡ Ok (orders, [])
 unfolding each_line_read
 places_back threads n [] [] h e names f = refl
@@ -58,7 +58,7 @@ places_back threads n (place ∷ places) (order ∷ orders) h e names f =
     rw (told, places_back threads (n + 1) places orders h (omega (arith, e)) named.1 (All-tail (All (AccessFits threads)) order orders f)) refl
 
 -- the bytes of the lines
-threads_printed : (threads k : ℕ) (lists : List (List (ℕ × Option WriteAt))) → threads ≤ MAX_TEXT → k + length lists ≤ MAX_TEXT → All (All (ReadFits threads)) lists
+threads_printed : (threads k : ℕ) (lists : List (List (ℕ × Option WriteAt))) → threads ≤ MAX_TEST_TEXT → k + length lists ≤ MAX_TEST_TEXT → All (All (ReadFits threads)) lists
     → AllByRecursion (λ line. list_all is_printed line ≡ true) (map thread_line (enumerate_from k lists))
 threads_printed threads k [] h b f = tt
 threads_printed threads k (reads ∷ lists) h b f = (
@@ -67,7 +67,7 @@ threads_printed threads k (reads ∷ lists) h b f = (
   threads_printed threads (k + 1) lists h (omega (arith, b)) (All-tail (All (ReadFits threads)) reads lists f),
 )
 
-places_printed : (threads : ℕ) (places : List (List ℕ)) (orders : List (List WriteAt)) → threads ≤ MAX_TEXT → list_all is_place_name places ≡ true → All (All (AccessFits threads)) orders
+places_printed : (threads : ℕ) (places : List (List ℕ)) (orders : List (List WriteAt)) → threads ≤ MAX_TEST_TEXT → list_all is_place_name places ≡ true → All (All (AccessFits threads)) orders
     → AllByRecursion (λ line. list_all is_printed line ≡ true) (map place_line (zip places orders))
 places_printed threads [] orders h names f = tt
 places_printed threads (place ∷ places) [] h names f = tt
@@ -79,24 +79,24 @@ places_printed threads (place ∷ places) (order ∷ orders) h names f =
     )
 
 -- an execution whose text is short has few threads
-few_threads : (threads : ℕ) (places : List (List ℕ)) (x : Execution) → ExecutionFits threads places x → threads ≤ MAX_TEXT
+few_threads : (threads : ℕ) (places : List (List ℕ)) (x : Execution) → ExecutionFits threads places x → threads ≤ MAX_TEST_TEXT
 unfolding text_of_execution
 few_threads threads places x f =
     let lines : List (List ℕ) = map thread_line (enumerate_from 0 x.reads) in
     let others : List (List ℕ) = map place_line (zip places x.orders) in
     let many : length lines ≡ threads = length-map (enumerate_from 0 x.reads) thread_line ∙ length-enumerate_from 0 x.reads ∙ f.thread_lists in
     let few : length (lines ++ others) ≤ length (flat_map with_line_feed (lines ++ others)) = lines_few (lines ++ others) in
-    let short : length (flat_map with_line_feed (lines ++ others)) ≤ MAX_TEXT = f.short in
+    let short : length (flat_map with_line_feed (lines ++ others)) ≤ MAX_TEST_TEXT = f.short in
     omega (arith, many, few, short, length-append lines others)
 
 -- the text that is written of an execution is read as that execution
 pub written_reads_back : ExecutionReadsBack
 unfolding text_of_execution
 written_reads_back threads places x f =
-    let h : threads ≤ MAX_TEXT = few_threads threads places x f in
+    let h : threads ≤ MAX_TEST_TEXT = few_threads threads places x f in
     let lines : List (List ℕ) = map thread_line (enumerate_from 0 x.reads) in
     let others : List (List ℕ) = map place_line (zip places x.orders) in
-    let many : 0 + length x.reads ≤ MAX_TEXT = omega (arith, h, f.thread_lists) in
+    let many : 0 + length x.reads ≤ MAX_TEST_TEXT = omega (arith, h, f.thread_lists) in
     let printed = all_append (λ line. list_all is_printed line ≡ true) lines others (threads_printed threads 0 x.reads h many f.reads) (places_printed threads places x.orders h f.names f.orders) in
     let reads : thread_lines_read threads (lines ++ others) ≡ Ok (x.reads, others) =
     ap (λ n. each_line_read (line_read BadThread BadRead (read_named threads)) 1 (map thread_head (range_with_len 0 n)) (lines ++ others)) (sym f.thread_lists)

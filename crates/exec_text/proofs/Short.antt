@@ -12,7 +12,7 @@ use Rattle.text_parts_laws.proofs.LengthLaws.{pieces_short}
 use Rattle.text_parts_laws.proofs.NameLaws.{place_name_short}
 use Rattle.text_parts_laws.proofs.NumberLaws.{two_digits, ten_digits}
 use Rattle.litmus_text.specs.TestText.{with_line_feed}
-use Rattle.litmus_text.specs.declared.limits.TheConstants.{MAX_TEXT, MAX_THREADS, MAX_ACCESSES}
+use Rattle.litmus_text.specs.declared.limits.TheConstants.{MAX_TEST_TEXT, MAX_THREADS, MAX_ACCESSES}
 use Rattle.program_meaning.specs.declared.WriteAt.{WriteAt}
 use Rattle.program_meaning.specs.Executions.{Execution}
 use Rattle.exec_text.specs.ExecutionText.{place_head, thread_head}
@@ -98,7 +98,7 @@ pub record IsSmall (threads : ℕ) (places : List (List ℕ)) (x : Execution) : 
   pub few_writes : All (λ order. length order ≤ MAX_ACCESSES) x.orders
 
 -- the text of such an execution isn't too long
-pub text_short : (threads : ℕ) (places : List (List ℕ)) (x : Execution) → IsSmall threads places x → length (text_of_execution places x) ≤ MAX_TEXT
+pub text_short : (threads : ℕ) (places : List (List ℕ)) (x : Execution) → IsSmall threads places x → length (text_of_execution places x) ≤ MAX_TEST_TEXT
 unfolding text_of_execution
 text_short threads places x s =
     let lines : List (List ℕ) = map thread_line (enumerate_from 0 x.reads) in

@@ -14,7 +14,7 @@ use Rattle.exec_meaning.specs.KeptExecutions.{added_to_list, empty_lists, nothin
 use Rattle.text_parts_laws.specs.Words.{words}
 use Rattle.exec_text.specs.declared.errors.ExecKind.{ExecKind}
 use Rattle.exec_text.specs.declared.errors.ExecKind.TheVariants.{BadThread, BadRead, BadPlace, BadWrite, StrayLine}
-use Rattle.litmus_text.specs.declared.limits.TheConstants.{MAX_TEXT}
+use Rattle.litmus_text.specs.declared.limits.TheConstants.{MAX_TEST_TEXT}
 use Rattle.exec_text.specs.declared.errors.ExecFault.{ExecFault}
 use Rattle.text_parts_laws.specs.Lines.{lines_of}
 use Rattle.exec_text.specs.ExecutionText.{access_named, at_line, execution_of, execution_read, line_read, reads_and_writes_read, each_line_read, place_head, put_line, read_named, thread_head}
@@ -123,9 +123,9 @@ abbrev pub place_lines_read : ℕ → List (List ℕ) → List (List ℕ) → Re
 place_lines_read threads places lines = each_line_read (line_read BadPlace BadWrite (access_named threads)) (threads + 1) (map place_head places) lines
 
 -- the reading of a text that isn't too long is that of its lines
-pub short_read : (threads : ℕ) (places : List (List ℕ)) (text : List ℕ) → length text ≤ MAX_TEXT → execution_read threads places text ≡ reads_and_writes_read threads places (lines_of text)
+pub short_read : (threads : ℕ) (places : List (List ℕ)) (text : List ℕ) → length text ≤ MAX_TEST_TEXT → execution_read threads places text ≡ reads_and_writes_read threads places (lines_of text)
 unfolding execution_read
-short_read threads places text h = rw (le-ltb MAX_TEXT (length text) h) refl
+short_read threads places text h = rw (le-ltb MAX_TEST_TEXT (length text) h) refl
 
 -- a fault in the lines of the threads is the fault of the text
 pub threads_wrong : (threads : ℕ) (places lines : List (List ℕ)) (fault : ExecFault) → lines_added with_read (nothing_kept threads (length places)) 0 (thread_lines_read threads lines) ≡ Err fault → reads_and_writes_read threads places lines ≡ Err fault

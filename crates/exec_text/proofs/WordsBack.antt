@@ -15,7 +15,7 @@ use Rattle.text_parts_laws.proofs.NameLaws.{place_passes, decimal_passes}
 use Rattle.text_parts_laws.proofs.NumberLaws.{number_of-decimal}
 use Rattle.text_parts_laws.specs.Cuts.{cut_at}
 use Rattle.text_parts_laws.specs.Words.{is_nil}
-use Rattle.litmus_text.specs.declared.limits.TheConstants.{MAX_TEXT, MAX_ACCESSES}
+use Rattle.litmus_text.specs.declared.limits.TheConstants.{MAX_TEST_TEXT, MAX_ACCESSES}
 use Rattle.text_parts_laws.proofs.CutLaws.{cut_back, cut_none, all_both, without_class}
 use Rattle.program_meaning.specs.declared.WriteAt.{WriteAt}
 use Rattle.exec_text.specs.ExecutionText.{access_written, access_named, kept_below, number_below, place_head, read_written, read_named, source_named, thread_head}
@@ -47,20 +47,20 @@ number_back : (bound n : ℕ) → n < bound → n < 2 ^ 32 → number_below boun
 number_back bound n h k = ap (option_and_then (kept_below bound)) (number_of-decimal n k) ∙ rw (lt-ltb n bound h) refl
 
 -- the word for an access is cut at its point
-access_cut : (threads : ℕ) (w : WriteAt) → AccessFits threads w → threads ≤ MAX_TEXT → cut_at 46 (access_word w) ≡ Some (decimal w.thread, decimal w.access)
+access_cut : (threads : ℕ) (w : WriteAt) → AccessFits threads w → threads ≤ MAX_TEST_TEXT → cut_at 46 (access_word w) ≡ Some (decimal w.thread, decimal w.access)
 unfolding access_word
 access_cut threads w f h =
     cut_back 46 (decimal w.thread) (decimal w.access) (without_class is_ascii_digit 46 (decimal w.thread) refl (digits_of w.thread (omega (arith, f.0, h))).all)
 
 -- an access is named by its word
-pub access_back : (threads : ℕ) → threads ≤ MAX_TEXT → (w : WriteAt) → AccessFits threads w → access_named threads (access_word w) ≡ Some w
+pub access_back : (threads : ℕ) → threads ≤ MAX_TEST_TEXT → (w : WriteAt) → AccessFits threads w → access_named threads (access_word w) ≡ Some w
 unfolding access_named
 access_back threads h w f =
     ap (access_written threads) (access_cut threads w f h)
     ∙ rw (number_back threads w.thread f.0 (omega (arith, f.0, h)), number_back MAX_ACCESSES w.access f.1 (omega (arith, f.1))) refl
 
 -- what is written of an access is a word
-pub access_is_word : (threads : ℕ) → threads ≤ MAX_TEXT → (w : WriteAt) → AccessFits threads w → IsWord (access_word w)
+pub access_is_word : (threads : ℕ) → threads ≤ MAX_TEST_TEXT → (w : WriteAt) → AccessFits threads w → IsWord (access_word w)
 unfolding access_word
 access_is_word threads h w f = record {
   some = some_text (decimal w.thread) (decimal w.access) 46;
@@ -68,7 +68,7 @@ access_is_word threads h w f = record {
 }
 
 -- an access isn't the word `init`, which has no point
-no_initial : (threads : ℕ) (w : WriteAt) → AccessFits threads w → threads ≤ MAX_TEXT → bytes_eq (access_word w) (codes "init") ≡ false
+no_initial : (threads : ℕ) (w : WriteAt) → AccessFits threads w → threads ≤ MAX_TEST_TEXT → bytes_eq (access_word w) (codes "init") ≡ false
 no_initial threads w f h =
     by_test (bytes_eq (access_word w) (codes "init"))
     (λ e.
@@ -78,25 +78,25 @@ no_initial threads w f h =
     (λ e. e)
 
 -- what a read reads is named by its word
-source_back : (threads : ℕ) → threads ≤ MAX_TEXT → (source : Option WriteAt) → SourceFits threads source → source_named threads (source_word source) ≡ Some source
+source_back : (threads : ℕ) → threads ≤ MAX_TEST_TEXT → (source : Option WriteAt) → SourceFits threads source → source_named threads (source_word source) ≡ Some source
 unfolding source_named source_word
 source_back threads h None f = refl
 source_back threads h (Some w) f = rw (no_initial threads w f h, access_back threads h w f) refl
 
-source_graphic : (threads : ℕ) → threads ≤ MAX_TEXT → (source : Option WriteAt) → SourceFits threads source → list_all is_graphic (source_word source) ≡ true
+source_graphic : (threads : ℕ) → threads ≤ MAX_TEST_TEXT → (source : Option WriteAt) → SourceFits threads source → list_all is_graphic (source_word source) ≡ true
 unfolding source_word
 source_graphic threads h None f = refl
 source_graphic threads h (Some w) f = (access_is_word threads h w f).bytes
 
 -- a read is named by its word
-pub read_back : (threads : ℕ) → threads ≤ MAX_TEXT → (r : ℕ × Option WriteAt) → ReadFits threads r → read_named threads (read_word r) ≡ Some r
+pub read_back : (threads : ℕ) → threads ≤ MAX_TEST_TEXT → (r : ℕ × Option WriteAt) → ReadFits threads r → read_named threads (read_word r) ≡ Some r
 unfolding read_named read_word
 read_back threads h r f =
     ap (read_written threads) (cut_back 64 (decimal r.0) (source_word r.1) (without_class is_ascii_digit 64 (decimal r.0) refl (digits_of r.0 f.0).all))
     ∙ rw (number_of-decimal r.0 f.0, source_back threads h r.1 f.1) refl
 
 -- what is written of a read is a word
-pub read_is_word : (threads : ℕ) → threads ≤ MAX_TEXT → (r : ℕ × Option WriteAt) → ReadFits threads r → IsWord (read_word r)
+pub read_is_word : (threads : ℕ) → threads ≤ MAX_TEST_TEXT → (r : ℕ × Option WriteAt) → ReadFits threads r → IsWord (read_word r)
 unfolding read_word
 read_is_word threads h r f = record {
   some = some_text (decimal r.0) (source_word r.1) 64;

@@ -3,7 +3,7 @@
 use Rattle.std.specs.Prelude.{◌≡◌, ◌<◌, ◌≤◌, ◌^◌, ℕ, true, List, length, Option, Some, None, Ok}
 use Rattle.std.specs.List.{All, list_all}
 use Rattle.text_parts_laws.specs.Names.{is_place_name}
-use Rattle.litmus_text.specs.declared.limits.TheConstants.{MAX_TEXT, MAX_ACCESSES}
+use Rattle.litmus_text.specs.declared.limits.TheConstants.{MAX_TEST_TEXT, MAX_ACCESSES}
 use Rattle.program_meaning.specs.declared.WriteAt.{WriteAt}
 use Rattle.program_meaning.specs.Executions.{Execution}
 use Rattle.exec_text.specs.ExecutionText.{execution_read}
@@ -30,7 +30,7 @@ pub record ExecutionFits (threads : ℕ) (places : List (List ℕ)) (x : Executi
   pub names : list_all is_place_name places ≡ true
   pub reads : All (All (ReadFits threads)) x.reads
   pub orders : All (All (AccessFits threads)) x.orders
-  pub short : length (text_of_execution places x) ≤ MAX_TEXT
+  pub short : length (text_of_execution places x) ≤ MAX_TEST_TEXT
 
 -- the text that is written of such an execution is read as that execution
 abbrev pub ExecutionReadsBack : Type 0

@@ -16,7 +16,7 @@ use Rattle.program_meaning.specs.Executions.{Execution}
 use Rattle.exec_text.specs.declared.errors.ExecKind.{ExecKind}
 use Rattle.exec_text.specs.declared.errors.ExecKind.TheVariants.{BadThread, BadRead, BadPlace, BadWrite, EndMissing, StrayLine, TooLarge}
 use Rattle.exec_text.specs.declared.errors.ExecFault.{ExecFault}
-use Rattle.litmus_text.specs.declared.limits.TheConstants.{MAX_TEXT, MAX_ACCESSES}
+use Rattle.litmus_text.specs.declared.limits.TheConstants.{MAX_TEST_TEXT, MAX_ACCESSES}
 
 -- a number, where it is below a bound
 abbrev pub kept_below : ℕ → ℕ → Option ℕ
@@ -136,4 +136,4 @@ reads_and_writes_read threads places lines = do
 -- the execution that a text gives, of a program of so many threads and of these places
 unfoldable pub execution_read : ℕ → List (List ℕ) → List ℕ → Result Execution ExecFault
 execution_read threads places text =
-    cond (nat_lt MAX_TEXT (length text)) (Err (record { line = 1; kind = TooLarge })) (reads_and_writes_read threads places (lines_of text))
+    cond (nat_lt MAX_TEST_TEXT (length text)) (Err (record { line = 1; kind = TooLarge })) (reads_and_writes_read threads places (lines_of text))

@@ -18,7 +18,7 @@ pub enum ExecKind {
     EndMissing,
     /// There is a line too many.
     StrayLine,
-    /// The text has more bytes than that of a test may have, `litmus_text::MAX_TEXT`.
+    /// The text has more bytes than that of a test may have, `litmus_text::MAX_TEST_TEXT`.
     TooLarge,
 }
 

@@ -17,7 +17,7 @@ use crate::words::{access_named, read_named};
 use arch_trait::Places;
 use diy_io::NoMemory;
 use exec_meaning::Execution;
-use litmus_text::MAX_TEXT;
+use litmus_text::MAX_TEST_TEXT;
 use std::alloc::Global;
 use text_parts::next_word;
 
@@ -175,7 +175,7 @@ fn missing_line(line: u64) -> ExecError
 /// thread, `Pk:` and for each of its reads `VALUE@init` or `VALUE@T.N`, the value and the access that is
 /// read; then a line for each place, its name, a colon and its writes in coherence order, each as `T.N`.
 /// A text that gives none is answered with its first faulty line, and the leftmost fault in it. One of more
-/// than `MAX_TEXT` bytes is TooLarge at line 1, whatever it holds. The execution has as many lists of reads
+/// than `MAX_TEST_TEXT` bytes is TooLarge at line 1, whatever it holds. The execution has as many lists of reads
 /// as threads, and as many orders as places.
 ///
 /// Whether the program has such accesses isn't judged here: see `exec_meaning::is_candidate`.
@@ -189,7 +189,7 @@ pub fn read_execution(
     ensures read { ReadsText result (execution_read threads places.now text.now) }
     ensures shape { IfOk result (λ x. (length x.reads ≡ threads) × (length x.orders ≡ length places.now)) }
 {
-    if text.len() > MAX_TEXT {
+    if text.len() > MAX_TEST_TEXT {
         return Err(ExecError::Text(ExecFault {
             line: 1,
             kind: ExecKind::TooLarge,

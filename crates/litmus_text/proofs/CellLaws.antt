@@ -6,7 +6,7 @@ use Rattle.std.proofs.Math.ListN.{replicate}
 use Rattle.std.proofs.lemmas.List.{drop-replicate, take-replicate, length-replicate}
 use Rattle.std.proofs.Math.Seq.{take-append_seam}
 use Rattle.list_laws.proofs.Parts.{take-append-add}
-use Rattle.arch_trait.specs.declared.arch.TheConstants.{MAX_TEXT}
+use Rattle.arch_trait.specs.declared.arch.TheConstants.{MAX_INSTRUCTION_TEXT}
 use Rattle.diy_io.specs.Page.{page_after}
 use Rattle.litmus_text.specs.Separators.{padded}
 use Rattle.litmus_text.specs.declared.cell.TheConstants.{CELL_ROOM}
@@ -26,25 +26,25 @@ copied_whole text copy k e long =
     ∙ ap (λ n. codes " | " ++ (text ++ replicate (40 - n) blank)) long
     ∙ ap padded (sym (copied_text text copy (drop k (replicate 40 blank)) e))
 
-text_and_blanks : (text : List ℕ) (width : ℕ) → length text ≤ width → width ≤ MAX_TEXT
-    → take width (text ++ replicate (MAX_TEXT - length text) 32) ≡ text ++ replicate (width - length text) 32
+text_and_blanks : (text : List ℕ) (width : ℕ) → length text ≤ width → width ≤ MAX_INSTRUCTION_TEXT
+    → take width (text ++ replicate (MAX_INSTRUCTION_TEXT - length text) 32) ≡ text ++ replicate (width - length text) 32
 text_and_blanks text width within short =
     let more = width - length text in
     let whole : width ≡ length text + more = omega arith in
-    ap (λ n. take n (text ++ replicate (MAX_TEXT - length text) 32)) whole
-    ∙ take-append-add text (replicate (MAX_TEXT - length text) 32) more (omega (arith, length-replicate {A = ℕ} (40 - length text) 32))
+    ap (λ n. take n (text ++ replicate (MAX_INSTRUCTION_TEXT - length text) 32)) whole
+    ∙ take-append-add text (replicate (MAX_INSTRUCTION_TEXT - length text) 32) more (omega (arith, length-replicate {A = ℕ} (40 - length text) 32))
     ∙ ap (λ rest. text ++ rest) (take-replicate {X = ℕ} more (40 - length text) 32 (omega arith))
 
-part_short : (i : ℕ) (text : List ℕ) (width : ℕ) → length text ≤ width → width ≤ MAX_TEXT → length (padded_at i text width) ≤ CELL_ROOM
+part_short : (i : ℕ) (text : List ℕ) (width : ℕ) → length text ≤ width → width ≤ MAX_INSTRUCTION_TEXT → length (padded_at i text width) ≤ CELL_ROOM
 part_short i text width within short = grind (arith, length-append, length-replicate)
 
 -- the first cell of a row is put without ` | `
-pub first_put : (i : ℕ) (bytes text : List ℕ) (width n : ℕ) (page new : List ℕ) → i ≡ 0 → bytes ≡ padded text → length text ≤ width → width ≤ MAX_TEXT → n ≡ width
+pub first_put : (i : ℕ) (bytes text : List ℕ) (width n : ℕ) (page new : List ℕ) → i ≡ 0 → bytes ≡ padded text → length text ≤ width → width ≤ MAX_INSTRUCTION_TEXT → n ≡ width
     → new ≡ page_after page (take n (drop 3 bytes)) → PutsCell i text width page new
 first_put i bytes text width n page new h e within short whole put = grind (arith, text_and_blanks, part_short)
 
 -- a later cell is put with ` | `
-pub later_put : (i : ℕ) (bytes text : List ℕ) (width : ℕ) (page new : List ℕ) → i ≢ 0 → bytes ≡ padded text → length text ≤ width → width ≤ MAX_TEXT
+pub later_put : (i : ℕ) (bytes text : List ℕ) (width : ℕ) (page new : List ℕ) → i ≢ 0 → bytes ≡ padded text → length text ≤ width → width ≤ MAX_INSTRUCTION_TEXT
     → new ≡ page_after page (take (3 + width) bytes) → PutsCell i text width page new
 later_put i bytes text width page new h e within short put = grind (arith, text_and_blanks, part_short)
 

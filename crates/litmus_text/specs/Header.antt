@@ -7,7 +7,7 @@ use Rattle.relax_edges.specs.declared.kinds.ArchName.{ArchName}
 use Rattle.relax_edges.specs.Architectures.{arch_word, arch_of}
 use Rattle.text_parts_laws.specs.LeadingRuns.{leading_run, after_run}
 use Rattle.litmus_text.specs.declared.errors.TestKind.TheVariants.{BadHeader, BadQuote, EndMissing}
-use Rattle.litmus_text.specs.declared.limits.TheConstants.{MAX_NAME}
+use Rattle.litmus_text.specs.declared.limits.TheConstants.{MAX_TEST_NAME}
 use Rattle.litmus_text.specs.TextLines.{Lines, ends, line, TextRead, bad}
 use Rattle.text_parts_laws.specs.Words.{is_nil, words}
 use Rattle.text_parts_laws.specs.Cuts.{cut_at}
@@ -19,7 +19,7 @@ two_words _ = None
 
 -- a name isn't too long
 abbrev pub is_short_name : List ℕ → Bool
-is_short_name name = nat_le (length name) MAX_NAME
+is_short_name name = nat_le (length name) MAX_TEST_NAME
 
 -- the architecture of this name, if there is one and the name of the test isn't too long
 abbrev pub arch_if : ℕ → Lines → List ℕ → Option ArchName → TextRead ArchName

@@ -4,7 +4,7 @@ use Rattle.std.specs.Prelude.{◌≡◌, ◌<◌, ◌≤◌, ◌+◌, ℕ, List,
 use Rattle.std.specs.List.{All}
 use Rattle.arch_trait.specs.Writing.{Writing}
 use Rattle.arch_trait.specs.SeenTests.{TestSeen}
-use Rattle.arch_trait.specs.declared.arch.TheConstants.{MAX_TEXT}
+use Rattle.arch_trait.specs.declared.arch.TheConstants.{MAX_INSTRUCTION_TEXT}
 use Rattle.litmus_text.specs.TestText.{columns_of, width_of, row_count}
 use Rattle.litmus_text.specs.declared.column.TheConstants.{KEPT_CELLS}
 
@@ -29,4 +29,4 @@ pub record HoldsTable (w : Writing) (test : TestSeen) (table : TableSeen) : Type
   pub texts : table.texts ≡ take KEPT_CELLS (all_texts (columns_of w test.places test.threads))
   pub widths : table.widths ≡ map width_of (columns_of w test.places test.threads)
   pub rows : table.rows ≡ row_count (columns_of w test.places test.threads)
-  pub short : All (λ width. width ≤ MAX_TEXT) table.widths
+  pub short : All (λ width. width ≤ MAX_INSTRUCTION_TEXT) table.widths

@@ -9,7 +9,7 @@ use Rattle.final_cond.specs.declared.cond.TheConstants.{MAX_TERMS}
 use Rattle.arch_trait.specs.Threads.{Puts, ThreadCode}
 use Rattle.arch_trait.specs.Writing.{Writing, name_in}
 use Rattle.arch_trait.specs.SeenTests.{TestSeen}
-use Rattle.litmus_text.specs.declared.limits.TheConstants.{MAX_TEXT, MAX_THREADS, MAX_ROWS}
+use Rattle.litmus_text.specs.declared.limits.TheConstants.{MAX_TEST_TEXT, MAX_THREADS, MAX_ROWS}
 use Rattle.litmus_text.specs.TestText.{test_text}
 use Rattle.litmus_text.specs.TestReading.{ThreadRead, TestRead}
 use Rattle.litmus_text.specs.Placing.{place_in, op_renumbered}
@@ -41,7 +41,7 @@ reread table name test = record {
 -- names, and the condition has 1 to 128 terms of registers of the test's threads and of its places.
 pub record IsReadable (a : Puts) (arch : ArchName) (w : Writing) (name : List ℕ) (test : TestSeen) : Type 0 where
   pub named : IsTestName name
-  pub short : length (test_text arch w name test) ≤ MAX_TEXT
+  pub short : length (test_text arch w name test) ≤ MAX_TEST_TEXT
   pub threads_some : 0 < length test.threads
   pub threads_few : length test.threads ≤ MAX_THREADS
   pub places_few : length test.places ≤ 64

@@ -9,7 +9,7 @@ use Rattle.arch_trait.specs.Writing.{Writing}
 use Rattle.final_cond.specs.Conditions.{CondSeen}
 use Rattle.litmus_text.specs.declared.errors.TestKind.TheVariants.{TooLarge}
 use Rattle.litmus_text.specs.declared.errors.TextError.{TextError}
-use Rattle.litmus_text.specs.declared.limits.TheConstants.{MAX_TEXT}
+use Rattle.litmus_text.specs.declared.limits.TheConstants.{MAX_TEST_TEXT}
 use Rattle.litmus_text.specs.TextLines.{Lines, lines_from, bad}
 use Rattle.text_parts_laws.specs.ReadingSteps.{◌>>=◌}
 use Rattle.litmus_text.specs.Header.{header_read, quote_read, after_settings, arch_read}
@@ -59,7 +59,7 @@ lines_read arch w lines = do
 
 -- the test that a text is read as, or the first fault
 unfoldable pub test_read : ArchName → Writing → List ℕ → Result TestRead TextError
-test_read arch w text = cond (nat_lt MAX_TEXT (length text)) (bad TooLarge 1) (lines_read arch w (lines_from 1 text))
+test_read arch w text = cond (nat_lt MAX_TEST_TEXT (length text)) (bad TooLarge 1) (lines_read arch w (lines_from 1 text))
 
 -- the architecture that the header of a text names
 unfoldable pub arch_in_text : List ℕ → Result ArchName TextError

@@ -1,15 +1,15 @@
 ghost use Rattle.std.specs.Prelude.{◌≡◌, ◌≤◌, take, drop};
-ghost use Rattle.arch_trait.specs.declared.arch.TheConstants.{MAX_TEXT};
+ghost use Rattle.arch_trait.specs.declared.arch.TheConstants.{MAX_INSTRUCTION_TEXT};
 ghost use Rattle.litmus_text.specs.Separators.{padded};
 
-use arch_trait::MAX_TEXT;
+use arch_trait::MAX_INSTRUCTION_TEXT;
 use arrayvec::ArrayString;
 
 /// The text of one cell.
-pub(crate) type Cell = ArrayString<MAX_TEXT>;
+pub(crate) type Cell = ArrayString<MAX_INSTRUCTION_TEXT>;
 
 /// The most bytes of a cell with ` | ` before it.
-pub(crate) const CELL_ROOM: usize = MAX_TEXT + 3;
+pub(crate) const CELL_ROOM: usize = MAX_INSTRUCTION_TEXT + 3;
 
 /// A cell as rows have it: ` | `, its text, and blanks for as wide as a column can be. So each row copies it in one piece of fixed
 /// length, however wide its column is.
@@ -17,6 +17,6 @@ pub(crate) const CELL_ROOM: usize = MAX_TEXT + 3;
 pub(crate) struct PaddedCell {
     pub(crate) bytes: [u8; CELL_ROOM],
     pub(crate) len: u8,
-    ghost short: { len ≤ MAX_TEXT },
+    ghost short: { len ≤ MAX_INSTRUCTION_TEXT },
     ghost filled: { bytes ≡ padded (take len (drop 3 bytes)) },
 }

@@ -8,7 +8,7 @@ ghost use Rattle.litmus_text.specs.PaddedCells.{text_in, PutsCell};
 ghost use Rattle.arch_trait.specs.Codes.{thread_code_of};
 
 use crate::cell::{Cell, PaddedCell};
-use arch_trait::{Arch, Code, MAX_INSTRS, MAX_TEXT, Places};
+use arch_trait::{Arch, Code, MAX_INSTRS, MAX_INSTRUCTION_TEXT, Places};
 use arrayvec::ArrayVec;
 use diy_io::Page;
 use itoa::Buffer;
@@ -115,7 +115,7 @@ impl KeptCells {
 /// The width of a column that is as wide as this, with one more cell.
 fn widen(width: usize, cell: &Cell) -> usize
     ensures value { result ≡ max width (length cell.now.bytes) }
-    ensures short { width ≤ MAX_TEXT → result ≤ MAX_TEXT }
+    ensures short { width ≤ MAX_INSTRUCTION_TEXT → result ≤ MAX_INSTRUCTION_TEXT }
 {
     width.max(cell.len())
 }
@@ -130,7 +130,7 @@ pub(crate) fn width_of<A: Arch>(
     requires printable { IsPrintable A.puts.has A.REGISTERS (length places.now) code.now }
     requires few { length cells.old ≤ KEPT_CELLS }
     ensures width { result ≡ width_of (column_of A.writing places.now (thread, thread_code_of code.now)) }
-    ensures short { result ≤ MAX_TEXT }
+    ensures short { result ≤ MAX_INSTRUCTION_TEXT }
     ensures kept { cells.new ≡ take KEPT_CELLS (cells.old ++ column_of A.writing places.now (thread, thread_code_of code.now)) }
 {
     let mut cell = Cell::new();
@@ -153,7 +153,7 @@ pub(crate) fn set_widths<A: Arch>(
     requires printable { All (λ code. IsPrintable A.puts.has A.REGISTERS (length places.now) code) threads.now }
     requires few { length threads.now ≤ MAX_EDGES }
     ensures widths { widths.new.items ≡ map width_of (columns_of A.writing places.now (map thread_code_of threads.now)) }
-    ensures short { All (λ width. width ≤ MAX_TEXT) widths.new.items }
+    ensures short { All (λ width. width ≤ MAX_INSTRUCTION_TEXT) widths.new.items }
     ensures kept { cells.new ≡ take KEPT_CELLS (all_texts (columns_of A.writing places.now (map thread_code_of threads.now))) }
 {
     cells.clear();
@@ -178,7 +178,7 @@ pub(crate) fn put_cell<A: Arch>(
     requires near { first ≤ MAX_EDGES * (MAX_INSTRS + 1) }
     requires kept { HoldsColumn cells.now first (column_of A.writing places.now (thread, thread_code_of code.now)) }
     requires within { length (slice_index_or (column_of A.writing places.now (thread, thread_code_of code.now)) row []) ≤ width }
-    requires short { width ≤ MAX_TEXT }
+    requires short { width ≤ MAX_INSTRUCTION_TEXT }
     ensures { PutsCell thread (slice_index_or (column_of A.writing places.now (thread, thread_code_of code.now)) row []) width page.old page.new }
 {
     if row > code.instrs.len() {

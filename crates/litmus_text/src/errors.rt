@@ -7,7 +7,7 @@ use thiserror::Error;
 /// What is faulty or missing in the text of a test.
 #[derive(Clone, Copy, Debug, PartialEq, Eq, Error)]
 pub enum TestKind {
-    /// The first line isn't an architecture and a name of at most `MAX_NAME` bytes, or the
+    /// The first line isn't an architecture and a name of at most `MAX_TEST_NAME` bytes, or the
     /// architecture is another one.
     #[error("the header is wrong")]
     BadHeader,
@@ -30,7 +30,7 @@ pub enum TestKind {
     /// The condition is faulty.
     #[error("the condition is wrong")]
     BadCondition,
-    /// The text is longer than `MAX_TEXT`, or has more threads, rows, places, accesses, labels or
+    /// The text is longer than `MAX_TEST_TEXT`, or has more threads, rows, places, accesses, labels or
     /// terms than a test may have.
     #[error("the text or a part of it is too large")]
     TooLarge,

@@ -5,7 +5,7 @@ ghost use Rattle.diy_io.specs.Page.{page_after, Sends};
 ghost use Rattle.litmus_text.specs.TestText.{header_line, edges_line, with_line_feed};
 ghost use Rattle.litmus_text.specs.Separators.{separator_at};
 
-use crate::limits::MAX_NAME;
+use crate::limits::MAX_TEST_NAME;
 use crate::separators::put_separator;
 use arch_trait::Arch;
 use arrayvec::ArrayString;
@@ -36,7 +36,7 @@ fn send_names<O: Sink>(arch: &[u8], name: &[u8], page: &mut Page, out: &mut O) -
 /// Appends the header to the page.
 #[tactic(auto, using(diy_io::specs::PageLaws::page_more, std::proofs::Common::append_assoc), unfolding(crate::specs::TestText::header_line))]
 pub fn put_header<A: Arch>(name: &str, page: &mut Page)
-    requires { length name.now ≤ MAX_NAME }
+    requires { length name.now ≤ MAX_TEST_NAME }
     ensures text { page.new ≡ page_after page.old (with_line_feed (header_line A.NAME name.now)) }
     ensures short { length (with_line_feed (header_line A.NAME name.now)) ≤ LINE_ROOM }
 {

@@ -1,8 +1,8 @@
 /// The most bytes of the text of a test.
-pub const MAX_TEXT: usize = 1_048_576;
+pub const MAX_TEST_TEXT: usize = 1_048_576;
 
 /// The most bytes of the name of a test.
-pub const MAX_NAME: usize = 800;
+pub const MAX_TEST_NAME: usize = 800;
 
 /// The most threads of a test.
 pub const MAX_THREADS: usize = 64;

@@ -2,7 +2,7 @@ ghost use Rattle.std.specs.Prelude.{◌≡◌, ◌≤◌, [], length};
 ghost use Rattle.litmus_text.specs.PaddedCells.{text_in, PutsCell};
 
 use crate::cell::{CELL_ROOM, Cell, PaddedCell};
-use arch_trait::MAX_TEXT;
+use arch_trait::MAX_INSTRUCTION_TEXT;
 use diy_io::Page;
 
 /// ` | ` and blanks.
@@ -34,11 +34,11 @@ impl PaddedCell {
     #[inline(always)]
     pub(crate) fn put(&self, thread: usize, width: usize, page: &mut Page)
         requires within { length (text_in self.now) ≤ width }
-        requires short { width ≤ MAX_TEXT }
+        requires short { width ≤ MAX_INSTRUCTION_TEXT }
         ensures { PutsCell thread (text_in self.now) width page.old page.new }
     {
         if thread == 0 {
-            match self.bytes.last_chunk::<MAX_TEXT>() {
+            match self.bytes.last_chunk::<MAX_INSTRUCTION_TEXT>() {
                 Some(text) => page.put_first(text, width),
                 None => unreachable!(),
             }

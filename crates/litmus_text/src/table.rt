@@ -9,7 +9,7 @@ ghost use Rattle.litmus_text.specs.Tests.{IsPrintable};
 
 use crate::cell::CELL_ROOM;
 use crate::column::{KeptCells, put_cell};
-use arch_trait::{Arch, Code, MAX_TEXT, Places};
+use arch_trait::{Arch, Code, MAX_INSTRUCTION_TEXT, Places};
 use diy_io::Page;
 use relax_edges::MAX_EDGES;
 
@@ -29,7 +29,7 @@ pub(crate) fn print_row<A: Arch>(
     requires few { length threads.now ≤ MAX_EDGES }
     requires kept { cells.now ≡ take KEPT_CELLS (all_texts (columns_of A.writing places.now (map thread_code_of threads.now))) }
     requires widths { widths.now ≡ map width_of (columns_of A.writing places.now (map thread_code_of threads.now)) }
-    requires short { All (λ width. width ≤ MAX_TEXT) widths.now }
+    requires short { All (λ width. width ≤ MAX_INSTRUCTION_TEXT) widths.now }
     ensures text { page.new ≡ page_after page.old (with_line_feed (row_line (columns_of A.writing places.now (map thread_code_of threads.now)) row)) }
     ensures short { length (with_line_feed (row_line (columns_of A.writing places.now (map thread_code_of threads.now)) row))
         ≤ CELL_ROOM * length threads.now + ROW_ENDS }
@@ -51,7 +51,7 @@ fn print_cells<A: Arch>(
     requires few { length threads.now ≤ MAX_EDGES }
     requires kept { cells.now ≡ take KEPT_CELLS (all_texts (columns_of A.writing places.now (map thread_code_of threads.now))) }
     requires widths { widths.now ≡ map width_of (columns_of A.writing places.now (map thread_code_of threads.now)) }
-    requires short { All (λ width. width ≤ MAX_TEXT) widths.now }
+    requires short { All (λ width. width ≤ MAX_INSTRUCTION_TEXT) widths.now }
     ensures text { page.new ≡ page_after page.old (join_by (cell_text row) (codes " | ") (columns_of A.writing places.now (map thread_code_of threads.now))) }
     ensures short { length (join_by (cell_text row) (codes " | ") (columns_of A.writing places.now (map thread_code_of threads.now)))
         ≤ CELL_ROOM * length threads.now }

@@ -19,4 +19,4 @@ mod test_sum;
 pub use errors::{LogError, LogKind, SumError};
 pub use kinds::{Kind, Mark, Place, Verdict};
 pub use law::{same_answers, sum_by_blocks};
-pub use summer::{MAX_LINE, Summer};
+pub use summer::{MAX_LOG_LINE, Summer};

@@ -14,7 +14,7 @@ use std::marker::Model;
 use text_parts::{cut, without_return};
 
 /// The most bytes that a line of a log may have, its line feed not counted.
-pub const MAX_LINE: usize = 65_536;
+pub const MAX_LOG_LINE: usize = 65_536;
 
 /// Sums the logs of litmus tests, which it is fed in pieces.
 #[derive(Drop)]
@@ -51,7 +51,7 @@ impl Summer {
     {
         Ok(Summer {
             reading: Reading::new(alloc),
-            held: Vec::with_capacity(alloc, MAX_LINE)?,
+            held: Vec::with_capacity(alloc, MAX_LOG_LINE)?,
             refusal: None,
         })
     }
@@ -167,7 +167,7 @@ impl Summer {
         ensures refusal { self.new.refusal ≡ self.old.refusal }
     {
         if self.held.is_empty() {
-            if prefix.len() > MAX_LINE {
+            if prefix.len() > MAX_LOG_LINE {
                 return Err(Fault::Wrong(LogKind::LineTooLong));
             }
             return self.reading.judge(without_return(prefix));
@@ -185,7 +185,7 @@ impl Summer {
         ensures held { OnOk result (self.new ≡ record self.old { held = self.old.held ++ part.now }) }
         ensures refusal { self.new.refusal ≡ self.old.refusal }
     {
-        if part.len() > MAX_LINE - self.held.len() {
+        if part.len() > MAX_LOG_LINE - self.held.len() {
             return Err(Fault::Wrong(LogKind::LineTooLong));
         }
         self.held.extend_from_slice(part)?;

@@ -6,7 +6,7 @@ use Rattle.diy_io.specs.Shelf.{ShelfSeen}
 use Rattle.diy_io.specs.Wrote.{SinkSeen}
 use Rattle.diy_io.specs.Opened.{TookFiles, name_at}
 use Rattle.relax_edges.specs.declared.edge.Edge.{Edge}
-use Rattle.litmus_text.specs.declared.limits.TheConstants.{MAX_TEXT}
+use Rattle.litmus_text.specs.declared.limits.TheConstants.{MAX_TEST_TEXT}
 use Rattle.tests_from_files.specs.FewBytes.{AreFew, none_few, one_few, both_few, prefix_few, begun_few, few_taken}
 use Rattle.tests_from_files.specs.FilesRead.{Begins}
 use Rattle.tests_from_files.specs.declared.classified_errors.FilesEnd.{FilesEnd}
@@ -25,20 +25,20 @@ said_few asked (text ∷ texts) (cycle ∷ cycles) say =
 
 -- of the file that was opened last at most one byte more than a test may have is taken
 pub classified_few : (asked : Asked) (old new : ShelfSeen) (words : List (List ℕ)) (places : List ℕ) (a b : SinkSeen) (end : FilesEnd)
-    → FilesClassified asked old new words places a b end → (end ≡ ends.NoMemory → ⊥) → count_of old.opened < count_of new.opened → new.taken ≤ MAX_TEXT + 1
+    → FilesClassified asked old new words places a b end → (end ≡ ends.NoMemory → ⊥) → count_of old.opened < count_of new.opened → new.taken ≤ MAX_TEST_TEXT + 1
 classified_few asked old new words places a b ends.Done h some more =
     few_taken old new h.read.texts h.read.took (said_few asked h.read.texts h.cycles h.read.read.say) more
 classified_few asked old new words places a b ends.OutFault h some more =
     few_taken old new h.read.texts h.read.took (said_few asked h.read.texts h.cycles h.read.read.say) more
 classified_few asked old new words places a b (ends.Wrong file line kind) h some more =
-    few_taken old new (h.0.texts ++ take (MAX_TEXT + 1) h.0.text ∷ []) h.0.took
-    (both_few h.0.texts (take (MAX_TEXT + 1) h.0.text ∷ []) (said_few asked h.0.texts h.0.place_is.cycles h.0.place_is.read.say) (prefix_few h.0.text))
+    few_taken old new (h.0.texts ++ take (MAX_TEST_TEXT + 1) h.0.text ∷ []) h.0.took
+    (both_few h.0.texts (take (MAX_TEST_TEXT + 1) h.0.text ∷ []) (said_few asked h.0.texts h.0.place_is.cycles h.0.place_is.read.say) (prefix_few h.0.text))
     more
 classified_few asked old new words places a b (ends.NoFile word) h some more =
     few_taken old new h.0.texts h.0.took (said_few asked h.0.texts h.0.place_is.cycles h.0.place_is.read.say) more
 classified_few asked old new words places a b ends.ShelfFault h some more = of_took h.0.took
   where
-    of_took : (TookFiles old new h.0.texts ⊎ ((bytes : List ℕ) × Begins old.files (name_at words h.0.place) bytes × TookFiles old new (h.0.texts ++ bytes ∷ []))) → new.taken ≤ MAX_TEXT + 1
+    of_took : (TookFiles old new h.0.texts ⊎ ((bytes : List ℕ) × Begins old.files (name_at words h.0.place) bytes × TookFiles old new (h.0.texts ++ bytes ∷ []))) → new.taken ≤ MAX_TEST_TEXT + 1
     of_took (inl took) = few_taken old new h.0.texts took (said_few asked h.0.texts h.0.place_is.cycles h.0.place_is.read.say) more
     of_took (inr part) =
         few_taken old new (h.0.texts ++ part.0 ∷ []) part.2

@@ -9,7 +9,7 @@ use Rattle.diy_io.specs.Opened.{IsFile, TookFiles, name_at}
 use Rattle.diy_io.proofs.FileNameLaws.{absent_before, quiet_before, file_before}
 use Rattle.diy_io.proofs.OpenedLaws.{took_no_more, took_one_more}
 use Rattle.relax_edges.specs.declared.edge.Edge.{Edge}
-use Rattle.litmus_text.specs.declared.limits.TheConstants.{MAX_TEXT}
+use Rattle.litmus_text.specs.declared.limits.TheConstants.{MAX_TEST_TEXT}
 use Rattle.cycles_from_lines.specs.Classified.{families_text}
 use Rattle.cycles_from_lines.specs.FamilyTables.{FamilyEntry, HoldsCycles}
 use Rattle.tests_from_files.specs.FilesRead.{FileIs}
@@ -131,7 +131,7 @@ files_refused asked old mid new a words places i place families (Text (Wrong err
     text = f.text;
     named = file_before old mid (name_at words place) f.text files f.named;
     fault = f.fault;
-    took = took_one_more old mid new s.texts (take (MAX_TEXT + 1) f.text) s.took f.took;
+    took = took_one_more old mid new s.texts (take (MAX_TEST_TEXT + 1) f.text) s.took f.took;
   },
   refl,
 )

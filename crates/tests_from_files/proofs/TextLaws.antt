@@ -4,7 +4,7 @@ use Rattle.std.proofs.KnownBytes.{Consumes-trans, Consumes-whole}
 use Rattle.std.proofs.lemmas.List.{take_all, take_at}
 use Rattle.diy_io.specs.Count.{count_of, Rose}
 use Rattle.diy_io.specs.Shelf.{ShelfSeen, Gave, IsReading, Stopped, left_to_read}
-use Rattle.litmus_text.specs.declared.limits.TheConstants.{MAX_TEXT}
+use Rattle.litmus_text.specs.declared.limits.TheConstants.{MAX_TEST_TEXT}
 use Rattle.tests_from_files.specs.OpenFiles.{FileReadSoFar, FileReadWhole, FileReadPart}
 use Rattle.diy_io.proofs.ConsumedLaws.{prefix_of}
 
@@ -26,7 +26,7 @@ reads_more old mid new bytes buf both count room r within gave all =
     })
 
 -- the end of the file is reached
-pub reads_whole : (old mid new : ShelfSeen) (bytes buf : List ℕ) (count room : ℕ) → FileReadSoFar old mid bytes → length bytes ≤ MAX_TEXT → Gave mid new (take count buf) room
+pub reads_whole : (old mid new : ShelfSeen) (bytes buf : List ℕ) (count room : ℕ) → FileReadSoFar old mid bytes → length bytes ≤ MAX_TEST_TEXT → Gave mid new (take count buf) room
     → count ≡ 0 → 0 < room → FileReadWhole old new bytes
 reads_whole old mid new bytes buf count room r few gave zero some =
     let none : take count buf ≡ [] = ap (λ k. take k buf) zero in
@@ -35,27 +35,27 @@ reads_whole old mid new bytes buf count room r few gave zero some =
     record {
       text = bytes;
       shown = Consumes-whole (left_to_read old.mode) (left_to_read new.mode) bytes (λ whole. whole ≡ bytes) r2.consumed (gave.end (ap length none) some) refl;
-      bytes_are = sym (take_all (MAX_TEXT + 1) bytes (omega arith));
+      bytes_are = sym (take_all (MAX_TEST_TEXT + 1) bytes (omega arith));
       took = r2.took;
       mode = r2.mode;
       no_fault = r2.no_fault;
     }
 
 -- one byte more than a test may have is read
-pub reads_long : (old new : ShelfSeen) (bytes : List ℕ) → FileReadSoFar old new bytes → length bytes ≡ MAX_TEXT + 1 → FileReadWhole old new bytes
+pub reads_long : (old new : ShelfSeen) (bytes : List ℕ) → FileReadSoFar old new bytes → length bytes ≡ MAX_TEST_TEXT + 1 → FileReadWhole old new bytes
 reads_long old new bytes r long =
     let prefix = prefix_of (left_to_read old.mode) (left_to_read new.mode) bytes r.consumed in
     record {
       text = prefix.text;
       shown = prefix.is;
-      bytes_are = sym (ap (take (MAX_TEXT + 1)) prefix.parts ∙ take_at bytes prefix.rest (MAX_TEXT + 1) long);
+      bytes_are = sym (ap (take (MAX_TEST_TEXT + 1)) prefix.parts ∙ take_at bytes prefix.rest (MAX_TEST_TEXT + 1) long);
       took = r.took;
       mode = r.mode;
       no_fault = r.no_fault;
     }
 
 -- the shelf failed
-pub reads_failed : (old mid new : ShelfSeen) (bytes : List ℕ) → FileReadSoFar old mid bytes → length bytes ≤ MAX_TEXT → Stopped mid new → FileReadPart old new
+pub reads_failed : (old mid new : ShelfSeen) (bytes : List ℕ) → FileReadSoFar old mid bytes → length bytes ≤ MAX_TEST_TEXT → Stopped mid new → FileReadPart old new
 reads_failed old mid new bytes r few stopped =
     let same : mid.faults ≡ old.faults = r.no_fault in
     let rose : Rose mid.faults new.faults = stopped.faulted.fault in

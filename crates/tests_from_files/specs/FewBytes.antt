@@ -9,34 +9,34 @@ use Rattle.diy_io.specs.Count.{count_of}
 use Rattle.diy_io.specs.Shelf.{Files, ShelfSeen}
 use Rattle.diy_io.specs.Opened.{TookFiles}
 use Rattle.diy_io.proofs.OpenedLaws.{took_within}
-use Rattle.litmus_text.specs.declared.limits.TheConstants.{MAX_TEXT}
+use Rattle.litmus_text.specs.declared.limits.TheConstants.{MAX_TEST_TEXT}
 use Rattle.tests_from_files.specs.FilesRead.{Begins}
 
 -- each of these has at most one byte more than a test may have
 abbrev pub AreFew : List (List ℕ) → Type 0
-AreFew taken = All (λ bytes. length bytes ≤ MAX_TEXT + 1) taken
+AreFew taken = All (λ bytes. length bytes ≤ MAX_TEST_TEXT + 1) taken
 
 -- no files are few
 pub none_few : AreFew []
 none_few k d less = absurd (omega arith)
 
 -- one file is of few bytes where its bytes are few
-pub one_few : (bytes : List ℕ) → length bytes ≤ MAX_TEXT + 1 → AreFew (bytes ∷ [])
-one_few bytes few k d less = let zero : k ≡ 0 = omega arith in subst (λ i. length (get_or (bytes ∷ []) i d) ≤ MAX_TEXT + 1) (sym zero) few
+pub one_few : (bytes : List ℕ) → length bytes ≤ MAX_TEST_TEXT + 1 → AreFew (bytes ∷ [])
+one_few bytes few k d less = let zero : k ≡ 0 = omega arith in subst (λ i. length (get_or (bytes ∷ []) i d) ≤ MAX_TEST_TEXT + 1) (sym zero) few
 
 -- two lists of files of few bytes make one
 pub both_few : (xs ys : List (List ℕ)) → AreFew xs → AreFew ys → AreFew (xs ++ ys)
-both_few xs ys p q = All-append (λ bytes. length bytes ≤ MAX_TEXT + 1) xs ys p q
+both_few xs ys p q = All-append (λ bytes. length bytes ≤ MAX_TEST_TEXT + 1) xs ys p q
 
 -- what is taken of a text is as few
-pub prefix_few : (text : List ℕ) → AreFew (take (MAX_TEXT + 1) text ∷ [])
-prefix_few text = one_few (take (MAX_TEXT + 1) text) (omega (arith, length-take (MAX_TEXT + 1) text))
+pub prefix_few : (text : List ℕ) → AreFew (take (MAX_TEST_TEXT + 1) text ∷ [])
+prefix_few text = one_few (take (MAX_TEST_TEXT + 1) text) (omega (arith, length-take (MAX_TEST_TEXT + 1) text))
 
 -- and so is what was taken of a file where the shelf failed
 pub begun_few : (files : Option Files) (name bytes : List ℕ) → Begins files name bytes → AreFew (bytes ∷ [])
-begun_few files name bytes begins = let short : length bytes ≤ MAX_TEXT = begins.short in one_few bytes (omega arith)
+begun_few files name bytes begins = let short : length bytes ≤ MAX_TEST_TEXT = begins.short in one_few bytes (omega arith)
 
 -- so few are taken of the last file, where one was opened
 pub few_taken : (old new : ShelfSeen) (taken : List (List ℕ)) → TookFiles old new taken → AreFew taken → count_of old.opened < count_of new.opened
-    → new.taken ≤ MAX_TEXT + 1
-few_taken old new taken took few more = took_within (MAX_TEXT + 1) old new taken (omega arith) took few more
+    → new.taken ≤ MAX_TEST_TEXT + 1
+few_taken old new taken took few more = took_within (MAX_TEST_TEXT + 1) old new taken (omega arith) took few more

@@ -8,7 +8,7 @@ use Rattle.diy_io.specs.Opened.{IsFile, TookFiles, name_at}
 use Rattle.relax_edges.specs.declared.edge.Edge.{Edge}
 use Rattle.relax_edges.specs.declared.kinds.ArchName.{ArchName}
 use Rattle.arch_trait.specs.Writing.{Writing}
-use Rattle.litmus_text.specs.declared.limits.TheConstants.{MAX_TEXT}
+use Rattle.litmus_text.specs.declared.limits.TheConstants.{MAX_TEST_TEXT}
 use Rattle.cycles_from_lines.specs.Classified.{families_text}
 use Rattle.tests_from_files.specs.FilesRead.{Begins}
 use Rattle.tests_from_files.specs.declared.classified_errors.FileKind.{FileKind}
@@ -70,7 +70,7 @@ pub record FileWrong (asked : Asked) (old new : ShelfSeen) (words : List (List �
   pub text : List ℕ
   pub named : IsFile old.files (name_at words place) text
   pub fault : said_on asked text ≡ Err error
-  pub took : TookFiles old new (texts ++ take (MAX_TEXT + 1) text ∷ [])
+  pub took : TookFiles old new (texts ++ take (MAX_TEST_TEXT + 1) text ∷ [])
 
 -- the word at a place names no file, where the files are shown, and then no fault came; those before it have no fault, and no more
 -- was opened

@@ -5,7 +5,7 @@ use Rattle.diy_io.specs.Count.{Rose}
 use Rattle.diy_io.specs.Shelf.{Files, ShelfSeen}
 use Rattle.diy_io.specs.declared.errors.Failed.{Failed}
 use Rattle.diy_io.specs.Opened.{FileAbsent, IsFile, TookFiles}
-use Rattle.litmus_text.specs.declared.limits.TheConstants.{MAX_TEXT}
+use Rattle.litmus_text.specs.declared.limits.TheConstants.{MAX_TEST_TEXT}
 use Rattle.tests_from_files.specs.declared.errors.FileFault.{FileFault}
 use Rattle.tests_from_files.specs.declared.errors.FileFault.TheVariants as faults
 
@@ -14,7 +14,7 @@ use Rattle.tests_from_files.specs.declared.errors.FileFault.TheVariants as fault
 pub record FileRead (old new : ShelfSeen) (name text : List ℕ) (closed : Result (Unit {0}) Failed) : Type 0 where
   pub whole : List ℕ
   pub named : IsFile old.files name whole
-  pub text_is : text ≡ take (MAX_TEXT + 1) whole
+  pub text_is : text ≡ take (MAX_TEST_TEXT + 1) whole
   pub took : TookFiles old new (text ∷ [])
   pub no_fault : OnOk closed (new.faults ≡ old.faults)
   pub fault : OnErr closed (Rose old.faults new.faults)
@@ -25,7 +25,7 @@ pub record Begins (files : Option Files) (name bytes : List ℕ) : Type 0 where
   pub named : IsFile files name text
   pub rest : List ℕ
   pub parts : text ≡ bytes ++ rest
-  pub short : length bytes ≤ MAX_TEXT
+  pub short : length bytes ≤ MAX_TEST_TEXT
 
 -- the shelf failed before a file was opened, or after some bytes of it
 pub record FileFailed (old new : ShelfSeen) (name : List ℕ) : Type 0 where
@@ -45,7 +45,7 @@ pub record FileFaulty {X E : Type 0} (judge : List ℕ → Result X E) (old new 
   pub text : List ℕ
   pub named : IsFile old.files name text
   pub fault : judge text ≡ Err error
-  pub took : TookFiles old new (take (MAX_TEXT + 1) text ∷ [])
+  pub took : TookFiles old new (take (MAX_TEST_TEXT + 1) text ∷ [])
 
 -- an answer to the reading of a file, and the text that was read, or what is there in its place
 abbrev pub FileTo : ShelfSeen → ShelfSeen → List ℕ → List ℕ → Result (Result (Unit {0}) Failed) FileFault → Type 0

@@ -13,7 +13,7 @@ use Rattle.diy_io.specs.Opened.{IsFile, TookFiles}
 use Rattle.relax_edges.specs.declared.kinds.ArchName.{ArchName}
 use Rattle.arch_trait.specs.Writing.{Writing}
 use Rattle.litmus_text.specs.declared.errors.TestKind.TheVariants.{TooLarge}
-use Rattle.litmus_text.specs.declared.limits.TheConstants.{MAX_TEXT}
+use Rattle.litmus_text.specs.declared.limits.TheConstants.{MAX_TEST_TEXT}
 use Rattle.litmus_text.specs.TestReading.{arch_in_text}
 use Rattle.tests_from_files.specs.declared.errors.TestFileError.{TestFileError}
 use Rattle.tests_from_files.specs.declared.errors.TestFileKind.TheVariants.{Test}
@@ -23,37 +23,37 @@ use Rattle.tests_from_files.specs.TestSaid.{test_said, headed_said}
 -- a judgement of texts depends on their first bytes alone, one more than a test may have, and a text that is right has no more
 -- than a test may have
 pub record JudgesFirstBytes {X E : Type 0} (judge : List ℕ → Result X E) : Type 0 where
-  pub same : (text : List ℕ) → judge (take (MAX_TEXT + 1) text) ≡ judge text
-  pub short : (text : List ℕ) (x : X) → judge text ≡ Ok x → length text ≤ MAX_TEXT
+  pub same : (text : List ℕ) → judge (take (MAX_TEST_TEXT + 1) text) ≡ judge text
+  pub short : (text : List ℕ) (x : X) → judge text ≡ Ok x → length text ≤ MAX_TEST_TEXT
 
 -- a judgement refuses each text that has more bytes than a test may have, with one fault, and judges the others by g
 abbrev pub RefusesLong : {X E : Type 0} → (List ℕ → Result X E) → E → (List ℕ → Result X E) → Type 0
-RefusesLong judge fault g = (text : List ℕ) → judge text ≡ cond (nat_lt MAX_TEXT (length text)) (Err fault) (g text)
+RefusesLong judge fault g = (text : List ℕ) → judge text ≡ cond (nat_lt MAX_TEST_TEXT (length text)) (Err fault) (g text)
 
-long_refused : {X E : Type 0} (judge g : List ℕ → Result X E) (fault : E) → RefusesLong judge fault g → (text : List ℕ) → MAX_TEXT < length text
+long_refused : {X E : Type 0} (judge g : List ℕ → Result X E) (fault : E) → RefusesLong judge fault g → (text : List ℕ) → MAX_TEST_TEXT < length text
     → judge text ≡ Err fault
 long_refused {X} {E} judge g fault h text long =
-    let e : nat_lt MAX_TEXT (length text) ≡ true = grind (arith, nat_tests, long) in
+    let e : nat_lt MAX_TEST_TEXT (length text) ≡ true = grind (arith, nat_tests, long) in
     h text ∙ ap (λ (b : Bool). let judged : Result X E = cond b (Err fault) (g text) in judged) e
 
 same_judged : {X E : Type 0} (judge g : List ℕ → Result X E) (fault : E) → RefusesLong judge fault g → (text : List ℕ)
-    → judge (take (MAX_TEXT + 1) text) ≡ judge text
-same_judged {X} {E} judge g fault h text = ⊎_elim long short (cases_lt MAX_TEXT (length text))
+    → judge (take (MAX_TEST_TEXT + 1) text) ≡ judge text
+same_judged {X} {E} judge g fault h text = ⊎_elim long short (cases_lt MAX_TEST_TEXT (length text))
   where
-    long : MAX_TEXT < length text → judge (take (MAX_TEXT + 1) text) ≡ judge text
+    long : MAX_TEST_TEXT < length text → judge (take (MAX_TEST_TEXT + 1) text) ≡ judge text
     long more =
-        long_refused judge g fault h (take (MAX_TEXT + 1) text) (omega (arith, length-take-le (MAX_TEXT + 1) text (omega arith)))
+        long_refused judge g fault h (take (MAX_TEST_TEXT + 1) text) (omega (arith, length-take-le (MAX_TEST_TEXT + 1) text (omega arith)))
         ∙ sym (long_refused judge g fault h text more)
 
-    short : length text ≤ MAX_TEXT → judge (take (MAX_TEXT + 1) text) ≡ judge text
-    short few = ap judge (take_all (MAX_TEXT + 1) text (omega arith))
+    short : length text ≤ MAX_TEST_TEXT → judge (take (MAX_TEST_TEXT + 1) text) ≡ judge text
+    short few = ap judge (take_all (MAX_TEST_TEXT + 1) text (omega arith))
 
 right_short : {X E : Type 0} (judge g : List ℕ → Result X E) (fault : E) → RefusesLong judge fault g → (text : List ℕ) (x : X) → judge text ≡ Ok x
-    → length text ≤ MAX_TEXT
-right_short {X} {E} judge g fault h text x right = of_test (nat_lt MAX_TEXT (length text)) refl (sym (h text) ∙ right)
+    → length text ≤ MAX_TEST_TEXT
+right_short {X} {E} judge g fault h text x right = of_test (nat_lt MAX_TEST_TEXT (length text)) refl (sym (h text) ∙ right)
   where
-    of_test : (b : Bool) → nat_lt MAX_TEXT (length text) ≡ b → (let judged : Result X E = cond b (Err fault) (g text) in judged) ≡ Ok x
-        → length text ≤ MAX_TEXT
+    of_test : (b : Bool) → nat_lt MAX_TEST_TEXT (length text) ≡ b → (let judged : Result X E = cond b (Err fault) (g text) in judged) ≡ Ok x
+        → length text ≤ MAX_TEST_TEXT
     of_test true e wrong = cc wrong
     of_test false e right = grind (arith, nat_tests, e)
 
@@ -69,7 +69,7 @@ judges_further {X} {Y} {E} {F} judge further kept h = record {
   short = λ text y right. of_judged text y (judge text) refl right;
 }
   where
-    of_judged : (text : List ℕ) (y : Y) (judged : Result X E) → judge text ≡ judged → further judged ≡ Ok y → length text ≤ MAX_TEXT
+    of_judged : (text : List ℕ) (y : Y) (judged : Result X E) → judge text ≡ judged → further judged ≡ Ok y → length text ≤ MAX_TEST_TEXT
     of_judged text y (Ok x) e right = h.short text x e
     of_judged text y (Err error) e right = absurd (kept error y right)
 
@@ -86,15 +86,15 @@ tests_by_first_bytes arch w =
     judges_first_bytes (test_said arch w) (λ text. headed_said arch w text (arch_in_text text)) too_large (tests_refuse_long arch w)
 
 -- what is taken of a text is as a test what the text is
-pub said_by_first_bytes : (arch : ArchName) (w : Writing) (text : List ℕ) → test_said arch w (take (MAX_TEXT + 1) text) ≡ test_said arch w text
+pub said_by_first_bytes : (arch : ArchName) (w : Writing) (text : List ℕ) → test_said arch w (take (MAX_TEST_TEXT + 1) text) ≡ test_said arch w text
 said_by_first_bytes arch w text = (tests_by_first_bytes arch w).same text
 
 -- what was taken of a file is all of it, where it is right
-whole_read : {X E : Type 0} (judge : List ℕ → Result X E) → JudgesFirstBytes judge → (whole text : List ℕ) (x : X) → text ≡ take (MAX_TEXT + 1) whole
+whole_read : {X E : Type 0} (judge : List ℕ → Result X E) → JudgesFirstBytes judge → (whole text : List ℕ) (x : X) → text ≡ take (MAX_TEST_TEXT + 1) whole
     → judge text ≡ Ok x → text ≡ whole
 whole_read judge j whole text x e is =
     let right : judge whole ≡ Ok x = sym (j.same whole) ∙ sym (ap judge e) ∙ is in
-    e ∙ take_all (MAX_TEXT + 1) whole (omega (arith, j.short whole x right))
+    e ∙ take_all (MAX_TEST_TEXT + 1) whole (omega (arith, j.short whole x right))
 
 -- a file whose text was judged to be right, and that was closed
 pub file_is : {X E : Type 0} (judge : List ℕ → Result X E) → JudgesFirstBytes judge → (old new : ShelfSeen) (name text judged : List ℕ)

@@ -4,7 +4,7 @@ use Rattle.std.specs.Io.KnownBytes.{Consumes}
 use Rattle.diy_io.specs.Count.{count_of, Rose}
 use Rattle.diy_io.specs.Shelf.{Idle, IsReading, ShelfSeen, left_to_read}
 use Rattle.diy_io.specs.declared.errors.Failed.{Failed}
-use Rattle.litmus_text.specs.declared.limits.TheConstants.{MAX_TEXT}
+use Rattle.litmus_text.specs.declared.limits.TheConstants.{MAX_TEST_TEXT}
 use Rattle.tests_from_files.specs.declared.errors.FileFault.{FileFault}
 use Rattle.tests_from_files.specs.declared.errors.FileFault.TheVariants as faults
 use Rattle.tests_from_files.specs.declared.errors.ReadFault.{ReadFault}
@@ -20,7 +20,7 @@ pub record TookBytes (old new : ShelfSeen) (bytes : List ℕ) : Type 0 where
 pub record FileReadWhole (old new : ShelfSeen) (bytes : List ℕ) : Type 0 where
   pub text : List ℕ
   pub shown : IfSome (left_to_read old.mode) (λ whole. whole ≡ text)
-  pub bytes_are : bytes ≡ take (MAX_TEXT + 1) text
+  pub bytes_are : bytes ≡ take (MAX_TEST_TEXT + 1) text
   pub took : TookBytes old new bytes
   pub mode : IsReading new.mode
   pub no_fault : new.faults ≡ old.faults
@@ -32,7 +32,7 @@ pub record FileReadPart (old new : ShelfSeen) : Type 0 where
   pub shown : IfSome (left_to_read old.mode) (λ whole. whole ≡ text)
   pub rest : List ℕ
   pub parts : text ≡ bytes ++ rest
-  pub short : length bytes ≤ MAX_TEXT
+  pub short : length bytes ≤ MAX_TEST_TEXT
   pub took : TookBytes old new bytes
   pub mode : new.mode ≡ Idle
   pub fault : Rose old.faults new.faults
@@ -59,7 +59,7 @@ pub record FileReadSoFar (old new : ShelfSeen) (bytes : List ℕ) : Type 0 where
 pub record OpenRead (old new : ShelfSeen) (bytes : List ℕ) (closed : Result (Unit {0}) Failed) : Type 0 where
   pub text : List ℕ
   pub shown : IfSome (left_to_read old.mode) (λ whole. whole ≡ text)
-  pub bytes_are : bytes ≡ take (MAX_TEXT + 1) text
+  pub bytes_are : bytes ≡ take (MAX_TEST_TEXT + 1) text
   pub took : TookBytes old new bytes
   pub no_fault : OnOk closed (new.faults ≡ old.faults)
   pub fault : OnErr closed (Rose old.faults new.faults)

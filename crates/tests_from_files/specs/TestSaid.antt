@@ -6,7 +6,7 @@ use Rattle.relax_edges.specs.declared.kinds.ArchName.TheVariants as archs
 use Rattle.arch_trait.specs.Writing.{Writing}
 use Rattle.litmus_text.specs.declared.errors.TestKind.TheVariants.{TooLarge}
 use Rattle.litmus_text.specs.declared.errors.TextError.{TextError}
-use Rattle.litmus_text.specs.declared.limits.TheConstants.{MAX_TEXT}
+use Rattle.litmus_text.specs.declared.limits.TheConstants.{MAX_TEST_TEXT}
 use Rattle.litmus_text.specs.TestReading.{TestRead, test_read, arch_in_text}
 use Rattle.tests_from_files.specs.declared.errors.NoTest.{NoTest}
 use Rattle.tests_from_files.specs.declared.errors.NoTest.TheVariants.{Wrong, NoMemory}
@@ -40,7 +40,7 @@ headed_said arch w text (Err error) = wrong (Test error.kind) error.line
 -- what a text is as a test of an architecture: too many bytes come first, then the header, then another architecture, then the
 -- rest of the text
 unfoldable pub test_said : ArchName → Writing → List ℕ → Result TestRead TestFileError
-test_said arch w text = cond (nat_lt MAX_TEXT (length text)) (wrong (Test TooLarge) 1) (headed_said arch w text (arch_in_text text))
+test_said arch w text = cond (nat_lt MAX_TEST_TEXT (length text)) (wrong (Test TooLarge) 1) (headed_said arch w text (arch_in_text text))
 
 -- an answer is what a text is, or there is no memory
 abbrev pub SaysTestInMemory : Result TestRead NoTest → Result TestRead TestFileError → Type 0

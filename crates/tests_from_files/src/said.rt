@@ -5,7 +5,7 @@ ghost use Rattle.tests_from_files.specs.TestSaid.{is_arch, headed_said, test_sai
 
 use crate::errors::{NoTest, TestFileError, TestFileKind};
 use arch_trait::Arch;
-use litmus_text::{MAX_TEXT, ReadError, ReadTest, TestKind, TextError, arch_of, read_test};
+use litmus_text::{MAX_TEST_TEXT, ReadError, ReadTest, TestKind, TextError, arch_of, read_test};
 use relax_edges::ArchName;
 use std::alloc::Global;
 
@@ -18,7 +18,7 @@ const HEADER_LINE: u64 = 1;
 pub fn test_of_text<A: Arch>(alloc: Global, text: &[u8]) -> Result<ReadTest<A>, NoTest>
     ensures { SaysTestInMemory result (test_said A.NAME A.writing text.now) }
 {
-    if text.len() > MAX_TEXT {
+    if text.len() > MAX_TEST_TEXT {
         return Err(fault_at_line(TestFileKind::Test(TestKind::TooLarge), HEADER_LINE));
     }
     match arch_of(text) {

@@ -4,7 +4,7 @@ ghost use Rattle.tests_from_files.specs.OpenFiles.{FileReadTo};
 
 use crate::errors::ReadFault;
 use diy_io::{Failed, Shelf};
-use litmus_text::MAX_TEXT;
+use litmus_text::MAX_TEST_TEXT;
 
 /// Reads the file that is open into `text`, in place of what that held, up to one byte more than a test may have. It
 /// stays open, but where the shelf fails. Pieces are as long as `piece`.
@@ -19,7 +19,7 @@ pub(crate) fn read_text<H: Shelf>(
 {
     text.clear();
     loop {
-        let room = piece.len().min(MAX_TEXT + 1 - text.len());
+        let room = piece.len().min(MAX_TEST_TEXT + 1 - text.len());
         let count = match read_piece(shelf, piece, room) {
             Ok(0) => return Ok(()),
             Ok(count) => count,
@@ -29,7 +29,7 @@ pub(crate) fn read_text<H: Shelf>(
             Ok(()) => {}
             Err(_) => return Err(ReadFault::NoMemory),
         }
-        if text.len() > MAX_TEXT {
+        if text.len() > MAX_TEST_TEXT {
             return Ok(());
         }
     }

@@ -9,7 +9,7 @@ use Rattle.cycle_enum_laws.specs.Listing.{AreAllListed, AreListedTo}
 use Rattle.arch_trait.specs.Threads.{Puts}
 use Rattle.arch_trait.specs.Writing.{Writing}
 use Rattle.diy_io.specs.Shelf.{ShelfSeen}
-use Rattle.tests_to_files.specs.declared.names.TheConstants.{MAX_LINE, MAX_LINES}
+use Rattle.tests_to_files.specs.declared.names.TheConstants.{MAX_LISTED_LINE, MAX_LINES}
 use Rattle.tests_to_files.specs.declared.names.Closed.{Closed}
 use Rattle.tests_to_files.specs.declared.names.Names.{Names}
 use Rattle.tests_to_files.specs.declared.wanted.Wanted.{Wanted}
@@ -28,13 +28,13 @@ pub record KeptTo (listed : List Edge → Type 0) (given : Option (List Edge)) (
 
 -- the lines of these cycles are all kept, and there is room for one more; or those up to a cycle are kept
 abbrev pub KeepsLines : (List Edge → Type 0) → Option (List Edge) → List (List Edge) → List ℕ → Option Closed → Type 0
-KeepsLines listed given cycles lines None = (lines ≡ file_lines 0 cycles) × (length lines + MAX_LINE ≤ MAX_LINES)
+KeepsLines listed given cycles lines None = (lines ≡ file_lines 0 cycles) × (length lines + MAX_LISTED_LINE ≤ MAX_LINES)
 KeepsLines listed given cycles lines (Some closed) = KeptTo listed given lines closed.cycle closed.number
 
 -- one more line is kept, and there is room for another; or there is none, and this cycle is the last one whose line is kept
 pub record KeepsLine (lines new : List ℕ) (closed : Option Closed) (line : List ℕ) (cycle : List Edge) (next : ℕ) : Type 0 where
   pub lines_are : new ≡ lines ++ line
-  pub room : MatchOption closed (length new + MAX_LINE ≤ MAX_LINES) (λ closed. (closed.cycle ≡ cycle) × (closed.number ≡ next))
+  pub room : MatchOption closed (length new + MAX_LISTED_LINE ≤ MAX_LINES) (λ closed. (closed.cycle ≡ cycle) × (closed.number ≡ next))
 
 -- the lines that are kept stay as they were
 abbrev pub NamesStay : Names → Names → Type 0

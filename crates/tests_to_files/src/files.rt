@@ -2,11 +2,9 @@ ghost use Rattle.std.specs.Prelude.{◌≡◌, ◌≤◌, ◌++◌, length};
 ghost use Rattle.std.specs.Option.{ForSome, option_map};
 ghost use Rattle.tests_to_files.specs.ListedFiles.{file_named, path_of, stem_named};
 
+use diy_io::MAX_FOLDER;
 use arrayvec::ArrayString;
 use itoa::Buffer;
-
-/// The most bytes of a folder's name.
-pub const MAX_FOLDER: usize = 1_024;
 
 /// The most bytes of a name that a file has.
 const MAX_NAMED: usize = 200;

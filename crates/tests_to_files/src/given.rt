@@ -9,14 +9,14 @@ ghost use Rattle.tests_to_files.specs.Plans.{test_files_of};
 ghost use Rattle.tests_to_files.specs.Putting.{PutFiles, PutPart};
 
 use crate::ending::ListingEnd;
-use crate::files::{MAX_FOLDER, Path, path_of};
+use crate::files::{Path, path_of};
 use crate::listing::{put_test, write_count};
 use crate::making::Desk;
-use crate::names::{MAX_LINE, file_of, push_line};
+use crate::names::{MAX_LISTED_LINE, file_of, push_line};
 use crate::wanted::Wanted;
 use arch_trait::{Arch, Places, ThreadCodes};
 use arrayvec::{ArrayString, ArrayVec};
-use diy_io::{Failed, Page, Shelf, Sink};
+use diy_io::{Failed, MAX_FOLDER, Page, Shelf, Sink};
 use edge_algebra::Cycle;
 use final_cond::Cond;
 use litmus_text::{KeptTable, Test};
@@ -126,7 +126,7 @@ fn put_names_of<H: Shelf>(path: &str, cycles: &[Cycle], shelf: &mut H) -> Result
     let mut lines: ArrayVec<u8, MAX_WAITING> = ArrayVec::new();
     let mut number: u128 = 0;
     for cycle in cycles {
-        if lines.remaining_capacity() < MAX_LINE {
+        if lines.remaining_capacity() < MAX_LISTED_LINE {
             shelf.append(lines.as_slice())?;
             lines.clear();
         }

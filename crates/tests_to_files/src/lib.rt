@@ -12,7 +12,7 @@ mod runs;
 mod wanted;
 
 pub use ending::ListingEnd;
-pub use files::{MAX_ENDING, MAX_FOLDER, MAX_PATH, Path, test_path};
+pub use files::{MAX_ENDING, MAX_PATH, Path, test_path};
 pub use given::put_cycles;
 pub use listing::{Listing, list_tests};
 pub use putting::{File, put_files};

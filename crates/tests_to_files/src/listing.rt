@@ -16,7 +16,7 @@ ghost use Rattle.tests_to_files.specs.Putting.{PutFiles, FailsAt};
 ghost use Rattle.tests_to_files.specs.Ready.{IsReady};
 
 use crate::ending::ListingEnd;
-use crate::files::{FileName, MAX_FOLDER, Path, file_named, set_path};
+use crate::files::{FileName, Path, file_named, set_path};
 use crate::making::{Desk, make_test};
 use crate::names::{Names, put_names};
 use crate::putting::put_text;
@@ -25,7 +25,7 @@ use arch_trait::{Arch, Places, ThreadCodes};
 use arrayvec::{ArrayString, ArrayVec};
 use cycle_enum::{Limits, Walk};
 use cycle_names::name_of;
-use diy_io::{Failed, Page, Shelf, Sink};
+use diy_io::{Failed, MAX_FOLDER, Page, Shelf, Sink};
 use edge_algebra::Cycle;
 use final_cond::Cond;
 use itoa::Buffer;

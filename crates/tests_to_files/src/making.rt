@@ -5,7 +5,7 @@ ghost use Rattle.tests_to_files.specs.Ready.{IsReady};
 use crate::files::Path;
 use arch_trait::Arch;
 use arrayvec::ArrayString;
-use cycle_names::MAX_NAME;
+use cycle_names::MAX_CYCLE_NAME;
 use diy_io::Page;
 use edge_algebra::Cycle;
 use litmus_text::{KeptTable, Test};
@@ -18,7 +18,7 @@ use test_maker::make_into;
 /// calls that take other large values the program would clear it once at the beginning and once more where it is made.
 #[derive(Drop)]
 pub(crate) struct Desk {
-    pub(crate) name: ArrayString<MAX_NAME>,
+    pub(crate) name: ArrayString<MAX_CYCLE_NAME>,
     pub(crate) path: Path,
     pub(crate) table: KeptTable,
     pub(crate) page: Page,

@@ -9,19 +9,19 @@ ghost use Rattle.tests_to_files.specs.Keeping.{KeepsFile, NamesKept, NamesRest, 
 ghost use Rattle.tests_to_files.specs.Plans.{HaveTests};
 ghost use Rattle.test_maker.specs.Refusals.{refusal_of};
 
-use crate::files::{FileName, MAX_FOLDER, file_named, path_of};
+use crate::files::{FileName, file_named, path_of};
 use crate::putting::put_file;
 use arch_trait::Arch;
 use arrayvec::{ArrayString, ArrayVec};
 use cycle_enum::Walk;
-use cycle_names::{MAX_NAME, name_of};
-use diy_io::{Failed, Shelf};
+use cycle_names::{MAX_CYCLE_NAME, name_of};
+use diy_io::{Failed, MAX_FOLDER, Shelf};
 use edge_algebra::Cycle;
 use relax_edges::{Edge, ObsMode};
 use test_maker::accepted;
 
 /// The most bytes of a line that names a file.
-pub(crate) const MAX_LINE: usize = 208;
+pub(crate) const MAX_LISTED_LINE: usize = 208;
 
 /// The most bytes of lines that are kept.
 pub(crate) const MAX_LINES: usize = 98_304;
@@ -55,14 +55,14 @@ impl Names {
 
     /// Keeps the line of a cycle's file, while there is room.
     pub(crate) fn keep(&mut self, cycle: &Cycle, file: &FileName, next: u128)
-        requires { ForNone self.old.closed (length self.old.lines.items + MAX_LINE ≤ MAX_LINES) }
+        requires { ForNone self.old.closed (length self.old.lines.items + MAX_LISTED_LINE ≤ MAX_LINES) }
         ensures { KeepsFile self.old self.new file.now.bytes cycle.now next }
     {
         if self.closed.is_some() {
             return;
         }
         push_line(file, &mut self.lines);
-        if self.lines.remaining_capacity() < MAX_LINE {
+        if self.lines.remaining_capacity() < MAX_LISTED_LINE {
             self.closed = Some(Closed {
                 cycle: cycle.copy(),
                 number: next,
@@ -73,7 +73,7 @@ impl Names {
 
 /// Appends the line that names a file.
 pub(crate) fn push_line<const N: usize>(file: &FileName, lines: &mut ArrayVec<u8, N>)
-    requires { length lines.old.items + MAX_LINE ≤ N }
+    requires { length lines.old.items + MAX_LISTED_LINE ≤ N }
     ensures { lines.new.items ≡ lines.old.items ++ (file.now.bytes ++ codes "\n") }
 {
     let bytes = file.as_str().as_bytes();
@@ -85,7 +85,7 @@ pub(crate) fn push_line<const N: usize>(file: &FileName, lines: &mut ArrayVec<u8
 pub(crate) fn file_of(cycle: &Cycle, number: u128) -> FileName
     ensures { result.bytes ≡ file_of number cycle.now }
 {
-    let mut name: ArrayString<MAX_NAME> = ArrayString::new();
+    let mut name: ArrayString<MAX_CYCLE_NAME> = ArrayString::new();
     name_of(cycle, &mut name);
     file_named(number, name.as_str())
 }
@@ -152,7 +152,7 @@ fn append_after<
     walk.after(&closed.cycle);
     let mut number = closed.number;
     while let Some(cycle) = next_accepted::<A, K, J, P>(walk, mode) {
-        if lines.remaining_capacity() < MAX_LINE {
+        if lines.remaining_capacity() < MAX_LISTED_LINE {
             shelf.append(lines.as_slice())?;
             lines.clear();
         }

@@ -4,7 +4,7 @@ ghost use Rattle.diy_io.specs.Shelf.{Idle};
 ghost use Rattle.litmus_text.specs.KeptCells.{HoldsTable};
 ghost use Rattle.litmus_text.specs.Tests.{IsPrintable, test_seen};
 ghost use Rattle.litmus_text.specs.TestText.{test_text};
-ghost use Rattle.litmus_text.specs.declared.limits.TheConstants.{MAX_NAME};
+ghost use Rattle.litmus_text.specs.declared.limits.TheConstants.{MAX_TEST_NAME};
 ghost use Rattle.tests_to_files.specs.GivenCycles.{PutUpTo};
 ghost use Rattle.tests_to_files.specs.Putting.{PutFiles, PutPart, file_put};
 
@@ -58,7 +58,7 @@ pub(crate) fn put_text<A: Arch, H: Shelf>(
 ) -> Result<(), Failed>
     requires printable { All (λ code. IsPrintable A.puts.has A.REGISTERS (length test.now.places) code) test.now.threads.items }
     requires kept { HoldsTable A.writing (test_seen test.now) table.now }
-    requires named { length name.now ≤ MAX_NAME }
+    requires named { length name.now ≤ MAX_TEST_NAME }
     requires idle { (H.seen shelf.old).mode ≡ Idle }
     ensures ok { OnOk result (PutFiles (H.seen shelf.old) (H.seen shelf.new) ((path.now, test_text A.NAME A.writing name.now (test_seen test.now)) ∷ [])) }
     ensures failed { OnErr result (PutPart (H.seen shelf.old) (H.seen shelf.new) [] path.now (test_text A.NAME A.writing name.now (test_seen test.now))) }

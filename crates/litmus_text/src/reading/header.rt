@@ -8,7 +8,7 @@ ghost use Rattle.litmus_text.specs.TextLines.{line};
 ghost use Rattle.litmus_text.specs.Views.{text_left, cut_seen};
 
 use crate::errors::{TestKind, TextError, error_at_line};
-use crate::limits::MAX_NAME;
+use crate::limits::MAX_TEST_NAME;
 use crate::reading::cuts::{split_letters, two_words};
 use crate::reading::lines::Lines;
 use crate::reading::text::Text;
@@ -45,7 +45,7 @@ fn arch_in<'a>(
         return Err(error_at_line(TestKind::BadHeader, number));
     };
     match arch_named(word) {
-        Some(arch) if name.len() <= MAX_NAME => Ok((arch, rest)),
+        Some(arch) if name.len() <= MAX_TEST_NAME => Ok((arch, rest)),
         _ => Err(error_at_line(TestKind::BadHeader, number)),
     }
 }
@@ -70,7 +70,7 @@ fn name_in_header<'a>(
     ensures { GivesTest (λ x. (x.0.now, text_left x.1)) result (name_in_header arch number (text_left rest.entry) (cut_seen header.entry)) }
 {
     match header {
-        Some((word, name)) if word == arch.name().as_bytes() && name.len() <= MAX_NAME => {
+        Some((word, name)) if word == arch.name().as_bytes() && name.len() <= MAX_TEST_NAME => {
             Ok((name, rest))
         }
         _ => Err(error_at_line(TestKind::BadHeader, number)),

@@ -5,7 +5,7 @@ ghost use Rattle.litmus_text.specs.TestReading.{values_of_thread, threads_of, li
 ghost use Rattle.litmus_text.specs.Views.{rest_view, table_view, body_of, test_of_parts, only_values, text_left, column_seen};
 
 use crate::errors::{ReadError, TestKind, TextError, error_at_line};
-use crate::limits::{MAX_TEXT, MAX_THREADS};
+use crate::limits::{MAX_TEST_TEXT, MAX_THREADS};
 use crate::reading::condition::read_condition;
 use crate::reading::header::{after_settings, read_arch, read_header, read_quote};
 use crate::reading::initial::{Begun, Given, read_initial};
@@ -197,12 +197,12 @@ fn read_lines<A: Arch>(alloc: Global, text: Text<'_>) -> Result<ReadTest<A>, Rea
 /// The test that a text is, as a test of the architecture. A text that is none is answered with its
 /// first faulty line, and the leftmost fault in that line.
 ///
-/// A text of more than `MAX_TEXT` bytes is TooLarge at line 1, whatever it holds.
+/// A text of more than `MAX_TEST_TEXT` bytes is TooLarge at line 1, whatever it holds.
 #[tactic(auto, unfolding(crate::specs::TestReading::test_read))]
 pub fn read_test<A: Arch>(alloc: Global, bytes: &[u8]) -> Result<ReadTest<A>, ReadError>
     ensures { GivesInMemory (λ test. test) result (test_read A.NAME A.writing bytes.now) }
 {
-    if bytes.len() > MAX_TEXT {
+    if bytes.len() > MAX_TEST_TEXT {
         return Err(ReadError::Text(error_at_line(TestKind::TooLarge, 1)));
     }
     read_lines::<A>(alloc, Text::new(bytes))

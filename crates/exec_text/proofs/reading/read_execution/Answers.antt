@@ -11,7 +11,7 @@ returns-in-Err-read_threads-clause-read c =
     let places = c.args.places.now in
     let lines = lines_of c.args.text.now in
     let begins : c.in-Ok.exec ≡ nothing_kept n (length places) = c.in-Ok.ensures ∙ ap (nothing_kept n) c.len.ensures in
-    let short = short_read n places c.args.text.now (omega (arith, c.if-text-gt-MAX_TEXT.false)) in
+    let short = short_read n places c.args.text.now (omega (arith, c.if-text-gt-MAX_TEST_TEXT.false)) in
     wrong_text c.in-Err-read_threads.error c.read_threads.new.exec _ _ c.in-Err-read_threads.ensures (λ fault h. short ∙ threads_wrong n places lines fault (rw begins at h))
 
 pub read_places-requires : goal.read_places-requires
@@ -29,7 +29,7 @@ returns-in-Err-read_places-clause-read c =
     let places = c.args.places.now in
     let lines = lines_of c.args.text.now in
     let left = lines_of c.in-Ok-read_threads.rest.now in
-    let short = short_read n places c.args.text.now (omega (arith, c.if-text-gt-MAX_TEXT.false)) in
+    let short = short_read n places c.args.text.now (omega (arith, c.if-text-gt-MAX_TEST_TEXT.false)) in
     let x = c.read_threads.new.exec in
     let t = threads_read n places lines c.in-Ok.exec x left (c.in-Ok.ensures ∙ ap (nothing_kept n) c.len.ensures) c.in-Ok-read_threads.ensures in
     wrong_text c.in-Err-read_places.error c.read_places.new.exec _ _ c.in-Err-read_places.ensures
@@ -40,7 +40,7 @@ returns-in-None-clause-read c =
     let n = c.args.threads in
     let places = c.args.places.now in
     let lines = lines_of c.args.text.now in
-    let short = short_read n places c.args.text.now (omega (arith, c.if-text-gt-MAX_TEXT.false)) in
+    let short = short_read n places c.args.text.now (omega (arith, c.if-text-gt-MAX_TEST_TEXT.false)) in
     let a = both_read n places lines c.in-Ok.exec c.read_threads.new.exec c.read_places.new.exec (lines_of c.in-Ok-read_threads.rest.now) (lines_of c.in-Ok-read_places.rest.now) (c.in-Ok.ensures ∙ ap (nothing_kept n) c.len.ensures) c.in-Ok-read_threads.ensures c.in-Ok-read_places.ensures in
     short ∙ ended_read n places lines c.read_places.new.exec (lines_of c.in-Ok-read_places.rest.now) a c.in-None.ensures
 
@@ -57,6 +57,6 @@ returns-in-Some-clause-read c =
     let n = c.args.threads in
     let places = c.args.places.now in
     let lines = lines_of c.args.text.now in
-    let short = short_read n places c.args.text.now (omega (arith, c.if-text-gt-MAX_TEXT.false)) in
+    let short = short_read n places c.args.text.now (omega (arith, c.if-text-gt-MAX_TEST_TEXT.false)) in
     let a = both_read n places lines c.in-Ok.exec c.read_threads.new.exec c.read_places.new.exec (lines_of c.in-Ok-read_threads.rest.now) (lines_of c.in-Ok-read_places.rest.now) (c.in-Ok.ensures ∙ ap (nothing_kept n) c.len.ensures) c.in-Ok-read_threads.ensures c.in-Ok-read_places.ensures in
     rw (c.from.ensures, c.from-in-Some.ensures, c.len-in-Some.ensures) (short ∙ stray_read n places lines c.read_places.new.exec (lines_of c.in-Ok-read_places.rest.now) _ _ a c.in-Some.ensures)

@@ -18,8 +18,8 @@ returns-in-Err g c = record {
       c.in-Err.ensures.failed;
 }
 
-pub returns-then-len-gt-MAX_TEXT : goal.returns-then-len-gt-MAX_TEXT
-returns-then-len-gt-MAX_TEXT g c = record {
+pub returns-then-len-gt-MAX_TEST_TEXT : goal.returns-then-len-gt-MAX_TEST_TEXT
+returns-then-len-gt-MAX_TEST_TEXT g c = record {
   read =
       reads_long _ _ c.extend_from_slice.new.self.items
       (reads_more _ (g.H.Shelf.seen c.loop-count.shelf) _ c.loop-count.text.items c.read_piece.new.piece c.extend_from_slice.new.self.items c.in-Ok.count
@@ -30,6 +30,6 @@ returns-then-len-gt-MAX_TEXT g c = record {
         ap length c.in-Ok-extend_from_slice.ensures.items,
         length-append c.loop-count.text.items (take c.in-Ok.count c.read_piece.new.piece),
         length-take-le c.in-Ok.count c.read_piece.new.piece (omega (arith, c.in-Ok.ensures.bound)),
-        c.if-len-gt-MAX_TEXT.true,
+        c.if-len-gt-MAX_TEST_TEXT.true,
       ));
 }

@@ -6,7 +6,7 @@ use Rattle.tests_to_files.specs.ListedFiles.{file_lines}
 use Rattle.tests_to_files.proofs.GivenLaws.{Lists, left_at, lists_first, lists_written, lists_more, lists_end, lists_stop}
 use Rattle.tests_to_files.proofs.Shelves.{filling_begun, filling_more, filling_part, closed_ok, closed_err}
 use Rattle.tests_to_files.proofs.given.put_names_of.Goals as goal
-use Rattle.tests_to_files.proofs.given.put_names_of.Goals.{then-remaining_capacity-lt-MAX_LINE+in_ok-append, else-remaining_capacity-lt-MAX_LINE}
+use Rattle.tests_to_files.proofs.given.put_names_of.Goals.{then-remaining_capacity-lt-MAX_LISTED_LINE+in_ok-append, else-remaining_capacity-lt-MAX_LISTED_LINE}
 
 pub loop-cycle-init : goal.loop-cycle-init
 loop-cycle-init g c = record {
@@ -21,11 +21,11 @@ returns-in_err-append-clause-failed g c =
 pub loop-cycle-preserved : goal.loop-cycle-preserved
 loop-cycle-preserved g c =
     let l = c.loop-cycle.invariant.lists in
-    let before : Lists c.args.path.now c.args.cycles.now (drop c.loop-cycle.cycle-index c.args.cycles.now) (g.H.Shelf.seen c.args.shelf.now) (g.H.Shelf.seen c.if-remaining_capacity-lt-MAX_LINE.shelf) c.loop-cycle.number c.if-remaining_capacity-lt-MAX_LINE.lines.items =
-    elim c.if-remaining_capacity-lt-MAX_LINE.branch [
-      | then-remaining_capacity-lt-MAX_LINE+in_ok-append w ↦ rw (w.lines-is, w.shelf-is, w.clear.ensures) (lists_written _ _ _ _ _ _ _ _ l
+    let before : Lists c.args.path.now c.args.cycles.now (drop c.loop-cycle.cycle-index c.args.cycles.now) (g.H.Shelf.seen c.args.shelf.now) (g.H.Shelf.seen c.if-remaining_capacity-lt-MAX_LISTED_LINE.shelf) c.loop-cycle.number c.if-remaining_capacity-lt-MAX_LISTED_LINE.lines.items =
+    elim c.if-remaining_capacity-lt-MAX_LISTED_LINE.branch [
+      | then-remaining_capacity-lt-MAX_LISTED_LINE+in_ok-append w ↦ rw (w.lines-is, w.shelf-is, w.clear.ensures) (lists_written _ _ _ _ _ _ _ _ l
           (filling_more _ _ _ c.args.path.now l.filled.written c.loop-cycle.lines.items l.filled.file (rw w.as_slice.ensures.value at w.in_ok-append.ensures.ok)))
-      | else-remaining_capacity-lt-MAX_LINE w ↦ rw (w.lines-is, w.shelf-is) l
+      | else-remaining_capacity-lt-MAX_LISTED_LINE w ↦ rw (w.lines-is, w.shelf-is) l
     ] in
     record {
       lists = lists_more _ c.args.cycles.now _ _ c.cycle-item.result _ _ c.loop-cycle.number _ _ c.push_line.new.lines.items before

@@ -10,7 +10,7 @@ use Rattle.tests_to_files.proofs.Going.{naming_none, naming_first, naming_writte
 use Rattle.tests_to_files.proofs.Shelves.{filling_begun, filling_more, filling_part, closed_ok, closed_err, ok_so, err_so}
 use Rattle.tests_to_files.proofs.Walks.{least_again, tested_as, went_on}
 use Rattle.tests_to_files.proofs.names.append_after.Goals as goal
-use Rattle.tests_to_files.proofs.names.append_after.Goals.{then-remaining_capacity-lt-MAX_LINE+in_ok-append, else-remaining_capacity-lt-MAX_LINE}
+use Rattle.tests_to_files.proofs.names.append_after.Goals.{then-remaining_capacity-lt-MAX_LISTED_LINE+in_ok-append, else-remaining_capacity-lt-MAX_LISTED_LINE}
 
 pub returns-in_err-create-clause-failed : goal.returns-in_err-create-clause-failed
 returns-in_err-create-clause-failed g c =
@@ -38,14 +38,14 @@ loop-cycle-preserved g c =
     let is : IsAnswer (HaveTests g.A.Arch.puts c.args.mode (Lists g.P.Fn.post c.args.walk.now)) c.loop-cycle.walk.last (Some c.in-Some.cycle) =
     tested_as g.P.Fn.post g.A.Arch.puts c.args.mode c.args.walk.now c.loop-cycle.walk c.loop-cycle.walk.last (Some c.in-Some.cycle) c.loop-cycle.invariant.walk c.in-Some.ensures.next in
     let on = c.in-Some.ensures.walk in
-    let before : Naming (HaveTests g.A.Arch.puts c.args.mode (Lists g.P.Fn.post c.args.walk.now)) c.args.path.now c.args.lines.now.items c.args.closed.now c.loop-cycle.walk.last (g.H.Shelf.seen c.args.shelf.now) (g.H.Shelf.seen c.if-remaining_capacity-lt-MAX_LINE.shelf) c.loop-cycle.number c.if-remaining_capacity-lt-MAX_LINE.lines.items =
-    elim c.if-remaining_capacity-lt-MAX_LINE.branch [
-      | then-remaining_capacity-lt-MAX_LINE+in_ok-append w ↦ rw (w.lines-is, w.shelf-is, w.clear.ensures) (naming_written _ _ _ _ _ _ _ _ _ _ n
+    let before : Naming (HaveTests g.A.Arch.puts c.args.mode (Lists g.P.Fn.post c.args.walk.now)) c.args.path.now c.args.lines.now.items c.args.closed.now c.loop-cycle.walk.last (g.H.Shelf.seen c.args.shelf.now) (g.H.Shelf.seen c.if-remaining_capacity-lt-MAX_LISTED_LINE.shelf) c.loop-cycle.number c.if-remaining_capacity-lt-MAX_LISTED_LINE.lines.items =
+    elim c.if-remaining_capacity-lt-MAX_LISTED_LINE.branch [
+      | then-remaining_capacity-lt-MAX_LISTED_LINE+in_ok-append w ↦ rw (w.lines-is, w.shelf-is, w.clear.ensures) (naming_written _ _ _ _ _ _ _ _ _ _ n
           (filling_more _ _ _ c.args.path.now n.filled.written c.loop-cycle.lines.items n.filled.file (rw w.as_slice.ensures.value at w.in_ok-append.ensures.ok)))
-      | else-remaining_capacity-lt-MAX_LINE w ↦ rw (w.lines-is, w.shelf-is) n
+      | else-remaining_capacity-lt-MAX_LISTED_LINE w ↦ rw (w.lines-is, w.shelf-is) n
     ] in
     record {
-      naming = rw (ap (λ w. w.last) on) (naming_more _ _ _ _ _ _ _ c.loop-cycle.number c.saturating_add-number.result c.if-remaining_capacity-lt-MAX_LINE.lines.items c.push_line.new.lines.items c.in-Some.cycle before is c.saturating_add-number.ensures (search rules));
+      naming = rw (ap (λ w. w.last) on) (naming_more _ _ _ _ _ _ _ c.loop-cycle.number c.saturating_add-number.result c.if-remaining_capacity-lt-MAX_LISTED_LINE.lines.items c.push_line.new.lines.items c.in-Some.cycle before is c.saturating_add-number.ensures (search rules));
       walk = went_on c.args.walk.now c.loop-cycle.walk c.next_accepted.new.walk c.in-Some.cycle c.loop-cycle.invariant.walk on;
     }
 

@@ -7,18 +7,18 @@ use Rattle.cycles_from_lines.proofs.LineLaws.{is_long, is_short}
 use Rattle.cycles_from_lines.proofs.ReadLaws.{long_given, stopped_there}
 use Rattle.cycles_from_lines.proofs.reader.LineReader.refill.Goals as goal
 
-pub returns-then-without_return-gt-MAX_LINE-clause-refills : goal.returns-then-without_return-gt-MAX_LINE-clause-refills
-returns-then-without_return-gt-MAX_LINE-clause-refills g c = λ arch first cycles h.
+pub returns-then-without_return-gt-MAX_CYCLE_LINE-clause-refills : goal.returns-then-without_return-gt-MAX_CYCLE_LINE-clause-refills
+returns-then-without_return-gt-MAX_CYCLE_LINE-clause-refills g c = λ arch first cycles h.
     subst (λ n. ReadToFault arch first (g.I.Source.seen c.args.input.now) cycles n LineTooLong) (ap (λ r. r.line) (sym c.self.view_is))
     (long_given arch first _ c.args.self.now cycles h c.requires
-    (is_long (without_return c.args.self.now.pending) c.without_return.result.now (c.without_return.ensures ∙ ap without_return c.pending_bytes.ensures.pending) c.if-without_return-gt-MAX_LINE.true))
+    (is_long (without_return c.args.self.now.pending) c.without_return.result.now (c.without_return.ensures ∙ ap without_return c.pending_bytes.ensures.pending) c.if-without_return-gt-MAX_CYCLE_LINE.true))
 
 pub fill-requires-clause-short : goal.fill-requires-clause-short
 fill-requires-clause-short g c =
-    is_short (without_return c.args.self.now.pending) c.without_return.result.now (c.without_return.ensures ∙ ap without_return c.pending_bytes.ensures.pending) c.if-without_return-gt-MAX_LINE.false
+    is_short (without_return c.args.self.now.pending) c.without_return.result.now (c.without_return.ensures ∙ ap without_return c.pending_bytes.ensures.pending) c.if-without_return-gt-MAX_CYCLE_LINE.false
 
 pub returns-in-Err-clause-refills : goal.returns-in-Err-clause-refills
 returns-in-Err-clause-refills g c = λ arch first cycles h.
     stopped_there arch first _ _ c.args.self.now cycles h c.requires
-    (is_short (without_return c.args.self.now.pending) c.without_return.result.now (c.without_return.ensures ∙ ap without_return c.pending_bytes.ensures.pending) c.if-without_return-gt-MAX_LINE.false)
+    (is_short (without_return c.args.self.now.pending) c.without_return.result.now (c.without_return.ensures ∙ ap without_return c.pending_bytes.ensures.pending) c.if-without_return-gt-MAX_CYCLE_LINE.false)
     c.in-Err.ensures.stopped.0

@@ -1,6 +1,6 @@
 -- The part of a padded cell that a row has.
 use Rattle.std.proofs.Common.{◌≡◌, ◌-◌, ◌∙◌, length, take, drop, ap, refl, arith}
-use Rattle.arch_trait.specs.declared.arch.TheConstants.{MAX_TEXT}
+use Rattle.arch_trait.specs.declared.arch.TheConstants.{MAX_INSTRUCTION_TEXT}
 use Rattle.diy_io.specs.Page.{page_after}
 use Rattle.litmus_text.specs.PaddedCells.{text_in}
 use Rattle.litmus_text.proofs.CellLaws.{first_put, later_put}
@@ -9,7 +9,7 @@ use Rattle.litmus_text.proofs.cell.PaddedCell.put.Goals as goal
 pub returns-in-Some : goal.returns-in-Some
 returns-in-Some c =
     let bytes = c.args.self.now.bytes in
-    let before : length bytes - MAX_TEXT ≡ 3 = omega arith in
+    let before : length bytes - MAX_INSTRUCTION_TEXT ≡ 3 = omega arith in
     first_put c.args.thread bytes (text_in c.args.self.now) c.args.width c.args.width _ _ c.if-thread-eq0.true c.args.self.now.filled c.requires.within c.requires.short refl
     (c.put_first.ensures ∙ ap (λ text. page_after c.args.page.now (take c.args.width text)) (c.in-Some.ensures.cases.1.same ∙ ap (λ n. drop n bytes) before))
 

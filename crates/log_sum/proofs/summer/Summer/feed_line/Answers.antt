@@ -11,8 +11,8 @@ use Rattle.log_sum.specs.Feeding.{FollowsSeen}
 use Rattle.log_sum.proofs.FeedLaws.{line_long, line_read, long_ended, nothing_there, none_there}
 use Rattle.log_sum.proofs.summer.Summer.feed_line.Goals as goal
 
-pub returns-then-prefix-gt-MAX_LINE-clause-judged : goal.returns-then-prefix-gt-MAX_LINE-clause-judged
-returns-then-prefix-gt-MAX_LINE-clause-judged c = λ seen follows.
+pub returns-then-prefix-gt-MAX_LOG_LINE-clause-judged : goal.returns-then-prefix-gt-MAX_LOG_LINE-clause-judged
+returns-then-prefix-gt-MAX_LOG_LINE-clause-judged c = λ seen follows.
     let over : 65536 < length (c.args.self.now.held ++ c.args.prefix.now) = omega (arith, length-append c.args.self.now.held c.args.prefix.now) in
     line_long seen (c.args.self.now.held ++ c.args.prefix.now) over ∙ ap (λ n. fault_at {A = LogSeen} n LineTooLong) (sym follows.reading.line)
 
