@@ -1,8 +1,7 @@
 -- Every barrier, and what a test of all of them says of each.
 -- Source: own.
-use Rattle.std.proofs.Common.{ℕ, zero, suc, ◌≡◌, refl, true, Bool, not, ◌||◌, List, [], ◌∷◌, Some, arith}
-use Rattle.std.specs.List.{list_all, slice_get}
-use Rattle.std.proofs.lemmas.Bool.{and_parts}
+use Rattle.std.proofs.Common.{ℕ, ◌≡◌, true, Bool, not, ◌||◌, List, [], ◌∷◌, arith}
+use Rattle.std.specs.List.{list_all}
 use Rattle.list_laws.proofs.Cases.{implied}
 use Rattle.relax_edges.specs.EdgeTable.{fence_is_of}
 use Rattle.relax_edges.specs.declared.kinds.ArchName.{ArchName}
@@ -29,10 +28,6 @@ all_barriers =
     barriers.Isb ∷ barriers.Fence fences.MFence ∷ barriers.Fence fences.Sync ∷ barriers.Fence fences.LwSync ∷
     barriers.Fence fences.Eieio ∷ barriers.Fence fences.ISync ∷ barriers.Fence fences.DmbSy ∷ barriers.Fence fences.DmbLd ∷
     barriers.Fence fences.DmbSt ∷ picked (barriers.Fence fences.Dmb ∷ [])
-
-found : {X : Type 0} (p : X → Bool) (xs : List X) (i : ℕ) (x : X) → list_all p xs ≡ true → slice_get xs i ≡ Some x → p x ≡ true
-found p (y ∷ xs) (suc i) x h e = found p xs i x (and_parts (p y) (list_all p xs) h).1 e
-found p xs i x h e = grind arith
 
 -- what holds of all barriers holds of each
 pub each_barrier : (p : Barrier → Bool) → list_all p all_barriers ≡ true → (b : Barrier) → p b ≡ true

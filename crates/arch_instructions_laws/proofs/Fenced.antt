@@ -1,11 +1,9 @@
 -- An architecture whose links are program order and fences, and whose accesses name their place and have no mark: it keeps the
 -- laws of architectures where its table has its operations.
 -- Source: own.
-use Rattle.std.proofs.Common.{ℕ, ◌+◌, ◌<◌, ◌≤◌, ◌≡◌, ◌==◌, inl, refl, Bool, true, false, Option, List, [], ◌∷◌, length, sym, ap, ◌∙◌, subst, arith}
+use Rattle.std.proofs.Common.{ℕ, ◌+◌, ◌<◌, ◌≤◌, ◌≡◌, ◌==◌, refl, Bool, true, false, Option, List, [], ◌∷◌, length, sym, ap, ◌∙◌, arith}
 use Rattle.std.specs.List.{list_all}
-use Rattle.std.proofs.lemmas.Bool.{and_from, eq-eqb}
 use Rattle.relax_edges.specs.EdgeTable.{fence_is_of, mark_is_of}
-use Rattle.relax_edges.specs.declared.kinds.Dir.{Dir}
 use Rattle.relax_edges.specs.declared.kinds.Dir.TheVariants as dirs
 use Rattle.relax_edges.specs.declared.kinds.ArchName.{ArchName}
 use Rattle.relax_edges.specs.declared.kinds.FenceKind.{FenceKind}
@@ -15,16 +13,16 @@ use Rattle.micro_ops.specs.declared.operation.Micro.{Micro}
 use Rattle.micro_ops.specs.declared.operation.Micro.TheVariants as ops
 use Rattle.micro_ops.specs.declared.operation.Barrier.TheVariants as barriers
 use Rattle.micro_ops.specs.Running.{Run, labels_of, lands}
-use Rattle.arch_trait_laws.proofs.Rules.{run_load_at, run_load_at_wants, run_store_at}
+use Rattle.arch_trait_laws.proofs.Rules.{run_load_at, run_store_at}
 use Rattle.arch_trait.specs.declared.link.Link.{Link}
 use Rattle.arch_trait.specs.declared.link.Link.TheVariants as links
 use Rattle.arch_trait.specs.declared.step.Shape.{Shape}
-use Rattle.arch_trait.specs.Cells.{access_count, MakesOneAccess}
+use Rattle.arch_trait.specs.Cells.{MakesOneAccess}
 use Rattle.arch_trait.specs.Links.{link_is_of, depends_on_load, link_control, link_items, is_addr, is_data}
 use Rattle.arch_trait.specs.Taking.{Taken, take_next}
 use Rattle.arch_trait.specs.Threads.{Put, Puts}
-use Rattle.arch_trait.specs.Laws.{DidLink, Takes, shape_grown, MakesLinks, MakesAccess, MakesLoads, MakesStores, IsArch, link_room, link_labels, is_at_place}
-use Rattle.arch_trait_laws.proofs.Accesses.{Asked, asked, writes_none, spare_plain, did_load, did_store, did_nothing, did_barrier, two_fit}
+use Rattle.arch_trait.specs.Laws.{DidLink, MakesLinks, MakesAccess, MakesLoads, MakesStores, IsArch, link_room, link_labels, is_at_place}
+use Rattle.arch_trait_laws.proofs.Accesses.{writes_none, spare_plain, did_load, did_store, did_nothing, did_barrier}
 
 -- the code of a link: its fence, if it is one
 abbrev pub fence_code : Link → List Micro
@@ -68,9 +66,6 @@ pub record IsFenced (a : Puts) : Type 0 where
   pub load_has : (r p : ℕ) → r < a.registers → a.has (ops.LoadAt r p) ≡ true
   pub store_has : (p n : ℕ) → n < 256 → a.has (ops.StoreAt p n) ≡ true
 
-clash : {G : Type 0} {b : Bool} → b ≡ false → b ≡ true → G
-clash {G} {b} e f = let g : false ≡ true = sym e ∙ f in absurd (cc)
-
 -- a link is program order or a fence
 no_dependency : (a : Puts) → IsFenced a → (link : Link) → link_is_of link a.name ≡ true → depends_on_load link ≡ false
 no_dependency a f link e = grind arith
@@ -105,9 +100,6 @@ link_no_place link p = grind arith
 link_has : (a : Puts) → IsFenced a → (link : Link) → link_is_of link a.name ≡ true → list_all a.has (fence_code link) ≡ true
 link_has a f link e = grind arith
 
-no_access : (link : Link) → access_count (fence_code link) ≡ 0
-no_access link = grind arith
-
 -- the same architecture, with the code of links as it is above
 abbrev base : Puts → Puts
 base a = fenced a.name a.registers a.has (λ link from n. fence_code link)
@@ -117,23 +109,6 @@ base_is a f = ap (fenced a.name a.registers a.has) (λ i link from n. sym (f.lin
 
 makes_links : (a : Puts) → IsFenced a → MakesLinks (base a)
 makes_links a f = grind (arith, link_runs, no_dependency, link_short, link_label, link_lands, link_no_place, link_has)
-
--- an access of one operation, of which the laws ask no more than of a load from the place, and which takes no address register
-one_access : (a : Puts) (d : Dir) (op : Taken → ℕ → Micro) (regs : Taken → Taken) →
-    ((g : Taken) (p : ℕ) → asked (op g p ∷ []) ≡ asked (ops.LoadAt 0 p ∷ [])) → ((g : Taken) (p : ℕ) → Takes g (regs g) p) →
-    ((g : Taken) (link : Link) (is_new : Bool) (h : Shape) → (regs g).next + h.loads ≡ g.next + (shape_grown h d link is_new).loads) →
-    ((g : Taken) (p : ℕ) → (regs g).next ≤ a.registers → a.has (op g p) ≡ true) →
-    MakesAccess (base a) d (λ g link mark from p. record { code = op g p ∷ []; regs = regs g })
-one_access a d op regs same takes need has = record {
-  room = λ g link mark from p. omega (arith, two_fit link);
-  takes = λ g link mark from p. takes g p;
-  addressed = λ g link mark from p e. cc;
-  need = λ g link mark from p is_new h given fresh. need g link is_new h;
-  no_label = grind arith;
-  no_jump = grind arith;
-  at_place = λ g link mark from p. ap (λ (x : Asked). x.at_place p) (same g p) ∙ and_from (p == p) true (eq-eqb p p refl) refl;
-  has = grind arith;
-}
 
 load_access : (a : Puts) → IsFenced a → MakesAccess (base a) dirs.R (base a).load
 load_access a f = grind arith

@@ -1,12 +1,12 @@
 -- No text is an instruction of two forms that are apart.
-use Rattle.std.proofs.Common.{ℕ, ◌-◌, ◌≡◌, ◌==◌, refl, Bool, true, false, cond, not, ◌&&◌, ◌||◌, nat_le, List, [], ◌∷◌, ◌++◌, Some, None, map, length, take, drop, ◌∙◌, sym, ap, arith}
+use Rattle.std.proofs.Common.{ℕ, ◌-◌, ◌≡◌, ◌==◌, true, not, ◌&&◌, ◌||◌, nat_le, List, [], ◌∷◌, ◌++◌, Some, None, map, take, drop, ◌∙◌, arith}
 use Rattle.std.specs.Prelude.{Option, is_some, option_and_then}
 use Rattle.std.specs.List.{list_all}
 use Rattle.std.specs.Str.{bytes_eq}
-use Rattle.std.proofs.lemmas.Bool.{and_parts, not-true, eqb-true}
+use Rattle.std.proofs.lemmas.Bool.{and_parts, not-true}
 use Rattle.std.proofs.lemmas.List.{take-append-drop}
 use Rattle.std.proofs.lemmas.Slice.Eq.{bytes_eq-Decides}
-use Rattle.list_laws.proofs.Cases.{by_test, eq_swap}
+use Rattle.list_laws.proofs.Cases.{eq_swap}
 use Rattle.arch_instructions_laws.specs.declared.form.Hole.{Hole}
 use Rattle.arch_instructions_laws.specs.declared.form.Hole.TheVariants as holes
 use Rattle.arch_instructions_laws.specs.declared.kind.Operand.{Operand}
@@ -14,11 +14,6 @@ use Rattle.arch_instructions_laws.specs.Kinds.{FoundOperand}
 use Rattle.arch_instructions_laws.specs.Tables.{PieceText, FormText, fits_first, after_hole, operands_fit, hole_filled, piece_texts, after_prefix, before_suffix, hole_found, piece_found, joined_operands, pieces_found, form_found, piece_text}
 use Rattle.arch_instructions_laws.specs.ClearTables.{differ, is_empty_hole, is_fixed, text_without_hole, piece_apart, pieces_apart, forms_apart, is_piece_good}
 use Rattle.arch_instructions_laws.proofs.PieceBacks.{named, held, piece_back}
-
--- a test that one of two passes is passed by the first, or by the second
-by_either : {G : Type 0} (a b : Bool) → a || b ≡ true → (a ≡ true → G) → (b ≡ true → G) → G
-by_either true b h f g = f refl
-by_either false b h f g = g h
 
 not_some : {A : Type 0} (o : Option A) → not (is_some o) ≡ true → o ≡ None
 not_some o h = grind arith

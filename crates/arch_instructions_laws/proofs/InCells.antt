@@ -1,11 +1,9 @@
 -- What a clear table writes fits into the cells of a table.
 use Rattle.std.proofs.Common.{ℕ, ◌+◌, ◌≤◌, ◌≡◌, ◌==◌, refl, true, false, not, ◌&&◌, nat_le, List, [], ◌∷◌, ◌++◌, length, ◌∙◌, ap, length-append, arith}
 use Rattle.std.specs.List.{list_all, list_any}
-use Rattle.std.specs.Str.{bytes_eq}
 use Rattle.std.proofs.lemmas.Bool.{and_parts, and_from, leb-true}
 use Rattle.std.proofs.lemmas.Bool.Decides.{nat_tests}
 use Rattle.list_laws.proofs.Elements.{list_all-weaker}
-use Rattle.text_parts_laws.specs.Names.{is_place_name}
 use Rattle.text_parts_laws.specs.Words.{is_argument_byte}
 use Rattle.text_parts_laws.specs.Blanks.{is_blank}
 use Rattle.text_parts_laws.specs.LeadingRuns.{leading_run, after_run}
@@ -23,8 +21,8 @@ use Rattle.arch_trait.specs.ByteLaws.{place_in_cell}
 use Rattle.arch_trait_laws.proofs.SpellingLaws.{listed_stops}
 use Rattle.arch_instructions_laws.specs.declared.kind.Operand.{Operand}
 use Rattle.arch_instructions_laws.specs.Kinds.{operands_of}
-use Rattle.arch_instructions_laws.specs.Tables.{PieceText, TableText, fits_first, after_hole, operands_fit, does, table_has, hole_filled, piece_texts, given_operands, form_written, first_written, table_written, table_writing, piece_text}
-use Rattle.arch_instructions_laws.specs.ClearTables.{is_fixed_byte, is_first_byte, is_piece_good, ending_words, most_in, most_of, is_clear}
+use Rattle.arch_instructions_laws.specs.Tables.{PieceText, TableText, fits_first, after_hole, operands_fit, does, table_has, hole_filled, piece_texts, given_operands, form_written, first_written, table_written, table_writing}
+use Rattle.arch_instructions_laws.specs.ClearTables.{is_fixed_byte, is_first_byte, is_piece_good, most_in, most_of, is_clear}
 use Rattle.arch_instructions_laws.proofs.PieceBacks.{piece_is_good, length-piece_texts}
 use Rattle.arch_instructions_laws.proofs.OperationBacks.{is_named_operand, operands_named}
 use Rattle.arch_instructions_laws.proofs.ChosenForms.{form_is_good, done, op_texts, chosen}

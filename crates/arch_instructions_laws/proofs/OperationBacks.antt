@@ -2,7 +2,7 @@
 use Rattle.std.proofs.Common.{ℕ, ◌≡◌, refl, Bool, true, List, [], ◌∷◌, Some, map, get_or, ◌∙◌, sym, ap, arith}
 use Rattle.std.specs.Prelude.{is_some}
 use Rattle.std.specs.List.{list_all}
-use Rattle.std.proofs.lemmas.Bool.{eqb-true, and_from}
+use Rattle.std.proofs.lemmas.Bool.{eqb-true}
 use Rattle.relax_edges.specs.declared.kinds.Pick.TheVariants as picks
 use Rattle.relax_edges.specs.declared.kinds.FenceKind.TheVariants as fences
 use Rattle.micro_ops.specs.declared.operation.Micro.{Micro}
@@ -16,7 +16,7 @@ use Rattle.arch_instructions_laws.specs.declared.kind.Operand.{Operand}
 use Rattle.arch_instructions_laws.specs.declared.kind.Operand.TheVariants as operands
 use Rattle.arch_instructions_laws.specs.Kinds.{barrier_number, same_barrier, operands_of, raw_with, with_place_name, unnamed}
 use Rattle.arch_instructions_laws.specs.Tables.{given_operands}
-use Rattle.arch_instructions_laws.proofs.OfKind.{IsOf, loads_into, stores_number, branches_equal, branches_not_zero, orders, is_of, by_kind}
+use Rattle.arch_instructions_laws.proofs.OfKind.{IsOf, loads_into, orders, is_of}
 use Rattle.arch_instructions_laws.proofs.PieceBacks.{named}
 
 -- the barrier of a number
@@ -52,10 +52,6 @@ is_named_operand names (operands.Register r) = true
 is_named_operand names (operands.Number n) = true
 is_named_operand names (operands.Place p) = is_place_name (names p)
 is_named_operand names (operands.Label l) = is_label_name (label_name l)
-
-all_named : (names : ℕ → List ℕ) {kind : Kind} {op : Micro} {vs : List Operand} → IsOf kind op vs →
-    is_well_named (op_name names op) ≡ true → list_all (is_named_operand names) vs ≡ true
-all_named names x h = grind arith
 
 -- where the name of an operation has its form, those of its operands have
 pub operands_named : (names : ℕ → List ℕ) (kind : Kind) (op : Micro) → is_well_named (op_name names op) ≡ true →

@@ -1,6 +1,5 @@
 -- The operands of an instruction read back by its form.
 use Rattle.std.proofs.Common.{ℕ, suc, ◌+◌, ◌-◌, ◌^◌, ◌<◌, ◌≤◌, ◌≡◌, refl, true, ◌&&◌, nat_le, nat_lt, List, [], ◌∷◌, ◌++◌, Some, map, length, ◌∙◌, ap, length-append, arith}
-use Rattle.std.specs.Prelude.{option_map, option_and_then}
 use Rattle.std.specs.Fmt.{decimal}
 use Rattle.std.specs.List.{list_all}
 use Rattle.std.specs.Str.{bytes_eq}
@@ -16,7 +15,7 @@ use Rattle.arch_instructions_laws.specs.declared.form.Hole.TheVariants as holes
 use Rattle.arch_instructions_laws.specs.declared.kind.Operand.{Operand}
 use Rattle.arch_instructions_laws.specs.declared.kind.Operand.TheVariants as operands
 use Rattle.arch_instructions_laws.specs.Kinds.{FoundOperand, found_register, found_number, found_place, found_label}
-use Rattle.arch_instructions_laws.specs.Tables.{PieceText, fits_first, after_hole, operands_fit, hole_filled, piece_texts, after_prefix, before_suffix, hole_found, piece_found, joined_operands, pieces_found, piece_text}
+use Rattle.arch_instructions_laws.specs.Tables.{PieceText, fits_first, after_hole, operands_fit, hole_filled, piece_texts, after_prefix, before_suffix, hole_found, piece_found, pieces_found, piece_text}
 use Rattle.arch_instructions_laws.specs.ClearTables.{is_hole_good, is_filled, text_without_hole, is_fixed_byte, is_piece_good}
 
 -- an operand as it is read from its own text

@@ -1,5 +1,5 @@
 -- The word and the operands of an instruction are plain.
-use Rattle.std.proofs.Common.{ℕ, ◌+◌, ◌<◌, ◌≤◌, ◌≡◌, refl, Bool, true, false, not, ◌==◌, ◌&&◌, nat_le, List, [], ◌∷◌, ◌++◌, Some, length, ◌∙◌, sym, ap, length-append, arith}
+use Rattle.std.proofs.Common.{ℕ, ◌+◌, ◌<◌, ◌≤◌, ◌≡◌, refl, Bool, true, false, not, ◌==◌, ◌&&◌, nat_le, List, [], ◌∷◌, ◌++◌, Some, length, ◌∙◌, length-append, arith}
 use Rattle.std.specs.Fmt.{decimal}
 use Rattle.std.specs.List.{list_all}
 use Rattle.std.specs.Str.{bytes_eq}
@@ -14,7 +14,7 @@ use Rattle.text_parts_laws.proofs.NameLaws.{place_passes, register_passes, decim
 use Rattle.list_laws.proofs.Digits.{three_digits, digits_of}
 use Rattle.arch_trait.specs.Cells.{is_cell_byte}
 use Rattle.arch_trait.specs.InstructionReading.{few}
-use Rattle.arch_trait.specs.Writing.{is_plain, all_plain_texts, is_label_name, label_name, label_word}
+use Rattle.arch_trait.specs.Writing.{is_plain, all_plain_texts, label_name, label_word}
 use Rattle.text_parts_laws.proofs.CutLaws.{all_both}
 use Rattle.arch_trait.specs.ByteLaws.{place_in_word}
 use Rattle.arch_trait.specs.WordBytes.{is_instruction_byte}
@@ -114,9 +114,6 @@ pieces_plain names (p ∷ ps) vs good fit named = grind (arith, (pieces_plain na
 -- at most four texts are operands
 pub few_back : (ts : List (List ℕ)) → length ts ≤ 4 → texts_in (few ts) ≡ Some ts
 few_back ts h = grind arith
-
-last_of : (a : Bool) → a && true ≡ true → a ≡ true
-last_of a h = grind arith
 
 -- at most four plain texts are plain operands
 pub few_plain : (ts : List (List ℕ)) → length ts ≤ 4 → list_all is_plain ts ≡ true → all_plain_texts (few ts) ≡ true

@@ -1,10 +1,8 @@
 -- The operations of a table whose registers are few are in the range of the machine.
-use Rattle.std.proofs.Common.{ℕ, ◌<◌, ◌≤◌, ◌≡◌, refl, Bool, true, ◌&&◌, ◌||◌, nat_le, nat_lt, List, [], ◌∷◌, ◌∙◌, sym, ap, arith}
+use Rattle.std.proofs.Common.{ℕ, ◌<◌, ◌≤◌, ◌≡◌, Bool, true, ◌&&◌, ◌||◌, nat_le, nat_lt, List, [], ◌∷◌, ◌∙◌, arith}
 use Rattle.std.specs.List.{list_all, list_any}
-use Rattle.std.proofs.lemmas.Bool.{and_parts, and_from, leb-true, ltb-true, lt-ltb, eqb-true}
-use Rattle.list_laws.proofs.Cases.{by_test}
+use Rattle.std.proofs.lemmas.Bool.{and_parts, ltb-true}
 use Rattle.micro_ops.specs.declared.operation.Micro.{Micro}
-use Rattle.micro_ops.specs.declared.operation.Micro.TheVariants as ops
 use Rattle.micro_ops.specs.Machines.{InRange}
 use Rattle.arch_trait.specs.InstructionReading.{ReadsOwn}
 use Rattle.arch_trait.specs.Threads.{Puts}
@@ -14,8 +12,7 @@ use Rattle.arch_instructions_laws.specs.declared.kind.Kind.{Kind}
 use Rattle.arch_instructions_laws.specs.declared.kind.Kind.TheVariants as kinds
 use Rattle.arch_instructions_laws.specs.declared.kind.Operand.{Operand}
 use Rattle.arch_instructions_laws.specs.declared.kind.Operand.TheVariants as operands
-use Rattle.arch_instructions_laws.specs.Kinds.{operands_of}
-use Rattle.arch_instructions_laws.specs.Tables.{PieceText, FormText, TableText, fits_first, after_hole, operands_fit, does, table_has, given_operands, table_writing}
+use Rattle.arch_instructions_laws.specs.Tables.{PieceText, FormText, TableText, after_hole, operands_fit, does, table_has, table_writing}
 use Rattle.arch_instructions_laws.proofs.ChosenForms.{done}
 use Rattle.arch_instructions_laws.proofs.OfKind.{IsOf, is_of, sets_number, excludes, adds_number, ors_number, sums, loads, loads_indexed, loads_index_first, loads_into, loads_acquire, stores, stores_indexed, stores_index_first, stores_release, compares, branches_not_zero}
 use Rattle.arch_instructions_laws.proofs.ReadsHad.{reads_what_it_has}
@@ -38,10 +35,6 @@ is_small_form f = is_small_kind f.kind && list_all (λ (p : PieceText). is_small
 abbrev is_below : Operand → Bool
 is_below (operands.Register r) = nat_lt r 32
 is_below _ = true
-
-first_below : (h : Hole) (vs : List Operand) → is_small_hole h ≡ true → fits_first h vs ≡ true →
-    list_all is_below (after_hole h vs) ≡ true → list_all is_below vs ≡ true
-first_below h vs small fit rest = grind arith
 
 all_below : (ps : List PieceText) (vs : List Operand) → list_all (λ (p : PieceText). is_small_hole p.hole) ps ≡ true → operands_fit ps vs ≡ true →
     list_all is_below vs ≡ true

@@ -1,6 +1,6 @@
 -- What a clear table writes reads back.
 -- Source: own.
-use Rattle.std.specs.Prelude.{ℕ, ◌≡◌, ◌≤◌, true, cond, ◌&&◌, List, [], ◌∷◌, Option, Some, None, length}
+use Rattle.std.specs.Prelude.{ℕ, ◌≡◌, ◌≤◌, true, ◌&&◌, List, [], ◌∷◌, Option, Some, length}
 use Rattle.std.specs.List.{list_all, list_any, IsDistinct}
 use Rattle.std.specs.Str.{bytes_eq}
 use Rattle.std.proofs.Common.{refl, ◌∙◌, ap, arith}
@@ -17,7 +17,7 @@ use Rattle.arch_trait_laws.proofs.SpellingLaws.{label_back}
 use Rattle.arch_instructions_laws.specs.declared.form.Labels.{Labels}
 use Rattle.arch_instructions_laws.specs.declared.form.Labels.TheVariants as labels
 use Rattle.arch_instructions_laws.specs.Kinds.{operands_of}
-use Rattle.arch_instructions_laws.specs.Tables.{FormText, TableText, does, are_known, table_has, given_operands, form_written, first_written, table_written, pieces_found, raw_or, first_form_read, label_read, raw_if, table_raw, table_writing}
+use Rattle.arch_instructions_laws.specs.Tables.{FormText, TableText, does, are_known, table_has, given_operands, first_written, table_written, first_form_read, label_read, table_raw, table_writing}
 use Rattle.arch_instructions_laws.specs.ClearTables.{forms_apart, is_form_good, is_clear}
 use Rattle.arch_instructions_laws.proofs.PieceBacks.{length-piece_texts}
 use Rattle.arch_instructions_laws.proofs.OperationBacks.{op_back, operands_named}

@@ -1,26 +1,22 @@
 -- What a table reads is an operation that it has.
-use Rattle.std.proofs.Common.{ℕ, ◌≡◌, refl, true, false, Bool, ◌&&◌, List, [], ◌∷◌, ◌++◌, Option, Some, None, map, ◌∙◌, ap, ◌-◌, arith}
-use Rattle.std.proofs.lemmas.Bool.Decides.{nat_tests}
+use Rattle.std.proofs.Common.{ℕ, ◌≡◌, refl, true, false, Bool, ◌&&◌, List, [], ◌∷◌, ◌++◌, Option, Some, None, map, ◌∙◌, ◌-◌, arith}
 use Rattle.std.proofs.lemmas.List.{map-append}
-use Rattle.std.specs.Prelude.{nat_le, nat_lt, ◌==◌, length, get_or, option_map, option_and_then}
+use Rattle.std.specs.Prelude.{◌==◌, option_and_then}
 use Rattle.std.specs.List.{list_any}
 use Rattle.std.specs.Str.{bytes_eq}
-use Rattle.std.proofs.lemmas.Bool.{and_from, or_left, or_right, eq-eqb}
+use Rattle.std.proofs.lemmas.Bool.{and_from, or_left, or_right}
 use Rattle.list_laws.proofs.Cases.{by_test}
-use Rattle.text_parts_laws.specs.NumberTexts.{number_of}
 use Rattle.micro_ops.specs.declared.operation.Micro.{Micro}
 use Rattle.micro_ops.specs.declared.operation.Micro.TheVariants as ops
-use Rattle.arch_trait.specs.Writing.{OperandTexts, none, one, two, three, four, more, RawInstr, Written, immediate_number, at_most, register_at, label_raw}
+use Rattle.arch_trait.specs.Writing.{OperandTexts, one, RawInstr, Written, immediate_number, label_raw}
 use Rattle.arch_trait.specs.Forms.{label_alone}
 use Rattle.arch_instructions_laws.specs.declared.form.Hole.{Hole}
-use Rattle.arch_instructions_laws.specs.declared.form.Hole.TheVariants as holes
 use Rattle.arch_instructions_laws.specs.declared.form.Labels.{Labels}
 use Rattle.arch_instructions_laws.specs.declared.form.Labels.TheVariants as labels
 use Rattle.arch_instructions_laws.specs.declared.kind.Kind.{Kind}
-use Rattle.arch_instructions_laws.specs.declared.kind.Kind.TheVariants as kinds
 use Rattle.arch_instructions_laws.specs.declared.kind.Operand.{Operand}
 use Rattle.arch_instructions_laws.specs.declared.kind.Operand.TheVariants as operands
-use Rattle.arch_instructions_laws.specs.Kinds.{FoundOperand, found_register, found_number, found_place, found_label, operands_of, raw_with, barrier_number}
+use Rattle.arch_instructions_laws.specs.Kinds.{FoundOperand, found_register, found_number, found_place, found_label, operands_of}
 use Rattle.arch_instructions_laws.specs.Tables.{PieceText, FormText, TableText, fits_first, after_hole, operands_fit, does, table_has, hole_found, piece_found, pieces_found, joined_operands, form_found, raw_or, first_form_read, texts_in, are_known, label_read, raw_if, table_raw}
 
 -- an operand that was read, with the number 0 for a name
@@ -38,14 +34,6 @@ record Fitting (hole : Hole) (vs : List FoundOperand) (ws : List Operand) : Type
 abbrev FitsIf : Hole → Option (List FoundOperand) → List Operand → Type 0
 FitsIf hole (Some vs) ws = Fitting hole vs ws
 FitsIf hole None ws = Unit
-
-register_fits : (first count : ℕ) (number : Option ℕ) (ws : List Operand) →
-    FitsIf (holes.Register first count) (option_map (λ r. found_register r ∷ []) (register_at first count number)) ws
-register_fits first count number ws = grind arith
-
-number_fits : (number : Option ℕ) (ws : List Operand) →
-    FitsIf holes.Number (option_map (λ n. found_number n ∷ []) (at_most 2047 number)) ws
-number_fits number ws = grind arith
 
 hole_fits : (hole : Hole) (text : List ℕ) (ws : List Operand) → FitsIf hole (hole_found hole text) ws
 unfolding immediate_number
@@ -70,33 +58,10 @@ unfolding pieces_found operands_fit piece_found
 pieces_fit (p ∷ ps) (t ∷ ts) = search (arith, (pieces_fit ps ts), joined_fits, text_fits)
 pieces_fit ps ts = grind arith
 
--- the operation that operands make has them
-abbrev Does : Kind → List FoundOperand → Option RawInstr → Type 0
-Does kind vs (Some raw) = operands_of kind raw.op ≡ Some (map zeroed vs)
-Does kind vs None = Unit
-
-op_does : (kind : Kind) (vs : List FoundOperand) → Does kind vs (raw_with kind vs)
-op_does kind vs = grind arith
-
--- a form does what is read by it
-abbrev IsDone : Option RawInstr → FormText → Type 0
-IsDone (Some raw) f = does raw.op f ≡ true
-IsDone None f = Unit
-
-done : (f : FormText) (vs : List FoundOperand) (raw : Option RawInstr) → Does f.kind vs raw → operands_fit f.pieces (map zeroed vs) ≡ true → IsDone raw f
-done f vs raw d h = grind arith
-
-found_does : (f : FormText) (vs : List FoundOperand) → operands_fit f.pieces (map zeroed vs) ≡ true → IsDone (raw_with f.kind vs) f
-found_does f vs h = done f vs (raw_with f.kind vs) (op_does f.kind vs) h
-
 -- what was read is had
 abbrev IsHad : (Micro → Bool) → Option RawInstr → Type 0
 IsHad has (Some raw) = has raw.op ≡ true
 IsHad has None = Unit
-
-done_had : (has : Micro → Bool) (f : FormText) (raw : Option RawInstr) → IsDone raw f →
-    ((op : Micro) → does op f ≡ true → has op ≡ true) → IsHad has raw
-done_had has f raw h each = grind arith
 
 raw_or_had : (has : Micro → Bool) (f : FormText) (found : Option (List FoundOperand)) (rest : Option RawInstr) →
     PiecesFit f.pieces found → ((op : Micro) → does op f ≡ true → has op ≡ true) → IsHad has rest → IsHad has (raw_or f.kind found rest)

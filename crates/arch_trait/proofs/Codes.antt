@@ -1,6 +1,6 @@
 -- What is in a thread's code: its operations and labels, their number, and the registers of its
 -- loads.
-use Rattle.std.proofs.Common.{◌⊎◌, inl, inr, eqb-true, eq-eqb, ℕ, suc, ◌+◌, ◌*◌, ◌<◌, ◌≤◌, ◌≡◌, ◌==◌, refl, Bool, true, false, cond, ◌||◌, List, [], ◌∷◌, ◌++◌, Option, Some, None, is_some, length, ◌∙◌, sym, ap, length-append, append-nil, arith}
+use Rattle.std.proofs.Common.{◌⊎◌, inl, inr, eq-eqb, ℕ, suc, ◌+◌, ◌*◌, ◌<◌, ◌≤◌, ◌≡◌, ◌==◌, refl, Bool, true, false, cond, ◌||◌, List, [], ◌∷◌, ◌++◌, Option, is_some, length, ◌∙◌, sym, ap, length-append, append-nil, arith}
 use Rattle.std.proofs.lemmas.Bool.{and_from, and_parts, or_left, or_right}
 use Rattle.std.proofs.lemmas.List.Folds.{list_all-append}
 use Rattle.std.proofs.lemmas.List.Sums.{sum_by-cons}
@@ -8,17 +8,16 @@ use Rattle.std.specs.List.{list_all, range_with_len}
 use Rattle.relax_edges.specs.declared.kinds.Dir.{Dir}
 use Rattle.relax_edges.specs.declared.kinds.Dir.TheVariants as dirs
 use Rattle.micro_ops.specs.declared.operation.Micro.{Micro}
-use Rattle.micro_ops.specs.declared.operation.Micro.TheVariants as ops
 use Rattle.micro_ops.specs.Running.{lands, labels_of}
 use Rattle.micro_ops.specs.RunLaws.{labels_append, lands_append}
 use Rattle.arch_trait.specs.declared.link.Link.{Link}
 use Rattle.arch_trait.specs.declared.link.Link.TheVariants as links
 use Rattle.arch_trait.specs.declared.step.Step.{Step}
-use Rattle.arch_trait.specs.Links.{depends_on_load, branches}
+use Rattle.arch_trait.specs.Links.{branches}
 use Rattle.arch_trait.specs.Threads.{Way, Puts, FitStep, FitSteps, is_load_dir, loads_in, branches_in, visits, from_of, put_of, filled_by, next_put, next_filled, further, step_code, thread_code, thread_regs, thread_loads, put_before}
 use Rattle.arch_trait.specs.Codes.{is_within, AllBelow}
 use Rattle.arch_trait.specs.Laws.{IsTaken, AddsAddress, IsUsable, HasLink, MakesAccess, IsArch, is_at_place, access_room, link_room, link_labels}
-use Rattle.arch_trait.proofs.Runs.{step_takes, step_grew, thread_grew, step_filled, IsWithin}
+use Rattle.arch_trait.proofs.Runs.{step_takes, step_grew, thread_grew, step_filled}
 
 -- the most operations of an access with its link
 both_rooms : (link : Link) → link_room link + access_room link ≤ 6
@@ -52,10 +51,6 @@ thread_short a laws b w (s ∷ ss) fit = grind (arith, (thread_short a laws (is_
 -- a register is given where a dependency needs one
 abbrev pub IsGiven : Bool → Option ℕ → Type 0
 IsGiven b last = b ≡ true → is_some last ≡ true
-
-given_from : (link : Link) (b : Bool) (last : Option ℕ) → (depends_on_load link ≡ true → b ≡ true) →
-    IsGiven b last → depends_on_load link ≡ true → is_some (from_of link last) ≡ true
-given_from link b last after given e = grind arith
 
 -- after a load the register of the load is given
 pub given_after : (a : Puts) (w : Way) (s : Step) → IsGiven (is_load_dir s.dir) (next_filled a w s)
@@ -141,10 +136,6 @@ pub thread_has : (a : Puts) → IsArch a → (b : Bool) (w : Way) (ss : List Ste
 thread_has a laws b w [] fit given usable taken room = refl
 thread_has a laws b w (s ∷ ss) fit given usable taken room =
     grind (arith, (thread_has a laws (is_load_dir s.dir) (further a w s) ss fit.1 (given_after a w s)), (thread_grew a laws (is_load_dir s.dir) (further a w s) ss fit.1), (both_pass a.has (step_code a w s) (thread_code a (further a w s) ss)), (step_has a laws w s b fit.0 given usable taken), (given_after a w s), (usable_after a laws w s), (step_grew a laws w s fit.0.value))
-
-visit_here : (s : Step) (ss : List Step) (q : ℕ) → (q == s.place) ≡ true →
-    (s.place == q || visits q ss) ≡ true
-visit_here s ss q e = grind arith
 
 -- an operation at one of the places, or with none
 visit_one : (s : Step) (ss : List Step) (op : Micro) → is_at_place s.place op ≡ true →

@@ -1,11 +1,8 @@
 -- The walk over the accesses of a thread that appends their code.
-use Rattle.std.proofs.Common.{ℕ, ◌+◌, ◌*◌, ◌<◌, ◌≤◌, ◌≡◌, refl, Bool, true, false, cond, List, [], ◌∷◌, ◌++◌, Option, Some, None, is_some, length, get_or, drop, drop-cons, add-one, length-append, append_assoc, ◌∙◌, sym, ap, subst, arith}
-use Rattle.relax_edges.specs.declared.kinds.Dir.{Dir}
-use Rattle.relax_edges.specs.declared.kinds.Dir.TheVariants as dirs
+use Rattle.std.proofs.Common.{ℕ, ◌+◌, ◌*◌, ◌<◌, ◌≤◌, ◌≡◌, false, List, [], ◌∷◌, ◌++◌, Option, is_some, length, get_or, drop, drop-cons, add-one, length-append, append_assoc, ◌∙◌, arith}
 use Rattle.micro_ops.specs.declared.operation.Micro.{Micro}
 use Rattle.arch_trait.specs.declared.step.Step.{Step}
-use Rattle.arch_trait.specs.Threads.{Way, Puts, FitSteps, is_load_dir, shape_of, setting_out, from_of, filled_by, next_filled, further, step_code, thread_code, thread_regs, thread_loads, put_before}
-use Rattle.arch_trait.specs.Links.{branches}
+use Rattle.arch_trait.specs.Threads.{Way, Puts, FitSteps, is_load_dir, shape_of, setting_out, next_filled, further, step_code, thread_code, thread_regs, thread_loads, put_before}
 use Rattle.arch_trait.specs.Laws.{IsArch}
 use Rattle.arch_trait.proofs.Runs.{step_grew, thread_grew}
 use Rattle.arch_trait.proofs.Codes.{step_short}

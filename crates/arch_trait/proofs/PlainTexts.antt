@@ -1,10 +1,10 @@
 -- Immediates and labels read back from their text.
-use Rattle.std.proofs.Common.{ℕ, ◌≤◌, ◌≡◌, refl, Some, ◌∙◌, ap, arith}
+use Rattle.std.proofs.Common.{ℕ, ◌≤◌, ◌≡◌, refl, Some, ◌∙◌, arith}
 use Rattle.std.specs.Fmt.{decimal}
 use Rattle.std.proofs.lemmas.Bool.{le-leb}
 use Rattle.text_parts_laws.proofs.NumberLaws.{number_of-decimal}
 use Rattle.micro_ops.specs.declared.operation.Micro.TheVariants as ops
-use Rattle.arch_trait.specs.Writing.{immediate_number, at_most, label, label_name, label_word, label_raw}
+use Rattle.arch_trait.specs.Writing.{immediate_number, label, label_name, label_word, label_raw}
 
 -- an immediate is read from its decimal
 pub immediate_back : (n : ℕ) → n ≤ 2047 → immediate_number (decimal n) ≡ Some n

@@ -1,19 +1,19 @@
 -- The run of a thread's code: each access is made in turn, on any numbers that its loads read.
-use Rattle.std.proofs.Common.{ℕ, ◌+◌, ◌-◌, ◌<◌, ◌≤◌, ◌≡◌, ◌⊎◌, inl, inr, refl, Bool, true, false, cond, List, [], ◌∷◌, ◌++◌, Option, Some, None, length, ◌∙◌, sym, ap, subst, append_assoc, append-nil, arith}
+use Rattle.std.proofs.Common.{ℕ, ◌+◌, ◌-◌, ◌<◌, ◌≤◌, ◌≡◌, ◌⊎◌, refl, Bool, true, false, cond, List, [], ◌∷◌, ◌++◌, Option, Some, None, length, ◌∙◌, sym, ap, subst, append_assoc, append-nil, arith}
 use Rattle.std.proofs.lemmas.List.Sums.{sum_by-cons}
 use Rattle.list_laws.proofs.Cases.{by_test}
 use Rattle.relax_edges.specs.declared.kinds.Dir.{Dir}
 use Rattle.relax_edges.specs.declared.kinds.Dir.TheVariants as dirs
 use Rattle.relax_edges.specs.EdgeTable.{mark_fits}
 use Rattle.micro_ops.specs.declared.operation.Micro.{Micro}
-use Rattle.micro_ops.specs.Machine.{num, held_at_place, bit}
+use Rattle.micro_ops.specs.Machine.{num, bit}
 use Rattle.micro_ops.specs.declared.held.Held.{Held}
 use Rattle.micro_ops.specs.Running.{Run, Point, At, exec}
 use Rattle.micro_ops.specs.RunLaws.{exec_append, wants_stays}
 use Rattle.arch_trait.specs.declared.link.Link.{Link}
 use Rattle.arch_trait.specs.declared.step.Step.{Step}
 use Rattle.arch_trait.specs.Links.{depends_on_load, is_data, link_control, link_items}
-use Rattle.arch_trait.specs.Taking.{Taken, address_in}
+use Rattle.arch_trait.specs.Taking.{Taken}
 use Rattle.arch_trait.specs.Threads.{Way, Puts, FitStep, FitSteps, is_load_dir, loads_in, from_of, put_of, filled_by, next_put, next_filled, further, step_code, thread_code, thread_regs, thread_loads, put_before, access_item, first_number, left_after, loads_after, thread_items, Loaded}
 use Rattle.arch_trait.specs.Laws.{IsTaken, Takes, HoldsPlaces, HasSource, ReadyForAccess, DidLink, IsWanting, IsArch}
 use Rattle.arch_trait.proofs.Taking.{Grew, grew, grew_refl, grew_trans}
@@ -83,12 +83,6 @@ access_runs a laws g from s dirs.W b r k vs more fit w m ready first reads =
       places = l.places;
       filled = tt;
     }
-
--- the register that a dependency is on is the one of the load before
-source_from : (r : Run) (link : Link) (last : Option ℕ) (k : ℕ) →
-    (depends_on_load link ≡ true → HasSource r last k) → depends_on_load link ≡ true →
-    HasSource r (from_of link last) k
-source_from r link last k h e = grind arith
 
 source_along : (r u : Run) (from : Option ℕ) (k : ℕ) → u.state.regs ≡ r.state.regs →
     HasSource r from k → HasSource u from k
@@ -268,12 +262,6 @@ read_kept : (r u : Run) (low high : ℕ) (q : Option ℕ) (v n : ℕ) →
     ((s : ℕ) → s < high → u.state.regs s ≡ r.state.regs s) → IsWithin low high q →
     HoldsRead r q v n → HoldsRead u q v n
 read_kept r u low high q v n kept within h = grind arith
-
-nil_cons : {x : ℕ} {xs : List ℕ} → [] ≡ x ∷ xs → ⊥
-nil_cons e = cc
-
-some_none : (q : ℕ) → Some q ≡ None → ⊥
-some_none q e = cc
 
 -- the first load's register, and those of the rest
 loaded_first : (regs : ℕ → Held) (d : Dir) (r : Run) (q : Option ℕ) (qs vs : List ℕ) (n : ℕ) →

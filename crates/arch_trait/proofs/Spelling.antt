@@ -1,17 +1,17 @@
 -- The text of an instruction reads back as its first word and its operands.
-use Rattle.std.proofs.Common.{ℕ, ◌≡◌, ◌==◌, refl, Bool, true, false, not, ◌&&◌, List, [], ◌∷◌, ◌++◌, Some, map, ◌∙◌, sym, ap, append-nil, append_assoc, arith}
+use Rattle.std.proofs.Common.{ℕ, ◌≡◌, ◌==◌, refl, Bool, true, false, not, ◌&&◌, List, [], ◌∷◌, ◌++◌, Some, map, ◌∙◌, ap, append-nil, append_assoc, arith}
 use Rattle.std.proofs.lemmas.Bool.{and_parts, not-true}
 use Rattle.std.specs.List.{list_all, slice_split}
 use Rattle.list_laws.proofs.Elements.{list_all-weaker}
-use Rattle.text_parts_laws.specs.Blanks.{is_blank, unblanked, before_blanks, trim_blanks, is_inked}
-use Rattle.text_parts_laws.specs.LeadingRuns.{leading_run, after_run}
+use Rattle.text_parts_laws.specs.Blanks.{unblanked, before_blanks, trim_blanks, is_inked}
+use Rattle.text_parts_laws.specs.LeadingRuns.{after_run}
 use Rattle.text_parts_laws.proofs.RunLaws.{stops, after_halts, whole_run}
 use Rattle.text_parts_laws.proofs.BlankLaws.{inked_ends, end_stays}
 use Rattle.text_parts_laws.proofs.PieceLaws.{split_off, split_whole}
 use Rattle.micro_ops.specs.declared.operation.Micro.{Micro}
 use Rattle.arch_trait.specs.Threads.{Puts}
 use Rattle.arch_trait.specs.Writing.{OperandTexts, none, one, two, three, four, more, Written, Writing, WritesBack, listed, written_text, op_text, is_plain, all_plain_texts, raw_of, op_name, is_well_named, with_number}
-use Rattle.arch_trait.specs.InstructionReading.{few, operands_if, operands_in, written_in, read_numbered, number_raw, instr_read}
+use Rattle.arch_trait.specs.InstructionReading.{few, operands_if, operands_in, written_in, read_numbered, instr_read}
 use Rattle.arch_trait.specs.WordBytes.{is_instruction_byte}
 
 -- a word, by its bytes

@@ -1,16 +1,14 @@
 -- Tables of names.
-use Rattle.std.proofs.Common.{ℕ, zero, suc, ◌+◌, ◌/◌, ◌%◌, ◌<◌, ◌≡◌, refl, Bool, true, nat_lt, nat_le, ◌==◌, List, [], ◌∷◌, ◌++◌, Option, Some, None, is_none, ◌&&◌, length, get_or, length-append, ◌∙◌, sym, ap, subst, arith}
-use Rattle.std.proofs.lemmas.Bool.{and_from, and_parts, or_left, eqb-true, eqb-false, ltb-true}
+use Rattle.std.proofs.Common.{ℕ, zero, suc, ◌+◌, ◌/◌, ◌%◌, ◌<◌, ◌≡◌, refl, Bool, true, nat_lt, nat_le, ◌==◌, List, [], ◌∷◌, ◌++◌, None, is_none, ◌&&◌, length, get_or, length-append, ◌∙◌, arith}
+use Rattle.std.proofs.lemmas.Bool.{and_from, and_parts, or_left, ltb-true}
 use Rattle.std.proofs.lemmas.List.Folds.{list_all-append}
 use Rattle.std.proofs.lemmas.List.FromFn.{map-range_with_len_more, length-map-range_with_len}
 use Rattle.std.specs.List.{list_all, IsDistinct}
 use Rattle.std.specs.Str.{bytes_eq}
-use Rattle.text_parts_laws.specs.Names.{is_place_name, is_register_name, begins_place, is_place_byte}
-use Rattle.std.specs.Char.{is_ascii_alphabetic, is_ascii_alphanumeric}
+use Rattle.text_parts_laws.specs.Names.{is_place_name, is_register_name}
 use Rattle.list_laws.proofs.Elements.{list_all-weaker}
-use Rattle.list_laws.proofs.Cases.{by_test}
 use Rattle.arch_trait.specs.declared.step.TheConstants.{MAX_STEPS}
-use Rattle.arch_trait.specs.PlaceNames.{IsTable, number_in, location_letters, lap_mark, location_name, letters}
+use Rattle.arch_trait.specs.PlaceNames.{IsTable, number_in, location_letters, location_name, letters}
 use Rattle.list_laws.proofs.Places.{none_passes}
 use Rattle.list_laws.proofs.Distinct.{distinct_push}
 

@@ -1,6 +1,5 @@
 -- The registers of a thread: which hold addresses, as they are taken one after another.
-use Rattle.std.proofs.Common.{ℕ, ◌+◌, ◌<◌, ◌≤◌, ◌≡◌, ◌==◌, ◌⊎◌, inl, inr, refl, Bool, true, false, cond, ◌||◌, List, [], ◌∷◌, ◌++◌, Option, Some, None, is_some, ◌∙◌, sym, ap, subst, eq-eqb, ne_eqb, eqb-true, arith}
-use Rattle.list_laws.proofs.Cases.{by_test}
+use Rattle.std.proofs.Common.{ℕ, ◌+◌, ◌<◌, ◌≤◌, ◌≡◌, ◌==◌, ◌⊎◌, refl, true, cond, ◌||◌, List, [], ◌∷◌, ◌++◌, Option, Some, None, is_some, ◌∙◌, eq-eqb, ne_eqb, eqb-true, arith}
 use Rattle.micro_ops.specs.Machine.{held_at_place}
 use Rattle.arch_trait.specs.Taking.{Taken, address_in, has_address, begins, with_address}
 use Rattle.arch_trait.specs.Laws.{InOrder, IsTaken, AddsAddress, Takes}
@@ -84,11 +83,6 @@ grew_trans g h i s t = grind arith
 pub tracks : (g h : Taken) (p : ℕ) → Takes g h p → has_address h p ≡ true → (q : ℕ) →
     has_address h q ≡ ((p == q) || has_address g q)
 tracks g h p t e q = grind (arith, is_some, eqb-true, address_kept, address_added)
-
--- an access takes the address register of its place, where it had none
-pub takes_address : (g h : Taken) (p : ℕ) → h.count ≡ g.count → h.links ≡ g.links →
-    g.next ≤ h.next → Takes g (with_address h p) p
-takes_address g h p c l m = grind arith
 
 -- a place has an address register after one was taken for it
 pub address_there : (h : Taken) (p : ℕ) → has_address (with_address h p) p ≡ true

@@ -1,9 +1,9 @@
 -- The run of a whole thread, from its beginning, on any numbers that its loads read.
-use Rattle.std.proofs.Common.{ℕ, ◌+◌, ◌<◌, ◌≤◌, ◌≡◌, refl, false, List, [], ◌∷◌, length, take, drop, ◌∙◌, sym, ap, subst, append-nil, length-take, length-drop, arith}
+use Rattle.std.proofs.Common.{ℕ, ◌+◌, ◌<◌, ◌≤◌, ◌≡◌, refl, false, List, [], ◌∷◌, length, take, drop, ◌∙◌, sym, ap, append-nil, length-take, length-drop, arith}
 use Rattle.std.proofs.lemmas.List.{take-append-drop}
 use Rattle.micro_ops.specs.declared.held.Held.{Held}
 use Rattle.micro_ops.specs.declared.operation.Micro.{Micro}
-use Rattle.micro_ops.specs.Running.{Run, beginning, runs, outcome, run_ended, Ended, ReadsLeft, ReadsShort}
+use Rattle.micro_ops.specs.Running.{Run, beginning, runs, outcome, run_ended, ReadsLeft, ReadsShort}
 use Rattle.arch_trait.specs.declared.step.Step.{Step}
 use Rattle.arch_trait.specs.Taking.{untaken, initial_values}
 use Rattle.arch_trait.specs.Threads.{Puts, ThreadCode, FitSteps, setting_out, loads_in, shape_of, visits, thread_regs, thread_loads, compiled, Loaded, HoldNumbers}

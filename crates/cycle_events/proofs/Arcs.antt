@@ -6,7 +6,7 @@ use Rattle.relax_edges.specs.declared.kinds.Com.TheVariants.{Rf}
 use Rattle.relax_edges.specs.declared.edge.Edge.{Edge}
 use Rattle.relax_edges.specs.declared.edge.Edge.TheVariants as edges
 use Rattle.relax_edges.specs.EdgeTable.{is_external, is_diff}
-use Rattle.list_laws.proofs.Cases.{by_test, by_less}
+use Rattle.list_laws.proofs.Cases.{by_less}
 use Rattle.list_laws.proofs.Counts.{count_upto_up, count_upto_past, counted}
 use Rattle.list_laws.proofs.Prefixes.{count_all}
 use Rattle.cycle_events.specs.Resolution.{external_count, move_count, edge_at, thread_of, moves_before, location_of, moves_in, IsResolved}

@@ -1,21 +1,21 @@
 -- The writes that need an observer: the first one of a location, and whether there is one.
-use Rattle.std.proofs.Common.{◌≡◌, ℕ, zero, suc, ◌+◌, ◌-◌, ◌<◌, Bool, true, false, ◌&&◌, cond, List, [], ◌∷◌, ◌++◌, length, Option, Some, None, Ok, Err, refl, sym, ◌∙◌, ap, arith, add-one}
+use Rattle.std.proofs.Common.{◌≡◌, ℕ, zero, suc, ◌+◌, ◌-◌, ◌<◌, Bool, true, false, ◌&&◌, List, [], ◌∷◌, ◌++◌, length, Option, Some, None, Ok, Err, refl, sym, ◌∙◌, ap, arith, add-one}
 use Rattle.std.specs.Prelude.{nat_lt}
 use Rattle.std.specs.List.{find, filter_map, list_any}
-use Rattle.std.specs.Option.{option_map, option_or, is_some}
+use Rattle.std.specs.Option.{option_or, is_some}
 use Rattle.std.proofs.lemmas.List.Elements.{filter_map-append}
 use Rattle.std.proofs.lemmas.List.Folds.{find-append}
-use Rattle.std.proofs.lemmas.Bool.{and_parts, and_right, lt-ltb, le-ltb, ltb-true}
+use Rattle.std.proofs.lemmas.Bool.{lt-ltb}
 use Rattle.std.proofs.Math.Bool.{and-true}
 use Rattle.list_laws.proofs.Elements.{option_or-none}
 use Rattle.relax_edges.specs.declared.edge.Edge.{Edge}
 use Rattle.relax_edges.specs.EdgeTable.{is_external}
 use Rattle.list_laws.specs.Numbers.{upto}
-use Rattle.list_laws.proofs.Cases.{by_test, by_less, by_same, by_option}
+use Rattle.list_laws.proofs.Cases.{by_test}
 use Rattle.list_laws.proofs.Finds.{any_upto_passing, any_upto_fails}
 use Rattle.cycle_events.specs.Values.{edge_into, is_write_at, value_of, write_count, write_at, is_inner_entry, first_inner_entry, need_at, first_need, observer_need, valuation_of}
 use Rattle.relax_edges.specs.declared.kinds.ObsMode.{ObsMode}
-use Rattle.relax_edges.specs.declared.kinds.ObsMode.TheVariants.{Accept, Avoid, Force}
+use Rattle.relax_edges.specs.declared.kinds.ObsMode.TheVariants.{Avoid}
 use Rattle.cycle_events.specs.Resolution.{move_count}
 use Rattle.cycle_events.specs.declared.needs.NeedsObserver.{NeedsObserver}
 use Rattle.cycle_events.specs.Entries.{is_later_entry, first_entry, inner_entry}
@@ -91,9 +91,6 @@ need_is es k e h = let a : first_inner_entry es k ≡ Some e = sym (first_inner_
 
 no_need : (es : List Edge) (k : ℕ) → inner_entry es k (write_count es k) ≡ None → need_at es k ≡ None
 no_need es k h = let a : first_inner_entry es k ≡ None = sym (first_inner_found es k) ∙ h in rw a refl
-
-or_assoc : (x y z : Option NeedsObserver) → option_or (option_or x y) z ≡ option_or x (option_or y z)
-or_assoc x y z = grind arith
 
 first_need-append : (es : List Edge) (xs ys : List ℕ) → first_need es (xs ++ ys) ≡ option_or (first_need es xs) (first_need es ys)
 first_need-append es [] ys = refl

@@ -1,5 +1,5 @@
 -- Locations: how they change along an edge, which events are at one location, and that an arc meets a thread in one run.
-use Rattle.std.proofs.Common.{◌≡◌, ℕ, zero, suc, ◌+◌, ◌%◌, ◌<◌, ◌≤◌, Bool, true, false, ◌==◌, ◌&&◌, cond, List, [], ◌∷◌, length, take, refl, sym, ◌∙◌, ap, arith, add-one, eq-eqb}
+use Rattle.std.proofs.Common.{◌≡◌, ℕ, zero, suc, ◌+◌, ◌%◌, ◌<◌, ◌≤◌, true, false, ◌==◌, ◌&&◌, cond, List, [], ◌∷◌, length, take, refl, ◌∙◌, ap, arith, add-one, eq-eqb}
 use Rattle.std.specs.List.{count_by}
 use Rattle.std.proofs.lemmas.List.{take_all}
 use Rattle.std.proofs.lemmas.Bool.{eqb-false, ne_eqb, cond-true, cond-false, and_parts, and_right}
@@ -7,12 +7,11 @@ use Rattle.std.proofs.Math.Nat.{mod-eq_of_lt, mod_self, mod-le, zero-mod}
 use Rattle.relax_edges.specs.declared.kinds.Reach.TheVariants.{Internal}
 use Rattle.relax_edges.specs.declared.kinds.Com.TheVariants.{Rf}
 use Rattle.relax_edges.specs.declared.kinds.Kind.{Kind}
-use Rattle.relax_edges.specs.declared.kinds.Kind.TheVariants as kinds
 use Rattle.relax_edges.specs.declared.edge.Edge.{Edge}
 use Rattle.relax_edges.specs.declared.edge.Edge.TheVariants as edges
 use Rattle.relax_edges.specs.EdgeTable.{kind_of, is_external, is_diff}
 use Rattle.list_laws.specs.Numbers.{upto}
-use Rattle.list_laws.proofs.Cases.{by_less, by_same}
+use Rattle.list_laws.proofs.Cases.{by_less}
 use Rattle.list_laws.proofs.Counts.{count_upto-le, count_upto_more, count_upto_fewer, count_upto_none, count_upto_stays}
 use Rattle.list_laws.proofs.Prefixes.{count_take_more, count_all}
 use Rattle.list_laws.proofs.Finds.{any_upto_fails}

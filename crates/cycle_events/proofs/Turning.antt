@@ -1,6 +1,6 @@
 -- The turn after which the last edge is external: which one it is, and that it is a rotation.
-use Rattle.std.proofs.Common.{◌≡◌, ℕ, zero, suc, ◌+◌, ◌<◌, ◌≤◌, Bool, true, false, List, [], ◌∷◌, ◌++◌, length, take, drop, map, Some, None, Ok, Err, nat_lt, refl, sym, ◌∙◌, ap, arith, add-one, append_assoc}
-use Rattle.std.specs.List.{find, position, position_or_len}
+use Rattle.std.proofs.Common.{◌≡◌, ℕ, zero, suc, ◌+◌, ◌<◌, ◌≤◌, Bool, true, false, List, [], ◌∷◌, ◌++◌, length, take, drop, map, Some, None, Ok, nat_lt, refl, sym, ◌∙◌, ap, arith, add-one, append_assoc}
+use Rattle.std.specs.List.{find, position}
 use Rattle.std.specs.Option.{option_map}
 use Rattle.std.proofs.lemmas.List.{append-nil, take_more, take-append-drop}
 use Rattle.std.proofs.lemmas.List.Quantifiers.{position-Some}
@@ -20,7 +20,6 @@ use Rattle.list_laws.proofs.Prefixes.{count_exchanged, count_all}
 use Rattle.list_laws.proofs.Finds.{find-map, find_upto_first, find_upto_none, find_upto, none_before}
 use Rattle.list_laws.proofs.Counts.{Passing, counted}
 use Rattle.cycle_events.specs.Resolution.{external_count, move_count, edge_at, ends_outside, turned, is_coherence_only, resolution_of, IsResolved}
-use Rattle.cycle_events.specs.declared.errors.ResolveError.TheVariants.{TooFewThreads, CoherenceOnly}
 use Rattle.cycle_events.proofs.Locations.{ends_with}
 
 -- a list ends outside exactly where its last edge is external

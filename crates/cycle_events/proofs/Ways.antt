@@ -3,7 +3,6 @@ use Rattle.std.proofs.Common.{◌≡◌, ℕ, ◌+◌, ◌<◌, ◌≤◌, true,
 use Rattle.std.proofs.lemmas.Bool.{ne_eqb, cond-true, cond-false}
 use Rattle.relax_edges.specs.declared.edge.Edge.{Edge}
 use Rattle.relax_edges.specs.EdgeTable.{is_diff}
-use Rattle.list_laws.proofs.Cases.{by_less}
 use Rattle.cycle_events.specs.Resolution.{move_count, edge_at, event_after, thread_of, moves_before, location_of, IsResolved}
 use Rattle.cycle_events.proofs.Locations.{moves-zero, moves_on, moves_kept, moves_up, moves_most}
 use Rattle.cycle_events.proofs.Arcs.{several_locations, moves_last, location_cases, one_location}

@@ -1,9 +1,9 @@
 -- The writes of a location: they have the values 1, 2, .., each once, and a value names its write.
-use Rattle.std.proofs.Common.{◌≡◌, ℕ, zero, suc, ◌+◌, ◌<◌, ◌≤◌, true, false, ◌==◌, ◌&&◌, cond, List, length, Some, refl, sym, ◌∙◌, ap, arith, eq-eqb}
+use Rattle.std.proofs.Common.{◌≡◌, ℕ, zero, suc, ◌+◌, ◌<◌, ◌≤◌, true, false, ◌==◌, ◌&&◌, cond, List, length, Some, refl, ◌∙◌, arith, eq-eqb}
 use Rattle.std.proofs.lemmas.Bool.{eqb-true, and_parts, and_from}
 use Rattle.relax_edges.specs.declared.edge.Edge.{Edge}
 use Rattle.relax_edges.specs.EdgeTable.{is_diff}
-use Rattle.list_laws.proofs.Cases.{by_test, by_less, by_same}
+use Rattle.list_laws.proofs.Cases.{by_test, by_same}
 use Rattle.list_laws.proofs.Counts.{counted}
 use Rattle.list_laws.proofs.Finds.{find_upto, find_upto_only}
 use Rattle.cycle_events.specs.Resolution.{move_count, edge_at, event_before, location_of, IsResolved}

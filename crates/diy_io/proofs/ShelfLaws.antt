@@ -1,11 +1,10 @@
 -- What the calls of a shelf in memory do to what it shows.
 use Rattle.std.proofs.Common.{◌≡◌, ◌≤◌, ◌<◌, ℕ, ◌+◌, List, [], ◌∷◌, ◌++◌, length, take, drop, set, min, refl, sym, ap, ◌∙◌, subst, arith, Some, None, length-drop, length-append}
-use Rattle.std.specs.Prelude.{Option, Result, Ok, Err, OnErr, unwrap_or}
+use Rattle.std.specs.Prelude.{Result, OnErr}
 use Rattle.std.proofs.lemmas.List.{take-append-drop, drop_all, drop-drop, get_or-set_same, length-take-le, take-append-le, take-take}
-use Rattle.std.specs.Io.KnownBytes.{Consumes, IsAtEnd}
 use Rattle.std.proofs.lemmas.Option.{same_Some}
-use Rattle.diy_io.specs.Count.{Rose, next_count, count_of}
-use Rattle.diy_io.specs.Shelf.{Idle, Reading, Writing, name_read, left_to_read, name_written, IsWriting, with_file, with_more, bytes_in, Opened, NotThere, Stopped, Gave, Created, AppendedPart}
+use Rattle.diy_io.specs.Count.{next_count, count_of}
+use Rattle.diy_io.specs.Shelf.{Idle, Reading, Writing, name_written, IsWriting, with_more, Opened, NotThere, Stopped, Gave, Created, AppendedPart}
 use Rattle.diy_io.specs.declared.mem_shelf.Work.{Work}
 use Rattle.diy_io.specs.declared.mem_shelf.Work.TheVariants as works
 use Rattle.diy_io.specs.declared.mem_shelf.MemShelf.TheInside.{Inside}

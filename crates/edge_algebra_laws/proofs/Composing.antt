@@ -1,5 +1,5 @@
 -- Laws of composable lists: parts, rotations, the first break.
-use Rattle.std.proofs.Common.{◌≡◌, ℕ, suc, ◌-◌, ◌+◌, ◌<◌, ◌≤◌, true, false, ◌&&◌, cond, List, [], ◌∷◌, ◌++◌, length, take, drop, Option, Some, None, refl, sym, ◌∙◌, ap, arith, length-append, slice_get, get_or}
+use Rattle.std.proofs.Common.{◌≡◌, ℕ, suc, ◌-◌, ◌+◌, ◌<◌, ◌≤◌, true, false, ◌&&◌, cond, List, [], ◌∷◌, ◌++◌, length, take, drop, Option, Some, None, refl, ◌∙◌, arith, length-append, slice_get, get_or}
 use Rattle.std.proofs.lemmas.List.{take-append-drop}
 use Rattle.std.proofs.lemmas.Bool.{and_parts, and_from}
 use Rattle.std.proofs.Math.Bool.{and-true, and_assoc}
@@ -75,9 +75,6 @@ unbroken_cycle (f ∷ u) e s l h = grind (arith, (joined_unbroken ((f ∷ u) ++ 
 pub joined_parts : (u v : List Edge) → is_joined (u ++ v) ≡ (is_joined u && (last_joins u v && is_joined v))
 joined_parts (e ∷ f ∷ u) v = grind (arith, (joined_parts (f ∷ u) v), and_assoc)
 joined_parts u v = grind arith
-
-joins_first_one : (e : Edge) (u : List Edge) → joins_first e (take 1 u) ≡ joins_first e u
-joins_first_one e u = grind arith
 
 last_joins_one : (u v : List Edge) → last_joins u (take 1 v) ≡ last_joins u v
 last_joins_one (e ∷ f ∷ u) v = last_joins_one (f ∷ u) v

@@ -4,30 +4,16 @@ use Rattle.std.specs.Prelude.{◌≡◌, ◌==◌, ◌&&◌, Bool, true, false, 
 use Rattle.std.specs.List.{list_all}
 use Rattle.std.proofs.Common.{refl, ap, subst, sym, ◌∙◌, arith}
 use Rattle.std.proofs.lemmas.Bool.{and_parts, eqb-true}
-use Rattle.relax_edges.specs.declared.kinds.Dir.{Dir}
-use Rattle.relax_edges.specs.declared.kinds.Dir.TheVariants as dirs
 use Rattle.relax_edges.specs.declared.kinds.Kind.{Kind}
-use Rattle.relax_edges.specs.declared.kinds.Kind.TheVariants as kinds
 use Rattle.relax_edges.specs.declared.kinds.Mark.{Mark}
-use Rattle.relax_edges.specs.declared.kinds.Mark.TheVariants.{Plain}
 use Rattle.relax_edges.specs.declared.edge.Edge.{Edge}
-use Rattle.relax_edges.specs.declared.edge.Edge.TheVariants as edges
-use Rattle.relax_edges.specs.Marks.{markable_kind, marks_source, marks_target, mark_of}
-use Rattle.relax_edges.specs.EdgeTable.{kind_of, source_of, target_of, kind_source, kind_target, source_mark, target_mark, mark_fits, same_mark, unmarked, marked_of, marked_edge}
+use Rattle.relax_edges.specs.EdgeTable.{kind_of, source_of, target_of, source_mark, target_mark, mark_fits, same_mark, unmarked, marked_of, marked_edge}
 use Rattle.relax_edges.specs.Order.{rank_of}
 use Rattle.relax_edges.specs.AllEdges.{edges_in_order}
 use Rattle.relax_edges.specs.WordReading.{marks_read}
 use Rattle.edge_algebra_laws.proofs.RankLaws.{each_edge, rank_injective}
 use Rattle.edge_algebra_laws.proofs.SpellingLaws.{each_mark, each_kind, kind_of_unmarked}
 use Rattle.edge_algebra_laws.proofs.Joining.{same_mark_is}
-
--- a plain access may read or write
-plain_fits : (d : Dir) → mark_fits d Plain ≡ true
-plain_fits d = grind arith
-
--- and so may one with the mark of what it does
-marked_fits : (on : Bool) (d : Dir) → mark_fits d (mark_of on d) ≡ true
-marked_fits on d = grind arith
 
 -- a read that an edge leaves is plain or acquire, a write plain or release
 pub source_mark_fits : (edge : Edge) → mark_fits (source_of edge) (source_mark edge) ≡ true

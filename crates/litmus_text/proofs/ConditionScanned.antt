@@ -53,11 +53,6 @@ term_step : (w : Writing) (here : Setting) (s : Mentioned) (text : List ℕ) (ol
 unfolding term_here
 term_step w here s text old new same = grind arith
 
--- what was scanned, with a term before
-abbrev before_scanned : TermSeen → Scanned → Scanned
-before_scanned term (Ok read) = Ok (term ∷ read.0, read.1)
-before_scanned term (Err fault) = Err fault
-
 -- the terms, one after another
 terms_step : (w : Writing) (here : Setting) (room : ℕ) (s : Mentioned) (text : List ℕ)
     → (terms_here w here room s text >>= ended here.begins) ≡ expected here.begins s (terms_formed w here room text)

@@ -1,5 +1,5 @@
 -- Logs that are read line by line say what their blocks say.
-use Rattle.std.specs.Prelude.{◌≡◌, ℕ, zero, suc, true, false, List, [], ◌∷◌, ◌++◌, map, Option, Some, None, Result, Ok, Err}
+use Rattle.std.specs.Prelude.{◌≡◌, ℕ, suc, true, false, List, [], ◌∷◌, ◌++◌, map, Option, Some, None, Result, Ok, Err}
 use Rattle.std.proofs.Common.{sym, refl, ap, ◌∙◌, arith}
 use Rattle.list_laws.proofs.Cases.{by_test}
 use Rattle.text_parts_laws.specs.Lines.{without_return, last_line}

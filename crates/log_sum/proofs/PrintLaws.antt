@@ -125,7 +125,3 @@ pub sum_is : (kept : Kept) (files : List (List ℕ)) (bytes : List ℕ) (s : Rep
 unfolding sum_text
 sum_is kept files bytes s =
     ap (flat_map (λ (row : List ℕ × Summed). summed_text row.0 row.1)) s.reading.tests ∙ texts_of (λ name. summed (facts_of name s.seen.entries)) (tests_of s.seen.entries)
-
--- two summers that represent the same input have the same sum, however its bytes were cut
-pub same_sum : (one other : Kept) (files : List (List ℕ)) (bytes : List ℕ) → Represents one files bytes → Represents other files bytes → kept_text one ≡ kept_text other
-same_sum one other files bytes s t = grind arith

@@ -12,7 +12,7 @@ use Rattle.std.proofs.lemmas.List.{map-append}
 use Rattle.std.proofs.lemmas.List.Sums.{fold-append}
 use Rattle.std.proofs.lemmas.List.Folds.{list_any-append, list_all-append}
 use Rattle.list_laws.proofs.Elements.{all_append, all_parts}
-use Rattle.log_sum.specs.Facts.{Row, Fact, a_condition, kinds, rows, conditions, hashes, first_of, marked_sum, states_of, mark_in, verdicts, says_validated}
+use Rattle.log_sum.specs.Facts.{Row, Fact, kinds, rows, conditions, hashes, first_of, marked_sum, states_of, mark_in, verdicts, says_validated}
 use Rattle.log_sum.specs.Summed.{Summed, some_or, state_by, summed, validated_by, is_validated}
 use Rattle.log_sum.specs.SumText.{summed_text, head_text, sum_verdict_text, claim_text, condition_text, observation_text}
 use Rattle.log_sum_laws.proofs.Cases.{Kind, Mark, Verdict, Allowed, Plain, Starred}

@@ -1,5 +1,5 @@
 -- The kinds, marks, verdicts and places of logs.
-use Rattle.std.proofs.Common.{◌≡◌, true, false, arith}
+use Rattle.std.proofs.Common.{◌≡◌, true, false}
 use Rattle.std.specs.Prelude.{Bool}
 pub use Rattle.log_sum.specs.declared.kinds.Kind.{Kind}
 pub use Rattle.log_sum.specs.declared.kinds.Kind.TheVariants.{Allowed, Forbidden, Required}
@@ -14,7 +14,3 @@ pub use Rattle.log_sum.specs.declared.kinds.Place.TheVariants.{Outside, Histogra
 abbrev pub is_outside : Place → Bool
 is_outside Outside = true
 is_outside _ = false
-
--- there is one place outside the blocks
-pub outside_is : (p : Place) → is_outside p ≡ true → p ≡ Outside
-outside_is p h = grind arith

@@ -70,10 +70,6 @@ pub record Ended (s t : LogSeen) : Type 0 where
   pub place : s.place ≡ Outside
   pub is : t ≡ seen_at s.entries [] Outside 1
 
--- where the end of a file is no fault, the file has ended so
-pub end_is : (s t : LogSeen) → end_judged s ≡ Ok t → Ended s t
-end_is s t e = grind arith
-
 end_scans : Scans end_judged
 end_scans s t e = grind (arith, nothing_given)
 

@@ -1,7 +1,6 @@
 -- The laws of runs: jumps, registers that keep their value,
 -- what masks name.
-use Rattle.std.proofs.Common.{ℕ, ◌+◌, ◌^◌, ◌<◌, ◌≡◌, ◌==◌, refl, Bool, true, false, cond, ◌||◌, List, [], ◌∷◌, ◌++◌, Option, Some, None, ◌∙◌, sym, ap, eq-eqb, ◌⊎◌, inl, inr, count_by, ◌≤◌, lt_of_lt_of_le, arith}
-use Rattle.std.proofs.lemmas.Bool.{and_parts, or_parts}
+use Rattle.std.proofs.Common.{ℕ, ◌+◌, ◌^◌, ◌<◌, ◌≡◌, ◌==◌, refl, Bool, true, false, cond, ◌||◌, List, [], ◌∷◌, ◌++◌, Option, Some, None, ◌∙◌, ap, eq-eqb, ◌⊎◌, count_by, ◌≤◌, arith}
 use Rattle.std.proofs.lemmas.Nat.{pow_pos}
 use Rattle.std.proofs.lemmas.List.Sums.{sum_by-append}
 use Rattle.std.proofs.Math.Pow.{pow_mono}
@@ -12,8 +11,8 @@ use Rattle.micro_ops.specs.declared.operation.Micro.TheVariants as ops
 use Rattle.micro_ops.specs.declared.operation.Item.{Item}
 use Rattle.micro_ops.specs.declared.operation.Item.TheVariants as items
 use Rattle.micro_ops.specs.Machine.{Effect, step}
-use Rattle.micro_ops.specs.Running.{Run, Point, At, Past, Wants, Stuck, go, exec, taken, led, landing, wanting, is_load, is_label, occurs, occurs_if, target, lands, is_past, writes, is_named_register, is_written, is_read_item, NamesLoads, beginning, starting, add_item, AllNameLoads, RunNamesLoads, OnRun}
-use Rattle.micro_ops.proofs.Steps.{OnEffect, JumpsTo, step_jumps, Keeps, step_keeps, Named, step_named, step_counts, Counts, reads_in, ItemNames}
+use Rattle.micro_ops.specs.Running.{Run, Point, At, Past, Wants, Stuck, go, exec, taken, led, wanting, is_load, occurs, lands, is_past, writes, is_written, is_read_item, NamesLoads, beginning, starting, add_item, AllNameLoads, RunNamesLoads, OnRun}
+use Rattle.micro_ops.proofs.Steps.{OnEffect, Named, step_named, reads_in, ItemNames}
 
 -- a jump goes on after its label
 pub jump_lands : (before after : List Micro) (l : ℕ) (r : Run) → occurs l before ≡ false →
@@ -27,19 +26,6 @@ HasWay code (At _) = Unit {0}
 HasWay code (Past l _) = occurs l code ≡ true
 HasWay code (Wants _) = Unit {0}
 HasWay code Stuck = Unit {0}
-
-led_ways : (code : List Micro) (label : Option ℕ) (effect : Option Effect) (reads : List ℕ)
-    (made : List Item) → OnEffect (JumpsTo label) effect → occurs_if label code ≡ true →
-    HasWay code (led effect reads made)
-led_ways code label effect reads made h e = grind arith
-
-taken_ways : (op : Micro) (code : List Micro) (r : Run) (b : Bool) (reads : List ℕ) →
-    occurs_if (target op) code ≡ true → HasWay code (taken op r b reads)
-taken_ways op code r b reads e = grind arith
-
-go_ways : (op : Micro) (code : List Micro) (p : Point) → occurs_if (target op) code ≡ true →
-    HasWay (op ∷ code) p → HasWay code (go op p)
-go_ways op code p e h = grind arith
 
 exec_ways : (code : List Micro) (p : Point) → lands code ≡ true → HasWay code p →
     is_past (exec code p) ≡ false

@@ -1,5 +1,5 @@
 -- Registers in an array, named by a list from its end.
-use Rattle.std.proofs.Common.{ℕ, zero, suc, ◌≡◌, ◌==◌, ◌<◌, refl, Bool, true, false, cond, List, length, drop, set, get_or, replicate, ◌∙◌, sym, ap, eqb-true, drop_of_length-le, le_refl, arith}
+use Rattle.std.proofs.Common.{ℕ, suc, ◌≡◌, ◌==◌, ◌<◌, true, false, List, length, drop, set, get_or, replicate, ◌∙◌, sym, ap, eqb-true, drop_of_length-le, le_refl, arith}
 use Rattle.std.proofs.lemmas.Bool.{eqb-false}
 use Rattle.std.proofs.lemmas.List.{get_or-set_same, get_or-set_other}
 use Rattle.std.proofs.Math.Seq.{drop-cons}

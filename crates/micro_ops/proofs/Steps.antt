@@ -1,16 +1,15 @@
 -- What each step keeps: where it may jump, the registers that it leaves alone, what its masks name.
-use Rattle.std.proofs.Common.{add-zero, sym, ℕ, suc, ◌+◌, ◌^◌, ◌<◌, ◌≡◌, ◌==◌, refl, Bool, true, false, cond, not, Option, Some, None, ◌⊎◌, inl, inr, arith, lt_of_lt_of_le, pow-suc}
+use Rattle.std.proofs.Common.{ℕ, suc, ◌+◌, ◌^◌, ◌<◌, ◌≡◌, ◌==◌, refl, Bool, false, cond, Option, Some, None, ◌⊎◌, arith, lt_of_lt_of_le, pow-suc}
 use Rattle.std.proofs.lemmas.Nat.{or_lt, pow_pos}
 use Rattle.std.proofs.Math.Pow.{pow_mono}
 use Rattle.relax_edges.specs.declared.kinds.Mark.{Mark}
-use Rattle.relax_edges.specs.declared.kinds.Mark.TheVariants.{Plain, Acquire, Release}
 use Rattle.relax_edges.specs.declared.kinds.Value.{Value}
-use Rattle.relax_edges.specs.declared.kinds.Value.TheVariants.{Num, Place}
+use Rattle.relax_edges.specs.declared.kinds.Value.TheVariants.{Num}
 use Rattle.micro_ops.specs.declared.held.Held.{Held}
 use Rattle.micro_ops.specs.declared.operation.Micro.{Micro}
 use Rattle.micro_ops.specs.declared.operation.Micro.TheVariants as ops
 use Rattle.micro_ops.specs.declared.operation.Item.{Item}
-use Rattle.micro_ops.specs.Machine.{ThreadState, Effect, num, bit, put, step, write_effect, becomes, loading, storing, comparing, branching, branching_on, xored, same_number, place_reached, address_mask, both_masks, plus, ored, sum_of_values}
+use Rattle.micro_ops.specs.Machine.{ThreadState, Effect, bit, put, step, write_effect, becomes, loading, storing, comparing, branching, branching_on, address_mask, both_masks}
 use Rattle.micro_ops.specs.Running.{is_load, target, writes, is_named_register, is_read_item, MasksNameLoads, NamesLoads}
 
 -- a fact of what a rule leads to, where there is a rule
@@ -59,10 +58,6 @@ on_branching P s mask (x) label h = grind arith
 abbrev pub JumpsTo : Option ℕ → Effect → Type 0
 JumpsTo label effect = (effect.jump ≡ None) ⊎ (effect.jump ≡ label)
 
-taken_or_not : (b : Bool) (l : ℕ) →
-    (cond b (Some l) None ≡ None) ⊎ (cond b (Some l) None ≡ Some l)
-taken_or_not b l = grind arith
-
 -- each step jumps nowhere, or to the label of its operation
 pub step_jumps : (op : Micro) (s : ThreadState) (read : Option ℕ) →
     OnEffect (JumpsTo (target op)) (step op s read)
@@ -102,10 +97,6 @@ empty_mask loads = pow_pos loads
 
 wider : (m k : ℕ) → m < 2 ^ k → m < 2 ^ (k + 1)
 wider m k h = lt_of_lt_of_le h (pow_mono (omega arith))
-
-named_put : (s : ThreadState) (d : ℕ) (v : Value) (mask : ℕ) → MasksNameLoads s → mask < 2 ^ s.loads →
-    MasksNameLoads (put s d (record { value = v; mask = mask }))
-named_put s d v mask h k = grind arith
 
 named_write : (s : ThreadState) (d : ℕ) (v : Value) (mask : ℕ) → MasksNameLoads s → mask < 2 ^ s.loads →
     OnEffect (Named s) (becomes (put s d (record { value = v; mask = mask })))

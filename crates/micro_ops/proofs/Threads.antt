@@ -1,5 +1,5 @@
 -- The run of a thread in code, which goes through the operations once.
-use Rattle.std.proofs.Common.{ℕ, ◌≡◌, ◌+◌, ◌<◌, ◌≤◌, refl, true, false, cond, List, [], ◌∷◌, length, take, get_or, Option, Some, None, ◌∙◌, sym, ap, arith, count_by, subst, Result, Ok, Err, IfErr}
+use Rattle.std.proofs.Common.{ℕ, ◌≡◌, ◌+◌, ◌<◌, ◌≤◌, true, false, List, [], ◌∷◌, length, take, get_or, ◌∙◌, arith, count_by, Result, IfErr}
 use Rattle.std.proofs.lemmas.List.{take_more, take_all}
 use Rattle.std.proofs.lemmas.List.Sums.{count_by_more_yes, sum_by-take-le}
 use Rattle.relax_edges.specs.declared.kinds.Value.{Value}
@@ -9,7 +9,7 @@ use Rattle.micro_ops.specs.declared.run.RunError.TheVariants as errors
 use Rattle.micro_ops.specs.declared.run.Halt.{Halt}
 use Rattle.micro_ops.specs.declared.run.Halt.TheVariants as halts
 use Rattle.micro_ops.specs.Machines.{state_of}
-use Rattle.micro_ops.specs.Running.{Run, Point, At, go, exec, is_load, is_past, lands, landing, beginning, outcome, runs, ReadsLeft, OnRun}
+use Rattle.micro_ops.specs.Running.{Point, At, go, exec, is_load, is_past, lands, beginning, outcome, runs, ReadsLeft, OnRun}
 use Rattle.micro_ops.specs.RunThreads.{EndedRun, goes_on, StopsAt, CausedBy}
 use Rattle.micro_ops.specs.Runners.{RunProgress, point_of, error_of}
 use Rattle.micro_ops.specs.RunLaws.{exec_append}

@@ -1,15 +1,13 @@
 -- The items of a text are found in one pass over it, an item's bytes passed over once its first one is read.
-use Rattle.std.specs.Prelude.{ℕ, ◌≡◌, ◌+◌, ◌==◌, ◌||◌, ◌&&◌, Bool, true, false, not, cond, Option, None, Result, Ok, Err, List, [], ◌∷◌, ◌++◌, length, filter}
+use Rattle.std.specs.Prelude.{ℕ, ◌≡◌, ◌+◌, ◌==◌, ◌||◌, ◌&&◌, Bool, true, false, cond, Option, None, Result, Ok, Err, List, [], ◌∷◌, ◌++◌, length, filter}
 use Rattle.std.specs.List.{before_first}
-use Rattle.std.proofs.Common.{zero, suc, get_or, refl, arith, ap, subst, sym, ◌∙◌, length-append}
+use Rattle.std.proofs.Common.{zero, suc, refl, arith, ap, sym, ◌∙◌, length-append}
 use Rattle.std.proofs.lemmas.Bool.{eqb-true, false≢true}
 use Rattle.std.proofs.lemmas.List.{append-nil}
 use Rattle.std.proofs.lemmas.List.Elements.{filter-append}
-use Rattle.list_laws.proofs.Cases.{by_test}
 use Rattle.list_laws.proofs.Places.{before_first-no}
 use Rattle.relax_edges.specs.declared.edge.Edge.{Edge}
 use Rattle.relax_edges.specs.declared.relax_error.RelaxKind.{RelaxKind}
-use Rattle.relax_edges.specs.declared.relax_error.RelaxKind.TheVariants.{BadBracket}
 use Rattle.relax_edges.specs.RelaxText.{is_separator, is_bracket, ends_word, inside, has_closed_bracket, RelaxItem, words_from, last_byte, is_open}
 use Rattle.relax_edges.specs.RelaxText.{stands_apart, begins_item, items_after, items_of}
 use Rattle.relax_edges.specs.RelaxPrefix.{bytes_after, ends_here}
@@ -57,9 +55,6 @@ longer before byte = length-append before (byte ∷ [])
 
 separator_no_bracket : (byte : ℕ) → is_separator byte ≡ true → is_bracket byte ≡ false
 separator_no_bracket byte s = grind arith
-
-either : (a b : Bool) → (a || b) ≡ true → a ≡ false → b ≡ true
-either a b e f = grind arith
 
 -- after some bytes the two forms add the same to a list
 abbrev Same : List (List Edge) → List ℕ → ℕ → List ℕ → Type 0

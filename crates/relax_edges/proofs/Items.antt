@@ -1,24 +1,20 @@
 -- Items are kept one after another.
-use Rattle.std.specs.Prelude.{ℕ, ◌≡◌, ◌<◌, ◌≤◌, ◌+◌, ◌-◌, Bool, true, false, Result, Ok, Err, List, [], ◌∷◌, ◌++◌, length, map, take, drop}
+use Rattle.std.specs.Prelude.{ℕ, ◌≡◌, ◌<◌, ◌≤◌, ◌+◌, ◌-◌, Bool, true, false, Ok, Err, List, [], ◌∷◌, ◌++◌, length, map, take, drop}
 use Rattle.std.specs.List.{list_any}
-use Rattle.std.proofs.Common.{zero, suc, refl, arith, ap, subst, sym, ◌∙◌}
+use Rattle.std.proofs.Common.{suc, refl, arith, ap, subst, sym, ◌∙◌}
 use Rattle.std.proofs.Math.ListN.{drop_of_length-le}
 use Rattle.std.proofs.lemmas.List.{drop-drop}
 use Rattle.std.proofs.lemmas.Bool.{lt-ltb, le-ltb}
-use Rattle.list_laws.proofs.Cases.{by_test}
 use Rattle.list_laws.proofs.Elements.{rest_from}
 use Rattle.relax_edges.specs.declared.edge.Edge.{Edge}
 use Rattle.relax_edges.specs.declared.relax_error.RelaxKind.{RelaxKind}
 use Rattle.relax_edges.specs.declared.relax_error.RelaxKind.TheVariants.{UnknownEdge, RelaxTooLong, DoesNotJoin}
-use Rattle.relax_edges.specs.RelaxText.{is_separator, is_empty, RelaxItem, words_from, items_of}
+use Rattle.relax_edges.specs.RelaxText.{is_separator, is_empty, words_from, items_of}
 use Rattle.relax_edges.specs.Relaxations.{word_edges, paths_of, keep_all, at_most_64, kept_paths, kept_words, kept_item, kept_items, relaxes_of}
 use Rattle.relax_edges.specs.RelaxSearch.{paths_after, KeepsPaths}
-use Rattle.relax_edges.specs.RelaxPrefix.{bytes_after, first_word_len, kept_prefix}
-use Rattle.relax_edges.proofs.ItemScan.{item_from, items_from, kept_one, refused_one}
-use Rattle.relax_edges.proofs.Paths.{paths_after-nil, at_most_64-ok}
-
-abbrev Answer : Type 0
-Answer = Result (List (List Edge)) RelaxKind
+use Rattle.relax_edges.specs.RelaxPrefix.{first_word_len, kept_prefix}
+use Rattle.relax_edges.proofs.ItemScan.{items_from, kept_one}
+use Rattle.relax_edges.proofs.Paths.{paths_after-nil}
 
 -- words of which one names no edge are refused
 pub kept_words_unknown : (kept : List (List Edge)) (words : List (List ℕ)) → list_any (λ word. is_empty (word_edges word)) words ≡ true
@@ -76,9 +72,6 @@ pub kept_words_refused : (kept : List (List Edge)) (words : List (List ℕ)) (pr
 kept_words_refused kept words prefix kind known short none few err =
     kept_words_short kept words known short
     ∙ paths_refused kept (paths_of words) kind few (after_nothing (λ paths. at_most_64 (keep_all kept paths) ≡ Err kind) words prefix none err)
-
-drop_of_nil : (n : ℕ) → drop {A = ℕ} n [] ≡ []
-drop_of_nil n = grind arith
 
 -- passing bytes is dropping them
 items_passed : (place passed : ℕ) (text : List ℕ) → items_from place passed text ≡ items_from (place + passed) 0 (drop passed text)

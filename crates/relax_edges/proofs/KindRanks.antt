@@ -1,8 +1,7 @@
 -- The rank of an edge without marks is that of its kind.
 use Rattle.std.specs.Prelude.{◌≡◌}
-use Rattle.std.proofs.Common.{refl, arith}
+use Rattle.std.proofs.Common.{arith}
 use Rattle.relax_edges.specs.declared.kinds.Kind.{Kind}
-use Rattle.relax_edges.specs.declared.kinds.Kind.TheVariants as kinds
 use Rattle.relax_edges.specs.EdgeTable.{unmarked}
 use Rattle.relax_edges.specs.Order.{rank_of, kind_rank}
 

@@ -13,18 +13,16 @@ use Rattle.relax_edges.specs.declared.kinds.Dir.{Dir}
 use Rattle.relax_edges.specs.declared.kinds.Dir.TheVariants as dirs
 use Rattle.relax_edges.specs.declared.kinds.Sd.{Sd}
 use Rattle.relax_edges.specs.declared.kinds.Reach.{Reach}
-use Rattle.relax_edges.specs.declared.kinds.Reach.TheVariants.{Internal, External}
 use Rattle.relax_edges.specs.declared.kinds.Com.{Com}
-use Rattle.relax_edges.specs.declared.kinds.Com.TheVariants as coms
 use Rattle.relax_edges.specs.declared.kinds.FenceKind.{FenceKind}
 use Rattle.relax_edges.specs.declared.kinds.DepKind.{DepKind}
 use Rattle.relax_edges.specs.declared.kinds.Kind.{Kind}
 use Rattle.relax_edges.specs.declared.kinds.Kind.TheVariants as kinds
 use Rattle.relax_edges.specs.EdgeTable.{kind_of, unmarked}
-use Rattle.relax_edges.specs.WordParts.{kind_word, com_word, reach_word, sd_word, dir_word, fence_word, dependency_word}
+use Rattle.relax_edges.specs.WordParts.{kind_word, sd_word, dir_word, fence_word, dependency_word}
 use Rattle.relax_edges.specs.AllEdges.{edges_in_order}
 use Rattle.relax_edges.specs.Spelling.{kind_spellings}
-use Rattle.relax_edges.specs.WordReading.{kind_named_by, dirs_read, places_read, reaches_read, communications_read, dependencies_read, plain_fences_read, riscv_fences_read, dir_named, sd_named, reach_named, com_named, dependency_named, plain_fence_named, riscv_fence_named, fence_named, communication, communication_of, two_sided, two_sided_of, one_sided, one_sided_of, read_as_communication, read_back_two_sided, read_back_one_sided, kind_read}
+use Rattle.relax_edges.specs.WordReading.{kind_named_by, dirs_read, places_read, dependencies_read, plain_fences_read, riscv_fences_read, dir_named, sd_named, reach_named, com_named, dependency_named, plain_fence_named, riscv_fence_named, fence_named, communication, communication_of, two_sided, two_sided_of, one_sided, one_sided_of, read_as_communication, read_back_two_sided, read_back_one_sided, kind_read}
 use Rattle.relax_edges.proofs.Ranks.{each_edge}
 
 -- what `find` finds passes the test
@@ -38,12 +36,6 @@ find_passes {A} test (y ∷ ys) x found =
 -- the kind that a text names has that text as its word
 pub named_is : {K : Type 0} (word : K → List ℕ) (kinds : List K) (text : List ℕ) (kind : K) → kind_named_by word kinds text ≡ Some kind → text ≡ word kind
 named_is word kinds text kind found = (bytes_eq-Decides text (word kind)).0 (find_passes (λ k. bytes_eq text (word k)) kinds kind found)
-
-named_in_one : {K : Type 0} (word : K → List ℕ) (one : K) (text : List ℕ) (kind : K) → kind_named_by word (one ∷ []) text ≡ Some kind → one ≡ kind
-named_in_one word one text kind found =
-    by_test (bytes_eq text (word one))
-    (λ t. let e : Some one ≡ Some kind = rw t at found in cc)
-    (λ f. let e : None ≡ Some kind = rw f at found in cc)
 
 -- whether a text is a spelling of an edge without marks
 abbrev pub is_kind_spelling : Kind → List ℕ → Bool
@@ -90,9 +82,6 @@ dir_is text dir found = named_is dir_word dirs_read text dir found
 
 sd_is : (text : List ℕ) (sd : Sd) → sd_named text ≡ Some sd → text ≡ sd_word sd
 sd_is text sd found = named_is sd_word places_read text sd found
-
-reach_is : (text : List ℕ) (reach : Reach) → reach_named text ≡ Some reach → text ≡ reach_word reach
-reach_is text reach found = named_is reach_word reaches_read text reach found
 
 dependency_is : (text : List ℕ) (kind : DepKind) → dependency_named text ≡ Some kind → text ≡ dependency_word kind
 dependency_is text kind found = named_is dependency_word dependencies_read text kind found
@@ -156,10 +145,6 @@ one_sided_word prefix s t (Some sd) (Some to) false (Some kind) edge a c d e fou
     (two_joined prefix (dependency_word kind) s t (sd_word sd) (dir_word to) (dependency_is prefix kind e) (sd_is (s ∷ []) sd a) (dir_is (t ∷ []) to c))
 one_sided_word prefix s t _ _ _ _ edge a c d e found = cc
 
--- what is read as a communication spells it
-co_is_spelling : (reach : Reach) → is_kind_spelling (kinds.Com coms.Ws reach) (codes "Co" ++ reach_word reach) ≡ true
-co_is_spelling reach = grind arith
-
 communication_spelled : (f s r : ℕ) (kind : Option Com) (reach : Option Reach) (edge : Kind)
     → com_named (f ∷ s ∷ []) ≡ kind → reach_named (r ∷ []) ≡ reach → communication kind reach ≡ Some edge → is_kind_spelling edge (f ∷ s ∷ r ∷ []) ≡ true
 communication_spelled f s r kind reach edge a b found = grind arith
@@ -222,14 +207,8 @@ ending_is_read prefix before last =
 no_reach : (kind : Option Com) → communication kind None ≡ None
 no_reach kind = grind arith
 
-no_target : (sd : Option Sd) (from : Option Dir) (po : Bool) (kind : Option FenceKind) → two_sided sd from None po kind ≡ None
-no_target sd from po kind = grind arith
-
 no_direction : (sd : Option Sd) (data_word : Bool) (kind : Option DepKind) → one_sided sd None data_word kind ≡ None
 no_direction sd data_word kind = grind arith
-
-no_source : (sd : Option Sd) (to : Option Dir) (po : Bool) (kind : Option FenceKind) → two_sided sd None to po kind ≡ None
-no_source sd to po kind = grind arith
 
 -- a letter of a direction is none of a reach or of a place
 word_alone : (dir : Dir) → (reach_named (dir_word dir) ≡ None) × (sd_named (dir_word dir) ≡ None)

@@ -6,7 +6,7 @@ use Rattle.std.proofs.lemmas.Bool.{ltb-false, false≢true}
 use Rattle.std.proofs.lemmas.List.Sums.{prefix_len-le-length}
 use Rattle.std.proofs.Common.{nat_lt, refl, arith, ap, sym, ◌∙◌}
 use Rattle.list_laws.proofs.Cases.{by_test}
-use Rattle.relax_edges.specs.RelaxText.{is_separator, is_bracket, ends_word, is_empty, words_of}
+use Rattle.relax_edges.specs.RelaxText.{is_separator, ends_word, is_empty, words_of}
 use Rattle.list_laws.proofs.Places.{before_first-no, position_or_len-no}
 use Rattle.relax_edges.proofs.ItemScan.{before_first-yes}
 

@@ -7,12 +7,10 @@ use Rattle.std.proofs.Common.{refl, arith, ap, subst, sym, ◌∙◌}
 use Rattle.std.proofs.lemmas.Bool.{eqb-true, false≢true}
 use Rattle.std.proofs.lemmas.Grind.{reverse_onto}
 use Rattle.std.proofs.lemmas.List.{reverse-reverse, reverse-append}
-use Rattle.std.proofs.lemmas.List.Sums.{AllPass-from_list_all}
 use Rattle.std.proofs.lemmas.Slice.Eq.{bytes_eq-Decides}
 use Rattle.list_laws.proofs.Cases.{by_test}
 use Rattle.relax_edges.specs.declared.kinds.Kind.{Kind}
 use Rattle.relax_edges.specs.declared.kinds.Mark.{Mark}
-use Rattle.relax_edges.specs.declared.kinds.Mark.TheVariants.{Plain, Acquire, Release}
 use Rattle.relax_edges.specs.declared.edge.Edge.{Edge}
 use Rattle.relax_edges.specs.EdgeTable.{kind_of, unmarked, marked_of, marked_edge}
 use Rattle.relax_edges.specs.Order.{rank_of}
@@ -94,10 +92,6 @@ word_is_spelling edge text same = rw same (each_edge is_word all_words edge)
 -- what spells an edge without marks is a spelling of the edge that marks no access
 is_unmarked_spelling : Kind → Bool
 is_unmarked_spelling kind = list_all (is_spelling (unmarked kind)) (kind_spellings kind)
-
-all_unmarked_spelled : list_all (λ edge. is_unmarked_spelling (kind_of edge)) edges_in_order ≡ true
-unfolding is_unmarked_spelling edges_in_order
-all_unmarked_spelled = refl
 
 unmarked_spelled : (kind : Kind) (text : List ℕ) → is_kind_spelling kind text ≡ true → is_spelling (unmarked kind) text ≡ true
 unfolding is_unmarked_spelling

@@ -1,15 +1,14 @@
 -- A word names the edges that its last two bytes choose.
-use Rattle.std.specs.Prelude.{ℕ, ◌≡◌, ◌<◌, ◌≤◌, ◌-◌, ◌==◌, ◌&&◌, Bool, true, false, cond, take, Option, Some, None, List, [], ◌∷◌, ◌++◌, length, map, codes}
+use Rattle.std.specs.Prelude.{ℕ, ◌≡◌, ◌<◌, ◌≤◌, ◌-◌, ◌==◌, ◌&&◌, true, false, cond, take, Option, Some, None, List, [], ◌∷◌, ◌++◌, length, map, codes}
 use Rattle.std.specs.List.{flat_map, filter_map, cons_option}
 use Rattle.std.specs.Option.{option_to_list}
 use Rattle.std.proofs.Common.{suc, get_or, refl, arith, ap, sym, ◌∙◌}
-use Rattle.std.proofs.lemmas.Bool.{le-ltb, eqb-true}
+use Rattle.std.proofs.lemmas.Bool.{le-ltb}
 use Rattle.std.proofs.lemmas.List.{take-append-drop, map-append, length-append, append-nil}
 use Rattle.std.proofs.Math.Seq.{drop-cons}
 use Rattle.std.proofs.Math.ListN.{drop_of_length-le}
 use Rattle.std.proofs.lemmas.List.Elements.{filter_map-append}
 use Rattle.std.proofs.Math.Bool.{and-false, and-true}
-use Rattle.list_laws.proofs.Cases.{by_test}
 use Rattle.relax_edges.specs.declared.edge.Edge.{Edge}
 use Rattle.relax_edges.specs.Spelling.{edge_of}
 use Rattle.relax_edges.specs.Relaxations.{byte_choices, expansions, word_edges}
@@ -83,14 +82,6 @@ unfolding word_edges
 word_edges_short [] short = rw (edge_of_short [] (omega arith)) refl
 word_edges_short (a ∷ []) short = rw (near_choice a) (ap (filter_map edge_of) (one_byte (star_choices a)) ∙ none_read (star_choices a))
 word_edges_short (a ∷ b ∷ rest) short = absurd (omega arith)
-
-length-filter_map : {A B : Type 0} (f : A → Option B) (xs : List A) → length (filter_map f xs) ≤ length xs
-length-filter_map f [] = omega arith
-length-filter_map f (x ∷ xs) = added (f x) (filter_map f xs) xs (length-filter_map f xs)
-  where
-    added : {A B : Type 0} (o : Option B) (ys : List B) (xs : List A) → length ys ≤ length xs → length (cons_option o ys) ≤ suc (length xs)
-    added None ys xs h = omega arith
-    added (Some y) ys xs h = omega arith
 
 -- a byte has at most two choices
 pub edges_by_last_few : (prefix : List ℕ) (before last : ℕ) → length (edges_by_last prefix before last) ≤ 2

@@ -1,6 +1,6 @@
 -- The word of each edge in a table of the words of all edges, in order.
 use Rattle.std.specs.Prelude.{ℕ, ◌≡◌, ◌<◌, List, [], length, map}
-use Rattle.std.proofs.Common.{sym, ◌∙◌, ap, get_or, arith}
+use Rattle.std.proofs.Common.{◌∙◌, get_or, arith}
 use Rattle.std.proofs.lemmas.List.{length-map, get_or-map}
 use Rattle.std.proofs.lemmas.Option.{slice_get_within, get_or_from_slice_get}
 use Rattle.relax_edges.specs.declared.edge.Edge.{Edge}

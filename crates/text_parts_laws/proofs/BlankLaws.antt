@@ -1,13 +1,12 @@
 -- Blanks at the ends of a text: how a walk from its end finds the text without them, and what is known of that text.
-use Rattle.std.proofs.Common.{◌≡◌, ℕ, zero, suc, ◌-◌, ◌<◌, ◌≤◌, List, [], ◌∷◌, ◌++◌, true, false, length, get_or, take, refl, sym, ap, ◌∙◌, arith}
+use Rattle.std.proofs.Common.{◌≡◌, ℕ, zero, suc, ◌-◌, ◌<◌, ◌≤◌, List, [], ◌∷◌, ◌++◌, true, false, length, get_or, take, refl, ap, ◌∙◌, arith}
 use Rattle.std.specs.Prelude.{Bool}
 use Rattle.std.specs.List.{list_all}
 use Rattle.std.proofs.Math.ListN.{replicate}
-use Rattle.std.proofs.lemmas.Bool.{and_parts, and_from, not-true}
-use Rattle.list_laws.proofs.Cases.{by_test}
+use Rattle.std.proofs.lemmas.Bool.{and_from}
 use Rattle.text_parts_laws.specs.Blanks.{is_blank, is_inked, kept_before, before_blanks, unblanked, trim_blanks}
 use Rattle.text_parts_laws.specs.LeadingRuns.{after_run}
-use Rattle.text_parts_laws.proofs.RunLaws.{after_halts, after_class}
+use Rattle.text_parts_laws.proofs.RunLaws.{after_class}
 
 -- a blank at the end falls away
 last_blank : (text : List ℕ) (byte : ℕ) → is_blank byte ≡ true → before_blanks (text ++ byte ∷ []) ≡ before_blanks text
@@ -89,9 +88,6 @@ pub before_blanks-le : (text : List ℕ) → length (before_blanks text) ≤ len
 unfolding before_blanks
 before_blanks-le [] = omega arith
 before_blanks-le (b ∷ text) = grind (arith, (before_blanks-le text))
-
-kept_class : (p : ℕ → Bool) (b : ℕ) (text : List ℕ) → p b ≡ true → list_all p text ≡ true → list_all p (kept_before b text) ≡ true
-kept_class p b text h k = grind arith
 
 -- a test that all bytes of a text pass is passed by those before the blanks at its end
 pub before_class : (p : ℕ → Bool) (text : List ℕ) → list_all p text ≡ true → list_all p (before_blanks text) ≡ true

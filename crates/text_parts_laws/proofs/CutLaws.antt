@@ -1,7 +1,7 @@
 -- A cut at the first place of a byte.
-use Rattle.std.proofs.Common.{◌≡◌, ◌==◌, ◌+◌, ◌-◌, ◌<◌, ◌≤◌, ℕ, zero, suc, List, [], ◌∷◌, ◌++◌, Some, None, true, get_or, take, drop, length, length-append, refl, sym, ap, ◌∙◌, arith, add-one, false}
+use Rattle.std.proofs.Common.{◌≡◌, ◌==◌, ◌+◌, ◌-◌, ◌<◌, ◌≤◌, ℕ, zero, suc, List, [], ◌∷◌, ◌++◌, Some, None, true, get_or, take, drop, length, length-append, refl, sym, ap, ◌∙◌, arith, false}
 use Rattle.std.specs.Prelude.{not, Bool, Option}
-use Rattle.std.proofs.lemmas.Bool.{eqb-true, eq-eqb, and_parts, not-true, and_from}
+use Rattle.std.proofs.lemmas.Bool.{eq-eqb, and_from}
 use Rattle.std.proofs.lemmas.List.{take-append-drop}
 use Rattle.std.proofs.Math.Seq.{drop-cons, take-length}
 use Rattle.list_laws.proofs.Cases.{by_test}

@@ -1,10 +1,8 @@
 -- The carriage return at the end of a line, and the first line of a text.
 use Rattle.std.proofs.Common.{◌≡◌, ◌==◌, ℕ, ◌-◌, ◌<◌, ◌≤◌, List, [], ◌∷◌, ◌++◌, true, false, length, get_or, take, refl, sym, ap, ◌∙◌, arith}
-use Rattle.std.specs.Prelude.{Bool, cond, map}
+use Rattle.std.specs.Prelude.{Bool, cond}
 use Rattle.std.specs.List.{list_all, All}
-use Rattle.std.proofs.lemmas.Bool.{eqb-true, and_parts}
-use Rattle.list_laws.proofs.Cases.{by_test}
-use Rattle.text_parts_laws.specs.Lines.{without_return, is_line_feed, but_last, last_of, whole_lines, ended_lines, unended, last_line, lines_of}
+use Rattle.text_parts_laws.specs.Lines.{without_return, is_line_feed, whole_lines, ended_lines, unended, lines_of}
 use Rattle.text_parts_laws.proofs.BlankLaws.{split_at_last}
 use Rattle.std.proofs.lemmas.List.Splits.{slice_split_at}
 use Rattle.text_parts_laws.proofs.PieceLaws.{first_piece}
@@ -31,9 +29,6 @@ pub return_none : (text : List ℕ) → length text < 1 → without_return text 
 unfolding without_return
 return_none [] h = refl
 return_none (b ∷ text) h = absurd (omega arith)
-
-not_return : (p : ℕ → Bool) (byte : ℕ) → p 13 ≡ false → p byte ≡ true → (byte == 13) ≡ false
-not_return p byte fails passes = grind arith
 
 -- a line whose bytes all pass a test that the carriage return fails stays as it is
 pub class_kept : (p : ℕ → Bool) (text : List ℕ) → p 13 ≡ false → list_all p text ≡ true → without_return text ≡ text

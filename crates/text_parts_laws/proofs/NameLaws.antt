@@ -6,10 +6,9 @@ use Rattle.std.specs.Char.{is_ascii, is_ascii_alphabetic, is_ascii_alphanumeric,
 use Rattle.std.specs.Fmt.{decimal}
 use Rattle.std.specs.List.{list_all}
 use Rattle.std.specs.Str.{IsAscii, IsUtf8}
-use Rattle.std.proofs.lemmas.Bool.{and_parts, and_from, leb-true, ltb-true}
-use Rattle.std.proofs.lemmas.Bool.Decides.{nat_tests}
+use Rattle.std.proofs.lemmas.Bool.{and_from}
 use Rattle.std.proofs.lemmas.Str.{IsUtf8-from_ascii}
-use Rattle.std.proofs.lemmas.Str.Ascii.{IsAscii-nil, IsAscii-cons}
+use Rattle.std.proofs.lemmas.Str.Ascii.{IsAscii-nil}
 use Rattle.list_laws.proofs.Digits.{digits_of}
 use Rattle.list_laws.proofs.Elements.{list_all-weaker, rest-cons}
 use Rattle.text_parts_laws.specs.Names.{begins_place, is_place_byte, is_place_name, is_register_name}
@@ -56,9 +55,6 @@ pub record Shaped (first others : ℕ → Bool) (name : List ℕ) : Type 0 where
   pub begins : first byte ≡ true
   pub goes_on : list_all others bytes ≡ true
   pub short : length name ≤ 16
-
-shaped : (first others : ℕ → Bool) (byte : ℕ) (bytes : List ℕ) → (first byte && list_all others bytes && nat_le (length (byte ∷ bytes)) 16) ≡ true → Shaped first others (byte ∷ bytes)
-shaped first others byte bytes h = grind arith
 
 -- the name of a place has that shape
 pub place_shaped : (name : List ℕ) → is_place_name name ≡ true → Shaped begins_place is_place_byte name

@@ -1,5 +1,5 @@
 -- Texts in byte order, and texts that are put in order one after another.
-use Rattle.std.specs.Ordering.{nat_cmp, is_eq, match_ordering, ordering_reverse}
+use Rattle.std.specs.Ordering.{nat_cmp, is_eq, ordering_reverse}
 use Rattle.std.specs.Cmp.{IsTotalOrder, nat_cmp_total}
 use Rattle.std.specs.Cmp.Lexicographic.{slice_cmp, lists_total}
 use Rattle.std.proofs.Common.{◌≡◌, ℕ, List, sym, ap, ◌∙◌, [], ◌∷◌, refl, false, true, arith}
@@ -11,7 +11,7 @@ use Rattle.std.specs.List.{AllByRecursion, list_any}
 use Rattle.std.specs.BTreeSet.{insert_key}
 use Rattle.std.specs.Prelude.{fold, Bool, ◌||◌}
 use Rattle.std.specs.Str.{bytes_eq}
-use Rattle.std.proofs.Math.Bool.{or-false, or_assoc, or_comm}
+use Rattle.std.proofs.Math.Bool.{or-false}
 
 -- byte order is a total order of texts
 pub order : IsTotalOrder (slice_cmp nat_cmp)
@@ -65,9 +65,6 @@ not_equal k x o e f = sym (is_eq-slice_cmp k x) ∙ ap is_eq e ∙ f
 pub none_above : (k : List ℕ) (xs : List (List ℕ)) → Above k xs → list_any (bytes_eq k) xs ≡ false
 none_above k [] a = refl
 none_above k (x ∷ xs) a = rw (not_equal k x Less a.0 refl) (none_above k xs a.1)
-
-exchange : (a b c : Bool) → a || (b || c) ≡ b || (a || c)
-exchange a b c = grind arith
 
 -- what is in texts where one more was put in order
 pub any_insert : (p : List ℕ → Bool) (k : List ℕ) (texts : List (List ℕ)) → list_any p (insert_key (slice_cmp nat_cmp) texts k) ≡ p k || list_any p texts
