@@ -2,16 +2,14 @@
 -- all its accesses.
 use Rattle.std.proofs.Common.{◌≡◌, ℕ, ◌+◌, ◌-◌, ◌<◌, List, length, map, Some, slice_get, refl, sym, ◌∙◌, ap, arith}
 use Rattle.std.proofs.lemmas.Option.{slice_get_within}
-use Rattle.relax_edges.specs.declared.kinds.ObsMode.{ObsMode}
-use Rattle.relax_edges.specs.declared.edge.Edge.{Edge}
+use Rattle.relax_edges.specs.declared.{kinds.ObsMode.ObsMode, edge.Edge.Edge}
 use Rattle.list_laws.specs.Numbers.{upto}
 use Rattle.list_laws.proofs.Cases.{by_less}
 use Rattle.list_laws.proofs.Numbers.{length-map-upto, slice_get-map-upto, slice_get-upto, length-upto}
 use Rattle.cycle_events.specs.Resolution.{external_count, thread_of, slot_of, events_in}
 use Rattle.cycle_events.specs.Values.{write_count}
 use Rattle.program_meaning.specs.declared.WriteAt.{WriteAt}
-use Rattle.program_meaning.specs.Accesses.{Access, read, at_name}
-use Rattle.program_meaning.specs.Standing.{event_name}
+use Rattle.program_meaning.specs.{Accesses.Access, Accesses.read, Accesses.at_name, Standing.event_name}
 use Rattle.program_meaning.specs.Intended.{observed_locations, event_access, observer_accesses, cycle_accesses}
 use Rattle.program_meaning.proofs.Names.{GotFrom, got_from_list}
 use Rattle.accesses_force_cycles.proofs.Lists.{slice_get-append_left, slice_get-append_right, image_of, got_map}

@@ -2,8 +2,7 @@
 use Rattle.std.proofs.Common.{◌≡◌, ℕ, suc, ◌+◌, ◌-◌, ◌<◌, ◌≤◌, List, [], ◌∷◌, length, map, Some, slice_get, refl, sym, ◌∙◌, ap, subst, arith, length-append}
 use Rattle.std.proofs.lemmas.List.{length-map}
 use Rattle.relax_edges.specs.declared.kinds.Dir.TheVariants as dirs
-use Rattle.relax_edges.specs.declared.kinds.ObsMode.{ObsMode}
-use Rattle.relax_edges.specs.declared.edge.Edge.{Edge}
+use Rattle.relax_edges.specs.declared.{kinds.ObsMode.ObsMode, edge.Edge.Edge}
 use Rattle.list_laws.specs.Numbers.{upto}
 use Rattle.list_laws.proofs.Numbers.{length-map-upto}
 use Rattle.cycle_events.specs.Resolution.{edge_at, external_count, event_after, events_in}
@@ -11,19 +10,13 @@ use Rattle.cycle_events.proofs.Around.{after_below}
 use Rattle.cycle_events.specs.Values.{write_count}
 use Rattle.program_meaning.specs.declared.WriteAt.{WriteAt}
 use Rattle.program_meaning.specs.Accesses.{Access, Visit, read, accesses_of, got_from, at_name}
-use Rattle.program_meaning.specs.Executions.{Execution}
-use Rattle.program_meaning.specs.Programs.{Program, visits_in, accesses_in}
+use Rattle.program_meaning.specs.{Executions.Execution, Programs.Program, Programs.visits_in, Programs.accesses_in}
 use Rattle.program_meaning.specs.Standing.{AccessAt, NamedAccess, access_at, IsEvent, Observes, HasEvents, AllStand, Joins, event_name}
 use Rattle.program_meaning.specs.Intended.{IsNumbering, event_access, event_at, observer_accesses, observed_locations, cycle_accesses}
-use Rattle.program_meaning.proofs.Names.{got_from_list}
-use Rattle.program_meaning.proofs.Runs.{accesses-count}
-use Rattle.accesses_force_cycles.specs.Premises.{MeetsCondition}
-use Rattle.accesses_force_cycles.specs.Joining.{AreFree, IsTiedUp}
-use Rattle.accesses_force_cycles.specs.Laws.{AllJoin}
-use Rattle.accesses_force_cycles.proofs.Lists.{image_of, got_map}
-use Rattle.accesses_force_cycles.proofs.Accesses.{thread_accesses, observer_thread, event_at_name}
-use Rattle.accesses_force_cycles.proofs.EdgesJoin.{edges_join}
-use Rattle.accesses_force_cycles.proofs.Resolves.{Resolves, EntersLast}
+use Rattle.program_meaning.proofs.{Names.got_from_list, Runs.accesses-count}
+use Rattle.accesses_force_cycles.specs.{Premises.MeetsCondition, Joining.AreFree, Joining.IsTiedUp, Laws.AllJoin}
+use Rattle.accesses_force_cycles.proofs.{Lists.image_of, Lists.got_map, Accesses.thread_accesses, Accesses.observer_thread, Accesses.event_at_name}
+use Rattle.accesses_force_cycles.proofs.{EdgesJoin.edges_join, Resolves.Resolves, Resolves.EntersLast}
 
 -- a visit at a name gives the access at that name
 pub access_of_visit : (visits : List (List Visit)) (name : WriteAt) (visit : Visit) → at_name visits name ≡ Some visit → at_name (map accesses_of visits) name ≡ Some visit.access

@@ -1,17 +1,12 @@
 -- A resolved cycle has the facts that the executions rest on.
 use Rattle.std.proofs.Common.{◌≡◌, ◌≢◌, ℕ, ◌+◌, ◌<◌, ◌≤◌, true, false, cond, List, length, Some, refl, sym, ◌∙◌, ap, arith, add-one}
-use Rattle.std.specs.Prelude.{◌==◌}
-use Rattle.std.specs.List.{count_by}
+use Rattle.std.specs.{Prelude.◌==◌, List.count_by}
 use Rattle.std.proofs.lemmas.Bool.{cond-true, cond-false, eqb-true, eq-eqb}
 use Rattle.list_laws.specs.Numbers.{upto}
 use Rattle.list_laws.proofs.Counts.{count_upto_past}
-use Rattle.relax_edges.specs.declared.kinds.Dir.{Dir}
+use Rattle.relax_edges.specs.declared.{kinds.Dir.Dir, kinds.Sd.Sd, kinds.Sd.TheVariants.Same, kinds.Sd.TheVariants.Diff, kinds.Reach.Reach}
+use Rattle.relax_edges.specs.declared.{kinds.Reach.TheVariants.Internal, kinds.Reach.TheVariants.External, edge.Edge.Edge}
 use Rattle.relax_edges.specs.declared.kinds.Dir.TheVariants as dirs
-use Rattle.relax_edges.specs.declared.kinds.Sd.{Sd}
-use Rattle.relax_edges.specs.declared.kinds.Sd.TheVariants.{Same, Diff}
-use Rattle.relax_edges.specs.declared.kinds.Reach.{Reach}
-use Rattle.relax_edges.specs.declared.kinds.Reach.TheVariants.{Internal, External}
-use Rattle.relax_edges.specs.declared.edge.Edge.{Edge}
 use Rattle.relax_edges.specs.EdgeTable.{source_of, sd_of, reach_of, is_external, is_diff, same_dir}
 use Rattle.cycle_events.specs.Resolution.{IsResolved, edge_at, move_count, thread_of, slot_of, location_of, event_after}
 use Rattle.cycle_events.proofs.Threads.{thread_out, event_in_slot, slot_of_event}

@@ -1,24 +1,17 @@
 -- Each edge of a cycle joins its events in the intended execution, and so in each one that meets the condition.
 use Rattle.std.proofs.Common.{◌≡◌, ℕ, ◌+◌, ◌<◌, List, length, Some, refl, sym, ◌∙◌, ap, arith}
 use Rattle.relax_edges.specs.declared.kinds.Dir.TheVariants as dirs
-use Rattle.relax_edges.specs.declared.kinds.Sd.TheVariants.{Same}
-use Rattle.relax_edges.specs.declared.kinds.ObsMode.{ObsMode}
-use Rattle.relax_edges.specs.declared.kinds.Kind.{Kind}
-use Rattle.relax_edges.specs.declared.edge.Edge.{Edge}
+use Rattle.relax_edges.specs.declared.{kinds.Sd.TheVariants.Same, kinds.ObsMode.ObsMode, kinds.Kind.Kind, edge.Edge.Edge}
 use Rattle.relax_edges.specs.EdgeTable.{kind_of, source_of, target_of, sd_of}
-use Rattle.cycle_events.specs.Resolution.{edge_at, location_of, event_after}
+use Rattle.cycle_events.specs.{Resolution.edge_at, Resolution.location_of, Resolution.event_after, Values.value_of}
 use Rattle.cycle_events.proofs.Around.{after_below}
-use Rattle.cycle_events.specs.Values.{value_of}
-use Rattle.program_meaning.specs.Executions.{Execution}
-use Rattle.program_meaning.specs.Coherence.{source_at}
+use Rattle.program_meaning.specs.{Executions.Execution, Coherence.source_at}
 use Rattle.program_meaning.specs.Standing.{CommunicatesBy, ComesBefore, Joins, event_name}
 use Rattle.program_meaning.specs.Intended.{IsNumbering, event_access, event_at, cycle_accesses, write_of, intended}
 use Rattle.accesses_force_cycles.specs.Premises.{MeetsCondition}
-use Rattle.accesses_force_cycles.proofs.Numbering.{location_of_number}
-use Rattle.accesses_force_cycles.proofs.Accesses.{event_at_name}
-use Rattle.accesses_force_cycles.proofs.IntendedOrders.{placed_write, place_is_value}
-use Rattle.accesses_force_cycles.proofs.OnlyOne.{only_the_intended}
-use Rattle.accesses_force_cycles.proofs.Resolves.{Resolves, EntersLast, written_by}
+use Rattle.accesses_force_cycles.proofs.{Numbering.location_of_number, Accesses.event_at_name, IntendedOrders.placed_write}
+use Rattle.accesses_force_cycles.proofs.{IntendedOrders.place_is_value, OnlyOne.only_the_intended, Resolves.Resolves, Resolves.EntersLast}
+use Rattle.accesses_force_cycles.proofs.{Resolves.written_by}
 
 -- along an edge that keeps the location, the value stays at a read and grows by one at a write
 value_along : (es : List Edge) (i : ℕ) → Resolves es → i < length es → sd_of (edge_at es i) ≡ Same → value_of es (event_after es i) ≡ value_of es i + written_by (target_of (edge_at es i))

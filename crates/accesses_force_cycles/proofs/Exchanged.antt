@@ -1,41 +1,32 @@
 -- Where an external edge enters an inner write of a location without an observer, the exchanged execution is coherent and
 -- has the reads and the final values of the intended one, but the edge doesn't stand in it.
 use Rattle.std.proofs.Common.{◌≡◌, ℕ, zero, suc, ◌+◌, ◌<◌, ◌≤◌, true, false, List, [], length, Some, slice_get, refl, sym, ◌∙◌, ap, subst, arith, add-one}
-use Rattle.std.specs.Prelude.{◌==◌}
-use Rattle.std.specs.List.{filter_map}
-use Rattle.std.specs.Option.{option_and_then}
+use Rattle.std.specs.{Prelude.◌==◌, List.filter_map, Option.option_and_then}
 use Rattle.std.proofs.lemmas.Bool.{cond-true, cond-false, eq-eqb, ne_eqb}
 use Rattle.std.proofs.lemmas.Option.{slice_get_within}
-use Rattle.relax_edges.specs.declared.kinds.Dir.{Dir}
+use Rattle.relax_edges.specs.declared.{kinds.Dir.Dir, kinds.Sd.TheVariants.Same, kinds.Reach.TheVariants.Internal, kinds.Reach.TheVariants.External}
+use Rattle.relax_edges.specs.declared.{kinds.ObsMode.TheVariants.Avoid, edge.Edge.Edge}
 use Rattle.relax_edges.specs.declared.kinds.Dir.TheVariants as dirs
-use Rattle.relax_edges.specs.declared.kinds.Sd.TheVariants.{Same}
-use Rattle.relax_edges.specs.declared.kinds.Reach.TheVariants.{Internal, External}
-use Rattle.relax_edges.specs.declared.kinds.ObsMode.TheVariants.{Avoid}
-use Rattle.relax_edges.specs.declared.edge.Edge.{Edge}
 use Rattle.relax_edges.specs.EdgeTable.{source_of, sd_of, reach_of}
 use Rattle.list_laws.specs.Numbers.{upto}
-use Rattle.list_laws.proofs.Cases.{by_same, by_less}
+use Rattle.list_laws.proofs.{Cases.by_same, Cases.by_less, Ranks.unrank_upto}
 use Rattle.list_laws.proofs.Numbers.{length-map-upto, length-upto, slice_get-upto, slice_get-map-upto}
-use Rattle.list_laws.proofs.Ranks.{unrank_upto}
 use Rattle.cycle_events.specs.Resolution.{edge_at, move_count, thread_of, location_of, event_after, event_before}
 use Rattle.cycle_events.proofs.Around.{by_after, before_below, after_before}
 use Rattle.cycle_events.specs.Values.{value_of, write_count, is_observed, edge_into}
 use Rattle.program_meaning.specs.declared.WriteAt.{WriteAt}
-use Rattle.program_meaning.specs.Accesses.{Access, at_name}
-use Rattle.program_meaning.specs.Executions.{IsExecutionOf, IsOrderOf}
+use Rattle.program_meaning.specs.{Accesses.Access, Accesses.at_name, Executions.IsExecutionOf, Executions.IsOrderOf, Standing.Joins}
+use Rattle.program_meaning.specs.{Standing.event_name}
 use Rattle.program_meaning.specs.Coherence.{MayFollow, IsCoherent, order_at, coherence_place, last_write, value_of_access, final_value}
-use Rattle.program_meaning.specs.Standing.{Joins, event_name}
 use Rattle.program_meaning.specs.Intended.{IsNumbering, event_access, event_at, cycle_accesses, ordered_write, location_order, location_numbered, intended}
 use Rattle.accesses_force_cycles.specs.Premises.{MeetsCondition}
 use Rattle.accesses_force_cycles.specs.Exchange.{swapped, exchanged_value, exchanged_order, exchanged}
-use Rattle.accesses_force_cycles.proofs.Lists.{image_of}
-use Rattle.accesses_force_cycles.proofs.Numbering.{Numbers, numbering_onto, location_of_number}
-use Rattle.accesses_force_cycles.proofs.Accesses.{EventAt, by_origin, event_at_name}
+use Rattle.accesses_force_cycles.proofs.{Lists.image_of, Numbering.Numbers, Numbering.numbering_onto, Numbering.location_of_number, Accesses.EventAt}
+use Rattle.accesses_force_cycles.proofs.{Accesses.by_origin, Accesses.event_at_name, IntendedOrders.intended_order, IntendedOrders.placed_write}
+use Rattle.accesses_force_cycles.proofs.{IntendedExists.values_follow, IntendedExists.last_of_order, IntendedExists.intended_meets}
+use Rattle.accesses_force_cycles.proofs.{Swaps.swapped_here, Swaps.swapped_before, Swaps.follows_still}
 use Rattle.accesses_force_cycles.proofs.IntendedReads.{IsPlaced, placed, reads-count, intended_are_reads}
-use Rattle.accesses_force_cycles.proofs.IntendedOrders.{intended_order, placed_write}
-use Rattle.accesses_force_cycles.proofs.IntendedExists.{values_follow, last_of_order, intended_meets}
 use Rattle.accesses_force_cycles.proofs.Rearranged.{Exchanges, order_under, place_under, order_under_is, last_under, empty_under}
-use Rattle.accesses_force_cycles.proofs.Swaps.{swapped_here, swapped_before, follows_still}
 use Rattle.accesses_force_cycles.proofs.Resolves.{Resolves, InnerEntry, later_slot, written_by}
 
 -- at the event's location two values are exchanged, at the others none

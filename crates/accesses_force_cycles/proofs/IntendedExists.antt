@@ -1,10 +1,8 @@
 -- The intended execution is an execution of the cycle's accesses, it is coherent per location, and each location's place
 -- has its last value at the end.
 use Rattle.std.proofs.Common.{◌≡◌, ℕ, zero, suc, ◌+◌, ◌<◌, ◌≤◌, List, length, Some, slice_get, refl, sym, ◌∙◌, ap, subst, arith}
-use Rattle.relax_edges.specs.declared.kinds.Dir.{Dir}
+use Rattle.relax_edges.specs.declared.{kinds.Dir.Dir, kinds.ObsMode.ObsMode, edge.Edge.Edge}
 use Rattle.relax_edges.specs.declared.kinds.Dir.TheVariants as dirs
-use Rattle.relax_edges.specs.declared.kinds.ObsMode.{ObsMode}
-use Rattle.relax_edges.specs.declared.edge.Edge.{Edge}
 use Rattle.relax_edges.specs.EdgeTable.{source_of}
 use Rattle.list_laws.specs.Numbers.{upto}
 use Rattle.list_laws.proofs.Numbers.{length-map-upto, length-upto, slice_get-upto}
@@ -12,20 +10,15 @@ use Rattle.std.proofs.lemmas.Option.{slice_get_within}
 use Rattle.cycle_events.specs.Resolution.{edge_at, move_count, thread_of, location_of}
 use Rattle.cycle_events.specs.Values.{value_of, write_count}
 use Rattle.program_meaning.specs.declared.WriteAt.{WriteAt}
-use Rattle.program_meaning.specs.Accesses.{Access, at_name}
-use Rattle.program_meaning.specs.Executions.{IsExecutionOf, IsOrderOf}
+use Rattle.program_meaning.specs.{Accesses.Access, Accesses.at_name, Executions.IsExecutionOf, Executions.IsOrderOf, Standing.event_name}
 use Rattle.program_meaning.specs.Coherence.{MayFollow, IsCoherent, last_write, final_value}
-use Rattle.program_meaning.specs.Standing.{event_name}
 use Rattle.program_meaning.specs.Intended.{IsNumbering, cycle_accesses, ordered_write, location_order, location_numbered, intended}
 use Rattle.accesses_force_cycles.specs.Premises.{MeetsCondition}
-use Rattle.accesses_force_cycles.proofs.Lists.{image_of, length-filter_map-upto, slice_get-filter_map-upto}
-use Rattle.accesses_force_cycles.proofs.Orders.{Holds, order_given}
-use Rattle.accesses_force_cycles.proofs.Numbering.{numbering_onto}
-use Rattle.accesses_force_cycles.proofs.Accesses.{EventAt, LoadAt, by_origin}
+use Rattle.accesses_force_cycles.proofs.{Lists.image_of, Lists.length-filter_map-upto, Lists.slice_get-filter_map-upto, Orders.Holds}
+use Rattle.accesses_force_cycles.proofs.{Orders.order_given, Numbering.numbering_onto, Accesses.EventAt, Accesses.LoadAt, Accesses.by_origin}
+use Rattle.accesses_force_cycles.proofs.{IntendedReads.reads-count, IntendedReads.intended_are_reads, IntendedOrders.gives_writes}
+use Rattle.accesses_force_cycles.proofs.{IntendedOrders.intended_order, IntendedOrders.place_is_value, Resolves.Resolves, Resolves.later_slot}
 use Rattle.accesses_force_cycles.proofs.WriteEvents.{nth_write, write_event, write_at_name, ordered_write-is, rank_below}
-use Rattle.accesses_force_cycles.proofs.IntendedReads.{reads-count, intended_are_reads}
-use Rattle.accesses_force_cycles.proofs.IntendedOrders.{gives_writes, intended_order, place_is_value}
-use Rattle.accesses_force_cycles.proofs.Resolves.{Resolves, later_slot}
 
 -- the order of a location holds its writes
 held_by_order : (es : List Edge) (l : ℕ) → Resolves es → Holds (location_order es l) (ordered_write es l) (write_count es l)

@@ -1,27 +1,20 @@
 -- The coherence order of a location's place: in an execution it holds the location's writes, and in the intended one
 -- they come in the order of their values, so that the coherence place of each access is its value.
 use Rattle.std.proofs.Common.{◌≡◌, ℕ, zero, suc, ◌<◌, ◌≤◌, List, length, Some, slice_get, refl, sym, ◌∙◌, ap, subst, arith, add-one}
-use Rattle.relax_edges.specs.declared.kinds.Dir.{Dir}
+use Rattle.relax_edges.specs.declared.{kinds.Dir.Dir, kinds.ObsMode.ObsMode, edge.Edge.Edge}
 use Rattle.relax_edges.specs.declared.kinds.Dir.TheVariants as dirs
-use Rattle.relax_edges.specs.declared.kinds.ObsMode.{ObsMode}
-use Rattle.relax_edges.specs.declared.edge.Edge.{Edge}
 use Rattle.list_laws.proofs.Numbers.{slice_get-map-upto}
-use Rattle.cycle_events.specs.Resolution.{move_count}
-use Rattle.cycle_events.specs.Values.{value_of, write_count}
+use Rattle.cycle_events.specs.{Resolution.move_count, Values.value_of, Values.write_count}
 use Rattle.program_meaning.specs.declared.WriteAt.{WriteAt}
-use Rattle.program_meaning.specs.Accesses.{Access, at_name}
-use Rattle.program_meaning.specs.Executions.{Execution, IsExecutionOf, IsOrderOf}
+use Rattle.program_meaning.specs.{Accesses.Access, Accesses.at_name, Executions.Execution, Executions.IsExecutionOf, Executions.IsOrderOf}
+use Rattle.program_meaning.specs.{Standing.event_name}
 use Rattle.program_meaning.specs.Coherence.{order_place, order_at, placed_by, coherence_place}
-use Rattle.program_meaning.specs.Standing.{event_name}
 use Rattle.program_meaning.specs.Intended.{IsNumbering, cycle_accesses, ordered_write, write_of, location_order, location_numbered, intended}
 use Rattle.program_meaning.proofs.Names.{GotFrom, got_from_list}
-use Rattle.accesses_force_cycles.proofs.Lists.{got_below}
-use Rattle.accesses_force_cycles.proofs.Orders.{Holds, Gives, place_given}
-use Rattle.accesses_force_cycles.proofs.Numbering.{location_of_number}
+use Rattle.accesses_force_cycles.proofs.{Lists.got_below, Orders.Holds, Orders.Gives, Orders.place_given, Numbering.location_of_number}
+use Rattle.accesses_force_cycles.proofs.{ReadLists.source_given, Resolves.Resolves}
 use Rattle.accesses_force_cycles.proofs.WriteEvents.{nth_write, write_event, write_at_name, ordered_write-is, rank_below, source_fixed}
-use Rattle.accesses_force_cycles.proofs.ReadLists.{source_given}
 use Rattle.accesses_force_cycles.proofs.IntendedReads.{IsPlaced, placed, source_for, intended_reads}
-use Rattle.accesses_force_cycles.proofs.Resolves.{Resolves}
 
 -- events of one name are one event
 pub same_event : (es : List Edge) (i j : ℕ) → Resolves es → i < length es → j < length es → event_name es i ≡ event_name es j → i ≡ j

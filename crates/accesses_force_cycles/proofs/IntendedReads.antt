@@ -2,11 +2,8 @@
 use Rattle.std.proofs.Common.{◌≡◌, ℕ, ◌+◌, ◌-◌, ◌<◌, ◌≤◌, List, length, map, Option, Some, slice_get, refl, sym, ◌∙◌, ap, subst, arith, add-one, length-append}
 use Rattle.std.specs.List.{filter}
 use Rattle.std.proofs.lemmas.List.{length-map}
-use Rattle.relax_edges.specs.declared.kinds.ObsMode.{ObsMode}
-use Rattle.relax_edges.specs.declared.edge.Edge.{Edge}
-use Rattle.list_laws.proofs.Cases.{by_less}
-use Rattle.list_laws.proofs.Numbers.{length-map-upto, slice_get-map-upto}
-use Rattle.list_laws.proofs.Ranks.{unrank_upto}
+use Rattle.relax_edges.specs.declared.{kinds.ObsMode.ObsMode, edge.Edge.Edge}
+use Rattle.list_laws.proofs.{Cases.by_less, Numbers.length-map-upto, Numbers.slice_get-map-upto, Ranks.unrank_upto}
 use Rattle.cycle_events.specs.Resolution.{external_count, move_count, location_of, events_in}
 use Rattle.cycle_events.specs.Values.{value_of, write_count, is_observed}
 use Rattle.program_meaning.specs.declared.WriteAt.{WriteAt}
@@ -14,11 +11,9 @@ use Rattle.program_meaning.specs.Accesses.{Access, got_from, at_name, is_read}
 use Rattle.program_meaning.specs.Executions.{Execution, IsExecutionOf, AreReadsOf, CanRead}
 use Rattle.program_meaning.specs.Intended.{IsNumbering, observed_locations, event_access, observer_accesses, cycle_accesses, write_of, event_read, observer_reads, reads_in, location_numbered, intended}
 use Rattle.accesses_force_cycles.proofs.Lists.{slice_get-append_left, slice_get-append_right, same_below, got_below, image_of, got_map, map_same, map-map, filter-map, filter_all, kept}
-use Rattle.accesses_force_cycles.proofs.Numbering.{location_of_number}
+use Rattle.accesses_force_cycles.proofs.{Numbering.location_of_number, WriteEvents.source_fixed, WriteEvents.can_read, ReadLists.reads_by_source}
+use Rattle.accesses_force_cycles.proofs.{ReadLists.reads_given, ReadLists.reads_fixed, Resolves.Resolves}
 use Rattle.accesses_force_cycles.proofs.Accesses.{EventAt, LoadAt, by_origin, thread_accesses, observer_thread}
-use Rattle.accesses_force_cycles.proofs.WriteEvents.{source_fixed, can_read}
-use Rattle.accesses_force_cycles.proofs.ReadLists.{reads_by_source, reads_given, reads_fixed}
-use Rattle.accesses_force_cycles.proofs.Resolves.{Resolves}
 
 -- the write that an access reads in the intended execution: that of its value at its place's location
 abbrev pub source_for : List Edge → (ℕ → ℕ) → Access → Option WriteAt

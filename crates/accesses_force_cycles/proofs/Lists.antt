@@ -1,12 +1,8 @@
 -- Lists by their elements: joined lists, equal lists, what a map and a filter hold, and the place of an element.
 use Rattle.std.proofs.Common.{◌≡◌, ℕ, zero, suc, ◌+◌, ◌<◌, Bool, true, cond, List, [], ◌∷◌, ◌++◌, length, map, Option, Some, None, slice_get, take, refl, sym, ◌∙◌, ap, arith}
-use Rattle.std.specs.List.{count_by, filter, filter_map}
-use Rattle.std.specs.Option.{option_map}
-use Rattle.std.proofs.lemmas.Bool.{cond-true, cond-false}
-use Rattle.std.proofs.lemmas.Option.{slice_get-map, slice_get_past}
-use Rattle.std.proofs.lemmas.List.Elements.{filter_map-append}
-use Rattle.std.proofs.lemmas.List.Sums.{sum_by-cons}
-use Rattle.std.proofs.lemmas.List.{length_push}
+use Rattle.std.specs.{List.count_by, List.filter, List.filter_map, Option.option_map}
+use Rattle.std.proofs.lemmas.{Bool.cond-true, Bool.cond-false, Option.slice_get-map, Option.slice_get_past, List.Elements.filter_map-append}
+use Rattle.std.proofs.lemmas.{List.Sums.sum_by-cons, List.length_push}
 use Rattle.list_laws.specs.Numbers.{upto}
 use Rattle.list_laws.proofs.Cases.{by_test, by_less}
 

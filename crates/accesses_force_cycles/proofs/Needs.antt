@@ -1,20 +1,14 @@
 -- Where a mode serves a cycle, a write of a location without an observer that an external edge enters is its first or its
 -- last; and what the mode avoid refuses is an inner one.
 use Rattle.std.proofs.Common.{◌≡◌, ℕ, zero, suc, ◌<◌, Bool, true, false, List, [], ◌∷◌, length, Option, Some, None, slice_get, refl, sym, ◌∙◌, ap, arith}
-use Rattle.std.specs.Prelude.{Ok}
-use Rattle.std.specs.List.{find, filter_map}
-use Rattle.std.proofs.lemmas.Bool.{leb-false, cond-true, cond-false}
-use Rattle.std.proofs.lemmas.Option.{slice_get_within}
+use Rattle.std.specs.{Prelude.Ok, List.find, List.filter_map}
+use Rattle.std.proofs.lemmas.{Bool.leb-false, Bool.cond-true, Bool.cond-false, Option.slice_get_within}
 use Rattle.relax_edges.specs.declared.kinds.Dir.TheVariants as dirs
-use Rattle.relax_edges.specs.declared.kinds.Reach.TheVariants.{External}
-use Rattle.relax_edges.specs.declared.kinds.ObsMode.{ObsMode}
-use Rattle.relax_edges.specs.declared.kinds.ObsMode.TheVariants.{Accept, Avoid, Force}
-use Rattle.relax_edges.specs.declared.edge.Edge.{Edge}
+use Rattle.relax_edges.specs.declared.{kinds.Reach.TheVariants.External, kinds.ObsMode.ObsMode, kinds.ObsMode.TheVariants.Accept}
+use Rattle.relax_edges.specs.declared.{kinds.ObsMode.TheVariants.Avoid, kinds.ObsMode.TheVariants.Force, edge.Edge.Edge}
 use Rattle.relax_edges.specs.EdgeTable.{source_of, reach_of}
 use Rattle.list_laws.specs.Numbers.{upto}
-use Rattle.list_laws.proofs.Cases.{by_test, by_less}
-use Rattle.list_laws.proofs.Numbers.{slice_get-upto}
-use Rattle.list_laws.proofs.Finds.{any_upto_fails}
+use Rattle.list_laws.proofs.{Cases.by_test, Cases.by_less, Numbers.slice_get-upto, Finds.any_upto_fails}
 use Rattle.cycle_events.specs.Resolution.{edge_at, move_count, location_of}
 use Rattle.cycle_events.specs.declared.needs.NeedsObserver.{NeedsObserver}
 use Rattle.cycle_events.specs.Values.{value_of, write_at, write_count, edge_into, is_inner_entry, is_observed, first_inner_entry, first_need, observer_need, Valuation, valuation_of}

@@ -1,9 +1,7 @@
 -- A numbering of the places can be read back: it takes each number below the count of the locations.
 use Rattle.std.proofs.Common.{◌≡◌, ℕ, zero, suc, ◌<◌, ◌≤◌, Bool, true, false, ◌||◌, List, [], ◌∷◌, refl, sym, ◌∙◌, ap, arith}
-use Rattle.std.specs.Prelude.{◌==◌, unwrap_or}
-use Rattle.std.specs.List.{count_by, list_any}
-use Rattle.std.proofs.lemmas.List.Folds.{list_any-append}
-use Rattle.std.proofs.lemmas.Bool.{eqb-true, eq-eqb, ne_eqb}
+use Rattle.std.specs.{Prelude.◌==◌, Prelude.unwrap_or, List.count_by, List.list_any}
+use Rattle.std.proofs.lemmas.{List.Folds.list_any-append, Bool.eqb-true, Bool.eq-eqb, Bool.ne_eqb}
 use Rattle.relax_edges.specs.declared.edge.Edge.{Edge}
 use Rattle.list_laws.specs.Numbers.{upto}
 use Rattle.list_laws.proofs.Cases.{by_test}

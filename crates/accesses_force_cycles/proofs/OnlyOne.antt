@@ -1,37 +1,25 @@
 -- An execution that meets the condition is the intended one: its reads are fixed by their values, and its orders by the
 -- edges into the writes.
 use Rattle.std.proofs.Common.{◌≡◌, ℕ, suc, ◌+◌, ◌-◌, ◌<◌, ◌≤◌, true, false, List, length, Option, Some, slice_get, refl, sym, ◌∙◌, ap, subst, arith, add-one}
-use Rattle.std.specs.Option.{option_and_then}
+use Rattle.std.specs.{Option.option_and_then, List.count_by}
 use Rattle.std.proofs.lemmas.Option.{slice_get_within}
-use Rattle.relax_edges.specs.declared.kinds.Dir.{Dir}
-use Rattle.relax_edges.specs.declared.kinds.Sd.{Sd}
-use Rattle.relax_edges.specs.declared.kinds.Sd.TheVariants.{Same, Diff}
-use Rattle.relax_edges.specs.declared.kinds.Reach.{Reach}
-use Rattle.relax_edges.specs.declared.kinds.Reach.TheVariants.{Internal, External}
-use Rattle.relax_edges.specs.declared.kinds.ObsMode.{ObsMode}
-use Rattle.relax_edges.specs.declared.edge.Edge.{Edge}
+use Rattle.relax_edges.specs.declared.{kinds.Dir.Dir, kinds.Sd.Sd, kinds.Sd.TheVariants.Same, kinds.Sd.TheVariants.Diff, kinds.Reach.Reach}
+use Rattle.relax_edges.specs.declared.{kinds.Reach.TheVariants.Internal, kinds.Reach.TheVariants.External, kinds.ObsMode.ObsMode, edge.Edge.Edge}
 use Rattle.relax_edges.specs.EdgeTable.{source_of, sd_of, reach_of}
-use Rattle.list_laws.proofs.Cases.{by_test}
-use Rattle.list_laws.proofs.Ranks.{rank_upto}
+use Rattle.list_laws.proofs.{Cases.by_test, Ranks.rank_upto}
 use Rattle.list_laws.specs.Numbers.{upto}
-use Rattle.std.specs.List.{count_by}
 use Rattle.cycle_events.specs.Resolution.{edge_at, external_count, move_count, thread_of, slot_of, location_of, event_after}
 use Rattle.cycle_events.specs.Values.{value_of, write_count, is_observed, edge_into}
 use Rattle.program_meaning.specs.declared.WriteAt.{WriteAt}
-use Rattle.program_meaning.specs.Accesses.{read, at_name}
-use Rattle.program_meaning.specs.Executions.{Execution}
+use Rattle.program_meaning.specs.{Accesses.read, Accesses.at_name, Executions.Execution, Standing.event_name}
 use Rattle.program_meaning.specs.Coherence.{MayFollow, order_place, order_at, coherence_place, last_write, value_of_access, final_value}
-use Rattle.program_meaning.specs.Standing.{event_name}
 use Rattle.program_meaning.specs.Intended.{IsNumbering, observed_locations, event_access, cycle_accesses, ordered_write, write_of, location_order, intended}
 use Rattle.accesses_force_cycles.specs.Premises.{MeetsCondition}
-use Rattle.accesses_force_cycles.proofs.Lists.{same_below, got_below}
-use Rattle.accesses_force_cycles.proofs.Orders.{Holds, place_held, order_by_steps}
-use Rattle.accesses_force_cycles.proofs.Numbering.{numbering_onto, location_of_number}
-use Rattle.accesses_force_cycles.proofs.Accesses.{event_at_name, observer_at_name}
-use Rattle.accesses_force_cycles.proofs.WriteEvents.{NthWrite, nth_write, write_at_name}
-use Rattle.accesses_force_cycles.proofs.IntendedReads.{reads_are_intended}
+use Rattle.accesses_force_cycles.proofs.{Lists.same_below, Lists.got_below, Orders.Holds, Orders.place_held, Orders.order_by_steps}
+use Rattle.accesses_force_cycles.proofs.{Numbering.numbering_onto, Numbering.location_of_number, Accesses.event_at_name, Accesses.observer_at_name}
+use Rattle.accesses_force_cycles.proofs.{WriteEvents.NthWrite, WriteEvents.nth_write, WriteEvents.write_at_name, IntendedReads.reads_are_intended}
+use Rattle.accesses_force_cycles.proofs.{IntendedExists.orders-count, IntendedExists.intended_is_execution}
 use Rattle.accesses_force_cycles.proofs.IntendedOrders.{gives_writes, order_got, order_holds, intended_order, placed_write}
-use Rattle.accesses_force_cycles.proofs.IntendedExists.{orders-count, intended_is_execution}
 use Rattle.accesses_force_cycles.proofs.Resolves.{IsWrite, Resolves, EntersLast, Entered, entered, written_by}
 
 -- where an execution reads as the intended one does, the coherence place of an event is that of the write of its value

@@ -1,14 +1,12 @@
 -- The place of a write in a coherence order, and orders that are fixed by their steps.
 use Rattle.std.proofs.Common.{◌≡◌, ℕ, zero, suc, ◌+◌, ◌<◌, ◌≤◌, true, false, List, length, get_or, Option, Some, slice_get, sym, ◌∙◌, ap, arith}
 use Rattle.std.specs.List.{filter_map, position_or_len}
-use Rattle.std.proofs.lemmas.Bool.{lt-ltb, cond-true}
-use Rattle.std.proofs.lemmas.Option.{slice_get_within, slice_get-get_or, get_or_from_slice_get}
-use Rattle.std.proofs.lemmas.List.Sums.{position_or_len_is}
+use Rattle.std.proofs.lemmas.{Bool.lt-ltb, Bool.cond-true, Option.slice_get_within, Option.slice_get-get_or, Option.get_or_from_slice_get}
+use Rattle.std.proofs.lemmas.{List.Sums.position_or_len_is}
 use Rattle.list_laws.specs.Numbers.{upto}
 use Rattle.list_laws.proofs.Cases.{by_test, by_less}
 use Rattle.program_meaning.specs.declared.WriteAt.{WriteAt}
-use Rattle.program_meaning.specs.Executions.{same_write}
-use Rattle.program_meaning.specs.Coherence.{order_place}
+use Rattle.program_meaning.specs.{Executions.same_write, Coherence.order_place}
 use Rattle.program_meaning.proofs.Names.{same_write-refl, same_write-true}
 use Rattle.accesses_force_cycles.proofs.Lists.{same_below, length-filter_map-upto, slice_get-filter_map-upto, got_below}
 

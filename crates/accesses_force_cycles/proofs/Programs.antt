@@ -2,20 +2,16 @@
 -- meets its condition is an execution of which the laws of this crate hold.
 use Rattle.std.proofs.Common.{◌≡◌, ℕ, ◌<◌, List, [], ◌∷◌, length, map, Some, slice_get, refl, sym, ◌∙◌, ap, arith}
 use Rattle.std.specs.List.{filter}
-use Rattle.relax_edges.specs.declared.kinds.ObsMode.{ObsMode}
-use Rattle.relax_edges.specs.declared.edge.Edge.{Edge}
+use Rattle.relax_edges.specs.declared.{kinds.ObsMode.ObsMode, edge.Edge.Edge}
 use Rattle.micro_ops.specs.Running.{Outcome}
-use Rattle.program_meaning.specs.Accesses.{Access, is_read}
-use Rattle.program_meaning.specs.Executions.{Execution}
+use Rattle.program_meaning.specs.{Accesses.Access, Accesses.is_read, Executions.Execution, Intended.IsNumbering, Intended.cycle_accesses}
+use Rattle.program_meaning.specs.{Intended.intended}
 use Rattle.program_meaning.specs.Programs.{Program, HasEnded, runs_of, accesses_in}
 use Rattle.program_meaning.proofs.Runs.{accesses-count}
-use Rattle.program_meaning.specs.Intended.{IsNumbering, cycle_accesses, intended}
 use Rattle.accesses_force_cycles.specs.Premises.{MeetsCondition}
 use Rattle.accesses_force_cycles.specs.Joining.{accesses_filled, MakesAccesses, ReadsAsAsked, IsOutcome}
-use Rattle.accesses_force_cycles.proofs.Lists.{same_below, got_below, map-map}
-use Rattle.accesses_force_cycles.proofs.IntendedReads.{reads-count, intended_reads}
-use Rattle.accesses_force_cycles.proofs.IntendedExists.{intended_meets}
-use Rattle.accesses_force_cycles.proofs.Resolves.{Resolves}
+use Rattle.accesses_force_cycles.proofs.{Lists.same_below, Lists.got_below, Lists.map-map, IntendedReads.reads-count, IntendedReads.intended_reads}
+use Rattle.accesses_force_cycles.proofs.{IntendedExists.intended_meets, Resolves.Resolves}
 
 -- accesses whose reads read their own values are as they were
 filled_own : (accesses : List Access) → accesses_filled accesses (map (λ access. access.value) (filter is_read accesses)) ≡ accesses

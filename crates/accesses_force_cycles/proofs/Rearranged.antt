@@ -1,22 +1,16 @@
 -- The writes of a location in another order: that of their values under a function that exchanges values in pairs.
 use Rattle.std.proofs.Common.{◌≡◌, ℕ, zero, suc, ◌+◌, ◌-◌, ◌<◌, ◌≤◌, List, [], Option, Some, sym, ◌∙◌, ap, subst, arith, add-one}
 use Rattle.std.specs.List.{filter_map}
-use Rattle.relax_edges.specs.declared.kinds.ObsMode.{ObsMode}
-use Rattle.relax_edges.specs.declared.edge.Edge.{Edge}
+use Rattle.relax_edges.specs.declared.{kinds.ObsMode.ObsMode, edge.Edge.Edge}
 use Rattle.list_laws.specs.Numbers.{upto}
-use Rattle.cycle_events.specs.Resolution.{move_count}
-use Rattle.cycle_events.specs.Values.{write_count}
+use Rattle.cycle_events.specs.{Resolution.move_count, Values.write_count}
 use Rattle.program_meaning.specs.declared.WriteAt.{WriteAt}
-use Rattle.program_meaning.specs.Accesses.{at_name}
-use Rattle.program_meaning.specs.Executions.{IsOrderOf}
-use Rattle.program_meaning.specs.Coherence.{order_place, last_write}
-use Rattle.program_meaning.specs.Standing.{event_name}
+use Rattle.program_meaning.specs.{Accesses.at_name, Executions.IsOrderOf, Coherence.order_place, Coherence.last_write, Standing.event_name}
 use Rattle.program_meaning.specs.Intended.{IsNumbering, cycle_accesses, ordered_write, write_of}
-use Rattle.accesses_force_cycles.proofs.Lists.{length-filter_map-upto, slice_get-filter_map-upto}
+use Rattle.accesses_force_cycles.proofs.{Lists.length-filter_map-upto, Lists.slice_get-filter_map-upto, IntendedOrders.gives_writes, Resolves.IsWrite}
+use Rattle.accesses_force_cycles.proofs.{Resolves.Resolves}
 use Rattle.accesses_force_cycles.proofs.Orders.{Holds, Gives, order_given, place_given}
 use Rattle.accesses_force_cycles.proofs.WriteEvents.{nth_write, write_event, write_at_name, ordered_write-is, rank_below}
-use Rattle.accesses_force_cycles.proofs.IntendedOrders.{gives_writes}
-use Rattle.accesses_force_cycles.proofs.Resolves.{IsWrite, Resolves}
 
 -- a function exchanges the values from 1 to n, and leaves 0 and n
 pub record Exchanges (f : ℕ → ℕ) (n : ℕ) : Type 0 where

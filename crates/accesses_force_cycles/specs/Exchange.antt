@@ -2,14 +2,11 @@
 -- location, that write and the write before it are exchanged in the coherence order. Source: own.
 use Rattle.std.specs.Prelude.{ℕ, ◌+◌, ◌-◌, ◌==◌, if◌then◌else◌, List, map}
 use Rattle.std.specs.List.{filter_map}
-use Rattle.relax_edges.specs.declared.kinds.ObsMode.TheVariants.{Avoid}
-use Rattle.relax_edges.specs.declared.edge.Edge.{Edge}
+use Rattle.relax_edges.specs.declared.{kinds.ObsMode.TheVariants.Avoid, edge.Edge.Edge}
 use Rattle.list_laws.specs.Numbers.{upto}
-use Rattle.cycle_events.specs.Resolution.{move_count, location_of}
-use Rattle.cycle_events.specs.Values.{value_of, write_count}
+use Rattle.cycle_events.specs.{Resolution.move_count, Resolution.location_of, Values.value_of, Values.write_count}
 use Rattle.program_meaning.specs.declared.WriteAt.{WriteAt}
-use Rattle.program_meaning.specs.Executions.{Execution}
-use Rattle.program_meaning.specs.Intended.{write_of, location_numbered, intended}
+use Rattle.program_meaning.specs.{Executions.Execution, Intended.write_of, Intended.location_numbered, Intended.intended}
 
 -- a value, where a value and the one before it are exchanged
 abbrev pub swapped : ℕ → ℕ → ℕ

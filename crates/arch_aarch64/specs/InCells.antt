@@ -1,12 +1,8 @@
 -- AArch64's instructions fit in the cells of a table, and each of its loads and stores is one of them.
-use Rattle.arch_trait.specs.Cells.{WritesCells, MakesOneAccess}
-use Rattle.arch_trait.specs.Forms.{register_names}
+use Rattle.arch_trait.specs.{Cells.WritesCells, Cells.MakesOneAccess, Forms.register_names}
 use Rattle.arch_instructions_laws.proofs.InCells as tables
 use Rattle.arch_trait_laws.proofs.AddressedOnce.{accesses_once}
-use Rattle.arch_aarch64.specs.Puts.{puts, instructions}
-use Rattle.arch_aarch64.specs.Table.{table, numbered, writing}
-use Rattle.arch_aarch64.specs.Clear.{is_clear_table}
-use Rattle.arch_aarch64.specs.Laws.{own_code}
+use Rattle.arch_aarch64.specs.{Puts.puts, Puts.instructions, Table.table, Table.numbered, Table.writing, Clear.is_clear_table, Laws.own_code}
 
 -- the instructions of AArch64 fit in the cells of a table
 pub writes_cells : WritesCells puts writing

@@ -1,11 +1,9 @@
 -- Operands are printed one after another, as far as the holes can hold them.
 use Rattle.std.proofs.Common.{ℕ, ◌+◌, ◌-◌, ◌<◌, ◌≤◌, ◌≡◌, ◌==◌, Bool, true, false, ◌&&◌, List, [], ◌∷◌, ◌++◌, map, take, drop, get_or, subst, length, arith, length-append, refl, sym, ap, append_assoc, append-nil, ◌∙◌}
 use Rattle.std.specs.List.{list_all}
-use Rattle.std.proofs.lemmas.Bool.{and_parts}
-use Rattle.std.proofs.lemmas.Bool.Decides.{nat_tests}
+use Rattle.std.proofs.lemmas.{Bool.and_parts, Bool.Decides.nat_tests}
 use Rattle.arch_trait.specs.declared.arch.TheConstants.{MAX_INSTRUCTION_TEXT}
-use Rattle.arch_instructions_laws.specs.declared.form.Piece.{Piece}
-use Rattle.arch_instructions_laws.specs.declared.kind.Operand.{Operand}
+use Rattle.arch_instructions_laws.specs.declared.{form.Piece.Piece, kind.Operand.Operand}
 use Rattle.arch_instructions_laws.specs.Tables.{piece_seen, fits_first, after_hole, operands_fit, hole_filled, piece_text}
 use Rattle.arch_instructions_laws.specs.ClearTables.{is_piece_good, most_in, most_of}
 use Rattle.arch_instructions_laws.proofs.PieceBacks.{piece_is_good}

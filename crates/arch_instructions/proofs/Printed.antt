@@ -4,13 +4,10 @@ use Rattle.std.specs.List.{list_any, list_all}
 use Rattle.std.proofs.lemmas.Bool.{and_parts, leb-true}
 use Rattle.micro_ops.specs.declared.operation.Micro.{Micro}
 use Rattle.micro_ops.specs.declared.operation.Micro.TheVariants as ops
-use Rattle.arch_trait.specs.InstructionReading.{few}
-use Rattle.arch_trait.specs.Writing.{listed, written_text}
-use Rattle.arch_instructions_laws.specs.declared.kind.Operand.{Operand}
-use Rattle.arch_instructions_laws.specs.Kinds.{operands_of}
-use Rattle.arch_instructions_laws.specs.declared.form.Form.{Form}
+use Rattle.arch_trait.specs.{InstructionReading.few, Writing.listed, Writing.written_text}
+use Rattle.arch_instructions_laws.specs.declared.{kind.Operand.Operand, form.Form.Form}
+use Rattle.arch_instructions_laws.specs.{Kinds.operands_of, ClearTables.is_clear, ClearTables.forms_apart, ClearTables.is_form_good}
 use Rattle.arch_instructions_laws.specs.Tables.{PieceText, FormText, TableText, piece_seen, form_seen, table_has, does, given_operands, piece_texts, form_written, first_written}
-use Rattle.arch_instructions_laws.specs.ClearTables.{is_clear, forms_apart, is_form_good}
 use Rattle.arch_instructions_laws.proofs.ChosenForms.{form_is_good}
 use Rattle.arch_instructions.specs.Printing.{byte_before, joined_texts, form_text}
 use Rattle.list_laws.proofs.Elements.{rest-cons}

@@ -2,16 +2,12 @@
 -- Source: own.
 use Rattle.std.specs.Prelude.{ℕ, ◌+◌, ◌≡◌, Bool, true, cond, ◌&&◌, nat_lt, nat_le, List, [], ◌∷◌, ◌++◌, Option, Some, None, length}
 use Rattle.std.specs.List.{list_all}
-use Rattle.micro_ops.specs.declared.operation.Micro.{Micro}
+use Rattle.micro_ops.specs.declared.operation.{Micro.Micro, Barrier.Barrier}
 use Rattle.micro_ops.specs.declared.operation.Micro.TheVariants as ops
-use Rattle.micro_ops.specs.declared.operation.Barrier.{Barrier}
 use Rattle.arch_trait.specs.declared.arch.TheConstants.{MAX_INSTRUCTION_TEXT}
 use Rattle.arch_trait.specs.Writing.{written_text}
-use Rattle.arch_instructions_laws.specs.Kinds.{same_barrier}
-use Rattle.arch_instructions_laws.specs.Tables.{TableText, table_written}
-use Rattle.arch_instructions.specs.declared.fixed.TextsAround.{TextsAround}
-use Rattle.arch_instructions.specs.declared.fixed.BarrierText.{BarrierText}
-use Rattle.arch_instructions.specs.declared.fixed.FixedTexts.{FixedTexts}
+use Rattle.arch_instructions_laws.specs.{Kinds.same_barrier, Tables.TableText, Tables.table_written}
+use Rattle.arch_instructions.specs.declared.fixed.{TextsAround.TextsAround, BarrierText.BarrierText, FixedTexts.FixedTexts}
 
 -- two numbers with fixed texts around them, if each is of one digit
 abbrev pub text_around : TextsAround → ℕ → ℕ → Option (List ℕ)

@@ -5,22 +5,17 @@ use Rattle.std.proofs.Common.{ℕ, ◌+◌, ◌<◌, ◌≤◌, ◌≡◌, ◌==
 use Rattle.std.specs.List.{list_all}
 use Rattle.relax_edges.specs.EdgeTable.{fence_is_of, mark_is_of}
 use Rattle.relax_edges.specs.declared.kinds.Dir.TheVariants as dirs
-use Rattle.relax_edges.specs.declared.kinds.ArchName.{ArchName}
-use Rattle.relax_edges.specs.declared.kinds.FenceKind.{FenceKind}
-use Rattle.relax_edges.specs.declared.kinds.Mark.{Mark}
-use Rattle.relax_edges.specs.declared.kinds.Mark.TheVariants.{Plain, Acquire, Release}
+use Rattle.relax_edges.specs.declared.kinds.{ArchName.ArchName, FenceKind.FenceKind, Mark.Mark, Mark.TheVariants.Plain, Mark.TheVariants.Acquire}
+use Rattle.relax_edges.specs.declared.kinds.{Mark.TheVariants.Release}
 use Rattle.micro_ops.specs.declared.operation.Micro.{Micro}
 use Rattle.micro_ops.specs.declared.operation.Micro.TheVariants as ops
 use Rattle.micro_ops.specs.declared.operation.Barrier.TheVariants as barriers
 use Rattle.micro_ops.specs.Running.{Run, labels_of, lands}
 use Rattle.arch_trait_laws.proofs.Rules.{run_load_at, run_store_at}
-use Rattle.arch_trait.specs.declared.link.Link.{Link}
+use Rattle.arch_trait.specs.declared.{link.Link.Link, step.Shape.Shape}
 use Rattle.arch_trait.specs.declared.link.Link.TheVariants as links
-use Rattle.arch_trait.specs.declared.step.Shape.{Shape}
-use Rattle.arch_trait.specs.Cells.{MakesOneAccess}
+use Rattle.arch_trait.specs.{Cells.MakesOneAccess, Taking.Taken, Taking.take_next, Threads.Put, Threads.Puts}
 use Rattle.arch_trait.specs.Links.{link_is_of, depends_on_load, link_control, link_items, is_addr, is_data}
-use Rattle.arch_trait.specs.Taking.{Taken, take_next}
-use Rattle.arch_trait.specs.Threads.{Put, Puts}
 use Rattle.arch_trait.specs.Laws.{DidLink, MakesLinks, MakesAccess, MakesLoads, MakesStores, IsArch, link_room, link_labels, is_at_place}
 use Rattle.arch_trait_laws.proofs.Accesses.{writes_none, spare_plain, did_load, did_store, did_nothing, did_barrier}
 

@@ -1,15 +1,10 @@
 -- No text is an instruction of two forms that are apart.
 use Rattle.std.proofs.Common.{ℕ, ◌-◌, ◌≡◌, ◌==◌, true, not, ◌&&◌, ◌||◌, nat_le, List, [], ◌∷◌, ◌++◌, Some, None, map, take, drop, ◌∙◌, arith}
-use Rattle.std.specs.Prelude.{Option, is_some, option_and_then}
-use Rattle.std.specs.List.{list_all}
-use Rattle.std.specs.Str.{bytes_eq}
-use Rattle.std.proofs.lemmas.Bool.{and_parts, not-true}
-use Rattle.std.proofs.lemmas.List.{take-append-drop}
-use Rattle.std.proofs.lemmas.Slice.Eq.{bytes_eq-Decides}
+use Rattle.std.specs.{Prelude.Option, Prelude.is_some, Prelude.option_and_then, List.list_all, Str.bytes_eq}
+use Rattle.std.proofs.lemmas.{Bool.and_parts, Bool.not-true, List.take-append-drop, Slice.Eq.bytes_eq-Decides}
 use Rattle.list_laws.proofs.Cases.{eq_swap}
-use Rattle.arch_instructions_laws.specs.declared.form.Hole.{Hole}
+use Rattle.arch_instructions_laws.specs.declared.{form.Hole.Hole, kind.Operand.Operand}
 use Rattle.arch_instructions_laws.specs.declared.form.Hole.TheVariants as holes
-use Rattle.arch_instructions_laws.specs.declared.kind.Operand.{Operand}
 use Rattle.arch_instructions_laws.specs.Kinds.{FoundOperand}
 use Rattle.arch_instructions_laws.specs.Tables.{PieceText, FormText, fits_first, after_hole, operands_fit, hole_filled, piece_texts, after_prefix, before_suffix, hole_found, piece_found, joined_operands, pieces_found, form_found, piece_text}
 use Rattle.arch_instructions_laws.specs.ClearTables.{differ, is_empty_hole, is_fixed, text_without_hole, piece_apart, pieces_apart, forms_apart, is_piece_good}

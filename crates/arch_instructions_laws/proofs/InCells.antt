@@ -1,23 +1,16 @@
 -- What a clear table writes fits into the cells of a table.
 use Rattle.std.proofs.Common.{ℕ, ◌+◌, ◌≤◌, ◌≡◌, ◌==◌, refl, true, false, not, ◌&&◌, nat_le, List, [], ◌∷◌, ◌++◌, length, ◌∙◌, ap, length-append, arith}
 use Rattle.std.specs.List.{list_all, list_any}
-use Rattle.std.proofs.lemmas.Bool.{and_parts, and_from, leb-true}
-use Rattle.std.proofs.lemmas.Bool.Decides.{nat_tests}
+use Rattle.std.proofs.lemmas.{Bool.and_parts, Bool.and_from, Bool.leb-true, Bool.Decides.nat_tests}
 use Rattle.list_laws.proofs.Elements.{list_all-weaker}
-use Rattle.text_parts_laws.specs.Words.{is_argument_byte}
-use Rattle.text_parts_laws.specs.Blanks.{is_blank}
-use Rattle.text_parts_laws.specs.LeadingRuns.{leading_run, after_run}
-use Rattle.text_parts_laws.proofs.NameLaws.{place_name_short}
-use Rattle.text_parts_laws.proofs.RunLaws.{after_halts, whole_run}
+use Rattle.text_parts_laws.specs.{Words.is_argument_byte, Blanks.is_blank, LeadingRuns.leading_run, LeadingRuns.after_run}
+use Rattle.text_parts_laws.proofs.{NameLaws.place_name_short, RunLaws.after_halts, RunLaws.whole_run, CutLaws.all_both}
 use Rattle.micro_ops.specs.declared.operation.Micro.{Micro}
 use Rattle.micro_ops.specs.declared.operation.Micro.TheVariants as ops
 use Rattle.arch_trait.specs.Cells.{is_cell_byte, first_word, ends_rows, is_label_op, WritesCells}
-use Rattle.arch_trait.specs.InstructionReading.{few}
+use Rattle.arch_trait.specs.{InstructionReading.few, Threads.Puts, ByteLaws.place_in_cell}
 use Rattle.arch_trait.specs.declared.arch.TheConstants.{MAX_INSTRUCTION_TEXT}
-use Rattle.arch_trait.specs.Threads.{Puts}
 use Rattle.arch_trait.specs.Writing.{OperandTexts, listed, written_text, op_name, is_well_named}
-use Rattle.text_parts_laws.proofs.CutLaws.{all_both}
-use Rattle.arch_trait.specs.ByteLaws.{place_in_cell}
 use Rattle.arch_trait_laws.proofs.SpellingLaws.{listed_stops}
 use Rattle.arch_instructions_laws.specs.declared.kind.Operand.{Operand}
 use Rattle.arch_instructions_laws.specs.Kinds.{operands_of}

@@ -1,15 +1,12 @@
 -- The operations of each kind with their operands, case by case.
 use Rattle.std.proofs.Common.{ℕ, ◌≡◌, ◌==◌, refl, Bool, true, false, cond, List, [], ◌∷◌, Some, None}
 use Rattle.std.specs.Prelude.{Option, is_some}
-use Rattle.micro_ops.specs.declared.operation.Micro.{Micro}
+use Rattle.micro_ops.specs.declared.operation.{Micro.Micro, Barrier.Barrier}
 use Rattle.micro_ops.specs.declared.operation.Micro.TheVariants as ops
-use Rattle.micro_ops.specs.declared.operation.Barrier.{Barrier}
-use Rattle.arch_instructions_laws.specs.declared.kind.Kind.{Kind}
+use Rattle.arch_instructions_laws.specs.declared.kind.{Kind.Kind, Operand.Operand}
 use Rattle.arch_instructions_laws.specs.declared.kind.Kind.TheVariants as kinds
-use Rattle.arch_instructions_laws.specs.declared.kind.Operand.{Operand}
 use Rattle.arch_instructions_laws.specs.declared.kind.Operand.TheVariants.{Register, Number, Place, Label}
-use Rattle.arch_instructions_laws.specs.Kinds.{same_barrier, operands_of}
-use Rattle.arch_instructions_laws.specs.Tables.{given_operands}
+use Rattle.arch_instructions_laws.specs.{Kinds.same_barrier, Kinds.operands_of, Tables.given_operands}
 
 -- an operation is of a kind, with these operands
 pub data IsOf : Kind → Micro → List Operand → Type 0 where

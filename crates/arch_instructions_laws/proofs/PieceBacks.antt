@@ -1,18 +1,14 @@
 -- The operands of an instruction read back by its form.
 use Rattle.std.proofs.Common.{ℕ, suc, ◌+◌, ◌-◌, ◌^◌, ◌<◌, ◌≤◌, ◌≡◌, refl, true, ◌&&◌, nat_le, nat_lt, List, [], ◌∷◌, ◌++◌, Some, map, length, ◌∙◌, ap, length-append, arith}
-use Rattle.std.specs.Fmt.{decimal}
-use Rattle.std.specs.List.{list_all}
-use Rattle.std.specs.Str.{bytes_eq}
-use Rattle.std.proofs.Math.Seq.{take-append_seam, drop-append_seam}
+use Rattle.std.specs.{Fmt.decimal, List.list_all, Str.bytes_eq}
+use Rattle.std.proofs.{Math.Seq.take-append_seam, Math.Seq.drop-append_seam, lemmas.Slice.Eq.bytes_eq-Decides}
 use Rattle.std.proofs.lemmas.Bool.{and_parts, le-leb, lt-ltb, eq-eqb, ltb-true, leb-true}
-use Rattle.std.proofs.lemmas.Slice.Eq.{bytes_eq-Decides}
 use Rattle.text_parts_laws.specs.NumberTexts.{number_of}
 use Rattle.text_parts_laws.proofs.NumberLaws.{number_of-decimal}
 use Rattle.arch_trait.specs.Writing.{register_at, label_name}
 use Rattle.arch_trait_laws.proofs.SpellingLaws.{immediate_back}
-use Rattle.arch_instructions_laws.specs.declared.form.Hole.{Hole}
+use Rattle.arch_instructions_laws.specs.declared.{form.Hole.Hole, kind.Operand.Operand}
 use Rattle.arch_instructions_laws.specs.declared.form.Hole.TheVariants as holes
-use Rattle.arch_instructions_laws.specs.declared.kind.Operand.{Operand}
 use Rattle.arch_instructions_laws.specs.declared.kind.Operand.TheVariants as operands
 use Rattle.arch_instructions_laws.specs.Kinds.{FoundOperand, found_register, found_number, found_place, found_label}
 use Rattle.arch_instructions_laws.specs.Tables.{PieceText, fits_first, after_hole, operands_fit, hole_filled, piece_texts, after_prefix, before_suffix, hole_found, piece_found, pieces_found, piece_text}

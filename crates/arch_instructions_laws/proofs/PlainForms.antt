@@ -1,31 +1,19 @@
 -- The word and the operands of an instruction are plain.
 use Rattle.std.proofs.Common.{ℕ, ◌+◌, ◌<◌, ◌≤◌, ◌≡◌, refl, Bool, true, false, not, ◌==◌, ◌&&◌, nat_le, List, [], ◌∷◌, ◌++◌, Some, length, ◌∙◌, length-append, arith}
-use Rattle.std.specs.Fmt.{decimal}
-use Rattle.std.specs.List.{list_all}
-use Rattle.std.specs.Str.{bytes_eq}
+use Rattle.std.specs.{Fmt.decimal, List.list_all, Str.bytes_eq}
 use Rattle.std.proofs.lemmas.Bool.{and_parts, and_from, and_right, leb-true, ltb-true}
-use Rattle.std.proofs.lemmas.Fmt.{length-decimal-le}
-use Rattle.std.proofs.lemmas.List.Folds.{list_all-append}
-use Rattle.std.proofs.lemmas.Slice.Eq.{bytes_eq-Decides}
-use Rattle.list_laws.proofs.Elements.{list_all-weaker}
-use Rattle.list_laws.proofs.Cases.{by_test}
+use Rattle.std.proofs.lemmas.{Fmt.length-decimal-le, List.Folds.list_all-append, Slice.Eq.bytes_eq-Decides}
+use Rattle.list_laws.proofs.{Elements.list_all-weaker, Cases.by_test, Digits.three_digits, Digits.digits_of}
 use Rattle.text_parts_laws.specs.Names.{is_place_name, is_place_byte}
-use Rattle.text_parts_laws.proofs.NameLaws.{place_passes, register_passes, decimal_passes}
-use Rattle.list_laws.proofs.Digits.{three_digits, digits_of}
-use Rattle.arch_trait.specs.Cells.{is_cell_byte}
-use Rattle.arch_trait.specs.InstructionReading.{few}
+use Rattle.text_parts_laws.proofs.{NameLaws.place_passes, NameLaws.register_passes, NameLaws.decimal_passes, CutLaws.all_both}
+use Rattle.arch_trait.specs.{Cells.is_cell_byte, InstructionReading.few, ByteLaws.place_in_word, WordBytes.is_instruction_byte}
 use Rattle.arch_trait.specs.Writing.{is_plain, all_plain_texts, label_name, label_word}
-use Rattle.text_parts_laws.proofs.CutLaws.{all_both}
-use Rattle.arch_trait.specs.ByteLaws.{place_in_word}
-use Rattle.arch_trait.specs.WordBytes.{is_instruction_byte}
-use Rattle.arch_instructions_laws.specs.declared.form.Hole.{Hole}
+use Rattle.arch_instructions_laws.specs.declared.{form.Hole.Hole, kind.Operand.Operand}
 use Rattle.arch_instructions_laws.specs.declared.form.Hole.TheVariants as holes
-use Rattle.arch_instructions_laws.specs.declared.kind.Operand.{Operand}
 use Rattle.arch_instructions_laws.specs.declared.kind.Operand.TheVariants as operands
 use Rattle.arch_instructions_laws.specs.Tables.{PieceText, fits_first, after_hole, operands_fit, hole_filled, piece_texts, texts_in, piece_text}
 use Rattle.arch_instructions_laws.specs.ClearTables.{is_hole_good, most_in, is_filled, is_fixed_byte, is_first_byte, is_piece_good}
-use Rattle.arch_instructions_laws.proofs.PieceBacks.{piece_is_good}
-use Rattle.arch_instructions_laws.proofs.OperationBacks.{is_named_operand}
+use Rattle.arch_instructions_laws.proofs.{PieceBacks.piece_is_good, OperationBacks.is_named_operand}
 
 -- a text of one byte or more is plain where each of its bytes is
 some_plain : (t : List ℕ) → 1 ≤ length t → list_all is_instruction_byte t ≡ true → is_plain t ≡ true

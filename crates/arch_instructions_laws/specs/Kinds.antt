@@ -4,13 +4,11 @@ use Rattle.std.specs.Prelude.{ℕ, ◌+◌, ◌==◌, Bool, cond, List, [], ◌�
 use Rattle.relax_edges.specs.declared.kinds.Pick.{Pick}
 use Rattle.relax_edges.specs.declared.kinds.Pick.TheVariants as picks
 use Rattle.relax_edges.specs.declared.kinds.FenceKind.TheVariants as fences
-use Rattle.micro_ops.specs.declared.operation.Micro.{Micro}
+use Rattle.micro_ops.specs.declared.operation.{Micro.Micro, Barrier.Barrier}
 use Rattle.micro_ops.specs.declared.operation.Micro.TheVariants as ops
-use Rattle.micro_ops.specs.declared.operation.Barrier.{Barrier}
 use Rattle.micro_ops.specs.declared.operation.Barrier.TheVariants as barriers
-use Rattle.arch_instructions_laws.specs.declared.kind.Kind.{Kind}
+use Rattle.arch_instructions_laws.specs.declared.kind.{Kind.Kind, Operand.Operand}
 use Rattle.arch_instructions_laws.specs.declared.kind.Kind.TheVariants as kinds
-use Rattle.arch_instructions_laws.specs.declared.kind.Operand.{Operand}
 use Rattle.arch_instructions_laws.specs.declared.kind.Operand.TheVariants as operands
 use Rattle.arch_trait.specs.Writing.{RawInstr, nothing, place, label}
 

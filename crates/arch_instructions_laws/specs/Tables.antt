@@ -1,24 +1,16 @@
 -- How instructions are written and read by a table of forms.
 -- Source: own; the litmus format of the herdtools, whose cells hold one instruction each.
 use Rattle.std.specs.Prelude.{ℕ, ◌+◌, ◌-◌, ◌==◌, Bool, true, false, cond, ◌&&◌, nat_lt, nat_le, List, [], ◌∷◌, ◌++◌, Option, Some, None, option_map, option_and_then, map, take, drop, length}
-use Rattle.std.specs.List.{list_any}
-use Rattle.std.specs.Str.{bytes_eq}
-use Rattle.std.specs.Fmt.{decimal}
+use Rattle.std.specs.{List.list_any, Str.bytes_eq, Fmt.decimal}
 use Rattle.text_parts_laws.specs.NumberTexts.{number_of}
 use Rattle.micro_ops.specs.declared.operation.Micro.{Micro}
 use Rattle.micro_ops.specs.declared.operation.Micro.TheVariants as ops
-use Rattle.arch_trait.specs.Forms.{label_alone}
-use Rattle.arch_trait.specs.InstructionReading.{few}
+use Rattle.arch_trait.specs.{Forms.label_alone, InstructionReading.few}
 use Rattle.arch_trait.specs.Writing.{OperandTexts, none, one, two, three, four, more, Written, Writing, RawInstr, immediate_number, register_at, label_name, label_word}
-use Rattle.arch_instructions_laws.specs.declared.form.Hole.{Hole}
+use Rattle.arch_instructions_laws.specs.declared.{form.Hole.Hole, form.Piece.Piece, form.Form.Form, form.Labels.Labels, form.Table.Table}
+use Rattle.arch_instructions_laws.specs.declared.{kind.Kind.Kind, kind.Operand.Operand}
 use Rattle.arch_instructions_laws.specs.declared.form.Hole.TheVariants as holes
-use Rattle.arch_instructions_laws.specs.declared.form.Piece.{Piece}
-use Rattle.arch_instructions_laws.specs.declared.form.Form.{Form}
-use Rattle.arch_instructions_laws.specs.declared.form.Labels.{Labels}
 use Rattle.arch_instructions_laws.specs.declared.form.Labels.TheVariants as labels
-use Rattle.arch_instructions_laws.specs.declared.form.Table.{Table}
-use Rattle.arch_instructions_laws.specs.declared.kind.Kind.{Kind}
-use Rattle.arch_instructions_laws.specs.declared.kind.Operand.{Operand}
 use Rattle.arch_instructions_laws.specs.declared.kind.Operand.TheVariants as operands
 use Rattle.arch_instructions_laws.specs.Kinds.{FoundOperand, found_register, found_number, found_place, found_label, operands_of, raw_with}
 

@@ -1,7 +1,6 @@
 -- The table of Power is clear, and within the range of the machine.
 use Rattle.std.proofs.Common.{◌≡◌, refl, true}
-use Rattle.std.specs.Fmt.{digits}
-use Rattle.std.specs.List.{list_all}
+use Rattle.std.specs.{Fmt.digits, List.list_all}
 use Rattle.text_parts_laws.specs.NumberTexts.{number_of}
 use Rattle.arch_trait.specs.Writing.{immediate_number}
 use Rattle.arch_instructions_laws.specs.Tables.{piece_found, after_prefix, before_suffix}

@@ -1,13 +1,9 @@
 -- Power's instructions read back from their text.
 use Rattle.std.proofs.Common.{refl, arith}
-use Rattle.arch_trait.specs.Forms.{register_names}
-use Rattle.arch_trait.specs.InstructionReading.{ReadsOwn}
-use Rattle.arch_trait.specs.Writing.{WritesBack}
+use Rattle.arch_trait.specs.{Forms.register_names, InstructionReading.ReadsOwn, Writing.WritesBack}
 use Rattle.arch_instructions_laws.proofs.Ranges as ranges
 use Rattle.arch_instructions_laws.proofs.ReadsBack.{numbered_back}
-use Rattle.arch_power.specs.Puts.{puts}
-use Rattle.arch_power.specs.Table.{table, numbered, writing}
-use Rattle.arch_power.specs.Clear.{is_clear_table, few_registers}
+use Rattle.arch_power.specs.{Puts.puts, Table.table, Table.numbered, Table.writing, Clear.is_clear_table, Clear.few_registers}
 
 -- the instructions of Power read back from their text
 pub reads_back : WritesBack puts writing

@@ -1,16 +1,11 @@
 -- RISC-V obeys the laws of architectures.
-use Rattle.std.proofs.Common.{refl, arith}
-use Rattle.std.proofs.lemmas.Bool.Decides.{nat_tests}
-use Rattle.std.proofs.lemmas.Bool.{and_from}
+use Rattle.std.proofs.{Common.refl, Common.arith, lemmas.Bool.Decides.nat_tests, lemmas.Bool.and_from}
 use Rattle.relax_edges.specs.declared.kinds.ArchName.TheVariants as archs
 use Rattle.arch_trait.specs.Laws.{IsArch}
-use Rattle.arch_trait_laws.proofs.AddressedInstructions.{KeepsInstructions}
-use Rattle.arch_trait_laws.proofs.Addressed.{keeps_laws}
-use Rattle.arch_trait_laws.proofs.OwnCode.{tests, added, ors}
+use Rattle.arch_trait_laws.proofs.{AddressedInstructions.KeepsInstructions, Addressed.keeps_laws, OwnCode.tests, OwnCode.added, OwnCode.ors}
 use Rattle.arch_instructions_laws.specs.Tables.{operands_fit}
 use Rattle.arch_instructions_laws.proofs.Barriers.{fences_had}
-use Rattle.arch_riscv.specs.Table.{forms, table}
-use Rattle.arch_riscv.specs.Puts.{puts, instructions}
+use Rattle.arch_riscv.specs.{Table.forms, Table.table, Puts.puts, Puts.instructions}
 
 -- RISC-V's own instructions are of the sorts that the laws ask for
 pub own_code : KeepsInstructions instructions

@@ -4,9 +4,7 @@ use Rattle.micro_ops.specs.declared.operation.Micro.{Micro}
 use Rattle.arch_trait.specs.declared.step.Step.{Step}
 use Rattle.arch_trait.specs.Threads.{Way, Puts, FitSteps, is_load_dir, shape_of, setting_out, next_filled, further, step_code, thread_code, thread_regs, thread_loads, put_before}
 use Rattle.arch_trait.specs.Laws.{IsArch}
-use Rattle.arch_trait.proofs.Runs.{step_grew, thread_grew}
-use Rattle.arch_trait.proofs.Codes.{step_short}
-use Rattle.arch_trait.proofs.Shapes.{need_is}
+use Rattle.arch_trait.proofs.{Runs.step_grew, Runs.thread_grew, Codes.step_short, Shapes.need_is}
 
 -- the walk has come to access i: what it has appended and what it is still to append are the code of the
 -- thread

@@ -4,8 +4,7 @@
 use Rattle.std.proofs.Common.{◌≡◌, ℕ, true, arith}
 use Rattle.std.proofs.lemmas.Bool.Decides.{nat_tests}
 use Rattle.text_parts_laws.specs.Names.{is_place_byte}
-use Rattle.arch_trait.specs.Cells.{is_line_byte, is_cell_byte}
-use Rattle.arch_trait.specs.WordBytes.{is_instruction_byte}
+use Rattle.arch_trait.specs.{Cells.is_line_byte, Cells.is_cell_byte, WordBytes.is_instruction_byte}
 
 -- a byte of a place's name may be in a line
 pub place_on_line : (byte : ℕ) → is_place_byte byte ≡ true → is_line_byte byte ≡ true

@@ -6,11 +6,9 @@ use Rattle.relax_edges.specs.declared.kinds.Value.{Value}
 use Rattle.micro_ops.specs.declared.operation.Micro.{Micro}
 use Rattle.micro_ops.specs.declared.operation.Micro.TheVariants as ops
 use Rattle.micro_ops.specs.Running.{runs, Ended, ReadsShort, ReadsLeft, labels_of, lands}
-use Rattle.arch_trait.specs.declared.code.Code.{Code}
-use Rattle.arch_trait.specs.declared.step.Step.{Step}
-use Rattle.arch_trait.specs.Taking.{initial_values}
+use Rattle.arch_trait.specs.declared.{code.Code.Code, step.Step.Step}
+use Rattle.arch_trait.specs.{Taking.initial_values, Laws.InOrder}
 use Rattle.arch_trait.specs.Threads.{Puts, ThreadCode, thread_items, loads_in, branches_in, visits, HoldNumbers}
-use Rattle.arch_trait.specs.Laws.{InOrder}
 
 -- what the code sees of the code of a thread
 abbrev pub thread_code_of : Code → ThreadCode

@@ -1,8 +1,7 @@
 -- The registers of a thread: how many are taken, and which hold the address of a place.
 -- Source: own.
 use Rattle.std.specs.Prelude.{ℕ, ◌+◌, ◌==◌, Bool, cond, List, [], ◌∷◌, ◌++◌, Option, Some, None, map, is_some}
-use Rattle.relax_edges.specs.declared.kinds.Value.{Value}
-use Rattle.relax_edges.specs.declared.kinds.Value.TheVariants.{Place}
+use Rattle.relax_edges.specs.declared.kinds.{Value.Value, Value.TheVariants.Place}
 use Rattle.micro_ops.specs.declared.held.Held.{Held}
 use Rattle.micro_ops.specs.Running.{starting}
 

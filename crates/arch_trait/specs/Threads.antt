@@ -1,21 +1,13 @@
 -- The code of a thread: for each access the code of its link, and then that of the access.
 -- Source: own.
 use Rattle.std.specs.Prelude.{ℕ, ◌+◌, ◌-◌, ◌==◌, ◌<◌, ◌≡◌, Bool, true, false, cond, List, [], ◌∷◌, ◌++◌, Option, Some, None, count_by}
-use Rattle.relax_edges.specs.declared.kinds.Dir.{Dir}
+use Rattle.relax_edges.specs.declared.kinds.{Dir.Dir, Mark.Mark, ArchName.ArchName, Value.Value, Value.TheVariants.Num}
 use Rattle.relax_edges.specs.declared.kinds.Dir.TheVariants as dirs
-use Rattle.relax_edges.specs.declared.kinds.Mark.{Mark}
-use Rattle.relax_edges.specs.declared.kinds.ArchName.{ArchName}
 use Rattle.relax_edges.specs.EdgeTable.{mark_fits, mark_is_of}
-use Rattle.micro_ops.specs.declared.operation.Micro.{Micro}
-use Rattle.micro_ops.specs.declared.operation.Item.{Item}
+use Rattle.micro_ops.specs.declared.{operation.Micro.Micro, operation.Item.Item, held.Held.Held}
 use Rattle.micro_ops.specs.declared.operation.Item.TheVariants as items
-use Rattle.micro_ops.specs.declared.held.Held.{Held}
 use Rattle.micro_ops.specs.Machine.{num, bit}
-use Rattle.relax_edges.specs.declared.kinds.Value.{Value}
-use Rattle.relax_edges.specs.declared.kinds.Value.TheVariants.{Num}
-use Rattle.arch_trait.specs.declared.link.Link.{Link}
-use Rattle.arch_trait.specs.declared.step.Step.{Step}
-use Rattle.arch_trait.specs.declared.step.Shape.{Shape}
+use Rattle.arch_trait.specs.declared.{link.Link.Link, step.Step.Step, step.Shape.Shape}
 use Rattle.arch_trait.specs.declared.way.Way as kept
 use Rattle.std.specs.List.{list_any}
 use Rattle.arch_trait.specs.Links.{link_is_of, depends_on_load, branches, is_addr, is_data, mask_if, link_control, link_items}

@@ -5,11 +5,9 @@ use Rattle.std.specs.List.{list_all}
 use Rattle.std.proofs.lemmas.Bool.{or_left, or_right}
 use Rattle.relax_edges.specs.declared.kinds.Dir.TheVariants as dirs
 use Rattle.relax_edges.specs.declared.kinds.Mark.{Mark}
-use Rattle.micro_ops.specs.declared.held.Held.{Held}
-use Rattle.micro_ops.specs.declared.operation.Micro.{Micro}
+use Rattle.micro_ops.specs.declared.{held.Held.Held, operation.Micro.Micro, operation.Barrier.Barrier}
 use Rattle.micro_ops.specs.declared.operation.Micro.TheVariants as ops
 use Rattle.micro_ops.specs.declared.operation.Item.TheVariants as items
-use Rattle.micro_ops.specs.declared.operation.Barrier.{Barrier}
 use Rattle.micro_ops.specs.Machine.{num, held_at_place, bit, written}
 use Rattle.micro_ops.specs.Running.{Run, At, go, exec, labels_of, lands}
 use Rattle.arch_trait_laws.proofs.Rules.{holding, after_load, after_store}

@@ -2,8 +2,7 @@
 -- name.
 use Rattle.std.proofs.Common.{ℕ, ◌-◌, ◌^◌, ◌<◌, ◌≡◌, true, cond, bit_or, pow-suc, arith}
 use Rattle.std.specs.Int.{bit_at}
-use Rattle.std.proofs.lemmas.Nat.{or_lt, pow_pos}
-use Rattle.std.proofs.lemmas.Nat.Bits.{bit_at_or, bit_at-pow_same, bit_at_above}
+use Rattle.std.proofs.lemmas.{Nat.or_lt, Nat.pow_pos, Nat.Bits.bit_at_or, Nat.Bits.bit_at-pow_same, Nat.Bits.bit_at_above}
 use Rattle.arch_trait.specs.declared.link.Link.{Link}
 use Rattle.arch_trait.specs.Links.{branches, link_control}
 

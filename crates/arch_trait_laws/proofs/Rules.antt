@@ -1,8 +1,7 @@
 -- The rules in the form in which a list of operations is run, one after another, from `At r`.
 use Rattle.std.proofs.Common.{ℕ, ◌+◌, ◌≡◌, refl, Bool, true, bit_or, List, [], ◌∷◌, ◌++◌, Some, ap, eq-eqb, arith}
 use Rattle.relax_edges.specs.declared.kinds.Dir.TheVariants as dirs
-use Rattle.relax_edges.specs.declared.kinds.Mark.{Mark}
-use Rattle.relax_edges.specs.declared.kinds.Mark.TheVariants.{Plain}
+use Rattle.relax_edges.specs.declared.kinds.{Mark.Mark, Mark.TheVariants.Plain}
 use Rattle.micro_ops.specs.declared.held.Held.{Held}
 use Rattle.micro_ops.specs.declared.operation.Micro.TheVariants as ops
 use Rattle.micro_ops.specs.declared.operation.Item.TheVariants as items

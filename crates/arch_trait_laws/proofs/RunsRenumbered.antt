@@ -3,12 +3,9 @@ use Rattle.std.proofs.Common.{◌≡◌, ℕ, Bool, false, List, [], ◌∷◌, 
 use Rattle.std.specs.Option.{option_map}
 use Rattle.std.proofs.lemmas.List.{map-append}
 use Rattle.relax_edges.specs.declared.kinds.Value.{Value}
-use Rattle.micro_ops.specs.declared.held.Held.{Held}
-use Rattle.micro_ops.specs.declared.operation.Micro.{Micro}
-use Rattle.micro_ops.specs.declared.operation.Item.{Item}
-use Rattle.micro_ops.specs.Machine.{ThreadState, Effect, step}
+use Rattle.micro_ops.specs.declared.{held.Held.Held, operation.Micro.Micro, operation.Item.Item}
+use Rattle.micro_ops.specs.{Machine.ThreadState, Machine.Effect, Machine.step, Renumbering.op_at, Renumbering.value_at, Renumbering.item_at}
 use Rattle.micro_ops.specs.Running.{Run, Point, At, Past, Wants, Stuck, is_load, is_label, add_item, led, wanting, taken, go, exec, starting, beginning, Outcome, Ended, ReadsLeft, ReadsShort, NoRule, outcome, runs}
-use Rattle.micro_ops.specs.Renumbering.{op_at, value_at, item_at}
 
 -- what a register, a state, a run and so on are under other numbers
 abbrev held_at : (ℕ → ℕ) → Held → Held

@@ -1,9 +1,7 @@
 -- The texts that are printed by fixed texts are those of the table.
 use Rattle.std.proofs.Common.{◌≡◌, ◌<◌, ◌+◌, ℕ, zero, suc, List, [], ◌∷◌, ◌++◌, true, nat_le, length, sym, ap, ◌∙◌, append_assoc, arith, refl}
-use Rattle.std.specs.Prelude.{codes, slice_index_or}
-use Rattle.std.specs.Fmt.{decimal}
-use Rattle.std.proofs.lemmas.Bool.{le-leb}
-use Rattle.std.proofs.lemmas.Fmt.{decimal_digit}
+use Rattle.std.specs.{Prelude.codes, Prelude.slice_index_or, Fmt.decimal}
+use Rattle.std.proofs.lemmas.{Bool.le-leb, Fmt.decimal_digit}
 use Rattle.relax_edges.specs.declared.kinds.FenceKind.TheVariants as fences
 use Rattle.micro_ops.specs.declared.operation.Barrier.TheVariants as barriers
 use Rattle.micro_ops.specs.declared.operation.Micro.TheVariants as ops

@@ -2,10 +2,7 @@
 use Rattle.arch_trait.specs.Cells.{WritesCells, MakesOneAccess}
 use Rattle.arch_instructions_laws.proofs.InCells as tables
 use Rattle.arch_instructions_laws.proofs.Fenced.{fenced_once}
-use Rattle.arch_x86.specs.Puts.{puts}
-use Rattle.arch_x86.specs.Table.{table, x86_register_names, writing}
-use Rattle.arch_x86.specs.Clear.{is_clear_table}
-use Rattle.arch_x86.specs.Laws.{is_fenced}
+use Rattle.arch_x86.specs.{Puts.puts, Table.table, Table.x86_register_names, Table.writing, Clear.is_clear_table, Laws.is_fenced}
 
 -- the instructions of X86 fit in the cells of a table
 pub writes_cells : WritesCells puts writing

@@ -1,15 +1,10 @@
 -- Laws of reading back, for the crates above.
 use Rattle.std.proofs.Common.{ℕ, List, ◌≡◌, true}
 use Rattle.relax_edges.specs.declared.kinds.ArchName.{ArchName}
-use Rattle.arch_trait.specs.Threads.{Puts}
-use Rattle.arch_trait.specs.Writing.{Writing, WritesBack}
-use Rattle.arch_trait.specs.Cells.{WritesCells}
-use Rattle.arch_trait.specs.SeenTests.{TestSeen}
-use Rattle.litmus_text.specs.Reread.{IsReadable}
-use Rattle.litmus_text.specs.Mentioned.{TestReadsBack}
+use Rattle.arch_trait.specs.{Threads.Puts, Writing.Writing, Writing.WritesBack, Cells.WritesCells, SeenTests.TestSeen, PlaceNames.number_in}
+use Rattle.litmus_text.specs.{Reread.IsReadable, Mentioned.TestReadsBack}
 use Rattle.litmus_text.proofs.MentionedBack as mentioned_back
 use Rattle.std.specs.Prelude.{is_some}
-use Rattle.arch_trait.specs.PlaceNames.{number_in}
 use Rattle.litmus_text.proofs.NamesBack.{Numbered}
 use Rattle.litmus_text.proofs.NamesBack as names_back
 

@@ -1,46 +1,27 @@
 -- The test of a cycle is within the limits of the format: its code, its address registers and its terms.
 use Rattle.std.proofs.Common.{◌≡◌, ℕ, suc, ◌+◌, ◌<◌, ◌≤◌, ◌==◌, Bool, true, false, ◌||◌, List, [], ◌∷◌, ◌++◌, length, map, Some, slice_get, refl, sym, ap, ◌∙◌, subst, arith}
-use Rattle.std.specs.Prelude.{◌&&◌, is_some, nat_lt}
+use Rattle.std.specs.{Prelude.◌&&◌, Prelude.is_some, Prelude.nat_lt, Str.bytes_eq}
 use Rattle.std.specs.List.{AllByRecursion, list_all, filter, position_from, zip}
-use Rattle.std.specs.Str.{bytes_eq}
-use Rattle.std.proofs.lemmas.Bool.{eqb-true, lt-ltb, and_from}
-use Rattle.std.proofs.lemmas.List.{length-map}
-use Rattle.std.proofs.lemmas.List.Sums.{count_by-le-length}
-use Rattle.std.proofs.lemmas.Option.{slice_get_within, slice_get-get_or}
-use Rattle.std.proofs.lemmas.Slice.Eq.{bytes_eq-Decides}
-use Rattle.list_laws.proofs.Elements.{all_append}
-use Rattle.list_laws.proofs.Cases.{by_test}
+use Rattle.std.proofs.lemmas.{Bool.eqb-true, Bool.lt-ltb, Bool.and_from, List.length-map, List.Sums.count_by-le-length, Option.slice_get_within}
+use Rattle.std.proofs.lemmas.{Option.slice_get-get_or, Slice.Eq.bytes_eq-Decides}
+use Rattle.list_laws.proofs.{Elements.all_append, Cases.by_test, Numbers.length-upto, Numbers.slice_get-upto}
 use Rattle.list_laws.specs.Numbers.{upto}
-use Rattle.list_laws.proofs.Numbers.{length-upto, slice_get-upto}
-use Rattle.relax_edges.specs.declared.TheConstants.{MAX_EDGES}
-use Rattle.relax_edges.specs.declared.kinds.ArchName.{ArchName}
-use Rattle.relax_edges.specs.declared.kinds.ObsMode.{ObsMode}
-use Rattle.relax_edges.specs.declared.edge.Edge.{Edge}
+use Rattle.relax_edges.specs.declared.{TheConstants.MAX_EDGES, kinds.ArchName.ArchName, kinds.ObsMode.ObsMode, edge.Edge.Edge}
 use Rattle.cycle_events.proofs.Along.{write_count_most}
 use Rattle.cycle_events.specs.Resolution.{IsResolved, move_count}
 use Rattle.text_parts_laws.specs.Names.{is_place_name, is_register_name}
-use Rattle.arch_trait.specs.declared.arch.TheConstants.{MAX_INSTRS}
-use Rattle.arch_trait.specs.declared.step.Step.{Step}
-use Rattle.arch_trait.specs.Cells.{MakesOneAccess}
-use Rattle.arch_trait.specs.Codes.{AllBelow, IsFormedCode}
-use Rattle.arch_trait.specs.Laws.{IsArch, InOrder}
-use Rattle.arch_trait.specs.Links.{branches}
-use Rattle.arch_trait.specs.PlaceNames.{letters, location_name, number_in}
+use Rattle.arch_trait.specs.declared.{arch.TheConstants.MAX_INSTRS, step.Step.Step}
+use Rattle.arch_trait.specs.{Cells.MakesOneAccess, Codes.AllBelow, Codes.IsFormedCode, Laws.IsArch, Laws.InOrder, Links.branches, PlaceNames.letters}
+use Rattle.arch_trait.specs.{PlaceNames.location_name, PlaceNames.number_in, Writing.Writing, Writing.WritesBack, Writing.name_in}
 use Rattle.arch_trait.specs.Threads.{Puts, ThreadCode, FitSteps, compiled, is_load_dir, setting_out, visits}
-use Rattle.arch_trait.specs.Writing.{Writing, WritesBack, name_in}
-use Rattle.arch_trait_laws.proofs.Ordered.{compiled_ordered, compiled_accesses}
-use Rattle.arch_trait_laws.proofs.NameLaws.{location_new}
-use Rattle.arch_trait_laws.proofs.CodeLaws.{is_formed, thread_short}
-use Rattle.litmus_text.specs.Items.{Link, LinkFits, links_of}
-use Rattle.litmus_text.specs.Progress.{CodeFits, code_lands}
-use Rattle.litmus_text.specs.ReadTerms.{TermFits}
+use Rattle.arch_trait_laws.proofs.{Ordered.compiled_ordered, Ordered.compiled_accesses, NameLaws.location_new, CodeLaws.is_formed}
+use Rattle.arch_trait_laws.proofs.{CodeLaws.thread_short}
+use Rattle.litmus_text.specs.{Items.Link, Items.LinkFits, Items.links_of, Progress.CodeFits, Progress.code_lands, ReadTerms.TermFits}
 use Rattle.bytes_force_cycles.proofs.FormedFits.{HasPlaces, code_fits, lands_once, links_fit}
 use Rattle.accesses_force_cycles.proofs.Lists.{image_of}
-use Rattle.tests_force_cycles.specs.TestHeadline.{HasCode}
-use Rattle.tests_force_cycles.specs.CycleSteps.{cycle_steps, numbers_read}
+use Rattle.tests_force_cycles.specs.{TestHeadline.HasCode, CycleSteps.cycle_steps, CycleSteps.numbers_read}
 use Rattle.tests_force_cycles.specs.TestOf.{plain, is_named_location, last_term, last_terms, load_term, thread_terms, load_terms}
-use Rattle.tests_force_cycles.proofs.Everywhere.{all_from}
-use Rattle.tests_force_cycles.proofs.PlaceNames.{letter_at, locations_few}
+use Rattle.tests_force_cycles.proofs.{Everywhere.all_from, PlaceNames.letter_at, PlaceNames.locations_few}
 use Rattle.tests_force_cycles.proofs.StepsFit.{IsThread, all_at, steps_fit, steps_placed}
 use Rattle.bytes_force_cycles.proofs.Rereading.{got_is}
 

@@ -1,30 +1,17 @@
 -- The printed bytes of a readable test of a cycle force the cycle.
 use Rattle.std.proofs.Common.{◌≡◌, ℕ, List, length, refl, sym, ◌∙◌, subst}
-use Rattle.relax_edges.specs.declared.kinds.ArchName.{ArchName}
-use Rattle.relax_edges.specs.declared.kinds.ObsMode.{ObsMode}
-use Rattle.relax_edges.specs.declared.edge.Edge.{Edge}
+use Rattle.relax_edges.specs.declared.{kinds.ArchName.ArchName, kinds.ObsMode.ObsMode, edge.Edge.Edge}
 use Rattle.final_cond.specs.States.{Meets}
 use Rattle.cycle_events.specs.Resolution.{move_count}
-use Rattle.arch_trait.specs.Laws.{IsArch}
-use Rattle.arch_trait.specs.PlaceNames.{letters, number_in}
-use Rattle.arch_trait.specs.Threads.{Puts}
-use Rattle.arch_trait.specs.Writing.{Writing, WritesBack, name_in}
-use Rattle.litmus_text.specs.Mentioned.{TestReadsBack}
-use Rattle.litmus_text.specs.Reread.{reread}
-use Rattle.litmus_text.specs.TestReading.{TestRead}
-use Rattle.litmus_text.specs.TestText.{test_text}
-use Rattle.program_meaning.specs.Executions.{Execution}
-use Rattle.program_meaning.specs.Intended.{intended}
-use Rattle.program_meaning.specs.Programs.{Program, IsCandidate, IsCoherentIn}
-use Rattle.program_meaning.specs.Standing.{AllStand}
-use Rattle.tests_force_cycles.specs.FinalStates.{final_state, IsAskedFor}
-use Rattle.tests_force_cycles.specs.TestHeadline.{HasTest, IsRenumbered, Forces}
-use Rattle.tests_force_cycles.specs.TestPrograms.{test_program}
-use Rattle.tests_force_cycles.specs.TestOf.{test_of}
-use Rattle.tests_force_cycles.proofs.Headline.{renumbered_force_law}
-use Rattle.tests_force_cycles.proofs.RegisterNames.{registers_found}
-use Rattle.bytes_force_cycles.specs.PrintedHeadline.{BytesForce}
-use Rattle.bytes_force_cycles.specs.Readings.{program_read, place_in_test, ReadingAsks}
+use Rattle.arch_trait.specs.{Laws.IsArch, PlaceNames.letters, PlaceNames.number_in, Threads.Puts, Writing.Writing, Writing.WritesBack}
+use Rattle.arch_trait.specs.{Writing.name_in}
+use Rattle.litmus_text.specs.{Mentioned.TestReadsBack, Reread.reread, TestReading.TestRead, TestText.test_text}
+use Rattle.program_meaning.specs.{Executions.Execution, Intended.intended, Programs.Program, Programs.IsCandidate, Programs.IsCoherentIn}
+use Rattle.program_meaning.specs.{Standing.AllStand}
+use Rattle.tests_force_cycles.specs.{FinalStates.final_state, FinalStates.IsAskedFor, TestHeadline.HasTest, TestHeadline.IsRenumbered}
+use Rattle.tests_force_cycles.specs.{TestHeadline.Forces, TestPrograms.test_program, TestOf.test_of}
+use Rattle.tests_force_cycles.proofs.{Headline.renumbered_force_law, RegisterNames.registers_found}
+use Rattle.bytes_force_cycles.specs.{PrintedHeadline.BytesForce, Readings.program_read, Readings.place_in_test, Readings.ReadingAsks}
 use Rattle.bytes_force_cycles.proofs.NoInterleaving.{WritesInside, NotInOrder, test_writes_within, not_in_order, interleaving_ends}
 use Rattle.bytes_force_cycles.proofs.Rereading.{by_table, reread_test, reread_renumbered, threads_numbered, number_of_location, intended_same}
 

@@ -10,15 +10,9 @@ use Rattle.micro_ops.specs.declared.operation.Micro.TheVariants as ops
 use Rattle.micro_ops.specs.Running.{labels_of, lands, occurs}
 use Rattle.text_parts_laws.specs.Names.{is_place_name}
 use Rattle.arch_trait.specs.declared.step.Step.{Step}
-use Rattle.arch_trait.specs.Cells.{is_access, access_count}
-use Rattle.arch_trait.specs.LabelOrder.{labels_after, is_next, labels_ordered}
-use Rattle.arch_trait.specs.Codes.{is_within}
-use Rattle.arch_trait.specs.Laws.{InOrder}
-use Rattle.arch_trait.specs.PlaceNames.{number_in}
-use Rattle.arch_trait.specs.Threads.{Puts, ThreadCode, visits}
-use Rattle.arch_trait.specs.Writing.{Writing}
-use Rattle.litmus_text.specs.TestTable.{is_label_of, comes_once}
-use Rattle.litmus_text.specs.Progress.{is_placed, CodeFits, code_lands}
+use Rattle.arch_trait.specs.{Cells.is_access, Cells.access_count, LabelOrder.labels_after, LabelOrder.is_next, LabelOrder.labels_ordered}
+use Rattle.arch_trait.specs.{Codes.is_within, Laws.InOrder, PlaceNames.number_in, Threads.Puts, Threads.ThreadCode, Threads.visits, Writing.Writing}
+use Rattle.litmus_text.specs.{TestTable.is_label_of, TestTable.comes_once, Progress.is_placed, Progress.CodeFits, Progress.code_lands}
 use Rattle.litmus_text.specs.Items.{Link, links_of, links_once, LinkFits}
 use Rattle.arch_trait_laws.proofs.TakingLaws.{in_order_le}
 

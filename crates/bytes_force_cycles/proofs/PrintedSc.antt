@@ -2,27 +2,15 @@
 use Rattle.std.proofs.Common.{◌≡◌, ℕ, List, Ok, length, sym, ◌∙◌, subst}
 use Rattle.std.specs.Prelude.{Result}
 use Rattle.litmus_text.specs.declared.errors.TextError.{TextError}
-use Rattle.relax_edges.specs.declared.kinds.ArchName.{ArchName}
-use Rattle.relax_edges.specs.declared.kinds.ObsMode.{ObsMode}
-use Rattle.relax_edges.specs.declared.edge.Edge.{Edge}
+use Rattle.relax_edges.specs.declared.{kinds.ArchName.ArchName, kinds.ObsMode.ObsMode, edge.Edge.Edge}
 use Rattle.cycle_events.specs.Resolution.{move_count}
-use Rattle.arch_trait.specs.Cells.{WritesCells, MakesOneAccess}
-use Rattle.arch_trait.specs.Laws.{IsArch}
-use Rattle.arch_trait.specs.PlaceNames.{letters}
-use Rattle.arch_trait.specs.Threads.{Puts}
-use Rattle.arch_trait.specs.Writing.{Writing, WritesBack, name_in}
-use Rattle.litmus_text.specs.Mentioned.{TestReadsBack}
-use Rattle.litmus_text.specs.Reread.{reread}
-use Rattle.litmus_text.specs.TestReading.{TestRead}
-use Rattle.bytes_force_cycles.proofs.BackLaws.{reads_back}
-use Rattle.tests_force_cycles.specs.TestHeadline.{HasTest}
-use Rattle.tests_force_cycles.specs.TestPrograms.{test_program}
-use Rattle.tests_force_cycles.specs.TestOf.{test_of}
-use Rattle.bytes_force_cycles.specs.Readings.{program_read}
-use Rattle.bytes_force_cycles.proofs.Readable.{readable}
+use Rattle.arch_trait.specs.{Cells.WritesCells, Cells.MakesOneAccess, Laws.IsArch, PlaceNames.letters, Threads.Puts, Writing.Writing}
+use Rattle.arch_trait.specs.{Writing.WritesBack, Writing.name_in}
+use Rattle.litmus_text.specs.{Mentioned.TestReadsBack, Reread.reread, TestReading.TestRead}
+use Rattle.bytes_force_cycles.proofs.{BackLaws.reads_back, Readable.readable, ScLaws.tests_are_sc_per_location}
+use Rattle.tests_force_cycles.specs.{TestHeadline.HasTest, TestPrograms.test_program, TestOf.test_of}
+use Rattle.bytes_force_cycles.specs.{Readings.program_read, ScLaws.ScDecides, ScLaws.PrintedAreScPerLocation}
 use Rattle.bytes_force_cycles.proofs.Rereading.{reread_test, reread_renumbered, by_table, threads_numbered}
-use Rattle.bytes_force_cycles.specs.ScLaws.{ScDecides, PrintedAreScPerLocation}
-use Rattle.bytes_force_cycles.proofs.ScLaws.{tests_are_sc_per_location}
 
 -- the law for what is read back of a printed test
 read_sc : (a : Puts) (arch : ArchName) (w : Writing) (name : List ℕ) (es : List Edge) (mode : ObsMode) → IsArch a → HasTest a es mode → (r : TestReadsBack arch w name (test_of a (name_in w.registers) es mode)) → ScDecides (program_read (reread r.table name (test_of a (name_in w.registers) es mode)))

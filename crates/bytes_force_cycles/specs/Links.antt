@@ -1,26 +1,14 @@
 -- What is read of the printed text of a cycle's test: what each of its links does, and what it means that the outcome never comes.
 -- Source: own.
 use Rattle.std.specs.Prelude.{ℕ, ◌≡◌, ◌↔◌, List, [], Ok}
-use Rattle.relax_edges.specs.declared.kinds.ArchName.{ArchName}
-use Rattle.relax_edges.specs.declared.kinds.ObsMode.{ObsMode}
-use Rattle.relax_edges.specs.declared.edge.Edge.{Edge}
+use Rattle.relax_edges.specs.declared.{kinds.ArchName.ArchName, kinds.ObsMode.ObsMode, edge.Edge.Edge}
 use Rattle.final_cond.specs.States.{Meets}
-use Rattle.arch_trait.specs.PlaceNames.{number_in}
-use Rattle.arch_trait.specs.Threads.{Puts}
-use Rattle.arch_trait.specs.Writing.{Writing, name_in}
-use Rattle.litmus_text.specs.Printable.{IsTestName}
-use Rattle.litmus_text.specs.TestReading.{TestRead, test_read}
-use Rattle.litmus_text.specs.TestText.{test_text}
-use Rattle.program_meaning.specs.Executions.{Execution}
+use Rattle.arch_trait.specs.{PlaceNames.number_in, Threads.Puts, Writing.Writing, Writing.name_in}
+use Rattle.litmus_text.specs.{Printable.IsTestName, TestReading.TestRead, TestReading.test_read, TestText.test_text}
+use Rattle.program_meaning.specs.{Executions.Execution, Standing.AllStand, Standing.event_name, Intended.intended, Intended.observed_locations}
 use Rattle.program_meaning.specs.Programs.{Program, IsCandidate, IsCoherentIn, accesses_in}
-use Rattle.program_meaning.specs.Standing.{AllStand, event_name}
-use Rattle.program_meaning.specs.Intended.{intended, observed_locations}
-use Rattle.sc_and_interleavings.specs.Sequential.{HasNoCycle}
-use Rattle.sc_and_interleavings.specs.LinkLaws.{IsLink}
-use Rattle.sc_and_interleavings.specs.Links.{PrecedesBut}
-use Rattle.tests_force_cycles.specs.FinalStates.{final_state}
-use Rattle.tests_force_cycles.specs.TestHeadline.{HasTest}
-use Rattle.tests_force_cycles.specs.TestOf.{test_of}
+use Rattle.sc_and_interleavings.specs.{Sequential.HasNoCycle, LinkLaws.IsLink, Links.PrecedesBut}
+use Rattle.tests_force_cycles.specs.{FinalStates.final_state, TestHeadline.HasTest, TestOf.test_of}
 use Rattle.bytes_force_cycles.specs.Readings.{program_read, place_in_test}
 
 -- bytes are the printed text of the test of a cycle, under a name of its form, and they are read as this test

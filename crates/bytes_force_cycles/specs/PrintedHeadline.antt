@@ -1,27 +1,15 @@
 -- What the bytes of a printed test say of its cycle.
 -- Source: own.
 use Rattle.std.specs.Prelude.{◌≡◌, ℕ, List, Ok}
-use Rattle.relax_edges.specs.declared.kinds.ArchName.{ArchName}
-use Rattle.relax_edges.specs.declared.kinds.ObsMode.{ObsMode}
-use Rattle.relax_edges.specs.declared.edge.Edge.{Edge}
+use Rattle.relax_edges.specs.declared.{kinds.ArchName.ArchName, kinds.ObsMode.ObsMode, edge.Edge.Edge}
 use Rattle.final_cond.specs.declared.cond.Quantifier.TheVariants.{Exists}
 use Rattle.final_cond.specs.States.{Meets}
-use Rattle.arch_trait.specs.PlaceNames.{number_in}
-use Rattle.arch_trait.specs.Threads.{Puts}
-use Rattle.arch_trait.specs.Writing.{Writing, name_in}
-use Rattle.litmus_text.specs.Printable.{IsTestName}
-use Rattle.litmus_text.specs.Reread.{IsReadable}
-use Rattle.litmus_text.specs.TestReading.{TestRead, test_read}
-use Rattle.litmus_text.specs.TestText.{test_text}
+use Rattle.arch_trait.specs.{PlaceNames.number_in, Threads.Puts, Writing.Writing, Writing.name_in}
+use Rattle.litmus_text.specs.{Printable.IsTestName, Reread.IsReadable, TestReading.TestRead, TestReading.test_read, TestText.test_text}
 use Rattle.program_meaning.specs.declared.WriteAt.{WriteAt}
-use Rattle.program_meaning.specs.Executions.{Execution}
-use Rattle.program_meaning.specs.Programs.{IsCandidate, accesses_in}
-use Rattle.program_meaning.specs.Intended.{intended}
-use Rattle.program_meaning.specs.Standing.{AllStand}
+use Rattle.program_meaning.specs.{Executions.Execution, Programs.IsCandidate, Programs.accesses_in, Intended.intended, Standing.AllStand}
 use Rattle.sc_and_interleavings.specs.Sequential.{IsSequential}
-use Rattle.tests_force_cycles.specs.FinalStates.{final_state}
-use Rattle.tests_force_cycles.specs.TestHeadline.{HasTest}
-use Rattle.tests_force_cycles.specs.TestOf.{test_of}
+use Rattle.tests_force_cycles.specs.{FinalStates.final_state, TestHeadline.HasTest, TestOf.test_of}
 use Rattle.bytes_force_cycles.specs.Readings.{program_read, place_in_test, ReadingAsks, InterleavingMeets}
 
 -- Bytes force a cycle: they are read as a test, and its condition asks whether there is an execution of a kind. No interleaving

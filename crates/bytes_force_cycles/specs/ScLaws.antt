@@ -2,22 +2,13 @@
 -- coherence.
 -- Source: own.
 use Rattle.std.specs.Prelude.{ℕ, ◌≡◌, ◌↔◌, List, Ok}
-use Rattle.relax_edges.specs.declared.kinds.ArchName.{ArchName}
-use Rattle.relax_edges.specs.declared.kinds.ObsMode.{ObsMode}
-use Rattle.relax_edges.specs.declared.edge.Edge.{Edge}
-use Rattle.arch_trait.specs.Laws.{IsArch}
-use Rattle.arch_trait.specs.Threads.{Puts}
-use Rattle.arch_trait.specs.Writing.{Writing, name_in}
-use Rattle.arch_trait.specs.SeenTests.{TestSeen}
-use Rattle.litmus_text.specs.Printable.{IsTestName}
-use Rattle.litmus_text.specs.TestReading.{TestRead, test_read}
-use Rattle.litmus_text.specs.TestText.{test_text}
+use Rattle.relax_edges.specs.declared.{kinds.ArchName.ArchName, kinds.ObsMode.ObsMode, edge.Edge.Edge}
+use Rattle.arch_trait.specs.{Laws.IsArch, Threads.Puts, Writing.Writing, Writing.name_in, SeenTests.TestSeen}
+use Rattle.litmus_text.specs.{Printable.IsTestName, TestReading.TestRead, TestReading.test_read, TestText.test_text}
 use Rattle.program_meaning.specs.Executions.{Execution}
 use Rattle.program_meaning.specs.Programs.{Program, IsCandidate, IsCoherentIn, accesses_in}
 use Rattle.sc_and_interleavings.specs.Relations.{IsScPerLocation}
-use Rattle.tests_force_cycles.specs.TestHeadline.{HasTest, IsRenumbered}
-use Rattle.tests_force_cycles.specs.TestPrograms.{test_program}
-use Rattle.tests_force_cycles.specs.TestOf.{test_of}
+use Rattle.tests_force_cycles.specs.{TestHeadline.HasTest, TestHeadline.IsRenumbered, TestPrograms.test_program, TestOf.test_of}
 use Rattle.bytes_force_cycles.specs.Readings.{program_read}
 
 -- each candidate execution of a program is coherent per location exactly where it is SC per location

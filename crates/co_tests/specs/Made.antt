@@ -4,8 +4,7 @@ use Rattle.std.specs.Prelude.{ℕ, ◌≡◌, nat_lt, List, Option, Some, None, 
 use Rattle.std.specs.Option.{option_or}
 use Rattle.relax_edges.specs.declared.edge.Edge.{Edge}
 use Rattle.cycle_events.specs.Resolution.{external_count, turned}
-use Rattle.arch_trait.specs.Threads.{Puts}
-use Rattle.arch_trait.specs.SeenTests.{TestSeen}
+use Rattle.arch_trait.specs.{Threads.Puts, SeenTests.TestSeen}
 use Rattle.litmus_text.specs.declared.test.Test.{Test}
 use Rattle.litmus_text.specs.Tests.{test_seen}
 use Rattle.co_tests_laws.specs.declared.refusal.CoRefusal.{CoRefusal}

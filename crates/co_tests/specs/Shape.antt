@@ -5,8 +5,7 @@ use Rattle.relax_edges.specs.declared.edge.Edge.{Edge}
 use Rattle.relax_edges.specs.EdgeTable.{is_diff}
 use Rattle.edge_algebra_laws.specs.Composable.{IsCycle}
 use Rattle.cycle_events.specs.Resolution.{ends_outside, external_count}
-use Rattle.co_tests_laws.specs.CutResolution.{is_ordering}
-use Rattle.co_tests_laws.specs.CoherenceTests.{writes_in}
+use Rattle.co_tests_laws.specs.{CutResolution.is_ordering, CoherenceTests.writes_in}
 
 -- a turned cycle is over one location and has a cut and at most two writes
 pub record HasShape (es : List Edge) : Type 0 where

@@ -4,8 +4,7 @@ use Rattle.std.specs.List.{zip}
 use Rattle.final_cond.specs.Conditions.{TermSeen, AtPlace}
 use Rattle.arch_trait.specs.declared.step.Step.{Step}
 use Rattle.arch_trait.specs.PlaceNames.{location_name}
-use Rattle.tests_force_cycles.specs.CycleSteps.{numbers_read}
-use Rattle.tests_force_cycles.specs.TestOf.{load_term}
+use Rattle.tests_force_cycles.specs.{CycleSteps.numbers_read, TestOf.load_term}
 
 -- the last value of the one place, where it has two writes
 abbrev pub last_of_writes : ℕ → List TermSeen

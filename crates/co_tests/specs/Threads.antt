@@ -4,16 +4,12 @@ use Rattle.arrayvec.specs.ArrayVec.{ArrayVec}
 use Rattle.relax_edges.specs.declared.edge.Edge.{Edge}
 use Rattle.final_cond.specs.declared.cond.Cond.{Cond}
 use Rattle.final_cond.specs.Conditions.{term_view}
-use Rattle.arch_trait.specs.declared.code.Code.{Code}
-use Rattle.arch_trait.specs.declared.step.Step.{Step}
-use Rattle.arch_trait.specs.Codes.{thread_code_of}
-use Rattle.arch_trait.specs.Threads.{Puts, compiled}
+use Rattle.arch_trait.specs.declared.{code.Code.Code, step.Step.Step}
+use Rattle.arch_trait.specs.{Codes.thread_code_of, Threads.Puts, Threads.compiled}
 use Rattle.tests_force_cycles.specs.TestOf.{load_terms, thread_terms}
 use Rattle.test_maker.specs.Refusals.{is_crowded}
-use Rattle.co_tests_laws.specs.declared.refusal.CoRefusal.{CoRefusal}
-use Rattle.co_tests_laws.specs.declared.refusal.CoRefusal.TheVariants.{TooManyRegisters}
-use Rattle.co_tests_laws.specs.CoherenceTests.{coherence_steps}
-use Rattle.co_tests_laws.specs.CoRefusals.{crowded_thread}
+use Rattle.co_tests_laws.specs.declared.refusal.{CoRefusal.CoRefusal, CoRefusal.TheVariants.TooManyRegisters}
+use Rattle.co_tests_laws.specs.{CoherenceTests.coherence_steps, CoRefusals.crowded_thread}
 
 -- a call makes the code of a thread after those before it and appends the terms of its loads, or refuses the thread for its registers
 abbrev pub PutsThread : Puts → (ℕ → List ℕ) → ℕ → List Step → ArrayVec Code → ArrayVec Code → Cond → Cond → Result (Unit {0}) CoRefusal → Type 0

@@ -1,18 +1,12 @@
 -- A cycle that isn't refused has a coherence test, once it is turned so that its last edge leads to another thread.
 use Rattle.std.proofs.Common.{◌≡◌, ℕ, ◌≤◌, Bool, true, false, not, List, drop, take, Option, None, sym, ◌∙◌, ap, subst, arith}
-use Rattle.std.specs.Prelude.{◌||◌, nat_lt}
-use Rattle.std.specs.List.{list_all, list_any, position_from}
-use Rattle.std.specs.Option.{option_map, option_or}
-use Rattle.std.proofs.Math.Bool.{and_comm}
-use Rattle.std.proofs.lemmas.Bool.{ltb-false}
-use Rattle.std.proofs.lemmas.List.{take-append-drop}
-use Rattle.std.proofs.lemmas.List.Folds.{list_all-append, list_any-append}
-use Rattle.std.proofs.lemmas.List.Sums.{sum_by-append}
+use Rattle.std.specs.{Prelude.◌||◌, Prelude.nat_lt, List.list_all, List.list_any, List.position_from, Option.option_map, Option.option_or}
+use Rattle.std.proofs.{Math.Bool.and_comm, lemmas.Bool.ltb-false, lemmas.List.take-append-drop, lemmas.List.Folds.list_all-append}
+use Rattle.std.proofs.{lemmas.List.Folds.list_any-append, lemmas.List.Sums.sum_by-append}
 use Rattle.list_laws.proofs.Places.{none_foreign}
 use Rattle.relax_edges.specs.declared.edge.Edge.{Edge}
 use Rattle.relax_edges.specs.EdgeTable.{is_diff, is_of_arch}
-use Rattle.edge_algebra_laws.specs.Composable.{IsCycle}
-use Rattle.edge_algebra_laws.specs.Rotation.{rotated}
+use Rattle.edge_algebra_laws.specs.{Composable.IsCycle, Rotation.rotated}
 use Rattle.edge_algebra_laws.proofs.Composing.{rotated_cycle}
 use Rattle.cycle_events.specs.Resolution.{external_count, turned}
 use Rattle.cycle_events.proofs.Turning.{turn_of, external_count-rotated}
@@ -21,10 +15,8 @@ use Rattle.test_maker.specs.Refusals.{is_crowded}
 use Rattle.tests_force_cycles.proofs.Headline.{room_left}
 use Rattle.co_tests_laws.specs.declared.refusal.CoRefusal.{CoRefusal}
 use Rattle.co_tests_laws.specs.declared.refusal.CoRefusal.TheVariants.{NotOfArch, TooFewThreads, NotCoherence, ManyWrites, TooManyRegisters}
-use Rattle.co_tests_laws.specs.CutResolution.{is_ordering}
-use Rattle.co_tests_laws.specs.CoherenceTests.{writes_in, coherence_steps}
+use Rattle.co_tests_laws.specs.{CutResolution.is_ordering, CoherenceTests.writes_in, CoherenceTests.coherence_steps, Incoherence.AcceptedHaveTests}
 use Rattle.co_tests_laws.specs.CoRefusals.{foreign_edge, reason_if, is_no_coherence, crowded_thread}
-use Rattle.co_tests_laws.specs.Incoherence.{AcceptedHaveTests}
 
 -- where neither of two reasons holds
 neither : (a b : Option CoRefusal) → option_or a b ≡ None → (a ≡ None) × (b ≡ None)

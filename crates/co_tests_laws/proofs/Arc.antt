@@ -1,17 +1,12 @@
 -- The arc of a cut cycle begins behind the cut, and the values count the writes along it.
 use Rattle.std.proofs.Common.{◌≡◌, ℕ, zero, suc, ◌+◌, ◌<◌, ◌≤◌, Bool, true, false, not, List, [], ◌∷◌, ◌++◌, length, drop, take, Some, slice_get, refl, sym, ◌∙◌, ap, arith, add-one, eq-eqb}
 use Rattle.std.specs.List.{count_by, filter}
-use Rattle.std.proofs.lemmas.Bool.{ne_eqb}
+use Rattle.std.proofs.lemmas.{Bool.ne_eqb, Option.slice_get-get_or}
 use Rattle.std.proofs.lemmas.List.{take-append-le, drop-append-le, take_all, drop_all}
-use Rattle.std.proofs.lemmas.Option.{slice_get-get_or}
 use Rattle.list_laws.specs.Numbers.{upto}
-use Rattle.list_laws.proofs.Cases.{by_less}
-use Rattle.list_laws.proofs.Numbers.{length-upto}
-use Rattle.list_laws.proofs.Ranks.{filter_upto_yes, filter_upto_no}
+use Rattle.list_laws.proofs.{Cases.by_less, Numbers.length-upto, Ranks.filter_upto_yes, Ranks.filter_upto_no}
 use Rattle.relax_edges.specs.declared.kinds.Dir.TheVariants as dirs
-use Rattle.relax_edges.specs.declared.kinds.Reach.TheVariants.{Internal}
-use Rattle.relax_edges.specs.declared.kinds.Com.TheVariants.{Rf}
-use Rattle.relax_edges.specs.declared.edge.Edge.{Edge}
+use Rattle.relax_edges.specs.declared.{kinds.Reach.TheVariants.Internal, kinds.Com.TheVariants.Rf, edge.Edge.Edge}
 use Rattle.relax_edges.specs.declared.edge.Edge.TheVariants as edges
 use Rattle.relax_edges.specs.EdgeTable.{source_of, same_dir}
 use Rattle.cycle_events.specs.Resolution.{edge_at}
@@ -19,11 +14,9 @@ use Rattle.cycle_events.specs.Values.{is_after_moves, way, arc, arc_of, writes_c
 use Rattle.cycle_events.proofs.ValueArcs.{value_on_arc}
 use Rattle.accesses_force_cycles.proofs.Lists.{filter_all}
 use Rattle.tests_force_cycles.proofs.Everywhere.{position_first}
-use Rattle.co_tests_laws.specs.CutResolution.{is_ordering, cut_of, cut_open}
-use Rattle.co_tests_laws.specs.Arc.{arc_behind, ValuesCountAlongArc}
-use Rattle.co_tests_laws.proofs.Opened.{source_same, same_at, opened-length}
+use Rattle.co_tests_laws.specs.{CutResolution.is_ordering, CutResolution.cut_of, CutResolution.cut_open, Arc.arc_behind, Arc.ValuesCountAlongArc}
+use Rattle.co_tests_laws.proofs.{Opened.source_same, Opened.same_at, Opened.opened-length, Printed.has_code}
 use Rattle.co_tests_laws.proofs.Values.{Cut, IsCut, one_move, one_location, moves_early, moves_late}
-use Rattle.co_tests_laws.proofs.Printed.{has_code}
 
 -- a test that the numbers above c pass, and no other
 record Above (c m : ℕ) (p : ℕ → Bool) : Type 0 where

@@ -1,52 +1,32 @@
 -- The condition of a coherence test is met by a candidate execution exactly where each load reads the number that is asked for
 -- and the place, where there are two writes, ends with the last value.
 use Rattle.std.proofs.Common.{◌≡◌, ℕ, ◌≤◌, Bool, true, not, cond, List, [], ◌∷◌, length, map, Option, Some, slice_get, sym, ◌∙◌, ap, subst, arith}
-use Rattle.std.specs.Prelude.{nat_le}
-use Rattle.std.specs.List.{AllByRecursion, filter}
-use Rattle.std.specs.Option.{option_map, option_and_then}
+use Rattle.std.specs.{Prelude.nat_le, List.AllByRecursion, List.filter, Option.option_map, Option.option_and_then}
 use Rattle.std.proofs.lemmas.Bool.{and_from, and_parts, leb-true, le-leb}
-use Rattle.std.proofs.lemmas.List.{length-map}
-use Rattle.std.proofs.lemmas.Option.{slice_get_within}
-use Rattle.relax_edges.specs.declared.kinds.Value.{Value}
-use Rattle.relax_edges.specs.declared.kinds.Value.TheVariants.{Num}
-use Rattle.relax_edges.specs.declared.kinds.ObsMode.TheVariants.{Avoid}
-use Rattle.relax_edges.specs.declared.edge.Edge.{Edge}
+use Rattle.std.proofs.lemmas.{List.length-map, Option.slice_get_within}
+use Rattle.relax_edges.specs.declared.{kinds.Value.Value, kinds.Value.TheVariants.Num, kinds.ObsMode.TheVariants.Avoid, edge.Edge.Edge}
 use Rattle.list_laws.specs.Numbers.{upto}
 use Rattle.list_laws.proofs.Cases.{by_test}
-use Rattle.cycle_events.specs.Resolution.{move_count}
-use Rattle.cycle_events.specs.Values.{is_observed, write_count}
+use Rattle.cycle_events.specs.{Resolution.move_count, Values.is_observed, Values.write_count}
 use Rattle.final_cond.specs.Conditions.{LeftSeen, TermSeen, AtPlace}
 use Rattle.arch_trait.specs.declared.step.Step.{Step}
-use Rattle.arch_trait.specs.Codes.{AllBelow, MakesSteps}
-use Rattle.arch_trait.specs.Laws.{IsArch}
-use Rattle.arch_trait.specs.PlaceNames.{location_name, number_in}
-use Rattle.arch_trait.specs.PlaceRenumbering.{step_at, renumbered}
+use Rattle.arch_trait.specs.{Codes.AllBelow, Codes.MakesSteps, Laws.IsArch, PlaceNames.location_name, PlaceNames.number_in, PlaceRenumbering.step_at}
+use Rattle.arch_trait.specs.{PlaceRenumbering.renumbered}
 use Rattle.arch_trait.specs.Threads.{Puts, ThreadCode, compiled, HoldNumbers, shape_of}
-use Rattle.arch_trait_laws.proofs.CodeLaws.{makes_steps, is_formed}
-use Rattle.arch_trait_laws.proofs.Renumbered.{renumbered_makes}
+use Rattle.arch_trait_laws.proofs.{CodeLaws.makes_steps, CodeLaws.is_formed, Renumbered.renumbered_makes}
 use Rattle.program_meaning.specs.declared.WriteAt.{WriteAt}
-use Rattle.program_meaning.specs.Accesses.{Access, is_read}
-use Rattle.program_meaning.specs.Executions.{Execution}
-use Rattle.program_meaning.specs.Coherence.{final_value}
+use Rattle.program_meaning.specs.{Accesses.Access, Accesses.is_read, Executions.Execution, Coherence.final_value, Intended.cycle_accesses}
 use Rattle.program_meaning.specs.Programs.{IsCandidate, accesses_in, held_at_last, register_in}
-use Rattle.program_meaning.specs.Intended.{cycle_accesses}
 use Rattle.accesses_force_cycles.specs.Joining.{ReadsAsAsked, values_read}
 use Rattle.accesses_force_cycles.proofs.Lists.{got_below, got_map}
-use Rattle.tests_force_cycles.specs.CycleSteps.{cycle_steps, numbers_read}
+use Rattle.tests_force_cycles.specs.{CycleSteps.cycle_steps, CycleSteps.numbers_read, FinalStates.final_state, TestHeadline.FindsRegisters}
 use Rattle.tests_force_cycles.specs.TestOf.{plain, is_named_location, last_term, last_terms, thread_terms, load_terms}
-use Rattle.tests_force_cycles.specs.FinalStates.{final_state}
-use Rattle.tests_force_cycles.specs.TestHeadline.{FindsRegisters}
-use Rattle.tests_force_cycles.proofs.Terms.{reads-count}
-use Rattle.tests_force_cycles.proofs.Visits.{step_access}
-use Rattle.tests_force_cycles.proofs.ThreadRuns.{AreCodesOf, DidThread, did_thread}
+use Rattle.tests_force_cycles.proofs.{Terms.reads-count, Visits.step_access, ThreadRuns.AreCodesOf, ThreadRuns.DidThread, ThreadRuns.did_thread}
 use Rattle.tests_force_cycles.proofs.Making.{planned_at, planned-count, planned_reads, candidate_enough, candidate_lists}
 use Rattle.tests_force_cycles.proofs.TestCodes.{cycle_codes, cycle_program, steps_numbered, Origin, origin_of, numbers_kept}
 use Rattle.tests_force_cycles.proofs.Meeting.{IsMet, ShowsRegisters, terms_of_thread, terms_from_threads, terms_read, read_terms}
-use Rattle.co_tests_laws.specs.CutResolution.{cut_open}
-use Rattle.co_tests_laws.specs.CoherenceTests.{writes_in, coherence_steps}
-use Rattle.co_tests_laws.proofs.Values.{IsCut, one_move, write_count_is}
-use Rattle.co_tests_laws.proofs.Events.{unobserved}
-use Rattle.co_tests_laws.proofs.Fits.{IsLoopOf, loop_thread}
+use Rattle.co_tests_laws.specs.{CutResolution.cut_open, CoherenceTests.writes_in, CoherenceTests.coherence_steps}
+use Rattle.co_tests_laws.proofs.{Values.IsCut, Values.one_move, Values.write_count_is, Events.unobserved, Fits.IsLoopOf, Fits.loop_thread}
 
 -- such a cycle has code on an architecture: no thread needs more registers than there are
 pub record HasLoopCode (a : Puts) (es : List Edge) : Type 0 where

@@ -1,51 +1,38 @@
 -- The accesses of a coherence test are at one place and their writes are numbered by their values, so one execution alone
 -- has these values: the stated one. Each edge joins its accesses in it, and it has a cycle.
 use Rattle.std.proofs.Common.{◌≡◌, ◌≢◌, ℕ, zero, suc, ◌+◌, ◌-◌, ◌<◌, ◌≤◌, true, false, List, [], ◌∷◌, ◌++◌, length, map, Option, Some, None, slice_get, refl, sym, ◌∙◌, ap, subst, arith, add-one}
-use Rattle.std.specs.List.{filter, filter_map}
-use Rattle.std.specs.Option.{option_map}
+use Rattle.std.specs.{List.filter, List.filter_map, Option.option_map}
 use Rattle.std.proofs.lemmas.List.{map-append}
 use Rattle.list_laws.specs.Numbers.{upto}
 use Rattle.list_laws.proofs.Cases.{by_less}
-use Rattle.relax_edges.specs.declared.kinds.Dir.{Dir}
+use Rattle.relax_edges.specs.declared.{kinds.Dir.Dir, kinds.Sd.Sd, kinds.Sd.TheVariants.Same, kinds.Sd.TheVariants.Diff, kinds.Reach.Reach}
+use Rattle.relax_edges.specs.declared.{kinds.Reach.TheVariants.Internal, kinds.Reach.TheVariants.External, kinds.Com.Com, kinds.Kind.Kind}
+use Rattle.relax_edges.specs.declared.{kinds.ObsMode.TheVariants.Avoid, edge.Edge.Edge}
 use Rattle.relax_edges.specs.declared.kinds.Dir.TheVariants as dirs
-use Rattle.relax_edges.specs.declared.kinds.Sd.{Sd}
-use Rattle.relax_edges.specs.declared.kinds.Sd.TheVariants.{Same, Diff}
-use Rattle.relax_edges.specs.declared.kinds.Reach.{Reach}
-use Rattle.relax_edges.specs.declared.kinds.Reach.TheVariants.{Internal, External}
-use Rattle.relax_edges.specs.declared.kinds.Com.{Com}
 use Rattle.relax_edges.specs.declared.kinds.Com.TheVariants as coms
-use Rattle.relax_edges.specs.declared.kinds.Kind.{Kind}
 use Rattle.relax_edges.specs.declared.kinds.Kind.TheVariants as kinds
-use Rattle.relax_edges.specs.declared.kinds.ObsMode.TheVariants.{Avoid}
-use Rattle.relax_edges.specs.declared.edge.Edge.{Edge}
 use Rattle.relax_edges.specs.EdgeTable.{kind_of, kind_source, kind_target, source_of, target_of, sd_of, reach_of, is_external, same_dir}
 use Rattle.edge_algebra_laws.specs.Composable.{IsCycle}
 use Rattle.cycle_events.specs.Resolution.{edge_at, ends_outside, external_count, move_count, thread_of, slot_of, location_of, events_in, event_after}
 use Rattle.cycle_events.proofs.Locations as outside
 use Rattle.cycle_events.proofs.Threads.{thread_in, thread_out, thread_up, thread_end, thread-zero, slot_in, event_in_slot, slot_of_event}
-use Rattle.cycle_events.proofs.Around.{by_after, after_below, source_after}
+use Rattle.cycle_events.proofs.{Around.by_after, Around.after_below, Around.source_after, Writes.write_at_from, Writes.is_write_number}
 use Rattle.cycle_events.specs.Values.{is_observed, value_of, write_count}
-use Rattle.cycle_events.proofs.Writes.{write_at_from, is_write_number}
 use Rattle.program_meaning.specs.declared.WriteAt.{WriteAt}
 use Rattle.program_meaning.specs.Accesses.{Access, write, is_read, reads_by, got_from, at_name}
-use Rattle.program_meaning.specs.Executions.{Execution}
-use Rattle.program_meaning.specs.Coherence.{source_at}
+use Rattle.program_meaning.specs.{Executions.Execution, Coherence.source_at}
 use Rattle.program_meaning.specs.Standing.{AreAt, CommunicatesBy, ComesBefore, Reaches, Joins, event_name}
 use Rattle.program_meaning.specs.Intended.{IsNumbering, observed_locations, event_access, event_at, observer_accesses, cycle_accesses, ordered_write, write_of, event_read, observer_reads, reads_in, location_order, location_numbered, intended}
 use Rattle.program_meaning.proofs.Names.{GotFrom, got_from_list}
 use Rattle.accesses_force_cycles.proofs.Lists.{got_map, image_of, map_same, map-map, filter-map}
-use Rattle.accesses_force_cycles.proofs.Numbering.{location_of_number}
-use Rattle.accesses_force_cycles.proofs.Accesses.{EventAt, thread_accesses, observer_thread}
-use Rattle.accesses_force_cycles.proofs.ReadLists.{reads_by_source}
-use Rattle.co_tests_laws.specs.CutResolution.{orders_by, is_ordering, cut_open}
-use Rattle.co_tests_laws.specs.CoherenceTests.{writes_in}
-use Rattle.co_tests_laws.specs.Incoherence.{HasCycle}
+use Rattle.accesses_force_cycles.proofs.{Numbering.location_of_number, Accesses.EventAt, Accesses.thread_accesses, Accesses.observer_thread}
+use Rattle.accesses_force_cycles.proofs.{ReadLists.reads_by_source, Resolves.written_by, Bridge.moves, Bridge.stays_inside, Bridge.goes_outside}
+use Rattle.co_tests_laws.specs.{CutResolution.orders_by, CutResolution.is_ordering, CutResolution.cut_open, CoherenceTests.writes_in}
+use Rattle.co_tests_laws.specs.{Incoherence.HasCycle}
 use Rattle.co_tests_laws.proofs.OnePlace.{Numbered, by_value, source_in, by_values, by_values_source, by_values_place}
 use Rattle.co_tests_laws.proofs.Turning.{Falls, has_cycle}
 use Rattle.co_tests_laws.proofs.Opened.{source_same, external_same, same_at, opened-length, opened-threads, opened_thread, opened_slot}
 use Rattle.co_tests_laws.proofs.Values.{IsCut, written-all, one_move, one_location, write_count_is, value_along, value_begins, value_ends, value_within, value_positive, value_written, next_written, written_up}
-use Rattle.accesses_force_cycles.proofs.Resolves.{written_by}
-use Rattle.accesses_force_cycles.proofs.Bridge.{moves, stays_inside, goes_outside}
 
 -- a cycle over one location that is cut, and that composes and ends with an edge to another of two threads or more
 pub record IsLoop (es : List Edge) : Type 0 where

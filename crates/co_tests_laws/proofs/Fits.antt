@@ -3,33 +3,24 @@ use Rattle.std.proofs.Common.{◌≡◌, ℕ, zero, suc, ◌+◌, ◌<◌, ◌�
 use Rattle.std.specs.List.{list_all}
 use Rattle.std.proofs.lemmas.List.{length-map}
 use Rattle.list_laws.proofs.Cases.{by_test}
-use Rattle.relax_edges.specs.declared.kinds.Dir.{Dir}
-use Rattle.relax_edges.specs.declared.kinds.Reach.TheVariants.{Internal}
-use Rattle.relax_edges.specs.declared.kinds.Com.TheVariants.{Rf}
-use Rattle.relax_edges.specs.declared.kinds.ArchName.{ArchName}
-use Rattle.relax_edges.specs.declared.kinds.ObsMode.TheVariants.{Avoid}
-use Rattle.relax_edges.specs.declared.edge.Edge.{Edge}
+use Rattle.relax_edges.specs.declared.{kinds.Dir.Dir, kinds.Reach.TheVariants.Internal, kinds.Com.TheVariants.Rf, kinds.ArchName.ArchName}
+use Rattle.relax_edges.specs.declared.{kinds.ObsMode.TheVariants.Avoid, edge.Edge.Edge}
 use Rattle.relax_edges.specs.declared.edge.Edge.TheVariants as edges
 use Rattle.relax_edges.specs.EdgeTable.{kind_of, source_of, source_mark, mark_fits, mark_is_of, is_of_arch, is_external}
 use Rattle.edge_algebra_laws.proofs.Marks.{source_mark_fits}
 use Rattle.cycle_events.specs.Resolution.{edge_at, events_in, thread_of, slot_of}
-use Rattle.cycle_events.proofs.Threads.{slot-zero, slot_out, slot_of_event}
-use Rattle.cycle_events.proofs.Around.{source_after}
-use Rattle.cycle_events.proofs.Sizes.{only_in_slot, thread_has_events, thread_size_most}
-use Rattle.arch_trait.specs.declared.step.Step.{Step}
-use Rattle.arch_trait.specs.declared.link.Link.TheVariants.{Plain}
+use Rattle.cycle_events.proofs.{Threads.slot-zero, Threads.slot_out, Threads.slot_of_event, Around.source_after, Sizes.only_in_slot}
+use Rattle.cycle_events.proofs.{Sizes.thread_has_events, Sizes.thread_size_most}
+use Rattle.arch_trait.specs.declared.{step.Step.Step, link.Link.TheVariants.Plain}
 use Rattle.arch_trait.specs.Links.{edge_link, link_is_of, depends_on_load, is_data}
 use Rattle.arch_trait.specs.Threads.{FitStep, FitSteps, is_load_dir}
 use Rattle.accesses_force_cycles.proofs.Lists.{image_of}
 use Rattle.tests_force_cycles.specs.CycleSteps.{event_link, event_step, thread_steps, cycle_steps}
-use Rattle.tests_force_cycles.proofs.EdgeMarks.{has_edge}
-use Rattle.tests_force_cycles.proofs.StepsAt.{by_steps}
+use Rattle.tests_force_cycles.proofs.{EdgeMarks.has_edge, StepsAt.by_steps}
 use Rattle.tests_force_cycles.proofs.StepsFit.{Before, IsThread, all_at, link_between, link_first, link_enters, link_leaves, fit_from}
-use Rattle.co_tests_laws.specs.CutResolution.{cut_open}
-use Rattle.co_tests_laws.specs.CoherenceTests.{writes_in}
+use Rattle.co_tests_laws.specs.{CutResolution.cut_open, CoherenceTests.writes_in}
 use Rattle.co_tests_laws.proofs.Opened.{source_same, source_mark_same, external_same, link_same, same_at, opened-length, opened_after}
-use Rattle.co_tests_laws.proofs.Values.{value_within}
-use Rattle.co_tests_laws.proofs.Events.{IsLoop, unobserved, internal_follows}
+use Rattle.co_tests_laws.proofs.{Values.value_within, Events.IsLoop, Events.unobserved, Events.internal_follows}
 
 -- a cycle over one location with at most two writes, whose edges are the architecture's
 pub record IsLoopOf (arch : ArchName) (es : List Edge) : Type 0 where

@@ -2,10 +2,8 @@
 -- execution alone ends with the last value, in which each read reads the write of its value and the writes come in the order
 -- of their values.
 use Rattle.std.proofs.Common.{◌≡◌, ℕ, zero, suc, ◌-◌, ◌<◌, ◌≤◌, true, List, [], ◌∷◌, length, map, Option, Some, None, slice_get, refl, sym, ◌∙◌, ap, subst, arith, add-one}
-use Rattle.std.specs.List.{filter, filter_map}
-use Rattle.std.specs.Option.{option_and_then}
-use Rattle.std.proofs.lemmas.List.{length-map}
-use Rattle.std.proofs.lemmas.Option.{slice_get_within}
+use Rattle.std.specs.{List.filter, List.filter_map, Option.option_and_then}
+use Rattle.std.proofs.lemmas.{List.length-map, Option.slice_get_within}
 use Rattle.list_laws.specs.Numbers.{upto}
 use Rattle.relax_edges.specs.declared.kinds.Dir.{Dir}
 use Rattle.relax_edges.specs.declared.kinds.Dir.TheVariants as dirs
@@ -17,8 +15,7 @@ use Rattle.program_meaning.proofs.Names.{got_from_list}
 use Rattle.accesses_force_cycles.proofs.Lists.{got_below, got_map, kept, same_below, length-filter_map-upto, slice_get-filter_map-upto}
 use Rattle.accesses_force_cycles.proofs.Orders.{Holds, Gives, place_held, order_by_steps, order_given, place_given}
 use Rattle.accesses_force_cycles.proofs.ReadLists.{reads_by_source, reads_given, reads_fixed, source_given}
-use Rattle.accesses_force_cycles.proofs.IntendedOrders.{order_got}
-use Rattle.accesses_force_cycles.proofs.IntendedReads.{stands_at}
+use Rattle.accesses_force_cycles.proofs.{IntendedOrders.order_got, IntendedReads.stands_at}
 
 -- a write access writes one more than its number among the writes, at place 0
 pub record IsNth (g : ℕ → Option WriteAt) (n : ℕ) (w : WriteAt) (place value : ℕ) : Type 0 where

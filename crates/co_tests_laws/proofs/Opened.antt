@@ -1,7 +1,6 @@
 -- A cycle that is cut open has the threads, slots, directions, marks and links of the cycle.
 use Rattle.std.proofs.Common.{◌≡◌, ℕ, suc, ◌+◌, Bool, true, false, cond, List, [], ◌∷◌, length, take, refl, ◌∙◌, ap, arith}
-use Rattle.std.specs.Prelude.{◌==◌, if◌then◌else◌}
-use Rattle.std.specs.List.{count_by, filter}
+use Rattle.std.specs.{Prelude.◌==◌, Prelude.if◌then◌else◌, List.count_by, List.filter}
 use Rattle.std.proofs.lemmas.List.Sums.{sum_by-cons}
 use Rattle.list_laws.specs.Numbers.{upto}
 use Rattle.relax_edges.specs.declared.edge.Edge.{Edge}

@@ -3,50 +3,31 @@ use Rattle.std.proofs.Common.{◌≡◌, ℕ, ◌+◌, ◌<◌, true, false, Lis
 use Rattle.std.specs.List.{AllByRecursion}
 use Rattle.std.proofs.lemmas.Option.{slice_get_within, slice_get-get_or}
 use Rattle.list_laws.proofs.Cases.{by_same}
-use Rattle.relax_edges.specs.declared.kinds.ArchName.{ArchName}
-use Rattle.relax_edges.specs.declared.kinds.ObsMode.TheVariants.{Avoid}
-use Rattle.relax_edges.specs.declared.edge.Edge.{Edge}
+use Rattle.relax_edges.specs.declared.{kinds.ArchName.ArchName, kinds.ObsMode.TheVariants.Avoid, edge.Edge.Edge}
 use Rattle.relax_edges.specs.EdgeTable.{kind_of, is_external}
 use Rattle.final_cond.specs.States.{Meets}
 use Rattle.cycle_events.specs.Resolution.{edge_at, ends_outside, move_count, thread_of, slot_of}
 use Rattle.cycle_events.proofs.Locations.{ends_with}
-use Rattle.arch_trait.specs.Cells.{WritesCells, MakesOneAccess}
-use Rattle.arch_trait.specs.Laws.{IsArch}
-use Rattle.arch_trait.specs.PlaceNames.{location_name, number_in}
-use Rattle.arch_trait.specs.Threads.{Puts, ThreadCode, compiled}
-use Rattle.arch_trait.specs.Writing.{Writing, WritesBack, name_in}
-use Rattle.arch_trait_laws.proofs.CodeLaws.{makes_steps}
-use Rattle.arch_trait_laws.proofs.NameLaws.{length-letters}
-use Rattle.litmus_text.specs.Items.{links_of}
-use Rattle.litmus_text.specs.Mentioned.{TestReadsBack, is_in, op_is_in}
-use Rattle.litmus_text.specs.Placing.{place_in, or_zero}
-use Rattle.litmus_text.specs.Reread.{reread}
-use Rattle.litmus_text.specs.TestReading.{TestRead}
-use Rattle.litmus_text.specs.TestText.{test_text}
+use Rattle.arch_trait.specs.{Cells.WritesCells, Cells.MakesOneAccess, Laws.IsArch, PlaceNames.location_name, PlaceNames.number_in, Threads.Puts}
+use Rattle.arch_trait.specs.{Threads.ThreadCode, Threads.compiled, Writing.Writing, Writing.WritesBack, Writing.name_in}
+use Rattle.arch_trait_laws.proofs.{CodeLaws.makes_steps, NameLaws.length-letters}
+use Rattle.litmus_text.specs.{Items.links_of, Mentioned.TestReadsBack, Mentioned.is_in, Mentioned.op_is_in, Placing.place_in, Placing.or_zero}
+use Rattle.litmus_text.specs.{Reread.reread, TestReading.TestRead, TestText.test_text}
 use Rattle.litmus_text.proofs.NamesBack.{IsAmong, none_among, push_among, few_names}
-use Rattle.program_meaning.specs.Executions.{Execution}
-use Rattle.program_meaning.specs.Intended.{IsNumbering}
+use Rattle.program_meaning.specs.{Executions.Execution, Intended.IsNumbering, Standing.AllStand}
 use Rattle.program_meaning.specs.Programs.{Program, IsCandidate, IsCoherentIn, accesses_in}
-use Rattle.program_meaning.specs.Standing.{AllStand}
 use Rattle.accesses_force_cycles.proofs.Lists.{got_map}
-use Rattle.tests_force_cycles.specs.CycleSteps.{event_step, thread_steps}
-use Rattle.tests_force_cycles.specs.FinalStates.{final_state}
-use Rattle.tests_force_cycles.specs.TestHeadline.{IsRenumbered}
-use Rattle.tests_force_cycles.specs.TestOf.{plain, test_of}
-use Rattle.tests_force_cycles.proofs.Everywhere.{all_gets}
-use Rattle.tests_force_cycles.proofs.Headline.{renumbered_program}
-use Rattle.tests_force_cycles.proofs.RegisterNames.{registers_found}
+use Rattle.tests_force_cycles.specs.{CycleSteps.event_step, CycleSteps.thread_steps, FinalStates.final_state, TestHeadline.IsRenumbered, TestOf.plain}
+use Rattle.tests_force_cycles.specs.{TestOf.test_of}
+use Rattle.tests_force_cycles.proofs.{Everywhere.all_gets, Headline.renumbered_program, RegisterNames.registers_found}
 use Rattle.bytes_force_cycles.specs.Readings.{program_read}
-use Rattle.bytes_force_cycles.proofs.BackLaws.{reads_back, numbered_in}
-use Rattle.bytes_force_cycles.proofs.Mentioning.{place_is_in}
+use Rattle.bytes_force_cycles.proofs.{BackLaws.reads_back, BackLaws.numbered_in, Mentioning.place_is_in}
 use Rattle.bytes_force_cycles.proofs.Rereading.{by_table, got_is, reread_test, threads_numbered, intended_same, links_apart}
 use Rattle.co_tests_laws.specs.CutResolution.{cut_open}
 use Rattle.co_tests_laws.specs.CoherenceTests.{HasCoherenceTest, coherence_steps, coherence_test_of, incoherent_execution}
 use Rattle.co_tests_laws.specs.Incoherence.{MeetsReading, HasCycle, BytesShowIncoherence, PrintedShowIncoherence}
 use Rattle.co_tests_laws.proofs.Values.{Cut, IsCut, cut_there, none_diff, one_move, one_location}
-use Rattle.co_tests_laws.proofs.Events.{loop_execution, stated_is, ordering_inside}
-use Rattle.co_tests_laws.proofs.Fits.{loop_thread}
-use Rattle.co_tests_laws.proofs.Asked.{HasLoopCode}
+use Rattle.co_tests_laws.proofs.{Events.loop_execution, Events.stated_is, Events.ordering_inside, Fits.loop_thread, Asked.HasLoopCode}
 use Rattle.co_tests_laws.proofs.Showing.{IsSetUp, IsMetBy, loop_program, stated_meets, only_stated, met_stand, met_cyclic, met_incoherent}
 use Rattle.co_tests_laws.proofs.Readable.{place_names, place_name, first_found, is_step, readable}
 

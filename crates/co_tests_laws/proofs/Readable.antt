@@ -1,71 +1,47 @@
 -- The coherence test of a cycle, under a name of a test's form, is within the limits of the format.
 use Rattle.std.proofs.Common.{◌≡◌, ℕ, suc, ◌+◌, ◌-◌, ◌<◌, ◌≤◌, ◌==◌, Bool, true, false, cond, List, [], ◌∷◌, ◌++◌, length, map, Some, slice_get, refl, sym, ◌∙◌, ap, subst, arith, append-nil, length-append}
 use Rattle.std.specs.Prelude.{◌&&◌, ◌||◌, is_some, nat_le, not, count_by}
-use Rattle.std.specs.List.{AllByRecursion, filter, sum_by}
-use Rattle.std.specs.Str.{bytes_eq}
+use Rattle.std.specs.{List.AllByRecursion, List.filter, List.sum_by, Str.bytes_eq}
 use Rattle.std.proofs.lemmas.Bool.{eqb-true, le-leb, and_from, leb-true}
-use Rattle.std.proofs.lemmas.List.{length-map}
-use Rattle.std.proofs.lemmas.List.Sums.{sum_by-cons, count_by-le-length, length-filter}
-use Rattle.std.proofs.lemmas.Option.{slice_get_within}
-use Rattle.std.proofs.lemmas.Slice.Eq.{bytes_eq-Decides}
+use Rattle.std.proofs.lemmas.{List.length-map, List.Sums.sum_by-cons, List.Sums.count_by-le-length, List.Sums.length-filter, Option.slice_get_within}
+use Rattle.std.proofs.lemmas.{Slice.Eq.bytes_eq-Decides}
 use Rattle.list_laws.specs.Numbers.{upto}
-use Rattle.list_laws.proofs.Cases.{by_test}
-use Rattle.list_laws.proofs.Elements.{all_append}
-use Rattle.list_laws.proofs.Totals.{sum_upto_same, classes_total}
-use Rattle.relax_edges.specs.declared.TheConstants.{MAX_EDGES}
-use Rattle.relax_edges.specs.declared.kinds.Dir.{Dir}
+use Rattle.list_laws.proofs.{Cases.by_test, Elements.all_append, Totals.sum_upto_same, Totals.classes_total}
+use Rattle.relax_edges.specs.declared.{TheConstants.MAX_EDGES, kinds.Dir.Dir, kinds.ArchName.ArchName, kinds.Kind.Kind}
+use Rattle.relax_edges.specs.declared.{kinds.ObsMode.TheVariants.Avoid, edge.Edge.Edge}
 use Rattle.relax_edges.specs.declared.kinds.Dir.TheVariants as dirs
-use Rattle.relax_edges.specs.declared.kinds.ArchName.{ArchName}
 use Rattle.relax_edges.specs.declared.kinds.Com.TheVariants as coms
-use Rattle.relax_edges.specs.declared.kinds.Kind.{Kind}
 use Rattle.relax_edges.specs.declared.kinds.Kind.TheVariants as kinds
-use Rattle.relax_edges.specs.declared.kinds.ObsMode.TheVariants.{Avoid}
-use Rattle.relax_edges.specs.declared.edge.Edge.{Edge}
 use Rattle.relax_edges.specs.EdgeTable.{kind_of, kind_source, kind_target, source_of, target_of, is_external}
 use Rattle.cycle_events.specs.Resolution.{edge_at, external_count, move_count, thread_of, slot_of, events_in, event_after}
-use Rattle.cycle_events.proofs.Threads.{event_in_slot}
-use Rattle.cycle_events.proofs.Around.{after_below, source_after}
+use Rattle.cycle_events.proofs.{Threads.event_in_slot, Around.after_below, Around.source_after}
 use Rattle.cycle_events.specs.Values.{write_count, is_observed}
 use Rattle.final_cond.specs.Conditions.{TermSeen}
 use Rattle.text_parts_laws.specs.Names.{is_place_name}
 use Rattle.text_parts_laws.proofs.NameLaws.{place_name_short}
-use Rattle.arch_trait.specs.declared.arch.TheConstants.{MAX_INSTRS}
-use Rattle.arch_trait.specs.declared.step.Step.{Step}
-use Rattle.arch_trait.specs.Cells.{WritesCells, MakesOneAccess}
-use Rattle.arch_trait.specs.Laws.{IsArch, InOrder}
-use Rattle.arch_trait.specs.Links.{branches}
-use Rattle.arch_trait.specs.PlaceNames.{letters, location_name, number_in}
+use Rattle.arch_trait.specs.declared.{arch.TheConstants.MAX_INSTRS, step.Step.Step}
+use Rattle.arch_trait.specs.{Cells.WritesCells, Cells.MakesOneAccess, Laws.IsArch, Laws.InOrder, Links.branches, PlaceNames.letters}
+use Rattle.arch_trait.specs.{PlaceNames.location_name, PlaceNames.number_in, Writing.Writing, Writing.WritesBack, Writing.name_in}
 use Rattle.arch_trait.specs.Threads.{Puts, ThreadCode, compiled, is_load_dir, is_store_dir, loads_in, setting_out, visits}
-use Rattle.arch_trait.specs.Writing.{Writing, WritesBack, name_in}
-use Rattle.arch_trait_laws.proofs.Ordered.{compiled_ordered, compiled_accesses}
-use Rattle.arch_trait_laws.proofs.NameLaws.{length-letters, location_new}
-use Rattle.arch_trait_laws.proofs.CodeLaws.{is_formed, thread_short}
-use Rattle.litmus_text.specs.Printable.{IsTestName}
-use Rattle.litmus_text.specs.Items.{LinkFits, links_of}
-use Rattle.litmus_text.specs.Progress.{CodeFits, code_lands}
-use Rattle.litmus_text.specs.Reread.{IsReadable}
-use Rattle.litmus_text.specs.ReadTerms.{TermFits}
-use Rattle.accesses_force_cycles.proofs.Lists.{got_map, image_of}
+use Rattle.arch_trait_laws.proofs.{Ordered.compiled_ordered, Ordered.compiled_accesses, NameLaws.length-letters, NameLaws.location_new}
+use Rattle.arch_trait_laws.proofs.{CodeLaws.is_formed, CodeLaws.thread_short}
+use Rattle.litmus_text.specs.{Printable.IsTestName, Items.LinkFits, Items.links_of, Progress.CodeFits, Progress.code_lands, Reread.IsReadable}
+use Rattle.litmus_text.specs.{ReadTerms.TermFits}
+use Rattle.accesses_force_cycles.proofs.{Lists.got_map, Lists.image_of, Resolves.written_by}
 use Rattle.tests_force_cycles.specs.CycleSteps.{event_step, thread_steps, observer_steps, cycle_steps}
 use Rattle.tests_force_cycles.specs.TestOf.{plain, is_named_location, last_term, last_terms, load_terms}
-use Rattle.tests_force_cycles.proofs.Everywhere.{position_first}
-use Rattle.tests_force_cycles.proofs.PlaceNames.{letter_at}
+use Rattle.tests_force_cycles.proofs.{Everywhere.position_first, PlaceNames.letter_at, Terms.load_terms-count, Terms.sum_map}
 use Rattle.tests_force_cycles.proofs.StepsAt.{thread_steps_at, by_steps, steps-count, steps_few}
-use Rattle.tests_force_cycles.proofs.Terms.{load_terms-count, sum_map}
 use Rattle.bytes_force_cycles.proofs.FormedFits.{HasPlaces, code_fits, lands_once, links_fit, links_single}
 use Rattle.bytes_force_cycles.proofs.Fits.{IsThreadCode, each_code, all_read_terms, numbers_small, all_links}
-use Rattle.bytes_force_cycles.proofs.Lengths.{AreShort, IsSmall, text_short}
-use Rattle.bytes_force_cycles.proofs.Rereading.{got_is}
-use Rattle.co_tests_laws.specs.CutResolution.{cut_open}
-use Rattle.co_tests_laws.specs.CoherenceTests.{writes_in, coherence_steps, coherence_test_of}
+use Rattle.bytes_force_cycles.proofs.{Lengths.AreShort, Lengths.IsSmall, Lengths.text_short, Rereading.got_is, SomeTerm.term_most}
+use Rattle.bytes_force_cycles.proofs.{SomeTerm.counted_one}
+use Rattle.co_tests_laws.specs.{CutResolution.cut_open, CoherenceTests.writes_in, CoherenceTests.coherence_steps, CoherenceTests.coherence_test_of}
 use Rattle.co_tests_laws.proofs.Opened.{source_same, same_at, opened-length, opened-threads, opened_thread}
 use Rattle.co_tests_laws.proofs.Values.{IsCut, one_move, one_location, write_count_is, value_positive, value_within, value_written}
 use Rattle.co_tests_laws.proofs.Events.{IsLoop, last_outside, thread_under, unobserved, none_observed, some_write, value_through}
-use Rattle.co_tests_laws.proofs.Fits.{loop_thread}
-use Rattle.co_tests_laws.proofs.Asked.{HasLoopCode, ends_terms}
+use Rattle.co_tests_laws.proofs.{Fits.loop_thread, Asked.HasLoopCode, Asked.ends_terms}
 use Rattle.bytes_force_cycles.proofs.Readable.{texts_short, registers_short, formed_terms, ordered_few}
-use Rattle.bytes_force_cycles.proofs.SomeTerm.{term_most, counted_one}
-use Rattle.accesses_force_cycles.proofs.Resolves.{written_by}
 
 -- the names of the test's places
 abbrev pub place_names : List Edge → List (List ℕ)

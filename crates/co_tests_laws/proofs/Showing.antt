@@ -4,43 +4,29 @@ use Rattle.std.proofs.Common.{◌≡◌, ℕ, suc, ◌-◌, ◌≤◌, List, len
 use Rattle.std.specs.List.{filter}
 use Rattle.std.proofs.lemmas.List.{length-map}
 use Rattle.list_laws.proofs.Elements.{all_append, all_parts}
-use Rattle.relax_edges.specs.declared.kinds.ObsMode.TheVariants.{Avoid}
-use Rattle.relax_edges.specs.declared.edge.Edge.{Edge}
+use Rattle.relax_edges.specs.declared.{kinds.ObsMode.TheVariants.Avoid, edge.Edge.Edge}
 use Rattle.cycle_events.specs.Resolution.{move_count}
 use Rattle.final_cond.specs.States.{Meets}
-use Rattle.arch_trait.specs.Laws.{IsArch}
-use Rattle.arch_trait.specs.PlaceNames.{location_name, number_in}
-use Rattle.arch_trait.specs.Threads.{Puts}
+use Rattle.arch_trait.specs.{Laws.IsArch, PlaceNames.location_name, PlaceNames.number_in, Threads.Puts}
 use Rattle.program_meaning.specs.declared.WriteAt.{WriteAt}
-use Rattle.program_meaning.specs.Accesses.{Access, is_read, at_name}
-use Rattle.program_meaning.specs.Executions.{Execution, IsExecutionOf}
-use Rattle.program_meaning.specs.Coherence.{final_value}
+use Rattle.program_meaning.specs.{Accesses.Access, Accesses.is_read, Accesses.at_name, Executions.Execution, Executions.IsExecutionOf}
+use Rattle.program_meaning.specs.{Coherence.final_value, Standing.AllStand, Intended.IsNumbering}
 use Rattle.program_meaning.specs.Programs.{Program, IsCandidate, IsCoherentIn, accesses_in}
-use Rattle.program_meaning.specs.Standing.{AllStand}
-use Rattle.program_meaning.specs.Intended.{IsNumbering}
 use Rattle.program_meaning.proofs.Runs.{accesses-count}
 use Rattle.accesses_force_cycles.specs.Joining.{ReadsAsAsked, values_read}
-use Rattle.accesses_force_cycles.proofs.Lists.{got_map, map-map}
-use Rattle.accesses_force_cycles.proofs.Programs.{makes_planned}
-use Rattle.accesses_force_cycles.proofs.ReadLists.{reads_by_source}
+use Rattle.accesses_force_cycles.proofs.{Lists.got_map, Lists.map-map, Programs.makes_planned, ReadLists.reads_by_source}
 use Rattle.sc_and_interleavings.specs.CoherenceLaws.{WritesWithin}
 use Rattle.sc_and_interleavings.proofs.CoherenceLaws.{candidates_are_sc_per_location}
-use Rattle.tests_force_cycles.specs.CycleSteps.{cycle_steps}
-use Rattle.tests_force_cycles.specs.TestOf.{last_terms, load_terms}
-use Rattle.tests_force_cycles.specs.FinalStates.{final_state}
-use Rattle.tests_force_cycles.specs.TestHeadline.{FindsRegisters}
-use Rattle.tests_force_cycles.proofs.Meeting.{IsMet}
-use Rattle.tests_force_cycles.proofs.TestCodes.{cycle_program}
-use Rattle.tests_force_cycles.proofs.ThreadRuns.{all_end}
+use Rattle.tests_force_cycles.specs.{CycleSteps.cycle_steps, TestOf.last_terms, TestOf.load_terms, FinalStates.final_state}
+use Rattle.tests_force_cycles.specs.{TestHeadline.FindsRegisters}
+use Rattle.tests_force_cycles.proofs.{Meeting.IsMet, TestCodes.cycle_program, ThreadRuns.all_end}
 use Rattle.tests_force_cycles.proofs.Making.{makes, makes_enough, asked_enough, planned-count}
-use Rattle.co_tests_laws.specs.CutResolution.{cut_open}
-use Rattle.co_tests_laws.specs.CoherenceTests.{writes_in, coherence_steps, coherence_test_of}
-use Rattle.co_tests_laws.specs.Incoherence.{HasCycle}
+use Rattle.co_tests_laws.specs.{CutResolution.cut_open, CoherenceTests.writes_in, CoherenceTests.coherence_steps, CoherenceTests.coherence_test_of}
+use Rattle.co_tests_laws.specs.{Incoherence.HasCycle}
 use Rattle.co_tests_laws.proofs.OnePlace.{source_in, only_by_values, by_values_execution, by_values_ends}
-use Rattle.co_tests_laws.proofs.Values.{one_move}
+use Rattle.co_tests_laws.proofs.{Values.one_move, Stands.all_stand}
 use Rattle.co_tests_laws.proofs.Events.{IsLoop, loop_accesses, loop_write, loop_execution, numbered, loop_cycle}
 use Rattle.co_tests_laws.proofs.Asked.{HasLoopCode, loop_codes, are_codes, reads_asked, asked_met, ends_asked, asked_ends}
-use Rattle.co_tests_laws.proofs.Stands.{all_stand}
 
 -- a coherence test whose place has a number and a name, on an architecture whose registers are found by their names
 pub record IsSetUp (a : Puts) (register_name : ℕ → List ℕ) (register_number : List ℕ → Option ℕ) (es : List Edge) (number : ℕ

@@ -1,45 +1,32 @@
 -- All edges of a cycle over one location stand in each execution of its coherence test that has the stated values: the code
 -- marks the accesses and ties them as the edges say, and there is nothing else.
 use Rattle.std.proofs.Common.{◌≡◌, ℕ, suc, ◌+◌, ◌-◌, ◌<◌, false, List, [], length, take, Some, slice_get, refl, sym, ◌∙◌, ap, subst, arith, add-one}
-use Rattle.std.proofs.lemmas.List.{length-map}
-use Rattle.std.proofs.lemmas.Option.{slice_get_within}
+use Rattle.std.proofs.lemmas.{List.length-map, Option.slice_get_within}
 use Rattle.list_laws.proofs.Cases.{by_test}
-use Rattle.relax_edges.specs.declared.kinds.ArchName.{ArchName}
-use Rattle.relax_edges.specs.declared.kinds.ObsMode.TheVariants.{Avoid}
-use Rattle.relax_edges.specs.declared.edge.Edge.{Edge}
+use Rattle.relax_edges.specs.declared.{kinds.ArchName.ArchName, kinds.ObsMode.TheVariants.Avoid, edge.Edge.Edge}
 use Rattle.relax_edges.specs.EdgeTable.{kind_of, source_of, source_mark, is_external}
 use Rattle.cycle_events.specs.Resolution.{edge_at, external_count, move_count, thread_of as event_thread, slot_of, events_in, event_after}
-use Rattle.cycle_events.proofs.Threads.{event_in_slot, slot_of_event}
-use Rattle.cycle_events.proofs.Around.{after_below, mark_after}
-use Rattle.cycle_events.proofs.Sizes.{only_in_slot}
-use Rattle.arch_trait.specs.declared.step.Step.{Step}
-use Rattle.arch_trait.specs.declared.link.Link.TheVariants.{Plain}
+use Rattle.cycle_events.proofs.{Threads.event_in_slot, Threads.slot_of_event, Around.after_below, Around.mark_after, Sizes.only_in_slot}
+use Rattle.arch_trait.specs.declared.{step.Step.Step, link.Link.TheVariants.Plain}
 use Rattle.arch_trait.specs.Links.{edge_link}
 use Rattle.arch_trait.specs.Threads.{ThreadCode, loads_in, control_after, thread_items}
 use Rattle.program_meaning.specs.declared.WriteAt.{WriteAt}
 use Rattle.program_meaning.specs.Accesses.{Access, Visit, got_from, at_name, accesses_of, barriers_after, reads_among, reads_before}
-use Rattle.program_meaning.specs.Executions.{Execution}
+use Rattle.program_meaning.specs.{Executions.Execution, Intended.IsNumbering, Intended.event_access, Intended.event_at}
 use Rattle.program_meaning.specs.Programs.{Program, IsCandidate, visits_in, accesses_in, items_in}
 use Rattle.program_meaning.specs.Standing.{AccessAt, NamedAccess, access_at, IsEvent, StartsFree, HasEvents, AllStand, Joins, TiesBy, event_name}
-use Rattle.program_meaning.specs.Intended.{IsNumbering, event_access, event_at}
 use Rattle.accesses_force_cycles.specs.Joining.{values_read}
-use Rattle.accesses_force_cycles.proofs.Lists.{got_below, got_map, image_of}
+use Rattle.accesses_force_cycles.proofs.{Lists.got_below, Lists.got_map, Lists.image_of, AllStand.access_of_visit}
 use Rattle.tests_force_cycles.specs.CycleSteps.{event_link, event_step, thread_steps, cycle_steps}
 use Rattle.tests_force_cycles.specs.TestPrograms.{thread_from, program_of}
-use Rattle.tests_force_cycles.proofs.StepsAt.{thread_steps_at, steps-count}
-use Rattle.tests_force_cycles.proofs.StepsFit.{Before, link_between, link_first}
-use Rattle.tests_force_cycles.proofs.Visits.{thread_visits, ends_free}
-use Rattle.tests_force_cycles.proofs.VisitsAt.{visit_at, visits-count, starts_free}
-use Rattle.tests_force_cycles.proofs.Ties.{ties}
-use Rattle.tests_force_cycles.proofs.Following.{next_follows}
+use Rattle.tests_force_cycles.proofs.{StepsAt.thread_steps_at, StepsAt.steps-count, StepsFit.Before, StepsFit.link_between, StepsFit.link_first}
+use Rattle.tests_force_cycles.proofs.{Visits.thread_visits, Visits.ends_free, VisitsAt.visit_at, VisitsAt.visits-count, VisitsAt.starts_free}
+use Rattle.tests_force_cycles.proofs.{Ties.ties, Following.next_follows, Making.candidate_enough, Making.candidate_lists, Tying.external_ties}
 use Rattle.tests_force_cycles.proofs.ThreadRuns.{AreCodesOf, DidThread, did_thread, ThreadOf, thread_of, items_below, visits_below}
-use Rattle.tests_force_cycles.proofs.Making.{candidate_enough, candidate_lists}
 use Rattle.co_tests_laws.specs.CutResolution.{cut_open}
 use Rattle.co_tests_laws.proofs.Opened.{source_same, source_mark_same, link_same, same_at, opened-length, opened-threads, opened_thread, opened_events}
 use Rattle.co_tests_laws.proofs.Events.{IsLoop, loop_accesses, loop_execution, thread_under, opened_name, event_there, none_observed, internal_follows, loop_joins}
 use Rattle.co_tests_laws.proofs.Fits.{IsLoopOf, before_event, event_fits, thread_fits}
-use Rattle.tests_force_cycles.proofs.Tying.{external_ties}
-use Rattle.accesses_force_cycles.proofs.AllStand.{access_of_visit}
 
 -- the program of the test with some codes
 abbrev loop_program : List ThreadCode → List Edge → Program

@@ -3,27 +3,20 @@
 use Rattle.std.proofs.Common.{◌≡◌, ℕ, zero, suc, ◌+◌, ◌-◌, ◌<◌, ◌≤◌, Bool, true, false, cond, List, [], ◌∷◌, length, take, refl, sym, ◌∙◌, ap, arith, add-one, eq-eqb}
 use Rattle.std.specs.Prelude.{◌&&◌, ◌||◌, if◌then◌else◌, nat_le, min}
 use Rattle.std.specs.List.{count_by, list_any}
-use Rattle.std.proofs.lemmas.Bool.{le-leb, lt-leb}
-use Rattle.std.proofs.lemmas.List.{take_all}
+use Rattle.std.proofs.lemmas.{Bool.le-leb, Bool.lt-leb, List.take_all}
 use Rattle.list_laws.specs.Numbers.{upto}
-use Rattle.list_laws.proofs.Cases.{by_test, by_less}
-use Rattle.list_laws.proofs.Counts.{count_upto-suc, count_upto_same, count_upto_none}
-use Rattle.relax_edges.specs.declared.kinds.Dir.{Dir}
+use Rattle.list_laws.proofs.{Cases.by_test, Cases.by_less, Counts.count_upto-suc, Counts.count_upto_same, Counts.count_upto_none}
+use Rattle.relax_edges.specs.declared.{kinds.Dir.Dir, edge.Edge.Edge}
 use Rattle.relax_edges.specs.declared.kinds.Dir.TheVariants as dirs
-use Rattle.relax_edges.specs.declared.edge.Edge.{Edge}
 use Rattle.relax_edges.specs.EdgeTable.{source_of, is_diff, same_dir}
 use Rattle.cycle_events.specs.Resolution.{edge_at, location_of, move_count, moves_before, event_after}
 use Rattle.cycle_events.proofs.EdgeCounts.{counted_on, counted_kept, counted_up, passing}
-use Rattle.cycle_events.proofs.Locations.{moves-zero, moves_on, moves_end}
-use Rattle.cycle_events.proofs.Arcs.{same_moves}
-use Rattle.cycle_events.proofs.Around.{by_after}
+use Rattle.cycle_events.proofs.{Locations.moves-zero, Locations.moves_on, Locations.moves_end, Arcs.same_moves, Around.by_after, Ways.way_after}
+use Rattle.cycle_events.proofs.{Ways.way_ahead}
 use Rattle.cycle_events.specs.Values.{is_write, is_write_at, way_place, value_of, write_count}
-use Rattle.cycle_events.proofs.Ways.{way_after, way_ahead}
-use Rattle.co_tests_laws.specs.CutResolution.{is_ordering, elsewhere, cut_open}
-use Rattle.co_tests_laws.specs.CoherenceTests.{writes_in}
+use Rattle.co_tests_laws.specs.{CutResolution.is_ordering, CutResolution.elsewhere, CutResolution.cut_open, CoherenceTests.writes_in}
 use Rattle.co_tests_laws.proofs.Opened.{source_same, elsewhere_moves, same_at, opened-length}
-use Rattle.accesses_force_cycles.proofs.Bridge.{is_writing}
-use Rattle.accesses_force_cycles.proofs.Resolves.{written_by}
+use Rattle.accesses_force_cycles.proofs.{Bridge.is_writing, Resolves.written_by}
 
 -- the cut of a cycle: its first edge in a thread that is no communication, which leads elsewhere once the cycle is cut open
 pub record Cut (es : List Edge) : Type 0 where

@@ -6,8 +6,7 @@ use Rattle.list_laws.specs.Numbers.{upto}
 use Rattle.edge_algebra_laws.specs.Rotation.{rotated}
 use Rattle.cycle_events.specs.Values.{value_of, writes_counted}
 use Rattle.arch_trait.specs.Threads.{Puts}
-use Rattle.co_tests_laws.specs.CutResolution.{cut_of, cut_open}
-use Rattle.co_tests_laws.specs.CoherenceTests.{HasCoherenceTest}
+use Rattle.co_tests_laws.specs.{CutResolution.cut_of, CutResolution.cut_open, CoherenceTests.HasCoherenceTest}
 
 -- the arc behind a cut: the events from the one that the cut enters, once round to the one that it leaves
 abbrev pub arc_behind : List Edge → ℕ → List ℕ

@@ -1,21 +1,16 @@
 -- Why a cycle has no coherence test: the first reason that holds; and the text of the test of one that has.
 -- Source: own, after the refusals of diy.
 use Rattle.std.specs.Prelude.{ℕ, Bool, not, ◌||◌, nat_lt, List, Option, Some, None, if◌then◌else◌}
-use Rattle.std.specs.List.{list_any, position_from}
-use Rattle.std.specs.Option.{option_map, option_or}
-use Rattle.relax_edges.specs.declared.kinds.ArchName.{ArchName}
-use Rattle.relax_edges.specs.declared.edge.Edge.{Edge}
+use Rattle.std.specs.{List.list_any, List.position_from, Option.option_map, Option.option_or}
+use Rattle.relax_edges.specs.declared.{kinds.ArchName.ArchName, edge.Edge.Edge}
 use Rattle.relax_edges.specs.EdgeTable.{is_diff, is_of_arch}
 use Rattle.cycle_events.specs.Resolution.{external_count, turned}
-use Rattle.arch_trait.specs.Threads.{Puts}
-use Rattle.arch_trait.specs.Writing.{Writing, name_in}
-use Rattle.arch_trait.specs.SeenTests.{TestSeen}
+use Rattle.arch_trait.specs.{Threads.Puts, Writing.Writing, Writing.name_in, SeenTests.TestSeen}
 use Rattle.litmus_text.specs.TestText.{test_text}
 use Rattle.test_maker.specs.Refusals.{is_crowded}
 use Rattle.co_tests_laws.specs.declared.refusal.CoRefusal.{CoRefusal}
 use Rattle.co_tests_laws.specs.declared.refusal.CoRefusal.TheVariants.{NotOfArch, TooFewThreads, NotCoherence, ManyWrites, TooManyRegisters}
-use Rattle.co_tests_laws.specs.CutResolution.{is_ordering}
-use Rattle.co_tests_laws.specs.CoherenceTests.{writes_in, coherence_steps, coherence_test_of}
+use Rattle.co_tests_laws.specs.{CutResolution.is_ordering, CoherenceTests.writes_in, CoherenceTests.coherence_steps, CoherenceTests.coherence_test_of}
 
 -- an edge isn't of the architecture: the first such, in the list as given
 abbrev pub foreign_edge : ArchName → List Edge → Option CoRefusal

@@ -5,12 +5,9 @@
 -- Source: own; that a thread's accesses to one location keep their order is the coherence of the literature.
 use Rattle.std.specs.Prelude.{ℕ, Bool, true, false, if◌then◌else◌, List, [], ◌∷◌, Option}
 use Rattle.std.specs.List.{position_from}
-use Rattle.relax_edges.specs.declared.kinds.Sd.TheVariants.{Diff}
-use Rattle.relax_edges.specs.declared.kinds.Kind.{Kind}
+use Rattle.relax_edges.specs.declared.{kinds.Sd.TheVariants.Diff, kinds.Kind.Kind, marked.MarkableKind.MarkableKind, edge.Edge.Edge}
 use Rattle.relax_edges.specs.declared.kinds.Kind.TheVariants as kinds
-use Rattle.relax_edges.specs.declared.marked.MarkableKind.{MarkableKind}
 use Rattle.relax_edges.specs.declared.marked.MarkableKind.TheVariants as markables
-use Rattle.relax_edges.specs.declared.edge.Edge.{Edge}
 use Rattle.relax_edges.specs.declared.edge.Edge.TheVariants as edges
 use Rattle.relax_edges.specs.EdgeTable.{kind_of}
 

@@ -3,14 +3,10 @@ use Rattle.std.proofs.Common.{◌≡◌, inl, inr, ℕ, ◌+◌, ◌<◌, ◌&&�
 use Rattle.std.specs.Prelude.{IfSome}
 use denote.Ref.{Bor}
 use Rattle.std.proofs.lemmas.Bool.{cases_Bool, true≢false}
-use Rattle.relax_edges.specs.declared.kinds.Dir.{Dir}
-use Rattle.relax_edges.specs.declared.kinds.Mark.{Mark}
+use Rattle.relax_edges.specs.declared.{kinds.Dir.Dir, kinds.Mark.Mark, order.TheConstants.EDGES, edge.Edge.Edge}
 use Rattle.relax_edges.specs.EdgeTable.{same_dir, same_mark, source_of, source_mark}
-use Rattle.relax_edges.specs.declared.order.TheConstants.{EDGES}
-use Rattle.relax_edges.specs.declared.edge.Edge.{Edge}
 use Rattle.relax_edges.specs.Order.{rank_of}
-use Rattle.edge_algebra_laws.proofs.Ordering.{by_rank}
-use Rattle.edge_algebra_laws.proofs.RankLaws.{rank_below}
+use Rattle.edge_algebra_laws.proofs.{Ordering.by_rank, RankLaws.rank_below}
 use Rattle.edge_algebra_laws.specs.Composable.{last_joins}
 use Rattle.cycle_enum_laws.specs.Search.{IsListCandidate, IsNextEdge, NoneBetween, OccursIn}
 use Rattle.cycle_enum_laws.proofs.Candidates.{unused_nowhere, unjoined_next, none_smaller}

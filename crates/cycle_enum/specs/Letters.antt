@@ -2,10 +2,7 @@
 -- Source: own.
 use Rattle.std.specs.Prelude.{◌≡◌, ◌<◌, ◌&&◌, ◌≤◌, ◌+◌, ℕ, Bool, true, Option, Some, None, List, [], ◌∷◌, length, get_or}
 use Rattle.std.specs.List.{AllByRecursion}
-use Rattle.relax_edges.specs.declared.order.TheConstants.{EDGES}
-use Rattle.relax_edges.specs.declared.edge.Edge.{Edge}
-use Rattle.relax_edges.specs.declared.kinds.Dir.{Dir}
-use Rattle.relax_edges.specs.declared.kinds.Mark.{Mark}
+use Rattle.relax_edges.specs.declared.{order.TheConstants.EDGES, edge.Edge.Edge, kinds.Dir.Dir, kinds.Mark.Mark}
 use Rattle.relax_edges.specs.EdgeTable.{same_dir, same_mark, source_of, source_mark}
 use Rattle.relax_edges.specs.Order.{rank_of}
 use Rattle.cycle_enum_laws.specs.Search.{OccursIn, IsSingle}

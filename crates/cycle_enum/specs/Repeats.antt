@@ -5,8 +5,7 @@ use Rattle.relax_edges.specs.declared.edge.Edge.{Edge}
 use Rattle.relax_edges.specs.Order.{rank_of}
 use Rattle.edge_algebra_laws.specs.CycleOrder.{Above, IsNormal}
 use Rattle.cycle_enum_laws.specs.Search.{LeadsNowhere}
-use Rattle.cycle_enum.specs.declared.prefix.Repeat.{Repeat}
-use Rattle.cycle_enum.specs.declared.prefix.Repeat.TheVariants.{First, Less}
+use Rattle.cycle_enum.specs.declared.prefix.{Repeat.Repeat, Repeat.TheVariants.First, Repeat.TheVariants.Less}
 
 -- a list is a prefix of u, or above it
 abbrev pub IsAtLeast : List Edge → List Edge → Type 0

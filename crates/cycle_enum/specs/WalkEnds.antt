@@ -2,8 +2,7 @@
 -- Source: own.
 use Rattle.std.specs.Prelude.{◌≡◌, ◌⊎◌, ⊤, Bool, true, false, Option, Some, None, List, []}
 use Rattle.relax_edges.specs.declared.edge.Edge.{Edge}
-use Rattle.cycle_enum.specs.declared.relaxed.End.{End}
-use Rattle.cycle_enum.specs.declared.relaxed.End.TheVariants.{After, Anywhere}
+use Rattle.cycle_enum.specs.declared.relaxed.{End.End, End.TheVariants.After, End.TheVariants.Anywhere}
 
 -- whether the list may end inside a relaxation
 abbrev pub is_inside : End → Bool

@@ -3,8 +3,7 @@
 use Rattle.std.specs.Prelude.{◌≡◌, Bool, true, List, Option}
 use denote.Ref.{Bor}
 use Rattle.relax_edges.specs.declared.edge.Edge.{Edge}
-use Rattle.cycle_enum_laws.specs.Asked.{Knows, SayYes}
-use Rattle.cycle_enum_laws.specs.Listing.{IsListed}
+use Rattle.cycle_enum_laws.specs.{Asked.Knows, Asked.SayYes, Listing.IsListed}
 use Rattle.cycle_enum.specs.declared.limits.Limits.{Limits}
 
 -- a walk: the relaxations, the limits, the two pruners, the test, and the last cycle, if there is one

@@ -1,7 +1,6 @@
 -- From the answer of a search to the next of the sought lists.
 use Rattle.std.proofs.Common.{◌<◌, inl, inr, ℕ, suc, Option, Some, None, List, [], ◌∷◌, ◌++◌, length, sym, arith}
-use Rattle.std.proofs.lemmas.List.{append-nil}
-use Rattle.std.proofs.lemmas.Bool.{cases_lt}
+use Rattle.std.proofs.lemmas.{List.append-nil, Bool.cases_lt}
 use Rattle.relax_edges.specs.declared.edge.Edge.{Edge}
 use Rattle.edge_algebra_laws.specs.CycleOrder.{Above, Follows}
 use Rattle.cycle_enum_laws.specs.Listing.{IsNext, IsAnswer}

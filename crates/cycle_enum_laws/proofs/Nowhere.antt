@@ -1,8 +1,7 @@
 -- Why no listed cycle begins with a list.
 use Rattle.std.proofs.Common.{ℕ, Bool, List}
 use Rattle.relax_edges.specs.declared.edge.Edge.{Edge}
-use Rattle.cycle_enum_laws.specs.Listing.{IsListed, IsMadeOf, KeepsLimits}
-use Rattle.cycle_enum_laws.specs.Search.{LeadsNowhere, OfLength}
+use Rattle.cycle_enum_laws.specs.{Listing.IsListed, Listing.IsMadeOf, Listing.KeepsLimits, Search.LeadsNowhere, Search.OfLength}
 
 module _ (takes : List Edge → Type 0) (relaxes : List (List Edge)) (size : ℕ) (exact : Bool) where
   -- it is part of no concatenation of relaxations

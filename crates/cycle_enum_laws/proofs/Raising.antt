@@ -1,10 +1,7 @@
 -- A list goes on: the edges that were taken off its end, and the cut of a list.
 use Rattle.std.proofs.Common.{◌≡◌, ◌<◌, ◌≤◌, ◌⊎◌, inl, inr, ℕ, suc, ◌+◌, Some, None, List, [], ◌∷◌, ◌++◌, length, drop, get_or, add-one, refl, sym, ◌∙◌, ap, arith, append_assoc, length-append}
-use Rattle.std.proofs.lemmas.List.{append-nil, take_all, take-append-le}
-use Rattle.std.proofs.lemmas.Bool.{cases_lt}
-use Rattle.std.proofs.Math.Seq.{drop-cons}
-use Rattle.relax_edges.specs.declared.order.TheConstants.{EDGES}
-use Rattle.relax_edges.specs.declared.edge.Edge.{Edge}
+use Rattle.std.proofs.{lemmas.List.append-nil, lemmas.List.take_all, lemmas.List.take-append-le, lemmas.Bool.cases_lt, Math.Seq.drop-cons}
+use Rattle.relax_edges.specs.declared.{order.TheConstants.EDGES, edge.Edge.Edge}
 use Rattle.relax_edges.specs.Order.{rank_of}
 use Rattle.edge_algebra_laws.proofs.RankLaws.{rank_below}
 use Rattle.cycle_enum_laws.specs.Asked.{KeptBelow, KeptWhole}

@@ -5,13 +5,12 @@ use Rattle.std.proofs.lemmas.List.{append-nil, take_all}
 use Rattle.std.proofs.lemmas.Bool.{or_cases, and_parts, and_from, or_left, or_right, eqb-true, eq-eqb, true≢false}
 use Rattle.relax_edges.specs.declared.edge.Edge.{Edge}
 use Rattle.relax_edges.specs.Order.{rank_of}
-use Rattle.edge_algebra_laws.proofs.RankLaws.{rank_injective}
+use Rattle.edge_algebra_laws.proofs.{RankLaws.rank_injective, Rotating.rotation_of_place, Rotating.place_of_rotation, Rotating.before}
+use Rattle.edge_algebra_laws.proofs.{Rotating.remainder, Rotating.cuts}
 use Rattle.edge_algebra_laws.specs.Rotation.{rotated}
 use Rattle.cycle_enum_laws.specs.Search.{LeadsNowhere}
 use Rattle.cycle_enum_laws.specs.Listing.{IsOneOf, concatenated, IsConcatenation, IsMadeOf}
 use Rattle.cycle_enum_laws.specs.RelaxationReading.{begins_with_path, leads, suffixes_read, suffix_leads}
-use Rattle.edge_algebra_laws.proofs.Rotating.{rotation_of_place, place_of_rotation}
-use Rattle.edge_algebra_laws.proofs.Rotating.{before, remainder, cuts}
 use Rattle.cycle_enum_laws.proofs.Searching.{BeginsWith}
 
 -- what fits a relaxation begins with it

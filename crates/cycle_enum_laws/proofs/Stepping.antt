@@ -1,7 +1,6 @@
 -- The steps of the search for the listed cycles of one length.
 use Rattle.std.proofs.Common.{◌≡◌, ◌<◌, ◌≤◌, inl, inr, ℕ, List, length, arith}
-use Rattle.std.proofs.lemmas.List.{take_all}
-use Rattle.std.proofs.lemmas.Bool.{cases_lt}
+use Rattle.std.proofs.lemmas.{List.take_all, Bool.cases_lt}
 use Rattle.relax_edges.specs.declared.edge.Edge.{Edge}
 use Rattle.cycle_enum_laws.specs.Asked.{KeptBelow, KeptWhole}
 use Rattle.cycle_enum_laws.specs.Search.{LeadsNowhere, OfLength, IsRaised, IsExtended, IsFirstFrom}

@@ -1,7 +1,6 @@
 -- What a walk over cycles knows of its two pruners and of its test.
 use Rattle.std.specs.Prelude.{◌≡◌, ◌<◌, ◌≤◌, ℕ, Bool, true, false, List, ◌++◌, length, take}
-use Rattle.relax_edges.specs.declared.TheConstants.{MAX_EDGES}
-use Rattle.relax_edges.specs.declared.edge.Edge.{Edge}
+use Rattle.relax_edges.specs.declared.{TheConstants.MAX_EDGES, edge.Edge.Edge}
 use Rattle.edge_algebra_laws.specs.Composable.{IsCycle}
 
 -- a walk keeps each prefix of a list that has at least one edge and fewer than n

@@ -3,9 +3,7 @@
 use Rattle.std.specs.Prelude.{◌≡◌, ◌≤◌, ◌⊎◌, ⊤, ℕ, Bool, true, Option, Some, None, List, [], ◌∷◌, ◌++◌, length}
 use Rattle.std.specs.List.{AllByRecursion}
 use Rattle.relax_edges.specs.declared.edge.Edge.{Edge}
-use Rattle.edge_algebra_laws.specs.Composable.{IsCycle}
-use Rattle.edge_algebra_laws.specs.Rotation.{IsRotation}
-use Rattle.edge_algebra_laws.specs.CycleOrder.{Follows, IsNormal}
+use Rattle.edge_algebra_laws.specs.{Composable.IsCycle, Rotation.IsRotation, CycleOrder.Follows, CycleOrder.IsNormal}
 
 -- a list of edges is one of some lists
 abbrev pub IsOneOf : List (List Edge) → List Edge → Type 0

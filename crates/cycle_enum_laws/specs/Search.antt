@@ -2,10 +2,8 @@
 -- Source: own.
 use Rattle.std.specs.Prelude.{◌≡◌, ◌<◌, ◌≤◌, ◌⊎◌, ⊤, ℕ, true, Option, Some, None, List, [], ◌∷◌, ◌++◌, length}
 use Rattle.std.specs.List.{AllByRecursion}
-use Rattle.relax_edges.specs.declared.order.TheConstants.{EDGES}
-use Rattle.relax_edges.specs.declared.edge.Edge.{Edge}
-use Rattle.relax_edges.specs.Order.{rank_of}
-use Rattle.relax_edges.specs.JoinedEdges.{is_joined}
+use Rattle.relax_edges.specs.declared.{order.TheConstants.EDGES, edge.Edge.Edge}
+use Rattle.relax_edges.specs.{Order.rank_of, JoinedEdges.is_joined}
 use Rattle.edge_algebra_laws.specs.CycleOrder.{Above, IsNormal}
 use Rattle.cycle_enum_laws.specs.Asked.{KeptBelow}
 

@@ -1,7 +1,6 @@
 -- Values along the edges: at a write the value grows by one, at a read it stays, and after a `d` edge it begins at 0.
 use Rattle.std.proofs.Common.{◌≡◌, ℕ, ◌+◌, ◌<◌, ◌≤◌, Bool, true, false, ◌==◌, ◌&&◌, cond, List, length, refl, sym, ◌∙◌, arith, eq-eqb}
-use Rattle.std.specs.List.{count_by}
-use Rattle.std.specs.Prelude.{nat_le}
+use Rattle.std.specs.{List.count_by, Prelude.nat_le}
 use Rattle.std.proofs.lemmas.Bool.{eqb-true, leb-true, le-leb, lt-leb, and_parts, and_from, and_right}
 use Rattle.relax_edges.specs.declared.edge.Edge.{Edge}
 use Rattle.relax_edges.specs.EdgeTable.{is_diff}

@@ -1,17 +1,12 @@
 -- The locations of a resolved cycle: there are several, which events of a thread share one, and where each one is left.
 use Rattle.std.proofs.Common.{◌≡◌, ℕ, zero, suc, ◌+◌, ◌-◌, ◌<◌, ◌≤◌, true, false, ◌==◌, ◌&&◌, List, length, refl, sym, ◌∙◌, ap, arith}
 use Rattle.std.proofs.lemmas.Bool.{eq-eqb, and_from}
-use Rattle.relax_edges.specs.declared.kinds.Reach.TheVariants.{Internal}
-use Rattle.relax_edges.specs.declared.kinds.Com.TheVariants.{Rf}
-use Rattle.relax_edges.specs.declared.edge.Edge.{Edge}
+use Rattle.relax_edges.specs.declared.{kinds.Reach.TheVariants.Internal, kinds.Com.TheVariants.Rf, edge.Edge.Edge}
 use Rattle.relax_edges.specs.declared.edge.Edge.TheVariants as edges
 use Rattle.relax_edges.specs.EdgeTable.{is_external, is_diff}
-use Rattle.list_laws.proofs.Cases.{by_less}
-use Rattle.list_laws.proofs.Counts.{count_upto_up, count_upto_past, counted}
-use Rattle.list_laws.proofs.Prefixes.{count_all}
+use Rattle.list_laws.proofs.{Cases.by_less, Counts.count_upto_up, Counts.count_upto_past, Counts.counted, Prefixes.count_all}
 use Rattle.cycle_events.specs.Resolution.{external_count, move_count, edge_at, thread_of, moves_before, location_of, moves_in, IsResolved}
-use Rattle.cycle_events.proofs.EdgeCounts.{PassingEdge, passing}
-use Rattle.cycle_events.proofs.Threads.{thread_up, thread_end, thread_out}
+use Rattle.cycle_events.proofs.{EdgeCounts.PassingEdge, EdgeCounts.passing, Threads.thread_up, Threads.thread_end, Threads.thread_out}
 use Rattle.cycle_events.proofs.Locations.{ends_with, external_keeps, moves_on, moves_kept, moves_up, moves_end, moves_most, location_wrapped, location_first, same_moves_location, moves_in_before, moves_between, moves_in_fewer}
 
 -- the last edge is external

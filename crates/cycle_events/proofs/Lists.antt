@@ -2,18 +2,13 @@
 use Rattle.std.proofs.Common.{◌≡◌, ℕ, zero, suc, ◌+◌, ◌<◌, ◌≤◌, Bool, true, false, ◌==◌, ◌&&◌, cond, List, [], ◌∷◌, ◌++◌, length, take, get_or, Some, slice_get, refl, sym, ◌∙◌, ap, arith}
 use Rattle.std.specs.Prelude.{nat_lt, nat_le}
 use Rattle.std.specs.List.{All, AllPairs, count_by, filter, flat_map}
-use Rattle.std.proofs.lemmas.Grind.{flat_map-append}
-use Rattle.std.proofs.lemmas.List.{append-nil}
-use Rattle.std.proofs.lemmas.List.Elements.{All-append, All-head, All-tail}
-use Rattle.std.proofs.lemmas.List.Kept.{AllPairs-cons}
-use Rattle.std.proofs.lemmas.List.Sums.{sum_by-cons}
-use Rattle.std.proofs.lemmas.Bool.{cond-true, cond-false, le-ltb}
-use Rattle.std.proofs.lemmas.Option.{slice_get-get_or, slice_get_within, get_or_from_slice_get}
+use Rattle.std.proofs.lemmas.{Grind.flat_map-append, List.append-nil, List.Elements.All-append, List.Elements.All-head, List.Elements.All-tail}
+use Rattle.std.proofs.lemmas.{List.Kept.AllPairs-cons, List.Sums.sum_by-cons, Bool.cond-true, Bool.cond-false, Bool.le-ltb, Option.slice_get-get_or}
+use Rattle.std.proofs.lemmas.{Option.slice_get_within, Option.get_or_from_slice_get}
 use Rattle.list_laws.specs.Numbers.{upto}
-use Rattle.list_laws.proofs.Cases.{by_test, by_less, by_same}
+use Rattle.list_laws.proofs.{Cases.by_test, Cases.by_less, Cases.by_same, Prefixes.count_take, Prefixes.count_all, Numbers.length-upto}
+use Rattle.list_laws.proofs.{Numbers.get_or-upto}
 use Rattle.list_laws.proofs.Counts.{counted, count_upto_past, count_upto_same, count_upto_stays}
-use Rattle.list_laws.proofs.Prefixes.{count_take, count_all}
-use Rattle.list_laws.proofs.Numbers.{length-upto, get_or-upto}
 
 -- one element more at the head
 count_yes : (p : ℕ → Bool) (x : ℕ) (xs : List ℕ) → p x ≡ true → count_by p (x ∷ xs) ≡ suc (count_by p xs)

@@ -2,16 +2,12 @@
 use Rattle.std.proofs.Common.{◌≡◌, ℕ, ◌+◌, ◌≤◌, true, List, length, arith}
 use Rattle.std.specs.List.{count_by}
 use Rattle.std.proofs.lemmas.Bool.{leb-true}
-use Rattle.relax_edges.specs.declared.kinds.ObsMode.{ObsMode}
-use Rattle.relax_edges.specs.declared.kinds.ObsMode.TheVariants.{Accept, Avoid, Force}
-use Rattle.relax_edges.specs.declared.edge.Edge.{Edge}
+use Rattle.relax_edges.specs.declared.{kinds.ObsMode.ObsMode, kinds.ObsMode.TheVariants.Accept, kinds.ObsMode.TheVariants.Avoid}
+use Rattle.relax_edges.specs.declared.{kinds.ObsMode.TheVariants.Force, edge.Edge.Edge}
 use Rattle.list_laws.specs.Numbers.{upto}
-use Rattle.list_laws.proofs.Counts.{count_upto-le}
-use Rattle.list_laws.proofs.Finds.{any_upto_passing}
-use Rattle.cycle_events.specs.Resolution.{external_count, move_count}
-use Rattle.cycle_events.proofs.Sizes.{external_and_moves}
-use Rattle.cycle_events.specs.Values.{write_count, is_inner_entry, is_observed}
-use Rattle.cycle_events.proofs.Entries.{inner_parts}
+use Rattle.list_laws.proofs.{Counts.count_upto-le, Finds.any_upto_passing}
+use Rattle.cycle_events.specs.{Resolution.external_count, Resolution.move_count, Values.write_count, Values.is_inner_entry, Values.is_observed}
+use Rattle.cycle_events.proofs.{Sizes.external_and_moves, Entries.inner_parts}
 
 -- an observed location has at least two writes
 pub observed_writes : (es : List Edge) (mode : ObsMode) (l : ℕ) → is_observed es mode l ≡ true → 2 ≤ write_count es l

@@ -3,15 +3,11 @@ use Rattle.std.proofs.Common.{◌≡◌, ℕ, zero, suc, ◌+◌, ◌<◌, ◌�
 use Rattle.std.proofs.lemmas.Bool.{eqb-true, and_parts, and_from}
 use Rattle.relax_edges.specs.declared.edge.Edge.{Edge}
 use Rattle.relax_edges.specs.EdgeTable.{is_diff}
-use Rattle.list_laws.proofs.Cases.{by_test, by_same}
-use Rattle.list_laws.proofs.Counts.{counted}
-use Rattle.list_laws.proofs.Finds.{find_upto, find_upto_only}
+use Rattle.list_laws.proofs.{Cases.by_test, Cases.by_same, Counts.counted, Finds.find_upto, Finds.find_upto_only}
 use Rattle.cycle_events.specs.Resolution.{move_count, edge_at, event_before, location_of, IsResolved}
-use Rattle.cycle_events.proofs.Locations.{location_first}
-use Rattle.cycle_events.proofs.Arcs.{leaving, location_below}
-use Rattle.cycle_events.proofs.Around.{before_below, after_before, keeps_location}
+use Rattle.cycle_events.proofs.{Locations.location_first, Arcs.leaving, Arcs.location_below, Around.before_below, Around.after_before}
+use Rattle.cycle_events.proofs.{Around.keeps_location, Ways.only_on_way, Ways.way_next}
 use Rattle.cycle_events.specs.Values.{is_write_at, way_place, value_of, write_count, write_at}
-use Rattle.cycle_events.proofs.Ways.{only_on_way, way_next}
 use Rattle.cycle_events.proofs.Along.{is_write, value_after, value_at_end, values_grow}
 
 -- a write at a location is a write, and is at that location

@@ -3,17 +3,13 @@
 -- (external edges change the thread, `d` edges the location); where counting begins is own.
 use Rattle.std.specs.Prelude.{◌≡◌, ℕ, zero, suc, ◌+◌, ◌-◌, ◌%◌, ◌≤◌, Bool, true, false, ◌==◌, ◌&&◌, nat_lt, if◌then◌else◌, List, [], ◌∷◌, length, map, take, count_by, unwrap_or, slice_index_or, Result, Ok, Err}
 use Rattle.std.specs.List.{filter, find, list_any}
-use Rattle.relax_edges.specs.declared.kinds.Reach.TheVariants.{Internal}
-use Rattle.relax_edges.specs.declared.kinds.Com.TheVariants.{Rf}
-use Rattle.relax_edges.specs.declared.edge.Edge.{Edge}
+use Rattle.relax_edges.specs.declared.{kinds.Reach.TheVariants.Internal, kinds.Com.TheVariants.Rf, edge.Edge.Edge}
 use Rattle.relax_edges.specs.declared.edge.Edge.TheVariants as edges
 use Rattle.relax_edges.specs.EdgeTable.{source_of, is_external, is_diff}
 use Rattle.list_laws.specs.Numbers.{upto}
-use Rattle.edge_algebra_laws.specs.Composable.{IsCycle}
-use Rattle.edge_algebra_laws.specs.Rotation.{rotated}
-use Rattle.cycle_events.specs.declared.event.Event.{Event}
-use Rattle.cycle_events.specs.declared.errors.ResolveError.{ResolveError}
-use Rattle.cycle_events.specs.declared.errors.ResolveError.TheVariants.{TooFewThreads, CoherenceOnly}
+use Rattle.edge_algebra_laws.specs.{Composable.IsCycle, Rotation.rotated}
+use Rattle.cycle_events.specs.declared.{event.Event.Event, errors.ResolveError.ResolveError, errors.ResolveError.TheVariants.TooFewThreads}
+use Rattle.cycle_events.specs.declared.{errors.ResolveError.TheVariants.CoherenceOnly}
 
 -- how many edges of a list lead to another thread
 abbrev pub external_count : List Edge → ℕ

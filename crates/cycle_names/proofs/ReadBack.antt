@@ -5,8 +5,7 @@ use Rattle.cycle_names.proofs.Tables.{slot_is_diff, link_back, link_word_whole, 
 use Rattle.cycle_names.proofs.Marks.{said_of, said_link, said_slot, both_there}
 use Rattle.cycle_names.proofs.Outlines.{outline_of_fits, words_of_link, words_of_plain, each_word}
 use Rattle.cycle_names.proofs.Families.{never_other, found_is_of, family_links, words_named}
-use Rattle.cycle_names.proofs.Chosen.{fit_back, named_fits, named_rotates}
-use Rattle.cycle_names.proofs.Texts.{all_links_cons}
+use Rattle.cycle_names.proofs.{Chosen.fit_back, Chosen.named_fits, Chosen.named_rotates, Texts.all_links_cons}
 
 -- a word up to a byte that doesn't occur in it, with which what follows it begins, if anything does
 until : (p : ℕ → Bool) (word rest : List ℕ) → list_all (λ b. not (p b)) word ≡ true → before_first p rest ≡ [] → before_first p (word ++ rest) ≡ word

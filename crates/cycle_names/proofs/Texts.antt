@@ -1,8 +1,7 @@
 -- What comes after a family's word in a name, by the links of a cycle.
 use Rattle.cycle_names.proofs.Vocabulary.{arith, ◌≡◌, ◌&&◌, ◌||◌, ℕ, Bool, true, not, cond, Some, None, List, [], ◌∷◌, ◌++◌, drop, take, codes, find, list_all, flat_map, join_by, bytes_eq, refl, sym, ◌∙◌, ap, append_assoc, cond-true, cond-false, flat_map-append, R, Edge, is_diff, word_of, rotated, PO_PLACE, link_word, link_words, after_plus, all_equal, plural, links_text, pod, link_text, word_place, has_word_place}
 use Rattle.cycle_names.proofs.Members.{found_first, found_later, found_in, found_nowhere}
-use Rattle.cycle_names.proofs.Tables.{link_words_equal}
-use Rattle.cycle_names.proofs.Outlines.{words_of_link, words_of_plain}
+use Rattle.cycle_names.proofs.{Tables.link_words_equal, Outlines.words_of_link, Outlines.words_of_plain}
 
 -- a test of the words of the links, by the first edge
 pub all_links_cons : (p : List ℕ → Bool) (e : Edge) (v : List Edge) → list_all p (link_words (e ∷ v)) ≡ ((not (is_diff e) || p (link_word e)) && list_all p (link_words v))

@@ -1,16 +1,12 @@
 -- The cycle of a name, and the laws of names, as statements.
 use Rattle.std.specs.Prelude.{◌≡◌, ◌<◌, ◌≤◌, ◌↔◌, ℕ, Bool, true, List, length}
 use Rattle.std.specs.List.{list_all}
-use Rattle.relax_edges.specs.declared.kinds.ArchName.{ArchName}
-use Rattle.relax_edges.specs.declared.edge.Edge.{Edge}
+use Rattle.relax_edges.specs.declared.{kinds.ArchName.ArchName, edge.Edge.Edge}
 use Rattle.relax_edges.specs.EdgeTable.{is_of_arch}
-use Rattle.edge_algebra_laws.specs.Composable.{IsCycle}
-use Rattle.edge_algebra_laws.specs.Rotation.{IsRotation}
-use Rattle.cycle_names.specs.declared.name.TheConstants.{MAX_CYCLE_NAME}
-use Rattle.cycle_names.specs.declared.family.Family.{Family}
-use Rattle.cycle_names.specs.Rotations.{is_of_family, named_rotation}
+use Rattle.edge_algebra_laws.specs.{Composable.IsCycle, Rotation.IsRotation}
+use Rattle.cycle_names.specs.declared.{name.TheConstants.MAX_CYCLE_NAME, family.Family.Family}
+use Rattle.cycle_names.specs.{Rotations.is_of_family, Rotations.named_rotation, CycleNames.name_of}
 use Rattle.text_parts_laws.specs.Names.{is_name_byte}
-use Rattle.cycle_names.specs.CycleNames.{name_of}
 
 -- all edges of a cycle are of an architecture
 abbrev pub are_of_arch : ArchName → List Edge → Bool

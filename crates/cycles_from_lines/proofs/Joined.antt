@@ -1,9 +1,7 @@
 -- What is made of edges, by whether each joins the next.
 use Rattle.std.proofs.Common.{◌≡◌, ◌≤◌, true, false, nat_lt, List, [], ◌∷◌, ◌++◌, length, Option, Some, None, Ok, Err, refl, sym, ap, ◌∙◌}
 use Rattle.std.specs.Prelude.{ℕ, slice_get}
-use Rattle.relax_edges.specs.declared.TheConstants.{MAX_EDGES}
-use Rattle.relax_edges.specs.declared.kinds.ArchName.{ArchName}
-use Rattle.relax_edges.specs.declared.edge.Edge.{Edge}
+use Rattle.relax_edges.specs.declared.{TheConstants.MAX_EDGES, kinds.ArchName.ArchName, edge.Edge.Edge}
 use Rattle.relax_edges.specs.JoinedEdges.{is_joined}
 use Rattle.edge_algebra_laws.specs.Composable.{IsCycle, first_break}
 use Rattle.edge_algebra_laws.proofs.Composing.{joined_unbroken, unbroken_joined, unbroken_cycle}

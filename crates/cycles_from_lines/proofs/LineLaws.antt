@@ -1,16 +1,12 @@
 -- How the lines of a text follow from those of its parts.
 use Rattle.std.proofs.Common.{◌≡◌, ◌==◌, ℕ, suc, ◌+◌, ◌<◌, ◌≤◌, List, [], ◌∷◌, ◌++◌, length, true, false, refl, sym, ap, ◌∙◌, arith, append-nil, append_assoc, length-append}
-use Rattle.std.specs.Prelude.{map}
-use Rattle.std.specs.List.{slice_split}
-use Rattle.std.proofs.lemmas.List.{map-append, length-map}
-use Rattle.std.proofs.lemmas.List.Splits.{slice_split_none, length-slice_split}
-use Rattle.std.proofs.lemmas.Bool.Decides.{nat_tests}
+use Rattle.std.specs.{Prelude.map, List.slice_split}
+use Rattle.std.proofs.lemmas.{List.map-append, List.length-map, List.Splits.slice_split_none, List.Splits.length-slice_split, Bool.Decides.nat_tests}
 use Rattle.list_laws.proofs.Cases.{by_test}
 use Rattle.diy_io.specs.Sink.{line_feed_count}
 use Rattle.text_parts_laws.specs.Lines.{is_line_feed, without_return, but_last, last_of, whole_lines, ended_lines, unended, last_line, lines_of}
 use Rattle.text_parts_laws.proofs.PieceLaws.{first_piece, split_append, but_last_append, last_append, length-but_last}
-use Rattle.cycles_from_lines.specs.Cycles.{is_long_line}
-use Rattle.cycles_from_lines.specs.LineSteps.{Without}
+use Rattle.cycles_from_lines.specs.{Cycles.is_long_line, LineSteps.Without}
 
 -- new lines begin after a line feed
 split_after : (a b : List ℕ) (l : List ℕ) (ls : List (List ℕ)) → unended a ≡ [] → slice_split is_line_feed b ≡ l ∷ ls →

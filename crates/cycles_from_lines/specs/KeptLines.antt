@@ -1,9 +1,7 @@
 -- What is made of a line, and of its edges as they are kept.
 use Rattle.std.specs.Prelude.{List, Option, Result, Ok, Err}
-use Rattle.relax_edges.specs.declared.kinds.ArchName.{ArchName}
-use Rattle.relax_edges.specs.declared.edge.Edge.{Edge}
-use Rattle.edges_from_text.specs.declared.list.EdgeList.{EdgeList}
-use Rattle.edges_from_text.specs.declared.list.EdgeList.TheVariants.{Whole, TooLong}
+use Rattle.relax_edges.specs.declared.{kinds.ArchName.ArchName, edge.Edge.Edge}
+use Rattle.edges_from_text.specs.declared.list.{EdgeList.EdgeList, EdgeList.TheVariants.Whole, EdgeList.TheVariants.TooLong}
 use Rattle.cycles_from_lines.specs.declared.errors.LineKind.{LineKind}
 use Rattle.cycles_from_lines.specs.declared.errors.LineKind.TheVariants as kinds
 use Rattle.cycles_from_lines.specs.Cycles.{cycle_made}

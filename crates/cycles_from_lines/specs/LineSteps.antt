@@ -2,16 +2,11 @@
 use Rattle.std.specs.Prelude.{◌≡◌, ◌≤◌, ◌<◌, ◌==◌, ℕ, ◌+◌, ◌-◌, ◌*◌, true, false, List, [], ◌∷◌, ◌++◌, length, take, drop, Option, Some, None, Result, Ok, Err, All, MatchOption}
 use Rattle.std.specs.Io.KnownBytes.{IsAtEnd}
 use Rattle.diy_io.specs.declared.source.TheConstants.{MAX_INPUT}
-use Rattle.diy_io.specs.Count.{Rose, last_count}
-use Rattle.diy_io.specs.Taken.{SourceSeen, Took}
-use Rattle.relax_edges.specs.declared.kinds.ArchName.{ArchName}
-use Rattle.relax_edges.specs.declared.edge.Edge.{Edge}
-use Rattle.cycles_from_lines.specs.declared.errors.LineKind.{LineKind}
-use Rattle.cycles_from_lines.specs.declared.errors.LinesError.{LinesError}
-use Rattle.cycles_from_lines.specs.declared.reader.Line.{Line}
+use Rattle.diy_io.specs.{Count.Rose, Count.last_count, Taken.SourceSeen, Taken.Took}
+use Rattle.relax_edges.specs.declared.{kinds.ArchName.ArchName, edge.Edge.Edge}
+use Rattle.cycles_from_lines.specs.declared.{errors.LineKind.LineKind, errors.LinesError.LinesError, reader.Line.Line, reader.Found.Found}
+use Rattle.cycles_from_lines.specs.declared.{reader.Found.TheVariants.Next, reader.Found.TheVariants.Last}
 use Rattle.cycles_from_lines.specs.declared.reader.Line.TheVariants as lines
-use Rattle.cycles_from_lines.specs.declared.reader.Found.{Found}
-use Rattle.cycles_from_lines.specs.declared.reader.Found.TheVariants.{Next, Last}
 use Rattle.text_parts_laws.specs.Lines.{without_return, ended_lines, unended}
 use Rattle.cycles_from_lines.specs.Cycles.{line_said, are_sound, cycles_of}
 use Rattle.cycles_from_lines.specs.LineReading.{ReadAll, ReadUpTo, TookUpTo, Untouched}

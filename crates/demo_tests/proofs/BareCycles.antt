@@ -2,16 +2,12 @@
 -- the cycle does.
 use Rattle.std.proofs.Common.{◌≡◌, ℕ, ◌%◌, Bool, ◌==◌, ◌&&◌, true, false, cond, List, [], ◌∷◌, ◌++◌, length, map, take, drop, filter, refl, sym, ◌∙◌, ap, arith}
 use Rattle.std.specs.Prelude.{Option, Some, None, unwrap_or, count_by}
-use Rattle.std.specs.List.{find, list_any}
-use Rattle.std.specs.Option.{option_map}
-use Rattle.std.proofs.Math.Path.{fun_ext}
-use Rattle.std.proofs.Math.ListN.{get_or-map}
+use Rattle.std.specs.{List.find, List.list_any, Option.option_map}
+use Rattle.std.proofs.{Math.Path.fun_ext, Math.ListN.get_or-map, lemmas.List.Sums.sum_by-cons}
 use Rattle.std.proofs.lemmas.List.{length-map, take-map, drop-map, map-append}
-use Rattle.std.proofs.lemmas.List.Sums.{sum_by-cons}
 use Rattle.relax_edges.specs.declared.kinds.Dir.TheVariants as dirs
-use Rattle.relax_edges.specs.declared.kinds.Kind.{Kind}
+use Rattle.relax_edges.specs.declared.{kinds.Kind.Kind, edge.Edge.Edge}
 use Rattle.relax_edges.specs.declared.kinds.Kind.TheVariants as kinds
-use Rattle.relax_edges.specs.declared.edge.Edge.{Edge}
 use Rattle.relax_edges.specs.declared.edge.Edge.TheVariants as edges
 use Rattle.relax_edges.specs.EdgeTable.{kind_of, source_of, is_external, is_diff, same_dir}
 use Rattle.list_laws.specs.Numbers.{upto}

@@ -1,23 +1,14 @@
 -- The choices for a link: there is at least one, there are few, and they are found among all edges in order.
 use Rattle.std.proofs.Common.{◌≡◌, ◌<◌, ◌≤◌, ◌+◌, ℕ, Bool, true, List, [], ◌∷◌, ◌++◌, length, take, drop, get_or, refl, sym, ap, ◌∙◌, arith, length-append}
 use Rattle.std.specs.Prelude.{◌&&◌, cond, filter, nat_lt, nat_le}
-use Rattle.std.proofs.lemmas.Bool.{and_parts, cond-true}
-use Rattle.std.proofs.lemmas.Bool.Decides.{nat_tests}
-use Rattle.std.proofs.lemmas.List.{take-append-drop, take_all}
-use Rattle.std.proofs.lemmas.List.Elements.{filter-append, filter_more}
-use Rattle.std.proofs.lemmas.List.Filters.{length-filter_more}
-use Rattle.std.proofs.lemmas.Option.{get_or_from_slice_get}
-use Rattle.relax_edges.specs.declared.kinds.ArchName.{ArchName}
+use Rattle.std.proofs.lemmas.{Bool.and_parts, Bool.cond-true, Bool.Decides.nat_tests, List.take-append-drop, List.take_all}
+use Rattle.std.proofs.lemmas.{List.Elements.filter-append, List.Elements.filter_more, List.Filters.length-filter_more, Option.get_or_from_slice_get}
+use Rattle.relax_edges.specs.declared.{kinds.ArchName.ArchName, kinds.Dir.Dir, order.TheConstants.EDGES, edge.Edge.Edge}
 use Rattle.relax_edges.specs.declared.kinds.ArchName.TheVariants.{X86, PPC, AArch64, RISCV, ARM}
-use Rattle.relax_edges.specs.declared.kinds.Dir.{Dir}
 use Rattle.relax_edges.specs.declared.kinds.Dir.TheVariants as dirs
-use Rattle.relax_edges.specs.declared.order.TheConstants.{EDGES}
-use Rattle.relax_edges.specs.declared.edge.Edge.{Edge}
-use Rattle.relax_edges.specs.AllEdges.{edges_in_order}
-use Rattle.relax_edges.specs.Order.{rank_of}
+use Rattle.relax_edges.specs.{AllEdges.edges_in_order, Order.rank_of}
 use Rattle.edge_algebra_laws.proofs.RankLaws.{placed, edges-length}
-use Rattle.demo_tests.specs.Filled.{is_choice}
-use Rattle.demo_tests.specs.FilledLinks.{choices_of}
+use Rattle.demo_tests.specs.{Filled.is_choice, FilledLinks.choices_of}
 
 -- there are 1 to 16 choices for each link
 one_to_16 : (arch : ArchName) (from to : Dir) → (nat_lt 0 (length (choices_of arch from to)) && nat_le (length (choices_of arch from to)) 16) ≡ true

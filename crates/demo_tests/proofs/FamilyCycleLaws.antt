@@ -3,8 +3,7 @@ use Rattle.std.proofs.Common.{◌≡◌, ◌<◌, ◌+◌, ℕ, List, [], ◌∷
 use Rattle.std.specs.Prelude.{slice_index_or}
 use Rattle.std.proofs.lemmas.List.{map_push, take_more, get_or-map, length-map, length-take}
 use Rattle.relax_edges.specs.declared.edge.Edge.{Edge}
-use Rattle.cycle_names.specs.declared.family.Family.{Family}
-use Rattle.cycle_names.specs.declared.family.Family.TheVariants.{Other}
+use Rattle.cycle_names.specs.declared.family.{Family.Family, Family.TheVariants.Other}
 use Rattle.cycle_names.specs.Families.{all_families, family_edges}
 
 -- the cycle of the next family is kept too

@@ -1,21 +1,13 @@
 -- Threads of at most two accesses need no more registers than an architecture has.
 use Rattle.std.proofs.Common.{◌≡◌, ℕ, suc, ◌+◌, ◌≤◌, Bool, true, false, ◌&&◌, cond, List, [], ◌∷◌, length, map, filter, Some, None, nat_le, refl, ◌∙◌, ap, arith}
-use Rattle.std.specs.List.{AllByRecursion, list_all, position_from}
-use Rattle.std.specs.Option.{option_map}
-use Rattle.std.proofs.lemmas.Bool.{and_parts, leb-true, le-ltb}
-use Rattle.std.proofs.lemmas.List.{length-map}
-use Rattle.std.proofs.lemmas.List.Sums.{count_by-le-length}
-use Rattle.list_laws.proofs.Elements.{all_append}
-use Rattle.relax_edges.specs.declared.kinds.ObsMode.TheVariants.{Accept}
-use Rattle.relax_edges.specs.declared.edge.Edge.{Edge}
+use Rattle.std.specs.{List.AllByRecursion, List.list_all, List.position_from, Option.option_map}
+use Rattle.std.proofs.lemmas.{Bool.and_parts, Bool.leb-true, Bool.le-ltb, List.length-map, List.Sums.count_by-le-length}
+use Rattle.list_laws.proofs.{Elements.all_append, Cases.by_test, Numbers.length-map-upto}
+use Rattle.relax_edges.specs.declared.{kinds.ObsMode.TheVariants.Accept, edge.Edge.Edge}
 use Rattle.list_laws.specs.Numbers.{upto}
-use Rattle.list_laws.proofs.Cases.{by_test}
-use Rattle.list_laws.proofs.Numbers.{length-map-upto}
-use Rattle.cycle_events.specs.Resolution.{events_in, external_count, move_count}
-use Rattle.cycle_events.specs.Values.{is_observed, write_count}
+use Rattle.cycle_events.specs.{Resolution.events_in, Resolution.external_count, Resolution.move_count, Values.is_observed, Values.write_count}
 use Rattle.program_meaning.specs.Intended.{observed_locations}
-use Rattle.arch_trait.specs.declared.step.Shape.{Shape}
-use Rattle.arch_trait.specs.declared.step.Step.{Step}
+use Rattle.arch_trait.specs.declared.step.{Shape.Shape, Step.Step}
 use Rattle.arch_trait.specs.Links.{is_addr}
 use Rattle.arch_trait.specs.Threads.{Puts, is_load_dir, is_store_dir, places_in, shape_of, visits}
 use Rattle.tests_force_cycles.specs.CycleSteps.{cycle_steps, event_step, observing, observer_steps, thread_steps}

@@ -1,15 +1,12 @@
 -- How long the printed text of the test of a cycle is.
 -- Source: own.
 use Rattle.std.specs.Prelude.{◌≡◌, ◌≤◌, List, None, length}
-use Rattle.relax_edges.specs.declared.kinds.ObsMode.{ObsMode}
-use Rattle.relax_edges.specs.declared.edge.Edge.{Edge}
+use Rattle.relax_edges.specs.declared.{kinds.ObsMode.ObsMode, edge.Edge.Edge}
 use Rattle.edge_algebra_laws.specs.Composable.{IsCycle}
 use Rattle.cycle_names.specs.CycleNames.{name_of}
-use Rattle.arch_trait.specs.Threads.{Puts}
-use Rattle.arch_trait.specs.Writing.{Writing}
+use Rattle.arch_trait.specs.{Threads.Puts, Writing.Writing}
 use Rattle.litmus_text.specs.declared.limits.TheConstants.{MAX_TEST_TEXT}
-use Rattle.test_maker.specs.CycleText.{cycle_text}
-use Rattle.test_maker.specs.Refusals.{refusal_of}
+use Rattle.test_maker.specs.{CycleText.cycle_text, Refusals.refusal_of}
 
 -- the printed text of the test of each cycle that isn't refused, under the name of the cycle, is no longer than a text may be
 abbrev pub CycleTextsShort : Puts → Writing → Type 0

@@ -5,8 +5,7 @@ use Rattle.std.specs.Fmt.{decimal}
 use Rattle.cycle_names.specs.declared.family.Family.{Family}
 use Rattle.cycle_names.specs.Families.{all_families, family_word}
 use Rattle.list_laws.specs.Numbers.{upto}
-use Rattle.arch_trait.specs.Threads.{Puts}
-use Rattle.arch_trait.specs.Writing.{Writing}
+use Rattle.arch_trait.specs.{Threads.Puts, Writing.Writing}
 use Rattle.demo_tests.specs.declared.tally.TestTally.{TestTally}
 use Rattle.demo_tests.specs.Tallies.{numbered_text, tally_of_tests, family_tallies}
 

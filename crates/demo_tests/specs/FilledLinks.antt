@@ -2,15 +2,11 @@
 -- Source: own.
 use Rattle.std.specs.Prelude.{ℕ, ◌≡◌, ◌%◌, if◌then◌else◌, List, [], ◌∷◌, length, filter, slice_index_or}
 use Rattle.std.specs.List.{IsAmong}
-use Rattle.relax_edges.specs.declared.kinds.ArchName.{ArchName}
-use Rattle.relax_edges.specs.declared.kinds.Dir.{Dir}
-use Rattle.relax_edges.specs.declared.edge.Edge.{Edge}
-use Rattle.relax_edges.specs.EdgeTable.{source_of, target_of, is_external}
-use Rattle.relax_edges.specs.AllEdges.{edges_in_order}
+use Rattle.relax_edges.specs.declared.{kinds.ArchName.ArchName, kinds.Dir.Dir, edge.Edge.Edge}
+use Rattle.relax_edges.specs.{EdgeTable.source_of, EdgeTable.target_of, EdgeTable.is_external, AllEdges.edges_in_order}
 use Rattle.cycle_names.specs.declared.family.Family.{Family}
 use Rattle.cycle_names.specs.Families.{all_families, family_edges}
-use Rattle.demo_tests.specs.Filled.{is_choice}
-use Rattle.demo_tests.specs.Draws.{drawn, next_seed}
+use Rattle.demo_tests.specs.{Filled.is_choice, Draws.drawn, Draws.next_seed}
 
 -- the edges of the cycle of a family of the table
 pub record IsFamilyCycle (slots : List Edge) : Type 0 where

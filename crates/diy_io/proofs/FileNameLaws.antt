@@ -2,9 +2,7 @@
 use Rattle.std.proofs.Common.{◌≡◌, ℕ, List, [], Some, None, sym, subst}
 use Rattle.std.specs.Prelude.{IfSome, MatchOption, slice_get}
 use Rattle.std.proofs.lemmas.Option.{get_or_from_slice_get}
-use Rattle.diy_io.specs.Count.{Rose}
-use Rattle.diy_io.specs.Shelf.{ShelfSeen}
-use Rattle.diy_io.specs.Opened.{IsFile, name_at}
+use Rattle.diy_io.specs.{Count.Rose, Shelf.ShelfSeen, Opened.IsFile, Opened.name_at}
 
 -- the word that is found at a place
 pub named_word : (words : List (List ℕ)) (place : ℕ) (name : List ℕ) → slice_get words place ≡ Some name → name ≡ name_at words place

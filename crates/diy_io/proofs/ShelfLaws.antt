@@ -5,9 +5,8 @@ use Rattle.std.proofs.lemmas.List.{take-append-drop, drop_all, drop-drop, get_or
 use Rattle.std.proofs.lemmas.Option.{same_Some}
 use Rattle.diy_io.specs.Count.{next_count, count_of}
 use Rattle.diy_io.specs.Shelf.{Idle, Reading, Writing, name_written, IsWriting, with_more, Opened, NotThere, Stopped, Gave, Created, AppendedPart}
-use Rattle.diy_io.specs.declared.mem_shelf.Work.{Work}
+use Rattle.diy_io.specs.declared.mem_shelf.{Work.Work, MemShelf.TheInside.Inside}
 use Rattle.diy_io.specs.declared.mem_shelf.Work.TheVariants as works
-use Rattle.diy_io.specs.declared.mem_shelf.MemShelf.TheInside.{Inside}
 use Rattle.diy_io.specs.MemFiles.{MemFilesState, NamedFile, file_place, file_name_at, bytes_at, files_named}
 use Rattle.diy_io.specs.MemShelf.{MemShelfState, mem_shelf_seen, mode_of, IsPlace, IsAt}
 use Rattle.diy_io.proofs.FilesLaws.{place_inside, name_there, bytes_there, bytes_not_there, files_put, files_added, place_stays, place_added}

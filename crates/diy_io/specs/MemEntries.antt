@@ -1,7 +1,6 @@
 -- The memory of files in memory.
 use Rattle.std.specs.Prelude.{ℕ, ◌+◌, ◌≤◌, All, vec_len, vec_capacity, ◌≡◌, []}
-use Rattle.std.specs.declared.vec.Vec.{Vec}
-use Rattle.std.specs.declared.alloc.Global.{Global}
+use Rattle.std.specs.declared.{vec.Vec.Vec, alloc.Global.Global}
 use Rattle.diy_io.specs.declared.mem_files.Entry.{Entry}
 use Rattle.diy_io.specs.MemFiles.{NamedFile}
 

@@ -1,8 +1,6 @@
 -- Files in memory, of a bounded number and room.
 use Rattle.std.specs.Prelude.{◌≡◌, ◌⊎◌, ◌<◌, ◌-◌, ℕ, Bool, is_some, if◌then◌else◌, length, List, [], ◌∷◌, ◌++◌, Option, None, Some, find, slice_index_or, slice_set}
-use Rattle.std.specs.Option.{option_map}
-use Rattle.std.specs.List.{position_from}
-use Rattle.std.specs.Str.{bytes_eq}
+use Rattle.std.specs.{Option.option_map, List.position_from, Str.bytes_eq}
 use Rattle.diy_io.specs.Shelf.{Files}
 
 -- a file: its name and its bytes

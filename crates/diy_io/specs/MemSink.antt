@@ -1,8 +1,6 @@
 -- A sink in memory, of bounded room.
 use Rattle.std.specs.Prelude.{ℕ, ◌+◌, List, ◌++◌, length, take, nat_le, if◌then◌else◌}
-use Rattle.diy_io.specs.Count.{next_count}
-use Rattle.diy_io.specs.Sink.{shown_bytes}
-use Rattle.diy_io.specs.Wrote.{SinkSeen}
+use Rattle.diy_io.specs.{Count.next_count, Sink.shown_bytes, Wrote.SinkSeen}
 
 -- how many bytes it takes in all, those that it has taken, and how many writes failed
 pub record MemSinkState : Type 0 where

@@ -1,8 +1,6 @@
 -- A source in memory that fails at chosen calls.
 use Rattle.std.specs.Prelude.{ℕ, List, Some}
-use Rattle.diy_io.specs.Count.{next_count}
-use Rattle.diy_io.specs.SureSource.{SureSourceState, sure_source_after}
-use Rattle.diy_io.specs.Taken.{SourceSeen}
+use Rattle.diy_io.specs.{Count.next_count, SureSource.SureSourceState, SureSource.sure_source_after, Taken.SourceSeen}
 
 -- what it gives, the numbers of the calls that fail, the number of the next call, and how many calls failed
 pub record MemSourceState : Type 0 where

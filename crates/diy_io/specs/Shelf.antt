@@ -1,8 +1,6 @@
 -- Files by their names, what a shelf shows of them, and what its calls do to that.
 use Rattle.std.specs.Prelude.{◌≡◌, ◌≤◌, ◌<◌, ◌⊎◌, ℕ, ◌+◌, List, [], ◌++◌, length, Option, Some, None, IfSome, IsSome, MatchOption, unwrap_or, option_and_then, if◌then◌else◌}
-use Rattle.std.specs.Option.{option_map}
-use Rattle.std.specs.Str.{bytes_eq}
-use Rattle.std.specs.Io.KnownBytes.{Consumes, IsAtEnd}
+use Rattle.std.specs.{Option.option_map, Str.bytes_eq, Io.KnownBytes.Consumes, Io.KnownBytes.IsAtEnd}
 use Rattle.diy_io.specs.Count.{count_of, next_count, Rose}
 
 -- the bytes of each file that is there, by its name

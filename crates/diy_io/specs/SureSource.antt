@@ -1,7 +1,6 @@
 -- A source in memory that never fails.
 use Rattle.std.specs.Prelude.{ℕ, ◌+◌, List, length, drop, min, Some}
-use Rattle.diy_io.specs.Count.{count_of}
-use Rattle.diy_io.specs.Taken.{SourceSeen}
+use Rattle.diy_io.specs.{Count.count_of, Taken.SourceSeen}
 
 -- the bytes still to come, how many of them a call gives at most, and how many were taken
 pub record SureSourceState : Type 0 where

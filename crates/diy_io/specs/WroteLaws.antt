@@ -2,8 +2,7 @@
 use Rattle.std.proofs.Common.{◌≡◌, ◌≤◌, ℕ, List, [], ◌++◌, Ok, refl, ◌∙◌, subst}
 use Rattle.std.specs.Prelude.{Result}
 use Rattle.diy_io.specs.declared.errors.Failed.{Failed}
-use Rattle.diy_io.specs.Count.{Rose}
-use Rattle.diy_io.specs.Sink.{shown_kept}
+use Rattle.diy_io.specs.{Count.Rose, Sink.shown_kept}
 use Rattle.diy_io.specs.SinkLaws.{grew_nothing, grew_both, prefix_after, within_more}
 use Rattle.diy_io.specs.Wrote.{SinkSeen, WroteAll, WrotePart, Wrote}
 

@@ -4,20 +4,14 @@ use Rattle.std.specs.Prelude.{Result, ◌==◌, true, false}
 use Rattle.std.proofs.lemmas.Bool.{eqb-true}
 use Rattle.relax_edges.specs.declared.kinds.ArchName.{ArchName}
 use Rattle.tests_from_files.specs.declared.classified_errors.FilesEnd.TheVariants as ends
-use Rattle.diy_io.specs.Shelf.{ShelfSeen}
-use Rattle.diy_io.specs.Taken.{SourceSeen}
-use Rattle.diy_io.specs.Wrote.{SinkSeen}
+use Rattle.diy_io.specs.{Shelf.ShelfSeen, Taken.SourceSeen, Wrote.SinkSeen}
 use Rattle.diy_words.specs.declared.request.Request.TheVariants as requests
 use Rattle.diy_words.specs.declared.usage.Usage.{Usage}
-use Rattle.diy_words.specs.Given.{GivesTask}
-use Rattle.diy_words.specs.GivenLaws.{gives_classifying}
+use Rattle.diy_words.specs.{Given.GivesTask, GivenLaws.gives_classifying}
 use Rattle.diy_words.specs.Requests.{Task, AsksFamilies, asked_of, files_of, IsClassifying}
-use Rattle.diy_tools.specs.declared.status.Status.{Status}
-use Rattle.diy_tools.specs.declared.status.Status.TheVariants.{NoMemory}
-use Rattle.diy_tools.specs.Answers.{Answers, AnswersAsked}
-use Rattle.diy_tools.specs.Devices.{Devices, DevicesSeen, devices}
-use Rattle.diy_tools.specs.FamilyAnswers.{AnswersClassify, AnswersFamilies}
-use Rattle.diy_tools.specs.KeptRequests.{ClassifiesNamedFiles}
+use Rattle.diy_tools.specs.declared.status.{Status.Status, Status.TheVariants.NoMemory}
+use Rattle.diy_tools.specs.{Answers.Answers, Answers.AnswersAsked, Devices.Devices, Devices.DevicesSeen, Devices.devices}
+use Rattle.diy_tools.specs.{FamilyAnswers.AnswersClassify, FamilyAnswers.AnswersFamilies, KeptRequests.ClassifiesNamedFiles}
 
 -- words that give a request for families ask for them
 pub asks_families : (arch : ArchName) (words : List (List ℕ)) → GivesTask (Ok (requests.Families arch)) (asked_of words) → IsClassifying (asked_of words)

@@ -4,24 +4,16 @@ use Rattle.std.specs.Prelude.{Result}
 use Rattle.relax_edges.specs.declared.kinds.ArchName.{ArchName}
 use Rattle.edges_from_text.specs.declared.list.EdgeList.{EdgeList}
 use Rattle.edges_from_text.specs.KeptEdges.{kept_edges}
-use Rattle.diy_io.specs.Shelf.{ShelfSeen}
-use Rattle.diy_io.specs.Taken.{SourceSeen}
-use Rattle.diy_io.specs.Wrote.{SinkSeen}
-use Rattle.diy_words.specs.declared.request.Coherence.{Coherence}
+use Rattle.diy_io.specs.{Shelf.ShelfSeen, Taken.SourceSeen, Wrote.SinkSeen}
+use Rattle.diy_words.specs.declared.{request.Coherence.Coherence, usage.Usage.Usage}
 use Rattle.diy_words.specs.declared.request.Request.TheVariants as requests
-use Rattle.diy_words.specs.declared.usage.Usage.{Usage}
 use Rattle.diy_words.specs.Given.{GivesTask}
 use Rattle.diy_words.specs.Requests.{Task, CoherenceTask, AsksCoherence, asked_of}
 use Rattle.co_tests_laws.specs.CoRefusals.{coherence_refusal_of, coherence_text}
 use Rattle.diy_tools.specs.declared.status.Status.{Status}
-use Rattle.diy_tools.specs.Answers.{Answers, AnswersAsked}
-use Rattle.diy_tools.specs.ArchMachines.{machine_of}
-use Rattle.diy_tools.specs.CoherenceAnswers.{AnswersCoherence}
-use Rattle.diy_tools.specs.Devices.{devices}
+use Rattle.diy_tools.specs.{Answers.Answers, Answers.AnswersAsked, ArchMachines.machine_of, CoherenceAnswers.AnswersCoherence, Devices.devices}
+use Rattle.diy_tools.specs.{PrintAnswers.AnswersEdges, Refused.refused_coherence, TestAnswers.test_name}
 use Rattle.diy_tools.specs.KeptRequests.{AnswersIncoherence, edges_kept, name_kept, refused_incoherent}
-use Rattle.diy_tools.specs.PrintAnswers.{AnswersEdges}
-use Rattle.diy_tools.specs.Refused.{refused_coherence}
-use Rattle.diy_tools.specs.TestAnswers.{test_name}
 use Rattle.diy_tools.proofs.Running.{edges_answered, kept_so}
 
 -- what is answered on an architecture is answered on the one with its name

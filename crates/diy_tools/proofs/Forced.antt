@@ -1,24 +1,17 @@
 -- Where a test is printed, its bytes force the cycle.
 use Rattle.std.proofs.Common.{◌≡◌, ℕ, Bool, true, false, cond, not, nat_lt, List, [], ◌∷◌, ◌++◌, length, Option, Some, None, refl, sym, ap, subst, inl, inr, Ok, Err, ◌∙◌}
-use Rattle.std.specs.Option.{option_or}
+use Rattle.std.specs.{Option.option_or, List.position_from}
 use Rattle.std.specs.Prelude.{IfSome, Result, ◌⊎◌, if◌then◌else◌}
-use Rattle.std.specs.List.{position_from}
 use Rattle.std.proofs.lemmas.Bool.{ltb-false}
-use Rattle.relax_edges.specs.declared.TheConstants.{MAX_EDGES}
-use Rattle.relax_edges.specs.declared.kinds.ArchName.{ArchName}
+use Rattle.relax_edges.specs.declared.{TheConstants.MAX_EDGES, kinds.ArchName.ArchName, kinds.ObsMode.ObsMode, edge.Edge.Edge}
 use Rattle.relax_edges.specs.declared.kinds.ArchName.TheVariants as archs
-use Rattle.relax_edges.specs.declared.kinds.ObsMode.{ObsMode}
-use Rattle.relax_edges.specs.declared.edge.Edge.{Edge}
 use Rattle.relax_edges.specs.EdgeTable.{is_of_arch}
 use Rattle.edge_algebra_laws.specs.Composable.{IsCycle, first_break}
 use Rattle.edge_algebra_laws.proofs.Composing.{unbroken_cycle}
 use Rattle.edge_algebra.specs.declared.errors.CycleError.TheVariants as composing
 use Rattle.edge_algebra.specs.Compose.{unbroken}
 use Rattle.cycle_events.specs.Resolution.{turned}
-use Rattle.arch_trait.specs.Cells.{WritesCells, MakesOneAccess}
-use Rattle.arch_trait.specs.Laws.{IsArch}
-use Rattle.arch_trait.specs.Threads.{Puts}
-use Rattle.arch_trait.specs.Writing.{WritesBack}
+use Rattle.arch_trait.specs.{Cells.WritesCells, Cells.MakesOneAccess, Laws.IsArch, Threads.Puts, Writing.WritesBack}
 use Rattle.arch_x86.specs.InCells as x86_cells
 use Rattle.arch_x86.specs.Laws as x86_laws
 use Rattle.arch_x86.specs.ReadsBack as x86_back
@@ -41,35 +34,25 @@ use Rattle.diy_words.specs.Requests.{Task, TestTask, ListTask, AsksTest, AsksWhy
 use Rattle.cycle_names.specs.CycleNames.{name_of}
 use Rattle.diy_words.proofs.RequestForm.{asked_form}
 use Rattle.test_maker.specs.declared.refusal.MakeRefusal.{MakeRefusal}
-use Rattle.test_maker.specs.Refusals.{refusal_of}
+use Rattle.test_maker.specs.{Refusals.refusal_of, CycleText.cycle_text}
 use Rattle.bytes_force_cycles.specs.PrintedHeadline.{BytesForce}
 use Rattle.test_maker.proofs.HavingTests.{accepted_has_test}
 use Rattle.demo_tests.proofs.Cycles.{cycle_named}
 use Rattle.bytes_force_cycles.proofs.Printed.{printed_force}
-use Rattle.diy_tools.specs.declared.status.Refusal.{Refusal}
+use Rattle.diy_tools.specs.declared.status.{Refusal.Refusal, Status.Status, Status.TheVariants.NoMemory}
 use Rattle.diy_tools.specs.declared.status.Refusal.TheVariants as refusals
-use Rattle.diy_tools.specs.declared.status.Status.{Status}
-use Rattle.diy_tools.specs.declared.status.Status.TheVariants.{NoMemory}
-use Rattle.diy_tools.specs.WhyAnswers.{AnswersRuns, AnswersWhy, WritesRuns}
-use Rattle.diy_tools.specs.ArchMachines.{Machine, machine_of}
+use Rattle.diy_tools.specs.{WhyAnswers.AnswersRuns, WhyAnswers.AnswersWhy, WhyAnswers.WritesRuns, ArchMachines.Machine, ArchMachines.machine_of}
+use Rattle.diy_tools.specs.{PrintAnswers.AnswersEdges, CoherenceAnswers.AnswersCoherence, CoherenceAnswers.incoherence_refused}
+use Rattle.diy_tools.specs.{CoherenceAnswers.incoherent_text, TestAnswers.asked_text, TestAnswers.test_name, CrossAnswers.AnswersCross}
+use Rattle.diy_tools.specs.{ListAnswers.AnswersList, Answers.Answers, Answers.AnswersAsked, Devices.Devices, Devices.DevicesSeen, Devices.devices}
+use Rattle.diy_tools.specs.{Headline.Headline, Headline.HeadlineAsked}
 use Rattle.diy_tools.specs.Refused.{refused_list, refused_of, refused_of_arch, refused_composing, refused_making, refused_coherence}
-use Rattle.diy_tools.specs.PrintAnswers.{AnswersEdges}
-use Rattle.diy_tools.specs.CoherenceAnswers.{AnswersCoherence, incoherence_refused, incoherent_text}
 use Rattle.co_tests_laws.specs.declared.refusal.CoRefusal.{CoRefusal}
-use Rattle.co_tests_laws.specs.CoRefusals.{coherence_refusal_of, coherence_text}
-use Rattle.co_tests_laws.specs.Incoherence.{BytesShowIncoherence}
-use Rattle.co_tests_laws.proofs.Accepted.{accepted_has_test as accepted_has_loop}
-use Rattle.co_tests_laws.proofs.Printed.{printed_show}
-use Rattle.diy_tools.specs.TestAnswers.{asked_text, test_name}
+use Rattle.co_tests_laws.specs.{CoRefusals.coherence_refusal_of, CoRefusals.coherence_text, Incoherence.BytesShowIncoherence}
+use Rattle.co_tests_laws.proofs.{Accepted.accepted_has_test as accepted_has_loop, Printed.printed_show}
 use Rattle.diycross7_cycles.specs.Laws.{IsCrossed}
 use Rattle.diycross7_cycles.proofs.Crossing.{crosses_all}
-use Rattle.diy_tools.specs.CrossAnswers.{AnswersCross}
-use Rattle.diy_tools.specs.ListAnswers.{AnswersList}
-use Rattle.diy_tools.specs.Answers.{Answers, AnswersAsked}
-use Rattle.diy_tools.specs.Devices.{Devices, DevicesSeen, devices}
-use Rattle.diy_tools.specs.Headline.{Headline, HeadlineAsked}
 use Rattle.tests_to_files.specs.WantedLaws.{wanted_has_test}
-use Rattle.test_maker.specs.CycleText.{cycle_text}
 use Rattle.diy_tools.proofs.TestNames.{words_name}
 
 -- what the law over the bytes asks of an architecture

@@ -1,59 +1,40 @@
 -- What is answered after more than 2^40 bytes, from what is answered.
 use Rattle.std.proofs.Common.{◌≡◌, ◌≤◌, ◌<◌, ◌+◌, ◌^◌, ℕ, List, [], ◌∷◌, length, Option, None, Some, Ok, Err, sym, ap, subst, arith, inl, inr}
 use Rattle.std.specs.Prelude.{Result, ◌⊎◌}
-use Rattle.diy_tools.proofs.Caused.{of_files}
-use Rattle.relax_edges.specs.declared.edge.Edge.{Edge}
-use Rattle.relax_edges.specs.declared.kinds.ArchName.{ArchName}
+use Rattle.diy_tools.proofs.{Caused.of_files, Opened.IsWithin, Opened.files_within, Opened.failed_within}
+use Rattle.relax_edges.specs.declared.{edge.Edge.Edge, kinds.ArchName.ArchName}
 use Rattle.cycles_from_lines.specs.declared.errors.LinesError.TheVariants as lines
-use Rattle.cycles_from_lines.specs.declared.errors.NormError.{NormError}
+use Rattle.cycles_from_lines.specs.declared.errors.{NormError.NormError, ClassifyError.ClassifyError}
 use Rattle.cycles_from_lines.specs.declared.errors.NormError.TheVariants as norms
-use Rattle.cycles_from_lines.specs.declared.errors.ClassifyError.{ClassifyError}
 use Rattle.cycles_from_lines.specs.declared.errors.ClassifyError.TheVariants as classifies
-use Rattle.cycles_from_lines.specs.Classified.{Classifies}
+use Rattle.cycles_from_lines.specs.{Classified.Classifies, Normed.Norms, LineReading.TookUpTo}
 use Rattle.tests_from_files.specs.declared.classified_errors.FilesEnd.{FilesEnd}
 use Rattle.tests_from_files.specs.declared.classified_errors.FilesEnd.TheVariants as classing
 use Rattle.tests_from_files.proofs.FewLaws.{classified_few}
 use Rattle.exec_check.specs.declared.checked_errors.CheckEnd.{CheckEnd}
 use Rattle.exec_check.specs.declared.checked_errors.CheckEnd.TheVariants as checking
 use Rattle.exec_check.specs.CheckedLaws.{checked_few}
-use Rattle.cycles_from_lines.specs.Normed.{Norms}
-use Rattle.cycles_from_lines.specs.LineReading.{TookUpTo}
 use Rattle.diy_io.specs.declared.source.TheConstants.{MAX_INPUT}
-use Rattle.diy_io.specs.Count.{count_of}
-use Rattle.diy_io.specs.Shelf.{ShelfSeen}
-use Rattle.diy_io.specs.Taken.{SourceSeen}
-use Rattle.diy_io.specs.Wrote.{SinkSeen}
-use Rattle.diy_words.specs.declared.usage.Usage.{Usage}
+use Rattle.diy_io.specs.{Count.count_of, Shelf.ShelfSeen, Taken.SourceSeen, Wrote.SinkSeen}
+use Rattle.diy_words.specs.declared.{usage.Usage.Usage, request.Check.Check}
 use Rattle.diy_words.specs.Requests.{Task, ListTask, Sought, asked_of}
 use Rattle.diy_words.specs.Requests.{AsksTest, AsksWhy, AsksCoherence, AsksName, AsksList, AsksFamilies, AsksSum, AsksCross, AsksDemo, AsksCheck, CrossTask, OfEdges, OfName, OfLines}
-use Rattle.diy_words.specs.declared.request.Check.{Check}
 use Rattle.tests_to_files.specs.declared.ending.ListingEnd.{ListingEnd}
 use Rattle.tests_to_files.specs.declared.ending.ListingEnd.TheVariants as listings
-use Rattle.tests_to_files.specs.ListingEnds.{StopsAtTest, StopsAtAll}
-use Rattle.tests_to_files.specs.Plans.{IsPlanned, planned_text}
+use Rattle.tests_to_files.specs.{ListingEnds.StopsAtTest, ListingEnds.StopsAtAll, Plans.IsPlanned, Plans.planned_text}
 use Rattle.msum7_files.specs.declared.sum_end.SumEnd.{SumEnd}
 use Rattle.msum7_files.specs.declared.sum_end.SumEnd.TheVariants as sums
 use Rattle.msum7_files.specs.SumEnds.{InputSummed}
-use Rattle.diy_tools.specs.declared.status.Status.{Status}
+use Rattle.diy_tools.specs.declared.status.{Status.Status, TextKind.TextKind, Refusal.Refusal, Device.TheVariants.Out, Device.TheVariants.Shelf}
 use Rattle.diy_tools.specs.declared.status.Status.TheVariants as statuses
-use Rattle.diy_tools.specs.declared.status.TextKind.{TextKind}
 use Rattle.diy_tools.specs.declared.status.TextKind.TheVariants as texts
-use Rattle.diy_tools.specs.Devices.{Devices, DevicesSeen, devices}
-use Rattle.diy_tools.specs.Statuses.{norm_status, classify_status}
+use Rattle.diy_tools.specs.{Devices.Devices, Devices.DevicesSeen, Devices.devices, Statuses.norm_status, Statuses.classify_status}
+use Rattle.diy_tools.specs.{NameAnswers.AnswersSought, ListAnswers.EndsAsked, ListAnswers.plan_asked, CrossAnswers.AnswersCross}
+use Rattle.diy_tools.specs.{CrossAnswers.EndsCrossed, SumAnswers.EndsInput, SumAnswers.EndsSum, SumAnswers.sum_status, ArchMachines.Machine}
+use Rattle.diy_tools.specs.{ArchMachines.machine_of, TestAnswers.test_name, WhyAnswers.AnswersRuns, WhyAnswers.WritesRuns, WhyAnswers.why_unshown}
+use Rattle.diy_tools.specs.{CheckAnswers.EndsCheck, CheckAnswers.checked_kind, CheckAnswers.check_status, Answers.Answers, Answers.AnswersAsked}
+use Rattle.diy_tools.specs.{Limit.Limited, Limit.StopsReading, Limit.TookTooMuch}
 use Rattle.diy_tools.specs.FamilyAnswers.{AnswersClassify, EndsFamilies, file_kind, files_status, read_on}
-use Rattle.diy_tools.specs.NameAnswers.{AnswersSought}
-use Rattle.diy_tools.specs.ListAnswers.{EndsAsked, plan_asked}
-use Rattle.diy_tools.specs.CrossAnswers.{AnswersCross, EndsCrossed}
-use Rattle.diy_tools.specs.SumAnswers.{EndsInput, EndsSum, sum_status}
-use Rattle.diy_tools.specs.ArchMachines.{Machine, machine_of}
-use Rattle.diy_tools.specs.declared.status.Refusal.{Refusal}
-use Rattle.diy_tools.specs.declared.status.Device.TheVariants.{Out, Shelf}
-use Rattle.diy_tools.specs.TestAnswers.{test_name}
-use Rattle.diy_tools.specs.WhyAnswers.{AnswersRuns, WritesRuns, why_unshown}
-use Rattle.diy_tools.specs.CheckAnswers.{EndsCheck, checked_kind, check_status}
-use Rattle.diy_tools.specs.Answers.{Answers, AnswersAsked}
-use Rattle.diy_tools.proofs.Opened.{IsWithin, files_within, failed_within}
-use Rattle.diy_tools.specs.Limit.{Limited, StopsReading, TookTooMuch}
 
 -- at most 2^40 bytes were taken of the input, as far as they are counted
 abbrev InputWithin : SourceSeen → SourceSeen → Type 0

@@ -1,21 +1,14 @@
 -- What a listing leaves, as the answers see it.
 use Rattle.std.proofs.Common.{◌≡◌, Option, sym, ap, subst}
-use Rattle.relax_edges.specs.declared.edge.Edge.{Edge}
-use Rattle.relax_edges.specs.declared.kinds.ArchName.{ArchName}
-use Rattle.diy_io.specs.Shelf.{ShelfSeen}
-use Rattle.diy_io.specs.Wrote.{SinkSeen}
+use Rattle.relax_edges.specs.declared.{edge.Edge.Edge, kinds.ArchName.ArchName}
+use Rattle.diy_io.specs.{Shelf.ShelfSeen, Wrote.SinkSeen}
 use Rattle.diy_words.specs.Requests.{ListTask}
-use Rattle.tests_to_files.specs.declared.ending.ListingEnd.{ListingEnd}
+use Rattle.tests_to_files.specs.declared.{ending.ListingEnd.ListingEnd, listing.Listing.Listing}
 use Rattle.tests_to_files.specs.declared.ending.ListingEnd.TheVariants as ends
-use Rattle.tests_to_files.specs.declared.listing.Listing.{Listing}
-use Rattle.tests_to_files.specs.ListingEnds.{EndsAfter, EndsListing}
-use Rattle.tests_to_files.specs.Plans.{Plan, plan_of}
+use Rattle.tests_to_files.specs.{ListingEnds.EndsAfter, ListingEnds.EndsListing, Plans.Plan, Plans.plan_of}
 use Rattle.std.specs.Prelude.{List}
 use Rattle.diy_tools.specs.declared.status.Status.{Status}
-use Rattle.diy_tools.specs.ListAnswers.{AnswersList, plan_asked}
-use Rattle.diy_tools.specs.KeptRequests.{EndsOn}
-use Rattle.diy_tools.specs.ArchMachines.{machine_of}
-use Rattle.diy_tools.specs.Statuses.{listing_status}
+use Rattle.diy_tools.specs.{ListAnswers.AnswersList, ListAnswers.plan_asked, KeptRequests.EndsOn, ArchMachines.machine_of, Statuses.listing_status}
 
 -- what holds of a sink holds of what it shows
 after_seen : {Sink : Type 0} (seen : Sink → SinkSeen) (plan : Plan) (given : Option (List Edge)) (end : ListingEnd) (old new : ShelfSeen) (out after : Sink)

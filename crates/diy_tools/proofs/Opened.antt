@@ -1,13 +1,9 @@
 -- What was opened and taken of logs, as far as it is counted.
 use Rattle.std.proofs.Common.{◌≡◌, ◌≤◌, ◌<◌, ◌+◌, ◌^◌, ℕ, List, [], ◌∷◌, ◌++◌, length, All, suc, ap, ◌∙◌, arith, inl, inr, length-append}
 use Rattle.std.specs.Prelude.{◌⊎◌}
-use Rattle.diy_io.specs.Count.{count_of, Rose}
-use Rattle.diy_io.specs.Shelf.{ShelfSeen}
-use Rattle.diy_io.specs.Taken.{SourceSeen}
-use Rattle.msum7_files.specs.Logs.{IsShort, IsTooMuch, TookCount}
-use Rattle.diy_io.specs.Opened.{TookFiles, last_taken}
+use Rattle.diy_io.specs.{Count.count_of, Count.Rose, Shelf.ShelfSeen, Taken.SourceSeen, Opened.TookFiles, Opened.last_taken}
+use Rattle.msum7_files.specs.{Logs.IsShort, Logs.IsTooMuch, Logs.TookCount, SumEnds.FileTooMuch, SumEnds.IsBegun, SumEnds.SumShelfFailed}
 use Rattle.diy_io.proofs.OpenedLaws.{last_of}
-use Rattle.msum7_files.specs.SumEnds.{FileTooMuch, IsBegun, SumShelfFailed}
 use Rattle.diy_tools.specs.Causes.{RoseFar}
 
 -- at most 2^40 bytes were taken of the last file that was opened since

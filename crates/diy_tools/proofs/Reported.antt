@@ -2,15 +2,12 @@
 use Rattle.std.proofs.Common.{◌≡◌, ℕ, ◌+◌, ◌<◌, ◌≤◌, List, [], ◌++◌, ◌∙◌, ap, arith, length, get_or, append-nil, inl, inr, subst}
 use Rattle.std.specs.Prelude.{codes, slice_get, None, Result, Ok, Err}
 use Rattle.std.specs.Result.{IsErrAnd}
-use Rattle.std.proofs.lemmas.Option.{slice_get_past}
-use Rattle.std.proofs.lemmas.List.FromFn.{get_or-map-range_with_len, length-map-range_with_len}
+use Rattle.std.proofs.lemmas.{Option.slice_get_past, List.FromFn.get_or-map-range_with_len, List.FromFn.length-map-range_with_len}
 use Rattle.arch_trait.specs.PlaceNames.{letters, location_name}
 use Rattle.diy_words.specs.declared.usage.UsageKind.{UsageKind}
 use Rattle.diy_tools.specs.declared.status.Status.TheVariants.{Usage}
 use Rattle.diy_io.specs.declared.errors.Failed.{Failed}
-use Rattle.diy_io.specs.Page.{SentAll, Sends}
-use Rattle.diy_io.specs.PageLaws.{sent_wrote, unsent_wrote}
-use Rattle.diy_io.specs.Wrote.{SinkSeen, Wrote}
+use Rattle.diy_io.specs.{Page.SentAll, Page.Sends, PageLaws.sent_wrote, PageLaws.unsent_wrote, Wrote.SinkSeen, Wrote.Wrote}
 use Rattle.diy_tools.specs.Report.{TakesLine, status_line, usage_line, usage_text, shown_word}
 
 -- the last of some letters is the name of its location

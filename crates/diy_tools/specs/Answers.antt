@@ -6,17 +6,9 @@ use Rattle.diy_words.specs.Requests.{Task, AsksTest, AsksWhy, AsksCoherence, Ask
 use Rattle.diy_tools.specs.declared.status.Status.{Status}
 use Rattle.diy_tools.specs.declared.status.Status.TheVariants as statuses
 use Rattle.diy_tools.specs.Devices.{Devices, OutAlone, InputAndOut, ShelfAndOut, DevicesSeen, devices}
-use Rattle.diy_tools.specs.TestAnswers.{AnswersTest}
-use Rattle.diy_tools.specs.NameAnswers.{AnswersSought}
-use Rattle.diy_tools.specs.FamilyAnswers.{AnswersClassify}
-use Rattle.diy_tools.specs.ListAnswers.{AnswersList}
-use Rattle.diy_tools.specs.CrossAnswers.{AnswersCross}
-use Rattle.diy_tools.specs.DemoAnswers.{demo_asked}
-use Rattle.diy_tools.specs.CheckAnswers.{AnswersCheck}
-use Rattle.diy_tools.specs.PrintAnswers.{Prints}
-use Rattle.diy_tools.specs.SumAnswers.{AnswersSum}
-use Rattle.diy_tools.specs.WhyAnswers.{AnswersWhy}
-use Rattle.diy_tools.specs.CoherenceAnswers.{AnswersCoherence}
+use Rattle.diy_tools.specs.{TestAnswers.AnswersTest, NameAnswers.AnswersSought, FamilyAnswers.AnswersClassify, ListAnswers.AnswersList}
+use Rattle.diy_tools.specs.{CrossAnswers.AnswersCross, DemoAnswers.demo_asked, CheckAnswers.AnswersCheck, PrintAnswers.Prints, SumAnswers.AnswersSum}
+use Rattle.diy_tools.specs.{WhyAnswers.AnswersWhy, CoherenceAnswers.AnswersCoherence}
 
 -- words make no request, and no device changes; or each tool answers what it is asked for, and the devices that it doesn't
 -- use stay as they were

@@ -2,8 +2,7 @@
 -- Source: own.
 use Rattle.relax_edges.specs.declared.kinds.ArchName.{ArchName}
 use Rattle.relax_edges.specs.declared.kinds.ArchName.TheVariants as archs
-use Rattle.arch_trait.specs.Threads.{Puts}
-use Rattle.arch_trait.specs.Writing.{Writing}
+use Rattle.arch_trait.specs.{Threads.Puts, Writing.Writing}
 use Rattle.arch_x86.specs.Puts as x86
 use Rattle.arch_x86.specs.Table as x86_table
 use Rattle.arch_power.specs.Puts as power

@@ -1,21 +1,16 @@
 -- What mcheck7 answers.
 -- Source: own.
 use Rattle.std.specs.Prelude.{◌≡◌, ℕ, List, Some}
-use Rattle.exec_check.specs.declared.checked_errors.CheckEnd.{CheckEnd}
+use Rattle.exec_check.specs.declared.checked_errors.{CheckEnd.CheckEnd, CheckedKind.CheckedKind}
 use Rattle.exec_check.specs.declared.checked_errors.CheckEnd.TheVariants as ends
-use Rattle.exec_check.specs.declared.checked_errors.CheckedKind.{CheckedKind}
 use Rattle.exec_check.specs.declared.checked_errors.CheckedKind.TheVariants as kinds
 use Rattle.exec_check.specs.FilesChecked.{FilesChecked}
-use Rattle.diy_io.specs.Shelf.{ShelfSeen}
-use Rattle.diy_io.specs.Wrote.{SinkSeen}
+use Rattle.diy_io.specs.{Shelf.ShelfSeen, Wrote.SinkSeen}
 use Rattle.diy_words.specs.declared.request.Check.{Check}
-use Rattle.diy_tools.specs.declared.status.Status.{Status}
+use Rattle.diy_tools.specs.declared.status.{Status.Status, TextKind.TextKind, Device.TheVariants.Out, Device.TheVariants.Shelf}
 use Rattle.diy_tools.specs.declared.status.Status.TheVariants.{Done, BadText, NoFile, ReadFault, WriteFault, NoMemory}
-use Rattle.diy_tools.specs.declared.status.TextKind.{TextKind}
 use Rattle.diy_tools.specs.declared.status.TextKind.TheVariants as texts
-use Rattle.diy_tools.specs.declared.status.Device.TheVariants.{Out, Shelf}
-use Rattle.diy_tools.specs.Devices.{Devices, ShelfAndOut}
-use Rattle.diy_tools.specs.ArchMachines.{machine_of}
+use Rattle.diy_tools.specs.{Devices.Devices, Devices.ShelfAndOut, ArchMachines.machine_of}
 
 -- what is wrong with the file of a test, or with that of an execution
 abbrev pub checked_kind : CheckedKind → TextKind

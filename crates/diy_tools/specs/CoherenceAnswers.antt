@@ -1,18 +1,14 @@
 -- What diyone7 answers with the option -co.
 -- Source: own.
-use Rattle.std.specs.Prelude.{ℕ, List, Option}
-use Rattle.std.specs.Option.{option_or}
+use Rattle.std.specs.{Prelude.ℕ, Prelude.List, Prelude.Option, Option.option_or}
 use Rattle.relax_edges.specs.declared.edge.Edge.{Edge}
 use Rattle.diy_io.specs.Wrote.{SinkSeen}
 use Rattle.diy_words.specs.Requests.{CoherenceTask}
 use Rattle.arch_trait.specs.Threads.{Puts}
 use Rattle.co_tests_laws.specs.CoRefusals.{coherence_refusal_of, coherence_text}
-use Rattle.diy_tools.specs.declared.status.Status.{Status}
-use Rattle.diy_tools.specs.declared.status.Refusal.{Refusal}
-use Rattle.diy_tools.specs.ArchMachines.{machine_of}
-use Rattle.diy_tools.specs.PrintAnswers.{AnswersEdges}
-use Rattle.diy_tools.specs.Refused.{refused_list, refused_coherence}
-use Rattle.diy_tools.specs.TestAnswers.{test_name}
+use Rattle.diy_tools.specs.declared.status.{Status.Status, Refusal.Refusal}
+use Rattle.diy_tools.specs.{ArchMachines.machine_of, PrintAnswers.AnswersEdges, Refused.refused_list, Refused.refused_coherence}
+use Rattle.diy_tools.specs.{TestAnswers.test_name}
 
 -- the first reason why a list of edges has no coherence test on an architecture
 abbrev pub incoherence_refused : Puts → List Edge → Option Refusal

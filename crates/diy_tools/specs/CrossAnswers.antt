@@ -1,19 +1,14 @@
 -- What diycross7 answers.
 -- Source: own.
 use Rattle.std.specs.Prelude.{◌≡◌, ◌⊎◌, ℕ, List, Option}
-use Rattle.relax_edges.specs.declared.edge.Edge.{Edge}
-use Rattle.relax_edges.specs.declared.kinds.ObsMode.{ObsMode}
+use Rattle.relax_edges.specs.declared.{edge.Edge.Edge, kinds.ObsMode.ObsMode}
 use Rattle.diycross7_cycles.specs.Choices.{crossed}
-use Rattle.diy_io.specs.Shelf.{ShelfSeen}
-use Rattle.diy_io.specs.Wrote.{SinkSeen}
+use Rattle.diy_io.specs.{Shelf.ShelfSeen, Wrote.SinkSeen}
 use Rattle.diy_words.specs.Requests.{CrossTask}
 use Rattle.tests_to_files.specs.declared.ending.ListingEnd.{ListingEnd}
-use Rattle.tests_to_files.specs.GivenCycles.{EndsGiven}
-use Rattle.tests_to_files.specs.Plans.{named_text}
-use Rattle.diy_tools.specs.declared.status.Status.{Status}
-use Rattle.diy_tools.specs.declared.status.Status.TheVariants.{NoMemory}
-use Rattle.diy_tools.specs.ArchMachines.{Machine, machine_of}
-use Rattle.diy_tools.specs.Statuses.{listing_status}
+use Rattle.tests_to_files.specs.{GivenCycles.EndsGiven, Plans.named_text}
+use Rattle.diy_tools.specs.declared.status.{Status.Status, Status.TheVariants.NoMemory}
+use Rattle.diy_tools.specs.{ArchMachines.Machine, ArchMachines.machine_of, Statuses.listing_status}
 
 -- the cycles of the choices that words ask for
 abbrev pub cycles_asked : CrossTask → List (List Edge)

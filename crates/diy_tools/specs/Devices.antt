@@ -1,9 +1,7 @@
 -- What a call sees of its devices before it and after it.
 -- Source: own.
 use Rattle.std.specs.Prelude.{◌≡◌}
-use Rattle.diy_io.specs.Taken.{SourceSeen}
-use Rattle.diy_io.specs.Shelf.{ShelfSeen}
-use Rattle.diy_io.specs.Wrote.{SinkSeen}
+use Rattle.diy_io.specs.{Taken.SourceSeen, Shelf.ShelfSeen, Wrote.SinkSeen}
 
 -- the input, standard output and the shelf
 pub record Devices : Type 0 where

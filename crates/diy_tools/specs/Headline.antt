@@ -2,28 +2,20 @@
 -- tests of exactly the listed cycles, each once, in order.
 -- Source: own.
 use Rattle.std.specs.Prelude.{◌≡◌, ◌⊎◌, ℕ, List, Result, Ok, None}
-use Rattle.relax_edges.specs.declared.edge.Edge.{Edge}
-use Rattle.relax_edges.specs.declared.kinds.ObsMode.{ObsMode}
+use Rattle.relax_edges.specs.declared.{edge.Edge.Edge, kinds.ObsMode.ObsMode}
 use Rattle.cycle_events.specs.Resolution.{turned}
-use Rattle.diy_io.specs.Shelf.{ShelfSeen}
-use Rattle.diy_io.specs.Wrote.{SinkSeen}
+use Rattle.diy_io.specs.{Shelf.ShelfSeen, Wrote.SinkSeen}
 use Rattle.diy_words.specs.declared.usage.Usage.{Usage}
 use Rattle.diy_words.specs.Requests.{Task, ListTask, AsksTest, AsksWhy, AsksCoherence, AsksList, CrossTask, AsksCross, asked_of}
 use Rattle.tests_to_files.specs.Plans.{IsPlanned, planned_text}
 use Rattle.bytes_force_cycles.specs.PrintedHeadline.{BytesForce}
 use Rattle.co_tests_laws.specs.Incoherence.{BytesShowIncoherence}
-use Rattle.diy_tools.specs.declared.status.Status.{Status}
-use Rattle.diy_tools.specs.declared.status.Status.TheVariants.{NoMemory}
-use Rattle.diy_tools.specs.Devices.{Devices, DevicesSeen, devices}
-use Rattle.diy_tools.specs.ArchMachines.{Machine, machine_of}
-use Rattle.diy_tools.specs.Refused.{refused_of}
-use Rattle.diy_tools.specs.PrintAnswers.{Prints}
-use Rattle.diy_tools.specs.TestAnswers.{asked_text, test_name}
-use Rattle.diy_tools.specs.WhyAnswers.{WritesRuns, why_unshown}
-use Rattle.diy_tools.specs.CoherenceAnswers.{coherence_refused, incoherent_text}
+use Rattle.diy_tools.specs.declared.status.{Status.Status, Status.TheVariants.NoMemory}
+use Rattle.diy_tools.specs.{Devices.Devices, Devices.DevicesSeen, Devices.devices, ArchMachines.Machine, ArchMachines.machine_of, Refused.refused_of}
+use Rattle.diy_tools.specs.{PrintAnswers.Prints, TestAnswers.asked_text, TestAnswers.test_name, WhyAnswers.WritesRuns, WhyAnswers.why_unshown}
+use Rattle.diy_tools.specs.{CoherenceAnswers.coherence_refused, CoherenceAnswers.incoherent_text, CrossAnswers.AnswersCross}
+use Rattle.diy_tools.specs.{CrossAnswers.cycles_asked, CrossAnswers.crossed_text, ListAnswers.AnswersList, ListAnswers.plan_asked}
 use Rattle.cycle_enum_laws.specs.Listing.{IsOneOf}
-use Rattle.diy_tools.specs.CrossAnswers.{AnswersCross, cycles_asked, crossed_text}
-use Rattle.diy_tools.specs.ListAnswers.{AnswersList, plan_asked}
 
 -- a text is printed, and its bytes force a cycle
 pub record PrintsForcing (m : Machine) (text : List ℕ) (cycle : List Edge) (mode : ObsMode) (status : Status) (old new : SinkSeen) : Type 0 where

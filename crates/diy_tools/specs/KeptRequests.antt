@@ -1,60 +1,39 @@
 -- What only private functions cite: requests as they are kept, and the parts of a test, of a listing and of a sum.
 use Rattle.std.specs.Prelude.{ℕ, ◌≡◌, ◌⊎◌, List, [], Option, Some, None, Result, Ok, Err}
-use Rattle.std.specs.Borrow.{Bor}
-use Rattle.std.specs.Option.{option_map, option_or}
+use Rattle.std.specs.{Borrow.Bor, Option.option_map, Option.option_or}
 use Rattle.arrayvec.specs.ArrayString.{ArrayString}
-use Rattle.relax_edges.specs.declared.edge.Edge.{Edge}
-use Rattle.relax_edges.specs.declared.kinds.ArchName.{ArchName}
-use Rattle.relax_edges.specs.declared.kinds.ObsMode.{ObsMode}
-use Rattle.edges_from_text.specs.declared.list.EdgeList.{EdgeList}
-use Rattle.edges_from_text.specs.declared.list.EdgeList.TheVariants.{Whole, TooLong}
+use Rattle.relax_edges.specs.declared.{edge.Edge.Edge, kinds.ArchName.ArchName, kinds.ObsMode.ObsMode}
+use Rattle.edges_from_text.specs.declared.list.{EdgeList.EdgeList, EdgeList.TheVariants.Whole, EdgeList.TheVariants.TooLong}
 use Rattle.cycles_from_lines.specs.Normed.{name_line}
-use Rattle.diy_io.specs.Shelf.{ShelfSeen}
-use Rattle.diy_io.specs.Taken.{SourceSeen}
-use Rattle.diy_io.specs.Wrote.{SinkSeen}
-use Rattle.diy_words.specs.declared.request.Sought.{Sought}
+use Rattle.diy_io.specs.{Shelf.ShelfSeen, Taken.SourceSeen, Wrote.SinkSeen}
+use Rattle.diy_words.specs.declared.{request.Sought.Sought, usage.Usage.Usage, request.Check.Check, request.Cross.Cross, request.DiyOne.DiyOne}
+use Rattle.diy_words.specs.declared.{request.Coherence.Coherence, request.Why.Why}
 use Rattle.diy_words.specs.declared.request.Sought.TheVariants as sought
-use Rattle.tests_to_files.specs.declared.ending.ListingEnd.{ListingEnd}
-use Rattle.tests_to_files.specs.ListingEnds.{EndsListing}
-use Rattle.tests_to_files.specs.Plans.{plan_of}
-use Rattle.tests_to_files.specs.declared.listing.Listing.{Listing}
+use Rattle.tests_to_files.specs.declared.{ending.ListingEnd.ListingEnd, listing.Listing.Listing}
+use Rattle.tests_to_files.specs.{ListingEnds.EndsListing, Plans.plan_of}
 use Rattle.litmus_text.specs.declared.test.Test.{Test}
 use Rattle.litmus_text.specs.Tests.{test_seen}
 use Rattle.msum7_files.specs.declared.sum_end.SumEnd.{SumEnd}
 use Rattle.msum7_files.specs.SumEnds.{InputSummed, FilesSummed}
-use Rattle.test_maker.specs.CycleText.{cycle_test, cycle_text}
-use Rattle.test_maker.specs.Refusals.{refusal_of}
-use Rattle.diy_tools.specs.declared.status.Status.{Status}
-use Rattle.diy_tools.specs.declared.status.Refusal.{Refusal}
+use Rattle.test_maker.specs.{CycleText.cycle_test, CycleText.cycle_text, Refusals.refusal_of}
+use Rattle.diy_tools.specs.declared.status.{Status.Status, Refusal.Refusal}
 use Rattle.diy_tools.specs.declared.status.Refusal.TheVariants as refusals
 use Rattle.diy_words.specs.Requests.{Task, AsksCross}
-use Rattle.diy_words.specs.declared.usage.Usage.{Usage}
 use Rattle.tests_from_files.specs.declared.classified_errors.FilesEnd.{FilesEnd}
 use Rattle.exec_check.specs.declared.checked_errors.CheckEnd.{CheckEnd}
-use Rattle.diy_tools.specs.CheckAnswers.{EndsChecked, check_status}
-use Rattle.diy_tools.specs.CrossAnswers.{AnswersCross, AnswersChoices}
-use Rattle.diy_tools.specs.FamilyAnswers.{EndsNamed, files_status}
-use Rattle.diy_tools.specs.ArchMachines.{Machine, machine, machine_of}
-use Rattle.diy_tools.specs.NameAnswers.{AnswersLines, AnswersName}
-use Rattle.diy_tools.specs.PrintAnswers.{AnswersEdges}
+use Rattle.diy_tools.specs.{CheckAnswers.EndsChecked, CheckAnswers.check_status, CrossAnswers.AnswersCross, CrossAnswers.AnswersChoices}
+use Rattle.diy_tools.specs.{FamilyAnswers.EndsNamed, FamilyAnswers.files_status, ArchMachines.Machine, ArchMachines.machine, ArchMachines.machine_of}
+use Rattle.diy_tools.specs.{NameAnswers.AnswersLines, NameAnswers.AnswersName, PrintAnswers.AnswersEdges, TestAnswers.test_name, Devices.DevicesSeen}
+use Rattle.diy_tools.specs.{Devices.devices, SumAnswers.sum_status, SumAnswers.AnswersSum}
 use Rattle.diy_tools.specs.Refused.{refused_list, refused_making, refused_showing, refused_coherence}
-use Rattle.diy_tools.specs.TestAnswers.{test_name}
 use Rattle.diy_tools.specs.WhyAnswers.{WritesFiles, AnswersRuns, why_files, why_line}
-use Rattle.diy_words.specs.declared.request.Check.{Check}
-use Rattle.diy_words.specs.declared.request.Cross.{Cross}
-use Rattle.diy_words.specs.declared.request.DiyOne.{DiyOne}
-use Rattle.diy_words.specs.declared.request.Coherence.{Coherence}
-use Rattle.diy_words.specs.declared.request.Why.{Why}
-use Rattle.arch_trait.specs.Threads.{Puts}
-use Rattle.arch_trait.specs.Writing.{Writing}
+use Rattle.arch_trait.specs.{Threads.Puts, Writing.Writing}
 use Rattle.exec_check.specs.FilesChecked.{FilesChecked}
-use Rattle.diy_tools.specs.Devices.{DevicesSeen, devices}
 use Rattle.exec_text.specs.Written.{text_of_execution}
 use Rattle.two_runs.specs.declared.shown.TwoRuns.{TwoRuns}
 use Rattle.two_runs.specs.Shown.{why_refused}
 use Rattle.co_tests_laws.specs.CoRefusals.{coherence_refusal_of, coherence_test, coherence_text}
 use Rattle.diy_tools.specs.declared.status.Status.TheVariants as statuses
-use Rattle.diy_tools.specs.SumAnswers.{sum_status, AnswersSum}
 
 -- the edges that are kept
 abbrev pub edges_kept : EdgeList → List Edge

@@ -4,10 +4,8 @@ use Rattle.std.specs.Prelude.{ℕ, ◌+◌, ◌^◌, ◌<◌, ◌⊎◌, ⊤, Li
 use Rattle.diy_io.specs.Count.{count_of}
 use Rattle.diy_words.specs.declared.usage.Usage.{Usage}
 use Rattle.diy_words.specs.Requests.{Task, asked_of}
-use Rattle.diy_tools.specs.declared.status.Status.{Status}
-use Rattle.diy_tools.specs.declared.status.Status.TheVariants.{BadText, NoMemory}
-use Rattle.diy_tools.specs.Devices.{Devices, DevicesSeen, devices}
-use Rattle.diy_tools.specs.Memory.{MayWantMemory}
+use Rattle.diy_tools.specs.declared.status.{Status.Status, Status.TheVariants.BadText, Status.TheVariants.NoMemory}
+use Rattle.diy_tools.specs.{Devices.Devices, Devices.DevicesSeen, Devices.devices, Memory.MayWantMemory}
 
 -- more than 2^40 bytes were taken: of the input, as far as they are counted, or of the last file that was opened since
 abbrev pub TookTooMuch : Devices → Devices → Type 0

@@ -1,15 +1,12 @@
 -- What diy7 answers.
 -- Source: own.
 use Rattle.std.specs.Prelude.{◌≡◌}
-use Rattle.diy_io.specs.Shelf.{ShelfSeen}
-use Rattle.diy_io.specs.Wrote.{SinkSeen}
+use Rattle.diy_io.specs.{Shelf.ShelfSeen, Wrote.SinkSeen}
 use Rattle.diy_words.specs.Requests.{ListTask}
 use Rattle.tests_to_files.specs.declared.ending.ListingEnd.{ListingEnd}
-use Rattle.tests_to_files.specs.ListingEnds.{EndsListing}
-use Rattle.tests_to_files.specs.Plans.{Plan}
+use Rattle.tests_to_files.specs.{ListingEnds.EndsListing, Plans.Plan}
 use Rattle.diy_tools.specs.declared.status.Status.{Status}
-use Rattle.diy_tools.specs.ArchMachines.{machine_of}
-use Rattle.diy_tools.specs.Statuses.{listing_status}
+use Rattle.diy_tools.specs.{ArchMachines.machine_of, Statuses.listing_status}
 
 -- the plan of a listing that words ask for
 abbrev pub plan_asked : ListTask → Plan

@@ -3,8 +3,7 @@
 use Rattle.std.specs.Prelude.{ℕ, ◌≡◌, ⊤, List, Result, Ok}
 use Rattle.diy_words.specs.declared.usage.Usage.{Usage}
 use Rattle.diy_words.specs.Requests.{Task, AsksWhy, AsksFamilies, AsksSum, AsksCross, AsksCheck, asked_of}
-use Rattle.diy_tools.specs.declared.status.Status.{Status}
-use Rattle.diy_tools.specs.declared.status.Status.TheVariants.{NoMemory}
+use Rattle.diy_tools.specs.declared.status.{Status.Status, Status.TheVariants.NoMemory}
 
 -- classify7, msum7, diycross7, mcheck7 and diyone7 with -why may want memory, no other tool may, nor may words without a request
 abbrev pub MayWantMemory : Result Task Usage → Type 0

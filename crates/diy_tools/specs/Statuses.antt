@@ -1,18 +1,15 @@
 -- The statuses that the ends of the tools' work give.
 -- Source: own.
 use Rattle.std.specs.Prelude.{None, Result, Ok, Err}
-use Rattle.cycles_from_lines.specs.declared.errors.LinesError.{LinesError}
+use Rattle.cycles_from_lines.specs.declared.errors.{LinesError.LinesError, NormError.NormError, ClassifyError.ClassifyError}
 use Rattle.cycles_from_lines.specs.declared.errors.LinesError.TheVariants as lines
-use Rattle.cycles_from_lines.specs.declared.errors.NormError.{NormError}
 use Rattle.cycles_from_lines.specs.declared.errors.NormError.TheVariants as norms
-use Rattle.cycles_from_lines.specs.declared.errors.ClassifyError.{ClassifyError}
 use Rattle.cycles_from_lines.specs.declared.errors.ClassifyError.TheVariants as classifies
 use Rattle.tests_to_files.specs.declared.ending.ListingEnd.{ListingEnd}
 use Rattle.tests_to_files.specs.declared.ending.ListingEnd.TheVariants as listings
-use Rattle.diy_tools.specs.declared.status.Status.{Status}
+use Rattle.diy_tools.specs.declared.status.{Status.Status, TextKind.TheVariants.Line, TextKind.TheVariants.TooMuch, Device.TheVariants.Input}
+use Rattle.diy_tools.specs.declared.status.{Device.TheVariants.Out, Device.TheVariants.Shelf}
 use Rattle.diy_tools.specs.declared.status.Status.TheVariants.{Done, BadText, ReadFault, WriteFault, NoMemory}
-use Rattle.diy_tools.specs.declared.status.TextKind.TheVariants.{Line, TooMuch}
-use Rattle.diy_tools.specs.declared.status.Device.TheVariants.{Input, Out, Shelf}
 
 -- the status where the lines of the input weren't read to its end
 abbrev pub lines_status : LinesError → Status

@@ -2,28 +2,19 @@
 -- Source: own.
 use Rattle.std.specs.Prelude.{◌≡◌, ◌⊎◌, ℕ, List, [], ◌∷◌, ◌++◌, codes, Option, Some, None}
 use Rattle.std.specs.Option.{option_or}
-use Rattle.relax_edges.specs.declared.kinds.ObsMode.TheVariants.{Avoid}
-use Rattle.relax_edges.specs.declared.edge.Edge.{Edge}
-use Rattle.cycle_events.specs.Resolution.{turned}
-use Rattle.cycle_events.specs.Values.{observer_need}
-use Rattle.diy_io.specs.Shelf.{ShelfSeen}
-use Rattle.diy_io.specs.Wrote.{SinkSeen, WroteAll, WrotePart}
+use Rattle.relax_edges.specs.declared.{kinds.ObsMode.TheVariants.Avoid, edge.Edge.Edge}
+use Rattle.cycle_events.specs.{Resolution.turned, Values.observer_need}
+use Rattle.diy_io.specs.{Shelf.ShelfSeen, Wrote.SinkSeen, Wrote.WroteAll, Wrote.WrotePart}
 use Rattle.diy_words.specs.Requests.{WhyTask}
 use Rattle.exec_text.specs.Written.{text_of_execution}
-use Rattle.tests_to_files.specs.ListedFiles.{path_of, stem_named}
-use Rattle.tests_to_files.specs.GivenCycles.{PutUpTo}
-use Rattle.tests_to_files.specs.Putting.{PutFiles}
+use Rattle.tests_to_files.specs.{ListedFiles.path_of, ListedFiles.stem_named, GivenCycles.PutUpTo, Putting.PutFiles}
 use Rattle.litmus_text.specs.TestReading.{TestRead}
 use Rattle.program_meaning.specs.Executions.{Execution}
 use Rattle.test_maker.specs.CycleText.{cycle_text}
 use Rattle.two_runs.specs.Shown.{AreRunsFor, why_refused}
-use Rattle.diy_tools.specs.declared.status.Status.{Status}
+use Rattle.diy_tools.specs.declared.status.{Status.Status, Refusal.Refusal, Device.TheVariants.Out, Device.TheVariants.Shelf}
 use Rattle.diy_tools.specs.declared.status.Status.TheVariants as statuses
-use Rattle.diy_tools.specs.declared.status.Refusal.{Refusal}
-use Rattle.diy_tools.specs.declared.status.Device.TheVariants.{Out, Shelf}
-use Rattle.diy_tools.specs.ArchMachines.{Machine, machine_of}
-use Rattle.diy_tools.specs.Refused.{refused_list, refused_showing}
-use Rattle.diy_tools.specs.TestAnswers.{test_name}
+use Rattle.diy_tools.specs.{ArchMachines.Machine, ArchMachines.machine_of, Refused.refused_list, Refused.refused_showing, TestAnswers.test_name}
 
 -- the path of a file of a test, by its ending
 abbrev pub why_path : Option (List ℕ) → List ℕ → List ℕ → List ℕ

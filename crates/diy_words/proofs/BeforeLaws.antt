@@ -3,9 +3,7 @@
 use Rattle.std.proofs.Common.{◌≡◌, ◌+◌, ℕ, Bool, true, false, List, [], ◌∷◌, Result, Ok, Err, refl, sym, ap, ◌∙◌}
 use Rattle.std.specs.Prelude.{◌||◌, if◌then◌else◌}
 use Rattle.diy_words.specs.declared.options.OptionName.TheVariants as opts
-use Rattle.diy_words.specs.declared.options.Tool.{Tool}
-use Rattle.diy_words.specs.declared.usage.Usage.{Usage}
-use Rattle.diy_words.specs.declared.usage.UsageKind.TheVariants.{ExcludedOption}
+use Rattle.diy_words.specs.declared.{options.Tool.Tool, usage.Usage.Usage, usage.UsageKind.TheVariants.ExcludedOption}
 use Rattle.diy_words.specs.Parts.{Part, Alone, Valued, Unvalued, mode_named}
 use Rattle.diy_words.specs.Sayings.{Saying, SaysWhy, SaysCo, Before, usage_fault, mode_said, said_by}
 use Rattle.diy_words.specs.Notes.{Notes, with_next, before_noted, said_noted}

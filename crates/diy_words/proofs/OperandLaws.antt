@@ -1,19 +1,11 @@
 -- What the words of a tool give besides its options, one word after another, where the number of these isn't limited.
 use Rattle.std.proofs.Common.{◌≡◌, ◌<◌, ◌≤◌, ◌+◌, ⊎_elim, drop, get_or, ℕ, List, [], ◌∷◌, ◌++◌, length, Some, None, Result, Ok, Err, refl, ap, ◌∙◌, subst, arith, slice_get}
-use Rattle.std.specs.Prelude.{IsOk}
-use Rattle.std.specs.List.{AllByRecursion}
-use Rattle.std.proofs.lemmas.Bool.{cases_lt}
-use Rattle.std.proofs.lemmas.List.{drop_all}
-use Rattle.std.proofs.lemmas.Option.{slice_get-get_or}
-use Rattle.diy_words.specs.declared.options.OptionName.{OptionName}
-use Rattle.diy_words.specs.declared.options.Tool.{Tool}
-use Rattle.diy_words.specs.declared.usage.Usage.{Usage}
+use Rattle.std.specs.{Prelude.IsOk, List.AllByRecursion}
+use Rattle.std.proofs.lemmas.{Bool.cases_lt, List.drop_all, Option.slice_get-get_or}
+use Rattle.diy_words.specs.declared.{options.OptionName.OptionName, options.Tool.Tool, usage.Usage.Usage}
 use Rattle.diy_words.specs.Parts.{Alone, Valued, parts_of, option_named}
-use Rattle.diy_words.specs.Sayings.{Saying, said_by}
-use Rattle.diy_words.specs.Gathered.{all_given}
-use Rattle.diy_words.specs.SaidInOrder.{before_of, said_first, said_all}
-use Rattle.diy_words.specs.Notes.{no_notes, with_next, said_noted}
-use Rattle.diy_words.specs.CodeNotes.{sayings_from}
+use Rattle.diy_words.specs.{Sayings.Saying, Sayings.said_by, Gathered.all_given, SaidInOrder.before_of, SaidInOrder.said_first, SaidInOrder.said_all}
+use Rattle.diy_words.specs.{Notes.no_notes, Notes.with_next, Notes.said_noted, CodeNotes.sayings_from}
 use Rattle.diy_words.proofs.BeforeLaws.{IsSilent, IsUncounted, uncounted}
 use Rattle.diy_words.proofs.Judged.{alone_first, value_first, unvalued_last}
 

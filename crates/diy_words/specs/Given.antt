@@ -3,14 +3,11 @@ use Rattle.std.specs.Prelude.{ℕ, ◌≡◌, ◌<◌, ◌≤◌, true, IfSome, 
 use Rattle.std.specs.Option.{option_map, ForSome}
 use Rattle.relax_edges.specs.declared.TheConstants.{MAX_EDGES}
 use Rattle.edges_from_text.specs.KeptEdges.{kept_edges}
-use Rattle.diy_words.specs.declared.request.Diy.{Diy}
-use Rattle.diy_words.specs.declared.request.TheConstants.{MAX_TESTS}
+use Rattle.diy_words.specs.declared.{request.Diy.Diy, request.TheConstants.MAX_TESTS, request.Request.Request, request.Sought.Sought}
+use Rattle.diy_words.specs.declared.{usage.Usage.Usage}
 use Rattle.diy_io.specs.declared.shelf.TheConstants.{MAX_FOLDER}
-use Rattle.diy_words.specs.declared.request.Request.{Request}
 use Rattle.diy_words.specs.declared.request.Request.TheVariants as requests
-use Rattle.diy_words.specs.declared.request.Sought.{Sought}
 use Rattle.diy_words.specs.declared.request.Sought.TheVariants as sought
-use Rattle.diy_words.specs.declared.usage.Usage.{Usage}
 use Rattle.diy_words.specs.TestNames.{is_name}
 use Rattle.diy_words.specs.Requests.{Task, AsksTest, AsksWhy, AsksCoherence, AsksName, AsksList, AsksFamilies, AsksSum, AsksCross, AsksDemo, AsksCheck, ListTask, OfEdges, OfName, OfLines}
 use Rattle.diy_words.specs.Requests as req

@@ -1,8 +1,7 @@
 -- What a request of diycross7 or classify7 says of the words that make it.
 use Rattle.std.specs.Prelude.{Result, Ok}
-use Rattle.diy_words.specs.declared.request.Cross.{Cross}
+use Rattle.diy_words.specs.declared.{request.Cross.Cross, usage.Usage.Usage}
 use Rattle.diy_words.specs.declared.request.Request.TheVariants as requests
-use Rattle.diy_words.specs.declared.usage.Usage.{Usage}
 use Rattle.diy_words.specs.Given.{GivesTask}
 use Rattle.relax_edges.specs.declared.kinds.ArchName.{ArchName}
 use Rattle.diy_words.specs.Requests.{Task, AsksCross, AsksFamilies, IsCrossing, IsClassifying}

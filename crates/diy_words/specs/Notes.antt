@@ -5,12 +5,9 @@ use Rattle.std.specs.Option.{option_or}
 use Rattle.relax_edges.specs.declared.edge.Edge.{Edge}
 use Rattle.edges_from_text.specs.declared.list.EdgeList.{EdgeList}
 use Rattle.edges_from_text.specs.KeptEdges.{kept_edges, edges_added}
-use Rattle.diy_words.specs.declared.options.Tool.{Tool}
-use Rattle.diy_words.specs.declared.request.TheConstants.{MAX_CHOICES}
-use Rattle.diy_words.specs.declared.usage.Usage.{Usage}
-use Rattle.diy_words.specs.Parts.{Part}
+use Rattle.diy_words.specs.declared.{options.Tool.Tool, request.TheConstants.MAX_CHOICES, usage.Usage.Usage}
+use Rattle.diy_words.specs.{Parts.Part, Gathered.Gathered, Gathered.gathered_of}
 use Rattle.diy_words.specs.Sayings.{Saying, SaysArch, SaysName, SaysMode, SaysFrom, SaysEdges, SaysRelaxes, SaysSize, SaysExact, SaysWhy, SaysCo, SaysThreads, SaysAccesses, SaysAfter, SaysFolder, SaysLog, SaysFile, SaysTest, SaysExecution, SaysPlace, SaysCount, Before, said_by}
-use Rattle.diy_words.specs.Gathered.{Gathered, gathered_of}
 
 -- what is gathered so far, but for edges, places and files, of which nothing is gathered here; the edges, as many as a list holds; in
 -- how many ways a relaxation can be chosen for each place, up to one more than may be; and how many operands were taken, of those

@@ -1,8 +1,6 @@
 -- Numbers among the words: 1 to 7 decimal digits. Source: own.
 use Rattle.std.specs.Prelude.{ℕ, Bool, ◌&&◌, nat_lt, nat_le, if◌then◌else◌, List, length, Option, Some, None}
-use Rattle.std.specs.Char.{is_ascii_digit}
-use Rattle.std.specs.List.{list_all}
-use Rattle.std.specs.Str.Parse.{digits_value}
+use Rattle.std.specs.{Char.is_ascii_digit, List.list_all, Str.Parse.digits_value}
 
 -- a text is a number
 abbrev pub is_number : List ℕ → Bool

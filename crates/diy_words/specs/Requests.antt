@@ -2,21 +2,12 @@
 -- value; then all of them. Source: own, after the command lines of the diy tools.
 use Rattle.std.specs.Prelude.{ℕ, ◌*◌, Bool, nat_lt, if◌then◌else◌, List, [], ◌∷◌, length, Option, Some, None, Result, Ok, Err}
 use Rattle.std.specs.Option.{unwrap_or}
-use Rattle.relax_edges.specs.declared.kinds.ArchName.{ArchName}
-use Rattle.relax_edges.specs.declared.kinds.ObsMode.{ObsMode}
-use Rattle.relax_edges.specs.declared.kinds.ObsMode.TheVariants.{Accept}
-use Rattle.relax_edges.specs.declared.edge.Edge.{Edge}
-use Rattle.diy_words.specs.declared.usage.Usage.{Usage}
+use Rattle.relax_edges.specs.declared.{kinds.ArchName.ArchName, kinds.ObsMode.ObsMode, kinds.ObsMode.TheVariants.Accept, edge.Edge.Edge}
+use Rattle.diy_words.specs.declared.{usage.Usage.Usage, request.Check.Check, request.Demo.Demo, request.TheConstants.MAX_CHOICES, options.Tool.Tool}
 use Rattle.diy_words.specs.declared.usage.UsageKind.TheVariants.{UnknownTool, StrayWord, MissingArch, MissingEdges, MissingNumber, MissingFile, MissingWhy, TooManyChoices}
-use Rattle.diy_words.specs.declared.request.Check.{Check}
-use Rattle.diy_words.specs.declared.request.Demo.{Demo}
-use Rattle.diy_words.specs.declared.request.TheConstants.{MAX_CHOICES}
-use Rattle.diy_words.specs.declared.options.Tool.{Tool}
 use Rattle.diy_words.specs.declared.options.Tool.TheVariants as tools
-use Rattle.diy_words.specs.Parts.{parts_of, tool_named}
-use Rattle.diy_words.specs.Sayings.{Saying}
-use Rattle.diy_words.specs.Gathered.{Gathered, gathered_of}
-use Rattle.diy_words.specs.SaidInOrder.{sayings, said_all}
+use Rattle.diy_words.specs.{Parts.parts_of, Parts.tool_named, Sayings.Saying, Gathered.Gathered, Gathered.gathered_of, SaidInOrder.sayings}
+use Rattle.diy_words.specs.{SaidInOrder.said_all}
 
 -- what diyone7 is asked for without `-why` and `-co`: a test, under a name that is given or that of its cycle
 pub record TestTask : Type 0 where

@@ -1,19 +1,14 @@
 -- Which lists of edges are accepted.
 use Rattle.std.proofs.Common.{◌≡◌, ◌≤◌, true, false, cond, ◌&&◌, List, length, Option, Some, None, Result, Ok, Err, refl, sym, ap, ◌∙◌}
 use Rattle.std.specs.Prelude.{is_ok, is_none}
-use Rattle.relax_edges.specs.declared.TheConstants.{MAX_EDGES}
-use Rattle.relax_edges.specs.declared.kinds.ObsMode.{ObsMode}
-use Rattle.relax_edges.specs.declared.edge.Edge.{Edge}
+use Rattle.relax_edges.specs.declared.{TheConstants.MAX_EDGES, kinds.ObsMode.ObsMode, edge.Edge.Edge}
 use Rattle.edge_algebra_laws.specs.Composable.{IsCycle}
 use Rattle.edge_algebra.specs.declared.errors.CycleError.{CycleError}
-use Rattle.edge_algebra.specs.Compose.{composed}
-use Rattle.edge_algebra.specs.ComposingLaws.{composes_exactly}
+use Rattle.edge_algebra.specs.{Compose.composed, ComposingLaws.composes_exactly}
 use Rattle.arch_trait.specs.Threads.{Puts}
 use Rattle.test_maker.specs.declared.refusal.MakeRefusal.{MakeRefusal}
-use Rattle.test_maker.specs.Made.{Accepts}
-use Rattle.test_maker.specs.Refusals.{refusal_of}
-use Rattle.diycross7_cycles.specs.Choices.{is_accepted}
-use Rattle.diycross7_cycles.specs.ComposedLaws.{composed_same}
+use Rattle.test_maker.specs.{Made.Accepts, Refusals.refusal_of}
+use Rattle.diycross7_cycles.specs.{Choices.is_accepted, ComposedLaws.composed_same}
 
 -- an accepted list is a cycle and has a test
 pub accepted_parts : (puts : Puts) (mode : ObsMode) (u : List Edge) → is_accepted puts mode u ≡ true → IsCycle u × (refusal_of puts u mode ≡ None)

@@ -3,8 +3,7 @@ use Rattle.std.proofs.Common.{◌≡◌, ◌<◌, ◌≤◌, ℕ, ◌+◌, ◌-�
 use Rattle.std.proofs.lemmas.List.{append-nil, length-map, map-append, drop-map, take-map}
 use Rattle.relax_edges.specs.declared.edge.Edge.{Edge}
 use Rattle.relax_edges.specs.Order.{rank_of}
-use Rattle.edge_algebra_laws.specs.Rotation.{rotated}
-use Rattle.edge_algebra_laws.specs.CycleOrder.{Above, IsNormal, ranks_below}
+use Rattle.edge_algebra_laws.specs.{Rotation.rotated, CycleOrder.Above, CycleOrder.IsNormal, CycleOrder.ranks_below}
 use Rattle.edge_algebra_laws.proofs.Rotating.{rotation_of_place, window}
 use Rattle.edge_algebra_laws.proofs.Ordering.{above_irreflexive, above_transitive, above_of_ranks, ranks_of_above}
 

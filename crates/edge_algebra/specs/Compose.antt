@@ -1,13 +1,10 @@
 -- What a list of edges makes: a cycle, or the first thing that is wrong with it.
 -- Source: the diy part of the herdtools manual, "Candidate relaxations"; which fault is named is own.
 use Rattle.std.specs.Prelude.{ℕ, ◌+◌, cond, List, [], ◌∷◌, ◌++◌, length, Option, Some, None, Result, Ok, Err, nat_lt}
-use Rattle.relax_edges.specs.declared.TheConstants.{MAX_EDGES}
-use Rattle.relax_edges.specs.declared.edge.Edge.{Edge}
-use Rattle.edge_algebra.specs.declared.errors.CycleError.{CycleError}
-use Rattle.edge_algebra.specs.declared.errors.CycleError.TheVariants.{Empty, TooLong, DoesNotCompose}
-use Rattle.edge_algebra.specs.declared.errors.JoinError.{JoinError}
+use Rattle.relax_edges.specs.declared.{TheConstants.MAX_EDGES, edge.Edge.Edge}
+use Rattle.edge_algebra.specs.declared.errors.{CycleError.CycleError, CycleError.TheVariants.Empty, CycleError.TheVariants.TooLong}
+use Rattle.edge_algebra.specs.declared.errors.{CycleError.TheVariants.DoesNotCompose, JoinError.JoinError, NotClosed.NotClosed}
 use Rattle.edge_algebra.specs.declared.errors.JoinError.TheVariants as joins
-use Rattle.edge_algebra.specs.declared.errors.NotClosed.{NotClosed}
 use Rattle.edge_algebra_laws.specs.Composable.{first_break, last_joins}
 
 -- a place, counted from this one and not from 0

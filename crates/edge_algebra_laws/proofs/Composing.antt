@@ -1,12 +1,8 @@
 -- Laws of composable lists: parts, rotations, the first break.
 use Rattle.std.proofs.Common.{◌≡◌, ℕ, suc, ◌-◌, ◌+◌, ◌<◌, ◌≤◌, true, false, ◌&&◌, cond, List, [], ◌∷◌, ◌++◌, length, take, drop, Option, Some, None, refl, ◌∙◌, arith, length-append, slice_get, get_or}
-use Rattle.std.proofs.lemmas.List.{take-append-drop}
-use Rattle.std.proofs.lemmas.Bool.{and_parts, and_from}
-use Rattle.std.proofs.Math.Bool.{and-true, and_assoc}
-use Rattle.relax_edges.specs.declared.TheConstants.{MAX_EDGES}
-use Rattle.relax_edges.specs.declared.edge.Edge.{Edge}
-use Rattle.relax_edges.specs.EdgeTable.{joins_to}
-use Rattle.relax_edges.specs.JoinedEdges.{joins_first, is_joined}
+use Rattle.std.proofs.{lemmas.List.take-append-drop, lemmas.Bool.and_parts, lemmas.Bool.and_from, Math.Bool.and-true, Math.Bool.and_assoc}
+use Rattle.relax_edges.specs.declared.{TheConstants.MAX_EDGES, edge.Edge.Edge}
+use Rattle.relax_edges.specs.{EdgeTable.joins_to, JoinedEdges.joins_first, JoinedEdges.is_joined}
 use Rattle.edge_algebra_laws.specs.Composable.{is_closed, IsPath, IsCycle, first_break, one_later, last_joins}
 use Rattle.edge_algebra_laws.specs.Rotation.{rotated}
 use Rattle.edge_algebra_laws.proofs.Turning.{IsStepwise, stepwise_turned}

@@ -1,9 +1,7 @@
 -- The laws of the words and the marks of edges, each from its lemmas.
 use Rattle.std.proofs.Common.{arith}
 use Rattle.std.specs.Prelude.{◌≡◌, Some}
-use Rattle.relax_edges.specs.declared.kinds.Kind.{Kind}
-use Rattle.relax_edges.specs.declared.kinds.Mark.{Mark}
-use Rattle.relax_edges.specs.declared.edge.Edge.{Edge}
+use Rattle.relax_edges.specs.declared.{kinds.Kind.Kind, kinds.Mark.Mark, edge.Edge.Edge}
 use Rattle.relax_edges.specs.EdgeTable.{marked_edge}
 use Rattle.edge_algebra_laws.proofs.SpellingLaws.{edge_of-word_of, edge_of-spelling, edge_of-sound, word_injective}
 use Rattle.edge_algebra_laws.specs.EdgeLaws.{WordsDecide, HasParts, PartsDecide}

@@ -1,10 +1,7 @@
 -- Where an edge joins the next, the two agree on what the access between them does, and on its mark.
 use Rattle.std.specs.Prelude.{◌≡◌, true}
-use Rattle.std.proofs.Common.{arith}
-use Rattle.std.proofs.lemmas.Bool.{and_parts}
-use Rattle.relax_edges.specs.declared.kinds.Dir.{Dir}
-use Rattle.relax_edges.specs.declared.kinds.Mark.{Mark}
-use Rattle.relax_edges.specs.declared.edge.Edge.{Edge}
+use Rattle.std.proofs.{Common.arith, lemmas.Bool.and_parts}
+use Rattle.relax_edges.specs.declared.{kinds.Dir.Dir, kinds.Mark.Mark, edge.Edge.Edge}
 use Rattle.relax_edges.specs.EdgeTable.{source_of, target_of, source_mark, target_mark, same_dir, same_mark, joins_to}
 
 -- accesses that the test finds to do the same do the same

@@ -1,9 +1,7 @@
 -- Rotations by a place: where each edge goes, and how two rotations add.
 use Rattle.std.proofs.Common.{◌≡◌, ◌<◌, ◌≤◌, inl, inr, ℕ, ◌+◌, ◌-◌, ◌%◌, suc, zero, List, [], ◌∷◌, ◌++◌, length, take, drop, refl, sym, ◌∙◌, ap, arith, append_assoc, length-drop, slice_get}
 use Rattle.std.proofs.lemmas.List.{take-append-drop, length-take-le, drop-append-le, take-append-le}
-use Rattle.std.proofs.Math.Seq.{drop-append-add, take-append-add}
-use Rattle.std.proofs.Math.Nat.{mod-eq_of_lt, add-mod_left}
-use Rattle.std.proofs.lemmas.Bool.{cases_lt}
+use Rattle.std.proofs.{Math.Seq.drop-append-add, Math.Seq.take-append-add, Math.Nat.mod-eq_of_lt, Math.Nat.add-mod_left, lemmas.Bool.cases_lt}
 use Rattle.edge_algebra_laws.specs.Rotation.{rotated}
 
 -- a number that passes another once

@@ -1,10 +1,8 @@
 -- Laws of the ranks of edges, for the crates above.
 use Rattle.std.specs.Prelude.{◌≡◌, ◌==◌, ◌↔◌, IsTrue, ◌<◌, Bool, true, length, slice_get, Some}
-use Rattle.relax_edges.specs.declared.edge.Edge.{Edge}
-use Rattle.relax_edges.specs.Order.{rank_of}
-use Rattle.relax_edges.specs.declared.order.TheConstants.{EDGES}
+use Rattle.relax_edges.specs.declared.{edge.Edge.Edge, order.TheConstants.EDGES}
+use Rattle.relax_edges.specs.{Order.rank_of, AllEdges.edges_in_order}
 use Rattle.std.specs.List.{list_all}
-use Rattle.relax_edges.specs.AllEdges.{edges_in_order}
 use Rattle.relax_edges.proofs.Ranks as proved
 
 -- no two edges have one rank

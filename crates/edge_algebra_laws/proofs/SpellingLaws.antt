@@ -1,20 +1,12 @@
 -- Laws of the words and spellings of edges, for the crates above.
 use Rattle.std.specs.Prelude.{◌≡◌, Some, ℕ, true, List, Bool, ◌≤◌, length}
-use Rattle.relax_edges.specs.declared.edge.Edge.{Edge}
-use Rattle.relax_edges.specs.WordParts.{word_of}
-use Rattle.relax_edges.specs.Spelling.{edge_of, is_spelling, spellings_of}
-use Rattle.std.specs.List.{list_all}
-use Rattle.std.specs.Str.{bytes_eq}
-use Rattle.std.proofs.Common.{subst, sym, ◌∙◌}
-use Rattle.std.proofs.lemmas.List.Folds.{Any-from_list_any}
-use Rattle.std.proofs.lemmas.List.Sums.{AllPass-from_list_all}
-use Rattle.std.proofs.lemmas.Slice.Eq.{bytes_eq-Decides}
-use Rattle.relax_edges.specs.declared.kinds.Mark.{Mark}
-use Rattle.relax_edges.specs.WordReading.{marks_read}
+use Rattle.relax_edges.specs.declared.{edge.Edge.Edge, kinds.Mark.Mark, kinds.Kind.Kind}
+use Rattle.relax_edges.specs.{WordParts.word_of, Spelling.edge_of, Spelling.is_spelling, Spelling.spellings_of, WordReading.marks_read}
+use Rattle.relax_edges.specs.{EdgeTable.kind_of, EdgeTable.unmarked, AllEdges.edges_in_order}
+use Rattle.std.specs.{List.list_all, Str.bytes_eq}
+use Rattle.std.proofs.{Common.subst, Common.sym, Common.◌∙◌, lemmas.List.Folds.Any-from_list_any, lemmas.List.Sums.AllPass-from_list_all}
+use Rattle.std.proofs.{lemmas.Slice.Eq.bytes_eq-Decides}
 use Rattle.relax_edges.proofs.Spellings as spellings
-use Rattle.relax_edges.specs.declared.kinds.Kind.{Kind}
-use Rattle.relax_edges.specs.EdgeTable.{kind_of, unmarked}
-use Rattle.relax_edges.specs.AllEdges.{edges_in_order}
 use Rattle.relax_edges.proofs.KindSpellings as kind_spellings
 use Rattle.relax_edges.proofs.WordBounds as word_bounds
 use Rattle.edge_algebra_laws.proofs.RankLaws.{each_edge}

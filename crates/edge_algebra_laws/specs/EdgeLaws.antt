@@ -1,11 +1,8 @@
 -- The laws of the words and the marks of edges, as statements.
 use Rattle.std.specs.Prelude.{◌≡◌, ◌↔◌, ℕ, true, List, Some}
-use Rattle.relax_edges.specs.declared.kinds.Kind.{Kind}
-use Rattle.relax_edges.specs.declared.kinds.Mark.{Mark}
-use Rattle.relax_edges.specs.declared.edge.Edge.{Edge}
+use Rattle.relax_edges.specs.declared.{kinds.Kind.Kind, kinds.Mark.Mark, edge.Edge.Edge}
 use Rattle.relax_edges.specs.EdgeTable.{kind_of, source_of, target_of, source_mark, target_mark, mark_fits, marked_edge}
-use Rattle.relax_edges.specs.WordParts.{word_of}
-use Rattle.relax_edges.specs.Spelling.{is_spelling, edge_of}
+use Rattle.relax_edges.specs.{WordParts.word_of, Spelling.is_spelling, Spelling.edge_of}
 
 -- a word and its edge determine each other
 pub record WordsDecide : Type 0 where

@@ -2,13 +2,9 @@
 use Rattle.std.proofs.Common.{◌≡◌, ℕ, ◌+◌, ◌<◌, ◌≤◌, Bool, true, false, cond, nat_lt, not, List, [], ◌∷◌, length, take, drop, Option, Some, None, refl, sym, ap, ◌∙◌, arith, subst, length-drop}
 use Rattle.std.specs.List.{position, position_or_len, prefix_len, slice_split, onto_first}
 use Rattle.std.specs.Option.{option_map}
-use Rattle.std.proofs.lemmas.List.Splits.{slice_split_first}
-use Rattle.std.proofs.lemmas.List.Quantifiers.{position-Some}
-use Rattle.std.proofs.lemmas.Bool.Decides.{nat_tests}
-use Rattle.edges_from_text.specs.declared.list.EdgeList.{EdgeList}
-use Rattle.edges_from_text.specs.Spelled.{CutsAtSeparator, separates, edges_spelled}
-use Rattle.edges_from_text.specs.declared.read.Separators.{Separators}
-use Rattle.edges_from_text.specs.KeptEdges.{edges_added}
+use Rattle.std.proofs.lemmas.{List.Splits.slice_split_first, List.Quantifiers.position-Some, Bool.Decides.nat_tests}
+use Rattle.edges_from_text.specs.declared.{list.EdgeList.EdgeList, read.Separators.Separators}
+use Rattle.edges_from_text.specs.{Spelled.CutsAtSeparator, Spelled.separates, Spelled.edges_spelled, KeptEdges.edges_added}
 
 -- the edges kept once a text's words are read after those that were kept before; none where a word is no edge
 abbrev pub spelled : EdgeList → List (List ℕ) → Option EdgeList

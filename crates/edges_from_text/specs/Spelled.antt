@@ -4,10 +4,8 @@ use Rattle.std.specs.Prelude.{ℕ, ◌≡◌, ◌<◌, Bool, ◌==◌, ◌||◌,
 use Rattle.std.specs.List.{slice_split}
 use Rattle.text_parts_laws.specs.Blanks.{is_blank}
 use Rattle.relax_edges.specs.declared.edge.Edge.{Edge}
-use Rattle.relax_edges.specs.Spelling.{edge_of}
-use Rattle.relax_edges.specs.ReadEdges.{before_edges}
-use Rattle.edges_from_text.specs.declared.read.Separators.{Separators}
-use Rattle.edges_from_text.specs.declared.read.Separators.TheVariants.{Blanks, BlanksAndCommas}
+use Rattle.relax_edges.specs.{Spelling.edge_of, ReadEdges.before_edges}
+use Rattle.edges_from_text.specs.declared.read.{Separators.Separators, Separators.TheVariants.Blanks, Separators.TheVariants.BlanksAndCommas}
 
 -- a byte separates edges: it is a space or a tab, or a comma where commas separate too
 abbrev pub separates : Separators → ℕ → Bool

@@ -1,14 +1,10 @@
 -- How the edges of a cycle are judged one after another, and what the condition's answer means.
 use Rattle.std.proofs.Common.{◌≡◌, ℕ, zero, suc, ◌+◌, Bool, List, [], ◌∷◌, ◌++◌, map, length, take, Option, Some, slice_get, sym, ap, subst, ◌∙◌, length-append}
 use Rattle.std.specs.Prelude.{◌↔◌, IsTrue}
-use Rattle.std.proofs.lemmas.List.{take_more, map-append}
-use Rattle.std.proofs.lemmas.Option.{get_or_from_slice_get, slice_get_within, same_Some}
-use Rattle.relax_edges.specs.declared.kinds.Value.{Value}
-use Rattle.relax_edges.specs.declared.edge.Edge.{Edge}
-use Rattle.final_cond.specs.Conditions.{LeftSeen, CondSeen}
-use Rattle.final_cond.specs.States.{Meets}
-use Rattle.program_meaning.specs.Executions.{Execution}
-use Rattle.program_meaning.specs.Programs.{Program}
+use Rattle.std.proofs.lemmas.{List.take_more, List.map-append, Option.get_or_from_slice_get, Option.slice_get_within, Option.same_Some}
+use Rattle.relax_edges.specs.declared.{kinds.Value.Value, edge.Edge.Edge}
+use Rattle.final_cond.specs.{Conditions.LeftSeen, Conditions.CondSeen, States.Meets}
+use Rattle.program_meaning.specs.{Executions.Execution, Programs.Program}
 use Rattle.exec_meaning.specs.StandingEdges.{EdgeStands}
 
 -- the first edges are judged

@@ -1,13 +1,9 @@
 -- The lines of a verdict, sent one after another.
 use Rattle.std.proofs.Common.{◌≡◌, ◌≤◌, ◌<◌, ℕ, ◌+◌, ◌-◌, Bool, true, false, List, [], ◌∷◌, ◌++◌, length, get_or, take, drop, Ok, Err, refl, subst, arith}
-use Rattle.std.specs.Prelude.{codes, Result}
-use Rattle.std.specs.Result.{IsErrAnd}
-use Rattle.std.specs.Fmt.{decimal}
+use Rattle.std.specs.{Prelude.codes, Prelude.Result, Result.IsErrAnd, Fmt.decimal}
 use Rattle.std.proofs.lemmas.List.{take_all}
 use Rattle.diy_io.specs.declared.errors.Failed.{Failed}
-use Rattle.diy_io.specs.Page.{Sends}
-use Rattle.diy_io.specs.PageLaws.{sends_then, sends_stopped, sent_nothing}
-use Rattle.diy_io.specs.Wrote.{SinkSeen}
+use Rattle.diy_io.specs.{Page.Sends, PageLaws.sends_then, PageLaws.sends_stopped, PageLaws.sent_nothing, Wrote.SinkSeen}
 use Rattle.relax_edges.specs.declared.edge.Edge.{Edge}
 use Rattle.relax_edges.specs.WordParts.{word_of}
 use Rattle.exec_check.specs.declared.verdict.Verdict.{Verdict}

@@ -1,12 +1,9 @@
 -- An execution of a test has one verdict.
 use Rattle.std.proofs.Common.{◌≡◌, ℕ, suc, Bool, true, false, List, [], ◌∷◌, ◌++◌, map, Option, Some, None, slice_get, refl, sym, ◌∙◌}
 use Rattle.std.specs.Prelude.{◌↔◌, IsTrue, codes}
-use Rattle.relax_edges.specs.declared.kinds.ArchName.{ArchName}
-use Rattle.relax_edges.specs.declared.edge.Edge.{Edge}
-use Rattle.litmus_text.specs.TestReading.{TestRead}
-use Rattle.litmus_text.specs.ReadPrograms.{program_read}
-use Rattle.program_meaning.specs.Executions.{Execution}
-use Rattle.program_meaning.specs.Programs.{Program, IsCandidate, IsCoherentIn}
+use Rattle.relax_edges.specs.declared.{kinds.ArchName.ArchName, edge.Edge.Edge}
+use Rattle.litmus_text.specs.{TestReading.TestRead, ReadPrograms.program_read}
+use Rattle.program_meaning.specs.{Executions.Execution, Programs.Program, Programs.IsCandidate, Programs.IsCoherentIn}
 use Rattle.final_cond.specs.States.{Meets}
 use Rattle.tests_force_cycles.specs.FinalStates.{final_state}
 use Rattle.exec_meaning.specs.StandingEdges.{EdgeStands}

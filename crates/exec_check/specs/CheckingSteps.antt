@@ -2,32 +2,23 @@
 -- Source: own.
 use Rattle.std.specs.Prelude.{◌≡◌, ⊤, ℕ, List, Result, Ok, Err, IsErr}
 use Rattle.diy_io.specs.declared.errors.Failed.{Failed}
-use Rattle.diy_io.specs.Shelf.{ShelfSeen}
+use Rattle.diy_io.specs.{Shelf.ShelfSeen, Opened.FileAbsent}
 use Rattle.relax_edges.specs.declared.kinds.ArchName.{ArchName}
-use Rattle.arch_trait.specs.PlaceNames.{number_in}
-use Rattle.arch_trait.specs.Writing.{Writing}
+use Rattle.arch_trait.specs.{PlaceNames.number_in, Writing.Writing}
 use Rattle.litmus_text.specs.TestReading.{TestRead}
 use Rattle.program_meaning.specs.Executions.{Execution}
-use Rattle.exec_check.specs.declared.errors.CheckError.{CheckError}
+use Rattle.exec_check.specs.declared.{errors.CheckError.CheckError, verdict.Verdict.Verdict, checked_errors.CheckedKind.CheckedKind}
+use Rattle.exec_check.specs.declared.{checked_errors.CheckFault.CheckFault, checked_errors.CheckEnd.CheckEnd}
 use Rattle.exec_check.specs.declared.errors.CheckError.TheVariants as checks
-use Rattle.exec_check.specs.declared.verdict.Verdict.{Verdict}
-use Rattle.exec_check.specs.Verdicts.{IsVerdict, Checks}
-use Rattle.tests_from_files.specs.declared.errors.FileFault.{FileFault}
+use Rattle.exec_check.specs.{Verdicts.IsVerdict, Verdicts.Checks, FilesChecked.exec_said}
+use Rattle.tests_from_files.specs.declared.errors.{FileFault.FileFault, NoTest.NoTest, TestFileKind.TestFileKind}
 use Rattle.tests_from_files.specs.declared.errors.FileFault.TheVariants as reads
-use Rattle.tests_from_files.specs.declared.errors.NoTest.{NoTest}
 use Rattle.tests_from_files.specs.declared.errors.NoTest.TheVariants as no_tests
-use Rattle.tests_from_files.specs.declared.errors.TestFileKind.{TestFileKind}
 use Rattle.tests_from_files.specs.declared.errors.TestFileKind.TheVariants as tests
-use Rattle.diy_io.specs.Opened.{FileAbsent}
-use Rattle.tests_from_files.specs.FilesRead.{FileFailed, FileIs, FileFaulty}
-use Rattle.tests_from_files.specs.TestSaid.{test_said}
-use Rattle.exec_check.specs.declared.checked_errors.CheckedKind.{CheckedKind}
+use Rattle.tests_from_files.specs.{FilesRead.FileFailed, FilesRead.FileIs, FilesRead.FileFaulty, TestSaid.test_said}
 use Rattle.exec_check.specs.declared.checked_errors.CheckedKind.TheVariants as kinds
-use Rattle.exec_check.specs.declared.checked_errors.CheckFault.{CheckFault}
 use Rattle.exec_check.specs.declared.checked_errors.CheckFault.TheVariants as faults
-use Rattle.exec_check.specs.declared.checked_errors.CheckEnd.{CheckEnd}
 use Rattle.exec_check.specs.declared.checked_errors.CheckEnd.TheVariants as ends
-use Rattle.exec_check.specs.FilesChecked.{exec_said}
 
 -- why a file isn't what is wanted of it: it isn't read
 abbrev pub check_file_fault : FileFault → CheckFault

@@ -2,10 +2,8 @@
 use Rattle.std.proofs.Common.{◌≡◌, ℕ, ◌+◌, ◌≤◌, List, [], ◌∷◌, ◌++◌, length, drop, Some, slice_get, refl, sym, ap, ◌∙◌, append_assoc}
 use Rattle.std.proofs.lemmas.List.{drop_all, append-nil}
 use Rattle.list_laws.proofs.Elements.{drop_given}
-use Rattle.relax_edges.specs.declared.kinds.Dir.{Dir}
-use Rattle.relax_edges.specs.declared.kinds.Mark.{Mark}
-use Rattle.micro_ops.specs.declared.operation.Barrier.{Barrier}
-use Rattle.micro_ops.specs.declared.operation.Item.{Item}
+use Rattle.relax_edges.specs.declared.kinds.{Dir.Dir, Mark.Mark}
+use Rattle.micro_ops.specs.declared.operation.{Barrier.Barrier, Item.Item}
 use Rattle.micro_ops.specs.declared.operation.Item.TheVariants as items
 use Rattle.program_meaning.specs.Accesses.{Access, Barred, visits_from, visits_of, accesses_of}
 use Rattle.exec_meaning.specs.EndedRuns.{item_access}

@@ -3,10 +3,8 @@
 use Rattle.std.specs.Prelude.{◌≡◌, false, List, [], ◌∷◌, map, Option, Some, None}
 use Rattle.micro_ops.specs.declared.operation.Item.{Item}
 use Rattle.micro_ops.specs.declared.operation.Item.TheVariants as items
-use Rattle.program_meaning.specs.Accesses.{Access}
-use Rattle.micro_ops.specs.Running.{Outcome, Ended}
-use Rattle.micro_ops.specs.RunThreads.{EndedRun, value_in_run}
-use Rattle.program_meaning.specs.Deciding.{has_ended, all_ended}
+use Rattle.program_meaning.specs.{Accesses.Access, Deciding.has_ended, Deciding.all_ended}
+use Rattle.micro_ops.specs.{Running.Outcome, Running.Ended, RunThreads.EndedRun, RunThreads.value_in_run}
 
 -- the outcome of a run that came to its end
 abbrev pub ended_run : EndedRun → Outcome

@@ -1,12 +1,9 @@
 -- The final state of an execution as a list, in the order in which it is made.
 -- Source: own.
 use Rattle.std.specs.Prelude.{◌≡◌, ℕ, ◌+◌, List, [], ◌∷◌, ◌++◌, Option}
-use Rattle.relax_edges.specs.declared.kinds.Value.{Value}
-use Rattle.relax_edges.specs.declared.kinds.Value.TheVariants.{Num}
-use Rattle.final_cond.specs.Conditions.{LeftSeen, InRegister, AtPlace}
-use Rattle.final_cond.specs.States.{FinalState, value_in_state}
-use Rattle.litmus_text.specs.ReadPrograms.{program_read}
-use Rattle.litmus_text.specs.TestReading.{TestRead}
+use Rattle.relax_edges.specs.declared.kinds.{Value.Value, Value.TheVariants.Num}
+use Rattle.final_cond.specs.{Conditions.LeftSeen, Conditions.InRegister, Conditions.AtPlace, States.FinalState, States.value_in_state}
+use Rattle.litmus_text.specs.{ReadPrograms.program_read, TestReading.TestRead}
 use Rattle.program_meaning.specs.Executions.{Execution}
 use Rattle.tests_force_cycles.specs.FinalStates.{final_state}
 

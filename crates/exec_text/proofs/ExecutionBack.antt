@@ -2,13 +2,9 @@
 use Rattle.std.proofs.Common.{◌≡◌, ◌≤◌, ◌+◌, ℕ, List, [], ◌∷◌, ◌++◌, map, length, true, refl, sym, ap, ◌∙◌, arith, length-append}
 use Rattle.std.specs.Prelude.{Option, Some, Ok}
 use Rattle.std.specs.List.{All, AllByRecursion, enumerate_from, flat_map, list_all, range_with_len, zip}
-use Rattle.std.proofs.lemmas.List.{length-map}
-use Rattle.std.proofs.lemmas.List.Elements.{All-head, All-tail}
-use Rattle.std.proofs.lemmas.List.FromFn.{length-enumerate_from}
-use Rattle.std.proofs.lemmas.Bool.{and_parts}
+use Rattle.std.proofs.lemmas.{List.length-map, List.Elements.All-head, List.Elements.All-tail, List.FromFn.length-enumerate_from, Bool.and_parts}
 use Rattle.list_laws.proofs.Elements.{all_append}
-use Rattle.text_parts_laws.specs.Names.{is_place_name}
-use Rattle.text_parts_laws.specs.Words.{words}
+use Rattle.text_parts_laws.specs.{Names.is_place_name, Words.words}
 use Rattle.litmus_text.specs.TestText.{with_line_feed}
 use Rattle.litmus_text.specs.declared.limits.TheConstants.{MAX_TEST_TEXT}
 use Rattle.program_meaning.specs.declared.WriteAt.{WriteAt}

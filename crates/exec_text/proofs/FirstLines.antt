@@ -1,10 +1,7 @@
 -- The first line of a text.
 use Rattle.std.proofs.Common.{◌≡◌, ◌==◌, ◌<◌, ℕ, List, [], ◌∷◌, ◌++◌, true, false, get_or, length, refl, sym, ap, ◌∙◌, arith}
-use Rattle.std.specs.Prelude.{not, map}
-use Rattle.std.specs.List.{list_all, All}
-use Rattle.std.proofs.lemmas.Bool.{not-true}
-use Rattle.std.proofs.lemmas.List.Sums.{AllPass-from_list_all}
-use Rattle.std.proofs.lemmas.List.Splits.{slice_split_none}
+use Rattle.std.specs.{Prelude.not, Prelude.map, List.list_all, List.All}
+use Rattle.std.proofs.lemmas.{Bool.not-true, List.Sums.AllPass-from_list_all, List.Splits.slice_split_none}
 use Rattle.text_parts_laws.specs.Lines.{is_line_feed, without_return, but_last, last_of, whole_lines, ended_lines, unended, last_line, lines_of}
 use Rattle.text_parts_laws.specs.Cuts.{CutParts}
 use Rattle.text_parts_laws.proofs.LineLaws.{lines_cut}

@@ -2,8 +2,7 @@
 use Rattle.std.proofs.Common.{◌≡◌, ℕ, zero, suc, ◌+◌, ◌-◌, ◌<◌, List, [], ◌∷◌, ◌++◌, length, drop, refl, ◌∙◌, arith, subst}
 use Rattle.std.specs.Prelude.{Result, Ok, Err, Option, slice_get, slice_index_or, unwrap_or}
 use Rattle.std.specs.List.{range_with_len}
-use Rattle.std.proofs.Math.Seq.{drop-cons, drop-length}
-use Rattle.std.proofs.lemmas.List.{length-set}
+use Rattle.std.proofs.{Math.Seq.drop-cons, Math.Seq.drop-length, lemmas.List.length-set}
 use Rattle.program_meaning.specs.declared.WriteAt.{WriteAt}
 use Rattle.program_meaning.specs.Executions.{Execution}
 use Rattle.exec_meaning.specs.KeptExecutions.{added_to_list, with_read, with_write}

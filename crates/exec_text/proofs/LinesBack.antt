@@ -3,24 +3,15 @@
 use Rattle.std.proofs.Common.{◌≡◌, ◌≤◌, ℕ, List, [], ◌∷◌, ◌++◌, map, length, true, refl, ap, ◌∙◌, arith, append_assoc, length-append}
 use Rattle.std.specs.Prelude.{Bool, ◌&&◌, nat_le, nat_lt, codes, Option, Some, Ok}
 use Rattle.std.specs.List.{AllByRecursion, list_all, flat_map}
-use Rattle.std.proofs.lemmas.Bool.Decides.{nat_tests}
-use Rattle.std.proofs.lemmas.List.{append-nil}
+use Rattle.std.proofs.lemmas.{Bool.Decides.nat_tests, List.append-nil}
 use Rattle.list_laws.proofs.Elements.{list_all-weaker}
-use Rattle.text_parts_laws.specs.Blanks.{is_inked}
-use Rattle.text_parts_laws.specs.Words.{words}
-use Rattle.text_parts_laws.specs.Lines.{lines_of}
+use Rattle.text_parts_laws.specs.{Blanks.is_inked, Words.words, Lines.lines_of, Cuts.CutParts}
 use Rattle.litmus_text.specs.TestText.{with_line_feed}
-use Rattle.text_parts_laws.specs.Cuts.{CutParts}
-use Rattle.text_parts_laws.proofs.OrderLaws.{bytes_same}
-use Rattle.text_parts_laws.proofs.WordLaws.{words_both, one_word}
-use Rattle.text_parts_laws.proofs.CutLaws.{all_both, without_class}
-use Rattle.text_parts_laws.proofs.LineLaws.{class_kept}
+use Rattle.text_parts_laws.proofs.{OrderLaws.bytes_same, WordLaws.words_both, WordLaws.one_word, CutLaws.all_both, CutLaws.without_class}
+use Rattle.text_parts_laws.proofs.{LineLaws.class_kept}
 use Rattle.exec_text.specs.declared.errors.ExecKind.{ExecKind}
-use Rattle.exec_text.specs.ExecutionText.{all_named, line_read}
-use Rattle.exec_text.specs.Written.{line_of}
-use Rattle.exec_text.proofs.Appending.{further}
-use Rattle.exec_text.proofs.FirstLines.{line_none, line_cut}
-use Rattle.exec_text.proofs.WordsBack.{IsWord, is_graphic}
+use Rattle.exec_text.specs.{ExecutionText.all_named, ExecutionText.line_read, Written.line_of}
+use Rattle.exec_text.proofs.{Appending.further, FirstLines.line_none, FirstLines.line_cut, WordsBack.IsWord, WordsBack.is_graphic}
 
 -- a byte of a line: a blank or a graphic character
 abbrev pub is_printed : ℕ → Bool

@@ -3,14 +3,10 @@ use Rattle.std.proofs.Common.{◌≡◌, ◌≤◌, ◌<◌, ◌+◌, ◌*◌, �
 use Rattle.std.specs.Prelude.{codes, Option, Some, None}
 use Rattle.std.specs.Fmt.{decimal}
 use Rattle.std.specs.List.{All, enumerate_from, flat_map, list_all, zip}
-use Rattle.std.proofs.lemmas.Grind.{flat_map-append}
-use Rattle.std.proofs.lemmas.List.Elements.{All-head, All-map, All-tail}
-use Rattle.std.proofs.lemmas.List.{length-map}
-use Rattle.std.proofs.lemmas.Bool.{and_parts}
+use Rattle.std.proofs.lemmas.{Grind.flat_map-append, List.Elements.All-head, List.Elements.All-map, List.Elements.All-tail, List.length-map}
+use Rattle.std.proofs.lemmas.{Bool.and_parts}
 use Rattle.text_parts_laws.specs.Names.{is_place_name}
-use Rattle.text_parts_laws.proofs.LengthLaws.{pieces_short}
-use Rattle.text_parts_laws.proofs.NameLaws.{place_name_short}
-use Rattle.text_parts_laws.proofs.NumberLaws.{two_digits, ten_digits}
+use Rattle.text_parts_laws.proofs.{LengthLaws.pieces_short, NameLaws.place_name_short, NumberLaws.two_digits, NumberLaws.ten_digits}
 use Rattle.litmus_text.specs.TestText.{with_line_feed}
 use Rattle.litmus_text.specs.declared.limits.TheConstants.{MAX_TEST_TEXT, MAX_THREADS, MAX_ACCESSES}
 use Rattle.program_meaning.specs.declared.WriteAt.{WriteAt}

@@ -1,7 +1,6 @@
 -- Executions and the texts that the definition writes of them, worked out by hand.
 use Rattle.std.proofs.Common.{◌≡◌, ℕ, [], ◌∷◌, ◌++◌, refl}
-use Rattle.std.specs.Prelude.{codes, Some, None}
-use Rattle.std.specs.Fmt.{digits}
+use Rattle.std.specs.{Prelude.codes, Prelude.Some, Prelude.None, Fmt.digits}
 use Rattle.litmus_text.specs.TestText.{with_line_feed}
 use Rattle.program_meaning.specs.declared.WriteAt.{WriteAt}
 use Rattle.exec_text.specs.Written.{access_word, read_word, source_word, text_of_execution}

@@ -6,8 +6,7 @@ use Rattle.text_parts_laws.specs.Names.{is_place_name}
 use Rattle.litmus_text.specs.declared.limits.TheConstants.{MAX_TEST_TEXT, MAX_ACCESSES}
 use Rattle.program_meaning.specs.declared.WriteAt.{WriteAt}
 use Rattle.program_meaning.specs.Executions.{Execution}
-use Rattle.exec_text.specs.ExecutionText.{execution_read}
-use Rattle.exec_text.specs.Written.{text_of_execution}
+use Rattle.exec_text.specs.{ExecutionText.execution_read, Written.text_of_execution}
 
 -- an access that a text can name: one of so many threads, with a number below 64
 abbrev pub AccessFits : ℕ → WriteAt → Type 0

@@ -3,11 +3,8 @@
 use Rattle.std.specs.Prelude.{◌≡◌, ℕ, ◌+◌, List, [], ◌∷◌, Option, Some, None, Result, Ok, Err}
 use Rattle.std.specs.Borrow.{Bor}
 use Rattle.program_meaning.specs.Executions.{Execution}
-use Rattle.exec_text.specs.declared.errors.ExecKind.{ExecKind}
-use Rattle.exec_text.specs.declared.errors.ExecFault.{ExecFault}
-use Rattle.exec_text.specs.declared.errors.ExecError.{ExecError}
+use Rattle.exec_text.specs.declared.{errors.ExecKind.ExecKind, errors.ExecFault.ExecFault, errors.ExecError.ExecError, reading.LineError.LineError}
 use Rattle.exec_text.specs.declared.errors.ExecError.TheVariants as errors
-use Rattle.exec_text.specs.declared.reading.LineError.{LineError}
 use Rattle.exec_text.specs.declared.reading.LineError.TheVariants as line_errors
 use Rattle.text_parts_laws.specs.Lines.{lines_of}
 

@@ -2,20 +2,12 @@
 -- coherence order.
 -- Source: own.
 use Rattle.std.specs.Prelude.{ℕ, ◌+◌, cond, List, [], ◌∷◌, ◌++◌, length, map, codes, nat_lt, Option, Some, None, option_and_then, Result, Ok, Err, slice_index_or}
-use Rattle.std.specs.Fmt.{decimal}
-use Rattle.std.specs.List.{range_with_len}
-use Rattle.std.specs.Option.{option_map}
-use Rattle.std.specs.Str.{bytes_eq}
-use Rattle.text_parts_laws.specs.NumberTexts.{number_of}
-use Rattle.text_parts_laws.specs.Cuts.{cut_at}
-use Rattle.text_parts_laws.specs.Words.{words}
-use Rattle.text_parts_laws.specs.Lines.{lines_of}
-use Rattle.text_parts_laws.specs.ReadingSteps.{◌>>=◌}
+use Rattle.std.specs.{Fmt.decimal, List.range_with_len, Option.option_map, Str.bytes_eq}
+use Rattle.text_parts_laws.specs.{NumberTexts.number_of, Cuts.cut_at, Words.words, Lines.lines_of, ReadingSteps.◌>>=◌}
 use Rattle.program_meaning.specs.declared.WriteAt.{WriteAt}
 use Rattle.program_meaning.specs.Executions.{Execution}
-use Rattle.exec_text.specs.declared.errors.ExecKind.{ExecKind}
+use Rattle.exec_text.specs.declared.errors.{ExecKind.ExecKind, ExecFault.ExecFault}
 use Rattle.exec_text.specs.declared.errors.ExecKind.TheVariants.{BadThread, BadRead, BadPlace, BadWrite, EndMissing, StrayLine, TooLarge}
-use Rattle.exec_text.specs.declared.errors.ExecFault.{ExecFault}
 use Rattle.litmus_text.specs.declared.limits.TheConstants.{MAX_TEST_TEXT, MAX_ACCESSES}
 
 -- a number, where it is below a bound

@@ -3,10 +3,8 @@ use Rattle.std.proofs.Common.{◌≡◌, ℕ, suc, ◌+◌, ◌<◌, List, ◌�
 use Rattle.std.specs.Prelude.{◌↔◌, true, false, map, Option, Some}
 use Rattle.std.specs.List.{AllByRecursion}
 use Rattle.std.proofs.Math.Seq.{drop-cons}
-use Rattle.relax_edges.specs.declared.kinds.Value.{Value}
-use Rattle.relax_edges.specs.declared.kinds.Value.TheVariants.{Num}
-use Rattle.final_cond.specs.declared.cond.Left.{Left}
-use Rattle.final_cond.specs.declared.cond.Term.{Term}
+use Rattle.relax_edges.specs.declared.kinds.{Value.Value, Value.TheVariants.Num}
+use Rattle.final_cond.specs.declared.cond.{Left.Left, Term.Term}
 use Rattle.final_cond.specs.Conditions.{LeftSeen, left_view, term_view}
 use Rattle.final_cond.specs.States.{same_left_seen, value_in_state, pair_view}
 

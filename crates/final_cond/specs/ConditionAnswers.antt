@@ -1,9 +1,7 @@
 -- What code that reads a text answers, as the definitions see it.
 use Rattle.std.specs.Prelude.{◌≡◌, ℕ, List, Result, Ok, Err}
 use Rattle.std.specs.Borrow.{Bor}
-use Rattle.final_cond.specs.declared.cond.Left.{Left}
-use Rattle.final_cond.specs.declared.cond.Term.{Term}
-use Rattle.final_cond.specs.declared.errors.CondFault.{CondFault}
+use Rattle.final_cond.specs.declared.{cond.Left.Left, cond.Term.Term, errors.CondFault.CondFault}
 use Rattle.final_cond.specs.Conditions.{LeftSeen, TermSeen, left_view, term_view}
 use Rattle.final_cond.specs.ConditionReading.{Fault}
 

@@ -2,23 +2,15 @@
 -- Blanks may stand between the parts of the text, and never inside a word, a left side or a number.
 -- Source: the litmus format of the herdtools manual; the faults and their places are own.
 use Rattle.std.specs.Prelude.{ℕ, zero, suc, ◌-◌, Bool, ◌&&◌, ◌==◌, cond, List, [], ◌∷◌, length, codes, Option, Some, None, Result, Ok, Err, nat_lt}
-use Rattle.std.specs.Char.{is_ascii_digit, is_ascii_alphanumeric}
-use Rattle.std.specs.Str.{bytes_eq}
-use Rattle.final_cond.specs.declared.cond.TheConstants.{MAX_TERMS}
-use Rattle.final_cond.specs.declared.cond.Quantifier.{Quantifier}
-use Rattle.final_cond.specs.declared.cond.Quantifier.TheVariants.{Exists, NotExists, Forall}
-use Rattle.final_cond.specs.declared.errors.CondKind.{CondKind}
+use Rattle.std.specs.{Char.is_ascii_digit, Char.is_ascii_alphanumeric, Str.bytes_eq}
+use Rattle.final_cond.specs.declared.{cond.TheConstants.MAX_TERMS, cond.Quantifier.Quantifier, cond.Quantifier.TheVariants.Exists}
+use Rattle.final_cond.specs.declared.{cond.Quantifier.TheVariants.NotExists, cond.Quantifier.TheVariants.Forall, errors.CondKind.CondKind}
+use Rattle.final_cond.specs.declared.{errors.CondError.CondError, read.Follow.Follow}
 use Rattle.final_cond.specs.declared.errors.CondKind.TheVariants.{BadQuantifier, BadTerm, BadValue, BadEnd}
-use Rattle.final_cond.specs.declared.errors.CondError.{CondError}
-use Rattle.final_cond.specs.declared.read.Follow.{Follow}
 use Rattle.final_cond.specs.declared.read.Follow.TheVariants as follows
-use Rattle.text_parts_laws.specs.Names.{is_place_byte, is_place_name, is_register_name}
+use Rattle.text_parts_laws.specs.{Names.is_place_byte, Names.is_place_name, Names.is_register_name, NumberTexts.number_of, LeadingRuns.leading_run}
+use Rattle.text_parts_laws.specs.{LeadingRuns.after_run, Blanks.unblanked, Words.is_argument_byte, ReadingSteps.◌>>=◌}
 use Rattle.final_cond.specs.Conditions.{LeftSeen, InRegister, AtPlace, TermSeen, CondSeen}
-use Rattle.text_parts_laws.specs.NumberTexts.{number_of}
-use Rattle.text_parts_laws.specs.LeadingRuns.{leading_run, after_run}
-use Rattle.text_parts_laws.specs.Blanks.{unblanked}
-use Rattle.text_parts_laws.specs.Words.{is_argument_byte}
-use Rattle.text_parts_laws.specs.ReadingSteps.{◌>>=◌}
 
 -- what is faulty, and the text from there on
 pub record Fault : Type 0 where

@@ -1,11 +1,7 @@
 -- A condition as contracts see it: its names are lists of bytes.
 -- Source: the litmus format of the herdtools manual.
 use Rattle.std.specs.Prelude.{ℕ, List, map}
-use Rattle.final_cond.specs.declared.cond.Quantifier.{Quantifier}
-use Rattle.final_cond.specs.declared.cond.Left.{Left}
-use Rattle.final_cond.specs.declared.cond.Left.TheVariants.{Register, Place}
-use Rattle.final_cond.specs.declared.cond.Term.{Term}
-use Rattle.final_cond.specs.declared.cond.Cond.{Cond}
+use Rattle.final_cond.specs.declared.cond.{Quantifier.Quantifier, Left.Left, Left.TheVariants.Register, Left.TheVariants.Place, Term.Term, Cond.Cond}
 
 -- what a term looks at: a register of a thread, by its name, or a place, by its name
 pub data LeftSeen : Type 0 where

@@ -1,13 +1,8 @@
 -- Cases to split on, with the goal given first: a test is true or false, a number is below another or not.
 use Rattle.std.proofs.Common.{◌≡◌, ℕ, ◌<◌, ◌≤◌, Bool, true, false, Option, Some, None, refl, inl, inr, not, ◌||◌, arith, List, sym}
-use Rattle.std.specs.Prelude.{◌⊎◌}
-use Rattle.std.proofs.lemmas.Bool.{cases_lt, cases_eq}
-use Rattle.std.specs.declared.cmp.Ordering.{Ordering}
-use Rattle.std.specs.declared.cmp.Ordering.TheVariants.{Less, Equal, Greater}
-use Rattle.std.specs.Ordering.{ordering_index}
-use Rattle.std.specs.Str.{bytes_eq}
-use Rattle.std.proofs.lemmas.Slice.Eq.{bytes_eq-Decides}
-use Rattle.std.specs.Cmp.{both_ways}
+use Rattle.std.specs.{Prelude.◌⊎◌, Ordering.ordering_index, Str.bytes_eq, Cmp.both_ways}
+use Rattle.std.proofs.lemmas.{Bool.cases_lt, Bool.cases_eq, Slice.Eq.bytes_eq-Decides}
+use Rattle.std.specs.declared.cmp.{Ordering.Ordering, Ordering.TheVariants.Less, Ordering.TheVariants.Equal, Ordering.TheVariants.Greater}
 
 -- a test is true, or it is false
 pub by_test : {G : Type 0} (b : Bool) → (b ≡ true → G) → (b ≡ false → G) → G

@@ -1,8 +1,7 @@
 -- Counts over the prefixes of a list.
 use Rattle.std.proofs.Common.{◌≡◌, ℕ, zero, suc, ◌+◌, ◌<◌, ◌≤◌, Bool, cond, List, ◌++◌, length, take, get_or, refl, sym, ◌∙◌, ap, arith, add-one}
 use Rattle.std.specs.List.{count_by}
-use Rattle.std.proofs.lemmas.List.{take_all}
-use Rattle.std.proofs.lemmas.List.Sums.{sum_by_more, sum_by-append}
+use Rattle.std.proofs.lemmas.{List.take_all, List.Sums.sum_by_more, List.Sums.sum_by-append}
 use Rattle.list_laws.specs.Numbers.{upto}
 use Rattle.list_laws.proofs.Counts.{count_upto-suc}
 

@@ -1,16 +1,12 @@
 -- A printed cell is read back, whatever blanks fill it.
 use Rattle.std.proofs.Common.{◌≡◌, ℕ, List, [], ◌∷◌, ◌++◌, Ok, true, false, refl, ap, append_assoc, append-nil, arith}
-use Rattle.std.specs.Prelude.{Bool}
-use Rattle.std.specs.List.{list_all}
-use Rattle.std.proofs.Math.ListN.{replicate}
-use Rattle.std.proofs.lemmas.Bool.{and_from}
+use Rattle.std.specs.{Prelude.Bool, List.list_all}
+use Rattle.std.proofs.{Math.ListN.replicate, lemmas.Bool.and_from}
 use Rattle.list_laws.proofs.Cases.{by_test}
 use Rattle.text_parts_laws.specs.Blanks.{is_blank, before_blanks, trim_blanks, is_inked}
-use Rattle.text_parts_laws.specs.LeadingRuns.{leading_run, after_run}
+use Rattle.text_parts_laws.specs.{LeadingRuns.leading_run, LeadingRuns.after_run, Words.is_nil}
 use Rattle.arch_trait.specs.InstructionReading.{operands_in, operands_if, written_in, instr_read}
-use Rattle.arch_trait.specs.Writing.{Writing}
-use Rattle.arch_trait.specs.Cells.{is_cell_byte}
-use Rattle.text_parts_laws.specs.Words.{is_nil}
+use Rattle.arch_trait.specs.{Writing.Writing, Cells.is_cell_byte}
 use Rattle.litmus_text.specs.TestTable.{Column, Among}
 use Rattle.litmus_text.specs.TableScan.{instr_put, instr_in, instr_or_nothing, cell_read}
 use Rattle.text_parts_laws.proofs.BlankLaws.{kept_inked, spaces_class, trimmed_padded}

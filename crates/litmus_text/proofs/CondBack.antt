@@ -1,31 +1,20 @@
 -- The printed condition is read back.
 use Rattle.std.proofs.Common.{◌≡◌, ◌<◌, ◌≤◌, ℕ, suc, List, [], ◌∷◌, ◌++◌, None, Ok, true, length, refl, arith, append_assoc, append-nil}
-use Rattle.std.specs.Prelude.{codes}
-use Rattle.std.specs.Char.{is_ascii_digit}
-use Rattle.std.specs.Fmt.{decimal}
-use Rattle.std.specs.List.{list_all, AllByRecursion}
-use Rattle.final_cond.specs.declared.cond.TheConstants.{MAX_TERMS}
-use Rattle.final_cond.specs.declared.cond.Quantifier.{Quantifier}
-use Rattle.final_cond.specs.declared.cond.Quantifier.TheVariants.{Exists, NotExists, Forall}
+use Rattle.std.specs.{Prelude.codes, Char.is_ascii_digit, Fmt.decimal, List.list_all, List.AllByRecursion}
+use Rattle.final_cond.specs.declared.cond.{TheConstants.MAX_TERMS, Quantifier.Quantifier, Quantifier.TheVariants.Exists}
+use Rattle.final_cond.specs.declared.cond.{Quantifier.TheVariants.NotExists, Quantifier.TheVariants.Forall}
 use Rattle.text_parts_laws.specs.LeadingRuns.{leading_run, after_run}
 use Rattle.final_cond.specs.Conditions.{LeftSeen, InRegister, AtPlace, TermSeen, CondSeen}
 use Rattle.final_cond.specs.CondText.{quantifier_word, left_text, term_text, terms_text, cond_text}
 use Rattle.final_cond.specs.CondTextLaws.{terms_pass}
-use Rattle.text_parts_laws.proofs.RunLaws.{stops}
+use Rattle.text_parts_laws.proofs.{RunLaws.stops, CutLaws.all_both}
 use Rattle.final_cond.proofs.BackLaws.{left_unblanked, left_back, right_back, term_parts, closing, joining, opening_back}
-use Rattle.arch_trait.specs.Writing.{Writing}
-use Rattle.arch_trait.specs.Cells.{ends_rows, is_line_byte}
-use Rattle.litmus_text.specs.TextLines.{Lines, ends, line}
-use Rattle.litmus_text.specs.Joined.{all_joined}
-use Rattle.litmus_text.specs.TestTable.{after_locations}
-use Rattle.litmus_text.specs.Condition.{Setting, condition_read}
+use Rattle.arch_trait.specs.{Writing.Writing, Cells.ends_rows, Cells.is_line_byte}
+use Rattle.litmus_text.specs.{TextLines.Lines, TextLines.ends, TextLines.line, Joined.all_joined, TestTable.after_locations, Condition.Setting}
+use Rattle.litmus_text.specs.{Condition.condition_read}
 use Rattle.litmus_text.specs.ConditionScan.{Mentioned, left_put, term_here, terms_here, cond_scanned}
-use Rattle.litmus_text.proofs.ConditionScanned.{scanned_is}
+use Rattle.litmus_text.proofs.{ConditionScanned.scanned_is, ElementLaws.all_weaker, LineBack.IsLine, HeadBack.line_is}
 use Rattle.litmus_text.specs.ReadTerms.{left_mention, terms_mention, is_known, TermFits}
-use Rattle.text_parts_laws.proofs.CutLaws.{all_both}
-use Rattle.litmus_text.proofs.ElementLaws.{all_weaker}
-use Rattle.litmus_text.proofs.LineBack.{IsLine}
-use Rattle.litmus_text.proofs.HeadBack.{line_is}
 use Rattle.litmus_text.proofs.NamesBack.{Within, within_self, within_trans, IsAmong, place_added}
 
 state : List (List ℕ) → Mentioned

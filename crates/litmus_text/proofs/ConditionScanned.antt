@@ -2,23 +2,16 @@
 use Rattle.std.specs.Prelude.{ℕ, zero, suc, ◌≡◌, ◌==◌, cond, List, [], ◌∷◌, Option, Some, None, Result, Ok, Err}
 use Rattle.std.specs.List.{list_any}
 use Rattle.std.proofs.Common.{refl, ◌∙◌, arith}
-use Rattle.final_cond.specs.declared.cond.TheConstants.{MAX_TERMS}
-use Rattle.final_cond.specs.declared.cond.Quantifier.{Quantifier}
-use Rattle.final_cond.specs.declared.read.Follow.{Follow}
-use Rattle.text_parts_laws.specs.Blanks.{unblanked}
+use Rattle.final_cond.specs.declared.{cond.TheConstants.MAX_TERMS, cond.Quantifier.Quantifier, read.Follow.Follow}
+use Rattle.text_parts_laws.specs.{Blanks.unblanked, ReadingSteps.◌>>=◌}
 use Rattle.final_cond.specs.Conditions.{TermSeen}
 use Rattle.final_cond.specs.ConditionReading.{Fault, opening_read, follow_read, end_at_start}
 use Rattle.arch_trait.specs.Writing.{Writing}
-use Rattle.litmus_text.specs.declared.errors.TestKind.{TestKind}
-use Rattle.litmus_text.specs.declared.errors.TestKind.TheVariants.{TooLarge}
-use Rattle.litmus_text.specs.declared.errors.TextError.{TextError}
-use Rattle.litmus_text.specs.TextLines.{bad}
-use Rattle.text_parts_laws.specs.ReadingSteps.{◌>>=◌}
+use Rattle.litmus_text.specs.declared.errors.{TestKind.TestKind, TestKind.TheVariants.TooLarge, TextError.TextError}
+use Rattle.litmus_text.specs.{TextLines.bad, Condition.condition_of, Condition.cond_here, ConditionScan.none_over, ConditionScan.cond_scanned}
 use Rattle.litmus_text.specs.Condition.{Setting, at_begin, TermsFormed, faulty_with}
 use Rattle.litmus_text.specs.Condition.{term_formed, followed_by, terms_formed, lines_over, names_with, CondRead}
-use Rattle.litmus_text.specs.Condition.{condition_of, cond_here}
 use Rattle.litmus_text.specs.ConditionScan.{Mentioned, TermRead, TermsRead, term_here, terms_here, and_more}
-use Rattle.litmus_text.specs.ConditionScan.{none_over, cond_scanned}
 
 -- the terms that were read, and what they say of places
 abbrev Scanned : Type 0

@@ -1,10 +1,7 @@
 -- Cuts and splits of printed texts.
 use Rattle.std.proofs.Common.{◌≡◌, ◌==◌, ℕ, List, [], ◌∷◌, ◌++◌, true, false, get_or, refl}
-use Rattle.std.specs.Prelude.{not}
-use Rattle.std.specs.List.{All}
-use Rattle.std.proofs.lemmas.Bool.{eq-eqb, not-true}
-use Rattle.std.proofs.lemmas.List.Sums.{AllPass-from_list_all}
-use Rattle.std.proofs.lemmas.List.Splits.{slice_split_none, slice_split_at}
+use Rattle.std.specs.{Prelude.not, List.All}
+use Rattle.std.proofs.lemmas.{Bool.eq-eqb, Bool.not-true, List.Sums.AllPass-from_list_all, List.Splits.slice_split_none, List.Splits.slice_split_at}
 use Rattle.text_parts_laws.specs.Cuts.{is_without}
 use Rattle.litmus_text.specs.TextCuts.{pieces}
 

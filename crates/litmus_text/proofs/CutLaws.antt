@@ -1,13 +1,8 @@
 -- The pieces of a text that is cut, and lines that are passed over.
 use Rattle.std.proofs.Common.{◌≡◌, ◌==◌, ℕ, List, [], ◌∷◌, true, false, length, refl, sym, ap, ◌∙◌, arith}
-use Rattle.std.specs.Prelude.{◌||◌}
-use Rattle.std.specs.List.{list_all}
-use Rattle.text_parts_laws.specs.LeadingRuns.{after_run}
-use Rattle.text_parts_laws.specs.Blanks.{is_blank, before_blanks, trim_blanks}
-use Rattle.text_parts_laws.specs.Words.{is_nil}
-use Rattle.text_parts_laws.specs.Cuts.{CutParts}
-use Rattle.litmus_text.specs.TextCuts.{pieces}
-use Rattle.litmus_text.specs.TextLines.{is_comment, is_passed}
+use Rattle.std.specs.{Prelude.◌||◌, List.list_all}
+use Rattle.text_parts_laws.specs.{LeadingRuns.after_run, Blanks.is_blank, Blanks.before_blanks, Blanks.trim_blanks, Words.is_nil, Cuts.CutParts}
+use Rattle.litmus_text.specs.{TextCuts.pieces, TextLines.is_comment, TextLines.is_passed}
 use Rattle.litmus_text.proofs.CutBack.{piece_back}
 
 -- the pieces of a text that is cut are the first text and the pieces of the second

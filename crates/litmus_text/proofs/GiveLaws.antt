@@ -1,7 +1,6 @@
 -- What a part answers where a part of it fails.
 use Rattle.std.proofs.Common.{◌≡◌, Result, Err, arith}
-use Rattle.litmus_text.specs.declared.errors.TextError.{TextError}
-use Rattle.litmus_text.specs.declared.errors.ReadError.{ReadError}
+use Rattle.litmus_text.specs.declared.errors.{TextError.TextError, ReadError.ReadError}
 use Rattle.litmus_text.specs.ReadingAnswers.{GivesInMemory}
 
 -- an error is what a definition gives, or there is no memory

@@ -1,31 +1,19 @@
 -- The printed header and the printed edges are read back.
 use Rattle.std.proofs.Common.{◌≡◌, ◌==◌, ℕ, List, [], ◌∷◌, ◌++◌, Some, Ok, true, false, take, refl, ap, arith}
 use Rattle.std.specs.Prelude.{Bool, not, ◌&&◌, codes}
-use Rattle.std.specs.List.{list_all, flat_map, join_by}
-use Rattle.std.specs.Str.{bytes_eq}
+use Rattle.std.specs.{List.list_all, List.flat_map, List.join_by, Str.bytes_eq}
 use Rattle.std.proofs.lemmas.Bool.{and_parts}
-use Rattle.list_laws.proofs.Elements.{list_all-weaker}
-use Rattle.list_laws.proofs.Cases.{by_test}
-use Rattle.relax_edges.specs.declared.kinds.ArchName.{ArchName}
+use Rattle.list_laws.proofs.{Elements.list_all-weaker, Cases.by_test}
+use Rattle.relax_edges.specs.declared.{kinds.ArchName.ArchName, edge.Edge.Edge}
 use Rattle.relax_edges.specs.declared.kinds.ArchName.TheVariants.{X86, PPC, AArch64, RISCV, ARM}
-use Rattle.relax_edges.specs.declared.edge.Edge.{Edge}
-use Rattle.relax_edges.specs.Architectures.{arch_word}
-use Rattle.relax_edges.specs.WordParts.{word_of}
-use Rattle.relax_edges.specs.AllEdges.{edges_in_order}
+use Rattle.relax_edges.specs.{Architectures.arch_word, WordParts.word_of, AllEdges.edges_in_order}
 use Rattle.edge_algebra_laws.proofs.RankLaws.{each_edge}
-use Rattle.text_parts_laws.specs.Blanks.{is_blank}
-use Rattle.text_parts_laws.specs.LeadingRuns.{leading_run}
+use Rattle.text_parts_laws.specs.{Blanks.is_blank, LeadingRuns.leading_run, Words.words, Names.is_name_byte}
 use Rattle.arch_trait.specs.Cells.{is_line_byte}
-use Rattle.litmus_text.specs.TextLines.{Lines, line, is_passed}
-use Rattle.text_parts_laws.specs.Words.{words}
+use Rattle.litmus_text.specs.{TextLines.Lines, TextLines.line, TextLines.is_passed, Printable.IsTestName, TestText.header_line, TestText.edges_line}
 use Rattle.litmus_text.specs.Header.{header_read, quote_read, is_setting, after_settings, quote_cut}
-use Rattle.text_parts_laws.specs.Names.{is_name_byte}
-use Rattle.litmus_text.specs.Printable.{IsTestName}
-use Rattle.litmus_text.specs.TestText.{header_line, edges_line}
-use Rattle.text_parts_laws.proofs.BlankLaws.{trimmed_class}
-use Rattle.text_parts_laws.proofs.WordLaws.{words_both, one_word}
-use Rattle.text_parts_laws.proofs.OrderLaws.{bytes_same}
-use Rattle.text_parts_laws.proofs.CutLaws.{cut_back, all_both, without_class}
+use Rattle.text_parts_laws.proofs.{BlankLaws.trimmed_class, WordLaws.words_both, WordLaws.one_word, OrderLaws.bytes_same, CutLaws.cut_back}
+use Rattle.text_parts_laws.proofs.{CutLaws.all_both, CutLaws.without_class}
 use Rattle.litmus_text.proofs.LineBack.{IsLine}
 
 -- a name byte is one of a line, and no blank

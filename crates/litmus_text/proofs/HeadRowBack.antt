@@ -1,26 +1,15 @@
 -- The printed header of the table is read back.
 use Rattle.std.proofs.Common.{◌≡◌, ◌<◌, ◌≤◌, ◌+◌, ◌^◌, ℕ, List, [], ◌∷◌, Ok, true, length, map, refl, sym, ap, ◌∙◌, arith, append_assoc, add-zero, zero-add}
-use Rattle.std.specs.Prelude.{not, nat_lt}
-use Rattle.std.specs.Fmt.{decimal}
-use Rattle.std.specs.List.{list_all, AllByRecursion, enumerate_from}
-use Rattle.std.proofs.lemmas.Bool.{and_from}
-use Rattle.std.proofs.lemmas.List.{replicate_more}
-use Rattle.text_parts_laws.specs.Names.{is_place_byte}
-use Rattle.text_parts_laws.specs.Blanks.{is_blank, trim_blanks}
-use Rattle.text_parts_laws.specs.LeadingRuns.{after_run}
-use Rattle.arch_trait.specs.Threads.{ThreadCode}
-use Rattle.arch_trait.specs.Writing.{Writing}
-use Rattle.litmus_text.specs.TextLines.{Lines, line}
-use Rattle.litmus_text.specs.InitialState.{Begun}
+use Rattle.std.specs.{Prelude.not, Prelude.nat_lt, Fmt.decimal, List.list_all, List.AllByRecursion, List.enumerate_from}
+use Rattle.std.proofs.lemmas.{Bool.and_from, List.replicate_more}
+use Rattle.text_parts_laws.specs.{Names.is_place_byte, Blanks.is_blank, Blanks.trim_blanks, LeadingRuns.after_run}
+use Rattle.arch_trait.specs.{Threads.ThreadCode, Writing.Writing}
+use Rattle.litmus_text.specs.{TextLines.Lines, TextLines.line, InitialState.Begun, Printable.is_row_byte}
 use Rattle.litmus_text.specs.TestTable.{Cells, is_head, heads_read, head_read}
 use Rattle.litmus_text.specs.TestText.{column_of, columns_of, cell_text, row_line}
-use Rattle.litmus_text.specs.Printable.{is_row_byte}
-use Rattle.text_parts_laws.proofs.NameLaws.{decimal_passes}
-use Rattle.text_parts_laws.proofs.OrderLaws.{bytes_same}
-use Rattle.text_parts_laws.proofs.CutLaws.{all_both}
-use Rattle.text_parts_laws.proofs.BlankLaws.{before_padded, inked_ends, spaces_class}
-use Rattle.litmus_text.proofs.CellBack.{padded}
-use Rattle.litmus_text.proofs.LineBack.{IsLine}
+use Rattle.text_parts_laws.proofs.{NameLaws.decimal_passes, OrderLaws.bytes_same, CutLaws.all_both, BlankLaws.before_padded, BlankLaws.inked_ends}
+use Rattle.text_parts_laws.proofs.{BlankLaws.spaces_class}
+use Rattle.litmus_text.proofs.{CellBack.padded, LineBack.IsLine}
 use Rattle.litmus_text.proofs.TableBack.{spaced, row_cells, cells_without, row_line_is}
 
 place_on_row : (b : ℕ) → is_place_byte b ≡ true → is_row_byte b ≡ true

@@ -2,28 +2,18 @@
 use Rattle.std.proofs.Common.{◌≡◌, ◌≤◌, ◌+◌, ◌==◌, ℕ, List, [], ◌∷◌, ◌++◌, Ok, true, false, length, length-append, map, refl, sym, ap, ◌∙◌, arith, append_assoc, append-nil}
 use Rattle.std.specs.Prelude.{Bool, not, ◌&&◌, nat_lt, codes}
 use Rattle.std.specs.List.{list_all, flat_map, join_by, AllByRecursion, enumerate_from}
-use Rattle.std.proofs.lemmas.Bool.{lt-ltb, and_parts, and_from}
+use Rattle.std.proofs.lemmas.{Bool.lt-ltb, Bool.and_parts, Bool.and_from, List.Concat.flat_map-append, List.Folds.list_all-append}
 use Rattle.relax_edges.specs.declared.kinds.Value.TheVariants as values
-use Rattle.arch_trait.specs.Cells.{is_line_byte}
-use Rattle.litmus_text.specs.Placing.{place_in}
-use Rattle.std.proofs.lemmas.List.Concat.{flat_map-append}
-use Rattle.std.proofs.lemmas.List.Folds.{list_all-append}
+use Rattle.arch_trait.specs.{Cells.is_line_byte, Threads.Puts, Threads.ThreadCode, Writing.Writing, Writing.WritesBack, Writing.name_in}
+use Rattle.litmus_text.specs.{Placing.place_in, TextLines.Lines, TextLines.ends, TextLines.line, Joined.Joined, Joined.no_text, Joined.with_text}
+use Rattle.litmus_text.specs.{TestText.item_text, TestText.items_lines, TestText.initial_lines}
 use Rattle.list_laws.proofs.Elements.{list_all-weaker, all_append, all_parts}
-use Rattle.text_parts_laws.specs.Blanks.{is_blank}
-use Rattle.arch_trait.specs.Threads.{Puts, ThreadCode}
-use Rattle.arch_trait.specs.Writing.{Writing, WritesBack, name_in}
-use Rattle.litmus_text.specs.TextLines.{Lines, ends, line}
-use Rattle.text_parts_laws.specs.ReadingSteps.{◌>>=◌}
-use Rattle.litmus_text.specs.Joined.{Joined, no_text, with_text}
+use Rattle.text_parts_laws.specs.{Blanks.is_blank, ReadingSteps.◌>>=◌, Cuts.is_without}
 use Rattle.litmus_text.specs.InitialState.{closed, braced, brace_ends, braced_read, initial_read}
-use Rattle.litmus_text.specs.TestText.{item_text, items_lines, initial_lines}
 use Rattle.litmus_text.specs.Items.{Link, links_of, links_mention, link_values, links_once, LinkFits}
-use Rattle.text_parts_laws.specs.Cuts.{is_without}
 use Rattle.text_parts_laws.proofs.CutLaws.{cut_back, cut_none, all_both, without_class}
-use Rattle.litmus_text.proofs.ElementLaws.{all_weaker}
-use Rattle.litmus_text.proofs.LineBack.{IsLine, before}
-use Rattle.litmus_text.proofs.HeadBack.{line_is, not_all_blank}
-use Rattle.litmus_text.proofs.NamesBack.{Within, IsAmong}
+use Rattle.litmus_text.proofs.{ElementLaws.all_weaker, LineBack.IsLine, LineBack.before, HeadBack.line_is, HeadBack.not_all_blank, NamesBack.Within}
+use Rattle.litmus_text.proofs.{NamesBack.IsAmong}
 use Rattle.litmus_text.proofs.ItemBack.{core, core_is, core_bytes, is_item_byte, all_items_back}
 
 -- the text between braces that lines give

@@ -3,8 +3,7 @@ use Rattle.std.proofs.Common.{◌≡◌, ◌≢◌, ℕ, List, [], ◌++◌, len
 use Rattle.std.specs.Prelude.{codes, Bool, true, false, nat_eq}
 use Rattle.std.proofs.lemmas.Bool.{eqb-true, eqb-false}
 use Rattle.std.specs.List.{flat_map, join_by}
-use Rattle.arch_trait.specs.Threads.{ThreadCode}
-use Rattle.arch_trait.specs.Writing.{Writing}
+use Rattle.arch_trait.specs.{Threads.ThreadCode, Writing.Writing}
 use Rattle.litmus_text.specs.TestText.{item_text, items_lines, with_line_feed}
 
 -- the lines of the items of a thread, as they are printed

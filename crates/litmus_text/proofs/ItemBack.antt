@@ -4,39 +4,25 @@ use Rattle.std.specs.Prelude.{Bool, not, ◌&&◌, ◌||◌, Option, nat_lt}
 use Rattle.std.specs.List.{list_all, list_any, flat_map, position_from, IsDistinct, AllByRecursion}
 use Rattle.std.specs.Str.{bytes_eq}
 use Rattle.std.proofs.lemmas.Bool.{lt-ltb, not-true, and_parts, and_from}
-use Rattle.std.proofs.lemmas.Bool.Decides.{nat_tests}
-use Rattle.std.proofs.lemmas.List.Sums.{AllPass-from_list_all}
+use Rattle.std.proofs.lemmas.{Bool.Decides.nat_tests, List.Sums.AllPass-from_list_all}
 use Rattle.list_laws.proofs.Elements.{list_all-weaker}
 use Rattle.relax_edges.specs.declared.kinds.Value.TheVariants as values
 use Rattle.final_cond.specs.declared.errors.CondKind.TheVariants.{BadTerm}
-use Rattle.text_parts_laws.specs.Names.{is_place_name, is_register_name, is_place_byte}
-use Rattle.text_parts_laws.specs.NumberTexts.{number_of}
+use Rattle.text_parts_laws.specs.{Names.is_place_name, Names.is_register_name, Names.is_place_byte, NumberTexts.number_of, LeadingRuns.after_run}
+use Rattle.text_parts_laws.specs.{Cuts.cut_at, Cuts.is_without}
 use Rattle.text_parts_laws.specs.Blanks.{is_blank, unblanked, before_blanks, trim_blanks}
-use Rattle.text_parts_laws.specs.LeadingRuns.{after_run}
-use Rattle.final_cond.specs.Conditions.{LeftSeen, InRegister}
-use Rattle.final_cond.specs.CondText.{left_text}
+use Rattle.final_cond.specs.{Conditions.LeftSeen, Conditions.InRegister, CondText.left_text, CondTextLaws.PassLeft, CondTextLaws.left_passes}
 use Rattle.final_cond.specs.ConditionReading.{found, only_known, left_at_start, left_read, has_form}
-use Rattle.final_cond.specs.CondTextLaws.{PassLeft, left_passes}
-use Rattle.text_parts_laws.proofs.NameLaws.{place_passes}
+use Rattle.text_parts_laws.proofs.{NameLaws.place_passes, NumberLaws.not_digits, OrderLaws.bytes_same, CutLaws.cut_back, CutLaws.all_both}
+use Rattle.text_parts_laws.proofs.{CutLaws.without_class, BlankLaws.inked_ends}
 use Rattle.final_cond.proofs.BackLaws.{left_back}
-use Rattle.text_parts_laws.proofs.NumberLaws.{not_digits}
-use Rattle.arch_trait.specs.Threads.{Puts}
-use Rattle.arch_trait.specs.PlaceNames.{number_in, names_added}
-use Rattle.arch_trait.specs.Writing.{Writing, WritesBack, name_in}
-use Rattle.arch_trait.specs.Cells.{is_line_byte}
-use Rattle.text_parts_laws.specs.Cuts.{cut_at, is_without}
-use Rattle.litmus_text.specs.TextCuts.{pieces}
-use Rattle.litmus_text.specs.Joined.{Joined}
+use Rattle.arch_trait.specs.{Threads.Puts, PlaceNames.number_in, PlaceNames.names_added, Writing.Writing, Writing.WritesBack, Writing.name_in}
+use Rattle.arch_trait.specs.{Cells.is_line_byte}
+use Rattle.litmus_text.specs.{TextCuts.pieces, Joined.Joined, TestText.item_text, Placing.place_in}
 use Rattle.litmus_text.specs.InitialState.{gives, a_place, worth_of, worth_if, item_parts, some_item, item_of, Begun, nothing_begun, is_given, item_read, items_read}
-use Rattle.litmus_text.specs.TestText.{item_text}
-use Rattle.litmus_text.specs.Placing.{place_in}
 use Rattle.litmus_text.specs.Items.{Link, links_mention, link_values, links_once, LinkFits}
-use Rattle.litmus_text.proofs.CutBack.{piece_back, piece_last}
-use Rattle.text_parts_laws.proofs.OrderLaws.{bytes_same}
-use Rattle.text_parts_laws.proofs.CutLaws.{cut_back, all_both, without_class}
+use Rattle.litmus_text.proofs.{CutBack.piece_back, CutBack.piece_last, RowBack.added_within}
 use Rattle.litmus_text.proofs.NamesBack.{Within, within_self, within_trans, within_number, IsAmong, place_added}
-use Rattle.litmus_text.proofs.RowBack.{added_within}
-use Rattle.text_parts_laws.proofs.BlankLaws.{inked_ends}
 
 -- a byte of an item: one of a line that is no blank and ends neither an item nor the initial state
 abbrev pub is_item_byte : ℕ → Bool

@@ -1,17 +1,13 @@
 -- The item of a text, by what the reading of conditions knows of its left side.
 use Rattle.std.proofs.Common.{◌≡◌, ◌==◌, ◌+◌, ℕ, List, [], ◌∷◌, Option, Some, None, Ok, Err, true, false, length, refl, arith}
-use Rattle.std.specs.Prelude.{cond}
-use Rattle.std.specs.List.{list_all, position_from}
-use Rattle.std.specs.Str.{bytes_eq}
+use Rattle.std.specs.{Prelude.cond, List.list_all, List.position_from, Str.bytes_eq}
 use Rattle.std.proofs.lemmas.Slice.Eq.{bytes_eq-Decides}
 use Rattle.final_cond.specs.declared.errors.CondKind.TheVariants.{BadTerm}
-use Rattle.text_parts_laws.specs.Blanks.{unblanked, trim_blanks}
+use Rattle.text_parts_laws.specs.{Blanks.unblanked, Blanks.trim_blanks, Names.is_register_name, Words.is_nil}
 use Rattle.text_parts_laws.proofs.BlankLaws.{trimmed_start}
 use Rattle.final_cond.specs.Conditions.{LeftSeen}
-use Rattle.text_parts_laws.specs.Names.{is_register_name}
 use Rattle.final_cond.specs.ConditionReading.{Fault, found, left_at_start, left_read, only_known, has_form}
 use Rattle.arch_trait.specs.Writing.{Writing}
-use Rattle.text_parts_laws.specs.Words.{is_nil}
 use Rattle.litmus_text.specs.InitialState.{item_with, whole_left, item_if}
 
 -- a name without the form of a register's is no register's

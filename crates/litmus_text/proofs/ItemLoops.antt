@@ -2,16 +2,11 @@
 use Rattle.std.proofs.Common.{◌≡◌, ◌==◌, ◌+◌, ℕ, List, [], ◌∷◌, Some, None, Result, Ok, Err, true, length, refl, sym, ap, ◌∙◌, append_assoc, arith}
 use Rattle.litmus_text.specs.declared.errors.TextError.{TextError}
 use Rattle.arch_trait.specs.Writing.{Writing}
-use Rattle.text_parts_laws.specs.Cuts.{cut_at, CutParts, is_without}
-use Rattle.litmus_text.specs.TextCuts.{pieces}
-use Rattle.litmus_text.specs.TextLines.{Lines, ends, line}
-use Rattle.text_parts_laws.specs.ReadingSteps.{◌>>=◌}
-use Rattle.litmus_text.specs.Joined.{Joined, with_text, all_joined}
-use Rattle.text_parts_laws.specs.Lines.{but_last}
+use Rattle.text_parts_laws.specs.{Cuts.cut_at, Cuts.CutParts, Cuts.is_without, ReadingSteps.◌>>=◌, Lines.but_last}
+use Rattle.litmus_text.specs.{TextCuts.pieces, TextLines.Lines, TextLines.ends, TextLines.line, Joined.Joined, Joined.with_text, Joined.all_joined}
 use Rattle.litmus_text.specs.InitialState.{Begun, item_read, items_read, closed, open_to, braced}
-use Rattle.litmus_text.proofs.CutBack.{piece_last}
+use Rattle.litmus_text.proofs.{CutBack.piece_last, CutLaws.pieces_cut}
 use Rattle.text_parts_laws.proofs.PieceLaws.{first_piece}
-use Rattle.litmus_text.proofs.CutLaws.{pieces_cut}
 
 -- a blank and a line after a text
 pub blank_before : (j : Joined) (n : ℕ) (text : List ℕ) → with_text (with_text j n (32 ∷ [])) n text ≡ with_text j n (32 ∷ text)

@@ -2,10 +2,8 @@
 use Rattle.std.proofs.Common.{◌≡◌, ◌≤◌, ◌<◌, ◌≢◌, ◌+◌, ◌*◌, ℕ, List, [], ◌∷◌, ◌++◌, length, take, get_or}
 use Rattle.std.proofs.Common.{refl, sym, ap, ◌∙◌, arith, append_assoc, append-nil, length-append}
 use Rattle.std.specs.List.{join_by}
-use Rattle.std.proofs.lemmas.List.{take_more, length-take-le, take_all}
-use Rattle.std.proofs.lemmas.List.Concat.{flat_map-append}
-use Rattle.diy_io.specs.Page.{page_after}
-use Rattle.diy_io.specs.PageLaws.{page_nothing, page_more}
+use Rattle.std.proofs.lemmas.{List.take_more, List.length-take-le, List.take_all, List.Concat.flat_map-append}
+use Rattle.diy_io.specs.{Page.page_after, PageLaws.page_nothing, PageLaws.page_more}
 use Rattle.litmus_text.specs.Separators.{separator_at}
 
 -- before the first element there is no separator

@@ -3,10 +3,8 @@ use Rattle.std.proofs.Common.{◌≡◌, ◌<◌, ◌≤◌, ◌+◌, ℕ, suc, 
 use Rattle.std.proofs.Common.{set, sym, ap, ◌∙◌, arith, append_assoc, append-nil}
 use Rattle.std.proofs.lemmas.List.{get_or-take, take_more_set, map-set, get_or_append_left, get_or-append-add, length-append, length-map, take-append-le, take_more, take_all}
 use Rattle.arch_trait.specs.declared.code.Code.{Code}
-use Rattle.arch_trait.specs.Writing.{Writing}
-use Rattle.arch_trait.specs.Codes.{thread_code_of}
-use Rattle.litmus_text.specs.TestText.{column_of, columns_of}
-use Rattle.litmus_text.specs.KeptCells.{all_texts, HoldsColumn}
+use Rattle.arch_trait.specs.{Writing.Writing, Codes.thread_code_of}
+use Rattle.litmus_text.specs.{TestText.column_of, TestText.columns_of, KeptCells.all_texts, KeptCells.HoldsColumn}
 use Rattle.litmus_text.proofs.TableLaws.{column_at, length_columns, length-column_of, widest, widest_more}
 
 length_take : (n : ℕ) (xs : List (List ℕ)) → length (take n xs) ≤ n

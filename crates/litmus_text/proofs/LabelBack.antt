@@ -1,14 +1,11 @@
 -- The labels of printed threads are judged to be right: each is in its thread once, after the branch.
 use Rattle.std.proofs.Common.{◌≡◌, ◌+◌, ℕ, List, [], ◌∷◌, Ok, true, map, refl, arith}
-use Rattle.std.specs.Prelude.{count_by}
-use Rattle.std.specs.List.{AllByRecursion}
+use Rattle.std.specs.{Prelude.count_by, List.AllByRecursion}
 use Rattle.std.proofs.lemmas.List.Sums.{sum_by-cons}
 use Rattle.micro_ops.specs.declared.operation.Micro.{Micro}
 use Rattle.micro_ops.specs.declared.operation.Micro.TheVariants as ops
 use Rattle.litmus_text.specs.TestTable.{is_label_of, is_label_row, comes_once, lands_among, labels_judged, all_labels_judged}
-use Rattle.litmus_text.specs.Placing.{op_renumbered}
-use Rattle.litmus_text.specs.TablePlan.{placed_from, column_so_far}
-use Rattle.litmus_text.specs.Progress.{code_lands}
+use Rattle.litmus_text.specs.{Placing.op_renumbered, TablePlan.placed_from, TablePlan.column_so_far, Progress.code_lands}
 
 label_kept : (label : ℕ) (table : List (List ℕ)) (names : ℕ → List ℕ) (op : Micro) → is_label_of label (op_renumbered table names op) ≡ is_label_of label op
 label_kept label table names op = grind arith

@@ -6,9 +6,7 @@ use Rattle.litmus_text.specs.TextLines.{Lines, ends, line, is_passed, lines_in, 
 use Rattle.text_parts_laws.specs.Lines.{is_line_feed}
 use Rattle.litmus_text.specs.TestText.{with_line_feed}
 use Rattle.litmus_text.proofs.CutBack.{piece_back}
-use Rattle.text_parts_laws.proofs.CutLaws.{without_class}
-use Rattle.text_parts_laws.proofs.LineLaws.{class_kept}
-use Rattle.text_parts_laws.proofs.PieceLaws.{first_piece}
+use Rattle.text_parts_laws.proofs.{CutLaws.without_class, LineLaws.class_kept, PieceLaws.first_piece}
 
 -- a line of printed bytes that isn't passed over
 pub record IsLine (text : List ℕ) : Type 0 where

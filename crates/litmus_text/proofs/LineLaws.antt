@@ -2,11 +2,9 @@
 use Rattle.std.proofs.Common.{◌≡◌, ◌==◌, ◌+◌, ◌<◌, ℕ, suc, List, [], ◌∷◌, true, length, refl, sym, ap, arith}
 use Rattle.std.proofs.lemmas.Bool.{eqb-true}
 use Rattle.litmus_text.specs.TextLines.{ends, line_kept, lines_in, lines_from}
-use Rattle.text_parts_laws.specs.Lines.{without_return, is_line_feed}
-use Rattle.text_parts_laws.specs.Cuts.{CutParts, is_without}
-use Rattle.litmus_text.proofs.CutBack.{piece_last}
+use Rattle.text_parts_laws.specs.{Lines.without_return, Lines.is_line_feed, Cuts.CutParts, Cuts.is_without}
+use Rattle.litmus_text.proofs.{CutBack.piece_last, CutLaws.pieces_cut}
 use Rattle.text_parts_laws.proofs.PieceLaws.{first_piece}
-use Rattle.litmus_text.proofs.CutLaws.{pieces_cut}
 
 -- a text without bytes has no lines
 pub no_lines : (n : ℕ) → lines_from n [] ≡ ends n

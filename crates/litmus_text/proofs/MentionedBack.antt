@@ -1,32 +1,21 @@
 -- All names that a test uses are in the table of its reading.
 use Rattle.std.proofs.Common.{◌≡◌, ◌≤◌, ◌+◌, ℕ, suc, List, [], ◌∷◌, true, length, map, refl, sym, ap, subst, arith}
-use Rattle.std.specs.Prelude.{is_some}
-use Rattle.std.specs.List.{AllByRecursion, range_with_len}
-use Rattle.std.proofs.lemmas.List.{length-map}
-use Rattle.std.proofs.lemmas.List.FromFn.{length-range_with_len}
-use Rattle.std.proofs.lemmas.Bool.{and_parts}
+use Rattle.std.specs.{Prelude.is_some, List.AllByRecursion, List.range_with_len}
+use Rattle.std.proofs.lemmas.{List.length-map, List.FromFn.length-range_with_len, Bool.and_parts}
 use Rattle.relax_edges.specs.declared.kinds.ArchName.{ArchName}
 use Rattle.micro_ops.specs.declared.operation.Micro.{Micro}
 use Rattle.micro_ops.specs.declared.operation.Micro.TheVariants as ops
 use Rattle.final_cond.specs.Conditions.{TermSeen}
-use Rattle.arch_trait.specs.Threads.{Puts, ThreadCode}
-use Rattle.arch_trait.specs.PlaceNames.{number_in, names_added}
-use Rattle.arch_trait.specs.Writing.{Writing, WritesBack, name_in}
-use Rattle.arch_trait.specs.Cells.{WritesCells, access_count}
-use Rattle.arch_trait.specs.LabelOrder.{labels_in}
-use Rattle.arch_trait.specs.SeenTests.{TestSeen}
-use Rattle.litmus_text.specs.TestText.{columns_of, row_line}
-use Rattle.litmus_text.specs.Placing.{mentioned}
+use Rattle.arch_trait.specs.{Threads.Puts, Threads.ThreadCode, PlaceNames.number_in, PlaceNames.names_added, Writing.Writing, Writing.WritesBack}
+use Rattle.arch_trait.specs.{Writing.name_in, Cells.WritesCells, Cells.access_count, LabelOrder.labels_in, SeenTests.TestSeen}
+use Rattle.litmus_text.specs.{TestText.columns_of, TestText.row_line, Placing.mentioned, ReadTerms.left_mention, ReadTerms.terms_mention}
+use Rattle.litmus_text.specs.{ReadTerms.TermFits, Reread.IsReadable}
 use Rattle.litmus_text.specs.Progress.{RowProgress, advanced, mentioned_first, row_mentions, is_placed, CodeFits}
 use Rattle.litmus_text.specs.Items.{Link, links_of, links_mention, LinkFits}
-use Rattle.litmus_text.specs.ReadTerms.{left_mention, terms_mention, TermFits}
-use Rattle.litmus_text.specs.Reread.{IsReadable}
 use Rattle.litmus_text.specs.Mentioned.{is_in, op_is_in, left_is_in, TestReadsBack}
 use Rattle.litmus_text.proofs.NamesBack.{Within, within_self, within_trans, within_number, numbered_in, IsAmong, place_added, none_among}
-use Rattle.litmus_text.proofs.ItemBack.{links_within, links_among}
+use Rattle.litmus_text.proofs.{ItemBack.links_within, ItemBack.links_among, TableBack.at_row, CondBack.terms_within, CondBack.term_among}
 use Rattle.litmus_text.proofs.RowBack.{IsReady, row_within, rows_mention, rows_within, all_advance, row_among, mention_among, rows_among}
-use Rattle.litmus_text.proofs.TableBack.{at_row}
-use Rattle.litmus_text.proofs.CondBack.{terms_within, term_among}
 use Rattle.litmus_text.proofs.WholeBack.{longest, covers, start_ready, drop_none, mentions, whole_back}
 
 -- a name of a table is in a larger one

@@ -3,16 +3,11 @@ use Rattle.std.proofs.Common.{◌≡◌, ◌<◌, ◌≤◌, ◌+◌, ◌-◌, �
 use Rattle.std.specs.Prelude.{Bool, Option, nat_lt, is_some}
 use Rattle.std.specs.List.{list_any, position_from, IsDistinct, AllByRecursion}
 use Rattle.std.specs.Str.{bytes_eq}
-use Rattle.std.proofs.Math.Dec.{eqb}
-use Rattle.std.proofs.lemmas.List.{length-map}
-use Rattle.std.proofs.lemmas.Map.Steps.{length-le_from_distinct_below}
-use Rattle.std.proofs.lemmas.Slice.Eq.{bytes_eq-Decides}
+use Rattle.std.proofs.{Math.Dec.eqb, lemmas.List.length-map, lemmas.Map.Steps.length-le_from_distinct_below, lemmas.Slice.Eq.bytes_eq-Decides}
 use Rattle.arch_trait.specs.PlaceNames.{number_in, number_added, names_added, number_or_next, with_name}
 use Rattle.litmus_text.specs.Placing.{place_in}
 use Rattle.text_parts_laws.proofs.OrderLaws.{bytes_same}
-use Rattle.list_laws.proofs.Places.{none_passes}
-use Rattle.list_laws.proofs.Distinct.{distinct_push}
-use Rattle.list_laws.proofs.Elements.{all_append}
+use Rattle.list_laws.proofs.{Places.none_passes, Distinct.distinct_push, Elements.all_append}
 
 none_some : {i : ℕ} {G : Type 0} → None ≡ Some i → G
 none_some e = cc

@@ -1,8 +1,7 @@
 -- The name of an operation gets the number that the plan of the columns has for it.
 use Rattle.std.proofs.Common.{◌≡◌, ◌<◌, ◌≤◌, ◌+◌, ◌==◌, ℕ, zero, suc, List, Some, None, Ok, true, cond, length, map, max, refl, sym, ap, ◌∙◌, arith, zero-add, inl, inr}
 use Rattle.std.specs.Prelude.{◌&&◌, nat_lt, nat_le, is_some, Err}
-use Rattle.std.specs.List.{list_all, position_from, range_with_len}
-use Rattle.std.specs.Str.{bytes_eq}
+use Rattle.std.specs.{List.list_all, List.position_from, List.range_with_len, Str.bytes_eq}
 use Rattle.std.proofs.lemmas.Bool.{eqb-false, lt-ltb, cases_lt, leb-true, ltb-true, and_parts}
 use Rattle.std.proofs.lemmas.List.Sums.{AllPass-from_list_all}
 use Rattle.std.proofs.lemmas.List.FromFn.{get_or-range_with_len, map-range_with_len_more, length-map-range_with_len}
@@ -12,12 +11,9 @@ use Rattle.micro_ops.specs.declared.operation.Micro.{Micro}
 use Rattle.micro_ops.specs.declared.operation.Micro.TheVariants as ops
 use Rattle.arch_trait.specs.declared.reading.InstrError.TheVariants as errors
 use Rattle.arch_trait.specs.PlaceNames.{number_in, number_added, names_added, number_or_next, with_name}
-use Rattle.arch_trait.specs.InstructionReading.{read_numbered, with_place, with_label}
-use Rattle.arch_trait.specs.Writing.{op_name, with_number, label_name}
-use Rattle.arch_trait.specs.LabelOrder.{is_next, labels_after}
-use Rattle.litmus_text.specs.Placing.{place_in, op_renumbered, mentioned}
-use Rattle.litmus_text.specs.Progress.{is_placed}
-use Rattle.litmus_text.specs.TablePlan.{label_table}
+use Rattle.arch_trait.specs.{InstructionReading.read_numbered, InstructionReading.with_place, InstructionReading.with_label, Writing.op_name}
+use Rattle.arch_trait.specs.{Writing.with_number, Writing.label_name, LabelOrder.is_next, LabelOrder.labels_after}
+use Rattle.litmus_text.specs.{Placing.place_in, Placing.op_renumbered, Placing.mentioned, Progress.is_placed, TablePlan.label_table}
 use Rattle.litmus_text.proofs.NamesBack.{Within, within_number, IsAmong, place_added}
 
 label_same : (i j : ℕ) → i < 64 → j < 64 → bytes_eq (label_name i) (label_name j) ≡ (i == j)

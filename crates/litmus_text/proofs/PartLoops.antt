@@ -1,22 +1,15 @@
 -- The values, the operations and the threads of a test, as loops make them.
 use Rattle.std.proofs.Common.{◌≡◌, ◌==◌, ◌+◌, ◌<◌, ℕ, suc, List, [], ◌∷◌, ◌++◌, Option, Ok, Err, true, false, length, length-take, map, get_or, take, drop, refl, sym, ap, ◌∙◌, arith, add-zero}
-use Rattle.std.specs.List.{filter, enumerate_from}
-use Rattle.std.proofs.lemmas.List.Elements.{filter-append}
-use Rattle.std.proofs.Math.Seq.{take-append_seam}
+use Rattle.std.specs.{List.filter, List.enumerate_from, Prelude.Bool}
+use Rattle.std.proofs.{lemmas.List.Elements.filter-append, Math.Seq.take-append_seam, Math.ListN.get_or-map}
 use Rattle.std.proofs.lemmas.List.{map_push, take_more, append-nil, length-map}
-use Rattle.std.specs.Prelude.{Bool}
-use Rattle.relax_edges.specs.declared.kinds.Value.{Value}
-use Rattle.litmus_text.specs.declared.errors.TextError.{TextError}
-use Rattle.std.proofs.Math.ListN.{get_or-map}
-use Rattle.relax_edges.specs.declared.kinds.ArchName.{ArchName}
+use Rattle.relax_edges.specs.declared.kinds.{Value.Value, ArchName.ArchName}
+use Rattle.litmus_text.specs.declared.{errors.TextError.TextError, reading.table.Column.Column as ThreadColumn}
 use Rattle.arch_trait.specs.Writing.{Writing}
 use Rattle.litmus_text.specs.Header.{after_settings, is_setting, header_read, quote_read}
-use Rattle.litmus_text.specs.declared.reading.table.Column.{Column as ThreadColumn}
 use Rattle.litmus_text.specs.Views.{column_seen, rest_read, table_read, body_read}
-use Rattle.litmus_text.specs.TextLines.{Lines, ends, line}
-use Rattle.litmus_text.specs.InitialState.{Begun}
+use Rattle.litmus_text.specs.{TextLines.Lines, TextLines.ends, TextLines.line, InitialState.Begun, TableScan.rows_scanned}
 use Rattle.litmus_text.specs.TestTable.{Column, among, no_columns, all_labels_judged}
-use Rattle.litmus_text.specs.TableScan.{rows_scanned}
 use Rattle.litmus_text.specs.TestReading.{ThreadRead, values_of_thread, threads_of, lines_read}
 use Rattle.litmus_text.proofs.RowsScanned.{rows_same}
 

@@ -1,37 +1,23 @@
 -- Texts of tests that are read, and those that are refused, computed.
 use Rattle.std.proofs.Common.{◌≡◌, ℕ, List, [], ◌∷◌, ◌++◌, Some, None, Ok, cond, refl}
-use Rattle.std.specs.Prelude.{codes, Option, ◌==◌}
-use Rattle.std.specs.List.{flat_map}
-use Rattle.std.specs.Str.{bytes_eq}
-use Rattle.std.specs.Fmt.{digits}
-use Rattle.relax_edges.specs.declared.kinds.ArchName.TheVariants.{X86, PPC}
-use Rattle.relax_edges.specs.declared.kinds.Value.{Value}
+use Rattle.std.specs.{Prelude.codes, Prelude.Option, Prelude.◌==◌, List.flat_map, Str.bytes_eq, Fmt.digits}
+use Rattle.relax_edges.specs.declared.kinds.{ArchName.TheVariants.X86, ArchName.TheVariants.PPC, Value.Value, FenceKind.TheVariants.MFence}
 use Rattle.relax_edges.specs.declared.kinds.Value.TheVariants as values
-use Rattle.relax_edges.specs.declared.kinds.FenceKind.TheVariants.{MFence}
-use Rattle.micro_ops.specs.declared.operation.Micro.{Micro}
+use Rattle.micro_ops.specs.declared.operation.{Micro.Micro, Barrier.TheVariants.Fence}
 use Rattle.micro_ops.specs.declared.operation.Micro.TheVariants as ops
-use Rattle.micro_ops.specs.declared.operation.Barrier.TheVariants.{Fence}
 use Rattle.final_cond.specs.declared.cond.Quantifier.TheVariants.{Exists, NotExists}
-use Rattle.text_parts_laws.specs.LeadingRuns.{leading_run, after_run}
-use Rattle.text_parts_laws.specs.Names.{is_place_name, is_register_name}
-use Rattle.text_parts_laws.specs.NumberTexts.{number_of}
+use Rattle.text_parts_laws.specs.{LeadingRuns.leading_run, LeadingRuns.after_run, Names.is_place_name, Names.is_register_name, NumberTexts.number_of}
+use Rattle.text_parts_laws.specs.{Blanks.before_blanks, Lines.without_return, Cuts.cut_at, Words.words}
 use Rattle.final_cond.specs.Conditions.{LeftSeen, InRegister, AtPlace, TermSeen}
 use Rattle.final_cond.specs.ConditionReading.{opening_read, sign_read, left_read, left_at_start, right_read, value_read, follow_read}
-use Rattle.arch_trait.specs.PlaceNames.{number_in}
-use Rattle.text_parts_laws.specs.Blanks.{before_blanks}
-use Rattle.arch_trait.specs.InstructionReading.{operands_in}
+use Rattle.arch_trait.specs.{PlaceNames.number_in, InstructionReading.operands_in, Cells.ends_rows}
 use Rattle.arch_trait.specs.Writing.{OperandTexts, none, one, two, Written, nothing, place, label, RawInstr, Writing, inside_brackets, immediate_number}
-use Rattle.arch_trait.specs.Cells.{ends_rows}
 use Rattle.litmus_text.specs.declared.errors.TestKind.TheVariants.{BadHeader, BadQuote, BadInit, BadTable, BadInstruction, BadLabel, BadCondition, TooLarge, EndMissing}
 use Rattle.litmus_text.specs.TextLines.{lines_from, lines_in, is_passed, bad}
-use Rattle.text_parts_laws.specs.Lines.{without_return}
-use Rattle.text_parts_laws.specs.Cuts.{cut_at}
-use Rattle.text_parts_laws.specs.Words.{words}
 use Rattle.litmus_text.specs.Header.{header_read, arch_read, quote_read, is_setting, after_settings}
-use Rattle.litmus_text.specs.Joined.{all_joined}
+use Rattle.litmus_text.specs.{Joined.all_joined, Condition.terms_formed, Condition.cond_here, Condition.condition_read}
 use Rattle.litmus_text.specs.InitialState.{item_of, item_read, items_read, braced, initial_read}
 use Rattle.litmus_text.specs.TestTable.{cells_of, heads_read, head_read, rows_read, entries_in, cell_entries, labels_judged, all_labels_judged, after_locations}
-use Rattle.litmus_text.specs.Condition.{terms_formed, cond_here, condition_read}
 use Rattle.litmus_text.specs.TestReading.{ThreadRead, lines_read, test_read, arch_in_text}
 
 x86_registers : List (List ℕ)

@@ -4,13 +4,10 @@ use Rattle.std.specs.List.{position_from}
 use Rattle.relax_edges.specs.declared.kinds.Value.{Value}
 use Rattle.relax_edges.specs.declared.kinds.Value.TheVariants as values
 use Rattle.final_cond.specs.Conditions.{LeftSeen}
-use Rattle.arch_trait.specs.PlaceNames.{number_added, names_added}
+use Rattle.arch_trait.specs.{PlaceNames.number_added, PlaceNames.names_added, Writing.Writing}
 use Rattle.text_parts_laws.specs.Blanks.{trim_blanks}
-use Rattle.arch_trait.specs.Writing.{Writing}
-use Rattle.litmus_text.specs.Joined.{Joined}
-use Rattle.litmus_text.specs.TextLines.{Lines}
+use Rattle.litmus_text.specs.{Joined.Joined, TextLines.Lines, Runnable.AllNameRegisters}
 use Rattle.litmus_text.specs.InitialState.{Worth, a_number, a_place, InitialItem, empty, gives, zero_at, item_with, item_if, item_parts, some_item, item_of, Begun, with_value, address_begun, with_worth, item_put, item_read, items_read, Braced, braced_read, initial_line, initial_read}
-use Rattle.litmus_text.specs.Runnable.{AllNameRegisters}
 use Rattle.litmus_text.proofs.RunnableRead.{Gives, all_push}
 
 -- a position is within the list

@@ -2,33 +2,25 @@
 use Rattle.std.proofs.Common.{◌≡◌, ◌<◌, ◌≤◌, ◌+◌, ℕ, List, [], ◌∷◌, ◌++◌, Ok, true, false, cond, length, map, length-append, refl, sym, ap, ◌∙◌, arith, add-zero, zero-add}
 use Rattle.std.specs.Prelude.{Option, nat_lt, nat_le, is_some, count_by}
 use Rattle.std.specs.List.{list_all, AllByRecursion}
-use Rattle.std.proofs.lemmas.Bool.{lt-ltb, ltb-true, and_parts}
-use Rattle.std.proofs.lemmas.List.Sums.{sum_by-append, sum_by-cons}
-use Rattle.std.proofs.lemmas.Simd.{map-map}
+use Rattle.std.proofs.lemmas.{Bool.lt-ltb, Bool.ltb-true, Bool.and_parts, List.Sums.sum_by-append, List.Sums.sum_by-cons, Simd.map-map}
 use Rattle.list_laws.proofs.Cases.{by_test}
-use Rattle.text_parts_laws.specs.Names.{is_place_name}
+use Rattle.text_parts_laws.specs.{Names.is_place_name, ReadingSteps.◌>>=◌}
 use Rattle.text_parts_laws.proofs.NameLaws.{register_passes}
 use Rattle.micro_ops.specs.declared.operation.Micro.{Micro}
 use Rattle.micro_ops.specs.declared.operation.Micro.TheVariants as ops
-use Rattle.arch_trait.specs.Threads.{Puts}
-use Rattle.arch_trait.specs.PlaceNames.{number_in, names_added}
-use Rattle.arch_trait.specs.InstructionReading.{instr_read}
+use Rattle.arch_trait.specs.{Threads.Puts, PlaceNames.number_in, PlaceNames.names_added, InstructionReading.instr_read, ByteLaws.place_in_cell}
+use Rattle.arch_trait.specs.{LabelOrder.is_next, LabelOrder.labels_after, LabelOrder.labels_in}
 use Rattle.arch_trait.specs.Writing.{Writing, WritesBack, op_text, op_name, is_well_named, label_name}
 use Rattle.arch_trait.proofs.Spelling.{instr_back}
-use Rattle.arch_trait.specs.ByteLaws.{place_in_cell}
 use Rattle.arch_trait.specs.Cells.{WritesCells, access_count, ends_rows, is_access, is_cell_byte, is_label_op}
-use Rattle.arch_trait.specs.LabelOrder.{is_next, labels_after, labels_in}
-use Rattle.litmus_text.specs.TextLines.{Lines, line}
-use Rattle.text_parts_laws.specs.ReadingSteps.{◌>>=◌}
+use Rattle.litmus_text.specs.{TextLines.Lines, TextLines.line, Placing.op_renumbered, Placing.mentioned, TablePlan.placed_from, TablePlan.label_table}
+use Rattle.litmus_text.specs.{TablePlan.column_so_far}
 use Rattle.litmus_text.specs.TestTable.{Column, Among, among, fits_in_column, cells_of}
 use Rattle.litmus_text.specs.TableScan.{instr_put, cell_read, row_read, before_columns, rows_scanned}
-use Rattle.litmus_text.specs.Placing.{op_renumbered, mentioned}
-use Rattle.litmus_text.specs.TablePlan.{placed_from, label_table, column_so_far}
 use Rattle.litmus_text.specs.Progress.{RowProgress, progress, moved, advanced, column_at, mentioned_first, row_mentions, is_placed, OpFits, CodeFits}
-use Rattle.litmus_text.proofs.LineBack.{before}
+use Rattle.litmus_text.proofs.{LineBack.before, OpBack.numbers_back, OpBack.label_formed}
 use Rattle.litmus_text.proofs.NamesBack.{Within, within_self, within_trans, IsAmong, place_added}
 use Rattle.litmus_text.proofs.CellBack.{padded, Begins, empty_back, plain_back, label_back}
-use Rattle.litmus_text.proofs.OpBack.{numbers_back, label_formed}
 
 -- what an operation names has its form
 pub named_op : (op : Micro) (table : List (List ℕ)) (names : ℕ → List ℕ) (count : ℕ) → is_placed table names op ≡ true → is_next count op ≡ true → is_well_named (op_name names op) ≡ true

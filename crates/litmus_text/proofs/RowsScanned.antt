@@ -3,23 +3,14 @@ use Rattle.std.specs.Prelude.{ℕ, zero, suc, ◌+◌, ◌==◌, ◌<◌, ◌≤
 use Rattle.std.specs.Prelude.{List, [], ◌∷◌, ◌++◌, Option, Some, None, Result, Ok, Err, codes, length, map, take}
 use Rattle.std.specs.List.{AllByRecursion, flat_map, enumerate_from, range_with_len}
 use Rattle.std.proofs.Common.{refl, ap, sym, ◌∙◌, append_assoc, arith}
-use Rattle.std.proofs.lemmas.Grind.{flat_map-append}
-use Rattle.std.proofs.lemmas.List.{append-nil}
-use Rattle.std.proofs.lemmas.Bool.{ne_eqb}
-use Rattle.std.proofs.Math.Dec.{eqb-suc-zero, eqb-zero-suc}
+use Rattle.std.proofs.{lemmas.Grind.flat_map-append, lemmas.List.append-nil, lemmas.Bool.ne_eqb, Math.Dec.eqb-suc-zero, Math.Dec.eqb-zero-suc}
 use Rattle.list_laws.proofs.Cases.{by_test}
 use Rattle.micro_ops.specs.declared.operation.Micro.{Micro}
-use Rattle.text_parts_laws.specs.Blanks.{trim_blanks}
-use Rattle.text_parts_laws.specs.Cuts.{cut_at}
-use Rattle.text_parts_laws.specs.ReadingSteps.{◌>>=◌}
-use Rattle.text_parts_laws.specs.Words.{is_nil}
-use Rattle.arch_trait.specs.Cells.{ends_rows}
-use Rattle.arch_trait.specs.InstructionReading.{read_numbered, number_raw, written_in}
-use Rattle.arch_trait.specs.PlaceNames.{names_added}
+use Rattle.text_parts_laws.specs.{Blanks.trim_blanks, Cuts.cut_at, ReadingSteps.◌>>=◌, Words.is_nil}
+use Rattle.arch_trait.specs.{Cells.ends_rows, InstructionReading.read_numbered, InstructionReading.number_raw, InstructionReading.written_in}
+use Rattle.arch_trait.specs.{PlaceNames.names_added}
 use Rattle.arch_trait.specs.Writing.{Writing, Name, nothing, place, label, RawInstr, is_well_named}
-use Rattle.litmus_text.specs.declared.errors.TestKind.TheVariants.{BadInstruction}
-use Rattle.litmus_text.specs.declared.errors.TextError.{TextError}
-use Rattle.litmus_text.specs.declared.limits.TheConstants.{MAX_ROWS}
+use Rattle.litmus_text.specs.declared.{errors.TestKind.TheVariants.BadInstruction, errors.TextError.TextError, limits.TheConstants.MAX_ROWS}
 use Rattle.litmus_text.specs.TextLines.{Lines, ends, line, bad}
 use Rattle.litmus_text.specs.TestTable.{cells_of, Column, no_column, no_columns, Among, among, fits_in_column, TableEntry, an_instr, a_fault}
 use Rattle.litmus_text.specs.TestTable.{entry_if, entry_in_line, entry_or_nothing, entries_if, cell_entries, row_entries, entries_in, with_before}

@@ -1,11 +1,8 @@
 -- What is read can be run.
 use Rattle.std.proofs.Common.{◌≡◌, get_or, ◌+◌, ◌<◌, ◌≤◌, ◌==◌, ℕ, Bool, true, cond, List, [], ◌∷◌, ◌++◌, map, length, Option, Some, None, Result, Ok, Err, refl, sym, ap, ◌∙◌, subst, arith, length-append}
-use Rattle.std.specs.Prelude.{count_by, nat_lt}
-use Rattle.std.specs.List.{AllByRecursion, filter}
-use Rattle.std.proofs.lemmas.Bool.{ltb-true}
-use Rattle.std.proofs.lemmas.List.{length-map}
-use Rattle.std.proofs.Math.ListN.{get_or-map}
-use Rattle.std.proofs.lemmas.List.Sums.{sum_by-cons, sum_by_push}
+use Rattle.std.specs.{Prelude.count_by, Prelude.nat_lt, List.AllByRecursion, List.filter}
+use Rattle.std.proofs.{lemmas.Bool.ltb-true, lemmas.List.length-map, Math.ListN.get_or-map, lemmas.List.Sums.sum_by-cons}
+use Rattle.std.proofs.{lemmas.List.Sums.sum_by_push}
 use Rattle.std.proofs.lemmas.List.Elements.{All-from_recursion, recursion_from_All, All-replicate, All-map, All-filter, All-get_or}
 use Rattle.list_laws.proofs.Cases.{by_test}
 use Rattle.relax_edges.specs.declared.kinds.Value.{Value}
@@ -17,17 +14,12 @@ use Rattle.arch_trait.specs.declared.reading.InstrError.TheVariants as instrs
 use Rattle.arch_trait.specs.Cells.{is_access, ends_rows}
 use Rattle.arch_trait.specs.InstructionReading.{ReadInstr, with_label, read_numbered, number_raw, instr_read, written_in}
 use Rattle.arch_trait.specs.Writing.{Writing, Written, RawInstr, Name}
-use Rattle.litmus_text.specs.declared.errors.TextError.{TextError}
-use Rattle.litmus_text.specs.declared.reading.table.Placed.{Placed}
-use Rattle.text_parts_laws.specs.Cuts.{cut_at}
-use Rattle.litmus_text.specs.TextLines.{Lines, ends, line}
-use Rattle.text_parts_laws.specs.ReadingSteps.{◌>>=◌}
+use Rattle.litmus_text.specs.declared.{errors.TextError.TextError, reading.table.Placed.Placed, reading.table.Column.Column as ThreadColumn}
+use Rattle.text_parts_laws.specs.{Cuts.cut_at, ReadingSteps.◌>>=◌}
+use Rattle.litmus_text.specs.{TextLines.Lines, TextLines.ends, TextLines.line, TestReading.values_of_thread, Views.column_seen}
 use Rattle.litmus_text.specs.TestTable.{Column, no_column, no_columns, Among, among, fits_in_column, cells_of, is_label_row, comes_once, lands_among, labels_judged, all_labels_judged}
 use Rattle.litmus_text.specs.TableScan.{instr_put, instr_in, instr_or_nothing, cell_if, cell_read, row_read, rows_scanned}
 use Rattle.litmus_text.specs.Runnable.{IsRunnable, NamesRegisters, AllNameRegisters, ops_in, AllRunnable}
-use Rattle.litmus_text.specs.TestReading.{values_of_thread}
-use Rattle.litmus_text.specs.declared.reading.table.Column.{Column as ThreadColumn}
-use Rattle.litmus_text.specs.Views.{column_seen}
 use Rattle.litmus_text.proofs.ElementLaws.{all_weaker}
 
 -- what is read raw names registers of the machine

@@ -3,15 +3,11 @@ use Rattle.std.proofs.Common.{◌≡◌, ◌<◌, List, ℕ, [], ◌++◌, Ok, E
 use Rattle.std.specs.Prelude.{Result, Option, Some, None}
 use Rattle.std.specs.Result.{IsErrAnd}
 use Rattle.std.proofs.Common.{length}
-use Rattle.diy_io.specs.declared.errors.Failed.{Failed}
-use Rattle.diy_io.specs.declared.page.TheConstants.{SPILL}
-use Rattle.diy_io.specs.Wrote.{SinkSeen, WrotePart}
-use Rattle.diy_io.specs.Page.{SentAll, Sends}
+use Rattle.diy_io.specs.declared.{errors.Failed.Failed, page.TheConstants.SPILL}
+use Rattle.diy_io.specs.{Wrote.SinkSeen, Wrote.WrotePart, Page.SentAll, Page.Sends}
 use Rattle.diy_io.specs.PageLaws.{sent_nothing, sent_line, sent_part, sent_part_more, sent_same}
-use Rattle.arch_trait.specs.Writing.{Writing}
-use Rattle.arch_trait.specs.SeenTests.{TestSeen}
-use Rattle.litmus_text.specs.declared.parts.TextPart.{TextPart}
-use Rattle.litmus_text.specs.declared.parts.TextPart.TheVariants.{Edges}
+use Rattle.arch_trait.specs.{Writing.Writing, SeenTests.TestSeen}
+use Rattle.litmus_text.specs.declared.parts.{TextPart.TextPart, TextPart.TheVariants.Edges}
 use Rattle.litmus_text.specs.TextParts.{text_from, PutsPart}
 
 abbrev Answer : Type 0

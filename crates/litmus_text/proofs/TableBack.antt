@@ -2,31 +2,19 @@
 use Rattle.std.proofs.Common.{◌≡◌, ◌+◌, ◌-◌, ◌==◌, ℕ, zero, suc, List, [], ◌∷◌, ◌++◌, Some, true, false, cond, length, map, take, drop, get_or, refl, sym, ap, ◌∙◌, subst, arith, append_assoc, append-nil, add-zero, add-one, ◌⊎◌, inl, inr}
 use Rattle.std.specs.Prelude.{Bool, not, ◌||◌, codes}
 use Rattle.std.specs.List.{list_all, flat_map, join_by, AllByRecursion, enumerate_from, range_with_len}
-use Rattle.std.proofs.Math.ListN.{replicate}
-use Rattle.std.proofs.lemmas.List.{replicate_more}
-use Rattle.std.proofs.lemmas.Bool.{and_parts, and_from}
-use Rattle.list_laws.proofs.Elements.{list_all-weaker}
-use Rattle.list_laws.proofs.Cases.{by_test}
-use Rattle.text_parts_laws.specs.Blanks.{is_blank}
-use Rattle.text_parts_laws.specs.LeadingRuns.{leading_run, after_run}
+use Rattle.std.proofs.{Math.ListN.replicate, lemmas.List.replicate_more, lemmas.Bool.and_parts, lemmas.Bool.and_from}
+use Rattle.list_laws.proofs.{Elements.list_all-weaker, Cases.by_test}
+use Rattle.text_parts_laws.specs.{Blanks.is_blank, LeadingRuns.leading_run, LeadingRuns.after_run, Cuts.cut_at, Cuts.is_without}
 use Rattle.micro_ops.specs.declared.operation.Micro.{Micro}
-use Rattle.arch_trait.specs.Threads.{Puts, ThreadCode}
+use Rattle.arch_trait.specs.{Threads.Puts, Threads.ThreadCode, LabelOrder.is_next, LabelOrder.labels_after}
 use Rattle.arch_trait.specs.Writing.{Writing, WritesBack, op_text, name_in}
 use Rattle.arch_trait.specs.Cells.{WritesCells, ends_rows, first_word, is_access, is_cell_byte, is_label_op, is_line_byte}
-use Rattle.arch_trait.specs.LabelOrder.{is_next, labels_after}
-use Rattle.text_parts_laws.specs.Cuts.{cut_at, is_without}
-use Rattle.litmus_text.specs.TextCuts.{pieces}
-use Rattle.litmus_text.specs.TestTable.{cells_if, cells_of}
+use Rattle.litmus_text.specs.{TextCuts.pieces, TestTable.cells_if, TestTable.cells_of, Printable.is_row_byte, Progress.CodeFits, Progress.OpFits}
 use Rattle.litmus_text.specs.TestText.{column_of, columns_of, width_of, cell_text, row_line}
 use Rattle.litmus_text.specs.Progress.{RowProgress, progress, moved, advanced}
-use Rattle.litmus_text.specs.Printable.{is_row_byte}
-use Rattle.litmus_text.specs.Progress.{CodeFits, OpFits}
-use Rattle.litmus_text.proofs.LineBack.{IsLine}
-use Rattle.litmus_text.proofs.HeadBack.{line_is, not_all_blank}
-use Rattle.litmus_text.proofs.CutBack.{piece_back, piece_last}
-use Rattle.text_parts_laws.proofs.CutLaws.{cut_back, all_both, without_class}
-use Rattle.text_parts_laws.proofs.BlankLaws.{spaces_class, unblanked_spaces}
-use Rattle.litmus_text.proofs.CellBack.{padded, Begins}
+use Rattle.litmus_text.proofs.{LineBack.IsLine, HeadBack.line_is, HeadBack.not_all_blank, CutBack.piece_back, CutBack.piece_last, CellBack.padded}
+use Rattle.litmus_text.proofs.{CellBack.Begins}
+use Rattle.text_parts_laws.proofs.{CutLaws.cut_back, CutLaws.all_both, CutLaws.without_class, BlankLaws.spaces_class, BlankLaws.unblanked_spaces}
 use Rattle.litmus_text.proofs.RowBack.{next_text, AreCells, IsRow, AreRows, after_rows, named_op, text_begins}
 
 -- the cells of a row, with a blank on both sides

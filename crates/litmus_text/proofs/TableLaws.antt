@@ -1,21 +1,15 @@
 -- The columns and rows of the table.
 use Rattle.std.proofs.Common.{◌≡◌, ◌≤◌, ◌<◌, ◌+◌, ◌-◌, ℕ, zero, suc, List, [], ◌∷◌, ◌++◌, length, map, take, get_or, max, fold}
 use Rattle.std.proofs.Common.{add-one, inl, inr, refl, sym, ap, ◌∙◌, arith, append_assoc}
-use Rattle.std.specs.Prelude.{codes}
+use Rattle.std.specs.{Prelude.codes, Fmt.decimal}
 use Rattle.std.specs.List.{flat_map, join_by, enumerate_from, range_with_len}
-use Rattle.std.specs.Fmt.{decimal}
 use Rattle.std.proofs.lemmas.List.{get_or-map, length-map, get_or_past, take_more, take_all, map-append}
-use Rattle.std.proofs.lemmas.Bool.{cases_lt}
-use Rattle.std.proofs.lemmas.List.Sums.{fold_more}
-use Rattle.std.proofs.lemmas.List.Folds.{flat_map-map}
+use Rattle.std.proofs.{lemmas.Bool.cases_lt, lemmas.List.Sums.fold_more, lemmas.List.Folds.flat_map-map, lemmas.List.FromFn.length-enumerate_from}
+use Rattle.std.proofs.{Math.ListN.replicate}
 use Rattle.micro_ops.specs.declared.operation.Micro.{Micro}
-use Rattle.arch_trait.specs.Threads.{ThreadCode}
+use Rattle.arch_trait.specs.{Threads.ThreadCode, Writing.Writing, Writing.op_text, Writing.name_in, Codes.thread_code_of}
 use Rattle.arch_trait.specs.declared.code.Code.{Code}
-use Rattle.arch_trait.specs.Writing.{Writing, op_text, name_in}
 use Rattle.litmus_text.specs.TestText.{column_of, columns_of, width_of, cell_text, row_line, row_count, table_lines, with_line_feed}
-use Rattle.arch_trait.specs.Codes.{thread_code_of}
-use Rattle.std.proofs.lemmas.List.FromFn.{length-enumerate_from}
-use Rattle.std.proofs.Math.ListN.{replicate}
 use Rattle.litmus_text.proofs.ElementLaws.{numbered_at}
 
 -- the first cell of a column is the header, made piece by piece

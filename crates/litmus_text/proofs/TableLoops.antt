@@ -1,20 +1,16 @@
 -- Reading the table as loops do.
 use Rattle.std.proofs.Common.{◌≡◌, ◌+◌, ◌<◌, ◌≤◌, ℕ, Bool, true, false, List, [], ◌∷◌, ◌++◌, Result, Ok, Err, length, map, get_or, take, drop, refl, sym, ap, ◌∙◌, arith, add-one, append_assoc}
 use Rattle.std.specs.Prelude.{nat_lt, cond, codes, Some}
-use Rattle.std.proofs.Math.ListN.{set, get_or-map}
-use Rattle.std.proofs.lemmas.Bool.{lt-ltb, le-ltb}
+use Rattle.std.proofs.{Math.ListN.set, Math.ListN.get_or-map, lemmas.Bool.lt-ltb, lemmas.Bool.le-ltb}
 use Rattle.std.proofs.Math.Seq.{drop-cons, take-length, drop-length, take-append-add}
-use Rattle.text_parts_laws.specs.Cuts.{cut_at, CutParts}
+use Rattle.text_parts_laws.specs.{Cuts.cut_at, Cuts.CutParts, ReadingSteps.◌>>=◌}
 use Rattle.litmus_text.specs.Views.{column_seen}
-use Rattle.litmus_text.specs.declared.reading.table.Column.{Column as ThreadColumn}
+use Rattle.litmus_text.specs.declared.{reading.table.Column.Column as ThreadColumn, errors.TextError.TextError, errors.TestKind.TheVariants.BadTable}
+use Rattle.litmus_text.specs.declared.{errors.TestKind.TheVariants.TooLarge, errors.TestKind.TheVariants.EndMissing, limits.TheConstants.MAX_THREADS}
+use Rattle.litmus_text.specs.declared.{limits.TheConstants.MAX_ROWS}
 use Rattle.std.proofs.lemmas.List.{take_more_set, drop-set-lt, append-nil, map-set, length-map}
-use Rattle.arch_trait.specs.Cells.{ends_rows}
-use Rattle.arch_trait.specs.Writing.{Writing}
-use Rattle.litmus_text.specs.declared.errors.TextError.{TextError}
-use Rattle.litmus_text.specs.declared.errors.TestKind.TheVariants.{BadTable, TooLarge, EndMissing}
-use Rattle.litmus_text.specs.declared.limits.TheConstants.{MAX_THREADS, MAX_ROWS}
+use Rattle.arch_trait.specs.{Cells.ends_rows, Writing.Writing}
 use Rattle.litmus_text.specs.TextLines.{Lines, ends, line, bad}
-use Rattle.text_parts_laws.specs.ReadingSteps.{◌>>=◌}
 use Rattle.litmus_text.specs.TestTable.{Cells, cells_of, is_head, heads_read, Column, Among, among}
 use Rattle.litmus_text.specs.TableScan.{cell_read, instr_in, instr_or_nothing, before_columns, row_read, rows_scanned}
 

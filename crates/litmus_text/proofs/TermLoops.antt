@@ -2,14 +2,11 @@
 use Rattle.std.proofs.Common.{◌≡◌, ◌+◌, ◌<◌, ℕ, zero, suc, List, [], ◌∷◌, ◌++◌, Result, Ok, Err, arith, append_assoc}
 use Rattle.final_cond.specs.declared.read.Follow.{Follow}
 use Rattle.final_cond.specs.declared.read.Follow.TheVariants as follows
-use Rattle.final_cond.specs.Conditions.{TermSeen}
-use Rattle.final_cond.specs.ConditionReading.{Fault, follow_read}
+use Rattle.final_cond.specs.{Conditions.TermSeen, ConditionReading.Fault, ConditionReading.follow_read}
 use Rattle.arch_trait.specs.Writing.{Writing}
-use Rattle.litmus_text.specs.declared.errors.TextError.{TextError}
-use Rattle.litmus_text.specs.declared.errors.TestKind.TheVariants.{BadCondition, TooLarge}
-use Rattle.litmus_text.specs.TextLines.{bad}
+use Rattle.litmus_text.specs.declared.errors.{TextError.TextError, TestKind.TheVariants.BadCondition, TestKind.TheVariants.TooLarge}
+use Rattle.litmus_text.specs.{TextLines.bad, Condition.Setting}
 use Rattle.text_parts_laws.specs.ReadingSteps.{◌>>=◌}
-use Rattle.litmus_text.specs.Condition.{Setting}
 use Rattle.litmus_text.specs.ConditionScan.{Mentioned, TermRead, TermsRead, before_read, term_here, terms_here}
 
 -- the terms that were read before others

@@ -1,24 +1,17 @@
 -- What a part of a text is that is appended to a page.
 use Rattle.std.proofs.Common.{◌≡◌, ◌≤◌, ◌<◌, ◌+◌, ◌-◌, ℕ, List, [], ◌∷◌, ◌++◌, length, length-append, drop, get_or, map, refl, sym, ap, arith, append_assoc}
-use Rattle.std.specs.Prelude.{codes, Some, None}
-use Rattle.std.specs.List.{flat_map, enumerate_from, range_with_len}
+use Rattle.std.specs.{Prelude.codes, Prelude.Some, Prelude.None, List.flat_map, List.enumerate_from, List.range_with_len}
 use Rattle.std.proofs.lemmas.List.{length-map, get_or-map, drop_more, drop_all}
 use Rattle.std.proofs.lemmas.List.FromFn.{length-enumerate_from, length-range_with_len, get_or-range_with_len}
 use Rattle.diy_io.specs.declared.page.TheConstants.{LINE_ROOM}
-use Rattle.diy_io.specs.Page.{page_after}
-use Rattle.diy_io.specs.PageLaws.{page_nothing, page_more}
-use Rattle.arch_trait.specs.Codes.{thread_code_of}
+use Rattle.diy_io.specs.{Page.page_after, PageLaws.page_nothing, PageLaws.page_more}
+use Rattle.arch_trait.specs.{Codes.thread_code_of, Threads.ThreadCode, Writing.Writing, SeenTests.TestSeen}
 use Rattle.arch_trait.specs.declared.code.Code.{Code}
-use Rattle.arch_trait.specs.Threads.{ThreadCode}
-use Rattle.arch_trait.specs.Writing.{Writing}
-use Rattle.arch_trait.specs.SeenTests.{TestSeen}
 use Rattle.final_cond.specs.CondText.{cond_text}
-use Rattle.litmus_text.specs.declared.parts.TextPart.{TextPart}
-use Rattle.litmus_text.specs.declared.parts.TextPart.TheVariants.{Edges, Items, Row}
+use Rattle.litmus_text.specs.declared.parts.{TextPart.TextPart, TextPart.TheVariants.Edges, TextPart.TheVariants.Items, TextPart.TheVariants.Row}
 use Rattle.litmus_text.specs.TestText.{edges_line, items_lines, initial_lines, columns_of, row_line, row_count, table_lines, with_line_feed}
 use Rattle.litmus_text.specs.TextParts.{rows_from, part_lines, text_from, parts_left, PutsPart}
-use Rattle.litmus_text.proofs.ElementLaws.{numbered_at}
-use Rattle.litmus_text.proofs.InitialLaws.{printed_items}
+use Rattle.litmus_text.proofs.{ElementLaws.numbered_at, InitialLaws.printed_items}
 
 -- the edges and the opening brace
 edges_text : (w : Writing) (test : TestSeen) → text_from w test (Some Edges) ≡ (with_line_feed (edges_line test.edges) ++ codes "{\n") ++ text_from w test (Some (Items 0))

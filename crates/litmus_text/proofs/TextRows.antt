@@ -1,22 +1,15 @@
 -- Texts of tests, computed.
 use Rattle.std.proofs.Common.{◌≡◌, ℕ, List, [], ◌∷◌, ◌++◌, Some, None, refl}
-use Rattle.std.specs.Prelude.{codes}
-use Rattle.std.specs.List.{flat_map}
-use Rattle.std.specs.Fmt.{decimal, digits}
-use Rattle.relax_edges.specs.declared.kinds.ArchName.TheVariants.{X86, PPC}
+use Rattle.std.specs.{Prelude.codes, List.flat_map, Fmt.decimal, Fmt.digits}
+use Rattle.relax_edges.specs.declared.kinds.{ArchName.TheVariants.X86, ArchName.TheVariants.PPC, Sd.TheVariants.Diff, Com.TheVariants.Rf}
+use Rattle.relax_edges.specs.declared.kinds.{Com.TheVariants.Fr, Com.TheVariants.Ws, Reach.TheVariants.External, FenceKind.TheVariants.LwSync}
+use Rattle.relax_edges.specs.declared.kinds.{DepKind.TheVariants.Addr}
 use Rattle.relax_edges.specs.declared.kinds.Dir.TheVariants as dirs
-use Rattle.relax_edges.specs.declared.kinds.Sd.TheVariants.{Diff}
-use Rattle.relax_edges.specs.declared.kinds.Com.TheVariants.{Rf, Fr, Ws}
-use Rattle.relax_edges.specs.declared.kinds.Reach.TheVariants.{External}
-use Rattle.relax_edges.specs.declared.kinds.FenceKind.TheVariants.{LwSync}
-use Rattle.relax_edges.specs.declared.kinds.DepKind.TheVariants.{Addr}
 use Rattle.relax_edges.specs.declared.edge.Edge.TheVariants as edges
-use Rattle.micro_ops.specs.declared.operation.Micro.{Micro}
+use Rattle.micro_ops.specs.declared.operation.{Micro.Micro, Barrier.TheVariants.Fence}
 use Rattle.micro_ops.specs.declared.operation.Micro.TheVariants as ops
-use Rattle.micro_ops.specs.declared.operation.Barrier.TheVariants.{Fence}
-use Rattle.arch_trait.specs.Threads.{ThreadCode}
+use Rattle.arch_trait.specs.{Threads.ThreadCode, SeenTests.TestSeen}
 use Rattle.arch_trait.specs.Writing.{Writing, Written, none, two, three, bracketed, name_in}
-use Rattle.arch_trait.specs.SeenTests.{TestSeen}
 use Rattle.final_cond.specs.declared.cond.Quantifier.TheVariants.{Exists}
 use Rattle.final_cond.specs.Conditions.{LeftSeen, InRegister, AtPlace, TermSeen, CondSeen}
 use Rattle.final_cond.specs.CondText.{left_text, term_text, cond_text}

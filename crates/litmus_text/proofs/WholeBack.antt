@@ -2,45 +2,29 @@
 use Rattle.std.proofs.Common.{◌≡◌, ◌<◌, ◌≤◌, ◌+◌, ◌==◌, ℕ, suc, List, [], ◌∷◌, ◌++◌, Some, Ok, true, false, length, map, max, drop, fold, refl, ap, ◌∙◌, arith, append-nil}
 use Rattle.std.specs.Prelude.{Option, codes}
 use Rattle.std.specs.List.{join_by, AllByRecursion, enumerate_from, range_with_len}
-use Rattle.std.proofs.lemmas.List.{length-map, take_all}
-use Rattle.std.proofs.lemmas.List.FromFn.{length-range_with_len}
+use Rattle.std.proofs.lemmas.{List.length-map, List.take_all, List.FromFn.length-range_with_len}
 use Rattle.list_laws.proofs.Elements.{all_append}
-use Rattle.relax_edges.specs.declared.kinds.ArchName.{ArchName}
-use Rattle.relax_edges.specs.declared.kinds.Value.{Value}
+use Rattle.relax_edges.specs.declared.{kinds.ArchName.ArchName, kinds.Value.Value, edge.Edge.Edge}
 use Rattle.relax_edges.specs.declared.kinds.Value.TheVariants as values
-use Rattle.relax_edges.specs.declared.edge.Edge.{Edge}
-use Rattle.final_cond.specs.Conditions.{CondSeen}
+use Rattle.final_cond.specs.{Conditions.CondSeen, CondText.cond_text}
 use Rattle.relax_edges.specs.WordParts.{word_of}
 use Rattle.micro_ops.specs.declared.operation.Micro.{Micro}
-use Rattle.final_cond.specs.CondText.{cond_text}
-use Rattle.arch_trait.specs.Threads.{Puts, ThreadCode}
+use Rattle.arch_trait.specs.{Threads.Puts, Threads.ThreadCode, Cells.WritesCells, SeenTests.TestSeen}
 use Rattle.arch_trait.specs.Writing.{Writing, WritesBack, op_text, name_in}
-use Rattle.arch_trait.specs.Cells.{WritesCells}
-use Rattle.arch_trait.specs.SeenTests.{TestSeen}
-use Rattle.litmus_text.specs.TextLines.{Lines, ends, line}
-use Rattle.litmus_text.specs.Header.{header_read, quote_read, after_settings}
-use Rattle.litmus_text.specs.InitialState.{Begun, initial_read}
+use Rattle.litmus_text.specs.{TextLines.Lines, TextLines.ends, TextLines.line, Header.header_read, Header.quote_read, Header.after_settings}
+use Rattle.litmus_text.specs.{InitialState.Begun, InitialState.initial_read, TableScan.rows_scanned, Condition.condition_read, Placing.place_in}
+use Rattle.litmus_text.specs.{Placing.op_renumbered, TablePlan.placed_from, TablePlan.column_so_far, Progress.CodeFits, Progress.code_lands}
+use Rattle.litmus_text.specs.{Progress.column_at, ReadTerms.terms_mention, Reread.thread_reread, Reread.reread, Reread.IsReadable}
 use Rattle.litmus_text.specs.TestTable.{Column, among, head_read, all_labels_judged, no_columns, after_locations}
-use Rattle.litmus_text.specs.TableScan.{rows_scanned}
-use Rattle.litmus_text.specs.Condition.{condition_read}
 use Rattle.litmus_text.specs.TestReading.{ThreadRead, values_of_thread, threads_of, lines_read, test_read}
 use Rattle.litmus_text.specs.TestText.{initial_lines, column_of, columns_of, row_line, row_count, table_lines, test_lines, test_text}
-use Rattle.litmus_text.specs.Placing.{place_in, op_renumbered}
-use Rattle.litmus_text.specs.TablePlan.{placed_from, column_so_far}
-use Rattle.litmus_text.specs.Progress.{CodeFits, code_lands, column_at}
 use Rattle.litmus_text.specs.Items.{Link, links_of, links_mention, link_values}
-use Rattle.litmus_text.specs.ReadTerms.{terms_mention}
-use Rattle.litmus_text.specs.Reread.{thread_reread, reread, IsReadable}
-use Rattle.litmus_text.proofs.LineBack.{IsLine, before, lines_back}
+use Rattle.litmus_text.proofs.{LineBack.IsLine, LineBack.before, LineBack.lines_back, NamesBack.within_trans, NamesBack.none_among}
+use Rattle.litmus_text.proofs.{InitBack.initial_back, InitBack.initial_lines_are, InitBack.links_there, ItemBack.links_among, HeadRowBack.head_back}
+use Rattle.litmus_text.proofs.{HeadRowBack.head_line_is, RowsScanned.rows_same, LabelBack.labels_back}
 use Rattle.litmus_text.proofs.HeadBack.{header_back, quote_back, settings_back, header_line_is, edges_line_is}
-use Rattle.litmus_text.proofs.NamesBack.{within_trans, none_among}
-use Rattle.litmus_text.proofs.InitBack.{initial_back, initial_lines_are, links_there}
-use Rattle.litmus_text.proofs.ItemBack.{links_among}
-use Rattle.litmus_text.proofs.HeadRowBack.{head_back, head_line_is}
-use Rattle.litmus_text.proofs.RowsScanned.{rows_same}
 use Rattle.litmus_text.proofs.RowBack.{IsReady, after_rows, rows_mention, rows_within, rows_among, rows_back}
 use Rattle.litmus_text.proofs.TableBack.{AreTexts, code_texts, at_row, rows_are_read, rows_are_lines, rows_end}
-use Rattle.litmus_text.proofs.LabelBack.{labels_back}
 use Rattle.litmus_text.proofs.CondBack.{terms_within, condition_back, cond_ends, no_locations, cond_line_is}
 
 before_append : (n : ℕ) (xs ys : List (List ℕ)) (rest : ℕ → Lines) → before n (xs ++ ys) rest ≡ before n xs (λ k. before k ys rest)

@@ -1,22 +1,16 @@
 -- The condition of a test, at the end of its text.
 -- Source: the litmus format of the herdtools manual; what is a fault, and where, is own.
 use Rattle.std.specs.Prelude.{ℕ, zero, suc, ◌-◌, ◌==◌, Bool, true, cond, ◌&&◌, nat_lt, List, [], ◌∷◌, ◌++◌, Option, Some, None, Result, Ok, Err}
-use Rattle.std.specs.Prelude.{length, is_some}
-use Rattle.std.specs.List.{list_any}
-use Rattle.final_cond.specs.declared.cond.TheConstants.{MAX_TERMS}
-use Rattle.final_cond.specs.declared.cond.Quantifier.{Quantifier}
-use Rattle.final_cond.specs.declared.read.Follow.{Follow}
+use Rattle.std.specs.{Prelude.length, Prelude.is_some, List.list_any}
+use Rattle.final_cond.specs.declared.{cond.TheConstants.MAX_TERMS, cond.Quantifier.Quantifier, read.Follow.Follow}
 use Rattle.final_cond.specs.declared.read.Follow.TheVariants as follows
-use Rattle.text_parts_laws.specs.Blanks.{unblanked}
+use Rattle.text_parts_laws.specs.{Blanks.unblanked, ReadingSteps.◌>>=◌}
 use Rattle.final_cond.specs.Conditions.{LeftSeen, InRegister, AtPlace, TermSeen, CondSeen}
 use Rattle.final_cond.specs.ConditionReading.{Fault, opening_read, left_read, right_read, follow_read, end_at_start, has_form}
-use Rattle.arch_trait.specs.PlaceNames.{number_in, number_added, names_added}
-use Rattle.arch_trait.specs.Writing.{Writing}
-use Rattle.litmus_text.specs.declared.errors.TestKind.{TestKind}
-use Rattle.litmus_text.specs.declared.errors.TestKind.TheVariants.{BadCondition, TooLarge, EndMissing}
-use Rattle.litmus_text.specs.declared.errors.TextError.{TextError}
+use Rattle.arch_trait.specs.{PlaceNames.number_in, PlaceNames.number_added, PlaceNames.names_added, Writing.Writing}
+use Rattle.litmus_text.specs.declared.errors.{TestKind.TestKind, TestKind.TheVariants.BadCondition, TestKind.TheVariants.TooLarge}
+use Rattle.litmus_text.specs.declared.errors.{TestKind.TheVariants.EndMissing, TextError.TextError}
 use Rattle.litmus_text.specs.TextLines.{Lines, ends, line, bad}
-use Rattle.text_parts_laws.specs.ReadingSteps.{◌>>=◌}
 use Rattle.litmus_text.specs.Joined.{Joined, no_text, with_text, all_joined, line_at}
 
 -- the threads of the table, the line where the condition begins, and its text

@@ -5,9 +5,7 @@ use Rattle.std.specs.List.{list_any, flat_map, enumerate_from}
 use Rattle.relax_edges.specs.declared.kinds.Value.{Value}
 use Rattle.relax_edges.specs.declared.kinds.Value.TheVariants as values
 use Rattle.text_parts_laws.specs.Names.{is_place_name}
-use Rattle.arch_trait.specs.Threads.{ThreadCode}
-use Rattle.arch_trait.specs.PlaceNames.{number_in, names_added}
-use Rattle.arch_trait.specs.Writing.{Writing}
+use Rattle.arch_trait.specs.{Threads.ThreadCode, PlaceNames.number_in, PlaceNames.names_added, Writing.Writing}
 use Rattle.litmus_text.specs.Placing.{place_in}
 
 -- an address register of a thread, and its place

@@ -2,8 +2,7 @@
 -- Source: own.
 use Rattle.std.specs.Prelude.{◌≡◌, ◌<◌, ◌≤◌, ◌+◌, ℕ, List, [], ◌∷◌, ◌++◌, length, map, take, slice_index_or}
 use Rattle.std.specs.List.{All}
-use Rattle.arch_trait.specs.Writing.{Writing}
-use Rattle.arch_trait.specs.SeenTests.{TestSeen}
+use Rattle.arch_trait.specs.{Writing.Writing, SeenTests.TestSeen}
 use Rattle.arch_trait.specs.declared.arch.TheConstants.{MAX_INSTRUCTION_TEXT}
 use Rattle.litmus_text.specs.TestText.{columns_of, width_of, row_count}
 use Rattle.litmus_text.specs.declared.column.TheConstants.{KEPT_CELLS}

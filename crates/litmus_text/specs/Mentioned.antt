@@ -1,19 +1,13 @@
 -- The table by which a printed test is read back names all that the test names.
 -- Source: own.
 use Rattle.std.specs.Prelude.{◌≡◌, ℕ, Bool, true, is_some, List, Ok}
-use Rattle.std.specs.List.{AllByRecursion, IsDistinct}
-use Rattle.std.specs.Str.{bytes_eq}
+use Rattle.std.specs.{List.AllByRecursion, List.IsDistinct, Str.bytes_eq}
 use Rattle.relax_edges.specs.declared.kinds.ArchName.{ArchName}
 use Rattle.micro_ops.specs.declared.operation.Micro.{Micro}
 use Rattle.micro_ops.specs.declared.operation.Micro.TheVariants as ops
 use Rattle.final_cond.specs.Conditions.{LeftSeen, InRegister, AtPlace}
-use Rattle.arch_trait.specs.PlaceNames.{number_in}
-use Rattle.arch_trait.specs.Writing.{Writing, name_in}
-use Rattle.arch_trait.specs.SeenTests.{TestSeen}
-use Rattle.litmus_text.specs.TestText.{test_text}
-use Rattle.litmus_text.specs.TestReading.{test_read}
-use Rattle.litmus_text.specs.Items.{links_of}
-use Rattle.litmus_text.specs.Reread.{reread}
+use Rattle.arch_trait.specs.{PlaceNames.number_in, Writing.Writing, Writing.name_in, SeenTests.TestSeen}
+use Rattle.litmus_text.specs.{TestText.test_text, TestReading.test_read, Items.links_of, Reread.reread}
 
 -- a name is in a table
 abbrev pub is_in : List (List ℕ) → List ℕ → Bool

@@ -1,9 +1,7 @@
 -- What code that reads answers, as the definitions see it.
 -- Source: own.
 use Rattle.std.specs.Prelude.{◌≡◌, Result, Ok, Err}
-use Rattle.litmus_text.specs.declared.errors.TextError.{TextError}
-use Rattle.litmus_text.specs.declared.errors.ReadError.{ReadError}
-use Rattle.litmus_text.specs.declared.errors.ReadError.TheVariants.{Text, NoMemory}
+use Rattle.litmus_text.specs.declared.errors.{TextError.TextError, ReadError.ReadError, ReadError.TheVariants.Text, ReadError.TheVariants.NoMemory}
 
 -- an answer of the code is what the definition gives, where `view` says what a value of the code means
 abbrev pub GivesTest : {X Y : Type 0} → (X → Y) → Result X TextError → Result Y TextError → Type 0

@@ -6,17 +6,11 @@ use Rattle.relax_edges.specs.declared.kinds.ArchName.{ArchName}
 use Rattle.relax_edges.specs.declared.kinds.Value.TheVariants as values
 use Rattle.relax_edges.specs.WordParts.{word_of}
 use Rattle.final_cond.specs.declared.cond.TheConstants.{MAX_TERMS}
-use Rattle.arch_trait.specs.Threads.{Puts, ThreadCode}
-use Rattle.arch_trait.specs.Writing.{Writing, name_in}
-use Rattle.arch_trait.specs.SeenTests.{TestSeen}
+use Rattle.arch_trait.specs.{Threads.Puts, Threads.ThreadCode, Writing.Writing, Writing.name_in, SeenTests.TestSeen}
 use Rattle.litmus_text.specs.declared.limits.TheConstants.{MAX_TEST_TEXT, MAX_THREADS, MAX_ROWS}
-use Rattle.litmus_text.specs.TestText.{test_text}
-use Rattle.litmus_text.specs.TestReading.{ThreadRead, TestRead}
-use Rattle.litmus_text.specs.Placing.{place_in, op_renumbered}
-use Rattle.litmus_text.specs.Printable.{IsTestName}
-use Rattle.litmus_text.specs.Progress.{CodeFits, code_lands}
-use Rattle.litmus_text.specs.Items.{links_of, links_once, LinkFits}
-use Rattle.litmus_text.specs.ReadTerms.{TermFits}
+use Rattle.litmus_text.specs.{TestText.test_text, TestReading.ThreadRead, TestReading.TestRead, Placing.place_in, Placing.op_renumbered}
+use Rattle.litmus_text.specs.{Printable.IsTestName, Progress.CodeFits, Progress.code_lands, Items.links_of, Items.links_once, Items.LinkFits}
+use Rattle.litmus_text.specs.{ReadTerms.TermFits}
 
 -- a thread with its places numbered by a table
 abbrev pub thread_reread : List (List ℕ) → (ℕ → List ℕ) → ThreadCode → ThreadRead

@@ -4,8 +4,7 @@ use Rattle.std.specs.Prelude.{ℕ, ◌<◌, ◌≤◌, ◌^◌, ◌≡◌, true,
 use Rattle.std.specs.List.{AllByRecursion}
 use Rattle.relax_edges.specs.declared.kinds.Value.{Value}
 use Rattle.micro_ops.specs.declared.operation.Micro.{Micro}
-use Rattle.micro_ops.specs.Machines.{InRange}
-use Rattle.micro_ops.specs.Running.{is_load, lands}
+use Rattle.micro_ops.specs.{Machines.InRange, Running.is_load, Running.lands}
 use Rattle.litmus_text.specs.declared.reading.table.Placed.{Placed}
 use Rattle.litmus_text.specs.TestTable.{Column}
 

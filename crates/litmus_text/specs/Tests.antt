@@ -3,10 +3,8 @@
 use Rattle.std.specs.Prelude.{◌≡◌, ℕ, Bool, true, map, nat_lt}
 use Rattle.std.specs.List.{list_all}
 use Rattle.micro_ops.specs.declared.operation.Micro.{Micro}
-use Rattle.arch_trait.specs.Codes.{thread_code_of}
-use Rattle.arch_trait.specs.Writing.{place_below, label_below}
+use Rattle.arch_trait.specs.{Codes.thread_code_of, Writing.place_below, Writing.label_below, SeenTests.TestSeen}
 use Rattle.arch_trait.specs.declared.code.Code.{Code}
-use Rattle.arch_trait.specs.SeenTests.{TestSeen}
 use Rattle.final_cond.specs.Conditions.{cond_view}
 use Rattle.litmus_text.specs.declared.test.Test.{Test}
 

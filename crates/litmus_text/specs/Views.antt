@@ -2,41 +2,27 @@
 -- Source: own.
 use Rattle.std.specs.Prelude.{◌≡◌, ◌<◌, ℕ, length, Bool, true, List, [], ◌∷◌, Option, Some, None, option_map, Result, Ok, map}
 use Rattle.std.specs.Borrow.{Bor}
-use Rattle.final_cond.specs.declared.cond.Cond.{Cond}
-use Rattle.final_cond.specs.declared.cond.Term.{Term}
-use Rattle.final_cond.specs.declared.cond.TheConstants.{MAX_TERMS}
-use Rattle.text_parts_laws.specs.Names.{is_place_name}
+use Rattle.final_cond.specs.declared.cond.{Cond.Cond, Term.Term, TheConstants.MAX_TERMS}
+use Rattle.text_parts_laws.specs.{Names.is_place_name, ReadingSteps.◌>>=◌}
 use Rattle.final_cond.specs.Conditions.{TermSeen, term_view, cond_view}
-use Rattle.litmus_text.specs.declared.reading.cuts.Pieces.{Pieces}
-use Rattle.litmus_text.specs.declared.reading.text.Text.{Text}
-use Rattle.litmus_text.specs.declared.reading.lines.Lines.{Lines as Left}
+use Rattle.litmus_text.specs.declared.{reading.cuts.Pieces.Pieces, reading.text.Text.Text, reading.lines.Lines.Lines as Left}
+use Rattle.litmus_text.specs.declared.{reading.joined.Joined.Joined as JoinedText, reading.items.Worth.Worth as TextWorth}
+use Rattle.litmus_text.specs.declared.{reading.items.Item.Item as TextItem, reading.initial.Begun.Begun as State}
+use Rattle.litmus_text.specs.declared.{reading.initial.Braced.Braced as BracedText, reading.table.Cells.Cells as RowCells}
+use Rattle.litmus_text.specs.declared.{reading.table.Column.Column as ThreadColumn, reading.terms.Setting.Setting as Here}
+use Rattle.litmus_text.specs.declared.{reading.terms.Mentioned.Mentioned as Names, errors.TextError.TextError}
 use Rattle.litmus_text.specs.declared.reading.lines.Lines.TheVariants as lefts
-use Rattle.litmus_text.specs.declared.reading.joined.Joined.{Joined as JoinedText}
-use Rattle.litmus_text.specs.declared.reading.items.Worth.{Worth as TextWorth}
 use Rattle.litmus_text.specs.declared.reading.items.Worth.TheVariants as worths
-use Rattle.litmus_text.specs.declared.reading.items.Item.{Item as TextItem}
 use Rattle.litmus_text.specs.declared.reading.items.Item.TheVariants as items
-use Rattle.litmus_text.specs.declared.reading.initial.Begun.{Begun as State}
-use Rattle.litmus_text.specs.declared.reading.initial.Braced.{Braced as BracedText}
 use Rattle.litmus_text.specs.declared.reading.initial.Braced.TheVariants as ends_of
-use Rattle.litmus_text.specs.declared.reading.table.Cells.{Cells as RowCells}
-use Rattle.litmus_text.specs.declared.reading.table.Column.{Column as ThreadColumn}
-use Rattle.litmus_text.specs.declared.reading.terms.Setting.{Setting as Here}
-use Rattle.litmus_text.specs.declared.reading.terms.Mentioned.{Mentioned as Names}
-use Rattle.litmus_text.specs.TextCuts.{pieces}
+use Rattle.litmus_text.specs.{TextCuts.pieces, ReadingAnswers.GivesTest, Joined.Joined, TableScan.row_read, Condition.Setting, Condition.CondRead}
+use Rattle.litmus_text.specs.{Condition.condition_read, TestReading.TestRead, TestReading.threads_of}
 use Rattle.litmus_text.specs.TextLines.{Lines, ends, line, lines_from}
-use Rattle.text_parts_laws.specs.ReadingSteps.{◌>>=◌}
 use Rattle.arch_trait.specs.Writing.{Writing}
 use Rattle.relax_edges.specs.declared.kinds.Value.{Value}
-use Rattle.litmus_text.specs.declared.errors.TextError.{TextError}
-use Rattle.litmus_text.specs.ReadingAnswers.{GivesTest}
-use Rattle.litmus_text.specs.Joined.{Joined}
 use Rattle.litmus_text.specs.InitialState.{Worth, a_number, a_place, InitialItem, empty, gives, zero_at, Begun, items_read, initial_read, Braced, closed, open_to}
 use Rattle.litmus_text.specs.TestTable.{Cells, Column, Among, among, rows_read, head_read, all_labels_judged, after_locations}
-use Rattle.litmus_text.specs.TableScan.{row_read}
-use Rattle.litmus_text.specs.Condition.{Setting, CondRead, condition_read}
 use Rattle.litmus_text.specs.ConditionScan.{Mentioned, TermRead, TermsRead, terms_here}
-use Rattle.litmus_text.specs.TestReading.{TestRead, threads_of}
 
 -- what the code sees of the two texts of a cut
 abbrev pub cut_seen : Option (Bor (List ℕ) × Bor (List ℕ)) → Option (List ℕ × List ℕ)

@@ -2,20 +2,15 @@
 use Rattle.std.proofs.Common.{◌≡◌, ℕ, List, [], ◌∷◌, ◌++◌, Some, None, true, false, refl, sym, ap, ◌∙◌, append-nil, arith}
 use Rattle.std.specs.Prelude.{Bool, Result, Ok, Err, ◌+◌}
 use Rattle.std.proofs.lemmas.Slice.Eq.{bytes_eq-Decides}
-use Rattle.log_sum.specs.declared.errors.LogKind.{LogKind}
-use Rattle.log_sum.specs.declared.errors.Fault.{Fault}
-use Rattle.log_sum.specs.declared.errors.Fault.TheVariants.{Wrong, NoMemory}
-use Rattle.log_sum.specs.declared.kinds.Place.{Place}
-use Rattle.log_sum.specs.declared.table.Table.{Table}
-use Rattle.log_sum.specs.SumViews.{tests_view, IsLineFault}
+use Rattle.log_sum.specs.declared.{errors.LogKind.LogKind, errors.Fault.Fault, errors.Fault.TheVariants.Wrong, errors.Fault.TheVariants.NoMemory}
+use Rattle.log_sum.specs.declared.{kinds.Place.Place, table.Table.Table}
+use Rattle.log_sum.specs.{SumViews.tests_view, SumViews.IsLineFault, Representing.SumProgress, Representing.IsRunning, Representing.test_name_at}
+use Rattle.log_sum.specs.{Summed.Summed}
 use Rattle.log_sum.specs.Facts.{Row, Fact, Entry, a_row, facts_of, rows, fact_fault}
 use Rattle.log_sum.specs.LogLines.{Said, passed_over, begins, counts, a_state, judged, conditioned, hashed, ends, row_said, log_line_said, place_after, fact_said, test_after}
 use Rattle.log_sum.specs.LogReading.{LogSeen, fact_put, fault_at, said_to, said_judged, text_judged, next_line}
-use Rattle.log_sum.specs.Representing.{SumProgress, IsRunning, test_name_at}
-use Rattle.log_sum.specs.Summed.{Summed}
 use Rattle.log_sum.specs.Feeding.{Marked, AreMarked, entry_of, FactPut, RowPut, FollowsSeen, ReadOn, JudgedTo}
-use Rattle.log_sum.proofs.SumLaws.{rows_more, marked_put}
-use Rattle.log_sum.proofs.ReadingLaws.{facts_here, facts_elsewhere}
+use Rattle.log_sum.proofs.{SumLaws.rows_more, SumLaws.marked_put, ReadingLaws.facts_here, ReadingLaws.facts_elsewhere}
 
 -- the marks of a test with a fact more that has no fault
 facts_marked : (facts : List Fact) (fact : Fact) → Marked (rows facts) → fact_fault facts fact ≡ None → Marked (rows (facts ++ fact ∷ []))

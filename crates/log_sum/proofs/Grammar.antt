@@ -2,26 +2,17 @@
 use Rattle.std.specs.Prelude.{◌≡◌, ℕ, suc, true, false, List, [], ◌∷◌, ◌++◌, map, Option, Some, None, Result, Ok, Err}
 use Rattle.std.proofs.Common.{sym, refl, ap, ◌∙◌, arith}
 use Rattle.list_laws.proofs.Cases.{by_test}
-use Rattle.text_parts_laws.specs.Lines.{without_return, last_line}
-use Rattle.text_parts_laws.specs.Words.{words}
-use Rattle.text_parts_laws.specs.ReadingSteps.{◌>>=◌}
-use Rattle.log_sum.specs.declared.errors.LogKind.{LogKind}
-use Rattle.log_sum.specs.declared.errors.LogKind.TheVariants.{LineTooLong}
-use Rattle.log_sum.specs.declared.errors.LogError.{LogError}
-use Rattle.log_sum.specs.declared.kinds.Kind.{Kind}
-use Rattle.log_sum.specs.declared.kinds.Place.{Place}
+use Rattle.text_parts_laws.specs.{Lines.without_return, Lines.last_line, Words.words, ReadingSteps.◌>>=◌}
+use Rattle.log_sum.specs.declared.{errors.LogKind.LogKind, errors.LogKind.TheVariants.LineTooLong, errors.LogError.LogError, kinds.Kind.Kind}
+use Rattle.log_sum.specs.declared.{kinds.Place.Place}
 use Rattle.log_sum.specs.declared.kinds.Place.TheVariants.{Outside, Histogram, States, Judgement, Rest, Conditioned}
-use Rattle.log_sum.specs.Facts.{Entry}
-use Rattle.log_sum.specs.LogLines.{Said, test_line, outside_said}
-use Rattle.log_sum.specs.LogLines.{condition_line, hash_line}
+use Rattle.log_sum.specs.{Facts.Entry, LogLines.Said, LogLines.test_line, LogLines.outside_said, LogLines.condition_line, LogLines.hash_line}
+use Rattle.log_sum.specs.{LogReading.line_judged, LogReading.lines_judged, SumText.sum_text, Representing.logs_text, Representing.LogsByBlocks}
+use Rattle.log_sum.specs.{LogGrammar.of_no_test, LogGrammar.log_says}
 use Rattle.log_sum.specs.LogLines.{rest_said, log_line_said, states_left, kind_at, place_after, fact_said}
 use Rattle.log_sum.specs.LogReading.{LogSeen, nothing_seen, fault_at, is_too_long, next_line, said_put, text_judged}
-use Rattle.log_sum.specs.LogReading.{line_judged, lines_judged}
 use Rattle.log_sum.specs.LogReading.{last_judged, end_judged, file_judged, files_judged}
-use Rattle.log_sum.specs.SumText.{sum_text}
-use Rattle.log_sum.specs.Representing.{logs_text, LogsByBlocks}
 use Rattle.log_sum.specs.LogGrammar.{text_in, log_texts, LogSays, of_test, of_hash, of_condition}
-use Rattle.log_sum.specs.LogGrammar.{of_no_test, log_says}
 use Rattle.log_sum.specs.LogGrammar.{block_says, states_say, rest_says, log_judged, all_judged}
 
 -- what was seen, by its parts

@@ -2,13 +2,11 @@
 use Rattle.std.proofs.Common.{◌≡◌, ℕ, ◌+◌, List, [], ◌∷◌, length, refl, sym, ap, ◌∙◌, arith}
 use Rattle.std.specs.Prelude.{Ok}
 use Rattle.std.proofs.lemmas.List.Splits.{length-slice_split}
-use Rattle.text_parts_laws.specs.Lines.{is_line_feed, whole_lines, unended}
+use Rattle.text_parts_laws.specs.{Lines.is_line_feed, Lines.whole_lines, Lines.unended, ReadingSteps.◌>>=◌}
 use Rattle.text_parts_laws.proofs.PieceLaws.{first_piece, length-but_last}
-use Rattle.diy_io.specs.Count.{count_of}
-use Rattle.diy_io.specs.Sink.{line_feed_count}
+use Rattle.diy_io.specs.{Count.count_of, Sink.line_feed_count}
 use Rattle.log_sum.specs.declared.kinds.Place.{Place}
 use Rattle.log_sum.specs.LogReading.{LogSeen, nothing_seen, next_line, text_judged, line_judged, lines_judged, rest_judged, bytes_judged, last_judged, end_at, end_judged, file_judged, files_judged, input_judged}
-use Rattle.text_parts_laws.specs.ReadingSteps.{◌>>=◌}
 use Rattle.log_sum.specs.Representing.{Kept, Represents, running_line}
 use Rattle.log_sum.proofs.FeedLaws.{middle_of, rest_same}
 

@@ -1,14 +1,10 @@
 -- Summers that were fed the same bytes in other pieces.
 use Rattle.std.proofs.Common.{◌≡◌, ℕ, List, [], ◌∷◌, ◌++◌, Ok, Err, arith}
 use Rattle.std.specs.Prelude.{Result}
-use Rattle.log_sum.specs.declared.errors.LogError.{LogError}
-use Rattle.log_sum.specs.declared.errors.SumError.{SumError}
-use Rattle.log_sum.specs.declared.errors.SumError.TheVariants.{Log, NoMemory}
-use Rattle.log_sum.specs.LogReading.{LogSeen, nothing_seen, files_judged}
-use Rattle.log_sum.specs.Representing.{Kept, EndedTo}
-use Rattle.log_sum.specs.SumPieces.{SameAnswers}
-use Rattle.log_sum.proofs.StayLaws.{input_fault, files_fault, nothing_more}
-use Rattle.log_sum.proofs.Grammar.{text_fault}
+use Rattle.log_sum.specs.declared.errors.{LogError.LogError, SumError.SumError, SumError.TheVariants.Log, SumError.TheVariants.NoMemory}
+use Rattle.log_sum.specs.{LogReading.LogSeen, LogReading.nothing_seen, LogReading.files_judged, Representing.Kept, Representing.EndedTo}
+use Rattle.log_sum.specs.{SumPieces.SameAnswers}
+use Rattle.log_sum.proofs.{StayLaws.input_fault, StayLaws.files_fault, StayLaws.nothing_more, Grammar.text_fault}
 
 -- a reading has no fault
 record NoFault (read : Result LogSeen LogError) : Type 0 where

@@ -3,9 +3,7 @@ use Rattle.std.proofs.Common.{◌≡◌, ℕ, List, [], ◌∷◌, ◌++◌, Ok,
 use Rattle.log_sum.specs.declared.errors.LogError.{LogError}
 use Rattle.log_sum.specs.LogReading.{input_judged}
 use Rattle.log_sum.specs.Representing.{Kept, Represents, IsBetweenLogs, kept_text, logs_text}
-use Rattle.log_sum.proofs.PrintLaws.{sum_is}
-use Rattle.log_sum.proofs.StayLaws.{files_fault, file_more, nothing_more}
-use Rattle.log_sum.proofs.Grammar.{judged_text, text_fault}
+use Rattle.log_sum.proofs.{PrintLaws.sum_is, StayLaws.files_fault, StayLaws.file_more, StayLaws.nothing_more, Grammar.judged_text, Grammar.text_fault}
 
 -- the printed sum of what represents whole logs is theirs
 pub represented_text : (kept : Kept) (files : List (List ℕ)) → Represents kept files [] → logs_text files ≡ Ok (kept_text kept)

@@ -1,25 +1,13 @@
 -- What is kept of a test follows its facts.
 use Rattle.std.proofs.Common.{◌≡◌, ℕ, zero-add, add-zero, ◌+◌, ◌≤◌, List, [], ◌∷◌, ◌++◌, Some, None, true, false, refl, sym, ap, ◌∙◌, arith, append-nil, min}
 use Rattle.std.specs.Prelude.{Bool, not, ◌&&◌, ◌||◌, cond, Option, map, Result, Ok, Err, filter, fold, sum_by, option_map, is_some}
-use Rattle.std.specs.List.{list_any, list_all}
-use Rattle.std.specs.Ordering.{nat_cmp, match_ordering}
-use Rattle.std.proofs.lemmas.Map.Text.{is_eq-slice_cmp}
-use Rattle.std.specs.declared.cmp.Ordering.{Ordering}
-use Rattle.std.specs.declared.cmp.Ordering.TheVariants.{Less, Equal, Greater}
-use Rattle.std.specs.Cmp.Lexicographic.{slice_cmp}
-use Rattle.std.specs.BTreeSet.{insert_key}
-use Rattle.std.specs.BTreeMap.{insert_entry}
-use Rattle.std.specs.Str.{bytes_eq}
-use Rattle.std.proofs.lemmas.List.Elements.{filter-append}
-use Rattle.std.proofs.lemmas.List.Sums.{fold-append, sum_by-append}
-use Rattle.std.proofs.lemmas.List.Folds.{list_all-append}
-use Rattle.std.proofs.lemmas.Bool.{and_parts}
-use Rattle.std.proofs.lemmas.Slice.Eq.{bytes_eq-Decides}
-use Rattle.log_sum.specs.declared.errors.LogKind.{LogKind}
-use Rattle.std.proofs.lemmas.List.{map_push}
+use Rattle.std.specs.{List.list_any, List.list_all, Ordering.nat_cmp, Ordering.match_ordering, Cmp.Lexicographic.slice_cmp, BTreeSet.insert_key}
+use Rattle.std.specs.{BTreeMap.insert_entry, Str.bytes_eq}
+use Rattle.std.proofs.lemmas.{Map.Text.is_eq-slice_cmp, List.Elements.filter-append, List.Sums.fold-append, List.Sums.sum_by-append}
+use Rattle.std.proofs.lemmas.{List.Folds.list_all-append, Bool.and_parts, Slice.Eq.bytes_eq-Decides, List.map_push}
+use Rattle.std.specs.declared.cmp.{Ordering.Ordering, Ordering.TheVariants.Less, Ordering.TheVariants.Equal, Ordering.TheVariants.Greater}
+use Rattle.log_sum.specs.declared.{errors.LogKind.LogKind, kinds.Mark.Mark, kinds.Mark.TheVariants.Plain}
 use Rattle.list_laws.proofs.Cases.{by_test, eq_swap}
-use Rattle.log_sum.specs.declared.kinds.Mark.{Mark}
-use Rattle.log_sum.specs.declared.kinds.Mark.TheVariants.{Plain}
 use Rattle.diy_io.specs.Count.{last_count}
 use Rattle.log_sum.specs.Facts.{Row, Fact, a_row, kinds, rows, conditions, hashes, same_state_mark, marked_sum, state_sum, states_of, mark_in, is_other, fact_fault}
 use Rattle.log_sum.specs.Summed.{Summed, StateSummed, some_or, state_by, summed}

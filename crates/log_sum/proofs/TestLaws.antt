@@ -1,11 +1,8 @@
 -- States as the code keeps them.
 use Rattle.std.proofs.Common.{◌≡◌, ℕ, ◌+◌, ◌-◌, ◌<◌, ◌≤◌, List, Some, None, true, false, refl, sym, arith, min}
 use Rattle.std.specs.Prelude.{Option, Ok, Err, option_map, nat_lt}
-use Rattle.std.specs.Ordering.{nat_cmp}
-use Rattle.std.specs.Cmp.Lexicographic.{slice_cmp}
-use Rattle.std.specs.BTreeMap.{insert_entry}
-use Rattle.log_sum.specs.declared.errors.LogKind.TheVariants.{MarkDiffers, SumTooLarge}
-use Rattle.log_sum.specs.declared.kinds.Mark.{Mark}
+use Rattle.std.specs.{Ordering.nat_cmp, Cmp.Lexicographic.slice_cmp, BTreeMap.insert_entry}
+use Rattle.log_sum.specs.declared.{errors.LogKind.TheVariants.MarkDiffers, errors.LogKind.TheVariants.SumTooLarge, kinds.Mark.Mark}
 use Rattle.diy_io.specs.Count.{last_count}
 use Rattle.log_sum.specs.Facts.{Row, a_row, is_other, same_state_mark}
 use Rattle.log_sum.specs.Summed.{Summed, StateSummed}

@@ -1,12 +1,8 @@
 -- The equalities of a state as they are collected, before they are put in byte order.
 -- Source: own.
 use Rattle.std.specs.Prelude.{ℕ, Bool, false, ◌||◌, cond, List, [], ◌∷◌, ◌++◌, Option, Some, None, Result, Ok, Err, IsSome}
-use Rattle.std.specs.Ordering.{nat_cmp}
-use Rattle.std.specs.Cmp.Lexicographic.{slice_cmp}
-use Rattle.std.specs.BTreeSet.{insert_key}
-use Rattle.std.specs.Str.{bytes_eq}
-use Rattle.log_sum.specs.declared.errors.LogKind.{LogKind}
-use Rattle.log_sum.specs.declared.errors.LogKind.TheVariants.{BadState}
+use Rattle.std.specs.{Ordering.nat_cmp, Cmp.Lexicographic.slice_cmp, BTreeSet.insert_key, Str.bytes_eq}
+use Rattle.log_sum.specs.declared.errors.{LogKind.LogKind, LogKind.TheVariants.BadState}
 use Rattle.text_parts_laws.specs.Cuts.{cut_at}
 use Rattle.log_sum.specs.LogStates.{left_kept, sides_read, has_left, and_then}
 

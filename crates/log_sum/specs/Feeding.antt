@@ -1,19 +1,12 @@
 -- What the steps of a summer answer, compared with the reading of the same bytes.
 -- Source: own.
 use Rattle.std.specs.Prelude.{◌≡◌, ℕ, true, not, ◌||◌, List, [], ◌∷◌, ◌++◌, Some, None, Result, Ok, Err}
-use Rattle.std.specs.List.{list_all}
-use Rattle.std.specs.Str.{bytes_eq}
-use Rattle.log_sum.specs.declared.errors.Fault.{Fault}
-use Rattle.log_sum.specs.declared.errors.Fault.TheVariants.{Wrong, NoMemory}
-use Rattle.log_sum.specs.declared.errors.LogError.{LogError}
-use Rattle.log_sum.specs.declared.errors.LogKind.{LogKind}
-use Rattle.log_sum.specs.declared.errors.SumError.{SumError}
+use Rattle.std.specs.{List.list_all, Str.bytes_eq}
+use Rattle.log_sum.specs.declared.{errors.Fault.Fault, errors.Fault.TheVariants.Wrong, errors.Fault.TheVariants.NoMemory, errors.LogError.LogError}
+use Rattle.log_sum.specs.declared.{errors.LogKind.LogKind, errors.SumError.SumError, kinds.Mark.Mark, table.Table.Table}
 use Rattle.log_sum.specs.declared.errors.SumError.TheVariants as sums
-use Rattle.log_sum.specs.declared.kinds.Mark.{Mark}
-use Rattle.log_sum.specs.declared.table.Table.{Table}
-use Rattle.log_sum.specs.SumViews.{tests_view}
+use Rattle.log_sum.specs.{SumViews.tests_view, LogLines.Said, LogLines.log_line_said}
 use Rattle.log_sum.specs.Facts.{Row, Fact, Entry, a_row, facts_of, rows, same_state_mark, mark_in, fact_fault}
-use Rattle.log_sum.specs.LogLines.{Said, log_line_said}
 use Rattle.log_sum.specs.LogReading.{LogSeen, nothing_seen, fault_at, said_judged, input_judged, files_judged}
 use Rattle.log_sum.specs.Representing.{SumProgress, IsAtSeen, Kept, Represents, sum_table, test_name_at}
 

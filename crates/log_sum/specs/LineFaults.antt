@@ -1,9 +1,7 @@
 -- Faults of a line, before its number is known.
 -- Source: own.
 use Rattle.std.specs.Prelude.{◌≡◌, Result, Err}
-use Rattle.log_sum.specs.declared.errors.LogKind.{LogKind}
-use Rattle.log_sum.specs.declared.errors.Fault.{Fault}
-use Rattle.log_sum.specs.declared.errors.Fault.TheVariants.{Wrong, NoMemory}
+use Rattle.log_sum.specs.declared.errors.{LogKind.LogKind, Fault.Fault, Fault.TheVariants.Wrong, Fault.TheVariants.NoMemory}
 
 -- a fault is the one of the definition; where there was no memory, nothing is known
 abbrev pub IsLineFault : {Y : Type 0} → Fault → Result Y LogKind → Type 0

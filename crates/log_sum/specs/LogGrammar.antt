@@ -2,17 +2,12 @@
 -- Source: the logs of litmus7; what is a fault is own.
 use Rattle.std.specs.Prelude.{ℕ, zero, suc, Bool, true, false, cond, List, [], ◌∷◌, ◌++◌, map, Option, Some, None, Result, Ok, Err}
 use Rattle.text_parts_laws.specs.Lines.{without_return, whole_lines, unended, last_line}
-use Rattle.text_parts_laws.specs.Words.{words}
-use Rattle.text_parts_laws.specs.ReadingSteps.{◌>>=◌}
-use Rattle.log_sum.specs.declared.errors.LogKind.{LogKind}
+use Rattle.text_parts_laws.specs.{Words.words, ReadingSteps.◌>>=◌}
+use Rattle.log_sum.specs.declared.{errors.LogKind.LogKind, errors.LogError.LogError, kinds.Kind.Kind, kinds.Verdict.Verdict}
 use Rattle.log_sum.specs.declared.errors.LogKind.TheVariants.{Truncated, BadState, KindDiffers, LineTooLong}
-use Rattle.log_sum.specs.declared.errors.LogError.{LogError}
-use Rattle.log_sum.specs.declared.kinds.Kind.{Kind}
-use Rattle.log_sum.specs.declared.kinds.Verdict.{Verdict}
-use Rattle.log_sum.specs.Texts.{begins_with}
+use Rattle.log_sum.specs.{Texts.begins_with, LogReading.fault_at, LogReading.is_too_long, LogReading.next_line}
 use Rattle.log_sum.specs.Facts.{Row, Fact, a_kind, a_row, a_condition, a_hash, Entry, facts_of, fact_fault}
 use Rattle.log_sum.specs.LogLines.{test_line, histogram_line, log_row, is_judgement, is_observation, condition_line, quantifier, hash_line}
-use Rattle.log_sum.specs.LogReading.{fault_at, is_too_long, next_line}
 
 -- the text of a line, where the line isn't too long
 abbrev pub text_in : (List ℕ → List ℕ) → List ℕ → Option (List ℕ)

@@ -2,21 +2,15 @@
 -- Source: the logs of litmus7; what is a fault is own.
 use Rattle.std.specs.Prelude.{ℕ, zero, suc, ◌==◌, Bool, false, ◌||◌, ◌&&◌, cond, List, [], ◌∷◌, drop, Option, Some, None, Result, Ok, Err, codes}
 use Rattle.std.specs.Str.{bytes_eq}
-use Rattle.log_sum.specs.declared.errors.LogKind.{LogKind}
+use Rattle.log_sum.specs.declared.{errors.LogKind.LogKind, kinds.Kind.Kind, kinds.Kind.TheVariants.Allowed, kinds.Kind.TheVariants.Forbidden}
+use Rattle.log_sum.specs.declared.{kinds.Kind.TheVariants.Required, kinds.Mark.Mark, kinds.Mark.TheVariants.Starred, kinds.Mark.TheVariants.Plain}
+use Rattle.log_sum.specs.declared.{kinds.Verdict.Verdict, kinds.Verdict.TheVariants.Validated, kinds.Verdict.TheVariants.NotValidated}
+use Rattle.log_sum.specs.declared.{kinds.Place.Place}
 use Rattle.log_sum.specs.declared.errors.LogKind.TheVariants.{Truncated, BadState, NoCounts, KindDiffers}
-use Rattle.log_sum.specs.declared.kinds.Kind.{Kind}
-use Rattle.log_sum.specs.declared.kinds.Kind.TheVariants.{Allowed, Forbidden, Required}
-use Rattle.log_sum.specs.declared.kinds.Mark.{Mark}
-use Rattle.log_sum.specs.declared.kinds.Mark.TheVariants.{Starred, Plain}
-use Rattle.log_sum.specs.declared.kinds.Verdict.{Verdict}
-use Rattle.log_sum.specs.declared.kinds.Verdict.TheVariants.{Validated, NotValidated}
-use Rattle.log_sum.specs.declared.kinds.Place.{Place}
 use Rattle.log_sum.specs.declared.kinds.Place.TheVariants.{Outside, Histogram, States, Judgement, Rest, Conditioned}
-use Rattle.text_parts_laws.specs.Words.{is_nil, words}
-use Rattle.text_parts_laws.specs.Blanks.{trim_blanks, unblanked}
+use Rattle.text_parts_laws.specs.{Words.is_nil, Words.words, Blanks.trim_blanks, Blanks.unblanked}
 use Rattle.log_sum.specs.Texts.{joined_words, ends_with, before_end, begins_with}
-use Rattle.log_sum.specs.Counts.{count_read}
-use Rattle.log_sum.specs.LogStates.{form_read}
+use Rattle.log_sum.specs.{Counts.count_read, LogStates.form_read}
 use Rattle.log_sum.specs.Facts.{Row, Fact, a_kind, a_row, a_condition, a_hash}
 
 -- what a line says

@@ -1,13 +1,9 @@
 -- The reading of logs, line by line: the facts of all logs, or the first fault.
 -- Source: own.
 use Rattle.std.specs.Prelude.{ℕ, ◌+◌, nat_lt, Bool, cond, List, [], ◌∷◌, ◌++◌, length, min, Option, Some, None, Result, Ok, Err}
-use Rattle.text_parts_laws.specs.Lines.{without_return, whole_lines, unended}
-use Rattle.text_parts_laws.specs.ReadingSteps.{◌>>=◌}
-use Rattle.log_sum.specs.declared.errors.LogKind.{LogKind}
-use Rattle.log_sum.specs.declared.errors.LogKind.TheVariants.{Truncated, LineTooLong}
-use Rattle.log_sum.specs.declared.errors.LogError.{LogError}
-use Rattle.log_sum.specs.declared.kinds.Place.{Place}
-use Rattle.log_sum.specs.declared.kinds.Place.TheVariants.{Outside}
+use Rattle.text_parts_laws.specs.{Lines.without_return, Lines.whole_lines, Lines.unended, ReadingSteps.◌>>=◌}
+use Rattle.log_sum.specs.declared.{errors.LogKind.LogKind, errors.LogKind.TheVariants.Truncated, errors.LogKind.TheVariants.LineTooLong}
+use Rattle.log_sum.specs.declared.{errors.LogError.LogError, kinds.Place.Place, kinds.Place.TheVariants.Outside}
 use Rattle.diy_io.specs.Count.{last_count}
 use Rattle.log_sum.specs.Facts.{Fact, Entry, facts_of, fact_fault}
 use Rattle.log_sum.specs.LogLines.{Said, log_line_said, place_after, fact_said, test_after}

@@ -1,20 +1,13 @@
 -- What a summer keeps, and the input that this represents.
 -- Source: own.
 use Rattle.std.specs.Prelude.{◌≡◌, ℕ, ◌+◌, Bool, true, List, [], ◌∷◌, ◌++◌, map, slice_get, Option, Some, None, option_map, Result, Ok, Err, IfErr}
-use Rattle.diy_io.specs.Count.{count_of}
-use Rattle.diy_io.specs.Sink.{line_feed_count}
-use Rattle.log_sum.specs.declared.errors.LogError.{LogError}
-use Rattle.log_sum.specs.declared.errors.SumError.{SumError}
-use Rattle.log_sum.specs.declared.errors.SumError.TheVariants.{Log, NoMemory}
-use Rattle.log_sum.specs.declared.kinds.Place.{Place}
-use Rattle.log_sum.specs.declared.kinds.Place.TheVariants.{Outside}
-use Rattle.log_sum.specs.Facts.{Entry, facts_of, tests_of}
-use Rattle.text_parts_laws.specs.Lines.{unended}
-use Rattle.log_sum.specs.LogGrammar.{all_judged}
+use Rattle.diy_io.specs.{Count.count_of, Sink.line_feed_count}
+use Rattle.log_sum.specs.declared.{errors.LogError.LogError, errors.SumError.SumError, errors.SumError.TheVariants.Log}
+use Rattle.log_sum.specs.declared.{errors.SumError.TheVariants.NoMemory, kinds.Place.Place, kinds.Place.TheVariants.Outside}
+use Rattle.log_sum.specs.{Facts.Entry, Facts.facts_of, Facts.tests_of, LogGrammar.all_judged, Summed.Summed, Summed.summed, SumText.summed_text}
+use Rattle.log_sum.specs.{SumText.sum_text}
+use Rattle.text_parts_laws.specs.{Lines.unended, ReadingSteps.◌>>=◌}
 use Rattle.log_sum.specs.LogReading.{LogSeen, nothing_seen, input_judged, files_judged}
-use Rattle.text_parts_laws.specs.ReadingSteps.{◌>>=◌}
-use Rattle.log_sum.specs.Summed.{Summed, summed}
-use Rattle.log_sum.specs.SumText.{summed_text, sum_text}
 use Rattle.std.specs.List.{flat_map}
 
 -- how far the reading is: the tests by name, in the order in which each was first seen; the place in the running log, the

@@ -1,9 +1,7 @@
 -- What a summer answers and sums, whatever the pieces in which the same bytes came.
 -- Source: own.
 use Rattle.std.specs.Prelude.{◌≡◌, ◌⊎◌, ℕ, List, ◌++◌, Result, Err}
-use Rattle.log_sum.specs.declared.errors.LogError.{LogError}
-use Rattle.log_sum.specs.declared.errors.SumError.{SumError}
-use Rattle.log_sum.specs.declared.errors.SumError.TheVariants.{Log, NoMemory}
+use Rattle.log_sum.specs.declared.errors.{LogError.LogError, SumError.SumError, SumError.TheVariants.Log, SumError.TheVariants.NoMemory}
 use Rattle.log_sum.specs.Representing.{Kept, Represents, FedTo, EndedTo, kept_text}
 
 -- two answers are the same, where there is memory

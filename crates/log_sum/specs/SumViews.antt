@@ -1,26 +1,14 @@
 -- What the values of the code mean to the definitions.
 -- Source: own.
 use Rattle.std.specs.Prelude.{◌≡◌, ℕ, Bool, List, Some, Result, Ok, Err, map, option_map}
-use Rattle.std.specs.List.{list_all}
-use Rattle.std.specs.Borrow.{Bor}
-use Rattle.log_sum.specs.declared.errors.LogKind.{LogKind}
-use Rattle.log_sum.specs.declared.errors.Fault.{Fault}
+use Rattle.std.specs.{List.list_all, Borrow.Bor}
+use Rattle.log_sum.specs.declared.{errors.LogKind.LogKind, errors.Fault.Fault, lines.Row.Row as RowCode, lines.Said.Said as SaidCode}
+use Rattle.log_sum.specs.declared.{kinds.Verdict.Verdict, test_sum.TestSum.TestSum, table.Table.Table, reading.Reading.Reading}
 pub use Rattle.log_sum.specs.LineFaults.{IsLineFault}
-use Rattle.log_sum.specs.declared.lines.Row.{Row as RowCode}
-use Rattle.log_sum.specs.declared.lines.Said.{Said as SaidCode}
 use Rattle.log_sum.specs.declared.lines.Said.TheVariants as code
-use Rattle.log_sum.specs.declared.kinds.Verdict.{Verdict}
-use Rattle.std.specs.declared.vec.Vec.{Vec}
-use Rattle.std.specs.declared.alloc.Global.{Global}
-use Rattle.log_sum.specs.declared.test_sum.TestSum.{TestSum}
-use Rattle.log_sum.specs.declared.table.Table.{Table}
-use Rattle.log_sum.specs.declared.reading.Reading.{Reading}
-use Rattle.log_sum.specs.Summed.{Summed}
-use Rattle.log_sum.specs.StateEntries.{states_view}
-use Rattle.log_sum.specs.Facts.{Row, Fact}
-use Rattle.log_sum.specs.Representing.{SumProgress}
-use Rattle.log_sum.specs.LogStates.{form_read}
-use Rattle.log_sum.specs.SummingSteps.{fact_to}
+use Rattle.std.specs.declared.{vec.Vec.Vec, alloc.Global.Global}
+use Rattle.log_sum.specs.{Summed.Summed, StateEntries.states_view, Facts.Row, Facts.Fact, Representing.SumProgress, LogStates.form_read}
+use Rattle.log_sum.specs.{SummingSteps.fact_to}
 use Rattle.log_sum.specs.LogLines.{Said, row_of, row_said, passed_over, begins, counts, judged, conditioned, hashed, ends}
 
 -- an answer is what the definition gives; `view` says what the answer means

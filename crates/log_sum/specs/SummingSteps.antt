@@ -1,17 +1,10 @@
 -- A test with a fact more, by what is kept of it.
 -- Source: own.
 use Rattle.std.specs.Prelude.{ℕ, ◌+◌, min, nat_lt, true, false, ◌&&◌, ◌||◌, cond, List, [], Option, Some, None, Result, Ok, Err, option_map}
-use Rattle.std.specs.Ordering.{nat_cmp}
-use Rattle.std.specs.Cmp.Lexicographic.{slice_cmp}
-use Rattle.std.specs.BTreeMap.{insert_entry, is_at}
-use Rattle.std.specs.Map.{lookup}
-use Rattle.std.specs.Str.{bytes_eq}
-use Rattle.log_sum.specs.declared.errors.LogKind.{LogKind}
+use Rattle.std.specs.{Ordering.nat_cmp, Cmp.Lexicographic.slice_cmp, BTreeMap.insert_entry, BTreeMap.is_at, Map.lookup, Str.bytes_eq}
+use Rattle.log_sum.specs.declared.{errors.LogKind.LogKind, kinds.Kind.Kind, kinds.Mark.Mark, kinds.Mark.TheVariants.Starred}
+use Rattle.log_sum.specs.declared.{kinds.Mark.TheVariants.Plain, kinds.Verdict.Verdict}
 use Rattle.log_sum.specs.declared.errors.LogKind.TheVariants.{MarkDiffers, HashDiffers, ConditionDiffers, SumTooLarge, KindDiffers}
-use Rattle.log_sum.specs.declared.kinds.Kind.{Kind}
-use Rattle.log_sum.specs.declared.kinds.Mark.{Mark}
-use Rattle.log_sum.specs.declared.kinds.Mark.TheVariants.{Starred, Plain}
-use Rattle.log_sum.specs.declared.kinds.Verdict.{Verdict}
 use Rattle.diy_io.specs.Count.{last_count}
 use Rattle.log_sum.specs.Facts.{Row, Fact, a_kind, a_row, a_condition, a_hash, same_kind, same_state_mark, says_validated, is_other}
 use Rattle.log_sum.specs.Summed.{Summed, StateSummed}

@@ -8,12 +8,8 @@ use Rattle.log_sum.specs.Facts.{Fact, Entry, facts_of, fact_fault}
 use Rattle.log_sum.specs.LogLines.{Said, log_line_said, place_after, fact_said, test_after}
 use Rattle.log_sum.specs.LogReading.{LogSeen, is_too_long, next_line, text_judged, line_judged, lines_judged}
 use Rattle.text_parts_laws.specs.Lines.{is_line_feed, without_return, whole_lines, unended}
-use Rattle.log_sum_laws.proofs.Cases.{Place}
-use Rattle.log_sum_laws.proofs.Texts.{no_feed}
-use Rattle.text_parts_laws.proofs.CutLaws.{all_both}
-use Rattle.text_parts_laws.proofs.LineLaws.{class_kept}
-use Rattle.text_parts_laws.proofs.PieceLaws.{first_piece, split_off}
-use Rattle.log_sum_laws.proofs.Lines.{digits_pass}
+use Rattle.log_sum_laws.proofs.{Cases.Place, Texts.no_feed, Lines.digits_pass}
+use Rattle.text_parts_laws.proofs.{CutLaws.all_both, LineLaws.class_kept, PieceLaws.first_piece, PieceLaws.split_off}
 
 -- what was seen, by its parts
 abbrev pub seen_at : List Entry → List ℕ → Place → ℕ → LogSeen

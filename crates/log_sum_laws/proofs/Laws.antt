@@ -1,29 +1,21 @@
 -- The laws of sums of sums.
 use Rattle.std.proofs.Common.{◌≡◌, ℕ, ◌≤◌, List, [], ◌∷◌, ◌++◌, true, refl, sym, ap, ◌∙◌, arith, subst, append_assoc, append-nil, Some}
-use Rattle.std.specs.Prelude.{Ok, map, codes}
-use Rattle.std.specs.List.{list_any, flat_map, AllByRecursion}
-use Rattle.std.specs.Str.{bytes_eq}
+use Rattle.std.specs.{Prelude.Ok, Prelude.map, Prelude.codes, List.list_any, List.flat_map, List.AllByRecursion, Str.bytes_eq}
 use Rattle.list_laws.proofs.Cases.{by_test}
 use Rattle.diy_io.specs.Count.{last_count}
 use Rattle.log_sum.specs.Facts.{Row, Fact, Entry, a_hash, rows, hashes, first_of, marked_sum, state_sum, facts_of, tests_of}
 use Rattle.log_sum.specs.LogReading.{LogSeen, nothing_seen, file_judged, files_judged}
-use Rattle.log_sum.specs.JudgedLaws.{files_both}
+use Rattle.log_sum.specs.{JudgedLaws.files_both, Summed.state_by, Summed.summed, SumText.summed_text, SumText.sum_text, Representing.logs_text}
 use Rattle.text_parts_laws.specs.Lines.{without_return}
-use Rattle.log_sum.specs.Summed.{state_by, summed}
-use Rattle.log_sum.specs.SumText.{summed_text, sum_text}
-use Rattle.log_sum.specs.Representing.{logs_text}
 use Rattle.log_sum_laws.specs.Laws.{KeepsSumLimits, NoFault, IsSum, Represent, none, a_log, a_sum, SumsAreLogs, SumOfSums}
 use Rattle.log_sum_laws.proofs.Cases.{Mark, Outside, Starred, Plain}
-use Rattle.log_sum_laws.proofs.Texts.{is_word}
+use Rattle.log_sum_laws.proofs.{Texts.is_word, Lines.line_of_hash, Sums.Marks, Sums.printed_facts, Said.IsRead}
 use Rattle.text_parts_laws.proofs.OrderLaws.{bytes_same}
-use Rattle.log_sum_laws.proofs.Lines.{line_of_hash}
 use Rattle.log_sum_laws.proofs.Blocks.{seen_at, Clean, clean_parts, return_prefix}
 use Rattle.log_sum_laws.proofs.Printed.{IsForm, AreForms, Printable, given, file_goes}
 use Rattle.log_sum_laws.proofs.Scans.{files_scan, files_end, IsEnd, clean_both}
 use Rattle.log_sum_laws.proofs.Agreeing.{Agrees, facts_both, clean_facts, clean_all, clean_from_agrees, agrees_from_clean, marked_both, state_both, marked_one, state_one, bytes_is}
-use Rattle.log_sum_laws.proofs.Sums.{Marks, printed_facts}
 use Rattle.log_sum_laws.proofs.Alike.{Complete, printed_alike, printed_agrees, agrees_between, alike_text, kind_summed, text_summed, hash_is, states_are, states_there, marks_fit}
-use Rattle.log_sum_laws.proofs.Said.{IsRead}
 use Rattle.log_sum_laws.proofs.Whole.{IsPrintable, IsPrintableEntry, Keeps, WholeOrRunning, keeps_nothing, files_keep}
 use Rattle.log_sum_laws.proofs.Names.{tests_distinct, tests_between, printed_of, none_printed_of, test_there, no_facts}
 use Rattle.log_sum.proofs.Grammar.{judged_text, files_by_blocks}

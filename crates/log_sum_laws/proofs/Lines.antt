@@ -1,31 +1,20 @@
 -- What the printed lines say where they are read.
 use Rattle.std.proofs.Common.{◌≡◌, ◌==◌, ℕ, suc, ◌^◌, ◌<◌, ◌≤◌, List, [], ◌∷◌, ◌++◌, length, true, false, refl, sym, ap, ◌∙◌, arith, length-append, append_assoc, append-nil, Some, None}
 use Rattle.std.specs.Prelude.{Bool, not, Ok, codes, decimal, nat_le}
-use Rattle.std.specs.Char.{is_ascii_digit}
-use Rattle.std.specs.List.{filter, list_all}
-use Rattle.std.specs.Str.{bytes_eq}
-use Rattle.std.specs.Str.Parse.{digits_value}
-use Rattle.std.proofs.lemmas.Bool.{and_parts}
-use Rattle.std.proofs.lemmas.List.{drop_at, drop-drop}
-use Rattle.std.proofs.lemmas.Fmt.{digits_decimal, digits_value-decimal, decimal_nonempty}
-use Rattle.list_laws.proofs.Digits.{digits_model}
-use Rattle.list_laws.proofs.Elements.{list_all-weaker}
+use Rattle.std.specs.{Char.is_ascii_digit, List.filter, List.list_all, Str.bytes_eq, Str.Parse.digits_value}
+use Rattle.std.proofs.lemmas.{Bool.and_parts, List.drop_at, List.drop-drop, Fmt.digits_decimal, Fmt.digits_value-decimal, Fmt.decimal_nonempty}
+use Rattle.list_laws.proofs.{Digits.digits_model, Elements.list_all-weaker}
 use Rattle.text_parts_laws.specs.Blanks.{is_blank, is_inked, before_blanks, kept_before, unblanked, trim_blanks}
-use Rattle.text_parts_laws.specs.Words.{is_nil, words}
-use Rattle.text_parts_laws.specs.LeadingRuns.{after_run}
+use Rattle.text_parts_laws.specs.{Words.is_nil, Words.words, LeadingRuns.after_run}
 use Rattle.log_sum.specs.Texts.{later_words, joined_words, ends_with, begins_with}
 use Rattle.diy_io.specs.Count.{last_count}
-use Rattle.log_sum.specs.Counts.{count_read, count_of_digits}
-use Rattle.log_sum.specs.LogStates.{form_read}
-use Rattle.log_sum.specs.Facts.{row_with}
+use Rattle.log_sum.specs.{Counts.count_read, Counts.count_of_digits, LogStates.form_read, Facts.row_with}
 use Rattle.log_sum.specs.LogLines.{passed_over, begins, counts, a_state, judged, conditioned, hashed, ends, test_line, histogram_line, log_row, condition_line, verdict_cut, hash_line, quantifier, log_line_said, states_left}
 use Rattle.log_sum.specs.SumText.{sum_kind_word, mark_sign, filling, verdict_word, verdict_end}
 use Rattle.log_sum_laws.proofs.Cases.{Kind, Mark, Verdict, Validated, NotValidated, Outside, Histogram, Judgement, Rest, Conditioned}
 use Rattle.log_sum_laws.proofs.Texts.{is_plain, is_word, word_is, ends_so, before_so, joined_both}
-use Rattle.text_parts_laws.proofs.BlankLaws.{end_stays, ink_stays, unblanked_spaces}
-use Rattle.text_parts_laws.proofs.PieceLaws.{first_piece}
-use Rattle.text_parts_laws.proofs.RunLaws.{after_halts, stops, whole_run}
-use Rattle.text_parts_laws.proofs.WordLaws.{words_both, one_word}
+use Rattle.text_parts_laws.proofs.{BlankLaws.end_stays, BlankLaws.ink_stays, BlankLaws.unblanked_spaces, PieceLaws.first_piece, RunLaws.after_halts}
+use Rattle.text_parts_laws.proofs.{RunLaws.stops, RunLaws.whole_run, WordLaws.words_both, WordLaws.one_word}
 
 -- counts
 below : (n : ℕ) → n ≤ last_count → n < 2 ^ 64

@@ -1,22 +1,14 @@
 -- Tests in the order in which each was first seen.
 use Rattle.std.proofs.Common.{◌≡◌, ℕ, List, [], ◌∷◌, ◌++◌, true, false, refl, sym, ◌∙◌, append-nil, arith}
-use Rattle.std.specs.Prelude.{◌||◌, map, fold}
-use Rattle.std.specs.List.{list_any, flat_map, AllByRecursion}
-use Rattle.std.specs.Str.{bytes_eq}
-use Rattle.std.proofs.lemmas.Bool.{or_right}
-use Rattle.std.proofs.lemmas.List.{map-append}
-use Rattle.std.proofs.lemmas.List.Sums.{fold-append}
-use Rattle.std.proofs.lemmas.List.Folds.{list_any-append}
-use Rattle.std.proofs.Math.Bool.{or-false}
-use Rattle.list_laws.proofs.Cases.{by_test, eq_swap}
-use Rattle.list_laws.proofs.Elements.{all_append}
+use Rattle.std.specs.{Prelude.◌||◌, Prelude.map, Prelude.fold, List.list_any, List.flat_map, List.AllByRecursion, Str.bytes_eq}
+use Rattle.std.proofs.{lemmas.Bool.or_right, lemmas.List.map-append, lemmas.List.Sums.fold-append, lemmas.List.Folds.list_any-append}
+use Rattle.std.proofs.{Math.Bool.or-false}
+use Rattle.list_laws.proofs.{Cases.by_test, Cases.eq_swap, Elements.all_append}
 use Rattle.log_sum.specs.Facts.{Entry, facts_of, with_test_name, tests_of}
 use Rattle.log_sum.specs.Summed.{Summed, StateSummed}
 use Rattle.text_parts_laws.proofs.OrderLaws.{bytes_same}
-use Rattle.log_sum_laws.proofs.Printed.{state_entries, given}
-use Rattle.log_sum_laws.proofs.Agreeing.{facts_both, bytes_is}
-use Rattle.log_sum_laws.proofs.Sums.{printed_facts, printed_here, printed_elsewhere}
-use Rattle.log_sum_laws.proofs.Orders.{Distinct}
+use Rattle.log_sum_laws.proofs.{Printed.state_entries, Printed.given, Agreeing.facts_both, Agreeing.bytes_is, Sums.printed_facts, Sums.printed_here}
+use Rattle.log_sum_laws.proofs.{Sums.printed_elsewhere, Orders.Distinct}
 
 any_with : (k : List ℕ) (names : List (List ℕ)) (x : List ℕ) → list_any (bytes_eq k) (with_test_name names x) ≡ list_any (bytes_eq k) names || bytes_eq k x
 any_with k names x = grind (arith, (bytes_is k x), (list_any-append (bytes_eq k) names (x ∷ [])))

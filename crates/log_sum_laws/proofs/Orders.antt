@@ -1,13 +1,8 @@
 -- Texts in byte order, each once: two such lists with the same texts are the same.
 use Rattle.std.proofs.Common.{◌≡◌, ℕ, List, [], ◌∷◌, true, false, refl, sym, ap, ◌∙◌, subst, arith}
-use Rattle.std.specs.Prelude.{fold}
-use Rattle.std.specs.List.{list_any}
-use Rattle.std.specs.Ordering.{nat_cmp, ordering_reverse}
-use Rattle.std.specs.Cmp.Lexicographic.{slice_cmp}
-use Rattle.std.specs.declared.cmp.Ordering.{Ordering}
-use Rattle.std.specs.declared.cmp.Ordering.TheVariants.{Less, Equal, Greater}
-use Rattle.std.specs.BTreeSet.{insert_key}
-use Rattle.std.specs.Str.{bytes_eq}
+use Rattle.std.specs.{Prelude.fold, List.list_any, Ordering.nat_cmp, Ordering.ordering_reverse, Cmp.Lexicographic.slice_cmp, BTreeSet.insert_key}
+use Rattle.std.specs.{Str.bytes_eq}
+use Rattle.std.specs.declared.cmp.{Ordering.Ordering, Ordering.TheVariants.Less, Ordering.TheVariants.Equal, Ordering.TheVariants.Greater}
 use Rattle.std.proofs.lemmas.Slice.Eq.{bytes_eq-Decides}
 use Rattle.text_parts_laws.proofs.OrderLaws.{order, is_text, compare, Above, Ascends, above_all, reversed, fold_ascends, none_above, any_fold, bytes_same}
 

@@ -3,15 +3,12 @@ use Rattle.std.proofs.Common.{◌≡◌, ◌==◌, ℕ, zero, suc, ◌-◌, ◌�
 use Rattle.std.specs.Prelude.{Bool, Option, Ok, codes, decimal, replicate}
 use Rattle.std.specs.List.{list_all, flat_map, AllByRecursion}
 use Rattle.list_laws.proofs.Cases.{by_test}
-use Rattle.text_parts_laws.specs.Words.{is_nil, words}
-use Rattle.text_parts_laws.specs.Blanks.{before_blanks}
-use Rattle.log_sum.specs.Texts.{joined_words, begins_with}
+use Rattle.text_parts_laws.specs.{Words.is_nil, Words.words, Blanks.before_blanks, Lines.without_return, Lines.whole_lines, Lines.unended}
+use Rattle.log_sum.specs.{Texts.joined_words, Texts.begins_with, LogStates.form_read}
 use Rattle.diy_io.specs.Count.{last_count}
-use Rattle.log_sum.specs.LogStates.{form_read}
 use Rattle.log_sum.specs.Facts.{Entry, a_kind, a_row, a_condition, a_hash, row_with}
 use Rattle.log_sum.specs.LogLines.{Said, passed_over, begins, counts, a_state, judged, conditioned, hashed, ends, quantifier, log_line_said, place_after, states_left, fact_said, test_after}
 use Rattle.log_sum.specs.LogReading.{LogSeen, next_line, last_judged, file_judged}
-use Rattle.text_parts_laws.specs.Lines.{without_return, whole_lines, unended}
 use Rattle.log_sum.specs.Summed.{Summed, StateSummed, some_or, is_validated}
 use Rattle.log_sum.specs.SumText.{sum_kind_word, mark_sign, filling, state_line, verdict_word, verdict_end, how_often, hash_text, head_text, sum_verdict_text, claim_text, condition_text, observation_text, summed_text}
 use Rattle.log_sum_laws.proofs.Cases.{Kind, Mark, Place, Allowed, Forbidden, Required, Outside, Histogram, Judgement, Rest, Conditioned}

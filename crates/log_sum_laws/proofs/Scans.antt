@@ -4,10 +4,8 @@ use Rattle.std.specs.Prelude.{Result, Ok, Err}
 use Rattle.log_sum.specs.declared.errors.LogError.{LogError}
 use Rattle.log_sum.specs.Facts.{Entry}
 use Rattle.log_sum.specs.LogReading.{LogSeen, text_judged, line_judged, lines_judged, last_judged, end_judged, file_judged, files_judged}
-use Rattle.text_parts_laws.specs.ReadingSteps.{◌>>=◌}
-use Rattle.text_parts_laws.specs.Lines.{without_return}
-use Rattle.log_sum_laws.proofs.Cases.{Outside}
-use Rattle.log_sum_laws.proofs.Blocks.{seen_at, Clean, clean_parts}
+use Rattle.text_parts_laws.specs.{ReadingSteps.◌>>=◌, Lines.without_return}
+use Rattle.log_sum_laws.proofs.{Cases.Outside, Blocks.seen_at, Blocks.Clean, Blocks.clean_parts}
 
 -- entries without a fault, and others without a fault after them, have none together
 pub clean_both : (before one two : List Entry) → Clean before one → Clean (before ++ one) two → Clean before (one ++ two)

@@ -1,18 +1,11 @@
 -- Bytes of texts: what passes a test does so in parts of the text; words of texts that are joined.
 use Rattle.std.proofs.Common.{◌≡◌, ◌==◌, ℕ, suc, ◌-◌, List, [], ◌∷◌, ◌++◌, length, take, drop, true, false, refl, sym, ap, ◌∙◌, arith, length-append, append_assoc, append-nil}
-use Rattle.std.specs.Prelude.{Bool, not, ◌&&◌}
-use Rattle.std.specs.List.{slice_split, filter, list_all}
-use Rattle.std.proofs.lemmas.List.{drop_at, take_at}
-use Rattle.std.proofs.lemmas.List.Folds.{list_all-append}
-use Rattle.std.proofs.lemmas.Bool.{and_parts}
-use Rattle.std.specs.Str.{bytes_eq}
+use Rattle.std.specs.{Prelude.Bool, Prelude.not, Prelude.◌&&◌, List.slice_split, List.filter, List.list_all, Str.bytes_eq}
+use Rattle.std.proofs.lemmas.{List.drop_at, List.take_at, List.Folds.list_all-append, Bool.and_parts}
 use Rattle.list_laws.proofs.Elements.{list_all-weaker}
-use Rattle.text_parts_laws.specs.Blanks.{is_blank, is_inked}
-use Rattle.text_parts_laws.specs.Words.{is_nil, words}
+use Rattle.text_parts_laws.specs.{Blanks.is_blank, Blanks.is_inked, Words.is_nil, Words.words}
 use Rattle.log_sum.specs.Texts.{later_words, joined_words, ends_with, before_end}
-use Rattle.text_parts_laws.proofs.CutLaws.{all_both}
-use Rattle.text_parts_laws.proofs.OrderLaws.{bytes_same}
-use Rattle.text_parts_laws.proofs.WordLaws.{words_both, one_word}
+use Rattle.text_parts_laws.proofs.{CutLaws.all_both, OrderLaws.bytes_same, WordLaws.words_both, WordLaws.one_word}
 
 -- what holds of all elements of two lists together holds of all elements of each
 pub all_parts : {A : Type 0} (p : A → Bool) (xs ys : List A) → list_all p (xs ++ ys) ≡ true → (list_all p xs ≡ true) × (list_all p ys ≡ true)

@@ -3,13 +3,9 @@
 use Rattle.std.specs.Prelude.{◌≡◌, ℕ, ◌≤◌, true, not, List, [], ◌∷◌, ◌++◌, length, Some, Ok}
 use Rattle.std.specs.List.{list_all}
 use Rattle.diy_io.specs.Count.{last_count}
-use Rattle.log_sum.specs.Facts.{Entry, facts_of}
-use Rattle.log_sum.specs.LogReading.{is_too_long}
-use Rattle.log_sum.specs.LogGrammar.{all_judged}
+use Rattle.log_sum.specs.{Facts.Entry, Facts.facts_of, LogReading.is_too_long, LogGrammar.all_judged, Summed.summed, SumText.sum_text}
+use Rattle.log_sum.specs.{Representing.logs_text}
 use Rattle.text_parts_laws.specs.Lines.{without_return, whole_lines}
-use Rattle.log_sum.specs.Summed.{summed}
-use Rattle.log_sum.specs.SumText.{sum_text}
-use Rattle.log_sum.specs.Representing.{logs_text}
 
 -- a printed sum keeps the limits of a log: none of its lines is too long, the number of the states of each test isn't above the
 -- greatest count, and no hash ends with a carriage return, which would be taken for a part of the line's end

@@ -1,12 +1,9 @@
 -- Runs written out.
 use Rattle.std.proofs.Common.{ℕ, ◌≡◌, ◌==◌, refl, cond, List, [], ◌∷◌, Some, None}
-use Rattle.relax_edges.specs.declared.kinds.Mark.TheVariants.{Plain}
+use Rattle.relax_edges.specs.declared.kinds.{Mark.TheVariants.Plain, Value.Value, Value.TheVariants.Num, Value.TheVariants.Place}
 use Rattle.relax_edges.specs.declared.kinds.Dir.TheVariants as dirs
-use Rattle.relax_edges.specs.declared.kinds.Value.{Value}
-use Rattle.relax_edges.specs.declared.kinds.Value.TheVariants.{Num, Place}
-use Rattle.micro_ops.specs.declared.operation.Micro.{Micro}
+use Rattle.micro_ops.specs.declared.operation.{Micro.Micro, Item.Item}
 use Rattle.micro_ops.specs.declared.operation.Micro.TheVariants as ops
-use Rattle.micro_ops.specs.declared.operation.Item.{Item}
 use Rattle.micro_ops.specs.declared.operation.Item.TheVariants as items
 use Rattle.micro_ops.specs.Running.{Outcome, Ended, ReadsLeft, ReadsShort, runs}
 

@@ -1,14 +1,10 @@
 -- The laws of runs: jumps, registers that keep their value,
 -- what masks name.
 use Rattle.std.proofs.Common.{ℕ, ◌+◌, ◌^◌, ◌<◌, ◌≡◌, ◌==◌, refl, Bool, true, false, cond, ◌||◌, List, [], ◌∷◌, ◌++◌, Option, Some, None, ◌∙◌, ap, eq-eqb, ◌⊎◌, count_by, ◌≤◌, arith}
-use Rattle.std.proofs.lemmas.Nat.{pow_pos}
-use Rattle.std.proofs.lemmas.List.Sums.{sum_by-append}
-use Rattle.std.proofs.Math.Pow.{pow_mono}
+use Rattle.std.proofs.{lemmas.Nat.pow_pos, lemmas.List.Sums.sum_by-append, Math.Pow.pow_mono}
 use Rattle.relax_edges.specs.declared.kinds.Value.{Value}
-use Rattle.micro_ops.specs.declared.held.Held.{Held}
-use Rattle.micro_ops.specs.declared.operation.Micro.{Micro}
+use Rattle.micro_ops.specs.declared.{held.Held.Held, operation.Micro.Micro, operation.Item.Item}
 use Rattle.micro_ops.specs.declared.operation.Micro.TheVariants as ops
-use Rattle.micro_ops.specs.declared.operation.Item.{Item}
 use Rattle.micro_ops.specs.declared.operation.Item.TheVariants as items
 use Rattle.micro_ops.specs.Machine.{Effect, step}
 use Rattle.micro_ops.specs.Running.{Run, Point, At, Past, Wants, Stuck, go, exec, taken, led, wanting, is_load, occurs, lands, is_past, writes, is_written, is_read_item, NamesLoads, beginning, starting, add_item, AllNameLoads, RunNamesLoads, OnRun}

@@ -1,14 +1,9 @@
 -- What each step keeps: where it may jump, the registers that it leaves alone, what its masks name.
 use Rattle.std.proofs.Common.{ℕ, suc, ◌+◌, ◌^◌, ◌<◌, ◌≡◌, ◌==◌, refl, Bool, false, cond, Option, Some, None, ◌⊎◌, arith, lt_of_lt_of_le, pow-suc}
-use Rattle.std.proofs.lemmas.Nat.{or_lt, pow_pos}
-use Rattle.std.proofs.Math.Pow.{pow_mono}
-use Rattle.relax_edges.specs.declared.kinds.Mark.{Mark}
-use Rattle.relax_edges.specs.declared.kinds.Value.{Value}
-use Rattle.relax_edges.specs.declared.kinds.Value.TheVariants.{Num}
-use Rattle.micro_ops.specs.declared.held.Held.{Held}
-use Rattle.micro_ops.specs.declared.operation.Micro.{Micro}
+use Rattle.std.proofs.{lemmas.Nat.or_lt, lemmas.Nat.pow_pos, Math.Pow.pow_mono}
+use Rattle.relax_edges.specs.declared.kinds.{Mark.Mark, Value.Value, Value.TheVariants.Num}
+use Rattle.micro_ops.specs.declared.{held.Held.Held, operation.Micro.Micro, operation.Item.Item}
 use Rattle.micro_ops.specs.declared.operation.Micro.TheVariants as ops
-use Rattle.micro_ops.specs.declared.operation.Item.{Item}
 use Rattle.micro_ops.specs.Machine.{ThreadState, Effect, bit, put, step, write_effect, becomes, loading, storing, comparing, branching, branching_on, address_mask, both_masks}
 use Rattle.micro_ops.specs.Running.{is_load, target, writes, is_named_register, is_read_item, MasksNameLoads, NamesLoads}
 

@@ -1,10 +1,7 @@
 -- What a machine holds, as a state, and what its step answers, as a rule does.
 -- Source: own.
 use Rattle.std.specs.Prelude.{ℕ, ◌<◌, Bool, get_or, List, Option, Some, None, Result, Ok, Err, IfSome}
-use Rattle.micro_ops.specs.declared.held.Held.{Held}
-use Rattle.micro_ops.specs.declared.machine.Stepped.{Stepped}
-use Rattle.micro_ops.specs.declared.machine.Stuck.{Stuck}
-use Rattle.micro_ops.specs.declared.operation.Micro.{Micro}
+use Rattle.micro_ops.specs.declared.{held.Held.Held, machine.Stepped.Stepped, machine.Stuck.Stuck, operation.Micro.Micro}
 use Rattle.micro_ops.specs.declared.operation.Micro.TheVariants as ops
 use Rattle.micro_ops.specs.Machine.{ThreadState, Effect, num}
 

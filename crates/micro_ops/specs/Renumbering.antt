@@ -1,11 +1,9 @@
 -- Code whose places have other numbers.
 -- Source: own.
 use Rattle.std.specs.Prelude.{ℕ}
-use Rattle.relax_edges.specs.declared.kinds.Value.{Value}
-use Rattle.relax_edges.specs.declared.kinds.Value.TheVariants.{Num, Place}
-use Rattle.micro_ops.specs.declared.operation.Micro.{Micro}
+use Rattle.relax_edges.specs.declared.kinds.{Value.Value, Value.TheVariants.Num, Value.TheVariants.Place}
+use Rattle.micro_ops.specs.declared.operation.{Micro.Micro, Item.Item}
 use Rattle.micro_ops.specs.declared.operation.Micro.TheVariants as ops
-use Rattle.micro_ops.specs.declared.operation.Item.{Item}
 use Rattle.micro_ops.specs.declared.operation.Item.TheVariants as items
 
 -- an operation, its place under the number that `number` gives it

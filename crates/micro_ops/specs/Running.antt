@@ -2,10 +2,8 @@
 -- Source: own.
 use Rattle.std.specs.Prelude.{ℕ, ◌<◌, ◌^◌, ◌==◌, Bool, true, false, cond, ◌||◌, ◌&&◌, List, [], ◌∷◌, ◌++◌, count_by, Option, Some, None, ◌≡◌, ◌⊎◌}
 use Rattle.relax_edges.specs.declared.kinds.Value.{Value}
-use Rattle.micro_ops.specs.declared.held.Held.{Held}
-use Rattle.micro_ops.specs.declared.operation.Micro.{Micro}
+use Rattle.micro_ops.specs.declared.{held.Held.Held, operation.Micro.Micro, operation.Item.Item}
 use Rattle.micro_ops.specs.declared.operation.Micro.TheVariants as ops
-use Rattle.micro_ops.specs.declared.operation.Item.{Item}
 use Rattle.micro_ops.specs.declared.operation.Item.TheVariants as items
 use Rattle.relax_edges.specs.declared.kinds.Dir.TheVariants as dirs
 use Rattle.micro_ops.specs.Machine.{ThreadState, Effect, step, num}

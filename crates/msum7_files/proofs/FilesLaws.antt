@@ -2,20 +2,13 @@
 use Rattle.std.proofs.Common.{◌≡◌, ◌+◌, ℕ, List, [], ◌∷◌, ◌++◌, length, refl, sym, ap, ◌∙◌, subst, arith, Some, None, inl, inr, length-append, get_or}
 use Rattle.std.specs.Prelude.{Option, Ok, Err, All, slice_get, zero, suc}
 use Rattle.std.proofs.lemmas.List.Elements.{All-append}
-use Rattle.diy_io.specs.Count.{Rose}
-use Rattle.diy_io.specs.Shelf.{Files, ShelfSeen, Opened}
-use Rattle.diy_io.specs.Wrote.{SinkSeen}
+use Rattle.diy_io.specs.{Count.Rose, Shelf.Files, Shelf.ShelfSeen, Shelf.Opened, Wrote.SinkSeen, Opened.IsFile}
 use Rattle.log_sum.specs.Representing.{logs_text}
-use Rattle.msum7_files.specs.declared.feeding.Feeding.{Feeding}
-use Rattle.msum7_files.specs.declared.feeding.LogFault.{LogFault}
-use Rattle.msum7_files.specs.declared.feeding.LogFault.TheVariants.{Wrong, TooMuch, NoMemory}
-use Rattle.msum7_files.specs.declared.feeding.ReadFault.{ReadFault}
-use Rattle.msum7_files.specs.declared.feeding.ReadFault.TheVariants.{Log, Device}
-use Rattle.msum7_files.specs.declared.files.FileFault.{FileFault}
-use Rattle.msum7_files.specs.declared.files.FileFault.TheVariants.{Missing, Read}
-use Rattle.msum7_files.specs.Logs.{IsShort}
-use Rattle.msum7_files.specs.FileFeeding.{IsFaulty, LogSummed, ClosedTo}
-use Rattle.diy_io.specs.Opened.{IsFile}
+use Rattle.msum7_files.specs.declared.{feeding.Feeding.Feeding, feeding.LogFault.LogFault, feeding.LogFault.TheVariants.Wrong}
+use Rattle.msum7_files.specs.declared.{feeding.LogFault.TheVariants.TooMuch, feeding.LogFault.TheVariants.NoMemory, feeding.ReadFault.ReadFault}
+use Rattle.msum7_files.specs.declared.{feeding.ReadFault.TheVariants.Log, feeding.ReadFault.TheVariants.Device, files.FileFault.FileFault}
+use Rattle.msum7_files.specs.declared.{files.FileFault.TheVariants.Missing, files.FileFault.TheVariants.Read}
+use Rattle.msum7_files.specs.{Logs.IsShort, FileFeeding.IsFaulty, FileFeeding.LogSummed, FileFeeding.ClosedTo}
 use Rattle.diy_io.proofs.FileNameLaws.{absent_before, quiet_before, file_before}
 use Rattle.diy_io.proofs.OpenedLaws.{opened_text, opened_took, took_one_more, took_no_more}
 use Rattle.msum7_files.specs.SumEnds.{AreLogs, IsBegun, IsAtWord, FileStopped, LogFilesSaid, FilesSummed}

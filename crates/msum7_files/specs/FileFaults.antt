@@ -2,9 +2,8 @@
 use Rattle.std.specs.Prelude.{ℕ, Option}
 use Rattle.log_sum.specs.declared.errors.SumError.{SumError}
 use Rattle.log_sum.specs.declared.errors.SumError.TheVariants as sums
-use Rattle.msum7_files.specs.declared.feeding.LogFault.{LogFault}
-use Rattle.msum7_files.specs.declared.feeding.LogFault.TheVariants.{Wrong, TooMuch, NoMemory}
-use Rattle.msum7_files.specs.declared.sum_end.SumEnd.{SumEnd}
+use Rattle.msum7_files.specs.declared.{feeding.LogFault.LogFault, feeding.LogFault.TheVariants.Wrong, feeding.LogFault.TheVariants.TooMuch}
+use Rattle.msum7_files.specs.declared.{feeding.LogFault.TheVariants.NoMemory, sum_end.SumEnd.SumEnd}
 use Rattle.msum7_files.specs.declared.sum_end.SumEnd.TheVariants as ends
 
 -- the fault of a log where a summer refuses it

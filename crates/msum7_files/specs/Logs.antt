@@ -1,12 +1,9 @@
 -- Logs, as they are read from a device.
 -- Source: own.
 use Rattle.std.specs.Prelude.{◌≡◌, ◌≤◌, ◌<◌, ◌⊎◌, ◌^◌, ◌+◌, ℕ, List, ◌∷◌, ◌++◌, length, Option, IfSome, Ok, Err}
-use Rattle.diy_io.specs.Count.{count_of, Rose}
-use Rattle.diy_io.specs.Taken.{SourceSeen}
-use Rattle.diy_io.specs.Sink.{line_feed_count}
+use Rattle.diy_io.specs.{Count.count_of, Count.Rose, Taken.SourceSeen, Sink.line_feed_count}
 use Rattle.log_sum.specs.declared.errors.LogError.{LogError}
-use Rattle.log_sum.specs.LogReading.{LogSeen, input_judged}
-use Rattle.log_sum.specs.Representing.{logs_text}
+use Rattle.log_sum.specs.{LogReading.LogSeen, LogReading.input_judged, Representing.logs_text}
 use Rattle.log_sum_laws.specs.Laws.{NoFault}
 
 -- a log has the text that is known, where one is known

@@ -2,13 +2,9 @@
 -- Source: own.
 use Rattle.std.specs.Prelude.{◌≡◌, ◌⊎◌, ◌+◌, ℕ, List, [], ◌∷◌, ◌++◌, length, slice_get, Option, None, Some, IfSome, MatchOption, All, Ok}
 use Rattle.std.specs.Io.KnownBytes.{IsAtEnd}
-use Rattle.diy_io.specs.Count.{Rose}
-use Rattle.diy_io.specs.Shelf.{Files, ShelfSeen}
-use Rattle.diy_io.specs.Taken.{SourceSeen}
-use Rattle.diy_io.specs.Wrote.{SinkSeen, WroteAll, WrotePart}
-use Rattle.diy_io.specs.Opened.{IsFile, TookFiles}
-use Rattle.log_sum.specs.declared.errors.LogError.{LogError}
-use Rattle.log_sum.specs.declared.errors.LogKind.{LogKind}
+use Rattle.diy_io.specs.{Count.Rose, Shelf.Files, Shelf.ShelfSeen, Taken.SourceSeen, Wrote.SinkSeen, Wrote.WroteAll, Wrote.WrotePart, Opened.IsFile}
+use Rattle.diy_io.specs.{Opened.TookFiles}
+use Rattle.log_sum.specs.declared.errors.{LogError.LogError, LogKind.LogKind}
 use Rattle.log_sum.specs.Representing.{logs_text}
 use Rattle.msum7_files.specs.declared.sum_end.SumEnd.{SumEnd}
 use Rattle.msum7_files.specs.declared.sum_end.SumEnd.TheVariants as ends

@@ -1,14 +1,11 @@
 -- The accesses of a thread, as its run makes them, with the barriers before each.
 -- Source: own.
 use Rattle.std.specs.Prelude.{ℕ, Bool, true, false, List, [], ◌∷◌, ◌++◌, take, map, count_by, Option, Some, None, slice_get}
-use Rattle.relax_edges.specs.declared.kinds.Dir.{Dir}
+use Rattle.relax_edges.specs.declared.kinds.{Dir.Dir, Mark.Mark}
 use Rattle.relax_edges.specs.declared.kinds.Dir.TheVariants as dirs
-use Rattle.relax_edges.specs.declared.kinds.Mark.{Mark}
 use Rattle.micro_ops.specs.declared.operation.Item.{Item}
 use Rattle.micro_ops.specs.declared.operation.Item.TheVariants as items
-use Rattle.program_meaning.specs.declared.Access.{Access as TheAccess}
-use Rattle.program_meaning.specs.declared.Barred.{Barred as TheBarred}
-use Rattle.program_meaning.specs.declared.WriteAt.{WriteAt}
+use Rattle.program_meaning.specs.declared.{Access.Access as TheAccess, Barred.Barred as TheBarred, WriteAt.WriteAt}
 
 -- an access: what it does, at which place, and the value that it reads or writes
 abbrev pub Access : Type 0

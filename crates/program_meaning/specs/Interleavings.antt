@@ -3,9 +3,8 @@
 -- Programs', 1979.
 use Rattle.std.specs.Prelude.{ℕ, ◌≡◌, ◌<◌, ◌==◌, Bool, false, List, [], ◌∷◌, map, take, filter, Option, Some, None, slice_get}
 use Rattle.std.specs.Option.{option_and_then}
-use Rattle.relax_edges.specs.declared.kinds.Dir.{Dir}
+use Rattle.relax_edges.specs.declared.kinds.{Dir.Dir, Value.Value}
 use Rattle.relax_edges.specs.declared.kinds.Dir.TheVariants as dirs
-use Rattle.relax_edges.specs.declared.kinds.Value.{Value}
 use Rattle.micro_ops.specs.Running.{Outcome, runs}
 use Rattle.program_meaning.specs.declared.WriteAt.{WriteAt}
 use Rattle.program_meaning.specs.Accesses.{Access, read, at_name, visits_of, accesses_of}

@@ -2,19 +2,14 @@
 use Rattle.std.specs.Prelude.{ℕ, ◌≡◌, ◌<◌, ◌≤◌, ◌+◌, ◌-◌, Bool, true, false, Ok, Err, List, [], ◌∷◌, ◌++◌, length, map, take, drop}
 use Rattle.std.specs.List.{list_any}
 use Rattle.std.proofs.Common.{suc, refl, arith, ap, subst, sym, ◌∙◌}
-use Rattle.std.proofs.Math.ListN.{drop_of_length-le}
-use Rattle.std.proofs.lemmas.List.{drop-drop}
-use Rattle.std.proofs.lemmas.Bool.{lt-ltb, le-ltb}
+use Rattle.std.proofs.{Math.ListN.drop_of_length-le, lemmas.List.drop-drop, lemmas.Bool.lt-ltb, lemmas.Bool.le-ltb}
 use Rattle.list_laws.proofs.Elements.{rest_from}
-use Rattle.relax_edges.specs.declared.edge.Edge.{Edge}
-use Rattle.relax_edges.specs.declared.relax_error.RelaxKind.{RelaxKind}
-use Rattle.relax_edges.specs.declared.relax_error.RelaxKind.TheVariants.{UnknownEdge, RelaxTooLong, DoesNotJoin}
+use Rattle.relax_edges.specs.declared.{edge.Edge.Edge, relax_error.RelaxKind.RelaxKind, relax_error.RelaxKind.TheVariants.UnknownEdge}
+use Rattle.relax_edges.specs.declared.{relax_error.RelaxKind.TheVariants.RelaxTooLong, relax_error.RelaxKind.TheVariants.DoesNotJoin}
 use Rattle.relax_edges.specs.RelaxText.{is_separator, is_empty, words_from, items_of}
 use Rattle.relax_edges.specs.Relaxations.{word_edges, paths_of, keep_all, at_most_64, kept_paths, kept_words, kept_item, kept_items, relaxes_of}
-use Rattle.relax_edges.specs.RelaxSearch.{paths_after, KeepsPaths}
-use Rattle.relax_edges.specs.RelaxPrefix.{first_word_len, kept_prefix}
-use Rattle.relax_edges.proofs.ItemScan.{items_from, kept_one}
-use Rattle.relax_edges.proofs.Paths.{paths_after-nil}
+use Rattle.relax_edges.specs.{RelaxSearch.paths_after, RelaxSearch.KeepsPaths, RelaxPrefix.first_word_len, RelaxPrefix.kept_prefix}
+use Rattle.relax_edges.proofs.{ItemScan.items_from, ItemScan.kept_one, Paths.paths_after-nil}
 
 -- words of which one names no edge are refused
 pub kept_words_unknown : (kept : List (List Edge)) (words : List (List ℕ)) → list_any (λ word. is_empty (word_edges word)) words ≡ true

@@ -1,27 +1,14 @@
 -- A text is read as the edge without marks that it spells, and as none where it spells none.
 use Rattle.std.specs.Prelude.{ℕ, ◌≡◌, ◌<◌, ◌⊎◌, ◌++◌, ◌∷◌, [], Bool, true, false, List, length, Option, Some, None, reverse, codes}
-use Rattle.std.specs.List.{list_all, list_any, find}
-use Rattle.std.specs.Option.{option_or, option_map}
-use Rattle.std.specs.Str.{bytes_eq}
+use Rattle.std.specs.{List.list_all, List.list_any, List.find, Option.option_or, Option.option_map, Str.bytes_eq}
 use Rattle.std.proofs.Common.{refl, arith, ap, subst, sym, ◌∙◌, inl, inr, append_assoc}
-use Rattle.std.proofs.lemmas.Grind.{reverse_onto}
-use Rattle.std.proofs.lemmas.List.{reverse-reverse, reverse-append}
-use Rattle.std.proofs.lemmas.Slice.Eq.{bytes_eq-Decides}
-use Rattle.list_laws.proofs.Cases.{by_test}
-use Rattle.list_laws.proofs.Elements.{option_or-none}
-use Rattle.relax_edges.specs.declared.kinds.Dir.{Dir}
+use Rattle.std.proofs.lemmas.{Grind.reverse_onto, List.reverse-reverse, List.reverse-append, Slice.Eq.bytes_eq-Decides}
+use Rattle.list_laws.proofs.{Cases.by_test, Elements.option_or-none}
+use Rattle.relax_edges.specs.declared.kinds.{Dir.Dir, Sd.Sd, Reach.Reach, Com.Com, FenceKind.FenceKind, DepKind.DepKind, Kind.Kind}
 use Rattle.relax_edges.specs.declared.kinds.Dir.TheVariants as dirs
-use Rattle.relax_edges.specs.declared.kinds.Sd.{Sd}
-use Rattle.relax_edges.specs.declared.kinds.Reach.{Reach}
-use Rattle.relax_edges.specs.declared.kinds.Com.{Com}
-use Rattle.relax_edges.specs.declared.kinds.FenceKind.{FenceKind}
-use Rattle.relax_edges.specs.declared.kinds.DepKind.{DepKind}
-use Rattle.relax_edges.specs.declared.kinds.Kind.{Kind}
 use Rattle.relax_edges.specs.declared.kinds.Kind.TheVariants as kinds
-use Rattle.relax_edges.specs.EdgeTable.{kind_of, unmarked}
+use Rattle.relax_edges.specs.{EdgeTable.kind_of, EdgeTable.unmarked, AllEdges.edges_in_order, Spelling.kind_spellings}
 use Rattle.relax_edges.specs.WordParts.{kind_word, sd_word, dir_word, fence_word, dependency_word}
-use Rattle.relax_edges.specs.AllEdges.{edges_in_order}
-use Rattle.relax_edges.specs.Spelling.{kind_spellings}
 use Rattle.relax_edges.specs.WordReading.{kind_named_by, dirs_read, places_read, dependencies_read, plain_fences_read, riscv_fences_read, dir_named, sd_named, reach_named, com_named, dependency_named, plain_fence_named, riscv_fence_named, fence_named, communication, communication_of, two_sided, two_sided_of, one_sided, one_sided_of, read_as_communication, read_back_two_sided, read_back_one_sided, kind_read}
 use Rattle.relax_edges.proofs.Ranks.{each_edge}
 

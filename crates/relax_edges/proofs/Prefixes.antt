@@ -2,13 +2,10 @@
 use Rattle.std.specs.Prelude.{ℕ, ◌≡◌, ◌<◌, ◌≤◌, ◌+◌, ◌==◌, ◌||◌, Bool, true, false, not, Some, None, Ok, Err, List, [], ◌∷◌, length, take}
 use Rattle.std.specs.List.{before_first, position_or_len}
 use Rattle.std.proofs.Common.{get_or, refl, arith, ap, sym, ◌∙◌}
-use Rattle.std.proofs.lemmas.Bool.{eqb-true, false≢true}
-use Rattle.std.proofs.lemmas.List.{length-take}
-use Rattle.std.proofs.lemmas.List.Folds.{length-prefix_len}
-use Rattle.std.proofs.Math.ListN.{get_or-eq_default}
+use Rattle.std.proofs.{lemmas.Bool.eqb-true, lemmas.Bool.false≢true, lemmas.List.length-take, lemmas.List.Folds.length-prefix_len}
+use Rattle.std.proofs.{Math.ListN.get_or-eq_default}
 use Rattle.relax_edges.specs.RelaxText.{is_separator, is_bracket, ends_word, words_of, inside, has_closed_bracket, bracket_words, words_from}
-use Rattle.relax_edges.specs.declared.edge.Edge.{Edge}
-use Rattle.relax_edges.specs.declared.relax_error.RelaxKind.TheVariants.{BadBracket}
+use Rattle.relax_edges.specs.declared.{edge.Edge.Edge, relax_error.RelaxKind.TheVariants.BadBracket}
 use Rattle.relax_edges.specs.Relaxations.{kept_words, kept_item}
 use Rattle.relax_edges.specs.RelaxPrefix.{bytes_after, kept_prefix, first_words, first_word_len, ends_here, IsInside, IsFirstWord}
 use Rattle.relax_edges.proofs.RelaxWords.{words_of_run}

@@ -6,11 +6,8 @@ use Rattle.relax_edges.specs.declared.kinds.Sd.TheVariants.{Diff}
 use Rattle.relax_edges.specs.declared.kinds.DepKind.TheVariants as deps
 use Rattle.relax_edges.specs.declared.edge.Edge.TheVariants as edges
 use Rattle.relax_edges.specs.declared.relax_error.RelaxKind.TheVariants.{UnknownEdge, BadBracket, RelaxTooLong, DoesNotJoin}
-use Rattle.relax_edges.specs.NamedEdges.{fre, rfe, wse}
-use Rattle.relax_edges.specs.Order.{rank_of}
-use Rattle.relax_edges.specs.AllEdges.{edges_in_order}
-use Rattle.relax_edges.specs.Spelling.{edge_of}
-use Rattle.relax_edges.specs.RelaxText.{items_of}
+use Rattle.relax_edges.specs.{NamedEdges.fre, NamedEdges.rfe, NamedEdges.wse, Order.rank_of, AllEdges.edges_in_order, Spelling.edge_of}
+use Rattle.relax_edges.specs.{RelaxText.items_of}
 use Rattle.relax_edges.specs.Relaxations.{word_edges, kept_words, kept_item, kept_items, relaxes_of}
 
 empty_list : relaxes_of (codes " ,, ") ≡ Ok []

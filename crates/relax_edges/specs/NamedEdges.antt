@@ -1,11 +1,8 @@
 -- The edges of which most tests are made, by their names.
 -- Source: the names of edges in the diy part of the herdtools manual.
-use Rattle.relax_edges.specs.declared.kinds.Dir.{Dir}
-use Rattle.relax_edges.specs.declared.kinds.Sd.TheVariants.{Diff}
-use Rattle.relax_edges.specs.declared.kinds.Reach.TheVariants.{Internal, External}
-use Rattle.relax_edges.specs.declared.kinds.Com.TheVariants.{Rf, Fr, Ws}
-use Rattle.relax_edges.specs.declared.edge.Edge.{Edge}
-use Rattle.relax_edges.specs.declared.edge.Edge.TheVariants.{Com, Po}
+use Rattle.relax_edges.specs.declared.{kinds.Dir.Dir, kinds.Sd.TheVariants.Diff, kinds.Reach.TheVariants.Internal, kinds.Reach.TheVariants.External}
+use Rattle.relax_edges.specs.declared.{kinds.Com.TheVariants.Rf, kinds.Com.TheVariants.Fr, kinds.Com.TheVariants.Ws, edge.Edge.Edge}
+use Rattle.relax_edges.specs.declared.{edge.Edge.TheVariants.Com, edge.Edge.TheVariants.Po}
 
 -- program order to another location
 abbrev pub pod : Dir → Dir → Edge

@@ -1,16 +1,10 @@
 -- The relaxations of a text: the edges that its words name, the choices that join, and the refusals.
 -- Source: the diy part of the herdtools manual, option `-relax`.
 use Rattle.std.specs.Prelude.{ℕ, ◌≡◌, ◌<◌, ◌≤◌, ◌==◌, ◌&&◌, Bool, true, false, not, cond, nat_lt, Option, Some, None, Result, Ok, Err, List, [], ◌∷◌, ◌++◌, length, filter, map, codes}
-use Rattle.std.specs.List.{flat_map, filter_map, list_any}
-use Rattle.std.specs.Cmp.Lexicographic.{pointwise}
-use Rattle.relax_edges.specs.declared.edge.Edge.{Edge}
-use Rattle.relax_edges.specs.declared.relax_error.RelaxKind.{RelaxKind}
+use Rattle.std.specs.{List.flat_map, List.filter_map, List.list_any, Cmp.Lexicographic.pointwise}
+use Rattle.relax_edges.specs.declared.{edge.Edge.Edge, relax_error.RelaxKind.RelaxKind, relax_error.RelaxError.RelaxError}
 use Rattle.relax_edges.specs.declared.relax_error.RelaxKind.TheVariants.{UnknownEdge, BadBracket, RelaxTooLong, DoesNotJoin, TooManyRelaxes}
-use Rattle.relax_edges.specs.declared.relax_error.RelaxError.{RelaxError}
-use Rattle.relax_edges.specs.JoinedEdges.{is_joined}
-use Rattle.relax_edges.specs.Order.{rank_of}
-use Rattle.relax_edges.specs.Spelling.{edge_of}
-use Rattle.relax_edges.specs.RelaxText.{RelaxItem, is_empty, items_of}
+use Rattle.relax_edges.specs.{JoinedEdges.is_joined, Order.rank_of, Spelling.edge_of, RelaxText.RelaxItem, RelaxText.is_empty, RelaxText.items_of}
 
 -- the bytes that a byte of a word means: a `*` among the last two means `R` and `W`, any other byte itself
 abbrev pub byte_choices : ℕ → ℕ → List ℕ

@@ -1,18 +1,13 @@
 -- Which lists turn to a list whose last edge leads to another thread.
 use Rattle.std.proofs.Common.{◌≡◌, ℕ, ◌+◌, ◌-◌, ◌<◌, ◌≤◌, true, false, inl, inr, List, [], ◌∷◌, ◌++◌, length, take, drop, Some, refl, sym, ◌∙◌, ap, subst, arith, length-append, length-drop}
 use Rattle.std.specs.List.{position}
-use Rattle.std.proofs.lemmas.Bool.{cond-true}
+use Rattle.std.proofs.lemmas.{Bool.cond-true, List.Quantifiers.position-Some}
 use Rattle.std.proofs.lemmas.List.{append-nil, take-append-drop, take_at, drop_at, get_or-drop}
-use Rattle.std.proofs.lemmas.List.Quantifiers.{position-Some}
-use Rattle.relax_edges.specs.declared.kinds.Reach.TheVariants.{Internal}
-use Rattle.relax_edges.specs.declared.kinds.Com.TheVariants.{Rf}
-use Rattle.relax_edges.specs.declared.edge.Edge.{Edge}
+use Rattle.relax_edges.specs.declared.{kinds.Reach.TheVariants.Internal, kinds.Com.TheVariants.Rf, edge.Edge.Edge}
 use Rattle.relax_edges.specs.declared.edge.Edge.TheVariants as edges
 use Rattle.relax_edges.specs.EdgeTable.{is_external}
 use Rattle.edge_algebra_laws.specs.Rotation.{rotated}
-use Rattle.list_laws.proofs.Cases.{by_test, by_less, by_option}
-use Rattle.list_laws.proofs.Counts.{count_upto_none}
-use Rattle.list_laws.proofs.Prefixes.{count_take, count_take_more}
+use Rattle.list_laws.proofs.{Cases.by_test, Cases.by_less, Cases.by_option, Counts.count_upto_none, Prefixes.count_take, Prefixes.count_take_more}
 use Rattle.cycle_events.specs.Resolution.{edge_at, ends_outside, external_count, slot_of, thread_of, turned}
 use Rattle.cycle_events.proofs.Locations.{ends_with}
 use Rattle.cycle_events.proofs.Threads.{slot-zero, slot_in, slot_out, thread-zero, thread_out, thread_up}

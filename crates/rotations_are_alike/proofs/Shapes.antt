@@ -2,8 +2,7 @@
 use Rattle.std.proofs.Common.{◌≡◌, ℕ, ◌+◌, Bool, ◌==◌, ◌||◌, cond, List, [], ◌∷◌, map, refl, ◌∙◌, ap, arith}
 use Rattle.std.specs.List.{AllByRecursion, count_by}
 use Rattle.std.proofs.lemmas.List.Sums.{sum_by-cons}
-use Rattle.arch_trait.specs.declared.step.Shape.{Shape}
-use Rattle.arch_trait.specs.declared.step.Step.{Step}
+use Rattle.arch_trait.specs.declared.step.{Shape.Shape, Step.Step}
 use Rattle.arch_trait.specs.Links.{is_addr}
 use Rattle.arch_trait.specs.Threads.{is_load_dir, is_store_dir, loads_in, places_in, shape_of, visits}
 

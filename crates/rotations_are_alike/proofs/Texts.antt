@@ -1,9 +1,7 @@
 -- Lists that begin alike have tests of the same text.
 use Rattle.std.proofs.Common.{ℕ, List, ap, sym, ◌∙◌}
-use Rattle.relax_edges.specs.declared.kinds.ObsMode.{ObsMode}
-use Rattle.relax_edges.specs.declared.edge.Edge.{Edge}
-use Rattle.arch_trait.specs.Threads.{Puts}
-use Rattle.arch_trait.specs.Writing.{Writing, name_in}
+use Rattle.relax_edges.specs.declared.{kinds.ObsMode.ObsMode, edge.Edge.Edge}
+use Rattle.arch_trait.specs.{Threads.Puts, Writing.Writing, Writing.name_in}
 use Rattle.litmus_text.specs.TestText.{test_text}
 use Rattle.tests_force_cycles.specs.TestOf.{test_of}
 use Rattle.rotations_are_alike.specs.Alike.{SameText}

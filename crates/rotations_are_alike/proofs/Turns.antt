@@ -1,18 +1,14 @@
 -- A list of edges and the same with two parts exchanged have the same events, where both end outside.
 use Rattle.std.proofs.Common.{◌≡◌, ℕ, ◌+◌, ◌-◌, ◌%◌, ◌<◌, true, nat_lt, List, [], ◌∷◌, ◌++◌, length, map, refl, sym, ◌∙◌, ap, arith, length-append}
-use Rattle.std.specs.List.{AllByRecursion}
-use Rattle.std.specs.Prelude.{if◌then◌else◌}
-use Rattle.std.proofs.lemmas.Bool.{lt-ltb, le-ltb}
-use Rattle.std.proofs.Math.Nat.{mod-eq_of_lt, add-mod-mod, add-mod_left}
+use Rattle.std.specs.{List.AllByRecursion, Prelude.if◌then◌else◌}
+use Rattle.std.proofs.{lemmas.Bool.lt-ltb, lemmas.Bool.le-ltb, Math.Nat.mod-eq_of_lt, Math.Nat.add-mod-mod, Math.Nat.add-mod_left}
 use Rattle.relax_edges.specs.declared.edge.Edge.{Edge}
 use Rattle.list_laws.proofs.Cases.{by_less}
 use Rattle.cycle_events.specs.Resolution.{external_count, move_count, edge_at, ends_outside, event_after, location_of, slot_of, events_in, IsResolved}
-use Rattle.cycle_events.proofs.Arcs.{location_below}
-use Rattle.cycle_events.proofs.Around.{by_after, after_below}
+use Rattle.cycle_events.proofs.{Arcs.location_below, Around.by_after, Around.after_below}
 use Rattle.accesses_force_cycles.proofs.Lists.{map-map}
 use Rattle.cycle_events.proofs.Rotations.{edge_first, edge_second, external_count-append, move_count-append, ended_back, renumbered}
-use Rattle.rotations_are_alike.proofs.Parts.{events_first, events_second, events_below}
-use Rattle.rotations_are_alike.proofs.Alike.{Alike, ThreadFrom}
+use Rattle.rotations_are_alike.proofs.{Parts.events_first, Parts.events_second, Parts.events_below, Alike.Alike, Alike.ThreadFrom}
 
 -- where event i of a list goes when its two parts are exchanged
 unfoldable pub moved : List Edge → List Edge → ℕ → ℕ

@@ -1,25 +1,20 @@
 -- Where all edges of a cycle stand, its events are a cycle of program order, reads-from, coherence order and from-read.
 use Rattle.std.proofs.Common.{◌≡◌, ℕ, zero, suc, ◌-◌, ◌<◌, List, [], ◌∷◌, ◌++◌, length, Some, refl, sym, ◌∙◌, ap, subst, arith}
 use Rattle.relax_edges.specs.declared.kinds.Dir.TheVariants as dirs
-use Rattle.relax_edges.specs.declared.kinds.Reach.TheVariants.{Internal, External}
+use Rattle.relax_edges.specs.declared.{kinds.Reach.TheVariants.Internal, kinds.Reach.TheVariants.External, kinds.Kind.Kind, edge.Edge.Edge}
 use Rattle.relax_edges.specs.declared.kinds.Com.TheVariants as coms
-use Rattle.relax_edges.specs.declared.kinds.Kind.{Kind}
 use Rattle.relax_edges.specs.declared.kinds.Kind.TheVariants as kinds
-use Rattle.relax_edges.specs.declared.edge.Edge.{Edge}
 use Rattle.relax_edges.specs.EdgeTable.{kind_of, kind_source, kind_target, kind_place, kind_reach}
 use Rattle.cycle_events.specs.Resolution.{edge_at, event_after}
 use Rattle.cycle_events.proofs.Around.{by_after, after_below}
 use Rattle.program_meaning.specs.declared.WriteAt.{WriteAt}
 use Rattle.program_meaning.specs.Accesses.{Access, read, write, at_name}
-use Rattle.program_meaning.specs.Executions.{Execution}
-use Rattle.program_meaning.specs.Coherence.{coherence_place}
-use Rattle.program_meaning.specs.Programs.{Program, accesses_in, visits_in}
+use Rattle.program_meaning.specs.{Executions.Execution, Coherence.coherence_place, Programs.Program, Programs.accesses_in, Programs.visits_in}
 use Rattle.program_meaning.specs.Standing.{AccessAt, AreAt, CommunicatesBy, Reaches, Joins, access_at, event_name, AllStand}
 use Rattle.accesses_force_cycles.proofs.AllStand.{access_of_visit}
 use Rattle.sc_and_interleavings.specs.Relations.{FromRead, CoherenceOrder}
 use Rattle.sc_and_interleavings.specs.Sequential.{Precedes, StepBy, ByPo, ByRf, ByCo, ByFr, IsPathBy, IsSequential}
-use Rattle.sc_and_interleavings.proofs.Places.{Held}
-use Rattle.sc_and_interleavings.proofs.Shapes.{writes_ordered, read_before}
+use Rattle.sc_and_interleavings.proofs.{Places.Held, Shapes.writes_ordered, Shapes.read_before}
 
 -- an access of a program's threads, with its name
 record Named (threads : List (List Access)) (e : AccessAt) : Type 0 where

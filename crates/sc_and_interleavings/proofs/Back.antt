@@ -3,15 +3,11 @@ use Rattle.std.proofs.Common.{◌≡◌, ℕ, List, [], ◌∷◌, length, Optio
 use Rattle.std.proofs.lemmas.Option.{slice_get_past}
 use Rattle.list_laws.proofs.Numbers.{slice_get-map-upto}
 use Rattle.program_meaning.specs.declared.WriteAt.{WriteAt}
-use Rattle.program_meaning.specs.Accesses.{Access, read, at_name}
-use Rattle.program_meaning.specs.Executions.{Execution}
-use Rattle.program_meaning.specs.Coherence.{order_at, source_at}
-use Rattle.program_meaning.specs.Interleavings.{IsInterleaving}
-use Rattle.sc_and_interleavings.specs.Relations.{CoherenceOrder, IsBefore}
+use Rattle.program_meaning.specs.{Accesses.Access, Accesses.read, Accesses.at_name, Executions.Execution, Coherence.order_at, Coherence.source_at}
+use Rattle.program_meaning.specs.{Interleavings.IsInterleaving}
+use Rattle.sc_and_interleavings.specs.{Relations.CoherenceOrder, Relations.IsBefore, Made.made_by, Along.IsAlong}
 use Rattle.sc_and_interleavings.specs.Sequential.{Precedes, StepBy, ByPo, ByRf, ByCo, ByFr, IsPathBy, IsSequential}
-use Rattle.sc_and_interleavings.specs.Made.{made_by}
 use Rattle.sc_and_interleavings.proofs.Rising.{source_is, made_sequential}
-use Rattle.sc_and_interleavings.specs.Along.{IsAlong}
 
 -- what is in the order of a place is there in the execution that the interleaving makes
 got_there : (threads : List (List Access)) (places : ℕ) (x : Execution) (line : List WriteAt) (place k : ℕ) (w : WriteAt) → IsAlong threads places x line

@@ -10,9 +10,7 @@ use Rattle.program_meaning.specs.Accesses.{Access, read, write, is_read}
 use Rattle.program_meaning.specs.Executions.{Execution}
 use Rattle.program_meaning.specs.Programs.{Program, Thread, IsCandidate, IsCoherentIn, accesses_in}
 use Rattle.program_meaning.specs.Deciding.{every, name, are_reads, are_distinct}
-use Rattle.program_meaning.proofs.Every.{every_name}
-use Rattle.program_meaning.proofs.Candidates.{candidate_means}
-use Rattle.program_meaning.proofs.CoherenceLaws.{coheres_means}
+use Rattle.program_meaning.proofs.{Every.every_name, Candidates.candidate_means, CoherenceLaws.coheres_means}
 use Rattle.sc_and_interleavings.specs.Relations.{IsPathOfSteps, IsScPerLocation, Po, Rf, Co, Fr}
 use Rattle.sc_and_interleavings.specs.CoherenceLaws.{WritesWithin}
 use Rattle.sc_and_interleavings.proofs.CoherenceLaws.{candidates_are_sc_per_location}

@@ -2,10 +2,7 @@
 use Rattle.sc_and_interleavings.specs.CoherenceLaws.{CoherenceIsScPerLocation, CandidatesAreScPerLocation, CycleTestsAreScPerLocation}
 use Rattle.program_meaning.specs.Programs.{accesses_in}
 use Rattle.accesses_force_cycles.proofs.Bridge.{resolves}
-use Rattle.sc_and_interleavings.proofs.Places.{held}
-use Rattle.sc_and_interleavings.proofs.Steps.{no_cycle}
-use Rattle.sc_and_interleavings.proofs.Shapes.{coherent}
-use Rattle.sc_and_interleavings.proofs.SequentialMade.{writes_to_own}
+use Rattle.sc_and_interleavings.proofs.{Places.held, Steps.no_cycle, Shapes.coherent, SequentialMade.writes_to_own}
 
 -- an execution of threads is coherent per location exactly where its four relations have no cycle
 pub coherence_is_sc_per_location : CoherenceIsScPerLocation

@@ -7,14 +7,12 @@ use Rattle.relax_edges.specs.declared.kinds.Dir.{Dir}
 use Rattle.relax_edges.specs.declared.kinds.Dir.TheVariants as dirs
 use Rattle.list_laws.proofs.Cases.{by_less}
 use Rattle.program_meaning.specs.declared.WriteAt.{WriteAt}
-use Rattle.program_meaning.specs.Accesses.{Access, reads_by, at_name}
-use Rattle.program_meaning.specs.Executions.{Execution}
+use Rattle.program_meaning.specs.{Accesses.Access, Accesses.reads_by, Accesses.at_name, Executions.Execution}
 use Rattle.program_meaning.specs.Coherence.{order_place, order_at, source_at, coherence_place}
 use Rattle.sc_and_interleavings.specs.Relations.{IsWriteTo, IsReadOf}
 use Rattle.sc_and_interleavings.specs.Sequential.{Precedes, StepBy, ByRf, ByCo, ByFr, IsPathBy, IsSequential}
-use Rattle.sc_and_interleavings.proofs.Places.{Held, place_in}
-use Rattle.sc_and_interleavings.proofs.Shapes.{writes_ordered, writes_same, read_before}
-use Rattle.sc_and_interleavings.proofs.Sorting.{IsAcyclic}
+use Rattle.sc_and_interleavings.proofs.{Places.Held, Places.place_in, Shapes.writes_ordered, Shapes.writes_same, Shapes.read_before}
+use Rattle.sc_and_interleavings.proofs.{Sorting.IsAcyclic}
 
 -- twice the coherence place of an access, and one more of a read
 abbrev pub key : List (List Access) → Execution → WriteAt → Access → ℕ

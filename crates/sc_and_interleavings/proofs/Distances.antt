@@ -7,11 +7,9 @@ use Rattle.relax_edges.specs.declared.edge.Edge.{Edge}
 use Rattle.relax_edges.specs.EdgeTable.{is_diff}
 use Rattle.list_laws.proofs.Cases.{by_less}
 use Rattle.cycle_events.specs.Resolution.{IsResolved, edge_at, event_after, location_of, moves_before}
-use Rattle.cycle_events.proofs.Around.{by_after}
-use Rattle.cycle_events.proofs.Locations.{moves_on, moves_up, moves_most}
+use Rattle.cycle_events.proofs.{Around.by_after, Locations.moves_on, Locations.moves_up, Locations.moves_most, Along.values_up, Along.values_grow}
+use Rattle.cycle_events.proofs.{Ways.by_way, Ways.only_on_way}
 use Rattle.cycle_events.specs.Values.{value_of, way_place, is_write}
-use Rattle.cycle_events.proofs.Along.{values_up, values_grow}
-use Rattle.cycle_events.proofs.Ways.{by_way, only_on_way}
 
 -- how far event j is from the target of edge i
 abbrev pub distance : List Edge → ℕ → ℕ → ℕ

@@ -1,8 +1,7 @@
 -- What a filter keeps of a list and of its first elements, and where it stands in the list.
 use Rattle.std.proofs.Common.{◌≡◌, ℕ, zero, suc, ◌+◌, ◌<◌, ◌≤◌, Bool, true, cond, List, [], ◌∷◌, Some, slice_get, take, refl, sym, ◌∙◌, ap, arith}
 use Rattle.std.specs.List.{count_by, filter}
-use Rattle.std.proofs.lemmas.Bool.{cond-true, cond-false}
-use Rattle.std.proofs.lemmas.List.Sums.{sum_by-cons}
+use Rattle.std.proofs.lemmas.{Bool.cond-true, Bool.cond-false, List.Sums.sum_by-cons}
 use Rattle.list_laws.proofs.Cases.{by_test}
 
 counted : {X : Type 0} (p : X → Bool) (x : X) (xs : List X) (k : ℕ) → count_by p (take (suc k) (x ∷ xs)) ≡ cond (p x) 1 0 + count_by p (take k xs)

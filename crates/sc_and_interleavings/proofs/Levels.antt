@@ -2,37 +2,27 @@
 -- place of each event is its value.
 use Rattle.std.proofs.Common.{◌≡◌, ℕ, zero, suc, ◌+◌, ◌<◌, ◌≤◌, true, List, length, Option, Some, None, refl, sym, ◌∙◌, ap, subst, arith}
 use Rattle.std.proofs.lemmas.Option.{slice_get_within}
-use Rattle.relax_edges.specs.declared.kinds.Dir.{Dir}
+use Rattle.relax_edges.specs.declared.{kinds.Dir.Dir, kinds.Sd.Sd, kinds.Sd.TheVariants.Same, kinds.Sd.TheVariants.Diff}
+use Rattle.relax_edges.specs.declared.{kinds.Reach.TheVariants.Internal, kinds.Reach.TheVariants.External, kinds.Kind.Kind, edge.Edge.Edge}
 use Rattle.relax_edges.specs.declared.kinds.Dir.TheVariants as dirs
-use Rattle.relax_edges.specs.declared.kinds.Sd.{Sd}
-use Rattle.relax_edges.specs.declared.kinds.Sd.TheVariants.{Same, Diff}
-use Rattle.relax_edges.specs.declared.kinds.Reach.TheVariants.{Internal, External}
 use Rattle.relax_edges.specs.declared.kinds.Com.TheVariants as coms
-use Rattle.relax_edges.specs.declared.kinds.Kind.{Kind}
 use Rattle.relax_edges.specs.declared.kinds.Kind.TheVariants as kinds
-use Rattle.relax_edges.specs.declared.edge.Edge.{Edge}
 use Rattle.relax_edges.specs.EdgeTable.{kind_of, source_of, target_of, sd_of, is_diff, kind_source, kind_target, kind_reach}
 use Rattle.cycle_events.specs.Resolution.{IsResolved, edge_at, event_after, event_before, thread_of, slot_of, location_of, move_count}
-use Rattle.cycle_events.proofs.Arcs.{leaving}
-use Rattle.cycle_events.proofs.Around.{after_below, after_before, before_below}
+use Rattle.cycle_events.proofs.{Arcs.leaving, Around.after_below, Around.after_before, Around.before_below, Along.value_at_end}
 use Rattle.cycle_events.specs.Values.{value_of, write_count}
-use Rattle.cycle_events.proofs.Along.{value_at_end}
 use Rattle.program_meaning.specs.declared.WriteAt.{WriteAt}
 use Rattle.program_meaning.specs.Accesses.{Access, read, write, at_name}
-use Rattle.program_meaning.specs.Executions.{Execution, CanRead}
+use Rattle.program_meaning.specs.{Executions.Execution, Executions.CanRead, Intended.IsNumbering, Intended.ordered_write, Intended.location_order}
 use Rattle.program_meaning.specs.Coherence.{IsCoherent, MayFollow, order_place, order_at, source_at, placed_by, coherence_place}
 use Rattle.program_meaning.specs.Standing.{AreAt, CommunicatesBy, Reaches, Joins, event_name}
-use Rattle.program_meaning.specs.Intended.{IsNumbering, ordered_write, location_order}
-use Rattle.accesses_force_cycles.proofs.IntendedOrders.{gives_writes, place_of_value}
-use Rattle.accesses_force_cycles.proofs.Lists.{length-filter_map-upto}
-use Rattle.accesses_force_cycles.proofs.OnlyOne.{FromBefore, from_before}
-use Rattle.accesses_force_cycles.proofs.Orders.{Holds, order_by_steps}
-use Rattle.accesses_force_cycles.proofs.Resolves.{IsWrite, Resolves, written_by}
+use Rattle.accesses_force_cycles.proofs.{IntendedOrders.gives_writes, IntendedOrders.place_of_value, Lists.length-filter_map-upto, OnlyOne.FromBefore}
+use Rattle.accesses_force_cycles.proofs.{OnlyOne.from_before, Orders.Holds, Orders.order_by_steps, Resolves.IsWrite, Resolves.Resolves}
+use Rattle.accesses_force_cycles.proofs.{Resolves.written_by, Bridge.moves}
 use Rattle.accesses_force_cycles.proofs.WriteEvents.{NthWrite, nth_write, ordered_write-is, rank_below, more_than}
 use Rattle.sc_and_interleavings.specs.Relations.{IsWriteTo}
 use Rattle.sc_and_interleavings.proofs.Places.{Held, place_in, level, level_is, level_write}
 use Rattle.sc_and_interleavings.proofs.Distances.{distance, distance_next, distance_below}
-use Rattle.accesses_force_cycles.proofs.Bridge.{moves}
 
 -- an event of a program that makes the accesses of the cycle's test, with whatever value it reads
 pub record Made (es : List Edge) (number : ℕ → ℕ) (threads : List (List Access)) (i : ℕ) : Type 0 where

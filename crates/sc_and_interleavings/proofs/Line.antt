@@ -1,24 +1,20 @@
 -- The interleaving along which a sequentially consistent execution goes.
 use Rattle.std.proofs.Common.{◌≡◌, ℕ, zero, suc, ◌+◌, ◌<◌, ◌≤◌, Bool, true, cond, List, [], ◌∷◌, length, Option, Some, None, slice_get, take, refl, sym, ◌∙◌, ap, arith}
 use Rattle.std.specs.List.{count_by, filter, filter_map}
-use Rattle.std.proofs.lemmas.Option.{slice_get_within}
-use Rattle.std.proofs.lemmas.List.Sums.{length-filter, sum_by-cons}
+use Rattle.std.proofs.lemmas.{Option.slice_get_within, List.Sums.length-filter, List.Sums.sum_by-cons}
 use Rattle.list_laws.specs.Numbers.{upto}
 use Rattle.list_laws.proofs.Cases.{by_less, by_option}
 use Rattle.program_meaning.specs.declared.WriteAt.{WriteAt}
 use Rattle.program_meaning.specs.Accesses.{Access, read, write, at_name}
-use Rattle.program_meaning.specs.Executions.{Execution, CanRead}
-use Rattle.program_meaning.specs.Coherence.{order_place, order_at, source_at}
+use Rattle.program_meaning.specs.{Executions.Execution, Executions.CanRead, Coherence.order_place, Coherence.order_at, Coherence.source_at}
 use Rattle.program_meaning.specs.Interleavings.{IsInterleaving, GivesValues, writes_in, latest}
 use Rattle.accesses_force_cycles.proofs.Lists.{same_below, got_below, rank_filter, length-filter_map-upto, slice_get-filter_map-upto}
 use Rattle.accesses_force_cycles.proofs.Orders.{Holds, order_by_steps, order_place_at}
-use Rattle.sc_and_interleavings.specs.Sequential.{IsSequential}
-use Rattle.sc_and_interleavings.proofs.Places.{Held, place_in}
-use Rattle.sc_and_interleavings.proofs.Filtered.{found, count_rises, count_one}
+use Rattle.sc_and_interleavings.specs.{Sequential.IsSequential, Along.IsAlong}
+use Rattle.sc_and_interleavings.proofs.{Places.Held, Places.place_in, Filtered.found, Filtered.count_rises, Filtered.count_one, Listed.all_names}
+use Rattle.sc_and_interleavings.proofs.{Listed.listed, Listed.named}
 use Rattle.sc_and_interleavings.proofs.Lines.{to_place, passes, passed, latest_at, none_before}
-use Rattle.sc_and_interleavings.specs.Along.{IsAlong}
 use Rattle.sc_and_interleavings.proofs.Coming.{Leads, comes, acyclic, earlier_comes, lesser_comes}
-use Rattle.sc_and_interleavings.proofs.Listed.{all_names, listed, named}
 use Rattle.sc_and_interleavings.proofs.Sorting.{in_got, got_in, sorted, sorted_in, sorted_was_in, is_sorted, stands_before, stands_once}
 
 -- the accesses in an order that the relations allow

@@ -1,19 +1,15 @@
 -- Where accesses stand in an interleaving, and the writes before them.
 use Rattle.std.proofs.Common.{◌≡◌, ℕ, ◌+◌, ◌-◌, ◌<◌, ◌≤◌, Bool, true, List, length, Some, None, slice_get, take, ◌∙◌, ap, arith}
 use Rattle.std.specs.List.{count_by, filter}
-use Rattle.std.proofs.lemmas.Option.{slice_get_within, slice_get_past}
-use Rattle.std.proofs.lemmas.List.Sums.{length-filter}
+use Rattle.std.proofs.lemmas.{Option.slice_get_within, Option.slice_get_past, List.Sums.length-filter}
 use Rattle.list_laws.proofs.Numbers.{length-map-upto, slice_get-map-upto}
 use Rattle.program_meaning.specs.declared.WriteAt.{WriteAt}
-use Rattle.program_meaning.specs.Accesses.{Access, at_name}
-use Rattle.program_meaning.specs.Coherence.{order_at}
-use Rattle.program_meaning.specs.Interleavings.{writes_there, writes_in, latest}
+use Rattle.program_meaning.specs.{Accesses.Access, Accesses.at_name, Coherence.order_at, Interleavings.writes_there, Interleavings.writes_in}
+use Rattle.program_meaning.specs.{Interleavings.latest}
 use Rattle.program_meaning.proofs.Candidates.{writes_there_means, writes_to_from}
-use Rattle.accesses_force_cycles.proofs.Lists.{got_below}
-use Rattle.sc_and_interleavings.specs.Relations.{IsWriteTo, IsReadOf}
-use Rattle.sc_and_interleavings.specs.Made.{before, made_by}
+use Rattle.accesses_force_cycles.proofs.{Lists.got_below, Orders.found_at}
+use Rattle.sc_and_interleavings.specs.{Relations.IsWriteTo, Relations.IsReadOf, Made.before, Made.made_by}
 use Rattle.sc_and_interleavings.proofs.Filtered.{found, count_rises, count_one, got_of_take, take_fewer}
-use Rattle.accesses_force_cycles.proofs.Orders.{found_at}
 
 -- the accesses before one that stands at a number are as many
 pub before_is : (line : List WriteAt) (k : ℕ) (e : WriteAt) → slice_get line k ≡ Some e → ((i : ℕ) → slice_get line i ≡ Some e → i ≡ k) → before line e ≡ take k line

@@ -1,24 +1,20 @@
 -- The execution that an interleaving makes is one of its threads, and of its program where it is one of a program.
 use Rattle.std.proofs.Common.{◌≡◌, ℕ, ◌+◌, true, List, map, Option, Some, None, slice_get, take, refl, sym, ◌∙◌, ap, subst, arith}
-use Rattle.std.specs.List.{count_by, filter}
-use Rattle.std.specs.Option.{option_and_then}
+use Rattle.std.specs.{List.count_by, List.filter, Option.option_and_then}
 use Rattle.std.proofs.lemmas.Option.{slice_get_within}
 use Rattle.list_laws.specs.Numbers.{upto}
 use Rattle.list_laws.proofs.Numbers.{length-map-upto, slice_get-map-upto}
 use Rattle.program_meaning.specs.declared.WriteAt.{WriteAt}
 use Rattle.program_meaning.specs.Accesses.{Access, read, write, is_read, at_name}
 use Rattle.program_meaning.specs.Executions.{CanRead, AreReadsOf, IsOrderOf, IsExecutionOf}
-use Rattle.program_meaning.specs.Coherence.{value_of_access}
+use Rattle.program_meaning.specs.{Coherence.value_of_access, Deciding.name}
 use Rattle.program_meaning.specs.Interleavings.{IsInterleaving, GivesValues, writes_in, latest, accesses_on}
-use Rattle.program_meaning.specs.Deciding.{name}
 use Rattle.program_meaning.proofs.Names.{at_name_of}
 use Rattle.accesses_force_cycles.proofs.Lists.{rank_filter}
-use Rattle.sc_and_interleavings.specs.Made.{before, reads_from, made_by}
-use Rattle.sc_and_interleavings.specs.InterleavingLaws.{InterleavingsMakeExecutions}
-use Rattle.sc_and_interleavings.proofs.Filtered.{found}
+use Rattle.sc_and_interleavings.specs.{Made.before, Made.reads_from, Made.made_by, InterleavingLaws.InterleavingsMakeExecutions}
+use Rattle.sc_and_interleavings.proofs.{Filtered.found, Rising.made_sequential}
 use Rattle.sc_and_interleavings.proofs.Lines.{to_place, passes, passed, before_is, latest_at}
 use Rattle.sc_and_interleavings.proofs.MadeReads.{are_reads_from, thread_reads, reads_counted, same_runs}
-use Rattle.sc_and_interleavings.proofs.Rising.{made_sequential}
 
 -- a read can read the last write before it
 can_read_latest : (threads : List (List Access)) (line : List WriteAt) (place value k : ℕ) (e : WriteAt) → GivesValues threads line → slice_get line k ≡ Some e → at_name threads e ≡ Some (read place value) → CanRead threads (read place value) (latest threads place (take k line))

@@ -2,31 +2,22 @@
 -- of an observer comes right after the write that it reads.
 use Rattle.std.proofs.Common.{◌≡◌, ℕ, ◌+◌, ◌<◌, ◌≤◌, true, List, [], ◌∷◌, length, Option, Some, None, slice_get, refl, sym, ◌∙◌, ap, subst, arith}
 use Rattle.relax_edges.specs.declared.kinds.Dir.TheVariants as dirs
-use Rattle.relax_edges.specs.declared.kinds.ObsMode.{ObsMode}
-use Rattle.relax_edges.specs.declared.edge.Edge.{Edge}
+use Rattle.relax_edges.specs.declared.{kinds.ObsMode.ObsMode, edge.Edge.Edge}
 use Rattle.relax_edges.specs.EdgeTable.{source_of, is_diff}
-use Rattle.list_laws.proofs.Cases.{by_same}
-use Rattle.list_laws.proofs.Ranks.{unrank_upto}
+use Rattle.list_laws.proofs.{Cases.by_same, Ranks.unrank_upto}
 use Rattle.cycle_events.specs.Resolution.{IsResolved, edge_at, thread_of, slot_of, location_of, external_count, move_count}
 use Rattle.cycle_events.specs.Values.{value_of, write_at, is_write, is_observed}
 use Rattle.program_meaning.specs.declared.WriteAt.{WriteAt}
 use Rattle.program_meaning.specs.Accesses.{Access, read, write, at_name}
-use Rattle.program_meaning.specs.Executions.{CanRead}
-use Rattle.program_meaning.specs.Coherence.{order_place, order_at, source_at}
-use Rattle.program_meaning.specs.Standing.{event_name}
+use Rattle.program_meaning.specs.{Executions.CanRead, Coherence.order_place, Coherence.order_at, Coherence.source_at, Standing.event_name}
 use Rattle.program_meaning.specs.Intended.{IsNumbering, cycle_accesses, intended, observed_locations}
-use Rattle.accesses_force_cycles.proofs.Accesses.{EventAt, LoadAt, by_origin}
-use Rattle.accesses_force_cycles.proofs.Bridge.{resolves, moves}
-use Rattle.accesses_force_cycles.proofs.IntendedExists.{intended_is_execution}
-use Rattle.accesses_force_cycles.proofs.IntendedOrders.{place_is_value}
-use Rattle.accesses_force_cycles.proofs.Resolves.{Resolves, later_slot}
-use Rattle.accesses_force_cycles.proofs.WriteEvents.{write_event}
-use Rattle.sc_and_interleavings.specs.CoherenceLaws.{WritesWithin}
+use Rattle.accesses_force_cycles.proofs.{Accesses.EventAt, Accesses.LoadAt, Accesses.by_origin, Bridge.resolves, Bridge.moves}
+use Rattle.accesses_force_cycles.proofs.{IntendedExists.intended_is_execution, IntendedOrders.place_is_value, Resolves.Resolves, Resolves.later_slot}
+use Rattle.accesses_force_cycles.proofs.{WriteEvents.write_event}
+use Rattle.sc_and_interleavings.specs.{CoherenceLaws.WritesWithin, LinkLaws.EachLinkCloses, Links.PrecedesBut}
 use Rattle.sc_and_interleavings.specs.Relations.{IsWriteTo, ReadsFrom, CoherenceOrder, IsBefore, FromRead}
 use Rattle.sc_and_interleavings.specs.Sequential.{StepBy, ByPo, ByRf, ByCo, ByFr, IsPathBy}
 use Rattle.sc_and_interleavings.proofs.Places.{Held, held, place_in}
-use Rattle.sc_and_interleavings.specs.LinkLaws.{EachLinkCloses}
-use Rattle.sc_and_interleavings.specs.Links.{PrecedesBut}
 use Rattle.sc_and_interleavings.proofs.Distances.{distance, distance_beside, further_by_value, further_than_write}
 use Rattle.cycle_events.proofs.Threads.{thread_up}
 

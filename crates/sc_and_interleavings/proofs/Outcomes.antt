@@ -1,35 +1,25 @@
 -- Where a cycle's test has no observers, a coherent candidate in which all edges stand reads and ends as the condition asks.
 use Rattle.std.proofs.Common.{◌≡◌, ℕ, zero, suc, ◌-◌, ◌<◌, ◌≤◌, List, [], ◌∷◌, length, map, Option, Some, slice_get, refl, sym, ◌∙◌, ap, subst, arith}
-use Rattle.std.specs.List.{filter}
-use Rattle.std.specs.Option.{option_and_then}
+use Rattle.std.specs.{List.filter, Option.option_and_then}
 use Rattle.std.proofs.lemmas.Option.{slice_get_within, slice_get_past}
-use Rattle.relax_edges.specs.declared.kinds.Dir.{Dir}
+use Rattle.relax_edges.specs.declared.{kinds.Dir.Dir, kinds.ObsMode.ObsMode, edge.Edge.Edge}
 use Rattle.relax_edges.specs.declared.kinds.Dir.TheVariants as dirs
-use Rattle.relax_edges.specs.declared.kinds.ObsMode.{ObsMode}
-use Rattle.relax_edges.specs.declared.edge.Edge.{Edge}
 use Rattle.list_laws.proofs.Cases.{by_less}
 use Rattle.cycle_events.specs.Resolution.{IsResolved, edge_at, event_after, events_in, external_count, thread_of, slot_of}
 use Rattle.cycle_events.proofs.Around.{after_below}
 use Rattle.cycle_events.specs.Values.{write_count}
 use Rattle.program_meaning.specs.declared.WriteAt.{WriteAt}
 use Rattle.program_meaning.specs.Accesses.{Access, write, is_read, got_from, at_name}
-use Rattle.program_meaning.specs.Executions.{Execution, AreReadsOf}
+use Rattle.program_meaning.specs.{Executions.Execution, Executions.AreReadsOf, Standing.Joins, Standing.AllStand, Standing.event_name}
 use Rattle.program_meaning.specs.Coherence.{last_write, order_at, value_of_access, final_value}
 use Rattle.program_meaning.specs.Programs.{Program, IsCandidate, IsCoherentIn, accesses_in, visits_in}
-use Rattle.program_meaning.specs.Standing.{Joins, AllStand, event_name}
 use Rattle.program_meaning.specs.Intended.{IsNumbering, event_access, cycle_accesses, observed_locations}
-use Rattle.program_meaning.proofs.Names.{got_from_list}
-use Rattle.program_meaning.proofs.Runs.{accesses-count}
+use Rattle.program_meaning.proofs.{Names.got_from_list, Runs.accesses-count}
 use Rattle.accesses_force_cycles.specs.Joining.{MakesAccesses, EndsAsAsked, ReadsAsAsked, accesses_filled, value_taken, values_left, values_read}
-use Rattle.accesses_force_cycles.proofs.Accesses.{thread_accesses, observer_thread}
-use Rattle.accesses_force_cycles.proofs.AllStand.{access_of_visit}
-use Rattle.accesses_force_cycles.proofs.Bridge.{resolves}
-use Rattle.accesses_force_cycles.proofs.IntendedExists.{last_of_order}
+use Rattle.accesses_force_cycles.proofs.{Accesses.thread_accesses, Accesses.observer_thread, AllStand.access_of_visit, Bridge.resolves}
+use Rattle.accesses_force_cycles.proofs.{IntendedExists.last_of_order, Resolves.Resolves, WriteEvents.nth_write}
 use Rattle.accesses_force_cycles.proofs.Lists.{got_below, got_map, image_of, same_by_gets}
-use Rattle.accesses_force_cycles.proofs.Resolves.{Resolves}
-use Rattle.accesses_force_cycles.proofs.WriteEvents.{nth_write}
-use Rattle.sc_and_interleavings.proofs.SequentialMade.{writes_to_own}
-use Rattle.sc_and_interleavings.proofs.Places.{held}
+use Rattle.sc_and_interleavings.proofs.{SequentialMade.writes_to_own, Places.held}
 use Rattle.sc_and_interleavings.specs.LinkLaws.{StandingIsOutcome}
 use Rattle.sc_and_interleavings.proofs.Levels.{Made, Standing, event_writes, order_is, value_made}
 

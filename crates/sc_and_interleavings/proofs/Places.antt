@@ -1,7 +1,6 @@
 -- Where the accesses of an execution are in the coherence orders.
 use Rattle.std.proofs.Common.{◌≡◌, ℕ, zero, suc, ◌+◌, List, [], ◌∷◌, Option, Some, None, slice_get, take, refl, sym, ◌∙◌, ap, subst, arith}
-use Rattle.std.specs.Prelude.{unwrap_or}
-use Rattle.std.specs.List.{count_by, filter}
+use Rattle.std.specs.{Prelude.unwrap_or, List.count_by, List.filter}
 use Rattle.std.proofs.lemmas.Option.{slice_get_within}
 use Rattle.list_laws.proofs.Cases.{by_option}
 use Rattle.program_meaning.specs.declared.WriteAt.{WriteAt}
@@ -9,10 +8,8 @@ use Rattle.program_meaning.specs.Accesses.{Access, read, write, is_read, at_name
 use Rattle.program_meaning.specs.Executions.{Execution, CanRead, AreReadsOf, IsExecutionOf}
 use Rattle.program_meaning.specs.Coherence.{order_place, order_at, named_by, source_at, coherence_place}
 use Rattle.program_meaning.proofs.Names.{got_from_list}
-use Rattle.accesses_force_cycles.proofs.Lists.{got_below, rank_filter}
-use Rattle.accesses_force_cycles.proofs.Orders.{order_place_at}
-use Rattle.sc_and_interleavings.specs.Relations.{IsWriteTo, IsReadOf}
-use Rattle.sc_and_interleavings.specs.CoherenceLaws.{WritesWithin}
+use Rattle.accesses_force_cycles.proofs.{Lists.got_below, Lists.rank_filter, Orders.order_place_at}
+use Rattle.sc_and_interleavings.specs.{Relations.IsWriteTo, Relations.IsReadOf, CoherenceLaws.WritesWithin}
 
 -- each order holds the writes to its place, each once, and each read reads what it can
 pub record Held (threads : List (List Access)) (x : Execution) : Type 0 where

@@ -3,14 +3,12 @@ use Rattle.std.proofs.Common.{◌≡◌, ℕ, ◌≤◌, true, List, [], ◌∷�
 use Rattle.std.specs.List.{count_by}
 use Rattle.list_laws.proofs.Cases.{by_same}
 use Rattle.program_meaning.specs.declared.WriteAt.{WriteAt}
-use Rattle.program_meaning.specs.Accesses.{Access, read, at_name}
-use Rattle.program_meaning.specs.Coherence.{source_at}
-use Rattle.program_meaning.specs.Interleavings.{IsInterleaving, latest}
+use Rattle.program_meaning.specs.{Accesses.Access, Accesses.read, Accesses.at_name, Coherence.source_at, Interleavings.IsInterleaving}
+use Rattle.program_meaning.specs.{Interleavings.latest}
 use Rattle.sc_and_interleavings.specs.Relations.{IsWriteTo, ReadsFrom, CoherenceOrder, IsBefore, FromRead}
 use Rattle.sc_and_interleavings.specs.Sequential.{Precedes, StepBy, ByPo, ByRf, ByCo, ByFr, IsPathBy, IsSequential}
 use Rattle.sc_and_interleavings.specs.Made.{before, made_by}
-use Rattle.sc_and_interleavings.proofs.Filtered.{found, count_rises}
-use Rattle.sc_and_interleavings.proofs.MadeReads.{source_made}
+use Rattle.sc_and_interleavings.proofs.{Filtered.found, Filtered.count_rises, MadeReads.source_made}
 use Rattle.sc_and_interleavings.proofs.Lines.{to_place, passes, passed, before_is, latest_at, none_before, stands_after, Comes, order_got, not_one}
 
 -- what a read of the interleaving reads

@@ -3,8 +3,7 @@ use Rattle.std.proofs.Common.{◌≡◌, ℕ, true, false, List, [], ◌∷◌, 
 use Rattle.std.specs.List.{filter}
 use Rattle.relax_edges.specs.declared.kinds.Dir.TheVariants as dirs
 use Rattle.relax_edges.specs.declared.kinds.Value.{Value}
-use Rattle.micro_ops.specs.declared.operation.Micro.{Micro}
-use Rattle.micro_ops.specs.declared.operation.Item.{Item}
+use Rattle.micro_ops.specs.declared.operation.{Micro.Micro, Item.Item}
 use Rattle.micro_ops.specs.declared.operation.Item.TheVariants as items
 use Rattle.micro_ops.specs.Machine.{ThreadState, Effect, step}
 use Rattle.micro_ops.specs.Running.{Run, Point, At, Past, Wants, Stuck, go, exec, led, is_load, beginning, add_item, outcome, run_ended, runs, OnRun}

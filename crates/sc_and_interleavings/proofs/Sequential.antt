@@ -1,8 +1,7 @@
 -- A sequentially consistent execution is SC per location: each of its paths there is one here.
 use Rattle.std.proofs.Common.{List, [], ◌∷◌}
 use Rattle.program_meaning.specs.declared.WriteAt.{WriteAt}
-use Rattle.program_meaning.specs.Accesses.{Access}
-use Rattle.program_meaning.specs.Executions.{Execution}
+use Rattle.program_meaning.specs.{Accesses.Access, Executions.Execution}
 use Rattle.sc_and_interleavings.specs.Relations.{Step, Po, Rf, Co, Fr, IsPathOfSteps, IsScPerLocation}
 use Rattle.sc_and_interleavings.specs.Sequential.{Precedes, StepBy, ByPo, ByRf, ByCo, ByFr, IsPathBy, IsSequential}
 

@@ -4,9 +4,8 @@ use Rattle.micro_ops.specs.Running.{Outcome}
 use Rattle.micro_ops.specs.declared.operation.Micro.TheVariants as ops
 use Rattle.program_meaning.specs.declared.WriteAt.{WriteAt}
 use Rattle.program_meaning.specs.Accesses.{Access, read, write, at_name}
-use Rattle.program_meaning.specs.Programs.{Program, HasEnded}
+use Rattle.program_meaning.specs.{Programs.Program, Programs.HasEnded, Deciding.name}
 use Rattle.program_meaning.specs.Interleavings.{IsInterleaving, IsInterleavingOf, runs_on, value_after}
-use Rattle.program_meaning.specs.Deciding.{name}
 
 -- the program, the values that its reads take, and the accesses that it makes
 abbrev passes : Program

@@ -2,19 +2,14 @@
 use Rattle.std.proofs.Common.{◌≡◌, ℕ, zero, suc, ◌<◌, List, [], ◌∷◌, length, Some, slice_get, refl, sym, ◌∙◌, ap, arith}
 use Rattle.std.proofs.lemmas.Option.{slice_get_within}
 use Rattle.relax_edges.specs.declared.kinds.Dir.TheVariants as dirs
-use Rattle.relax_edges.specs.declared.kinds.ObsMode.{ObsMode}
-use Rattle.relax_edges.specs.declared.edge.Edge.{Edge}
+use Rattle.relax_edges.specs.declared.{kinds.ObsMode.ObsMode, edge.Edge.Edge}
 use Rattle.cycle_events.specs.Resolution.{location_of}
 use Rattle.program_meaning.specs.Accesses.{Access, write, got_from, at_name}
-use Rattle.program_meaning.specs.Executions.{Execution}
-use Rattle.program_meaning.specs.Programs.{Program, IsCandidate, accesses_in}
-use Rattle.program_meaning.specs.Intended.{IsNumbering, cycle_accesses}
-use Rattle.program_meaning.proofs.Names.{GotFrom, got_from_list}
-use Rattle.program_meaning.proofs.Runs.{accesses-count}
+use Rattle.program_meaning.specs.{Executions.Execution, Programs.Program, Programs.IsCandidate, Programs.accesses_in, Intended.IsNumbering}
+use Rattle.program_meaning.specs.{Intended.cycle_accesses}
+use Rattle.program_meaning.proofs.{Names.GotFrom, Names.got_from_list, Runs.accesses-count}
 use Rattle.accesses_force_cycles.specs.Joining.{MakesAccesses, accesses_filled, values_left, values_read}
-use Rattle.accesses_force_cycles.proofs.Lists.{Got, got_below}
-use Rattle.accesses_force_cycles.proofs.Accesses.{EventAt, LoadAt, by_origin}
-use Rattle.accesses_force_cycles.proofs.Resolves.{Resolves}
+use Rattle.accesses_force_cycles.proofs.{Lists.Got, Lists.got_below, Accesses.EventAt, Accesses.LoadAt, Accesses.by_origin, Resolves.Resolves}
 use Rattle.sc_and_interleavings.specs.CoherenceLaws.{WritesWithin}
 
 -- an access whose value was filled in has the direction and the place of the one that was planned

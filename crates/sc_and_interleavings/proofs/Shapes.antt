@@ -4,8 +4,7 @@ use Rattle.relax_edges.specs.declared.kinds.Dir.{Dir}
 use Rattle.relax_edges.specs.declared.kinds.Dir.TheVariants as dirs
 use Rattle.list_laws.proofs.Cases.{by_less, by_same}
 use Rattle.program_meaning.specs.declared.WriteAt.{WriteAt}
-use Rattle.program_meaning.specs.Accesses.{Access, read, at_name}
-use Rattle.program_meaning.specs.Executions.{Execution, CanRead}
+use Rattle.program_meaning.specs.{Accesses.Access, Accesses.read, Accesses.at_name, Executions.Execution, Executions.CanRead}
 use Rattle.program_meaning.specs.Coherence.{MayFollow, IsCoherent, order_place, order_at, source_at, coherence_place}
 use Rattle.sc_and_interleavings.specs.Relations.{IsWriteTo, IsReadOf, ProgramOrder, ReadsFrom, CoherenceOrder, IsBefore, Po, Rf, Co, Fr, IsScPerLocation}
 use Rattle.sc_and_interleavings.proofs.Places.{Held, place_in}

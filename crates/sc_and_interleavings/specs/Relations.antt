@@ -5,8 +5,7 @@
 use Rattle.std.specs.Prelude.{ℕ, ◌≡◌, ◌<◌, List, [], ◌∷◌, Option, Some, None, slice_get}
 use Rattle.program_meaning.specs.declared.WriteAt.{WriteAt}
 use Rattle.program_meaning.specs.Accesses.{Access, read, write, at_name}
-use Rattle.program_meaning.specs.Executions.{Execution}
-use Rattle.program_meaning.specs.Coherence.{order_at, source_at}
+use Rattle.program_meaning.specs.{Executions.Execution, Coherence.order_at, Coherence.source_at}
 
 -- a write to a place, by its name
 abbrev pub IsWriteTo : List (List Access) → ℕ → WriteAt → Type 0

@@ -4,8 +4,7 @@
 -- Maranget and Tautschnig, 'Herding Cats', 2014.
 use Rattle.std.specs.Prelude.{ℕ, ◌≡◌, ◌<◌, List, [], ◌∷◌, Some}
 use Rattle.program_meaning.specs.declared.WriteAt.{WriteAt}
-use Rattle.program_meaning.specs.Accesses.{Access, at_name}
-use Rattle.program_meaning.specs.Executions.{Execution}
+use Rattle.program_meaning.specs.{Accesses.Access, Accesses.at_name, Executions.Execution}
 use Rattle.sc_and_interleavings.specs.Relations.{ReadsFrom, CoherenceOrder, FromRead}
 
 -- program order (po): e comes before f in one thread

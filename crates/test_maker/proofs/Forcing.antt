@@ -1,24 +1,16 @@
 -- The test that is made of a cycle forces it.
 use Rattle.std.proofs.Common.{◌≡◌, List, Option, Some, None, Result, Ok, Err, refl, sym, ap, ◌∙◌, subst}
-use Rattle.relax_edges.specs.declared.kinds.ObsMode.{ObsMode}
-use Rattle.relax_edges.specs.declared.edge.Edge.{Edge}
-use Rattle.cycle_events.specs.Resolution.{IsResolved}
+use Rattle.relax_edges.specs.declared.{kinds.ObsMode.ObsMode, edge.Edge.Edge}
+use Rattle.cycle_events.specs.{Resolution.IsResolved, Values.Valuation, Values.observer_need, Values.valuation_of}
 use Rattle.relax_edges.specs.declared.kinds.ObsMode.TheVariants as modes
 use Rattle.cycle_events.specs.declared.needs.NeedsObserver.{NeedsObserver}
-use Rattle.cycle_events.specs.Values.{Valuation, observer_need, valuation_of}
 use Rattle.cycle_events.proofs.Entries.{avoid_allowed, avoid_refused}
-use Rattle.arch_trait.specs.Laws.{IsArch}
-use Rattle.arch_trait.specs.PlaceNames.{number_in}
-use Rattle.arch_trait.specs.Threads.{Puts}
-use Rattle.arch_trait.specs.Writing.{Writing, WritesBack, name_in}
-use Rattle.arch_trait.specs.SeenTests.{TestSeen}
+use Rattle.arch_trait.specs.{Laws.IsArch, PlaceNames.number_in, Threads.Puts, Writing.Writing, Writing.WritesBack, Writing.name_in}
+use Rattle.arch_trait.specs.{SeenTests.TestSeen}
 use Rattle.litmus_text.specs.declared.test.Test.{Test}
 use Rattle.litmus_text.specs.Tests.{test_seen}
-use Rattle.tests_force_cycles.specs.TestHeadline.{Forces}
-use Rattle.tests_force_cycles.specs.CycleSteps.{cycle_steps}
-use Rattle.tests_force_cycles.specs.TestOf.{plain}
-use Rattle.tests_force_cycles.proofs.Headline.{room_left, tests_force_law}
-use Rattle.tests_force_cycles.proofs.RegisterNames.{registers_found}
+use Rattle.tests_force_cycles.specs.{TestHeadline.Forces, CycleSteps.cycle_steps, TestOf.plain}
+use Rattle.tests_force_cycles.proofs.{Headline.room_left, Headline.tests_force_law, RegisterNames.registers_found}
 use Rattle.test_maker.specs.declared.refusal.MakeRefusal.{MakeRefusal}
 use Rattle.test_maker.specs.Made.{AreOfArch, MadeForces, MakesValued}
 use Rattle.test_maker.proofs.Printing.{uncrowded}

@@ -1,33 +1,23 @@
 -- A cycle that isn't refused has a test.
 use Rattle.std.proofs.Common.{◌≡◌, ℕ, not, List, Option, Some, None, Result, Ok, Err, refl, sym, ap, ◌∙◌, subst}
-use Rattle.std.specs.Prelude.{OnOk}
-use Rattle.std.specs.List.{position_from}
-use Rattle.std.specs.Option.{option_map}
+use Rattle.std.specs.{Prelude.OnOk, List.position_from, Option.option_map}
 use Rattle.edge_algebra_laws.specs.Composable.{IsCycle}
-use Rattle.relax_edges.specs.declared.kinds.ObsMode.{ObsMode}
+use Rattle.relax_edges.specs.declared.{kinds.ObsMode.ObsMode, edge.Edge.Edge}
 use Rattle.relax_edges.specs.declared.kinds.ObsMode.TheVariants as modes
-use Rattle.relax_edges.specs.declared.edge.Edge.{Edge}
 use Rattle.relax_edges.specs.EdgeTable.{is_of_arch}
-use Rattle.cycle_events.specs.declared.errors.ResolveError.{ResolveError}
+use Rattle.cycle_events.specs.declared.{errors.ResolveError.ResolveError, needs.NeedsObserver.NeedsObserver}
 use Rattle.cycle_events.specs.declared.errors.ResolveError.TheVariants as resolving
-use Rattle.cycle_events.specs.Resolution.{IsResolved, resolution_of, turned}
-use Rattle.cycle_events.proofs.Turning.{resolution_resolved}
-use Rattle.cycle_events.specs.declared.needs.NeedsObserver.{NeedsObserver}
-use Rattle.cycle_events.specs.Values.{observer_need, valuation_of}
-use Rattle.cycle_events.proofs.Entries.{avoid_allowed}
-use Rattle.arch_trait.specs.Threads.{Puts}
-use Rattle.arch_trait.specs.SeenTests.{TestSeen}
-use Rattle.tests_force_cycles.specs.TestHeadline.{HasCode, HasTest}
-use Rattle.tests_force_cycles.specs.CycleSteps.{cycle_steps}
-use Rattle.tests_force_cycles.specs.TestOf.{plain}
+use Rattle.cycle_events.specs.{Resolution.IsResolved, Resolution.resolution_of, Resolution.turned, Values.observer_need, Values.valuation_of}
+use Rattle.cycle_events.proofs.{Turning.resolution_resolved, Entries.avoid_allowed}
+use Rattle.arch_trait.specs.{Threads.Puts, SeenTests.TestSeen}
+use Rattle.tests_force_cycles.specs.{TestHeadline.HasCode, TestHeadline.HasTest, CycleSteps.cycle_steps, TestOf.plain}
 use Rattle.tests_force_cycles.proofs.Headline.{room_left}
 use Rattle.test_maker.specs.declared.refusal.MakeRefusal.{MakeRefusal}
 use Rattle.test_maker.specs.declared.refusal.MakeRefusal.TheVariants as refusals
 use Rattle.test_maker.specs.Made.{AreOfArch, MakesOfArch, MakesValued}
 use Rattle.test_maker.specs.Refusals.{or_else, foreign_edge, unobserved_need, crowded_thread, resolved_refusal, refusal_of}
-use Rattle.test_maker.proofs.OfArch.{resolved_turned, turned_of_arch}
+use Rattle.test_maker.proofs.{OfArch.resolved_turned, OfArch.turned_of_arch, Printing.uncrowded}
 use Rattle.list_laws.proofs.Places.{none_foreign}
-use Rattle.test_maker.proofs.Printing.{uncrowded}
 
 -- where neither of two reasons holds
 neither : (a b : Option MakeRefusal) → or_else a b ≡ None → (a ≡ None) × (b ≡ None)

@@ -1,11 +1,7 @@
 -- The edges of a cycle that are of an architecture stay so where it is turned.
 use Rattle.std.proofs.Common.{◌≡◌, ℕ, ◌<◌, Bool, true, false, List, ◌++◌, take, drop, Result, Ok, Err, sym, ap, ◌∙◌, arith, nat_lt, subst}
-use Rattle.std.specs.List.{list_all}
-use Rattle.std.specs.Prelude.{if◌then◌else◌}
-use Rattle.std.proofs.lemmas.List.{take-append-drop}
-use Rattle.std.proofs.lemmas.List.Folds.{list_all-append}
-use Rattle.std.proofs.lemmas.Bool.Decides.{nat_tests}
-use Rattle.std.proofs.Math.Bool.{and_comm}
+use Rattle.std.specs.{List.list_all, Prelude.if◌then◌else◌}
+use Rattle.std.proofs.{lemmas.List.take-append-drop, lemmas.List.Folds.list_all-append, lemmas.Bool.Decides.nat_tests, Math.Bool.and_comm}
 use Rattle.cycle_events.specs.declared.errors.ResolveError.TheVariants.{TooFewThreads, CoherenceOnly}
 use Rattle.cycle_events.proofs.Turning.{turn_of}
 use Rattle.relax_edges.specs.declared.edge.Edge.{Edge}

@@ -3,39 +3,25 @@ use Rattle.std.proofs.Common.{◌≡◌, ℕ, zero, suc, ◌+◌, ◌<◌, ◌�
 use Rattle.std.specs.List.{All, list_all, position_from, range_with_len}
 use Rattle.std.specs.Option.{option_map}
 use Rattle.std.proofs.lemmas.Bool.{and_parts, and_from, lt-ltb, eqb-true}
-use Rattle.std.proofs.lemmas.Bool.Decides.{nat_tests}
-use Rattle.std.proofs.lemmas.List.{length-map, get_or-map}
-use Rattle.std.proofs.lemmas.List.Sums.{count_by-le-length}
-use Rattle.std.proofs.lemmas.Option.{slice_get-get_or}
+use Rattle.std.proofs.lemmas.{Bool.Decides.nat_tests, List.length-map, List.get_or-map, List.Sums.count_by-le-length, Option.slice_get-get_or}
 use Rattle.list_laws.proofs.Cases.{by_test}
-use Rattle.relax_edges.specs.declared.kinds.ObsMode.{ObsMode}
-use Rattle.relax_edges.specs.declared.edge.Edge.{Edge}
+use Rattle.relax_edges.specs.declared.{kinds.ObsMode.ObsMode, edge.Edge.Edge}
 use Rattle.cycle_events.specs.Resolution.{IsResolved, move_count}
 use Rattle.micro_ops.specs.declared.operation.Micro.{Micro}
 use Rattle.micro_ops.specs.declared.operation.Micro.TheVariants as ops
 use Rattle.micro_ops.specs.Running.{labels_of, lands, occurs}
-use Rattle.arch_trait.specs.declared.code.Code.{Code}
-use Rattle.arch_trait.specs.declared.step.Step.{Step}
-use Rattle.arch_trait.specs.Codes.{IsFormedCode, is_within, thread_code_of}
-use Rattle.arch_trait.specs.Laws.{InOrder, IsArch}
-use Rattle.arch_trait.specs.Links.{branches}
+use Rattle.arch_trait.specs.declared.{code.Code.Code, step.Step.Step}
+use Rattle.arch_trait.specs.{Codes.IsFormedCode, Codes.is_within, Codes.thread_code_of, Laws.InOrder, Laws.IsArch, Links.branches}
+use Rattle.arch_trait.specs.{Writing.label_below, Writing.place_below, PlaceNames.letters}
 use Rattle.arch_trait.specs.Threads.{Puts, branches_in, compiled, shape_of, visits}
-use Rattle.arch_trait.specs.Writing.{label_below, place_below}
-use Rattle.arch_trait_laws.proofs.CodeLaws.{is_formed}
+use Rattle.arch_trait_laws.proofs.{CodeLaws.is_formed, TakingLaws.in_order_le, NameLaws.length-letters}
 use Rattle.litmus_text.specs.Tests.{IsPrintable}
-use Rattle.tests_force_cycles.specs.CycleSteps.{cycle_steps}
-use Rattle.tests_force_cycles.specs.TestOf.{plain}
+use Rattle.tests_force_cycles.specs.{CycleSteps.cycle_steps, TestOf.plain}
 use Rattle.tests_force_cycles.proofs.StepsFit.{steps_fit, steps_placed}
-use Rattle.test_maker.specs.declared.refusal.MakeRefusal.TheVariants.{TooManyRegisters}
-use Rattle.test_maker.specs.Refusals.{crowded_thread, is_crowded}
-use Rattle.test_maker.specs.declared.refusal.MakeRefusal.{MakeRefusal}
-use Rattle.test_maker.specs.Made.{AreOfArch, MadeCanPrint}
-use Rattle.test_maker.specs.ConditionTerms.{PutsThreads}
+use Rattle.test_maker.specs.declared.refusal.{MakeRefusal.TheVariants.TooManyRegisters, MakeRefusal.MakeRefusal}
+use Rattle.test_maker.specs.{Refusals.crowded_thread, Refusals.is_crowded, Made.AreOfArch, Made.MadeCanPrint, ConditionTerms.PutsThreads}
 use Rattle.litmus_text.specs.declared.test.Test.{Test}
 use Rattle.final_cond.specs.declared.cond.Cond.{Cond}
-use Rattle.arch_trait.specs.PlaceNames.{letters}
-use Rattle.arch_trait_laws.proofs.TakingLaws.{in_order_le}
-use Rattle.arch_trait_laws.proofs.NameLaws.{length-letters}
 
 -- the accesses are at places below a number
 abbrev pub ArePlaced : ℕ → List Step → Type 0

@@ -4,12 +4,10 @@ use Rattle.std.proofs.lemmas.List.{drop_all, drop-take, drop-map, take-map, drop
 use Rattle.std.specs.List.{filter}
 use Rattle.relax_edges.specs.declared.edge.Edge.{Edge}
 use Rattle.list_laws.specs.Numbers.{upto}
-use Rattle.list_laws.proofs.Cases.{by_less}
-use Rattle.list_laws.proofs.Numbers.{length-upto, take-upto}
+use Rattle.list_laws.proofs.{Cases.by_less, Numbers.length-upto, Numbers.take-upto, Ranks.filter_upto_yes, Ranks.filter_upto_no}
 use Rattle.cycle_events.specs.Resolution.{events_in, thread_of}
 use Rattle.cycle_events.proofs.Threads.{thread_up}
 use Rattle.test_maker.specs.ThreadStarts.{IsThreadStart}
-use Rattle.list_laws.proofs.Ranks.{filter_upto_yes, filter_upto_no}
 
 -- no number below k passes
 pub filter_none : (p : ℕ → Bool) (k : ℕ) → ((j : ℕ) → j < k → p j ≡ false) → filter p (upto k) ≡ []

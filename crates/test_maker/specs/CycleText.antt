@@ -1,12 +1,9 @@
 -- The printed text of the test of a cycle.
 -- Source: own, after diyone7.
 use Rattle.std.specs.Prelude.{ℕ, List}
-use Rattle.relax_edges.specs.declared.kinds.ObsMode.{ObsMode}
-use Rattle.relax_edges.specs.declared.edge.Edge.{Edge}
+use Rattle.relax_edges.specs.declared.{kinds.ObsMode.ObsMode, edge.Edge.Edge}
 use Rattle.cycle_events.specs.Resolution.{turned}
-use Rattle.arch_trait.specs.Threads.{Puts}
-use Rattle.arch_trait.specs.Writing.{Writing, name_in}
-use Rattle.arch_trait.specs.SeenTests.{TestSeen}
+use Rattle.arch_trait.specs.{Threads.Puts, Writing.Writing, Writing.name_in, SeenTests.TestSeen}
 use Rattle.litmus_text.specs.TestText.{test_text}
 use Rattle.tests_force_cycles.specs.TestOf.{test_of}
 

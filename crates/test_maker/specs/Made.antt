@@ -2,20 +2,15 @@
 -- Source: own.
 use Rattle.std.specs.Prelude.{Option, ℕ, ◌≡◌, ◌<◌, true, not, List, length, Some, None, Result, Ok, Err}
 use Rattle.std.specs.List.{All, list_all, position_from}
-use Rattle.relax_edges.specs.declared.TheConstants.{MAX_EDGES}
-use Rattle.relax_edges.specs.declared.kinds.ObsMode.{ObsMode}
-use Rattle.relax_edges.specs.declared.edge.Edge.{Edge}
+use Rattle.relax_edges.specs.declared.{TheConstants.MAX_EDGES, kinds.ObsMode.ObsMode, edge.Edge.Edge}
 use Rattle.relax_edges.specs.EdgeTable.{is_of_arch}
 use Rattle.cycle_events.specs.declared.errors.ResolveError.{ResolveError}
 use Rattle.cycle_events.specs.Resolution.{resolution_of, turned}
-use Rattle.arch_trait.specs.Threads.{Puts}
-use Rattle.arch_trait.specs.SeenTests.{TestSeen}
+use Rattle.arch_trait.specs.{Threads.Puts, SeenTests.TestSeen}
 use Rattle.litmus_text.specs.declared.test.Test.{Test}
 use Rattle.litmus_text.specs.Tests.{IsPrintable, test_seen}
-use Rattle.tests_force_cycles.specs.TestHeadline.{Forces}
-use Rattle.tests_force_cycles.specs.TestOf.{plain, test_of}
-use Rattle.test_maker.specs.declared.refusal.MakeRefusal.{MakeRefusal}
-use Rattle.test_maker.specs.declared.refusal.MakeRefusal.TheVariants.{NeedsObserver}
+use Rattle.tests_force_cycles.specs.{TestHeadline.Forces, TestOf.plain, TestOf.test_of}
+use Rattle.test_maker.specs.declared.refusal.{MakeRefusal.MakeRefusal, MakeRefusal.TheVariants.NeedsObserver}
 use Rattle.test_maker.specs.Refusals.{crowded_thread, resolved_refusal, refusal_of}
 
 -- all edges are of the architecture

@@ -1,24 +1,19 @@
 -- Why a cycle has no test: the first reason that holds.
 -- Source: own, after the refusals of diy.
 use Rattle.std.specs.Prelude.{Bool, not, nat_lt, List, Option, Some, None, Result, Ok, Err}
-use Rattle.std.specs.List.{position_from}
-use Rattle.std.specs.Option.{option_map}
-use Rattle.relax_edges.specs.declared.kinds.ArchName.{ArchName}
-use Rattle.relax_edges.specs.declared.kinds.ObsMode.{ObsMode}
-use Rattle.relax_edges.specs.declared.kinds.ObsMode.TheVariants.{Accept, Avoid, Force}
-use Rattle.relax_edges.specs.declared.edge.Edge.{Edge}
+use Rattle.std.specs.{List.position_from, Option.option_map}
+use Rattle.relax_edges.specs.declared.{kinds.ArchName.ArchName, kinds.ObsMode.ObsMode, kinds.ObsMode.TheVariants.Accept}
+use Rattle.relax_edges.specs.declared.{kinds.ObsMode.TheVariants.Avoid, kinds.ObsMode.TheVariants.Force, edge.Edge.Edge}
 use Rattle.relax_edges.specs.EdgeTable.{is_of_arch}
 use Rattle.cycle_events.specs.declared.errors.ResolveError.{ResolveError}
 use Rattle.cycle_events.specs.declared.errors.ResolveError.TheVariants as resolving
-use Rattle.cycle_events.specs.Resolution.{resolution_of}
-use Rattle.cycle_events.specs.Values.{observer_need}
+use Rattle.cycle_events.specs.{Resolution.resolution_of, Values.observer_need}
 use Rattle.arch_trait.specs.declared.step.Step.{Step}
 use Rattle.arch_trait.specs.Threads.{Puts, shape_of}
 use Rattle.test_maker.specs.declared.refusal.MakeRefusal.{MakeRefusal}
 use Rattle.test_maker.specs.declared.refusal.MakeRefusal.TheVariants.{NotOfArch, TooFewThreads, CoherenceOnly, TooManyRegisters}
 use Rattle.test_maker.specs.declared.refusal.MakeRefusal.TheVariants as refusals
-use Rattle.tests_force_cycles.specs.CycleSteps.{cycle_steps}
-use Rattle.tests_force_cycles.specs.TestOf.{plain}
+use Rattle.tests_force_cycles.specs.{CycleSteps.cycle_steps, TestOf.plain}
 
 -- the first of two reasons
 abbrev pub or_else : Option MakeRefusal → Option MakeRefusal → Option MakeRefusal

@@ -4,8 +4,7 @@ use Rattle.relax_edges.specs.declared.edge.Edge.{Edge}
 use Rattle.list_laws.specs.Numbers.{upto}
 use Rattle.cycle_events.specs.Resolution.{thread_of}
 use Rattle.arch_trait.specs.declared.step.Step.{Step}
-use Rattle.tests_force_cycles.specs.CycleSteps.{event_step}
-use Rattle.tests_force_cycles.specs.TestOf.{plain}
+use Rattle.tests_force_cycles.specs.{CycleSteps.event_step, TestOf.plain}
 
 -- the accesses of all events, in order
 abbrev pub all_steps : List Edge → List Step

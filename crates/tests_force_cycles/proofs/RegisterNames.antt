@@ -1,11 +1,8 @@
 -- Each register is found by its name.
 use Rattle.std.proofs.Common.{◌≡◌, ℕ, zero, suc, ◌+◌, ◌<◌, false, cond, List, [], ◌∷◌, length, get_or, Some, ap, ◌∙◌, arith}
-use Rattle.std.specs.List.{position_from, IsDistinct, AllByRecursion}
-use Rattle.std.specs.Str.{bytes_eq}
+use Rattle.std.specs.{List.position_from, List.IsDistinct, List.AllByRecursion, Str.bytes_eq}
 use Rattle.std.proofs.lemmas.Slice.Eq.{bytes_eq-Decides}
-use Rattle.arch_trait.specs.PlaceNames.{number_in}
-use Rattle.arch_trait.specs.Threads.{Puts}
-use Rattle.arch_trait.specs.Writing.{Writing, WritesBack, name_in}
+use Rattle.arch_trait.specs.{PlaceNames.number_in, Threads.Puts, Writing.Writing, Writing.WritesBack, Writing.name_in}
 use Rattle.tests_force_cycles.specs.TestHeadline.{FindsRegisters}
 
 each_at : (P : List ℕ → Type 0) (names : List (List ℕ)) (i : ℕ) → AllByRecursion P names → i < length names → P (get_or names i [])

@@ -2,25 +2,17 @@
 use Rattle.std.proofs.Common.{◌≡◌, ℕ, true, List, [], ◌∷◌, length, map, Some, slice_get, refl, sym, ◌∙◌, ap, subst, arith}
 use Rattle.std.specs.List.{list_all}
 use Rattle.std.proofs.lemmas.List.{length-map, map-append}
-use Rattle.relax_edges.specs.declared.kinds.ObsMode.{ObsMode}
-use Rattle.relax_edges.specs.declared.edge.Edge.{Edge}
+use Rattle.relax_edges.specs.declared.{kinds.ObsMode.ObsMode, edge.Edge.Edge}
 use Rattle.relax_edges.specs.EdgeTable.{is_of_arch}
 use Rattle.cycle_events.specs.Resolution.{IsResolved, move_count}
 use Rattle.arch_trait.specs.declared.step.Step.{Step}
-use Rattle.arch_trait.specs.Codes.{AllBelow, MakesSteps}
-use Rattle.arch_trait.specs.Threads.{Puts, ThreadCode, compiled}
-use Rattle.arch_trait.specs.Laws.{IsArch}
-use Rattle.arch_trait.specs.PlaceRenumbering.{step_at, renumbered}
-use Rattle.arch_trait_laws.proofs.CodeLaws.{makes_steps, is_formed}
-use Rattle.arch_trait_laws.proofs.Renumbered.{renumbered_makes}
+use Rattle.arch_trait.specs.{Codes.AllBelow, Codes.MakesSteps, Threads.Puts, Threads.ThreadCode, Threads.compiled, Laws.IsArch}
+use Rattle.arch_trait.specs.{PlaceRenumbering.step_at, PlaceRenumbering.renumbered}
+use Rattle.arch_trait_laws.proofs.{CodeLaws.makes_steps, CodeLaws.is_formed, Renumbered.renumbered_makes}
 use Rattle.program_meaning.specs.Programs.{Program}
 use Rattle.accesses_force_cycles.proofs.Lists.{got_map, image_of, map_same, map-map}
-use Rattle.tests_force_cycles.specs.CycleSteps.{cycle_steps, numbers_read}
-use Rattle.tests_force_cycles.specs.TestOf.{plain}
-use Rattle.tests_force_cycles.specs.TestPrograms.{program_of}
-use Rattle.tests_force_cycles.specs.TestHeadline.{HasCode}
-use Rattle.tests_force_cycles.proofs.StepsFit.{steps_fit}
-use Rattle.tests_force_cycles.proofs.ThreadRuns.{AreCodesOf}
+use Rattle.tests_force_cycles.specs.{CycleSteps.cycle_steps, CycleSteps.numbers_read, TestOf.plain, TestPrograms.program_of, TestHeadline.HasCode}
+use Rattle.tests_force_cycles.proofs.{StepsFit.steps_fit, ThreadRuns.AreCodesOf}
 
 -- the code of the threads of a cycle's test, where each location's place has the number that `number` gives it
 abbrev pub cycle_codes : Puts → List Edge → ObsMode → (ℕ → ℕ) → List ThreadCode

@@ -1,8 +1,7 @@
 -- The runs of a program's threads in an execution: with a number for each load they end, and make the accesses of their
 -- steps; with fewer or more they don't end.
 use Rattle.std.proofs.Common.{◌≡◌, ℕ, suc, ◌<◌, List, ◌∷◌, length, map, Option, Some, slice_get, sym, ◌∙◌, ap, subst, arith}
-use Rattle.std.proofs.lemmas.List.{length-map}
-use Rattle.std.proofs.lemmas.Option.{slice_get_within}
+use Rattle.std.proofs.lemmas.{List.length-map, Option.slice_get_within}
 use Rattle.list_laws.proofs.Cases.{by_less}
 use Rattle.relax_edges.specs.declared.kinds.Value.{Value}
 use Rattle.micro_ops.specs.declared.operation.Item.{Item}
@@ -11,8 +10,7 @@ use Rattle.arch_trait.specs.declared.step.Step.{Step}
 use Rattle.arch_trait.specs.Codes.{MakesSteps}
 use Rattle.arch_trait.specs.Threads.{ThreadCode, loads_in, thread_items, HoldNumbers}
 use Rattle.program_meaning.specs.declared.WriteAt.{WriteAt}
-use Rattle.program_meaning.specs.Accesses.{Visit, visits_of, accesses_of}
-use Rattle.program_meaning.specs.Executions.{Execution}
+use Rattle.program_meaning.specs.{Accesses.Visit, Accesses.visits_of, Accesses.accesses_of, Executions.Execution}
 use Rattle.program_meaning.specs.Programs.{Program, Thread, run_of, runs_of, made_in, HasEnded, items_in, visits_in, accesses_in}
 use Rattle.program_meaning.proofs.Runs.{accesses-count}
 use Rattle.accesses_force_cycles.specs.Joining.{accesses_filled, values_read}

@@ -5,8 +5,7 @@ use Rattle.relax_edges.specs.declared.kinds.Dir.{Dir}
 use Rattle.relax_edges.specs.declared.kinds.Dir.TheVariants as dirs
 use Rattle.relax_edges.specs.declared.kinds.FenceKind.TheVariants as fences
 use Rattle.micro_ops.specs.declared.operation.Barrier.TheVariants as kinds
-use Rattle.arch_trait.specs.declared.step.Step.{Step}
-use Rattle.arch_trait.specs.declared.link.Link.{Link}
+use Rattle.arch_trait.specs.declared.{step.Step.Step, link.Link.Link}
 use Rattle.arch_trait.specs.declared.link.Link.TheVariants as links
 use Rattle.arch_trait.specs.Links.{is_addr, is_data, mask_if, link_control}
 use Rattle.arch_trait.specs.Threads.{is_load_dir, loads_in, loads_after, first_number, left_after, thread_items}

@@ -5,17 +5,13 @@ use Rattle.std.specs.Prelude.{ℕ, ◌+◌, ◌==◌, if◌then◌else◌, List,
 use Rattle.std.specs.List.{filter}
 use Rattle.relax_edges.specs.declared.kinds.Dir.TheVariants as dirs
 use Rattle.relax_edges.specs.declared.kinds.Mark.TheVariants as marks
-use Rattle.relax_edges.specs.declared.kinds.ObsMode.{ObsMode}
-use Rattle.relax_edges.specs.declared.edge.Edge.{Edge}
+use Rattle.relax_edges.specs.declared.{kinds.ObsMode.ObsMode, edge.Edge.Edge}
 use Rattle.relax_edges.specs.EdgeTable.{source_of, source_mark}
 use Rattle.list_laws.specs.Numbers.{upto}
 use Rattle.cycle_events.specs.Resolution.{edge_at, event_before, events_in, external_count, location_of, slot_of}
 use Rattle.cycle_events.specs.Values.{value_of, write_count}
-use Rattle.arch_trait.specs.declared.link.Link.{Link}
-use Rattle.arch_trait.specs.declared.link.Link.TheVariants.{Plain}
-use Rattle.arch_trait.specs.declared.step.Step.{Step}
-use Rattle.arch_trait.specs.Links.{edge_link}
-use Rattle.arch_trait.specs.Threads.{is_load_dir}
+use Rattle.arch_trait.specs.declared.{link.Link.Link, link.Link.TheVariants.Plain, step.Step.Step}
+use Rattle.arch_trait.specs.{Links.edge_link, Threads.is_load_dir}
 use Rattle.program_meaning.specs.Intended.{observed_locations}
 
 -- how event i is tied to the event before it in its thread: by the edge between them, the first of a thread by none

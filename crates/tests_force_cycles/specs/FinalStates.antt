@@ -1,15 +1,10 @@
 -- The final state of an execution of a test, and the executions that a test asks for.
 -- Source: own, as the litmus format reads the terms of a condition.
-use Rattle.std.specs.Prelude.{ℕ, List, Option}
-use Rattle.std.specs.Option.{option_map, option_and_then}
-use Rattle.relax_edges.specs.declared.kinds.Value.{Value}
-use Rattle.relax_edges.specs.declared.kinds.Value.TheVariants.{Num}
-use Rattle.final_cond.specs.Conditions.{LeftSeen, InRegister, AtPlace}
-use Rattle.final_cond.specs.States.{Meets}
-use Rattle.arch_trait.specs.PlaceNames.{number_in}
-use Rattle.arch_trait.specs.SeenTests.{TestSeen}
-use Rattle.program_meaning.specs.Executions.{Execution}
-use Rattle.program_meaning.specs.Coherence.{final_value}
+use Rattle.std.specs.{Prelude.ℕ, Prelude.List, Prelude.Option, Option.option_map, Option.option_and_then}
+use Rattle.relax_edges.specs.declared.kinds.{Value.Value, Value.TheVariants.Num}
+use Rattle.final_cond.specs.{Conditions.LeftSeen, Conditions.InRegister, Conditions.AtPlace, States.Meets}
+use Rattle.arch_trait.specs.{PlaceNames.number_in, SeenTests.TestSeen}
+use Rattle.program_meaning.specs.{Executions.Execution, Coherence.final_value}
 use Rattle.program_meaning.specs.Programs.{Program, IsCandidate, IsCoherentIn, accesses_in, register_in}
 use Rattle.tests_force_cycles.specs.TestPrograms.{test_program}
 

@@ -2,24 +2,14 @@
 -- Source: own.
 use Rattle.std.specs.Prelude.{◌≡◌, ◌↔◌, ℕ, ◌<◌, ◌≤◌, true, List, length, map, Option, Some, slice_get, Ok}
 use Rattle.std.specs.List.{list_all}
-use Rattle.relax_edges.specs.declared.kinds.ObsMode.{ObsMode}
-use Rattle.relax_edges.specs.declared.edge.Edge.{Edge}
+use Rattle.relax_edges.specs.declared.{kinds.ObsMode.ObsMode, edge.Edge.Edge}
 use Rattle.relax_edges.specs.EdgeTable.{is_of_arch}
-use Rattle.cycle_events.specs.Resolution.{IsResolved}
-use Rattle.cycle_events.specs.Values.{valuation_of}
-use Rattle.program_meaning.specs.Executions.{Execution}
-use Rattle.program_meaning.specs.Standing.{AllStand}
-use Rattle.program_meaning.specs.Intended.{intended}
+use Rattle.cycle_events.specs.{Resolution.IsResolved, Values.valuation_of}
+use Rattle.program_meaning.specs.{Executions.Execution, Standing.AllStand, Intended.intended}
 use Rattle.accesses_force_cycles.specs.Joining.{IsOutcome}
 use Rattle.arch_trait.specs.declared.step.Step.{Step}
-use Rattle.arch_trait.specs.Threads.{Puts, shape_of}
-use Rattle.arch_trait.specs.Laws.{IsArch}
-use Rattle.arch_trait.specs.PlaceRenumbering.{renumbered}
-use Rattle.arch_trait.specs.SeenTests.{TestSeen}
-use Rattle.tests_force_cycles.specs.CycleSteps.{cycle_steps}
-use Rattle.tests_force_cycles.specs.TestOf.{plain, test_of}
-use Rattle.tests_force_cycles.specs.TestPrograms.{test_program}
-use Rattle.tests_force_cycles.specs.FinalStates.{IsAskedFor}
+use Rattle.arch_trait.specs.{Threads.Puts, Threads.shape_of, Laws.IsArch, PlaceRenumbering.renumbered, SeenTests.TestSeen}
+use Rattle.tests_force_cycles.specs.{CycleSteps.cycle_steps, TestOf.plain, TestOf.test_of, TestPrograms.test_program, FinalStates.IsAskedFor}
 
 -- the test of a cycle has code on an architecture: the cycle's edges are the architecture's, and no thread needs more
 -- registers than there are

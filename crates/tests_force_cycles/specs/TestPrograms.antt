@@ -2,9 +2,7 @@
 -- Source: own.
 use Rattle.std.specs.Prelude.{ℕ, List, map, length}
 use Rattle.program_meaning.specs.Programs.{Program, Thread}
-use Rattle.arch_trait.specs.Taking.{initial_values}
-use Rattle.arch_trait.specs.Threads.{ThreadCode}
-use Rattle.arch_trait.specs.SeenTests.{TestSeen}
+use Rattle.arch_trait.specs.{Taking.initial_values, Threads.ThreadCode, SeenTests.TestSeen}
 
 -- a thread, from its code: its address registers begin with the addresses of their places
 abbrev pub thread_from : ThreadCode → Thread

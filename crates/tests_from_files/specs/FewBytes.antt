@@ -3,11 +3,8 @@
 -- Source: own.
 use Rattle.std.proofs.Common.{◌≡◌, ◌≤◌, ◌<◌, ◌+◌, ℕ, List, [], ◌∷◌, ◌++◌, length, take, get_or, sym, subst, arith}
 use Rattle.std.specs.Prelude.{All, Option}
-use Rattle.std.proofs.lemmas.List.{length-take}
-use Rattle.std.proofs.lemmas.List.Elements.{All-append}
-use Rattle.diy_io.specs.Count.{count_of}
-use Rattle.diy_io.specs.Shelf.{Files, ShelfSeen}
-use Rattle.diy_io.specs.Opened.{TookFiles}
+use Rattle.std.proofs.lemmas.{List.length-take, List.Elements.All-append}
+use Rattle.diy_io.specs.{Count.count_of, Shelf.Files, Shelf.ShelfSeen, Opened.TookFiles}
 use Rattle.diy_io.proofs.OpenedLaws.{took_within}
 use Rattle.litmus_text.specs.declared.limits.TheConstants.{MAX_TEST_TEXT}
 use Rattle.tests_from_files.specs.FilesRead.{Begins}

@@ -5,9 +5,8 @@ use Rattle.diy_io.specs.Count.{count_of, Rose}
 use Rattle.diy_io.specs.Shelf.{Idle, IsReading, ShelfSeen, left_to_read}
 use Rattle.diy_io.specs.declared.errors.Failed.{Failed}
 use Rattle.litmus_text.specs.declared.limits.TheConstants.{MAX_TEST_TEXT}
-use Rattle.tests_from_files.specs.declared.errors.FileFault.{FileFault}
+use Rattle.tests_from_files.specs.declared.errors.{FileFault.FileFault, ReadFault.ReadFault}
 use Rattle.tests_from_files.specs.declared.errors.FileFault.TheVariants as faults
-use Rattle.tests_from_files.specs.declared.errors.ReadFault.{ReadFault}
 use Rattle.tests_from_files.specs.declared.errors.ReadFault.TheVariants as reads
 
 -- so many bytes were taken of the file that is read, as far as they are counted, and it is the file that was opened before

@@ -3,8 +3,7 @@ use Rattle.std.proofs.Common.{◌≡◌, ◌<◌, ℕ, ◌+◌, get_or, drop, ma
 use Rattle.std.proofs.lemmas.List.{drop_more, map-append}
 use Rattle.diy_io.specs.Shelf.{ShelfSeen, Idle}
 use Rattle.tests_to_files.specs.declared.putting.File.{File}
-use Rattle.tests_to_files.specs.GivenCycles.{PutUpTo}
-use Rattle.tests_to_files.specs.Putting.{PutFiles, PutPart, file_put}
+use Rattle.tests_to_files.specs.{GivenCycles.PutUpTo, Putting.PutFiles, Putting.PutPart, Putting.file_put}
 use Rattle.tests_to_files.proofs.Shelves.{put_nothing, put_both, put_then_part}
 
 -- the first files are there, and these are left

@@ -3,9 +3,7 @@ use Rattle.std.proofs.Common.{◌≡◌, ℕ, ◌+◌, List, [], ◌∷◌, ◌+
 use Rattle.std.specs.Prelude.{codes}
 use Rattle.relax_edges.specs.declared.edge.Edge.{Edge}
 use Rattle.diy_io.specs.Shelf.{ShelfSeen}
-use Rattle.tests_to_files.specs.ListedFiles.{file_number, file_of, file_lines}
-use Rattle.tests_to_files.specs.Putting.{Filling}
-use Rattle.tests_to_files.specs.Keeping.{FillsLines}
+use Rattle.tests_to_files.specs.{ListedFiles.file_number, ListedFiles.file_of, ListedFiles.file_lines, Putting.Filling, Keeping.FillsLines}
 use Rattle.tests_to_files.proofs.Lines.{length_more, file_lines_none, counted_next, counted_once, lines_more, waits_more}
 
 module _ (path kept : List ℕ) (first : ℕ) where

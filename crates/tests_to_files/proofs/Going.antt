@@ -1,7 +1,6 @@
 -- The steps of writing the files of listed cycles, and what they come to.
 use Rattle.std.proofs.Common.{◌≡◌, ℕ, ◌+◌, List, [], ◌∷◌, ◌++◌, length, Option, Some, None, refl, sym, ◌∙◌, ap, subst, arith}
-use Rattle.std.specs.Prelude.{codes, MatchOption}
-use Rattle.std.specs.Fmt.{decimal}
+use Rattle.std.specs.{Prelude.codes, Prelude.MatchOption, Fmt.decimal}
 use Rattle.relax_edges.specs.declared.edge.Edge.{Edge}
 use Rattle.edge_algebra_laws.specs.CycleOrder.{IsNormal}
 use Rattle.cycle_enum_laws.specs.Listing.{IsNext, IsAnswer, AreListedTo}

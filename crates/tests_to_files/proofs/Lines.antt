@@ -1,10 +1,7 @@
 -- Laws of the files of tests and of the lines that name them.
 use Rattle.std.proofs.Common.{◌≡◌, ◌<◌, ◌^◌, ℕ, suc, ◌+◌, List, [], ◌∷◌, ◌++◌, length, Option, refl, sym, ◌∙◌, ap, arith, append-nil, append_assoc, length-append, add-zero, map}
-use Rattle.std.proofs.lemmas.List.{map-append}
-use Rattle.std.proofs.lemmas.List.Concat.{flat_map-append}
-use Rattle.std.specs.Prelude.{codes}
-use Rattle.std.specs.Fmt.{decimal}
-use Rattle.std.specs.List.{enumerate_from, flat_map}
+use Rattle.std.proofs.lemmas.{List.map-append, List.Concat.flat_map-append}
+use Rattle.std.specs.{Prelude.codes, Fmt.decimal, List.enumerate_from, List.flat_map}
 use Rattle.relax_edges.specs.declared.edge.Edge.{Edge}
 use Rattle.tests_to_files.specs.ListedFiles.{file_number, file_named, stem_named, file_of, path_of, file_lines, test_files, count_line}
 

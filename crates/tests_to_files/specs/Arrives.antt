@@ -2,8 +2,7 @@
 -- Source: own.
 use Rattle.std.specs.Prelude.{◌≡◌, ◌<◌, Option, Some, None, List}
 use Rattle.relax_edges.specs.declared.edge.Edge.{Edge}
-use Rattle.cycle_enum_laws.specs.Counting.{later}
-use Rattle.cycle_enum_laws.specs.Listing.{IsNext, IsAnswer}
+use Rattle.cycle_enum_laws.specs.{Counting.later, Listing.IsNext, Listing.IsAnswer}
 use Rattle.cycle_enum.specs.Walking.{Walking}
 
 -- a walk was taken on to the next of some cycles, and fewer are left

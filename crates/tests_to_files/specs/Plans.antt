@@ -1,26 +1,19 @@
 -- What a listing asks for: which cycles have a test in it, and what their tests are.
 -- Source: own, after diy.
 use Rattle.std.specs.Prelude.{◌≡◌, ℕ, Bool, true, ◌&&◌, ◌||◌, not, nat_le, is_none, List, [], ◌∷◌, length, Option, Some, None}
-use Rattle.std.specs.List.{list_all}
-use Rattle.std.specs.Borrow.{Bor}
-use Rattle.std.specs.Option.{option_map}
-use Rattle.relax_edges.specs.declared.edge.Edge.{Edge}
-use Rattle.relax_edges.specs.declared.kinds.ArchName.{ArchName}
-use Rattle.relax_edges.specs.declared.kinds.ObsMode.{ObsMode}
+use Rattle.std.specs.{List.list_all, Borrow.Bor, Option.option_map}
+use Rattle.relax_edges.specs.declared.{edge.Edge.Edge, kinds.ArchName.ArchName, kinds.ObsMode.ObsMode}
 use Rattle.relax_edges.specs.EdgeTable.{is_external, is_of_arch}
 use Rattle.list_laws.specs.Numbers.{upto}
 use Rattle.cycle_enum_laws.specs.Listing.{IsListed}
 use Rattle.cycle_names.specs.CycleNames.{name_of}
 use Rattle.cycle_events.specs.Resolution.{external_count, turned, events_in}
-use Rattle.arch_trait.specs.Threads.{Puts}
-use Rattle.arch_trait.specs.Writing.{Writing}
-use Rattle.test_maker.specs.Refusals.{refusal_of}
-use Rattle.test_maker.specs.CycleText.{cycle_text}
+use Rattle.arch_trait.specs.{Threads.Puts, Writing.Writing}
+use Rattle.test_maker.specs.{Refusals.refusal_of, CycleText.cycle_text}
 use Rattle.cycle_enum.specs.declared.limits.Limits.{Limits}
 use Rattle.cycle_enum.specs.Walking.{Walking}
 use Rattle.tests_to_files.specs.ListedFiles.{path_of, file_of, test_files}
-use Rattle.tests_to_files.specs.declared.listing.Listing.{Listing}
-use Rattle.tests_to_files.specs.declared.wanted.Wanted.{Wanted}
+use Rattle.tests_to_files.specs.declared.{listing.Listing.Listing, wanted.Wanted.Wanted}
 
 -- a cycle has at most so many threads: so many of its edges lead to another one
 abbrev pub has_few_threads : ℕ → List Edge → Bool

@@ -1,9 +1,6 @@
 -- What each class of bytes holds.
-use Rattle.std.specs.Prelude.{ℕ, Bool}
-use Rattle.std.specs.Char.{is_ascii_digit, is_ascii_alphabetic, is_ascii_alphanumeric}
-use Rattle.text_parts_laws.specs.Names.{is_place_byte}
-use Rattle.text_parts_laws.specs.Blanks.{is_blank, is_inked}
-use Rattle.text_parts_laws.specs.Words.{is_argument_byte}
+use Rattle.std.specs.{Prelude.ℕ, Prelude.Bool, Char.is_ascii_digit, Char.is_ascii_alphabetic, Char.is_ascii_alphanumeric}
+use Rattle.text_parts_laws.specs.{Names.is_place_byte, Blanks.is_blank, Blanks.is_inked, Words.is_argument_byte}
 use Rattle.text_parts.specs.declared.classes.Class.{Class}
 use Rattle.text_parts.specs.declared.classes.Class.TheVariants as classes
 

@@ -1,9 +1,7 @@
 -- Blanks at the ends of a text: how a walk from its end finds the text without them, and what is known of that text.
 use Rattle.std.proofs.Common.{◌≡◌, ℕ, zero, suc, ◌-◌, ◌<◌, ◌≤◌, List, [], ◌∷◌, ◌++◌, true, false, length, get_or, take, refl, ap, ◌∙◌, arith}
-use Rattle.std.specs.Prelude.{Bool}
-use Rattle.std.specs.List.{list_all}
-use Rattle.std.proofs.Math.ListN.{replicate}
-use Rattle.std.proofs.lemmas.Bool.{and_from}
+use Rattle.std.specs.{Prelude.Bool, List.list_all}
+use Rattle.std.proofs.{Math.ListN.replicate, lemmas.Bool.and_from}
 use Rattle.text_parts_laws.specs.Blanks.{is_blank, is_inked, kept_before, before_blanks, unblanked, trim_blanks}
 use Rattle.text_parts_laws.specs.LeadingRuns.{after_run}
 use Rattle.text_parts_laws.proofs.RunLaws.{after_class}

@@ -1,14 +1,10 @@
 -- A cut at the first place of a byte.
 use Rattle.std.proofs.Common.{◌≡◌, ◌==◌, ◌+◌, ◌-◌, ◌<◌, ◌≤◌, ℕ, zero, suc, List, [], ◌∷◌, ◌++◌, Some, None, true, get_or, take, drop, length, length-append, refl, sym, ap, ◌∙◌, arith, false}
-use Rattle.std.specs.Prelude.{not, Bool, Option}
-use Rattle.std.proofs.lemmas.Bool.{eq-eqb, and_from}
-use Rattle.std.proofs.lemmas.List.{take-append-drop}
-use Rattle.std.proofs.Math.Seq.{drop-cons, take-length}
-use Rattle.list_laws.proofs.Cases.{by_test}
-use Rattle.list_laws.proofs.Elements.{rest_from}
+use Rattle.std.specs.{Prelude.not, Prelude.Bool, Prelude.Option, List.list_all}
+use Rattle.std.proofs.{lemmas.Bool.eq-eqb, lemmas.Bool.and_from, lemmas.List.take-append-drop, Math.Seq.drop-cons, Math.Seq.take-length}
+use Rattle.std.proofs.{lemmas.List.Folds.list_all-append}
+use Rattle.list_laws.proofs.{Cases.by_test, Elements.rest_from}
 use Rattle.text_parts_laws.specs.Cuts.{before_cut, cut_at, is_without, CutParts}
-use Rattle.std.specs.List.{list_all}
-use Rattle.std.proofs.lemmas.List.Folds.{list_all-append}
 
 -- the text before a sign and the text after it
 pub cut_back : (sign : ℕ) (prefix remainder : List ℕ) → is_without sign prefix ≡ true → cut_at sign (prefix ++ sign ∷ remainder) ≡ Some (prefix, remainder)

@@ -1,7 +1,6 @@
 -- The pieces between bytes of a class.
 use Rattle.std.proofs.Common.{◌≡◌, ℕ, suc, List, [], ◌∷◌, ◌++◌, length, true, refl, ap, ◌∙◌, arith}
-use Rattle.std.specs.Prelude.{Bool, not}
-use Rattle.std.specs.List.{slice_split, onto_first, list_all}
+use Rattle.std.specs.{Prelude.Bool, Prelude.not, List.slice_split, List.onto_first, List.list_all}
 use Rattle.list_laws.proofs.Cases.{by_test}
 use Rattle.text_parts_laws.specs.Lines.{but_last, last_of}
 

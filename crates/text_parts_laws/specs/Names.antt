@@ -1,8 +1,7 @@
 -- The forms of the names of places, of registers and of tests.
 -- Source: own, within the names that the litmus format has.
 use Rattle.std.specs.Prelude.{ℕ, Bool, false, ◌&&◌, ◌||◌, ◌==◌, List, [], ◌∷◌, nat_le, length}
-use Rattle.std.specs.Char.{is_ascii_alphabetic, is_ascii_alphanumeric}
-use Rattle.std.specs.List.{list_all}
+use Rattle.std.specs.{Char.is_ascii_alphabetic, Char.is_ascii_alphanumeric, List.list_all}
 
 -- a byte of the name of a test: an ASCII letter or digit, or one of `+`, `-`, `.` and `_`
 abbrev pub is_name_byte : ℕ → Bool

@@ -1,16 +1,11 @@
 -- Where an edge doesn't join its events, it doesn't stand in the execution of a program that makes them.
 use Rattle.std.proofs.Common.{◌≡◌, ℕ, ◌<◌, List, length, ◌∙◌, ap, subst}
-use Rattle.relax_edges.specs.declared.kinds.ObsMode.{ObsMode}
-use Rattle.relax_edges.specs.declared.edge.Edge.{Edge}
+use Rattle.relax_edges.specs.declared.{kinds.ObsMode.ObsMode, edge.Edge.Edge}
 use Rattle.cycle_events.specs.Resolution.{edge_at, event_after, event_before}
 use Rattle.cycle_events.proofs.Around.{after_below, before_below, after_before}
-use Rattle.program_meaning.specs.Accesses.{Access}
-use Rattle.program_meaning.specs.Executions.{Execution}
-use Rattle.program_meaning.specs.Programs.{Program, accesses_in}
-use Rattle.program_meaning.specs.Standing.{AccessAt, Joins, access_at}
-use Rattle.program_meaning.specs.Intended.{cycle_accesses, event_at}
-use Rattle.accesses_force_cycles.proofs.AllStand.{is_event_at}
-use Rattle.accesses_force_cycles.proofs.Resolves.{Resolves}
+use Rattle.program_meaning.specs.{Accesses.Access, Executions.Execution, Programs.Program, Programs.accesses_in, Standing.AccessAt, Standing.Joins}
+use Rattle.program_meaning.specs.{Standing.access_at, Intended.cycle_accesses, Intended.event_at}
+use Rattle.accesses_force_cycles.proofs.{AllStand.is_event_at, Resolves.Resolves}
 use Rattle.exec_meaning.specs.StandingEdges.{EdgeStands}
 
 -- the edge into an event that it doesn't join with the one before doesn't stand in the execution

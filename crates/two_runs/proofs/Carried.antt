@@ -1,25 +1,15 @@
 -- An execution of the accesses of a cycle's test that reads what the intended one reads is one of the test's program.
 use Rattle.std.proofs.Common.{◌≡◌, ℕ, List, length, slice_get, sym, ◌∙◌, ap, subst}
-use Rattle.relax_edges.specs.declared.kinds.ObsMode.{ObsMode}
-use Rattle.relax_edges.specs.declared.edge.Edge.{Edge}
+use Rattle.relax_edges.specs.declared.{kinds.ObsMode.ObsMode, edge.Edge.Edge}
 use Rattle.cycle_events.specs.Resolution.{move_count}
-use Rattle.arch_trait.specs.Laws.{IsArch}
-use Rattle.arch_trait.specs.Threads.{Puts}
-use Rattle.program_meaning.specs.Accesses.{Access}
-use Rattle.program_meaning.specs.Executions.{Execution, IsExecutionOf}
-use Rattle.program_meaning.specs.Coherence.{IsCoherent}
-use Rattle.program_meaning.specs.Programs.{IsCandidate, IsCoherentIn, accesses_in}
-use Rattle.program_meaning.specs.Intended.{IsNumbering, cycle_accesses, intended}
-use Rattle.accesses_force_cycles.specs.Premises.{MeetsCondition}
-use Rattle.accesses_force_cycles.specs.Joining.{MakesAccesses, ReadsAsAsked}
-use Rattle.accesses_force_cycles.proofs.Bridge.{resolves}
-use Rattle.accesses_force_cycles.proofs.IntendedReads.{reads-count}
-use Rattle.accesses_force_cycles.proofs.Programs.{makes_planned, intended_asked}
-use Rattle.tests_force_cycles.specs.TestHeadline.{HasCode}
-use Rattle.tests_force_cycles.specs.CycleSteps.{cycle_steps}
-use Rattle.tests_force_cycles.proofs.ThreadRuns.{AreCodesOf, AreEnough, all_end}
-use Rattle.tests_force_cycles.proofs.TestCodes.{cycle_codes, cycle_program, are_codes}
-use Rattle.tests_force_cycles.proofs.Making.{planned-count, asked_enough, makes_enough}
+use Rattle.arch_trait.specs.{Laws.IsArch, Threads.Puts}
+use Rattle.program_meaning.specs.{Accesses.Access, Executions.Execution, Executions.IsExecutionOf, Coherence.IsCoherent, Programs.IsCandidate}
+use Rattle.program_meaning.specs.{Programs.IsCoherentIn, Programs.accesses_in, Intended.IsNumbering, Intended.cycle_accesses, Intended.intended}
+use Rattle.accesses_force_cycles.specs.{Premises.MeetsCondition, Joining.MakesAccesses, Joining.ReadsAsAsked}
+use Rattle.accesses_force_cycles.proofs.{Bridge.resolves, IntendedReads.reads-count, Programs.makes_planned, Programs.intended_asked}
+use Rattle.tests_force_cycles.specs.{TestHeadline.HasCode, CycleSteps.cycle_steps}
+use Rattle.tests_force_cycles.proofs.{ThreadRuns.AreCodesOf, ThreadRuns.AreEnough, ThreadRuns.all_end, TestCodes.cycle_codes, TestCodes.cycle_program}
+use Rattle.tests_force_cycles.proofs.{TestCodes.are_codes, Making.planned-count, Making.asked_enough, Making.makes_enough}
 
 -- an execution is a candidate execution of the program and coherent there, and the accesses made are those of the test
 pub record IsCarried (a : Puts) (es : List Edge) (mode : ObsMode) (number : ℕ → ℕ) (x : Execution) : Type 0 where

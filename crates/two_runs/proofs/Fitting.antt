@@ -3,26 +3,20 @@ use Rattle.std.proofs.Common.{◌≡◌, ◌≤◌, ◌<◌, ◌+◌, ℕ, zero,
 use Rattle.std.specs.Prelude.{Bool, true, Option, Some, None}
 use Rattle.std.specs.List.{All, cons_option, filter_map, list_all}
 use Rattle.std.specs.Option.{option_map}
-use Rattle.std.proofs.lemmas.List.Elements.{All-cons, All-map, All-nil}
-use Rattle.std.proofs.lemmas.List.{length-map}
-use Rattle.std.proofs.lemmas.List.Sums.{length-filter, count_by-le-length}
-use Rattle.relax_edges.specs.declared.edge.Edge.{Edge}
-use Rattle.relax_edges.specs.declared.TheConstants.{MAX_EDGES}
+use Rattle.std.proofs.lemmas.{List.Elements.All-cons, List.Elements.All-map, List.Elements.All-nil, List.length-map, List.Sums.length-filter}
+use Rattle.std.proofs.lemmas.{List.Sums.count_by-le-length}
+use Rattle.relax_edges.specs.declared.{edge.Edge.Edge, TheConstants.MAX_EDGES}
 use Rattle.list_laws.specs.Numbers.{upto}
 use Rattle.list_laws.proofs.Numbers.{length-map-upto, length-upto}
 use Rattle.cycle_events.specs.Resolution.{IsResolved, events_in, external_count, location_of, move_count}
-use Rattle.cycle_events.proofs.Arcs.{thread_below}
-use Rattle.cycle_events.proofs.Sizes.{external_and_moves, thread_size_most}
-use Rattle.cycle_events.proofs.Threads.{slot_most}
+use Rattle.cycle_events.proofs.{Arcs.thread_below, Sizes.external_and_moves, Sizes.thread_size_most, Threads.slot_most, Along.value_most}
+use Rattle.cycle_events.proofs.{Along.write_count_most, Writes.write_of as number_written}
 use Rattle.cycle_events.specs.Values.{value_of, write_at, write_count}
-use Rattle.cycle_events.proofs.Along.{value_most, write_count_most}
-use Rattle.cycle_events.proofs.Writes.{write_of as number_written}
 use Rattle.text_parts_laws.specs.Names.{is_place_name}
 use Rattle.litmus_text.specs.declared.limits.TheConstants.{MAX_ACCESSES}
 use Rattle.program_meaning.specs.declared.WriteAt.{WriteAt}
-use Rattle.program_meaning.specs.Accesses.{is_read}
+use Rattle.program_meaning.specs.{Accesses.is_read, Standing.event_name}
 use Rattle.program_meaning.specs.Intended.{event_access, event_read, location_numbered, reads_in, write_of}
-use Rattle.program_meaning.specs.Standing.{event_name}
 use Rattle.exec_text.specs.ExecutionReadBack.{AccessFits, ExecutionFits, ReadFits, SourceFits}
 use Rattle.exec_text.proofs.Short.{small_fits}
 use Rattle.two_runs.specs.Runs.{order_of, run_by, value_there}

@@ -1,13 +1,8 @@
 -- The number of a name among those of places, and the location whose place has a number.
 use Rattle.std.proofs.Common.{◌≡◌, ℕ, ◌+◌, ◌<◌, ◌≤◌, ◌==◌, true, false, cond, List, [], length, drop, Some, sym, ap, ◌∙◌, subst, arith}
-use Rattle.std.specs.Prelude.{slice_index_or, unwrap_or}
-use Rattle.std.specs.List.{position_from}
-use Rattle.std.specs.Str.{bytes_eq}
-use Rattle.std.proofs.lemmas.Bool.{ne_eqb}
-use Rattle.std.proofs.lemmas.List.{drop_more}
-use Rattle.std.proofs.Math.Seq.{drop-length}
-use Rattle.list_laws.proofs.Cases.{by_less}
-use Rattle.list_laws.proofs.Finds.{find_upto_first, find_upto_none}
+use Rattle.std.specs.{Prelude.slice_index_or, Prelude.unwrap_or, List.position_from, Str.bytes_eq}
+use Rattle.std.proofs.{lemmas.Bool.ne_eqb, lemmas.List.drop_more, Math.Seq.drop-length}
+use Rattle.list_laws.proofs.{Cases.by_less, Finds.find_upto_first, Finds.find_upto_none}
 use Rattle.relax_edges.specs.declared.edge.Edge.{Edge}
 use Rattle.cycle_events.specs.Resolution.{move_count}
 use Rattle.litmus_text.specs.Placing.{or_zero}

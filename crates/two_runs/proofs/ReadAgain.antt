@@ -1,42 +1,26 @@
 -- The text of an execution that is made is read as that execution, with the threads and places of the test that was read.
 use Rattle.std.proofs.Common.{◌≡◌, ◌≤◌, ◌<◌, ℕ, List, [], ◌∷◌, map, length, true, refl, sym, ap, ◌∙◌, subst, arith}
-use Rattle.std.specs.Prelude.{Option, Result, Ok}
-use Rattle.std.specs.List.{AllByRecursion, list_all}
+use Rattle.std.specs.{Prelude.Option, Prelude.Result, Prelude.Ok, List.AllByRecursion, List.list_all}
 use Rattle.std.proofs.lemmas.Bool.{and_from}
-use Rattle.relax_edges.specs.declared.TheConstants.{MAX_EDGES}
-use Rattle.relax_edges.specs.declared.kinds.ObsMode.TheVariants.{Avoid}
-use Rattle.relax_edges.specs.declared.edge.Edge.{Edge}
+use Rattle.relax_edges.specs.declared.{TheConstants.MAX_EDGES, kinds.ObsMode.TheVariants.Avoid, edge.Edge.Edge}
 use Rattle.list_laws.proofs.Numbers.{length-map-upto}
 use Rattle.cycle_events.specs.Resolution.{external_count, move_count}
 use Rattle.text_parts_laws.specs.Names.{is_place_name}
-use Rattle.arch_trait.specs.Cells.{WritesCells, MakesOneAccess}
-use Rattle.arch_trait.specs.Laws.{IsArch}
-use Rattle.arch_trait.specs.PlaceNames.{letters, location_name}
-use Rattle.arch_trait.specs.Threads.{Puts}
-use Rattle.arch_trait.specs.Writing.{Writing, WritesBack, name_in}
+use Rattle.arch_trait.specs.{Cells.WritesCells, Cells.MakesOneAccess, Laws.IsArch, PlaceNames.letters, PlaceNames.location_name, Threads.Puts}
+use Rattle.arch_trait.specs.{Writing.Writing, Writing.WritesBack, Writing.name_in}
 use Rattle.arch_trait_laws.proofs.NameLaws.{length-letters, location_new}
 use Rattle.litmus_text.specs.declared.errors.TextError.{TextError}
-use Rattle.litmus_text.specs.Mentioned.{TestReadsBack, is_in}
-use Rattle.litmus_text.specs.Printable.{IsTestName}
-use Rattle.litmus_text.specs.Reread.{reread}
-use Rattle.litmus_text.specs.TestReading.{TestRead, test_read}
-use Rattle.litmus_text.specs.TestText.{test_text}
-use Rattle.bytes_force_cycles.proofs.BackLaws.{reads_back, numbered_in}
+use Rattle.litmus_text.specs.{Mentioned.TestReadsBack, Mentioned.is_in, Printable.IsTestName, Reread.reread, TestReading.TestRead}
+use Rattle.litmus_text.specs.{TestReading.test_read, TestText.test_text}
+use Rattle.bytes_force_cycles.proofs.{BackLaws.reads_back, BackLaws.numbered_in, Readable.readable, Rereading.got_is}
 use Rattle.program_meaning.specs.declared.WriteAt.{WriteAt}
-use Rattle.program_meaning.specs.Executions.{Execution}
-use Rattle.program_meaning.specs.Intended.{event_read, location_numbered, reads_in}
-use Rattle.program_meaning.specs.Programs.{IsCandidate}
+use Rattle.program_meaning.specs.{Executions.Execution, Intended.event_read, Intended.location_numbered, Intended.reads_in, Programs.IsCandidate}
 use Rattle.exec_meaning.proofs.RunLaws.{candidate_count}
-use Rattle.exec_text.specs.ExecutionText.{execution_read}
-use Rattle.exec_text.specs.ExecutionReadBack.{ExecutionFits}
-use Rattle.exec_text.specs.Written.{text_of_execution}
+use Rattle.exec_text.specs.{ExecutionText.execution_read, ExecutionReadBack.ExecutionFits, Written.text_of_execution}
 use Rattle.exec_text.proofs.ExecutionBack.{written_reads_back}
-use Rattle.tests_force_cycles.specs.TestHeadline.{HasCode}
+use Rattle.tests_force_cycles.specs.{TestHeadline.HasCode, TestOf.test_of}
 use Rattle.tests_force_cycles.proofs.PlaceNames.{letter_at, locations_few}
-use Rattle.tests_force_cycles.specs.TestOf.{test_of}
 use Rattle.bytes_force_cycles.specs.Readings.{program_read}
-use Rattle.bytes_force_cycles.proofs.Readable.{readable}
-use Rattle.bytes_force_cycles.proofs.Rereading.{got_is}
 use Rattle.two_runs.specs.Runs.{order_of, run_by}
 use Rattle.two_runs.proofs.Fitting.{run_fits}
 

@@ -1,35 +1,23 @@
 -- What is made is what is to be shown: the two executions are the intended one and the exchanged one, and the law of refusals
 -- is about the test that was read.
 use Rattle.std.proofs.Common.{◌≡◌, ℕ, suc, ◌+◌, ◌<◌, Bool, false, cond, List, [], ◌∷◌, ◌++◌, length, map, Option, Some, None, Ok, Err, refl, sym, ap, ◌∙◌, subst, arith, append-nil}
-use Rattle.std.specs.Prelude.{Result}
-use Rattle.std.specs.List.{filter, filter_map}
+use Rattle.std.specs.{Prelude.Result, List.filter, List.filter_map}
 use Rattle.std.proofs.Math.Path.{fun_ext}
 use Rattle.list_laws.specs.Numbers.{upto}
-use Rattle.relax_edges.specs.declared.kinds.ArchName.{ArchName}
-use Rattle.relax_edges.specs.declared.kinds.ObsMode.TheVariants.{Avoid}
-use Rattle.relax_edges.specs.declared.edge.Edge.{Edge}
+use Rattle.relax_edges.specs.declared.{kinds.ArchName.ArchName, kinds.ObsMode.TheVariants.Avoid, edge.Edge.Edge}
 use Rattle.cycle_events.specs.Resolution.{IsResolved, event_before, move_count}
 use Rattle.cycle_events.specs.declared.needs.NeedsObserver.{NeedsObserver}
 use Rattle.cycle_events.specs.Values.{is_observed, observer_need, write_count}
-use Rattle.arch_trait.specs.Cells.{WritesCells, MakesOneAccess}
-use Rattle.arch_trait.specs.Laws.{IsArch}
-use Rattle.arch_trait.specs.PlaceNames.{number_in}
-use Rattle.arch_trait.specs.Threads.{Puts}
-use Rattle.arch_trait.specs.Writing.{Writing, WritesBack, name_in}
-use Rattle.litmus_text.specs.Printable.{IsTestName}
-use Rattle.litmus_text.specs.TestReading.{TestRead, test_read}
-use Rattle.litmus_text.specs.TestText.{test_text}
-use Rattle.litmus_text.specs.declared.errors.TextError.{TextError}
-use Rattle.litmus_text.specs.declared.errors.ReadError.{ReadError}
+use Rattle.arch_trait.specs.{Cells.WritesCells, Cells.MakesOneAccess, Laws.IsArch, PlaceNames.number_in, Threads.Puts, Writing.Writing}
+use Rattle.arch_trait.specs.{Writing.WritesBack, Writing.name_in}
+use Rattle.litmus_text.specs.{Printable.IsTestName, TestReading.TestRead, TestReading.test_read, TestText.test_text, ReadingAnswers.GivesInMemory}
+use Rattle.litmus_text.specs.declared.errors.{TextError.TextError, ReadError.ReadError}
 use Rattle.litmus_text.specs.declared.errors.ReadError.TheVariants as errors
-use Rattle.litmus_text.specs.ReadingAnswers.{GivesInMemory}
 use Rattle.program_meaning.specs.Executions.{Execution}
 use Rattle.program_meaning.specs.Intended.{intended, location_numbered, location_order, observed_locations, observer_reads, write_of}
 use Rattle.accesses_force_cycles.specs.Exchange.{exchanged, exchanged_order}
-use Rattle.accesses_force_cycles.proofs.Bridge.{resolves}
-use Rattle.accesses_force_cycles.proofs.Needs.{refused_entry}
-use Rattle.tests_force_cycles.specs.TestHeadline.{HasCode}
-use Rattle.tests_force_cycles.specs.TestOf.{test_of}
+use Rattle.accesses_force_cycles.proofs.{Bridge.resolves, Needs.refused_entry}
+use Rattle.tests_force_cycles.specs.{TestHeadline.HasCode, TestOf.test_of}
 use Rattle.bytes_force_cycles.specs.Readings.{program_read, place_in_test}
 use Rattle.two_runs.specs.Undecided.{BytesUndecided, NoneTells, PrintedUndecided, Undecided}
 use Rattle.two_runs.specs.Runs.{cycle_reads, numbers_by, order_of, run_by}

@@ -4,15 +4,12 @@ use Rattle.std.specs.Prelude.{ℕ, ◌+◌, ◌==◌, ◌&&◌, Bool, List, [], 
 use Rattle.std.specs.List.{filter_map}
 use Rattle.relax_edges.specs.declared.edge.Edge.{Edge}
 use Rattle.list_laws.specs.Numbers.{upto}
-use Rattle.cycle_events.specs.Resolution.{external_count, move_count, thread_of}
-use Rattle.cycle_events.specs.Values.{write_count}
+use Rattle.cycle_events.specs.{Resolution.external_count, Resolution.move_count, Resolution.thread_of, Values.write_count}
 use Rattle.arch_trait.specs.PlaceNames.{location_name}
 use Rattle.litmus_text.specs.Placing.{place_in}
-use Rattle.diy_io.specs.Sink.{shown_bytes}
-use Rattle.diy_io.specs.Wrote.{SinkSeen}
+use Rattle.diy_io.specs.{Sink.shown_bytes, Wrote.SinkSeen}
 use Rattle.program_meaning.specs.declared.WriteAt.{WriteAt}
-use Rattle.program_meaning.specs.Accesses.{is_read}
-use Rattle.program_meaning.specs.Executions.{Execution}
+use Rattle.program_meaning.specs.{Accesses.is_read, Executions.Execution}
 use Rattle.program_meaning.specs.Intended.{event_access, event_read, location_numbered, reads_in, write_of}
 use Rattle.accesses_force_cycles.specs.Exchange.{exchanged_value}
 use Rattle.two_runs.specs.declared.sink.TextSink.{TextSink}

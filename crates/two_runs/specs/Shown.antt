@@ -2,39 +2,25 @@
 -- observers, and two executions of what that is read as.
 -- Source: own.
 use Rattle.std.specs.Prelude.{◌≡◌, ℕ, not, List, length, Option, Some, None, Result, Ok, Err, Vec}
-use Rattle.std.specs.List.{position_from}
-use Rattle.std.specs.Option.{option_map, option_or}
+use Rattle.std.specs.{List.position_from, Option.option_map, Option.option_or}
 use Rattle.std.specs.declared.alloc.Global.{Global}
-use Rattle.relax_edges.specs.declared.kinds.ArchName.{ArchName}
-use Rattle.relax_edges.specs.declared.kinds.ObsMode.TheVariants.{Avoid}
-use Rattle.relax_edges.specs.declared.edge.Edge.{Edge}
+use Rattle.relax_edges.specs.declared.{kinds.ArchName.ArchName, kinds.ObsMode.TheVariants.Avoid, edge.Edge.Edge}
 use Rattle.relax_edges.specs.EdgeTable.{is_of_arch}
-use Rattle.cycle_events.specs.declared.errors.ResolveError.{ResolveError}
+use Rattle.cycle_events.specs.declared.{errors.ResolveError.ResolveError, needs.NeedsObserver.NeedsObserver}
 use Rattle.cycle_events.specs.declared.errors.ResolveError.TheVariants as resolving
-use Rattle.cycle_events.specs.Resolution.{event_before, resolution_of, turned}
-use Rattle.cycle_events.specs.declared.needs.NeedsObserver.{NeedsObserver}
-use Rattle.cycle_events.specs.Values.{observer_need}
-use Rattle.arch_trait.specs.PlaceNames.{number_in}
-use Rattle.arch_trait.specs.Threads.{Puts}
-use Rattle.arch_trait.specs.Writing.{Writing, name_in}
-use Rattle.litmus_text.specs.TestReading.{TestRead, test_read}
-use Rattle.litmus_text.specs.TestText.{test_text}
-use Rattle.program_meaning.specs.Executions.{Execution}
-use Rattle.program_meaning.specs.Intended.{intended}
+use Rattle.cycle_events.specs.{Resolution.event_before, Resolution.resolution_of, Resolution.turned, Values.observer_need}
+use Rattle.arch_trait.specs.{PlaceNames.number_in, Threads.Puts, Writing.Writing, Writing.name_in}
+use Rattle.litmus_text.specs.{TestReading.TestRead, TestReading.test_read, TestText.test_text}
+use Rattle.program_meaning.specs.{Executions.Execution, Intended.intended}
 use Rattle.accesses_force_cycles.specs.Exchange.{exchanged}
-use Rattle.tests_force_cycles.specs.TestHeadline.{HasCode}
-use Rattle.tests_force_cycles.specs.CycleSteps.{cycle_steps}
-use Rattle.tests_force_cycles.specs.TestOf.{plain, test_of}
+use Rattle.tests_force_cycles.specs.{TestHeadline.HasCode, CycleSteps.cycle_steps, TestOf.plain, TestOf.test_of}
 use Rattle.test_maker.specs.Refusals.{is_crowded}
-use Rattle.exec_text.specs.ExecutionText.{execution_read}
-use Rattle.exec_text.specs.Written.{text_of_execution}
+use Rattle.exec_text.specs.{ExecutionText.execution_read, Written.text_of_execution}
 use Rattle.bytes_force_cycles.specs.Readings.{program_read, place_in_test}
 use Rattle.two_runs.specs.Undecided.{NoneTells}
-use Rattle.two_runs.specs.declared.errors.WhyError.{WhyError}
+use Rattle.two_runs.specs.declared.{errors.WhyError.WhyError, errors.WhyRefusal.WhyRefusal, shown.TwoRuns.TwoRuns}
 use Rattle.two_runs.specs.declared.errors.WhyError.TheVariants as errors
-use Rattle.two_runs.specs.declared.errors.WhyRefusal.{WhyRefusal}
 use Rattle.two_runs.specs.declared.errors.WhyRefusal.TheVariants as refusals
-use Rattle.two_runs.specs.declared.shown.TwoRuns.{TwoRuns}
 
 -- the first thread of a cycle that needs more registers than the architecture has, its observers not counted
 abbrev pub crowded : Puts → List Edge → Option WhyRefusal

@@ -1,8 +1,7 @@
 -- What holds in the loop over the events.
 use Rattle.std.proofs.Common.{◌≡◌, map}
 use Rattle.list_laws.specs.Numbers.{upto}
-use Rattle.cycle_events.specs.Resolution.{moves_before, location_of}
-use Rattle.cycle_events.specs.Values.{value_of, write_count}
+use Rattle.cycle_events.specs.{Resolution.moves_before, Resolution.location_of, Values.value_of, Values.write_count}
 use Rattle.coherence_values.specs.Arc.{seen_of}
 use Rattle.coherence_values.proofs.Walk.{writes_so_far}
 use Rattle.coherence_values.proofs.valued.walk_arcs.Given as goal

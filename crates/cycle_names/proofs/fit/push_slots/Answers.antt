@@ -1,8 +1,6 @@
 -- One edge more has one slot more, and with an edge without a slot the cycle is of no family.
-use Rattle.std.proofs.Common.{sym, arith}
-use Rattle.std.proofs.lemmas.Grind.{common_steps}
-use Rattle.cycle_names.proofs.Tables.{slot_joins}
-use Rattle.cycle_names.proofs.Places.{none_beside}
+use Rattle.std.proofs.{Common.sym, Common.arith, lemmas.Grind.common_steps}
+use Rattle.cycle_names.proofs.{Tables.slot_joins, Places.none_beside}
 use Rattle.cycle_names.proofs.fit.push_slots.Goals as goal
 
 pub returns-in_default : goal.returns-in_default

@@ -1,6 +1,5 @@
 -- What is added is what comes after a family's word in a name.
-use Rattle.std.proofs.Common.{sym, arith}
-use Rattle.std.proofs.lemmas.Grind.{common_steps}
+use Rattle.std.proofs.{Common.sym, Common.arith, lemmas.Grind.common_steps}
 use Rattle.cycle_names.proofs.Texts.{text_of_none, text_of_some}
 use Rattle.cycle_names.proofs.words.push_links.Goals as goal
 

@@ -5,8 +5,7 @@ use Rattle.arch_power.specs.Puts as power
 use Rattle.arch_aarch64.specs.Puts as aarch64
 use Rattle.arch_riscv.specs.Puts as riscv
 use Rattle.arch_arm.specs.Puts as arm
-use Rattle.demo_tests.proofs.FamilyRooms.{HasRoom}
-use Rattle.demo_tests.proofs.FamilyTests.{makes_all}
+use Rattle.demo_tests.proofs.{FamilyRooms.HasRoom, FamilyTests.makes_all}
 use Rattle.demo_tests.proofs.families.families_have_tests.Goals as goal
 
 x86_room : HasRoom x86.puts

@@ -1,7 +1,5 @@
 -- That the claims of `run` follow from what it answers.
-use Rattle.diy_tools.proofs.Caused.{answers_caused, answers_memory}
-use Rattle.diy_tools.proofs.Completed.{answers_complete}
-use Rattle.diy_tools.proofs.Limits.{answers_limited}
+use Rattle.diy_tools.proofs.{Caused.answers_caused, Caused.answers_memory, Completed.answers_complete, Limits.answers_limited}
 use Rattle.diy_tools.proofs.tools.run.Goals as goal
 
 pub returns-clause-complete : goal.returns-clause-complete

@@ -1,8 +1,7 @@
 -- That the name of the test has its form where `why_on` calls `why_named`.
 use Rattle.std.proofs.Common.{◌≡◌, true, sym, ◌∙◌, subst}
-use Rattle.std.specs.Prelude.{IfSome}
+use Rattle.std.specs.{Prelude.IfSome, Prelude.Option}
 use Rattle.arrayvec.specs.ArrayString.{ArrayString}
-use Rattle.std.specs.Prelude.{Option}
 use Rattle.diy_words.specs.TestNames.{is_name}
 use Rattle.litmus_text.specs.Printable.{IsTestName}
 use Rattle.demo_tests.proofs.Cycles.{cycle_named}

@@ -1,7 +1,6 @@
 -- That `read_option_at` takes in an option with its value, or gives the fault.
 use Rattle.std.proofs.Common.{◌≡◌, ◌+◌, arith, length, sym, ap}
-use Rattle.diy_words.specs.Notes.{before_noted}
-use Rattle.diy_words.specs.CodeNotes.{notes_after, code_notes}
+use Rattle.diy_words.specs.{Notes.before_noted, CodeNotes.notes_after, CodeNotes.code_notes}
 use Rattle.diy_words.proofs.Judged.{taken, faulty, value_first, unvalued_last}
 use Rattle.diy_words.proofs.read.read_option_at.Goals as goal
 

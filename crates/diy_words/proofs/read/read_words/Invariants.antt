@@ -1,7 +1,6 @@
 -- The loop of `read_words`: the notes after all words stay the same.
 use Rattle.std.proofs.Common.{◌≡◌, ◌-◌, length}
-use Rattle.diy_words.specs.CodeNotes.{code_notes, notes_at_end}
-use Rattle.diy_words.specs.Notes.{no_notes}
+use Rattle.diy_words.specs.{CodeNotes.code_notes, CodeNotes.notes_at_end, Notes.no_notes}
 use Rattle.diy_words.proofs.read.read_words.Given as goal
 
 abbrev pub invariant-loop-at : goal.invariant-loop-at

@@ -1,7 +1,6 @@
 -- That `check_files` writes the verdict, or ends at the first file with a fault.
 use Rattle.std.proofs.Common.{sym, subst}
-use Rattle.diy_io.specs.Shelf.{ShelfSeen}
-use Rattle.diy_io.specs.Wrote.{SinkSeen, WroteAll, WrotePart}
+use Rattle.diy_io.specs.{Shelf.ShelfSeen, Wrote.SinkSeen, Wrote.WroteAll, Wrote.WrotePart}
 use Rattle.relax_edges.specs.declared.kinds.ArchName.{ArchName}
 use Rattle.arch_trait.specs.Writing.{Writing}
 use Rattle.exec_check.specs.declared.checked_errors.CheckEnd.{CheckEnd}

@@ -2,12 +2,10 @@
 use Rattle.std.proofs.Common.{map, refl, ◌∙◌, ap, sym}
 use Rattle.cycle_events.specs.Resolution.{edge_at}
 use Rattle.cycle_events.proofs.Around.{after_below}
-use Rattle.program_meaning.specs.Accesses.{at_name, visits_of}
-use Rattle.program_meaning.specs.Standing.{event_name}
+use Rattle.program_meaning.specs.{Accesses.at_name, Accesses.visits_of, Standing.event_name}
 use Rattle.litmus_text.specs.ReadPrograms.{program_read}
 use Rattle.exec_meaning.specs.StandingEdges.{named_access, stands_if}
-use Rattle.exec_meaning.proofs.RunLaws.{accesses_are, visits_are}
-use Rattle.exec_meaning.proofs.EdgesHeld.{edge_decided, edge_is}
+use Rattle.exec_meaning.proofs.{RunLaws.accesses_are, RunLaws.visits_are, EdgesHeld.edge_decided, EdgesHeld.edge_is}
 use Rattle.exec_meaning.proofs.edges.edge_stands.Goals as goal
 
 pub event_name-to-requires : goal.event_name-to-requires

@@ -4,8 +4,7 @@ use Rattle.litmus_text.specs.ReadPrograms.{program_read}
 use Rattle.micro_ops.specs.RunThreads.{value_in_run}
 use Rattle.program_meaning.specs.Coherence.{final_value}
 use Rattle.exec_meaning.specs.Finals.{all_registers, places_at}
-use Rattle.exec_meaning.proofs.RunLaws.{accesses_are, trace_count}
-use Rattle.exec_meaning.proofs.FinalLaws.{final_is}
+use Rattle.exec_meaning.proofs.{RunLaws.accesses_are, RunLaws.trace_count, FinalLaws.final_is}
 use Rattle.exec_meaning.proofs.final_state.final_of.Goals as goal
 
 pub add_threads-requires : goal.add_threads-requires

@@ -3,8 +3,7 @@ use Rattle.std.proofs.Common.{◌∙◌, ◌<◌, [], sym, ap, arith, length}
 use Rattle.std.proofs.lemmas.List.{get_or_past}
 use Rattle.arch_trait.specs.Codes.{thread_code_of}
 use Rattle.litmus_text.specs.TestText.{column_of}
-use Rattle.litmus_text.proofs.TableLaws.{length-column_of}
-use Rattle.litmus_text.proofs.CellLaws.{same_cell}
+use Rattle.litmus_text.proofs.{TableLaws.length-column_of, CellLaws.same_cell}
 use Rattle.litmus_text.proofs.column.put_cell.Goals as goal
 
 pub put-requires-in-Some-clause-within : goal.put-requires-in-Some-clause-within

@@ -1,8 +1,7 @@
 -- With each column its width is added and its cells are kept.
 use Rattle.std.proofs.Common.{arith}
-use Rattle.litmus_text.proofs.TableLaws.{widths_more, widths_whole}
-use Rattle.litmus_text.proofs.KeptLaws.{column_more, columns_whole, kept_few}
-use Rattle.litmus_text.proofs.ElementLaws.{short_more}
+use Rattle.litmus_text.proofs.{TableLaws.widths_more, TableLaws.widths_whole, KeptLaws.column_more, KeptLaws.columns_whole, KeptLaws.kept_few}
+use Rattle.litmus_text.proofs.{ElementLaws.short_more}
 use Rattle.litmus_text.proofs.column.set_widths.Goals as goal
 
 pub loop-thread-preserved : goal.loop-thread-preserved

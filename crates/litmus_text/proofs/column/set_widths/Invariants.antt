@@ -1,8 +1,7 @@
 -- The walk over the columns keeps their cells and widths.
 use Rattle.std.proofs.Common.{◌≡◌, ◌≤◌, take, map}
 use Rattle.std.specs.List.{All}
-use Rattle.litmus_text.specs.TestText.{columns_of, width_of}
-use Rattle.litmus_text.specs.KeptCells.{all_texts}
+use Rattle.litmus_text.specs.{TestText.columns_of, TestText.width_of, KeptCells.all_texts}
 use Rattle.arch_trait.specs.Codes.{thread_code_of}
 use Rattle.litmus_text.proofs.column.set_widths.Given as goal
 

@@ -2,9 +2,7 @@
 use Rattle.std.proofs.Common.{◌++◌, ap, codes, subst, sym}
 use Rattle.std.specs.Prelude.{Some}
 use Rattle.litmus_text.specs.declared.parts.TextPart.TheVariants as parts
-use Rattle.litmus_text.specs.TestText.{edges_line, with_line_feed}
-use Rattle.litmus_text.specs.Tests.{test_seen}
-use Rattle.litmus_text.specs.TextParts.{PutsPart}
+use Rattle.litmus_text.specs.{TestText.edges_line, TestText.with_line_feed, Tests.test_seen, TextParts.PutsPart}
 use Rattle.litmus_text.proofs.TextParts.{edges_put}
 use Rattle.litmus_text.proofs.parts.put_part.Goals as goal
 

@@ -3,8 +3,7 @@ use Rattle.std.proofs.Common.{codes, map, length, ap, arith, length-append}
 use Rattle.std.specs.List.{join_by}
 use Rattle.arch_trait.specs.Codes.{thread_code_of}
 use Rattle.litmus_text.specs.TestText.{columns_of, cell_text}
-use Rattle.litmus_text.proofs.JoinLaws.{three_put}
-use Rattle.litmus_text.proofs.TableLaws.{row_is}
+use Rattle.litmus_text.proofs.{JoinLaws.three_put, TableLaws.row_is}
 use Rattle.litmus_text.proofs.table.print_row.Goals as goal
 
 pub returns-clause-text : goal.returns-clause-text

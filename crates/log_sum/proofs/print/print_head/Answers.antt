@@ -3,10 +3,8 @@ use Rattle.std.proofs.Common.{ap, ◌∙◌, sym, length}
 use Rattle.std.specs.Fmt.{decimal}
 use Rattle.std.proofs.lemmas.List.{length-map}
 use Rattle.diy_io.specs.PageLaws.{sends_same}
-use Rattle.log_sum.specs.SumViews.{test_view}
-use Rattle.log_sum.specs.StateEntries.{state_view}
-use Rattle.log_sum.proofs.EntryLaws.{in_order_view}
-use Rattle.log_sum.proofs.PrintLaws.{head_is}
+use Rattle.log_sum.specs.{SumViews.test_view, StateEntries.state_view}
+use Rattle.log_sum.proofs.{EntryLaws.in_order_view, PrintLaws.head_is}
 use Rattle.log_sum.proofs.print.print_head.Goals as goal
 
 pub returns : goal.returns

@@ -2,8 +2,7 @@
 use Rattle.std.proofs.Common.{◌≡◌, ◌++◌, map}
 use Rattle.std.specs.List.{flat_map}
 use Rattle.diy_io.specs.Page.{SentAll}
-use Rattle.log_sum.specs.StateEntries.{state_view, states_view}
-use Rattle.log_sum.specs.SumText.{state_line}
+use Rattle.log_sum.specs.{StateEntries.state_view, StateEntries.states_view, SumText.state_line}
 use Rattle.log_sum.proofs.print.print_states.Given as goal
 
 -- the lines of the states so far are sent

@@ -1,8 +1,7 @@
 -- `write_form`: what is written is the form of the equalities so far.
 use Rattle.std.proofs.Common.{◌≡◌}
 use Rattle.std.specs.Prelude.{take}
-use Rattle.log_sum.specs.SumViews.{texts_of}
-use Rattle.log_sum.specs.LogStates.{state_form}
+use Rattle.log_sum.specs.{SumViews.texts_of, LogStates.state_form}
 use Rattle.log_sum.proofs.states.write_form.Given as goal
 
 -- the form so far is that of the equalities so far

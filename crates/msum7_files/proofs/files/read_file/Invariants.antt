@@ -1,8 +1,7 @@
 -- `read_file`: what was read so far was fed.
 use Rattle.std.proofs.Common.{◌≡◌, ◌-◌, ◌^◌, ℕ, List, []}
 use Rattle.diy_io.specs.Shelf.{IsReading}
-use Rattle.msum7_files.specs.FileFeeding.{ReadsLogs, ReadSoFar}
-use Rattle.msum7_files.specs.LogFiles.{log_seen}
+use Rattle.msum7_files.specs.{FileFeeding.ReadsLogs, FileFeeding.ReadSoFar, LogFiles.log_seen}
 use Rattle.msum7_files.proofs.files.read_file.Given as goal
 
 -- what was read so far was fed, and the file is still open

@@ -1,6 +1,5 @@
 -- The relaxations of a good bracket are kept, and a bad bracket is refused.
-use Rattle.std.proofs.Common.{◌∙◌}
-use Rattle.std.proofs.lemmas.Result.{err_from_is_err_and}
+use Rattle.std.proofs.{Common.◌∙◌, lemmas.Result.err_from_is_err_and}
 use Rattle.relax_edges.proofs.Prefixes.{kept_bracket, bad_bracket, bracket_len}
 use Rattle.relax_edges.proofs.relax_items.keep_bracket.Goals as goal
 

@@ -1,6 +1,5 @@
 -- The relaxations of the word that a text begins with are kept.
-use Rattle.std.proofs.Common.{◌∙◌}
-use Rattle.std.proofs.lemmas.Result.{err_from_is_err_and}
+use Rattle.std.proofs.{Common.◌∙◌, lemmas.Result.err_from_is_err_and}
 use Rattle.relax_edges.proofs.Prefixes.{kept_run}
 use Rattle.relax_edges.proofs.relax_items.keep_word.Goals as goal
 

@@ -1,7 +1,6 @@
 -- The items of a text are kept one after another, up to the first that is refused.
 use Rattle.std.proofs.Common.{◌∙◌, sym, rules}
-use Rattle.relax_edges.proofs.Items.{items_step, items_end, items_refused}
-use Rattle.relax_edges.proofs.ItemScan.{items_scanned}
+use Rattle.relax_edges.proofs.{Items.items_step, Items.items_end, Items.items_refused, ItemScan.items_scanned}
 use Rattle.relax_edges.proofs.relax_list.keep_items.Goals as goal
 
 pub loop-at-init : goal.loop-at-init

@@ -1,12 +1,8 @@
 -- The search keeps exactly the paths that begin with the chosen edges, or is refused where there is no room for them.
 use Rattle.std.proofs.Common.{◌≡◌, ◌∷◌, [], ◌++◌, false, map, refl, ap, ◌∙◌, arith}
 use Rattle.std.proofs.lemmas.Result.{err_from_is_err_and}
-use Rattle.relax_edges.specs.declared.kinds.Reach.TheVariants.{Internal}
-use Rattle.relax_edges.specs.declared.kinds.Com.TheVariants.{Rf}
-use Rattle.relax_edges.specs.declared.edge.Edge.TheVariants.{Com}
-use Rattle.relax_edges.specs.RelaxText.{words_of}
-use Rattle.relax_edges.specs.JoinedEdges.{is_joined}
-use Rattle.relax_edges.specs.Relaxations.{word_edges}
+use Rattle.relax_edges.specs.declared.{kinds.Reach.TheVariants.Internal, kinds.Com.TheVariants.Rf, edge.Edge.TheVariants.Com}
+use Rattle.relax_edges.specs.{RelaxText.words_of, JoinedEdges.is_joined, Relaxations.word_edges}
 use Rattle.relax_edges.proofs.Search.{keeps_no_path, keeps_first, keeps_word_next, refused_word, keeps_word, keeps_no_word, refused_no_word}
 use Rattle.relax_edges.proofs.relax_search.+relax_search.Goals as goal
 

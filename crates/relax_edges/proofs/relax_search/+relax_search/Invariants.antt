@@ -1,8 +1,6 @@
 -- Of a word's edges, the paths by those before the current one are kept.
 use Rattle.std.proofs.Common.{◌≡◌, ◌+◌, ◌*◌, length, map, take}
-use Rattle.relax_edges.specs.RelaxText.{words_of}
-use Rattle.relax_edges.specs.Relaxations.{word_edges}
-use Rattle.relax_edges.specs.RelaxSearch.{paths_by, KeepsPaths}
+use Rattle.relax_edges.specs.{RelaxText.words_of, Relaxations.word_edges, RelaxSearch.paths_by, RelaxSearch.KeepsPaths}
 use Rattle.relax_edges.proofs.relax_search.+relax_search.Given as goal
 
 abbrev pub decreases-keep_after : goal.decreases-keep_after

@@ -1,8 +1,7 @@
 -- No word passed is unknown, so the rest has an unknown word exactly where the text has.
 use Rattle.std.proofs.Common.{◌≡◌, length}
 use Rattle.std.specs.List.{list_any}
-use Rattle.relax_edges.specs.RelaxText.{words_of, is_empty}
-use Rattle.relax_edges.specs.Relaxations.{word_edges}
+use Rattle.relax_edges.specs.{RelaxText.words_of, RelaxText.is_empty, Relaxations.word_edges}
 use Rattle.relax_edges.proofs.relax_words.has_unknown.Given as goal
 
 abbrev pub invariant-loop-word : goal.invariant-loop-word

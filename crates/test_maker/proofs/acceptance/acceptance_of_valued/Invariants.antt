@@ -1,8 +1,7 @@
 -- The loop of `acceptance_of_valued`: no thread before the next needs too many registers.
 use Rattle.std.proofs.Common.{◌≡◌, drop}
 use Rattle.std.specs.List.{position_from}
-use Rattle.tests_force_cycles.specs.CycleSteps.{cycle_steps}
-use Rattle.tests_force_cycles.specs.TestOf.{plain}
+use Rattle.tests_force_cycles.specs.{CycleSteps.cycle_steps, TestOf.plain}
 use Rattle.test_maker.specs.Refusals.{is_crowded}
 use Rattle.test_maker.proofs.Growing.{crowded}
 use Rattle.test_maker.proofs.acceptance.acceptance_of_valued.Given as goal

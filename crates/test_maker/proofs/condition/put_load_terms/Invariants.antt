@@ -3,10 +3,8 @@ use Rattle.std.proofs.Common.{◌≡◌, ◌+◌, ◌≤◌, ◌++◌, length, m
 use Rattle.std.specs.List.{zip}
 use Rattle.arrayvec.specs.ArrayVec.{array_vec_len}
 use Rattle.final_cond.specs.Conditions.{term_view}
-use Rattle.arch_trait.specs.Writing.{name_in}
-use Rattle.arch_trait.specs.Codes.{AllBelow}
-use Rattle.tests_force_cycles.specs.CycleSteps.{numbers_read}
-use Rattle.tests_force_cycles.specs.TestOf.{load_term}
+use Rattle.arch_trait.specs.{Writing.name_in, Codes.AllBelow}
+use Rattle.tests_force_cycles.specs.{CycleSteps.numbers_read, TestOf.load_term}
 use Rattle.test_maker.proofs.condition.put_load_terms.Given as goal
 
 abbrev pub invariant-loop-step : goal.invariant-loop-step

@@ -1,7 +1,6 @@
 -- That what `make_resolved` makes forces the cycle, and that its refusals name locations of the cycle.
 use Rattle.std.proofs.Common.{sym, ◌∙◌}
-use Rattle.test_maker.proofs.Forcing.{resolved_forces}
-use Rattle.test_maker.proofs.Located.{need_located}
+use Rattle.test_maker.proofs.{Forcing.resolved_forces, Located.need_located}
 use Rattle.test_maker.proofs.maker.make_resolved.Goals as goal
 
 pub returns-in-Ok-clause-forces : goal.returns-in-Ok-clause-forces

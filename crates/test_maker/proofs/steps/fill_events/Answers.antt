@@ -2,8 +2,7 @@
 use Rattle.std.proofs.Common.{◌∙◌, ◌≡◌, ◌<◌, ◌++◌, ◌∷◌, [], map, ap, arith, length, sym}
 use Rattle.list_laws.specs.Numbers.{upto}
 use Rattle.list_laws.proofs.Numbers.{length-map-upto, map-upto_more}
-use Rattle.tests_force_cycles.specs.CycleSteps.{event_step}
-use Rattle.tests_force_cycles.specs.TestOf.{plain}
+use Rattle.tests_force_cycles.specs.{CycleSteps.event_step, TestOf.plain}
 use Rattle.test_maker.proofs.steps.fill_events.Goals as goal
 
 pub push-requires : goal.push-requires

@@ -2,8 +2,7 @@
 use Rattle.std.proofs.Common.{◌∙◌, ◌≡◌, ◌<◌, sym, ap, arith}
 use Rattle.std.specs.List.{count_by}
 use Rattle.list_laws.specs.Numbers.{upto}
-use Rattle.cycle_events.specs.Resolution.{move_count}
-use Rattle.cycle_events.specs.Values.{is_observed}
+use Rattle.cycle_events.specs.{Resolution.move_count, Values.is_observed}
 use Rattle.test_maker.proofs.Filling.{observed_got, observers_all}
 use Rattle.test_maker.proofs.steps.observed_location.Goals as goal
 

@@ -2,10 +2,8 @@
 use Rattle.std.proofs.Common.{◌∙◌, ◌≡◌, sym, ap, arith}
 use Rattle.std.specs.List.{count_by}
 use Rattle.list_laws.specs.Numbers.{upto}
-use Rattle.list_laws.proofs.Counts.{count_upto-le}
-use Rattle.list_laws.proofs.Ranks.{length-filter-upto}
-use Rattle.cycle_events.specs.Resolution.{move_count}
-use Rattle.cycle_events.specs.Values.{is_observed}
+use Rattle.list_laws.proofs.{Counts.count_upto-le, Ranks.length-filter-upto}
+use Rattle.cycle_events.specs.{Resolution.move_count, Values.is_observed}
 use Rattle.test_maker.proofs.steps.observer_count.Goals as goal
 
 pub overflow_add-count : goal.overflow_add-count

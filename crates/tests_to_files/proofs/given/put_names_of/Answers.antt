@@ -1,6 +1,5 @@
 -- That `put_names_of` writes the file that names the files of cycles.
-use Rattle.std.proofs.Common.{drop, rules}
-use Rattle.std.proofs.lemmas.List.{drop_all}
+use Rattle.std.proofs.{Common.drop, Common.rules, lemmas.List.drop_all}
 use Rattle.diy_io.specs.SinkLaws.{on_err}
 use Rattle.tests_to_files.specs.ListedFiles.{file_lines}
 use Rattle.tests_to_files.proofs.GivenLaws.{Lists, left_at, lists_first, lists_written, lists_more, lists_end, lists_stop}

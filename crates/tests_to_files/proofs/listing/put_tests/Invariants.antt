@@ -2,8 +2,7 @@
 use Rattle.std.proofs.Common.{◌≡◌}
 use Rattle.cycle_enum_laws.specs.Counting.{later}
 use Rattle.cycle_enum.specs.Walking.{Lists}
-use Rattle.tests_to_files.specs.Keeping.{Goes}
-use Rattle.tests_to_files.specs.Plans.{HaveTests, folder_of, named_text}
+use Rattle.tests_to_files.specs.{Keeping.Goes, Plans.HaveTests, Plans.folder_of, Plans.named_text}
 use Rattle.tests_to_files.proofs.listing.put_tests.Given as goal
 
 abbrev pub invariant-loop-cycle : goal.invariant-loop-cycle

@@ -2,8 +2,7 @@
 use Rattle.std.proofs.Common.{◌≡◌}
 use Rattle.cycle_enum_laws.specs.Counting.{later}
 use Rattle.cycle_enum.specs.Walking.{Lists}
-use Rattle.tests_to_files.specs.Keeping.{Naming}
-use Rattle.tests_to_files.specs.Plans.{HaveTests}
+use Rattle.tests_to_files.specs.{Keeping.Naming, Plans.HaveTests}
 use Rattle.tests_to_files.proofs.names.append_after.Given as goal
 
 abbrev pub invariant-loop-cycle : goal.invariant-loop-cycle

@@ -2,9 +2,7 @@
 use Rattle.std.proofs.Common.{◌≡◌, ◌<◌, Some, None, length, arith, subst, ap, rules}
 use Rattle.diy_io.specs.SinkLaws.{on_err}
 use Rattle.diy_io.specs.declared.page.TheConstants.{SPILL}
-use Rattle.litmus_text.specs.TextPartLaws.{text_begins}
-use Rattle.litmus_text.specs.TestText.{test_text}
-use Rattle.litmus_text.specs.Tests.{test_seen}
+use Rattle.litmus_text.specs.{TextPartLaws.text_begins, TestText.test_text, Tests.test_seen}
 use Rattle.tests_to_files.proofs.Shelves.{filling_begun, closed_ok, closed_err}
 use Rattle.tests_to_files.proofs.Texts.{FilledTo, filled_first, filled_appended, filled_part, filled_more, filled_whole}
 use Rattle.tests_to_files.proofs.putting.put_text.Goals as goal

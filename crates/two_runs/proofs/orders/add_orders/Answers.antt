@@ -2,8 +2,7 @@
 use Rattle.std.proofs.Common.{◌≡◌, ◌<◌, ℕ, List, sym, ◌∙◌, ap, arith, length, subst}
 use Rattle.cycle_events.specs.Resolution.{move_count}
 use Rattle.program_meaning.specs.declared.WriteAt.{WriteAt}
-use Rattle.program_meaning.specs.Executions.{Execution}
-use Rattle.program_meaning.specs.Intended.{location_numbered}
+use Rattle.program_meaning.specs.{Executions.Execution, Intended.location_numbered}
 use Rattle.two_runs.specs.Runs.{with_appended, numbers_by, order_of}
 use Rattle.two_runs.proofs.GrowingLists.{filled_length, filled_none, filled_to, filled_whole}
 use Rattle.two_runs.proofs.CycleOrders.{places_more}

@@ -2,8 +2,7 @@
 use Rattle.std.proofs.Common.{◌≡◌, ◌<◌, ℕ, List, Option, sym, ◌∙◌, ap, arith, length, subst, map}
 use Rattle.cycle_events.specs.Resolution.{external_count}
 use Rattle.program_meaning.specs.declared.WriteAt.{WriteAt}
-use Rattle.program_meaning.specs.Executions.{Execution}
-use Rattle.program_meaning.specs.Intended.{event_read, reads_in}
+use Rattle.program_meaning.specs.{Executions.Execution, Intended.event_read, Intended.reads_in}
 use Rattle.two_runs.proofs.GrowingLists.{filled_length, filled_none, filled_to, filled_whole}
 use Rattle.two_runs.proofs.CycleReads.{threads_more}
 use Rattle.two_runs.proofs.reads.add_reads.Goals as goal

@@ -1,7 +1,6 @@
 -- The answer is whether the location is observed in this mode.
 use Rattle.std.proofs.Common.{◌≡◌, sym, ◌∙◌, ap, refl}
-use Rattle.std.specs.Prelude.{nat_le}
-use Rattle.std.specs.Option.{is_some}
+use Rattle.std.specs.{Prelude.nat_le, Option.is_some}
 use Rattle.relax_edges.specs.declared.kinds.ObsMode.TheVariants.{Accept, Avoid, Force}
 use Rattle.coherence_values.specs.declared.valued.Arc.{Arc}
 use Rattle.cycle_events.specs.Values.{Valuation, is_observed}

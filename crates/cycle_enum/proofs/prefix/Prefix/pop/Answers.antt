@@ -1,7 +1,5 @@
 -- What is left without the last edge is joined as the whole was, and its ranks and repeats are beside it.
-use Rattle.cycle_enum.proofs.Composing.{joined_before}
-use Rattle.cycle_enum.proofs.Ranking.{ranks_popped}
-use Rattle.cycle_enum.proofs.Repeating.{repeats_popped}
+use Rattle.cycle_enum.proofs.{Composing.joined_before, Ranking.ranks_popped, Repeating.repeats_popped}
 use Rattle.cycle_enum.proofs.prefix.Prefix.pop.Goals as goal
 
 pub invariant_of-self-2 : goal.invariant_of-self-2

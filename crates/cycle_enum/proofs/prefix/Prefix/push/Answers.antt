@@ -2,9 +2,7 @@
 use Rattle.std.proofs.Common.{[], ◌∷◌, ◌++◌, ◌∙◌, sym, ap, subst}
 use Rattle.edge_algebra_laws.specs.Composable.{last_joins}
 use Rattle.cycle_enum.specs.Repeats.{IsRepeat}
-use Rattle.cycle_enum.proofs.Composing.{joined_more}
-use Rattle.cycle_enum.proofs.Ranking.{ranks_pushed}
-use Rattle.cycle_enum.proofs.Repeating.{repeats_pushed}
+use Rattle.cycle_enum.proofs.{Composing.joined_more, Ranking.ranks_pushed, Repeating.repeats_pushed}
 use Rattle.cycle_enum.proofs.prefix.Prefix.push.Goals as goal
 
 pub invariant_of-self : goal.invariant_of-self

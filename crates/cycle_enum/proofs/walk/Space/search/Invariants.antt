@@ -1,6 +1,5 @@
 -- The search is at the list, and with each step less is left of it.
-use Rattle.cycle_enum_laws.proofs.Counts.{to_go}
-use Rattle.cycle_enum_laws.proofs.Stepping.{SearchAt}
+use Rattle.cycle_enum_laws.proofs.{Counts.to_go, Stepping.SearchAt}
 use Rattle.cycle_enum.specs.Walking.{KeepsList, Lists}
 use Rattle.cycle_enum.proofs.walk.Space.search.Given as goal
 

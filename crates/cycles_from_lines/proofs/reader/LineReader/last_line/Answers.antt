@@ -1,7 +1,6 @@
 -- That `last_line` gives what the last line says, or its fault.
 use Rattle.std.proofs.Common.{ap, sym, subst, ◌∙◌}
-use Rattle.cycles_from_lines.specs.Cycles.{line_said}
-use Rattle.cycles_from_lines.specs.LineReading.{ReadToFault}
+use Rattle.cycles_from_lines.specs.{Cycles.line_said, LineReading.ReadToFault}
 use Rattle.cycles_from_lines.proofs.ReadLaws.{said_last, fault_last, some_if}
 use Rattle.cycles_from_lines.proofs.reader.LineReader.last_line.Goals as goal
 

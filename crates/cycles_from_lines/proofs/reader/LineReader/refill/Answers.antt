@@ -3,8 +3,7 @@ use Rattle.std.proofs.Common.{ap, sym, subst, ◌∙◌}
 use Rattle.cycles_from_lines.specs.declared.errors.LineKind.TheVariants.{LineTooLong}
 use Rattle.text_parts_laws.specs.Lines.{without_return}
 use Rattle.cycles_from_lines.specs.LineReading.{ReadToFault}
-use Rattle.cycles_from_lines.proofs.LineLaws.{is_long, is_short}
-use Rattle.cycles_from_lines.proofs.ReadLaws.{long_given, stopped_there}
+use Rattle.cycles_from_lines.proofs.{LineLaws.is_long, LineLaws.is_short, ReadLaws.long_given, ReadLaws.stopped_there}
 use Rattle.cycles_from_lines.proofs.reader.LineReader.refill.Goals as goal
 
 pub returns-then-without_return-gt-MAX_CYCLE_LINE-clause-refills : goal.returns-then-without_return-gt-MAX_CYCLE_LINE-clause-refills

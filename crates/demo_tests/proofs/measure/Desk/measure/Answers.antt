@@ -2,12 +2,9 @@
 use Rattle.std.proofs.Common.{◌≡◌, ◌∙◌, ap}
 use Rattle.relax_edges.specs.declared.kinds.ObsMode.TheVariants.{Accept}
 use Rattle.cycle_names.specs.CycleNames.{name_of}
-use Rattle.litmus_text.specs.Tests.{test_seen}
-use Rattle.litmus_text.specs.TestText.{test_text}
-use Rattle.test_maker.specs.CycleText.{cycle_text}
-use Rattle.test_maker.specs.CycleTextLaws.{made_text}
-use Rattle.demo_tests.proofs.Cycles.{cycle_text_short}
-use Rattle.demo_tests.proofs.Texts.{tallied}
+use Rattle.litmus_text.specs.{Tests.test_seen, TestText.test_text}
+use Rattle.test_maker.specs.{CycleText.cycle_text, CycleTextLaws.made_text}
+use Rattle.demo_tests.proofs.{Cycles.cycle_text_short, Texts.tallied}
 use Rattle.demo_tests.proofs.measure.Desk.measure.Goals as goal
 
 pub returns : goal.returns

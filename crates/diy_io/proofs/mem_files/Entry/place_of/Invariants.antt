@@ -1,8 +1,7 @@
 -- The loop of `place_of`: no file before a place has the name.
 use Rattle.std.proofs.Common.{◌≡◌, drop, map}
 use Rattle.std.specs.List.{position_from}
-use Rattle.diy_io.specs.MemFiles.{has_name, file_place}
-use Rattle.diy_io.specs.MemEntries.{file_view}
+use Rattle.diy_io.specs.{MemFiles.has_name, MemFiles.file_place, MemEntries.file_view}
 use Rattle.diy_io.proofs.mem_files.Entry.place_of.Given as goal
 
 -- the place is found from here on

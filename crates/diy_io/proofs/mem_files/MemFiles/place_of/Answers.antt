@@ -1,7 +1,6 @@
 -- That `place_of` gives the place of a file that is there.
 use Rattle.std.proofs.Common.{ap, ◌∙◌, map}
-use Rattle.diy_io.specs.MemFiles.{file_place}
-use Rattle.diy_io.specs.MemEntries.{file_view}
+use Rattle.diy_io.specs.{MemFiles.file_place, MemEntries.file_view}
 use Rattle.diy_io.proofs.FilesLaws.{found_inside}
 use Rattle.diy_io.proofs.mem_files.MemFiles.place_of.Goals as goal
 

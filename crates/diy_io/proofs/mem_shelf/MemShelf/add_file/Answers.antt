@@ -1,8 +1,7 @@
 -- That `add_file` begins a file that wasn't there.
 use Rattle.std.proofs.Common.{◌≡◌, ap, sym, ◌∙◌, subst}
 use Rattle.std.specs.Prelude.{None, length, ◌++◌, ◌∷◌, []}
-use Rattle.diy_io.specs.MemFiles.{file_place}
-use Rattle.diy_io.specs.MemShelf.{mode_of, IsPlace}
+use Rattle.diy_io.specs.{MemFiles.file_place, MemShelf.mode_of, MemShelf.IsPlace}
 use Rattle.diy_io.specs.declared.mem_shelf.Work.TheVariants as works
 use Rattle.diy_io.proofs.ShelfLaws.{after_begun, begins, begins_at}
 use Rattle.diy_io.proofs.mem_shelf.MemShelf.add_file.Goals as goal

@@ -1,8 +1,7 @@
 -- That `get` gives the bytes of a file, if it is there.
 use Rattle.std.proofs.Common.{◌≡◌, sym, ap, ◌∙◌, Some, None}
 use Rattle.diy_io.specs.MemFiles.{file_place, bytes_at}
-use Rattle.diy_io.proofs.EntriesLaws.{if_some_at, match_none}
-use Rattle.diy_io.proofs.FilesLaws.{bytes_there, bytes_not_there}
+use Rattle.diy_io.proofs.{EntriesLaws.if_some_at, EntriesLaws.match_none, FilesLaws.bytes_there, FilesLaws.bytes_not_there}
 use Rattle.diy_io.proofs.mem_shelf.MemShelf.get.Goals as goal
 
 pub returns-in_err-place : goal.returns-in_err-place

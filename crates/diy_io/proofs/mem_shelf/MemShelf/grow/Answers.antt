@@ -1,7 +1,6 @@
 -- That `grow` appends bytes to the file that is written.
 use Rattle.std.proofs.Common.{◌≡◌, ap, sym, ◌∙◌, subst}
-use Rattle.diy_io.specs.Shelf.{IsWriting}
-use Rattle.diy_io.specs.MemShelf.{mode_of, IsPlace}
+use Rattle.diy_io.specs.{Shelf.IsWriting, MemShelf.mode_of, MemShelf.IsPlace}
 use Rattle.diy_io.specs.declared.mem_shelf.Work.TheVariants as works
 use Rattle.diy_io.proofs.ShelfLaws.{grown_at, grown_files}
 use Rattle.diy_io.proofs.mem_shelf.MemShelf.grow.Goals as goal

@@ -1,7 +1,6 @@
 -- That `create` begins a file that was there.
 use Rattle.std.proofs.Common.{◌≡◌, ap, sym, ◌∙◌, refl, [], Some, set}
-use Rattle.diy_io.specs.Count.{next_count}
-use Rattle.diy_io.specs.MemFiles.{file_place, file_name_at}
+use Rattle.diy_io.specs.{Count.next_count, MemFiles.file_place, MemFiles.file_name_at}
 use Rattle.diy_io.proofs.EntriesLaws.{on_ok_is}
 use Rattle.diy_io.proofs.ShelfLaws.{after_begun, is_place, stays_at, begins_again}
 use Rattle.diy_io.proofs.mem_shelf.MemShelfShelf.create.Goals as goal

@@ -1,7 +1,6 @@
 -- The loop of `send_pieces`: what is sent so far.
 use Rattle.std.proofs.Common.{take}
-use Rattle.diy_io.specs.Page.{SentAll}
-use Rattle.diy_io.specs.Pieces.{joined_text}
+use Rattle.diy_io.specs.{Page.SentAll, Pieces.joined_text}
 use Rattle.diy_io.proofs.page.Page.send_pieces.Given as goal
 
 -- the pieces so far are sent

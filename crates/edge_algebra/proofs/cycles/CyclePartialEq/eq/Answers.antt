@@ -1,6 +1,5 @@
 -- Comparing edge by edge decides whether the lists of two cycles are equal.
-use Rattle.std.proofs.Common.{rules}
-use Rattle.std.proofs.lemmas.Slice.Eq.{slice_eq-Decides}
+use Rattle.std.proofs.{Common.rules, lemmas.Slice.Eq.slice_eq-Decides}
 use Rattle.edge_algebra_laws.proofs.RankLaws.{rank_decides}
 use Rattle.edge_algebra.proofs.cycles.CyclePartialEq.eq.Goals as goal
 

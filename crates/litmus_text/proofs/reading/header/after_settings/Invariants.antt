@@ -1,7 +1,6 @@
 -- The lines that were passed are settings.
 use Rattle.std.proofs.Common.{◌≡◌, length}
-use Rattle.litmus_text.specs.Header.{after_settings}
-use Rattle.litmus_text.specs.Views.{text_left}
+use Rattle.litmus_text.specs.{Header.after_settings, Views.text_left}
 use Rattle.litmus_text.proofs.reading.header.after_settings.Given as goal
 
 abbrev pub invariant-settings : goal.invariant-settings

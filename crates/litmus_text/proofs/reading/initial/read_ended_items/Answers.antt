@@ -1,10 +1,8 @@
 -- The items that a `;` ends are read one after another.
-use Rattle.std.proofs.Common.{sym, ◌∙◌, arith}
-use Rattle.std.proofs.lemmas.Result.{err_from_is_err_and}
+use Rattle.std.proofs.{Common.sym, Common.◌∙◌, Common.arith, lemmas.Result.err_from_is_err_and}
 use Rattle.litmus_text.specs.Views.{joined_seen, begun_seen}
 use Rattle.text_parts_laws.proofs.CutLaws.{cut_length}
-use Rattle.litmus_text.proofs.GiveLaws.{fails_map}
-use Rattle.litmus_text.proofs.ItemLoops.{ended_last, ended_more, ended_fails}
+use Rattle.litmus_text.proofs.{GiveLaws.fails_map, ItemLoops.ended_last, ItemLoops.ended_more, ItemLoops.ended_fails}
 use Rattle.litmus_text.proofs.reading.initial.read_ended_items.Goals as goal
 
 pub returns-in_err-read_item : goal.returns-in_err-read_item

@@ -1,10 +1,8 @@
 -- The items of a text are read one after another.
-use Rattle.std.proofs.Common.{sym, ◌∙◌, arith}
-use Rattle.std.proofs.lemmas.Result.{err_from_is_err_and}
+use Rattle.std.proofs.{Common.sym, Common.◌∙◌, Common.arith, lemmas.Result.err_from_is_err_and}
 use Rattle.litmus_text.specs.Views.{joined_seen, begun_seen}
 use Rattle.text_parts_laws.proofs.CutLaws.{cut_length}
-use Rattle.litmus_text.proofs.GiveLaws.{fails_map}
-use Rattle.litmus_text.proofs.ItemLoops.{item_last, item_more, item_fails}
+use Rattle.litmus_text.proofs.{GiveLaws.fails_map, ItemLoops.item_last, ItemLoops.item_more, ItemLoops.item_fails}
 use Rattle.litmus_text.proofs.reading.initial.read_items.Goals as goal
 
 pub returns-in_err-read_item-in-Some : goal.returns-in_err-read_item-in-Some

@@ -1,7 +1,6 @@
 -- The item of two sides is that of their left side, where this is read to its end.
 use Rattle.std.proofs.Common.{sym, ap, ◌∙◌}
-use Rattle.final_cond.specs.Conditions.{left_view}
-use Rattle.final_cond.specs.ConditionAnswers.{fault_view}
+use Rattle.final_cond.specs.{Conditions.left_view, ConditionAnswers.fault_view}
 use Rattle.text_parts_laws.specs.Blanks.{trim_blanks}
 use Rattle.litmus_text.specs.InitialState.{item_with}
 use Rattle.litmus_text.proofs.ItemLaws.{item_found, item_missing, item_left, item_whole}

@@ -1,6 +1,5 @@
 -- A cell with a label is read as the label, and then as what comes after it.
-use Rattle.litmus_text.specs.TestTable.{among}
-use Rattle.litmus_text.specs.Views.{column_seen}
+use Rattle.litmus_text.specs.{TestTable.among, Views.column_seen}
 use Rattle.litmus_text.proofs.TableLoops.{cell_labelled}
 use Rattle.litmus_text.proofs.reading.rows.read_one_cell.Goals as goal
 

@@ -1,7 +1,6 @@
 -- The cells of a row are read one after another, one for each column.
 use Rattle.std.proofs.Common.{sym, ap, ◌∙◌, ◌<◌, ◌≡◌, Err, arith, map, take, length, []}
-use Rattle.std.proofs.lemmas.List.{length-map}
-use Rattle.std.proofs.lemmas.Result.{err_from_is_err_and}
+use Rattle.std.proofs.lemmas.{List.length-map, Result.err_from_is_err_and}
 use Rattle.litmus_text.specs.Views.{pieces_left, column_seen}
 use Rattle.litmus_text.proofs.GiveLaws.{fails_map}
 use Rattle.litmus_text.proofs.TableLoops.{row_short, row_step, row_stops, row_ends, row_ends_bad}

@@ -2,8 +2,7 @@
 use Rattle.std.proofs.Common.{sym, ap, ◌∙◌, Err, arith, map}
 use Rattle.std.proofs.lemmas.Result.{err_from_is_err_and}
 use Rattle.litmus_text.specs.declared.limits.TheConstants.{MAX_ROWS}
-use Rattle.litmus_text.specs.TestTable.{among}
-use Rattle.litmus_text.specs.Views.{text_left, cells_seen, column_seen}
+use Rattle.litmus_text.specs.{TestTable.among, Views.text_left, Views.cells_seen, Views.column_seen}
 use Rattle.litmus_text.proofs.GiveLaws.{fails_map}
 use Rattle.litmus_text.proofs.TableLoops.{rows_missing, rows_stop, rows_full, rows_fail, rows_more, below_is, not_below_is}
 use Rattle.litmus_text.proofs.reading.rows.read_rows.Goals as goal

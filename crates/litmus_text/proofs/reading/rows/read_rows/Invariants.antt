@@ -1,9 +1,7 @@
 -- The columns so far and the lines that are left give what all rows give.
 use Rattle.std.proofs.Common.{◌≡◌, ◌≤◌, length, map}
 use Rattle.litmus_text.specs.declared.limits.TheConstants.{MAX_ROWS}
-use Rattle.litmus_text.specs.TestTable.{among}
-use Rattle.litmus_text.specs.TableScan.{rows_scanned}
-use Rattle.litmus_text.specs.Views.{text_left, column_seen}
+use Rattle.litmus_text.specs.{TestTable.among, TableScan.rows_scanned, Views.text_left, Views.column_seen}
 use Rattle.litmus_text.proofs.reading.rows.read_rows.Given as goal
 
 abbrev pub invariant-rows : goal.invariant-rows

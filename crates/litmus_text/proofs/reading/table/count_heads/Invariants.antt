@@ -1,8 +1,7 @@
 -- The threads so far and the cells that are left give what the header gives.
 use Rattle.std.proofs.Common.{◌≡◌, ◌≤◌, length}
 use Rattle.litmus_text.specs.declared.limits.TheConstants.{MAX_THREADS}
-use Rattle.litmus_text.specs.TestTable.{heads_read}
-use Rattle.litmus_text.specs.Views.{pieces_left}
+use Rattle.litmus_text.specs.{TestTable.heads_read, Views.pieces_left}
 use Rattle.litmus_text.proofs.reading.table.count_heads.Given as goal
 
 abbrev pub invariant-heads : goal.invariant-heads

@@ -1,12 +1,9 @@
 -- The terms of a condition are read one after another, up to the `)`.
 use Rattle.std.proofs.Common.{◌≡◌, ◌≢◌, ◌≤◌, ◌+◌, ◌-◌, ◌++◌, ℕ, false, nat_eq, ◌∷◌, [], map, length, ◌∙◌, sym, ap, Err, arith}
-use Rattle.std.proofs.lemmas.Bool.{eqb-true, eqb-false}
-use Rattle.std.proofs.lemmas.List.{map_push}
+use Rattle.std.proofs.lemmas.{Bool.eqb-true, Bool.eqb-false, List.map_push}
 use Rattle.final_cond.specs.declared.cond.TheConstants.{MAX_TERMS}
-use Rattle.final_cond.specs.Conditions.{term_view}
-use Rattle.final_cond.specs.ConditionAnswers.{fault_view}
-use Rattle.litmus_text.specs.ConditionScan.{terms_here}
-use Rattle.litmus_text.specs.Views.{setting_seen, mentioned_seen, term_read_seen}
+use Rattle.final_cond.specs.{Conditions.term_view, ConditionAnswers.fault_view}
+use Rattle.litmus_text.specs.{ConditionScan.terms_here, Views.setting_seen, Views.mentioned_seen, Views.term_read_seen}
 use Rattle.litmus_text.proofs.TermLoops.{stops_at_term, stops_at_full, stops_at_follow, ends_at_follow, goes_on}
 use Rattle.litmus_text.proofs.reading.terms.read_terms.Goals as goal
 

@@ -2,8 +2,7 @@
 use Rattle.std.proofs.Common.{◌≡◌, ◌-◌, map, length}
 use Rattle.final_cond.specs.declared.cond.TheConstants.{MAX_TERMS}
 use Rattle.final_cond.specs.Conditions.{term_view}
-use Rattle.litmus_text.specs.ConditionScan.{terms_here}
-use Rattle.litmus_text.specs.Views.{setting_seen, mentioned_seen}
+use Rattle.litmus_text.specs.{ConditionScan.terms_here, Views.setting_seen, Views.mentioned_seen}
 use Rattle.litmus_text.proofs.TermLoops.{remainder}
 use Rattle.litmus_text.proofs.reading.terms.read_terms.Given as goal
 

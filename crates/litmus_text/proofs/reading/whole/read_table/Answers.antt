@@ -1,11 +1,9 @@
 -- A test is read from its table on, and its threads can be run.
 use Rattle.std.proofs.Common.{◌≡◌, ◌∙◌, ap, sym, subst, length, arith}
-use Rattle.litmus_text.specs.Views.{text_left, begun_seen}
+use Rattle.litmus_text.specs.{Views.text_left, Views.begun_seen, Runnable.AllNameRegisters}
 use Rattle.std.proofs.lemmas.Result.{err_from_is_err_and}
-use Rattle.litmus_text.proofs.GiveLaws.{fails_map}
+use Rattle.litmus_text.proofs.{GiveLaws.fails_map, RunnableRead.table_runs}
 use Rattle.litmus_text.proofs.PartLoops.{table_is, table_rows_bad, table_labels_bad, written_back}
-use Rattle.litmus_text.specs.Runnable.{AllNameRegisters}
-use Rattle.litmus_text.proofs.RunnableRead.{table_runs}
 use Rattle.litmus_text.proofs.reading.whole.read_table.Goals as goal
 
 pub returns : goal.returns

@@ -1,8 +1,7 @@
 -- Each column gives a thread.
 use Rattle.std.proofs.Common.{◌∷◌, [], length-append, arith}
 use Rattle.litmus_text.specs.InitialState.{Begun}
-use Rattle.litmus_text.proofs.PartLoops.{thread_step}
-use Rattle.litmus_text.proofs.RunnableRead.{registers_of, runnable_at}
+use Rattle.litmus_text.proofs.{PartLoops.thread_step, RunnableRead.registers_of, RunnableRead.runnable_at}
 use Rattle.litmus_text.proofs.reading.whole.threads_of.Goals as goal
 
 pub loop-thread-preserved : goal.loop-thread-preserved

@@ -1,9 +1,7 @@
 -- `StateReader::read_set`: the equalities so far and the rest of the text give the state that the text writes.
 use Rattle.std.proofs.Common.{◌≡◌, length}
 use Rattle.std.specs.List.{All}
-use Rattle.log_sum.specs.SumViews.{texts_of}
-use Rattle.log_sum.specs.Equalities.{HasSign}
-use Rattle.log_sum.specs.LogStates.{state_read}
+use Rattle.log_sum.specs.{SumViews.texts_of, Equalities.HasSign, LogStates.state_read}
 use Rattle.log_sum.proofs.SetLaws.{collected_read}
 use Rattle.log_sum.proofs.states.StateReader.read_set.Given as goal
 

@@ -1,15 +1,10 @@
 -- `Summer::print_sums` sends the texts of all tests.
 use Rattle.std.proofs.Common.{◌≡◌, ℕ, List, ap, ◌∙◌, refl, map}
-use Rattle.std.specs.List.{list_all}
-use Rattle.std.specs.Borrow.{Bor}
-use Rattle.std.specs.declared.vec.Vec.{Vec}
-use Rattle.std.specs.declared.alloc.Global.{Global}
+use Rattle.std.specs.{List.list_all, Borrow.Bor}
+use Rattle.std.specs.declared.{vec.Vec.Vec, alloc.Global.Global}
 use Rattle.diy_io.specs.PageLaws.{sent_nothing}
 use Rattle.log_sum.specs.declared.test_sum.TestSum.{TestSum}
-use Rattle.log_sum.specs.Representing.{Kept}
-use Rattle.log_sum.specs.Summed.{Summed}
-use Rattle.log_sum.specs.SumViews.{named_view, test_view}
-use Rattle.log_sum.specs.SumText.{summed_text}
+use Rattle.log_sum.specs.{Representing.Kept, Summed.Summed, SumViews.named_view, SumViews.test_view, SumText.summed_text}
 use Rattle.log_sum.proofs.TableLaws.{ordered_first}
 use Rattle.log_sum.proofs.PrintLaws.{lines_go, lines_stop, covers_next, covers_this}
 use Rattle.log_sum.proofs.summer.Summer.print_sums.Goals as goal

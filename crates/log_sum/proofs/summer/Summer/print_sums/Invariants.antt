@@ -2,9 +2,7 @@
 use Rattle.std.proofs.Common.{◌≡◌, ℕ, true, List, ◌++◌, map}
 use Rattle.std.specs.List.{flat_map, list_all}
 use Rattle.diy_io.specs.Page.{SentAll}
-use Rattle.log_sum.specs.SumViews.{named_view, test_view}
-use Rattle.log_sum.specs.Summed.{Summed}
-use Rattle.log_sum.specs.SumText.{summed_text}
+use Rattle.log_sum.specs.{SumViews.named_view, SumViews.test_view, Summed.Summed, SumText.summed_text}
 use Rattle.log_sum.proofs.summer.Summer.print_sums.Given as goal
 
 -- the texts of the tests so far are sent, and the states of those that are left are in byte order

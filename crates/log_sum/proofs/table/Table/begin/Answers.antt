@@ -1,6 +1,5 @@
 -- `Table::begin` adds the fact that a block of this kind begins: to the test of this name, or to a new test.
-use Rattle.std.proofs.Common.{refl, sym, ap}
-use Rattle.std.proofs.lemmas.Result.{err_from_is_err_and}
+use Rattle.std.proofs.{Common.refl, Common.sym, Common.ap, lemmas.Result.err_from_is_err_and}
 use Rattle.std.specs.Str.{bytes_eq}
 use Rattle.log_sum.specs.Facts.{a_kind}
 use Rattle.log_sum.proofs.TableLaws.{IsTestAt, value_at, none_at, name_found, fact_refused, fact_given, test_begun}

@@ -1,6 +1,5 @@
 -- `Table::put_condition` adds a condition to the facts of the running test, or answers its fault.
-use Rattle.std.proofs.Common.{refl, sym}
-use Rattle.std.proofs.lemmas.Result.{err_from_is_err_and}
+use Rattle.std.proofs.{Common.refl, Common.sym, lemmas.Result.err_from_is_err_and}
 use Rattle.log_sum.specs.Facts.{a_condition}
 use Rattle.log_sum.proofs.TableLaws.{none_there, fact_refused, fact_written}
 use Rattle.log_sum.proofs.table.Table.put_condition.Goals as goal

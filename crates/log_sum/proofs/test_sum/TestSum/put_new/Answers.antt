@@ -1,13 +1,8 @@
 -- `TestSum::put_new` adds a new state, or answers that the sum is too large.
 use Rattle.std.proofs.Common.{◌+◌, ◌≤◌, ◌≡◌, ap, sym, ◌∙◌, refl, None, Some, Ok, arith}
-use Rattle.std.specs.Prelude.{nat_lt}
-use Rattle.std.specs.Ordering.{nat_cmp}
-use Rattle.std.specs.Cmp.Lexicographic.{slice_cmp}
-use Rattle.std.specs.BTreeMap.{insert_entry}
-use Rattle.log_sum.specs.LogStates.{form_read}
+use Rattle.std.specs.{Prelude.nat_lt, Ordering.nat_cmp, Cmp.Lexicographic.slice_cmp, BTreeMap.insert_entry}
+use Rattle.log_sum.specs.{LogStates.form_read, Facts.row_with, SumViews.test_view}
 use Rattle.diy_io.specs.Count.{last_count}
-use Rattle.log_sum.specs.Facts.{row_with}
-use Rattle.log_sum.specs.SumViews.{test_view}
 use Rattle.log_sum.proofs.TestLaws.{row_large, row_put, too_large, not_large, new_kept, row_kept}
 use Rattle.log_sum.proofs.test_sum.TestSum.put_new.Goals as goal
 
