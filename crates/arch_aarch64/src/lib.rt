@@ -13,8 +13,12 @@ mod own;
 mod table;
 
 use crate::table::{NAMES, fixed_texts, table};
-use arch_instructions::{has_by, print_with, put_link, put_load, put_store, read_by, registers_needed};
-use arch_trait::{Arch, AskedAccess, Instrs, Link, MAX_INSTRUCTION_TEXT, Operands, Places, Raw, Regs, Shape};
+use arch_instructions::{
+    has_by, print_with, put_link, put_load, put_store, read_by, registers_needed,
+};
+use arch_trait::{
+    Arch, AskedAccess, Instrs, Link, MAX_INSTRUCTION_TEXT, Operands, Places, Raw, Regs, Shape,
+};
 use arrayvec::ArrayString;
 use final_cond::RegName;
 use micro_ops::Micro;

@@ -2,8 +2,8 @@ ghost use Rattle.std.specs.Prelude.{◌≡◌, map};
 ghost use Rattle.arch_instructions_laws.specs.Tables.{piece_seen, form_seen, fits_first, after_hole, operands_fit, does};
 
 use crate::operands::operands_of;
-use arch_trait::MAX_IMMEDIATE;
 use arch_instructions_laws::{Form, Hole, Operand, Piece};
+use arch_trait::MAX_IMMEDIATE;
 use micro_ops::Micro;
 
 /// Whether an instruction of this form does the operation.

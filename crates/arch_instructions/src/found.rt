@@ -6,9 +6,9 @@ ghost use Rattle.arch_instructions_laws.specs.Tables.{hole_found};
 ghost use Rattle.arch_instructions.specs.Founds.{and_founds, found_seen, founds_seen, founds_if};
 
 use crate::numbers::{immediate, register_in};
+use arch_instructions_laws::{Hole, Kind};
 use arch_trait::{Named, Raw};
 use arrayvec::ArrayVec;
-use arch_instructions_laws::{Hole, Kind};
 use micro_ops::Micro;
 
 /// An operand as it is read, where a place or a label has its name and no number.

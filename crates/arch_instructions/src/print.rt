@@ -11,9 +11,9 @@ use crate::fixed::{FixedTexts, print_short};
 use crate::operands::operands_of;
 use crate::push::{Text, push_place, push_short, push_word};
 use crate::sorts::{Sort, may_do, op_sort};
+use arch_instructions_laws::{Form, Hole, Operand, Piece, Table};
 use arch_trait::{MAX_INSTRUCTION_TEXT, Places, push_label, push_number};
 use arrayvec::ArrayString;
-use arch_instructions_laws::{Form, Hole, Operand, Piece, Table};
 use micro_ops::Micro;
 
 /// What is put before operands.
@@ -24,7 +24,12 @@ enum Separator {
 }
 
 /// Makes `out` the text of an operation, by the first form of the table that does it.
-pub fn print_by(table: &Table, op: &Micro, places: &Places, out: &mut ArrayString<MAX_INSTRUCTION_TEXT>)
+pub fn print_by(
+    table: &Table,
+    op: &Micro,
+    places: &Places,
+    out: &mut ArrayString<MAX_INSTRUCTION_TEXT>,
+)
     requires clear { is_clear (table_seen table.now).forms ≡ true }
     requires has { table_has (table_seen table.now) op.now ≡ true }
     requires place { place_below (length places.now) op.now ≡ true }

@@ -6,8 +6,8 @@ ghost use Rattle.arch_instructions_laws.specs.Kinds.{raw_with};
 ghost use Rattle.arch_instructions.specs.Founds.{and_founds, founds_if, found_in, form_raw, texts_seen};
 
 use crate::found::{Founds, add_found, raw_with};
-use arch_trait::{Operands, Raw, read_label_alone};
 use arch_instructions_laws::{Form, Labels, Piece, Table};
+use arch_trait::{Operands, Raw, read_label_alone};
 
 /// What is left of a text after a fixed text at its beginning.
 #[inline(always)]

@@ -18,7 +18,7 @@ mod thread_codes;
 mod way;
 
 pub use access::{AskedAccess, DependentAccess, PlainAccess};
-pub use arch::{Arch, Instrs, MAX_INSTRS, MAX_STEP_INSTRS, MAX_INSTRUCTION_TEXT};
+pub use arch::{Arch, Instrs, MAX_INSTRS, MAX_INSTRUCTION_TEXT, MAX_STEP_INSTRS};
 pub use cells::{read_cell, register_named};
 pub use code::{Code, TooManyRegisters, compile_into, compile_thread};
 pub use link::{Link, link_of};

@@ -14,10 +14,12 @@ mod table;
 
 use crate::short::print_short;
 use crate::table::table;
-use arch_trait::{Arch, AskedAccess, Instrs, Link, MAX_INSTRUCTION_TEXT, Operands, Places, Raw, Regs, Shape};
+use arch_instructions::{has_by, print_by, read_by};
+use arch_trait::{
+    Arch, AskedAccess, Instrs, Link, MAX_INSTRUCTION_TEXT, Operands, Places, Raw, Regs, Shape,
+};
 use arrayvec::ArrayString;
 use final_cond::RegName;
-use arch_instructions::{has_by, print_by, read_by};
 use micro_ops::{Barrier, Micro};
 use relax_edges::ArchName;
 

@@ -3,9 +3,9 @@ ghost use Rattle.arch_trait.specs.Writing.{op_text, name_in, place_below};
 ghost use Rattle.arch_x86.specs.Table.{writing, x86_register_names};
 
 use crate::REGISTER_NAMES;
+use arch_instructions::{print_fixed, push_short};
 use arch_trait::{MAX_INSTRUCTION_TEXT, Places, push_digit};
 use arrayvec::ArrayString;
-use arch_instructions::{print_fixed, push_short};
 use micro_ops::{Barrier, Micro};
 use relax_edges::FenceKind;
 

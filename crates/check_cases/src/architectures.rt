@@ -14,7 +14,8 @@ use arch_arm::Arm;
 use arch_power::Power;
 use arch_riscv::Riscv;
 use arch_trait::{
-    Arch, InstrError, MAX_STEPS, MAX_INSTRUCTION_TEXT, Places, Step, TooManyRegisters, compile_thread,
+    Arch, InstrError, MAX_INSTRUCTION_TEXT, MAX_STEPS, Places, Step, TooManyRegisters,
+    compile_thread,
 };
 use arch_x86::X86;
 use arrayvec::ArrayString;

@@ -6,10 +6,10 @@ ghost use Rattle.cycle_events.specs.Values.{value_of, write_count, write_at, is_
 ghost use Rattle.coherence_values.specs.Arc.{LeadsOn, seen_of, writes_before, values_of, all_seen};
 
 use arrayvec::ArrayVec;
+use cycle_events::NeedsObserver;
 use cycle_resolve::{Event, Resolved};
 use relax_edges::{Dir, MAX_EDGES, ObsMode};
 use std::marker::Model;
-use cycle_events::NeedsObserver;
 
 /// What a walk along a location's arc has seen of its writes.
 #[derive(Clone, Copy, Default)]

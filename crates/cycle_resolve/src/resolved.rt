@@ -4,9 +4,9 @@ ghost use Rattle.relax_edges.specs.EdgeTable.{is_external};
 ghost use Rattle.cycle_events.specs.Resolution.{external_count, move_count, ends_outside, turned, event_of, events_of, is_coherence_only, resolution_of, IsResolved};
 
 use arrayvec::ArrayVec;
+use cycle_events::{Event, ResolveError};
 use edge_algebra::Cycle;
 use relax_edges::{Edge, MAX_EDGES};
-use cycle_events::{Event, ResolveError};
 use std::marker::Model;
 
 /// A cycle whose last edge is external, with the events of its edges.

@@ -6,9 +6,9 @@ ghost use Rattle.diy_tools.specs.Report.{StatusNamesLocation};
 
 use crate::machines::on_machine;
 use crate::status::{Device, Status, TextKind};
-use exec_check::{CheckEnd, CheckedKind, check_files};
 use diy_io::{Shelf, Sink, Words};
 use diy_words::Check;
+use exec_check::{CheckEnd, CheckedKind, check_files};
 use relax_edges::ArchName;
 use std::alloc::Global;
 

@@ -11,12 +11,12 @@ use crate::listing::listing_status;
 use crate::machines::on_machine;
 use crate::status::Status;
 use arch_trait::Arch;
-use diycross7_cycles::crossed_cycles;
 use diy_io::{MAX_FOLDER, NoMemory, Shelf, Sink, Words};
 use diy_words::{Cross, read_places};
-use tests_to_files::put_cycles;
+use diycross7_cycles::crossed_cycles;
 use relax_edges::{ArchName, ObsMode, Relaxes};
 use std::alloc::Global;
+use tests_to_files::put_cycles;
 
 /// Writes the tests of the choices of one relaxation a place, each in a file.
 #[tactic(auto, using(crate::proofs::Crossed::asks_choices, crate::proofs::Crossed::choices_answered, crate::proofs::Crossed::choices_unread))]

@@ -8,10 +8,9 @@ ghost use Rattle.diy_tools.specs.Report.{StatusNamesLocation};
 
 use crate::machines::on_machine;
 use crate::status::{Device, Status};
-use demo_tests::demo as count_tests;
+use demo_tests::{demo as count_tests, families_have_tests};
 use diy_io::{Failed, Sink};
 use diy_words::Demo;
-use demo_tests::families_have_tests;
 use relax_edges::ArchName;
 
 /// Makes as many tests as are asked for, and prints how many there are of each family.

@@ -14,12 +14,12 @@ ghost use Rattle.diy_tools.specs.Statuses.{classify_status};
 use crate::machines::on_machine;
 use crate::naming::lines_status;
 use crate::status::{Device, Status, TextKind};
-use tests_from_files::{FileKind, FilesEnd, classify_files};
 use cycles_from_lines::{ClassifyError, classify_lines};
 use diy_io::{NoMemory, Shelf, Sink, Source, Words};
 use diy_words::read_files;
 use relax_edges::ArchName;
 use std::alloc::Global;
+use tests_from_files::{FileKind, FilesEnd, classify_files};
 
 /// Prints the names of cycles by their families: of those that are quoted in the files that operands name, or of
 /// those of the input's lines where there is no operand.

@@ -14,8 +14,8 @@ use crate::machines::on_machine;
 use crate::status::{Device, Status};
 use diy_io::{MAX_FOLDER, Shelf, Sink};
 use diy_words::Diy;
-use tests_to_files::{Listing, ListingEnd, list_tests};
 use relax_edges::ArchName;
+use tests_to_files::{Listing, ListingEnd, list_tests};
 
 /// Writes the tests of a listing, each in a file.
 #[tactic(auto, using(crate::proofs::Listed::list_answered))]

@@ -8,8 +8,8 @@ ghost use Rattle.diy_tools.specs.Statuses.{lines_status, norm_status};
 
 use crate::edges::cycle_of_edges;
 use crate::status::{Device, Status, TextKind};
-use cycles_from_lines::{LinesError, NormError, norm_lines, write_name_line};
 use cycle_names::{NotAName, cycle_of};
+use cycles_from_lines::{LinesError, NormError, norm_lines, write_name_line};
 use diy_io::{Failed, Sink, Source};
 use diy_words::{Norm, Sought, Source as Named, UsageKind};
 use edge_algebra::Cycle;

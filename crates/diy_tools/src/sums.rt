@@ -6,8 +6,8 @@ ghost use Rattle.diy_tools.specs.KeptRequests.{AnswersSumOf, SumsFiles, SumsInpu
 
 use crate::status::{Device, Status, TextKind};
 use diy_io::{Shelf, Sink, Source, Words};
-use std::alloc::Global;
 use msum7_files::{SumEnd, sum_files, sum_input};
+use std::alloc::Global;
 
 /// Sums the logs that the words after the first name, or the input where there is no such word.
 #[tactic(auto, using(crate::proofs::Summed::files_answered, crate::proofs::Summed::input_answered))]

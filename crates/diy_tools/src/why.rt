@@ -21,9 +21,9 @@ use diy_io::{Failed, MAX_FOLDER, NoMemory, Page, Shelf, Sink};
 use diy_words::{TestName, Why};
 use edge_algebra::Cycle;
 use exec_text::write_execution;
-use tests_to_files::{File, put_files, test_path};
 use relax_edges::ArchName;
 use std::alloc::Global;
+use tests_to_files::{File, put_files, test_path};
 use two_runs::{TwoRuns, WhyError, two_runs};
 
 /// Writes the test of a cycle without observers, and two executions of it that no condition on the final

@@ -14,13 +14,13 @@ ghost use Rattle.diy_words.specs.Parts.{Unvalued, mode_named};
 ghost use Rattle.diy_words.specs.Notes.{before_noted, more_choices};
 ghost use Rattle.diy_words.specs.Sayings.{Before, SaysRelaxes, SaysPlace, SaysSize, SaysThreads, SaysAccesses, said_by, arch_said, name_said, mode_said, obs_said, why_said, co_said, edges_said, relaxes_said, relax_usage, number_said, after_said, folder_said, checked_said, operand_said, begins_option};
 
-use diy_io::MAX_FOLDER;
 use crate::name::name_of;
 use crate::number::number_to;
 use crate::options::{OptionName, Tool, mode_named};
 use crate::request::{MAX_CHOICES, MAX_TESTS, Source, TestName};
 use crate::usage::{Usage, UsageKind};
 use cycle_enum::Limits;
+use diy_io::MAX_FOLDER;
 use edge_algebra::{Cycle, cycle};
 use edges_from_text::{EdgeList, Separators, read_edges};
 use relax_edges::{

@@ -1,6 +1,6 @@
-use diy_io::MAX_FOLDER;
 use arrayvec::ArrayString;
 use cycle_enum::Limits;
+use diy_io::MAX_FOLDER;
 use edge_algebra::Cycle;
 use edges_from_text::EdgeList;
 use relax_edges::{ArchName, ObsMode, Relaxes};

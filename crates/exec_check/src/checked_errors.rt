@@ -2,8 +2,8 @@ ghost use Rattle.std.specs.Prelude.{◌≡◌};
 ghost use Rattle.exec_check.specs.declared.checked_errors.CheckFault.TheVariants.{Device};
 ghost use Rattle.exec_check.specs.CheckingSteps.{check_end, exec_fault, check_file_fault, test_fault, checked_test_kind};
 
-use diy_io::Failed;
 use crate::CheckError;
+use diy_io::Failed;
 use exec_text::ExecKind;
 use litmus_text::TestKind;
 use tests_from_files::{FileFault, NoTest, TestFileKind};

@@ -5,8 +5,8 @@ ghost use Rattle.exec_check.specs.Verdicts.{AreJudged, JudgesEdges, judged_cycle
 
 use crate::verdict::JudgedEdges;
 use arch_trait::Arch;
-use cycles_from_lines::quoted_cycle;
 use cycle_resolve::{Resolved, resolve};
+use cycles_from_lines::quoted_cycle;
 use diy_io::NoMemory;
 use edge_algebra::Cycle;
 use exec_meaning::{Execution, edge_stands};

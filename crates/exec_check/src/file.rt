@@ -4,9 +4,9 @@ ghost use Rattle.diy_io.specs.Opened.{name_at};
 ghost use Rattle.exec_check.specs.CheckingSteps.{TestFileTo, TestClosedTo, ExecFileTo, ExecClosedTo};
 
 use crate::checked_errors::CheckFault;
+use crate::{Verdict, check};
 use arch_trait::Arch;
 use diy_io::{Failed, Shelf, Words};
-use crate::{Verdict, check};
 use litmus_text::ReadTest;
 use std::alloc::Global;
 use tests_from_files::{read_named_file, test_of_text};

@@ -4,9 +4,9 @@ ghost use Rattle.exec_check.specs.FilesChecked.{FilesChecked};
 
 use crate::checked_errors::CheckEnd;
 use crate::file::{test_in_file, verdict_in_file};
+use crate::write_verdict;
 use arch_trait::Arch;
 use diy_io::{Failed, Shelf, Sink, Words};
-use crate::write_verdict;
 use std::alloc::Global;
 
 /// How many bytes are read at once.

@@ -21,7 +21,7 @@ pub use errors::{ReadError, TestKind, TextError};
 pub use head::put_header;
 pub use kept::KeptTable;
 pub use law::printed_reads_back;
-pub use limits::{MAX_ACCESSES, MAX_TEST_NAME, MAX_ROWS, MAX_TEST_TEXT, MAX_THREADS};
+pub use limits::{MAX_ACCESSES, MAX_ROWS, MAX_TEST_NAME, MAX_TEST_TEXT, MAX_THREADS};
 pub use parts::{TextPart, put_part};
 pub use print::{print_test, print_test_by};
 pub use reading::{ReadTest, arch_of, read_test};

@@ -3,9 +3,9 @@ ghost use Rattle.tests_from_files.specs.declared.classified_errors.CycleFault.Th
 ghost use Rattle.tests_from_files.specs.Read.{file_end, file_fault};
 ghost use Rattle.tests_from_files.specs.QuotedCycle.{test_error, classified_kind};
 
+use crate::{FileFault, TestFileError, TestFileKind};
 use diy_io::Failed;
 use litmus_text::TestKind;
-use crate::{FileFault, TestFileError, TestFileKind};
 
 /// What is wrong with a file of a test.
 #[derive(Clone, Copy, Debug, PartialEq, Eq)]

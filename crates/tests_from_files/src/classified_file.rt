@@ -5,11 +5,11 @@ ghost use Rattle.tests_from_files.specs.Read.{CycleTo, ClosedTo};
 
 use crate::classified_errors::CycleFault;
 use crate::quoted_cycle::cycle_of_text;
+use crate::read_named_file;
 use arch_trait::Arch;
 use diy_io::{Failed, Shelf, Words};
 use edge_algebra::Cycle;
 use std::alloc::Global;
-use crate::read_named_file;
 
 /// The cycle that is quoted by the test in the file that the word at a place names. The file is read into `text`, in
 /// pieces as long as `piece`.

@@ -4,11 +4,11 @@ ghost use Rattle.tests_from_files.specs.QuotedCycle.{cycle_or_fault, no_cycle, t
 ghost use Rattle.tests_from_files.specs.Read.{SaysCycleInMemory};
 
 use crate::classified_errors::{FileError, FileKind, TextFault};
+use crate::{NoTest, test_of_text};
 use arch_trait::Arch;
 use cycles_from_lines::quoted_cycle;
 use edge_algebra::Cycle;
 use std::alloc::Global;
-use crate::{NoTest, test_of_text};
 
 /// The line of a test that quotes its cycle.
 const QUOTED_LINE: u64 = 2;

@@ -2,8 +2,8 @@ ghost use Rattle.std.specs.Prelude.{◌≡◌, ◌≤◌, ◌++◌, length};
 ghost use Rattle.std.specs.Option.{ForSome, option_map};
 ghost use Rattle.tests_to_files.specs.ListedFiles.{file_named, path_of, stem_named};
 
-use diy_io::MAX_FOLDER;
 use arrayvec::ArrayString;
+use diy_io::MAX_FOLDER;
 use itoa::Buffer;
 
 /// The most bytes of a name that a file has.

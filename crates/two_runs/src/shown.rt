@@ -7,6 +7,7 @@ ghost use Rattle.test_maker.specs.Made.{AreOfArch};
 ghost use Rattle.two_runs.specs.Shown.{Shows, ShowsNeed, ShowsResolution, ShowsResolved};
 
 use crate::errors::{WhyError, WhyRefusal};
+use crate::printed_undecided;
 use crate::run::run_of;
 use crate::text::text_unobserved;
 use arch_trait::Arch;
@@ -14,7 +15,6 @@ use coherence_values::{NeedsObserver, value, value_unobserved};
 use cycle_resolve::{ResolveError, Resolved, resolve};
 use diy_io::NoMemory;
 use edge_algebra::Cycle;
-use crate::printed_undecided;
 use exec_meaning::Execution;
 use litmus_text::{ReadError, ReadTest, read_test};
 use relax_edges::ObsMode;
