@@ -1,5 +1,6 @@
--- The claim of the tools: for every accepted cycle the test that is printed forces the cycle, and a listing writes such
--- tests of exactly the listed cycles, each once, in order.
+-- The claim of the tools: for every accepted cycle the test that is printed forces the cycle; a listing writes such tests of
+-- exactly the listed cycles, each once, in order, and so do choices of relaxations; what shows why a cycle needs an observer is
+-- two executions that no condition tells apart; and a coherence test shows incoherence.
 -- Source: own.
 use Rattle.std.specs.Prelude.{◌≡◌, ◌⊎◌, ℕ, List, Result, Ok, None}
 use Rattle.relax_edges.specs.declared.{edge.Edge.Edge, kinds.ObsMode.ObsMode}
@@ -42,7 +43,7 @@ pub record CrossesForcing (asked : CrossTask) (status : Status) (old new : Shelf
 
 -- where the words ask for the test of edges that nothing refuses, it is printed and forces the cycle that they make; where
 -- they ask for a listing, or for the tests of choices, it is written and each of its tests forces its cycle; where they ask why
--- the mode avoid refuses edges, and it does because a write needs an observer, there is no memory, or two executions of the test
+-- the mode avoid refuses edges, and nothing refuses to show that, there is no memory, or two executions of the test
 -- without observers are written that no condition tells apart, though all edges stand in the first and one doesn't in the second;
 -- where they ask for the coherence test of edges that nothing refuses, it is printed and shows incoherence
 abbrev pub HeadlineAsked : Result Task Usage → Status → Devices → Devices → Type 0

@@ -43,7 +43,7 @@ abbrev pub named_in : ℕ → LeftSeen → List Naming
 named_in n (InRegister thread name) = []
 named_in n (AtPlace name) = record { at_line = n; place = name } ∷ []
 
--- the terms of a text up to the first fault of their form: the terms, the places that they name, and that fault, if there is one
+-- the terms of a text up to the first fault of their form: the terms, the places named before that fault, and that fault, if there is one
 pub record TermsFormed : Type 0 where
   pub terms : List TermSeen
   pub named : List Naming

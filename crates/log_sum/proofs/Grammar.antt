@@ -7,7 +7,7 @@ use Rattle.log_sum.specs.declared.{errors.LogKind.LogKind, errors.LogKind.TheVar
 use Rattle.log_sum.specs.declared.{kinds.Place.Place}
 use Rattle.log_sum.specs.declared.kinds.Place.TheVariants.{Outside, Histogram, States, Judgement, Rest, Conditioned}
 use Rattle.log_sum.specs.{Facts.Entry, LogLines.Said, LogLines.test_line, LogLines.outside_said, LogLines.condition_line, LogLines.hash_line}
-use Rattle.log_sum.specs.{LogReading.line_judged, LogReading.lines_judged, SumText.sum_text, Representing.logs_text, Representing.LogsByBlocks}
+use Rattle.log_sum.specs.{LogReading.line_judged, LogReading.lines_judged, SumText.sum_text, Representing.logs_text}
 use Rattle.log_sum.specs.{LogGrammar.of_no_test, LogGrammar.log_says}
 use Rattle.log_sum.specs.LogLines.{rest_said, log_line_said, states_left, kind_at, place_after, fact_said}
 use Rattle.log_sum.specs.LogReading.{LogSeen, nothing_seen, fault_at, is_too_long, next_line, said_put, text_judged}
@@ -165,14 +165,14 @@ files_by_blocks entries (log ∷ logs) =
         → ((r >>= λ all. Ok (between all)) >>= λ next. files_judged next logs) ≡ ((r >>= λ more. all_judged more logs) >>= λ all. Ok (between all))
     each later (x) = grind arith
 
--- logs that are read line by line say what their blocks say
-pub logs_by_blocks : LogsByBlocks
+-- the reading of logs line by line gives the sum of their blocks
+pub read_by_blocks : (logs : List (List ℕ)) → (files_judged nothing_seen logs >>= λ seen. Ok (sum_text seen.entries)) ≡ logs_text logs
 unfolding logs_text
-logs_by_blocks = grind (arith, files_by_blocks)
+read_by_blocks logs = grind (arith, files_by_blocks)
 
 -- the sum of logs is that of their reading
 pub judged_text : (logs : List (List ℕ)) → logs_text logs ≡ (files_judged nothing_seen logs >>= λ seen. Ok (sum_text seen.entries))
-judged_text logs = sym (logs_by_blocks.sum logs)
+judged_text logs = sym (read_by_blocks logs)
 
 -- the fault of logs is that of their reading
 pub text_fault : (logs : List (List ℕ)) (error : LogError) → logs_text logs ≡ Err error → files_judged nothing_seen logs ≡ Err error

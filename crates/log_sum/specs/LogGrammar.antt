@@ -23,7 +23,7 @@ pub record LogSays : Type 0 where
   pub facts : List (ℕ × Entry)
   pub fault : Option LogError
 
--- the log ends, or it has a fault in a line
+-- the log ends, and no line of it has a fault
 abbrev pub log_ends : LogSays
 log_ends = record { facts = []; fault = None }
 
@@ -60,7 +60,7 @@ abbrev pub of_hash : ℕ → List ℕ → Option (List ℕ) → LogSays → LogS
 of_hash n test None other = other
 of_hash n test (Some text) other = and_says n test (a_hash text) other
 
--- what follows from a line that may be the condition, which begins with the quantifier of the block's kind
+-- what follows from a line that may be the condition; it is a fault if that doesn't begin with the quantifier of the block's kind
 abbrev pub of_condition : ℕ → List ℕ × Kind → Option (List ℕ × Verdict) → LogSays → LogSays → LogSays
 of_condition n test None conditioned other = other
 of_condition n test (Some condition) conditioned other =

@@ -95,6 +95,10 @@ IsKeptRefusal new result = IfErr result (λ refusal. new.refusal ≡ Some refusa
 abbrev pub kept_text : Kept → List ℕ
 kept_text kept = flat_map (λ test. summed_text test.0 test.1) kept.progress.tests
 
--- logs that are read line by line say what their blocks say
+-- Logs that are read line by line say what their blocks say. So the sum that is printed of a summer that was fed whole logs is that of their
+-- blocks, and a fault of the bytes so far is the first fault of the blocks of all logs that go on so.
 pub record LogsByBlocks : Type 0 where
   pub sum : (logs : List (List ℕ)) → (files_judged nothing_seen logs >>= λ seen. Ok (sum_text seen.entries)) ≡ logs_text logs
+  pub written : (kept : Kept) (files : List (List ℕ)) → Represents kept files [] → logs_text files ≡ Ok (kept_text kept)
+  pub fault : (files : List (List ℕ)) (bytes rest : List ℕ) (more : List (List ℕ)) (error : LogError)
+      → input_judged files bytes ≡ Err error → logs_text (files ++ (bytes ++ rest) ∷ more) ≡ Err error

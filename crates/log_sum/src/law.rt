@@ -15,8 +15,9 @@ pub fn same_answers()
 ///
 /// A log is read line by line, by the place of the running line in its block. What comes of that is
 /// what the grammar of logs gives: lines that are passed over, and blocks, each from `Test` to
-/// `Observation`.
-#[tactic(auto, using(crate::proofs::Grammar::logs_by_blocks))]
+/// `Observation`. So what a summer between two logs prints is the sum of the blocks of the logs that it
+/// was fed, and a fault that it finds in the bytes so far is that of their blocks, whatever follows.
+#[tactic(auto, using(crate::proofs::RepresentingLaws::logs_by_blocks))]
 pub fn sum_by_blocks()
     ensures { LogsByBlocks }
 {}
