@@ -1,5 +1,5 @@
 -- The loop of `no_names`: the entries so far have no name.
-use Rattle.std.proofs.Common.{List, [], take, map}
+use Rattle.std.proofs.Common.{◌≡◌, List, [], take, map}
 use Rattle.cycles_from_lines.specs.FamilyTables.{FamilyEntry, family_view}
 use Rattle.cycles_from_lines.proofs.table.no_names.Given as goal
 
