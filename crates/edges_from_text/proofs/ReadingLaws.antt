@@ -1,50 +1,69 @@
 -- How a text is read word by word.
-use Rattle.std.proofs.Common.{◌≡◌, ℕ, ◌+◌, ◌<◌, ◌≤◌, Bool, true, false, cond, nat_lt, not, List, [], ◌∷◌, length, take, drop, Option, Some, None, refl, sym, ap, ◌∙◌, arith, subst, length-drop}
-use Rattle.std.specs.List.{position, position_or_len, prefix_len, slice_split, onto_first}
-use Rattle.std.specs.Option.{option_map}
-use Rattle.std.proofs.lemmas.{List.Splits.slice_split_first, List.Quantifiers.position-Some, Bool.Decides.nat_tests}
-use Rattle.edges_from_text.specs.declared.{list.EdgeList.EdgeList, read.Separators.Separators}
-use Rattle.edges_from_text.specs.{Spelled.CutsAtSeparator, Spelled.separates, Spelled.edges_spelled, KeptEdges.edges_added}
+use Rattle.std.proofs.Common.{◌≡◌, ℕ, ◌+◌, ◌<◌, List, [], ◌∷◌, ◌++◌, length, take, drop, get_or, zero, suc, map, Bor, Option, Some, None, Result, Ok, Err, is_ok, if◌then◌else◌, refl, sym, ap, ◌∙◌, arith}
+use Rattle.std.specs.{Option.option_map, Result.IsErr}
+use Rattle.std.proofs.lemmas.List.{take-append-drop}
+use Rattle.relax_edges.specs.declared.edge.Edge.{Edge}
+use Rattle.relax_edges.specs.{Spelling.edge_of, ReadEdges.before_edges}
+use Rattle.edges_from_text.specs.declared.list.EdgeList.{EdgeList}
+use Rattle.edges_from_text.specs.{Spelled.edges_spelled, KeptEdges.edges_added, KeptEdges.pushed}
 
 -- the edges kept once a text's words are read after those that were kept before; none where a word is no edge
 abbrev pub spelled : EdgeList → List (List ℕ) → Option EdgeList
 spelled list texts = option_map (edges_added list) (edges_spelled texts)
 
-some_first : (xs : List ℕ) (i k : ℕ) (b : Bool) → nat_lt k (length xs) ≡ b → cond b (Some k) None ≡ Some i → k ≡ i
-some_first xs i k true e h = cc h
-some_first xs i k false e h = cc h
+after_word : (list kept : EdgeList) (edge : Option Edge) (texts more : List (List ℕ))
+    → ((next : EdgeList) → spelled next texts ≡ Some kept → spelled next (texts ++ more) ≡ spelled kept more)
+    → option_map (edges_added list) (before_edges edge (edges_spelled texts)) ≡ Some kept
+    → option_map (edges_added list) (before_edges edge (edges_spelled (texts ++ more))) ≡ spelled kept more
+after_word list kept None texts more rest h = cc h
+after_word list kept (Some edge) texts more rest h = moved (edges_spelled texts) (edges_spelled (texts ++ more)) (rest (pushed list edge)) h
+  where
+    moved : (read longer : Option (List Edge))
+        → (option_map (edges_added (pushed list edge)) read ≡ Some kept → option_map (edges_added (pushed list edge)) longer ≡ spelled kept more)
+        → option_map (edges_added list) (before_edges (Some edge) read) ≡ Some kept
+        → option_map (edges_added list) (before_edges (Some edge) longer) ≡ spelled kept more
+    moved None longer rest h = cc h
+    moved (Some es) None rest h = rest h
+    moved (Some es) (Some fs) rest h = rest h
 
--- the words of a text whose first separator is at a place
-pub words_at : (s : Separators) (text : List ℕ) (i : ℕ) → position (separates s) text ≡ Some i →
-    slice_split (separates s) text ≡ take i text ∷ slice_split (separates s) (drop (i + 1) text)
-words_at s text i h =
-    let found = position-Some (separates s) text i 0 h in
-    let same : position_or_len (separates s) text ≡ i = some_first text i (position_or_len (separates s) text) (nat_lt (position_or_len (separates s) text) (length text)) refl h in
-    let below : position_or_len (separates s) text < length text = omega (arith, found.0) in
-    subst (λ k. slice_split (separates s) text ≡ take k text ∷ slice_split (separates s) (drop (k + 1) text)) same (slice_split_first (separates s) text 0 below)
+-- what the words of two texts leave: those of the second are added to what those of the first left
+pub then_words : (list kept : EdgeList) (texts more : List (List ℕ)) → spelled list texts ≡ Some kept → spelled list (texts ++ more) ≡ spelled kept more
+then_words list kept [] more h = grind arith
+then_words list kept ([] ∷ texts) more h = then_words list kept texts more h
+then_words list kept ((byte ∷ bytes) ∷ texts) more h = after_word list kept (edge_of (byte ∷ bytes)) texts more (λ next. then_words next kept texts more) h
 
-none_at : (p : ℕ → Bool) (x : ℕ) (xs : List ℕ) (b : Bool) → p x ≡ b →
-    length (x ∷ xs) ≤ prefix_len (λ y. not (p y)) (x ∷ xs) → (length xs ≤ prefix_len (λ y. not (p y)) xs → slice_split p xs ≡ xs ∷ []) →
-    slice_split p (x ∷ xs) ≡ (x ∷ xs) ∷ []
-none_at p x xs true e h rest = let k = rw e at h in absurd (omega (arith, k))
-none_at p x xs false e h rest = let k = rw e at h in rw e (ap (onto_first x) (rest (omega (arith, k))))
+-- where a word is no edge, nothing is left of the words from it on
+no_edge_first : (list : EdgeList) (word : List ℕ) (more : List (List ℕ)) → spelled list (word ∷ []) ≡ None → spelled list (word ∷ more) ≡ None
+no_edge_first list [] more h = cc h
+no_edge_first list (byte ∷ bytes) more h = of_edge (edge_of (byte ∷ bytes)) h
+  where
+    of_edge : (edge : Option Edge) → option_map (edges_added list) (before_edges edge (Some [])) ≡ None
+        → option_map (edges_added list) (before_edges edge (edges_spelled more)) ≡ None
+    of_edge None h = refl
+    of_edge (Some edge) h = cc h
 
-none_split : (p : ℕ → Bool) (xs : List ℕ) → length xs ≤ prefix_len (λ x. not (p x)) xs → slice_split p xs ≡ xs ∷ []
-none_split p [] h = refl
-none_split p (x ∷ xs) h = none_at p x xs (p x) refl h (none_split p xs)
+drop_next : (all : List (List ℕ)) (n : ℕ) (word : List ℕ) → n < length all → word ≡ get_or all n word → drop n all ≡ word ∷ drop (n + 1) all
+drop_next [] n word below at = absurd (omega (arith, below))
+drop_next (x ∷ all) zero word below at = cc at
+drop_next (x ∷ all) (suc n) word below at = grind (arith, drop_next all n word)
 
-none_long : (xs : List ℕ) (k : ℕ) (b : Bool) → nat_lt k (length xs) ≡ b → cond b (Some k) None ≡ None → length xs ≤ k
-none_long xs k true e h = cc h
-none_long xs k false e h = grind (arith, nat_tests, e)
+-- a list is what was taken of it, the next element and those after that
+parts_at : (all front : List (List ℕ)) (n : ℕ) (word : List ℕ) → front ≡ take n all → n < length all → word ≡ get_or all n word
+    → all ≡ front ++ word ∷ drop (n + 1) all
+parts_at all front n word h below at =
+    sym (take-append-drop n all) ∙ (ap (λ xs. xs ++ drop n all) (sym h) ∙ ap (λ xs. front ++ xs) (drop_next all n word below at))
 
--- the words of a text without a separator
-pub words_none : (s : Separators) (text : List ℕ) → position (separates s) text ≡ None → slice_split (separates s) text ≡ text ∷ []
-words_none s text h =
-    none_split (separates s) text (none_long text (position_or_len (separates s) text) (nat_lt (position_or_len (separates s) text) (length text)) refl h)
+-- nothing is left of words of which one is no edge, after those before it
+pub none_of : (list kept : EdgeList) (texts : List (List ℕ)) (front : List (Bor (List ℕ))) (word : Bor (List ℕ))
+    → map (λ w. w.now) front ≡ take (length front) texts → (length front < length texts) × (word.now ≡ get_or texts (length front) word.now)
+    → spelled list (map (λ w. w.now) front) ≡ Some kept → spelled kept (word.now ∷ []) ≡ None → spelled list texts ≡ None
+none_of list kept texts front word so_far turn before failed =
+    let parts = parts_at texts (map (λ w. w.now) front) (length front) word.now so_far turn.0 turn.1 in
+    ap (spelled list) parts
+    ∙ (then_words list kept (map (λ w. w.now) front) (word.now ∷ drop (length front + 1) texts) before
+    ∙ no_edge_first kept word.now (drop (length front + 1) texts) failed)
 
--- a text cut at its first separator
-pub cut_at : (s : Separators) (text remainder : List ℕ) (i : ℕ) → position (separates s) text ≡ Some i → remainder ≡ drop (i + 1) text → CutsAtSeparator s text (take i text) remainder
-cut_at s text remainder i at e = record {
-  words = words_at s text i at ∙ ap (λ rest. take i text ∷ slice_split (separates s) rest) (sym e);
-  shorter = let within = (position-Some (separates s) text i 0 at).0 in rw e (omega (arith, within, length-drop (i + 1) text));
-}
+-- an error keeps nothing
+pub none_if_err : {X E : Type 0} (r : Result X E) (kept : EdgeList) → IsErr r → (if is_ok r then Some kept else None) ≡ None
+none_if_err (Ok x) kept h = cc h
+none_if_err (Err e) kept h = refl

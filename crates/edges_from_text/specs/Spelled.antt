@@ -1,6 +1,6 @@
 -- The edges that a text spells, with separators between them.
 -- Source: own.
-use Rattle.std.specs.Prelude.{ℕ, ◌≡◌, ◌<◌, Bool, ◌==◌, ◌||◌, List, [], ◌∷◌, length, Option, Some}
+use Rattle.std.specs.Prelude.{ℕ, Bool, ◌==◌, ◌||◌, List, [], ◌∷◌, Option, Some}
 use Rattle.std.specs.List.{slice_split}
 use Rattle.text_parts_laws.specs.Blanks.{is_blank}
 use Rattle.relax_edges.specs.declared.edge.Edge.{Edge}
@@ -11,15 +11,6 @@ use Rattle.edges_from_text.specs.declared.read.{Separators.Separators, Separator
 abbrev pub separates : Separators → ℕ → Bool
 separates Blanks byte = is_blank byte
 separates BlanksAndCommas byte = is_blank byte || byte == 44
-
--- a text has no separator: it is its one word
-abbrev pub IsOneWord : Separators → List ℕ → Type 0
-IsOneWord separators text = slice_split (separates separators) text ≡ text ∷ []
-
--- a text is a first word, a separator, and the text after it
-pub record CutsAtSeparator (separators : Separators) (text prefix remainder : List ℕ) : Type 0 where
-  pub words : slice_split (separates separators) text ≡ prefix ∷ slice_split (separates separators) remainder
-  pub shorter : length remainder < length text
 
 -- the edges that texts spell, where each that isn't empty spells one
 abbrev pub edges_spelled : List (List ℕ) → Option (List Edge)
