@@ -1,6 +1,6 @@
 -- How the code finds the family of a cycle and the rotation that it is named from.
 -- Source: own.
-use Rattle.std.specs.Prelude.{◌≡◌, ◌<◌, ◌≤◌, ℕ, ◌+◌, ◌*◌, ◌==◌, ◌||◌, not, nat_lt, cond, Bool, true, false, Option, Some, None, List, [], ◌∷◌, length, map, codes}
+use Rattle.std.specs.Prelude.{◌≡◌, ◌<◌, ◌≤◌, ℕ, ◌+◌, ◌*◌, ◌==◌, ◌||◌, not, nat_lt, cond, Bool, true, false, Option, Some, None, List, [], ◌∷◌, ◌++◌, length, map, codes}
 use Rattle.relax_edges.specs.declared.{kinds.Dir.Dir, kinds.Dir.TheVariants.R, kinds.Dir.TheVariants.W, kinds.Sd.TheVariants.Diff}
 use Rattle.relax_edges.specs.declared.{kinds.Reach.TheVariants.External, kinds.Com.Com, kinds.FenceKind.FenceKind, kinds.DepKind.DepKind}
 use Rattle.relax_edges.specs.declared.{kinds.Kind.Kind, kinds.Mark.Mark, kinds.Mark.TheVariants.Plain, kinds.Mark.TheVariants.Acquire}
@@ -14,7 +14,7 @@ use Rattle.relax_edges.specs.NamedEdges.{pod, rfe, fre, wse}
 use Rattle.relax_edges.specs.{Order.pick_rank, Relaxations.is_same}
 use Rattle.edge_algebra_laws.specs.{Rotation.rotated, CycleOrder.ranks_below}
 use Rattle.cycle_names.specs.declared.{link.TheConstants.DATA_PLACE, link.TheConstants.PO_PLACE, slot.Slot.Slot, family.TheConstants.LONGEST}
-use Rattle.cycle_names.specs.declared.{fit.Fit.Fit, words.Separator.Separator, words.Separator.TheVariants.Dash, words.Separator.TheVariants.Blank}
+use Rattle.cycle_names.specs.declared.{fit.Fit.Fit, fit.Turned.Turned, words.Separator.Separator, words.Separator.TheVariants.Dash, words.Separator.TheVariants.Blank}
 use Rattle.cycle_names.specs.declared.{family.Family.Family}
 use Rattle.cycle_names.specs.declared.slot.Slot.TheVariants as slots
 use Rattle.cycle_names.specs.{Families.family_edges, LinkWords.outline, LinkWords.link_word, Rotations.found_family, Rotations.named_rotation}
@@ -131,6 +131,10 @@ word_place edge = kind_word_place (kind_of edge) (letters_place (source_mark edg
 -- the words of one list of edges come before those of another, by their places
 abbrev pub places_below : List Edge → List Edge → Bool
 places_below v w = ranks_below (map word_place v) (map word_place w)
+
+-- the edges of a rotation that lies in two parts of a list
+abbrev pub in_order : Turned → List Edge
+in_order edges = edges.from.now ++ edges.before.now
 
 -- the words of the rotation from a place come before those of the rotation from another, if there is another
 abbrev pub comes_before : List Edge → ℕ → Option ℕ → Bool

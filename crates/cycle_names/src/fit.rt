@@ -5,10 +5,9 @@ ghost use Rattle.relax_edges.specs.Order.{rank_of};
 ghost use Rattle.relax_edges.specs.Relaxations.{is_same};
 ghost use Rattle.edge_algebra_laws.specs.Composable.{IsCycle};
 ghost use Rattle.edge_algebra_laws.specs.Rotation.{rotated};
-ghost use Rattle.edge_algebra_laws.specs.CycleOrder.{ranks_below};
 ghost use Rattle.cycle_names.specs.LinkWords.{outline};
 ghost use Rattle.cycle_names.specs.Rotations.{all_unmarked, is_plain_outside, found_family};
-ghost use Rattle.cycle_names.specs.Fitting.{slot_edge, word_place, joins_at, JoinsNone, JoinNone, JoinsLeast, IsFitOf, comes_before};
+ghost use Rattle.cycle_names.specs.Fitting.{slot_edge, joins_at, JoinsNone, JoinNone, JoinsLeast, IsFitOf, comes_before, places_below, in_order};
 
 use crate::family::{FAMILIES, Family, LONGEST};
 use crate::link::word_place;
@@ -72,17 +71,17 @@ fn first_fit(families: &[Family], slots: &[Slot], edges: &[Edge]) -> Option<Fit>
     requires slots { map slot_edge slots.now ≡ outline edges.now }
     ensures { MatchOption result (JoinNone edges.now families.now) (λ fit. JoinsLeast edges.now fit.family (length edges.now) fit.place) }
 {
-    match families {
-        [] => None,
-        [family, rest @ ..] => match least_place(slots, *family, edges) {
-            Some(place) => Some(Fit {
+    for family in families {
+        if let Some(place) = least_place(slots, *family, edges) {
+            return Some(Fit {
                 family: *family,
                 place,
-            }),
-            None => first_fit(rest, slots, edges),
-        },
+            });
+        }
     }
+    None
 }
+
 /// The place from which the rotation begins whose words come first, of those that join what the
 /// family's cycle does.
 #[tactic(auto, using(crate::proofs::Places::slots_join, crate::proofs::Places::still_kept, crate::proofs::Places::newly_kept))]
@@ -148,28 +147,64 @@ fn comes_before(edges: &[Edge], place: usize, other: Option<usize>) -> bool
 {
     match other {
         None => true,
-        Some(other) => are_below(
-            rotation_of(edges, place).as_slice(),
-            rotation_of(edges, other).as_slice(),
-        ),
+        Some(other) => are_below(turned_from(edges, place), turned_from(edges, other)),
     }
 }
 
-/// Whether the words of the links of a list come before those of another.
-fn are_below(edges: &[Edge], others: &[Edge]) -> bool
-    ensures { result ≡ ranks_below (map word_place edges.now) (map word_place others.now) }
+/// A rotation of a list, in two parts of it: what is left of the elements from its place on, and of those before it.
+#[derive(Clone, Copy)]
+struct Turned<'a> {
+    from: &'a [Edge],
+    before: &'a [Edge],
+}
+
+/// The rotation of a list that begins at a place, where it lies.
+fn turned_from(edges: &[Edge], place: usize) -> Turned<'_>
+    requires place { place ≤ length edges.now }
+    ensures { in_order result ≡ rotated place edges.now }
 {
-    match edges {
-        [] => false,
-        [edge, rest @ ..] => match others {
-            [] => false,
-            [other, others_left @ ..] => {
-                let own = word_place(*edge);
-                let its = word_place(*other);
-                own < its || own == its && are_below(rest, others_left)
-            }
+    let (before, from) = edges.split_at(place);
+    Turned { from, before }
+}
+
+/// The first edge of a rotation, and what is left of it.
+fn next_of(edges: Turned<'_>) -> Option<(Edge, Turned<'_>)>
+    ensures { MatchOption result (in_order edges.entry ≡ []) (λ next. in_order edges.entry ≡ next.0 ∷ in_order next.1) }
+{
+    match edges.from {
+        [edge, rest @ ..] => Some((
+            *edge,
+            Turned {
+                from: rest,
+                before: edges.before,
+            },
+        )),
+        [] => match edges.before {
+            [edge, rest @ ..] => Some((
+                *edge,
+                Turned {
+                    from: rest,
+                    before: edges.from,
+                },
+            )),
+            [] => None,
         },
     }
+}
+
+/// Whether the words of the links of a rotation come before those of another.
+fn are_below(edges: Turned<'_>, others: Turned<'_>) -> bool
+    ensures { result ≡ places_below (in_order edges.entry) (in_order others.entry) }
+{
+    let Some((edge, rest)) = next_of(edges) else {
+        return false;
+    };
+    let Some((other, others_left)) = next_of(others) else {
+        return false;
+    };
+    let own = word_place(edge);
+    let its = word_place(other);
+    own < its || own == its && are_below(rest, others_left)
 }
 
 /// The rotation of a list that begins at a place.
