@@ -1,29 +1,31 @@
 -- Where it doesn't matter to a word what the words before it said: in tools of whose operands the number isn't limited, where no
--- word is `-why` or `-co`.
+-- word is `-why`, `-co` or `-list`.
 use Rattle.std.proofs.Common.{◌≡◌, ◌+◌, ℕ, Bool, true, false, List, [], ◌∷◌, Result, Ok, Err, refl, sym, ap, ◌∙◌}
 use Rattle.std.specs.Prelude.{◌||◌, if◌then◌else◌}
 use Rattle.diy_words.specs.declared.options.OptionName.TheVariants as opts
 use Rattle.diy_words.specs.declared.{options.Tool.Tool, usage.Usage.Usage, usage.UsageKind.TheVariants.ExcludedOption}
 use Rattle.diy_words.specs.Parts.{Part, Alone, Valued, Unvalued, mode_named}
-use Rattle.diy_words.specs.Sayings.{Saying, SaysWhy, SaysCo, Before, usage_fault, mode_said, said_by}
+use Rattle.diy_words.specs.Sayings.{Saying, SaysWhy, SaysCo, SaysLines, Before, usage_fault, mode_said, folder_said, said_by}
 use Rattle.diy_words.specs.Notes.{Notes, with_next, before_noted, said_noted}
 
--- whether one of `-why` and `-co` was given
-abbrev pub is_special : Notes → Bool
-is_special notes = notes.given.why || notes.given.co
+-- whether one of `-why` and `-co` was given, and whether `-list` was
+abbrev pub special : Notes → Bool × Bool
+special notes = (notes.given.why || notes.given.co, notes.given.lines)
 
--- something said that is neither `-why` nor `-co`
+-- something said that is none of the three
 abbrev pub IsSilent : Result Saying Usage → Type 0
-IsSilent said = (before : Notes) → is_special (with_next before said) ≡ is_special before
+IsSilent said = (before : Notes) → special (with_next before said) ≡ special before
 
--- of a tool: a word says the same after words that agree on whether one of `-why` and `-co` was given
+-- of a tool: a word says the same after words that agree on that
 abbrev pub IsUncounted : Tool → Type 0
-IsUncounted tool = (a b : Before) (part : Part) → a.why || a.co ≡ b.why || b.co → said_by tool a part ≡ said_by tool b part
+IsUncounted tool =
+    (a b : Before) (part : Part) → ◌≡◌ {A = Bool × Bool} (a.why || a.co, a.lines) (b.why || b.co, b.lines) → said_by tool a part ≡ said_by tool b part
 
 -- it is enough that a word says the same that is neither an option with a value nor a value
 pub by_words : (tool : Tool) → ((a b : Before) (at : ℕ) (text : List ℕ) → said_by tool a (Alone at text) ≡ said_by tool b (Alone at text)) → IsUncounted tool
 by_words tool same a b (Alone at text) h = same a b at text
-by_words tool same a b (Valued opts.Obs at value) h = ap (λ special. if special then usage_fault at ExcludedOption else mode_said (at + 1) (mode_named value)) h
+by_words tool same a b (Valued opts.Obs at value) h = ap (λ before. if before.0 then usage_fault at ExcludedOption else mode_said (at + 1) (mode_named value)) h
+by_words tool same a b (Valued opts.Folder at value) h = ap (λ before. if before.1 then usage_fault at ExcludedOption else folder_said (at + 1) value) h
 by_words tool same a b (Valued option at value) h = refl
 by_words tool same a b (Unvalued option at) h = refl
 
@@ -31,14 +33,16 @@ or_true : (b : Bool) → b || true ≡ true
 or_true true = refl
 or_true false = refl
 
-next_special : (a b : Notes) (said : Result Saying Usage) → is_special a ≡ is_special b → is_special (with_next a said) ≡ is_special (with_next b said)
+next_special : (a b : Notes) (said : Result Saying Usage) → special a ≡ special b → special (with_next a said) ≡ special (with_next b said)
 next_special a b (Err usage) h = h
-next_special a b (Ok SaysWhy) h = refl
-next_special a b (Ok SaysCo) h = or_true a.given.why ∙ sym (or_true b.given.why)
+next_special a b (Ok SaysWhy) h = ap (λ before. (true, before.1)) h
+next_special a b (Ok SaysCo) h =
+    ap (λ given. (given, a.given.lines)) (or_true a.given.why ∙ sym (or_true b.given.why)) ∙ ap (λ before. (b.given.why || true, before.1)) h
+next_special a b (Ok SaysLines) h = ap (λ before. (before.0, true)) h
 next_special a b (Ok said) h = h
 
 -- then so do all words
-pub uncounted : (tool : Tool) → IsUncounted tool → (parts : List Part) (a b : Notes) → is_special a ≡ is_special b → said_noted tool a parts ≡ said_noted tool b parts
+pub uncounted : (tool : Tool) → IsUncounted tool → (parts : List Part) (a b : Notes) → special a ≡ special b → said_noted tool a parts ≡ said_noted tool b parts
 uncounted tool same [] a b h = refl
 uncounted tool same (part ∷ parts) a b h =
     ap (λ said. said ∷ said_noted tool (with_next a said) parts) (same (before_noted a) (before_noted b) part h) ∙

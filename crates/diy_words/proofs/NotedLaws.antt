@@ -5,8 +5,8 @@ use Rattle.list_laws.proofs.Elements.{option_or-none}
 use Rattle.edges_from_text.specs.{KeptEdges.kept_edges, KeptEdges.edges_added, KeptLaws.added_more, KeptLaws.added_whole}
 use Rattle.diy_words.specs.declared.{options.Tool.Tool, request.TheConstants.MAX_CHOICES, usage.Usage.Usage}
 use Rattle.diy_words.specs.{Parts.Part, Requests.choice_count}
-use Rattle.diy_words.specs.Sayings.{Saying, SaysArch, SaysName, SaysMode, SaysFrom, SaysEdges, SaysRelaxes, SaysSize, SaysExact, SaysWhy, SaysCo, SaysThreads, SaysAccesses, SaysAfter, SaysFolder, SaysTest, SaysExecution, SaysPlace, SaysCount, said_by}
-use Rattle.diy_words.specs.Gathered.{arch_of_saying, name_of_saying, mode_of_saying, from_of_saying, operand_of_saying, relaxes_of_saying, size_of_saying, is_exact, is_co, threads_of_saying, accesses_of_saying, after_of_saying, folder_of_saying, is_why, count_of_saying, test_of_saying, execution_of_saying, edges_of_saying, places_of_word, files_of_saying, last_given, first_given, all_given, gathered_of}
+use Rattle.diy_words.specs.Sayings.{Saying, SaysArch, SaysName, SaysMode, SaysFrom, SaysEdges, SaysRelaxes, SaysSize, SaysExact, SaysWhy, SaysCo, SaysExec, SaysLines, SaysGraph, SaysThreads, SaysAccesses, SaysAfter, SaysFolder, SaysTest, SaysExecution, SaysPlace, SaysCount, said_by}
+use Rattle.diy_words.specs.Gathered.{arch_of_saying, name_of_saying, mode_of_saying, from_of_saying, operand_of_saying, relaxes_of_saying, size_of_saying, is_exact, is_co, is_exec, is_lines, is_graph, threads_of_saying, accesses_of_saying, after_of_saying, folder_of_saying, is_why, count_of_saying, test_of_saying, execution_of_saying, edges_of_saying, places_of_word, files_of_saying, last_given, first_given, all_given, gathered_of}
 use Rattle.diy_words.specs.SaidInOrder.{is_limited, before_of, said_in, sayings}
 use Rattle.diy_words.specs.Notes.{Notes, no_notes, with_saying, with_next, notes_with, notes_of, before_noted, said_noted, gathered_noted}
 use Rattle.diy_words.proofs.ChoiceLaws.{choices_after, choices_more, choices_said}
@@ -128,6 +128,18 @@ co_step : (notes : Notes) (saying : Saying) → (with_saying notes saying).given
 co_step notes SaysCo = refl
 co_step notes saying = refl
 
+exec_step : (notes : Notes) (saying : Saying) → (with_saying notes saying).given.exec ≡ (is_exec saying || notes.given.exec)
+exec_step notes SaysExec = refl
+exec_step notes saying = refl
+
+lines_step : (notes : Notes) (saying : Saying) → (with_saying notes saying).given.lines ≡ (is_lines saying || notes.given.lines)
+lines_step notes SaysLines = refl
+lines_step notes saying = refl
+
+graph_step : (notes : Notes) (saying : Saying) → (with_saying notes saying).given.graph ≡ (is_graph saying || notes.given.graph)
+graph_step notes SaysGraph = refl
+graph_step notes saying = refl
+
 mode_noted : (said : List Saying) → (notes_of said).given.mode ≡ last_given mode_of_saying said
 mode_noted said = last_noted (λ n. n.given.mode) mode_of_saying refl mode_step said
 
@@ -136,6 +148,15 @@ why_noted said = any_noted (λ n. n.given.why) is_why refl why_step said
 
 co_noted : (said : List Saying) → (notes_of said).given.co ≡ list_any is_co said
 co_noted said = any_noted (λ n. n.given.co) is_co refl co_step said
+
+exec_noted : (said : List Saying) → (notes_of said).given.exec ≡ list_any is_exec said
+exec_noted said = any_noted (λ n. n.given.exec) is_exec refl exec_step said
+
+lines_noted : (said : List Saying) → (notes_of said).given.lines ≡ list_any is_lines said
+lines_noted said = any_noted (λ n. n.given.lines) is_lines refl lines_step said
+
+folder_noted : (said : List Saying) → (notes_of said).given.folder ≡ last_given folder_of_saying said
+folder_noted said = last_noted (λ n. n.given.folder) folder_of_saying refl folder_step said
 
 -- the place of the first operand of edges is noted
 operand_noted : (said : List Saying) → (notes_of said).given.operand ≡ first_given operand_of_saying said
@@ -203,17 +224,20 @@ all_noted said =
       value_noted (λ n. n.given.threads) threads_of_saying threads_step said,
       last_noted (λ n. n.given.accesses) accesses_of_saying refl accesses_step said,
       last_noted (λ n. n.given.after) after_of_saying refl after_step said,
-      last_noted (λ n. n.given.folder) folder_of_saying refl folder_step said,
+      folder_noted said,
       last_noted (λ n. n.given.count) count_of_saying refl count_step said,
       last_noted (λ n. n.given.test) test_of_saying refl test_step said,
       last_noted (λ n. n.given.execution) execution_of_saying refl execution_step said,
       why_noted said,
       co_noted said,
+      exec_noted said,
+      lines_noted said,
+      any_noted (λ n. n.given.graph) is_graph refl graph_step said,
     ) refl
 
 -- and what bears on the fault of the next word
 before_all : (said : List Saying) → before_noted (notes_of said) ≡ before_of said
-before_all said = rw (taken_noted said, mode_noted said, why_noted said, co_noted said) refl
+before_all said = rw (taken_noted said, mode_noted said, why_noted said, co_noted said, exec_noted said, folder_noted said, lines_noted said) refl
 
 notes_more : (notes : Notes) (xs ys : List Saying) → notes_with notes (xs ++ ys) ≡ notes_with (notes_with notes xs) ys
 notes_more notes [] ys = refl

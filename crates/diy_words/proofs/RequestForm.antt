@@ -20,10 +20,10 @@ use Rattle.diy_words.specs.declared.options.Tool.TheVariants as tools
 use Rattle.diy_words.specs.declared.options.OptionName.TheVariants as opts
 use Rattle.diy_words.specs.{TestNames.is_name, NumberWords.is_number, NumberWords.number_to}
 use Rattle.diy_words.specs.Parts.{Part, Alone, Valued, Unvalued, waiting_at, alone_before, parts_from, parts_of, option_named, tool_named, mode_named}
-use Rattle.diy_words.specs.Sayings.{Saying, SaysName, SaysRelaxes, SaysPlace, SaysSize, SaysExact, SaysWhy, SaysCo, SaysThreads, SaysAccesses, SaysFolder, SaysCount, SaysTest, SaysExecution, Before, usage_fault, why_said, co_said, dashed_said, operand_said, relaxes_said, number_said, after_said, cycle_word_said, said_by, arch_said, mode_said, edges_said, begins_option}
+use Rattle.diy_words.specs.Sayings.{Saying, SaysName, SaysRelaxes, SaysPlace, SaysSize, SaysExact, SaysWhy, SaysCo, SaysExec, SaysLines, SaysGraph, SaysThreads, SaysAccesses, SaysFolder, SaysCount, SaysTest, SaysExecution, Before, usage_fault, why_said, co_said, exec_said, lines_said, folder_said, dashed_said, operand_said, relaxes_said, number_said, after_said, cycle_word_said, said_by, arch_said, mode_said, edges_said, begins_option}
 use Rattle.diy_words.specs.Gathered.{Gathered, gathered_of, last_given, name_of_saying, size_of_saying, folder_of_saying, count_of_saying, test_of_saying, execution_of_saying}
 use Rattle.diy_words.specs.SaidInOrder.{before_of, said_in, sayings, said_first, said_all}
-use Rattle.diy_words.specs.Requests.{Task, AsksTest, AsksWhy, AsksCoherence, AsksName, AsksList, AsksFamilies, AsksCross, AsksDemo, AsksCheck, NameTask, ListTask, FamiliesTask, list_with, families_with, cross_with, demo_with, check_with, choice_count, mode_or_accept, asks, test_with, why_with, coherence_with, why_asked, coherence_asked, test_asked, one_asked, diyone_asked, asked_for, norm_asked, tool_asked, said_asked, asked_of}
+use Rattle.diy_words.specs.Requests.{Task, AsksTest, AsksWhy, AsksCoherence, AsksName, AsksList, AsksFamilies, AsksCross, AsksDemo, AsksCheck, AsksExecution, AsksCoherenceExecution, AsksLines, AsksGraph, NameTask, ListTask, FamiliesTask, list_with, families_with, cross_with, demo_with, check_with, choice_count, mode_or_accept, asks, test_with, why_with, coherence_with, why_asked, coherence_asked, test_asked, test_or_execution, coherence_or_execution, one_asked, diyone_asked, diy_asked, asked_for, norm_asked, tool_asked, said_asked, asked_of}
 use Rattle.arrayvec.specs.ArrayString.{ArrayString}
 use Rattle.diy_words.specs.Given.{GivesTask, HasForm, WithinWords, list_kept}
 
@@ -54,33 +54,37 @@ edges_form : (count at : ℕ) (es : Option (List Edge)) → SaysForm count (edge
 edges_form count at (Some es) = tt
 edges_form count at None = tt
 
-dashed_form : (count at : ℕ) (b : Bool) → SaysForm count (if b then Ok SaysExact else usage_fault at UnknownOption)
+dashed_form : (count at : ℕ) (b : Bool) → SaysForm count (if b then Ok SaysGraph else usage_fault at UnknownOption)
 dashed_form count at true = tt
 dashed_form count at false = tt
 
-why_form : (count at : ℕ) (b : Bool) → SaysForm count (if b then usage_fault at ExcludedOption else Ok SaysWhy)
-why_form count at true = tt
-why_form count at false = tt
+-- an option that takes no value, where it isn't excluded
+option_form : (count at : ℕ) (saying : Saying) (b : Bool) → IsFit count saying → SaysForm count (if b then usage_fault at ExcludedOption else Ok saying)
+option_form count at saying true h = tt
+option_form count at saying false h = h
 
-co_form : (count at : ℕ) (b : Bool) → SaysForm count (if b then usage_fault at ExcludedOption else Ok SaysCo)
-co_form count at true = tt
-co_form count at false = tt
+special_form : (count : ℕ) (before : Before) (at : ℕ) (why co exec : Bool)
+    → SaysForm count (if why then why_said before at else if co then co_said before at else if exec then exec_said before at else usage_fault at UnknownOption)
+special_form count before at true co exec = option_form count at SaysWhy (before.obs || before.co || before.exec) tt
+special_form count before at false true exec = option_form count at SaysCo (before.obs || before.why) tt
+special_form count before at false false true = option_form count at SaysExec before.why tt
+special_form count before at false false false = tt
 
-special_form : (count : ℕ) (before : Before) (at : ℕ) (why co : Bool)
-    → SaysForm count (if why then why_said before at else if co then co_said before at else usage_fault at UnknownOption)
-special_form count before at true co = why_form count at (before.obs || before.co)
-special_form count before at false true = co_form count at (before.obs || before.why)
-special_form count before at false false = tt
+listing_form : (count : ℕ) (before : Before) (at : ℕ) (exact lines : Bool)
+    → SaysForm count (if exact then Ok SaysExact else if lines then lines_said before at else usage_fault at UnknownOption)
+listing_form count before at true lines = tt
+listing_form count before at false true = option_form count at SaysLines before.folder tt
+listing_form count before at false false = tt
 
 alone_dashed : (count : ℕ) (tool : Tool) (before : Before) (at : ℕ) (text : List ℕ) → SaysForm count (dashed_said tool before at text)
-alone_dashed count tools.DiyOne before at text = special_form count before at (bytes_eq text (codes "-why")) (bytes_eq text (codes "-co"))
-alone_dashed count tools.Diy before at text = dashed_form count at (bytes_eq text (codes "-exact"))
+alone_dashed count tools.DiyOne before at text = special_form count before at (bytes_eq text (codes "-why")) (bytes_eq text (codes "-co")) (bytes_eq text (codes "-exec"))
+alone_dashed count tools.Diy before at text = listing_form count before at (bytes_eq text (codes "-exact")) (bytes_eq text (codes "-list"))
 alone_dashed count tools.Norm before at text = tt
 alone_dashed count tools.Classify before at text = tt
 alone_dashed count tools.Msum before at text = tt
 alone_dashed count tools.Cross before at text = tt
 alone_dashed count tools.Demo before at text = tt
-alone_dashed count tools.Check before at text = tt
+alone_dashed count tools.Check before at text = dashed_form count at (bytes_eq text (codes "-dot"))
 
 relaxes_form : (count : ℕ) (says : List (List Edge) → Saying) (at : ℕ) (relaxes : Result (List (List Edge)) RelaxError) → ((x : List (List Edge)) → IsFit count (says x))
     → SaysForm count (relaxes_said says at relaxes)
@@ -147,6 +151,10 @@ folder_form count at text true true e = grind (arith, nat_tests, e)
 folder_form count at text true false e = tt
 folder_form count at text false q e = tt
 
+file_folder_form : (count at : ℕ) (text : List ℕ) (b : Bool) → SaysForm count (if b then usage_fault at ExcludedOption else folder_said (at + 1) text)
+file_folder_form count at text true = tt
+file_folder_form count at text false = folder_form count (at + 1) text (nat_lt 0 (length text)) (nat_le (length text) MAX_FOLDER) refl
+
 name_form : (count at : ℕ) (text : List ℕ) (b : Bool) → is_name text ≡ b → SaysForm count (if b then Ok (SaysName text) else usage_fault at BadName)
 name_form count at text true e = e
 name_form count at text false e = tt
@@ -180,7 +188,7 @@ said_form count tool before (Valued opts.Size at value) h = said_number_form cou
 said_form count tool before (Valued opts.Nprocs at value) h = said_number_form count SaysThreads _ MAX_EDGES value (λ n h. tt)
 said_form count tool before (Valued opts.Accesses at value) h = said_number_form count SaysAccesses _ MAX_EDGES value (λ n h. tt)
 said_form count tool before (Valued opts.After at value) h = after_form count _ (edges_of BlanksAndCommas value)
-said_form count tool before (Valued opts.Folder at value) h = folder_form count _ value (nat_lt 0 (length value)) (nat_le (length value) MAX_FOLDER) refl
+said_form count tool before (Valued opts.Folder at value) h = file_folder_form count at value before.lines
 said_form count tool before (Unvalued option at) h = tt
 
 -- so have all that words say, where none is faulty
@@ -265,17 +273,29 @@ IsNamedSo count (AsksList asked) = (asked.size ≤ MAX_EDGES) × IfSome asked.fo
 IsNamedSo count (AsksCross asked) = IfSome asked.folder (λ folder. length folder ≤ MAX_FOLDER)
 IsNamedSo count (AsksDemo asked) = (1 ≤ asked.count) × (asked.count ≤ MAX_TESTS)
 IsNamedSo count (AsksCheck asked) = (asked.test < count) × (asked.execution < count)
+IsNamedSo count (AsksExecution asked) = IfSome asked.name (λ name. is_name name ≡ true)
+IsNamedSo count (AsksCoherenceExecution asked) = IfSome asked.name (λ name. is_name name ≡ true)
+IsNamedSo count (AsksLines asked) = (asked.size ≤ MAX_EDGES) × IfSome asked.folder (λ folder. length folder ≤ MAX_FOLDER)
+IsNamedSo count (AsksGraph asked) = (asked.test < count) × (asked.execution < count)
 IsNamedSo count _ = Unit {0}
 
 abbrev IsTaskSo : ℕ → Result Task Usage → Type 0
 IsTaskSo count (Ok asked) = IsNamedSo count asked
 IsTaskSo count (Err usage) = Unit {0}
 
+-- what is asked for has its form, whichever of two requests it is
+either_form : {X : Type 0} (count : ℕ) (request other : X → Task) (asked : Result X Usage) (b : Bool)
+    → IfOk asked (λ x. IsNamedSo count (request x) × IsNamedSo count (other x)) → IsTaskSo count (if b then asks request asked else asks other asked)
+either_form count request other (Ok x) true h = h.0
+either_form count request other (Ok x) false h = h.1
+either_form count request other (Err usage) true h = tt
+either_form count request other (Err usage) false h = tt
+
 test_form : (count : ℕ) (arch : Option ArchName) (name : Option (List ℕ)) (mode : ObsMode) (edges : List Edge) (folder : Option (List ℕ)) → IfSome name (λ name. is_name name ≡ true)
-    → IsTaskSo count (asks AsksTest (test_with count arch name mode edges folder))
+    → IfOk (test_with count arch name mode edges folder) (λ asked. IsNamedSo count (AsksExecution asked) × IsNamedSo count (AsksTest asked))
 test_form count None name mode edges folder h = tt
 test_form count (Some arch) name mode edges (Some folder) h = tt
-test_form count (Some arch) name mode edges None h = h
+test_form count (Some arch) name mode edges None h = (h, h)
 
 explained_form : (count : ℕ) (arch : Option ArchName) (name : Option (List ℕ)) (edges : List Edge) (folder : Option (List ℕ)) → IfSome name (λ name. is_name name ≡ true)
     → IfSome folder (λ folder. length folder ≤ MAX_FOLDER) → IsTaskSo count (asks AsksWhy (why_with count arch name edges folder))
@@ -283,20 +303,21 @@ explained_form count None name edges folder h k = tt
 explained_form count (Some arch) name edges folder h k = (h, k)
 
 coherence_form : (count : ℕ) (arch : Option ArchName) (name : Option (List ℕ)) (edges : List Edge) (folder : Option (List ℕ)) → IfSome name (λ name. is_name name ≡ true)
-    → IsTaskSo count (asks AsksCoherence (coherence_with count arch name edges folder))
+    → IfOk (coherence_with count arch name edges folder) (λ asked. IsNamedSo count (AsksCoherenceExecution asked) × IsNamedSo count (AsksCoherence asked))
 coherence_form count None name edges folder h = tt
 coherence_form count (Some arch) name edges (Some folder) h = tt
-coherence_form count (Some arch) name edges None h = h
+coherence_form count (Some arch) name edges None h = (h, h)
 
 norm_form : (count : ℕ) (asked : Result NameTask Usage) → IsTaskSo count (asks AsksName asked)
 norm_form count (Ok asked) = tt
 norm_form count (Err usage) = tt
 
 list_form : (count : ℕ) (arch : Option ArchName) (relaxes : Option (List (List Edge))) (size : ℕ) (exact : Bool) (threads : ℕ) (accesses : Option ℕ) (mode : ObsMode) (after : Option (List Edge)) (folder : Option (List ℕ))
-    → size ≤ MAX_EDGES → IfSome folder (λ folder. length folder ≤ MAX_FOLDER) → IsTaskSo count (asks AsksList (list_with count arch relaxes size exact threads accesses mode after folder))
+    → size ≤ MAX_EDGES → IfSome folder (λ folder. length folder ≤ MAX_FOLDER)
+    → IfOk (list_with count arch relaxes size exact threads accesses mode after folder) (λ asked. IsNamedSo count (AsksLines asked) × IsNamedSo count (AsksList asked))
 list_form count None relaxes size exact threads accesses mode after folder h k = tt
 list_form count (Some arch) None size exact threads accesses mode after folder h k = tt
-list_form count (Some arch) (Some relaxes) size exact threads accesses mode after folder h k = (h, k)
+list_form count (Some arch) (Some relaxes) size exact threads accesses mode after folder h k = ((h, k), (h, k))
 
 families_form : (count : ℕ) (asked : Result FamiliesTask Usage) → IsTaskSo count (asks AsksFamilies asked)
 families_form count (Ok asked) = tt
@@ -317,18 +338,22 @@ demo_form count (Some arch) None h = tt
 demo_form count (Some arch) (Some tests) h = h
 
 check_form : (count : ℕ) (arch : Option ArchName) (test execution : Option ℕ) → IfSome test (λ at. at < count) → IfSome execution (λ at. at < count)
-    → IsTaskSo count (asks AsksCheck (check_with count arch test execution))
+    → IfOk (check_with count arch test execution) (λ asked. IsNamedSo count (AsksGraph asked) × IsNamedSo count (AsksCheck asked))
 check_form count None test execution h k = tt
-check_form count (Some arch) (Some test) (Some execution) h k = (h, k)
+check_form count (Some arch) (Some test) (Some execution) h k = ((h, k), (h, k))
 check_form count (Some arch) (Some test) None h k = tt
 check_form count (Some arch) None execution h k = tt
 
 diyone_form : (count : ℕ) (given : Gathered) → AreFit count given → IsTaskSo count (diyone_asked count given)
 diyone_form count given f = of_why given.why
   where
-    of_co : (b : Bool) → IsTaskSo count (if b then asks AsksCoherence (coherence_asked count given) else asks AsksTest (test_asked count given))
-    of_co true = coherence_form count given.arch given.name given.edges given.folder f.0
-    of_co false = test_form count given.arch given.name (mode_or_accept given.mode) given.edges given.folder f.0
+    of_co : (b : Bool) → IsTaskSo count (if b then coherence_or_execution count given else test_or_execution count given)
+    of_co true =
+        either_form count AsksCoherenceExecution AsksCoherence (coherence_asked count given) given.exec
+        (coherence_form count given.arch given.name given.edges given.folder f.0)
+    of_co false =
+        either_form count AsksExecution AsksTest (test_asked count given) given.exec
+        (test_form count given.arch given.name (mode_or_accept given.mode) given.edges given.folder f.0)
 
     of_why : (b : Bool) → IsTaskSo count (if b then asks AsksWhy (why_asked count given) else one_asked count given)
     of_why true = explained_form count given.arch given.name given.edges given.folder f.0 f.2
@@ -338,13 +363,16 @@ tool_form : (tool : Tool) (count : ℕ) (given : Gathered) → AreFit count give
     → IsTaskSo count (tool_asked tool count given)
 tool_form tools.DiyOne count given f = diyone_form count given f
 tool_form tools.Diy count given f =
-    list_form count given.arch given.relaxes given.size given.exact given.threads given.accesses (mode_or_accept given.mode) given.after given.folder f.1 f.2
+    either_form count AsksLines AsksList (diy_asked count given) given.lines
+    (list_form count given.arch given.relaxes given.size given.exact given.threads given.accesses (mode_or_accept given.mode) given.after given.folder f.1 f.2)
 tool_form tools.Norm count given f = norm_form count (norm_asked count given)
 tool_form tools.Classify count given f = families_form count (families_with count given.arch given.files)
 tool_form tools.Msum count given f = tt
 tool_form tools.Cross count given f = cross_form count given.arch (mode_or_accept given.mode) given.folder given.places f.2
 tool_form tools.Demo count given f = demo_form count given.arch given.count f.3
-tool_form tools.Check count given f = check_form count given.arch given.test given.execution f.4 f.5
+tool_form tools.Check count given f =
+    either_form count AsksGraph AsksCheck (check_with count given.arch given.test given.execution) given.graph
+    (check_form count given.arch given.test given.execution f.4 f.5)
 
 words_said_form : (tool : Tool) (count : ℕ) (said : Result (List Saying) Usage) → AllForm count said → IsTaskSo count (said_asked tool count said)
 words_said_form tool count (Err usage) h = tt
@@ -389,14 +417,22 @@ request_form words result h = of_asked result (asked_of words) (words_form words
       folder_so request.folder (subst (λ (f : Option (List ℕ)). IfSome f (λ folder. length folder ≤ MAX_FOLDER)) (sym h.3) e.1),
     )
     of_asked (Ok (requests.Coherence request)) (Ok (AsksCoherence asked)) e h = named_so request.name (subst (λ (name : Option (List ℕ)). IfSome name (λ name. is_name name ≡ true)) (sym h.1) e)
+    of_asked (Ok (requests.Execution request)) (Ok (AsksExecution asked)) e h = named_so request.name (subst (λ (name : Option (List ℕ)). IfSome name (λ name. is_name name ≡ true)) (sym h.1) e)
+    of_asked (Ok (requests.CoherenceExecution request)) (Ok (AsksCoherenceExecution asked)) e h =
+        named_so request.name (subst (λ (name : Option (List ℕ)). IfSome name (λ name. is_name name ≡ true)) (sym h.1) e)
     of_asked (Ok (requests.List request)) (Ok (AsksList asked)) e h = listed_so request asked h e
+    of_asked (Ok (requests.Lines request)) (Ok (AsksLines asked)) e h = listed_so request asked h e
     of_asked (Ok (requests.Cross request)) (Ok (AsksCross asked)) e h = folder_so request.folder (subst (λ (f : Option (List ℕ)). IfSome f (λ folder. length folder ≤ MAX_FOLDER)) (sym h.2) e)
     of_asked (Ok (requests.Demo request)) (Ok (AsksDemo asked)) e h = subst (λ (d : Demo). (1 ≤ d.count) × (d.count ≤ MAX_TESTS)) (sym h) e
     of_asked (Ok (requests.Name request)) asked e h = tt
     of_asked (Ok (requests.Families arch)) asked e h = tt
     of_asked (Ok requests.Sum) asked e h = tt
     of_asked (Ok (requests.Check request)) asked e h = tt
+    of_asked (Ok (requests.Graph request)) asked e h = tt
     of_asked (Ok (requests.Test request)) asked e h = absurd h
+    of_asked (Ok (requests.Execution request)) asked e h = absurd h
+    of_asked (Ok (requests.CoherenceExecution request)) asked e h = absurd h
+    of_asked (Ok (requests.Lines request)) asked e h = absurd h
     of_asked (Ok (requests.Why request)) asked e h = absurd h
     of_asked (Ok (requests.Coherence request)) asked e h = absurd h
     of_asked (Ok (requests.List request)) asked e h = absurd h
@@ -408,12 +444,15 @@ request_form words result h = of_asked result (asked_of words) (words_form words
 pub request_within : (words : List (List ℕ)) (result : Result Request Usage) → GivesTask result (asked_of words) → IfOk result (WithinWords (length words))
 request_within words result h = of_asked result (asked_of words) (words_form words) h
   where
+    within : (request asked : Check) → request ≡ asked → (asked.test < length words) × (asked.execution < length words)
+        → (request.test < length words) × (request.execution < length words)
+    within request asked h e = subst (λ (a : Check). (a.test < length words) × (a.execution < length words)) (sym h) e
+
     of_asked : (result : Result Request Usage) (asked : Result Task Usage) → IsTaskSo (length words) asked → GivesTask result asked
         → IfOk result (WithinWords (length words))
-    of_asked (Ok (requests.Check request)) (Ok (AsksCheck asked)) e h = (
-      subst (λ n. n < length words) (ap (λ (a : Check). a.test) (sym h)) e.0,
-      subst (λ n. n < length words) (ap (λ (a : Check). a.execution) (sym h)) e.1,
-    )
+    of_asked (Ok (requests.Check request)) (Ok (AsksCheck asked)) e h = within request asked h e
+    of_asked (Ok (requests.Graph request)) (Ok (AsksGraph asked)) e h = within request asked h e
     of_asked (Ok (requests.Check request)) asked e h = absurd h
+    of_asked (Ok (requests.Graph request)) asked e h = absurd h
     of_asked (Ok request) asked e h = tt
     of_asked (Err usage) asked e h = tt

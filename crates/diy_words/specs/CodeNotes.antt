@@ -37,6 +37,9 @@ code_notes notes = record {
     execution = notes.execution;
     why = notes.why;
     co = notes.co;
+    exec = notes.exec;
+    lines = notes.lines;
+    graph = notes.graph;
   };
   edges = notes.edges;
   choices = notes.choices;

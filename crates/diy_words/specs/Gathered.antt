@@ -2,7 +2,7 @@
 use Rattle.std.specs.Prelude.{ℕ, Bool, true, false, List, [], ◌∷◌, ◌++◌, Option, Some, None}
 use Rattle.std.specs.{List.list_any, Option.option_or, Option.unwrap_or}
 use Rattle.relax_edges.specs.declared.{kinds.ArchName.ArchName, kinds.ObsMode.ObsMode, edge.Edge.Edge}
-use Rattle.diy_words.specs.Sayings.{Saying, SaysArch, SaysName, SaysMode, SaysFrom, SaysEdges, SaysRelaxes, SaysSize, SaysExact, SaysWhy, SaysCo, SaysThreads, SaysAccesses, SaysAfter, SaysFolder, SaysFile, SaysTest, SaysExecution, SaysPlace, SaysCount}
+use Rattle.diy_words.specs.Sayings.{Saying, SaysArch, SaysName, SaysMode, SaysFrom, SaysEdges, SaysRelaxes, SaysSize, SaysExact, SaysWhy, SaysCo, SaysExec, SaysLines, SaysGraph, SaysThreads, SaysAccesses, SaysAfter, SaysFolder, SaysFile, SaysTest, SaysExecution, SaysPlace, SaysCount}
 
 -- the architecture that is given
 abbrev pub arch_of_saying : Saying → Option ArchName
@@ -74,6 +74,21 @@ abbrev pub is_co : Saying → Bool
 is_co SaysCo = true
 is_co _ = false
 
+-- that `-exec` is given
+abbrev pub is_exec : Saying → Bool
+is_exec SaysExec = true
+is_exec _ = false
+
+-- that `-list` is given
+abbrev pub is_lines : Saying → Bool
+is_lines SaysLines = true
+is_lines _ = false
+
+-- that `-dot` is given
+abbrev pub is_graph : Saying → Bool
+is_graph SaysGraph = true
+is_graph _ = false
+
 -- how many tests demo makes
 abbrev pub count_of_saying : Saying → Option ℕ
 count_of_saying (SaysCount count) = Some count
@@ -141,6 +156,9 @@ pub record Gathered : Type 0 where
   pub execution : Option ℕ
   pub why : Bool
   pub co : Bool
+  pub exec : Bool
+  pub lines : Bool
+  pub graph : Bool
 
 -- what is gathered of all that words say: the last that was given, but of the operands of edges the place of the first, and of
 -- edges, places and files all; a cycle of a listing has at most 6 edges and 4 threads unless words say otherwise
@@ -166,4 +184,7 @@ gathered_of said = record {
   execution = last_given execution_of_saying said;
   why = list_any is_why said;
   co = list_any is_co said;
+  exec = list_any is_exec said;
+  lines = list_any is_lines said;
+  graph = list_any is_graph said;
 }

@@ -7,9 +7,10 @@ use Rattle.diy_words.specs.declared.{request.Diy.Diy, request.TheConstants.MAX_T
 use Rattle.diy_words.specs.declared.{usage.Usage.Usage}
 use Rattle.diy_io.specs.declared.shelf.TheConstants.{MAX_FOLDER}
 use Rattle.diy_words.specs.declared.request.Request.TheVariants as requests
+use Rattle.diy_words.specs.declared.{request.DiyOne.DiyOne, request.Coherence.Coherence}
 use Rattle.diy_words.specs.declared.request.Sought.TheVariants as sought
 use Rattle.diy_words.specs.TestNames.{is_name}
-use Rattle.diy_words.specs.Requests.{Task, AsksTest, AsksWhy, AsksCoherence, AsksName, AsksList, AsksFamilies, AsksSum, AsksCross, AsksDemo, AsksCheck, ListTask, OfEdges, OfName, OfLines}
+use Rattle.diy_words.specs.Requests.{Task, AsksTest, AsksWhy, AsksCoherence, AsksName, AsksList, AsksFamilies, AsksSum, AsksCross, AsksDemo, AsksCheck, AsksExecution, AsksCoherenceExecution, AsksLines, AsksGraph, TestTask, CoherenceTask, ListTask, OfEdges, OfName, OfLines}
 use Rattle.diy_words.specs.Requests as req
 
 -- the request holds the cycle that is sought
@@ -33,23 +34,35 @@ list_kept request = record {
   folder = option_map (λ folder. folder.now) request.folder;
 }
 
+-- a request holds what is asked of the test of a cycle
+abbrev pub HoldsTest : DiyOne → TestTask → Type 0
+HoldsTest request asked =
+    (request.arch ≡ asked.arch) × (option_map (λ name. name.bytes) request.name ≡ asked.name) × (request.mode ≡ asked.mode) × (request.edges ≡ kept_edges asked.edges)
+
+-- and of a coherence test
+abbrev pub HoldsCoherence : Coherence → CoherenceTask → Type 0
+HoldsCoherence request asked =
+    (request.arch ≡ asked.arch) × (option_map (λ name. name.bytes) request.name ≡ asked.name) × (request.edges ≡ kept_edges asked.edges)
+
 -- the request holds what is asked for
 abbrev pub HoldsTask : Request → Task → Type 0
-HoldsTask (requests.Test request) (AsksTest asked) =
-    (request.arch ≡ asked.arch) × (option_map (λ name. name.bytes) request.name ≡ asked.name) × (request.mode ≡ asked.mode) × (request.edges ≡ kept_edges asked.edges)
+HoldsTask (requests.Test request) (AsksTest asked) = HoldsTest request asked
+HoldsTask (requests.Execution request) (AsksExecution asked) = HoldsTest request asked
 HoldsTask (requests.Why request) (AsksWhy asked) =
     (request.arch ≡ asked.arch) × (option_map (λ name. name.bytes) request.name ≡ asked.name) × (request.edges ≡ kept_edges asked.edges)
     × (option_map (λ folder. folder.now) request.folder ≡ asked.folder)
-HoldsTask (requests.Coherence request) (AsksCoherence asked) =
-    (request.arch ≡ asked.arch) × (option_map (λ name. name.bytes) request.name ≡ asked.name) × (request.edges ≡ kept_edges asked.edges)
+HoldsTask (requests.Coherence request) (AsksCoherence asked) = HoldsCoherence request asked
+HoldsTask (requests.CoherenceExecution request) (AsksCoherenceExecution asked) = HoldsCoherence request asked
 HoldsTask (requests.Name request) (AsksName asked) = (request.arch ≡ asked.arch) × IsSought request.cycle asked.cycle
 HoldsTask (requests.List request) (AsksList asked) = list_kept request ≡ asked
+HoldsTask (requests.Lines request) (AsksLines asked) = list_kept request ≡ asked
 HoldsTask (requests.Families arch) (AsksFamilies asked) = arch ≡ asked.arch
 HoldsTask requests.Sum AsksSum = Unit {0}
 HoldsTask (requests.Cross request) (AsksCross asked) =
     (request.arch ≡ asked.arch) × (request.mode ≡ asked.mode) × (option_map (λ folder. folder.now) request.folder ≡ asked.folder)
 HoldsTask (requests.Demo request) (AsksDemo asked) = request ≡ asked
 HoldsTask (requests.Check request) (AsksCheck asked) = request ≡ asked
+HoldsTask (requests.Graph request) (AsksGraph asked) = request ≡ asked
 HoldsTask _ _ = ⊥
 
 -- a call gives the request that words make, or their first fault
@@ -67,7 +80,10 @@ HasForm (requests.Test request) = IfSome request.name (λ name. is_name name.byt
 HasForm (requests.Why request) =
     IfSome request.name (λ name. is_name name.bytes ≡ true) × ForSome request.folder (λ folder. length folder.now ≤ MAX_FOLDER)
 HasForm (requests.Coherence request) = IfSome request.name (λ name. is_name name.bytes ≡ true)
+HasForm (requests.Execution request) = IfSome request.name (λ name. is_name name.bytes ≡ true)
+HasForm (requests.CoherenceExecution request) = IfSome request.name (λ name. is_name name.bytes ≡ true)
 HasForm (requests.List request) = (request.limits.size ≤ MAX_EDGES) × ForSome request.folder (λ folder. length folder.now ≤ MAX_FOLDER)
+HasForm (requests.Lines request) = (request.limits.size ≤ MAX_EDGES) × ForSome request.folder (λ folder. length folder.now ≤ MAX_FOLDER)
 HasForm (requests.Cross request) = ForSome request.folder (λ folder. length folder.now ≤ MAX_FOLDER)
 HasForm (requests.Demo request) = (1 ≤ request.count) × (request.count ≤ MAX_TESTS)
 HasForm _ = Unit {0}
@@ -75,4 +91,5 @@ HasForm _ = Unit {0}
 -- the files of mcheck7 are words among so many
 abbrev pub WithinWords : ℕ → Request → Type 0
 WithinWords count (requests.Check request) = (request.test < count) × (request.execution < count)
+WithinWords count (requests.Graph request) = (request.test < count) × (request.execution < count)
 WithinWords count _ = Unit {0}

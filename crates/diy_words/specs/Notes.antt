@@ -7,7 +7,7 @@ use Rattle.edges_from_text.specs.declared.list.EdgeList.{EdgeList}
 use Rattle.edges_from_text.specs.KeptEdges.{kept_edges, edges_added}
 use Rattle.diy_words.specs.declared.{options.Tool.Tool, request.TheConstants.MAX_CHOICES, usage.Usage.Usage}
 use Rattle.diy_words.specs.{Parts.Part, Gathered.Gathered, Gathered.gathered_of}
-use Rattle.diy_words.specs.Sayings.{Saying, SaysArch, SaysName, SaysMode, SaysFrom, SaysEdges, SaysRelaxes, SaysSize, SaysExact, SaysWhy, SaysCo, SaysThreads, SaysAccesses, SaysAfter, SaysFolder, SaysLog, SaysFile, SaysTest, SaysExecution, SaysPlace, SaysCount, Before, said_by}
+use Rattle.diy_words.specs.Sayings.{Saying, SaysArch, SaysName, SaysMode, SaysFrom, SaysEdges, SaysRelaxes, SaysSize, SaysExact, SaysWhy, SaysCo, SaysExec, SaysLines, SaysGraph, SaysThreads, SaysAccesses, SaysAfter, SaysFolder, SaysLog, SaysFile, SaysTest, SaysExecution, SaysPlace, SaysCount, Before, said_by}
 
 -- what is gathered so far, but for edges, places and files, of which nothing is gathered here; the edges, as many as a list holds; in
 -- how many ways a relaxation can be chosen for each place, up to one more than may be; and how many operands were taken, of those
@@ -40,6 +40,9 @@ with_saying notes (SaysSize size) = record notes { given = record notes.given { 
 with_saying notes SaysExact = record notes { given = record notes.given { exact = true } }
 with_saying notes SaysWhy = record notes { given = record notes.given { why = true } }
 with_saying notes SaysCo = record notes { given = record notes.given { co = true } }
+with_saying notes SaysExec = record notes { given = record notes.given { exec = true } }
+with_saying notes SaysLines = record notes { given = record notes.given { lines = true } }
+with_saying notes SaysGraph = record notes { given = record notes.given { graph = true } }
 with_saying notes (SaysThreads threads) = record notes { given = record notes.given { threads = threads } }
 with_saying notes (SaysAccesses accesses) = record notes { given = record notes.given { accesses = Some accesses } }
 with_saying notes (SaysAfter cycle) = record notes { given = record notes.given { after = Some cycle } }
@@ -67,7 +70,15 @@ notes_of = notes_with no_notes
 
 -- what the notes hold of what bears on the fault of the next word
 abbrev pub before_noted : Notes → Before
-before_noted notes = record { taken = notes.taken; obs = is_some notes.given.mode; why = notes.given.why; co = notes.given.co }
+before_noted notes = record {
+  taken = notes.taken;
+  obs = is_some notes.given.mode;
+  why = notes.given.why;
+  co = notes.given.co;
+  exec = notes.given.exec;
+  folder = is_some notes.given.folder;
+  lines = notes.given.lines;
+}
 
 -- what the parts of the words say, one after another, after words of which so much is noted
 abbrev pub said_noted : Tool → Notes → List Part → List (Result Saying Usage)

@@ -9,7 +9,7 @@ use Rattle.diy_words.specs.declared.options.Tool.TheVariants as tools
 use Rattle.diy_words.specs.{Parts.parts_of, Parts.tool_named, Sayings.Saying, Gathered.Gathered, Gathered.gathered_of, SaidInOrder.sayings}
 use Rattle.diy_words.specs.{SaidInOrder.said_all}
 
--- what diyone7 is asked for without `-why` and `-co`: a test, under a name that is given or that of its cycle
+-- what diyone7 is asked for without `-why` and `-co`: a test, or its execution, under a name that is given or that of its cycle
 pub record TestTask : Type 0 where
   pub arch : ArchName
   pub name : Option (List ℕ)
@@ -71,8 +71,9 @@ pub record FamiliesTask : Type 0 where
 
 -- what words ask for: a test; why a cycle needs an observer; a coherence test; the names of cycles; the tests of a listing; the
 -- names of cycles by their families; the sum of the logs that the words after the first name, or of the input where there is none;
--- the tests of the choices of relaxations; some number of tests; what is so of an execution of a test. What demo and mcheck7 are
--- asked for is as the request holds it
+-- the tests of the choices of relaxations; some number of tests; what is so of an execution of a test. In place of a test, the
+-- execution that it asks for; in place of the tests of a listing, the lines of its cycles; in place of what is so of an execution, a
+-- picture of it. What demo and mcheck7 are asked for is as the request holds it
 pub data Task : Type 0 where
   AsksTest : TestTask → Task
   AsksWhy : WhyTask → Task
@@ -84,6 +85,10 @@ pub data Task : Type 0 where
   AsksCross : CrossTask → Task
   AsksDemo : Demo → Task
   AsksCheck : Check → Task
+  AsksExecution : TestTask → Task
+  AsksCoherenceExecution : CoherenceTask → Task
+  AsksLines : ListTask → Task
+  AsksGraph : Check → Task
 
 -- in how many ways a relaxation can be chosen for each place: one way for no place
 abbrev pub choice_count : List (List (List Edge)) → ℕ
@@ -168,9 +173,18 @@ why_asked count given = why_with count given.arch given.name given.edges given.f
 abbrev pub coherence_asked : ℕ → Gathered → Result CoherenceTask Usage
 coherence_asked count given = coherence_with count given.arch given.name given.edges given.folder
 
+-- a test, or in its place the execution that it asks for
+abbrev pub test_or_execution : ℕ → Gathered → Result Task Usage
+test_or_execution count given = if given.exec then asks AsksExecution (test_asked count given) else asks AsksTest (test_asked count given)
+
+-- the same of a coherence test
+abbrev pub coherence_or_execution : ℕ → Gathered → Result Task Usage
+coherence_or_execution count given =
+    if given.exec then asks AsksCoherenceExecution (coherence_asked count given) else asks AsksCoherence (coherence_asked count given)
+
 -- the request of diyone7 where `-why` isn't given
 abbrev pub one_asked : ℕ → Gathered → Result Task Usage
-one_asked count given = if given.co then asks AsksCoherence (coherence_asked count given) else asks AsksTest (test_asked count given)
+one_asked count given = if given.co then coherence_or_execution count given else test_or_execution count given
 
 -- the request of diyone7
 abbrev pub diyone_asked : ℕ → Gathered → Result Task Usage
@@ -185,6 +199,16 @@ abbrev pub diy_asked : ℕ → Gathered → Result ListTask Usage
 diy_asked count given =
     list_with count given.arch given.relaxes given.size given.exact given.threads given.accesses (mode_or_accept given.mode) given.after given.folder
 
+-- the tests of a listing, or in their place the lines of its cycles
+abbrev pub list_or_lines : ℕ → Gathered → Result Task Usage
+list_or_lines count given = if given.lines then asks AsksLines (diy_asked count given) else asks AsksList (diy_asked count given)
+
+-- what is so of an execution, or in its place a picture of it
+abbrev pub verdict_or_graph : ℕ → Gathered → Result Task Usage
+verdict_or_graph count given =
+    if given.graph then asks AsksGraph (check_with count given.arch given.test given.execution)
+    else asks AsksCheck (check_with count given.arch given.test given.execution)
+
 -- the request of diycross7
 abbrev pub cross_asked : ℕ → Gathered → Result CrossTask Usage
 cross_asked count given = cross_with count given.arch (mode_or_accept given.mode) given.folder given.places
@@ -192,13 +216,13 @@ cross_asked count given = cross_with count given.arch (mode_or_accept given.mode
 -- the request of a tool from all that is gathered
 abbrev pub tool_asked : Tool → ℕ → Gathered → Result Task Usage
 tool_asked tools.DiyOne count given = diyone_asked count given
-tool_asked tools.Diy count given = asks AsksList (diy_asked count given)
+tool_asked tools.Diy count given = list_or_lines count given
 tool_asked tools.Norm count given = asks AsksName (norm_asked count given)
 tool_asked tools.Classify count given = asks AsksFamilies (families_with count given.arch given.files)
 tool_asked tools.Msum count given = Ok AsksSum
 tool_asked tools.Cross count given = asks AsksCross (cross_asked count given)
 tool_asked tools.Demo count given = asks AsksDemo (demo_with count given.arch given.count)
-tool_asked tools.Check count given = asks AsksCheck (check_with count given.arch given.test given.execution)
+tool_asked tools.Check count given = verdict_or_graph count given
 
 -- the request of a tool from what its words say, where no word is faulty
 abbrev pub said_asked : Tool → ℕ → Result (List Saying) Usage → Result Task Usage

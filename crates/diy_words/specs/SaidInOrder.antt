@@ -4,7 +4,7 @@ use Rattle.std.specs.List.{list_any}
 use Rattle.diy_words.specs.declared.{usage.Usage.Usage, options.Tool.Tool}
 use Rattle.diy_words.specs.Parts.{Part}
 use Rattle.diy_words.specs.Sayings.{Saying, SaysCount, SaysTest, SaysExecution, Before, said_by}
-use Rattle.diy_words.specs.Gathered.{mode_of_saying, is_why, is_co, last_given}
+use Rattle.diy_words.specs.Gathered.{mode_of_saying, folder_of_saying, is_why, is_co, is_exec, is_lines, last_given}
 
 -- the number of demo and the files of mcheck7 are the operands whose number is limited
 abbrev pub is_limited : Saying → Bool
@@ -20,6 +20,9 @@ before_of said = record {
   obs = is_some (last_given mode_of_saying said);
   why = list_any is_why said;
   co = list_any is_co said;
+  exec = list_any is_exec said;
+  folder = is_some (last_given folder_of_saying said);
+  lines = list_any is_lines said;
 }
 
 -- what a word adds to what is said: a faulty word says nothing

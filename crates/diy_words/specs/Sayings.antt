@@ -32,6 +32,9 @@ pub data Saying : Type 0 where
   SaysExact : Saying
   SaysWhy : Saying
   SaysCo : Saying
+  SaysExec : Saying
+  SaysLines : Saying
+  SaysGraph : Saying
   SaysThreads : ℕ → Saying
   SaysAccesses : ℕ → Saying
   SaysAfter : List Edge → Saying
@@ -44,12 +47,15 @@ pub data Saying : Type 0 where
   SaysCount : ℕ → Saying
 
 -- what the words before a word said that bears on its fault: how many operands were taken, of those whose number is limited, and
--- whether `-obs`, whether `-why` and whether `-co` were among them
+-- whether `-obs`, `-why`, `-co`, `-exec`, `-o` and `-list` were among them
 pub record Before : Type 0 where
   pub taken : ℕ
   pub obs : Bool
   pub why : Bool
   pub co : Bool
+  pub exec : Bool
+  pub folder : Bool
+  pub lines : Bool
 
 -- a fault at a word
 abbrev pub usage_fault : ℕ → UsageKind → Result Saying Usage
@@ -73,13 +79,21 @@ mode_said at None = usage_fault at BadMode
 abbrev pub obs_said : Before → ℕ → List ℕ → Result Saying Usage
 obs_said before at value = if before.why || before.co then usage_fault at ExcludedOption else mode_said (at + 1) (mode_named value)
 
--- `-why` at its place: after `-obs` or `-co` it is excluded
+-- `-why` at its place: after `-obs`, `-co` or `-exec` it is excluded
 abbrev pub why_said : Before → ℕ → Result Saying Usage
-why_said before at = if before.obs || before.co then usage_fault at ExcludedOption else Ok SaysWhy
+why_said before at = if before.obs || before.co || before.exec then usage_fault at ExcludedOption else Ok SaysWhy
 
 -- `-co` at its place: after `-obs` or `-why` it is excluded
 abbrev pub co_said : Before → ℕ → Result Saying Usage
 co_said before at = if before.obs || before.why then usage_fault at ExcludedOption else Ok SaysCo
+
+-- `-exec` at its place: after `-why` it is excluded
+abbrev pub exec_said : Before → ℕ → Result Saying Usage
+exec_said before at = if before.why then usage_fault at ExcludedOption else Ok SaysExec
+
+-- `-list` at its place: after `-o` it is excluded
+abbrev pub lines_said : Before → ℕ → Result Saying Usage
+lines_said before at = if before.folder then usage_fault at ExcludedOption else Ok SaysLines
 
 -- the edges of an operand, at its place
 abbrev pub edges_said : ℕ → Option (List Edge) → Result Saying Usage
@@ -119,6 +133,10 @@ abbrev pub folder_said : ℕ → List ℕ → Result Saying Usage
 folder_said at text =
     if nat_lt 0 (length text) && nat_le (length text) MAX_FOLDER then Ok (SaysFolder text) else usage_fault at BadFolder
 
+-- `-o` at its place with its value: after `-list` it is excluded, whatever its value
+abbrev pub file_folder_said : Before → ℕ → List ℕ → Result Saying Usage
+file_folder_said before at value = if before.lines then usage_fault at ExcludedOption else folder_said (at + 1) value
+
 -- a text begins with `-`
 abbrev pub begins_option : List ℕ → Bool
 begins_option [] = false
@@ -127,8 +145,15 @@ begins_option (byte ∷ _) = byte == 45
 -- a word that begins with `-` and takes no value, at its place
 abbrev pub dashed_said : Tool → Before → ℕ → List ℕ → Result Saying Usage
 dashed_said tools.DiyOne before at text =
-    if bytes_eq text (codes "-why") then why_said before at else if bytes_eq text (codes "-co") then co_said before at else usage_fault at UnknownOption
-dashed_said tools.Diy before at text = if bytes_eq text (codes "-exact") then Ok SaysExact else usage_fault at UnknownOption
+    if bytes_eq text (codes "-why") then why_said before at
+    else if bytes_eq text (codes "-co") then co_said before at
+    else if bytes_eq text (codes "-exec") then exec_said before at
+    else usage_fault at UnknownOption
+dashed_said tools.Diy before at text =
+    if bytes_eq text (codes "-exact") then Ok SaysExact
+    else if bytes_eq text (codes "-list") then lines_said before at
+    else usage_fault at UnknownOption
+dashed_said tools.Check before at text = if bytes_eq text (codes "-dot") then Ok SaysGraph else usage_fault at UnknownOption
 dashed_said _ before at text = usage_fault at UnknownOption
 
 -- a file that is an operand of mcheck7, at its place, where so many were taken before: the first is that of the test, the
@@ -159,5 +184,5 @@ said_by tool before (Valued opts.Size at value) = number_said SaysSize (at + 1) 
 said_by tool before (Valued opts.Nprocs at value) = number_said SaysThreads (at + 1) (number_to MAX_EDGES value)
 said_by tool before (Valued opts.Accesses at value) = number_said SaysAccesses (at + 1) (number_to MAX_EDGES value)
 said_by tool before (Valued opts.After at value) = after_said (at + 1) (edges_of BlanksAndCommas value)
-said_by tool before (Valued opts.Folder at value) = folder_said (at + 1) value
+said_by tool before (Valued opts.Folder at value) = file_folder_said before at value
 said_by tool before (Unvalued _ at) = usage_fault at MissingValue

@@ -12,7 +12,7 @@ ghost use Rattle.diy_words.specs.declared.options.Tool.TheVariants as tools;
 ghost use Rattle.diy_words.specs.declared.usage.UsageKind.TheVariants.{ExcludedOption};
 ghost use Rattle.diy_words.specs.Parts.{Unvalued, mode_named};
 ghost use Rattle.diy_words.specs.Notes.{before_noted, more_choices};
-ghost use Rattle.diy_words.specs.Sayings.{Before, SaysRelaxes, SaysPlace, SaysSize, SaysThreads, SaysAccesses, said_by, arch_said, name_said, mode_said, obs_said, why_said, co_said, edges_said, relaxes_said, relax_usage, number_said, after_said, folder_said, checked_said, operand_said, begins_option};
+ghost use Rattle.diy_words.specs.Sayings.{Before, SaysRelaxes, SaysPlace, SaysSize, SaysThreads, SaysAccesses, said_by, arch_said, name_said, mode_said, obs_said, why_said, co_said, exec_said, lines_said, file_folder_said, edges_said, relaxes_said, relax_usage, number_said, after_said, folder_said, checked_said, operand_said, begins_option};
 
 use crate::name::name_of;
 use crate::number::number_to;
@@ -60,6 +60,12 @@ pub struct Notes<'a> {
     pub why: bool,
     /// Whether `-co` was given.
     pub co: bool,
+    /// Whether `-exec` was given.
+    pub exec: bool,
+    /// Whether `-list` was given.
+    pub lines: bool,
+    /// Whether `-dot` was given.
+    pub graph: bool,
 }
 
 impl<'a> Notes<'a> {
@@ -92,6 +98,9 @@ impl<'a> Notes<'a> {
             taken: 0,
             why: false,
             co: false,
+            exec: false,
+            lines: false,
+            graph: false,
         }
     }
 
@@ -123,7 +132,7 @@ impl<'a> Notes<'a> {
             OptionName::Nprocs => self.take_threads(at + 1, value),
             OptionName::Accesses => self.take_accesses(at + 1, value),
             OptionName::After => self.take_after(at + 1, value),
-            OptionName::Folder => self.take_folder(at + 1, value),
+            OptionName::Folder => self.take_file_folder(at, value),
         }
     }
 
@@ -266,6 +275,17 @@ impl<'a> Notes<'a> {
         }
     }
 
+    /// Takes in `-o` at place `at` with its value, unless `-list` comes before it.
+    fn take_file_folder(&mut self, at: usize, value: &'a str) -> Result<(), Usage>
+        requires { at + 1 < 2 ^ 64 }
+        ensures { notes_left result (code_notes self.new) ≡ notes_after (code_notes self.old) (file_folder_said (before_noted (code_notes self.old)) at value.now) }
+    {
+        if self.lines {
+            return Err(excluded_option(at));
+        }
+        self.take_folder(at + 1, value)
+    }
+
     fn take_folder(&mut self, at: usize, value: &'a str) -> Result<(), Usage>
         ensures { notes_left result (code_notes self.new) ≡ notes_after (code_notes self.old) (folder_said at value.now) }
     {
@@ -297,8 +317,14 @@ impl<'a> Notes<'a> {
         match tool {
             Tool::DiyOne if text == "-why" => self.take_why(at),
             Tool::DiyOne if text == "-co" => self.take_co(at),
+            Tool::DiyOne if text == "-exec" => self.take_exec(at),
             Tool::Diy if text == "-exact" => {
                 self.limits.exact = true;
+                Ok(())
+            }
+            Tool::Diy if text == "-list" => self.take_lines(at),
+            Tool::Check if text == "-dot" => {
+                self.graph = true;
                 Ok(())
             }
             _ => Err(Usage {
@@ -308,11 +334,11 @@ impl<'a> Notes<'a> {
         }
     }
 
-    /// Takes in `-why`, unless `-obs` or `-co` comes before it.
+    /// Takes in `-why`, unless `-obs`, `-co` or `-exec` comes before it.
     fn take_why(&mut self, at: usize) -> Result<(), Usage>
         ensures { notes_left result (code_notes self.new) ≡ notes_after (code_notes self.old) (why_said (before_noted (code_notes self.old)) at) }
     {
-        if self.mode.is_some() || self.co {
+        if self.mode.is_some() || self.co || self.exec {
             return Err(excluded_option(at));
         }
         self.why = true;
@@ -327,6 +353,28 @@ impl<'a> Notes<'a> {
             return Err(excluded_option(at));
         }
         self.co = true;
+        Ok(())
+    }
+
+    /// Takes in `-exec`, unless `-why` comes before it.
+    fn take_exec(&mut self, at: usize) -> Result<(), Usage>
+        ensures { notes_left result (code_notes self.new) ≡ notes_after (code_notes self.old) (exec_said (before_noted (code_notes self.old)) at) }
+    {
+        if self.why {
+            return Err(excluded_option(at));
+        }
+        self.exec = true;
+        Ok(())
+    }
+
+    /// Takes in `-list`, unless `-o` comes before it.
+    fn take_lines(&mut self, at: usize) -> Result<(), Usage>
+        ensures { notes_left result (code_notes self.new) ≡ notes_after (code_notes self.old) (lines_said (before_noted (code_notes self.old)) at) }
+    {
+        if self.folder.is_some() {
+            return Err(excluded_option(at));
+        }
+        self.lines = true;
         Ok(())
     }
 

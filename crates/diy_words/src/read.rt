@@ -1,6 +1,6 @@
 ghost use Rattle.std.specs.Prelude.{◌≡◌, ◌<◌, ◌+◌, ◌^◌, ℕ, List, Some, length, drop, IfOk};
 ghost use Rattle.diy_words.specs.declared.usage.UsageKind.TheVariants.{MissingArch, MissingWhy};
-ghost use Rattle.diy_words.specs.Requests.{asked_of, asked_for, asks, AsksTest, AsksWhy, AsksCoherence, AsksName, AsksList, AsksFamilies, AsksCross, AsksDemo, AsksCheck, test_asked, why_asked, coherence_asked, one_asked, diyone_asked, norm_asked, diy_asked, cross_asked, families_with, demo_with, check_with};
+ghost use Rattle.diy_words.specs.Requests.{asked_of, asked_for, asks, AsksWhy, AsksName, AsksFamilies, AsksCross, AsksDemo, why_asked, test_or_execution, coherence_or_execution, list_or_lines, verdict_or_graph, one_asked, diyone_asked, norm_asked, cross_asked, families_with, demo_with};
 ghost use Rattle.diy_words.specs.Given.{GivesTask, HasForm, WithinWords};
 ghost use Rattle.diy_words.specs.CodeNotes.{Steps, GivesAtEnd, GivesFrom, IsPlain, IsOption, code_notes};
 
@@ -139,18 +139,23 @@ fn finish_one(count: usize, notes: Notes<'_>) -> Result<Request<'_>, Usage>
 }
 
 fn finish_coherence(count: usize, notes: Notes<'_>) -> Result<Request<'_>, Usage>
-    ensures { GivesFrom (λ given. asks AsksCoherence (coherence_asked count given)) (code_notes notes.entry) result }
+    ensures { GivesFrom (λ given. coherence_or_execution count given) (code_notes notes.entry) result }
 {
     let Some(arch) = notes.arch else {
         return Err(missing_arch(count));
     };
-    match notes.folder {
-        Some(_) => Err(missing_why(count)),
-        None => Ok(Request::Coherence(Coherence {
-            arch,
-            name: notes.name,
-            edges: notes.edges,
-        })),
+    if notes.folder.is_some() {
+        return Err(missing_why(count));
+    }
+    let request = Coherence {
+        arch,
+        name: notes.name,
+        edges: notes.edges,
+    };
+    if notes.exec {
+        Ok(Request::CoherenceExecution(request))
+    } else {
+        Ok(Request::Coherence(request))
     }
 }
 
@@ -169,7 +174,7 @@ fn finish_why(count: usize, notes: Notes<'_>) -> Result<Request<'_>, Usage>
 }
 
 fn finish_test(count: usize, notes: Notes<'_>) -> Result<Request<'_>, Usage>
-    ensures { GivesFrom (λ given. asks AsksTest (test_asked count given)) (code_notes notes.entry) result }
+    ensures { GivesFrom (λ given. test_or_execution count given) (code_notes notes.entry) result }
 {
     let Some(arch) = notes.arch else {
         return Err(missing_arch(count));
@@ -177,16 +182,21 @@ fn finish_test(count: usize, notes: Notes<'_>) -> Result<Request<'_>, Usage>
     if notes.folder.is_some() {
         return Err(missing_why(count));
     }
-    Ok(Request::Test(DiyOne {
+    let request = DiyOne {
         arch,
         name: notes.name,
         mode: notes.mode.unwrap_or(ObsMode::Accept),
         edges: notes.edges,
-    }))
+    };
+    if notes.exec {
+        Ok(Request::Execution(request))
+    } else {
+        Ok(Request::Test(request))
+    }
 }
 
 fn finish_list(count: usize, notes: Notes<'_>) -> Result<Request<'_>, Usage>
-    ensures { GivesFrom (λ given. asks AsksList (diy_asked count given)) (code_notes notes.entry) result }
+    ensures { GivesFrom (λ given. list_or_lines count given) (code_notes notes.entry) result }
 {
     let Notes {
         arch,
@@ -208,6 +218,9 @@ fn finish_list(count: usize, notes: Notes<'_>) -> Result<Request<'_>, Usage>
         taken: _,
         why: _,
         co: _,
+        exec: _,
+        lines,
+        graph: _,
     } = notes;
     let Some(arch) = arch else {
         return Err(missing_arch(count));
@@ -218,7 +231,7 @@ fn finish_list(count: usize, notes: Notes<'_>) -> Result<Request<'_>, Usage>
             kind: UsageKind::MissingEdges,
         });
     };
-    Ok(Request::List(Diy {
+    let request = Diy {
         arch,
         relaxes,
         limits,
@@ -227,7 +240,12 @@ fn finish_list(count: usize, notes: Notes<'_>) -> Result<Request<'_>, Usage>
         mode: mode.unwrap_or(ObsMode::Accept),
         after,
         folder,
-    }))
+    };
+    if lines {
+        Ok(Request::Lines(request))
+    } else {
+        Ok(Request::List(request))
+    }
 }
 
 fn finish_families(count: usize, notes: Notes<'_>) -> Result<Request<'_>, Usage>
@@ -274,21 +292,26 @@ fn finish_demo(count: usize, notes: Notes<'_>) -> Result<Request<'_>, Usage>
 }
 
 fn finish_check(count: usize, notes: Notes<'_>) -> Result<Request<'_>, Usage>
-    ensures { GivesTask result (asks AsksCheck (check_with count notes.entry.arch notes.entry.test notes.entry.execution)) }
+    ensures { GivesTask result (verdict_or_graph count (code_notes notes.entry).given) }
 {
     let Some(arch) = notes.arch else {
         return Err(missing_arch(count));
     };
-    match (notes.test, notes.execution) {
-        (Some(test), Some(execution)) => Ok(Request::Check(Check {
-            arch,
-            test,
-            execution,
-        })),
-        _ => Err(Usage {
+    let (Some(test), Some(execution)) = (notes.test, notes.execution) else {
+        return Err(Usage {
             word: count,
             kind: UsageKind::MissingFile,
-        }),
+        });
+    };
+    let request = Check {
+        arch,
+        test,
+        execution,
+    };
+    if notes.graph {
+        Ok(Request::Graph(request))
+    } else {
+        Ok(Request::Check(request))
     }
 }
 

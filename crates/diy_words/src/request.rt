@@ -43,6 +43,14 @@ pub enum Request<'a> {
     Demo(Demo),
     /// What is so of one execution of one test, of mcheck7.
     Check(Check),
+    /// The execution that a test asks for, of diyone7 with `-exec`.
+    Execution(DiyOne),
+    /// The execution that a coherence test asks for, of diyone7 with `-co` and `-exec`.
+    CoherenceExecution(Coherence),
+    /// The lines of the cycles of a listing, of diy7 with `-list`.
+    Lines(Diy<'a>),
+    /// A picture of one execution of one test, of mcheck7 with `-dot`.
+    Graph(Check),
 }
 
 /// What norm7 is asked for.
@@ -74,7 +82,7 @@ pub struct Source<'a> {
     pub name: &'a str,
 }
 
-/// What diyone7 is asked for without `-why` and `-co`.
+/// What diyone7 is asked for without `-why` and `-co`, with `-exec` and without it.
 #[derive(Drop)]
 pub struct DiyOne {
     /// The architecture of the test.

@@ -21,10 +21,12 @@ impl Separators {
     fn has(self, byte: u8) -> bool
         ensures { result ≡ separates self byte }
     {
-        match self {
-            Separators::Blanks => Class::Blank.has(byte),
-            Separators::BlanksAndCommas => Class::Blank.has(byte) || byte == b',',
-        }
+        // Letters and digits, of which a text has most, are told from all separators by one comparison: two instructions a byte less.
+        byte <= b','
+            && match self {
+                Separators::Blanks => Class::Blank.has(byte),
+                Separators::BlanksAndCommas => Class::Blank.has(byte) || byte == b',',
+            }
     }
 }
 
