@@ -41,7 +41,8 @@ pub enum UsageKind {
     BadAfter,
     /// An operand comes where the tool takes none, or no other, or beside `-from`.
     StrayWord,
-    /// One of `-obs`, `-why` and `-co` comes after another of them.
+    /// An option comes after one that excludes it: `-obs`, `-why` and `-co` exclude each other, and so do
+    /// `-why` and `-exec`, and `-list` and `-o`.
     ExcludedOption,
     /// The tool needs `-arch`, and it isn't there.
     MissingArch,
