@@ -5,7 +5,7 @@ use Rattle.diy_words.specs.declared.{options.Tool.Tool, usage.Usage.Usage}
 use Rattle.diy_words.specs.declared.options.Tool.TheVariants as tools
 use Rattle.diy_words.specs.{Parts.parts_of, Parts.tool_named, Sayings.Saying, Gathered.Gathered, Gathered.gathered_of, Gathered.all_given}
 use Rattle.diy_words.specs.{SaidInOrder.sayings, SaidInOrder.said_all, Notes.no_notes, Notes.said_noted}
-use Rattle.diy_words.specs.Requests.{Task, AsksTest, AsksWhy, AsksCoherence, AsksName, AsksList, AsksFamilies, AsksSum, AsksCross, AsksDemo, AsksCheck, AsksExecution, AsksCoherenceExecution, AsksLines, AsksGraph, asks, families_with, demo_with, check_with, why_asked, coherence_asked, test_asked, test_or_execution, coherence_or_execution, one_asked, diyone_asked, diy_asked, list_or_lines, verdict_or_graph, norm_asked, cross_asked, tool_asked, said_asked, asked_for, asked_of}
+use Rattle.diy_words.specs.Requests.{Task, AsksTest, AsksWhy, AsksCoherence, AsksName, AsksList, AsksFamilies, AsksSum, AsksCross, AsksDemo, AsksCheck, AsksExecution, AsksCoherenceExecution, AsksLines, asks, families_with, demo_with, why_asked, coherence_asked, test_asked, test_or_execution, coherence_or_execution, one_asked, diyone_asked, diy_asked, list_or_lines, check_asked, norm_asked, cross_asked, tool_asked, said_asked, asked_for, asked_of}
 use Rattle.diy_words.proofs.{NotedLaws.said_so, OperandLaws.AreFaultless, OperandLaws.given_from, OperandLaws.all_said}
 
 -- the tool that is asked for something
@@ -23,7 +23,6 @@ tool_of (AsksCheck _) = tools.Check
 tool_of (AsksExecution _) = tools.DiyOne
 tool_of (AsksCoherenceExecution _) = tools.DiyOne
 tool_of (AsksLines _) = tools.Diy
-tool_of (AsksGraph _) = tools.Check
 
 asks_tool : {X : Type 0} (tool : Tool) (request : X → Task) (asked : Result X Usage) (task : Task) → ((x : X) → tool_of (request x) ≡ tool) → asks request asked ≡ Ok task → tool_of task ≡ tool
 asks_tool tool request (Ok x) task of_tool e = let same : request x ≡ task = cc e in ap tool_of (sym same) ∙ of_tool x
@@ -55,8 +54,7 @@ asked_tool tools.Norm count given task e = asks_tool tools.Norm AsksName (norm_a
 asked_tool tools.Classify count given task e = asks_tool tools.Classify AsksFamilies (families_with count given.arch given.files) task (λ x. refl) e
 asked_tool tools.Msum count given task e = let same : AsksSum ≡ task = cc e in ap tool_of (sym same)
 asked_tool tools.Demo count given task e = asks_tool tools.Demo AsksDemo (demo_with count given.arch given.count) task (λ x. refl) e
-asked_tool tools.Check count given task e =
-    either_tool tools.Check AsksGraph AsksCheck (check_with count given.arch given.test given.execution) task given.graph (λ x. refl) (λ x. refl) e
+asked_tool tools.Check count given task e = asks_tool tools.Check AsksCheck (check_asked count given) task (λ x. refl) e
 
 said_tool : (tool : Tool) (count : ℕ) (said : Result (List Saying) Usage) (task : Task) → said_asked tool count said ≡ Ok task → tool_of task ≡ tool
 said_tool tool count (Err usage) task e = cc e

@@ -11,7 +11,7 @@ use Rattle.edge_algebra.specs.declared.errors.CycleError.{CycleError}
 use Rattle.edge_algebra.specs.Compose.{composed}
 use Rattle.edges_from_text.specs.declared.read.Separators.TheVariants.{BlanksAndCommas}
 use Rattle.edges_from_text.specs.{Spelled.edges_of, Spelled.text_edges}
-use Rattle.diy_words.specs.declared.{request.TheConstants.MAX_CHOICES, request.TheConstants.MAX_TESTS, request.Check.Check, request.Demo.Demo}
+use Rattle.diy_words.specs.declared.{request.TheConstants.MAX_CHOICES, request.TheConstants.MAX_TESTS, request.Check.Check, request.Demo.Demo, request.Shown.Shown, request.Shown.TheVariants.Verdict, request.Shown.TheVariants.Graph}
 use Rattle.diy_words.specs.declared.{request.Diy.Diy, request.Request.Request, usage.Usage.Usage, options.Tool.Tool, options.OptionName.OptionName}
 use Rattle.diy_io.specs.declared.shelf.TheConstants.{MAX_FOLDER}
 use Rattle.diy_words.specs.declared.request.Request.TheVariants as requests
@@ -23,7 +23,7 @@ use Rattle.diy_words.specs.Parts.{Part, Alone, Valued, Unvalued, waiting_at, alo
 use Rattle.diy_words.specs.Sayings.{Saying, SaysName, SaysRelaxes, SaysPlace, SaysSize, SaysExact, SaysWhy, SaysCo, SaysExec, SaysLines, SaysGraph, SaysThreads, SaysAccesses, SaysFolder, SaysCount, SaysTest, SaysExecution, Before, usage_fault, why_said, co_said, exec_said, lines_said, folder_said, dashed_said, operand_said, relaxes_said, number_said, after_said, cycle_word_said, said_by, arch_said, mode_said, edges_said, begins_option}
 use Rattle.diy_words.specs.Gathered.{Gathered, gathered_of, last_given, name_of_saying, size_of_saying, folder_of_saying, count_of_saying, test_of_saying, execution_of_saying}
 use Rattle.diy_words.specs.SaidInOrder.{before_of, said_in, sayings, said_first, said_all}
-use Rattle.diy_words.specs.Requests.{Task, AsksTest, AsksWhy, AsksCoherence, AsksName, AsksList, AsksFamilies, AsksCross, AsksDemo, AsksCheck, AsksExecution, AsksCoherenceExecution, AsksLines, AsksGraph, NameTask, ListTask, FamiliesTask, list_with, families_with, cross_with, demo_with, check_with, choice_count, mode_or_accept, asks, test_with, why_with, coherence_with, why_asked, coherence_asked, test_asked, test_or_execution, coherence_or_execution, one_asked, diyone_asked, diy_asked, asked_for, norm_asked, tool_asked, said_asked, asked_of}
+use Rattle.diy_words.specs.Requests.{Task, AsksTest, AsksWhy, AsksCoherence, AsksName, AsksList, AsksFamilies, AsksCross, AsksDemo, AsksCheck, AsksExecution, AsksCoherenceExecution, AsksLines, NameTask, ListTask, FamiliesTask, list_with, families_with, cross_with, demo_with, check_with, choice_count, mode_or_accept, asks, test_with, why_with, coherence_with, why_asked, coherence_asked, test_asked, test_or_execution, coherence_or_execution, one_asked, diyone_asked, diy_asked, asked_for, norm_asked, tool_asked, said_asked, asked_of}
 use Rattle.arrayvec.specs.ArrayString.{ArrayString}
 use Rattle.diy_words.specs.Given.{GivesTask, HasForm, WithinWords, list_kept}
 
@@ -276,7 +276,6 @@ IsNamedSo count (AsksCheck asked) = (asked.test < count) × (asked.execution < c
 IsNamedSo count (AsksExecution asked) = IfSome asked.name (λ name. is_name name ≡ true)
 IsNamedSo count (AsksCoherenceExecution asked) = IfSome asked.name (λ name. is_name name ≡ true)
 IsNamedSo count (AsksLines asked) = (asked.size ≤ MAX_EDGES) × IfSome asked.folder (λ folder. length folder ≤ MAX_FOLDER)
-IsNamedSo count (AsksGraph asked) = (asked.test < count) × (asked.execution < count)
 IsNamedSo count _ = Unit {0}
 
 abbrev IsTaskSo : ℕ → Result Task Usage → Type 0
@@ -337,12 +336,12 @@ demo_form count None tests h = tt
 demo_form count (Some arch) None h = tt
 demo_form count (Some arch) (Some tests) h = h
 
-check_form : (count : ℕ) (arch : Option ArchName) (test execution : Option ℕ) → IfSome test (λ at. at < count) → IfSome execution (λ at. at < count)
-    → IfOk (check_with count arch test execution) (λ asked. IsNamedSo count (AsksGraph asked) × IsNamedSo count (AsksCheck asked))
-check_form count None test execution h k = tt
-check_form count (Some arch) (Some test) (Some execution) h k = ((h, k), (h, k))
-check_form count (Some arch) (Some test) None h k = tt
-check_form count (Some arch) None execution h k = tt
+check_form : (count : ℕ) (arch : Option ArchName) (test execution : Option ℕ) (shown : Shown) → IfSome test (λ at. at < count) → IfSome execution (λ at. at < count)
+    → IsTaskSo count (asks AsksCheck (check_with count arch test execution shown))
+check_form count None test execution shown h k = tt
+check_form count (Some arch) (Some test) (Some execution) shown h k = (h, k)
+check_form count (Some arch) (Some test) None shown h k = tt
+check_form count (Some arch) None execution shown h k = tt
 
 diyone_form : (count : ℕ) (given : Gathered) → AreFit count given → IsTaskSo count (diyone_asked count given)
 diyone_form count given f = of_why given.why
@@ -370,9 +369,7 @@ tool_form tools.Classify count given f = families_form count (families_with coun
 tool_form tools.Msum count given f = tt
 tool_form tools.Cross count given f = cross_form count given.arch (mode_or_accept given.mode) given.folder given.places f.2
 tool_form tools.Demo count given f = demo_form count given.arch given.count f.3
-tool_form tools.Check count given f =
-    either_form count AsksGraph AsksCheck (check_with count given.arch given.test given.execution) given.graph
-    (check_form count given.arch given.test given.execution f.4 f.5)
+tool_form tools.Check count given f = check_form count given.arch given.test given.execution (if given.graph then Graph else Verdict) f.4 f.5
 
 words_said_form : (tool : Tool) (count : ℕ) (said : Result (List Saying) Usage) → AllForm count said → IsTaskSo count (said_asked tool count said)
 words_said_form tool count (Err usage) h = tt
@@ -428,7 +425,6 @@ request_form words result h = of_asked result (asked_of words) (words_form words
     of_asked (Ok (requests.Families arch)) asked e h = tt
     of_asked (Ok requests.Sum) asked e h = tt
     of_asked (Ok (requests.Check request)) asked e h = tt
-    of_asked (Ok (requests.Graph request)) asked e h = tt
     of_asked (Ok (requests.Test request)) asked e h = absurd h
     of_asked (Ok (requests.Execution request)) asked e h = absurd h
     of_asked (Ok (requests.CoherenceExecution request)) asked e h = absurd h
@@ -444,15 +440,10 @@ request_form words result h = of_asked result (asked_of words) (words_form words
 pub request_within : (words : List (List ℕ)) (result : Result Request Usage) → GivesTask result (asked_of words) → IfOk result (WithinWords (length words))
 request_within words result h = of_asked result (asked_of words) (words_form words) h
   where
-    within : (request asked : Check) → request ≡ asked → (asked.test < length words) × (asked.execution < length words)
-        → (request.test < length words) × (request.execution < length words)
-    within request asked h e = subst (λ (a : Check). (a.test < length words) × (a.execution < length words)) (sym h) e
-
     of_asked : (result : Result Request Usage) (asked : Result Task Usage) → IsTaskSo (length words) asked → GivesTask result asked
         → IfOk result (WithinWords (length words))
-    of_asked (Ok (requests.Check request)) (Ok (AsksCheck asked)) e h = within request asked h e
-    of_asked (Ok (requests.Graph request)) (Ok (AsksGraph asked)) e h = within request asked h e
+    of_asked (Ok (requests.Check request)) (Ok (AsksCheck asked)) e h =
+        subst (λ (a : Check). (a.test < length words) × (a.execution < length words)) (sym h) e
     of_asked (Ok (requests.Check request)) asked e h = absurd h
-    of_asked (Ok (requests.Graph request)) asked e h = absurd h
     of_asked (Ok request) asked e h = tt
     of_asked (Err usage) asked e h = tt

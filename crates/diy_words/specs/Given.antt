@@ -10,7 +10,7 @@ use Rattle.diy_words.specs.declared.request.Request.TheVariants as requests
 use Rattle.diy_words.specs.declared.{request.DiyOne.DiyOne, request.Coherence.Coherence}
 use Rattle.diy_words.specs.declared.request.Sought.TheVariants as sought
 use Rattle.diy_words.specs.TestNames.{is_name}
-use Rattle.diy_words.specs.Requests.{Task, AsksTest, AsksWhy, AsksCoherence, AsksName, AsksList, AsksFamilies, AsksSum, AsksCross, AsksDemo, AsksCheck, AsksExecution, AsksCoherenceExecution, AsksLines, AsksGraph, TestTask, CoherenceTask, ListTask, OfEdges, OfName, OfLines}
+use Rattle.diy_words.specs.Requests.{Task, AsksTest, AsksWhy, AsksCoherence, AsksName, AsksList, AsksFamilies, AsksSum, AsksCross, AsksDemo, AsksCheck, AsksExecution, AsksCoherenceExecution, AsksLines, TestTask, CoherenceTask, ListTask, OfEdges, OfName, OfLines}
 use Rattle.diy_words.specs.Requests as req
 
 -- the request holds the cycle that is sought
@@ -62,7 +62,6 @@ HoldsTask (requests.Cross request) (AsksCross asked) =
     (request.arch ≡ asked.arch) × (request.mode ≡ asked.mode) × (option_map (λ folder. folder.now) request.folder ≡ asked.folder)
 HoldsTask (requests.Demo request) (AsksDemo asked) = request ≡ asked
 HoldsTask (requests.Check request) (AsksCheck asked) = request ≡ asked
-HoldsTask (requests.Graph request) (AsksGraph asked) = request ≡ asked
 HoldsTask _ _ = ⊥
 
 -- a call gives the request that words make, or their first fault
@@ -91,5 +90,4 @@ HasForm _ = Unit {0}
 -- the files of mcheck7 are words among so many
 abbrev pub WithinWords : ℕ → Request → Type 0
 WithinWords count (requests.Check request) = (request.test < count) × (request.execution < count)
-WithinWords count (requests.Graph request) = (request.test < count) × (request.execution < count)
 WithinWords count _ = Unit {0}

@@ -3,6 +3,7 @@
 use Rattle.std.specs.Prelude.{ℕ, ◌*◌, Bool, nat_lt, if◌then◌else◌, List, [], ◌∷◌, length, Option, Some, None, Result, Ok, Err}
 use Rattle.std.specs.Option.{unwrap_or}
 use Rattle.relax_edges.specs.declared.{kinds.ArchName.ArchName, kinds.ObsMode.ObsMode, kinds.ObsMode.TheVariants.Accept, edge.Edge.Edge}
+use Rattle.diy_words.specs.declared.{request.Shown.Shown, request.Shown.TheVariants.Verdict, request.Shown.TheVariants.Graph}
 use Rattle.diy_words.specs.declared.{usage.Usage.Usage, request.Check.Check, request.Demo.Demo, request.TheConstants.MAX_CHOICES, options.Tool.Tool}
 use Rattle.diy_words.specs.declared.usage.UsageKind.TheVariants.{UnknownTool, StrayWord, MissingArch, MissingEdges, MissingNumber, MissingFile, MissingWhy, TooManyChoices}
 use Rattle.diy_words.specs.declared.options.Tool.TheVariants as tools
@@ -71,9 +72,9 @@ pub record FamiliesTask : Type 0 where
 
 -- what words ask for: a test; why a cycle needs an observer; a coherence test; the names of cycles; the tests of a listing; the
 -- names of cycles by their families; the sum of the logs that the words after the first name, or of the input where there is none;
--- the tests of the choices of relaxations; some number of tests; what is so of an execution of a test. In place of a test, the
--- execution that it asks for; in place of the tests of a listing, the lines of its cycles; in place of what is so of an execution, a
--- picture of it. What demo and mcheck7 are asked for is as the request holds it
+-- the tests of the choices of relaxations; some number of tests; what is so of an execution of a test; in place of a test, the
+-- execution that it asks for; in place of the tests of a listing, the lines of its cycles. What demo and mcheck7 are asked for is as
+-- the request holds it
 pub data Task : Type 0 where
   AsksTest : TestTask → Task
   AsksWhy : WhyTask → Task
@@ -88,7 +89,6 @@ pub data Task : Type 0 where
   AsksExecution : TestTask → Task
   AsksCoherenceExecution : CoherenceTask → Task
   AsksLines : ListTask → Task
-  AsksGraph : Check → Task
 
 -- in how many ways a relaxation can be chosen for each place: one way for no place
 abbrev pub choice_count : List (List (List Edge)) → ℕ
@@ -150,11 +150,12 @@ demo_with count (Some arch) None = Err (record { word = count; kind = MissingNum
 demo_with count (Some arch) (Some tests) = Ok (record { arch = arch; count = tests })
 
 -- the request of mcheck7 from what was given: both files are needed
-abbrev pub check_with : ℕ → Option ArchName → Option ℕ → Option ℕ → Result Check Usage
-check_with count None test execution = Err (record { word = count; kind = MissingArch })
-check_with count (Some arch) (Some test) (Some execution) = Ok (record { arch = arch; test = test; execution = execution })
-check_with count (Some arch) (Some test) None = Err (record { word = count; kind = MissingFile })
-check_with count (Some arch) None execution = Err (record { word = count; kind = MissingFile })
+abbrev pub check_with : ℕ → Option ArchName → Option ℕ → Option ℕ → Shown → Result Check Usage
+check_with count None test execution shown = Err (record { word = count; kind = MissingArch })
+check_with count (Some arch) (Some test) (Some execution) shown =
+    Ok (record { arch = arch; test = test; execution = execution; shown = shown })
+check_with count (Some arch) (Some test) None shown = Err (record { word = count; kind = MissingFile })
+check_with count (Some arch) None execution shown = Err (record { word = count; kind = MissingFile })
 
 -- a request of one of the tools
 abbrev pub asks : {X : Type 0} → (X → Task) → Result X Usage → Result Task Usage
@@ -203,11 +204,9 @@ diy_asked count given =
 abbrev pub list_or_lines : ℕ → Gathered → Result Task Usage
 list_or_lines count given = if given.lines then asks AsksLines (diy_asked count given) else asks AsksList (diy_asked count given)
 
--- what is so of an execution, or in its place a picture of it
-abbrev pub verdict_or_graph : ℕ → Gathered → Result Task Usage
-verdict_or_graph count given =
-    if given.graph then asks AsksGraph (check_with count given.arch given.test given.execution)
-    else asks AsksCheck (check_with count given.arch given.test given.execution)
+-- the request of mcheck7
+abbrev pub check_asked : ℕ → Gathered → Result Check Usage
+check_asked count given = check_with count given.arch given.test given.execution (if given.graph then Graph else Verdict)
 
 -- the request of diycross7
 abbrev pub cross_asked : ℕ → Gathered → Result CrossTask Usage
@@ -222,7 +221,7 @@ tool_asked tools.Classify count given = asks AsksFamilies (families_with count g
 tool_asked tools.Msum count given = Ok AsksSum
 tool_asked tools.Cross count given = asks AsksCross (cross_asked count given)
 tool_asked tools.Demo count given = asks AsksDemo (demo_with count given.arch given.count)
-tool_asked tools.Check count given = verdict_or_graph count given
+tool_asked tools.Check count given = asks AsksCheck (check_asked count given)
 
 -- the request of a tool from what its words say, where no word is faulty
 abbrev pub said_asked : Tool → ℕ → Result (List Saying) Usage → Result Task Usage

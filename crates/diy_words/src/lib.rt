@@ -16,6 +16,6 @@ pub use places::read_places;
 pub use read::read_request;
 pub use request::{
     Check, Coherence, Cross, Demo, Diy, DiyOne, MAX_CHOICES, MAX_GIVEN_NAME, MAX_TESTS, Norm,
-    Request, Sought, Source, TestName, Why,
+    Request, Shown, Sought, Source, TestName, Why,
 };
 pub use usage::{Usage, UsageKind};

@@ -1,13 +1,13 @@
 ghost use Rattle.std.specs.Prelude.{◌≡◌, ◌<◌, ◌+◌, ◌^◌, ℕ, List, Some, length, drop, IfOk};
 ghost use Rattle.diy_words.specs.declared.usage.UsageKind.TheVariants.{MissingArch, MissingWhy};
-ghost use Rattle.diy_words.specs.Requests.{asked_of, asked_for, asks, AsksWhy, AsksName, AsksFamilies, AsksCross, AsksDemo, why_asked, test_or_execution, coherence_or_execution, list_or_lines, verdict_or_graph, one_asked, diyone_asked, norm_asked, cross_asked, families_with, demo_with};
+ghost use Rattle.diy_words.specs.Requests.{asked_of, asked_for, asks, AsksWhy, AsksName, AsksFamilies, AsksCross, AsksDemo, AsksCheck, why_asked, test_or_execution, coherence_or_execution, list_or_lines, check_asked, one_asked, diyone_asked, norm_asked, cross_asked, families_with, demo_with};
 ghost use Rattle.diy_words.specs.Given.{GivesTask, HasForm, WithinWords};
 ghost use Rattle.diy_words.specs.CodeNotes.{Steps, GivesAtEnd, GivesFrom, IsPlain, IsOption, code_notes};
 
 use crate::notes::{Notes, missing_value};
 use crate::options::{OptionName, Tool, option_named, tool_named};
 use crate::request::{
-    Check, Coherence, Cross, Demo, Diy, DiyOne, MAX_CHOICES, Norm, Request, Sought, Why,
+    Check, Coherence, Cross, Demo, Diy, DiyOne, MAX_CHOICES, Norm, Request, Shown, Sought, Why,
 };
 use crate::usage::{Usage, UsageKind};
 use diy_io::{MAX_FOLDER, Words};
@@ -292,7 +292,7 @@ fn finish_demo(count: usize, notes: Notes<'_>) -> Result<Request<'_>, Usage>
 }
 
 fn finish_check(count: usize, notes: Notes<'_>) -> Result<Request<'_>, Usage>
-    ensures { GivesTask result (verdict_or_graph count (code_notes notes.entry).given) }
+    ensures { GivesTask result (asks AsksCheck (check_asked count (code_notes notes.entry).given)) }
 {
     let Some(arch) = notes.arch else {
         return Err(missing_arch(count));
@@ -303,16 +303,17 @@ fn finish_check(count: usize, notes: Notes<'_>) -> Result<Request<'_>, Usage>
             kind: UsageKind::MissingFile,
         });
     };
-    let request = Check {
+    let shown = if notes.graph {
+        Shown::Graph
+    } else {
+        Shown::Verdict
+    };
+    Ok(Request::Check(Check {
         arch,
         test,
         execution,
-    };
-    if notes.graph {
-        Ok(Request::Graph(request))
-    } else {
-        Ok(Request::Check(request))
-    }
+        shown,
+    }))
 }
 
 fn finish_name(count: usize, notes: Notes<'_>) -> Result<Request<'_>, Usage>

@@ -49,8 +49,6 @@ pub enum Request<'a> {
     CoherenceExecution(Coherence),
     /// The lines of the cycles of a listing, of diy7 with `-list`.
     Lines(Diy<'a>),
-    /// A picture of one execution of one test, of mcheck7 with `-dot`.
-    Graph(Check),
 }
 
 /// What norm7 is asked for.
@@ -162,6 +160,15 @@ pub struct Demo {
     pub count: u32,
 }
 
+/// What mcheck7 writes of an execution.
+#[derive(Clone, Copy, Debug, PartialEq, Eq)]
+pub enum Shown {
+    /// The verdict on it.
+    Verdict,
+    /// A picture of it, with `-dot`, where it is a candidate; else the verdict.
+    Graph,
+}
+
 /// What mcheck7 is asked for.
 #[derive(Drop)]
 pub struct Check {
@@ -171,4 +178,6 @@ pub struct Check {
     pub test: usize,
     /// Which word names the file of the execution.
     pub execution: usize,
+    /// What is written.
+    pub shown: Shown,
 }
