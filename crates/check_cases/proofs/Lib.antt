@@ -1,1 +1,2 @@
 pub mod Observers
+pub mod Operations

@@ -1,12 +1,12 @@
 ghost use Rattle.std.specs.Prelude.{◌≡◌};
 ghost use Rattle.diy_io.specs.Shelf.{Idle, IsReading};
 
-use diy_io::{DirShelf, Failed, OpenError, Shelf, Sink, Source, StdSink, StdSource};
+use diy_io::{DirShelf, Failed, OpenError, Shelf, Sink, StdSink};
 use std::io::{ErrorKind, Write};
 use std::test::Fail;
 use std::{fs, io};
 
-// A writer that takes three bytes a call, fails at call 2 and takes nothing at call 4.
+/// A writer that takes three bytes a call, fails at call 2 and takes nothing at call 4.
 #[derive(Drop)]
 struct Unsteady {
     calls: u8,
@@ -17,13 +17,11 @@ impl Write for Unsteady {
     fn write(&mut self, buf: &[u8]) -> io::Result<usize> {
         let call = self.calls;
         self.calls = self.calls.saturating_add(1);
-        if call == 2 {
-            return Err(io::Error::from(ErrorKind::Other));
-        }
-        if call == 4 {
-            return Ok(0);
-        }
-        let count = buf.len().min(3);
+        let count = match call {
+            2 => return Err(io::Error::from(ErrorKind::Other)),
+            4 => 0,
+            _ => buf.len().min(3),
+        };
         self.taken.extend_from_slice(&buf[..count])?;
         Ok(count)
     }
@@ -46,33 +44,8 @@ fn std_sink_writes_until_the_writer_fails(rt: HostRuntime) {
     assert_eq!(rt; writer.taken.as_slice(), b"abcdijk".as_slice());
 }
 
-#[test]
-fn std_source_gives_all_bytes(rt: HostRuntime) {
-    let text: &[u8] = b"12";
-    let mut source = StdSource::new(text);
-    let mut buf = *b"....";
-    assert_eq!(rt; source.read(&mut buf), Ok(2));
-    assert_eq!(rt; source.read(&mut buf), Ok(0));
-    assert_eq!(rt; buf.as_slice(), b"12..".as_slice());
-}
-
-// Makes a file of these bytes.
-fn store<S: Shelf>(shelf: &mut S, name: &str, bytes: &[u8]) -> Result<(), Failed>
-    requires { (S.seen shelf.old).mode ≡ Idle }
-    ensures { (S.seen shelf.new).mode ≡ Idle }
-{
-    shelf.create(name)?;
-    shelf.append(bytes)?;
-    shelf.finish()
-}
-
-// Makes a file of two parts.
-fn store_parts<S: Shelf>(
-    shelf: &mut S,
-    name: &str,
-    first: &[u8],
-    second: &[u8],
-) -> Result<(), Failed>
+/// Makes a file of two parts.
+fn store<S: Shelf>(shelf: &mut S, name: &str, first: &[u8], second: &[u8]) -> Result<(), Failed>
     requires { (S.seen shelf.old).mode ≡ Idle }
     ensures { (S.seen shelf.new).mode ≡ Idle }
 {
@@ -82,23 +55,19 @@ fn store_parts<S: Shelf>(
     shelf.finish()
 }
 
-// Reads a file in pieces of at most two bytes, and gives their lengths.
-fn load_pieces<S: Shelf>(
-    shelf: &mut S,
-    name: &str,
-    buf: &mut [u8; 8],
-) -> Result<[usize; 4], OpenError>
+/// Reads a file in pieces of at most two bytes, and gives their lengths.
+fn load<S: Shelf>(shelf: &mut S, name: &str, buf: &mut [u8; 8]) -> Result<[usize; 4], OpenError>
     requires { (S.seen shelf.old).mode ≡ Idle }
     ensures { (S.seen shelf.new).mode ≡ Idle }
 {
     shelf.open_file(name)?;
-    match load_four(shelf, buf) {
+    match load_pieces(shelf, buf) {
         Ok(lens) => Ok(lens),
         Err(Failed) => Err(OpenError::Failed),
     }
 }
 
-fn load_four<S: Shelf>(shelf: &mut S, buf: &mut [u8; 8]) -> Result<[usize; 4], Failed>
+fn load_pieces<S: Shelf>(shelf: &mut S, buf: &mut [u8; 8]) -> Result<[usize; 4], Failed>
     requires { IsReading (S.seen shelf.old).mode }
     ensures { (S.seen shelf.new).mode ≡ Idle }
 {
@@ -112,24 +81,17 @@ fn load_four<S: Shelf>(shelf: &mut S, buf: &mut [u8; 8]) -> Result<[usize; 4], F
 
 #[test]
 fn folder_shelf_keeps_files(rt: HostRuntime) -> Result<(), Fail> {
-    let _ = fs::remove_dir_all(&rt, "dir_shelf_test");
-    fs::create_dir(&rt, "dir_shelf_test")?;
+    let _ = fs::remove_dir_all(&rt, "shelf");
+    fs::create_dir(&rt, "shelf")?;
     let mut shelf = DirShelf::new(rt.alloc(), &rt);
     let mut buf = *b"........";
-    assert!(rt; load_pieces(&mut shelf, "dir_shelf_test/a", &mut buf) == Err(OpenError::Missing));
-    assert_eq!(rt;
-        store(&mut shelf, "dir_shelf_test/none/a", b"abc"),
-        Err(Failed)
-    );
-    assert_eq!(rt;
-        store_parts(&mut shelf, "dir_shelf_test/a", b"abc", b"de"),
-        Ok(())
-    );
-    assert!(rt; load_pieces(&mut shelf, "dir_shelf_test/a", &mut buf) == Ok([2, 2, 1, 0]));
+    assert!(rt; load(&mut shelf, "shelf/a", &mut buf) == Err(OpenError::Missing));
+    assert_eq!(rt; store(&mut shelf, "shelf/none/a", b"abc", b""), Err(Failed));
+    assert_eq!(rt; store(&mut shelf, "shelf/a", b"abc", b"de"), Ok(()));
+    assert!(rt; load(&mut shelf, "shelf/a", &mut buf) == Ok([2, 2, 1, 0]));
+    assert_eq!(rt; store(&mut shelf, "shelf/a", b"", b""), Ok(()));
+    assert!(rt; load(&mut shelf, "shelf/a", &mut buf) == Ok([0, 0, 0, 0]));
     assert_eq!(rt; buf.as_slice(), b"abcde...".as_slice());
-    assert_eq!(rt; store(&mut shelf, "dir_shelf_test/a", b""), Ok(()));
-    assert!(rt; load_pieces(&mut shelf, "dir_shelf_test/a", &mut buf) == Ok([0, 0, 0, 0]));
-    assert_eq!(rt; buf.as_slice(), b"abcde...".as_slice());
-    fs::remove_dir_all(&rt, "dir_shelf_test")?;
+    fs::remove_dir_all(&rt, "shelf")?;
     Ok(())
 }

@@ -1,4 +1,4 @@
-use crate::fault::Fault;
+use crate::prefixes::Fault;
 use litmus_text::TestKind;
 
 /// What a reading of lines waits for.
@@ -39,41 +39,34 @@ pub fn slow_fault(text: &str) -> Option<Fault> {
 
 /// What a reading waits for after a line, or the fault. A line of blanks is passed over.
 fn awaits_after(awaits: Awaits, number: u64, line: &str) -> Result<Awaits, Fault> {
-    match awaits {
-        _ if line.trim().is_empty() => Ok(awaits),
-        Awaits::Header => go_on(is_header(line), Awaits::Quote, number, TestKind::BadHeader),
+    let (next, kind) = match awaits {
+        _ if line.trim().is_empty() => return Ok(awaits),
+        Awaits::Header => (if_so(is_header(line), Awaits::Quote), TestKind::BadHeader),
         Awaits::Quote if line.starts_with('"') => {
-            go_on(
-                is_quote(line),
-                Awaits::InitialState,
-                number,
-                TestKind::BadQuote,
-            )
+            let next = if_so(is_quote(line), Awaits::InitialState);
+            (next, TestKind::BadQuote)
         }
-        Awaits::Quote | Awaits::InitialState => awaits_in_braces(line.strip_prefix('{'), number),
-        Awaits::Brace => awaits_in_braces(Some(line), number),
-        Awaits::Table => awaits_in_table(threads_in(line), number),
-        Awaits::Row(threads) if quantifier(line).is_some() => go_on(
-            is_condition(threads, line),
-            Awaits::Nothing(number),
-            number,
-            TestKind::BadCondition,
-        ),
+        Awaits::Quote | Awaits::InitialState => {
+            (in_braces(line.strip_prefix('{')), TestKind::BadInit)
+        }
+        Awaits::Brace => (in_braces(Some(line)), TestKind::BadInit),
+        Awaits::Table => (in_table(line), TestKind::BadTable),
+        Awaits::Row(threads) if quantifier(line).is_some() => {
+            let next = if_so(is_condition(threads, line), Awaits::Nothing(number));
+            (next, TestKind::BadCondition)
+        }
         Awaits::Row(threads) => match row_fault(threads, line) {
-            Some(kind) => Err((number, kind)),
-            None => Ok(awaits),
+            Some(kind) => (None, kind),
+            None => return Ok(awaits),
         },
-        Awaits::Nothing(condition) => Err((condition, TestKind::BadCondition)),
-    }
+        Awaits::Nothing(condition) => return Err((condition, TestKind::BadCondition)),
+    };
+    next.ok_or((number, kind))
 }
 
-/// What a reading waits for after a line that is right, or the fault.
-fn go_on(is_right: bool, next: Awaits, number: u64, kind: TestKind) -> Result<Awaits, Fault> {
-    if is_right {
-        Ok(next)
-    } else {
-        Err((number, kind))
-    }
+/// What a reading waits for after a line that is right.
+fn if_so(is_right: bool, next: Awaits) -> Option<Awaits> {
+    if is_right { Some(next) } else { None }
 }
 
 /// The header: two words, the architecture and a name.
@@ -84,33 +77,21 @@ fn is_header(line: &str) -> bool {
 
 /// The quoted text ends with its second double quote, and the line does too.
 fn is_quote(line: &str) -> bool {
-    match line.strip_prefix('"') {
-        Some(quoted) => quoted
-            .split_once('"')
-            .is_some_and(|parts| parts.1.is_empty()),
-        None => false,
-    }
+    let quoted = line.strip_prefix('"').and_then(|text| text.split_once('"'));
+    quoted.is_some_and(|parts| parts.1.is_empty())
 }
 
 /// The initial state, from a `{` or a later line of it up to `}`, which ends its line.
-fn awaits_in_braces(items: Option<&str>, number: u64) -> Result<Awaits, Fault> {
-    match items {
-        Some(items) if items.trim().is_empty() => Ok(Awaits::Brace),
-        Some(items) if items.trim_start() == "}" => Ok(Awaits::Table),
-        _ => Err((number, TestKind::BadInit)),
+fn in_braces(items: Option<&str>) -> Option<Awaits> {
+    match items?.trim_start() {
+        "" => Some(Awaits::Brace),
+        "}" => Some(Awaits::Table),
+        _ => None,
     }
 }
 
-/// The header of the table for so many threads.
-fn awaits_in_table(threads: Option<u32>, number: u64) -> Result<Awaits, Fault> {
-    match threads {
-        Some(threads) => Ok(Awaits::Row(threads)),
-        None => Err((number, TestKind::BadTable)),
-    }
-}
-
-/// How many threads a header of the table names: `P0`, `P1` and so on, between bars, and `;` at the end.
-fn threads_in(line: &str) -> Option<u32> {
+/// A header of the table names threads: `P0`, `P1` and so on, between bars, and `;` at the end.
+fn in_table(line: &str) -> Option<Awaits> {
     let mut threads = 0;
     for cell in line.strip_suffix(';')?.split('|') {
         if number_in(cell.trim().strip_prefix('P')?)? != threads {
@@ -118,12 +99,15 @@ fn threads_in(line: &str) -> Option<u32> {
         }
         threads = threads.checked_add(1)?;
     }
-    Some(threads)
+    Some(Awaits::Row(threads))
 }
 
 /// The leftmost fault of a row: as many cells as there are threads, between bars, and `;` at the end.
 fn row_fault(threads: u32, line: &str) -> Option<TestKind> {
-    let (cells, is_whole) = cells_in(line);
+    let (cells, is_whole) = match line.split_once(';') {
+        Some((cells, remainder)) => (cells, remainder.is_empty()),
+        None => (line, false),
+    };
     let mut thread = 0;
     for cell in cells.split('|') {
         if thread >= threads {
@@ -141,14 +125,6 @@ fn row_fault(threads: u32, line: &str) -> Option<TestKind> {
     }
 }
 
-/// The cells of a row, up to the first `;`, and whether that is there and ends the line.
-fn cells_in(line: &str) -> (&str, bool) {
-    match line.split_once(';') {
-        Some((cells, remainder)) => (cells, remainder.is_empty()),
-        None => (line, false),
-    }
-}
-
 /// A cell is empty or an instruction: `MOV REG,[PLACE]` or `MOV [PLACE],$NUM`.
 fn is_cell(cell: &str) -> bool {
     cell.is_empty()
@@ -161,47 +137,35 @@ fn is_cell(cell: &str) -> bool {
 
 /// The two operands of `MOV`, with blanks around the comma or without.
 fn operands(cell: &str) -> Option<(&str, &str)> {
-    let (word, rest) = cell.split_once(' ')?;
-    let (to, from) = rest.split_once(',')?;
-    if word == "MOV" {
-        Some((to.trim(), from.trim()))
-    } else {
-        None
-    }
+    let (to, from) = cell.strip_prefix("MOV ")?.split_once(',')?;
+    Some((to.trim(), from.trim()))
 }
 
 /// A number after a dollar sign.
 fn is_immediate(text: &str) -> bool {
-    match text.strip_prefix('$') {
-        Some(digits) => number_in(digits).is_some(),
-        None => false,
-    }
+    text.strip_prefix('$')
+        .is_some_and(|digits| number_in(digits).is_some())
 }
 
 /// A place in brackets.
 fn is_bracketed(text: &str) -> bool {
-    match text.strip_prefix('[') {
-        Some(rest) => rest.strip_suffix(']').is_some_and(|place| is_place(place)),
-        None => false,
-    }
+    let place = text
+        .strip_prefix('[')
+        .and_then(|rest| rest.strip_suffix(']'));
+    place.is_some_and(|place| is_place(place))
 }
 
 /// A letter or `_`, then letters, digits and `_`, of at most 16 bytes.
 fn is_place(text: &str) -> bool {
-    match text.as_bytes() {
-        [first, rest @ ..] => {
-            !first.is_ascii_digit()
-                && is_word_byte(*first)
-                && rest.len() < 16
-                && rest.iter().all(|byte| is_word_byte(*byte))
-        }
-        [] => false,
-    }
-}
-
-/// A letter, a digit or `_`.
-fn is_word_byte(byte: u8) -> bool {
-    byte.is_ascii_alphanumeric() || byte == b'_'
+    let is_word = text
+        .bytes()
+        .all(|byte| byte.is_ascii_alphanumeric() || byte == b'_');
+    is_word
+        && text.len() <= 16
+        && text
+            .bytes()
+            .next()
+            .is_some_and(|byte| !byte.is_ascii_digit())
 }
 
 /// A register that tests use.
@@ -231,10 +195,7 @@ fn quantifier(line: &str) -> Option<&str> {
 
 /// A condition: a quantifier, and in parentheses, which end the line, terms with `/\` between.
 fn is_condition(threads: u32, line: &str) -> bool {
-    match terms_in(line) {
-        Some(terms) => are_terms(threads, terms),
-        None => false,
-    }
+    terms_in(line).is_some_and(|terms| terms.split("/\\").all(|term| is_term(threads, term)))
 }
 
 /// The text between the parentheses of a condition.
@@ -243,36 +204,16 @@ fn terms_in(line: &str) -> Option<&str> {
     remainder.trim().strip_prefix('(')?.strip_suffix(')')
 }
 
-/// Terms with `/\` between.
-fn are_terms(threads: u32, text: &str) -> bool {
-    for term in text.split("/\\") {
-        if !is_term(threads, term) {
-            return false;
-        }
-    }
-    true
-}
-
-/// A term: `T:REG=NUM`, `[PLACE]=NUM` or `PLACE=NUM`.
+/// A term: `T:REG=NUM`, `[PLACE]=NUM` or `PLACE=NUM`, of a thread of the table.
 fn is_term(threads: u32, term: &str) -> bool {
-    match term.split_once('=') {
-        Some((left, right)) => is_left(threads, left.trim()) && number_in(right.trim()).is_some(),
-        None => false,
-    }
-}
-
-/// The left side of a term: a register of a thread of the table, or a place.
-fn is_left(threads: u32, left: &str) -> bool {
-    match left.split_once(':') {
-        Some((thread, register)) => is_thread(threads, thread) && is_register(register),
-        None => is_place(left) || is_bracketed(left),
-    }
-}
-
-/// The number of one of so many threads.
-fn is_thread(threads: u32, text: &str) -> bool {
-    match number_in(text) {
-        Some(thread) => thread < threads,
-        None => false,
-    }
+    let Some((left, right)) = term.split_once('=') else {
+        return false;
+    };
+    let is_left = match left.trim().split_once(':') {
+        Some((thread, register)) => {
+            number_in(thread).is_some_and(|thread| thread < threads) && is_register(register)
+        }
+        None => is_place(left.trim()) || is_bracketed(left.trim()),
+    };
+    is_left && number_in(right.trim()).is_some()
 }
