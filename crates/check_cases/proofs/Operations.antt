@@ -58,7 +58,7 @@ fits number op = is_some (step op (initial_state ((0, Place 0) ∷ (1, Num 1) �
 -- no rule fits these operands, though there is a number to read
 no_rule_fits : list_all (λ op. not (fits (Some 1) op))
     (ops.Xor 3 0 1 ∷ ops.AddImm 3 0 0 ∷ ops.AddImm 3 2 1 ∷ ops.OrImm 3 0 0 ∷ ops.Add 3 2 1 ∷ ops.Add 3 0 1 ∷ ops.Load 3 1 None ∷
-     ops.Store 1 1 None ∷ ops.Store 1 0 (Some 1) ∷ ops.Store 0 0 None ∷ ops.StoreRel 1 1 ∷ ops.Cmp 0 1 ∷ ops.BranchNz 0 0 ∷ []) ≡ true
+    ops.Store 1 1 None ∷ ops.Store 1 0 (Some 1) ∷ ops.Store 0 0 None ∷ ops.StoreRel 1 1 ∷ ops.Cmp 0 1 ∷ ops.BranchNz 0 0 ∷ []) ≡ true
 no_rule_fits = refl
 
 -- a load has nothing to read

@@ -1,4 +1,4 @@
-ghost use Rattle.std.specs.Prelude.{◌≡◌, ◌&&◌, ◌≤◌, ◌×◌, false, length};
+ghost use Rattle.std.specs.Prelude.{◌≡◌, ◌&&◌, ◌≤◌, false, length};
 ghost use Rattle.std.specs.List.{All};
 ghost use Rattle.arch_trait.specs.Threads.{FitSteps};
 ghost use Rattle.arch_trait.specs.Writing.{place_below, label_below};
