@@ -5,8 +5,8 @@ use Rattle.log_sum.specs.declared.{errors.Fault.Fault, errors.Fault.TheVariants.
 use Rattle.log_sum.specs.declared.{errors.LogKind.TheVariants.LineTooLong, errors.SumError.SumError, kinds.Place.Place}
 use Rattle.log_sum.specs.LogReading.{LogSeen, fault_at, is_too_long, nothing_seen, text_judged, line_judged, lines_judged, rest_judged, bytes_judged, last_judged, end_at, end_judged, file_judged, files_judged, input_judged}
 use Rattle.text_parts_laws.specs.{ReadingSteps.◌>>=◌, Lines.without_return, Lines.whole_lines, Lines.unended}
-use Rattle.log_sum.specs.Representing.{SumProgress, Kept, Represents, FedTo, EndedTo}
-use Rattle.log_sum.specs.Feeding.{AreMarked, FollowsSeen, ReadOn, JudgedTo, PieceTo, EndTo, sum_refusal}
+use Rattle.log_sum.specs.Representing.{SumProgress, Kept, EndedTo}
+use Rattle.log_sum.specs.Feeding.{IsFed, AreMarked, FollowsSeen, ReadOn, JudgedTo, PieceTo, EndTo, sum_refusal}
 use Rattle.log_sum.proofs.ReadingLaws.{is_one_line, so_far, so_far_more, so_far_ended, input_by_lines, rest_more, rest_ended, read_on}
 use Rattle.log_sum.proofs.{SumLaws.none_marked, FollowLaws.entry_marked, StayLaws.input_fault, StayLaws.nothing_more, Grammar.judged_text}
 
@@ -63,15 +63,14 @@ input_marked : (next : LogSeen) (files : List (List ℕ)) (bytes : List ℕ) →
 unfolding input_judged bytes_judged
 input_marked next files bytes h = grind (arith, rest_same, lines_marked, files_marked, none_marked)
 
--- what represents an input follows its reading
-pub represents_follows : (kept : Kept) (files : List (List ℕ)) (bytes : List ℕ) (s : Represents kept files bytes) → FollowsSeen kept.progress s.seen
-represents_follows kept files bytes s = record { reading = s.reading; marked = input_marked s.seen files bytes s.judged }
+-- what was fed an input follows its reading
+pub fed_follows : (kept : Kept) (files : List (List ℕ)) (bytes : List ℕ) (s : IsFed kept files bytes) → FollowsSeen kept.progress s.seen
+fed_follows kept files bytes s = record { reading = s.reading; marked = input_marked s.seen files bytes s.judged }
 
 rest_nothing : (seen : LogSeen) → rest_judged seen [] ≡ Ok seen
 unfolding rest_judged
 rest_nothing seen = refl
 
--- a line that ends, after the input that is represented
 -- a text that ends with a byte isn't empty, and nothing begins an empty text
 some_end : (text : List ℕ) (byte : ℕ) → text ++ byte ∷ [] ≡ [] → ⊥
 some_end [] byte h = cc
@@ -81,13 +80,14 @@ no_prefix : (prefix rest : List ℕ) → prefix ++ rest ≡ [] → prefix ≡ []
 no_prefix [] rest h = refl
 no_prefix (b ∷ prefix) rest h = absurd (cc)
 
-line_after : (old : Kept) (files : List (List ℕ)) (bytes prefix : List ℕ) (s : Represents old files bytes) → is_one_line prefix ≡ true
+-- a line that ends, after the input before it
+line_after : (old : Kept) (files : List (List ℕ)) (bytes prefix : List ℕ) (s : IsFed old files bytes) → is_one_line prefix ≡ true
     → so_far files ((bytes ++ prefix) ++ 10 ∷ []) ≡ line_judged s.seen (old.held ++ prefix)
 line_after old files bytes prefix s one = grind (arith, so_far_ended, so_far_more, rest_more, input_by_lines, rest_same)
 
--- a line that was read without a fault is represented with the input before it
-pub line_fed : (old new : Kept) (files : List (List ℕ)) (bytes prefix : List ℕ) (s : Represents old files bytes) → is_one_line prefix ≡ true → ReadOn new.progress (line_judged s.seen (old.held ++ prefix))
-    → new.held ≡ [] → new.refusal ≡ old.refusal → Represents new files (bytes ++ (prefix ++ 10 ∷ []))
+-- a line that was read without a fault is fed with the input before it
+pub line_fed : (old new : Kept) (files : List (List ℕ)) (bytes prefix : List ℕ) (s : IsFed old files bytes) → is_one_line prefix ≡ true → ReadOn new.progress (line_judged s.seen (old.held ++ prefix))
+    → new.held ≡ [] → new.refusal ≡ old.refusal → IsFed new files (bytes ++ (prefix ++ 10 ∷ []))
 line_fed old new files bytes prefix s one h held refusal =
     grind (
       arith,
@@ -100,23 +100,23 @@ line_fed old new files bytes prefix s one h held refusal =
     )
 
 -- the fault of a line is that of the input up to it
-pub line_faulty : (old : Kept) (files : List (List ℕ)) (bytes prefix : List ℕ) (error : LogError) (s : Represents old files bytes) → is_one_line prefix ≡ true → line_judged s.seen (old.held ++ prefix) ≡ Err error
+pub line_faulty : (old : Kept) (files : List (List ℕ)) (bytes prefix : List ℕ) (error : LogError) (s : IsFed old files bytes) → is_one_line prefix ≡ true → line_judged s.seen (old.held ++ prefix) ≡ Err error
     → input_judged files (bytes ++ (prefix ++ 10 ∷ [])) ≡ Err error
 line_faulty old files bytes prefix error s one h =
     cc ((append_assoc bytes prefix (10 ∷ [])), (input_by_lines files ((bytes ++ prefix) ++ 10 ∷ [])), (line_after old files bytes prefix s one))
 
 -- the answer to a part of a line that goes on is that of the reading
-pub part_answered : (old new : Kept) (files : List (List ℕ)) (bytes part : List ℕ) (s : Represents old files bytes) → is_one_line part ≡ true → (r : Result (Unit {0}) Fault)
+pub part_answered : (old new : Kept) (files : List (List ℕ)) (bytes part : List ℕ) (s : IsFed old files bytes) → is_one_line part ≡ true → (r : Result (Unit {0}) Fault)
     → JudgedTo new.progress (rest_judged s.seen (old.held ++ part)) r → OnOk r (new ≡ record old { held = old.held ++ part }) → PieceTo new files (bytes ++ part) r
 part_answered old new files bytes part s one r h e = grind (arith, rest_more, no_prefix, input_by_lines, so_far_more, rest_same)
 
--- the end of a file, after the input that is represented
-file_by_lines : (files : List (List ℕ)) (bytes : List ℕ) → files_judged nothing_seen (files ++ bytes ∷ []) ≡ (so_far files bytes >>= (λ next. last_judged next (unended bytes)) >>= end_judged)
+-- the end of a file, after the input before it
+pub file_by_lines : (files : List (List ℕ)) (bytes : List ℕ) → files_judged nothing_seen (files ++ bytes ∷ []) ≡ (so_far files bytes >>= (λ next. last_judged next (unended bytes)) >>= end_judged)
 unfolding file_judged
 file_by_lines files bytes = grind (arith, read_on)
 
 -- the end of a file is judged after its last line, which was held
-pub end_after : (old : Kept) (files : List (List ℕ)) (bytes : List ℕ) (s : Represents old files bytes) → files_judged nothing_seen (files ++ bytes ∷ []) ≡ (last_judged s.seen old.held >>= end_judged)
+pub end_after : (old : Kept) (files : List (List ℕ)) (bytes : List ℕ) (s : IsFed old files bytes) → files_judged nothing_seen (files ++ bytes ∷ []) ≡ (last_judged s.seen old.held >>= end_judged)
 end_after old files bytes s = grind (arith, file_by_lines, input_by_lines, rest_same)
 
 -- an empty last line changes nothing
@@ -145,11 +145,6 @@ end_answered new files bytes seen e held going r h o = grind (arith, nothing_mor
 pub last_answered : (new : Kept) (files : List (List ℕ)) (bytes line : List ℕ) (seen : LogSeen) → files_judged nothing_seen (files ++ bytes ∷ []) ≡ (last_judged seen line >>= end_judged)
     → last_judged seen line ≡ text_judged seen line → (fault : Fault) → JudgedTo new.progress (text_judged seen line) (Err fault) → EndTo new files bytes (Err fault)
 last_answered new files bytes line seen e f fault h = grind arith
-
--- a refusal is the fault at its line
-pub fed_refused : (middle new : Kept) (files : List (List ℕ)) (bytes : List ℕ) (fault : Fault) (answer : SumError) → answer ≡ sum_refusal middle.progress.line fault → new.refusal ≡ Some answer
-    → PieceTo middle files bytes (Err fault) → FedTo new files bytes (Err answer)
-fed_refused middle new files bytes fault answer e k h = grind arith
 
 -- a refusal at the end of a log is the fault at its line
 pub end_refused : (middle new : Kept) (files : List (List ℕ)) (bytes : List ℕ) (fault : Fault) (answer : SumError) → answer ≡ sum_refusal middle.progress.line fault → new.refusal ≡ Some answer
@@ -186,7 +181,7 @@ pub line_read : (new : SumProgress) (seen : LogSeen) (line text : List ℕ) (r :
 line_read new seen line text r few e h = grind (arith, line_fits)
 
 -- a line that is wrong, with the rest of its piece after it
-pub line_answered : (old new : Kept) (files : List (List ℕ)) (bytes prefix remainder whole : List ℕ) (s : Represents old files bytes) → is_one_line prefix ≡ true → (bytes ++ (prefix ++ 10 ∷ [])) ++ remainder ≡ whole
+pub line_answered : (old new : Kept) (files : List (List ℕ)) (bytes prefix remainder whole : List ℕ) (s : IsFed old files bytes) → is_one_line prefix ≡ true → (bytes ++ (prefix ++ 10 ∷ [])) ++ remainder ≡ whole
     → (fault : Fault) → JudgedTo new.progress (line_judged s.seen (old.held ++ prefix)) (Err fault) → PieceTo new files whole (Err fault)
 line_answered old new files bytes prefix remainder whole s one e (Wrong kind) h =
     ap (input_judged files) (sym e) ∙ input_fault files (bytes ++ (prefix ++ 10 ∷ [])) remainder _ (line_faulty old files bytes prefix _ s one h)

@@ -1,13 +1,13 @@
 -- The reading that the code keeps follows the definitions.
 use Rattle.std.proofs.Common.{◌≡◌, ℕ, List, [], ◌∷◌, ◌++◌, Some, None, true, false, refl, sym, ap, ◌∙◌, append-nil, arith}
-use Rattle.std.specs.Prelude.{Bool, Result, Ok, Err, ◌+◌}
+use Rattle.std.specs.Prelude.{Bool, Result, Ok, Err}
 use Rattle.std.proofs.lemmas.Slice.Eq.{bytes_eq-Decides}
 use Rattle.log_sum.specs.declared.{errors.LogKind.LogKind, errors.Fault.Fault, errors.Fault.TheVariants.Wrong, errors.Fault.TheVariants.NoMemory}
 use Rattle.log_sum.specs.declared.{kinds.Place.Place, table.Table.Table}
-use Rattle.log_sum.specs.{SumViews.tests_view, SumViews.IsLineFault, Representing.SumProgress, Representing.IsRunning, Representing.test_name_at}
+use Rattle.log_sum.specs.{SumViews.tests_view, SumViews.IsLineFault, Representing.SumProgress, Feeding.IsRunning, Representing.test_name_at}
 use Rattle.log_sum.specs.{Summed.Summed}
 use Rattle.log_sum.specs.Facts.{Row, Fact, Entry, a_row, facts_of, rows, fact_fault}
-use Rattle.log_sum.specs.LogLines.{Said, passed_over, begins, counts, a_state, judged, conditioned, hashed, ends, row_said, log_line_said, place_after, fact_said, test_after}
+use Rattle.log_sum.specs.LineReading.{Said, passed_over, begins, counts, a_state, judged, conditioned, hashed, ends, row_said, log_line_said, place_after, fact_said, test_after}
 use Rattle.log_sum.specs.LogReading.{LogSeen, fact_put, fault_at, said_to, said_judged, text_judged, next_line}
 use Rattle.log_sum.specs.Feeding.{Marked, AreMarked, entry_of, FactPut, RowPut, FollowsSeen, ReadOn, JudgedTo}
 use Rattle.log_sum.proofs.{SumLaws.rows_more, SumLaws.marked_put, ReadingLaws.facts_here, ReadingLaws.facts_elsewhere}

@@ -6,17 +6,17 @@ use Rattle.text_parts_laws.specs.{Lines.without_return, Lines.last_line, Words.w
 use Rattle.log_sum.specs.declared.{errors.LogKind.LogKind, errors.LogKind.TheVariants.LineTooLong, errors.LogError.LogError, kinds.Kind.Kind}
 use Rattle.log_sum.specs.declared.{kinds.Place.Place}
 use Rattle.log_sum.specs.declared.kinds.Place.TheVariants.{Outside, Histogram, States, Judgement, Rest, Conditioned}
-use Rattle.log_sum.specs.{Facts.Entry, LogLines.Said, LogLines.test_line, LogLines.outside_said, LogLines.condition_line, LogLines.hash_line}
+use Rattle.log_sum.specs.{Facts.Entry, LineReading.Said, LogLines.test_line, LineReading.outside_said, LogLines.condition_line, LogLines.hash_line}
 use Rattle.log_sum.specs.{LogReading.line_judged, LogReading.lines_judged, SumText.sum_text, Representing.logs_text}
 use Rattle.log_sum.specs.{LogGrammar.of_no_test, LogGrammar.log_says}
-use Rattle.log_sum.specs.LogLines.{rest_said, log_line_said, states_left, kind_at, place_after, fact_said}
+use Rattle.log_sum.specs.LineReading.{rest_said, log_line_said, states_left, kind_at, place_after, fact_said}
 use Rattle.log_sum.specs.LogReading.{LogSeen, nothing_seen, fault_at, is_too_long, next_line, said_put, text_judged}
 use Rattle.log_sum.specs.LogReading.{last_judged, end_judged, file_judged, files_judged}
 use Rattle.log_sum.specs.LogGrammar.{text_in, log_texts, LogSays, of_test, of_hash, of_condition}
 use Rattle.log_sum.specs.LogGrammar.{block_says, states_say, rest_says, log_judged, all_judged}
 
 -- what was seen, by its parts
-abbrev at_place : List Entry → List ℕ → Place → ℕ → LogSeen
+abbrev pub at_place : List Entry → List ℕ → Place → ℕ → LogSeen
 at_place entries test place line = record { entries = entries; test = test; place = place; line = line }
 
 -- what was seen between two logs
@@ -153,7 +153,6 @@ reads (Some text ∷ lines) = record {
     of h entries test kind line count = grind (arith, judgement_step, state_step)
 reads lines = grind arith
 
--- logs, one after another
 -- whole logs are read as the facts of their blocks, one after another
 pub files_by_blocks : (entries : List Entry) (logs : List (List ℕ)) → files_judged (between entries) logs ≡ (all_judged entries logs >>= λ all. Ok (between all))
 files_by_blocks entries [] = refl

@@ -20,3 +20,4 @@ pub mod RepresentingLaws
 pub mod PieceLaws
 pub mod LineLaws
 pub mod Grammar
+pub mod CarryLaws

@@ -7,7 +7,7 @@ use Rattle.text_parts_laws.proofs.PieceLaws.{first_piece, length-but_last}
 use Rattle.diy_io.specs.{Count.count_of, Sink.line_feed_count}
 use Rattle.log_sum.specs.declared.kinds.Place.{Place}
 use Rattle.log_sum.specs.LogReading.{LogSeen, nothing_seen, next_line, text_judged, line_judged, lines_judged, rest_judged, bytes_judged, last_judged, end_at, end_judged, file_judged, files_judged, input_judged}
-use Rattle.log_sum.specs.Representing.{Kept, Represents, running_line}
+use Rattle.log_sum.specs.Representing.{running_line}
 use Rattle.log_sum.proofs.FeedLaws.{middle_of, rest_same}
 
 -- after the text of a line comes the next line
@@ -47,7 +47,7 @@ unfolding whole_lines
 whole_count bytes = grind (arith, (first_piece is_line_feed bytes), (length-slice_split is_line_feed bytes), length-but_last)
 
 -- the line that goes on after the bytes of a log so far has its number by their line feeds
-input_line : (next : LogSeen) (files : List (List ℕ)) (bytes : List ℕ) → input_judged files bytes ≡ Ok next → next.line ≡ running_line bytes
+pub input_line : (next : LogSeen) (files : List (List ℕ)) (bytes : List ℕ) → input_judged files bytes ≡ Ok next → next.line ≡ running_line bytes
 unfolding input_judged bytes_judged
 input_line next files bytes h =
     let a = middle_of (files_judged nothing_seen files) (λ x. bytes_judged x bytes) next h in
@@ -55,7 +55,3 @@ input_line next files bytes h =
     let first : a.middle.line ≡ count_of 1 = files_line nothing_seen a.middle files refl a.is ∙ omega arith in
     ap (λ (s : LogSeen). s.line) (sym (rest_same b.middle next (unended bytes) b.then))
     ∙ lines_line a.middle b.middle (whole_lines bytes) 1 first b.is ∙ ap count_of (omega (arith, whole_count bytes))
-
--- what represents bytes of a log is at the line that goes on after them
-pub represents_line : (kept : Kept) (files : List (List ℕ)) (bytes : List ℕ) → Represents kept files bytes → kept.progress.line ≡ running_line bytes
-represents_line kept files bytes s = s.reading.line ∙ input_line s.seen files bytes s.judged

@@ -8,7 +8,7 @@ use Rattle.diy_io.specs.{Wrote.SinkSeen, Wrote.WrotePart, Page.SentAll, Page.Sen
 use Rattle.diy_io.specs.PageLaws.{sent_both, sent_part, sent_part_more, sends_then, sends_stopped}
 use Rattle.log_sum.specs.declared.kinds.{Kind.TheVariants.Allowed, Mark.Mark}
 use Rattle.log_sum.specs.Summed.{Summed, summed, some_or, is_validated}
-use Rattle.log_sum.specs.{Representing.Kept, Representing.Represents, Representing.kept_text, Facts.facts_of, Facts.tests_of}
+use Rattle.log_sum.specs.{Representing.Kept, Representing.sum_table, Representing.kept_text, Facts.Entry, Facts.facts_of, Facts.tests_of}
 use Rattle.log_sum.specs.SumText.{summed_text, sum_text, line_end, filling, mark_sign, state_line, sum_kind_word, verdict_word, how_often, head_text, sum_verdict_text, observation_text}
 
 -- the rest of six blanks and a sign, from a place on
@@ -114,8 +114,8 @@ texts_of : (test : List ℕ → Summed) (names : List (List ℕ)) → flat_map (
 texts_of test [] = refl
 texts_of test (name ∷ names) = ap (λ t. summed_text name (test name) ++ t) (texts_of test names)
 
--- the sum of what is kept is that of the facts of the input that it represents
-pub sum_is : (kept : Kept) (files : List (List ℕ)) (bytes : List ℕ) (s : Represents kept files bytes) → kept_text kept ≡ sum_text s.seen.entries
+-- the sum of what is kept is that of the facts that its tests have
+pub sum_is : (kept : Kept) (entries : List Entry) → kept.progress.tests ≡ sum_table entries → kept_text kept ≡ sum_text entries
 unfolding sum_text
-sum_is kept files bytes s =
-    ap (flat_map (λ (row : List ℕ × Summed). summed_text row.0 row.1)) s.reading.tests ∙ texts_of (λ name. summed (facts_of name s.seen.entries)) (tests_of s.seen.entries)
+sum_is kept entries tests =
+    ap (flat_map (λ (row : List ℕ × Summed). summed_text row.0 row.1)) tests ∙ texts_of (λ name. summed (facts_of name entries)) (tests_of entries)

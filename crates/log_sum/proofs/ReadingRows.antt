@@ -9,7 +9,8 @@ use Rattle.text_parts_laws.specs.{Lines.without_return, Lines.whole_lines, Lines
 use Rattle.log_sum.specs.{Counts.count_read, Summed.summed}
 use Rattle.log_sum.specs.LogStates.{form_read, with_pieces, state_read, state_form}
 use Rattle.log_sum.specs.Facts.{marked_sum, state_sum, states_of, mark_in, fact_fault}
-use Rattle.log_sum.specs.LogLines.{test_line, histogram_line, log_row, condition_line, hash_line, log_line_said, place_after, fact_said}
+use Rattle.log_sum.specs.LogLines.{test_line, histogram_line, log_row, condition_line, hash_line}
+use Rattle.log_sum.specs.LineReading.{log_line_said, place_after, fact_said}
 use Rattle.log_sum.specs.LogReading.{LogSeen, text_judged, line_judged, rest_judged, bytes_judged, last_judged, file_judged, input_judged}
 use Rattle.log_sum.specs.SumText.{state_line, head_text, sum_verdict_text, condition_text, claim_text, hash_text, observation_text, summed_text, sum_text}
 

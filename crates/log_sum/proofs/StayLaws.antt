@@ -1,5 +1,5 @@
 -- A fault stays the first fault, whatever follows.
-use Rattle.std.proofs.Common.{◌≡◌, ℕ, ◌+◌, List, [], ◌∷◌, ◌++◌, Some, None, true, refl, sym, ap, ◌∙◌, arith, append_assoc, length-append}
+use Rattle.std.proofs.Common.{◌≡◌, ℕ, List, [], ◌∷◌, ◌++◌, Some, None, true, refl, sym, ap, ◌∙◌, arith, append_assoc, length-append}
 use Rattle.std.specs.Prelude.{Option, Result, Ok, Err}
 use Rattle.log_sum.specs.declared.errors.{LogError.LogError, LogKind.TheVariants.LineTooLong}
 use Rattle.text_parts_laws.specs.{Cuts.cut_at, Lines.whole_lines, Lines.unended, ReadingSteps.◌>>=◌}

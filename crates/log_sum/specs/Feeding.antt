@@ -1,14 +1,17 @@
--- What the steps of a summer answer, compared with the reading of the same bytes.
+-- What the steps of a summer answer, compared with the reading of the same bytes line by line.
 -- Source: own.
 use Rattle.std.specs.Prelude.{◌≡◌, ℕ, true, not, ◌||◌, List, [], ◌∷◌, ◌++◌, Some, None, Result, Ok, Err}
 use Rattle.std.specs.{List.list_all, Str.bytes_eq}
 use Rattle.log_sum.specs.declared.{errors.Fault.Fault, errors.Fault.TheVariants.Wrong, errors.Fault.TheVariants.NoMemory, errors.LogError.LogError}
 use Rattle.log_sum.specs.declared.{errors.LogKind.LogKind, errors.SumError.SumError, kinds.Mark.Mark, table.Table.Table}
 use Rattle.log_sum.specs.declared.errors.SumError.TheVariants as sums
-use Rattle.log_sum.specs.{SumViews.tests_view, LogLines.Said, LogLines.log_line_said}
+use Rattle.log_sum.specs.{SumViews.tests_view, LineReading.Said, LineReading.log_line_said}
 use Rattle.log_sum.specs.Facts.{Row, Fact, Entry, a_row, facts_of, rows, same_state_mark, mark_in, fact_fault}
 use Rattle.log_sum.specs.LogReading.{LogSeen, nothing_seen, fault_at, said_judged, input_judged, files_judged}
-use Rattle.log_sum.specs.Representing.{SumProgress, IsAtSeen, Kept, Represents, sum_table, test_name_at}
+use Rattle.log_sum.specs.declared.kinds.{Place.Place, Place.TheVariants.Outside}
+use Rattle.log_sum.specs.Representing.{SumProgress, Kept, sum_table, test_name_at}
+use Rattle.log_sum.specs.Summed.{Summed}
+use Rattle.text_parts_laws.specs.Lines.{unended}
 
 -- all rows of a state have the mark that the first one has
 pub record Marked (rs : List Row) : Type 0 where
@@ -56,6 +59,28 @@ abbrev pub RowPut : List Entry → List ℕ → Result Row LogKind → Table →
 RowPut entries test (Ok row) new answer = FactPut entries test (a_row row) new answer
 RowPut entries test (Err kind) new answer = IsRefusedLine kind answer
 
+-- inside a block the test that is running has its name at this index
+abbrev pub IsRunning : Place → List (List ℕ × Summed) → ℕ → List ℕ → Type 0
+IsRunning Outside tests i name = Unit {0}
+IsRunning _ tests i name = test_name_at tests i ≡ Some name
+
+-- the reading is as far as what was seen
+pub record IsAtSeen (progress : SumProgress) (seen : LogSeen) : Type 0 where
+  pub tests : progress.tests ≡ sum_table seen.entries
+  pub place : progress.place ≡ seen.place
+  pub test : IsRunning seen.place progress.tests progress.test seen.test
+  pub line : progress.line ≡ seen.line
+
+-- whole files and the bytes so far of one more were read: the lines that were judged have no fault, what is kept is what they give, and
+-- between two files the states of each test are in byte order
+pub record IsFed (kept : Kept) (files : List (List ℕ)) (bytes : List ℕ) : Type 0 where
+  pub seen : LogSeen
+  pub judged : input_judged files bytes ≡ Ok seen
+  pub reading : IsAtSeen kept.progress seen
+  pub held : kept.held ≡ unended bytes
+  pub going : kept.refusal ≡ None
+  pub in_order : bytes ≡ [] → kept.in_order ≡ true
+
 -- the reading is as far as what was seen, and each state has one mark
 pub record FollowsSeen (progress : SumProgress) (seen : LogSeen) : Type 0 where
   pub reading : IsAtSeen progress seen
@@ -75,13 +100,13 @@ JudgedTo new read (Err NoMemory) = Unit {0}
 
 -- an answer to a piece of a log, compared with the reading
 abbrev pub PieceTo : Kept → List (List ℕ) → List ℕ → Result (Unit {0}) Fault → Type 0
-PieceTo new files bytes (Ok x) = Represents new files bytes
+PieceTo new files bytes (Ok x) = IsFed new files bytes
 PieceTo new files bytes (Err (Wrong kind)) = input_judged files bytes ≡ fault_at new.progress.line kind
 PieceTo new files bytes (Err NoMemory) = Unit {0}
 
 -- an answer to the end of a log, compared with the reading
 abbrev pub EndTo : Kept → List (List ℕ) → List ℕ → Result (Unit {0}) Fault → Type 0
-EndTo new files bytes (Ok x) = Represents new (files ++ bytes ∷ []) []
+EndTo new files bytes (Ok x) = IsFed new (files ++ bytes ∷ []) []
 EndTo new files bytes (Err (Wrong kind)) = files_judged nothing_seen (files ++ bytes ∷ []) ≡ fault_at new.progress.line kind
 EndTo new files bytes (Err NoMemory) = Unit {0}
 
@@ -99,4 +124,4 @@ sum_refusal line NoMemory = sums.NoMemory
 pub record FedBefore (old new : Kept) (piece rest : List ℕ) : Type 0 where
   pub done : List ℕ
   pub whole : done ++ rest ≡ piece
-  pub represents : (files : List (List ℕ)) (bytes : List ℕ) → Represents old files bytes → Represents new files (bytes ++ done)
+  pub goes_on : (files : List (List ℕ)) (bytes : List ℕ) → IsFed old files bytes → IsFed new files (bytes ++ done)

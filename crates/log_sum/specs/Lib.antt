@@ -6,6 +6,8 @@ pub mod LogStates
 pub mod Equalities
 pub mod Facts
 pub mod LogLines
+pub mod LogGrammar
+pub mod LineReading
 pub mod LogReading
 pub mod JudgedLaws
 pub mod Summed
@@ -16,4 +18,3 @@ pub mod StateEntries
 pub mod SummingSteps
 pub mod SumText
 pub mod SumPieces
-pub mod LogGrammar

@@ -1,35 +1,62 @@
 -- What a log is: blocks, and lines between them.
 -- Source: the logs of litmus7; what is a fault is own.
-use Rattle.std.specs.Prelude.{ℕ, zero, suc, Bool, true, false, cond, List, [], ◌∷◌, ◌++◌, map, Option, Some, None, Result, Ok, Err}
+use Rattle.std.specs.Prelude.{ℕ, zero, suc, ◌+◌, nat_lt, min, Bool, true, false, cond, List, [], ◌∷◌, ◌++◌, length, map, Option, Some, None, Result, Ok, Err}
 use Rattle.text_parts_laws.specs.Lines.{without_return, whole_lines, unended, last_line}
 use Rattle.text_parts_laws.specs.{Words.words, ReadingSteps.◌>>=◌}
-use Rattle.log_sum.specs.declared.{errors.LogKind.LogKind, errors.LogError.LogError, kinds.Kind.Kind, kinds.Verdict.Verdict}
+use Rattle.diy_io.specs.Count.{last_count}
+use Rattle.log_sum.specs.declared.{errors.LogKind.LogKind, errors.LogError.LogError, kinds.Kind.Kind, kinds.Verdict.Verdict, kinds.Place.Place}
 use Rattle.log_sum.specs.declared.errors.LogKind.TheVariants.{Truncated, BadState, KindDiffers, LineTooLong}
-use Rattle.log_sum.specs.{Texts.begins_with, LogReading.fault_at, LogReading.is_too_long, LogReading.next_line}
+use Rattle.log_sum.specs.declared.kinds.Place.TheVariants.{Histogram, States, Judgement, Rest, Conditioned}
+use Rattle.log_sum.specs.Texts.{begins_with}
 use Rattle.log_sum.specs.Facts.{Row, Fact, a_kind, a_row, a_condition, a_hash, Entry, facts_of, fact_fault}
 use Rattle.log_sum.specs.LogLines.{test_line, histogram_line, log_row, is_judgement, is_observation, condition_line, quantifier, hash_line}
+
+-- the greatest number of bytes of a line, its line feed not counted
+abbrev pub max_line : ℕ
+max_line = 65536
+
+-- a line has more bytes than that
+abbrev pub is_too_long : List ℕ → Bool
+is_too_long line = nat_lt max_line (length line)
+
+-- the number of the next line; it stops at the greatest count
+abbrev pub next_line : ℕ → ℕ
+next_line line = min (line + 1) last_count
+
+-- a fault at a line
+abbrev pub fault_at : {A : Type 0} → ℕ → LogKind → Result A LogError
+fault_at line kind = Err (record { line = line; kind = kind })
 
 -- the text of a line, where the line isn't too long
 abbrev pub text_in : (List ℕ → List ℕ) → List ℕ → Option (List ℕ)
 text_in ending line = cond (is_too_long line) None (Some (ending line))
 
--- the texts of the lines of a log; a carriage return before a line feed is no part of a line
+-- the texts of lines that a line feed ends; a carriage return before it is no part of a line
+abbrev pub ended_texts : List (List ℕ) → List (Option (List ℕ))
+ended_texts lines = map (text_in without_return) lines
+
+-- the texts of the lines of a log
 unfoldable pub log_texts : List ℕ → List (Option (List ℕ))
-log_texts bytes = map (text_in without_return) (whole_lines bytes) ++ map (text_in (λ line. line)) (last_line (unended bytes))
+log_texts bytes = ended_texts (whole_lines bytes) ++ map (text_in (λ line. line)) (last_line (unended bytes))
 
 -- what the lines of a log say: facts, each with the number of its line, up to the first line that isn't one that may stand there, and
--- that fault, if there is one
+-- that fault, if there is one; and the test and the place of the block inside which the lines end, if they end inside one
 pub record LogSays : Type 0 where
   pub facts : List (ℕ × Entry)
   pub fault : Option LogError
+  pub inside : Option (List ℕ × Place)
 
 -- the log ends, and no line of it has a fault
 abbrev pub log_ends : LogSays
-log_ends = record { facts = []; fault = None }
+log_ends = record { facts = []; fault = None; inside = None }
 
 -- a fault in a line
 abbrev pub stops_at : ℕ → LogKind → LogSays
-stops_at n kind = record { facts = []; fault = Some (record { line = n; kind = kind }) }
+stops_at n kind = record { facts = []; fault = Some (record { line = n; kind = kind }); inside = None }
+
+-- the lines end inside a block, where a log must not end
+abbrev pub cut_off : ℕ → List ℕ → Place → LogSays
+cut_off n test place = record { facts = []; fault = Some (record { line = n; kind = Truncated }); inside = Some (test, place) }
 
 -- a line says a fact of a test, and then others follow
 abbrev pub and_says : ℕ → List ℕ → Fact → LogSays → LogSays
@@ -83,20 +110,21 @@ abbrev mutual
 
   -- those after `Test NAME KIND`
   pub block_says : List ℕ × Kind → ℕ → List (Option (List ℕ)) → LogSays
-  block_says test n [] = stops_at n Truncated
+  block_says test n [] = cut_off n test.0 (Histogram test.1)
   block_says test n (line ∷ lines) =
       of_text n line (λ text. of_count n (histogram_line (words text)) (λ count. states_say test count (next_line n) lines))
 
   -- those where so many states come, and then `Ok` or `No`
   pub states_say : List ℕ × Kind → ℕ → ℕ → List (Option (List ℕ)) → LogSays
-  states_say test count n [] = stops_at n Truncated
+  states_say test zero n [] = cut_off n test.0 (Judgement test.1)
+  states_say test (suc left) n [] = cut_off n test.0 (States test.1 (suc left))
   states_say test zero n (line ∷ lines) =
       of_text n line (λ text. cond (is_judgement (words text)) (rest_says test false (next_line n) lines) (stops_at n BadState))
   states_say test (suc left) n (line ∷ lines) = of_text n line (λ text. of_row n test.0 (log_row text) (states_say test left (next_line n) lines))
 
   -- those after `Ok` or `No`; whether the condition has come
   pub rest_says : List ℕ × Kind → Bool → ℕ → List (Option (List ℕ)) → LogSays
-  rest_says test conditioned n [] = stops_at n Truncated
+  rest_says test conditioned n [] = cut_off n test.0 (cond conditioned (Conditioned test.1) (Rest test.1))
   rest_says test conditioned n (line ∷ lines) = of_text n line (λ text.
       cond (is_observation (words text)) (cond conditioned (log_says (next_line n) lines) (stops_at n BadState))
       (of_no_test n (test_line (words text)) (of_condition n test (condition_line (words text)) (rest_says test true (next_line n) lines)

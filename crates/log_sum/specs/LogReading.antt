@@ -1,12 +1,13 @@
--- The reading of logs, line by line: the facts of all logs, or the first fault.
+-- The reading of logs, line by line, as the code does it: the facts of all logs, or the first fault. `LogGrammar` says it by blocks, and
+-- only clauses of private functions cite this file.
 -- Source: own.
-use Rattle.std.specs.Prelude.{ℕ, ◌+◌, nat_lt, Bool, cond, List, [], ◌∷◌, ◌++◌, length, min, Option, Some, None, Result, Ok, Err}
+use Rattle.std.specs.Prelude.{ℕ, cond, List, [], ◌∷◌, ◌++◌, Option, Some, None, Result, Ok, Err}
 use Rattle.text_parts_laws.specs.{Lines.without_return, Lines.whole_lines, Lines.unended, ReadingSteps.◌>>=◌}
 use Rattle.log_sum.specs.declared.{errors.LogKind.LogKind, errors.LogKind.TheVariants.Truncated, errors.LogKind.TheVariants.LineTooLong}
 use Rattle.log_sum.specs.declared.{errors.LogError.LogError, kinds.Place.Place, kinds.Place.TheVariants.Outside}
-use Rattle.diy_io.specs.Count.{last_count}
+pub use Rattle.log_sum.specs.LogGrammar.{fault_at, is_too_long, next_line}
 use Rattle.log_sum.specs.Facts.{Fact, Entry, facts_of, fact_fault}
-use Rattle.log_sum.specs.LogLines.{Said, log_line_said, place_after, fact_said, test_after}
+use Rattle.log_sum.specs.LineReading.{Said, log_line_said, place_after, fact_said, test_after}
 
 -- the facts so far, the test of the running block, the place in it, and the number of the next line
 pub record LogSeen : Type 0 where
@@ -18,22 +19,6 @@ pub record LogSeen : Type 0 where
 -- nothing has been read
 abbrev pub nothing_seen : LogSeen
 nothing_seen = record { entries = []; test = []; place = Outside; line = 1 }
-
--- a fault at the next line
-abbrev pub fault_at : {A : Type 0} → ℕ → LogKind → Result A LogError
-fault_at line kind = Err (record { line = line; kind = kind })
-
--- the greatest number of bytes of a line, its line feed not counted
-abbrev pub max_line : ℕ
-max_line = 65536
-
--- a line has more bytes than that
-abbrev pub is_too_long : List ℕ → Bool
-is_too_long line = nat_lt max_line (length line)
-
--- the number of the next line; it stops at the greatest count
-abbrev pub next_line : ℕ → ℕ
-next_line line = min (line + 1) last_count
 
 -- what was seen with a fact more, or the fault of that fact
 abbrev pub fact_judged : LogSeen → Fact → Option LogKind → Result LogSeen LogError

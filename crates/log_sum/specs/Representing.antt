@@ -1,13 +1,13 @@
 -- What a summer keeps, and the input that this represents.
 -- Source: own.
-use Rattle.std.specs.Prelude.{◌≡◌, ℕ, ◌+◌, Bool, true, List, [], ◌∷◌, ◌++◌, map, slice_get, Option, Some, None, option_map, Result, Ok, Err, IfErr}
+use Rattle.std.specs.Prelude.{◌≡◌, ◌⊎◌, ℕ, ◌+◌, Bool, true, List, [], ◌∷◌, ◌++◌, map, slice_get, Option, Some, None, option_map, Result, Ok, Err, IfErr}
 use Rattle.diy_io.specs.{Count.count_of, Sink.line_feed_count}
 use Rattle.log_sum.specs.declared.{errors.LogError.LogError, errors.SumError.SumError, errors.SumError.TheVariants.Log}
 use Rattle.log_sum.specs.declared.{errors.SumError.TheVariants.NoMemory, kinds.Place.Place, kinds.Place.TheVariants.Outside}
-use Rattle.log_sum.specs.{Facts.Entry, Facts.facts_of, Facts.tests_of, LogGrammar.all_judged, Summed.Summed, Summed.summed, SumText.summed_text}
+use Rattle.log_sum.specs.{Facts.Entry, Facts.facts_of, Facts.tests_of, Summed.Summed, Summed.summed, SumText.summed_text}
 use Rattle.log_sum.specs.{SumText.sum_text}
-use Rattle.text_parts_laws.specs.{Lines.unended, ReadingSteps.◌>>=◌}
-use Rattle.log_sum.specs.LogReading.{LogSeen, nothing_seen, input_judged, files_judged}
+use Rattle.log_sum.specs.LogGrammar.{LogSays, ended_texts, log_says, all_judged}
+use Rattle.text_parts_laws.specs.{Lines.whole_lines, Lines.unended, ReadingSteps.◌>>=◌}
 use Rattle.std.specs.List.{flat_map}
 
 -- how far the reading is: the tests by name, in the order in which each was first seen; the place in the running log, the
@@ -38,24 +38,41 @@ sum_table entries = map (λ name. (name, summed (facts_of name entries))) (tests
 abbrev pub test_name_at : List (List ℕ × Summed) → ℕ → Option (List ℕ)
 test_name_at tests i = option_map (λ test. test.0) (slice_get tests i)
 
--- inside a block the test that is running has its name at this index
-abbrev pub IsRunning : Place → List (List ℕ × Summed) → ℕ → List ℕ → Type 0
-IsRunning Outside tests i name = Unit {0}
-IsRunning _ tests i name = test_name_at tests i ≡ Some name
+-- the number of the line that goes on after the bytes of a log so far; it stops at the last value of a count
+abbrev pub running_line : List ℕ → ℕ
+running_line bytes = count_of (line_feed_count bytes + 1)
 
--- the reading is as far as what was seen
-pub record IsAtSeen (progress : SumProgress) (seen : LogSeen) : Type 0 where
-  pub tests : progress.tests ≡ sum_table seen.entries
-  pub place : progress.place ≡ seen.place
-  pub test : IsRunning seen.place progress.tests progress.test seen.test
-  pub line : progress.line ≡ seen.line
+-- the bytes so far of a log after others show this fault: it is the first fault of all logs that go on so, whatever follows
+abbrev pub ShowsFault : List (List ℕ) → List ℕ → LogError → Type 0
+ShowsFault before bytes error = (rest : List ℕ) (more : List (List ℕ)) → logs_text (before ++ (bytes ++ rest) ∷ more) ≡ Err error
 
--- what is kept represents whole files and the bytes so far of one more: the lines that were judged have no fault, what is
--- kept is what they give, and between two files the states of each test are in byte order
+-- they show no fault
+abbrev pub ShowsNone : List (List ℕ) → List ℕ → Type 0
+ShowsNone before bytes = (error : LogError) → ShowsFault before bytes error → ⊥
+
+-- what the lines that have ended say in the bytes so far of a log
+abbrev pub says_so_far : List ℕ → LogSays
+says_so_far bytes = log_says 1 (ended_texts (whole_lines bytes))
+
+-- the facts that lines say
+abbrev pub facts_said : LogSays → List Entry
+facts_said says = map (λ fact. fact.1) says.facts
+
+-- the reading is at this place of the block of this test, inside which lines end, or outside the blocks
+abbrev pub IsInside : Option (List ℕ × Place) → SumProgress → Type 0
+IsInside None progress = progress.place ≡ Outside
+IsInside (Some block) progress = (progress.place ≡ block.1) × (test_name_at progress.tests progress.test ≡ Some block.0)
+
+-- what is kept represents whole files and the bytes so far of one more: they show no fault; the tests have the facts of the files and
+-- of the lines that have ended, and the reading is at the place where these end; the bytes of the running line are held; and between
+-- two files the states of each test are in byte order
 pub record Represents (kept : Kept) (files : List (List ℕ)) (bytes : List ℕ) : Type 0 where
-  pub seen : LogSeen
-  pub judged : input_judged files bytes ≡ Ok seen
-  pub reading : IsAtSeen kept.progress seen
+  pub no_fault : ShowsNone files bytes
+  pub before : List Entry
+  pub whole : all_judged [] files ≡ Ok before
+  pub tests : kept.progress.tests ≡ sum_table (before ++ facts_said (says_so_far bytes))
+  pub inside : IsInside (says_so_far bytes).inside kept.progress
+  pub line : kept.progress.line ≡ running_line bytes
   pub held : kept.held ≡ unended bytes
   pub going : kept.refusal ≡ None
   pub in_order : bytes ≡ [] → kept.in_order ≡ true
@@ -65,15 +82,11 @@ pub record IsBetweenLogs (kept : Kept) : Type 0 where
   pub files : List (List ℕ)
   pub represents : Represents kept files []
 
--- the number of the line that goes on after the bytes of a log so far; it stops at the last value of a count
-abbrev pub running_line : List ℕ → ℕ
-running_line bytes = count_of (line_feed_count bytes + 1)
-
 -- what an answer to a piece of a log says, where this is the input up to the end of the piece: it has no fault and is
--- represented by what is kept, or it has exactly this first fault
+-- represented by what is kept, or it shows exactly this first fault
 abbrev pub FedTo : Kept → List (List ℕ) → List ℕ → Result (Unit {0}) SumError → Type 0
 FedTo new files bytes (Ok x) = Represents new files bytes
-FedTo new files bytes (Err (Log error)) = (input_judged files bytes ≡ Err error) × (new.refusal ≡ Some (Log error))
+FedTo new files bytes (Err (Log error)) = ShowsFault files bytes error × (new.refusal ≡ Some (Log error))
 FedTo new files bytes (Err NoMemory) = new.refusal ≡ Some NoMemory
 
 -- what an answer to the end of a log says, where these are the bytes of the log: the logs with it have no fault and are
@@ -95,10 +108,7 @@ IsKeptRefusal new result = IfErr result (λ refusal. new.refusal ≡ Some refusa
 abbrev pub kept_text : Kept → List ℕ
 kept_text kept = flat_map (λ test. summed_text test.0 test.1) kept.progress.tests
 
--- Logs that are read line by line say what their blocks say. So the sum that is printed of a summer that was fed whole logs is that of their
--- blocks, and a fault of the bytes so far is the first fault of the blocks of all logs that go on so.
+-- What is printed of a summer that was fed whole logs is their sum; and the bytes so far of a log show a fault, or show none.
 pub record LogsByBlocks : Type 0 where
-  pub sum : (logs : List (List ℕ)) → (files_judged nothing_seen logs >>= λ seen. Ok (sum_text seen.entries)) ≡ logs_text logs
   pub written : (kept : Kept) (files : List (List ℕ)) → Represents kept files [] → logs_text files ≡ Ok (kept_text kept)
-  pub fault : (files : List (List ℕ)) (bytes rest : List ℕ) (more : List (List ℕ)) (error : LogError)
-      → input_judged files bytes ≡ Err error → logs_text (files ++ (bytes ++ rest) ∷ more) ≡ Err error
+  pub shown : (files : List (List ℕ)) (bytes : List ℕ) → ((error : LogError) × ShowsFault files bytes error) ⊎ ShowsNone files bytes

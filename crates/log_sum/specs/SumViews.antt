@@ -9,7 +9,8 @@ use Rattle.log_sum.specs.declared.lines.Said.TheVariants as code
 use Rattle.std.specs.declared.{vec.Vec.Vec, alloc.Global.Global}
 use Rattle.log_sum.specs.{Summed.Summed, StateEntries.states_view, Facts.Row, Facts.Fact, Representing.SumProgress, LogStates.form_read}
 use Rattle.log_sum.specs.{SummingSteps.fact_to}
-use Rattle.log_sum.specs.LogLines.{Said, row_of, row_said, passed_over, begins, counts, judged, conditioned, hashed, ends}
+use Rattle.log_sum.specs.LogLines.{row_of}
+use Rattle.log_sum.specs.LineReading.{Said, row_said, passed_over, begins, counts, judged, conditioned, hashed, ends}
 
 -- an answer is what the definition gives; `view` says what the answer means
 abbrev pub GivesParsed : {X Y : Type 0} → (X → Y) → Result X LogKind → Result Y LogKind → Type 0

@@ -11,12 +11,13 @@ pub fn same_answers()
     ensures { SameAnswers }
 {}
 
-/// A law: the sum of whole logs, or their first fault, is what their blocks say.
+/// A law: what is printed of whole logs is the sum of their blocks.
 ///
 /// A log is read line by line, by the place of the running line in its block. What comes of that is
 /// what the grammar of logs gives: lines that are passed over, and blocks, each from `Test` to
 /// `Observation`. So what a summer between two logs prints is the sum of the blocks of the logs that it
-/// was fed, and a fault that it finds in the bytes so far is that of their blocks, whatever follows.
+/// was fed. The bytes so far of a log show a fault, which is the first fault of all logs that go on so,
+/// whatever follows, or they show none.
 #[tactic(auto, using(crate::proofs::RepresentingLaws::logs_by_blocks))]
 pub fn sum_by_blocks()
     ensures { LogsByBlocks }

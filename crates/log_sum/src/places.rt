@@ -1,6 +1,6 @@
 ghost use Rattle.std.specs.Prelude.{◌≡◌, Ok};
 ghost use Rattle.log_sum.specs.SumViews.{said_read};
-ghost use Rattle.log_sum.specs.LogLines.{Said as Meant, states_left, kind_at, after_state, left_at, place_after};
+ghost use Rattle.log_sum.specs.LineReading.{Said as Meant, states_left, kind_at, after_state, left_at, place_after};
 
 use crate::kinds::{Kind, Place};
 use crate::lines::Said;
@@ -40,7 +40,7 @@ fn after_state(place: Place) -> Place
 }
 
 /// The place after a line that says this at a place.
-#[tactic(auto, unfolding(crate::specs::LogLines::place_after))]
+#[tactic(auto, unfolding(crate::specs::LineReading::place_after))]
 pub(crate) fn place_after(place: Place, said: &Said<'_>) -> Place
     ensures { (is : Meant) → said_read said.now ≡ Ok is → result ≡ place_after place is }
 {

@@ -3,7 +3,7 @@ ghost use Rattle.diy_io.specs.Page.{Sends};
 ghost use Rattle.diy_io.specs.Wrote.{Wrote};
 ghost use Rattle.log_sum.specs.LogReading.{LogSeen, line_judged, rest_judged};
 ghost use Rattle.log_sum.specs.Representing.{Kept, Represents, IsBetweenLogs, FedTo, EndedTo, IsKeptRefusal, GivenAgain, kept_text, running_line};
-ghost use Rattle.log_sum.specs.Feeding.{FollowsSeen, JudgedTo, PieceTo, EndTo, sum_refusal};
+ghost use Rattle.log_sum.specs.Feeding.{IsFed, FollowsSeen, JudgedTo, PieceTo, EndTo, sum_refusal};
 
 use crate::errors::{Fault, LogError, LogKind, SumError};
 use crate::print::print_sum;
@@ -149,7 +149,7 @@ impl Summer {
     }
 
     fn feed_lines(&mut self, piece: &[u8]) -> Result<(), Fault>
-        ensures { (files : List (List ℕ)) (bytes : List ℕ) → Represents self.old files bytes → PieceTo self.new files (bytes ++ piece.now) result }
+        ensures { (files : List (List ℕ)) (bytes : List ℕ) → IsFed self.old files bytes → PieceTo self.new files (bytes ++ piece.now) result }
     {
         let mut rest = piece;
         while let Some((prefix, remainder)) = cut(b'\n', rest) {
@@ -195,7 +195,7 @@ impl Summer {
     /// A last line that no line feed ends, and the end of the log.
     fn end_line(&mut self) -> Result<(), Fault>
         ensures in_order { OnOk result (self.new.in_order ≡ true) }
-        ensures ended { (files : List (List ℕ)) (bytes : List ℕ) → Represents self.old files bytes → EndTo self.new files bytes result }
+        ensures ended { (files : List (List ℕ)) (bytes : List ℕ) → IsFed self.old files bytes → EndTo self.new files bytes result }
     {
         if !self.held.is_empty() {
             self.reading.judge(self.held.as_slice())?;

@@ -5,7 +5,7 @@ use Rattle.std.specs.List.{list_all}
 use Rattle.text_parts_laws.specs.Words.{is_nil}
 use Rattle.diy_io.specs.Count.{last_count}
 use Rattle.log_sum.specs.Facts.{Fact, Entry, facts_of, fact_fault}
-use Rattle.log_sum.specs.LogLines.{Said, log_line_said, place_after, fact_said, test_after}
+use Rattle.log_sum.specs.LineReading.{Said, log_line_said, place_after, fact_said, test_after}
 use Rattle.log_sum.specs.LogReading.{LogSeen, is_too_long, next_line, text_judged, line_judged, lines_judged}
 use Rattle.text_parts_laws.specs.Lines.{is_line_feed, without_return, whole_lines, unended}
 use Rattle.log_sum_laws.proofs.{Cases.Place, Texts.no_feed, Lines.digits_pass}

@@ -1,5 +1,5 @@
 -- The kinds, marks, verdicts and places of logs.
-use Rattle.std.proofs.Common.{◌≡◌, true, false}
+use Rattle.std.proofs.Common.{true, false}
 use Rattle.std.specs.Prelude.{Bool}
 pub use Rattle.log_sum.specs.declared.kinds.Kind.{Kind}
 pub use Rattle.log_sum.specs.declared.kinds.Kind.TheVariants.{Allowed, Forbidden, Required}

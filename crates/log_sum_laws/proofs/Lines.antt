@@ -9,7 +9,8 @@ use Rattle.text_parts_laws.specs.{Words.is_nil, Words.words, LeadingRuns.after_r
 use Rattle.log_sum.specs.Texts.{later_words, joined_words, ends_with, begins_with}
 use Rattle.diy_io.specs.Count.{last_count}
 use Rattle.log_sum.specs.{Counts.count_read, Counts.count_of_digits, LogStates.form_read, Facts.row_with}
-use Rattle.log_sum.specs.LogLines.{passed_over, begins, counts, a_state, judged, conditioned, hashed, ends, test_line, histogram_line, log_row, condition_line, verdict_cut, hash_line, quantifier, log_line_said, states_left}
+use Rattle.log_sum.specs.LogLines.{test_line, histogram_line, log_row, condition_line, verdict_cut, hash_line, quantifier}
+use Rattle.log_sum.specs.LineReading.{passed_over, begins, counts, a_state, judged, conditioned, hashed, ends, log_line_said, states_left}
 use Rattle.log_sum.specs.SumText.{sum_kind_word, mark_sign, filling, verdict_word, verdict_end}
 use Rattle.log_sum_laws.proofs.Cases.{Kind, Mark, Verdict, Validated, NotValidated, Outside, Histogram, Judgement, Rest, Conditioned}
 use Rattle.log_sum_laws.proofs.Texts.{is_plain, is_word, word_is, ends_so, before_so, joined_both}

@@ -7,7 +7,8 @@ use Rattle.text_parts_laws.specs.{Words.is_nil, Words.words, Blanks.before_blank
 use Rattle.log_sum.specs.{Texts.joined_words, Texts.begins_with, LogStates.form_read}
 use Rattle.diy_io.specs.Count.{last_count}
 use Rattle.log_sum.specs.Facts.{Entry, a_kind, a_row, a_condition, a_hash, row_with}
-use Rattle.log_sum.specs.LogLines.{Said, passed_over, begins, counts, a_state, judged, conditioned, hashed, ends, quantifier, log_line_said, place_after, states_left, fact_said, test_after}
+use Rattle.log_sum.specs.LogLines.{quantifier}
+use Rattle.log_sum.specs.LineReading.{Said, passed_over, begins, counts, a_state, judged, conditioned, hashed, ends, log_line_said, place_after, states_left, fact_said, test_after}
 use Rattle.log_sum.specs.LogReading.{LogSeen, next_line, last_judged, file_judged}
 use Rattle.log_sum.specs.Summed.{Summed, StateSummed, some_or, is_validated}
 use Rattle.log_sum.specs.SumText.{sum_kind_word, mark_sign, filling, state_line, verdict_word, verdict_end, how_often, hash_text, head_text, sum_verdict_text, claim_text, condition_text, observation_text, summed_text}

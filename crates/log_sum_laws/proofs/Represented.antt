@@ -1,18 +1,12 @@
 -- Laws of a summer that was fed in pieces, which log_sum proves for itself, stated again for the crates above.
 use Rattle.std.proofs.Common.{◌≡◌, List, [], ◌∷◌, ◌++◌, Ok, Err, ℕ}
 use Rattle.log_sum.specs.declared.errors.LogError.{LogError}
-use Rattle.log_sum.specs.LogReading.{input_judged}
 use Rattle.log_sum.specs.Representing.{Kept, Represents, kept_text, logs_text}
 use Rattle.log_sum.proofs.RepresentingLaws as proved
 
 -- the printed sum of what represents whole logs is theirs
 pub represented_text : (kept : Kept) (files : List (List ℕ)) → Represents kept files [] → logs_text files ≡ Ok (kept_text kept)
 represented_text kept files represents = proved.represented_text kept files represents
-
--- a fault of the bytes so far stays the first fault, whatever follows
-pub fault_stays : (files : List (List ℕ)) (bytes rest : List ℕ) (more : List (List ℕ)) (error : LogError)
-    → input_judged files bytes ≡ Err error → logs_text (files ++ (bytes ++ rest) ∷ more) ≡ Err error
-fault_stays files bytes rest more error e = proved.fault_stays files bytes rest more error e
 
 -- a fault of whole logs stays the first fault, whatever logs follow
 pub end_fault_stays : (files more : List (List ℕ)) (bytes : List ℕ) (error : LogError)

@@ -9,7 +9,8 @@ use Rattle.text_parts_laws.specs.Blanks.{is_blank, before_blanks, unblanked, tri
 use Rattle.text_parts_laws.specs.Words.{words}
 use Rattle.log_sum.specs.Texts.{later_words, joined_words, ends_with, before_end, begins_with}
 use Rattle.log_sum.specs.{Counts.count_read, LogStates.form_read, Facts.Row}
-use Rattle.log_sum.specs.LogLines.{Said, passed_over, begins, counts, a_state, judged, conditioned, hashed, ends, test_line, outside_said, mark_read, row_of, row_marked, row_counted, log_row, verdict_cut, condition_line, quantifier, hash_line, hash_said, condition_said, no_test, rest_said, log_line_said, kind_at}
+use Rattle.log_sum.specs.LogLines.{test_line, mark_read, row_of, row_marked, row_counted, log_row, verdict_cut, condition_line, quantifier, hash_line}
+use Rattle.log_sum.specs.LineReading.{Said, passed_over, begins, counts, a_state, judged, conditioned, hashed, ends, outside_said, hash_said, condition_said, no_test, rest_said, log_line_said, kind_at}
 use Rattle.log_sum_laws.proofs.Cases.{Kind, Mark, Verdict, Place, Outside, Histogram, Judgement, Rest, Conditioned, States, is_outside}
 use Rattle.log_sum_laws.proofs.Texts.{no_feed, is_word, words_plain, joined_is, joined_both, joined_no_feed, all_take, all_drop}
 use Rattle.text_parts_laws.proofs.{WordLaws.words_both, RunLaws.after_class, BlankLaws.trimmed_class, BlankLaws.before_twice}

@@ -5,7 +5,7 @@ use Rattle.std.proofs.lemmas.{Bool.and_parts, Bool.not-false, List.Folds.list_an
 use Rattle.list_laws.proofs.{Cases.by_test, Elements.all_append}
 use Rattle.log_sum.specs.declared.errors.LogKind.TheVariants.{ConditionDiffers}
 use Rattle.log_sum.specs.Facts.{Fact, Entry, a_kind, a_row, a_condition, a_hash, kinds, conditions, first_of, facts_of, fact_fault, is_other}
-use Rattle.log_sum.specs.LogLines.{Said, passed_over, begins, counts, a_state, judged, conditioned, hashed, ends, place_after, kind_at, left_at, states_left, after_state, fact_said}
+use Rattle.log_sum.specs.LineReading.{Said, passed_over, begins, counts, a_state, judged, conditioned, hashed, ends, place_after, kind_at, left_at, states_left, after_state, fact_said}
 use Rattle.log_sum.specs.LogReading.{LogSeen, nothing_seen, next_line, fact_put, at_next_line, said_to, text_judged, line_judged, lines_judged, last_judged, file_judged, files_judged}
 use Rattle.text_parts_laws.specs.ReadingSteps.{◌>>=◌}
 use Rattle.text_parts_laws.specs.Lines.{without_return, but_last, last_of, whole_lines, unended}

@@ -6,11 +6,11 @@ use Rattle.std.proofs.{KnownBytes.Consumes-trans, KnownBytes.Consumes-whole}
 use Rattle.diy_io.specs.{Count.count_of, Count.Rose, Taken.SourceSeen, Taken.Took}
 use Rattle.log_sum.specs.declared.errors.SumError.{SumError}
 use Rattle.log_sum.specs.declared.errors.SumError.TheVariants as sums
-use Rattle.log_sum.specs.Representing.{Kept, Represents, FedTo, EndedTo, running_line}
+use Rattle.log_sum.specs.Representing.{Kept, Represents, ShowsNone, FedTo, EndedTo, running_line}
 use Rattle.log_sum_laws.proofs.Represented.{end_fault_stays}
 use Rattle.msum7_files.specs.declared.feeding.{Feeding.Feeding, LogFault.LogFault}
 use Rattle.msum7_files.specs.FileFaults.{sum_fault}
-use Rattle.msum7_files.specs.Logs.{IsShort, max_piece, ShowsNone, PrefixFull, TookCount}
+use Rattle.msum7_files.specs.Logs.{IsShort, max_piece, PrefixFull, TookCount}
 use Rattle.msum7_files.specs.FileFeeding.{ReadsLogs, IsFaultOfLogs, IsEndFault, ReadSoFar, ReadWhole, ReadPart, LogFailed}
 use Rattle.diy_io.proofs.ConsumedLaws.{prefix_of}
 
@@ -42,8 +42,7 @@ piece_full kept logs bytes piece n line full less represents number =
       parts = parts_of bytes piece n;
       full = whole;
       more = omega (arith, length-drop n piece);
-      seen = represents.seen;
-      no_fault = represents.judged;
+      no_fault = represents.no_fault;
       number = omega (arith, number, whole, count_by-le-length (λ byte. byte == 10) (bytes ++ take n piece));
     }
 
@@ -104,7 +103,7 @@ reads_whole old mid new feeding logs piece r took none end same =
 
 -- bytes that were fed show no fault, and are at most 2^40
 reads_none : (feeding : Feeding) (logs : List (List ℕ)) (bytes : List ℕ) → ReadsLogs feeding logs bytes → ShowsNone logs bytes
-reads_none feeding logs bytes reads = record { seen = reads.represents.seen; is = reads.represents.judged }
+reads_none feeding logs bytes reads = reads.represents.no_fault
 
 reads_short : (feeding : Feeding) (logs : List (List ℕ)) (bytes : List ℕ) → ReadsLogs feeding logs bytes → feeding.read ≤ 2 ^ 40 → IsShort bytes
 reads_short feeding logs bytes reads short = let read : feeding.read ≡ length bytes = reads.read in omega arith

@@ -6,12 +6,12 @@ use Rattle.diy_io.specs.{Count.count_of, Count.Rose, Taken.SourceSeen}
 use Rattle.diy_io.specs.Shelf.{ShelfSeen, Mode, Idle, Stopped, Finished, left_to_read}
 use Rattle.diy_io.specs.declared.errors.Failed.{Failed}
 use Rattle.log_sum.specs.declared.errors.LogError.{LogError}
-use Rattle.log_sum.specs.{LogReading.LogSeen, LogReading.input_judged, Representing.logs_text}
-use Rattle.log_sum_laws.proofs.Represented.{represented_text, fault_stays}
+use Rattle.log_sum.specs.Representing.{ShowsNone, logs_text}
+use Rattle.log_sum_laws.proofs.Represented.{represented_text}
 use Rattle.msum7_files.specs.declared.feeding.{Feeding.Feeding, LogFault.LogFault, LogFault.TheVariants.Wrong, LogFault.TheVariants.TooMuch}
 use Rattle.msum7_files.specs.declared.feeding.{LogFault.TheVariants.NoMemory, ReadFault.ReadFault, ReadFault.TheVariants.Log}
 use Rattle.msum7_files.specs.declared.feeding.{ReadFault.TheVariants.Device}
-use Rattle.msum7_files.specs.Logs.{IsShort, AreWholeLogs, ShowsNone, PrefixWrong, UpToFault, IsWrongLog}
+use Rattle.msum7_files.specs.Logs.{IsShort, AreWholeLogs, PrefixWrong, UpToFault, IsWrongLog}
 use Rattle.msum7_files.specs.FileFeeding.{ReadsLogs, IsFaultOfLogs, IsEndFault, ReadWhole, ReadPart, LogFailed, ReadTo, LogSummed, LogFaulty, IsFaulty, SummedTo}
 
 -- logs that were fed without a fault
@@ -20,14 +20,10 @@ are_right feeding logs reads = record { text = _; is = represented_text feeding.
 
 -- logs without a fault show none
 pub right_shows_none : (before : List (List ℕ)) (log : List ℕ) → AreWholeLogs (before ++ log ∷ []) → ShowsNone before log
-right_shows_none before log right = by_judged (input_judged before log) refl
-  where
-    by_judged : (r : Result LogSeen LogError) → input_judged before log ≡ r → ShowsNone before log
-    by_judged (Ok seen) e = record { seen = seen; is = e }
-    by_judged (Err error) e =
-        let whole : logs_text (before ++ (log ++ []) ∷ []) ≡ logs_text (before ++ log ∷ []) = ap (λ l. logs_text (before ++ l ∷ [])) (append-nil log) in
-        let wrong : ◌≡◌ {A = Result (List ℕ) LogError} (Err error) (Ok right.text) = sym (fault_stays before log [] [] error e) ∙ whole ∙ right.is in
-        absurd (cc)
+right_shows_none before log right error shown =
+    let whole : logs_text (before ++ (log ++ []) ∷ []) ≡ logs_text (before ++ log ∷ []) = ap (λ l. logs_text (before ++ l ∷ [])) (append-nil log) in
+    let wrong : ◌≡◌ {A = Result (List ℕ) LogError} (Err error) (Ok right.text) = sym (shown [] []) ∙ whole ∙ right.is in
+    cc
 
 -- a fault that the bytes taken of a log show
 prefix_wrong : (before : List (List ℕ)) (log bytes : List ℕ) (error : LogError) → AreWholeLogs before → UpToFault before log bytes
@@ -36,7 +32,7 @@ prefix_wrong before log bytes error right u w =
     let whole : log ≡ w.prefix ++ (w.rest ++ u.rest) = u.parts ∙ ap (λ b. b ++ u.rest) w.parts ∙ append_assoc w.prefix w.rest u.rest in
     record {
       right_before = right;
-      wrong = λ more. ap (λ l. logs_text (before ++ l ∷ more)) whole ∙ fault_stays before w.prefix (w.rest ++ u.rest) more error w.wrong;
+      wrong = λ more. ap (λ l. logs_text (before ++ l ∷ more)) whole ∙ w.wrong (w.rest ++ u.rest) more;
       up_to = u;
       shown = inr w;
     }
@@ -87,7 +83,7 @@ pub end_faulty : (old new : SourceSeen) (feeding read : Feeding) (before : List 
 end_faulty old new feeding read before fault reads whole is =
     let count : read.read ≡ length whole.log = whole.reads.read in
     let fits : read.read ≤ 2 ^ 40 = read.in_range in
-    let none : ShowsNone before whole.log = record { seen = whole.reads.represents.seen; is = whole.reads.represents.judged } in (
+    let none : ShowsNone before whole.log = whole.reads.represents.no_fault in (
       record {
         log = whole.log;
         text = whole.text;

@@ -1,9 +1,9 @@
 -- Logs, as they are read from a device.
 -- Source: own.
-use Rattle.std.specs.Prelude.{◌≡◌, ◌≤◌, ◌<◌, ◌⊎◌, ◌^◌, ◌+◌, ℕ, List, ◌∷◌, ◌++◌, length, Option, IfSome, Ok, Err}
+use Rattle.std.specs.Prelude.{◌≡◌, ◌≤◌, ◌<◌, ◌⊎◌, ◌^◌, ◌+◌, ℕ, List, ◌∷◌, ◌++◌, length, Option, IfSome, Err}
 use Rattle.diy_io.specs.{Count.count_of, Count.Rose, Taken.SourceSeen, Sink.line_feed_count}
 use Rattle.log_sum.specs.declared.errors.LogError.{LogError}
-use Rattle.log_sum.specs.{LogReading.LogSeen, LogReading.input_judged, Representing.logs_text}
+use Rattle.log_sum.specs.Representing.{ShowsFault, ShowsNone, logs_text}
 use Rattle.log_sum_laws.specs.Laws.{NoFault}
 
 -- a log has the text that is known, where one is known
@@ -22,18 +22,13 @@ max_piece = 4096
 abbrev pub AreWholeLogs : List (List ℕ) → Type 0
 AreWholeLogs logs = NoFault logs
 
--- the bytes so far of a log after these logs show no fault
-pub record ShowsNone (before : List (List ℕ)) (bytes : List ℕ) : Type 0 where
-  pub seen : LogSeen
-  pub is : input_judged before bytes ≡ Ok seen
-
--- a prefix of a log's bytes, of at most 2^40, shows this fault after whole logs
+-- a prefix of a log's bytes, of at most 2^40, shows this fault after whole logs: all logs that begin so have it, whatever follows
 pub record PrefixWrong (logs : List (List ℕ)) (bytes : List ℕ) (error : LogError) : Type 0 where
   pub prefix : List ℕ
   pub rest : List ℕ
   pub parts : bytes ≡ prefix ++ rest
   pub short : IsShort prefix
-  pub wrong : input_judged logs prefix ≡ Err error
+  pub wrong : ShowsFault logs prefix error
 
 -- the bytes of a log are more than 2^40, of which the first 2^40 show no fault, and this is the line after them
 pub record PrefixFull (logs : List (List ℕ)) (bytes : List ℕ) (line : ℕ) : Type 0 where
@@ -42,8 +37,7 @@ pub record PrefixFull (logs : List (List ℕ)) (bytes : List ℕ) (line : ℕ) :
   pub parts : bytes ≡ prefix ++ rest
   pub full : length prefix ≡ 2 ^ 40
   pub more : 0 < length rest
-  pub seen : LogSeen
-  pub no_fault : input_judged logs prefix ≡ Ok seen
+  pub no_fault : ShowsNone logs prefix
   pub number : line ≡ line_feed_count prefix + 1
 
 -- what was taken of a log until its fault was seen: at most 2^40 bytes that show none, and then one piece at most

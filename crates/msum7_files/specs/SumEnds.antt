@@ -5,10 +5,10 @@ use Rattle.std.specs.Io.KnownBytes.{IsAtEnd}
 use Rattle.diy_io.specs.{Count.Rose, Shelf.Files, Shelf.ShelfSeen, Taken.SourceSeen, Wrote.SinkSeen, Wrote.WroteAll, Wrote.WrotePart, Opened.IsFile}
 use Rattle.diy_io.specs.{Opened.TookFiles}
 use Rattle.log_sum.specs.declared.errors.{LogError.LogError, LogKind.LogKind}
-use Rattle.log_sum.specs.Representing.{logs_text}
+use Rattle.log_sum.specs.Representing.{ShowsNone, logs_text}
 use Rattle.msum7_files.specs.declared.sum_end.SumEnd.{SumEnd}
 use Rattle.msum7_files.specs.declared.sum_end.SumEnd.TheVariants as ends
-use Rattle.msum7_files.specs.Logs.{IsText, IsShort, TookCount, AreWholeLogs, ShowsNone, IsWrongLog, IsTooMuch, ReadFailed}
+use Rattle.msum7_files.specs.Logs.{IsText, IsShort, TookCount, AreWholeLogs, IsWrongLog, IsTooMuch, ReadFailed}
 
 -- the input is a whole log of at most 2^40 bytes, which was read to its end, and this is its sum
 pub record InputRead (old new : SourceSeen) (sum : List ℕ) : Type 0 where

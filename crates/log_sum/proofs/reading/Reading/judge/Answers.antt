@@ -2,7 +2,7 @@
 use Rattle.std.proofs.Common.{refl, sym, ap, ◌∙◌, subst}
 use Rattle.std.proofs.lemmas.Result.{err_from_is_err_and}
 use Rattle.log_sum.specs.declared.kinds.Place.{Place}
-use Rattle.log_sum.specs.{SumViews.said_read, SumViews.progress_view, SumViews.IsLineFault, LogLines.log_line_said}
+use Rattle.log_sum.specs.{SumViews.said_read, SumViews.progress_view, SumViews.IsLineFault, LineReading.log_line_said}
 use Rattle.log_sum.proofs.FollowLaws.{text_wrong, text_refused, text_read}
 use Rattle.log_sum.proofs.reading.Reading.judge.Goals as goal
 

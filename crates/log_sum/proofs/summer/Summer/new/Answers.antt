@@ -6,6 +6,7 @@ use Rattle.log_sum.specs.declared.test_sum.TestSum.{TestSum}
 use Rattle.log_sum.specs.SumViews.{named_view}
 use Rattle.text_parts_laws.specs.Lines.{whole_lines, unended}
 use Rattle.log_sum.specs.LogReading.{nothing_seen, input_judged, bytes_judged, rest_judged}
+use Rattle.log_sum.proofs.CarryLaws.{fed_represents}
 use Rattle.log_sum.proofs.summer.Summer.new.Goals as goal
 
 nothing_judged : input_judged [] [] ≡ Ok nothing_seen
@@ -23,13 +24,15 @@ none_in_order (test ∷ tests) h = absurd (cc)
 
 pub returns : goal.returns
 returns c = record {
-  represents = record {
-    seen = nothing_seen;
-    judged = nothing_judged;
-    reading = c.new.ensures.reading;
-    held = c.in_ok-with_capacity.ensures.items ∙ nothing_held;
-    going = refl;
-    in_order = λ _. none_in_order c.new.result.table.tests.entries c.new.ensures.reading.tests;
-  };
+  represents =
+      fed_represents _ [] []
+      (record {
+        seen = nothing_seen;
+        judged = nothing_judged;
+        reading = c.new.ensures.reading;
+        held = c.in_ok-with_capacity.ensures.items ∙ nothing_held;
+        going = refl;
+        in_order = λ _. none_in_order c.new.result.table.tests.entries c.new.ensures.reading.tests;
+      });
   in_order = none_in_order c.new.result.table.tests.entries c.new.ensures.reading.tests;
 }

@@ -1,0 +1,351 @@
+-- What is read line by line, by the blocks: the facts of lines, the place where they end, and the fault that bytes show.
+use Rattle.std.proofs.Common.{◌≡◌, ◌<◌, ℕ, zero, suc, ◌+◌, List, [], ◌∷◌, ◌++◌, length, true, false, refl, sym, ap, ◌∙◌, arith, subst, append_assoc, append-nil, Some, None}
+use Rattle.std.specs.Prelude.{Option, Result, Ok, Err}
+use Rattle.list_laws.proofs.Cases.{by_test}
+use Rattle.text_parts_laws.specs.{Lines.without_return, Lines.whole_lines, Lines.unended, Words.words, ReadingSteps.◌>>=◌}
+use Rattle.log_sum.specs.declared.{errors.LogKind.LogKind, errors.LogKind.TheVariants.LineTooLong, errors.LogError.LogError, errors.SumError.SumError}
+use Rattle.log_sum.specs.declared.{errors.Fault.Fault, errors.Fault.TheVariants.Wrong, errors.Fault.TheVariants.NoMemory, kinds.Place.Place, kinds.Kind.Kind, kinds.Verdict.Verdict}
+use Rattle.log_sum.specs.declared.kinds.Place.TheVariants.{Outside, Histogram, States, Judgement, Rest, Conditioned}
+use Rattle.log_sum.specs.Facts.{Row, Fact, Entry, fact_fault}
+use Rattle.log_sum.specs.{Counts.count_read, LogStates.form_read, Summed.Summed}
+use Rattle.log_sum.specs.LogLines.{test_line, histogram_line, log_row, is_judgement, is_observation, condition_line, hash_line}
+use Rattle.log_sum.specs.LineReading.{Said, outside_said, counts_said, row_said, no_test, condition_said, hash_said, kind_at, log_line_said, place_after, fact_said, test_after}
+use Rattle.log_sum.specs.LogGrammar.{LogSays, text_in, is_too_long, next_line, fault_at, ended_texts, stops_at, and_says, of_test, of_count, of_row, of_no_test, of_condition, of_hash, log_says, block_says, states_say, rest_says, all_judged}
+use Rattle.log_sum.specs.LogReading.{LogSeen, nothing_seen, fact_put, at_next_line, said_put, text_judged, line_judged, lines_judged, rest_judged, bytes_judged, last_judged, end_judged, files_judged, input_judged}
+use Rattle.log_sum.specs.Representing.{SumProgress, Kept, Represents, ShowsFault, ShowsNone, IsInside, FedTo, sum_table, test_name_at, says_so_far, facts_said, logs_text}
+use Rattle.log_sum.specs.Feeding.{IsFed, IsAtSeen, IsRunning, PieceTo, entry_of, sum_refusal}
+use Rattle.log_sum.proofs.ReadingLaws.{is_one_line, so_far_more, input_by_lines, rest_more}
+use Rattle.log_sum.proofs.FeedLaws.{middle_of, rest_same, part_long, file_by_lines}
+use Rattle.log_sum.proofs.StayLaws.{files_fault, long_rest}
+use Rattle.log_sum.proofs.{LineLaws.input_line, Grammar.between, Grammar.at_place, Grammar.files_by_blocks, Grammar.judged_text, Grammar.text_fault}
+
+-- what the lines from a place on say
+abbrev place_says : Place → List ℕ → ℕ → List (Option (List ℕ)) → LogSays
+place_says Outside test n lines = log_says n lines
+place_says (Histogram kind) test n lines = block_says (test, kind) n lines
+place_says (States kind left) test n lines = states_say (test, kind) left n lines
+place_says (Judgement kind) test n lines = states_say (test, kind) 0 n lines
+place_says (Rest kind) test n lines = rest_says (test, kind) false n lines
+place_says (Conditioned kind) test n lines = rest_says (test, kind) true n lines
+
+-- where states come next, it is one or more
+abbrev HasStates : Place → Type 0
+HasStates (States kind zero) = ⊥
+HasStates _ = Unit {0}
+
+-- the fact of a line, if it has one, before what others say
+abbrev before_says : ℕ → List ℕ → Option Fact → LogSays → LogSays
+before_says n test None says = says
+before_says n test (Some fact) says = and_says n test fact says
+
+-- what a line says, or its fault, and then what the others say from the place after it on
+abbrev after_line : Place → List ℕ → ℕ → List (Option (List ℕ)) → Result Said LogKind → LogSays
+after_line place test n lines (Err kind) = stops_at n kind
+after_line place test n lines (Ok said) =
+    before_says n (test_after test said) (fact_said said) (place_says (place_after place said) (test_after test said) (next_line n) lines)
+
+-- a line outside the blocks
+outside_line : (test : List ℕ) (n : ℕ) (lines : List (Option (List ℕ))) (begun : Option (List ℕ × Kind))
+    → of_test n begun (λ t. block_says t (next_line n) lines) (log_says (next_line n) lines) ≡ after_line Outside test n lines (Ok (outside_said begun))
+unfolding place_after fact_said
+outside_line test n lines None = refl
+outside_line test n lines (Some begun) = refl
+
+-- the line of the number of states
+count_line : (kind : Kind) (test : List ℕ) (n : ℕ) (lines : List (Option (List ℕ))) (count : Result ℕ LogKind)
+    → of_count n count (λ left. states_say (test, kind) left (next_line n) lines) ≡ after_line (Histogram kind) test n lines (counts_said count)
+unfolding place_after fact_said
+count_line kind test n lines (Err error) = refl
+count_line kind test n lines (Ok zero) = refl
+count_line kind test n lines (Ok (suc left)) = refl
+
+-- the line of a state
+state_line : (kind : Kind) (left : ℕ) (test : List ℕ) (n : ℕ) (lines : List (Option (List ℕ))) (row : Result Row LogKind)
+    → of_row n test row (states_say (test, kind) left (next_line n) lines) ≡ after_line (States kind (suc left)) test n lines (row_said row)
+unfolding place_after fact_said
+state_line kind left test n lines (Err error) = refl
+state_line kind zero test n lines (Ok row) = refl
+state_line kind (suc left) test n lines (Ok row) = refl
+
+-- a line in the rest of a block but `Observation`
+rest_line : (place : Place) (kind : Kind) (test : List ℕ) (n : ℕ) (lines : List (Option (List ℕ))) (begun : Option (List ℕ × Kind))
+    (condition : Option (List ℕ × Verdict)) (hash : Option (List ℕ)) → kind_at place ≡ kind
+    → of_no_test n begun (of_condition n (test, kind) condition (place_says (Conditioned kind) test (next_line n) lines) (of_hash n test hash (place_says place test (next_line n) lines)))
+    ≡ after_line place test n lines (no_test begun (condition_said kind condition (hash_said hash)))
+unfolding place_after fact_said
+rest_line place kind test n lines begun condition hash is = grind arith
+
+-- a line says its fact, and then the others say what they say from the place after it on; or it has a fault
+line_says : (place : Place) (test : List ℕ) (n : ℕ) (text : List ℕ) (lines : List (Option (List ℕ))) → HasStates place
+    → place_says place test n (Some text ∷ lines) ≡ after_line place test n lines (log_line_said place text)
+unfolding log_line_said place_after fact_said
+line_says Outside test n text lines h = outside_line test n lines (test_line (words text))
+line_says (Histogram kind) test n text lines h = count_line kind test n lines (histogram_line (words text))
+line_says (States kind zero) test n text lines h = absurd h
+line_says (States kind (suc left)) test n text lines h = state_line kind left test n lines (log_row text)
+line_says (Judgement kind) test n text lines h = by_test (is_judgement (words text)) (λ t. rw t refl) (λ f. rw f refl)
+line_says (Rest kind) test n text lines h =
+    by_test (is_observation (words text)) (λ t. rw t refl)
+    (λ f. rw f (rest_line (Rest kind) kind test n lines (test_line (words text)) (condition_line (words text)) (hash_line text) refl))
+line_says (Conditioned kind) test n text lines h =
+    by_test (is_observation (words text)) (λ t. rw t refl)
+    (λ f. rw f (rest_line (Conditioned kind) kind test n lines (test_line (words text)) (condition_line (words text)) (hash_line text) refl))
+
+has_states : (place : Place) (said : Said) → HasStates place → HasStates (place_after place said)
+unfolding place_after
+has_states place said h = grind arith
+
+-- the entry of a fact, if there is one
+abbrev said_entries : List ℕ → Option Fact → List Entry
+said_entries test None = []
+said_entries test (Some fact) = entry_of test fact ∷ []
+
+-- a line without a fault says something, and the reading goes on after it
+record Steps (seen next : LogSeen) (text : List ℕ) : Type 0 where
+  said : Said
+  is : log_line_said seen.place text ≡ Ok said
+  place : next.place ≡ place_after seen.place said
+  test : next.test ≡ test_after seen.test said
+  line : next.line ≡ next_line seen.line
+  entries : next.entries ≡ seen.entries ++ said_entries (test_after seen.test said) (fact_said said)
+
+-- what comes of a fact that has no fault, if there is one
+record Puts (seen next : LogSeen) (fact : Option Fact) : Type 0 where
+  place : next.place ≡ seen.place
+  test : next.test ≡ seen.test
+  line : next.line ≡ next_line seen.line
+  entries : next.entries ≡ seen.entries ++ said_entries seen.test fact
+
+fact_puts : (seen next : LogSeen) (fact : Option Fact) → (fact_put seen fact >>= at_next_line) ≡ Ok next → Puts seen next fact
+fact_puts seen next None h = grind (arith, append-nil)
+fact_puts seen next (Some fact) h = grind arith
+
+said_steps : (seen next : LogSeen) (text : List ℕ) (said : Result Said LogKind) → log_line_said seen.place text ≡ said → said_put seen said ≡ Ok next → Steps seen next text
+said_steps seen next text (Err kind) e h = absurd (let k : ◌≡◌ {A = Result LogSeen LogError} (fault_at seen.line kind) (Ok next) = h in cc)
+said_steps seen next text (Ok said) e h =
+    let puts = fact_puts (record seen { test = test_after seen.test said; place = place_after seen.place said }) next (fact_said said) h in
+    record { said = said; is = e; place = puts.place; test = puts.test; line = puts.line; entries = puts.entries }
+
+text_steps : (seen next : LogSeen) (text : List ℕ) → text_judged seen text ≡ Ok next → Steps seen next text
+unfolding text_judged
+text_steps seen next text h = said_steps seen next text (log_line_said seen.place text) refl h
+
+-- a line that a line feed ends, without a fault
+record Fits (seen next : LogSeen) (line : List ℕ) : Type 0 where
+  fits : is_too_long line ≡ false
+  read : text_judged seen (without_return line) ≡ Ok next
+
+line_fits : (seen next : LogSeen) (line : List ℕ) → line_judged seen line ≡ Ok next → Fits seen next line
+unfolding line_judged
+line_fits seen next line h = grind arith
+
+-- the reading is where lines end: inside a block, or outside the blocks
+abbrev IsSeenInside : Option (List ℕ × Place) → LogSeen → Type 0
+IsSeenInside None seen = seen.place ≡ Outside
+IsSeenInside (Some block) seen = (seen.test ≡ block.0) × (seen.place ≡ block.1) × (block.1 ≡ Outside → ⊥)
+
+-- lines were read that say this after others
+record EndsAs (before : List Entry) (says : LogSays) (next : LogSeen) : Type 0 where
+  entries : next.entries ≡ before ++ facts_said says
+  inside : IsSeenInside says.inside next
+
+nothing_ends : (entries : List Entry) (test : List ℕ) (place : Place) (line : ℕ) → HasStates place
+    → EndsAs entries (place_says place test line []) (at_place entries test place line)
+nothing_ends entries test Outside line h = record { entries = sym (append-nil entries); inside = refl }
+nothing_ends entries test (Histogram kind) line h = record { entries = sym (append-nil entries); inside = (refl, refl, λ e. cc) }
+nothing_ends entries test (States kind zero) line h = absurd h
+nothing_ends entries test (States kind (suc left)) line h = record { entries = sym (append-nil entries); inside = (refl, refl, λ e. cc) }
+nothing_ends entries test (Judgement kind) line h = record { entries = sym (append-nil entries); inside = (refl, refl, λ e. cc) }
+nothing_ends entries test (Rest kind) line h = record { entries = sym (append-nil entries); inside = (refl, refl, λ e. cc) }
+nothing_ends entries test (Conditioned kind) line h = record { entries = sym (append-nil entries); inside = (refl, refl, λ e. cc) }
+
+fact_ends : (entries : List Entry) (n : ℕ) (test : List ℕ) (fact : Option Fact) (says : LogSays) (next : LogSeen)
+    → EndsAs (entries ++ said_entries test fact) says next → EndsAs entries (before_says n test fact says) next
+fact_ends entries n test None says next h = record { entries = h.entries ∙ ap (λ x. x ++ facts_said says) (append-nil entries); inside = h.inside }
+fact_ends entries n test (Some fact) says next h =
+    record { entries = h.entries ∙ append_assoc entries (entry_of test fact ∷ []) (facts_said says); inside = h.inside }
+
+line_ends : (seen mid next : LogSeen) (text : List ℕ) (lines : List (Option (List ℕ))) (s : Steps seen mid text) → HasStates seen.place
+    → EndsAs mid.entries (place_says mid.place mid.test mid.line lines) next → EndsAs seen.entries (place_says seen.place seen.test seen.line (Some text ∷ lines)) next
+line_ends seen mid next text lines s has h =
+    rw (line_says seen.place seen.test seen.line text lines has, s.is)
+    (fact_ends seen.entries seen.line (test_after seen.test s.said) (fact_said s.said) _ next
+    (rw (sym s.entries, sym s.place, sym s.test, sym s.line) h))
+
+-- lines that were read without a fault say what the grammar says of them
+lines_end : (seen next : LogSeen) (lines : List (List ℕ)) → HasStates seen.place → lines_judged seen lines ≡ Ok next
+    → EndsAs seen.entries (place_says seen.place seen.test seen.line (ended_texts lines)) next
+lines_end seen next [] has h =
+    let e : seen ≡ next = cc in
+    subst (EndsAs seen.entries (place_says seen.place seen.test seen.line [])) e (nothing_ends seen.entries seen.test seen.place seen.line has)
+lines_end seen next (line ∷ lines) has h =
+    let b = middle_of (line_judged seen line) (λ x. lines_judged x lines) next h in
+    let f = line_fits seen b.middle line b.is in
+    let s = text_steps seen b.middle (without_return line) f.read in
+    let first : text_in without_return line ≡ Some (without_return line) = rw f.fits refl in
+    subst (λ (text : Option (List ℕ)). EndsAs seen.entries (place_says seen.place seen.test seen.line (text ∷ ended_texts lines)) next) (sym first)
+    (line_ends seen b.middle next (without_return line) (ended_texts lines) s has
+    (lines_end b.middle next lines (subst HasStates (sym s.place) (has_states seen.place s.said has)) b.then))
+
+-- whole files, and the bytes so far of one more, were read
+record HasRead (files : List (List ℕ)) (bytes : List ℕ) (seen : LogSeen) : Type 0 where
+  before : List Entry
+  whole : all_judged [] files ≡ Ok before
+  ends : EndsAs before (says_so_far bytes) seen
+
+has_read : (files : List (List ℕ)) (bytes : List ℕ) (seen : LogSeen) → input_judged files bytes ≡ Ok seen → HasRead files bytes seen
+unfolding input_judged bytes_judged
+has_read files bytes seen h =
+    let a = middle_of (files_judged nothing_seen files) (λ x. bytes_judged x bytes) seen h in
+    let b = middle_of (lines_judged a.middle (whole_lines bytes)) (λ x. rest_judged x (unended bytes)) seen a.then in
+    let m = middle_of (all_judged [] files) (λ all. Ok (between all)) a.middle (sym (files_by_blocks [] files) ∙ a.is) in
+    let start : between m.middle ≡ a.middle = (let e : ◌≡◌ {A = Result LogSeen LogError} (Ok (between m.middle)) (Ok a.middle) = m.then in cc) in
+    let same : b.middle ≡ seen = rest_same b.middle seen (unended bytes) b.then in
+    record {
+      before = m.middle;
+      whole = m.is;
+      ends = lines_end (between m.middle) seen (whole_lines bytes) tt (ap (λ s. lines_judged s (whole_lines bytes)) start ∙ b.is ∙ ap Ok same);
+    }
+
+-- a fault of the bytes so far is one that they show
+pub fault_shown : (files : List (List ℕ)) (bytes : List ℕ) (error : LogError) → input_judged files bytes ≡ Err error → ShowsFault files bytes error
+fault_shown files bytes error h = λ rest more. fault_stays rest more
+  where
+    fault_stays : (rest : List ℕ) (more : List (List ℕ)) → logs_text (files ++ (bytes ++ rest) ∷ more) ≡ Err error
+    fault_stays rest more = grind (arith, judged_text, files_fault)
+
+-- a line that is too long has no other fault, and no other line has this one
+
+count_short : (text : List ℕ) → ◌≡◌ {A = Result (ℕ × List ℕ) LogKind} (count_read text) (Err LineTooLong) → ⊥
+unfolding count_read
+count_short text h = grind arith
+
+form_short : (text : List ℕ) → form_read text ≡ Err LineTooLong → ⊥
+unfolding form_read
+form_short text h = grind arith
+
+number_short : (text : List (List ℕ)) → histogram_line text ≡ Err LineTooLong → ⊥
+unfolding histogram_line
+number_short text h = grind (arith, count_short)
+
+row_short : (text : List ℕ) → log_row text ≡ Err LineTooLong → ⊥
+unfolding log_row
+row_short text h = grind (arith, count_short, form_short)
+
+said_short : (place : Place) (text : List ℕ) → log_line_said place text ≡ Err LineTooLong → ⊥
+unfolding log_line_said
+said_short place text h = grind (arith, number_short, row_short)
+
+fact_short : (facts : List Fact) (fact : Fact) → fact_fault facts fact ≡ Some LineTooLong → ⊥
+unfolding fact_fault
+fact_short facts fact h = grind arith
+
+text_short : (seen : LogSeen) (text : List ℕ) (error : LogError) → text_judged seen text ≡ Err error → error.kind ≡ LineTooLong → ⊥
+unfolding text_judged
+text_short seen text error h k = grind (arith, said_short, fact_short)
+
+last_short : (seen next : LogSeen) (line : List ℕ) (error : LogError) → rest_judged seen line ≡ Ok next → (last_judged seen line >>= end_judged) ≡ Err error → error.kind ≡ LineTooLong → ⊥
+unfolding rest_judged last_judged
+last_short seen next line error fits h k = grind (arith, text_short)
+
+-- where the bytes so far have no fault, their log has no line that is too long
+whole_short : (files : List (List ℕ)) (bytes : List ℕ) (seen : LogSeen) (error : LogError) → input_judged files bytes ≡ Ok seen
+    → logs_text (files ++ bytes ∷ []) ≡ Err error → error.kind ≡ LineTooLong → ⊥
+whole_short files bytes seen error h e k = grind (arith, text_fault, file_by_lines, input_by_lines, rest_same, last_short)
+
+-- and with more than a line may have, its line is too long
+long_after : (files : List (List ℕ)) (bytes part : List ℕ) (seen : LogSeen) → is_one_line part ≡ true → 65536 < length part → input_judged files bytes ≡ Ok seen
+    → input_judged files (bytes ++ part) ≡ fault_at seen.line LineTooLong
+long_after files bytes part seen one long h =
+    let over : 65536 < length (unended bytes) + length part = omega arith in
+    grind (arith, input_by_lines, (so_far_more files bytes part one), (rest_more bytes part one), rest_same, (long_rest seen (unended bytes ++ part) (part_long (unended bytes) part over)))
+
+-- a part of a line that has more bytes than this
+record LongPart (n : ℕ) : Type 0 where
+  text : List ℕ
+  one : is_one_line text ≡ true
+  long : n < length text
+
+long_part : (n : ℕ) → LongPart n
+long_part zero = record { text = 0 ∷ []; one = refl; long = omega arith }
+long_part (suc n) = let p = long_part n in record { text = 0 ∷ p.text; one = p.one; long = (let h : n < length p.text = p.long in omega arith) }
+
+-- bytes without a fault show none: their log may end, or their line may go on and be too long
+pub none_shown : (files : List (List ℕ)) (bytes : List ℕ) (seen : LogSeen) → input_judged files bytes ≡ Ok seen → ShowsNone files bytes
+none_shown files bytes seen h error shown =
+    let p = long_part 65536 in
+    let long = fault_shown files (bytes ++ p.text) _ (long_after files bytes p.text seen p.one p.long h) in
+    let same : ◌≡◌ {A = Result (List ℕ) LogError} (Err error) (Err (record { line = seen.line; kind = LineTooLong })) =
+    sym (shown p.text []) ∙ ap (λ log. logs_text (files ++ log ∷ [])) (sym (append-nil (bytes ++ p.text))) ∙ long [] [] in
+    let kind : error.kind ≡ LineTooLong = cc in
+    whole_short files bytes seen error h (ap (λ log. logs_text (files ++ log ∷ [])) (sym (append-nil bytes)) ∙ shown [] []) kind
+
+-- inside a block the test has its name at the index
+name_running : (place : Place) (tests : List (List ℕ × Summed)) (i : ℕ) (name : List ℕ) → (place ≡ Outside → ⊥) → IsRunning place tests i name → test_name_at tests i ≡ Some name
+name_running place tests i name inside h = grind arith
+
+running_named : (place : Place) (tests : List (List ℕ × Summed)) (i : ℕ) (name : List ℕ) → test_name_at tests i ≡ Some name → IsRunning place tests i name
+running_named place tests i name h = grind arith
+
+inside_of : (block : Option (List ℕ × Place)) (progress : SumProgress) (seen : LogSeen) → IsAtSeen progress seen → IsSeenInside block seen → IsInside block progress
+inside_of None progress seen at_seen h = at_seen.place ∙ h
+inside_of (Some block) progress seen at_seen h =
+    (at_seen.place ∙ h.1, rw (sym h.0) (name_running seen.place progress.tests progress.test seen.test (λ e. h.2 (sym h.1 ∙ e)) at_seen.test))
+
+-- the place and the test of a reading
+record IsAtPlace (progress : SumProgress) (seen : LogSeen) : Type 0 where
+  place : progress.place ≡ seen.place
+  test : IsRunning seen.place progress.tests progress.test seen.test
+
+place_of : (block : Option (List ℕ × Place)) (progress : SumProgress) (seen : LogSeen) → IsInside block progress → IsSeenInside block seen → IsAtPlace progress seen
+place_of None progress seen h k = record { place = h ∙ sym k; test = rw k tt }
+place_of (Some block) progress seen h k =
+    record { place = h.0 ∙ sym k.1; test = running_named seen.place progress.tests progress.test seen.test (h.1 ∙ ap (λ t. Some t) (sym k.0)) }
+
+-- what was read represents its input
+pub fed_represents : (kept : Kept) (files : List (List ℕ)) (bytes : List ℕ) → IsFed kept files bytes → Represents kept files bytes
+fed_represents kept files bytes fed =
+    let read = has_read files bytes fed.seen fed.judged in
+    record {
+      no_fault = none_shown files bytes fed.seen fed.judged;
+      before = read.before;
+      whole = read.whole;
+      tests = fed.reading.tests ∙ ap sum_table read.ends.entries;
+      inside = inside_of (says_so_far bytes).inside kept.progress fed.seen fed.reading read.ends.inside;
+      line = fed.reading.line ∙ input_line fed.seen files bytes fed.judged;
+      held = fed.held;
+      going = fed.going;
+      in_order = fed.in_order;
+    }
+
+-- what represents an input has read it
+pub represents_fed : (kept : Kept) (files : List (List ℕ)) (bytes : List ℕ) → Represents kept files bytes → IsFed kept files bytes
+represents_fed kept files bytes h = by_judged (input_judged files bytes) refl
+  where
+    by_judged : (r : Result LogSeen LogError) → input_judged files bytes ≡ r → IsFed kept files bytes
+    by_judged (Err error) e = absurd (h.no_fault error (fault_shown files bytes error e))
+    by_judged (Ok seen) e =
+        let read = has_read files bytes seen e in
+        let oks : ◌≡◌ {A = Result (List Entry) LogError} (Ok h.before) (Ok read.before) = sym h.whole ∙ read.whole in
+        let same : h.before ≡ read.before = cc in
+        let place = place_of (says_so_far bytes).inside kept.progress seen h.inside read.ends.inside in
+        record {
+          seen = seen;
+          judged = e;
+          reading = record {
+            tests = h.tests ∙ ap (λ before. sum_table (before ++ facts_said (says_so_far bytes))) same ∙ ap sum_table (sym read.ends.entries);
+            place = place.place;
+            test = place.test;
+            line = h.line ∙ sym (input_line seen files bytes e);
+          };
+          held = h.held;
+          going = h.going;
+          in_order = h.in_order;
+        }
+
+-- a refusal is a fault that the bytes so far show, at its line
+pub fed_refused : (middle new : Kept) (files : List (List ℕ)) (bytes : List ℕ) (fault : Fault) (answer : SumError) → answer ≡ sum_refusal middle.progress.line fault → new.refusal ≡ Some answer
+    → PieceTo middle files bytes (Err fault) → FedTo new files bytes (Err answer)
+fed_refused middle new files bytes (Wrong kind) answer e k h =
+    rw e (fault_shown files bytes (record { line = middle.progress.line; kind = kind }) h, k ∙ ap (λ (x : SumError). Some x) e)
+fed_refused middle new files bytes NoMemory answer e k h = rw e (k ∙ ap (λ (x : SumError). Some x) e)
