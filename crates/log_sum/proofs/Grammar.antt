@@ -1,19 +1,17 @@
 -- Logs that are read line by line say what their blocks say.
-use Rattle.std.specs.Prelude.{◌≡◌, ℕ, suc, true, false, List, [], ◌∷◌, ◌++◌, map, Option, Some, None, Result, Ok, Err}
+use Rattle.std.specs.Prelude.{◌≡◌, ℕ, List, [], ◌∷◌, ◌++◌, map, Option, Some, None, Result, Ok, Err}
 use Rattle.std.proofs.Common.{sym, refl, ap, ◌∙◌, arith}
 use Rattle.list_laws.proofs.Cases.{by_test}
-use Rattle.text_parts_laws.specs.{Lines.without_return, Lines.last_line, Words.words, ReadingSteps.◌>>=◌}
-use Rattle.log_sum.specs.declared.{errors.LogKind.LogKind, errors.LogKind.TheVariants.LineTooLong, errors.LogError.LogError, kinds.Kind.Kind}
+use Rattle.text_parts_laws.specs.{Lines.without_return, Lines.last_line, ReadingSteps.◌>>=◌}
+use Rattle.log_sum.specs.declared.{errors.LogKind.LogKind, errors.LogKind.TheVariants.LineTooLong, errors.LogError.LogError}
 use Rattle.log_sum.specs.declared.{kinds.Place.Place}
-use Rattle.log_sum.specs.declared.kinds.Place.TheVariants.{Outside, Histogram, States, Judgement, Rest, Conditioned}
-use Rattle.log_sum.specs.{Facts.Entry, LineReading.Said, LogLines.test_line, LineReading.outside_said, LogLines.condition_line, LogLines.hash_line}
-use Rattle.log_sum.specs.{LogReading.line_judged, LogReading.lines_judged, SumText.sum_text, Representing.logs_text}
-use Rattle.log_sum.specs.{LogGrammar.of_no_test, LogGrammar.log_says}
-use Rattle.log_sum.specs.LineReading.{rest_said, log_line_said, states_left, kind_at, place_after, fact_said}
-use Rattle.log_sum.specs.LogReading.{LogSeen, nothing_seen, fault_at, is_too_long, next_line, said_put, text_judged}
-use Rattle.log_sum.specs.LogReading.{last_judged, end_judged, file_judged, files_judged}
-use Rattle.log_sum.specs.LogGrammar.{text_in, log_texts, LogSays, of_test, of_hash, of_condition}
-use Rattle.log_sum.specs.LogGrammar.{block_says, states_say, rest_says, log_judged, all_judged}
+use Rattle.log_sum.specs.declared.kinds.Place.TheVariants.{Outside}
+use Rattle.log_sum.specs.{Facts.Entry, Facts.Fact, SumText.sum_text, Representing.logs_text}
+use Rattle.log_sum.specs.LineReading.{Said, log_line_said, place_after, fact_said, test_after}
+use Rattle.log_sum.specs.LogReading.{LogSeen, nothing_seen, fault_at, is_too_long, next_line, fact_put, at_next_line, said_put, text_judged}
+use Rattle.log_sum.specs.LogReading.{line_judged, lines_judged, last_judged, end_judged, file_judged, files_judged}
+use Rattle.log_sum.specs.LogGrammar.{text_in, log_texts, LogSays, log_says, log_judged, all_judged}
+use Rattle.log_sum.proofs.PlaceLaws.{place_says, HasStates, before_says, after_line, line_says, has_states}
 
 -- what was seen, by its parts
 abbrev pub at_place : List Entry → List ℕ → Place → ℕ → LogSeen
@@ -63,101 +61,36 @@ file_texts : (seen : LogSeen) (bytes : List ℕ) → file_judged seen bytes ≡ 
 unfolding file_judged log_texts
 file_texts seen bytes = search (arith, bind_both, lines_texts)
 
--- lines that are read one by one, by the place of the first
-record Reads (lines : List (Option (List ℕ))) : Type 0 where
-  outside : (entries : List Entry) (test : List ℕ) (line : ℕ) → texts_judged (at_place entries test Outside line) lines ≡ gives entries (log_says line lines)
-  block : (entries : List Entry) (test : List ℕ) (kind : Kind) (line : ℕ)
-      → texts_judged (at_place entries test (Histogram kind) line) lines ≡ gives entries (block_says (test, kind) line lines)
-  states : (entries : List Entry) (test : List ℕ) (kind : Kind) (count line : ℕ)
-      → texts_judged (at_place entries test (states_left kind count) line) lines ≡ gives entries (states_say (test, kind) count line lines)
-  rest : (entries : List Entry) (test : List ℕ) (kind : Kind) (line : ℕ)
-      → texts_judged (at_place entries test (Rest kind) line) lines ≡ gives entries (rest_says (test, kind) false line lines)
-  after : (entries : List Entry) (test : List ℕ) (kind : Kind) (line : ℕ)
-      → texts_judged (at_place entries test (Conditioned kind) line) lines ≡ gives entries (rest_says (test, kind) true line lines)
+-- the reading goes on after a fact, if there is one
+fact_goes : (seen : LogSeen) (fact : Option Fact) (lines : List (Option (List ℕ))) (says : LogSays)
+    → ((entries : List Entry) → texts_judged (record seen { entries = entries; line = next_line seen.line }) lines ≡ gives entries says)
+    → ((fact_put seen fact >>= at_next_line) >>= λ next. texts_judged next lines) ≡ gives seen.entries (before_says seen.line seen.test fact says)
+fact_goes seen fact lines says further = grind arith
 
--- what the reading gives after a line that says this, or has this fault
-abbrev after_said : LogSeen → Result Said LogKind → List (Option (List ℕ)) → Result LogSeen LogError
-after_said seen said lines = said_put seen said >>= λ next. texts_judged next lines
+-- and so after what a line says, or stops at its fault
+said_goes : (seen : LogSeen) (said : Result Said LogKind) (lines : List (Option (List ℕ))) → HasStates seen.place
+    → ((next : LogSeen) → HasStates next.place → texts_judged next lines ≡ gives next.entries (place_says next.place next.test next.line lines))
+    → (said_put seen said >>= λ next. texts_judged next lines) ≡ gives seen.entries (after_line seen.place seen.test seen.line lines said)
+said_goes seen (Err kind) lines has further = refl
+said_goes seen (Ok said) lines has further =
+    fact_goes (record seen { test = test_after seen.test said; place = place_after seen.place said }) (fact_said said) lines
+    (place_says (place_after seen.place said) (test_after seen.test said) (next_line seen.line) lines)
+    (λ entries. further (at_place entries (test_after seen.test said) (place_after seen.place said) (next_line seen.line)) (has_states seen.place said has))
 
--- a line in the rest of a block but `Observation`
-rest_step : (entries : List Entry) (test : List ℕ) (kind : Kind) (place : Place) (line : ℕ) (text : List ℕ) (lines : List (Option (List ℕ)))
-    (here later : LogSays)
-    → kind_at place ≡ kind
-    → ((more : List Entry) → texts_judged (at_place more test place (next_line line)) lines ≡ gives more here)
-    → ((more : List Entry) → texts_judged (at_place more test (Conditioned kind) (next_line line)) lines ≡ gives more later)
-    → after_said (at_place entries test place line) (rest_said kind text) lines
-    ≡ gives entries (of_no_test line (test_line (words text))
-    (of_condition line (test, kind) (condition_line (words text)) later (of_hash line test (hash_line text) here)))
-unfolding place_after fact_said
-rest_step entries test kind place line text lines here later is same after = grind arith
-
--- a line outside the blocks
-outside_step : (entries : List Entry) (test : List ℕ) (line : ℕ) (text : List ℕ) (lines : List (Option (List ℕ))) → Reads lines
-    → (text_judged (at_place entries test Outside line) text >>= λ next. texts_judged next lines) ≡ gives entries (log_says line (Some text ∷ lines))
-unfolding text_judged log_line_said place_after fact_said
-outside_step entries test line text lines h = of (test_line (words text))
-  where
-    of : (begun : Option (List ℕ × Kind))
-        → after_said (at_place entries test Outside line) (Ok (outside_said begun)) lines
-        ≡ gives entries (of_test line begun (λ t. block_says t (next_line line) lines) (log_says (next_line line) lines))
-    of None = h.outside entries test (next_line line)
-    of (Some begun) = grind arith
-
--- the line of the number of states
-block_step : (entries : List Entry) (test : List ℕ) (kind : Kind) (line : ℕ) (text : List ℕ) (lines : List (Option (List ℕ))) → Reads lines
-    → (text_judged (at_place entries test (Histogram kind) line) text >>= λ next. texts_judged next lines)
-    ≡ gives entries (block_says (test, kind) line (Some text ∷ lines))
-unfolding text_judged log_line_said place_after fact_said
-block_step entries test kind line text lines h = grind arith
-
--- a state
-state_step : (entries : List Entry) (test : List ℕ) (kind : Kind) (left line : ℕ) (text : List ℕ) (lines : List (Option (List ℕ))) → Reads lines
-    → (text_judged (at_place entries test (States kind (suc left)) line) text >>= λ next. texts_judged next lines)
-    ≡ gives entries (states_say (test, kind) (suc left) line (Some text ∷ lines))
-unfolding text_judged log_line_said place_after fact_said
-state_step entries test kind left line text lines h = grind arith
-
--- `Ok` or `No`
-judgement_step : (entries : List Entry) (test : List ℕ) (kind : Kind) (line : ℕ) (text : List ℕ) (lines : List (Option (List ℕ))) → Reads lines
-    → (text_judged (at_place entries test (Judgement kind) line) text >>= λ next. texts_judged next lines)
-    ≡ gives entries (states_say (test, kind) 0 line (Some text ∷ lines))
-unfolding text_judged log_line_said place_after fact_said
-judgement_step entries test kind line text lines h = grind arith
-
--- a line of the rest of a block, before a condition
-before_step : (entries : List Entry) (test : List ℕ) (kind : Kind) (line : ℕ) (text : List ℕ) (lines : List (Option (List ℕ))) → Reads lines
-    → (text_judged (at_place entries test (Rest kind) line) text >>= λ next. texts_judged next lines)
-    ≡ gives entries (rest_says (test, kind) false line (Some text ∷ lines))
-unfolding text_judged log_line_said
-before_step entries test kind line text lines h = grind (arith, rest_step)
-
--- and after one
-after_step : (entries : List Entry) (test : List ℕ) (kind : Kind) (line : ℕ) (text : List ℕ) (lines : List (Option (List ℕ))) → Reads lines
-    → (text_judged (at_place entries test (Conditioned kind) line) text >>= λ next. texts_judged next lines)
-    ≡ gives entries (rest_says (test, kind) true line (Some text ∷ lines))
-unfolding text_judged log_line_said place_after fact_said
-after_step entries test kind line text lines h = grind (arith, rest_step)
-
-reads : (lines : List (Option (List ℕ))) → Reads lines
-reads (Some text ∷ lines) = record {
-  outside = grind (arith, (reads lines), outside_step);
-  block = grind (arith, (reads lines), block_step);
-  states = λ entries test kind count line. of (reads lines) entries test kind line count;
-  rest = grind (arith, (reads lines), before_step);
-  after = grind (arith, (reads lines), after_step);
-}
-  where
-    of : Reads lines → (entries : List Entry) (test : List ℕ) (kind : Kind) (line count : ℕ)
-        → texts_judged (at_place entries test (states_left kind count) line) (Some text ∷ lines)
-        ≡ gives entries (states_say (test, kind) count line (Some text ∷ lines))
-    of h entries test kind line count = grind (arith, judgement_step, state_step)
-reads lines = grind arith
+-- lines that are read one by one from a place on give what they say from there on
+reads : (seen : LogSeen) (lines : List (Option (List ℕ))) → HasStates seen.place
+    → texts_judged seen lines ≡ gives seen.entries (place_says seen.place seen.test seen.line lines)
+unfolding text_judged
+reads seen (Some text ∷ lines) has =
+    said_goes seen (log_line_said seen.place text) lines has (λ next h. reads next lines h)
+    ∙ ap (gives seen.entries) (sym (line_says seen.place seen.test seen.line text lines has))
+reads seen lines has = grind arith
 
 -- whole logs are read as the facts of their blocks, one after another
 pub files_by_blocks : (entries : List Entry) (logs : List (List ℕ)) → files_judged (between entries) logs ≡ (all_judged entries logs >>= λ all. Ok (between all))
 files_by_blocks entries [] = refl
 files_by_blocks entries (log ∷ logs) =
-    ap (λ r. r >>= λ next. files_judged next logs) (file_texts (between entries) log ∙ (reads (log_texts log)).outside entries [] 1)
+    ap (λ r. r >>= λ next. files_judged next logs) (file_texts (between entries) log ∙ reads (between entries) (log_texts log) tt)
     ∙ each (λ more. files_by_blocks more logs) (log_judged entries (log_says 1 (log_texts log)))
   where
     each : ((more : List Entry) → files_judged (between more) logs ≡ (all_judged more logs >>= λ all. Ok (between all))) → (r : Result (List Entry) LogError)
