@@ -57,7 +57,7 @@ nothing_normed arch s a r page e f =
     (subst (λ q. Normed arch s s a a q []) (sym e) (record { cycles = []; read = nothing_read arch s; sent = sent_nothing a [] }))
 
 -- the line of one more cycle
-name_lines_more : (cycles : List (List Edge)) (cycle : List Edge) → name_lines cycles ++ name_line cycle ≡ name_lines (cycles ++ cycle ∷ [])
+pub name_lines_more : (cycles : List (List Edge)) (cycle : List Edge) → name_lines cycles ++ name_line cycle ≡ name_lines (cycles ++ cycle ∷ [])
 name_lines_more cycles cycle = sym (lines_more cycles (cycle ∷ []) ∙ ap (λ t. name_lines cycles ++ t) (one_line cycle))
 
 cycle_given : (arch : ArchName) (s t : SourceSeen) (r q : ReaderSeen) (cycles : List (List Edge)) (said : Option (List Edge)) (cycle : List Edge)

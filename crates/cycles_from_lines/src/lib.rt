@@ -15,7 +15,7 @@ pub use classify::classify_lines;
 pub use edges::{cycle_spelled, quoted_cycle};
 pub use errors::{ClassifyError, LineKind, LinesError, NormError};
 pub use families::Families;
-pub use norm::{norm_lines, write_name_line};
+pub use norm::{norm_lines, send_name_line, write_name_line};
 
 /// The most bytes of a line, neither its line feed nor a carriage return right before that counted: 4,096.
 pub const MAX_CYCLE_LINE: usize = 4_096;

@@ -41,7 +41,7 @@ pub fn norm_lines<I: Source, O: Sink>(
         match reader.next_line(arch, &mut edges, &mut cycle) {
             Line::Read => match &cycle {
                 Some(cycle) => {
-                    match send_line(cycle, &mut words, &mut line, &mut page, out) {
+                    match send_name_line(cycle, &mut words, &mut line, &mut page, out) {
                         Ok(()) => {}
                         Err(Failed) => return Err(NormError::OutFault),
                     }
@@ -110,9 +110,9 @@ pub fn write_name_line<O: Sink>(cycle: &Cycle, out: &mut O) -> Result<(), Failed
     out.write_all(line.as_str().as_bytes())
 }
 
-/// Sends the line of a cycle by way of a page, as a whole. What `words` and `line` held
-/// doesn't count.
-fn send_line<O: Sink>(
+/// Sends the line of a cycle, as `write_name_line` writes it, by way of a page, as a whole. What
+/// `words` and `line` held doesn't count.
+pub fn send_name_line<O: Sink>(
     cycle: &Cycle,
     words: &mut ArrayString<MAX_CYCLE_NAME>,
     line: &mut ArrayString<MAX_NAME_LINE>,

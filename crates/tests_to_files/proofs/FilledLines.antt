@@ -4,7 +4,7 @@ use Rattle.std.specs.Prelude.{codes}
 use Rattle.relax_edges.specs.declared.edge.Edge.{Edge}
 use Rattle.diy_io.specs.Shelf.{ShelfSeen}
 use Rattle.tests_to_files.specs.{ListedFiles.file_number, ListedFiles.file_of, ListedFiles.file_lines, Putting.Filling, Keeping.FillsLines}
-use Rattle.tests_to_files.proofs.Lines.{length_more, file_lines_none, counted_next, counted_once, lines_more, waits_more}
+use Rattle.tests_to_files.proofs.FileLines.{length_more, file_lines_none, counted_next, counted_once, lines_more, waits_more}
 
 module _ (path kept : List ℕ) (first : ℕ) where
   -- the file is begun, and the lines that were kept wait

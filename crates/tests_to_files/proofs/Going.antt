@@ -11,7 +11,7 @@ use Rattle.tests_to_files.specs.ListedFiles.{file_number, file_of, path_of, all_
 use Rattle.tests_to_files.specs.Putting.{PutFiles, PutPart, Filling}
 use Rattle.tests_to_files.specs.Keeping.{KeepsLines, KeepsLine, Goes, HasGone, NamesAfter, StopsAfter, NamesAll, StopsNaming, Naming}
 use Rattle.tests_to_files.specs.ListingEnds.{WritesAll, StopsAtTest, StopsAtAll}
-use Rattle.tests_to_files.proofs.Lines.{length_more, file_lines-append, file_lines_none, test_files_none, test_files_more, counted_next, counted_once, file_counted, lines_counted, lines_so_far}
+use Rattle.tests_to_files.proofs.FileLines.{length_more, file_lines-append, file_lines_none, test_files_none, test_files_more, counted_next, counted_once, file_counted, lines_counted, lines_so_far}
 use Rattle.tests_to_files.proofs.Shelves.{put_nothing, put_both, put_then_part, part_more, part_not_begun}
 use Rattle.tests_to_files.proofs.FilledLines.{fills_first, fills_written, fills_more}
 use Rattle.tests_to_files.proofs.After.{GoesOn, begins_all, all_after, listed_after}

@@ -1,11 +1,12 @@
 pub mod Shelves
 pub mod FilesPut
-pub mod Lines
+pub mod FileLines
 pub mod FilledLines
 pub mod After
 pub mod Going
 pub mod GivenLaws
 pub mod Walks
+pub mod LineSteps
 pub mod Passing
 pub mod PassingOver
 pub mod Texts

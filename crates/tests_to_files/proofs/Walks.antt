@@ -13,7 +13,7 @@ use Rattle.tests_to_files.specs.declared.{names.Closed.Closed, wanted.Wanted.Wan
 use Rattle.tests_to_files.specs.{ListingEnds.WritesAll, ListingEnds.StopsAtAll, ListedFiles.all_path, ListedFiles.count_line, Keeping.HasGone}
 use Rattle.tests_to_files.specs.{Keeping.NamesAll, Keeping.StopsNaming}
 use Rattle.tests_to_files.specs.Plans.{HaveTests, plan_of, is_sought, IsPlanned}
-use Rattle.tests_to_files.proofs.{Going.names_put, Going.names_stop, Wanting.listed_alike, Wanting.writes_too, Wanting.stops_all_too}
+use Rattle.tests_to_files.proofs.{Going.names_put, Going.names_stop, Wanting.answers_too, Wanting.listed_alike, Wanting.writes_too, Wanting.stops_all_too}
 
 -- the normal form of a normal form is itself
 pub least_again : (u : List Edge) (last : Option (List Edge)) → IsNormal u → MatchOption last ⊥ (λ v. IsLeast u v) → last ≡ Some u
@@ -56,6 +56,15 @@ module _ {K J P : Type 0} where
       → (u : List Edge) → HaveTests puts wanted.mode (Lists post v) u ↔ IsPlanned (plan_of puts writing wanted v.relaxes v.limits) u
   planned post v puts writing wanted same =
       listed_alike puts wanted.mode wanted.threads wanted.accesses (λ u. Says post v.take u true) v.relaxes v.limits.size v.limits.exact same
+
+  -- the next of them is the next that a plan lists, or there is none
+  pub planned_answer : (post : P → (Bor (List Edge) × Unit {0}) → Bool → Type 0) (v w : Walking K J P) (puts : Puts) (writing : Writing) (wanted : Wanted) (answer : Option (List Edge))
+      → ((u : List Edge) → IsCycle u → Says post v.take u true ↔ (is_sought puts.name wanted.threads wanted.accesses u ≡ true))
+      → w ≡ record v { last = w.last } → IsAnswer (HaveTests puts wanted.mode (Lists post w)) w.last answer
+      → IsAnswer (IsPlanned (plan_of puts writing wanted v.relaxes v.limits)) w.last answer
+  planned_answer post v w puts writing wanted answer sought e h =
+      answers_too (HaveTests puts wanted.mode (Lists post v)) (IsPlanned (plan_of puts writing wanted v.relaxes v.limits))
+      (planned post v puts writing wanted sought) w.last answer (tested_as post puts wanted.mode v w w.last answer e h)
 
   -- what it leaves, by another word for the cycles that it lists: all files and the line on their number
   pub all_written : (post : P → (Bor (List Edge) × Unit {0}) → Bool → Type 0) (puts : Puts) (mode : ObsMode) (v w : Walking K J P) (other : List Edge → Type 0) (folder : Option (List ℕ)) (text : List Edge → List ℕ) (given : Option (List Edge))

@@ -7,7 +7,7 @@ use Rattle.relax_edges.specs.declared.{edge.Edge.Edge, kinds.ArchName.ArchName, 
 use Rattle.relax_edges.specs.EdgeTable.{is_of_arch, is_external}
 use Rattle.edge_algebra_laws.specs.Composable.{IsCycle}
 use Rattle.list_laws.proofs.{Cases.by_less, Places.none_foreign}
-use Rattle.cycle_enum_laws.specs.Listing.{IsListed}
+use Rattle.cycle_enum_laws.specs.Listing.{IsAnswer, IsListed}
 use Rattle.cycle_events.specs.Resolution.{external_count, resolution_of}
 use Rattle.arch_trait.specs.Threads.{Puts}
 use Rattle.test_maker.specs.declared.refusal.{MakeRefusal.MakeRefusal, MakeRefusal.TheVariants.NotOfArch, MakeRefusal.TheVariants.TooFewThreads}
@@ -152,6 +152,11 @@ listed_alike puts mode threads accesses takes relaxes size exact same u = (
     wanted_has_test puts mode threads accesses u l.taken,
   ),
 )
+
+-- the next listed cycle, or that there is none, by another word for the listed cycles
+pub answers_too : (listed other : List Edge → Type 0) (same : (u : List Edge) → listed u ↔ other u) (last answer : Option (List Edge)) → IsAnswer listed last answer → IsAnswer other last answer
+answers_too listed other same last None none = λ v is h. none v ((same v).1 is) h
+answers_too listed other same last (Some u) n = next_too listed other (λ u. (same u).0) (λ u. (same u).1) last u n
 
 -- what a listing leaves, by another word for the listed cycles
 module _ (listed other : List Edge → Type 0) (same : (u : List Edge) → listed u ↔ other u) (folder : Option (List ℕ)) (text : List Edge → List ℕ) (given : Option (List Edge)) (a b : ShelfSeen) where

@@ -5,6 +5,7 @@ pub mod WantedLaws
 pub mod Ready
 pub mod InternalRuns
 pub mod ListingEnds
+pub mod ListedLines
 pub mod GivenCycles
 pub mod Keeping
 pub mod Arrives

@@ -92,11 +92,13 @@ plan_of puts writing wanted relaxes limits = record {
   limits = limits;
 }
 
+-- what a listing wants, by what is asked for
+abbrev pub wanted_in : Listing → Wanted
+wanted_in listing = record { threads = listing.threads; accesses = listing.accesses; mode = listing.mode; folder = listing.folder }
+
 -- the plan of a listing by what is asked for
 abbrev pub plan_in : Puts → Writing → Listing → Plan
-plan_in puts writing listing =
-    plan_of puts writing (record { threads = listing.threads; accesses = listing.accesses; mode = listing.mode; folder = listing.folder })
-    listing.relaxes listing.limits
+plan_in puts writing listing = plan_of puts writing (wanted_in listing) listing.relaxes listing.limits
 
 -- the plan of a listing by what it wants and by its walk
 abbrev pub walk_plan : {K J P : Type 0} → Puts → Writing → Wanted → Walking K J P → Plan

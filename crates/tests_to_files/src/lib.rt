@@ -4,6 +4,7 @@
 mod ending;
 mod files;
 mod given;
+mod lines;
 mod listing;
 mod making;
 mod names;
@@ -14,5 +15,6 @@ mod wanted;
 pub use ending::ListingEnd;
 pub use files::{MAX_ENDING, MAX_PATH, Path, test_path};
 pub use given::put_cycles;
+pub use lines::write_listed;
 pub use listing::{Listing, list_tests};
 pub use putting::{File, put_files};

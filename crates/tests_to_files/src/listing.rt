@@ -11,7 +11,7 @@ ghost use Rattle.tests_to_files.specs.ListingEnds.{BeginsAfter, EndsAfter, EndsL
 ghost use Rattle.tests_to_files.specs.ListedFiles.{count_line, file_of};
 ghost use Rattle.tests_to_files.specs.Arrives.{ArrivesOrEnds};
 ghost use Rattle.tests_to_files.specs.Keeping.{PutsAll, StopsPutting};
-ghost use Rattle.tests_to_files.specs.Plans.{HaveTests, is_sought, Seeks, plan_in, test_file_of, walk_plan};
+ghost use Rattle.tests_to_files.specs.Plans.{HaveTests, is_sought, Seeks, plan_in, test_file_of, walk_plan, wanted_in};
 ghost use Rattle.tests_to_files.specs.Putting.{PutFiles, FailsAt};
 ghost use Rattle.tests_to_files.specs.Ready.{IsReady};
 
@@ -53,6 +53,37 @@ pub struct Listing<'a> {
     pub after: Option<Cycle>,
     /// The folder of the files, of at most `MAX_FOLDER` bytes.
     pub folder: Option<&'a str>,
+}
+
+impl<'a> Listing<'a> {
+    /// What is wanted of its cycles, and where the files of their tests lie.
+    pub(crate) fn wanted(&self) -> Wanted<'a>
+        ensures { result ≡ wanted_in self.now }
+    {
+        Wanted {
+            threads: self.threads,
+            accesses: self.accesses,
+            mode: self.mode,
+            folder: self.folder,
+        }
+    }
+
+    /// A walk over its cycles by two pruners and a test, which begins where the listing does.
+    pub(crate) fn walk<K: Fn(&[Edge]) -> bool, J: Fn(&[Edge]) -> bool, P: Fn(&Cycle) -> bool>(
+        self,
+        keep: K,
+        fit: J,
+        take: P,
+    ) -> Walk<K, J, P>
+        requires size { self.limits.size ≤ MAX_EDGES }
+        requires knows { KnowsOf K.pre K.Fn.post J.pre J.Fn.post P.pre P.Fn.post keep fit take }
+        ensures begins { BeginsAfter self.entry.after result.last }
+        ensures walk { result ≡ record { relaxes = self.entry.relaxes; limits = self.entry.limits; keep = keep; fit = fit; take = take; last = result.last } }
+    {
+        let mut walk = Walk::new(self.relaxes, self.limits, keep, fit, take);
+        begin_after(&mut walk, &self.after);
+        walk
+    }
 }
 
 /// Writes a file for each listed cycle, in order, then the file `@all` that names them, and then a
@@ -106,28 +137,13 @@ fn list_with<A: Arch, H: Shelf, O: Sink>(
     requires idle { (H.seen shelf.old).mode ≡ Idle }
     ensures { EndsListing O.seen (plan_in A.puts A.writing listing.entry) listing.entry.after result (H.seen shelf.old) (H.seen shelf.new) out.old out.new }
 {
-    let Listing {
-        relaxes,
-        limits,
-        threads,
-        accesses,
-        mode,
-        after,
-        folder,
-    } = listing;
-    let wanted = Wanted {
-        threads,
-        accesses,
-        mode,
-        folder,
-    };
+    let wanted = listing.wanted();
     let keep = |edges: &[Edge]| wanted.may_lead::<A>(edges);
     let fit = |edges: &[Edge]| wanted.may_fit(edges);
     let take = |cycle: &Cycle| -> bool
         ensures { result ≡ is_sought A.puts.name wanted.entry.threads wanted.entry.accesses cycle.now }
     { wanted.seeks::<A>(cycle) };
-    let mut walk = Walk::new(relaxes, limits, keep, fit, take);
-    begin_after(&mut walk, &after);
+    let mut walk = listing.walk(keep, fit, take);
     list_walk::<A, H, O, _, _, _>(&wanted, &mut walk, test, shelf, out)
 }
 

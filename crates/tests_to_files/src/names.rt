@@ -164,10 +164,12 @@ fn append_after<
 }
 
 /// The next of a walk's cycles that has a test. None is made.
-fn next_accepted<A: Arch, K: Fn(&[Edge]) -> bool, J: Fn(&[Edge]) -> bool, P: Fn(&Cycle) -> bool>(
-    walk: &mut Walk<K, J, P>,
-    mode: ObsMode,
-) -> Option<Cycle>
+pub(crate) fn next_accepted<
+    A: Arch,
+    K: Fn(&[Edge]) -> bool,
+    J: Fn(&[Edge]) -> bool,
+    P: Fn(&Cycle) -> bool,
+>(walk: &mut Walk<K, J, P>, mode: ObsMode) -> Option<Cycle>
     requires knows { KnowsOf K.pre K.Fn.post J.pre J.Fn.post P.pre P.Fn.post walk.old.keep walk.old.fit walk.old.take }
     ensures { ArrivesOrEnds (HaveTests A.puts mode (Lists P.Fn.post walk.old)) walk.old walk.new result }
 {

@@ -1,5 +1,5 @@
 -- That `list_tests` leaves what a listing is to leave.
-use Rattle.std.proofs.Common.{◌≡◌, ◌∙◌, ap, rules, refl}
+use Rattle.std.proofs.Common.{◌≡◌, ap, rules, refl}
 use Rattle.tests_to_files.proofs.listing.list_with.Goals as goal
 
 pub list_walk-requires-clause-sought : goal.list_walk-requires-clause-sought
@@ -7,10 +7,10 @@ list_walk-requires-clause-sought g c = λ u cycle. (λ said. search rules, λ ye
 
 pub returns : goal.returns
 returns g c =
-    let relaxes : c.begin_after.new.walk.relaxes ≡ c.args.listing.relaxes = ap (λ w. w.relaxes) c.begin_after.ensures.same ∙ ap (λ w. w.relaxes) c.new-walk.ensures in
-    let limits : c.begin_after.new.walk.limits ≡ c.args.listing.limits = ap (λ w. w.limits) c.begin_after.ensures.same ∙ ap (λ w. w.limits) c.new-walk.ensures in
+    let relaxes : c.walk-walk.result.relaxes ≡ c.args.listing.relaxes = ap (λ w. w.relaxes) c.walk-walk.ensures.walk in
+    let limits : c.walk-walk.result.limits ≡ c.args.listing.limits = ap (λ w. w.limits) c.walk-walk.ensures.walk in
     record {
-      given = c.begin_after.new.walk.last;
-      begins = c.begin_after.ensures.begins;
-      ends = rw (relaxes, limits) at c.list_walk.ensures;
+      given = c.walk-walk.result.last;
+      begins = c.walk-walk.ensures.begins;
+      ends = rw (relaxes, limits, c.wanted-wanted.ensures) at c.list_walk.ensures;
     }

@@ -1,8 +1,8 @@
--- That `send_line` sends the line of a cycle as a whole.
+-- That `send_name_line` sends the line of a cycle as a whole.
 use Rattle.std.proofs.Common.{◌∙◌, arith, ap, length}
 use Rattle.diy_io.specs.PageLaws.{sends_stopped}
 use Rattle.cycles_from_lines.proofs.NormLaws.{line_sent}
-use Rattle.cycles_from_lines.proofs.norm.send_line.Goals as goal
+use Rattle.cycles_from_lines.proofs.norm.send_name_line.Goals as goal
 
 pub returns-in_err-spill : goal.returns-in_err-spill
 returns-in_err-spill g c = sends_stopped _ _ _ _ _ _ _ _ _ c.from_residual.result c.in_err-spill.ensures.sends c.from_residual.ensures.1
