@@ -1,11 +1,13 @@
 pub mod GrowingLists
 pub mod CycleReads
+pub mod ObserverReads
 pub mod CycleOrders
 pub mod Texts
 pub mod Numbering
 pub mod Fitting
 pub mod ReadAgain
 pub mod ShownLaws
+pub mod IntendedLaws
 pub mod States
 pub mod Carried
 pub mod Breaking

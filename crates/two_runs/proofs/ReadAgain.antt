@@ -1,28 +1,28 @@
 -- The text of an execution that is made is read as that execution, with the threads and places of the test that was read.
-use Rattle.std.proofs.Common.{◌≡◌, ◌≤◌, ◌<◌, ℕ, List, [], ◌∷◌, map, length, true, refl, sym, ap, ◌∙◌, subst, arith}
+use Rattle.std.proofs.Common.{◌≡◌, ◌≤◌, ◌<◌, ◌+◌, ℕ, List, [], ◌∷◌, length, true, refl, sym, ap, ◌∙◌, subst, arith}
 use Rattle.std.specs.{Prelude.Option, Prelude.Result, Prelude.Ok, List.AllByRecursion, List.list_all}
 use Rattle.std.proofs.lemmas.Bool.{and_from}
-use Rattle.relax_edges.specs.declared.{TheConstants.MAX_EDGES, kinds.ObsMode.TheVariants.Avoid, edge.Edge.Edge}
+use Rattle.relax_edges.specs.declared.{TheConstants.MAX_EDGES, kinds.ArchName.ArchName, kinds.ObsMode.ObsMode, edge.Edge.Edge}
 use Rattle.list_laws.proofs.Numbers.{length-map-upto}
 use Rattle.cycle_events.specs.Resolution.{external_count, move_count}
 use Rattle.text_parts_laws.specs.Names.{is_place_name}
 use Rattle.arch_trait.specs.{Cells.WritesCells, Cells.MakesOneAccess, Laws.IsArch, PlaceNames.letters, PlaceNames.location_name, Threads.Puts}
-use Rattle.arch_trait.specs.{Writing.Writing, Writing.WritesBack, Writing.name_in}
+use Rattle.arch_trait.specs.{Writing.Writing, Writing.WritesBack, Writing.name_in, SeenTests.TestSeen}
 use Rattle.arch_trait_laws.proofs.NameLaws.{length-letters, location_new}
 use Rattle.litmus_text.specs.declared.errors.TextError.{TextError}
 use Rattle.litmus_text.specs.{Mentioned.TestReadsBack, Mentioned.is_in, Printable.IsTestName, Reread.reread, TestReading.TestRead}
 use Rattle.litmus_text.specs.{TestReading.test_read, TestText.test_text}
 use Rattle.bytes_force_cycles.proofs.{BackLaws.reads_back, BackLaws.numbered_in, Readable.readable, Rereading.got_is}
 use Rattle.program_meaning.specs.declared.WriteAt.{WriteAt}
-use Rattle.program_meaning.specs.{Executions.Execution, Intended.event_read, Intended.location_numbered, Intended.reads_in, Programs.IsCandidate}
+use Rattle.program_meaning.specs.{Executions.Execution, Intended.location_numbered, Programs.IsCandidate}
 use Rattle.exec_meaning.proofs.RunLaws.{candidate_count}
 use Rattle.exec_text.specs.{ExecutionText.execution_read, ExecutionReadBack.ExecutionFits, Written.text_of_execution}
 use Rattle.exec_text.proofs.ExecutionBack.{written_reads_back}
 use Rattle.tests_force_cycles.specs.{TestHeadline.HasCode, TestOf.test_of}
 use Rattle.tests_force_cycles.proofs.PlaceNames.{letter_at, locations_few}
 use Rattle.bytes_force_cycles.specs.Readings.{program_read}
-use Rattle.two_runs.specs.Runs.{order_of, run_by}
-use Rattle.two_runs.proofs.Fitting.{run_fits}
+use Rattle.two_runs.specs.Runs.{observer_count, order_of, run_by}
+use Rattle.two_runs.proofs.Fitting.{IsSmallCycle, resolved_small, run_fits, run_length}
 
 -- a name among those of locations has the form of a place's name
 name_formed : (n : ℕ) (name : List ℕ) → n ≤ MAX_EDGES → is_in (letters n) name ≡ true → is_place_name name ≡ true
@@ -43,33 +43,37 @@ names_formed n (name ∷ names) few h =
 pub one_reading : (test other : TestRead) → (let left : Result TestRead TextError = Ok test in left) ≡ Ok other → test ≡ other
 one_reading test other e = cc e
 
--- the places of a reading of the test have names of their form
-places_formed : (a : Puts) (w : Writing) (name : List ℕ) (es : List Edge) (test : TestRead)
-    → HasCode a es Avoid → TestReadsBack a.name w name (test_of a (name_in w.registers) es Avoid)
-    → test_read a.name w (test_text a.name w name (test_of a (name_in w.registers) es Avoid)) ≡ Ok test → list_all is_place_name test.places ≡ true
-places_formed a w name es test code r reads =
-    let again : TestRead = reread r.table name (test_of a (name_in w.registers) es Avoid) in
-    let same : test ≡ again = one_reading test again (sym reads ∙ r.read) in
+-- the places of a reading of a test have names of their form
+places_formed : (arch : ArchName) (w : Writing) (name : List ℕ) (seen : TestSeen) (n : ℕ) (test : TestRead) → n ≤ MAX_EDGES → seen.places ≡ letters n
+    → TestReadsBack arch w name seen → test_read arch w (test_text arch w name seen) ≡ Ok test → list_all is_place_name test.places ≡ true
+places_formed arch w name seen n test few named r reads =
+    let same : test ≡ reread r.table name seen = one_reading test (reread r.table name seen) (sym reads ∙ r.read) in
     ap (λ (t : TestRead). list_all is_place_name t.places) same
-    ∙ names_formed (move_count es) r.table (omega (arith, locations_few es code.resolved)) r.among
+    ∙ names_formed n r.table few (subst (λ places. AllByRecursion (λ name. is_in places name ≡ true) r.table) named r.among)
 
--- Where the text of a cycle's test without observers is read as a test, and an execution that is made for the cycle is a candidate
--- execution of it, the text of the execution is read, with the threads and places of that test, as the execution.
-pub read_again : (a : Puts) (w : Writing) (name : List ℕ) (es : List Edge) (moved : Option ℕ) (number : ℕ → ℕ) (test : TestRead) (run : Execution)
-    → IsArch a → WritesBack a w → WritesCells a w → MakesOneAccess a → HasCode a es Avoid → IsTestName name
-    → test_read a.name w (test_text a.name w name (test_of a (name_in w.registers) es Avoid)) ≡ Ok test
-    → IsCandidate (program_read test) run → run ≡ run_by es moved number
+-- Where the text of a test of a small cycle reads back, and an execution that is made for the cycle is a candidate execution of what
+-- it is read as, the text of the execution is read, with the threads and places of that reading, as the execution.
+pub run_read : (arch : ArchName) (w : Writing) (name : List ℕ) (seen : TestSeen) (es : List Edge) (mode : ObsMode) (moved : Option ℕ) (number : ℕ → ℕ) (test : TestRead) (run : Execution)
+    → IsSmallCycle es → move_count es ≤ MAX_EDGES → seen.places ≡ letters (move_count es) → TestReadsBack arch w name seen
+    → test_read arch w (test_text arch w name seen) ≡ Ok test → IsCandidate (program_read test) run → run ≡ run_by es mode moved number
     → execution_read (length test.threads) test.places (text_of_execution test.places run) ≡ Ok run
-read_again a w name es moved number test run laws back cells one code named reads candidate is =
-    let lists : ℕ → List (ℕ × Option WriteAt) = λ thread. map (event_read es) (reads_in es thread) in
+run_read arch w name seen es mode moved number test run small few named back reads candidate is =
     let orders : ℕ → List WriteAt = λ place. order_of es moved (location_numbered es number place) in
-    let threads : external_count es ≡ length test.threads =
-    sym (length-map-upto lists (external_count es)) ∙ ap (λ (x : Execution). length x.reads) (sym is) ∙ candidate_count test run candidate in
+    let threads : external_count es + observer_count es mode ≡ length test.threads =
+    sym (run_length es mode) ∙ ap (λ (x : Execution). length x.reads) (sym is) ∙ candidate_count test run candidate in
     let many : length test.places ≡ move_count es =
     sym candidate.execution.write_lists ∙ ap (λ (x : Execution). length x.orders) is ∙ length-map-upto orders (move_count es) in
-    let readable_test = readable a a.name w name es Avoid laws back cells one named code in
-    let again : TestReadsBack a.name w name (test_of a (name_in w.registers) es Avoid) = reads_back a a.name w name (test_of a (name_in w.registers) es Avoid) back cells readable_test in
-    let names = places_formed a w name es test code again reads in
-    let fits = run_fits es moved number test.places code.resolved names many in
+    let fits = run_fits es mode moved number test.places small (places_formed arch w name seen (move_count es) test few named back reads) many in
     written_reads_back (length test.threads) test.places run
     (subst (λ (z : ℕ × Execution). ExecutionFits z.0 test.places z.1) (λ i. (threads i, sym is i)) fits)
+
+-- the same of the test of a resolved cycle
+pub read_again : (a : Puts) (w : Writing) (name : List ℕ) (es : List Edge) (mode : ObsMode) (moved : Option ℕ) (number : ℕ → ℕ) (test : TestRead) (run : Execution)
+    → IsArch a → WritesBack a w → WritesCells a w → MakesOneAccess a → HasCode a es mode → IsTestName name
+    → test_read a.name w (test_text a.name w name (test_of a (name_in w.registers) es mode)) ≡ Ok test
+    → IsCandidate (program_read test) run → run ≡ run_by es mode moved number
+    → execution_read (length test.threads) test.places (text_of_execution test.places run) ≡ Ok run
+read_again a w name es mode moved number test run laws back cells one code named reads candidate is =
+    let seen : TestSeen = test_of a (name_in w.registers) es mode in
+    run_read a.name w name seen es mode moved number test run (resolved_small es code.resolved) (omega (arith, locations_few es code.resolved)) refl
+    (reads_back a a.name w name seen back cells (readable a a.name w name es mode laws back cells one named code)) reads candidate is

@@ -1,41 +1,29 @@
 -- What is made is what is to be shown: the two executions are the intended one and the exchanged one, and the law of refusals
 -- is about the test that was read.
-use Rattle.std.proofs.Common.{◌≡◌, ℕ, suc, ◌+◌, ◌<◌, Bool, false, cond, List, [], ◌∷◌, ◌++◌, length, map, Option, Some, None, Ok, Err, refl, sym, ap, ◌∙◌, subst, arith, append-nil}
-use Rattle.std.specs.{Prelude.Result, List.filter, List.filter_map}
+use Rattle.std.proofs.Common.{◌≡◌, ℕ, suc, ◌+◌, ◌<◌, List, length, map, Option, Some, None, Ok, Err, refl, sym, ap, ◌∙◌, subst, arith}
+use Rattle.std.specs.{Prelude.Result, List.filter_map}
 use Rattle.std.proofs.Math.Path.{fun_ext}
 use Rattle.list_laws.specs.Numbers.{upto}
-use Rattle.relax_edges.specs.declared.{kinds.ArchName.ArchName, kinds.ObsMode.TheVariants.Avoid, edge.Edge.Edge}
+use Rattle.relax_edges.specs.declared.{kinds.ArchName.ArchName, kinds.ObsMode.ObsMode, kinds.ObsMode.TheVariants.Avoid, edge.Edge.Edge}
 use Rattle.cycle_events.specs.Resolution.{IsResolved, event_before, move_count}
 use Rattle.cycle_events.specs.declared.needs.NeedsObserver.{NeedsObserver}
-use Rattle.cycle_events.specs.Values.{is_observed, observer_need, write_count}
+use Rattle.cycle_events.specs.Values.{observer_need, write_count}
 use Rattle.arch_trait.specs.{Cells.WritesCells, Cells.MakesOneAccess, Laws.IsArch, PlaceNames.number_in, Threads.Puts, Writing.Writing}
 use Rattle.arch_trait.specs.{Writing.WritesBack, Writing.name_in}
 use Rattle.litmus_text.specs.{Printable.IsTestName, TestReading.TestRead, TestReading.test_read, TestText.test_text, ReadingAnswers.GivesInMemory}
 use Rattle.litmus_text.specs.declared.errors.{TextError.TextError, ReadError.ReadError}
 use Rattle.litmus_text.specs.declared.errors.ReadError.TheVariants as errors
 use Rattle.program_meaning.specs.Executions.{Execution}
-use Rattle.program_meaning.specs.Intended.{intended, location_numbered, location_order, observed_locations, observer_reads, write_of}
+use Rattle.program_meaning.specs.Intended.{intended, location_numbered, location_order, write_of}
 use Rattle.accesses_force_cycles.specs.Exchange.{exchanged, exchanged_order}
 use Rattle.accesses_force_cycles.proofs.{Bridge.resolves, Needs.refused_entry}
 use Rattle.tests_force_cycles.specs.{TestHeadline.HasCode, TestOf.test_of}
 use Rattle.bytes_force_cycles.specs.Readings.{program_read, place_in_test}
 use Rattle.two_runs.specs.Undecided.{BytesUndecided, NoneTells, PrintedUndecided, Undecided}
-use Rattle.two_runs.specs.Runs.{cycle_reads, numbers_by, order_of, run_by}
+use Rattle.two_runs.specs.IntendedRuns.{IsRead}
+use Rattle.two_runs.specs.Runs.{numbers_by, order_of, run_by, run_reads}
 use Rattle.two_runs.specs.Shown.{AreTwoRuns}
 use Rattle.two_runs.proofs.ReadAgain.{one_reading, read_again}
-
-filter_none : (p : ℕ → Bool) (xs : List ℕ) → ((x : ℕ) → p x ≡ false) → filter p xs ≡ []
-filter_none p [] h = refl
-filter_none p (x ∷ xs) h = ap (λ b. cond b (x ∷ filter p xs) (filter p xs)) (h x) ∙ filter_none p xs h
-
--- the mode avoid has no observers
-unobserved : (es : List Edge) → observed_locations es Avoid ≡ []
-unfolding is_observed
-unobserved es = filter_none (is_observed es Avoid) (upto (move_count es)) (λ l. refl)
-
-reads_are : (es : List Edge) (number : ℕ → ℕ) → cycle_reads es ≡ (intended es Avoid number).reads
-unfolding intended
-reads_are es number = sym (ap (λ locations. cycle_reads es ++ map (observer_reads es) locations) (unobserved es) ∙ append-nil (cycle_reads es))
 
 in_order : (es : List Edge) (location : ℕ) → order_of es None location ≡ location_order es location
 unfolding order_of location_order
@@ -44,20 +32,17 @@ in_order es location =
     (fun_ext (λ (k : ℕ). let next : k + 1 ≡ suc k = omega arith in ap (write_of es location) next))
 
 -- where no write is exchanged, the execution is the intended one
-pub run_intended : (es : List Edge) (number : ℕ → ℕ) → run_by es None number ≡ intended es Avoid number
+pub run_intended : (es : List Edge) (mode : ObsMode) (number : ℕ → ℕ) → run_by es mode None number ≡ intended es mode number
 unfolding intended
-run_intended es number = λ i. record {
-  reads = reads_are es number i;
+run_intended es mode number = λ i. record {
+  reads = run_reads es mode;
   orders = map (λ place. in_order es (location_numbered es number place) i) (upto (move_count es));
 }
 
 -- where a write and the one before it are exchanged, the execution is the exchanged one
-pub run_exchanged : (es : List Edge) (event : ℕ) (number : ℕ → ℕ) → run_by es (Some event) number ≡ exchanged es number event
-unfolding exchanged order_of exchanged_order
-run_exchanged es event number = λ i. record {
-  reads = reads_are es number i;
-  orders = map (λ place. exchanged_order es event (location_numbered es number place)) (upto (move_count es));
-}
+pub run_exchanged : (es : List Edge) (event : ℕ) (number : ℕ → ℕ) → run_by es Avoid (Some event) number ≡ exchanged es number event
+unfolding intended exchanged order_of exchanged_order
+run_exchanged es event number = refl
 
 -- the event that needs an observer is one of the cycle's
 pub need_below : (es : List Edge) (need : NeedsObserver) (event : ℕ) → IsResolved es → observer_need es ≡ Some need
@@ -78,9 +63,8 @@ pub gives_fault : {X : Type 0} (view : X → TestRead) (read : Result TestRead T
 gives_fault view read error fault e gives = subst (λ (error : ReadError). GivesInMemory view (Err error) read) e gives
 
 -- a text that is read has no fault
-pub no_fault : (arch : ArchName) (w : Writing) (text bytes whole : List ℕ) (es : List Edge) (event : ℕ) (fault : TextError) → text ≡ whole → bytes ≡ text → BytesUndecided arch w whole es event
-    → test_read arch w bytes ≡ Err fault → ⊥
-no_fault arch w text bytes whole es event fault t b u e = apart u.test (sym u.reads ∙ ap (test_read arch w) (sym (b ∙ t)) ∙ e)
+pub no_fault : (arch : ArchName) (w : Writing) (text : List ℕ) (fault : TextError) → IsRead arch w text → test_read arch w text ≡ Err fault → ⊥
+no_fault arch w text fault read e = apart read.0 (sym read.1 ∙ e)
   where
     apart : (test : TestRead) → (let left : Result TestRead TextError = Ok test in left) ≡ Err fault → ⊥
     apart test e = cc e
@@ -88,7 +72,7 @@ no_fault arch w text bytes whole es event fault t b u e = apart u.test (sym u.re
 -- what is made is what is to be shown
 pub are_runs : (a : Puts) (w : Writing) (name : List ℕ) (es : List Edge) (need : NeedsObserver) (text bytes : List ℕ) (test : TestRead) (one two : Execution)
     → text ≡ test_text a.name w name (test_of a (name_in w.registers) es Avoid) → bytes ≡ text → BytesUndecided a.name w (test_text a.name w name (test_of a (name_in w.registers) es Avoid)) es need.event
-    → test_read a.name w bytes ≡ Ok test → one ≡ run_by es None (numbers_by test.places) → two ≡ run_by es (Some need.event) (numbers_by test.places)
+    → test_read a.name w bytes ≡ Ok test → one ≡ run_by es Avoid None (numbers_by test.places) → two ≡ run_by es Avoid (Some need.event) (numbers_by test.places)
     → IsArch a → WritesBack a w → WritesCells a w → MakesOneAccess a → HasCode a es Avoid → IsTestName name
     → AreTwoRuns a w name es need text test one two
 are_runs a w name es need text bytes test one two t b u reads first second laws back cells single code named = record {
@@ -97,15 +81,15 @@ are_runs a w name es need text bytes test one two t b u reads first second laws 
   first = one_is;
   second = two_is;
   none_tells = none;
-  first_reads = read_again a w name es None (numbers_by test.places) test one laws back cells single code named read none.first first;
-  second_reads = read_again a w name es (Some need.event) (numbers_by test.places) test two laws back cells single code named read none.second second;
+  first_reads = read_again a w name es Avoid None (numbers_by test.places) test one laws back cells single code named read none.first first;
+  second_reads = read_again a w name es Avoid (Some need.event) (numbers_by test.places) test two laws back cells single code named read none.second second;
 }
   where
     same : u.test ≡ test
     same = one_reading u.test test (sym u.reads ∙ ap (test_read a.name w) (sym (b ∙ t)) ∙ reads)
 
     one_is : one ≡ intended es Avoid (place_in_test test)
-    one_is = first ∙ run_intended es (numbers_by test.places)
+    one_is = first ∙ run_intended es Avoid (numbers_by test.places)
 
     two_is : two ≡ exchanged es (place_in_test test) need.event
     two_is = second ∙ run_exchanged es need.event (numbers_by test.places)

@@ -1,3 +1,4 @@
+pub mod IntendedRuns
 pub mod Runs
 pub mod Shown
 pub mod Undecided

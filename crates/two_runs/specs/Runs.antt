@@ -1,8 +1,8 @@
--- How the two executions are made: for the clauses of private functions.
+-- How executions of a cycle's test are made: for the clauses of private functions.
 -- Source: own.
-use Rattle.std.specs.Prelude.{ℕ, ◌+◌, ◌==◌, ◌&&◌, Bool, List, [], ◌++◌, map, Option, Some, None, slice_get, slice_set, unwrap_or}
+use Rattle.std.specs.Prelude.{ℕ, ◌+◌, ◌==◌, ◌&&◌, Bool, List, [], ◌++◌, length, map, Option, Some, None, slice_get, slice_set, unwrap_or}
 use Rattle.std.specs.List.{filter_map}
-use Rattle.relax_edges.specs.declared.edge.Edge.{Edge}
+use Rattle.relax_edges.specs.declared.{kinds.ObsMode.ObsMode, edge.Edge.Edge}
 use Rattle.list_laws.specs.Numbers.{upto}
 use Rattle.cycle_events.specs.{Resolution.external_count, Resolution.move_count, Resolution.thread_of, Values.write_count}
 use Rattle.arch_trait.specs.PlaceNames.{location_name}
@@ -10,7 +10,7 @@ use Rattle.litmus_text.specs.Placing.{place_in}
 use Rattle.diy_io.specs.{Sink.shown_bytes, Wrote.SinkSeen}
 use Rattle.program_meaning.specs.declared.WriteAt.{WriteAt}
 use Rattle.program_meaning.specs.{Accesses.is_read, Executions.Execution}
-use Rattle.program_meaning.specs.Intended.{event_access, event_read, location_numbered, reads_in, write_of}
+use Rattle.program_meaning.specs.Intended.{event_access, event_read, location_numbered, observed_locations, observer_reads, reads_in, write_of}
 use Rattle.accesses_force_cycles.specs.Exchange.{exchanged_value}
 use Rattle.two_runs.specs.declared.sink.TextSink.{TextSink}
 
@@ -38,6 +38,14 @@ thread_reads es thread = map (event_read es) (reads_in es thread)
 abbrev pub cycle_reads : List Edge → List (List (ℕ × Option WriteAt))
 cycle_reads es = map (thread_reads es) (upto (external_count es))
 
+-- how many threads have an observer's reads
+abbrev pub observer_count : List Edge → ObsMode → ℕ
+observer_count es mode = length (observed_locations es mode)
+
+-- what the reads of the cycle's threads read, and then what those of the observers read
+abbrev pub run_reads : List Edge → ObsMode → List (List (ℕ × Option WriteAt))
+run_reads es mode = cycle_reads es ++ map (observer_reads es) (observed_locations es mode)
+
 -- the value whose write takes the place of a value's write, where a write and the one before it are exchanged, or none are
 abbrev pub value_there : List Edge → Option ℕ → ℕ → ℕ → ℕ
 value_there es None location v = v
@@ -47,9 +55,9 @@ value_there es (Some event) location v = exchanged_value es event location v
 unfoldable pub order_of : List Edge → Option ℕ → ℕ → List WriteAt
 order_of es moved location = filter_map (λ k. write_of es location (value_there es moved location (k + 1))) (upto (write_count es location))
 
--- the execution of a cycle's test with the cycle's reads and these orders
-abbrev pub run_by : List Edge → Option ℕ → (ℕ → ℕ) → Execution
-run_by es moved number = record {
-  reads = cycle_reads es;
+-- the execution of a cycle's test with these reads and orders
+abbrev pub run_by : List Edge → ObsMode → Option ℕ → (ℕ → ℕ) → Execution
+run_by es mode moved number = record {
+  reads = run_reads es mode;
   orders = map (λ place. order_of es moved (location_numbered es number place)) (upto (move_count es));
 }

@@ -2,15 +2,21 @@
 #![tactic(auto)]
 
 mod errors;
+mod intended;
+mod observers;
 mod orders;
 mod places;
+mod printed;
 mod reads;
 mod run;
+mod run_errors;
 mod shown;
 mod sink;
 mod text;
 mod undecided;
 
 pub use errors::{WhyError, WhyRefusal};
+pub use intended::{IntendedRun, intended_run};
+pub use run_errors::RunError;
 pub use shown::{TwoRuns, two_runs};
 pub use undecided::{printed_undecided, tests_undecided};

@@ -23,7 +23,7 @@ pub(crate) fn add_orders(
 ) -> Result<(), NoMemory>
     requires orders { exec.old.orders ≡ empty_lists (move_count valued.now.edges) }
     requires moved { ForSome moved (λ event. event < length valued.now.edges) }
-    ensures { OnOk result (exec.new ≡ record exec.old { orders = (run_by valued.now.edges moved (numbers_by places.now)).orders }) }
+    ensures { OnOk result (exec.new ≡ record exec.old { orders = (run_by valued.now.edges valued.now.mode moved (numbers_by places.now)).orders }) }
 {
     for place in 0..valued.resolved().locations() {
         let location = location_at(valued, places, place);

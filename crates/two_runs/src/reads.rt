@@ -1,9 +1,9 @@
-ghost use Rattle.std.specs.Prelude.{◌≡◌, ◌≤◌, ◌<◌, length, OnOk};
+ghost use Rattle.std.specs.Prelude.{◌≡◌, ◌≤◌, ◌<◌, ◌+◌, ◌++◌, length, OnOk};
 ghost use Rattle.cycle_events.specs.Resolution.{external_count};
 ghost use Rattle.cycle_events.specs.Values.{write_count};
 ghost use Rattle.exec_meaning.specs.KeptExecutions.{empty_lists};
 ghost use Rattle.program_meaning.specs.Intended.{write_of};
-ghost use Rattle.two_runs.specs.Runs.{with_appended, cycle_reads, is_read_of, thread_reads};
+ghost use Rattle.two_runs.specs.Runs.{with_appended, cycle_reads, is_read_of, observer_count, thread_reads};
 
 use coherence_values::Valued;
 use diy_io::NoMemory;
@@ -12,9 +12,10 @@ use program_meaning::WriteAt;
 use relax_edges::Dir;
 
 /// Adds what the reads of the cycle's threads read: each the write of its value, or the initial value.
+/// The observers come after these threads.
 pub(crate) fn add_reads(valued: &Valued, exec: &mut Execution) -> Result<(), NoMemory>
-    requires { exec.old.reads ≡ empty_lists (external_count valued.now.edges) }
-    ensures { OnOk result (exec.new ≡ record exec.old { reads = cycle_reads valued.now.edges }) }
+    requires { exec.old.reads ≡ empty_lists (external_count valued.now.edges + observer_count valued.now.edges valued.now.mode) }
+    ensures { OnOk result (exec.new ≡ record exec.old { reads = cycle_reads valued.now.edges ++ empty_lists (observer_count valued.now.edges valued.now.mode) }) }
 {
     for thread in 0..valued.resolved().threads() {
         add_thread(valued, thread, exec)?;

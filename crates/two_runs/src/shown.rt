@@ -7,6 +7,7 @@ ghost use Rattle.test_maker.specs.Made.{AreOfArch};
 ghost use Rattle.two_runs.specs.Shown.{Shows, ShowsNeed, ShowsResolution, ShowsResolved};
 
 use crate::errors::{WhyError, WhyRefusal};
+use crate::printed::read_text;
 use crate::printed_undecided;
 use crate::run::run_of;
 use crate::text::text_unobserved;
@@ -16,7 +17,7 @@ use cycle_resolve::{ResolveError, Resolved, resolve};
 use diy_io::NoMemory;
 use edge_algebra::Cycle;
 use exec_meaning::Execution;
-use litmus_text::{ReadError, ReadTest, read_test};
+use litmus_text::ReadTest;
 use relax_edges::ObsMode;
 use std::alloc::Global;
 use test_maker::{first_unsupported, resolved_edges};
@@ -95,11 +96,7 @@ fn runs_of_need<A: Arch>(
 {
     printed_undecided::<A>();
     let text = text_unobserved::<A>(alloc, resolved, name)?;
-    let test = match read_test::<A>(alloc, text.as_slice()) {
-        Ok(test) => test,
-        Err(ReadError::NoMemory) => return Err(WhyError::NoMemory),
-        Err(ReadError::Text(_)) => unreachable!(),
-    };
+    let test = read_text::<A>(alloc, text.as_slice())?;
     let valued = value_unobserved(resolved);
     let one = run_of(alloc, &valued, test.places(), None)?;
     let two = run_of(alloc, &valued, test.places(), Some(need.event))?;

@@ -37,7 +37,7 @@ pub(crate) fn text_unobserved<A: Arch>(
 }
 
 /// The text of a test under a name.
-fn text_of<A: Arch>(alloc: Global, test: &Test, name: &str) -> Result<Vec<u8>, NoMemory>
+pub(crate) fn text_of<A: Arch>(alloc: Global, test: &Test, name: &str) -> Result<Vec<u8>, NoMemory>
     requires { All (λ code. IsPrintable A.puts.has A.REGISTERS (length test.now.places) code) test.now.threads.items }
     ensures { IfOk result (λ text. text.items ≡ test_text A.NAME A.writing name.now (test_seen test.now)) }
 {

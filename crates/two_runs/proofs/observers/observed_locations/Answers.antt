@@ -1,0 +1,24 @@
+-- All observed locations are found.
+use Rattle.std.proofs.Common.{◌≡◌, ◌++◌, ◌∷◌, [], sym, ◌∙◌, ap, arith, filter, length}
+use Rattle.list_laws.specs.Numbers.{upto}
+use Rattle.list_laws.proofs.{Counts.count_upto-le, Ranks.filter_no, Ranks.filter_yes, Ranks.length-filter-upto}
+use Rattle.cycle_events.specs.{Resolution.IsResolved, Resolution.move_count, Values.is_observed}
+use Rattle.cycle_events.proofs.Sizes.{external_and_moves}
+use Rattle.two_runs.proofs.observers.observed_locations.Goals as goal
+
+pub push-requires : goal.push-requires
+push-requires c =
+    let es = c.args.valued.now.edges in
+    let p = is_observed es c.args.valued.now.mode in
+    let r : IsResolved es = rw c.resolved.ensures at c.cycle-edges.ensures.resolved in (
+      omega arith,
+      omega (
+        arith,
+        ap length c.loop-location.invariant,
+        length-filter-upto p c.loop-location.location,
+        count_upto-le p c.loop-location.location,
+        external_and_moves es,
+        ap move_count c.resolved-2.ensures,
+        r.composes.few,
+      ),
+    )
