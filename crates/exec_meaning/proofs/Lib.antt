@@ -5,3 +5,4 @@ pub mod EdgeLaws
 pub mod RunLaws
 pub mod EdgesHeld
 pub mod FinalLaws
+pub mod SeenLaws

@@ -2,3 +2,4 @@ pub mod KeptExecutions
 pub mod EndedRuns
 pub mod StandingEdges
 pub mod Finals
+pub mod SeenAccesses

@@ -18,9 +18,9 @@ use std::alloc::Global;
 
 /// An access of a thread with its number there, from 0, which may be past those of a name.
 #[derive(Clone, Copy)]
-struct NumberedAccess {
-    number: usize,
-    access: Access,
+pub(crate) struct NumberedAccess {
+    pub(crate) number: usize,
+    pub(crate) access: Access,
 }
 
 fn count_reads(accesses: &[Access]) -> usize
@@ -68,7 +68,7 @@ fn read_at(all: &[Accesses], exec: &Execution, thread: usize, access: usize) -> 
 }
 
 /// The write that an access reads.
-fn source_at(all: &[Accesses], exec: &Execution, thread: usize, access: usize) -> Option<WriteAt>
+pub(crate) fn source_at(all: &[Accesses], exec: &Execution, thread: usize, access: usize) -> Option<WriteAt>
     ensures { result ≡ source_at all.now exec.now (name thread access) }
 {
     read_at(all, exec, thread, access)?.1
@@ -104,7 +104,7 @@ fn place_of_write(exec: &Execution, place: u8, thread: usize, access: usize) -> 
 }
 
 /// The coherence place of an access: of a write its own, of a read that of what it reads.
-fn coherence_place(
+pub(crate) fn coherence_place(
     all: &[Accesses],
     exec: &Execution,
     thread: usize,

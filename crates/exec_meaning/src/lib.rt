@@ -8,6 +8,7 @@ mod edges;
 mod execution;
 mod final_state;
 mod runs;
+mod seen;
 mod visits;
 
 pub use candidate::is_candidate;
@@ -15,4 +16,5 @@ pub use coherent::is_coherent;
 pub use edges::edge_stands;
 pub use execution::{Execution, Read};
 pub use final_state::final_of;
-pub use program_meaning::WriteAt;
+pub use program_meaning::{Access, WriteAt};
+pub use seen::{SeenAccess, seen_accesses};

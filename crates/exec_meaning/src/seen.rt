@@ -1,0 +1,120 @@
+ghost use Rattle.std.specs.Prelude.{◌≡◌, ◌≤◌, ◌++◌, length, map, IfOk, OnOk};
+ghost use Rattle.std.specs.List.{enumerate_from, flat_map};
+ghost use Rattle.program_meaning.specs.Accesses.{visits_of};
+ghost use Rattle.program_meaning.specs.Programs.{IsCandidate};
+ghost use Rattle.litmus_text.specs.ReadPrograms.{program_read};
+ghost use Rattle.exec_meaning.specs.SeenAccesses.{seen_access, seen_in, seen_in_thread};
+
+use crate::accesses::{Accesses, all_accesses};
+use crate::coherent::{NumberedAccess, coherence_place, source_at};
+use crate::execution::Execution;
+use crate::runs::candidate_runs;
+use arch_trait::Arch;
+use diy_io::NoMemory;
+use litmus_text::ReadTest;
+use micro_ops::{Item, Trace};
+use program_meaning::{Access, WriteAt};
+use relax_edges::Mark;
+use std::alloc::{AllocError, Global};
+
+/// An access of a candidate execution, with what the execution says of it.
+#[derive(Clone, Copy, Debug)]
+pub struct SeenAccess {
+    pub thread: u8,
+    /// Its number among the thread's accesses, from 0.
+    pub number: usize,
+    pub access: Access,
+    pub mark: Mark,
+    /// The write that it reads, or none for the initial value. It means nothing of a write.
+    pub source: Option<WriteAt>,
+    /// Its coherence place: of a write its own in the order of its place, from 1, of a read that of what it
+    /// reads, 0 for the initial value.
+    pub order: usize,
+}
+
+/// An access by its thread and its number there.
+fn seen_access(
+    all: &[Accesses],
+    exec: &Execution,
+    thread: u8,
+    numbered: NumberedAccess,
+    mark: Mark,
+) -> SeenAccess
+    ensures { result ≡ seen_access all.now exec.now thread numbered.number numbered.access mark }
+{
+    let NumberedAccess { number, access } = numbered;
+    SeenAccess {
+        thread,
+        number,
+        access,
+        mark,
+        source: source_at(all, exec, usize::from(thread), number),
+        order: coherence_place(all, exec, usize::from(thread), numbered),
+    }
+}
+
+/// Adds the accesses among the items of a thread's run.
+#[tactic(auto, using(crate::proofs::SeenLaws::after_seen, crate::proofs::SeenLaws::after_passed, crate::proofs::SeenLaws::all_seen))]
+fn push_seen(
+    all: &[Accesses],
+    exec: &Execution,
+    thread: u8,
+    items: &[Item],
+    list: &mut Vec<SeenAccess>,
+) -> Result<(), AllocError>
+    ensures { OnOk result (list.new.items ≡ list.old.items ++ seen_in_thread all.now exec.now (thread, visits_of items.now)) }
+{
+    let mut number = 0;
+    for item in items {
+        match *item {
+            Item::Access {
+                dir,
+                mark,
+                place,
+                value,
+                ..
+            } => {
+                let access = Access { dir, place, value };
+                let numbered = NumberedAccess { number, access };
+                list.push(seen_access(all, exec, thread, numbered, mark))?;
+                number += 1;
+            }
+            Item::Barrier { .. } => {}
+        }
+    }
+    Ok(())
+}
+
+/// Adds the accesses of each thread.
+#[tactic(auto, using(crate::proofs::SeenLaws::threads_seen))]
+fn push_threads(
+    all: &[Accesses],
+    exec: &Execution,
+    traces: &[Trace],
+    list: &mut Vec<SeenAccess>,
+) -> Result<(), AllocError>
+    requires { length traces.now ≤ 255 }
+    ensures { OnOk result (list.new.items ≡ list.old.items ++ flat_map (seen_in_thread all.now exec.now) (enumerate_from 0 (map (λ trace. visits_of trace.items) traces.now))) }
+{
+    for (thread, trace) in traces.iter().enumerate() {
+        push_seen(all, exec, thread as u8, trace.items(), list)?;
+    }
+    Ok(())
+}
+
+/// The accesses of a candidate execution of a test, thread by thread, each thread's in program order.
+pub fn seen_accesses<A: Arch>(
+    alloc: Global,
+    test: &ReadTest<A>,
+    exec: &Execution,
+) -> Result<Vec<SeenAccess>, NoMemory>
+    requires { IsCandidate (program_read test.now) exec.now }
+    ensures { IfOk result (λ list. list.items ≡ seen_in (program_read test.now) exec.now) }
+{
+    let _threads = test.threads();
+    let traces = candidate_runs(alloc, test, exec)?;
+    let all = all_accesses(alloc, &traces)?;
+    let mut list = Vec::new(alloc);
+    push_threads(&all, exec, &traces, &mut list)?;
+    Ok(list)
+}
