@@ -9,23 +9,23 @@ use Rattle.arch_trait.specs.Writing.{Writing}
 use Rattle.litmus_text.specs.declared.limits.TheConstants.{MAX_TEST_TEXT}
 use Rattle.litmus_text.specs.TestReading.{TestRead}
 use Rattle.program_meaning.specs.Executions.{Execution}
-use Rattle.exec_check.specs.declared.{verdict.Verdict.Verdict, checked_errors.CheckFault.CheckFault}
-use Rattle.exec_check.specs.{Verdicts.verdict_text, CheckingSteps.TestFileTo, CheckingSteps.ExecFileTo, CheckingSteps.check_end}
+use Rattle.exec_check.specs.declared.{verdict.Judged.Judged, shown.Shown.Shown, checked_errors.CheckFault.CheckFault}
+use Rattle.exec_check.specs.{Graphs.shown_text, CheckingSteps.TestFileTo, CheckingSteps.ExecFileTo, CheckingSteps.check_end}
 use Rattle.tests_from_files.specs.{FilesRead.FileFailed, FilesRead.FileIs, TestSaid.test_said, FailedFiles.failed_after}
 use Rattle.exec_check.specs.declared.checked_errors.CheckedKind.TheVariants as kinds
 use Rattle.exec_check.specs.declared.checked_errors.CheckFault.TheVariants as faults
-use Rattle.exec_check.specs.FilesChecked.{exec_said, IsTest, BothRead, VerdictSaid, ExecUnread, FilesChecked}
+use Rattle.exec_check.specs.FilesChecked.{exec_said, IsTest, BothRead, ExecutionShown, ExecUnread, FilesChecked}
 
 -- the file of the test isn't what is wanted
-pub test_refused : (arch : ArchName) (w : Writing) (old new : ShelfSeen) (words : List (List ℕ)) (test exec : ℕ) (a : SinkSeen) (fault : CheckFault)
-    → TestFileTo arch w old new (name_at words test) (Err fault) → FilesChecked arch w old new words test exec a a (check_end test fault)
-test_refused arch w old new words test exec a faults.Missing h =
+pub test_refused : (shown : Shown) (arch : ArchName) (w : Writing) (old new : ShelfSeen) (words : List (List ℕ)) (test exec : ℕ) (a : SinkSeen) (fault : CheckFault)
+    → TestFileTo arch w old new (name_at words test) (Err fault) → FilesChecked shown arch w old new words test exec a a (check_end test fault)
+test_refused shown arch w old new words test exec a faults.Missing h =
     (inl (record { place_is = refl; absent = h.absent; no_fault = h.no_fault; took = h.took }), refl)
-test_refused arch w old new words test exec a faults.Device h = (record { fault = h.fault; unread = inl h.took }, refl)
-test_refused arch w old new words test exec a (faults.Wrong line (kinds.Test kind)) h = (record { place_is = refl; faulty = h }, refl)
-test_refused arch w old new words test exec a (faults.Wrong line kinds.WrongArch) h = (record { place_is = refl; faulty = h }, refl)
-test_refused arch w old new words test exec a (faults.Wrong line (kinds.Exec kind)) h = absurd h
-test_refused arch w old new words test exec a faults.NoMemory h = refl
+test_refused shown arch w old new words test exec a faults.Device h = (record { fault = h.fault; unread = inl h.took }, refl)
+test_refused shown arch w old new words test exec a (faults.Wrong line (kinds.Test kind)) h = (record { place_is = refl; faulty = h }, refl)
+test_refused shown arch w old new words test exec a (faults.Wrong line kinds.WrongArch) h = (record { place_is = refl; faulty = h }, refl)
+test_refused shown arch w old new words test exec a (faults.Wrong line (kinds.Exec kind)) h = absurd h
+test_refused shown arch w old new words test exec a faults.NoMemory h = refl
 
 -- the test that a file is, by the files as they are shown
 test_is : (arch : ArchName) (w : Writing) (old new : ShelfSeen) (name : List ℕ) (read : TestRead) (f : FileIs (test_said arch w) old new name read)
@@ -44,10 +44,10 @@ exec_failed arch w old mid new words test exec read f same h = record {
 }
 
 -- the file of the execution isn't what is wanted, and that of the test is
-pub exec_refused : (arch : ArchName) (w : Writing) (old mid new : ShelfSeen) (words : List (List ℕ)) (test exec : ℕ) (a : SinkSeen) (read : TestRead)
+pub exec_refused : (shown : Shown) (arch : ArchName) (w : Writing) (old mid new : ShelfSeen) (words : List (List ℕ)) (test exec : ℕ) (a : SinkSeen) (read : TestRead)
     (fault : CheckFault) → FileIs (test_said arch w) old mid (name_at words test) read → mid.files ≡ old.files
-    → ExecFileTo arch w read mid new (name_at words exec) (Err fault) → FilesChecked arch w old new words test exec a a (check_end exec fault)
-exec_refused arch w old mid new words test exec a read faults.Missing f same h = (
+    → ExecFileTo arch w read mid new (name_at words exec) (Err fault) → FilesChecked shown arch w old new words test exec a a (check_end exec fault)
+exec_refused shown arch w old mid new words test exec a read faults.Missing f same h = (
   inr (record {
     place_is = refl;
     text = f.text;
@@ -59,14 +59,14 @@ exec_refused arch w old mid new words test exec a read faults.Missing f same h =
   }),
   refl,
 )
-exec_refused arch w old mid new words test exec a read faults.Device f same h = (
+exec_refused shown arch w old mid new words test exec a read faults.Device f same h = (
   record {
     fault = subst (λ (m : ℕ). Rose m new.faults) f.no_fault h.fault;
     unread = inr (exec_failed arch w old mid new words test exec read f same h);
   },
   refl,
 )
-exec_refused arch w old mid new words test exec a read (faults.Wrong line (kinds.Exec kind)) f same h = (
+exec_refused shown arch w old mid new words test exec a read (faults.Wrong line (kinds.Exec kind)) f same h = (
   record {
     place_is = refl;
     text = f.text;
@@ -79,9 +79,9 @@ exec_refused arch w old mid new words test exec a read (faults.Wrong line (kinds
   },
   refl,
 )
-exec_refused arch w old mid new words test exec a read (faults.Wrong line (kinds.Test kind)) f same h = absurd h
-exec_refused arch w old mid new words test exec a read (faults.Wrong line kinds.WrongArch) f same h = absurd h
-exec_refused arch w old mid new words test exec a read faults.NoMemory f same h = refl
+exec_refused shown arch w old mid new words test exec a read (faults.Wrong line (kinds.Test kind)) f same h = absurd h
+exec_refused shown arch w old mid new words test exec a read (faults.Wrong line kinds.WrongArch) f same h = absurd h
+exec_refused shown arch w old mid new words test exec a read faults.NoMemory f same h = refl
 
 -- both files are what is wanted
 both_read : (arch : ArchName) (w : Writing) (old mid new : ShelfSeen) (words : List (List ℕ)) (test exec : ℕ) (read : TestRead) (x : Execution)
@@ -96,15 +96,16 @@ both_read arch w old mid new words test exec read x f same e = record {
   no_fault = e.no_fault ∙ f.no_fault;
 }
 
--- and this is done with the text of the verdict
-pub verdict_said : (arch : ArchName) (w : Writing) (old mid new : ShelfSeen) (words : List (List ℕ)) (test exec : ℕ) (read : TestRead) (v : Verdict)
-    (done : List ℕ → Type 0) → FileIs (test_said arch w) old mid (name_at words test) read → mid.files ≡ old.files
-    → ExecFileTo arch w read mid new (name_at words exec) (Ok v) → done (verdict_text v) → VerdictSaid arch w old new words test exec done
-verdict_said arch w old mid new words test exec read v done f same h wrote = record {
+-- and this is done with the text that shows the execution
+pub execution_shown : (shown : Shown) (arch : ArchName) (w : Writing) (old mid new : ShelfSeen) (words : List (List ℕ)) (test exec : ℕ) (read : TestRead) (j : Judged)
+    (done : List ℕ → Type 0) (text : List ℕ) → FileIs (test_said arch w) old mid (name_at words test) read → mid.files ≡ old.files
+    → ExecFileTo arch w read mid new (name_at words exec) (Ok j) → text ≡ shown_text shown read j.exec j.verdict → done text
+    → ExecutionShown shown arch w old new words test exec done
+execution_shown shown arch w old mid new words test exec read j done text f same h is wrote = record {
   judged = read;
-  x = h.x;
-  read = both_read arch w old mid new words test exec read h.x f same h.file;
-  v = v;
+  x = j.exec;
+  read = both_read arch w old mid new words test exec read j.exec f same h.file;
+  v = j.verdict;
   is = h.is;
-  wrote = wrote;
+  wrote = subst done is wrote;
 }

@@ -7,7 +7,7 @@ use Rattle.diy_io.specs.declared.errors.Failed.{Failed}
 use Rattle.relax_edges.specs.declared.kinds.ArchName.{ArchName}
 use Rattle.arch_trait.specs.{PlaceNames.number_in, Writing.Writing}
 use Rattle.litmus_text.specs.TestReading.{TestRead}
-use Rattle.exec_check.specs.declared.{errors.CheckError.CheckError, verdict.Verdict.Verdict, checked_errors.CheckFault.CheckFault}
+use Rattle.exec_check.specs.declared.{errors.CheckError.CheckError, verdict.Judged.Judged, checked_errors.CheckFault.CheckFault}
 use Rattle.exec_check.specs.declared.errors.CheckError.TheVariants as checks
 use Rattle.exec_check.specs.{Verdicts.Checks, CheckedLaws.executions_by_first_bytes, FilesChecked.exec_said}
 use Rattle.tests_from_files.specs.declared.errors.{NoTest.NoTest, TestFileError.TestFileError, TestFileKind.TestFileKind}
@@ -18,7 +18,7 @@ use Rattle.diy_io.proofs.FileFaultLaws.{is_fault}
 use Rattle.tests_from_files.specs.FirstBytes.{file_is, file_unclosed, file_faulty, tests_by_first_bytes}
 use Rattle.exec_check.specs.declared.checked_errors.CheckedKind.TheVariants as kinds
 use Rattle.exec_check.specs.declared.checked_errors.CheckFault.TheVariants as faults
-use Rattle.exec_check.specs.CheckingSteps.{TestFileTo, TestClosedTo, ExecFileTo, ExecClosedTo, test_fault, checked_test_kind, exec_fault}
+use Rattle.exec_check.specs.CheckingSteps.{TestFileTo, TestClosedTo, ExecFileTo, ExecClosedTo, IsJudged, test_fault, checked_test_kind, exec_fault}
 
 -- the file of a test was read, and this is the answer to its text and to its closing
 pub test_closed : (arch : ArchName) (w : Writing) (old new : ShelfSeen) (name text judged : List ℕ) (closed : Result (Unit {0}) Failed)
@@ -66,21 +66,20 @@ test_unclosed arch w text closed f test answer is failed fails =
 
 -- the file of an execution was read, and this is the answer to its text and to its closing
 pub exec_closed : (arch : ArchName) (w : Writing) (test : TestRead) (old new : ShelfSeen) (name text judged : List ℕ) (closed : Result (Unit {0}) Failed)
-    (answer : Result Verdict CheckFault) → FileRead old new name text closed → judged ≡ text → ExecClosedTo arch w test judged closed answer
+    (answer : Result Judged CheckFault) → FileRead old new name text closed → judged ≡ text → ExecClosedTo arch w test judged closed answer
     → ExecFileTo arch w test old new name answer
 exec_closed arch w test old new name text judged closed answer r same h = of_answer answer closed r h
   where
-    of_answer : (answer : Result Verdict CheckFault) (closed : Result (Unit {0}) Failed) → FileRead old new name text closed
+    of_answer : (answer : Result Judged CheckFault) (closed : Result (Unit {0}) Failed) → FileRead old new name text closed
         → ExecClosedTo arch w test judged closed answer → ExecFileTo arch w test old new name answer
-    of_answer (Ok v) closed r h = record {
-      x = h.0.execution;
-      file = file_is (exec_said test) (executions_by_first_bytes test) old new name text judged closed tt h.0.execution r h.1 same h.0.read;
+    of_answer (Ok j) closed r h = record {
+      file = file_is (exec_said test) (executions_by_first_bytes test) old new name text judged closed tt j.exec r h.1 same h.0.read;
       is = h.0.verdict;
     }
     of_answer (Err faults.Missing) closed r h = absurd h
     of_answer (Err faults.Device) (Ok u) r h = absurd (false≢true h.failed)
     of_answer (Err faults.Device) (Err f) r h =
-        file_unclosed (exec_said test) (executions_by_first_bytes test) old new name text judged (Err f) f h.is.execution r refl same h.is.read
+        file_unclosed (exec_said test) (executions_by_first_bytes test) old new name text judged (Err f) f h.judged.exec r refl same h.is.read
     of_answer (Err (faults.Wrong line (kinds.Exec kind))) closed r h =
         file_faulty (exec_said test) (executions_by_first_bytes test) old new name text judged closed _ r same h
     of_answer (Err (faults.Wrong line (kinds.Test kind))) closed r h = absurd h
@@ -89,7 +88,7 @@ exec_closed arch w test old new name text judged closed answer r same h = of_ans
 
 -- there is no verdict on a text, whatever the closing gave
 pub exec_wrong : (arch : ArchName) (w : Writing) (test : TestRead) (text : List ℕ) (closed : Result (Unit {0}) Failed) (fault : CheckError)
-    (answer : Result Verdict CheckFault) → Checks arch (number_in w.registers) test text (Err fault) → IsErrAnd answer (λ e. e ≡ exec_fault fault)
+    (answer : Result Judged CheckFault) → Checks arch (number_in w.registers) test text (Err fault) → IsErrAnd answer (λ e. e ≡ exec_fault fault)
     → ExecClosedTo arch w test text closed answer
 exec_wrong arch w test text closed fault answer is fails =
     is_fault (ExecClosedTo arch w test text closed) answer (exec_fault fault) fails (of_fault fault is)
@@ -99,9 +98,9 @@ exec_wrong arch w test text closed fault answer is fails =
     of_fault (checks.Exec line kind) is = is
 
 -- there is a verdict on a text, where the closing failed
-pub exec_unclosed : (arch : ArchName) (w : Writing) (test : TestRead) (text : List ℕ) (closed : Result (Unit {0}) Failed) (f : Failed) (v : Verdict)
-    (answer : Result Verdict CheckFault) → Checks arch (number_in w.registers) test text (Ok v) → closed ≡ Err f → IsErrAnd answer (λ e. e ≡ faults.Device)
+pub exec_unclosed : (arch : ArchName) (w : Writing) (test : TestRead) (text : List ℕ) (closed : Result (Unit {0}) Failed) (f : Failed) (j : Judged)
+    (answer : Result Judged CheckFault) → IsJudged arch (number_in w.registers) test text j → closed ≡ Err f → IsErrAnd answer (λ e. e ≡ faults.Device)
     → ExecClosedTo arch w test text closed answer
-exec_unclosed arch w test text closed f v answer is failed fails =
+exec_unclosed arch w test text closed f j answer is failed fails =
     is_fault (ExecClosedTo arch w test text closed) answer faults.Device fails
-    (record { verdict = v; is = is; failed = subst (λ (r : Result (Unit {0}) Failed). IsErr r) (sym failed) refl })
+    (record { judged = j; is = is; failed = subst (λ (r : Result (Unit {0}) Failed). IsErr r) (sym failed) refl })

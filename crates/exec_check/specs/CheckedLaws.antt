@@ -16,7 +16,7 @@ use Rattle.tests_from_files.specs.{FilesRead.Begins, TestSaid.test_said}
 use Rattle.tests_from_files.specs.FewBytes.{AreFew, none_few, one_few, both_few, prefix_few, begun_few, few_taken}
 use Rattle.tests_from_files.specs.FirstBytes.{JudgesFirstBytes, RefusesLong, judges_first_bytes, tests_by_first_bytes}
 use Rattle.exec_check.specs.declared.checked_errors.CheckedKind.TheVariants as kinds
-use Rattle.exec_check.specs.declared.checked_errors.CheckEnd.{CheckEnd}
+use Rattle.exec_check.specs.declared.{checked_errors.CheckEnd.CheckEnd, shown.Shown.Shown}
 use Rattle.exec_check.specs.declared.checked_errors.CheckEnd.TheVariants as ends
 use Rattle.exec_check.specs.FilesChecked.{exec_said, IsTest, AreTestAndExecution, BothRead, TestWrong, ExecWrong, IsAbsent, TestUnread, ExecUnread, FilesChecked}
 
@@ -53,27 +53,27 @@ test_wrong_few arch w old new words test file error h more =
     few_taken old new (take (MAX_TEST_TEXT + 1) h.faulty.text ∷ []) h.faulty.took (prefix_few h.faulty.text) more
 
 -- of the file that was opened last at most one byte more than a test may have is taken
-pub checked_few : (arch : ArchName) (w : Writing) (old new : ShelfSeen) (words : List (List ℕ)) (test exec : ℕ) (before after : SinkSeen) (end : CheckEnd)
-    → FilesChecked arch w old new words test exec before after end → (end ≡ ends.NoMemory → ⊥) → count_of old.opened < count_of new.opened
+pub checked_few : (shown : Shown) (arch : ArchName) (w : Writing) (old new : ShelfSeen) (words : List (List ℕ)) (test exec : ℕ) (before after : SinkSeen) (end : CheckEnd)
+    → FilesChecked shown arch w old new words test exec before after end → (end ≡ ends.NoMemory → ⊥) → count_of old.opened < count_of new.opened
     → new.taken ≤ MAX_TEST_TEXT + 1
-checked_few arch w old new words test exec before after ends.Done h some more = read_few arch w old new words test exec h.judged h.x h.read more
-checked_few arch w old new words test exec before after ends.OutFault h some more = read_few arch w old new words test exec h.judged h.x h.read more
-checked_few arch w old new words test exec before after (ends.Wrong file line (kinds.Test kind)) h some more =
+checked_few shown arch w old new words test exec before after ends.Done h some more = read_few arch w old new words test exec h.judged h.x h.read more
+checked_few shown arch w old new words test exec before after ends.OutFault h some more = read_few arch w old new words test exec h.judged h.x h.read more
+checked_few shown arch w old new words test exec before after (ends.Wrong file line (kinds.Test kind)) h some more =
     test_wrong_few arch w old new words test file _ h.0 more
-checked_few arch w old new words test exec before after (ends.Wrong file line kinds.WrongArch) h some more =
+checked_few shown arch w old new words test exec before after (ends.Wrong file line kinds.WrongArch) h some more =
     test_wrong_few arch w old new words test file _ h.0 more
-checked_few arch w old new words test exec before after (ends.Wrong file line (kinds.Exec kind)) h some more =
+checked_few shown arch w old new words test exec before after (ends.Wrong file line (kinds.Exec kind)) h some more =
     few_taken old new (h.0.text ∷ take (MAX_TEST_TEXT + 1) h.0.shown ∷ []) h.0.took
     (both_few (h.0.text ∷ []) (take (MAX_TEST_TEXT + 1) h.0.shown ∷ []) (test_few arch w old.files (name_at words test) h.0.text h.0.read h.0.test_is)
     (prefix_few h.0.shown))
     more
-checked_few arch w old new words test exec before after (ends.NoFile word) h some more = of_absent h.0
+checked_few shown arch w old new words test exec before after (ends.NoFile word) h some more = of_absent h.0
   where
     of_absent : IsAbsent arch w old new words test exec word → new.taken ≤ MAX_TEST_TEXT + 1
     of_absent (inl no_test) = few_taken old new [] no_test.took none_few more
     of_absent (inr no_exec) =
         few_taken old new (no_exec.text ∷ []) no_exec.took (test_few arch w old.files (name_at words test) no_exec.text no_exec.read no_exec.test_is) more
-checked_few arch w old new words test exec before after ends.ShelfFault h some more = of_unread h.0.unread
+checked_few shown arch w old new words test exec before after ends.ShelfFault h some more = of_unread h.0.unread
   where
     of_test : TestUnread old new (name_at words test) → new.taken ≤ MAX_TEST_TEXT + 1
     of_test (inl none) = few_taken old new [] none none_few more
@@ -92,7 +92,7 @@ checked_few arch w old new words test exec before after ends.ShelfFault h some m
     of_unread : TestUnread old new (name_at words test) ⊎ ExecUnread arch w old new words test exec → new.taken ≤ MAX_TEST_TEXT + 1
     of_unread (inl unread) = of_test unread
     of_unread (inr unread) = of_exec unread unread.took
-checked_few arch w old new words test exec before after ends.NoMemory h some more = absurd (some refl)
+checked_few shown arch w old new words test exec before after ends.NoMemory h some more = absurd (some refl)
 
 -- a file that is shown has one text
 one_text : (seen : Option Files) (files : Files) (name a b : List ℕ) → seen ≡ Some files → files name ≡ Some a → IsFile seen name b → a ≡ b
@@ -133,22 +133,22 @@ exec_right arch w old new words test exec file error files h shown right =
     not_both (exec_said h.read) right.shown h.shown right.x error
     (one_text old.files files (name_at words exec) right.shown h.shown shown right.shown_there h.named) is h.fault
 
--- where both files are shown and right, and no device fails, the verdict is written, or there is no memory
-pub right_files_done : (arch : ArchName) (w : Writing) (old new : ShelfSeen) (words : List (List ℕ)) (test exec : ℕ) (before after : SinkSeen)
-    (end : CheckEnd) (files : Files) → FilesChecked arch w old new words test exec before after end → old.files ≡ Some files
+-- where both files are shown and right, and no device fails, what is to be shown is written, or there is no memory
+pub right_files_done : (what : Shown) (arch : ArchName) (w : Writing) (old new : ShelfSeen) (words : List (List ℕ)) (test exec : ℕ) (before after : SinkSeen)
+    (end : CheckEnd) (files : Files) → FilesChecked what arch w old new words test exec before after end → old.files ≡ Some files
     → AreTestAndExecution files arch w words test exec → (Rose old.faults new.faults → ⊥) → (Rose before.faults after.faults → ⊥)
     → (end ≡ ends.Done) ⊎ (end ≡ ends.NoMemory)
-right_files_done arch w old new words test exec before after ends.Done files h shown right shelf out = inl refl
-right_files_done arch w old new words test exec before after ends.NoMemory files h shown right shelf out = inr refl
-right_files_done arch w old new words test exec before after ends.OutFault files h shown right shelf out = absurd (out h.wrote.fault)
-right_files_done arch w old new words test exec before after ends.ShelfFault files h shown right shelf out = absurd (shelf h.0.fault)
-right_files_done arch w old new words test exec before after (ends.Wrong file line (kinds.Test kind)) files h shown right shelf out =
+right_files_done what arch w old new words test exec before after ends.Done files h shown right shelf out = inl refl
+right_files_done what arch w old new words test exec before after ends.NoMemory files h shown right shelf out = inr refl
+right_files_done what arch w old new words test exec before after ends.OutFault files h shown right shelf out = absurd (out h.wrote.fault)
+right_files_done what arch w old new words test exec before after ends.ShelfFault files h shown right shelf out = absurd (shelf h.0.fault)
+right_files_done what arch w old new words test exec before after (ends.Wrong file line (kinds.Test kind)) files h shown right shelf out =
     absurd (test_right arch w old new words test exec file _ files h.0 shown right)
-right_files_done arch w old new words test exec before after (ends.Wrong file line kinds.WrongArch) files h shown right shelf out =
+right_files_done what arch w old new words test exec before after (ends.Wrong file line kinds.WrongArch) files h shown right shelf out =
     absurd (test_right arch w old new words test exec file _ files h.0 shown right)
-right_files_done arch w old new words test exec before after (ends.Wrong file line (kinds.Exec kind)) files h shown right shelf out =
+right_files_done what arch w old new words test exec before after (ends.Wrong file line (kinds.Exec kind)) files h shown right shelf out =
     absurd (exec_right arch w old new words test exec file _ files h.0 shown right)
-right_files_done arch w old new words test exec before after (ends.NoFile word) files h shown right shelf out = absurd (of_absent h.0)
+right_files_done what arch w old new words test exec before after (ends.NoFile word) files h shown right shelf out = absurd (of_absent h.0)
   where
     of_absent : IsAbsent arch w old new words test exec word → ⊥
     of_absent (inl no_test) = not_absent old.files files (name_at words test) right.text old.faults new.faults shown right.there no_test.absent

@@ -1,16 +1,15 @@
 -- What only private functions cite: what each of the two files gives.
 -- Source: own.
-use Rattle.std.specs.Prelude.{◌≡◌, ⊤, ℕ, List, Result, Ok, Err, IsErr}
+use Rattle.std.specs.Prelude.{◌≡◌, ⊤, ℕ, Bool, List, [], map, Option, Some, None, Result, Ok, Err, IsErr}
 use Rattle.diy_io.specs.declared.errors.Failed.{Failed}
 use Rattle.diy_io.specs.{Shelf.ShelfSeen, Opened.FileAbsent}
-use Rattle.relax_edges.specs.declared.kinds.ArchName.{ArchName}
+use Rattle.relax_edges.specs.declared.{kinds.ArchName.ArchName, edge.Edge.Edge}
 use Rattle.arch_trait.specs.{PlaceNames.number_in, Writing.Writing}
 use Rattle.litmus_text.specs.TestReading.{TestRead}
-use Rattle.program_meaning.specs.Executions.{Execution}
-use Rattle.exec_check.specs.declared.{errors.CheckError.CheckError, verdict.Verdict.Verdict, checked_errors.CheckedKind.CheckedKind}
+use Rattle.exec_check.specs.declared.{errors.CheckError.CheckError, verdict.Judged.Judged, verdict.Verdict.Verdict, checked_errors.CheckedKind.CheckedKind}
 use Rattle.exec_check.specs.declared.{checked_errors.CheckFault.CheckFault, checked_errors.CheckEnd.CheckEnd}
 use Rattle.exec_check.specs.declared.errors.CheckError.TheVariants as checks
-use Rattle.exec_check.specs.{Verdicts.IsVerdict, Verdicts.Checks, FilesChecked.exec_said}
+use Rattle.exec_check.specs.{Verdicts.IsVerdict, Verdicts.Checks, Verdicts.verdict_text, FilesChecked.exec_said}
 use Rattle.tests_from_files.specs.declared.errors.{FileFault.FileFault, NoTest.NoTest, TestFileKind.TestFileKind}
 use Rattle.tests_from_files.specs.declared.errors.FileFault.TheVariants as reads
 use Rattle.tests_from_files.specs.declared.errors.NoTest.TheVariants as no_tests
@@ -75,21 +74,35 @@ TestFileTo arch w old new name (Err (faults.Wrong line kinds.WrongArch)) = FileF
 TestFileTo arch w old new name (Err (faults.Wrong line (kinds.Exec kind))) = ⊥
 TestFileTo arch w old new name (Err faults.NoMemory) = ⊤
 
+-- a text gives this execution of a test, and this is the verdict on it
+pub record IsJudged (arch : ArchName) (register_number : List ℕ → Option ℕ) (test : TestRead) (text : List ℕ) (j : Judged) : Type 0 where
+  pub read : exec_said test text ≡ Ok j.exec
+  pub verdict : IsVerdict arch register_number test j.exec j.verdict
+
+-- the execution that a text gives with the verdict on it, or why there is none
+abbrev pub Judges : ArchName → (List ℕ → Option ℕ) → TestRead → List ℕ → Result Judged CheckError → Type 0
+Judges arch register_number test text (Ok j) = IsJudged arch register_number test text j
+Judges arch register_number test text (Err error) = Checks arch register_number test text (Err error)
+
+-- these are the edges of a cycle, each with an answer; where there is no cycle, there are none
+abbrev pub AreEdgesOf : Option (List Edge) → List (Edge × Bool) → Type 0
+AreEdgesOf None judged = judged ≡ []
+AreEdgesOf (Some es) judged = map (λ j. j.0) judged ≡ es
+
 -- a file holds an execution of a test, and this is the verdict on it
-pub record FileVerdict (arch : ArchName) (w : Writing) (test : TestRead) (old new : ShelfSeen) (name : List ℕ) (v : Verdict) : Type 0 where
-  pub x : Execution
-  pub file : FileIs (exec_said test) old new name x
-  pub is : IsVerdict arch (number_in w.registers) test x v
+pub record FileJudged (arch : ArchName) (w : Writing) (test : TestRead) (old new : ShelfSeen) (name : List ℕ) (j : Judged) : Type 0 where
+  pub file : FileIs (exec_said test) old new name j.exec
+  pub is : IsVerdict arch (number_in w.registers) test j.exec j.verdict
 
 -- there is a verdict on the text of a file, and the closing of the file failed
 pub record IsExecUnclosed (arch : ArchName) (w : Writing) (test : TestRead) (text : List ℕ) (closed : Result (Unit {0}) Failed) : Type 0 where
-  pub verdict : Verdict
-  pub is : Checks arch (number_in w.registers) test text (Ok verdict)
+  pub judged : Judged
+  pub is : IsJudged arch (number_in w.registers) test text judged
   pub failed : IsErr closed
 
 -- an answer to the file of an execution with this text, in the same way
-abbrev pub ExecClosedTo : ArchName → Writing → TestRead → List ℕ → Result (Unit {0}) Failed → Result Verdict CheckFault → Type 0
-ExecClosedTo arch w test text closed (Ok v) = Checks arch (number_in w.registers) test text (Ok v) × (closed ≡ Ok tt)
+abbrev pub ExecClosedTo : ArchName → Writing → TestRead → List ℕ → Result (Unit {0}) Failed → Result Judged CheckFault → Type 0
+ExecClosedTo arch w test text closed (Ok j) = IsJudged arch (number_in w.registers) test text j × (closed ≡ Ok tt)
 ExecClosedTo arch w test text closed (Err faults.Missing) = ⊥
 ExecClosedTo arch w test text closed (Err faults.Device) = IsExecUnclosed arch w test text closed
 ExecClosedTo arch w test text closed (Err (faults.Wrong line (kinds.Exec kind))) = Checks arch (number_in w.registers) test text (Err (checks.Exec line kind))
@@ -97,10 +110,15 @@ ExecClosedTo arch w test text closed (Err (faults.Wrong line kind)) = ⊥
 ExecClosedTo arch w test text closed (Err faults.NoMemory) = ⊤
 
 -- an answer to the file of an execution of a test
-abbrev pub ExecFileTo : ArchName → Writing → TestRead → ShelfSeen → ShelfSeen → List ℕ → Result Verdict CheckFault → Type 0
-ExecFileTo arch w test old new name (Ok v) = FileVerdict arch w test old new name v
+abbrev pub ExecFileTo : ArchName → Writing → TestRead → ShelfSeen → ShelfSeen → List ℕ → Result Judged CheckFault → Type 0
+ExecFileTo arch w test old new name (Ok j) = FileJudged arch w test old new name j
 ExecFileTo arch w test old new name (Err faults.Missing) = FileAbsent old new name
 ExecFileTo arch w test old new name (Err faults.Device) = FileFailed old new name
 ExecFileTo arch w test old new name (Err (faults.Wrong line (kinds.Exec kind))) = FileFaulty (exec_said test) old new name (record { line = line; kind = kind })
 ExecFileTo arch w test old new name (Err (faults.Wrong line kind)) = ⊥
 ExecFileTo arch w test old new name (Err faults.NoMemory) = ⊤
+
+-- the text that is written: that of the graph, if there is one, or that of the verdict
+abbrev pub text_of : Option (List ℕ) → Verdict → List ℕ
+text_of (Some graph) v = graph
+text_of None v = verdict_text v

@@ -10,8 +10,8 @@ use Rattle.litmus_text.specs.TestReading.{TestRead}
 use Rattle.program_meaning.specs.Executions.{Execution}
 use Rattle.exec_text.specs.declared.errors.ExecFault.{ExecFault}
 use Rattle.exec_text.specs.ExecutionText.{execution_read}
-use Rattle.exec_check.specs.declared.{verdict.Verdict.Verdict, checked_errors.CheckedKind.CheckedKind, checked_errors.CheckEnd.CheckEnd}
-use Rattle.exec_check.specs.Verdicts.{IsVerdict, verdict_text}
+use Rattle.exec_check.specs.declared.{verdict.Verdict.Verdict, shown.Shown.Shown, checked_errors.CheckedKind.CheckedKind, checked_errors.CheckEnd.CheckEnd}
+use Rattle.exec_check.specs.{Verdicts.IsVerdict, Graphs.shown_text}
 use Rattle.tests_from_files.specs.declared.errors.TestFileError.{TestFileError}
 use Rattle.tests_from_files.specs.declared.errors.TestFileKind.TheVariants as tests
 use Rattle.tests_from_files.specs.{FilesRead.Begins, FilesRead.FileFaulty, TestSaid.test_said}
@@ -53,14 +53,14 @@ pub record BothRead (arch : ArchName) (w : Writing) (old new : ShelfSeen) (words
   pub took : TookFiles old new (text ∷ shown ∷ [])
   pub no_fault : new.faults ≡ old.faults
 
--- both files were read, this is the verdict, and this was done with its text
-pub record VerdictSaid (arch : ArchName) (w : Writing) (old new : ShelfSeen) (words : List (List ℕ)) (test exec : ℕ) (done : List ℕ → Type 0) : Type 0 where
+-- both files were read, this is the verdict, and this was done with the text that shows the execution
+pub record ExecutionShown (shown : Shown) (arch : ArchName) (w : Writing) (old new : ShelfSeen) (words : List (List ℕ)) (test exec : ℕ) (done : List ℕ → Type 0) : Type 0 where
   pub judged : TestRead
   pub x : Execution
   pub read : BothRead arch w old new words test exec judged x
   pub v : Verdict
   pub is : IsVerdict arch (number_in w.registers) judged x v
-  pub wrote : done (verdict_text v)
+  pub wrote : done (shown_text shown judged x v)
 
 -- the file of the test has this first fault, and all of it was taken, or its first bytes, one more than a test may have; no other was
 -- opened
@@ -122,11 +122,12 @@ pub record CheckShelfFailed (arch : ArchName) (w : Writing) (old new : ShelfSeen
   pub fault : Rose old.faults new.faults
   pub unread : TestUnread old new (name_at words test) ⊎ ExecUnread arch w old new words test exec
 
--- how the checking of the execution that the word at the place exec names ended, as one of the test that the word at test names
-abbrev pub FilesChecked : ArchName → Writing → ShelfSeen → ShelfSeen → List (List ℕ) → ℕ → ℕ → SinkSeen → SinkSeen → CheckEnd → Type 0
-FilesChecked arch w old new words test exec before after ends.Done = VerdictSaid arch w old new words test exec (WroteAll before after)
-FilesChecked arch w old new words test exec before after ends.OutFault = VerdictSaid arch w old new words test exec (WrotePart before after)
-FilesChecked arch w old new words test exec before after (ends.Wrong file line kind) = IsWrongFile arch w old new words test exec file line kind × (after ≡ before)
-FilesChecked arch w old new words test exec before after (ends.NoFile word) = IsAbsent arch w old new words test exec word × (after ≡ before)
-FilesChecked arch w old new words test exec before after ends.ShelfFault = CheckShelfFailed arch w old new words test exec × (after ≡ before)
-FilesChecked arch w old new words test exec before after ends.NoMemory = after ≡ before
+-- how the checking of the execution that the word at the place exec names ended, as one of the test that the word at test names, where
+-- this is what is shown of it
+abbrev pub FilesChecked : Shown → ArchName → Writing → ShelfSeen → ShelfSeen → List (List ℕ) → ℕ → ℕ → SinkSeen → SinkSeen → CheckEnd → Type 0
+FilesChecked shown arch w old new words test exec before after ends.Done = ExecutionShown shown arch w old new words test exec (WroteAll before after)
+FilesChecked shown arch w old new words test exec before after ends.OutFault = ExecutionShown shown arch w old new words test exec (WrotePart before after)
+FilesChecked shown arch w old new words test exec before after (ends.Wrong file line kind) = IsWrongFile arch w old new words test exec file line kind × (after ≡ before)
+FilesChecked shown arch w old new words test exec before after (ends.NoFile word) = IsAbsent arch w old new words test exec word × (after ≡ before)
+FilesChecked shown arch w old new words test exec before after ends.ShelfFault = CheckShelfFailed arch w old new words test exec × (after ≡ before)
+FilesChecked shown arch w old new words test exec before after ends.NoMemory = after ≡ before

@@ -3,10 +3,11 @@ ghost use Rattle.arch_trait.specs.PlaceNames.{number_in};
 ghost use Rattle.litmus_text.specs.ReadPrograms.{program_read};
 ghost use Rattle.program_meaning.specs.Programs.{IsCandidate};
 ghost use Rattle.exec_check.specs.Verdicts.{Checks, IsVerdict, EndsInCondition};
+ghost use Rattle.exec_check.specs.CheckingSteps.{Judges};
 
 use crate::edges::edges_on;
 use crate::errors::CheckError;
-use crate::verdict::{JudgedEdges, Verdict};
+use crate::verdict::{Judged, JudgedEdges, Verdict};
 use arch_trait::Arch;
 use diy_io::NoMemory;
 use exec_meaning::{Execution, final_of, is_candidate, is_coherent};
@@ -23,9 +24,21 @@ use std::alloc::Global;
 pub fn check<A: Arch>(alloc: Global, test: &ReadTest<A>, text: &[u8]) -> Result<Verdict, CheckError>
     ensures { Checks A.NAME (number_in A.writing.registers) test.now text.now result }
 {
+    let judged = judge(alloc, test, text)?;
+    Ok(judged.verdict)
+}
+
+/// The execution of a test that a text gives, with the verdict on it, as `check` reads it.
+pub(crate) fn judge<A: Arch>(
+    alloc: Global,
+    test: &ReadTest<A>,
+    text: &[u8],
+) -> Result<Judged, CheckError>
+    ensures { Judges A.NAME (number_in A.writing.registers) test.now text.now result }
+{
     match read_execution(alloc, test.threads(), test.places(), text) {
         Ok(exec) => match verdict_on(alloc, test, &exec) {
-            Ok(verdict) => Ok(verdict),
+            Ok(verdict) => Ok(Judged { exec, verdict }),
             Err(NoMemory) => Err(CheckError::NoMemory),
         },
         Err(ExecError::Text(ExecFault { line, kind })) => Err(CheckError::Exec { line, kind }),

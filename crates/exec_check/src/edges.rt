@@ -30,7 +30,7 @@ pub(crate) fn edges_on<A: Arch>(
 }
 
 /// The resolution of a cycle, if there is the cycle and it has one.
-fn resolved_cycle(cycle: Option<Cycle>) -> Option<Resolved>
+pub(crate) fn resolved_cycle(cycle: Option<Cycle>) -> Option<Resolved>
     ensures { result ≡ resolved_cycle cycle }
 {
     match cycle {

@@ -1,4 +1,5 @@
 use arrayvec::ArrayVec;
+use exec_meaning::Execution;
 use relax_edges::{Edge, MAX_EDGES};
 
 /// The edges of a cycle, each with whether it stands.
@@ -18,4 +19,11 @@ pub struct Verdict {
     /// whether it stands. There are none where the test quotes no cycle of its architecture that has a
     /// resolution.
     pub edges: JudgedEdges,
+}
+
+/// An execution of a test, with the verdict on it.
+#[derive(Debug, Drop)]
+pub(crate) struct Judged {
+    pub(crate) exec: Execution,
+    pub(crate) verdict: Verdict,
 }

@@ -103,7 +103,7 @@ fn send_answer<O: Sink>(
     page.send_pieces(&[word, b" ", answer, b"\n"], out)
 }
 
-fn answer_word(answer: bool) -> &'static str
+pub(crate) fn answer_word(answer: bool) -> &'static str
     ensures { result.now ≡ answer_word answer }
 {
     if answer { "yes" } else { "no" }

@@ -1,0 +1,28 @@
+-- What the verdict on an execution says of the graph.
+use Rattle.std.proofs.Common.{◌≡◌, List, Option, Some, None, true, false}
+use Rattle.std.specs.Prelude.{ℕ, Bool, IsTrue}
+use Rattle.relax_edges.specs.declared.{kinds.ArchName.ArchName, edge.Edge.Edge}
+use Rattle.litmus_text.specs.{TestReading.TestRead, ReadPrograms.program_read}
+use Rattle.program_meaning.specs.{Executions.Execution, Programs.Program, Programs.IsCandidate}
+use Rattle.exec_check.specs.declared.verdict.Verdict.{Verdict}
+use Rattle.exec_check.specs.Verdicts.{IsVerdict, JudgesEdges, JudgesFurther, JudgesCandidate, judged_cycle}
+use Rattle.exec_check.specs.CheckingSteps.{AreEdgesOf}
+
+edges_of_judged : (cycle : Option (List Edge)) (p : Program) (x : Execution) (judged : List (Edge × Bool)) → JudgesEdges cycle p x judged → AreEdgesOf cycle judged
+edges_of_judged None p x judged h = h
+edges_of_judged (Some es) p x judged h = h.edges
+
+further_edges : (b : Bool) (arch : ArchName) (register_number : List ℕ → Option ℕ) (test : TestRead) (x : Execution) (v : Verdict) → b ≡ true
+    → JudgesFurther b arch register_number test x v → AreEdgesOf (judged_cycle arch test) v.edges.items
+further_edges true arch register_number test x v e h = edges_of_judged (judged_cycle arch test) (program_read test) x v.edges.items h.edges
+further_edges false arch register_number test x v e h = cc e
+
+-- the edges that are drawn are those of the quoted cycle
+pub drawn_edges : (arch : ArchName) (register_number : List ℕ → Option ℕ) (test : TestRead) (x : Execution) (v : Verdict)
+    → IsVerdict arch register_number test x v → v.candidate ≡ true → AreEdgesOf (judged_cycle arch test) v.edges.items
+drawn_edges arch register_number test x v h e = further_edges v.candidate arch register_number test x v e h.further
+
+-- what is drawn is a candidate
+pub drawn_candidate : (arch : ArchName) (register_number : List ℕ → Option ℕ) (test : TestRead) (x : Execution) (v : Verdict)
+    → IsVerdict arch register_number test x v → v.candidate ≡ true → IsCandidate (program_read test) x
+drawn_candidate arch register_number test x v h e = h.candidate.0 e

@@ -1,0 +1,266 @@
+-- The graph of a candidate execution, and its text, for Graphviz: the accesses of each thread in program order, the initial writes that
+-- are read, the relations between them, the edges of the quoted cycle that stand, and the condition.
+-- Source: own; the relations are the usual ones of axiomatic memory models, and the words of the accesses those of the literature.
+use Rattle.std.specs.Prelude.{ℕ, ◌≡◌, ◌+◌, ◌-◌, ◌*◌, ◌/◌, ◌%◌, ◌==◌, ◌&&◌, ◌||◌, zero, suc, Bool, true, false, cond, count_by, nat_lt, List, [], ◌∷◌, ◌++◌, codes, length, map, Option, Some, None, slice_index_or}
+use Rattle.std.specs.{Fmt.decimal, List.enumerate_from, List.filter, List.flat_map, List.list_any}
+use Rattle.list_laws.specs.Numbers.{upto}
+use Rattle.relax_edges.specs.declared.{kinds.Dir.Dir, kinds.Mark.Mark, kinds.Kind.Kind, edge.Edge.Edge}
+use Rattle.relax_edges.specs.declared.kinds.Dir.TheVariants as dirs
+use Rattle.relax_edges.specs.declared.kinds.Mark.TheVariants as marks
+use Rattle.relax_edges.specs.declared.kinds.Com.TheVariants as coms
+use Rattle.relax_edges.specs.declared.kinds.Kind.TheVariants as edges
+use Rattle.relax_edges.specs.{WordParts.word_of, EdgeTable.kind_of}
+use Rattle.cycle_events.specs.Resolution.{event_after}
+use Rattle.final_cond.specs.{Conditions.CondSeen, CondText.cond_text}
+use Rattle.litmus_text.specs.{TestReading.TestRead, ReadPrograms.program_read}
+use Rattle.program_meaning.specs.declared.WriteAt.{WriteAt}
+use Rattle.program_meaning.specs.{Accesses.Access, Accesses.write, Accesses.is_read, Executions.Execution, Interleavings.writes_to, Standing.event_name}
+use Rattle.exec_meaning.specs.declared.seen.SeenAccess.{SeenAccess}
+use Rattle.exec_meaning.specs.SeenAccesses.{seen_in}
+use Rattle.exec_check.specs.declared.{verdict.Verdict.Verdict, drawn.Point.Point, drawn.Drawn.Drawn, drawn.Relation.Relation, shown.Shown.Shown}
+use Rattle.exec_check.specs.declared.drawn.Point.TheVariants.{Initial, At}
+use Rattle.exec_check.specs.declared.drawn.Relation.TheVariants.{Po, Rf, Co, Fr}
+use Rattle.exec_check.specs.declared.shown.Shown.TheVariants as shows
+use Rattle.exec_check.specs.Verdicts.{answer_word, verdict_text}
+
+-- what is read is the initial value
+abbrev pub is_initial : Option WriteAt → Bool
+is_initial None = true
+is_initial (Some _) = false
+
+-- an access reads the initial value of a place
+abbrev pub reads_initial : ℕ → SeenAccess → Bool
+reads_initial place seen = is_read seen.access && ((seen.access.place == place) && is_initial seen.source)
+
+-- the places, of so many, whose initial write is drawn: a read reads it
+abbrev pub initial_places : ℕ → List SeenAccess → List ℕ
+initial_places places seen = filter (λ place. list_any (reads_initial place) seen) (upto places)
+
+-- the initial write of a place, of the value 0, which is first in the coherence order
+abbrev pub initial_write : ℕ → Drawn
+initial_write place = record { point = Initial place; access = write place 0; source = None; order = 0 }
+
+-- an access of a thread
+abbrev pub access_drawn : SeenAccess → Drawn
+access_drawn seen = record { point = At seen.thread seen.number; access = seen.access; source = seen.source; order = seen.order }
+
+-- what is drawn: the initial writes of places, and the accesses of the threads
+abbrev pub points_drawn : List ℕ → List SeenAccess → List Drawn
+points_drawn places seen = map initial_write places ++ map access_drawn seen
+
+-- the second is the next access of the thread
+abbrev pub is_followed : Point → Point → Bool
+is_followed (Initial _) _ = false
+is_followed (At _ _) (Initial _) = false
+is_followed (At thread number) (At other next) = (thread == other) && (next == number + 1)
+
+-- a read of a place that reads this write, or the initial one, reads what is at a point
+abbrev pub is_reached : Option WriteAt → ℕ → Point → Bool
+is_reached None place (Initial other) = other == place
+is_reached None place (At _ _) = false
+is_reached (Some w) place (Initial _) = false
+is_reached (Some w) place (At thread number) = (w.thread == thread) && (w.access == number)
+
+-- a relation leads from the one to the other: program order to the next access, reads-from from the write that is read, coherence order
+-- to the next write at the place, from-read to each write at the place that comes after what is read
+abbrev pub relates : Relation → Drawn → Drawn → Bool
+relates Po e f = is_followed e.point f.point
+relates Rf e f = is_read f.access && is_reached f.source f.access.place e.point
+relates Co e f = writes_to f.access.place e.access && (writes_to e.access.place f.access && (f.order == e.order + 1))
+relates Fr e f = is_read e.access && (writes_to e.access.place f.access && nat_lt e.order f.order)
+
+-- the pairs of a list that pass a test
+abbrev pub pairs_by : {X : Type 0} → (X → X → Bool) → List X → List (X × X)
+pairs_by test xs = flat_map (λ e. map (λ f. (e, f)) (filter (test e) xs)) xs
+
+-- the pairs of each relation
+abbrev pub po_pairs : List Drawn → List (Drawn × Drawn)
+po_pairs drawn = pairs_by (relates Po) drawn
+
+abbrev pub rf_pairs : List Drawn → List (Drawn × Drawn)
+rf_pairs drawn = pairs_by (relates Rf) drawn
+
+abbrev pub co_pairs : List Drawn → List (Drawn × Drawn)
+co_pairs drawn = pairs_by (relates Co) drawn
+
+abbrev pub fr_pairs : List Drawn → List (Drawn × Drawn)
+fr_pairs drawn = pairs_by (relates Fr) drawn
+
+-- the edges of a judged cycle that stand, with their numbers
+abbrev pub standing_edges : List (Edge × Bool) → List (ℕ × (Edge × Bool))
+standing_edges judged = filter (λ (j : ℕ × (Edge × Bool)). j.1.1) (enumerate_from 0 judged)
+
+-- what follows the letter of an access, where all letters were used so many times before
+abbrev pub lap_word : ℕ → List ℕ
+lap_word zero = []
+lap_word (suc lap) = decimal (suc lap)
+
+-- the letter of access number n: a, b, .., z, and then a1, b1 and so on, a2 and so on
+unfoldable pub letter_word : ℕ → List ℕ
+letter_word n = (97 + n % 26) ∷ lap_word (n / 26)
+
+-- `R` or `W`
+abbrev pub dir_word : Dir → List ℕ
+dir_word dirs.R = codes "R"
+dir_word dirs.W = codes "W"
+
+-- `acq` or `rel`, or nothing where there is no mark
+abbrev pub mark_word : Mark → List ℕ
+mark_word marks.Plain = []
+mark_word marks.Acquire = codes "acq"
+mark_word marks.Release = codes "rel"
+
+-- the name of a place by its number
+abbrev pub place_word : List (List ℕ) → ℕ → List ℕ
+place_word places place = slice_index_or places place []
+
+-- the name of an access: its thread and its number there
+unfoldable pub name_word : ℕ → ℕ → List ℕ
+name_word thread number = codes "\"" ++ decimal thread ++ codes "." ++ decimal number ++ codes "\""
+
+-- the name of a point: of an initial write the name of its place
+abbrev pub point_word : List (List ℕ) → Point → List ℕ
+point_word places (Initial place) = codes "\"" ++ place_word places place ++ codes "\""
+point_word places (At thread number) = name_word thread number
+
+-- how far to the right the column of a thread is
+abbrev pub column : ℕ → ℕ
+column thread = 260 * thread
+
+-- the line of the initial write of a place, above the threads, right of column number k
+unfoldable pub initial_line : List (List ℕ) → ℕ × ℕ → List ℕ
+initial_line places initial =
+    codes "  \"" ++ place_word places initial.1 ++ codes "\" [label=\"W[" ++ place_word places initial.1 ++ codes "]=0\", pos=\""
+    ++ decimal (column initial.0 + 230) ++ codes ",90\"]\n"
+
+-- what an access does, after its letter
+unfoldable pub access_word : List (List ℕ) → ℕ → SeenAccess → List ℕ
+access_word places n seen =
+    letter_word n ++ codes ": " ++ dir_word seen.access.dir ++ mark_word seen.mark ++ codes "[" ++ place_word places seen.access.place
+    ++ codes "]=" ++ decimal seen.access.value
+
+-- where an access is: in the column of its thread, 100 below the one before it
+unfoldable pub position_word : SeenAccess → List ℕ
+position_word seen = decimal (column seen.thread + 100) ++ codes ",-" ++ decimal seen.number ++ codes "00"
+
+-- the line of an access by its number among all
+unfoldable pub access_line : List (List ℕ) → ℕ × SeenAccess → List ℕ
+access_line places numbered =
+    codes "  " ++ name_word numbered.1.thread numbered.1.number ++ codes " [label=\"" ++ access_word places numbered.0 numbered.1
+    ++ codes "\", pos=\"" ++ position_word numbered.1 ++ codes "\"]\n"
+
+-- an access is one of a thread
+abbrev pub is_in_thread : ℕ → SeenAccess → Bool
+is_in_thread thread seen = seen.thread == thread
+
+-- an access in the cluster of its thread
+unfoldable pub member_word : SeenAccess → List ℕ
+member_word seen = codes " " ++ name_word seen.thread seen.number ++ codes ";"
+
+-- the opening of the cluster of a thread, under its name, as high as so many accesses need
+unfoldable pub cluster_opening : ℕ → ℕ → List ℕ
+cluster_opening thread count =
+    codes "  subgraph cluster_" ++ decimal thread ++ codes " { label=\"P" ++ decimal thread
+    ++ codes "\"; style=rounded; color=\"#bbbbbb\"; bb=\"" ++ decimal (column thread + 10) ++ codes ",-" ++ decimal (count - 1)
+    ++ codes "35," ++ decimal (column thread + 190) ++ codes ",50\";"
+
+-- the line of a thread: a cluster with its accesses in program order
+abbrev pub cluster_line : List SeenAccess → ℕ → List ℕ
+cluster_line seen thread =
+    cluster_opening thread (count_by (is_in_thread thread) seen)
+    ++ (flat_map member_word (filter (is_in_thread thread) seen) ++ codes " }\n")
+
+-- how the edges of a relation look
+abbrev pub relation_look : Relation → List ℕ
+relation_look Po = codes " [taillabel=\"po\", labeldistance=3.5, labelangle=16]\n"
+relation_look Rf = codes " [headlabel=\"rf\", color=\"#b3261e\", fontcolor=\"#b3261e\"]\n"
+relation_look Co = codes " [headlabel=\"co\", color=\"#1a56a8\", fontcolor=\"#1a56a8\"]\n"
+relation_look Fr = codes " [headlabel=\"fr\", color=\"#8a5a00\", fontcolor=\"#8a5a00\"]\n"
+
+-- the line of a pair of a relation
+unfoldable pub pair_line : List (List ℕ) → Relation → Drawn × Drawn → List ℕ
+pair_line places relation pair =
+    codes "  " ++ point_word places pair.0.point ++ codes " -> " ++ point_word places pair.1.point ++ relation_look relation
+
+-- the lines of all pairs of a relation
+abbrev pub pair_lines : List (List ℕ) → Relation → List (Drawn × Drawn) → List ℕ
+pair_lines places relation pairs = flat_map (pair_line places relation) pairs
+
+-- how an edge that stands looks, by its kind
+abbrev pub kind_look : Kind → List ℕ
+kind_look (edges.Com coms.Rf _) = codes "labeldistance=4, color=\"#b3261e\", fontcolor=\"#b3261e\"]\n"
+kind_look (edges.Com coms.Ws _) = codes "labeldistance=4, color=\"#1a56a8\", fontcolor=\"#1a56a8\"]\n"
+kind_look (edges.Com coms.Fr _) = codes "labeldistance=4, color=\"#8a5a00\", fontcolor=\"#8a5a00\"]\n"
+kind_look _ = codes "labeldistance=5, labelangle=-40]\n"
+
+-- the name of the access that is event i of a cycle
+abbrev pub event_word : List Edge → ℕ → List ℕ
+event_word es i = name_word (event_name es i).thread (event_name es i).access
+
+-- the line of edge i of a cycle, which stands, from the access of event i to that of the next event
+unfoldable pub standing_line : List Edge → ℕ → Edge → List ℕ
+standing_line es i edge =
+    codes "  " ++ event_word es i ++ codes " -> " ++ event_word es (event_after es i) ++ codes " [taillabel=\"" ++ word_of edge
+    ++ codes "\", style=bold, " ++ kind_look (kind_of edge)
+
+-- the lines of the edges of a judged cycle that stand
+abbrev pub standing_lines : List (Edge × Bool) → List ℕ
+standing_lines judged = flat_map (λ (j : ℕ × (Edge × Bool)). standing_line (map (λ (e : Edge × Bool). e.0) judged) j.0 j.1.0) (standing_edges judged)
+
+-- a byte of a text in double quotes: a backslash and a double quote come after a backslash
+abbrev pub quoted_byte : ℕ → List ℕ
+quoted_byte byte = cond ((byte == 92) || (byte == 34)) (92 ∷ byte ∷ []) (byte ∷ [])
+
+-- the condition under the picture, and whether its terms hold
+unfoldable pub condition_line : CondSeen → Bool → List ℕ
+condition_line condition answer =
+    codes "  label=\"" ++ flat_map quoted_byte (cond_text condition) ++ codes "\\ncondition " ++ answer_word answer ++ codes "\"\n"
+
+-- how the whole looks: places are given, and edges are drawn past what is in their way
+abbrev pub opening : List ℕ
+opening =
+    codes "digraph execution {\n  graph [layout=nop, splines=true, nodesep=0.35, fontname=\"sans-serif\", fontsize=11]\n"
+    ++ codes "  node [shape=box, style=\"rounded,filled\", fillcolor=\"#f4f4f4\", fontname=\"sans-serif\", fontsize=11, width=0.95, height=0.3]\n"
+    ++ codes "  edge [fontname=\"sans-serif\", fontsize=9, labeldistance=2.6, labelangle=-18]\n"
+
+-- the lines of what is drawn: the initial writes, the accesses, the threads
+abbrev pub point_lines : List (List ℕ) → ℕ → List ℕ → List SeenAccess → List ℕ
+point_lines places threads initial seen =
+    flat_map (initial_line places) (enumerate_from 0 initial)
+    ++ (flat_map (access_line places) (enumerate_from 0 seen) ++ flat_map (cluster_line seen) (upto threads))
+
+-- the lines of the relations
+abbrev pub relation_lines : List (List ℕ) → List Drawn → List ℕ
+relation_lines places drawn =
+    pair_lines places Po (po_pairs drawn)
+    ++ (pair_lines places Rf (rf_pairs drawn) ++ (pair_lines places Co (co_pairs drawn) ++ pair_lines places Fr (fr_pairs drawn)))
+
+-- the text of a graph with these initial writes, accesses and points
+abbrev pub lines_drawn : TestRead → List ℕ → List SeenAccess → List Drawn → Verdict → List ℕ
+lines_drawn test initial seen drawn v =
+    opening
+    ++ (point_lines test.places (length test.threads) initial seen
+    ++ (relation_lines test.places drawn ++ (standing_lines v.edges.items ++ (condition_line test.cond v.condition ++ codes "}\n"))))
+
+-- the text of a graph with these accesses
+unfoldable pub drawing_text : TestRead → List SeenAccess → Verdict → List ℕ
+drawing_text test seen v =
+    let initial = initial_places (length test.places) seen in lines_drawn test initial seen (points_drawn initial seen) v
+
+-- the text of the graph of an execution of a test, on which this is the verdict
+abbrev pub graph_text : TestRead → Execution → Verdict → List ℕ
+graph_text test x v = drawing_text test (seen_in (program_read test) x) v
+
+-- what is drawn of an execution of a test
+abbrev pub drawn_in : TestRead → Execution → List Drawn
+drawn_in test x = points_drawn (initial_places (length test.places) (seen_in (program_read test) x)) (seen_in (program_read test) x)
+
+-- the graph of a candidate, the verdict on any other execution
+abbrev pub graph_if : Bool → TestRead → Execution → Verdict → List ℕ
+graph_if true test x v = graph_text test x v
+graph_if false test x v = verdict_text v
+
+-- the text that shows an execution of a test, on which this is the verdict
+abbrev pub shown_text : Shown → TestRead → Execution → Verdict → List ℕ
+shown_text shows.Verdict test x v = verdict_text v
+shown_text shows.Graph test x v = graph_if v.candidate test x v

@@ -1,0 +1,79 @@
+ghost use Rattle.std.specs.Prelude.{◌≡◌, IfOk, option_map};
+ghost use Rattle.diy_io.specs.Wrote.{Wrote};
+ghost use Rattle.arch_trait.specs.PlaceNames.{number_in};
+ghost use Rattle.exec_check.specs.Verdicts.{IsVerdict};
+ghost use Rattle.exec_check.specs.Graphs.{graph_if, shown_text};
+ghost use Rattle.exec_check.specs.CheckingSteps.{text_of};
+
+use crate::graph::graph_of;
+use crate::verdict::{Judged, Verdict};
+use crate::writing::write_verdict;
+use arch_trait::Arch;
+use diy_io::{Failed, NoMemory, Page, Sink};
+use litmus_text::ReadTest;
+use std::alloc::Global;
+
+/// What is written of an execution.
+#[derive(Clone, Copy, Debug, PartialEq, Eq)]
+pub enum Shown {
+    /// The lines of the verdict.
+    Verdict,
+    /// The graph, for Graphviz, where the execution is a candidate, and else the verdict.
+    Graph,
+}
+
+/// The graph of an execution, if it is a candidate and its graph is to be shown.
+pub(crate) fn graph_shown<A: Arch>(
+    alloc: Global,
+    shown: Shown,
+    test: &ReadTest<A>,
+    judged: &Judged,
+) -> Result<Option<Vec<u8>>, NoMemory>
+    requires { IsVerdict A.NAME (number_in A.writing.registers) test.now judged.now.exec judged.now.verdict }
+    ensures { IfOk result (λ graph. text_of (option_map (λ text. text.items) graph) judged.now.verdict ≡ shown_text shown test.now judged.now.exec judged.now.verdict) }
+{
+    match shown {
+        Shown::Verdict => Ok(None),
+        Shown::Graph => graph_if(alloc, test, judged),
+    }
+}
+
+/// The graph of an execution, if it is a candidate.
+#[tactic(auto, using(crate::proofs::ShownLaws::drawn_edges, crate::proofs::ShownLaws::drawn_candidate))]
+fn graph_if<A: Arch>(
+    alloc: Global,
+    test: &ReadTest<A>,
+    judged: &Judged,
+) -> Result<Option<Vec<u8>>, NoMemory>
+    requires { IsVerdict A.NAME (number_in A.writing.registers) test.now judged.now.exec judged.now.verdict }
+    ensures { IfOk result (λ graph. text_of (option_map (λ text. text.items) graph) judged.now.verdict ≡ graph_if judged.now.verdict.candidate test.now judged.now.exec judged.now.verdict) }
+{
+    if !judged.verdict.candidate {
+        return Ok(None);
+    }
+    let text = graph_of(alloc, test, &judged.exec, &judged.verdict)?;
+    Ok(Some(text))
+}
+
+/// Writes the graph, if there is one, or else the verdict. Where the sink fails, it has taken a prefix of the text.
+pub(crate) fn write_shown<O: Sink>(
+    graph: &Option<Vec<u8>>,
+    verdict: &Verdict,
+    out: &mut O,
+) -> Result<(), Failed>
+    ensures { Wrote (O.seen out.old) (O.seen out.new) (text_of (option_map (λ text. text.items) graph.now) verdict.now) result }
+{
+    match graph {
+        Some(text) => write_text(text.as_slice(), out),
+        None => write_verdict(verdict, out),
+    }
+}
+
+/// Writes a text by way of a page.
+fn write_text<O: Sink>(text: &[u8], out: &mut O) -> Result<(), Failed>
+    ensures { Wrote (O.seen out.old) (O.seen out.new) text.now result }
+{
+    let mut page = Page::new();
+    page.send(text, out)?;
+    page.flush(out)
+}
