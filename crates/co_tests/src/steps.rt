@@ -38,7 +38,7 @@ fn link_into(edges: &[Edge], i: usize) -> Link
 
 /// The value of an event: how many writes there are from the event that the cut enters, once round the
 /// cycle, up to this event and with it.
-fn value_of(edges: &[Edge], cut: usize, event: usize) -> u8
+pub fn value_of(edges: &[Edge], cut: usize, event: usize) -> u8
     requires shape { HasShape edges.now }
     requires cut { cut_of edges.now ≡ Some cut }
     requires within { event < length edges.now }

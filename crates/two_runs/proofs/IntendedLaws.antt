@@ -54,6 +54,7 @@ unfolding cycle_text
 is_run a w name cycle mode test run laws back cells single named has u reads made = record {
   reads = reads;
   run_is = is;
+  places = candidate.execution.write_lists;
   run_reads = read_again a w name (turned cycle) mode None (numbers_by test.places) test run laws back cells single has.code named reads candidate made;
 }
   where

@@ -8,6 +8,8 @@ pub mod Fitting
 pub mod ReadAgain
 pub mod ShownLaws
 pub mod IntendedLaws
+pub mod CutRuns
+pub mod CoherenceLaws
 pub mod States
 pub mod Carried
 pub mod Breaking

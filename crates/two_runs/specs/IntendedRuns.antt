@@ -8,7 +8,7 @@ use Rattle.litmus_text.specs.TestReading.{TestRead, test_read}
 use Rattle.program_meaning.specs.{Executions.Execution, Intended.intended}
 use Rattle.exec_text.specs.{ExecutionText.execution_read, Written.text_of_execution}
 use Rattle.bytes_force_cycles.specs.Readings.{place_in_test}
-use Rattle.test_maker.specs.{CycleText.cycle_text, Refusals.refusal_of}
+use Rattle.test_maker.specs.{CycleText.cycle_text, Made.NamesLocation, Refusals.refusal_of}
 use Rattle.two_runs.specs.declared.{intended.IntendedRun.IntendedRun, run_errors.RunError.RunError}
 use Rattle.two_runs.specs.declared.run_errors.RunError.TheVariants as errors
 
@@ -17,10 +17,11 @@ abbrev pub IsRead : ArchName → Writing → List ℕ → Type 0
 IsRead arch w text = (test : TestRead) × (test_read arch w text ≡ Ok test)
 
 -- A text is read as a test, and an execution is the one that is meant by the test. The text of the execution, with the places of
--- the test, is read as that execution.
+-- the test, is read as that execution, which has an order of writes for each place of the test.
 pub record IsRunOf (arch : ArchName) (w : Writing) (text : List ℕ) (meant : TestRead → Execution) (test : TestRead) (run : Execution) : Type 0 where
   pub reads : test_read arch w text ≡ Ok test
   pub run_is : run ≡ meant test
+  pub places : length run.orders ≡ length test.places
   pub run_reads : execution_read (length test.threads) test.places (text_of_execution test.places run) ≡ Ok run
 
 -- the intended execution of a cycle's test, by a reading of its text
@@ -34,3 +35,8 @@ GivesRun a w name cycle mode (Ok given) =
     (refusal_of a cycle mode ≡ None) × IsRunOf a.name w (cycle_text a w mode name cycle) (intended_by cycle mode) given.test given.run
 GivesRun a w name cycle mode (Err errors.NoMemory) = refusal_of a cycle mode ≡ None
 GivesRun a w name cycle mode (Err (errors.Refused refusal)) = refusal_of a cycle mode ≡ Some refusal
+
+-- a refusal because a write needs an observer names a location that a test can have
+abbrev pub RunNamesLocation : RunError → Type 0
+RunNamesLocation (errors.Refused refusal) = NamesLocation refusal
+RunNamesLocation errors.NoMemory = Unit {0}

@@ -1,3 +1,4 @@
+pub mod CoherenceRuns
 pub mod IntendedRuns
 pub mod Runs
 pub mod Shown

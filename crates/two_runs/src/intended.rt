@@ -1,4 +1,4 @@
-ghost use Rattle.std.specs.Prelude.{◌≡◌, IfOk, None, Ok};
+ghost use Rattle.std.specs.Prelude.{◌≡◌, IfErr, IfOk, None, Ok};
 ghost use Rattle.cycle_events.specs.Resolution.{resolution_of, turned};
 ghost use Rattle.cycle_events.specs.Values.{valuation_of};
 ghost use Rattle.arch_trait.specs.Writing.{name_in};
@@ -8,7 +8,7 @@ ghost use Rattle.tests_force_cycles.specs.TestHeadline.{HasTest};
 ghost use Rattle.tests_force_cycles.specs.TestOf.{test_of};
 ghost use Rattle.test_maker.specs.Made.{CanPrint};
 ghost use Rattle.test_maker.specs.Refusals.{refusal_of};
-ghost use Rattle.two_runs.specs.IntendedRuns.{GivesRun};
+ghost use Rattle.two_runs.specs.IntendedRuns.{GivesRun, RunNamesLocation};
 ghost use Rattle.two_runs.specs.Runs.{numbers_by, run_by};
 
 use crate::printed::read_printed;
@@ -48,7 +48,8 @@ pub fn intended_run<A: Arch>(
     name: &str,
 ) -> Result<IntendedRun<A>, RunError>
     requires named { IsTestName name.now }
-    ensures { GivesRun A.puts A.writing name.now cycle.now mode result }
+    ensures given { GivesRun A.puts A.writing name.now cycle.now mode result }
+    ensures located { IfErr result RunNamesLocation }
 {
     let mut test = Test::new();
     match make_into::<A>(cycle, mode, &mut test) {
@@ -70,7 +71,8 @@ fn run_of_made<A: Arch>(
     requires has_test { HasTest A.puts (turned cycle.now) mode }
     requires made { test_seen test.now ≡ test_of A.puts (name_in A.writing.registers) (turned cycle.now) mode }
     requires printable { CanPrint A.puts A.REGISTERS test.now }
-    ensures { GivesRun A.puts A.writing name.now cycle.now mode result }
+    ensures given { GivesRun A.puts A.writing name.now cycle.now mode result }
+    ensures located { IfErr result RunNamesLocation }
 {
     printed_tests_force::<A>();
     let test = read_printed::<A>(alloc, test, name)?;

@@ -1,7 +1,10 @@
 //! Two executions of a cycle's test without observers that no condition on the final state tells apart, and the law that there are such.
 #![tactic(auto)]
 
+mod co_run_errors;
+mod coherence;
 mod errors;
+mod incoherent;
 mod intended;
 mod observers;
 mod orders;
@@ -15,6 +18,8 @@ mod sink;
 mod text;
 mod undecided;
 
+pub use co_run_errors::CoRunError;
+pub use coherence::coherence_run;
 pub use errors::{WhyError, WhyRefusal};
 pub use intended::{IntendedRun, intended_run};
 pub use run_errors::RunError;

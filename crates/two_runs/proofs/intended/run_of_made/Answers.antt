@@ -19,8 +19,8 @@ read_printed-requires-clause-reads g c =
 pub run_of_cycle-requires-clause-resolved : goal.run_of_cycle-requires-clause-resolved
 run_of_cycle-requires-clause-resolved g c = accepted_resolves g.A.Arch.puts c.args.cycle.now c.args.mode c.requires.accepted
 
-pub returns : goal.returns
-returns g c =
+pub returns-clause-given : goal.returns-clause-given
+returns-clause-given g c =
     let a = g.A.Arch.puts in
     let arch = g.A.Arch.NAME in
     let w = g.A.Arch.writing in

@@ -1,0 +1,11 @@
+-- What holds in the loop over the threads.
+use Rattle.std.proofs.Common.{◌≡◌}
+use Rattle.cycle_events.specs.Resolution.{external_count}
+use Rattle.co_tests_laws.specs.CutResolution.{cut_open}
+use Rattle.two_runs.specs.Runs.{thread_reads}
+use Rattle.two_runs.proofs.GrowingLists.{filled_to}
+use Rattle.two_runs.proofs.incoherent.add_reads.Given as goal
+
+-- the first threads have their reads
+abbrev pub invariant-loop-thread : goal.invariant-loop-thread
+invariant-loop-thread l = l.exec ≡ record l.fn.exec { reads = filled_to (thread_reads (cut_open l.edges)) (external_count l.edges) l.thread }

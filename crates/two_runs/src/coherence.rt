@@ -1,0 +1,59 @@
+ghost use Rattle.std.specs.Prelude.{◌≡◌, IfOk};
+ghost use Rattle.arch_trait.specs.Writing.{name_in};
+ghost use Rattle.litmus_text.specs.Printable.{IsTestName};
+ghost use Rattle.litmus_text.specs.Tests.{test_seen};
+ghost use Rattle.litmus_text.specs.TestText.{test_text};
+ghost use Rattle.test_maker.specs.Made.{CanPrint};
+ghost use Rattle.co_tests_laws.specs.CoherenceTests.{HasCoherenceTest, coherence_test_of, incoherent_execution};
+ghost use Rattle.two_runs.specs.IntendedRuns.{IsRunOf};
+ghost use Rattle.two_runs.specs.CoherenceRuns.{GivesCoherenceRun};
+
+use crate::co_run_errors::CoRunError;
+use crate::incoherent::incoherent_run;
+use crate::intended::IntendedRun;
+use crate::printed::read_printed;
+use arch_trait::Arch;
+use co_tests::co_test_into;
+use co_tests_laws::printed_show_incoherence;
+use diy_io::NoMemory;
+use edge_algebra::Cycle;
+use litmus_text::Test;
+use std::alloc::Global;
+
+/// The execution that the coherence test of a cycle asks for, and what the text of that test under a name
+/// is read as: each read reads the write of its value, and the writes are in the order of their values. No
+/// coherent machine shows it.
+///
+/// The answer is the first reason why the cycle has no coherence test exactly where there is one; there may
+/// be no memory at any time.
+pub fn coherence_run<A: Arch>(
+    alloc: Global,
+    cycle: &Cycle,
+    name: &str,
+) -> Result<IntendedRun<A>, CoRunError>
+    requires named { IsTestName name.now }
+    ensures { GivesCoherenceRun A.puts A.writing name.now cycle.now result }
+{
+    let mut test = Test::new();
+    match co_test_into::<A>(cycle, &mut test) {
+        Ok(()) => match run_of_test::<A>(alloc, &test, name) {
+            Ok(given) => Ok(given),
+            Err(NoMemory) => Err(CoRunError::NoMemory),
+        },
+        Err(refusal) => Err(CoRunError::Refused(refusal)),
+    }
+}
+
+/// The same of a coherence test that is made.
+fn run_of_test<A: Arch>(alloc: Global, test: &Test, name: &str) -> Result<IntendedRun<A>, NoMemory>
+    requires named { IsTestName name.now }
+    requires has_test { HasCoherenceTest A.puts test.now.edges.items }
+    requires made { test_seen test.now ≡ coherence_test_of A.puts (name_in A.writing.registers) test.now.edges.items }
+    requires printable { CanPrint A.puts A.REGISTERS test.now }
+    ensures { IfOk result (λ given. IsRunOf A.NAME A.writing (test_text A.NAME A.writing name.now (test_seen test.now)) (λ _. incoherent_execution test.now.edges.items) given.test given.run) }
+{
+    printed_show_incoherence::<A>();
+    let read = read_printed::<A>(alloc, test, name)?;
+    let run = incoherent_run(alloc, test.edges.as_slice())?;
+    Ok(IntendedRun { test: read, run })
+}
