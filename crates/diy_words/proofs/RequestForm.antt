@@ -11,7 +11,7 @@ use Rattle.edge_algebra.specs.declared.errors.CycleError.{CycleError}
 use Rattle.edge_algebra.specs.Compose.{composed}
 use Rattle.edges_from_text.specs.declared.read.Separators.TheVariants.{BlanksAndCommas}
 use Rattle.edges_from_text.specs.{Spelled.edges_of, Spelled.text_edges}
-use Rattle.diy_words.specs.declared.{request.TheConstants.MAX_CHOICES, request.TheConstants.MAX_TESTS, request.Check.Check, request.Demo.Demo, request.Shown.Shown, request.Shown.TheVariants.Verdict, request.Shown.TheVariants.Graph}
+use Rattle.diy_words.specs.declared.{request.TheConstants.MAX_CHOICES, request.TheConstants.MAX_TESTS, request.Check.Check, request.Demo.Demo, request.CheckForm.CheckForm, request.CheckForm.TheVariants.Verdict, request.CheckForm.TheVariants.Graph}
 use Rattle.diy_words.specs.declared.{request.Diy.Diy, request.Request.Request, usage.Usage.Usage, options.Tool.Tool, options.OptionName.OptionName}
 use Rattle.diy_io.specs.declared.shelf.TheConstants.{MAX_FOLDER}
 use Rattle.diy_words.specs.declared.request.Request.TheVariants as requests
@@ -336,7 +336,7 @@ demo_form count None tests h = tt
 demo_form count (Some arch) None h = tt
 demo_form count (Some arch) (Some tests) h = h
 
-check_form : (count : ℕ) (arch : Option ArchName) (test execution : Option ℕ) (shown : Shown) → IfSome test (λ at. at < count) → IfSome execution (λ at. at < count)
+check_form : (count : ℕ) (arch : Option ArchName) (test execution : Option ℕ) (shown : CheckForm) → IfSome test (λ at. at < count) → IfSome execution (λ at. at < count)
     → IsTaskSo count (asks AsksCheck (check_with count arch test execution shown))
 check_form count None test execution shown h k = tt
 check_form count (Some arch) (Some test) (Some execution) shown h k = (h, k)

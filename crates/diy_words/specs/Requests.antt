@@ -3,7 +3,7 @@
 use Rattle.std.specs.Prelude.{ℕ, ◌*◌, Bool, nat_lt, if◌then◌else◌, List, [], ◌∷◌, length, Option, Some, None, Result, Ok, Err}
 use Rattle.std.specs.Option.{unwrap_or}
 use Rattle.relax_edges.specs.declared.{kinds.ArchName.ArchName, kinds.ObsMode.ObsMode, kinds.ObsMode.TheVariants.Accept, edge.Edge.Edge}
-use Rattle.diy_words.specs.declared.{request.Shown.Shown, request.Shown.TheVariants.Verdict, request.Shown.TheVariants.Graph}
+use Rattle.diy_words.specs.declared.{request.CheckForm.CheckForm, request.CheckForm.TheVariants.Verdict, request.CheckForm.TheVariants.Graph}
 use Rattle.diy_words.specs.declared.{usage.Usage.Usage, request.Check.Check, request.Demo.Demo, request.TheConstants.MAX_CHOICES, options.Tool.Tool}
 use Rattle.diy_words.specs.declared.usage.UsageKind.TheVariants.{UnknownTool, StrayWord, MissingArch, MissingEdges, MissingNumber, MissingFile, MissingWhy, TooManyChoices}
 use Rattle.diy_words.specs.declared.options.Tool.TheVariants as tools
@@ -150,12 +150,12 @@ demo_with count (Some arch) None = Err (record { word = count; kind = MissingNum
 demo_with count (Some arch) (Some tests) = Ok (record { arch = arch; count = tests })
 
 -- the request of mcheck7 from what was given: both files are needed
-abbrev pub check_with : ℕ → Option ArchName → Option ℕ → Option ℕ → Shown → Result Check Usage
-check_with count None test execution shown = Err (record { word = count; kind = MissingArch })
-check_with count (Some arch) (Some test) (Some execution) shown =
-    Ok (record { arch = arch; test = test; execution = execution; shown = shown })
-check_with count (Some arch) (Some test) None shown = Err (record { word = count; kind = MissingFile })
-check_with count (Some arch) None execution shown = Err (record { word = count; kind = MissingFile })
+abbrev pub check_with : ℕ → Option ArchName → Option ℕ → Option ℕ → CheckForm → Result Check Usage
+check_with count None test execution form = Err (record { word = count; kind = MissingArch })
+check_with count (Some arch) (Some test) (Some execution) form =
+    Ok (record { arch = arch; test = test; execution = execution; form = form })
+check_with count (Some arch) (Some test) None form = Err (record { word = count; kind = MissingFile })
+check_with count (Some arch) None execution form = Err (record { word = count; kind = MissingFile })
 
 -- a request of one of the tools
 abbrev pub asks : {X : Type 0} → (X → Task) → Result X Usage → Result Task Usage

@@ -7,7 +7,7 @@ ghost use Rattle.diy_words.specs.CodeNotes.{Steps, GivesAtEnd, GivesFrom, IsPlai
 use crate::notes::{Notes, missing_value};
 use crate::options::{OptionName, Tool, option_named, tool_named};
 use crate::request::{
-    Check, Coherence, Cross, Demo, Diy, DiyOne, MAX_CHOICES, Norm, Request, Shown, Sought, Why,
+    Check, CheckForm, Coherence, Cross, Demo, Diy, DiyOne, MAX_CHOICES, Norm, Request, Sought, Why,
 };
 use crate::usage::{Usage, UsageKind};
 use diy_io::{MAX_FOLDER, Words};
@@ -303,16 +303,16 @@ fn finish_check(count: usize, notes: Notes<'_>) -> Result<Request<'_>, Usage>
             kind: UsageKind::MissingFile,
         });
     };
-    let shown = if notes.graph {
-        Shown::Graph
+    let form = if notes.graph {
+        CheckForm::Graph
     } else {
-        Shown::Verdict
+        CheckForm::Verdict
     };
     Ok(Request::Check(Check {
         arch,
         test,
         execution,
-        shown,
+        form,
     }))
 }
 

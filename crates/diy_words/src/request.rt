@@ -162,7 +162,7 @@ pub struct Demo {
 
 /// What mcheck7 writes of an execution.
 #[derive(Clone, Copy, Debug, PartialEq, Eq)]
-pub enum Shown {
+pub enum CheckForm {
     /// The verdict on it.
     Verdict,
     /// A picture of it, with `-dot`, where it is a candidate; else the verdict.
@@ -179,5 +179,5 @@ pub struct Check {
     /// Which word names the file of the execution.
     pub execution: usize,
     /// What is written.
-    pub shown: Shown,
+    pub form: CheckForm,
 }
