@@ -16,12 +16,17 @@ use Rattle.exec_check.specs.declared.checked_errors.CheckedKind.TheVariants as c
 use Rattle.diy_io.specs.{Count.Rose, Count.count_of, Shelf.ShelfSeen, Taken.SourceSeen, Wrote.SinkSeen, Wrote.WroteAll, Wrote.WrotePart}
 use Rattle.diy_words.specs.declared.{usage.Usage.Usage, usage.UsageKind.TheVariants.UnknownName, request.Demo.Demo, request.Check.Check}
 use Rattle.diy_words.specs.Requests.{Task, TestTask, WhyTask, ListTask, Sought, asked_of}
-use Rattle.diy_words.specs.Requests.{AsksTest, AsksWhy, AsksCoherence, CoherenceTask, AsksName, AsksList, AsksFamilies, AsksSum, AsksCross, AsksDemo, AsksCheck, OfEdges, OfName, OfLines, CrossTask}
+use Rattle.diy_words.specs.Requests.{AsksTest, AsksWhy, AsksCoherence, CoherenceTask, AsksName, AsksList, AsksFamilies, AsksSum, AsksCross, AsksDemo, AsksCheck, AsksExecution, AsksCoherenceExecution, AsksLines, OfEdges, OfName, OfLines, CrossTask}
 use Rattle.tests_to_files.specs.declared.ending.ListingEnd.{ListingEnd}
 use Rattle.tests_to_files.specs.declared.ending.ListingEnd.TheVariants as listings
 use Rattle.tests_to_files.specs.{ListingEnds.StopsAtTest, ListingEnds.StopsAtAll, Plans.IsPlanned, Plans.planned_text}
 use Rattle.msum7_files.specs.declared.sum_end.SumEnd.{SumEnd}
 use Rattle.msum7_files.specs.declared.sum_end.SumEnd.TheVariants as sums
+use Rattle.program_meaning.specs.Executions.{Execution}
+use Rattle.litmus_text.specs.TestReading.{TestRead}
+use Rattle.two_runs.specs.{IntendedRuns.intended_by, CoherenceRuns.incoherent_by}
+use Rattle.diy_tools.specs.Devices.{OutAlone}
+use Rattle.diy_tools.specs.{ExecutionAnswers.PrintsRun, ExecutionAnswers.AnswersRun, ListAnswers.AnswersListed, ArchMachines.Machine, Memory.MayWantMemory}
 use Rattle.diy_tools.specs.declared.status.{Status.Status, Refusal.Refusal, Device.TheVariants.Input, Device.TheVariants.Out}
 use Rattle.diy_tools.specs.declared.status.{Device.TheVariants.Shelf}
 use Rattle.diy_tools.specs.declared.status.Status.TheVariants as statuses
@@ -122,6 +127,38 @@ module _ (old new : Devices) where
   why_caused words asked None status e input (inl none) =
       of_status words (Ok (AsksWhy asked)) status statuses.NoMemory none.0 (tt, record { out = none.2; files = ap (λ (s : ShelfSeen). s.files) none.1 })
   why_caused words asked None status e input (inr h) = runs_caused words asked status e input h
+
+  -- an execution is printed, as far as standard output takes it
+  by_run : (G : Status → Type 0) (m : Machine) (text : List ℕ) (meant : TestRead → Execution) (status : Status) → PrintsRun m text meant status old.out new.out
+      → (PrintsRun m text meant statuses.Done old.out new.out → G statuses.Done)
+      → (PrintsRun m text meant (statuses.WriteFault Out) old.out new.out → G (statuses.WriteFault Out)) → G status
+  by_run G m text meant statuses.Done h all part = all h
+  by_run G m text meant (statuses.WriteFault Out) h all part = part h
+  by_run G m text meant status h all part = absurd h.prints
+
+  -- the execution that a test asks for, or a coherence test does
+  run_caused : (words : List (List ℕ)) (asked : Result Task Usage) (m : Machine) (refused : Option Refusal) (text : List ℕ) (meant : TestRead → Execution) (status : Status)
+      → new.input ≡ old.input → new.shelf ≡ old.shelf → MayWantMemory asked
+      → ((refusal : Refusal) → refused ≡ Some refusal → CausesAsked words asked (statuses.Refused refusal) old old)
+      → (refused ≡ None → OutAlone (PrintsRun m text meant statuses.Done) old new → CausesAsked words asked statuses.Done old new)
+      → (refused ≡ None → OutAlone (PrintsRun m text meant (statuses.WriteFault Out)) old new → CausesAsked words asked (statuses.WriteFault Out) old new)
+      → AnswersRun m refused text meant status old.out new.out → CausesAsked words asked status old new
+  run_caused words asked m (Some refusal) text meant status input shelf wants refuses all part h =
+      of_status words asked status (statuses.Refused refusal) h.0
+      (subst (λ (d : Devices). CausesAsked words asked (statuses.Refused refusal) old d) (sym (same_devices old new input h.1 shelf)) (refuses refusal refl))
+  run_caused words asked m None text meant status input shelf wants refuses all part (inl none) =
+      of_status words asked status statuses.NoMemory none.0 (wants, record { out = none.1; files = ap (λ (s : ShelfSeen). s.files) shelf })
+  run_caused words asked m None text meant status input shelf wants refuses all part (inr h) =
+      by_run (λ s. CausesAsked words asked s old new) m text meant status h
+      (λ printed. all refl (record { input = input; shelf = shelf; out = printed }))
+      (λ printed. part refl (record { input = input; shelf = shelf; out = printed }))
+
+  -- the lines of a listing are written, as far as standard output takes them
+  listed_caused : (words : List (List ℕ)) (asked : ListTask) (status : Status) → OutAlone (AnswersListed asked status) old new
+      → CausesAsked words (Ok (AsksLines asked)) status old new
+  listed_caused words asked statuses.Done h = h
+  listed_caused words asked (statuses.WriteFault Out) h = (h.out.failed.part.fault, h)
+  listed_caused words asked status h = absurd h.out
 
   edges_caused : (words : List (List ℕ)) (arch : ArchName) (edges : List Edge) (refused : Option Refusal) (status : Status) → refused_list arch edges ≡ refused
       → new.input ≡ old.input → new.shelf ≡ old.shelf
@@ -313,6 +350,13 @@ module _ (old new : Devices) where
   asked_caused : (words : List (List ℕ)) (asked : Result Task Usage) (status : Status)
       → AnswersAsked words asked status old new → CausesAsked words asked status old new
   asked_caused words (Err usage) status h = of_status words (Err usage) status (statuses.Usage usage.word usage.kind) h.0 ((refl, refl), h.1)
+  asked_caused words (Ok (AsksExecution asked)) status h =
+      run_caused words (Ok (AsksExecution asked)) (machine_of asked.arch) (test_refused asked) (asked_text asked) (intended_by asked.edges asked.mode) status
+      h.input h.shelf tt (λ refusal e. (e, refl)) (λ none printed. (none, printed)) (λ none printed. (printed.out.prints.fault, (none, printed))) h.out
+  asked_caused words (Ok (AsksCoherenceExecution asked)) status h =
+      run_caused words (Ok (AsksCoherenceExecution asked)) (machine_of asked.arch) (coherence_refused asked) (incoherent_text asked) (incoherent_by asked.edges)
+      status h.input h.shelf tt (λ refusal e. (e, refl)) (λ none printed. (none, printed)) (λ none printed. (printed.out.prints.fault, (none, printed))) h.out
+  asked_caused words (Ok (AsksLines asked)) status h = listed_caused words asked status h
   asked_caused words (Ok (AsksTest asked)) status h = test_caused words asked (test_refused asked) status refl h.input h.shelf h.out
   asked_caused words (Ok (AsksCoherence asked)) status h = coherence_caused words asked (coherence_refused asked) status refl h.input h.shelf h.out
   asked_caused words (Ok (AsksWhy asked)) status h = why_caused words asked (why_unshown asked) status refl h.input h.both

@@ -23,7 +23,7 @@ use Rattle.exec_check.specs.{FilesChecked.AreTestAndExecution, FilesChecked.File
 use Rattle.diy_io.specs.declared.source.TheConstants.{MAX_INPUT}
 use Rattle.diy_words.specs.declared.{usage.Usage.Usage, request.Demo.Demo, request.Check.Check}
 use Rattle.diy_words.specs.Requests.{Task, ListTask, Sought, asked_of}
-use Rattle.diy_words.specs.Requests.{AsksTest, AsksWhy, AsksCoherence, WhyTask, AsksName, AsksList, AsksFamilies, AsksSum, AsksCross, AsksDemo, AsksCheck, OfEdges, OfName, OfLines, CrossTask}
+use Rattle.diy_words.specs.Requests.{AsksTest, AsksWhy, AsksCoherence, WhyTask, AsksName, AsksList, AsksFamilies, AsksSum, AsksCross, AsksDemo, AsksCheck, AsksExecution, AsksCoherenceExecution, AsksLines, OfEdges, OfName, OfLines, CrossTask}
 use Rattle.tests_to_files.specs.declared.ending.ListingEnd.{ListingEnd}
 use Rattle.tests_to_files.specs.declared.ending.ListingEnd.TheVariants as listings
 use Rattle.log_sum.specs.declared.errors.LogError.{LogError}
@@ -33,6 +33,10 @@ use Rattle.msum7_files.specs.declared.sum_end.SumEnd.TheVariants as sums
 use Rattle.msum7_files.specs.Logs.{IsText, IsShort, IsTooMuch, AreWholeLogs}
 use Rattle.msum7_files.specs.SumEnds.{AreLogs, IsAtWord, FilesSummed, InputWrong, FileTooMuch, LogFileMissing}
 use Rattle.msum7_files.specs.SumEnds as summed
+use Rattle.program_meaning.specs.Executions.{Execution}
+use Rattle.litmus_text.specs.TestReading.{TestRead}
+use Rattle.two_runs.specs.{IntendedRuns.intended_by, CoherenceRuns.incoherent_by}
+use Rattle.diy_tools.specs.{ExecutionAnswers.AnswersRun, ListAnswers.AnswersListed, ArchMachines.Machine, Memory.MayWantMemory}
 use Rattle.diy_tools.specs.declared.status.{Status.Status, Refusal.Refusal, Device.TheVariants.Out, Device.TheVariants.Shelf}
 use Rattle.diy_tools.proofs.Opened.{long_taken}
 use Rattle.diy_tools.specs.{Devices.Devices, Devices.DevicesSeen, Devices.devices, Refused.refused_list, Statuses.norm_status}
@@ -41,7 +45,7 @@ use Rattle.diy_tools.specs.{TestAnswers.test_name, TestAnswers.test_refused, Why
 use Rattle.diy_tools.specs.{CoherenceAnswers.coherence_refused, CoherenceAnswers.incoherent_text, FamilyAnswers.AnswersClassify}
 use Rattle.diy_tools.specs.{FamilyAnswers.files_status, FamilyAnswers.read_on, NameAnswers.AnswersName, NameAnswers.AnswersSought}
 use Rattle.diy_tools.specs.{ListAnswers.EndsAsked, CrossAnswers.AnswersCross, CrossAnswers.EndsCrossed, DemoAnswers.demo_asked}
-use Rattle.diy_tools.specs.{CheckAnswers.check_status, ArchMachines.machine_of, SumAnswers.EndsInput, SumAnswers.EndsSum, SumAnswers.sum_status}
+use Rattle.diy_tools.specs.{CheckAnswers.check_status, CheckAnswers.shown_of, ArchMachines.machine_of, SumAnswers.EndsInput, SumAnswers.EndsSum, SumAnswers.sum_status}
 use Rattle.diy_tools.specs.{Answers.Answers, Answers.AnswersAsked}
 use Rattle.diy_tools.specs.declared.status.Status.TheVariants as statuses
 use Rattle.diy_tools.specs.Complete.{Complete, CanBeDone, CanName, CanSum, CanClassify, AreRightTests, IsSoundText, IsRightLog, AreRightLogs, OfItsText, OfItsFiles, NoFaults, IsDone}
@@ -243,12 +247,12 @@ check_done : (words : List (List ℕ)) (asked : Check) (status : Status) (old ne
     (shown : Option Files) → old.files ≡ shown
     → OfItsFiles shown (λ files. AreTestAndExecution files asked.arch (machine_of asked.arch).writing words asked.test asked.execution)
     → (Rose old.faults new.faults → ⊥) → (Rose before.faults after.faults → ⊥)
-    → status ≡ check_status end → FilesChecked asked.arch (machine_of asked.arch).writing old new words asked.test asked.execution before after end
+    → status ≡ check_status end → FilesChecked (shown_of asked.form) asked.arch (machine_of asked.arch).writing old new words asked.test asked.execution before after end
     → IsDone (Ok (AsksCheck asked)) status
 check_done words asked status old new before after end None shown right none none_out e h = absurd right
 check_done words asked status old new before after end (Some files) shown right none none_out e h =
     check_ends asked end status e
-    (right_files_done asked.arch (machine_of asked.arch).writing old new words asked.test asked.execution before after end files h shown right none none_out)
+    (right_files_done (shown_of asked.form) asked.arch (machine_of asked.arch).writing old new words asked.test asked.execution before after end files h shown right none none_out)
 
 -- logs that have a sum have no fault
 right_wrong : (logs others : List (List ℕ)) (error : LogError) → AreWholeLogs logs → logs ≡ others → logs_text others ≡ Err error → ⊥
@@ -374,10 +378,30 @@ summed_done words status old new before after end None shown right none none_out
 summed_done words status old new before after end (Some files) shown right none none_out e h =
     files_done words files right status old new before after end shown none none_out e h
 
+-- an execution is printed where the edges aren't refused
+run_done : (asked : Result Task Usage) (m : Machine) (refused : Option Refusal) (text : List ℕ) (meant : TestRead → Execution) (status : Status) (old new : SinkSeen)
+    → MayWantMemory asked → (Rose old.faults new.faults → ⊥) → refused ≡ None → AnswersRun m refused text meant status old new → IsDone asked status
+run_done asked m (Some refusal) text meant status old new wants none can h = cc can
+run_done asked m None text meant status old new wants none can (inl empty) = inr (empty.0, wants)
+run_done asked m None text meant statuses.Done old new wants none can (inr h) = inl refl
+run_done asked m None text meant (statuses.WriteFault Out) old new wants none can (inr h) = absurd (none h.prints.fault)
+run_done asked m None text meant status old new wants none can (inr h) = absurd h.prints
+
+listed_done : (asked : ListTask) (status : Status) (old new : SinkSeen) → (Rose old.faults new.faults → ⊥) → AnswersListed asked status old new
+    → IsDone (Ok (AsksLines asked)) status
+listed_done asked statuses.Done old new none h = inl refl
+listed_done asked (statuses.WriteFault Out) old new none h = absurd (none h.failed.part.fault)
+listed_done asked status old new none h = absurd h
+
 asked_done : (words : List (List ℕ)) (asked : Result Task Usage) (status : Status) (old new : Devices)
     → AnswersAsked words asked status old new → CanBeDone words asked old → NoFaults old new → IsDone asked status
 asked_done words (Err usage) status old new h can none = absurd can
 asked_done words (Ok (AsksWhy asked)) status old new h can none = why_done asked (why_unshown asked) status old new none can h.both
+asked_done words (Ok (AsksExecution asked)) status old new h can none =
+    run_done (Ok (AsksExecution asked)) (machine_of asked.arch) (test_refused asked) (asked_text asked) (intended_by asked.edges asked.mode) status old.out new.out tt none.out can h.out
+asked_done words (Ok (AsksCoherenceExecution asked)) status old new h can none =
+    run_done (Ok (AsksCoherenceExecution asked)) (machine_of asked.arch) (coherence_refused asked) (incoherent_text asked) (incoherent_by asked.edges) status old.out new.out tt none.out can h.out
+asked_done words (Ok (AsksLines asked)) status old new h can none = listed_done asked status old.out new.out none.out h.out
 asked_done words (Ok (AsksTest asked)) status old new h can none =
     edges_done (Ok (AsksTest asked)) (test_refused asked) (asked_text asked) status old.out new.out none.out can h.out
 asked_done words (Ok (AsksCoherence asked)) status old new h can none =

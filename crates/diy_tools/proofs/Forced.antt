@@ -30,7 +30,7 @@ use Rattle.arch_arm.specs.ReadsBack as arm_back
 use Rattle.litmus_text.specs.Printable.{IsTestName}
 use Rattle.diy_words.specs.declared.usage.Usage.{Usage}
 use Rattle.diy_words.specs.TestNames.{is_name}
-use Rattle.diy_words.specs.Requests.{Task, TestTask, ListTask, AsksTest, AsksWhy, WhyTask, AsksCoherence, CoherenceTask, AsksName, AsksList, AsksFamilies, AsksSum, AsksCross, AsksDemo, AsksCheck, CrossTask, asked_of}
+use Rattle.diy_words.specs.Requests.{Task, TestTask, ListTask, AsksTest, AsksWhy, WhyTask, AsksCoherence, CoherenceTask, AsksName, AsksList, AsksFamilies, AsksSum, AsksCross, AsksDemo, AsksCheck, AsksExecution, AsksCoherenceExecution, AsksLines, CrossTask, asked_of}
 use Rattle.cycle_names.specs.CycleNames.{name_of}
 use Rattle.diy_words.proofs.RequestForm.{asked_form}
 use Rattle.test_maker.specs.declared.refusal.MakeRefusal.{MakeRefusal}
@@ -45,7 +45,10 @@ use Rattle.diy_tools.specs.{WhyAnswers.AnswersRuns, WhyAnswers.AnswersWhy, WhyAn
 use Rattle.diy_tools.specs.{PrintAnswers.AnswersEdges, CoherenceAnswers.AnswersCoherence, CoherenceAnswers.incoherence_refused}
 use Rattle.diy_tools.specs.{CoherenceAnswers.incoherent_text, TestAnswers.asked_text, TestAnswers.test_name, CrossAnswers.AnswersCross}
 use Rattle.diy_tools.specs.{ListAnswers.AnswersList, Answers.Answers, Answers.AnswersAsked, Devices.Devices, Devices.DevicesSeen, Devices.devices}
-use Rattle.diy_tools.specs.{Headline.Headline, Headline.HeadlineAsked}
+use Rattle.two_runs.specs.{IntendedRuns.intended_by, CoherenceRuns.incoherent_by}
+use Rattle.tests_to_files.specs.Plans.{IsPlanned, planned_text}
+use Rattle.diy_tools.specs.{ExecutionAnswers.AnswersRun, ExecutionAnswers.AnswersExecution, ExecutionAnswers.AnswersCoherenceExecution, ListAnswers.plan_asked}
+use Rattle.diy_tools.specs.{Headline.Headline, Headline.HeadlineAsked, Headline.PrintsIntended, Headline.PrintsIncoherent}
 use Rattle.diy_tools.specs.Refused.{refused_list, refused_of, refused_of_arch, refused_composing, refused_making, refused_coherence}
 use Rattle.co_tests_laws.specs.declared.refusal.CoRefusal.{CoRefusal}
 use Rattle.co_tests_laws.specs.{CoRefusals.coherence_refusal_of, CoRefusals.coherence_text, Incoherence.BytesShowIncoherence}
@@ -192,13 +195,55 @@ asked_force words status old new h = of_asked (asked_of words) refl h
               (test_named_so asked.name asked.edges whole.is_cycle (asked_form words (AsksCoherence asked) e)) whole.is_cycle whole.unrefused;
         }
 
+    of_execution : (asked : TestTask) → asked_of words ≡ Ok (AsksExecution asked) → AnswersExecution asked status old.out new.out
+        → HeadlineAsked (Ok (AsksExecution asked)) status old new
+    of_execution asked e h none =
+        printed (subst (λ (refused : Option Refusal). AnswersRun m refused (asked_text asked) (intended_by asked.edges asked.mode) status old.out new.out) none h)
+      where
+        m : Machine
+        m = machine_of asked.arch
+
+        printed : AnswersRun m None (asked_text asked) (intended_by asked.edges asked.mode) status old.out new.out
+            → (status ≡ NoMemory) ⊎ PrintsIntended m (asked_text asked) asked.edges asked.mode status old.out new.out
+        printed (inl wants) = inl wants.0
+        printed (inr run) =
+            let whole = accepted m.puts asked.mode asked.edges none in
+            inr (record {
+              prints = run;
+              forces =
+                  text_forces asked.arch asked.mode (test_name asked.name asked.edges) asked.edges
+                  (test_named_so asked.name asked.edges whole.is_cycle (asked_form words (AsksExecution asked) e)) whole.is_cycle whole.unrefused;
+            })
+
+    of_loop : (asked : CoherenceTask) → asked_of words ≡ Ok (AsksCoherenceExecution asked) → AnswersCoherenceExecution asked status old.out new.out
+        → HeadlineAsked (Ok (AsksCoherenceExecution asked)) status old new
+    of_loop asked e h none =
+        printed (subst (λ (refused : Option Refusal). AnswersRun m refused (incoherent_text asked) (incoherent_by asked.edges) status old.out new.out) none h)
+      where
+        m : Machine
+        m = machine_of asked.arch
+
+        printed : AnswersRun m None (incoherent_text asked) (incoherent_by asked.edges) status old.out new.out
+            → (status ≡ NoMemory) ⊎ PrintsIncoherent m (incoherent_text asked) asked.edges status old.out new.out
+        printed (inl wants) = inl wants.0
+        printed (inr run) =
+            let whole = is_loop m.puts asked.edges none in
+            inr (record {
+              prints = run;
+              shows =
+                  text_shows asked.arch (test_name asked.name asked.edges) asked.edges
+                  (test_named_so asked.name asked.edges whole.is_cycle (asked_form words (AsksCoherenceExecution asked) e)) whole.is_cycle whole.unrefused;
+            })
+
+    -- the test of each cycle of a listing forces it
+    each_forces : (asked : ListTask) (cycle : List Edge) → IsPlanned (plan_asked asked) cycle
+        → BytesForce (machine_of asked.arch).puts.name (machine_of asked.arch).writing (planned_text (plan_asked asked) cycle) (turned cycle) asked.mode
+    each_forces asked cycle planned =
+        text_forces asked.arch asked.mode (name_of cycle) cycle (cycle_named cycle planned.cycle) planned.cycle
+        (wanted_has_test (machine_of asked.arch).puts asked.mode asked.threads asked.accesses cycle planned.taken)
+
     of_list : (asked : ListTask) → AnswersList asked status old.shelf new.shelf old.out new.out → HeadlineAsked (Ok (AsksList asked)) status old new
-    of_list asked h = record {
-      lists = h;
-      forces = λ cycle planned.
-          text_forces asked.arch asked.mode (name_of cycle) cycle (cycle_named cycle planned.cycle) planned.cycle
-          (wanted_has_test (machine_of asked.arch).puts asked.mode asked.threads asked.accesses cycle planned.taken);
-    }
+    of_list asked h = record { lists = h; forces = each_forces asked }
 
     of_cross : (asked : CrossTask) → AnswersCross asked status old.shelf new.shelf old.out new.out → HeadlineAsked (Ok (AsksCross asked)) status old new
     of_cross asked h = record {
@@ -227,6 +272,9 @@ asked_force words status old new h = of_asked (asked_of words) refl h
     of_asked (Ok (AsksFamilies asked)) e h = tt
     of_asked (Ok AsksSum) e h = tt
     of_asked (Ok (AsksCheck asked)) e h = tt
+    of_asked (Ok (AsksExecution asked)) e h = of_execution asked e h.out
+    of_asked (Ok (AsksCoherenceExecution asked)) e h = of_loop asked e h.out
+    of_asked (Ok (AsksLines asked)) e h = record { lists = h.out; forces = each_forces asked }
     of_asked (Ok (AsksTest asked)) e h = of_test asked e h.out
     of_asked (Ok (AsksCoherence asked)) e h = of_coherence asked e h.out
 

@@ -3,7 +3,8 @@ pub mod Running
 pub mod Coherent
 pub mod Shows
 pub mod TestNames
-pub mod Forced
+pub mod Executed
+mod Forced
 pub mod Listed
 pub mod Crossed
 pub mod Summed

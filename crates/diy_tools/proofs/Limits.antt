@@ -18,7 +18,7 @@ use Rattle.diy_io.specs.declared.source.TheConstants.{MAX_INPUT}
 use Rattle.diy_io.specs.{Count.count_of, Shelf.ShelfSeen, Taken.SourceSeen, Wrote.SinkSeen}
 use Rattle.diy_words.specs.declared.{usage.Usage.Usage, request.Check.Check}
 use Rattle.diy_words.specs.Requests.{Task, ListTask, Sought, asked_of}
-use Rattle.diy_words.specs.Requests.{AsksTest, AsksWhy, AsksCoherence, AsksName, AsksList, AsksFamilies, AsksSum, AsksCross, AsksDemo, AsksCheck, CrossTask, OfEdges, OfName, OfLines}
+use Rattle.diy_words.specs.Requests.{AsksTest, AsksWhy, AsksCoherence, AsksName, AsksList, AsksFamilies, AsksSum, AsksCross, AsksDemo, AsksCheck, AsksExecution, AsksCoherenceExecution, AsksLines, CrossTask, OfEdges, OfName, OfLines}
 use Rattle.tests_to_files.specs.declared.ending.ListingEnd.{ListingEnd}
 use Rattle.tests_to_files.specs.declared.ending.ListingEnd.TheVariants as listings
 use Rattle.tests_to_files.specs.{ListingEnds.StopsAtTest, ListingEnds.StopsAtAll, Plans.IsPlanned, Plans.planned_text}
@@ -32,7 +32,7 @@ use Rattle.diy_tools.specs.{Devices.Devices, Devices.DevicesSeen, Devices.device
 use Rattle.diy_tools.specs.{NameAnswers.AnswersSought, ListAnswers.EndsAsked, ListAnswers.plan_asked, CrossAnswers.AnswersCross}
 use Rattle.diy_tools.specs.{CrossAnswers.EndsCrossed, SumAnswers.EndsInput, SumAnswers.EndsSum, SumAnswers.sum_status, ArchMachines.Machine}
 use Rattle.diy_tools.specs.{ArchMachines.machine_of, TestAnswers.test_name, WhyAnswers.AnswersRuns, WhyAnswers.WritesRuns, WhyAnswers.why_unshown}
-use Rattle.diy_tools.specs.{CheckAnswers.EndsCheck, CheckAnswers.checked_kind, CheckAnswers.check_status, Answers.Answers, Answers.AnswersAsked}
+use Rattle.diy_tools.specs.{CheckAnswers.EndsCheck, CheckAnswers.checked_kind, CheckAnswers.check_status, CheckAnswers.shown_of, Answers.Answers, Answers.AnswersAsked}
 use Rattle.diy_tools.specs.{Limit.Limited, Limit.StopsReading, Limit.TookTooMuch}
 use Rattle.diy_tools.specs.FamilyAnswers.{AnswersClassify, EndsFamilies, file_kind, files_status, read_on}
 
@@ -155,7 +155,7 @@ module _ (old new : Devices) (much : TookTooMuch old new) where
   check_limit words asked checking.NoMemory status e h = subst (λ (s : Status). StopsReading (Ok (AsksCheck asked)) s) (sym e) tt
   check_limit words asked end status e h =
       absurd (neither (same_input old.input new.input h.input)
-      (λ more. omega (arith, checked_few asked.arch (machine_of asked.arch).writing old.shelf new.shelf words asked.test asked.execution old.out new.out end h.both.checked (λ none. cc none) more)))
+      (λ more. omega (arith, checked_few (shown_of asked.form) asked.arch (machine_of asked.arch).writing old.shelf new.shelf words asked.test asked.execution old.out new.out end h.both.checked (λ none. cc none) more)))
 
   files_limit : (tool log : List ℕ) (logs : List (List ℕ)) (end : SumEnd) (status : Status) → status ≡ sum_status end
       → EndsSum (tool ∷ log ∷ logs) end old new → StopsReading (Ok AsksSum) status
@@ -197,6 +197,12 @@ module _ (old new : Devices) (much : TookTooMuch old new) where
   asked_limit words (Ok (AsksTest asked)) status h =
       absurd (neither (same_input old.input new.input h.input) (same_shelf old.shelf new.shelf (ap (λ (s : ShelfSeen). s.opened) h.shelf)))
   asked_limit words (Ok (AsksCoherence asked)) status h =
+      absurd (neither (same_input old.input new.input h.input) (same_shelf old.shelf new.shelf (ap (λ (s : ShelfSeen). s.opened) h.shelf)))
+  asked_limit words (Ok (AsksExecution asked)) status h =
+      absurd (neither (same_input old.input new.input h.input) (same_shelf old.shelf new.shelf (ap (λ (s : ShelfSeen). s.opened) h.shelf)))
+  asked_limit words (Ok (AsksCoherenceExecution asked)) status h =
+      absurd (neither (same_input old.input new.input h.input) (same_shelf old.shelf new.shelf (ap (λ (s : ShelfSeen). s.opened) h.shelf)))
+  asked_limit words (Ok (AsksLines asked)) status h =
       absurd (neither (same_input old.input new.input h.input) (same_shelf old.shelf new.shelf (ap (λ (s : ShelfSeen). s.opened) h.shelf)))
   asked_limit words (Ok (AsksWhy asked)) status h =
       absurd (neither (same_input old.input new.input h.input)

@@ -127,7 +127,7 @@ list_answered words request status input old new before after given h = of_asked
 -- what is answered of a request to check an execution
 pub check_answered : (words : List (List ℕ)) (request : Check) (status : Status) (input : SourceSeen) (old new : ShelfSeen) (before after : SinkSeen)
     → GivesTask (Ok (requests.Check request)) (asked_of words)
-    → ChecksFiles words request.arch request.test request.execution status old new before after
+    → ChecksFiles words request status old new before after
     → Answers words status (input, before, old) (input, after, new)
 check_answered words request status input old new before after given h = of_asked (asked_of words) given
   where

@@ -2,13 +2,13 @@
 -- Source: own.
 use Rattle.std.specs.Prelude.{ℕ, ◌≡◌, List, Result, Ok, Err}
 use Rattle.diy_words.specs.declared.usage.Usage.{Usage}
-use Rattle.diy_words.specs.Requests.{Task, AsksTest, AsksWhy, AsksCoherence, AsksName, AsksList, AsksFamilies, AsksSum, AsksCross, AsksDemo, AsksCheck, asked_of}
+use Rattle.diy_words.specs.Requests.{Task, AsksTest, AsksWhy, AsksCoherence, AsksName, AsksList, AsksFamilies, AsksSum, AsksCross, AsksDemo, AsksCheck, AsksExecution, AsksCoherenceExecution, AsksLines, asked_of}
 use Rattle.diy_tools.specs.declared.status.Status.{Status}
 use Rattle.diy_tools.specs.declared.status.Status.TheVariants as statuses
 use Rattle.diy_tools.specs.Devices.{Devices, OutAlone, InputAndOut, ShelfAndOut, DevicesSeen, devices}
-use Rattle.diy_tools.specs.{TestAnswers.AnswersTest, NameAnswers.AnswersSought, FamilyAnswers.AnswersClassify, ListAnswers.AnswersList}
+use Rattle.diy_tools.specs.{TestAnswers.AnswersTest, NameAnswers.AnswersSought, FamilyAnswers.AnswersClassify, ListAnswers.AnswersList, ListAnswers.AnswersListed}
 use Rattle.diy_tools.specs.{CrossAnswers.AnswersCross, DemoAnswers.demo_asked, CheckAnswers.AnswersCheck, PrintAnswers.Prints, SumAnswers.AnswersSum}
-use Rattle.diy_tools.specs.{WhyAnswers.AnswersWhy, CoherenceAnswers.AnswersCoherence}
+use Rattle.diy_tools.specs.{WhyAnswers.AnswersWhy, CoherenceAnswers.AnswersCoherence, ExecutionAnswers.AnswersExecution, ExecutionAnswers.AnswersCoherenceExecution}
 
 -- words make no request, and no device changes; or each tool answers what it is asked for, and the devices that it doesn't
 -- use stay as they were
@@ -24,6 +24,9 @@ AnswersAsked words (Ok (AsksFamilies asked)) status old new = AnswersClassify wo
 AnswersAsked words (Ok AsksSum) status old new = AnswersSum words status old new
 AnswersAsked words (Ok (AsksDemo asked)) status old new = OutAlone (Prints (demo_asked asked) status) old new
 AnswersAsked words (Ok (AsksCheck asked)) status old new = AnswersCheck words asked status old new
+AnswersAsked words (Ok (AsksExecution asked)) status old new = OutAlone (AnswersExecution asked status) old new
+AnswersAsked words (Ok (AsksCoherenceExecution asked)) status old new = OutAlone (AnswersCoherenceExecution asked status) old new
+AnswersAsked words (Ok (AsksLines asked)) status old new = OutAlone (AnswersListed asked status) old new
 
 -- a call with these words ends with this status, and takes the devices from old to new
 abbrev pub Answers : List (List ℕ) → Status → DevicesSeen → DevicesSeen → Type 0

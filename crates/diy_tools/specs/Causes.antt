@@ -15,20 +15,21 @@ use Rattle.exec_check.specs.declared.checked_errors.CheckEnd.TheVariants as chec
 use Rattle.exec_check.specs.declared.checked_errors.CheckedKind.TheVariants as checked
 use Rattle.diy_io.specs.{Count.Rose, Count.count_of, Taken.SourceSeen, Wrote.SinkSeen, Wrote.WroteAll, Wrote.WrotePart}
 use Rattle.diy_words.specs.declared.usage.{Usage.Usage, UsageKind.UsageKind, UsageKind.TheVariants.UnknownName}
-use Rattle.diy_words.specs.Requests.{Task, Sought, WhyTask, AsksTest, AsksWhy, AsksCoherence, AsksName, AsksList, AsksFamilies, AsksSum, AsksCross, AsksDemo, AsksCheck, OfEdges, OfName, OfLines, asked_of}
+use Rattle.diy_words.specs.Requests.{Task, TestTask, CoherenceTask, Sought, WhyTask, AsksTest, AsksWhy, AsksCoherence, AsksName, AsksList, AsksFamilies, AsksSum, AsksCross, AsksDemo, AsksCheck, AsksExecution, AsksCoherenceExecution, AsksLines, OfEdges, OfName, OfLines, asked_of}
 use Rattle.tests_to_files.specs.declared.ending.ListingEnd.TheVariants as listings
 use Rattle.msum7_files.specs.declared.sum_end.SumEnd.{SumEnd}
 use Rattle.msum7_files.specs.declared.sum_end.SumEnd.TheVariants as sums
 use Rattle.msum7_files.specs.SumEnds.{LogFileMissing}
+use Rattle.two_runs.specs.{IntendedRuns.intended_by, CoherenceRuns.incoherent_by}
 use Rattle.diy_tools.specs.declared.status.{Status.Status, Refusal.Refusal, Device.TheVariants.Input, Device.TheVariants.Out}
 use Rattle.diy_tools.specs.declared.status.{Device.TheVariants.Shelf}
 use Rattle.diy_tools.specs.declared.status.Status.TheVariants as statuses
 use Rattle.diy_tools.specs.declared.status.TextKind.TheVariants as texts
 use Rattle.diy_tools.specs.Devices.{Devices, OutAlone, InputAndOut, ShelfAndOut, DevicesSeen, devices}
 use Rattle.diy_tools.specs.{CheckAnswers.EndsCheck, CrossAnswers.EndsCrossed, DemoAnswers.demo_asked, FamilyAnswers.EndsFamilies}
-use Rattle.diy_tools.specs.{ListAnswers.EndsAsked, Memory.MayWantMemory, NameAnswers.PrintsNamed, Refused.refused_list, SumAnswers.EndsSum}
+use Rattle.diy_tools.specs.{ListAnswers.EndsAsked, ListAnswers.AnswersListed, Memory.MayWantMemory, NameAnswers.PrintsNamed, Refused.refused_list, SumAnswers.EndsSum}
 use Rattle.diy_tools.specs.{TestAnswers.asked_text, TestAnswers.test_name, TestAnswers.test_refused, ArchMachines.machine_of, WhyAnswers.WritesRuns}
-use Rattle.diy_tools.specs.{WhyAnswers.why_unshown, CoherenceAnswers.coherence_refused, CoherenceAnswers.incoherent_text}
+use Rattle.diy_tools.specs.{WhyAnswers.why_unshown, CoherenceAnswers.coherence_refused, CoherenceAnswers.incoherent_text, ExecutionAnswers.PrintsRun}
 
 -- standard output is as it was, and no file changed
 pub record NothingWritten (old new : Devices) : Type 0 where
@@ -61,6 +62,8 @@ asked_refused (Ok (AsksTest asked)) = test_refused asked
 asked_refused (Ok (AsksWhy asked)) = why_unshown asked
 asked_refused (Ok (AsksCoherence asked)) = coherence_refused asked
 asked_refused (Ok (AsksName asked)) = sought_refused asked.arch asked.cycle
+asked_refused (Ok (AsksExecution asked)) = test_refused asked
+asked_refused (Ok (AsksCoherenceExecution asked)) = coherence_refused asked
 asked_refused _ = None
 
 -- norm7 or classify7 reads lines of cycles, up to where they can't be read on; norm7 has written the lines of the cycles
@@ -113,6 +116,18 @@ WhyStops asked status old new =
     (why_unshown asked ≡ None)
     × ShelfAndOut (WritesRuns (machine_of asked.arch) asked.folder (test_name asked.name asked.edges) asked.edges status) old new
 
+-- diyone7 has written the intended execution of a test, as far as this status says
+abbrev pub ExecutionStops : TestTask → Status → Devices → Devices → Type 0
+ExecutionStops asked status old new =
+    (test_refused asked ≡ None)
+    × OutAlone (PrintsRun (machine_of asked.arch) (asked_text asked) (intended_by asked.edges asked.mode) status) old new
+
+-- and that of a coherence test
+abbrev pub CoherenceExecutionStops : CoherenceTask → Status → Devices → Devices → Type 0
+CoherenceExecutionStops asked status old new =
+    (coherence_refused asked ≡ None)
+    × OutAlone (PrintsRun (machine_of asked.arch) (incoherent_text asked) (incoherent_by asked.edges) status) old new
+
 -- diy7, diycross7 or diyone7 with -why writes files, up to where the shelf fails
 abbrev pub ListStops : Result Task Usage → Devices → Devices → Type 0
 ListStops (Ok (AsksWhy asked)) old new = WhyStops asked (statuses.WriteFault Shelf) old new
@@ -152,6 +167,9 @@ Finishes words (Ok (AsksDemo asked)) old new = OutAlone (λ out out'. WroteAll o
 Finishes words (Ok (AsksFamilies asked)) old new = FamiliesAll words asked.arch asked.files old new
 Finishes words (Ok AsksSum) old new = EndsSum words sums.Done old new
 Finishes words (Ok (AsksCheck asked)) old new = EndsCheck words asked checking.Done old new
+Finishes words (Ok (AsksExecution asked)) old new = ExecutionStops asked statuses.Done old new
+Finishes words (Ok (AsksCoherenceExecution asked)) old new = CoherenceExecutionStops asked statuses.Done old new
+Finishes words (Ok (AsksLines asked)) old new = OutAlone (AnswersListed asked statuses.Done) old new
 
 -- norm7 has written a prefix of the lines, over lines of cycles of those before the first fault of what was read
 abbrev pub NamesPart : ArchName → Sought → SourceSeen → SourceSeen → SinkSeen → SinkSeen → Type 0
@@ -175,6 +193,9 @@ OutStops words (Ok (AsksDemo asked)) old new = OutAlone (λ out out'. WrotePart 
 OutStops words (Ok (AsksFamilies asked)) old new = FamiliesPart words asked.arch asked.files old new
 OutStops words (Ok AsksSum) old new = EndsSum words sums.OutFault old new
 OutStops words (Ok (AsksCheck asked)) old new = EndsCheck words asked checking.OutFault old new
+OutStops words (Ok (AsksExecution asked)) old new = ExecutionStops asked (statuses.WriteFault Out) old new
+OutStops words (Ok (AsksCoherenceExecution asked)) old new = CoherenceExecutionStops asked (statuses.WriteFault Out) old new
+OutStops words (Ok (AsksLines asked)) old new = OutAlone (AnswersListed asked (statuses.WriteFault Out)) old new
 
 -- the cause of a status, and what the devices then hold
 abbrev pub CausesAsked : List (List ℕ) → Result Task Usage → Status → Devices → Devices → Type 0
@@ -219,7 +240,7 @@ CausesAsked words asked (statuses.WriteFault Out) old new = Rose old.out.faults 
 -- the shelf failed while diy7, diycross7 or diyone7 with -why wrote a file
 CausesAsked words asked (statuses.WriteFault Shelf) old new = Rose old.shelf.faults new.shelf.faults × ListStops asked old new
 CausesAsked words asked (statuses.WriteFault Input) old new = ⊥
--- classify7, msum7, diycross7, mcheck7 or diyone7 with -why wants memory
+-- classify7, msum7, diycross7, mcheck7 or diyone7 with -why or -exec wants memory
 CausesAsked words asked statuses.NoMemory old new = MayWantMemory asked × NothingWritten old new
 
 -- a call with these words ends with this status for its cause, and takes the devices from old to new

@@ -1,12 +1,14 @@
 -- What mcheck7 answers.
 -- Source: own.
 use Rattle.std.specs.Prelude.{◌≡◌, ℕ, List, Some}
-use Rattle.exec_check.specs.declared.checked_errors.{CheckEnd.CheckEnd, CheckedKind.CheckedKind}
+use Rattle.exec_check.specs.declared.{checked_errors.CheckEnd.CheckEnd, checked_errors.CheckedKind.CheckedKind, shown.Shown.Shown}
+use Rattle.exec_check.specs.declared.shown.Shown.TheVariants as shown
 use Rattle.exec_check.specs.declared.checked_errors.CheckEnd.TheVariants as ends
 use Rattle.exec_check.specs.declared.checked_errors.CheckedKind.TheVariants as kinds
 use Rattle.exec_check.specs.FilesChecked.{FilesChecked}
 use Rattle.diy_io.specs.{Shelf.ShelfSeen, Wrote.SinkSeen}
-use Rattle.diy_words.specs.declared.request.Check.{Check}
+use Rattle.diy_words.specs.declared.{request.Check.Check, request.CheckForm.CheckForm}
+use Rattle.diy_words.specs.declared.request.CheckForm.TheVariants as forms
 use Rattle.diy_tools.specs.declared.status.{Status.Status, TextKind.TextKind, Device.TheVariants.Out, Device.TheVariants.Shelf}
 use Rattle.diy_tools.specs.declared.status.Status.TheVariants.{Done, BadText, NoFile, ReadFault, WriteFault, NoMemory}
 use Rattle.diy_tools.specs.declared.status.TextKind.TheVariants as texts
@@ -27,9 +29,14 @@ check_status ends.ShelfFault = ReadFault Shelf
 check_status ends.OutFault = WriteFault Out
 check_status ends.NoMemory = NoMemory
 
+-- what is shown of an execution
+abbrev pub shown_of : CheckForm → Shown
+shown_of forms.Verdict = shown.Verdict
+shown_of forms.Graph = shown.Graph
+
 -- the checking of the execution in one file of the test in another ends so, and no file changes
 pub record EndsChecked (words : List (List ℕ)) (asked : Check) (end : CheckEnd) (old new : ShelfSeen) (before after : SinkSeen) : Type 0 where
-  pub checked : FilesChecked asked.arch (machine_of asked.arch).writing old new words asked.test asked.execution before after end
+  pub checked : FilesChecked (shown_of asked.form) asked.arch (machine_of asked.arch).writing old new words asked.test asked.execution before after end
   pub stay : new.files ≡ old.files
 
 -- the same, and the input stays as it was

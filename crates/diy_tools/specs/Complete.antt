@@ -10,7 +10,7 @@ use Rattle.text_parts_laws.specs.Lines.{lines_of}
 use Rattle.diy_io.specs.declared.source.TheConstants.{MAX_INPUT}
 use Rattle.diy_io.specs.{Count.Rose, Shelf.Files}
 use Rattle.diy_words.specs.declared.{usage.Usage.Usage, request.Check.Check}
-use Rattle.diy_words.specs.Requests.{Task, Sought, AsksTest, AsksWhy, AsksCoherence, AsksName, AsksList, AsksFamilies, AsksSum, AsksCross, AsksDemo, AsksCheck, OfEdges, OfName, OfLines, asked_of}
+use Rattle.diy_words.specs.Requests.{Task, Sought, AsksTest, AsksWhy, AsksCoherence, AsksName, AsksList, AsksFamilies, AsksSum, AsksCross, AsksDemo, AsksCheck, AsksExecution, AsksCoherenceExecution, AsksLines, OfEdges, OfName, OfLines, asked_of}
 use Rattle.msum7_files.specs.{Logs.IsText, Logs.IsShort, Logs.AreWholeLogs, SumEnds.AreLogs}
 use Rattle.diy_tools.specs.declared.status.{Status.Status, Status.TheVariants.Done, Status.TheVariants.NoMemory}
 use Rattle.diy_tools.specs.{Devices.Devices, Devices.DevicesSeen, Devices.devices, FamilyAnswers.read_on, ArchMachines.machine_of}
@@ -83,6 +83,9 @@ CanBeDone words (Ok (AsksDemo asked)) old = ⊤
 CanBeDone words (Ok (AsksFamilies asked)) old = CanClassify words asked.arch asked.files old
 CanBeDone words (Ok AsksSum) old = CanSum words old
 CanBeDone words (Ok (AsksCheck asked)) old = CanCheck words asked old
+CanBeDone words (Ok (AsksExecution asked)) old = test_refused asked ≡ None
+CanBeDone words (Ok (AsksCoherenceExecution asked)) old = coherence_refused asked ≡ None
+CanBeDone words (Ok (AsksLines asked)) old = ⊤
 
 -- no count of faults rises
 pub record NoFaults (old new : Devices) : Type 0 where

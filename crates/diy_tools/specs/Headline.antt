@@ -7,15 +7,16 @@ use Rattle.relax_edges.specs.declared.{edge.Edge.Edge, kinds.ObsMode.ObsMode}
 use Rattle.cycle_events.specs.Resolution.{turned}
 use Rattle.diy_io.specs.{Shelf.ShelfSeen, Wrote.SinkSeen}
 use Rattle.diy_words.specs.declared.usage.Usage.{Usage}
-use Rattle.diy_words.specs.Requests.{Task, ListTask, AsksTest, AsksWhy, AsksCoherence, AsksList, CrossTask, AsksCross, asked_of}
+use Rattle.diy_words.specs.Requests.{Task, ListTask, AsksTest, AsksWhy, AsksCoherence, AsksList, CrossTask, AsksCross, AsksExecution, AsksCoherenceExecution, AsksLines, asked_of}
 use Rattle.tests_to_files.specs.Plans.{IsPlanned, planned_text}
 use Rattle.bytes_force_cycles.specs.PrintedHeadline.{BytesForce}
 use Rattle.co_tests_laws.specs.Incoherence.{BytesShowIncoherence}
+use Rattle.two_runs.specs.{IntendedRuns.intended_by, CoherenceRuns.incoherent_by}
 use Rattle.diy_tools.specs.declared.status.{Status.Status, Status.TheVariants.NoMemory}
 use Rattle.diy_tools.specs.{Devices.Devices, Devices.DevicesSeen, Devices.devices, ArchMachines.Machine, ArchMachines.machine_of, Refused.refused_of}
 use Rattle.diy_tools.specs.{PrintAnswers.Prints, TestAnswers.asked_text, TestAnswers.test_name, WhyAnswers.WritesRuns, WhyAnswers.why_unshown}
 use Rattle.diy_tools.specs.{CoherenceAnswers.coherence_refused, CoherenceAnswers.incoherent_text, CrossAnswers.AnswersCross}
-use Rattle.diy_tools.specs.{CrossAnswers.cycles_asked, CrossAnswers.crossed_text, ListAnswers.AnswersList, ListAnswers.plan_asked}
+use Rattle.diy_tools.specs.{CrossAnswers.cycles_asked, CrossAnswers.crossed_text, ListAnswers.AnswersList, ListAnswers.AnswersListed, ListAnswers.plan_asked, ExecutionAnswers.PrintsRun}
 use Rattle.cycle_enum_laws.specs.Listing.{IsOneOf}
 
 -- a text is printed, and its bytes force a cycle
@@ -28,6 +29,23 @@ pub record PrintsForcing (m : Machine) (text : List ℕ) (cycle : List Edge) (mo
 pub record PrintsIncoherence (m : Machine) (text : List ℕ) (cycle : List Edge) (status : Status) (old new : SinkSeen) : Type 0 where
   pub prints : Prints text status old new
   pub shows : BytesShowIncoherence m.puts.name m.writing text (turned cycle)
+
+-- the execution that a test asks for is printed, and the bytes of the test force its cycle: that execution is coherent per location and
+-- meets the condition, no other does, and all edges of the cycle stand in it
+pub record PrintsIntended (m : Machine) (text : List ℕ) (cycle : List Edge) (mode : ObsMode) (status : Status) (old new : SinkSeen) : Type 0 where
+  pub prints : PrintsRun m text (intended_by cycle mode) status old new
+  pub forces : BytesForce m.puts.name m.writing text (turned cycle) mode
+
+-- the execution that a coherence test asks for is printed, and the bytes of the test show incoherence
+pub record PrintsIncoherent (m : Machine) (text : List ℕ) (cycle : List Edge) (status : Status) (old new : SinkSeen) : Type 0 where
+  pub prints : PrintsRun m text (incoherent_by cycle) status old new
+  pub shows : BytesShowIncoherence m.puts.name m.writing text (turned cycle)
+
+-- the lines of a listing are written as they are asked for, and the bytes of the text of each listed cycle force that cycle
+pub record ListsLines (asked : ListTask) (status : Status) (old new : SinkSeen) : Type 0 where
+  pub lists : AnswersListed asked status old new
+  pub forces : (cycle : List Edge) → IsPlanned (plan_asked asked) cycle →
+      BytesForce (machine_of asked.arch).puts.name (machine_of asked.arch).writing (planned_text (plan_asked asked) cycle) (turned cycle) asked.mode
 
 -- a listing is written as it is asked for, and the bytes of the text of each listed cycle force that cycle
 pub record ListsForcing (asked : ListTask) (status : Status) (old new : ShelfSeen) (before after : SinkSeen) : Type 0 where
@@ -45,7 +63,9 @@ pub record CrossesForcing (asked : CrossTask) (status : Status) (old new : Shelf
 -- they ask for a listing, or for the tests of choices, it is written and each of its tests forces its cycle; where they ask why
 -- the mode avoid refuses edges, and nothing refuses to show that, there is no memory, or two executions of the test
 -- without observers are written that no condition tells apart, though all edges stand in the first and one doesn't in the second;
--- where they ask for the coherence test of edges that nothing refuses, it is printed and shows incoherence
+-- where they ask for the coherence test of edges that nothing refuses, it is printed and shows incoherence; where they ask for the
+-- execution of either in its place, there is no memory, or that execution is printed; where they ask for the lines of a listing, they
+-- are written, and the tests of these cycles force them
 abbrev pub HeadlineAsked : Result Task Usage → Status → Devices → Devices → Type 0
 HeadlineAsked (Ok (AsksTest asked)) status old new =
     refused_of (machine_of asked.arch).puts asked.mode asked.edges ≡ None →
@@ -57,6 +77,13 @@ HeadlineAsked (Ok (AsksWhy asked)) status old new =
 HeadlineAsked (Ok (AsksCoherence asked)) status old new =
     coherence_refused asked ≡ None →
     PrintsIncoherence (machine_of asked.arch) (incoherent_text asked) asked.edges status old.out new.out
+HeadlineAsked (Ok (AsksExecution asked)) status old new =
+    refused_of (machine_of asked.arch).puts asked.mode asked.edges ≡ None →
+    (status ≡ NoMemory) ⊎ PrintsIntended (machine_of asked.arch) (asked_text asked) asked.edges asked.mode status old.out new.out
+HeadlineAsked (Ok (AsksCoherenceExecution asked)) status old new =
+    coherence_refused asked ≡ None →
+    (status ≡ NoMemory) ⊎ PrintsIncoherent (machine_of asked.arch) (incoherent_text asked) asked.edges status old.out new.out
+HeadlineAsked (Ok (AsksLines asked)) status old new = ListsLines asked status old.out new.out
 HeadlineAsked (Ok (AsksList asked)) status old new = ListsForcing asked status old.shelf new.shelf old.out new.out
 HeadlineAsked (Ok (AsksCross asked)) status old new = CrossesForcing asked status old.shelf new.shelf old.out new.out
 HeadlineAsked _ status old new = Unit {0}

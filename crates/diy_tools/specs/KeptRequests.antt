@@ -10,7 +10,10 @@ use Rattle.diy_words.specs.declared.{request.Sought.Sought, usage.Usage.Usage, r
 use Rattle.diy_words.specs.declared.{request.Coherence.Coherence, request.Why.Why}
 use Rattle.diy_words.specs.declared.request.Sought.TheVariants as sought
 use Rattle.tests_to_files.specs.declared.{ending.ListingEnd.ListingEnd, listing.Listing.Listing}
-use Rattle.tests_to_files.specs.{ListingEnds.EndsListing, Plans.plan_of}
+use Rattle.tests_to_files.specs.{ListedLines.EndsLines, ListingEnds.EndsListing, Plans.plan_of, Plans.plan_in}
+use Rattle.diy_io.specs.declared.errors.Failed.{Failed}
+use Rattle.two_runs.specs.{IntendedRuns.intended_by, CoherenceRuns.incoherent_by}
+use Rattle.diy_tools.specs.{ExecutionAnswers.AnswersRun, PrintAnswers.Prints}
 use Rattle.litmus_text.specs.declared.test.Test.{Test}
 use Rattle.litmus_text.specs.Tests.{test_seen}
 use Rattle.msum7_files.specs.declared.sum_end.SumEnd.{SumEnd}
@@ -18,10 +21,10 @@ use Rattle.msum7_files.specs.SumEnds.{InputSummed, FilesSummed}
 use Rattle.test_maker.specs.{CycleText.cycle_test, CycleText.cycle_text, Refusals.refusal_of}
 use Rattle.diy_tools.specs.declared.status.{Status.Status, Refusal.Refusal}
 use Rattle.diy_tools.specs.declared.status.Refusal.TheVariants as refusals
-use Rattle.diy_words.specs.Requests.{Task, AsksCross}
+use Rattle.diy_words.specs.Requests.{Task, ListTask, AsksCross}
 use Rattle.tests_from_files.specs.declared.classified_errors.FilesEnd.{FilesEnd}
 use Rattle.exec_check.specs.declared.checked_errors.CheckEnd.{CheckEnd}
-use Rattle.diy_tools.specs.{CheckAnswers.EndsChecked, CheckAnswers.check_status, CrossAnswers.AnswersCross, CrossAnswers.AnswersChoices}
+use Rattle.diy_tools.specs.{CheckAnswers.EndsChecked, CheckAnswers.check_status, CheckAnswers.shown_of, CrossAnswers.AnswersCross, CrossAnswers.AnswersChoices}
 use Rattle.diy_tools.specs.{FamilyAnswers.EndsNamed, FamilyAnswers.files_status, ArchMachines.Machine, ArchMachines.machine, ArchMachines.machine_of}
 use Rattle.diy_tools.specs.{NameAnswers.AnswersLines, NameAnswers.AnswersName, PrintAnswers.AnswersEdges, TestAnswers.test_name, Devices.DevicesSeen}
 use Rattle.diy_tools.specs.{Devices.devices, SumAnswers.sum_status, SumAnswers.AnswersSum}
@@ -76,6 +79,22 @@ abbrev pub AnswersOne : Machine → DiyOne → Status → SinkSeen → SinkSeen 
 AnswersOne m request =
     AnswersEdges (refused_kept m request.mode request.edges)
     (cycle_text m.puts m.writing request.mode (chosen_name request.name (edges_kept request.edges)) (edges_kept request.edges))
+
+-- the edges of a request for an execution are refused, there is no memory, or the intended execution of their test is printed
+abbrev pub AnswersIntended : Machine → DiyOne → Status → SinkSeen → SinkSeen → Type 0
+AnswersIntended m request =
+    AnswersRun m (refused_kept m request.mode request.edges)
+    (cycle_text m.puts m.writing request.mode (chosen_name request.name (edges_kept request.edges)) (edges_kept request.edges))
+    (intended_by (edges_kept request.edges) request.mode)
+
+-- the same of a cycle under a name, on an architecture with this code that is written so
+abbrev pub RunsOn : Puts → Writing → ObsMode → List ℕ → List Edge → Status → SinkSeen → SinkSeen → Type 0
+RunsOn puts writing mode name cycle =
+    AnswersRun (machine puts writing) (refused_making (refusal_of puts cycle mode)) (cycle_text puts writing mode name cycle) (intended_by cycle mode)
+
+-- a text is printed, or there is no memory, and nothing is
+abbrev pub PrintsInMemory : List ℕ → Status → SinkSeen → SinkSeen → Type 0
+PrintsInMemory text status old new = ((status ≡ statuses.NoMemory) × (new ≡ old)) ⊎ Prints text status old new
 
 -- a folder that is lent, where one is given
 abbrev pub folder_lent : Option (Bor (List ℕ)) → Option (List ℕ)
@@ -152,6 +171,18 @@ abbrev pub AnswersLoop : Machine → Option ArrayString → List Edge → Status
 AnswersLoop m name cycle =
     AnswersEdges (refused_coherence (coherence_refusal_of m.puts cycle)) (coherence_text m.puts m.writing (chosen_name name cycle) cycle)
 
+-- the edges of a request for the execution of a coherence test are refused, there is no memory, or that execution is printed
+abbrev pub AnswersIncoherent : Machine → Coherence → Status → SinkSeen → SinkSeen → Type 0
+AnswersIncoherent m request =
+    AnswersRun m (refused_incoherent m request.edges)
+    (coherence_text m.puts m.writing (chosen_name request.name (edges_kept request.edges)) (edges_kept request.edges))
+    (incoherent_by (edges_kept request.edges))
+
+-- the same of a cycle under a name, on an architecture with this code that is written so
+abbrev pub LoopRunsOn : Puts → Writing → List ℕ → List Edge → Status → SinkSeen → SinkSeen → Type 0
+LoopRunsOn puts writing name cycle =
+    AnswersRun (machine puts writing) (refused_coherence (coherence_refusal_of puts cycle)) (coherence_text puts writing name cycle) (incoherent_by cycle)
+
 -- a call gives the coherence test of a cycle, or the first reason why it has none
 abbrev pub MakesLoopTest : Machine → List Edge → Test → Result (Unit {0}) Refusal → Type 0
 MakesLoopTest m cycle test (Ok _) =
@@ -171,6 +202,24 @@ EndsOn m listing end old new before after =
     listing.relaxes listing.limits)
     listing.after end old new before after
 
+-- what is asked for of a listing that is lent, on an architecture
+abbrev pub asked_listing : ArchName → Listing → ListTask
+asked_listing arch listing = record {
+  arch = arch;
+  relaxes = listing.relaxes;
+  size = listing.limits.size;
+  exact = listing.limits.exact;
+  threads = listing.threads;
+  accesses = listing.accesses;
+  mode = listing.mode;
+  after = listing.after;
+  folder = folder_lent listing.folder;
+}
+
+-- what the writing of the lines of a listing that is lent leaves, on an architecture
+abbrev pub EndsLinesOn : Machine → Listing → SinkSeen → SinkSeen → Result (Unit {0}) Failed → Type 0
+EndsLinesOn m listing = EndsLines (plan_in m.puts m.writing listing) listing.after
+
 -- the files of the words at these places are classified, or there is a reason why they can't be; no file changes
 pub record ClassifiesNamedFiles (words : List (List ℕ)) (arch : ArchName) (files : List ℕ) (status : Status) (old new : ShelfSeen) (before after : SinkSeen) : Type 0 where
   pub end : FilesEnd
@@ -178,19 +227,15 @@ pub record ClassifiesNamedFiles (words : List (List ℕ)) (arch : ArchName) (fil
   pub status_is : status ≡ files_status end
 
 -- the execution in one file is checked of the test in another, or there is a reason why it can't be; no file changes
-pub record ChecksFiles (words : List (List ℕ)) (arch : ArchName) (test execution : ℕ) (status : Status) (old new : ShelfSeen) (before after : SinkSeen) : Type 0 where
+pub record ChecksFiles (words : List (List ℕ)) (asked : Check) (status : Status) (old new : ShelfSeen) (before after : SinkSeen) : Type 0 where
   pub end : CheckEnd
-  pub ends : EndsChecked words (record { arch = arch; test = test; execution = execution }) end old new before after
+  pub ends : EndsChecked words asked end old new before after
   pub status_is : status ≡ check_status end
-
--- the same by the request, and how the checking itself ends
-abbrev pub ChecksFor : List (List ℕ) → Check → Status → ShelfSeen → ShelfSeen → SinkSeen → SinkSeen → Type 0
-ChecksFor words request = ChecksFiles words request.arch request.test request.execution
 
 -- the checking that words ask for ended so, by what is seen of the devices before and after
 abbrev pub CheckEndsFor : List (List ℕ) → Check → CheckEnd → ShelfSeen → ShelfSeen → SinkSeen → SinkSeen → Type 0
 CheckEndsFor words request end old new before after =
-    FilesChecked request.arch (machine_of request.arch).writing old new words request.test request.execution before after end
+    FilesChecked (shown_of request.form) request.arch (machine_of request.arch).writing old new words request.test request.execution before after end
 
 -- the input is summed as one log, or there is a reason why it can't be
 pub record SumsInput (status : Status) (old new : SourceSeen) (before after : SinkSeen) : Type 0 where

@@ -20,4 +20,5 @@ pub mod Memory
 pub mod Complete
 pub mod Causes
 pub mod Limit
+pub mod ExecutionAnswers
 pub mod Headline

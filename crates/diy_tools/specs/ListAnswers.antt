@@ -1,11 +1,12 @@
 -- What diy7 answers.
 -- Source: own.
-use Rattle.std.specs.Prelude.{◌≡◌}
+use Rattle.std.specs.Prelude.{◌≡◌, Ok, Err}
 use Rattle.diy_io.specs.{Shelf.ShelfSeen, Wrote.SinkSeen}
 use Rattle.diy_words.specs.Requests.{ListTask}
 use Rattle.tests_to_files.specs.declared.ending.ListingEnd.{ListingEnd}
-use Rattle.tests_to_files.specs.{ListingEnds.EndsListing, Plans.Plan}
-use Rattle.diy_tools.specs.declared.status.Status.{Status}
+use Rattle.tests_to_files.specs.{ListedLines.EndsLines, ListingEnds.EndsListing, Plans.Plan}
+use Rattle.diy_tools.specs.declared.status.{Status.Status, Device.TheVariants.Out}
+use Rattle.diy_tools.specs.declared.status.Status.TheVariants as statuses
 use Rattle.diy_tools.specs.{ArchMachines.machine_of, Statuses.listing_status}
 
 -- the plan of a listing that words ask for
@@ -25,6 +26,12 @@ plan_asked asked = record {
 abbrev pub EndsAsked : ListTask → ListingEnd → ShelfSeen → ShelfSeen → SinkSeen → SinkSeen → Type 0
 EndsAsked asked end old new before after =
     EndsListing (λ (sink : SinkSeen). sink) (plan_asked asked) asked.after end old new before after
+
+-- the lines of the cycles of a listing are written, or a prefix of the first ones, where standard output failed
+abbrev pub AnswersListed : ListTask → Status → SinkSeen → SinkSeen → Type 0
+AnswersListed asked statuses.Done old new = EndsLines (plan_asked asked) asked.after old new (Ok tt)
+AnswersListed asked (statuses.WriteFault Out) old new = EndsLines (plan_asked asked) asked.after old new (Err (record {}))
+AnswersListed asked _ old new = ⊥
 
 -- the tests of a listing are written, each in a file, or a device failed
 pub record AnswersList (asked : ListTask) (status : Status) (old new : ShelfSeen) (before after : SinkSeen) : Type 0 where

@@ -2,18 +2,21 @@
 -- Source: own.
 use Rattle.std.specs.Prelude.{ℕ, ◌≡◌, ⊤, List, Result, Ok}
 use Rattle.diy_words.specs.declared.usage.Usage.{Usage}
-use Rattle.diy_words.specs.Requests.{Task, AsksWhy, AsksFamilies, AsksSum, AsksCross, AsksCheck, asked_of}
+use Rattle.diy_words.specs.Requests.{Task, AsksWhy, AsksFamilies, AsksSum, AsksCross, AsksCheck, AsksExecution, AsksCoherenceExecution, asked_of}
 use Rattle.diy_tools.specs.declared.status.{Status.Status, Status.TheVariants.NoMemory}
 
--- classify7, msum7, diycross7, mcheck7 and diyone7 with -why may want memory, no other tool may, nor may words without a request
+-- classify7, msum7, diycross7, mcheck7 and diyone7 with -why or -exec may want memory, no other tool may, nor may words without a
+-- request
 abbrev pub MayWantMemory : Result Task Usage → Type 0
 MayWantMemory (Ok (AsksWhy asked)) = ⊤
 MayWantMemory (Ok (AsksFamilies asked)) = ⊤
 MayWantMemory (Ok AsksSum) = ⊤
 MayWantMemory (Ok (AsksCross asked)) = ⊤
 MayWantMemory (Ok (AsksCheck asked)) = ⊤
+MayWantMemory (Ok (AsksExecution asked)) = ⊤
+MayWantMemory (Ok (AsksCoherenceExecution asked)) = ⊤
 MayWantMemory _ = ⊥
 
--- only classify7, msum7, diycross7, mcheck7 and diyone7 with -why answer that there is no memory
+-- only these answer that there is no memory
 abbrev pub NeverWantsMemory : List (List ℕ) → Status → Type 0
 NeverWantsMemory words status = status ≡ NoMemory → MayWantMemory (asked_of words)

@@ -1,14 +1,14 @@
 ghost use Rattle.std.specs.Prelude.{◌≡◌, ◌<◌, length};
 ghost use Rattle.diy_io.specs.Shelf.{Idle};
-ghost use Rattle.diy_tools.specs.CheckAnswers.{check_status, checked_kind};
-ghost use Rattle.diy_tools.specs.KeptRequests.{CheckEndsFor, ChecksFor};
+ghost use Rattle.diy_tools.specs.CheckAnswers.{check_status, checked_kind, shown_of};
+ghost use Rattle.diy_tools.specs.KeptRequests.{CheckEndsFor, ChecksFiles};
 ghost use Rattle.diy_tools.specs.Report.{StatusNamesLocation};
 
 use crate::machines::on_machine;
 use crate::status::{Device, Status, TextKind};
 use diy_io::{Shelf, Sink, Words};
-use diy_words::Check;
-use exec_check::{CheckEnd, CheckedKind, check_files};
+use diy_words::{Check, CheckForm};
+use exec_check::{CheckEnd, CheckedKind, FileWords, Shown, check_files};
 use relax_edges::ArchName;
 use std::alloc::Global;
 
@@ -23,7 +23,7 @@ pub(crate) fn check<H: Shelf, O: Sink>(
     requires idle { (H.seen shelf.old).mode ≡ Idle }
     requires test { request.test < length words.now }
     requires execution { request.execution < length words.now }
-    ensures answers { ChecksFor words.now request result (H.seen shelf.old) (H.seen shelf.new) (O.seen out.old) (O.seen out.new) }
+    ensures answers { ChecksFiles words.now request result (H.seen shelf.old) (H.seen shelf.new) (O.seen out.old) (O.seen out.new) }
     ensures idle { (H.seen shelf.new).mode ≡ Idle }
     ensures location { StatusNamesLocation result }
 {
@@ -49,8 +49,23 @@ fn check_on<H: Shelf, O: Sink>(
         arch,
         test,
         execution,
+        form,
     } = request;
-    on_machine!(arch, check_files[H, O](alloc, words, test, execution, shelf, out))
+    let files = FileWords {
+        test,
+        exec: execution,
+    };
+    on_machine!(arch, check_files[H, O](alloc, words, files, shown_of(form), shelf, out))
+}
+
+/// What is shown of the execution.
+fn shown_of(form: CheckForm) -> Shown
+    ensures { result ≡ shown_of form }
+{
+    match form {
+        CheckForm::Verdict => Shown::Verdict,
+        CheckForm::Graph => Shown::Graph,
+    }
 }
 
 fn check_end(end: CheckEnd) -> Status

@@ -6,6 +6,7 @@ mod coherence;
 mod crossing;
 mod demo;
 mod edges;
+mod execution;
 mod families;
 mod listing;
 mod machines;

@@ -3,19 +3,19 @@ ghost use Rattle.std.specs.Option.{ForSome};
 ghost use Rattle.relax_edges.specs.declared.TheConstants.{MAX_EDGES};
 ghost use Rattle.diy_io.specs.Shelf.{Idle};
 ghost use Rattle.diy_words.specs.Given.{HasForm, list_kept};
-ghost use Rattle.diy_words.specs.declared.request.Request.TheVariants.{List};
-ghost use Rattle.diy_tools.specs.ListAnswers.{AnswersList};
-ghost use Rattle.diy_tools.specs.KeptRequests.{EndsOn};
+ghost use Rattle.diy_words.specs.declared.request.Request.TheVariants.{List, Lines};
+ghost use Rattle.diy_tools.specs.ListAnswers.{AnswersList, AnswersListed};
+ghost use Rattle.diy_tools.specs.KeptRequests.{EndsOn, EndsLinesOn, asked_listing};
 ghost use Rattle.diy_tools.specs.ArchMachines.{machine_of};
 ghost use Rattle.diy_tools.specs.Report.{StatusNamesLocation};
 ghost use Rattle.diy_tools.specs.Statuses.{listing_status};
 
 use crate::machines::on_machine;
 use crate::status::{Device, Status};
-use diy_io::{MAX_FOLDER, Shelf, Sink};
+use diy_io::{Failed, MAX_FOLDER, Shelf, Sink};
 use diy_words::Diy;
 use relax_edges::ArchName;
-use tests_to_files::{Listing, ListingEnd, list_tests};
+use tests_to_files::{Listing, ListingEnd, list_tests, write_listed};
 
 /// Writes the tests of a listing, each in a file.
 #[tactic(auto, using(crate::proofs::Listed::list_answered))]
@@ -25,27 +25,50 @@ pub(crate) fn list<H: Shelf, O: Sink>(request: Diy, shelf: &mut H, out: &mut O) 
     ensures answers { AnswersList (list_kept request.entry) result (H.seen shelf.old) (H.seen shelf.new) (O.seen out.old) (O.seen out.new) }
     ensures location { StatusNamesLocation result }
 {
-    let Diy {
-        arch,
-        relaxes,
-        limits,
-        threads,
-        accesses,
-        mode,
-        after,
-        folder,
-    } = request;
-    let listing = Listing {
-        relaxes,
-        limits,
-        threads,
-        accesses,
-        mode,
-        after,
-        folder,
-    };
-    let end = list_on(arch, listing, shelf, out);
+    let arch = request.arch;
+    let end = list_on(arch, listing_of(request), shelf, out);
     listing_status(end)
+}
+
+/// Writes the lines of the cycles of a listing.
+#[tactic(auto, using(crate::proofs::Listed::lines_written, crate::proofs::Listed::lines_stopped))]
+pub(crate) fn list_lines<O: Sink>(request: Diy, out: &mut O) -> Status
+    requires form { HasForm (Lines request) }
+    ensures answers { AnswersListed (list_kept request.entry) result (O.seen out.old) (O.seen out.new) }
+    ensures location { StatusNamesLocation result }
+{
+    let arch = request.arch;
+    match lines_on(arch, listing_of(request), out) {
+        Ok(()) => Status::Done,
+        Err(Failed) => Status::WriteFault { of: Device::Out },
+    }
+}
+
+/// The listing that is asked for, on whatever architecture.
+fn listing_of(request: Diy<'_>) -> Listing<'_>
+    ensures asked { asked_listing request.entry.arch result ≡ list_kept request.entry }
+    ensures size { result.limits.size ≡ request.entry.limits.size }
+    ensures folder { result.folder ≡ request.entry.folder }
+{
+    Listing {
+        relaxes: request.relaxes,
+        limits: request.limits,
+        threads: request.threads,
+        accesses: request.accesses,
+        mode: request.mode,
+        after: request.after,
+        folder: request.folder,
+    }
+}
+
+/// Writes the lines of the cycles of a listing on an architecture.
+#[tactic(auto, using(crate::proofs::Listed::lines_on))]
+#[inline(never)]
+fn lines_on<O: Sink>(arch: ArchName, listing: Listing, out: &mut O) -> Result<(), Failed>
+    requires size { listing.limits.size ≤ MAX_EDGES }
+    ensures { EndsLinesOn (machine_of arch) listing.entry (O.seen out.old) (O.seen out.new) result }
+{
+    on_machine!(arch, write_listed[O](listing, out))
 }
 
 /// Writes the tests of a listing on an architecture, each in a file.

@@ -1,4 +1,6 @@
-ghost use Rattle.std.specs.Prelude.{OnOk, IfErr};
+ghost use Rattle.std.specs.Prelude.{◌≡◌, true, OnOk, IfErr, IfSome};
+ghost use Rattle.diy_words.specs.TestNames.{is_name};
+ghost use Rattle.litmus_text.specs.Printable.{IsTestName};
 ghost use Rattle.litmus_text.specs.Tests.{test_seen};
 ghost use Rattle.litmus_text.specs.TestText.{test_text};
 ghost use Rattle.test_maker.specs.Made.{CanPrint};
@@ -50,6 +52,21 @@ pub(crate) fn cycle_on<A: Arch>(list: &EdgeList) -> Result<Cycle, Refusal>
     ensures location { IfErr result RefusesLocation }
 {
     cycle_of_edges(list, A::NAME)
+}
+
+/// The name of the test of a cycle: the one that is given, or else that of the cycle.
+pub(crate) fn name_for(name: &Option<TestName>, cycle: &Cycle) -> TestName
+    requires form { IfSome name.now (λ name. is_name name.bytes ≡ true) }
+    ensures name { result.bytes ≡ chosen_name name.now cycle.now }
+    ensures form { IsTestName result.bytes }
+{
+    let _edges = cycle.edges();
+    let mut chosen = TestName::new();
+    match name {
+        Some(name) => chosen.push_str(name.as_str()),
+        None => name_of(cycle, &mut chosen),
+    }
+    chosen
 }
 
 /// Prints the test of a cycle.

@@ -12,8 +12,9 @@ use crate::checking::check;
 use crate::coherence::coherence;
 use crate::crossing::cross;
 use crate::demo::demo;
+use crate::execution::{coherence_execution, execution};
 use crate::families::families;
-use crate::listing::list;
+use crate::listing::{list, list_lines};
 use crate::naming::norm;
 use crate::report::report;
 use crate::status::Status;
@@ -25,9 +26,10 @@ use diy_words::{Request, read_request};
 use std::alloc::Global;
 
 /// Does what the words ask for: it prints the test of a cycle to `out`, or its coherence test, or the
-/// names of cycles, or the sum of logs, or how long some tests are, or what is so of an execution of a test, or writes
-/// the tests of a listing, or of choices, to the shelf, or two executions of a test that show why an
-/// observer is needed.
+/// execution that one of them asks for, or the names of cycles, or those of a listing, or the sum of
+/// logs, or how long some tests are, or what is so of an execution of a test, or a picture of it; or it
+/// writes the tests of a listing, or of choices, to the shelf, or two executions of a test that show why
+/// an observer is needed.
 ///
 /// Where the words make no request, or the edges are refused, no device changes but `err`. What each
 /// tool reads of `input` and of the shelf, what it writes to `out` and to the shelf, and what they hold
@@ -84,8 +86,11 @@ fn answer<I: Source, O: Sink, H: Shelf>(
         Ok(Request::Test(request)) => diyone(&request, out),
         Ok(Request::Why(request)) => why(alloc, &request, shelf, out),
         Ok(Request::Coherence(request)) => coherence(&request, out),
+        Ok(Request::Execution(request)) => execution(alloc, &request, out),
+        Ok(Request::CoherenceExecution(request)) => coherence_execution(alloc, &request, out),
         Ok(Request::Name(request)) => norm(&request, input, out),
         Ok(Request::List(request)) => list(request, shelf, out),
+        Ok(Request::Lines(request)) => list_lines(request, out),
         Ok(Request::Families(arch)) => families(alloc, words, arch, input, shelf, out),
         Ok(Request::Cross(request)) => cross(alloc, words, request, shelf, out),
         Ok(Request::Demo(request)) => demo(&request, out),

@@ -15,10 +15,10 @@ ghost use Rattle.diy_tools.specs.WhyAnswers.{why_line};
 use crate::edges::cycle_of_edges;
 use crate::machines::on_machine;
 use crate::status::{Device, Refusal, Status};
+use crate::testing::name_for;
 use arch_trait::Arch;
-use cycle_names::name_of;
 use diy_io::{Failed, MAX_FOLDER, NoMemory, Page, Shelf, Sink};
-use diy_words::{TestName, Why};
+use diy_words::Why;
 use edge_algebra::Cycle;
 use exec_text::write_execution;
 use relax_edges::ArchName;
@@ -60,22 +60,8 @@ fn why_on<A: Arch, H: Shelf, O: Sink>(
         Ok(cycle) => cycle,
         Err(refusal) => return Status::Refused(refusal),
     };
-    match &request.name {
-        Some(name) => why_named::<A, H, O>(
-            alloc,
-            &cycle,
-            name.as_str(),
-            request.folder,
-            shelf,
-            out,
-        ),
-        None => {
-            let _edges = cycle.edges();
-            let mut name = TestName::new();
-            name_of(&cycle, &mut name);
-            why_named::<A, H, O>(alloc, &cycle, name.as_str(), request.folder, shelf, out)
-        }
-    }
+    let name = name_for(&request.name, &cycle);
+    why_named::<A, H, O>(alloc, &cycle, name.as_str(), request.folder, shelf, out)
 }
 
 /// The same of a cycle, under a name.

@@ -4,7 +4,7 @@ use Rattle.diy_words.specs.declared.request.Request.{Request}
 use Rattle.diy_words.specs.{Given.GivesTask, Requests.asked_of}
 use Rattle.diy_tools.specs.KeptRequests.{edges_kept, folder_kept, named_kept, refused_why}
 use Rattle.diy_tools.specs.ArchMachines.{machine_of}
-use Rattle.diy_tools.proofs.{Coherent.coherence_answered, Running.check_answered, Running.name_answered, Shows.runs_idle}
+use Rattle.diy_tools.proofs.{Coherent.coherence_answered, Executed.execution_answered, Executed.loop_answered, Running.check_answered, Running.name_answered, Shows.runs_idle}
 use Rattle.diy_tools.proofs.tools.answer.Goals as goal
 
 pub returns-in-Ok-Name-clause-answers : goal.returns-in-Ok-Name-clause-answers
@@ -35,3 +35,16 @@ returns-in-Ok-Why-clause-idle g c =
     let request = c.in-Ok-Why.request in
     runs_idle (machine_of request.arch) (folder_kept request) (named_kept request) (refused_why (machine_of request.arch) request.edges) (edges_kept request.edges) c.why.result
     (g.H.Shelf.seen c.args.shelf.now) (g.H.Shelf.seen c.why.new.shelf) (g.O.Sink.seen c.args.out.now) (g.O.Sink.seen c.why.new.out) c.requires c.why.ensures.answers
+
+pub returns-in-Ok-Execution-clause-answers : goal.returns-in-Ok-Execution-clause-answers
+returns-in-Ok-Execution-clause-answers g c =
+    execution_answered c.args.words.now c.in-Ok-Execution.request c.execution.result
+    (g.I.Source.seen c.args.input.now) (g.H.Shelf.seen c.args.shelf.now) (g.O.Sink.seen c.args.out.now) (g.O.Sink.seen c.execution.new.out)
+    (subst (λ (r : Request). GivesTask (Ok r) (asked_of c.args.words.now)) c.in-Ok-Execution.field-0-is c.in-Ok-Execution.ensures.given) c.execution.ensures.answers
+
+pub returns-in-Ok-CoherenceExecution-clause-answers : goal.returns-in-Ok-CoherenceExecution-clause-answers
+returns-in-Ok-CoherenceExecution-clause-answers g c =
+    loop_answered c.args.words.now c.in-Ok-CoherenceExecution.request c.coherence_execution.result
+    (g.I.Source.seen c.args.input.now) (g.H.Shelf.seen c.args.shelf.now) (g.O.Sink.seen c.args.out.now) (g.O.Sink.seen c.coherence_execution.new.out)
+    (subst (λ (r : Request). GivesTask (Ok r) (asked_of c.args.words.now)) c.in-Ok-CoherenceExecution.field-0-is c.in-Ok-CoherenceExecution.ensures.given)
+    c.coherence_execution.ensures.answers

@@ -1,0 +1,142 @@
+ghost use Rattle.std.specs.Prelude.{◌≡◌, length};
+ghost use Rattle.arch_trait.specs.Threads.{Puts};
+ghost use Rattle.exec_text.specs.Written.{text_of_execution};
+ghost use Rattle.litmus_text.specs.Printable.{IsTestName};
+ghost use Rattle.diy_words.specs.Given.{HasForm};
+ghost use Rattle.diy_words.specs.declared.request.Request.TheVariants as requests;
+ghost use Rattle.diy_tools.specs.ArchMachines.{machine, machine_of};
+ghost use Rattle.diy_tools.specs.KeptRequests.{AnswersIntended, AnswersIncoherent, RunsOn, LoopRunsOn, PrintsInMemory};
+ghost use Rattle.diy_tools.specs.PrintAnswers.{Prints};
+ghost use Rattle.diy_tools.specs.Report.{StatusNamesLocation};
+
+use crate::machines::on_machine;
+use crate::status::{Device, Refusal, Status};
+use crate::testing::{cycle_on, name_for};
+use arch_trait::Arch;
+use diy_io::{Failed, NoMemory, Sink};
+use diy_words::{Coherence, DiyOne};
+use edge_algebra::Cycle;
+use exec_text::write_execution;
+use relax_edges::{ArchName, ObsMode};
+use std::alloc::Global;
+use two_runs::{CoRunError, IntendedRun, RunError, coherence_run, intended_run};
+
+/// Prints the execution that the test of a cycle asks for.
+#[tactic(auto, using(crate::proofs::Executed::intended_on))]
+pub(crate) fn execution<O: Sink>(alloc: Global, request: &DiyOne, out: &mut O) -> Status
+    requires form { HasForm (requests.Execution request.now) }
+    ensures answers { AnswersIntended (machine_of request.now.arch) request.now result (O.seen out.old) (O.seen out.new) }
+    ensures location { StatusNamesLocation result }
+{
+    on_machine!(request.arch, execution_on[O](alloc, request, out))
+}
+
+/// The same on an architecture.
+#[inline(never)]
+fn execution_on<A: Arch, O: Sink>(alloc: Global, request: &DiyOne, out: &mut O) -> Status
+    requires form { HasForm (requests.Execution request.now) }
+    ensures answers { AnswersIntended (machine A.puts A.writing) request.now result (O.seen out.old) (O.seen out.new) }
+    ensures location { StatusNamesLocation result }
+{
+    match cycle_on::<A>(&request.edges) {
+        Err(refusal) => Status::Refused(refusal),
+        Ok(cycle) => {
+            let name = name_for(&request.name, &cycle);
+            print_intended::<A, O>(alloc, &cycle, request.mode, name.as_str(), out)
+        }
+    }
+}
+
+/// The same of a cycle, whose test has a name.
+fn print_intended<A: Arch, O: Sink>(
+    alloc: Global,
+    cycle: &Cycle,
+    mode: ObsMode,
+    name: &str,
+    out: &mut O,
+) -> Status
+    requires named { IsTestName name.now }
+    ensures answers { RunsOn A.puts A.writing mode name.now cycle.now result (O.seen out.old) (O.seen out.new) }
+    ensures location { StatusNamesLocation result }
+{
+    match intended_run::<A>(alloc, cycle, mode, name) {
+        Ok(given) => print_run::<A, O>(alloc, &given, out),
+        Err(RunError::Refused(refusal)) => Status::Refused(Refusal::from(refusal)),
+        Err(RunError::NoMemory) => Status::NoMemory,
+    }
+}
+
+/// Prints the execution that the coherence test of a cycle asks for.
+#[tactic(auto, using(crate::proofs::Executed::incoherent_on))]
+pub(crate) fn coherence_execution<O: Sink>(
+    alloc: Global,
+    request: &Coherence,
+    out: &mut O,
+) -> Status
+    requires form { HasForm (requests.CoherenceExecution request.now) }
+    ensures answers { AnswersIncoherent (machine_of request.now.arch) request.now result (O.seen out.old) (O.seen out.new) }
+    ensures location { StatusNamesLocation result }
+{
+    on_machine!(request.arch, coherence_execution_on[O](alloc, request, out))
+}
+
+/// The same on an architecture.
+#[inline(never)]
+fn coherence_execution_on<A: Arch, O: Sink>(
+    alloc: Global,
+    request: &Coherence,
+    out: &mut O,
+) -> Status
+    requires form { HasForm (requests.CoherenceExecution request.now) }
+    ensures answers { AnswersIncoherent (machine A.puts A.writing) request.now result (O.seen out.old) (O.seen out.new) }
+    ensures location { StatusNamesLocation result }
+{
+    match cycle_on::<A>(&request.edges) {
+        Err(refusal) => Status::Refused(refusal),
+        Ok(cycle) => {
+            let name = name_for(&request.name, &cycle);
+            print_incoherent::<A, O>(alloc, &cycle, name.as_str(), out)
+        }
+    }
+}
+
+/// The same of a cycle, whose test has a name.
+fn print_incoherent<A: Arch, O: Sink>(
+    alloc: Global,
+    cycle: &Cycle,
+    name: &str,
+    out: &mut O,
+) -> Status
+    requires named { IsTestName name.now }
+    ensures answers { LoopRunsOn A.puts A.writing name.now cycle.now result (O.seen out.old) (O.seen out.new) }
+    ensures location { StatusNamesLocation result }
+{
+    match coherence_run::<A>(alloc, cycle, name) {
+        Ok(given) => print_run::<A, O>(alloc, &given, out),
+        Err(CoRunError::Refused(refusal)) => Status::Refused(Refusal::from(refusal)),
+        Err(CoRunError::NoMemory) => Status::NoMemory,
+    }
+}
+
+/// Prints an execution of a test.
+fn print_run<A: Arch, O: Sink>(alloc: Global, given: &IntendedRun<A>, out: &mut O) -> Status
+    requires places { length given.now.run.orders ≡ length given.now.test.places }
+    ensures prints { PrintsInMemory (text_of_execution given.now.test.places given.now.run) result (O.seen out.old) (O.seen out.new) }
+    ensures location { StatusNamesLocation result }
+{
+    match write_execution(alloc, &given.run, given.test.places()) {
+        Ok(text) => print_bytes(text.as_slice(), out),
+        Err(NoMemory) => Status::NoMemory,
+    }
+}
+
+/// Prints a text.
+fn print_bytes<O: Sink>(text: &[u8], out: &mut O) -> Status
+    ensures prints { Prints text.now result (O.seen out.old) (O.seen out.new) }
+    ensures location { StatusNamesLocation result }
+{
+    match out.write_all(text) {
+        Ok(()) => Status::Done,
+        Err(Failed) => Status::WriteFault { of: Device::Out },
+    }
+}
