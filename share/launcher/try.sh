@@ -52,6 +52,7 @@ try_tool() {
             *) before=$word ;;
         esac
         [ "$before" != -o ] || named=yes
+        [ "$tool$before" != diy7-list ] || folder=no
         set -- "$@" "$word"
     done
     [ $folder$named != givenno ] || set -- "$@" -o "$here"
