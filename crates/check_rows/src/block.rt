@@ -1,6 +1,3 @@
-use crate::errors::TableError;
-use std::alloc::Global;
-
 /// The word that a line of a table begins with, where it begins with none of the marks of bytes.
 #[derive(Clone, Copy, Debug, PartialEq, Eq)]
 pub enum Keyword {
@@ -82,15 +79,31 @@ impl Keyword {
     }
 
     /// Whether a row may have more than one line with it.
-    fn may_repeat(self) -> bool {
-        use Keyword::{Absent, File, Text, Wanted, Word, Words};
-        matches!(self, Text | Words | Word | File | Wanted | Absent)
+    pub fn may_repeat(self) -> bool {
+        matches!(
+            self,
+            Keyword::Text
+                | Keyword::Words
+                | Keyword::Word
+                | Keyword::File
+                | Keyword::Wanted
+                | Keyword::Absent
+        )
     }
 
     /// Whether lines of bytes may follow it.
     pub fn takes_bytes(self) -> bool {
-        use Keyword::{Err, File, Input, Left, Out, Text, Wanted, Word};
-        matches!(self, Text | Word | Input | File | Out | Err | Left | Wanted)
+        matches!(
+            self,
+            Keyword::Text
+                | Keyword::Word
+                | Keyword::Input
+                | Keyword::File
+                | Keyword::Out
+                | Keyword::Err
+                | Keyword::Left
+                | Keyword::Wanted
+        )
     }
 }
 
@@ -102,8 +115,19 @@ pub struct Block {
     pub bytes: Vec<u8>,
 }
 
+/// Whether each keyword that a row may have once comes at most once.
+pub fn come_once(blocks: &[Block]) -> bool {
+    for at in 0..blocks.len() {
+        let keyword = blocks[at].keyword;
+        if !keyword.may_repeat() && first(&blocks[at + 1..], keyword).is_some() {
+            return false;
+        }
+    }
+    true
+}
+
 /// The first block with a keyword.
-fn first(blocks: &[Block], keyword: Keyword) -> Option<&Block> {
+pub fn first(blocks: &[Block], keyword: Keyword) -> Option<&Block> {
     for block in blocks {
         if block.keyword == keyword {
             return Some(block);
@@ -122,72 +146,10 @@ pub fn find_block<'a>(blocks: &'a [Block], keyword: Keyword, name: &str) -> Opti
     None
 }
 
-/// A number of an argument.
-pub fn number_in(text: &str) -> Result<usize, TableError> {
-    text.parse::<usize>().ok().ok_or(TableError::BadRow)
-}
-
-/// A row, and the length at which it is tried where it represents a call for each of several.
-#[derive(Clone, Copy)]
-pub struct Row<'a> {
-    pub blocks: &'a [Block],
-    pub length: Option<usize>,
-}
-
-impl<'a> Row<'a> {
-    /// Whether each keyword that a row may have once comes at most once.
-    pub fn is_formed(&self) -> bool {
-        for at in 0..self.blocks.len() {
-            let keyword = self.blocks[at].keyword;
-            if !keyword.may_repeat() && first(&self.blocks[at + 1..], keyword).is_some() {
-                return false;
-            }
-        }
-        true
-    }
-
-    /// The first block with a keyword.
-    pub fn first(&self, keyword: Keyword) -> Option<&'a Block> {
-        first(self.blocks, keyword)
-    }
-
-    /// The argument of the first block with a keyword.
-    pub fn argument(&self, keyword: Keyword) -> Option<&'a str> {
-        Some(self.first(keyword)?.argument.as_str())
-    }
-
-    /// The bytes of the first block with a keyword, none where there is no such block.
-    pub fn bytes(&self, keyword: Keyword) -> &'a [u8] {
-        match self.first(keyword) {
-            Some(block) => block.bytes.as_slice(),
-            None => b"",
-        }
-    }
-
-    /// The same, and of them as many as the length says.
-    pub fn prefix(&self, keyword: Keyword) -> Result<&'a [u8], TableError> {
-        match self.length {
-            Some(length) => self.bytes(keyword).get(..length).ok_or(TableError::BadRow),
-            None => Ok(self.bytes(keyword)),
-        }
-    }
-
-    /// The number after a keyword, and another where the row doesn't have the keyword.
-    pub fn number(&self, keyword: Keyword, otherwise: usize) -> Result<usize, TableError> {
-        match self.argument(keyword) {
-            Some(text) => number_in(text),
-            None => Ok(otherwise),
-        }
-    }
-
-    /// The numbers after a keyword.
-    pub fn numbers(&self, alloc: Global, keyword: Keyword) -> Result<Vec<u64>, TableError> {
-        let mut numbers = Vec::new(alloc);
-        if let Some(text) = self.argument(keyword) {
-            for word in text.split(' ') {
-                numbers.push(word.parse::<u64>().ok().ok_or(TableError::BadRow)?)?;
-            }
-        }
-        Ok(numbers)
+/// The bytes of the first block with a keyword, none where there is no such block.
+pub fn bytes_of(blocks: &[Block], keyword: Keyword) -> &[u8] {
+    match first(blocks, keyword) {
+        Some(block) => block.bytes.as_slice(),
+        None => b"",
     }
 }

@@ -1,76 +1,42 @@
 ghost use Rattle.std.specs.Prelude.{◌≡◌, IfOk};
 ghost use Rattle.diy_io.specs.Shelf.{Idle};
 
-use crate::block::{Block, Keyword, Row, find_block};
+use crate::arguments::{number_of, numbers_of};
+use crate::block::{Block, Keyword, bytes_of, find_block, first};
 use crate::errors::TableError;
+use crate::part::{Part, add_part};
 use crate::read_all::read_all;
-use crate::report::Report;
 use diy_io::{MemShelf, MemSink, MemSource, Sink, TallySink, Words};
 use diy_tools::run;
 use std::alloc::Global;
 use std::str;
 
-/// Calls `run` as a row says, where the output has room for as many bytes as the row's length says, and
-/// compares what the call left with what the row wants.
-pub fn try_call(alloc: Global, row: &Row<'_>, report: &mut Report) -> Result<(), TableError> {
+/// Calls `run` as a row says, with the room of `length` bytes for the output where it is given, and
+/// sets what the row wants beside what the call left.
+pub fn call_parts(
+    alloc: Global,
+    row: &[Block],
+    length: Option<usize>,
+) -> Result<Vec<Part>, TableError> {
+    let mut parts = Vec::new(alloc);
     let mut input = input_of(alloc, row)?;
     let mut shelf = shelf_of(alloc, row)?;
-    match row.argument(Keyword::Tally) {
-        Some(wanted) => {
-            let mut out = TallySink::new();
-            call(alloc, row, &mut input, &mut out, &mut shelf, report)?;
-            let bytes = out.bytes();
-            let lines = out.lines();
-            let got = format!(in alloc; "{bytes} {lines}")?;
-            report.compare("tally", Some(wanted.as_bytes()), Some(got.as_bytes()))?;
+    match first(row, Keyword::Tally) {
+        Some(block) => {
+            let wanted = block.argument.as_str();
+            add_tally(alloc, row, wanted, &mut input, &mut shelf, &mut parts)?;
         }
-        None => {
-            let room = row.length.unwrap_or(row.number(Keyword::RoomOut, 4096)?);
-            let mut out = MemSink::new(alloc, room)?;
-            call(alloc, row, &mut input, &mut out, &mut shelf, report)?;
-            report.compare("out", Some(row.prefix(Keyword::Out)?), Some(out.bytes()))?;
-        }
+        None => add_out(alloc, row, length, &mut input, &mut shelf, &mut parts)?,
     }
-    if let Some(wanted) = row.first(Keyword::Left) {
-        let left = read_all(alloc, &mut input)?;
-        report.compare("left", Some(wanted.bytes.as_slice()), Some(left.as_slice()))?;
-    }
-    compare_files(row, &shelf, report)
-}
-
-/// Calls `run`, and compares the status and the bytes on standard error.
-fn call<O: Sink>(
-    alloc: Global,
-    row: &Row<'_>,
-    input: &mut MemSource,
-    out: &mut O,
-    shelf: &mut MemShelf,
-    report: &mut Report,
-) -> Result<(), TableError>
-    requires { shelf.old.mode ≡ Idle }
-{
-    let words = words_of(alloc, row)?;
-    let mut err = MemSink::new(alloc, row.number(Keyword::RoomErr, 4096)?)?;
-    let status = run(alloc, &words, input, out, &mut err, shelf);
-    let exit = status.exit();
-    let got = format!(in alloc; "{exit} {status:?}")?;
-    compare_status(row, got.as_str(), report)?;
-    report.compare("err", Some(row.bytes(Keyword::Err)), Some(err.bytes()))
-}
-
-/// Compares a status with the one that is wanted.
-pub fn compare_status(row: &Row<'_>, got: &str, report: &mut Report) -> Result<(), TableError> {
-    let wanted = match row.argument(Keyword::Status) {
-        Some(text) => Some(text.as_bytes()),
-        None => None,
-    };
-    report.compare("status", wanted, Some(got.as_bytes()))
+    add_left(alloc, row, &mut input, &mut parts)?;
+    add_files(alloc, row, &shelf, &mut parts)?;
+    Ok(parts)
 }
 
 /// The words of a row.
-fn words_of(alloc: Global, row: &Row<'_>) -> Result<Words, TableError> {
+fn words_of(alloc: Global, row: &[Block]) -> Result<Words, TableError> {
     let mut words = Words::new(alloc);
-    for block in row.blocks {
+    for block in row {
         match block.keyword {
             Keyword::Words => add_words(block, &mut words)?,
             Keyword::Word => add_word(alloc, block, &mut words)?,
@@ -90,27 +56,29 @@ fn add_words(block: &Block, words: &mut Words) -> Result<(), TableError> {
 
 /// Adds a word, which is an argument and the bytes below it.
 fn add_word(alloc: Global, block: &Block, words: &mut Words) -> Result<(), TableError> {
-    let below = str::from_utf8(block.bytes.as_slice()).ok();
+    let below = str::from_utf8(block.bytes.as_slice())
+        .ok()
+        .ok_or(TableError::BadRow)?;
     let mut word = String::from_str(alloc, block.argument.as_str())?;
-    word.push_str(below.ok_or(TableError::BadRow)?)?;
+    word.push_str(below)?;
     words.push(word.as_str())?;
     Ok(())
 }
 
 /// The input of a row.
-fn input_of(alloc: Global, row: &Row<'_>) -> Result<MemSource, TableError> {
-    let piece = row.number(Keyword::Piece, 4096)?;
-    let fail = row.numbers(alloc, Keyword::FailInput)?;
-    let bytes = Vec::from_slice(alloc, row.bytes(Keyword::Input))?;
+fn input_of(alloc: Global, row: &[Block]) -> Result<MemSource, TableError> {
+    let piece = number_of(row, Keyword::Piece, 4096)?;
+    let fail = numbers_of(alloc, row, Keyword::FailInput)?;
+    let bytes = Vec::from_slice(alloc, bytes_of(row, Keyword::Input))?;
     Ok(MemSource::new(bytes, piece.max(1), fail))
 }
 
 /// The shelf of a row with its files.
-fn shelf_of(alloc: Global, row: &Row<'_>) -> Result<MemShelf, TableError>
+fn shelf_of(alloc: Global, row: &[Block]) -> Result<MemShelf, TableError>
     ensures { IfOk result (λ shelf. shelf.mode ≡ Idle) }
 {
     let mut shelf = bare_shelf(alloc, row)?;
-    for block in row.blocks {
+    for block in row {
         if block.keyword == Keyword::File {
             put_file(block, &mut shelf)?;
         }
@@ -119,17 +87,16 @@ fn shelf_of(alloc: Global, row: &Row<'_>) -> Result<MemShelf, TableError>
 }
 
 /// The shelf of a row without files.
-fn bare_shelf(alloc: Global, row: &Row<'_>) -> Result<MemShelf, TableError>
+fn bare_shelf(alloc: Global, row: &[Block]) -> Result<MemShelf, TableError>
     ensures { IfOk result (λ shelf. shelf.mode ≡ Idle) }
 {
     let wanted = row
-        .blocks
         .iter()
         .filter(|block| block.keyword == Keyword::Wanted)
         .count();
-    let names = row.number(Keyword::Names, wanted)?;
-    let room = row.number(Keyword::RoomShelf, 4096)?;
-    let fail = row.numbers(alloc, Keyword::FailShelf)?;
+    let names = number_of(row, Keyword::Names, wanted)?;
+    let room = number_of(row, Keyword::RoomShelf, 4096)?;
+    let fail = numbers_of(alloc, row, Keyword::FailShelf)?;
     Ok(MemShelf::new(alloc, names, room, fail)?)
 }
 
@@ -146,23 +113,138 @@ fn put_file(block: &Block, shelf: &mut MemShelf) -> Result<(), TableError>
     Ok(())
 }
 
-/// Compares the files of the row, also those that the call isn't to change.
-fn compare_files(row: &Row<'_>, shelf: &MemShelf, report: &mut Report) -> Result<(), TableError> {
-    for block in row.blocks {
-        let name = block.argument.as_str();
-        let wanted = match block.keyword {
-            Keyword::File if is_changed(row, name) => continue,
-            Keyword::File | Keyword::Wanted => Some(block.bytes.as_slice()),
-            Keyword::Absent => None,
-            _ => continue,
-        };
-        report.compare(name, wanted, shelf.get(name))?;
+/// Calls `run` with a sink in memory, and adds its bytes to the parts.
+fn add_out(
+    alloc: Global,
+    row: &[Block],
+    length: Option<usize>,
+    input: &mut MemSource,
+    shelf: &mut MemShelf,
+    parts: &mut Vec<Part>,
+) -> Result<(), TableError>
+    requires { shelf.old.mode ≡ Idle }
+{
+    let room = match length {
+        Some(length) => length,
+        None => number_of(row, Keyword::RoomOut, 4096)?,
+    };
+    let wanted = bytes_of(row, Keyword::Out);
+    let wanted = match length {
+        Some(length) => wanted.get(..length).ok_or(TableError::BadRow)?,
+        None => wanted,
+    };
+    let mut out = MemSink::new(alloc, room)?;
+    add_status(alloc, row, input, &mut out, shelf, parts)?;
+    add_part(alloc, parts, "out", Some(wanted), Some(out.bytes()))
+}
+
+/// Calls `run` with a sink that counts, and adds its counts to the parts.
+fn add_tally(
+    alloc: Global,
+    row: &[Block],
+    wanted: &str,
+    input: &mut MemSource,
+    shelf: &mut MemShelf,
+    parts: &mut Vec<Part>,
+) -> Result<(), TableError>
+    requires { shelf.old.mode ≡ Idle }
+{
+    let mut out = TallySink::new();
+    add_status(alloc, row, input, &mut out, shelf, parts)?;
+    let bytes = out.bytes();
+    let lines = out.lines();
+    let got = format!(in alloc; "{bytes} {lines}")?;
+    add_part(
+        alloc,
+        parts,
+        "tally",
+        Some(wanted.as_bytes()),
+        Some(got.as_str().as_bytes()),
+    )
+}
+
+/// Calls `run`, and adds the status and the bytes on standard error to the parts.
+fn add_status<O: Sink>(
+    alloc: Global,
+    row: &[Block],
+    input: &mut MemSource,
+    out: &mut O,
+    shelf: &mut MemShelf,
+    parts: &mut Vec<Part>,
+) -> Result<(), TableError>
+    requires { shelf.old.mode ≡ Idle }
+{
+    let room = number_of(row, Keyword::RoomErr, 4096)?;
+    let words = words_of(alloc, row)?;
+    let mut err = MemSink::new(alloc, room)?;
+    let status = run(alloc, &words, input, out, &mut err, shelf);
+    let exit = status.exit();
+    let got = format!(in alloc; "{exit} {status:?}")?;
+    add_wanted_status(alloc, row, got.as_str(), parts)?;
+    let wanted = bytes_of(row, Keyword::Err);
+    add_part(alloc, parts, "err", Some(wanted), Some(err.bytes()))
+}
+
+/// Adds a status to the parts.
+pub fn add_wanted_status(
+    alloc: Global,
+    row: &[Block],
+    got: &str,
+    parts: &mut Vec<Part>,
+) -> Result<(), TableError> {
+    let wanted = match first(row, Keyword::Status) {
+        Some(block) => Some(block.argument.as_str().as_bytes()),
+        None => None,
+    };
+    add_part(alloc, parts, "status", wanted, Some(got.as_bytes()))
+}
+
+/// Adds what the input has left to the parts, where the row says it.
+fn add_left(
+    alloc: Global,
+    row: &[Block],
+    input: &mut MemSource,
+    parts: &mut Vec<Part>,
+) -> Result<(), TableError> {
+    match first(row, Keyword::Left) {
+        Some(block) => {
+            let left = read_all(alloc, input)?;
+            let wanted = block.bytes.as_slice();
+            add_part(alloc, parts, "left", Some(wanted), Some(left.as_slice()))
+        }
+        None => Ok(()),
+    }
+}
+
+/// Adds the files of the row to the parts, also those that the call isn't to change.
+fn add_files(
+    alloc: Global,
+    row: &[Block],
+    shelf: &MemShelf,
+    parts: &mut Vec<Part>,
+) -> Result<(), TableError> {
+    for block in row {
+        add_file(alloc, row, block, shelf, parts)?;
     }
     Ok(())
 }
 
-/// Whether the row says what is to become of the file with this name.
-fn is_changed(row: &Row<'_>, name: &str) -> bool {
-    find_block(row.blocks, Keyword::Wanted, name).is_some()
-        || find_block(row.blocks, Keyword::Absent, name).is_some()
+/// Adds a file to the parts, where the block is one of a file.
+fn add_file(
+    alloc: Global,
+    row: &[Block],
+    block: &Block,
+    shelf: &MemShelf,
+    parts: &mut Vec<Part>,
+) -> Result<(), TableError> {
+    let name = block.argument.as_str();
+    let is_changed = find_block(row, Keyword::Wanted, name).is_some()
+        || find_block(row, Keyword::Absent, name).is_some();
+    let wanted = match block.keyword {
+        Keyword::File if is_changed => return Ok(()),
+        Keyword::File | Keyword::Wanted => Some(block.bytes.as_slice()),
+        Keyword::Absent => None,
+        _ => return Ok(()),
+    };
+    add_part(alloc, parts, name, wanted, shelf.get(name))
 }

@@ -6,20 +6,20 @@
 
 ghost use Rattle.std.specs.Prelude.{◌<◌, ◌≤◌, length};
 
+mod arguments;
 mod block;
 mod call;
 mod errors;
+mod part;
 mod read_all;
 mod reading;
 mod report;
 mod table;
 
-use crate::block::{Block, Keyword, Row, number_in};
-use crate::call::try_call;
+use crate::block::{Block, Keyword, come_once};
 use crate::errors::TableError;
 use crate::read_all::read_all;
-use crate::reading::try_reading;
-use crate::report::Report;
+use crate::report::{name_of, try_row};
 use crate::table::read_table;
 use diy_io::{Sink, StdSink, StdSource};
 use std::alloc::Global;
@@ -55,11 +55,8 @@ fn try_rows(alloc: Global, blocks: &[Block], page: &mut Vec<u8>) -> Result<Count
     };
     for start in 0..blocks.len() {
         if blocks[start].keyword == Keyword::Row {
-            let row = Row {
-                blocks: &blocks[start..row_end(blocks, start)],
-                length: None,
-            };
-            let is_met = try_named(alloc, &row, blocks[start].argument.as_str(), page)?;
+            let row = &blocks[start..row_end(blocks, start)];
+            let is_met = try_named(alloc, row, page)?;
             counts.rows = counts.rows.saturating_add(1);
             if !is_met {
                 counts.differing = counts.differing.saturating_add(1);
@@ -69,53 +66,21 @@ fn try_rows(alloc: Global, blocks: &[Block], page: &mut Vec<u8>) -> Result<Count
     Ok(counts)
 }
 
-/// Tries a row, and adds its line to the page, and what differs. Answers whether nothing differs.
-fn try_named(
-    alloc: Global,
-    row: &Row<'_>,
-    name: &str,
-    page: &mut Vec<u8>,
-) -> Result<bool, TableError> {
-    let mut report = Report::new(alloc);
-    let answer = try_row(alloc, row, &mut report);
-    let word = match answer {
-        Ok(()) if report.is_met => "ok",
-        Ok(()) => "differs",
-        Err(TableError::BadRow) => "faulty",
-        Err(error) => return Err(error),
+/// Tries a row. The page names one that is faulty.
+fn try_named(alloc: Global, row: &[Block], page: &mut Vec<u8>) -> Result<bool, TableError> {
+    let answer = if come_once(row) {
+        try_row(alloc, row, page)
+    } else {
+        Err(TableError::BadRow)
     };
-    let line = format!(in alloc; "{word} {name}\n")?;
-    page.extend_from_slice(line.as_bytes())?;
-    answer?;
-    page.extend_from_slice(report.lines.as_slice())?;
-    Ok(report.is_met)
-}
-
-/// Tries a row, at each of its lengths where it has some.
-fn try_row(alloc: Global, row: &Row<'_>, report: &mut Report) -> Result<(), TableError> {
-    if !row.is_formed() {
-        return Err(TableError::BadRow);
-    }
-    let Some(lengths) = row.argument(Keyword::Prefixes) else {
-        return try_once(alloc, row, report);
-    };
-    let (low, high) = lengths.split_once(' ').ok_or(TableError::BadRow)?;
-    for length in number_in(low)?..=number_in(high)? {
-        report.heading = format!(in alloc; "  at length {length}\n")?;
-        let row = Row {
-            blocks: row.blocks,
-            length: Some(length),
-        };
-        try_once(alloc, &row, report)?;
-    }
-    Ok(())
-}
-
-/// Tries a row once.
-fn try_once(alloc: Global, row: &Row<'_>, report: &mut Report) -> Result<(), TableError> {
-    match row.argument(Keyword::Read) {
-        Some(arch) => try_reading(alloc, row, arch, report),
-        None => try_call(alloc, row, report),
+    match answer {
+        Err(TableError::BadRow) => {
+            page.extend_from_slice(b"faulty ")?;
+            page.extend_from_slice(name_of(row).as_bytes())?;
+            page.push(b'\n')?;
+            Err(TableError::BadRow)
+        }
+        answer => answer,
     }
 }
 
@@ -124,9 +89,10 @@ fn try_table(alloc: Global, text: &[u8], page: &mut Vec<u8>) -> Result<Counts, T
     let text = str::from_utf8(text).ok().ok_or(TableError::BadLine(0))?;
     let blocks = read_table(alloc, text)?;
     let counts = try_rows(alloc, blocks.as_slice(), page)?;
-    let Counts { rows, differing } = counts;
+    let rows = counts.rows;
+    let differing = counts.differing;
     let sum = format!(in alloc; "{rows} rows, {differing} differ\n")?;
-    page.extend_from_slice(sum.as_bytes())?;
+    page.extend_from_slice(sum.as_str().as_bytes())?;
     Ok(counts)
 }
 
@@ -145,8 +111,16 @@ fn main(rt: HostRuntime) -> ExitCode {
     match try_input(&rt) {
         Ok(counts) if counts.differing == 0 => ExitCode::from(0),
         Ok(_) => ExitCode::from(1),
-        Err(error) => {
-            let _ = eprintln!(rt; "rows: {error}");
+        Err(TableError::BadLine(number)) => {
+            let _ = eprintln!(rt; "rows: line {number} is faulty");
+            ExitCode::from(2)
+        }
+        Err(TableError::BadRow) => {
+            let _ = rt.eprintln("rows: a row is faulty");
+            ExitCode::from(2)
+        }
+        Err(TableError::NoMemory) => {
+            let _ = rt.eprintln("rows: no memory");
             ExitCode::from(2)
         }
     }

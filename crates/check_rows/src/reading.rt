@@ -1,9 +1,9 @@
 ghost use Rattle.std.specs.Prelude.{◌<◌, length};
 
-use crate::block::{Keyword, Row};
-use crate::call::compare_status;
+use crate::block::{Block, Keyword, bytes_of};
+use crate::call::add_wanted_status;
 use crate::errors::TableError;
-use crate::report::Report;
+use crate::part::{Part, add_part};
 use arch_aarch64::A64;
 use arch_arm::Arm;
 use arch_power::Power;
@@ -13,92 +13,133 @@ use arch_x86::X86;
 use diy_io::MemSink;
 use final_cond::print_cond;
 use litmus_text::{ReadError, ReadTest, TextError, arch_of, read_test};
-use relax_edges::{ArchName, read_arch};
+use relax_edges::ArchName;
 use std::alloc::Global;
 
-/// Reads the input of a row as a test, of the architecture of a word or, where there is none, of the one
-/// that its header names, and compares the answer with what the row wants: the status is `Read` or the
-/// fault, and the output describes the test whole.
-pub fn try_reading(
+/// Reads the input of a row, or its prefix of `length` bytes where that is given, as a test, and sets
+/// what the row wants beside the answer: the status is `Read` or the fault, and the output describes
+/// the test whole.
+pub fn read_parts(
     alloc: Global,
-    row: &Row<'_>,
-    word: &str,
-    report: &mut Report,
+    row: &[Block],
+    arch: &str,
+    length: Option<usize>,
+) -> Result<Vec<Part>, TableError> {
+    let text = bytes_of(row, Keyword::Input);
+    let text = match length {
+        Some(length) => text.get(..length).ok_or(TableError::BadRow)?,
+        None => text,
+    };
+    let mut parts = Vec::new(alloc);
+    match arch_named(arch, text)? {
+        Ok(arch) => read_as(alloc, row, arch, text, &mut parts)?,
+        Err(fault) => add_fault(alloc, row, fault, &mut parts)?,
+    }
+    Ok(parts)
+}
+
+/// The architecture of a word, or where there is none that of the header of a text.
+fn arch_named(word: &str, text: &[u8]) -> Result<Result<ArchName, TextError>, TableError> {
+    match word {
+        "" => Ok(arch_of(text)),
+        "X86" => Ok(Ok(ArchName::X86)),
+        "PPC" => Ok(Ok(ArchName::PPC)),
+        "AArch64" => Ok(Ok(ArchName::AArch64)),
+        "RISCV" => Ok(Ok(ArchName::RISCV)),
+        "ARM" => Ok(Ok(ArchName::ARM)),
+        _ => Err(TableError::BadRow),
+    }
+}
+
+/// Reads a text as a test of an architecture, and adds the answer to the parts.
+fn read_as(
+    alloc: Global,
+    row: &[Block],
+    arch: ArchName,
+    text: &[u8],
+    parts: &mut Vec<Part>,
 ) -> Result<(), TableError> {
-    let text = row.prefix(Keyword::Input)?;
-    let arch = match word {
-        "" => arch_of(text),
-        _ => Ok(read_arch(word).ok_or(TableError::BadRow)?),
-    };
-    let read = match arch {
-        Ok(arch) => read_as(alloc, arch, text)?,
-        Err(fault) => Err(fault),
-    };
-    let out = Some(row.bytes(Keyword::Out));
-    match read {
-        Ok(described) => {
-            compare_status(row, "Read", report)?;
-            report.compare("out", out, Some(described.as_slice()))
-        }
-        Err(TextError { line, kind }) => {
-            let got = format!(in alloc; "line {line} {kind:?}")?;
-            compare_status(row, got.as_str(), report)?;
-            report.compare("out", out, Some(b"".as_slice()))
-        }
-    }
-}
-
-/// What a text is as a test of an architecture, described whole, or its fault.
-type Described = Result<Result<Vec<u8>, TextError>, TableError>;
-
-/// Reads a text as a test of an architecture.
-fn read_as(alloc: Global, arch: ArchName, text: &[u8]) -> Described {
     match arch {
-        ArchName::X86 => read_on::<X86>(alloc, text),
-        ArchName::PPC => read_on::<Power>(alloc, text),
-        ArchName::AArch64 => read_on::<A64>(alloc, text),
-        ArchName::RISCV => read_on::<Riscv>(alloc, text),
-        ArchName::ARM => read_on::<Arm>(alloc, text),
+        ArchName::X86 => add_reading::<X86>(alloc, row, text, parts),
+        ArchName::PPC => add_reading::<Power>(alloc, row, text, parts),
+        ArchName::AArch64 => add_reading::<A64>(alloc, row, text, parts),
+        ArchName::RISCV => add_reading::<Riscv>(alloc, row, text, parts),
+        ArchName::ARM => add_reading::<Arm>(alloc, row, text, parts),
     }
 }
 
-fn read_on<A: Arch>(alloc: Global, text: &[u8]) -> Described {
+/// Adds what a text is read as to the parts.
+fn add_reading<A: Arch>(
+    alloc: Global,
+    row: &[Block],
+    text: &[u8],
+    parts: &mut Vec<Part>,
+) -> Result<(), TableError> {
     match read_test::<A>(alloc, text) {
-        Ok(test) => Ok(Ok(describe(alloc, &test)?)),
-        Err(ReadError::Text(fault)) => Ok(Err(fault)),
+        Ok(test) => {
+            add_wanted_status(alloc, row, "Read", parts)?;
+            let described = describe(alloc, &test)?;
+            let wanted = bytes_of(row, Keyword::Out);
+            add_part(
+                alloc,
+                parts,
+                "out",
+                Some(wanted),
+                Some(described.as_slice()),
+            )
+        }
+        Err(ReadError::Text(fault)) => add_fault(alloc, row, fault, parts),
         Err(ReadError::NoMemory) => Err(TableError::NoMemory),
     }
+}
+
+/// Adds the fault of a text to the parts.
+fn add_fault(
+    alloc: Global,
+    row: &[Block],
+    fault: TextError,
+    parts: &mut Vec<Part>,
+) -> Result<(), TableError> {
+    let line = fault.line;
+    let kind = fault.kind;
+    let got = format!(in alloc; "line {line} {kind:?}")?;
+    add_wanted_status(alloc, row, got.as_str(), parts)?;
+    let wanted = bytes_of(row, Keyword::Out);
+    add_part(alloc, parts, "out", Some(wanted), Some(b"".as_slice()))
 }
 
 /// Describes a test whole: the architecture and the name, what it quotes, its places, of each thread
 /// the registers that are given and the operations, and the condition.
 fn describe<A: Arch>(alloc: Global, test: &ReadTest<A>) -> Result<Vec<u8>, TableError> {
     let mut page = Vec::new(alloc);
-    add_line(&mut page, &[A::NAME.name().as_bytes(), b" ", test.name()])?;
+    let arch = A::NAME;
+    let header = format!(in alloc; "{arch:?} ")?;
+    add_line(&mut page, header.as_str(), test.name())?;
     if let Some(quoted) = test.quoted() {
-        add_line(&mut page, &[b"quoted ", quoted])?;
+        add_line(&mut page, "quoted ", quoted)?;
     }
-    let places = test.places();
-    for place in 0..places.len() {
-        add_line(&mut page, &[b"place ", places.get(place).as_bytes()])?;
-    }
+    add_places(test, &mut page)?;
     for thread in 0..test.threads() {
         add_thread(alloc, test, thread, &mut page)?;
     }
-    let mut printed = MemSink::new(alloc, 8192)?;
-    print_cond(test.cond(), &mut printed)
-        .ok()
-        .ok_or(TableError::BadRow)?;
-    add_line(&mut page, &[printed.bytes()])?;
+    add_condition(alloc, test, &mut page)?;
     Ok(page)
 }
 
-/// Adds a line of texts.
-fn add_line(page: &mut Vec<u8>, texts: &[&[u8]]) -> Result<(), TableError> {
-    for text in texts {
-        page.extend_from_slice(text)?;
-    }
+/// Adds a line of a word and bytes.
+fn add_line(page: &mut Vec<u8>, word: &str, bytes: &[u8]) -> Result<(), TableError> {
+    page.extend_from_slice(word.as_bytes())?;
+    page.extend_from_slice(bytes)?;
     page.push(b'\n')?;
+    Ok(())
+}
+
+/// Adds the places, by their numbers.
+fn add_places<A: Arch>(test: &ReadTest<A>, page: &mut Vec<u8>) -> Result<(), TableError> {
+    let places = test.places();
+    for place in 0..places.len() {
+        add_line(page, "place ", places.get(place).as_str().as_bytes())?;
+    }
     Ok(())
 }
 
@@ -111,15 +152,28 @@ fn add_thread<A: Arch>(
 ) -> Result<(), TableError>
     requires { thread < length test.now.threads }
 {
-    let header = format!(in alloc; "thread {thread}")?;
-    add_line(page, &[header.as_bytes()])?;
+    let header = format!(in alloc; "{thread}")?;
+    add_line(page, "thread ", header.as_str().as_bytes())?;
     for (register, value) in test.init(thread) {
-        let given = format!(in alloc; "register {register} {value:?}")?;
-        add_line(page, &[given.as_bytes()])?;
+        let given = format!(in alloc; "{register} {value:?}")?;
+        add_line(page, "register ", given.as_str().as_bytes())?;
     }
     for op in test.code(thread) {
         let text = format!(in alloc; "{op:?}")?;
-        add_line(page, &[text.as_bytes()])?;
+        add_line(page, "", text.as_str().as_bytes())?;
     }
     Ok(())
+}
+
+/// Adds the condition, as it is printed.
+fn add_condition<A: Arch>(
+    alloc: Global,
+    test: &ReadTest<A>,
+    page: &mut Vec<u8>,
+) -> Result<(), TableError> {
+    let mut printed = MemSink::new(alloc, 8192)?;
+    match print_cond(test.cond(), &mut printed) {
+        Ok(()) => add_line(page, "", printed.bytes()),
+        Err(_) => Err(TableError::BadRow),
+    }
 }

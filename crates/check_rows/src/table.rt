@@ -1,4 +1,6 @@
-use crate::block::{Block, Keyword, find_block, number_in};
+ghost use Rattle.std.specs.Prelude.{◌<◌, IfSome};
+
+use crate::block::{Block, Keyword, find_block};
 use crate::errors::TableError;
 use std::alloc::Global;
 
@@ -14,56 +16,77 @@ pub fn read_table(alloc: Global, text: &str) -> Result<Vec<Block>, TableError> {
     let mut number: u64 = 0;
     for line in text.split('\n') {
         number = number.saturating_add(1);
-        match take_line(alloc, &mut blocks, line) {
-            Err(TableError::BadRow) => return Err(TableError::BadLine(number)),
-            answer => answer?,
-        }
+        take_line(alloc, &mut blocks, line, number)?;
     }
     Ok(blocks)
 }
 
 /// Takes one line of a table.
-fn take_line(alloc: Global, blocks: &mut Vec<Block>, line: &str) -> Result<(), TableError> {
+fn take_line(
+    alloc: Global,
+    blocks: &mut Vec<Block>,
+    line: &str,
+    number: u64,
+) -> Result<(), TableError> {
     if line.is_empty() || line.starts_with('#') {
         return Ok(());
     }
-    match bytes_in(alloc, blocks.as_slice(), line)? {
-        Some(bytes) => add_bytes(blocks, bytes.as_slice()),
-        None => add_block(alloc, blocks, line),
+    let bytes = bytes_in(alloc, blocks.as_slice(), line, number)?;
+    match bytes {
+        Some(bytes) => add_bytes(blocks, bytes.as_slice(), number),
+        None => add_block(alloc, blocks, line, number),
     }
 }
 
 /// Begins a block.
-fn add_block(alloc: Global, blocks: &mut Vec<Block>, line: &str) -> Result<(), TableError> {
-    let (word, argument) = line.split_once(' ').unwrap_or((line, ""));
+fn add_block(
+    alloc: Global,
+    blocks: &mut Vec<Block>,
+    line: &str,
+    number: u64,
+) -> Result<(), TableError> {
+    let (word, argument) = match line.split_once(' ') {
+        Some(parts) => parts,
+        None => (line, ""),
+    };
+    let Some(keyword) = Keyword::of(word) else {
+        return Err(TableError::BadLine(number));
+    };
+    let argument = String::from_str(alloc, argument)?;
+    let bytes = Vec::new(alloc);
     blocks.push(Block {
-        keyword: Keyword::of(word).ok_or(TableError::BadRow)?,
-        argument: String::from_str(alloc, argument)?,
-        bytes: Vec::new(alloc),
+        keyword,
+        argument,
+        bytes,
     })?;
     Ok(())
 }
 
 /// Adds bytes to the last block.
-fn add_bytes(blocks: &mut Vec<Block>, bytes: &[u8]) -> Result<(), TableError> {
+fn add_bytes(blocks: &mut Vec<Block>, bytes: &[u8], number: u64) -> Result<(), TableError> {
     match blocks.last_mut() {
         Some(block) if block.keyword.takes_bytes() => {
             block.bytes.extend_from_slice(bytes)?;
             Ok(())
         }
-        _ => Err(TableError::BadRow),
+        _ => Err(TableError::BadLine(number)),
     }
 }
 
 /// The bytes of a line, and none where it begins with no mark of bytes.
-fn bytes_in(alloc: Global, blocks: &[Block], line: &str) -> Result<Option<Vec<u8>>, TableError> {
+fn bytes_in(
+    alloc: Global,
+    blocks: &[Block],
+    line: &str,
+    number: u64,
+) -> Result<Option<Vec<u8>>, TableError> {
     if let Some(name) = line.strip_prefix('=') {
-        let text = text_named(blocks, name).ok_or(TableError::BadRow)?;
+        let text = text_named(blocks, name).ok_or(TableError::BadLine(number))?;
         return Ok(Some(Vec::from_slice(alloc, text)?));
     }
     match line.strip_prefix('*') {
-        Some(rest) => Ok(Some(repeat_line(alloc, rest)?)),
-        None => line_bytes(alloc, line),
+        Some(rest) => repeat_line(alloc, rest, number),
+        None => line_bytes(alloc, line, number),
     }
 }
 
@@ -73,23 +96,29 @@ fn text_named<'a>(blocks: &'a [Block], name: &str) -> Option<&'a [u8]> {
         return Some(find_block(blocks, Keyword::Text, name)?.bytes.as_slice());
     };
     let length = length.parse::<usize>().ok()?;
-    let text = find_block(blocks, Keyword::Text, name)?.bytes.as_slice();
-    text.get(..length)
+    find_block(blocks, Keyword::Text, name)?
+        .bytes
+        .as_slice()
+        .get(..length)
 }
 
 /// The bytes of a line that is to be taken a number of times.
-fn repeat_line(alloc: Global, text: &str) -> Result<Vec<u8>, TableError> {
-    let (count, line) = text.split_once(' ').ok_or(TableError::BadRow)?;
-    let once = line_bytes(alloc, line)?.ok_or(TableError::BadRow)?;
+fn repeat_line(alloc: Global, text: &str, number: u64) -> Result<Option<Vec<u8>>, TableError> {
+    let (count, line) = text.split_once(' ').ok_or(TableError::BadLine(number))?;
+    let count = count
+        .parse::<usize>()
+        .ok()
+        .ok_or(TableError::BadLine(number))?;
+    let once = line_bytes(alloc, line, number)?.ok_or(TableError::BadLine(number))?;
     let mut bytes = Vec::new(alloc);
-    for _ in 0..number_in(count)? {
+    for _ in 0..count {
         bytes.extend_from_slice(once.as_slice())?;
     }
-    Ok(bytes)
+    Ok(Some(bytes))
 }
 
 /// The bytes that a line gives, and none where it begins with none of the three marks.
-fn line_bytes(alloc: Global, line: &str) -> Result<Option<Vec<u8>>, TableError> {
+fn line_bytes(alloc: Global, line: &str, number: u64) -> Result<Option<Vec<u8>>, TableError> {
     if let Some(text) = line.strip_prefix('|') {
         let mut bytes = Vec::from_slice(alloc, text.as_bytes())?;
         bytes.push(b'\n')?;
@@ -99,17 +128,38 @@ fn line_bytes(alloc: Global, line: &str) -> Result<Option<Vec<u8>>, TableError> 
         return Ok(Some(Vec::from_slice(alloc, text.as_bytes())?));
     }
     match line.strip_prefix('%') {
-        Some(text) => Ok(Some(by_digits(alloc, text)?)),
+        Some(text) => Ok(Some(by_digits(alloc, text, number)?)),
         None => Ok(None),
     }
 }
 
 /// Bytes by their digits of base 16, with blanks between.
-fn by_digits(alloc: Global, text: &str) -> Result<Vec<u8>, TableError> {
+fn by_digits(alloc: Global, text: &str, number: u64) -> Result<Vec<u8>, TableError> {
     let mut bytes = Vec::new(alloc);
-    for word in text.split_whitespace() {
-        let byte = u8::from_str_radix(word, 16).ok();
-        bytes.push(byte.ok_or(TableError::BadRow)?)?;
+    for word in text.split(' ') {
+        if !word.is_empty() {
+            let byte = byte_of(word).ok_or(TableError::BadLine(number))?;
+            bytes.push(byte)?;
+        }
     }
     Ok(bytes)
+}
+
+/// The byte of two digits of base 16.
+fn byte_of(word: &str) -> Option<u8> {
+    match word.as_bytes() {
+        [high, low] => Some(digit(*high)? * 16 + digit(*low)?),
+        _ => None,
+    }
+}
+
+/// The value of a digit of base 16.
+fn digit(byte: u8) -> Option<u8>
+    ensures { IfSome result (λ value. value < 16) }
+{
+    match byte {
+        b'0'..=b'9' => Some(byte - b'0'),
+        b'A'..=b'F' => Some(byte - b'A' + 10),
+        _ => None,
+    }
 }
