@@ -33,7 +33,7 @@ pub after_seen : (threads : List (List Access)) (x : Execution) (thread number :
     (found all : List SeenAccess) → slice_get made i ≡ Some (items.Access dir mark place value a d c)
     → found ++ seen_from threads x thread number (visits_of (drop i made)) ≡ all
     → (found ++ seen_access threads x thread number (record { dir = dir; place = place; value = value }) mark ∷ [])
-      ++ seen_from threads x thread (number + 1) (visits_of (drop (i + 1) made)) ≡ all
+    ++ seen_from threads x thread (number + 1) (visits_of (drop (i + 1) made)) ≡ all
 after_seen threads x thread number made i dir mark place value a d c found all is h =
     append_assoc found (seen_access threads x thread number (record { dir = dir; place = place; value = value }) mark ∷ [])
     (seen_from threads x thread (number + 1) (visits_of (drop (i + 1) made)))

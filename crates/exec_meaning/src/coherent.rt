@@ -68,7 +68,12 @@ fn read_at(all: &[Accesses], exec: &Execution, thread: usize, access: usize) -> 
 }
 
 /// The write that an access reads.
-pub(crate) fn source_at(all: &[Accesses], exec: &Execution, thread: usize, access: usize) -> Option<WriteAt>
+pub(crate) fn source_at(
+    all: &[Accesses],
+    exec: &Execution,
+    thread: usize,
+    access: usize,
+) -> Option<WriteAt>
     ensures { result ≡ source_at all.now exec.now (name thread access) }
 {
     read_at(all, exec, thread, access)?.1
