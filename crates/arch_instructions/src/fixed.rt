@@ -8,7 +8,7 @@ use arch_trait::{MAX_INSTRUCTION_TEXT, push_digit};
 use micro_ops::{Barrier, Micro};
 
 /// The texts before, between and after the two numbers of an instruction.
-#[derive(Clone, Copy, Debug)]
+#[derive(Clone, Copy)]
 pub struct TextsAround {
     pub before: &'static str,
     pub between: &'static str,
@@ -16,14 +16,14 @@ pub struct TextsAround {
 }
 
 /// A barrier and its text.
-#[derive(Clone, Copy, Debug)]
+#[derive(Clone, Copy)]
 pub struct BarrierText {
     pub barrier: Barrier,
     pub text: &'static str,
 }
 
 /// The texts of the instructions that tests are full of, where each of their numbers is one digit.
-#[derive(Clone, Copy, Debug)]
+#[derive(Clone, Copy)]
 pub struct FixedTexts {
     /// The number in the name of register 0.
     pub first: u8,

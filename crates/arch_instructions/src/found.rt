@@ -12,7 +12,7 @@ use arrayvec::ArrayVec;
 use micro_ops::Micro;
 
 /// An operand as it is read, where a place or a label has its name and no number.
-#[derive(Clone, Copy, Debug)]
+#[derive(Clone, Copy)]
 pub(crate) enum Found<'a> {
     Register(u8),
     Number(u32),

@@ -3,7 +3,7 @@ ghost use Rattle.std.specs.Prelude.{◌≡◌, ◌≤◌, ◌∷◌, [], take};
 use arch_instructions_laws::Operand;
 
 /// The operands of an operation, of at most three.
-#[derive(Clone, Copy, Debug)]
+#[derive(Clone, Copy)]
 pub struct OperandList {
     pub(crate) items: [Operand; 3],
     pub(crate) count: usize,

@@ -7,7 +7,7 @@ use micro_ops::Micro;
 
 /// What an operation does, but for its operands, and what a kind does, but for their order: only an operation
 /// of the same sort is of the kind.
-#[derive(Clone, Copy, Debug, PartialEq, Eq)]
+#[derive(Clone, Copy, PartialEq, Eq)]
 pub(crate) enum Sort {
     Imm,
     Xor,

@@ -1,7 +1,7 @@
 use crate::kind::Kind;
 
 /// What is in an operand between its two fixed texts.
-#[derive(Clone, Copy, Debug)]
+#[derive(Clone, Copy)]
 pub enum Hole {
     /// Nothing: the operand is a fixed text.
     Empty,
@@ -16,7 +16,7 @@ pub enum Hole {
 }
 
 /// The form of one operand: a fixed text, what is in the hole, and a fixed text.
-#[derive(Clone, Copy, Debug)]
+#[derive(Clone, Copy)]
 pub struct Piece {
     pub before: &'static str,
     pub hole: Hole,
@@ -24,7 +24,7 @@ pub struct Piece {
 }
 
 /// The form of an instruction: its first word, its operands in order, and what it does.
-#[derive(Clone, Copy, Debug)]
+#[derive(Clone, Copy)]
 pub struct Form {
     pub word: &'static str,
     pub pieces: &'static [Piece],
@@ -32,14 +32,14 @@ pub struct Form {
 }
 
 /// Whether a label is an instruction of its own.
-#[derive(Clone, Copy, Debug)]
+#[derive(Clone, Copy)]
 pub enum Labels {
     Known,
     Unknown,
 }
 
 /// The instructions of an architecture.
-#[derive(Clone, Copy, Debug)]
+#[derive(Clone, Copy)]
 pub struct Table {
     pub forms: &'static [Form],
     pub labels: Labels,

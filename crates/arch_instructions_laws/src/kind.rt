@@ -1,7 +1,7 @@
 use micro_ops::Barrier;
 
 /// An operation with the order in which an instruction writes its operands.
-#[derive(Clone, Copy, Debug)]
+#[derive(Clone, Copy)]
 pub enum Kind {
     /// `Imm`: the register, the number.
     SetNumber,
@@ -44,7 +44,7 @@ pub enum Kind {
 }
 
 /// An operand of an operation.
-#[derive(Clone, Copy, Debug)]
+#[derive(Clone, Copy)]
 pub enum Operand {
     Register(u8),
     Number(u32),

@@ -7,7 +7,7 @@ use crate::regs::Regs;
 use relax_edges::Mark;
 
 /// What the code of an access is asked for, beside what a store writes.
-#[derive(Clone, Copy, Debug, PartialEq, Eq)]
+#[derive(Clone, Copy, PartialEq, Eq)]
 pub struct AskedAccess {
     pub link: Link,
     pub mark: Mark,
@@ -18,14 +18,14 @@ pub struct AskedAccess {
 
 /// The registers of an access without an address dependency: that of what is loaded or stored, and
 /// the one that holds the address.
-#[derive(Clone, Copy, Debug)]
+#[derive(Clone, Copy)]
 pub struct PlainAccess {
     pub value: u8,
     pub address: u8,
 }
 
 /// The registers of an access whose address depends on a load, with the one for the dependency.
-#[derive(Clone, Copy, Debug)]
+#[derive(Clone, Copy)]
 pub struct DependentAccess {
     pub dependency: u8,
     pub value: u8,

@@ -17,7 +17,7 @@ use arrayvec::ArrayVec;
 use relax_edges::Dir;
 
 /// The code of a thread.
-#[derive(Debug, Default, Drop)]
+#[derive(Default, Drop)]
 pub struct Code {
     /// Its operations.
     pub instrs: Instrs,

@@ -5,7 +5,7 @@ use crate::push::{push_ascii, push_number};
 use arrayvec::ArrayString;
 
 /// Registers whose names are a letter and a number, such as r1 to r28: so many from a first number on.
-#[derive(Clone, Copy, Debug)]
+#[derive(Clone, Copy)]
 pub struct Numbered {
     pub letter: u8,
     pub first: u8,

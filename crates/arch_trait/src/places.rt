@@ -15,7 +15,7 @@ const LETTERS: &[u8; 26] = b"xyzabcdefghijklmnopqrstuvw";
 
 /// A table of names, of places or of labels: each has the form of a place's name and is in it once.
 /// The number of a name is its place in the table.
-#[derive(Debug, Drop)]
+#[derive(Drop)]
 pub struct Places {
     names: ArrayVec<PlaceName, MAX_PLACES>,
 }

@@ -23,7 +23,7 @@ pub enum InstrError {
 }
 
 /// The operands of an instruction, as they are written.
-#[derive(Clone, Copy, Debug)]
+#[derive(Clone, Copy)]
 pub enum Operands<'a> {
     None,
     One(&'a [u8]),
@@ -35,7 +35,7 @@ pub enum Operands<'a> {
 }
 
 /// What an instruction names: nothing, a place or a label.
-#[derive(Clone, Copy, Debug)]
+#[derive(Clone, Copy)]
 pub enum Named<'a> {
     Nothing,
     Place(&'a [u8]),
@@ -44,7 +44,7 @@ pub enum Named<'a> {
 
 /// An instruction as it is read, before its name has a number: its operation, with 0 in place of the
 /// number, and the name.
-#[derive(Clone, Copy, Debug)]
+#[derive(Clone, Copy)]
 pub struct Raw<'a> {
     pub op: Micro,
     pub name: Named<'a>,

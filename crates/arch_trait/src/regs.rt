@@ -16,7 +16,7 @@ pub type Links = ArrayVec<(u8, u8), MAX_STEPS>;
 
 /// The registers of a thread, numbered from 0: how many are taken, and which hold the address of a
 /// place.
-#[derive(Debug, Drop)]
+#[derive(Drop)]
 pub struct Regs {
     count: u8,
     next: u8,

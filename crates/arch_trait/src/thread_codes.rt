@@ -12,7 +12,7 @@ use std::marker::Model;
 
 /// The code of the threads of a test. After them is what was made for further threads of earlier tests: the code of the next thread is
 /// made in its place, so that no room is cleared for it again.
-#[derive(Debug, Drop)]
+#[derive(Drop)]
 pub struct ThreadCodes {
     codes: ArrayVec<Code, MAX_EDGES>,
     count: usize,

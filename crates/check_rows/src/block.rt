@@ -1,5 +1,5 @@
 /// The word that a line of a table begins with, where it begins with none of the marks of bytes.
-#[derive(Clone, Copy, Debug, PartialEq, Eq)]
+#[derive(Clone, Copy, PartialEq, Eq)]
 pub enum Keyword {
     /// Names a text, for lines `=NAME` below.
     Text,
@@ -108,7 +108,7 @@ impl Keyword {
 }
 
 /// A line of a table with a keyword, and the bytes of the lines below it.
-#[derive(Debug, Drop)]
+#[derive(Drop)]
 pub struct Block {
     pub keyword: Keyword,
     pub argument: String,

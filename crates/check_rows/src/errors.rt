@@ -2,7 +2,7 @@ use diy_io::NoMemory;
 use std::alloc::{AllocError, AllocFailed};
 
 /// Why a table or a row of it can't be taken.
-#[derive(Clone, Copy, Debug, PartialEq, Eq)]
+#[derive(Clone, Copy, PartialEq, Eq)]
 pub enum TableError {
     /// The line of this number, from 1, has no form of a table.
     BadLine(u64),

@@ -27,7 +27,7 @@ use std::process::ExitCode;
 use std::str;
 
 /// How many rows there are, and how many of them differ.
-#[derive(Clone, Copy, Debug)]
+#[derive(Clone, Copy)]
 struct Counts {
     rows: u64,
     differing: u64,

@@ -6,7 +6,7 @@ use std::alloc::Global;
 
 /// What is wanted of a part of a call, as its status or a file, and what the call left there. Nothing
 /// is wanted of a file that isn't to be there.
-#[derive(Debug, Drop)]
+#[derive(Drop)]
 pub struct Part {
     pub name: String,
     pub wanted: Option<Vec<u8>>,

@@ -2,7 +2,7 @@ ghost use Rattle.std.specs.Prelude.{◌↔◌, IsTrue};
 ghost use Rattle.cycle_enum_laws.specs.Listing.{KeepsLimits};
 
 /// How many edges the cycles of a listing have.
-#[derive(Clone, Copy, Debug)]
+#[derive(Clone, Copy)]
 pub struct Limits {
     /// The most edges, at most `MAX_EDGES`.
     pub size: u8,

@@ -71,7 +71,7 @@ pub const FAMILIES: [Family; 14] = [
 
 /// The families of cycles that have names of their own, after the litmus tests of the herdtools
 /// manual, and `Other` for the cycles of none.
-#[derive(Clone, Copy, Debug, PartialEq, Eq)]
+#[derive(Clone, Copy, PartialEq, Eq)]
 pub enum Family {
     /// Store buffering.
     SB,

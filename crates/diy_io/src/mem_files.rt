@@ -9,7 +9,7 @@ use std::marker::Model;
 pub(crate) const MAX_FILE_NAME: usize = 1_300;
 
 /// A file.
-#[derive(Debug, Drop)]
+#[derive(Drop)]
 pub(crate) struct Entry {
     name: Vec<u8>,
     bytes: Vec<u8>,
@@ -18,7 +18,7 @@ pub(crate) struct Entry {
 /// Files in memory, to be found by their names.
 ///
 /// They take their memory when they are made, and none when new files are added and bytes appended.
-#[derive(Debug, Drop)]
+#[derive(Drop)]
 pub(crate) struct MemFiles {
     entries: Vec<Entry>,
     /// Files to come, with memory for a name and for all bytes.

@@ -10,7 +10,7 @@ use std::alloc::Global;
 use std::marker::Model;
 
 /// What a shelf in memory is at, with the place of the file.
-#[derive(Clone, Copy, Debug)]
+#[derive(Clone, Copy)]
 pub(crate) enum Work {
     Idle,
     Reading(usize, usize),
@@ -21,7 +21,7 @@ pub(crate) enum Work {
 ///
 /// Its calls `open_file`, `read`, `create`, `append` and `finish` are numbered together from 0, and
 /// the number stays at the last value of its type once it reaches it. They take no memory.
-#[derive(Debug, Drop)]
+#[derive(Drop)]
 pub struct MemShelf {
     alloc: Global,
     held: MemFiles,

@@ -10,7 +10,7 @@ use std::marker::Model;
 /// A sink that keeps its bytes in memory, as many as it has room for.
 ///
 /// It takes its memory when it is made, and none when it is written to.
-#[derive(Debug, Drop)]
+#[derive(Drop)]
 pub struct MemSink {
     room: usize,
     bytes: Vec<u8>,

@@ -11,7 +11,7 @@ use std::marker::Model;
 /// A source of bytes in memory, which fails at chosen calls.
 ///
 /// Calls are numbered from 0, and the number stays at the last value of its type once it reaches it.
-#[derive(Debug, Drop)]
+#[derive(Drop)]
 pub struct MemSource {
     source: SureSource,
     fail: Vec<u64>,

@@ -8,7 +8,7 @@ use crate::errors::Failed;
 pub const MAX_FOLDER: usize = 1_024;
 
 /// Why a file isn't open.
-#[derive(Clone, Copy, Debug, PartialEq, Eq)]
+#[derive(Clone, Copy, PartialEq, Eq)]
 pub enum OpenError {
     /// There is no file of that name.
     Missing,

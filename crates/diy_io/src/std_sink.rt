@@ -12,7 +12,7 @@ use std::io::Write;
 /// It shows nothing of the bytes, since no program knows what becomes of them outside. It keeps none
 /// back: a write is done once the writer has taken all of it and has flushed. Each error of the
 /// writer is a fault, and so is a write that takes nothing.
-#[derive(Debug, Drop)]
+#[derive(Drop)]
 pub struct StdSink<W> {
     writer: W,
     faults: u64,

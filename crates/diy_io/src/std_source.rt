@@ -11,7 +11,7 @@ use std::io::Read;
 ///
 /// It shows nothing of the bytes to come, since no program knows them. Each error of the reader is a
 /// fault.
-#[derive(Debug, Drop)]
+#[derive(Drop)]
 pub struct StdSource<R> {
     reader: R,
     taken: u64,

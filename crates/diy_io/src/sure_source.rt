@@ -7,7 +7,7 @@ use crate::source::Source;
 use std::marker::Model;
 
 /// A source of bytes in memory, which never fails.
-#[derive(Debug, Drop)]
+#[derive(Drop)]
 pub struct SureSource {
     bytes: Vec<u8>,
     at: usize,

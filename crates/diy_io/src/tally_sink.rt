@@ -8,7 +8,7 @@ use crate::sink::Sink;
 use std::marker::Model;
 
 /// A sink that keeps the numbers of its bytes and of its line feeds alone. It never fails.
-#[derive(Debug, Default, Drop)]
+#[derive(Default, Drop)]
 pub struct TallySink {
     bytes: u64,
     lines: u64,

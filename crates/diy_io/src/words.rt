@@ -5,7 +5,7 @@ use std::alloc::Global;
 use std::marker::Model;
 
 /// The words that a program is given, without its own name.
-#[derive(Debug, Drop)]
+#[derive(Drop)]
 pub struct Words {
     texts: Vec<String>,
 }

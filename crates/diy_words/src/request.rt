@@ -161,7 +161,7 @@ pub struct Demo {
 }
 
 /// What mcheck7 writes of an execution.
-#[derive(Clone, Copy, Debug, PartialEq, Eq)]
+#[derive(Clone, Copy, PartialEq, Eq)]
 pub enum CheckForm {
     /// The verdict on it.
     Verdict,

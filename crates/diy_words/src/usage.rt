@@ -1,6 +1,6 @@
 /// Why words make no request, and the word that shows it. Where no word shows it, `word` is the
 /// number of words.
-#[derive(Clone, Copy, Debug, PartialEq, Eq)]
+#[derive(Clone, Copy, PartialEq, Eq)]
 pub struct Usage {
     pub word: usize,
     pub kind: UsageKind,

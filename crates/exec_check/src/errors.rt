@@ -1,7 +1,7 @@
 use exec_text::ExecKind;
 
 /// Why there is no verdict on a text.
-#[derive(Clone, Copy, Debug, PartialEq, Eq)]
+#[derive(Clone, Copy, PartialEq, Eq)]
 pub enum CheckError {
     /// The text is no execution: its first faulty line, and the leftmost fault in that line.
     Exec {

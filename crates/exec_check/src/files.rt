@@ -10,7 +10,7 @@ use diy_io::{Failed, NoMemory, Shelf, Sink, Words};
 use std::alloc::Global;
 
 /// The places of the words that name the two files.
-#[derive(Clone, Copy, Debug)]
+#[derive(Clone, Copy)]
 pub struct FileWords {
     pub test: usize,
     pub exec: usize,

@@ -14,7 +14,7 @@ use litmus_text::ReadTest;
 use std::alloc::Global;
 
 /// What is written of an execution.
-#[derive(Clone, Copy, Debug, PartialEq, Eq)]
+#[derive(Clone, Copy, PartialEq, Eq)]
 pub enum Shown {
     /// The lines of the verdict.
     Verdict,

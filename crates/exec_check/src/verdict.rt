@@ -6,7 +6,7 @@ use relax_edges::{Edge, MAX_EDGES};
 pub type JudgedEdges = ArrayVec<(Edge, bool), MAX_EDGES>;
 
 /// What is said of an execution of a test.
-#[derive(Debug, Drop)]
+#[derive(Drop)]
 pub struct Verdict {
     /// Whether it is a candidate execution of the test. Where it isn't, nothing more is said: the answers
     /// that follow are `false`, and there are no edges.
@@ -22,7 +22,7 @@ pub struct Verdict {
 }
 
 /// An execution of a test, with the verdict on it.
-#[derive(Debug, Drop)]
+#[derive(Drop)]
 pub(crate) struct Judged {
     pub(crate) exec: Execution,
     pub(crate) verdict: Verdict,

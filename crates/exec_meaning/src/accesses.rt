@@ -13,7 +13,7 @@ use std::marker::Model;
 /// The accesses of a thread, in program order.
 ///
 /// Contracts see their list.
-#[derive(Debug, Drop)]
+#[derive(Drop)]
 pub(crate) struct Accesses {
     list: Vec<Access>,
 }

@@ -12,7 +12,7 @@ pub type Read = (u32, Option<WriteAt>);
 /// An execution: for each thread its reads in program order, for each place its writes in coherence order.
 ///
 /// Contracts see the two lists of lists.
-#[derive(Debug, Drop)]
+#[derive(Drop)]
 pub struct Execution {
     reads: Vec<Vec<Read>>,
     writes: Vec<Vec<WriteAt>>,

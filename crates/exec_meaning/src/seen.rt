@@ -18,7 +18,7 @@ use relax_edges::Mark;
 use std::alloc::{AllocError, Global};
 
 /// An access of a candidate execution, with what the execution says of it.
-#[derive(Clone, Copy, Debug)]
+#[derive(Clone, Copy)]
 pub struct SeenAccess {
     pub thread: u8,
     /// Its number among the thread's accesses, from 0.

@@ -10,7 +10,7 @@ use std::marker::Model;
 
 /// An access of a thread, with its mark, the barriers between it and the access before it, and the loads
 /// that it depends on: bit `k` of a mask names load number `k` of the thread.
-#[derive(Debug, Drop)]
+#[derive(Drop)]
 pub(crate) struct Visit {
     barriers: Vec<Barred>,
     access: Access,
@@ -67,7 +67,7 @@ impl Visit {
 }
 
 /// An access of an execution, by its name, with what comes before it.
-#[derive(Debug, Drop)]
+#[derive(Drop)]
 pub(crate) struct NamedAccess {
     name: WriteAt,
     visit: Visit,

@@ -23,7 +23,7 @@ pub enum ExecKind {
 }
 
 /// Why a text is no execution: its first faulty line, and the leftmost fault in that line.
-#[derive(Clone, Copy, Debug, PartialEq, Eq)]
+#[derive(Clone, Copy, PartialEq, Eq)]
 pub struct ExecFault {
     /// The number of the line, from 1: of a line that is missing, the one that it would have.
     pub line: u64,
@@ -31,7 +31,7 @@ pub struct ExecFault {
 }
 
 /// Why a text can't be read as an execution.
-#[derive(Clone, Copy, Debug, PartialEq, Eq)]
+#[derive(Clone, Copy, PartialEq, Eq)]
 pub enum ExecError {
     /// The text is no execution.
     Text(ExecFault),

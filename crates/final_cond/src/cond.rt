@@ -10,7 +10,7 @@ pub type PlaceName = ArrayString<16>;
 pub const MAX_TERMS: usize = 128;
 
 /// Which executions a condition speaks of, by the litmus format of the herdtools manual.
-#[derive(Clone, Copy, Debug, Default, PartialEq, Eq)]
+#[derive(Clone, Copy, Default, PartialEq, Eq)]
 pub enum Quantifier {
     /// `exists`: in some execution the terms hold.
     #[default]
@@ -22,7 +22,7 @@ pub enum Quantifier {
 }
 
 /// What a term looks at.
-#[derive(Debug, Drop)]
+#[derive(Drop)]
 pub enum Left {
     /// A register of a thread, at the end of the thread.
     Register { thread: u8, name: RegName },
@@ -39,14 +39,14 @@ impl Default for Left {
 }
 
 /// A register or place, and the value that it is to have.
-#[derive(Debug, Default, Drop)]
+#[derive(Default, Drop)]
 pub struct Term {
     pub left: Left,
     pub value: u32,
 }
 
 /// A conjunction of terms, under a quantifier.
-#[derive(Debug, Default, Drop)]
+#[derive(Default, Drop)]
 pub struct Cond {
     pub quantifier: Quantifier,
     pub terms: ArrayVec<Term, MAX_TERMS>,

@@ -30,7 +30,7 @@ pub struct CondError {
 
 /// A fault in a text that is read from the left: what is faulty or missing, and the text from the
 /// first byte on, blanks passed over, of what comes there.
-#[derive(Clone, Copy, Debug)]
+#[derive(Clone, Copy)]
 pub struct CondFault<'a> {
     pub kind: CondKind,
     pub rest: &'a [u8],

@@ -18,6 +18,3 @@ pub use numbers::number_of;
 pub use print::{print_cond, put_cond};
 pub use read::{Follow, read_cond, read_follow, read_left, read_opening, read_right, read_term};
 pub use state::{Final, holds};
-
-#[cfg(test)]
-mod tests;

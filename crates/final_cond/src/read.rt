@@ -12,7 +12,7 @@ use arrayvec::ArrayVec;
 use text_parts::{Class, split_run, without_blanks};
 
 /// What follows a term of a condition.
-#[derive(Clone, Copy, Debug, PartialEq, Eq)]
+#[derive(Clone, Copy, PartialEq, Eq)]
 pub enum Follow {
     /// `/\`, and one more term.
     Term,

@@ -13,7 +13,7 @@ pub(crate) const CELL_ROOM: usize = MAX_INSTRUCTION_TEXT + 3;
 
 /// A cell as rows have it: ` | `, its text, and blanks for as wide as a column can be. So each row copies it in one piece of fixed
 /// length, however wide its column is.
-#[derive(Clone, Copy, Debug)]
+#[derive(Clone, Copy)]
 pub(crate) struct PaddedCell {
     pub(crate) bytes: [u8; CELL_ROOM],
     pub(crate) len: u8,

@@ -9,7 +9,7 @@ use relax_edges::{Edge, MAX_EDGES};
 
 /// A litmus test: the cycle that it is made from, the names of its places, the code of its
 /// threads, and its condition.
-#[derive(Debug, Drop)]
+#[derive(Drop)]
 pub struct Test {
     /// The edges of the resolved cycle.
     pub edges: ArrayVec<Edge, MAX_EDGES>,

@@ -13,7 +13,7 @@ use thiserror::Error;
 /// The machine of one thread, between two operations.
 ///
 /// Contracts see what it holds.
-#[derive(Debug, Drop)]
+#[derive(Drop)]
 pub struct Machine {
     registers: [Held; 32],
     flag: bool,
@@ -37,7 +37,7 @@ impl Model for Machine {
 }
 
 /// What a step leads to: the item that it makes, and the label that it jumps to.
-#[derive(Clone, Copy, Debug, PartialEq, Eq)]
+#[derive(Clone, Copy, PartialEq, Eq)]
 pub struct Stepped {
     pub item: Option<Item>,
     pub jump: Option<u8>,

@@ -15,7 +15,7 @@ use thiserror::Error;
 /// What a thread did in a run that ended: its items, in order, and what its registers hold.
 ///
 /// Contracts see these two.
-#[derive(Debug, Drop)]
+#[derive(Drop)]
 pub struct Trace {
     items: Vec<Item>,
     machine: Machine,
@@ -62,7 +62,7 @@ pub enum RunError {
 }
 
 /// Why a runner can't go on.
-#[derive(Clone, Copy, Debug, PartialEq, Eq)]
+#[derive(Clone, Copy, PartialEq, Eq)]
 enum Halt {
     Stuck,
     NoMemory,
@@ -98,7 +98,7 @@ pub fn run_thread(
 }
 
 /// A run, as far as it has come. On the way to a label it passes over operations.
-#[derive(Debug, Drop)]
+#[derive(Drop)]
 struct Runner<'a> {
     machine: Machine,
     items: Vec<Item>,

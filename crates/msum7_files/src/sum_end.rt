@@ -2,7 +2,7 @@ use log_sum::LogKind;
 
 /// How a call that sums logs ended. A `file` is the place of the word that names it, and `None` is
 /// the input; lines count from 1.
-#[derive(Clone, Copy, Debug, PartialEq, Eq)]
+#[derive(Clone, Copy, PartialEq, Eq)]
 pub enum SumEnd {
     /// The sum is written.
     Done,

@@ -6,14 +6,14 @@ use micro_ops::Barrier;
 use relax_edges::Dir;
 
 /// Names a write of a program: its thread, and its number among the thread's accesses, from 0.
-#[derive(Clone, Copy, Debug, PartialEq, Eq)]
+#[derive(Clone, Copy, PartialEq, Eq)]
 pub struct WriteAt {
     pub thread: u8,
     pub access: u8,
 }
 
 /// An access of a thread: what it does, at which place, and the value that it reads or writes.
-#[derive(Clone, Copy, Debug, PartialEq, Eq)]
+#[derive(Clone, Copy, PartialEq, Eq)]
 pub struct Access {
     pub dir: Dir,
     pub place: u8,
@@ -22,7 +22,7 @@ pub struct Access {
 
 /// A barrier of a thread, with the loads that the branches before it depend on: bit `k` of the mask names load
 /// number `k`.
-#[derive(Clone, Copy, Debug, PartialEq, Eq)]
+#[derive(Clone, Copy, PartialEq, Eq)]
 pub struct Barred {
     pub kind: Barrier,
     pub control: u64,

@@ -8,7 +8,7 @@ use crate::marked::{MarkedEdge, as_markable, ends_of};
 /// An edge of a cycle, from one access to the next.
 ///
 /// The rules are those of the diy part of the herdtools manual, "Candidate relaxations".
-#[derive(Clone, Copy, Debug)]
+#[derive(Clone, Copy)]
 pub enum Edge {
     /// A communication between two accesses to one location.
     Com {

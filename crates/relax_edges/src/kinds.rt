@@ -1,5 +1,5 @@
 /// What an access does: it reads or it writes.
-#[derive(Clone, Copy, Debug, Default, PartialEq, Eq)]
+#[derive(Clone, Copy, Default, PartialEq, Eq)]
 pub enum Dir {
     #[default]
     R,
@@ -7,7 +7,7 @@ pub enum Dir {
 }
 
 /// Whether two accesses are at the same location or at different ones.
-#[derive(Clone, Copy, Debug, Default, PartialEq, Eq)]
+#[derive(Clone, Copy, Default, PartialEq, Eq)]
 pub enum Sd {
     #[default]
     Same,
@@ -15,7 +15,7 @@ pub enum Sd {
 }
 
 /// Whether an edge stays in one thread or leads to another.
-#[derive(Clone, Copy, Debug, Default, PartialEq, Eq)]
+#[derive(Clone, Copy, Default, PartialEq, Eq)]
 pub enum Reach {
     #[default]
     Internal,
@@ -36,7 +36,7 @@ pub enum ArchName {
 
 /// The communications between accesses to one location: reads-from, from-read, and write
 /// serialization (the coherence order).
-#[derive(Clone, Copy, Debug, Default, PartialEq, Eq)]
+#[derive(Clone, Copy, Default, PartialEq, Eq)]
 pub enum Com {
     #[default]
     Rf,
@@ -70,7 +70,7 @@ pub enum FenceKind {
 }
 
 /// The syntactic dependencies on a load, except those through data, which lead only to stores.
-#[derive(Clone, Copy, Debug, Default, PartialEq, Eq)]
+#[derive(Clone, Copy, Default, PartialEq, Eq)]
 pub enum DepKind {
     #[default]
     Addr,
@@ -81,7 +81,7 @@ pub enum DepKind {
 
 /// What an access orders by itself: nothing, or what a load-acquire or a store-release of AArch64
 /// does. A read is plain or acquire, a write plain or release.
-#[derive(Clone, Copy, Debug, Default, PartialEq, Eq)]
+#[derive(Clone, Copy, Default, PartialEq, Eq)]
 pub enum Mark {
     #[default]
     Plain,
@@ -92,7 +92,7 @@ pub enum Mark {
 /// An edge of a cycle, whatever the marks of its accesses.
 ///
 /// The rules are those of the diy part of the herdtools manual, "Candidate relaxations".
-#[derive(Clone, Copy, Debug)]
+#[derive(Clone, Copy)]
 pub enum Kind {
     /// A communication between two accesses to one location.
     Com {
@@ -133,7 +133,7 @@ pub enum Value {
 
 /// Which locations get an observer: `Accept`, those whose order of writes would otherwise stay open;
 /// `Avoid`, none, and a cycle that needs one is refused; `Force`, each with two writes or more.
-#[derive(Clone, Copy, Debug, Default, PartialEq, Eq)]
+#[derive(Clone, Copy, Default, PartialEq, Eq)]
 pub enum ObsMode {
     #[default]
     Accept,

@@ -4,7 +4,7 @@ ghost use Rattle.relax_edges.specs.Marks.{markable_fence, markable_dependency, m
 use crate::kinds::{Com, DepKind, Dir, FenceKind, Kind, Mark, Reach, Sd};
 
 /// A data memory barrier of AArch64.
-#[derive(Clone, Copy, Debug)]
+#[derive(Clone, Copy)]
 pub(crate) enum Dmb {
     Sy,
     Ld,
@@ -12,7 +12,7 @@ pub(crate) enum Dmb {
 }
 
 /// A dependency of AArch64 through an address or a branch.
-#[derive(Clone, Copy, Debug)]
+#[derive(Clone, Copy)]
 pub(crate) enum MarkableDep {
     Addr,
     Ctrl,
@@ -20,7 +20,7 @@ pub(crate) enum MarkableDep {
 }
 
 /// An edge that may have marks, without them: one of the 52 that AArch64 has.
-#[derive(Clone, Copy, Debug)]
+#[derive(Clone, Copy)]
 pub(crate) enum MarkableKind {
     Com {
         com: Com,
@@ -48,7 +48,7 @@ pub(crate) enum MarkableKind {
 }
 
 /// Which of the accesses of an edge have a mark.
-#[derive(Clone, Copy, Debug)]
+#[derive(Clone, Copy)]
 pub(crate) enum MarkedEnds {
     Both,
     Source,
@@ -57,7 +57,7 @@ pub(crate) enum MarkedEnds {
 
 /// An edge of AArch64 that marks an access or both: a read is a load-acquire, a write a
 /// store-release.
-#[derive(Clone, Copy, Debug)]
+#[derive(Clone, Copy)]
 pub struct MarkedEdge {
     pub(crate) kind: MarkableKind,
     pub(crate) ends: MarkedEnds,

@@ -177,7 +177,6 @@ fn fence_of_six(
 
 impl FenceKind {
     /// The words of a length are few, so the length is asked first.
-    #[tactic(auto, using(crate::proofs::FenceWords::short_fence, crate::proofs::FenceWords::long_fence))]
     fn from_word(text: &[u8]) -> Option<FenceKind>
         ensures { result ≡ fence_named text.now }
     {

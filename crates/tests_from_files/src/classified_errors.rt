@@ -8,7 +8,7 @@ use diy_io::Failed;
 use litmus_text::TestKind;
 
 /// What is wrong with a file of a test.
-#[derive(Clone, Copy, Debug, PartialEq, Eq)]
+#[derive(Clone, Copy, PartialEq, Eq)]
 pub enum FileKind {
     /// It has no header, or isn't a test of the architecture that the header names.
     Test(TestKind),
@@ -19,7 +19,7 @@ pub enum FileKind {
 }
 
 /// Where a file is wrong, and what is wrong there.
-#[derive(Clone, Copy, Debug, PartialEq, Eq)]
+#[derive(Clone, Copy, PartialEq, Eq)]
 pub struct FileError {
     /// The number of the line, from 1. It is 1 for `WrongArch`, and 2 for `NoCycle`.
     pub line: u64,
@@ -28,7 +28,7 @@ pub struct FileError {
 
 /// How a call that classifies files ended. A `file` and a `word` are the place of the word that names
 /// the file.
-#[derive(Clone, Copy, Debug, PartialEq, Eq)]
+#[derive(Clone, Copy, PartialEq, Eq)]
 pub enum FilesEnd {
     /// The families are written.
     Done,

@@ -1,7 +1,7 @@
 use litmus_text::TestKind;
 
 /// Why a file isn't read.
-#[derive(Clone, Copy, Debug, PartialEq, Eq)]
+#[derive(Clone, Copy, PartialEq, Eq)]
 pub enum FileFault {
     /// It isn't there.
     Missing,
@@ -12,7 +12,7 @@ pub enum FileFault {
 }
 
 /// What is wrong with the text of a test.
-#[derive(Clone, Copy, Debug, PartialEq, Eq)]
+#[derive(Clone, Copy, PartialEq, Eq)]
 pub enum TestFileKind {
     /// It has no header, or isn't a test of the architecture that the header names.
     Test(TestKind),
@@ -21,7 +21,7 @@ pub enum TestFileKind {
 }
 
 /// Where the text of a test is wrong, and what is wrong there.
-#[derive(Clone, Copy, Debug, PartialEq, Eq)]
+#[derive(Clone, Copy, PartialEq, Eq)]
 pub struct TestFileError {
     /// The number of the line, from 1. It is 1 for `WrongArch`.
     pub line: u64,
@@ -29,7 +29,7 @@ pub struct TestFileError {
 }
 
 /// Why a text gives no test.
-#[derive(Clone, Copy, Debug, PartialEq, Eq)]
+#[derive(Clone, Copy, PartialEq, Eq)]
 pub enum NoTest {
     /// It is wrong.
     Wrong(TestFileError),

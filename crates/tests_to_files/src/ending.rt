@@ -1,5 +1,5 @@
 /// How a listing ended.
-#[derive(Clone, Copy, Debug, PartialEq, Eq)]
+#[derive(Clone, Copy, PartialEq, Eq)]
 pub enum ListingEnd {
     /// All files and the line on their number are written.
     Done,

@@ -14,7 +14,7 @@ use diy_io::{Failed, Page, SPILL, Shelf};
 use litmus_text::{KeptTable, Test, TextPart, put_header, put_part};
 
 /// A file that is to be written on a shelf.
-#[derive(Debug, Drop)]
+#[derive(Drop)]
 pub struct File<'a> {
     /// Its name, with its folder.
     pub path: Path,

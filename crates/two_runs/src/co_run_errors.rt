@@ -5,7 +5,7 @@ use co_tests::CoRefusal;
 use diy_io::NoMemory;
 
 /// Why the execution that a cycle's coherence test asks for isn't given.
-#[derive(Clone, Copy, Debug, PartialEq, Eq)]
+#[derive(Clone, Copy, PartialEq, Eq)]
 pub enum CoRunError {
     /// The cycle has no coherence test, for this reason, the first that holds.
     Refused(CoRefusal),

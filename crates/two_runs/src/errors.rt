@@ -4,7 +4,7 @@ ghost use Rattle.two_runs.specs.declared.errors.WhyError.TheVariants.{NoMemory a
 use diy_io::NoMemory;
 
 /// Why no two executions of the test of a cycle are shown.
-#[derive(Clone, Copy, Debug, PartialEq, Eq)]
+#[derive(Clone, Copy, PartialEq, Eq)]
 pub enum WhyRefusal {
     /// Edge `at`, the first such, isn't of the architecture.
     NotOfArch { at: u8 },
@@ -20,7 +20,7 @@ pub enum WhyRefusal {
 }
 
 /// Why two executions aren't given.
-#[derive(Clone, Copy, Debug, PartialEq, Eq)]
+#[derive(Clone, Copy, PartialEq, Eq)]
 pub enum WhyError {
     /// There is nothing to show, for this reason, the first that holds.
     Refused(WhyRefusal),

@@ -5,7 +5,7 @@ use diy_io::NoMemory;
 use test_maker::MakeRefusal;
 
 /// Why the execution that a cycle's test asks for isn't given.
-#[derive(Clone, Copy, Debug, PartialEq, Eq)]
+#[derive(Clone, Copy, PartialEq, Eq)]
 pub enum RunError {
     /// The cycle has no test, for this reason, the first that holds.
     Refused(MakeRefusal),

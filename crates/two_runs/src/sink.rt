@@ -6,7 +6,7 @@ use diy_io::{Failed, Sink};
 use std::alloc::Global;
 
 /// A text in memory that grows as it is written to: a sink that fails for want of memory alone.
-#[derive(Debug, Drop)]
+#[derive(Drop)]
 pub(crate) struct TextSink {
     pub(crate) bytes: Vec<u8>,
     faults: u64,

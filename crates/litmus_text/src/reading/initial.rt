@@ -21,7 +21,7 @@ use text_parts::{cut, without_blanks, without_last_blanks};
 pub(crate) type Given = (u8, (u8, Value));
 
 /// The initial state so far.
-#[derive(Debug, Drop)]
+#[derive(Drop)]
 pub(crate) struct Begun {
     pub(crate) names: Places,
     pub(crate) values: Vec<Given>,

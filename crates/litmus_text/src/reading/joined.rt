@@ -8,7 +8,7 @@ use crate::reading::text::Text;
 use std::alloc::{AllocError, Global};
 
 /// Lines that are read as one text.
-#[derive(Debug, Drop)]
+#[derive(Drop)]
 pub(crate) struct Joined {
     pub(crate) bytes: Vec<u8>,
     /// For each byte the number of its line.

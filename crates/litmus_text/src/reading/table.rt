@@ -16,14 +16,14 @@ use micro_ops::Micro;
 use text_parts::{cut, trim_blanks};
 
 /// An operation, and its line.
-#[derive(Clone, Copy, Debug)]
+#[derive(Clone, Copy)]
 pub struct Placed {
     pub op: Micro,
     pub at_line: u64,
 }
 
 /// The column of a thread, as far as it is read.
-#[derive(Debug, Drop)]
+#[derive(Drop)]
 pub(crate) struct Column {
     pub(crate) ops: Vec<Placed>,
     pub(crate) labels: Places,

@@ -14,7 +14,7 @@ use final_cond::{Follow, Left, MAX_TERMS, PlaceName, Term, read_follow, read_lef
 use text_parts::without_blanks;
 
 /// The threads of the table, the line where the condition begins, and its text.
-#[derive(Debug, Drop)]
+#[derive(Drop)]
 pub(crate) struct Setting {
     pub(crate) threads: usize,
     pub(crate) begins: u64,
@@ -33,7 +33,7 @@ impl Setting {
 
 /// The names of places, and the line of the first place that was one too many, after the line where
 /// the condition begins.
-#[derive(Debug, Drop)]
+#[derive(Drop)]
 pub(crate) struct Mentioned {
     pub(crate) names: Places,
     pub(crate) over: Option<u64>,

@@ -13,7 +13,7 @@ use relax_edges::Value;
 use std::marker::{Model, PhantomData};
 
 /// A test that was read, as a test of an architecture.
-#[derive(Debug, Drop)]
+#[derive(Drop)]
 pub struct ReadTest<A> {
     pub(crate) name: Vec<u8>,
     pub(crate) quoted: Option<Vec<u8>>,

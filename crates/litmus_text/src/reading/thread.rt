@@ -3,7 +3,7 @@ use relax_edges::Value;
 use std::marker::Model;
 
 /// A thread of a test that was read. It can be run.
-#[derive(Debug, Drop)]
+#[derive(Drop)]
 pub(crate) struct Thread {
     pub(crate) init: Vec<(u8, Value)>,
     pub(crate) code: Vec<Micro>,
