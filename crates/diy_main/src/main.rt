@@ -4,22 +4,32 @@
 use diy_io::{DirShelf, NoMemory, StdSink, StdSource, Words};
 use diy_tools::run;
 use std::env;
+use std::io::ErrorKind;
 use std::process::ExitCode;
 
 /// The words that the program was called with, or the status with which it ends where there are none.
 fn words_of(rt: &HostRuntime) -> Result<Words, ExitCode> {
-    let Ok(args) = env::args(rt) else {
-        let _ = rt.eprintln("diy: read fault: words");
-        return Err(ExitCode::from(3));
+    let args = match env::args(rt) {
+        Ok(args) => args,
+        Err(error) if error.kind() == ErrorKind::OutOfMemory => return Err(no_memory(rt)),
+        Err(_) => {
+            let _ = rt.eprintln("diy: read fault: words");
+            return Err(ExitCode::from(3));
+        }
     };
     let mut words = Words::new(rt.alloc());
     for word in args.skip(1) {
         if let Err(NoMemory) = words.push(word.as_str()) {
-            let _ = rt.eprintln("diy: no memory");
-            return Err(ExitCode::from(4));
+            return Err(no_memory(rt));
         }
     }
     Ok(words)
+}
+
+/// Says that there is no memory for the words, and returns the status for that.
+fn no_memory(rt: &HostRuntime) -> ExitCode {
+    let _ = rt.eprintln("diy: no memory");
+    ExitCode::from(4)
 }
 
 fn main(rt: HostRuntime) -> ExitCode {
